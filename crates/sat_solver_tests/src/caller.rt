@@ -28,7 +28,7 @@ fn write_owned<W: CountedWrite + Drop>(
 ) -> (Option<W>, Result<(), ProofError>)
     ensures { PutsOwned W.seen result.1 target result.0 }
 {
-    let mut proof = Proof::new(alloc);
+    let mut proof: Proof<W> = Proof::new(alloc);
     proof.open(ProofFormat::Varisat, target);
     if let Err(error) = proof.step(&ProofStep::Assumptions { assumptions: &[] }) {
         return (proof.take_target(), Err(error));

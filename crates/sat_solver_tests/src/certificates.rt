@@ -216,7 +216,7 @@ impl<W: CountedWrite + Drop> Play<Solver<W>, bool> for Refusing<W> {
 /// Whether it is, of a new solver.
 fn is_refused<W: CountedWrite + Drop>(alloc: Global, target: W, format: ProofFormat) -> bool {
     let act = Refusing { target, format };
-    let (refused, _left) = played::<W, Solver<W>, bool, Refusing<W>>(alloc, act);
+    let (refused, _left) = played::<Option<W>, Solver<W>, bool, Refusing<W>>(alloc, act);
     refused
 }
 
@@ -270,7 +270,7 @@ fn fails<W: CountedWrite + Drop>(
     target: W,
     format: ProofFormat,
 ) -> (bool, Option<W>) {
-    played::<W, Solver<W>, bool, Failing<W>>(alloc, Failing { target, format })
+    played::<Option<W>, Solver<W>, bool, Failing<W>>(alloc, Failing { target, format })
 }
 
 /// A target takes four bytes of each piece, and its second call fails. Gives whether that is answered, and what it saw.

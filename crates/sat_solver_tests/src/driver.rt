@@ -2,8 +2,8 @@
 ghost use Rattle.sat_solver.specs.solver.Whole.{IsSolver};
 
 use sat_base::{Counted, CountedWrite};
-use sat_checker::Checker;
-use sat_solver::{ProofFormat, Solver, SolverError};
+use sat_checker::{Checker, ProofProcessor};
+use sat_solver::{HandedBack, ProofFormat, Solver, SolverError};
 use std::alloc::Global;
 
 /// A target that keeps what it takes.
@@ -15,20 +15,30 @@ pub(crate) trait Ready: Drop {
     ghost ready: { Self → Type 0 };
 }
 
-/// What is made anew, and gives back the target that is left in it. Where a function owns one of these, the prover need not look at the
+/// What is made anew, and gives back what is left in it of others. Where a function owns one of these, the prover need not look at the
 /// solver that it is.
-pub(crate) trait Fresh<W>: Ready {
+pub(crate) trait Fresh<B>: Ready {
     fn fresh(alloc: Global) -> Self
         ensures { Self.ready result };
 
-    fn left(self) -> Option<W>;
+    fn left(self) -> B;
 }
 
-impl<W: CountedWrite + Drop> Ready for Solver<W> {
+impl<W: CountedWrite + Drop, P: ProofProcessor> Ready for Solver<W, P> {
     ghost ready = { IsSolver };
 }
 
-impl<W: CountedWrite + Drop> Fresh<W> for Solver<W> {
+impl<W: CountedWrite + Drop, P: ProofProcessor> Fresh<HandedBack<W, P>> for Solver<W, P> {
+    fn fresh(alloc: Global) -> Solver<W, P> {
+        Solver::telling(alloc)
+    }
+
+    fn left(self) -> HandedBack<W, P> {
+        self.into_processors()
+    }
+}
+
+impl<W: CountedWrite + Drop> Fresh<Option<W>> for Solver<W> {
     fn fresh(alloc: Global) -> Solver<W> {
         Solver::new(alloc)
     }
@@ -45,8 +55,8 @@ pub(crate) trait Play<S: Ready, R>: Drop {
         ensures { S.ready solver.new };
 }
 
-/// What a play tells of what is made anew, and the target that is left in that.
-pub(crate) fn played<W, S: Fresh<W>, R, A: Play<S, R>>(alloc: Global, act: A) -> (R, Option<W>) {
+/// What a play tells of what is made anew, and what is left in that.
+pub(crate) fn played<B, S: Fresh<B>, R, A: Play<S, R>>(alloc: Global, act: A) -> (R, B) {
     let mut solver = S::fresh(alloc);
     let told = act.play(alloc, &mut solver);
     (told, solver.left())
@@ -54,7 +64,7 @@ pub(crate) fn played<W, S: Fresh<W>, R, A: Play<S, R>>(alloc: Global, act: A) ->
 
 /// The same of a new solver, where no proof is written.
 pub(crate) fn told<R, A: Play<Solver<Bytes>, R>>(alloc: Global, act: A) -> R {
-    let (told, _target) = played::<Bytes, Solver<Bytes>, R, A>(alloc, act);
+    let (told, _target) = played::<Option<Bytes>, Solver<Bytes>, R, A>(alloc, act);
     told
 }
 

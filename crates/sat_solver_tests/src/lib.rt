@@ -15,6 +15,8 @@ mod driver;
 #[cfg(test)]
 mod extending;
 #[cfg(test)]
+mod listening;
+#[cfg(test)]
 mod naming;
 #[cfg(test)]
 mod proof;

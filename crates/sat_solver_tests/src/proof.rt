@@ -59,7 +59,7 @@ fn closed(mut proof: Proof<Counted<ByFew>>, text: &[u8]) -> (Option<bool>, Seen)
 /// Makes two steps and flushes them, makes two more and closes. Gives whether the steps and the flush were done, and what came of
 /// closing.
 fn written(alloc: Global, device: Device) -> (bool, bool, (Option<bool>, Seen)) {
-    let mut proof = Proof::new(alloc);
+    let mut proof: Proof<Counted<ByFew>> = Proof::new(alloc);
     proof.open(ProofFormat::Varisat, by_few(alloc, device.0, device.1));
     let first = make_two(&mut proof);
     let flushed = proof.flush().is_ok();
@@ -73,7 +73,7 @@ fn long_written(
     device: Device,
 ) -> Result<(bool, bool, (Option<bool>, Seen)), AllocError> {
     let lits: Vec<Lit> = vec![in alloc; Var::from_index(0).positive(); 5000]?;
-    let mut proof = Proof::new(alloc);
+    let mut proof: Proof<Counted<ByFew>> = Proof::new(alloc);
     proof.open(ProofFormat::Varisat, by_few(alloc, device.0, device.1));
     let long = proof.step(&ProofStep::Assumptions { assumptions: &lits });
     let long = long.is_ok();

@@ -531,7 +531,7 @@ impl<W: CountedWrite + Drop> Play<Solver<W>, bool> for Late<W> {
 
 /// Whether it can't, of a new solver.
 fn is_late<W: CountedWrite + Drop>(alloc: Global, target: W) -> bool {
-    let (late, _left) = played::<W, Solver<W>, bool, Late<W>>(alloc, Late(target));
+    let (late, _left) = played::<Option<W>, Solver<W>, bool, Late<W>>(alloc, Late(target));
     late
 }
 

@@ -125,7 +125,7 @@ impl<W: CountedWrite + Drop> Play<Solver<W>, Answer> for Beginning<W> {
 
 /// How it is answered by a new solver.
 fn begun<W: CountedWrite + Drop>(alloc: Global, act: Beginning<W>) -> Answer {
-    let (answer, _target) = played::<W, Solver<W>, Answer, Beginning<W>>(alloc, act);
+    let (answer, _target) = played::<Option<W>, Solver<W>, Answer, Beginning<W>>(alloc, act);
     answer
 }
 

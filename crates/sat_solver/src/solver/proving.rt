@@ -103,6 +103,7 @@ impl<W: CountedWrite + Drop, P: ProofProcessor> Solver<W, P> {
         let mut solver = self;
         solver.core.proof.take_target()
     }
+
     /// The processors that were added, in their order, and the target as it is, where a proof is open or its target failed, also after
     /// a failure; what waits for the target is lost.
     pub fn into_processors(self) -> HandedBack<W, P>
