@@ -60,9 +60,9 @@ pub struct Solver<W: CountedWrite + Drop, P: ProofProcessor = Nobody> {
     assumed: Vec<Lit>,
 }
 
-impl<W: CountedWrite + Drop, P: ProofProcessor> Solver<W, P> {
+impl<W: CountedWrite + Drop> Solver<W, Nobody> {
     /// No clauses and no names, and nobody will listen to a checker of its own. Takes no memory.
-    pub fn new(alloc: Global) -> Solver<W, P>
+    pub fn new(alloc: Global) -> Solver<W, Nobody>
         ensures whole { IsWhole result }
         ensures going { result.failed ≡ false }
         ensures unused { result.used ≡ false }
