@@ -44,7 +44,7 @@ const USAGE: &str = "usage: certify [run S A C [STEPS] | confirm S A C | hints C
 /// a line of its solver's counts goes to `errors`.
 ///
 /// The status is 0 where all is done, confirmed or proved; 1 where the script is malformed, the answers aren't confirmed or the hint
-/// text is bad, and where a certificate has no hint text, with `certify: Refused` or `certify: HasDeleteVar` on `errors`; 2 for other
+/// text is bad, and where a certificate is refused, with `certify: Refused` on `errors`; 2 for other
 /// arguments, or where they can't be had as text, with the usage on `errors`; and 3 after a fault, with its name on `errors`. After a
 /// fault nothing more goes to `output`. A fault of `errors` is ignored.
 pub fn program<R: AllocGlobal + Files, I: CountedRead, O: CountedWrite, E: CountedWrite>(

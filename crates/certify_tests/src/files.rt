@@ -89,8 +89,8 @@ static HINTED: [(&[u8], End, &str); 5] = [
     // a hidden variable is deleted
     (
         &[2, 0, 1, 2, 0, 0, 3, 0, 13],
-        (1, "", "certify: HasDeleteVar\n"),
-        "",
+        (0, "", ""),
+        "e 1 0\n",
     ),
     (&[], (1, "", "certify: Refused\n"), ""),
     (

@@ -39,6 +39,10 @@ pub enum CheckedProofStep<'a> {
         var: Var,
         user_var: Option<CheckedUserVar>,
     },
+    /// A variable that no clause has any more but its unit, which is forgotten. It is unknown from here on.
+    DeleteVar {
+        var: Var,
+    },
     /// A new clause of the formula.
     AddClause {
         id: u64,

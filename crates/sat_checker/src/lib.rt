@@ -22,7 +22,7 @@ pub mod looks;
 pub(crate) mod needed;
 pub(crate) mod news;
 pub(crate) mod notes;
-pub(crate) mod occurrences;
+pub mod occurrences;
 pub(crate) mod passed;
 pub mod processing;
 pub(crate) mod propagations;

@@ -15,6 +15,7 @@ use std::marker::Model;
 #[derive(Clone, Copy)]
 enum Kind {
     UserVar(Var, Option<CheckedUserVar>),
+    DeleteVar(Var),
     AddClause(u64),
     DuplicatedClause(u64, u64),
     TautologicalClause(u64),
@@ -34,6 +35,7 @@ impl Kind {
     {
         match self {
             Kind::UserVar(var, user_var) => CheckedProofStep::UserVar { var, user_var },
+            Kind::DeleteVar(var) => CheckedProofStep::DeleteVar { var },
             Kind::AddClause(id) => CheckedProofStep::AddClause {
                 id,
                 clause: literals,
@@ -175,6 +177,13 @@ impl News {
         ensures err { OnErr result (self.new ≡ self.old) }
     {
         self.push(Kind::UserVar(var, user), &[], &[])
+    }
+
+    pub fn delete_var(&mut self, var: Var) -> Result<(), AllocError>
+        ensures ok { OnOk result (self.new ≡ self.old ++ told.DeleteVar var ∷ []) }
+        ensures err { OnErr result (self.new ≡ self.old) }
+    {
+        self.push(Kind::DeleteVar(var), &[], &[])
     }
 
     pub fn add_clause(&mut self, id: u64, clause: &[Lit]) -> Result<(), AllocError>

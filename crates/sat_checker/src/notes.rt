@@ -88,6 +88,16 @@ impl Notes {
         self.news.mode_change(var, sampling, before)
     }
 
+    /// A variable was deleted.
+    pub fn var_deleted(&mut self, var: Var) -> Result<(), AllocError>
+        ensures { OnOk result (Adds self.old (told.DeleteVar var ∷ []) self.new) }
+    {
+        if !self.hears {
+            return Ok(());
+        }
+        self.news.delete_var(var)
+    }
+
     /// A clause with these literals was deleted.
     pub fn deleted(&mut self, literals: &[Lit], deletion: Deletion) -> Result<(), AllocError>
         ensures { OnOk result (Adds self.old (deletion_told literals.now deletion) self.new) }

@@ -8,7 +8,7 @@ use std::alloc::{AllocError, Global};
 
 /// A count for each literal, by its code. Those past the end are zero.
 #[derive(Drop)]
-pub(crate) struct Occurrences {
+pub struct Occurrences {
     counts: Vec<usize>,
 }
 

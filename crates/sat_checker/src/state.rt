@@ -270,14 +270,16 @@ impl State {
     }
 
     /// No clause is looked at.
-    fn delete_var(&mut self, var: Var) -> Result<bool, StoreError>
-        ensures { Decides result self.old (DeleteVar var) self.new }
+    fn delete_var(&mut self, var: Var, notes: &mut Notes) -> Result<bool, StoreError>
+        ensures decides { Decides result self.old (DeleteVar var) self.new }
+        ensures noted { Announces result self.old (DeleteVar var) notes.old notes.new }
     {
         if !self.may_delete(var) {
             return Ok(false);
         }
         self.formula.forget(var);
         self.variables.forget(var)?;
+        notes.var_deleted(var)?;
         Ok(true)
     }
 
@@ -328,7 +330,7 @@ impl State {
                 self.solver_var_name(global, solver, looks)
             }
             ProofStep::UserVarName { global, user } => self.user_var_name(global, user, notes),
-            ProofStep::DeleteVar { var } => self.delete_var(var),
+            ProofStep::DeleteVar { var } => self.delete_var(var, notes),
             ProofStep::ChangeSamplingMode { var, sample } => {
                 self.change_sampling_mode(var, sample, notes)
             }

@@ -91,7 +91,8 @@ impl Transcript {
                     failed_core: &self.lits,
                 }))
             }
-            CheckedProofStep::MakeIrredundant { .. }
+            CheckedProofStep::DeleteVar { .. }
+            | CheckedProofStep::MakeIrredundant { .. }
             | CheckedProofStep::DeleteClause { .. }
             | CheckedProofStep::DeleteAtClause { .. }
             | CheckedProofStep::DeleteRatClause { .. } => Ok(None),

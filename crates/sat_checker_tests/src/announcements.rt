@@ -217,6 +217,7 @@ static NAMES: [Row; 13] = [
         &[
             Told::UserVar(1, 5, SAMPLE, NEW),
             Told::NoName(1),
+            Told::DeleteVar(1),
             Told::UserVar(1, 5, SAMPLE, NEW),
         ],
         &[Said::HideVar(5)],

@@ -27,6 +27,7 @@ pub(crate) enum Told {
     UserVar(i64, i64, bool, bool),
     /// A variable, which has no name any longer.
     NoName(i64),
+    DeleteVar(i64),
     AddClause(u64, Numbers),
     /// An id, and that of the same clause.
     DuplicatedClause(u64, u64, Numbers),
@@ -154,6 +155,8 @@ const ASSUMED: u8 = 9;
 
 const FAILED: u8 = 10;
 
+const FORGOTTEN: u8 = 12;
+
 /// None of these: a variable's name, which `is_user_var` compares, or what no test awaits.
 const OTHER: u8 = 11;
 
@@ -167,6 +170,7 @@ type Awaited = (u8, u64, u64, bool, Numbers, Ids);
 
 fn parts_of<'a>(step: &CheckedProofStep<'a>) -> Found<'a> {
     match *step {
+        CheckedProofStep::DeleteVar { var } => (FORGOTTEN, var.index() as u64 + 1, 0, false, &[], &[]),
         CheckedProofStep::AddClause { id, clause } => (ADDED, id, 0, false, clause, &[]),
         CheckedProofStep::DuplicatedClause {
             id,
@@ -207,6 +211,7 @@ fn parts_of<'a>(step: &CheckedProofStep<'a>) -> Found<'a> {
 fn awaited_parts(told: Told) -> Awaited {
     match told {
         Told::UserVar(..) | Told::NoName(_) => (NAMED, 0, 0, false, [0; 3], NONE),
+        Told::DeleteVar(var) => (FORGOTTEN, var.unsigned_abs(), 0, false, [0; 3], NONE),
         Told::AddClause(id, clause) => (ADDED, id, 0, false, clause, NONE),
         Told::DuplicatedClause(id, same, clause) => (DUPLICATED, id, same, false, clause, NONE),
         Told::TautologicalClause(id, clause) => (TAUTOLOGICAL, id, 0, false, clause, NONE),

@@ -4,9 +4,9 @@ use Rattle.sat_base.specs.text.Tokenizing.{held}
 use Rattle.sat_checker.specs.LiteralSets.{is_tautology}
 use Rattle.sat_checker.specs.Propagation.{IsFalsified, IsUnit}
 use Rattle.sat_hints.specs.Lines.{Line, AreLines, text_of, Spells, BeginsWithLine}
-use Rattle.sat_hints.specs.Hints.{clauses_under, IsInOrder, named_ids, assumed_by, IsHintDerivation, derives_empty, count_of_cores}
+use Rattle.sat_hints.specs.Hints.{clauses_under, IsInOrder, named_ids, assumed_by, UsesVariable, IsHintDerivation, derives_empty, count_of_cores}
 use Rattle.sat_hints.specs.declared.answer.HintWhy.{HintWhy}
-use Rattle.sat_hints.specs.declared.answer.HintWhy.TheVariants.{Syntax, IdOrder, UnknownId, NotUnit, NotFalsified}
+use Rattle.sat_hints.specs.declared.answer.HintWhy.TheVariants.{Syntax, IdOrder, UnknownId, NotUnit, NotFalsified, VarInUse}
 use Rattle.sat_hints.specs.declared.answer.HintVerdict.{HintVerdict}
 use Rattle.sat_hints.specs.declared.answer.HintVerdict.TheVariants.{Proved, Bad}
 
@@ -38,9 +38,11 @@ abbrev pub IsFaultOf : List Line → Line → HintWhy → Type 0
 IsFaultOf earlier line IdOrder = IsInOrder earlier line → ⊥
 -- a clause that it names isn't present,
 IsFaultOf earlier line UnknownId = IsInOrder earlier line × (clauses_under (named_ids line) earlier ≡ None)
--- or these don't run into a conflict.
+-- these don't run into a conflict,
 IsFaultOf earlier line NotUnit = Tries earlier line SomeIsNotUnit
 IsFaultOf earlier line NotFalsified = Tries earlier line LastIsNotFalsified
+-- or the variable that it makes new is in use.
+IsFaultOf earlier line VarInUse = UsesVariable earlier line
 IsFaultOf earlier line Syntax = ⊥
 
 -- why bytes are: before all these, they are no line

@@ -1,9 +1,13 @@
 -- Which lines the steps of a certificate give, in the order in which they are announced.
-use Rattle.std.specs.Prelude.{ℕ, true, false, Bool, Option, None, Some, List, [], ◌∷◌}
+use Rattle.std.specs.Prelude.{ℕ, true, false, Bool, Option, None, Some, List, [], ◌∷◌, length}
 use Rattle.sat_base.specs.steps.Steps.{Step}
 use Rattle.sat_checker.specs.announcements.Announcements.{Announcement, Told, all_told_after}
 use Rattle.sat_checker.specs.announcements.Announcements as told
-use Rattle.sat_hints.specs.Lines.{Line, Input, Derived, Gone, Core, text_of}
+use Rattle.sat_base.specs.text.Tokenizing.{held}
+use Rattle.sat_hints.specs.Lines.{Line, Input, Derived, Gone, Core, Fresh, text_of}
+use Rattle.sat_hints.specs.Hints.{derives_empty, count_of_cores}
+use Rattle.sat_hints.specs.declared.answer.HintVerdict.{HintVerdict}
+use Rattle.sat_hints.specs.declared.answer.HintVerdict.TheVariants.{Proved}
 
 -- a clause that is kept isn't gone
 abbrev pub gone_unless : Bool → ℕ → Option Line
@@ -13,6 +17,7 @@ gone_unless false id = Some (Gone id)
 -- the line of an announcement, if it has one
 abbrev pub line_told : Announcement → Option Line
 line_told (told.UserVar v user) = None
+line_told (told.DeleteVar v) = Some (Fresh v)
 line_told (told.AddClause id clause) = Some (Input id clause)
 line_told (told.DuplicatedClause id same clause) = None
 line_told (told.TautologicalClause id clause) = None
@@ -40,3 +45,7 @@ lines_of steps = lines_told (all_told_after steps) []
 
 abbrev pub hint_text : List Step → List ℕ
 hint_text steps = text_of (lines_of steps)
+
+-- the verdict on it
+abbrev pub hint_verdict : List Step → HintVerdict
+hint_verdict steps = let lines : List Line = lines_of steps in Proved (derives_empty lines) (held (count_of_cores lines)) (held (length lines))

@@ -1,17 +1,17 @@
 -- What an answer to a certificate means that is turned into a hint text.
-use Rattle.std.specs.Prelude.{ℕ, ◌≡◌, ◌≢◌, ◌⊎◌, true, false, List, [], ◌∷◌, ◌++◌, Result, Ok, Err}
+use Rattle.std.specs.Prelude.{ℕ, ◌≡◌, ◌≢◌, ◌⊎◌, List, [], ◌∷◌, ◌++◌, Result, Ok, Err}
 use Rattle.std.specs.List.{AllByRecursion}
 use Rattle.sat_base.specs.device.Device.{Reader, Writer, IsOver, ReadFails, Takes, Breaks}
 use Rattle.sat_base.specs.steps.Formats.{Live, Spoilt}
 use Rattle.sat_base.specs.steps.Steps.{Step, End}
 use Rattle.sat_base.specs.steps.StepText.{SpellsStep}
 use Rattle.sat_checker.specs.Accepts.{Accepts, AcceptsAll, stored_after, ready_after}
-use Rattle.sat_checker.specs.Laws.{has_delete_var}
 use Rattle.sat_checker.specs.ProofView.{GaveSteps, taken_after, NoneFailed}
 use Rattle.sat_checker.specs.Spent.{SpentBy}
 use Rattle.sat_checker.specs.declared.error.CheckerError.{CheckerError}
 use Rattle.sat_checker.specs.declared.error.CheckerError.TheVariants as errors
-use Rattle.sat_hints.specs.Conversion.{hint_text}
+use Rattle.sat_hints.specs.Conversion.{hint_text, hint_verdict}
+use Rattle.sat_hints.specs.Checks.{Judges}
 use Rattle.sat_hints.specs.declared.error.HintError.{HintError}
 use Rattle.sat_hints.specs.declared.error.HintError.TheVariants.{Refused, HasDeleteVar, Read, Write, OutOfMemory}
 
@@ -59,12 +59,13 @@ RefusesBy (errors.ProofProcessorError cause) from to passed = ⊥
 
 -- What an answer means, from what the certificate's reader and the text's writer were before to what they are then.
 abbrev pub Converts : Result (Unit {0}) HintError → Reader → Reader → Writer → Writer → Type 0
--- the text is that of the lines of all steps,
+-- the text is that of the lines of all steps, and is proved,
 Converts (Ok x) from to old new = (passed : List Step) × (rest : List ℕ) × IsAccepted from to passed rest
-    × (has_delete_var (taken_after passed []) ≡ false) × Takes old new (hint_text (End ∷ taken_after passed []))
--- a step deletes a variable,
-Converts (Err HasDeleteVar) from to old new = (passed : List Step) × (rest : List ℕ) × IsAccepted from to passed rest
-    × (has_delete_var (taken_after passed []) ≡ true) × TookFront old new (hint_text (End ∷ taken_after passed []))
+    × Judges (hint_verdict (End ∷ taken_after passed [])) (hint_text (End ∷ taken_after passed []))
+    × Takes old new (hint_text (End ∷ taken_after passed []))
+-- this never comes,
+Converts (Err HasDeleteVar) from to old new = ⊥
+-- the checker refuses a step, a byte, the end or a count,
 Converts (Err (Refused e)) from to old new = (passed : List Step) × NoneFailed from to × RefusesBy e from to passed
     × TookFront old new (hint_text (taken_after passed []))
 -- exactly one read failed, the last, or so many were made and none did,

@@ -1,9 +1,20 @@
 -- What the lines of a hint text mean, and when they are a derivation. Lists of lines have the newest first.
 use Rattle.std.specs.Prelude.{ℕ, ◌+◌, ◌==◌, ◌≤◌, ◌≡◌, ◌⊎◌, Bool, true, false, ◌||◌, Option, None, Some, List, [], ◌∷◌, map, if◌then◌else◌}
-use Rattle.sat_base.specs.values.Literals.{negated}
-use Rattle.sat_checker.specs.LiteralSets.{canonical, is_tautology}
+use Rattle.sat_base.specs.values.Literals.{variable, negated}
+use Rattle.sat_checker.specs.LiteralSets.{mentions, canonical, is_tautology}
 use Rattle.sat_checker.specs.Propagation.{UnitInTurn}
-use Rattle.sat_hints.specs.Lines.{Line, Input, Derived, Gone, Core}
+use Rattle.sat_hints.specs.Lines.{Line, Input, Derived, Gone, Core, Fresh}
+
+-- is the clause a unit over the variable?
+abbrev pub is_unit_over : ℕ → List ℕ → Bool
+is_unit_over v [] = false
+is_unit_over v (l ∷ []) = variable l == v
+is_unit_over v (l ∷ m ∷ ls) = false
+
+-- but for a unit over the variable
+abbrev pub unless_unit_over : ℕ → Option (List ℕ) → Option (List ℕ)
+unless_unit_over v None = None
+unless_unit_over v (Some clause) = if is_unit_over v clause then None else Some clause
 
 -- The clause under an id, a sorted set of literals: none where no line brought one, or where it is gone.
 abbrev pub clause_under : ℕ → List Line → Option (List ℕ)
@@ -12,6 +23,7 @@ clause_under id (Input i clause ∷ earlier) = if id == i then Some (canonical c
 clause_under id (Derived i clause ids ∷ earlier) = if id == i then Some (canonical clause) else clause_under id earlier
 clause_under id (Gone i ∷ earlier) = if id == i then None else clause_under id earlier
 clause_under id (Core core ids ∷ earlier) = clause_under id earlier
+clause_under id (Fresh v ∷ earlier) = unless_unit_over v (clause_under id earlier)
 
 -- with one more in front
 abbrev pub and_clauses : Option (List ℕ) → Option (List (List ℕ)) → Option (List (List ℕ))
@@ -31,6 +43,7 @@ least_id (Input id clause ∷ earlier) = id + 1
 least_id (Derived id clause ids ∷ earlier) = id + 1
 least_id (Gone id ∷ earlier) = least_id earlier
 least_id (Core core ids ∷ earlier) = least_id earlier
+least_id (Fresh v ∷ earlier) = least_id earlier
 
 -- ids of clauses increase
 abbrev pub IsInOrder : List Line → Line → Type 0
@@ -38,6 +51,7 @@ IsInOrder earlier (Input id clause) = least_id earlier ≤ id
 IsInOrder earlier (Derived id clause ids) = least_id earlier ≤ id
 IsInOrder earlier (Gone id) = Unit {0}
 IsInOrder earlier (Core core ids) = Unit {0}
+IsInOrder earlier (Fresh v) = Unit {0}
 
 -- the ids that a line names
 abbrev pub named_ids : Line → List ℕ
@@ -45,6 +59,7 @@ named_ids (Input id clause) = []
 named_ids (Derived id clause ids) = ids
 named_ids (Gone id) = id ∷ []
 named_ids (Core core ids) = ids
+named_ids (Fresh v) = []
 
 -- what is assumed where clauses have to run into a conflict: a clause's negation, or a core
 abbrev pub assumed_by : Line → Option (List ℕ)
@@ -52,6 +67,7 @@ assumed_by (Input id clause) = None
 assumed_by (Derived id clause ids) = Some (map negated clause)
 assumed_by (Gone id) = None
 assumed_by (Core core ids) = Some core
+assumed_by (Fresh v) = None
 
 -- both signs of a variable are assumed, or the clauses are unit in turn, the last falsified
 abbrev pub Conflicts : List ℕ → List (List ℕ) → Type 0
@@ -61,12 +77,35 @@ abbrev pub ConflictsIf : Option (List ℕ) → List (List ℕ) → Type 0
 ConflictsIf None clauses = Unit {0}
 ConflictsIf (Some assumed) clauses = Conflicts assumed clauses
 
--- A line may follow earlier ones: its id is in order, each clause that it names is present, and these conflict with what it assumes.
+-- are there two literals or more?
+abbrev pub is_long : List ℕ → Bool
+is_long [] = false
+is_long (l ∷ []) = false
+is_long (l ∷ m ∷ ls) = true
+
+-- the variable is in a clause of two literals or more that is present
+pub record IsInUse (v : ℕ) (earlier : List Line) : Type 0 where
+  pub id : ℕ
+  pub clause : List ℕ
+  pub present : clause_under id earlier ≡ Some clause
+  pub long : is_long clause ≡ true
+  pub within : mentions clause v ≡ true
+
+-- the line makes a variable new that is in use
+abbrev pub UsesVariable : List Line → Line → Type 0
+UsesVariable earlier (Input id clause) = ⊥
+UsesVariable earlier (Derived id clause ids) = ⊥
+UsesVariable earlier (Gone id) = ⊥
+UsesVariable earlier (Core core ids) = ⊥
+UsesVariable earlier (Fresh v) = IsInUse v earlier
+
+-- A line may follow earlier ones: its id is in order, each clause that it names is present, these conflict with what it assumes, and the variable that it makes new is in no clause but units.
 pub record Follows (earlier : List Line) (line : Line) : Type 0 where
   pub in_order : IsInOrder earlier line
   pub clauses : List (List ℕ)
   pub present : clauses_under (named_ids line) earlier ≡ Some clauses
   pub conflict : ConflictsIf (assumed_by line) clauses
+  pub unused : UsesVariable earlier line → ⊥
 
 -- each line follows those before it
 abbrev pub IsHintDerivation : List Line → Type 0
@@ -84,6 +123,7 @@ derives_empty (Input id clause ∷ earlier) = derives_empty earlier
 derives_empty (Derived id clause ids ∷ earlier) = is_empty clause || derives_empty earlier
 derives_empty (Gone id ∷ earlier) = derives_empty earlier
 derives_empty (Core core ids ∷ earlier) = derives_empty earlier
+derives_empty (Fresh v ∷ earlier) = derives_empty earlier
 
 -- how many cores there are
 abbrev pub count_of_cores : List Line → ℕ
@@ -92,3 +132,4 @@ count_of_cores (Input id clause ∷ earlier) = count_of_cores earlier
 count_of_cores (Derived id clause ids ∷ earlier) = count_of_cores earlier
 count_of_cores (Gone id ∷ earlier) = count_of_cores earlier
 count_of_cores (Core core ids ∷ earlier) = 1 + count_of_cores earlier
+count_of_cores (Fresh v ∷ earlier) = count_of_cores earlier

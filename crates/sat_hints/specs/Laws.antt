@@ -1,12 +1,71 @@
 -- What a derivation shows.
-use Rattle.std.specs.Prelude.{◌≡◌, Bool, true, ℕ, List, [], ◌∷◌}
+use Rattle.std.specs.Prelude.{◌≡◌, ◌↔◌, ◌<◌, ◌^◌, Bool, true, ℕ, Some, List, [], ◌∷◌}
 use Rattle.std.specs.List.{AllByRecursion}
-use Rattle.sat_base.specs.values.Clauses.{Valuation, EachTrue, EachHolds}
-use Rattle.sat_hints.specs.Lines.{Line, Input, Derived, Gone, Core}
-use Rattle.sat_hints.specs.Hints.{IsHintDerivation, derives_empty}
+use Rattle.sat_base.specs.values.Clauses.{Valuation, clause_true, EachTrue, EachHolds}
+use Rattle.sat_base.specs.steps.Steps.{Step, AddClause, DeleteVar}
+use Rattle.sat_base.specs.steps.StepText.{SpellsSteps}
+use Rattle.sat_checker.specs.Accepts.{AcceptsAll, ready_after}
+use Rattle.sat_checker.specs.Fold.{Holds}
+use Rattle.sat_hints.specs.Lines.{Line, Input, Derived, Gone, Core, Fresh}
+use Rattle.sat_hints.specs.Hints.{IsHintDerivation, clause_under, derives_empty}
+use Rattle.sat_hints.specs.Conversion.{lines_of, hint_text, hint_verdict}
+use Rattle.sat_hints.specs.Limits.{FitsStep}
 use Rattle.sat_hints.specs.Checks.{IsBadAt, IsProof, Judges}
 use Rattle.sat_hints.specs.declared.answer.HintVerdict.{HintVerdict}
 use Rattle.sat_hints.specs.declared.answer.HintWhy.{HintWhy}
+
+-- the lines as steps: a clause of the formula is added, a variable that is new was deleted, and all others change no valuation
+abbrev pub steps_of : List Line → List Step
+steps_of [] = []
+steps_of (Input id clause ∷ earlier) = AddClause clause ∷ steps_of earlier
+steps_of (Derived id clause ids ∷ earlier) = steps_of earlier
+steps_of (Gone id ∷ earlier) = steps_of earlier
+steps_of (Core core ids ∷ earlier) = steps_of earlier
+steps_of (Fresh v ∷ earlier) = DeleteVar v ∷ steps_of earlier
+
+-- the valuations that the lines leave
+abbrev pub Leaves : List Line → Valuation → Type 0
+Leaves lines = Holds (steps_of lines)
+
+-- each derived clause holds in every valuation that the lines before it leave
+abbrev pub EachDerivedHolds : List Line → Type 0
+EachDerivedHolds [] = Unit {0}
+EachDerivedHolds (Input id clause ∷ earlier) = EachDerivedHolds earlier
+EachDerivedHolds (Derived id clause ids ∷ earlier) = EachDerivedHolds earlier × ((a : Valuation) → Leaves earlier a → clause_true a clause ≡ true)
+EachDerivedHolds (Gone id ∷ earlier) = EachDerivedHolds earlier
+EachDerivedHolds (Core core ids ∷ earlier) = EachDerivedHolds earlier
+EachDerivedHolds (Fresh v ∷ earlier) = EachDerivedHolds earlier
+
+-- no core is true as a whole in a valuation that the lines before it leave
+abbrev pub EachCoreFails : List Line → Type 0
+EachCoreFails [] = Unit {0}
+EachCoreFails (Input id clause ∷ earlier) = EachCoreFails earlier
+EachCoreFails (Derived id clause ids ∷ earlier) = EachCoreFails earlier
+EachCoreFails (Gone id ∷ earlier) = EachCoreFails earlier
+EachCoreFails (Core core ids ∷ earlier) = EachCoreFails earlier × ((a : Valuation) → Leaves earlier a → EachTrue a core → ⊥)
+EachCoreFails (Fresh v ∷ earlier) = EachCoreFails earlier
+
+abbrev pub DerivedFollow : Type 0
+DerivedFollow = (lines : List Line) → IsHintDerivation lines → EachDerivedHolds lines
+
+abbrev pub CoresFail : Type 0
+CoresFail = (lines : List Line) → IsHintDerivation lines → EachCoreFails lines
+
+-- each clause that is present holds in every valuation that the lines leave, though a variable may have become new since it came
+abbrev pub PresentHold : Type 0
+PresentHold = (lines : List Line) (a : Valuation) (id : ℕ) (clause : List ℕ) → IsHintDerivation lines → Leaves lines a → clause_under id lines ≡ Some clause → clause_true a clause ≡ true
+
+-- a derivation of the empty clause says that its lines leave no valuation
+abbrev pub EmptyMeansNone : Type 0
+EmptyMeansNone = (lines : List Line) (a : Valuation) → IsHintDerivation lines → derives_empty lines ≡ true → Leaves lines a → ⊥
+
+-- a line that makes no variable new
+abbrev pub KeepsVariables : Line → Type 0
+KeepsVariables (Input id clause) = Unit {0}
+KeepsVariables (Derived id clause ids) = Unit {0}
+KeepsVariables (Gone id) = Unit {0}
+KeepsVariables (Core core ids) = Unit {0}
+KeepsVariables (Fresh v) = ⊥
 
 -- the clauses of the formula
 abbrev pub inputs_of : List Line → List (List ℕ)
@@ -15,33 +74,28 @@ inputs_of (Input id clause ∷ earlier) = clause ∷ inputs_of earlier
 inputs_of (Derived id clause ids ∷ earlier) = inputs_of earlier
 inputs_of (Gone id ∷ earlier) = inputs_of earlier
 inputs_of (Core core ids ∷ earlier) = inputs_of earlier
+inputs_of (Fresh v ∷ earlier) = inputs_of earlier
 
--- those that follow
-abbrev pub derived_of : List Line → List (List ℕ)
-derived_of [] = []
-derived_of (Input id clause ∷ earlier) = derived_of earlier
-derived_of (Derived id clause ids ∷ earlier) = clause ∷ derived_of earlier
-derived_of (Gone id ∷ earlier) = derived_of earlier
-derived_of (Core core ids ∷ earlier) = derived_of earlier
+-- a valuation in which the clauses of the formula hold is left, whatever becomes new
+abbrev pub FormulaIsLeft : Type 0
+FormulaIsLeft = (lines : List Line) (a : Valuation) → EachHolds a (inputs_of lines) → Leaves lines a
 
-abbrev pub cores_of : List Line → List (List ℕ)
-cores_of [] = []
-cores_of (Input id clause ∷ earlier) = cores_of earlier
-cores_of (Derived id clause ids ∷ earlier) = cores_of earlier
-cores_of (Gone id ∷ earlier) = cores_of earlier
-cores_of (Core core ids ∷ earlier) = core ∷ cores_of earlier
+-- where no variable becomes new, lines leave the valuations in which the clauses of the formula hold
+abbrev pub FormulaLeaves : Type 0
+FormulaLeaves = (lines : List Line) (a : Valuation) → AllByRecursion KeepsVariables lines → Leaves lines a ↔ EachHolds a (inputs_of lines)
 
--- each derived clause holds wherever those of the formula do,
-abbrev pub DerivedFollow : Type 0
-DerivedFollow = (lines : List Line) (a : Valuation) → IsHintDerivation lines → EachHolds a (inputs_of lines) → EachHolds a (derived_of lines)
+-- the lines of what accepted steps announce are a derivation
+abbrev pub AnnouncedDerive : Type 0
+AnnouncedDerive = (steps : List Step) → AcceptsAll steps → IsHintDerivation (lines_of steps)
 
--- and no core is true there as a whole
-abbrev pub CoresFail : Type 0
-CoresFail = (lines : List Line) (a : Valuation) → IsHintDerivation lines → EachHolds a (inputs_of lines) → AllByRecursion (λ core. EachTrue a core → ⊥) (cores_of lines)
+-- steps that were read are within their limits
+abbrev pub ReadStepsFit : Type 0
+ReadStepsFit = (steps : List Step) (bytes : List ℕ) → SpellsSteps steps bytes → AllByRecursion FitsStep steps
 
--- so a derivation of the empty clause says that no valuation satisfies the formula
-abbrev pub EmptyMeansNone : Type 0
-EmptyMeansNone = (lines : List Line) (a : Valuation) → IsHintDerivation lines → derives_empty lines ≡ true → EachHolds a (inputs_of lines) → ⊥
+-- so the text of those lines is proved, if as many ids were given as there are
+abbrev pub AnnouncedAreProved : Type 0
+AnnouncedAreProved = (steps : List Step) → AcceptsAll steps → AllByRecursion FitsStep steps → (ready_after steps).next_id < 2 ^ 64 →
+    Judges (hint_verdict steps) (hint_text steps)
 
 -- a text that is proved is at fault on no line
 abbrev pub ProvedIsNotBad : Type 0

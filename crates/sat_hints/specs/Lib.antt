@@ -1,4 +1,5 @@
 pub mod Lines
+pub mod Limits
 pub mod Hints
 pub mod Checks
 pub mod inner

@@ -10,20 +10,26 @@ pub data Line : Type 0 where
   Derived : ℕ → List ℕ → List ℕ → Line  -- a clause under this id, and the ids of those that it follows from
   Gone : ℕ → Line  -- the clause under this id is gone
   Core : List ℕ → List ℕ → Line  -- literals that fail together, and the ids of the clauses by which they do
+  Fresh : ℕ → Line  -- a variable is new: its units are gone, and it may have another value than before
 
 -- an id is below 2^64-1
 abbrev pub AreIds : List ℕ → Type 0
 AreIds = AllByRecursion (λ id. id < 2 ^ 64 - 1)
 
+-- a variable is its index
+abbrev pub AreVariables : List ℕ → Type 0
+AreVariables = AllByRecursion (λ v. v < largest)
+
 abbrev pub AreLiterals : List ℕ → Type 0
 AreLiterals = AllByRecursion (λ l. l < 2 * largest)
 
--- its ids and literals are within their limits
+-- its ids, literals and variable are within their limits
 abbrev pub IsLine : Line → Type 0
 IsLine (Input id clause) = AreIds (id ∷ []) × AreLiterals clause
 IsLine (Derived id clause ids) = AreIds (id ∷ []) × AreLiterals clause × AreIds ids
 IsLine (Gone id) = AreIds (id ∷ [])
 IsLine (Core core ids) = AreLiterals core × AreIds ids
+IsLine (Fresh v) = AreVariables (v ∷ [])
 
 abbrev pub AreLines : List Line → Type 0
 AreLines = AllByRecursion IsLine
@@ -40,16 +46,21 @@ id_text id = decimal (id + 1)
 abbrev pub id_words : List ℕ → List ℕ
 id_words = words id_text
 
+-- a variable is its number in DIMACS, in the same form
+abbrev pub variable_words : List ℕ → List ℕ
+variable_words = words id_text
+
 -- a literal is its number in DIMACS
 abbrev pub literal_words : List ℕ → List ℕ
 literal_words = words number_text
 
--- `i ID LITS 0`, `d ID LITS 0 IDS 0`, `x ID 0` or `f LITS 0 IDS 0`, with LF
+-- `i ID LITS 0`, `d ID LITS 0 IDS 0`, `x ID 0`, `f LITS 0 IDS 0` or `e VAR 0`, with LF
 abbrev pub line_text : Line → List ℕ
 line_text (Input id clause) = codes "i " ++ (id_words (id ∷ []) ++ (literal_words clause ++ codes "0\n"))
 line_text (Derived id clause ids) = codes "d " ++ (id_words (id ∷ []) ++ (literal_words clause ++ (codes "0 " ++ (id_words ids ++ codes "0\n"))))
 line_text (Gone id) = codes "x " ++ (id_words (id ∷ []) ++ codes "0\n")
 line_text (Core core ids) = codes "f " ++ (literal_words core ++ (codes "0 " ++ (id_words ids ++ codes "0\n")))
+line_text (Fresh v) = codes "e " ++ (variable_words (v ∷ []) ++ codes "0\n")
 
 -- the text of lines
 abbrev pub text_of : List Line → List ℕ

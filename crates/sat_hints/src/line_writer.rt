@@ -1,12 +1,12 @@
 //! Writing lines of a hint text, through bytes that wait.
 ghost use Rattle.std.specs.Prelude.{◌≡◌, ◌+◌, ◌<◌, ◌∷◌, ◌++◌, [], false, decimal, codes};
 ghost use Rattle.sat_base.specs.dimacs.DimacsText.{number_text};
-ghost use Rattle.sat_hints.specs.Lines.{Input, Derived, Gone, Core, id_text, id_words, line_text, literal_words};
+ghost use Rattle.sat_hints.specs.Lines.{Input, Derived, Gone, Core, Fresh, id_text, id_words, line_text, literal_words};
 ghost use Rattle.sat_hints.specs.inner.LineReading.{line_of};
 ghost use Rattle.sat_hints.specs.inner.LineWriting.{outlet, Put};
 
 use crate::line::HintLine;
-use sat_base::{CountedWrite, Lit};
+use sat_base::{CountedWrite, Lit, Var};
 
 /// How many bytes wait at most.
 const PIECE: usize = 4096;
@@ -208,6 +208,14 @@ impl<W: CountedWrite> LineWriter<W> {
         self.put_both(core, ids);
     }
 
+    fn put_fresh(&mut self, var: Var)
+        ensures { Put (line_text (Fresh var)) (outlet W.seen self.old) (outlet W.seen self.new) }
+    {
+        self.put_all(b"e ");
+        self.put_id(var.index() as u64);
+        self.put_all(b"0\n");
+    }
+
     /// Lets a line wait.
     pub(crate) fn put_line(&mut self, line: &HintLine<'_>)
         ensures { Put (line_text (line_of line.now)) (outlet W.seen self.old) (outlet W.seen self.new) }
@@ -217,6 +225,7 @@ impl<W: CountedWrite> LineWriter<W> {
             HintLine::Derived { id, clause, ids } => self.put_derived(*id, clause, ids),
             HintLine::Gone { id } => self.put_gone(*id),
             HintLine::Core { core, ids } => self.put_core(core, ids),
+            HintLine::Fresh { var } => self.put_fresh(*var),
         }
     }
 }

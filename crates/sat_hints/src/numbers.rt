@@ -64,7 +64,7 @@ pub(crate) fn read_id(bytes: &[u8]) -> Option<(u64, &[u8])>
 
 /// The index of the variable whose number stands in front of a space, and what is behind the space.
 #[inline(always)]
-fn read_variable(bytes: &[u8]) -> Option<(usize, &[u8])>
+pub(crate) fn read_variable(bytes: &[u8]) -> Option<(usize, &[u8])>
     ensures { MatchOption result (NoWord id_text IsVariable bytes.now) (λ x. BeginsWithWord id_text IsVariable bytes.now x.0 x.1.now) }
 {
     let (number, rest) = read_number(bytes, Var::max_count() as u64)?;

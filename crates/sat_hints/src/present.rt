@@ -1,6 +1,7 @@
 //! The clauses that are present, by their ids.
-ghost use Rattle.std.specs.Prelude.{◌≡◌, ◌≢◌, ◌<◌, ℕ, [], None, length, slice_index, IfOk, OnOk, MatchBool, MatchOption};
-ghost use Rattle.sat_hints.specs.inner.Clauses.{clause_at, clause_in, Adds, AllBelow, FindsOne, IsStore, Keeps, Loses};
+ghost use Rattle.std.specs.Prelude.{◌≡◌, ◌<◌, ℕ, [], None, length, slice_index, slice_index_or, OnOk, MatchOption, false};
+ghost use Rattle.sat_checker.specs.SortedSets.{IsIncreasing};
+ghost use Rattle.sat_hints.specs.inner.Clauses.{clause_at, clause_in, times_at, Adds, AllBelow, FindsOne, IsStore, Keeps, Loses};
 
 use sat_base::{FlatLists, Lit};
 use std::alloc::{AllocError, Global};
@@ -23,6 +24,7 @@ impl Present {
         ensures store { IsStore result }
         ensures none { result.ids.items ≡ [] }
         ensures clauses { (id : ℕ) → clause_in result id ≡ None }
+        ensures times { (l : ℕ) → times_at result l ≡ 0 }
     {
         Present {
             ids: Vec::new(alloc),
@@ -56,10 +58,26 @@ impl Present {
         self.clauses.get(place)
     }
 
-    /// Adds a clause, whose id is above all before.
+    /// How many clauses there are, those that are gone among them.
+    pub(crate) fn len(&self) -> usize
+        ensures { result ≡ length self.now.ids.items }
+    {
+        self.ids.len()
+    }
+
+    /// Whether the clause at a place is gone.
+    pub(crate) fn is_gone(&self, place: usize) -> bool
+        requires { place < length self.now.gone.items }
+        ensures { result ≡ slice_index_or self.now.gone.items place false }
+    {
+        self.gone[place]
+    }
+
+    /// Adds a clause, a sorted set, whose id is above all before.
     pub(crate) fn push(&mut self, id: u64, clause: &[Lit]) -> Result<(), AllocError>
         requires store { IsStore self.old }
         requires above { AllBelow self.old.ids.items id }
+        requires increasing { IsIncreasing clause.now }
         ensures { OnOk result (Adds self.old self.new id clause.now) }
     {
         self.ids.push(id)?;
@@ -69,18 +87,14 @@ impl Present {
         Ok(())
     }
 
-    /// Takes away the clause under this id. The answer is whether it was present.
-    pub(crate) fn remove(&mut self, id: u64) -> Result<bool, AllocError>
-        requires { IsStore self.old }
-        ensures { IfOk result (λ was. MatchBool was ((clause_in self.old id ≢ None) × Loses self.old self.new id)
-            ((clause_in self.old id ≡ None) × (self.new ≡ self.old))) }
+    /// Takes away the clause at a place, and lets go of those that are gone where they are many.
+    pub(crate) fn remove(&mut self, place: usize) -> Result<(), AllocError>
+        requires store { IsStore self.old }
+        requires within { place < length self.old.clauses }
+        ensures { OnOk result (Loses self.old self.new (slice_index self.old.ids.items place)) }
     {
-        let Some(place) = self.find(id) else {
-            return Ok(false);
-        };
         self.take_out(place);
-        self.compact_if_sparse()?;
-        Ok(true)
+        self.compact_if_sparse()
     }
 
     /// Takes away the clause at a place.
@@ -122,6 +136,7 @@ impl Present {
         requires none { kept.old.ids.items ≡ [] }
         requires empty { IsStore kept.old }
         requires clauses { (id : ℕ) → clause_in kept.old id ≡ None }
+        requires times { (l : ℕ) → times_at kept.old l ≡ 0 }
         ensures { OnOk result (Keeps self.now kept.new) }
     {
         for place in 0..self.ids.len() {

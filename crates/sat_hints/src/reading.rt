@@ -5,8 +5,8 @@ ghost use Rattle.sat_hints.specs.Lines.{Spells, id_text};
 ghost use Rattle.sat_hints.specs.inner.LineReading.{BeginsWithWords, IsBoth, IsId, IsLiteral, IsNoLine, IsOne, line_of, line_with};
 
 use crate::line::HintLine;
-use crate::numbers::{read_id, read_literal, take_text};
-use sat_base::Lit;
+use crate::numbers::{read_id, read_literal, read_variable, take_text};
+use sat_base::{Lit, Var};
 use std::alloc::{AllocError, Global};
 
 /// The lists of the line in hand, whose room is used again.
@@ -23,6 +23,7 @@ pub(crate) enum Head {
     Derived { id: u64 },
     Gone { id: u64 },
     Core,
+    Fresh { var: Var },
 }
 
 /// Reads literals, as many as there are, and gives what is behind them.
@@ -89,6 +90,7 @@ impl Lists {
                 core: literals,
                 ids,
             },
+            Head::Fresh { var } => HintLine::Fresh { var },
         }
     }
 
@@ -169,6 +171,9 @@ impl Lists {
         if let Some(rest) = take_text(bytes, b"f ") {
             return self.read_core(rest);
         }
+        if let Some(rest) = take_text(bytes, b"e ") {
+            return Ok(read_fresh(rest));
+        }
         Ok(None)
     }
 }
@@ -180,6 +185,18 @@ fn read_gone(bytes: &[u8]) -> Option<Head>
     let (id, rest) = read_id(bytes)?;
     if is_end(rest) {
         return Some(Head::Gone { id });
+    }
+    None
+}
+
+fn read_fresh(bytes: &[u8]) -> Option<Head>
+    ensures { MatchOption result (IsNoLine (codes "e " ++ bytes.now))
+        (λ h. (ls : List ℕ) (ids : List ℕ) → Spells (codes "e " ++ bytes.now) (line_with h ls ids)) }
+{
+    let (index, rest) = read_variable(bytes)?;
+    if is_end(rest) {
+        let var = Var::from_index(index);
+        return Some(Head::Fresh { var });
     }
     None
 }

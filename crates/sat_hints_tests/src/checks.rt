@@ -81,8 +81,79 @@ fn faults() -> [Row; 8] {
     ]
 }
 
+/// Variables that become new.
+fn new_variables() -> [Row; 19] {
+    [
+        // Four that a reader of the format is told of: units go, and may not be named again; a longer clause is in the way.
+        (
+            b"i 1 1 2 0\ni 2 -2 0\nd 3 1 0 2 1 0\nx 1 0\ne 2 0\nf -1 0 3 0\n",
+            proved(false, 1, 6),
+        ),
+        (
+            b"i 1 1 2 0\ni 2 -2 0\nd 3 1 0 2 1 0\nx 1 0\ne 2 0\nd 4 -2 0 2 0\n",
+            bad(6, HintWhy::UnknownId),
+        ),
+        (b"i 1 1 2 0\ne 2 0\n", bad(2, HintWhy::VarInUse)),
+        (b"e 7 0\n", proved(false, 0, 1)),
+        // A unit is a set of one literal, however often that stands.
+        (b"i 1 2 2 0\ne 2 0\nx 1 0\n", bad(3, HintWhy::UnknownId)),
+        // A clause with both signs is in the way.
+        (b"i 1 2 -2 0\ne 2 0\n", bad(2, HintWhy::VarInUse)),
+        // Both signs as units, and several units of one: all go.
+        (
+            b"i 1 2 0\ni 2 -2 0\ni 3 2 0\ne 2 0\nx 3 0\n",
+            bad(5, HintWhy::UnknownId),
+        ),
+        (
+            b"i 1 2 0\ni 2 -2 0\ni 3 2 0\ne 2 0\nd 4 0 1 2 0\n",
+            bad(5, HintWhy::UnknownId),
+        ),
+        // Units of other variables, and the empty clause, stay.
+        (
+            b"i 1 2 0\ni 2 3 0\ni 3 0\ne 2 0\nx 2 0\nx 3 0\n",
+            proved(false, 0, 6),
+        ),
+        // A unit that comes later stays till the next time.
+        (
+            b"i 1 2 0\ne 2 0\ni 2 -2 0\nf 2 0 2 0\ne 2 0\nx 2 0\n",
+            bad(6, HintWhy::UnknownId),
+        ),
+        // Ids aren't given again.
+        (b"i 5 2 0\ne 2 0\ni 5 2 0\n", bad(3, HintWhy::IdOrder)),
+        (
+            b"i 5 2 0\ne 2 0\ni 6 -2 0\nf 2 0 6 0\n",
+            proved(false, 1, 4),
+        ),
+        // Twice, and of a variable with longer clauses that are gone, and that come again.
+        (b"e 2 0\ne 2 0\n", proved(false, 0, 2)),
+        (
+            b"i 1 2 3 0\nx 1 0\ne 2 0\ni 2 2 3 0\ne 2 0\n",
+            bad(5, HintWhy::VarInUse),
+        ),
+        (
+            b"i 1 2 3 0\ni 2 -3 2 4 0\nx 1 0\ne 1 0\ne 2 0\n",
+            bad(5, HintWhy::VarInUse),
+        ),
+        (
+            b"e 1 0\ni 1 2 3 0\ni 2 -3 -2 4 0\nx 2 0\nx 1 0\ne 2 0\ne 3 0\ne 4 0\n",
+            proved(false, 0, 8),
+        ),
+        // A clause that follows with both signs, and one that follows as a unit.
+        (b"d 1 1 -1 0 0\ne 1 0\n", bad(2, HintWhy::VarInUse)),
+        (
+            b"i 1 1 2 0\ni 2 -2 0\nd 3 1 0 2 1 0\nx 1 0\ne 1 0\nx 3 0\n",
+            bad(6, HintWhy::UnknownId),
+        ),
+        // A core, and the largest variable.
+        (
+            b"i 1 2 0\nf -2 0 1 0\ne 2 0\nf -2 0 1 0\n",
+            bad(4, HintWhy::UnknownId),
+        ),
+    ]
+}
+
 /// Numbers at their limits, and lines that aren't of the grammar.
-fn spellings() -> [Row; 17] {
+fn spellings() -> [Row; 25] {
     [
         // IDs and literals at their limits and past them.
         (b"i 18446744073709551615 1 0\n", proved(false, 0, 1)),
@@ -100,7 +171,15 @@ fn spellings() -> [Row; 17] {
         (b"i  1 1 0\n", bad(1, HintWhy::Syntax)),
         (b"i 1 1 0 \n", bad(1, HintWhy::Syntax)),
         (b"i 1 0\n", proved(false, 0, 1)),
-        (b"e 7 0\n", bad(1, HintWhy::Syntax)),
+        (b"e 7\n", bad(1, HintWhy::Syntax)),
+        (b"e 0 0\n", bad(1, HintWhy::Syntax)),
+        (b"e -7 0\n", bad(1, HintWhy::Syntax)),
+        (b"e 07 0\n", bad(1, HintWhy::Syntax)),
+        (b"e 7 0 0\n", bad(1, HintWhy::Syntax)),
+        (b"e 7 8 0\n", bad(1, HintWhy::Syntax)),
+        (b"e  7 0\n", bad(1, HintWhy::Syntax)),
+        (b"e 7 0", bad(1, HintWhy::Syntax)),
+        (b"e 268435457 0\n", bad(1, HintWhy::Syntax)),
         (b"f 0 0\n", bad(1, HintWhy::NotFalsified)),
         (b"x 1 0\n", bad(1, HintWhy::UnknownId)),
     ]
@@ -131,6 +210,11 @@ fn hold(alloc: Global, rows: &[Row]) -> bool {
 #[test]
 fn derivations_are_proved(rt: HostRuntime) {
     assert!(rt; hold(rt.alloc(), &derivations()));
+}
+
+#[test]
+fn variables_become_new(rt: HostRuntime) {
+    assert!(rt; hold(rt.alloc(), &new_variables()));
 }
 
 #[test]

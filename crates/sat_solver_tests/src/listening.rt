@@ -42,6 +42,7 @@ fn mark(step: &CheckedProofStep<'_>) -> (u64, u64) {
         CheckedProofStep::Model { assignment } => (10, assignment.len() as u64),
         CheckedProofStep::Assumptions { assumptions } => (11, assumptions.len() as u64),
         CheckedProofStep::FailedAssumptions { failed_core, .. } => (12, failed_core.len() as u64),
+        CheckedProofStep::DeleteVar { var } => (13, var.index() as u64),
     }
 }
 

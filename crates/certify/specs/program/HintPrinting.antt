@@ -18,6 +18,7 @@ hint_why_text why.IdOrder = codes "IdOrder"
 hint_why_text why.UnknownId = codes "UnknownId"
 hint_why_text why.NotUnit = codes "NotUnit"
 hint_why_text why.NotFalsified = codes "NotFalsified"
+hint_why_text why.VarInUse = codes "VarInUse"
 
 abbrev pub digit_of : Bool → List ℕ
 digit_of true = codes "1"

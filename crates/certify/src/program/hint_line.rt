@@ -17,6 +17,7 @@ fn word(why: HintWhy) -> &'static str
         HintWhy::UnknownId => "UnknownId",
         HintWhy::NotUnit => "NotUnit",
         HintWhy::NotFalsified => "NotFalsified",
+        HintWhy::VarInUse => "VarInUse",
     }
 }
 

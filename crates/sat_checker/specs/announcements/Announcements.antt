@@ -18,6 +18,7 @@ pub record UserVariable : Type 0 where
 -- Clauses and cores are sorted sets. Clauses that follow name those that they follow from by ids, the propagations.
 pub data Announcement : Type 0 where
   UserVar : ℕ → Option UserVariable → Announcement  -- a variable, and its name or none
+  DeleteVar : ℕ → Announcement  -- its unit is forgotten
   AddClause : ℕ → List ℕ → Announcement
   DuplicatedClause : ℕ → ℕ → List ℕ → Announcement  -- its id, and that of the clause that it is the same as
   TautologicalClause : ℕ → List ℕ → Announcement
@@ -119,7 +120,7 @@ last_id (LongClause id) = Some id
 abbrev pub announced : Stored → Step → List Announcement
 announced f (steps.SolverVarName v name) = []
 announced f (steps.UserVarName v user) = renaming v user (f.variables v)
-announced f (steps.DeleteVar v) = []
+announced f (steps.DeleteVar v) = DeleteVar v ∷ []
 announced f (steps.ChangeSamplingMode v sampling) = mode_change v sampling (f.variables v).mode (f.variables v).name
 -- once unsat is recorded, an input clause has no effect
 announced f (steps.AddClause clause) = if f.unsat then [] else input clause f

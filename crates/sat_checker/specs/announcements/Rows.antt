@@ -5,6 +5,7 @@ use Rattle.sat_base.specs.steps.Steps.{Step, Redundant, Simplified, Satisfied, S
 use Rattle.sat_base.specs.steps.Steps as steps
 use Rattle.sat_checker.specs.Rows.{behind, four_clauses, refuted, named_twice, colliding, conflict_and_unit, AllAccepted}
 use Rattle.sat_checker.specs.announcements.Announcements.{Announcement, UserVar, AddClause, DuplicatedClause, TautologicalClause, AtClause, MakeIrredundant, DeleteClause, DeleteAtClause, Model, Assumptions, FailedAssumptions, Told, told_after, all_told_after}
+use Rattle.sat_checker.specs.announcements.Announcements as tells
 use Rattle.sat_checker.specs.announcements.Transcripts.{Transcribed, transcripts}
 use Rattle.sat_checker.specs.announcements.Transcripts as transcript
 
@@ -185,7 +186,7 @@ CoreOfBothSigns = LastTells (steps.AddClause (1 ∷ []) ∷ steps.Assumptions (0
 
 -- other steps
 abbrev pub OthersTell : Type 0
-OthersTell = LastTells [] (ChangeHashBits 8) [] × LastTells [] End [] × LastTells (steps.AddClause (0 ∷ []) ∷ []) (DeleteVar 0) []
+OthersTell = LastTells [] (ChangeHashBits 8) [] × LastTells [] End [] × LastTells (steps.AddClause (0 ∷ []) ∷ []) (DeleteVar 0) (tells.DeleteVar 0 ∷ [])
 
 -- units 1 and 2 with ids 0 and 1, and at width 0 the clauses [-2, 3, 5], [-1, 4], [6, 7], [-3, -4, 5] with ids 2 to 5
 abbrev pub units_and_clauses : List Step
@@ -234,6 +235,7 @@ RefutedRead = transcribed_by refuted ≡ transcript.AddClause (0 ∷ 2 ∷ []) �
 abbrev pub OthersRead : Type 0
 OthersRead = LastReads as_redundant (steps.AtClause false (2 ∷ 0 ∷ []) []) [] × LastReads as_redundant (steps.DeleteClause (2 ∷ 0 ∷ []) Redundant) []
     × LastReads (as_redundant ++ steps.AtClause false (0 ∷ 2 ∷ []) [] ∷ []) (steps.DeleteClause (0 ∷ 2 ∷ []) Satisfied) []
+    × LastReads (steps.AddClause (0 ∷ []) ∷ []) (DeleteVar 0) []
 
 -- in user's names: the explicit one, else a sampling variable's own; a literal of a witness variable without a name is dropped
 abbrev pub one_name : List Step

@@ -2,7 +2,7 @@
 use Rattle.std.specs.Prelude.{ℕ, ◌+◌, ◌*◌, ◌%◌, List, [], ◌∷◌, Option, None, Some, if◌then◌else◌}
 use Rattle.sat_base.specs.values.Literals.{variable}
 use Rattle.sat_checker.specs.Stored.{Mode, Variable}
-use Rattle.sat_checker.specs.announcements.Announcements.{UserVariable, Announcement, UserVar, DuplicatedClause, TautologicalClause, AtClause, MakeIrredundant, DeleteClause, DeleteAtClause, DeleteRatClause, Assumptions, is_sample, Told, told_after, all_told_after}
+use Rattle.sat_checker.specs.announcements.Announcements.{UserVariable, Announcement, UserVar, DeleteVar, DuplicatedClause, TautologicalClause, AtClause, MakeIrredundant, DeleteClause, DeleteAtClause, DeleteRatClause, Assumptions, is_sample, Told, told_after, all_told_after}
 use Rattle.sat_checker.specs.announcements.Announcements as told
 
 pub data Transcribed : Type 0 where
@@ -53,6 +53,7 @@ deriving_of (l ∷ ls) = None
 abbrev pub transcript : (ℕ → Variable) → Announcement → Option Transcribed
 transcript variables (UserVar v None) = hiding (variables v).name
 transcript variables (UserVar v (Some u)) = naming u (variables v).name
+transcript variables (DeleteVar v) = None
 transcript variables (told.AddClause id clause) = Some (AddClause (in_user_names variables clause))
 transcript variables (DuplicatedClause id same clause) = Some (AddClause (in_user_names variables clause))
 transcript variables (TautologicalClause id clause) = Some (AddClause (in_user_names variables clause))

@@ -3,7 +3,7 @@ use Rattle.std.specs.Prelude.{ℕ, ◌==◌, Bool, true, false, Option, None, So
 use Rattle.std.specs.Borrow.{Bor}
 use Rattle.std.specs.Option.{option_map}
 use Rattle.sat_checker.specs.Stored.{Variable}
-use Rattle.sat_checker.specs.announcements.Announcements.{UserVariable, Announcement, UserVar, AddClause, DuplicatedClause, TautologicalClause, AtClause, MakeIrredundant, DeleteClause, DeleteAtClause, DeleteRatClause, Model, Assumptions, FailedAssumptions, Told}
+use Rattle.sat_checker.specs.announcements.Announcements.{UserVariable, Announcement, UserVar, DeleteVar, AddClause, DuplicatedClause, TautologicalClause, AtClause, MakeIrredundant, DeleteClause, DeleteAtClause, DeleteRatClause, Model, Assumptions, FailedAssumptions, Told}
 use Rattle.sat_checker.specs.inner.VariablesView.{variable_at, variable_of}
 use Rattle.sat_checker.specs.declared.announcement.CheckedSamplingMode.{CheckedSamplingMode}
 use Rattle.sat_checker.specs.declared.announcement.CheckedSamplingMode.TheVariants as modes
@@ -23,6 +23,7 @@ user_of u = record { name = u.user_var; sampling = is_sampling u.sampling_mode; 
 -- the announcement without where it lies in memory
 abbrev pub announcement_of : CheckedProofStep → Announcement
 announcement_of (code.UserVar var user) = UserVar var (option_map user_of user)
+announcement_of (code.DeleteVar var) = DeleteVar var
 announcement_of (code.AddClause id clause) = AddClause id clause.now
 announcement_of (code.DuplicatedClause id same clause) = DuplicatedClause id same clause.now
 announcement_of (code.TautologicalClause id clause) = TautologicalClause id clause.now

@@ -1,7 +1,7 @@
 -- What an announcement that waits will say.
 use Rattle.std.specs.Prelude.{ℕ, ◌<◌, List, [], length, slice_index_or}
 use Rattle.std.specs.Option.{option_map}
-use Rattle.sat_checker.specs.announcements.Announcements.{Announcement, UserVar, AddClause, DuplicatedClause, TautologicalClause, AtClause, MakeIrredundant, DeleteClause, DeleteAtClause, Model, Assumptions, FailedAssumptions}
+use Rattle.sat_checker.specs.announcements.Announcements.{Announcement, UserVar, DeleteVar, AddClause, DuplicatedClause, TautologicalClause, AtClause, MakeIrredundant, DeleteClause, DeleteAtClause, Model, Assumptions, FailedAssumptions}
 use Rattle.sat_checker.specs.telling.AnnouncementView.{user_of}
 use Rattle.sat_checker.specs.declared.news.Kind.{Kind}
 use Rattle.sat_checker.specs.declared.news.Kind.TheVariants as kinds
@@ -10,6 +10,7 @@ use Rattle.sat_checker.specs.declared.news.Item.{Item}
 -- with these literals and ids
 abbrev pub announcement_with : Kind → List ℕ → List ℕ → Announcement
 announcement_with (kinds.UserVar var user) literals ids = UserVar var (option_map user_of user)
+announcement_with (kinds.DeleteVar var) literals ids = DeleteVar var
 announcement_with (kinds.AddClause id) literals ids = AddClause id literals
 announcement_with (kinds.DuplicatedClause id same) literals ids = DuplicatedClause id same literals
 announcement_with (kinds.TautologicalClause id) literals ids = TautologicalClause id literals

@@ -10,7 +10,7 @@ use Rattle.sat_checker.specs.SortedSets.{NoRepeats}
 use Rattle.sat_checker.specs.Verdicts.{Verdict, falsified, opens, rests, verdict, verdict_of_open, not_false}
 use Rattle.sat_hints.specs.Checks.{SomeIsNotUnit, LastIsNotFalsified}
 use Rattle.sat_hints.specs.declared.answer.HintWhy.{HintWhy}
-use Rattle.sat_hints.specs.declared.answer.HintWhy.TheVariants.{Syntax, IdOrder, UnknownId, NotUnit, NotFalsified}
+use Rattle.sat_hints.specs.declared.answer.HintWhy.TheVariants.{Syntax, IdOrder, UnknownId, NotUnit, NotFalsified, VarInUse}
 use Rattle.sat_hints.specs.inner.Course.{at_last, at_turn, course}
 
 abbrev IsFalse : List ℕ → ℕ → Type 0
@@ -132,6 +132,7 @@ Says (Some NotFalsified) assumed cs = LastIsNotFalsified assumed cs
 Says (Some Syntax) assumed cs = ⊥
 Says (Some IdOrder) assumed cs = ⊥
 Says (Some UnknownId) assumed cs = ⊥
+Says (Some VarInUse) assumed cs = ⊥
 
 says_further : (why : Option HintWhy) (assumed c d : List ℕ) (ds : List (List ℕ)) (l : ℕ) → IsUnit assumed c l → Says why (l ∷ assumed) (d ∷ ds) → Says why assumed (c ∷ d ∷ ds)
 says_further None assumed c d ds l u h = (l, u, h)
@@ -140,6 +141,7 @@ says_further (Some NotFalsified) assumed c d ds l u h = (l, u, h)
 says_further (Some Syntax) assumed c d ds l u h = h
 says_further (Some IdOrder) assumed c d ds l u h = h
 says_further (Some UnknownId) assumed c d ds l u h = h
+says_further (Some VarInUse) assumed c d ds l u h = h
 
 pub course_says : (cs : List (List ℕ)) (assumed : List ℕ) → AllByRecursion NoRepeats cs → Says (course assumed cs) assumed cs
 course_says [] assumed n = tt

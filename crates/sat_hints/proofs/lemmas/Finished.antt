@@ -37,7 +37,7 @@ breaks_behind a b step steps e k = elim k [
 ]
 
 pub errs_convert : (e : HintError) (from to : Reader) (a b : Outlet) → a.sink.waiting ≡ [] → WritesLines (Err e) from to a b → Converts (Err e) from to a.sink.writer b.sink.writer
-errs_convert HasDeleteVar from to a b e w = (w.0, w.1, w.2, w.3, front_took a b _ e w.4)
+errs_convert HasDeleteVar from to a b e w = w
 errs_convert (Refused r) from to a b e w = (w.0, w.1, w.2, front_took a b _ e w.3)
 errs_convert Read from to a b e w = (w.0, w.1, w.2, w.3, w.4, front_took a b _ e w.5)
 errs_convert Write from to a b e w = (w.0, w.1, w.2, w.3, w.4, breaks_behind a b w.1 (taken_after w.0 []) e w.5)
@@ -72,7 +72,7 @@ module _ {W : Type 0} (seen : W → Writer) (a z v : W) (given back : ℕ) (same
 
   pub lent_converts : (result : Result (Unit {0}) HintError) (from to : Reader) → Converts result from to (lent_writer given (seen a)) (lent_writer back (seen v)) → Converts result from to (seen a) (seen z)
   lent_converts (Ok x) from to c = (c.0, c.1, c.2, c.3, lent_puts {E = HintError} seen a z v given back _ (Ok tt) same c.4)
-  lent_converts (Err HasDeleteVar) from to c = (c.0, c.1, c.2, c.3, lent_took _ c.4)
+  lent_converts (Err HasDeleteVar) from to c = c
   lent_converts (Err (Refused r)) from to c = (c.0, c.1, c.2, lent_took _ c.3)
   lent_converts (Err Read) from to c = (c.0, c.1, c.2, c.3, c.4, lent_took _ c.5)
   lent_converts (Err Write) from to c = (c.0, c.1, c.2, c.3, c.4, lent_breaks c.1 (taken_after c.0 []) c.5)

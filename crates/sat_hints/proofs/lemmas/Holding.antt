@@ -2,7 +2,7 @@
 use Rattle.std.proofs.Common.{ℕ, ◌+◌, ◌<◌, ◌≤◌, ◌≡◌, List, [], ◌∷◌, ◌++◌, length, take, drop, get_or, Option, None, Some, refl, sym, ◌∙◌, ap, subst, append_assoc, append-nil}
 use Rattle.std.proofs.lemmas.List.{take-append-drop, take_more, take_all}
 use Rattle.sat_base.specs.text.Tokenizing.{held}
-use Rattle.sat_hints.specs.Lines.{Line, Input, Derived, Gone, Core, text_of, line_text, id_words, literal_words, Spells, HasNoEnd, ended, cut_off}
+use Rattle.sat_hints.specs.Lines.{Line, Input, Derived, Gone, Core, Fresh, text_of, line_text, id_words, literal_words, Spells, HasNoEnd, ended, cut_off}
 use Rattle.sat_hints.specs.Hints.{Follows}
 use Rattle.sat_hints.specs.Checks.{IsAtFault, Judges}
 use Rattle.sat_hints.specs.inner.Judging.{HasTaken}
@@ -109,6 +109,7 @@ line_has_end (Derived id ls ids) h =
     ends (no_end_second (id_words ids) (48 ∷ 10 ∷ []) (no_end_second (literal_words ls) (48 ∷ 32 ∷ (id_words ids ++ (48 ∷ 10 ∷ []))) (no_end_second (id_words (id ∷ [])) (literal_words ls ++ (48 ∷ 32 ∷ (id_words ids ++ (48 ∷ 10 ∷ [])))) h.1.1)).1.1)
 line_has_end (Gone id) h = ends (no_end_second (id_words (id ∷ [])) (48 ∷ 10 ∷ []) h.1.1)
 line_has_end (Core ls ids) h = ends (no_end_second (id_words ids) (48 ∷ 10 ∷ []) (no_end_second (literal_words ls) (48 ∷ 32 ∷ (id_words ids ++ (48 ∷ 10 ∷ []))) h.1.1).1.1)
+line_has_end (Fresh v) h = ends (no_end_second (id_words (v ∷ [])) (48 ∷ 10 ∷ []) h.1.1)
 
 pub ends_badly : (c : Checking) (text : List ℕ) (v : HintVerdict) → ((count : ℕ) → c.judge.lines ≡ held count → v ≡ Bad (held (count + 1)) Syntax) → (c.held.items ≡ [] → ⊥) → HasRead c text → Judges v text
 ends_badly c text v is some r = subst (λ v. Judges v text) (sym (is (length r.lines) r.taken.counts_lines)) (record {

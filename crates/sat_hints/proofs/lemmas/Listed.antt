@@ -6,7 +6,9 @@ use Rattle.sat_hints.specs.declared.present.Present.{Present}
 use Rattle.std.proofs.lemmas.List.Sorted.{searched}
 use Rattle.std.specs.List.Sorted.{IsBinarySearchResult}
 use Rattle.std.specs.Ordering.{nat_cmp}
-use Rattle.sat_hints.specs.inner.Clauses.{FindsOne, listed, clause_in, clause_at, AllBelow, IsStore, Adds, Loses, Keeps}
+use Rattle.sat_checker.specs.SortedSets.{IsIncreasing}
+use Rattle.sat_hints.specs.inner.Clauses.{FindsOne, listed, clause_in, clause_at, times_long, times_kept, times_at, AllBelow, IsStore, Adds, Loses, Keeps}
+use Rattle.sat_hints.proofs.lemmas.Counting.{times-snoc, times-gone, times-more, times_whole, set_at, sets-snoc}
 
 -- two numbers that differ
 pub apart : (x y : ℕ) → (x ≡ y → ⊥) → eqb x y ≡ false
@@ -119,15 +121,18 @@ length-snoc [] x = refl
 length-snoc (y ∷ ys) x = let e = length-snoc ys x in omega arith
 
 -- a clause is added
-pub adds : (old new : Present) (id : ℕ) (clause : List ℕ) → IsStore old → AllBelow old.ids.items id → new.ids.items ≡ old.ids.items ++ (id ∷ []) → new.gone.items ≡ old.gone.items ++ (false ∷ []) → new.clauses ≡ old.clauses ++ (clause ∷ []) → Adds old new id clause
-adds old new id clause s h i g c = record {
+pub adds : (old new : Present) (id : ℕ) (clause : List ℕ) → IsStore old → AllBelow old.ids.items id → IsIncreasing clause → new.ids.items ≡ old.ids.items ++ (id ∷ []) → new.gone.items ≡ old.gone.items ++ (false ∷ []) → new.clauses ≡ old.clauses ++ (clause ∷ []) → Adds old new id clause
+adds old new id clause s h k i g c = record {
   store = record {
     clauses = rw (c, i) (length-snoc old.clauses clause ∙ ap (λ n. n + 1) s.clauses ∙ sym (length-snoc old.ids.items id));
     gone = rw (g, i) (length-snoc old.gone.items false ∙ ap (λ n. n + 1) s.gone ∙ sym (length-snoc old.ids.items id));
     rises = rw i (rises-snoc old.ids.items id s.rises h);
+    sets = rw c (sets-snoc old.clauses clause s.sets k);
   };
   below = rw i (λ k l. below-snoc old.ids.items id k h l);
   clauses = rw (i, g, c) (λ j. listed-snoc j id clause false old.ids.items old.clauses old.gone.items s.clauses s.gone h);
+  times = rw (g, c) (λ l. times-snoc l old.clauses old.gone.items clause false (s.gone ∙ sym s.clauses));
+  longer = rw i (length-snoc old.ids.items id);
 }
 
 -- what a search for an id finds
@@ -183,25 +188,34 @@ loses old new place s l i g c =
         clauses = rw (c, i) s.clauses;
         gone = rw (g, i) (simp length-set s.gone);
         rises = rw i s.rises;
+        sets = rw c s.sets;
       };
       below = rw i (λ k h. h);
       clauses = rw (i, g, c) (λ j. listed-gone j place old.ids.items old.clauses old.gone.items s.clauses s.gone s.rises within);
+      times = rw (g, c) (λ d e. there d (get_or old.gone.items place false) refl (sym (listed-at place old.ids.items old.clauses old.gone.items s.clauses s.gone s.rises within) ∙ e));
     }
+  where
+    there : (d : List ℕ) (b : Bool) → get_or old.gone.items place false ≡ b → cond b None (Some (get_or old.clauses place [])) ≡ Some d → (m : ℕ) → times_kept m old.clauses (set old.gone.items place true) + times_long m d ≡ times_kept m old.clauses old.gone.items
+    there d true f e = absurd cc
+    there d false f e = λ m.
+        let is : get_or old.clauses place [] ≡ d = cc in
+        subst (λ x. times_kept m old.clauses (set old.gone.items place true) + times_long m x ≡ times_kept m old.clauses old.gone.items) is (times-gone m old.clauses old.gone.items place (s.gone ∙ sym s.clauses) l f)
 
 pub keeps_itself : (p : Present) → IsStore p → Keeps p p
-keeps_itself p s = record { store = s; below = λ k h. h; clauses = λ j. refl }
+keeps_itself p s = record { store = s; below = λ k h. h; clauses = λ j. refl; times = λ l. refl }
 
 pub loses_further : (old mid new : Present) (id : ℕ) → Loses old mid id → Keeps mid new → Loses old new id
-loses_further old mid new id l k = record { store = k.store; below = λ b h. k.below b (l.below b h); clauses = λ j. k.clauses j ∙ l.clauses j }
+loses_further old mid new id l k = record { store = k.store; below = λ b h. k.below b (l.below b h); clauses = λ j. k.clauses j ∙ l.clauses j; times = λ c e m. ap (λ n. n + times_long m c) (k.times m) ∙ l.times c e m }
 
 -- the first clauses are kept, but for those that are gone
 pub record KeepsFirst (p : Present) (count : ℕ) (kept : Present) : Type 0 where
   pub store : IsStore kept
   pub below : (k : ℕ) → AllBelow (take count p.ids.items) k → AllBelow kept.ids.items k
   pub clauses : (id : ℕ) → clause_in kept id ≡ listed id (take count p.ids.items) (take count p.clauses) (take count p.gone.items)
+  pub times : (l : ℕ) → times_at kept l ≡ times_kept l (take count p.clauses) (take count p.gone.items)
 
-pub keeps_none : (p kept : Present) → IsStore kept → kept.ids.items ≡ [] → ((id : ℕ) → clause_in kept id ≡ None) → KeepsFirst p 0 kept
-keeps_none p kept s e n = record { store = s; below = λ k h. rw e (λ i l. absurd (omega arith)); clauses = λ id. n id }
+pub keeps_none : (p kept : Present) → IsStore kept → kept.ids.items ≡ [] → ((id : ℕ) → clause_in kept id ≡ None) → ((l : ℕ) → times_at kept l ≡ 0) → KeepsFirst p 0 kept
+keeps_none p kept s e n t = record { store = s; below = λ k h. rw e (λ i l. absurd (omega arith)); clauses = λ id. n id; times = λ l. t l }
 
 module _ (p : Present) (s : IsStore p) (i : ℕ) (inside : i < length p.ids.items) where
   first_below : AllBelow (take i p.ids.items) (get_or p.ids.items i 0)
@@ -233,6 +247,15 @@ module _ (p : Present) (s : IsStore p) (i : ℕ) (inside : i < length p.ids.item
         λ j l. let m : j < i = omega arith in subst (λ x. x < k) (get_or-take (i + 1) p.ids.items j 0 (omega arith) ∙ sym (get_or-take i p.ids.items j 0 m)) (h j (omega arith)),
       )
 
+  within : i < length p.clauses
+  within = subst (λ n. i < n) (sym s.clauses) inside
+
+  pub next_set : (clause : List ℕ) → clause ≡ get_or p.clauses i [] → IsIncreasing clause
+  next_set clause e = subst IsIncreasing (sym e) (set_at p.clauses i s.sets within)
+
+  counted_more : (l : ℕ) → times_kept l (take (i + 1) p.clauses) (take (i + 1) p.gone.items) ≡ times_kept l (take i p.clauses) (take i p.gone.items) + cond (get_or p.gone.items i false) 0 (times_long l (get_or p.clauses i []))
+  counted_more l = times-more l p.clauses p.gone.items i (s.gone ∙ sym s.clauses) within
+
   mark : {b : Bool} → b ≡ get_or p.gone.items i b → get_or p.gone.items i false ≡ b
   mark {b} m = same_default p.gone.items i false b (subst (λ n. i < n) (sym s.gone) inside) ∙ sym m
 
@@ -241,6 +264,8 @@ module _ (p : Present) (s : IsStore p) (i : ℕ) (inside : i < length p.ids.item
     store = a.store;
     below = λ b h. let f = below_fewer b h in a.below b (subst (λ x. x < b) (sym d) f.0);
     clauses = λ j. a.clauses j ∙ (rw (d, c) (ap (λ o. cond (eqb j (get_or p.ids.items i 0)) (Some (get_or p.clauses i [])) o) (k.clauses j)) ∙ ap (λ b. cond (eqb j (get_or p.ids.items i 0)) (cond b None (Some (get_or p.clauses i []))) (listed j (take i p.ids.items) (take i p.clauses) (take i p.gone.items))) (sym g)) ∙ sym (listed_more j);
+    times = λ m. a.times m ∙ ap (λ n. n + times_long m clause) (k.times m) ∙ ap (λ x. times_kept m (take i p.clauses) (take i p.gone.items) + times_long m x) c
+        ∙ ap (λ b. times_kept m (take i p.clauses) (take i p.gone.items) + cond b 0 (times_long m (get_or p.clauses i []))) (sym g) ∙ sym (counted_more m);
   }
 
   pub keeps_not : (kept : Present) (b : Bool) → KeepsFirst p i kept → b ≡ get_or p.gone.items i b → b ≡ true → KeepsFirst p (i + 1) kept
@@ -248,6 +273,8 @@ module _ (p : Present) (s : IsStore p) (i : ℕ) (inside : i < length p.ids.item
     store = k.store;
     below = λ b h. k.below b (below_fewer b h).1;
     clauses = λ j. k.clauses j ∙ gone j (eqb j (get_or p.ids.items i 0)) refl ∙ ap (λ b. cond (eqb j (get_or p.ids.items i 0)) (cond b None (Some (get_or p.clauses i []))) (listed j (take i p.ids.items) (take i p.clauses) (take i p.gone.items))) (sym g) ∙ sym (listed_more j);
+    times = λ m. k.times m ∙ (let z : times_kept m (take i p.clauses) (take i p.gone.items) ≡ times_kept m (take i p.clauses) (take i p.gone.items) + 0 = omega arith in z)
+        ∙ ap (λ b. times_kept m (take i p.clauses) (take i p.gone.items) + cond b 0 (times_long m (get_or p.clauses i []))) (sym g) ∙ sym (counted_more m);
   }
     where
       gone : (j : ℕ) (b : Bool) → eqb j (get_or p.ids.items i 0) ≡ b → listed j (take i p.ids.items) (take i p.clauses) (take i p.gone.items) ≡ cond (eqb j (get_or p.ids.items i 0)) None (listed j (take i p.ids.items) (take i p.clauses) (take i p.gone.items))
@@ -262,4 +289,23 @@ keeps_all p kept i s h k =
     let a : take i p.ids.items ≡ p.ids.items = take_all i p.ids.items h in
     let b : take i p.clauses ≡ p.clauses = take_all i p.clauses (subst (λ n. n ≤ i) (sym s.clauses) h) in
     let c : take i p.gone.items ≡ p.gone.items = take_all i p.gone.items (subst (λ n. n ≤ i) (sym s.gone) h) in
-    record { store = k.store; below = subst (λ xs. (b : ℕ) → AllBelow xs b → AllBelow kept.ids.items b) a k.below; clauses = λ id. k.clauses id ∙ rw (a, b, c) refl }
+    record { store = k.store; below = subst (λ xs. (b : ℕ) → AllBelow xs b → AllBelow kept.ids.items b) a k.below; clauses = λ id. k.clauses id ∙ rw (a, b, c) refl; times = λ l. k.times l ∙ times_whole l p.clauses p.gone.items i (s.gone ∙ sym s.clauses) (subst (λ n. n ≤ i) (sym s.clauses) h) }
+
+-- a clause under an id stands at a place
+pub record StandsAt (id : ℕ) (c : List ℕ) (ids : List ℕ) (cs : List (List ℕ)) (gs : List Bool) : Type 0 where
+  pub place : ℕ
+  pub within : place < length cs
+  pub named : get_or ids place 0 ≡ id
+  pub there : get_or gs place false ≡ false
+  pub clause : get_or cs place [] ≡ c
+
+pub stands_at : (id : ℕ) (c : List ℕ) (ids : List ℕ) (cs : List (List ℕ)) (gs : List Bool) → listed id ids cs gs ≡ Some c → StandsAt id c ids cs gs
+stands_at id c [] cs gs e = absurd cc
+stands_at id c (i ∷ ids) [] gs e = absurd cc
+stands_at id c (i ∷ ids) (d ∷ cs) [] e = absurd cc
+stands_at id c (i ∷ ids) (d ∷ cs) (g ∷ gs) e = go (eqb id i) refl g (λ f. stands_at id c ids cs gs f) e
+  where
+    go : (t : Bool) → eqb id i ≡ t → (b : Bool) → (listed id ids cs gs ≡ Some c → StandsAt id c ids cs gs) → cond t (cond b None (Some d)) (listed id ids cs gs) ≡ Some c → StandsAt id c (i ∷ ids) (d ∷ cs) (b ∷ gs)
+    go true n true ih f = absurd cc
+    go true n false ih f = record { place = 0; within = omega arith; named = sym (eqb-true id i n); there = refl; clause = (let k : d ≡ c = cc in k) }
+    go false n b ih f = let s = ih f in record { place = suc s.place; within = (let w = s.within in omega (arith, w)); named = s.named; there = s.there; clause = s.clause }

@@ -3,12 +3,13 @@ use Rattle.std.proofs.Common.{ℕ, ◌+◌, ◌≡◌, Bool, List, [], ◌∷◌
 use Rattle.sat_base.specs.text.Text.{lines}
 use Rattle.sat_base.specs.text.Tokenizing.{held}
 use Rattle.sat_hints.specs.Lines.{Line, AreLines, Spells, text_of}
-use Rattle.sat_hints.specs.Hints.{clauses_under, named_ids, derives_empty, count_of_cores}
+use Rattle.sat_hints.specs.Hints.{clauses_under, IsInOrder, named_ids, UsesVariable, derives_empty, count_of_cores}
 use Rattle.sat_hints.specs.Checks.{SomeIsNotUnit, LastIsNotFalsified, Tries, IsFaultOf, IsAtFault, IsBadAt, IsProof}
 use Rattle.sat_hints.specs.Laws.{OneVerdict}
 use Rattle.sat_hints.specs.declared.answer.HintVerdict.TheVariants.{Proved, Bad}
 use Rattle.sat_hints.specs.declared.answer.HintWhy.{HintWhy}
-use Rattle.sat_hints.specs.declared.answer.HintWhy.TheVariants.{Syntax, IdOrder, UnknownId, NotUnit, NotFalsified}
+use Rattle.sat_hints.specs.declared.answer.HintWhy.TheVariants.{Syntax, IdOrder, UnknownId, NotUnit, NotFalsified, VarInUse}
+use Rattle.sat_hints.proofs.lemmas.Unused.{uses_in_order, uses_none, uses_nothing}
 use Rattle.sat_hints.proofs.lemmas.OneVerdict.{same_unit, one_line, texts_in, texts_in-cons, lines_of_text, lines_none, later_than, bad_lines, derivation_has_none, proved_is_not_bad}
 
 -- ONE REASON
@@ -32,6 +33,15 @@ module _ (earlier : List Line) (line : Line) where
       let under : s.assumed ≡ t.assumed = cc in
       fails_once t.clauses t.assumed (subst (λ a. SomeIsNotUnit a t.clauses) under (subst (SomeIsNotUnit s.assumed) same s.fails)) t.fails
 
+  unused_order : UsesVariable earlier line → (IsInOrder earlier line → ⊥) → ⊥
+  unused_order u h = h (uses_in_order earlier line u)
+
+  unused_present : UsesVariable earlier line → clauses_under (named_ids line) earlier ≡ None → ⊥
+  unused_present u e = let f : ◌≡◌ {A = Option (List (List ℕ))} None (Some []) = sym e ∙ uses_none earlier line u in cc
+
+  unused_tries : {F : List ℕ → List (List ℕ) → Type 0} → UsesVariable earlier line → Tries earlier line F → ⊥
+  unused_tries u t = let f : ◌≡◌ {A = Option (List ℕ)} None (Some t.assumed) = sym (uses_nothing earlier line u) ∙ t.assumes in cc
+
   one_reason : (w v : HintWhy) → IsFaultOf earlier line w → IsFaultOf earlier line v → w ≡ v
   one_reason Syntax v h g = absurd h
   one_reason w Syntax h g = absurd g
@@ -51,6 +61,15 @@ module _ (earlier : List Line) (line : Line) where
   one_reason NotFalsified UnknownId h g = absurd (present_or_not g.1 h)
   one_reason NotFalsified NotUnit h g = absurd (not_both g h)
   one_reason NotFalsified NotFalsified h g = refl
+  one_reason IdOrder VarInUse h g = absurd (unused_order g h)
+  one_reason UnknownId VarInUse h g = absurd (unused_present g h.1)
+  one_reason NotUnit VarInUse h g = absurd (unused_tries g h)
+  one_reason NotFalsified VarInUse h g = absurd (unused_tries g h)
+  one_reason VarInUse IdOrder h g = absurd (unused_order h g)
+  one_reason VarInUse UnknownId h g = absurd (unused_present h g.1)
+  one_reason VarInUse NotUnit h g = absurd (unused_tries h g)
+  one_reason VarInUse NotFalsified h g = absurd (unused_tries h g)
+  one_reason VarInUse VarInUse h g = refl
 
 -- the reason of bytes: they are no line, or they are one and it is at fault
 data Reason (earlier : List Line) (bytes : List ℕ) (w : HintWhy) : Type 0 where
@@ -63,6 +82,7 @@ reason earlier bytes IdOrder h = a_line h.0 h.1 h.2
 reason earlier bytes UnknownId h = a_line h.0 h.1 h.2
 reason earlier bytes NotUnit h = a_line h.0 h.1 h.2
 reason earlier bytes NotFalsified h = a_line h.0 h.1 h.2
+reason earlier bytes VarInUse h = a_line h.0 h.1 h.2
 
 one_why : (earlier : List Line) (bytes : List ℕ) (w v : HintWhy) → Reason earlier bytes w → Reason earlier bytes v → w ≡ v
 one_why earlier bytes w v (no_line e h) (no_line f g) = e ∙ sym f

@@ -9,13 +9,13 @@ use Rattle.sat_base.specs.text.Text.{lines, onto_first}
 use Rattle.sat_base.specs.dimacs.DimacsText.{number_text}
 use Rattle.sat_checker.specs.LiteralSets.{is_among, is_tautology}
 use Rattle.sat_checker.specs.Propagation.{IsFalsified, IsUnit, UnitInTurn}
-use Rattle.sat_hints.specs.Lines.{Line, Input, Derived, Gone, Core, AreIds, AreLiterals, IsLine, AreLines, words, id_text, id_words, literal_words, line_text, text_of, HasNoEnd, BeginsWithLine, ended, cut_off}
+use Rattle.sat_hints.specs.Lines.{Line, Input, Derived, Gone, Core, Fresh, AreIds, AreLiterals, IsLine, AreLines, words, id_text, id_words, literal_words, line_text, text_of, HasNoEnd, BeginsWithLine, ended, cut_off}
 use Rattle.sat_hints.specs.Hints.{named_ids, clauses_under, assumed_by, Conflicts, ConflictsIf, Follows, IsHintDerivation}
 use Rattle.sat_hints.specs.Checks.{SomeIsNotUnit, LastIsNotFalsified, IsFaultOf, IsAtFault}
 use Rattle.sat_hints.specs.Laws.{ProvedIsNotBad}
 use Rattle.sat_hints.specs.inner.LineReading.{IsId, IsLiteral, NoWord}
 use Rattle.sat_hints.specs.declared.answer.HintWhy.{HintWhy}
-use Rattle.sat_hints.specs.declared.answer.HintWhy.TheVariants.{Syntax, IdOrder, UnknownId, NotUnit, NotFalsified}
+use Rattle.sat_hints.specs.declared.answer.HintWhy.TheVariants.{Syntax, IdOrder, UnknownId, NotUnit, NotFalsified, VarInUse}
 use Rattle.sat_hints.proofs.lemmas.Digits.{are_digits}
 use Rattle.sat_hints.proofs.lemmas.Words.{at_space, same_words, ids_are_words, literals_are_words}
 use Rattle.sat_hints.proofs.lemmas.Holding.{no_end_both}
@@ -68,6 +68,7 @@ module _ (earlier : List Line) (line : Line) (f : Follows earlier line) where
   never_at_fault UnknownId h = let e : ◌≡◌ {A = Option (List (List ℕ))} (Some f.clauses) None = sym f.present ∙ h.1 in cc
   never_at_fault NotUnit h = turn_not_unit h.clauses h.assumed (conflict_at h.assumed h.clauses h.assumes h.present h.consistent) h.fails
   never_at_fault NotFalsified h = turn_not_last h.clauses h.assumed (conflict_at h.assumed h.clauses h.assumes h.present h.consistent) h.fails
+  never_at_fault VarInUse h = f.unused h
 
 -- A LINE'S TEXT IS THAT OF NO OTHER
 end : List ℕ
@@ -118,6 +119,9 @@ one_line (Core ls is) (Core ks js) p q e =
     let f : literal_words ls ++ (48 ∷ 32 ∷ (id_words is ++ (48 ∷ 10 ∷ []))) ≡ literal_words ks ++ (48 ∷ 32 ∷ (id_words js ++ (48 ∷ 10 ∷ []))) = cc in
     let w = same_both ls ks is js p.0 q.0 p.1 q.1 f in
     ap (λ x. Core x is) w.literals ∙ ap (Core ks) w.ids
+one_line (Fresh v) (Fresh w) p q e =
+    let f : id_words (v ∷ []) ++ (48 ∷ 10 ∷ []) ≡ id_words (w ∷ []) ++ (48 ∷ 10 ∷ []) = cc in
+    ap Fresh (same_first v w _ _ (omega arith) (omega arith) f).0
 one_line (Input i ls) (Derived j ks js) p q e = other_kind 105 100 _ _ (λ f. omega arith) e
 one_line (Input i ls) (Gone j) p q e = other_kind 105 120 _ _ (λ f. omega arith) e
 one_line (Input i ls) (Core ks js) p q e = other_kind 105 102 _ _ (λ f. omega arith) e
@@ -130,6 +134,14 @@ one_line (Gone i) (Core ks js) p q e = other_kind 120 102 _ _ (λ f. omega arith
 one_line (Core ls is) (Input j ks) p q e = other_kind 102 105 _ _ (λ f. omega arith) e
 one_line (Core ls is) (Derived j ks js) p q e = other_kind 102 100 _ _ (λ f. omega arith) e
 one_line (Core ls is) (Gone j) p q e = other_kind 102 120 _ _ (λ f. omega arith) e
+one_line (Input i ls) (Fresh w) p q e = other_kind 105 101 _ _ (λ f. omega arith) e
+one_line (Derived i ls is) (Fresh w) p q e = other_kind 100 101 _ _ (λ f. omega arith) e
+one_line (Gone i) (Fresh w) p q e = other_kind 120 101 _ _ (λ f. omega arith) e
+one_line (Core ls is) (Fresh w) p q e = other_kind 102 101 _ _ (λ f. omega arith) e
+one_line (Fresh v) (Input j ks) p q e = other_kind 101 105 _ _ (λ f. omega arith) e
+one_line (Fresh v) (Derived j ks js) p q e = other_kind 101 100 _ _ (λ f. omega arith) e
+one_line (Fresh v) (Gone j) p q e = other_kind 101 120 _ _ (λ f. omega arith) e
+one_line (Fresh v) (Core ks js) p q e = other_kind 101 102 _ _ (λ f. omega arith) e
 
 -- A TEXT'S LINES
 digits_no_end : (ds : List ℕ) → AllDigits 10 ds → HasNoEnd ds
@@ -183,6 +195,7 @@ line_ended (Derived id ls ids) p =
     ended_behind (100 ∷ 32 ∷ []) _ (kind_no_end 100 (λ e. omega arith)) (ended_behind (id_words (id ∷ [])) _ (ids_no_end (id ∷ []) p.0) (ended_both ls ids p.1 p.2))
 line_ended (Gone id) p = ended_behind (120 ∷ 32 ∷ []) _ (kind_no_end 120 (λ e. omega arith)) (ended_behind (id_words (id ∷ [])) (48 ∷ 10 ∷ []) (ids_no_end (id ∷ []) p) ended_end)
 line_ended (Core ls ids) p = ended_behind (102 ∷ 32 ∷ []) _ (kind_no_end 102 (λ e. omega arith)) (ended_both ls ids p.0 p.1)
+line_ended (Fresh v) p = ended_behind (101 ∷ 32 ∷ []) _ (kind_no_end 101 (λ e. omega arith)) (ended_behind (id_words (v ∷ [])) (48 ∷ 10 ∷ []) (ids_no_end (v ∷ []) (omega arith, tt)) ended_end)
 
 not_ten : (b : ℕ) → (b ≡ 10 → ⊥) → nat_eq b 10 ≡ false
 not_ten b h = go (nat_eq b 10) refl
@@ -292,6 +305,7 @@ at_no_fault earlier bytes IdOrder l e p f h = never_at_fault earlier l f IdOrder
 at_no_fault earlier bytes UnknownId l e p f h = never_at_fault earlier l f UnknownId (subst (λ x. IsFaultOf earlier x UnknownId) (one_line h.0 l h.1.0 p (sym h.1.1 ∙ e)) h.2)
 at_no_fault earlier bytes NotUnit l e p f h = never_at_fault earlier l f NotUnit (subst (λ x. IsFaultOf earlier x NotUnit) (one_line h.0 l h.1.0 p (sym h.1.1 ∙ e)) h.2)
 at_no_fault earlier bytes NotFalsified l e p f h = never_at_fault earlier l f NotFalsified (subst (λ x. IsFaultOf earlier x NotFalsified) (one_line h.0 l h.1.0 p (sym h.1.1 ∙ e)) h.2)
+at_no_fault earlier bytes VarInUse l e p f h = never_at_fault earlier l f VarInUse (subst (λ x. IsFaultOf earlier x VarInUse) (one_line h.0 l h.1.0 p (sym h.1.1 ∙ e)) h.2)
 
 -- so a derivation has no line at fault
 pub derivation_has_none : (all earlier : List Line) (bytes : List ℕ) (more : List (List ℕ)) (why : HintWhy) → AreLines all → IsHintDerivation all → AreLines earlier → texts_in all ≡ texts_in earlier ++ (bytes ∷ more) → IsAtFault earlier bytes why → ⊥

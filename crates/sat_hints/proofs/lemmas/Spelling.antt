@@ -1,8 +1,8 @@
 -- Which bytes are a line.
 use Rattle.std.proofs.Common.{ℕ, ◌≡◌, Bool, true, false, MatchBool, List, [], ◌∷◌, ◌++◌, refl, sym, ◌∙◌, ap, subst, arith, append_assoc}
 use Rattle.sat_base.specs.dimacs.DimacsText.{number_text}
-use Rattle.sat_hints.specs.Lines.{Input, Derived, Gone, Core, id_text, id_words, literal_words, Spells}
-use Rattle.sat_hints.specs.inner.LineReading.{IsId, IsLiteral, NoWord, BeginsWithWord, BeginsWithWords, IsOne, IsBoth, IsNoLine}
+use Rattle.sat_hints.specs.Lines.{Input, Derived, Gone, Core, Fresh, id_text, id_words, literal_words, Spells}
+use Rattle.sat_hints.specs.inner.LineReading.{IsId, IsVariable, IsLiteral, NoWord, BeginsWithWord, BeginsWithWords, IsOne, IsBoth, IsNoLine}
 use Rattle.sat_hints.proofs.lemmas.Words.{ended_words, same_word, ids_are_words, literals_are_words}
 
 abbrev end : List ℕ
@@ -64,6 +64,9 @@ gone_spelt bytes rest id b e = ((b.0, tt), ap (λ t. 120 ∷ 32 ∷ t) (b.1 ∙ 
 pub core_spelt : (bytes ls ids : List ℕ) → IsBoth bytes ls ids → Spells (102 ∷ 32 ∷ bytes) (Core ls ids)
 core_spelt bytes ls ids o = ((o.0, o.1), ap (λ t. 102 ∷ 32 ∷ t) o.2)
 
+pub fresh_spelt : (bytes rest : List ℕ) (v : ℕ) → BeginsWithWord id_text IsVariable bytes v rest → rest ≡ end → Spells (101 ∷ 32 ∷ bytes) (Fresh v)
+fresh_spelt bytes rest v b e = ((b.0, tt), ap (λ t. 101 ∷ 32 ∷ t) (b.1 ∙ ap (λ t. id_text v ++ (32 ∷ t)) e ∙ sym (one_id v end)))
+
 -- what a line of each kind is
 abbrev IsInput : List ℕ → Type 0
 IsInput bytes = (id : ℕ) × (rest : List ℕ) × (ls : List ℕ) × BeginsWithWord id_text IsId bytes id rest × IsOne rest ls
@@ -77,6 +80,9 @@ IsGone bytes = (id : ℕ) × BeginsWithWord id_text IsId bytes id end
 abbrev IsCore : List ℕ → Type 0
 IsCore bytes = (ls : List ℕ) × (ids : List ℕ) × IsBoth bytes ls ids
 
+abbrev IsFresh : List ℕ → Type 0
+IsFresh bytes = (v : ℕ) × BeginsWithWord id_text IsVariable bytes v end
+
 pub not_input : (bytes : List ℕ) → (IsInput bytes → ⊥) → IsNoLine (105 ∷ 32 ∷ bytes)
 not_input bytes never (Input id ls) s =
     let f = s.1 in let t : bytes ≡ id_words (id ∷ []) ++ (literal_words ls ++ end) = cc in
@@ -84,6 +90,7 @@ not_input bytes never (Input id ls) s =
 not_input bytes never (Derived id ls ids) s = let f = s.1 in let r : ◌≡◌ {A = ℕ} 105 100 = cc in omega arith
 not_input bytes never (Gone id) s = let f = s.1 in let r : ◌≡◌ {A = ℕ} 105 120 = cc in omega arith
 not_input bytes never (Core ls ids) s = let f = s.1 in let r : ◌≡◌ {A = ℕ} 105 102 = cc in omega arith
+not_input bytes never (Fresh v) s = let f = s.1 in let r : ◌≡◌ {A = ℕ} 105 101 = cc in omega arith
 
 pub not_derived : (bytes : List ℕ) → (IsDerived bytes → ⊥) → IsNoLine (100 ∷ 32 ∷ bytes)
 not_derived bytes never (Derived id ls ids) s =
@@ -92,6 +99,7 @@ not_derived bytes never (Derived id ls ids) s =
 not_derived bytes never (Input id ls) s = let f = s.1 in let r : ◌≡◌ {A = ℕ} 100 105 = cc in omega arith
 not_derived bytes never (Gone id) s = let f = s.1 in let r : ◌≡◌ {A = ℕ} 100 120 = cc in omega arith
 not_derived bytes never (Core ls ids) s = let f = s.1 in let r : ◌≡◌ {A = ℕ} 100 102 = cc in omega arith
+not_derived bytes never (Fresh v) s = let f = s.1 in let r : ◌≡◌ {A = ℕ} 100 101 = cc in omega arith
 
 pub not_gone : (bytes : List ℕ) → (IsGone bytes → ⊥) → IsNoLine (120 ∷ 32 ∷ bytes)
 not_gone bytes never (Gone id) s =
@@ -100,6 +108,7 @@ not_gone bytes never (Gone id) s =
 not_gone bytes never (Input id ls) s = let f = s.1 in let r : ◌≡◌ {A = ℕ} 120 105 = cc in omega arith
 not_gone bytes never (Derived id ls ids) s = let f = s.1 in let r : ◌≡◌ {A = ℕ} 120 100 = cc in omega arith
 not_gone bytes never (Core ls ids) s = let f = s.1 in let r : ◌≡◌ {A = ℕ} 120 102 = cc in omega arith
+not_gone bytes never (Fresh v) s = let f = s.1 in let r : ◌≡◌ {A = ℕ} 120 101 = cc in omega arith
 
 pub not_core : (bytes : List ℕ) → (IsCore bytes → ⊥) → IsNoLine (102 ∷ 32 ∷ bytes)
 not_core bytes never (Core ls ids) s =
@@ -108,6 +117,16 @@ not_core bytes never (Core ls ids) s =
 not_core bytes never (Input id ls) s = let f = s.1 in let r : ◌≡◌ {A = ℕ} 102 105 = cc in omega arith
 not_core bytes never (Derived id ls ids) s = let f = s.1 in let r : ◌≡◌ {A = ℕ} 102 100 = cc in omega arith
 not_core bytes never (Gone id) s = let f = s.1 in let r : ◌≡◌ {A = ℕ} 102 120 = cc in omega arith
+not_core bytes never (Fresh v) s = let f = s.1 in let r : ◌≡◌ {A = ℕ} 102 101 = cc in omega arith
+
+pub not_fresh : (bytes : List ℕ) → (IsFresh bytes → ⊥) → IsNoLine (101 ∷ 32 ∷ bytes)
+not_fresh bytes never (Fresh v) s =
+    let f = s.1 in let t : bytes ≡ id_words (v ∷ []) ++ end = cc in
+    never (v, (s.0.0, t ∙ one_id v end))
+not_fresh bytes never (Input id ls) s = let f = s.1 in let r : ◌≡◌ {A = ℕ} 101 105 = cc in omega arith
+not_fresh bytes never (Derived id ls ids) s = let f = s.1 in let r : ◌≡◌ {A = ℕ} 101 100 = cc in omega arith
+not_fresh bytes never (Gone id) s = let f = s.1 in let r : ◌≡◌ {A = ℕ} 101 120 = cc in omega arith
+not_fresh bytes never (Core ls ids) s = let f = s.1 in let r : ◌≡◌ {A = ℕ} 101 102 = cc in omega arith
 
 -- the id, and what is behind it, is read in one way
 pub no_id : {A : Type 0} (bytes : List ℕ) → NoWord id_text IsId bytes → (id : ℕ) (rest : List ℕ) → BeginsWithWord id_text IsId bytes id rest → A
@@ -134,12 +153,23 @@ gone_no_id bytes none = not_gone bytes (λ i. none i.0 end i.1.0 i.1.1)
 pub gone_refused : (bytes rest : List ℕ) (id : ℕ) → BeginsWithWord id_text IsId bytes id rest → (rest ≡ end → ⊥) → IsNoLine (120 ∷ 32 ∷ bytes)
 gone_refused bytes rest id b never = not_gone bytes (λ i. never (sym (same_id bytes id i.0 rest end b i.1)))
 
+-- a variable is a smaller id
+as_id : (bytes : List ℕ) (v : ℕ) (rest : List ℕ) → BeginsWithWord id_text IsVariable bytes v rest → BeginsWithWord id_text IsId bytes v rest
+as_id bytes v rest b = ((let k = b.0 in omega arith), b.1)
+
+pub fresh_no_variable : (bytes : List ℕ) → NoWord id_text IsVariable bytes → IsNoLine (101 ∷ 32 ∷ bytes)
+fresh_no_variable bytes none = not_fresh bytes (λ i. none i.0 end i.1.0 i.1.1)
+
+pub fresh_refused : (bytes rest : List ℕ) (v : ℕ) → BeginsWithWord id_text IsVariable bytes v rest → (rest ≡ end → ⊥) → IsNoLine (101 ∷ 32 ∷ bytes)
+fresh_refused bytes rest v b never = not_fresh bytes (λ i. never (sym (same_id bytes v i.0 rest end (as_id bytes v rest b) (as_id bytes i.0 end i.1))))
+
 pub core_refused : (bytes : List ℕ) → ((ls ids : List ℕ) → IsBoth bytes ls ids → ⊥) → IsNoLine (102 ∷ 32 ∷ bytes)
 core_refused bytes never = not_core bytes (λ i. never i.0 i.1 i.2)
 
 -- no other kind
-pub no_kind : (bytes : List ℕ) → ((t : List ℕ) → bytes ≡ 100 ∷ 32 ∷ t → ⊥) → ((t : List ℕ) → bytes ≡ 120 ∷ 32 ∷ t → ⊥) → ((t : List ℕ) → bytes ≡ 105 ∷ 32 ∷ t → ⊥) → ((t : List ℕ) → bytes ≡ 102 ∷ 32 ∷ t → ⊥) → IsNoLine bytes
-no_kind bytes d x i f (Input id ls) s = i (id_words (id ∷ []) ++ (literal_words ls ++ end)) s.1
-no_kind bytes d x i f (Derived id ls ids) s = d (id_words (id ∷ []) ++ (literal_words ls ++ (48 ∷ 32 ∷ (id_words ids ++ end)))) s.1
-no_kind bytes d x i f (Gone id) s = x (id_words (id ∷ []) ++ end) s.1
-no_kind bytes d x i f (Core ls ids) s = f (literal_words ls ++ (48 ∷ 32 ∷ (id_words ids ++ end))) s.1
+pub no_kind : (bytes : List ℕ) → ((t : List ℕ) → bytes ≡ 100 ∷ 32 ∷ t → ⊥) → ((t : List ℕ) → bytes ≡ 120 ∷ 32 ∷ t → ⊥) → ((t : List ℕ) → bytes ≡ 105 ∷ 32 ∷ t → ⊥) → ((t : List ℕ) → bytes ≡ 102 ∷ 32 ∷ t → ⊥) → ((t : List ℕ) → bytes ≡ 101 ∷ 32 ∷ t → ⊥) → IsNoLine bytes
+no_kind bytes d x i f e (Input id ls) s = i (id_words (id ∷ []) ++ (literal_words ls ++ end)) s.1
+no_kind bytes d x i f e (Derived id ls ids) s = d (id_words (id ∷ []) ++ (literal_words ls ++ (48 ∷ 32 ∷ (id_words ids ++ end)))) s.1
+no_kind bytes d x i f e (Gone id) s = x (id_words (id ∷ []) ++ end) s.1
+no_kind bytes d x i f e (Core ls ids) s = f (literal_words ls ++ (48 ∷ 32 ∷ (id_words ids ++ end))) s.1
+no_kind bytes d x i f e (Fresh v) s = e (id_words (v ∷ []) ++ end) s.1

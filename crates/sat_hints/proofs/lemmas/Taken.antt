@@ -1,5 +1,5 @@
 -- What it is for a judge to take a line.
-use Rattle.std.proofs.Common.{ℕ, suc, ◌+◌, ◌-◌, ◌^◌, ◌<◌, ◌≤◌, ◌≡◌, ◌≢◌, Bool, true, false, cond, eqb, ◌||◌, List, [], ◌∷◌, length, min, map, Option, None, Some, refl, sym, ◌∙◌, ap, subst, arith, inl, inr}
+use Rattle.std.proofs.Common.{ℕ, suc, ◌+◌, ◌-◌, ◌^◌, ◌<◌, ◌≤◌, ◌≡◌, ◌≢◌, Bool, true, false, cond, eqb, ◌||◌, List, [], ◌∷◌, length, get_or, min, map, Option, None, Some, refl, sym, ◌∙◌, ap, subst, arith, inl, inr}
 use Rattle.std.proofs.lemmas.Bool.{eqb-true}
 use Rattle.std.specs.List.{AllByRecursion}
 use Rattle.sat_base.specs.text.Tokenizing.{held}
@@ -8,22 +8,25 @@ use Rattle.sat_checker.specs.LiteralSets.{canonical, is_tautology}
 use Rattle.sat_checker.specs.SortedSets.{NoRepeats}
 use Rattle.sat_checker.proofs.lemmas.sets.Canonical.{canonical_increasing}
 use Rattle.sat_checker.proofs.lemmas.sets.Marks.{once}
-use Rattle.sat_hints.specs.Lines.{Line, Input, Derived, Gone, Core}
-use Rattle.sat_hints.specs.Hints.{and_clauses, clause_under, clauses_under, least_id, IsInOrder, named_ids, assumed_by, ConflictsIf, Conflicts, Follows, is_empty, derives_empty, count_of_cores}
+use Rattle.sat_hints.specs.Lines.{Line, Input, Derived, Gone, Core, Fresh}
+use Rattle.sat_hints.specs.Hints.{and_clauses, unless_unit_over, clause_under, clauses_under, least_id, IsInOrder, named_ids, assumed_by, ConflictsIf, Conflicts, IsInUse, Follows, is_empty, derives_empty, count_of_cores}
 use Rattle.sat_hints.specs.Checks.{IsFaultOf}
-use Rattle.sat_hints.specs.inner.Clauses.{clause_in, clauses_in, AllBelow, IsStore, Loses}
+use Rattle.sat_hints.specs.inner.Clauses.{clause_in, AllBelow}
+use Rattle.sat_hints.specs.inner.Standing.{unless_stale, clause_of, clauses_of, Drops, Forgets, IsStanding, IsUsed, Keeps, SinceWithin}
 use Rattle.sat_hints.specs.inner.Course.{course, signed, Runs}
 use Rattle.sat_hints.specs.inner.Judging.{IsReady, HasTaken, IsSame, Refutes, StoresClause, TakesOne, TakesLine}
 use Rattle.sat_hints.specs.declared.answer.HintWhy.{HintWhy}
-use Rattle.sat_hints.specs.declared.answer.HintWhy.TheVariants.{Syntax, IdOrder, UnknownId, NotUnit, NotFalsified}
+use Rattle.sat_hints.specs.declared.answer.HintWhy.TheVariants.{Syntax, IdOrder, UnknownId, NotUnit, NotFalsified, VarInUse}
 use Rattle.sat_hints.specs.declared.judging.Judge.{Judge}
-use Rattle.sat_hints.specs.declared.present.Present.{Present}
+use Rattle.sat_hints.specs.declared.standing.Standing.{Standing}
 use Rattle.sat_hints.proofs.lemmas.Courses.{Says, course_says}
+use Rattle.sat_hints.proofs.lemmas.Sound.{still}
+use Rattle.sat_hints.proofs.lemmas.Unused.{unused_assuming}
 
 -- the same clauses under ids
-clauses_same : (p : Present) (lines : List Line) → ((id : ℕ) → clause_in p id ≡ clause_under id lines) → (ids : List ℕ) → clauses_in p ids ≡ clauses_under ids lines
+clauses_same : (p : Standing) (lines : List Line) → ((id : ℕ) → clause_of p id ≡ clause_under id lines) → (ids : List ℕ) → clauses_of p ids ≡ clauses_under ids lines
 clauses_same p lines h [] = refl
-clauses_same p lines h (id ∷ ids) = ap (λ c. and_clauses c (clauses_in p ids)) (h id) ∙ ap (and_clauses (clause_under id lines)) (clauses_same p lines h ids)
+clauses_same p lines h (id ∷ ids) = ap (λ c. and_clauses c (clauses_of p ids)) (h id) ∙ ap (and_clauses (clause_under id lines)) (clauses_same p lines h ids)
 
 -- a clause under an id is a sorted set
 set_once : (ls c : List ℕ) → Some (canonical ls) ≡ Some c → NoRepeats c
@@ -47,6 +50,7 @@ one_once id (Gone i ∷ lines) c e = go (eqb id i) (one_once id lines c) e
     go true ih e = absurd cc
     go false ih e = ih e
 one_once id (Core ls ids ∷ lines) c e = one_once id lines c e
+one_once id (Fresh v ∷ lines) c e = one_once id lines c (still v (clause_under id lines) c e).0
 
 sets_once : (ids : List ℕ) (lines : List Line) (cs : List (List ℕ)) → clauses_under ids lines ≡ Some cs → AllByRecursion NoRepeats cs
 sets_once [] lines cs e = let f : [] ≡ cs = cc in subst (AllByRecursion NoRepeats) f tt
@@ -68,14 +72,15 @@ conflict_of (Some b) assumed clauses e h = let f : assumed ≡ b = cc in subst (
 
 module _ (lines : List Line) (line : Line) (assumed : List ℕ) (in_order : IsInOrder lines line) (assumes : assumed_by line ≡ Some assumed) where
   by_course : (clauses : List (List ℕ)) → clauses_under (named_ids line) lines ≡ Some clauses → is_tautology assumed ≡ false → (why : Option HintWhy) → Says why assumed clauses → Says_of why lines line
-  by_course clauses present t None s = record { in_order = in_order; clauses = clauses; present = present; conflict = conflict_of (assumed_by line) assumed clauses assumes (inr s) }
+  by_course clauses present t None s = record { in_order = in_order; clauses = clauses; present = present; conflict = conflict_of (assumed_by line) assumed clauses assumes (inr s); unused = unused_assuming lines line assumed assumes }
   by_course clauses present t (Some NotUnit) s = record { in_order = in_order; clauses = clauses; present = present; assumed = assumed; assumes = assumes; consistent = t; fails = s }
   by_course clauses present t (Some NotFalsified) s = record { in_order = in_order; clauses = clauses; present = present; assumed = assumed; assumes = assumes; consistent = t; fails = s }
   by_course clauses present t (Some Syntax) s = absurd s
   by_course clauses present t (Some IdOrder) s = absurd s
   by_course clauses present t (Some UnknownId) s = absurd s
+  by_course clauses present t (Some VarInUse) s = absurd s
 
-  refuted : (p : Present) (why : Option HintWhy) → ((id : ℕ) → clause_in p id ≡ clause_under id lines) → Refutes p assumed (named_ids line) why → Says_of why lines line
+  refuted : (p : Standing) (why : Option HintWhy) → ((id : ℕ) → clause_of p id ≡ clause_under id lines) → Refutes p assumed (named_ids line) why → Says_of why lines line
   refuted p why same (inl h) = subst (λ w. Says_of w lines line) (sym h.1) (in_order, sym (clauses_same p lines same (named_ids line)) ∙ h.0)
   refuted p why same (inr h) = go h.2
     where
@@ -83,7 +88,7 @@ module _ (lines : List Line) (line : Line) (assumed : List ℕ) (in_order : IsIn
       present = sym (clauses_same p lines same (named_ids line)) ∙ h.1
 
       go : Runs assumed h.0 why → Says_of why lines line
-      go (inl r) = subst (λ w. Says_of w lines line) (sym r.1) (record { in_order = in_order; clauses = h.0; present = present; conflict = conflict_of (assumed_by line) assumed h.0 assumes (inl r.0) })
+      go (inl r) = subst (λ w. Says_of w lines line) (sym r.1) (record { in_order = in_order; clauses = h.0; present = present; conflict = conflict_of (assumed_by line) assumed h.0 assumes (inl r.0); unused = unused_assuming lines line assumed assumes })
       go (inr r) = subst (λ w. Says_of w lines line) (sym r.1) (by_course h.0 present r.0 (course assumed h.0) (course_says h.0 assumed (sets_once (named_ids line) lines h.0 present)))
 
 signed_true : (ls : List ℕ) → signed true ls ≡ map negated ls
@@ -98,15 +103,23 @@ signed_false (l ∷ ls) = ap (λ ms. l ∷ ms) (signed_false ls)
 pub out_of_order : (old new : Judge) (id : ℕ) (clause : List ℕ) → new ≡ old → id < old.least_id → TakesOne (Some IdOrder) old new (Input id clause)
 out_of_order old new id clause e l = (ap (λ j. j.lines) e, λ lines t. λ h. let k : old.least_id ≡ least_id lines = t.least in omega arith)
 
-stored_ready : (old new : Judge) (id : ℕ) (clause : List ℕ) → StoresClause old new id clause → IsReady new
-stored_ready old new id clause s = record { store = s.adds.store; below = subst (AllBelow new.present.ids.items) (sym s.least) (s.adds.below (id + 1) (omega arith)); nothing = s.nothing }
+stored_ready : (old new : Judge) (id : ℕ) (clause : List ℕ) → SinceWithin old.standing id → StoresClause old new id clause → IsReady new
+stored_ready old new id clause w s = record {
+  standing = s.adds.standing;
+  below = subst (AllBelow new.standing.present.ids.items) (sym s.least) (s.adds.below (id + 1) (omega arith));
+  since = subst (SinceWithin new.standing) (sym s.least) (λ v. subst (λ x. get_or x.items v 0 ≤ id + 1) (sym s.adds.since) (let k = w v in omega (arith, k)));
+  nothing = s.nothing;
+}
 
-pub input_taken : (old new : Judge) (id : ℕ) (clause : List ℕ) → old.least_id ≤ id → StoresClause old new id clause → TakesOne None old new (Input id clause)
-input_taken old new id clause l s = (
-  stored_ready old new id clause s,
+since_later : (old : Judge) (id : ℕ) → IsReady old → old.least_id ≤ id → SinceWithin old.standing id
+since_later old id r l = λ v. let k = r.since v in omega (arith, k, l)
+
+pub input_taken : (old new : Judge) (id : ℕ) (clause : List ℕ) → IsReady old → old.least_id ≤ id → StoresClause old new id clause → TakesOne None old new (Input id clause)
+input_taken old new id clause r l s = (
+  stored_ready old new id clause (since_later old id r l) s,
   s.lines,
   λ lines t. record {
-    follows = record { in_order = subst (λ n. n ≤ id) t.least l; clauses = []; present = refl; conflict = tt };
+    follows = record { in_order = subst (λ n. n ≤ id) t.least l; clauses = []; present = refl; conflict = tt; unused = λ u. u };
     clauses = λ j. s.adds.clauses j ∙ ap (λ o. cond (eqb j id) (Some (canonical clause)) o) (t.clauses j);
     least = s.least;
     says_empty = s.empty ∙ t.says_empty;
@@ -118,11 +131,11 @@ input_taken old new id clause l s = (
 pub derived_out_of_order : (old new : Judge) (id : ℕ) (clause ids : List ℕ) → new ≡ old → id < old.least_id → TakesOne (Some IdOrder) old new (Derived id clause ids)
 derived_out_of_order old new id clause ids e l = (ap (λ j. j.lines) e, λ lines t. λ h. let k : old.least_id ≡ least_id lines = t.least in omega arith)
 
-derived_refuted : (old : Judge) (id : ℕ) (clause ids : List ℕ) (why : Option HintWhy) → old.least_id ≤ id → Refutes old.present (signed true clause) ids why → (lines : List Line) → HasTaken old lines → Says_of why lines (Derived id clause ids)
+derived_refuted : (old : Judge) (id : ℕ) (clause ids : List ℕ) (why : Option HintWhy) → old.least_id ≤ id → Refutes old.standing (signed true clause) ids why → (lines : List Line) → HasTaken old lines → Says_of why lines (Derived id clause ids)
 derived_refuted old id clause ids why l r lines t =
-    refuted lines (Derived id clause ids) (map negated clause) (subst (λ n. n ≤ id) t.least l) refl old.present why t.clauses (subst (λ a. Refutes old.present a ids why) (signed_true clause) r)
+    refuted lines (Derived id clause ids) (map negated clause) (subst (λ n. n ≤ id) t.least l) refl old.standing why t.clauses (subst (λ a. Refutes old.standing a ids why) (signed_true clause) r)
 
-pub derived_faulty : (old new : Judge) (id : ℕ) (clause ids : List ℕ) (why : HintWhy) → old.least_id ≤ id → Refutes old.present (signed true clause) ids (Some why) → IsSame old new → TakesOne (Some why) old new (Derived id clause ids)
+pub derived_faulty : (old new : Judge) (id : ℕ) (clause ids : List ℕ) (why : HintWhy) → old.least_id ≤ id → Refutes old.standing (signed true clause) ids (Some why) → IsSame old new → TakesOne (Some why) old new (Derived id clause ids)
 derived_faulty old new id clause ids why l r s = (s.lines, derived_refuted old id clause ids (Some why) l r)
 
 empty_length : (ls : List ℕ) → is_empty ls ≡ eqb (length ls) 0
@@ -133,13 +146,13 @@ empty_length (l ∷ ls) = sym (never (eqb (length (l ∷ ls)) 0) refl)
     never true e = absurd (let f : length (l ∷ ls) ≡ 0 = eqb-true (length (l ∷ ls)) 0 e in omega arith)
     never false e = e
 
-pub derived_taken : (old mid last new : Judge) (id : ℕ) (clause ids : List ℕ) (e : Bool) → old.least_id ≤ id → Refutes old.present (signed true clause) ids None → IsSame old mid → StoresClause mid last id clause → e ≡ (eqb (length clause) 0 || last.empty) → new ≡ record last { empty = e } → TakesOne None old new (Derived id clause ids)
-derived_taken old mid last new id clause ids e l r m s f n = (
-  subst IsReady (sym n) (let k = stored_ready mid last id clause s in record { store = k.store; below = k.below; nothing = k.nothing }),
+pub derived_taken : (old mid last new : Judge) (id : ℕ) (clause ids : List ℕ) (e : Bool) → IsReady old → old.least_id ≤ id → Refutes old.standing (signed true clause) ids None → IsSame old mid → StoresClause mid last id clause → e ≡ (eqb (length clause) 0 || last.empty) → new ≡ record last { empty = e } → TakesOne None old new (Derived id clause ids)
+derived_taken old mid last new id clause ids e y l r m s f n = (
+  subst IsReady (sym n) (let k = stored_ready mid last id clause (subst (λ x. SinceWithin x id) (sym m.standing) (since_later old id y l)) s in record { standing = k.standing; below = k.below; since = k.since; nothing = k.nothing }),
   ap (λ j. j.lines) n ∙ s.lines ∙ m.lines,
   λ lines t. record {
     follows = derived_refuted old id clause ids None l r lines t;
-    clauses = λ j. ap (λ k. clause_in k.present j) n ∙ s.adds.clauses j ∙ ap (λ o. cond (eqb j id) (Some (canonical clause)) o) (ap (λ p. clause_in p j) m.present ∙ t.clauses j);
+    clauses = λ j. ap (λ k. clause_of k.standing j) n ∙ s.adds.clauses j ∙ ap (λ o. cond (eqb j id) (Some (canonical clause)) o) (ap (λ p. clause_of p j) m.standing ∙ t.clauses j);
     least = ap (λ j. j.least_id) n ∙ s.least;
     says_empty = ap (λ j. j.empty) n ∙ f ∙ ap (λ b. eqb (length clause) 0 || b) (s.empty ∙ m.empty ∙ t.says_empty) ∙ ap (λ b. b || derives_empty lines) (sym (empty_length clause));
     counts_cores = ap (λ j. j.cores) n ∙ s.cores ∙ m.cores ∙ t.counts_cores;
@@ -151,48 +164,77 @@ some_clause : (o : Option (List ℕ)) → o ≢ None → (c : List ℕ) × (o �
 some_clause None h = absurd (h refl)
 some_clause (Some c) h = (c, refl)
 
-pub gone_taken : (old new : Judge) (id : ℕ) (p : Present) → IsReady old → clause_in old.present id ≢ None → Loses old.present p id → new ≡ record old { present = p } → TakesOne None old new (Gone id)
+pub gone_taken : (old new : Judge) (id : ℕ) (p : Standing) → IsReady old → clause_of old.standing id ≢ None → Drops old.standing p id → new ≡ record old { standing = p } → TakesOne None old new (Gone id)
 gone_taken old new id p r h l n = (
-  subst IsReady (sym n) (record { store = l.store; below = l.below old.least_id r.below; nothing = r.nothing }),
+  subst IsReady (sym n) (record { standing = l.standing; below = l.below old.least_id r.below; since = λ v. subst (λ x. get_or x.items v 0 ≤ old.least_id) (sym l.since) (r.since v); nothing = r.nothing }),
   ap (λ j. j.lines) n,
   λ lines t.
-      let c = some_clause (clause_in old.present id) h in
+      let c = some_clause (clause_of old.standing id) h in
       record {
-        follows = record { in_order = tt; clauses = c.0 ∷ []; present = ap (λ o. and_clauses o (Some [])) (sym (t.clauses id) ∙ c.1); conflict = tt };
-        clauses = λ j. ap (λ k. clause_in k.present j) n ∙ l.clauses j ∙ ap (λ o. cond (eqb j id) None o) (t.clauses j);
+        follows = record { in_order = tt; clauses = c.0 ∷ []; present = ap (λ o. and_clauses o (Some [])) (sym (t.clauses id) ∙ c.1); conflict = tt; unused = λ u. u };
+        clauses = λ j. ap (λ k. clause_of k.standing j) n ∙ l.clauses j ∙ ap (λ o. cond (eqb j id) None o) (t.clauses j);
         least = ap (λ j. j.least_id) n ∙ t.least;
         says_empty = ap (λ j. j.empty) n ∙ t.says_empty;
         counts_cores = ap (λ j. j.cores) n ∙ t.counts_cores;
       },
 )
 
-pub gone_faulty : (old new : Judge) (id : ℕ) → clause_in old.present id ≡ None → new.lines ≡ old.lines → TakesOne (Some UnknownId) old new (Gone id)
+pub gone_faulty : (old new : Judge) (id : ℕ) → clause_of old.standing id ≡ None → new.lines ≡ old.lines → TakesOne (Some UnknownId) old new (Gone id)
 gone_faulty old new id h n = (n, λ lines t. (tt, ap (λ o. and_clauses o (Some [])) (sym (t.clauses id) ∙ h)))
 
 -- A CORE
-core_refuted : (old : Judge) (core ids : List ℕ) (why : Option HintWhy) → Refutes old.present (signed false core) ids why → (lines : List Line) → HasTaken old lines → Says_of why lines (Core core ids)
-core_refuted old core ids why r lines t = refuted lines (Core core ids) core tt refl old.present why t.clauses (subst (λ a. Refutes old.present a ids why) (signed_false core) r)
+core_refuted : (old : Judge) (core ids : List ℕ) (why : Option HintWhy) → Refutes old.standing (signed false core) ids why → (lines : List Line) → HasTaken old lines → Says_of why lines (Core core ids)
+core_refuted old core ids why r lines t = refuted lines (Core core ids) core tt refl old.standing why t.clauses (subst (λ a. Refutes old.standing a ids why) (signed_false core) r)
 
-pub core_faulty : (old new : Judge) (core ids : List ℕ) (why : HintWhy) → Refutes old.present (signed false core) ids (Some why) → IsSame old new → TakesOne (Some why) old new (Core core ids)
+pub core_faulty : (old new : Judge) (core ids : List ℕ) (why : HintWhy) → Refutes old.standing (signed false core) ids (Some why) → IsSame old new → TakesOne (Some why) old new (Core core ids)
 core_faulty old new core ids why r s = (s.lines, core_refuted old core ids (Some why) r)
 
 one_more : (n count m : ℕ) → n ≡ held count → m ≡ min (n + 1) (2 ^ 64 - 1) → m ≡ held (1 + count)
 one_more n count m e f = omega arith
 
-pub core_taken : (old mid new : Judge) (core ids : List ℕ) (n : ℕ) → IsReady old → Refutes old.present (signed false core) ids None → IsSame old mid → n ≡ min (mid.cores + 1) (2 ^ 64 - 1) → new ≡ record mid { cores = n } → TakesOne None old new (Core core ids)
+pub core_taken : (old mid new : Judge) (core ids : List ℕ) (n : ℕ) → IsReady old → Refutes old.standing (signed false core) ids None → IsSame old mid → n ≡ min (mid.cores + 1) (2 ^ 64 - 1) → new ≡ record mid { cores = n } → TakesOne None old new (Core core ids)
 core_taken old mid new core ids n r h m f e = (
   subst IsReady (sym e) (record {
-    store = subst IsStore (sym m.present) r.store;
-    below = subst (λ p. AllBelow p.ids.items mid.least_id) (sym m.present) (subst (AllBelow old.present.ids.items) (sym m.least) r.below);
+    standing = subst IsStanding (sym m.standing) r.standing;
+    below = subst (λ p. AllBelow p.present.ids.items mid.least_id) (sym m.standing) (subst (AllBelow old.standing.present.ids.items) (sym m.least) r.below);
+    since = subst (λ p. SinceWithin p mid.least_id) (sym m.standing) (subst (SinceWithin old.standing) (sym m.least) r.since);
     nothing = m.nothing;
   }),
   ap (λ j. j.lines) e ∙ m.lines,
   λ lines t. record {
     follows = core_refuted old core ids None h lines t;
-    clauses = λ j. ap (λ k. clause_in k.present j) e ∙ ap (λ p. clause_in p j) m.present ∙ t.clauses j;
+    clauses = λ j. ap (λ k. clause_of k.standing j) e ∙ ap (λ p. clause_of p j) m.standing ∙ t.clauses j;
     least = ap (λ j. j.least_id) e ∙ m.least ∙ t.least;
     says_empty = ap (λ j. j.empty) e ∙ m.empty ∙ t.says_empty;
     counts_cores = ap (λ j. j.cores) e ∙ one_more mid.cores (count_of_cores lines) n (m.cores ∙ t.counts_cores) f;
+  },
+)
+
+-- A NEW VARIABLE
+fresh_unused : (old : Judge) (v : ℕ) (lines : List Line) → HasTaken old lines → (IsUsed old.standing v → ⊥) → IsInUse v lines → ⊥
+fresh_unused old v lines t none u = none (record { id = u.id; clause = u.clause; present = t.clauses u.id ∙ u.present; long = u.long; within = u.within })
+
+pub fresh_faulty : (old new : Judge) (v : ℕ) → IsUsed old.standing v → new.lines ≡ old.lines → TakesOne (Some VarInUse) old new (Fresh v)
+fresh_faulty old new v u n = (n, λ lines t. record { id = u.id; clause = u.clause; present = sym (t.clauses u.id) ∙ u.present; long = u.long; within = u.within })
+
+same_of : (old mid : Standing) → Keeps old mid → (j : ℕ) → clause_of mid j ≡ clause_of old j
+same_of old mid k j = ap (λ x. unless_stale x.items j (clause_in mid.present j)) k.since ∙ ap (λ x. unless_stale old.since.items j (clause_in x j)) k.present
+
+pub fresh_taken : (old new : Judge) (v : ℕ) (mid last : Standing) → IsReady old → (IsUsed old.standing v → ⊥) → Keeps old.standing mid → Forgets mid last v old.least_id → new ≡ record old { standing = last } → TakesOne None old new (Fresh v)
+fresh_taken old new v mid last r none k f n = (
+  subst IsReady (sym n) (record {
+    standing = f.standing;
+    below = subst (λ p. AllBelow p.ids.items old.least_id) (sym (f.present ∙ k.present)) r.below;
+    since = f.since;
+    nothing = r.nothing;
+  }),
+  ap (λ j. j.lines) n,
+  λ lines t. record {
+    follows = record { in_order = tt; clauses = []; present = refl; conflict = tt; unused = fresh_unused old v lines t none };
+    clauses = λ j. ap (λ x. clause_of x.standing j) n ∙ f.clauses j ∙ ap (unless_unit_over v) (same_of old.standing mid k j ∙ t.clauses j);
+    least = ap (λ j. j.least_id) n ∙ t.least;
+    says_empty = ap (λ j. j.empty) n ∙ t.says_empty;
+    counts_cores = ap (λ j. j.cores) n ∙ t.counts_cores;
   },
 )
 
@@ -205,7 +247,7 @@ line_taken old mid new line n h f e lines t =
     let k = h.2 lines t in (
       k.follows,
       record {
-        clauses = λ j. ap (λ k. clause_in k.present j) e ∙ k.clauses j;
+        clauses = λ j. ap (λ k. clause_of k.standing j) e ∙ k.clauses j;
         least = ap (λ j. j.least_id) e ∙ k.least;
         says_empty = ap (λ j. j.empty) e ∙ k.says_empty;
         counts_cores = ap (λ j. j.cores) e ∙ k.counts_cores;
@@ -214,7 +256,7 @@ line_taken old mid new line n h f e lines t =
     )
 
 pub line_ready : (old mid new : Judge) (line : Line) (n : ℕ) → TakesOne None old mid line → new ≡ record mid { lines = n } → IsReady new
-line_ready old mid new line n h e = subst IsReady (sym e) (record { store = h.0.store; below = h.0.below; nothing = h.0.nothing })
+line_ready old mid new line n h e = subst IsReady (sym e) (record { standing = h.0.standing; below = h.0.below; since = h.0.since; nothing = h.0.nothing })
 
 pub line_faulty : (old new : Judge) (line : Line) (why : HintWhy) → TakesOne (Some why) old new line → (lines : List Line) → HasTaken old lines → TakesLine (Some why) old new lines line
 line_faulty old new line why h lines t = (h.1 lines t, h.0)

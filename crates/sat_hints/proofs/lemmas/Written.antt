@@ -1,12 +1,11 @@
 -- What the checker's answer to a certificate means for the lines written.
-use Rattle.std.proofs.Common.{ℕ, ◌≡◌, true, false, List, [], ◌∷◌, Result, Ok, Err, inl, inr}
+use Rattle.std.proofs.Common.{ℕ, ◌<◌, ◌^◌, ◌≡◌, false, List, [], ◌∷◌, Result, Ok, Err, inl, inr}
 use Rattle.std.proofs.lemmas.Bool.{both_ways}
 use Rattle.anyhow.specs.declared.error.Error.{Error}
 use Rattle.sat_base.specs.device.Device.{Reader, Writer}
 use Rattle.sat_base.specs.steps.Steps.{Step, End}
-use Rattle.sat_checker.specs.Accepts.{AcceptsAll}
+use Rattle.sat_checker.specs.Accepts.{AcceptsAll, ready_after}
 use Rattle.sat_checker.specs.CheckerView.{Seen, has_failed, Stops, BreaksAt}
-use Rattle.sat_checker.specs.Laws.{has_delete_var}
 use Rattle.sat_checker.specs.ProofView.{Went, taken_after, AnswersProof}
 use Rattle.sat_checker.specs.announcements.Announcements.{Told}
 use Rattle.sat_checker.specs.announcements.Transcripts.{Transcribed}
@@ -19,11 +18,11 @@ use Rattle.sat_checker.specs.declared.processing.ProcessingError.{ProcessingErro
 use Rattle.sat_checker.specs.declared.processing.ProcessingError.TheVariants as faults
 use Rattle.sat_hints.specs.Conversion.{hint_text}
 use Rattle.sat_hints.specs.Converts.{Gave, IsAccepted}
-use Rattle.sat_hints.specs.declared.error.HintError.TheVariants.{HasDeleteVar}
 use Rattle.sat_hints.specs.declared.line_writer.LineWriter.{LineWriter}
 use Rattle.sat_hints.specs.inner.LineWriting.{outlet}
 use Rattle.sat_hints.specs.inner.LinesWritten.{hint_of, BrokenBehind, SentAll, SentFront, WritesLines}
 use Rattle.sat_hints.specs.inner.Telling.{TakesTold}
+use Rattle.sat_hints.proofs.lemmas.AreProved.{read_proved}
 use Rattle.sat_hints.proofs.lemmas.Heard.{since_sent, since_broken, front_all, front_told, front_by, all_by, broken_all, broken_told}
 
 module _ {W P T : Type 0} (seen : W → Writer) (Takes : P → Told → Result Unit Error → P → Type 0) (Reads : T → Transcribed → Result Unit Error → T → Type 0)
@@ -89,8 +88,5 @@ module _ {W P T : Type 0} (seen : W → Writer) (Takes : P → Told → Result U
   all_of : (old new : Checker) (from to : Reader) → (k : AnswersProof Hears [] begun (Ok tt) old new from to []) → SentAll (outlet seen begun.own) (outlet seen new.listeners.own) (hint_text (End ∷ taken_after k.0 []))
   all_of old new from to k = all_by (outlet seen begun.own) (outlet seen new.listeners.own) _ (End ∷ taken_after k.0 []) k.5 (since_sent seen Takes Reads _ begun new.listeners well (k.4.0.heard k.4.1))
 
-  pub ok_written : (old new : Checker) (from to : Reader) → (k : AnswersProof Hears [] begun (Ok tt) old new from to []) → has_delete_var (taken_after k.0 []) ≡ false → WritesLines (Ok tt) from to (outlet seen begun.own) (outlet seen new.listeners.own)
-  ok_written old new from to k d = (k.0, k.1, ends_of old new from to k, d, all_of old new from to k)
-
-  pub deleted_written : (old new : Checker) (from to : Reader) → (k : AnswersProof Hears [] begun (Ok tt) old new from to []) → has_delete_var (taken_after k.0 []) ≡ true → WritesLines (Err HasDeleteVar) from to (outlet seen begun.own) (outlet seen new.listeners.own)
-  deleted_written old new from to k d = (k.0, k.1, ends_of old new from to k, d, front_by (outlet seen begun.own) (outlet seen new.listeners.own) _ (End ∷ taken_after k.0 []) (since_sent seen Takes Reads _ begun new.listeners well (k.4.0.heard k.4.1)))
+  pub ok_written : (old new : Checker) (from to : Reader) → (k : AnswersProof Hears [] begun (Ok tt) old new from to []) → (ready_after (End ∷ taken_after k.0 [])).next_id < 2 ^ 64 → WritesLines (Ok tt) from to (outlet seen begun.own) (outlet seen new.listeners.own)
+  ok_written old new from to k ids = (k.0, k.1, ends_of old new from to k, read_proved k.0 k.2.steps.text k.2.steps.spelt k.4.0.kernel.accepted ids, all_of old new from to k)

@@ -1,7 +1,9 @@
 -- The clauses that are kept, by their ids.
-use Rattle.std.specs.Prelude.{ℕ, ◌==◌, ◌≡◌, ◌<◌, Bool, Option, None, Some, List, [], ◌∷◌, map, length, slice_index, slice_index_or, if◌then◌else◌}
+use Rattle.std.specs.Prelude.{ℕ, ◌+◌, ◌==◌, ◌≡◌, ◌<◌, Bool, Option, None, Some, List, [], ◌∷◌, length, slice_index, slice_index_or, if◌then◌else◌}
 use Rattle.std.specs.List.{AllByRecursion}
-use Rattle.sat_hints.specs.Hints.{and_clauses}
+use Rattle.sat_checker.specs.SortedSets.{IsIncreasing}
+use Rattle.sat_checker.specs.inner.OccurrenceView.{times_in}
+use Rattle.sat_hints.specs.Hints.{is_long}
 use Rattle.sat_hints.specs.declared.present.Present.{Present}
 
 -- the clause under an id in lists of ids, of clauses and of whether these are gone
@@ -14,24 +16,33 @@ listed id (i ∷ is) (c ∷ cs) (g ∷ gs) = if id == i then (if g then None els
 abbrev pub clause_in : Present → ℕ → Option (List ℕ)
 clause_in p id = listed id p.ids.items p.clauses p.gone.items
 
--- the clauses under these ids, if all are present
-abbrev pub clauses_in : Present → List ℕ → Option (List (List ℕ))
-clauses_in p [] = Some []
-clauses_in p (id ∷ ids) = and_clauses (clause_in p id) (clauses_in p ids)
-
 -- the clause at a place
 abbrev pub clause_at : Present → ℕ → List ℕ
 clause_at p place = slice_index_or p.clauses place []
+
+-- how often a literal stands in a clause of two or more
+abbrev pub times_long : ℕ → List ℕ → ℕ
+times_long l clause = if is_long clause then times_in l clause else 0
+
+-- and how often in those that aren't gone
+abbrev pub times_kept : ℕ → List (List ℕ) → List Bool → ℕ
+times_kept l [] gs = 0
+times_kept l (c ∷ cs) [] = 0
+times_kept l (c ∷ cs) (g ∷ gs) = (if g then 0 else times_long l c) + times_kept l cs gs
+
+abbrev pub times_at : Present → ℕ → ℕ
+times_at p l = times_kept l p.clauses p.gone.items
 
 -- all ids are below this
 abbrev pub AllBelow : List ℕ → ℕ → Type 0
 AllBelow ids bound = (i : ℕ) → i < length ids → slice_index ids i < bound
 
--- each id has a clause, and the ids rise
+-- each id has a clause, which is a sorted set, and the ids rise
 pub record IsStore (p : Present) : Type 0 where
   pub clauses : length p.clauses ≡ length p.ids.items
   pub gone : length p.gone.items ≡ length p.ids.items
   pub rises : (i j : ℕ) → i < j → j < length p.ids.items → slice_index p.ids.items i < slice_index p.ids.items j
+  pub sets : AllByRecursion IsIncreasing p.clauses
 
 -- it is at this place
 pub record FindsOne (p : Present) (id place : ℕ) : Type 0 where
@@ -44,20 +55,19 @@ pub record Adds (old new : Present) (id : ℕ) (clause : List ℕ) : Type 0 wher
   pub store : IsStore new
   pub below : (k : ℕ) → id < k → AllBelow new.ids.items k
   pub clauses : (j : ℕ) → clause_in new j ≡ (if j == id then Some clause else clause_in old j)
+  pub times : (l : ℕ) → times_at new l ≡ times_at old l + times_long l clause
+  pub longer : length new.ids.items ≡ length old.ids.items + 1
 
 -- one less
 pub record Loses (old new : Present) (id : ℕ) : Type 0 where
   pub store : IsStore new
   pub below : (k : ℕ) → AllBelow old.ids.items k → AllBelow new.ids.items k
   pub clauses : (j : ℕ) → clause_in new j ≡ (if j == id then None else clause_in old j)
+  pub times : (c : List ℕ) → clause_in old id ≡ Some c → (l : ℕ) → times_at new l + times_long l c ≡ times_at old l
 
 -- the same clauses
 pub record Keeps (old new : Present) : Type 0 where
   pub store : IsStore new
   pub below : (k : ℕ) → AllBelow old.ids.items k → AllBelow new.ids.items k
   pub clauses : (j : ℕ) → clause_in new j ≡ clause_in old j
-
--- the clauses under these ids are those at these places
-pub record Finds (p : Present) (ids places : List ℕ) : Type 0 where
-  pub within : AllByRecursion (λ place. place < length p.clauses) places
-  pub clauses : clauses_in p ids ≡ Some (map (clause_at p) places)
+  pub times : (l : ℕ) → times_at new l ≡ times_at old l

@@ -5,22 +5,24 @@ use Rattle.sat_checker.specs.LiteralSets.{canonical}
 use Rattle.sat_hints.specs.Lines.{Line}
 use Rattle.sat_hints.specs.Hints.{clause_under, least_id, derives_empty, count_of_cores, Follows}
 use Rattle.sat_hints.specs.Checks.{IsFaultOf}
-use Rattle.sat_hints.specs.inner.Clauses.{clause_in, clauses_in, Adds, AllBelow, IsStore}
+use Rattle.sat_hints.specs.inner.Clauses.{AllBelow}
+use Rattle.sat_hints.specs.inner.Standing.{clause_of, clauses_of, Gains, IsStanding, SinceWithin}
 use Rattle.sat_hints.specs.inner.Course.{Runs}
 use Rattle.sat_hints.specs.declared.answer.HintWhy.{HintWhy}
 use Rattle.sat_hints.specs.declared.answer.HintWhy.TheVariants.{UnknownId}
-use Rattle.sat_hints.specs.declared.present.Present.{Present}
+use Rattle.sat_hints.specs.declared.standing.Standing.{Standing}
 use Rattle.sat_hints.specs.declared.judging.Judge.{Judge}
 
 -- it can go on
 pub record IsReady (j : Judge) : Type 0 where
-  pub store : IsStore j.present
-  pub below : AllBelow j.present.ids.items j.least_id
+  pub standing : IsStanding j.standing
+  pub below : AllBelow j.standing.present.ids.items j.least_id
+  pub since : SinceWithin j.standing j.least_id
   pub nothing : j.assumed ≡ []
 
 -- it has taken these lines
 pub record HasTaken (j : Judge) (lines : List Line) : Type 0 where
-  pub clauses : (id : ℕ) → clause_in j.present id ≡ clause_under id lines
+  pub clauses : (id : ℕ) → clause_of j.standing id ≡ clause_under id lines
   pub least : j.least_id ≡ least_id lines
   pub says_empty : j.empty ≡ derives_empty lines
   pub counts_cores : j.cores ≡ held (count_of_cores lines)
@@ -28,7 +30,7 @@ pub record HasTaken (j : Judge) (lines : List Line) : Type 0 where
 
 -- what it keeps from line to line is the same
 pub record IsSame (old new : Judge) : Type 0 where
-  pub present : new.present ≡ old.present
+  pub standing : new.standing ≡ old.standing
   pub nothing : new.assumed ≡ []
   pub least : new.least_id ≡ old.least_id
   pub empty : new.empty ≡ old.empty
@@ -36,13 +38,13 @@ pub record IsSame (old new : Judge) : Type 0 where
   pub lines : new.lines ≡ old.lines
 
 -- why assumed literals and the clauses under these ids don't run into a conflict, if they don't
-abbrev pub Refutes : Present → List ℕ → List ℕ → Option HintWhy → Type 0
-Refutes p assumed ids why =
-    ((clauses_in p ids ≡ None) × (why ≡ Some UnknownId)) ⊎ ((clauses : List (List ℕ)) × (clauses_in p ids ≡ Some clauses) × Runs assumed clauses why)
+abbrev pub Refutes : Standing → List ℕ → List ℕ → Option HintWhy → Type 0
+Refutes s assumed ids why =
+    ((clauses_of s ids ≡ None) × (why ≡ Some UnknownId)) ⊎ ((clauses : List (List ℕ)) × (clauses_of s ids ≡ Some clauses) × Runs assumed clauses why)
 
 -- a clause is stored under an id
 pub record StoresClause (old new : Judge) (id : ℕ) (clause : List ℕ) : Type 0 where
-  pub adds : Adds old.present new.present id (canonical clause)
+  pub adds : Gains old.standing new.standing id (canonical clause)
   pub nothing : new.assumed ≡ []
   pub least : new.least_id ≡ id + 1
   pub empty : new.empty ≡ old.empty
@@ -52,7 +54,7 @@ pub record StoresClause (old new : Judge) (id : ℕ) (clause : List ℕ) : Type 
 -- the line was taken, but not numbered
 pub record HasTakenOne (old new : Judge) (lines : List Line) (line : Line) : Type 0 where
   pub follows : Follows lines line
-  pub clauses : (id : ℕ) → clause_in new.present id ≡ clause_under id (line ∷ lines)
+  pub clauses : (id : ℕ) → clause_of new.standing id ≡ clause_under id (line ∷ lines)
   pub least : new.least_id ≡ least_id (line ∷ lines)
   pub says_empty : new.empty ≡ derives_empty (line ∷ lines)
   pub counts_cores : new.cores ≡ held (count_of_cores (line ∷ lines))

@@ -2,7 +2,7 @@
 use Rattle.std.specs.Prelude.{ℕ, zero, suc, ◌*◌, ◌-◌, ◌^◌, ◌<◌, ◌≤◌, ◌≡◌, List, [], ◌∷◌, ◌++◌, decimal, codes}
 use Rattle.std.specs.List.{AllByRecursion}
 use Rattle.sat_base.specs.values.Literals.{largest}
-use Rattle.sat_hints.specs.Lines.{Line, Input, Derived, Gone, Core, AreIds, AreLiterals, words, id_words, literal_words, Spells}
+use Rattle.sat_hints.specs.Lines.{Line, Input, Derived, Gone, Core, Fresh, AreIds, AreLiterals, words, id_words, literal_words, Spells}
 use Rattle.sat_hints.specs.declared.line.HintLine.{HintLine}
 use Rattle.sat_hints.specs.declared.line.HintLine.TheVariants as code
 use Rattle.sat_hints.specs.declared.reading.Head.{Head}
@@ -58,6 +58,7 @@ line_of (code.Input id clause) = Input id clause.now
 line_of (code.Derived id clause ids) = Derived id clause.now ids.now
 line_of (code.Gone id) = Gone id
 line_of (code.Core core ids) = Core core.now ids.now
+line_of (code.Fresh var) = Fresh var
 
 -- the line of this head that has these lists
 abbrev pub line_with : Head → List ℕ → List ℕ → Line
@@ -65,6 +66,7 @@ line_with (head.Input id) ls ids = Input id ls
 line_with (head.Derived id) ls ids = Derived id ls ids
 line_with (head.Gone id) ls ids = Gone id
 line_with head.Core ls ids = Core ls ids
+line_with (head.Fresh var) ls ids = Fresh var
 
 -- the bytes are no line
 abbrev pub IsNoLine : List ℕ → Type 0

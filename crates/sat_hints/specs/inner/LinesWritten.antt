@@ -1,16 +1,16 @@
 -- What an answer means where the lines of a certificate are written through bytes that wait.
-use Rattle.std.specs.Prelude.{ℕ, ◌≡◌, ◌⊎◌, true, false, List, [], ◌∷◌, ◌++◌, Result, Ok, Err}
+use Rattle.std.specs.Prelude.{ℕ, ◌≡◌, ◌⊎◌, false, List, [], ◌∷◌, ◌++◌, Result, Ok, Err}
 use Rattle.sat_base.specs.device.Device.{Reader, ReadFails}
 use Rattle.sat_base.specs.device.Sink.{Sent, Broken}
 use Rattle.sat_base.specs.steps.Formats.{Live}
 use Rattle.sat_base.specs.steps.Steps.{Step, End}
 use Rattle.sat_base.specs.steps.StepText.{SpellsStep}
 use Rattle.sat_checker.specs.Accepts.{Accepts, ready_after}
-use Rattle.sat_checker.specs.Laws.{has_delete_var}
 use Rattle.sat_checker.specs.ProofView.{taken_after, NoneFailed}
 use Rattle.sat_checker.specs.declared.error.CheckerError.{CheckerError}
 use Rattle.sat_checker.specs.declared.error.CheckerError.TheVariants as errors
-use Rattle.sat_hints.specs.Conversion.{hint_text}
+use Rattle.sat_hints.specs.Conversion.{hint_text, hint_verdict}
+use Rattle.sat_hints.specs.Checks.{Judges}
 use Rattle.sat_hints.specs.Converts.{Gave, GaveUpTo, IsAccepted, RefusesBy}
 use Rattle.sat_hints.specs.declared.error.HintError.{HintError}
 use Rattle.sat_hints.specs.declared.error.HintError.TheVariants.{Refused, HasDeleteVar, Read, Write, OutOfMemory}
@@ -45,9 +45,9 @@ BrokenBehind old new step steps = Broken old.sink new.sink (hint_text steps) ⊎
 
 abbrev pub WritesLines : Result (Unit {0}) HintError → Reader → Reader → Outlet → Outlet → Type 0
 WritesLines (Ok x) from to old new = (passed : List Step) × (rest : List ℕ) × IsAccepted from to passed rest
-    × (has_delete_var (taken_after passed []) ≡ false) × SentAll old new (hint_text (End ∷ taken_after passed []))
-WritesLines (Err HasDeleteVar) from to old new = (passed : List Step) × (rest : List ℕ) × IsAccepted from to passed rest
-    × (has_delete_var (taken_after passed []) ≡ true) × SentFront old new (hint_text (End ∷ taken_after passed []))
+    × Judges (hint_verdict (End ∷ taken_after passed [])) (hint_text (End ∷ taken_after passed []))
+    × SentAll old new (hint_text (End ∷ taken_after passed []))
+WritesLines (Err HasDeleteVar) from to old new = ⊥
 WritesLines (Err (Refused e)) from to old new = (passed : List Step) × NoneFailed from to × RefusesBy e from to passed
     × SentFront old new (hint_text (taken_after passed []))
 WritesLines (Err Read) from to old new = (passed : List Step) × (rest : List ℕ) × ReadFails from to × Gave from to passed [] rest × Live SpellsStep rest

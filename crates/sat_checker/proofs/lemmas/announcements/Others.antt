@@ -128,7 +128,7 @@ pub refuted_read : RefutedRead
 refuted_read = refl
 
 pub others_read : OthersRead
-others_read = ((derived_irredundant.0, refl), (redundant_gone.0, refl), (satisfied_kept.0, refl))
+others_read = ((derived_irredundant.0, refl), (redundant_gone.0, refl), (satisfied_kept.0, refl), (others_tell.2.0, refl))
 
 pub answers_read : AnswersRead
 answers_read = (

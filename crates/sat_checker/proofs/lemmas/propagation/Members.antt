@@ -18,7 +18,7 @@ same_others : (us vs clause : List ℕ) (o : ℕ) → SameMembers us vs → AllB
 same_others us vs [] o same h = tt
 same_others us vs (l ∷ ls) o same h = (elim h.0 [ inl e ↦ inl e | inr k ↦ inr (sym (same (negated l)) ∙ k) ], same_others us vs ls o same h.1)
 
-same_runs : (picked : List (List ℕ)) (us vs : List ℕ) → SameMembers us vs → UnitInTurn us picked → UnitInTurn vs picked
+pub same_runs : (picked : List (List ℕ)) (us vs : List ℕ) → SameMembers us vs → UnitInTurn us picked → UnitInTurn vs picked
 same_runs [] us vs same h = h
 same_runs (c ∷ []) us vs same h = same_falsified us vs c same h
 same_runs (c ∷ d ∷ ds) us vs same h = (

@@ -95,7 +95,7 @@ module _ (l : ℕ) where
       let ih : times_in l xs ≡ 0 = times_beyond xs p.1 in
       ap (λ b. cond b 1 0 + times_in l xs) p.0 ∙ omega (arith, ih)
 
-  times_once : (ls : List ℕ) → IsIncreasing ls → times_in l ls ≤ 1
+  pub times_once : (ls : List ℕ) → IsIncreasing ls → times_in l ls ≤ 1
   times_once [] h = omega arith
   times_once (x ∷ xs) h = go (eqb x l) refl (times_once xs h.1)
     where

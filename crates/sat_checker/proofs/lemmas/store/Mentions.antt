@@ -37,7 +37,7 @@ module _ (v : ℕ) where
   abbrev both : List ℕ → ℕ
   both ls = times_in (2 * v) ls + times_in (2 * v + 1) ls
 
-  times_some : (ls : List ℕ) → mentions ls v ≡ true → 0 < both ls
+  pub times_some : (ls : List ℕ) → mentions ls v ≡ true → 0 < both ls
   times_some [] e = absurd (true≢false (sym e))
   times_some (x ∷ xs) e = go (times_some xs) (eqb (variable x) v) refl
     where
@@ -45,7 +45,7 @@ module _ (v : ℕ) where
       go ih true f = let h = one_true x f in omega (arith, h)
       go ih false f = let h : 0 < both xs = ih (sym (ap (λ b. b || mentions xs v) f) ∙ e) in omega (arith, h)
 
-  times_none : (ls : List ℕ) → mentions ls v ≡ false → both ls ≡ zero
+  pub times_none : (ls : List ℕ) → mentions ls v ≡ false → both ls ≡ zero
   times_none [] e = refl
   times_none (x ∷ xs) e =
       let p = or_parts (eqb (variable x) v) (mentions xs v) e in

@@ -18,7 +18,7 @@ pub returns-in-UserVarName-clause-noted : goal.returns-in-UserVarName-clause-not
 returns-in-UserVarName-clause-noted c = announced_as c.user_var_name.result c.args.self.now (step_of c.args.step.now) _ c.args.notes.now c.user_var_name.new.notes (ap step_of c.in-UserVarName.is) c.user_var_name.ensures.noted
 
 pub returns-in-DeleteVar-clause-decides : goal.returns-in-DeleteVar-clause-decides
-returns-in-DeleteVar-clause-decides c = decided_as c.delete_var.result c.args.self.now c.delete_var.new.self (step_of c.args.step.now) _ (ap step_of c.in-DeleteVar.is) c.delete_var.ensures
+returns-in-DeleteVar-clause-decides c = decided_as c.delete_var.result c.args.self.now c.delete_var.new.self (step_of c.args.step.now) _ (ap step_of c.in-DeleteVar.is) c.delete_var.ensures.decides
 
 pub returns-in-ChangeSamplingMode-clause-decides : goal.returns-in-ChangeSamplingMode-clause-decides
 returns-in-ChangeSamplingMode-clause-decides c = decided_as c.change_sampling_mode.result c.args.self.now c.change_sampling_mode.new.self (step_of c.args.step.now) _ (ap step_of c.in-ChangeSamplingMode.is) c.change_sampling_mode.ensures.decides
@@ -99,7 +99,7 @@ pub returns-in-SolverVarName-clause-noted : goal.returns-in-SolverVarName-clause
 returns-in-SolverVarName-clause-noted c = nothing_noted c.solver_var_name.result c.args.self.now (step_of c.args.step.now) c.args.notes.now (λ f. ap (λ s. announced f (step_of s)) c.in-SolverVarName.is)
 
 pub returns-in-DeleteVar-clause-noted : goal.returns-in-DeleteVar-clause-noted
-returns-in-DeleteVar-clause-noted c = nothing_noted c.delete_var.result c.args.self.now (step_of c.args.step.now) c.args.notes.now (λ f. ap (λ s. announced f (step_of s)) c.in-DeleteVar.is)
+returns-in-DeleteVar-clause-noted c = announced_as c.delete_var.result c.args.self.now (step_of c.args.step.now) _ c.args.notes.now c.delete_var.new.notes (ap step_of c.in-DeleteVar.is) c.delete_var.ensures.noted
 
 pub returns-in-ChangeHashBits-clause-noted : goal.returns-in-ChangeHashBits-clause-noted
 returns-in-ChangeHashBits-clause-noted c = nothing_noted c.change_hash_bits.result c.args.self.now (step_of c.args.step.now) c.args.notes.now (λ f. ap (λ s. announced f (step_of s)) c.in-ChangeHashBits.is)

@@ -13,5 +13,5 @@ returns c =
       | then-is_empty w ↦ w.self-is ∙ w.if-is_empty.true ∙ sym (ap (λ b. b || c.store.new.self.empty) (sym c.is_empty.ensures ∙ w.if-is_empty.true))
       | else-is_empty w ↦ w.self-is ∙ sym (ap (λ b. b || c.store.new.self.empty) (sym c.is_empty.ensures ∙ w.if-is_empty.false))
     ] in
-    derived_taken c.args.self.now c.refute.new.self c.store.new.self _ c.args.id c.args.clause.now c.args.ids.now c.if-is_empty.self c.if-id-self.false (rw c.in-None.is at c.in_ok-why.ensures.refutes) c.in_ok-why.ensures.same
+    derived_taken c.args.self.now c.refute.new.self c.store.new.self _ c.args.id c.args.clause.now c.args.ids.now c.if-is_empty.self c.requires.ready c.if-id-self.false (rw c.in-None.is at c.in_ok-why.ensures.refutes) c.in_ok-why.ensures.same
     c.in_ok-store.ensures e refl

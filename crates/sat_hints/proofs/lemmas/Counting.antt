@@ -1,0 +1,169 @@
+-- How often literals stand in clauses of two or more, as these come and go.
+use Rattle.std.proofs.Common.{ℕ, zero, suc, ◌+◌, ◌*◌, ◌<◌, ◌≤◌, ◌^◌, ◌≡◌, Bool, true, false, cond, List, [], ◌∷◌, ◌++◌, length, take, get_or, set, refl, sym, ◌∙◌, ap, subst, arith}
+use Rattle.std.proofs.lemmas.List.{length-take-le, take_more, take_all}
+use Rattle.std.specs.List.{AllByRecursion}
+use Rattle.sat_checker.specs.LiteralSets.{mentions}
+use Rattle.sat_checker.specs.SortedSets.{IsIncreasing}
+use Rattle.sat_checker.specs.inner.OccurrenceView.{times_in}
+use Rattle.sat_checker.proofs.lemmas.store.Counting.{times_once}
+use Rattle.sat_checker.proofs.lemmas.store.Mentions.{times_some, times_none}
+use Rattle.sat_hints.specs.Hints.{is_long}
+use Rattle.sat_hints.specs.inner.Clauses.{times_long, times_kept}
+
+-- a short clause isn't counted
+pub times_short : (l : ℕ) (c : List ℕ) → length c < 2 → times_long l c ≡ 0
+times_short l [] h = refl
+times_short l (x ∷ []) h = refl
+times_short l (x ∷ y ∷ ys) h = absurd (omega arith)
+
+pub times_of_long : (l : ℕ) (c : List ℕ) → 2 ≤ length c → times_long l c ≡ times_in l c
+times_of_long l [] h = absurd (omega arith)
+times_of_long l (x ∷ []) h = absurd (omega arith)
+times_of_long l (x ∷ y ∷ ys) h = refl
+
+-- once at most in a sorted set
+pub times_one : (l : ℕ) (c : List ℕ) → IsIncreasing c → times_long l c ≤ 1
+times_one l [] h = omega arith
+times_one l (x ∷ []) h = omega arith
+times_one l (x ∷ y ∷ ys) h = times_once l (x ∷ y ∷ ys) h
+
+module _ (l : ℕ) where
+  pub times-snoc : (cs : List (List ℕ)) (gs : List Bool) (c : List ℕ) (g : Bool) → length gs ≡ length cs → times_kept l (cs ++ (c ∷ [])) (gs ++ (g ∷ [])) ≡ times_kept l cs gs + cond g 0 (times_long l c)
+  times-snoc [] [] c g e = omega arith
+  times-snoc [] (h ∷ gs) c g e = absurd (omega arith)
+  times-snoc (d ∷ cs) [] c g e = absurd (omega arith)
+  times-snoc (d ∷ cs) (h ∷ gs) c g e =
+      let ih : times_kept l (cs ++ (c ∷ [])) (gs ++ (g ∷ [])) ≡ times_kept l cs gs + cond g 0 (times_long l c) = times-snoc cs gs c g (omega arith) in
+      omega (arith, ih)
+
+  pub times-gone : (cs : List (List ℕ)) (gs : List Bool) (place : ℕ) → length gs ≡ length cs → place < length cs → get_or gs place false ≡ false → times_kept l cs (set gs place true) + times_long l (get_or cs place []) ≡ times_kept l cs gs
+  times-gone [] gs place e h g = absurd (omega arith)
+  times-gone (c ∷ cs) [] place e h g = absurd (omega arith)
+  times-gone (c ∷ cs) (b ∷ gs) zero e h g =
+      let one : cond b 0 (times_long l c) ≡ times_long l c = ap (λ x. cond x 0 (times_long l c)) g in
+      omega (arith, one)
+  times-gone (c ∷ cs) (b ∷ gs) (suc n) e h g =
+      let ih : times_kept l cs (set gs n true) + times_long l (get_or cs n []) ≡ times_kept l cs gs = times-gone cs gs n (omega arith) (omega arith) g in
+      omega (arith, ih)
+
+  pub times-few : (cs : List (List ℕ)) (gs : List Bool) → AllByRecursion IsIncreasing cs → times_kept l cs gs ≤ length cs
+  times-few [] gs h = omega arith
+  times-few (c ∷ cs) [] h = omega arith
+  times-few (c ∷ cs) (g ∷ gs) h = go g (times-few cs gs h.1) (times_one l c h.0)
+    where
+      go : (b : Bool) → times_kept l cs gs ≤ length cs → times_long l c ≤ 1 → cond b 0 (times_long l c) + times_kept l cs gs ≤ length (c ∷ cs)
+      go true ih k = omega (arith, ih)
+      go false ih k = omega (arith, ih, k)
+
+  -- a clause that isn't gone is counted
+  pub times-there : (cs : List (List ℕ)) (gs : List Bool) (place : ℕ) → length gs ≡ length cs → place < length cs → get_or gs place false ≡ false → times_long l (get_or cs place []) ≤ times_kept l cs gs
+  times-there cs gs place e h g = let k : times_kept l cs (set gs place true) + times_long l (get_or cs place []) ≡ times_kept l cs gs = times-gone cs gs place e h g in omega (arith, k)
+
+-- a place of a clause that isn't gone
+pub record IsThere (P : List ℕ → Type 0) (cs : List (List ℕ)) (gs : List Bool) : Type 0 where
+  pub place : ℕ
+  pub within : place < length cs
+  pub there : get_or gs place false ≡ false
+  pub holds : P (get_or cs place [])
+
+-- what is counted stands somewhere
+later : (l : ℕ) (c : List ℕ) (cs : List (List ℕ)) (b : Bool) (gs : List Bool) → IsThere (λ d. 0 < times_long l d) cs gs → IsThere (λ d. 0 < times_long l d) (c ∷ cs) (b ∷ gs)
+later l c cs b gs t = record { place = suc t.place; within = (let w = t.within in omega (arith, w)); there = t.there; holds = t.holds }
+
+pub times-some : (l : ℕ) (cs : List (List ℕ)) (gs : List Bool) → 0 < times_kept l cs gs → IsThere (λ c. 0 < times_long l c) cs gs
+times-some l [] gs h = absurd (omega arith)
+times-some l (c ∷ cs) [] h = absurd (omega arith)
+times-some l (c ∷ cs) (g ∷ gs) h = go g (times-some l cs gs) (times_kept l cs gs) refl h
+  where
+    here : (n : ℕ) → times_kept l cs gs ≡ n → (0 < times_kept l cs gs → IsThere (λ d. 0 < times_long l d) cs gs) → 0 < times_long l c + n → IsThere (λ d. 0 < times_long l d) (c ∷ cs) (false ∷ gs)
+    here zero e ih k = record { place = 0; within = omega arith; there = refl; holds = omega (arith, k) }
+    here (suc n) e ih k = later l c cs false gs (ih (omega (arith, e)))
+
+    go : (b : Bool) → (0 < times_kept l cs gs → IsThere (λ d. 0 < times_long l d) cs gs) → (n : ℕ) → times_kept l cs gs ≡ n → 0 < cond b 0 (times_long l c) + times_kept l cs gs → IsThere (λ d. 0 < times_long l d) (c ∷ cs) (b ∷ gs)
+    go true ih n e k = later l c cs true gs (ih (omega (arith, k)))
+    go false ih n e k = here n e ih (omega (arith, e, k))
+
+-- A VARIABLE
+-- its literals are counted in a long clause exactly where that has it
+pub counted_long : (v l : ℕ) (c : List ℕ) → 0 < times_long l c → is_long c ≡ true
+counted_long v l [] h = absurd (omega arith)
+counted_long v l (x ∷ []) h = absurd (omega arith)
+counted_long v l (x ∷ y ∷ ys) h = refl
+
+pub long_as : (l : ℕ) (c : List ℕ) → is_long c ≡ true → times_long l c ≡ times_in l c
+long_as l [] e = absurd cc
+long_as l (x ∷ []) e = absurd cc
+long_as l (x ∷ y ∷ ys) e = refl
+
+pub counted_mentions : (v : ℕ) (c : List ℕ) → is_long c ≡ true → 0 < times_long (2 * v) c + times_long (2 * v + 1) c → mentions c v ≡ true
+counted_mentions v c e h = go (mentions c v) refl
+  where
+    go : (b : Bool) → mentions c v ≡ b → b ≡ true
+    go true f = refl
+    go false f =
+        let a = long_as (2 * v) c e in
+        let b = long_as (2 * v + 1) c e in
+        let n : times_in (2 * v) c + times_in (2 * v + 1) c ≡ zero = times_none v c f in
+        absurd (omega (arith, a, b, n, h))
+
+pub mentions_counted : (v : ℕ) (c : List ℕ) → is_long c ≡ true → mentions c v ≡ true → 0 < times_long (2 * v) c + times_long (2 * v + 1) c
+mentions_counted v c e m =
+    let a = long_as (2 * v) c e in
+    let b = long_as (2 * v + 1) c e in
+    let n : 0 < times_in (2 * v) c + times_in (2 * v + 1) c = times_some v c m in
+    omega (arith, a, b, n)
+
+-- THE FIRST CLAUSES
+pub times_none_yet : (l : ℕ) (cs : List (List ℕ)) (gs : List Bool) → times_kept l (take 0 cs) (take 0 gs) ≡ 0
+times_none_yet l cs gs = refl
+
+pub times-more : (l : ℕ) (cs : List (List ℕ)) (gs : List Bool) (i : ℕ) → length gs ≡ length cs → i < length cs
+    → times_kept l (take (i + 1) cs) (take (i + 1) gs) ≡ times_kept l (take i cs) (take i gs) + cond (get_or gs i false) 0 (times_long l (get_or cs i []))
+times-more l cs gs i e h =
+    let a = take_more cs i [] h in
+    let b = take_more gs i false (subst (λ n. i < n) (sym e) h) in
+    let c : length (take i gs) ≡ length (take i cs) = length-take-le i gs (omega arith) ∙ sym (length-take-le i cs (omega arith)) in
+    rw (a, b) (times-snoc l (take i cs) (take i gs) (get_or cs i []) (get_or gs i false) c)
+
+pub times_whole : (l : ℕ) (cs : List (List ℕ)) (gs : List Bool) (i : ℕ) → length gs ≡ length cs → length cs ≤ i → times_kept l (take i cs) (take i gs) ≡ times_kept l cs gs
+times_whole l cs gs i e h =
+    let a = take_all i cs h in
+    let b = take_all i gs (subst (λ n. n ≤ i) (sym e) h) in
+    rw (a, b) refl
+
+-- a set among others
+pub set_at : (cs : List (List ℕ)) (i : ℕ) → AllByRecursion IsIncreasing cs → i < length cs → IsIncreasing (get_or cs i [])
+set_at [] i h l = absurd (omega arith)
+set_at (c ∷ cs) zero h l = h.0
+set_at (c ∷ cs) (suc i) h l = set_at cs i h.1 (omega arith)
+
+pub sets-snoc : (cs : List (List ℕ)) (c : List ℕ) → AllByRecursion IsIncreasing cs → IsIncreasing c → AllByRecursion IsIncreasing (cs ++ (c ∷ []))
+sets-snoc [] c h k = (k, tt)
+sets-snoc (d ∷ cs) c h k = (h.0, sets-snoc cs c h.1 k)
+
+pub sets_first : (cs : List (List ℕ)) (i : ℕ) → AllByRecursion IsIncreasing cs → AllByRecursion IsIncreasing (take i cs)
+sets_first cs zero h = tt
+sets_first [] (suc i) h = tt
+sets_first (c ∷ cs) (suc i) h = (h.0, sets_first cs i h.1)
+
+-- one more is gone, or counted
+pub kept_gone : (l : ℕ) (cs : List (List ℕ)) (gs : List Bool) (i n : ℕ) → length gs ≡ n → length cs ≡ n → i < n → get_or gs i false ≡ true → times_kept l (take i cs) (take i gs) ≡ times_kept l (take (i + 1) cs) (take (i + 1) gs)
+kept_gone l cs gs i n g c h e =
+    let m = times-more l cs gs i (g ∙ sym c) (subst (λ k. i < k) (sym c) h) in
+    let z : cond (get_or gs i false) 0 (times_long l (get_or cs i [])) ≡ 0 = ap (λ b. cond b 0 (times_long l (get_or cs i []))) e in
+    omega (arith, m, z)
+
+pub kept_more : (l : ℕ) (cs : List (List ℕ)) (gs : List Bool) (i n before after : ℕ) (clause : List ℕ) → length gs ≡ n → length cs ≡ n → i < n → get_or gs i false ≡ false → clause ≡ get_or cs i [] → before ≡ times_kept l (take i cs) (take i gs) → after ≡ before + times_long l clause
+    → after ≡ times_kept l (take (i + 1) cs) (take (i + 1) gs)
+kept_more l cs gs i n before after clause g c h e is b a =
+    let m = times-more l cs gs i (g ∙ sym c) (subst (λ k. i < k) (sym c) h) in
+    let z : cond (get_or gs i false) 0 (times_long l (get_or cs i [])) ≡ times_long l clause = ap (λ b. cond b 0 (times_long l (get_or cs i []))) e ∙ ap (times_long l) (sym is) in
+    omega (arith, m, z, b, a)
+
+-- there is room for it
+pub kept_few : (l : ℕ) (cs : List (List ℕ)) (gs : List Bool) (i n before : ℕ) (clause : List ℕ) → AllByRecursion IsIncreasing cs → length cs ≡ n → i < n → n < 2 ^ 64 → clause ≡ get_or cs i [] → before ≡ times_kept l (take i cs) (take i gs) → before + times_long l clause < 2 ^ 64
+kept_few l cs gs i n before clause sets c h f is b =
+    let few = times-few l (take i cs) (take i gs) (sets_first cs i sets) in
+    let len : length (take i cs) ≡ i = length-take-le i cs (omega (arith, c, h)) in
+    let one = times_one l clause (subst IsIncreasing (sym is) (set_at cs i sets (omega (arith, c, h)))) in
+    omega (arith, few, len, one, b, h, f)

@@ -1,0 +1,253 @@
+-- The clauses that are present, as they come and go and as variables become new.
+use Rattle.std.proofs.Common.{ℕ, zero, suc, ◌+◌, ◌*◌, ◌<◌, ◌≤◌, ◌^◌, ◌≡◌, ◌≢◌, Bool, true, false, cond, eqb, nat_lt, List, [], ◌∷◌, length, get_or, set, Option, None, Some, refl, sym, ◌∙◌, ap, subst, arith, MatchBool}
+use Rattle.std.proofs.lemmas.Bool.{eqb-true, eqb-false, lt-ltb, le-ltb}
+use Rattle.std.proofs.lemmas.List.{get_or-set_same, get_or-set_other}
+use Rattle.sat_base.specs.values.Literals.{variable}
+use Rattle.sat_checker.specs.LiteralSets.{mentions}
+use Rattle.sat_checker.specs.SortedSets.{IsIncreasing}
+use Rattle.sat_hints.specs.Hints.{is_long, unless_unit_over}
+use Rattle.sat_hints.specs.inner.Clauses.{listed, clause_in, clause_at, times_long, times_kept, times_at, AllBelow, IsStore, Adds, Loses}
+use Rattle.sat_hints.specs.inner.Clauses as stock
+use Rattle.sat_hints.specs.inner.UsesView.{if_counting, uses_at}
+use Rattle.sat_hints.specs.inner.Standing.{is_stale, unless_stale, clause_of, SinceWithin, IsStanding, FindsOne, Gains, Drops, Keeps, IsUsed, Forgets}
+use Rattle.sat_hints.specs.declared.present.Present.{Present}
+use Rattle.sat_hints.specs.declared.standing.Standing.{Standing}
+use Rattle.sat_hints.specs.declared.uses.Uses.{Uses}
+use Rattle.sat_hints.proofs.lemmas.Counting.{times_one, times-few, times-there, times-some, counted_long, counted_mentions, mentions_counted}
+use Rattle.sat_hints.proofs.lemmas.Listed.{stands_at, listed-at}
+
+-- A STALE UNIT
+-- an id that comes is below none
+fresh_unit : (since : List ℕ) (id : ℕ) (c : List ℕ) → ((v : ℕ) → get_or since v 0 ≤ id) → is_stale since id c ≡ false
+fresh_unit since id [] h = refl
+fresh_unit since id (l ∷ []) h = le-ltb id (get_or since (variable l) 0) (h (variable l))
+fresh_unit since id (l ∷ m ∷ ls) h = refl
+
+long_not_stale : (since : List ℕ) (id : ℕ) (c : List ℕ) → is_long c ≡ true → is_stale since id c ≡ false
+long_not_stale since id [] e = refl
+long_not_stale since id (l ∷ []) e = absurd cc
+long_not_stale since id (l ∷ m ∷ ls) e = refl
+
+-- what is present was stored
+pub was_stored : (since : List ℕ) (id : ℕ) (o : Option (List ℕ)) (c : List ℕ) → unless_stale since id o ≡ Some c → o ≡ Some c
+was_stored since id None c e = absurd cc
+was_stored since id (Some d) c e = go (is_stale since id d) e
+  where
+    go : (b : Bool) → cond b None (Some d) ≡ Some c → Some d ≡ Some c
+    go true f = absurd cc
+    go false f = f
+
+-- FINDING
+pub found : (s : Standing) (id place : ℕ) (b : Bool) (clause : List ℕ) → stock.FindsOne s.present id place → clause ≡ clause_at s.present place → b ≡ is_stale s.since.items id clause → b ≡ false → FindsOne s id place
+found s id place b clause f e d n = record {
+  within = f.within;
+  named = f.named;
+  stored = f.clause;
+  clause = ap (unless_stale s.since.items id) f.clause ∙ ap (λ t. cond t None (Some (clause_at s.present place))) (ap (is_stale s.since.items id) (sym e) ∙ sym d ∙ n);
+}
+
+pub found_stale : (s : Standing) (id place : ℕ) (b : Bool) (clause : List ℕ) → stock.FindsOne s.present id place → clause ≡ clause_at s.present place → b ≡ is_stale s.since.items id clause → b ≡ true → clause_of s id ≡ None
+found_stale s id place b clause f e d n = ap (unless_stale s.since.items id) f.clause ∙ ap (λ t. cond t None (Some (clause_at s.present place))) (ap (is_stale s.since.items id) (sym e) ∙ sym d ∙ n)
+
+pub found_none : (s : Standing) (id : ℕ) → clause_in s.present id ≡ None → clause_of s id ≡ None
+found_none s id e = ap (unless_stale s.since.items id) e
+
+-- COMING
+if_more : (b : Bool) (m n k : ℕ) → m ≡ n + k → if_counting b n + if_counting b k ≡ if_counting b m
+if_more true m n k e = sym e
+if_more false m n k e = refl
+
+pub gains : (old new : Standing) (id : ℕ) (clause : List ℕ) → IsStanding old → SinceWithin old id → Adds old.present new.present id clause → new.since ≡ old.since → new.uses.counting ≡ old.uses.counting
+    → ((l : ℕ) → uses_at new.uses l ≡ uses_at old.uses l + if_counting old.uses.counting (times_long l clause)) → Gains old new id clause
+gains old new id clause s w a e c u = record {
+  standing = record {
+    store = a.store;
+    counted = λ l.
+        u l ∙ ap (λ n. n + if_counting old.uses.counting (times_long l clause)) (s.counted l) ∙ if_more old.uses.counting (times_at new.present l) (times_at old.present l) (times_long l clause) (a.times l)
+        ∙ ap (λ b. if_counting b (times_at new.present l)) (sym c);
+  };
+  below = a.below;
+  since = e;
+  clauses = λ j. ap (λ x. unless_stale x.items j (clause_in new.present j)) e ∙ ap (unless_stale old.since.items j) (a.clauses j) ∙ one j (eqb j id) refl;
+}
+  where
+    one : (j : ℕ) (b : Bool) → eqb j id ≡ b → unless_stale old.since.items j (cond b (Some clause) (clause_in old.present j)) ≡ cond b (Some clause) (clause_of old j)
+    one j true t = let same : j ≡ id = eqb-true j id t in ap (λ x. cond x None (Some clause)) (subst (λ i. is_stale old.since.items i clause ≡ false) (sym same) (fresh_unit old.since.items id clause w))
+    one j false t = refl
+
+-- there is room for the counts
+if_few : (b : Bool) (n : ℕ) → if_counting b n ≤ n
+if_few true n = omega arith
+if_few false n = omega arith
+
+pub few_uses : (old new : Present) (u : Uses) (id n : ℕ) (clause : List ℕ) → IsStore old → ((l : ℕ) → uses_at u l ≡ if_counting u.counting (times_at old l)) → IsIncreasing clause → Adds old new id clause → n ≡ length new.ids.items → n < 2 ^ 64 → (l : ℕ) → uses_at u l + times_long l clause < 2 ^ 64
+few_uses old new u id n clause s c i a e f l =
+    let x : uses_at u l ≡ if_counting u.counting (times_at old l) = c l in
+    let y : if_counting u.counting (times_at old l) ≤ times_at old l = if_few u.counting (times_at old l) in
+    let z : times_at old l ≤ length old.clauses = times-few l old.clauses old.gone.items s.sets in
+    let w : times_long l clause ≤ 1 = times_one l clause i in
+    let v : length new.ids.items ≡ length old.ids.items + 1 = a.longer in
+    let t : length old.clauses ≡ length old.ids.items = s.clauses in
+    omega (arith, x, y, z, w, v, t, e, f)
+
+-- GOING
+if_less : (b : Bool) (m n k : ℕ) → m + k ≡ n → if_counting b m + if_counting b k ≡ if_counting b n
+if_less true m n k e = e
+if_less false m n k e = refl
+
+module _ (old : Standing) (id place : ℕ) (s : IsStanding old) (f : FindsOne old id place) where
+  -- its place isn't gone
+  not_gone : (c : List ℕ) → clause_in old.present id ≡ Some c → (get_or old.present.gone.items place false ≡ false) × (clause_at old.present place ≡ c)
+  not_gone c e =
+      let k : place < length old.present.ids.items = subst (λ n. place < n) s.store.clauses f.within in
+      let at : clause_in old.present id ≡ cond (get_or old.present.gone.items place false) None (Some (clause_at old.present place))
+      = subst (λ i. clause_in old.present i ≡ cond (get_or old.present.gone.items place false) None (Some (clause_at old.present place))) f.named (listed-at place old.present.ids.items old.present.clauses old.present.gone.items s.store.clauses s.store.gone s.store.rises k) in
+      go (get_or old.present.gone.items place false) refl (sym at ∙ e)
+    where
+      go : (b : Bool) → get_or old.present.gone.items place false ≡ b → cond b None (Some (clause_at old.present place)) ≡ Some c → (b ≡ false) × (clause_at old.present place ≡ c)
+      go true n g = absurd cc
+      go false n g = (refl, (let x : clause_at old.present place ≡ c = cc in x))
+
+  if_below : (b : Bool) (n m u : ℕ) → n ≤ m → u ≡ if_counting b m → if_counting b n ≤ u
+  if_below true n m u h e = omega (arith, h, e)
+  if_below false n m u h e = omega arith
+
+  pub were_counted : (clause : List ℕ) → clause ≡ clause_at old.present place → (l : ℕ) → if_counting old.uses.counting (times_long l clause) ≤ uses_at old.uses l
+  were_counted clause e l =
+      let g = (not_gone (clause_at old.present place) f.stored).0 in
+      let k : times_long l (clause_at old.present place) ≤ times_at old.present l = times-there l old.present.clauses old.present.gone.items place (s.store.gone ∙ sym s.store.clauses) f.within g in
+      if_below old.uses.counting (times_long l clause) (times_at old.present l) (uses_at old.uses l) (subst (λ c. times_long l c ≤ times_at old.present l) (sym e) k) (s.counted l)
+
+  pub drops : (new : Standing) (clause : List ℕ) → clause ≡ clause_at old.present place → Loses old.present new.present (get_or old.present.ids.items place 0) → new.since ≡ old.since → new.uses.counting ≡ old.uses.counting
+      → ((l : ℕ) → uses_at new.uses l + if_counting old.uses.counting (times_long l clause) ≡ uses_at old.uses l) → Drops old new id
+  drops new clause e lost w c u =
+      let l = subst (Loses old.present new.present) f.named lost in
+      record {
+        standing = record { store = l.store; counted = λ m. counts l m };
+        below = l.below;
+        since = w;
+        clauses = λ j. ap (λ x. unless_stale x.items j (clause_in new.present j)) w ∙ ap (unless_stale old.since.items j) (l.clauses j) ∙ one j (eqb j id);
+      }
+    where
+      one : (j : ℕ) (b : Bool) → unless_stale old.since.items j (cond b None (clause_in old.present j)) ≡ cond b None (clause_of old j)
+      one j true = refl
+      one j false = refl
+
+      counts : Loses old.present new.present id → (m : ℕ) → uses_at new.uses m ≡ if_counting new.uses.counting (times_at new.present m)
+      counts l m =
+          let x : times_at new.present m + times_long m clause ≡ times_at old.present m = l.times clause (f.stored ∙ ap Some (sym e)) m in
+          let y : if_counting old.uses.counting (times_at new.present m) + if_counting old.uses.counting (times_long m clause) ≡ if_counting old.uses.counting (times_at old.present m) = if_less old.uses.counting (times_at new.present m) (times_at old.present m) (times_long m clause) x in
+          let z : uses_at old.uses m ≡ if_counting old.uses.counting (times_at old.present m) = s.counted m in
+          let t : uses_at new.uses m + if_counting old.uses.counting (times_long m clause) ≡ uses_at old.uses m = u m in
+          let r : uses_at new.uses m ≡ if_counting old.uses.counting (times_at new.present m) = omega (arith, y, z, t) in
+          r ∙ ap (λ b. if_counting b (times_at new.present m)) (sym c)
+
+pub found_some : (s : Standing) (id place : ℕ) → FindsOne s id place → clause_of s id ≢ None
+found_some s id place f e = let x : ◌≡◌ {A = Option (List ℕ)} (Some (clause_at s.present place)) None = sym f.clause ∙ e in cc
+
+-- IN USE
+module _ (s : Standing) (v : ℕ) (st : IsStore s.present) where
+  abbrev both : ℕ
+  both = times_at s.present (2 * v) + times_at s.present (2 * v + 1)
+
+  used_at : (l : ℕ) → ((c : List ℕ) → is_long c ≡ true → 0 < times_long l c → mentions c v ≡ true) → 0 < times_at s.present l → IsUsed s v
+  used_at l within h =
+      let t = times-some l s.present.clauses s.present.gone.items h in
+      let c = get_or s.present.clauses t.place [] in
+      let long = counted_long v l c t.holds in
+      let k : t.place < length s.present.ids.items = subst (λ n. t.place < n) st.clauses t.within in
+      let at : clause_in s.present (get_or s.present.ids.items t.place 0) ≡ Some c
+      = listed-at t.place s.present.ids.items s.present.clauses s.present.gone.items st.clauses st.gone st.rises k ∙ ap (λ b. cond b None (Some c)) t.there in
+      record {
+        id = get_or s.present.ids.items t.place 0;
+        clause = c;
+        present = ap (unless_stale s.since.items (get_or s.present.ids.items t.place 0)) at ∙ ap (λ b. cond b None (Some c)) (long_not_stale s.since.items (get_or s.present.ids.items t.place 0) c long);
+        long = long;
+        within = within c long t.holds;
+      }
+
+  used_some : 0 < both → IsUsed s v
+  used_some h = go (times_at s.present (2 * v)) refl
+    where
+      go : (n : ℕ) → times_at s.present (2 * v) ≡ n → IsUsed s v
+      go zero e = used_at (2 * v + 1) (λ c long k. counted_mentions v c long (omega (arith, k))) (omega (arith, h, e))
+      go (suc n) e = used_at (2 * v) (λ c long k. counted_mentions v c long (omega (arith, k))) (omega (arith, e))
+
+  used_none : both ≡ 0 → IsUsed s v → ⊥
+  used_none h u =
+      let e : clause_in s.present u.id ≡ Some u.clause = was_stored s.since.items u.id (clause_in s.present u.id) u.clause u.present in
+      let t = stands_at u.id u.clause s.present.ids.items s.present.clauses s.present.gone.items e in
+      let g : length s.present.gone.items ≡ length s.present.clauses = st.gone ∙ sym st.clauses in
+      let a : times_long (2 * v) (get_or s.present.clauses t.place []) ≤ times_at s.present (2 * v) = times-there (2 * v) s.present.clauses s.present.gone.items t.place g t.within t.there in
+      let b : times_long (2 * v + 1) (get_or s.present.clauses t.place []) ≤ times_at s.present (2 * v + 1) = times-there (2 * v + 1) s.present.clauses s.present.gone.items t.place g t.within t.there in
+      let c = ap (times_long (2 * v)) t.clause in
+      let d = ap (times_long (2 * v + 1)) t.clause in
+      let n : 0 < times_long (2 * v) u.clause + times_long (2 * v + 1) u.clause = mentions_counted v u.clause u.long u.within in
+      omega (arith, h, a, b, c, d, n)
+
+  pub used_is : (r : Bool) (u : Uses) → ((l : ℕ) → uses_at u l ≡ times_at s.present l) → MatchBool r (0 < uses_at u (2 * v) + uses_at u (2 * v + 1)) (uses_at u (2 * v) + uses_at u (2 * v + 1) ≡ 0) → MatchBool r (IsUsed s v) (IsUsed s v → ⊥)
+  used_is true u e h = let a = e (2 * v) in let b = e (2 * v + 1) in used_some (omega (arith, a, b, h))
+  used_is false u e h = let a = e (2 * v) in let b = e (2 * v + 1) in used_none (omega (arith, a, b, h))
+
+pub keeps : (old new : Standing) → IsStanding old → new.present ≡ old.present → new.since ≡ old.since → new.uses.counting ≡ true → ((l : ℕ) → uses_at new.uses l ≡ times_at old.present l) → Keeps old new
+keeps old new s p e c u = record {
+  standing = record {
+    store = subst IsStore (sym p) s.store;
+    counted = λ l. u l ∙ ap (λ x. times_at x l) (sym p) ∙ ap (λ b. if_counting b (times_at new.present l)) (sym c);
+  };
+  present = p;
+  since = e;
+}
+
+-- A NEW VARIABLE
+-- what is listed is under an id that is
+below_bound : (p : Present) (bound : ℕ) → IsStore p → AllBelow p.ids.items bound → (id : ℕ) (c : List ℕ) → clause_in p id ≡ Some c → id < bound
+below_bound p bound s h id c e =
+    let t = stands_at id c p.ids.items p.clauses p.gone.items e in
+    subst (λ i. i < bound) t.named (h t.place (subst (λ n. t.place < n) s.clauses t.within))
+
+pub since_set : (mid old : List ℕ) (v place bound : ℕ) → place ≡ v → place < length mid → ((x : ℕ) → get_or mid x 0 ≡ get_or old x 0) → (x : ℕ) → get_or (set mid place bound) x 0 ≡ cond (eqb x v) bound (get_or old x 0)
+since_set mid old v place bound is inside same x = go (eqb x v) refl
+  where
+    go : (b : Bool) → eqb x v ≡ b → get_or (set mid place bound) x 0 ≡ cond b bound (get_or old x 0)
+    go true e = ap (λ y. get_or (set mid place bound) y 0) (eqb-true x v e ∙ sym is) ∙ get_or-set_same mid place bound 0 inside
+    go false e = get_or-set_other mid place x bound 0 (λ s. eqb-false x v e (s ∙ is)) ∙ same x
+
+module _ (old new : Standing) (v bound : ℕ) (s : IsStanding old) (above : AllBelow old.present.ids.items bound) (w : SinceWithin old bound)
+    (p : new.present ≡ old.present) (u : new.uses ≡ old.uses) (at : (x : ℕ) → get_or new.since.items x 0 ≡ cond (eqb x v) bound (get_or old.since.items x 0)) where
+  unit_gone : (l : ℕ) (b : Bool) → eqb (variable l) v ≡ true → unless_unit_over v (cond b None (Some (l ∷ []))) ≡ None
+  unit_gone l true e = refl
+  unit_gone l false e = ap (λ t. cond t None (Some (l ∷ []))) e
+
+  unit_kept : (l : ℕ) (b : Bool) → eqb (variable l) v ≡ false → unless_unit_over v (cond b None (Some (l ∷ []))) ≡ cond b None (Some (l ∷ []))
+  unit_kept l true e = refl
+  unit_kept l false e = ap (λ t. cond t None (Some (l ∷ []))) e
+
+  one_unit : (j l : ℕ) (b : Bool) → j < bound → eqb (variable l) v ≡ b → unless_stale new.since.items j (Some (l ∷ [])) ≡ unless_unit_over v (unless_stale old.since.items j (Some (l ∷ [])))
+  one_unit j l true h e =
+      let a : get_or new.since.items (variable l) 0 ≡ bound = at (variable l) ∙ ap (λ b. cond b bound (get_or old.since.items (variable l) 0)) e in
+      ap (λ b. cond b None (Some (l ∷ []))) (ap (nat_lt j) a ∙ lt-ltb j bound h) ∙ sym (unit_gone l (nat_lt j (get_or old.since.items (variable l) 0)) e)
+  one_unit j l false h e =
+      let a : get_or new.since.items (variable l) 0 ≡ get_or old.since.items (variable l) 0 = at (variable l) ∙ ap (λ b. cond b bound (get_or old.since.items (variable l) 0)) e in
+      ap (λ n. cond (nat_lt j n) None (Some (l ∷ []))) a ∙ sym (unit_kept l (nat_lt j (get_or old.since.items (variable l) 0)) e)
+
+  one_clause : (j : ℕ) (o : Option (List ℕ)) → ((c : List ℕ) → o ≡ Some c → j < bound) → unless_stale new.since.items j o ≡ unless_unit_over v (unless_stale old.since.items j o)
+  one_clause j None h = refl
+  one_clause j (Some []) h = refl
+  one_clause j (Some (l ∷ [])) h = one_unit j l (eqb (variable l) v) (h (l ∷ []) refl) refl
+  one_clause j (Some (l ∷ m ∷ ls)) h = refl
+
+  within : (x : ℕ) (b : Bool) → eqb x v ≡ b → get_or new.since.items x 0 ≤ bound
+  within x true e = let a = at x ∙ ap (λ b. cond b bound (get_or old.since.items x 0)) e in omega (arith, a)
+  within x false e = let a = at x ∙ ap (λ b. cond b bound (get_or old.since.items x 0)) e in let k = w x in omega (arith, a, k)
+
+  pub forgets : Forgets old new v bound
+  forgets = record {
+    standing = record {
+      store = subst IsStore (sym p) s.store;
+      counted = λ l. ap (λ x. uses_at x l) u ∙ s.counted l ∙ ap (λ x. if_counting x.counting (times_at old.present l)) (sym u) ∙ ap (λ x. if_counting new.uses.counting (times_at x l)) (sym p);
+    };
+    present = p;
+    since = λ x. within x (eqb x v) refl;
+    clauses = λ j. ap (λ x. unless_stale new.since.items j (clause_in x j)) p ∙ one_clause j (clause_in old.present j) (λ c e. below_bound old.present bound s.store above j c e);
+  }

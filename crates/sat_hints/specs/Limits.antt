@@ -1,0 +1,14 @@
+-- Steps whose literals and variables are within their limits, as those of a certificate that is read are.
+use Rattle.std.specs.Prelude.{◌*◌, ◌<◌}
+use Rattle.std.specs.List.{AllByRecursion}
+use Rattle.sat_base.specs.values.Literals.{largest}
+use Rattle.sat_base.specs.steps.Steps.{Step, DeleteVar, AddClause, AtClause, UnitClauses, FailedAssumptions}
+use Rattle.sat_hints.specs.Lines.{AreLiterals}
+
+abbrev pub FitsStep : Step → Type 0
+FitsStep (DeleteVar v) = v < largest
+FitsStep (AddClause clause) = AreLiterals clause
+FitsStep (AtClause redundant clause hashes) = AreLiterals clause
+FitsStep (UnitClauses units) = AllByRecursion (λ u. u.0 < 2 * largest) units
+FitsStep (FailedAssumptions core hashes) = AreLiterals core
+FitsStep step = Unit {0}

@@ -1,0 +1,83 @@
+-- The clauses that are present, but for units over variables that became new since they came.
+use Rattle.std.specs.Prelude.{ℕ, ◌≡◌, ◌≤◌, ◌<◌, ◌==◌, Bool, true, false, Option, None, Some, List, [], ◌∷◌, map, length, nat_lt, slice_index, slice_index_or, if◌then◌else◌}
+use Rattle.std.specs.List.{AllByRecursion}
+use Rattle.sat_base.specs.values.Literals.{variable}
+use Rattle.sat_checker.specs.LiteralSets.{mentions}
+use Rattle.sat_hints.specs.Hints.{and_clauses, is_long, unless_unit_over}
+use Rattle.sat_hints.specs.inner.Clauses.{clause_at, clause_in, times_at, AllBelow, IsStore}
+use Rattle.sat_hints.specs.inner.UsesView.{if_counting, uses_at}
+use Rattle.sat_hints.specs.declared.standing.Standing.{Standing}
+
+-- is it a unit that came before its variable became new? All under ids below this did.
+abbrev pub is_stale : List ℕ → ℕ → List ℕ → Bool
+is_stale since id [] = false
+is_stale since id (l ∷ []) = nat_lt id (slice_index_or since (variable l) 0)
+is_stale since id (l ∷ m ∷ ls) = false
+
+abbrev pub unless_stale : List ℕ → ℕ → Option (List ℕ) → Option (List ℕ)
+unless_stale since id None = None
+unless_stale since id (Some c) = if is_stale since id c then None else Some c
+
+abbrev pub clause_of : Standing → ℕ → Option (List ℕ)
+clause_of s id = unless_stale s.since.items id (clause_in s.present id)
+
+-- the clauses under these ids, if all are present
+abbrev pub clauses_of : Standing → List ℕ → Option (List (List ℕ))
+clauses_of s [] = Some []
+clauses_of s (id ∷ ids) = and_clauses (clause_of s id) (clauses_of s ids)
+
+-- no variable became new from this id on
+abbrev pub SinceWithin : Standing → ℕ → Type 0
+SinceWithin s bound = (v : ℕ) → slice_index_or s.since.items v 0 ≤ bound
+
+-- once counting has begun, the counts are those of the clauses of two literals or more
+pub record IsStanding (s : Standing) : Type 0 where
+  pub store : IsStore s.present
+  pub counted : (l : ℕ) → uses_at s.uses l ≡ if_counting s.uses.counting (times_at s.present l)
+
+-- it is at this place
+pub record FindsOne (s : Standing) (id place : ℕ) : Type 0 where
+  pub within : place < length s.present.clauses
+  pub named : slice_index s.present.ids.items place ≡ id
+  pub stored : clause_in s.present id ≡ Some (clause_at s.present place)
+  pub clause : clause_of s id ≡ Some (clause_at s.present place)
+
+-- one more clause
+pub record Gains (old new : Standing) (id : ℕ) (clause : List ℕ) : Type 0 where
+  pub standing : IsStanding new
+  pub below : (k : ℕ) → id < k → AllBelow new.present.ids.items k
+  pub since : new.since ≡ old.since
+  pub clauses : (j : ℕ) → clause_of new j ≡ (if j == id then Some clause else clause_of old j)
+
+-- one less
+pub record Drops (old new : Standing) (id : ℕ) : Type 0 where
+  pub standing : IsStanding new
+  pub below : (k : ℕ) → AllBelow old.present.ids.items k → AllBelow new.present.ids.items k
+  pub since : new.since ≡ old.since
+  pub clauses : (j : ℕ) → clause_of new j ≡ (if j == id then None else clause_of old j)
+
+-- the same clauses
+pub record Keeps (old new : Standing) : Type 0 where
+  pub standing : IsStanding new
+  pub present : new.present ≡ old.present
+  pub since : new.since ≡ old.since
+
+-- a variable is in a clause of two literals or more
+pub record IsUsed (s : Standing) (v : ℕ) : Type 0 where
+  pub id : ℕ
+  pub clause : List ℕ
+  pub present : clause_of s id ≡ Some clause
+  pub long : is_long clause ≡ true
+  pub within : mentions clause v ≡ true
+
+-- a variable becomes new, and its units are forgotten
+pub record Forgets (old new : Standing) (v bound : ℕ) : Type 0 where
+  pub standing : IsStanding new
+  pub present : new.present ≡ old.present
+  pub since : SinceWithin new bound
+  pub clauses : (j : ℕ) → clause_of new j ≡ unless_unit_over v (clause_of old j)
+
+-- the clauses under these ids are those at these places
+pub record Finds (s : Standing) (ids places : List ℕ) : Type 0 where
+  pub within : AllByRecursion (λ place. place < length s.present.clauses) places
+  pub clauses : clauses_of s ids ≡ Some (map (clause_at s.present) places)

@@ -1,0 +1,121 @@
+//! The clauses that are present, where variables become new.
+ghost use Rattle.std.specs.Prelude.{◌≡◌, ◌≢◌, ◌<◌, ◌⊎◌, ℕ, [], None, length, slice_index_or, IfOk, OnOk, MatchBool, MatchOption};
+ghost use Rattle.sat_base.specs.values.Literals.{largest};
+ghost use Rattle.sat_checker.specs.SortedSets.{IsIncreasing};
+ghost use Rattle.sat_hints.specs.inner.Clauses.{AllBelow};
+ghost use Rattle.sat_hints.specs.inner.Standing.{clause_of, is_stale, Drops, FindsOne, Forgets, Gains, IsStanding, IsUsed, Keeps, SinceWithin};
+
+use crate::present::Present;
+use crate::uses::Uses;
+use sat_base::{Lit, Var};
+use std::alloc::{AllocError, Global};
+
+/// Clauses by their ids. A unit is gone once its variable became new.
+#[derive(Drop)]
+pub(crate) struct Standing {
+    pub(crate) present: Present,
+    uses: Uses,
+    /// By variable: its units under ids below this came before it became new. A variable past the end never did.
+    since: Vec<u64>,
+}
+
+/// Makes room for a variable.
+fn make_room(since: &mut Vec<u64>, place: usize) -> Result<(), AllocError>
+    requires { place < largest }
+    ensures room { OnOk result (place < length since.new.items) }
+    ensures same { (v : ℕ) → slice_index_or since.new.items v 0 ≡ slice_index_or since.old.items v 0 }
+{
+    if since.len() <= place {
+        since.resize(place + 1, 0)?;
+    }
+    Ok(())
+}
+
+impl Standing {
+    pub(crate) fn new(alloc: Global) -> Standing
+        ensures standing { IsStanding result }
+        ensures none { result.present.ids.items ≡ [] }
+        ensures clauses { (id : ℕ) → clause_of result id ≡ None }
+        ensures since { SinceWithin result 0 }
+    {
+        Standing {
+            present: Present::new(alloc),
+            uses: Uses::new(alloc),
+            since: Vec::new(alloc),
+        }
+    }
+
+    /// Whether a clause under this id is a unit that came before its variable became new.
+    fn is_stale(&self, id: u64, clause: &[Lit]) -> bool
+        ensures { result ≡ is_stale self.now.since.items id clause.now }
+    {
+        if clause.len() != 1 {
+            return false;
+        }
+        let place = clause[0].index();
+        place < self.since.len() && id < self.since[place]
+    }
+
+    /// The place of the clause under this id, if it is present.
+    pub(crate) fn find(&self, id: u64) -> Option<usize>
+        requires { IsStanding self.now }
+        ensures { MatchOption result (clause_of self.now id ≡ None) (FindsOne self.now id) }
+    {
+        let place = self.present.find(id)?;
+        if self.is_stale(id, self.present.clause(place)) {
+            return None;
+        }
+        Some(place)
+    }
+
+    /// Adds a clause, a sorted set, whose id is above all before.
+    pub(crate) fn push(&mut self, id: u64, clause: &[Lit]) -> Result<(), AllocError>
+        requires standing { IsStanding self.old }
+        requires above { AllBelow self.old.present.ids.items id }
+        requires since { SinceWithin self.old id }
+        requires increasing { IsIncreasing clause.now }
+        ensures { OnOk result (Gains self.old self.new id clause.now) }
+    {
+        self.present.push(id, clause)?;
+        let _count = self.present.len();
+        self.uses.add(clause)?;
+        Ok(())
+    }
+
+    /// Takes away the clause under this id. The answer is whether it was present.
+    pub(crate) fn remove(&mut self, id: u64) -> Result<bool, AllocError>
+        requires { IsStanding self.old }
+        ensures { IfOk result (λ was. MatchBool was ((clause_of self.old id ≢ None) × Drops self.old self.new id)
+            ((clause_of self.old id ≡ None) × (self.new ≡ self.old))) }
+    {
+        let Some(place) = self.find(id) else {
+            return Ok(false);
+        };
+        self.uses.take(self.present.clause(place));
+        self.present.remove(place)?;
+        Ok(true)
+    }
+
+    /// Whether the variable is in a clause of two literals or more. The first time all clauses are looked at, later none.
+    pub(crate) fn is_used(&mut self, var: Var) -> Result<bool, AllocError>
+        requires { IsStanding self.old }
+        ensures keeps { OnOk result (Keeps self.old self.new) }
+        ensures used { IfOk result (λ used. MatchBool used (IsUsed self.old var) (IsUsed self.old var → ⊥)) }
+    {
+        self.uses.begin(&self.present)?;
+        Ok(self.uses.has(var))
+    }
+
+    /// The variable becomes new: its units under ids below this are forgotten.
+    pub(crate) fn forget_units(&mut self, var: Var, bound: u64) -> Result<(), AllocError>
+        requires standing { IsStanding self.old }
+        requires above { AllBelow self.old.present.ids.items bound }
+        requires since { SinceWithin self.old bound }
+        ensures { OnOk result (Forgets self.old self.new var bound) }
+    {
+        let place = var.index();
+        make_room(&mut self.since, place)?;
+        self.since[place] = bound;
+        Ok(())
+    }
+}
