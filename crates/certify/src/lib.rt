@@ -7,7 +7,6 @@ pub mod confirm;
 pub mod fault;
 pub mod judge;
 pub mod law_matching;
-pub mod law_reading;
 pub mod law_serving;
 pub mod laws;
 pub mod matching;

@@ -2,7 +2,6 @@
 
 use certify::answers::write::push_literal;
 use certify::judge::{Names, NewNames, Refusal};
-use certify::law_reading::language_rows;
 use certify::reading::{Command, CommandKind, Reached, ScriptEnd, ScriptReader};
 use sat_base::Var;
 use std::alloc::{AllocError, Global};
@@ -111,7 +110,6 @@ fn scripts_are_read(rt: HostRuntime) {
     for row in &READ {
         assert!(rt; reads(rt.alloc(), *row));
     }
-    language_rows();
 }
 
 /// The digit of the name, up to 9, by which a command is refused; `!` where by the limit.

@@ -1,4 +1,5 @@
 pub mod Script
+pub mod Language
 pub mod ScriptSpelling
 pub mod ScriptRows
 pub mod Judge

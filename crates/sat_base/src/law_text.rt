@@ -1,12 +1,12 @@
 //! Laws of what a text means, for proofs alone.
-ghost use Rattle.sat_base.specs.script.ScriptSpelling.{OneReading, CleanIfSpelled};
+ghost use Rattle.sat_base.specs.script.ScriptSpelling.{OneReading, ReadIfSpelled};
 ghost use Rattle.sat_base.specs.script.ScriptRows.{ReadRows, MalformedRows};
 
-/// Each script has one list of commands and one end, and it reads cleanly as commands exactly if its words spell them, one
-/// command after another. It does nothing.
+/// Each script has one list of commands and one end, and it reads as commands and an end exactly if its words spell them: one
+/// command after another, and then the end or what begins none. It does nothing.
 pub fn script_laws()
     ensures one { OneReading }
-    ensures spelled { CleanIfSpelled }
+    ensures spelled { ReadIfSpelled }
     // Texts, and what they mean.
     ensures read { ReadRows }
     ensures malformed { MalformedRows }

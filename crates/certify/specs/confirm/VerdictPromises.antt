@@ -7,7 +7,7 @@ use Rattle.certify.specs.answers.RightAnswers.{AnswersAreRight}
 use Rattle.certify.specs.confirm.Matches.{Matches}
 use Rattle.sat_checker.specs.matching.ProofChecking.{the_checking}
 use Rattle.certify.specs.confirm.Walks.{LooksReach, Spends}
-use Rattle.certify.specs.reading.Language.{reading}
+use Rattle.sat_base.specs.script.Language.{reading}
 use Rattle.certify.specs.declared.verdict.Verdict.{Verdict}
 use Rattle.certify.specs.declared.verdict.Verdict.TheVariants.{Yes}
 

@@ -5,7 +5,7 @@ use Rattle.sat_base.specs.values.Literals.{largest}
 use Rattle.sat_base.specs.script.Script.{Command, names_of}
 use Rattle.certify.specs.answers.AnswerForms.{named_literals}
 use Rattle.sat_base.specs.script.Judge.{Judge, Mode, Sampled, Witnessed, identity_of, bring_in, without_name, with_mode, Refusal, PastLimit, WitnessName, refusal_of}
-use Rattle.certify.specs.reading.Language.{Kind, OfClause, OfAsk, OfHide, OfWitness, OfSample}
+use Rattle.sat_base.specs.script.Language.{Kind, OfClause, OfAsk, OfHide, OfWitness, OfSample}
 use Rattle.certify.specs.reading.Commands.{IsLent}
 use Rattle.certify.specs.declared.reading.Command.{Command as Lent}
 use Rattle.certify.specs.declared.judge.NameState.{NameState}

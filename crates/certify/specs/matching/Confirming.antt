@@ -1,6 +1,6 @@
 -- What a command makes of the answers and the certificate that are left.
 use Rattle.std.specs.Prelude.{ℕ, ◌+◌, ◌≡◌, None, Result, Ok, Err, List, [], ◌∷◌, ◌++◌}
-use Rattle.sat_base.specs.script.Script.{Literal, Command, Ask, Ending, Reading, names_of}
+use Rattle.sat_base.specs.script.Script.{Literal, Command, Ask, Ending, names_of}
 use Rattle.sat_base.specs.script.Judge.{Judge, after_command, refusal_of}
 use Rattle.sat_base.specs.steps.Steps.{Step}
 use Rattle.sat_checker.specs.matching.Expected.{Outcome, Adds, Opens, Closes, showing}
@@ -11,7 +11,7 @@ use Rattle.certify.specs.judge.Names.{Changes, Stands}
 use Rattle.certify.specs.laws.Laws.{IsKept, NamesIncrease}
 use Rattle.certify.specs.matching.Awaiting.{IsAt, MeetsDue}
 use Rattle.certify.specs.matching.Naming.{MeetsAll, naming_all, taken_by}
-use Rattle.certify.specs.reading.Language.{Kind, OfClause, OfAsk, OfHide, OfWitness, OfSample, command_of}
+use Rattle.sat_base.specs.script.Language.{Reading, Kind, OfClause, OfAsk, OfHide, OfWitness, OfSample, command_of}
 use Rattle.certify.specs.declared.judge.names.Names.{Names}
 use Rattle.certify.specs.declared.matching.named.NamedVars.{NamedVars}
 use Rattle.certify.specs.declared.matching.naming.Matching.{Matching}

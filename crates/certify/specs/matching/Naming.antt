@@ -8,7 +8,7 @@ use Rattle.certify.specs.confirm.CertificatePlaces.{Leads, Bars}
 use Rattle.certify.specs.confirm.Views.{View}
 use Rattle.certify.specs.judge.Names.{Stands, taken}
 use Rattle.certify.specs.matching.Awaiting.{IsAt}
-use Rattle.certify.specs.reading.Language.{Kind, OfClause, OfAsk, OfHide, OfWitness, OfSample}
+use Rattle.sat_base.specs.script.Language.{Kind, OfClause, OfAsk, OfHide, OfWitness, OfSample}
 use Rattle.certify.specs.declared.judge.names.Names.{Names}
 use Rattle.certify.specs.declared.matching.named.NamedVars.{NamedVars}
 use Rattle.certify.specs.declared.verdict.Why.{Why}

@@ -4,7 +4,7 @@ use Rattle.sat_base.specs.declared.steps.reader.Buffers.{Buffers}
 use Rattle.sat_base.specs.declared.steps.reader.StepReader.{StepReader}
 use Rattle.sat_base.specs.device.Device.{Reader}
 use Rattle.sat_base.specs.device.Reading.{Source}
-use Rattle.sat_base.specs.script.Script.{Reading}
+use Rattle.sat_base.specs.script.Language.{Reading}
 use Rattle.certify.specs.confirm.Streams.{Stream, Confirms, Covers, rest_in}
 use Rattle.certify.specs.matching.Confirming.{ConfirmsLast, Table, Through, table_of}
 use Rattle.certify.specs.matching.Halting.{Any, Joins}

@@ -5,7 +5,7 @@ use Rattle.sat_base.specs.script.Script.{Ending, Clean, Malformed}
 use Rattle.sat_checker.specs.matching.ProofChecking.{the_checking}
 use Rattle.certify.specs.confirm.Matches.{Matches}
 use Rattle.certify.specs.confirm.VerdictPromises.{Exact}
-use Rattle.certify.specs.reading.Language.{reading}
+use Rattle.sat_base.specs.script.Language.{reading}
 use Rattle.certify.specs.run.FinishedRun.{Answered, Answers}
 use Rattle.certify.specs.run.StepsLeft.{largest_count}
 use Rattle.certify.specs.declared.summary.Summary.{Summary}

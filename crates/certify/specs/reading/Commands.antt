@@ -5,9 +5,9 @@ use Rattle.sat_base.specs.values.Literals.{largest}
 use Rattle.sat_base.specs.text.Text.{Token, Number, Letter, Header, Wrong, Scan}
 use Rattle.sat_base.specs.text.Chunks.{Follows}
 use Rattle.sat_base.specs.text.Tokenizing.{Stands, held}
-use Rattle.sat_base.specs.script.Script.{Literal, Command, Ask, Clean, Malformed, Reading, onto_commands, spoken}
+use Rattle.sat_base.specs.script.Script.{Literal, Command, Ask, Clean, Malformed}
 use Rattle.certify.specs.answers.AnswerForms.{named_literals}
-use Rattle.certify.specs.reading.Language.{Kind, OfClause, OfAsk, OfHide, OfWitness, OfSample, command_of, kind_of_letter, Hand, Nothing, Within, commands_of, with_ask, reading}
+use Rattle.sat_base.specs.script.Language.{Reading, onto_commands, spoken, Kind, OfClause, OfAsk, OfHide, OfWitness, OfSample, command_of, kind_of_letter, Hand, Nothing, Within, commands_of, with_ask, reading}
 use Rattle.certify.specs.declared.reading.CommandKind.{CommandKind}
 use Rattle.certify.specs.declared.reading.CommandKind.TheVariants as kind
 use Rattle.certify.specs.declared.reading.Command.{Command as Lent}

@@ -2,7 +2,7 @@
 use Rattle.std.specs.Prelude.{ℕ, ◌+◌, ◌-◌, ◌*◌, ◌<◌, ◌≡◌, Bool, true, false, Option, Some, None, List, [], ◌++◌, length, Result, Ok, Err}
 use Rattle.sat_base.specs.device.Device.{most_reads, piece_size}
 use Rattle.sat_base.specs.device.Reading.{Source, Passes, PassesToEnd}
-use Rattle.sat_base.specs.script.Script.{Reading}
+use Rattle.sat_base.specs.script.Language.{Reading}
 use Rattle.sat_base.specs.text.Chunks.{Follows}
 use Rattle.sat_base.specs.declared.device.whole.ReadError.{ReadError}
 use Rattle.sat_base.specs.declared.device.whole.ReadError.TheVariants as errors

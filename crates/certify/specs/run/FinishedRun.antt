@@ -12,7 +12,7 @@ use Rattle.certify.specs.answers.RightAnswers.{AnswersAreRight}
 use Rattle.sat_checker.specs.matching.ProofChecking.{the_checking}
 use Rattle.sat_solver.specs.declared.session.counting.Counting.{Counting}
 use Rattle.sat_solver.specs.session.Counting.{start as uncounted, Cuts}
-use Rattle.certify.specs.reading.Language.{reading, written}
+use Rattle.sat_base.specs.script.Language.{reading, written}
 use Rattle.certify.specs.run.StepsLeft.{steps_left}
 use Rattle.certify.specs.serving.Certifies.{Certifies}
 use Rattle.certify.specs.serving.Stretches.{MadeFor}

@@ -18,7 +18,7 @@ use Rattle.certify.specs.declared.summary.AskReport.{AskReport}
 use Rattle.certify.specs.judge.Names.{Stands}
 use Rattle.certify.specs.laws.Laws.{IsKept}
 use Rattle.certify.specs.reading.Commands.{kind_of}
-use Rattle.certify.specs.reading.Language.{command_of}
+use Rattle.sat_base.specs.script.Language.{command_of}
 use Rattle.certify.specs.serving.Calls.{Faults, IsReady, proof_in}
 use Rattle.certify.specs.serving.Serving.{Place, Serves}
 use Rattle.certify.specs.serving.Quiet.{Solver}

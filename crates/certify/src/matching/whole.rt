@@ -1,7 +1,7 @@
 //! Confirms the commands of a script as they come, and then its end.
 ghost use Rattle.std.specs.Prelude.{◌≡◌, ◌+◌, ◌-◌, ◌^◌, ◌≤◌, [], ◌∷◌, true, false, OnOk};
 ghost use Rattle.sat_base.specs.device.Device.{most_reads};
-ghost use Rattle.sat_base.specs.script.Script.{Command as Spelled, onto_commands};
+ghost use Rattle.sat_base.specs.script.Script.{Command as Spelled};
 ghost use Rattle.sat_base.specs.steps.StepReading.{reader_name, reader_source};
 ghost use Rattle.certify.specs.confirm.Streams.{GoesOn};
 ghost use Rattle.certify.specs.matching.Confirming.{ConfirmsLast, ConfirmsNext, table_of};
@@ -9,7 +9,7 @@ ghost use Rattle.certify.specs.matching.Sessions.{ConfirmsBoth, answers_in};
 ghost use Rattle.certify.specs.matching.Whole.{Ends, script_in, standing};
 ghost use Rattle.certify.specs.reading.Ahead.{IsOpen};
 ghost use Rattle.certify.specs.reading.Commands.{HasWhole, Means, end_reading};
-ghost use Rattle.certify.specs.reading.Language.{reading};
+ghost use Rattle.sat_base.specs.script.Language.{onto_commands, reading};
 
 use crate::matching::halt::{Halt, unread_script};
 use crate::matching::session::Session;

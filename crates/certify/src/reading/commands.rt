@@ -2,7 +2,7 @@
 ghost use Rattle.std.specs.Prelude.{◌≡◌, ◌<◌, ◌&&◌, ◌||◌, ℕ, List, [], ◌∷◌, Bool, false, not, IfOk};
 ghost use Rattle.sat_base.specs.text.Text.{Token as Spelled, Letter, Number};
 ghost use Rattle.sat_base.specs.text.Tokenizing.{held, held_token};
-ghost use Rattle.certify.specs.reading.Language.{Hand, Nothing, may_stand};
+ghost use Rattle.sat_base.specs.script.Language.{Hand, Nothing, may_stand};
 ghost use Rattle.certify.specs.reading.Commands.{BeginsKind, EndsSo, Holds, TakesToken, end_if, is_ask_kind, kind_of, meaning};
 
 use super::draft::Draft;

@@ -1,7 +1,7 @@
 //! The command in hand.
 ghost use Rattle.std.specs.Prelude.{◌≡◌, ◌<◌, ◌++◌, ◌∷◌, [], ℕ, List, true, false, not, OnOk};
 ghost use Rattle.sat_base.specs.script.Script.{Literal};
-ghost use Rattle.certify.specs.reading.Language.{Hand, Kind, Nothing, Within, command_in};
+ghost use Rattle.sat_base.specs.script.Language.{Hand, Kind, Nothing, Within, command_in};
 ghost use Rattle.certify.specs.reading.Commands.{Holds, IsNumbered, IsWhole, kind_of, opened};
 
 use super::CommandKind;

@@ -1,7 +1,7 @@
 //! The reader of scripts.
 ghost use Rattle.std.specs.Prelude.{◌≡◌, ◌<◌, ◌≤◌, ℕ, Bool, false, List, [], length, take, IfOk};
-ghost use Rattle.sat_base.specs.script.Script.{Command as SpelledCommand, Reading};
-ghost use Rattle.certify.specs.reading.Language.{reading, written};
+ghost use Rattle.sat_base.specs.script.Script.{Command as SpelledCommand};
+ghost use Rattle.sat_base.specs.script.Language.{Reading, reading, written};
 ghost use Rattle.certify.specs.reading.Commands.{EndsLast, HasWhole, IsLent, Means, MeansIf, TakesBytes};
 
 use super::commands::Commands;

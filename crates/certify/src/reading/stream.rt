@@ -3,7 +3,7 @@ ghost use Rattle.std.specs.Prelude.{◌≡◌, [], false};
 ghost use Rattle.sat_base.specs.script.Script.{Command as SpelledCommand};
 ghost use Rattle.certify.specs.reading.Ahead.{IsOpen, source_in, waiting};
 ghost use Rattle.certify.specs.reading.Commands.{EndsLast, HasWhole, IsLent, Means, MeansIf, TakesBytes};
-ghost use Rattle.certify.specs.reading.Language.{reading, written};
+ghost use Rattle.sat_base.specs.script.Language.{reading, written};
 ghost use Rattle.certify.specs.reading.Streaming.{Brings, Comes, Falls, Finishes, Takes};
 
 use super::reader::ScriptReader;

@@ -2,11 +2,11 @@
 ghost use Rattle.std.specs.Prelude.{◌≡◌, ◌+◌, ◌∷◌, [], false, IfErr, IfOk, OnOk};
 ghost use Rattle.sat_base.specs.device.Device.{Takes};
 ghost use Rattle.sat_base.specs.script.Judge.{Judge, start};
-ghost use Rattle.sat_base.specs.script.Script.{Command as Spelled, onto_commands};
+ghost use Rattle.sat_base.specs.script.Script.{Command as Spelled};
 ghost use Rattle.certify.specs.answers.Answers.{malformed_line};
 ghost use Rattle.certify.specs.reading.Ahead.{IsOpen, source_in};
 ghost use Rattle.certify.specs.reading.Commands.{IsLent, Means, MeansIf, end_reading};
-ghost use Rattle.certify.specs.reading.Language.{reading, written};
+ghost use Rattle.sat_base.specs.script.Language.{onto_commands, reading, written};
 ghost use Rattle.certify.specs.serving.Calls.{IsReady};
 ghost use Rattle.certify.specs.serving.Standing.{GoesOn, IsAt, ServedNext, WritesBoth};
 ghost use Rattle.certify.specs.serving.Whole.{Ends, ServesWhole, run_fault};

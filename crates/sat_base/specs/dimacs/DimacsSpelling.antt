@@ -4,7 +4,7 @@ use Rattle.std.specs.List.{AllByRecursion}
 use Rattle.sat_base.specs.values.Literals.{largest, variable, is_positive}
 use Rattle.sat_base.specs.text.Text.{Token, Number, Header, tokens}
 use Rattle.sat_base.specs.dimacs.Dimacs.{Ending, Clean, IsDimacs}
-use Rattle.sat_base.specs.script.Script.{spoken}
+use Rattle.sat_base.specs.script.Language.{spoken}
 use Rattle.sat_base.specs.script.ScriptSpelling.{IsZero}
 
 -- the number of a literal's variable, from 1, negative if the literal is

@@ -1,6 +1,7 @@
 -- Texts, and what they mean.
 use Rattle.std.specs.Prelude.{ℕ, [], ◌∷◌, true, false, codes}
-use Rattle.sat_base.specs.script.Script.{Literal, Clause, Ask, Clean, Malformed, IsScript}
+use Rattle.sat_base.specs.script.Script.{Literal, Clause, Ask, Hide, Witness, Sample, Clean, Malformed}
+use Rattle.sat_base.specs.script.Language.{IsScript}
 
 abbrev pub plus : ℕ → Literal
 plus name = record { name = name; positive = true }
@@ -26,6 +27,15 @@ pub record ReadRows : Type 0 where
   pub percent : IsScript (codes "0\n%\n0\n") (Clause [] ∷ []) Clean
   pub percent_and_more : IsScript (codes "0\n \t%x 1\n+1 a") (Clause [] ∷ []) Clean
   pub percent_alone : IsScript (codes "%") [] Clean
+  pub ask_under_literals : IsScript (codes "-1 -2 0\na 1 2 0\n") (Clause (minus 1 ∷ minus 2 ∷ []) ∷ Ask (plus 1 ∷ plus 2 ∷ []) ∷ []) Clean
+  pub both_signs : IsScript (codes "a 1 -1 0") (Ask (plus 1 ∷ minus 1 ∷ []) ∷ []) Clean
+  pub hidden : IsScript (codes "1 0\nh 1 0\n-1 0\na 0\n") (Clause (plus 1 ∷ []) ∷ Hide (1 ∷ []) ∷ Clause (minus 1 ∷ []) ∷ Ask [] ∷ []) Clean
+  pub modes : IsScript (codes "w 1 2 0 s 2 0") (Witness (1 ∷ 2 ∷ []) ∷ Sample (2 ∷ []) ∷ []) Clean
+  pub no_names : IsScript (codes "h 0 w 0 s 0") (Hide [] ∷ Witness [] ∷ Sample [] ∷ []) Clean
+  pub over_lines : IsScript (codes "a\nc x\n 1\n0") (Ask (plus 1 ∷ []) ∷ []) Clean
+  pub ask_past_the_limit : IsScript (codes "p cnf 1 0\na 268435457 0") (Ask (plus 268435457 ∷ []) ∷ []) Clean
+  pub hidden_past_the_limit : IsScript (codes "h 99999999999999999999 0") (Hide (99999999999999999999 ∷ []) ∷ []) Clean
+  pub header_asks : IsScript (codes "p cnf 2 1\nw 1 0\n%\n0\n") (Witness (1 ∷ []) ∷ Ask [] ∷ []) Clean
 
 pub record MalformedRows : Type 0 where
   pub comment_behind_word : IsScript (codes "c x\n1 c\n") [] Malformed
@@ -38,7 +48,6 @@ pub record MalformedRows : Type 0 where
   pub other_letter : IsScript (codes "b 0") [] Malformed
   pub vertical_tab : IsScript (49 ∷ 11 ∷ 48 ∷ []) [] Malformed
   pub form_feed : IsScript (49 ∷ 32 ∷ 48 ∷ 12 ∷ []) [] Malformed
-  pub ask_with_literals : IsScript (codes "a 1 0") [] Malformed
   pub two_letters : IsScript (codes "aa 0") [] Malformed
   pub one_number : IsScript (codes "p cnf 1\n") [] Malformed
   pub three_numbers : IsScript (codes "p cnf 1 1 1\n") [] Malformed
@@ -58,3 +67,10 @@ pub record MalformedRows : Type 0 where
   pub percent_behind_a : IsScript (codes "a\n%\n") [] Malformed
   pub cut_in_clause : IsScript (codes "1 2") [] Malformed
   pub cut_behind_a : IsScript (codes "0 a") (Clause [] ∷ []) Malformed
+  pub letter_in_ask : IsScript (codes "0 a h 0") (Clause [] ∷ []) Malformed
+  pub negative_name : IsScript (codes "1 0\nh -1 0") (Clause (plus 1 ∷ []) ∷ []) Malformed
+  pub negative_witness : IsScript (codes "w -1 0") [] Malformed
+  pub negative_sample : IsScript (codes "s 1 -2 0") [] Malformed
+  pub large_letter : IsScript (codes "A 0") [] Malformed
+  pub minus_zero_ends_ask : IsScript (codes "a -0") [] Malformed
+  pub cut_behind_names : IsScript (codes "p cnf 1 1\nw 1") [] Malformed

@@ -1,16 +1,17 @@
--- How the commands of a script are spelled, which says again when a text reads cleanly.
-use Rattle.std.specs.Prelude.{◌≡◌, ℕ, ◌<◌, ◌↔◌, ◌⊎◌, List, [], ◌∷◌, ◌++◌, map, not, if◌then◌else◌}
+-- How the commands of a script are spelled, which says again what a text reads as.
+use Rattle.std.specs.Prelude.{◌≡◌, ℕ, ◌<◌, ◌↔◌, ◌⊎◌, true, List, [], ◌∷◌, ◌++◌, map, not, if◌then◌else◌}
 use Rattle.std.specs.List.{AllByRecursion}
 use Rattle.sat_base.specs.text.Text.{Token, Number, Letter, Header, Wrong, tokens}
-use Rattle.sat_base.specs.script.Script.{Literal, Command, Clause, Ask, Hide, Witness, Sample, Ending, Clean, has_ask, IsScript, spoken}
+use Rattle.sat_base.specs.script.Script.{Literal, Command, Ask, Ending, Clean, Malformed, has_ask}
+use Rattle.sat_base.specs.script.Language.{Kind, OfClause, OfAsk, OfHide, OfWitness, OfSample, command_of, may_stand, spoken, IsScript}
 
 -- the number of a literal, negative if the literal is
 abbrev pub number_of : Literal → Token
 number_of l = Number (not l.positive) l.name
 
--- names count from 1
-abbrev pub AreNamed : List Literal → Type 0
-AreNamed ls = AllByRecursion (λ l. 0 < l.name) ls
+-- names count from 1, and those of names that are hidden or get a mode have no sign
+abbrev pub AreNamed : Kind → List Literal → Type 0
+AreNamed kind ls = AllByRecursion (λ l. (0 < l.name) × (may_stand kind l.positive ≡ true)) ls
 
 -- a zero ends a clause or command (no text has the token of a negative one)
 abbrev pub IsZero : Token → Type 0
@@ -19,14 +20,23 @@ IsZero (Letter b) = ⊥
 IsZero (Header v c) = ⊥
 IsZero Wrong = ⊥
 
--- a clause is its literals and a zero, and an ask is `a` and a zero
-abbrev pub SpellsCommand : Command → List Token → Type 0
-SpellsCommand (Clause ls) ts = (last : Token) × IsZero last × AreNamed ls × (ts ≡ map number_of ls ++ last ∷ [])
-SpellsCommand (Ask []) ts = (last : Token) × IsZero last × (ts ≡ Letter 97 ∷ last ∷ [])
-SpellsCommand (Ask (l ∷ ls)) ts = ⊥
-SpellsCommand (Hide names) ts = ⊥
-SpellsCommand (Witness names) ts = ⊥
-SpellsCommand (Sample names) ts = ⊥
+-- what a command begins with
+abbrev pub letter_of : Kind → List Token
+letter_of OfClause = []
+letter_of OfAsk = Letter 97 ∷ []
+letter_of OfHide = Letter 104 ∷ []
+letter_of OfWitness = Letter 119 ∷ []
+letter_of OfSample = Letter 115 ∷ []
+
+-- a command is its letter, its literals or names, and a zero
+pub record SpellsCommand (c : Command) (ts : List Token) : Type 0 where
+  pub kind : Kind
+  pub literals : List Literal
+  pub last : Token
+  pub is_last : IsZero last
+  pub named : AreNamed kind literals
+  pub is : c ≡ command_of kind literals
+  pub whole : ts ≡ letter_of kind ++ (map number_of literals ++ last ∷ [])
 
 -- commands are spelled one after another
 abbrev pub SpellsCommands : List Command → List Token → Type 0
@@ -34,15 +44,26 @@ SpellsCommands [] ts = ts ≡ []
 SpellsCommands (c ∷ cs) ts = (front : List Token) × (rest : List Token) × SpellsCommand c front × SpellsCommands cs rest
     × (ts ≡ front ++ rest)
 
--- one ask more, under no literals, where there is none
-abbrev pub asked : List Command → List Command
-asked cs = if has_ask cs then cs else cs ++ Ask [] ∷ []
+-- something stands there, and no command
+pub record BeginsNone (ts : List Token) : Type 0 where
+  pub some : ts ≡ [] → ⊥
+  pub none : (c : Command) (front rest : List Token) → SpellsCommand c front → ts ≡ front ++ rest → ⊥
 
--- A script is commands. A header may stand before them, and is asked then where they don't ask.
-abbrev pub SpellsScript : List Command → List Token → Type 0
-SpellsScript cs ts = SpellsCommands cs ts
+-- commands, and then the end or what is no command
+abbrev pub SpellsTo : List Command → Ending → List Token → Type 0
+SpellsTo cs Clean ts = SpellsCommands cs ts
+SpellsTo cs Malformed ts = (front : List Token) × (rest : List Token) × SpellsCommands cs front × BeginsNone rest × (ts ≡ front ++ rest)
+
+-- one ask more, under no literals, where the end is clean and there is none
+abbrev pub asked : List Command → Ending → List Command
+asked cs Clean = if has_ask cs then cs else cs ++ Ask [] ∷ []
+asked cs Malformed = cs
+
+-- A script is commands and an end. A header may stand before them, and is asked then where they don't ask.
+abbrev pub SpellsScript : List Command → Ending → List Token → Type 0
+SpellsScript cs end ts = (((vars : ℕ) (clauses : ℕ) (rest : List Token) → ts ≡ Header vars clauses ∷ rest → ⊥) × SpellsTo cs end ts)
     ⊎ ((vars : ℕ) × (clauses : ℕ) × (rest : List Token) × (spelled : List Command)
-    × (ts ≡ Header vars clauses ∷ rest) × SpellsCommands spelled rest × (cs ≡ asked spelled))
+    × (ts ≡ Header vars clauses ∷ rest) × SpellsTo spelled end rest × (cs ≡ asked spelled end))
 
 -- each text has one list of commands, and one end
 pub record OneReading : Type 0 where
@@ -50,6 +71,6 @@ pub record OneReading : Type 0 where
   pub one : (text : List ℕ) (cs ds : List Command) (d e : Ending)
       → IsScript text cs d → IsScript text ds e → (cs ≡ ds) × (d ≡ e)
 
--- a text reads cleanly as these commands exactly if its tokens spell a script of them
-abbrev pub CleanIfSpelled : Type 0
-CleanIfSpelled = (text : List ℕ) (cs : List Command) → IsScript text cs Clean ↔ SpellsScript cs (spoken (tokens text))
+-- a text reads as these commands and this end exactly if its tokens spell them
+abbrev pub ReadIfSpelled : Type 0
+ReadIfSpelled = (text : List ℕ) (cs : List Command) (end : Ending) → IsScript text cs end ↔ SpellsScript cs end (spoken (tokens text))

@@ -9,7 +9,7 @@ use Rattle.certify.specs.declared.judge.NameState.TheVariants as state
 use Rattle.certify.specs.declared.judge.names.Names.{Names}
 use Rattle.certify.specs.answers.AnswerForms.{named_literals}
 use Rattle.certify.specs.reading.Commands.{BeginsPast, IsFront}
-use Rattle.certify.specs.reading.Language.{Kind, OfClause, OfAsk, OfHide, OfWitness, OfSample, command_of}
+use Rattle.sat_base.specs.script.Language.{Kind, OfClause, OfAsk, OfHide, OfWitness, OfSample, command_of}
 use Rattle.certify.specs.judge.Names.{state_in, Stands, taken}
 use Rattle.certify.proofs.lemmas.confirm.NamesFrom.{from_more, with_names_append}
 use Rattle.certify.proofs.lemmas.judge.States.{past_states, pushed_at, named, new_past}

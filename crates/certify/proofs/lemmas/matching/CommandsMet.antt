@@ -17,7 +17,7 @@ use Rattle.certify.specs.judge.Names.{Stands}
 use Rattle.certify.specs.matching.Awaiting.{IsMet, MeetsDue}
 use Rattle.certify.specs.matching.Confirming.{Table, HoldsAt, ToConfirm, Confirmed, ConfirmsNext, ConfirmsLast, IsNamed, MeetsOutcome}
 use Rattle.certify.specs.matching.Naming.{MeetsAll, GoesOnTo, naming_all, taken_by}
-use Rattle.certify.specs.reading.Language.{Kind, OfClause, OfAsk, OfHide, OfWitness, OfSample, command_of}
+use Rattle.sat_base.specs.script.Language.{Kind, OfClause, OfAsk, OfHide, OfWitness, OfSample, command_of}
 use Rattle.certify.specs.declared.judge.names.Names.{Names}
 use Rattle.certify.specs.declared.matching.named.NamedVars.{NamedVars}
 use Rattle.certify.specs.declared.verdict.Why.{Why}

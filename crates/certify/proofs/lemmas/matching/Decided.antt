@@ -19,7 +19,7 @@ use Rattle.certify.specs.matching.Confirming.{ConfirmsLast, HoldsAt, Table}
 use Rattle.certify.specs.matching.Halting.{Any}
 use Rattle.certify.specs.matching.Whole.{Ends, Standing, said_by}
 use Rattle.certify.specs.reading.Ahead.{Failed, Kept, Took, waiting}
-use Rattle.certify.specs.reading.Language.{reading}
+use Rattle.sat_base.specs.script.Language.{reading}
 use Rattle.certify.specs.declared.ahead.Ahead.{Ahead}
 use Rattle.certify.specs.declared.confirm.stop.Stop.{Stop}
 use Rattle.certify.specs.declared.confirm.stop.Stop.TheVariants as stop

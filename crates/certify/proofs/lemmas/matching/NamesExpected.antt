@@ -5,7 +5,7 @@ use Rattle.sat_base.specs.script.Judge.{Judge, Sampled, Witnessed, bring_in, bri
 use Rattle.sat_checker.specs.matching.Expected.{Expected, NewName, NoName, bringing, hiding, setting}
 use Rattle.certify.specs.matching.Naming.{naming_all, taken_by, NamesAreExpected}
 use Rattle.certify.specs.judge.Names.{taken}
-use Rattle.certify.specs.reading.Language.{OfClause, OfAsk, OfHide, OfWitness, OfSample}
+use Rattle.sat_base.specs.script.Language.{OfClause, OfAsk, OfHide, OfWitness, OfSample}
 
 -- a name that only comes in
 comes : (new : List ℕ) (more others : List Expected) → more ≡ others → (map NewName new ++ []) ++ more ≡ map NewName new ++ others

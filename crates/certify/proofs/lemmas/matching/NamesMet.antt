@@ -10,7 +10,7 @@ use Rattle.certify.specs.answers.AnswerForms.{named_literal, named_literals}
 use Rattle.certify.specs.confirm.Streams.{Stream, seen_in, Confirms}
 use Rattle.certify.specs.judge.Names.{Stands, Changes, taken}
 use Rattle.certify.specs.matching.Naming.{MeetsAll, MeetsName, MeetsNames, naming, naming_all, taken_by}
-use Rattle.certify.specs.reading.Language.{Kind}
+use Rattle.sat_base.specs.script.Language.{Kind}
 use Rattle.certify.specs.declared.confirm.stop.Stop.{Stop}
 use Rattle.certify.specs.declared.judge.names.Names.{Names}
 use Rattle.certify.specs.declared.matching.named.NamedVars.{NamedVars}

@@ -12,7 +12,7 @@ use Rattle.certify.specs.judge.Names.{Stands}
 use Rattle.certify.specs.matching.Awaiting.{MeetsDue}
 use Rattle.certify.specs.matching.Comparing.{Allows, Due}
 use Rattle.certify.specs.matching.Naming.{MeetsAll, MeetsName, hidden_by}
-use Rattle.certify.specs.reading.Language.{Kind}
+use Rattle.sat_base.specs.script.Language.{Kind}
 use Rattle.certify.specs.declared.confirm.stop.Stop.{Stop}
 use Rattle.certify.specs.declared.confirm.stop.Stop.TheVariants as stop
 use Rattle.certify.specs.declared.judge.names.Names.{Names}

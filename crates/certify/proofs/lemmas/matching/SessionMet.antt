@@ -2,7 +2,7 @@
 use Rattle.std.proofs.Common.{ℕ, ◌+◌, ◌≡◌, Bool, true, false, List, [], ◌∷◌, ◌++◌, Some, None, Result, Ok, Err, OnOk, refl, sym, ◌∙◌, ap, subst}
 use Rattle.std.proofs.lemmas.List.{append-nil}
 use Rattle.sat_base.specs.device.Reading.{Source, AtEnd}
-use Rattle.sat_base.specs.script.Script.{Literal, Command, Ask, Clean, Malformed, Reading, names_of}
+use Rattle.sat_base.specs.script.Script.{Literal, Command, Ask, Clean, Malformed, names_of}
 use Rattle.sat_base.specs.script.Judge.{Judge, after_command, refusal_of}
 use Rattle.sat_base.specs.steps.Steps.{Step}
 use Rattle.sat_checker.specs.Accepts.{ready_after}
@@ -21,7 +21,7 @@ use Rattle.certify.specs.matching.Halting.{Joins, Replies, SaysSo}
 use Rattle.certify.specs.matching.Lines.{IsReply}
 use Rattle.certify.specs.matching.Naming.{MeetsAll, MeetsNames, taken_by}
 use Rattle.certify.specs.reading.Commands.{BeginsPast, IsLent, kind_of}
-use Rattle.certify.specs.reading.Language.{Kind, OfClause, OfAsk, OfHide, OfWitness, OfSample, command_of}
+use Rattle.sat_base.specs.script.Language.{Reading, Kind, OfClause, OfAsk, OfHide, OfWitness, OfSample, command_of}
 use Rattle.certify.specs.declared.confirm.stop.Stop.{Stop}
 use Rattle.certify.specs.declared.judge.Refusal.{Refusal as CodeRefusal}
 use Rattle.certify.specs.declared.judge.names.Names.{Names}

@@ -1,7 +1,8 @@
 -- How a script is confirmed that is read as its commands are wanted.
 use Rattle.std.proofs.Common.{ℕ, ◌+◌, ◌-◌, ◌^◌, ◌<◌, ◌≤◌, ◌≡◌, Bool, true, false, List, [], ◌∷◌, ◌++◌, length, Result, Ok, Err, refl, sym, ◌∙◌, ap, subst, arith}
 use Rattle.sat_base.specs.device.Reading.{Source, AtEnd, PassesBut, Passes, PassesToEnd}
-use Rattle.sat_base.specs.script.Script.{Command, Ending, Reading, onto_commands}
+use Rattle.sat_base.specs.script.Script.{Command, Ending}
+use Rattle.sat_base.specs.script.Language.{Reading, onto_commands}
 use Rattle.sat_base.specs.script.Judge.{Judge, after_command}
 use Rattle.sat_base.specs.steps.Steps.{Step}
 use Rattle.certify.specs.confirm.Streams.{Stream, Confirms, Covers, rest_in, seen_in}

@@ -9,7 +9,7 @@ use Rattle.sat_checker.specs.matching.ProofChecking.{the_checking}
 use Rattle.certify.specs.confirm.Matches.{Matches}
 use Rattle.certify.specs.confirm.VerdictPromises.{Exact, Given}
 use Rattle.certify.specs.program.Printing.{IsAnswered, Prints, PrintsVerdict, SaysExactly, is_malformed}
-use Rattle.certify.specs.reading.Language.{reading}
+use Rattle.sat_base.specs.script.Language.{reading}
 use Rattle.certify.specs.run.StepsLeft.{largest_count}
 use Rattle.certify.specs.run.FinishedRun.{Answered, Answers, Backs, TookCertificate, asked_steps, malformed_at}
 use Rattle.certify.specs.declared.summary.Summary.{Summary}

@@ -8,9 +8,9 @@ use Rattle.sat_base.specs.declared.text.Tokenizer.{Tokenizer}
 use Rattle.sat_base.specs.text.Text.{Token, Number, Letter, Header, Wrong, Scan, scan, tokens, header_first, header_from, header_of}
 use Rattle.sat_base.specs.text.Tokenizing.{TakesFront, Stands, GivesLast, held_token}
 use Rattle.sat_base.specs.text.Chunks.{Follows}
-use Rattle.sat_base.specs.script.Script.{Command, Malformed, Reading, onto_commands, spoken}
+use Rattle.sat_base.specs.script.Script.{Command, Malformed}
 use Rattle.sat_base.proofs.lemmas.text.HeaderFirst.{IsWord, AreWords, AreScript, text_is}
-use Rattle.certify.specs.reading.Language.{Hand, Nothing, commands_of, with_ask, written, reading}
+use Rattle.sat_base.specs.script.Language.{Reading, onto_commands, spoken, Hand, Nothing, commands_of, with_ask, written, reading}
 use Rattle.certify.specs.reading.Commands.{Holds, any_header, meaning, TakesToken, Means, MeansIf, HasWhole, TakesBytes, EndsSo, EndsLast, HasRead}
 use Rattle.certify.specs.declared.reading.Reached.{Reached}
 use Rattle.certify.specs.declared.reading.Reached.TheVariants as reached

@@ -6,7 +6,7 @@ use Rattle.std.proofs.lemmas.Bool.Decides.{nat_tests}
 use Rattle.sat_base.specs.values.Literals.{largest, coded, variable, is_positive}
 use Rattle.sat_base.specs.script.Script.{Literal}
 use Rattle.certify.specs.answers.AnswerForms.{named_literal, named_literals}
-use Rattle.certify.specs.reading.Language.{Kind, Within}
+use Rattle.sat_base.specs.script.Language.{Kind, Within}
 use Rattle.certify.specs.reading.Commands.{BeginsPast, IsFront, Holds}
 use Rattle.certify.specs.declared.reading.draft.Draft.{Draft}
 

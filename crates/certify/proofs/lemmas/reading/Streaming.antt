@@ -3,7 +3,8 @@ use Rattle.std.proofs.Common.{◌≡◌, ℕ, ◌+◌, ◌-◌, ◌*◌, ◌<◌
 use Rattle.std.proofs.lemmas.List.{length-take, length-take-le, take-append-drop}
 use Rattle.sat_base.specs.device.Device.{Reader, most_reads}
 use Rattle.sat_base.specs.device.Reading.{Source, AtEnd, PassesBut, Passes, PassesToEnd, AllTaken, none_given}
-use Rattle.sat_base.specs.script.Script.{Reading, Malformed}
+use Rattle.sat_base.specs.script.Script.{Malformed}
+use Rattle.sat_base.specs.script.Language.{Reading}
 use Rattle.sat_base.specs.text.Chunks.{Follows}
 use Rattle.sat_base.specs.declared.device.whole.ReadError.{ReadError}
 use Rattle.sat_base.specs.declared.device.whole.ReadError.TheVariants as errors

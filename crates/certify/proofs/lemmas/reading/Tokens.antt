@@ -5,21 +5,14 @@ use Rattle.std.proofs.lemmas.Bool.Decides.{nat_tests}
 use Rattle.sat_base.specs.declared.text.Token.TheVariants as code
 use Rattle.sat_base.specs.text.Text.{Token, Number, Letter, Header, Wrong}
 use Rattle.sat_base.specs.text.Tokenizing.{held, held_token}
-use Rattle.sat_base.specs.script.Script.{Literal, Command, Clause, Ask, Hide, Witness, Sample, Ending, Clean, Malformed, Reading, onto_commands, has_ask, is_clean}
-use Rattle.certify.specs.reading.Language.{Kind, OfClause, OfAsk, OfHide, OfWitness, OfSample, command_of, Hand, Nothing, Within, Turn, GoesOn, Ends, Fails, command_in, may_stand, with_literal, kind_of_letter, beginning, with_letter, turn, at_end, behind_turn, commands_of, with_ask}
+use Rattle.sat_base.specs.script.Script.{Literal, Command, Clause, Ask, Hide, Witness, Sample, Ending, Clean, Malformed, has_ask, is_clean}
+use Rattle.sat_base.specs.script.Language.{Reading, onto_commands, Kind, OfClause, OfAsk, OfHide, OfWitness, OfSample, command_of, Hand, Nothing, Within, Turn, GoesOn, Ends, Fails, command_in, may_stand, with_literal, kind_of_letter, beginning, with_letter, turn, at_end, behind_turn, commands_of, with_ask}
+use Rattle.sat_base.proofs.lemmas.script.ScriptSpellings.{commands_of_nil, commands_of_cons}
 use Rattle.certify.specs.reading.Commands.{kind_of, is_ask_kind, IsWhole, Holds, opened, is_header, any_header, meaning, TakesToken, end_if}
 use Rattle.certify.specs.declared.reading.Reached.TheVariants as reached
 use Rattle.certify.specs.declared.reading.ScriptEnd.TheVariants as ends
 use Rattle.certify.specs.declared.reading.draft.Draft.{Draft}
 use Rattle.certify.specs.declared.reading.commands.Commands.{Commands}
-
-pub commands_of_cons : (h : Hand) (t : Token) (ts : List Token) → commands_of h (t ∷ ts) ≡ behind_turn (turn h t) (λ k. commands_of k ts)
-unfolding commands_of
-commands_of_cons h t ts = refl
-
-pub commands_of_nil : (h : Hand) → commands_of h [] ≡ ([], at_end h)
-unfolding commands_of
-commands_of_nil h = refl
 
 -- ASKS AND HEADERS
 abbrev is_ask : Command → Bool

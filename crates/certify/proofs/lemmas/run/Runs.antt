@@ -30,7 +30,7 @@ use Rattle.certify.specs.declared.summary.AskReport.{AskReport}
 use Rattle.certify.specs.declared.summary.Summary.{Summary}
 use Rattle.certify.specs.declared.ahead.Ahead.{Ahead}
 use Rattle.certify.specs.reading.Ahead.{source_in, waiting}
-use Rattle.certify.specs.reading.Language.{reading, written}
+use Rattle.sat_base.specs.script.Language.{reading, written}
 use Rattle.certify.specs.run.FinishedRun.{Answered, Answers, Backs, TookCertificate, WriteFails, asked_steps, identities_given, malformed_at, AreSpent}
 use Rattle.certify.specs.run.Running.{ReadsFew, Runs, Wrote}
 use Rattle.certify.specs.serving.Calls.{Faults, IsReady, proof_in}

@@ -17,7 +17,7 @@ use Rattle.certify.specs.declared.reading.CommandKind.TheVariants as kind
 use Rattle.certify.specs.declared.serving.session.Session.{Session}
 use Rattle.certify.specs.judge.Names.{Judges}
 use Rattle.certify.specs.reading.Commands.{BeginsPast, IsLent, kind_of}
-use Rattle.certify.specs.reading.Language.{command_of}
+use Rattle.sat_base.specs.script.Language.{command_of}
 use Rattle.certify.specs.serving.Calls.{FailsSolver, IsAllowed}
 use Rattle.certify.specs.serving.Obeying.{Obeyed, command_to}
 use Rattle.certify.specs.serving.Standing.{Allows, CarriedOut, GoesOn, WritesBoth, spelled_by}

@@ -5,7 +5,8 @@ use Rattle.sat_base.specs.declared.device.whole.ReadError.{ReadError}
 use Rattle.sat_base.specs.declared.device.whole.ReadError.TheVariants as errors
 use Rattle.sat_base.specs.device.Device.{Writer, Takes}
 use Rattle.sat_base.specs.device.Reading.{Source, AtEnd}
-use Rattle.sat_base.specs.script.Script.{Command, Ask, Ending, Clean, Malformed, Reading, onto_commands}
+use Rattle.sat_base.specs.script.Script.{Command, Ask, Ending, Clean, Malformed}
+use Rattle.sat_base.specs.script.Language.{Reading, onto_commands}
 use Rattle.sat_base.specs.script.Judge.{Judge, accepted, accepted_of, after_command}
 use Rattle.sat_base.specs.steps.Steps.{Step}
 use Rattle.sat_base.proofs.lemmas.device.Writes as writes

@@ -2,7 +2,7 @@ use Rattle.std.proofs.Common.{subst}
 use Rattle.sat_base.specs.device.Reading.{Source}
 use Rattle.sat_base.specs.script.Judge.{start}
 use Rattle.certify.specs.reading.Ahead.{source_in}
-use Rattle.certify.specs.reading.Language.{reading, written}
+use Rattle.sat_base.specs.script.Language.{reading, written}
 use Rattle.certify.specs.serving.Whole.{Ends}
 use Rattle.certify.proofs.lemmas.run.Runs.{IsNew, fresh_source, has_target, is_open_yet, is_ready, reads_few, runs_so}
 use Rattle.certify.proofs.run.answer.Goals as goal

@@ -5,7 +5,7 @@ use Rattle.std.proofs.lemmas.List.{append-nil}
 use Rattle.std.proofs.lemmas.Bool.Decides.{nat_tests}
 use Rattle.sat_base.specs.values.Literals.{variable, is_positive, coded, largest}
 use Rattle.sat_base.specs.text.Text.{Token, Number, Letter, Header, Wrong, tokens, scan}
-use Rattle.sat_base.specs.script.Script.{spoken}
+use Rattle.sat_base.specs.script.Language.{spoken}
 use Rattle.sat_base.specs.dimacs.Dimacs.{Ending, Clean, Malformed, Limit, Dimacs, Hand, Turn, GoesOn, Ends, literals_in, with_number, turn, at_end, behind_turn, clauses_of, dimacs}
 use Rattle.sat_base.specs.script.ScriptSpelling.{IsZero}
 use Rattle.sat_base.specs.dimacs.DimacsSpelling.{number_of, AreWithin, SpellsClauses, SpellsFormula, OneFormula, CleanIfSpelled}

@@ -22,7 +22,7 @@ use Rattle.sat_base.specs.dimacs.Collecting.{token_of, hand_in, header_behind, i
 use Rattle.sat_base.specs.dimacs.Parsing.{Progress, NoFault, GoesWell, EndsWell, Faults, Feeds, Finishes, with_fed, cut_short, at_its_end, clauses_read, lines_read, whole_lines, held_numbers, last_byte}
 use Rattle.sat_base.specs.dimacs.ParserPlaces.{progress_of, all_in, onto_clauses, Turned, Goes, IsParser, EndsClean}
 use Rattle.sat_base.proofs.lemmas.values.FlatLemmas.{vars_of_more}
-use Rattle.sat_base.specs.script.Script.{spoken}
+use Rattle.sat_base.specs.script.Language.{spoken}
 use Rattle.sat_base.proofs.lemmas.text.HeaderFirst.{AreWords, AreScript, text_is}
 use Rattle.sat_base.proofs.lemmas.text.PlainTokens.{no_header, first_token, plain_given, alone_given, quiet_given}
 use Rattle.sat_base.proofs.lemmas.dimacs.Collected.{settled_blank, settled_inside, whole_LF, whole_inside, turn-held, clauses_of_nil, turned_first, turned_goes, turned_ends, fails_there, scans_next, dimacs_is, settled_clauses}

@@ -1,7 +1,7 @@
 -- The worked rows, computed.
 use Rattle.std.proofs.Common.{refl}
 use Rattle.sat_base.specs.text.Text.{lines, words, begins_with, tokens_of, digits, token, scan}
-use Rattle.sat_base.specs.script.Script.{commands_of, written, reading}
+use Rattle.sat_base.specs.script.Language.{commands_of, written, reading}
 use Rattle.sat_base.specs.script.ScriptRows.{ReadRows, MalformedRows}
 
 pub read_rows : ReadRows
@@ -24,6 +24,15 @@ read_rows = record {
   percent = refl;
   percent_and_more = refl;
   percent_alone = refl;
+  ask_under_literals = refl;
+  both_signs = refl;
+  hidden = refl;
+  modes = refl;
+  no_names = refl;
+  over_lines = refl;
+  ask_past_the_limit = refl;
+  hidden_past_the_limit = refl;
+  header_asks = refl;
 }
 
 pub malformed_rows : MalformedRows
@@ -39,7 +48,6 @@ malformed_rows = record {
   other_letter = refl;
   vertical_tab = refl;
   form_feed = refl;
-  ask_with_literals = refl;
   two_letters = refl;
   one_number = refl;
   three_numbers = refl;
@@ -59,4 +67,11 @@ malformed_rows = record {
   percent_behind_a = refl;
   cut_in_clause = refl;
   cut_behind_a = refl;
+  letter_in_ask = refl;
+  negative_name = refl;
+  negative_witness = refl;
+  negative_sample = refl;
+  large_letter = refl;
+  minus_zero_ends_ask = refl;
+  cut_behind_names = refl;
 }

@@ -1,15 +1,15 @@
--- A text reads cleanly exactly if its tokens spell the commands.
-use Rattle.std.proofs.Common.{◌≡◌, ℕ, ◌<◌, List, [], ◌∷◌, ◌++◌, Bool, true, false, map, refl, sym, ap, ◌∙◌, append_assoc, subst, arith}
-use Rattle.std.specs.Prelude.{nat_eq, not, ◌&&◌, ◌↔◌, is_some, if◌then◌else◌, drop}
-use Rattle.std.proofs.Common.{inl, inr}
+-- A text reads as commands and an end exactly if its tokens spell them.
+use Rattle.std.proofs.Common.{◌≡◌, ℕ, ◌<◌, List, [], ◌∷◌, ◌++◌, Bool, true, false, map, refl, sym, ap, ◌∙◌, append_assoc, subst, arith, inl, inr}
+use Rattle.std.specs.Prelude.{nat_eq, not, ◌↔◌, Option, Some, None, is_some, drop}
 use Rattle.std.proofs.lemmas.List.{append-nil}
 use Rattle.std.proofs.lemmas.Bool.Decides.{nat_tests}
 use Rattle.sat_base.specs.text.Text.{Token, Number, Letter, Header, Wrong, tokens, header_from, header_first, header_of}
-use Rattle.sat_base.specs.script.Script.{Literal, Command, Clause, Ask, Hide, Witness, Sample, Ending, Clean, Malformed, Hand, Nothing, InClause, InAsk, Turn, GoesOn, Ends, command_in, with_literal, with_letter, turn, Reading, onto_commands, at_end, behind_turn, commands_of, spoken, has_ask, is_clean, written, reading}
-use Rattle.sat_base.specs.script.ScriptSpelling.{number_of, AreNamed, IsZero, SpellsCommand, SpellsCommands, asked, SpellsScript, OneReading, CleanIfSpelled}
+use Rattle.sat_base.specs.script.Script.{Literal, Command, Clause, Ending, Clean, Malformed, has_ask}
+use Rattle.sat_base.specs.script.Language.{Reading, onto_commands, spoken, Kind, OfClause, OfAsk, OfHide, OfWitness, OfSample, command_of, Hand, Nothing, Within, Turn, GoesOn, Ends, command_in, may_stand, with_literal, kind_of_letter, beginning, with_letter, turn, at_end, behind_turn, commands_of, with_ask, written, reading}
+use Rattle.sat_base.specs.script.ScriptSpelling.{OneReading, number_of, AreNamed, IsZero, letter_of, SpellsCommand, SpellsCommands, BeginsNone, SpellsTo, asked, SpellsScript, ReadIfSpelled}
 use Rattle.sat_base.proofs.lemmas.text.HeaderFirst.{IsWord, AreWords, AreScript, text_is}
 
-commands_of_nil : (h : Hand) → commands_of h [] ≡ ([], at_end h)
+pub commands_of_nil : (h : Hand) → commands_of h [] ≡ ([], at_end h)
 unfolding commands_of
 commands_of_nil h = refl
 
@@ -17,18 +17,30 @@ pub commands_of_cons : (h : Hand) (t : Token) (ts : List Token) → commands_of 
 unfolding commands_of
 commands_of_cons h t ts = refl
 
--- a clause of these literals so far
-abbrev clause_of : List Literal → Hand
-clause_of [] = Nothing
-clause_of (l ∷ ls) = InClause (l ∷ ls)
+-- a command of these literals so far
+abbrev hand_of : Kind → List Literal → Hand
+hand_of OfClause [] = Nothing
+hand_of OfClause (l ∷ ls) = Within OfClause (l ∷ ls)
+hand_of OfAsk ls = Within OfAsk ls
+hand_of OfHide ls = Within OfHide ls
+hand_of OfWitness ls = Within OfWitness ls
+hand_of OfSample ls = Within OfSample ls
 
-clause_more : (done : List Literal) (l : Literal) → with_literal (clause_of done) l ≡ GoesOn (clause_of (done ++ l ∷ []))
-clause_more [] l = refl
-clause_more (d ∷ ds) l = refl
+hand_ends : (k : Kind) (done : List Literal) → command_in (hand_of k done) ≡ command_of k done
+hand_ends OfClause [] = refl
+hand_ends OfClause (d ∷ ds) = refl
+hand_ends OfAsk ds = refl
+hand_ends OfHide ds = refl
+hand_ends OfWitness ds = refl
+hand_ends OfSample ds = refl
 
-clause_ends : (done : List Literal) → command_in (clause_of done) ≡ Clause done
-clause_ends [] = refl
-clause_ends (d ∷ ds) = refl
+hand_more : (k : Kind) (done : List Literal) (l : Literal) → may_stand k l.positive ≡ true → with_literal (hand_of k done) l ≡ GoesOn (hand_of k (done ++ l ∷ []))
+hand_more OfClause [] l m = refl
+hand_more OfClause (d ∷ ds) l m = refl
+hand_more OfAsk ds l m = refl
+hand_more OfHide ds l m = rw m refl
+hand_more OfWitness ds l m = rw m refl
+hand_more OfSample ds l m = rw m refl
 
 same_literal : (l : Literal) → record { name = l.name; positive = not (not l.positive) } ≡ l
 same_literal l = elim l.positive as (λ (b : Bool). record { name = l.name; positive = not (not b) } ≡ record { name = l.name; positive = b }) [ true ↦ refl | false ↦ refl ]
@@ -46,153 +58,311 @@ turn_zero h Wrong z = absurd z
 reads_zero : (h : Hand) (t : Token) (ts : List Token) → IsZero t → commands_of h (t ∷ ts) ≡ onto_commands (command_in h ∷ []) (commands_of Nothing ts)
 reads_zero h t ts z = commands_of_cons h t ts ∙ ap (λ (k : Turn). behind_turn k (λ k. commands_of k ts)) (turn_zero h t z)
 
-reads_clause : (done ls : List Literal) (t : Token) (ts : List Token) → AreNamed ls → IsZero t
-    → commands_of (clause_of done) ((map number_of ls ++ t ∷ []) ++ ts) ≡ onto_commands (Clause (done ++ ls) ∷ []) (commands_of Nothing ts)
-reads_clause done [] t ts n z =
-    reads_zero (clause_of done) t ts z ∙ ap (λ (c : Command). onto_commands (c ∷ []) (commands_of Nothing ts)) (clause_ends done ∙ ap Clause (sym (append-nil done)))
-reads_clause done (l ∷ ls) t ts n z =
-    commands_of_cons (clause_of done) (number_of l) ((map number_of ls ++ t ∷ []) ++ ts)
-    ∙ ap (λ (k : Turn). behind_turn k (λ k. commands_of k ((map number_of ls ++ t ∷ []) ++ ts))) (turn_number (clause_of done) l n.0 ∙ clause_more done l)
-    ∙ reads_clause (done ++ l ∷ []) ls t ts n.1 z
-    ∙ ap (λ (ks : List Literal). onto_commands (Clause ks ∷ []) (commands_of Nothing ts)) (append_assoc done (l ∷ []) ls)
+reads_literals : (k : Kind) (done ls : List Literal) (t : Token) (ts : List Token) → AreNamed k ls → IsZero t
+    → commands_of (hand_of k done) ((map number_of ls ++ t ∷ []) ++ ts) ≡ onto_commands (command_of k (done ++ ls) ∷ []) (commands_of Nothing ts)
+reads_literals k done [] t ts n z =
+    reads_zero (hand_of k done) t ts z ∙ ap (λ (c : Command). onto_commands (c ∷ []) (commands_of Nothing ts)) (hand_ends k done ∙ ap (command_of k) (sym (append-nil done)))
+reads_literals k done (l ∷ ls) t ts n z =
+    commands_of_cons (hand_of k done) (number_of l) ((map number_of ls ++ t ∷ []) ++ ts)
+    ∙ ap (λ (j : Turn). behind_turn j (λ d. commands_of d ((map number_of ls ++ t ∷ []) ++ ts))) (turn_number (hand_of k done) l n.0.0 ∙ hand_more k done l n.0.1)
+    ∙ reads_literals k (done ++ l ∷ []) ls t ts n.1 z
+    ∙ ap (λ (ks : List Literal). onto_commands (command_of k ks ∷ []) (commands_of Nothing ts)) (append_assoc done (l ∷ []) ls)
+
+begins_hand : (k : Kind) (ts : List Token) → commands_of Nothing (letter_of k ++ ts) ≡ commands_of (hand_of k []) ts
+begins_hand OfClause ts = refl
+begins_hand OfAsk ts = commands_of_cons Nothing (Letter 97) ts
+begins_hand OfHide ts = commands_of_cons Nothing (Letter 104) ts
+begins_hand OfWitness ts = commands_of_cons Nothing (Letter 119) ts
+begins_hand OfSample ts = commands_of_cons Nothing (Letter 115) ts
 
 reads_command : (c : Command) (front ts : List Token) → SpellsCommand c front → commands_of Nothing (front ++ ts) ≡ onto_commands (c ∷ []) (commands_of Nothing ts)
-reads_command (Clause ls) front ts s = rw s.3 (reads_clause [] ls s.0 ts s.2 s.1)
-reads_command (Ask []) front ts s = rw s.2 (commands_of_cons Nothing (Letter 97) (s.0 ∷ ts) ∙ reads_zero (InAsk []) s.0 ts s.1)
-reads_command (Ask (l ∷ ls)) front ts s = absurd s
-reads_command (Hide names) front ts s = absurd s
-reads_command (Witness names) front ts s = absurd s
-reads_command (Sample names) front ts s = absurd s
+reads_command c front ts s =
+    ap (λ (us : List Token). commands_of Nothing (us ++ ts)) s.whole
+    ∙ ap (commands_of Nothing) (append_assoc (letter_of s.kind) (map number_of s.literals ++ s.last ∷ []) ts)
+    ∙ begins_hand s.kind ((map number_of s.literals ++ s.last ∷ []) ++ ts)
+    ∙ reads_literals s.kind [] s.literals s.last ts s.named s.is_last
+    ∙ ap (λ (d : Command). onto_commands (d ∷ []) (commands_of Nothing ts)) (sym s.is)
 
-reads_spelled : (cs : List Command) (ts : List Token) → SpellsCommands cs ts → commands_of Nothing ts ≡ (cs, Clean)
-reads_spelled [] ts s = rw s (commands_of_nil Nothing)
-reads_spelled (c ∷ cs) ts s =
-    ap (commands_of Nothing) s.4 ∙ reads_command c s.0 s.1 s.2 ∙ ap (onto_commands (c ∷ [])) (reads_spelled cs s.1 s.3)
+onto_more : (c : Command) (cs : List Command) (r : Reading) → onto_commands (c ∷ []) (onto_commands cs r) ≡ onto_commands (c ∷ cs) r
+onto_more c cs r = refl
+
+reads_spelled : (cs : List Command) (front ts : List Token) → SpellsCommands cs front → commands_of Nothing (front ++ ts) ≡ onto_commands cs (commands_of Nothing ts)
+reads_spelled [] front ts s = rw s refl
+reads_spelled (c ∷ cs) front ts s =
+    ap (λ (us : List Token). commands_of Nothing (us ++ ts)) s.4
+    ∙ ap (commands_of Nothing) (append_assoc s.0 s.1 ts)
+    ∙ reads_command c s.0 (s.1 ++ ts) s.2
+    ∙ ap (onto_commands (c ∷ [])) (reads_spelled cs s.1 ts s.3)
 
 -- READ, AND SO SPELLED
--- what is still to come, behind what is in hand
-pub record SpellsClause (done : List Literal) (cs : List Command) (ts : List Token) : Type 0 where
+-- the first command, behind what is in hand
+pub record Firstly (k : Kind) (done : List Literal) (c : Command) (cs : List Command) (end : Ending) (ts : List Token) : Type 0 where
   pub literals : List Literal
   pub last : Token
   pub later : List Token
-  pub commands : List Command
   pub is_last : IsZero last
-  pub named : AreNamed literals
-  pub first : cs ≡ Clause (done ++ literals) ∷ commands
+  pub named : AreNamed k literals
+  pub is : c ≡ command_of k (done ++ literals)
   pub whole : ts ≡ (map number_of literals ++ last ∷ []) ++ later
-  pub rest : SpellsCommands commands later
+  pub left : commands_of Nothing later ≡ (cs, end)
 
-pub record SpellsAsk (done : List Literal) (cs : List Command) (ts : List Token) : Type 0 where
-  pub last : Token
+pub record First (c : Command) (cs : List Command) (end : Ending) (ts : List Token) : Type 0 where
+  pub front : List Token
   pub later : List Token
-  pub commands : List Command
-  pub is_last : IsZero last
-  pub first : cs ≡ Ask done ∷ commands
-  pub whole : ts ≡ last ∷ later
-  pub rest : SpellsCommands commands later
+  pub spelled : SpellsCommand c front
+  pub whole : ts ≡ front ++ later
+  pub left : commands_of Nothing later ≡ (cs, end)
 
-abbrev SpellsFrom : Hand → List Command → List Token → Type 0
-SpellsFrom Nothing cs ts = SpellsCommands cs ts
-SpellsFrom (InClause done) cs ts = SpellsClause done cs ts
-SpellsFrom (InAsk done) cs ts = SpellsAsk done cs ts
+abbrev From : Hand → Command → List Command → Ending → List Token → Type 0
+From Nothing c cs end ts = First c cs end ts
+From (Within k done) c cs end ts = Firstly k done c cs end ts
 
-abbrev AllSpelled : List Token → Type 0
-AllSpelled ts = (h : Hand) (cs : List Command) → commands_of h ts ≡ (cs, Clean) → SpellsFrom h cs ts
+abbrev AllFirst : List Token → Type 0
+AllFirst ts = (h : Hand) (c : Command) (cs : List Command) (end : Ending) → commands_of h ts ≡ (c ∷ cs, end) → From h c cs end ts
 
-malformed : {A : Type 0} (cs : List Command) → ◌≡◌ {A = Reading} ([], Malformed) (cs, Clean) → A
-malformed cs e = let f : Malformed ≡ Clean = ap (λ (r : Reading). r.1) e in absurd (cc)
+none_read : {A : Type 0} (d end : Ending) (c : Command) (cs : List Command) → ◌≡◌ {A = Reading} ([], d) (c ∷ cs, end) → A
+none_read d end c cs e = let f : [] ≡ c ∷ cs = ap (λ (r : Reading). r.0) e in absurd (cc)
 
-none_left : (h : Hand) (cs : List Command) → ◌≡◌ {A = Reading} ([], at_end h) (cs, Clean) → SpellsFrom h cs []
-none_left Nothing cs e = subst (λ (c : List Command). SpellsCommands c []) (ap (λ (r : Reading). r.0) e) refl
-none_left (InClause done) cs e = malformed cs e
-none_left (InAsk done) cs e = malformed cs e
+head_of : List Command → Command
+head_of [] = Clause []
+head_of (c ∷ cs) = c
+
+tail_of : List Command → List Command
+tail_of [] = []
+tail_of (c ∷ cs) = cs
+
+same_head : (b c : Command) (bs cs : List Command) → ◌≡◌ {A = List Command} (b ∷ bs) (c ∷ cs) → b ≡ c
+same_head b c bs cs e = cc
+
+same_tail : (b c : Command) (bs cs : List Command) → ◌≡◌ {A = List Command} (b ∷ bs) (c ∷ cs) → bs ≡ cs
+same_tail b c bs cs e = cc
 
 -- behind a zero
-zero_left : (h : Hand) (t : Token) (ts : List Token) (cs : List Command) → IsZero t → SpellsCommands cs ts → SpellsFrom h (command_in h ∷ cs) (t ∷ ts)
-zero_left Nothing t ts cs z s = (t ∷ [], ts, (t, z, tt, refl), s, refl)
-zero_left (InClause done) t ts cs z s =
-    record { literals = []; last = t; later = ts; commands = cs; is_last = z; named = tt; first = ap (λ (ls : List Literal). Clause ls ∷ cs) (sym (append-nil done)); whole = refl; rest = s }
-zero_left (InAsk done) t ts cs z s = record { last = t; later = ts; commands = cs; is_last = z; first = refl; whole = refl; rest = s }
+zero_first : (h : Hand) (t : Token) (ts : List Token) (cs : List Command) (end : Ending) → IsZero t → commands_of Nothing ts ≡ (cs, end) → From h (command_in h) cs end (t ∷ ts)
+zero_first Nothing t ts cs end z e = record {
+  front = t ∷ [];
+  later = ts;
+  spelled = record { kind = OfClause; literals = []; last = t; is_last = z; named = tt; is = refl; whole = refl };
+  whole = refl;
+  left = e;
+}
+zero_first (Within k done) t ts cs end z e = record { literals = []; last = t; later = ts; is_last = z; named = tt; is = ap (command_of k) (sym (append-nil done)); whole = refl; left = e }
 
-ends_left : (h : Hand) (t : Token) (ts : List Token) (cs : List Command) → IsZero t → AllSpelled ts → onto_commands (command_in h ∷ []) (commands_of Nothing ts) ≡ (cs, Clean) → SpellsFrom h cs (t ∷ ts)
-ends_left h t ts cs z ih e =
+pair : (r : Reading) (cs : List Command) (end : Ending) → r.0 ≡ cs → r.1 ≡ end → r ≡ (cs, end)
+pair r cs end a b = ap (λ (xs : List Command). (xs, r.1)) a ∙ ap (λ (d : Ending). (cs, d)) b
+
+ends_first : (h : Hand) (t : Token) (ts : List Token) (c : Command) (cs : List Command) (end : Ending) → IsZero t
+    → onto_commands (command_in h ∷ []) (commands_of Nothing ts) ≡ (c ∷ cs, end) → From h c cs end (t ∷ ts)
+ends_first h t ts c cs end z e =
     let r = commands_of Nothing ts in
-    let clean : r.1 ≡ Clean = ap (λ (r : Reading). r.1) e in
-    subst (λ (c : List Command). SpellsFrom h c (t ∷ ts)) (ap (λ (r : Reading). r.0) e)
-    (zero_left h t ts r.0 z (ih Nothing r.0 (ap (λ (d : Ending). (r.0, d)) clean)))
+    let both : ◌≡◌ {A = List Command} (command_in h ∷ r.0) (c ∷ cs) = ap (λ (x : Reading). x.0) e in
+    let last : r.1 ≡ end = ap (λ (x : Reading). x.1) e in
+    subst (λ (d : Command). From h d cs end (t ∷ ts)) (same_head (command_in h) c r.0 cs both)
+    (zero_first h t ts cs end z (pair r cs end (same_tail (command_in h) c r.0 cs both) last))
 
 same_number : (negative : Bool) (value : ℕ) → Number negative value ≡ number_of (record { name = value; positive = not negative })
 same_number true value = refl
 same_number false value = refl
 
 -- behind a literal
-clause_begins : (t : Token) (l : Literal) (ts : List Token) (cs : List Command) → t ≡ number_of l → 0 < l.name → SpellsClause (l ∷ []) cs ts → SpellsCommands cs (t ∷ ts)
-clause_begins t l ts cs e n s =
-    subst (λ (c : List Command). SpellsCommands c (t ∷ ts)) (sym s.first)
-    (map number_of (l ∷ s.literals) ++ s.last ∷ [], s.later, (s.last, s.is_last, (n, s.named), refl), s.rest, rw e (ap (λ (us : List Token). number_of l ∷ us) s.whole))
+clause_first : (t : Token) (l : Literal) (ts : List Token) (c : Command) (cs : List Command) (end : Ending) → t ≡ number_of l → 0 < l.name → Firstly OfClause (l ∷ []) c cs end ts → First c cs end (t ∷ ts)
+clause_first t l ts c cs end e n s = record {
+  front = map number_of (l ∷ s.literals) ++ s.last ∷ [];
+  later = s.later;
+  spelled = record { kind = OfClause; literals = l ∷ s.literals; last = s.last; is_last = s.is_last; named = ((n, refl), s.named); is = s.is; whole = refl };
+  whole = rw e (ap (λ (us : List Token). number_of l ∷ us) s.whole);
+  left = s.left;
+}
 
-clause_goes_on : (t : Token) (l : Literal) (done : List Literal) (ts : List Token) (cs : List Command) → t ≡ number_of l → 0 < l.name → SpellsClause (done ++ l ∷ []) cs ts → SpellsClause done cs (t ∷ ts)
-clause_goes_on t l done ts cs e n s = record {
+literal_first : (k : Kind) (t : Token) (l : Literal) (done : List Literal) (ts : List Token) (c : Command) (cs : List Command) (end : Ending) → t ≡ number_of l → 0 < l.name → may_stand k l.positive ≡ true
+    → Firstly k (done ++ l ∷ []) c cs end ts → Firstly k done c cs end (t ∷ ts)
+literal_first k t l done ts c cs end e n m s = record {
   literals = l ∷ s.literals;
   last = s.last;
   later = s.later;
-  commands = s.commands;
   is_last = s.is_last;
-  named = (n, s.named);
-  first = s.first ∙ ap (λ (ls : List Literal). Clause ls ∷ s.commands) (append_assoc done (l ∷ []) s.literals);
+  named = ((n, m), s.named);
+  is = s.is ∙ ap (command_of k) (append_assoc done (l ∷ []) s.literals);
   whole = rw e (ap (λ (us : List Token). number_of l ∷ us) s.whole);
-  rest = s.rest;
+  left = s.left;
 }
 
-literal_left : (h : Hand) (t : Token) (l : Literal) (ts : List Token) (cs : List Command) → t ≡ number_of l → 0 < l.name → AllSpelled ts → behind_turn (with_literal h l) (λ k. commands_of k ts) ≡ (cs, Clean) → SpellsFrom h cs (t ∷ ts)
-literal_left Nothing t l ts cs e n ih f = clause_begins t l ts cs e n (ih (InClause (l ∷ [])) cs f)
-literal_left (InClause done) t l ts cs e n ih f = clause_goes_on t l done ts cs e n (ih (InClause (done ++ l ∷ [])) cs f)
-literal_left (InAsk done) t l ts cs e n ih f = malformed cs f
+within_left : (k : Kind) (done : List Literal) (t : Token) (l : Literal) (ts : List Token) (c : Command) (cs : List Command) (end : Ending) (stands : Bool) → may_stand k l.positive ≡ stands
+    → t ≡ number_of l → 0 < l.name → AllFirst ts → behind_turn (with_literal (Within k done) l) (λ j. commands_of j ts) ≡ (c ∷ cs, end) → Firstly k done c cs end (t ∷ ts)
+within_left k done t l ts c cs end true m e n ih f = literal_first k t l done ts c cs end e n m (ih (Within k (done ++ l ∷ [])) c cs end (rw m at f))
+within_left k done t l ts c cs end false m e n ih f = none_read Malformed end c cs (rw m at f)
 
-number_left : (h : Hand) (negative : Bool) (value : ℕ) (ts : List Token) (cs : List Command) (zero : Bool) → nat_eq value 0 ≡ zero → AllSpelled ts
-    → behind_turn (turn h (Number negative value)) (λ k. commands_of k ts) ≡ (cs, Clean) → SpellsFrom h cs (Number negative value ∷ ts)
-number_left h negative value ts cs true z ih f =
+literal_left : (h : Hand) (t : Token) (l : Literal) (ts : List Token) (c : Command) (cs : List Command) (end : Ending) → t ≡ number_of l → 0 < l.name → AllFirst ts
+    → behind_turn (with_literal h l) (λ j. commands_of j ts) ≡ (c ∷ cs, end) → From h c cs end (t ∷ ts)
+literal_left Nothing t l ts c cs end e n ih f = clause_first t l ts c cs end e n (ih (Within OfClause (l ∷ [])) c cs end f)
+literal_left (Within k done) t l ts c cs end e n ih f = within_left k done t l ts c cs end (may_stand k l.positive) refl e n ih f
+
+number_left : (h : Hand) (negative : Bool) (value : ℕ) (ts : List Token) (c : Command) (cs : List Command) (end : Ending) (zero : Bool) → nat_eq value 0 ≡ zero → AllFirst ts
+    → behind_turn (turn h (Number negative value)) (λ j. commands_of j ts) ≡ (c ∷ cs, end) → From h c cs end (Number negative value ∷ ts)
+number_left h negative value ts c cs end true z ih f =
     let same : value ≡ 0 = grind (arith, nat_tests) in
-    ends_left h (Number negative value) ts cs same ih (rw z at f)
-number_left h negative value ts cs false z ih f =
+    ends_first h (Number negative value) ts c cs end same (rw z at f)
+number_left h negative value ts c cs end false z ih f =
     let some : 0 < value = grind (arith, nat_tests) in
-    literal_left h (Number negative value) (record { name = value; positive = not negative }) ts cs (same_number negative value) some ih (rw z at f)
+    literal_left h (Number negative value) (record { name = value; positive = not negative }) ts c cs end (same_number negative value) some ih (rw z at f)
 
 -- behind a letter
-ask_begins : (ts : List Token) (cs : List Command) → SpellsAsk [] cs ts → SpellsCommands cs (Letter 97 ∷ ts)
-ask_begins ts cs s =
-    subst (λ (c : List Command). SpellsCommands c (Letter 97 ∷ ts)) (sym s.first)
-    (Letter 97 ∷ s.last ∷ [], s.later, (s.last, s.is_last, refl), s.rest, ap (λ (us : List Token). Letter 97 ∷ us) s.whole)
+begun : (k : Kind) (b : ℕ) (ts : List Token) (c : Command) (cs : List Command) (end : Ending) → Letter b ∷ [] ≡ letter_of k → Firstly k [] c cs end ts → First c cs end (Letter b ∷ ts)
+begun k b ts c cs end e s = record {
+  front = letter_of k ++ (map number_of s.literals ++ s.last ∷ []);
+  later = s.later;
+  spelled = record { kind = k; literals = s.literals; last = s.last; is_last = s.is_last; named = s.named; is = s.is; whole = refl };
+  whole = ap (λ (us : List Token). us ++ ts) e ∙ ap (λ (us : List Token). letter_of k ++ us) s.whole ∙ sym (append_assoc (letter_of k) (map number_of s.literals ++ s.last ∷ []) s.later);
+  left = s.left;
+}
 
-letter_left : (h : Hand) (b : ℕ) (ts : List Token) (cs : List Command) (is_a : Bool) → nat_eq b 97 ≡ is_a → AllSpelled ts
-    → behind_turn (with_letter h b) (λ k. commands_of k ts) ≡ (cs, Clean) → SpellsFrom h cs (Letter b ∷ ts)
-letter_left Nothing b ts cs true a ih f =
-    let same : b ≡ 97 = grind (arith, nat_tests) in
-    rw same (ask_begins ts cs (ih (InAsk []) cs (rw a at f)))
-letter_left Nothing b ts cs false a ih f = malformed cs (rw a at f)
-letter_left (InClause done) b ts cs is_a a ih f = malformed cs f
-letter_left (InAsk done) b ts cs is_a a ih f = malformed cs f
+letter_is : (b n : ℕ) → nat_eq b n ≡ true → ◌≡◌ {A = List Token} (Letter b ∷ []) (Letter n ∷ [])
+letter_is b n e = let same : b ≡ n = grind (arith, nat_tests) in ap (λ (m : ℕ). Letter m ∷ []) same
 
-token_left : (h : Hand) (t : Token) (ts : List Token) (cs : List Command) → IsWord t → AllSpelled ts → behind_turn (turn h t) (λ k. commands_of k ts) ≡ (cs, Clean) → SpellsFrom h cs (t ∷ ts)
-token_left h (Number negative value) ts cs w ih f = number_left h negative value ts cs (nat_eq value 0) refl ih f
-token_left h (Letter b) ts cs w ih f = letter_left h b ts cs (nat_eq b 97) refl ih f
-token_left h (Header v c) ts cs w ih f = absurd w
-token_left h Wrong ts cs w ih f = malformed cs f
+letter_left : (b : ℕ) (ts : List Token) (c : Command) (cs : List Command) (end : Ending) (is_a is_h is_w is_s : Bool) → nat_eq b 97 ≡ is_a → nat_eq b 104 ≡ is_h → nat_eq b 119 ≡ is_w → nat_eq b 115 ≡ is_s → AllFirst ts
+    → behind_turn (with_letter Nothing b) (λ j. commands_of j ts) ≡ (c ∷ cs, end) → First c cs end (Letter b ∷ ts)
+letter_left b ts c cs end true is_h is_w is_s p q u v ih f = begun OfAsk b ts c cs end (letter_is b 97 p) (ih (Within OfAsk []) c cs end (rw p at f))
+letter_left b ts c cs end false true is_w is_s p q u v ih f = begun OfHide b ts c cs end (letter_is b 104 q) (ih (Within OfHide []) c cs end (rw (p, q) at f))
+letter_left b ts c cs end false false true is_s p q u v ih f = begun OfWitness b ts c cs end (letter_is b 119 u) (ih (Within OfWitness []) c cs end (rw (p, q, u) at f))
+letter_left b ts c cs end false false false true p q u v ih f = begun OfSample b ts c cs end (letter_is b 115 v) (ih (Within OfSample []) c cs end (rw (p, q, u, v) at f))
+letter_left b ts c cs end false false false false p q u v ih f = none_read Malformed end c cs (rw (p, q, u, v) at f)
 
-spelled_from : (ts : List Token) → AreWords ts → AllSpelled ts
-spelled_from [] w h cs e = none_left h cs (sym (commands_of_nil h) ∙ e)
-spelled_from (t ∷ ts) w h cs e = token_left h t ts cs w.0 (spelled_from ts w.1) (sym (commands_of_cons h t ts) ∙ e)
+in_hand_left : (h : Hand) (b : ℕ) (ts : List Token) (c : Command) (cs : List Command) (end : Ending) → AllFirst ts → behind_turn (with_letter h b) (λ j. commands_of j ts) ≡ (c ∷ cs, end) → From h c cs end (Letter b ∷ ts)
+in_hand_left Nothing b ts c cs end ih f = letter_left b ts c cs end (nat_eq b 97) (nat_eq b 104) (nat_eq b 119) (nat_eq b 115) refl refl refl refl ih f
+in_hand_left (Within k done) b ts c cs end ih f = none_read Malformed end c cs f
+
+token_left : (h : Hand) (t : Token) (ts : List Token) (c : Command) (cs : List Command) (end : Ending) → IsWord t → AllFirst ts → behind_turn (turn h t) (λ j. commands_of j ts) ≡ (c ∷ cs, end) → From h c cs end (t ∷ ts)
+token_left h (Number negative value) ts c cs end w ih f = number_left h negative value ts c cs end (nat_eq value 0) refl ih f
+token_left h (Letter b) ts c cs end w ih f = in_hand_left h b ts c cs end ih f
+token_left h (Header v x) ts c cs end w ih f = absurd w
+token_left h Wrong ts c cs end w ih f = none_read Malformed end c cs f
+
+all_first : (ts : List Token) → AreWords ts → AllFirst ts
+all_first [] w h c cs end e = none_read (at_end h) end c cs (sym (commands_of_nil h) ∙ e)
+all_first (t ∷ ts) w h c cs end e = token_left h t ts c cs end w.0 (all_first ts w.1) (sym (commands_of_cons h t ts) ∙ e)
+
+-- words behind words are words
+words_behind : (front rest : List Token) → AreWords (front ++ rest) → AreWords rest
+words_behind [] rest w = w
+words_behind (t ∷ front) rest w = words_behind front rest w.1
+
+-- all commands that are read
+pub record Spelled (cs : List Command) (end : Ending) (ts : List Token) : Type 0 where
+  pub front : List Token
+  pub rest : List Token
+  pub spelled : SpellsCommands cs front
+  pub whole : ts ≡ front ++ rest
+  pub left : commands_of Nothing rest ≡ ([], end)
+  pub words : AreWords rest
+
+all_spelled : (cs : List Command) (end : Ending) (ts : List Token) → AreWords ts → commands_of Nothing ts ≡ (cs, end) → Spelled cs end ts
+all_spelled [] end ts w e = record { front = []; rest = ts; spelled = refl; whole = refl; left = e; words = w }
+all_spelled (c ∷ cs) end ts w e =
+    let f = all_first ts w Nothing c cs end e in
+    let v : AreWords f.later = words_behind f.front f.later (subst AreWords f.whole w) in
+    let s = all_spelled cs end f.later v f.left in
+    record {
+      front = f.front ++ s.front;
+      rest = s.rest;
+      spelled = (f.front, s.front, f.spelled, s.spelled, refl);
+      whole = f.whole ∙ ap (λ (us : List Token). f.front ++ us) s.whole ∙ sym (append_assoc f.front s.front s.rest);
+      left = s.left;
+      words = s.words;
+    }
+
+-- WHERE NONE IS LEFT
+clean_or_malformed : {A : Type 0} (cs ds : List Command) → ◌≡◌ {A = Reading} (cs, Clean) (ds, Malformed) → A
+clean_or_malformed cs ds e = let f : Clean ≡ Malformed = ap (λ (r : Reading). r.1) e in absurd (cc)
+
+-- a first token leaves something to read, or a wrong end
+abbrev NoneClean : Hand → List Token → Type 0
+NoneClean h ts = commands_of h ts ≡ ([], Clean) → (h ≡ Nothing) × (ts ≡ [])
+
+onto_some : {A : Type 0} (c : Command) (r : Reading) (end : Ending) → onto_commands (c ∷ []) r ≡ ([], end) → A
+onto_some c r end e = let f : ◌≡◌ {A = List Command} (c ∷ r.0) [] = ap (λ (x : Reading). x.0) e in absurd (cc)
+
+malformed : {A : Type 0} → ◌≡◌ {A = Reading} ([], Malformed) ([], Clean) → A
+malformed e = let f : Malformed ≡ Clean = ap (λ (r : Reading). r.1) e in absurd (cc)
+
+within_none : {A : Type 0} (k : Kind) (ls : List Literal) → ◌≡◌ {A = Hand} (Within k ls) Nothing → A
+within_none k ls e = absurd (cc)
+
+none_within : (k : Kind) (done : List Literal) (l : Literal) (ts : List Token) (stands : Bool) → may_stand k l.positive ≡ stands → ((h : Hand) → NoneClean h ts)
+    → behind_turn (with_literal (Within k done) l) (λ j. commands_of j ts) ≡ ([], Clean) → ⊥
+none_within k done l ts true m ih f = within_none k (done ++ l ∷ []) (ih (Within k (done ++ l ∷ [])) (rw m at f)).0
+none_within k done l ts false m ih f = malformed (rw m at f)
+
+none_literal : (h : Hand) (l : Literal) (ts : List Token) → ((h : Hand) → NoneClean h ts) → behind_turn (with_literal h l) (λ j. commands_of j ts) ≡ ([], Clean) → ⊥
+none_literal Nothing l ts ih f = within_none OfClause (l ∷ []) (ih (Within OfClause (l ∷ [])) f).0
+none_literal (Within k done) l ts ih f = none_within k done l ts (may_stand k l.positive) refl ih f
+
+none_number : (h : Hand) (negative : Bool) (value : ℕ) (ts : List Token) (zero : Bool) → nat_eq value 0 ≡ zero → ((h : Hand) → NoneClean h ts)
+    → behind_turn (turn h (Number negative value)) (λ j. commands_of j ts) ≡ ([], Clean) → ⊥
+none_number h negative value ts true z ih f = onto_some (command_in h) (commands_of Nothing ts) Clean (rw z at f)
+none_number h negative value ts false z ih f = none_literal h (record { name = value; positive = not negative }) ts ih (rw z at f)
+
+none_begun : (o : Option Kind) (ts : List Token) → ((h : Hand) → NoneClean h ts) → behind_turn (beginning o) (λ j. commands_of j ts) ≡ ([], Clean) → ⊥
+none_begun None ts ih f = malformed f
+none_begun (Some k) ts ih f = within_none k [] (ih (Within k []) f).0
+
+none_letter : (h : Hand) (b : ℕ) (ts : List Token) → ((h : Hand) → NoneClean h ts) → behind_turn (with_letter h b) (λ j. commands_of j ts) ≡ ([], Clean) → ⊥
+none_letter Nothing b ts ih f = none_begun (kind_of_letter b) ts ih f
+none_letter (Within k done) b ts ih f = malformed f
+
+none_token : (h : Hand) (t : Token) (ts : List Token) → IsWord t → ((h : Hand) → NoneClean h ts) → behind_turn (turn h t) (λ j. commands_of j ts) ≡ ([], Clean) → ⊥
+none_token h (Number negative value) ts w ih f = none_number h negative value ts (nat_eq value 0) refl ih f
+none_token h (Letter b) ts w ih f = none_letter h b ts ih f
+none_token h (Header v c) ts w ih f = absurd w
+none_token h Wrong ts w ih f = malformed f
+
+none_nil : (h : Hand) → ◌≡◌ {A = Reading} ([], at_end h) ([], Clean) → (h ≡ Nothing) × (◌≡◌ {A = List Token} [] [])
+none_nil Nothing e = (refl, refl)
+none_nil (Within k done) e = malformed e
+
+none_left : (ts : List Token) → AreWords ts → (h : Hand) → NoneClean h ts
+none_left [] w h e = none_nil h (sym (commands_of_nil h) ∙ e)
+none_left (t ∷ ts) w h e = absurd (none_token h t ts w.0 (none_left ts w.1) (sym (commands_of_cons h t ts) ∙ e))
+
+-- BOTH ENDS
+onto_is : (c : Command) (r : Reading) (end : Ending) {A : Type 0} → ◌≡◌ {A = Reading} ([], end) (onto_commands (c ∷ []) r) → A
+onto_is c r end e = onto_some c r end (sym e)
+
+begins_none : (rest : List Token) → commands_of Nothing rest ≡ ([], Malformed) → BeginsNone rest
+begins_none rest e = record {
+  some = λ f. clean_or_malformed [] [] (sym (ap (commands_of Nothing) f ∙ commands_of_nil Nothing) ∙ e);
+  none = λ c front later s f. onto_is c (commands_of Nothing later) Malformed (sym e ∙ ap (commands_of Nothing) f ∙ reads_command c front later s);
+}
+
+broken_reads_as : (rest : List Token) (cs : List Command) (end : Ending) → AreWords rest → BeginsNone rest → commands_of Nothing rest ≡ (cs, end) → commands_of Nothing rest ≡ ([], Malformed)
+broken_reads_as rest [] Malformed w b e = e
+broken_reads_as rest [] Clean w b e = absurd (b.some (none_left rest w Nothing e).1)
+broken_reads_as rest (c ∷ cs) end w b e = let f = all_first rest w Nothing c cs end e in absurd (b.none c f.front f.later f.spelled f.whole)
+
+broken_reads : (rest : List Token) → AreWords rest → BeginsNone rest → commands_of Nothing rest ≡ ([], Malformed)
+broken_reads rest w b = broken_reads_as rest (commands_of Nothing rest).0 (commands_of Nothing rest).1 w b refl
+
+to_spelled : (cs : List Command) (end : Ending) (ts : List Token) → Spelled cs end ts → SpellsTo cs end ts
+to_spelled cs Clean ts s =
+    let none : s.rest ≡ [] = (none_left s.rest s.words Nothing s.left).1 in
+    subst (SpellsCommands cs) (sym (s.whole ∙ ap (λ (us : List Token). s.front ++ us) none ∙ append-nil s.front)) s.spelled
+to_spelled cs Malformed ts s = (s.front, s.rest, s.spelled, begins_none s.rest s.left, s.whole)
+
+onto_none : (cs : List Command) (end : Ending) → onto_commands cs ([], end) ≡ (cs, end)
+onto_none cs end = ap (λ (xs : List Command). (xs, end)) (append-nil cs)
+
+to_read : (cs : List Command) (end : Ending) (ts : List Token) → AreWords ts → SpellsTo cs end ts → commands_of Nothing ts ≡ (cs, end)
+to_read cs Clean ts w s =
+    ap (commands_of Nothing) (sym (append-nil ts)) ∙ reads_spelled cs ts [] s ∙ ap (onto_commands cs) (commands_of_nil Nothing) ∙ onto_none cs Clean
+to_read cs Malformed ts w s =
+    let v : AreWords s.1 = words_behind s.0 s.1 (subst AreWords s.4 w) in
+    ap (commands_of Nothing) s.4 ∙ reads_spelled cs s.0 s.1 s.2 ∙ ap (onto_commands cs) (broken_reads s.1 v s.3) ∙ onto_none cs Malformed
 
 -- WITH A HEADER
 written_is : (text : List ℕ) → written text ≡ commands_of Nothing (spoken (tokens text))
 unfolding written
 written_is text = refl
 
--- what the commands that stand in a text, with a header or not, are read as
-abbrev read_as : Bool → Reading → Reading
-read_as headed w = if headed && (is_clean w.1 && not (has_ask w.0)) then (w.0 ++ Ask [] ∷ [], Clean) else w
-
-reading_is : (text : List ℕ) → reading text ≡ read_as (is_some (header_of text)) (written text)
+reading_is : (text : List ℕ) → reading text ≡ with_ask (is_some (header_of text)) (written text)
 unfolding reading
 reading_is text = refl
 
@@ -204,8 +374,8 @@ headed_is : (ts : List (ℕ × Token)) → is_some (header_first ts) ≡ headed 
 headed_is [] = refl
 headed_is (t ∷ ts) = refl
 
-pub reading_of : (text : List ℕ) → reading text ≡ read_as (headed (spoken (tokens text))) (commands_of Nothing (spoken (tokens text)))
-reading_of text = reading_is text ∙ ap (λ (b : Bool). read_as b (written text)) (headed_is (tokens text)) ∙ ap (read_as (headed (spoken (tokens text)))) (written_is text)
+reading_of : (text : List ℕ) → reading text ≡ with_ask (headed (spoken (tokens text))) (commands_of Nothing (spoken (tokens text)))
+reading_of text = reading_is text ∙ ap (λ (b : Bool). with_ask b (written text)) (headed_is (tokens text)) ∙ ap (with_ask (headed (spoken (tokens text)))) (written_is text)
 
 no_header : (ts : List Token) → AreWords ts → headed ts ≡ false
 no_header [] w = refl
@@ -214,71 +384,61 @@ no_header (Letter b ∷ ts) w = refl
 no_header (Header v c ∷ ts) w = absurd w.0
 no_header (Wrong ∷ ts) w = refl
 
--- commands are spelled without one
-abbrev first_of : List Token → Token
-first_of [] = Wrong
-first_of (t ∷ ts) = t
+headless_read : (ts : List Token) (cs : List Command) (end : Ending) → AreWords ts → SpellsScript cs end ts → commands_of Nothing ts ≡ (cs, end)
+headless_read ts cs end w (inl s) = to_read cs end ts w s.1
+headless_read ts cs end w (inr (v, c, rest, spelled, e, s, f)) = absurd (let h : AreWords (Header v c ∷ rest) = subst AreWords e w in h.0)
 
-none_headed : {A : Type 0} (cs : List Command) (v c : ℕ) (ts : List Token) → SpellsCommands cs (Header v c ∷ ts) → A
-none_headed [] v c ts s = absurd (cc)
-none_headed (Clause [] ∷ cs) v c ts s = let last = s.2.0 in let e : Header v c ≡ last = ap (λ (us : List Token). first_of us) (s.4 ∙ ap (λ (us : List Token). us ++ s.1) s.2.3) in absurd (subst IsZero (sym e) s.2.1)
-none_headed (Clause (l ∷ ls) ∷ cs) v c ts s = let e : Header v c ≡ number_of l = ap first_of (s.4 ∙ ap (λ (us : List Token). us ++ s.1) s.2.3) in absurd (cc)
-none_headed (Ask [] ∷ cs) v c ts s = let e : Header v c ≡ Letter 97 = ap first_of (s.4 ∙ ap (λ (us : List Token). us ++ s.1) s.2.2) in absurd (cc)
-none_headed (Ask (l ∷ ls) ∷ cs) v c ts s = absurd s.2
-none_headed (Hide names ∷ cs) v c ts s = absurd s.2
-none_headed (Witness names ∷ cs) v c ts s = absurd s.2
-none_headed (Sample names ∷ cs) v c ts s = absurd s.2
-
-spelled_commands : (ts : List Token) (cs : List Command) → AreWords ts → SpellsScript cs ts → commands_of Nothing ts ≡ (cs, Clean)
-spelled_commands ts cs w (inl s) = reads_spelled cs ts s
-spelled_commands ts cs w (inr (v, c, rest, spelled, e, s, f)) = absurd (let h : AreWords (Header v c ∷ rest) = rw e at w in h.0)
-
-headless : (ts : List Token) (cs : List Command) → AreWords ts → read_as (headed ts) (commands_of Nothing ts) ≡ (cs, Clean) ↔ SpellsScript cs ts
-headless ts cs w =
+headless : (ts : List Token) (cs : List Command) (end : Ending) → AreWords ts → with_ask (headed ts) (commands_of Nothing ts) ≡ (cs, end) ↔ SpellsScript cs end ts
+headless ts cs end w =
     let none = no_header ts w in (
-      λ e. inl (spelled_from ts w Nothing cs (sym (ap (λ (b : Bool). read_as b (commands_of Nothing ts)) none) ∙ e)),
-      λ s. ap (λ (b : Bool). read_as b (commands_of Nothing ts)) none ∙ spelled_commands ts cs w s,
+      λ e. inl ((λ v c rest f. (let h : AreWords (Header v c ∷ rest) = subst AreWords f w in h.0)),
+          to_spelled cs end ts (all_spelled cs end ts w (sym (ap (λ (b : Bool). with_ask b (commands_of Nothing ts)) none) ∙ e))),
+      λ s. ap (λ (b : Bool). with_ask b (commands_of Nothing ts)) none ∙ headless_read ts cs end w s,
     )
 
 -- behind a header
--- a clean end, with an ask or none
-asked_if_none : (w : List Command) (ask : Bool) (cs : List Command) → has_ask w ≡ ask → read_as true (w, Clean) ≡ (cs, Clean) → cs ≡ asked w
-asked_if_none w true cs a h = rw a (sym (ap (λ (r : Reading). r.0) (rw a at h)))
-asked_if_none w false cs a h = rw a (sym (ap (λ (r : Reading). r.0) (rw a at h)))
+asked_clean : (w : List Command) (ask : Bool) → has_ask w ≡ ask → with_ask true (w, Clean) ≡ (asked w Clean, Clean)
+asked_clean w true a = rw a refl
+asked_clean w false a = rw a refl
 
-asked_is : (w : List Command) (end : Ending) (cs : List Command) → read_as true (w, end) ≡ (cs, Clean) → (end ≡ Clean) × (cs ≡ asked w)
-asked_is w Malformed cs h = let f : Malformed ≡ Clean = ap (λ (r : Reading). r.1) h in absurd (cc)
-asked_is w Clean cs h = (refl, asked_if_none w (has_ask w) cs refl h)
+asked_is : (w : List Command) (end : Ending) → with_ask true (w, end) ≡ (asked w end, end)
+asked_is w Clean = asked_clean w (has_ask w) refl
+asked_is w Malformed = refl
 
-asks : (cs : List Command) (ask : Bool) → has_ask cs ≡ ask → read_as true (cs, Clean) ≡ (asked cs, Clean)
-asks cs true a = rw a refl
-asks cs false a = rw a refl
+header_first_of : List Token → Token
+header_first_of [] = Wrong
+header_first_of (t ∷ ts) = t
 
-asked_if : (v c : ℕ) (ts : List Token) (cs : List Command) → SpellsScript cs (Header v c ∷ ts) → read_as true (commands_of Nothing ts) ≡ (cs, Clean)
-asked_if v c ts cs (inl s) = none_headed cs v c ts s
-asked_if v c ts cs (inr (u, d, rest, spelled, e, s, f)) =
+headed_read : (v c : ℕ) (ts : List Token) (cs : List Command) (end : Ending) → AreWords ts → SpellsScript cs end (Header v c ∷ ts) → with_ask true (commands_of Nothing ts) ≡ (cs, end)
+headed_read v c ts cs end w (inl s) = absurd (s.0 v c ts refl)
+headed_read v c ts cs end w (inr (u, d, rest, spelled, e, s, f)) =
     let same : ts ≡ rest = ap (drop 1) e in
-    ap (λ (us : List Token). read_as true (commands_of Nothing us)) same ∙ ap (read_as true) (reads_spelled spelled rest s) ∙ asks spelled (has_ask spelled) refl ∙ ap (λ (ds : List Command). (ds, Clean)) (sym f)
+    let k : AreWords rest = subst AreWords same w in
+    ap (λ (us : List Token). with_ask true (commands_of Nothing us)) same ∙ ap (with_ask true) (to_read spelled end rest k s) ∙ asked_is spelled end ∙ ap (λ (ds : List Command). (ds, end)) (sym f)
 
-headed_script : (v c : ℕ) (ts : List Token) (cs : List Command) → AreWords ts → read_as true (commands_of Nothing (Header v c ∷ ts)) ≡ (cs, Clean) ↔ SpellsScript cs (Header v c ∷ ts)
-headed_script v c ts cs w =
+headed_script : (v c : ℕ) (ts : List Token) (cs : List Command) (end : Ending) → AreWords ts → with_ask true (commands_of Nothing (Header v c ∷ ts)) ≡ (cs, end) ↔ SpellsScript cs end (Header v c ∷ ts)
+headed_script v c ts cs end w =
     let goes_on : commands_of Nothing (Header v c ∷ ts) ≡ commands_of Nothing ts = commands_of_cons Nothing (Header v c) ts in
     let r = commands_of Nothing ts in (
-      λ e. let h = asked_is r.0 r.1 cs (sym (ap (read_as true) goes_on) ∙ e) in inr (v, c, ts, r.0, refl, spelled_from ts w Nothing r.0 (ap (λ (d : Ending). (r.0, d)) h.0), h.1),
-      λ s. ap (read_as true) goes_on ∙ asked_if v c ts cs s,
+      λ e.
+          let h : ◌≡◌ {A = Reading} (asked r.0 r.1, r.1) (cs, end) = sym (asked_is r.0 r.1) ∙ sym (ap (with_ask true) goes_on) ∙ e in
+          let last : r.1 ≡ end = ap (λ (x : Reading). x.1) h in
+          inr (v, c, ts, r.0, refl, subst (λ (d : Ending). SpellsTo r.0 d ts) last (to_spelled r.0 r.1 ts (all_spelled r.0 r.1 ts w refl)),
+          sym (ap (λ (x : Reading). x.0) h) ∙ ap (asked r.0) last),
+      λ s. ap (with_ask true) goes_on ∙ headed_read v c ts cs end w s,
     )
 
-script_if : (ts : List Token) (cs : List Command) → AreScript ts → read_as (headed ts) (commands_of Nothing ts) ≡ (cs, Clean) ↔ SpellsScript cs ts
-script_if ts cs (inl w) = headless ts cs w
-script_if ts cs (inr (v, c, rest, w, e)) = rw e (headed_script v c rest cs w)
+script_if : (ts : List Token) (cs : List Command) (end : Ending) → AreScript ts → with_ask (headed ts) (commands_of Nothing ts) ≡ (cs, end) ↔ SpellsScript cs end ts
+script_if ts cs end (inl w) = headless ts cs end w
+script_if ts cs end (inr (v, c, rest, w, e)) = rw e (headed_script v c rest cs end w)
+
+pub read_if_spelled : ReadIfSpelled
+read_if_spelled text cs end =
+    let h = script_if (spoken (tokens text)) cs end (text_is text) in
+    (λ e. h.0 (sym (reading_of text) ∙ e), λ s. reading_of text ∙ h.1 s)
 
 pub one_reading : OneReading
 one_reading = record {
   some = λ text. ((reading text).0, (reading text).1, refl);
   one = λ text cs ds d e a b. let same : (cs, d) ≡ (ds, e) = sym a ∙ b in (ap (λ (r : Reading). r.0) same, ap (λ (r : Reading). r.1) same);
 }
-
-pub clean_if_spelled : CleanIfSpelled
-clean_if_spelled text cs =
-    let h = script_if (spoken (tokens text)) cs (text_is text) in
-    (λ e. h.0 (sym (reading_of text) ∙ e), λ s. reading_of text ∙ h.1 s)

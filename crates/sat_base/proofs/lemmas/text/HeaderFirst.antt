@@ -2,7 +2,7 @@
 use Rattle.std.proofs.Common.{◌≡◌, ℕ, ◌+◌, List, [], ◌∷◌, ◌++◌, Bool, true, false, cond, Option, Some, None, refl, sym, subst, ◌⊎◌, inl, inr}
 use Rattle.std.specs.Prelude.{nat_eq, ◌&&◌}
 use Rattle.sat_base.specs.text.Text.{words, begins_with, is_letter, digits, plain, minus, behind_minus, alone, token, header_if, is_none, on_line, Token, Number, Letter, Header, Wrong, tokens_of, lines, scan, tokens}
-use Rattle.sat_base.specs.script.Script.{spoken}
+use Rattle.sat_base.specs.script.Language.{spoken}
 
 -- no header
 abbrev pub IsWord : Token → Type 0

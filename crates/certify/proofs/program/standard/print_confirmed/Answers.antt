@@ -4,7 +4,7 @@ use Rattle.sat_base.proofs.lemmas.device.Writes.{took_more}
 use Rattle.sat_checker.specs.matching.ProofChecking.{the_checking}
 use Rattle.certify.specs.confirm.Matches.{Matches}
 use Rattle.certify.specs.program.Printing.{IsAnswered, verdict_text}
-use Rattle.certify.specs.reading.Language.{reading}
+use Rattle.sat_base.specs.script.Language.{reading}
 use Rattle.certify.specs.declared.verdict.Verdict.TheVariants.{Yes}
 use Rattle.certify.proofs.program.standard.print_confirmed.Goals as goal
 

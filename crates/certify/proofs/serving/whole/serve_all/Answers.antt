@@ -3,7 +3,7 @@ use Rattle.std.proofs.lemmas.Result.{err_from_is_err_and}
 use Rattle.sat_base.specs.script.Judge.{start}
 use Rattle.certify.specs.declared.reading.stream.Next.{Next}
 use Rattle.certify.specs.reading.Ahead.{source_in}
-use Rattle.certify.specs.reading.Language.{reading, written}
+use Rattle.sat_base.specs.script.Language.{reading, written}
 use Rattle.certify.specs.reading.Streaming.{Arrives}
 use Rattle.certify.proofs.lemmas.confirm.Streams.{passes_fewer}
 use Rattle.certify.proofs.lemmas.matching.Joining.{took_open}

@@ -1,7 +1,7 @@
 use Rattle.sat_base.specs.script.Judge.{start}
 use Rattle.certify.specs.confirm.Streams.{bytes_left}
 use Rattle.certify.specs.reading.Ahead.{IsOpen, source_in}
-use Rattle.certify.specs.reading.Language.{reading, written}
+use Rattle.sat_base.specs.script.Language.{reading, written}
 use Rattle.certify.specs.serving.Whole.{GoesThrough}
 use Rattle.certify.proofs.serving.whole.serve_all.Given as goal
 

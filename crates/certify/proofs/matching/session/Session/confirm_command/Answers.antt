@@ -9,7 +9,7 @@ use Rattle.certify.specs.reading.Commands.{kind_of}
 use Rattle.sat_base.specs.script.Script.{Command}
 use Rattle.certify.specs.declared.judge.Refusal.{Refusal}
 use Rattle.certify.specs.judge.Names.{Judges}
-use Rattle.certify.specs.reading.Language.{command_of}
+use Rattle.sat_base.specs.script.Language.{command_of}
 use Rattle.certify.proofs.lemmas.matching.SessionMet.{allowed_by, if_ok, lent_whole, names_go, names_stop, refused}
 use Rattle.certify.proofs.matching.session.Session.confirm_command.Goals as goal
 

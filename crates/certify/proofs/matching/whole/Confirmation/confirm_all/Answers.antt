@@ -5,7 +5,7 @@ use Rattle.certify.specs.matching.Confirming.{table_of}
 use Rattle.certify.specs.matching.Sessions.{answers_in, stream_in}
 use Rattle.certify.specs.matching.Whole.{GoesThrough, script_in, standing}
 use Rattle.certify.specs.reading.Ahead.{IsOpen, source_in}
-use Rattle.certify.specs.reading.Language.{reading}
+use Rattle.sat_base.specs.script.Language.{reading}
 use Rattle.certify.specs.reading.Streaming.{Arrives}
 use Rattle.certify.specs.declared.reading.stream.CommandStream.{CommandStream}
 use Rattle.certify.specs.declared.reading.stream.Next.{Next}

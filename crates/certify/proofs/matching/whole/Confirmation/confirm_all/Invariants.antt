@@ -4,7 +4,7 @@ use Rattle.certify.specs.confirm.Streams.{GoesOn, bytes_left}
 use Rattle.certify.specs.matching.Sessions.{answers_in}
 use Rattle.certify.specs.matching.Whole.{GoesThrough, script_in, standing}
 use Rattle.certify.specs.reading.Ahead.{IsOpen}
-use Rattle.certify.specs.reading.Language.{reading}
+use Rattle.sat_base.specs.script.Language.{reading}
 use Rattle.certify.proofs.matching.whole.Confirmation.confirm_all.Given as goal
 
 abbrev pub invariant-loop-next : goal.invariant-loop-next

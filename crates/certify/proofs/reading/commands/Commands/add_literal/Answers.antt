@@ -2,7 +2,7 @@ use Rattle.std.proofs.Common.{◌≡◌, ◌∷◌, ◌++◌, [], true, false, r
 use Rattle.std.specs.Prelude.{not}
 use Rattle.sat_base.specs.text.Text.{Number}
 use Rattle.sat_base.specs.script.Script.{Literal}
-use Rattle.certify.specs.reading.Language.{Within, may_stand}
+use Rattle.sat_base.specs.script.Language.{Within, may_stand}
 use Rattle.certify.specs.reading.Commands.{kind_of}
 use Rattle.certify.proofs.lemmas.reading.Tokens.{fails, goes_on, turn_number, stands, misplaced, held_some}
 use Rattle.certify.proofs.reading.commands.Commands.add_literal.Goals as goal

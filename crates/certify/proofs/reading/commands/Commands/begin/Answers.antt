@@ -1,6 +1,6 @@
 use Rattle.std.proofs.Common.{refl, []}
 use Rattle.sat_base.specs.text.Text.{Letter}
-use Rattle.certify.specs.reading.Language.{Within}
+use Rattle.sat_base.specs.script.Language.{Within}
 use Rattle.certify.specs.reading.Commands.{kind_of}
 use Rattle.certify.proofs.lemmas.reading.Tokens.{fails, goes_on, letter_inside, letter_unknown, letter_begins}
 use Rattle.certify.proofs.reading.commands.Commands.begin.Goals as goal

@@ -1,7 +1,6 @@
 use Rattle.std.proofs.Common.{◌≡◌, ◌<◌, [], ◌∷◌, true, sym, ◌∙◌, ap, refl, arith}
 use Rattle.sat_base.specs.text.Text.{Token, Number, Wrong}
-use Rattle.sat_base.specs.script.Script.{onto_commands}
-use Rattle.certify.specs.reading.Language.{Nothing}
+use Rattle.sat_base.specs.script.Language.{onto_commands, Nothing}
 use Rattle.certify.specs.reading.Commands.{meaning}
 use Rattle.certify.proofs.lemmas.reading.Tokens.{number_is, letter_is, header_is, wrong_is, held_zero, held_some, ends_wrong, number_ends, letter_ends, header_ends}
 use Rattle.certify.proofs.reading.commands.Commands.finish_with.Goals as goal

@@ -1,7 +1,7 @@
--- The commands of scripts in the whole language, and the texts that spell them. Numbers are of any size.
-use Rattle.std.specs.Prelude.{ℕ, ◌≡◌, Bool, true, not, ◌&&◌, Option, Some, None, List, [], ◌∷◌, ◌++◌, nat_eq, is_some, if◌then◌else◌}
+-- The language of scripts: what a text reads as, token by token.
+use Rattle.std.specs.Prelude.{ℕ, ◌≡◌, Bool, true, not, ◌&&◌, Option, Some, None, List, [], ◌∷◌, ◌++◌, map, nat_eq, is_some, if◌then◌else◌}
 use Rattle.sat_base.specs.text.Text.{Token, Number, Letter, Header, Wrong, tokens, header_of}
-use Rattle.sat_base.specs.script.Script.{Literal, Command, Clause, Ask, Hide, Witness, Sample, Ending, Clean, Malformed, names_of, Reading, onto_commands, spoken, has_ask, is_clean}
+use Rattle.sat_base.specs.script.Script.{Literal, Command, Clause, Ask, Hide, Witness, Sample, Ending, Clean, Malformed, names_of, has_ask, is_clean}
 
 pub data Kind : Type 0 where
   OfClause : Kind
@@ -71,6 +71,13 @@ turn hand (Letter b) = with_letter hand b
 turn hand (Header v c) = GoesOn hand
 turn hand Wrong = Fails
 
+-- the commands of a text, and its end
+abbrev pub Reading : Type 0
+Reading = List Command × Ending
+
+abbrev pub onto_commands : List Command → Reading → Reading
+onto_commands commands reading = (commands ++ reading.0, reading.1)
+
 -- an end inside a command is malformed
 abbrev pub at_end : Hand → Ending
 at_end Nothing = Clean
@@ -86,6 +93,10 @@ behind_turn Fails more = ([], Malformed)
 unfoldable pub commands_of : Hand → List Token → Reading
 commands_of hand [] = ([], at_end hand)
 commands_of hand (t ∷ ts) = behind_turn (turn hand t) (λ h. commands_of h ts)
+
+-- the tokens without their lines
+abbrev pub spoken : List (ℕ × Token) → List Token
+spoken ts = map (λ t. t.1) ts
 
 -- the commands that stand in a text, which are counted, and its end
 unfoldable pub written : List ℕ → Reading
