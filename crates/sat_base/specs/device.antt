@@ -3,4 +3,5 @@ pub mod Device
 pub mod Reading
 pub mod Sink
 pub mod Waiting
+pub mod TakenAhead
 pub mod Fed

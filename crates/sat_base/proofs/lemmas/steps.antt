@@ -5,6 +5,7 @@ pub mod LentInput
 pub mod ListBytes
 pub mod NumberBytes
 pub mod Numbers
+pub mod NumbersAhead
 pub mod OneSpelling
 pub mod StepReads
 pub mod StepsWritten

@@ -1,5 +1,5 @@
 //! Taking bytes that were read ahead.
-ghost use Rattle.std.specs.Prelude.{◌≡◌, ◌<◌, ◌≤◌, ◌∷◌, ℕ, List, OnOk};
+ghost use Rattle.std.specs.Prelude.{◌≡◌, ◌+◌, ◌<◌, ◌≤◌, ◌∷◌, ℕ, List, take, drop, OnOk};
 ghost use Rattle.sat_base.specs.device.Reading.{RefillsAlone};
 ghost use Rattle.sat_base.specs.device.Waiting.{waiting};
 
@@ -30,6 +30,15 @@ impl Ahead {
         let byte = self.piece[self.at];
         self.at += 1;
         byte
+    }
+
+    /// The byte at a place of those that wait, which stays.
+    #[inline(always)]
+    pub(crate) fn byte_at(&self, at: usize) -> u8
+        requires { at < self.now.end }
+        ensures { drop at (take self.now.end self.now.piece) ≡ result ∷ drop (at + 1) (take self.now.end self.now.piece) }
+    {
+        self.piece[at]
     }
 
     /// Reads the next piece, where all of the last one was taken.

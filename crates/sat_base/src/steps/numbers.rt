@@ -1,20 +1,64 @@
 //! A number's bytes.
-ghost use Rattle.std.specs.Prelude.{◌+◌, ◌<◌};
+ghost use Rattle.std.specs.Prelude.{◌≡◌, ◌+◌, ◌<◌, ℕ, Some, None};
 ghost use Rattle.sat_base.specs.device.Reading.{Got};
+ghost use Rattle.sat_base.specs.device.TakenAhead.{TakesNumber};
 ghost use Rattle.sat_base.specs.device.Sink.{Sends, sink_of};
 ghost use Rattle.sat_base.specs.steps.StepBytes.{number_bytes};
 ghost use Rattle.sat_base.specs.steps.Numbers.{IsBelow};
 
+use crate::device::ahead::Ahead;
 use crate::device::input::Input;
 use crate::device::output::Output;
 use crate::device::room::Room;
 use crate::{CountedRead, CountedWrite, StepError};
 use std::io;
 
+/// What the ninth group of a number counts.
+const LARGEST_PLACE: u64 = 1 << 56;
+
+impl Ahead {
+    /// Takes a number that is at most the largest, where it is whole among the bytes that wait and has at most eight.
+    #[inline(always)] // each literal and each hash goes through it
+    pub(crate) fn take_number(&mut self, largest: u64) -> Option<u64>
+        ensures some { (number : ℕ) → result ≡ Some number → TakesNumber (largest + 1) number self.old self.new }
+        ensures none { result ≡ None → self.new ≡ self.old }
+    {
+        let mut at = self.at;
+        let mut value = 0;
+        let mut place = 1;
+        while at < self.end && place < LARGEST_PLACE {
+            let byte = self.byte_at(at) as u64;
+            at += 1;
+            if byte < 128 {
+                let number = value + place * byte;
+                if number > largest || byte == 0 && place > 1 {
+                    return None;
+                }
+                self.at = at;
+                return Some(number);
+            }
+            value += place * (byte - 128);
+            place *= 128;
+        }
+        None
+    }
+}
+
 impl<R: CountedRead> Input<'_, R> {
     /// Reads a number that is at most the largest.
     #[inline(always)] // each literal and each hash goes through it
     pub(super) fn number(&mut self, largest: u64) -> Result<u64, StepError>
+        requires { 0 < largest }
+        ensures { Got (IsBelow (largest + 1)) result R.seen self.old self.new }
+    {
+        if let Some(number) = self.ahead.take_number(largest) {
+            return Ok(number);
+        }
+        self.number_by_bytes(largest)
+    }
+
+    /// Reads it byte by byte: it may be cut by the end of a piece, or of the text, or be none.
+    fn number_by_bytes(&mut self, largest: u64) -> Result<u64, StepError>
         requires { 0 < largest }
         ensures { Got (IsBelow (largest + 1)) result R.seen self.old self.new }
     {

@@ -284,18 +284,18 @@ next_fails errors.BadByte n s t h = absurd h
 next_fails errors.OutOfMemory n s t h = absurd h
 next_fails errors.HasFailed n s t h = absurd h
 
-took_known : (a b : Option (List ℕ)) (ws vs : List ℕ) (byte : ℕ) → ws ≡ byte ∷ vs → Consumes a (prepend_known ws b) [] → Consumes a (prepend_known vs b) (byte ∷ [])
-took_known None b ws vs byte e h = tt
-took_known (Some x) None ws vs byte e h = absurd h
-took_known (Some x) (Some y) ws vs byte e h = h ∙ ap (λ (z : List ℕ). z ++ y) e
+took_known : (a b : Option (List ℕ)) (ws vs text : List ℕ) → ws ≡ text ++ vs → Consumes a (prepend_known ws b) [] → Consumes a (prepend_known vs b) text
+took_known None b ws vs text e h = tt
+took_known (Some x) None ws vs text e h = absurd h
+took_known (Some x) (Some y) ws vs text e h = h ∙ ap (λ (z : List ℕ). z ++ y) e ∙ append_assoc text vs y
 
-pub took_byte : (s : Source) (r : Reader) (ws vs names : List ℕ) (n m byte : ℕ) → Passes s (record { reader = r; waiting = ws; reads = n; names = names }) [] → ws ≡ byte ∷ vs → m ≡ n
-    → Passes s (record { reader = r; waiting = vs; reads = m; names = names }) (byte ∷ [])
-took_byte s r ws vs names n m byte p e f = record {
+pub took_text : (s : Source) (r : Reader) (ws vs names : List ℕ) (n m : ℕ) (text : List ℕ) → Passes s (record { reader = r; waiting = ws; reads = n; names = names }) [] → ws ≡ text ++ vs → m ≡ n
+    → Passes s (record { reader = r; waiting = vs; reads = m; names = names }) text
+took_text s r ws vs names n m text p e f = record {
   fresh = p.fresh;
   gave = p.gave;
   flows = p.flows ∙ e;
-  bytes = took_known (to_come s) r.to_come ws vs byte e p.bytes;
+  bytes = took_known (to_come s) r.to_come ws vs text e p.bytes;
   failures = p.failures;
   calls = omega (arith, p.calls, f);
   room = omega (arith, p.room, f);

@@ -2,7 +2,7 @@ use Rattle.std.proofs.Common.{List, ℕ, [], ◌∷◌}
 use Rattle.std.proofs.lemmas.Result.{err_from_is_err_and}
 use Rattle.sat_base.specs.device.Waiting.{waiting}
 use Rattle.sat_base.specs.device.Reading.{source_of}
-use Rattle.sat_base.proofs.lemmas.device.ReadLemmas.{next_fails, took_byte, gave_some, gave_nothing}
+use Rattle.sat_base.proofs.lemmas.device.ReadLemmas.{next_fails, took_text, gave_some, gave_nothing}
 use Rattle.sat_base.proofs.device.input.Input.first_byte.Goals as goal
 
 pub returns-in_err-refill : goal.returns-in_err-refill
@@ -25,4 +25,4 @@ returns g c =
     let names : List ℕ = i.reader.ghost_name ∷ i.ahead.ghost_name ∷ [] in
     let a = c.refill.new.self in
     let b = c.take.new.self in
-    took_byte (source_of g.R.CountedRead.seen i) (g.R.CountedRead.seen c.refill.new.reader) (waiting a) (waiting b) names a.reads b.reads c.take.result (gave_some a.end _ _ c.if-self-eq0.false (c.in_ok-refill.ensures.bytes names).0) c.take.ensures.byte c.take.ensures.reads
+    took_text (source_of g.R.CountedRead.seen i) (g.R.CountedRead.seen c.refill.new.reader) (waiting a) (waiting b) names a.reads b.reads (c.take.result ∷ []) (gave_some a.end _ _ c.if-self-eq0.false (c.in_ok-refill.ensures.bytes names).0) c.take.ensures.byte c.take.ensures.reads

@@ -1,64 +1,14 @@
-use Rattle.std.proofs.Common.{◌+◌, arith}
-use Rattle.std.proofs.lemmas.Result.{err_from_is_err_and}
-use Rattle.sat_base.proofs.lemmas.device.ReadLemmas.{groups_none, groups_stop, groups_zero, groups_zero_bad, groups_last, groups_past, groups_more, room_start, in_room, room_low, room_high, room_small}
+use Rattle.std.proofs.Common.{List, ℕ, [], ◌∷◌, refl}
+use Rattle.sat_base.specs.device.Waiting.{waiting}
+use Rattle.sat_base.specs.device.Reading.{source_of}
+use Rattle.sat_base.proofs.lemmas.device.ReadLemmas.{passes_none, took_text}
 use Rattle.sat_base.proofs.device.input.Input.number.Goals as goal
 
-pub loop-byte-init : goal.loop-byte-init
-loop-byte-init g c = let r = room_start c.args.largest in record { groups = groups_none (c.args.largest + 1) _ (omega (arith, c.requires)); low = r.0; high = r.1 }
-
-pub returns-in_err-byte : goal.returns-in_err-byte
-returns-in_err-byte g c =
-    let p = err_from_is_err_and c.from_residual.result c.from_residual.ensures.1 in
-    rw (p.1, p.2) (groups_stop (c.args.largest + 1) c.loop-byte.value c.loop-byte.place _ _ _ c.in_err-byte.field-0.0 c.loop-byte.invariant.groups c.in_err-byte.ensures)
-
-pub returns-then-place-eq1 : goal.returns-then-place-eq1
-returns-then-place-eq1 g c =
-    groups_zero (c.args.largest + 1) c.loop-byte.value c.loop-byte.place c.in_ok-byte.byte _ _ _ c.loop-byte.invariant.groups c.in_ok-byte.ensures c.if-byte-eq0.true c.if-place-eq1.true (omega (arith, c.requires))
-
-pub returns-else-place-eq1 : goal.returns-else-place-eq1
-returns-else-place-eq1 g c = groups_zero_bad (c.args.largest + 1) c.loop-byte.value c.loop-byte.place c.in_ok-byte.byte _ _ _ c.loop-byte.invariant.groups c.in_ok-byte.ensures c.if-byte-eq0.true c.if-place-eq1.false
-
-pub returns-then-byte-room : goal.returns-then-byte-room
-returns-then-byte-room g c = groups_past c.args.largest c.loop-byte.value c.loop-byte.place c.loop-byte.room c.in_ok-byte.byte _ _ _ c.loop-byte.invariant.groups c.in_ok-byte.ensures c.loop-byte.invariant.high c.if-byte-room.true
-
-pub returns-then-byte-lt128 : goal.returns-then-byte-lt128
-returns-then-byte-lt128 g c =
-    let small = in_room c.args.largest c.loop-byte.value c.loop-byte.place c.loop-byte.room c.in_ok-byte.byte c.loop-byte.invariant.low (omega arith) in
-    groups_last (c.args.largest + 1) c.loop-byte.value c.loop-byte.place c.in_ok-byte.byte _ _ _ c.loop-byte.invariant.groups c.in_ok-byte.ensures c.if-byte-eq0.false c.if-byte-lt128.true small
-
-pub loop-byte-preserved : goal.loop-byte-preserved
-loop-byte-preserved g c =
-    let n = c.args.largest in
-    let v = c.loop-byte.value in
-    let p = c.loop-byte.place in
-    let r = c.loop-byte.room in
-    let b = c.in_ok-byte.byte in
-    let i = c.loop-byte.invariant in
-    record {
-      groups = groups_more (n + 1) v p b _ _ _ i.groups c.in_ok-byte.ensures c.if-byte-lt128.false (omega arith) (room_small n v p r b i.low c.if-byte-lt128.false (omega arith));
-      low = room_low n v p r b i.low c.if-byte-lt128.false (omega arith);
-      high = room_high n v p r b i.high c.if-byte-lt128.false (omega arith);
-    }
-
--- WHERE NO SUM OR PRODUCT WRAPS
-
-pub overflow_mul-result : goal.overflow_mul-result
-overflow_mul-result g c = omega (arith, in_room c.args.largest c.loop-byte.value c.loop-byte.place c.loop-byte.room c.in_ok-byte.byte c.loop-byte.invariant.low (omega arith))
-
-pub overflow_add-result : goal.overflow_add-result
-overflow_add-result g c = omega (arith, in_room c.args.largest c.loop-byte.value c.loop-byte.place c.loop-byte.room c.in_ok-byte.byte c.loop-byte.invariant.low (omega arith))
-
-pub overflow_mul-value : goal.overflow_mul-value
-overflow_mul-value g c = omega (arith, room_small c.args.largest c.loop-byte.value c.loop-byte.place c.loop-byte.room c.in_ok-byte.byte c.loop-byte.invariant.low c.if-byte-lt128.false (omega arith))
-
-pub overflow_add-value : goal.overflow_add-value
-overflow_add-value g c = omega (arith, room_small c.args.largest c.loop-byte.value c.loop-byte.place c.loop-byte.room c.in_ok-byte.byte c.loop-byte.invariant.low c.if-byte-lt128.false (omega arith))
-
-pub overflow_mul-place : goal.overflow_mul-place
-overflow_mul-place g c = omega (arith, room_small c.args.largest c.loop-byte.value c.loop-byte.place c.loop-byte.room c.in_ok-byte.byte c.loop-byte.invariant.low c.if-byte-lt128.false (omega arith))
-
-pub overflow_sub-room : goal.overflow_sub-room
-overflow_sub-room g c = omega arith
-
-pub loop-byte-smaller : goal.loop-byte-smaller
-loop-byte-smaller g c = omega arith
+pub returns-in-Some : goal.returns-in-Some
+returns-in-Some g c =
+    let i = c.args.self.now in
+    let names : List ℕ = i.reader.ghost_name ∷ i.ahead.ghost_name ∷ [] in
+    let a = i.ahead.now in
+    let b = c.take_number.new.self in
+    let t = c.in-Some.ensures.some c.in-Some.number refl in
+    (t.0, took_text (source_of g.R.CountedRead.seen i) (g.R.CountedRead.seen i.reader.now) (waiting a) (waiting b) names a.reads b.reads t.0 (passes_none (source_of g.R.CountedRead.seen i)) t.2 t.3, t.1)

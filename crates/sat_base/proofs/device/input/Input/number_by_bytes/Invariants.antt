@@ -1,7 +1,7 @@
 use Rattle.std.proofs.Common.{◌+◌, ◌*◌, ◌<◌, ◌≤◌}
 use Rattle.sat_base.specs.device.Reading.{source_of}
 use Rattle.sat_base.proofs.lemmas.device.ReadLemmas.{Groups}
-use Rattle.sat_base.proofs.device.input.Input.number.Given as goal
+use Rattle.sat_base.proofs.device.input.Input.number_by_bytes.Given as goal
 
 abbrev pub invariant-loop-byte : goal.invariant-loop-byte
 invariant-loop-byte g l = record {

@@ -1,0 +1,47 @@
+-- Numbers that stand whole among the bytes that wait.
+use Rattle.std.proofs.Common.{◌≡◌, ℕ, zero, suc, ◌+◌, ◌*◌, ◌-◌, ◌<◌, ◌≤◌, List, [], ◌∷◌, ◌++◌, ◌⊎◌, inl, inr, append_assoc, refl, sym, ap, ◌∙◌, arith}
+use Rattle.std.proofs.Math.Nat.{mul-le-mul_left}
+use Rattle.sat_base.specs.steps.Numbers.{IsBelow}
+use Rattle.sat_base.proofs.lemmas.steps.Numbers.{Front, front_none, front_more, last_read}
+
+-- Groups that go on were looked at: they stand for value, and what stands behind them counts place times.
+pub record LookedAt (value place : ℕ) (whole rest : List ℕ) : Type 0 where
+  pub front : List ℕ
+  pub is : Front front value place
+  pub split : whole ≡ front ++ rest
+  pub small : value < place
+  pub begun : (front ≡ []) ⊎ (1 < place)
+
+pub looked_at_none : (whole : List ℕ) → LookedAt 0 1 whole whole
+looked_at_none whole = record { front = []; is = front_none; split = refl; small = omega arith; begun = inl refl }
+
+-- what a group adds stays below what the next one counts
+pub group_small : (value place b : ℕ) → value < place → b < 128 → value + place * b < place * 128
+group_small value place b s p = let m : place * b ≤ place * 127 = mul-le-mul_left place (omega arith) in omega (arith, m, s)
+
+split_more : (whole front rest more : List ℕ) (b : ℕ) → whole ≡ front ++ rest → rest ≡ b ∷ more → whole ≡ (front ++ b ∷ []) ++ more
+split_more whole front rest more b e f = e ∙ ap (λ (xs : List ℕ). front ++ xs) f ∙ sym (append_assoc front (b ∷ []) more)
+
+pub looked_at_more : (value place b : ℕ) (whole rest more : List ℕ) → LookedAt value place whole rest → rest ≡ b ∷ more → 128 ≤ b → b < 256 → LookedAt (value + place * (b - 128)) (place * 128) whole more
+looked_at_more value place b whole rest more l e p q = record {
+  front = l.front ++ b ∷ [];
+  is = front_more l.front value place b p q l.is;
+  split = split_more whole l.front rest more b l.split e;
+  small = group_small value place (b - 128) l.small (omega arith);
+  begun = inr (omega (arith, l.small));
+}
+
+pub positive_from : (b : ℕ) → (b ≡ 0 → ⊥) → 0 < b
+positive_from zero h = absurd (h refl)
+positive_from (suc b) h = omega arith
+
+last_begins : (front : List ℕ) (place b : ℕ) → (front ≡ []) ⊎ (1 < place) → (0 < b) ⊎ (place ≤ 1) → (front ≡ []) ⊎ (0 < b)
+last_begins front place b (inl e) h = inl e
+last_begins front place b (inr p) (inl h) = inr h
+last_begins front place b (inr p) (inr h) = absurd (omega (arith, p, h))
+
+-- a last group, which is 0 only where it is the only one
+pub looked_at_last : (limit value place b : ℕ) (whole rest more : List ℕ) → LookedAt value place whole rest → rest ≡ b ∷ more → b < 128 → (0 < b) ⊎ (place ≤ 1) → value + place * b < limit
+    → (text : List ℕ) × IsBelow limit (value + place * b) text × (whole ≡ text ++ more)
+looked_at_last limit value place b whole rest more l e p z h =
+    (l.front ++ b ∷ [], last_read limit l.front value place b l.is p (last_begins l.front place b l.begun z) h, split_more whole l.front rest more b l.split e)
