@@ -58,6 +58,7 @@ impl<R: CountedRead> Input<'_, R> {
     }
 
     /// Reads it byte by byte: it may be cut by the end of a piece, or of the text, or be none.
+    #[inline(never)] // so that numbers that stand whole pay nothing for it
     fn number_by_bytes(&mut self, largest: u64) -> Result<u64, StepError>
         requires { 0 < largest }
         ensures { Got (IsBelow (largest + 1)) result R.seen self.old self.new }
