@@ -4,6 +4,7 @@ use Rattle.std.proofs.lemmas.Bool.{and_from, and_parts, ne_eqb, or_from, not_fro
 use Rattle.sat_base.specs.values.Literals.{variable}
 use Rattle.sat_base.specs.steps.Steps.{DeleteVar}
 use Rattle.sat_checker.specs.LiteralSets.{mentions}
+use Rattle.sat_checker.specs.Stored.{Hide}
 use Rattle.sat_parts.specs.prop.State.{State}
 use Rattle.sat_solver.specs.session.Session.{Session, after, May}
 use Rattle.sat_solver.specs.session.LiveClauses.{LiveClause, with_var, mapped, AreMapped}
@@ -31,8 +32,8 @@ module _ (cs : List LiveClause) (st : State) (s : Session) (global : ℕ → ℕ
       let d = in_map_back (mapped global) cs c k in
       ap (λ (x : LiveClause). mentions x.literals v) d.1.1 ∙ none_mentions s.solver_names global v d.0.literals none (h.clauses.named d.0 d.1.0)) r set (subst (λ k. 0 < k) (h.clauses.counts r set) n)
 
-  pub may_forget : (s.variables v).known ≡ true → (s.variables v).name ≡ None → mentions s.assumed v ≡ false → May s (DeleteVar v)
-  may_forget known nameless free = record { known = known; nameless = nameless; unused = unused; not_assumed = free }
+  pub may_forget : (s.variables v).known ≡ true → (s.variables v).name ≡ None → (s.variables v).mode ≡ Hide → mentions s.assumed v ≡ false → May s (DeleteVar v)
+  may_forget known nameless hidden free = record { known = known; nameless = nameless; hidden = hidden; unused = unused; not_assumed = free }
 
   -- the literals that are units of the search are of variables that have names
   pub listed_forgotten : ((l : ℕ) → IsUnitLit st l → s.solver_names (global (variable l)) ≡ Some (variable l)) → FitsList cs st (after (DeleteVar v) s) global

@@ -201,10 +201,11 @@ module _ (old new : Variables) (v : ℕ) (tidy : AreTidy old) (alive : (data_at 
           go true x = subst (λ d. IsModeOf d.sampling_mode (get_or j.modes i Sampled)) (sym x) tt
           go false x = subst (λ d. IsModeOf d.sampling_mode (get_or j.modes i Sampled)) (sym x) (judged.modes w i (was w i e))
 
-pub may_delete : (old : Variables) (v : ℕ) (s : Session) → AreSaid old s → (data_at old v).deleted ≡ false → user_of old v ≡ None → solver_of old v ≡ None → (data_at old v).assumed ≡ false → MayForget s v
-may_delete old v s said alive nameless noindex unmarked = record {
+pub may_delete : (old : Variables) (v : ℕ) (s : Session) → AreTidy old → AreSaid old s → (data_at old v).deleted ≡ false → user_of old v ≡ None → solver_of old v ≡ None → (data_at old v).assumed ≡ false → MayForget s v
+may_delete old v s tidy said alive nameless noindex unmarked = record {
   known = ap (λ x. x.known) at;
   nameless = ap (λ x. x.name) at ∙ nameless;
+  hidden = ap (λ x. x.mode) at ∙ ap mode_in (tidy.hidden v alive nameless);
   unused = said.unused v noindex;
   not_assumed = said.marked v ∙ unmarked;
 }
@@ -218,7 +219,7 @@ var_deleted old new from to v stands alive nameless noindex unmarked put e = rec
   stands = record {
     tidy = tidy_deleted old new v stands.tidy alive nameless noindex put;
     said = subst (λ steps. AreSaid new (session_after steps)) (sym e) (said_deleted old new v stands.tidy alive nameless noindex put (session_after from) stands.said (stands.said.marked v ∙ unmarked));
-    may = subst MayAll (sym e) (stands.may, may_delete old v (session_after from) stands.said alive nameless noindex unmarked);
+    may = subst MayAll (sym e) (stands.may, may_delete old v (session_after from) stands.tidy stands.said alive nameless noindex unmarked);
     read = λ u. ap (λ steps. variable_of steps (u + 1)) e ∙ stands.read u ∙ ap (λ m. target m.fwd u) (sym put.users);
   };
   kept = λ j live a. subst (λ steps. Kept new from steps j []) (sym e) (
@@ -231,7 +232,7 @@ var_deleted old new from to v stands alive nameless noindex unmarked put e = rec
 }
   where
     accepted : the_checking.Accepts from (DeleteVar v)
-    accepted = (sessions_are_accepted (DeleteVar v ∷ from) (stands.may, may_delete old v (session_after from) stands.said alive nameless noindex unmarked)).0.1
+    accepted = (sessions_are_accepted (DeleteVar v ∷ from) (stands.may, may_delete old v (session_after from) stands.tidy stands.said alive nameless noindex unmarked)).0.1
 
 -- the search sees that units are forgotten
 pub var_forgotten : (from to : List Step) (v : ℕ) → to ≡ DeleteVar v ∷ from → Forgets (session_after from) (session_after to) v

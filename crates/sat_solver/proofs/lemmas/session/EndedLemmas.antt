@@ -111,7 +111,7 @@ may_longer : (o : Option (List ℕ)) (step : Step) (s : Session) → Longer s.la
 may_longer o (SolverVarName v name) s l m = tt
 may_longer o (UserVarName v (Some name)) s l m = record { free = m.free; nameless = m.nameless; not_hidden = m.not_hidden }
 may_longer o (UserVarName v None) s l m = m
-may_longer o (DeleteVar v) s l m = record { known = m.known; nameless = m.nameless; unused = m.unused; not_assumed = m.not_assumed }
+may_longer o (DeleteVar v) s l m = record { known = m.known; nameless = m.nameless; hidden = m.hidden; unused = m.unused; not_assumed = m.not_assumed }
 may_longer o (ChangeSamplingMode v sample) s l m = m
 may_longer o (AddClause clause) s l m = m
 may_longer o (AtClause r clause hashes) s l m = derive_at o s clause hashes m

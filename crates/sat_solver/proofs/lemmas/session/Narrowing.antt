@@ -143,7 +143,7 @@ pub may_at : (w : ℕ) (step : Step) (s : Session) → s.width ≡ 64 → May s 
 may_at w (SolverVarName v name) s e m = tt
 may_at w (UserVarName v (Some name)) s e m = record { free = m.free; nameless = m.nameless; not_hidden = m.not_hidden }
 may_at w (UserVarName v None) s e m = m
-may_at w (DeleteVar v) s e m = record { known = m.known; nameless = m.nameless; unused = m.unused; not_assumed = m.not_assumed }
+may_at w (DeleteVar v) s e m = record { known = m.known; nameless = m.nameless; hidden = m.hidden; unused = m.unused; not_assumed = m.not_assumed }
 may_at w (ChangeSamplingMode v sample) s e m = m
 may_at w (AddClause clause) s e m = m
 may_at w (AtClause r clause hashes) s e m = derive_at w s e clause hashes m

@@ -148,7 +148,7 @@ hidden_may = ((
             ),
             tt,
           ),
-          record { known = refl; nameless = refl; unused = λ r set n. nothing_lives 0 set n; not_assumed = refl },
+          record { known = refl; nameless = refl; hidden = refl; unused = λ r set n. nothing_lives 0 set n; not_assumed = refl },
         ),
         tt,
       ),
