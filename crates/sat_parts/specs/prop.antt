@@ -1,4 +1,5 @@
 pub mod Values
+pub mod LitValues
 pub mod Trails
 pub mod Graphs
 pub mod State

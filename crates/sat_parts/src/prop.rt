@@ -8,6 +8,7 @@ pub mod assignment;
 pub mod binary;
 pub mod cause;
 pub mod graph;
+mod lit_values;
 pub mod long;
 mod queue;
 pub mod trail;

@@ -4,6 +4,7 @@ ghost use Rattle.sat_base.specs.values.Literals.{largest, variable, is_positive}
 ghost use Rattle.sat_parts.specs.prop.Values.{assigned, made_true, with_var_count, value_of, seen_from, IsTrueLit, IsFalseLit, IsOpenLit};
 ghost use Rattle.sat_parts.specs.prop.Undone.{lost};
 
+use crate::prop::lit_values::LitValues;
 use sat_base::{Lit, Var};
 use std::alloc::{AllocError, Global};
 use std::marker::Model;
@@ -14,18 +15,22 @@ use std::marker::Model;
 pub struct Assignment {
     values: Vec<Option<bool>>,
     last_values: Vec<bool>,
+    /// The values again, by code of literal: one load and one branch for what an inner loop asks.
+    lit_values: LitValues,
 }
 
 impl Model for Assignment {
     ghost use Rattle.std.specs.Prelude.{◌≡◌, ◌≤◌, length};
     ghost use Rattle.sat_base.specs.values.Literals.{largest};
     ghost use Rattle.sat_parts.specs.prop.Values.{Values};
+    ghost use Rattle.sat_parts.specs.prop.LitValues.{Agrees};
 
     ghost Value = { Values };
 
     ghost view = { λ a. record { current = a.values.items; last = a.last_values.items } };
 
-    ghost invariant = { λ a. (length a.last_values.items ≡ length a.values.items) × (length a.values.items ≤ largest) };
+    ghost invariant = { λ a. (length a.last_values.items ≡ length a.values.items) × (length a.values.items ≤ largest)
+        × Agrees a.values.items a.lit_values.codes.items };
 }
 
 /// Whether both are the same value, or both none.
@@ -45,6 +50,7 @@ impl Assignment {
         Assignment {
             values: Vec::new(alloc),
             last_values: Vec::new(alloc),
+            lit_values: LitValues::new(alloc),
         }
     }
 
@@ -57,6 +63,7 @@ impl Assignment {
         let more = count.saturating_sub(self.values.len());
         self.values.reserve(more)?;
         self.last_values.reserve(more)?;
+        self.lit_values.set_var_count(count)?;
         self.values.resize(count, None)?;
         self.last_values.resize(count, false)?;
         Ok(())
@@ -103,7 +110,7 @@ impl Assignment {
         requires { variable lit < length self.now.current }
         ensures { IsTrue result ↔ IsTrueLit self.now.current lit }
     {
-        fast_option_eq(self.values[lit.index()], Some(lit.is_positive()))
+        self.lit_values.is_true(lit)
     }
 
     #[inline(always)] // called for each literal that an inner loop looks at
@@ -111,7 +118,7 @@ impl Assignment {
         requires { variable lit < length self.now.current }
         ensures { IsTrue result ↔ IsFalseLit self.now.current lit }
     {
-        fast_option_eq(self.values[lit.index()], Some(lit.is_negative()))
+        self.lit_values.is_false(lit)
     }
 
     /// Whether the literal's variable has no value.
@@ -119,7 +126,7 @@ impl Assignment {
         requires { variable lit < length self.now.current }
         ensures { IsTrue result ↔ IsOpenLit self.now.current lit }
     {
-        fast_option_eq(self.values[lit.index()], None)
+        self.lit_values.is_open(lit)
     }
 
     /// Makes the literal true.
@@ -128,6 +135,7 @@ impl Assignment {
         ensures { self.new ≡ made_true lit self.old }
     {
         self.values[lit.index()] = Some(lit.is_positive());
+        self.lit_values.set_var(lit.var(), Some(lit.is_positive()));
     }
 
     /// Takes the variable's value away. The value that it lost last stays as it was.
@@ -136,6 +144,7 @@ impl Assignment {
         ensures { self.new ≡ assigned var None self.old }
     {
         self.values[var.index()] = None;
+        self.lit_values.set_var(var, None);
     }
 
     /// Takes the value of a literal's variable away, and keeps it as the last one.
@@ -149,6 +158,7 @@ impl Assignment {
         };
         self.last_values[lit.index()] = was;
         self.values[lit.index()] = None;
+        self.lit_values.set_var(lit.var(), None);
     }
 
     /// Gives the variable this value, or none.
@@ -157,5 +167,6 @@ impl Assignment {
         ensures { self.new ≡ assigned var value self.old }
     {
         self.values[var.index()] = value;
+        self.lit_values.set_var(var, value);
     }
 }

@@ -1,0 +1,115 @@
+//! Values by literal.
+ghost use Rattle.std.specs.Prelude.{◌≡◌, ◌+◌, ◌*◌, ◌<◌, ◌≤◌, ◌↔◌, [], length, IsTrue, OnOk, OnErr, slice_index_or};
+ghost use Rattle.sat_base.specs.values.Literals.{largest};
+ghost use Rattle.sat_parts.specs.prop.LitValues.{told, with_value, with_lit_count};
+
+use sat_base::{Lit, Var};
+use std::alloc::{AllocError, Global};
+
+/// What a literal is: of no value, or of one.
+#[derive(Clone, Copy)]
+pub(crate) enum LitValue {
+    Open,
+    True,
+    False,
+}
+
+/// What each literal is, by code.
+#[derive(Drop)]
+pub(crate) struct LitValues {
+    pub(crate) codes: Vec<LitValue>,
+}
+
+/// What the positive or the negative literal of a variable with this value is.
+#[inline(always)]
+fn lit_value(value: Option<bool>, positive: bool) -> LitValue
+    ensures { result ≡ told value positive }
+{
+    match value {
+        None => LitValue::Open,
+        Some(true) => {
+            if positive {
+                LitValue::True
+            } else {
+                LitValue::False
+            }
+        }
+        Some(false) => {
+            if positive {
+                LitValue::False
+            } else {
+                LitValue::True
+            }
+        }
+    }
+}
+
+impl LitValues {
+    /// Of no variables. Takes no memory.
+    pub(crate) fn new(alloc: Global) -> LitValues
+        ensures { result.codes.items ≡ [] }
+    {
+        LitValues {
+            codes: Vec::new(alloc),
+        }
+    }
+
+    /// Makes the variables those with an index below the count. Literals of new ones are open.
+    pub(crate) fn set_var_count(&mut self, count: usize) -> Result<(), AllocError>
+        requires { count ≤ largest }
+        ensures done { OnOk result (self.new.codes.items ≡ with_lit_count (2 * count) self.old.codes.items) }
+        ensures same { OnErr result (self.new.codes.items ≡ self.old.codes.items) }
+    {
+        let more = (2 * count).saturating_sub(self.codes.len());
+        self.codes.reserve(more)?;
+        self.codes.resize(2 * count, LitValue::Open)?;
+        Ok(())
+    }
+
+    #[inline(always)] // called for each literal that an inner loop looks at
+    pub(crate) fn is_true(&self, lit: Lit) -> bool
+        requires { lit < length self.now.codes.items }
+        ensures { IsTrue result ↔ (slice_index_or self.now.codes.items lit LitValue.Open ≡ LitValue.True) }
+    {
+        match self.codes[lit.code()] {
+            LitValue::True => true,
+            LitValue::Open => false,
+            LitValue::False => false,
+        }
+    }
+
+    #[inline(always)] // called for each literal that an inner loop looks at
+    pub(crate) fn is_false(&self, lit: Lit) -> bool
+        requires { lit < length self.now.codes.items }
+        ensures { IsTrue result ↔ (slice_index_or self.now.codes.items lit LitValue.Open ≡ LitValue.False) }
+    {
+        match self.codes[lit.code()] {
+            LitValue::False => true,
+            LitValue::Open => false,
+            LitValue::True => false,
+        }
+    }
+
+    #[inline(always)] // called for each literal that an inner loop looks at
+    pub(crate) fn is_open(&self, lit: Lit) -> bool
+        requires { lit < length self.now.codes.items }
+        ensures { IsTrue result ↔ (slice_index_or self.now.codes.items lit LitValue.Open ≡ LitValue.Open) }
+    {
+        match self.codes[lit.code()] {
+            LitValue::Open => true,
+            LitValue::True => false,
+            LitValue::False => false,
+        }
+    }
+
+    /// Both literals of the variable are what they are under this value.
+    #[inline(always)] // called for each literal that is assigned
+    pub(crate) fn set_var(&mut self, var: Var, value: Option<bool>)
+        requires { 2 * var + 1 < length self.old.codes.items }
+        ensures { self.new.codes.items ≡ with_value var value self.old.codes.items }
+    {
+        let code = 2 * var.index();
+        self.codes[code] = lit_value(value, true);
+        self.codes[code + 1] = lit_value(value, false);
+    }
+}
