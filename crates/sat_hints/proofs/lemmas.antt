@@ -21,3 +21,6 @@ pub mod Written
 pub mod Finished
 pub mod OneVerdict
 pub mod OneFault
+pub mod Rechecked
+pub mod Certificates
+pub mod Converted

@@ -1,18 +1,27 @@
 -- What a derivation shows.
-use Rattle.std.specs.Prelude.{◌≡◌, ◌↔◌, ◌<◌, ◌^◌, Bool, true, ℕ, Some, List, [], ◌∷◌}
+use Rattle.std.specs.Prelude.{◌≡◌, ◌≢◌, ◌↔◌, ◌<◌, ◌^◌, Bool, true, ℕ, Some, List, [], ◌∷◌, ◌++◌, Result, Ok, Err}
 use Rattle.std.specs.List.{AllByRecursion}
 use Rattle.sat_base.specs.values.Clauses.{Valuation, clause_true, EachTrue, EachHolds}
-use Rattle.sat_base.specs.steps.Steps.{Step, AddClause, DeleteVar}
+use Rattle.sat_base.specs.device.Device.{Reader, Writer, Takes, GaveEnough}
+use Rattle.sat_base.specs.steps.Steps.{Step, AddClause, DeleteVar, End}
 use Rattle.sat_base.specs.steps.StepText.{SpellsSteps}
 use Rattle.sat_checker.specs.Accepts.{AcceptsAll, ready_after}
 use Rattle.sat_checker.specs.Fold.{Holds}
+use Rattle.sat_checker.specs.ProofView.{taken_after}
+use Rattle.sat_checker.specs.declared.error.CheckerError.TheVariants.{CounterEnd}
 use Rattle.sat_hints.specs.Lines.{Line, Input, Derived, Gone, Core, Fresh}
 use Rattle.sat_hints.specs.Hints.{IsHintDerivation, clause_under, derives_empty}
 use Rattle.sat_hints.specs.Conversion.{lines_of, hint_text, hint_verdict}
 use Rattle.sat_hints.specs.Limits.{FitsStep}
 use Rattle.sat_hints.specs.Checks.{IsBadAt, IsProof, Judges}
+use Rattle.sat_hints.specs.Converts.{Converts}
+use Rattle.sat_hints.specs.inner.Holding.{Says}
+use Rattle.sat_hints.specs.declared.answer.HintFault.{HintFault}
 use Rattle.sat_hints.specs.declared.answer.HintVerdict.{HintVerdict}
+use Rattle.sat_hints.specs.declared.answer.HintVerdict.TheVariants.{Proved}
 use Rattle.sat_hints.specs.declared.answer.HintWhy.{HintWhy}
+use Rattle.sat_hints.specs.declared.error.HintError.{HintError}
+use Rattle.sat_hints.specs.declared.error.HintError.TheVariants.{Refused, HasDeleteVar, Read, Write, OutOfMemory}
 
 -- the lines as steps: a clause of the formula is added, a variable that is new was deleted, and all others change no valuation
 abbrev pub steps_of : List Line → List Step
@@ -97,6 +106,26 @@ abbrev pub AnnouncedAreProved : Type 0
 AnnouncedAreProved = (steps : List Step) → AcceptsAll steps → AllByRecursion FitsStep steps → (ready_after steps).next_id < 2 ^ 64 →
     Judges (hint_verdict steps) (hint_text steps)
 
+-- A certificate in its bytes: accepted steps, none of them an end, and an end.
+pub record IsCertificate (steps : List Step) (text : List ℕ) : Type 0 where
+  pub spelt : SpellsSteps (steps ++ End ∷ []) text
+  pub unended : AllByRecursion (λ step. step ≢ End) steps
+  pub accepted : AcceptsAll (End ∷ taken_after steps [])
+
+-- What is answered to accepted steps, the oldest first: their hint text was written, or there was a fault, of which the last id and count are one, too.
+abbrev pub IsTextOrFault : Result (Unit {0}) HintError → List Step → Writer → Writer → Type 0
+IsTextOrFault (Ok x) steps old new = Takes old new (hint_text (End ∷ taken_after steps []))
+IsTextOrFault (Err HasDeleteVar) steps old new = ⊥
+IsTextOrFault (Err (Refused e)) steps old new = e ≡ CounterEnd
+IsTextOrFault (Err Read) steps old new = Unit {0}
+IsTextOrFault (Err Write) steps old new = Unit {0}
+IsTextOrFault (Err OutOfMemory) steps old new = Unit {0}
+
+-- `convert` answers that to a certificate, where its reader tells the bytes
+abbrev pub AcceptedConverts : Type 0
+AcceptedConverts = (steps : List Step) (text more : List ℕ) (result : Result (Unit {0}) HintError) (from to : Reader) (old new : Writer) → IsCertificate steps text → from.to_come ≡ Some (text ++ more)
+    → Converts result from to old new → IsTextOrFault result steps old new
+
 -- a text that is proved is at fault on no line
 abbrev pub ProvedIsNotBad : Type 0
 ProvedIsNotBad = (text : List ℕ) (empty : Bool) (cores lines line : ℕ) (why : HintWhy) → IsProof text empty cores lines → IsBadAt text line why → ⊥
@@ -104,3 +133,13 @@ ProvedIsNotBad = (text : List ℕ) (empty : Bool) (cores lines line : ℕ) (why 
 -- and a text has one verdict at most
 abbrev pub OneVerdict : Type 0
 OneVerdict = (text : List ℕ) (v w : HintVerdict) → Judges v text → Judges w text → v ≡ w
+
+-- the verdict that a text is proved, or a fault
+abbrev pub IsProvedOrFault : Bool → ℕ → ℕ → Result HintVerdict HintFault → Type 0
+IsProvedOrFault empty cores lines (Ok verdict) = verdict ≡ Proved empty cores lines
+IsProvedOrFault empty cores lines (Err fault) = Unit {0}
+
+-- `check` answers that to a text that is proved, where its reader tells the bytes
+abbrev pub ProofIsProved : Type 0
+ProofIsProved = (text : List ℕ) (empty : Bool) (cores lines : ℕ) (result : Result HintVerdict HintFault) (from to : Reader) → IsProof text empty cores lines → from.to_come ≡ Some text
+    → GaveEnough from to (Says result) → IsProvedOrFault empty cores lines result

@@ -3,6 +3,6 @@ pub mod Limits
 pub mod Hints
 pub mod Checks
 pub mod inner
-pub mod Laws
 pub mod Conversion
 pub mod Converts
+pub mod Laws

@@ -1,5 +1,5 @@
 //! What holds of the definitions: each law is the contract of a function that does nothing.
-ghost use Rattle.sat_hints.specs.Laws.{AnnouncedAreProved, AnnouncedDerive, CoresFail, DerivedFollow, EmptyMeansNone, FormulaIsLeft, FormulaLeaves, OneVerdict, PresentHold, ProvedIsNotBad, ReadStepsFit};
+ghost use Rattle.sat_hints.specs.Laws.{AcceptedConverts, AnnouncedAreProved, AnnouncedDerive, CoresFail, DerivedFollow, EmptyMeansNone, FormulaIsLeft, FormulaLeaves, OneVerdict, PresentHold, ProofIsProved, ProvedIsNotBad, ReadStepsFit};
 
 /// What a derivation shows: each derived clause holds in every valuation that the lines before it leave, and no core is true there as
 /// a whole. Lines leave the valuations in which the clauses of the formula hold, but a variable that becomes new may have another
@@ -25,4 +25,14 @@ pub fn announcements_derive()
     ensures derive { AnnouncedDerive }
     ensures read { ReadStepsFit }
     ensures proved { AnnouncedAreProved }
+{}
+
+/// `convert` refuses no certificate of accepted steps whose reader tells its bytes: it writes their hint text, or there is a fault.
+pub fn accepted_converts()
+    ensures { AcceptedConverts }
+{}
+
+/// To a text that is proved, whose reader tells its bytes, `check` answers just that, with the three fields, or there is a fault.
+pub fn proof_is_proved()
+    ensures { ProofIsProved }
 {}

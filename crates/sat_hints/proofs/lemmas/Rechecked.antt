@@ -1,0 +1,22 @@
+-- What is answered to a text that is proved.
+use Rattle.std.proofs.Common.{ℕ, ◌≡◌, List, ◌++◌, Option, None, Some, Ok, Err, refl, sym, subst}
+use Rattle.std.specs.Io.KnownBytes.{Consumes, IsAtEnd}
+use Rattle.sat_hints.specs.Checks.{Judges}
+use Rattle.sat_hints.specs.Laws.{ProofIsProved}
+use Rattle.sat_hints.specs.declared.answer.HintVerdict.TheVariants.{Proved}
+use Rattle.sat_hints.proofs.lemmas.OneFault.{one_verdict}
+
+-- what is still to come
+pub told_left : (xs : List ℕ) (was now : Option (List ℕ)) (bytes : List ℕ) → was ≡ Some xs → Consumes was now bytes → (ys : List ℕ) × (now ≡ Some ys) × (xs ≡ bytes ++ ys)
+told_left xs was now bytes e c = go now (subst (λ o. Consumes o now bytes) e c)
+  where
+    go : (now : Option (List ℕ)) → Consumes (Some xs) now bytes → (ys : List ℕ) × (now ≡ Some ys) × (xs ≡ bytes ++ ys)
+    go None c = absurd c
+    go (Some ys) c = (ys, refl, c)
+
+pub proof_is_proved : ProofIsProved
+proof_is_proved text empty cores lines (Err fault) from to p told g = tt
+proof_is_proved text empty cores lines (Ok verdict) from to p told g =
+    let t = told_left text from.to_come to.to_come g.text told g.front.told in
+    let judged : Judges verdict (g.text ++ t.0) = g.holds t.0 (λ called ended. subst IsAtEnd t.1 (g.over called ended)) in
+    one_verdict text verdict (Proved empty cores lines) (subst (Judges verdict) (sym t.2) judged) p
