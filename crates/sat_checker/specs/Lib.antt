@@ -13,6 +13,7 @@ pub mod HasherView
 pub mod KernelView
 pub mod CheckerView
 pub mod ProofView
+pub mod FewBytes
 pub mod ClausesView
 pub mod DimacsView
 pub mod Leading

@@ -1,8 +1,8 @@
 -- What contracts see of a proof that is read and checked: which steps were read, and what an answer means.
-use Rattle.std.specs.Prelude.{ℕ, ◌≡◌, ◌≢◌, ◌+◌, ◌≤◌, ◌⊎◌, false, true, List, [], ◌∷◌, ◌++◌, Result, Ok, Err}
+use Rattle.std.specs.Prelude.{ℕ, ◌≡◌, ◌≢◌, ◌+◌, ◌*◌, ◌≤◌, ◌⊎◌, false, true, List, [], ◌∷◌, ◌++◌, length, Result, Ok, Err}
 use Rattle.std.specs.List.{AllByRecursion}
-use Rattle.sat_base.specs.device.Device.{Reader, GaveFront, FewReads, IsOver, ReadFails, most_reads}
-use Rattle.sat_base.specs.steps.Formats.{Live, Spoilt}
+use Rattle.sat_base.specs.device.Device.{Reader, GaveFront, FewReads, IsOver, ReadFails, most_reads, piece_size}
+use Rattle.sat_base.specs.steps.Formats.{Live, Open, Spoilt}
 use Rattle.sat_base.specs.steps.Steps.{Step, End}
 use Rattle.sat_base.specs.steps.StepText.{SpellsStep, SpellsSteps}
 use Rattle.sat_checker.specs.Accepts.{Accepts, stored_after, ready_after}
@@ -25,13 +25,26 @@ abbrev pub most_looks_behind : List Step → List Step → ℕ
 most_looks_behind [] earlier = 0
 most_looks_behind (step ∷ steps) earlier = most_looks (ready_after earlier) step + most_looks_behind steps (step ∷ earlier)
 
--- Between two moments a reader gave the text of these steps, and behind it these bytes. Few reads were made for it.
+-- so many reads give at most so many bytes: 2^60
+abbrev pub most_bytes : ℕ
+most_bytes = piece_size * most_reads
+
+-- Between two moments a reader gave the text of these steps, and behind it these bytes. Few reads were made for it, and few bytes given.
 pub record GaveSteps (old new : Reader) (steps : List Step) (rest : List ℕ) : Type 0 where
   pub text : List ℕ
   pub spelt : SpellsSteps steps text
   pub front : GaveFront old new (text ++ rest)
   pub few : FewReads old new
   pub reads : new.calls ≤ old.calls + most_reads
+  pub bytes : length (text ++ rest) ≤ most_bytes
+
+-- the bytes begin with those of a step, whole or cut off, and these aren't none
+pub record BeginWithStep (bytes : List ℕ) : Type 0 where
+  pub tag : ℕ
+  pub more : List ℕ
+  pub behind : List ℕ
+  pub whole : bytes ≡ (tag ∷ more) ++ behind
+  pub begins : Open SpellsStep (tag ∷ more)
 
 -- A proof was read so far: steps that were accepted, none of them an end, then the last step read or none, and bytes behind them.
 pub record Went {L : Type 0} (old new : Seen L) (from to : Reader) (earlier passed last : List Step) (rest : List ℕ) : Type 0 where
@@ -69,10 +82,10 @@ module _ {L : Type 0} (Hears : L → Told → Result Unit ProcessingError → L 
   AnswersProof (Err errors.IoError) old new from to earlier =
       (passed : List Step) × (rest : List ℕ) × Went old new from to earlier passed [] rest × ReadFails from to
       × Live SpellsStep rest × GoesOn new (taken_after passed earlier)
-  -- as a step is read, checked or told
+  -- as a step is read, of which a byte was, or as it is checked or told
   AnswersProof (Err errors.OutOfMemory) old new from to earlier =
       (passed : List Step) × (rest : List ℕ) × NoneFailed from to
-      × ((Went old new from to earlier passed [] rest × Stops Hears before begun new (taken_after passed earlier))
+      × ((Went old new from to earlier passed [] rest × BeginWithStep rest × Stops Hears before begun new (taken_after passed earlier))
       ⊎ ((step : Step) × Went old new from to earlier passed (step ∷ []) rest
       × (Stops Hears before begun new (taken_after passed earlier) ⊎ BreaksAt Hears before begun faults.OutOfMemory new step (taken_after passed earlier))))
   -- the last id or count was given before

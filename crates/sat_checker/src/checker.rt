@@ -177,14 +177,6 @@ impl<P: ProofProcessor, T: ProofTranscriptProcessor> Checker<P, T> {
         self.kernel.records.var_deleted
     }
 
-    /// How many ids were given, while the checker hasn't failed and no unit conflict waits.
-    pub fn ids(&self) -> u64
-        ensures { has_failed (kernel_of self.now) ≡ false → kernels.IsSettled (kernel_of self.now)
-            → (steps : List Step) → Stands (kernel_of self.now) steps → result ≡ (ready_after steps).next_id }
-    {
-        self.kernel.state.formula.status.next_id
-    }
-
     /// The user's name of a variable, while the checker hasn't failed.
     pub fn user_name(&self, var: Var) -> Option<Var>
         ensures { has_failed (kernel_of self.now) ≡ false

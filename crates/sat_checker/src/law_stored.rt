@@ -1,5 +1,6 @@
 //! What makes a clause pass, what each step leaves of what is stored, and what always holds of it: each law is the contract of a function that
 //! does nothing.
+ghost use Rattle.sat_checker.specs.FewBytes.{IdsWithinBytes, NoneIsSpent};
 ghost use Rattle.sat_checker.specs.Invariants.{AllClausesHold, AlwaysOrderly, AlwaysTidy, ContentsAreSettled, ContentsFollow, ContentsOfSteps, CountedIsStored, DerivedIsLast, LastIsSettled, LastStays, PendingChangesNothing, TakingCounts, UnsatStays};
 ghost use Rattle.sat_checker.specs.Leading.{HashOfAnyOrder, LeadingPasses, LeadsOnMore, TurnsConflict, TurnsLead};
 
@@ -35,4 +36,11 @@ pub fn last_was_derived()
     ensures derived { DerivedIsLast }
     ensures stays { LastStays }
     ensures settled { LastIsSettled }
+{}
+
+/// Steps give no more ids than they have bytes. So none of those that a reader can give, behind a new checker's none, comes to the end of
+/// ids or counts.
+pub fn bytes_bound_ids()
+    ensures ids { IdsWithinBytes }
+    ensures spent { NoneIsSpent }
 {}

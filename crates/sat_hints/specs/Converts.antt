@@ -5,9 +5,8 @@ use Rattle.sat_base.specs.device.Device.{Reader, Writer, IsOver, ReadFails, Take
 use Rattle.sat_base.specs.steps.Formats.{Live, Spoilt}
 use Rattle.sat_base.specs.steps.Steps.{Step, End}
 use Rattle.sat_base.specs.steps.StepText.{SpellsStep}
-use Rattle.sat_checker.specs.Accepts.{Accepts, AcceptsAll, stored_after, ready_after}
-use Rattle.sat_checker.specs.ProofView.{GaveSteps, taken_after, NoneFailed}
-use Rattle.sat_checker.specs.Spent.{SpentBy}
+use Rattle.sat_checker.specs.Accepts.{Accepts, AcceptsAll, ready_after}
+use Rattle.sat_checker.specs.ProofView.{GaveSteps, BeginWithStep, taken_after, NoneFailed}
 use Rattle.sat_checker.specs.declared.error.CheckerError.{CheckerError}
 use Rattle.sat_checker.specs.declared.error.CheckerError.TheVariants as errors
 use Rattle.sat_hints.specs.Conversion.{hint_text, hint_verdict}
@@ -32,9 +31,9 @@ pub record TookFront (old new : Writer) (text : List ℕ) : Type 0 where
 abbrev pub BreaksBehind : Writer → Writer → Step → List Step → Type 0
 BreaksBehind old new step steps = Breaks old new (hint_text steps) ⊎ (Accepts (ready_after steps) step × Breaks old new (hint_text (step ∷ steps)))
 
--- the steps that passed are all that were read, or one more was
+-- behind the steps that passed one was begun, of which a byte was given, or it was read
 abbrev pub GaveUpTo : Reader → Reader → List Step → List ℕ → Type 0
-GaveUpTo from to passed rest = Gave from to passed [] rest ⊎ ((step : Step) × Gave from to passed (step ∷ []) rest)
+GaveUpTo from to passed rest = (Gave from to passed [] rest × BeginWithStep rest) ⊎ ((step : Step) × Gave from to passed (step ∷ []) rest)
 
 -- the certificate was read and accepted to its end
 pub record IsAccepted (from to : Reader) (passed : List Step) (rest : List ℕ) : Type 0 where
@@ -48,10 +47,10 @@ abbrev pub RefusesBy : CheckerError → Reader → Reader → List Step → Type
 RefusesBy errors.CheckFailed from to passed = (step : Step) × (rest : List ℕ) × Gave from to passed (step ∷ []) rest × (Accepts (ready_after (taken_after passed [])) step → ⊥)
 -- the text is over before an end,
 RefusesBy errors.ProofIncomplete from to passed = (rest : List ℕ) × Gave from to passed [] rest × IsOver to × Live SpellsStep rest
--- no step can follow a byte,
+-- or no step can follow a byte
 RefusesBy errors.ParseError from to passed = (rest : List ℕ) × Gave from to passed [] rest × Spoilt SpellsStep rest
--- or the last id or count was given before
-RefusesBy errors.CounterEnd from to passed = (step : Step) × (rest : List ℕ) × Gave from to passed (step ∷ []) rest × SpentBy step (stored_after (taken_after passed []))
+-- ids and counts don't come to their end within the bytes that a reader gives
+RefusesBy errors.CounterEnd from to passed = ⊥
 RefusesBy errors.IoError from to passed = ⊥
 RefusesBy errors.OutOfMemory from to passed = ⊥
 RefusesBy errors.HasFailed from to passed = ⊥
@@ -65,7 +64,7 @@ Converts (Ok x) from to old new = (passed : List Step) × (rest : List ℕ) × I
     × Takes old new (hint_text (End ∷ taken_after passed []))
 -- this never comes,
 Converts (Err HasDeleteVar) from to old new = ⊥
--- the checker refuses a step, a byte, the end or a count,
+-- the checker refuses a step, a byte or the end,
 Converts (Err (Refused e)) from to old new = (passed : List Step) × NoneFailed from to × RefusesBy e from to passed
     × TookFront old new (hint_text (taken_after passed []))
 -- exactly one read failed, the last, or so many were made and none did,

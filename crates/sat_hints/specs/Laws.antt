@@ -8,7 +8,6 @@ use Rattle.sat_base.specs.steps.StepText.{SpellsSteps}
 use Rattle.sat_checker.specs.Accepts.{AcceptsAll, ready_after}
 use Rattle.sat_checker.specs.Fold.{Holds}
 use Rattle.sat_checker.specs.ProofView.{taken_after}
-use Rattle.sat_checker.specs.declared.error.CheckerError.TheVariants.{CounterEnd}
 use Rattle.sat_hints.specs.Lines.{Line, Input, Derived, Gone, Core, Fresh}
 use Rattle.sat_hints.specs.Hints.{IsHintDerivation, clause_under, derives_empty}
 use Rattle.sat_hints.specs.Conversion.{lines_of, hint_text, hint_verdict}
@@ -112,11 +111,11 @@ pub record IsCertificate (steps : List Step) (text : List ℕ) : Type 0 where
   pub unended : AllByRecursion (λ step. step ≢ End) steps
   pub accepted : AcceptsAll (End ∷ taken_after steps [])
 
--- What is answered to accepted steps, the oldest first: their hint text was written, or there was a fault, of which the last id and count are one, too.
+-- what is answered to accepted steps, the oldest first: their hint text was written, or there was a fault
 abbrev pub IsTextOrFault : Result (Unit {0}) HintError → List Step → Writer → Writer → Type 0
 IsTextOrFault (Ok x) steps old new = Takes old new (hint_text (End ∷ taken_after steps []))
 IsTextOrFault (Err HasDeleteVar) steps old new = ⊥
-IsTextOrFault (Err (Refused e)) steps old new = e ≡ CounterEnd
+IsTextOrFault (Err (Refused e)) steps old new = ⊥
 IsTextOrFault (Err Read) steps old new = Unit {0}
 IsTextOrFault (Err Write) steps old new = Unit {0}
 IsTextOrFault (Err OutOfMemory) steps old new = Unit {0}

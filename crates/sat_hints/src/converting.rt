@@ -126,11 +126,7 @@ fn write_checked<R: CountedRead, W: CountedWrite + Drop>(
 {
     match checker.check_proof_with(certificate, lines) {
         Err(error) => Err(hint_error(error)),
-        Ok(()) => {
-            // No more ids were given than there are.
-            let _ids = checker.ids();
-            Ok(())
-        }
+        Ok(()) => Ok(()),
     }
 }
 

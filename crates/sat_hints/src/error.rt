@@ -6,7 +6,7 @@ use thiserror::Error;
 /// What was written by then is unfinished.
 #[derive(Debug, Drop, Error)]
 pub enum HintError {
-    /// The checker refuses the certificate: a step, a byte, its end, or a count.
+    /// The checker refuses the certificate: a step, a byte, or its end.
     #[error("the certificate is refused: {0}")]
     Refused(CheckerError),
     /// This is never answered.

@@ -5,3 +5,4 @@ pub mod Known
 pub mod Pending
 pub mod Last
 pub mod Stored
+pub mod FewBytes

@@ -62,6 +62,7 @@ pub record Starves {L : Type 0} (a b : Turn L) : Type 0 where
   pub tag : ℕ
   pub more : List ℕ
   pub passes : Passes a.source b.source (tag ∷ more)
+  pub begins : Open SpellsStep (tag ∷ more)
   pub looks : looks_of b.checker ≡ looks_of a.checker
 
 module _ {L : Type 0} (Hears : L → Told → Result Unit ProcessingError → L → Type 0) (before : List Told) (begun : L) where

@@ -1,12 +1,13 @@
 -- What the checker's answer to a certificate means for the lines written.
-use Rattle.std.proofs.Common.{ℕ, ◌<◌, ◌^◌, ◌≡◌, false, List, [], ◌∷◌, Result, Ok, Err, inl, inr}
+use Rattle.std.proofs.Common.{ℕ, ◌+◌, ◌<◌, ◌≤◌, ◌^◌, ◌≡◌, false, List, [], ◌∷◌, ◌++◌, length, length-append, Result, Ok, Err, inl, inr, subst, arith}
 use Rattle.std.proofs.lemmas.Bool.{both_ways}
 use Rattle.anyhow.specs.declared.error.Error.{Error}
 use Rattle.sat_base.specs.device.Device.{Reader, Writer}
 use Rattle.sat_base.specs.steps.Steps.{Step, End}
+use Rattle.sat_base.specs.steps.StepText.{SpellsSteps}
 use Rattle.sat_checker.specs.Accepts.{AcceptsAll, ready_after}
 use Rattle.sat_checker.specs.CheckerView.{Seen, has_failed, Stops, BreaksAt}
-use Rattle.sat_checker.specs.ProofView.{Went, taken_after, AnswersProof}
+use Rattle.sat_checker.specs.ProofView.{Went, most_bytes, taken_after, AnswersProof}
 use Rattle.sat_checker.specs.announcements.Announcements.{Told}
 use Rattle.sat_checker.specs.announcements.Transcripts.{Transcribed}
 use Rattle.sat_checker.specs.telling.Hearing.{Hearers, HearsFirst}
@@ -16,6 +17,8 @@ use Rattle.sat_checker.specs.declared.error.CheckerError.TheVariants as errors
 use Rattle.sat_checker.specs.declared.processing.Processing.{Processing}
 use Rattle.sat_checker.specs.declared.processing.ProcessingError.{ProcessingError}
 use Rattle.sat_checker.specs.declared.processing.ProcessingError.TheVariants as faults
+use Rattle.sat_checker.proofs.lemmas.checker.Proofs.{taken_one}
+use Rattle.sat_checker.proofs.lemmas.invariants.FewBytes.{ids_within_bytes, none_is_spent}
 use Rattle.sat_hints.specs.Conversion.{hint_text}
 use Rattle.sat_hints.specs.Converts.{Gave, IsAccepted}
 use Rattle.sat_hints.specs.declared.line_writer.LineWriter.{LineWriter}
@@ -24,6 +27,17 @@ use Rattle.sat_hints.specs.inner.LinesWritten.{hint_of, BrokenBehind, SentAll, S
 use Rattle.sat_hints.specs.inner.Telling.{TakesTold}
 use Rattle.sat_hints.proofs.lemmas.AreProved.{read_proved}
 use Rattle.sat_hints.proofs.lemmas.Heard.{since_sent, since_broken, front_all, front_told, front_by, all_by, broken_all, broken_told}
+
+-- FEW BYTES
+within : (text rest : List ℕ) → length (text ++ rest) ≤ most_bytes → length text ≤ most_bytes
+within text rest h = let e : length (text ++ rest) ≡ length text + length rest = length-append text rest in omega arith
+
+ids_few : (passed : List Step) (text rest : List ℕ) → SpellsSteps (passed ++ End ∷ []) text → length (text ++ rest) ≤ most_bytes → (ready_after (End ∷ taken_after passed [])).next_id < 2 ^ 64
+ids_few passed text rest s h =
+    let i = subst (λ z. (ready_after z).next_id ≤ length text) (taken_one passed End []) (ids_within_bytes (passed ++ End ∷ []) text s) in
+    let k = within text rest h in
+    let e : most_bytes < 2 ^ 64 = omega arith in
+    omega arith
 
 module _ {W P T : Type 0} (seen : W → Writer) (Takes : P → Told → Result Unit Error → P → Type 0) (Reads : T → Transcribed → Result Unit Error → T → Type 0)
     (begun : Hearers (LineWriter W) (Processing P T)) (well : begun.own.failed ≡ false) (none : listeners_of begun.others ≡ record { processors = []; transcripts = [] }) where
@@ -68,14 +82,14 @@ module _ {W P T : Type 0} (seen : W → Writer) (Takes : P → Told → Result U
   errs_written errors.IoError old new from to f k =
       (k.0, k.1, k.3, gave_of k.2 k.5.0.kernel.accepted, k.4, front_by (outlet seen begun.own) (outlet seen new.listeners.own) _ (taken_after k.0 []) (since_sent seen Takes Reads _ begun new.listeners well (k.5.0.heard k.5.1)))
   errs_written errors.OutOfMemory old new from to f k = elim k.3 [
-    | inl h ↦ (k.0, k.1, k.2, inl (gave_of h.0 h.1.fails.stands.kernel.accepted), stopped new (taken_after k.0 []) h.1)
+    | inl h ↦ (k.0, k.1, k.2, inl (gave_of h.0 h.2.fails.stands.kernel.accepted, h.1), stopped new (taken_after k.0 []) h.2)
     | inr h ↦ elim h.2 [
       | inl s ↦ (k.0, k.1, k.2, inr (h.0, gave_of h.1 s.fails.stands.kernel.accepted), stopped new (taken_after k.0 []) s)
       | inr b ↦ no_memory new h.0 (taken_after k.0 []) (broken_at faults.OutOfMemory new h.0 (taken_after k.0 []) b)
     ]
   ]
   errs_written errors.CounterEnd old new from to f k =
-      (k.0, k.4, (k.1, k.2, gave_of k.3 k.6.fails.stands.kernel.accepted, k.5), stopped new (taken_after k.0 []) k.6)
+      absurd (none_is_spent k.0 k.1 k.3.steps.text k.3.steps.spelt (within k.3.steps.text k.2 k.3.steps.bytes) k.5)
   errs_written (errors.ProofProcessorError cause) old new from to f k =
       let b = broken_at (faults.ProofProcessorError cause) new k.1 (taken_after k.0 []) k.5 in
       (k.0, k.1, k.2, k.4, gave_of k.3 b.2, b.3)
@@ -88,5 +102,7 @@ module _ {W P T : Type 0} (seen : W → Writer) (Takes : P → Told → Result U
   all_of : (old new : Checker) (from to : Reader) → (k : AnswersProof Hears [] begun (Ok tt) old new from to []) → SentAll (outlet seen begun.own) (outlet seen new.listeners.own) (hint_text (End ∷ taken_after k.0 []))
   all_of old new from to k = all_by (outlet seen begun.own) (outlet seen new.listeners.own) _ (End ∷ taken_after k.0 []) k.5 (since_sent seen Takes Reads _ begun new.listeners well (k.4.0.heard k.4.1))
 
-  pub ok_written : (old new : Checker) (from to : Reader) → (k : AnswersProof Hears [] begun (Ok tt) old new from to []) → (ready_after (End ∷ taken_after k.0 [])).next_id < 2 ^ 64 → WritesLines (Ok tt) from to (outlet seen begun.own) (outlet seen new.listeners.own)
-  ok_written old new from to k ids = (k.0, k.1, ends_of old new from to k, read_proved k.0 k.2.steps.text k.2.steps.spelt k.4.0.kernel.accepted ids, all_of old new from to k)
+  pub ok_written : (old new : Checker) (from to : Reader) → (k : AnswersProof Hears [] begun (Ok tt) old new from to []) → WritesLines (Ok tt) from to (outlet seen begun.own) (outlet seen new.listeners.own)
+  ok_written old new from to k =
+      let ids = ids_few k.0 k.2.steps.text k.1 k.2.steps.spelt k.2.steps.bytes in
+      (k.0, k.1, ends_of old new from to k, read_proved k.0 k.2.steps.text k.2.steps.spelt k.4.0.kernel.accepted ids, all_of old new from to k)

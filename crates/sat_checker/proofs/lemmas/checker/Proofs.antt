@@ -10,7 +10,7 @@ use Rattle.sat_base.specs.declared.steps.error.StepError.{StepError}
 use Rattle.sat_base.specs.declared.steps.error.StepError.TheVariants as unread_by
 use Rattle.sat_base.specs.declared.steps.reader.StepReader.{StepReader}
 use Rattle.sat_base.specs.declared.steps.reader.Buffers.{Buffers}
-use Rattle.sat_base.specs.device.Device.{Reader, IsOver, ReadFails, most_reads}
+use Rattle.sat_base.specs.device.Device.{Reader, IsOver, ReadFails, most_reads, piece_size}
 use Rattle.sat_base.specs.device.Reading.{Source, PassesBut, Passes, Faults, AllTaken, giving, unread}
 use Rattle.sat_base.specs.steps.Formats.{Format, Items, Live}
 use Rattle.sat_base.specs.steps.StepReading.{reader_source, Next}
@@ -22,7 +22,7 @@ use Rattle.sat_checker.specs.Accepts.{ready_after}
 use Rattle.sat_checker.specs.Looks.{most_looks}
 use Rattle.sat_checker.specs.CheckerView.{Seen, has_failed, looks_of, IsSettled, Stands, Stops, AnswersStep}
 use Rattle.sat_checker.specs.inner.DimacsPieces.{with_flag}
-use Rattle.sat_checker.specs.ProofView.{taken_after, most_looks_behind, GaveSteps, Went, GoesOn, AnswersProof}
+use Rattle.sat_checker.specs.ProofView.{taken_after, most_bytes, most_looks_behind, GaveSteps, Went, GoesOn, AnswersProof}
 use Rattle.sat_checker.specs.inner.ProofSteps.{Turn, turn, Tries, StepsOn, Passed, error_of, is_final, bytes_left}
 use Rattle.sat_checker.specs.announcements.Announcements.{Told}
 use Rattle.sat_checker.specs.declared.processing.ProcessingError.{ProcessingError}
@@ -106,6 +106,9 @@ few_of n rc tc tr m rg tg fresh h e k g = let l : length tg ≡ length rg + leng
 few_calls : (rc tc tr m : ℕ) → tc + 0 ≡ rc + tr → tr ≤ m → tc ≤ rc + m
 few_calls rc tc tr m e h = omega arith
 
+few_bytes : (r : ℕ) (fresh bytes : List ℕ) → length fresh + piece_size * 0 ≤ piece_size * r → r ≤ most_reads → fresh ≡ bytes → length bytes ≤ most_bytes
+few_bytes r fresh bytes h k e = let l : length fresh ≡ length bytes = ap length e in omega arith
+
 gave_steps : (n : ℕ) (r : Reader) (t : Source) (steps : List Step) (text more : List ℕ) → n ≤ 1 → t.reads ≤ most_reads → PassesBut n (unread r) t (text ++ more) → SpellsSteps steps text → GaveSteps r t.reader steps (more ++ t.waiting)
 gave_steps n r t steps text more h b p spelt =
     let fresh : p.fresh ≡ text ++ (more ++ t.waiting) = p.flows ∙ append_assoc text more t.waiting in
@@ -119,6 +122,7 @@ gave_steps n r t steps text more h b p spelt =
       };
       few = few_of n r.calls t.reader.calls t.reads 0 r.given t.reader.given p.fresh h p.calls p.few p.gave;
       reads = few_calls r.calls t.reader.calls t.reads most_reads p.calls b;
+      bytes = few_bytes t.reads p.fresh (text ++ (more ++ t.waiting)) p.room b fresh;
     }
 
 faulted_steps : (r : Reader) (t : Source) (steps : List Step) (text more : List ℕ) → t.reads ≤ most_reads → Faults (unread r) t (text ++ more) → SpellsSteps steps text → GaveSteps r t.reader steps more
@@ -132,6 +136,7 @@ faulted_steps r t steps text more b p spelt = record {
   };
   few = few_of 1 r.calls t.reader.calls t.reads 0 r.given t.reader.given p.fresh (omega arith) p.calls p.few p.gave;
   reads = few_calls r.calls t.reader.calls t.reads most_reads p.calls b;
+  bytes = few_bytes t.reads p.fresh (text ++ more) p.room b p.flows;
 }
 
 read_out : (rc tc tr m : ℕ) → tc + 0 ≡ rc + tr → m ≤ tr → tr ≤ m → tc ≡ rc + m
@@ -181,7 +186,7 @@ module _ {L : Type 0} (Hears : L → Told → Result Unit ProcessingError → L 
   unread_answer seen c s t unread_by.BadByte step earlier h k n stands = let a = n.answer in (a.0, a.1, a.2, a.3, a.4, record { goes_on = unfailed c earlier h stands; looks = refl })
   unread_answer seen c s t unread_by.Read step earlier h k n stands = let a = n.answer in (a.0, a.1, a.2, record { goes_on = unfailed c earlier h stands; looks = refl })
   unread_answer seen c s t unread_by.OutOfMemory step earlier h k n stands =
-      let a = n.answer in inl (record { tag = a.0; more = a.1; passes = a.2; looks = refl }, failed_now c earlier h stands)
+      let a = n.answer in inl (record { tag = a.0; more = a.1; passes = a.2; begins = a.3; looks = refl }, failed_now c earlier h stands)
   unread_answer seen c s t unread_by.HasFailed step earlier h k n stands = absurd (true≢false (sym n.was ∙ k))
 
   tried_looks : (a b c : Turn L) (earlier xs : List Step) (x : Step) → Passed Hears before begun a b earlier xs → Tries b c (taken_after xs earlier) x → looks_of c.checker ≤ looks_of a.checker + most_looks_behind (xs ++ x ∷ []) earlier
@@ -252,7 +257,16 @@ module _ {L : Type 0} (Hears : L → Told → Result Unit ProcessingError → L 
       (xs, s.0, [] ++ c.source.waiting, went_tried a b c earlier xs s.0 e h k p s.1, kept_by 0 a b c earlier xs _ p s.1.passes, s.2)
   stops a b c errors.OutOfMemory earlier xs e h k p s =
       elim s [
-        | inl w ↦ (xs, (w.0.tag ∷ w.0.more) ++ c.source.waiting, kept_by 0 a b c earlier xs _ p w.0.passes, inl (went_waiting 0 a b c earlier xs (w.0.tag ∷ w.0.more) (omega arith) e h k w.0.looks p w.0.passes, w.1))
+        | inl w ↦ (
+          xs,
+          (w.0.tag ∷ w.0.more) ++ c.source.waiting,
+          kept_by 0 a b c earlier xs _ p w.0.passes,
+          inl (
+            went_waiting 0 a b c earlier xs (w.0.tag ∷ w.0.more) (omega arith) e h k w.0.looks p w.0.passes,
+            record { tag = w.0.tag; more = w.0.more; behind = c.source.waiting; whole = refl; begins = w.0.begins },
+            w.1,
+          ),
+        )
         | inr t ↦ (xs, [] ++ c.source.waiting, kept_by 0 a b c earlier xs _ p t.1.passes, inr (t.0, went_tried a b c earlier xs t.0 e h k p t.1, t.2))
       ]
   stops a b c errors.ProofIncomplete earlier xs e h k p s = (

@@ -115,7 +115,7 @@ module _ {V L : Type 0} (Hears : L → Told → Result Unit ProcessingError → 
       a.1,
       a.2,
       elim a.3 [
-        | inl h ↦ inl (went_down c d from to steps a.0 _ a.1 h.0, stops_down d _ h.1)
+        | inl h ↦ inl (went_down c d from to steps a.0 _ a.1 h.0, h.1, stops_down d _ h.2)
         | inr h ↦ inr (h.0, went_down c d from to steps a.0 _ a.1 h.1, elim h.2 [ inl s ↦ inl (stops_down d _ s) | inr b ↦ inr (breaks_at_down _ d h.0 _ b) ])
       ],
     )

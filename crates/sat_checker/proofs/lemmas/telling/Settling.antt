@@ -43,9 +43,6 @@ module _ (k : Kernel) (steps : List Step) (kept : KeepsAfter k.state steps) wher
     | inr e ↦ e
   ]
 
-  pub ids_are : k.state.formula.status.conflict ≡ None → k.state.formula.status.next_id ≡ (ready_after steps).next_id
-  ids_are n = ap (λ (s : Standing). s.next_id) kept.keeps.formula.status ∙ ap (λ (f : Stored). f.next_id) (ready_is n)
-
   -- a unit conflict waits
   pub stored_is : (units : ℕ × ℕ) → k.state.formula.status.conflict ≡ Some units → kept.formula ≡ stored_after steps
   stored_is units s = elim kept.left [

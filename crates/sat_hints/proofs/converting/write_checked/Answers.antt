@@ -1,7 +1,4 @@
-use Rattle.std.proofs.Common.{◌≡◌, [], ◌∷◌, refl, arith}
-use Rattle.sat_base.specs.steps.Steps.{End}
-use Rattle.sat_checker.specs.Accepts.{ready_after}
-use Rattle.sat_checker.specs.ProofView.{taken_after}
+use Rattle.std.proofs.Common.{[], refl}
 use Rattle.sat_checker.specs.telling.Hearing.{hearers}
 use Rattle.sat_hints.proofs.lemmas.Written.{errs_written, ok_written}
 use Rattle.sat_hints.proofs.converting.write_checked.Goals as goal
@@ -16,5 +13,4 @@ pub returns-in-Ok : goal.returns-in-Ok
 returns-in-Ok g c =
     let begun = hearers c.args.lines.now c.args.checker.now.processing in
     let k = c.in-Ok.ensures [] begun [] (record { kernel = c.requires.stands; heard = λ _. ([], rw c.requires.settled refl, refl) }) in
-    let ids : c.ids-ids.result ≡ (ready_after (End ∷ taken_after k.0 [])).next_id = c.ids-ids.ensures k.4.1 k.5 (End ∷ taken_after k.0 []) k.4.0.kernel in
-    ok_written g.W.CountedWrite.seen _ _ begun c.requires.well c.requires.listeners _ _ _ _ k (omega (arith, ids, c.ids-ids.type_inv))
+    ok_written g.W.CountedWrite.seen _ _ begun c.requires.well c.requires.listeners _ _ _ _ k
