@@ -1,15 +1,18 @@
 //! What follows from the laws of what is stored.
-ghost use Rattle.std.specs.Prelude.{ℕ, ◌≡◌, ◌<◌, Bool, true, false, List, [], ◌∷◌, map};
+ghost use Rattle.std.specs.Prelude.{ℕ, ◌≡◌, ◌<◌, ◌≤◌, ◌++◌, Bool, true, false, List, [], ◌∷◌, length, map};
 ghost use Rattle.std.specs.List.{AllByRecursion};
-ghost use Rattle.sat_base.specs.steps.Steps.{AtClause, DeleteClause, Redundant, Step};
-ghost use Rattle.sat_checker.specs.Accepts.{AcceptsAll, IsStrictSubset, Passes, ready_after};
+ghost use Rattle.sat_base.specs.steps.Steps.{AddClause, AtClause, DeleteClause, Redundant, Step};
+ghost use Rattle.sat_base.specs.steps.StepText.{SpellsSteps};
+ghost use Rattle.sat_checker.specs.Accepts.{AcceptsAll, IsStrictSubset, Passes, ready_after, stored_after};
 ghost use Rattle.sat_checker.specs.Contents.{contents};
 ghost use Rattle.sat_checker.specs.Leading.{IsNamed};
+ghost use Rattle.sat_checker.specs.ProofView.{most_bytes, taken_after};
+ghost use Rattle.sat_checker.specs.Spent.{SpentBy};
 ghost use Rattle.sat_checker.specs.Stored.{Stored};
 ghost use Rattle.sat_checker.specs.Storing.{last_literals};
 
 use sat_checker::law_stored::{
-    contents_follow_steps, last_was_derived, named_clauses_pass, stored_is_tidy,
+    bytes_bound_ids, contents_follow_steps, last_was_derived, named_clauses_pass, stored_is_tidy,
 };
 
 /// [1] passes under the hashes of [1,2] and [1,-2], whatever else has these hashes.
@@ -44,10 +47,19 @@ fn derived_is_part()
     last_was_derived();
 }
 
+/// A clause that is read behind other steps has an id.
+fn clause_has_an_id()
+    ensures { (steps : List Step) (clause text : List ℕ) → SpellsSteps (steps ++ AddClause clause ∷ []) text → length text ≤ most_bytes
+        → SpentBy (AddClause clause) (stored_after (taken_after steps [])) → ⊥ }
+{
+    bytes_bound_ids();
+}
+
 #[test]
 fn laws_are_called(_rt: HostRuntime) {
     resolvent_passes();
     counts_return();
     ids_were_given();
     derived_is_part();
+    clause_has_an_id();
 }

@@ -1,5 +1,5 @@
 -- What a derivation shows.
-use Rattle.std.specs.Prelude.{◌≡◌, ◌≢◌, ◌↔◌, ◌<◌, ◌^◌, Bool, true, ℕ, Some, List, [], ◌∷◌, ◌++◌, Result, Ok, Err}
+use Rattle.std.specs.Prelude.{◌≡◌, ◌≢◌, ◌↔◌, ◌<◌, ◌^◌, Bool, true, ℕ, Some, List, [], ◌∷◌, ◌++◌, Result, Ok, Err, IfOk}
 use Rattle.std.specs.List.{AllByRecursion}
 use Rattle.sat_base.specs.values.Clauses.{Valuation, clause_true, EachTrue, EachHolds}
 use Rattle.sat_base.specs.device.Device.{Reader, Writer, Takes, GaveEnough}
@@ -133,12 +133,7 @@ ProvedIsNotBad = (text : List ℕ) (empty : Bool) (cores lines line : ℕ) (why 
 abbrev pub OneVerdict : Type 0
 OneVerdict = (text : List ℕ) (v w : HintVerdict) → Judges v text → Judges w text → v ≡ w
 
--- the verdict that a text is proved, or a fault
-abbrev pub IsProvedOrFault : Bool → ℕ → ℕ → Result HintVerdict HintFault → Type 0
-IsProvedOrFault empty cores lines (Ok verdict) = verdict ≡ Proved empty cores lines
-IsProvedOrFault empty cores lines (Err fault) = Unit {0}
-
--- `check` answers that to a text that is proved, where its reader tells the bytes
+-- `check` answers just that to a text that is proved, where its reader tells the bytes, or there is a fault
 abbrev pub ProofIsProved : Type 0
 ProofIsProved = (text : List ℕ) (empty : Bool) (cores lines : ℕ) (result : Result HintVerdict HintFault) (from to : Reader) → IsProof text empty cores lines → from.to_come ≡ Some text
-    → GaveEnough from to (Says result) → IsProvedOrFault empty cores lines result
+    → GaveEnough from to (Says result) → IfOk result (λ verdict. verdict ≡ Proved empty cores lines)

@@ -6,7 +6,7 @@ use sat_hints::{HintFault, HintVerdict, HintWhy, check};
 use std::alloc::Global;
 use std::test::*;
 
-const fn proved(empty: bool, cores: u64, lines: u64) -> HintVerdict {
+pub(crate) const fn proved(empty: bool, cores: u64, lines: u64) -> HintVerdict {
     HintVerdict::Proved {
         empty,
         cores,
@@ -185,13 +185,13 @@ fn spellings() -> [Row; 25] {
     ]
 }
 
-fn whole(alloc: Global, text: &[u8]) -> Result<HintVerdict, HintFault> {
+pub(crate) fn whole(alloc: Global, text: &[u8]) -> Result<HintVerdict, HintFault> {
     let mut reader = Counted::new(text);
     check(alloc, &mut reader)
 }
 
 /// One byte a read, of which one fails, or none where that is 0.
-fn in_bytes(alloc: Global, text: &[u8], failing: u64) -> Result<HintVerdict, HintFault> {
+pub(crate) fn in_bytes(alloc: Global, text: &[u8], failing: u64) -> Result<HintVerdict, HintFault> {
     let mut reader = by_one(text, failing);
     check(alloc, &mut reader)
 }

@@ -2,6 +2,8 @@
 #![tactic(auto)]
 
 #[cfg(test)]
+mod caller;
+#[cfg(test)]
 mod checks;
 #[cfg(test)]
 mod converts;
