@@ -38,8 +38,8 @@ pub record GaveSteps (old new : Reader) (steps : List Step) (rest : List ℕ) : 
   pub reads : new.calls ≤ old.calls + most_reads
   pub bytes : length (text ++ rest) ≤ most_bytes
 
--- the bytes begin with those of a step, whole or cut off, and these aren't none
-pub record BeginWithStep (bytes : List ℕ) : Type 0 where
+-- what stands first in these bytes is a step, whole or cut off, of one byte at least
+pub record BeginsWithStep (bytes : List ℕ) : Type 0 where
   pub tag : ℕ
   pub more : List ℕ
   pub behind : List ℕ
@@ -85,7 +85,7 @@ module _ {L : Type 0} (Hears : L → Told → Result Unit ProcessingError → L 
   -- as a step is read, of which a byte was, or as it is checked or told
   AnswersProof (Err errors.OutOfMemory) old new from to earlier =
       (passed : List Step) × (rest : List ℕ) × NoneFailed from to
-      × ((Went old new from to earlier passed [] rest × BeginWithStep rest × Stops Hears before begun new (taken_after passed earlier))
+      × ((Went old new from to earlier passed [] rest × BeginsWithStep rest × Stops Hears before begun new (taken_after passed earlier))
       ⊎ ((step : Step) × Went old new from to earlier passed (step ∷ []) rest
       × (Stops Hears before begun new (taken_after passed earlier) ⊎ BreaksAt Hears before begun faults.OutOfMemory new step (taken_after passed earlier))))
   -- the last id or count was given before

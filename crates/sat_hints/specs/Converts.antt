@@ -6,7 +6,7 @@ use Rattle.sat_base.specs.steps.Formats.{Live, Spoilt}
 use Rattle.sat_base.specs.steps.Steps.{Step, End}
 use Rattle.sat_base.specs.steps.StepText.{SpellsStep}
 use Rattle.sat_checker.specs.Accepts.{Accepts, AcceptsAll, ready_after}
-use Rattle.sat_checker.specs.ProofView.{GaveSteps, BeginWithStep, taken_after, NoneFailed}
+use Rattle.sat_checker.specs.ProofView.{GaveSteps, BeginsWithStep, taken_after, NoneFailed}
 use Rattle.sat_checker.specs.declared.error.CheckerError.{CheckerError}
 use Rattle.sat_checker.specs.declared.error.CheckerError.TheVariants as errors
 use Rattle.sat_hints.specs.Conversion.{hint_text, hint_verdict}
@@ -33,7 +33,7 @@ BreaksBehind old new step steps = Breaks old new (hint_text steps) ⊎ (Accepts 
 
 -- behind the steps that passed one was begun, of which a byte was given, or it was read
 abbrev pub GaveUpTo : Reader → Reader → List Step → List ℕ → Type 0
-GaveUpTo from to passed rest = (Gave from to passed [] rest × BeginWithStep rest) ⊎ ((step : Step) × Gave from to passed (step ∷ []) rest)
+GaveUpTo from to passed rest = (Gave from to passed [] rest × BeginsWithStep rest) ⊎ ((step : Step) × Gave from to passed (step ∷ []) rest)
 
 -- the certificate was read and accepted to its end
 pub record IsAccepted (from to : Reader) (passed : List Step) (rest : List ℕ) : Type 0 where
