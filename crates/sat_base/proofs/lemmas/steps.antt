@@ -8,5 +8,4 @@ pub mod Numbers
 pub mod NumbersAhead
 pub mod OneSpelling
 pub mod StepReads
-pub mod StepsWritten
 pub mod TagForms

@@ -4,7 +4,6 @@ pub mod Words
 pub mod Places
 pub mod HeaderPlaces
 pub mod TextRuns
-pub mod ChunkLemmas
 pub mod SeveralBytes
 pub mod HeaderFirst
 pub mod PlainTokens

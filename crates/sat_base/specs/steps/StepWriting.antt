@@ -10,9 +10,3 @@ use Rattle.sat_base.specs.steps.StepText.{SpellsSteps}
 -- its writer, and the bytes of steps that wait for it
 abbrev pub steps_sink : {W : Type 0} → (W → Writer) → StepWriter W → Sink
 steps_sink seen s = sink_of seen waiting_in s.output
-
--- Since it had this writer, and nothing waited, these steps were written: their spelling is what the writer took and what waits.
-pub record HasWritten (start : Writer) (steps : List Step) (now : Sink) : Type 0 where
-  pub text : List ℕ
-  pub spells : SpellsSteps steps text
-  pub sent : Sent (empty_sink start) now text

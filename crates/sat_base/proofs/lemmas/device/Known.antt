@@ -29,16 +29,6 @@ consumes_more (Some s) (Some t) (Some u) xs ys h k = h ∙ ap (λ (z : List ℕ)
 pub rest_is : (xs : List ℕ) (i : ℕ) → take (length xs - i) (drop i xs) ≡ drop i xs
 rest_is xs i = take_all (length xs - i) (drop i xs) (omega (arith, length-drop i xs))
 
--- a write of the next part of a piece
-pub appends_next : (a b c : Option (List ℕ)) (piece : List ℕ) (i n : ℕ) → Appends a b (take i piece) → Appends b c (take n (take (length piece - i) (drop i piece))) → Appends a c (take (i + n) piece)
-appends_next a b c piece i n h k =
-    let e : take i piece ++ take n (take (length piece - i) (drop i piece)) ≡ take (i + n) piece = ap (λ (z : List ℕ). take i piece ++ take n z) (rest_is piece i) ∙ sym (take-add i n piece) in
-    subst (Appends a c) e (appends_more a b c (take i piece) (take n (take (length piece - i) (drop i piece))) h k)
-
 -- it stays within the piece
 pub within_next : (piece : List ℕ) (i n : ℕ) → i ≤ length piece → n ≤ length (take (length piece - i) (drop i piece)) → i + n ≤ length piece
 within_next piece i n h k = let e = ap length (rest_is piece i) in omega (arith, length-drop i piece)
-
--- a write that took something is none that failed
-pub took_some : (n rest old new : ℕ) → new ≡ (if nat_eq n 0 && nat_lt 0 rest then old + 1 else old) → (n ≡ 0 → ⊥) → new ≡ old
-took_some n rest old new h k = grind (arith, common_steps)

@@ -120,13 +120,6 @@ sends_flush a v w bytes (Ok u) f p q = record {
 sends_flush a v w bytes (Err x) f p q =
     sends_breaks a (record { writer = v; waiting = bytes }) (record { writer = w; waiting = bytes }) [] [] p (record { breaks = subst (λ (z : List ℕ). Breaks v w (z ++ [])) (sym f) (flush_fails x v w q); none = f })
 
--- what waited is written, and nothing more
-pub rest_put : {E : Type 0} (a b : Sink) (r : Result (Unit {0}) E) → b.waiting ≡ [] → Sends [] r a b → Puts a.waiting r a.writer b.writer
-rest_put a b (Ok u) f w =
-    let g : a.waiting ≡ w.fresh = sym (append-nil a.waiting) ∙ w.flows ∙ ap (λ (z : List ℕ). w.fresh ++ z) f ∙ append-nil w.fresh in
-    subst (Takes a.writer b.writer) (sym g) w.takes
-rest_put a b (Err e) f w = subst (Breaks a.writer b.writer) (append-nil a.waiting) w.breaks
-
 -- A LENT WRITER
 
 -- what was sent through bytes of which none waits before and after was put

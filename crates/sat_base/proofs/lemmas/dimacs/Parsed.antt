@@ -117,18 +117,6 @@ pub folds_more : {P A : Type 0} (R : P → A → P → Type 0) (p q r : P) (xs :
 folds_more R p q r [] x h k = (r, subst (λ z. R z x r) (sym h) k, refl)
 folds_more R p q r (y ∷ ys) x h k = (h.0, h.1, folds_more R h.0 q r ys x h.2 k)
 
--- the clauses counted of a text that was read
-pub counted : (a c : Reader) (f : Formula) (count : ℕ) → count ≡ length f.clauses → GaveEnough a c (Parses (Ok f)) → GaveEnough a c (λ text. count ≡ length (dimacs text).clauses)
-counted a c f count e g = enough_as a c (Parses (Ok f)) (λ (text : List ℕ). count ≡ length (dimacs text).clauses) (λ text p. e ∙ sym (ap (λ (d : Dimacs). length d.clauses) p.0)) g
-
--- or read in parts
-pub counted_of : (E : Type 0) (a c : Reader) (p : Progress) (count : ℕ) → ParsesInParts {E = E} a c (Ok p) → (c.ended ≡ true → IsAtEnd c.to_come) → FewReads a c → count ≡ held (length (clauses_read p))
-    → GaveEnough a c (λ text. count ≡ held (length (dimacs text).clauses))
-counted_of E a c p count h over few e =
-    let read = h.2 in
-    let words : words_read p ≡ h.0 = ap (λ (b : Bool). if b then p.fed else settled p.fed) read.2 ∙ read.0 in
-    record { text = h.0; front = h.1; over = λ called. over; few = few; holds = λ rest k. e ∙ ap (λ (z : List ℕ). held (length (dimacs z).clauses)) words ∙ sym (ap (λ (d : Dimacs). held (length d.clauses)) (h.3 rest k).0) }
-
 -- WHERE THE ANSWER IS NO FAILED READ
 
 pub no_read : {T E X : Type 0} (r : Result T (IncrementalError E)) (x : T) → r ≡ Ok x → r ≡ Err (parts.Dimacs errors.Read) → X

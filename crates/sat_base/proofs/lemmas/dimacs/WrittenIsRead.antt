@@ -212,9 +212,6 @@ tokens_plain : (may : Bool) (n : ℕ) (line : List ℕ) (more : List (List ℕ))
 unfolding tokens_of
 tokens_plain may n line more e f g = rw (e, f, g) refl
 
-not_minus : (c : ℕ) → 45 < c → c ≡ 45 → ⊥
-not_minus c h e = omega arith
-
 tokens_clause : (n : ℕ) (ls rest : List ℕ) → Within ls → tokens_of false n (lines (clause_line ls ++ rest)) ≡ on_line (n + 1) (clause_words ls) ++ tokens_of false (n + 1) (lines rest)
 tokens_clause n ls rest w =
     ap (tokens_of false n) (lines_clause ls rest w)

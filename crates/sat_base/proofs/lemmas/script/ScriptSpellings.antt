@@ -83,9 +83,6 @@ reads_command c front ts s =
     ∙ reads_literals s.kind [] s.literals s.last ts s.named s.is_last
     ∙ ap (λ (d : Command). onto_commands (d ∷ []) (commands_of Nothing ts)) (sym s.is)
 
-onto_more : (c : Command) (cs : List Command) (r : Reading) → onto_commands (c ∷ []) (onto_commands cs r) ≡ onto_commands (c ∷ cs) r
-onto_more c cs r = refl
-
 reads_spelled : (cs : List Command) (front ts : List Token) → SpellsCommands cs front → commands_of Nothing (front ++ ts) ≡ onto_commands cs (commands_of Nothing ts)
 reads_spelled [] front ts s = rw s refl
 reads_spelled (c ∷ cs) front ts s =
@@ -122,14 +119,6 @@ AllFirst ts = (h : Hand) (c : Command) (cs : List Command) (end : Ending) → co
 
 none_read : {A : Type 0} (d end : Ending) (c : Command) (cs : List Command) → ◌≡◌ {A = Reading} ([], d) (c ∷ cs, end) → A
 none_read d end c cs e = let f : [] ≡ c ∷ cs = ap (λ (r : Reading). r.0) e in absurd (cc)
-
-head_of : List Command → Command
-head_of [] = Clause []
-head_of (c ∷ cs) = c
-
-tail_of : List Command → List Command
-tail_of [] = []
-tail_of (c ∷ cs) = cs
 
 same_head : (b c : Command) (bs cs : List Command) → ◌≡◌ {A = List Command} (b ∷ bs) (c ∷ cs) → b ≡ c
 same_head b c bs cs e = cc
@@ -404,10 +393,6 @@ asked_clean w false a = rw a refl
 asked_is : (w : List Command) (end : Ending) → with_ask true (w, end) ≡ (asked w end, end)
 asked_is w Clean = asked_clean w (has_ask w) refl
 asked_is w Malformed = refl
-
-header_first_of : List Token → Token
-header_first_of [] = Wrong
-header_first_of (t ∷ ts) = t
 
 headed_read : (v c : ℕ) (ts : List Token) (cs : List Command) (end : Ending) → AreWords ts → SpellsScript cs end (Header v c ∷ ts) → with_ask true (commands_of Nothing ts) ≡ (cs, end)
 headed_read v c ts cs end w (inl s) = absurd (s.0 v c ts refl)

@@ -11,10 +11,6 @@ pub cancel : (a : List ℕ) (s t : List ℕ) → a ++ s ≡ a ++ t → s ≡ t
 cancel [] s t e = e
 cancel (x ∷ a) s t e = cancel a s t (cc)
 
-long : (front : List ℕ) (b : ℕ) (more : List ℕ) → front ++ b ∷ more ≡ front → ⊥
-long [] b more e = cc
-long (x ∷ front) b more e = long front b more (cc)
-
 -- one of two fronts of one text goes on as the other
 meet : (a s c t : List ℕ) → a ++ s ≡ c ++ t → ((d : List ℕ) × (c ≡ a ++ d)) ⊎ ((b : ℕ) × (d : List ℕ) × (a ≡ c ++ b ∷ d))
 meet [] s c t e = inl (c, refl)

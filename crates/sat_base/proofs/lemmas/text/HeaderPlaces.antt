@@ -20,9 +20,6 @@ use Rattle.sat_base.proofs.lemmas.text.Places.{no_LF, behind_word_in_header}
 spoilt_number : (d : ℕ) (w : List ℕ) → is_digit d ≡ false → (s : ℕ → Stage) → (more : List ℕ) → with_value s (digits 0 ((d ∷ w) ++ more)) ≡ None
 spoilt_number d w e s more = ap (with_value s) (digits_stop 0 d (w ++ more) e)
 
-other_first : (a b : ℕ) (bs cs : List ℕ) → nat_eq a b ≡ false → same_bytes (a ∷ bs) (b ∷ cs) ≡ false
-other_first a b bs cs e = rw e refl
-
 -- WORDS BEGIN
 pub begun_c : BeganHeader stage.Named 99 (Some header.C)
 begun_c s e = rw e refl
@@ -98,12 +95,6 @@ pub clauses_no_digit : (vars value b : ℕ) → is_blank b ≡ false → is_digi
 clauses_no_digit vars value b f d spot (v, x, w, k, s, (m, h, j), e) =
     rw e (spoilt_by (Vars v) x w b s f (λ more. ap (with_value (Both v)) (digits_wrong_in m b (x ∷ w) more h d)))
 
-pub header_moves : (old : HeaderPlace) (b : ℕ) (new : HeaderPlace) → MovesHeader old b (Some new) → Moves (at.Header old) b (at.Header new)
-header_moves old b new m = m
-
-pub header_spoils : (old : HeaderPlace) (b : ℕ) → MovesHeader old b None → Moves (at.Header old) b at.Spoilt
-header_spoils old b m spot i = (Spoilt, refl, m spot i)
-
 -- WORDS END
 pub ended_vars : (value : ℕ) (spot : Spot) → IsAtHeader (header.Vars value) spot → IsStageIf (Some (stage.Vars value)) (ended_stage spot)
 ended_vars value spot (x, w, s, (m, h, k), e) = rw e (Vars m, (m, k, refl), ap (with_value Vars) h)
@@ -134,51 +125,8 @@ says_header p vars clauses ends spot i =
     given_at_end p spot (Header both.0 both.1) (code.Header vars clauses) i (rw (both.2, both.3) refl)
     (ap (λ (o : Option Stage). behind_word o stage_end) h.2 ∙ ap stage_end both.4)
 
-wrong_end : (ended : CodeStage) (s : Stage) → ((vars clauses : ℕ) → ended ≡ stage.Both vars clauses → ⊥) → IsStage ended s → stage_end s ≡ Wrong
-wrong_end stage.Named s n e = rw e refl
-wrong_end stage.Format s n e = rw e refl
-wrong_end (stage.Vars vars) s n (v, h, e) = rw e refl
-wrong_end (stage.Both vars clauses) s n h = absurd (n vars clauses refl)
-
-pub says_no_header : (p : HeaderPlace) (o : Option CodeStage) → ((vars clauses : ℕ) → o ≡ Some (stage.Both vars clauses) → ⊥) → EndsAs p o → Says (Some code.Wrong) (at.Header p)
-says_no_header p None n ends spot i = given_at_end p spot Wrong code.Wrong i refl (ap (λ (o : Option Stage). behind_word o stage_end) (ends spot i))
-says_no_header p (Some ended) n ends spot i =
-    let h = ends spot i in
-    given_at_end p spot Wrong code.Wrong i refl (ap (λ (o : Option Stage). behind_word o stage_end) h.2 ∙ wrong_end ended h.0 (λ v c e. n v c (ap Some e)) h.1)
-
--- at a blank
-at_blank_is : (p : HeaderPlace) (spot : Spot) (n : ℕ) → IsAtHeader p spot → ended_by_blank spot n ≡ spoils (ended_stage spot) n
-at_blank_is (header.Between ended) spot n (s, h, e) = rw e refl
-at_blank_is header.P spot n e = rw e refl
-at_blank_is header.C spot n e = rw e refl
-at_blank_is header.Cn spot n e = rw e refl
-at_blank_is header.Cnf spot n e = rw e refl
-at_blank_is (header.Vars value) spot n (x, w, s, h, e) = rw e refl
-at_blank_is (header.Clauses vars value) spot n (v, x, w, k, s, h, e) = rw e refl
-
-pub blank_spoils : (p : HeaderPlace) → EndsAs p None → SaysAtBlank (Some code.Wrong) (at.Header p)
-blank_spoils p ends spot i = (Wrong, refl, λ n. at_blank_is p spot n i ∙ ap (λ (o : Option Stage). spoils o n) (ends spot i))
-
-pub blank_goes_on : (p : HeaderPlace) (ended : CodeStage) → EndsAs p (Some ended) → SaysAtBlank None (at.Header p)
-blank_goes_on p ended ends spot i n = at_blank_is p spot n i ∙ ap (λ (o : Option Stage). spoils o n) (ends spot i).2
-
 pub behind_spoilt : (p : HeaderPlace) → EndsAs p None → LeadsBehind (at.Header p) (at.Comment false)
 behind_spoilt p ends spot i = behind_word_in_header p spot i ∙ ap behind_header_word (ends spot i)
 
 pub behind_ended : (p : HeaderPlace) (ended : CodeStage) → EndsAs p (Some ended) → LeadsBehind (at.Header p) (at.Header (header.Between ended))
 behind_ended p ended ends spot i = let h = ends spot i in (h.0, h.1, behind_word_in_header p spot i ∙ ap behind_header_word h.2)
-
--- elsewhere a blank ends what LF does
-pub other_blank : (p : Place) (given : Option CodeToken) → ((place : HeaderPlace) → p ≡ at.Header place → ⊥) → Says given p → SaysAtBlank given p
-other_blank (at.Fresh may) given h says spot e = rw e (let k = says spot e in rw e at k)
-other_blank (at.Leading may) given h says spot e = rw e (let k = says spot e in rw e at k)
-other_blank (at.Comment may) given h says spot e = rw e (let k = says spot e in rw e at k)
-other_blank at.Between given h says spot e = rw e (let k = says spot e in rw e at k)
-other_blank at.Minus given h says spot e = rw e (let k = says spot e in rw e at k)
-other_blank (at.Digits false value) given h says spot i = let k = says spot i in let e = i.6 in rw e (rw e at k)
-other_blank (at.Digits true value) given h says spot i = let k = says spot i in let e = i.4 in rw e (rw e at k)
-other_blank (at.Letter b) given h says spot i = let k = says spot i in let e = i.1 in rw e (rw e at k)
-other_blank at.Bad given h says spot i = let k = says spot i in let e = i.4 in rw e (rw e at k)
-other_blank (at.Header place) given h says spot i = absurd (h place refl)
-other_blank at.Spoilt given h says spot e = rw e (let k = says spot e in rw e at k)
-other_blank at.Over given h says spot e = rw e (let k = says spot e in rw e at k)

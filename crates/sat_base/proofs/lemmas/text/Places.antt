@@ -205,9 +205,6 @@ says_minus spot e = given_word 45 [] Wrong code.Wrong spot word_bare refl e
 pub says_bad : Says (Some code.Wrong) at.Bad
 says_bad spot (x, w, s, h, e) = given_word x w Wrong code.Wrong spot (word_wrong (x ∷ w) h) refl e
 
-pub says_spoilt : Says (Some code.Wrong) at.Spoilt
-says_spoilt spot e = rw e (Wrong, refl, λ n. refl)
-
 pub says_letter : (b : ℕ) → Says (Some (code.Letter b)) (at.Letter b)
 says_letter b spot ((s, l), e) = given_word b [] (Letter b) (code.Letter b) spot (word_letter b l) refl e
 

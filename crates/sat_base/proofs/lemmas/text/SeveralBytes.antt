@@ -15,9 +15,6 @@ use Rattle.sat_base.specs.text.Tokenizing.{Moves, MovesBy, BeginsWord, Began, gr
 use Rattle.sat_base.proofs.lemmas.text.Words.{SpellsHeld_one, no_minus_digit, no_letter_digit}
 use Rattle.sat_base.proofs.lemmas.text.Places.{moves_word, moves_fresh, moves_between, moves_minus_digit, moves_digit}
 
-pub moves_none : (p : Place) → MovesBy p [] p
-moves_none p spot i = (spot, i, λ n rest. refl)
-
 -- one byte more
 pub moves_more : (a b c : Place) (xs : List ℕ) (y : ℕ) → MovesBy a xs b → Moves b y c → MovesBy a (xs ++ y ∷ []) c
 moves_more a b c xs y f g spot i =
