@@ -4,10 +4,6 @@ use Rattle.std.specs.List.{Contains}
 use Rattle.sat_base.specs.values.Literals.{largest}
 use Rattle.sat_store.specs.clause.Header.{Header, header_of}
 
--- how many literals the clause at o has
-abbrev pub len_at : List ℕ → ℕ → ℕ
-len_at words o = get_or words (o + 2) 0
-
 -- the header of the clause at o
 unfoldable pub header_at : List ℕ → ℕ → Header
 header_at words o = header_of (get_or words o 0) (get_or words (o + 1) 0) (get_or words (o + 2) 0)

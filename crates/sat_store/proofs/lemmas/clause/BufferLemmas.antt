@@ -167,9 +167,6 @@ within_words v w p o k e f c small =
     let l : length v ≡ length w = ap length e in
     (omega arith, omega (arith, c.whole))
 
-pub same_clause : (v w : List ℕ) (p o : ℕ) → v ≡ w → p ≡ o → IsClause w o → IsClause v p
-same_clause v w p o e f c = rw (e, f) c
-
 pub word_read : (v w : List ℕ) (p o k x : ℕ) → v ≡ w → p ≡ o → IsClause w o → k < length (lits_at w o) → x ≡ get_or v (p + 3 + k) x → x ≡ get_or w (o + 3 + k) 0
 word_read v w p o k x e f c small read =
     let inside : (k < get_or v (p + 2) 0) × (p + 3 + k < length v) = within_words v w p o k e f c small in

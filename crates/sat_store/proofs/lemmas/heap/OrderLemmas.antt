@@ -40,12 +40,6 @@ up_step r s m hole some within ex above up =
           ];
     }
 
-pub up_end : (r : ℕ → ℕ) (m hole : ℕ) → (0 < hole → r hole ≤ r (parent hole)) → UpFrom r m hole → Ordered r m 0
-up_end r m hole fits up k pos small low = elim (cases_eq k hole) [
-  | inl same ↦ subst (λ (x : ℕ). r x ≤ r (parent x)) (sym same) (fits (omega arith))
-  | inr other ↦ up.others k pos small other
-]
-
 -- one step down
 
 pub down_step : (r s : ℕ → ℕ) (m low hole big : ℕ) → parent big ≡ hole → 0 < big → big < m → Exchanges r s hole big → r hole < r big → ((k : ℕ) → 0 < k → k < m → parent k ≡ hole → r k ≤ r big) → low ≤ hole → DownFrom r m low hole → DownFrom s m low big
@@ -79,12 +73,6 @@ down_step r s m low hole big child some within ex below largest_child from down 
           let ordered : r k ≤ r (parent k) = down.others k pos small (omega arith) (omega arith) in
           omega arith;
     }
-
-pub down_end : (r : ℕ → ℕ) (m low hole : ℕ) → ((k : ℕ) → 0 < k → k < m → parent k ≡ hole → r k ≤ r hole) → DownFrom r m low hole → Ordered r m low
-down_end r m low hole fits down k pos small low_parent = elim (cases_eq (parent k) hole) [
-  | inl under ↦ let at_hole : r (parent k) ≡ r hole = ap r under in omega (arith, fits k pos small under)
-  | inr far ↦ down.others k pos small low_parent far
-]
 
 -- the first is the greatest
 

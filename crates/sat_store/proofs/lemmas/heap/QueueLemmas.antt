@@ -97,32 +97,8 @@ grown_flags p m n past =
 
 -- an activity raised
 
-pub raised_order : (r s : ℕ → ℕ) (m hole : ℕ) → ((k : ℕ) → k < m → k ≢ hole → s k ≡ r k) → r hole ≤ s hole → hole < m → Ordered r m 0 → UpFrom s m hole
-raised_order r s m hole same more within ordered = record {
-  others = λ k pos small differ. elim (cases_eq (parent k) hole) [
-    | inl under ↦
-        let at : r (parent k) ≡ r hole = ap r under in
-        subst (λ (x : ℕ). s k ≤ s x) (sym under) (omega (arith, same k small differ, ordered k pos small (omega arith)))
-    | inr far ↦ omega (arith, same k small differ, same (parent k) (omega arith) far, ordered k pos small (omega arith))
-  ];
-  across = λ some k pos small under.
-      let at : r (parent k) ≡ r hole = ap r under in
-      omega (arith, same k small (omega arith), same (parent hole) (omega arith) (omega arith), ordered k pos small (omega arith), ordered hole some within (omega arith));
-}
-
 rank_other : (a : List ℕ) (v x u : ℕ) → u ≢ v → rank (set a v x) u ≡ rank a u
 rank_other a v x u differ = ap (λ (y : ℕ). y * largest + (largest - 1 - u)) (get_or-set_other a v u x 0 differ)
-
-pub rank_raised : (a : List ℕ) (v x : ℕ) → v < length a → get_or a v 0 ≤ x → rank a v ≤ rank (set a v x) v
-rank_raised a v x within more = let e : get_or (set a v x) v 0 ≡ x = get_or-set_same a v x 0 within in omega arith
-
-pub raised_up : (h p a : List ℕ) (m v x : ℕ) → IsHeap h p a m → v < length h → get_or p v 0 < m → get_or a v 0 ≤ x → UpFrom (rank_at (set a v x) h) m (get_or p v 0)
-raised_up h p a m v x heap within ahead more =
-    let at : get_or h (get_or p v 0) 0 ≡ v = heap.placed.variable v within in
-    let less : rank a v ≤ rank (set a v x) v = rank_raised a v x (omega (arith, heap.count)) more in
-    raised_order (rank_at a h) (rank_at (set a v x) h) m (get_or p v 0)
-    (λ k small differ. rank_other a v x (get_or h k 0) (λ e. differ (sym (heap.placed.position k (omega (arith, heap.within))) ∙ ap (λ (y : ℕ). get_or p y 0) e)))
-    (subst (λ (y : ℕ). rank a y ≤ rank (set a v x) y) (sym at) less) ahead heap.ordered
 
 -- an activity written of a variable that isn't among the first m
 pub written_behind : (h p a : List ℕ) (m v x : ℕ) → IsHeap h p a m → v < length h → m ≤ get_or p v 0 → Ordered (rank_at (set a v x) h) m 0
@@ -216,12 +192,6 @@ decayed_large q b n f a is large same scaled bump =
 
 -- a variable comes among the first, or leaves them
 
-pub made_up : (r s : ℕ → ℕ) (m i : ℕ) → m ≤ i → Exchanges r s i m → Ordered r m 0 → UpFrom s (m + 1) m
-made_up r s m i behind ex ordered = record {
-  others = λ k pos small differ. omega (arith, ex.others k (omega arith) differ, ex.others (parent k) (omega arith) (omega arith), ordered k pos (omega arith) (omega arith));
-  across = λ some k pos small under. absurd (omega arith);
-}
-
 pub taken_up : (r s : ℕ → ℕ) (last i : ℕ) → 0 < i → i < last → Exchanges r s i last → s (parent i) < s i → Ordered r (last + 1) 0 → UpFrom s last i
 taken_up r s last i some within ex above ordered =
     let s_top : s (parent i) ≡ r (parent i) = ex.others (parent i) (omega arith) (omega arith) in
@@ -251,9 +221,6 @@ taken_down r s last i within ex fits ordered = record {
       omega (arith, ex.others k (omega arith) (omega arith), ex.others (parent i) (omega arith) (omega arith), ordered k pos (omega arith) (omega arith), ordered i some (omega arith) (omega arith));
 }
 
-pub taken_last : (r s : ℕ → ℕ) (last : ℕ) → Exchanges r s last last → Ordered r (last + 1) 0 → Ordered s last 0
-taken_last r s last ex ordered k pos small low = omega (arith, ex.others k (omega arith) (omega arith), ex.others (parent k) (omega arith) (omega arith), ordered k pos (omega arith) (omega arith))
-
 pub placed_once : (h p : List ℕ) → Placed h p → (v w : ℕ) → v < length p → w < length p → get_or p v 0 ≡ get_or p w 0 → v ≡ w
 placed_once h p placed v w within_v within_w same =
     sym (placed.variable v (omega (arith, placed.count))) ∙ ap (λ (k : ℕ). get_or h k 0) same ∙ placed.variable w (omega (arith, placed.count))
@@ -267,12 +234,6 @@ flag_true m p u flag = elim (cases_lt u (length p)) [
     | inr more ↦ let no : get_or (flags m p) u false ≡ false = flag_at m p u within ∙ from_test (get_or p u 0) m more in absurd (false≢true (sym no ∙ flag))
   ]
   | inr past ↦ let no : get_or (flags m p) u false ≡ false = get_or_past (flags m p) u false (omega (arith, flags_count m p)) in absurd (false≢true (sym no ∙ flag))
-]
-
-pub flag_false : (m : ℕ) (p : List ℕ) (u : ℕ) → u < length p → get_or (flags m p) u false ≡ false → m ≤ get_or p u 0
-flag_false m p u within flag = elim (cases_lt (get_or p u 0) m) [
-  | inl less ↦ let yes_it : get_or (flags m p) u false ≡ true = flag_at m p u within ∙ below_test (get_or p u 0) m less in absurd (false≢true (sym flag ∙ yes_it))
-  | inr more ↦ more
 ]
 
 rank_says : (a : List ℕ) (u v : ℕ) → u < largest → v < largest → rank a u ≤ rank a v → (get_or a u 0 < get_or a v 0) ⊎ ((get_or a u 0 ≡ get_or a v 0) × (v ≤ u))

@@ -12,21 +12,6 @@ same_test a b e = grind (arith, nat_tests)
 other_test : (a b : ℕ) → a ≢ b → (a == b) ≡ false
 other_test a b d = grind (arith, nat_tests)
 
-pub push_none : (xs : List (Option ℕ)) (v : ℕ) → target (xs ++ None ∷ []) v ≡ target xs v
-push_none xs v = elim (cases_lt v (length xs)) [
-  | inl within ↦ get_or_append_left xs (None ∷ []) None v within
-  | inr past ↦ elim (cases_eq v (length xs)) [
-    | inl last ↦ get_or_at xs None [] None v (sym last) ∙ sym (get_or_past xs v None past)
-    | inr beyond ↦ get_or_past (xs ++ None ∷ []) v None (omega (arith, length-append xs (None ∷ []))) ∙ sym (get_or_past xs v None past)
-  ]
-]
-
-pub put_set : (xs : List (Option ℕ)) (i : ℕ) (u : Option ℕ) → i < length xs → PutsTarget xs (set xs i u) i u
-put_set xs i u within v = elim (cases_eq v i) [
-  | inl same ↦ rw (same_test v i same) (ap (λ (x : ℕ). get_or (set xs i u) x None) same ∙ get_or-set_same xs i u None within)
-  | inr differ ↦ rw (other_test v i differ) (get_or-set_other xs i v u None differ)
-]
-
 -- a target put and cut off again
 pub cut_back : (a b c : List (Option ℕ)) (from : ℕ) (into : Option ℕ) → target a from ≡ None → PutsTarget a b from into → length c ≡ length a → ((v : ℕ) → v < length a → target c v ≡ (if v == from then None else target b v)) → c ≡ a
 cut_back a b c from into free puts count cuts = ext_get_or None c a count (λ v within. elim (cases_eq v from) [

@@ -1,6 +1,6 @@
 use Rattle.std.proofs.Common.{◌≡◌, ◌+◌, ◌-◌, ◌∷◌, ◌++◌, [], ℕ, false, length, replicate, ap, ◌∙◌, sym, subst, arith, length-append}
 use Rattle.sat_store.specs.heap.Heap.{IsHeap, flags}
-use Rattle.sat_store.proofs.lemmas.heap.QueueLemmas.{grown_heap, grown_flags}
+use Rattle.sat_store.proofs.lemmas.heap.QueueLemmas.{grown_heap, grown_flags, one_more_copy}
 use Rattle.sat_store.proofs.vsids.heap.add_variables.Goals as goal
 
 pub loop-index-preserved : goal.loop-index-preserved
