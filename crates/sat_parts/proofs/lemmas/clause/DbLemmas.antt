@@ -22,25 +22,6 @@ and_true : (a : Bool) → (a && true) ≡ a
 and_true true = refl
 and_true false = refl
 
--- tiers of one number are one
-pub same_tier : (a b : Tier) → index_of a ≡ index_of b → a ≡ b
-same_tier Irred Irred e = refl
-same_tier Irred Core e = absurd (omega arith)
-same_tier Irred Mid e = absurd (omega arith)
-same_tier Irred Local e = absurd (omega arith)
-same_tier Core Irred e = absurd (omega arith)
-same_tier Core Core e = refl
-same_tier Core Mid e = absurd (omega arith)
-same_tier Core Local e = absurd (omega arith)
-same_tier Mid Irred e = absurd (omega arith)
-same_tier Mid Core e = absurd (omega arith)
-same_tier Mid Mid e = refl
-same_tier Mid Local e = absurd (omega arith)
-same_tier Local Irred e = absurd (omega arith)
-same_tier Local Core e = absurd (omega arith)
-same_tier Local Mid e = absurd (omega arith)
-same_tier Local Local e = refl
-
 -- what passes is live
 pub live_is : (words refs : List ℕ) (o : ℕ) → Contains (live_refs words refs) o → is_live words o ≡ true
 live_is words refs o h = All-contains (λ x. is_live words x ≡ true) (live_refs words refs) o (filter_passes (is_live words) refs) h
@@ -306,30 +287,6 @@ room_in_tier words db o tier h c differ =
     let no : is_live_of words tier o ≡ false = counted_live words tier o old (live_is words db.refs o c) refl ∙ ne_eqb (index_of old) (index_of tier) differ in
     let less : count_by (is_live_of words tier) db.refs < length db.refs = count_less (is_live_of words tier) db.refs o (live_in words db.refs o c) no in
     omega (arith, set_elsewhere db.counts old tier (get_or db.counts (index_of old) 0 - 1) differ, h.counts tier, less, h.few)
-
--- and each tier has, where the list has
-pub room_to_add : (words : List ℕ) (db : Db) (o : ℕ) (tier : Tier) → HoldsDb words db → length (db.refs ++ o ∷ []) < 2 ^ 64 → get_or db.counts (index_of tier) 0 + 1 < 2 ^ 64
-room_to_add words db o tier h few = omega (arith, h.counts tier, count_by-le-length (is_live_of words tier) db.refs, length_push db.refs o)
-
-pub puts_same : (words refs : List ℕ) (o : ℕ) (h : Header) → Laid words refs → Contains refs o → h ≡ header_at words o → PutsHeader words words refs o h
-puts_same words refs o h laid has e = record {
-  size = refl;
-  laid = laid;
-  header_there = sym e;
-  lits_there = refl;
-  others = λ p c n. record { clause = laid.clauses p c; header = refl; lits = refl };
-}
-
--- a clause that is of the tier already
-pub moves_none : (words : List ℕ) (db : Db) (o : ℕ) (tier : Tier) → HoldsDb words db → Contains (live_refs words db.refs) o → index_of (header_at words o).tier ≡ index_of tier →
-    MovesClause words db words db o tier
-moves_none words db o tier h c e = record {
-  put = puts_same words db.refs o (record (header_at words o) { tier = tier }) h.laid (live_in words db.refs o c)
-      (ap (λ (t : Tier). record (header_at words o) { tier = t }) (sym (same_tier (header_at words o).tier tier e)));
-  holds = h;
-  refs = refl;
-  live = refl;
-}
 
 -- the same with the length that the header says
 pub deleted_by : (words : List ℕ) (db : Db) (words' : List ℕ) (o : ℕ) → HoldsDb words db → Contains (live_refs words db.refs) o →

@@ -64,16 +64,6 @@ packed_more w r w2 c h ls laid packed added =
     let own : length (lits_at w2 c) ≡ length ls = ap (λ (xs : List ℕ). length xs) added.lits_there in
     omega (arith, sum_by_push (λ o. length (lits_at w2 o) + 3) r c, kept, own, packed, added.size)
 
-pub copying_none : (words refs : List ℕ) → Copying words refs [] [] 0
-copying_none words refs = record {
-  copies = record { size = refl; headers = λ k lt. absurd (omega arith); lits = λ k lt. absurd (omega arith) };
-  laid = laid_none [];
-  rising = λ j k a b. absurd (omega arith);
-  low = λ k lt. absurd (omega arith);
-  room = λ p c. omega arith;
-  packed = refl;
-}
-
 pub copying_skip : (words refs w r : List ℕ) (i : ℕ) → Copying words refs w r i → i < length refs → is_live words (get_or refs i 0) ≡ false → Copying words refs w r (i + 1)
 copying_skip words refs w r i h lt dead =
     let e : live_refs words (take i refs) ≡ live_refs words (take (i + 1) refs) = sym (live_skip words refs i lt dead) in

@@ -10,47 +10,6 @@ use Rattle.sat_parts.specs.clause.Db.{Db, is_live, live_refs, is_live_of, garbag
 use Rattle.sat_parts.specs.clause.Activity.{PutsHeaders, PutsFirst, with_activity, shifted, raised, bumped_shifted}
 use Rattle.sat_parts.proofs.lemmas.clause.ListLemmas.{at_place, place_in, rising_distinct, sum_same, filter_same}
 
-pub first_none : (words refs : List ℕ) (f : ℕ → Header) → Laid words refs → PutsFirst words words refs f 0
-first_none words refs f laid = record { size = refl; laid = laid; first = λ k a b. absurd (omega arith); rest = λ k a b. refl; lits = λ k b. refl }
-
--- the next header is written
-pub first_more : (words one two refs : List ℕ) (f : ℕ → Header) (n o : ℕ) (h : Header) → AreRising refs → PutsFirst words one refs f n → n < length refs → o ≡ get_or refs n 0 →
-    PutsHeader one two refs o h → h ≡ f o → PutsFirst words two refs f (n + 1)
-first_more words one two refs f n o h rising x lt o_is put is =
-    let other : (k : ℕ) → k < length refs → k ≢ n → Keeps one two (get_or refs k 0) = λ k b d.
-    put.others (get_or refs k 0) (place_in refs k b) (λ e. d (rising_distinct refs k n rising b lt (e ∙ o_is))) in
-    record {
-      size = put.size ∙ x.size;
-      laid = put.laid;
-      first = λ k a b. elim (cases_eq k n) [
-        | inl e ↦
-            let q : get_or refs k 0 ≡ o = ap (λ z. get_or refs z 0) e ∙ sym o_is in
-            ap (λ z. header_at two z) q ∙ put.header_there ∙ is ∙ ap (λ z. f z) (sym q)
-        | inr d ↦ (other k b d).header ∙ x.first k (omega arith) b
-      ];
-      rest = λ k a b. (let d : k ≢ n = omega arith in (other k b d).header ∙ x.rest k (omega arith) b);
-      lits = λ k b. elim (cases_eq k n) [
-        | inl e ↦
-            let q : get_or refs k 0 ≡ o = ap (λ z. get_or refs z 0) e ∙ sym o_is in
-            ap (λ z. lits_at two z) q ∙ put.lits_there ∙ ap (λ z. lits_at one z) (sym q) ∙ x.lits k b
-        | inr d ↦ (other k b d).lits ∙ x.lits k b
-      ];
-    }
-
--- the next header is the wanted one already
-pub first_kept : (words one refs : List ℕ) (f : ℕ → Header) (n : ℕ) → PutsFirst words one refs f n → n < length refs → f (get_or refs n 0) ≡ header_at words (get_or refs n 0) →
-    PutsFirst words one refs f (n + 1)
-first_kept words one refs f n x lt is = record {
-  size = x.size;
-  laid = x.laid;
-  first = λ k a b. elim (cases_eq k n) [
-    | inl e ↦ x.rest k (omega arith) b ∙ ap (λ z. header_at words (get_or refs z 0)) e ∙ sym is ∙ ap (λ z. f (get_or refs z 0)) (sym e)
-    | inr d ↦ x.first k (omega arith) b
-  ];
-  rest = λ k a b. x.rest k (omega arith) b;
-  lits = x.lits;
-}
-
 pub first_all : (words one refs : List ℕ) (f : ℕ → Header) (n : ℕ) → PutsFirst words one refs f n → n ≡ length refs → PutsHeaders words one refs f
 first_all words one refs f n x e = record {
   size = x.size;
@@ -86,28 +45,6 @@ holds_headers words one db f h x dead tier =
 pub live_headers : (words one : List ℕ) (db : Db) (f : ℕ → Header) → PutsHeaders words one db.refs f → ((p : ℕ) → Contains db.refs p → (f p).deleted ≡ (header_at words p).deleted) →
     live_refs one db.refs ≡ live_refs words db.refs
 live_headers words one db f x dead = filter_same (is_live words) (is_live one) db.refs (λ p c. ap (λ (y : Header). not y.deleted) (x.headers p c) ∙ ap (λ b. not b) (dead p c))
-
--- a bump and then a smaller scale
-pub bumped_then_shifted : (words one two refs : List ℕ) (o bump : ℕ) → PutsHeader words one refs o (with_activity (header_at words o) (raised words o bump)) → PutsHeaders one two refs (shifted one) →
-    PutsHeaders words two refs (bumped_shifted words o bump)
-bumped_then_shifted words one two refs o bump put x = record {
-  size = x.size ∙ put.size;
-  laid = x.laid;
-  headers = λ p c. elim (cases_eq p o) [
-    | inl e ↦
-        let there : header_at one p ≡ with_activity (header_at words p) (raised words o bump) =
-        ap (λ z. header_at one z) e ∙ put.header_there ∙ ap (λ z. with_activity (header_at words z) (raised words o bump)) (sym e) in
-        x.headers p c ∙ ap (λ (h : Header). with_activity h (h.activity / 2 ^ 16)) there
-        ∙ ap (λ a. with_activity (header_at words p) (a / 2 ^ 16)) (sym (cond-true (p == o) (raised words o bump) (header_at words p).activity (eq-eqb p o e)))
-    | inr n ↦
-        x.headers p c ∙ ap (λ (h : Header). with_activity h (h.activity / 2 ^ 16)) (put.others p c n).header
-        ∙ ap (λ a. with_activity (header_at words p) (a / 2 ^ 16)) (sym (cond-false (p == o) (raised words o bump) (header_at words p).activity (ne_eqb p o n)))
-  ];
-  lits = λ p c. elim (cases_eq p o) [
-    | inl e ↦ x.lits p c ∙ ap (λ z. lits_at one z) e ∙ put.lits_there ∙ ap (λ z. lits_at words z) (sym e)
-    | inr n ↦ x.lits p c ∙ (put.others p c n).lits
-  ];
-}
 
 -- one header, as the headers of all
 pub put_one : (words one refs : List ℕ) (o : ℕ) (h : Header) → PutsHeader words one refs o h → PutsHeaders words one refs (λ p. cond (p == o) h (header_at words p))

@@ -73,8 +73,3 @@ watched_now words refs w w' implied s top h same built =
       | inl on ↦ subst (λ (x : Watching). AreWatched words (live_refs words refs) x.lists (length s.values)) (sym (same on)) (h.watches on)
       | inr off ↦ subst (λ (z : ℕ). AreWatched words (live_refs words refs) w'.lists z) n (built off)
     ]
-
-pub half_clauses : (words refs : List ℕ) (w : Watching) (implied : List (List ℕ)) (s : State) (top : ℕ) → Asks words refs w implied s top → AreClauses words (live_refs words refs) (length w.lists / 2)
-half_clauses words refs w implied s top h =
-    let n : length s.values ≡ length w.lists / 2 = omega (arith, h.room) in
-    subst (λ (z : ℕ). AreClauses words (live_refs words refs) z) n h.clauses

@@ -274,30 +274,6 @@ keeps_low v a nodes t h lt =
           omega (arith, l.not_begun v low lt);
     }
 
--- no literal is of a level above the current one
-level_within : (s : State) (m : ℕ) → Agrees s → IsTrueLit s.values m → level s m ≤ current_level s
-level_within s m h holds = elim (h.known m holds) [
-  | inl x ↦
-      let l : LevelIs s.trail.starts x.place (level s (lit_at s x.place)) = h.levels x.place x.within in
-      subst (λ z. level s z ≤ current_level s) x.there l.within
-  | inr x ↦ omega (arith, x.bottom)
-]
-
--- where no level is above this one, all stays
-pub keeps_all : (v : ℕ) (s : State) → Agrees s → current_level s ≤ v → KeepsLow v s s
-keeps_all v s h le = record {
-  agrees = h;
-  low_kept = λ m holds low. holds;
-  true_kept = λ m holds. holds;
-  kept_level = λ m holds. omega (arith, level_within s m h holds);
-  opened = λ m holds high. absurd (omega (arith, level_within s m h holds));
-  open_kept = λ m none. none;
-  removed_kept = λ m x. x;
-  shorter = omega arith;
-  places = λ i b. refl;
-  low_places = λ i b low. b;
-}
-
 -- all that was undone was in the queue or behind its head
 head_behind : (v : ℕ) (a : Values) (nodes : List ImplNode) (t : Trailed) → Agrees (before a nodes t) → IsQueueCurrent (before a nodes t) → v < length t.starts → cut_at v t ≤ t.head
 head_behind v a nodes t h q lt = elim (cases_lt t.head (length t.lits)) [
@@ -388,25 +364,3 @@ turns_after words live implied v a nodes t from h lt x i le b =
     let s : State = before a nodes t in
     subst (λ (z : Reason). Implies words live implied (after v a nodes t) i z) (ap (λ z. (node s z).reason) (sym (cut_lit v a nodes t i q)))
     (implies_after words live implied v a nodes t i (node s (lit_at s i)).reason h lt q (x i le (omega (arith, cut_within v a nodes t h lt))))
-
--- the trail without these levels is a trail
-pub trail_cut : (v : ℕ) (t : Trailed) → IsTrail t → v < length t.starts → IsTrail (cut_to v t)
-trail_cut v t h lt =
-    let w : cut_at v t ≤ length t.lits = h.levels.within v lt in
-    let n : length (take (cut_at v t) t.lits) ≡ cut_at v t = length-take-le (cut_at v t) t.lits w in
-    let k : length (take v t.starts) ≡ v = length-take-le v t.starts (omega arith) in
-    record {
-      queue = omega arith;
-      levels = record {
-        within = λ i b.
-            let e : get_or (take v t.starts) i 0 ≡ get_or t.starts i 0 = get_or-take v t.starts i 0 (omega arith) in
-            omega (arith, h.levels.rising i v (omega arith) lt);
-        rising = λ i j le b.
-            let e : get_or (take v t.starts) i 0 ≡ get_or t.starts i 0 = get_or-take v t.starts i 0 (omega arith) in
-            let f : get_or (take v t.starts) j 0 ≡ get_or t.starts j 0 = get_or-take v t.starts j 0 (omega arith) in
-            omega (arith, h.levels.rising i j le (omega arith));
-      };
-      fits = omega (arith, h.fits);
-      small = h.small;
-      counted = omega (arith, h.counted);
-    }

@@ -42,14 +42,6 @@ live_at words refs k lt e =
     live_front words refs (k + 1) (get_or refs k 0)
     (subst (λ (xs : List ℕ). Contains xs (get_or refs k 0)) (sym (live_next words refs k lt e)) (Contains-push (live_refs words (take k refs)) (get_or refs k 0)))
 
--- nothing is built in empty lists
-pub built_none : (words refs : List ℕ) (lists : List (List Watch)) (count : ℕ) → length lists ≡ 2 * count → ((l : ℕ) → watches_of lists l ≡ []) → AreBuilt words refs lists count 0
-built_none words refs lists count room empty = record {
-  room = room;
-  good = λ l p lt. absurd (let z : length (watches_of lists l) ≡ 0 = ap (λ (xs : List Watch). length xs) (empty l) in omega arith);
-  both = λ o i h hi. absurd (omega (arith, h.1));
-}
-
 -- a deleted clause is passed over
 pub built_skip : (words refs : List ℕ) (lists : List (List Watch)) (count k : ℕ) → AreBuilt words refs lists count k → k < length refs →
     is_live words (get_or refs k 0) ≡ false → AreBuilt words refs lists count (k + 1)

@@ -1,7 +1,7 @@
 use Rattle.std.proofs.Common.{◌+◌}
 use Rattle.sat_parts.specs.prop.State.{current_level}
 use Rattle.sat_parts.specs.prop.Ready.{state_of}
-use Rattle.sat_parts.proofs.lemmas.prop.AsksLemmas.{half_clauses, ready_from, watched_now}
+use Rattle.sat_parts.proofs.lemmas.prop.AsksLemmas.{ready_from, watched_now}
 use Rattle.sat_parts_tests.proofs.alone.built_and_over_long.Goals as goal
 
 pub over_long-requires : goal.over_long-requires
