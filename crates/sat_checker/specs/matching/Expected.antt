@@ -39,10 +39,6 @@ abbrev pub setting : Mode → List ℕ → Judge → List Expected
 setting mode [] j = []
 setting mode (name ∷ names) j = map NewName (new_names name j) ++ setting mode names (with_mode mode name (bring_in name j))
 
--- a model's line, which lists the names in use
-abbrev pub showing_model : Judge → List Literal → List Literal → Expected
-showing_model j ask line = Shows (map (λ n. n.name) j.in_use) ask line
-
 -- the step that shows an outcome, if one does
 abbrev pub showing : Judge → List Literal → Outcome → List Expected
 showing j ask (Sat line) = Shows (map (λ n. n.name) j.in_use) ask line ∷ []

@@ -27,10 +27,6 @@ from_negated (l ∷ ls) m e =
       | inr k ↦ let n = from_negated ls m k in record { literal = n.literal; within = or_right (eqb l n.literal) (is_among ls n.literal) n.within; is_it = n.is_it }
     ]
 
--- the literals of a clause but for one
-but : ℕ → List ℕ → List ℕ
-but o clause = filter (λ m. not (eqb m o)) clause
-
 record IsBut (o : ℕ) (ls : List ℕ) (m : ℕ) : Type 0 where
   within : is_among ls m ≡ true
   differs : eqb m o ≡ false

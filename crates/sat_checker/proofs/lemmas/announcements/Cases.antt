@@ -37,7 +37,3 @@ module _ (clause literals : List ℕ) (set : literals ≡ canonical clause) wher
     ids_of_conflict t e =
         let ids : List ℕ = conflict_ids (map negated clause) (ground (map negated clause ++ unit_literals f) (named_by hashes f)) f.units in
         ap (λ b. cond b [] (unit_alone (true_unit (canonical clause) f.units) ids)) (sym signs_of ∙ t) ∙ ap (λ o. unit_alone o ids) (ap (λ ls. true_unit ls f.units) (sym set) ∙ e)
-
--- what was noted is looked at once more
-pub looks_followed : (old mid new noted n l : ℕ) → mid ≤ old + n * l → noted + old ≤ mid → new ≤ mid + noted → new ≤ old + 2 * n * l
-looks_followed old mid new noted n l h k j = let e : 2 * n * l ≡ 2 * (n * l) = mul_assoc 2 n l in omega arith

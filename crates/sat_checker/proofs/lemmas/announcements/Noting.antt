@@ -143,14 +143,6 @@ module _ (ss : List Slot) (old mid new : Passed) (assumed more most : List ℕ) 
         ends_further ss old mid new assumed more most cs (filed (get_or numbers i 0) ss) (named (drop (i + 1) numbers) ss)
         (subst (λ xs. Leads ss old assumed cs mid more xs) (next_named ss numbers i inside) h) k
 
--- no place is left
-pub leads_over_all : (ss : List Slot) (old new : Passed) (assumed more places : List ℕ) (i : ℕ) → length places ≤ i → (cs : List StoredClause) → Leads ss old assumed cs new more (map (clause_at ss) (drop i places)) → Leads ss old assumed cs new more []
-leads_over_all ss old new assumed more places i l cs h = subst (λ ps. Leads ss old assumed cs new more (map (clause_at ss) ps)) (drop_all i places l) h
-
--- what is noted has been looked at
-pub read_on : (noted more before after n : ℕ) → after ≡ before + n → more ≤ noted + n → more + before ≤ noted + after
-read_on noted more before after n e h = omega arith
-
 pub read_further : (noted mid more before between after n : ℕ) → mid + before ≤ noted + between → after ≡ between + n → more ≤ mid + n → more + before ≤ noted + after
 read_further noted mid more before between after n k e h = omega arith
 

@@ -28,9 +28,6 @@ behind_one cs c earlier = ap (λ (z : List Step). taken_after z earlier) (additi
 cost_one : (cs : List (List ℕ)) (c : List ℕ) (earlier : List Step) → most_looks_behind (additions (cs ++ c ∷ [])) earlier ≡ most_looks_behind (additions cs) earlier + most_looks (ready_after (behind cs earlier)) (AddClause c)
 cost_one cs c earlier = ap (λ (z : List Step). most_looks_behind z earlier) (additions_one cs c) ∙ looks_one (additions cs) (AddClause c) earlier
 
-none_more : (n : ℕ) → n ≤ n + 0
-none_more n = omega arith
-
 -- a unit conflict that is settled is no bar
 may_settle : (f : Stored) (c : List ℕ) → MayBeAdded f c → MayBeAdded (settled f) c
 may_settle f c h = go f.conflict
@@ -49,9 +46,6 @@ module _ {L : Type 0} (Hears : L → Told → Result Unit ProcessingError → L 
     pub split : clauses ≡ added ++ rest
     pub goes_on : GoesOn Hears before begun new (behind added earlier)
     pub looks : looks_of new ≤ looks_of old + most_looks_behind (additions added) earlier
-
-  pub added_none : (c : Seen L) (clauses rest : List (List ℕ)) (earlier : List Step) → clauses ≡ rest → has_failed c ≡ false → Stands Hears before begun c earlier → Added c c clauses rest earlier
-  added_none c clauses rest earlier e h s = record { added = []; split = e; goes_on = (s, h); looks = none_more (looks_of c) }
 
   tried_cost : (a b d : Seen L) (clauses rest : List (List ℕ)) (c : List ℕ) (earlier : List Step) → (p : Added a b clauses rest earlier) → LooksAtMost b.kernel (AddClause c) d.kernel
       → looks_of d ≤ looks_of a + most_looks_behind (additions (p.added ++ c ∷ [])) earlier

@@ -70,9 +70,6 @@ fed_of text p is = ap (λ (z : Progress). z.fed) is
 pub open_read : (text piece : List ℕ) (p q : Progress) → HasFed text p → q ≡ with_fed piece p → clauses_read q ≡ (dimacs (settled (text ++ piece))).clauses
 open_read text piece p q is f = ap clauses_read (f ∙ ap (with_fed piece) is)
 
-pub settled_read : (text : List ℕ) (p : Progress) → HasFed text p → clauses_read p ≡ (dimacs (settled text)).clauses
-settled_read text p is = ap clauses_read is
-
 over_read : (text : List ℕ) (p q : Progress) → HasFed text p → q ≡ at_its_end p → clauses_read q ≡ (dimacs text).clauses
 over_read text p q is f = ap clauses_read (f ∙ ap at_its_end is)
 

@@ -204,14 +204,6 @@ pub long_refused : {T : Type 0} (result : Result T StoreError) (d e : StoreError
     → (e ≡ CounterEnd → 2 ^ 64 ≤ count_in r (clause_with ls f.clauses) + 1) → Turns result K (with_canonical r ls f)
 long_refused {T = T} result d e i s K F f r ls l k h = subst (λ x. Turns x K (with_canonical r ls f)) (sym (i ∙ ap Err s)) (long_fails e T K F f r ls l k h)
 
--- an error is handed on
-pub turns_on : {T U : Type 0} (first : Result T StoreError) (result : Result U StoreError) (d e : StoreError) → first ≡ Err e → result ≡ Err d → d ≡ e → (K L : Type 0) (g h : Stored) → (IsSpent g → IsSpent h) → Turns first K g → Turns result L h
-turns_on {T = T} {U = U} first result d e a b s K L g h w t = subst (λ x. Turns x L h) (sym (b ∙ ap Err s)) (go e (subst (λ x. Turns x K g) a t))
-  where
-    go : (e : StoreError) → Turns {T = T} (Err e) K g → Turns {T = U} (Err e) L h
-    go OutOfMemory t = tt
-    go CounterEnd t = w t
-
 -- ids don't fall
 next_unit : (l : ℕ) (f : Stored) → f.next_id ≤ (with_unit l f).next_id
 next_unit l f = go (is_unit f l) (is_unit f (negated l))
@@ -245,10 +237,6 @@ next_stored r c f = go (is_tautology c)
 next_input : (n m : ℕ) (b : Bool) → n ≤ m → b ≡ eqb m n → cond b (m + 1) m ≡ max m (n + 1)
 next_input n m true l e = let h : m ≡ n = eqb-true m n (sym e) in omega arith
 next_input n m false l e = let h : (m ≡ n → ⊥) = eqb-false m n (sym e) in omega arith
-
-pub input_spent : (c : List ℕ) (f : Stored) → IsSpent (with_stored false c f) → IsSpent (with_input c f)
-input_spent c f (inl h) = inl (omega arith)
-input_spent c f (inr s) = inr (record { literals = s.literals; past = s.past })
 
 pub input_stored : {T : Type 0} (result : Result T StoreError) (F G : Formula) (status : Status) (f : Stored) (c : List ℕ) (b : Bool) → KeepsFormula F f → KeepsFormula G (with_stored false c f) → b ≡ eqb G.status.next_id F.status.next_id
     → Takes result G.status b status → Turns result (KeepsFormula (record G { status = status }) (with_input c f)) (with_input c f)

@@ -69,10 +69,6 @@ neither true y e f = sym e
 neither false true e f = sym f
 neither false false e f = refl
 
--- the valuation of listed literals and units
-of_lists : List ℕ → List ℕ → Valuation
-of_lists ls us = λ x. is_among ls (2 * x) || is_among us (2 * x)
-
 -- a literal that one of the lists has, and whose negation neither has, is true
 made_true : (ls us : List ℕ) (l : ℕ) → (is_among ls l || is_among us l) ≡ true → is_among ls (negated l) ≡ false → is_among us (negated l) ≡ false → literal_true (λ x. is_among ls (2 * x) || is_among us (2 * x)) l ≡ true
 made_true ls us l h n m = go (eqb (l % 2) 0) refl

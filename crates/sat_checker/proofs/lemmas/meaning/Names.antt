@@ -149,9 +149,6 @@ module _ (variables : ℕ → Variable) (tidy : AreTidy variables) where
 tidy_same : (f g : Stored) → SameVariables f g → AreTidy f.variables → AreTidy g.variables
 tidy_same f g s t = subst AreTidy (sym s.variables) t
 
-abbrev Tidy : Stored → Type 0
-Tidy f = AreTidy f.variables
-
 pub tidy_effect : (step : Step) (f : Stored) → Accepts f step → AreTidy f.variables → AreTidy (effect step f).variables
 tidy_effect (SolverVarName v None) f a t = t
 tidy_effect (SolverVarName v (Some n)) f a t = tidy_known f.variables t (v ∷ [])

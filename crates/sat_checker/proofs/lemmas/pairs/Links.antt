@@ -34,9 +34,6 @@ module _ (heads : List ℕ) (links : List Link) (shift : ℕ) (a : AreLinked hea
   pub all_in_order : AreInOrder (listed heads links)
   all_in_order = order_joined shift (length heads) (part_at heads links) (length heads) (λ top l. ((a.parts top l).in_order, (a.parts top l).tops))
 
-  pub walk_from : (top : ℕ) → top < length heads → IsWalk links (head_at heads top)
-  walk_from top l = record { few = a.few; leads = (a.parts top l).leads; in_order = (a.parts top l).in_order }
-
 -- links that change where no pair stands
 pub leads_same : (links new : List Link) (at : ℕ) (ps : List Pair) → Leads links at ps → length links ≤ length new → AllByRecursion (λ p. link_at new p.place ≡ link_at links p.place) ps → Leads new at ps
 leads_same links new at [] h l s = h

@@ -95,9 +95,6 @@ module _ (shift count : ℕ) where
     pub places_joined : (q n : ℕ) → top_of shift count q < n → ((s : ℕ) → s < n → Tops s (f s)) → places_in q (joined f n) ≡ places_in q (f (top_of shift count q))
     places_joined q n l h = ap (map (λ (p : Pair). p.place)) (found_joined q n l h)
 
-    with_inserted : Pair → ℕ → ℕ → List Pair
-    with_inserted p top s = cond (eqb s top) (inserted p (f s)) (f s)
-
     -- a pair comes in where the part of its top has it
     pub inserted_joined : (p : Pair) (n top : ℕ) → top < n → top_of shift count p.hash ≡ top → ((s : ℕ) → s < n → Tops s (f s)) → (g : ℕ → List Pair) → ((s : ℕ) → s < n → s ≢ top → g s ≡ f s) → g top ≡ inserted p (f top) → joined g n ≡ inserted p (joined f n)
     inserted_joined p zero top l t h g other here = absurd (omega arith)

@@ -113,9 +113,6 @@ module _ (links : List Link) (at : ℕ) (link : Link) (w : IsWalk links at) (n :
       subst (AllByRecursion (λ q. h < q.hash)) (sym after)
       (l, all_weaker (λ q. link.hash ≤ q.hash) (λ q. h < q.hash) (λ q k. omega arith) (rest links link.next) higher)
 
-  pub first_here : (h : ℕ) → link.hash ≡ h → first_of (places_in h (rest links at)) ≡ Some at
-  first_here h e = ap (λ ps. first_of (places_in h ps)) after ∙ ap (λ b. first_of (map (λ (p : Pair). p.place) (cond b (record { hash = link.hash; place = at } ∷ filter (λ p. eqb p.hash h) (rest links link.next)) (filter (λ p. eqb p.hash h) (rest links link.next))))) (eq-eqb link.hash h e)
-
   pub first_past : (h : ℕ) → h < link.hash → first_of (places_in h (rest links at)) ≡ None
   first_past h l = ap first_of (places_past h (rest links at) (all_past h l))
 
@@ -133,13 +130,6 @@ module _ (links : List Link) (at : ℕ) (link : Link) (w : IsWalk links at) (n :
     where
       no : (a b : ℕ) → b < a → leb a b ≡ false
       no a b k = grind (arith, nat_tests)
-
-  -- the one behind is the one looked for, or it isn't
-  pub before_here : (place : ℕ) → place < length links → link.next ≡ place → place_before place (rest links at) ≡ Some at
-  before_here place l e =
-      let s : IsStep links link.next = step_on links link.next walk_next (λ z. let f : length links ≤ nowhere = w.few in omega arith) in
-      ap (place_before place) (after ∙ ap (λ ps. record { hash = link.hash; place = at } ∷ ps) s.head)
-      ∙ ap (λ b. cond b (Some at) (place_before place (pair_at links link.next ∷ rest links (link_at links link.next).next))) (eq-eqb link.next place e)
 
   pub before_on : (place : ℕ) → link.next ≢ place → place_before place (rest links at) ≡ place_before place (rest links link.next)
   before_on place d = ap (place_before place) after ∙ go (rest links link.next) walk_next.leads

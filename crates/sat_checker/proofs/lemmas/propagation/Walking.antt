@@ -44,11 +44,6 @@ module _ (literals : ℕ → List ℕ) (places : List ℕ) (i : ℕ) (inside : i
   pub sum_next : total_length (map literals (drop i places)) ≡ length (literals (get_or places i 0)) + total_length (map literals (drop (i + 1) places))
   sum_next = ap (total_length) next_place
 
-pub each_place : (P : ℕ → Type 0) (places : List ℕ) (i : ℕ) → AllByRecursion P places → i < length places → P (get_or places i 0)
-each_place P [] i h l = absurd (omega arith)
-each_place P (p ∷ ps) zero h l = h.0
-each_place P (p ∷ ps) (suc i) h l = each_place P ps i h.1 (omega arith)
-
 -- one more clause of the walk, by how it was met
 pub walk-met : (assumed clause : List ℕ) (rest : List (List ℕ)) (more : List ℕ) → walk_on (verdict assumed clause) assumed ≡ Some more → walk assumed (clause ∷ rest) ≡ walk more rest
 walk-met assumed clause rest more e = ap (λ o. and_then o (λ m. walk m rest)) e
@@ -69,10 +64,6 @@ module _ (literals : ℕ → List ℕ) (places : List ℕ) (i : ℕ) (inside : i
 
   pub looks_ended : (most before after : ℕ) → before + total_length (map literals (drop i places)) ≡ most → after ≡ before + length (literals (get_or places i 0)) → after ≤ most
   looks_ended most before after h e = omega (arith, sum_next literals places i inside)
-
--- no place is left
-pub walk_over : (literals : ℕ → List ℕ) (places : List ℕ) (i : ℕ) → length places ≤ i → (whole : Option (List ℕ)) (mid : List ℕ) → whole ≡ walk mid (map literals (drop i places)) → whole ≡ Some mid
-walk_over literals places i l whole mid h = h ∙ ap (λ ps. walk mid (map literals ps)) (drop_all i places l)
 
 pub looks_over : (most before left : ℕ) → before + left ≡ most → before ≤ most
 looks_over most before left h = omega arith

@@ -15,7 +15,3 @@ below_all l (m ∷ ms) h =
 pub once : (ls : List ℕ) → IsIncreasing ls → NoRepeats ls
 once [] h = tt
 once (l ∷ ls) h = (below_all l ls h.0, once ls h.1)
-
-pub each_once : (clauses : List (List ℕ)) → AllByRecursion IsIncreasing clauses → AllByRecursion NoRepeats clauses
-each_once [] h = tt
-each_once (c ∷ cs) h = (once c h.0, each_once cs h.1)

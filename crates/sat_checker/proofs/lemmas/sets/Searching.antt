@@ -40,9 +40,6 @@ found_among_sorted xs x (Err i) h p =
     let s = searched xs x (Err i) p (rises_to xs h) in
     sym (not_among xs x (λ k l. let below = s.1 k in let above = s.2 k in grind (arith, below, above, l)))
 
-pub all_next : (P : ℕ → Bool) (ls : List ℕ) (i x : ℕ) → i < length ls → x ≡ get_or ls i x → list_all P (drop i ls) ≡ (P x && list_all P (drop (i + 1) ls))
-all_next P ls i x k e = ap (list_all P) (drop_more ls i x k) ∙ ap (λ y. P y && list_all P (drop (i + 1) ls)) (sym e)
-
 -- what a search by a key says, where the keys rise
 module _ {X : Type 0} (key : X → ℕ) (k : ℕ) where
   key_at : (xs : List X) (i : ℕ) (d : X) → i < length xs → get_or (map key xs) i 0 ≡ key (get_or xs i d)

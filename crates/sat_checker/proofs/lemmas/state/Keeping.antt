@@ -77,10 +77,6 @@ strict_back (Some ms) c ls e h =
 pub within_assumed : (b : Bool) (core assumed whole : List ℕ) → whole ≡ canonical assumed → b ≡ is_part core whole → b ≡ is_part core assumed
 within_assumed b core assumed whole w e = e ∙ ap (is_part core) w ∙ same_part core assumed core (canonical assumed) (λ l. refl) (canonical_among assumed)
 
-pub core_passes : (b : Bool) (P Q K : Type 0) → P → K → (b ≡ true) ↔ Q → MatchBool b ((P × Q) × K) (P × Q → ⊥)
-core_passes true P Q K p k h = ((p, h.0 refl), k)
-core_passes false P Q K p k h = λ q. true≢false (sym (h.1 q.1))
-
 -- a deletion changes clauses alone
 pub deletion_same : (f : Stored) (c : List ℕ) (p : Deletion) → SameVariables f (effect (DeleteClause c p) f)
 deletion_same f c Redundant = record { variables = refl; deleted = refl; assumed = refl }

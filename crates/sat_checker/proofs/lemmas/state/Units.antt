@@ -32,9 +32,6 @@ pub record Left (F : Formula) (f : Stored) (all left : List (ℕ × ℕ)) : Type
   pub same : with_units (firsts left) now ≡ with_units (firsts all) f
   pub count : literal_count now ≡ literal_count f
 
-pub all_left : (F : Formula) (f : Stored) (all : List (ℕ × ℕ)) → KeepsFormula F f → Left F f all all
-all_left F f all k = record { now = f; kept = k; on = λ p. p; back = λ p. p; same = refl; count = refl }
-
 pub count_unit : (l : ℕ) (f : Stored) → literal_count (with_unit l f) ≡ literal_count f
 count_unit l f = go (is_unit f l) (is_unit f (negated l))
   where
@@ -85,12 +82,6 @@ module _ (F : Formula) (f : Stored) (all : List (ℕ × ℕ)) (i : ℕ) (u : ℕ
   pub spent_then : IsSpent (with_unit u.0 left.now) → IsSpent (with_units (firsts all) f)
   spent_then s = subst IsSpent (ap (λ us. with_units (firsts us) left.now) (sym split) ∙ left.same) (spent_units (firsts (drop (i + 1) all)) (with_unit u.0 left.now) s)
 
-  pub looks_then : (old looks new : ℕ) → looks ≤ old + i * literal_count f → new ≤ looks + literal_count left.now → new ≤ old + (i + 1) * literal_count f
-  looks_then old looks new h k = let e = left.count in looks_more old looks new i (literal_count f) (literal_count left.now) h k (omega (arith, e))
-
-  pub looks_end : (old looks new : ℕ) → looks ≤ old + i * literal_count f → new ≤ looks + literal_count left.now → new ≤ old + length all * literal_count f
-  looks_end old looks new h k = looks_within old new (i + 1) (length all) (literal_count f) (looks_then old looks new h k) (omega arith)
-
 -- none is left
 pub finished : (F : Formula) (f : Stored) (all : List (ℕ × ℕ)) (i : ℕ) → length all ≤ i → Left F f all (drop i all) → PassInTurn f all × KeepsFormula F (with_units (firsts all) f)
 finished F f all i l left = let e = past all i l in (left.on (subst (PassInTurn left.now) (sym e) tt), subst (KeepsFormula F) (ap (λ us. with_units (firsts us) left.now) (sym e) ∙ left.same) left.kept)
@@ -111,14 +102,6 @@ unnumbered (Ok true) A B K g on back s m = absurd (let e : true ≡ false = m.0 
 unnumbered (Ok false) A B K g on back s m = λ b. m.1 (back b)
 unnumbered (Err OutOfMemory) A B K g on back s m = tt
 unnumbered (Err CounterEnd) A B K g on back s m = (on (m refl), s)
-
--- the answer to all of them
-pub turns_err : (first result : Result Bool StoreError) (d e : StoreError) → first ≡ Err e → result ≡ Err d → d ≡ e → (A K B L : Type 0) (g h : Stored) → (A → B) → (IsSpent g → IsSpent h) → TurnsIf first A K g → TurnsIf result B L h
-turns_err first result d e a b s A K B L g h p w t = subst (λ x. TurnsIf x B L h) (sym (b ∙ ap Err s)) (go e (subst (λ x. TurnsIf x A K g) a t))
-  where
-    go : (e : StoreError) → TurnsIf (Err e) A K g → TurnsIf (Err e) B L h
-    go OutOfMemory t = tt
-    go CounterEnd t = (p t.0, w t.1)
 
 -- units and known variables come in apart from each other
 known_unit : (vs : List ℕ) (l : ℕ) (f : Stored) → with_unit l (with_known vs f) ≡ with_known vs (with_unit l f)
@@ -141,13 +124,6 @@ units_stored new f us F V a =
       variables = subst (λ g. KeepsVariables new.variables (with_literals_known (firsts us) (record f { variables = g })).variables) (sym s.variables) V;
       assumed = a ∙ ap canonical (sym s.assumed);
     })
-
-pub spent_known : (f : Stored) (us : List (ℕ × ℕ)) → IsSpent (with_units (firsts us) f) → IsSpent (effect (UnitClauses us) f)
-spent_known f us h = subst IsSpent (sym (known_units (map variable (firsts us)) (firsts us) f)) (go h)
-  where
-    go : IsSpent (with_units (firsts us) f) → IsSpent (with_known (map variable (firsts us)) (with_units (firsts us) f))
-    go (inl h) = inl h
-    go (inr s) = inr (record { literals = s.literals; past = s.past })
 
 -- an answer by another
 pub match_on : (b : Bool) (P Q N M : Type 0) → (P → Q) → (N → M) → MatchBool b P N → MatchBool b Q M

@@ -7,11 +7,6 @@ use Rattle.sat_checker.specs.inner.SlotView.{Slot, is_gone, is_filed, all_lits, 
 use Rattle.sat_checker.proofs.lemmas.sets.Marks.{once}
 use Rattle.sat_checker.proofs.lemmas.propagation.Walking.{over_buckets}
 
--- a bucket has no more literals than all clauses together
-total-append : (xs ys : List (List ℕ)) → total_length (xs ++ ys) ≡ total_length xs + total_length ys
-total-append [] ys = omega arith
-total-append (x ∷ xs) ys = let e : total_length (xs ++ ys) ≡ total_length xs + total_length ys = total-append xs ys in omega arith
-
 pub bucket_length : (h : ℕ) (ss : List Slot) → total_length (bucket_in h ss) ≤ live_length ss
 bucket_length h [] = omega arith
 bucket_length h (s ∷ ss) = go (is_gone s) (eqb s.hash h) (bucket_length h ss)

@@ -21,10 +21,6 @@ module _ (l : ℕ) where
   times_push [] s = omega arith
   times_push (t ∷ ss) s = let ih : times_stored l (ss ++ s ∷ []) ≡ times_stored l ss + times_at s = times_push ss s in omega (arith, ih)
 
-  -- a clause without a count
-  pub times_unstored : (id hash : ℕ) (literals : List ℕ) (ss : List Slot) → times_stored l (ss ++ unstored id hash literals ∷ []) ≡ times_stored l ss
-  times_unstored id hash literals ss = let e : times_stored l (ss ++ unstored id hash literals ∷ []) ≡ times_stored l ss + 0 = times_push ss (unstored id hash literals) in omega (arith, e)
-
   -- and one that is stored once
   pub times_more : (redundant : Bool) (id hash : ℕ) (literals : List ℕ) (ss : List Slot) → times_stored l (ss ++ stored_slot redundant id hash literals ∷ []) ≡ times_stored l ss + times_in l literals
   times_more true id hash literals ss = times_push ss (stored_slot true id hash literals)

@@ -157,9 +157,6 @@ kept_standing ss new index next o k e f = record {
   counted = λ l. k.counted l ∙ sym (times_standing l ss) ∙ ap (times_stored l) (sym e);
 }
 
-pub kept_unchanged : (ss new : List Slot) (index next : Indexed) (o : Occurrences) → AreKept ss index o → new ≡ ss → next ≡ index → AreKept new next o
-kept_unchanged ss new index next o k e f = subst (λ x. AreKept new x o) (sym f) (subst (λ xs. AreKept xs index o) (sym e) k)
-
 -- what the store keeps of the definition's state
 pub keeps_dropped : (store : Store) (new : List Slot) (f : Stored) → MayDrop store.clauses new → KeepsClauses store f → KeepsClauses (record store { clauses = new }) f
 keeps_dropped store new f (inl e) k = record {

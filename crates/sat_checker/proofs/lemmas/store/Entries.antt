@@ -25,9 +25,6 @@ module _ (buffer : List ℕ) (es : List Entry) (value : List Slot) (i : ℕ) (x 
       subst (λ v. slot_of buffer x ≡ slot_at v i) is
       (ap (slot_of buffer) read ∙ sym (get_or-map (slot_of buffer) es i x (unstored 0 0 []) here))
 
-  pub entry_read : All (IsEntry buffer) es → IsEntry buffer x
-  entry_read right = subst (IsEntry buffer) (sym read) (right i x here)
-
 -- the ids of entries are those of the slots that they mean
 pub entry_ids : (buffer : List ℕ) (es : List Entry) (value : List Slot) → map (slot_of buffer) es ≡ value → map (λ (e : Entry). e.id) es ≡ slot_ids value
 entry_ids buffer es value is = go es ∙ ap slot_ids is

@@ -14,13 +14,6 @@ use Rattle.sat_checker.proofs.lemmas.pairs.Order.{all_weaker, all_filter, all_in
 use Rattle.sat_checker.proofs.lemmas.store.Filing.{places_without}
 use Rattle.sat_checker.proofs.lemmas.store.Counting.{times_more, times_counted, times_left, times_gone, times_hashed}
 
--- room is made
-pub kept_room : (ss : List Slot) (index : Indexed) (o p : Occurrences) → AreKept ss index o → ((l : ℕ) → count_at p l ≡ count_at o l) → AreKept ss index p
-kept_room ss index o p k m = record { files = k.files; counted = λ l. m l ∙ k.counted l }
-
-pub kept_same : (ss new : List Slot) (index : Indexed) (o p : Occurrences) → AreKept ss index o → ((l : ℕ) → count_at p l ≡ count_at o l) → new ≡ ss → AreKept new index p
-kept_same ss new index o p k m e = record { files = record { filed = λ q. k.files.filed q ∙ ap (places_of q) (sym e); places = k.files.places ∙ ap length (sym e); in_order = k.files.in_order; below = k.files.below }; counted = λ l. m l ∙ k.counted l ∙ ap (times_stored l) (sym e) }
-
 -- a clause that is stored once
 pub kept_stored : (ss new all : List Slot) (index next : Indexed) (o mid p : Occurrences) (r : Bool) (id hash place : ℕ) (literals : List ℕ) → AreKept ss index o → ((l : ℕ) → count_at mid l ≡ count_at o l) → place ≡ length ss
     → next ≡ record { pairs = inserted (record { hash = hash; place = index.places }) index.pairs; places = index.places + 1 } → new ≡ ss ++ unstored id hash literals ∷ [] → all ≡ with_count_at r place new → ((l : ℕ) → count_at p l ≡ count_at mid l + times_in l literals) → AreKept all next p

@@ -35,10 +35,6 @@ pub append_none : (ps : List ℕ) → ps ++ [] ≡ ps
 append_none [] = refl
 append_none (p ∷ ps) = ap (λ qs. p ∷ qs) (append_none ps)
 
--- a clause without a count has no place
-pub places_unstored : (q id hash : ℕ) (literals : List ℕ) (ss : List Slot) → places_of q (ss ++ unstored id hash literals ∷ []) ≡ places_of q ss
-places_unstored q id hash literals ss = places_push 0 q ss (unstored id hash literals) ∙ append_none (places_of q ss)
-
 set_last : (ss : List Slot) (s t : Slot) → slice_set (ss ++ s ∷ []) (length ss) t ≡ ss ++ t ∷ []
 set_last [] s t = refl
 set_last (x ∷ ss) s t = ap (λ xs. x ∷ xs) (set_last ss s t)

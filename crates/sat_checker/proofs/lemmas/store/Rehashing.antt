@@ -135,22 +135,6 @@ left_there ss i l g =
     let m : i + 1 ≡ suc i = omega arith in
     left_at ss i l ∙ ap (λ b. cond b 0 (length (literals_at ss i)) + live_length (drop (suc i) ss)) g ∙ ap (λ k. length (literals_at ss i) + live_length (drop k ss)) (sym m)
 
--- of the clauses from a place on that aren't gone, does any pass a test?
-any_at : (P : StoredClause → Bool) (ss : List Slot) (i : ℕ) → i < length ss → list_any P (live (drop i ss)) ≡ list_any P (cond (is_gone (slot_at ss i)) [] ((slot_at ss i).clause ∷ []) ++ live (drop (i + 1) ss))
-any_at P ss i l = ap (λ xs. list_any P (live xs)) (drop_more ss i (unstored 0 0 []) l)
-
-pub any_gone : (P : StoredClause → Bool) (ss : List Slot) (i : ℕ) → i < length ss → is_gone (slot_at ss i) ≡ true → list_any P (live (drop i ss)) ≡ list_any P (live (drop (i + 1) ss))
-any_gone P ss i l g = any_at P ss i l ∙ ap (λ b. list_any P (cond b [] ((slot_at ss i).clause ∷ []) ++ live (drop (i + 1) ss))) g
-
-any_there : (P : StoredClause → Bool) (ss : List Slot) (i : ℕ) → i < length ss → is_gone (slot_at ss i) ≡ false → list_any P (live (drop i ss)) ≡ (P (slot_at ss i).clause || list_any P (live (drop (i + 1) ss)))
-any_there P ss i l g = any_at P ss i l ∙ ap (λ b. list_any P (cond b [] ((slot_at ss i).clause ∷ []) ++ live (drop (i + 1) ss))) g
-
-pub any_here : (P : StoredClause → Bool) (ss : List Slot) (i : ℕ) → i < length ss → is_gone (slot_at ss i) ≡ false → P (slot_at ss i).clause ≡ true → list_any P (live (drop i ss)) ≡ true
-any_here P ss i l g t = any_there P ss i l g ∙ ap (λ b. b || list_any P (live (drop (i + 1) ss))) t
-
-pub any_later : (P : StoredClause → Bool) (ss : List Slot) (i : ℕ) → i < length ss → is_gone (slot_at ss i) ≡ false → P (slot_at ss i).clause ≡ false → list_any P (live (drop i ss)) ≡ list_any P (live (drop (i + 1) ss))
-any_later P ss i l g t = any_there P ss i l g ∙ ap (λ b. b || list_any P (live (drop (i + 1) ss))) t
-
 -- are all of them true? One that is no irredundant clause doesn't matter.
 pub all_skip : (ls : List ℕ) (ss : List Slot) (i : ℕ) → i < length ss → (slot_at ss i).clause.irredundant ≡ 0 → are_all_true ls (live (drop i ss)) ≡ are_all_true ls (live (drop (i + 1) ss))
 all_skip ls ss i l z = ap (λ xs. are_all_true ls (live xs)) (drop_more ss i (unstored 0 0 []) l) ∙ go (is_gone (slot_at ss i))

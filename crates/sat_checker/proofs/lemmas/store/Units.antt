@@ -57,10 +57,6 @@ units_more us new u ids mid ids_new assigned all k n m p a e = record {
       ∙ sym (more_numbered us u l (sym (among-reverse (map (λ w. w.lit) us) u.lit) ∙ ap (λ ls. is_among ls u.lit) (sym k.assumed) ∙ n)) ∙ ap (λ ws. unit_id l (map unit_of ws)) (sym e);
 }
 
--- room is made, and no unit more
-pub units_same : (us : List Unit) (ids new : UnitIds) (assigned : List ℕ) → AreUnits us ids assigned → ((l : ℕ) → id_at new l ≡ id_at ids l) → AreUnits us new assigned
-units_same us ids new assigned k m = record { assumed = k.assumed; numbered = λ l. m l ∙ k.numbered l }
-
 -- a list contradicts units just where they contradict it
 any_at : (test : ℕ → Bool) (us : List StoredUnit) → list_any (λ u. test u.literal) us ≡ list_any test (map (λ u. u.literal) us)
 any_at test [] = refl

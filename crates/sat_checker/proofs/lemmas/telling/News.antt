@@ -76,9 +76,6 @@ module _ (ls ids : Lists) (is : List Item) (value : List Announcement) (n : ℕ)
   within : n < length is
   within = let k : n < length (map (announcement_at ls ids) is) = subst (λ w. n < length w) (sym v) inside in omega (arith, k, length-map is (announcement_at ls ids))
 
-  pub item_read : All (IsItem ls ids) is → IsItem ls ids x
-  item_read right = subst (IsItem ls ids) (sym read) (right n x within)
-
   pub announcement_read : (d : Announcement) → announcement_at ls ids x ≡ get_or value n d
   announcement_read d = subst (λ w. announcement_at ls ids x ≡ get_or w n d) v (ap (announcement_at ls ids) read ∙ sym (get_or-map (announcement_at ls ids) is n x d within))
 

@@ -149,17 +149,6 @@ set_kept vs one g v x k xn e h = record {
     name_same w true q = ap (λ m. (g m).name) (eqb-true w v q) ∙ sym xn
     name_same w false q = refl
 
--- variables become known
-pub known_kept : (vs one : Variables) (g : ℕ → Variable) (test : ℕ → Bool) → KeepsVariables vs g → ((v : ℕ) → variable_at one v ≡ known_if (test v) (variable_at vs v)) → ((n : ℕ) → holder_at one n ≡ holder_at vs n) → KeepsVariables one (λ v. known_if (test v) (g v))
-known_kept vs one g test k e h = record {
-  each = λ v. e v ∙ ap (known_if (test v)) (k.each v);
-  holders = λ n v. ((λ t. name_same (test v) (g v) ∙ (k.holders n v).0 (sym (h n) ∙ t)), (λ t. h n ∙ (k.holders n v).1 (sym (name_same (test v) (g v)) ∙ t)));
-}
-  where
-    name_same : (b : Bool) (x : Variable) → (known_if b x).name ≡ x.name
-    name_same true x = refl
-    name_same false x = refl
-
 pub all_drop : (P : ℕ → Type 0) (ls : List ℕ) (i d : ℕ) → i < length ls → AllByRecursion P (drop i ls) → P (get_or ls i d) × AllByRecursion P (drop (i + 1) ls)
 all_drop P ls i d l h = subst (AllByRecursion P) (drop_more ls i d l) h
 

@@ -5,10 +5,6 @@ use Rattle.sat_checker.proofs.lemmas.state.Apart.{twice}
 use Rattle.sat_checker.proofs.lemmas.state.Models.{drop_back, met_same, met_negated}
 use Rattle.sat_checker.proofs.valuation.assume_apart.Goals as goal
 
--- one literal more is assumed
-set_more : (ls assigned new : List ℕ) (i p l : ℕ) → i + 1 ≡ p → i < length ls → l ≡ get_or ls i 0 → assigned ≡ drop p ls → new ≡ l ∷ assigned → new ≡ drop i ls
-set_more ls assigned new i p l e inside read set n = n ∙ ap (λ x. x ∷ assigned) read ∙ ap (λ xs. get_or ls i 0 ∷ xs) (set ∙ ap (λ k. drop k ls) (sym e)) ∙ sym (drop_back ls i inside)
-
 pub loop-place-init : goal.loop-place-init
 loop-place-init c =
     let none = drop_all (length c.args.literals.now) c.args.literals.now (omega arith) in
