@@ -1,4 +1,3 @@
-pub mod Drafts
 pub mod Tokens
 pub mod Bytes
 pub mod Ahead

@@ -152,9 +152,3 @@ EndsSo asks true e new r = (c : Command) × IsWhole new.draft c × (r ≡ onto_c
 abbrev pub EndsLast : Bool → Bool → ScriptEnd → ScriptReader → Reading → Type 0
 EndsLast asks false e new r = r ≡ end_if asks e
 EndsLast asks true e new r = (c : Command) × HasWhole new c × (r ≡ onto_commands (c ∷ []) (end_if asks e))
-
--- the reader took this text, of which it gave these commands, whatever follows
-pub record HasRead (reader : ScriptReader) (text : List ℕ) (commands : List Command) : Type 0 where
-  pub after : List ℕ → Reading
-  pub stands : Means reader after
-  pub reads : (rest : List ℕ) → reading (text ++ rest) ≡ onto_commands commands (after rest)

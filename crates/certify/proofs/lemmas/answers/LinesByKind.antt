@@ -11,11 +11,6 @@ use Rattle.certify.specs.declared.answers.read.AnswerKind.TheVariants as kind
 use Rattle.certify.specs.declared.answers.read.AnswerFault.{AnswerFault}
 use Rattle.certify.specs.declared.answers.read.AnswerFault.TheVariants.{Missing, Text, OutOfMemory}
 
-pub has_line : (k : AnswerKind) (head : List ℕ) → IsHead k head → HasLine k
-has_line kind.Sat head h = tt
-has_line kind.Unsat head h = tt
-has_line kind.Unknown head h = absurd h
-
 pub line_text : (k : AnswerKind) (head : List ℕ) (ls : List Literal) → IsHead k head → second_line (outcome_of k ls) ≡ head ++ literals_text ls
 line_text kind.Sat head ls h = ap (λ t. t ++ literals_text ls) (sym h)
 line_text kind.Unsat head ls h = ap (λ t. t ++ literals_text ls) (sym h)
@@ -71,11 +66,6 @@ kind_text : (o : Outcome) → (k : AnswerKind) × (outcome_text o ≡ first_line
 kind_text (Sat ls) = (kind.Sat, refl)
 kind_text (Unsat ls) = (kind.Unsat, refl)
 kind_text Unknown = (kind.Unknown, refl)
-
-pub in_full : (k : AnswerKind) (ls : List Literal) (bytes behind tail : List ℕ) → bytes ≡ first_line k ++ behind → behind ≡ second_line (outcome_of k ls) ++ tail → bytes ≡ outcome_text (outcome_of k ls) ++ tail
-in_full kind.Sat ls bytes behind tail e f = e ∙ ap (λ t. s_satisfiable ++ t) f
-in_full kind.Unsat ls bytes behind tail e f = e ∙ ap (λ t. s_unsatisfiable ++ t) f
-in_full kind.Unknown ls bytes behind tail e f = e ∙ ap (λ t. s_unknown ++ t) f
 
 -- no first line
 pub no_kind : (bytes : List ℕ) (fault : AnswerFault) → NoKind bytes fault → NoOutcome bytes fault

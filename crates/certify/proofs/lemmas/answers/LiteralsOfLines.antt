@@ -23,13 +23,6 @@ pub record Read (bytes line rest : List ℕ) : Type 0 where
   pub forth : (ls : List Literal) (tail : List ℕ) → HaveNames ls → bytes ≡ literals_text ls ++ tail → (more : List Literal) × (HaveNames more × (rest ≡ literals_text more ++ tail))
   pub back : (more : List Literal) (tail : List ℕ) → rest ≡ literals_text more ++ tail → bytes ≡ literals_text (named_literals line ++ more) ++ tail
 
-pub none_read : (bytes : List ℕ) → Read bytes [] bytes
-none_read bytes = record {
-  names = tt;
-  forth = λ ls tail h e. (ls, (h, e));
-  back = λ more tail e. e;
-}
-
 have_names_snoc : (ls : List Literal) (l : Literal) → HaveNames ls → IsName l.name → HaveNames (ls ++ (l ∷ []))
 have_names_snoc [] l h k = (k, tt)
 have_names_snoc (m ∷ ls) l h k = (h.0, have_names_snoc ls l h.1 k)
@@ -63,9 +56,6 @@ not_read bytes line rest r none end ls tail h e = let more = r.forth ls tail h e
     go : (more : List Literal) → HaveNames more → rest ≡ literals_text more ++ tail → ⊥
     go [] k f = end tail f
     go (l ∷ ks) k f = none l (literals_text ks ++ tail) k.0 (f ∙ append_assoc (word_of l) (32 ∷ literals_text ks) tail)
-
-pub shorter : (w rest behind : List ℕ) → rest ≡ w ++ (32 ∷ behind) → length behind < length rest
-shorter w rest behind e = let f = ap length e ∙ length-append w (32 ∷ behind) in omega arith
 
 -- a literal and a space are pushed in front of the rest
 pub literal_pushed : (whole : List ℕ) (ls : List ℕ) (i d : ℕ) (out word spaced : List ℕ) → i < length ls → word ≡ out ++ word_of (named_literal (get_or ls i d)) → spaced ≡ word ++ 32 ∷ [] → out ++ literals_text (named_literals (drop i ls)) ≡ whole → spaced ++ literals_text (named_literals (drop (i + 1) ls)) ≡ whole

@@ -109,11 +109,6 @@ no_name_so (suc name) b bytes x h space none e n tail k f =
 pub no_name_end : (name : ℕ) (bytes : List ℕ) → name ≤ largest → bytes ≡ digits_so_far name ++ [] → NoName bytes
 no_name_end name bytes h e n tail k f = no_space (digits_so_far name) (decimal n) tail (plain_so_far name h) (sym (append-nil (digits_so_far name)) ∙ sym e ∙ f)
 
--- a name that has begun has its digits
-pub begun : (name : ℕ) → 0 < name → digits_so_far name ≡ decimal name
-begun zero h = absurd (omega arith)
-begun (suc name) h = refl
-
 -- no minus sign comes before a name
 no_minus : (n : ℕ) (x y : List ℕ) → n ≤ largest → decimal n ++ (32 ∷ x) ≡ 45 ∷ y → ⊥
 no_minus n x y h e = go (decimal n) (digits n h) (decimal_nonempty n (small n h)) e
@@ -128,10 +123,3 @@ no_negative bytes behind e none l tail h f = go l.positive l.name h f
     go : (s : Bool) (n : ℕ) → IsName n → bytes ≡ (cond s [] (45 ∷ []) ++ decimal n) ++ (32 ∷ tail) → ⊥
     go true n h f = no_minus n tail behind h.1 (sym f ∙ e)
     go false n h f = none n tail h (let r : 45 ∷ behind ≡ 45 ∷ (decimal n ++ (32 ∷ tail)) = sym e ∙ f in let t : behind ≡ decimal n ++ (32 ∷ tail) = cc in t)
-
-pub no_positive : (bytes : List ℕ) → ((tail : List ℕ) → bytes ≡ 45 ∷ tail → ⊥) → NoName bytes → NoLiteral bytes
-no_positive bytes sign none l tail h f = go l.positive l.name h f
-  where
-    go : (s : Bool) (n : ℕ) → IsName n → bytes ≡ (cond s [] (45 ∷ []) ++ decimal n) ++ (32 ∷ tail) → ⊥
-    go true n h f = none n tail h f
-    go false n h f = sign (decimal n ++ (32 ∷ tail)) f

@@ -36,9 +36,6 @@ refused_back j n earlier c cs ending answers tail certificate refusal e a l =
 
 -- an ask that isn't refused takes an outcome
 module _ (j : Judge) (n : ℕ) (earlier : List Step) (ls : List Literal) (cs : List Command) (ending : Ending) (answers certificate : List ℕ) where
-  all_of : Outcome → List Outcome → List Expected
-  all_of v vs = bringing (names_of ls) j ++ (Opens ls v ∷ (showing (accepted (Ask ls) j) ls v ++ (Closes ∷ expected (accepted (Ask ls) j) (accepted_of (accepted (Ask ls) j) cs) vs)))
-
   same : (v : Outcome) (vs : List Outcome) → (bringing (names_of ls) j ++ (Opens ls v ∷ (showing (accepted (Ask ls) j) ls v ++ (Closes ∷ [])))) ++ expected (accepted (Ask ls) j) (accepted_of (accepted (Ask ls) j) cs) vs
       ≡ bringing (names_of ls) j ++ (Opens ls v ∷ (showing (accepted (Ask ls) j) ls v ++ (Closes ∷ expected (accepted (Ask ls) j) (accepted_of (accepted (Ask ls) j) cs) vs)))
   same v vs = append_assoc (bringing (names_of ls) j) (Opens ls v ∷ (showing (accepted (Ask ls) j) ls v ++ (Closes ∷ []))) (expected (accepted (Ask ls) j) (accepted_of (accepted (Ask ls) j) cs) vs)

@@ -26,18 +26,6 @@ is_from_among (x ∷ xs) l (inr h) = go (eqb x l) (is_from_among xs l h)
     go true r = refl
     go false r = r
 
-pub all_at : (P : ℕ → Type 0) (xs : List ℕ) (i d : ℕ) → i < length xs → AllByRecursion P xs → P (get_or xs i d)
-all_at P [] i d h a = absurd (omega arith)
-all_at P (x ∷ xs) zero d h a = a.0
-all_at P (x ∷ xs) (suc i) d h a = all_at P xs i d (omega arith) a.1
-
-pub all_more : (P : ℕ → Type 0) (xs : List ℕ) (i d : ℕ) → i < length xs → AllByRecursion P (take i xs) → P (get_or xs i d) → AllByRecursion P (take (i + 1) xs)
-all_more P xs i d h a p = let more = take_more xs i d h in rw more (go (take i xs) a)
-  where
-    go : (ys : List ℕ) → AllByRecursion P ys → AllByRecursion P (ys ++ get_or xs i d ∷ [])
-    go [] b = (p, tt)
-    go (y ∷ ys) b = (b.0, go ys b.1)
-
 -- literals of names
 
 spells_once : (names : ℕ → Option ℕ) (l : Literal) (c d : ℕ) → Spells names l c → Spells names l d → c ≡ d

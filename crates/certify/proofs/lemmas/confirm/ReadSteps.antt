@@ -9,21 +9,11 @@ use Rattle.sat_base.specs.steps.StepReading.{Next, reader_source, step_in}
 use Rattle.certify.specs.confirm.Stepping.{ReadsOne}
 use Rattle.certify.specs.confirm.Streams.{GoesOn, stream_of, bytes_left, Reading, Confirms, stop_of}
 use Rattle.sat_checker.specs.declared.kernel.Kernel.{Kernel}
-use Rattle.certify.proofs.lemmas.confirm.Streams.{answered, step_came, step_takes, none_came, stays_open}
+use Rattle.certify.proofs.lemmas.confirm.Streams.{answered, step_came, none_came, stays_open}
 
 module _ {R : Type 0} (seen : R → Reader) (old new : StepReader R Buffers) (goes_on : GoesOn seen old) where
   came : Next seen old new (Ok (step_in new)) → Answers (Ok (step_in new)) (reader_source seen old) (reader_source seen new)
   came n = answered (Ok (step_in new)) (reader_source seen old) (reader_source seen new) (sym n.was ∙ goes_on.well) n.answer
-
-  pub read_goes_on : Next seen old new (Ok (step_in new)) → GoesOn seen new
-  read_goes_on n = record {
-    well = n.is;
-    open_yet = stays_open (reader_source seen old) (reader_source seen new) (came n).0 goes_on.open_yet (came n).1;
-    bound = n.bound;
-  }
-
-  pub read_takes : Next seen old new (Ok (step_in new)) → bytes_left (reader_source seen new) < bytes_left (reader_source seen old)
-  read_takes n = step_takes (step_in new) (reader_source seen old) (reader_source seen new) n.bound (came n)
 
   pub read_one : Next seen old new (Ok (step_in new)) → (checker : Kernel) → Reading {A = Unit {0}} (λ x. false) (Ok tt) (stream_of seen old checker) (stream_of seen new checker) ReadsOne
   read_one n checker = step_came (step_in new) (stream_of seen old checker) (stream_of seen new checker) refl refl (came n)

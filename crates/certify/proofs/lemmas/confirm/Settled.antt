@@ -10,13 +10,3 @@ settled_unsat f = go f.conflict
     go : (x : Option (ℕ × ℕ)) → (settled_by x f).unsat ≡ f.unsat
     go None = refl
     go (Some units) = refl
-
-pub settled_unit : (f : Stored) (l : ℕ) → is_unit (settled f) l ≡ is_unit f l
-settled_unit f l = go f.conflict
-  where
-    go : (x : Option (ℕ × ℕ)) → is_unit (settled_by x f) l ≡ is_unit f l
-    go None = refl
-    go (Some units) = refl
-
-pub settled_known : (f : Stored) (v : ℕ) → is_known v (settled f) ≡ is_known v f
-settled_known f v = ap (λ k. (k v).known) (settled_same f).variables

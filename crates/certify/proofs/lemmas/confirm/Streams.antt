@@ -262,17 +262,8 @@ less_left m a b ls lt lx lf h e k n = omega arith
 flowed : (ws fs xs vs : List ℕ) → ws ++ fs ≡ xs ++ vs → length ws + length fs ≡ length xs + length vs
 flowed ws fs xs vs e = sym (length-append ws fs) ∙ ap length e ∙ length-append xs vs
 
-some_byte : (step : Step) (text : List ℕ) → SpellsStep step text → 0 < length text
-some_byte step text h = let e : length text ≡ length h.0 + 1 = ap length h.1 ∙ more (tag_of step) h.0 in omega arith
-  where
-    more : (b : ℕ) (bs : List ℕ) → length (b ∷ bs) ≡ length bs + 1
-    more b bs = omega arith
-
 pub passes_fewer : (s t : Source) (text : List ℕ) → t.reads ≤ most_reads → Passes s t text → 0 < length text → bytes_left t < bytes_left s
 passes_fewer s t text k p some = less_left most_reads s.reads t.reads (length s.waiting) (length t.waiting) (length text) (length p.fresh) p.room (flowed s.waiting p.fresh text t.waiting p.flows) some k
-
-pub step_takes : (step : Step) (s t : Source) → t.reads ≤ most_reads → Answers (Ok step) s t → bytes_left t < bytes_left s
-step_takes step s t k h = less_left most_reads s.reads t.reads (length s.waiting) (length t.waiting) (length h.0) (length h.1.fresh) h.1.room (flowed s.waiting h.1.fresh h.0 t.waiting h.1.flows) (some_byte step h.0 h.2) k
 
 none_waits : (known : Option (List ℕ)) (ws : List ℕ) → ws ≡ [] → IsAtEnd (prepend_known ws known) → IsAtEnd known
 none_waits None ws e h = tt

@@ -14,9 +14,6 @@ use Rattle.certify.specs.judge.Names.{state_in, Stands, taken}
 use Rattle.certify.proofs.lemmas.confirm.NamesFrom.{from_more, with_names_append}
 use Rattle.certify.proofs.lemmas.judge.States.{past_states, pushed_at, named, new_past}
 
-pub grows_none : (names : Names) → (j : Judge) → Stands names j → Stands names (with_names (names_from 0 j.first_unused) j)
-grows_none names j h = h
-
 pub grows_more : (old cur new : Names) (next : ℕ) → ((j : Judge) → Stands old j → Stands cur (with_names (names_from (next - length old.states.items) j.first_unused) j))
     → length cur.states.items ≡ next → length old.states.items ≤ next → next < largest → new.states.items ≡ cur.states.items ++ state.Sampled ∷ []
     → (j : Judge) → Stands old j → Stands new (with_names (names_from (next + 1 - length old.states.items) j.first_unused) j)

@@ -26,24 +26,6 @@ module _ (known : Known) (step : Step) where
   pub new_name_fits : (name v : ℕ) → step ≡ UserVarName v (Some name) → ((earlier : List Step) → AreKnown known earlier → is_known v (ready_after earlier) ≡ false) → Compares (λ o ask. NewName (name + 1)) known step None
   new_name_fits name v e unknown earlier k o ask = (fits_new_name the_checking earlier (name + 1) step).1 (v, name, e, refl, unknown earlier k)
 
-  pub new_name_differs : (name v user : ℕ) (why : Why) → step ≡ UserVarName v (Some user) → (user ≡ name → ⊥) → Compares (λ o ask. NewName (name + 1)) known step (Some why)
-  new_name_differs name v user why e differ earlier k o ask f =
-      let p = (fits_new_name the_checking earlier (name + 1) step).0 f in
-      let same : UserVarName v (Some user) ≡ UserVarName p.0 (Some p.1) = sym e ∙ p.2 in
-      let user_is : user ≡ p.1 = cc in
-      let at = p.3 in
-      differ (omega arith)
-
-  pub new_name_known : (name v user : ℕ) (why : Why) → step ≡ UserVarName v (Some user) → ((earlier : List Step) → AreKnown known earlier → is_known v (ready_after earlier) ≡ true) → Compares (λ o ask. NewName (name + 1)) known step (Some why)
-  new_name_known name v user why e knows earlier k o ask f =
-      let p = (fits_new_name the_checking earlier (name + 1) step).0 f in
-      let same : UserVarName v (Some user) ≡ UserVarName p.0 (Some p.1) = sym e ∙ p.2 in
-      let v_is : v ≡ p.0 = cc in
-      let yes = knows earlier k in
-      let none : is_known v (ready_after earlier) ≡ false = subst (λ (x : ℕ). is_known x (ready_after earlier) ≡ false) (sym v_is) p.4 in
-      let bad : true ≡ false = sym yes ∙ none in
-      absurd (cc)
-
   pub no_name_fits : (name v : ℕ) → step ≡ UserVarName v None → vars known (name + 1) ≡ Some v → Compares (λ o ask. NoName (name + 1)) known step None
   no_name_fits name v e at earlier k o ask = (fits_no_name the_checking earlier (name + 1) step).1 (v, e, ap (λ (f : ℕ → Option ℕ). f (name + 1)) k.named ∙ at)
 

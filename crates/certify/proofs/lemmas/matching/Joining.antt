@@ -66,16 +66,6 @@ covers_given s = record { later = []; whole = sym (append-nil s.reader.given); n
 
 -- ANSWERS ALONE
 
-pub replies_so : {A : Type 0} (goes : Bool) (r : Result A Halt) (a b : Source) (P Q : List ℕ → List ℕ → Result A Why → Type 0) → ((p q : List ℕ) (y : Result A Why) → P p q y → Q p q y) → Replies goes r a b P → Replies goes r a b Q
-replies_so goes (Ok x) a b P Q f h = (h.0, λ total k. f (rest_in total a) (rest_in total b) (Ok x) (h.1 total k))
-replies_so goes (Err (halt.Stop (stop.No why))) a b P Q f h = (h.0, λ total k. f (rest_in total a) (rest_in total b) (Err why) (h.1 total k))
-replies_so goes (Err (halt.Stop stop.OutOfMemory)) a b P Q f h = h
-replies_so goes (Err halt.AnswersRead) a b P Q f h = h
-replies_so goes (Err (halt.Stop stop.Read)) a b P Q f h = absurd h
-replies_so goes (Err (halt.Stop stop.CounterEnd)) a b P Q f h = absurd h
-replies_so goes (Err halt.ScriptRead) a b P Q f h = absurd h
-replies_so goes (Err halt.TooMany) a b P Q f h = absurd h
-
 -- an error that is handed on
 pub replies_stop : {A B : Type 0} (goes : Bool) (e : Halt) (a b : Source) (P : List ℕ → List ℕ → Result A Why → Type 0) (Q : List ℕ → List ℕ → Result B Why → Type 0) → ((p q : List ℕ) (why : Why) → P p q (Err why) → Q p q (Err why))
     → Replies {A = A} goes (Err e) a b P → Replies {A = B} goes (Err e) a b Q
@@ -144,17 +134,6 @@ certificate_stops {A} {B} M goes stop.OutOfMemory a s t P R open_yet f h = ((ref
 certificate_stops {A} {B} M goes stop.CounterEnd a s t P R open_yet f h = ((refl, refl), any_stop A B stop.CounterEnd s t P h)
 
 -- BOTH
-
-pub joins_so : {A : Type 0} (M : Type 0) (goes : Bool) (r : Result A Halt) (a b : Source) (s t : Stream) (P R : List ℕ → List ℕ → View → View → Result A Why → Type 0)
-    → ((p q : List ℕ) (u v : View) (y : Result A Why) → P p q u v y → R p q u v y) → Joins M goes r a b s t P → Joins M goes r a b s t R
-joins_so M goes (Ok x) a b s t P R f h = (h.0, λ total k. confirms_so (Ok x) s t (P (rest_in total a) (rest_in total b)) (R (rest_in total a) (rest_in total b)) (λ more y. f (rest_in total a) (rest_in total b) (seen_in more s) (seen_in more t) y) (h.1 total k))
-joins_so M goes (Err (halt.Stop (stop.No why))) a b s t P R f h = (h.0, λ total k. confirms_so (Err (stop.No why)) s t (P (rest_in total a) (rest_in total b)) (R (rest_in total a) (rest_in total b)) (λ more y. f (rest_in total a) (rest_in total b) (seen_in more s) (seen_in more t) y) (h.1 total k))
-joins_so M goes (Err (halt.Stop stop.OutOfMemory)) a b s t P R f h = h
-joins_so M goes (Err (halt.Stop stop.Read)) a b s t P R f h = h
-joins_so M goes (Err (halt.Stop stop.CounterEnd)) a b s t P R f h = h
-joins_so M goes (Err halt.AnswersRead) a b s t P R f h = h
-joins_so M goes (Err halt.ScriptRead) a b s t P R f h = absurd h
-joins_so M goes (Err halt.TooMany) a b s t P R f h = h
 
 pub joins_stop : {A B : Type 0} (M : Type 0) (goes : Bool) (e : Halt) (a b : Source) (s t : Stream) (P : List ℕ → List ℕ → View → View → Result A Why → Type 0) (R : List ℕ → List ℕ → View → View → Result B Why → Type 0)
     → ((p q : List ℕ) (u v : View) (why : Why) → P p q u v (Err why) → R p q u v (Err why)) → Joins {A = A} M goes (Err e) a b s t P → Joins {A = B} M goes (Err e) a b s t R

@@ -21,9 +21,6 @@ pub none_past : (vs : List (Option ℕ)) (name : ℕ) → length vs < name → v
 none_past vs zero h = refl
 none_past vs (suc i) h = past_end vs i (omega arith)
 
-pub at_place : (vs : List (Option ℕ)) (place : ℕ) → variable_in vs (place + 1) ≡ get_or vs place None
-at_place vs place = let n : place + 1 ≡ suc place = omega arith in rw n refl
-
 -- one more behind the last
 pub pushed_at : (vs : List (Option ℕ)) (v : Option ℕ) (m : ℕ) → variable_in (vs ++ v ∷ []) m ≡ cond (eqb (length vs + 1) m) v (variable_in vs m)
 pushed_at vs v zero = let e : eqb (length vs + 1) zero ≡ false = ne_eqb (length vs + 1) zero (λ x. omega arith) in rw e refl
@@ -66,13 +63,6 @@ none_more vs us ws same e m = ap (λ (xs : List (Option ℕ)). variable_in xs m)
     go : (b : Bool) → eqb (length us + 1) m ≡ b → cond b None (variable_in us m) ≡ variable_in us m
     go true x = sym (none_past us m (let y = eqb-true (length us + 1) m x in omega arith))
     go false x = refl
-
-pub removed_past : (vs : List (Option ℕ)) (name : ℕ) → length vs < name → IsPut vs vs name None
-removed_past vs name past = record { each = λ m. go m (eqb name m) refl; room = omega arith }
-  where
-    go : (m : ℕ) (b : Bool) → eqb name m ≡ b → variable_in vs m ≡ cond b None (variable_in vs m)
-    go m true x = none_past vs m (let y = eqb-true name m x in omega arith)
-    go m false x = refl
 
 -- NAMES' LITERALS
 pub named_at : (codes : List ℕ) (i code : ℕ) → i < length codes → code ≡ get_or codes i code → named_literal code ≡ get_or (named_literals codes) i (named_literal code)

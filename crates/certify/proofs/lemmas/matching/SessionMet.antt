@@ -47,9 +47,6 @@ at_ask due o ask free before after u v (Err why) m = λ earlier s. m earlier s o
 pub expects_one : (due : Due) (o : Outcome) (ask : List Literal) → Allows (due o ask) → (before after : NamedVars) (r : Result (Unit {0}) Stop) (s t : Stream) → Confirms r s t (MeetsDue due before after) → Confirms r s t (MeetsAll (due o ask ∷ []) before after)
 expects_one due o ask free before after r s t p = confirms_so r s t (MeetsDue due before after) (MeetsAll (due o ask ∷ []) before after) (λ total y m. at_ask due o ask free before after (seen_in total s) (seen_in total t) y m) p
 
-pub expects_none : (names : NamedVars) (s : Stream) → Confirms (Ok tt) s s (MeetsAll [] names names)
-expects_none names s = confirms_none tt s (MeetsAll [] names names) (λ total. nothing names (seen_in total s))
-
 -- WHAT SHOWS AN OUTCOME
 
 module _ (names : Names) (ask line : List Literal) (before after : NamedVars) (r : Result (Unit {0}) Stop) (s t : Stream) where

@@ -14,10 +14,6 @@ waiting_taken piece at end count o h =
     let parts : end - at ≡ count + (end - (at + count)) = omega arith in
     ap (take (end - (at + count))) (sym (drop-drop count at piece)) ∙ sym (drop-take count (end - (at + count)) (drop at piece)) ∙ ap (λ (n : ℕ). drop count (take n (drop at piece))) (sym parts)
 
--- it goes on within what was read
-pub within_taken : (piece : List ℕ) (at end count : ℕ) → at ≤ end → count ≤ length (take (end - at) (drop at piece)) → at + count ≤ end
-within_taken piece at end count o h = let l = length-take (end - at) (drop at piece) in omega arith
-
 pub refills_so : {E : Type 0} (count : ℕ) (a b : Reader) (ws room : List ℕ) (n : ℕ) → ReadsOnce {E = E} (Ok count) room a b → count ≤ length room → length room ≡ 4096 → ws ≡ []
     → Refills (Ok count) (record { reader = a; waiting = ws; reads = n; names = [] }) (record { reader = b; waiting = take (count - 0) (drop 0 room); reads = n + 1; names = [] })
 refills_so count a b ws room n r within size e =

@@ -11,7 +11,7 @@ use Rattle.sat_base.specs.text.Chunks.{Follows}
 use Rattle.sat_base.specs.script.Script.{Command, Malformed}
 use Rattle.sat_base.proofs.lemmas.text.HeaderFirst.{IsWord, AreWords, AreScript, text_is}
 use Rattle.sat_base.specs.script.Language.{Reading, onto_commands, spoken, Hand, Nothing, commands_of, with_ask, written, reading}
-use Rattle.certify.specs.reading.Commands.{Holds, any_header, meaning, TakesToken, Means, MeansIf, HasWhole, TakesBytes, EndsSo, EndsLast, HasRead}
+use Rattle.certify.specs.reading.Commands.{Holds, any_header, meaning, TakesToken, Means, MeansIf, HasWhole, TakesBytes, EndsSo, EndsLast}
 use Rattle.certify.specs.declared.reading.Reached.{Reached}
 use Rattle.certify.specs.declared.reading.Reached.TheVariants as reached
 use Rattle.certify.specs.declared.reading.ScriptEnd.{ScriptEnd}
@@ -160,31 +160,3 @@ written_is text = refl
 
 pub counts_first : (tokenizer : Tokenizer) (commands : Commands) → Stands tokenizer scan → Holds commands.draft Nothing → MeansIf false (reader tokenizer commands) written
 counts_first tokenizer commands s n = record { hand = Nothing; holds = n; scan_of = scan; stands = s; reads = λ text. written_is text }
-
--- FRONTS OF TEXTS
-pub read_nothing : (a : ScriptReader) → Means a reading → HasRead a [] []
-read_nothing a m = record { after = reading; stands = m; reads = λ rest. refl }
-
-pub read_more : (a b : ScriptReader) (text piece : List ℕ) (cs : List Command) → HasRead a text cs → TakesBytes reached.More a piece b → HasRead b (text ++ piece) cs
-read_more a b text piece cs h t =
-    let k = t true h.after h.stands in
-    record { after = k.0; stands = k.1; reads = λ rest. ap reading (append_assoc text piece rest) ∙ h.reads (piece ++ rest) ∙ ap (onto_commands cs) (k.2 rest) }
-
-onto-onto : (a b : List Command) (r : Reading) → onto_commands a (onto_commands b r) ≡ onto_commands (a ++ b) r
-onto-onto a b r = ap (λ (cs : List Command). (cs, r.1)) (sym (append_assoc a b r.0))
-
-pub read_command : (a b : ScriptReader) (text piece : List ℕ) (cs : List Command) → HasRead a text cs → TakesBytes reached.Command a piece b
-    → (c : Command) × HasWhole b c × HasRead b (text ++ piece) (cs ++ c ∷ [])
-read_command a b text piece cs h t =
-    let k = t true h.after h.stands in (
-      k.command,
-      k.whole,
-      record {
-        after = k.after;
-        stands = k.stands;
-        reads = λ rest. ap reading (append_assoc text piece rest) ∙ h.reads (piece ++ rest) ∙ ap (onto_commands cs) (k.reads rest) ∙ onto-onto cs (k.command ∷ []) (k.after rest);
-      },
-    )
-
-pub read_malformed : (a b : ScriptReader) (text piece : List ℕ) (cs : List Command) → HasRead a text cs → TakesBytes reached.Malformed a piece b → (rest : List ℕ) → reading (text ++ (piece ++ rest)) ≡ (cs, Malformed)
-read_malformed a b text piece cs h t rest = h.reads (piece ++ rest) ∙ ap (onto_commands cs) (t true h.after h.stands rest) ∙ ap (λ (ds : List Command). (ds, Malformed)) (append-nil cs)

@@ -72,10 +72,6 @@ refilled_fewer old new none more =
 
 -- ANOTHER PIECE
 
-pub refill_fails : (e : ReadError) (a b : Source) (old new : ScriptReader) → Refills (Err e) a b → Brings (Err e) a b old new
-refill_fails errors.Failed a b old new h = ([], h)
-refill_fails errors.OutOfMemory a b old new h = absurd h
-
 pub refill_goes : (n : ℕ) (a b : Source) (reader : ScriptReader) → (n ≡ 0 → ⊥) → Refills (Ok n) a b → Brings (Ok None) a b reader reader
 refill_goes n a b reader some h = ([], gave_some n a b some h.0, goes_nowhere reader)
 

@@ -224,7 +224,3 @@ pub header_ends : (asks : Bool) (old new : Commands) (hand : Hand) (v c : ℕ) �
 header_ends asks old new hand v c e =
     let whole = behind asks old hand (Header v c) (GoesOn hand) [] refl ∙ ap (λ (b : Bool). with_ask (asks && (b && not old.asked)) (commands_of hand [])) (or_true old.headed) in
     rw e whole
-
-pub if_ok : {A E : Type 0} (r : Result A E) (P Q : A → Type 0) → ((x : A) → P x → Q x) → IfOk r P → IfOk r Q
-if_ok (Ok x) P Q f p = f x p
-if_ok (Err e) P Q f p = tt

@@ -67,9 +67,6 @@ fresh_source seen r a e f = rw (e, f) refl
 some_same : (a b : Writer) → ◌≡◌ {A = Option Writer} (Some a) (Some b) → a ≡ b
 some_same a b e = cc
 
-none_some : (a : Writer) → ◌≡◌ {A = Option Writer} None (Some a) → ⊥
-none_some a e = cc
-
 module _ {C : Type 0} (seen : C → Writer) (w : Writer) (p q : Proof C) (opened_at : target_of seen p ≡ Open Varisat uncounted (empty_sink w)) where
   -- it carried what was made since
   carried : (t : Took seen p q) → Carries (Open Varisat uncounted (empty_sink w)) t.0 (target_of seen q)
@@ -351,46 +348,3 @@ module _ (budget : ℕ) (x y : Reader) (u z a b : Writer) where
   pub backed_if : (r : Result Summary RunFault) → Runs r budget (x, y) (u, z) (a, b) → IfOk r (λ s. TookCertificate s (x, y) (u, z) (a, b))
   backed_if (Ok s) h = enough_so x y (λ text. Wrote text budget s (u, z) (a, b)) (λ text. (answered : List ℕ) × (certified : List ℕ) × Takes u z answered × Takes a b certified × Backs text s answered certified) (λ text k. (k.answered, k.certified, k.tells, k.certifies, k.is_backed)) h.wrote
   backed_if (Err e) h = tt
-
-  pub flushed_if : (r : Result Summary RunFault) → Runs r budget (x, y) (u, z) (a, b) → OnOk r ((z.flushed ≡ true) × (b.flushed ≡ true))
-  flushed_if (Ok s) h = (h.answers_flushed, h.certificate_flushed)
-  flushed_if (Err e) h = tt
-
-  pub script_fault : (r : Result Summary RunFault) → Runs r budget (x, y) (u, z) (a, b) → IsErrOf r fault.ScriptRead → ReadFails x y
-  script_fault (Ok s) h k = absurd (cc)
-  script_fault (Err e) h k = let m : e ≡ fault.ScriptRead = cc in (subst (λ f. Runs (Err f) budget (x, y) (u, z) (a, b)) m h).0
-
-  pub answers_fault : (r : Result Summary RunFault) → Runs r budget (x, y) (u, z) (a, b) → IsErrOf r fault.AnswersWrite → WriteFails u z
-  answers_fault (Ok s) h k = absurd (cc)
-  answers_fault (Err e) h k = let m : e ≡ fault.AnswersWrite = cc in let g = (subst (λ f. Runs (Err f) budget (x, y) (u, z) (a, b)) m h).1 in (g.0, g.1)
-
-  pub certificate_fault : (r : Result Summary RunFault) → Runs r budget (x, y) (u, z) (a, b) → IsErrOf r fault.CertificateWrite → WriteFails a b
-  certificate_fault (Ok s) h k = absurd (cc)
-  certificate_fault (Err e) h k = let m : e ≡ fault.CertificateWrite = cc in let g = (subst (λ f. Runs (Err f) budget (x, y) (u, z) (a, b)) m h).2 in (g.0, g.1)
-
-  pub kept_script : (r : Result Summary RunFault) → Runs r budget (x, y) (u, z) (a, b) → IsErrOf r fault.ScriptRead ⊎ (y.failures ≡ x.failures)
-  kept_script (Ok s) h = inr h.read
-  kept_script (Err fault.ScriptRead) h = inl refl
-  kept_script (Err fault.AnswersWrite) h = inr h.0
-  kept_script (Err fault.CertificateWrite) h = inr h.0
-  kept_script (Err fault.OutOfMemory) h = inr h.0
-  kept_script (Err fault.StoreFull) h = inr h.0
-  kept_script (Err fault.CounterEnd) h = inr h.0
-
-  pub kept_answers : (r : Result Summary RunFault) → Runs r budget (x, y) (u, z) (a, b) → IsErrOf r fault.AnswersWrite ⊎ (z.failures ≡ u.failures)
-  kept_answers (Ok s) h = inr h.told.0
-  kept_answers (Err fault.ScriptRead) h = inr h.1.0
-  kept_answers (Err fault.AnswersWrite) h = inl refl
-  kept_answers (Err fault.CertificateWrite) h = inr h.1.0
-  kept_answers (Err fault.OutOfMemory) h = inr h.1.0
-  kept_answers (Err fault.StoreFull) h = inr h.1.0
-  kept_answers (Err fault.CounterEnd) h = inr h.1.0
-
-  pub kept_certificate : (r : Result Summary RunFault) → Runs r budget (x, y) (u, z) (a, b) → IsErrOf r fault.CertificateWrite ⊎ (b.failures ≡ a.failures)
-  kept_certificate (Ok s) h = inr h.certified.0
-  kept_certificate (Err fault.ScriptRead) h = inr h.2.0
-  kept_certificate (Err fault.AnswersWrite) h = inr h.2.0
-  kept_certificate (Err fault.CertificateWrite) h = inl refl
-  kept_certificate (Err fault.OutOfMemory) h = inr h.2.0
-  kept_certificate (Err fault.StoreFull) h = inr h.2.0
-  kept_certificate (Err fault.CounterEnd) h = inr h.2.0

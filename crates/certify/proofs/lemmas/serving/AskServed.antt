@@ -244,9 +244,6 @@ module _ {C : Type 0} (seen : C → Writer) (old mid now new : Solver C) (user :
   ask_spent = subst (λ (n : ℕ). IsSpent budget n report) (ap (λ (x : _). x.steps) opened.clock) searched.spent
 
   module _ (j : Judge) (live : Live) (means : Means old j live) (free : refusal_of j (Ask (named_literals user)) ≡ None) where
-    next : Judge
-    next = accepted (Ask (named_literals user)) j
-
     first : solver.Kept mid.names (steps_in old) (steps_in mid) (bring_all (names_in user) j) (due.bringing (names_in user) j ++ (due.Opens (named_literals user) ∷ []))
     first = opened.did.does.kept j live means.agree
 

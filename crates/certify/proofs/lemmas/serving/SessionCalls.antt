@@ -68,9 +68,6 @@ allowed_still seen a b c user budget report allowed opened s =
     let n = s.solved.answered.did.does.kept (bring_all (names_in user) allowed.0) k.live at in
     (bring_all (names_in user) allowed.0, n.live, n.agree, refl)
 
-none_of : (a b : Writer) (text : List ℕ) → Takes a b text → NoneFailed a b
-none_of a b text t = (t.failures, t.loans)
-
 -- an answer was written, and nothing is assumed any more
 pub asked_of : {C : Type 0} (seen : C → Writer) (old new : Session C) (now : Solver C) (user text : List ℕ) (report : AskReport) (before after : Writer)
     → Sought seen old.budget report user text old.solver now → Takes before after text → Assumed seen now new.solver [] → new.commands ≡ old.commands → new.refused ≡ old.refused → new.budget ≡ old.budget → new.asks.items ≡ old.asks.items ++ report ∷ []

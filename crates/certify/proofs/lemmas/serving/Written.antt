@@ -188,9 +188,6 @@ turned_to {e} {w} {made} {written} {width} step later h p (new_width bits other_
       behind = one_more other_step k (width_changes bits p);
     }
 
-turn_by : {e made : List Step} (step : Step) {current : Option Outcome} {es : List Expected} {counts : List ℕ} → Certifies the_checking made current (step ∷ e) es counts → (later : List Step) × (made ≡ later ++ step ∷ e)
-turn_by step c = certified_front c
-
 at_end : {e all w written : List Step} {width : ℕ} → e ≡ all → Narrows e w width all written → w ≡ written
 at_end same all_narrowed = refl
 at_end {e} same (same_width step k n) = let f = narrowed_front n in absurd (too_long f.0 step e (same ∙ f.1))

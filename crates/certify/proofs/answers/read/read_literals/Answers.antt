@@ -10,7 +10,7 @@ use Rattle.certify.specs.declared.answers.read.AnswerKind.{AnswerKind}
 use Rattle.certify.specs.declared.answers.read.AnswerKind.TheVariants as kind
 use Rattle.certify.specs.declared.answers.read.AnswerFault.TheVariants.{Text, OutOfMemory}
 use Rattle.certify.proofs.lemmas.answers.LinesByKind.{line_literals}
-use Rattle.certify.proofs.lemmas.answers.LiteralsOfLines.{Read, none_read, one_read, all_read, not_read, same_literals}
+use Rattle.certify.proofs.lemmas.answers.LiteralsOfLines.{Read, one_read, all_read, not_read, same_literals}
 use Rattle.certify.proofs.lemmas.answers.LineOrder.{RiseFrom, rise_ordered, ordered_rise}
 use Rattle.certify.proofs.answers.read.read_literals.Invariants.{words_text, GoOnFrom, ReadInOrder}
 use Rattle.certify.proofs.answers.read.read_literals.Goals as goal
@@ -54,9 +54,6 @@ in_full_order k line least g = rise_ordered k line (subst (RiseFrom 0) (append-n
 
 in_form : (k : AnswerKind) (bytes line rest : List ℕ) (least : ℕ) → HasLine k → ReadInOrder k bytes line rest least → IsInForm (outcome_of k (named_literals line))
 in_form k bytes line rest least d r = (subst HaveNames (sym (line_literals k (named_literals line) d)) r.read.names, in_full_order k line least r.order)
-
-pub none_in_order : (k : AnswerKind) (bytes : List ℕ) → ReadInOrder k bytes [] bytes 0
-none_in_order k bytes = record { read = none_read bytes; words = refl; order = λ places. (λ r. r, λ r. r) }
 
 one_in_order : (k : AnswerKind) (bytes line rest behind : List ℕ) (l least : ℕ) → ReadInOrder k bytes line rest least → IsName (named_literal l).name → rest ≡ word_of (named_literal l) ++ (32 ∷ behind) → least ≤ place_in k l
     → ReadInOrder k bytes (line ++ (l ∷ [])) behind (place_in k l + 1)
