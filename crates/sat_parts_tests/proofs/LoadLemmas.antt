@@ -50,53 +50,6 @@ grown_length xs x n e =
     let m : length (replicate (n - length xs) x) ≡ n - length xs = length-replicate (n - length xs) x in
     ap (λ ys. length (ys ++ replicate (n - length xs) x)) (nothing_taken xs n e) ∙ omega arith
 
-raised_length : {X : Type 0} → (xs : List X) (x : X) (n : ℕ) → xs ≡ [] → length (xs ++ replicate (n - length xs) x) ≡ n
-raised_length xs x n e =
-    let z : length xs ≡ 0 = ap (λ ys. length ys) e in
-    let m : length (replicate (n - length xs) x) ≡ n - length xs = length-replicate (n - length xs) x in
-    ap (λ ys. length (ys ++ replicate (n - length xs) x)) e ∙ omega arith
-
-no_live : (words : List ℕ) (count : ℕ) → AreClauses words [] count
-no_live words count = record {
-  laid = laid_none words;
-  long = λ o h. absurd (omega (arith, h.1));
-  below = λ o k h lt. absurd (omega (arith, h.1));
-  distinct = λ o h. absurd (omega (arith, h.1));
-}
-
-pub holds_none : (words : List ℕ) (db : Db) (w w' : Watching) (b b' : Binaries) (count : ℕ) → HoldsDb words db → db ≡ no_clauses →
-    w.lists ≡ [] → b.implied ≡ [] → w' ≡ with_lists (2 * count) (record w { enabled = false }) → b' ≡ with_literals (2 * count) b →
-    HoldsClauses words db w' b' count
-holds_none words db w w' b b' count holds e no_lists no_implied to_w to_b =
-    let size : length (take (2 * count) b.implied ++ replicate (2 * count - length b.implied) []) ≡ 2 * count = grown_length b.implied [] (2 * count) no_implied in
-    rw (to_w, to_b) record {
-      holds = holds;
-      clauses = subst (λ (d : Db). AreClauses words (live_refs words d.refs) count) (sym e) (no_live words count);
-      lists = grown_length w.lists [] (2 * count) no_lists;
-      off = refl;
-      ranges = record {
-        room = size;
-        below = λ l k lt. absurd (let z : length (get_or (take (2 * count) b.implied ++ replicate (2 * count - length b.implied) []) l []) ≡ 0 = ap (λ (ys : List ℕ). length ys) (grown_reads b.implied [] (2 * count) l no_implied) in omega (arith, lt));
-      };
-    }
-
-pub blank_made : (a a' : Values) (nodes nodes' : List ImplNode) (t t' : Trailed) (q q' : Queue) (count : ℕ) → count ≤ largest →
-    a.current ≡ [] → nodes ≡ [] → t ≡ no_trail → q ≡ no_variables →
-    a' ≡ with_var_count count a → nodes' ≡ with_nodes count nodes → t' ≡ record t { room = max t.room count } → q' ≡ with_variables count q →
-    IsBlank a' nodes' t' q' count
-blank_made a a' nodes nodes' t t' q q' count small no_values no_nodes no_lits no_vars to_a to_nodes to_t to_q =
-    rw (to_a, to_nodes, to_t, to_q) record {
-      size = grown_length a.current None count no_values;
-      unset = λ v. grown_reads a.current None count v no_values;
-      nodes = grown_length nodes new_node count no_nodes;
-      lits = ap (λ (x : Trailed). x.lits) no_lits;
-      head = ap (λ (x : Trailed). x.head) no_lits;
-      starts = ap (λ (x : Trailed). x.starts) no_lits;
-      room = omega arith;
-      small = (let r : t.room ≡ 0 = ap (λ (x : Trailed). x.room) no_lits in omega arith);
-      queue = raised_length q.available false count (ap (λ (x : Queue). x.available) no_vars);
-    }
-
 -- a clause more
 pub clauses_added : (words : List ℕ) (db : Db) (words' : List ℕ) (db' : Db) (o : ℕ) (h : Header) (ls : List ℕ) (count : ℕ) →
     HoldsDb words db → AreClauses words (live_refs words db.refs) count → AddsClause words db words' db' o h ls → IsClauseOver ls count →
@@ -138,77 +91,6 @@ holds_more words db w b words' db' w' o x y h ls count held added good to_w =
 
 pub new_is_live : (words : List ℕ) (db : Db) (words' : List ℕ) (db' : Db) (o : ℕ) (h : Header) (ls : List ℕ) → AddsClause words db words' db' o h ls → Contains (live_refs words' db'.refs) o
 new_is_live words db words' db' o h ls added = subst (λ (xs : List ℕ). Contains xs o) (sym added.live) (Contains-push (live_refs words db.refs) o)
-
-pushed_below : (ys : List ℕ) (m count : ℕ) → m < 2 * count → ((j : ℕ) → j < length ys → get_or ys j 0 < 2 * count) → (k : ℕ) → k < length (ys ++ m ∷ []) → get_or (ys ++ m ∷ []) k 0 < 2 * count
-pushed_below ys m count small below k lt =
-    let n : length (ys ++ m ∷ []) ≡ length ys + 1 = length_push ys m in
-    elim (cases_lt k (length ys)) [
-      | inl h ↦ subst (λ y. y < 2 * count) (sym (get_or_append_left ys (m ∷ []) 0 k h)) (below k h)
-      | inr h ↦ subst (λ y. y < 2 * count) (sym (get_or_push ys m 0 k (omega arith))) small
-    ]
-
--- the same for a clause of two literals
-longer_below : (implied : List (List ℕ)) (l m count : ℕ) → m < 2 * count → l < length implied →
-    ((x k : ℕ) → k < length (implied_by implied x) → get_or (implied_by implied x) k 0 < 2 * count) →
-    (x k : ℕ) → k < length (implied_by (with_implied l m implied) x) → get_or (implied_by (with_implied l m implied) x) k 0 < 2 * count
-longer_below implied l m count small within below x k lt = elim (cases_eq x l) [
-  | inr other ↦
-      let e : implied_by (with_implied l m implied) x ≡ implied_by implied x = get_or-set_other implied l x (implied_by implied l ++ m ∷ []) [] other in
-      subst (λ (ys : List ℕ). k < length ys → get_or ys k 0 < 2 * count) (sym e) (λ h. below x k h) lt
-  | inl same ↦
-      let e : implied_by (with_implied l m implied) x ≡ implied_by implied l ++ m ∷ [] =
-      ap (λ y. implied_by (with_implied l m implied) y) same ∙ get_or-set_same implied l (implied_by implied l ++ m ∷ []) [] within in
-      subst (λ (ys : List ℕ). k < length ys → get_or ys k 0 < 2 * count) (sym e) (λ h. pushed_below (implied_by implied l) m count small (λ j g. below l j g) k h) lt
-]
-
-pub lists_more : (b : Binaries) (x y count : ℕ) → x < 2 * count → y < 2 * count → AreLists b.implied count → AreLists (with_binary x y b).implied count
-lists_more b x y count small_x small_y h =
-    let one : List (List ℕ) = with_implied (negated x) y b.implied in
-    let n : length (with_implied (negated x) y b.implied) ≡ length b.implied = length-set b.implied (negated x) (implied_by b.implied (negated x) ++ y ∷ []) in
-    let m : length (with_implied (negated y) x one) ≡ length one = length-set one (negated y) (implied_by one (negated y) ++ x ∷ []) in
-    record {
-      room = m ∙ n ∙ h.room;
-      below = longer_below one (negated y) x count small_x (omega (arith, h.room)) (longer_below b.implied (negated x) y count small_y (omega (arith, h.room)) h.below);
-    }
-
--- nothing has left the queue
-none_left : (a : Values) (nodes : List ImplNode) (t : Trailed) (q : Queue) (count l : ℕ) → IsBlank a nodes t q count → HasLeft (state_of a nodes t) l → ⊥
-none_left a nodes t q count l blank left = elim left [
-  | inl b ↦ (let n : length t.lits ≡ 0 = ap (λ (xs : List ℕ). length xs) blank.lits in omega (arith, b.within))
-  | inr r ↦ (let e : Some (is_positive l) ≡ None = sym r.holds ∙ blank.unset (variable l) in cc)
-]
-
-pub asks_begun : (words : List ℕ) (db : Db) (w : Watching) (b : Binaries) (a : Values) (nodes : List ImplNode) (t : Trailed) (q : Queue) (count : ℕ) →
-    HoldsClauses words db w b count → IsBlank a nodes t q count → AsksAll words db.refs w b.implied (state_of a nodes t)
-asks_begun words db w b a nodes t q count held blank =
-    let n : length t.lits ≡ 0 = ap (λ (xs : List ℕ). length xs) blank.lits in
-    let m : length t.starts ≡ 0 = ap (λ (xs : List ℕ). length xs) blank.starts in
-    record {
-      laid = held.holds.laid;
-      clauses = subst (λ (k : ℕ). AreClauses words (live_refs words db.refs) k) (sym blank.size) held.clauses;
-      room = held.lists ∙ ap (λ k. 2 * k) (sym blank.size);
-      watches = λ on. absurd (let e : true ≡ false = sym on ∙ held.off in cc);
-      agrees = record {
-        trail = record {
-          queue = omega (arith, blank.head);
-          levels = record { within = λ k lt. absurd (omega arith); rising = λ j k le lt. absurd (omega arith) };
-          fits = omega arith;
-          small = blank.small;
-          counted = omega arith;
-        };
-        nodes = blank.nodes ∙ sym blank.size;
-        room = omega (arith, blank.size, blank.room);
-        holds = λ i lt. absurd (omega arith);
-        depths = λ i lt. absurd (omega arith);
-        levels = λ i lt. absurd (omega arith);
-        known = λ l e. absurd (let f : Some (is_positive l) ≡ None = sym e ∙ blank.unset (variable l) in cc);
-      };
-      queue = λ i le lt. absurd (omega arith);
-      firsts = λ i o lt e. absurd (omega arith);
-      settled = λ o i h hi left due. absurd (none_left a nodes t q count _ blank left);
-      ranges = subst (λ (k : ℕ). AreLists b.implied k) (sym blank.size) held.ranges;
-      binary = λ l k left due lt. absurd (none_left a nodes t q count _ blank left);
-    }
 
 no_long : (o : ℕ) → NoCause ≡ Long o → ⊥
 no_long o e = cc
@@ -290,18 +172,3 @@ contains_at xs ys k o e f lt = subst (λ (zs : List ℕ). Contains zs o) (sym e)
 
 pub flags_clear : (fs fs' : List Bool) (count : ℕ) → fs ≡ [] → fs' ≡ flags_for count fs → ((k : ℕ) → get_or fs' k false ≡ false) × (length fs' ≡ 2 * count)
 flags_clear fs fs' count e to_fs = rw to_fs (λ k. grown_reads fs false (2 * count) k e, grown_length fs false (2 * count) e)
-
-long_back : (o p : ℕ) → Long o ≡ Long p → o ≡ p
-long_back o p e = cc
-
--- a trail of one literal whose reason is a live clause that has it first
-pub firsts_one : (words live lits : List ℕ) (nodes : List ImplNode) (o l : ℕ) → live ≡ o ∷ [] → lits ≡ l ∷ [] → get_or (lits_at words o) 0 0 ≡ l → (node_of nodes (variable l)).reason ≡ Long o → AreFirsts words live lits nodes
-firsts_one words live lits nodes o l one_live one_lit first reason = λ i p lt e.
-    let n : length lits ≡ 1 = ap (λ (xs : List ℕ). length xs) one_lit in
-    let zero_place : i ≡ 0 = omega arith in
-    let here : get_or lits i 0 ≡ l = ap (λ k. get_or lits k 0) zero_place ∙ ap (λ (xs : List ℕ). get_or xs 0 0) one_lit in
-    let same : Long o ≡ Long p = sym reason ∙ ap (λ x. (node_of nodes (variable x)).reason) (sym here) ∙ e in
-    let place : o ≡ p = long_back o p same in (
-      subst (λ (z : ℕ). Contains live z) place (contains_at live (o ∷ []) 0 o one_live refl (omega arith)),
-      subst (λ (z : ℕ). get_or (lits_at words z) 0 0 ≡ get_or lits i 0) place (first ∙ sym here),
-    )
