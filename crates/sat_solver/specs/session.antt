@@ -8,11 +8,9 @@ pub mod Drat
 pub mod OutputView
 pub mod Promises
 pub mod SessionRows
-pub mod Feeding
 pub mod Listening
 pub mod Checked
 pub mod MadeView
-pub mod WritingView
 pub mod ProofView
 pub mod ProofTexts
 pub mod ProofRows

@@ -1,3 +1,2 @@
 //! What the parts of a solver keep, and what acceptance asks.
 pub mod laws;
-pub mod learning;

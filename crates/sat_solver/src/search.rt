@@ -8,7 +8,6 @@ pub mod grading;
 pub mod learning;
 pub mod reducing;
 pub mod round;
-pub mod showing;
 pub mod solving;
 pub mod units;
 pub mod work;

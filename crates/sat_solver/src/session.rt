@@ -2,7 +2,6 @@
 pub mod checked;
 pub mod counting;
 pub mod cutting;
-pub mod feeding;
 pub mod format;
 pub mod history;
 pub mod laws;
@@ -12,4 +11,3 @@ pub mod output;
 pub mod proof;
 pub mod putting;
 pub mod roll;
-pub mod writing;

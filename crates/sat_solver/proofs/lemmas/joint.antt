@@ -6,7 +6,6 @@ pub mod CodeLemmas
 pub mod StepLemmas
 pub mod UnitLemmas
 pub mod ModelLemmas
-pub mod LoadLemmas
 pub mod LawLemmas
 pub mod AdvanceLemmas
 pub mod SetLemmas
@@ -25,11 +24,8 @@ pub mod PartLemmas
 pub mod ReplacedLemmas
 pub mod PairLemmas
 pub mod RemovedLemmas
-pub mod ForgottenLemmas
 pub mod RemovedParts
 pub mod AnswerParts
-pub mod UsedLemmas
 pub mod LoadedParts
 pub mod FramedParts
 pub mod FailedParts
-pub mod KnownLemmas

@@ -11,7 +11,6 @@ pub mod FewerLemmas
 pub mod ClearLemmas
 pub mod LoadLemmas
 pub mod ShortLemmas
-pub mod AdvanceLemmas
 pub mod AnswerLemmas
 pub mod GrowLemmas
 pub mod FrameLemmas

@@ -14,7 +14,6 @@ pub mod PromiseLemmas
 pub mod WritingLemmas
 pub mod Naming
 pub mod RowLemmas
-pub mod FeedingLemmas
 pub mod Narrowing
 pub mod ProofLemmas
 pub mod CountingLemmas

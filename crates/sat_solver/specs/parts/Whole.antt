@@ -4,7 +4,6 @@ use Rattle.std.specs.List.{Contains}
 use Rattle.sat_parts.specs.clause.Stored.{lit_of, size_of}
 use Rattle.sat_parts.specs.prop.Binaries.{implied_by}
 use Rattle.sat_parts.specs.prop.Implied.{IsModelOf}
-use Rattle.sat_solver.specs.parts.Levels.{AreDerived, IsGiven, newest, IsFalseUnder}
 use Rattle.sat_store.specs.heap.Vsids.{Queue}
 use Rattle.sat_parts.specs.prop.State.{State}
 use Rattle.sat_parts.specs.prop.Ready.{state_of}
@@ -59,10 +58,3 @@ IsRefuted p e =
 pub record IsModelled (p : Parts) : Type 0 where
   pub long : (o : ℕ) → Contains (live_refs p.clauses p.db.refs) o → (k : ℕ) × ((k < size_of p.clauses o) × IsTrueLit p.assignment.current (lit_of p.clauses o k))
   pub binary : (l k : ℕ) → k < length (implied_by p.binary.implied l) → IsTrueLit p.assignment.current l → IsTrueLit p.assignment.current (get_or (implied_by p.binary.implied l) k 0)
-
--- no valuation satisfies the clauses and the units, and the empty clause is derived from these in the order of the trail
-pub record IsUnsat (p : Parts) : Type 0 where
-  pub none : (v : ℕ → Bool) → IsModelOf p.clauses (live_refs p.clauses p.db.refs) p.binary.implied (state p) v → ⊥
-  pub derived : AreDerived p.clauses (live_refs p.clauses p.db.refs) p.binary.implied (IsGiven (state p)) (newest (state p) (length p.trail.lits))
-  pub conflict : Conflict
-  pub falsified : IsFalseUnder p.clauses (live_refs p.clauses p.db.refs) p.binary.implied (IsGiven (state p)) (newest (state p) (length p.trail.lits)) conflict

@@ -23,23 +23,3 @@ literal_of v (Some b) = coded v b ∷ []
 abbrev pub true_lits : ℕ → List (Option Bool) → List ℕ
 true_lits v [] = []
 true_lits v (x ∷ values) = literal_of v x ++ true_lits (v + 1) values
-
--- does the step tell a model?
-abbrev pub is_model : Step → Bool
-is_model (Model ls) = true
-is_model step = false
-
--- a model was told by one step
-pub record ToldModel (steps : List Step) (s : Session) (c c' : Search) : Type 0 where
-  pub is : steps ≡ Model (map (with_var (global_in c)) (true_lits 0 c.parts.assignment.current)) ∷ []
-  pub search : IsSearch s c'
-  pub moved : Moved c c'
-  pub same : c'.parts ≡ c.parts
-
--- It made the step of a model, or failed.
-pub record TellsModel {W L : Type 0} {G : Ghosts L} (seen : W → Writer) (result : Result (Unit {0}) SolverError) (old new : Proof W L G) (c c' : Search) : Type 0 where
-  pub steps : List Step
-  pub went : Went seen result steps old new
-  pub model : AllByRecursion (λ step. is_model step ≡ true) steps
-  pub keeps : Keeps new
-  pub ends : MatchResult result (λ _. ToldModel steps (session_of new) c c') IsFault

@@ -17,29 +17,11 @@ ghost use Rattle.sat_solver.specs.parts.Frame.{SameClauses, SameState, Headed, D
 use crate::parts::Parts;
 use sat_base::Var;
 use sat_parts::{
-    ClauseActivity, Reason, bump_clause_activity, collect_garbage, decay_clause_activities,
+    ClauseActivity, bump_clause_activity, collect_garbage, decay_clause_activities,
     delete_clause, reduce_mids, set_clause_tier, shorten_clause, try_delete_clause,
 };
 use sat_store::{ClauseHeader, ClauseRef, StoreError, Tier};
 use std::alloc::Global;
-
-/// Whether a live clause is the reason of its first literal, which is true.
-pub fn asserts(parts: &Parts, cref: ClauseRef) -> bool
-    requires holds { Holds parts.now }
-    requires live { Contains (live_refs parts.now.clauses parts.now.db.refs) cref }
-    ensures { IsTrue result ↔ IsAsserting parts.now.clauses parts.now.assignment.current parts.now.graph cref }
-{
-    let first = parts.clauses.lit(cref, 0);
-    if !parts.assignment.lit_is_true(first) {
-        return false;
-    }
-    let reason = parts.graph.reason(first.var());
-    match reason {
-        Reason::Unit => false,
-        Reason::Binary(_) => false,
-        Reason::Long(named) => named == cref,
-    }
-}
 
 /// Deletes a live clause unless it is the reason of its first literal, and answers whether it did.
 pub fn drop_clause(parts: &mut Parts, cref: ClauseRef) -> bool

@@ -52,9 +52,6 @@ same_from [] l i m n e = absurd (omega arith)
 same_from (ms ∷ rest) l zero m n e = let z : l + zero ≡ l = omega arith in ap (λ cs. cs ++ pairs_from (l + 1) rest) (push_higher (negated l) m ms (subst (λ k. ltb (negated k) m ≡ false) z e))
 same_from (ms ∷ rest) l (suc i) m n e = let z : l + 1 + i ≡ l + suc i = omega arith in ap (λ cs. pairs_of (negated l) ms ++ cs) (same_from rest (l + 1) i m (omega arith) (subst (λ k. ltb (negated k) m ≡ false) (sym z) e))
 
-twice : (l : ℕ) → negated (negated l) ≡ l
-twice l = omega arith
-
 -- where the implied literal is the higher one, the clause comes in; else nothing changes
 implied_lower : (implied : List (List ℕ)) (a m : ℕ) → negated a < length implied → a < m → Inserted (binaries implied) (binaries (with_implied (negated a) m implied)) (pair a m)
 implied_lower implied a m n o =

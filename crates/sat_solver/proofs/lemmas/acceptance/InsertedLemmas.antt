@@ -27,9 +27,6 @@ inserted_before ys old new c i = record {
   is = ap (λ cs. cs ++ ys) i.is ∙ append_assoc i.before (c ∷ i.behind) ys;
 }
 
-pub inserted_last : (old : List LiveClause) (c : LiveClause) → Inserted old (old ++ c ∷ []) c
-inserted_last old c = record { before = old; behind = []; was = sym (append-nil old); is = refl }
-
 pub inserted_first : (old : List LiveClause) (c : LiveClause) → Inserted old (c ∷ old) c
 inserted_first old c = record { before = []; behind = old; was = refl; is = refl }
 

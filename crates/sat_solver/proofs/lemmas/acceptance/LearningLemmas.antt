@@ -11,9 +11,6 @@ use Rattle.sat_solver.specs.session.Session.{Session, after, session_after}
 use Rattle.sat_solver.specs.session.LiveClauses.{LiveClause, with_var, AreMapped, AreOf}
 use Rattle.sat_solver.proofs.lemmas.session.Mapped.{once_mapped}
 use Rattle.sat_solver.proofs.lemmas.session.StepsOfClauses.{derived_comes_as}
-use Rattle.sat_solver.specs.session.WritingView.{session_of}
-use Rattle.sat_solver.specs.declared.session.writing.Writing.{Writing}
-use Rattle.sat_solver.specs.acceptance.Learning.{StillOf}
 use Rattle.sat_solver.specs.acceptance.SolverClauses.{pair, binaries, Inserted}
 use Rattle.sat_solver.proofs.lemmas.acceptance.ClauseLemmas.{binary_comes, binary_comes_turned}
 
@@ -49,16 +46,3 @@ module _ (s : Session) (global : ℕ → ℕ) (a b : ℕ) (hashes : List ℕ) (r
       | inr l ↦ put_in (binaries x.implied) (binaries (with_binary a b x).implied) (pair b a) refl (named.1.0, (named.0, tt)) (two_apart b a (λ e. apart (sym e))) (turned_set (with_var global a) (with_var global b)) t (binary_comes_turned x a b p q l) h
     ]
   ]
-
-pub still_of_learned : {P T : Type 0} (w new : Writing P T) (x now : Binaries) (a b : ℕ) (clause hashes : List ℕ) → new.history.steps ≡ AtClause false clause hashes ∷ w.history.steps → now ≡ with_binary a b x
-    → negated a < length x.implied → negated b < length x.implied → StillOf w x a b clause new now
-still_of_learned w new x now a b clause hashes k o p q global rest n e t m h =
-    let d : List ℕ = map (with_var global) (a ∷ b ∷ []) in
-    let by : AreOf (after (AtClause false d hashes) (session_of w)) global (binaries (with_binary a b x).implied ++ rest) = learned (session_of w) global a b hashes rest n m x p q (subst (λ c. is_tautology c ≡ false) e t) h in
-    let its : AreOf (after (AtClause false clause hashes) (session_of w)) global (binaries (with_binary a b x).implied ++ rest) = subst (λ c. AreOf (after (AtClause false c hashes) (session_of w)) global (binaries (with_binary a b x).implied ++ rest)) (sym e) by in
-    subst (λ ss. AreOf (session_after ss) global (binaries now.implied ++ rest)) (sym k) (subst (λ y. AreOf (after (AtClause false clause hashes) (session_of w)) global (binaries y.implied ++ rest)) (sym o) its)
-
--- what an answer that isn't an error says
-pub ok_part : {T E : Type 0} (r : Result T E) (P : Type 0) → is_err r ≡ false → OnOk r P → P
-ok_part (Ok x) P n h = h
-ok_part (Err e) P n h = absurd (true≢false n)

@@ -26,9 +26,6 @@ module _ (values : List (Option Bool)) where
 
   -- WHAT IS LEFT OF ONE LIST
 
-  open_pair : (a m : ℕ) → is_open_clause values (pair a m) ≡ (unset a && (unset m && true))
-  open_pair a m = refl
-
   opens_if : (a m : ℕ) (ms : List ℕ) → unset a ≡ true → (b : Bool) → opens (cond b (pair a m ∷ pairs_of a ms) (pairs_of a ms)) ≡ cond b (cond (unset m) (pair a m ∷ opens (pairs_of a ms)) (opens (pairs_of a ms))) (opens (pairs_of a ms))
   opens_if a m ms u true = ap (λ x. cond (x && (unset m && true)) (pair a m ∷ opens (pairs_of a ms)) (opens (pairs_of a ms))) u ∙ go (unset m)
     where

@@ -23,9 +23,6 @@ use Rattle.sat_solver.proofs.lemmas.acceptance.TrailLemmas.{Parts, drop_parts, f
 -- WHAT ONE UNIT MORE LEAVES
 
 module _ (s : Session) (l : ℕ) where
-  more : ℕ → Bool
-  more m = eqb l m || s.units m
-
   pub fact_keeps : (m : ℕ) → s.units m ≡ true → (with_fact l s).units m ≡ true
   fact_keeps m h = go (s.units l) (s.units (negated l))
     where

@@ -63,18 +63,6 @@ reasoned_variable s l a x = true_variable s x.place l a x.within x.there
     true_variable : (s : State) (p l : ℕ) → Agrees s → p < length s.trail.lits → lit_at s p ≡ l → variable l < length s.values
     true_variable s p l a within there = below_from_value s.values (variable l) (is_positive l) (subst (λ z. IsTrueLit s.values z) there (a.holds p within))
 
--- flags of a clause and used literals that were all cleared
-pub all_clear : (w : Work) (f g : List Bool) → FlagsAmong w →
-    ((k : ℕ) → 0 ≤ k → k < length w.clause → get_or f (variable (get_or w.clause k 0)) false ≡ false) → ((v : ℕ) → get_or f v false ≡ true → get_or w.flags v false ≡ true) →
-    ((k : ℕ) → 0 ≤ k → k < length w.used → get_or g (variable (get_or w.used k 0)) false ≡ false) → ((v : ℕ) → get_or g v false ≡ true → get_or f v false ≡ true) → AreClear g
-all_clear w f g among clause low used low' v = elim (cases_Bool (get_or g v false)) [
-  | inl t ↦ elim (among v (low v (low' v t))) [
-    | inl x ↦ absurd (both_ways (get_or f v false) (ap (λ z. get_or f z false) (sym x.1.1) ∙ clause x.0 (omega arith) x.1.0) (low' v t))
-    | inr x ↦ absurd (both_ways (get_or g v false) (ap (λ z. get_or g z false) (sym x.1.1) ∙ used x.0 (omega arith) x.1.0) t)
-  ]
-  | inr f ↦ f
-]
-
 -- literals of higher levels change places with the second one, one after the other
 abbrev level_in : List ImplNode → ℕ → ℕ
 level_in nodes l = (node_of nodes (variable l)).level
@@ -133,29 +121,11 @@ chained_swaps nodes old ls at level h two within more =
       ];
     }
 
-pub chained_done : (nodes : List ImplNode) (old ls : List ℕ) (at level : ℕ) → Chained nodes old ls at level → 2 ≤ length old → length ls ≤ at → PutsSecond nodes old ls level
-chained_done nodes old ls at level h two le = record {
-  lits = h.lits;
-  first = h.first;
-  alone = λ lt. absurd (omega arith);
-  second = λ x. h.level_is;
-  highest = λ k pos lt. h.highest k pos (omega (arith, h.lits.size));
-}
-
 -- what was shuffled has the same variables
 pub shuffled_nodes : (nodes : List ImplNode) (ls ms : List ℕ) → Shuffled ls ms → ((k : ℕ) → k < length ls → variable (get_or ls k 0) < length nodes) → (k : ℕ) → k < length ms → variable (get_or ms k 0) < length nodes
 shuffled_nodes nodes ls ms h inside k lt =
     let o : (j : ℕ) × ((j < length ls) × (get_or ls j 0 ≡ get_or ms k 0)) = h.back k (omega (arith, h.size)) in
     omega (arith, inside o.0 o.1.0, ap (λ z. variable z) o.1.1)
-
-pub puts_none : (nodes : List ImplNode) (clause : List ℕ) → length clause < 2 → PutsSecond nodes clause clause 0
-puts_none nodes clause lt = record {
-  lits = shuffled_refl clause;
-  first = refl;
-  alone = λ x. refl;
-  second = λ x. absurd (omega arith);
-  highest = λ k pos x. absurd (omega arith);
-}
 
 pub place_variable : (s : State) (top : ℕ) (w : Work) (at p : ℕ) → Agrees s → MarksWork s top w at → p < at → variable (lit_at s p) < length w.flags
 place_variable s top w at p a m lt =

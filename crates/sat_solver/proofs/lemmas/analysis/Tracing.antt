@@ -308,16 +308,3 @@ found words s failed can f above =
 -- a false literal above level 0 has a level that is open
 pub some_level : (s : State) (l : ℕ) → Agrees s → IsFalseLit s.values l → 0 < level s l → 0 < current_level s
 some_level s l a f above = omega (arith, level_low s (negated l) a (true_from_false s.values l f), level_by_variable s (negated l) l (negated_variable l))
-
--- the negation of a false literal without a clause as its reason was chosen
-pub negation_chosen : (s : State) (l : ℕ) → Agrees s → IsFalseLit s.values l → 0 < level s l → is_unit (node s l).reason ≡ true → IsChosen s 0 (negated l)
-negation_chosen s l a f above free =
-    let b : IsBefore s (length s.trail.lits) (negated l) = negation_before s l a f above in
-    record {
-      place = b.place;
-      from = omega arith;
-      within = b.within;
-      there = b.there;
-      above = omega (arith, level_by_variable s (negated l) l (negated_variable l));
-      free = ap (λ v. is_unit (node_of s.nodes v).reason) (negated_variable l) ∙ free;
-    }

@@ -1,7 +1,7 @@
 -- Ranks of words.
 use Rattle.std.proofs.Common.{◌≡◌, ℕ, zero, suc, ◌+◌, ◌*◌, ◌^◌, ◌<◌, ◌≤◌, List, [], ◌∷◌, ◌++◌, length, arith, ap}
 use Rattle.sat_parts.specs.prop.TrailWord.{Letter, D, P, IsBelow}
-use Rattle.sat_solver.specs.bound.Ranks.{rank, Rising}
+use Rattle.sat_solver.specs.bound.Ranks.{rank}
 
 pow_double : (n : ℕ) → 2 ^ suc n ≡ 2 * 2 ^ n
 pow_double n = grind arith
@@ -36,11 +36,3 @@ rank_rises (suc n) (D ∷ u) (P ∷ v) h b = omega (arith, rank_below n u)
 rank_rises (suc n) (P ∷ u) (D ∷ v) h b = absurd b
 rank_rises (suc n) (D ∷ u) (D ∷ v) h b = omega (arith, rank_rises n u v (omega arith) b)
 rank_rises (suc n) (P ∷ u) (P ∷ v) h b = omega (arith, rank_rises n u v (omega arith) b)
-
-rising_ranks : (n : ℕ) (w : List Letter) (ws : List (List Letter)) → Rising n w ws → rank n w + length ws + 1 < 2 ^ suc n
-rising_ranks n w [] h = omega (arith, rank_below n w)
-rising_ranks n w (v ∷ ws) h = omega (arith, rank_rises n w v h.0 h.1, rising_ranks n v ws h.2)
-
--- fewer than 2 ^ (n + 1) words rise one after the other
-pub rising_few : (n : ℕ) (w : List Letter) (ws : List (List Letter)) → Rising n w ws → length (w ∷ ws) < 2 ^ (n + 1)
-rising_few n w ws h = let e : 2 ^ (n + 1) ≡ 2 ^ suc n = ap (λ (k : ℕ). 2 ^ k) (let d : n + 1 ≡ suc n = omega arith in d) in omega (arith, rising_ranks n w ws h, e)

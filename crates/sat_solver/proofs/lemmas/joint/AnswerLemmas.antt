@@ -34,17 +34,6 @@ module _ (st : State) (s : Session) (global : ℕ → ℕ) (step : Step) (quiet 
   fits_rests words live implied fits =
       fits_listed words live implied st (after step s) global (listed_rests (solver_clauses (is_redundant words) words live implied) (listed words live implied st s global fits)) fits.paired
 
--- the width of whole hashes again
-pub fits_whole : (words live : List ℕ) (implied : List (List ℕ)) (st : State) (s : Session) (global : ℕ → ℕ) → Fits words live implied st s global → Fits words live implied st (after (ChangeHashBits 64) s) global
-fits_whole words live implied st s global h = record {
-  clauses = record { named = h.clauses.named; once = h.clauses.once; counts = h.clauses.counts };
-  paired = h.paired;
-  known = h.known;
-  sound = h.sound;
-  consistent = h.consistent;
-  width = refl;
-}
-
 -- what is assumed, in proof variables
 pub assumed_part : (s : Session) (global : ℕ → ℕ) (core assumed : List ℕ) → s.assumed ≡ map (with_var global) assumed → is_part core assumed ≡ true → is_part (map (with_var global) core) s.assumed ≡ true
 assumed_part s global core assumed e p = ap (is_part (map (with_var global) core)) e ∙ part_mapped (with_var global) core assumed p

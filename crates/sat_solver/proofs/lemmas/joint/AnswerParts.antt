@@ -15,7 +15,7 @@ use Rattle.sat_solver.specs.declared.parts.Parts.{Parts}
 use Rattle.sat_solver.specs.parts.Whole.{state, Holds}
 use Rattle.sat_solver.specs.joint.Fits.{FitsParts}
 use Rattle.sat_solver.specs.joint.Listed.{Rests}
-use Rattle.sat_solver.proofs.lemmas.joint.AnswerLemmas.{fits_rests, fits_whole}
+use Rattle.sat_solver.proofs.lemmas.joint.AnswerLemmas.{fits_rests}
 use Rattle.sat_solver.proofs.lemmas.joint.CoreLemmas.{core_may, core_bottom_may}
 
 module _ (p : Parts) (s : Session) (global : ℕ → ℕ) (fits : FitsParts p s global) where
@@ -24,9 +24,6 @@ module _ (p : Parts) (s : Session) (global : ℕ → ℕ) (fits : FitsParts p s 
 
   pub parts_rests : (step : Step) → Rests step → FitsParts p (after step s) global
   parts_rests step quiet = fits_rests (state p) s global step quiet p.clauses live p.binary.implied fits
-
-  pub parts_whole : FitsParts p (after (ChangeHashBits 64) s) global
-  parts_whole = fits_whole p.clauses live p.binary.implied (state p) s global fits
 
   module _ (holds : Holds p) where
     -- a core that clauses refute: those of the used literals, the last of which is falsified where the core is true

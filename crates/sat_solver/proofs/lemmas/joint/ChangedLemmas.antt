@@ -36,10 +36,6 @@ rising_live words (x ∷ xs) h = go (is_live words x) (rising_live words xs (ris
 pub live_distinct : (words : List ℕ) (db : Db) → HoldsDb words db → AreDistinct (live_refs words db.refs)
 live_distinct words db h j k a b e = rising_distinct (live_refs words db.refs) j k (rising_live words db.refs h.rising) a b e
 
--- the same side
-pub same_side_of : (words words' : List ℕ) (o : ℕ) → header_at words' o ≡ header_at words o → is_redundant words' o ≡ is_redundant words o
-same_side_of words words' o e = ap (λ (h : Header). is_learned h.tier) e
-
 module _ (words words' : List ℕ) (db db' : Db) (implied : List (List ℕ)) where
   abbrev live : List ℕ
   live = live_refs words db.refs

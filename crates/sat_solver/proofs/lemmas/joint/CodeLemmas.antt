@@ -22,13 +22,6 @@ coded_by global l = elim (cases_eq (l % 2) 0) [
   | inr n ↦ (let e : l % 2 ≡ 1 = omega arith in ap (λ b. 2 * global (variable l) + cond b 0 1) (ap (λ r. eqb r 0) e) ∙ ap (λ r. 2 * global (variable l) + r) (sym e))
 ]
 
--- units that are written one after the other: a literal without a clause as its reason is passed by
-pub units_skip : (words : List ℕ) (st : State) (global : ℕ → ℕ) (i : ℕ) (items : List (ℕ × ℕ)) (lits : List ℕ) → i < length lits → is_unit (node st (get_or lits i 0)).reason ≡ true →
-    items ++ written_units words st 64 global (drop (i + 1) lits) ≡ items ++ written_units words st 64 global (drop i lits)
-units_skip words st global i items lits n u =
-    let e : i + 1 ≡ suc i = omega arith in
-    ap (λ us. items ++ us) (rw (e, drop-cons lits i 0 n) (sym (ap (λ b. cond b (written_units words st 64 global (drop (suc i) lits)) ((with_var global (get_or lits i 0), hash_of (reason_clause words (get_or lits i 0) (node st (get_or lits i 0)).reason) / 2 ^ (64 - 64)) ∷ written_units words st 64 global (drop (suc i) lits))) u)))
-
 pub units_push : (words : List ℕ) (st : State) (global : ℕ → ℕ) (i hash : ℕ) (items : List (ℕ × ℕ)) (lits : List ℕ) → i < length lits → is_unit (node st (get_or lits i 0)).reason ≡ false →
     hash ≡ hash_of (reason_clause words (get_or lits i 0) (node st (get_or lits i 0)).reason) →
     (items ++ (with_var global (get_or lits i 0), hash) ∷ []) ++ written_units words st 64 global (drop (i + 1) lits) ≡ items ++ written_units words st 64 global (drop i lits)

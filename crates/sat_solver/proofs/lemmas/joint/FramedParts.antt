@@ -76,10 +76,6 @@ module _ (p p' : Parts) (s : Session) (global : ℕ → ℕ) (fits : FitsParts p
       (fits_carried p'.clauses live' p.binary.implied (state p) (state p') s global h.carries
       (fits_longs p.clauses p'.clauses live live' p.binary.implied (state p) s global (longs_copied p.clauses live p'.clauses live' h.copies) fits))
 
-  -- another order
-  pub fits_swapped : (o i j : ℕ) → Holds p' → Swapped p p' o i j → FitsParts p' s global
-  fits_swapped o i j holds h = fits_propagated p p' s global h.moved (rw (same_state p p' h.same.0) (carries_refl (state p))) holds.below.asks.clauses fits
-
   module _ (holds : Holds p) (o : ℕ) (there : Contains live o) (ls : List ℕ) (order : Shuffled ls (lits_at p.clauses o)) where
     -- a long clause goes
     pub fits_dropped_redundant : Dropped p p' o → is_redundant p.clauses o ≡ true →

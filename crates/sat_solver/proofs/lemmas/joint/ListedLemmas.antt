@@ -38,16 +38,6 @@ module _ (cs : List LiveClause) (st : State) (s : Session) (global : ℕ → ℕ
     width = f.width ∙ h.width;
   }
 
-  -- the search goes on where no unit is new
-  pub listed_carried : (st' : State) → Carries st st' → FitsList cs st' s global
-  listed_carried st' c = record {
-    clauses = h.clauses;
-    known = λ l u. h.known l (c.units l u);
-    sound = λ l n u. let x = h.sound l n u in c.bottom l x.0 x.1;
-    consistent = h.consistent;
-    width = h.width;
-  }
-
 -- a step that changes live clauses alone
 pub listed_stays : (cs : List LiveClause) (st : State) (s t : Session) (global : ℕ → ℕ) → FitsList cs st s global → SameFacts s t → t.solver_names ≡ s.solver_names → ((r : Bool) (set : List ℕ) → t.live r set ≡ s.live r set) →
     FitsList cs st t global

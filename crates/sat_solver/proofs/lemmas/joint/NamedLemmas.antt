@@ -41,23 +41,7 @@ unused_in redundant words live implied v h c k = elim (in_either c (binaries imp
       ap (λ (d : LiveClause). mentions d.literals v) x.same ∙ none_mentions (lits_at words x.place) v (λ i lt. h.long x.place i x.there lt)
 ]
 
--- none has one that isn't there yet
-pub unused_past : (words live : List ℕ) (implied : List (List ℕ)) (count v : ℕ) → AreClauses words live count → AreLists implied count → count ≤ v → IsUnused words live implied v
-unused_past words live implied count v clauses lists past = record {
-  long = λ o k c lt e. (let b : lit_of words o k < 2 * count = clauses.below o k c lt in omega arith);
-  binary = λ l k lt. (
-    λ e. elim (cases_lt l (length implied)) [
-      | inl less ↦ omega (arith, lists.room)
-      | inr ge ↦ (let z : k < 0 = subst (λ (ms : List ℕ). k < length ms) (get_or_past implied l [] ge) lt in omega arith)
-    ],
-    λ e. (let b : get_or (implied_by implied l) k 0 < 2 * count = lists.below l k lt in omega arith),
-  );
-}
-
 -- NAMES COME
-
-some_same : (x y : ℕ) → Some x ≡ Some y → x ≡ y
-some_same x y e = cc
 
 none_some : (x : ℕ) → None ≡ Some x → ⊥
 none_some x e = cc
@@ -67,50 +51,6 @@ name_there names w u name e = ap (λ b. cond b name (names u)) (eq-eqb u w e)
 
 name_other : (names : ℕ → Option ℕ) (w u : ℕ) (name : Option ℕ) → u ≢ w → cond (eqb u w) name (names u) ≡ names u
 name_other names w u name n = ap (λ b. cond b name (names u)) (ne_eqb u w n)
-
--- the solver variable x, which no clause has, gets a proof variable that has no solver name. The search may come to know its value:
--- that of a unit of the session
-pub record GetsName (st st' : State) (s : Session) (global global' : ℕ → ℕ) (x : ℕ) : Type 0 where
-  pub same : (v : ℕ) → v ≢ x → global v ≡ global' v
-  pub free : s.solver_names (global' x) ≡ None
-  pub units : (l : ℕ) → IsUnitLit st' l → ((variable l ≢ x) × IsUnitLit st l) ⊎ (s.units (with_var global' l) ≡ true)
-  pub kept : (l : ℕ) → variable l ≢ x → IsTrueLit st.values l → level st l ≡ 0 → IsTrueLit st'.values l × (level st' l ≡ 0)
-  pub its : (l : ℕ) → variable l ≡ x → s.units (with_var global' l) ≡ true → IsTrueLit st'.values l × (level st' l ≡ 0)
-
-pub listed_named : (cs : List LiveClause) (st st' : State) (s : Session) (global global' : ℕ → ℕ) (x : ℕ) → FitsList cs st s global → GetsName st st' s global global' x →
-    ((c : LiveClause) → IsIn c cs → mentions c.literals x ≡ false) → FitsList cs st' (after (SolverVarName (global' x) (Some x)) s) global'
-listed_named cs st st' s global global' x h g unused =
-    let w : ℕ = global' x in
-    let t : Session = after (SolverVarName (global' x) (Some x)) s in
-    let moved : (l : ℕ) → variable l ≢ x → with_var global' l ≡ with_var global l = λ l n. ap (λ v. 2 * v + l % 2) (sym (g.same (variable l) n)) in
-    let old : (v : ℕ) → v ≢ x → t.solver_names (global' v) ≡ Some v → s.solver_names (global v) ≡ Some v = λ v n e. elim (cases_eq (global' v) w) [
-      | inl q ↦ absurd (n (some_same v x (sym e ∙ name_there s.solver_names w (global' v) (Some x) q)))
-      | inr d ↦ ap s.solver_names (g.same v n) ∙ sym (name_other s.solver_names w (global' v) (Some x) d) ∙ e
-    ] in
-    record {
-      clauses = still_of (with_solver_name w (Some x) s) t global' cs (λ r set. refl) refl (gets_name s global global' w x cs h.clauses g.free g.same unused);
-      known = λ l u. elim (g.units l u) [ inl o ↦ subst (λ z. s.units z ≡ true) (sym (moved l o.0)) (h.known l o.1) | inr k ↦ k ];
-      sound = λ l n u. elim (cases_eq (variable l) x) [
-        | inl e ↦ g.its l e u
-        | inr d ↦ let y = h.sound l (old (variable l) d n) (subst (λ z. s.units z ≡ true) (moved l d) u) in g.kept l d y.0 y.1
-      ];
-      consistent = h.consistent;
-      width = h.width;
-    }
-
--- one without a value, whose proof variable is no unit's
-pub gets_fresh : (st : State) (s : Session) (global global' : ℕ → ℕ) (x : ℕ) → Agrees st → value_of st.values x ≡ None → ((v : ℕ) → v ≢ x → global v ≡ global' v) → s.solver_names (global' x) ≡ None →
-    ((l : ℕ) → variable l ≡ x → s.units (with_var global' l) ≡ false) → GetsName st st s global global' x
-gets_fresh st s global global' x agrees none same free fresh = record {
-  same = same;
-  free = free;
-  units = λ l u. inl ((λ e. none_value (is_positive l) (sym none ∙ ap (value_of st.values) (sym e) ∙ (unit_true st l agrees u).0)), u);
-  kept = λ l n t z. (t, z);
-  its = λ l e u. absurd (true≢false (sym u ∙ fresh l e));
-}
-  where
-    none_value : (b : Bool) → None ≡ Some b → ⊥
-    none_value b e = cc
 
 -- AND GO
 

@@ -211,7 +211,3 @@ empty_may words live implied st s global e h agrees bottom conflict =
     all_false : (ls : List ℕ) → ((k : ℕ) → k < length ls → s.units (negated (with_var global (get_or ls k 0))) ≡ true) → AllByRecursion (λ l. denied s [] (negated l) ≡ true) (map (with_var global) ls)
     all_false [] x = tt
     all_false (l ∷ ls) x = (x 0 (omega arith), all_false ls (λ k lt. x (suc k) (omega arith)))
-
--- and then no valuation is left
-pub empty_gives : (s : Session) (flag : Bool) (hashes : List ℕ) → (after (AtClause flag [] hashes) s).unsat ≡ true
-empty_gives s flag hashes = refl

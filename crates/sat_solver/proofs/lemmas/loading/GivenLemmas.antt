@@ -35,9 +35,6 @@ use Rattle.sat_solver.specs.loading.Bottom.{AtBottom}
 use Rattle.sat_solver.specs.loading.Indices.{GivesLit, IsVacant, AreVacant, TakesIndices, Renames, IsGivenTo, GivesNames, AreIndexed}
 use Rattle.sat_solver.proofs.lemmas.loading.IndexLemmas.{given_or_not, lit_given}
 
-none_some : {A : Type 0} (x : A) → None ≡ Some x → ⊥
-none_some x e = cc
-
 -- two maps of literals agree where their variables do
 pub mapped_same : (f h : ℕ → ℕ) (ls : List ℕ) → ((k : ℕ) → k < length ls → f (variable (get_or ls k 0)) ≡ h (variable (get_or ls k 0))) → map (with_var f) ls ≡ map (with_var h) ls
 mapped_same f h [] same = refl
@@ -314,7 +311,3 @@ pub front_kept : (xs zs : List ℕ) (count m x : ℕ) → length xs ≤ count �
 front_kept xs zs count m x le e v lt = ap (λ ws. get_or ws v 0) e ∙ ap (λ ws. get_or (ws ++ replicate m x) v 0) (take_all count xs le) ∙ get_or_append_left xs (replicate m x) 0 v lt
 
 -- THE COUNT
-
-pub all_more : (gs : List Given) (m n : ℕ) → m ≤ n → AllByRecursion (λ g. g.solver < m) gs → AllByRecursion (λ g. g.solver < n) gs
-all_more [] m n le h = tt
-all_more (g ∷ gs) m n le h = (omega (arith, h.0), all_more gs m n le h.1)

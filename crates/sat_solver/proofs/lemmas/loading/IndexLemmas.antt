@@ -86,30 +86,6 @@ module _ (p m p' : Parts) (g : Given) (bottom : p.trail.starts ≡ []) (vacant :
   same_state : state m ≡ state p
   same_state = rw (same.1.0, same.1.1, same.1.2) refl
 
-  -- one without a unit
-  pub takes_used : g.unit ≡ None → SameClauses m p' × SameState m p' → p'.vsids ≡ with_available g.solver true m.vsids → TakesIndices (g ∷ []) p p'
-  takes_used none later queue =
-      let same_last : state p' ≡ state p = (rw (later.1.0, later.1.1, later.1.2) refl) ∙ same_state in
-      let values : p'.assignment ≡ p.assignment = later.1.0 ∙ same.1.0 in
-      record {
-        holds = holds;
-        bottom = ap (λ t. t.starts) (later.1.2 ∙ same.1.2) ∙ bottom;
-        same = (later.0.0 ∙ same.0.0, later.0.1 ∙ same.0.1, later.0.2 ∙ same.0.2);
-        size = ap (λ a. length a.current) values;
-        values = λ v out. ap (λ a. value_of a.current v) values;
-        picks = λ v out. ap (λ q. may_pick q v) queue ∙ get_or-set_other m.vsids.available g.solver v true false (λ e. out (inl (sym e))) ∙ may_before v;
-        ready = λ v h n. elim h [
-          | inl e ↦ subst (λ u. may_pick p'.vsids u ≡ true) e (ap (λ q. may_pick q g.solver) queue ∙ get_or-set_same m.vsids.available g.solver true false (omega (arith, ap (λ (xs : List Bool). length xs) picks, room, vacant.below)))
-          | inr z ↦ absurd z
-        ];
-        units = λ l u. inl (subst (λ s. IsUnitLit s l) same_last u);
-        kept = λ l t z. (subst (λ s. IsTrueLit s.values l) (sym same_last) t, subst (λ s. level s l ≡ 0) (sym same_last) z);
-        its = λ l h. elim h [ inl e ↦ absurd (none_some (is_positive l) (sym none ∙ e.1)) | inr z ↦ absurd z ];
-      }
-    where
-      none_some : (b : Bool) → None ≡ Some b → ⊥
-      none_some b e = cc
-
   -- one with a unit
   pub takes_restored : (l : ℕ) → variable l ≡ g.solver → g.unit ≡ Some (is_positive l) → SameClauses m p' → Gains l (state m) (state p') → p'.assignment ≡ made_true l m.assignment → p'.vsids ≡ m.vsids → p'.trail ≡ m.trail → TakesIndices (g ∷ []) p p'
   takes_restored l var unit clauses gains values queue trail =

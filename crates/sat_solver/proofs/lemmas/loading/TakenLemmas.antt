@@ -87,14 +87,3 @@ module _ (new : Variables) (t : Taken) (user : List ℕ) (between to : List Step
     search = search;
     named = over_named new c (session_after between) t.lits.items tidy (λ v. sym (added_names t.globals.items (session_after between) v) ∙ ap (λ ss. (session_after ss).solver_names v) (sym written) ∙ names v) shares over;
   }
-
--- a session in whose clauses, units and assumptions nothing changed, nor in its solver names
-pub keeps_alike : (s t : Session) → KeepsSearch s t → ((v : ℕ) → t.solver_names v ≡ s.solver_names v) → LooksAlike s t
-keeps_alike s t k names = record {
-  live = λ r set. ap (λ f. f r set) k.live;
-  units = λ v x b e. ap (λ f. f (coded v b)) k.units;
-  names = names;
-  unsat = k.unsat;
-  width = k.width;
-  assumed = k.assumed;
-}

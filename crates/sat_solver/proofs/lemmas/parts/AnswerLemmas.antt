@@ -7,10 +7,9 @@ use Rattle.sat_parts.specs.clause.Stored.{lit_of}
 use Rattle.sat_parts.specs.prop.Values.{value_of}
 use Rattle.sat_parts.proofs.lemmas.prop.StateLemmas.{level_low}
 use Rattle.sat_solver.specs.declared.parts.Parts.{Parts}
-use Rattle.sat_solver.specs.parts.Whole.{state, Holds, HoldsBelow, IsDone, AllAssigned, IsModelled, IsRefuted, IsUnsat}
+use Rattle.sat_solver.specs.parts.Whole.{state, Holds, HoldsBelow, IsDone, AllAssigned, IsModelled, IsRefuted}
 use Rattle.sat_solver.proofs.lemmas.parts.ValueLemmas.{open_or_true}
-use Rattle.sat_solver.proofs.lemmas.parts.LevelLemmas.{model_found, complete_now, conflict_refutes}
-use Rattle.sat_solver.proofs.lemmas.parts.AdvanceLemmas.{trail_derived, conflict_derived}
+use Rattle.sat_solver.proofs.lemmas.parts.LevelLemmas.{model_found, complete_now}
 
 pub is_modelled : (p : Parts) → Holds p → IsDone p → AllAssigned p → IsModelled p
 is_modelled p h done all = record {
@@ -23,13 +22,3 @@ is_modelled p h done all = record {
   binary = λ l k b holds.
       ((complete_now p.clauses p.db.refs p.watchlists p.binary.implied (state p) h.below.asks done).binary l k b (holds, level_low (state p) l h.below.asks.agrees holds)).0;
 }
-
-pub is_unsat : (p : Parts) (e : Conflict) → IsRefuted p e → IsUnsat p
-is_unsat p e x =
-    let h : HoldsBelow (length p.trail.starts) p = x.0 in
-    record {
-      none = λ v m. conflict_refutes p.clauses (live_refs p.clauses p.db.refs) p.binary.implied (state p) e v h.asks.agrees h.turns x.1 m;
-      derived = trail_derived p.clauses (live_refs p.clauses p.db.refs) p.binary.implied (state p) (length p.trail.lits) h.asks.clauses h.turns (omega arith);
-      conflict = e;
-      falsified = conflict_derived p.clauses (live_refs p.clauses p.db.refs) p.binary.implied (state p) e h.asks.agrees x.1;
-    }

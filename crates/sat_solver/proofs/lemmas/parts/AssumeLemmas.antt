@@ -155,11 +155,3 @@ pub among_variables : (ls : List ℕ) (place l : ℕ) → place < length ls → 
 among_variables ls place l lt is =
     let size : length (map (λ m. variable m) ls) ≡ length ls = length-map ls (λ m. variable m) in
     subst (λ v. Contains (variables ls) v) (get_or-map (λ m. variable m) ls place 0 0 lt ∙ ap (λ m. variable m) is) (place_in (variables ls) place (omega arith))
-
--- where no level begins or ends: propagation, and a clause that is learned
-pub placed_stays : (ls below : List ℕ) (place : ℕ) (s s' : State) → IsPlaced ls below place s → KeepsTo (length s.trail.starts) s s' → length s'.trail.starts ≡ length s.trail.starts → IsPlaced ls below place s'
-placed_stays ls below place s s' x k same = placed_kept ls below place (length s.trail.starts) s s' x k x.levels (omega (arith, x.levels)) (λ lt. x.all (omega arith))
-
--- where a level begins once all assumptions are true
-pub placed_decided : (ls below : List ℕ) (place : ℕ) (s s' : State) → IsPlaced ls below place s → place ≡ length ls → KeepsTo (length s.trail.starts) s s' → length s.trail.starts ≤ length s'.trail.starts → IsPlaced ls below place s'
-placed_decided ls below place s s' x all k deep = placed_kept ls below place (length s.trail.starts) s s' x k x.levels (omega (arith, x.levels)) (λ lt. all)

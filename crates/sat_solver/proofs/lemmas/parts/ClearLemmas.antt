@@ -321,10 +321,6 @@ sound_again words db w b a g t q l h e x =
       base = record { above = λ some. absurd (omega arith); bottom = h.base.bottom };
     }
 
--- at level 0 a literal that isn't that of a removed unit hasn't left the queue
-pub not_left : (s : State) (l : ℕ) → s.trail.head ≡ 0 → ((node s l).depth ≡ 4294967295 → ⊥) → HasLeft s l → ⊥
-not_left s l h n left = elim left [ inl x ↦ omega (arith, x.before) | inr x ↦ n x.depth ]
-
 pub again_values : (s : State) (l v : ℕ) → IsRemoved s l → value_of (enqueued l NoCause (dropped l s)).values v ≡ value_of s.values v
 again_values s l v x =
     let below : variable l < length s.values = below_from_value s.values (variable l) _ x.holds in

@@ -30,17 +30,6 @@ keeps_trans top a b c x y = record {
   begun = λ j lt b. (let p = x.begun j lt b in let q = y.begun j lt p.0 in (q.0, q.1 ∙ p.1));
 }
 
--- up to a lower level
-pub keeps_lower : (top low : ℕ) (a b : State) → low ≤ top → KeepsTo top a b → KeepsTo low a b
-keeps_lower top low a b le x = record { low = λ l t c. x.low l t (omega arith); begun = λ j lt c. x.begun j (omega arith) c }
-
--- literals of level 0 stay
-pub keeps_carries : (a b : State) → Carries a b → KeepsTo 0 a b
-keeps_carries a b x = record {
-  low = λ l t le. (let p = x.bottom l t (omega arith) in (p.0, omega (arith, p.1)));
-  begun = λ j lt c. absurd (omega arith);
-}
-
 -- open literals become true behind the others
 pub keeps_grown : (top : ℕ) (a b : State) → Grows a b → IsLevelled a → KeepsTo top a b
 keeps_grown top a b g x = record {
@@ -50,15 +39,6 @@ keeps_grown top a b g x = record {
 
 pub keeps_enqueued : (top : ℕ) (s : State) (l : ℕ) (r : Reason) → Agrees s → IsLevelled s → IsOpenLit s.values l → variable l < length s.values → KeepsTo top s (enqueued l r s)
 keeps_enqueued top s l r a x free below = keeps_grown top s (enqueued l r s) (grows_enqueued s l r a free below (room_for s l r a free below)) x
-
--- a level begins
-pub keeps_level : (top : ℕ) (s : State) → KeepsTo top s (record s { trail = with_level s.trail })
-keeps_level top s =
-    let size : length (s.trail.starts ++ length s.trail.lits ∷ []) ≡ length s.trail.starts + 1 = length_push s.trail.starts (length s.trail.lits) in
-    record {
-      low = λ l t le. (t, refl);
-      begun = λ j lt c. (omega arith, ap (λ i. lit_at s i) (get_or_append_left s.trail.starts (length s.trail.lits ∷ []) 0 j c));
-    }
 
 -- a level begins with an open literal
 pub keeps_decided : (top : ℕ) (s : State) (l : ℕ) → Agrees (record s { trail = with_level s.trail }) → IsLevelled s → IsOpenLit s.values l → variable l < length s.values → KeepsTo top s (decided_on l s)
@@ -87,22 +67,3 @@ keeps_undone v a g t h x lt =
             ∙ k.places (get_or t.starts j 0) (let e : length (take (get_or t.starts v 0) t.lits) ≡ get_or t.starts v 0 = length-take-le (get_or t.starts v 0) t.lits (omega (arith, x.begun v lt)) in omega (arith, x.strict j v b lt)),
       );
     }
-
--- units are taken off the trail
-pub keeps_clears : (a b : State) → Clears a b → KeepsTo 0 a b
-keeps_clears a b x = record {
-  low = λ l t le. (let p = x.bottom l t (omega arith) in (p.0, omega (arith, p.1)));
-  begun = λ j lt c. absurd (omega arith);
-}
-
-learnt_keeps : (top : ℕ) (p p' : Parts) (l : ℕ) (r : Reason) → Holds p → IsOpenLit p.assignment.current l → variable l < length p.assignment.current → state p' ≡ enqueued l r (state p) → KeepsTo top (state p) (state p') × (p'.trail.starts ≡ p.trail.starts)
-learnt_keeps top p p' l r h free below is = (
-  subst (λ (z : State). KeepsTo top (state p) z) (sym is) (keeps_enqueued top (state p) l r h.below.asks.agrees h.below.levelled free below),
-  ap (λ (z : State). z.trail.starts) is,
-)
-
--- a clause is learned
-pub keeps_learnt : (top : ℕ) (p p' : Parts) (header : Header) (ls : List ℕ) → Holds p → IsPending (state p) p.vsids ls → Learnt p p' header ls → KeepsTo top (state p) (state p') × (p'.trail.starts ≡ p.trail.starts)
-keeps_learnt top p p' header ls h x (learnt_unit size same r unit is) = learnt_keeps top p p' (get_or ls 0 0) r h x.open_first x.there is
-keeps_learnt top p p' header ls h x (learnt_binary size words db binary r unit is) = learnt_keeps top p p' (get_or ls 0 0) r h x.open_first x.there is
-keeps_learnt top p p' header ls h x (learnt_long size o added binary r unit is) = learnt_keeps top p p' (get_or ls 0 0) r h x.open_first x.there is

@@ -23,18 +23,6 @@ use Rattle.sat_parts.proofs.lemmas.prop.StateLemmas.{level_low, true_from_false}
 use Rattle.sat_parts.proofs.lemmas.prop.ImpliedLemmas.{assigned_is_implied}
 use Rattle.sat_solver.specs.parts.Levels.{IsTrueAt, IsCompleteAt}
 
--- what is true at a level below the current one has left the queue
-pub left_below : (s : State) (j l : ℕ) → Agrees s → ((i : ℕ) → s.trail.head ≤ i → i < length s.trail.lits → level s (lit_at s i) ≡ current_level s) → j < current_level s → IsTrueAt s j l → HasLeft s l
-left_below s j l h queue low x = elim (h.known l x.0) [
-  | inl y ↦ elim (cases_lt y.place s.trail.head) [
-    | inl lt ↦ inl (record { place = y.place; before = lt; within = y.within; there = y.there })
-    | inr le ↦
-        let e : level s (lit_at s y.place) ≡ level s l = ap (λ m. level s m) y.there in
-        absurd (omega (arith, queue y.place le y.within, x.1))
-  ]
-  | inr y ↦ inr y
-]
-
 -- with nothing in the queue all that is true has left it
 pub left_all : (s : State) (l : ℕ) → Agrees s → s.trail.head ≡ length s.trail.lits → IsTrueLit s.values l → HasLeft s l
 left_all s l h done x = elim (h.known l x) [
@@ -58,11 +46,6 @@ complete_where words refs w implied s top j h below left = record {
       let x = h.binary l k (left l f) (omega (arith, f.1)) b in
       (x.0, omega (arith, x.1, f.1));
 }
-
--- (a) at each level below the current one
-pub complete_below : (words refs : List ℕ) (w : Watching) (implied : List (List ℕ)) (s : State) (top j : ℕ) → Asks words refs w implied s top → j < top → j < current_level s →
-    IsCompleteAt words (live_refs words refs) implied s j
-complete_below words refs w implied s top j h below low = complete_where words refs w implied s top j h below (λ l x. left_below s j l h.agrees h.queue low x)
 
 -- at the current level, with nothing in the queue
 pub complete_now : (words refs : List ℕ) (w : Watching) (implied : List (List ℕ)) (s : State) → AsksAll words refs w implied s → s.trail.head ≡ length s.trail.lits →
@@ -105,18 +88,3 @@ model_found words refs w implied s o h done c all =
           (t, level_low s (negated (lit_of words o k)) h.agrees t)) in
           (x.0, (x.1.0, x.1.1.0))
     ]
-
-both_signs : (v : ℕ → Bool) (l : ℕ) → literal_true v l ≡ true → literal_true v (negated l) ≡ true → ⊥
-both_signs v l a b = grind (arith, nat_tests)
-
--- (c) a conflict, where each literal of the trail follows: no valuation satisfies all
-pub conflict_refutes : (words live : List ℕ) (implied : List (List ℕ)) (s : State) (e : Conflict) (v : ℕ → Bool) → Agrees s → AreInTurn words live implied s 0 → IsConflict words live implied s.values e →
-    IsModelOf words live implied s v → ⊥
-conflict_refutes words live implied s (Binary ls) v h turns x m =
-    let holds : (l : ℕ) → IsFalseLit s.values l → literal_true v (negated l) ≡ true = λ l f. assigned_is_implied words live implied s v h turns m (negated l) (true_from_false s.values l f) in
-    let l : ℕ = negated (get_or ls 1 0) in
-    let at : get_or (implied_by implied l) x.0.0 0 ≡ get_or ls 0 0 = at_place (implied_by implied l) (get_or ls 0 0) x.0 in
-    both_signs v (get_or ls 0 0) (subst (λ z. literal_true v z ≡ true) at (m.binary l x.0.0 x.0.1 (holds (get_or ls 1 0) x.2))) (holds (get_or ls 0 0) x.1)
-conflict_refutes words live implied s (Long o) v h turns x m =
-    let w = m.long o x.0 in
-    both_signs v (lit_of words o w.0) w.1.1 (assigned_is_implied words live implied s v h turns m (negated (lit_of words o w.0)) (true_from_false s.values (lit_of words o w.0) (x.1 w.0 w.1.0)))

@@ -11,20 +11,6 @@ use Rattle.sat_solver.specs.parts.Round.{IsUnused}
 use Rattle.sat_solver.specs.parts.Using.{Marks, IsAmong, HasVar, InLong, InBinary}
 use Rattle.sat_solver.proofs.lemmas.parts.ReduceLemmas.{filter_in, in_filter}
 
-pub marks_set : (xs : List Bool) (v : ℕ) → v < length xs → Marks xs (set xs v true) (λ u. v ≡ u)
-marks_set xs v lt = record {
-  size = length-set xs v true;
-  kept = λ u t. elim (cases_eq u v) [
-    | inl e ↦ ap (λ k. get_or (set xs v true) k false) e ∙ get_or-set_same xs v true false lt
-    | inr n ↦ get_or-set_other xs v u true false n ∙ t
-  ];
-  all = λ u e. ap (λ k. get_or (set xs v true) k false) (sym e) ∙ get_or-set_same xs v true false lt;
-  only = λ u t. elim (cases_eq u v) [ inl e ↦ inr (sym e) | inr n ↦ inl (sym (get_or-set_other xs v u true false n) ∙ t) ];
-}
-
-pub marks_none : (xs : List Bool) (P : ℕ → Type 0) → ((v : ℕ) → P v → ⊥) → Marks xs xs P
-marks_none xs P n = record { size = refl; kept = λ v t. t; all = λ v p. absurd (n v p); only = λ v t. inl t }
-
 pub marks_more : (a b c : List Bool) (P Q R : ℕ → Type 0) → Marks a b P → Marks b c Q → ((v : ℕ) → P v → R v) → ((v : ℕ) → Q v → R v) → ((v : ℕ) → R v → P v ⊎ Q v) → Marks a c R
 marks_more a b c P Q R x y p q r = record {
   size = y.size ∙ x.size;
@@ -35,13 +21,6 @@ marks_more a b c P Q R x y p q r = record {
 
 pub marks_same : (a b : List Bool) (P R : ℕ → Type 0) → Marks a b P → ((v : ℕ) → P v → R v) → ((v : ℕ) → R v → P v) → Marks a b R
 marks_same a b P R x p r = record { size = x.size; kept = x.kept; all = λ v z. x.all v (r v z); only = λ v t. elim (x.only v t) [ inl u ↦ inl u | inr u ↦ inr (p v u) ] }
-
--- one literal more
-pub among_more : (a b c : List Bool) (ls : List ℕ) (n l : ℕ) → Marks a b (IsAmong ls n) → get_or ls n 0 ≡ l → Marks b c (λ v. variable l ≡ v) → Marks a c (IsAmong ls (n + 1))
-among_more a b c ls n l x e y = marks_more a b c (IsAmong ls n) (λ v. variable l ≡ v) (IsAmong ls (n + 1)) x y
-    (λ v z. (z.0, (omega (arith, z.1.0), z.1.1)))
-    (λ v z. (n, (omega arith, ap (λ m. variable m) e ∙ z)))
-    (λ v z. elim (cases_lt z.0 n) [ inl lt ↦ inl (z.0, (lt, z.1.1)) | inr ge ↦ inr (ap (λ m. variable m) (sym e) ∙ ap (λ k. variable (get_or ls k 0)) (let q : n ≡ z.0 = omega (arith, z.1.0) in q) ∙ z.1.1) ])
 
 -- one clause more, which is live or isn't
 pub long_more : (a b c : List Bool) (words refs : List ℕ) (n o : ℕ) → Marks a b (InLong words refs n) → get_or refs n 0 ≡ o → is_live words o ≡ true → Marks b c (HasVar words o (size_of words o)) → Marks a c (InLong words refs (n + 1))
@@ -59,27 +38,6 @@ long_skip a b words refs n o x e dead = marks_same a b (InLong words refs n) (In
     (λ v z. elim (cases_lt z.0 n) [
       | inl lt ↦ (z.0, (lt, z.1.1, z.1.2))
       | inr ge ↦ absurd (true≢false (sym z.1.1 ∙ ap (λ k. is_live words (get_or refs k 0)) (let q : z.0 ≡ n = omega (arith, z.1.0) in q) ∙ ap (λ p. is_live words p) e ∙ dead))
-    ])
-
--- one literal more, which implies something or nothing
-pub binary_more : (a b m c : List Bool) (implied : List (List ℕ)) (n : ℕ) → Marks a b (InBinary implied n) → 0 < length (implied_by implied n) → Marks b m (λ v. variable n ≡ v) → Marks m c (IsAmong (implied_by implied n) (length (implied_by implied n))) → Marks a c (InBinary implied (n + 1))
-binary_more a b m c implied n x some y z =
-    let both : Marks b c (λ v. (variable n ≡ v) ⊎ IsAmong (implied_by implied n) (length (implied_by implied n)) v) =
-    marks_more b m c (λ v. variable n ≡ v) (IsAmong (implied_by implied n) (length (implied_by implied n))) (λ v. (variable n ≡ v) ⊎ IsAmong (implied_by implied n) (length (implied_by implied n)) v) y z (λ v p. inl p) (λ v p. inr p) (λ v p. p) in
-    marks_more a b c (InBinary implied n) (λ v. (variable n ≡ v) ⊎ IsAmong (implied_by implied n) (length (implied_by implied n)) v) (InBinary implied (n + 1)) x both
-    (λ v p. (p.0, (omega (arith, p.1.0), p.1.1, p.1.2)))
-    (λ v p. (n, (omega arith, some, p)))
-    (λ v p. elim (cases_lt p.0 n) [
-      | inl lt ↦ inl (p.0, (lt, p.1.1, p.1.2))
-      | inr ge ↦ inr (subst (λ l. (variable l ≡ v) ⊎ IsAmong (implied_by implied l) (length (implied_by implied l)) v) (let q : p.0 ≡ n = omega (arith, p.1.0) in q) p.1.2)
-    ])
-
-pub binary_skip : (a b : List Bool) (implied : List (List ℕ)) (n : ℕ) → Marks a b (InBinary implied n) → length (implied_by implied n) ≡ 0 → Marks a b (InBinary implied (n + 1))
-binary_skip a b implied n x none = marks_same a b (InBinary implied n) (InBinary implied (n + 1)) x
-    (λ v p. (p.0, (omega (arith, p.1.0), p.1.1, p.1.2)))
-    (λ v p. elim (cases_lt p.0 n) [
-      | inl lt ↦ (p.0, (lt, p.1.1, p.1.2))
-      | inr ge ↦ absurd (let some : 0 < length (implied_by implied n) = subst (λ l. 0 < length (implied_by implied l)) (let q : p.0 ≡ n = omega (arith, p.1.0) in q) p.1.1 in omega arith)
     ])
 
 -- what isn't marked is in no clause, and the other way round

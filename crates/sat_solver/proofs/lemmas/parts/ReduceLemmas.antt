@@ -112,7 +112,3 @@ rising_ranks words list pairs p rising i j d le lt =
     is_ranked words list (get_or pairs k (0, d)) (Contains-permutation pairs (map (ranked words) list) (get_or pairs k (0, d)) (IsPermutation-sym (map (ranked words) list) pairs p) (there_pair pairs k (0, d) b))
     ∙ ap (λ o. rank words o) (sym (get_or-map (λ (x : ℕ × ℕ). x.1) pairs k (0, d) d b)) in
     omega (arith, at i (omega arith), at j (omega arith), rising i j (0, d) le (omega arith))
-
-pub map_more : {X Y : Type 0} (f : X → Y) (xs : List X) (i : ℕ) (x : X) (ys : List Y) → ys ≡ map f (take i xs) → i < length xs → get_or xs i x ≡ x → ys ++ f x ∷ [] ≡ map f (take (i + 1) xs)
-map_more f xs i x ys e lt is =
-    ap (λ (zs : List _). zs ++ f x ∷ []) e ∙ sym (ap (λ zs. map f zs) (take_more xs i x lt ∙ ap (λ z. take i xs ++ z ∷ []) is) ∙ map-append f (take i xs) (x ∷ []))

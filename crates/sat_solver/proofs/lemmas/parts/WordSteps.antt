@@ -458,9 +458,6 @@ rises_after am p q r x y = (
       (b.0, (b.1.0, below_front w a.1.1.0 b.0 (subst (λ (u : List Letter). IsBelow u b.0) a.1.1.1 b.1.1))),
 )
 
-pub rises_from : (p q r : Parts) → Extends p q → Rises q r → Rises p r
-rises_from p q r x y am = rises_after am p q r (x am) (y am)
-
 -- fewer variables may be picked
 pub extends_fewer : (am : List ℕ) → (s : State) (q q' : Queue) → ((u : ℕ) → may_pick q u ≡ false → may_pick q' u ≡ false) → WordExtends am s q s q'
 extends_fewer am s q q' less =
@@ -517,10 +514,6 @@ pub rises_taken : (p u n : Parts) (l top : ℕ) → Stay p u → Stay u n → u.
 rises_taken p u n l top undone stay cut last levelled lt am =
     rises_learned am (state p) p.vsids (state n) n.vsids l top (goes_trans am (state p) p.vsids (state u) u.vsids (state n) n.vsids (undone am) (stay am)) levelled lt
     (last ∙ ap (λ (t : Trailed). with_lit l t) cut)
-
--- some word, where only what is gone is known to stay
-pub word_some : (am : List ℕ) → (s : State) (q : Queue) (s' : State) (q' : Queue) → GoesOn am s q s' q' → (w : List Letter) → IsWord am s q w → (v : List Letter) × IsWord am s' q' v
-word_some am s q s' q' stay w x = (replicate (length x.gone) P ++ standing s'.trail, record { gone = x.gone; distinct = x.distinct; each = λ k b. stay.gone (get_or x.gone k 0) (x.each k b); is = refl })
 
 -- a variable that isn't assumed is given up
 pub gone_freed : (am : List ℕ) (a : Values) (g : List ImplNode) (t : Trailed) (q : Queue) (u : ℕ) → u < length q.available → length q.available ≡ length a.current → (Contains am u → ⊥) →

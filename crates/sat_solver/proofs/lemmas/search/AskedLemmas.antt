@@ -94,10 +94,6 @@ all (step ∷ steps) earlier h = kept_trans (session_after earlier) (session_aft
 pub asked_after : (steps earlier : List Step) → AllByRecursion (λ step. is_searched step ≡ true) steps → (session_after (steps ++ earlier)).assumed ≡ (session_after earlier).assumed
 asked_after steps earlier h = (all steps earlier h).asked
 
--- each variable has the mode that it had
-pub modes_after : (steps earlier : List Step) → AllByRecursion (λ step. is_searched step ≡ true) steps → (v : ℕ) → ((session_after (steps ++ earlier)).variables v).mode ≡ ((session_after earlier).variables v).mode
-modes_after steps earlier h = (all steps earlier h).modes
-
 -- the solver names are the same
 pub names_after : (steps earlier : List Step) (names : ℕ → Option ℕ) → AreSearched names steps → (session_after (steps ++ earlier)).solver_names ≡ (session_after earlier).solver_names
 names_after steps earlier names h = (all steps earlier (kinds_of names steps h)).names

@@ -69,11 +69,6 @@ module _ {W L : Type 0} {G : Ghosts L} (seen : W → Writer) where
   pub goes_starved : {A full : Type 0} (p : Proof W L G) (P : A → List Step → Type 0) → Keeps p → GoesOr full seen (Err errors.OutOfMemory) p p P
   goes_starved p P keeps = record { steps = []; went = adds_none seen p; searched = tt; keeps = keeps; ends = tt }
 
-  -- the clause buffer refused before anything was written
-  pub goes_unstored : {A full : Type 0} (s : StoreError) (p : Proof W L G) (P : A → List Step → Type 0) → Keeps p → (s ≡ stores.StoreFull → full) → GoesOr full seen (Err (failure_of s)) p p P
-  goes_unstored stores.StoreFull p P keeps f = record { steps = []; went = adds_none seen p; searched = tt; keeps = keeps; ends = f refl }
-  goes_unstored stores.OutOfMemory p P keeps f = record { steps = []; went = adds_none seen p; searched = tt; keeps = keeps; ends = tt }
-
   -- the checker failed
   pub went_checked : (A : Type 0) (fault : CheckFault) (steps : List Step) (p q : Proof W L G) → FailsCheck seen fault steps p q → Went {A = A} seen (Err (check_fault_of fault)) steps p q
   went_checked A checks.OutOfMemory steps p q h = h.adds
@@ -177,7 +172,3 @@ module _ {W L : Type 0} {G : Ghosts L} (seen : W → Writer) where
   -- it failed, and the fault is passed on
   pub goes_failing : {A B full : Type 0} (e : SolverError) (a b : Proof W L G) (P : A → List Step → Type 0) (Q : B → List Step → Type 0) → GoesOr full seen (Err e) a b P → GoesOr full seen (Err e) a b Q
   goes_failing {A = A} {B = B} e a b P Q h = record { steps = h.steps; went = went_failing A B e h.steps a b h.went; searched = h.searched; keeps = h.keeps; ends = h.ends }
-
-  -- no memory is left, or no room for a clause, behind a call that went well
-  pub goes_short : {A B : Type 0} (x : A) (e : SolverError) (a b : Proof W L G) (P : A → List Step → Type 0) (Q : B → List Step → Type 0) → ((steps : List Step) → Adds seen steps a b → Went {A = B} seen (Err e) steps a b) → IsFault e → Goes seen (Ok x) a b P → Goes seen (Err e) a b Q
-  goes_short x e a b P Q w f h = record { steps = h.steps; went = w h.steps h.went; searched = h.searched; keeps = h.keeps; ends = f }

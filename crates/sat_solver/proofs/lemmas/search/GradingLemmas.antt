@@ -16,15 +16,6 @@ use Rattle.sat_solver.specs.parts.Whole.{Holds}
 use Rattle.sat_solver.proofs.lemmas.parts.WordSteps.{extends_refl, extends_trans}
 use Rattle.sat_solver.specs.search.Grading.{tier_for, with_glue, improved, levels_in, TakesPart, Decays, TakePart, Rates, AreInvolved}
 
--- each tier by a glue is that of a learned clause
-pub tier_learned : (glue : ℕ) → is_learned (tier_for glue) ≡ true
-tier_learned glue = both (nat_le glue 2) (nat_le glue 6)
-  where
-    both : (a b : Bool) → is_learned (cond a Core (cond b Mid Local)) ≡ true
-    both true b = refl
-    both false true = refl
-    both false false = refl
-
 -- the header of a clause was put twice
 pub puts_twice : (a b c refs : List ℕ) (o : ℕ) (h k : Header) → PutsHeader a b refs o h → PutsHeader b c refs o k → PutsHeader a c refs o k
 puts_twice a b c refs o h k x y = record {
@@ -92,16 +83,6 @@ takes_next levels refs os i o words mid words' s t s' lt at one rest =
     subst (λ ps. TakePart levels refs ps words s words' s') (sym (drop_more os i 0 lt ∙ ap (λ z. z ∷ drop (i + 1) os) (sym at))) (mid, t, one, rest)
 
 -- HEADERS
-
-and_false : (b : Bool) → (b && false) ≡ false
-and_false true = refl
-and_false false = refl
-
-pub improved_plain : (levels : ℕ) (h : Header) → is_learned h.tier ≡ false → improved levels h ≡ record h { active = true }
-improved_plain levels h e = ap (λ b. cond (b && nat_lt levels h.glue) (with_glue levels (record h { active = true })) (record h { active = true })) e
-
-pub improved_larger : (levels : ℕ) (h : Header) → h.glue ≤ levels → improved levels h ≡ record h { active = true }
-improved_larger levels h le = ap (λ b. cond b (with_glue levels (record h { active = true })) (record h { active = true })) (ap (λ b. is_learned h.tier && b) (le-ltb levels h.glue le) ∙ and_false (is_learned h.tier))
 
 pub improved_fewer : (levels : ℕ) (h : Header) → is_learned h.tier ≡ true → levels < h.glue → improved levels h ≡ with_glue levels (record h { active = true })
 improved_fewer levels h e lt = ap (λ b. cond b (with_glue levels (record h { active = true })) (record h { active = true })) (ap (λ b. is_learned h.tier && b) (lt-ltb levels h.glue lt) ∙ ap (λ b. b && true) e)

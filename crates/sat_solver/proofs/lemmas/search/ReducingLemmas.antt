@@ -37,10 +37,6 @@ same_state p p' x = rw (x.0, x.1, x.2) refl
 
 -- LISTS
 
--- the literals of a live clause have proof variables
-pub clause_named : (p : Parts) (o count : ℕ) → Holds p → Contains (live_refs p.clauses p.db.refs) o → length p.assignment.current ≤ count → (k : ℕ) → k < length (lits_at p.clauses o) → variable (get_or (lits_at p.clauses o) k 0) < count
-clause_named p o count h live le k lt = (let b : lit_of p.clauses o k < 2 * length p.assignment.current = h.below.asks.clauses.below o k live lt in omega (arith, b))
-
 pub clause_stands : (p : Parts) (o : ℕ) → Holds p → Contains (live_refs p.clauses p.db.refs) o → IsClause p.clauses o
 clause_stands p o h live = h.below.asks.clauses.laid.clauses o live
 

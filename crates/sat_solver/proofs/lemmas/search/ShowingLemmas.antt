@@ -25,7 +25,7 @@ use Rattle.sat_solver.specs.declared.error.SolverError.TheVariants as errors
 use Rattle.sat_solver.specs.declared.search.work.Search.{Search}
 use Rattle.sat_solver.specs.search.Going.{fault_of}
 use Rattle.sat_solver.specs.search.Joint.{global_in, IsSearch, Moved, assumed_in}
-use Rattle.sat_solver.specs.search.Showing.{literal_of, true_lits, TellsModel}
+use Rattle.sat_solver.specs.search.Showing.{literal_of, true_lits}
 use Rattle.sat_solver.specs.search.Turns.{IsComplete}
 use Rattle.sat_solver.proofs.lemmas.search.TurnLemmas.{ready_moved, free_moved, ready_names}
 use Rattle.sat_solver.specs.parts.Whole.{state}
@@ -43,20 +43,6 @@ coded_sign v false = (let e : (2 * v + 1) % 2 ≡ 1 = omega arith in ap (λ r. e
 coded_back : (v l : ℕ) (b : Bool) → variable l ≡ v → b ≡ is_positive l → coded v b ≡ l
 coded_back v l b e f =
     ap (λ w. coded w b) (sym e) ∙ ap (λ c. coded (variable l) c) f ∙ coded_by (λ w. w) l ∙ (let z : 2 * (l / 2) + l % 2 ≡ l = omega arith in z)
-
--- the literal in proof variables
-pub named_literal : (global : ℕ → ℕ) (v g : ℕ) (b : Bool) → g ≡ global v → coded g b ≡ with_var global (coded v b)
-named_literal global v g b e =
-    ap (λ x. coded x b) (e ∙ ap global (sym (coded_variable v b))) ∙ ap (λ c. coded (global (variable (coded v b))) c) (sym (coded_sign v b)) ∙ coded_by global (coded v b)
-
--- the list that is written grows by the next variable's literal
-pub lits_next : (f : ℕ → ℕ) (values : List (Option Bool)) (i : ℕ) (items next : List ℕ) → i < length values → next ≡ items ++ map f (literal_of i (get_or values i None)) →
-    next ++ map f (true_lits (i + 1) (drop (i + 1) values)) ≡ items ++ map f (true_lits i (drop i values))
-lits_next f values i items next lt e =
-    ap (λ xs. xs ++ map f (true_lits (i + 1) (drop (i + 1) values))) e
-    ∙ append_assoc items (map f (literal_of i (get_or values i None))) (map f (true_lits (i + 1) (drop (i + 1) values)))
-    ∙ ap (λ xs. items ++ xs) (sym (map-append f (literal_of i (get_or values i None)) (true_lits (i + 1) (drop (i + 1) values))))
-    ∙ ap (λ xs. items ++ map f (true_lits i xs)) (sym (drop_more values i None lt))
 
 further : (v l : ℕ) (x : Option Bool) (xs : List (Option Bool)) → v + 1 ≤ variable l → get_or (x ∷ xs) (variable l - v) None ≡ get_or xs (variable l - (v + 1)) None
 further v l x xs le = (let e : variable l - v ≡ suc (variable l - (v + 1)) = omega arith in ap (λ k. get_or (x ∷ xs) k None) e)
@@ -123,39 +109,3 @@ pub complete_may : (s : Session) (c : Search) → IsSearch s c → IsComplete c.
 complete_may s c search complete =
     model_may c.parts s (global_in c) (true_lits 0 c.parts.assignment.current) search.stands.fits (ready_names s c search.ready) search.stands.holds (are_true_lits c.parts.assignment.current) complete.all
     (is_modelled c.parts search.stands.holds complete.done complete.all)
-
-module _ {W L : Type 0} {G : Ghosts L} (seen : W → Writer) (a b : Proof W L G) (c c' : Search) where
-  -- no memory was left before anything was written
-  pub model_starved : Keeps a → TellsModel seen (Err errors.OutOfMemory) a a c c'
-  model_starved keeps = record { steps = []; went = adds_none seen a; model = tt; keeps = keeps; ends = tt }
-
-  -- the target failed
-  pub model_broken : (e : ProofError) (ls : List ℕ) → Keeps b → Records {T = Unit {0}} seen (Err e) (Model ls ∷ []) a b → TellsModel seen (Err (fault_of e)) a b c c'
-  model_broken (Write cause) ls keeps fails = record { steps = Model ls ∷ []; went = fails; model = (refl, tt); keeps = keeps; ends = tt }
-  model_broken OutOfMemory ls keeps adds = record { steps = []; went = adds; model = tt; keeps = keeps; ends = tt }
-  model_broken (Check fault) ls keeps fails = record { steps = Model ls ∷ []; went = went_checked seen (Unit {0}) fault (Model ls ∷ []) a b fails; model = (refl, tt); keeps = keeps; ends = fault_checked _ fault }
-
-  -- what is told stands
-  pub model_told : Keeps b → (ls : List ℕ) → ls ≡ map (with_var (global_in c)) (true_lits 0 c.parts.assignment.current) → Adds seen (Model ls ∷ []) a b → IsSearch (session_of a) c →
-      c'.parts ≡ c.parts → c'.globals ≡ c.globals → c'.assumptions ≡ c.assumptions → c'.analysis ≡ c.analysis → c'.flags ≡ c.flags → TellsModel seen (Ok tt) a b c c'
-  model_told keeps ls ls_are adds search parts globals assumptions analysis flags = record {
-    steps = Model ls ∷ [];
-    went = adds;
-    model = (refl, tt);
-    keeps = keeps;
-    ends = record {
-      is = ap (λ xs. Model xs ∷ []) ls_are;
-      search = record {
-        stands = record {
-          holds = rw parts search.stands.holds;
-          fits = rw (parts, globals, adds.history) (parts_rests c.parts (session_of a) (global_in c) search.stands.fits (Model ls) tt);
-        };
-        ready = ready_moved (session_of a) (session_of b) c c' search.ready (rw adds.history (record { assumed = refl; names = λ v. refl })) moved (rw parts (goes_refl (assumed_in c) (state c.parts) c.parts.vsids)) (rw (parts, assumptions) search.ready.placed) (free_moved c c' search.ready.free moved analysis flags);
-      };
-      moved = moved;
-      same = parts;
-    };
-  }
-    where
-      moved : Moved c c'
-      moved = record { globals = globals; lits = ap (λ a. a.lits) assumptions; size = ap (λ p. length p.assignment.current) parts }

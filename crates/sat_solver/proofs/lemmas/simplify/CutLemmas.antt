@@ -52,10 +52,6 @@ flag_long : (b : Bool) (n : ℕ) → 2 < n → (b && ltb 2 n) ≡ b
 flag_long true n lt = lt-ltb 2 n lt
 flag_long false n lt = refl
 
-flag_pair : (b : Bool) (n : ℕ) → n ≡ 2 → (b && ltb 2 n) ≡ false
-flag_pair true n e = le-ltb 2 n (omega arith)
-flag_pair false n e = refl
-
 -- false literals are cut off
 pub fewer_open : (c p : Parts) (o len : ℕ) → Contains (live_refs c.clauses c.db.refs) o → Gathers c p o len (size_of c.clauses o) → HasFalse c o → len < size_of c.clauses o
 fewer_open c p o len there g has =

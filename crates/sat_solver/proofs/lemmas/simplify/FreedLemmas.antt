@@ -53,10 +53,6 @@ none_some x e = cc
 pub some_same : {A : Type 0} (x y : A) → Some x ≡ Some y → x ≡ y
 some_same x y e = cc
 
-pub on_ok : {T E : Type 0} (r : Result T E) (A B C : Type 0) → (A → B → C) → OnOk r A → OnOk r B → OnOk r C
-on_ok (Ok x) A B C f a b = f a b
-on_ok (Err e) A B C f a b = tt
-
 pub on_ok_three : {T E : Type 0} (r : Result T E) (A B C D : Type 0) → (A → B → C → D) → OnOk r A → OnOk r B → OnOk r C → OnOk r D
 on_ok_three (Ok x) A B C D f a b c = f a b c
 on_ok_three (Err e) A B C D f a b c = tt
@@ -66,23 +62,6 @@ on_ok_three (Err e) A B C D f a b c = tt
 module _ (old mid : Variables) (from mids : List Step) (v x : ℕ) (stands : Stands old from) (u : Unindexes old mid from mids v x) where
   names_mid : (w : ℕ) → (session_after mids).solver_names w ≡ cond (eqb w v) None ((session_after from).solver_names w)
   names_mid w = u.does.stands.said.solver_names w ∙ u.solvers w ∙ ap (λ o. cond (eqb w v) None o) (sym (stands.said.solver_names w))
-
-  -- the index went
-  pub gives_up_one : GivesUp old mid from mids v
-  gives_up_one = record {
-    does = u.does;
-    solvers = u.solvers;
-    users = u.users;
-    used = u.used;
-    loses = record {
-      live = u.search.live;
-      units = λ w y b n e. ap (λ f. f (coded w b)) u.search.units;
-      names = names_mid;
-      unsat = u.search.unsat;
-      width = u.search.width;
-      assumed = u.search.assumed;
-    };
-  }
 
   -- and then its variable
   pub gives_up_both : (new : Variables) (to : List Step) → DoesNothing mid new mids to → IsAlike mid new mids to → new.global_from_user ≡ mid.global_from_user → GivesUp old new from to v
@@ -327,9 +306,6 @@ module _ (n : Variables) (steps : List Step) (c : Search) (may : MayFree n steps
   module _ (n1 : Variables) (put : PutsUnit n n1 v (value_of c.parts.assignment.current x)) where
     pub noted_stands : Stands n1 steps
     noted_stands = unit_stands n n1 steps v x (value_of c.parts.assignment.current x) may.stands indexed put
-
-    pub noted_has : solver_of n1 v ≡ Some x
-    noted_has = ap (λ m. target m.fwd v) put.maps.solvers ∙ indexed
 
     module _ (unused : InNoClause c.parts.clauses (live_refs c.parts.clauses c.parts.db.refs) c.parts.binary.implied x) where
       pub noted_unit : IsUnitOf n1 now v

@@ -39,17 +39,8 @@ open_from values l n m = open_value (value_of values (variable l)) (is_positive 
 some_none : (b : Bool) → Some b ≡ None → ⊥
 some_none b e = cc
 
-pub open_not_true : (values : List (Option Bool)) (l : ℕ) → IsOpenLit values l → IsTrueLit values l → ⊥
-open_not_true values l e t = some_none (is_positive l) (sym t ∙ e)
-
 pub open_not_false : (values : List (Option Bool)) (l : ℕ) → IsOpenLit values l → IsFalseLit values l → ⊥
 open_not_false values l e f = some_none (not (is_positive l)) (sym f ∙ e)
-
-variable_negated : (l : ℕ) → variable (negated l) ≡ variable l
-variable_negated l = omega arith
-
-pub open_negated : (values : List (Option Bool)) (l : ℕ) → IsOpenLit values l → IsOpenLit values (negated l)
-open_negated values l e = ap (value_of values) (variable_negated l) ∙ e
 
 -- ORDER
 
@@ -168,9 +159,6 @@ module _ (p q : Parts) (o kept at : ℕ) (g : Gathers p q o kept at) (le : kept 
 
 -- THE FIRST TWO
 
-no_step : (k : ℕ) → k ≡ k + 1 → ⊥
-no_step k e = omega arith
-
 -- what is true at level 0 with an empty trail has left the queue
 pub flat_left : (p : Parts) (l : ℕ) → Holds p → IsFlat p → IsTrueLit p.assignment.current l → HasLeft (state p) l
 flat_left p l h flat t =
@@ -187,42 +175,3 @@ module _ (p : Parts) (o : ℕ) (h : Holds p) (there : Contains (live_refs p.clau
       (λ t. none (k, (omega (arith, long_size), t)))
       (λ f. fresh_unsatisfied p.clauses p.db p.watchlists p.binary p.assignment p.graph p.trail p.vsids o h there (λ j less t. none (j, (less, t))) k lt
       (flat_left p (negated (lit_of p.clauses o k)) h flat (true_from_false p.assignment.current (lit_of p.clauses o k) f)))
-
-  pub front_fresh : ((k : ℕ) → k < 2 → IsOpenLit p.assignment.current (lit_of p.clauses o k)) → (i : ℕ) → i < 2 → HasLeft (state p) (negated (lit_of p.clauses o i)) → ⊥
-  front_fresh front i lt left =
-      open_not_true p.assignment.current (negated (lit_of p.clauses o i)) (open_negated p.assignment.current (lit_of p.clauses o i) (front i lt))
-      (left_true (state p) (negated (lit_of p.clauses o i)) h.below.asks.agrees left)
-
-  -- they may come as a clause of two literals
-  pub pair_loadable : ((k : ℕ) → k < 2 → IsOpenLit p.assignment.current (lit_of p.clauses o k)) → IsLoadable (state p) p.vsids (lit_of p.clauses o 0 ∷ lit_of p.clauses o 1 ∷ [])
-  pair_loadable front = record {
-    distinct = apart;
-    below = λ k lt. each (λ m. m < 2 * length p.assignment.current) (λ i less. h.below.asks.clauses.below o i there (omega (arith, long_size))) k lt;
-    fresh = λ k lt. each (λ m. HasLeft (state p) (negated m) → ⊥) (λ i less. front_fresh front i less) k lt;
-    ready = λ k lt. each (λ m. value_of p.assignment.current (variable m) ≡ None → may_pick p.vsids (variable m) ≡ true) (λ i less. picks i less) k lt;
-  }
-    where
-      each : (P : ℕ → Type 0) → ((i : ℕ) → i < 2 → P (lit_of p.clauses o i)) → (k : ℕ) → k < 2 → P (get_or (lit_of p.clauses o 0 ∷ lit_of p.clauses o 1 ∷ []) k 0)
-      each P f zero lt = f 0 lt
-      each P f (suc zero) lt = f 1 lt
-      each P f (suc (suc k)) lt = absurd (omega arith)
-
-      different : lit_of p.clauses o 0 ≢ lit_of p.clauses o 1
-      different e = no_step 0 (h.below.asks.clauses.distinct o there 0 1 (omega (arith, long_size)) (omega (arith, long_size)) e)
-
-      apart : AreDistinct (lit_of p.clauses o 0 ∷ lit_of p.clauses o 1 ∷ [])
-      apart zero zero a b e = refl
-      apart zero (suc zero) a b e = absurd (different e)
-      apart (suc zero) zero a b e = absurd (different (sym e))
-      apart (suc zero) (suc zero) a b e = refl
-      apart (suc (suc j)) k a b e = absurd (omega arith)
-      apart zero (suc (suc k)) a b e = absurd (omega arith)
-      apart (suc zero) (suc (suc k)) a b e = absurd (omega arith)
-
-      picks : (i : ℕ) → i < 2 → value_of p.assignment.current (variable (lit_of p.clauses o i)) ≡ None → may_pick p.vsids (variable (lit_of p.clauses o i)) ≡ true
-      picks i lt none =
-          let small : lit_of p.clauses o i < 2 * length p.assignment.current = h.below.asks.clauses.below o i there (omega (arith, long_size)) in
-          elim (h.below.ready (variable (lit_of p.clauses o i)) (omega arith) none) [
-            | inl t ↦ t
-            | inr u ↦ absurd (u.long o i there (omega (arith, long_size)) refl)
-          ]

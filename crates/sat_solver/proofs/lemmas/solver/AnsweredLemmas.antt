@@ -183,11 +183,6 @@ module _ {W L : Type 0} {G : Ghosts L} (seen : W → Writer) (n : Variables) (a 
     shares = shares_moved n a.search b.search joined.shares moved;
   }
 
-  -- the judge sees nothing of the steps of a search
-  pub nothing_at : (b : Core W L G) (steps : List Step) → Adds seen steps a.proof b.proof → AreSearched (session_of a.proof).solver_names steps → Keeps b.proof → DoesNothing n n (steps_of a.proof) (steps_of b.proof)
-  nothing_at b steps adds searched keeps =
-      subst (DoesNothing n n (steps_of a.proof)) (sym adds.history) (nothing_behind n (steps_of a.proof) steps joined.stands (subst MayAll adds.history keeps) searched)
-
   -- the step of a model, as the judge expects it
   pub does_shown : (b : Core W L G) → Shown seen n a b → (asked : List ℕ) → AllByRecursion (λ l. Among l (line_of n a)) asked →
       Does n n (steps_of a.proof) (steps_of b.proof) (λ j. j) (λ j. Shows (names_of (map named_literal (line_of n a))) (map named_literal asked) (map named_literal (line_of n a)) ∷ [])

@@ -230,24 +230,6 @@ adding_ends seen errors.Read s new user g w r x b k f = absurd x
 adding_ends seen errors.Malformed s new user g w r x b k f = absurd x
 adding_ends seen errors.OutOfRange s new user g w r x b k f = absurd x
 
--- or one over assumptions
-pub assuming_ends : {W L : Type 0} {G : Ghosts L} (seen : W → Writer) (e : SolverError) (s new : Solver W L G) (user : List ℕ) → s.failed ≡ false → AreSampled s user → HasRoom s.names (users_in user) → IsFault e → BreaksNames seen e s.core new.core → new.clock ≡ s.clock → new.failed ≡ true → Assumes seen (Err e) s new user
-assuming_ends seen errors.OutOfMemory s new user g w r x b k f = (w, r, record { going = g; failed = f; fault = x; breaks = b; clock = k })
-assuming_ends seen errors.StoreFull s new user g w r x b k f = absurd x
-assuming_ends seen (errors.ProofIoError cause) s new user g w r x b k f = (w, r, record { going = g; failed = f; fault = x; breaks = b; clock = k })
-assuming_ends seen errors.VariableLimit s new user g w r x b k f = absurd x
-assuming_ends seen errors.Interrupted s new user g w r x b k f = absurd x
-assuming_ends seen (errors.ProofProcessorError cause) s new user g w r x b k f = (w, r, record { going = g; failed = f; fault = x; breaks = b; clock = k })
-assuming_ends seen errors.WitnessVariable s new user g w r x b k f = absurd x
-assuming_ends seen errors.AssumedVariable s new user g w r x b k f = absurd x
-assuming_ends seen errors.TooLate s new user g w r x b k f = absurd x
-assuming_ends seen errors.NotInDrat s new user g w r x b k f = absurd x
-assuming_ends seen errors.CounterEnd s new user g w r x b k f = (w, r, record { going = g; failed = f; fault = x; breaks = b; clock = k })
-assuming_ends seen errors.HasFailed s new user g w r x b k f = absurd x
-assuming_ends seen errors.Read s new user g w r x b k f = absurd x
-assuming_ends seen errors.Malformed s new user g w r x b k f = absurd x
-assuming_ends seen errors.OutOfRange s new user g w r x b k f = absurd x
-
 -- CALLS
 
 -- no name of mode witness was found

@@ -115,7 +115,3 @@ module _ {W L : Type 0} {G : Ghosts L} (u : SolverConfigUpdate) (c : Core W L G)
     decays = subst AreDecays (sym (core_same st b d).1) (decays_kept u c.config range whole.decays);
     says = says st b d whole.says;
   }
-
--- what the search holds
-pub holds_unless : {W L : Type 0} {G : Ghosts L} (c : Core W L G) (n : Variables) (asked : Taken) (assumed core : List ℕ) (scale : ℕ) (st : State) → IsWholeOf c n asked assumed core scale st → (st ≡ states.Unsat → ⊥) → Holds c.search.parts
-holds_unless c n asked assumed core scale st whole apart = (goes_of st c n asked assumed core apart whole.says).joined.sound.search.stands.holds

@@ -106,10 +106,3 @@ module _ {W L : Type 0} {G : Ghosts L} (seen : W → Writer) (s : Solver W L G) 
   pub closed_whole : (o : Option W) → Closes seen (Ok o) s.core.proof p → IsWhole (record s { core = record s.core { proof = p } })
   closed_whole None c = whole_over s.core s.names s.asked s.assumed.items s.told.failed_core.items s.clock.restarts.scale s.state p whole c.history
   closed_whole (Some given) c = whole_ended s.core s.names s.asked s.assumed.items s.told.failed_core.items s.clock.restarts.scale s.state p whole c.history keeps
-
-  pub closed_broken : (e : ProofError) → Closes {W = W} seen (Err e) s.core.proof p → ClosesProof seen (Err (fault_of e)) s (record s { core = record s.core { proof = p }; failed = true })
-  closed_broken (Write cause) c = record { going = going; failed = refl; fails = c }
-  closed_broken OutOfMemory c = record { going = going; failed = refl; adds = inl c }
-  closed_broken (Check checks.OutOfMemory) c = record { going = going; failed = refl; adds = inr c }
-  closed_broken (Check checks.CounterEnd) c = record { going = going; failed = refl; fails = c }
-  closed_broken (Check (checks.Processor cause)) c = record { going = going; failed = refl; fails = c }

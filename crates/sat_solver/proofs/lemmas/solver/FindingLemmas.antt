@@ -68,10 +68,6 @@ module _ {W L : Type 0} {G : Ghosts L} (seen : W → Writer) (n m : Variables) (
       later errors.Malformed f w = absurd f
       later errors.OutOfRange f w = absurd f
 
-  -- the search failed
-  pub breaks_sought : (e : SolverError) (b : Core W L G) → Broke seen a e b → Breaks seen e a b
-  breaks_sought e b broke = record { fault = broke.fault; steps = broke.steps; went = broke.went }
-
   -- what came of telling it
   pub finds_by : (outcome : Outcome) (r : Result (Option State) SolverError) (mid b : Core W L G) (core : List ℕ) (rounds : ℕ) → Ended seen a n outcome mid m → Tells seen r outcome m mid b core → IfOk r (λ o. Finds seen o rounds n m a b core)
   finds_by outcome (Ok o) mid b core rounds e t = finds_told outcome o mid b core rounds e t

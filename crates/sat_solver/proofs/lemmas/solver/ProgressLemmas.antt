@@ -17,33 +17,6 @@ use Rattle.sat_solver.specs.parts.Whole.{Holds}
 use Rattle.sat_solver.specs.solver.Progressing.{is_open_at, clauses_of, GoesOnIn}
 use Rattle.sat_solver.specs.solver.Whole.{StateSays}
 
-some_of : (o : Option ℕ) (g : ℕ) → o ≡ Some g → is_some o ≡ true
-some_of o g e = ap is_some e
-
--- the index is that of the variable that the list has there, or no variable's
-module _ (n : Variables) (values : List (Option Bool)) (x g : ℕ) (tidy : AreTidy n) (its : get_or n.globals.items x 0 ≡ g) where
-  none_there : (solver_of n g ≡ Some x → ⊥) → is_some (global_at n x) ≡ false
-  none_there without = go (global_at n x) refl
-    where
-      go : (o : Option ℕ) → global_at n x ≡ o → is_some o ≡ false
-      go None e = refl
-      go (Some v) e = absurd (without (subst (λ k. solver_of n k ≡ Some x) (sym (tidy.globals x v e) ∙ its) (tidy.solvers.forth v x e)))
-
-  pub closed_other : (solver_of n g ≡ Some x → ⊥) → false ≡ is_open_at n values x
-  closed_other without = sym (ap (λ b. b && (ltb x (length values) && not (is_some (value_of values x)))) (none_there without))
-
-  pub closed_past : length values ≤ x → false ≡ is_open_at n values x
-  closed_past le = sym (ap (λ b. is_some (global_at n x) && (b && not (is_some (value_of values x)))) (le-ltb x (length values) le) ∙ and_none (is_some (global_at n x)))
-    where
-      and_none : (b : Bool) → (b && false) ≡ false
-      and_none true = refl
-      and_none false = refl
-
-  pub open_where : solver_of n g ≡ Some x → x < length values → not (is_some (value_of values x)) ≡ is_open_at n values x
-  open_where has lt =
-      sym (ap (λ b. b && (ltb x (length values) && not (is_some (value_of values x)))) (some_of (global_at n x) g (tidy.solvers.back g x has))
-      ∙ ap (λ b. true && (b && not (is_some (value_of values x)))) (lt-ltb x (length values) lt))
-
 -- the search goes on
 pub parts_hold : {W L : Type 0} {G : Ghosts L} (s : Solver W L G) → GoesOnIn s → Holds s.core.search.parts
 parts_hold s h = go s.state refl (h.solver h.going).says

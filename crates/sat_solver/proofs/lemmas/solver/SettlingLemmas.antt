@@ -426,21 +426,3 @@ module _ {W L : Type 0} {G : Ghosts L} (seen : W → Writer) (s new : Solver W L
     asked = asked;
     known = λ k. let h = settled.known k in record { steps = h.0.history; same = h.1 };
   }
-
--- a call failed
-pub ends_by : {W L : Type 0} {G : Ghosts L} (seen : W → Writer) (e : SolverError) (s new : Solver W L G) → Breaks seen e s.core new.core → CountsRounds s new → ((s.state ≡ states.Unknown → ⊥) → FlushFails seen e s.core.proof new.core.proof) → s.failed ≡ false → new.failed ≡ true → Solves seen (Err e) s new
-ends_by seen errors.OutOfMemory s new b k n g f = record { going = g; failed = f; breaks = b; counts = k; known = n }
-ends_by seen errors.StoreFull s new b k n g f = record { going = g; failed = f; breaks = b; counts = k; known = n }
-ends_by seen (errors.ProofIoError cause) s new b k n g f = record { going = g; failed = f; breaks = b; counts = k; known = n }
-ends_by seen errors.Interrupted s new b k n g f = absurd b.fault
-ends_by seen (errors.ProofProcessorError cause) s new b k n g f = record { going = g; failed = f; breaks = b; counts = k; known = n }
-ends_by seen errors.WitnessVariable s new b k n g f = absurd b.fault
-ends_by seen errors.AssumedVariable s new b k n g f = absurd b.fault
-ends_by seen errors.TooLate s new b k n g f = absurd b.fault
-ends_by seen errors.NotInDrat s new b k n g f = absurd b.fault
-ends_by seen errors.VariableLimit s new b k n g f = absurd b.fault
-ends_by seen errors.CounterEnd s new b k n g f = record { going = g; failed = f; breaks = b; counts = k; known = n }
-ends_by seen errors.HasFailed s new b k n g f = absurd b.fault
-ends_by seen errors.Read s new b k n g f = absurd b.fault
-ends_by seen errors.Malformed s new b k n g f = absurd b.fault
-ends_by seen errors.OutOfRange s new b k n g f = absurd b.fault

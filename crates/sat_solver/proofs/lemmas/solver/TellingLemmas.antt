@@ -125,10 +125,3 @@ module _ {W L : Type 0} {G : Ghosts L} (seen : W → Writer) (n : Variables) (a 
         stands_told {ls} {hs} e =
             let may : MayAll (FailedAssumptions ls hs ∷ steps_of a.proof) = subst MayAll e t.keeps in
             subst (Stands n) (sym e) (searches_stand n (steps_of a.proof) (FailedAssumptions ls hs) joined.stands may.1 tt)
-
-    pub core_broken : (e : SolverError) → TellsCore seen (Err e) a.proof proof a.search c' → Breaks seen e a searched
-    core_broken e t = record { fault = fault_or (IsFull c'.parts) e t.ends; steps = t.steps; went = t.went }
-
-    -- no memory was left for its names
-    pub core_unnamed : TellsCore seen (Ok tt) a.proof proof a.search c' → Breaks seen errors.OutOfMemory a searched
-    core_unnamed t = record { fault = tt; steps = t.steps; went = t.went }

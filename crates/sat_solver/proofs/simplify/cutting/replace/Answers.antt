@@ -3,7 +3,6 @@ use Rattle.sat_parts.specs.clause.Stored.{lit_of}
 use Rattle.sat_solver.specs.parts.Frame.{Stores}
 use Rattle.sat_solver.proofs.lemmas.parts.WordSteps.{extends_trans}
 use Rattle.sat_solver.specs.simplify.Cutting.{puts_long, puts_pair}
-use Rattle.sat_solver.proofs.lemmas.simplify.GatherLemmas.{front_fresh, pair_loadable}
 use Rattle.sat_solver.proofs.lemmas.simplify.LightensLemmas.{stores_two}
 use Rattle.sat_solver.proofs.simplify.cutting.replace.Goals as goal
 
