@@ -1,0 +1,38 @@
+#!/usr/bin/env bash
+# Prints what each crate takes of the gate: bench/minutes.sh [CRATE..]
+#
+# In a copy of the repository each crate, or each that is named, is proved from nothing, then its tests, and then the edits of its must-fail/
+# are tried, one thing after another. A line has the minutes of processors that each of the three took, and those of all by the clock; the
+# last line has their sums. What lies below a crate is built before, and not counted. All crates take as long as the gate.
+set -euo pipefail
+top=$(cd "$(dirname "$0")/.." && pwd)
+work=$(mktemp -d)
+trap 'rm -rf "$work"' EXIT
+
+git -C "$top" ls-files -z | (cd "$top" && xargs -0 tar cf - --) | tar xf - -C "$work"
+git init -q "$work"
+cd "$work"
+
+took() { # FOLDER COMMAND..: its minutes of processors
+    local TIMEFORMAT='%U %S'
+    { time (cd "$1" && "${@:2}" > "$work/said" 2>&1 < /dev/null); } 2> "$work/took" || { tail -n 20 "$work/said" >&2; exit 1; }
+    awk '{ printf "%.1f", ($1 + $2) / 60 }' "$work/took"
+}
+
+printf '%-20s %8s %8s %8s %8s\n' crate product tests edits clock
+while IFS=: read -r crate below; do
+    if [ $# -gt 0 ] && [[ " $* " != *" $crate "* ]]; then
+        continue
+    fi
+    for library in $below; do
+        if [ -d "crates/$library" ]; then
+            took "crates/$library" rt lib > /dev/null
+        fi
+    done
+    begun=$SECONDS
+    product=$(took "crates/$crate" rt check)
+    tests=$(took "crates/$crate" rt check --test)
+    edits=$(took . rt must-fail "$crate")
+    echo "$crate $product $tests $edits $(((SECONDS - begun) / 6))" | awk '{ printf "%-20s %8s %8s %8s %8.1f\n", $1, $2, $3, $4, $5 / 10 }' | tee -a "$work/all"
+done < <(grep ':' crates.txt | grep -v '^#')
+awk '{ for (i = 2; i <= 5; i++) sum[i] += $i } END { printf "%-20s %8.1f %8.1f %8.1f %8.1f\n", "all", sum[2], sum[3], sum[4], sum[5] }' "$work/all"
