@@ -1,5 +1,5 @@
 //! The words of a text, from its bytes. Formulas and scripts are both made of them.
-ghost use Rattle.std.specs.Prelude.{◌≡◌, ◌+◌, ◌*◌, ◌-◌, ◌<◌, ◌≤◌, ℕ, List, [], ◌∷◌, Bool, true, false, None, Some, IfSome, length, take};
+ghost use Rattle.std.specs.Prelude.{◌≡◌, ◌+◌, ◌*◌, ◌-◌, ◌<◌, ◌≤◌, ℕ, List, [], Bool, true, false, None, Some, IfSome, length, take};
 ghost use Rattle.sat_base.specs.text.Text.{is_blank, is_digit, is_letter, Scan, scan};
 ghost use Rattle.sat_base.specs.text.Chunks.{Follows};
 ghost use Rattle.sat_base.specs.text.Tokenizing.{grown, held, may_come, Began, Moves, MovesBy, BeginsWord, Says, SaysAtBlank, LeadsBehind, IsQuiet, Stands, Takes, TakesFront, Quiet, GivesLast};

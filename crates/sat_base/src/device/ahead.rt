@@ -1,5 +1,5 @@
 //! Bytes read ahead of need.
-ghost use Rattle.std.specs.Prelude.{◌≡◌, ◌≤◌};
+ghost use Rattle.std.specs.Prelude.{◌≤◌};
 ghost use Rattle.sat_base.specs.device.Device.{most_reads};
 
 /// How many bytes a reader is asked for at most, and how many wait for a writer.

@@ -5,8 +5,7 @@ ghost use Rattle.std.specs.Prelude.{◌≡◌, OnOk, [], ℕ, List, IsTrue, fals
 ghost use Rattle.sat_base.specs.device.Reading.{Got, source_of, valued, Answers, Behind};
 ghost use Rattle.sat_base.specs.steps.Kinds.{step_with, step_held, is_tag, has_lists};
 ghost use Rattle.sat_base.specs.steps.Spellings.{Wrote, fields, a_step};
-ghost use Rattle.sat_base.specs.steps.StepBytes.{fields_bytes, step_bytes};
-ghost use Rattle.sat_base.specs.steps.StepText.{tag_of, SpellsFields, SpellsStep};
+ghost use Rattle.sat_base.specs.steps.StepText.{tag_of};
 ghost use Rattle.sat_base.specs.steps.StepViews.{step_of};
 
 use crate::device::input::Input;

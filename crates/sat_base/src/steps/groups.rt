@@ -1,13 +1,10 @@
 //! The fields of steps that have several.
 #![tactic(auto, using(crate::proofs::lemmas::device::Sending::sending))]
-
-ghost use Rattle.std.specs.Prelude.{◌++◌};
 ghost use Rattle.sat_base.specs.device.Reading.{Got, valued};
 ghost use Rattle.sat_base.specs.steps.Kinds.{both_held};
 ghost use Rattle.sat_base.specs.steps.Formats.{Both};
 ghost use Rattle.sat_base.specs.steps.StepText.{IsFlag, IsDeletion, AreLiterals, AreHashes};
 ghost use Rattle.sat_base.specs.steps.Spellings as spelling;
-ghost use Rattle.sat_base.specs.steps.StepBytes.{number_bytes, optional_bytes, flag_bytes, deletion_bytes, list_bytes};
 ghost use Rattle.sat_base.specs.steps.StepViews.{deletion_of};
 
 use crate::device::input::Input;

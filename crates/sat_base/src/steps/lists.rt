@@ -1,13 +1,12 @@
 //! Lists of literals, of hashes and of units.
 #![tactic(auto, using(crate::proofs::lemmas::device::Sending::sending))]
 
-ghost use Rattle.std.specs.Prelude.{◌++◌, [], ◌≡◌};
+ghost use Rattle.std.specs.Prelude.{[], ◌≡◌};
 ghost use Rattle.sat_base.specs.device.Reading.{Got, giving};
 ghost use Rattle.sat_base.specs.steps.Kinds.{both_held};
 ghost use Rattle.sat_base.specs.steps.Formats.{Both, Times};
 ghost use Rattle.sat_base.specs.steps.StepText.{IsLiteral, IsHash, AreLiterals, AreHashes, AreUnits};
 ghost use Rattle.sat_base.specs.steps.Spellings as spelling;
-ghost use Rattle.sat_base.specs.steps.StepBytes.{number_bytes, list_bytes, units_bytes};
 
 use crate::device::input::Input;
 use crate::device::output::Output;

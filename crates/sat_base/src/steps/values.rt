@@ -1,7 +1,6 @@
 //! The fields of steps that are one number.
 ghost use Rattle.sat_base.specs.device.Reading.{Got, valued};
 ghost use Rattle.sat_base.specs.steps.Spellings.{Wrote, a_variable, an_optional_variable, a_flag, a_width, a_deletion};
-ghost use Rattle.sat_base.specs.steps.StepBytes.{number_bytes, optional_bytes, flag_bytes, deletion_bytes};
 ghost use Rattle.sat_base.specs.steps.StepText.{IsVariable, IsOptionalVariable, IsFlag, IsWidth, IsDeletion};
 ghost use Rattle.sat_base.specs.steps.StepViews.{deletion_of};
 

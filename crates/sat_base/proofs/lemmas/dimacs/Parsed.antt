@@ -1,5 +1,5 @@
 -- What a parser answers of a reader's text.
-use Rattle.std.proofs.Common.{◌≡◌, ℕ, List, [], ◌∷◌, ◌++◌, Bool, true, false, Result, Err, refl, sym, ap, subst, inl, inr, ◌∙◌, append_assoc, take, length, length-append, ◌+◌, ◌<◌, ◌≤◌, arith, Ok, if◌then◌else◌}
+use Rattle.std.proofs.Common.{◌≡◌, ℕ, List, [], ◌∷◌, ◌++◌, Bool, true, false, Result, Err, refl, sym, ap, subst, inl, inr, ◌∙◌, append_assoc, take, length, length-append, ◌+◌, ◌<◌, ◌≤◌, arith, Ok}
 use Rattle.std.specs.List.{FoldsTo, concat}
 use Rattle.std.proofs.lemmas.List.{append-nil, length-take-le}
 use Rattle.std.proofs.lemmas.List.Folds.{concat-append}
@@ -8,13 +8,9 @@ use Rattle.sat_base.specs.declared.dimacs.error.DimacsError.{DimacsError}
 use Rattle.sat_base.specs.declared.dimacs.error.DimacsError.TheVariants as errors
 use Rattle.sat_base.specs.declared.dimacs.error.IncrementalError.{IncrementalError}
 use Rattle.sat_base.specs.declared.dimacs.error.IncrementalError.TheVariants as parts
-use Rattle.sat_base.specs.dimacs.Dimacs.{Clean, Dimacs, Ending, Limit, Malformed, dimacs, settled}
-use Rattle.sat_base.specs.dimacs.Parsing.{Calls, EndsWell, FallsShort, Faults, Feeds, Finishes, GoesWell, HasRead, IsSoundText, IsWhole, KeepsText, Parses, ParsesInParts, Progress, at_its_end, clauses_read, no_progress, with_fed, words_read}
-use Rattle.std.specs.Io.KnownBytes.{IsAtEnd}
-use Rattle.sat_base.specs.device.Device.{Reader, FewReads, GaveAll, GaveFront, GaveEnough}
-use Rattle.sat_base.specs.text.Tokenizing.{held}
-use Rattle.sat_base.specs.values.Formulas.{Formula}
-use Rattle.sat_base.proofs.lemmas.device.Given.{enough_as}
+use Rattle.sat_base.specs.dimacs.Dimacs.{Clean, Dimacs, Ending, Limit, Malformed, dimacs}
+use Rattle.sat_base.specs.dimacs.Parsing.{Calls, EndsWell, FallsShort, Faults, Feeds, Finishes, GoesWell, HasRead, IsSoundText, IsWhole, KeepsText, Parses, Progress, at_its_end, no_progress, with_fed}
+use Rattle.sat_base.specs.device.Device.{Reader, GaveAll, GaveFront}
 use Rattle.sat_base.specs.text.Text.{header_of, scan, tokens_of, lines}
 
 -- the text has the ending of its fault

@@ -4,7 +4,7 @@ use Rattle.std.specs.Prelude.{nat_eq, not, ◌↔◌, Option, Some, None, is_som
 use Rattle.std.proofs.lemmas.List.{append-nil}
 use Rattle.std.proofs.lemmas.Bool.Decides.{nat_tests}
 use Rattle.sat_base.specs.text.Text.{Token, Number, Letter, Header, Wrong, tokens, header_from, header_first, header_of}
-use Rattle.sat_base.specs.script.Script.{Literal, Command, Clause, Ending, Clean, Malformed, has_ask}
+use Rattle.sat_base.specs.script.Script.{Literal, Command, Ending, Clean, Malformed, has_ask}
 use Rattle.sat_base.specs.script.Language.{Reading, onto_commands, spoken, Kind, OfClause, OfAsk, OfHide, OfWitness, OfSample, command_of, Hand, Nothing, Within, Turn, GoesOn, Ends, command_in, may_stand, with_literal, kind_of_letter, beginning, with_letter, turn, at_end, behind_turn, commands_of, with_ask, written, reading}
 use Rattle.sat_base.specs.script.ScriptSpelling.{OneReading, number_of, AreNamed, IsZero, letter_of, SpellsCommand, SpellsCommands, BeginsNone, SpellsTo, asked, SpellsScript, ReadIfSpelled}
 use Rattle.sat_base.proofs.lemmas.text.HeaderFirst.{IsWord, AreWords, AreScript, text_is}

@@ -1,7 +1,6 @@
 -- What a tokenizer's places in header lines stand for, step by step.
 use Rattle.std.proofs.Common.{◌≡◌, ℕ, ◌+◌, ◌-◌, ◌<◌, List, [], ◌∷◌, ◌++◌, true, false, Option, Some, None, refl, ap, ◌∙◌}
 use Rattle.std.specs.Prelude.{nat_eq}
-use Rattle.sat_base.specs.declared.text.Place.{Place}
 use Rattle.sat_base.specs.declared.text.Place.TheVariants as at
 use Rattle.sat_base.specs.declared.text.header.HeaderPlace.{HeaderPlace}
 use Rattle.sat_base.specs.declared.text.header.HeaderPlace.TheVariants as header
@@ -9,9 +8,9 @@ use Rattle.sat_base.specs.declared.text.header.Stage.{Stage as CodeStage}
 use Rattle.sat_base.specs.declared.text.header.Stage.TheVariants as stage
 use Rattle.sat_base.specs.declared.text.Token.{Token as CodeToken}
 use Rattle.sat_base.specs.declared.text.Token.TheVariants as code
-use Rattle.sat_base.specs.text.Text.{is_blank, is_digit, digits, same_bytes, Token, Header, Wrong}
-use Rattle.sat_base.specs.text.Spot.{Stage, Begun, Named, Format, Vars, Both, with_value, stage_end, behind_word, Spot, HeaderWithin, Spoilt, Solid, in_hand, behind_header_word, spoils, ended_by_blank}
-use Rattle.sat_base.specs.text.Tokenizing.{held_token, BeginsSpoilt, IsStage, IsAtHeader, Leads, Moves, MovesHeader, BeganHeader, grown, Given, Says, SaysAtBlank, ended_stage, IsStageIf, LeadsBehind}
+use Rattle.sat_base.specs.text.Text.{is_blank, is_digit, digits, Token, Header}
+use Rattle.sat_base.specs.text.Spot.{Stage, Begun, Named, Format, Vars, Both, with_value, stage_end, behind_word, Spot, HeaderWithin, Spoilt, Solid, in_hand, behind_header_word}
+use Rattle.sat_base.specs.text.Tokenizing.{held_token, BeginsSpoilt, IsAtHeader, Leads, MovesHeader, BeganHeader, grown, Given, Says, ended_stage, IsStageIf, LeadsBehind}
 use Rattle.sat_base.proofs.lemmas.text.Spots.{Solid-more, header_between_word, header_within_more, header_spoilt}
 use Rattle.sat_base.proofs.lemmas.text.Words.{SpellsHeld_one, SpellsHeld_more, digits_stop, digits_wrong_in}
 use Rattle.sat_base.proofs.lemmas.text.Places.{no_LF, behind_word_in_header}
