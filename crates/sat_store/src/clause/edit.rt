@@ -2,7 +2,7 @@
 ghost use Rattle.std.specs.Prelude.{◌≡◌, ◌<◌, ◌≤◌, ℕ, length, min, slice_index, slice_set, take};
 ghost use Rattle.std.specs.Map.Iter.{ShowsInOrder};
 ghost use Rattle.sat_store.specs.clause.Header.{is_learned};
-ghost use Rattle.sat_store.specs.clause.Buffer.{IsClause, header_at, lits_at, swapped};
+ghost use Rattle.sat_store.specs.clause.Buffer.{swapped};
 
 use crate::clause::alloc::{ClauseAlloc, ClauseRef};
 use crate::clause::header::ClauseHeader;

@@ -1,5 +1,5 @@
 //! A heap of variables in a list of all of them.
-ghost use Rattle.std.specs.Prelude.{◌≡◌, ℕ, ◌+◌, ◌*◌, ◌/◌, ◌^◌, ◌<◌, ◌≤◌, ◌↔◌, IsTrue, List, length, slice_index, slice_set, ◌++◌, ◌-◌, true, false, replicate, vec_capacity};
+ghost use Rattle.std.specs.Prelude.{◌≡◌, ℕ, ◌+◌, ◌*◌, ◌/◌, ◌<◌, ◌≤◌, ◌↔◌, IsTrue, List, length, slice_index, ◌++◌, ◌-◌, true, false, replicate, vec_capacity};
 ghost use Rattle.sat_base.specs.values.Literals.{largest};
 ghost use Rattle.sat_store.specs.heap.Heap.{Placed, IsHeap, IsKept, rank, rank_at, parent, Ordered, UpFrom, IsFirstChild, SettlesDown, Exchanges, Transposes, flags, SetsFlag, AddsFlags};
 

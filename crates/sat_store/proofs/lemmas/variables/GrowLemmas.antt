@@ -1,7 +1,7 @@
 -- What is kept and what is new where flags and maps grow.
-use Rattle.std.proofs.Common.{ℕ, ◌≡◌, ◌≢◌, ◌+◌, ◌-◌, ◌*◌, ◌<◌, ◌≤◌, inl, inr, min, max, Bool, false, Option, Some, None, List, ◌++◌, length, get_or, take, replicate, refl, sym, ap, ◌∙◌, arith, length-append, cond, Result, Ok, Err, OnOk}
+use Rattle.std.proofs.Common.{ℕ, ◌≡◌, ◌≢◌, ◌+◌, ◌-◌, ◌*◌, ◌<◌, inl, inr, min, max, Bool, false, Option, Some, None, List, ◌++◌, length, get_or, take, replicate, refl, sym, ap, ◌∙◌, arith, length-append, cond, Result, Ok, Err, OnOk}
 use Rattle.std.proofs.lemmas.Bool.{cases_lt, ne_eqb, eq-eqb}
-use Rattle.std.proofs.lemmas.List.{get_or_append_left, get_or-append_right, get_or-replicate, get_or-take, get_or_past, length-replicate, length-take, length-take-le, take_all}
+use Rattle.std.proofs.lemmas.List.{get_or_append_left, get_or-append_right, get_or-replicate, get_or-take, get_or_past, length-replicate, length-take, take_all}
 use Rattle.sat_store.specs.variables.Flags.{flags_for, GrowsFlags}
 use Rattle.sat_store.specs.variables.Maps.{target, PutsTarget, GrowsMap, Both, Links, GrowsBoth}
 
