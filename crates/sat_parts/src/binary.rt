@@ -1,5 +1,5 @@
 //! Clauses of two literals.
-ghost use Rattle.std.specs.Prelude.{◌≡◌, ◌+◌, ◌-◌, ◌*◌, ◌<◌, ◌≤◌, ◌^◌, ◌∷◌, ◌++◌, [], length, take, OnOk, OnErr, IfErr, is_ok, if◌then◌else◌, slice_index_or};
+ghost use Rattle.std.specs.Prelude.{◌≡◌, ◌-◌, ◌*◌, ◌<◌, ◌≤◌, ◌∷◌, ◌++◌, [], length, take, OnOk, OnErr, is_ok, if◌then◌else◌, slice_index_or};
 ghost use Rattle.sat_base.specs.values.Literals.{largest, negated};
 ghost use Rattle.sat_parts.specs.prop.Values.{is_unset};
 ghost use Rattle.sat_parts.specs.prop.Binaries.{implied_by, with_implied, without_last, with_binary, with_literals, open_among, implications, RemovesAssigned};

@@ -1,9 +1,6 @@
 //! How many levels the literals of a clause are of.
-ghost use Rattle.std.specs.Prelude.{ℕ, ◌≡◌, ◌<◌, ◌==◌, length, slice_index, slice_index_or, false};
-ghost use Rattle.std.specs.List.{list_any};
-ghost use Rattle.sat_base.specs.values.Literals.{variable};
+ghost use Rattle.std.specs.Prelude.{ℕ, ◌≡◌, ◌<◌, length, slice_index_or, false};
 ghost use Rattle.sat_store.specs.clause.Buffer.{IsClause, lits_at};
-ghost use Rattle.sat_parts.specs.prop.Graphs.{node_of};
 ghost use Rattle.sat_parts.specs.clause.Glue.{levels_of, different, HaveNodes, HaveFlags, AreClear, MarksLevels};
 
 use crate::prop::graph::ImplGraph;

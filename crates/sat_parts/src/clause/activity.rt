@@ -1,8 +1,7 @@
 //! Activities of clauses, as whole numbers on a scale that is made smaller before they grow too large.
-ghost use Rattle.std.specs.Prelude.{◌≡◌, ◌+◌, ◌*◌, ◌/◌, ◌^◌, ◌<◌, ◌≤◌, max};
+ghost use Rattle.std.specs.Prelude.{◌≡◌, ◌+◌, ◌*◌, ◌/◌, ◌^◌, ◌<◌, ◌≤◌};
 ghost use Rattle.std.specs.List.{Contains};
 ghost use Rattle.sat_store.specs.clause.Buffer.{header_at};
-ghost use Rattle.sat_store.specs.heap.Vsids.{quotient_up};
 ghost use Rattle.sat_parts.specs.clause.Db.{HoldsDb, PutsHeader, live_refs};
 ghost use Rattle.sat_parts.specs.clause.Activity.{PutsHeaders, BumpsOne, BumpsAll, DecaysAll, later_scale, first_scale, later_bump, with_activity, shifted, StaysBelow, ComesTo};
 

@@ -1,5 +1,5 @@
 //! The list of long clauses.
-ghost use Rattle.std.specs.Prelude.{◌≡◌, ◌+◌, ◌-◌, ◌^◌, ◌<◌, ◌≤◌, ◌↔◌, ℕ, List, Err, [], ◌∷◌, false, true, length, min, slice_index, slice_index_or, IsTrue, IfOk, OnErr};
+ghost use Rattle.std.specs.Prelude.{◌≡◌, ◌+◌, ◌-◌, ◌^◌, ◌<◌, ◌≤◌, ◌↔◌, ℕ, List, Err, [], false, true, length, min, slice_index, slice_index_or, IsTrue, IfOk, OnErr};
 ghost use Rattle.std.specs.List.{Contains};
 ghost use Rattle.sat_base.specs.values.Literals.{negated, variable};
 ghost use Rattle.sat_store.specs.clause.Buffer.{IsClause, Laid, Adds, header_at, lits_at};

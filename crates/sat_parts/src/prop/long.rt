@@ -1,14 +1,12 @@
 //! Propagation over long clauses, by two watched literals.
-ghost use Rattle.std.specs.Prelude.{ℕ, List, ◌≡◌, ◌≢◌, ◌+◌, ◌*◌, ◌<◌, ◌≤◌, ◌↔◌, length, IfOk, IsTrue, MatchResult, slice_set};
-ghost use Rattle.sat_base.specs.values.Literals.{negated, variable};
+ghost use Rattle.std.specs.Prelude.{ℕ, List, ◌≡◌, ◌≢◌, ◌+◌, ◌*◌, ◌<◌, ◌≤◌, length, IfOk, IsTrue, slice_set};
 ghost use Rattle.sat_store.specs.clause.Buffer.{IsClause};
 ghost use Rattle.sat_parts.specs.clause.Orders.{Shuffles};
 ghost use Rattle.sat_parts.specs.clause.Stored.{lit_of, size_of};
 ghost use Rattle.sat_parts.specs.prop.Values.{IsFalseLit};
 ghost use Rattle.sat_parts.specs.prop.State.{HasLeft, level, current_level};
-ghost use Rattle.sat_parts.specs.prop.Reasons.{Moves};
-ghost use Rattle.sat_parts.specs.prop.Ready.{state_of, LongReady, IsConflict};
-ghost use Rattle.sat_parts.specs.prop.Walk.{Half, IsOther, Oriented, VisitedIn, Walks, WalksLong};
+ghost use Rattle.sat_parts.specs.prop.Ready.{state_of, LongReady};
+ghost use Rattle.sat_parts.specs.prop.Walk.{Half, Oriented, VisitedIn, Walks, WalksLong};
 
 use crate::prop::assignment::Assignment;
 use crate::prop::graph::{Conflict, ImplGraph, Reason};

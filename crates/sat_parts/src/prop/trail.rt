@@ -4,7 +4,7 @@ ghost use Rattle.sat_base.specs.values.Literals.{largest, variable};
 ghost use Rattle.sat_parts.specs.prop.Values.{made_true, IsOpenLit};
 ghost use Rattle.sat_parts.specs.prop.Graphs.{node_at, with_node};
 ghost use Rattle.sat_parts.specs.prop.Trails.{IsTrail, PopsNext, no_trail, first_start, with_lit, with_level, with_cleared};
-ghost use Rattle.std.specs.Prelude.{ℕ, ◌⊎◌, slice_index, drop};
+ghost use Rattle.std.specs.Prelude.{ℕ, ◌⊎◌, slice_index};
 ghost use Rattle.sat_parts.specs.prop.Trails.{cut_to};
 ghost use Rattle.sat_parts.specs.prop.Undone.{undone, undone_to, all_available, undone_lits};
 ghost use Rattle.sat_parts.specs.prop.State.{Agrees};

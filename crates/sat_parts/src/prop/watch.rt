@@ -1,5 +1,5 @@
 //! Lists of the long clauses that are to be looked at when a literal becomes true.
-ghost use Rattle.std.specs.Prelude.{ℕ, IsTrue, ◌≡◌, ◌+◌, ◌-◌, ◌*◌, ◌<◌, ◌≤◌, ◌∷◌, ◌++◌, [], length, OnOk, OnErr, take, drop, true, false, slice_index_or, slice_set, if◌then◌else◌, is_ok};
+ghost use Rattle.std.specs.Prelude.{ℕ, IsTrue, ◌≡◌, ◌-◌, ◌*◌, ◌<◌, ◌≤◌, ◌∷◌, ◌++◌, [], length, OnOk, OnErr, take, drop, true, false, slice_index_or, slice_set, if◌then◌else◌, is_ok};
 ghost use Rattle.sat_base.specs.values.Literals.{largest, negated};
 ghost use Rattle.sat_store.specs.clause.Buffer.{Laid};
 ghost use Rattle.sat_parts.specs.clause.Db.{live_refs};

@@ -1,8 +1,8 @@
 -- What adding, deleting and moving clauses leaves of the list of clauses.
 use Rattle.std.proofs.Common.{ℕ, ◌≡◌, ◌≢◌, ◌+◌, ◌-◌, ◌^◌, ◌<◌, ◌≤◌, inl, inr, min, List, [], ◌∷◌, ◌++◌, length, get_or, set, take, refl, sym, ap, ◌∙◌, subst, arith, length-set, get_or-set_same, get_or-set_other, Bool, true, false, not, ◌&&◌, ◌==◌, cond}
 use Rattle.std.proofs.lemmas.Bool.{cases_eq, ne_eqb, eq-eqb, cond-true, cond-false}
-use Rattle.std.proofs.lemmas.List.{take_all, length_push, length-take-le}
-use Rattle.std.proofs.lemmas.List.Sums.{sum_by_push, count_by-le-length}
+use Rattle.std.proofs.lemmas.List.{take_all, length-take-le}
+use Rattle.std.proofs.lemmas.List.Sums.{sum_by_push}
 use Rattle.std.proofs.lemmas.List.Elements.{filter-append, filter_passes, All-contains, Contains-push_cases}
 use Rattle.std.specs.List.{Contains, sum_by, count_by}
 use Rattle.sat_store.specs.clause.Buffer.{IsClause, Laid, Keeps, Adds, ChangesAt, header_at, lits_at}

@@ -8,7 +8,7 @@ use Rattle.std.specs.List.{Contains, filter, sum_by, count_by}
 use Rattle.sat_base.specs.values.Literals.{variable}
 use Rattle.sat_store.specs.clause.Buffer.{IsClause, Laid, Keeps, Adds, header_at, lits_at}
 use Rattle.sat_store.specs.clause.Header.{Header, index_of}
-use Rattle.sat_store.proofs.lemmas.clause.Laying.{same_count, clause_within, laid_none, ends_before}
+use Rattle.sat_store.proofs.lemmas.clause.Laying.{same_count, clause_within, ends_before}
 use Rattle.sat_parts.specs.declared.prop.graph.ImplNode.{ImplNode}
 use Rattle.sat_parts.specs.declared.prop.graph.Reason.{Reason}
 use Rattle.sat_parts.specs.declared.prop.graph.Reason.TheVariants.{Unit as NoCause, Binary, Long}

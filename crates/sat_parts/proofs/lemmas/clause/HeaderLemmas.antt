@@ -1,14 +1,14 @@
 -- Headers of a list of clauses that are written one by one.
-use Rattle.std.proofs.Common.{ℕ, ◌≡◌, ◌≢◌, ◌+◌, ◌/◌, ◌^◌, ◌<◌, ◌≤◌, ◌==◌, ◌-◌, min, inl, inr, List, [], ◌∷◌, ◌++◌, take, true, false, length, get_or, refl, sym, ap, ◌∙◌, subst, arith, Bool, not, ◌&&◌, cond}
+use Rattle.std.proofs.Common.{ℕ, ◌≡◌, ◌+◌, ◌^◌, ◌<◌, ◌≤◌, ◌==◌, ◌-◌, min, inl, inr, List, [], ◌∷◌, ◌++◌, take, true, false, length, get_or, sym, ap, ◌∙◌, subst, arith, Bool, not, ◌&&◌, cond}
 use Rattle.std.proofs.lemmas.Bool.{cases_eq, ne_eqb, eq-eqb, cond-true, cond-false}
 use Rattle.std.proofs.lemmas.List.{append-nil}
 use Rattle.std.proofs.lemmas.List.Elements.{filter_more}
 use Rattle.std.specs.List.{Contains, filter}
-use Rattle.sat_store.specs.clause.Buffer.{Laid, Keeps, header_at, lits_at}
+use Rattle.sat_store.specs.clause.Buffer.{header_at, lits_at}
 use Rattle.sat_store.specs.clause.Header.{Header, index_of}
-use Rattle.sat_parts.specs.clause.Db.{Db, is_live, live_refs, is_live_of, garbage_of, AreRising, HoldsDb, PutsHeader}
-use Rattle.sat_parts.specs.clause.Activity.{PutsHeaders, PutsFirst, with_activity, shifted, raised, bumped_shifted}
-use Rattle.sat_parts.proofs.lemmas.clause.ListLemmas.{at_place, place_in, rising_distinct, sum_same, filter_same}
+use Rattle.sat_parts.specs.clause.Db.{Db, is_live, live_refs, is_live_of, garbage_of, HoldsDb, PutsHeader}
+use Rattle.sat_parts.specs.clause.Activity.{PutsHeaders, PutsFirst}
+use Rattle.sat_parts.proofs.lemmas.clause.ListLemmas.{at_place, sum_same, filter_same}
 
 pub first_all : (words one refs : List ℕ) (f : ℕ → Header) (n : ℕ) → PutsFirst words one refs f n → n ≡ length refs → PutsHeaders words one refs f
 first_all words one refs f n x e = record {

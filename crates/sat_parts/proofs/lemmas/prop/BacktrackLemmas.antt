@@ -11,13 +11,13 @@ use Rattle.sat_parts.specs.declared.prop.graph.Reason.TheVariants.{Unit as NoCau
 use Rattle.sat_parts.specs.clause.Db.{live_refs}
 use Rattle.sat_parts.specs.clause.Stored.{AreClauses, lit_of}
 use Rattle.sat_parts.specs.prop.Values.{Values, IsTrueLit, IsOpenLit, value_of}
-use Rattle.sat_parts.specs.prop.Trails.{Trailed, IsTrail, LevelIs, cut_to}
+use Rattle.sat_parts.specs.prop.Trails.{Trailed, LevelIs, cut_to}
 use Rattle.sat_parts.specs.prop.Graphs.{node_of}
 use Rattle.sat_parts.specs.prop.Undone.{lost, undone, undone_to}
 use Rattle.sat_parts.specs.prop.Binaries.{implied_by}
 use Rattle.sat_parts.specs.prop.WatchLists.{Watching}
 use Rattle.sat_parts.specs.prop.Backtracked.{KeepsLow}
-use Rattle.sat_parts.specs.prop.State.{State, node, level, lit_at, current_level, IsRemoved, IsBefore, HasLeft, Agrees, IsQueueCurrent, IsSatisfied}
+use Rattle.sat_parts.specs.prop.State.{State, node, level, lit_at, IsRemoved, IsBefore, HasLeft, Agrees, IsQueueCurrent, IsSatisfied}
 use Rattle.sat_parts.specs.prop.Reasons.{IsFalseBefore, Implies, AreInTurn}
 use Rattle.sat_parts.specs.prop.Ready.{AreWatched, AreLists}
 use Rattle.sat_parts.specs.prop.Asks.{Asks, AsksAll}
