@@ -1,5 +1,5 @@
 //! The checker of proof steps.
-ghost use Rattle.std.specs.Prelude.{◌≤◌, ◌≡◌, ◌-◌, ◌^◌, ◌++◌, ◌∷◌, ◌↔◌, IsTrue, false, [], List, min, None};
+ghost use Rattle.std.specs.Prelude.{◌≤◌, ◌≡◌, ◌-◌, ◌^◌, ◌++◌, ◌∷◌, ◌↔◌, IsTrue, false, [], List, min};
 ghost use Rattle.sat_base.specs.steps.Steps.{Step, AddClause};
 ghost use Rattle.sat_base.specs.steps.StepViews.{step_of};
 ghost use Rattle.sat_checker.specs.Stored.{is_known, name_of};

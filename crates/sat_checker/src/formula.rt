@@ -1,5 +1,5 @@
 //! The stored formula: clauses, units, and what is recorded of them.
-ghost use Rattle.std.specs.Prelude.{◌≡◌, ◌+◌, ◌≤◌, ◌*◌, ℕ, [], ◌∷◌, length, IfOk, OnOk, OnErr, IsErrOf, None, IsTrue, ◌↔◌, MatchBool, ◌<◌, map, not, ◌&&◌, ◌++◌, false};
+ghost use Rattle.std.specs.Prelude.{◌≡◌, ◌+◌, ◌≤◌, ◌*◌, [], ◌∷◌, length, IfOk, OnOk, OnErr, IsErrOf, None, IsTrue, ◌↔◌, MatchBool, map, not, ◌&&◌, false};
 ghost use Rattle.sat_base.specs.steps.Steps.{DeleteClause, Redundant, Satisfied, Simplified};
 ghost use Rattle.sat_base.specs.steps.StepViews.{deletion_of};
 ghost use Rattle.std.specs.List.{list_any};
@@ -9,7 +9,7 @@ ghost use Rattle.sat_checker.specs.LiteralSets.{canonical, is_among};
 ghost use Rattle.sat_checker.specs.Accepts.{Passes, PassInTurn, IsStrictSubset, FitsModel, VariablesApart};
 ghost use Rattle.sat_checker.specs.Stored.{Stored, nothing_stored};
 ghost use Rattle.sat_checker.specs.Looks.{literal_count};
-ghost use Rattle.sat_checker.specs.Storing.{settled, with_unit, with_contradiction, with_canonical, with_stored, with_input, with_units, clause_with, without_clause, last_literals, without_variable};
+ghost use Rattle.sat_checker.specs.Storing.{settled, with_unit, with_contradiction, with_canonical, with_stored, with_input, with_units, last_literals, without_variable};
 ghost use Rattle.sat_checker.specs.announcements.Announcements.{derived, derived_units};
 ghost use Rattle.sat_checker.specs.inner.Reasons.{noted_length};
 ghost use Rattle.sat_checker.specs.inner.StoreView.{TakesCount, with_less};

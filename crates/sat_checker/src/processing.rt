@@ -2,7 +2,7 @@
 ghost use Rattle.std.specs.Prelude.{◌≡◌, ◌++◌, ◌∷◌, [], true, IfErr, OnOk, OnErr, Result, Some};
 ghost use Rattle.anyhow.specs.declared.error.Error.{Error as Cause};
 ghost use Rattle.sat_checker.specs.announcements.Announcements.{Told};
-ghost use Rattle.sat_checker.specs.announcements.Transcripts.{Transcribed, transcript};
+ghost use Rattle.sat_checker.specs.announcements.Transcripts.{transcript};
 ghost use Rattle.sat_checker.specs.inner.VariablesView.{variable_at};
 ghost use Rattle.sat_checker.specs.telling.AnnouncementView.{announcement_of, told_of, variables_of};
 ghost use Rattle.sat_checker.specs.telling.Hearing.{hearers, takes_all, HearsFirst};

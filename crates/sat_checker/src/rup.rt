@@ -1,12 +1,8 @@
 //! The propagation check of a clause under the hashes that a step names: a walk over the clauses, which notes those that it takes.
-ghost use Rattle.std.specs.Prelude.{ℕ, ◌≡◌, ◌+◌, ◌*◌, ◌<◌, ◌≤◌, [], ◌∷◌, ◌++◌, length, IfOk, if◌then◌else◌, None, Some, map, false, IsTrue, ◌↔◌};
-ghost use Rattle.std.specs.List.{list_any};
-ghost use Rattle.sat_base.specs.values.Literals.{negated};
-ghost use Rattle.sat_checker.specs.LiteralSets.{is_among, is_tautology};
+ghost use Rattle.std.specs.Prelude.{◌≡◌, ◌+◌, ◌*◌, ◌<◌, ◌≤◌, [], ◌∷◌, length, IfOk, if◌then◌else◌, None, Some, map, false, IsTrue, ◌↔◌};
 ghost use Rattle.sat_checker.specs.Looks.{total_length};
 ghost use Rattle.sat_checker.specs.Propagation.{PassesCheck};
-ghost use Rattle.sat_checker.specs.announcements.Needed.{ground};
-ghost use Rattle.sat_checker.specs.inner.Look.{verdict_of, Extends, Says};
+ghost use Rattle.sat_checker.specs.inner.Look.{Extends, Says};
 ghost use Rattle.sat_checker.specs.inner.Reasons.{clause_at, filed, named, noted_length, Records, RecordsWalk, Ends, ExplainsCheck};
 ghost use Rattle.sat_checker.specs.inner.SlotView.{literals_at, bucket_in, bucket_of, live_length};
 ghost use Rattle.sat_checker.specs.inner.Walk.{verdict, walk_on, walk_buckets, denied};

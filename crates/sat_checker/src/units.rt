@@ -1,11 +1,11 @@
 //! The stored units.
-ghost use Rattle.std.specs.Prelude.{◌≡◌, ◌++◌, ◌∷◌, [], ◌+◌, ◌*◌, ◌^◌, ◌<◌, ◌≤◌, ◌↔◌, false, length, map, IfOk, IsTrue, OnOk, reverse, filter, not, ◌==◌};
+ghost use Rattle.std.specs.Prelude.{◌≡◌, ◌++◌, ◌∷◌, [], ◌+◌, ◌*◌, ◌^◌, ◌<◌, ◌≤◌, ◌↔◌, false, length, map, IfOk, IsTrue, OnOk, filter, not, ◌==◌};
 ghost use Rattle.sat_base.specs.values.Literals.{negated, variable};
 ghost use Rattle.std.specs.List.{list_any};
-ghost use Rattle.sat_checker.specs.LiteralSets.{is_among, is_tautology};
-ghost use Rattle.sat_checker.specs.announcements.Needed.{ground, true_unit};
+ghost use Rattle.sat_checker.specs.LiteralSets.{is_among};
+ghost use Rattle.sat_checker.specs.announcements.Needed.{true_unit};
 ghost use Rattle.sat_checker.specs.inner.Marks.{NoRepeats};
-ghost use Rattle.sat_checker.specs.inner.Reasons.{named, noted_length, ExplainsCheck};
+ghost use Rattle.sat_checker.specs.inner.Reasons.{noted_length, ExplainsCheck};
 ghost use Rattle.sat_checker.specs.Storing.{unit_id};
 ghost use Rattle.sat_checker.specs.Stored.{Stored};
 ghost use Rattle.sat_checker.specs.Accepts.{Passes};

@@ -1,6 +1,6 @@
 //! Units that are judged where no id is left for one before them: a step is refused first, and only then are the ids over.
-ghost use Rattle.std.specs.Prelude.{◌≡◌, ◌+◌, ◌*◌, ◌≤◌, ◌↔◌, ◌∷◌, [], length, false, IfOk, IsTrue, OnOk, MatchResult};
-ghost use Rattle.sat_checker.specs.Accepts.{Passes, PassInTurn};
+ghost use Rattle.std.specs.Prelude.{◌≡◌, ◌+◌, ◌*◌, ◌≤◌, ◌↔◌, length, false, IfOk, IsTrue, OnOk, MatchResult};
+ghost use Rattle.sat_checker.specs.Accepts.{PassInTurn};
 ghost use Rattle.sat_checker.specs.Looks.{literal_count};
 ghost use Rattle.sat_checker.specs.Stored.{Stored};
 ghost use Rattle.sat_checker.specs.Storing.{with_unit};

@@ -1,6 +1,5 @@
 //! Which variables are known, their modes, and the user's names for them.
-ghost use Rattle.std.specs.Prelude.{ℕ, true, false, ◌≡◌, ◌==◌, ◌↔◌, IsTrue, Option, None, Some, OnOk, IfOk, MatchBool, map, [], ◌∷◌, if◌then◌else◌};
-ghost use Rattle.std.specs.List.{AllByRecursion};
+ghost use Rattle.std.specs.Prelude.{ℕ, true, false, ◌≡◌, ◌==◌, None, Some, OnOk, IfOk, MatchBool, map, [], ◌∷◌, if◌then◌else◌};
 ghost use Rattle.sat_base.specs.values.Literals.{variable};
 ghost use Rattle.sat_checker.specs.LiteralSets.{is_among};
 ghost use Rattle.sat_checker.specs.Stored.{Hide, Sample, Variable, Witness, unknown};

@@ -1,5 +1,5 @@
 -- Clauses that are added one after another.
-use Rattle.std.proofs.Common.{ℕ, ◌+◌, ◌≤◌, ◌≡◌, Bool, true, false, List, [], ◌∷◌, ◌++◌, append_assoc, Option, None, Some, Result, Ok, Err, refl, sym, ap, subst, ◌∙◌, arith}
+use Rattle.std.proofs.Common.{ℕ, ◌+◌, ◌≤◌, ◌≡◌, Bool, true, false, List, [], ◌∷◌, ◌++◌, append_assoc, Option, None, Some, Result, Ok, Err, refl, sym, ap, subst, ◌∙◌}
 use Rattle.std.proofs.lemmas.List.{append-nil}
 use Rattle.sat_base.specs.steps.Steps.{Step, AddClause}
 use Rattle.sat_checker.specs.Stored.{Stored}
@@ -7,7 +7,7 @@ use Rattle.sat_checker.specs.Storing.{settled, settled_by}
 use Rattle.sat_checker.specs.Accepts.{MayBeAdded, ready_after}
 use Rattle.sat_checker.specs.Looks.{most_looks}
 use Rattle.sat_checker.specs.KernelView.{LooksAtMost, KeepsAfter}
-use Rattle.sat_checker.specs.CheckerView.{Seen, has_failed, looks_of, Stands, AnswersStep, AnswersClause}
+use Rattle.sat_checker.specs.CheckerView.{Seen, has_failed, looks_of, AnswersStep, AnswersClause}
 use Rattle.sat_checker.specs.ProofView.{taken_after, most_looks_behind, GoesOn}
 use Rattle.sat_checker.specs.ClausesView.{additions, Adds, behind, AnswersClauses}
 use Rattle.sat_checker.specs.announcements.Announcements.{Told}

@@ -1,5 +1,5 @@
 -- Parts of one list, each with the pairs of one top.
-use Rattle.std.proofs.Common.{ℕ, zero, suc, ◌+◌, ◌*◌, ◌/◌, ◌^◌, ◌<◌, ◌≤◌, ◌≡◌, ◌≢◌, Bool, false, cond, eqb, List, [], ◌++◌, map, filter, length, refl, sym, ◌∙◌, ap, subst, arith, length-append, inl, inr, ◌⊎◌, pow_pos}
+use Rattle.std.proofs.Common.{ℕ, zero, suc, ◌+◌, ◌*◌, ◌/◌, ◌^◌, ◌<◌, ◌≤◌, ◌≡◌, ◌≢◌, Bool, false, eqb, List, [], ◌++◌, map, filter, length, refl, sym, ◌∙◌, ap, subst, arith, length-append, inl, inr, ◌⊎◌, pow_pos}
 use Rattle.std.proofs.lemmas.Bool.{cases_lt, ne_eqb}
 use Rattle.std.proofs.lemmas.List.{append-nil}
 use Rattle.std.proofs.lemmas.Nat.{le-div}

@@ -1,10 +1,6 @@
 -- Whether a variable stands twice, one literal after another.
-use Rattle.std.proofs.Common.{ℕ, ◌+◌, ◌<◌, ◌≡◌, Bool, false, List, ◌∷◌, length, drop, get_or, Result, Ok, Err, IfOk, sym, ◌∙◌, ap, subst}
-use Rattle.std.proofs.lemmas.List.{drop_more}
+use Rattle.std.proofs.Common.{◌≡◌, Bool, false, Result, Ok, Err, IfOk, sym, subst}
 use Rattle.std.specs.Prelude.{MatchBool}
-use Rattle.sat_base.specs.values.Literals.{variable}
-use Rattle.sat_checker.specs.LiteralSets.{mentions}
-use Rattle.sat_checker.specs.Accepts.{VariablesApart}
 
 -- where it isn't known before memory is wanted
 pub twice : {E : Type 0} (r : Result Bool E) (A B : Type 0) → IfOk r (λ yes'. (yes' ≡ false) × (A → ⊥)) → IfOk r (λ yes'. MatchBool yes' (A × B) (A → ⊥))

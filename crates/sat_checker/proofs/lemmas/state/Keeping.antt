@@ -1,8 +1,6 @@
 -- What steps leave of the checker's state.
-use Rattle.std.proofs.Common.{ℕ, ◌≡◌, Bool, true, false, cond, List, [], ◌∷◌, Option, None, Some, refl, sym, ◌∙◌, ap, subst, Result, Ok, Err, ◌↔◌}
+use Rattle.std.proofs.Common.{ℕ, ◌≡◌, Bool, false, cond, List, [], ◌∷◌, Option, None, Some, refl, sym, ◌∙◌, ap, subst, Result, Ok, Err}
 use Rattle.std.specs.List.{AllByRecursion}
-use Rattle.std.specs.Bool.{MatchBool}
-use Rattle.std.proofs.lemmas.Bool.{true≢false}
 use Rattle.sat_base.specs.values.Literals.{variable}
 use Rattle.sat_base.specs.steps.Steps.{SolverVarName, AddClause, DeleteClause, Deletion, Redundant, Satisfied, Simplified}
 use Rattle.sat_checker.specs.LiteralSets.{canonical, is_part}

@@ -1,5 +1,5 @@
 -- Units that are checked and stored in turn.
-use Rattle.std.proofs.Common.{ℕ, zero, suc, ◌+◌, ◌*◌, ◌<◌, ◌≤◌, ◌≡◌, Bool, true, false, cond, List, [], ◌∷◌, length, drop, get_or, map, refl, sym, ◌∙◌, ap, subst, arith, Result, MatchResult, Ok, Err, inl, inr}
+use Rattle.std.proofs.Common.{ℕ, zero, suc, ◌+◌, ◌<◌, ◌≤◌, ◌≡◌, Bool, true, false, cond, List, [], ◌∷◌, length, drop, get_or, map, refl, sym, ◌∙◌, ap, subst, arith, Result, MatchResult, Ok, Err, inl, inr}
 use Rattle.std.proofs.lemmas.List.{drop_more}
 use Rattle.std.specs.Bool.{MatchBool}
 use Rattle.sat_base.specs.values.Literals.{variable, negated}
@@ -18,7 +18,6 @@ use Rattle.sat_checker.specs.declared.store.StoreError.TheVariants.{OutOfMemory,
 use Rattle.sat_checker.specs.declared.formula.Formula.{Formula}
 use Rattle.sat_checker.specs.declared.state.State.{State}
 use Rattle.sat_checker.proofs.lemmas.meaning.Names.{units_same}
-use Rattle.sat_checker.proofs.lemmas.store.Buckets.{looks_more, looks_within}
 
 abbrev pub firsts : List (ℕ × ℕ) → List ℕ
 firsts us = map (λ u. u.0) us

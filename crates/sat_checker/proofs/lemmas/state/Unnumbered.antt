@@ -1,18 +1,12 @@
 -- Units that come in where no id is left.
-use Rattle.std.proofs.Common.{ℕ, zero, suc, ◌+◌, ◌*◌, ◌<◌, ◌≤◌, ◌≡◌, ◌↔◌, Bool, true, false, cond, List, [], ◌∷◌, ◌++◌, length, drop, get_or, map, refl, sym, ◌∙◌, ap, subst, arith, Result, Ok, Err, IfOk}
-use Rattle.std.proofs.lemmas.List.{drop_more, map-append}
-use Rattle.sat_base.specs.values.Literals.{negated}
-use Rattle.sat_checker.specs.LiteralSets.{is_among}
+use Rattle.std.proofs.Common.{ℕ, ◌≡◌, ◌↔◌, Bool, true, List, map, refl, sym, ap, subst, Result, Ok, Err, IfOk}
 use Rattle.sat_checker.specs.Looks.{literal_count}
 use Rattle.sat_checker.specs.Propagation.{PassesCheck}
-use Rattle.sat_checker.specs.Stored.{Stored, StoredUnit, bucket, is_unit}
-use Rattle.sat_checker.specs.Storing.{with_unit, with_contradiction, with_new_unit}
+use Rattle.sat_checker.specs.Stored.{Stored, StoredUnit, bucket}
 use Rattle.sat_checker.specs.Accepts.{Passes, PassInTurn}
 use Rattle.sat_checker.specs.inner.FormulaView.{ChecksAs, KeepsFormula}
 use Rattle.sat_checker.specs.inner.StoreView.{KeepsClauses}
 use Rattle.sat_checker.specs.declared.formula.Formula.{Formula}
-use Rattle.sat_checker.proofs.lemmas.state.Units.{count_unit}
-use Rattle.sat_checker.proofs.lemmas.store.Buckets.{looks_more, looks_within}
 
 pub checks_as : (F : Formula) (f : Stored) → KeepsFormula F f → ChecksAs F f
 checks_as F f k = record { clauses = k.clauses; units = ap (map (λ (u : StoredUnit). u.literal)) k.units }

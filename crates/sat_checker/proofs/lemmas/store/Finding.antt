@@ -6,7 +6,7 @@ use Rattle.sat_checker.specs.inner.PairView.{first_of}
 use Rattle.std.specs.List.{AllByRecursion}
 use Rattle.sat_checker.specs.inner.SlotView.{Slot, slot_at, literals_at, is_filed, all_lits, bucket_in, places_from, places_of, is_same_at, found_among}
 use Rattle.sat_checker.proofs.lemmas.store.Places.{places_below}
-use Rattle.sat_checker.proofs.lemmas.propagation.Walking.{next_place, find_next, sum_next, walk-met, walk-conflict}
+use Rattle.sat_checker.proofs.lemmas.propagation.Walking.{find_next, sum_next}
 
 places_literals : (all ss : List Slot) (k h : ℕ) → ((j : ℕ) → slot_at all (k + j) ≡ slot_at ss j) → map (literals_at all) (places_from k h ss) ≡ bucket_in h ss
 places_literals all [] k h same = refl

@@ -5,7 +5,7 @@ use Rattle.std.specs.List.{list_any}
 use Rattle.std.proofs.lemmas.List.{drop_more, append-nil}
 use Rattle.sat_checker.specs.inner.ModelTests.{are_all_true, irredundant_length}
 use Rattle.sat_checker.specs.LiteralSets.{is_among}
-use Rattle.sat_checker.specs.Stored.{Stored, hash_by, StoredClause}
+use Rattle.sat_checker.specs.Stored.{Stored, hash_by}
 use Rattle.sat_checker.specs.Storing.{unless_gone}
 use Rattle.sat_checker.specs.Looks.{total_length, literal_count}
 use Rattle.sat_checker.specs.HasherView.{solver_name_of, width_of}

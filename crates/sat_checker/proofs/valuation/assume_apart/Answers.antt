@@ -1,8 +1,8 @@
-use Rattle.std.proofs.Common.{ℕ, ◌≡◌, ◌+◌, ◌-◌, ◌<◌, List, ◌∷◌, length, drop, get_or, sym, subst, ap, ◌∙◌, arith}
+use Rattle.std.proofs.Common.{◌≡◌, ◌-◌, length, drop, sym, subst, ap, ◌∙◌, arith}
 use Rattle.std.proofs.lemmas.List.{drop_all}
 use Rattle.sat_checker.specs.Accepts.{VariablesApart}
 use Rattle.sat_checker.proofs.lemmas.state.Apart.{twice}
-use Rattle.sat_checker.proofs.lemmas.state.Models.{drop_back, met_same, met_negated}
+use Rattle.sat_checker.proofs.lemmas.state.Models.{met_same, met_negated}
 use Rattle.sat_checker.proofs.valuation.assume_apart.Goals as goal
 
 pub loop-place-init : goal.loop-place-init
