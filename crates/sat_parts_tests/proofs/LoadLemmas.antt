@@ -1,34 +1,31 @@
 -- From parts without clauses to parts that propagation can begin with.
-use Rattle.std.proofs.Common.{ℕ, ◌≡◌, ◌+◌, ◌-◌, ◌*◌, ◌<◌, ◌≤◌, ◌⊎◌, inl, inr, List, [], ◌∷◌, ◌++◌, max, take, replicate, length, get_or, length-set, get_or-set_same, get_or-set_other, refl, sym, ap, ◌∙◌, subst, arith, true, false, Bool, Some, None}
-use Rattle.std.proofs.lemmas.Bool.{cases_lt, cases_eq}
-use Rattle.std.proofs.lemmas.List.{get_or_push, get_or_append_left, length_push, get_or-replicate, length-replicate, get_or_past, take_all}
+use Rattle.std.proofs.Common.{ℕ, ◌≡◌, ◌+◌, ◌-◌, ◌*◌, ◌<◌, ◌≤◌, ◌⊎◌, inl, inr, List, [], ◌∷◌, ◌++◌, take, replicate, length, get_or, length-set, refl, sym, ap, ◌∙◌, subst, arith, true, false, Bool, Some}
+use Rattle.std.proofs.lemmas.Bool.{cases_lt}
+use Rattle.std.proofs.lemmas.List.{get_or-replicate, length-replicate, get_or_past, take_all}
 use Rattle.std.proofs.lemmas.List.Elements.{Contains-push_cases, Contains-push}
 use Rattle.std.specs.List.{Contains}
-use Rattle.sat_base.specs.values.Literals.{largest, negated, variable, is_positive}
+use Rattle.sat_base.specs.values.Literals.{variable, is_positive}
 use Rattle.sat_store.specs.clause.Buffer.{Laid, lits_at}
 use Rattle.sat_store.specs.clause.Header.{Header}
-use Rattle.sat_store.specs.heap.Vsids.{Queue, no_variables, with_variables, with_available}
-use Rattle.sat_store.proofs.lemmas.clause.Laying.{laid_none}
+use Rattle.sat_store.specs.heap.Vsids.{Queue, with_available}
 use Rattle.sat_store.specs.variables.Flags.{flags_for}
 use Rattle.sat_parts.specs.declared.prop.graph.ImplNode.{ImplNode}
-use Rattle.sat_parts.specs.clause.Db.{Db, HoldsDb, no_clauses, live_refs, AddsClause}
-use Rattle.sat_parts.specs.clause.Collected.{AreFirsts}
+use Rattle.sat_parts.specs.clause.Db.{Db, HoldsDb, live_refs, AddsClause}
 use Rattle.sat_parts.specs.clause.Orders.{AreDistinct}
 use Rattle.sat_parts.specs.clause.Stored.{AreClauses}
-use Rattle.sat_parts.specs.prop.Binaries.{Binaries, implied_by, with_implied, with_binary, with_literals}
-use Rattle.sat_parts.specs.prop.Values.{Values, with_var_count, made_true}
+use Rattle.sat_parts.specs.prop.Binaries.{Binaries}
+use Rattle.sat_parts.specs.prop.Values.{Values, made_true}
 use Rattle.sat_parts.specs.prop.Undone.{undone, undone_to, undone_lits, all_available}
 use Rattle.sat_parts.specs.prop.Backtracked.{KeepsAsked, KeepsAskedBy}
 use Rattle.sat_parts.proofs.lemmas.prop.BacktrackLemmas.{undone_length}
-use Rattle.sat_parts.specs.prop.Graphs.{with_nodes, new_node, node_of}
-use Rattle.sat_parts.specs.prop.Trails.{Trailed, no_trail, with_lit}
-use Rattle.sat_parts.specs.prop.WatchLists.{Watching, with_lists, with_clause}
-use Rattle.sat_parts.specs.prop.Ready.{AreLists, state_of}
+use Rattle.sat_parts.specs.prop.Trails.{Trailed, with_lit}
+use Rattle.sat_parts.specs.prop.WatchLists.{Watching, with_clause}
+use Rattle.sat_parts.specs.prop.Ready.{state_of}
 use Rattle.sat_parts.specs.declared.prop.graph.Reason.TheVariants.{Unit as NoCause, Long}
-use Rattle.sat_parts.specs.prop.State.{State, HasLeft}
-use Rattle.sat_parts.specs.prop.Asks.{Asks, AsksAll, AsksForReason}
+use Rattle.sat_parts.specs.prop.State.{State}
+use Rattle.sat_parts.specs.prop.Asks.{Asks, AsksForReason}
 use Rattle.sat_parts.proofs.lemmas.clause.ListLemmas.{place_in}
-use Rattle.sat_parts_tests.specs.Loading.{HoldsClauses, IsBlank, IsClauseOver, Serves}
+use Rattle.sat_parts_tests.specs.Loading.{HoldsClauses, IsClauseOver, Serves}
 
 -- a list of one value reads so everywhere
 same_everywhere : {X : Type 0} → (m i : ℕ) (x : X) → get_or (replicate m x) i x ≡ x

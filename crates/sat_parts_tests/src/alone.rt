@@ -1,7 +1,7 @@
 //! The two parts of propagation, each alone, and the building of watch lists.
-ghost use Rattle.std.specs.Prelude.{ℕ, List, ◌≡◌, ◌+◌, ◌<◌, IfOk, IsTrue, OnOk, true, [], length};
+ghost use Rattle.std.specs.Prelude.{ℕ, List, ◌≡◌, ◌+◌, ◌<◌, true, [], length};
 ghost use Rattle.sat_store.specs.heap.Vsids.{no_variables};
-ghost use Rattle.sat_parts.specs.clause.Db.{no_clauses, HoldsDb, live_refs};
+ghost use Rattle.sat_parts.specs.clause.Db.{no_clauses, HoldsDb};
 ghost use Rattle.sat_parts.specs.prop.Trails.{no_trail};
 ghost use Rattle.sat_parts.specs.prop.State.{level, current_level};
 ghost use Rattle.sat_parts.specs.prop.Ready.{state_of, LongReady};

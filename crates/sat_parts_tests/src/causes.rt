@@ -1,5 +1,5 @@
 //! Literals of reasons and conflicts.
-ghost use Rattle.std.specs.Prelude.{◌≡◌, ◌<◌, ◌≤◌, length};
+ghost use Rattle.std.specs.Prelude.{◌≤◌, length};
 ghost use Rattle.sat_store.specs.clause.Buffer.{IsClause, lits_at};
 
 use sat_base::Lit;

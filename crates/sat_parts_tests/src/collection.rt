@@ -1,5 +1,5 @@
 //! A collection where a clause is the reason of a literal.
-ghost use Rattle.std.specs.Prelude.{ℕ, ◌≡◌, ◌<◌, IsTrue, OnOk, [], length};
+ghost use Rattle.std.specs.Prelude.{◌≡◌, ◌<◌, IsTrue, OnOk, [], length};
 ghost use Rattle.sat_parts.specs.clause.Db.{HoldsDb, live_refs};
 ghost use Rattle.sat_parts.specs.clause.Collected.{AreFirsts};
 ghost use Rattle.sat_parts_tests.specs.Firsts.{HasFirst};

@@ -1,5 +1,5 @@
 //! What each part answers by itself.
-ghost use Rattle.std.specs.Prelude.{◌≡◌, ◌<◌, ◌≤◌, [], length};
+ghost use Rattle.std.specs.Prelude.{◌≡◌, ◌<◌, [], length};
 ghost use Rattle.sat_base.specs.values.Literals.{variable};
 ghost use Rattle.sat_store.specs.heap.Vsids.{no_variables};
 ghost use Rattle.sat_parts.specs.clause.Db.{no_clauses, HoldsDb};

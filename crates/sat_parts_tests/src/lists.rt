@@ -1,5 +1,5 @@
 //! Long clauses by tier, deletions and collections.
-ghost use Rattle.std.specs.Prelude.{ℕ, ◌≡◌, ◌+◌, ◌*◌, ◌<◌, ◌≤◌, OnOk, IfOk, [], ◌∷◌, ◌++◌, length, slice_index_or};
+ghost use Rattle.std.specs.Prelude.{ℕ, ◌≡◌, ◌+◌, ◌<◌, ◌≤◌, OnOk, IfOk, [], ◌∷◌, ◌++◌, length, slice_index_or};
 ghost use Rattle.sat_base.specs.values.Literals.{negated};
 ghost use Rattle.sat_parts.specs.clause.Db.{HoldsDb, live_refs};
 

@@ -1,5 +1,5 @@
 //! Clauses that are put into the parts of a search.
-ghost use Rattle.std.specs.Prelude.{ℕ, ◌≡◌, ◌≢◌, ◌*◌, ◌^◌, ◌<◌, ◌≤◌, ◌↔◌, IsTrue, OnOk, IfOk, length, slice_index_or};
+ghost use Rattle.std.specs.Prelude.{ℕ, ◌≡◌, ◌≢◌, ◌*◌, ◌<◌, ◌≤◌, IsTrue, OnOk, IfOk, length, slice_index_or};
 ghost use Rattle.std.specs.List.{Contains};
 ghost use Rattle.sat_store.specs.clause.Buffer.{lits_at};
 ghost use Rattle.sat_parts.specs.clause.Db.{live_refs};

@@ -1,5 +1,5 @@
 //! All parts of a search together.
-ghost use Rattle.std.specs.Prelude.{◌≡◌, ◌≤◌, OnOk, [], length};
+ghost use Rattle.std.specs.Prelude.{◌≡◌, ◌≤◌, OnOk, []};
 ghost use Rattle.sat_base.specs.values.Literals.{largest};
 ghost use Rattle.sat_store.specs.heap.Vsids.{no_variables};
 ghost use Rattle.sat_parts.specs.clause.Db.{no_clauses, HoldsDb};

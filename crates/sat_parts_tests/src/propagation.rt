@@ -1,5 +1,5 @@
 //! Propagation of a unit.
-ghost use Rattle.std.specs.Prelude.{◌≡◌, ◌≤◌, ◌+◌, true, [], length, IfOk};
+ghost use Rattle.std.specs.Prelude.{◌≡◌, ◌+◌, true, [], length, IfOk};
 ghost use Rattle.sat_store.specs.heap.Vsids.{no_variables};
 ghost use Rattle.sat_parts.specs.clause.Db.{no_clauses, HoldsDb};
 ghost use Rattle.sat_parts.specs.prop.Trails.{no_trail};

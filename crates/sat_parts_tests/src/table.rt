@@ -1,5 +1,5 @@
 //! What becoming true and being undone change, and the levels of a clause.
-ghost use Rattle.std.specs.Prelude.{ℕ, ◌≡◌, ◌≤◌, ◌+◌, ◌<◌, IfOk, IsTrue, OnOk, [], length, slice_index, slice_index_or, false};
+ghost use Rattle.std.specs.Prelude.{ℕ, ◌≡◌, ◌+◌, ◌<◌, IfOk, IsTrue, OnOk, [], length, slice_index, slice_index_or, false};
 ghost use Rattle.sat_base.specs.values.Literals.{variable};
 ghost use Rattle.sat_store.specs.heap.Vsids.{no_variables};
 ghost use Rattle.sat_parts.specs.clause.Db.{no_clauses, HoldsDb};

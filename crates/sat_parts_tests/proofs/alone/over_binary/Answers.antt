@@ -1,5 +1,5 @@
 use Rattle.sat_parts.specs.prop.Ready.{state_of}
-use Rattle.sat_parts.proofs.lemmas.prop.QueueLemmas.{next_agrees, next_left, next_top, queue_popped}
+use Rattle.sat_parts.proofs.lemmas.prop.QueueLemmas.{next_agrees, next_left, next_top}
 use Rattle.sat_parts_tests.proofs.alone.over_binary.Goals as goal
 
 pub propagate_binary-requires-clause-agrees : goal.propagate_binary-requires-clause-agrees

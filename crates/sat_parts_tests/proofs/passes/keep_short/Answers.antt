@@ -1,7 +1,6 @@
-use Rattle.std.proofs.Common.{rules, ℕ, List, Bool, ◌≡◌, ◌==◌, ◌∙◌, length, ap}
+use Rattle.std.proofs.Common.{rules, ℕ, List, ◌≡◌, ◌==◌, ◌∙◌, length, ap}
 use Rattle.std.proofs.lemmas.List.Elements.{filter_from_retain}
 use Rattle.sat_store.specs.clause.Buffer.{lits_at}
-use Rattle.sat_parts.specs.clause.Filtered.{AnswersAt}
 use Rattle.sat_parts_tests.proofs.passes.keep_short.Goals as goal
 
 pub returns-clause-short : goal.returns-clause-short
