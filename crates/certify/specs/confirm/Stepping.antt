@@ -1,6 +1,5 @@
 -- What a certificate's steps bring, up to the next ordered one.
 use Rattle.std.specs.Prelude.{ℕ, ◌==◌, ◌||◌, Bool, true, false, Option, Some, None, Result, Ok, Err}
-use Rattle.sat_base.specs.steps.Steps.{Step}
 use Rattle.certify.specs.confirm.ReadSteps.{ReadsStep, BeginsNoStep}
 use Rattle.certify.specs.confirm.Views.{View, place}
 use Rattle.certify.specs.declared.matching.awaiting.Awaited.{Awaited}

@@ -1,5 +1,5 @@
 -- What the names of a command make of a certificate.
-use Rattle.std.specs.Prelude.{ℕ, ◌+◌, ◌≡◌, Result, Ok, Err, List, [], ◌∷◌, ◌++◌, map}
+use Rattle.std.specs.Prelude.{ℕ, ◌≡◌, Result, Ok, Err, List, [], ◌∷◌, ◌++◌, map}
 use Rattle.sat_base.specs.script.Script.{Hide, Witness, Sample}
 use Rattle.sat_base.specs.script.Judge.{Judge, Sampled, Witnessed, new_names, bring_all, accepted}
 use Rattle.sat_base.specs.steps.Steps.{Step}

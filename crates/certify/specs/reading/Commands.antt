@@ -7,7 +7,7 @@ use Rattle.sat_base.specs.text.Chunks.{Follows}
 use Rattle.sat_base.specs.text.Tokenizing.{Stands, held}
 use Rattle.sat_base.specs.script.Script.{Literal, Command, Ask, Clean, Malformed}
 use Rattle.certify.specs.answers.AnswerForms.{named_literals}
-use Rattle.sat_base.specs.script.Language.{Reading, onto_commands, spoken, Kind, OfClause, OfAsk, OfHide, OfWitness, OfSample, command_of, kind_of_letter, Hand, Nothing, Within, commands_of, with_ask, reading}
+use Rattle.sat_base.specs.script.Language.{Reading, onto_commands, spoken, Kind, OfClause, OfAsk, OfHide, OfWitness, OfSample, command_of, kind_of_letter, Hand, Nothing, Within, commands_of, with_ask}
 use Rattle.certify.specs.declared.reading.CommandKind.{CommandKind}
 use Rattle.certify.specs.declared.reading.CommandKind.TheVariants as kind
 use Rattle.certify.specs.declared.reading.Command.{Command as Lent}

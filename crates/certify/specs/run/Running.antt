@@ -1,5 +1,5 @@
 -- What a run does to its three devices.
-use Rattle.std.specs.Prelude.{ℕ, ◌+◌, ◌≡◌, ◌≤◌, true, List, [], Result, Ok, Err}
+use Rattle.std.specs.Prelude.{ℕ, ◌+◌, ◌≡◌, ◌≤◌, true, List, Result, Ok, Err}
 use Rattle.sat_base.specs.device.Device.{Reader, Writer, GaveEnough, ReadFails, Takes, most_reads}
 use Rattle.certify.specs.Calls.{NoneFailed, OneFailed}
 use Rattle.certify.specs.declared.fault.RunFault.{RunFault}

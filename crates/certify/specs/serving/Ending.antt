@@ -1,5 +1,5 @@
 -- How a run ends.
-use Rattle.std.specs.Prelude.{◌≡◌, ℕ, true, Option, None, Some, List, [], ◌∷◌, Result, Ok, Err}
+use Rattle.std.specs.Prelude.{◌≡◌, ℕ, true, Option, Some, [], ◌∷◌, Result, Ok, Err}
 use Rattle.sat_base.specs.device.Device.{Writer, Takes}
 use Rattle.sat_base.specs.steps.Steps.{End}
 use Rattle.sat_solver.specs.session.Making.{Took, Broke}
@@ -10,7 +10,7 @@ use Rattle.certify.specs.Calls.{NoneFailed, OneFailed}
 use Rattle.certify.specs.declared.fault.RunFault.{RunFault}
 use Rattle.certify.specs.declared.serving.session.Session.{Session}
 use Rattle.certify.specs.declared.summary.Summary.{Summary}
-use Rattle.certify.specs.serving.Calls.{Faults, IsReady, proof_in}
+use Rattle.certify.specs.serving.Calls.{Faults, proof_in}
 use Rattle.certify.specs.serving.Quiet.{Proof, Solver}
 
 -- a target is there, open or broken

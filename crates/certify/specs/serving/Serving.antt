@@ -1,5 +1,5 @@
 -- What a run makes of commands, one after another. Lists of steps have the newest first.
-use Rattle.std.specs.Prelude.{ℕ, ◌+◌, ◌≡◌, List, [], ◌∷◌, ◌++◌, map}
+use Rattle.std.specs.Prelude.{ℕ, ◌+◌, ◌≡◌, List, ◌++◌, map}
 use Rattle.sat_base.specs.script.Script.{Command, Ending}
 use Rattle.sat_base.specs.script.Judge.{Judge, accepted, accepted_of}
 use Rattle.sat_base.specs.steps.Steps.{Step}

@@ -1,5 +1,5 @@
 //! The names in use, and their modes.
-ghost use Rattle.std.specs.Prelude.{◌≡◌, ◌+◌, ◌<◌, ◌≤◌, ℕ, List, None, false, OnOk, length};
+ghost use Rattle.std.specs.Prelude.{◌≡◌, ◌+◌, ◌<◌, ◌≤◌, List, None, false, OnOk, length};
 ghost use Rattle.std.specs.Bool.{MatchBool};
 ghost use Rattle.sat_base.specs.values.Literals.{largest};
 ghost use Rattle.sat_base.specs.script.Script.{Command as Spelled, Literal, names_of};

@@ -1,5 +1,5 @@
 //! Lists of literals, compared as sets; those of names by the names' variables.
-ghost use Rattle.std.specs.Prelude.{◌≡◌, IfOk};
+ghost use Rattle.std.specs.Prelude.{IfOk};
 ghost use Rattle.sat_checker.specs.matching.Expected.{EachSpelt, SameSet};
 ghost use Rattle.certify.specs.answers.AnswerForms.{named_literals};
 ghost use Rattle.certify.specs.confirm.SpeltLiterals.{AllAmong, SpellsAll, Tells};

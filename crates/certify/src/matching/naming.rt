@@ -1,5 +1,5 @@
 //! The names of a script's commands, as a certificate puts and takes them.
-ghost use Rattle.std.specs.Prelude.{◌≡◌, ◌+◌, ◌≤◌, [], map, OnOk};
+ghost use Rattle.std.specs.Prelude.{◌≡◌, ◌+◌, ◌≤◌, map, OnOk};
 ghost use Rattle.sat_base.specs.device.Device.{most_reads};
 ghost use Rattle.sat_base.specs.script.Judge.{names_from};
 ghost use Rattle.sat_base.specs.script.Script.{names_of};

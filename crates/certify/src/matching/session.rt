@@ -1,5 +1,5 @@
 //! Confirms commands, one after another.
-ghost use Rattle.std.specs.Prelude.{◌≡◌, ◌+◌, ◌≤◌, ℕ, List, [], true, false, OnOk};
+ghost use Rattle.std.specs.Prelude.{◌≡◌, ◌≤◌, ℕ, List, [], true, false, OnOk};
 ghost use Rattle.sat_base.specs.device.Device.{most_reads};
 ghost use Rattle.sat_base.specs.script.Script.{Clean, Command as Spelled, Malformed};
 ghost use Rattle.sat_base.specs.script.Judge.{start};

@@ -1,5 +1,5 @@
 //! What a reader of scripts keeps between two words, and what each makes of it.
-ghost use Rattle.std.specs.Prelude.{◌≡◌, ◌<◌, ◌&&◌, ◌||◌, ℕ, List, [], ◌∷◌, Bool, false, not, IfOk};
+ghost use Rattle.std.specs.Prelude.{◌≡◌, ◌<◌, ◌&&◌, ◌||◌, ℕ, [], ◌∷◌, Bool, false, not, IfOk};
 ghost use Rattle.sat_base.specs.text.Text.{Token as Spelled, Letter, Number};
 ghost use Rattle.sat_base.specs.text.Tokenizing.{held, held_token};
 ghost use Rattle.sat_base.specs.script.Language.{Hand, Nothing, may_stand};

@@ -1,5 +1,5 @@
 //! The command in hand.
-ghost use Rattle.std.specs.Prelude.{◌≡◌, ◌<◌, ◌++◌, ◌∷◌, [], ℕ, List, true, false, not, OnOk};
+ghost use Rattle.std.specs.Prelude.{◌<◌, ◌++◌, ◌∷◌, [], List, true, false, OnOk};
 ghost use Rattle.sat_base.specs.script.Script.{Literal};
 ghost use Rattle.sat_base.specs.script.Language.{Hand, Kind, Nothing, Within, command_in};
 ghost use Rattle.certify.specs.reading.Commands.{Holds, IsNumbered, IsWhole, kind_of, opened};

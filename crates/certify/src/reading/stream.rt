@@ -2,7 +2,7 @@
 ghost use Rattle.std.specs.Prelude.{◌≡◌, [], false};
 ghost use Rattle.sat_base.specs.script.Script.{Command as SpelledCommand};
 ghost use Rattle.certify.specs.reading.Ahead.{IsOpen, source_in, waiting};
-ghost use Rattle.certify.specs.reading.Commands.{EndsLast, HasWhole, IsLent, Means, MeansIf, TakesBytes};
+ghost use Rattle.certify.specs.reading.Commands.{HasWhole, IsLent, Means, MeansIf};
 ghost use Rattle.sat_base.specs.script.Language.{reading, written};
 ghost use Rattle.certify.specs.reading.Streaming.{Brings, Comes, Falls, Finishes, Takes};
 

@@ -1,5 +1,5 @@
 //! Calls of a run's solver.
-ghost use Rattle.std.specs.Prelude.{◌≡◌, IfOk, IfErr, OnOk};
+ghost use Rattle.std.specs.Prelude.{IfOk, IfErr, OnOk};
 ghost use Rattle.sat_solver.specs.solver.Adding.{Added, Assumed};
 ghost use Rattle.certify.specs.serving.Calls.{FailsSolver, IsAllowed, IsReady, Limited, Searched, Solved};
 

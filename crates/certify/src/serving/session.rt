@@ -1,5 +1,5 @@
 //! What a run holds between commands.
-ghost use Rattle.std.specs.Prelude.{◌≡◌, [], ◌+◌, Some};
+ghost use Rattle.std.specs.Prelude.{◌≡◌, [], ◌+◌};
 ghost use Rattle.sat_base.specs.device.Sink.{empty_sink};
 ghost use Rattle.sat_base.specs.script.Judge.{start};
 ghost use Rattle.sat_solver.specs.names.Calls.{Agree};

@@ -1,5 +1,5 @@
 //! Serves the commands of a script as they come, and then its end.
-ghost use Rattle.std.specs.Prelude.{◌≡◌, ◌+◌, ◌∷◌, [], false, IfErr, IfOk, OnOk};
+ghost use Rattle.std.specs.Prelude.{◌≡◌, ◌+◌, ◌∷◌, [], false, IfOk, OnOk};
 ghost use Rattle.sat_base.specs.device.Device.{Takes};
 ghost use Rattle.sat_base.specs.script.Judge.{Judge, start};
 ghost use Rattle.sat_base.specs.script.Script.{Command as Spelled};

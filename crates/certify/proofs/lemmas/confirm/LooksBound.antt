@@ -1,5 +1,5 @@
 -- How many looks the steps from the front of a certificate take, by the length of their text.
-use Rattle.std.proofs.Common.{ℕ, ◌+◌, ◌*◌, ◌≤◌, ◌<◌, ◌≡◌, ◌==◌, ◌&&◌, ◌^◌, Bool, true, false, Option, None, Some, List, [], ◌∷◌, ◌++◌, length, map, if◌then◌else◌, refl, sym, subst, ap, ◌∙◌, arith}
+use Rattle.std.proofs.Common.{ℕ, ◌+◌, ◌*◌, ◌≤◌, ◌≡◌, ◌==◌, ◌&&◌, ◌^◌, Bool, true, false, Option, None, Some, List, [], ◌∷◌, ◌++◌, length, map, if◌then◌else◌, refl, subst, ap, ◌∙◌, arith}
 use Rattle.std.proofs.lemmas.List.{append-nil, length-append}
 use Rattle.std.proofs.Math.Nat.{mul-le-mul_left, mul-one, pow-succ', pow-zero}
 use Rattle.std.specs.Prelude.{nat_lt}
@@ -8,10 +8,10 @@ use Rattle.sat_base.specs.values.Literals.{negated}
 use Rattle.sat_base.specs.steps.Formats.{Format, Items, ListOf, Both}
 use Rattle.sat_base.specs.steps.Numbers.{IsNumber, IsBelow}
 use Rattle.sat_base.specs.steps.Steps.{Redundant, Simplified, Satisfied, Step, SolverVarName, UserVarName, DeleteVar, ChangeSamplingMode, AddClause, AtClause, UnitClauses, DeleteClause, ChangeHashBits, Model, Assumptions, FailedAssumptions, End}
-use Rattle.sat_base.specs.steps.StepText.{tag_of, IsLiteral, IsHash, IsFlag, AreLiterals, AreHashes, AreUnits, SpellsFields, SpellsStep}
-use Rattle.sat_checker.specs.Accepts.{effect, stored_after, ready_after}
+use Rattle.sat_base.specs.steps.StepText.{tag_of, IsLiteral, IsHash, AreLiterals, AreHashes, AreUnits, SpellsFields, SpellsStep}
+use Rattle.sat_checker.specs.Accepts.{effect, ready_after}
 use Rattle.sat_checker.specs.LiteralSets.{with_literal, canonical, same_literals, is_tautology}
-use Rattle.sat_checker.specs.Looks.{total_length, literal_count, hashes_named, most_looks}
+use Rattle.sat_checker.specs.Looks.{total_length, literal_count, hashes_named}
 use Rattle.sat_checker.specs.Stored.{StoredClause, Stored, is_unit}
 use Rattle.sat_checker.specs.Storing.{with_count, new_clause, with_clause, without_count, unless_gone, without_clause, with_unit, with_contradiction, with_new_unit, with_units, settled_by, settled, with_set, with_canonical, with_stored, with_input, with_literals_known}
 use Rattle.certify.specs.confirm.VerdictPromises.{TakesLooks}

@@ -1,5 +1,5 @@
 -- Names that come in one by one.
-use Rattle.std.proofs.Common.{ℕ, zero, suc, ◌+◌, ◌-◌, ◌≡◌, List, [], ◌∷◌, ◌++◌, refl, ◌∙◌, ap, arith}
+use Rattle.std.proofs.Common.{ℕ, zero, suc, ◌+◌, ◌≡◌, List, [], ◌∷◌, ◌++◌, refl, ◌∙◌, ap, arith}
 use Rattle.sat_base.specs.script.Judge.{Judge, with_name, with_names, names_from}
 
 pub from_more : (count name : ℕ) → names_from (count + 1) name ≡ names_from count name ++ (name + count) ∷ []

@@ -1,5 +1,5 @@
 -- What a reader of steps reads.
-use Rattle.std.proofs.Common.{◌<◌, ℕ, false, List, Ok, Err, refl, sym, ◌∙◌}
+use Rattle.std.proofs.Common.{false, Ok, Err, refl, sym, ◌∙◌}
 use Rattle.sat_base.specs.declared.steps.error.StepError.{StepError}
 use Rattle.sat_base.specs.declared.steps.reader.Buffers.{Buffers}
 use Rattle.sat_base.specs.declared.steps.reader.StepReader.{StepReader}
@@ -7,9 +7,9 @@ use Rattle.sat_base.specs.device.Device.{Reader}
 use Rattle.sat_base.specs.device.Reading.{Answers}
 use Rattle.sat_base.specs.steps.StepReading.{Next, reader_source, step_in}
 use Rattle.certify.specs.confirm.Stepping.{ReadsOne}
-use Rattle.certify.specs.confirm.Streams.{GoesOn, stream_of, bytes_left, Reading, Confirms, stop_of}
+use Rattle.certify.specs.confirm.Streams.{GoesOn, stream_of, Reading, Confirms, stop_of}
 use Rattle.sat_checker.specs.declared.kernel.Kernel.{Kernel}
-use Rattle.certify.proofs.lemmas.confirm.Streams.{answered, step_came, none_came, stays_open}
+use Rattle.certify.proofs.lemmas.confirm.Streams.{answered, step_came, none_came}
 
 module _ {R : Type 0} (seen : R → Reader) (old new : StepReader R Buffers) (goes_on : GoesOn seen old) where
   came : Next seen old new (Ok (step_in new)) → Answers (Ok (step_in new)) (reader_source seen old) (reader_source seen new)

@@ -1,8 +1,7 @@
 -- What a pending unit conflict that is settled leaves as it was.
-use Rattle.std.proofs.Common.{ℕ, ◌≡◌, Option, Some, None, refl, ap}
-use Rattle.sat_checker.specs.Stored.{Stored, is_unit, is_known}
+use Rattle.std.proofs.Common.{ℕ, ◌≡◌, Option, Some, None, refl}
+use Rattle.sat_checker.specs.Stored.{Stored}
 use Rattle.sat_checker.specs.Storing.{settled, settled_by}
-use Rattle.sat_checker.proofs.lemmas.meaning.Names.{settled_same}
 
 pub settled_unsat : (f : Stored) → (settled f).unsat ≡ f.unsat
 settled_unsat f = go f.conflict

@@ -1,13 +1,13 @@
 -- What was certified matches.
-use Rattle.std.proofs.Common.{ℕ, ◌≡◌, ◌∙◌, Bool, true, false, Option, Some, None, List, [], ◌∷◌, ◌++◌, refl, sym, ap, subst, append_assoc}
+use Rattle.std.proofs.Common.{ℕ, ◌≡◌, ◌∙◌, Bool, true, false, Option, None, List, [], ◌∷◌, ◌++◌, refl, sym, ap, subst, append_assoc}
 use Rattle.std.proofs.lemmas.Bool.{both_ways}
 use Rattle.std.proofs.lemmas.List.{append-nil, reverse-append}
 use Rattle.std.specs.Prelude.{reverse}
 use Rattle.std.specs.List.{AllByRecursion}
-use Rattle.sat_base.specs.script.Script.{Literal, Command, Clause, Ask, Hide, Witness, Sample, Ending}
+use Rattle.sat_base.specs.script.Script.{Command, Clause, Ask, Hide, Witness, Sample, Ending}
 use Rattle.sat_base.specs.script.Judge.{Judge, accepted, accepted_of, start}
 use Rattle.sat_base.specs.steps.Steps.{Step}
-use Rattle.sat_base.specs.steps.StepText.{SpellsStep, SpellsSteps}
+use Rattle.sat_base.specs.steps.StepText.{SpellsSteps}
 use Rattle.sat_checker.specs.Accepts.{AcceptsAll, effect, ready_after}
 use Rattle.sat_checker.proofs.lemmas.invariants.Stored.{unsat_stays}
 use Rattle.sat_checker.specs.matching.Checking.{Accepted}
@@ -15,9 +15,9 @@ use Rattle.sat_checker.specs.matching.Expected.{Outcome, Sat, Unsat, Unknown, Ex
 use Rattle.sat_checker.specs.matching.ProofChecking.{the_checking}
 use Rattle.certify.specs.answers.Answers.{answers_text}
 use Rattle.certify.specs.answers.RightAnswers.{AreRight, AnswersAreRight}
-use Rattle.certify.specs.confirm.Matches.{OneEach, InForm, Excused, Meets, met, cut, other, ordered, StepsMatch, Matches}
+use Rattle.certify.specs.confirm.Matches.{OneEach, InForm, Excused, Meets, met, cut, other, ordered, Matches}
 use Rattle.certify.specs.serving.Certifies as by
-use Rattle.certify.specs.serving.Certifies.{Certifies, MayLack, MayStand, IsRecorded}
+use Rattle.certify.specs.serving.Certifies.{Certifies, MayLack, MayStand}
 use Rattle.certify.proofs.lemmas.confirm.Settled.{settled_unsat}
 
 -- recorded unsat stays

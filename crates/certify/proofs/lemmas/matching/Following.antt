@@ -1,5 +1,5 @@
 -- What names stand for behind one step more.
-use Rattle.std.proofs.Common.{ℕ, zero, suc, ◌+◌, ◌≤◌, ◌<◌, ◌≡◌, Bool, true, false, cond, eqb, max, List, [], ◌∷◌, length, Option, Some, None, refl, sym, ◌∙◌, ap, subst, arith, inl, inr, ◌⊎◌}
+use Rattle.std.proofs.Common.{ℕ, ◌+◌, ◌≤◌, ◌<◌, ◌≡◌, Bool, true, false, cond, eqb, List, ◌∷◌, length, Option, Some, None, refl, sym, ◌∙◌, ap, subst, arith, inl, inr}
 use Rattle.std.proofs.Common.{ltb, Result, Ok, Err, OnOk}
 use Rattle.std.proofs.lemmas.Bool.{true≢false, eqb-true, eqb-false, eq-eqb, ltb-true, ltb-false}
 use mathlib.Core.Path.{fun_ext}
@@ -11,7 +11,7 @@ use Rattle.sat_checker.specs.matching.Checking.{Accepted, is_ordered, is_variabl
 use Rattle.sat_checker.specs.matching.Expected.{Outcome, Expected, NewName, NoName, Adds, Opens, Shows, Fails, Closes, Finish, Fits, new_name, no_name, adds, opens, shows, fails, closes, finish}
 use Rattle.sat_checker.specs.matching.ProofChecking.{the_checking}
 use Rattle.sat_checker.proofs.lemmas.matching.CheckerIsSound.{the_checking_sound}
-use Rattle.certify.specs.matching.Variables.{variable_in, IsPut}
+use Rattle.certify.specs.matching.Variables.{IsPut}
 use Rattle.certify.specs.matching.Following.{StandFor, Follows, OthersPass}
 use Rattle.certify.specs.matching.Comparing.{Due}
 use Rattle.certify.specs.declared.matching.named.NamedVars.{NamedVars}

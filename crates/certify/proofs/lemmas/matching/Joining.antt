@@ -1,8 +1,7 @@
 -- How calls that read answers and a certificate follow one another.
-use Rattle.std.proofs.Common.{◌≡◌, ℕ, ◌+◌, Bool, true, false, List, [], ◌++◌, Result, Ok, Err, refl, sym, ◌∙◌, subst, arith}
+use Rattle.std.proofs.Common.{ℕ, Bool, true, false, List, [], ◌++◌, Result, Ok, Err, refl, sym, ◌∙◌, arith}
 use Rattle.std.proofs.lemmas.List.{append-nil}
-use Rattle.std.specs.Io.KnownBytes.{IsAtEnd}
-use Rattle.sat_base.specs.device.Reading.{Source, AtEnd, PassesBut, Passes, Faults}
+use Rattle.sat_base.specs.device.Reading.{Source, AtEnd, PassesBut, Passes}
 use Rattle.sat_base.proofs.lemmas.device.ReadLemmas.{passes_none, passes_more, faults_later}
 use Rattle.certify.specs.confirm.Streams.{Stream, Confirms, Covers, rest_in, seen_in}
 use Rattle.certify.specs.confirm.Views.{View}

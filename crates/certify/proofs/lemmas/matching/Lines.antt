@@ -9,7 +9,7 @@ use Rattle.sat_base.specs.declared.device.whole.ReadError.TheVariants as errors
 use Rattle.sat_base.specs.values.Literals.{largest}
 use Rattle.sat_base.specs.script.Script.{Literal}
 use Rattle.sat_base.specs.script.Judge.{Refusal, PastLimit, WitnessName}
-use Rattle.sat_checker.specs.matching.Expected.{Outcome, Sat, Unsat, Unknown}
+use Rattle.sat_checker.specs.matching.Expected.{Outcome, Sat, Unsat}
 use Rattle.certify.specs.answers.Answers.{outcome_text, refused_line, refusal_text, malformed_line, literals_text, word_of}
 use Rattle.certify.specs.answers.AnswerForms.{HaveNames, IsInForm, named_literals}
 use Rattle.certify.specs.answers.AnswerReading.{HasLine, NoKind, NoLine, first_line, second_line, outcome_of}

@@ -1,7 +1,7 @@
 -- What names expect one by one is what their command expects.
-use Rattle.std.proofs.Common.{ℕ, ◌≡◌, List, [], ◌∷◌, ◌++◌, map, refl, sym, ◌∙◌, ap, append_assoc}
+use Rattle.std.proofs.Common.{ℕ, ◌≡◌, List, [], ◌∷◌, ◌++◌, map, refl, ◌∙◌, ap, append_assoc}
 use Rattle.std.proofs.lemmas.List.{append-nil}
-use Rattle.sat_base.specs.script.Judge.{Judge, Sampled, Witnessed, bring_in, bring_all, hide_all, set_all, new_names, without_name, with_mode}
+use Rattle.sat_base.specs.script.Judge.{Judge, Sampled, Witnessed, bring_in, bring_all, hide_all, set_all, new_names}
 use Rattle.sat_checker.specs.matching.Expected.{Expected, NewName, NoName, bringing, hiding, setting}
 use Rattle.certify.specs.matching.Naming.{naming_all, taken_by, NamesAreExpected}
 use Rattle.certify.specs.judge.Names.{taken}

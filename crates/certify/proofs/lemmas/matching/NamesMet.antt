@@ -1,12 +1,12 @@
 -- How all names of a command are met.
-use Rattle.std.proofs.Common.{ℕ, zero, suc, ◌+◌, ◌≤◌, ◌<◌, ◌≡◌, List, [], ◌∷◌, ◌++◌, map, length, get_or, take, drop, Result, Ok, Err, refl, sym, ◌∙◌, ap, subst, append_assoc, arith}
-use Rattle.std.proofs.lemmas.List.{append-nil, map-append, take_more, take_all, take-append-drop}
+use Rattle.std.proofs.Common.{ℕ, ◌+◌, ◌≤◌, ◌<◌, ◌≡◌, List, [], ◌∷◌, ◌++◌, length, get_or, take, drop, Ok, Err, refl, sym, ◌∙◌, ap, subst, append_assoc}
+use Rattle.std.proofs.lemmas.List.{append-nil, take_more, take_all, take-append-drop}
 use Rattle.sat_base.specs.device.Reading.{AtEnd}
 use Rattle.sat_base.specs.script.Script.{names_of}
 use Rattle.sat_base.specs.script.Judge.{Judge}
 use Rattle.sat_base.specs.values.Literals.{variable}
 use Rattle.sat_checker.specs.matching.Expected.{Expected}
-use Rattle.certify.specs.answers.AnswerForms.{named_literal, named_literals}
+use Rattle.certify.specs.answers.AnswerForms.{named_literals}
 use Rattle.certify.specs.confirm.Streams.{Stream, seen_in, Confirms}
 use Rattle.certify.specs.judge.Names.{Stands, Changes, taken}
 use Rattle.certify.specs.matching.Naming.{MeetsAll, MeetsName, MeetsNames, naming, naming_all, taken_by}
@@ -14,8 +14,7 @@ use Rattle.sat_base.specs.script.Language.{Kind}
 use Rattle.certify.specs.declared.confirm.stop.Stop.{Stop}
 use Rattle.certify.specs.declared.judge.names.Names.{Names}
 use Rattle.certify.specs.declared.matching.named.NamedVars.{NamedVars}
-use Rattle.certify.specs.declared.verdict.Why.{Why}
-use Rattle.certify.proofs.lemmas.confirm.Streams.{confirms_none, confirms_so, confirms_then, then_stop}
+use Rattle.certify.proofs.lemmas.confirm.Streams.{confirms_none, confirms_then, then_stop}
 use Rattle.certify.proofs.lemmas.matching.Naming.{both, first_barred, nothing}
 
 naming_append : (kind : Kind) (xs ys : List ℕ) (j : Judge) → naming_all kind (xs ++ ys) j ≡ naming_all kind xs j ++ naming_all kind ys (taken_by kind xs j)

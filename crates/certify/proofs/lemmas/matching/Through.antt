@@ -1,16 +1,15 @@
 -- How a script is confirmed that is read as its commands are wanted.
-use Rattle.std.proofs.Common.{ℕ, ◌+◌, ◌-◌, ◌^◌, ◌<◌, ◌≤◌, ◌≡◌, Bool, true, false, List, [], ◌∷◌, ◌++◌, length, Result, Ok, Err, refl, sym, ◌∙◌, ap, subst, arith}
-use Rattle.sat_base.specs.device.Reading.{Source, AtEnd, PassesBut, Passes, PassesToEnd}
-use Rattle.sat_base.specs.script.Script.{Command, Ending}
+use Rattle.std.proofs.Common.{ℕ, ◌+◌, ◌-◌, ◌^◌, ◌≤◌, ◌≡◌, true, false, List, [], ◌∷◌, length, Result, Ok, Err, refl, sym, ◌∙◌, ap, subst, arith}
+use Rattle.sat_base.specs.device.Reading.{Source, AtEnd}
+use Rattle.sat_base.specs.script.Script.{Command}
 use Rattle.sat_base.specs.script.Language.{Reading, onto_commands}
 use Rattle.sat_base.specs.script.Judge.{Judge, after_command}
 use Rattle.sat_base.specs.steps.Steps.{Step}
-use Rattle.certify.specs.confirm.Streams.{Stream, Confirms, Covers, rest_in, seen_in}
+use Rattle.certify.specs.confirm.Streams.{Stream, Confirms, Covers, rest_in}
 use Rattle.certify.specs.confirm.Views.{View}
 use Rattle.certify.specs.declared.confirm.stop.Stop.TheVariants as stop
 use Rattle.certify.specs.declared.matching.halt.Halt.{Halt}
 use Rattle.certify.specs.declared.matching.halt.Halt.TheVariants as halt
-use Rattle.certify.specs.declared.reading.Reached.TheVariants as reached
 use Rattle.certify.specs.declared.reading.ScriptEnd.{ScriptEnd}
 use Rattle.certify.specs.declared.reading.reader.ScriptReader.{ScriptReader}
 use Rattle.certify.specs.declared.reading.stream.Next.TheVariants as next
@@ -19,9 +18,9 @@ use Rattle.certify.specs.matching.Confirming.{ConfirmsLast, ConfirmsNext, HoldsA
 use Rattle.certify.specs.matching.Halting.{Any, Joins, script_halt}
 use Rattle.sat_base.specs.declared.device.whole.ReadError.{ReadError}
 use Rattle.sat_base.specs.declared.device.whole.ReadError.TheVariants as errors
-use Rattle.certify.specs.matching.Whole.{Ends, GoesThrough, JoinsWhole, Standing}
+use Rattle.certify.specs.matching.Whole.{Ends, GoesThrough, Standing}
 use Rattle.certify.specs.reading.Ahead.{Failed, Kept, Took}
-use Rattle.certify.specs.reading.Commands.{HasWhole, Means, ReachesCommand, TakesBytes, end_reading}
+use Rattle.certify.specs.reading.Commands.{HasWhole, Means, ReachesCommand, end_reading}
 use Rattle.certify.specs.reading.Streaming.{Arrives, Comes}
 use Rattle.certify.proofs.lemmas.confirm.Streams.{all_over, confirms_none, nothing_behind, says_stop, taken_front}
 use Rattle.certify.proofs.lemmas.matching.Joining.{covers_given, covers_took, failed_then, joins_stop, joins_then, kept_then, took_halted, took_kept, took_none, took_open, took_then}

@@ -2,16 +2,15 @@
 use Rattle.std.proofs.Common.{◌≡◌, ℕ, ◌+◌, ◌-◌, ◌≤◌, List, [], ◌∷◌, ◌++◌, Bool, true, false, length, take, drop, Some, None, is_some, refl, sym, ap, subst, ◌∙◌, append_assoc, arith, inl, inr}
 use Rattle.std.specs.Prelude.{◌&&◌}
 use Rattle.std.proofs.Math.Seq.{take-add}
-use Rattle.std.proofs.lemmas.List.{append-nil, length-take, take-take}
+use Rattle.std.proofs.lemmas.List.{length-take, take-take}
 use Rattle.sat_base.specs.declared.text.Token.{Token as CodeToken}
 use Rattle.sat_base.specs.declared.text.Tokenizer.{Tokenizer}
 use Rattle.sat_base.specs.text.Text.{Token, Number, Letter, Header, Wrong, Scan, scan, tokens, header_first, header_from, header_of}
 use Rattle.sat_base.specs.text.Tokenizing.{TakesFront, Stands, GivesLast, held_token}
 use Rattle.sat_base.specs.text.Chunks.{Follows}
-use Rattle.sat_base.specs.script.Script.{Command, Malformed}
 use Rattle.sat_base.proofs.lemmas.text.HeaderFirst.{IsWord, AreWords, AreScript, text_is}
-use Rattle.sat_base.specs.script.Language.{Reading, onto_commands, spoken, Hand, Nothing, commands_of, with_ask, written, reading}
-use Rattle.certify.specs.reading.Commands.{Holds, any_header, meaning, TakesToken, Means, MeansIf, HasWhole, TakesBytes, EndsSo, EndsLast}
+use Rattle.sat_base.specs.script.Language.{Reading, spoken, Hand, Nothing, commands_of, with_ask, written, reading}
+use Rattle.certify.specs.reading.Commands.{Holds, any_header, meaning, TakesToken, Means, MeansIf, TakesBytes, EndsSo, EndsLast}
 use Rattle.certify.specs.declared.reading.Reached.{Reached}
 use Rattle.certify.specs.declared.reading.Reached.TheVariants as reached
 use Rattle.certify.specs.declared.reading.ScriptEnd.{ScriptEnd}

@@ -1,16 +1,16 @@
 -- Scripts that are read command by command.
-use Rattle.std.proofs.Common.{◌≡◌, ℕ, ◌+◌, ◌-◌, ◌*◌, ◌<◌, ◌≤◌, Bool, true, false, List, [], ◌∷◌, ◌++◌, length, length-append, take, drop, Option, Some, None, Ok, Err, refl, sym, ap, subst, ◌∙◌, append_assoc, arith}
+use Rattle.std.proofs.Common.{◌≡◌, ℕ, ◌+◌, ◌-◌, ◌*◌, ◌<◌, ◌≤◌, Bool, true, false, List, [], ◌∷◌, ◌++◌, length, length-append, take, drop, Some, None, Ok, Err, refl, sym, ap, subst, ◌∙◌, arith}
 use Rattle.std.proofs.lemmas.List.{length-take, length-take-le, take-append-drop}
 use Rattle.sat_base.specs.device.Device.{Reader, most_reads}
-use Rattle.sat_base.specs.device.Reading.{Source, AtEnd, PassesBut, Passes, PassesToEnd, AllTaken, none_given}
+use Rattle.sat_base.specs.device.Reading.{Source, AtEnd, Passes, PassesToEnd}
 use Rattle.sat_base.specs.script.Script.{Malformed}
 use Rattle.sat_base.specs.script.Language.{Reading}
 use Rattle.sat_base.specs.text.Chunks.{Follows}
 use Rattle.sat_base.specs.declared.device.whole.ReadError.{ReadError}
 use Rattle.sat_base.specs.declared.device.whole.ReadError.TheVariants as errors
 use Rattle.sat_base.proofs.lemmas.device.ReadLemmas.{gave_some, gave_nothing, passes_more}
-use Rattle.certify.specs.confirm.Streams.{Covers, rest_in}
-use Rattle.certify.specs.reading.Ahead.{Failed, Kept, Refills, Took, source_in, waiting}
+use Rattle.certify.specs.confirm.Streams.{rest_in}
+use Rattle.certify.specs.reading.Ahead.{Refills, source_in, waiting}
 use Rattle.certify.specs.reading.Commands.{EndsLast, MeansIf, TakesBytes, end_if}
 use Rattle.certify.specs.reading.Streaming.{Arrives, Brings, Comes, Finishes, Takes}
 use Rattle.certify.specs.declared.ahead.Ahead.{Ahead}
@@ -22,7 +22,7 @@ use Rattle.certify.specs.declared.reading.stream.CommandStream.{CommandStream}
 use Rattle.certify.specs.declared.reading.stream.Next.{Next}
 use Rattle.certify.specs.declared.reading.stream.Next.TheVariants as next
 use Rattle.certify.proofs.lemmas.confirm.Streams.{all_over, nothing_behind, stays_open, taken_front}
-use Rattle.certify.proofs.lemmas.matching.Joining.{covers_took, failed_then, kept_then, took_halted, took_kept, took_open, took_then}
+use Rattle.certify.proofs.lemmas.matching.Joining.{covers_took, failed_then, kept_then, took_halted, took_kept, took_then}
 use Rattle.certify.proofs.lemmas.reading.Ahead.{passes_front}
 use Rattle.certify.proofs.lemmas.reading.Bytes.{followed, goes_nowhere}
 

@@ -1,7 +1,6 @@
 -- What a run has done at its end.
-use Rattle.std.proofs.Common.{ℕ, ◌+◌, ◌≤◌, ◌≡◌, ◌∙◌, ◌⊎◌, true, false, Option, Some, None, List, [], ◌∷◌, ◌++◌, map, length, Result, Ok, Err, OnOk, IfOk, inl, inr, refl, sym, ap, subst, arith, append-nil}
-use Rattle.std.specs.Prelude.{IsErrOf}
-use Rattle.sat_base.specs.device.Device.{Reader, Writer, GaveEnough, ReadFails, Takes, lent_writer, most_reads}
+use Rattle.std.proofs.Common.{ℕ, ◌+◌, ◌≤◌, ◌≡◌, ◌∙◌, true, false, Option, Some, None, List, [], ◌∷◌, ◌++◌, map, length, Result, Ok, Err, OnOk, IfOk, refl, sym, ap, subst, arith, append-nil}
+use Rattle.sat_base.specs.device.Device.{Reader, Writer, GaveEnough, Takes, lent_writer, most_reads}
 use Rattle.sat_base.specs.device.Reading.{Source, unread}
 use Rattle.sat_base.specs.device.Sink.{empty_sink}
 use Rattle.sat_base.specs.script.Judge.{accepted_of, start}
@@ -31,7 +30,7 @@ use Rattle.certify.specs.declared.summary.Summary.{Summary}
 use Rattle.certify.specs.declared.ahead.Ahead.{Ahead}
 use Rattle.certify.specs.reading.Ahead.{source_in, waiting}
 use Rattle.sat_base.specs.script.Language.{reading, written}
-use Rattle.certify.specs.run.FinishedRun.{Answered, Answers, Backs, TookCertificate, WriteFails, asked_steps, identities_given, malformed_at, AreSpent}
+use Rattle.certify.specs.run.FinishedRun.{Answered, Answers, Backs, TookCertificate, asked_steps, identities_given, malformed_at, AreSpent}
 use Rattle.certify.specs.run.Running.{ReadsFew, Runs, Wrote}
 use Rattle.certify.specs.serving.Calls.{Faults, IsReady, proof_in}
 use Rattle.certify.specs.serving.Certifies.{Certifies, complete, ordered}

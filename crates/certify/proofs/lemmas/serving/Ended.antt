@@ -1,5 +1,5 @@
 -- A certificate that isn't ended.
-use Rattle.std.proofs.Common.{◌≡◌, ◌∙◌, ◌⊎◌, inl, inr, true, false, Some, [], ◌∷◌, Err, sym}
+use Rattle.std.proofs.Common.{◌∙◌, ◌⊎◌, inl, inr, Some, [], ◌∷◌, Err, sym}
 use Rattle.std.proofs.lemmas.Bool.{true≢false}
 use Rattle.sat_base.specs.device.Device.{Writer}
 use Rattle.sat_base.specs.steps.Steps.{End}

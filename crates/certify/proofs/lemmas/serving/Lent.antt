@@ -1,5 +1,5 @@
 -- Commands that are lent are carried out.
-use Rattle.std.proofs.Common.{ℕ, ◌+◌, ◌≡◌, ◌∙◌, false, None, List, [], ◌++◌, Result, Ok, Err, OnOk, IfErr, sym, ap, subst}
+use Rattle.std.proofs.Common.{ℕ, ◌≡◌, ◌∙◌, false, None, List, [], ◌++◌, Result, Ok, Err, OnOk, IfErr, sym, ap, subst}
 use Rattle.std.proofs.lemmas.List.{append-nil}
 use Rattle.sat_base.specs.device.Device.{Writer}
 use Rattle.sat_base.specs.script.Script.{Command, Clause, Ask, Hide, Witness, Sample}

@@ -27,7 +27,7 @@ use Rattle.certify.specs.declared.summary.AskReport.{AskReport}
 use Rattle.certify.specs.reading.Ahead.{Kept, Took as TookOf}
 use Rattle.certify.specs.reading.Commands.{HasWhole, Means, MeansIf, ReachesCommand, end_reading, end_if}
 use Rattle.certify.specs.reading.Streaming.{Arrives, Comes}
-use Rattle.certify.specs.run.FinishedRun.{malformed_at, kind_of, AreSpent, asked_steps}
+use Rattle.certify.specs.run.FinishedRun.{malformed_at, kind_of, asked_steps}
 use Rattle.certify.specs.serving.Calls.{Faults, IsReady, proof_in}
 use Rattle.certify.specs.serving.Serving.{Place, Serves}
 use Rattle.certify.specs.serving.Standing.{CarriedOut, GoesOn, IsAt, ServedNext, WritesBoth, last_place, place_in}

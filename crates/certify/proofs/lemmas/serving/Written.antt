@@ -1,19 +1,17 @@
 -- What is certified by the steps that a solver made is certified by what it wrote for them.
-use Rattle.std.proofs.Common.{ℕ, ◌+◌, ◌≡◌, ◌∙◌, Bool, true, false, eqb, Option, Some, None, List, [], ◌∷◌, ◌++◌, length, length-append, refl, sym, ap, subst, arith, append_assoc}
+use Rattle.std.proofs.Common.{ℕ, ◌≡◌, ◌∙◌, Bool, true, false, eqb, Option, Some, None, List, [], ◌∷◌, ◌++◌, length, length-append, refl, sym, ap, subst, arith, append_assoc}
 use Rattle.std.proofs.lemmas.Bool.{eqb-true}
 use mathlib.Core.Path.{fun_ext}
 use Rattle.sat_base.specs.steps.Steps.{Step, SolverVarName, UserVarName, DeleteVar, ChangeSamplingMode, AddClause, AtClause, UnitClauses, DeleteClause, ChangeHashBits, Model, Assumptions, FailedAssumptions, End}
-use Rattle.sat_checker.specs.Stored.{is_known}
-use Rattle.sat_checker.specs.Accepts.{ready_after}
-use Rattle.sat_checker.specs.matching.Checking.{is_ordered, is_variable, variable_of}
+use Rattle.sat_checker.specs.matching.Checking.{is_ordered, variable_of}
 use Rattle.sat_checker.specs.matching.Expected.{Outcome, Expected, Opens, Closes, Fits, new_name, no_name, adds, opens, shows, fails, closes, finish, EachSpelt, SameSet}
 use Rattle.sat_checker.specs.matching.ProofChecking.{the_checking}
 use Rattle.sat_solver.specs.session.Counting.{start, counted, width_told, written_for, Cuts, none_made, ask_begun, one_made}
-use Rattle.sat_solver.specs.session.Session.{MayAll, session_after}
+use Rattle.sat_solver.specs.session.Session.{MayAll}
 use Rattle.sat_solver.specs.session.Widths.{IsWritten, none_yet, width_changes, one_more, KeepsWidth, MayAt, narrowed}
 use Rattle.sat_solver.proofs.lemmas.session.Narrowing.{widths_are_free}
 use Rattle.sat_solver.proofs.lemmas.session.StepLemmas.{sessions_are_accepted}
-use Rattle.certify.specs.serving.Certifies.{Certifies, complete, left_out, other, ordered, asked, answered, IsKnown, IsRecorded, MayStand}
+use Rattle.certify.specs.serving.Certifies.{Certifies, complete, left_out, other, ordered, asked, answered, IsRecorded, MayStand}
 use Rattle.certify.proofs.lemmas.serving.Recorded.{recorded_at}
 
 -- STEP BY STEP

@@ -1,6 +1,5 @@
-use Rattle.std.proofs.Common.{◌≡◌, ◌<◌, ◌^◌, ◌++◌, [], Ok, Err, Result, OnOk, Bool, true, false, List, ℕ, refl, sym, ◌∙◌, ap, subst, arith}
+use Rattle.std.proofs.Common.{◌≡◌, ◌++◌, Ok, Err, Result, OnOk, sym, subst, arith}
 use Rattle.certify.specs.declared.judge.Refusal.TheVariants as code
-use Rattle.std.specs.Bool.{MatchBool}
 use Rattle.certify.specs.answers.Answers.{refused_line}
 use Rattle.certify.specs.judge.Names.{refusal_in}
 use Rattle.certify.specs.matching.Lines.{IsLine}

@@ -1,6 +1,4 @@
-use Rattle.std.proofs.Common.{◌≡◌, ◌<◌, ◌^◌, ◌++◌, [], Ok, Err, OnOk, Bool, true, false, List, ℕ, refl, sym, ◌∙◌, ap, subst, arith}
-use Rattle.std.proofs.lemmas.Result.{err_from_is_err_and}
-use Rattle.std.specs.Bool.{MatchBool}
+use Rattle.std.proofs.Common.{◌<◌, ◌^◌, arith}
 use Rattle.certify.proofs.lemmas.matching.Lines.{witness_is_line}
 use Rattle.certify.proofs.answers.refused.push_refused_witness.Goals as goal
 

@@ -1,4 +1,4 @@
-use Rattle.std.proofs.Common.{Ok, Err, [], refl, subst, true, false}
+use Rattle.std.proofs.Common.{Ok, Err, refl, subst, true, false}
 use Rattle.std.proofs.lemmas.Result.{err_from_is_err_and}
 use Rattle.sat_checker.specs.KernelView.{LooksAtMost}
 use Rattle.certify.specs.confirm.Feeding.{Feeds}

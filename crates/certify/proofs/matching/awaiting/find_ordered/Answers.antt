@@ -1,4 +1,4 @@
-use Rattle.std.proofs.Common.{Ok, [], refl, ◌∙◌, subst}
+use Rattle.std.proofs.Common.{Ok, refl, ◌∙◌, subst}
 use Rattle.std.proofs.lemmas.Result.{err_from_is_err_and}
 use Rattle.sat_checker.specs.CheckerView.{kernel_of}
 use Rattle.certify.specs.confirm.Stepping.{is_fed_so_far}

@@ -1,4 +1,4 @@
-use Rattle.std.proofs.Common.{◌≤◌, ◌<◌, length, refl, arith}
+use Rattle.std.proofs.Common.{◌≤◌, ◌<◌, length, arith}
 use Rattle.certify.proofs.lemmas.matching.Lines.{line_here, no_lf_more, no_lf_all}
 use Rattle.certify.proofs.matching.lines.up_to_line.Goals as goal
 

@@ -1,4 +1,4 @@
-use Rattle.std.proofs.Common.{◌+◌, Ok, [], refl, sym, subst}
+use Rattle.std.proofs.Common.{◌+◌, Ok, refl, sym, subst}
 use Rattle.sat_checker.specs.CheckerView.{kernel_of}
 use Rattle.sat_checker.specs.matching.Expected.{NoName}
 use Rattle.certify.specs.confirm.Streams.{Confirms, stream_of}

@@ -1,4 +1,4 @@
-use Rattle.std.proofs.Common.{◌≡◌, ◌+◌, Ok, []}
+use Rattle.std.proofs.Common.{◌≡◌, ◌+◌, Ok}
 use Rattle.sat_base.specs.steps.StepReading.{reader_name}
 use Rattle.sat_checker.specs.CheckerView.{kernel_of}
 use Rattle.certify.specs.confirm.Streams.{Confirms, GoesOn, stream_of}

@@ -1,5 +1,5 @@
 use Rattle.std.proofs.Common.{Ok, sym, ◌∙◌, ap, subst}
-use Rattle.sat_checker.specs.matching.Expected.{Sat, Unsat, Unknown}
+use Rattle.sat_checker.specs.matching.Expected.{Sat, Unsat}
 use Rattle.certify.specs.answers.AnswerForms.{named_literals}
 use Rattle.certify.specs.answers.AnswerReading.{outcome_of}
 use Rattle.certify.specs.confirm.Streams.{Confirms}

@@ -1,4 +1,4 @@
-use Rattle.std.proofs.Common.{ℕ, ◌≡◌, ◌∙◌, List, IfOk, sym, subst}
+use Rattle.std.proofs.Common.{ℕ, ◌∙◌, List, IfOk, sym, subst}
 use Rattle.certify.specs.program.Printing.{IsWritten, Prints}
 use Rattle.certify.proofs.lemmas.program.PrintedVerdicts.{prints_given}
 use Rattle.certify.proofs.program.standard.answer.Goals as goal

@@ -1,4 +1,4 @@
-use Rattle.std.proofs.Common.{◌<◌, false, true, subst}
+use Rattle.std.proofs.Common.{true, subst}
 use Rattle.std.proofs.lemmas.Result.{err_from_is_err_and}
 use Rattle.sat_base.specs.script.Judge.{start}
 use Rattle.certify.specs.declared.reading.stream.Next.{Next}

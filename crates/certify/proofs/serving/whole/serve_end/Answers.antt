@@ -1,4 +1,4 @@
-use Rattle.std.proofs.Common.{◌≡◌, ◌+◌, None, Some, refl, sym, ap, subst, arith, rules}
+use Rattle.std.proofs.Common.{◌≡◌, ◌+◌, None, Some, refl, sym, ap, subst, rules}
 use Rattle.certify.specs.declared.reading.ScriptEnd.{ScriptEnd}
 use Rattle.certify.specs.reading.Commands.{end_reading}
 use Rattle.certify.specs.serving.Calls.{proof_in}

@@ -1,6 +1,3 @@
-use Rattle.std.proofs.Common.{◌≡◌, ◌<◌, ◌^◌, ◌++◌, [], Ok, Err, OnOk, Bool, true, false, List, ℕ, refl, sym, ◌∙◌, ap, subst, arith}
-use Rattle.std.proofs.lemmas.Result.{err_from_is_err_and}
-use Rattle.std.specs.Bool.{MatchBool}
 use Rattle.certify.specs.matching.Lines.{answers_source}
 use Rattle.certify.specs.reading.Ahead.{source_in}
 use Rattle.certify.proofs.lemmas.matching.Lines.{line_unread}

@@ -1,6 +1,4 @@
-use Rattle.std.proofs.Common.{◌≡◌, ◌<◌, ◌^◌, ◌++◌, [], Ok, Err, OnOk, Bool, true, false, List, ℕ, refl, sym, ◌∙◌, ap, subst, arith}
-use Rattle.std.proofs.lemmas.Result.{err_from_is_err_and}
-use Rattle.std.specs.Bool.{MatchBool}
+use Rattle.std.proofs.Common.{◌++◌, true, List, ℕ, sym, ◌∙◌, ap, subst, arith}
 use Rattle.certify.specs.answers.Answers.{malformed_line}
 use Rattle.certify.specs.matching.Lines.{TakesLine}
 use Rattle.certify.specs.matching.Halting.{Replies}

@@ -1,4 +1,4 @@
-use Rattle.std.proofs.Common.{◌≡◌, List, ℕ, [], true, false, refl, sym, ◌∙◌, ap, subst}
+use Rattle.std.proofs.Common.{sym, subst}
 use Rattle.std.proofs.lemmas.Result.{err_from_is_err_and}
 use Rattle.sat_base.specs.device.Reading.{Passes}
 use Rattle.sat_base.proofs.lemmas.device.ReadLemmas.{passes_none}

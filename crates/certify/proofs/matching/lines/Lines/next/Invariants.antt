@@ -1,4 +1,4 @@
-use Rattle.std.proofs.Common.{◌-◌, ◌≤◌, [], ◌≡◌}
+use Rattle.std.proofs.Common.{◌-◌}
 use Rattle.sat_base.specs.device.Device.{most_reads}
 use Rattle.sat_base.specs.device.Reading.{Passes}
 use Rattle.certify.specs.matching.Lines.{HasNoLf}

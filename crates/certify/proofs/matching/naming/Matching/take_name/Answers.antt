@@ -1,4 +1,4 @@
-use Rattle.std.proofs.Common.{◌+◌, Ok, Err, [], refl, sym, subst}
+use Rattle.std.proofs.Common.{◌+◌, Ok, Err}
 use Rattle.std.proofs.lemmas.Result.{err_from_is_err_and}
 use Rattle.sat_checker.specs.CheckerView.{kernel_of}
 use Rattle.certify.specs.confirm.Streams.{stream_of}

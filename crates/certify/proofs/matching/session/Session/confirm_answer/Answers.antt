@@ -1,4 +1,4 @@
-use Rattle.std.proofs.Common.{Ok, Err, [], refl, sym, ◌∙◌, ap, subst, true, false, ℕ, List}
+use Rattle.std.proofs.Common.{Ok, Err, refl}
 use Rattle.std.proofs.lemmas.Result.{err_from_is_err_and}
 use Rattle.certify.specs.answers.AnswerForms.{named_literals}
 use Rattle.certify.specs.matching.Confirming.{table_of}

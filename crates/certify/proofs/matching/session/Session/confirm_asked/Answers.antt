@@ -1,9 +1,8 @@
-use Rattle.std.proofs.Common.{◌≡◌, ◌+◌, Ok, Err, Some, None, Option, [], false, refl, sym, ◌∙◌, ap, subst}
+use Rattle.std.proofs.Common.{◌+◌, [], refl, ◌∙◌}
 use Rattle.std.proofs.lemmas.Result.{err_from_is_err_and}
 use Rattle.sat_base.specs.script.Script.{Ask, Clean}
 use Rattle.certify.specs.matching.Confirming.{table_of}
 use Rattle.certify.specs.matching.Sessions.{answers_in, stream_in}
-use Rattle.certify.specs.reading.Commands.{IsLent}
 use Rattle.certify.proofs.lemmas.matching.Joining.{took_open}
 use Rattle.certify.proofs.lemmas.matching.SessionMet.{command_end, command_stops}
 use Rattle.certify.proofs.matching.session.Session.confirm_asked.Goals as goal

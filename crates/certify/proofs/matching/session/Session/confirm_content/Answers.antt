@@ -1,9 +1,8 @@
-use Rattle.std.proofs.Common.{◌≡◌, Ok, Err, Some, None, Option, [], refl, sym, ◌∙◌, ap, subst, true, false, ℕ, List}
+use Rattle.std.proofs.Common.{Ok, refl, sym, ◌∙◌, subst, true}
 use Rattle.std.proofs.lemmas.Result.{err_from_is_err_and}
 use Rattle.certify.specs.answers.AnswerForms.{named_literals}
-use Rattle.certify.specs.matching.Confirming.{ConfirmsContent, ConfirmsLast, ConfirmsNext, MeetsContent, table_of}
+use Rattle.certify.specs.matching.Confirming.{ConfirmsContent, MeetsContent, table_of}
 use Rattle.certify.specs.matching.Halting.{Joins}
-use Rattle.certify.specs.matching.Lines.{answers_source}
 use Rattle.certify.specs.matching.Sessions.{answers_in, stream_in}
 use Rattle.certify.specs.reading.Commands.{kind_of}
 use Rattle.certify.specs.declared.reading.CommandKind.{CommandKind}

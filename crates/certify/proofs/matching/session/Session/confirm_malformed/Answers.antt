@@ -1,6 +1,5 @@
-use Rattle.std.proofs.Common.{Ok, Err, [], refl, sym, ◌∙◌, ap, subst}
+use Rattle.std.proofs.Common.{refl}
 use Rattle.std.proofs.lemmas.Result.{err_from_is_err_and}
-use Rattle.certify.specs.answers.AnswerForms.{named_literals}
 use Rattle.certify.specs.matching.Confirming.{table_of}
 use Rattle.certify.specs.matching.Sessions.{answers_in, stream_in}
 use Rattle.certify.specs.matching.Lines.{answers_source}

@@ -1,8 +1,7 @@
-use Rattle.std.proofs.Common.{◌≡◌, ◌<◌, Ok, Err, List, ℕ, true, refl, sym, ◌∙◌, ap, subst}
+use Rattle.std.proofs.Common.{◌<◌, true, refl, sym, ◌∙◌, subst}
 use Rattle.std.proofs.lemmas.Result.{err_from_is_err_and}
 use Rattle.certify.specs.confirm.Streams.{bytes_left}
-use Rattle.certify.specs.matching.Confirming.{table_of}
-use Rattle.certify.specs.matching.Sessions.{answers_in, stream_in}
+use Rattle.certify.specs.matching.Sessions.{answers_in}
 use Rattle.certify.specs.matching.Whole.{GoesThrough, script_in, standing}
 use Rattle.certify.specs.reading.Ahead.{IsOpen, source_in}
 use Rattle.sat_base.specs.script.Language.{reading}

@@ -1,11 +1,9 @@
-use Rattle.std.proofs.Common.{◌≡◌, ◌+◌, ◌-◌, ◌^◌, ◌≤◌, Ok, Err, Some, None, Option, [], ◌∷◌, true, false, refl, sym, ◌∙◌, ap, subst, arith, rules}
+use Rattle.std.proofs.Common.{◌-◌, ◌^◌, ◌≤◌, Ok, Err, true, refl, arith, rules}
 use Rattle.std.proofs.lemmas.Result.{err_from_is_err_and}
 use Rattle.std.proofs.lemmas.Bool.Decides.{nat_tests}
-use Rattle.certify.specs.matching.Confirming.{ConfirmsLast, ConfirmsNext, table_of}
+use Rattle.certify.specs.matching.Confirming.{ConfirmsNext, table_of}
 use Rattle.certify.specs.matching.Sessions.{answers_in, stream_in}
-use Rattle.certify.specs.reading.Commands.{end_reading}
-use Rattle.certify.proofs.lemmas.matching.Joining.{joins_many, too_many, took_open}
-use Rattle.certify.proofs.lemmas.matching.SessionMet.{command_end, command_stops}
+use Rattle.certify.proofs.lemmas.matching.Joining.{joins_many, too_many}
 use Rattle.certify.proofs.matching.whole.Confirmation.confirm_next.Goals as goal
 
 pub returns-in_err-confirm_command-clause-confirms : goal.returns-in_err-confirm_command-clause-confirms

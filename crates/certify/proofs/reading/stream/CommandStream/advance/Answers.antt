@@ -1,4 +1,4 @@
-use Rattle.std.proofs.Common.{◌≡◌, ◌<◌, [], List, ℕ, Ok, length, refl, sym, ◌∙◌, ap, subst, arith}
+use Rattle.std.proofs.Common.{Ok, ◌∙◌, subst}
 use Rattle.sat_base.specs.declared.device.whole.ReadError.{ReadError}
 use Rattle.certify.specs.declared.reading.Reached.{Reached}
 use Rattle.certify.specs.declared.reading.ScriptEnd.TheVariants as ends

@@ -1,4 +1,4 @@
-use Rattle.std.proofs.Common.{[], Ok, Err, Some, None, Option, subst}
+use Rattle.std.proofs.Common.{[], Ok, Option, subst}
 use Rattle.std.proofs.lemmas.Result.{err_from_is_err_and}
 use Rattle.sat_base.proofs.lemmas.device.ReadLemmas.{passes_none}
 use Rattle.certify.specs.declared.reading.stream.Next.{Next}
