@@ -3,3 +3,4 @@ pub mod Language
 pub mod ScriptSpelling
 pub mod ScriptRows
 pub mod Judge
+pub mod JudgeLaws

@@ -10,6 +10,7 @@ mod formula;
 mod hash;
 mod law_dimacs;
 mod law_hash;
+mod law_judge;
 mod law_lit;
 mod law_step;
 mod law_text;
@@ -29,6 +30,7 @@ pub use formula::{CnfFormula, CnfFormulaIter};
 pub use hash::{ClauseHash, clause_hash, lit_hash};
 pub use law_dimacs::{dimacs_laws, dimacs_rows, written_dimacs_is_read};
 pub use law_hash::permuted_clauses_hash_alike;
+pub use law_judge::judge_laws;
 pub use law_lit::{
     equal_literals_hash_alike, equal_variables_hash_alike, order_of_literals, order_of_variables,
 };

@@ -2,3 +2,4 @@ pub mod Checking
 pub mod ProofChecking
 pub mod Bridge
 pub mod Expected
+pub mod Traces

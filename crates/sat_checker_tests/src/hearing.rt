@@ -170,7 +170,14 @@ type Awaited = (u8, u64, u64, bool, Numbers, Ids);
 
 fn parts_of<'a>(step: &CheckedProofStep<'a>) -> Found<'a> {
     match *step {
-        CheckedProofStep::DeleteVar { var } => (FORGOTTEN, var.index() as u64 + 1, 0, false, &[], &[]),
+        CheckedProofStep::DeleteVar { var } => (
+            FORGOTTEN,
+            var.index() as u64 + 1,
+            0,
+            false,
+            &[],
+            &[],
+        ),
         CheckedProofStep::AddClause { id, clause } => (ADDED, id, 0, false, clause, &[]),
         CheckedProofStep::DuplicatedClause {
             id,

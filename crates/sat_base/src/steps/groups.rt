@@ -1,5 +1,6 @@
 //! The fields of steps that have several.
 #![tactic(auto, using(crate::proofs::lemmas::device::Sending::sending))]
+
 ghost use Rattle.sat_base.specs.device.Reading.{Got, valued};
 ghost use Rattle.sat_base.specs.steps.Kinds.{both_held};
 ghost use Rattle.sat_base.specs.steps.Formats.{Both};

@@ -1,3 +1,3 @@
-pub mod LiteralValues
 pub mod Bridge
 pub mod CheckerIsSound
+pub mod Traces

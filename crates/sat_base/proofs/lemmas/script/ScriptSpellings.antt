@@ -380,8 +380,10 @@ headless_read ts cs end w (inr (v, c, rest, spelled, e, s, f)) = absurd (let h :
 headless : (ts : List Token) (cs : List Command) (end : Ending) → AreWords ts → with_ask (headed ts) (commands_of Nothing ts) ≡ (cs, end) ↔ SpellsScript cs end ts
 headless ts cs end w =
     let none = no_header ts w in (
-      λ e. inl ((λ v c rest f. (let h : AreWords (Header v c ∷ rest) = subst AreWords f w in h.0)),
-          to_spelled cs end ts (all_spelled cs end ts w (sym (ap (λ (b : Bool). with_ask b (commands_of Nothing ts)) none) ∙ e))),
+      λ e. inl (
+        (λ v c rest f. (let h : AreWords (Header v c ∷ rest) = subst AreWords f w in h.0)),
+        to_spelled cs end ts (all_spelled cs end ts w (sym (ap (λ (b : Bool). with_ask b (commands_of Nothing ts)) none) ∙ e)),
+      ),
       λ s. ap (λ (b : Bool). with_ask b (commands_of Nothing ts)) none ∙ headless_read ts cs end w s,
     )
 
@@ -408,8 +410,15 @@ headed_script v c ts cs end w =
       λ e.
           let h : ◌≡◌ {A = Reading} (asked r.0 r.1, r.1) (cs, end) = sym (asked_is r.0 r.1) ∙ sym (ap (with_ask true) goes_on) ∙ e in
           let last : r.1 ≡ end = ap (λ (x : Reading). x.1) h in
-          inr (v, c, ts, r.0, refl, subst (λ (d : Ending). SpellsTo r.0 d ts) last (to_spelled r.0 r.1 ts (all_spelled r.0 r.1 ts w refl)),
-          sym (ap (λ (x : Reading). x.0) h) ∙ ap (asked r.0) last),
+          inr (
+            v,
+            c,
+            ts,
+            r.0,
+            refl,
+            subst (λ (d : Ending). SpellsTo r.0 d ts) last (to_spelled r.0 r.1 ts (all_spelled r.0 r.1 ts w refl)),
+            sym (ap (λ (x : Reading). x.0) h) ∙ ap (asked r.0) last,
+          ),
       λ s. ap (with_ask true) goes_on ∙ headed_read v c ts cs end w s,
     )
 

@@ -1,6 +1,7 @@
 -- Counts of stored clauses, as clauses come in and go.
 use Rattle.std.proofs.Common.{ℕ, ◌+◌, ◌-◌, ◌<◌, ◌≡◌, Bool, true, false, ◌&&◌, cond, eqb, List, [], ◌∷◌, ◌++◌, refl, sym, ◌∙◌, ap, subst, arith, inl, inr, Option, None, Some, eq-zero-or-pos}
 use Rattle.std.proofs.lemmas.Bool.{and_parts, both_ways, eqb-true, eqb-false}
+use Rattle.std.specs.List.{AllByRecursion}
 use Rattle.sat_checker.specs.LiteralSets.{same_literals}
 use Rattle.sat_checker.specs.Stored.{StoredClause}
 use Rattle.sat_checker.specs.Storing.{with_count, new_clause, with_clause, clause_with, without_count, unless_gone, without_clause}
@@ -196,3 +197,19 @@ counted_less r ls (c ∷ cs) h = go r (counted_less r ls cs h.1) (same_literals 
     go : (r : Bool) → EachCounted (without_clause r ls cs) → (b : Bool) → EachCounted (cond b (unless_gone (without_count r c) ++ cs) (c ∷ without_clause r ls cs))
     go r ih true = positive (without_count r c) (eqb (without_count r c).irredundant 0 && eqb (without_count r c).redundant 0) refl
     go r ih false = (h.0, ih)
+
+-- where no set is stored twice, each clause is found by its literals
+pub found : (cs : List StoredClause) → EachOnce cs → AllByRecursion (λ c. clause_with c.literals cs ≡ Some c) cs
+found [] h = tt
+found (c ∷ cs) h = (ap (λ b. cond b (Some c) (clause_with c.literals cs)) (same_from c.literals c.literals refl), later cs (found cs h.1))
+  where
+    pick : (d : StoredClause) (b : Bool) → same_literals c.literals d.literals ≡ b → clause_with d.literals cs ≡ Some d → cond b (Some c) (clause_with d.literals cs) ≡ Some d
+    pick d true e k = let none : clause_with d.literals cs ≡ None = subst (λ l. clause_with l cs ≡ None) (same c.literals d.literals e) h.0 in absurd (apart d (sym none ∙ k))
+      where
+        apart : (d : StoredClause) → None ≡ Some d → ⊥
+        apart d e = cc
+    pick d false e k = k
+
+    later : (ds : List StoredClause) → AllByRecursion (λ d. clause_with d.literals cs ≡ Some d) ds → AllByRecursion (λ d. clause_with d.literals (c ∷ cs) ≡ Some d) ds
+    later [] k = tt
+    later (d ∷ ds) k = (pick d (same_literals c.literals d.literals) refl k.0, later ds k.1)

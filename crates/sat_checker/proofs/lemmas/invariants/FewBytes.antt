@@ -2,16 +2,16 @@
 use Rattle.std.proofs.Common.{ℕ, ◌+◌, ◌^◌, ◌<◌, ◌≤◌, ◌≡◌, Bool, true, false, ◌&&◌, cond, eqb, is_some, max, List, [], ◌∷◌, ◌++◌, map, length, length-append, Option, None, Some, inl, inr, refl, sym, ◌∙◌, ap, subst, arith}
 use Rattle.std.specs.List.{AllByRecursion}
 use Rattle.sat_base.specs.values.Literals.{negated}
-use Rattle.sat_base.specs.steps.Formats.{Format, Items}
-use Rattle.sat_base.specs.steps.Numbers.{IsNumber, IsBelow}
+use Rattle.sat_base.specs.steps.Formats.{Items}
+use Rattle.sat_base.specs.steps.Numbers.{IsNumber}
 use Rattle.sat_base.specs.steps.Steps.{Redundant, Simplified, Satisfied, Step, SolverVarName, UserVarName, DeleteVar, ChangeSamplingMode, AddClause, AtClause, UnitClauses, DeleteClause, ChangeHashBits, Model, Assumptions, FailedAssumptions, End}
 use Rattle.sat_base.specs.steps.StepText.{IsLiteral, IsHash, AreLiterals, SpellsFields, SpellsStep, SpellsSteps, tag_of}
 use Rattle.sat_checker.specs.LiteralSets.{is_tautology, canonical, same_literals}
 use Rattle.sat_checker.specs.Stored.{StoredClause, Stored, is_unit}
 use Rattle.sat_checker.specs.Storing.{with_count, with_clause, clause_with, irredundant_count, redundant_count, without_count, unless_gone, without_clause, with_unit, with_units, with_contradiction, with_new_unit, settled_by, settled, with_set, with_canonical, with_stored, with_input, with_literals_known}
-use Rattle.sat_checker.specs.Accepts.{Accepts, effect, stored_after, ready_after}
+use Rattle.sat_checker.specs.Accepts.{effect, stored_after}
 use Rattle.sat_checker.specs.ProofView.{most_bytes, taken_after}
-use Rattle.sat_checker.specs.Spent.{CountSpent, IsSpent, SpentBy}
+use Rattle.sat_checker.specs.Spent.{IsSpent}
 use Rattle.sat_checker.specs.FewBytes.{IdsWithinBytes, NoneIsSpent}
 use Rattle.sat_checker.proofs.lemmas.checker.Proofs.{taken_one}
 

@@ -39,10 +39,10 @@ last_stays f (AtClause r clause hashes) e = absurd cc
 last_stays f (UnitClauses us) e = absurd cc
 last_stays f (DeleteClause clause proof) e = absurd cc
 
-derived : (set : List ℕ) (g : Stored) → 2 ≤ length set → Orderly (with_canonical false set g) → last_literals (with_canonical false set g).last (with_canonical false set g) ≡ Some set
-derived [] g n o = absurd (omega arith)
-derived (l ∷ []) g n o = absurd (omega arith)
-derived (l ∷ m ∷ ls) g n o = go (clause_with (l ∷ m ∷ ls) (with_clause false g.next_id (l ∷ m ∷ ls) g.clauses)) refl (stored_count g.next_id (l ∷ m ∷ ls) g.clauses)
+pub derived_last : (set : List ℕ) (g : Stored) → 2 ≤ length set → Orderly (with_canonical false set g) → last_literals (with_canonical false set g).last (with_canonical false set g) ≡ Some set
+derived_last [] g n o = absurd (omega arith)
+derived_last (l ∷ []) g n o = absurd (omega arith)
+derived_last (l ∷ m ∷ ls) g n o = go (clause_with (l ∷ m ∷ ls) (with_clause false g.next_id (l ∷ m ∷ ls) g.clauses)) refl (stored_count g.next_id (l ∷ m ∷ ls) g.clauses)
   where
     go : (d : Option StoredClause) → clause_with (l ∷ m ∷ ls) (with_clause false g.next_id (l ∷ m ∷ ls) g.clauses) ≡ d → 0 < irredundant_count d → last_literals (long_at d g.last) (with_canonical false (l ∷ m ∷ ls) g) ≡ Some (l ∷ m ∷ ls)
     go None k n = absurd (omega arith)
@@ -55,4 +55,4 @@ derived_is_last steps clause hashes ok e n =
     go : (b : Bool) → b ≡ false → Orderly (cond b (with_literals_known clause (ready_after steps)) (with_canonical false (canonical clause) (with_literals_known clause (ready_after steps))))
         → last_literals (cond b (with_literals_known clause (ready_after steps)) (with_canonical false (canonical clause) (with_literals_known clause (ready_after steps)))).last (cond b (with_literals_known clause (ready_after steps)) (with_canonical false (canonical clause) (with_literals_known clause (ready_after steps)))) ≡ Some (canonical clause)
     go true k o = absurd cc
-    go false k o = derived (canonical clause) (with_literals_known clause (ready_after steps)) n o
+    go false k o = derived_last (canonical clause) (with_literals_known clause (ready_after steps)) n o

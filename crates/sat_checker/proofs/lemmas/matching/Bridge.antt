@@ -11,7 +11,7 @@ use Rattle.sat_checker.specs.Fold.{Holds}
 use Rattle.sat_checker.specs.matching.Checking.{is_variable, variable_of, Checking, IsSound}
 use Rattle.sat_checker.specs.matching.Expected.{Spells, EachSpelt, SameSet}
 use Rattle.sat_checker.specs.matching.Bridge.{Live, Agrees, Apart, IsBridge}
-use Rattle.sat_checker.proofs.lemmas.matching.LiteralValues.{coded_half, literal_same, among_true, some_true, some_mapped, among_mapped, all_at, all_map, updated, Below, updated_clauses, placed_found, removed_found, removed_gone}
+use Rattle.sat_base.proofs.lemmas.script.LiteralValues.{coded_half, literal_same, among_true, some_true, some_mapped, among_mapped, all_at, all_map, updated, Below, updated_clauses, placed_found, removed_found, removed_gone}
 
 pub begun : (k : Checking) → IsBridge k start [] []
 begun k = record {
