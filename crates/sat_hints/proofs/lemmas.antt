@@ -16,6 +16,7 @@ pub mod Announced
 pub mod WithinLimits
 pub mod AreProved
 pub mod Putting
+pub mod Decimals
 pub mod Heard
 pub mod Written
 pub mod Finished

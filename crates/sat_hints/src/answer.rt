@@ -16,7 +16,7 @@ pub enum HintWhy {
     NotUnit,
     /// The last clause that it names is not falsified, or it names none.
     NotFalsified,
-    /// It makes a variable new that is in a clause of two literals or more.
+    /// It makes a variable new that is in a present clause of two literals or more.
     VarInUse,
 }
 

@@ -166,7 +166,7 @@ fn write_text<R: CountedRead, W: CountedWrite + Drop>(
     }
 }
 
-/// Writes the hint text of a certificate, which is checked meanwhile. It writes in pieces of 4,096 bytes, and takes the memory of a
+/// Writes the hint text of a certificate, which is checked meanwhile. It writes in pieces of at most 4,096 bytes, and takes the memory of a
 /// checker, and none for a line.
 pub fn convert<R: CountedRead, W: CountedWrite>(
     alloc: Global,

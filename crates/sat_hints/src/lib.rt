@@ -4,7 +4,9 @@
 mod answer;
 mod checking;
 mod converting;
+mod digits;
 mod error;
+mod guesses;
 mod judging;
 pub mod laws;
 mod line;

@@ -5,11 +5,15 @@ ghost use Rattle.sat_hints.specs.Lines.{Input, Derived, Gone, Core, Fresh, id_te
 ghost use Rattle.sat_hints.specs.inner.LineReading.{line_of};
 ghost use Rattle.sat_hints.specs.inner.LineWriting.{outlet, Put};
 
+use crate::digits::write_digits;
 use crate::line::HintLine;
 use sat_base::{CountedWrite, Lit, Var};
 
 /// How many bytes wait at most.
 const PIECE: usize = 4096;
+
+/// No number has more digits.
+const MOST_DIGITS: usize = 20;
 
 /// A writer, and bytes that wait until there is no room for more, or nothing more comes. Once a write has failed nothing more is
 /// written.
@@ -110,12 +114,26 @@ impl<W: CountedWrite> LineWriter<W> {
     fn put_decimal(&mut self, number: u64)
         ensures { Put (decimal number) (outlet W.seen self.old) (outlet W.seen self.new) }
     {
-        if number < 10 {
-            self.put(b'0' + number as u8);
+        if self.failed {
             return;
         }
-        self.put_decimal(number / 10);
-        self.put(b'0' + (number % 10) as u8);
+        if self.len > PIECE - MOST_DIGITS {
+            self.put_decimal_behind(number);
+            return;
+        }
+        self.len = write_digits(&mut self.bytes, self.len, number);
+    }
+
+    /// Writes out what waits, and lets the digits of a number wait.
+    fn put_decimal_behind(&mut self, number: u64)
+        requires { self.old.failed ≡ false }
+        ensures { Put (decimal number) (outlet W.seen self.old) (outlet W.seen self.new) }
+    {
+        self.write_out();
+        if self.failed {
+            return;
+        }
+        self.len = write_digits(&mut self.bytes, 0, number);
     }
 
     /// The ID of this id.

@@ -3,6 +3,7 @@ ghost use Rattle.std.specs.Prelude.{◌≡◌, ◌<◌, ℕ, [], None, length, s
 ghost use Rattle.sat_checker.specs.SortedSets.{IsIncreasing};
 ghost use Rattle.sat_hints.specs.inner.Clauses.{clause_at, clause_in, times_at, Adds, AllBelow, FindsOne, IsStore, Keeps, Loses};
 
+use crate::guesses::Guesses;
 use sat_base::{FlatLists, Lit};
 use std::alloc::{AllocError, Global};
 
@@ -13,6 +14,7 @@ pub(crate) struct Present {
     ids: Vec<u64>,
     clauses: FlatLists<Lit>,
     gone: Vec<bool>,
+    guesses: Guesses,
     /// Clauses and literals, and how many of these are gone.
     total: usize,
     unused: usize,
@@ -30,6 +32,7 @@ impl Present {
             ids: Vec::new(alloc),
             clauses: FlatLists::new(alloc),
             gone: Vec::new(alloc),
+            guesses: Guesses::new(alloc),
             total: 0,
             unused: 0,
             alloc,
@@ -42,7 +45,7 @@ impl Present {
         ensures { MatchOption result (clause_in self.now id ≡ None)
             (FindsOne self.now id) }
     {
-        let Ok(place) = self.ids.binary_search(&id) else {
+        let Ok(place) = self.guesses.search(&self.ids, id) else {
             return None;
         };
         if self.gone[place] {
@@ -80,6 +83,7 @@ impl Present {
         requires increasing { IsIncreasing clause.now }
         ensures { OnOk result (Adds self.old self.new id clause.now) }
     {
+        self.guesses.note(id, self.ids.len())?;
         self.ids.push(id)?;
         self.gone.push(false)?;
         self.clauses.push(clause)?;
@@ -125,6 +129,7 @@ impl Present {
         ensures { OnOk result (Keeps self.old self.new) }
     {
         let mut kept = Present::new(self.alloc);
+        std::mem::swap(&mut kept.guesses, &mut self.guesses);
         self.keep_in(&mut kept)?;
         *self = kept;
         Ok(())

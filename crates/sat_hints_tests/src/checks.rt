@@ -144,7 +144,7 @@ fn new_variables() -> [Row; 19] {
             b"i 1 1 2 0\ni 2 -2 0\nd 3 1 0 2 1 0\nx 1 0\ne 1 0\nx 3 0\n",
             bad(6, HintWhy::UnknownId),
         ),
-        // A core, and the largest variable.
+        // A core.
         (
             b"i 1 2 0\nf -2 0 1 0\ne 2 0\nf -2 0 1 0\n",
             bad(4, HintWhy::UnknownId),

@@ -1,8 +1,7 @@
 -- Texts that are put one behind another.
-use Rattle.std.proofs.Common.{ℕ, suc, ◌+◌, ◌/◌, ◌%◌, ◌^◌, ◌<◌, ◌≤◌, ◌≡◌, Bool, true, false, List, [], ◌∷◌, ◌++◌, length, take, drop, get_or, set, decimal, codes, refl, sym, ◌∙◌, ap, subst, arith, append_assoc, append-nil}
+use Rattle.std.proofs.Common.{ℕ, suc, ◌+◌, ◌^◌, ◌<◌, ◌≤◌, ◌≡◌, Bool, true, false, List, [], ◌∷◌, ◌++◌, length, take, drop, get_or, set, decimal, codes, refl, sym, ◌∙◌, ap, subst, arith, append_assoc, append-nil}
 use Rattle.std.proofs.lemmas.List.{drop_more, drop_all}
 use Rattle.std.proofs.Math.Seq.{take-suc-set}
-use Rattle.std.proofs.lemmas.Fmt.{decimal_digit, decimal_step}
 use Rattle.std.specs.Fmt.{digits}
 use Rattle.sat_base.specs.device.Device.{Writer}
 use Rattle.sat_base.specs.device.Sink.{Sink, Sent}
@@ -89,13 +88,6 @@ pub first_byte_waits : (w : Writer) (bytes : List ℕ) (len byte : ℕ) (a b c :
 first_byte_waits w bytes len byte a b c z h p e f g k =
     let f' : b.sink ≡ record { writer = w; waiting = take 0 bytes } = f ∙ ap (λ (n : ℕ). let s : Sink = record { writer = w; waiting = take n bytes } in s) z in
     put_more [] (byte ∷ []) a b c p (byte_waits w bytes 0 byte b c h e f' g k)
-
--- DIGITS
-pub one_digit : (n : ℕ) → n < 10 → (48 + n) ∷ [] ≡ decimal n
-one_digit n h = sym (decimal_digit n h)
-
-pub last_digit : (n : ℕ) → 10 ≤ n → n < 2 ^ 64 → decimal (n / 10) ++ ((48 + n % 10) ∷ []) ≡ decimal n
-last_digit n h fits = sym (decimal_step n h fits)
 
 pub past_all : (id : ℕ) → id < 2 ^ 64 → 2 ^ 64 ≤ id + 1 → codes "18446744073709551616" ≡ decimal (id + 1)
 unfolding digits

@@ -1,0 +1,49 @@
+-- Digits that are written behind bytes, two at a time.
+use Rattle.std.proofs.Common.{ℕ, suc, ◌+◌, ◌/◌, ◌%◌, ◌^◌, ◌<◌, ◌≤◌, ◌≡◌, false, List, [], ◌∷◌, ◌++◌, length, length-append, take, set, decimal, sym, ◌∙◌, ap, subst, arith, append_assoc}
+use Rattle.std.proofs.lemmas.Fmt.{decimal_digit, decimal_step, length-decimal-le}
+use Rattle.std.proofs.lemmas.List.{length-set}
+use Rattle.std.proofs.Math.Seq.{take-suc-set}
+use Rattle.sat_base.specs.device.Device.{Writer}
+use Rattle.sat_base.specs.device.Sink.{Sent}
+use Rattle.sat_base.proofs.lemmas.device.Sending.{sent_none, piece_waits}
+use Rattle.sat_hints.specs.inner.LineWriting.{Outlet, Put}
+
+pub two_digits : (n : ℕ) → 10 ≤ n → n < 100 → decimal n ≡ (48 + n / 10) ∷ (48 + n % 10) ∷ []
+two_digits n h l = decimal_step n h (omega arith) ∙ ap (λ ds. ds ++ (48 + n % 10) ∷ []) (decimal_digit (n / 10) (omega arith))
+
+pub more_digits : (n : ℕ) → 100 ≤ n → n < 2 ^ 64 → decimal n ≡ decimal (n / 100) ++ (48 + n % 100 / 10) ∷ (48 + n % 100 % 10) ∷ []
+more_digits n h l =
+    let a : n / 10 / 10 ≡ n / 100 = omega arith in
+    let b : n / 10 % 10 ≡ n % 100 / 10 = omega arith in
+    let c : n % 10 ≡ n % 100 % 10 = omega arith in
+    decimal_step n (omega arith) l
+    ∙ ap (λ ds. ds ++ (48 + n % 10) ∷ []) (decimal_step (n / 10) (omega arith) (omega arith))
+    ∙ append_assoc (decimal (n / 10 / 10)) ((48 + n / 10 % 10) ∷ []) ((48 + n % 10) ∷ [])
+    ∙ ap (λ m. decimal m ++ (48 + n / 10 % 10) ∷ (48 + n % 10) ∷ []) a
+    ∙ ap (λ m. decimal (n / 100) ++ (48 + m) ∷ (48 + n % 10) ∷ []) b
+    ∙ ap (λ m. decimal (n / 100) ++ (48 + n % 100 / 10) ∷ (48 + m) ∷ []) c
+
+pub more_length : (n : ℕ) → 100 ≤ n → n < 2 ^ 64 → length (decimal n) ≡ length (decimal (n / 100)) + 2
+more_length n h l = ap length (more_digits n h l) ∙ length-append (decimal (n / 100)) ((48 + n % 100 / 10) ∷ (48 + n % 100 % 10) ∷ [])
+
+pub one_put : (bytes : List ℕ) (len x : ℕ) → len < length bytes → take (len + 1) (set bytes len x) ≡ take len bytes ++ x ∷ []
+one_put bytes len x h = let e : len + 1 ≡ suc len = omega arith in ap (λ n. take n (set bytes len x)) e ∙ take-suc-set bytes len x h
+
+pub two_put : (bytes : List ℕ) (len x y : ℕ) → len + 1 < length bytes → take (len + 2) (set (set bytes len x) (len + 1) y) ≡ take len bytes ++ x ∷ y ∷ []
+two_put bytes len x y h =
+    let first : List ℕ = set bytes len x in
+    let e : len + 2 ≡ (len + 1) + 1 = omega arith in
+    ap (λ n. take n (set first (len + 1) y)) e
+    ∙ one_put first (len + 1) y (subst (λ n. len + 1 < n) (sym (length-set bytes len x)) h)
+    ∙ ap (λ t. t ++ y ∷ []) (one_put bytes len x (omega arith))
+    ∙ append_assoc (take len bytes) (x ∷ []) (y ∷ [])
+
+pub few_digits : (n : ℕ) → n < 2 ^ 64 → length (decimal n) ≤ 20
+few_digits n h = length-decimal-le 20 n (omega arith) (omega arith) h
+
+-- a text within the room
+pub text_waits : (w : Writer) (bytes later : List ℕ) (len more : ℕ) (text : List ℕ) (a b : Outlet) → a.failed ≡ false → a.sink ≡ record { writer = w; waiting = take len bytes } → b.failed ≡ false → b.sink ≡ record { writer = w; waiting = take more later } → take more later ≡ take len bytes ++ text → Put text a b
+text_waits w bytes later len more text a b e f g k t =
+    let sent : Sent (record { writer = w; waiting = take len bytes }) (record { writer = w; waiting = take more later }) text
+    = piece_waits w (take len bytes) (take more later) text (record { writer = w; waiting = take len bytes }) (sent_none (record { writer = w; waiting = take len bytes })) t in
+    rw e (rw g (subst (λ s. Sent s b.sink text) (sym f) (subst (λ s. Sent (record { writer = w; waiting = take len bytes }) s text) (sym k) sent)))
