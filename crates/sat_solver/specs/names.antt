@@ -2,10 +2,6 @@ pub mod Free
 pub mod Live
 pub mod Variables
 pub mod Naming
-pub mod Checking
-pub mod ProofChecking
-pub mod Expected
-pub mod Bridge
 pub mod Calls
 pub mod Refusing
 pub mod Adding

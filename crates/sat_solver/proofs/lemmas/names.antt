@@ -4,9 +4,6 @@ pub mod Trees
 pub mod MapLemmas
 pub mod JudgeLemmas
 pub mod NewName
-pub mod LiteralValues
-pub mod BridgeLemmas
-pub mod CheckerIsSound
 pub mod NamingSteps
 pub mod BroughtIn
 pub mod Indices

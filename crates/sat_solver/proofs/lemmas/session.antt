@@ -1,7 +1,5 @@
-pub mod Counts
-pub mod Buckets
 pub mod Views
-pub mod TidyLemmas
+pub mod LastLemmas
 pub mod AcceptLemmas
 pub mod StepLemmas
 pub mod Lists
@@ -11,7 +9,7 @@ pub mod Mapped
 pub mod Represented
 pub mod StepsOfClauses
 pub mod PromiseLemmas
-pub mod WritingLemmas
+pub mod CuttingLemmas
 pub mod Naming
 pub mod RowLemmas
 pub mod Narrowing
@@ -24,9 +22,7 @@ pub mod DratLemmas
 pub mod DratDerivations
 pub mod PuttingLemmas
 pub mod OutputLemmas
-pub mod DueLemmas
 pub mod DueWidths
-pub mod MakingLemmas
 pub mod NamedLemmas
 pub mod PlainLemmas
 pub mod ComingLemmas

@@ -12,7 +12,7 @@ use Rattle.sat_store.specs.declared.data.SamplingMode.TheVariants as kept
 use Rattle.sat_solver.specs.names.Variables.{data_at, global_of, solver_of}
 use Rattle.sat_solver.specs.names.Naming.{Extends}
 use Rattle.sat_solver.specs.names.Refusing.{names_in}
-use Rattle.sat_solver.specs.names.Expected.{bringing}
+use Rattle.sat_checker.specs.matching.Expected.{bringing}
 use Rattle.sat_solver.specs.names.Search.{KeepsSearch, Gives}
 use Rattle.sat_solver.specs.names.Calls.{Does}
 use Rattle.sat_solver.specs.session.Coming.{Comes}

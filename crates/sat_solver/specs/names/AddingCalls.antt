@@ -6,7 +6,7 @@ use Rattle.sat_checker.specs.LiteralSets.{is_tautology}
 use Rattle.sat_solver.specs.session.Session.{session_after}
 use Rattle.sat_solver.specs.names.Naming.{Extends}
 use Rattle.sat_solver.specs.names.Refusing.{names_in}
-use Rattle.sat_solver.specs.names.Expected.{Adds, bringing}
+use Rattle.sat_checker.specs.matching.Expected.{Adds, bringing}
 use Rattle.sat_solver.specs.names.Adding.{named_literal, Images, MapsClause}
 use Rattle.sat_solver.specs.names.Search.{KeepsSearch, IsUnseen, Gives}
 use Rattle.sat_solver.specs.names.Calls.{Does}

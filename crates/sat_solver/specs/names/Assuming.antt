@@ -9,7 +9,7 @@ use Rattle.sat_store.specs.declared.data.VarData.{VarData}
 use Rattle.sat_solver.specs.names.Variables.{data_at, variables_used}
 use Rattle.sat_solver.specs.names.Naming.{Extends}
 use Rattle.sat_solver.specs.names.Refusing.{names_in}
-use Rattle.sat_solver.specs.names.Expected.{Opens, bringing}
+use Rattle.sat_checker.specs.matching.Expected.{Outcome, Opens, bringing}
 use Rattle.sat_solver.specs.names.Adding.{named_literal, Images, global_in}
 use Rattle.sat_solver.specs.names.Search.{KeepsSearch, Gives}
 use Rattle.sat_solver.specs.names.Calls.{Does}
@@ -38,9 +38,9 @@ pub record PutsMarks (old new : Variables) (ls : List ℕ) : Type 0 where
   pub free_globals : new.free_globals ≡ old.free_globals
   pub free_solvers : new.free_solvers ≡ old.free_solvers
 
--- The names of the literals came in, their variables have indices, and they are the assumptions from here on.
+-- The names of the literals came in, their variables have indices, and they are the assumptions from here on, whatever will be answered.
 pub record Assumes (old new : Variables) (from to : List Step) (user : List ℕ) (t : Taken) : Type 0 where
-  pub does : Does old new from to (bring_all (names_in user)) (λ j. bringing (names_in user) j ++ (Opens (map named_literal user) ∷ []))
+  pub does : (o : Outcome) → Does old new from to (bring_all (names_in user)) (λ j. bringing (names_in user) j ++ (Opens (map named_literal user) o ∷ []))
   pub extends : Extends old new
   pub images : Images new user t.order.items
   pub globals : t.globals.items ≡ map (with_var (global_in new)) t.order.items

@@ -3,12 +3,12 @@ use Rattle.std.specs.Prelude.{ℕ, ◌+◌, ◌==◌, ◌≡◌, max, false, Som
 use Rattle.sat_base.specs.script.Judge.{Judge, with_name, with_names, new_names, bring_in}
 use Rattle.sat_base.specs.steps.Steps.{Step, UserVarName}
 use Rattle.sat_solver.specs.session.Session.{MayAll, session_after}
-use Rattle.sat_solver.specs.names.Live.{Live}
+use Rattle.sat_checker.specs.matching.Bridge.{Live, IsBridge}
 use Rattle.sat_solver.specs.names.Variables.{AreTidy, AreSaid, AreJudged, global_of, names_used}
-use Rattle.sat_solver.specs.names.Checking.{is_ordered, variable_of}
-use Rattle.sat_solver.specs.names.ProofChecking.{the_checking}
-use Rattle.sat_solver.specs.names.Expected.{Expected, NewName, Fits}
-use Rattle.sat_solver.specs.names.Bridge.{IsBridge}
+use Rattle.sat_checker.specs.matching.Checking.{variable_of}
+use Rattle.sat_checker.specs.matching.ProofChecking.{the_checking}
+use Rattle.sat_checker.specs.matching.Expected.{Expected, NewName}
+use Rattle.sat_checker.specs.matching.Traces.{HasTrace}
 use Rattle.sat_solver.specs.names.Naming.{Extends}
 use Rattle.sat_solver.specs.names.Search.{IsUnseen}
 use Rattle.sat_solver.specs.session.Coming.{Comes}
@@ -29,17 +29,11 @@ pub record Agree (n : Variables) (steps : List Step) (j : Judge) (live : Live) :
   pub judged : AreJudged n j live
   pub bridge : IsBridge the_checking j steps live
 
--- Between these steps and those, which have the newest first, the ordered ones are what is expected, in order and content.
-pub data Writes : List Step → List Step → List Expected → Type 0 where
-  written : {s : List Step} → Writes s s []
-  other : {s t : List Step} {step : Step} {es : List Expected} → is_ordered step ≡ false → Writes (step ∷ s) t es → Writes s t es
-  ordered : {s t : List Step} {step : Step} {e : Expected} {es : List Expected} → Fits (the_checking.knows s) s e step → Writes (step ∷ s) t es → Writes s t (e ∷ es)
-
--- the judge's state is this from here on, and what was expected was written
+-- the judge's state is this from here on, and the steps' trace is what was expected
 pub record Kept (new : Variables) (from to : List Step) (j : Judge) (es : List Expected) : Type 0 where
   pub live : Live
   pub agree : Agree new to j live
-  pub writes : Writes from to es
+  pub trace : HasTrace the_checking from to es
 
 -- a name was given to a variable that wasn't known
 pub record NamesOne (old new : Variables) (from to : List Step) (user v : ℕ) : Type 0 where

@@ -5,7 +5,7 @@ use Rattle.sat_base.specs.steps.Steps.{Step, SolverVarName, UserVarName, DeleteV
 use Rattle.sat_checker.specs.Stored.{Mode, Sample, Witness}
 use Rattle.sat_solver.specs.session.Coming.{DeletesAdded}
 use Rattle.sat_solver.specs.session.Session.{Session, session_after}
-use Rattle.sat_solver.specs.names.Checking.{is_ordered, variable_of}
+use Rattle.sat_checker.specs.matching.Checking.{is_ordered, variable_of}
 use Rattle.sat_solver.specs.names.Variables.{data_at, solver_of}
 use Rattle.sat_solver.specs.declared.names.Variables.{Variables}
 

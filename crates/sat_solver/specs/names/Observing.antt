@@ -3,8 +3,9 @@ use Rattle.std.specs.Prelude.{ℕ, ◌+◌, ◌≤◌, ◌==◌, ◌≡◌, max,
 use Rattle.sat_base.specs.script.Judge.{Judge, Witnessed, placed}
 use Rattle.sat_base.specs.steps.Steps.{Step, UserVarName, ChangeSamplingMode}
 use Rattle.sat_solver.specs.names.Calls.{Stands, Agree}
-use Rattle.sat_solver.specs.names.Checking.{variable_of}
-use Rattle.sat_solver.specs.names.Live.{Live, given}
+use Rattle.sat_checker.specs.matching.Checking.{variable_of}
+use Rattle.sat_checker.specs.matching.Bridge.{Live}
+use Rattle.sat_solver.specs.names.Live.{given}
 use Rattle.sat_solver.specs.names.Naming.{IsNextUser, IsLowestUnused, KeepsNames}
 use Rattle.sat_solver.specs.names.Search.{IsUnseen}
 use Rattle.sat_solver.specs.names.Variables.{data_at, user_of, variables_used}

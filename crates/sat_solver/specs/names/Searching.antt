@@ -5,7 +5,7 @@ use Rattle.sat_base.specs.values.Literals.{variable}
 use Rattle.sat_base.specs.script.Judge.{Judge}
 use Rattle.sat_base.specs.steps.Steps.{Step, AtClause, UnitClauses, DeleteClause, ChangeHashBits, Model, FailedAssumptions, End}
 use Rattle.sat_solver.specs.session.Session.{May, session_after}
-use Rattle.sat_solver.specs.names.Live.{Live}
+use Rattle.sat_checker.specs.matching.Bridge.{Live}
 use Rattle.sat_solver.specs.names.Variables.{data_at, solver_of}
 use Rattle.sat_solver.specs.names.Naming.{PutsUnit}
 use Rattle.sat_solver.specs.names.Calls.{Stands, Agree}

@@ -4,6 +4,7 @@ use Rattle.std.specs.List.{AllByRecursion}
 use Rattle.sat_base.specs.values.Literals.{largest, coded}
 use Rattle.sat_base.specs.script.Judge.{Judge, Sampled, Witnessed, identity_of}
 use Rattle.sat_base.specs.script.Judge as judged
+use Rattle.sat_base.specs.script.JudgeLaws.{NamesIncrease}
 use Rattle.sat_store.specs.declared.data.VarData.{VarData}
 use Rattle.sat_store.specs.declared.data.SamplingMode.{SamplingMode}
 use Rattle.sat_store.specs.declared.data.SamplingMode.TheVariants as kept
@@ -14,7 +15,8 @@ use Rattle.sat_checker.specs.Stored.{Mode, Sample, Witness, Hide, Variable, unkn
 use Rattle.sat_solver.specs.session.Session.{Session}
 use Rattle.sat_solver.specs.names.Counting.{IsEven}
 use Rattle.sat_solver.specs.names.Free.{is_free, Spans}
-use Rattle.sat_solver.specs.names.Live.{Live, Apart, given, given_of}
+use Rattle.sat_checker.specs.matching.Bridge.{Live, Apart}
+use Rattle.sat_solver.specs.names.Live.{given, given_of}
 use Rattle.sat_solver.specs.declared.names.Variables.{Variables}
 
 abbrev pub data_at : Variables → ℕ → VarData
@@ -128,6 +130,7 @@ pub record AreJudged (n : Variables) (j : Judge) (live : Live) : Type 0 where
   -- each variable was new with an identity
   pub identities : variables_used n ≤ j.next_identity
   pub modes_count : length j.modes ≡ j.next_identity
+  pub increasing : NamesIncrease j.in_use
   pub modes : (v i : ℕ) → given live v ≡ Some i → IsModeOf (data_at n v).sampling_mode (get_or j.modes i Sampled)
 
 -- All three say the same.

@@ -14,7 +14,7 @@ use Rattle.sat_checker.specs.declared.processing.Processing.{Processing}
 use Rattle.sat_solver.specs.session.Due.{kept_if}
 use Rattle.sat_solver.specs.session.Listening.{AreListed, Hears, HasHeard, FailedOf}
 use Rattle.sat_solver.specs.session.Session.{MayAll}
-use Rattle.sat_solver.specs.session.Widths.{narrowed, IsWritten}
+use Rattle.sat_solver.specs.session.Widths.{IsWritten}
 use Rattle.sat_solver.specs.declared.session.checked.Checked.{Checked}
 use Rattle.sat_solver.specs.declared.session.made.CheckFault.{CheckFault}
 use Rattle.sat_solver.specs.declared.session.made.CheckFault.TheVariants as checks
@@ -108,10 +108,6 @@ module _ {L : Type 0} (takes : L → Told → Result Unit Error → L → Type 0
   Feeds result old step new =
       (begun : Processing L Nobody) (written : List Step) → Stands (Hears takes) [] begun old written → has_failed old.kernel ≡ false → MayAll (step ∷ written)
       → OrCause result (Stands (Hears takes) [] begun new (step ∷ written) × (has_failed new.kernel ≡ false)) (λ fault. FailedOf takes begun new.listeners written fault ⊎ FailedOf takes begun new.listeners (step ∷ written) fault)
-
-  -- nor is what is written for a step
-  abbrev pub FeedsCut : Result (Unit {0}) CheckerError → Checked L → Step → Checked L → Type 0
-  FeedsCut result old step new = Feeds result (seen_of old.checker) (narrowed old.bits step) (seen_of new.checker)
 
   -- unless a step that was made wasn't taken
   abbrev pub FedUnless : Bool → Option (Checked L) → (added : List L) → List Step → Type 0

@@ -6,12 +6,13 @@ use Rattle.sat_base.specs.steps.Steps.{Step, AddClause}
 use Rattle.sat_checker.specs.LiteralSets.{canonical, same_literals}
 use Rattle.sat_checker.specs.Propagation.{UnitInTurn}
 use Rattle.sat_solver.specs.session.DratText.{Line, Derives, Deletes, lines_of}
-use Rattle.sat_solver.specs.session.Session.{MayAll, session_after, more}
+use Rattle.sat_checker.specs.Contents.{more_if}
+use Rattle.sat_solver.specs.session.Session.{MayAll, session_after}
 
 -- how often this set is one of those
 abbrev pub times : List ℕ → List (List ℕ) → ℕ
 times set [] = 0
-times set (c ∷ cs) = more (same_literals c set) (times set cs)
+times set (c ∷ cs) = more_if (same_literals c set) (times set cs)
 
 -- one of it goes
 abbrev pub without_set : List ℕ → List (List ℕ) → List (List ℕ)

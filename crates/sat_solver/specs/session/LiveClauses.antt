@@ -4,7 +4,8 @@ use Rattle.std.specs.List.{AllByRecursion}
 use Rattle.sat_base.specs.values.Literals.{variable}
 use Rattle.sat_checker.specs.LiteralSets.{canonical, same_literals}
 use Rattle.sat_checker.specs.SortedSets.{NoRepeats}
-use Rattle.sat_solver.specs.session.Session.{Session, same_side, more}
+use Rattle.sat_checker.specs.Contents.{same_side, more_if}
+use Rattle.sat_solver.specs.session.Session.{Session}
 
 pub record LiveClause : Type 0 where
   pub redundant : Bool
@@ -13,7 +14,7 @@ pub record LiveClause : Type 0 where
 -- how many of them have this set
 abbrev pub count_of : List LiveClause → Bool → List ℕ → ℕ
 count_of [] r set = 0
-count_of (c ∷ cs) r set = more (same_side c.redundant r && same_literals (canonical c.literals) set) (count_of cs r set)
+count_of (c ∷ cs) r set = more_if (same_side c.redundant r && same_literals (canonical c.literals) set) (count_of cs r set)
 
 abbrev pub IsIn : LiveClause → List LiveClause → Type 0
 IsIn c [] = ⊥

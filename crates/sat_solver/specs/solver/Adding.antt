@@ -11,8 +11,8 @@ use Rattle.sat_solver.specs.names.Coming.{MayAdd, MayTake}
 use Rattle.sat_solver.specs.session.Coming.{Comes}
 use Rattle.sat_solver.specs.session.Making.{Took}
 use Rattle.sat_solver.specs.session.ProofView.{is_drat, has_asked, target_of}
-use Rattle.sat_solver.specs.names.Expected.{Expected, Adds, Opens, bringing}
-use Rattle.sat_solver.specs.names.Live.{Live}
+use Rattle.sat_checker.specs.matching.Expected.{Outcome, Expected, Adds, Opens, bringing}
+use Rattle.sat_checker.specs.matching.Bridge.{Live}
 use Rattle.sat_solver.specs.names.Refusing.{names_in}
 use Rattle.sat_solver.specs.names.Room.{HasRoom, users_in}
 use Rattle.sat_solver.specs.search.Going.{IsFaultOr}
@@ -32,9 +32,9 @@ abbrev pub due_for_clause : State → List ℕ → Judge → List Expected
 due_for_clause states.Unsat user j = bringing (names_in user) j
 due_for_clause before user j = bringing (names_in user) j ++ (Adds (map named_literal user) ∷ [])
 
--- and for assumptions
-abbrev pub due_for_asked : List ℕ → Judge → List Expected
-due_for_asked user j = bringing (names_in user) j ++ (Opens (map named_literal user) ∷ [])
+-- and for assumptions of an ask that will have this outcome
+abbrev pub due_for_asked : Outcome → List ℕ → Judge → List Expected
+due_for_asked o user j = bringing (names_in user) j ++ (Opens (map named_literal user) o ∷ [])
 
 -- nothing is known behind it, but that the clauses alone are unsatisfiable
 abbrev pub Forgets : State → State → Type 0
@@ -94,11 +94,11 @@ AddsClause seen (Err errors.VariableLimit) old new user = Refuses old new (Lacks
 AddsClause seen (Err errors.HasFailed) old new user = Refuses old new (old.failed ≡ true)
 AddsClause seen (Err e) old new user = AreSampled old user × HasRoom old.names (users_in user) × EndsNamesOr (HasFullStore new) seen e old new
 
--- other assumptions were taken
+-- other assumptions were taken, whatever will be answered
 pub record Assumed {W L : Type 0} {G : Ghosts L} (seen : W → Writer) (old new : Solver W L G) (user : List ℕ) : Type 0 where
   pub sampled : AreSampled old user
   pub room : HasRoom old.names (users_in user)
-  pub did : Did seen old new (bring_all (names_in user)) (due_for_asked user)
+  pub did : (o : Outcome) → Did seen old new (bring_all (names_in user)) (due_for_asked o user)
   pub comes : Comes (MayTake (names_in user)) (steps_in old) (steps_in new)
   pub assumed : new.assumed.items ≡ user
   pub clock : new.clock ≡ old.clock

@@ -3,6 +3,7 @@ use Rattle.std.specs.Prelude.{ℕ, ◌≡◌, List, Result, Ok, Err}
 use Rattle.sat_base.specs.device.Device.{Writer}
 use Rattle.sat_base.specs.script.Judge.{bring_all}
 use Rattle.sat_checker.specs.declared.processing.ProofProcessor.{Ghosts}
+use Rattle.sat_checker.specs.matching.Expected.{Outcome}
 use Rattle.sat_solver.specs.declared.error.SolverError.{SolverError}
 use Rattle.sat_solver.specs.names.Calls.{Does}
 use Rattle.sat_solver.specs.names.Coming.{MayTake}
@@ -17,7 +18,7 @@ use Rattle.sat_solver.specs.solver.Whole.{IsWholeOf, steps_in}
 -- these were taken, but for the list over names
 pub record AskedIn {W L : Type 0} {G : Ghosts L} (seen : W → Writer) (old new : Solver W L G) (user : List ℕ) : Type 0 where
   pub whole : IsWholeOf new.core new.names new.asked user new.told.failed_core.items new.clock.restarts.scale new.state
-  pub does : Does old.names new.names (steps_in old) (steps_in new) (bring_all (names_in user)) (due_for_asked user)
+  pub does : (o : Outcome) → Does old.names new.names (steps_in old) (steps_in new) (bring_all (names_in user)) (due_for_asked o user)
   pub comes : Comes (MayTake (names_in user)) (steps_in old) (steps_in new)
   pub took : Took seen old.core.proof new.core.proof
   pub failed : new.failed ≡ old.failed

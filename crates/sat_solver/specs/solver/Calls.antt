@@ -11,8 +11,8 @@ use Rattle.sat_solver.specs.declared.error.SolverError.TheVariants as errors
 use Rattle.sat_solver.specs.declared.names.Variables.{Variables}
 use Rattle.sat_solver.specs.names.Adding.{named_literal}
 use Rattle.sat_solver.specs.names.Calls.{Agree, Does}
-use Rattle.sat_solver.specs.names.Expected.{Expected, Shows, Fails}
-use Rattle.sat_solver.specs.names.Live.{Live}
+use Rattle.sat_checker.specs.matching.Expected.{Expected, Shows, Fails}
+use Rattle.sat_checker.specs.matching.Bridge.{Live}
 use Rattle.sat_solver.specs.search.Solving.{AdvancesIn}
 use Rattle.sat_solver.specs.session.Coming.{Comes, EndsAtUnsat}
 use Rattle.sat_solver.specs.session.Making.{Took}

@@ -36,8 +36,8 @@ pub record Configured {W L : Type 0} {G : Ghosts L} (u : SolverConfigUpdate) (ol
   pub state : new.state ≡ old.state
   pub assumed : new.assumed ≡ old.assumed
   pub told : new.told ≡ old.told
-  pub rounds : new.clock.steps ≡ old.clock.steps
-  pub scale : new.clock.restarts.scale ≡ unwrap_or u.luby_restart_interval_scale old.clock.restarts.scale
+  -- the schedule of restarts goes on, at the scale of the update
+  pub clock : new.clock ≡ record old.clock { restarts = record old.clock.restarts { scale = unwrap_or u.luby_restart_interval_scale old.clock.restarts.scale } }
   pub decays : HandsOn old.state (record old.core { config = updated u old.core.config }) new.core
   pub failed : new.failed ≡ false
   pub used : new.used ≡ old.used

@@ -8,8 +8,8 @@ use Rattle.sat_checker.specs.declared.processing.ProofProcessor.{Ghosts}
 use Rattle.sat_solver.specs.declared.error.SolverError.{SolverError}
 use Rattle.sat_solver.specs.declared.error.SolverError.TheVariants as errors
 use Rattle.sat_solver.specs.names.Calls.{Agree}
-use Rattle.sat_solver.specs.names.Expected.{Expected, NewName, hiding, setting}
-use Rattle.sat_solver.specs.names.Live.{Live}
+use Rattle.sat_checker.specs.matching.Expected.{Expected, NewName, hiding, setting}
+use Rattle.sat_checker.specs.matching.Bridge.{Live}
 use Rattle.sat_solver.specs.names.Naming.{IsLowestUnused, NoneLeft}
 use Rattle.sat_solver.specs.names.Observing.{Observes, IsHidden}
 use Rattle.sat_solver.specs.names.Room.{HasRoom}

@@ -15,7 +15,7 @@ use Rattle.sat_solver.specs.declared.session.made.CheckFault.{CheckFault}
 use Rattle.sat_solver.specs.declared.session.made.CheckFault.TheVariants as checks
 use Rattle.sat_solver.specs.declared.error.SolverError.TheVariants as errors
 use Rattle.sat_solver.specs.names.Calls.{Does}
-use Rattle.sat_solver.specs.names.Expected.{Finish}
+use Rattle.sat_checker.specs.matching.Expected.{Finish}
 use Rattle.sat_solver.specs.declared.solver.Solver.{Solver}
 use Rattle.sat_solver.specs.declared.solver.state.State.TheVariants as states
 use Rattle.sat_solver.specs.solver.Calls.{Refuses}
@@ -77,6 +77,7 @@ pub record Unheard {W L : Type 0} {G : Ghosts L} (seen : W → Writer) (old new 
   pub before : List L
   pub listed : ListedAnew old.core.proof before
   pub listening : audience new.core.proof ≡ Some before
+  pub clock : new.clock ≡ old.clock
 
 abbrev pub AddsProcessor : {W L : Type 0} {G : Ghosts L} → (W → Writer) → Result (Unit {0}) SolverError → L → Solver W L G → Solver W L G → Type 0
 AddsProcessor seen (Ok x) processor old new = Listens seen processor old new
@@ -107,18 +108,21 @@ pub record ClosedBroken {W L : Type 0} {G : Ghosts L} (seen : W → Writer) (old
   pub going : old.failed ≡ false
   pub failed : new.failed ≡ true
   pub fails : Fails seen (End ∷ []) old.core.proof new.core.proof
+  pub clock : new.clock ≡ old.clock
 
 -- no memory was left, and nothing was made; or it was wanted by the solver's own checker behind the last step
 pub record ClosedStarved {W L : Type 0} {G : Ghosts L} (seen : W → Writer) (old new : Solver W L G) : Type 0 where
   pub going : old.failed ≡ false
   pub failed : new.failed ≡ true
   pub adds : Adds seen [] old.core.proof new.core.proof ⊎ FailsCheck seen checks.OutOfMemory (End ∷ []) old.core.proof new.core.proof
+  pub clock : new.clock ≡ old.clock
 
 -- the solver's own checker failed behind the last step
 pub record ClosedUnchecked {W L : Type 0} {G : Ghosts L} (seen : W → Writer) (fault : CheckFault) (old new : Solver W L G) : Type 0 where
   pub going : old.failed ≡ false
   pub failed : new.failed ≡ true
   pub fails : FailsCheck seen fault (End ∷ []) old.core.proof new.core.proof
+  pub clock : new.clock ≡ old.clock
 
 abbrev pub ClosesProof : {W L : Type 0} {G : Ghosts L} → (W → Writer) → Result (Option W) SolverError → Solver W L G → Solver W L G → Type 0
 ClosesProof seen (Ok None) old new = ClosedNone seen old new

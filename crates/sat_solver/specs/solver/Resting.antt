@@ -1,21 +1,21 @@
 -- What answers rest on.
 use Rattle.std.specs.Prelude.{ℕ, ◌≡◌, ◌⊎◌, true, false, List, [], map}
-use Rattle.sat_base.specs.script.Judge.{Judge}
+use Rattle.sat_base.specs.script.Judge.{Judge, IsRightModel}
 use Rattle.sat_checker.specs.declared.processing.ProofProcessor.{Ghosts}
 use Rattle.sat_solver.specs.declared.error.SolverError.{SolverError}
 use Rattle.sat_solver.specs.declared.error.SolverError.TheVariants as errors
 use Rattle.sat_solver.specs.names.Adding.{named_literal}
 use Rattle.sat_solver.specs.names.Calls.{Agree}
-use Rattle.sat_solver.specs.names.Live.{Live}
+use Rattle.sat_checker.specs.matching.Bridge.{Live}
 use Rattle.sat_solver.specs.declared.solver.Solver.{Solver}
 use Rattle.sat_solver.specs.declared.solver.state.State.{State}
 use Rattle.sat_solver.specs.declared.solver.state.State.TheVariants as states
-use Rattle.sat_solver.specs.solver.Lines.{IsModelLine, IsCoreOf}
+use Rattle.sat_solver.specs.solver.Lines.{IsCoreOf}
 use Rattle.sat_solver.specs.solver.Whole.{steps_in, asked_in, line_in}
 
 -- right for the assumptions, whatever the judge's state is that names and steps agree with
 abbrev pub IsRightLine : {W L : Type 0} {G : Ghosts L} → Solver W L G → List ℕ → Type 0
-IsRightLine s line = (j : Judge) (live : Live) → Agree s.names (steps_in s) j live → IsModelLine j (asked_in s) (map named_literal line)
+IsRightLine s line = (j : Judge) (live : Live) → Agree s.names (steps_in s) j live → IsRightModel j (asked_in s) (map named_literal line)
 
 abbrev pub IsRightCoreOf : {W L : Type 0} {G : Ghosts L} → Solver W L G → List ℕ → Type 0
 IsRightCoreOf s core = (j : Judge) (live : Live) → Agree s.names (steps_in s) j live → IsCoreOf j (asked_in s) (map named_literal core)

@@ -14,7 +14,7 @@ use Rattle.sat_solver.specs.names.Adding.{named_literal, Images}
 use Rattle.sat_solver.specs.names.Calls.{Does}
 use Rattle.sat_solver.specs.names.Coming.{MayAdd, MayTake}
 use Rattle.sat_solver.specs.session.Coming.{Comes}
-use Rattle.sat_solver.specs.names.Expected.{Adds, Opens, bringing}
+use Rattle.sat_checker.specs.matching.Expected.{Outcome, Adds, Opens, bringing}
 use Rattle.sat_solver.specs.names.Naming.{KeepsNames}
 use Rattle.sat_solver.specs.names.Refusing.{names_in}
 use Rattle.sat_solver.specs.declared.names.Variables.{Variables}
@@ -61,7 +61,7 @@ TakesClause seen r n n' a b user = MatchResult r (TookClause seen n n' a b user)
 
 -- assumptions came in, in place of others
 pub record TookAssumptions {W L : Type 0} {G : Ghosts L} (seen : W → Writer) (n n' : Variables) (a b : Core W L G) (user : List ℕ) (t : Taken) : Type 0 where
-  pub does : Does n n' (steps_of a.proof) (steps_of b.proof) (bring_all (names_in user)) (λ j. bringing (names_in user) j ++ (Opens (map named_literal user) ∷ []))
+  pub does : (o : Outcome) → Does n n' (steps_of a.proof) (steps_of b.proof) (bring_all (names_in user)) (λ j. bringing (names_in user) j ++ (Opens (map named_literal user) o ∷ []))
   pub comes : Comes (MayTake (names_in user)) (steps_of a.proof) (steps_of b.proof)
   pub took : Took seen a.proof b.proof
   pub joined : IsJoined n' b

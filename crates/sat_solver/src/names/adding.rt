@@ -4,7 +4,7 @@ ghost use Rattle.sat_base.specs.script.Judge.{with_clause};
 ghost use Rattle.sat_base.specs.steps.Steps.{AddClause};
 ghost use Rattle.sat_solver.specs.names.Adding.{NoWitness, SameLiterals, named_literal, Images, MapsClause};
 ghost use Rattle.sat_solver.specs.names.AddingCalls.{AddsClause, LeavesOut};
-ghost use Rattle.sat_solver.specs.names.Expected.{Adds};
+ghost use Rattle.sat_checker.specs.matching.Expected.{Adds};
 ghost use Rattle.sat_solver.specs.names.Calls.{Stands, Does};
 ghost use Rattle.sat_solver.specs.names.Variables.{AreTidy};
 ghost use Rattle.sat_solver.specs.session.Session.{session_after};

@@ -9,7 +9,7 @@ ghost use Rattle.sat_store.specs.variables.VarData.{unused_variable};
 ghost use Rattle.sat_solver.specs.names.Variables.{AreTidy, data_at};
 ghost use Rattle.sat_solver.specs.names.Adding.{NoWitness, SameLiterals, named_literal, Images, global_in};
 ghost use Rattle.sat_solver.specs.names.Assuming.{Marks, PutsMarks, Assumes};
-ghost use Rattle.sat_solver.specs.names.Expected.{Opens};
+ghost use Rattle.sat_checker.specs.matching.Expected.{Opens};
 ghost use Rattle.sat_solver.specs.names.Calls.{Stands, Does};
 ghost use Rattle.sat_solver.specs.names.Failing.{IsFailure, Came};
 ghost use Rattle.sat_solver.specs.names.Room.{HasRoom, users_in};

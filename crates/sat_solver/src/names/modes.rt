@@ -6,7 +6,7 @@ ghost use Rattle.sat_solver.specs.names.Variables.{data_at, global_of, user_of, 
 ghost use Rattle.sat_base.specs.steps.Steps.{UserVarName, ChangeSamplingMode, DeleteVar};
 ghost use Rattle.sat_solver.specs.session.Coming.{Comes};
 ghost use Rattle.sat_solver.specs.names.Coming.{ForgetsIdle, LeavesNoneIdle, MayHide, MaySet, TurnsMode};
-ghost use Rattle.sat_solver.specs.names.Expected.{NewName, NoName};
+ghost use Rattle.sat_checker.specs.matching.Expected.{NewName, NoName};
 ghost use Rattle.sat_solver.specs.names.Naming.{AreFresh, KeepsOthers};
 ghost use Rattle.sat_solver.specs.names.Calls.{Stands, Does, DoesNothing};
 ghost use Rattle.sat_solver.specs.names.Search.{IsUnseen, IsAlike, Forgets, KeepsUnits};

@@ -1,7 +1,7 @@
 //! Which calls are refused, before anything changes.
 ghost use Rattle.std.specs.Prelude.{ℕ, ◌≡◌, ◌+◌, Bool, true, false, IfNone};
 ghost use Rattle.sat_base.specs.script.Judge.{Judge, has_witness, identity_of, refused_literal};
-ghost use Rattle.sat_solver.specs.names.Live.{Live};
+ghost use Rattle.sat_checker.specs.matching.Bridge.{Live};
 ghost use Rattle.sat_solver.specs.names.Variables.{AreTidy, AreJudged, is_witness_kept};
 ghost use Rattle.sat_solver.specs.names.Adding.{IsSampled, NoWitness};
 ghost use Rattle.sat_solver.specs.names.Refusing.{as_refusal, names_in, IsAssumed};

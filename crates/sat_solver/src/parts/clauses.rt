@@ -17,8 +17,8 @@ ghost use Rattle.sat_solver.specs.parts.Frame.{SameClauses, SameState, Headed, D
 use crate::parts::Parts;
 use sat_base::Var;
 use sat_parts::{
-    ClauseActivity, bump_clause_activity, collect_garbage, decay_clause_activities,
-    delete_clause, reduce_mids, set_clause_tier, shorten_clause, try_delete_clause,
+    ClauseActivity, bump_clause_activity, collect_garbage, decay_clause_activities, delete_clause,
+    reduce_mids, set_clause_tier, shorten_clause, try_delete_clause,
 };
 use sat_store::{ClauseHeader, ClauseRef, StoreError, Tier};
 use std::alloc::Global;

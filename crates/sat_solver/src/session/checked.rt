@@ -3,11 +3,10 @@ ghost use Rattle.std.specs.Prelude.{◌≡◌, [], OnOk};
 ghost use Rattle.sat_base.specs.steps.StepViews.{step_of};
 ghost use Rattle.sat_checker.specs.CheckerView.{seen_of};
 ghost use Rattle.sat_checker.specs.telling.ProcessingView.{listeners_of};
-ghost use Rattle.sat_solver.specs.session.Checked.{is_end, IsFed, TakesStep, TakesWidth, TakesDelayed, Feeds, FeedsCut, TakesIn, BeginsAnew, who_listens};
-ghost use Rattle.sat_solver.specs.session.Widths.{KeepsWidth};
+ghost use Rattle.sat_solver.specs.session.Checked.{is_end, IsFed, TakesStep, TakesWidth, TakesDelayed, Feeds, TakesIn, BeginsAnew, who_listens};
+ghost use Rattle.sat_solver.specs.session.Widths.{narrowed, KeepsWidth};
 
 use crate::session::counting::Counting;
-use crate::session::cutting::{CutLists, narrow, narrow_units};
 use crate::session::roll::Roll;
 use sat_base::{HashBits, ProofStep};
 use sat_checker::{Checker, CheckerError, Nobody, Processors, ProofProcessor, SelfChecker};
@@ -50,7 +49,6 @@ fn feed<P: ProofProcessor>(
 pub struct Checked<P: ProofProcessor> {
     bits: HashBits,
     checker: Checker<P, Nobody>,
-    lists: CutLists,
 }
 
 impl<P: ProofProcessor> Checked<P> {
@@ -61,7 +59,6 @@ impl<P: ProofProcessor> Checked<P> {
         Checked {
             bits: Counting::new().bits,
             checker: Checker::telling(alloc),
-            lists: CutLists::new(alloc),
         }
     }
 
@@ -80,73 +77,22 @@ impl<P: ProofProcessor> Checked<P> {
         )
     }
 
-    /// Feeds a step with its hashes cut to the width.
-    fn feed_cut(&mut self, step: &ProofStep<'_>) -> Result<(), CheckerError>
+    /// Takes a step at a width, to which its hashes were cut, and of an end the width alone. What a solver may write is never refused.
+    pub fn take(
+        &mut self,
+        bits: HashBits,
+        step: &ProofStep<'_>,
+        cut: &ProofStep<'_>,
+    ) -> Result<(), CheckerError>
         requires width { KeepsWidth (step_of step.now) }
-        ensures bits { self.new.bits ≡ self.old.bits }
-        ensures feeds { FeedsCut P.takes result self.old (step_of step.now) self.new }
-    {
-        match *step {
-            ProofStep::AtClause {
-                redundant,
-                clause,
-                propagation_hashes,
-            } => {
-                if narrow(&mut self.lists.hashes, propagation_hashes, self.bits).is_err() {
-                    return Err(CheckerError::OutOfMemory);
-                }
-                let cut = ProofStep::AtClause {
-                    redundant,
-                    clause,
-                    propagation_hashes: &self.lists.hashes,
-                };
-                feed(&mut self.checker, &cut)
-            }
-            ProofStep::UnitClauses { units } => {
-                if narrow_units(&mut self.lists.units, units, self.bits).is_err() {
-                    return Err(CheckerError::OutOfMemory);
-                }
-                let cut = ProofStep::UnitClauses {
-                    units: &self.lists.units,
-                };
-                feed(&mut self.checker, &cut)
-            }
-            ProofStep::FailedAssumptions {
-                failed_core,
-                propagation_hashes,
-            } => {
-                if narrow(&mut self.lists.hashes, propagation_hashes, self.bits).is_err() {
-                    return Err(CheckerError::OutOfMemory);
-                }
-                let cut = ProofStep::FailedAssumptions {
-                    failed_core,
-                    propagation_hashes: &self.lists.hashes,
-                };
-                feed(&mut self.checker, &cut)
-            }
-            ProofStep::SolverVarName { .. } => feed(&mut self.checker, step),
-            ProofStep::UserVarName { .. } => feed(&mut self.checker, step),
-            ProofStep::DeleteVar { .. } => feed(&mut self.checker, step),
-            ProofStep::ChangeSamplingMode { .. } => feed(&mut self.checker, step),
-            ProofStep::AddClause { .. } => feed(&mut self.checker, step),
-            ProofStep::DeleteClause { .. } => feed(&mut self.checker, step),
-            ProofStep::ChangeHashBits { .. } => feed(&mut self.checker, step),
-            ProofStep::Model { .. } => feed(&mut self.checker, step),
-            ProofStep::Assumptions { .. } => feed(&mut self.checker, step),
-            ProofStep::End => feed(&mut self.checker, step),
-        }
-    }
-
-    /// Takes a step at a width, and of an end the width alone. What a solver may write is never refused.
-    pub fn take(&mut self, bits: HashBits, step: &ProofStep<'_>) -> Result<(), CheckerError>
-        requires width { KeepsWidth (step_of step.now) }
+        requires cut { step_of cut.now ≡ narrowed bits (step_of step.now) }
         ensures { TakesStep P.takes result self.old (step_of step.now) self.new }
     {
         self.take_width(bits)?;
         if is_end(step) {
             return Ok(());
         }
-        self.feed_cut(step)
+        feed(&mut self.checker, cut)
     }
 
     /// Gives a unit conflict that waits for it its id.

@@ -13,7 +13,7 @@ fn top_bits(hash: ClauseHash, bits: HashBits) -> ClauseHash
     if width == 0 { 0 } else { hash >> (64 - width) }
 }
 
-#[tactic(auto, using(crate::proofs::lemmas::session::WritingLemmas::narrow_next))]
+#[tactic(auto, using(crate::proofs::lemmas::session::CuttingLemmas::narrow_next))]
 /// Puts the topmost bits of hashes into a list in place of what it had.
 pub fn narrow(
     narrowed: &mut Vec<ClauseHash>,
@@ -44,12 +44,11 @@ pub fn narrow_units(
     Ok(())
 }
 
-/// Where hashes are cut, and lines put together.
+/// Where the hashes of a step are cut.
 #[derive(Drop)]
 pub struct CutLists {
     pub hashes: Vec<ClauseHash>,
     pub units: Vec<(Lit, ClauseHash)>,
-    pub text: Vec<u8>,
 }
 
 impl CutLists {
@@ -58,7 +57,6 @@ impl CutLists {
         CutLists {
             hashes: Vec::new(alloc),
             units: Vec::new(alloc),
-            text: Vec::new(alloc),
         }
     }
 }

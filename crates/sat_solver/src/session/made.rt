@@ -3,7 +3,7 @@ ghost use Rattle.std.specs.Prelude.{◌≡◌, ◌∷◌, [], true, false, OnOk}
 ghost use Rattle.sat_base.specs.steps.StepViews.{step_of};
 ghost use Rattle.sat_solver.specs.session.Checked.{has_begun, cause_in, FedUnless, IsCause};
 ghost use Rattle.sat_solver.specs.session.Session.{MayAll};
-ghost use Rattle.sat_solver.specs.session.Widths.{KeepsWidth};
+ghost use Rattle.sat_solver.specs.session.Widths.{narrowed, KeepsWidth};
 
 use crate::session::checked::{Checked, is_end};
 use crate::session::history::History;
@@ -135,10 +135,16 @@ impl<P: ProofProcessor> Made<P> {
         self.lost = true;
     }
 
-    /// Notes a step, and gives it to the checker, where there is one, at this width.
-    pub fn take(&mut self, bits: HashBits, step: &ProofStep<'_>) -> Result<(), CheckFault>
+    /// Notes a step, and gives it to the checker, where there is one, with its hashes cut to this width.
+    pub fn take(
+        &mut self,
+        bits: HashBits,
+        step: &ProofStep<'_>,
+        cut: &ProofStep<'_>,
+    ) -> Result<(), CheckFault>
         requires may { MayAll (step_of step.now ∷ self.old.history.steps) }
         requires width { KeepsWidth (step_of step.now) }
+        requires cut { is_checked self.old ≡ true → step_of cut.now ≡ narrowed bits (step_of step.now) }
         ensures makes { Makes (step_of step.now) self.old self.new }
         ensures fails { OrComplains result self.new }
     {
@@ -149,7 +155,7 @@ impl<P: ProofProcessor> Made<P> {
         }
         match &mut self.own {
             None => Ok(()),
-            Some(own) => match own.take(bits, step) {
+            Some(own) => match own.take(bits, step, cut) {
                 Ok(()) => Ok(()),
                 Err(error) => {
                     self.lost = true;

@@ -1,11 +1,10 @@
 //! Where a proof's text goes.
-ghost use Rattle.std.specs.Prelude.{◌≡◌};
+ghost use Rattle.std.specs.Prelude.{◌≡◌, ◌∷◌};
 ghost use Rattle.sat_base.specs.device.Sink.{Flushes, empty_sink};
 ghost use Rattle.sat_base.specs.steps.StepViews.{step_of};
-ghost use Rattle.sat_solver.specs.session.Counting.{written_for};
+ghost use Rattle.sat_solver.specs.session.Counting.{width_told};
 ghost use Rattle.sat_solver.specs.session.OutputView.{is_lines, output_format, output_sink, PutsLines, PutsSteps};
 
-use crate::session::cutting::CutLists;
 use crate::session::format::ProofFormat;
 use crate::session::lines::put_step;
 use crate::session::proof::ProofError;
@@ -73,19 +72,20 @@ impl<W: CountedWrite> Output<W> {
         }
     }
 
-    /// Writes a step, where the widths are that of the step before and its own.
+    /// Writes a step, where the widths are that of the step before and its own, to which its hashes are cut. Lines are put together in
+    /// the text.
     pub fn write(
         &mut self,
-        lists: &mut CutLists,
+        text: &mut Vec<u8>,
         widths: (HashBits, HashBits),
         step: &ProofStep<'_>,
     ) -> Result<(), ProofError>
         ensures format { output_format self.new ≡ output_format self.old }
-        ensures puts { PutsSteps (output_format self.old) result (written_for widths.0 widths.1 (step_of step.now)) (output_sink W.seen self.old) (output_sink W.seen self.new) }
+        ensures puts { PutsSteps (output_format self.old) result (step_of step.now ∷ width_told widths.0 widths.1) (output_sink W.seen self.old) (output_sink W.seen self.new) }
     {
         match self {
-            Output::Steps(writer) => write_at(writer, lists, widths, step),
-            Output::Lines(lines) => lines.write(&mut lists.text, step),
+            Output::Steps(writer) => write_at(writer, widths, step),
+            Output::Lines(lines) => lines.write(text, step),
         }
     }
 

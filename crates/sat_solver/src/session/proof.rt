@@ -2,22 +2,22 @@
 ghost use Rattle.std.specs.Prelude.{◌≡◌, ◌∷◌, [], true, false, OnOk};
 ghost use Rattle.sat_base.specs.device.Sink.{empty_sink};
 ghost use Rattle.sat_base.specs.steps.StepViews.{step_of};
-ghost use Rattle.sat_solver.specs.session.Counting.{start};
+ghost use Rattle.sat_solver.specs.session.Counting.{start, counted};
 ghost use Rattle.sat_solver.specs.session.Checked.{has_begun};
 ghost use Rattle.sat_solver.specs.session.MadeView.{Makes};
 ghost use Rattle.sat_solver.specs.session.Session.{May, MayAll};
-ghost use Rattle.sat_solver.specs.session.Widths.{KeepsWidth};
+ghost use Rattle.sat_solver.specs.session.Widths.{narrowed, KeepsWidth};
 ghost use Rattle.sat_solver.specs.session.ProofView.{Closed, Open, audience, is_open, is_drat, has_asked, target_of, steps_of, session_of, is_checked, is_lost, Checks, HasTold, Keeps, Adds, Records, PutsOn, FailsOfCheck, FlushesTarget, FlushesOrFails, Closes, Handed, HandsBack, Listens};
 
 use crate::session::counting::Counting;
-use crate::session::cutting::CutLists;
+use crate::session::cutting::{CutLists, narrow, narrow_units};
 use crate::session::format::ProofFormat;
 use crate::session::made::{CheckFault, Made};
 use crate::session::output::Output;
 use sat_base::{CountedWrite, ProofStep};
 use sat_checker::{Nobody, ProofProcessor};
 use std::alloc::Global;
-use std::io;
+use std::{io, mem};
 
 /// Why a step wasn't written, or wasn't checked.
 #[derive(Debug, Drop)]
@@ -34,10 +34,13 @@ pub enum ProofError {
 /// open. After a fault of the target it isn't used again, and steps go on as if none were open.
 #[derive(Drop)]
 pub struct Proof<W, P: ProofProcessor = Nobody> {
+    alloc: Global,
     made: Made<P>,
     /// What the width of hashes follows while a target is open, or a checker there.
     counting: Counting,
     lists: CutLists,
+    /// Where lines are put together.
+    text: Vec<u8>,
     output: Option<Output<W>>,
     broken: bool,
 }
@@ -51,9 +54,11 @@ impl<W: CountedWrite + Drop, P: ProofProcessor> Proof<W, P> {
         ensures target { target_of W.seen result ≡ Closed }
     {
         Proof {
+            alloc,
             made: Made::new(),
             counting: Counting::new(),
             lists: CutLists::new(alloc),
+            text: Vec::new(alloc),
             output: None,
             broken: false,
         }
@@ -138,16 +143,20 @@ impl<W: CountedWrite + Drop, P: ProofProcessor> Proof<W, P> {
         self.counting.solving = true;
     }
 
-    /// Writes a step where a target is open: its hashes are cut to the width for the clauses behind it.
-    fn put(&mut self, step: &ProofStep<'_>) -> Result<(), ProofError>
+    /// Writes a step where a target is open, with its hashes cut to the width for the clauses behind it.
+    fn put(
+        &mut self,
+        counting: Counting,
+        step: &ProofStep<'_>,
+        cut: &ProofStep<'_>,
+    ) -> Result<(), ProofError>
         requires width { KeepsWidth (step_of step.now) }
+        requires counted { counting ≡ counted (step_of step.now) self.old.counting }
+        requires cut { step_of cut.now ≡ narrowed counting.bits (step_of step.now) }
         ensures made { self.new.made ≡ self.old.made }
+        ensures counting { OnOk result (self.new.counting ≡ counting) }
         ensures puts { PutsOn result (step_of step.now ∷ []) (target_of W.seen self.old) (target_of W.seen self.new) }
     {
-        if !self.made.is_checked() && !self.is_open() {
-            return Ok(());
-        }
-        let counting = self.counting.with(step);
         if self.broken {
             self.counting = counting;
             return Ok(());
@@ -157,7 +166,7 @@ impl<W: CountedWrite + Drop, P: ProofProcessor> Proof<W, P> {
             return Ok(());
         };
         let widths = (self.counting.bits, counting.bits);
-        match output.write(&mut self.lists, widths, step) {
+        match output.write(&mut self.text, widths, cut) {
             Ok(()) => {
                 self.counting = counting;
                 Ok(())
@@ -171,31 +180,39 @@ impl<W: CountedWrite + Drop, P: ProofProcessor> Proof<W, P> {
         }
     }
 
-    /// Notes a step that was written, and gives it to the checker.
-    fn take(&mut self, step: &ProofStep<'_>) -> Result<(), ProofError>
+    /// Notes a step that was written, and gives it to the checker as it was cut.
+    fn take(&mut self, step: &ProofStep<'_>, cut: &ProofStep<'_>) -> Result<(), ProofError>
         requires may { MayAll (step_of step.now ∷ steps_of self.old) }
         requires width { KeepsWidth (step_of step.now) }
+        requires cut { is_checked self.old ≡ true → step_of cut.now ≡ narrowed self.old.counting.bits (step_of step.now) }
         ensures makes { Makes (step_of step.now) self.old.made self.new.made }
         ensures target { target_of W.seen self.new ≡ target_of W.seen self.old }
         ensures fails { FailsOfCheck result self.new }
     {
-        match self.made.take(self.counting.bits, step) {
+        match self.made.take(self.counting.bits, step, cut) {
             Ok(()) => Ok(()),
             Err(fault) => Err(ProofError::Check(fault)),
         }
     }
 
-    /// Makes a step that the session may write, writes it where a target is open, and gives it to the checker, where there is one.
-    /// Without memory for its text nothing is made. A step at whose text the target fails isn't checked.
-    pub fn step(&mut self, step: &ProofStep<'_>) -> Result<(), ProofError>
+    /// Gives target and checker the very same step, with its hashes cut to the width for the clauses behind it. A step at whose text
+    /// the target fails isn't checked.
+    fn record(
+        &mut self,
+        counting: Counting,
+        step: &ProofStep<'_>,
+        cut: &ProofStep<'_>,
+    ) -> Result<(), ProofError>
         requires keeps { Keeps self.old }
         requires may { May (session_of self.old) (step_of step.now) }
         requires width { KeepsWidth (step_of step.now) }
+        requires counted { counting ≡ counted (step_of step.now) self.old.counting }
+        requires cut { step_of cut.now ≡ narrowed counting.bits (step_of step.now) }
         ensures keeps { Keeps self.new }
         ensures records { Records W.seen result (step_of step.now ∷ []) self.old self.new }
     {
-        match self.put(step) {
-            Ok(()) => self.take(step),
+        match self.put(counting, step, cut) {
+            Ok(()) => self.take(step, cut),
             Err(ProofError::Write(e)) => {
                 self.made.skip(step);
                 Err(ProofError::Write(e))
@@ -203,6 +220,125 @@ impl<W: CountedWrite + Drop, P: ProofProcessor> Proof<W, P> {
             Err(ProofError::OutOfMemory) => Err(ProofError::OutOfMemory),
             Err(ProofError::Check(fault)) => Err(ProofError::Check(fault)),
         }
+    }
+
+    /// Cuts a step's hashes, in these lists, to the width for the clauses behind it, and records it.
+    fn record_cut(&mut self, lists: &mut CutLists, step: &ProofStep<'_>) -> Result<(), ProofError>
+        requires keeps { Keeps self.old }
+        requires may { May (session_of self.old) (step_of step.now) }
+        requires width { KeepsWidth (step_of step.now) }
+        ensures keeps { Keeps self.new }
+        ensures records { Records W.seen result (step_of step.now ∷ []) self.old self.new }
+    {
+        let counting = self.counting.with(step);
+        match *step {
+            ProofStep::AtClause {
+                redundant,
+                clause,
+                propagation_hashes,
+            } => {
+                if narrow(&mut lists.hashes, propagation_hashes, counting.bits).is_err() {
+                    return Err(ProofError::OutOfMemory);
+                }
+                let whole = ProofStep::AtClause {
+                    redundant,
+                    clause,
+                    propagation_hashes,
+                };
+                let cut = ProofStep::AtClause {
+                    redundant,
+                    clause,
+                    propagation_hashes: &lists.hashes,
+                };
+                self.record(counting, &whole, &cut)
+            }
+            ProofStep::UnitClauses { units } => {
+                if narrow_units(&mut lists.units, units, counting.bits).is_err() {
+                    return Err(ProofError::OutOfMemory);
+                }
+                let whole = ProofStep::UnitClauses { units };
+                let cut = ProofStep::UnitClauses {
+                    units: &lists.units,
+                };
+                self.record(counting, &whole, &cut)
+            }
+            ProofStep::FailedAssumptions {
+                failed_core,
+                propagation_hashes,
+            } => {
+                if narrow(&mut lists.hashes, propagation_hashes, counting.bits).is_err() {
+                    return Err(ProofError::OutOfMemory);
+                }
+                let whole = ProofStep::FailedAssumptions {
+                    failed_core,
+                    propagation_hashes,
+                };
+                let cut = ProofStep::FailedAssumptions {
+                    failed_core,
+                    propagation_hashes: &lists.hashes,
+                };
+                self.record(counting, &whole, &cut)
+            }
+            ProofStep::SolverVarName { global, solver } => {
+                let cut = ProofStep::SolverVarName { global, solver };
+                self.record(counting, step, &cut)
+            }
+            ProofStep::UserVarName { global, user } => {
+                let cut = ProofStep::UserVarName { global, user };
+                self.record(counting, step, &cut)
+            }
+            ProofStep::DeleteVar { var } => {
+                let cut = ProofStep::DeleteVar { var };
+                self.record(counting, step, &cut)
+            }
+            ProofStep::ChangeSamplingMode { var, sample } => {
+                let cut = ProofStep::ChangeSamplingMode { var, sample };
+                self.record(counting, step, &cut)
+            }
+            ProofStep::AddClause { clause } => {
+                let whole = ProofStep::AddClause { clause };
+                let cut = ProofStep::AddClause { clause };
+                self.record(counting, &whole, &cut)
+            }
+            ProofStep::DeleteClause { clause, proof } => {
+                let whole = ProofStep::DeleteClause { clause, proof };
+                let cut = ProofStep::DeleteClause { clause, proof };
+                self.record(counting, &whole, &cut)
+            }
+            ProofStep::ChangeHashBits { bits } => {
+                let cut = ProofStep::ChangeHashBits { bits };
+                self.record(counting, step, &cut)
+            }
+            ProofStep::Model { assignment } => {
+                let whole = ProofStep::Model { assignment };
+                let cut = ProofStep::Model { assignment };
+                self.record(counting, &whole, &cut)
+            }
+            ProofStep::Assumptions { assumptions } => {
+                let whole = ProofStep::Assumptions { assumptions };
+                let cut = ProofStep::Assumptions { assumptions };
+                self.record(counting, &whole, &cut)
+            }
+            ProofStep::End => self.record(counting, step, &ProofStep::End),
+        }
+    }
+
+    /// Makes a step that the session may write, writes it where a target is open, and gives it to the checker, where there is one.
+    /// Without memory for its text or its hashes nothing is made.
+    pub fn step(&mut self, step: &ProofStep<'_>) -> Result<(), ProofError>
+        requires keeps { Keeps self.old }
+        requires may { May (session_of self.old) (step_of step.now) }
+        requires width { KeepsWidth (step_of step.now) }
+        ensures keeps { Keeps self.new }
+        ensures records { Records W.seen result (step_of step.now ∷ []) self.old self.new }
+    {
+        if !self.made.is_checked() && !self.is_open() {
+            return self.take(step, &ProofStep::End);
+        }
+        let mut lists = mem::replace(&mut self.lists, CutLists::new(self.alloc));
+        let recorded = self.record_cut(&mut lists, step);
+        self.lists = lists;
+        recorded
     }
 
     /// Writes out what waits for an open target, and flushes it.

@@ -14,7 +14,8 @@ use Rattle.sat_parts.specs.prop.State.{State, node, level, Agrees}
 use Rattle.sat_parts.specs.prop.Reasons.{AreInTurn}
 use Rattle.sat_parts.specs.prop.Values.{IsFalseLit}
 use Rattle.sat_parts.proofs.lemmas.prop.StateLemmas.{negated_twice, negated_variable, true_from_false}
-use Rattle.sat_solver.specs.session.Session.{Session, May, MayDerive, AreNamed, Leads, denied, by_clauses, by_derivation, by_signs, by_unit}
+use Rattle.sat_checker.specs.Leading.{Leads}
+use Rattle.sat_solver.specs.session.Session.{Session, May, MayDerive, AreNamed, denied, by_clauses, by_derivation, by_signs, by_unit}
 use Rattle.sat_solver.specs.session.LiveClauses.{with_var}
 use Rattle.sat_solver.proofs.lemmas.session.Mapped.{negated_mapped, among_mapped, leads_mapped, Carries}
 use Rattle.sat_solver.specs.acceptance.TrailUnits.{IsUsable}

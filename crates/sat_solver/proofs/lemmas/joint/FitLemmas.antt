@@ -21,7 +21,8 @@ use Rattle.sat_parts.specs.prop.State.{State, node, level, lit_at, Agrees, Grows
 use Rattle.sat_parts.proofs.lemmas.clause.ListLemmas.{at_place, place_in}
 use Rattle.sat_parts.proofs.lemmas.prop.StateLemmas.{negated_twice, negated_variable, grows_enqueued, lit_last, node_new, true_new}
 use Rattle.sat_parts.proofs.lemmas.prop.RoomLemmas.{room_for}
-use Rattle.sat_solver.specs.session.Session.{Session, same_side, more, with_fact, with_live, with_clause, knowing_literals, after}
+use Rattle.sat_checker.specs.Contents.{same_side, more_if}
+use Rattle.sat_solver.specs.session.Session.{Session, with_fact, with_live, with_clause, knowing_literals, after}
 use Rattle.sat_solver.specs.session.LiveClauses.{LiveClause, count_of, IsIn, with_var, mapped, AreMapped, AreOf}
 use Rattle.sat_solver.proofs.lemmas.session.Mapped.{negated_mapped, among_mapped, not_among, apart}
 use Rattle.sat_solver.proofs.lemmas.session.StepsOfClauses.{clause_long, short_leaves}
@@ -107,7 +108,7 @@ all_at P (x ∷ xs) h = (h zero (omega arith), all_at P xs (λ k n. h (suc k) (o
 
 counts_front : (f : LiveClause → LiveClause) (xs ys zs : List LiveClause) (r : Bool) (set : List ℕ) → count_of (map f ys) r set ≡ count_of (map f zs) r set → count_of (map f (xs ++ ys)) r set ≡ count_of (map f (xs ++ zs)) r set
 counts_front f [] ys zs r set e = e
-counts_front f (x ∷ xs) ys zs r set e = ap (more (same_side (f x).redundant r && same_literals (canonical (f x).literals) set)) (counts_front f xs ys zs r set e)
+counts_front f (x ∷ xs) ys zs r set e = ap (more_if (same_side (f x).redundant r && same_literals (canonical (f x).literals) set)) (counts_front f xs ys zs r set e)
 
 counts_kept : (global : ℕ → ℕ) (a b : ℕ → Bool) (words words' os : List ℕ) (r : Bool) (set : List ℕ) → ((o : ℕ) → Contains os o → (b o ≡ a o) × Shuffled (lits_at words o) (lits_at words' o)) →
     count_of (map (mapped global) (longs a words os)) r set ≡ count_of (map (mapped global) (longs b words' os)) r set
@@ -116,9 +117,9 @@ counts_kept global a b words words' (o ∷ os) r set h =
     let x = h o (0, omega arith, refl) in
     let rest : count_of (map (mapped global) (longs a words os)) r set ≡ count_of (map (mapped global) (longs b words' os)) r set =
     counts_kept global a b words words' os r set (λ p c. h p (suc c.0, omega (arith, c.1), c.2)) in
-    ap (λ q. more (same_side q r && same_literals (canonical (map (with_var global) (lits_at words o))) set) (count_of (map (mapped global) (longs a words os)) r set)) (sym x.0)
-    ∙ ap (λ ks. more (same_side (b o) r && same_literals ks set) (count_of (map (mapped global) (longs a words os)) r set)) (canonical_shuffled (with_var global) (lits_at words o) (lits_at words' o) x.1)
-    ∙ ap (more (same_side (b o) r && same_literals (canonical (map (with_var global) (lits_at words' o))) set)) rest
+    ap (λ q. more_if (same_side q r && same_literals (canonical (map (with_var global) (lits_at words o))) set) (count_of (map (mapped global) (longs a words os)) r set)) (sym x.0)
+    ∙ ap (λ ks. more_if (same_side (b o) r && same_literals ks set) (count_of (map (mapped global) (longs a words os)) r set)) (canonical_shuffled (with_var global) (lits_at words o) (lits_at words' o) x.1)
+    ∙ ap (more_if (same_side (b o) r && same_literals (canonical (map (with_var global) (lits_at words' o))) set)) rest
 
 -- a literal of a clause has its solver name
 pub mapped_at : (global : ℕ → ℕ) (names : ℕ → Option ℕ) (ls : List ℕ) (k : ℕ) → AreMapped global names ls → k < length ls → names (global (variable (get_or ls k 0))) ≡ Some (variable (get_or ls k 0))

@@ -15,7 +15,8 @@ use Rattle.sat_parts.specs.prop.Values.{IsTrueLit}
 use Rattle.sat_parts.specs.prop.State.{State, node, level, lit_at, Agrees}
 use Rattle.sat_parts.specs.prop.Reasons.{AreInTurn}
 use Rattle.sat_parts.proofs.lemmas.prop.RoomLemmas.{below_from_value}
-use Rattle.sat_solver.specs.session.Session.{Session, AreNamed, Leads, denied, by_clauses}
+use Rattle.sat_checker.specs.Leading.{Leads}
+use Rattle.sat_solver.specs.session.Session.{Session, AreNamed, denied, by_clauses}
 use Rattle.sat_solver.specs.session.LiveClauses.{with_var}
 use Rattle.sat_solver.proofs.lemmas.session.Mapped.{leads_mapped, denied_mapped}
 use Rattle.sat_solver.specs.acceptance.TrailUnits.{IsUsable}

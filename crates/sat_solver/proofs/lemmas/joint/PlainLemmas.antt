@@ -6,7 +6,8 @@ use Rattle.sat_base.specs.steps.Steps.{Redundant, Simplified, Satisfied, Step, S
 use Rattle.sat_checker.specs.LiteralSets.{is_part, is_tautology, canonical, same_literals}
 use Rattle.sat_checker.proofs.lemmas.sets.Canonical.{canonical_tautology, tautology_from, both_signs}
 use Rattle.sat_checker.proofs.lemmas.meaning.Clauses.{same}
-use Rattle.sat_solver.specs.session.Session.{Session, same_side, more, less, with_fact, with_facts, with_live, with_sorted, with_clause, knowing_literals, without_live, changed, session_after}
+use Rattle.sat_checker.specs.Contents.{same_side, more_if, less_if}
+use Rattle.sat_solver.specs.session.Session.{Session, with_fact, with_facts, with_live, with_sorted, with_clause, knowing_literals, without_live, changed, session_after}
 use Rattle.sat_solver.proofs.lemmas.session.StepsOfClauses.{fact_stays, facts_stay}
 use Rattle.sat_solver.specs.joint.Listed.{ArePlain}
 use Rattle.sat_solver.proofs.lemmas.joint.SetLemmas.{part_has}
@@ -19,11 +20,11 @@ part_plain xs ys p n = false_from_ne_true (is_tautology xs) (λ t.
 
 -- WHAT STEPS MAKE OF IT
 
-more_positive : (b : Bool) (n : ℕ) → 0 < more b n → (b ≡ true) ⊎ (0 < n)
+more_positive : (b : Bool) (n : ℕ) → 0 < more_if b n → (b ≡ true) ⊎ (0 < n)
 more_positive true n h = inl refl
 more_positive false n h = inr h
 
-less_positive : (b : Bool) (n : ℕ) → 0 < less b n → 0 < n
+less_positive : (b : Bool) (n : ℕ) → 0 < less_if b n → 0 < n
 less_positive true n h = omega arith
 less_positive false n h = h
 

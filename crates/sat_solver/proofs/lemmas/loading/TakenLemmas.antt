@@ -20,7 +20,7 @@ use Rattle.sat_solver.specs.loading.Alike.{LooksAlike}
 use Rattle.sat_solver.specs.loading.Loaded.{MayLoad, IsAdded}
 use Rattle.std.specs.List.{AllByRecursion}
 use Rattle.sat_solver.specs.names.Variables.{AreTidy, solver_of, global_at}
-use Rattle.sat_solver.proofs.lemmas.names.LiteralValues.{coded_half}
+use Rattle.sat_base.proofs.lemmas.script.LiteralValues.{coded_half}
 use Rattle.sat_solver.proofs.lemmas.search.AskedLemmas.{names_added}
 use Rattle.sat_solver.specs.loading.Shared.{SharesIndices}
 use Rattle.sat_solver.proofs.lemmas.loading.SharedLemmas.{AreOver, over_below, over_named, over_same}

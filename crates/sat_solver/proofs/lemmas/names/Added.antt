@@ -15,7 +15,7 @@ use Rattle.sat_solver.specs.names.Refusing.{names_in}
 use Rattle.sat_solver.specs.names.Adding.{named_literal, Image, Images, MapsClause, NoWitness, SameLiterals, Takes, global_in}
 use Rattle.sat_solver.specs.names.AddingCalls.{AddsClause}
 use Rattle.sat_solver.specs.names.Assuming.{PutsMarks, Assumes}
-use Rattle.sat_solver.specs.names.Expected.{Adds, Opens, bringing}
+use Rattle.sat_checker.specs.matching.Expected.{Outcome, Adds, Opens, bringing}
 use Rattle.sat_solver.specs.names.Search.{Gives}
 use Rattle.sat_solver.specs.names.Calls.{Does}
 use Rattle.sat_solver.specs.declared.names.Variables.{Variables}
@@ -25,7 +25,7 @@ use Rattle.sat_solver.proofs.lemmas.session.ComingLemmas.{comes_one, comes_both}
 use Rattle.sat_solver.proofs.lemmas.names.Doing.{does_both}
 use Rattle.sat_solver.proofs.lemmas.names.Extending.{extends_both}
 use Rattle.sat_solver.proofs.lemmas.names.Giving.{gives_unseen}
-use Rattle.sat_solver.proofs.lemmas.names.LiteralValues.{coded_half}
+use Rattle.sat_base.proofs.lemmas.script.LiteralValues.{coded_half}
 use Rattle.sat_solver.proofs.lemmas.names.ModeChanges.{live_within}
 use Rattle.sat_solver.proofs.lemmas.names.Assumed.{marked_within}
 use Rattle.sat_solver.proofs.lemmas.names.TakenNames.{same_literals, canonical_more, canonical_less, images_within, at_place, among_place, map_among, mapped_is}
@@ -78,9 +78,9 @@ extends_marked old new ls put = record {
     none_some e = cc
 
 pub assumptions_added : (old mid new : Variables) (from mids to : List Step) (user : List ℕ) (t u : Taken) → Takes old mid from mids user t → PutsMarks mid new u.globals.items → u.globals.items ≡ map (with_var (global_in mid)) t.order.items → u.order ≡ t.order → u.given ≡ t.given
-    → Does mid new mids to (λ j. j) (λ j. Opens (map named_literal user) ∷ []) → to ≡ Assumptions u.globals.items ∷ mids → Assumes old new from to user u
+    → ((o : Outcome) → Does mid new mids to (λ j. j) (λ j. Opens (map named_literal user) o ∷ [])) → to ≡ Assumptions u.globals.items ∷ mids → Assumes old new from to user u
 assumptions_added old mid new from mids to user t u takes put globals order given does e = record {
-  does = does_both old mid new from mids to (bring_all (names_in user)) (λ j. j) (bringing (names_in user)) (λ j. Opens (map named_literal user) ∷ []) takes.does does;
+  does = λ o. does_both old mid new from mids to (bring_all (names_in user)) (λ j. j) (bringing (names_in user)) (λ j. Opens (map named_literal user) o ∷ []) takes.does (does o);
   extends = extends_both old mid new takes.extends (extends_marked mid new u.globals.items put);
   images = images_kept mid new user u.order.items put.users put.solvers (order_same mid user t u order takes.images);
   globals = globals ∙ ap (λ v. map (with_var (global_in mid)) v.items) (sym order) ∙ ap (λ g. map (with_var (λ x. get_or g.items x 0)) u.order.items) (sym put.globals);

@@ -14,19 +14,21 @@ use Rattle.sat_store.specs.variables.VarData.{unused_variable}
 use Rattle.sat_store.specs.variables.Maps.{AreInverse, target}
 use Rattle.sat_solver.specs.names.Counting.{IsEven}
 use Rattle.sat_solver.specs.names.Free.{is_free, IsTree}
-use Rattle.sat_solver.specs.names.Live.{Live, given_of}
+use Rattle.sat_checker.specs.matching.Bridge.{Live}
+use Rattle.sat_solver.specs.names.Live.{given_of}
 use Rattle.sat_solver.specs.names.Variables.{data_at, user_of, variables_used, AreTidy, AreSaid, AreJudged, IsModeOf, says_unit}
 use Rattle.sat_solver.specs.names.Adding.{named_literal, SameLiterals, StandsFor}
 use Rattle.sat_solver.specs.names.Assuming.{marked_if, Marks, PutsMarks}
-use Rattle.sat_solver.specs.names.Checking.{variable_of}
-use Rattle.sat_solver.specs.names.ProofChecking.{the_checking}
-use Rattle.sat_solver.specs.names.Expected.{Opens, opens}
-use Rattle.sat_solver.specs.names.Calls.{Stands, written, ordered, Kept, Does}
+use Rattle.sat_checker.specs.matching.Checking.{variable_of}
+use Rattle.sat_checker.specs.matching.ProofChecking.{the_checking}
+use Rattle.sat_checker.specs.matching.Expected.{Outcome, Opens, opens}
+use Rattle.sat_checker.specs.matching.Traces.{no_step, visible}
+use Rattle.sat_solver.specs.names.Calls.{Stands, Kept, Does}
 use Rattle.sat_solver.specs.declared.names.Variables.{Variables}
 use Rattle.sat_solver.proofs.lemmas.names.NewName.{shape}
-use Rattle.sat_solver.proofs.lemmas.names.LiteralValues.{coded_half}
-use Rattle.sat_solver.proofs.lemmas.names.BridgeLemmas.{nothing_new}
-use Rattle.sat_solver.proofs.lemmas.names.CheckerIsSound.{the_checking_sound}
+use Rattle.sat_base.proofs.lemmas.script.LiteralValues.{coded_half}
+use Rattle.sat_checker.proofs.lemmas.matching.Bridge.{nothing_new}
+use Rattle.sat_checker.proofs.lemmas.matching.CheckerIsSound.{the_checking_sound}
 use Rattle.sat_solver.proofs.lemmas.names.ClauseWritten.{all_known, known_same, same_set}
 
 -- LITERAL BY LITERAL
@@ -154,6 +156,7 @@ module _ (old new : Variables) (ls : List ℕ) (tidy : AreTidy old) (live : (v :
     distinct = judged.distinct;
     identities = (let b = put.count in let r = judged.identities in omega arith);
     modes_count = judged.modes_count;
+    increasing = judged.increasing;
     modes = λ w i e. subst (λ m. IsModeOf m (get_or j.modes i Sampled)) (sym (mode_at w)) (judged.modes w i e);
   }
 
@@ -169,21 +172,21 @@ spelt_live n user (x ∷ xs) tidy h v e = go (spelt_live n user xs tidy h.1 v) (
         ap (λ k. (data_at n k).deleted) (sym same) ∙ tidy.indexed i.variable_is i.index_is i.indexed
     go rest false t f = rest f
 
-pub assumptions_written : (old new : Variables) (from to : List Step) (user ls : List ℕ) → Stands old from → SameLiterals old user ls → PutsMarks old new ls → to ≡ Assumptions ls ∷ from → Does old new from to (λ j. j) (λ j. Opens (map named_literal user) ∷ [])
-assumptions_written old new from to user ls stands same put e = record {
+pub assumptions_written : (old new : Variables) (from to : List Step) (user ls : List ℕ) → Stands old from → SameLiterals old user ls → PutsMarks old new ls → to ≡ Assumptions ls ∷ from → (o : Outcome) → Does old new from to (λ j. j) (λ j. Opens (map named_literal user) o ∷ [])
+assumptions_written old new from to user ls stands same put e o = record {
   stands = record {
     tidy = tidy_marked old new ls stands.tidy live put;
     said = subst (λ steps. AreSaid new (session_after steps)) (sym e) (said_marked old new ls stands.tidy live put (session_after from) stands.said (λ v. known_same (session_after from) ls v (all_known old from user ls stands same)));
     may = subst MayAll (sym e) (stands.may, tt);
     read = λ u. ap (λ steps. variable_of steps (u + 1)) e ∙ stands.read u ∙ ap (λ m. target m.fwd u) (sym put.users);
   };
-  kept = λ j list a. subst (λ steps. Kept new from steps j (Opens (map named_literal user) ∷ [])) (sym e) (record {
+  kept = λ j list a. subst (λ steps. Kept new from steps j (Opens (map named_literal user) o ∷ [])) (sym e) (record {
     live = list;
     agree = record {
       judged = judged_marked old new ls stands.tidy live put j list a.judged;
       bridge = nothing_new the_checking the_checking_sound j from list a.bridge (Assumptions ls) tt (λ v x. cc) (λ n. refl) (λ b h. h) (λ b h. h);
     };
-    writes = ordered (opens (same_set old from user ls stands same)) written;
+    trace = visible (opens (same_set old from user ls stands same)) no_step;
   });
 }
   where

@@ -4,10 +4,11 @@ use Rattle.std.proofs.lemmas.Bool.{le-ltb, ltb-true, cases_lt}
 use Rattle.sat_base.specs.script.Judge.{Judge, identity_of, with_names, names_from, new_names}
 use Rattle.sat_base.specs.steps.Steps.{Step, UserVarName}
 use Rattle.sat_solver.specs.names.Free.{is_free}
-use Rattle.sat_solver.specs.names.Live.{Live, given_of}
+use Rattle.sat_checker.specs.matching.Bridge.{Live}
+use Rattle.sat_solver.specs.names.Live.{given_of}
 use Rattle.sat_solver.specs.names.Variables.{data_at, global_of, names_used, AreTidy, AreJudged}
 use Rattle.sat_solver.specs.names.Naming.{IsNextUser}
-use Rattle.sat_solver.specs.names.Expected.{NewName}
+use Rattle.sat_checker.specs.matching.Expected.{NewName}
 use Rattle.sat_solver.specs.names.Calls.{Stands, Kept, NamesOne, NamesAll, BringsIn, Brought}
 use Rattle.sat_solver.specs.declared.names.Variables.{Variables}
 use Rattle.sat_solver.proofs.lemmas.names.NamingSteps.{none_brought, one_then, none_yet, last_came}

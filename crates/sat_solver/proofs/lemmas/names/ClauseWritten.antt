@@ -12,19 +12,21 @@ use Rattle.sat_checker.specs.LiteralSets.{is_among, is_tautology, canonical, men
 use Rattle.sat_checker.proofs.lemmas.state.Forgetting.{mentions_set}
 use Rattle.sat_checker.proofs.lemmas.sets.Canonical.{canonical_among}
 use Rattle.sat_checker.specs.Stored.{Sample, Variable, unknown}
-use Rattle.sat_solver.specs.session.Session.{Session, May, MayAll, session_after, after, knowing_literals, with_fact, with_sorted, with_live, more, same_side}
+use Rattle.sat_checker.specs.Contents.{more_if, same_side}
+use Rattle.sat_solver.specs.session.Session.{Session, May, MayAll, session_after, after, knowing_literals, with_fact, with_sorted, with_live}
 use Rattle.sat_solver.specs.session.Session as sessions
 use Rattle.sat_solver.proofs.lemmas.session.StepLemmas.{sessions_are_accepted}
 use Rattle.sat_solver.specs.names.Variables.{data_at, user_of, solver_of, AreSaid, IsUnused, mode_in}
 use Rattle.sat_solver.specs.names.Adding.{named_literal, StandsFor, SameLiterals}
-use Rattle.sat_solver.specs.names.Checking.{variable_of}
-use Rattle.sat_solver.specs.names.ProofChecking.{the_checking}
-use Rattle.sat_solver.specs.names.Expected.{Spells, SameSet, EachSpelt, Adds, adds}
-use Rattle.sat_solver.specs.names.Calls.{Stands, written, ordered, Kept, Does}
+use Rattle.sat_checker.specs.matching.Checking.{variable_of}
+use Rattle.sat_checker.specs.matching.ProofChecking.{the_checking}
+use Rattle.sat_checker.specs.matching.Expected.{Spells, SameSet, EachSpelt, Adds, adds}
+use Rattle.sat_checker.specs.matching.Traces.{no_step, visible}
+use Rattle.sat_solver.specs.names.Calls.{Stands, Kept, Does}
 use Rattle.sat_solver.specs.declared.names.Variables.{Variables}
-use Rattle.sat_solver.proofs.lemmas.names.LiteralValues.{coded_half, all_map}
-use Rattle.sat_solver.proofs.lemmas.names.BridgeLemmas.{added}
-use Rattle.sat_solver.proofs.lemmas.names.CheckerIsSound.{the_checking_sound}
+use Rattle.sat_base.proofs.lemmas.script.LiteralValues.{coded_half, all_map}
+use Rattle.sat_checker.proofs.lemmas.matching.Bridge.{added}
+use Rattle.sat_checker.proofs.lemmas.matching.CheckerIsSound.{the_checking_sound}
 
 -- a clause changes neither variables nor solver names
 record SameNames (s t : Session) : Type 0 where
@@ -158,7 +160,7 @@ added_unused s c w e h r set lt = go s.unsat lt
         fact false false y = h r q y
     inner (l ∷ k ∷ ls) m q x = more_live (same_side false r && same_literals (l ∷ k ∷ ls) q) refl x
       where
-        more_live : (b : Bool) → (same_side false r && same_literals (l ∷ k ∷ ls) q) ≡ b → 0 < more b (s.live r q) → mentions q w ≡ false
+        more_live : (b : Bool) → (same_side false r && same_literals (l ∷ k ∷ ls) q) ≡ b → 0 < more_if b (s.live r q) → mentions q w ≡ false
         more_live false t y = h r q y
         more_live true t y = ap (λ z. mentions z w) (sym (same_lists (l ∷ k ∷ ls) q (and_right (same_side false r) (same_literals (l ∷ k ∷ ls) q) t))) ∙ m
 
@@ -242,11 +244,12 @@ module _ (n : Variables) (from : List Step) (user clause : List ℕ) (stands : S
           distinct = a.judged.distinct;
           identities = a.judged.identities;
           modes_count = a.judged.modes_count;
+          increasing = a.judged.increasing;
           modes = a.judged.modes;
         };
         bridge = added the_checking the_checking_sound j from live a.bridge (map named_literal user) clause accepted same_set;
       };
-      writes = ordered (adds same_set) written;
+      trace = visible (adds same_set) no_step;
     });
   }
     where

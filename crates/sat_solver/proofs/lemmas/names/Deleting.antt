@@ -13,20 +13,21 @@ use Rattle.sat_solver.specs.session.Session.{Session, MayAll, MayForget, session
 use Rattle.sat_solver.proofs.lemmas.session.StepLemmas.{sessions_are_accepted}
 use Rattle.sat_solver.specs.names.Counting.{IsEven}
 use Rattle.sat_solver.specs.names.Free.{is_free, IsTree}
-use Rattle.sat_solver.specs.names.Live.{Live, given_of, given}
+use Rattle.sat_checker.specs.matching.Bridge.{Live, IsBridge}
+use Rattle.sat_solver.specs.names.Live.{given_of, given}
 use Rattle.sat_solver.specs.names.Variables.{data_at, global_of, user_of, solver_of, variables_used, AreTidy, mode_in, variable_at, AreSaid, IsModeOf, AreJudged, says_unit}
 use Rattle.sat_solver.specs.names.Naming.{PutsDeleted}
-use Rattle.sat_solver.specs.names.Checking.{variable_of}
-use Rattle.sat_solver.specs.names.ProofChecking.{the_checking}
-use Rattle.sat_solver.specs.names.Bridge.{IsBridge}
-use Rattle.sat_solver.specs.names.Calls.{Stands, written, other, Kept, DoesNothing}
+use Rattle.sat_checker.specs.matching.Checking.{variable_of}
+use Rattle.sat_checker.specs.matching.ProofChecking.{the_checking}
+use Rattle.sat_checker.specs.matching.Traces.{no_step, silent}
+use Rattle.sat_solver.specs.names.Calls.{Stands, Kept, DoesNothing}
 use Rattle.sat_solver.specs.names.Search.{Forgets}
 use Rattle.sat_solver.specs.declared.names.Variables.{Variables}
 use Rattle.sat_solver.proofs.lemmas.names.NewName.{shape, and_false}
-use Rattle.sat_solver.proofs.lemmas.names.LiteralValues.{coded_half}
+use Rattle.sat_base.proofs.lemmas.script.LiteralValues.{coded_half}
 use Rattle.sat_solver.proofs.lemmas.names.ModeChanges.{live_within}
-use Rattle.sat_solver.proofs.lemmas.names.BridgeLemmas.{deleted, without}
-use Rattle.sat_solver.proofs.lemmas.names.CheckerIsSound.{the_checking_sound}
+use Rattle.sat_checker.proofs.lemmas.matching.Bridge.{deleted, without}
+use Rattle.sat_checker.proofs.lemmas.matching.CheckerIsSound.{the_checking_sound}
 
 and_true : (b : Bool) → (b && true) ≡ b
 and_true true = refl
@@ -168,6 +169,7 @@ module _ (old new : Variables) (v : ℕ) (tidy : AreTidy old) (alive : (data_at 
     distinct = λ a b i e f. judged.distinct a b i (was a i e) (was b i f);
     identities = (let b = put.count in let r = judged.identities in omega arith);
     modes_count = judged.modes_count;
+    increasing = judged.increasing;
     modes = modes;
   }
     where
@@ -227,7 +229,7 @@ var_deleted old new from to v stands alive nameless noindex unmarked put e = rec
       record {
         live = without v live;
         agree = record { judged = judged_deleted old new v stands.tidy alive nameless noindex put j live (DeleteVar v ∷ from) b a.judged; bridge = b };
-        writes = other refl written;
+        trace = silent refl no_step;
       });
 }
   where

@@ -3,17 +3,15 @@ use Rattle.std.proofs.Common.{List, [], ◌++◌, subst, Result, Ok, Err, OnOk}
 use Rattle.std.proofs.lemmas.List.{append-nil}
 use Rattle.sat_base.specs.script.Judge.{Judge}
 use Rattle.sat_base.specs.steps.Steps.{Step}
-use Rattle.sat_solver.specs.names.Expected.{Expected}
-use Rattle.sat_solver.specs.names.Calls.{Stands, Writes, written, other, ordered, Does, DoesNothing}
+use Rattle.sat_checker.specs.matching.Expected.{Expected}
+use Rattle.sat_checker.specs.matching.Traces.{HasTrace, no_step}
+use Rattle.sat_checker.specs.matching.ProofChecking.{the_checking}
+use Rattle.sat_checker.proofs.lemmas.matching.Traces.{traces_both}
+use Rattle.sat_solver.specs.names.Calls.{Stands, Does, DoesNothing}
 use Rattle.sat_solver.specs.declared.names.Variables.{Variables}
 
-pub both_written : {s t u : List Step} {es fs : List Expected} → Writes s t es → Writes t u fs → Writes s u (es ++ fs)
-both_written written k = k
-both_written (other o w) k = other o (both_written w k)
-both_written (ordered f w) k = ordered f (both_written w k)
-
 pub does_none : (n : Variables) (log : List Step) → Stands n log → DoesNothing n n log log
-does_none n log stands = record { stands = stands; kept = λ j live a. record { live = live; agree = a; writes = written } }
+does_none n log stands = record { stands = stands; kept = λ j live a. record { live = live; agree = a; trace = no_step } }
 
 -- one call, then another
 pub does_both : (old mid new : Variables) (from mids to : List Step) (f g : Judge → Judge) (es fs : Judge → List Expected) → Does old mid from mids f es → Does mid new mids to g fs → Does old new from to (λ j. g (f j)) (λ j. es j ++ fs (f j))
@@ -22,7 +20,7 @@ does_both old mid new from mids to f g es fs one two = record {
   kept = λ j live a.
       let k = one.kept j live a in
       let l = two.kept (f j) k.live k.agree in
-      record { live = l.live; agree = l.agree; writes = both_written k.writes l.writes };
+      record { live = l.live; agree = l.agree; trace = traces_both k.trace l.trace };
 }
 
 pub ok_both : {E : Type 0} (r : Result Unit E) (old mid new : Variables) (from mids to : List Step) (f g : Judge → Judge) (es fs : Judge → List Expected) → Does old mid from mids f es → OnOk r (Does mid new mids to g fs) → OnOk r (Does old new from to (λ j. g (f j)) (λ j. es j ++ fs (f j)))
@@ -33,6 +31,6 @@ ok_both (Err e) old mid new from mids to f g es fs one two = tt
 pub ok_after : {E : Type 0} (r : Result Unit E) (old mid new : Variables) (from mids to : List Step) (f : Judge → Judge) (es : Judge → List Expected) → Does old mid from mids f es → OnOk r (DoesNothing mid new mids to) → OnOk r (Does old new from to f es)
 ok_after (Ok x) old mid new from mids to f es one two = let both = does_both old mid new from mids to f (λ j. j) es (λ j. []) one two in record {
   stands = both.stands;
-  kept = λ j live a. let k = both.kept j live a in record { live = k.live; agree = k.agree; writes = subst (Writes from to) (append-nil (es j)) k.writes };
+  kept = λ j live a. let k = both.kept j live a in record { live = k.live; agree = k.agree; trace = subst (HasTrace the_checking from to) (append-nil (es j)) k.trace };
 }
 ok_after (Err x) old mid new from mids to f es one two = tt

@@ -15,7 +15,7 @@ use Rattle.sat_solver.specs.names.Search.{KeepsSearch, KeepsUnits, IsUnseen, IsL
 use Rattle.sat_solver.specs.declared.names.indexing.Given.{Given}
 use Rattle.sat_solver.specs.declared.names.Variables.{Variables}
 use Rattle.sat_solver.proofs.lemmas.names.Extending.{fresh_only}
-use Rattle.sat_solver.proofs.lemmas.names.LiteralValues.{all_map, coded_half}
+use Rattle.sat_base.proofs.lemmas.script.LiteralValues.{all_map, coded_half}
 
 none_some : {x : ℕ} {o : Option ℕ} → o ≡ None → o ≡ Some x → ⊥
 none_some e f = cc

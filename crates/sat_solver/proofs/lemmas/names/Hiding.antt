@@ -1,6 +1,7 @@
 -- A variable that loses its name.
 use Rattle.std.proofs.Common.{ℕ, ◌+◌, ◌≡◌, ◌≢◌, Bool, true, false, not, ◌&&◌, cond, eqb, ltb, lt-ltb, List, [], ◌∷◌, length, get_or, Option, Some, None, is_some, refl, sym, ◌∙◌, ap, subst, arith}
 use Rattle.std.proofs.lemmas.Bool.{eqb-true, eqb-false, eq-eqb, ne_eqb, true≢false}
+use Rattle.sat_base.proofs.lemmas.script.JudgeStates.{filtered_order}
 use Rattle.sat_base.specs.script.Judge.{Judge, Sampled, identity_of, without_name}
 use Rattle.sat_base.specs.steps.Steps.{Step, UserVarName}
 use Rattle.sat_checker.specs.Fold.{Holds}
@@ -13,21 +14,23 @@ use Rattle.sat_solver.specs.session.Session.{Session, MayAll, session_after, aft
 use Rattle.sat_solver.proofs.lemmas.session.StepLemmas.{sessions_are_accepted}
 use Rattle.sat_solver.specs.names.Counting.{IsEven}
 use Rattle.sat_solver.specs.names.Free.{is_free, IsTree}
-use Rattle.sat_solver.specs.names.Live.{Live, given_of, given}
+use Rattle.sat_checker.specs.matching.Bridge.{Live}
+use Rattle.sat_solver.specs.names.Live.{given_of, given}
 use Rattle.sat_solver.specs.names.Variables.{data_at, global_of, user_of, names_used, variables_used, AreTidy, mode_in, variable_at, AreSaid, IsModeOf, AreJudged, says_unit}
 use Rattle.sat_solver.specs.names.Naming.{PutsHidden, KeepsOthers}
-use Rattle.sat_solver.specs.names.Checking.{is_variable, variable_of}
-use Rattle.sat_solver.specs.names.ProofChecking.{the_checking}
-use Rattle.sat_solver.specs.names.Expected.{NoName, no_name}
-use Rattle.sat_solver.specs.names.Calls.{Stands, written, ordered, Kept, Does}
+use Rattle.sat_checker.specs.matching.Checking.{is_variable, variable_of}
+use Rattle.sat_checker.specs.matching.ProofChecking.{the_checking}
+use Rattle.sat_checker.specs.matching.Expected.{NoName, no_name}
+use Rattle.sat_checker.specs.matching.Traces.{no_step, visible}
+use Rattle.sat_solver.specs.names.Calls.{Stands, Kept, Does}
 use Rattle.sat_solver.specs.names.Search.{KeepsSearch, IsUnseen}
 use Rattle.sat_solver.specs.declared.names.Variables.{Variables}
 use Rattle.sat_solver.proofs.lemmas.names.MapLemmas.{some_within}
 use Rattle.sat_solver.proofs.lemmas.names.Counts.{unlinks_inverse}
-use Rattle.sat_solver.proofs.lemmas.names.LiteralValues.{removed_found, removed_gone}
+use Rattle.sat_base.proofs.lemmas.script.LiteralValues.{removed_found, removed_gone}
 use Rattle.sat_solver.proofs.lemmas.names.NewName.{shape}
-use Rattle.sat_solver.proofs.lemmas.names.BridgeLemmas.{unnamed}
-use Rattle.sat_solver.proofs.lemmas.names.CheckerIsSound.{the_checking_sound}
+use Rattle.sat_checker.proofs.lemmas.matching.Bridge.{unnamed}
+use Rattle.sat_checker.proofs.lemmas.matching.CheckerIsSound.{the_checking_sound}
 
 none_some : {x : ℕ} {o : Option ℕ} → o ≡ None → o ≡ Some x → ⊥
 none_some e f = cc
@@ -160,6 +163,7 @@ module _ (old new : Variables) (user v : ℕ) (tidy : AreTidy old) (had : global
     distinct = judged.distinct;
     identities = (let b = put.count in let r = judged.identities in omega arith);
     modes_count = judged.modes_count;
+    increasing = filtered_order (λ n. not (eqb n.name (user + 1))) j.in_use judged.increasing;
     modes = modes;
   }
     where
@@ -210,7 +214,7 @@ name_hidden old new from to user v stands had put e = record {
       judged = judged_hidden old new user v stands.tidy had put j live a.judged;
       bridge = unnamed the_checking the_checking_sound j from live a.bridge (user + 1) v at accepted;
     };
-    writes = ordered (no_name at) written;
+    trace = visible (no_name at) no_step;
   });
 }
   where

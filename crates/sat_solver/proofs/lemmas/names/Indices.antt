@@ -13,15 +13,17 @@ use Rattle.sat_solver.specs.session.Session.{Session, MayAll, session_after, aft
 use Rattle.sat_solver.specs.names.Counting.{IsEven, mapped_count}
 use Rattle.sat_solver.proofs.lemmas.names.Counts.{mapped_one_more, mapped_one_fewer}
 use Rattle.sat_solver.specs.names.Free.{is_free, IsTree}
-use Rattle.sat_solver.specs.names.Live.{Live, given_of}
+use Rattle.sat_checker.specs.matching.Bridge.{Live}
+use Rattle.sat_solver.specs.names.Live.{given_of}
 use Rattle.sat_solver.specs.names.Variables.{data_at, user_of, solver_of, global_at, indices_used, variables_used, AreTidy, mode_in, variable_at, AreSaid, IsModeOf, AreJudged, says_unit, IsUnitOf, IsUnused}
 use Rattle.sat_solver.specs.names.Naming.{PutsIndex, IsNextIndex}
 use Rattle.sat_solver.specs.names.Search.{KeepsSearch}
 use Rattle.sat_solver.specs.names.Indexing.{Indexes, Unindexes}
 use Rattle.sat_solver.specs.declared.names.indexing.Given.{Given}
-use Rattle.sat_solver.specs.names.ProofChecking.{the_checking}
-use Rattle.sat_solver.specs.names.Calls.{Stands, written, other, Kept, DoesNothing}
-use Rattle.sat_solver.specs.names.Checking.{variable_of}
+use Rattle.sat_checker.specs.matching.ProofChecking.{the_checking}
+use Rattle.sat_checker.specs.matching.Traces.{no_step, silent}
+use Rattle.sat_solver.specs.names.Calls.{Stands, Kept, DoesNothing}
+use Rattle.sat_checker.specs.matching.Checking.{variable_of}
 use Rattle.sat_solver.specs.declared.names.Variables.{Variables}
 use Rattle.sat_solver.proofs.lemmas.names.JudgeLemmas.{same_below}
 use Rattle.sat_solver.proofs.lemmas.names.MapLemmas.{some_within}
@@ -29,8 +31,8 @@ use Rattle.sat_solver.proofs.lemmas.names.NewName.{shape, and_false}
 use Rattle.sat_solver.proofs.lemmas.names.NextIndices.{index_below}
 use Rattle.sat_solver.proofs.lemmas.names.Giving.{gives_one, gives_none, keeps_same}
 use Rattle.sat_solver.proofs.lemmas.names.Doing.{does_none}
-use Rattle.sat_solver.proofs.lemmas.names.BridgeLemmas.{nothing_new}
-use Rattle.sat_solver.proofs.lemmas.names.CheckerIsSound.{the_checking_sound}
+use Rattle.sat_checker.proofs.lemmas.matching.Bridge.{nothing_new}
+use Rattle.sat_checker.proofs.lemmas.matching.CheckerIsSound.{the_checking_sound}
 
 -- the judge sees names and data alone
 pub judged_same : (old new : Variables) (j : Judge) (live : Live) → new.global_from_user ≡ old.global_from_user → new.var_data ≡ old.var_data → AreJudged old j live → AreJudged new j live
@@ -46,6 +48,7 @@ judged_same old new j live users items judged =
       distinct = judged.distinct;
       identities = (let e = ap (λ d. length d.items) items in let r = judged.identities in omega arith);
       modes_count = judged.modes_count;
+      increasing = judged.increasing;
       modes = λ v i e. subst (λ d. IsModeOf d.sampling_mode (get_or j.modes i Sampled)) (sym (at v)) (judged.modes v i e);
     }
 
@@ -226,7 +229,7 @@ index_put old new from to v x there stands alive low had fresh room its_unit its
       judged = judged_same old new j live put.users put.kept a.judged;
       bridge = nothing_new the_checking the_checking_sound j from live a.bridge (SolverVarName v (cond there (Some x) None)) tt (λ w y. cc) (λ n. refl) (λ b h. h) (λ b h. h);
     };
-    writes = other refl written;
+    trace = silent refl no_step;
   });
 }
 

@@ -2,8 +2,8 @@
 use Rattle.std.proofs.Common.{ℕ, ◌+◌, ◌<◌, ◌≡◌, Bool, true, false, cond, eqb, ltb, List, [], ◌∷◌, Option, Some, None, is_some, refl, sym, ◌∙◌, ap, subst, arith}
 use Rattle.std.proofs.lemmas.Bool.{eqb-true, eqb-false, eq-eqb, ne_eqb, ltb-true, ltb-false}
 use Rattle.std.specs.List.{AllByRecursion}
-use Rattle.sat_base.specs.script.Judge.{Named, identity_in, placed}
-use Rattle.sat_solver.specs.names.Live.{Live, given}
+use Rattle.sat_checker.specs.matching.Bridge.{Live}
+use Rattle.sat_solver.specs.names.Live.{given}
 
 -- the same test, the other way round
 pub eqb_turned : (a b : ℕ) → eqb a b ≡ eqb b a
@@ -21,21 +21,6 @@ same_below w n m f g = go (ltb w n) refl (ltb w m) refl
     go false e false x = e ∙ sym x
     go true e false x = let lt = f (ltb-true w n e) in let le = ltb-false w m x in absurd (omega arith)
     go false e true x = let lt = g (ltb-true w m x) in let le = ltb-false w n e in absurd (omega arith)
-
-pub placed_found : (new : Named) (ns : List Named) (m : ℕ) → identity_in (placed new ns) m ≡ cond (eqb new.name m) (Some new.identity) (identity_in ns m)
-placed_found new [] m = refl
-placed_found new (n ∷ ns) m = go (ltb n.name new.name) refl (placed_found new ns m)
-  where
-    go : (b : Bool) → ltb n.name new.name ≡ b → identity_in (placed new ns) m ≡ cond (eqb new.name m) (Some new.identity) (identity_in ns m)
-        → identity_in (cond b (n ∷ placed new ns) (new ∷ n ∷ ns)) m ≡ cond (eqb new.name m) (Some new.identity) (cond (eqb n.name m) (Some n.identity) (identity_in ns m))
-    go false e ih = refl
-    go true e ih = at (eqb n.name m) refl (eqb new.name m) refl
-      where
-        at : (d : Bool) → eqb n.name m ≡ d → (t : Bool) → eqb new.name m ≡ t → cond d (Some n.identity) (identity_in (placed new ns) m) ≡ cond t (Some new.identity) (cond d (Some n.identity) (identity_in ns m))
-        at true x true y = let lt = ltb-true n.name new.name e in let a = eqb-true n.name m x in let b = eqb-true new.name m y in absurd (omega arith)
-        at true x false y = refl
-        at false x true y = ih ∙ ap (λ b. cond b (Some new.identity) (identity_in ns m)) y
-        at false x false y = ih ∙ ap (λ b. cond b (Some new.identity) (identity_in ns m)) y
 
 none_not_some : {i : ℕ} → (let o : Option ℕ = None in o) ≡ Some i → ⊥
 none_not_some e = cc

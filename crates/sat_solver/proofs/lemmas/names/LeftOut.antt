@@ -7,17 +7,18 @@ use Rattle.sat_base.specs.script.Judge.{Judge, identity_of, bring_in, bring_all,
 use Rattle.sat_base.specs.steps.Steps.{Step}
 use Rattle.sat_solver.specs.session.Session.{session_after}
 use Rattle.sat_solver.proofs.lemmas.session.StepLemmas.{sessions_are_accepted}
-use Rattle.sat_solver.specs.names.Live.{Live, given, given_of}
+use Rattle.sat_checker.specs.matching.Bridge.{Live}
+use Rattle.sat_solver.specs.names.Live.{given, given_of}
 use Rattle.sat_solver.specs.names.Variables.{global_of, AreJudged}
 use Rattle.sat_solver.specs.names.Refusing.{names_in}
 use Rattle.sat_solver.specs.names.Adding.{named_literal}
 use Rattle.sat_solver.specs.names.AddingCalls.{LeavesOut}
-use Rattle.sat_solver.specs.names.ProofChecking.{the_checking}
-use Rattle.sat_solver.specs.names.Expected.{NewName, bringing}
+use Rattle.sat_checker.specs.matching.ProofChecking.{the_checking}
+use Rattle.sat_checker.specs.matching.Expected.{NewName, bringing}
 use Rattle.sat_solver.specs.names.Search.{IsUnseen}
 use Rattle.sat_solver.specs.names.Calls.{Stands, Brought}
 use Rattle.sat_solver.specs.declared.names.Variables.{Variables}
-use Rattle.sat_solver.proofs.lemmas.names.CheckerIsSound.{the_checking_sound}
+use Rattle.sat_checker.proofs.lemmas.matching.CheckerIsSound.{the_checking_sound}
 use Rattle.sat_solver.specs.names.Naming.{Extends}
 use Rattle.sat_solver.proofs.lemmas.names.Extending.{extends_same, extends_both}
 use Rattle.sat_solver.proofs.lemmas.names.Doing.{does_none, does_both}
@@ -86,11 +87,12 @@ brought_out old new from to all index le unsat b = record {
               distinct = k.agree.judged.distinct;
               identities = k.agree.judged.identities;
               modes_count = k.agree.judged.modes_count;
+              increasing = k.agree.judged.increasing;
               modes = k.agree.judged.modes;
             };
             bridge = left_out the_checking the_checking_sound (bring_all (names_in all) j) to k.live k.agree.bridge recorded (map named_literal all) (all_used new to (bring_all (names_in all) j) k.live all b.stands k.agree.judged (λ i lt. b.named i (omega arith)));
           };
-          writes = k.writes;
+          trace = k.trace;
         };
   };
   extends = b.extends;

@@ -17,20 +17,21 @@ use Rattle.sat_solver.specs.session.Session.{Session, MayAll, session_after, aft
 use Rattle.sat_solver.proofs.lemmas.session.StepLemmas.{sessions_are_accepted}
 use Rattle.sat_solver.specs.names.Counting.{IsEven}
 use Rattle.sat_solver.specs.names.Free.{is_free, IsTree}
-use Rattle.sat_solver.specs.names.Live.{Live, given_of, given}
+use Rattle.sat_checker.specs.matching.Bridge.{Live, IsBridge}
+use Rattle.sat_solver.specs.names.Live.{given_of, given}
 use Rattle.sat_solver.specs.names.Variables.{data_at, global_of, user_of, variables_used, AreTidy, mode_in, variable_at, AreSaid, IsModeOf, AreJudged, mode_for, judged_mode, says_unit}
 use Rattle.sat_solver.specs.names.Naming.{PutsMode}
-use Rattle.sat_solver.specs.names.Checking.{variable_of}
+use Rattle.sat_checker.specs.matching.Checking.{variable_of}
 use Rattle.sat_solver.specs.names.Coming.{mode_said, TurnsMode}
-use Rattle.sat_solver.specs.names.ProofChecking.{the_checking}
-use Rattle.sat_solver.specs.names.Bridge.{IsBridge}
-use Rattle.sat_solver.specs.names.Calls.{Stands, written, other, Kept, Does}
+use Rattle.sat_checker.specs.matching.ProofChecking.{the_checking}
+use Rattle.sat_checker.specs.matching.Traces.{no_step, silent}
+use Rattle.sat_solver.specs.names.Calls.{Stands, Kept, Does}
 use Rattle.sat_solver.specs.names.Search.{KeepsSearch, IsUnseen}
 use Rattle.sat_solver.specs.declared.names.Variables.{Variables}
 use Rattle.sat_solver.proofs.lemmas.names.JudgeLemmas.{given_has}
 use Rattle.sat_solver.proofs.lemmas.names.NewName.{shape, none_or}
-use Rattle.sat_solver.proofs.lemmas.names.BridgeLemmas.{nothing_new}
-use Rattle.sat_solver.proofs.lemmas.names.CheckerIsSound.{the_checking_sound}
+use Rattle.sat_checker.proofs.lemmas.matching.Bridge.{nothing_new}
+use Rattle.sat_checker.proofs.lemmas.matching.CheckerIsSound.{the_checking_sound}
 
 pub live_within : (n : Variables) (v : ℕ) → (data_at n v).deleted ≡ false → v < variables_used n
 live_within n v e = elim (cases_lt v (variables_used n)) [
@@ -175,6 +176,7 @@ module _ (old new : Variables) (user v : ℕ) (sample : Bool) (tidy : AreTidy ol
     distinct = judged.distinct;
     identities = (let b = put.count in let r = judged.identities in omega arith);
     modes_count = length-set j.modes (or_zero (identity_of j (user + 1))) (judged_mode sample) ∙ judged.modes_count;
+    increasing = judged.increasing;
     modes = modes;
   }
     where
@@ -239,7 +241,7 @@ mode_kept old from user v sample stands had e = record {
       judged = judged_with_mode old old user v sample stands.tidy had (same_mode old v (mode_for sample) e) j live a.judged;
       bridge = bridged j from live (judged_mode sample) (user + 1) a.bridge;
     };
-    writes = written;
+    trace = no_step;
   };
 }
 
@@ -259,7 +261,7 @@ mode_set old new from to user v sample stands had put e = record {
       bridge = bridged j (ChangeSamplingMode v sample ∷ from) live (judged_mode sample) (user + 1)
           (nothing_new the_checking the_checking_sound j from live a.bridge (ChangeSamplingMode v sample) accepted (λ w y. cc) (λ n. refl) (λ b h. h) (λ b h. h));
     };
-    writes = other refl written;
+    trace = silent refl no_step;
   });
 }
   where

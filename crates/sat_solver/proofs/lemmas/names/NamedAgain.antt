@@ -6,11 +6,10 @@ use Rattle.sat_base.specs.script.Script.{Literal, Among}
 use Rattle.sat_base.specs.script.Judge.{Judge, identity_in, identity_of, or_zero, over, with_clause}
 use Rattle.sat_base.specs.values.Literals.{coded}
 use Rattle.sat_base.specs.steps.Steps.{Step, UserVarName}
-use Rattle.sat_solver.specs.names.Checking.{variable_of, Checking, IsSound}
-use Rattle.sat_solver.specs.names.Live.{Live}
-use Rattle.sat_solver.specs.names.Bridge.{IsBridge}
+use Rattle.sat_checker.specs.matching.Checking.{variable_of, Checking, IsSound}
+use Rattle.sat_checker.specs.matching.Bridge.{Live, IsBridge}
 use Rattle.sat_solver.specs.names.Observing.{observed}
-use Rattle.sat_solver.proofs.lemmas.names.LiteralValues.{placed_found, all_map, all_at, coded_half}
+use Rattle.sat_base.proofs.lemmas.script.LiteralValues.{placed_found, all_map, all_at, coded_half}
 
 pub named_again : (k : Checking) → IsSound k → (j : Judge) (earlier : List Step) (live : Live) → IsBridge k j earlier live → (name v index i : ℕ) → index + 1 ≡ name → Among (v, i) live → ((m : ℕ) → variable_of earlier m ≡ Some v → ⊥)
     → k.Accepts earlier (UserVarName v (Some index)) → IsBridge k (observed name i j) (UserVarName v (Some index) ∷ earlier) live

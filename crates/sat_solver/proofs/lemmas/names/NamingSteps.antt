@@ -11,18 +11,19 @@ use Rattle.sat_solver.specs.session.Session.{May, MayAll, session_after}
 use Rattle.sat_solver.proofs.lemmas.session.StepLemmas.{sessions_are_accepted}
 use Rattle.sat_solver.specs.names.Variables.{data_at, global_of, user_of, names_used, AreSaid, variable_at, mode_in}
 use Rattle.sat_solver.specs.names.Naming.{IsRoom, PutsName}
-use Rattle.sat_solver.specs.names.Checking.{variable_of}
-use Rattle.sat_solver.specs.names.ProofChecking.{the_checking}
-use Rattle.sat_solver.specs.names.Expected.{NewName, new_name}
-use Rattle.sat_solver.specs.names.Calls.{Stands, Agree, Writes, written, ordered, NamesOne, NamesAll}
+use Rattle.sat_checker.specs.matching.Checking.{variable_of}
+use Rattle.sat_checker.specs.matching.ProofChecking.{the_checking}
+use Rattle.sat_checker.specs.matching.Expected.{NewName, new_name}
+use Rattle.sat_checker.specs.matching.Traces.{HasTrace, no_step, visible}
+use Rattle.sat_solver.specs.names.Calls.{Stands, Agree, NamesOne, NamesAll}
 use Rattle.sat_solver.specs.declared.names.Variables.{Variables}
 use Rattle.sat_solver.proofs.lemmas.names.NewName.{tidy_named, may_name, said_named, judged_named}
 use Rattle.sat_solver.proofs.lemmas.names.JudgeLemmas.{next_same}
-use Rattle.sat_solver.proofs.lemmas.names.BridgeLemmas.{named_new}
+use Rattle.sat_checker.proofs.lemmas.matching.Bridge.{named_new}
 use Rattle.sat_solver.specs.names.Search.{KeepsSearch}
 use Rattle.sat_solver.proofs.lemmas.names.Giving.{unseen_same, unseen_both}
 use Rattle.sat_solver.proofs.lemmas.names.Extending.{extends_same, extends_both, extends_named}
-use Rattle.sat_solver.proofs.lemmas.names.CheckerIsSound.{the_checking_sound}
+use Rattle.sat_checker.proofs.lemmas.matching.CheckerIsSound.{the_checking_sound}
 use Rattle.sat_solver.specs.names.Coming.{IsDue}
 use Rattle.sat_solver.specs.names.Room.{live_count, HasRoom, LeavesRoom}
 use Rattle.sat_solver.proofs.lemmas.names.NextVariables.{next_variable}
@@ -71,7 +72,7 @@ name_given old new from to user v stands free within room small put e = record {
     accepted = (sessions_are_accepted (UserVarName v (Some user) ∷ from) (stands.may, step_may old from user v stands free room within small new put)).0.1
 
 pub none_brought : (n : Variables) (log : List Step) → Stands n log → NamesAll n n log log []
-none_brought n log stands = record { stands = stands; extends = extends_same n; unseen = unseen_same n log; comes = comes_none IsDue log; kept = λ j live a. record { live = live; agree = a; writes = written } }
+none_brought n log stands = record { stands = stands; extends = extends_same n; unseen = unseen_same n log; comes = comes_none IsDue log; kept = λ j live a. record { live = live; agree = a; trace = no_step } }
 
 pub one_then : (old mid new : Variables) (from mids to : List Step) (user v : ℕ) (names : List ℕ) → NamesOne old mid from mids user v → NamesAll mid new mids to names → NamesAll old new from to ((user + 1) ∷ names)
 one_then old mid new from mids to user v names one rest = record {
@@ -84,7 +85,7 @@ one_then old mid new from mids to user v names one rest = record {
       record {
         live = k.live;
         agree = k.agree;
-        writes = ordered (new_name refl one.unknown) (subst (λ steps. Writes steps to (map NewName names)) one.step k.writes);
+        trace = visible (new_name refl one.unknown) (subst (λ steps. HasTrace the_checking steps to (map NewName names)) one.step k.trace);
       };
 }
 

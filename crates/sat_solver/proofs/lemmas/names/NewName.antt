@@ -4,6 +4,7 @@ use Rattle.std.proofs.lemmas.Bool.{eqb-true, eqb-false, eq-eqb, ne_eqb, cases_lt
 use Rattle.std.proofs.lemmas.List.{get_or_past}
 use Rattle.std.specs.List.{AllByRecursion}
 use Rattle.sat_base.specs.values.Literals.{largest}
+use Rattle.sat_base.proofs.lemmas.script.JudgeStates.{placed_order}
 use Rattle.sat_base.specs.script.Judge.{Judge, Named, Sampled, identity_in, identity_of, with_name}
 use Rattle.sat_base.specs.steps.Steps.{UserVarName}
 use Rattle.sat_store.specs.declared.data.VarData.{VarData}
@@ -14,13 +15,15 @@ use Rattle.sat_checker.specs.Stored.{Hide, Sample, Variable, unknown}
 use Rattle.sat_solver.specs.session.Session.{Session, MayName, after}
 use Rattle.sat_solver.specs.names.Counting.{IsEven}
 use Rattle.sat_solver.specs.names.Free.{is_free, IsTree}
-use Rattle.sat_solver.specs.names.Live.{Live, given, given_of}
+use Rattle.sat_checker.specs.matching.Bridge.{Live}
+use Rattle.sat_solver.specs.names.Live.{given, given_of}
 use Rattle.sat_solver.specs.names.Variables.{data_at, global_of, user_of, solver_of, global_at, names_used, variables_used, indices_used, AreTidy, mode_in, variable_at, AreSaid, IsModeOf, AreJudged, says_unit}
 use Rattle.sat_solver.specs.names.Naming.{IsRoom, PutsName}
 use Rattle.sat_solver.specs.declared.names.Variables.{Variables}
 use Rattle.sat_solver.proofs.lemmas.names.MapLemmas.{pushed}
 use Rattle.sat_solver.proofs.lemmas.names.Counts.{links_even}
-use Rattle.sat_solver.proofs.lemmas.names.JudgeLemmas.{eqb_turned, same_below, placed_found, apart_from, given_has}
+use Rattle.sat_base.proofs.lemmas.script.LiteralValues.{placed_found}
+use Rattle.sat_solver.proofs.lemmas.names.JudgeLemmas.{eqb_turned, same_below, apart_from, given_has}
 
 none_some : {x : ℕ} {o : Option ℕ} → o ≡ None → o ≡ Some x → ⊥
 none_some e f = cc
@@ -203,6 +206,7 @@ module _ (old new : Variables) (user v : ℕ) (tidy : AreTidy old) (room : IsRoo
     distinct = distinct;
     identities = (let a = put.count in let b = room.within in let r = judged.identities in omega arith);
     modes_count = length-append j.modes (Sampled ∷ []) ∙ ap (λ n. n + 1) judged.modes_count;
+    increasing = placed_order here j.in_use (judged.names user ∙ ap (given_of live) free) judged.increasing;
     modes = modes;
   }
     where

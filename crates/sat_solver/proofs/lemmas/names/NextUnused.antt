@@ -3,7 +3,8 @@ use Rattle.std.proofs.Common.{ℕ, zero, suc, ◌+◌, ◌<◌, ◌≡◌, ◌�
 use Rattle.sat_base.specs.script.Judge.{Judge, identity_of}
 use Rattle.sat_base.specs.steps.Steps.{Step}
 use Rattle.sat_solver.specs.names.Calls.{Stands}
-use Rattle.sat_solver.specs.names.Live.{Live, given_of}
+use Rattle.sat_checker.specs.matching.Bridge.{Live}
+use Rattle.sat_solver.specs.names.Live.{given_of}
 use Rattle.sat_solver.specs.names.Naming.{IsNextUser, IsLowestUnused}
 use Rattle.sat_solver.specs.names.Variables.{AreJudged, global_of}
 use Rattle.sat_solver.specs.declared.names.Variables.{Variables}

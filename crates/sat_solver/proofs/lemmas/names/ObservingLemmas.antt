@@ -6,6 +6,7 @@ use Rattle.std.proofs.Math.ListN.{length-set}
 use Rattle.std.specs.List.{AllByRecursion}
 use Rattle.sat_base.specs.values.Literals.{largest}
 use Rattle.sat_base.specs.script.Script.{Among}
+use Rattle.sat_base.proofs.lemmas.script.JudgeStates.{placed_order}
 use Rattle.sat_base.specs.script.Judge.{Judge, Named, Sampled, Witnessed, identity_in, identity_of}
 use Rattle.sat_base.specs.steps.Steps.{Step, UserVarName, ChangeSamplingMode}
 use Rattle.sat_checker.specs.Fold.{Holds}
@@ -16,23 +17,24 @@ use Rattle.sat_store.specs.variables.VarData.{unused_variable}
 use Rattle.sat_store.specs.variables.Maps.{AreInverse, target}
 use Rattle.sat_solver.specs.session.Session.{Session, MayAll, May, MayName, session_after, after}
 use Rattle.sat_solver.proofs.lemmas.session.StepLemmas.{sessions_are_accepted}
-use Rattle.sat_solver.specs.names.Bridge.{IsBridge}
+use Rattle.sat_checker.specs.matching.Bridge.{IsBridge, Live}
 use Rattle.sat_solver.specs.names.Counting.{IsEven, count_to, mapped_count}
 use Rattle.sat_solver.specs.names.Free.{is_free, IsTree}
-use Rattle.sat_solver.specs.names.Live.{Live, given, given_of}
-use Rattle.sat_solver.specs.names.Checking.{variable_of}
-use Rattle.sat_solver.specs.names.ProofChecking.{the_checking}
+use Rattle.sat_solver.specs.names.Live.{given, given_of}
+use Rattle.sat_checker.specs.matching.Checking.{variable_of}
+use Rattle.sat_checker.specs.matching.ProofChecking.{the_checking}
 use Rattle.sat_solver.specs.names.Calls.{Stands, Agree}
 use Rattle.sat_solver.specs.names.Naming.{IsNextUser, NamesFull, NoneLeft, PutsObserved, KeepsNames}
 use Rattle.sat_solver.specs.names.Observing.{observed, Observes, all_named, one_more, IsHidden, NamesHidden, NamesAllHidden}
 use Rattle.sat_solver.specs.names.Search.{KeepsSearch, IsUnseen}
 use Rattle.sat_solver.specs.names.Variables.{data_at, global_of, user_of, solver_of, global_at, names_used, variables_used, indices_used, AreTidy, mode_in, variable_at, AreSaid, IsModeOf, AreJudged, says_unit}
 use Rattle.sat_solver.specs.declared.names.Variables.{Variables}
-use Rattle.sat_solver.proofs.lemmas.names.BridgeLemmas.{nothing_new}
-use Rattle.sat_solver.proofs.lemmas.names.CheckerIsSound.{the_checking_sound}
+use Rattle.sat_checker.proofs.lemmas.matching.Bridge.{nothing_new}
+use Rattle.sat_checker.proofs.lemmas.matching.CheckerIsSound.{the_checking_sound}
 use Rattle.sat_solver.proofs.lemmas.names.Counts.{links_even, count_full, count_fewer, count_reach, count_le, count_mapped}
 use Rattle.sat_solver.proofs.lemmas.names.Giving.{unseen_same, unseen_both}
-use Rattle.sat_solver.proofs.lemmas.names.JudgeLemmas.{same_below, placed_found, given_has, next_same}
+use Rattle.sat_base.proofs.lemmas.script.LiteralValues.{placed_found}
+use Rattle.sat_solver.proofs.lemmas.names.JudgeLemmas.{same_below, given_has, next_same}
 use Rattle.sat_solver.proofs.lemmas.names.ModeChanges.{live_within, known_at}
 use Rattle.sat_solver.proofs.lemmas.names.NamedAgain.{named_again}
 use Rattle.sat_solver.proofs.lemmas.names.NewName.{and_false, nameless, none_or, shape}
@@ -274,6 +276,7 @@ module _ (old new : Variables) (user v : ℕ) (tidy : AreTidy old) (here : IsHid
     distinct = judged.distinct;
     identities = (let b = put.count in let r = judged.identities in omega arith);
     modes_count = length-set j.modes i Witnessed ∙ judged.modes_count;
+    increasing = placed_order it j.in_use (judged.names user ∙ ap (given_of live) next.unused) judged.increasing;
     modes = modes;
   }
     where

@@ -6,7 +6,8 @@ use Rattle.sat_base.specs.script.Judge.{Judge, Sampled, Witnessed, Refusal, Past
 use Rattle.sat_base.specs.script.Judge as judged
 use Rattle.sat_store.specs.declared.data.SamplingMode.{SamplingMode}
 use Rattle.sat_store.specs.declared.data.SamplingMode.TheVariants as kept
-use Rattle.sat_solver.specs.names.Live.{Live, given, given_of}
+use Rattle.sat_checker.specs.matching.Bridge.{Live}
+use Rattle.sat_solver.specs.names.Live.{given, given_of}
 use Rattle.sat_solver.specs.names.Variables.{data_at, global_of, AreTidy, IsModeOf, AreJudged, is_witness_kept}
 use Rattle.sat_solver.specs.names.Refusing.{names_in, as_refusal, IsAssumed}
 use Rattle.sat_solver.specs.names.Adding.{IsSampled, NoWitness}

@@ -7,18 +7,19 @@ use Rattle.sat_base.specs.steps.Steps.{Step, AtClause, UnitClauses, DeleteClause
 use Rattle.sat_checker.specs.LiteralSets.{is_among, is_tautology, canonical, mentions, same_literals}
 use Rattle.sat_checker.proofs.lemmas.sets.Canonical.{canonical_among}
 use Rattle.sat_checker.proofs.lemmas.state.Forgetting.{mentions_set}
-use Rattle.sat_solver.specs.session.Session.{Session, May, MayAll, session_after, after, with_fact, with_facts, with_sorted, with_live, without_live, knowing_literals, more, less, same_side}
+use Rattle.sat_checker.specs.Contents.{more_if, less_if, same_side}
+use Rattle.sat_solver.specs.session.Session.{Session, May, MayAll, session_after, after, with_fact, with_facts, with_sorted, with_live, without_live, knowing_literals}
 use Rattle.sat_solver.specs.session.Session as sessions
 use Rattle.sat_solver.proofs.lemmas.session.StepLemmas.{sessions_are_accepted}
 use Rattle.sat_solver.specs.names.Variables.{data_at, solver_of, AreTidy, AreSaid, IsUnused}
-use Rattle.sat_solver.specs.names.Bridge.{IsBridge}
-use Rattle.sat_solver.specs.names.Checking.{variable_of}
-use Rattle.sat_solver.specs.names.ProofChecking.{the_checking}
+use Rattle.sat_checker.specs.matching.Bridge.{IsBridge}
+use Rattle.sat_checker.specs.matching.Checking.{variable_of}
+use Rattle.sat_checker.specs.matching.ProofChecking.{the_checking}
 use Rattle.sat_solver.specs.names.Searching.{AreIndexed, IsOfSearch, SearchesStand, SearchesAgree}
 use Rattle.sat_solver.specs.declared.names.Variables.{Variables}
-use Rattle.sat_solver.proofs.lemmas.names.BridgeLemmas.{nothing_new}
-use Rattle.sat_solver.proofs.lemmas.names.CheckerIsSound.{the_checking_sound}
-use Rattle.sat_solver.proofs.lemmas.names.LiteralValues.{coded_half, all_map}
+use Rattle.sat_checker.proofs.lemmas.matching.Bridge.{nothing_new}
+use Rattle.sat_checker.proofs.lemmas.matching.CheckerIsSound.{the_checking_sound}
+use Rattle.sat_base.proofs.lemmas.script.LiteralValues.{coded_half, all_map}
 use Rattle.sat_solver.proofs.lemmas.names.ModeChanges.{known_at}
 use Rattle.sat_solver.proofs.lemmas.names.ClauseWritten.{known_same, same_lists, and_right}
 
@@ -75,7 +76,7 @@ leaves_live n r set s none = record {
   unused = λ v e h q other lt. go v e h q other (same_side r q && same_literals set other) refl lt;
 }
   where
-    go : (v : ℕ) → solver_of n v ≡ None → IsUnused s v → (q : Bool) (other : List ℕ) (b : Bool) → (same_side r q && same_literals set other) ≡ b → 0 < more b (s.live q other) → mentions other v ≡ false
+    go : (v : ℕ) → solver_of n v ≡ None → IsUnused s v → (q : Bool) (other : List ℕ) (b : Bool) → (same_side r q && same_literals set other) ≡ b → 0 < more_if b (s.live q other) → mentions other v ≡ false
     go v e h q other false t lt = h q other lt
     go v e h q other true t lt = ap (λ z. mentions z v) (sym (same_lists set other (and_right (same_side r q) (same_literals set other) t))) ∙ none v e
 
@@ -108,7 +109,7 @@ leaves_less n r set s = record {
   unused = λ v e h q other lt. h q other (fewer (same_side r q && same_literals set other) (s.live q other) lt);
 }
   where
-    fewer : (b : Bool) (m : ℕ) → 0 < less b m → 0 < m
+    fewer : (b : Bool) (m : ℕ) → 0 < less_if b m → 0 < m
     fewer true m lt = let z : 0 < m - 1 = lt in omega arith
     fewer false m lt = lt
 

@@ -20,11 +20,11 @@ use Rattle.sat_solver.specs.declared.names.taking.Taken.{Taken}
 use Rattle.sat_solver.specs.names.Naming.{Extends}
 use Rattle.sat_solver.specs.names.Refusing.{names_in}
 use Rattle.sat_solver.specs.names.Adding.{StandsFor, SameLiterals, Image, Images, NoWitness, global_in, Takes}
-use Rattle.sat_solver.specs.names.Expected.{NewName, bringing}
+use Rattle.sat_checker.specs.matching.Expected.{NewName, bringing}
 use Rattle.sat_solver.specs.names.Calls.{Stands, Does, Brought}
 use Rattle.sat_solver.specs.declared.names.Variables.{Variables}
 use Rattle.sat_solver.proofs.lemmas.names.MapLemmas.{pushed, some_within}
-use Rattle.sat_solver.proofs.lemmas.names.LiteralValues.{all_from, coded_half}
+use Rattle.sat_base.proofs.lemmas.script.LiteralValues.{all_from, coded_half}
 use Rattle.sat_solver.proofs.lemmas.names.Doing.{does_none, does_both}
 use Rattle.sat_solver.proofs.lemmas.names.Extending.{extends_same, extends_both, extends_kept}
 use Rattle.sat_solver.specs.session.Coming.{Comes}

@@ -8,7 +8,8 @@ use Rattle.sat_store.specs.variables.VarData.{unused_variable}
 use Rattle.sat_store.specs.variables.Maps.{AreInverse, target}
 use Rattle.sat_solver.specs.names.Counting.{IsEven}
 use Rattle.sat_solver.specs.names.Free.{is_free, IsTree}
-use Rattle.sat_solver.specs.names.Live.{Live, given_of}
+use Rattle.sat_checker.specs.matching.Bridge.{Live}
+use Rattle.sat_solver.specs.names.Live.{given_of}
 use Rattle.sat_solver.specs.names.Variables.{data_at, user_of, solver_of, variables_used, AreTidy, AreJudged, IsModeOf, says_unit}
 use Rattle.sat_solver.specs.names.Naming.{SameMaps, PutsUnit}
 use Rattle.sat_solver.specs.names.Calls.{Stands, Agree}
@@ -55,6 +56,7 @@ module _ (old new : Variables) (tidy : AreTidy old) (maps : SameMaps old new) (d
     distinct = judged.distinct;
     identities = (let b = maps.count in let r = judged.identities in omega arith);
     modes_count = judged.modes_count;
+    increasing = judged.increasing;
     modes = λ w i e. subst (λ m. IsModeOf m (get_or j.modes i Sampled)) (sym (mode_at w)) (judged.modes w i e);
   }
 

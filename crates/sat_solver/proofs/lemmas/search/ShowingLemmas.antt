@@ -1,36 +1,22 @@
--- A model is told by one step.
+-- The literals that a search has made true may be shown.
 use Rattle.std.proofs.Common.{ℕ, suc, ◌+◌, ◌-◌, ◌*◌, ◌/◌, ◌%◌, ◌<◌, ◌≤◌, ◌≡◌, ◌∙◌, Bool, true, false, eqb, Option, None, Some, Ok, Err, List, [], ◌∷◌, ◌++◌, append_assoc, length, map, drop, get_or, refl, sym, ap, arith, inl, inr}
 use Rattle.std.proofs.lemmas.Bool.{cases_eq, or_cases, or_left, or_right, eq-eqb, eqb-true, true≢false, false_from_ne_true}
 use Rattle.std.proofs.lemmas.Option.{none-some}
-use Rattle.std.proofs.lemmas.List.{map-append, drop_more}
-use Rattle.sat_base.specs.device.Device.{Writer}
 use Rattle.sat_base.specs.values.Literals.{variable, is_positive, coded}
 use Rattle.sat_base.specs.steps.Steps.{Model}
 use Rattle.sat_checker.specs.LiteralSets.{is_among}
 use Rattle.sat_checker.specs.SortedSets.{NoRepeats}
-use Rattle.sat_checker.specs.declared.processing.ProofProcessor.{Ghosts}
 use Rattle.sat_solver.specs.session.LiveClauses.{with_var}
-use Rattle.sat_solver.specs.session.ProofView.{Adds, Keeps, Records, session_of}
 use Rattle.sat_solver.specs.session.Session.{Session, May}
-use Rattle.sat_solver.specs.declared.session.proof.Proof.{Proof}
-use Rattle.sat_solver.specs.declared.session.proof.ProofError.{ProofError}
-use Rattle.sat_solver.specs.declared.session.proof.ProofError.TheVariants.{Write, OutOfMemory, Check}
-use Rattle.sat_solver.proofs.lemmas.session.ProofLemmas.{adds_none}
 use Rattle.sat_solver.proofs.lemmas.parts.AnswerLemmas.{is_modelled}
 use Rattle.sat_solver.specs.joint.Units.{AreTrueLits}
-use Rattle.sat_solver.proofs.lemmas.joint.AnswerParts.{parts_rests}
 use Rattle.sat_solver.proofs.lemmas.joint.CodeLemmas.{coded_by}
 use Rattle.sat_solver.proofs.lemmas.joint.LawLemmas.{model_may}
-use Rattle.sat_solver.specs.declared.error.SolverError.TheVariants as errors
 use Rattle.sat_solver.specs.declared.search.work.Search.{Search}
-use Rattle.sat_solver.specs.search.Going.{fault_of}
-use Rattle.sat_solver.specs.search.Joint.{global_in, IsSearch, Moved, assumed_in}
-use Rattle.sat_solver.specs.search.Showing.{literal_of, true_lits}
+use Rattle.sat_solver.specs.search.Joint.{global_in, IsSearch}
+use Rattle.sat_solver.specs.search.Showing.{true_lits}
 use Rattle.sat_solver.specs.search.Turns.{IsComplete}
-use Rattle.sat_solver.proofs.lemmas.search.TurnLemmas.{ready_moved, free_moved, ready_names}
-use Rattle.sat_solver.specs.parts.Whole.{state}
-use Rattle.sat_solver.proofs.lemmas.parts.WordSteps.{goes_refl}
-use Rattle.sat_solver.proofs.lemmas.search.GoingLemmas.{went_checked, fault_checked}
+use Rattle.sat_solver.proofs.lemmas.search.TurnLemmas.{ready_names}
 
 coded_variable : (v : ℕ) (b : Bool) → variable (coded v b) ≡ v
 coded_variable v true = omega arith

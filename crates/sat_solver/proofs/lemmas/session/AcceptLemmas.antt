@@ -1,52 +1,43 @@
 -- What a session may write is accepted, by the view that the session is of the checker.
-use Rattle.std.proofs.Common.{ℕ, ◌+◌, ◌<◌, ◌≡◌, Bool, true, false, ◌||◌, eqb, List, [], ◌∷◌, ◌++◌, map, refl, sym, ◌∙◌, ap, subst, arith, ◌⊎◌, inl, inr, Option, None, Some, append-nil, eq-zero-or-pos}
+use Rattle.std.proofs.Common.{ℕ, ◌+◌, ◌<◌, ◌≡◌, Bool, true, false, ◌||◌, eqb, List, [], ◌∷◌, ◌++◌, map, refl, sym, ◌∙◌, ap, subst, arith, ◌⊎◌, inl, inr, Option, None, Some, append-nil, eq-zero-or-pos, is_some}
 use Rattle.std.proofs.lemmas.Bool.{or_left, or_right, eq-eqb}
 use Rattle.std.specs.List.{AllByRecursion, list_any}
 use Rattle.sat_base.specs.values.Literals.{negated}
 use Rattle.sat_base.specs.steps.Steps.{Redundant, Simplified, Satisfied, Step, SolverVarName, UserVarName, DeleteVar, ChangeSamplingMode, AddClause, AtClause, UnitClauses, DeleteClause, ChangeHashBits, Model, Assumptions, FailedAssumptions, End}
 use Rattle.sat_checker.specs.LiteralSets.{is_among, mentions, canonical}
-use Rattle.sat_checker.specs.Propagation.{LeadToConflict, tautology, unit_true, conflict}
-use Rattle.sat_checker.specs.Stored.{StoredClause, Stored, unit_literals, bucket}
+use Rattle.sat_checker.specs.Propagation.{tautology, unit_true}
+use Rattle.sat_checker.specs.Stored.{StoredClause, Stored, unit_literals}
 use Rattle.sat_checker.specs.Storing.{clause_with, with_unit, last_literals}
 use Rattle.sat_checker.specs.Accepts.{Passes, PassInTurn, IsStrictSubset, Accepts}
-use Rattle.sat_checker.proofs.lemmas.sets.Order.{among-append}
-use Rattle.sat_solver.specs.session.Session.{AreNamed, Leads, denied, MayDerive, MayFail, by_signs, by_derivation, by_unit, by_clauses, MayProve, MayForget, MayShow, MayReplace, May}
-use Rattle.sat_solver.specs.session.Agrees.{count_in, EachCounted}
-use Rattle.sat_solver.proofs.lemmas.session.Counts.{found}
-use Rattle.sat_solver.proofs.lemmas.session.Buckets.{picked_from, sorted_lead, hash_any_order, has_live, in_bucket, StandIn, none_empty, chosen_from}
+use Rattle.sat_checker.specs.Contents.{count_in}
+use Rattle.sat_checker.specs.Invariants.{EachCounted}
+use Rattle.sat_checker.specs.Leading as stored
+use Rattle.sat_checker.proofs.lemmas.contents.Counts.{found}
+use Rattle.sat_checker.proofs.lemmas.invariants.Counted.{TidyClauses}
+use Rattle.sat_checker.proofs.lemmas.leading.Named.{leading_passes}
+use Rattle.sat_solver.specs.session.Session.{AreNamed, MayDerive, MayFail, by_signs, by_derivation, by_unit, by_clauses, MayProve, MayForget, MayShow, MayReplace, May}
 use Rattle.sat_solver.proofs.lemmas.session.Views.{view, view_unit}
-use Rattle.sat_solver.proofs.lemmas.session.TidyLemmas.{Tidy, LastIs}
+use Rattle.sat_solver.proofs.lemmas.session.LastLemmas.{LastIs}
 
 -- WHAT MAY BE WRITTEN IS ACCEPTED
 
-module _ (f : Stored) (last : Option (List ℕ)) where
-  -- named clauses stand in the buckets of their hashes
-  stand_in : (named : List (List ℕ)) (hashes : List ℕ) → AreNamed (view last f) named hashes → StandIn f (map canonical named) hashes
-  stand_in [] [] h = tt
-  stand_in [] (k ∷ ks) h = absurd h
-  stand_in (c ∷ cs) [] h = absurd h
-  stand_in (c ∷ cs) (k ∷ ks) h =
-      (in_bucket f (canonical c) k (has_live f (canonical c) h.0.counted) (hash_any_order f.solver_names f.width c h.0.once ∙ sym h.1), stand_in cs ks h.2)
+-- what has a count is stored
+counted_some : (o : Option StoredClause) → 0 < count_in false o + count_in true o → is_some o ≡ true
+counted_some None n = absurd (omega arith)
+counted_some (Some c) n = refl
 
-  -- clauses that lead to a conflict are among the buckets
-  passes_by : (clause hashes : List ℕ) (named : List (List ℕ)) → AreNamed (view last f) named hashes → Leads (denied (view last f) clause) named → LeadToConflict (map negated clause ++ unit_literals f) (map (bucket f) hashes)
-  passes_by clause hashes named n lead =
-      let r = picked_from (map canonical named) (denied (view last f) clause) (map negated clause ++ unit_literals f) (λ l. sym (among-append (map negated clause) (unit_literals f) l)) (sorted_lead named (denied (view last f) clause) lead) in
-      let s = stand_in named hashes n in
-      record {
-        first = map (bucket f) hashes;
-        rest = [];
-        picked = r.picked;
-        split = sym (append-nil (map (bucket f) hashes));
-        none_empty = none_empty f (map canonical named) hashes s;
-        chosen = chosen_from f r.picked (map canonical named) hashes r.chosen s;
-        conflict = r.conflict;
-      }
+module _ (f : Stored) (last : Option (List ℕ)) where
+  -- live clauses that hashes name are stored
+  are_named : (named : List (List ℕ)) (hashes : List ℕ) → AreNamed (view last f) named hashes → stored.AreNamed f named hashes
+  are_named [] [] h = tt
+  are_named [] (k ∷ ks) h = absurd h
+  are_named (c ∷ cs) [] h = absurd h
+  are_named (c ∷ cs) (k ∷ ks) h = (record { once = h.0.once; stored = counted_some (clause_with (canonical c) f.clauses) h.0.counted; hash = h.1 }, are_named cs ks h.2)
 
   -- a clause that may be derived passes the check
   pub passes : (clause hashes : List ℕ) → MayDerive (view last f) clause hashes → Passes f clause hashes
   passes clause hashes (by_unit t) = unit_true t
-  passes clause hashes (by_clauses named n lead) = conflict (passes_by clause hashes named n lead)
+  passes clause hashes (by_clauses named n lead) = leading_passes f clause hashes named (are_named named hashes n) lead
 
   -- a core that may fail passes with its negation
   pub core_passes : (core hashes : List ℕ) → MayFail (view last f) core hashes → Passes f (map negated core) hashes
@@ -89,7 +80,7 @@ strict_by : (last : Option (List ℕ)) (f : Stored) (clause : List ℕ) → Last
 strict_by last f clause h m = subst (λ o. IsStrictSubset o clause) (sym (h m.part m.last)) (m.within, m.strict)
 
 -- a step that may be written by the session's view is accepted
-pub accepts_view : (step : Step) (last : Option (List ℕ)) (f : Stored) → Tidy f.clauses → LastIs last f → May (view last f) step → Accepts f step
+pub accepts_view : (step : Step) (last : Option (List ℕ)) (f : Stored) → TidyClauses f.clauses → LastIs last f → May (view last f) step → Accepts f step
 accepts_view (SolverVarName v name) last f t l m = tt
 accepts_view (UserVarName v (Some name)) last f t l m = record { free = m.free; nameless = m.nameless; not_hidden = m.not_hidden }
 accepts_view (UserVarName v None) last f t l m = m

@@ -19,9 +19,9 @@ use Rattle.sat_checker.specs.declared.processing.Processing.{Processing}
 use Rattle.sat_checker.specs.declared.processing.ProofProcessor.{Ghosts}
 use Rattle.sat_solver.specs.declared.session.made.CheckFault.{CheckFault}
 use Rattle.sat_solver.specs.declared.session.made.CheckFault.TheVariants as checks
-use Rattle.sat_solver.specs.session.Checked.{is_end, unended, has_begun, who_listens, Listened, FedUnless, IsFed, Heard, Failed, IsCause, cause_in, OrCause, TakesStep, TakesWidth, TakesDelayed, Feeds, FeedsCut, TakesIn, BeginsAnew}
+use Rattle.sat_solver.specs.session.Checked.{is_end, unended, has_begun, who_listens, Listened, FedUnless, IsFed, Heard, Failed, IsCause, cause_in, OrCause, TakesStep, TakesWidth, TakesDelayed, Feeds, TakesIn, BeginsAnew}
 use Rattle.sat_solver.specs.session.Due.{kept_if}
-use Rattle.sat_solver.specs.session.Listening.{AreListed, Hears, HeardAll, HasHeard, FailedOf}
+use Rattle.sat_solver.specs.session.Listening.{AreListed, Hears, HasHeard, FailedOf}
 use Rattle.sat_solver.specs.session.MadeView.{audience, listed_in, Handed, HandedIn, IsHanded, ListedAnew}
 use Rattle.sat_solver.specs.declared.session.made.Made.{Made}
 use Rattle.sat_solver.specs.session.Session.{MayAll}
@@ -105,10 +105,6 @@ module _ {L : Type 0} (takes : L → Told → Result Unit Error → L → Type 0
         failed fault (inl h) = record { later = []; taken = steps; all = refl; written = fed.written; bits = old.bits; cut = fed.cut; begun = fed.begun; were = fed.were; heard = (who_listens new, refl, h) }
         failed fault (inr h) = record { later = []; taken = steps; all = refl; written = ChangeHashBits bits ∷ fed.written; bits = bits; cut = changed; begun = fed.begun; were = fed.were; heard = (who_listens new, refl, h) }
 
-    -- a step was fed with its hashes cut
-    pub cut_fed : (step cut : Step) → cut ≡ narrowed old.bits step → Feeds takes r (seen_of old.checker) cut (seen_of new.checker) → FeedsCut takes r old step new
-    cut_fed step cut e feeds = subst (λ x. Feeds takes r (seen_of old.checker) x (seen_of new.checker)) e feeds
-
     -- what waited was told
     pub delayed_fed : new.bits ≡ old.bits → ChecksDelayed (Hears takes) r (seen_of old.checker) (seen_of new.checker) → TakesDelayed takes r old new
     delayed_fed e tells added steps fed =
@@ -117,17 +113,13 @@ module _ {L : Type 0} (takes : L → Told → Result Unit Error → L → Type 0
         (λ fault h. record { later = []; taken = steps; all = refl; written = fed.written; bits = old.bits; cut = fed.cut; begun = fed.begun; were = fed.were; heard = (who_listens new, refl, h) })
         (answered_delayed takes fed.begun (seen_of old.checker) (seen_of new.checker) fed.written fed.going r (tells [] fed.begun fed.written fed.stands))
 
-  -- no memory is left for a step's hashes
-  pub starved_fed : (old : Checked L) (step : Step) (new : Checked L) → who_listens new ≡ who_listens old → FeedsCut takes (Err errors.OutOfMemory) old step new
-  starved_fed old step new same begun written s g may =
-      (tt, inl (inl (subst (λ now. HeardAll takes begun now written) (sym same) (heard_all takes begun (who_listens old) written old.checker.kernel.state.formula.status.conflict (s.heard g)))))
-
   module _ (old : Checked L) (step : Step) where
     -- a step was taken at its width
-    pub step_fed : (r : Result (Unit {0}) CheckerError) (mid new : Checked L) → is_end step ≡ false → KeepsWidth step → TakesWidth takes (Ok tt) old mid → new.bits ≡ mid.bits → FeedsCut takes r mid step new → TakesStep takes r old step new
-    step_fed r mid new e k told same feeds added steps may fed =
+    pub step_fed : (r : Result (Unit {0}) CheckerError) (mid new : Checked L) (cut_step : Step) → is_end step ≡ false → KeepsWidth step → TakesWidth takes (Ok tt) old mid → new.bits ≡ mid.bits → cut_step ≡ narrowed mid.bits step
+        → Feeds takes r (seen_of mid.checker) cut_step (seen_of new.checker) → TakesStep takes r old step new
+    step_fed r mid new cut_step e k told same is feeds added steps may fed =
         cause_map r Fed (IsFed takes new added (step ∷ steps)) _ (Failed takes added (listeners_of (who_listens new)) (step ∷ steps)) by failed
-        (feeds f.begun f.written f.stands f.going (widths_are_free (step ∷ unended steps) (narrowed mid.bits step ∷ f.written) mid.bits cut allowed).may)
+        (subst (λ x. Feeds takes r (seen_of mid.checker) x (seen_of new.checker)) is feeds f.begun f.written f.stands f.going (widths_are_free (step ∷ unended steps) (narrowed mid.bits step ∷ f.written) mid.bits cut allowed).may)
       where
         f : IsFed takes mid added steps
         f = told added steps may.0 fed

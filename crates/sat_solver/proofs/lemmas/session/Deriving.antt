@@ -5,7 +5,8 @@ use Rattle.std.specs.List.{AllByRecursion}
 use Rattle.sat_base.specs.values.Literals.{negated}
 use Rattle.sat_checker.specs.LiteralSets.{is_among, is_tautology}
 use Rattle.sat_checker.proofs.lemmas.sets.Canonical.{tautology_from, both_signs}
-use Rattle.sat_solver.specs.session.Session.{Session, IsLive, AreNamed, Leads, denied, hash_in, MayDerive, MayFail, by_signs, by_unit, by_clauses}
+use Rattle.sat_checker.specs.Leading.{Leads}
+use Rattle.sat_solver.specs.session.Session.{Session, IsLive, AreNamed, denied, hash_in, MayDerive, MayFail, by_signs, by_unit, by_clauses}
 
 -- the negation of a negation is the literal
 negated_twice : (l : ℕ) → negated (negated l) ≡ l

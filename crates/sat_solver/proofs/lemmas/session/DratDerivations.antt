@@ -10,7 +10,8 @@ use Rattle.sat_checker.specs.Propagation.{IsFalsified}
 use Rattle.sat_checker.proofs.lemmas.propagation.Soundness.{negated-negated}
 use Rattle.sat_solver.specs.session.Drat.{times, without_set, behind_lines, behind_step, present, Refutes, LinesStand, IsDratDerivation, DratStands}
 use Rattle.sat_solver.specs.session.DratText.{unit_lines, lines_of}
-use Rattle.sat_solver.specs.session.Session.{Session, nothing, more, less, same_side, with_live, without_live, with_fact, with_facts, with_sorted, with_clause, knowing_literals, after, session_after, AreNamed, denied, MayDerive, by_unit, by_clauses, MayProve, May, MayAll}
+use Rattle.sat_checker.specs.Contents.{more_if, less_if, same_side}
+use Rattle.sat_solver.specs.session.Session.{Session, nothing, with_live, without_live, with_fact, with_facts, with_sorted, with_clause, knowing_literals, after, session_after, AreNamed, denied, MayDerive, by_unit, by_clauses, MayProve, May, MayAll}
 use Rattle.sat_solver.proofs.lemmas.session.DratLemmas.{times_behind, times_itself, times_left, times_less, refutes_one, refutes_unit, leads_refute, units_first, negations, leads_within, units_in, units_there, units_are}
 
 -- of two literals or more
@@ -69,13 +70,13 @@ fact_kept l s ps k = go (s.units l) (s.units (negated l)) refl
     go false false e = record { counts = wider.counts; long = wider.long; units = there; unsat = wider.unsat }
 
 -- a clause, counted on its side
-add_one : (r b : Bool) (x y t : ℕ) → x + y ≤ t → more (same_side r false && b) x + more (same_side r true && b) y ≤ more b t
+add_one : (r b : Bool) (x y t : ℕ) → x + y ≤ t → more_if (same_side r false && b) x + more_if (same_side r true && b) y ≤ more_if b t
 add_one true true x y t h = omega (arith, h)
 add_one true false x y t h = h
 add_one false true x y t h = omega (arith, h)
 add_one false false x y t h = h
 
-long_added : (set other : List ℕ) (n : ℕ) (a : Bool) → IsLong set → (0 < n → IsLong other) → (b : Bool) → same_literals set other ≡ b → 0 < more (a && b) n → IsLong other
+long_added : (set other : List ℕ) (n : ℕ) (a : Bool) → IsLong set → (0 < n → IsLong other) → (b : Bool) → same_literals set other ≡ b → 0 < more_if (a && b) n → IsLong other
 long_added set other n true i f true e h = subst IsLong (same_text set other (sym e)) i
 long_added set other n true i f false e h = f h
 long_added set other n false i f true e h = f h
@@ -118,15 +119,15 @@ apart out set i n = go (same_literals out set) refl
 short_left : (out set : List ℕ) (ps : List (List ℕ)) → IsLong out → (IsLong set → ⊥) → 0 < times set ps → 0 < times set (without_set out ps)
 short_left out set ps i n h = let e = times_left set out ps (apart out set i n) in omega (arith, e, h)
 
-take_one : (r : Bool) (x y t u : ℕ) → 0 < cond r y x → x + y ≤ t → t ≤ u + 1 → less (same_side r false && true) x + less (same_side r true && true) y ≤ u
+take_one : (r : Bool) (x y t u : ℕ) → 0 < cond r y x → x + y ≤ t → t ≤ u + 1 → less_if (same_side r false && true) x + less_if (same_side r true && true) y ≤ u
 take_one true x y t u p h k = omega (arith, p, h, k)
 take_one false x y t u p h k = omega (arith, p, h, k)
 
-take_none : (r : Bool) (x y u : ℕ) → x + y ≤ u → less (same_side r false && false) x + less (same_side r true && false) y ≤ u
+take_none : (r : Bool) (x y u : ℕ) → x + y ≤ u → less_if (same_side r false && false) x + less_if (same_side r true && false) y ≤ u
 take_none true x y u h = h
 take_none false x y u h = h
 
-less_some : (b : Bool) (n : ℕ) → 0 < less b n → 0 < n
+less_some : (b : Bool) (n : ℕ) → 0 < less_if b n → 0 < n
 less_some true n h = omega (arith, h)
 less_some false n h = h
 
@@ -149,7 +150,7 @@ without_kept r out s ps p k = record {
     conflict (inl h) = inl (short_left out [] ps i (λ x. x) h)
     conflict (inr h) = inr (h.0, short_left out (h.0 ∷ []) ps i (λ x. x) h.1, short_left out (negated h.0 ∷ []) ps i (λ x. x) h.2)
 
-    counts : (other : List ℕ) (b : Bool) → same_literals out other ≡ b → less (same_side r false && b) (s.live false other) + less (same_side r true && b) (s.live true other) ≤ times other (without_set out ps)
+    counts : (other : List ℕ) (b : Bool) → same_literals out other ≡ b → less_if (same_side r false && b) (s.live false other) + less_if (same_side r true && b) (s.live true other) ≤ times other (without_set out ps)
     counts other true e =
         take_one r (s.live false other) (s.live true other) (times other ps) (times other (without_set out ps))
         (subst (λ n. 0 < n) (side_is r (λ side. s.live side other)) (subst (λ x. 0 < s.live r x) (same_text out other (sym e)) p)) (k.counts other) (times_less other out ps)

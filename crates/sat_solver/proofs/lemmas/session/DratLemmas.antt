@@ -10,11 +10,12 @@ use Rattle.sat_checker.proofs.lemmas.propagation.Soundness.{negated-negated}
 use Rattle.sat_checker.proofs.lemmas.sets.Canonical.{canonical_among}
 use Rattle.sat_checker.proofs.lemmas.sets.Members.{canonical_each}
 use Rattle.sat_solver.specs.session.Drat.{times, without_set, Refutes}
-use Rattle.sat_solver.specs.session.Session.{Leads, more}
+use Rattle.sat_checker.specs.Leading.{Leads}
+use Rattle.sat_checker.specs.Contents.{more_if}
 
 -- COUNTS
 
-more_or : (b : Bool) (n : ℕ) → n ≤ more b n
+more_or : (b : Bool) (n : ℕ) → n ≤ more_if b n
 more_or true n = omega arith
 more_or false n = omega arith
 
@@ -28,21 +29,21 @@ same_itself [] = refl
 same_itself (x ∷ xs) = ap (λ b. b && same_literals xs xs) (eq-eqb x x refl) ∙ same_itself xs
 
 pub times_itself : (set : List ℕ) (cs : List (List ℕ)) → times set (set ∷ cs) ≡ times set cs + 1
-times_itself set cs = ap (λ b. more b (times set cs)) (same_itself set)
+times_itself set cs = ap (λ b. more_if b (times set cs)) (same_itself set)
 
 -- one that goes leaves the others
 pub times_left : (set out : List ℕ) (cs : List (List ℕ)) → same_literals out set ≡ false → times set cs ≤ times set (without_set out cs)
 times_left set out [] e = omega arith
 times_left set out (c ∷ cs) e = go (times_left set out cs e) (same_literals c out) refl
   where
-    wider : times set cs ≤ times set (without_set out cs) → (b : Bool) → more b (times set cs) ≤ more b (times set (without_set out cs))
+    wider : times set cs ≤ times set (without_set out cs) → (b : Bool) → more_if b (times set cs) ≤ more_if b (times set (without_set out cs))
     wider ih true = omega (arith, ih)
     wider ih false = ih
 
     go : times set cs ≤ times set (without_set out cs) → (b : Bool) → same_literals c out ≡ b → times set (c ∷ cs) ≤ times set (cond b cs (c ∷ without_set out cs))
     go ih true s =
         let other : same_literals c set ≡ false = subst (λ x. same_literals x set ≡ false) (sym (same_text c out (sym s))) e in
-        let is : times set (c ∷ cs) ≡ times set cs = ap (λ b. more b (times set cs)) other in
+        let is : times set (c ∷ cs) ≡ times set cs = ap (λ b. more_if b (times set cs)) other in
         omega (arith, is)
     go ih false s = wider ih (same_literals c set)
 
@@ -51,11 +52,11 @@ pub times_less : (set out : List ℕ) (cs : List (List ℕ)) → times set cs �
 times_less set out [] = omega arith
 times_less set out (c ∷ cs) = go (times_less set out cs) (same_literals c out)
   where
-    one : (b : Bool) → more b (times set cs) ≤ times set cs + 1
+    one : (b : Bool) → more_if b (times set cs) ≤ times set cs + 1
     one true = omega arith
     one false = omega arith
 
-    wider : times set cs ≤ times set (without_set out cs) + 1 → (b : Bool) → more b (times set cs) ≤ more b (times set (without_set out cs)) + 1
+    wider : times set cs ≤ times set (without_set out cs) + 1 → (b : Bool) → more_if b (times set cs) ≤ more_if b (times set (without_set out cs)) + 1
     wider ih true = omega (arith, ih)
     wider ih false = ih
 

@@ -7,20 +7,20 @@ use Rattle.sat_checker.specs.Stored.{solver_literal}
 use Rattle.sat_checker.proofs.lemmas.meaning.Clauses.{same, same_from}
 use Rattle.sat_checker.proofs.lemmas.sets.Canonical.{canonical_among}
 use Rattle.sat_checker.proofs.lemmas.sets.Subsets.{any_true, some_of, any_canonical}
-use Rattle.sat_solver.specs.session.Session.{same_side, more}
+use Rattle.sat_checker.specs.Contents.{same_side, more_if}
 use Rattle.sat_solver.specs.session.LiveClauses.{LiveClause, count_of, IsIn, with_var, AreMapped}
 
 -- two clauses more, in either order
-more_more : (a b : Bool) (n : ℕ) → more a (more b n) ≡ more b (more a n)
+more_more : (a b : Bool) (n : ℕ) → more_if a (more_if b n) ≡ more_if b (more_if a n)
 more_more true true n = refl
 more_more true false n = refl
 more_more false b n = refl
 
 -- one clause more, wherever it stands
-pub count_between : (xs ys : List LiveClause) (c : LiveClause) (r : Bool) (set : List ℕ) → count_of (xs ++ c ∷ ys) r set ≡ more (same_side c.redundant r && same_literals (canonical c.literals) set) (count_of (xs ++ ys) r set)
+pub count_between : (xs ys : List LiveClause) (c : LiveClause) (r : Bool) (set : List ℕ) → count_of (xs ++ c ∷ ys) r set ≡ more_if (same_side c.redundant r && same_literals (canonical c.literals) set) (count_of (xs ++ ys) r set)
 count_between [] ys c r set = refl
 count_between (x ∷ xs) ys c r set =
-    ap (more (same_side x.redundant r && same_literals (canonical x.literals) set)) (count_between xs ys c r set)
+    ap (more_if (same_side x.redundant r && same_literals (canonical x.literals) set)) (count_between xs ys c r set)
     ∙ more_more (same_side x.redundant r && same_literals (canonical x.literals) set) (same_side c.redundant r && same_literals (canonical c.literals) set) (count_of (xs ++ ys) r set)
 
 -- a clause is on its own side
@@ -29,7 +29,7 @@ its_side true = refl
 its_side false = refl
 
 -- a positive count stays positive
-more_positive : (b : Bool) (n : ℕ) → 0 < n → 0 < more b n
+more_positive : (b : Bool) (n : ℕ) → 0 < n → 0 < more_if b n
 more_positive true n h = omega arith
 more_positive false n h = h
 
@@ -39,7 +39,7 @@ in_counts [] c h = absurd h
 in_counts (d ∷ ds) c h = elim h [
   | inl e ↦
       let t : (same_side d.redundant c.redundant && same_literals (canonical d.literals) (canonical c.literals)) ≡ true = subst (λ x. (same_side x.redundant c.redundant && same_literals (canonical x.literals) (canonical c.literals)) ≡ true) e (ap (λ b. b && same_literals (canonical c.literals) (canonical c.literals)) (its_side c.redundant) ∙ same_from (canonical c.literals) (canonical c.literals) refl) in
-      subst (λ b. 0 < more b (count_of ds c.redundant (canonical c.literals))) (sym t) (omega arith)
+      subst (λ b. 0 < more_if b (count_of ds c.redundant (canonical c.literals))) (sym t) (omega arith)
   | inr k ↦ more_positive (same_side d.redundant c.redundant && same_literals (canonical d.literals) (canonical c.literals)) (count_of ds c.redundant (canonical c.literals)) (in_counts ds c k)
 ]
 
@@ -65,7 +65,7 @@ counts_in (c ∷ cs) r set n = go (counts_in cs r set) (same_side c.redundant r)
     later : SomeIn cs r set → SomeIn (c ∷ cs) r set
     later s = record { clause = s.clause; within = inr s.within; side = s.side; its = s.its }
 
-    go : (0 < count_of cs r set → SomeIn cs r set) → (a : Bool) → same_side c.redundant r ≡ a → (b : Bool) → same_literals (canonical c.literals) set ≡ b → 0 < more (a && b) (count_of cs r set) → SomeIn (c ∷ cs) r set
+    go : (0 < count_of cs r set → SomeIn cs r set) → (a : Bool) → same_side c.redundant r ≡ a → (b : Bool) → same_literals (canonical c.literals) set ≡ b → 0 < more_if (a && b) (count_of cs r set) → SomeIn (c ∷ cs) r set
     go ih true x true y k = record { clause = c; within = inl refl; side = side_is c.redundant r x; its = same (canonical c.literals) set y }
     go ih true x false y k = later (ih k)
     go ih false x b y k = later (ih k)

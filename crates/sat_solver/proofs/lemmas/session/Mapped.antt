@@ -5,7 +5,8 @@ use Rattle.std.specs.List.{AllByRecursion}
 use Rattle.sat_base.specs.values.Literals.{variable, negated}
 use Rattle.sat_checker.specs.LiteralSets.{is_among, mentions}
 use Rattle.sat_checker.specs.SortedSets.{NoRepeats}
-use Rattle.sat_solver.specs.session.Session.{Session, Leads, denied}
+use Rattle.sat_checker.specs.Leading.{Leads}
+use Rattle.sat_solver.specs.session.Session.{Session, denied}
 use Rattle.sat_solver.specs.session.LiveClauses.{with_var, AreMapped}
 
 -- the other sign of a mapped literal

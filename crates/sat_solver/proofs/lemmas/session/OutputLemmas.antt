@@ -1,40 +1,18 @@
 -- Lines of DRAT for what is written.
-use Rattle.std.proofs.Common.{ℕ, ◌≡◌, ◌∙◌, Bool, true, false, Result, Ok, Err, List, [], ◌∷◌, ◌++◌, map, refl, sym, ap, subst}
+use Rattle.std.proofs.Common.{ℕ, ◌≡◌, ◌∙◌, Bool, true, false, Result, Ok, Err, List, [], ◌∷◌, ◌++◌, refl, sym, ap, subst}
 use Rattle.std.specs.Prelude.{nat_eq, cond}
 use Rattle.std.proofs.lemmas.List.{append-nil}
 use Rattle.sat_base.specs.device.Device.{Writer, Takes, Breaks, FlushesOnce}
 use Rattle.sat_base.specs.device.Sink.{Sink, Sent, Flushes, empty_sink}
-use Rattle.sat_base.specs.steps.Steps.{Step, SolverVarName, UserVarName, DeleteVar, ChangeSamplingMode, AddClause, AtClause, UnitClauses, DeleteClause, ChangeHashBits, Model, Assumptions, FailedAssumptions, End}
+use Rattle.sat_base.specs.steps.Steps.{Step, ChangeHashBits}
 use Rattle.sat_base.proofs.lemmas.device.Sending.{sent_none, sends_flush}
-use Rattle.sat_solver.specs.session.Counting.{width_told, written_for}
-use Rattle.sat_solver.specs.session.DratText.{Line, Derives, unit_lines, lines_text, line_text, drat_text}
+use Rattle.sat_solver.specs.session.Counting.{width_told}
+use Rattle.sat_solver.specs.session.DratText.{drat_text}
 use Rattle.sat_solver.specs.session.OutputView.{is_lines, step_text, SpellsIn, text_in, AreSpelt, Wrote, PutsSteps, PutsLines, lines_format}
-use Rattle.sat_solver.specs.session.Widths.{kept_bits, narrowed}
 use Rattle.sat_solver.specs.declared.session.proof.ProofError.{ProofError}
 use Rattle.sat_solver.specs.declared.session.proof.ProofError.TheVariants.{Write, OutOfMemory, Check}
 
--- units whose hashes are cut have the same lines
-same_lines : (w : ℕ) (us : List (ℕ × ℕ)) → unit_lines (map (λ u. (u.0, kept_bits w u.1)) us) ≡ unit_lines us
-same_lines w [] = refl
-same_lines w (u ∷ us) = ap (λ (xs : List Line). Derives (u.0 ∷ []) ∷ xs) (same_lines w us)
-
 module _ (binary : Bool) where
-  -- a step whose hashes are cut has the same lines
-  cut_text : (w : ℕ) (step : Step) → drat_text binary (narrowed w step) ≡ drat_text binary step
-  cut_text w (AtClause redundant clause hashes) = refl
-  cut_text w (UnitClauses us) = ap (lines_text binary) (same_lines w us)
-  cut_text w (FailedAssumptions core hashes) = refl
-  cut_text w (SolverVarName v name) = refl
-  cut_text w (UserVarName v name) = refl
-  cut_text w (DeleteVar v) = refl
-  cut_text w (ChangeSamplingMode v sample) = refl
-  cut_text w (AddClause clause) = refl
-  cut_text w (DeleteClause clause proof) = refl
-  cut_text w (ChangeHashBits bits) = refl
-  cut_text w (Model ls) = refl
-  cut_text w (Assumptions ls) = refl
-  cut_text w End = refl
-
   step_is : (step : Step) → step_text (lines_format binary) step ≡ drat_text binary step
   step_is step = go binary
     where
@@ -50,9 +28,9 @@ module _ (binary : Bool) where
       go true = refl
       go false = step_is (ChangeHashBits now)
 
-  -- so what is written has the lines of the step
-  text_is : (before now : ℕ) (step : Step) → text_in (lines_format binary) (written_for before now step) ≡ drat_text binary step
-  text_is before now step = ap (λ xs. xs ++ step_text (lines_format binary) (narrowed now step)) (told_text before now) ∙ step_is (narrowed now step) ∙ cut_text now step
+  -- so what is written behind a width has the lines of the step
+  text_is : (before now : ℕ) (step : Step) → text_in (lines_format binary) (step ∷ width_told before now) ≡ drat_text binary step
+  text_is before now step = ap (λ xs. xs ++ step_text (lines_format binary) step) (told_text before now) ∙ step_is step
 
   spelt_any : (steps : List Step) → AreSpelt (lines_format binary) steps
   spelt_any [] = tt
@@ -68,8 +46,8 @@ lines_are false = refl
 lines_are true = refl
 
 -- lines were put, and nothing waits
-pub lines_put : (binary : Bool) (r : Result (Unit {0}) ProofError) (before now : ℕ) (step : Step) (v w : Writer) → PutsLines binary r step v w → PutsSteps (lines_format binary) r (written_for before now step) (empty_sink v) (empty_sink w)
-lines_put binary (Ok x) before now step v w h = record { spelt = spelt_any binary (written_for before now step); sent = record { fresh = drat_text binary step; flows = text_is binary before now step ∙ sym (append-nil (drat_text binary step)); takes = h } }
+pub lines_put : (binary : Bool) (r : Result (Unit {0}) ProofError) (before now : ℕ) (step : Step) (v w : Writer) → PutsLines binary r step v w → PutsSteps (lines_format binary) r (step ∷ width_told before now) (empty_sink v) (empty_sink w)
+lines_put binary (Ok x) before now step v w h = record { spelt = spelt_any binary (step ∷ width_told before now); sent = record { fresh = drat_text binary step; flows = text_is binary before now step ∙ sym (append-nil (drat_text binary step)); takes = h } }
 lines_put binary (Err (Write e)) before now step v w h = subst (Breaks v w) (sym (text_is binary before now step)) h
 lines_put binary (Err OutOfMemory) before now step v w h = ap empty_sink h
 lines_put binary (Err (Check fault)) before now step v w h = h

@@ -10,7 +10,7 @@ use Rattle.sat_checker.specs.declared.processing.ProofProcessor.{Ghosts}
 use Rattle.sat_solver.specs.session.Counting.{width_told, written_for, counted}
 use Rattle.sat_solver.specs.session.OutputView.{step_text, SpellsIn, text_in, Wrote, PutsSteps, output_format, output_sink}
 use Rattle.sat_solver.specs.session.ProofView.{Target, Carries, Stops, Closed, Open, Broken as Faulty, with_fault, target_in, target_of, Adds, Fails}
-use Rattle.sat_solver.specs.session.Widths.{KeepsWidth}
+use Rattle.sat_solver.specs.session.Widths.{narrowed, KeepsWidth}
 use Rattle.sat_solver.specs.declared.session.counting.Counting.{Counting}
 use Rattle.sat_solver.specs.declared.session.output.Output.{Output}
 use Rattle.sat_solver.specs.declared.session.format.ProofFormat.{ProofFormat}
@@ -72,9 +72,9 @@ module _ {W L : Type 0} {G : Ghosts L} (seen : W → Writer) (p : Proof W L G) w
       target = subst (λ t. Stops t [] (Faulty (output_sink seen u).writer)) was_open ((output_sink seen u).writer, refl, record { written = []; counting = p.counting; cuts = none_made; breaks = b });
     }
 
-    module _ (step : Step) (keeps : KeepsWidth step) (d : Counting) (e : d ≡ counted step p.counting) where
+    module _ (step cut : Step) (keeps : KeepsWidth step) (d : Counting) (e : d ≡ counted step p.counting) (is_cut : cut ≡ narrowed d.bits step) where
       -- a step was written
-      pub carries_put : output_format u ≡ output_format o → Wrote (output_format o) (written_for p.counting.bits d.bits step) (output_sink seen o) (output_sink seen u) →
+      pub carries_put : output_format u ≡ output_format o → Wrote (output_format o) (cut ∷ width_told p.counting.bits d.bits) (output_sink seen o) (output_sink seen u) →
           Carries (target_of seen p) (step ∷ []) (target_in seen (Some u) p.broken d)
       carries_put same wrote = subst (λ b. Carries (target_of seen p) (step ∷ []) (with_fault b (output_format u) d (output_sink seen u))) (sym well) carried
         where
@@ -82,14 +82,16 @@ module _ {W L : Type 0} {G : Ghosts L} (seen : W → Writer) (p : Proof W L G) w
           carried = subst (λ f. Carries (target_of seen p) (step ∷ []) (Open f d (output_sink seen u))) (sym same)
               (subst (λ t. Carries t (step ∷ []) (Open (output_format o) d (output_sink seen u))) was_open
               (subst (λ x. Carries (Open (output_format o) p.counting (output_sink seen o)) (step ∷ []) (Open (output_format o) x (output_sink seen u))) (sym e)
-              (carries_step (output_format o) p.counting (output_sink seen o) (output_sink seen u) step keeps (subst (λ x. Wrote (output_format o) (written_for p.counting.bits x.bits step) (output_sink seen o) (output_sink seen u)) e wrote))))
+              (carries_step (output_format o) p.counting (output_sink seen o) (output_sink seen u) step keeps (subst (λ x. Wrote (output_format o) (written_for p.counting.bits x.bits step) (output_sink seen o) (output_sink seen u)) e
+              (subst (λ x. Wrote (output_format o) (x ∷ width_told p.counting.bits d.bits) (output_sink seen o) (output_sink seen u)) is_cut wrote)))))
 
       -- a call of the target failed at its text
-      pub stops_put : Breaks (output_sink seen o).writer (output_sink seen u).writer ((output_sink seen o).waiting ++ text_in (output_format o) (written_for p.counting.bits d.bits step)) →
+      pub stops_put : Breaks (output_sink seen o).writer (output_sink seen u).writer ((output_sink seen o).waiting ++ text_in (output_format o) (cut ∷ width_told p.counting.bits d.bits)) →
           Stops (target_of seen p) (step ∷ []) (Faulty (output_sink seen u).writer)
       stops_put b = subst (λ t. Stops t (step ∷ []) (Faulty (output_sink seen u).writer)) was_open
           (stops_step (output_format o) p.counting (output_sink seen o) (output_sink seen u) step keeps
-          (subst (λ x. Breaks (output_sink seen o).writer (output_sink seen u).writer ((output_sink seen o).waiting ++ text_in (output_format o) (written_for p.counting.bits x.bits step))) e b))
+          (subst (λ x. Breaks (output_sink seen o).writer (output_sink seen u).writer ((output_sink seen o).waiting ++ text_in (output_format o) (written_for p.counting.bits x.bits step))) e
+          (subst (λ x. Breaks (output_sink seen o).writer (output_sink seen u).writer ((output_sink seen o).waiting ++ text_in (output_format o) (x ∷ width_told p.counting.bits d.bits))) is_cut b)))
 
     -- no memory was left, and nothing was written
     pub carries_starved : output_format u ≡ output_format o → output_sink seen u ≡ output_sink seen o → Carries (target_of seen p) [] (target_in seen (Some u) p.broken p.counting)

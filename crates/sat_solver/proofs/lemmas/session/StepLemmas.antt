@@ -4,13 +4,15 @@ use Rattle.sat_base.specs.steps.Steps.{Step}
 use Rattle.sat_checker.specs.Stored.{Stored, nothing_stored}
 use Rattle.sat_checker.specs.Storing.{settled}
 use Rattle.sat_checker.specs.Accepts.{Accepts, AcceptsAll, effect, stored_after, ready_after}
+use Rattle.sat_checker.specs.Contents.{count_in}
+use Rattle.sat_checker.proofs.lemmas.invariants.Counted.{TidyClauses, tidy_effect, tidy_settled}
 use Rattle.sat_checker.proofs.lemmas.meaning.Orderly.{Orderly, orderly_settled}
 use Rattle.sat_checker.proofs.lemmas.meaning.OrderlySteps.{orderly_effect, orderly}
 use Rattle.sat_solver.specs.session.Session.{Session, May, MayAll, after, session_after}
-use Rattle.sat_solver.specs.session.Agrees.{count_in, Agrees}
+use Rattle.sat_solver.specs.session.Agrees.{Agrees}
 use Rattle.sat_solver.specs.session.Promises.{MayIsAccepted, SessionsAreAccepted}
 use Rattle.sat_solver.proofs.lemmas.session.Views.{view, view_after, view_settled}
-use Rattle.sat_solver.proofs.lemmas.session.TidyLemmas.{Tidy, tidy_effect, tidy_settled, LastIs, no_last, last_kept, last_settled}
+use Rattle.sat_solver.proofs.lemmas.session.LastLemmas.{LastIs, no_last, last_kept, last_settled}
 use Rattle.sat_solver.proofs.lemmas.session.AcceptLemmas.{accepts_view}
 
 -- SESSIONS AND CHECKERS AGREE
@@ -18,7 +20,7 @@ use Rattle.sat_solver.proofs.lemmas.session.AcceptLemmas.{accepts_view}
 -- the session is its view of the checker, whose clauses are tidy
 pub record Fits (s : Session) (f : Stored) : Type 0 where
   pub same : view s.last f ≡ s
-  pub tidy : Tidy f.clauses
+  pub tidy : TidyClauses f.clauses
   pub last : LastIs s.last f
 
 -- a session that agrees fits
@@ -55,7 +57,7 @@ accepts_fit s f step h m = accepts_view step s.last f h.tidy h.last (subst (λ x
 -- both fit behind an accepted step
 pub fits_after : (s : Session) (f : Stored) (step : Step) → Fits s f → Orderly f → Accepts f step → Fits (after step s) (effect step f)
 fits_after s f step h o a = record {
-  same = view_after step s.last f h.tidy.once ∙ ap (after step) h.same;
+  same = view_after s.last step f h.tidy.once ∙ ap (after step) h.same;
   tidy = tidy_effect step f h.tidy;
   last = last_kept step s.last f (orderly_effect step f a o) h.last;
 }

@@ -29,7 +29,8 @@ use Rattle.sat_solver.proofs.lemmas.joint.CodeLemmas.{coded_by}
 use Rattle.sat_solver.proofs.lemmas.joint.FramedParts.{bottom_unit, fits_freed}
 use Rattle.sat_solver.proofs.lemmas.joint.ModelLemmas.{in_map_back}
 use Rattle.sat_solver.proofs.lemmas.joint.NamedLemmas.{unused_in}
-use Rattle.sat_solver.specs.names.Calls.{Stands, DoesNothing, written}
+use Rattle.sat_checker.specs.matching.Traces.{no_step}
+use Rattle.sat_solver.specs.names.Calls.{Stands, DoesNothing}
 use Rattle.sat_solver.specs.names.Naming.{PutsUnit}
 use Rattle.sat_solver.proofs.lemmas.names.Units.{unit_stands, unit_agrees}
 use Rattle.sat_solver.specs.names.Indexing.{Unindexes}
@@ -318,7 +319,7 @@ module _ (n : Variables) (steps : List Step) (c : Search) (may : MayFree n steps
       noted_does : DoesNothing n n1 steps steps
       noted_does = record {
         stands = noted_stands;
-        kept = λ j live a. record { live = live; agree = unit_agrees n n1 steps v x (value_of c.parts.assignment.current x) may.stands indexed put j live a; writes = written };
+        kept = λ j live a. record { live = live; agree = unit_agrees n n1 steps v x (value_of c.parts.assignment.current x) may.stands indexed put j live a; trace = no_step };
       }
 
       pub frees_one : (new : Variables) (to : List Step) (p : Parts) → GivesUp n1 new steps to v → (data_at n v).assumed ≡ false → Freed c.parts p x → Holds p → value_of p.assignment.current x ≡ None → x < length c.parts.assignment.current →

@@ -26,9 +26,11 @@ use Rattle.sat_solver.specs.names.Adding.{named_literal, Images}
 use Rattle.sat_solver.specs.names.Variables.{data_at, global_at, user_of, names_used, variables_used}
 use Rattle.sat_solver.specs.loading.Shared.{SharesIndices}
 use Rattle.sat_solver.specs.names.Models.{is_true, value_by, value_in, model_to, named_to}
-use Rattle.sat_solver.specs.names.Checking.{variable_of}
-use Rattle.sat_solver.specs.names.Expected.{Shows, Fails, Spells, EachSpelt, SameSet, shows, fails}
-use Rattle.sat_solver.specs.names.Calls.{Stands, Agree, Writes, written, ordered, Does, DoesNothing}
+use Rattle.sat_checker.specs.matching.Checking.{variable_of}
+use Rattle.sat_checker.specs.matching.Expected.{Shows, Fails, Spells, EachSpelt, SameSet, shows, fails}
+use Rattle.sat_checker.specs.matching.ProofChecking.{the_checking}
+use Rattle.sat_checker.specs.matching.Traces.{HasTrace, no_step, visible}
+use Rattle.sat_solver.specs.names.Calls.{Stands, Agree, Does, DoesNothing}
 use Rattle.sat_solver.specs.declared.names.Variables.{Variables}
 use Rattle.sat_solver.proofs.lemmas.names.MapLemmas.{some_within}
 use Rattle.sat_solver.proofs.lemmas.names.ModeChanges.{live_within}
@@ -194,8 +196,8 @@ module _ {W L : Type 0} {G : Ghosts L} (seen : W → Writer) (n : Variables) (a 
           live = live;
           agree = subst (λ ss. Agree n ss j live) (sym shown.adds.history)
               (searches_agree n (steps_of a.proof) (Model (model_of n a)) joined.stands may.1 (each_live n a.search.parts.assignment.current (variables_used n) (model_of n a) (λ l t. t)) j live agree);
-          writes = subst (λ ss. Writes (steps_of a.proof) ss (Shows (names_of (map named_literal (line_of n a))) (map named_literal asked) (map named_literal (line_of n a)) ∷ [])) (sym shown.adds.history)
-              (ordered (shows refl (line_spelt n (steps_of a.proof) a.search.parts.assignment.current joined.stands) (named_among_all (line_of n a) asked among)) written);
+          trace = subst (λ ss. HasTrace the_checking (steps_of a.proof) ss (Shows (names_of (map named_literal (line_of n a))) (map named_literal asked) (map named_literal (line_of n a)) ∷ [])) (sym shown.adds.history)
+              (visible (shows refl (line_spelt n (steps_of a.proof) a.search.parts.assignment.current joined.stands) (named_among_all (line_of n a) asked among)) no_step);
         };
       }
 
@@ -209,7 +211,7 @@ module _ {W L : Type 0} {G : Ghosts L} (seen : W → Writer) (n : Variables) (a 
         kept = λ j live agree. record {
           live = live;
           agree = searches_agree n (steps_of a.proof) step joined.stands may.1 tt j live agree;
-          writes = ordered (fails (subst (λ xs. SameSet (variable_of (steps_of a.proof)) (map named_literal xs) codes) (sym f.named) spelt)) written;
+          trace = visible (fails (subst (λ xs. SameSet (variable_of (steps_of a.proof)) (map named_literal xs) codes) (sym f.named) spelt)) no_step;
         };
       })
     where

@@ -6,14 +6,17 @@ use Rattle.sat_base.specs.script.Judge.{Judge}
 use Rattle.sat_base.specs.steps.Steps.{Step, SolverVarName, UserVarName, DeleteVar, ChangeSamplingMode, AddClause, AtClause, UnitClauses, DeleteClause, ChangeHashBits, Model, Assumptions, FailedAssumptions, End}
 use Rattle.sat_solver.specs.session.Session.{Session, MayAll, session_after}
 use Rattle.sat_solver.specs.search.Going.{AreNamed, IsSearched}
-use Rattle.sat_solver.specs.names.Live.{Live}
+use Rattle.sat_checker.specs.matching.Bridge.{Live}
 use Rattle.sat_solver.specs.names.Variables.{AreSaid}
-use Rattle.sat_solver.specs.names.Checking.{is_ordered}
-use Rattle.sat_solver.specs.names.Expected.{Expected}
-use Rattle.sat_solver.specs.names.Calls.{Stands, Agree, Writes, written, other, Does, DoesNothing}
+use Rattle.sat_checker.specs.matching.Checking.{is_ordered}
+use Rattle.sat_checker.specs.matching.Expected.{Expected}
+use Rattle.sat_checker.specs.matching.ProofChecking.{the_checking}
+use Rattle.sat_checker.specs.matching.Traces.{HasTrace, no_step, silent}
+use Rattle.sat_solver.specs.names.Calls.{Stands, Agree, Does, DoesNothing}
 use Rattle.sat_solver.specs.names.Searching.{AreIndexed, IsOfSearch}
 use Rattle.sat_solver.specs.declared.names.Variables.{Variables}
-use Rattle.sat_solver.proofs.lemmas.names.Doing.{both_written, does_both}
+use Rattle.sat_checker.proofs.lemmas.matching.Traces.{traces_both}
+use Rattle.sat_solver.proofs.lemmas.names.Doing.{does_both}
 use Rattle.sat_solver.proofs.lemmas.names.Searched.{searches_stand, searches_agree}
 use Rattle.std.proofs.lemmas.List.{append-nil}
 
@@ -64,15 +67,15 @@ agree_behind n earlier (step ∷ steps) stands may h j live a =
     searches_agree n (steps ++ earlier) step (stands_behind n earlier steps stands may.0 h.1) may.1 (of_search n (session_after earlier) step stands.said h.0) j live
     (agree_behind n earlier steps stands may.0 h.1 j live a)
 
-quiet_writes : (names : ℕ → Option ℕ) (earlier steps : List Step) → AllByRecursion (IsSearched names) steps → Writes earlier (steps ++ earlier) []
-quiet_writes names earlier [] h = written
-quiet_writes names earlier (step ∷ steps) h = both_written (quiet_writes names earlier steps h.1) (other (unordered names step h.0) written)
+quiet_writes : (names : ℕ → Option ℕ) (earlier steps : List Step) → AllByRecursion (IsSearched names) steps → HasTrace the_checking earlier (steps ++ earlier) []
+quiet_writes names earlier [] h = no_step
+quiet_writes names earlier (step ∷ steps) h = traces_both (quiet_writes names earlier steps h.1) (silent (unordered names step h.0) no_step)
 
 -- the judge sees nothing of them
 pub nothing_behind : (n : Variables) (earlier steps : List Step) → Stands n earlier → MayAll (steps ++ earlier) → AllByRecursion (IsSearched (session_after earlier).solver_names) steps → DoesNothing n n earlier (steps ++ earlier)
 nothing_behind n earlier steps stands may h = record {
   stands = stands_behind n earlier steps stands may h;
-  kept = λ j live a. record { live = live; agree = agree_behind n earlier steps stands may h j live a; writes = quiet_writes (session_after earlier).solver_names earlier steps h };
+  kept = λ j live a. record { live = live; agree = agree_behind n earlier steps stands may h j live a; trace = quiet_writes (session_after earlier).solver_names earlier steps h };
 }
 
 -- a call, and then steps of a search
@@ -82,5 +85,5 @@ does_behind old new from to steps judge due does may h =
     let both = does_both old new new from to (steps ++ to) judge (λ j. j) due (λ j. []) does (nothing_behind new to steps does.stands may h) in
     record {
       stands = both.stands;
-      kept = λ j live a. let k = both.kept j live a in record { live = k.live; agree = k.agree; writes = subst (Writes from (steps ++ to)) (append-nil (due j)) k.writes };
+      kept = λ j live a. let k = both.kept j live a in record { live = k.live; agree = k.agree; trace = subst (HasTrace the_checking from (steps ++ to)) (append-nil (due j)) k.trace };
     }

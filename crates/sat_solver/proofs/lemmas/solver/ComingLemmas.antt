@@ -32,7 +32,8 @@ use Rattle.sat_solver.specs.search.Bumping.{AreDecays}
 use Rattle.sat_solver.specs.solver.Asking.{AskedIn}
 use Rattle.sat_solver.specs.names.Room.{HasRoom, users_in}
 use Rattle.sat_solver.specs.names.Refusing.{names_in, as_refusal}
-use Rattle.sat_solver.specs.names.Live.{Live}
+use Rattle.sat_checker.specs.matching.Bridge.{Live}
+use Rattle.sat_checker.specs.matching.Expected.{Unknown}
 use Rattle.sat_solver.specs.names.Variables.{AreJudged}
 use Rattle.std.proofs.lemmas.Bool.{true≢false}
 use Rattle.sat_solver.proofs.lemmas.names.ComingSteps.{comes_added}
@@ -131,7 +132,7 @@ module _ {W L : Type 0} {G : Ghosts L} (seen : W → Writer) (s : Solver W L G) 
   pub asked_in : (b : Core W L G) (n' : Variables) (user : List ℕ) (asked : Taken) → TookAssumptions seen s.names n' s.core b user asked → AskedIn seen s (record s { core = b; names = n'; asked = asked; state = states.Unknown }) user
   asked_in b n' user asked t = record {
     whole = record {
-      stands = t.does.stands;
+      stands = (t.does Unknown).stands;
       images = t.asked.images;
       spelt = t.asked.spelt;
       globals = t.asked.globals;
@@ -192,9 +193,9 @@ module _ {W L : Type 0} {G : Ghosts L} (seen : W → Writer) (s : Solver W L G) 
   pub asked_known : (asked : Taken) → assuming.Assumes s.names n' (steps_in s) (steps_of p) user asked → AskedIn seen s (record s { core = record s.core { proof = p }; names = n'; asked = asked }) user
   asked_known asked a = record {
     whole = record {
-      stands = a.does.stands;
+      stands = (a.does Unknown).stands;
       images = a.images;
-      spelt = global_images_of n' user asked a.does.stands.tidy a.images a.globals;
+      spelt = global_images_of n' user asked (a.does Unknown).stands.tidy a.images a.globals;
       globals = sym (ap (λ ss. (session_after ss).assumed) a.written);
       positive = whole.positive;
       scaled = whole.scaled;
@@ -242,14 +243,14 @@ pub assumed_by : {W L : Type 0} {G : Ghosts L} (seen : W → Writer) (s mid new 
 assumed_by {W} {L} {G} seen s mid new user going sampled room a clock same items = record {
   sampled = sampled;
   room = room;
-  did = record {
+  did = λ o. record {
     whole = subst (λ (x : Solver W L G). IsWholeOf x.core x.names x.asked new.assumed.items x.told.failed_core.items x.clock.restarts.scale x.state) (sym same)
         (subst (λ ls. IsWholeOf mid.core mid.names mid.asked ls mid.told.failed_core.items mid.clock.restarts.scale mid.state) (sym items) a.whole);
     going = going;
     failed = ap (λ (x : Solver W L G). x.failed) same ∙ a.failed ∙ going;
     used = ap (λ (x : Solver W L G). x.used) same ∙ a.used;
     config = ap (λ (x : Solver W L G). x.core.config) same ∙ a.config;
-    does = subst (λ (x : Solver W L G). Does s.names x.names (steps_in s) (steps_in x) (bring_all (names_in user)) (due_for_asked user)) (sym same) a.does;
+    does = subst (λ (x : Solver W L G). Does s.names x.names (steps_in s) (steps_in x) (bring_all (names_in user)) (due_for_asked o user)) (sym same) (a.does o);
     took = subst (λ (x : Solver W L G). Took seen s.core.proof x.core.proof) (sym same) a.took;
   };
   comes = subst (λ (x : Solver W L G). Comes (MayTake (names_in user)) (steps_in s) (steps_in x)) (sym same) a.comes;

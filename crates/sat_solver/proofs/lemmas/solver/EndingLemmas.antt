@@ -6,7 +6,7 @@ use Rattle.sat_base.specs.values.Clauses.{EachTrue}
 use Rattle.sat_checker.specs.Fold.{Holds}
 use Rattle.sat_checker.specs.declared.processing.ProofProcessor.{Ghosts}
 use Rattle.sat_solver.specs.names.Adding.{named_literal}
-use Rattle.sat_solver.specs.names.Checking.{variable_of}
+use Rattle.sat_checker.specs.matching.Checking.{variable_of}
 use Rattle.sat_solver.specs.session.ProofView.{Closes, ClosesOne, Keeps, steps_of, session_of}
 use Rattle.sat_solver.specs.session.Session.{MayAll, session_after}
 use Rattle.sat_solver.specs.declared.session.made.CheckFault.TheVariants as checks
@@ -18,8 +18,9 @@ use Rattle.sat_solver.specs.declared.names.taking.Taken.{Taken}
 use Rattle.sat_solver.specs.declared.search.solving.Core.{Core}
 use Rattle.sat_solver.specs.search.Going.{fault_of}
 use Rattle.sat_solver.specs.search.Joint.{IsSearch}
-use Rattle.sat_solver.specs.names.Calls.{Stands, Does, written, ordered}
-use Rattle.sat_solver.specs.names.Expected.{Finish, SameSet, finish}
+use Rattle.sat_checker.specs.matching.Traces.{no_step, visible}
+use Rattle.sat_solver.specs.names.Calls.{Stands, Does}
+use Rattle.sat_checker.specs.matching.Expected.{Finish, SameSet, finish}
 use Rattle.sat_solver.proofs.lemmas.names.Searched.{searches_stand, searches_agree}
 use Rattle.sat_solver.specs.declared.solver.Solver.{Solver}
 use Rattle.sat_solver.specs.declared.solver.state.State.{State}
@@ -84,7 +85,7 @@ module _ {W L : Type 0} {G : Ghosts L} (seen : W → Writer) (s : Solver W L G) 
     whole = ended;
     does = subst (λ ss. Does s.names s.names (steps_in s) ss (λ j. j) (λ j. Finish ∷ [])) (sym c.history) (record {
       stands = searches_stand s.names (steps_in s) End whole.stands may.1 tt;
-      kept = λ j live agree. record { live = live; agree = searches_agree s.names (steps_in s) End whole.stands may.1 tt j live agree; writes = ordered finish written };
+      kept = λ j live agree. record { live = live; agree = searches_agree s.names (steps_in s) End whole.stands may.1 tt j live agree; trace = visible finish no_step };
     });
     closes = c;
     derives = (drat_stands (steps_of p) keeps).0;

@@ -7,27 +7,30 @@ use Rattle.std.specs.List.{AllByRecursion}
 use Rattle.sat_base.specs.values.Literals.{variable, coded}
 use Rattle.sat_base.specs.values.Clauses.{Valuation, EachTrue, literal_true}
 use Rattle.sat_base.specs.script.Script.{Literal, names_of, Among}
-use Rattle.sat_base.specs.script.Judge.{Judge, identity_of, over}
+use Rattle.sat_base.specs.script.Judge.{Judge, identity_of, over, IsRightModel}
+use Rattle.sat_base.specs.script.JudgeLaws.{Increase}
+use Rattle.sat_base.proofs.lemmas.script.NamesListed.{lists_in_use}
 use Rattle.sat_base.specs.steps.Steps.{Step, Model}
 use Rattle.sat_checker.specs.Fold.{Holds}
 use Rattle.sat_solver.specs.session.Session.{May, session_after}
 use Rattle.sat_solver.specs.session.NamedMeaning.{Means, AgreeOn, Reads, AllRead}
 use Rattle.sat_solver.proofs.lemmas.session.NamedLemmas.{all_at, all_from, among_images, read_value, named_models_are_right}
 use Rattle.sat_solver.specs.names.Adding.{named_literal}
-use Rattle.sat_solver.specs.names.Live.{Live, given_of, Agrees}
+use Rattle.sat_checker.specs.matching.Bridge.{Live, Agrees}
+use Rattle.sat_solver.specs.names.Live.{given_of}
 use Rattle.sat_solver.specs.names.Variables.{global_of, names_used, variables_used}
 use Rattle.sat_solver.specs.names.Models.{value_in, model_to, name_literal, named_to}
-use Rattle.sat_solver.specs.names.Checking.{variable_of}
+use Rattle.sat_checker.specs.matching.Checking.{variable_of}
 use Rattle.sat_solver.specs.names.Calls.{Stands, Agree}
 use Rattle.sat_solver.specs.declared.names.Variables.{Variables}
 use Rattle.sat_solver.proofs.lemmas.names.MapLemmas.{some_within}
 use Rattle.sat_solver.proofs.lemmas.names.TakenNames.{test_among}
 use Rattle.sat_solver.proofs.lemmas.names.ModelSteps.{named_zero, named_next}
-use Rattle.sat_solver.proofs.lemmas.names.BridgeLemmas.{pulled, pulled_agrees}
+use Rattle.sat_checker.proofs.lemmas.matching.Bridge.{pulled, pulled_agrees}
 use Rattle.sat_solver.proofs.lemmas.names.ModeChanges.{live_within}
 use Rattle.sat_solver.proofs.lemmas.parts.ValueLemmas.{coded_variable}
-use Rattle.sat_solver.specs.solver.Lines.{Rise, ListsNames, IsModelLine, IsCoreOf}
-use Rattle.sat_solver.specs.names.Expected.{Spells, SameSet}
+use Rattle.sat_solver.specs.solver.Lines.{IsCoreOf}
+use Rattle.sat_checker.specs.matching.Expected.{Spells, SameSet}
 use Rattle.sat_solver.proofs.lemmas.solver.ShownLemmas.{coded_sign, model_all}
 
 -- MEANING
@@ -102,7 +105,7 @@ module _ (n : Variables) (values : List (Option Bool)) where
     | inr k ↦ among_left (coded u (value_in n values v)) (named_to n values count) (name_literal n values count (global_of n count)) (named_has count u v (omega arith) e)
   ])
 
-  rise_more : (xs : List ℕ) (y : ℕ) → Rise xs → AllByRecursion (λ x. x < y) xs → Rise (xs ++ y ∷ [])
+  rise_more : (xs : List ℕ) (y : ℕ) → Increase xs → AllByRecursion (λ x. x < y) xs → Increase (xs ++ y ∷ [])
   rise_more [] y h k = (tt, tt)
   rise_more (x ∷ xs) y h k = (all_both (λ z. x < z) xs (y ∷ []) h.0 (k.0, tt), rise_more xs y h.1 k.1)
 
@@ -117,15 +120,19 @@ module _ (n : Variables) (values : List (Option Bool)) where
   below : (count : ℕ) → AllByRecursion (λ l. variable l < count) (named_to n values count)
   below count = named_each (λ l. variable l < count) count (λ u v lt e. (let s = coded_variable u (value_in n values v) in omega arith))
 
-  rise_lits : (xs : List ℕ) (u : ℕ) (o : Option ℕ) → Rise (names_of (map named_literal xs)) → AllByRecursion (λ x. x < u + 1) (names_of (map named_literal xs)) → Rise (names_of (map named_literal (xs ++ name_literal n values u o)))
-  rise_lits xs u None h k = subst (λ ys. Rise (names_of (map named_literal ys))) (sym (append-nil xs)) h
-  rise_lits xs u (Some v) h k = subst Rise (sym (names_in_both xs (coded u (value_in n values v) ∷ [])))
-      (subst (λ w. Rise (names_of (map named_literal xs) ++ (w + 1) ∷ [])) (sym (coded_variable u (value_in n values v))) (rise_more (names_of (map named_literal xs)) (u + 1) h k))
+  rise_lits : (xs : List ℕ) (u : ℕ) (o : Option ℕ) → Increase (names_of (map named_literal xs)) → AllByRecursion (λ x. x < u + 1) (names_of (map named_literal xs)) → Increase (names_of (map named_literal (xs ++ name_literal n values u o)))
+  rise_lits xs u None h k = subst (λ ys. Increase (names_of (map named_literal ys))) (sym (append-nil xs)) h
+  rise_lits xs u (Some v) h k = subst Increase (sym (names_in_both xs (coded u (value_in n values v) ∷ [])))
+      (subst (λ w. Increase (names_of (map named_literal xs) ++ (w + 1) ∷ [])) (sym (coded_variable u (value_in n values v))) (rise_more (names_of (map named_literal xs)) (u + 1) h k))
 
-  pub line_rises : (count : ℕ) → Rise (names_of (map named_literal (named_to n values count)))
-  line_rises zero = subst (λ ys. Rise (names_of (map named_literal ys))) (sym (named_zero n values)) tt
-  line_rises (suc count) = subst (λ ys. Rise (names_of (map named_literal ys))) (sym (named_grown count))
+  pub line_rises : (count : ℕ) → Increase (names_of (map named_literal (named_to n values count)))
+  line_rises zero = subst (λ ys. Increase (names_of (map named_literal ys))) (sym (named_zero n values)) tt
+  line_rises (suc count) = subst (λ ys. Increase (names_of (map named_literal ys))) (sym (named_grown count))
       (rise_lits (named_to n values count) count (global_of n count) (line_rises count) (names_below count (named_to n values count) (below count)))
+
+names_each : (P : ℕ → Type 0) (ls : List ℕ) → AllByRecursion (λ l. P (variable l + 1)) ls → AllByRecursion P (names_of (map named_literal ls))
+names_each P [] h = tt
+names_each P (l ∷ ls) h = (h.0, names_each P ls h.1)
 
 pub mapped_each : (P : Literal → Type 0) (ls : List ℕ) → AllByRecursion (λ l. P (named_literal l)) ls → AllByRecursion P (map named_literal ls)
 mapped_each P [] h = tt
@@ -153,14 +160,14 @@ module _ (n : Variables) (steps : List Step) (values : List (Option Bool)) (stan
         named u i q (Some v) g e = subst (λ name. Among name (names_of (map named_literal line))) (ap (λ w. w + 1) (coded_variable u (value_in n values v)) ∙ sym q)
             (named_among (coded u (value_in n values v)) line (named_has n values (names_used n) u v (some_within n.global_from_user.fwd u v g) g))
 
-    lists : ListsNames j (map named_literal line)
-    lists = record {
-      rising = line_rises n values (names_used n);
-      all = lists_all;
-      only = mapped_each (λ l. (i : ℕ) × (identity_of j l.name ≡ Some i)) line
-          (named_each n values (λ l. (i : ℕ) × (identity_of j (named_literal l).name ≡ Some i)) (names_used n) (λ u v lt e.
-          let r = reads_at n steps j live agree u v (value_in n values v) stands e in (r.identity, r.in_use)));
-    }
+    lists_only : AllByRecursion (λ name. (i : ℕ) × (identity_of j name ≡ Some i)) (names_of (map named_literal line))
+    lists_only = names_each (λ name. (i : ℕ) × (identity_of j name ≡ Some i)) line
+        (named_each n values (λ l. (i : ℕ) × (identity_of j (variable l + 1) ≡ Some i)) (names_used n) (λ u v lt e.
+        let r = reads_at n steps j live agree u v (value_in n values v) stands e in (r.identity, r.in_use)))
+
+    -- the names in use, in order
+    lists : names_of (map named_literal line) ≡ map (λ n. n.name) j.in_use
+    lists = lists_in_use j (names_of (map named_literal line)) agree.judged.increasing (line_rises n values (names_used n)) lists_all lists_only
 
     read : AllRead j (variable_of steps) (map named_literal line) (model_to n values (variables_used n))
     read = mapped_each (λ l. (code : ℕ) × Reads j (variable_of steps) l code × Among code (model_to n values (variables_used n))) line
@@ -172,13 +179,10 @@ module _ (n : Variables) (steps : List Step) (values : List (Option Bool)) (stan
         )))
 
     -- the line of a model that may be shown is right
-    pub model_line : (asked : List ℕ) → May (session_after steps) (Model (model_to n values (variables_used n))) → AllByRecursion (λ l. Among l line) asked → IsModelLine j (map named_literal asked) (map named_literal line)
-    model_line asked may among = record {
-      lists = lists;
-      right = λ e. named_models_are_right j (variable_of steps) steps (model_to n values (variables_used n)) (map named_literal asked) (map named_literal line)
-          (means_of n steps j live agree) (stands.may, may) e read
-          (mapped_each (λ l. Among l (map named_literal line)) asked (each_among asked among));
-    }
+    pub model_line : (asked : List ℕ) → May (session_after steps) (Model (model_to n values (variables_used n))) → AllByRecursion (λ l. Among l line) asked → IsRightModel j (map named_literal asked) (map named_literal line)
+    model_line asked may among =
+        named_models_are_right j (variable_of steps) steps (model_to n values (variables_used n)) (map named_literal asked) (map named_literal line)
+        (means_of n steps j live agree) (stands.may, may) lists read (mapped_each (λ l. Among l (map named_literal line)) asked (each_among asked among))
       where
         each_among : (xs : List ℕ) → AllByRecursion (λ l. Among l line) xs → AllByRecursion (λ l. Among (named_literal l) (map named_literal line)) xs
         each_among [] h = tt

@@ -25,8 +25,8 @@ use Rattle.sat_solver.specs.loading.Alike.{LooksAlike}
 use Rattle.sat_solver.proofs.lemmas.loading.AlikeLemmas.{search_alike}
 use Rattle.sat_solver.specs.names.Adding.{named_literal, Image, Images, GlobalImages}
 use Rattle.sat_solver.specs.names.Calls.{Stands, Does}
-use Rattle.sat_solver.specs.names.Checking.{variable_of}
-use Rattle.sat_solver.specs.names.Expected.{Expected, Spells}
+use Rattle.sat_checker.specs.matching.Checking.{variable_of}
+use Rattle.sat_checker.specs.matching.Expected.{Expected, Spells}
 use Rattle.sat_solver.specs.names.Models.{is_true, value_by, value_in}
 use Rattle.sat_solver.specs.names.Failing.{Limits}
 use Rattle.sat_solver.specs.names.Room.{HasRoom}

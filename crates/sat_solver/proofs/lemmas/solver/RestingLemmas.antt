@@ -4,7 +4,7 @@ use Rattle.sat_checker.specs.declared.processing.ProofProcessor.{Ghosts}
 use Rattle.sat_parts.specs.prop.Values.{IsTrueLit}
 use Rattle.sat_solver.specs.session.ProofView.{session_of}
 use Rattle.sat_solver.proofs.lemmas.session.NamedLemmas.{named_unsat_is_right}
-use Rattle.sat_solver.specs.names.Checking.{variable_of}
+use Rattle.sat_checker.specs.matching.Checking.{variable_of}
 use Rattle.sat_solver.specs.declared.solver.Solver.{Solver}
 use Rattle.sat_solver.specs.declared.solver.state.State.TheVariants as states
 use Rattle.sat_solver.specs.solver.Whole.{IsWhole, StateSays, steps_in, line_in}

@@ -35,12 +35,12 @@ use Rattle.sat_solver.specs.search.Bumping.{AreDecays}
 use Rattle.sat_solver.specs.search.Turns.{IsComplete}
 use Rattle.sat_solver.specs.search.Solving.{Ended, values_in}
 use Rattle.sat_solver.specs.names.Adding.{named_literal, Images, GlobalImages}
-use Rattle.sat_solver.specs.names.Checking.{variable_of}
-use Rattle.sat_solver.specs.names.Expected.{Shows, SameSet}
+use Rattle.sat_checker.specs.matching.Checking.{variable_of}
+use Rattle.sat_checker.specs.matching.Expected.{Shows, SameSet}
 use Rattle.sat_solver.specs.names.Models.{named_to}
 use Rattle.sat_solver.specs.names.Variables.{names_used}
 use Rattle.sat_solver.specs.names.Calls.{Stands, Agree, Does}
-use Rattle.sat_solver.specs.names.Live.{Live}
+use Rattle.sat_checker.specs.matching.Bridge.{Live}
 use Rattle.sat_solver.specs.declared.error.SolverError.{SolverError}
 use Rattle.sat_solver.specs.declared.error.SolverError.TheVariants as errors
 use Rattle.sat_solver.specs.declared.names.Variables.{Variables}

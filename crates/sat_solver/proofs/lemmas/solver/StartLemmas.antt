@@ -18,8 +18,8 @@ use Rattle.sat_solver.specs.search.Joint.{IsSearch}
 use Rattle.sat_solver.specs.names.Variables.{AreTidy, AreSaid, says_unit, mode_in, user_of, data_at, global_of, solver_of, names_used, variables_used}
 use Rattle.sat_solver.specs.names.Live.{given_of}
 use Rattle.sat_solver.specs.names.Calls.{Stands, Agree}
-use Rattle.sat_solver.specs.names.ProofChecking.{the_checking}
-use Rattle.sat_solver.proofs.lemmas.names.BridgeLemmas.{begun}
+use Rattle.sat_checker.specs.matching.ProofChecking.{the_checking}
+use Rattle.sat_checker.proofs.lemmas.matching.Bridge.{begun}
 use Rattle.sat_solver.specs.solver.Joined.{IsJoined}
 use Rattle.sat_solver.specs.solver.Whole.{IsWholeOf}
 use Rattle.sat_solver.specs.declared.solver.state.State.TheVariants as states
@@ -72,6 +72,7 @@ module _ (n : Variables) (tidy : AreTidy n) (none : variables_used n ≡ 0) wher
       distinct = λ v w i e f. absurd (none-some i e);
       identities = omega (arith, none);
       modes_count = refl;
+      increasing = tt;
       modes = λ v i e. absurd (none-some i e);
     };
     bridge = begun the_checking;

@@ -36,7 +36,7 @@ use Rattle.sat_solver.specs.declared.config.SolverConfig.{SolverConfig}
 use Rattle.sat_solver.specs.session.LiveClauses.{with_var}
 use Rattle.sat_solver.specs.parts.Assumed.{AreThere}
 use Rattle.sat_solver.specs.names.Calls.{Stands, Does}
-use Rattle.sat_solver.specs.names.Expected.{Adds, bringing}
+use Rattle.sat_checker.specs.matching.Expected.{Unknown, Adds, bringing}
 use Rattle.sat_solver.specs.names.Refusing.{names_in}
 use Rattle.sat_solver.specs.names.Naming.{Extends}
 use Rattle.sat_solver.specs.names.Search.{Gives}
@@ -231,21 +231,21 @@ module _ {W L : Type 0} {G : Ghosts L} (seen : W → Writer) (n n' : Variables) 
   asked_between = session_after assumes.between
 
   asked_names : (v : ℕ) → asked_between.solver_names v ≡ solver_of n' v
-  asked_names v = ap (λ ss. (session_after ss).solver_names v) (sym assumes.written) ∙ assumes.does.stands.said.solver_names v
+  asked_names v = ap (λ ss. (session_after ss).solver_names v) (sym assumes.written) ∙ (assumes.does Unknown).stands.said.solver_names v
 
   pub asked_vacant : AreVacant a.search.parts (length n'.globals.items) t.given.items
-  asked_vacant = given_vacant n n' (session_of a.proof) asked_between t.given.items joined.stands.tidy assumes.does.stands.tidy joined.stands.said asked_names assumes.gives assumes.search a.search joined.shares joined.sound.search
+  asked_vacant = given_vacant n n' (session_of a.proof) asked_between t.given.items joined.stands.tidy (assumes.does Unknown).stands.tidy joined.stands.said asked_names assumes.gives assumes.search a.search joined.shares joined.sound.search
 
   module _ (c1 : Search) (indexed : AreIndexed n'.globals.items t.given.items a.search c1) where
     shares_asked : SharesIndices n' c1
-    shares_asked = shares_given n n' (session_of a.proof) asked_between t.given.items joined.stands.tidy assumes.does.stands.tidy joined.stands.said asked_names assumes.gives assumes.search a.search joined.shares c1 indexed
+    shares_asked = shares_given n n' (session_of a.proof) asked_between t.given.items joined.stands.tidy (assumes.does Unknown).stands.tidy joined.stands.said asked_names assumes.gives assumes.search a.search joined.shares c1 indexed
 
     search_asked : IsSearch asked_between c1
     search_asked = indexed.search (session_of a.proof) asked_between joined.sound.search
-        (gives_names n n' (session_of a.proof) asked_between t.given.items joined.stands.tidy assumes.does.stands.tidy joined.stands.said asked_names assumes.gives assumes.search a.search joined.shares)
+        (gives_names n n' (session_of a.proof) asked_between t.given.items joined.stands.tidy (assumes.does Unknown).stands.tidy joined.stands.said asked_names assumes.gives assumes.search a.search joined.shares)
 
     over_order : AreOver n' t.order.items
-    over_order = images_over n' user t.order.items assumes.does.stands.tidy assumes.images
+    over_order = images_over n' user t.order.items (assumes.does Unknown).stands.tidy assumes.images
 
     pub asked_there : AreThere t.order.items c1.parts
     asked_there = over_below n' c1 t.order.items shares_asked over_order
@@ -260,20 +260,20 @@ module _ {W L : Type 0} {G : Ghosts L} (seen : W → Writer) (n n' : Variables) 
         sound = record {
           keeps = keeps;
           search = subst (λ ss. IsSearch (session_after ss) c2) (sym (assumes.written ∙ ap (λ ks. Assumptions ks ∷ assumes.between) same_lits))
-              (assumed.search asked_between search_asked (over_named n' c1 asked_between t.order.items assumes.does.stands.tidy asked_names shares_asked over_order));
+              (assumed.search asked_between search_asked (over_named n' c1 asked_between t.order.items (assumes.does Unknown).stands.tidy asked_names shares_asked over_order));
           locals = joined.sound.locals;
           mids = joined.sound.mids;
         };
-        stands = assumes.does.stands;
+        stands = (assumes.does Unknown).stands;
         shares = subst (SharesIndices n') (sym assumed.same) (record { size = shares_asked.size; few = shares_asked.few; below = shares_asked.below; same = shares_asked.same });
       };
       asked = record {
         images = assumes.images;
         lits = assumed.lits;
-        spelt = global_images_of n' user t assumes.does.stands.tidy assumes.images assumes.globals;
+        spelt = global_images_of n' user t (assumes.does Unknown).stands.tidy assumes.images assumes.globals;
         globals = sym (ap (λ ss. (session_after ss).assumed) assumes.written);
       };
     }
       where
         same_lits : t.globals.items ≡ map (with_var (global_in c1)) t.order.items
-        same_lits = assumes.globals ∙ over_same n' c1 t.order.items assumes.does.stands.tidy shares_asked over_order
+        same_lits = assumes.globals ∙ over_same n' c1 t.order.items (assumes.does Unknown).stands.tidy shares_asked over_order

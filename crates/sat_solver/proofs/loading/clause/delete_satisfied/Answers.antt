@@ -2,7 +2,7 @@ use Rattle.std.proofs.Common.{◌≡◌, ◌∙◌, List, ◌∷◌, ℕ, map, s
 use Rattle.sat_base.specs.steps.Steps.{DeleteClause, Satisfied}
 use Rattle.sat_solver.specs.session.LiveClauses.{with_var}
 use Rattle.sat_solver.specs.session.ProofView.{steps_of}
-use Rattle.sat_solver.proofs.lemmas.session.WritingLemmas.{ok_part}
+use Rattle.sat_solver.proofs.lemmas.session.CuttingLemmas.{ok_part}
 use Rattle.sat_solver.specs.joint.Naming.{global_of}
 use Rattle.sat_solver.proofs.lemmas.search.GoingLemmas.{goes_starved, goes_step, goes_broken}
 use Rattle.sat_solver.proofs.loading.clause.delete_satisfied.Goals as goal

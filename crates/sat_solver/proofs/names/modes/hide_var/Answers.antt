@@ -1,6 +1,6 @@
 use Rattle.std.proofs.Common.{◌+◌, [], ◌∷◌, ◌++◌, map}
 use Rattle.sat_base.specs.script.Judge.{without_name, bring_in, new_names}
-use Rattle.sat_solver.specs.names.Expected.{NewName, NoName}
+use Rattle.sat_checker.specs.matching.Expected.{NewName, NoName}
 use Rattle.sat_solver.proofs.lemmas.names.Doing.{does_both, ok_after}
 use Rattle.sat_solver.proofs.lemmas.names.Giving.{keeps_both, alike_unseen, alike_both, ok_alike, ok_others, ok_fresh, ok_units}
 use Rattle.sat_solver.proofs.lemmas.names.CameLemmas.{came_then}

@@ -1,7 +1,7 @@
 use Rattle.std.proofs.Common.{◌∙◌, ◌+◌, [], map}
 use Rattle.sat_base.specs.script.Judge.{with_mode, bring_in, new_names}
 use Rattle.sat_solver.specs.names.Variables.{judged_mode}
-use Rattle.sat_solver.specs.names.Expected.{NewName}
+use Rattle.sat_checker.specs.matching.Expected.{NewName}
 use Rattle.sat_solver.proofs.lemmas.names.Doing.{ok_both}
 use Rattle.sat_solver.proofs.lemmas.names.Giving.{ok_unseen, ok_others, ok_fresh}
 use Rattle.sat_solver.proofs.lemmas.names.CameLemmas.{came_then}

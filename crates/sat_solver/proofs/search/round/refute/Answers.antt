@@ -3,7 +3,7 @@ use Rattle.sat_base.specs.steps.Steps.{Step, AtClause}
 use Rattle.sat_parts.specs.clause.Db.{live_refs}
 use Rattle.sat_solver.specs.session.Session.{MayDerive, session_after}
 use Rattle.sat_solver.specs.session.ProofView.{steps_of, session_of}
-use Rattle.sat_solver.proofs.lemmas.session.WritingLemmas.{ok_part}
+use Rattle.sat_solver.proofs.lemmas.session.CuttingLemmas.{ok_part}
 use Rattle.sat_solver.specs.parts.Whole.{state}
 use Rattle.sat_solver.specs.joint.Naming.{global_of}
 use Rattle.sat_solver.specs.joint.Laws.{named_hashes}

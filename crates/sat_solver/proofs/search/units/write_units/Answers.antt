@@ -4,7 +4,7 @@ use Rattle.sat_base.specs.steps.Steps.{UnitClauses}
 use Rattle.sat_parts.specs.clause.Db.{live_refs}
 use Rattle.sat_solver.specs.session.Session.{MayProve, session_after}
 use Rattle.sat_solver.specs.session.ProofView.{session_of}
-use Rattle.sat_solver.proofs.lemmas.session.WritingLemmas.{ok_part}
+use Rattle.sat_solver.proofs.lemmas.session.CuttingLemmas.{ok_part}
 use Rattle.sat_solver.specs.acceptance.TrailUnits.{written_units}
 use Rattle.sat_solver.specs.parts.Whole.{state}
 use Rattle.sat_solver.specs.joint.Naming.{global_of}

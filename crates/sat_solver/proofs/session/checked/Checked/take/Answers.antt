@@ -1,13 +1,14 @@
-use Rattle.std.proofs.Common.{◌∙◌, Ok, sym}
+use Rattle.std.proofs.Common.{◌∙◌, Ok, sym, ap, refl}
 use Rattle.std.proofs.lemmas.Result.{err_from_is_err_and}
 use Rattle.sat_base.specs.steps.StepViews.{step_of}
+use Rattle.sat_solver.specs.session.Widths.{narrowed}
 use Rattle.sat_solver.proofs.lemmas.session.CheckedLemmas.{step_fed, width_taken, width_untaken}
 use Rattle.sat_solver.proofs.session.checked.Checked.take.Goals as goal
 
 pub returns : goal.returns
 returns g c =
-    step_fed g.P.ProofProcessor.takes c.args.self.now (step_of c.args.step.now) c.feed_cut.result c.take_width.new.self c.feed_cut.new.self (sym c.is_end.ensures ∙ c.if-is_end.false) c.requires.width c.in_ok-take_width.ensures.takes c.feed_cut.ensures.bits
-    c.feed_cut.ensures.feeds
+    step_fed g.P.ProofProcessor.takes c.args.self.now (step_of c.args.step.now) c.feed.result c.take_width.new.self (record c.take_width.new.self { checker = c.feed.new.checker }) (step_of c.args.cut.now) (sym c.is_end.ensures ∙ c.if-is_end.false) c.requires.width c.in_ok-take_width.ensures.takes refl
+    (c.requires.cut ∙ ap (λ w. narrowed w (step_of c.args.step.now)) (sym c.in_ok-take_width.ensures.bits)) c.feed.ensures
 
 pub returns-then-is_end : goal.returns-then-is_end
 returns-then-is_end g c = width_taken g.P.ProofProcessor.takes c.args.self.now (step_of c.args.step.now) (Ok tt) c.take_width.new.self (sym c.is_end.ensures ∙ c.if-is_end.true) c.in_ok-take_width.ensures.takes

@@ -1,4 +1,6 @@
+use Rattle.std.proofs.Common.{ap, is_some}
 use Rattle.sat_base.specs.steps.StepViews.{step_of}
+use Rattle.sat_solver.specs.session.MadeView.{listed_in}
 use Rattle.sat_solver.proofs.lemmas.session.CheckedLemmas.{lost_fed, taken_fed, failed_fed, taken_cause, taken_why}
 use Rattle.sat_solver.proofs.session.made.Made.take.Goals as goal
 
@@ -26,3 +28,6 @@ pub returns-in-Err-clause-fails : goal.returns-in-Err-clause-fails
 returns-in-Err-clause-fails g c =
     let m = c.args.self.now in
     rw c.cause_of.ensures (taken_why g.P.ProofProcessor.takes m.lost m.own m.roll.items m.history.steps m.fed c.in-Some.own c.in-Some.is c.take.new.self c.in-Err.error (step_of c.args.step.now) c.and-self.result.steps c.and-self.ensures c.if-self-2.false c.requires.may c.in-Err.ensures)
+
+pub take-requires-clause-cut : goal.take-requires-clause-cut
+take-requires-clause-cut g c = c.requires.cut (ap (λ o. is_some (listed_in o c.args.self.now.roll.items)) c.in-Some.is)

@@ -4,12 +4,12 @@ use Rattle.sat_solver.proofs.session.proof.Proof.put.Goals as goal
 
 pub returns-in-Ok-clause-puts : goal.returns-in-Ok-clause-puts
 returns-in-Ok-clause-puts g c =
-    carries_put g.W.CountedWrite.seen c.args.self.now c.in-Some.output c.write.new.self c.in-Some.is c.if-self.false (step_of c.args.step.now) c.requires.width c.with-counting.result c.with-counting.ensures c.in-Ok.ensures.format
+    carries_put g.W.CountedWrite.seen c.args.self.now c.in-Some.output c.write.new.self c.in-Some.is c.if-self.false (step_of c.args.step.now) (step_of c.args.cut.now) c.requires.width c.args.counting c.requires.counted c.requires.cut c.in-Ok.ensures.format
     c.in-Ok.ensures.puts
 
 pub returns-in-Err-Write-clause-puts : goal.returns-in-Err-Write-clause-puts
 returns-in-Err-Write-clause-puts g c =
-    stops_put g.W.CountedWrite.seen c.args.self.now c.in-Some.output c.write.new.self c.in-Some.is c.if-self.false (step_of c.args.step.now) c.requires.width c.with-counting.result c.with-counting.ensures
+    stops_put g.W.CountedWrite.seen c.args.self.now c.in-Some.output c.write.new.self c.in-Some.is c.if-self.false (step_of c.args.step.now) (step_of c.args.cut.now) c.requires.width c.args.counting c.requires.counted c.requires.cut
     (rw c.in-Err-Write.field-0-is at c.in-Err-Write.ensures.puts)
 
 pub returns-in-Err-OutOfMemory-clause-puts : goal.returns-in-Err-OutOfMemory-clause-puts

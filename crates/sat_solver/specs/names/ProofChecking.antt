@@ -1,7 +1,0 @@
--- The checker of proofs, as matching sees it.
-use Rattle.sat_checker.specs.Accepts.{Accepts, ready_after}
-use Rattle.sat_checker.specs.Stored.{is_known}
-use Rattle.sat_solver.specs.names.Checking.{Checking}
-
-abbrev pub the_checking : Checking
-the_checking = record { Accepts = λ earlier step. Accepts (ready_after earlier) step; unsat = λ earlier. (ready_after earlier).unsat; knows = λ earlier v. is_known v (ready_after earlier) }
