@@ -1,6 +1,8 @@
 //! What holds of the answers, of matching and of the checker: each law is the contract of a function that does nothing.
 ghost use Rattle.certify.specs.laws.Confirmed.{CertifiedMatches};
-ghost use Rattle.certify.specs.laws.Laws.{AskBindsNothing, AskLeavesNames, GivenIdentitiesSuffice, JudgeIsKept, MatchingIsRight, NotBoth, RepeatChangesNothing, TautologyChangesNothing, TextsTellOutcomes, TextsThatMatchAreRight};
+ghost use Rattle.certify.specs.laws.EndToEnd.{FinishedIsConfirmed};
+ghost use Rattle.certify.specs.laws.HintTexts.{RunsHaveHints};
+ghost use Rattle.certify.specs.laws.Laws.{AskBindsNothing, AskLeavesNames, MatchingIsRight, NotBoth, RepeatChangesNothing, TautologyChangesNothing, TextsTellOutcomes, TextsThatMatchAreRight};
 ghost use Rattle.sat_checker.specs.matching.Checking.{IsSound};
 ghost use Rattle.sat_checker.specs.matching.ProofChecking.{the_checking};
 ghost use Rattle.certify.specs.laws.Rows.{AnswersTwice, AskAloneText, BehindEndUncertified, ChainCertified, UnknownUncertified, ClauseAndAskCertified, ClauseAndAskExpected, ClauseAndAskMatches, ClauseAndAskRight, ClauseAndAskSteps, ClauseAndAskText, ClauseUncertified, CoreUncertified, EarlyUncertified, EmptyMatches, EmptyText, EndAlone, EndAloneUncertified, HiddenAndBackExpected, HiddenAndBackState, HiddenAtOnceState, KnownWithoutRounds, LeftOutCertified, LeftmostRefuses, MalformedText, ModelUncertified, NameOnOldVariable, NoAnswers, TwoUnitsMatches, TwoUnitsRight, TwoUnitsSteps, WitnessRefusedText, WitnessRefusesAsk};
@@ -14,6 +16,16 @@ pub fn matching_is_right()
 /// Right answers and the certificate that a run writes for them match their script, so they are confirmed.
 pub fn certified_is_confirmed()
     ensures { CertifiedMatches }
+{}
+
+/// What a finished run wrote is confirmed by whoever is given the three texts as they were written.
+pub fn finished_is_confirmed()
+    ensures { FinishedIsConfirmed }
+{}
+
+/// The certificate of a finished run has a hint text, which is proved: `convert` doesn't refuse it.
+pub fn runs_have_hints()
+    ensures { RunsHaveHints }
 {}
 
 /// What the checker of proofs accepts means what matching takes it to mean.
@@ -38,11 +50,6 @@ pub fn ask_binds_nothing()
     ensures names { AskLeavesNames }
 {}
 
-/// After every script, names in use increase and stay within the limit, and each identity has a mode.
-pub fn judge_is_kept()
-    ensures { JudgeIsKept }
-{}
-
 /// Different outcomes give different texts.
 pub fn texts_tell_outcomes()
     ensures { TextsTellOutcomes }
@@ -65,11 +72,6 @@ pub fn rows_of_names()
     ensures back { HiddenAndBackState }
     ensures back_expected { HiddenAndBackExpected }
     ensures expected { ClauseAndAskExpected }
-{}
-
-/// Identities that aren't given out are of no matter to the clauses and the names in use.
-pub fn given_identities_suffice()
-    ensures { GivenIdentitiesSuffice }
 {}
 
 /// Worked rows that match, by steps and by bytes, and their answers are right.

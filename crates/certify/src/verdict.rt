@@ -83,7 +83,7 @@ pub enum ConfirmFault {
     CertificateRead,
     #[error("OutOfMemory")]
     OutOfMemory,
-    /// The script has 2^64-1 commands or more, with the ask at its end, or a number of the checker's would be past 64 bits.
+    /// The script has more than 2^64-1 commands, with the ask at its end, or a number of the checker's would be past 64 bits.
     #[error("CounterEnd")]
     CounterEnd,
 }

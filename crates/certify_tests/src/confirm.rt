@@ -603,49 +603,6 @@ pub(crate) fn is_confirmed(alloc: Global, script: &[u8], budget: u64) -> bool {
     done && is_yes(alloc, (script, answers.as_slice(), certificate.as_slice()))
 }
 
-/// Three pigeons in two holes: pigeon k is in the first hole where 2k-1 is true, in the second where 2k is.
-const PIGEONS: &[u8] =
-    b"1 2 0\n3 4 0\n5 6 0\n-1 -3 0\n-1 -5 0\n-3 -5 0\n-2 -4 0\n-2 -6 0\n-4 -6 0\na 0\n";
-
-/// A script, and a budget.
-static RUNS: [(&[u8], u64); 24] = [
-    (PIGEONS, AMPLE),
-    (b"1 0\na 0\n-1 0\n2 0\na 0\n", AMPLE),
-    (b"", AMPLE),
-    (b"a 0\n", AMPLE),
-    (b"3 0\na 0\n", AMPLE),
-    (ROW, AMPLE),
-    (UNITS, AMPLE),
-    (UNITS, 0),
-    (b"0\na 0\n", AMPLE),
-    (b"0\na 0\n", 0),
-    (SIXTH, AMPLE),
-    (b"1 -1 0\na 0\n", AMPLE),
-    (b"1 0\na 0\n", 0),
-    (b"268435457 0\n", AMPLE),
-    (b"1 2", AMPLE),
-    (b"-0 0\n", AMPLE),
-    (b"+1 0\n", AMPLE),
-    (b"1 a 0\n", AMPLE),
-    (b"b 0\n", AMPLE),
-    (b"p cnf 2 1\n1 2 0\n%\n0\n", AMPLE),
-    (b"p cnf 0 0\n", AMPLE),
-    (b"p cnf 1 1\n1 0\na 0\n", AMPLE),
-    (b"p cnf 1 1\n268435457 0\n", AMPLE),
-    (b"1 0\n%\na 0\n", AMPLE),
-];
-
-fn runs() -> &'static [(&'static [u8], u64)] {
-    &RUNS
-}
-
-#[test]
-fn what_a_run_wrote_is_confirmed(rt: HostRuntime) {
-    for &(script, budget) in runs() {
-        assert!(rt; is_confirmed(rt.alloc(), script, budget), "{script:?}");
-    }
-}
-
 const OUT_OF_PLACE: Verdict = Verdict::No {
     ask: 1,
     why: Why::StepOutOfPlace,

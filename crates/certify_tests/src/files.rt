@@ -46,22 +46,34 @@ impl Folder<'_> {
         Ok(fs::read(self.rt, self.path_of(name)?)?.as_slice() == bytes)
     }
 
-    /// Tests whether a call ends with this status, and writes these to its output and its errors.
-    fn does(&self, call: (&str, &[&str], &str), (status, printed, told): (u8, &str, &str)) -> bool {
+    /// The status of a call, and what it writes to its output and its errors.
+    fn call(&self, call: (&str, &[&str], &str)) -> (u8, Vec<u8>, Vec<u8>) {
         let alloc = self.rt.alloc();
         let mut input = Counted::new("a 0\n".as_bytes());
         let mut output = Counted::new(Vec::new(alloc));
         let mut errors = Counted::new(Vec::new(alloc));
-        let found = program(
+        let status = program(
             self.rt,
             self.words(call),
             &mut input,
             &mut output,
             &mut errors,
         );
+        (status, output.into_inner(), errors.into_inner())
+    }
+
+    /// Tests whether a call ends with this status, and writes these to its output and its errors.
+    fn does(&self, call: (&str, &[&str], &str), (status, printed, told): (u8, &str, &str)) -> bool {
+        let (found, output, errors) = self.call(call);
         found == status
-            && output.into_inner().as_slice() == printed.as_bytes()
-            && errors.into_inner().as_slice() == told.as_bytes()
+            && output.as_slice() == printed.as_bytes()
+            && errors.as_slice() == told.as_bytes()
+    }
+
+    /// Tests whether a call ends with this status, and writes this to its output.
+    fn prints(&self, call: (&str, &[&str], &str), status: u8, printed: &str) -> bool {
+        let (found, output, _) = self.call(call);
+        found == status && output.as_slice() == printed.as_bytes()
     }
 
     fn remove(self) -> bool {
@@ -87,11 +99,7 @@ static HINTED: [(&[u8], End, &str); 5] = [
     (REFUTED, (0, "", ""), DERIVATION),
     (&[13], (0, "", ""), ""),
     // a hidden variable is deleted
-    (
-        &[2, 0, 1, 2, 0, 0, 3, 0, 13],
-        (0, "", ""),
-        "e 1 0\n",
-    ),
+    (&[2, 0, 1, 2, 0, 0, 3, 0, 13], (0, "", ""), "e 1 0\n"),
     (&[], (1, "", "certify: Refused\n"), ""),
     (
         &[5, 2, 0, 2, 6, 0, 1, 0, 0],
@@ -222,6 +230,178 @@ fn scripts_are_run_and_confirmed(rt: HostRuntime) -> io::Result<()> {
             (1, "no 1 AnswerText\n", "")
         )
     );
+    assert!(rt; folder.remove());
+    Ok(())
+}
+
+/// A script, the status of its run, the answers, and what is printed of the hint text of its certificate.
+static WORKED: [(&str, u8, &str, &str); 24] = [
+    ("", 0, "", "proved empty=0 cores=0 lines=0\n"),
+    (
+        "a 0\n",
+        0,
+        "s SATISFIABLE\nv 0\n",
+        "proved empty=0 cores=0 lines=0\n",
+    ),
+    (
+        "3 0\na 0\n",
+        0,
+        "s SATISFIABLE\nv -1 -2 3 0\n",
+        "proved empty=0 cores=0 lines=1\n",
+    ),
+    (
+        "1 2 0\na 0\n",
+        0,
+        "s SATISFIABLE\nv -1 2 0\n",
+        "proved empty=0 cores=0 lines=1\n",
+    ),
+    (
+        "1 0\n-1 0\na 0\n",
+        0,
+        "s UNSATISFIABLE\nf 0\n",
+        "proved empty=1 cores=0 lines=3\n",
+    ),
+    (
+        "0\na 0\n",
+        0,
+        "s UNSATISFIABLE\nf 0\n",
+        "proved empty=0 cores=0 lines=1\n",
+    ),
+    (
+        "-1 -2 0\na 1 2 0\n",
+        0,
+        "s UNSATISFIABLE\nf 1 2 0\n",
+        "proved empty=0 cores=1 lines=2\n",
+    ),
+    (
+        "a 1 -1 0\n",
+        0,
+        "s UNSATISFIABLE\nf 1 -1 0\n",
+        "proved empty=0 cores=1 lines=1\n",
+    ),
+    (
+        "1 2 0\n-2 0\nh 2 0\na -1 0\n",
+        0,
+        "s UNSATISFIABLE\nf -1 0\n",
+        "proved empty=0 cores=1 lines=6\n",
+    ),
+    (
+        "1 0\nh 1 0\n-1 0\na 0\n",
+        0,
+        "s SATISFIABLE\nv -1 0\n",
+        "proved empty=0 cores=0 lines=3\n",
+    ),
+    (
+        "h 2 0\na 0\n",
+        0,
+        "s SATISFIABLE\nv -1 0\n",
+        "proved empty=0 cores=0 lines=1\n",
+    ),
+    (
+        "1 0\na -1 0\na 0\n",
+        0,
+        "s UNSATISFIABLE\nf -1 0\ns SATISFIABLE\nv 1 0\n",
+        "proved empty=0 cores=1 lines=2\n",
+    ),
+    (
+        "1 0\na -1 0\n2 0\na 0\n-3 -4 0\na 3 4 0\n",
+        0,
+        "s UNSATISFIABLE\nf -1 0\ns SATISFIABLE\nv 1 2 0\ns UNSATISFIABLE\nf 3 4 0\n",
+        "proved empty=0 cores=2 lines=5\n",
+    ),
+    (
+        "1 0\na 1 0\nh 1 0\n-1 0\na 0\n",
+        0,
+        "s SATISFIABLE\nv 1 0\ns SATISFIABLE\nv -1 0\n",
+        "proved empty=0 cores=0 lines=3\n",
+    ),
+    (
+        "w 1 0\n1 0\na 0\n",
+        0,
+        "c refused 2 witness 1\ns SATISFIABLE\nv -1 0\n",
+        "proved empty=0 cores=0 lines=0\n",
+    ),
+    (
+        "w 1 0\na 1 0\n",
+        0,
+        "c refused 2 witness 1\n",
+        "proved empty=0 cores=0 lines=0\n",
+    ),
+    (
+        "w 1 0\n268435457 1 0\n",
+        0,
+        "c refused 2 limit\n",
+        "proved empty=0 cores=0 lines=0\n",
+    ),
+    (
+        "268435457 0\n",
+        0,
+        "c refused 1 limit\n",
+        "proved empty=0 cores=0 lines=0\n",
+    ),
+    (
+        "1 2",
+        1,
+        "c malformed 1\n",
+        "proved empty=0 cores=0 lines=0\n",
+    ),
+    (
+        "p cnf 2 1\n1 2 0\n%\n0\n",
+        0,
+        "s SATISFIABLE\nv -1 2 0\n",
+        "proved empty=0 cores=0 lines=1\n",
+    ),
+    (
+        "1 2 0\n1 -2 0\n-1 2 0\n-1 -2 0\na 0\n",
+        0,
+        "s UNSATISFIABLE\nf 0\n",
+        "proved empty=1 cores=0 lines=7\n",
+    ),
+    (
+        "1 2 0\n1 -2 0\n-1 2 0\n-1 -2 0\n40 0\na 0\n",
+        0,
+        "s UNSATISFIABLE\nf 0\n",
+        "proved empty=1 cores=0 lines=8\n",
+    ),
+    (
+        "1 -1 0\na 0\n",
+        0,
+        "s SATISFIABLE\nv -1 0\n",
+        "proved empty=0 cores=0 lines=0\n",
+    ),
+    (
+        "1 0\na 0\n-1 0\n2 0\na 0\n",
+        0,
+        "s SATISFIABLE\nv 1 0\ns UNSATISFIABLE\nf 0\n",
+        "proved empty=1 cores=0 lines=3\n",
+    ),
+];
+
+fn worked() -> &'static [(&'static str, u8, &'static str, &'static str)] {
+    &WORKED
+}
+
+/// Tests whether a script is answered so, confirmed, and has a hint text of which this is printed.
+fn is_worked(
+    folder: &Folder<'_>,
+    (script, status, answers, proved): (&str, u8, &str, &str),
+) -> io::Result<bool> {
+    folder.put("s", script.as_bytes())?;
+    Ok(
+        folder.prints(("run", &["s", "a", "c"], ""), status, "")
+            && folder.holds("a", answers.as_bytes())?
+            && folder.does(("confirm", &["s", "a", "c"], ""), (0, "yes\n", ""))
+            && folder.does(("hints", &["c", "h"], ""), (0, "", ""))
+            && folder.does(("check", &["h"], ""), (0, proved, "")),
+    )
+}
+
+#[test]
+fn runs_in_files_are_confirmed_and_hinted(rt: HostRuntime) -> io::Result<()> {
+    let folder = Folder::new(&rt, "worked")?;
+    for &row in worked() {
+        assert!(rt; is_worked(&folder, row)?, "{row:?}");
+    }
     assert!(rt; folder.remove());
     Ok(())
 }

@@ -15,6 +15,8 @@ mod devices;
 #[cfg(test)]
 mod files;
 #[cfg(test)]
+mod hints;
+#[cfg(test)]
 mod names;
 #[cfg(test)]
 mod pieces;

@@ -2,6 +2,7 @@
 
 use certify::answers::write::{push_literal, push_sat};
 use certify::confirm::confirm;
+use certify::run::run;
 use certify::verdict::{ConfirmFault, Verdict};
 use sat_base::{Counted, CountedWrite, Lit, ProofStep, Var, write_step};
 use sat_checker::Looks;
@@ -131,8 +132,33 @@ fn is_confirmed(alloc: Global) -> io::Result<bool> {
     Ok(are_confirmed(alloc, (&script, &answers, &certificate)))
 }
 
+/// Tests whether a run over the clause and an ask in pieces of this size is confirmed in such pieces, and what it asked for is small.
+fn is_run_in(alloc: Global, script: &[u8], piece: usize) -> bool {
+    let mut reader = by_piece(script, piece);
+    let mut answers = Counted::new(Vec::new(alloc));
+    let mut certificate = Counted::new(Vec::new(alloc));
+    let done = run(alloc, &mut reader, &mut answers, &mut certificate, 1).is_ok();
+    let answers = answers.into_inner();
+    let certificate = certificate.into_inner();
+    let texts = (script, answers.as_slice(), certificate.as_slice());
+    done && reader.into_inner().asked <= 4096 && said_in(alloc, texts, piece).0 == Ok(Verdict::Yes)
+}
+
+/// Tests whether a run over all of the literals is confirmed.
+fn is_run(alloc: Global) -> Result<bool, AllocError> {
+    let lits = literals(alloc)?;
+    let script = script_of(alloc, &lits)?;
+    Ok(is_run_in(alloc, &script, 4096))
+}
+
 #[test]
 fn no_text_is_held_whole(rt: HostRuntime) -> io::Result<()> {
     assert!(rt; is_confirmed(rt.alloc())?);
+    Ok(())
+}
+
+#[test]
+fn a_run_of_many_literals_is_confirmed(rt: HostRuntime) -> io::Result<()> {
+    assert!(rt; is_run(rt.alloc())?);
     Ok(())
 }

@@ -1,10 +1,13 @@
 //! Runs over worked texts, whole and in pieces, and each call of a device failing in turn.
 
 use crate::devices::{fails_at, in_pieces, is_printed};
+use certify::confirm::confirm;
 use certify::fault::RunFault;
 use certify::run::run;
 use certify::summary::{Answer, AskReport};
+use certify::verdict::{ConfirmFault, Verdict};
 use sat_base::{Counted, CountedRead};
+use sat_checker::Looks;
 use std::alloc::Global;
 
 const AMPLE: u64 = 1 << 20;
@@ -22,7 +25,7 @@ fn is_answered<S: CountedRead>(alloc: Global, script: &mut S, budget: u64, answe
 }
 
 /// A text, a budget, and the answers.
-static ANSWERS: [(&[u8], u64, &[u8]); 48] = [
+static ANSWERS: [(&[u8], u64, &[u8]); 52] = [
     (
         b"1 2 0\n3 4 0\n5 6 0\n-1 -3 0\n-1 -5 0\n-3 -5 0\n-2 -4 0\n-2 -6 0\n-4 -6 0\na 0\n",
         AMPLE,
@@ -30,12 +33,25 @@ static ANSWERS: [(&[u8], u64, &[u8]); 48] = [
     ),
     (b"", AMPLE, b""),
     (b"a 0\n", AMPLE, b"s SATISFIABLE\nv 0\n"),
+    // As many steps as the bound without variables has.
+    (b"a 0\n", 8, b"s SATISFIABLE\nv 0\n"),
     (b"3 0\na 0\n", AMPLE, b"s SATISFIABLE\nv -1 -2 3 0\n"),
     (FOURTH, AMPLE, b"s SATISFIABLE\nv -1 2 0\n"),
+    (FOURTH, 1, b"s SATISFIABLE\nv -1 2 0\n"),
     (SIXTH, AMPLE, b"s UNSATISFIABLE\nf 0\n"),
     (SIXTH, 2, b"s UNSATISFIABLE\nf 0\n"),
     (SIXTH, 1, b"s UNKNOWN\n"),
     (SIXTH, 0, b"s UNKNOWN\n"),
+    (
+        b"1 2 0\n1 -2 0\n-1 2 0\n-1 -2 0\n40 0\na 0\n",
+        2,
+        b"s UNSATISFIABLE\nf 0\n",
+    ),
+    (
+        b"1 0\na 0\n-1 0\n2 0\na 0\n",
+        AMPLE,
+        b"s SATISFIABLE\nv 1 0\ns UNSATISFIABLE\nf 0\n",
+    ),
     (b"1 -1 0\na 0\n", AMPLE, b"s SATISFIABLE\nv -1 0\n"),
     (b"1 0\n-1 0\na 0\n", AMPLE, b"s UNSATISFIABLE\nf 0\n"),
     (b"0\na 0\n", AMPLE, b"s UNSATISFIABLE\nf 0\n"),
@@ -139,10 +155,37 @@ fn scripts_are_answered(rt: HostRuntime) {
     }
 }
 
-/// Tests whether these are the answers in pieces of each of these sizes.
-fn is_answered_in_pieces(alloc: Global, text: &[u8], budget: u64, answers: &[u8]) -> bool {
+/// What is said of three texts in pieces of so many bytes.
+fn said_in(
+    alloc: Global,
+    (script, answers, certificate): (&[u8], &[u8], &[u8]),
+    size: usize,
+) -> Result<Verdict, ConfirmFault> {
+    confirm(
+        alloc,
+        &mut in_pieces(script, size),
+        &mut in_pieces(answers, size),
+        &mut in_pieces(certificate, size),
+        &mut Looks::new(),
+    )
+}
+
+/// Tests whether these are the answers in pieces of so many bytes, and are confirmed with what was written.
+fn is_confirmed_in(alloc: Global, text: &[u8], budget: u64, answers: &[u8], size: usize) -> bool {
+    let mut written = Counted::new(Vec::new(alloc));
+    let mut certificate = Counted::new(Vec::new(alloc));
+    let mut script = in_pieces(text, size);
+    let done = run(alloc, &mut script, &mut written, &mut certificate, budget).is_ok();
+    let written = written.into_inner();
+    let certificate = certificate.into_inner();
+    let texts = (text, written.as_slice(), certificate.as_slice());
+    done && written.as_slice() == answers && said_in(alloc, texts, size) == Ok(Verdict::Yes)
+}
+
+/// The same in pieces of each of these sizes.
+fn is_confirmed_in_pieces(alloc: Global, text: &[u8], budget: u64, answers: &[u8]) -> bool {
     for size in [1, 2, 4095, 4096] {
-        if !is_answered(alloc, &mut in_pieces(text, size), budget, answers) {
+        if !is_confirmed_in(alloc, text, budget, answers, size) {
             return false;
         }
     }
@@ -150,10 +193,41 @@ fn is_answered_in_pieces(alloc: Global, text: &[u8], budget: u64, answers: &[u8]
 }
 
 #[test]
-fn scripts_are_answered_in_pieces(rt: HostRuntime) {
+fn scripts_are_answered_and_confirmed_in_pieces(rt: HostRuntime) {
     for &(text, budget, answers) in all_answers() {
         assert!(rt;
-            is_answered_in_pieces(rt.alloc(), text, budget, answers),
+            is_confirmed_in_pieces(rt.alloc(), text, budget, answers),
+            "{text:?}"
+        );
+    }
+}
+
+/// Scripts that are cut short by a failing read, the read that fails, and the answers that were written before.
+static ANSWERED_BEFORE: [(&[u8], u64, &[u8]); 3] = [
+    (b"a 0\n1 0\na 0\n", 5, b"s SATISFIABLE\nv 0\n"),
+    (b"a 0\n1 0\na 0\n", 12, b"s SATISFIABLE\nv 0\n"),
+    (b"w 1 0\n1 0\na 0\n", 11, b"c refused 2 witness 1\n"),
+];
+
+fn answered_before() -> &'static [(&'static [u8], u64, &'static [u8])] {
+    &ANSWERED_BEFORE
+}
+
+/// Tests whether these answers are written before this read of a script.
+fn is_answered_before(alloc: Global, text: &[u8], failing: u64, answers: &[u8]) -> bool {
+    let mut written = Counted::new(Vec::new(alloc));
+    let mut certificate = Counted::new(Vec::new(alloc));
+    let mut script = fails_at(text, failing);
+    let done = run(alloc, &mut script, &mut written, &mut certificate, AMPLE);
+    done.err() == Some(RunFault::ScriptRead) && written.into_inner().as_slice() == answers
+}
+
+/// An answer is written before the next command is read.
+#[test]
+fn answers_come_before_the_next_command(rt: HostRuntime) {
+    for &(text, failing, answers) in answered_before() {
+        assert!(rt;
+            is_answered_before(rt.alloc(), text, failing, answers),
             "{text:?}"
         );
     }
@@ -174,7 +248,7 @@ fn pieces_are_small(rt: HostRuntime) {
 }
 
 /// Tests whether this is the certificate of a text.
-fn is_certified(alloc: Global, text: &[u8], certificate: &[u8]) -> bool {
+fn is_certified(alloc: Global, text: &[u8], budget: u64, certificate: &[u8]) -> bool {
     let mut answers = Counted::new(Vec::new(alloc));
     let mut written = Counted::new(Vec::new(alloc));
     let done = run(
@@ -182,21 +256,23 @@ fn is_certified(alloc: Global, text: &[u8], certificate: &[u8]) -> bool {
         &mut Counted::new(text),
         &mut answers,
         &mut written,
-        AMPLE,
+        budget,
     )
     .is_ok();
     done && written.into_inner().as_slice() == certificate
 }
 
-/// A text, and its certificate.
-static CERTIFICATES: [(&[u8], &[u8]); 8] = [
-    (b"", &[0x0d]),
+/// A text, a budget, and the certificate.
+static CERTIFICATES: [(&[u8], u64, &[u8]); 9] = [
+    (b"", AMPLE, &[0x0d]),
     (
         b"a 0\n",
+        AMPLE,
         &[0x0b, 0x00, 0x09, 0x06, 0x0a, 0x00, 0x0b, 0x00, 0x0d],
     ),
     (
         b"3 0\na 0\n",
+        AMPLE,
         &[
             0x02, 0x00, 0x01, 0x02, 0x01, 0x02, 0x02, 0x02, 0x03, 0x01, 0x02, 0x01, 0x05, 0x01,
             0x04, 0x0b, 0x00, 0x09, 0x06, 0x01, 0x02, 0x00, 0x0a, 0x03, 0x01, 0x03, 0x04, 0x0b,
@@ -205,6 +281,7 @@ static CERTIFICATES: [(&[u8], &[u8]); 8] = [
     ),
     (
         FOURTH,
+        AMPLE,
         &[
             0x02, 0x00, 0x01, 0x01, 0x00, 0x01, 0x02, 0x01, 0x02, 0x01, 0x01, 0x02, 0x05, 0x02,
             0x00, 0x02, 0x0b, 0x00, 0x09, 0x06, 0x0a, 0x02, 0x01, 0x02, 0x0b, 0x00, 0x0d,
@@ -212,6 +289,7 @@ static CERTIFICATES: [(&[u8], &[u8]); 8] = [
     ),
     (
         b"h 2 0\na 0\n",
+        AMPLE,
         &[
             0x02, 0x00, 0x01, 0x02, 0x01, 0x02, 0x02, 0x01, 0x00, 0x03, 0x01, 0x0b, 0x00, 0x09,
             0x06, 0x0a, 0x01, 0x01, 0x0b, 0x00, 0x0d,
@@ -219,6 +297,7 @@ static CERTIFICATES: [(&[u8], &[u8]); 8] = [
     ),
     (
         SIXTH,
+        AMPLE,
         &[
             0x02, 0x00, 0x01, 0x01, 0x00, 0x01, 0x02, 0x01, 0x02, 0x01, 0x01, 0x02, 0x05, 0x02,
             0x00, 0x02, 0x05, 0x02, 0x00, 0x03, 0x05, 0x02, 0x01, 0x02, 0x05, 0x02, 0x01, 0x03,
@@ -226,9 +305,21 @@ static CERTIFICATES: [(&[u8], &[u8]); 8] = [
             0x02, 0xe6, 0x01, 0x06, 0x00, 0x00, 0x01, 0x44, 0x0b, 0x00, 0x0d,
         ],
     ),
+    // By its only round the ask learns the clause 1, and no more.
+    (
+        SIXTH,
+        1,
+        &[
+            0x02, 0x00, 0x01, 0x01, 0x00, 0x01, 0x02, 0x01, 0x02, 0x01, 0x01, 0x02, 0x05, 0x02,
+            0x00, 0x02, 0x05, 0x02, 0x00, 0x03, 0x05, 0x02, 0x01, 0x02, 0x05, 0x02, 0x01, 0x03,
+            0x0b, 0x00, 0x09, 0x08, 0x06, 0x00, 0x01, 0x00, 0x02, 0x44, 0xe6, 0x01, 0x0b, 0x00,
+            0x0d,
+        ],
+    ),
     // A clause's literals are sorted by the solver's order, repeats dropped.
     (
         b"-3 1 -2 1 -3 0\n",
+        AMPLE,
         &[
             0x02, 0x00, 0x01, 0x02, 0x01, 0x02, 0x02, 0x02, 0x03, 0x01, 0x02, 0x01, 0x01, 0x00,
             0x02, 0x01, 0x01, 0x03, 0x05, 0x03, 0x05, 0x00, 0x03, 0x0d,
@@ -237,6 +328,7 @@ static CERTIFICATES: [(&[u8], &[u8]); 8] = [
     // Once `unsat` is recorded names come in, no clause is written, and nothing for an ask but its assumptions.
     (
         b"1 0\na 0\n-1 0\n2 0\na 0\n",
+        AMPLE,
         &[
             0x02, 0x00, 0x01, 0x01, 0x00, 0x01, 0x05, 0x01, 0x00, 0x0b, 0x00, 0x09, 0x06, 0x01,
             0x00, 0x00, 0x0a, 0x01, 0x00, 0x0b, 0x00, 0x01, 0x00, 0x01, 0x05, 0x01, 0x01, 0x02,
@@ -245,14 +337,17 @@ static CERTIFICATES: [(&[u8], &[u8]); 8] = [
     ),
 ];
 
-fn certificates() -> &'static [(&'static [u8], &'static [u8])] {
+fn certificates() -> &'static [(&'static [u8], u64, &'static [u8])] {
     &CERTIFICATES
 }
 
 #[test]
 fn certificates_are_written(rt: HostRuntime) {
-    for &(text, certificate) in certificates() {
-        assert!(rt; is_certified(rt.alloc(), text, certificate), "{text:?}");
+    for &(text, budget, certificate) in certificates() {
+        assert!(rt;
+            is_certified(rt.alloc(), text, budget, certificate),
+            "{text:?}"
+        );
     }
 }
 

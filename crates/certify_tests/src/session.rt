@@ -1,6 +1,7 @@
 //! A session whose asks make the search learn: answered, and confirmed.
 
 use crate::confirm::is_confirmed;
+use crate::hints::is_proved;
 use certify::run::run;
 use certify::summary::{Answer, AskReport};
 use sat_base::Counted;
@@ -64,4 +65,11 @@ fn sessions_are_answered_and_confirmed(rt: HostRuntime) {
     let last_holds = [Answer::Unsat, Answer::Sat, Answer::Sat];
     assert!(rt; is_answered(rt.alloc(), HIDDEN_SESSION, &last_holds));
     assert!(rt; is_confirmed(rt.alloc(), HIDDEN_SESSION, AMPLE));
+}
+
+/// A core of the first ask; where the last one fails, too, an empty clause.
+#[test]
+fn sessions_have_hint_texts(rt: HostRuntime) {
+    assert!(rt; is_proved(rt.alloc(), SESSION, (true, 1)));
+    assert!(rt; is_proved(rt.alloc(), HIDDEN_SESSION, (false, 1)));
 }

@@ -1,10 +1,9 @@
 pub mod Making
 pub mod Served
 pub mod ServedOnce
-pub mod Lines
 pub mod Cores
 pub mod SolverCalls
-pub mod Converted
+pub mod NamesIn
 pub mod Recorded
 pub mod Closing
 pub mod MadeCertifies

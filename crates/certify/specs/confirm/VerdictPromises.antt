@@ -1,5 +1,5 @@
 -- What a verdict promises of the texts that three readers gave.
-use Rattle.std.specs.Prelude.{ℕ, ◌+◌, ◌-◌, ◌*◌, ◌^◌, ◌≤◌, ◌≡◌, ◌↔◌, ◌⊎◌, Result, IfOk, List, [], ◌++◌, length}
+use Rattle.std.specs.Prelude.{ℕ, ◌+◌, ◌*◌, ◌^◌, ◌≤◌, ◌≡◌, ◌↔◌, ◌⊎◌, Result, IfOk, List, [], ◌++◌, length}
 use Rattle.sat_base.specs.device.Device.{Reader, GaveFront, GaveEnough, CanFollow}
 use Rattle.certify.specs.answers.Answers.{answers_text}
 use Rattle.sat_checker.specs.matching.Expected.{Outcome}
@@ -7,7 +7,8 @@ use Rattle.certify.specs.answers.RightAnswers.{AnswersAreRight}
 use Rattle.certify.specs.confirm.Matches.{Matches}
 use Rattle.sat_checker.specs.matching.ProofChecking.{the_checking}
 use Rattle.certify.specs.confirm.Walks.{LooksReach, Spends}
-use Rattle.sat_base.specs.script.Language.{reading}
+use Rattle.sat_base.specs.script.Script.{Clean, Malformed}
+use Rattle.sat_base.specs.script.Language.{Reading, reading}
 use Rattle.certify.specs.declared.verdict.Verdict.{Verdict}
 use Rattle.certify.specs.declared.verdict.Verdict.TheVariants.{Yes}
 
@@ -53,9 +54,14 @@ pub record TakesLooks (old new : Reader) (from to : ℕ) : Type 0 where
   pub bound : to ≤ from + 16 * (length text + 1) ^ 2
   pub reached : (rest : List ℕ) → CanFollow old new rest → LooksReach [] (text ++ rest) from to
 
--- the text has so many commands that they can't be counted
+-- how many numbers commands take; a malformed one has a number, too, and so has the ask at the end
+abbrev pub numbers : Reading → ℕ
+numbers (commands, Clean) = length commands
+numbers (commands, Malformed) = length commands + 1
+
+-- there are more than 2^64-1 of them
 abbrev pub HasTooMany : List ℕ → Type 0
-HasTooMany text = 2 ^ 64 - 1 ≤ length (reading text).0
+HasTooMany text = 2 ^ 64 ≤ numbers (reading text)
 
 -- a number is past 64 bits: the script has too many commands, or it happens behind steps of the certificate that are accepted
 abbrev pub HasCounterEnd : Reader × Reader → Reader × Reader → Type 0

@@ -1,10 +1,10 @@
 -- What holds of the definitions.
-use Rattle.std.specs.Prelude.{ℕ, ◌+◌, ◌≤◌, ◌<◌, length, ◌≡◌, ◌↔◌, true, false, Some, nat_lt, if◌then◌else◌, List, [], ◌∷◌}
+use Rattle.std.specs.Prelude.{ℕ, ◌≤◌, ◌≡◌, ◌↔◌, true, false, List}
 use Rattle.std.specs.List.{AllByRecursion}
-use Rattle.sat_base.specs.values.Literals.{largest, variable}
-use Rattle.sat_base.specs.values.Clauses.{Valuation, literal_true, EachHolds}
+use Rattle.sat_base.specs.values.Literals.{largest}
+use Rattle.sat_base.specs.values.Clauses.{Valuation, EachHolds}
 use Rattle.sat_base.specs.script.Script.{Literal, Command, Ask, Ending, Among, names_of}
-use Rattle.sat_base.specs.script.Judge.{Judge, Named, IsRightModel, IsRightCore, with_clause, accepted, accepted_of, after_script, start, identity_of, over}
+use Rattle.sat_base.specs.script.Judge.{Judge, IsRightModel, IsRightCore, with_clause, accepted, accepted_of, start}
 use Rattle.sat_base.specs.steps.Steps.{Step}
 use Rattle.certify.specs.answers.Answers.{answers_text}
 use Rattle.sat_checker.specs.matching.Expected.{Outcome, Sat, Unsat, Unknown}
@@ -52,36 +52,6 @@ TextsTellOutcomes =
     → AllByRecursion Prints vs → AllByRecursion Prints ws
     → answers_text commands ending vs ≡ answers_text commands ending ws
     → vs ≡ ws
-
--- each name once, increasing
-abbrev pub NamesIncrease : List Named → Type 0
-NamesIncrease [] = Unit {0}
-NamesIncrease (n ∷ ns) = AllByRecursion (λ m. n.name < m.name) ns × NamesIncrease ns
-
-pub record IsKept (j : Judge) : Type 0 where
-  pub limit : j.first_unused ≤ largest + 1
-  pub order : NamesIncrease j.in_use
-  pub used : AllByRecursion (λ n. n.name < j.first_unused) j.in_use
-  pub given : AllByRecursion (λ n. n.identity < j.next_identity) j.in_use
-  pub modes : length j.modes ≡ j.next_identity
-  pub clauses : AllByRecursion (AllByRecursion (λ l. variable l < j.next_identity)) j.clauses
-
--- After every script names increase, are below the first never used and within the limit; each identity has a mode; names in use and
--- clauses speak of identities given out.
-abbrev pub JudgeIsKept : Type 0
-JudgeIsKept = (commands : List Command) → IsKept (after_script commands start)
-
--- the valuation, false from this variable on
-abbrev pub only_below : ℕ → Valuation → Valuation
-only_below n a = λ v. if nat_lt v n then a v else false
-
--- what a valuation says of identities that aren't given out is of no matter: those that are true may be taken as finitely many
-abbrev pub GivenIdentitiesSuffice : Type 0
-GivenIdentitiesSuffice =
-    (commands : List Command) (a : Valuation)
-    → let j = after_script commands start in
-    (EachHolds a j.clauses ↔ EachHolds (only_below j.next_identity a) j.clauses)
-    × ((l : Literal) (i : ℕ) → identity_of j l.name ≡ Some i → literal_true (only_below j.next_identity a) (over j l) ≡ literal_true a (over j l))
 
 -- steps that the checker accepts and that match show right outcomes
 abbrev pub MatchingIsRight : Type 0

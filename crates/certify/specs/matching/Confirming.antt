@@ -8,7 +8,7 @@ use Rattle.sat_checker.specs.matching.ProofChecking.{the_checking}
 use Rattle.certify.specs.confirm.LeftToMatch.{Left}
 use Rattle.certify.specs.confirm.Views.{View}
 use Rattle.certify.specs.judge.Names.{Changes, Stands}
-use Rattle.certify.specs.laws.Laws.{IsKept, NamesIncrease}
+use Rattle.sat_base.specs.script.JudgeLaws.{IsKept, NamesIncrease}
 use Rattle.certify.specs.matching.Awaiting.{IsAt, MeetsDue}
 use Rattle.certify.specs.matching.Naming.{MeetsAll, naming_all, taken_by}
 use Rattle.sat_base.specs.script.Language.{Reading, Kind, OfClause, OfAsk, OfHide, OfWitness, OfSample, command_of}

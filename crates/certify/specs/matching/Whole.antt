@@ -1,11 +1,12 @@
 -- How a script is confirmed that is read as its commands are wanted, whatever would follow in the three texts.
-use Rattle.std.specs.Prelude.{ℕ, ◌+◌, ◌-◌, ◌^◌, ◌≤◌, ◌≡◌, min, true, false, List, length, Result, Ok, Err}
+use Rattle.std.specs.Prelude.{ℕ, ◌+◌, ◌-◌, ◌^◌, ◌<◌, ◌≡◌, min, true, false, List, Result, Ok, Err}
 use Rattle.sat_base.specs.declared.steps.reader.Buffers.{Buffers}
 use Rattle.sat_base.specs.declared.steps.reader.StepReader.{StepReader}
 use Rattle.sat_base.specs.device.Device.{Reader}
 use Rattle.sat_base.specs.device.Reading.{Source}
 use Rattle.sat_base.specs.script.Language.{Reading}
 use Rattle.certify.specs.confirm.Streams.{Stream, Confirms, Covers, rest_in}
+use Rattle.certify.specs.confirm.VerdictPromises.{numbers}
 use Rattle.certify.specs.matching.Confirming.{ConfirmsLast, Table, Through, table_of}
 use Rattle.certify.specs.matching.Halting.{Any, Joins}
 use Rattle.certify.specs.matching.Sessions.{answers_in, stream_in}
@@ -38,7 +39,7 @@ standing script_seen seen steps_seen script answers steps c = record {
   script = script_in script_seen script c;
   answers = answers_in seen answers c.session;
   certificate = stream_in steps_seen steps c.session.matching;
-  number = c.session.number;
+  number = c.session.number + 1;
   table = table_of c.session.matching;
 }
 
@@ -48,7 +49,7 @@ pub record GoesThrough (text : List ℕ → Reading) (old new : Standing) (reade
   pub means : Means reader left
   pub took : Took true old.script new.script
   pub counted : (total : List ℕ) → Covers new.script total
-      → old.number + length (text (rest_in total old.script)).0 ≡ new.number + length (left (rest_in total new.script)).0
+      → old.number + numbers (text (rest_in total old.script)) ≡ new.number + numbers (left (rest_in total new.script))
   pub joins : (total : List ℕ) → Covers new.script total → Joins ⊥ true (Ok tt) old.answers new.answers old.certificate new.certificate
       (Through old.number (text (rest_in total old.script)) old.table new.number (left (rest_in total new.script)) new.table)
 
@@ -76,7 +77,7 @@ Ends text (Err halt.AnswersRead) old new = Kept old.script new.script
     × (Failed old.answers new.answers × Confirms {A = Unit {0}} (Err stop.OutOfMemory) old.certificate new.certificate Any)
 Ends text (Err halt.ScriptRead) old new = Failed old.script new.script × Unsaid old new
 Ends text (Err halt.TooMany) old new = Took false old.script new.script
-    × ((total : List ℕ) → Covers new.script total → 2 ^ 64 ≤ old.number + length (text (rest_in total old.script)).0)
+    × ((total : List ℕ) → Covers new.script total → 2 ^ 64 < old.number + numbers (text (rest_in total old.script)))
     × Unsaid old new
 
 -- what is said behind so many asks, which are held at 2^64-1

@@ -1,5 +1,6 @@
 -- What a finished run has done, and why one wasn't finished.
-use Rattle.std.specs.Prelude.{ℕ, ◌+◌, ◌*◌, ◌^◌, ◌<◌, ◌≡◌, ◌≤◌, true, Option, Some, None, is_some, List, [], ◌∷◌, map, length, reverse, Result, IfOk, if◌then◌else◌}
+use Rattle.std.specs.Prelude.{ℕ, ◌+◌, ◌*◌, ◌^◌, ◌<◌, ◌≡◌, ◌≤◌, true, false, Option, Some, None, is_some, List, [], ◌∷◌, map, length, reverse, Result, IfOk, if◌then◌else◌}
+use Rattle.std.specs.List.{AllByRecursion}
 use Rattle.sat_base.specs.device.Device.{Reader, Writer, GaveEnough, Takes}
 use Rattle.sat_base.specs.script.Script.{Command, Clause, Ask, Hide, Witness, Sample, Ending, Clean, Malformed}
 use Rattle.sat_base.specs.script.Judge.{Judge, refusal_of, after_command, accepted, accepted_of, start}
@@ -7,13 +8,16 @@ use Rattle.sat_base.specs.steps.Steps.{Step, End}
 use Rattle.sat_base.specs.steps.StepText.{SpellsSteps}
 use Rattle.certify.specs.answers.Answers.{answers_text}
 use Rattle.sat_checker.specs.Accepts.{AcceptsAll}
+use Rattle.sat_checker.specs.Laws.{has_delete_var}
 use Rattle.sat_checker.specs.matching.Expected.{Outcome, Sat, Unsat, Unknown, expected}
 use Rattle.certify.specs.answers.RightAnswers.{AnswersAreRight}
 use Rattle.sat_checker.specs.matching.ProofChecking.{the_checking}
 use Rattle.sat_solver.specs.declared.session.counting.Counting.{Counting}
 use Rattle.sat_solver.specs.session.Counting.{start as uncounted, Cuts}
 use Rattle.sat_base.specs.script.Language.{reading, written}
+use Rattle.certify.specs.run.Hiding.{HidesNothing}
 use Rattle.certify.specs.run.StepsLeft.{steps_left}
+use Rattle.certify.specs.run.UnknownAsks.{EachLearns}
 use Rattle.certify.specs.serving.Certifies.{Certifies}
 use Rattle.certify.specs.serving.Stretches.{MadeFor}
 use Rattle.certify.specs.declared.fault.RunFault.{RunFault}
@@ -84,20 +88,22 @@ pub record Answers (text : List ℕ) (budget : ℕ) (summary : Summary) (answere
 -- What its certificate is to the answers: it spells steps, the oldest first, which are, in order, those of the accepted commands and of
 -- these outcomes, which took the steps that the summary reports. Each is accepted in its turn. The list has the newest first.
 -- Beside them it has such as the solver makes for commands and asks, in their places, and widths for their hashes.
-pub record Backs (text : List ℕ) (summary : Summary) (answered certified : List ℕ) : Type 0 where
-  pub outcomes : List Outcome
-  pub right : AnswersAreRight (reading text).0 outcomes
-  pub answers : answered ≡ answers_text (reading text).0 (reading text).1 outcomes
+pub record Backs (text : List ℕ) (budget : ℕ) (summary : Summary) (answered certified : List ℕ) : Type 0 where
+  pub is_answered : Answers text budget summary answered
   pub steps : List Step
   pub certificate : SpellsSteps (reverse steps) certified
   pub accepted : AcceptsAll steps
   pub certifies : Certifies the_checking steps None []
-      (expected start (accepted_of start (reading text).0) outcomes) (asked_steps summary.asks.items)
+      (expected start (accepted_of start (reading text).0) is_answered.outcomes) (asked_steps summary.asks.items)
   -- what the solver made, up to the end, and how it was written
   pub made : List Step
-  pub follows : MadeFor start [] made (accepted_of start (reading text).0) outcomes (asked_steps summary.asks.items)
+  pub follows : MadeFor start [] made (accepted_of start (reading text).0) is_answered.outcomes (asked_steps summary.asks.items)
   pub counting : Counting
   pub cuts : Cuts uncounted (End ∷ made) steps counting
+  -- each step that an unknown ask took has derived a clause that advances, which stands in the certificate
+  pub learns : EachLearns steps 0 is_answered.outcomes (asked_steps summary.asks.items)
+  -- where no accepted command hides a name, no variable is deleted
+  pub keeps : AllByRecursion HidesNothing (accepted_of start (reading text).0) → has_delete_var steps ≡ false
 
 -- WHAT THREE DEVICES SHOW OF IT
 
@@ -116,15 +122,15 @@ Answered budget summary script answers =
     × Takes answers.0 answers.1 answered × Answers text budget summary answered)
 
 -- and the certificate's writer took the certificate
-abbrev pub TookCertificate : Summary → Reader × Reader → Writer × Writer → Writer × Writer → Type 0
-TookCertificate summary script answers certificate = GaveEnough script.0 script.1 (λ text. (answered : List ℕ) × (certified : List ℕ)
-    × Takes answers.0 answers.1 answered × Takes certificate.0 certificate.1 certified × Backs text summary answered certified)
+abbrev pub TookCertificate : ℕ → Summary → Reader × Reader → Writer × Writer → Writer × Writer → Type 0
+TookCertificate budget summary script answers certificate = GaveEnough script.0 script.1 (λ text. (answered : List ℕ) × (certified : List ℕ)
+    × Takes answers.0 answers.1 answered × Takes certificate.0 certificate.1 certified × Backs text budget summary answered certified)
 
 -- the same of what three devices were and are
-abbrev pub Backed : {S A C : Type 0} → Result Summary RunFault → (S → Reader) → (A → Writer) → (C → Writer)
+abbrev pub Backed : {S A C : Type 0} → Result Summary RunFault → ℕ → (S → Reader) → (A → Writer) → (C → Writer)
     → S × A × C → S × A × C → Type 0
-Backed r script answers certificate old new =
-    IfOk r (λ s. TookCertificate s (gave script old.0 new.0) (took answers old.1 new.1) (took certificate old.2 new.2))
+Backed r budget script answers certificate old new =
+    IfOk r (λ s. TookCertificate budget s (gave script old.0 new.0) (took answers old.1 new.1) (took certificate old.2 new.2))
 
 -- no further call of the writer failed
 abbrev pub WritesKept : {W : Type 0} → (W → Writer) → W → W → Type 0

@@ -4,7 +4,7 @@ use Rattle.sat_base.specs.device.Device.{Reader, Writer, GaveEnough, ReadFails, 
 use Rattle.certify.specs.Calls.{NoneFailed, OneFailed}
 use Rattle.certify.specs.declared.fault.RunFault.{RunFault}
 use Rattle.certify.specs.declared.summary.Summary.{Summary}
-use Rattle.certify.specs.run.FinishedRun.{Answers, Backs}
+use Rattle.certify.specs.run.FinishedRun.{Backs}
 use Rattle.certify.specs.serving.Whole.{Cause}
 
 -- what was written to a text, with its certificate
@@ -13,8 +13,7 @@ pub record Wrote (text : List ℕ) (budget : ℕ) (summary : Summary) (answers c
   pub certified : List ℕ
   pub tells : Takes answers.0 answers.1 answered
   pub certifies : Takes certificate.0 certificate.1 certified
-  pub is_answered : Answers text budget summary answered
-  pub is_backed : Backs text summary answered certified
+  pub is_backed : Backs text budget summary answered certified
 
 -- no read failed
 abbrev pub NoneUnread : Reader × Reader → Type 0

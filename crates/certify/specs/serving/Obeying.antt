@@ -8,8 +8,8 @@ use Rattle.sat_checker.specs.matching.ProofChecking.{the_checking}
 use Rattle.sat_solver.specs.declared.error.SolverError.{SolverError}
 use Rattle.sat_solver.specs.names.Calls.{Agree}
 use Rattle.sat_solver.specs.names.Coming.{MayHide, MaySet}
-use Rattle.sat_solver.specs.names.Expected.{Expected, hiding, setting}
-use Rattle.sat_solver.specs.names.Live.{Live}
+use Rattle.sat_checker.specs.matching.Expected.{Expected, hiding, setting}
+use Rattle.sat_checker.specs.matching.Bridge.{Live}
 use Rattle.sat_solver.specs.session.Making.{Took}
 use Rattle.sat_solver.specs.solver.Naming.{ChangesMode}
 use Rattle.sat_solver.specs.solver.Whole.{steps_in}

@@ -1,9 +1,9 @@
 -- What holds of commands that are served.
-use Rattle.std.specs.Prelude.{ℕ, ◌+◌, ◌<◌, ◌≡◌, Some, None, List, [], ◌∷◌, ◌++◌, map}
+use Rattle.std.specs.Prelude.{ℕ, ◌+◌, ◌≡◌, Some, None, List, [], ◌∷◌, ◌++◌, map}
 use Rattle.std.specs.List.{AllByRecursion}
 use Rattle.sat_base.specs.values.Clauses.{Valuation, EachTrue, EachHolds}
 use Rattle.sat_base.specs.script.Script.{Literal, Command, Ask, Among}
-use Rattle.sat_base.specs.script.Judge.{Judge, Refusal, IsRightCore, accepted, identity_of, over, refusal_of}
+use Rattle.sat_base.specs.script.Judge.{Judge, Refusal, IsRightCore, accepted, over, refusal_of}
 use Rattle.sat_base.specs.steps.Steps.{Step}
 use Rattle.sat_checker.specs.LiteralSets.{canonical}
 use Rattle.sat_checker.specs.matching.Expected.{Outcome}
@@ -11,7 +11,6 @@ use Rattle.sat_checker.specs.matching.ProofChecking.{the_checking}
 use Rattle.certify.specs.answers.AnswerForms.{named_literals}
 use Rattle.certify.specs.answers.Answers.{refused_line, outcome_text}
 use Rattle.certify.specs.answers.RightAnswers.{IsRight}
-use Rattle.certify.specs.laws.Laws.{NamesIncrease}
 use Rattle.certify.specs.run.FinishedRun.{IsBounded, IsSpent, kind_of}
 use Rattle.certify.specs.serving.Serving.{Place, Serves, behind}
 use Rattle.certify.specs.serving.Stretches.{AskStretches, IsNoAsk, MayFor, Stretch, due_for}
@@ -40,17 +39,6 @@ AskServes = (budget : ℕ) (a : Place) (ls : List Literal) (o : Outcome) (report
     → IsBounded (accepted (Ask ls) a.judge).next_identity budget a.rounds report
     → AskStretches a.judge ls o report.steps a.steps steps
     → Serves budget a (behind a (Ask ls) steps (a.rounds + report.steps)) (Ask ls ∷ []) (outcome_text o) (report ∷ []) 0
-
--- each number is below those behind it
-abbrev pub Rising : List ℕ → Type 0
-Rising [] = Unit {0}
-Rising (x ∷ xs) = AllByRecursion (λ y. x < y) xs × Rising xs
-
--- names that rise, and are all that are in use, are these in their order
-abbrev pub NamesAreListed : Type 0
-NamesAreListed = (j : Judge) (names : List ℕ) → NamesIncrease j.in_use → Rising names
-    → ((name i : ℕ) → identity_of j name ≡ Some i → Among name names)
-    → AllByRecursion (λ name. (i : ℕ) × (identity_of j name ≡ Some i)) names → names ≡ map (λ n. n.name) j.in_use
 
 -- a core of an ask, whatever its order, is a right core once its literals are sorted
 abbrev pub CoresAreSorted : Type 0

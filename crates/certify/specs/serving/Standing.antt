@@ -4,7 +4,7 @@ use Rattle.sat_base.specs.device.Device.{Writer, Takes}
 use Rattle.sat_base.specs.script.Script.{Command}
 use Rattle.sat_base.specs.script.Judge.{Judge, Refusal, accepted, after_command, refusal_of}
 use Rattle.sat_solver.specs.names.Calls.{Agree}
-use Rattle.sat_solver.specs.names.Live.{Live}
+use Rattle.sat_checker.specs.matching.Bridge.{Live}
 use Rattle.sat_solver.specs.session.Making.{Took, Broke}
 use Rattle.sat_solver.specs.solver.Whole.{steps_in}
 use Rattle.certify.specs.Calls.{NoneFailed, OneFailed}
@@ -16,7 +16,7 @@ use Rattle.certify.specs.declared.reading.Command.{Command as Lent}
 use Rattle.certify.specs.declared.serving.session.Session.{Session}
 use Rattle.certify.specs.declared.summary.AskReport.{AskReport}
 use Rattle.certify.specs.judge.Names.{Stands}
-use Rattle.certify.specs.laws.Laws.{IsKept}
+use Rattle.sat_base.specs.script.JudgeLaws.{IsKept}
 use Rattle.certify.specs.reading.Commands.{kind_of}
 use Rattle.sat_base.specs.script.Language.{command_of}
 use Rattle.certify.specs.serving.Calls.{Faults, IsReady, proof_in}

@@ -3,24 +3,17 @@ use Rattle.std.specs.Prelude.{ℕ, ◌<◌, ◌≡◌, Bool, true, false, List, 
 use Rattle.sat_base.specs.script.Script.{Literal, Command, Clause, Ask, Hide, Witness, Sample, Among, names_of}
 use Rattle.sat_base.specs.script.Judge.{Judge, Sampled, Witnessed, accepted}
 use Rattle.sat_base.specs.steps.Steps.{Step}
-use Rattle.sat_checker.specs.matching.Checking.{Checking, is_ordered}
-use Rattle.sat_checker.specs.matching.Expected.{Outcome, Unsat, Unknown, Expected, Adds, Opens, Closes, Fits, bringing, hiding, setting, showing}
+use Rattle.sat_checker.specs.matching.Expected.{Outcome, Unsat, Unknown, Expected, Adds, Opens, Closes, bringing, hiding, setting, showing}
 use Rattle.sat_checker.specs.matching.ProofChecking.{the_checking}
+use Rattle.sat_checker.specs.matching.Traces.{HasTrace}
 use Rattle.sat_solver.specs.names.Coming.{MayAdd, MayHide, MaySet, MayTake}
 use Rattle.sat_solver.specs.search.Solving.{AdvancesIn}
 use Rattle.sat_solver.specs.session.Coming.{Comes, EndsAtUnsat}
 use Rattle.certify.specs.serving.Certifies.{IsKnown}
 
--- Between these steps and those the ordered ones are what is expected, in order and content.
-pub data Makes (k : Checking) : List Step → List Step → List Expected → Type 0 where
-  made : {s : List Step} → Makes k s s []
-  quiet : {s t : List Step} {step : Step} {es : List Expected} → is_ordered step ≡ false → Makes k (step ∷ s) t es → Makes k s t es
-  makes : {s t : List Step} {step : Step} {e : Expected} {es : List Expected}
-      → Fits (k.knows s) s e step → Makes k (step ∷ s) t es → Makes k s t (e ∷ es)
-
--- They are so, and each step may come where it stands.
+-- The ordered steps between these and those are what is expected, and each step may come where it stands.
 pub record Stretch (May : List Step → Step → Type 0) (from to : List Step) (es : List Expected) : Type 0 where
-  pub due : Makes the_checking from to es
+  pub due : HasTrace the_checking from to es
   pub comes : Comes May from to
 
 -- A COMMAND THAT IS NO ASK

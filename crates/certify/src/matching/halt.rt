@@ -13,7 +13,7 @@ pub(crate) enum Halt {
     ScriptRead,
     /// The answers' reader failed, or was read 2^48 times.
     AnswersRead,
-    /// The script has 2^64-1 commands.
+    /// A command's number would be past 64 bits.
     TooMany,
     /// What doesn't match, or a fault of the certificate's.
     Stop(Stop),

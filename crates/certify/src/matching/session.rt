@@ -1,7 +1,7 @@
 //! Confirms commands, one after another.
-ghost use Rattle.std.specs.Prelude.{◌≡◌, ◌≤◌, ℕ, List, [], true, false, OnOk};
+ghost use Rattle.std.specs.Prelude.{◌≡◌, ◌+◌, ◌^◌, ◌<◌, ◌≤◌, ℕ, List, [], true, false, OnOk};
 ghost use Rattle.sat_base.specs.device.Device.{most_reads};
-ghost use Rattle.sat_base.specs.script.Script.{Clean, Command as Spelled, Malformed};
+ghost use Rattle.sat_base.specs.script.Script.{Clean, Command as Spelled};
 ghost use Rattle.sat_base.specs.script.Judge.{start};
 ghost use Rattle.sat_base.specs.steps.Steps.{Step};
 ghost use Rattle.sat_base.specs.steps.StepReading.{reader_name, reader_source};
@@ -9,6 +9,7 @@ ghost use Rattle.sat_checker.specs.CheckerView.{kernel_of};
 ghost use Rattle.sat_checker.specs.KernelView.{looks_of};
 ghost use Rattle.certify.specs.answers.AnswerForms.{named_literals};
 ghost use Rattle.certify.specs.confirm.Streams.{Confirms, GoesOn, stream_of};
+ghost use Rattle.certify.specs.confirm.VerdictPromises.{numbers};
 ghost use Rattle.certify.specs.matching.Confirming.{ConfirmsAnswer, ConfirmsContent, ConfirmsLast, ConfirmsNext, HoldsAt, MeetsContent, MeetsOutcome, MeetsShown, table_of};
 ghost use Rattle.certify.specs.matching.Lines.{outcome_in};
 ghost use Rattle.certify.specs.matching.Sessions.{ConfirmsBoth, answers_in, stream_in};
@@ -32,7 +33,7 @@ use std::alloc::Global;
 pub(crate) struct Session {
     pub matching: Matching,
     answers: Answers,
-    /// The number of the next command.
+    /// The number of the last command that came.
     pub number: u64,
     /// The accepted asks that were confirmed wholly.
     pub asks: u64,
@@ -115,7 +116,7 @@ impl Session {
         ensures stands { (rest : List ℕ) (step : Step) → HoldsAt (table_of result.matching)
             (record { checker = kernel_of result.matching.certificate.checker; step = step; rest = rest }) start [] }
         ensures looks { looks_of (kernel_of result.matching.certificate.checker) ≡ 0 }
-        ensures number { result.number ≡ 1 }
+        ensures number { result.number ≡ 0 }
         ensures waiting { waiting result.answers.lines.ahead ≡ [] }
         ensures reads { result.answers.lines.ahead.reads ≡ 0 }
     {
@@ -125,7 +126,7 @@ impl Session {
                 names: Names::new(alloc),
             },
             answers: Answers::new(alloc),
-            number: 1,
+            number: 0,
             asks: 0,
         }
     }
@@ -216,9 +217,14 @@ impl Session {
     ) -> Result<(), Halt>
         requires goes_on { GoesOn C.seen steps.old }
         requires open_yet { IsOpen (answers_in A.seen answers.old self.old) }
-        ensures confirms { ConfirmsBoth ⊥ false result A.seen C.seen answers.old answers.new steps.old steps.new self.old self.new
-            (λ before behind u v. ConfirmsLast self.old.number (end_reading ScriptEnd.Asked) (table_of self.old.matching) before u) }
+        ensures confirms { ConfirmsBoth (2 ^ 64 < self.old.number + 1 + numbers (end_reading ScriptEnd.Asked)) false result
+            A.seen C.seen answers.old answers.new steps.old steps.new self.old self.new
+            (λ before behind u v. ConfirmsLast (self.old.number + 1) (end_reading ScriptEnd.Asked) (table_of self.old.matching) before u) }
     {
+        if self.number == u64::MAX {
+            return Err(Halt::TooMany);
+        }
+        self.number += 1;
         let ask = Command {
             kind: CommandKind::Ask,
             literals: &[],
@@ -235,10 +241,14 @@ impl Session {
     ) -> Result<(), Halt>
         requires goes_on { GoesOn C.seen steps.old }
         requires open_yet { IsOpen (answers_in A.seen answers.old self.old) }
-        ensures confirms { ConfirmsBoth ⊥ false result A.seen C.seen answers.old answers.new steps.old steps.new self.old self.new
-            (λ before behind u v. ConfirmsLast self.old.number ([], Malformed) (table_of self.old.matching) before u) }
+        ensures confirms { ConfirmsBoth (2 ^ 64 < self.old.number + 1 + numbers (end_reading ScriptEnd.Malformed)) false result
+            A.seen C.seen answers.old answers.new steps.old steps.new self.old self.new
+            (λ before behind u v. ConfirmsLast (self.old.number + 1) (end_reading ScriptEnd.Malformed) (table_of self.old.matching) before u) }
     {
-        self.answers.refuse_rest(answers, self.number)?;
+        if self.number == u64::MAX {
+            return Err(Halt::TooMany);
+        }
+        self.answers.refuse_rest(answers, self.number + 1)?;
         self.confirm_over(answers, steps)
     }
 
@@ -251,8 +261,9 @@ impl Session {
     ) -> Result<(), Halt>
         requires goes_on { GoesOn C.seen steps.old }
         requires open_yet { IsOpen (answers_in A.seen answers.old self.old) }
-        ensures confirms { ConfirmsBoth ⊥ false result A.seen C.seen answers.old answers.new steps.old steps.new self.old self.new
-            (λ before behind u v. ConfirmsLast self.old.number (end_reading end) (table_of self.old.matching) before u) }
+        ensures confirms { ConfirmsBoth (2 ^ 64 < self.old.number + 1 + numbers (end_reading end)) false result
+            A.seen C.seen answers.old answers.new steps.old steps.new self.old self.new
+            (λ before behind u v. ConfirmsLast (self.old.number + 1) (end_reading end) (table_of self.old.matching) before u) }
     {
         match end {
             ScriptEnd::Clean => self.confirm_over(answers, steps),

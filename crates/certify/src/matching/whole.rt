@@ -1,9 +1,10 @@
 //! Confirms the commands of a script as they come, and then its end.
-ghost use Rattle.std.specs.Prelude.{◌≡◌, ◌+◌, ◌-◌, ◌^◌, ◌≤◌, [], ◌∷◌, true, false, OnOk};
+ghost use Rattle.std.specs.Prelude.{◌≡◌, ◌+◌, ◌^◌, ◌<◌, ◌≤◌, [], ◌∷◌, true, false, OnOk};
 ghost use Rattle.sat_base.specs.device.Device.{most_reads};
 ghost use Rattle.sat_base.specs.script.Script.{Command as Spelled};
 ghost use Rattle.sat_base.specs.steps.StepReading.{reader_name, reader_source};
 ghost use Rattle.certify.specs.confirm.Streams.{GoesOn};
+ghost use Rattle.certify.specs.confirm.VerdictPromises.{numbers};
 ghost use Rattle.certify.specs.matching.Confirming.{ConfirmsLast, ConfirmsNext, table_of};
 ghost use Rattle.certify.specs.matching.Sessions.{ConfirmsBoth, answers_in};
 ghost use Rattle.certify.specs.matching.Whole.{Ends, script_in, standing};
@@ -38,17 +39,16 @@ impl Confirmation {
         ensures script { self.new.script ≡ self.old.script }
         ensures number { OnOk result (self.new.session.number ≡ self.old.session.number + 1) }
         ensures confirms { (c : Spelled) → HasWhole self.old.script.reader c
-            → ConfirmsBoth (2 ^ 64 - 1 ≤ self.old.session.number) true result A.seen C.seen answers.old answers.new
+            → ConfirmsBoth (2 ^ 64 ≤ self.old.session.number + 1) true result A.seen C.seen answers.old answers.new
             steps.old steps.new self.old.session self.new.session
-            (ConfirmsNext self.old.session.number c (table_of self.old.session.matching) (table_of self.new.session.matching)) }
+            (ConfirmsNext (self.old.session.number + 1) c (table_of self.old.session.matching) (table_of self.new.session.matching)) }
     {
         if self.session.number == u64::MAX {
             return Err(Halt::TooMany);
         }
-        self.session
-            .confirm_command(answers, steps, self.script.command())?;
         self.session.number += 1;
-        Ok(())
+        self.session
+            .confirm_command(answers, steps, self.script.command())
     }
 
     /// Confirms the last command, and the end.
@@ -63,9 +63,9 @@ impl Confirmation {
         requires whole { (c : Spelled) × HasWhole self.old.script.reader c }
         ensures script { self.new.script ≡ self.old.script }
         ensures confirms { (c : Spelled) → HasWhole self.old.script.reader c
-            → ConfirmsBoth (2 ^ 64 - 1 ≤ self.old.session.number) false result A.seen C.seen answers.old answers.new
-            steps.old steps.new self.old.session self.new.session
-            (λ before behind u v. ConfirmsLast self.old.session.number (onto_commands (c ∷ []) (end_reading end))
+            → ConfirmsBoth (2 ^ 64 < self.old.session.number + 1 + numbers (onto_commands (c ∷ []) (end_reading end))) false result
+            A.seen C.seen answers.old answers.new steps.old steps.new self.old.session self.new.session
+            (λ before behind u v. ConfirmsLast (self.old.session.number + 1) (onto_commands (c ∷ []) (end_reading end))
             (table_of self.old.session.matching) before u) }
     {
         self.confirm_next(answers, steps)?;

@@ -1,4 +1,4 @@
-use Rattle.std.proofs.Common.{◌≡◌, ◌∙◌, ap}
+use Rattle.std.proofs.Common.{ℕ, ◌+◌, ◌≡◌, ◌∙◌, ap}
 use Rattle.sat_base.specs.steps.StepReading.{reader_source, step_in}
 use Rattle.sat_checker.specs.CheckerView.{kernel_of}
 use Rattle.certify.specs.matching.Confirming.{table_of}
@@ -22,8 +22,8 @@ returns g c =
     let ended = c.confirm_all-ended in
     let new = standing S A C ended.new.script ended.new.answers ended.new.steps ended.new.self in
     let fresh : IsBegun checker step table = λ rest. c.new-2.ensures.stands rest step in
-    let ends = begins ended.result x a d script answers (reader_source C c.new-steps.result) checker step c.new-2.result.number table new
-    c.new.ensures.waiting c.new.ensures.reads c.new-2.ensures.waiting c.new-2.ensures.reads c.new-steps.ensures.source c.new-2.ensures.number ended.ensures.ends in
+    let ends = begins ended.result x a d script answers (reader_source C c.new-steps.result) checker step (c.new-2.result.number + 1) table new
+    c.new.ensures.waiting c.new.ensures.reads c.new-2.ensures.waiting c.new-2.ensures.reads c.new-steps.ensures.source (ap (λ (n : ℕ). n + 1) c.new-2.ensures.number) ended.ensures.ends in
     let now : C c.certificate-1.given.0 ≡ C ended.new.steps.reader.now = ap C (c.certificate-1.given.1 (cc) ∙ c.drop-steps.ensures) in
     let p = keeps_promises x a d checker step table new fresh ended.result ended.new.self.session.asks ended.new.self.script.ahead.bounded ended.new.self.session.answers.lines.ahead.bounded ended.ensures.bound ends in
     rw (now, c.conclude.ensures) record {

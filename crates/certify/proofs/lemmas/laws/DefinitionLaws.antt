@@ -7,7 +7,7 @@ use Rattle.sat_base.specs.values.Clauses.{Valuation, literal_true, clause_true}
 use Rattle.sat_base.specs.script.Script.{Literal, Among}
 use Rattle.sat_base.specs.script.Judge.{Judge, or_zero, identity_of, over, bring_all}
 use Rattle.certify.specs.laws.Laws.{NotBoth, RepeatChangesNothing, TautologyChangesNothing, AskLeavesNames}
-use Rattle.sat_checker.proofs.lemmas.matching.LiteralValues.{literal_coded, among_true, among_mapped, some_mapped, all_at, all_map, true_mapped, mapped_true}
+use Rattle.sat_base.proofs.lemmas.script.LiteralValues.{literal_coded, among_true, among_mapped, some_mapped, all_at, all_map, true_mapped, mapped_true}
 
 pub not_both : NotBoth
 not_both j ask line core m c = c.none m.valuation

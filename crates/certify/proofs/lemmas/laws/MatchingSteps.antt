@@ -10,7 +10,7 @@ use Rattle.sat_checker.specs.matching.Checking.{variable_of, assumed, is_ordered
 use Rattle.certify.specs.confirm.Matches.{Excused, Meets, met, cut, other, ordered}
 use Rattle.sat_checker.specs.matching.Expected.{Expected, NewName, NoName, Adds, Opens, Shows, Fails, Closes, Finish, Spells, EachSpelt, SameSet, new_name, no_name, adds, opens, shows, fails, closes, finish}
 use Rattle.sat_checker.specs.matching.Bridge.{Live, IsBridge}
-use Rattle.sat_checker.proofs.lemmas.matching.LiteralValues.{all_at, all_map, true_mapped, mapped_true, coded_same}
+use Rattle.sat_base.proofs.lemmas.script.LiteralValues.{all_at, all_map, true_mapped, mapped_true, coded_same}
 use Rattle.sat_checker.proofs.lemmas.matching.Bridge.{line_true, core_true, pulled, pulled_agrees, without, nothing_new, added, named_new, unnamed, deleted}
 
 -- a right core, but for its order

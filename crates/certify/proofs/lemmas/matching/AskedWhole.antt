@@ -11,7 +11,7 @@ use Rattle.certify.specs.answers.Answers.{outcome_text}
 use Rattle.certify.specs.confirm.CertificatePlaces.{CanMeet, Leads, Bars}
 use Rattle.certify.specs.confirm.Matches.{InForm}
 use Rattle.certify.specs.judge.Names.{Stands}
-use Rattle.certify.specs.laws.Laws.{NamesIncrease}
+use Rattle.sat_base.specs.script.JudgeLaws.{NamesIncrease}
 use Rattle.certify.specs.matching.Following.{StandFor}
 use Rattle.certify.specs.matching.Variables.{variable_in}
 use Rattle.certify.specs.declared.judge.names.Names.{Names}

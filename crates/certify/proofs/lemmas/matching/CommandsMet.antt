@@ -23,7 +23,7 @@ use Rattle.certify.specs.declared.matching.named.NamedVars.{NamedVars}
 use Rattle.certify.specs.declared.verdict.Why.{Why}
 use Rattle.certify.proofs.lemmas.confirm.LeftByCommand.{Rest, refused_on, refused_back, left_on, left_back, left_barred, end_on, end_back}
 use Rattle.certify.proofs.lemmas.confirm.CertificatePlaces.{nothing_met}
-use Rattle.certify.proofs.lemmas.laws.JudgeStates.{accepted_kept}
+use Rattle.sat_base.proofs.lemmas.script.JudgeStates.{accepted_kept}
 use Rattle.certify.proofs.lemmas.matching.AskedWhole.{Listed, all_listed, Within, all_within, ask_unnamed, ask_unopened, answered_on, answered_back, ask_unread}
 use Rattle.certify.proofs.lemmas.matching.NamesExpected.{names_are_expected}
 

@@ -1,5 +1,5 @@
 -- What is said of three texts, by how the confirmation of them ended.
-use Rattle.std.proofs.Common.{ℕ, ◌+◌, ◌-◌, ◌^◌, ◌<◌, ◌≤◌, ◌≡◌, ◌↔◌, ◌⊎◌, inl, inr, min, true, false, List, [], ◌++◌, length, Result, Ok, Err, refl, subst, arith}
+use Rattle.std.proofs.Common.{ℕ, ◌+◌, ◌-◌, ◌^◌, ◌<◌, ◌≤◌, ◌≡◌, ◌↔◌, ◌⊎◌, inl, inr, min, true, false, List, [], ◌++◌, Result, Ok, Err, refl, subst, arith}
 use Rattle.std.specs.Prelude.{IfOk}
 use Rattle.sat_base.specs.device.Device.{Reader, GaveEnough, ReadFails, most_reads}
 use Rattle.sat_base.specs.device.Reading.{Source, AtEnd, unread}
@@ -12,7 +12,7 @@ use Rattle.sat_checker.specs.matching.ProofChecking.{the_checking}
 use Rattle.sat_checker.proofs.lemmas.matching.CheckerIsSound.{the_checking_sound}
 use Rattle.certify.specs.confirm.Matches.{Matches}
 use Rattle.certify.specs.confirm.Streams.{Confirms, Covers, rest_in, seen_in}
-use Rattle.certify.specs.confirm.VerdictPromises.{AreRightAnswers, Exact, Given, HasCounterEnd, HasTooMany, IsSound, TakesLooks}
+use Rattle.certify.specs.confirm.VerdictPromises.{AreRightAnswers, Exact, Given, HasCounterEnd, HasTooMany, IsSound, TakesLooks, numbers}
 use Rattle.certify.specs.confirm.Views.{View}
 use Rattle.certify.specs.confirm.Walks.{LooksReach, Spends, Tries}
 use Rattle.certify.specs.matching.Confirming.{ConfirmsLast, HoldsAt, Table}
@@ -227,9 +227,9 @@ module _ (x a c : Reader) (checker : Kernel) (step : Step) (table : Table) (fres
   tells (Err halt.ScriptRead) asks e = let p = e.1.1 in (e.0, e.1.0, (p.0.0.1.failures, p.0.0.1.calls))
   tells (Err halt.TooMany) asks e =
       let p = e.2.1 in
-      (took_kept false old.script new.script e.0, e.2.0, (p.0.0.1.failures, p.0.0.1.calls), inl (given x new.script HasTooMany e.0 (λ total k. many (length (reading (rest_in total (unread x))).0) (e.1 total k))))
+      (took_kept false old.script new.script e.0, e.2.0, (p.0.0.1.failures, p.0.0.1.calls), inl (given x new.script HasTooMany e.0 (λ total k. many (numbers (reading (rest_in total (unread x)))) (e.1 total k))))
     where
-      many : (n : ℕ) → 2 ^ 64 ≤ 1 + n → 2 ^ 64 - 1 ≤ n
+      many : (n : ℕ) → 2 ^ 64 < 1 + n → 2 ^ 64 ≤ n
       many n h = omega arith
 
   -- HOW MANY LOOKS IT TOOK

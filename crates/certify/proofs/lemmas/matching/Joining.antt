@@ -204,13 +204,17 @@ replies_end {A} {B} M goes halt.TooMany a b s P R open_yet f h = absurd h
 pub too_many : {B : Type 0} (M : Type 0) (goes : Bool) (a : Source) (s : Stream) (R : List ℕ → List ℕ → View → View → Result B Why → Type 0) → (AtEnd s.source → ⊥) → M → Joins {A = B} M goes (Err halt.TooMany) a a s s R
 too_many {B} M goes a s R open_yet m = ((refl, refl), short_stays B s open_yet, m)
 
+-- one of two reasons is the other
+pub joins_as : {A : Type 0} (M N : Type 0) (goes : Bool) (r : Result A Halt) (a b : Source) (s t : Stream) (P : List ℕ → List ℕ → View → View → Result A Why → Type 0) → (M → N) → Joins M goes r a b s t P → Joins N goes r a b s t P
+joins_as M N goes (Ok x) a b s t P f h = h
+joins_as M N goes (Err (halt.Stop (stop.No why))) a b s t P f h = h
+joins_as M N goes (Err (halt.Stop stop.OutOfMemory)) a b s t P f h = h
+joins_as M N goes (Err (halt.Stop stop.Read)) a b s t P f h = h
+joins_as M N goes (Err (halt.Stop stop.CounterEnd)) a b s t P f h = h
+joins_as M N goes (Err halt.AnswersRead) a b s t P f h = h
+joins_as M N goes (Err halt.ScriptRead) a b s t P f h = absurd h
+joins_as M N goes (Err halt.TooMany) a b s t P f h = (h.0, h.1, f h.2)
+
 -- where they aren't, whatever M is
 pub joins_many : {A : Type 0} (M : Type 0) (goes : Bool) (r : Result A Halt) (a b : Source) (s t : Stream) (P : List ℕ → List ℕ → View → View → Result A Why → Type 0) → Joins ⊥ goes r a b s t P → Joins M goes r a b s t P
-joins_many M goes (Ok x) a b s t P h = h
-joins_many M goes (Err (halt.Stop (stop.No why))) a b s t P h = h
-joins_many M goes (Err (halt.Stop stop.OutOfMemory)) a b s t P h = h
-joins_many M goes (Err (halt.Stop stop.Read)) a b s t P h = h
-joins_many M goes (Err (halt.Stop stop.CounterEnd)) a b s t P h = h
-joins_many M goes (Err halt.AnswersRead) a b s t P h = h
-joins_many M goes (Err halt.ScriptRead) a b s t P h = absurd h
-joins_many M goes (Err halt.TooMany) a b s t P h = absurd h.2
+joins_many M goes r a b s t P h = joins_as ⊥ M goes r a b s t P (λ x. absurd x) h

@@ -1,11 +1,12 @@
 -- How a script is confirmed that is read as its commands are wanted.
-use Rattle.std.proofs.Common.{ℕ, ◌+◌, ◌-◌, ◌^◌, ◌≤◌, ◌≡◌, true, false, List, [], ◌∷◌, length, Result, Ok, Err, refl, sym, ◌∙◌, ap, subst, arith}
+use Rattle.std.proofs.Common.{ℕ, ◌+◌, ◌^◌, ◌<◌, ◌≤◌, ◌≡◌, true, false, List, [], ◌∷◌, Result, Ok, Err, refl, sym, ◌∙◌, ap, subst, arith}
 use Rattle.sat_base.specs.device.Reading.{Source, AtEnd}
-use Rattle.sat_base.specs.script.Script.{Command}
+use Rattle.sat_base.specs.script.Script.{Command, Clean, Malformed}
 use Rattle.sat_base.specs.script.Language.{Reading, onto_commands}
 use Rattle.sat_base.specs.script.Judge.{Judge, after_command}
 use Rattle.sat_base.specs.steps.Steps.{Step}
 use Rattle.certify.specs.confirm.Streams.{Stream, Confirms, Covers, rest_in}
+use Rattle.certify.specs.confirm.VerdictPromises.{numbers}
 use Rattle.certify.specs.confirm.Views.{View}
 use Rattle.certify.specs.declared.confirm.stop.Stop.TheVariants as stop
 use Rattle.certify.specs.declared.matching.halt.Halt.{Halt}
@@ -42,6 +43,10 @@ through_none text s reader m = record {
 
 -- ONE MORE
 
+pub numbers_more : (c : Command) (r : Reading) → numbers (onto_commands (c ∷ []) r) ≡ numbers r + 1
+numbers_more c (cs, Clean) = omega arith
+numbers_more c (cs, Malformed) = omega arith
+
 through_command : (n m k : ℕ) (script : Reading) (c : Command) (left : Reading) (t between next : Table) (p q z : List ℕ) (u v w : View) → k ≡ m + 1
     → Through n script t m (onto_commands (c ∷ []) left) between p q u v (Ok tt) → ConfirmsNext m c between next q z v w (Ok tt) → Through n script t k left next p z u w (Ok tt)
 through_command n m k script c left t between next p q z u v w e f g j earlier s =
@@ -73,7 +78,7 @@ quits a b s t P open_yet h =
     (took_kept true a b h.0, says_stop {B = ℕ} {C = Unit {0}} true stop.OutOfMemory s t (λ u v. P (rest_in total a) (rest_in total b) u v (Ok tt)) (λ y. ⊥) Any open_yet (λ more why f n. tt) (h.1 total (covers_given b)) tt)
 
 -- by what is said of the whole script
-ends_by : (M : Type 0) (text : List ℕ → Reading) (r : Result (Unit {0}) Halt) (old new : Standing) → Took false old.script new.script → (M → (total : List ℕ) → Covers new.script total → 2 ^ 64 ≤ old.number + length (text (rest_in total old.script)).0)
+ends_by : (M : Type 0) (text : List ℕ → Reading) (r : Result (Unit {0}) Halt) (old new : Standing) → Took false old.script new.script → (M → (total : List ℕ) → Covers new.script total → 2 ^ 64 < old.number + numbers (text (rest_in total old.script)))
     → ((total : List ℕ) → Covers new.script total → Joins M false r old.answers new.answers old.certificate new.certificate (λ before behind u v. ConfirmsLast old.number (text (rest_in total old.script)) old.table before u)) → Ends text r old new
 ends_by M text (Ok x) old new took many joins = (took, joins)
 ends_by M text (Err (halt.Stop (stop.No why))) old new took many joins = (took, joins)
@@ -103,13 +108,13 @@ module _ (text : List ℕ → Reading) (old mid : Standing) (reader after_reader
 
   -- the end
   module _ (new : Standing) (M : Type 0) (took : Took false mid.script new.script) (left : Reading) (is : (total : List ℕ) → Covers new.script total → through.left (rest_in total mid.script) ≡ left) where
-    whole : (r : Result (Unit {0}) Halt) → (M → 2 ^ 64 ≤ mid.number + length left.0)
+    whole : (r : Result (Unit {0}) Halt) → (M → 2 ^ 64 < mid.number + numbers left)
         → Joins M false r mid.answers new.answers mid.certificate new.certificate (λ before behind u v. ConfirmsLast mid.number left mid.table before u) → Ends text r old new
     whole r many joins = ends_by M text r old new (took_then false old.script mid.script new.script through.took took)
         (λ x total k.
         let before = covers_took false mid.script new.script total mid_open took k in
         let c = through.counted total before in
-        let l : length (through.left (rest_in total mid.script)).0 ≡ length left.0 = ap (λ (z : Reading). length z.0) (is total k) in
+        let l : numbers (through.left (rest_in total mid.script)) ≡ numbers left = ap numbers (is total k) in
         let m = many x in
         omega arith)
         (λ total k.
@@ -120,18 +125,15 @@ module _ (text : List ℕ → Reading) (old mid : Standing) (reader after_reader
         (subst (λ (x : Reading). Joins M true (Ok tt) old.answers mid.answers old.certificate mid.certificate (Through old.number (text (rest_in total old.script)) old.table mid.number x mid.table)) (is total k) (through.joins total before)) joins)
 
   pub ends_so : (new : Standing) (e : ScriptEnd) (r : Result (Unit {0}) Halt) → Arrives (next.End e) mid.script new.script reader after_reader
-      → Joins ⊥ false r mid.answers new.answers mid.certificate new.certificate (λ before behind u v. ConfirmsLast mid.number (end_reading e) mid.table before u) → Ends text r old new
-  ends_so new e r a joins = whole new ⊥ a.0 (end_reading e) (a.1 true through.left through.means) r (λ x. absurd x) joins
+      → Joins (2 ^ 64 < mid.number + numbers (end_reading e)) false r mid.answers new.answers mid.certificate new.certificate (λ before behind u v. ConfirmsLast mid.number (end_reading e) mid.table before u) → Ends text r old new
+  ends_so new e r a joins = whole new (2 ^ 64 < mid.number + numbers (end_reading e)) a.0 (end_reading e) (a.1 true through.left through.means) r (λ x. x) joins
 
   pub ends_last : (new : Standing) (e : ScriptEnd) (r : Result (Unit {0}) Halt) → Arrives (next.Last e) mid.script new.script reader after_reader
-      → ((c : Command) → HasWhole after_reader c → Joins (2 ^ 64 - 1 ≤ mid.number) false r mid.answers new.answers mid.certificate new.certificate (λ before behind u v. ConfirmsLast mid.number (onto_commands (c ∷ []) (end_reading e)) mid.table before u)) → Ends text r old new
+      → ((c : Command) → HasWhole after_reader c → Joins (2 ^ 64 < mid.number + numbers (onto_commands (c ∷ []) (end_reading e))) false r mid.answers new.answers mid.certificate new.certificate (λ before behind u v. ConfirmsLast mid.number (onto_commands (c ∷ []) (end_reading e)) mid.table before u)) → Ends text r old new
   ends_last new e r a joins =
       let k = a.2 true through.left through.means in
-      whole new (2 ^ 64 - 1 ≤ mid.number) ((a.0, a.1.0), λ h. all_over new.script a.1.1) (onto_commands (k.0 ∷ []) (end_reading e))
-      (λ total c. ap through.left (nothing_behind mid.script new.script a.0 total a.1 c) ∙ k.2) r (λ x. some x (end_reading e) k.0) (joins k.0 k.1)
-    where
-      some : (2 ^ 64 - 1 ≤ mid.number) → (r : Reading) (c : Command) → 2 ^ 64 ≤ mid.number + length (c ∷ r.0)
-      some x r c = omega arith
+      whole new (2 ^ 64 < mid.number + numbers (onto_commands (k.0 ∷ []) (end_reading e))) ((a.0, a.1.0), λ h. all_over new.script a.1.1) (onto_commands (k.0 ∷ []) (end_reading e))
+      (λ total c. ap through.left (nothing_behind mid.script new.script a.0 total a.1 c) ∙ k.2) r (λ x. x) (joins k.0 k.1)
 
   -- a command
   module _ (new : Standing) (a : Arrives next.Command mid.script new.script reader after_reader) where
@@ -145,14 +147,14 @@ module _ (text : List ℕ → Reading) (old mid : Standing) (reader after_reader
     left_is total k = ap through.left (taken_front 0 mid.script new.script a.0 total a.1 k) ∙ reaches.reads (rest_in total new.script)
 
     pub one_more : new.number ≡ mid.number + 1
-        → ((c : Command) → HasWhole after_reader c → Joins (2 ^ 64 - 1 ≤ mid.number) true (Ok tt) mid.answers new.answers mid.certificate new.certificate (ConfirmsNext mid.number c mid.table new.table)) → GoesThrough text old new after_reader
+        → ((c : Command) → HasWhole after_reader c → Joins (2 ^ 64 ≤ mid.number) true (Ok tt) mid.answers new.answers mid.certificate new.certificate (ConfirmsNext mid.number c mid.table new.table)) → GoesThrough text old new after_reader
     one_more n joins = record {
       left = reaches.after;
       means = reaches.stands;
       took = took_then true old.script mid.script new.script through.took took;
       counted = λ total k.
           let c = through.counted total (covers_took true mid.script new.script total mid_open took k) in
-          let l : length (through.left (rest_in total mid.script)).0 ≡ length (reaches.command ∷ (reaches.after (rest_in total new.script)).0) = ap (λ (z : Reading). length z.0) (left_is total k) in
+          let l : numbers (through.left (rest_in total mid.script)) ≡ numbers (reaches.after (rest_in total new.script)) + 1 = ap numbers (left_is total k) ∙ numbers_more reaches.command (reaches.after (rest_in total new.script)) in
           omega arith;
       joins = λ total k.
           let before = covers_took true mid.script new.script total mid_open took k in
@@ -164,20 +166,20 @@ module _ (text : List ℕ → Reading) (old mid : Standing) (reader after_reader
           (subst (λ (x : Reading). Joins ⊥ true (Ok tt) old.answers mid.answers old.certificate mid.certificate (Through old.number script old.table mid.number x mid.table)) (left_is total k) (through.joins total before)) (joins reaches.command reaches.whole);
     }
 
-    pub stops : (e : Halt) → ((c : Command) → HasWhole after_reader c → Joins {A = Unit {0}} (2 ^ 64 - 1 ≤ mid.number) true (Err e) mid.answers new.answers mid.certificate new.certificate (ConfirmsNext mid.number c mid.table new.table)) → Ends text (Err e) old new
-    stops e joins = ends_by (2 ^ 64 - 1 ≤ mid.number) text (Err e) old new (took_halted old.script new.script script_open (took_then true old.script mid.script new.script through.took took))
+    pub stops : (e : Halt) → ((c : Command) → HasWhole after_reader c → Joins {A = Unit {0}} (2 ^ 64 ≤ mid.number) true (Err e) mid.answers new.answers mid.certificate new.certificate (ConfirmsNext mid.number c mid.table new.table)) → Ends text (Err e) old new
+    stops e joins = ends_by (2 ^ 64 ≤ mid.number) text (Err e) old new (took_halted old.script new.script script_open (took_then true old.script mid.script new.script through.took took))
         (λ x total k.
         let c = through.counted total (covers_took true mid.script new.script total mid_open took k) in
-        let l : length (through.left (rest_in total mid.script)).0 ≡ length (reaches.command ∷ (reaches.after (rest_in total new.script)).0) = ap (λ (z : Reading). length z.0) (left_is total k) in
+        let l : numbers (through.left (rest_in total mid.script)) ≡ numbers (reaches.after (rest_in total new.script)) + 1 = ap numbers (left_is total k) ∙ numbers_more reaches.command (reaches.after (rest_in total new.script)) in
         omega arith)
         (λ total k.
         let before = covers_took true mid.script new.script total mid_open took k in
         let left = onto_commands (reaches.command ∷ []) (reaches.after (rest_in total new.script)) in
         let script = text (rest_in total old.script) in
-        let here = joins_stop (2 ^ 64 - 1 ≤ mid.number) false e mid.answers new.answers mid.certificate new.certificate (ConfirmsNext mid.number reaches.command mid.table new.table) (Nothing mid.number left mid.table)
+        let here = joins_stop (2 ^ 64 ≤ mid.number) false e mid.answers new.answers mid.certificate new.certificate (ConfirmsNext mid.number reaches.command mid.table new.table) (Nothing mid.number left mid.table)
         (λ p q u v why f j earlier s h. f j earlier s (reaches.after (rest_in total new.script)).0 (reaches.after (rest_in total new.script)).1 h) (joins reaches.command reaches.whole) in
-        joins_stop (2 ^ 64 - 1 ≤ mid.number) false e old.answers new.answers old.certificate new.certificate (Nothing old.number script old.table) (λ before behind u v. ConfirmsLast old.number script old.table before u) (λ p q u v why f. f)
-        (joins_then (2 ^ 64 - 1 ≤ mid.number) false tt (Err e) old.answers mid.answers new.answers old.certificate mid.certificate new.certificate
+        joins_stop (2 ^ 64 ≤ mid.number) false e old.answers new.answers old.certificate new.certificate (Nothing old.number script old.table) (λ before behind u v. ConfirmsLast old.number script old.table before u) (λ p q u v why f. f)
+        (joins_then (2 ^ 64 ≤ mid.number) false tt (Err e) old.answers mid.answers new.answers old.certificate mid.certificate new.certificate
         (Through old.number script old.table mid.number left mid.table) (Nothing mid.number left mid.table) (Nothing old.number script old.table)
         answers_open open_yet (λ p q z u v w y f g. through_nothing old.number mid.number script left old.table mid.table p q z u v w y f g)
-        (subst (λ (x : Reading). Joins (2 ^ 64 - 1 ≤ mid.number) true (Ok tt) old.answers mid.answers old.certificate mid.certificate (Through old.number script old.table mid.number x mid.table)) (left_is total k) (through.joins total before)) here))
+        (subst (λ (x : Reading). Joins (2 ^ 64 ≤ mid.number) true (Ok tt) old.answers mid.answers old.certificate mid.certificate (Through old.number script old.table mid.number x mid.table)) (left_is total k) (through.joins total before)) here))

@@ -7,7 +7,7 @@ use Rattle.sat_base.specs.script.Script.{Literal, names_of}
 use Rattle.sat_base.specs.script.Judge.{Judge, Named, Mode, Sampled, Witnessed, identity_in, identity_of}
 use Rattle.certify.specs.answers.AnswerForms.{HaveNames, NamesRise}
 use Rattle.certify.specs.judge.Names.{Stands, is_hidden, state_of_mode, state_of_identity, used_from, used_in}
-use Rattle.certify.specs.laws.Laws.{NamesIncrease}
+use Rattle.sat_base.specs.script.JudgeLaws.{NamesIncrease}
 use Rattle.certify.specs.declared.judge.NameState.{NameState}
 use Rattle.certify.specs.declared.judge.NameState.TheVariants as state
 use Rattle.certify.specs.declared.judge.names.Names.{Names}

@@ -1,9 +1,8 @@
 -- What is printed of texts in memory.
-use Rattle.std.proofs.Common.{ℕ, ◌≡◌, List, [], ◌++◌, Option, None, Some, Result, Ok, Err, IfOk, OnOk, refl, sym, ◌∙◌, ap, subst, append_assoc}
-use Rattle.std.specs.Prelude.{◌+◌, IfSome, is_ok, is_some, length, if◌then◌else◌}
-use Rattle.std.specs.Io.KnownBytes.{Appends}
-use Rattle.sat_base.specs.device.Device.{Reader, Writer, GaveAll, GaveEnough, Takes}
-use Rattle.sat_base.proofs.lemmas.device.Given.{enough_all, enough_told}
+use Rattle.std.proofs.Common.{ℕ, ◌≡◌, List, [], ◌++◌, Some, Result, Ok, Err, IfOk, OnOk, refl, ◌∙◌, ap, append_assoc}
+use Rattle.std.specs.Prelude.{◌+◌, is_ok, is_some, length, if◌then◌else◌}
+use Rattle.sat_base.specs.device.Device.{Reader, Writer, GaveAll, GaveEnough}
+use Rattle.sat_base.proofs.lemmas.device.Given.{enough_all}
 use Rattle.sat_base.specs.script.Script.{Ending, Clean, Malformed}
 use Rattle.sat_checker.specs.matching.ProofChecking.{the_checking}
 use Rattle.certify.specs.confirm.Matches.{Matches}
@@ -11,10 +10,10 @@ use Rattle.certify.specs.confirm.VerdictPromises.{Exact, Given}
 use Rattle.certify.specs.program.Printing.{IsAnswered, Prints, PrintsVerdict, SaysExactly, is_malformed}
 use Rattle.sat_base.specs.script.Language.{reading}
 use Rattle.certify.specs.run.StepsLeft.{largest_count}
-use Rattle.certify.specs.run.FinishedRun.{Answered, Answers, Backs, TookCertificate, asked_steps, malformed_at}
+use Rattle.certify.specs.run.FinishedRun.{TookCertificate, malformed_at}
 use Rattle.certify.specs.declared.summary.Summary.{Summary}
 use Rattle.certify.specs.declared.verdict.Verdict.{Verdict}
-use Rattle.certify.proofs.lemmas.laws.CertifiedMatches.{certified_matches}
+use Rattle.certify.proofs.lemmas.laws.FinishedTexts.{backed_matches, run_finished, told}
 
 -- WHAT IS APPENDED PIECE BY PIECE
 -- the last piece
@@ -30,10 +29,6 @@ pub seven_pieces : {E : Type 0} (r : Result (Unit {0}) E) (zero one two three fo
 seven_pieces r zero one two three four five six seven a b c d e f g h i k l m n o =
     let p = l ∙ ap (λ (x : List ℕ). x ++ d) (k ∙ ap (λ (x : List ℕ). x ++ c) (i ∙ ap (λ (x : List ℕ). x ++ b) h)) in
     last_piece r six seven g _ o (ap (λ (x : List ℕ). x ++ g) (n ∙ ap (λ (x : List ℕ). x ++ f) (m ∙ ap (λ (x : List ℕ). x ++ e) p)) ∙ joined_seven zero a b c d e f g)
-
--- what is said of a text that is told
-told : (a b : Reader) (P : List ℕ → Type 0) (text : List ℕ) → a.to_come ≡ Some text → GaveEnough a b P → P text
-told a b P text e g = subst (λ o. IfSome o P) e (enough_told a b P g)
 
 pub exactly_told : {E : Type 0} (r : Result Verdict E) (a x b y c z : Reader) (s t u : List ℕ) → a.to_come ≡ Some s → b.to_come ≡ Some t → c.to_come ≡ Some u → IfOk r (Exact (a, x) (b, y) (c, z)) → IfOk r (λ v. SaysExactly v s t u)
 exactly_told (Ok v) a x b y c z s t u d e f h =
@@ -55,26 +50,11 @@ malformed_told summary x y text {P} e h says = ap is_some (says text (told x y P
 
 -- WHAT A RUN WROTE IN MEMORY
 
-appended : (o p : Option (List ℕ)) (text items : List ℕ) → Appends o p text → o ≡ Some [] → p ≡ Some items → items ≡ text
-appended None p text items h e f = absurd (let g = e in cc)
-appended (Some xs) None text items h e f = absurd (let g = f in cc)
-appended (Some xs) (Some ys) text items h e f =
-    let no : xs ≡ [] = cc in
-    let same : ys ≡ items = cc in
-    sym same ∙ h ∙ ap (λ (zs : List ℕ). zs ++ text) no
-
 -- answers and certificate that were taken from the beginning are right, and match
 pub run_written : (summary : Summary) (x y : Reader) (a b c d : Writer) (text answers certificate : List ℕ) → x.to_come ≡ Some text
     → a.contents ≡ Some [] → b.contents ≡ Some answers → c.contents ≡ Some [] → d.contents ≡ Some certificate
-    → Answered largest_count summary (x, y) (a, b) → TookCertificate summary (x, y) (a, b) (c, d)
+    → TookCertificate largest_count summary (x, y) (a, b) (c, d)
     → IsAnswered text answers × Matches the_checking reading text answers certificate
-run_written summary x y a b c d text answers certificate e f g h i said took =
-    let q = told x y (λ t. (answered : List ℕ) × Takes a b answered × Answers t largest_count summary answered) text e said in
-    let p = told x y (λ t. (answered : List ℕ) × (certified : List ℕ) × Takes a b answered × Takes c d certified × Backs t summary answered certified) text e took in
-    let is_answered : answers ≡ p.0 = appended a.contents b.contents p.0 answers p.2.told f g in
-    let is_certified : certificate ≡ p.1 = appended c.contents d.contents p.1 certificate p.3.told h i in
-    let backs : Backs text summary answers certificate = subst (λ s. Backs text summary answers s) (sym is_certified) (subst (λ s. Backs text summary s p.1) (sym is_answered) p.4) in (
-      (summary, subst (λ s. Answers text largest_count summary s) (sym (appended a.contents b.contents q.0 answers q.1.told f g)) q.2),
-      subst (λ s. Matches the_checking reading text s certificate) (sym backs.answers)
-          (certified_matches reading text certificate backs.outcomes backs.steps (asked_steps summary.asks.items) backs.right backs.accepted backs.certifies backs.certificate),
-    )
+run_written summary x y a b c d text answers certificate e f g h i took =
+    let backs = run_finished largest_count summary x y a b c d text answers certificate e f g h i took in
+    ((summary, backs.is_answered), backed_matches largest_count summary text answers certificate backs)

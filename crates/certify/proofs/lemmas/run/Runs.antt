@@ -37,6 +37,8 @@ use Rattle.certify.specs.serving.Certifies.{Certifies, complete, ordered}
 use Rattle.certify.specs.serving.Ending.{ClosedBy, EndsRun, GivenBack, HasTarget, IsOpen, SumsUp}
 use Rattle.certify.specs.serving.Stretches.{MadeFor}
 use Rattle.certify.specs.serving.Whole.{Ends, FailsWhole, ServesWhole}
+use Rattle.certify.proofs.lemmas.run.Unhidden.{none_deletes}
+use Rattle.certify.proofs.lemmas.run.Unknown.{unknown_asks_learn}
 use Rattle.certify.proofs.lemmas.confirm.Streams.{gave_enough, read_fails}
 use Rattle.certify.proofs.lemmas.matching.Joining.{covers_given, took_kept}
 use Rattle.certify.proofs.lemmas.serving.MadeCertifies.{made_certifies}
@@ -122,7 +124,7 @@ module _ {C : Type 0} (seen : C → Writer) (budget : ℕ) (w : Writer) (s t : S
   says : serves.text ≡ answers_text (reading text).0 (reading text).1 serves.serves.outcomes
   says = sym (ap (λ (n : ℕ). answers_from (n + 1) start (reading text).0 (reading text).1 serves.serves.outcomes) (sym fresh.commands) ∙ serves.serves.says)
 
-  is_answered : Answers text budget summary serves.text
+  abbrev is_answered : Answers text budget summary serves.text
   is_answered = record {
     outcomes = serves.serves.outcomes;
     right = serves.serves.right;
@@ -146,21 +148,24 @@ module _ {C : Type 0} (seen : C → Writer) (budget : ℕ) (w : Writer) (s t : S
       let last : Certifies the_checking all None (steps_in t.solver) (Finish ∷ []) [] = subst (λ (xs : List Step). Certifies the_checking all None xs (Finish ∷ []) []) (sym made_all) (ordered tt finish complete) in
       made_certifies all followed (subst MayAll (sym made_all) may.0) last
 
-  is_backed : Backs text summary serves.text (text_in Varisat text_of.written)
+  follows : MadeFor start [] serves.took.0 (accepted_of start (reading text).0) serves.serves.outcomes (asked_steps summary.asks.items)
+  follows = subst (λ rs. MadeFor start [] serves.took.0 (accepted_of start (reading text).0) serves.serves.outcomes (asked_steps rs)) (sym asks_are)
+      (subst (λ (xs : List Step). MadeFor start [] xs (accepted_of start (reading text).0) serves.serves.outcomes (asked_steps serves.reports)) made_all followed)
+
+  is_backed : Backs text budget summary serves.text (text_in Varisat text_of.written)
   is_backed = record {
-    outcomes = serves.serves.outcomes;
-    right = serves.serves.right;
-    answers = says;
+    is_answered = is_answered;
     steps = text_of.written;
     certificate = text_of.spells refl;
     accepted = (sessions_are_accepted text_of.written (cuts_are_free (End ∷ serves.took.0) text_of.written text_of.counting text_of.cuts may).may).0;
     certifies = subst (λ rs. Certifies the_checking text_of.written None [] (expected start (accepted_of start (reading text).0) serves.serves.outcomes) (asked_steps rs)) (sym asks_are)
         (written_certifies (End ∷ serves.took.0) text_of.written text_of.counting (expected start (accepted_of start (reading text).0) serves.serves.outcomes) (asked_steps serves.reports) text_of.cuts may certified_made);
     made = serves.took.0;
-    follows = subst (λ rs. MadeFor start [] serves.took.0 (accepted_of start (reading text).0) serves.serves.outcomes (asked_steps rs)) (sym asks_are)
-        (subst (λ (xs : List Step). MadeFor start [] xs (accepted_of start (reading text).0) serves.serves.outcomes (asked_steps serves.reports)) made_all followed);
+    follows = follows;
     counting = text_of.counting;
     cuts = text_of.cuts;
+    learns = unknown_asks_learn uncounted text_of.counting follows text_of.cuts;
+    keeps = λ hides. none_deletes follows text_of.cuts hides may.0;
   }
 
   pub wrote_text : Wrote text budget summary (u, z) (w, seen given)
@@ -169,7 +174,6 @@ module _ {C : Type 0} (seen : C → Writer) (budget : ℕ) (w : Writer) (s t : S
     certified = text_in Varisat text_of.written;
     tells = subst (Takes u z) (append-nil serves.text) (writes.took_more u v z serves.text [] serves.told took);
     certifies = text_of.takes;
-    is_answered = is_answered;
     is_backed = is_backed;
   }
 
@@ -307,7 +311,6 @@ module _ (budget : ℕ) (x y : Reader) (u z a b : Writer) (given back : ℕ) whe
     certified = h.certified;
     tells = h.tells;
     certifies = unlent_takes a b given back h.certified h.certifies;
-    is_answered = h.is_answered;
     is_backed = h.is_backed;
   }
 
@@ -341,9 +344,9 @@ runs_lent seen budget x y u z a c v given back same r h =
 
 module _ (budget : ℕ) (x y : Reader) (u z a b : Writer) where
   pub answered_if : (r : Result Summary RunFault) → Runs r budget (x, y) (u, z) (a, b) → IfOk r (λ s. Answered budget s (x, y) (u, z))
-  answered_if (Ok s) h = enough_so x y (λ text. Wrote text budget s (u, z) (a, b)) (λ text. (answered : List ℕ) × Takes u z answered × Answers text budget s answered) (λ text k. (k.answered, k.tells, k.is_answered)) h.wrote
+  answered_if (Ok s) h = enough_so x y (λ text. Wrote text budget s (u, z) (a, b)) (λ text. (answered : List ℕ) × Takes u z answered × Answers text budget s answered) (λ text k. (k.answered, k.tells, k.is_backed.is_answered)) h.wrote
   answered_if (Err e) h = tt
 
-  pub backed_if : (r : Result Summary RunFault) → Runs r budget (x, y) (u, z) (a, b) → IfOk r (λ s. TookCertificate s (x, y) (u, z) (a, b))
-  backed_if (Ok s) h = enough_so x y (λ text. Wrote text budget s (u, z) (a, b)) (λ text. (answered : List ℕ) × (certified : List ℕ) × Takes u z answered × Takes a b certified × Backs text s answered certified) (λ text k. (k.answered, k.certified, k.tells, k.certifies, k.is_backed)) h.wrote
+  pub backed_if : (r : Result Summary RunFault) → Runs r budget (x, y) (u, z) (a, b) → IfOk r (λ s. TookCertificate budget s (x, y) (u, z) (a, b))
+  backed_if (Ok s) h = enough_so x y (λ text. Wrote text budget s (u, z) (a, b)) (λ text. (answered : List ℕ) × (certified : List ℕ) × Takes u z answered × Takes a b certified × Backs text budget s answered certified) (λ text k. (k.answered, k.certified, k.tells, k.certifies, k.is_backed)) h.wrote
   backed_if (Err e) h = tt

@@ -1,29 +1,25 @@
 -- An ask is served by what its solver did.
-use Rattle.std.proofs.Common.{ℕ, ◌+◌, ◌*◌, ◌^◌, ◌-◌, ◌<◌, ◌≡◌, ◌∙◌, Bool, true, false, Some, None, List, [], ◌∷◌, ◌++◌, map, refl, sym, ap, subst, arith, inl, inr, ◌⊎◌}
+use Rattle.std.proofs.Common.{ℕ, ◌+◌, ◌*◌, ◌^◌, ◌-◌, ◌<◌, ◌≡◌, ◌∙◌, Bool, true, false, None, List, [], ◌∷◌, ◌++◌, map, refl, sym, ap, subst, arith, inl, inr, ◌⊎◌}
 use Rattle.std.proofs.lemmas.Bool.{both_ways}
-use Rattle.std.proofs.lemmas.List.{map-append}
-use Rattle.std.specs.List.{AllByRecursion}
 use Rattle.sat_base.specs.device.Device.{Writer}
 use Rattle.sat_base.specs.script.Script.{Literal, Ask, names_of}
-use Rattle.sat_base.specs.script.Judge.{Judge, accepted, bring_all, identity_of, refusal_of}
+use Rattle.sat_base.specs.script.Judge.{Judge, accepted, bring_all, refusal_of}
 use Rattle.sat_base.specs.steps.Steps.{Step}
 use Rattle.sat_checker.specs.LiteralSets.{canonical}
 use Rattle.sat_checker.specs.matching.Checking.{variable_of}
-use Rattle.sat_checker.specs.matching.Expected.{Outcome, Unsat, Unknown, Expected, Opens, Fails, Closes, Fits, bringing, showing, fails}
+use Rattle.sat_checker.specs.matching.Expected.{Outcome, Unsat, Unknown, Expected, Opens, Shows, Fails, Closes, Fits, bringing, showing, fails}
 use Rattle.sat_checker.specs.matching.ProofChecking.{the_checking}
 use Rattle.sat_solver.specs.declared.solver.state.State.{State}
 use Rattle.sat_solver.specs.declared.solver.state.State.TheVariants as states
 use Rattle.sat_solver.specs.names.Calls as solver
 use Rattle.sat_solver.specs.names.Coming.{MayTake}
-use Rattle.sat_solver.specs.names.Expected as due
-use Rattle.sat_solver.specs.names.Live.{Live}
+use Rattle.sat_checker.specs.matching.Bridge.{Live}
 use Rattle.sat_solver.specs.names.Refusing.{names_in}
 use Rattle.sat_solver.specs.search.Solving.{AdvancesIn}
 use Rattle.sat_solver.specs.session.Coming.{Comes, EndsAtUnsat}
 use Rattle.sat_solver.specs.session.ProofView.{steps_of}
 use Rattle.sat_solver.specs.solver.Adding.{Assumed, Forgets}
 use Rattle.sat_solver.specs.solver.Calls.{told_as}
-use Rattle.sat_solver.specs.solver.Lines.{Rise}
 use Rattle.sat_solver.specs.solver.Resting.{core_for}
 use Rattle.sat_solver.specs.solver.Whole.{IsWhole, steps_in, line_in}
 use Rattle.certify.specs.answers.AnswerForms.{named_literals}
@@ -31,50 +27,38 @@ use Rattle.certify.specs.answers.RightAnswers.{IsRight}
 use Rattle.certify.specs.declared.summary.Answer.{Answer}
 use Rattle.certify.specs.declared.summary.Answer.TheVariants as kind
 use Rattle.certify.specs.declared.summary.AskReport.{AskReport}
-use Rattle.certify.specs.laws.Laws.{IsKept}
 use Rattle.certify.specs.run.FinishedRun.{IsBounded, IsSpent, kind_of}
 use Rattle.certify.specs.serving.Calls.{AnswerIs, Searched}
 use Rattle.certify.specs.serving.Certifies.{IsKnown}
-use Rattle.certify.specs.serving.ServingLaws.{Rising}
 use Rattle.certify.specs.serving.Standing.{Means}
-use Rattle.certify.specs.serving.Stretches.{AskStretches, Makes, made, quiet, makes, showing_if}
+use Rattle.sat_checker.proofs.lemmas.matching.Traces.{closed_by_none}
+use Rattle.sat_checker.specs.matching.Traces.{HasTrace, no_step, silent, visible}
+use Rattle.certify.specs.serving.Stretches.{AskStretches, showing_if}
 use Rattle.certify.specs.serving.Telling.{outcome_for, IsToldRight}
-use Rattle.certify.proofs.lemmas.laws.JudgeStates.{accepted_kept}
-use Rattle.certify.proofs.lemmas.serving.Converted.{due_as, made_of, bringing_due, names_same}
+use Rattle.certify.proofs.lemmas.serving.NamesIn.{names_same}
 use Rattle.certify.proofs.lemmas.serving.Cores.{right_in_order, spelt_in_order}
-use Rattle.certify.proofs.lemmas.serving.Lines.{lists_in_use}
 use Rattle.certify.proofs.lemmas.serving.Recorded.{going_on, known_unsat, unsat_known}
 use Rattle.certify.specs.serving.Quiet.{Solver}
-
-rising_of : (xs : List ℕ) → Rise xs → Rising xs
-rising_of [] h = tt
-rising_of (x ∷ xs) h = (h.0, rising_of xs h.1)
 
 -- a core's step is that of its literals in order
 fails_sorted : (s : List Step) (ask : List Literal) (core : List ℕ) (step : Step) → Fits (the_checking.knows s) s (Fails ask (named_literals core)) step → Fits (the_checking.knows s) s (Fails ask (named_literals (canonical core))) step
 fails_sorted s ask core step (fails {c = c} h) = fails (spelt_in_order (variable_of s) core c h)
 
-sorted_core : (es : List Expected) (ask : List Literal) (core : List ℕ) {s t : List Step} {xs : List Expected} → Makes the_checking s t xs → xs ≡ Fails ask (named_literals core) ∷ es → Makes the_checking s t (Fails ask (named_literals (canonical core)) ∷ es)
-sorted_core es ask core made e = absurd (cc)
-sorted_core es ask core (quiet q m) e = quiet q (sorted_core es ask core m e)
-sorted_core es ask core {t = t} (makes {s = s} {step = step} {e = x} {es = ys} f m) e =
+sorted_core : (es : List Expected) (ask : List Literal) (core : List ℕ) {s t : List Step} {xs : List Expected} → HasTrace the_checking s t xs → xs ≡ Fails ask (named_literals core) ∷ es → HasTrace the_checking s t (Fails ask (named_literals (canonical core)) ∷ es)
+sorted_core es ask core no_step e = absurd (cc)
+sorted_core es ask core (silent q m) e = silent q (sorted_core es ask core m e)
+sorted_core es ask core {t = t} (visible {s = s} {step = step} {e = x} {es = ys} f m) e =
     let hd : x ≡ Fails ask (named_literals core) = cc in
     let tl : ys ≡ es = cc in
-    makes (fails_sorted s ask core step (subst (λ y. Fits (the_checking.knows s) s y step) hd f)) (subst (Makes the_checking (step ∷ s) t) tl m)
+    visible (fails_sorted s ask core step (subst (λ y. Fits (the_checking.knows s) s y step) hd f)) (subst (HasTrace the_checking (step ∷ s) t) tl m)
 
 -- what an ask was answered, by what is known behind it
-module _ {C : Type 0} (now : Solver C) (ask : List Literal) (asked : named_literals now.assumed.items ≡ ask) (j : Judge) (live : Live) (kept : IsKept j) (agree : solver.Agree now.names (steps_in now) j live) where
+module _ {C : Type 0} (now : Solver C) (ask : List Literal) (asked : named_literals now.assumed.items ≡ ask) (j : Judge) (live : Live) (agree : solver.Agree now.names (steps_in now) j live) where
   line_listed : IsToldRight kind.Sat now → names_of (named_literals (line_in now)) ≡ map (λ n. n.name) j.in_use
-  line_listed right =
-      let l = (right j live agree).lists in
-      lists_in_use j (names_of (named_literals (line_in now))) kept.order (rising_of (names_of (named_literals (line_in now))) l.rising) l.all (only (named_literals (line_in now)) l.only)
-    where
-      only : (ls : List Literal) → AllByRecursion (λ l. (i : ℕ) × (identity_of j l.name ≡ Some i)) ls → AllByRecursion (λ name. (i : ℕ) × (identity_of j name ≡ Some i)) (names_of ls)
-      only [] h = tt
-      only (l ∷ ls) h = (h.0, only ls h.1)
+  line_listed right = (right j live agree).names
 
   told_right : (a : Answer) → IsToldRight a now → IsRight j ask (outcome_for a now)
-  told_right kind.Sat right = subst (λ q. IsRight j q (outcome_for kind.Sat now)) asked ((right j live agree).right (line_listed right))
+  told_right kind.Sat right = subst (λ q. IsRight j q (outcome_for kind.Sat now)) asked (right j live agree)
   told_right kind.Unsat right =
       subst (λ q. IsRight j q (outcome_for kind.Unsat now)) asked (right_in_order j (named_literals now.assumed.items) (core_for now.state now) (right j live agree).among (right j live agree).none)
   told_right kind.Unknown right = tt
@@ -135,42 +119,42 @@ unknown_outcome now kind.Unsat e h = elim (unsat_state now.state h) [ inl f ↦ 
 -- what shows an answer
 module _ {C : Type 0} (now : Solver C) (whole : IsWhole now) (ask : List Literal) (asked : named_literals now.assumed.items ≡ ask) (j : Judge) (before : State) (s : List Step) where
   abbrev Told : State → State → Type 0
-  Told b st = solver.Writes s (steps_in now) (told_as b st (line_in now) now.assumed.items now.told.failed_core.items)
+  Told b st = HasTrace the_checking s (steps_in now) (told_as b st (line_in now) now.assumed.items now.told.failed_core.items)
 
   abbrev Shown : Bool → Outcome → Type 0
-  Shown unsat o = Makes the_checking s (steps_in now) (showing_if unsat j ask o)
+  Shown unsat o = HasTrace the_checking s (steps_in now) (showing_if unsat j ask o)
 
   -- behind a search that goes on
-  shown_going : (o : Outcome) → (now.state ≡ states.Unsat → ⊥) → Makes the_checking s (steps_in now) (showing j ask o) → Shown (the_checking.unsat (steps_in now)) o
+  shown_going : (o : Outcome) → (now.state ≡ states.Unsat → ⊥) → HasTrace the_checking s (steps_in now) (showing j ask o) → Shown (the_checking.unsat (steps_in now)) o
   shown_going o n m = subst (λ b. Shown b o) (sym (going_on now whole n)) m
 
   sat_shown : now.state ≡ states.Sat → before ≡ states.Unknown → names_of (named_literals (line_in now)) ≡ map (λ n. n.name) j.in_use → Told before now.state → Shown (the_checking.unsat (steps_in now)) (outcome_for kind.Sat now)
   sat_shown e b names w =
       let v : Told states.Unknown states.Sat = subst (λ st. Told states.Unknown st) e (subst (λ st. Told st now.state) b w) in
-      let m = made_of (showing j ask (outcome_for kind.Sat now)) v
-      (ap (λ ns. due.Shows ns (named_literals now.assumed.items) (named_literals (line_in now)) ∷ []) names ∙ ap (λ q. due.Shows (map (λ n. n.name) j.in_use) q (named_literals (line_in now)) ∷ []) asked) in
+      let m = subst (HasTrace the_checking s (steps_in now))
+      (ap (λ ns. Shows ns (named_literals now.assumed.items) (named_literals (line_in now)) ∷ []) names ∙ ap (λ q. Shows (map (λ n. n.name) j.in_use) q (named_literals (line_in now)) ∷ []) asked) v in
       shown_going (outcome_for kind.Sat now) (sat_apart now.state e) m
 
   core_shown : now.state ≡ states.UnsatUnderAssumptions → before ≡ states.Unknown → Told before now.state → Shown (the_checking.unsat (steps_in now)) (outcome_for kind.Unsat now)
   core_shown e b w =
       let v : Told states.Unknown states.UnsatUnderAssumptions = subst (λ st. Told states.Unknown st) e (subst (λ st. Told st now.state) b w) in
       let core = now.told.failed_core.items in
-      let m = made_of (Fails ask (named_literals core) ∷ []) v (ap (λ q. due.Fails q (named_literals core) ∷ []) asked) in
+      let m = subst (HasTrace the_checking s (steps_in now)) (ap (λ q. Fails q (named_literals core) ∷ []) asked) v in
       let sorted = sorted_core [] ask core m refl in
       shown_going (outcome_for kind.Unsat now) (core_apart now.state e)
-      (subst (λ st. Makes the_checking s (steps_in now) (Fails ask (named_literals (canonical (core_for st now))) ∷ [])) (sym e) sorted)
+      (subst (λ st. HasTrace the_checking s (steps_in now) (Fails ask (named_literals (canonical (core_for st now))) ∷ [])) (sym e) sorted)
 
-  none_told : (b : State) → Told b states.Unsat → Makes the_checking s (steps_in now) []
-  none_told states.Unknown w = made_of [] w refl
-  none_told states.Sat w = made_of [] w refl
-  none_told states.UnsatUnderAssumptions w = made_of [] w refl
-  none_told states.Unsat w = made_of [] w refl
+  none_told : (b : State) → Told b states.Unsat → HasTrace the_checking s (steps_in now) []
+  none_told states.Unknown w = w
+  none_told states.Sat w = w
+  none_told states.UnsatUnderAssumptions w = w
+  none_told states.Unsat w = w
 
   unsat_shown : now.state ≡ states.Unsat → Told before now.state → (o : Outcome) → Shown (the_checking.unsat (steps_in now)) o
   unsat_shown e w o = subst (λ b. Shown b o) (sym (known_unsat now whole e)) (none_told before (subst (λ st. Told before st) e w))
 
   unknown_shown : now.state ≡ states.Unknown → before ≡ states.Unknown → Told before now.state → Shown (the_checking.unsat (steps_in now)) (outcome_for kind.Unknown now)
-  unknown_shown e b w = shown_going (outcome_for kind.Unknown now) (unknown_apart now.state e) (made_of [] (subst (λ st. Told states.Unknown st) e (subst (λ st. Told st now.state) b w)) refl)
+  unknown_shown e b w = shown_going (outcome_for kind.Unknown now) (unknown_apart now.state e) (subst (λ st. Told states.Unknown st) e (subst (λ st. Told st now.state) b w))
 
   pub answer_shown : (a : Answer) → AnswerIs now.state a → ((now.state ≡ states.Unsat → ⊥) → before ≡ states.Unknown) → (a ≡ kind.Sat → names_of (named_literals (line_in now)) ≡ map (λ n. n.name) j.in_use) → Told before now.state
       → Shown (the_checking.unsat (steps_in now)) (outcome_for a now)
@@ -213,7 +197,7 @@ module _ {C : Type 0} (seen : C → Writer) (old mid now new : Solver C) (user :
 
   known : the_checking.unsat (steps_in mid) ≡ true → IsKnown (outcome_for report.answer now) report.steps
   known u =
-      let at = searched.limited.state ∙ unsat_known mid opened.did.whole u in
+      let at = searched.limited.state ∙ unsat_known mid (opened.did Unknown).whole u in
       let k = searched.solved.answered.known (unsat_apart searched.mid.state at) in
       let c : now.clock.steps ≡ searched.mid.clock.steps = ap (λ (x : Solver C). x.clock.steps) k.same in
       let r = searched.rounds in let l = searched.limited.rounds in
@@ -224,7 +208,7 @@ module _ {C : Type 0} (seen : C → Writer) (old mid now new : Solver C) (user :
   sought g known_now =
       let before : searched.mid.state ≡ states.Unknown = elim (forgets_either old.state mid.state opened.state) [
         | inl e ↦ searched.limited.state ∙ e
-        | inr e ↦ absurd (both_ways (the_checking.unsat (steps_in mid)) g (known_unsat mid opened.did.whole e))
+        | inr e ↦ absurd (both_ways (the_checking.unsat (steps_in mid)) g (known_unsat mid (opened.did Unknown).whole e))
       ] in
       let after : now.state ≡ states.Unknown → ⊥ = λ e. known_now (unknown_outcome now report.answer e searched.solved.answer_is) in
       let c = searched.solved.answered.counts.round before after in
@@ -244,8 +228,8 @@ module _ {C : Type 0} (seen : C → Writer) (old mid now new : Solver C) (user :
   ask_spent = subst (λ (n : ℕ). IsSpent budget n report) (ap (λ (x : _). x.steps) opened.clock) searched.spent
 
   module _ (j : Judge) (live : Live) (means : Means old j live) (free : refusal_of j (Ask (named_literals user)) ≡ None) where
-    first : solver.Kept mid.names (steps_in old) (steps_in mid) (bring_all (names_in user) j) (due.bringing (names_in user) j ++ (due.Opens (named_literals user) ∷ []))
-    first = opened.did.does.kept j live means.agree
+    first : solver.Kept mid.names (steps_in old) (steps_in mid) (bring_all (names_in user) j) (bringing (names_in user) j ++ (Opens (named_literals user) (outcome_for report.answer now) ∷ []))
+    first = (opened.did (outcome_for report.answer now)).does.kept j live means.agree
 
     agree_mid : solver.Agree mid.names (steps_in mid) (accepted (Ask (named_literals user)) j) first.live
     agree_mid = subst (λ ns. solver.Agree mid.names (steps_in mid) (bring_all ns j) first.live) (sym (names_same user)) first.agree
@@ -256,27 +240,21 @@ module _ {C : Type 0} (seen : C → Writer) (old mid now new : Solver C) (user :
     second : solver.Kept now.names (steps_in searched.mid) (steps_in now) (accepted (Ask (named_literals user)) j) (told_as searched.mid.state now.state (line_in now) now.assumed.items now.told.failed_core.items)
     second = searched.solved.answered.did.does.kept (accepted (Ask (named_literals user)) j) first.live agree_at
 
-    third : solver.Kept new.names (steps_in now) (steps_in new) (accepted (Ask (named_literals user)) j) (due.Opens [] ∷ [])
-    third = closed.did.does.kept (accepted (Ask (named_literals user)) j) second.live second.agree
+    third : solver.Kept new.names (steps_in now) (steps_in new) (accepted (Ask (named_literals user)) j) (Opens [] Unknown ∷ [])
+    third = (closed.did Unknown).does.kept (accepted (Ask (named_literals user)) j) second.live second.agree
 
-    kept : IsKept (accepted (Ask (named_literals user)) j)
-    kept = accepted_kept (Ask (named_literals user)) j free means.kept
-
-    named : Makes the_checking (steps_in old) (steps_in mid) (bringing (names_of (named_literals user)) j ++ (Opens (named_literals user) (outcome_for report.answer now) ∷ []))
-    named = made_of (bringing (names_of (named_literals user)) j ++ (Opens (named_literals user) (outcome_for report.answer now) ∷ [])) first.writes
-        (ap (λ ns. due.bringing ns j ++ (due.Opens (named_literals user) ∷ [])) (sym (names_same user))
-        ∙ ap (λ xs. xs ++ (due.Opens (named_literals user) ∷ [])) (bringing_due (names_of (named_literals user)) j)
-        ∙ sym (map-append due_as (bringing (names_of (named_literals user)) j) (Opens (named_literals user) (outcome_for report.answer now) ∷ [])))
+    named : HasTrace the_checking (steps_in old) (steps_in mid) (bringing (names_of (named_literals user)) j ++ (Opens (named_literals user) (outcome_for report.answer now) ∷ []))
+    named = subst (λ ns. HasTrace the_checking (steps_in old) (steps_in mid) (bringing ns j ++ (Opens (named_literals user) (outcome_for report.answer now) ∷ []))) (sym (names_same user)) first.trace
 
     listed : report.answer ≡ kind.Sat → names_of (named_literals (line_in now)) ≡ map (λ n. n.name) (accepted (Ask (named_literals user)) j).in_use
-    listed e = line_listed now (named_literals user) assumed_is (accepted (Ask (named_literals user)) j) second.live kept second.agree (subst (λ a. IsToldRight a now) e right)
+    listed e = line_listed now (named_literals user) assumed_is (accepted (Ask (named_literals user)) j) second.live second.agree (subst (λ a. IsToldRight a now) e right)
 
-    shown : Makes the_checking (steps_in mid) (steps_in now) (showing_if (the_checking.unsat (steps_in now)) (accepted (Ask (named_literals user)) j) (named_literals user) (outcome_for report.answer now))
+    shown : HasTrace the_checking (steps_in mid) (steps_in now) (showing_if (the_checking.unsat (steps_in now)) (accepted (Ask (named_literals user)) j) (named_literals user) (outcome_for report.answer now))
     shown = answer_shown now searched.solved.answered.did.whole (named_literals user) assumed_is (accepted (Ask (named_literals user)) j) searched.mid.state (steps_in mid) report.answer searched.solved.answer_is was_unknown listed
-        (subst (λ ss. solver.Writes ss (steps_in now) (told_as searched.mid.state now.state (line_in now) now.assumed.items now.told.failed_core.items)) same_steps second.writes)
+        (subst (λ ss. HasTrace the_checking ss (steps_in now) (told_as searched.mid.state now.state (line_in now) now.assumed.items now.told.failed_core.items)) same_steps second.trace)
 
-    shut : Makes the_checking (steps_in now) (steps_in new) (Closes ∷ [])
-    shut = made_of (Closes ∷ []) third.writes refl
+    shut : HasTrace the_checking (steps_in now) (steps_in new) (Closes ∷ [])
+    shut = closed_by_none Unknown third.trace
 
     pub ask_steps : AskStretches j (named_literals user) (outcome_for report.answer now) report.steps (steps_in old) (steps_in new)
     ask_steps = record {
@@ -292,7 +270,7 @@ module _ {C : Type 0} (seen : C → Writer) (old mid now new : Solver C) (user :
     }
 
     pub ask_right : IsRight (accepted (Ask (named_literals user)) j) (named_literals user) (outcome_for report.answer now)
-    ask_right = told_right now (named_literals user) assumed_is (accepted (Ask (named_literals user)) j) second.live kept second.agree report.answer right
+    ask_right = told_right now (named_literals user) assumed_is (accepted (Ask (named_literals user)) j) second.live second.agree report.answer right
 
     -- n is the judge's next identity
     pub ask_bounded : IsBounded (accepted (Ask (named_literals user)) j).next_identity budget old.clock.steps report

@@ -7,7 +7,7 @@ use Rattle.sat_base.specs.script.Judge.{Judge, Refusal}
 use Rattle.sat_base.specs.steps.Steps.{Step}
 use Rattle.sat_solver.specs.declared.error.SolverError.{SolverError}
 use Rattle.sat_solver.specs.declared.error.SolverError.TheVariants as errors
-use Rattle.sat_solver.specs.names.Expected.{Expected}
+use Rattle.sat_checker.specs.matching.Expected.{Expected}
 use Rattle.sat_solver.specs.session.Making.{Took}
 use Rattle.sat_solver.specs.solver.Adding.{AddsClause, Assumes, EndsNamesOr, HasWitness}
 use Rattle.sat_solver.specs.solver.Naming.{ChangesMode, IsAsked}

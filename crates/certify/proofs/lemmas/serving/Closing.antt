@@ -9,13 +9,13 @@ use Rattle.sat_checker.specs.matching.Expected.{Expected, Closes, Fits, closes}
 use Rattle.sat_checker.specs.matching.ProofChecking.{the_checking}
 use Rattle.sat_solver.specs.names.Coming.{MayTake}
 use Rattle.sat_solver.specs.session.Coming.{EachComes}
-use Rattle.certify.specs.serving.Stretches.{Makes, made, quiet, makes}
+use Rattle.sat_checker.specs.matching.Traces.{HasTrace, no_step, silent, visible}
 use Rattle.certify.proofs.lemmas.confirm.Settled.{settled_unsat}
 
-made_behind : {s t : List Step} {es : List Expected} → Makes the_checking s t es → (zs : List Step) × (t ≡ zs ++ s)
-made_behind made = ([], refl)
-made_behind (quiet {s = s} {step = step} q m) = let r = made_behind m in (r.0 ++ (step ∷ []), r.1 ∙ sym (append_assoc r.0 (step ∷ []) s))
-made_behind (makes {s = s} {step = step} f m) = let r = made_behind m in (r.0 ++ (step ∷ []), r.1 ∙ sym (append_assoc r.0 (step ∷ []) s))
+made_behind : {s t : List Step} {es : List Expected} → HasTrace the_checking s t es → (zs : List Step) × (t ≡ zs ++ s)
+made_behind no_step = ([], refl)
+made_behind (silent {s = s} {step = step} q m) = let r = made_behind m in (r.0 ++ (step ∷ []), r.1 ∙ sym (append_assoc r.0 (step ∷ []) s))
+made_behind (visible {s = s} {step = step} f m) = let r = made_behind m in (r.0 ++ (step ∷ []), r.1 ∙ sym (append_assoc r.0 (step ∷ []) s))
 
 each_first : (s : List Step) (x : Step) (ys : List Step) → EachComes (MayTake []) s (ys ++ (x ∷ [])) → MayTake [] s x × EachComes (MayTake []) (x ∷ s) ys
 each_first s x [] h = (h.1, tt)
@@ -53,13 +53,13 @@ close_keeps : (s : List Step) (x : Expected) (step : Step) → Fits (the_checkin
 close_keeps s Closes step closes e g = settled_unsat (effect (Assumptions []) (ready_after s)) ∙ g
 close_keeps s x step f e g = absurd (cc)
 
-pub closing : {s t : List Step} {es : List Expected} → Makes the_checking s t es → AllByRecursion (λ e. e ≡ Closes) es → (ys : List Step) → t ≡ ys ++ s → EachComes (MayTake []) s ys → the_checking.unsat s ≡ false → the_checking.unsat t ≡ false
-closing made h ys b c g = g
-closing {t = t} (quiet {s = s} {step = step} q m) h ys b c g =
+pub closing : {s t : List Step} {es : List Expected} → HasTrace the_checking s t es → AllByRecursion (λ e. e ≡ Closes) es → (ys : List Step) → t ≡ ys ++ s → EachComes (MayTake []) s ys → the_checking.unsat s ≡ false → the_checking.unsat t ≡ false
+closing no_step h ys b c g = g
+closing {t = t} (silent {s = s} {step = step} q m) h ys b c g =
     let z = made_behind m in
     let r = first_comes s t step ys z.0 b c z.1 in
     closing m h r.steps r.behind r.each (keeps_going s step q r.may g)
-closing {t = t} (makes {s = s} {step = step} {e = x} f m) h ys b c g =
+closing {t = t} (visible {s = s} {step = step} {e = x} f m) h ys b c g =
     let z = made_behind m in
     let r = first_comes s t step ys z.0 b c z.1 in
     closing m h.1 r.steps r.behind r.each (close_keeps s x step f h.0 g)

@@ -9,7 +9,7 @@ use Rattle.sat_checker.specs.LiteralSets.{canonical}
 use Rattle.sat_checker.specs.SortedSets.{IsIncreasing}
 use Rattle.sat_checker.specs.matching.Expected.{SameSet, Spells}
 use Rattle.sat_checker.proofs.lemmas.sets.Canonical.{canonical_among, canonical_increasing}
-use Rattle.sat_checker.proofs.lemmas.matching.LiteralValues.{all_at, all_from, all_map, true_mapped, mapped_true}
+use Rattle.sat_base.proofs.lemmas.script.LiteralValues.{all_at, all_from, all_map, true_mapped, mapped_true}
 use Rattle.certify.specs.answers.AnswerForms.{named_literal, named_literals}
 use Rattle.certify.proofs.lemmas.confirm.LiteralSets.{among_is, is_from_among}
 

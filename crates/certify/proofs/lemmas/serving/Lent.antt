@@ -22,7 +22,7 @@ use Rattle.certify.specs.serving.Calls.{FailsSolver, IsAllowed}
 use Rattle.certify.specs.serving.Obeying.{Obeyed, command_to}
 use Rattle.certify.specs.serving.Standing.{Allows, CarriedOut, GoesOn, WritesBoth, spelled_by}
 use Rattle.certify.proofs.lemmas.serving.Carried.{obeyed_carried}
-use Rattle.certify.proofs.lemmas.serving.Converted.{names_same}
+use Rattle.certify.proofs.lemmas.serving.NamesIn.{names_same}
 use Rattle.certify.proofs.lemmas.serving.Obeys.{clause_obeyed, names_ask_nothing}
 use Rattle.certify.proofs.lemmas.serving.SessionCalls.{did_ready, solver_writes}
 use Rattle.certify.specs.serving.Quiet.{Solver}

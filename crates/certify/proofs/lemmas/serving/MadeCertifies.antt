@@ -9,9 +9,11 @@ use Rattle.sat_checker.specs.matching.Expected.{Outcome, Sat, Unsat, Unknown, Ex
 use Rattle.sat_checker.specs.matching.ProofChecking.{the_checking}
 use Rattle.sat_solver.specs.session.Session.{MayAll}
 use Rattle.certify.specs.serving.Certifies.{Certifies}
-use Rattle.certify.specs.serving.Stretches.{AskStretches, IsNoAsk, MadeFor, Makes, due_for, made_ask, made_none, made_one, showing_if}
+use Rattle.sat_checker.specs.matching.Traces.{HasTrace}
+use Rattle.certify.specs.serving.Stretches.{AskStretches, IsNoAsk, MadeFor, due_for, made_ask, made_none, made_one, showing_if}
 use Rattle.certify.proofs.lemmas.serving.Closing.{closing}
-use Rattle.certify.proofs.lemmas.serving.Making.{IsGoing, Leads, bringing_free, closes_ask, due_free, leads_both, leads_free, leads_going, leads_lacking, made_apart, opens_ask, unsat_made}
+use Rattle.sat_checker.proofs.lemmas.matching.Traces.{trace_apart}
+use Rattle.certify.proofs.lemmas.serving.Making.{IsGoing, Leads, bringing_free, closes_ask, due_free, leads_both, leads_free, leads_going, leads_lacking, opens_ask, unsat_made}
 use Rattle.certify.proofs.lemmas.serving.Recorded.{recorded_at}
 
 -- EARLIER STEPS
@@ -86,12 +88,12 @@ leads_expected {s} {t} es leads all j cs os counts c =
     (leads all None m.0 m.1 counts (subst (λ fs. Certifies the_checking all None t fs counts) m.2 c))
 
 -- what was made for it leads on, with the clause that is left out once unsat is recorded
-plain_leads : (from mid : List Step) (j : Judge) (c : Command) → Makes the_checking from mid (due_for (the_checking.unsat from) c j) → MayAll mid → Leads from mid (due_for false c j)
+plain_leads : (from mid : List Step) (j : Judge) (c : Command) → HasTrace the_checking from mid (due_for (the_checking.unsat from) c j) → MayAll mid → Leads from mid (due_for false c j)
 plain_leads from mid j c m may = at (the_checking.unsat from) refl
   where
-    left_out : (c : Command) → the_checking.unsat from ≡ true → Makes the_checking from mid (due_for true c j) → Leads from mid (due_for false c j)
+    left_out : (c : Command) → the_checking.unsat from ≡ true → HasTrace the_checking from mid (due_for true c j) → Leads from mid (due_for false c j)
     left_out (Clause ls) u m =
-        let names : Makes the_checking from mid (bringing (names_of ls) j) = subst (λ es. Makes the_checking from mid es) (append-nil (bringing (names_of ls) j)) m in
+        let names : HasTrace the_checking from mid (bringing (names_of ls) j) = subst (λ es. HasTrace the_checking from mid es) (append-nil (bringing (names_of ls) j)) m in
         leads_both (bringing (names_of ls) j) (Adds ls ∷ []) (leads_free names (bringing_free (names_of ls) j)) (leads_lacking mid (Adds ls) tt (recorded_at mid may (unsat_made m u)))
     left_out (Ask ls) u m = leads_free m (due_free true (Ask ls) j)
     left_out (Hide names) u m = leads_free m (due_free true (Hide names) j)
@@ -99,8 +101,8 @@ plain_leads from mid j c m may = at (the_checking.unsat from) refl
     left_out (Sample names) u m = leads_free m (due_free true (Sample names) j)
 
     at : (b : Bool) → the_checking.unsat from ≡ b → Leads from mid (due_for false c j)
-    at true e = left_out c e (subst (λ b. Makes the_checking from mid (due_for b c j)) e m)
-    at false e = leads_free (subst (λ b. Makes the_checking from mid (due_for b c j)) e m) (due_free false c j)
+    at true e = left_out c e (subst (λ b. HasTrace the_checking from mid (due_for b c j)) e m)
+    at false e = leads_free (subst (λ b. HasTrace the_checking from mid (due_for b c j)) e m) (due_free false c j)
 
 -- AN ASK
 
@@ -110,16 +112,16 @@ showing_going j ls (Unsat core) = (refl, tt)
 showing_going j ls Unknown = tt
 
 -- what was shown, or is left out once unsat is recorded
-shown_leads : {opened shown : List Step} (j : Judge) (ls : List Literal) (o : Outcome) → Makes the_checking opened shown (showing_if (the_checking.unsat shown) j ls o)
+shown_leads : {opened shown : List Step} (j : Judge) (ls : List Literal) (o : Outcome) → HasTrace the_checking opened shown (showing_if (the_checking.unsat shown) j ls o)
     → (the_checking.unsat shown ≡ true → o ≡ Unsat []) → MayAll shown → Leads opened shown (showing j ls o)
 shown_leads {opened} {shown} j ls o m recorded may = at (the_checking.unsat shown) refl
   where
     at : (b : Bool) → the_checking.unsat shown ≡ b → Leads opened shown (showing j ls o)
     at true e =
-        let none : Makes the_checking opened shown [] = subst (λ b. Makes the_checking opened shown (showing_if b j ls o)) e m in
+        let none : HasTrace the_checking opened shown [] = subst (λ b. HasTrace the_checking opened shown (showing_if b j ls o)) e m in
         let all : Leads opened shown (Fails ls [] ∷ []) = leads_both [] (Fails ls [] ∷ []) (leads_free none tt) (leads_lacking shown (Fails ls []) refl (recorded_at shown may e)) in
         subst (λ o. Leads opened shown (showing j ls o)) (sym (recorded e)) all
-    at false e = leads_going (subst (λ b. Makes the_checking opened shown (showing_if b j ls o)) e m) e (showing_going j ls o)
+    at false e = leads_going (subst (λ b. HasTrace the_checking opened shown (showing_if b j ls o)) e m) e (showing_going j ls o)
 
 module _ {from to : List Step} {j : Judge} {ls : List Literal} {o : Outcome} {rounds : ℕ} (a : AskStretches j ls o rounds from to) (may : MayAll to) where
   may_shown : MayAll a.shown
@@ -133,7 +135,7 @@ module _ {from to : List Step} {j : Judge} {ls : List Literal} {o : Outcome} {ro
       at true e = a.recorded e
       at false e = absurd (both_ways (the_checking.unsat to) (closing a.closes.due (refl, tt) a.closes.comes.steps a.closes.comes.behind a.closes.comes.each e) u)
 
-  opening : (all : List Step) (counts : List ℕ) (s : List Step) → Makes the_checking s a.opened (Opens ls o ∷ []) → (es : List Expected) (e : Expected) (fs : List Expected)
+  opening : (all : List Step) (counts : List ℕ) (s : List Step) → HasTrace the_checking s a.opened (Opens ls o ∷ []) → (es : List Expected) (e : Expected) (fs : List Expected)
       → Certifies the_checking all (Some o) a.opened (es ++ (e ∷ fs)) counts → Certifies the_checking all None s (Opens ls o ∷ (es ++ (e ∷ fs))) (rounds ∷ counts)
   opening all counts s m [] e fs x = opens_ask rounds m a.known all e fs counts x
   opening all counts s m (y ∷ es) e fs x = opens_ask rounds m a.known all y (es ++ (e ∷ fs)) counts x
@@ -143,7 +145,7 @@ module _ {from to : List Step} {j : Judge} {ls : List Literal} {o : Outcome} {ro
   ask_leads all cs os counts c =
       let next = accepted (Ask ls) j in
       let m = expects_more next cs os in
-      let split = made_apart (bringing (names_of ls) j) (Opens ls o ∷ []) a.opens.due in
+      let split = trace_apart (bringing (names_of ls) j) (Opens ls o ∷ []) a.opens.due in
       let closed : Certifies the_checking all (Some o) a.shown (Closes ∷ m.0 ∷ m.1) counts = closes_ask a.closes.due knows all m.0 m.1 counts (subst (λ fs. Certifies the_checking all None to fs counts) m.2 c) in
       let shown : Certifies the_checking all (Some o) a.opened (showing next ls o ++ (Closes ∷ m.0 ∷ m.1)) counts = shown_leads next ls o a.searches.due a.recorded may_shown all (Some o) Closes (m.0 ∷ m.1) counts closed in
       let opened : Certifies the_checking all None split.0 (Opens ls o ∷ (showing next ls o ++ (Closes ∷ m.0 ∷ m.1))) (rounds ∷ counts) = opening all counts split.0 split.2 (showing next ls o) Closes (m.0 ∷ m.1) shown in

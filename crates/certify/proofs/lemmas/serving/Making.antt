@@ -8,10 +8,11 @@ use Rattle.sat_base.specs.steps.Steps.{Step}
 use Rattle.sat_checker.specs.Accepts.{effect, ready_after}
 use Rattle.sat_checker.proofs.lemmas.invariants.Stored.{unsat_stays}
 use Rattle.sat_checker.specs.matching.Checking.{is_ordered}
-use Rattle.sat_checker.specs.matching.Expected.{Outcome, Unsat, Expected, NewName, NoName, Adds, Opens, Closes, Fits, bringing, hiding, setting}
+use Rattle.sat_checker.specs.matching.Expected.{Outcome, Unsat, Expected, NewName, NoName, Adds, Opens, Closes, bringing, hiding, setting}
 use Rattle.sat_checker.specs.matching.ProofChecking.{the_checking}
 use Rattle.certify.specs.serving.Certifies.{Certifies, IsKnown, IsRecorded, MayStand, MayLack, left_out, other, ordered, asked, answered}
-use Rattle.certify.specs.serving.Stretches.{Makes, made, quiet, makes, due_for}
+use Rattle.sat_checker.specs.matching.Traces.{HasTrace, no_step, silent, visible}
+use Rattle.certify.specs.serving.Stretches.{due_for}
 use Rattle.certify.proofs.lemmas.confirm.Settled.{settled_unsat}
 
 -- whatever is expected next, it is certified from here where it is from there
@@ -29,10 +30,10 @@ other_before : (es : List Expected) {all : List Step} {current : Option Outcome}
 other_before [] e fs q c = other q c
 other_before (x ∷ es) e fs q c = other q c
 
-pub leads_free : {s t : List Step} {es : List Expected} → Makes the_checking s t es → AllByRecursion IsFree es → Leads s t es
-leads_free made h = λ all current e fs counts c. c
-leads_free (quiet {es = es} q m) h = λ all current e fs counts c. other_before es e fs q (leads_free m h all current e fs counts c)
-leads_free (makes {s = s} f m) h = λ all current e fs counts c. ordered (h.0 (the_checking.unsat s)) f (leads_free m h.1 all current e fs counts c)
+pub leads_free : {s t : List Step} {es : List Expected} → HasTrace the_checking s t es → AllByRecursion IsFree es → Leads s t es
+leads_free no_step h = λ all current e fs counts c. c
+leads_free (silent {es = es} q m) h = λ all current e fs counts c. other_before es e fs q (leads_free m h all current e fs counts c)
+leads_free (visible {s = s} f m) h = λ all current e fs counts c. ordered (h.0 (the_checking.unsat s)) f (leads_free m h.1 all current e fs counts c)
 
 pub leads_both : {s t u : List Step} (es gs : List Expected) → Leads s t es → Leads t u gs → Leads s u (es ++ gs)
 leads_both {s} {t} {u} es gs f g = λ all current e fs counts c.
@@ -49,35 +50,16 @@ leads_both {s} {t} {u} es gs f g = λ all current e fs counts c.
 pub leads_lacking : (s : List Step) (e : Expected) → MayLack e → IsRecorded the_checking s → Leads s s (e ∷ [])
 leads_lacking s x h r = λ all current e fs counts c. left_out h r c
 
--- what was made of two parts
-made_as : (es fs : List Expected) {s t : List Step} {gs : List Expected} → Makes the_checking s t gs → gs ≡ es ++ fs → (m : List Step) × Makes the_checking s m es × Makes the_checking m t fs
-made_as [] fs {s = s} {t = t} m e = (s, made, subst (Makes the_checking s t) e m)
-made_as (x ∷ es) fs made e = absurd (cc)
-made_as (x ∷ es) fs (quiet q m) e = let r = made_as (x ∷ es) fs m e in (r.0, quiet q r.1, r.2)
-made_as (x ∷ es) fs (makes {s = s} {step = step} {e = y} {es = ys} f m) e =
-    let hd : y ≡ x = cc in
-    let tl : ys ≡ es ++ fs = cc in
-    let r = made_as es fs m tl in
-    (r.0, makes (subst (λ z. Fits (the_checking.knows s) s z step) hd f) r.1, r.2)
-
-pub made_apart : (es fs : List Expected) {s t : List Step} → Makes the_checking s t (es ++ fs) → (m : List Step) × Makes the_checking s m es × Makes the_checking m t fs
-made_apart es fs m = made_as es fs m refl
-
-pub makes_both : {s t u : List Step} {es fs : List Expected} → Makes the_checking s t es → Makes the_checking t u fs → Makes the_checking s u (es ++ fs)
-makes_both made n = n
-makes_both (quiet q m) n = quiet q (makes_both m n)
-makes_both (makes f m) n = makes f (makes_both m n)
-
 -- recorded unsat stays
 stays_once : (s : List Step) (step : Step) → the_checking.unsat s ≡ true → the_checking.unsat (step ∷ s) ≡ true
 stays_once s step u = settled_unsat (effect step (ready_after s)) ∙ unsat_stays (ready_after s) step u
 
-pub unsat_made : {s t : List Step} {es : List Expected} → Makes the_checking s t es → the_checking.unsat s ≡ true → the_checking.unsat t ≡ true
-unsat_made made u = u
-unsat_made (quiet {s = s} {step = step} q m) u = unsat_made m (stays_once s step u)
-unsat_made (makes {s = s} {step = step} f m) u = unsat_made m (stays_once s step u)
+pub unsat_made : {s t : List Step} {es : List Expected} → HasTrace the_checking s t es → the_checking.unsat s ≡ true → the_checking.unsat t ≡ true
+unsat_made no_step u = u
+unsat_made (silent {s = s} {step = step} q m) u = unsat_made m (stays_once s step u)
+unsat_made (visible {s = s} {step = step} f m) u = unsat_made m (stays_once s step u)
 
-going_by : {s t : List Step} {es : List Expected} → Makes the_checking s t es → the_checking.unsat t ≡ false → the_checking.unsat s ≡ false
+going_by : {s t : List Step} {es : List Expected} → HasTrace the_checking s t es → the_checking.unsat t ≡ false → the_checking.unsat s ≡ false
 going_by {s} {t} m g = at (the_checking.unsat s) refl
   where
     at : (b : Bool) → the_checking.unsat s ≡ b → the_checking.unsat s ≡ false
@@ -85,17 +67,17 @@ going_by {s} {t} m g = at (the_checking.unsat s) refl
     at true e = absurd (both_ways (the_checking.unsat t) g (unsat_made m e))
 
 -- an ask is opened
-pub opens_ask : {s t : List Step} {ls : List Literal} {o : Outcome} (n : ℕ) → Makes the_checking s t (Opens ls o ∷ []) → (the_checking.unsat t ≡ true → IsKnown o n)
+pub opens_ask : {s t : List Step} {ls : List Literal} {o : Outcome} (n : ℕ) → HasTrace the_checking s t (Opens ls o ∷ []) → (the_checking.unsat t ≡ true → IsKnown o n)
     → (all : List Step) (e : Expected) (fs : List Expected) (counts : List ℕ) → Certifies the_checking all (Some o) t (e ∷ fs) counts → Certifies the_checking all None s (Opens ls o ∷ e ∷ fs) (n ∷ counts)
-opens_ask n (quiet q m) known all e fs counts c = other q (opens_ask n m known all e fs counts c)
-opens_ask n (makes {s = s} {step = step} f m) known all e fs counts c =
+opens_ask n (silent q m) known all e fs counts c = other q (opens_ask n m known all e fs counts c)
+opens_ask n (visible {s = s} {step = step} f m) known all e fs counts c =
     asked (λ u. known (unsat_made m (stays_once s step u))) f (leads_free m tt all (Some _) e fs counts c)
 
 -- and closed
-pub closes_ask : {s t : List Step} {o : Outcome} → Makes the_checking s t (Closes ∷ []) → (the_checking.unsat t ≡ true → o ≡ Unsat [])
+pub closes_ask : {s t : List Step} {o : Outcome} → HasTrace the_checking s t (Closes ∷ []) → (the_checking.unsat t ≡ true → o ≡ Unsat [])
     → (all : List Step) (e : Expected) (fs : List Expected) (counts : List ℕ) → Certifies the_checking all None t (e ∷ fs) counts → Certifies the_checking all (Some o) s (Closes ∷ e ∷ fs) counts
-closes_ask (quiet q m) known all e fs counts c = other q (closes_ask m known all e fs counts c)
-closes_ask (makes {s = s} {step = step} f m) known all e fs counts c =
+closes_ask (silent q m) known all e fs counts c = other q (closes_ask m known all e fs counts c)
+closes_ask (visible {s = s} {step = step} f m) known all e fs counts c =
     answered (λ u. known (unsat_made m (stays_once s step u))) f (leads_free m tt all None e fs counts c)
 
 -- what may stand where unsat isn't recorded
@@ -103,11 +85,11 @@ abbrev pub IsGoing : Expected → Type 0
 IsGoing e = MayStand false e
 
 -- what a search that goes on shows
-pub leads_going : {s t : List Step} {es : List Expected} → Makes the_checking s t es → the_checking.unsat t ≡ false → AllByRecursion IsGoing es → Leads s t es
-leads_going made g h = λ all current e fs counts c. c
-leads_going (quiet {es = es} q m) g h = λ all current e fs counts c. other_before es e fs q (leads_going m g h all current e fs counts c)
-leads_going {t = t} (makes {s = s} {step = step} {e = x} f m) g h = λ all current e fs counts c.
-    ordered (subst (λ b. MayStand b x) (sym (going_by (makes f m) g)) h.0) f (leads_going m g h.1 all current e fs counts c)
+pub leads_going : {s t : List Step} {es : List Expected} → HasTrace the_checking s t es → the_checking.unsat t ≡ false → AllByRecursion IsGoing es → Leads s t es
+leads_going no_step g h = λ all current e fs counts c. c
+leads_going (silent {es = es} q m) g h = λ all current e fs counts c. other_before es e fs q (leads_going m g h all current e fs counts c)
+leads_going {t = t} (visible {s = s} {step = step} {e = x} f m) g h = λ all current e fs counts c.
+    ordered (subst (λ b. MayStand b x) (sym (going_by (visible f m) g)) h.0) f (leads_going m g h.1 all current e fs counts c)
 
 -- names may come in and go wherever that is expected
 free_both : (es fs : List Expected) → AllByRecursion IsFree es → AllByRecursion IsFree fs → AllByRecursion IsFree (es ++ fs)

@@ -13,7 +13,7 @@ use Rattle.certify.specs.judge.Names.{Stands}
 use Rattle.certify.specs.serving.Calls.{IsReady, proof_in}
 use Rattle.certify.specs.serving.Serving.{Place, Serves}
 use Rattle.certify.specs.serving.Standing.{Allows, CarriedOut, GoesOn, IsAt, Means, Refused, ServedNext, place_in}
-use Rattle.certify.proofs.lemmas.laws.JudgeStates.{accepted_kept, start_kept}
+use Rattle.sat_base.proofs.lemmas.script.JudgeStates.{accepted_kept, start_kept}
 use Rattle.certify.proofs.lemmas.serving.ServedOnce.{serves_refused}
 use Rattle.certify.proofs.lemmas.serving.SessionCalls.{took_none}
 use Rattle.certify.specs.serving.Quiet.{Solver}

@@ -19,10 +19,10 @@ use Rattle.certify.specs.declared.judge.NameState.{NameState}
 use Rattle.certify.specs.declared.judge.NameState.TheVariants as state
 use Rattle.certify.specs.serving.Calls.{IsReady, proof_in}
 use Rattle.certify.specs.serving.Obeying.{Obeyed, command_to, due_to, may_to}
-use Rattle.certify.specs.serving.Stretches.{IsNoAsk, Makes, MayFor, due_for, made}
+use Rattle.sat_checker.specs.matching.Traces.{HasTrace, no_step}
+use Rattle.certify.specs.serving.Stretches.{IsNoAsk, MayFor, due_for}
 use Rattle.certify.proofs.lemmas.serving.ClauseServed.{clause_agrees, clause_stretch}
-use Rattle.certify.proofs.lemmas.serving.Converted.{due_as, hiding_due, made_of, setting_due}
-use Rattle.certify.proofs.lemmas.serving.Making.{makes_both}
+use Rattle.sat_checker.proofs.lemmas.matching.Traces.{traces_both}
 use Rattle.certify.proofs.lemmas.serving.SessionCalls.{took_both, took_none}
 use Rattle.certify.specs.serving.Quiet.{Solver}
 
@@ -59,10 +59,10 @@ due_both state.Hidden u v xs ys j = hiding_both xs ys j
 due_both state.Sampled u v xs ys j = setting_both Sampled xs ys j
 due_both state.Witnessed u v xs ys j = setting_both Witnessed xs ys j
 
-due_same : (st : NameState) (u : Bool) (names : List ℕ) (j : Judge) → due_to st names j ≡ map due_as (due_for u (command_to st names) j)
-due_same state.Hidden u names j = hiding_due names j
-due_same state.Sampled u names j = setting_due Sampled names j
-due_same state.Witnessed u names j = setting_due Witnessed names j
+due_same : (st : NameState) (u : Bool) (names : List ℕ) (j : Judge) → due_to st names j ≡ due_for u (command_to st names) j
+due_same state.Hidden u names j = refl
+due_same state.Sampled u names j = refl
+due_same state.Witnessed u names j = refl
 
 -- what may come for one of several names
 front_among : (x : ℕ) (xs ys : List ℕ) → Among x xs → Among x (xs ++ ys)
@@ -124,7 +124,7 @@ module _ {C : Type 0} (seen : C → Writer) where
           k.live,
           k.agree,
           record {
-            due = made_of (due_for u c j) k.writes (due_same st u (name ∷ []) j);
+            due = subst (HasTrace the_checking (steps_in a) (steps_in b)) (due_same st u (name ∷ []) j) k.trace;
             comes = comes_map (may_to st name) (MayFor c) (may_one st name) (steps_in a) (steps_in b) r.comes;
           },
         );
@@ -140,7 +140,7 @@ module _ {C : Type 0} (seen : C → Writer) where
       live,
       subst (λ k. Agree a.names (steps_in a) k live) (sym (none_accepted st j)) agree,
       record {
-        due = subst (Makes the_checking (steps_in a) (steps_in a)) (sym (none_due st (the_checking.unsat (steps_in a)) j)) made;
+        due = subst (HasTrace the_checking (steps_in a) (steps_in a)) (sym (none_due st (the_checking.unsat (steps_in a)) j)) no_step;
         comes = comes_none (MayFor (command_to st [])) (steps_in a);
       },
     );
@@ -158,7 +158,7 @@ module _ {C : Type 0} (seen : C → Writer) where
           y.0,
           subst (λ k. Agree c.names (steps_in c) k y.0) (sym (accepted_both st xs ys j)) y.1,
           record {
-            due = subst (Makes the_checking (steps_in a) (steps_in c)) (sym (due_both st (the_checking.unsat (steps_in a)) (the_checking.unsat (steps_in b)) xs ys j)) (makes_both x.2.due y.2.due);
+            due = subst (HasTrace the_checking (steps_in a) (steps_in c)) (sym (due_both st (the_checking.unsat (steps_in a)) (the_checking.unsat (steps_in b)) xs ys j)) (traces_both x.2.due y.2.due);
             comes = comes_both (MayFor (command_to st (xs ++ ys))) (steps_in a) (steps_in b) (steps_in c)
                 (comes_map (MayFor (command_to st xs)) (MayFor (command_to st (xs ++ ys))) (may_front st xs ys) (steps_in a) (steps_in b) x.2.comes)
                 (comes_map (MayFor (command_to st ys)) (MayFor (command_to st (xs ++ ys))) (may_back st xs ys) (steps_in b) (steps_in c) y.2.comes);

@@ -4,7 +4,7 @@ use Rattle.sat_base.specs.device.Device.{Writer, Takes}
 use Rattle.sat_base.specs.script.Script.{Ask}
 use Rattle.sat_base.specs.script.Judge.{Judge, bring_all}
 use Rattle.sat_solver.specs.names.Calls as solver
-use Rattle.sat_solver.specs.names.Expected.{Expected}
+use Rattle.sat_checker.specs.matching.Expected.{Unknown, Expected}
 use Rattle.sat_solver.specs.names.Refusing.{names_in}
 use Rattle.sat_solver.specs.session.Making.{Took, Broke}
 use Rattle.sat_solver.specs.session.ProofView.{steps_of}
@@ -58,12 +58,12 @@ pub searched_ready : {C : Type 0} (seen : C → Writer) (budget : ℕ) (report :
 searched_ready seen budget report a b s = did_ready seen s.mid b _ _ s.limited.ready s.solved.answered.did
 
 pub sought_took : {C : Type 0} (seen : C → Writer) (a b c : Solver C) (user : List ℕ) (budget : ℕ) (report : AskReport) → Assumed seen a b user → Searched seen budget report b c → Took seen (proof_in a) (proof_in c)
-sought_took seen a b c user budget report opened s = took_both seen (proof_in a) (proof_in b) (proof_in c) opened.did.took (search_took seen budget report b c s)
+sought_took seen a b c user budget report opened s = took_both seen (proof_in a) (proof_in b) (proof_in c) (opened.did Unknown).took (search_took seen budget report b c s)
 
 -- some state of the judge agrees with a solver still, and no name is refused where there is none
 pub allowed_still : {C : Type 0} (seen : C → Writer) (a b c : Solver C) (user : List ℕ) (budget : ℕ) (report : AskReport) → IsAllowed a user → Assumed seen a b user → Searched seen budget report b c → IsAllowed c []
 allowed_still seen a b c user budget report allowed opened s =
-    let k = opened.did.does.kept allowed.0 allowed.1 allowed.2 in
+    let k = (opened.did Unknown).does.kept allowed.0 allowed.1 allowed.2 in
     let at = subst (λ ns. solver.Agree ns (steps_in s.mid) (bring_all (names_in user) allowed.0) k.live) (sym s.limited.names) (subst (λ (p : Proof _). solver.Agree b.names (steps_of p) (bring_all (names_in user) allowed.0) k.live) (sym s.limited.proof) k.agree) in
     let n = s.solved.answered.did.does.kept (bring_all (names_in user) allowed.0) k.live at in
     (bring_all (names_in user) allowed.0, n.live, n.agree, refl)
@@ -73,9 +73,9 @@ pub asked_of : {C : Type 0} (seen : C → Writer) (old new : Session C) (now : S
     → Sought seen old.budget report user text old.solver now → Takes before after text → Assumed seen now new.solver [] → new.commands ≡ old.commands → new.refused ≡ old.refused → new.budget ≡ old.budget → new.asks.items ≡ old.asks.items ++ report ∷ []
     → CarriedOut seen old new (Ask (named_literals user)) before after
 asked_of seen old new now user text report before after sought told closed commands refused budget asks = record {
-  ready = did_ready seen now new.solver _ _ (searched_ready seen old.budget report sought.mid now sought.searched) closed.did;
+  ready = did_ready seen now new.solver _ _ (searched_ready seen old.budget report sought.mid now sought.searched) (closed.did Unknown);
   free = closed.assumed;
-  took = took_both seen (proof_in old.solver) (proof_in now) (proof_in new.solver) (sought_took seen old.solver sought.mid now user old.budget report sought.opened sought.searched) closed.did.took;
+  took = took_both seen (proof_in old.solver) (proof_in now) (proof_in new.solver) (sought_took seen old.solver sought.mid now user old.budget report sought.opened sought.searched) (closed.did Unknown).took;
   commands = commands;
   refused = refused;
   budget = budget;

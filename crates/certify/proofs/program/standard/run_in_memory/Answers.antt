@@ -18,7 +18,7 @@ returns-in-Ok c =
     (ap contents (sym c.into_inner.ensures))
     (ap (λ (w : Writer). w.contents) (c.new-certificate.ensures.writer contents) ∙ ap Some c.new-2.ensures.items)
     (ap contents (sym c.into_inner-in-Ok.ensures))
-    c.in-Ok.ensures.answered c.in-Ok.ensures.backed in
+    c.in-Ok.ensures.backed in
     record {
       malformed = c.is_some.ensures
           ∙ malformed_told c.in-Ok.summary (reader_of remaining c.new-3.result) (reader_of remaining c.run.new.script) c.args.script.now told c.in-Ok.ensures.answered (λ t h. h.2.malformed);

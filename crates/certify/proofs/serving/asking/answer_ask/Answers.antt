@@ -1,6 +1,7 @@
 use Rattle.std.proofs.Common.{ℕ, List, refl, subst}
 use Rattle.std.proofs.lemmas.Result.{err_from_is_err_and}
 use Rattle.sat_base.specs.device.Device.{Takes}
+use Rattle.sat_checker.specs.matching.Expected.{Unknown}
 use Rattle.certify.proofs.lemmas.serving.SessionCalls.{answers_say, asked_of, memory_says, solver_says, sought_writes, takes_none, took_both}
 use Rattle.certify.specs.serving.Calls.{proof_in}
 use Rattle.certify.proofs.serving.asking.answer_ask.Goals as goal
@@ -24,7 +25,7 @@ returns-in_err-push-clause-written g c =
     let p = err_from_is_err_and c.from_residual-in_err-push.result c.from_residual-in_err-push.ensures.1 in
     let s = c.args.session.now in
     rw p.1 (memory_says g.C.CountedWrite.seen _ (g.A.CountedWrite.seen c.args.answers.now) (g.A.CountedWrite.seen c.write_answer.new.answers) s.solver c.assume.new.solver p.2 (takes_none (g.A.CountedWrite.seen c.args.answers.now) (g.A.CountedWrite.seen c.write_answer.new.answers) _ c.in_ok-write_answer.ensures.takes)
-    (took_both g.C.CountedWrite.seen (proof_in s.solver) (proof_in c.ask.new.solver) (proof_in c.assume.new.solver) (sought_writes g.C.CountedWrite.seen s.solver c.ask.new.solver c.args.literals.now c.ask.new.page.text.items s.budget c.in_ok-report.report c.in_ok-report.ensures.sought) c.in_ok-assume.ensures.assumed.did.took))
+    (took_both g.C.CountedWrite.seen (proof_in s.solver) (proof_in c.ask.new.solver) (proof_in c.assume.new.solver) (sought_writes g.C.CountedWrite.seen s.solver c.ask.new.solver c.args.literals.now c.ask.new.page.text.items s.budget c.in_ok-report.report c.in_ok-report.ensures.sought) (c.in_ok-assume.ensures.assumed.did Unknown).took))
 
 pub returns-clause-carried : goal.returns-clause-carried
 returns-clause-carried g c =
@@ -36,5 +37,5 @@ pub returns-clause-written : goal.returns-clause-written
 returns-clause-written g c =
     let s = c.args.session.now in (
       takes_none (g.A.CountedWrite.seen c.args.answers.now) (g.A.CountedWrite.seen c.write_answer.new.answers) _ c.in_ok-write_answer.ensures.takes,
-      took_both g.C.CountedWrite.seen (proof_in s.solver) (proof_in c.ask.new.solver) (proof_in c.assume.new.solver) (sought_writes g.C.CountedWrite.seen s.solver c.ask.new.solver c.args.literals.now c.ask.new.page.text.items s.budget c.in_ok-report.report c.in_ok-report.ensures.sought) c.in_ok-assume.ensures.assumed.did.took,
+      took_both g.C.CountedWrite.seen (proof_in s.solver) (proof_in c.ask.new.solver) (proof_in c.assume.new.solver) (sought_writes g.C.CountedWrite.seen s.solver c.ask.new.solver c.args.literals.now c.ask.new.page.text.items s.budget c.in_ok-report.report c.in_ok-report.ensures.sought) (c.in_ok-assume.ensures.assumed.did Unknown).took,
     )

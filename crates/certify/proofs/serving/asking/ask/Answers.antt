@@ -1,11 +1,12 @@
 use Rattle.std.proofs.lemmas.Result.{err_from_is_err_and}
-use Rattle.certify.proofs.lemmas.serving.SessionCalls.{fails_then, memory_fails, searched_ready, sought_took, allowed_still}
+use Rattle.sat_checker.specs.matching.Expected.{Unknown}
+use Rattle.certify.proofs.lemmas.serving.SessionCalls.{did_ready, fails_then, memory_fails, searched_ready, sought_took, allowed_still}
 use Rattle.certify.proofs.serving.asking.ask.Goals as goal
 
 pub returns-in_err-report-clause-fails : goal.returns-in_err-report-clause-fails
 returns-in_err-report-clause-fails g c =
     let p = err_from_is_err_and c.from_residual-in_err-report.result c.from_residual-in_err-report.ensures.1 in
-    rw (p.1, p.2) (fails_then g.C.CountedWrite.seen c.in_err-report.field-0.0 c.args.solver.now c.assume.new.solver c.search.new.solver c.in_ok-assume.ensures.assumed.did.took c.in_err-report.ensures.fails)
+    rw (p.1, p.2) (fails_then g.C.CountedWrite.seen c.in_err-report.field-0.0 c.args.solver.now c.assume.new.solver c.search.new.solver (c.in_ok-assume.ensures.assumed.did Unknown).took c.in_err-report.ensures.fails)
 
 pub returns-in_err-tell-clause-fails : goal.returns-in_err-tell-clause-fails
 returns-in_err-tell-clause-fails g c =
@@ -22,3 +23,6 @@ returns-clause-ready g c = searched_ready g.C.CountedWrite.seen c.args.budget c.
 
 pub tell-requires-clause-ready : goal.tell-requires-clause-ready
 tell-requires-clause-ready g c = searched_ready g.C.CountedWrite.seen c.args.budget c.in_ok-report.report c.assume.new.solver c.search.new.solver c.in_ok-report.ensures.searched
+
+pub search-requires : goal.search-requires
+search-requires g c = did_ready g.C.CountedWrite.seen c.args.solver.now c.assume.new.solver _ _ c.requires.ready (c.in_ok-assume.ensures.assumed.did Unknown)

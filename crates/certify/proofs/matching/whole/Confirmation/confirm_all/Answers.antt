@@ -1,4 +1,4 @@
-use Rattle.std.proofs.Common.{◌<◌, true, refl, sym, ◌∙◌, subst}
+use Rattle.std.proofs.Common.{◌+◌, ◌<◌, ℕ, true, refl, sym, ◌∙◌, ap, subst}
 use Rattle.std.proofs.lemmas.Result.{err_from_is_err_and}
 use Rattle.certify.specs.confirm.Streams.{bytes_left}
 use Rattle.certify.specs.matching.Sessions.{answers_in}
@@ -165,7 +165,7 @@ loop-next-preserved g c =
       open_yet = took_open (answers_in A l.answers l.self.session) (answers_in A c.confirm_next.new.answers last.session) l.invariant.open_yet k.joins.0;
       script_open = subst (λ (x : CommandStream). IsOpen (source_in S c.next.new.script x.ahead)) script (took_open a b l.invariant.script_open (came.0, came.1));
       through = subst (λ (x : CommandStream). GoesThrough reading old (standing S A C c.next.new.script c.confirm_next.new.answers c.confirm_next.new.steps (record last { script = x })) x.reader) script
-          (one_more reading old mid l.self.script.reader c.next.new.self.reader l.invariant.through c.requires.script_open c.requires.open_yet c.requires.goes_on.open_yet new came c.in_ok-confirm_next-in-Command.ensures.number (λ v is. (c.in_ok-confirm_next-in-Command.ensures.confirms v is).joins));
+          (one_more reading old mid l.self.script.reader c.next.new.self.reader l.invariant.through c.requires.script_open c.requires.open_yet c.requires.goes_on.open_yet new came (ap (λ (n : ℕ). n + 1) c.in_ok-confirm_next-in-Command.ensures.number) (λ v is. (c.in_ok-confirm_next-in-Command.ensures.confirms v is).joins));
     }
 
 pub loop-next-smaller : goal.loop-next-smaller

@@ -1,26 +1,9 @@
-use Rattle.std.proofs.Common.{◌-◌, ◌^◌, ◌≤◌, Ok, Err, true, refl, arith, rules}
-use Rattle.std.proofs.lemmas.Result.{err_from_is_err_and}
+use Rattle.std.proofs.Common.{◌+◌, ◌^◌, ◌≤◌, true, refl, arith, rules}
 use Rattle.std.proofs.lemmas.Bool.Decides.{nat_tests}
 use Rattle.certify.specs.matching.Confirming.{ConfirmsNext, table_of}
 use Rattle.certify.specs.matching.Sessions.{answers_in, stream_in}
 use Rattle.certify.proofs.lemmas.matching.Joining.{joins_many, too_many}
 use Rattle.certify.proofs.matching.whole.Confirmation.confirm_next.Goals as goal
-
-pub returns-in_err-confirm_command-clause-confirms : goal.returns-in_err-confirm_command-clause-confirms
-returns-in_err-confirm_command-clause-confirms g c w is =
-    let A = g.A.CountedRead.seen in
-    let C = g.C.CountedRead.seen in
-    let old = c.args.self.now.session in
-    let new = c.confirm_command.new.self in
-    let k = c.in_err-confirm_command.ensures.confirms w (c.command.ensures w is) in
-    let p = err_from_is_err_and c.from_residual.result c.from_residual.ensures.1 in
-    rw (p.1, p.2) (record {
-      same = k.same;
-      bound = k.bound;
-      goes_on = tt;
-      joins = joins_many (2 ^ 64 - 1 ≤ old.number) true (Err c.in_err-confirm_command.field-0.0) (answers_in A c.args.answers.now old) (answers_in A c.confirm_command.new.answers new) (stream_in C c.args.steps.now old.matching) (stream_in C c.confirm_command.new.steps new.matching)
-          (ConfirmsNext old.number w (table_of old.matching) (table_of new.matching)) k.joins;
-    })
 
 pub returns-clause-confirms : goal.returns-clause-confirms
 returns-clause-confirms g c w is =
@@ -28,13 +11,13 @@ returns-clause-confirms g c w is =
     let C = g.C.CountedRead.seen in
     let old = c.args.self.now.session in
     let new = c.confirm_command.new.self in
-    let k = c.in_ok-confirm_command.ensures.confirms w (c.command.ensures w is) in
+    let k = c.confirm_command.ensures.confirms w (c.command.ensures w is) in
     record {
       same = k.same;
       bound = k.bound;
       goes_on = k.goes_on;
-      joins = joins_many (2 ^ 64 - 1 ≤ old.number) true (Ok tt) (answers_in A c.args.answers.now old) (answers_in A c.confirm_command.new.answers new) (stream_in C c.args.steps.now old.matching) (stream_in C c.confirm_command.new.steps new.matching)
-          (ConfirmsNext old.number w (table_of old.matching) (table_of new.matching)) k.joins;
+      joins = joins_many (2 ^ 64 ≤ old.number + 1) true c.confirm_command.result (answers_in A c.args.answers.now old) (answers_in A c.confirm_command.new.answers new) (stream_in C c.args.steps.now old.matching) (stream_in C c.confirm_command.new.steps new.matching)
+          (ConfirmsNext (old.number + 1) w (table_of old.matching) (table_of new.matching)) k.joins;
     }
 
 pub returns-then-self-clause-confirms : goal.returns-then-self-clause-confirms
@@ -42,10 +25,10 @@ returns-then-self-clause-confirms g c w is =
     let A = g.A.CountedRead.seen in
     let C = g.C.CountedRead.seen in
     let old = c.args.self.now.session in
-    let many : 2 ^ 64 - 1 ≤ old.number = first_of (search rules, grind (arith, nat_tests)) in
+    let many : 2 ^ 64 ≤ old.number + 1 = first_of (search rules, grind (arith, nat_tests)) in
     record {
       same = refl;
       bound = c.requires.goes_on.bound;
       goes_on = tt;
-      joins = too_many (2 ^ 64 - 1 ≤ old.number) true (answers_in A c.args.answers.now old) (stream_in C c.args.steps.now old.matching) (ConfirmsNext old.number w (table_of old.matching) (table_of old.matching)) c.requires.goes_on.open_yet many;
+      joins = too_many (2 ^ 64 ≤ old.number + 1) true (answers_in A c.args.answers.now old) (stream_in C c.args.steps.now old.matching) (ConfirmsNext (old.number + 1) w (table_of old.matching) (table_of old.matching)) c.requires.goes_on.open_yet many;
     }

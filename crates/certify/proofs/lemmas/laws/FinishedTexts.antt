@@ -1,0 +1,95 @@
+-- What a finished run wrote is confirmed: by whatever readers, and over texts in memory.
+use Rattle.std.proofs.Common.{ℕ, ◌+◌, ◌*◌, ◌^◌, ◌≤◌, ◌≡◌, ◌∙◌, List, [], ◌++◌, Option, None, Some, Result, Ok, Err, IfOk, sym, ap, subst, arith, length, length-append}
+use Rattle.std.specs.Prelude.{IfSome, ◌↔◌}
+use Rattle.std.specs.Io.KnownBytes.{Appends, Consumes}
+use Rattle.std.proofs.lemmas.List.{append_cancel_left}
+use Rattle.std.proofs.Math.Nat.{mul-le-mul, mul-one, pow-succ', pow-zero}
+use Rattle.sat_base.specs.device.Device.{Reader, Writer, GaveEnough, Takes}
+use Rattle.sat_base.specs.script.Language.{reading}
+use Rattle.sat_base.proofs.lemmas.device.Given.{enough_told}
+use Rattle.sat_checker.specs.matching.ProofChecking.{the_checking}
+use Rattle.certify.specs.confirm.Matches.{Matches}
+use Rattle.certify.specs.confirm.VerdictPromises.{AreRightAnswers, Exact, Given, IsSound, TakesLooks}
+use Rattle.certify.specs.laws.EndToEnd.{CanBe, FinishedIsConfirmed, Says, most_looks}
+use Rattle.certify.specs.run.FinishedRun.{Backs, TookCertificate, asked_steps}
+use Rattle.certify.specs.declared.summary.Summary.{Summary}
+use Rattle.certify.specs.declared.verdict.ConfirmFault.{ConfirmFault}
+use Rattle.certify.specs.declared.verdict.Verdict.{Verdict}
+use Rattle.certify.specs.declared.verdict.Verdict.TheVariants.{Yes}
+use Rattle.certify.proofs.lemmas.laws.CertifiedMatches.{certified_matches}
+
+-- what is said of all that a reader gave is so of a text that it can be
+can_be : (a b : Reader) (P : List ℕ → Type 0) (text : List ℕ) → CanBe (a, b) text → GaveEnough a b P → P text
+can_be a b P text c g =
+    let same : c.given ≡ g.text = append_cancel_left a.given c.given g.text (sym c.front.gave ∙ g.front.gave) in
+    subst P (sym (c.whole ∙ ap (λ (xs : List ℕ). xs ++ c.rest) same)) (g.holds c.rest c.follows)
+
+pub backed_matches : (budget : ℕ) (summary : Summary) (text answered certified : List ℕ) → Backs text budget summary answered certified → Matches the_checking reading text answered certified
+backed_matches budget summary text answered certified b =
+    let a = b.is_answered in
+    subst (λ s. Matches the_checking reading text s certified) (sym a.answers)
+    (certified_matches reading text certified a.outcomes b.steps (asked_steps summary.asks.items) a.right b.accepted b.certifies b.certificate)
+
+pub finished_confirmed : FinishedIsConfirmed
+finished_confirmed script answers certificate v budget summary text answered certified s a c b e =
+    let exact = can_be certificate.0 certificate.1 _ certified c (can_be answers.0 answers.1 _ answered a (can_be script.0 script.1 _ text s e)) in
+    exact.1 (backed_matches budget summary text answered certified b)
+
+-- what is said of a text that is told
+pub told : (a b : Reader) (P : List ℕ → Type 0) (text : List ℕ) → a.to_come ≡ Some text → GaveEnough a b P → P text
+told a b P text e g = subst (λ o. IfSome o P) e (enough_told a b P g)
+
+pub says : (r : Result Verdict ConfirmFault) (a x b y c z : Reader) (s t u : List ℕ) → a.to_come ≡ Some s → b.to_come ≡ Some t → c.to_come ≡ Some u
+    → IfOk r (Exact (a, x) (b, y) (c, z)) → IfOk r (IsSound (a, x) (b, y)) → IfOk r (Says s t u)
+says (Ok v) a x b y c z s t u d e f h k = record {
+  exact = told c z (λ n. (v ≡ Yes) ↔ Matches the_checking reading s t n) u f
+      (told b y (λ m. Given (c, z) (λ n. (v ≡ Yes) ↔ Matches the_checking reading s m n)) t e
+      (told a x (λ l. Given (b, y) (λ m. Given (c, z) (λ n. (v ≡ Yes) ↔ Matches the_checking reading l m n))) s d h));
+  sound = λ yes. told b y (AreRightAnswers s) t e (told a x (λ l. Given (b, y) (AreRightAnswers l)) s d (k yes));
+}
+says (Err e) a x b y c z s t u d f g h k = tt
+
+-- LOOKS
+consumed : (o p : Option (List ℕ)) (u text : List ℕ) → o ≡ Some u → Consumes o p text → length text ≤ length u
+consumed None p u text e h = absurd (let g = e in cc)
+consumed (Some xs) None u text e h = absurd h
+consumed (Some xs) (Some ys) u text e h =
+    let same : u ≡ text ++ ys = (let g : xs ≡ u = cc in sym g ∙ h) in
+    let whole = ap length same in
+    omega (arith, length-append text ys, whole)
+
+square : (n : ℕ) → n ^ 2 ≡ n * n
+square n = pow-succ' n 1 ∙ ap (λ (k : ℕ). n * k) (pow-succ' n 0 ∙ ap (λ (k : ℕ). n * k) (pow-zero n) ∙ mul-one n)
+
+squares_rise : (m n : ℕ) → m ≤ n → 16 * m ^ 2 ≤ 16 * n ^ 2
+squares_rise m n h =
+    let p : m * m ≤ n * n = mul-le-mul h h in
+    rw (square m, square n) (omega (arith, p))
+
+pub looks_within : (c z : Reader) (s t u : List ℕ) (from to : ℕ) → c.to_come ≡ Some u → TakesLooks c z from to → to ≤ from + most_looks s t u
+looks_within c z s t u from to e k =
+    let few = consumed c.to_come z.to_come u k.text e k.front.told in
+    let up = squares_rise (length k.text + 1) (length s + length t + length u + 1) (omega (arith, few)) in
+    omega (arith, up, k.bound)
+
+-- WHAT A RUN WROTE IN MEMORY
+appended : (o p : Option (List ℕ)) (text items : List ℕ) → Appends o p text → o ≡ Some [] → p ≡ Some items → items ≡ text
+appended None p text items h e f = absurd (let g = e in cc)
+appended (Some xs) None text items h e f = absurd (let g = f in cc)
+appended (Some xs) (Some ys) text items h e f =
+    let no : xs ≡ [] = cc in
+    let same : ys ≡ items = cc in
+    sym same ∙ h ∙ ap (λ (zs : List ℕ). zs ++ text) no
+
+pub run_finished : (budget : ℕ) (summary : Summary) (x y : Reader) (a b c d : Writer) (text answers certificate : List ℕ) → x.to_come ≡ Some text
+    → a.contents ≡ Some [] → b.contents ≡ Some answers → c.contents ≡ Some [] → d.contents ≡ Some certificate
+    → TookCertificate budget summary (x, y) (a, b) (c, d) → Backs text budget summary answers certificate
+run_finished budget summary x y a b c d text answers certificate e f g h i took =
+    let p = told x y (λ t. (answered : List ℕ) × (certified : List ℕ) × Takes a b answered × Takes c d certified × Backs t budget summary answered certified) text e took in
+    let is_answered : answers ≡ p.0 = appended a.contents b.contents p.0 answers p.2.told f g in
+    let is_certified : certificate ≡ p.1 = appended c.contents d.contents p.1 certificate p.3.told h i in
+    subst (λ s. Backs text budget summary answers s) (sym is_certified) (subst (λ s. Backs text budget summary s p.1) (sym is_answered) p.4)
+
+-- a verdict on what a finished run wrote is yes
+pub backed_yes : (budget : ℕ) (summary : Summary) (script answers certificate : List ℕ) (v : Verdict) → Backs script budget summary answers certificate → Says script answers certificate v → v ≡ Yes
+backed_yes budget summary script answers certificate v b s = s.exact.1 (backed_matches budget summary script answers certificate b)

@@ -1,0 +1,33 @@
+-- What becomes of the certificate of a finished run where its hint text is wanted.
+use Rattle.std.specs.Prelude.{ℕ, ◌≡◌, Bool, Some, List, ◌++◌, Result, Ok, Err}
+use Rattle.sat_base.specs.device.Device.{Reader, Writer, Takes}
+use Rattle.sat_base.specs.steps.Steps.{Step}
+use Rattle.sat_hints.specs.Checks.{IsProof}
+use Rattle.sat_hints.specs.Conversion.{hint_text}
+use Rattle.sat_hints.specs.Converts.{Converts}
+use Rattle.sat_hints.specs.declared.error.HintError.{HintError}
+use Rattle.sat_hints.specs.declared.error.HintError.TheVariants.{Refused, HasDeleteVar, Read, Write, OutOfMemory}
+use Rattle.certify.specs.run.FinishedRun.{Backs}
+use Rattle.certify.specs.declared.summary.Summary.{Summary}
+
+-- a text is a derivation, with some fields
+pub record IsProved (text : List ℕ) : Type 0 where
+  pub empty : Bool
+  pub cores : ℕ
+  pub lines : ℕ
+  pub proof : IsProof text empty cores lines
+
+-- The hint text of these steps was written, which is proved; or there was a fault.
+abbrev pub HasHints : Result (Unit {0}) HintError → List Step → Writer → Writer → Type 0
+HasHints (Ok x) steps old new = Takes old new (hint_text steps) × IsProved (hint_text steps)
+HasHints (Err HasDeleteVar) steps old new = ⊥
+HasHints (Err (Refused e)) steps old new = ⊥
+HasHints (Err Read) steps old new = Unit {0}
+HasHints (Err Write) steps old new = Unit {0}
+HasHints (Err OutOfMemory) steps old new = Unit {0}
+
+-- that is what `convert` answers to the certificate of any finished run, where its reader tells the bytes, whatever stands behind them
+abbrev pub RunsHaveHints : Type 0
+RunsHaveHints = (budget : ℕ) (summary : Summary) (text answered certified more : List ℕ) (result : Result (Unit {0}) HintError) (from to : Reader) (old new : Writer)
+    → (b : Backs text budget summary answered certified) → from.to_come ≡ Some (certified ++ more)
+    → Converts result from to old new → HasHints result b.steps old new

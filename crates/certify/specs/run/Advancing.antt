@@ -1,0 +1,50 @@
+-- When a derived clause advances, by what the checker of a certificate has stored, and how often that happens between two places of it.
+-- Lists of steps have the newest first.
+use Rattle.std.specs.Prelude.{ℕ, ◌+◌, ◌≡◌, ◌⊎◌, true, false, List, [], ◌∷◌, ◌++◌, map}
+use Rattle.std.specs.List.{AllByRecursion}
+use Rattle.sat_base.specs.values.Literals.{negated}
+use Rattle.sat_base.specs.script.Script.{Among}
+use Rattle.sat_base.specs.steps.Steps.{Step, AtClause}
+use Rattle.sat_checker.specs.LiteralSets.{is_among}
+use Rattle.sat_checker.specs.Stored.{Stored, unit_literals, long_clauses}
+use Rattle.sat_checker.specs.Propagation.{IsFalsified, IsUnit}
+use Rattle.sat_checker.specs.Accepts.{ready_after}
+use Rattle.sat_checker.specs.matching.Checking.{is_ordered}
+
+-- stored clauses that are unit in turn under the first literals lead to the second
+pub data Leads (f : Stored) : List ℕ → List ℕ → Type 0 where
+  leads_none : {ls : List ℕ} → Leads f ls ls
+  leads_one : {ls ks : List ℕ} (clause : List ℕ) (open_literal : ℕ) → Among clause (long_clauses f) → IsUnit ls clause open_literal
+      → Leads f (open_literal ∷ ls) ks → Leads f ls ks
+
+-- what is assumed: the negations of a clause's other literals, and the stored units
+abbrev pub supposed : Stored → List ℕ → List ℕ
+supposed f others = map negated others ++ unit_literals f
+
+pub record IsOpenStill (f : Stored) (literal : ℕ) (reached : List ℕ) : Type 0 where
+  pub not_true : is_among reached literal ≡ false
+  pub not_false : is_among reached (negated literal) ≡ false
+  pub no_conflict : (clause : List ℕ) → Among clause (long_clauses f) → IsFalsified reached clause → ⊥
+
+-- For some literal of the clause the stored units and the negations of its other literals agree and leave that literal open, and no stored
+-- clauses that are unit in turn under them assign it or falsify a clause.
+pub record Advances (f : Stored) (clause : List ℕ) : Type 0 where
+  pub literal : ℕ
+  pub others : List ℕ
+  pub is : clause ≡ literal ∷ others
+  pub agree : (l : ℕ) → is_among (supposed f others) l ≡ true → is_among (supposed f others) (negated l) ≡ false
+  pub open_still : (reached : List ℕ) → Leads f (supposed f others) reached → IsOpenStill f literal reached
+
+abbrev pub IsAdvancing : Stored → Step → Type 0
+IsAdvancing f (AtClause redundant clause hashes) = Advances f clause
+IsAdvancing f step = ⊥
+
+-- at least so many of these steps are derived clauses that advance, each behind the steps before it
+abbrev pub AdvanceTimes : (earlier steps : List Step) → ℕ → Type 0
+AdvanceTimes earlier [] k = k ≡ 0
+AdvanceTimes earlier (step ∷ steps) k = AdvanceTimes earlier steps k
+    ⊎ ((j : ℕ) × (k ≡ j + 1) × IsAdvancing (ready_after (steps ++ earlier)) step × AdvanceTimes earlier steps j)
+
+-- none of them is expected of a script and its answers
+abbrev pub AreUnordered : List Step → Type 0
+AreUnordered = AllByRecursion (λ step. is_ordered step ≡ false)

@@ -1,0 +1,7 @@
+-- Commands that hide no name.
+use Rattle.std.specs.Prelude.{◌∷◌}
+use Rattle.sat_base.specs.script.Script.{Command, Hide}
+
+abbrev pub HidesNothing : Command → Type 0
+HidesNothing (Hide (name ∷ names)) = ⊥
+HidesNothing command = Unit {0}

@@ -1,0 +1,156 @@
+//! Hint texts of what runs write: each is proved.
+
+use crate::devices::in_pieces;
+use certify::run::run;
+use sat_base::{Counted, CountedRead};
+use sat_hints::{HintVerdict, check, convert};
+use std::alloc::Global;
+
+const AMPLE: u64 = 1 << 20;
+
+/// The certificate that a run writes for a script; nothing where the run isn't finished.
+fn certificate_of(alloc: Global, script: &[u8]) -> Vec<u8> {
+    let mut answers = Counted::new(Vec::new(alloc));
+    let mut certificate = Counted::new(Vec::new(alloc));
+    let done = run(
+        alloc,
+        &mut Counted::new(script),
+        &mut answers,
+        &mut certificate,
+        AMPLE,
+    )
+    .is_ok();
+    if done {
+        certificate.into_inner()
+    } else {
+        Vec::new(alloc)
+    }
+}
+
+/// The hint text of the certificate that a reader gives, and whether that is one.
+fn text_of<C: CountedRead>(alloc: Global, certificate: &mut C) -> (bool, Vec<u8>) {
+    let mut text = Counted::new(Vec::new(alloc));
+    let done = convert(alloc, certificate, &mut text).is_ok();
+    (done, text.into_inner())
+}
+
+/// What is said of a text in pieces of so many bytes.
+fn said_in(alloc: Global, text: &[u8], size: usize) -> Option<HintVerdict> {
+    check(alloc, &mut in_pieces(text, size)).ok()
+}
+
+/// The hint text of a certificate that is read in pieces of so many bytes, and what is said of that in such pieces.
+fn hinted_in(alloc: Global, certificate: &[u8], size: usize) -> (Vec<u8>, Option<HintVerdict>) {
+    let (done, text) = text_of(alloc, &mut in_pieces(certificate, size));
+    let said = if done {
+        said_in(alloc, text.as_slice(), size)
+    } else {
+        None
+    };
+    (text, said)
+}
+
+/// Whether a text derives an empty clause, how many cores it has, and how many lines.
+type Fields = (bool, u64, u64);
+
+/// Tests whether a script's certificate has this hint text, which is proved with these fields, whole and by one byte.
+fn is_hinted(alloc: Global, script: &[u8], text: &[u8], (empty, cores, lines): Fields) -> bool {
+    let certificate = certificate_of(alloc, script);
+    let proved = HintVerdict::Proved {
+        empty,
+        cores,
+        lines,
+    };
+    for size in [1, 4096] {
+        let (found, said) = hinted_in(alloc, certificate.as_slice(), size);
+        if found.as_slice() != text || said != Some(proved) {
+            return false;
+        }
+    }
+    true
+}
+
+/// A script, the hint text of its certificate, and its fields.
+static HINTED: [(&[u8], &[u8], Fields); 15] = [
+    (b"", b"", (false, 0, 0)),
+    (b"a 0\n", b"", (false, 0, 0)),
+    (b"3 0\na 0\n", b"i 1 3 0\n", (false, 0, 1)),
+    (b"1 2 0\na 0\n", b"i 1 1 2 0\n", (false, 0, 1)),
+    (
+        b"1 0\n-1 0\na 0\n",
+        b"i 1 1 0\ni 2 -1 0\nd 3 0 1 2 0\n",
+        (true, 0, 3),
+    ),
+    (b"0\na 0\n", b"i 1 0\n", (false, 0, 1)),
+    (
+        b"-1 -2 0\na 1 2 0\n",
+        b"i 1 -1 -2 0\nf 1 2 0 1 0\n",
+        (false, 1, 2),
+    ),
+    (b"a 1 -1 0\n", b"f 1 -1 0 0\n", (false, 1, 1)),
+    // A hidden variable is deleted during the ask, behind a unit of another.
+    (
+        b"1 2 0\n-2 0\nh 2 0\na -1 0\n",
+        b"i 1 1 2 0\ni 2 -2 0\nd 3 1 0 2 1 0\nx 1 0\ne 2 0\nf -1 0 3 0\n",
+        (false, 1, 6),
+    ),
+    // A variable with a unit, and one that no clause ever had.
+    (
+        b"1 0\nh 1 0\n-1 0\na 0\n",
+        b"i 1 1 0\ni 2 -2 0\ne 1 0\n",
+        (false, 0, 3),
+    ),
+    (b"h 2 0\na 0\n", b"e 2 0\n", (false, 0, 1)),
+    (
+        b"1 0\na -1 0\na 0\n",
+        b"i 1 1 0\nf -1 0 1 0\n",
+        (false, 1, 2),
+    ),
+    (
+        b"1 0\na -1 0\n2 0\na 0\n-3 -4 0\na 3 4 0\n",
+        b"i 1 1 0\nf -1 0 1 0\ni 2 2 0\ni 3 -3 -4 0\nf 3 4 0 3 0\n",
+        (false, 2, 5),
+    ),
+    (
+        b"1 0\na 1 0\nh 1 0\n-1 0\na 0\n",
+        b"i 1 1 0\ni 2 -2 0\ne 1 0\n",
+        (false, 0, 3),
+    ),
+    (
+        b"1 2 0\n1 -2 0\n-1 2 0\n-1 -2 0\na 0\n",
+        b"i 1 1 2 0\ni 2 1 -2 0\ni 3 -1 2 0\ni 4 -1 -2 0\nd 5 1 0 1 2 0\nd 6 2 0 5 3 0\nd 7 0 5 6 4 0\n",
+        (true, 0, 7),
+    ),
+];
+
+fn all_hinted() -> &'static [(&'static [u8], &'static [u8], Fields)] {
+    &HINTED
+}
+
+#[test]
+fn certificates_have_hint_texts(rt: HostRuntime) {
+    for &(script, text, fields) in all_hinted() {
+        assert!(rt; is_hinted(rt.alloc(), script, text, fields), "{script:?}");
+    }
+}
+
+/// Whether a hint text was proved, whether it derives an empty clause, and how many cores it has.
+fn is_proved_with(said: Option<HintVerdict>, wanted: (bool, u64)) -> bool {
+    match said {
+        Some(HintVerdict::Proved { empty, cores, .. }) => (empty, cores) == wanted,
+        _ => false,
+    }
+}
+
+/// Tests whether a script's certificate has a hint text that is proved, whole and by one byte: it derives an empty clause or doesn't,
+/// and has so many cores.
+pub(crate) fn is_proved(alloc: Global, script: &[u8], wanted: (bool, u64)) -> bool {
+    let certificate = certificate_of(alloc, script);
+    for size in [1, 4096] {
+        let (_, said) = hinted_in(alloc, certificate.as_slice(), size);
+        if !is_proved_with(said, wanted) {
+            return false;
+        }
+    }
+    true
+}
