@@ -7,11 +7,14 @@
 # be handed back, with no more told than in a run with all memory. Then for hints.rt.txt, a program over sat_hints: the call has to say so, what
 # it wrote has to be the beginning of what it writes with all memory, and all other lines the same. Then for the program certify, on two scripts: it has to end with `certify:
 # OutOfMemory` and status 3, and what it printed by then has to be the beginning of what it prints with all memory. A line says for each N
-# which call was out of memory. It isn't part of the gate, and takes some minutes.
+# which call was out of memory. Last for three programs that tell by their status how it went: texts.rt.txt, over run, confirm, convert and
+# check, where exactly one call has to say so, and all others do as with all memory; solves.rt.txt, over a solver with a checker of its own,
+# each later call of which has to answer that the solver has failed; and refusals.rt.txt, where it is told how many allocations come before a
+# refusal that the input alone decides. It isn't part of the gate, and takes some minutes.
 #
 # `rt try --fail-alloc N` refuses the Nth allocation. Since a build takes longer than a run, one build serves for each N: it always
 # refuses the same allocation, the `most`th, and the program first makes as many of no use as the first byte of its standard input
-# says, most - N. The last allocation and the one behind it are then refused without that, too, in the program as it stands.
+# says, most - N (in the last three, all bytes together). The last allocation and the one behind it are then refused without that, too, in the program as it stands.
 set -euo pipefail
 here=$(cd "$(dirname "$0")" && pwd)
 top=$(cd "$here/../.." && pwd)
@@ -19,8 +22,11 @@ work=$(mktemp -d)
 trap 'rm -rf "$work"' EXIT
 most=200
 
-# A repository of our crates, and the programs over sat_base, sat_checker and sat_hints.
-mkdir -p "$work/repo/crates/calls/src" "$work/repo/crates/feeds/src" "$work/repo/crates/hints/src"
+# A repository of our crates, and the programs over them.
+for program in calls feeds hints texts solves refusals; do
+    mkdir -p "$work/repo/crates/$program/src"
+    cp "$here/$program.rt.txt" "$work/repo/crates/$program/src/main.rt"
+done
 for crate in sat_base sat_store sat_parts sat_checker sat_solver sat_hints certify certify_cli; do
     cp -r "$top/crates/$crate" "$work/repo/crates/"
 done
@@ -28,11 +34,9 @@ cp "$top/HANDLES" "$work/repo/"
 {
     grep -E '^(sat_base|sat_store|sat_parts|sat_checker|sat_solver|sat_hints|certify|certify_cli):' "$top/crates.txt"
     printf 'calls: sat_base\nfeeds: sat_checker sat_base anyhow\nhints: sat_hints sat_base\n'
+    printf 'texts: certify sat_hints sat_checker sat_base\nsolves: sat_solver sat_base\nrefusals: sat_hints sat_checker sat_base\n'
 } > "$work/repo/crates.txt"
 git init -q "$work/repo"
-cp "$here/calls.rt.txt" "$work/repo/crates/calls/src/main.rt"
-cp "$here/feeds.rt.txt" "$work/repo/crates/feeds/src/main.rt"
-cp "$here/hints.rt.txt" "$work/repo/crates/hints/src/main.rt"
 
 # The texts on standard input: none, and two scripts.
 mkdir -p "$work/texts/calls" "$work/texts/feeds" "$work/texts/hints" "$work/texts/certify_cli"
@@ -238,3 +242,39 @@ for text in sat unsat; do
     directly certify_cli "$work/texts/certify_cli" $((count + 1))
     echo "certify $text: $count allocations"
 done
+
+# Bytes that sum up to a count.
+summing() { # COUNT
+    local left=$1
+    while [ "$left" -gt 255 ]; do
+        printf '\377'
+        left=$((left - 255))
+    done
+    printf "\\$(printf %03o "$left")"
+}
+
+# Runs a program that tells by its status how it went with each of so many allocations refused: with 0 none was, and else one.
+told() { # CRATE MOST STATUS..
+    local crate=$1 many=$2 n count=0 end
+    shift 2
+    mkdir -p "$work/$crate-cases"
+    for n in $(seq "$many"); do
+        summing $((many - n)) > "$work/$crate-cases/$n"
+    done
+    run "$crate" "$work/$crate-cases" "$work/$crate-runs" --fail-alloc "$many" --steps 1000
+    for n in $(seq "$many"); do
+        end=$(cat "$work/$crate-runs/$n.end")
+        [ "$end" != "run=ended status=0" ] || continue
+        [[ " $* " == *" ${end#run=ended status=} "* ]] || fail "$crate $n: $end"
+        [ $((count += 1)) = "$n" ] || fail "$crate $n: refused behind one that was not"
+        echo "${end#run=ended }"
+    done > "$work/$crate.txt"
+    count=$(wc -l < "$work/$crate.txt")
+    [ "$count" -lt "$many" ] || fail "$crate: more than $many allocations"
+    echo "$crate: $count allocations"
+    sort "$work/$crate.txt" | uniq -c
+}
+
+told texts 400 3
+told solves 250 3
+told refusals 20 3 4 5

@@ -4,3 +4,4 @@ pub mod Advancing
 pub mod UnknownAsks
 pub mod FinishedRun
 pub mod Running
+pub mod Unfinished

@@ -40,8 +40,9 @@ const USAGE: &str = "usage: certify [run S A C [STEPS] | confirm S A C | hints C
 /// - `hints C H`: writes the hint text of the certificate in C to the file H.
 /// - `check H`: writes to `output` what the hint text in H is, `proved empty=E cores=K lines=L`, E being 0 or 1, or `bad LINE WHY`.
 ///
-/// Files are opened in the order of the arguments, and one that can't be opened or made is the fault of its text. Behind a finished run
-/// a line of its solver's counts goes to `errors`.
+/// An output with the word of the input is refused as other arguments are; two outputs may be one. Files are opened in the order of the
+/// arguments, and one that can't be opened or made is the fault of its text. Behind a finished run a line of its solver's counts goes to
+/// `errors`.
 ///
 /// The status is 0 where all is done, confirmed or proved; 1 where the script is malformed, the answers aren't confirmed or the hint
 /// text is bad, and where a certificate is refused, with `certify: Refused` on `errors`; 2 for other

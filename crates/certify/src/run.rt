@@ -1,8 +1,9 @@
 //! Answers a script, with a certificate.
-ghost use Rattle.std.specs.Prelude.{◌≡◌, ◌+◌, ◌≤◌, ◌⊎◌, true, IfOk, OnOk, IsErrOf};
+ghost use Rattle.std.specs.Prelude.{◌≡◌, ◌+◌, ◌≤◌, ◌⊎◌, true, IfOk, OnErr, OnOk, IsErrOf};
 ghost use Rattle.sat_base.specs.device.Device.{most_reads, ReadFails};
 ghost use Rattle.certify.specs.run.FinishedRun.{Answered, Backed, WriteFails, WritesKept, gave, took};
 ghost use Rattle.certify.specs.run.Running.{ReadsFew, Runs};
+ghost use Rattle.certify.specs.run.Unfinished.{TookSteps, Unfinished};
 
 use crate::fault::RunFault;
 use crate::reading::stream::CommandStream;
@@ -23,6 +24,8 @@ fn answer<S: CountedRead, A: CountedWrite, C: CountedWrite + Drop>(
 ) -> (C, Result<Summary, RunFault>)
     ensures runs { Runs result.1 budget (gave S.seen script.old script.new) (took A.seen answers.old answers.new)
         (C.seen certificate, C.seen result.0) }
+    ensures unfinished { OnErr result.1 (Unfinished (gave S.seen script.old script.new) (took A.seen answers.old answers.new)) }
+    ensures steps { TookSteps (C.seen certificate, C.seen result.0) }
     ensures reads { ReadsFew (gave S.seen script.old script.new) }
 {
     let mut session = Session::new(alloc, certificate, budget);
@@ -50,6 +53,10 @@ pub fn run<S: CountedRead, A: CountedWrite, C: CountedWrite>(
     // that advances by each round. Where no command hides a name, no variable is deleted.
     ensures backed { Backed result budget S.seen A.seen C.seen (script.old, answers.old, certificate.old) (script.new, answers.new, certificate.new) }
     ensures flushed { OnOk result (((A.seen answers.new).flushed ≡ true) × ((C.seen certificate.new).flushed ≡ true)) }
+    // Where it isn't finished, the answers' writer took a front of right answers to the text that was given, whatever would follow.
+    ensures unfinished { OnErr result (Unfinished (gave S.seen script.old script.new) (took A.seen answers.old answers.new)) }
+    // Whatever is answered, the certificate's writer took a front of the text of steps that a checker accepts, and nothing else.
+    ensures steps { TookSteps (took C.seen certificate.old certificate.new) }
 
     // A fault is answered only where it happened: exactly one call of the device failed, or there were 2^48 reads and none did.
     ensures script_read { IsErrOf result RunFault.ScriptRead → ReadFails (S.seen script.old) (S.seen script.new) }

@@ -83,7 +83,7 @@ pub enum ConfirmFault {
     CertificateRead,
     #[error("OutOfMemory")]
     OutOfMemory,
-    /// The script has more than 2^64-1 commands, with the ask at its end, or a number of the checker's would be past 64 bits.
+    /// A number is past 64 bits. It never comes, since each reader gives at most 2^60 bytes.
     #[error("CounterEnd")]
     CounterEnd,
 }

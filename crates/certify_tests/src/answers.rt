@@ -1,6 +1,5 @@
 //! Answers written and read.
 
-use crate::devices::is_printed;
 use certify::answers::read::{
     AnswerFault, AnswerKind, read_kind, read_line, read_outcome, take_text,
 };
@@ -114,22 +113,23 @@ fn out_of_form() -> &'static [&'static [u8]] {
     &OUT_OF_FORM
 }
 
+/// Texts that end where a line is missing.
 static MISSING: [&[u8]; 3] = [b"", b"s SATISFIABLE\n", b"s UNSATISFIABLE\n"];
+
+/// Tests whether each of these texts is no answer, for this reason.
+fn are_refused(alloc: Global, texts: &[&[u8]], fault: AnswerFault) -> bool {
+    for text in texts {
+        if fault_of(alloc, *text) != Some(fault) {
+            return false;
+        }
+    }
+    true
+}
 
 #[test]
 fn other_texts_are_no_answers(rt: HostRuntime) {
-    for &text in out_of_form() {
-        assert!(rt;
-            fault_of(rt.alloc(), text) == Some(AnswerFault::Text),
-            "{text:?}"
-        );
-    }
-    for &text in &MISSING {
-        assert!(rt;
-            fault_of(rt.alloc(), text) == Some(AnswerFault::Missing),
-            "{text:?}"
-        );
-    }
+    assert!(rt; are_refused(rt.alloc(), out_of_form(), AnswerFault::Text));
+    assert!(rt; are_refused(rt.alloc(), &MISSING, AnswerFault::Missing));
 }
 
 /// Tests whether the line of a core is read from the front of a text, and leaves this rest.
@@ -165,24 +165,4 @@ fn other_lines_are_written(rt: HostRuntime) {
     assert!(rt; push_others(&mut out).is_ok());
     let text: &[u8] = b"c refused 12 limit\nc malformed 1\nc malformed 18446744073709551615\n-10";
     assert!(rt; out.as_slice() == text);
-}
-
-static WORDS: [(AnswerFault, &str); 3] = [
-    (AnswerFault::Missing, "a line of the answers is missing"),
-    (
-        AnswerFault::Text,
-        "the answers have a line that isn't in form",
-    ),
-    (AnswerFault::OutOfMemory, "out of memory"),
-];
-
-fn words() -> &'static [(AnswerFault, &'static str)] {
-    &WORDS
-}
-
-#[test]
-fn faults_have_words(rt: HostRuntime) {
-    for (fault, words) in words() {
-        assert!(rt; is_printed(rt.alloc(), fault, *words), "{words}");
-    }
 }

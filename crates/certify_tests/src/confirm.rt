@@ -1,14 +1,12 @@
 //! Verdicts of worked texts, each whole and read by one byte.
 
-use crate::devices::{append, fails_at, is_printed};
+use crate::devices::{append, fails_at};
+use crate::written::{AMPLE, run_on};
 use certify::confirm::confirm;
-use certify::run::run;
 use certify::verdict::{ConfirmFault, Verdict, Why};
 use sat_base::Counted;
 use sat_checker::{Checker, Looks};
 use std::alloc::Global;
-
-const AMPLE: u64 = 1 << 20;
 
 /// A script, answers and a certificate.
 pub(crate) type Texts<'a> = (&'a [u8], &'a [u8], &'a [u8]);
@@ -24,7 +22,7 @@ fn said_by(alloc: Global, texts: Texts<'_>, looks: &mut Looks) -> Result<Verdict
     )
 }
 
-fn said_whole(alloc: Global, texts: Texts<'_>) -> Result<Verdict, ConfirmFault> {
+pub(crate) fn said_whole(alloc: Global, texts: Texts<'_>) -> Result<Verdict, ConfirmFault> {
     said_by(alloc, texts, &mut Looks::new())
 }
 
@@ -104,7 +102,18 @@ fn texts_that_match(rt: HostRuntime) {
 }
 
 /// Texts, the ask, and what doesn't match there.
-static NOT_CONFIRMED: [(Texts<'static>, u64, Why); 12] = [
+static NOT_CONFIRMED: [(Texts<'static>, u64, Why); 14] = [
+    // Of a script with another sign, and with another name.
+    (
+        (b"1 -2 0\na 0\n", ROW_ANSWERS, ROW_STEPS),
+        1,
+        Why::ClauseDiffers,
+    ),
+    (
+        (b"1 3 0\na 0\n", ROW_ANSWERS, ROW_STEPS),
+        1,
+        Why::StepOutOfPlace,
+    ),
     ((UNITS, NONE_LEFT, &[0x0d]), 1, Why::StepOutOfPlace),
     ((UNITS, NONE_LEFT, &[]), 1, Why::CertificateEnds),
     ((ROW, b"", ROW_STEPS), 1, Why::AnswerMissing),
@@ -186,19 +195,20 @@ fn is_said_of(
         && is_said(alloc, (ROW, answers, certificate.as_slice()), verdict)
 }
 
-/// Tests whether this is said of the row's certificate with a step before the clause.
-fn is_said_with(alloc: Global, step: &[u8], verdict: Verdict) -> bool {
-    let texts = (&ROW_STEPS[..6], step, &ROW_STEPS[6..]);
-    is_said_of(alloc, ROW_ANSWERS, texts, verdict)
+/// Tests whether this is said of the row's certificate with a step behind so many bytes.
+fn is_said_with(alloc: Global, place: usize, step: &[u8], verdict: Verdict) -> bool {
+    let (front, behind) = ROW_STEPS.split_at(place.min(ROW_STEPS.len()));
+    is_said_of(alloc, ROW_ANSWERS, (front, step, behind), verdict)
 }
 
-/// Tests whether the row's certificate ends where it is cut in a step before the clause.
-fn is_cut_in(alloc: Global, step: &[u8]) -> bool {
+/// Tests whether the row's certificate ends where it is cut in a step there.
+fn is_cut_in(alloc: Global, place: usize, step: &[u8]) -> bool {
     let ends = Verdict::No {
         ask: 1,
         why: Why::CertificateEnds,
     };
-    let cut = (&ROW_STEPS[..6], &step[..step.len().min(1)], b"".as_slice());
+    let front = &ROW_STEPS[..place.min(ROW_STEPS.len())];
+    let cut = (front, &step[..step.len().min(1)], b"".as_slice());
     is_said_of(alloc, ROW_ANSWERS, cut, ends)
 }
 
@@ -207,70 +217,56 @@ const REFUSED: Verdict = Verdict::No {
     why: Why::StepRefused,
 };
 
-/// Steps before the clause, and what is said then.
-static STEPS_BETWEEN: [(&[u8], Verdict); 12] = [
+/// Before the clause.
+const BETWEEN: usize = 6;
+
+/// A place in the row's certificate, steps that come there, and what is said then.
+static STEPS_BETWEEN: [(usize, &[u8], Verdict); 14] = [
     (
+        BETWEEN,
         &[12, 0, 0],
         Verdict::No {
             ask: 1,
             why: Why::StepOutOfPlace,
         },
     ),
-    (&[6, 1, 2, 0, 1, 0], Verdict::Yes),
+    (BETWEEN, &[6, 1, 2, 0, 1, 0], Verdict::Yes),
     // A solver name, a mode and a width.
-    (&[1, 0, 1], Verdict::Yes),
-    (&[4, 0, 1], Verdict::Yes),
-    (&[9, 8], Verdict::Yes),
-    (&[9, 64], Verdict::Yes),
+    (BETWEEN, &[1, 0, 1], Verdict::Yes),
+    (BETWEEN, &[4, 0, 1], Verdict::Yes),
+    (BETWEEN, &[9, 8], Verdict::Yes),
+    (BETWEEN, &[9, 64], Verdict::Yes),
     // A witness variable stands in no clause.
-    (&[4, 0, 0], REFUSED),
+    (BETWEEN, &[4, 0, 0], REFUSED),
     // A variable that a tautology mentions is known, and can be deleted; one with a name can't be.
-    (&[6, 1, 2, 10, 11, 0, 3, 5], Verdict::Yes),
-    (&[3, 0], REFUSED),
-    (&[3, 5], REFUSED),
+    (BETWEEN, &[6, 1, 2, 10, 11, 0, 3, 5], Verdict::Yes),
+    (BETWEEN, &[3, 0], REFUSED),
+    (BETWEEN, &[3, 5], REFUSED),
     // A unit that doesn't follow, and a clause that isn't stored.
-    (&[7, 1, 0, 9], REFUSED),
-    (&[8, 2, 0, 2, 1], REFUSED),
-];
-
-fn steps_between() -> &'static [(&'static [u8], Verdict)] {
-    &STEPS_BETWEEN
-}
-
-#[test]
-fn steps_may_stand_between(rt: HostRuntime) {
-    for &(step, verdict) in steps_between() {
-        let right = is_said_with(rt.alloc(), step, verdict) && is_cut_in(rt.alloc(), step);
-        assert!(rt; right, "{step:?}");
-    }
-}
-
-/// Steps before the first name, and what is said then.
-static STEPS_BEFORE: [(&[u8], Verdict); 2] = [
+    (BETWEEN, &[7, 1, 0, 9], REFUSED),
+    (BETWEEN, &[8, 2, 0, 2, 1], REFUSED),
     // A variable with a solver name is known, and one that was deleted isn't.
     (
+        0,
         &[1, 0, 1],
         Verdict::No {
             ask: 1,
             why: Why::NameNotFresh,
         },
     ),
-    (&[1, 0, 1, 3, 0], Verdict::Yes),
+    (0, &[1, 0, 1, 3, 0], Verdict::Yes),
 ];
 
-fn steps_before() -> &'static [(&'static [u8], Verdict)] {
-    &STEPS_BEFORE
-}
-
-/// Tests whether this is said of the row's certificate with a step before the first name.
-fn is_said_before(alloc: Global, step: &[u8], verdict: Verdict) -> bool {
-    is_said_of(alloc, ROW_ANSWERS, (b"", step, ROW_STEPS), verdict)
+fn steps_between() -> &'static [(usize, &'static [u8], Verdict)] {
+    &STEPS_BETWEEN
 }
 
 #[test]
-fn names_come_to_unknown_variables(rt: HostRuntime) {
-    for &(step, verdict) in steps_before() {
-        assert!(rt; is_said_before(rt.alloc(), step, verdict), "{step:?}");
+fn steps_may_stand_between(rt: HostRuntime) {
+    for &(place, step, verdict) in steps_between() {
+        let right = is_said_with(rt.alloc(), place, step, verdict)
+            && is_cut_in(rt.alloc(), place, step);
+        assert!(rt; right, "{step:?}");
     }
 }
 
@@ -285,6 +281,17 @@ const FOUR_AT_64: &[u8] = &[
     144, 212, 148, 208, 146, 197, 200, 68, 193, 152, 142, 147, 200, 235, 167, 245, 230, 1, 7, 1, 2,
     149, 152, 174, 154, 232, 203, 167, 228, 230, 1, 6, 0, 0, 1, 254, 144, 244, 157, 240, 178, 197,
     217, 68,
+];
+
+/// The same with names for the solver, as a run writes it, and without any bit of a hash, so that one bucket has all clauses.
+const FOUR_AS_WRITTEN: &[u8] = &[
+    2, 0, 1, 1, 0, 1, 2, 1, 2, 1, 1, 2, 5, 2, 0, 2, 5, 2, 0, 3, 5, 2, 1, 2, 5, 2, 1, 3, 11, 0, 9,
+    8, 6, 0, 1, 0, 2, 68, 230, 1, 7, 1, 2, 230, 1, 6, 0, 0, 1, 68,
+];
+
+const FOUR_AT_0: &[u8] = &[
+    2, 0, 1, 2, 1, 2, 5, 2, 0, 2, 5, 2, 0, 3, 5, 2, 1, 2, 5, 2, 1, 3, 11, 0, 9, 0, 6, 0, 1, 0, 1,
+    0, 6, 0, 0, 1, 0,
 ];
 
 /// Tests what is said of a certificate cut at each byte: yes from this one on.
@@ -311,7 +318,7 @@ fn is_confirmed_from_its_end(alloc: Global, certificate: &[u8]) -> bool {
 
 #[test]
 fn certificates_count_up_to_unsat(rt: HostRuntime) {
-    for &certificate in &[FOUR_AT_8, FOUR_AT_64] {
+    for &certificate in &[FOUR_AT_8, FOUR_AT_64, FOUR_AS_WRITTEN, FOUR_AT_0] {
         let right = is_confirmed_from_its_end(rt.alloc(), certificate);
         assert!(rt; right, "{certificate:?}");
     }
@@ -440,8 +447,8 @@ const TWO_ANSWERS: &[u8] = b"s SATISFIABLE\nv -1 2 0\ns UNKNOWN\n";
 
 const THIRD_ANSWER: &[u8] = b"s SATISFIABLE\nv -1 2 3 0\n";
 
-/// How the answers and the certificate go on behind two asks, and the ask and the cause of a no.
-type Tail<'a> = (&'a [u8], &'a [u8], Option<(u64, Why)>);
+/// How the answers and the certificate go on behind some asks, and the ask and the cause of a no.
+pub(crate) type Tail<'a> = (&'a [u8], &'a [u8], Option<(u64, Why)>);
 
 /// Each cause of a no, at the third ask or behind it.
 static THIRD_ASKS: [Tail<'static>; 13] = [
@@ -548,16 +555,20 @@ fn empty_asks() -> &'static [Tail<'static>] {
     &EMPTY_ASKS
 }
 
-/// Tests whether this is said of a script of which two asks are answered so.
-fn is_said_behind(alloc: Global, script: &[u8], (answers, steps, no): Tail<'_>) -> bool {
+/// Tests whether this is said of a script whose first asks are answered so.
+pub(crate) fn is_said_behind(
+    alloc: Global,
+    (script, first, shown): Texts<'_>,
+    (answers, steps, no): Tail<'_>,
+) -> bool {
     let mut answered = Vec::new(alloc);
     let mut certificate = Vec::new(alloc);
     let verdict = match no {
         None => Verdict::Yes,
         Some((ask, why)) => Verdict::No { ask, why },
     };
-    append(&mut answered, &[TWO_ANSWERS, answers])
-        && append(&mut certificate, &[TWO_ASKS, steps])
+    append(&mut answered, &[first, answers])
+        && append(&mut certificate, &[shown, steps])
         && is_said(
             alloc,
             (script, answered.as_slice(), certificate.as_slice()),
@@ -565,13 +576,21 @@ fn is_said_behind(alloc: Global, script: &[u8], (answers, steps, no): Tail<'_>) 
         )
 }
 
+/// Tests whether this is said behind two asks.
+fn is_said_behind_two(alloc: Global, script: &[u8], tail: Tail<'_>) -> bool {
+    is_said_behind(alloc, (script, TWO_ANSWERS, TWO_ASKS), tail)
+}
+
 #[test]
 fn later_asks_are_named(rt: HostRuntime) {
     for &tail in third_asks() {
-        assert!(rt; is_said_behind(rt.alloc(), THIRD, tail), "{tail:?}");
+        assert!(rt; is_said_behind_two(rt.alloc(), THIRD, tail), "{tail:?}");
     }
     for &tail in empty_asks() {
-        assert!(rt; is_said_behind(rt.alloc(), EMPTY_THIRD, tail), "{tail:?}");
+        assert!(rt;
+            is_said_behind_two(rt.alloc(), EMPTY_THIRD, tail),
+            "{tail:?}"
+        );
     }
 }
 
@@ -583,24 +602,14 @@ fn counts_promise_nothing(rt: HostRuntime) {
     assert!(rt; is_no(rt.alloc(), texts, 1, Why::CertificateEnds));
 }
 
-/// Answers a script that is read by one byte. Gives whether that was done, the answers and the certificate.
-fn written(alloc: Global, script: &[u8], budget: u64) -> (bool, Vec<u8>, Vec<u8>) {
-    let mut answers = Counted::new(Vec::new(alloc));
-    let mut certificate = Counted::new(Vec::new(alloc));
-    let done = run(
-        alloc,
-        &mut fails_at(script, 0),
-        &mut answers,
-        &mut certificate,
-        budget,
-    )
-    .is_ok();
-    (done, answers.into_inner(), certificate.into_inner())
-}
-
 pub(crate) fn is_confirmed(alloc: Global, script: &[u8], budget: u64) -> bool {
-    let (done, answers, certificate) = written(alloc, script, budget);
-    done && is_yes(alloc, (script, answers.as_slice(), certificate.as_slice()))
+    let written = run_on(alloc, &mut fails_at(script, 0), budget);
+    let texts = (
+        script,
+        written.answers.as_slice(),
+        written.certificate.as_slice(),
+    );
+    written.fault.is_none() && is_yes(alloc, texts)
 }
 
 const OUT_OF_PLACE: Verdict = Verdict::No {
@@ -672,65 +681,28 @@ fn each_read_fails(alloc: Global, texts: Texts<'_>, reads: u64) -> bool {
 
 /// The same of what a run writes for a script.
 fn each_read_of_run_fails(alloc: Global, script: &[u8], reads: u64) -> bool {
-    let (done, answers, certificate) = written(alloc, script, AMPLE);
-    done && each_read_fails(
-        alloc,
-        (script, answers.as_slice(), certificate.as_slice()),
-        reads,
-    )
+    let written = run_on(alloc, &mut fails_at(script, 0), AMPLE);
+    let texts = (
+        script,
+        written.answers.as_slice(),
+        written.certificate.as_slice(),
+    );
+    written.fault.is_none() && each_read_fails(alloc, texts, reads)
 }
 
 /// Scripts, and how many bytes of the certificates are read: all of one that ends with a model, and those up to recorded `unsat`.
-static READ_IN_TURN: [(&[u8], u64); 2] = [(ROW, 27), (SIXTH, 50)];
+static READ_IN_TURN: [(&[u8], u64); 5] = [
+    (ROW, 27),
+    (SIXTH, 50),
+    (b"1 2 0\n-2 0\nh 2 0\na -1 0\n", 48),
+    (b"1 0\na -1 0\n2 0\na 0\n-3 -4 0\na 3 4 0\n", 72),
+    (b"1 0\na 1 0\nh 1 0\n-1 0\na 0\n", 47),
+];
 
 #[test]
 fn each_read_fails_in_turn(rt: HostRuntime) {
     for &(script, reads) in &READ_IN_TURN {
         let right = each_read_of_run_fails(rt.alloc(), script, reads);
         assert!(rt; right, "{script:?}");
-    }
-}
-
-static WORDS_OF_A_NO: [(Why, &str); 11] = [
-    (Why::AnswerMissing, "AnswerMissing"),
-    (Why::AnswerExtra, "AnswerExtra"),
-    (Why::AnswerText, "AnswerText"),
-    (Why::ClauseDiffers, "ClauseDiffers"),
-    (Why::NameDiffers, "NameDiffers"),
-    (Why::NameNotFresh, "NameNotFresh"),
-    (Why::AskDiffers, "AskDiffers"),
-    (Why::AnswerDiffers, "AnswerDiffers"),
-    (Why::StepRefused, "StepRefused"),
-    (Why::CertificateEnds, "CertificateEnds"),
-    (Why::StepOutOfPlace, "StepOutOfPlace"),
-];
-
-fn words_of_a_no() -> &'static [(Why, &'static str)] {
-    &WORDS_OF_A_NO
-}
-
-#[test]
-fn a_no_has_words(rt: HostRuntime) {
-    for (why, words) in words_of_a_no() {
-        assert!(rt; is_printed(rt.alloc(), why, *words), "{words}");
-    }
-}
-
-static WORDS_OF_A_FAULT: [(ConfirmFault, &str); 5] = [
-    (ConfirmFault::ScriptRead, "ScriptRead"),
-    (ConfirmFault::AnswersRead, "AnswersRead"),
-    (ConfirmFault::CertificateRead, "CertificateRead"),
-    (ConfirmFault::OutOfMemory, "OutOfMemory"),
-    (ConfirmFault::CounterEnd, "CounterEnd"),
-];
-
-fn words_of_a_fault() -> &'static [(ConfirmFault, &'static str)] {
-    &WORDS_OF_A_FAULT
-}
-
-#[test]
-fn a_fault_has_words(rt: HostRuntime) {
-    for (fault, words) in words_of_a_fault() {
-        assert!(rt; is_printed(rt.alloc(), fault, *words), "{words}");
     }
 }

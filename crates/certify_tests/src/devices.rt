@@ -2,6 +2,7 @@
 
 use sat_base::Counted;
 use std::alloc::Global;
+use std::cell::Cell;
 use std::fmt::Display;
 use std::io;
 use std::io::{ErrorKind, Read, Write};
@@ -88,6 +89,47 @@ pub(crate) fn in_pieces(text: &[u8], size: usize) -> Counted<Pieces<'_>> {
         size,
         largest: 0,
     })
+}
+
+/// A writer that counts the bytes that it took.
+#[derive(Drop)]
+pub(crate) struct Watched<'a> {
+    pub(crate) taken: &'a Cell<usize>,
+}
+
+impl Write for Watched<'_> {
+    fn write(&mut self, piece: &[u8]) -> io::Result<usize> {
+        self.taken.set(self.taken.get().saturating_add(piece.len()));
+        Ok(piece.len())
+    }
+
+    fn flush(&mut self) -> io::Result<()> {
+        Ok(())
+    }
+}
+
+/// A reader that gives its text byte by byte, and looks at one of its reads, counted from 1, how many bytes a writer took.
+#[derive(Drop)]
+pub(crate) struct Watching<'a> {
+    pub(crate) text: &'a [u8],
+    pub(crate) taken: &'a Cell<usize>,
+    pub(crate) before: u64,
+    pub(crate) seen: usize,
+}
+
+impl Read for Watching<'_> {
+    fn read(&mut self, buf: &mut [u8]) -> io::Result<usize> {
+        self.before = self.before.saturating_sub(1);
+        if self.before == 0 {
+            self.seen = self.seen.max(self.taken.get());
+            self.before = u64::MAX;
+        }
+        let count = buf.len().min(self.text.len()).min(1);
+        let (piece, rest) = self.text.split_at(count);
+        buf[..count].copy_from_slice(piece);
+        self.text = rest;
+        Ok(count)
+    }
 }
 
 /// Adds parts to bytes, one behind another. The answer is whether there was memory.

@@ -25,7 +25,7 @@ impl Folder<'_> {
     }
 
     /// A call, over files of these names, with perhaps one more word.
-    fn words(&self, (call, files, more): (&str, &[&str], &str)) -> io::Result<Vec<String>> {
+    fn words(&self, (call, files, more): Words<'_>) -> io::Result<Vec<String>> {
         let alloc = self.rt.alloc();
         let mut words = Vec::new(alloc);
         words.push(String::from_str(alloc, call)?)?;
@@ -42,38 +42,77 @@ impl Folder<'_> {
         fs::write(self.rt, self.path_of(name)?, bytes)
     }
 
-    fn holds(&self, name: &str, bytes: &[u8]) -> io::Result<bool> {
-        Ok(fs::read(self.rt, self.path_of(name)?)?.as_slice() == bytes)
+    fn read(&self, name: &str) -> io::Result<Vec<u8>> {
+        fs::read(self.rt, self.path_of(name)?)
+    }
+
+    fn holds(&self, name: &str, bytes: &[u8]) -> bool {
+        match self.read(name) {
+            Ok(held) => held.as_slice() == bytes,
+            Err(_) => false,
+        }
+    }
+
+    /// The status of a call whose output fails at one of its calls, or never where that is 0, and what it writes to its errors.
+    fn call_failing(&self, call: Words<'_>, failing: u64) -> (u8, Vec<u8>) {
+        let mut input = Counted::new("a 0\n".as_bytes());
+        let mut output = fails_at(b"", failing);
+        let mut errors = Counted::new(Vec::new(self.rt.alloc()));
+        let words = self.words(call);
+        let status = program(self.rt, words, &mut input, &mut output, &mut errors);
+        (status, errors.into_inner())
     }
 
     /// The status of a call, and what it writes to its output and its errors.
-    fn call(&self, call: (&str, &[&str], &str)) -> (u8, Vec<u8>, Vec<u8>) {
+    fn call(&self, call: Words<'_>) -> (u8, Vec<u8>, Vec<u8>) {
         let alloc = self.rt.alloc();
         let mut input = Counted::new("a 0\n".as_bytes());
         let mut output = Counted::new(Vec::new(alloc));
         let mut errors = Counted::new(Vec::new(alloc));
-        let status = program(
-            self.rt,
-            self.words(call),
-            &mut input,
-            &mut output,
-            &mut errors,
-        );
+        let words = self.words(call);
+        let status = program(self.rt, words, &mut input, &mut output, &mut errors);
         (status, output.into_inner(), errors.into_inner())
     }
 
-    /// Tests whether a call ends with this status, and writes these to its output and its errors.
-    fn does(&self, call: (&str, &[&str], &str), (status, printed, told): (u8, &str, &str)) -> bool {
+    /// Tests whether a call ends so.
+    fn does(&self, call: Words<'_>, (status, printed, told): End) -> bool {
         let (found, output, errors) = self.call(call);
         found == status
             && output.as_slice() == printed.as_bytes()
             && errors.as_slice() == told.as_bytes()
     }
 
-    /// Tests whether a call ends with this status, and writes this to its output.
-    fn prints(&self, call: (&str, &[&str], &str), status: u8, printed: &str) -> bool {
+    /// Tests whether a call ends with this status and prints nothing, whatever it tells.
+    fn ends(&self, call: Words<'_>, status: u8) -> bool {
         let (found, output, _) = self.call(call);
-        found == status && output.as_slice() == printed.as_bytes()
+        found == status && output.is_empty()
+    }
+
+    /// Tests whether a call ends with a fault of its output where that fails at one of its calls.
+    fn tells_fault(&self, call: Words<'_>, failing: u64) -> bool {
+        let (found, errors) = self.call_failing(call, failing);
+        found == 3 && errors.as_slice() == b"certify: AnswersWrite\n".as_slice()
+    }
+
+    /// Takes an action. Gives whether what it says of a call or a file is so.
+    fn acts(&self, action: &Action<'_>) -> bool {
+        match action {
+            Action::Put(name, bytes) => self.put(name, bytes).is_ok(),
+            Action::Holds(name, bytes) => self.holds(name, bytes),
+            Action::Does(call, end) => self.does(*call, *end),
+            Action::Ends(call, status) => self.ends(*call, *status),
+            Action::Fails(call, failing) => self.tells_fault(*call, *failing),
+        }
+    }
+
+    /// Takes these actions, up to the first that says what isn't so. Gives whether there is none.
+    fn acts_all(&self, actions: &[Action<'_>]) -> bool {
+        for action in actions {
+            if !self.acts(action) {
+                return false;
+            }
+        }
+        true
     }
 
     fn remove(self) -> bool {
@@ -82,8 +121,23 @@ impl Folder<'_> {
     }
 }
 
+/// A call, the names of its files, and one more word or none.
+type Words<'a> = (&'a str, &'a [&'a str], &'a str);
+
 /// What ends a call: the status, the output, and the errors.
-type End = (u8, &'static str, &'static str);
+type End<'a> = (u8, &'a str, &'a str);
+
+/// What is done in a folder.
+#[derive(Drop)]
+enum Action<'a> {
+    Put(&'a str, &'a [u8]),
+    Holds(&'a str, &'a [u8]),
+    Does(Words<'a>, End<'a>),
+    /// With this status, and nothing printed.
+    Ends(Words<'a>, u8),
+    /// With a fault, where a call of the output fails.
+    Fails(Words<'a>, u64),
+}
 
 /// Four clauses over two variables that no valuation satisfies, at width 8.
 const REFUTED: &[u8] = &[
@@ -91,86 +145,86 @@ const REFUTED: &[u8] = &[
     8, 6, 0, 1, 0, 2, 0x44, 0xe6, 1, 7, 1, 2, 0xe6, 1, 6, 0, 0, 1, 0x44, 11, 0, 13,
 ];
 
-const DERIVATION: &str = "\
+const DERIVATION: &[u8] = b"\
     i 1 1 2 0\ni 2 1 -2 0\ni 3 -1 2 0\ni 4 -1 -2 0\nd 5 1 0 1 2 0\nd 6 2 0 5 3 0\nd 7 0 5 6 4 0\n";
 
-/// A certificate, how writing its hints ends, and the hint text where there is one.
-static HINTED: [(&[u8], End, &str); 5] = [
-    (REFUTED, (0, "", ""), DERIVATION),
-    (&[13], (0, "", ""), ""),
+/// Hints that are written of certificates.
+const HINTED: &[&[Action<'static>]] = &[
+    &[
+        Action::Put("c", REFUTED),
+        Action::Does(("hints", &["c", "h"], ""), (0, "", "")),
+        Action::Holds("h", DERIVATION),
+    ],
+    &[
+        Action::Put("c", &[13]),
+        Action::Does(("hints", &["c", "h"], ""), (0, "", "")),
+        Action::Holds("h", b""),
+    ],
     // a hidden variable is deleted
-    (&[2, 0, 1, 2, 0, 0, 3, 0, 13], (0, "", ""), "e 1 0\n"),
-    (&[], (1, "", "certify: Refused\n"), ""),
-    (
-        &[5, 2, 0, 2, 6, 0, 1, 0, 0],
-        (1, "", "certify: Refused\n"),
-        "",
-    ),
+    &[
+        Action::Put("c", &[2, 0, 1, 2, 0, 0, 3, 0, 13]),
+        Action::Does(("hints", &["c", "h"], ""), (0, "", "")),
+        Action::Holds("h", b"e 1 0\n"),
+    ],
+    &[
+        Action::Put("c", &[]),
+        Action::Does(("hints", &["c", "h"], ""), (1, "", "certify: Refused\n")),
+    ],
+    &[
+        Action::Put("c", &[5, 2, 0, 2, 6, 0, 1, 0, 0]),
+        Action::Does(("hints", &["c", "h"], ""), (1, "", "certify: Refused\n")),
+    ],
 ];
 
-fn hinted() -> &'static [(&'static [u8], End, &'static str)] {
-    &HINTED
-}
-
-/// Tests what writing the hints of a certificate does.
-fn is_hinted(folder: &Folder<'_>, certificate: &[u8], end: End, text: &str) -> io::Result<bool> {
-    folder.put("c", certificate)?;
-    Ok(
-        folder.does(("hints", &["c", "h"], ""), end)
-            && (end.0 != 0 || folder.holds("h", text.as_bytes())?),
-    )
-}
-
-#[test]
-fn hints_are_written(rt: HostRuntime) -> io::Result<()> {
-    let folder = Folder::new(&rt, "hints")?;
-    for &(certificate, end, text) in hinted() {
-        assert!(rt;
-            is_hinted(&folder, certificate, end, text)?,
-            "{certificate:?}"
-        );
-    }
-    assert!(rt; folder.remove());
-    Ok(())
-}
-
-/// A hint text, and how checking it ends.
-static CHECKED: [(&str, End); 8] = [
-    (DERIVATION, (0, "proved empty=1 cores=0 lines=7\n", "")),
-    ("", (0, "proved empty=0 cores=0 lines=0\n", "")),
-    ("f 1 -1 0 0\n", (0, "proved empty=0 cores=1 lines=1\n", "")),
-    ("i 01 1 0\n", (1, "bad 1 Syntax\n", "")),
-    ("i 1 1 0\ni 1 2 0\n", (1, "bad 2 IdOrder\n", "")),
-    (
-        "i 1 1 0\nx 1 0\nd 2 1 0 1 0\n",
-        (1, "bad 3 UnknownId\n", ""),
-    ),
-    (
-        "i 1 1 2 3 0\ni 2 1 0\nd 3 1 0 1 2 0\n",
-        (1, "bad 3 NotUnit\n", ""),
-    ),
-    ("i 1 1 2 0\nd 2 1 0 1 0\n", (1, "bad 2 NotFalsified\n", "")),
+/// Hint texts that are checked.
+const CHECKED: &[&[Action<'static>]] = &[
+    &[
+        Action::Put("h", DERIVATION),
+        Action::Does(
+            ("check", &["h"], ""),
+            (0, "proved empty=1 cores=0 lines=7\n", ""),
+        ),
+    ],
+    &[
+        Action::Put("h", b""),
+        Action::Does(
+            ("check", &["h"], ""),
+            (0, "proved empty=0 cores=0 lines=0\n", ""),
+        ),
+    ],
+    &[
+        Action::Put("h", b"f 1 -1 0 0\n"),
+        Action::Does(
+            ("check", &["h"], ""),
+            (0, "proved empty=0 cores=1 lines=1\n", ""),
+        ),
+    ],
+    &[
+        Action::Put("h", b"i 01 1 0\n"),
+        Action::Does(("check", &["h"], ""), (1, "bad 1 Syntax\n", "")),
+    ],
+    &[
+        Action::Put("h", b"i 1 1 0\ni 1 2 0\n"),
+        Action::Does(("check", &["h"], ""), (1, "bad 2 IdOrder\n", "")),
+    ],
+    &[
+        Action::Put("h", b"i 1 1 0\nx 1 0\nd 2 1 0 1 0\n"),
+        Action::Does(("check", &["h"], ""), (1, "bad 3 UnknownId\n", "")),
+    ],
+    &[
+        Action::Put("h", b"i 1 1 2 3 0\ni 2 1 0\nd 3 1 0 1 2 0\n"),
+        Action::Does(("check", &["h"], ""), (1, "bad 3 NotUnit\n", "")),
+    ],
+    &[
+        Action::Put("h", b"i 1 1 2 0\nd 2 1 0 1 0\n"),
+        Action::Does(("check", &["h"], ""), (1, "bad 2 NotFalsified\n", "")),
+    ],
+    &[
+        Action::Put("h", b""),
+        Action::Fails(("check", &["h"], ""), 1),
+        Action::Fails(("check", &["h"], ""), 2),
+    ],
 ];
-
-fn checked() -> &'static [(&'static str, End)] {
-    &CHECKED
-}
-
-/// Tests what checking a hint text does.
-fn is_checked(folder: &Folder<'_>, text: &str, end: End) -> io::Result<bool> {
-    folder.put("h", text.as_bytes())?;
-    Ok(folder.does(("check", &["h"], ""), end))
-}
-
-#[test]
-fn hint_texts_are_checked(rt: HostRuntime) -> io::Result<()> {
-    let folder = Folder::new(&rt, "check")?;
-    for &(text, end) in checked() {
-        assert!(rt; is_checked(&folder, text, end)?, "{text}");
-    }
-    assert!(rt; folder.remove());
-    Ok(())
-}
 
 /// What is told on standard error of a run without rounds, of one of pair 1, 2, and of one whose only name has a unit.
 const NO_ROUND: &str =
@@ -182,56 +236,96 @@ const ONE_PAIR: &str =
 const ONE_UNIT: &str =
     "[INFO  certify] progress conflicts=1 restarts=1 vars=0 binary=0 irred=0 core=0 mid=0 local=0\n";
 
-/// A script, a word behind the files or none, how running it ends, and the answers.
-static RUN: [(&str, &str, End, &str); 4] = [
-    (
-        "1 2 0\na 0\n",
-        "",
-        (0, "", ONE_PAIR),
-        "s SATISFIABLE\nv -1 2 0\n",
-    ),
-    ("1 0\na 0\n", "0", (0, "", NO_ROUND), "s UNKNOWN\n"),
-    (
-        "1 0\na 0\n",
-        "00018446744073709551615",
-        (0, "", ONE_UNIT),
-        "s SATISFIABLE\nv 1 0\n",
-    ),
-    ("1 2", "", (1, "", NO_ROUND), "c malformed 1\n"),
+/// Scripts that are run, with a word behind the files or none, and whose answers are confirmed.
+const RUN: &[&[Action<'static>]] = &[
+    &[
+        Action::Put("s", b"1 2 0\na 0\n"),
+        Action::Does(("run", &["s", "a", "c"], ""), (0, "", ONE_PAIR)),
+        Action::Holds("a", b"s SATISFIABLE\nv -1 2 0\n"),
+        Action::Does(("confirm", &["s", "a", "c"], ""), (0, "yes\n", "")),
+    ],
+    &[
+        Action::Put("s", b"1 0\na 0\n"),
+        Action::Does(("run", &["s", "a", "c"], "0"), (0, "", NO_ROUND)),
+        Action::Holds("a", b"s UNKNOWN\n"),
+        Action::Does(("confirm", &["s", "a", "c"], ""), (0, "yes\n", "")),
+    ],
+    &[
+        Action::Put("s", b"1 0\na 0\n"),
+        Action::Does(
+            ("run", &["s", "a", "c"], "00018446744073709551615"),
+            (0, "", ONE_UNIT),
+        ),
+        Action::Holds("a", b"s SATISFIABLE\nv 1 0\n"),
+        Action::Does(("confirm", &["s", "a", "c"], ""), (0, "yes\n", "")),
+    ],
+    &[
+        Action::Put("s", b"1 2"),
+        Action::Does(("run", &["s", "a", "c"], ""), (1, "", NO_ROUND)),
+        Action::Holds("a", b"c malformed 1\n"),
+        Action::Does(("confirm", &["s", "a", "c"], ""), (0, "yes\n", "")),
+        Action::Put("a", b"s UNSATISFIABLE\nf 0\n"),
+        Action::Does(
+            ("confirm", &["s", "a", "c"], ""),
+            (1, "no 1 AnswerText\n", ""),
+        ),
+    ],
 ];
 
-fn runs() -> &'static [(&'static str, &'static str, End, &'static str)] {
-    &RUN
-}
+/// Calls over the file `s`, a file that isn't there, and one in a folder that isn't there.
+const UNOPENED: &[&[Action<'static>]] = &[&[
+    Action::Put("s", b"1 0\na 0\n"),
+    Action::Does(("check", &["n"], ""), (3, "", "certify: Read\n")),
+    Action::Does(("hints", &["n", "n/h"], ""), (3, "", "certify: Read\n")),
+    Action::Does(("hints", &["s", "n/h"], ""), (3, "", "certify: Write\n")),
+    Action::Does(
+        ("run", &["n", "n/a", "n/c"], ""),
+        (3, "", "certify: ScriptRead\n"),
+    ),
+    Action::Does(
+        ("run", &["s", "n/a", "n/c"], ""),
+        (3, "", "certify: AnswersWrite\n"),
+    ),
+    Action::Does(
+        ("run", &["s", "a", "n/c"], ""),
+        (3, "", "certify: CertificateWrite\n"),
+    ),
+    Action::Does(
+        ("confirm", &["n", "n", "n"], ""),
+        (3, "", "certify: ScriptRead\n"),
+    ),
+    Action::Does(
+        ("confirm", &["s", "n", "n"], ""),
+        (3, "", "certify: AnswersRead\n"),
+    ),
+    Action::Does(
+        ("confirm", &["s", "s", "n"], ""),
+        (3, "", "certify: CertificateRead\n"),
+    ),
+    Action::Does(("check", &["."], ""), (3, "", "certify: Read\n")),
+]];
 
-/// Tests what running a script does, and whether its answers are confirmed.
-fn is_run(
-    folder: &Folder<'_>,
-    (script, steps, end, answers): (&str, &str, End, &str),
-) -> io::Result<bool> {
-    folder.put("s", script.as_bytes())?;
-    Ok(
-        folder.does(("run", &["s", "a", "c"], steps), end)
-            && folder.holds("a", answers.as_bytes())?
-            && folder.does(("confirm", &["s", "a", "c"], ""), (0, "yes\n", "")),
-    )
+const TABLES: &[&[&[Action<'static>]]] = &[HINTED, CHECKED, RUN, UNOPENED];
+
+/// Tests whether each row of a table is so, in a folder of its own.
+fn are_so(rt: &HostRuntime, name: &str, rows: &[&[Action<'_>]]) -> bool {
+    match Folder::new(rt, name) {
+        Ok(folder) => {
+            let mut right = true;
+            for row in rows {
+                right = folder.acts_all(*row) && right;
+            }
+            folder.remove() && right
+        }
+        Err(_) => false,
+    }
 }
 
 #[test]
-fn scripts_are_run_and_confirmed(rt: HostRuntime) -> io::Result<()> {
-    let folder = Folder::new(&rt, "run")?;
-    for &row in runs() {
-        assert!(rt; is_run(&folder, row)?, "{row:?}");
+fn files_are_read_and_written(rt: HostRuntime) {
+    for at in 0..TABLES.len() {
+        assert!(rt; are_so(&rt, "files", TABLES[at]), "{at}");
     }
-    folder.put("a", b"s UNSATISFIABLE\nf 0\n")?;
-    assert!(rt;
-        folder.does(
-            ("confirm", &["s", "a", "c"], ""),
-            (1, "no 1 AnswerText\n", "")
-        )
-    );
-    assert!(rt; folder.remove());
-    Ok(())
 }
 
 /// A script, the status of its run, the answers, and what is printed of the hint text of its certificate.
@@ -377,101 +471,42 @@ static WORKED: [(&str, u8, &str, &str); 24] = [
     ),
 ];
 
-fn worked() -> &'static [(&'static str, u8, &'static str, &'static str)] {
-    &WORKED
-}
-
 /// Tests whether a script is answered so, confirmed, and has a hint text of which this is printed.
-fn is_worked(
+fn is_worked<'x>(
     folder: &Folder<'_>,
-    (script, status, answers, proved): (&str, u8, &str, &str),
-) -> io::Result<bool> {
-    folder.put("s", script.as_bytes())?;
-    Ok(
-        folder.prints(("run", &["s", "a", "c"], ""), status, "")
-            && folder.holds("a", answers.as_bytes())?
-            && folder.does(("confirm", &["s", "a", "c"], ""), (0, "yes\n", ""))
-            && folder.does(("hints", &["c", "h"], ""), (0, "", ""))
-            && folder.does(("check", &["h"], ""), (0, proved, "")),
-    )
+    (script, status, answers, proved): (&'x str, u8, &'x str, &'x str),
+) -> bool {
+    folder.acts_all(&[
+        Action::Put("s", script.as_bytes()),
+        Action::Ends(("run", &["s", "a", "c"], ""), status),
+        Action::Holds("a", answers.as_bytes()),
+        Action::Does(("confirm", &["s", "a", "c"], ""), (0, "yes\n", "")),
+        Action::Does(("hints", &["c", "h"], ""), (0, "", "")),
+        Action::Does(("check", &["h"], ""), (0, proved, "")),
+    ])
 }
 
-#[test]
-fn runs_in_files_are_confirmed_and_hinted(rt: HostRuntime) -> io::Result<()> {
-    let folder = Folder::new(&rt, "worked")?;
-    for &row in worked() {
-        assert!(rt; is_worked(&folder, row)?, "{row:?}");
+/// The number of the first row that isn't so, if there is one, or that there is no folder.
+fn first_wrong(rt: &HostRuntime) -> Option<usize> {
+    match Folder::new(rt, "worked") {
+        Ok(folder) => {
+            let mut wrong = None;
+            for at in 0..WORKED.len() {
+                if wrong.is_none() && !is_worked(&folder, WORKED[at]) {
+                    wrong = Some(at);
+                }
+            }
+            if folder.remove() {
+                wrong
+            } else {
+                Some(WORKED.len())
+            }
+        }
+        Err(_) => Some(WORKED.len()),
     }
-    assert!(rt; folder.remove());
-    Ok(())
-}
-
-/// A call over the file `s`, a file that isn't there, and one in a folder that isn't there, and how it ends.
-static UNOPENED: [((&str, &[&str], &str), End); 10] = [
-    (("check", &["n"], ""), (3, "", "certify: Read\n")),
-    (("hints", &["n", "n/h"], ""), (3, "", "certify: Read\n")),
-    (("hints", &["s", "n/h"], ""), (3, "", "certify: Write\n")),
-    (
-        ("run", &["n", "n/a", "n/c"], ""),
-        (3, "", "certify: ScriptRead\n"),
-    ),
-    (
-        ("run", &["s", "n/a", "n/c"], ""),
-        (3, "", "certify: AnswersWrite\n"),
-    ),
-    (
-        ("run", &["s", "a", "n/c"], ""),
-        (3, "", "certify: CertificateWrite\n"),
-    ),
-    (
-        ("confirm", &["n", "n", "n"], ""),
-        (3, "", "certify: ScriptRead\n"),
-    ),
-    (
-        ("confirm", &["s", "n", "n"], ""),
-        (3, "", "certify: AnswersRead\n"),
-    ),
-    (
-        ("confirm", &["s", "s", "n"], ""),
-        (3, "", "certify: CertificateRead\n"),
-    ),
-    // a folder is no text
-    (("check", &["."], ""), (3, "", "certify: Read\n")),
-];
-
-fn unopened() -> &'static [((&'static str, &'static [&'static str], &'static str), End)] {
-    &UNOPENED
 }
 
 #[test]
-fn files_that_cant_be_opened(rt: HostRuntime) -> io::Result<()> {
-    let folder = Folder::new(&rt, "open")?;
-    folder.put("s", b"1 0\na 0\n")?;
-    for &(call, end) in unopened() {
-        assert!(rt; folder.does(call, end), "{call:?}");
-    }
-    assert!(rt; folder.remove());
-    Ok(())
-}
-
-/// The status of a call where one call of its output fails, and whether its errors say so.
-fn output_fails(folder: &Folder<'_>, failing: u64) -> (u8, bool) {
-    let mut input = Counted::new("".as_bytes());
-    let mut output = fails_at(b"", failing);
-    let mut errors = Counted::new(Vec::new(folder.rt.alloc()));
-    let words = folder.words(("check", &["h"], ""));
-    let status = program(folder.rt, words, &mut input, &mut output, &mut errors);
-    let told = errors.into_inner().as_slice() == b"certify: AnswersWrite\n".as_slice();
-    (status, told)
-}
-
-/// The write of the line fails, then the flush.
-#[test]
-fn output_of_a_check_fails(rt: HostRuntime) -> io::Result<()> {
-    let folder = Folder::new(&rt, "output")?;
-    folder.put("h", b"")?;
-    assert!(rt; output_fails(&folder, 1) == (3, true));
-    assert!(rt; output_fails(&folder, 2) == (3, true));
-    assert!(rt; folder.remove());
-    Ok(())
+fn runs_in_files_are_confirmed_and_hinted(rt: HostRuntime) {
+    assert!(rt; first_wrong(&rt) == None);
 }

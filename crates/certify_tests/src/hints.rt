@@ -1,30 +1,14 @@
 //! Hint texts of what runs write: each is proved.
 
-use crate::devices::in_pieces;
-use certify::run::run;
+use crate::devices::{fails_at, in_pieces};
+use crate::written::{AMPLE, run_on};
 use sat_base::{Counted, CountedRead};
-use sat_hints::{HintVerdict, check, convert};
+use sat_hints::{HintError, HintFault, HintVerdict, check, convert};
 use std::alloc::Global;
 
-const AMPLE: u64 = 1 << 20;
-
-/// The certificate that a run writes for a script; nothing where the run isn't finished.
+/// The certificate that a run writes for a script.
 fn certificate_of(alloc: Global, script: &[u8]) -> Vec<u8> {
-    let mut answers = Counted::new(Vec::new(alloc));
-    let mut certificate = Counted::new(Vec::new(alloc));
-    let done = run(
-        alloc,
-        &mut Counted::new(script),
-        &mut answers,
-        &mut certificate,
-        AMPLE,
-    )
-    .is_ok();
-    if done {
-        certificate.into_inner()
-    } else {
-        Vec::new(alloc)
-    }
+    run_on(alloc, &mut Counted::new(script), AMPLE).certificate
 }
 
 /// The hint text of the certificate that a reader gives, and whether that is one.
@@ -153,4 +137,72 @@ pub(crate) fn is_proved(alloc: Global, script: &[u8], wanted: (bool, u64)) -> bo
         }
     }
     true
+}
+
+/// How a conversion ends.
+#[derive(Drop, PartialEq)]
+enum End {
+    Done,
+    Read,
+    Write,
+    Other,
+}
+
+fn end_of(came: Result<(), HintError>) -> End {
+    match came {
+        Ok(()) => End::Done,
+        Err(HintError::Read) => End::Read,
+        Err(HintError::Write) => End::Write,
+        Err(_) => End::Other,
+    }
+}
+
+/// How a conversion ends where one read or one write fails, and how many calls both devices saw.
+fn convert_at(alloc: Global, certificate: &[u8], failing: (u64, u64)) -> (End, u64, u64) {
+    let mut reader = fails_at(certificate, failing.0);
+    let mut out = fails_at(b"", failing.1);
+    let end = end_of(convert(alloc, &mut reader, &mut out));
+    (end, reader.into_inner().calls, out.into_inner().calls)
+}
+
+/// Tests whether each read and each write of a conversion fails in turn, and is the last of its device.
+fn each_call_fails(alloc: Global, certificate: &[u8]) -> bool {
+    let (end, reads, writes) = convert_at(alloc, certificate, (0, 0));
+    for at in 1..=reads {
+        let (found, made, _) = convert_at(alloc, certificate, (at, 0));
+        if found != End::Read || made != at {
+            return false;
+        }
+    }
+    for at in 1..=writes {
+        let (found, _, made) = convert_at(alloc, certificate, (0, at));
+        if found != End::Write || made != at {
+            return false;
+        }
+    }
+    end == End::Done && reads > 50 && writes > 0
+}
+
+/// Tests whether each read of a hint text fails in turn, the one that finds the end too.
+fn each_read_fails(alloc: Global, text: &[u8]) -> bool {
+    for at in 0..=text.len() {
+        let failing = (at as u64).saturating_add(1);
+        if check(alloc, &mut fails_at(text, failing)) != Err(HintFault::Read) {
+            return false;
+        }
+    }
+    true
+}
+
+/// Tests whether each call fails in turn over what a run writes for a script, and over its hint text.
+fn are_told(alloc: Global, script: &[u8]) -> bool {
+    let certificate = certificate_of(alloc, script);
+    let (done, text) = text_of(alloc, &mut Counted::new(certificate.as_slice()));
+    done && each_call_fails(alloc, certificate.as_slice())
+        && each_read_fails(alloc, text.as_slice())
+}
+
+#[test]
+fn faults_of_devices_are_told(rt: HostRuntime) {
+    assert!(rt; are_told(rt.alloc(), b"1 2 0\n1 -2 0\n-1 2 0\n-1 -2 0\na 0\n"));
 }

@@ -11,6 +11,8 @@ mod caller;
 #[cfg(test)]
 mod confirm;
 #[cfg(test)]
+mod damage;
+#[cfg(test)]
 mod devices;
 #[cfg(test)]
 mod files;
@@ -28,3 +30,7 @@ mod reading;
 mod run;
 #[cfg(test)]
 mod session;
+#[cfg(test)]
+mod words;
+#[cfg(test)]
+mod written;

@@ -1,9 +1,7 @@
 //! Verdicts on scripts of the whole language: assumptions, names that are hidden or have a mode, and refusals.
 
-use crate::confirm::{Texts, is_no, is_yes, said_at};
-use crate::devices::append;
-use certify::verdict::{Verdict, Why};
-use std::alloc::Global;
+use crate::confirm::{Tail, Texts, is_no, is_said_behind, is_yes};
+use certify::verdict::Why;
 
 /// Scripts with their answers and certificates.
 static CONFIRMED: [Texts<'static>; 24] = [
@@ -263,9 +261,6 @@ const FOURTH_STEPS: &[u8] = &[
 
 const FOURTH_ANSWER: &[u8] = b"s SATISFIABLE\nv 1 2 0\n";
 
-/// How the answers and the certificate go on behind three asks, and the ask and the cause of a no.
-type Tail<'a> = (&'a [u8], &'a [u8], Option<(u64, Why)>);
-
 /// Each cause of a no, at the fourth ask or behind it.
 static FOURTH_ASKS: [Tail<'static>; 18] = [
     (FOURTH_ANSWER, FOURTH_STEPS, None),
@@ -348,26 +343,10 @@ fn fourth_asks() -> &'static [Tail<'static>] {
     &FOURTH_ASKS
 }
 
-/// Tests whether this is said where three asks are answered so.
-fn is_said_behind(alloc: Global, (answers, steps, no): Tail<'_>) -> bool {
-    let verdict = match no {
-        None => Verdict::Yes,
-        Some((ask, why)) => Verdict::No { ask, why },
-    };
-    let mut answered = Vec::new(alloc);
-    let mut certificate = Vec::new(alloc);
-    append(&mut answered, &[THREE_ANSWERS, answers])
-        && append(&mut certificate, &[THREE_ASKS, steps])
-        && said_at(
-            alloc,
-            (FOURTH, answered.as_slice(), certificate.as_slice()),
-            (0, 0, 0),
-        ) == Ok(verdict)
-}
-
 #[test]
 fn later_asks_are_named_behind_each_answer(rt: HostRuntime) {
     for &tail in fourth_asks() {
-        assert!(rt; is_said_behind(rt.alloc(), tail), "{tail:?}");
+        let asked = (FOURTH, THREE_ANSWERS, THREE_ASKS);
+        assert!(rt; is_said_behind(rt.alloc(), asked, tail), "{tail:?}");
     }
 }

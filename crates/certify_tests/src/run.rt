@@ -1,28 +1,20 @@
 //! Runs over worked texts, whole and in pieces, and each call of a device failing in turn.
 
-use crate::devices::{fails_at, in_pieces, is_printed};
+use crate::devices::{Watched, Watching, fails_at, in_pieces};
+use crate::written::{AMPLE, run_on};
 use certify::confirm::confirm;
 use certify::fault::RunFault;
 use certify::run::run;
 use certify::summary::{Answer, AskReport};
 use certify::verdict::{ConfirmFault, Verdict};
-use sat_base::{Counted, CountedRead};
+use sat_base::Counted;
 use sat_checker::Looks;
 use std::alloc::Global;
-
-const AMPLE: u64 = 1 << 20;
+use std::cell::Cell;
 
 const FOURTH: &[u8] = b"1 2 0\na 0\n";
 
 const SIXTH: &[u8] = b"1 2 0\n1 -2 0\n-1 2 0\n-1 -2 0\na 0\n";
-
-/// Tests whether these are the answers to the text that a reader gives.
-fn is_answered<S: CountedRead>(alloc: Global, script: &mut S, budget: u64, answers: &[u8]) -> bool {
-    let mut written = Counted::new(Vec::new(alloc));
-    let mut certificate = Counted::new(Vec::new(alloc));
-    let done = run(alloc, script, &mut written, &mut certificate, budget).is_ok();
-    done && written.into_inner().as_slice() == answers
-}
 
 /// A text, a budget, and the answers.
 static ANSWERS: [(&[u8], u64, &[u8]); 52] = [
@@ -145,16 +137,6 @@ fn all_answers() -> &'static [(&'static [u8], u64, &'static [u8])] {
     &ANSWERS
 }
 
-#[test]
-fn scripts_are_answered(rt: HostRuntime) {
-    for &(text, budget, answers) in all_answers() {
-        assert!(rt;
-            is_answered(rt.alloc(), &mut Counted::new(text), budget, answers),
-            "{text:?}"
-        );
-    }
-}
-
 /// What is said of three texts in pieces of so many bytes.
 fn said_in(
     alloc: Global,
@@ -172,14 +154,13 @@ fn said_in(
 
 /// Tests whether these are the answers in pieces of so many bytes, and are confirmed with what was written.
 fn is_confirmed_in(alloc: Global, text: &[u8], budget: u64, answers: &[u8], size: usize) -> bool {
-    let mut written = Counted::new(Vec::new(alloc));
-    let mut certificate = Counted::new(Vec::new(alloc));
-    let mut script = in_pieces(text, size);
-    let done = run(alloc, &mut script, &mut written, &mut certificate, budget).is_ok();
-    let written = written.into_inner();
-    let certificate = certificate.into_inner();
-    let texts = (text, written.as_slice(), certificate.as_slice());
-    done && written.as_slice() == answers && said_in(alloc, texts, size) == Ok(Verdict::Yes)
+    let written = run_on(alloc, &mut in_pieces(text, size), budget);
+    let texts = (
+        text,
+        written.answers.as_slice(),
+        written.certificate.as_slice(),
+    );
+    written.has_answers(answers) && said_in(alloc, texts, size) == Ok(Verdict::Yes)
 }
 
 /// The same in pieces of each of these sizes.
@@ -202,10 +183,16 @@ fn scripts_are_answered_and_confirmed_in_pieces(rt: HostRuntime) {
     }
 }
 
-/// Scripts that are cut short by a failing read, the read that fails, and the answers that were written before.
-static ANSWERED_BEFORE: [(&[u8], u64, &[u8]); 3] = [
+/// Scripts, a read by one byte each, and the answers that were written before it.
+static ANSWERED_BEFORE: [(&[u8], u64, &[u8]); 5] = [
+    (b"a 0\n1 0\na 0\n", 4, b""),
     (b"a 0\n1 0\na 0\n", 5, b"s SATISFIABLE\nv 0\n"),
     (b"a 0\n1 0\na 0\n", 12, b"s SATISFIABLE\nv 0\n"),
+    (
+        b"a 0\n1 0\na 0\n",
+        13,
+        b"s SATISFIABLE\nv 0\ns SATISFIABLE\nv 1 0\n",
+    ),
     (b"w 1 0\n1 0\na 0\n", 11, b"c refused 2 witness 1\n"),
 ];
 
@@ -213,32 +200,34 @@ fn answered_before() -> &'static [(&'static [u8], u64, &'static [u8])] {
     &ANSWERED_BEFORE
 }
 
-/// Tests whether these answers are written before this read of a script.
-fn is_answered_before(alloc: Global, text: &[u8], failing: u64, answers: &[u8]) -> bool {
-    let mut written = Counted::new(Vec::new(alloc));
-    let mut certificate = Counted::new(Vec::new(alloc));
-    let mut script = fails_at(text, failing);
-    let done = run(alloc, &mut script, &mut written, &mut certificate, AMPLE);
-    done.err() == Some(RunFault::ScriptRead) && written.into_inner().as_slice() == answers
+/// How many bytes of answers are written before this read of a script.
+fn taken_before(alloc: Global, text: &[u8], read: u64) -> usize {
+    let taken = Cell::new(0);
+    let mut script = Counted::new(Watching {
+        text,
+        taken: &taken,
+        before: read,
+        seen: 0,
+    });
+    let mut answers = Counted::new(Watched { taken: &taken });
+    let mut certificate = fails_at(b"", 0);
+    let _ = run(alloc, &mut script, &mut answers, &mut certificate, AMPLE);
+    script.into_inner().seen
 }
 
-/// An answer is written before the next command is read.
+/// An answer is written before the next command is read, and not before its own is.
 #[test]
 fn answers_come_before_the_next_command(rt: HostRuntime) {
-    for &(text, failing, answers) in answered_before() {
-        assert!(rt;
-            is_answered_before(rt.alloc(), text, failing, answers),
-            "{text:?}"
-        );
+    for &(text, read, answers) in answered_before() {
+        let taken = taken_before(rt.alloc(), text, read);
+        assert!(rt; taken == answers.len(), "{text:?} {read} {taken}");
     }
 }
 
 /// The largest piece that a run asks for.
 fn largest_piece(alloc: Global, text: &[u8]) -> usize {
     let mut script = in_pieces(text, 4096);
-    let mut answers = Counted::new(Vec::new(alloc));
-    let mut certificate = Counted::new(Vec::new(alloc));
-    let _ = run(alloc, &mut script, &mut answers, &mut certificate, AMPLE);
+    let _ = run_on(alloc, &mut script, AMPLE);
     script.into_inner().largest
 }
 
@@ -249,17 +238,8 @@ fn pieces_are_small(rt: HostRuntime) {
 
 /// Tests whether this is the certificate of a text.
 fn is_certified(alloc: Global, text: &[u8], budget: u64, certificate: &[u8]) -> bool {
-    let mut answers = Counted::new(Vec::new(alloc));
-    let mut written = Counted::new(Vec::new(alloc));
-    let done = run(
-        alloc,
-        &mut Counted::new(text),
-        &mut answers,
-        &mut written,
-        budget,
-    )
-    .is_ok();
-    done && written.into_inner().as_slice() == certificate
+    let written = run_on(alloc, &mut Counted::new(text), budget);
+    written.fault.is_none() && written.certificate.as_slice() == certificate
 }
 
 /// A text, a budget, and the certificate.
@@ -355,7 +335,10 @@ fn certificates_are_written(rt: HostRuntime) {
 type Counts = (u64, u64, Option<u64>);
 
 /// Tests whether a run over a text counts so, and reports this of its asks.
-fn is_summed_up(alloc: Global, text: &[u8], counts: Counts, asks: &[AskReport]) -> bool {
+fn is_summed_up(
+    alloc: Global,
+    (text, budget, counts, asks): (&[u8], u64, Counts, &[AskReport]),
+) -> bool {
     let mut answers = Counted::new(Vec::new(alloc));
     let mut certificate = Counted::new(Vec::new(alloc));
     match run(
@@ -363,7 +346,7 @@ fn is_summed_up(alloc: Global, text: &[u8], counts: Counts, asks: &[AskReport]) 
         &mut Counted::new(text),
         &mut answers,
         &mut certificate,
-        AMPLE,
+        budget,
     ) {
         Ok(found) => {
             (found.commands, found.refused, found.malformed) == counts
@@ -388,35 +371,44 @@ const UNSAT_AT_ONCE: AskReport = AskReport {
     steps: 0,
 };
 
-/// A text, what a run counts, and what it reports of each ask. An ask at the end of a text is reported, and is no command of it.
-static SUMMARIES: [(&[u8], Counts, &[AskReport]); 8] = [
+/// A text, a budget, what a run counts, and what it reports of each ask. An ask at the end of a text is reported, and is no command of it.
+static SUMMARIES: [(&[u8], u64, Counts, &[AskReport]); 9] = [
     // Units stay from one ask to the next.
     (
         b"1 0\na 0\n-1 0\n2 0\na 0\n",
+        AMPLE,
         (5, 0, None),
         &[SAT, UNSAT_AT_ONCE],
     ),
     (
         b"1 2 0 1 -2 0 -1 2 0 -1 -2 0 268435457 0 a 0 a 0 x",
+        AMPLE,
         (7, 1, Some(8)),
         &[UNSAT_BY_TWO, UNSAT_AT_ONCE],
     ),
-    (SIXTH, (5, 0, None), &[UNSAT_BY_TWO]),
-    (b"p cnf 2 1\n1 2 0\n%\n0\n", (1, 0, None), &[SAT]),
-    (b"p cnf 0 0", (0, 0, None), &[SAT]),
-    (b"p cnf 1 1\n268435457 0\n", (1, 1, None), &[SAT]),
-    (b"p cnf 1 1\n1 0\na 0\n", (2, 0, None), &[SAT]),
-    (b"1 0\na 0\n%", (2, 0, None), &[SAT]),
+    (SIXTH, 2, (5, 0, None), &[UNSAT_BY_TWO]),
+    // Names of no clause take no steps.
+    (
+        b"1 2 0\n1 -2 0\n-1 2 0\n-1 -2 0\n40 0\na 0\n",
+        2,
+        (6, 0, None),
+        &[UNSAT_BY_TWO],
+    ),
+    (b"p cnf 2 1\n1 2 0\n%\n0\n", AMPLE, (1, 0, None), &[SAT]),
+    (b"p cnf 0 0", AMPLE, (0, 0, None), &[SAT]),
+    (b"p cnf 1 1\n268435457 0\n", AMPLE, (1, 1, None), &[SAT]),
+    (b"p cnf 1 1\n1 0\na 0\n", AMPLE, (2, 0, None), &[SAT]),
+    (b"1 0\na 0\n%", AMPLE, (2, 0, None), &[SAT]),
 ];
 
-fn summaries() -> &'static [(&'static [u8], Counts, &'static [AskReport])] {
+fn summaries() -> &'static [(&'static [u8], u64, Counts, &'static [AskReport])] {
     &SUMMARIES
 }
 
 #[test]
 fn runs_are_summed_up(rt: HostRuntime) {
-    for &(text, counts, asks) in summaries() {
-        assert!(rt; is_summed_up(rt.alloc(), text, counts, asks), "{text:?}");
+    for &row in summaries() {
+        assert!(rt; is_summed_up(rt.alloc(), row), "{row:?}");
     }
 }
 
@@ -437,46 +429,53 @@ fn run_at(alloc: Global, text: &[u8], failing: Calls) -> (Option<RunFault>, Call
     (fault, calls)
 }
 
-/// A text, and how many calls a run over it makes. The certificate's writer is written to and flushed before an answer, and at the end.
-static CALLS: [(&[u8], Calls); 3] = [
-    (b"a 0\n", (5, 2, 4)),
-    (FOURTH, (11, 2, 4)),
-    (SIXTH, (33, 2, 4)),
+/// A text, and how many calls a run over it makes, where that is looked at. The certificate's writer is written to and flushed before an
+/// answer, and at the end.
+static CALLS: [(&[u8], Option<Calls>); 6] = [
+    (b"a 0\n", Some((5, 2, 4))),
+    (FOURTH, Some((11, 2, 4))),
+    (SIXTH, Some((33, 2, 4))),
+    (b"1 2 0\n-2 0\nh 2 0\na -1 0\n", None),
+    (b"1 0\na -1 0\n2 0\na 0\n-3 -4 0\na 3 4 0\n", None),
+    (b"1 0\na 1 0\nh 1 0\n-1 0\na 0\n", None),
 ];
 
-fn all_calls() -> &'static [(&'static [u8], Calls)] {
+fn all_calls() -> &'static [(&'static [u8], Option<Calls>)] {
     &CALLS
 }
 
-#[test]
-fn calls_are_as_many_as_this(rt: HostRuntime) {
-    for &(text, calls) in all_calls() {
-        assert!(rt;
-            run_at(rt.alloc(), text, (0, 0, 0)) == (None, calls),
-            "{text:?}"
-        );
+fn calls_of(calls: Calls, device: u8) -> u64 {
+    match device {
+        0 => calls.0,
+        1 => calls.1,
+        _ => calls.2,
     }
 }
 
-/// Tests whether each of so many calls of a device in turn fails, and gives this fault.
+/// Tests whether each of so many calls of a device in turn fails, gives this fault, and is the last.
 fn each_fails(alloc: Global, text: &[u8], device: u8, calls: u64, fault: RunFault) -> bool {
     for failing in 1..=calls {
-        let failing = match device {
+        let one = match device {
             0 => (failing, 0, 0),
             1 => (0, failing, 0),
             _ => (0, 0, failing),
         };
-        if run_at(alloc, text, failing).0 != Some(fault) {
+        let (found, made) = run_at(alloc, text, one);
+        if found != Some(fault) || calls_of(made, device) != failing {
             return false;
         }
     }
     true
 }
 
-fn each_call_fails(alloc: Global, text: &[u8], (reads, answered, certified): Calls) -> bool {
-    each_fails(alloc, text, 0, reads, RunFault::ScriptRead)
-        && each_fails(alloc, text, 1, answered, RunFault::AnswersWrite)
-        && each_fails(alloc, text, 2, certified, RunFault::CertificateWrite)
+/// Tests whether a run makes so many calls, and each in turn fails.
+fn each_call_fails(alloc: Global, text: &[u8], wanted: Option<Calls>) -> bool {
+    let (fault, calls) = run_at(alloc, text, (0, 0, 0));
+    fault == None
+        && (wanted == None || wanted == Some(calls))
+        && each_fails(alloc, text, 0, calls.0, RunFault::ScriptRead)
+        && each_fails(alloc, text, 1, calls.1, RunFault::AnswersWrite)
+        && each_fails(alloc, text, 2, calls.2, RunFault::CertificateWrite)
 }
 
 /// Each call of a device fails in turn, the flushes too, and gives that text's fault.
@@ -509,27 +508,4 @@ fn short_writers_are_told(rt: HostRuntime) {
     assert!(rt;
         fault_of_short(rt.alloc(), &mut [0; 18], &mut [0; 8]) == Some(RunFault::CertificateWrite)
     );
-}
-
-static WORDS: [(RunFault, &str); 6] = [
-    (RunFault::ScriptRead, "the script can't be read"),
-    (RunFault::AnswersWrite, "the answers can't be written"),
-    (
-        RunFault::CertificateWrite,
-        "the certificate can't be written",
-    ),
-    (RunFault::OutOfMemory, "out of memory"),
-    (RunFault::StoreFull, "the store of clauses is full"),
-    (RunFault::CounterEnd, "a counter is at its end"),
-];
-
-fn words() -> &'static [(RunFault, &'static str)] {
-    &WORDS
-}
-
-#[test]
-fn faults_have_words(rt: HostRuntime) {
-    for (fault, words) in words() {
-        assert!(rt; is_printed(rt.alloc(), fault, *words), "{words}");
-    }
 }

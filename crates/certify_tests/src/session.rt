@@ -1,13 +1,13 @@
 //! A session whose asks make the search learn: answered, and confirmed.
 
 use crate::confirm::is_confirmed;
+use crate::devices::fails_at;
 use crate::hints::is_proved;
+use crate::written::AMPLE;
 use certify::run::run;
 use certify::summary::{Answer, AskReport};
 use sat_base::Counted;
 use std::alloc::Global;
-
-const AMPLE: u64 = 1 << 20;
 
 /// Each three of five names with both signs, the positive ones with a sixth; asks without the sixth and under nothing, and the sixth is
 /// false from then on.
@@ -41,35 +41,37 @@ fn are(asks: &[AskReport], answers: &[Answer]) -> bool {
     true
 }
 
-/// Whether a run answers the asks of a script so.
+/// Tests whether a run answers the asks of a script so.
 fn is_answered(alloc: Global, script: &[u8], answers: &[Answer]) -> bool {
-    let mut written = Counted::new(Vec::new(alloc));
-    let mut certificate = Counted::new(Vec::new(alloc));
-    match run(
-        alloc,
-        &mut Counted::new(script),
-        &mut written,
-        &mut certificate,
-        AMPLE,
-    ) {
+    let mut written = fails_at(b"", 0);
+    let mut certificate = fails_at(b"", 0);
+    let mut script = Counted::new(script);
+    match run(alloc, &mut script, &mut written, &mut certificate, AMPLE) {
         Ok(summary) => are(&summary.asks, answers),
         Err(_) => false,
     }
 }
 
-#[test]
-fn sessions_are_answered_and_confirmed(rt: HostRuntime) {
-    let last_fails = [Answer::Unsat, Answer::Sat, Answer::Unsat];
-    assert!(rt; is_answered(rt.alloc(), SESSION, &last_fails));
-    assert!(rt; is_confirmed(rt.alloc(), SESSION, AMPLE));
-    let last_holds = [Answer::Unsat, Answer::Sat, Answer::Sat];
-    assert!(rt; is_answered(rt.alloc(), HIDDEN_SESSION, &last_holds));
-    assert!(rt; is_confirmed(rt.alloc(), HIDDEN_SESSION, AMPLE));
+/// Scripts and their answers, and whether an empty clause is derived. There is a core of each first ask.
+static SESSIONS: [(&[u8], [Answer; 3], bool); 2] = [
+    (SESSION, [Answer::Unsat, Answer::Sat, Answer::Unsat], true),
+    (
+        HIDDEN_SESSION,
+        [Answer::Unsat, Answer::Sat, Answer::Sat],
+        false,
+    ),
+];
+
+/// Tests whether a session is answered so and confirmed, and has a hint text that is proved.
+fn is_right(alloc: Global, (script, answers, empty): (&[u8], [Answer; 3], bool)) -> bool {
+    is_answered(alloc, script, &answers)
+        && is_confirmed(alloc, script, AMPLE)
+        && is_proved(alloc, script, (empty, 1))
 }
 
-/// A core of the first ask; where the last one fails, too, an empty clause.
 #[test]
-fn sessions_have_hint_texts(rt: HostRuntime) {
-    assert!(rt; is_proved(rt.alloc(), SESSION, (true, 1)));
-    assert!(rt; is_proved(rt.alloc(), HIDDEN_SESSION, (false, 1)));
+fn sessions_are_answered_confirmed_and_hinted(rt: HostRuntime) {
+    for &session in &SESSIONS {
+        assert!(rt; is_right(rt.alloc(), session));
+    }
 }

@@ -4,3 +4,4 @@ pub mod Numerals
 pub mod Formulas
 pub mod Flat
 pub mod Hashes
+pub mod Tables

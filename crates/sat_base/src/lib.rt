@@ -16,6 +16,7 @@ mod law_step;
 mod law_text;
 mod lit;
 mod steps;
+mod table;
 mod text;
 mod var;
 
@@ -43,5 +44,6 @@ pub use lit::Lit;
 pub use steps::{
     DeleteClauseProof, HashBits, ProofStep, StepError, StepReader, StepWriter, write_step,
 };
+pub use table::Table;
 pub use text::{Token, Tokenizer};
 pub use var::Var;

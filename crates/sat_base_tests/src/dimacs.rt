@@ -8,6 +8,7 @@ ghost use Rattle.sat_base.specs.text.Tokenizing.{held};
 ghost use Rattle.sat_base.specs.dimacs.Dimacs.{dimacs};
 
 use crate::devices::by_one;
+use crate::formula::is_printed;
 use sat_base::{
     CnfFormula, Counted, CountedRead, DimacsError, DimacsParser, ExtendFormula, FormulaError,
     IncrementalError, Lit, write_dimacs,
@@ -190,21 +191,12 @@ fn ends(alloc: Global, parser: &mut DimacsParser) -> bool {
         && state(parser) == (Some((7, 2)), 3, 9)
 }
 
-/// The first piece behind which a parser is wrong, and whether it ends as it should.
-fn taken(alloc: Global, parser: &mut DimacsParser) -> (Option<Piece>, bool) {
-    let wrong = wrong_piece(alloc, parser);
-    (wrong, ends(alloc, parser))
-}
-
-fn taken_by_new(alloc: Global) -> (Option<Piece>, bool) {
-    let mut parser = DimacsParser::new(alloc);
-    taken(alloc, &mut parser)
-}
-
 #[test]
 fn clauses_are_taken_as_they_come(rt: HostRuntime) {
-    let (wrong, ends) = taken_by_new(rt.alloc());
-    assert!(rt; wrong == None && ends, "{wrong:?}");
+    let mut parser = DimacsParser::new(rt.alloc());
+    let wrong = wrong_piece(rt.alloc(), &mut parser);
+    assert!(rt; wrong == None, "{wrong:?}");
+    assert!(rt; ends(rt.alloc(), &mut parser));
 }
 
 /// Tests whether a formula with these clauses and this highest variable is read from a text.
@@ -215,9 +207,12 @@ fn is_parsed(alloc: Global, text: &[u8], clauses: &[i64], highest: usize) -> boo
     }
 }
 
-/// How many clauses are read from a text, or the fault.
-fn parsed<R: CountedRead>(alloc: Global, reader: &mut R) -> Result<usize, DimacsError> {
-    Ok(DimacsParser::parse(alloc, reader)?.len())
+/// How many clauses a formula's text has.
+fn clause_count<R: CountedRead>(alloc: Global, reader: &mut R) -> Result<usize, DimacsError>
+    ensures { IfOk result (λ count. GaveEnough (R.seen reader.old) (R.seen reader.new) (λ text. count ≡ length (dimacs text).clauses)) }
+{
+    let formula = DimacsParser::parse(alloc, reader)?;
+    Ok(formula.len())
 }
 
 #[test]
@@ -225,16 +220,18 @@ fn a_reader_is_read_to_its_end(rt: HostRuntime) {
     let text: &[u8] = b"p cnf 3 2\n1 -3 0\n2 0\n";
     assert!(rt; is_parsed(rt.alloc(), text, &[1, -3, 0, 2, 0], 3));
     let cut: &[u8] = b"1 0\n2 x";
-    assert!(rt; parsed(rt.alloc(), &mut Counted::new(cut)) == Err(MALFORMED));
+    assert!(rt; clause_count(rt.alloc(), &mut Counted::new(cut)) == Err(MALFORMED));
 }
 
 #[test]
 fn each_read_may_fail(rt: HostRuntime) {
     let text: &[u8] = b"1 -3 0\n2 0\n";
     for failing in 1..13 {
-        assert!(rt; parsed(rt.alloc(), &mut by_one(text, failing)) == Err(DimacsError::Read));
+        assert!(rt; clause_count(rt.alloc(), &mut by_one(text, failing)) == Err(DimacsError::Read));
     }
-    assert!(rt; parsed(rt.alloc(), &mut by_one(text, 13)) == Ok(2));
+    assert!(rt; clause_count(rt.alloc(), &mut by_one(text, 13)) == Ok(2));
+    let answer = clause_count(rt.alloc(), &mut by_one(b"p cnf 2 2\n1 0 2 0\n", 0));
+    assert!(rt; answer == Ok(2));
 }
 
 /// What a closure saw: the numbers of the clauses that it took, and how often it was called.
@@ -307,7 +304,7 @@ fn in_parts(
 }
 
 /// Adds a clause for each of the first thousand variables.
-fn add_thousand(formula: &mut CnfFormula) -> Result<(), FormulaError> {
+pub(crate) fn add_thousand(formula: &mut CnfFormula) -> Result<(), FormulaError> {
     for index in 0..1000 {
         formula.add_clause(&[Lit::from_index(index, true), Lit::from_index(1, false)])?;
     }
@@ -431,20 +428,6 @@ fn a_caller_may_refuse_and_a_read_may_fail(rt: HostRuntime) {
     assert!(rt; in_parts(rt.alloc(), text, 10, 10) == (9, None));
 }
 
-/// How many clauses a formula's text has.
-fn clause_count<R: CountedRead>(alloc: Global, reader: &mut R) -> Result<usize, DimacsError>
-    ensures { IfOk result (λ count. GaveEnough (R.seen reader.old) (R.seen reader.new) (λ text. count ≡ length (dimacs text).clauses)) }
-{
-    let formula = DimacsParser::parse(alloc, reader)?;
-    Ok(formula.len())
-}
-
-#[test]
-fn clauses_are_counted(rt: HostRuntime) {
-    let answer = clause_count(rt.alloc(), &mut by_one(b"p cnf 2 2\n1 0 2 0\n", 0));
-    assert!(rt; answer == Ok(2));
-}
-
 /// How many clauses a text has, which are let go as they come.
 fn count_in_parts<R: CountedRead>(
     alloc: Global,
@@ -491,13 +474,6 @@ fn printed() -> &'static [(IncrementalError<DimacsError>, &'static str)] {
     &PRINTED
 }
 
-fn is_printed(alloc: Global, error: &IncrementalError<DimacsError>, text: &str) -> bool {
-    match format!(in alloc; "{error}") {
-        Ok(printed) => printed.as_str() == text,
-        Err(_) => false,
-    }
-}
-
 #[test]
 fn errors_are_printed(rt: HostRuntime) {
     for (error, text) in printed() {
@@ -509,4 +485,5 @@ fn errors_are_printed(rt: HostRuntime) {
 fn laws_are_proved(_rt: HostRuntime) {
     sat_base::dimacs_laws();
     sat_base::dimacs_rows();
+    sat_base::script_laws();
 }

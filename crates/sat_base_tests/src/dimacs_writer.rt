@@ -3,6 +3,7 @@
 //! No `?` stands where a formula is owned: that is dear to prove.
 
 use crate::devices::by_few;
+use crate::dimacs::add_thousand;
 use sat_base::{CnfFormula, Counted, ExtendFormula, FormulaError, Lit, Var, write_dimacs};
 use std::alloc::Global;
 
@@ -71,13 +72,6 @@ fn by_few_calls(
     let is_written = write_dimacs(&mut writer, formula).is_ok();
     let device = writer.into_inner();
     (is_written, device.calls, device.taken.as_slice() == text)
-}
-
-fn add_thousand(formula: &mut CnfFormula) -> Result<(), FormulaError> {
-    for index in 0..1000 {
-        formula.add_clause(&[Lit::from_index(index, true), Lit::from_index(1, false)])?;
-    }
-    Ok(())
 }
 
 fn length(alloc: Global, formula: &CnfFormula) -> Option<usize> {

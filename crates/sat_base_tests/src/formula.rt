@@ -6,6 +6,7 @@ ghost use Rattle.sat_base.specs.values.Literals.{coded, largest};
 
 use sat_base::{CnfFormula, ExtendFormula, FormulaError, Lit, Var};
 use std::alloc::Global;
+use std::fmt::Display;
 use std::mem;
 use std::test::*;
 
@@ -141,7 +142,7 @@ fn a_formula_is_taken_out(rt: HostRuntime) {
     assert!(rt; is_taken_out(&mut formula, &mut empty));
 }
 
-fn is_printed(alloc: Global, error: FormulaError, text: &str) -> bool {
+pub(crate) fn is_printed<E: Display>(alloc: Global, error: &E, text: &str) -> bool {
     match format!(in alloc; "{error}") {
         Ok(printed) => printed.as_str() == text,
         Err(_) => false,
@@ -151,6 +152,6 @@ fn is_printed(alloc: Global, error: FormulaError, text: &str) -> bool {
 #[test]
 fn errors_are_printed(rt: HostRuntime) {
     let limit = FormulaError::VariableLimit;
-    assert!(rt; is_printed(rt.alloc(), limit, "no variable is left"));
-    assert!(rt; is_printed(rt.alloc(), FormulaError::OutOfMemory, "out of memory"));
+    assert!(rt; is_printed(rt.alloc(), &limit, "no variable is left"));
+    assert!(rt; is_printed(rt.alloc(), &FormulaError::OutOfMemory, "out of memory"));
 }

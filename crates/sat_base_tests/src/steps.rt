@@ -23,11 +23,14 @@ fn written(alloc: Global, step: &ProofStep<'_>) -> Option<Vec<u8>> {
 /// The errors of two calls.
 type Errors = (StepError, Option<StepError>);
 
-const AT_THE_END: Errors = (StepError::Ends, Some(StepError::Ends));
+/// How a text ends: the errors of two calls, and how many reads they make behind the last byte.
+type End = (Errors, u64);
 
-const CUT: Errors = (StepError::Cut, Some(StepError::HasFailed));
+const AT_THE_END: End = ((StepError::Ends, Some(StepError::Ends)), 2);
 
-const BAD: Errors = (StepError::BadByte, Some(StepError::HasFailed));
+const CUT: End = ((StepError::Cut, Some(StepError::HasFailed)), 1);
+
+const BAD: End = ((StepError::BadByte, Some(StepError::HasFailed)), 0);
 
 const FAULT: Errors = (StepError::Read, Some(StepError::HasFailed));
 
@@ -73,9 +76,11 @@ fn pieces_give(
     (is_right, pieces.into_inner().calls)
 }
 
-/// Tests whether a text that is given whole or by one byte gives these steps and then these errors.
-fn both_give(alloc: Global, text: &[u8], steps: &[u8], errors: Errors) -> bool {
-    whole_gives(alloc, text, steps, errors) && pieces_give(alloc, text, 0, steps, errors).0
+/// Tests whether a text that is given whole or by one byte gives these steps and then ends so.
+fn both_give(alloc: Global, text: &[u8], steps: &[u8], (errors, behind): End) -> bool {
+    let calls = (text.len() as u64).saturating_add(behind);
+    whole_gives(alloc, text, steps, errors)
+        && pieces_give(alloc, text, 0, steps, errors) == (true, calls)
 }
 
 /// The tag of the next step.
@@ -108,18 +113,10 @@ fn has_text(alloc: Global, step: &ProofStep<'_>, text: &[u8]) -> bool {
     }
 }
 
-/// Tests whether a step is read again, whole and by one byte.
-fn is_read_again(alloc: Global, step: &ProofStep<'_>) -> bool {
-    match written(alloc, step) {
-        Some(text) => has_text(alloc, step, text.as_slice()),
-        None => false,
-    }
-}
-
 /// A step and its text.
 type Row<'a> = (ProofStep<'a>, &'static [u8]);
 
-fn rows_about_variables(first: Var, last: Var) -> [Row<'static>; 6] {
+fn rows_about_variables(first: Var, last: Var) -> [Row<'static>; 8] {
     let fifth = Var::from_index(5);
     let late = Var::from_index(128);
     [
@@ -143,6 +140,20 @@ fn rows_about_variables(first: Var, last: Var) -> [Row<'static>; 6] {
                 user: Some(last),
             },
             &[2, 0, 0x80, 0x80, 0x80, 0x80, 1],
+        ),
+        (
+            ProofStep::UserVarName {
+                global: last,
+                user: Some(last),
+            },
+            &[2, 0xff, 0xff, 0xff, 0x7f, 0x80, 0x80, 0x80, 0x80, 1],
+        ),
+        (
+            ProofStep::UserVarName {
+                global: first,
+                user: None,
+            },
+            &[2, 0, 0],
         ),
         (
             ProofStep::DeleteVar { var: last },
@@ -222,6 +233,40 @@ fn wrong_about_clauses(alloc: Global) -> Option<&'static [u8]> {
     wrong_text(alloc, &rows_about_clauses(&both, &clause, &[(first, 0x44)]))
 }
 
+fn wrong_about_the_last(alloc: Global) -> Option<&'static [u8]> {
+    let lits = [Lit::from_index(0, true), Lit::from_index(268435455, false)];
+    wrong_text(alloc, &long_rows(&lits))
+}
+
+/// Rows about the first literal and the negation of the last.
+fn long_rows(lits: &[Lit]) -> [Row<'_>; 4] {
+    [
+        (
+            ProofStep::AddClause { clause: lits },
+            &[5, 2, 0, 0xff, 0xff, 0xff, 0xff, 1],
+        ),
+        (
+            ProofStep::AtClause {
+                redundant: true,
+                clause: lits,
+                propagation_hashes: &[0, 230, u64::MAX],
+            },
+            &[
+                6, 1, 2, 0, 0xff, 0xff, 0xff, 0xff, 1, 3, 0, 0xe6, 1, 0xff, 0xff, 0xff, 0xff, 0xff,
+                0xff, 0xff, 0xff, 0xff, 1,
+            ],
+        ),
+        (
+            ProofStep::Model { assignment: lits },
+            &[10, 2, 0, 0xff, 0xff, 0xff, 0xff, 1],
+        ),
+        (
+            ProofStep::Assumptions { assumptions: lits },
+            &[11, 2, 0, 0xff, 0xff, 0xff, 0xff, 1],
+        ),
+    ]
+}
+
 fn other_rows(lits: &[Lit], bits: HashBits) -> [Row<'_>; 5] {
     [
         (ProofStep::ChangeHashBits { bits }, &[9, 0x40]),
@@ -255,23 +300,16 @@ fn steps_have_these_bytes(rt: HostRuntime) {
     let wrong = [
         wrong_about_variables(rt.alloc()),
         wrong_about_clauses(rt.alloc()),
+        wrong_about_the_last(rt.alloc()),
         wrong_of_others(rt.alloc()),
     ];
-    assert!(rt; wrong == [None; 3], "{wrong:?}");
+    assert!(rt; wrong == [None; 4], "{wrong:?}");
 }
 
 #[test]
 fn a_hash_has_at_most_64_bits(rt: HostRuntime) {
     assert!(rt; HashBits::new(64).map(|bits| bits.get()) == Some(64));
     assert!(rt; HashBits::new(65) == None);
-}
-
-#[test]
-fn the_room_of_lists_is_used_again(rt: HostRuntime) {
-    let text: &[u8] = &[
-        7, 2, 0, 0x44, 3, 1, 12, 1, 3, 1, 9, 7, 1, 5, 0, 5, 0, 7, 0, 6, 0, 0, 2, 3, 4, 13,
-    ];
-    assert!(rt; both_give(rt.alloc(), text, text, AT_THE_END));
 }
 
 const FOUR_STEPS: &[u8] = &[5, 2, 0, 3, 12, 1, 3, 2, 0xe6, 1, 9, 1, 0x80, 1, 0, 13];
@@ -303,47 +341,31 @@ fn each_read_of_steps_may_fail(rt: HostRuntime) {
     assert!(rt; pieces_give(rt.alloc(), FOUR_STEPS, 18, FOUR_STEPS, late).0);
 }
 
-static BAD_TEXTS: [&[u8]; 17] = [
-    &[0],
-    &[14],
-    &[0x82],
-    &[1, 5, 0x80, 0],
-    &[2, 0xff, 0xff, 0xff, 0xff],
-    &[3, 0x80, 0x80, 0x80, 0x80],
-    &[4, 0, 2],
-    &[5, 0x82, 0],
-    &[5, 1, 0xff, 0xff, 0xff, 0xff, 2],
-    &[6, 2],
-    &[6, 0, 0, 1, 0xe6, 0],
-    &[
-        7, 1, 0, 0xff, 0xff, 0xff, 0xff, 0xff, 0xff, 0xff, 0xff, 0xff, 2,
-    ],
-    &[8, 2, 0, 2, 3],
-    &[9, 0x41],
-    &[9, 0xc0],
-    &[12, 0x80, 0],
-    &[12, 0, 0x80, 0],
-];
-
-fn bad_texts() -> &'static [&'static [u8]] {
-    &BAD_TEXTS
-}
-
-/// Tests whether a text is refused, whole and by one byte, once its last byte is read.
-fn is_refused(alloc: Global, text: &[u8]) -> bool {
-    whole_gives(alloc, text, &[], BAD)
-        && pieces_give(alloc, text, 0, &[], BAD) == (true, text.len() as u64)
-}
-
-#[test]
-fn wrong_texts_are_refused(rt: HostRuntime) {
-    for &text in bad_texts() {
-        assert!(rt; is_refused(rt.alloc(), text), "{text:?}");
-    }
-}
-
-/// A text, its whole steps, and the errors behind them.
-static ENDS: [(&[u8], &[u8], Errors); 9] = [
+/// A text, its whole steps, and how it ends.
+static TEXTS: [(&[u8], &[u8], End); 34] = [
+    (&[0], &[], BAD),
+    (&[14], &[], BAD),
+    (&[0x82], &[], BAD),
+    (&[1, 5, 0x80, 0], &[], BAD),
+    (&[2, 0xff, 0xff, 0xff, 0xff], &[], BAD),
+    (&[3, 0x80, 0x80, 0x80, 0x80], &[], BAD),
+    (&[4, 0, 2], &[], BAD),
+    (&[5, 0x82, 0], &[], BAD),
+    (&[5, 1, 0xff, 0xff, 0xff, 0xff, 2], &[], BAD),
+    (&[6, 2], &[], BAD),
+    (&[6, 0, 0, 1, 0xe6, 0], &[], BAD),
+    (
+        &[
+            7, 1, 0, 0xff, 0xff, 0xff, 0xff, 0xff, 0xff, 0xff, 0xff, 0xff, 2,
+        ],
+        &[],
+        BAD,
+    ),
+    (&[8, 2, 0, 2, 3], &[], BAD),
+    (&[9, 0x41], &[], BAD),
+    (&[9, 0xc0], &[], BAD),
+    (&[12, 0x80, 0], &[], BAD),
+    (&[12, 0, 0x80, 0], &[], BAD),
     (&[3], &[], CUT),
     (&[3, 0x80], &[], CUT),
     (&[4, 0], &[], CUT),
@@ -353,10 +375,71 @@ static ENDS: [(&[u8], &[u8], Errors); 9] = [
     (&[5, 2, 0], &[], CUT),
     (&[], &[], AT_THE_END),
     (&[13], &[13], AT_THE_END),
+    // Texts that promise 2^63 items, and then have none, or one: memory is for items that came.
+    (
+        &[5, 0x80, 0x80, 0x80, 0x80, 0x80, 0x80, 0x80, 0x80, 0x80, 1],
+        &[],
+        CUT,
+    ),
+    (
+        &[
+            6, 0, 0x80, 0x80, 0x80, 0x80, 0x80, 0x80, 0x80, 0x80, 0x80, 1,
+        ],
+        &[],
+        CUT,
+    ),
+    (
+        &[
+            7, 0x80, 0x80, 0x80, 0x80, 0x80, 0x80, 0x80, 0x80, 0x80, 1, 2, 3,
+        ],
+        &[],
+        CUT,
+    ),
+    (
+        &[8, 0x80, 0x80, 0x80, 0x80, 0x80, 0x80, 0x80, 0x80, 0x80, 1],
+        &[],
+        CUT,
+    ),
+    (
+        &[
+            10, 0x80, 0x80, 0x80, 0x80, 0x80, 0x80, 0x80, 0x80, 0x80, 1, 2,
+        ],
+        &[],
+        CUT,
+    ),
+    (
+        &[11, 0x80, 0x80, 0x80, 0x80, 0x80, 0x80, 0x80, 0x80, 0x80, 1],
+        &[],
+        CUT,
+    ),
+    (
+        &[
+            12, 0, 0x80, 0x80, 0x80, 0x80, 0x80, 0x80, 0x80, 0x80, 0x80, 1,
+        ],
+        &[],
+        CUT,
+    ),
+    // The room of lists is used again.
+    (
+        &[
+            7, 2, 0, 0x44, 3, 1, 12, 1, 3, 1, 9, 7, 1, 5, 0, 5, 0, 7, 0, 6, 0, 0, 2, 3, 4, 13,
+        ],
+        &[
+            7, 2, 0, 0x44, 3, 1, 12, 1, 3, 1, 9, 7, 1, 5, 0, 5, 0, 7, 0, 6, 0, 0, 2, 3, 4, 13,
+        ],
+        AT_THE_END,
+    ),
 ];
 
-fn ends() -> &'static [(&'static [u8], &'static [u8], Errors)] {
-    &ENDS
+fn texts() -> &'static [(&'static [u8], &'static [u8], End)] {
+    &TEXTS
+}
+
+#[test]
+fn texts_end_so(rt: HostRuntime) {
+    for &(text, steps, end) in texts() {
+        assert!(rt; both_give(rt.alloc(), text, steps, end), "{text:?}");
+    }
 }
 
 /// Writes a step, flushes, and writes it again.
@@ -383,80 +466,6 @@ fn what_waits_is_lost_with_a_writer_of_steps(rt: HostRuntime) {
     assert!(rt; is_written && taken.as_slice() == [5, 1, 0].as_slice());
 }
 
-/// Texts that promise 2^63 items, and then have none, or one: memory is for items that came.
-static PROMISES: [&[u8]; 7] = [
-    &[5, 0x80, 0x80, 0x80, 0x80, 0x80, 0x80, 0x80, 0x80, 0x80, 1],
-    &[
-        6, 0, 0x80, 0x80, 0x80, 0x80, 0x80, 0x80, 0x80, 0x80, 0x80, 1,
-    ],
-    &[
-        7, 0x80, 0x80, 0x80, 0x80, 0x80, 0x80, 0x80, 0x80, 0x80, 1, 2, 3,
-    ],
-    &[8, 0x80, 0x80, 0x80, 0x80, 0x80, 0x80, 0x80, 0x80, 0x80, 1],
-    &[
-        10, 0x80, 0x80, 0x80, 0x80, 0x80, 0x80, 0x80, 0x80, 0x80, 1, 2,
-    ],
-    &[11, 0x80, 0x80, 0x80, 0x80, 0x80, 0x80, 0x80, 0x80, 0x80, 1],
-    &[
-        12, 0, 0x80, 0x80, 0x80, 0x80, 0x80, 0x80, 0x80, 0x80, 0x80, 1,
-    ],
-];
-
-fn promises() -> &'static [&'static [u8]] {
-    &PROMISES
-}
-
-#[test]
-fn no_memory_is_taken_for_promised_items(rt: HostRuntime) {
-    for &text in promises() {
-        assert!(rt; both_give(rt.alloc(), text, &[], CUT), "{text:?}");
-    }
-}
-
-#[test]
-fn a_text_ends_between_steps(rt: HostRuntime) {
-    for &(text, steps, errors) in ends() {
-        assert!(rt; both_give(rt.alloc(), text, steps, errors), "{text:?}");
-    }
-}
-
-#[test]
-fn a_failed_read_is_not_tried_again(rt: HostRuntime) {
-    let answer = pieces_give(rt.alloc(), &[5, 2, 0, 3], 3, &[], FAULT);
-    assert!(rt; answer == (true, 3));
-}
-
-fn more_steps<'a>(last: Var, lits: &'a [Lit], hashes: &'a [u64]) -> [ProofStep<'a>; 7] {
-    [
-        ProofStep::UserVarName {
-            global: last,
-            user: Some(last),
-        },
-        ProofStep::UserVarName {
-            global: Var::from_index(0),
-            user: None,
-        },
-        ProofStep::AddClause { clause: lits },
-        ProofStep::AtClause {
-            redundant: true,
-            clause: lits,
-            propagation_hashes: hashes,
-        },
-        ProofStep::Model { assignment: lits },
-        ProofStep::Assumptions { assumptions: lits },
-        ProofStep::End,
-    ]
-}
-
-#[test]
-fn steps_are_read_again(rt: HostRuntime) {
-    let last = Var::from_index(268435455);
-    let lits = [Lit::from_index(0, true), last.negative()];
-    for step in &more_steps(last, &lits, &[0, 230, 18446744073709551615]) {
-        assert!(rt; is_read_again(rt.alloc(), step), "{step:?}");
-    }
-}
-
 /// The positive literals of 3,000 variables, or of fewer where memory ends.
 fn many_lits(alloc: Global, first: usize) -> Vec<Lit>
     requires { first ≤ 268000000 }
@@ -473,7 +482,7 @@ fn many_lits(alloc: Global, first: usize) -> Vec<Lit>
 /// The length of a step's text, if the step is read again from it, whole.
 fn length_again(alloc: Global, step: &ProofStep<'_>) -> Option<usize> {
     let text = written(alloc, step)?;
-    let is_right = whole_gives(alloc, text.as_slice(), text.as_slice(), AT_THE_END);
+    let is_right = whole_gives(alloc, text.as_slice(), text.as_slice(), AT_THE_END.0);
     is_right.then_some(text.len())
 }
 

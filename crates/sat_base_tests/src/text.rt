@@ -149,16 +149,6 @@ fn gives_at_once(row: &Row) -> bool {
     ends_on(&mut tokenizer, &mut left, row.2)
 }
 
-/// The first text of some rows that doesn't give what its row says.
-fn wrong_text(rows: &[Row]) -> Option<&'static [u8]> {
-    for row in rows {
-        if !gives(row) || !gives_at_once(row) {
-            return Some(row.0);
-        }
-    }
-    None
-}
-
 /// Tests whether bytes give no token.
 fn give_nothing(tokenizer: &mut Tokenizer, bytes: &[u8]) -> bool {
     for byte in bytes {
@@ -169,18 +159,8 @@ fn give_nothing(tokenizer: &mut Tokenizer, bytes: &[u8]) -> bool {
     true
 }
 
-/// A front with a header that waits for the end of its line, and what comes behind it.
+/// A front with a header that waits for the end of its line.
 const FRONT: &[u8] = b"c 1\n\n p\tcnf  007 18446744073709551616 ";
-
-static BEHIND: [Step; 3] = [
-    (b'\n', LIMIT_HEADER, 3),
-    (b'1', None, 4),
-    (b' ', Some(ONE), 4),
-];
-
-fn behind() -> &'static [Step] {
-    &BEHIND
-}
 
 /// Tests whether the front gives nothing, and a header once the text ends.
 fn gives_header_at_the_end(tokenizer: &mut Tokenizer) -> bool {
@@ -191,7 +171,12 @@ fn gives_header_at_the_end(tokenizer: &mut Tokenizer) -> bool {
 fn gives_headers_where_their_lines_end(rt: HostRuntime) {
     let mut tokenizer = Tokenizer::new();
     assert!(rt; gives_header_at_the_end(&mut tokenizer));
-    let wrong = wrong_byte(&mut tokenizer, behind());
+    let behind = [
+        (b'\n', LIMIT_HEADER, 3),
+        (b'1', None, 4),
+        (b' ', Some(ONE), 4),
+    ];
+    let wrong = wrong_byte(&mut tokenizer, &behind);
     assert!(rt; wrong == None, "{wrong:?}");
 }
 
@@ -200,8 +185,9 @@ const HEADER: Token = Token::Header {
     clauses: 1,
 };
 
-/// Lines that begin with p, and are no headers.
-static OTHER_LINES: [Row; 18] = [
+/// Lines that begin with p and are no headers, then headers, which come once and before words, then lines that begin with %, which
+/// end the text.
+static LINES: [Row; 29] = [
     (b"p", &[(1, Token::Wrong)], 1),
     (b"p ", &[(1, Token::Wrong)], 1),
     (b"pcnf 1 1", &[(1, Token::Wrong)], 1),
@@ -221,19 +207,6 @@ static OTHER_LINES: [Row; 18] = [
     (b"p cnf -1 1 x 2\n3", &[(1, Token::Wrong), (2, THREE)], 2),
     (b"px cnf 1 1 x 2\n3", &[(1, Token::Wrong), (2, THREE)], 2),
     (b"p cnf 1 1 x y\n3", &[(1, Token::Wrong), (2, THREE)], 2),
-];
-
-fn other_lines() -> &'static [Row] {
-    &OTHER_LINES
-}
-
-#[test]
-fn refuses_other_lines_that_begin_with_p(rt: HostRuntime) {
-    let wrong = wrong_text(other_lines());
-    assert!(rt; wrong == None, "{wrong:?}");
-}
-
-static HEADERS: [Row; 6] = [
     (b"p cnf 2 1\n1\n", &[(1, HEADER), (2, ONE)], 2),
     (b"c p\n \r\n  p cnf 2 1\r\n1\n", &[(3, HEADER), (4, ONE)], 4),
     (
@@ -256,19 +229,6 @@ static HEADERS: [Row; 6] = [
         &[(1, ONE), (1, Token::Letter(b'p')), (1, Token::Wrong)],
         1,
     ),
-];
-
-fn headers() -> &'static [Row] {
-    &HEADERS
-}
-
-#[test]
-fn a_header_comes_once_and_before_words(rt: HostRuntime) {
-    let wrong = wrong_text(headers());
-    assert!(rt; wrong == None, "{wrong:?}");
-}
-
-static PERCENT_LINES: [Row; 5] = [
     (b"1\n%\n0\np x\nc\n", &[(1, ONE)], 2),
     (b"1\n\n \t%1 x", &[(1, ONE)], 3),
     (b"%", &[], 1),
@@ -276,13 +236,23 @@ static PERCENT_LINES: [Row; 5] = [
     (b"1 %\n1", &[(1, ONE), (1, Token::Wrong), (2, ONE)], 2),
 ];
 
-fn percent_lines() -> &'static [Row] {
-    &PERCENT_LINES
+fn lines() -> &'static [Row] {
+    &LINES
+}
+
+/// The first text that doesn't give what its row says.
+fn wrong_text() -> Option<&'static [u8]> {
+    for row in lines() {
+        if !gives(row) || !gives_at_once(row) {
+            return Some(row.0);
+        }
+    }
+    None
 }
 
 #[test]
-fn a_percent_line_ends_the_text(rt: HostRuntime) {
-    let wrong = wrong_text(percent_lines());
+fn lines_that_begin_with_p_or_percent(rt: HostRuntime) {
+    let wrong = wrong_text();
     assert!(rt; wrong == None, "{wrong:?}");
 }
 
@@ -327,9 +297,4 @@ fn wrong_word() -> Option<&'static [u8]> {
 fn tells_numbers_from_wrong_words(rt: HostRuntime) {
     let wrong = wrong_word();
     assert!(rt; wrong == None, "{wrong:?}");
-}
-
-#[test]
-fn laws_are_proved(_rt: HostRuntime) {
-    sat_base::script_laws();
 }

@@ -5,14 +5,14 @@ ghost use Rattle.sat_checker.specs.inner.Marks.{is_marked, NoRepeats};
 ghost use Rattle.sat_checker.specs.LiteralSets.{is_among};
 ghost use Rattle.sat_checker.specs.Verdicts.{verdict, verdict_of};
 
-use sat_base::{Lit, Var};
+use sat_base::{Lit, Table, Var};
 use std::alloc::{AllocError, Global};
 use std::marker::Model;
 
 /// Literals that are assumed, each once. Contracts see them with the newest first.
 #[derive(Drop)]
 pub struct Assigned {
-    marks: Vec<bool>,
+    marks: Table<bool>,
     trail: Vec<Lit>,
 }
 
@@ -24,7 +24,7 @@ impl Model for Assigned {
 
     ghost view = { λ s. reverse s.trail.items };
 
-    ghost invariant = { λ s. AreMarks s.marks.items (reverse s.trail.items) };
+    ghost invariant = { λ s. AreMarks s.marks (reverse s.trail.items) };
 }
 
 impl Assigned {
@@ -32,7 +32,7 @@ impl Assigned {
         ensures { result ≡ [] }
     {
         Assigned {
-            marks: Vec::new(alloc),
+            marks: Table::new(alloc),
             trail: Vec::new(alloc),
         }
     }
@@ -51,11 +51,18 @@ impl Assigned {
         self.trail.as_slice()
     }
 
+    /// So many places of marks may stand in one list, which is faster than a tree.
+    pub fn allow(&mut self, limit: usize)
+        ensures { self.new ≡ self.old }
+    {
+        self.marks.allow(limit);
+    }
+
+    #[inline(always)]
     pub fn is_true(&self, lit: Lit) -> bool
         ensures { result ≡ is_among self.now lit }
     {
-        let place = lit.code();
-        place < self.marks.len() && self.marks[place]
+        self.marks.get(lit.code(), false)
     }
 
     pub fn assume(&mut self, lit: Lit) -> Result<(), AllocError>
@@ -64,11 +71,9 @@ impl Assigned {
         ensures err { OnErr result (self.new ≡ self.old) }
     {
         let place = lit.code();
-        if self.marks.len() <= place {
-            self.marks.resize(place + 1, false)?;
-        }
+        self.marks.make_room(place, false)?;
         self.trail.push(lit)?;
-        self.marks[place] = true;
+        self.marks.put(place, true);
         Ok(())
     }
 
@@ -77,12 +82,8 @@ impl Assigned {
         requires { 0 < length self.old }
         ensures { self.new ≡ drop 1 self.old }
     {
-        if let Some(lit) = self.trail.pop() {
-            let place = lit.code();
-            if place < self.marks.len() {
-                self.marks[place] = false;
-            }
-        }
+        let count = self.len();
+        self.undo_to(count - 1);
     }
 
     /// Forgets the literals of a variable.
@@ -104,22 +105,18 @@ impl Assigned {
     }
 }
 
-fn unmark_all(marks: &mut Vec<bool>, literals: &[Lit])
-    ensures { (l : ℕ) →
-        is_marked marks.new.items l ≡ (if is_among literals.now l then false else is_marked marks.old.items l) }
+fn unmark_all(marks: &mut Table<bool>, literals: &[Lit])
+    ensures { (l : ℕ) → is_marked marks.new l ≡ (if is_among literals.now l then false else is_marked marks.old l) }
 {
     for lit in literals {
         unmark(marks, *lit);
     }
 }
 
-fn unmark(marks: &mut Vec<bool>, lit: Lit)
-    ensures { (l : ℕ) → is_marked marks.new.items l ≡ (if l == lit then false else is_marked marks.old.items l) }
+fn unmark(marks: &mut Table<bool>, lit: Lit)
+    ensures { (l : ℕ) → is_marked marks.new l ≡ (if l == lit then false else is_marked marks.old l) }
 {
-    let place = lit.code();
-    if place < marks.len() {
-        marks[place] = false;
-    }
+    marks.reset(lit.code(), false);
 }
 
 /// What a clause says under the assumed literals.

@@ -13,7 +13,7 @@ ghost use Rattle.sat_checker.specs.inner.OccurrenceView.{AreKept};
 
 use crate::assigned::Assigned;
 use crate::filed_hash::FiledHash;
-use crate::hash::ClauseHasher;
+use crate::hash::{ClauseHasher, mixed};
 use crate::links::Pair;
 use crate::looks::Looks;
 use crate::occurrences::Occurrences;
@@ -56,14 +56,14 @@ impl Clauses {
         Clauses {
             alloc,
             slots: Slots::new(alloc),
-            index: SortedPairs::new(alloc, all_bits()),
+            index: SortedPairs::new(alloc),
             occurrences: Occurrences::new(alloc),
             gone: 0,
             unused: 0,
         }
     }
 
-    /// The sorted list of the hashes and places of those that aren't gone.
+    /// The sorted list of the mixed hashes and places of those that aren't gone.
     pub fn index(&self) -> &SortedPairs
         ensures { Files result.now self.now }
     {
@@ -107,7 +107,7 @@ impl Clauses {
     pub fn first(&self, hash: ClauseHash) -> Option<usize>
         ensures { result ≡ first_of (places_of hash self.now) }
     {
-        self.index.first(hash)
+        self.index.first(mixed(hash))
     }
 
     /// The next place of a hash, behind one of them.
@@ -116,7 +116,7 @@ impl Clauses {
         requires { is_among (places_of hash self.now) place ≡ true }
         ensures { result ≡ first_of (behind place (places_of hash self.now)) }
     {
-        self.index.next(hash, place)
+        self.index.next(mixed(hash), place)
     }
 
     fn is_same(&self, place: usize, literals: &[Lit], looks: &mut Looks) -> bool
@@ -154,6 +154,11 @@ impl Clauses {
             return None;
         }
         Some(place)
+    }
+
+    /// How many places a table of marks of these clauses' literals may have in one list.
+    pub fn near_count(&self) -> usize {
+        self.occurrences.near_count()
     }
 
     /// Whether a clause that isn't gone has a literal of the variable. No clause is looked at.
@@ -252,15 +257,15 @@ impl Clauses {
     }
 
     /// Drops the clauses that are gone, where more than half of all are, or more than half of the buffer is theirs. Their places are
-    /// given again. Where memory is wanted they stay. Hashes have so many bits.
-    pub fn compact(&mut self, bits: HashBits) -> Result<(), AllocError>
+    /// given again. Where memory is wanted they stay.
+    pub fn compact(&mut self) -> Result<(), AllocError>
         ensures left { MayDrop self.old self.new }
         ensures few { OnOk result (2 * gone_count self.new ≤ length self.new) }
     {
         if self.gone <= self.slots.len() / 2 && self.unused <= self.slots.buffered() / 2 {
             return Ok(());
         }
-        drop_gone(self.alloc, &mut self.slots, &mut self.index, bits)?;
+        drop_gone(self.alloc, &mut self.slots, &mut self.index)?;
         self.gone = 0;
         self.unused = 0;
         Ok(())
@@ -291,14 +296,14 @@ fn add(
 {
     occurrences.make_room(literals)?;
     slots.push(id, 0, 0, FiledHash::new(hash), literals)?;
-    index.push(hash)?;
+    index.push(mixed(hash))?;
     let count = slots.len();
     slots.add_count(count - 1, redundant);
     occurrences.add(literals);
     Ok(())
 }
 
-/// Hashes the clauses that aren't gone, and lists the pairs of their hashes and places.
+/// Hashes the clauses that aren't gone, and lists the pairs of their mixed hashes and places.
 #[tactic(auto, using(crate::proofs::lemmas::store::Rehashing::filing))]
 fn hash_all(
     slots: &mut Slots,
@@ -317,7 +322,10 @@ fn hash_all(
             continue;
         }
         let hash = hasher.clause_hash(slots.literals(place, looks));
-        pairs.push(Pair { hash, place })?;
+        pairs.push(Pair {
+            hash: mixed(hash),
+            place,
+        })?;
         slots.set_hash(place, hash);
     }
     Ok(())
@@ -345,12 +353,7 @@ fn list_standing(
 }
 
 /// Drops the clauses that are gone, and files the others by their new places. Where memory is wanted all stay.
-fn drop_gone(
-    alloc: Global,
-    slots: &mut Slots,
-    index: &mut SortedPairs,
-    bits: HashBits,
-) -> Result<(), AllocError>
+fn drop_gone(alloc: Global, slots: &mut Slots, index: &mut SortedPairs) -> Result<(), AllocError>
     requires { Files index.old slots.old }
     ensures left { OnOk result (slots.new ≡ standing slots.old) }
     ensures filed { OnOk result (Files index.new (standing slots.old)) }
@@ -360,7 +363,7 @@ fn drop_gone(
     list_standing(slots, index, &mut pairs)?;
     let mut left = Slots::new(alloc);
     left.push_standing(slots)?;
-    *index = sorted(alloc, pairs, left.len(), bits)?;
+    *index = sorted(alloc, pairs, left.len())?;
     let _count = index.places();
     *slots = left;
     Ok(())
@@ -381,7 +384,7 @@ fn file_all(
 {
     let mut pairs = Vec::new(alloc);
     hash_all(slots, hasher, &mut pairs, looks)?;
-    *index = sorted(alloc, pairs, slots.len(), hasher.bits())?;
+    *index = sorted(alloc, pairs, slots.len())?;
     let _count = index.places();
     Ok(())
 }

@@ -389,6 +389,7 @@ impl Formula {
             return Ok(false);
         }
         let mut assigned = Assigned::new(alloc);
+        assigned.allow(literals.len().saturating_mul(4));
         if !assume_apart(&mut assigned, literals)? {
             return Ok(false);
         }

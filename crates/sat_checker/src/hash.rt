@@ -2,15 +2,16 @@
 ghost use Rattle.std.specs.Prelude.{ℕ, ◌≡◌, ◌/◌, ◌-◌, ◌^◌, ◌==◌, None, OnOk, if◌then◌else◌};
 ghost use Rattle.sat_checker.specs.Stored.{solver_literal, hash_by};
 ghost use Rattle.sat_checker.specs.HasherView.{solver_name_of, width_of};
+ghost use Rattle.sat_checker.specs.inner.PairView.{mixed};
 
-use sat_base::{ClauseHash, HashBits, Lit, Var, lit_hash};
+use sat_base::{ClauseHash, HashBits, Lit, Table, Var, lit_hash};
 use std::alloc::{AllocError, Global};
 
 /// Hashes over the solver's names of variables, of which so many bits are kept.
 #[derive(Drop)]
 pub struct ClauseHasher {
     bits: HashBits,
-    solver_names: Vec<Option<Var>>,
+    solver_names: Table<Option<Var>>,
 }
 
 impl ClauseHasher {
@@ -21,7 +22,7 @@ impl ClauseHasher {
     {
         ClauseHasher {
             bits,
-            solver_names: Vec::new(alloc),
+            solver_names: Table::new(alloc),
         }
     }
 
@@ -45,24 +46,14 @@ impl ClauseHasher {
         ensures width { width_of self.new ≡ width_of self.old }
         ensures names { OnOk result ((v : ℕ) → solver_name_of self.new v ≡ (if v == var then name else solver_name_of self.old v)) }
     {
-        let place = var.index();
-        if self.solver_names.len() <= place {
-            self.solver_names.resize(place + 1, None)?;
-        }
-        self.solver_names[place] = name;
-        Ok(())
+        self.solver_names.set(var.index(), name, None)
     }
 
     /// The solver's name of a variable.
     pub(crate) fn solver_name(&self, var: Var) -> Option<Var>
         ensures { result ≡ solver_name_of self.now var }
     {
-        let place = var.index();
-        if place < self.solver_names.len() {
-            self.solver_names[place]
-        } else {
-            None
-        }
+        self.solver_names.get(var.index(), None)
     }
 
     /// The literal by its variable's solver name, or itself where there is none.
@@ -88,6 +79,18 @@ impl ClauseHasher {
         }
         top_bits(hash, self.bits)
     }
+}
+
+/// Odd, so that no two hashes are mixed to one.
+const MIXER: u64 = 0xbf58_476d_1ce4_e5b9;
+
+/// A hash by which the index files another: its top bits hang on all bits of that one, of which those of neighbouring literals share many.
+#[inline(always)]
+#[tactic(auto, using(crate::proofs::lemmas::pairs::Mixing::is_mixed))]
+pub(crate) fn mixed(hash: ClauseHash) -> ClauseHash
+    ensures { result ≡ mixed hash }
+{
+    hash.wrapping_mul(MIXER)
 }
 
 /// The topmost bits of a hash.

@@ -105,6 +105,7 @@ impl Needed {
         ensures looks { looks.new ≡ looks.old + length (literals_at clauses.now place) }
     {
         self.ids.clear();
+        self.marked.allow(clauses.near_count());
         self.marked.undo_to(0);
         mark_all(&mut self.marked, clauses.literals(place, looks))?;
         self.ids.push(clauses.id(place))?;

@@ -1,15 +1,15 @@
 //! How often literals stand in the stored clauses.
-ghost use Rattle.std.specs.Prelude.{ℕ, ◌≡◌, ◌+◌, ◌*◌, ◌^◌, ◌<◌, ◌≤◌, All, length, OnOk, MatchBool};
-ghost use Rattle.sat_checker.specs.inner.Marks.{IsIncreasing};
+ghost use Rattle.std.specs.Prelude.{ℕ, ◌≡◌, ◌+◌, ◌*◌, ◌^◌, ◌<◌, ◌≤◌, ◌==◌, if◌then◌else◌, All, OnOk, MatchBool};
+ghost use Rattle.sat_base.specs.values.Tables.{near_count, HasRoom};
 ghost use Rattle.sat_checker.specs.inner.OccurrenceView.{count_at, times_in};
 
-use sat_base::{Lit, Var};
+use sat_base::{Lit, Table, Var};
 use std::alloc::{AllocError, Global};
 
-/// A count for each literal, by its code. Those past the end are zero.
+/// A count for each literal, by its code.
 #[derive(Drop)]
 pub struct Occurrences {
-    counts: Vec<usize>,
+    counts: Table<usize>,
 }
 
 impl Occurrences {
@@ -18,43 +18,68 @@ impl Occurrences {
         ensures { (l : ℕ) → count_at result l ≡ 0 }
     {
         Occurrences {
-            counts: Vec::new(alloc),
+            counts: Table::new(alloc),
         }
     }
 
+    /// How many places stand in one list. So many may do so in tables of the same literals.
+    pub fn near_count(&self) -> usize
+        ensures { result ≡ near_count self.now.counts }
+    {
+        self.counts.near_count()
+    }
+
     /// Makes room for the count of a literal.
+    #[inline(always)]
     fn make_room_for(&mut self, lit: Lit) -> Result<(), AllocError>
-        ensures room { OnOk result (lit < length self.new.counts.items) }
-        ensures longer { length self.old.counts.items ≤ length self.new.counts.items }
+        ensures room { OnOk result (HasRoom self.new.counts lit) }
+        ensures others { (l : ℕ) → HasRoom self.old.counts l → HasRoom self.new.counts l }
         ensures same { (l : ℕ) → count_at self.new l ≡ count_at self.old l }
     {
-        let place = lit.code();
-        if self.counts.len() <= place {
-            self.counts.resize(place + 1, 0)?;
+        self.counts.make_room(lit.code(), 0)
+    }
+
+    /// Makes room for the counts of literals.
+    pub fn make_room(&mut self, literals: &[Lit]) -> Result<(), AllocError>
+        ensures room { OnOk result (All (HasRoom self.new.counts) literals.now) }
+        ensures same { (l : ℕ) → count_at self.new l ≡ count_at self.old l }
+    {
+        for lit in literals {
+            self.make_room_for(*lit)?;
         }
         Ok(())
     }
 
-    /// Makes room for the counts of literals that rise: that of the last one has the highest place.
-    pub fn make_room(&mut self, literals: &[Lit]) -> Result<(), AllocError>
-        requires { IsIncreasing literals.now }
-        ensures room { OnOk result (All (λ l. l < length self.new.counts.items) literals.now) }
-        ensures same { (l : ℕ) → count_at self.new l ≡ count_at self.old l }
+    /// Counts a literal.
+    #[inline(always)]
+    fn add_one(&mut self, lit: Lit)
+        requires room { HasRoom self.old.counts lit }
+        requires few { count_at self.old lit + 1 < 2 ^ 64 }
+        ensures room { (l : ℕ) → HasRoom self.old.counts l → HasRoom self.new.counts l }
+        ensures counted { (l : ℕ) → count_at self.new l ≡ (if l == lit then 1 else 0) + count_at self.old l }
     {
-        if literals.is_empty() {
-            return Ok(());
-        }
-        self.make_room_for(literals[literals.len() - 1])
+        let had = self.count(lit);
+        self.counts.put(lit.code(), had + 1);
+    }
+
+    /// Takes a literal that was counted.
+    #[inline(always)]
+    fn take_one(&mut self, lit: Lit)
+        requires { 0 < count_at self.old lit }
+        ensures { (l : ℕ) → (if l == lit then 1 else 0) + count_at self.new l ≡ count_at self.old l }
+    {
+        let had = self.count(lit);
+        self.counts.put(lit.code(), had - 1);
     }
 
     /// Counts literals.
     pub fn add(&mut self, literals: &[Lit])
-        requires room { All (λ l. l < length self.old.counts.items) literals.now }
+        requires room { All (HasRoom self.old.counts) literals.now }
         requires few { (l : ℕ) → count_at self.old l + times_in l literals.now < 2 ^ 64 }
         ensures { (l : ℕ) → count_at self.new l ≡ count_at self.old l + times_in l literals.now }
     {
         for lit in literals {
-            self.counts[lit.code()] += 1;
+            self.add_one(*lit);
         }
     }
 
@@ -64,19 +89,15 @@ impl Occurrences {
         ensures { (l : ℕ) → count_at self.new l + times_in l literals.now ≡ count_at self.old l }
     {
         for lit in literals {
-            self.counts[lit.code()] -= 1;
+            self.take_one(*lit);
         }
     }
 
+    #[inline(always)]
     fn count(&self, lit: Lit) -> usize
         ensures { result ≡ count_at self.now lit }
     {
-        let place = lit.code();
-        if place < self.counts.len() {
-            self.counts[place]
-        } else {
-            0
-        }
+        self.counts.get(lit.code(), 0)
     }
 
     /// Whether a literal of the variable is counted.

@@ -94,6 +94,7 @@ impl Propagations {
         ensures rise { looks.old ≤ looks.new }
     {
         self.needed.follow_all(&store.clauses, passed, looks)?;
+        self.denied.allow(store.clauses.near_count());
         self.denied.undo_to(0);
         mark_all(&mut self.denied, clause)?;
         self.needed.list(&self.denied, units, &mut self.ids)

@@ -1,4 +1,4 @@
-//! One sorted list of pairs of a hash and a place.
+//! One sorted list of pairs of a hash and a place. Its hashes are mixed: a search starts by their top bits, and needs them spread.
 ghost use Rattle.std.specs.Prelude.{All, ℕ, true, ◌≡◌, ◌+◌, ◌++◌, ◌<◌, ◌≤◌, [], length, OnOk, OnErr, IfOk};
 ghost use Rattle.std.specs.List.{IsDistinct};
 ghost use Rattle.std.specs.List.Sorted.{IsPermutation};
@@ -7,29 +7,30 @@ ghost use Rattle.sat_checker.specs.inner.PairView.{AreInOrder, inserted, without
 ghost use Rattle.sat_checker.specs.inner.LinkView.{listed, AreKeptPairs, Lists, nowhere};
 
 use crate::links::{Link, NOWHERE, Pair, first_from, link_all, list_all, put, take, top};
-use sat_base::{ClauseHash, HashBits};
+use sat_base::ClauseHash;
 use std::alloc::{AllocError, Global};
 use std::marker::Model;
 
-/// By how many bits of a hash its head is found: there are as many heads as places, or more, where hashes have the bits for it.
-fn head_bits(places: usize, bits: u32) -> u32
-    requires { bits ≤ 64 }
-    ensures within { result ≤ bits }
-    ensures few { result ≤ 31 }
-    ensures left { bits < result + 64 }
+/// The fewest bits of a hash that don't tell its head: there are at most 2^31 heads.
+const LEAST_SHIFT: u32 = 33;
+
+/// How many bits of a hash don't tell its head: there are as many heads as places, or more.
+fn shift_for(places: usize) -> u32
+    ensures few { 33 ≤ result }
+    ensures below { result < 64 }
 {
-    let wanted = 64 - (places as u64).leading_zeros();
-    wanted.max(6).min(31).min(bits)
+    (places as u64).leading_zeros().min(58).max(LEAST_SHIFT)
 }
 
 /// Heads of nothing.
-fn no_heads(alloc: Global, bits: u32) -> Result<Vec<u32>, AllocError>
-    requires { bits ≤ 31 }
+fn no_heads(alloc: Global, shift: u32) -> Result<Vec<u32>, AllocError>
+    requires few { 33 ≤ shift }
+    requires below { shift < 64 }
     ensures none { IfOk result (λ heads. All (λ h. h ≡ nowhere) heads.items) }
     ensures some { IfOk result (λ heads. 0 < length heads.items) }
 {
     let mut heads = Vec::new(alloc);
-    heads.resize(1usize << bits, NOWHERE)?;
+    heads.resize(1usize << (64 - shift), NOWHERE)?;
     Ok(heads)
 }
 
@@ -39,43 +40,43 @@ fn grow(
     heads: &mut Vec<u32>,
     links: &mut [Link],
     shift: u32,
-    bits: u32,
 ) -> Result<u32, AllocError>
-    requires { AreKeptPairs heads.old.items links.old bits shift }
+    requires { AreKeptPairs heads.old.items links.old shift }
     ensures ok { IfOk result (λ s. Lists heads.new.items links.new s (listed heads.old.items links.old)) }
     ensures some { OnOk result (0 < length heads.new.items) }
+    ensures few { IfOk result (λ s. 33 ≤ s) }
     ensures below { IfOk result (λ s. s < 64) }
     ensures count { length links.new ≡ length links.old }
     ensures err { OnErr result ((heads.new.items ≡ heads.old.items) × (links.new ≡ links.old)) }
 {
     let mut pairs = Vec::new(alloc);
     list_all(heads, links, &mut pairs)?;
-    let used = head_bits(links.len(), bits);
-    *heads = no_heads(alloc, used)?;
-    link_all(heads, links, bits - used, &pairs);
-    Ok(bits - used)
+    let less = shift_for(links.len());
+    *heads = no_heads(alloc, less)?;
+    link_all(heads, links, less, &pairs);
+    Ok(less)
 }
 
-/// Makes heads where there are none, or fewer than places, and hashes have the bits for more.
+/// Makes heads where there are none, or no more than places.
 fn make_heads(
     alloc: Global,
     heads: &mut Vec<u32>,
     links: &mut [Link],
     shift: u32,
-    bits: u32,
 ) -> Result<u32, AllocError>
-    requires { AreKeptPairs heads.old.items links.old bits shift }
+    requires { AreKeptPairs heads.old.items links.old shift }
     ensures ok { IfOk result (λ s. Lists heads.new.items links.new s (listed heads.old.items links.old)) }
     ensures some { OnOk result (0 < length heads.new.items) }
+    ensures few { IfOk result (λ s. 33 ≤ s) }
     ensures below { IfOk result (λ s. s < 64) }
     ensures count { length links.new ≡ length links.old }
     ensures err { OnErr result ((heads.new.items ≡ heads.old.items) × (links.new ≡ links.old)) }
 {
     if heads.is_empty() {
-        return grow(alloc, heads, links, shift, bits);
+        return grow(alloc, heads, links, shift);
     }
-    if shift > 0 && links.len() >= heads.len() {
-        return grow(alloc, heads, links, shift, bits);
+    if shift > LEAST_SHIFT && links.len() >= heads.len() {
+        return grow(alloc, heads, links, shift);
     }
     Ok(shift)
 }
@@ -86,7 +87,6 @@ pub struct SortedPairs {
     alloc: Global,
     heads: Vec<u32>,
     links: Vec<Link>,
-    bits: u32,
     shift: u32,
 }
 
@@ -99,20 +99,19 @@ impl Model for SortedPairs {
 
     ghost view = { λ s. record { pairs = listed s.heads.items s.links.items; places = length s.links.items } };
 
-    ghost invariant = { λ s. AreKeptPairs s.heads.items s.links.items s.bits s.shift };
+    ghost invariant = { λ s. AreKeptPairs s.heads.items s.links.items s.shift };
 }
 
 impl SortedPairs {
-    /// No pair, for hashes of so many bits.
-    pub fn new(alloc: Global, bits: HashBits) -> SortedPairs
+    /// No pair.
+    pub fn new(alloc: Global) -> SortedPairs
         ensures { result ≡ record { pairs = []; places = 0 } }
     {
         SortedPairs {
             alloc,
             heads: Vec::new(alloc),
             links: Vec::new(alloc),
-            bits: bits.get(),
-            shift: 0,
+            shift: LEAST_SHIFT,
         }
     }
 
@@ -171,13 +170,7 @@ impl SortedPairs {
         if self.links.len() >= NOWHERE as usize {
             return Err(AllocError);
         }
-        self.shift = make_heads(
-            self.alloc,
-            &mut self.heads,
-            &mut self.links,
-            self.shift,
-            self.bits,
-        )?;
+        self.shift = make_heads(self.alloc, &mut self.heads, &mut self.links, self.shift)?;
         put(&mut self.heads, &mut self.links, self.shift, hash)?;
         Ok(())
     }
@@ -194,12 +187,11 @@ impl SortedPairs {
     }
 }
 
-/// Pairs that are sorted once, for hashes of so many bits. As many places are given.
+/// Pairs that are sorted once. As many places are given.
 pub(crate) fn sorted(
     alloc: Global,
     mut pairs: Vec<Pair>,
     places: usize,
-    bits: HashBits,
 ) -> Result<SortedPairs, AllocError>
     requires apart { IsDistinct same_place pairs.items }
     requires within { All (λ p. p.place < places) pairs.items }
@@ -210,9 +202,8 @@ pub(crate) fn sorted(
     if places > NOWHERE as usize {
         return Err(AllocError);
     }
-    let used = head_bits(places, bits.get());
-    let shift = bits.get() - used;
-    let mut heads = no_heads(alloc, used)?;
+    let shift = shift_for(places);
+    let mut heads = no_heads(alloc, shift)?;
     let mut links = Vec::new(alloc);
     links.resize(places, Link { hash: 0, next: 0 })?;
     pairs.sort_unstable();
@@ -221,7 +212,6 @@ pub(crate) fn sorted(
         alloc,
         heads,
         links,
-        bits: bits.get(),
         shift,
     })
 }

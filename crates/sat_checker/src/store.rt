@@ -148,7 +148,7 @@ impl Store {
         ensures ids { KeepsIds self.old.clauses self.new.clauses }
         ensures few { OnOk result (2 * gone_count self.new.clauses ≤ length self.new.clauses) }
     {
-        self.clauses.compact(self.hasher.bits())
+        self.clauses.compact()
     }
 
     /// So many bits of each hash are kept from here on.

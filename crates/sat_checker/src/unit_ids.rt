@@ -1,14 +1,15 @@
 //! Ids of units, by the code of their literal.
-ghost use Rattle.std.specs.Prelude.{ℕ, ◌≡◌, ◌==◌, ◌+◌, ◌^◌, ◌<◌, length, OnOk, Some, None, if◌then◌else◌};
+ghost use Rattle.std.specs.Prelude.{ℕ, ◌≡◌, ◌==◌, ◌+◌, ◌^◌, ◌<◌, OnOk, Some, None, if◌then◌else◌};
+ghost use Rattle.sat_base.specs.values.Tables.{HasRoom};
 ghost use Rattle.sat_checker.specs.inner.UnitView.{id_at};
 
-use sat_base::Lit;
+use sat_base::{Lit, Table};
 use std::alloc::{AllocError, Global};
 
 /// The id of each unit, by the code of its literal. Where there is none stands 2^64-1, which is no id.
 #[derive(Drop)]
 pub(crate) struct UnitIds {
-    ids: Vec<u64>,
+    ids: Table<u64>,
 }
 
 impl UnitIds {
@@ -16,18 +17,14 @@ impl UnitIds {
         ensures { (l : ℕ) → id_at result l ≡ None }
     {
         UnitIds {
-            ids: Vec::new(alloc),
+            ids: Table::new(alloc),
         }
     }
 
     pub fn get(&self, lit: Lit) -> Option<u64>
         ensures { result ≡ id_at self.now lit }
     {
-        let place = lit.code();
-        if self.ids.len() <= place {
-            return None;
-        }
-        let id = self.ids[place];
+        let id = self.ids.get(lit.code(), u64::MAX);
         if id == u64::MAX {
             return None;
         }
@@ -36,30 +33,23 @@ impl UnitIds {
 
     /// Makes room for the id of a literal.
     pub fn make_room(&mut self, lit: Lit) -> Result<(), AllocError>
-        ensures room { OnOk result (lit < length self.new.ids.items) }
+        ensures room { OnOk result (HasRoom self.new.ids lit) }
         ensures same { (l : ℕ) → id_at self.new l ≡ id_at self.old l }
     {
-        let place = lit.code();
-        if self.ids.len() <= place {
-            self.ids.resize(place + 1, u64::MAX)?;
-        }
-        Ok(())
+        self.ids.make_room(lit.code(), u64::MAX)
     }
 
     pub fn put(&mut self, lit: Lit, id: u64)
-        requires room { lit < length self.old.ids.items }
+        requires room { HasRoom self.old.ids lit }
         requires id { id + 1 < 2 ^ 64 }
         ensures { (l : ℕ) → id_at self.new l ≡ (if l == lit then Some id else id_at self.old l) }
     {
-        self.ids[lit.code()] = id;
+        self.ids.put(lit.code(), id);
     }
 
     pub fn forget(&mut self, lit: Lit)
         ensures { (l : ℕ) → id_at self.new l ≡ (if l == lit then None else id_at self.old l) }
     {
-        let place = lit.code();
-        if place < self.ids.len() {
-            self.ids[place] = u64::MAX;
-        }
+        self.ids.reset(lit.code(), u64::MAX);
     }
 }

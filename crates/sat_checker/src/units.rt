@@ -175,6 +175,7 @@ impl Units {
         ensures read { IfOk result (λ _. noted_length store.now.clauses passed.new + looks.old ≤ looks.new) }
     {
         let units = self.assigned.len();
+        self.assigned.allow(store.clauses.near_count());
         let answer = check_clause_with_hashes(
             &store.clauses,
             clause,

@@ -3,10 +3,10 @@ ghost use Rattle.std.specs.Prelude.{ℕ, true, false, ◌≡◌, ◌==◌, None,
 ghost use Rattle.sat_base.specs.values.Literals.{variable};
 ghost use Rattle.sat_checker.specs.LiteralSets.{is_among};
 ghost use Rattle.sat_checker.specs.Stored.{Hide, Sample, Variable, Witness, unknown};
-ghost use Rattle.sat_checker.specs.inner.VariablesView.{mode_in, variable_of, variable_at, holder_at, known_if, AreSampling, KeepsVariables, VariablesAnswer};
+ghost use Rattle.sat_checker.specs.inner.VariablesView.{mode_in, variable_of, variable_at, holder_at, known_if, unknown_data, AreSampling, KeepsVariables, VariablesAnswer};
 ghost use Rattle.sat_base.specs.steps.Steps.{UserVarName, ChangeSamplingMode};
 
-use sat_base::{ClauseHash, Lit, Var};
+use sat_base::{ClauseHash, Lit, Table, Var};
 use std::alloc::{AllocError, Global};
 
 /// What a variable is to the user's formula.
@@ -56,7 +56,8 @@ pub struct VarData {
 impl VarData {
     /// A variable at first.
     pub fn unknown() -> VarData
-        ensures { variable_of result ≡ unknown }
+        ensures variable { variable_of result ≡ unknown }
+        ensures data { result ≡ unknown_data }
     {
         VarData {
             known: false,
@@ -69,8 +70,8 @@ impl VarData {
 /// Variables by index, and which of them have the names of the user.
 #[derive(Drop)]
 pub struct Variables {
-    data: Vec<VarData>,
-    holders: Vec<Option<Var>>,
+    data: Table<VarData>,
+    holders: Table<Option<Var>>,
 }
 
 impl Variables {
@@ -79,32 +80,22 @@ impl Variables {
         ensures holders { (name : ℕ) → holder_at result name ≡ None }
     {
         Variables {
-            data: Vec::new(alloc),
-            holders: Vec::new(alloc),
+            data: Table::new(alloc),
+            holders: Table::new(alloc),
         }
     }
 
     pub fn data(&self, var: Var) -> VarData
         ensures { variable_of result ≡ variable_at self.now var }
     {
-        let place = var.index();
-        if place < self.data.len() {
-            self.data[place]
-        } else {
-            VarData::unknown()
-        }
+        self.data.get(var.index(), VarData::unknown())
     }
 
     /// The variable that has the name.
     pub fn holder(&self, name: Var) -> Option<Var>
         ensures { result ≡ holder_at self.now name }
     {
-        let place = name.index();
-        if place < self.holders.len() {
-            self.holders[place]
-        } else {
-            None
-        }
+        self.holders.get(name.index(), None)
     }
 
     fn set(&mut self, var: Var, state: VarData) -> Result<(), AllocError>
@@ -112,12 +103,7 @@ impl Variables {
             variable_at self.new v ≡ (if v == var then variable_of state else variable_at self.old v)) }
         ensures holders { (name : ℕ) → holder_at self.new name ≡ holder_at self.old name }
     {
-        let place = var.index();
-        if self.data.len() <= place {
-            self.data.resize(place + 1, VarData::unknown())?;
-        }
-        self.data[place] = state;
-        Ok(())
+        self.data.set(var.index(), state, VarData::unknown())
     }
 
     /// An unknown variable becomes a sampling one.
@@ -283,11 +269,6 @@ impl Variables {
         ensures holders { OnOk result ((q : ℕ) → holder_at self.new q ≡ (if q == name then holder else holder_at self.old q)) }
         ensures variables { (v : ℕ) → variable_at self.new v ≡ variable_at self.old v }
     {
-        let place = name.index();
-        if self.holders.len() <= place {
-            self.holders.resize(place + 1, None)?;
-        }
-        self.holders[place] = holder;
-        Ok(())
+        self.holders.set(name.index(), holder, None)
     }
 }

@@ -76,6 +76,7 @@ impl Judge {
         if !find_all(&self.standing, ids, &mut self.places)? {
             return Ok(Some(HintWhy::UnknownId));
         }
+        self.assumed.allow(self.standing.present.near_limit());
         conflict(
             &self.standing.present,
             &self.places,

@@ -68,6 +68,11 @@ impl Present {
         self.ids.len()
     }
 
+    /// How many places a table of marks of these clauses' literals may have in one list.
+    pub(crate) fn near_limit(&self) -> usize {
+        self.total.saturating_mul(4)
+    }
+
     /// Whether the clause at a place is gone.
     pub(crate) fn is_gone(&self, place: usize) -> bool
         requires { place < length self.now.gone.items }

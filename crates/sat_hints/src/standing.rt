@@ -1,13 +1,12 @@
 //! The clauses that are present, where variables become new.
-ghost use Rattle.std.specs.Prelude.{◌≡◌, ◌≢◌, ◌<◌, ◌⊎◌, ℕ, [], None, length, slice_index_or, IfOk, OnOk, MatchBool, MatchOption};
-ghost use Rattle.sat_base.specs.values.Literals.{largest};
+ghost use Rattle.std.specs.Prelude.{◌≡◌, ◌≢◌, ◌⊎◌, ℕ, [], None, IfOk, OnOk, MatchBool, MatchOption};
 ghost use Rattle.sat_checker.specs.SortedSets.{IsIncreasing};
 ghost use Rattle.sat_hints.specs.inner.Clauses.{AllBelow};
 ghost use Rattle.sat_hints.specs.inner.Standing.{clause_of, is_stale, Drops, FindsOne, Forgets, Gains, IsStanding, IsUsed, Keeps, SinceWithin};
 
 use crate::present::Present;
 use crate::uses::Uses;
-use sat_base::{Lit, Var};
+use sat_base::{Lit, Table, Var};
 use std::alloc::{AllocError, Global};
 
 /// Clauses by their ids. A unit is gone once its variable became new.
@@ -15,20 +14,8 @@ use std::alloc::{AllocError, Global};
 pub(crate) struct Standing {
     pub(crate) present: Present,
     uses: Uses,
-    /// By variable: its units under ids below this came before it became new. A variable past the end never did.
-    since: Vec<u64>,
-}
-
-/// Makes room for a variable.
-fn make_room(since: &mut Vec<u64>, place: usize) -> Result<(), AllocError>
-    requires { place < largest }
-    ensures room { OnOk result (place < length since.new.items) }
-    ensures same { (v : ℕ) → slice_index_or since.new.items v 0 ≡ slice_index_or since.old.items v 0 }
-{
-    if since.len() <= place {
-        since.resize(place + 1, 0)?;
-    }
-    Ok(())
+    /// By variable: its units under ids below this came before it became new.
+    since: Table<u64>,
 }
 
 impl Standing {
@@ -41,19 +28,18 @@ impl Standing {
         Standing {
             present: Present::new(alloc),
             uses: Uses::new(alloc),
-            since: Vec::new(alloc),
+            since: Table::new(alloc),
         }
     }
 
     /// Whether a clause under this id is a unit that came before its variable became new.
     fn is_stale(&self, id: u64, clause: &[Lit]) -> bool
-        ensures { result ≡ is_stale self.now.since.items id clause.now }
+        ensures { result ≡ is_stale self.now.since id clause.now }
     {
         if clause.len() != 1 {
             return false;
         }
-        let place = clause[0].index();
-        place < self.since.len() && id < self.since[place]
+        id < self.since.get(clause[0].index(), 0)
     }
 
     /// The place of the clause under this id, if it is present.
@@ -113,9 +99,6 @@ impl Standing {
         requires since { SinceWithin self.old bound }
         ensures { OnOk result (Forgets self.old self.new var bound) }
     {
-        let place = var.index();
-        make_room(&mut self.since, place)?;
-        self.since[place] = bound;
-        Ok(())
+        self.since.set(var.index(), bound, 0)
     }
 }

@@ -5,5 +5,6 @@ pub mod Learning
 pub mod Units
 pub mod Going
 pub mod Advancing
+pub mod Quiet
 pub mod Listed
 pub mod Loads

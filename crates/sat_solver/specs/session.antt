@@ -13,6 +13,7 @@ pub mod Checked
 pub mod MadeView
 pub mod ProofView
 pub mod ProofTexts
+pub mod Fronts
 pub mod ProofRows
 pub mod Due
 pub mod Making

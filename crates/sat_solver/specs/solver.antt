@@ -14,3 +14,4 @@ pub mod Proving
 pub mod Configuring
 pub mod Naming
 pub mod Formulas
+pub mod Fronts

@@ -17,6 +17,7 @@ pub mod counting;
 pub mod extending;
 pub mod finding;
 pub mod formulas;
+pub mod laws;
 pub mod naming;
 pub mod proving;
 pub mod solving;

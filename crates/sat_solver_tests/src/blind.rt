@@ -1,14 +1,18 @@
 //! A checker to which hashes tell nothing: each one, and each width, is 0 where a step is fed to it.
 
-use sat_base::{ClauseHash, Counted, CountedRead, HashBits, Lit, ProofStep, StepError, StepReader};
+use sat_base::{
+    ClauseHash, Counted, CountedRead, DeleteClauseProof, HashBits, Lit, ProofStep, StepError,
+    StepReader,
+};
 use sat_checker::{Checker, SelfChecker};
 use std::alloc::{AllocError, Global};
 
-/// Room for the hashes of a step.
+/// Room for the hashes of a step, and how many clauses were deleted as of no use.
 #[derive(Drop)]
 struct Blanks {
     hashes: Vec<ClauseHash>,
     units: Vec<(Lit, ClauseHash)>,
+    reductions: u64,
 }
 
 impl Blanks {
@@ -16,6 +20,7 @@ impl Blanks {
         Blanks {
             hashes: Vec::new(alloc),
             units: Vec::new(alloc),
+            reductions: 0,
         }
     }
 
@@ -84,10 +89,20 @@ fn takes_hashed<C: SelfChecker>(
     }
 }
 
+fn is_reduction(step: &ProofStep<'_>) -> bool {
+    match step {
+        ProofStep::DeleteClause { proof, .. } => *proof == DeleteClauseProof::Redundant,
+        _ => false,
+    }
+}
+
 /// A step without what its hashes or its width tell. Gives whether it is accepted.
 fn takes<C: SelfChecker>(checker: &mut C, blanks: &mut Blanks, step: &ProofStep<'_>) -> bool {
     if let Some(taken) = takes_hashed(checker, blanks, step) {
         return taken;
+    }
+    if is_reduction(step) {
+        blanks.reductions = blanks.reductions.saturating_add(1);
     }
     if let ProofStep::ChangeHashBits { .. } = step {
         return match HashBits::new(0) {
@@ -129,9 +144,10 @@ fn are_read<C: SelfChecker, R: CountedRead>(
     are_taken(checker, blanks, &mut StepReader::new(alloc, reader))
 }
 
-/// Whether the steps of a proof are accepted where no hash tells a clause from another.
-pub(crate) fn is_accepted_blind(alloc: Global, text: &[u8]) -> bool {
+/// How many clauses a proof deletes as of no use; `None` where its steps aren't accepted if no hash tells a clause from another.
+pub(crate) fn reductions(alloc: Global, text: &[u8]) -> Option<u64> {
     let mut checker = Checker::new(alloc);
     let mut blanks = Blanks::new(alloc);
-    are_read(alloc, &mut checker, &mut blanks, &mut Counted::new(text))
+    let taken = are_read(alloc, &mut checker, &mut blanks, &mut Counted::new(text));
+    if taken { Some(blanks.reductions) } else { None }
 }

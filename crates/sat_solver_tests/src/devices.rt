@@ -1,7 +1,10 @@
 //! Writers that take little, or fail.
 
+use crate::driver::Made;
 use sat_base::Counted;
+use sat_checker::{CheckedProofStep, CheckerData, ProofProcessor};
 use std::alloc::Global;
+use std::cell::Cell;
 use std::io;
 use std::io::{ErrorKind, Write};
 
@@ -39,4 +42,49 @@ pub(crate) fn by_few(alloc: Global, most: usize, failing: u64) -> Counted<ByFew>
         most,
         failing,
     })
+}
+
+impl Made for Counted<ByFew> {
+    fn made(alloc: Global) -> Counted<ByFew> {
+        by_few(alloc, 1, 0)
+    }
+}
+
+/// A target and a processor that count their calls.
+#[derive(Drop)]
+pub(crate) struct Tally<'a> {
+    pub(crate) calls: &'a Cell<u64>,
+}
+
+impl Tally<'_> {
+    fn count(&self) {
+        self.calls.set(self.calls.get().saturating_add(1));
+    }
+}
+
+impl Write for Tally<'_> {
+    fn write(&mut self, piece: &[u8]) -> io::Result<usize> {
+        self.count();
+        Ok(piece.len())
+    }
+
+    fn flush(&mut self) -> io::Result<()> {
+        self.count();
+        Ok(())
+    }
+}
+
+impl ProofProcessor for Tally<'_> {
+    ghost use Rattle.std.specs.Prelude.{⊤};
+
+    ghost takes = { λ _ _ _ _. ⊤ };
+
+    fn process_step(
+        &mut self,
+        _step: &CheckedProofStep<'_>,
+        _names: CheckerData<'_>,
+    ) -> anyhow::Result<()> {
+        self.count();
+        Ok(())
+    }
 }

@@ -2,12 +2,29 @@
 ghost use Rattle.sat_solver.specs.solver.Whole.{IsSolver};
 
 use sat_base::{Counted, CountedWrite};
-use sat_checker::{Checker, ProofProcessor};
+use sat_checker::{Checker, Nobody, ProofProcessor};
 use sat_solver::{HandedBack, ProofFormat, Solver, SolverError};
 use std::alloc::Global;
 
 /// A target that keeps what it takes.
 pub(crate) type Bytes = Counted<Vec<u8>>;
+
+/// What calls make where they need one.
+pub(crate) trait Made: Drop {
+    fn made(alloc: Global) -> Self;
+}
+
+impl Made for Bytes {
+    fn made(alloc: Global) -> Bytes {
+        Counted::new(Vec::new(alloc))
+    }
+}
+
+impl Made for Nobody {
+    fn made(_alloc: Global) -> Nobody {
+        Nobody {}
+    }
+}
 
 /// What is played on.
 pub(crate) trait Ready: Drop {
@@ -71,25 +88,30 @@ pub(crate) fn told<R, A: Play<Solver<Bytes>, R>>(alloc: Global, act: A) -> R {
 /// A play that is written as a proof, which is closed behind it.
 #[derive(Drop)]
 pub(crate) struct Proved<W, A> {
-    target: W,
-    format: ProofFormat,
-    act: A,
+    pub(crate) target: W,
+    pub(crate) format: ProofFormat,
+    pub(crate) act: A,
 }
 
-/// What a play tells, and the target.
-type Told<W, R> = Result<(R, Option<W>), SolverError>;
+/// How closing a proof went.
+pub(crate) type Closed<W> = Result<Option<W>, SolverError>;
 
-impl<W: CountedWrite + Drop, R: Drop, A: Play<Solver<W>, R>> Play<Solver<W>, Told<W, R>>
-    for Proved<W, A> {
-    fn play(self, alloc: Global, solver: &mut Solver<W>) -> Told<W, R> {
+impl<W: CountedWrite + Drop, P: ProofProcessor, R: Drop, A: Play<Solver<W, P>, R>> Play<
+    Solver<W, P>,
+    (R, Closed<W>),
+> for Proved<W, A> {
+    fn play(self, alloc: Global, solver: &mut Solver<W, P>) -> (R, Closed<W>) {
         let Proved {
             target,
             format,
             act,
         } = self;
-        solver.write_proof(target, format)?;
+        let opened = solver.write_proof(target, format);
         let told = act.play(alloc, solver);
-        Ok((told, solver.close_proof()?))
+        match opened {
+            Ok(()) => (told, solver.close_proof()),
+            Err(error) => (told, Err(error)),
+        }
     }
 }
 
@@ -99,33 +121,18 @@ pub(crate) fn written<R: Drop, A: Play<Solver<Bytes>, R>>(
     format: ProofFormat,
     act: A,
 ) -> Option<(R, Vec<u8>)> {
-    let target = Counted::new(Vec::new(alloc));
+    let target = Bytes::made(alloc);
     let proved = Proved {
         target,
         format,
         act,
     };
-    match told::<Told<Bytes, R>, Proved<Bytes, A>>(alloc, proved) {
-        Ok((told, left)) => match left {
+    match told::<(R, Closed<Bytes>), Proved<Bytes, A>>(alloc, proved) {
+        (told, Ok(left)) => match left {
             Some(target) => Some((told, target.into_inner())),
             None => None,
         },
-        Err(_) => None,
-    }
-}
-
-/// A play with a checker of the solver's own, which takes each step.
-#[derive(Drop)]
-pub(crate) struct SelfChecked<A>(pub(crate) A);
-
-impl<W: CountedWrite + Drop, R, A: Play<Solver<W>, Result<R, SolverError>>> Play<
-    Solver<W>,
-    Result<R, SolverError>,
-> for SelfChecked<A> {
-    fn play(self, alloc: Global, solver: &mut Solver<W>) -> Result<R, SolverError> {
-        let SelfChecked(act) = self;
-        solver.enable_self_checking()?;
-        act.play(alloc, solver)
+        (_, Err(_)) => None,
     }
 }
 

@@ -5,7 +5,11 @@
 mod analysing;
 #[cfg(test)]
 mod blind;
+#[cfg(test)]
+mod breaking;
 pub mod caller;
+#[cfg(test)]
+mod calls;
 #[cfg(test)]
 mod certificates;
 #[cfg(test)]
@@ -21,9 +25,11 @@ mod naming;
 #[cfg(test)]
 mod proof;
 #[cfg(test)]
-mod searcher;
+mod refusing;
 #[cfg(test)]
-mod solver;
+mod scripts;
+#[cfg(test)]
+mod searcher;
 #[cfg(test)]
 mod states;
 #[cfg(test)]

@@ -1,12 +1,11 @@
 //! Who listens to a solver's own checker.
-ghost use Rattle.sat_solver.specs.solver.Whole.{IsSolver};
 
-use crate::driver::{Bytes, Play, played};
-use crate::solver::read;
+use crate::calls::{Behind, Call, Kind, Part, done, first_of, plain};
+use crate::driver::{Bytes, Closed, Made, Play, Proved, played};
 use anyhow::anyhow;
-use sat_base::{Counted, CountedWrite, Lit};
+use sat_base::{Counted, CountedWrite};
 use sat_checker::{CheckedProofStep, Checker, CheckerData, Nobody, ProofProcessor};
-use sat_solver::{HandedBack, ProofFormat, Solver, SolverError};
+use sat_solver::{HandedBack, ProofFormat, Solver};
 use std::alloc::Global;
 
 /// Mixes all that it's told into one number, and answers a fault at one of its calls, counted from 1.
@@ -67,149 +66,42 @@ impl ProofProcessor for Listener {
     }
 }
 
-/// Adds a clause.
-fn add<W: CountedWrite + Drop, P: ProofProcessor>(
-    solver: &mut Solver<W, P>,
-    lits: &mut Vec<Lit>,
-    numbers: &[i64],
-) -> Result<(), SolverError>
-    requires { IsSolver solver.old }
-    ensures { IsSolver solver.new }
-{
-    read(lits, numbers)?;
-    solver.add_clause(lits)
-}
-
-/// Asks under one literal.
-fn ask<W: CountedWrite + Drop, P: ProofProcessor>(
-    solver: &mut Solver<W, P>,
-    lits: &mut Vec<Lit>,
-    number: i64,
-) -> Result<(), SolverError>
-    requires { IsSolver solver.old }
-    ensures { IsSolver solver.new }
-{
-    read(lits, &[number])?;
-    solver.assume(lits)?;
-    match solver.solve() {
-        Ok(_) => Ok(()),
-        Err(error) => Err(error),
+impl Made for Listener {
+    fn made(_alloc: Global) -> Listener {
+        Listener::new(0)
     }
 }
 
-/// Adds clauses between asks: a model, a core, and clauses that can't be satisfied.
-fn make_calls<W: CountedWrite + Drop, P: ProofProcessor>(
-    solver: &mut Solver<W, P>,
-    lits: &mut Vec<Lit>,
-) -> Result<(), SolverError>
-    requires { IsSolver solver.old }
-    ensures { IsSolver solver.new }
-{
-    add(solver, lits, &[1, 2])?;
-    add(solver, lits, &[1, -2])?;
-    ask(solver, lits, 3)?;
-    ask(solver, lits, -1)?;
-    add(solver, lits, &[-1, 2])?;
-    add(solver, lits, &[-1, -2])?;
-    ask(solver, lits, 3)
-}
+/// Clauses between asks: a model, a core, and clauses that can't be satisfied.
+const SESSION: &[Part<'static>] = &[(
+    Kind::Right,
+    &[
+        Call::Clause(&[1, 2]),
+        Call::Clause(&[1, -2]),
+        Call::Assume(&[3]),
+        Call::Solve(true),
+        Call::Assume(&[-1]),
+        Call::Solve(false),
+        Call::Clause(&[-1, 2]),
+        Call::Clause(&[-1, -2]),
+        Call::Assume(&[3]),
+        Call::Solve(false),
+    ],
+)];
 
-/// How calls end.
-#[derive(Clone, Copy, Debug, Drop, PartialEq, Eq)]
-enum Ended {
-    Done,
-    /// By a processor's fault, behind which the solver has failed.
-    Fault,
-    Otherwise,
-}
-
-/// Whether it's a processor's fault.
-fn is_fault(error: &SolverError) -> bool {
-    match error {
-        SolverError::ProofProcessorError { .. } => true,
-        _ => false,
-    }
-}
-
-/// Whether the solver has failed.
-fn has_failed<W: CountedWrite + Drop, P: ProofProcessor>(solver: &mut Solver<W, P>) -> bool
-    requires { IsSolver solver.old }
-    ensures { IsSolver solver.new }
-{
-    match solver.add_clause(&[]) {
-        Err(SolverError::HasFailed) => true,
-        Err(_) => false,
-        Ok(()) => false,
-    }
-}
-
-/// Makes the calls. Gives how they end.
-fn end<W: CountedWrite + Drop, P: ProofProcessor>(
-    solver: &mut Solver<W, P>,
-    lits: &mut Vec<Lit>,
-) -> Ended
-    requires { IsSolver solver.old }
-    ensures { IsSolver solver.new }
-{
-    match make_calls(solver, lits) {
-        Ok(()) => Ended::Done,
-        Err(error) => {
-            if is_fault(&error) && has_failed(solver) {
-                Ended::Fault
-            } else {
-                Ended::Otherwise
-            }
-        }
-    }
-}
-
-/// Two listen to all calls, of whom the first fails at one of its own; the proof is written.
+/// Two listen to all calls, of whom the first fails at one of its own.
 #[derive(Drop)]
-struct Hearing<W> {
-    target: W,
-    at: u64,
-}
+struct Hearing(u64);
 
-/// Adds both. Gives whether there was memory.
-fn add_two<W: CountedWrite + Drop>(solver: &mut Solver<W, Listener>, at: u64) -> bool
-    requires { IsSolver solver.old }
-    ensures { IsSolver solver.new }
-{
-    let first = solver.add_proof_processor(Listener::new(at)).is_ok();
-    let second = solver.add_proof_processor(Listener::new(0)).is_ok();
-    first && second
-}
-
-impl<W: CountedWrite + Drop> Play<Solver<W, Listener>, (Ended, Option<W>)> for Hearing<W> {
-    fn play(self, alloc: Global, solver: &mut Solver<W, Listener>) -> (Ended, Option<W>) {
-        let mut lits = Vec::new(alloc);
-        let added = add_two(solver, self.at);
-        let opened = solver.write_proof(self.target, ProofFormat::Varisat);
-        if !added || opened.is_err() {
-            return (Ended::Otherwise, None);
-        }
-        match end(solver, &mut lits) {
-            Ended::Done => match solver.close_proof() {
-                Ok(target) => (Ended::Done, target),
-                Err(_) => (Ended::Otherwise, None),
-            },
-            Ended::Fault => (Ended::Fault, None),
-            Ended::Otherwise => (Ended::Otherwise, None),
-        }
+impl<W: CountedWrite + Drop + Made> Play<Solver<W, Listener>, Kind> for Hearing {
+    fn play(self, alloc: Global, solver: &mut Solver<W, Listener>) -> Kind {
+        let first = done(solver.add_proof_processor(Listener::new(self.0)));
+        let second = done(solver.add_proof_processor(Listener::new(0)));
+        first_of(&[first, second, plain(SESSION).play(alloc, solver)])
     }
 }
 
-/// What calls and listeners come to, and the proof.
-fn heard<W: CountedWrite + Drop>(
-    alloc: Global,
-    target: W,
-    at: u64,
-) -> ((Ended, Option<W>), HandedBack<W, Listener>) {
-    played::<HandedBack<W, Listener>, Solver<W, Listener>, (Ended, Option<W>), Hearing<W>>(
-        alloc,
-        Hearing { target, at },
-    )
-}
+type Heard = ((Kind, Closed<Bytes>), bool);
 
 /// The calls of each processor, and what was told to the first; `None` where they aren't two.
 fn calls_of(processors: &[Listener]) -> Option<(u64, u64, u64)> {
@@ -232,53 +124,81 @@ fn of_text(alloc: Global, text: &[u8]) -> Option<(u64, u64)> {
     Some((handed.processors[0].calls, handed.processors[0].told))
 }
 
-/// How the calls end, what both listeners are told, and the text.
-fn of_solver(alloc: Global, at: u64) -> (Ended, Option<(u64, u64, u64)>, Option<Vec<u8>>) {
-    let target: Bytes = Counted::new(Vec::new(alloc));
-    let ((ended, target), handed) = heard(alloc, target, at);
-    let calls = calls_of(&handed.processors);
-    match target {
-        Some(target) => (ended, calls, Some(target.into_inner())),
-        None => (ended, calls, None),
+/// How the calls end, closing included, and the text of their proof.
+fn end_of(((told, closed), failed): Heard) -> (Kind, bool, Option<Vec<u8>>) {
+    match closed {
+        Ok(Some(target)) => (told, failed, Some(target.into_inner())),
+        Ok(None) => (told, failed, None),
+        Err(_) => (told, failed, None),
     }
+}
+
+type Came = (Kind, bool, Option<Vec<u8>>);
+
+/// How the calls end, and what both listeners are told.
+fn of_solver(alloc: Global, at: u64) -> (Came, Option<(u64, u64, u64)>) {
+    let act = Behind(Proved {
+        target: Bytes::made(alloc),
+        format: ProofFormat::Varisat,
+        act: Hearing(at),
+    });
+    let (heard, handed) = played::<
+        HandedBack<Bytes, Listener>,
+        Solver<Bytes, Listener>,
+        Heard,
+        Behind<Proved<Bytes, Hearing>>,
+    >(alloc, act);
+    (end_of(heard), calls_of(&handed.processors))
 }
 
 /// How many announcements there are, where both hear them all, and hear what the checker of the text tells.
 fn announcements(alloc: Global) -> Option<u64> {
-    match of_solver(alloc, 0) {
-        (Ended::Done, Some((first, second, told)), Some(text)) => {
-            let same = first == second && of_text(alloc, &text) == Some((first, told));
-            if same { Some(first) } else { None }
-        }
-        _ => None,
+    let ((kind, _, text), heard) = of_solver(alloc, 0);
+    match text {
+        Some(text) => told_alike(alloc, kind, &text, heard?),
+        None => None,
     }
+}
+
+/// Their number, where the session came to its end, both heard as many, and the checker of the text tells the same.
+fn told_alike(
+    alloc: Global,
+    kind: Kind,
+    text: &[u8],
+    (first, second, told): (u64, u64, u64),
+) -> Option<u64> {
+    let same = kind == Kind::Right
+        && first == second
+        && of_text(alloc, text) == Some((first, told));
+    if same { Some(first) } else { None }
 }
 
 /// Whether a fault of the first at this call ends the calls, and the second was told once less.
 fn fails_at(alloc: Global, at: u64) -> bool {
     match of_solver(alloc, at) {
-        (Ended::Fault, Some((first, second, _)), _) => first == at
-            && second.saturating_add(1) == at,
+        ((Kind::Processor, true, _), Some((first, second, _))) => {
+            first == at && second.saturating_add(1) == at
+        }
         _ => false,
     }
 }
 
-#[test]
-fn announcements_are_those_of_the_text(rt: HostRuntime) {
-    match announcements(rt.alloc()) {
-        Some(count) => assert!(rt; count > 8),
-        None => assert!(rt; false),
+/// Whether each announcement is a fault in turn, and there are some.
+fn each_fails(alloc: Global) -> bool {
+    match announcements(alloc) {
+        Some(count) => {
+            for at in 1..=count {
+                if !fails_at(alloc, at) {
+                    return false;
+                }
+            }
+            count > 8
+        }
+        None => false,
     }
 }
 
 #[test]
-fn a_fault_at_each_announcement_is_told(rt: HostRuntime) {
-    match announcements(rt.alloc()) {
-        Some(count) => {
-            for before in 0..count {
-                assert!(rt; fails_at(rt.alloc(), before.saturating_add(1)));
-            }
-        }
-        None => assert!(rt; false),
-    }
+fn announcements_are_those_of_the_text_and_each_may_fail(rt: HostRuntime) {
+    assert!(rt; each_fails(rt.alloc()));
 }

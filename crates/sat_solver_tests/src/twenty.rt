@@ -1,174 +1,156 @@
-//! Twenty clauses of three names of five, in a search that restarts and reduces behind each round.
-ghost use Rattle.sat_solver.specs.solver.Whole.{IsSolver};
+//! Twenty clauses of three names of five, and pigeons, in searches that restart and reduce behind each round, or never.
 
-use crate::blind::is_accepted_blind;
-use crate::driver::{Play, is_accepted, written};
-use crate::solver::{are, read};
-use sat_base::{CountedWrite, Lit, Var};
-use sat_solver::{ProofFormat, Solver, SolverConfigUpdate, SolverError};
+use crate::blind::reductions;
+use crate::calls::{Call, Kind, Part, SAME};
+use crate::driver::is_accepted;
+use crate::scripts::text_of;
+use sat_solver::{ProofFormat, SolverConfigUpdate};
 use std::alloc::Global;
 
-/// Each three of five names.
-const THREES: &[[i64; 3]] = &[
-    [1, 2, 3],
-    [1, 2, 4],
-    [1, 2, 5],
-    [1, 3, 4],
-    [1, 3, 5],
-    [1, 4, 5],
-    [2, 3, 4],
-    [2, 3, 5],
-    [2, 4, 5],
-    [3, 4, 5],
+/// Each three of five names with both signs, the positive ones with a sixth.
+const TWENTY: &[&[i64]] = &[
+    &[1, 2, 3, 6],
+    &[-1, -2, -3],
+    &[1, 2, 4, 6],
+    &[-1, -2, -4],
+    &[1, 2, 5, 6],
+    &[-1, -2, -5],
+    &[1, 3, 4, 6],
+    &[-1, -3, -4],
+    &[1, 3, 5, 6],
+    &[-1, -3, -5],
+    &[1, 4, 5, 6],
+    &[-1, -4, -5],
+    &[2, 3, 4, 6],
+    &[-2, -3, -4],
+    &[2, 3, 5, 6],
+    &[-2, -3, -5],
+    &[2, 4, 5, 6],
+    &[-2, -4, -5],
+    &[3, 4, 5, 6],
+    &[-3, -4, -5],
 ];
 
-/// Adds two clauses for each three names: one of these true or name 6, and one of them false.
-fn add_twenty<W: CountedWrite + Drop>(
-    solver: &mut Solver<W>,
-    lits: &mut Vec<Lit>,
-) -> Result<(), SolverError>
-    requires { IsSolver solver.old }
-    ensures { IsSolver solver.new }
-{
-    for at in 0..THREES.len() {
-        let [one, two, three] = THREES[at];
-        read(lits, &[one, two, three, 6])?;
-        solver.add_clause(lits)?;
-        read(lits, &[-one, -two, -three])?;
-        solver.add_clause(lits)?;
-    }
-    Ok(())
-}
+const HURRIED: SolverConfigUpdate = SolverConfigUpdate {
+    luby_restart_interval_scale: Some(1),
+    reduce_locals_interval: Some(1),
+    reduce_mids_interval: Some(1),
+    ..SAME
+};
 
-/// Adds a clause of one literal.
-fn add_unit<W: CountedWrite + Drop>(
-    solver: &mut Solver<W>,
-    lits: &mut Vec<Lit>,
-    number: i64,
-) -> Result<(), SolverError>
-    requires { IsSolver solver.old }
-    ensures { IsSolver solver.new }
-{
-    read(lits, &[number])?;
-    solver.add_clause(lits)
-}
+const SLOW: SolverConfigUpdate = SolverConfigUpdate {
+    luby_restart_interval_scale: Some(u64::MAX),
+    ..SAME
+};
 
-/// What an ask under some literals is answered, and whether the core is these numbers where there is one.
-fn ask<W: CountedWrite + Drop>(
-    solver: &mut Solver<W>,
-    lits: &mut Vec<Lit>,
-    assumed: &[i64],
-    core: &[i64],
-) -> Result<(bool, bool), SolverError>
-    requires { IsSolver solver.old }
-    ensures { IsSolver solver.new }
-{
-    read(lits, assumed)?;
-    solver.assume(lits)?;
-    let sat = solver.solve()?;
-    let is_core = match solver.failed_core() {
-        Some(lits) => are(lits, core),
-        None => sat,
-    };
-    Ok((sat, is_core))
-}
+/// A search that is checked as it goes, and restarts and reduces behind each round.
+const FAST: &[Part<'static>] = &[(Kind::Right, &[Call::Check, Call::Set(HURRIED)])];
 
-/// Makes the search restart and reduce behind each round, where it shall.
-fn hurry<W: CountedWrite + Drop>(solver: &mut Solver<W>, hurried: bool) -> Result<(), SolverError>
-    requires { IsSolver solver.old }
-    ensures { IsSolver solver.new }
-{
-    let mut update = SolverConfigUpdate::new();
-    if hurried {
-        update.luby_restart_interval_scale = Some(1);
-        update.reduce_locals_interval = Some(1);
-        update.reduce_mids_interval = Some(1);
-    }
-    solver.config(&update)
-}
+/// One that never restarts.
+const STEADY: &[Part<'static>] = &[(Kind::Right, &[Call::Check, Call::Set(SLOW)])];
 
-/// Name 6 is made true, and hidden.
-fn hide_six<W: CountedWrite + Drop>(
-    solver: &mut Solver<W>,
-    lits: &mut Vec<Lit>,
-) -> Result<(), SolverError>
-    requires { IsSolver solver.old }
-    ensures { IsSolver solver.new }
-{
-    add_unit(solver, lits, 6)?;
-    solver.hide_var(Var::from_index(5))
-}
+/// Three asks, of which the last has name 6 false.
+const FALSE_AT_LAST: &[Part<'static>] = &[(
+    Kind::Right,
+    &[
+        Call::Formula(TWENTY),
+        Call::Unsat(&[-6], &[-6]),
+        Call::Solve(true),
+        Call::Clause(&[-6]),
+        Call::Unsat(&[], &[]),
+    ],
+)];
 
-/// Name 6 is made false at last, or made true, hidden, and made false as a new name.
-fn end<W: CountedWrite + Drop>(
-    solver: &mut Solver<W>,
-    lits: &mut Vec<Lit>,
-    hidden: bool,
-) -> Result<(), SolverError>
-    requires { IsSolver solver.old }
-    ensures { IsSolver solver.new }
-{
-    if hidden {
-        hide_six(solver, lits)?;
-    }
-    add_unit(solver, lits, -6)
-}
+/// Name 6 is true and hidden before its name is another's.
+const HIDDEN_AT_LAST: &[Part<'static>] = &[(
+    Kind::Right,
+    &[
+        Call::Formula(TWENTY),
+        Call::Unsat(&[-6], &[-6]),
+        Call::Solve(true),
+        Call::Clause(&[6]),
+        Call::Hide(6),
+        Call::Clause(&[-6]),
+        Call::Solve(true),
+    ],
+)];
 
-/// The session: three asks, of which the last has name 6 false, or a name in place of that which was true.
-#[derive(Drop)]
-struct Twenty {
-    hurried: bool,
-    hidden: bool,
-}
+/// Five pigeons in four holes.
+const PIGEONS: &[u8] =
+    b"1 2 3 4 0 5 6 7 8 0 9 10 11 12 0 13 14 15 16 0 17 18 19 20 0 -1 -5 0 -1 -9 0 -1 -13 0 -1 -17 0 -5 -9 0
+-5 -13 0 -5 -17 0 -9 -13 0 -9 -17 0 -13 -17 0 -2 -6 0 -2 -10 0 -2 -14 0 -2 -18 0 -6 -10 0 -6 -14 0 -6 -18 0
+-10 -14 0 -10 -18 0 -14 -18 0 -3 -7 0 -3 -11 0 -3 -15 0 -3 -19 0 -7 -11 0 -7 -15 0 -7 -19 0 -11 -15 0
+-11 -19 0 -15 -19 0 -4 -8 0 -4 -12 0 -4 -16 0 -4 -20 0 -8 -12 0 -8 -16 0 -8 -20 0 -12 -16 0 -12 -20 0
+-16 -20 0
+";
 
-/// Whether each ask was answered with a model, and whether each core was the one that is wanted.
-type Three = [(bool, bool); 3];
+const OFTEN: &[Part<'static>] = &[(
+    Kind::Right,
+    &[
+        Call::Text(PIGEONS),
+        Call::Solve(false),
+        Call::Restarts(8, u64::MAX),
+    ],
+)];
 
-impl<W: CountedWrite + Drop> Play<Solver<W>, Result<Three, SolverError>> for Twenty {
-    fn play(self, alloc: Global, solver: &mut Solver<W>) -> Result<Three, SolverError> {
-        let mut lits = Vec::new(alloc);
-        hurry(solver, self.hurried)?;
-        add_twenty(solver, &mut lits)?;
-        let first = ask(solver, &mut lits, &[-6], &[-6])?;
-        let second = ask(solver, &mut lits, &[], &[])?;
-        end(solver, &mut lits, self.hidden)?;
-        let third = ask(solver, &mut lits, &[], &[])?;
-        Ok([first, second, third])
+const ONCE: &[Part<'static>] = &[(
+    Kind::Right,
+    &[
+        Call::Text(PIGEONS),
+        Call::Solve(false),
+        Call::Restarts(1, 1),
+    ],
+)];
+
+/// How a search goes, and what is called.
+type Row = (&'static [Part<'static>], &'static [Part<'static>]);
+
+const ROWS: &[Row] = &[
+    (FAST, FALSE_AT_LAST),
+    (FAST, HIDDEN_AT_LAST),
+    (STEADY, FALSE_AT_LAST),
+    (STEADY, HIDDEN_AT_LAST),
+    (&[], FALSE_AT_LAST),
+    (&[], HIDDEN_AT_LAST),
+];
+
+/// How many clauses the proof of a session deletes as of no use; `None` where a call isn't answered as it is to be, or the proof isn't
+/// accepted, also where hashes tell nothing.
+fn deletions(alloc: Global, (front, parts): Row) -> Option<u64> {
+    match text_of(alloc, ProofFormat::Varisat, front, parts) {
+        Some(text) => if is_accepted(alloc, &text) {
+            reductions(alloc, &text)
+        } else {
+            None
+        },
+        None => None,
     }
 }
 
-/// Whether the asks are answered so, and the proof is accepted, also where hashes tell nothing.
-fn is_right(alloc: Global, session: Twenty, wanted: [bool; 3]) -> bool {
-    match written(alloc, ProofFormat::Varisat, session) {
-        Some((Ok(came), text)) => {
-            came == [(wanted[0], true), (wanted[1], true), (wanted[2], true)]
-                && is_accepted(alloc, &text)
-                && is_accepted_blind(alloc, &text)
-        }
-        Some((Err(_), _)) => false,
-        None => false,
+fn rows() -> &'static [Row] {
+    ROWS
+}
+
+#[test]
+fn twenty_clauses_are_solved(rt: HostRuntime) {
+    for row in rows() {
+        assert!(rt; deletions(rt.alloc(), *row).is_some());
+    }
+}
+
+/// A search that reduces behind each round deletes more than one that doesn't.
+fn reduces(alloc: Global) -> bool {
+    match (
+        deletions(alloc, (FAST, OFTEN)),
+        deletions(alloc, (STEADY, ONCE)),
+    ) {
+        (Some(fast), Some(steady)) => fast > steady,
+        (Some(_), None) => false,
+        (None, _) => false,
     }
 }
 
 #[test]
-fn a_hurried_search_is_accepted(rt: HostRuntime) {
-    let session = Twenty {
-        hurried: true,
-        hidden: false,
-    };
-    assert!(rt; is_right(rt.alloc(), session, [false, true, false]));
-}
-
-#[test]
-fn a_hidden_name_binds_no_more(rt: HostRuntime) {
-    let session = Twenty {
-        hurried: true,
-        hidden: true,
-    };
-    assert!(rt; is_right(rt.alloc(), session, [false, true, true]));
-    let calm = Twenty {
-        hurried: false,
-        hidden: true,
-    };
-    assert!(rt; is_right(rt.alloc(), calm, [false, true, true]));
+fn a_search_restarts_and_reduces(rt: HostRuntime) {
+    assert!(rt; reduces(rt.alloc()));
 }

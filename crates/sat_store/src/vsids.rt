@@ -4,11 +4,12 @@
 //! conflict, later conflicts raise by more; where numbers grow too large, all are brought to a smaller scale.
 ghost use Rattle.std.specs.Prelude.{◌≡◌, ◌<◌, ◌≤◌, ◌+◌, ◌*◌, ◌-◌, ◌/◌, ◌^◌, OnOk, OnErr, true, false, length, map, max, slice_set};
 ghost use Rattle.sat_base.specs.values.Literals.{largest};
+ghost use Rattle.sat_store.specs.heap.Heap.{scaled};
 ghost use Rattle.sat_store.specs.heap.Vsids.{no_variables, with_variables, GrowsQueue, bumped, decayed, with_available, may_pick};
 
 mod heap;
 
-use self::heap::{add_variables, heapify, put_in, sift_up, take_out};
+use self::heap::{Entry, add_variables, heapify, put_in, sift_up, take_out};
 use sat_base::Var;
 use std::alloc::{AllocError, Global};
 use std::marker::Model;
@@ -20,13 +21,12 @@ const LIMIT: u64 = 1 << 60;
 /// each, what a bump adds, and the decay.
 #[derive(Drop)]
 pub struct Vsids {
-    /// All variables, the available ones first and in a heap.
-    heap: Vec<u32>,
+    /// All variables with their activities, the available ones first and in a heap.
+    heap: Vec<Entry>,
 
     /// Where each variable stands in `heap`.
     positions: Vec<u32>,
 
-    activities: Vec<u64>,
     available: usize,
     bump: u64,
 
@@ -37,18 +37,18 @@ pub struct Vsids {
 impl Model for Vsids {
     ghost use Rattle.std.specs.Prelude.{◌<◌, ◌≤◌, ◌^◌};
     ghost use Rattle.sat_store.specs.heap.Vsids.{Queue};
-    ghost use Rattle.sat_store.specs.heap.Heap.{IsHeap, flags};
+    ghost use Rattle.sat_store.specs.heap.Heap.{IsHeap, flags, keys};
 
     ghost Value = { Queue };
 
     ghost view = { λ v. record {
       available = flags v.available v.positions.items;
-      activities = v.activities.items;
+      activities = keys v.heap.items v.positions.items;
       bump = v.bump;
       decay = v.decay;
     } };
 
-    ghost invariant = { λ v. IsHeap v.heap.items v.positions.items v.activities.items v.available × (0 < v.bump) × (v.bump < 2 ^ 60)
+    ghost invariant = { λ v. IsHeap v.heap.items v.positions.items v.available × (0 < v.bump) × (v.bump < 2 ^ 60)
         × (500 ≤ v.decay) × (v.decay ≤ 999) };
 }
 
@@ -60,7 +60,6 @@ impl Vsids {
         Vsids {
             heap: Vec::new(alloc),
             positions: Vec::new(alloc),
-            activities: Vec::new(alloc),
             available: 0,
             bump: 1 << 20,
             decay: 950,
@@ -88,13 +87,7 @@ impl Vsids {
         }
         self.heap.reserve(count - old)?;
         self.positions.reserve(count - old)?;
-        self.activities.reserve(count - old)?;
-        add_variables(
-            &mut self.heap,
-            &mut self.positions,
-            &mut self.activities,
-            count,
-        );
+        add_variables(&mut self.heap, &mut self.positions, count);
         Ok(())
     }
 
@@ -113,28 +106,16 @@ impl Vsids {
         ensures queue { self.new ≡ bumped var self.old }
         ensures available { self.new.available ≡ self.old.available }
     {
-        let index = var.index();
-        let raised = self.activities[index] + self.bump;
-        self.activities[index] = raised;
+        let at = self.positions[var.index()] as usize;
+        let raised = self.heap[at].key + self.bump;
+        self.heap[at].key = raised;
         if raised >= LIMIT {
-            self.bump = rescale(&mut self.activities, self.bump);
-            heapify(
-                &mut self.heap,
-                &mut self.positions,
-                &self.activities,
-                self.available,
-            );
+            self.bump = rescale(&mut self.heap, self.bump);
+            heapify(&mut self.heap, &mut self.positions, self.available);
             return;
         }
-        let at = self.positions[index] as usize;
         if at < self.available {
-            sift_up(
-                &mut self.heap,
-                &mut self.positions,
-                &self.activities,
-                self.available,
-                at,
-            );
+            sift_up(&mut self.heap, &mut self.positions, self.available, at);
         }
     }
 
@@ -146,13 +127,8 @@ impl Vsids {
         let later = self.bump / self.decay * 1000
             + (self.bump % self.decay * 1000 + self.decay - 1) / self.decay;
         if later >= LIMIT {
-            self.bump = rescale(&mut self.activities, later);
-            heapify(
-                &mut self.heap,
-                &mut self.positions,
-                &self.activities,
-                self.available,
-            );
+            self.bump = rescale(&mut self.heap, later);
+            heapify(&mut self.heap, &mut self.positions, self.available);
             return;
         }
         self.bump = later;
@@ -164,7 +140,8 @@ impl Vsids {
         requires unavailable { may_pick self.old var ≡ false }
         ensures { self.new ≡ record self.old { activities = slice_set self.old.activities var 0 } }
     {
-        self.activities[var.index()] = 0;
+        let at = self.positions[var.index()] as usize;
+        self.heap[at].key = 0;
     }
 
     /// Lets a variable not be picked from now on.
@@ -174,13 +151,7 @@ impl Vsids {
     {
         let at = self.positions[var.index()] as usize;
         if at < self.available {
-            take_out(
-                &mut self.heap,
-                &mut self.positions,
-                &self.activities,
-                self.available,
-                at,
-            );
+            take_out(&mut self.heap, &mut self.positions, self.available, at);
             self.available -= 1;
         }
     }
@@ -192,13 +163,7 @@ impl Vsids {
     {
         let at = self.positions[var.index()] as usize;
         if at >= self.available {
-            put_in(
-                &mut self.heap,
-                &mut self.positions,
-                &self.activities,
-                self.available,
-                at,
-            );
+            put_in(&mut self.heap, &mut self.positions, self.available, at);
             self.available += 1;
         }
     }
@@ -221,26 +186,20 @@ impl Iterator for Vsids {
         if self.available == 0 {
             return None;
         }
-        let first = Var::from_index(self.heap[0] as usize);
-        take_out(
-            &mut self.heap,
-            &mut self.positions,
-            &self.activities,
-            self.available,
-            0,
-        );
+        let first = Var::from_index(self.heap[0].var as usize);
+        take_out(&mut self.heap, &mut self.positions, self.available, 0);
         self.available -= 1;
         Some(first)
     }
 }
 
 /// Brings all activities to a smaller scale, and answers what a bump adds on it.
-fn rescale(activities: &mut Vec<u64>, bump: u64) -> u64
-    ensures activities { activities.new.items ≡ map (λ a. a / 2 ^ 40) activities.old.items }
+fn rescale(heap: &mut Vec<Entry>, bump: u64) -> u64
+    ensures heap { heap.new.items ≡ map scaled heap.old.items }
     ensures bump { result ≡ max (bump / 2 ^ 40) 1 }
 {
-    for activity in activities.iter_mut() {
-        *activity >>= 40;
+    for entry in heap.iter_mut() {
+        entry.key >>= 40;
     }
     (bump >> 40).max(1)
 }

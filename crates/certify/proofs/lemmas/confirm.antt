@@ -8,6 +8,7 @@ pub mod LiteralSets
 pub mod LooksBound
 pub mod Streams
 pub mod Walks
+pub mod FewBytes
 pub mod Feeding
 pub mod Settled
 pub mod ReadSteps

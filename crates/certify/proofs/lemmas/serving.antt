@@ -10,6 +10,7 @@ pub mod MadeCertifies
 pub mod AskServed
 pub mod ClauseServed
 pub mod NoLines
+pub mod Stopping
 pub mod SessionCalls
 pub mod CallFaults
 pub mod Carried
@@ -20,3 +21,4 @@ pub mod NextLent
 pub mod Through
 pub mod Written
 pub mod Ended
+pub mod ProofFronts

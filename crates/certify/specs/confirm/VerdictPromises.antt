@@ -1,12 +1,12 @@
 -- What a verdict promises of the texts that three readers gave.
-use Rattle.std.specs.Prelude.{ℕ, ◌+◌, ◌*◌, ◌^◌, ◌≤◌, ◌≡◌, ◌↔◌, ◌⊎◌, Result, IfOk, List, [], ◌++◌, length}
+use Rattle.std.specs.Prelude.{ℕ, ◌+◌, ◌*◌, ◌^◌, ◌≤◌, ◌≡◌, ◌↔◌, Result, IfOk, List, [], ◌++◌, length}
 use Rattle.sat_base.specs.device.Device.{Reader, GaveFront, GaveEnough, CanFollow}
 use Rattle.certify.specs.answers.Answers.{answers_text}
 use Rattle.sat_checker.specs.matching.Expected.{Outcome}
 use Rattle.certify.specs.answers.RightAnswers.{AnswersAreRight}
 use Rattle.certify.specs.confirm.Matches.{Matches}
 use Rattle.sat_checker.specs.matching.ProofChecking.{the_checking}
-use Rattle.certify.specs.confirm.Walks.{LooksReach, Spends}
+use Rattle.certify.specs.confirm.Walks.{LooksReach}
 use Rattle.sat_base.specs.script.Script.{Clean, Malformed}
 use Rattle.sat_base.specs.script.Language.{Reading, reading}
 use Rattle.certify.specs.declared.verdict.Verdict.{Verdict}
@@ -58,11 +58,3 @@ pub record TakesLooks (old new : Reader) (from to : ℕ) : Type 0 where
 abbrev pub numbers : Reading → ℕ
 numbers (commands, Clean) = length commands
 numbers (commands, Malformed) = length commands + 1
-
--- there are more than 2^64-1 of them
-abbrev pub HasTooMany : List ℕ → Type 0
-HasTooMany text = 2 ^ 64 ≤ numbers (reading text)
-
--- a number is past 64 bits: the script has too many commands, or it happens behind steps of the certificate that are accepted
-abbrev pub HasCounterEnd : Reader × Reader → Reader × Reader → Type 0
-HasCounterEnd script certificate = Given script HasTooMany ⊎ Given certificate (Spends [])

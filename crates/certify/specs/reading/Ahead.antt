@@ -30,6 +30,10 @@ abbrev pub Took : Bool → Source → Source → Type 0
 Took true old new = (text : List ℕ) × Passes old new text
 Took false old new = ((text : List ℕ) × PassesBut 1 old new text) × (AtEnd new → IsAtEnd new.reader.to_come)
 
+-- some bytes were taken, and then perhaps the end was found, or looked for
+abbrev pub Passed : Source → Source → Type 0
+Passed old new = (text : List ℕ) × PassesBut 1 old new text
+
 -- no read failed, and there were no more than it counts
 abbrev pub Kept : Source → Source → Type 0
 Kept old new = (new.reader.failures ≡ old.reader.failures) × (new.reader.calls + old.reads ≡ old.reader.calls + new.reads)

@@ -7,7 +7,7 @@ use Rattle.sat_base.specs.text.Chunks.{Follows}
 use Rattle.sat_base.specs.declared.device.whole.ReadError.{ReadError}
 use Rattle.sat_base.specs.declared.device.whole.ReadError.TheVariants as errors
 use Rattle.certify.specs.confirm.Streams.{Covers, rest_in}
-use Rattle.certify.specs.reading.Ahead.{Failed, Kept, Took, waiting}
+use Rattle.certify.specs.reading.Ahead.{Failed, Took, waiting}
 use Rattle.certify.specs.reading.Commands.{EndsLast, MeansIf, TakesBytes, end_if}
 use Rattle.certify.specs.declared.ahead.Ahead.{Ahead}
 use Rattle.certify.specs.declared.reading.Reached.{Reached}
@@ -44,12 +44,12 @@ abbrev pub Brings : Result (Option Next) ReadError → Source → Source → Scr
 Brings (Ok None) a b old new = (text : List ℕ) × Passes a b text × ((asks : Bool) → Follows (MeansIf asks) old text new)
 Brings (Ok (Some n)) a b old new = Arrives n a b old new
 Brings (Err errors.Failed) a b old new = Failed a b
-Brings (Err errors.OutOfMemory) a b old new = Kept a b
+Brings (Err errors.OutOfMemory) a b old new = Took true a b
 
 abbrev pub Comes : Result Next ReadError → Source → Source → ScriptReader → ScriptReader → Type 0
 Comes (Ok n) a b old new = Arrives n a b old new
 Comes (Err errors.Failed) a b old new = Failed a b
-Comes (Err errors.OutOfMemory) a b old new = Kept a b
+Comes (Err errors.OutOfMemory) a b old new = Took true a b
 
 -- how many more times something can come of its bytes at most
 abbrev pub rounds_left : Ahead → ℕ

@@ -9,8 +9,9 @@ use Rattle.sat_solver.specs.declared.solver.state.State.TheVariants as states
 use Rattle.sat_solver.specs.names.Calls.{Agree}
 use Rattle.sat_checker.specs.matching.Bridge.{Live}
 use Rattle.sat_solver.specs.names.Refusing.{names_in}
+use Rattle.sat_solver.specs.names.Room.{HasRoom}
 use Rattle.sat_solver.specs.session.Making.{Took, Broke}
-use Rattle.sat_solver.specs.session.ProofView.{is_drat, target_of}
+use Rattle.sat_solver.specs.session.ProofView.{is_checked, is_drat, target_of}
 use Rattle.sat_solver.specs.solver.Calls.{Answered}
 use Rattle.sat_solver.specs.solver.Taking.{IsNameFaultOr}
 use Rattle.sat_solver.specs.solver.Whole.{IsSolver, steps_in}
@@ -46,6 +47,15 @@ Faults fault.OutOfMemory answers certificate rest = rest
 Faults fault.StoreFull answers certificate rest = rest
 Faults fault.CounterEnd answers certificate rest = rest
 
+-- why a fault came that is no device's and no want of memory: the clause buffer is full, or a variable is lacking for a name
+abbrev pub IsCaused : RunFault → (full lacks : Type 0) → Type 0
+IsCaused fault.ScriptRead full lacks = Unit {0}
+IsCaused fault.AnswersWrite full lacks = Unit {0}
+IsCaused fault.CertificateWrite full lacks = Unit {0}
+IsCaused fault.OutOfMemory full lacks = Unit {0}
+IsCaused fault.StoreFull full lacks = full
+IsCaused fault.CounterEnd full lacks = lacks
+
 -- where a solver writes
 abbrev pub proof_in : {C : Type 0} → Solver C → Proof C
 proof_in s = s.core.proof
@@ -58,15 +68,20 @@ FailsSolver seen e old new = Faults e ⊥ (Broke seen (proof_in old) (proof_in n
 abbrev pub HasNoLines : {C : Type 0} → Proof C → Type 0
 HasNoLines {C} p = (seen : C → Writer) → is_drat (target_of seen p) ≡ false
 
--- a solver that goes on, whose asks may have assumptions
+-- a solver that goes on, whose asks may have assumptions, with no checker of its own
 pub record IsReady {C : Type 0} (s : Solver C) : Type 0 where
   pub solver : IsSolver s
   pub going : s.failed ≡ false
   pub no_lines : HasNoLines (proof_in s)
+  pub unchecked : is_checked (proof_in s) ≡ false
 
 -- none of the names is refused, by a state of the judge that the solver agrees with
 abbrev pub IsAllowed : {C : Type 0} → Solver C → List ℕ → Type 0
 IsAllowed s user = (j : Judge) × (live : Live) × Agree s.names (steps_in s) j live × (refused_literal j (names_in user) ≡ None)
+
+-- a variable is lacking for a name that would come in with these
+abbrev pub LacksRoom : {C : Type 0} → Solver C → (users : List ℕ) → Type 0
+LacksRoom s users = HasRoom s.names users → ⊥
 
 -- from here on a search makes at most so many rounds
 pub record Limited {C : Type 0} (budget : ℕ) (old new : Solver C) : Type 0 where

@@ -2,14 +2,19 @@
 use Rattle.std.specs.Prelude.{◌≡◌, ℕ, true, Option, Some, [], ◌∷◌, Result, Ok, Err}
 use Rattle.sat_base.specs.device.Device.{Writer, Takes}
 use Rattle.sat_base.specs.steps.Steps.{End}
+use Rattle.sat_base.specs.device.Sink.{empty_sink}
+use Rattle.sat_solver.specs.declared.session.format.ProofFormat.TheVariants.{Varisat}
+use Rattle.sat_solver.specs.session.Counting.{start as uncounted}
 use Rattle.sat_solver.specs.session.Making.{Took, Broke}
-use Rattle.sat_solver.specs.session.ProofView.{Closed, Gives, TakesAll, is_open, target_of}
+use Rattle.sat_solver.specs.session.ProofView.{Closed, Open, Gives, TakesAll, is_open, target_of}
 use Rattle.sat_solver.specs.session.Session.{MayAll}
+use Rattle.sat_solver.specs.solver.Fronts.{Went}
 use Rattle.sat_solver.specs.solver.Whole.{steps_in}
 use Rattle.certify.specs.Calls.{NoneFailed, OneFailed}
 use Rattle.certify.specs.declared.fault.RunFault.{RunFault}
 use Rattle.certify.specs.declared.serving.session.Session.{Session}
 use Rattle.certify.specs.declared.summary.Summary.{Summary}
+use Rattle.certify.specs.run.Unfinished.{TookBytes, TookSteps}
 use Rattle.certify.specs.serving.Calls.{Faults, proof_in}
 use Rattle.certify.specs.serving.Quiet.{Proof, Solver}
 
@@ -32,18 +37,25 @@ pub record GivenBack {C : Type 0} (seen : C → Writer) (Goes : (C → Writer) �
   pub goes : Goes seen (proof_in s) proof
   pub gives : Gives (target_of seen proof) (Some (seen given))
 
+-- Where its certificate was opened before any step, and it has come from there, also to a fault: the writer that is given back took a front
+-- of the text of accepted steps.
+pub record GivesFront {C : Type 0} (seen : C → Writer) (s : Solver C) (given : C) : Type 0 where
+  pub front : (opened : Solver C) (from : Writer) → target_of seen (proof_in opened) ≡ Open Varisat uncounted (empty_sink from)
+      → steps_in opened ≡ [] → Went seen opened s → TookSteps (from, seen given)
+
 -- the certificate was ended, or not
 abbrev pub Closes : {C : Type 0} → (C → Writer) → Result (Unit {0}) RunFault → Solver C → C → Type 0
 Closes seen (Ok x) s given = ClosedBy seen s given
 Closes seen (Err e) s given = Faults e ⊥ (GivenBack seen Broke s given) (GivenBack seen Took s given)
 
--- and then the answers, whose writer was flushed
+-- and then the answers, whose writer was flushed, and took nothing
 abbrev pub Finishes : {C : Type 0} → (C → Writer) → Result (Unit {0}) RunFault → Solver C → C → Writer → Writer → Type 0
 Finishes seen (Ok x) s given before after = ClosedBy seen s given × Takes before after [] × (after.flushed ≡ true)
 Finishes seen (Err e) s given before after = Faults e
     (OneFailed before after × ClosedBy seen s given)
     (NoneFailed before after × GivenBack seen Broke s given)
     (NoneFailed before after × GivenBack seen Took s given)
+    × TookBytes before after []
 
 -- what a session says of itself
 pub record SumsUp {C : Type 0} (at : Option ℕ) (s : Session C) (summary : Summary) : Type 0 where

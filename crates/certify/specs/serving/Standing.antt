@@ -1,5 +1,5 @@
 -- How a run stands between commands, and what one of them leaves.
-use Rattle.std.specs.Prelude.{ℕ, ◌+◌, ◌≤◌, ◌≡◌, None, List, [], ◌∷◌, ◌++◌, Result, MatchResult}
+use Rattle.std.specs.Prelude.{ℕ, ◌+◌, ◌≤◌, ◌≡◌, None, List, [], ◌∷◌, ◌++◌, OnErr, Result, MatchResult}
 use Rattle.sat_base.specs.device.Device.{Writer, Takes}
 use Rattle.sat_base.specs.script.Script.{Command}
 use Rattle.sat_base.specs.script.Judge.{Judge, Refusal, accepted, after_command, refusal_of}
@@ -18,7 +18,8 @@ use Rattle.certify.specs.declared.summary.AskReport.{AskReport}
 use Rattle.certify.specs.judge.Names.{Stands}
 use Rattle.sat_base.specs.script.JudgeLaws.{IsKept}
 use Rattle.certify.specs.reading.Commands.{kind_of}
-use Rattle.sat_base.specs.script.Language.{command_of}
+use Rattle.sat_base.specs.script.Language.{Reading, command_of, onto_commands}
+use Rattle.certify.specs.run.Unfinished.{TookFront}
 use Rattle.certify.specs.serving.Calls.{Faults, IsReady, proof_in}
 use Rattle.certify.specs.serving.Serving.{Place, Serves}
 use Rattle.certify.specs.serving.Quiet.{Solver}
@@ -98,6 +99,15 @@ pub record ServedNext {C : Type 0} (seen : C → Writer) (old new : Session C) (
   pub refusals : new.refused ≡ old.refused + refused
   pub serves : (j : Judge) → IsAt old j
       → IsAt new (after_command c j) × Serves old.budget (place_in old j) (place_in new (after_command c j)) (c ∷ []) text reports refused
+
+-- Where the last command, which isn't refused, wasn't carried out, a front of right answers to it and what is left was written.
+abbrev pub StopsCarrying : {T C : Type 0} → Result T RunFault → Session C → Command → Reading → Writer → Writer → Type 0
+StopsCarrying r old c left before after =
+    OnErr r ((j : Judge) (live : Live) → Means old.solver j live → refusal_of j c ≡ None → TookFront old.commands j (onto_commands (c ∷ []) left) before after)
+
+-- the same of a script that wasn't served from here on
+abbrev pub StopsOver : {T C : Type 0} → Result T RunFault → Session C → Reading → Writer → Writer → Type 0
+StopsOver r old script before after = OnErr r ((j : Judge) → IsAt old j → TookFront (old.commands + 1) j script before after)
 
 -- what a part of a run did to the answers' writer and to the certificate: one call of one of them may have failed
 abbrev pub WritesBoth : {T C : Type 0} → Result T RunFault → (C → Writer) → Writer → Writer → Solver C → Solver C → Type 0

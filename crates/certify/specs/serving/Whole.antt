@@ -20,9 +20,10 @@ use Rattle.certify.specs.declared.fault.RunFault.TheVariants as fault
 use Rattle.certify.specs.declared.reading.reader.ScriptReader.{ScriptReader}
 use Rattle.certify.specs.declared.serving.session.Session.{Session}
 use Rattle.certify.specs.declared.summary.AskReport.{AskReport}
-use Rattle.certify.specs.reading.Ahead.{Failed, Kept, Took as TookOf}
+use Rattle.certify.specs.reading.Ahead.{Failed, Passed, Took as TookOf}
 use Rattle.certify.specs.reading.Commands.{Means, MeansIf}
 use Rattle.certify.specs.run.FinishedRun.{refused_count, malformed_at, kind_of, AreSpent, asked_steps, identities_given}
+use Rattle.certify.specs.run.Unfinished.{TookFront}
 use Rattle.certify.specs.serving.Calls.{IsReady, proof_in}
 use Rattle.certify.specs.serving.Serving.{Place, Serves}
 use Rattle.certify.specs.serving.Standing.{GoesOn, IsAt, place_in}
@@ -105,13 +106,14 @@ Cause fault.CounterEnd script answers certificate rest = rest
 abbrev pub FailsWhole : {C : Type 0} → (C → Writer) → RunFault → Source → Source → Solver C → Solver C → Writer → Writer → Type 0
 FailsWhole seen e a b old new before after = Cause e
     (Failed a b × NoneFailed before after × Took seen (proof_in old) (proof_in new))
-    (Kept a b × OneFailed before after × Took seen (proof_in old) (proof_in new))
-    (Kept a b × NoneFailed before after × Broke seen (proof_in old) (proof_in new))
-    (Kept a b × NoneFailed before after × Took seen (proof_in old) (proof_in new))
+    (Passed a b × OneFailed before after × Took seen (proof_in old) (proof_in new))
+    (Passed a b × NoneFailed before after × Broke seen (proof_in old) (proof_in new))
+    (Passed a b × NoneFailed before after × Took seen (proof_in old) (proof_in new))
 
--- The script is served to its end, or there's a fault.
+-- The script is served to its end; or there's a fault, and a front of right answers was written.
 abbrev pub Ends : {C : Type 0} → (C → Writer) → Judge → (List ℕ → Reading) → (List ℕ → Reading) → Result (Option ℕ) RunFault
     → Source → Source → Session C → Session C → Writer → Writer → Type 0
 Ends seen j text counted (Ok at) a b old new before after = TookOf false a b × IsReady new.solver × ((total : List ℕ) → Covers b total
     → ServesWhole seen j (text (rest_in total a)) (length (counted (rest_in total a)).0) at old new before after)
 Ends seen j text counted (Err e) a b old new before after = FailsWhole seen e a b old.solver new.solver before after
+    × ((total : List ℕ) → Covers b total → TookFront (old.commands + 1) j (text (rest_in total a)) before after)

@@ -1,4 +1,6 @@
 //! What the arguments of the program ask for.
+ghost use Rattle.std.specs.Prelude.{IfSome};
+ghost use Rattle.certify.specs.program.Calls.{KeepsInput};
 
 /// The files of a run: a script, its answers and their certificate.
 #[derive(Clone, Copy)]
@@ -41,15 +43,34 @@ fn steps_of(word: &str) -> Option<u64> {
     word.parse::<u64>().ok()
 }
 
+/// A run that doesn't write over its script.
+fn run_of(files: RunFiles<'_>, budget: u64) -> Option<Call<'_>>
+    ensures { IfSome result KeepsInput }
+{
+    if files.answers == files.script || files.certificate == files.script {
+        return None;
+    }
+    Some(Call::Run { files, budget })
+}
+
+/// The hints of a certificate that aren't written over it.
+fn hints_of<'a>(certificate: &'a str, hints: &'a str) -> Option<Call<'a>>
+    ensures { IfSome result KeepsInput }
+{
+    if hints == certificate {
+        return None;
+    }
+    Some(Call::Hints { certificate, hints })
+}
+
 /// The call of a script, its answers and their certificate, with no word behind them or one.
-fn call_on<'a>(name: &str, files: RunFiles<'a>, steps: Option<&str>) -> Option<Call<'a>> {
+fn call_on<'a>(name: &str, files: RunFiles<'a>, steps: Option<&str>) -> Option<Call<'a>>
+    ensures { IfSome result KeepsInput }
+{
     match (name, steps) {
-        ("run", None) => Some(Call::Run {
-            files,
-            budget: u64::MAX,
-        }),
+        ("run", None) => run_of(files, u64::MAX),
         ("run", Some(word)) => match steps_of(word) {
-            Some(budget) => Some(Call::Run { files, budget }),
+            Some(budget) => run_of(files, budget),
             None => None,
         },
         ("confirm", None) => Some(Call::Confirm { files }),
@@ -57,16 +78,18 @@ fn call_on<'a>(name: &str, files: RunFiles<'a>, steps: Option<&str>) -> Option<C
     }
 }
 
-/// The call that these words are, if they are one with files.
-pub(super) fn call_of(words: &[String]) -> Option<Call<'_>> {
+/// The call that these words are, if they are one with files. None writes over what it reads: an output with the word of its input is no
+/// call.
+pub(super) fn call_of(words: &[String]) -> Option<Call<'_>>
+    ensures { IfSome result KeepsInput }
+{
     match words {
         [name, hints] if name.as_str() == "check" => Some(Call::Check {
             hints: hints.as_str(),
         }),
-        [name, certificate, hints] if name.as_str() == "hints" => Some(Call::Hints {
-            certificate: certificate.as_str(),
-            hints: hints.as_str(),
-        }),
+        [name, certificate, hints] if name.as_str() == "hints" => {
+            hints_of(certificate.as_str(), hints.as_str())
+        }
         [name, script, answers, certificate] => {
             let files = RunFiles {
                 script: script.as_str(),

@@ -1,10 +1,11 @@
 //! Answers an ask.
 ghost use Rattle.std.specs.Prelude.{◌≡◌, [], IfErr, IfOk, OnOk};
+ghost use Rattle.sat_base.specs.script.Language.{Reading};
 ghost use Rattle.sat_base.specs.script.Script.{Ask};
 ghost use Rattle.certify.specs.answers.AnswerForms.{named_literals};
 ghost use Rattle.certify.specs.serving.Asking.{Sought};
 ghost use Rattle.certify.specs.serving.Calls.{FailsSolver, IsAllowed, IsReady};
-ghost use Rattle.certify.specs.serving.Standing.{CarriedOut, WritesBoth};
+ghost use Rattle.certify.specs.serving.Standing.{CarriedOut, StopsCarrying, WritesBoth};
 
 use super::calls::{assume, search};
 use super::session::Session;
@@ -46,6 +47,7 @@ pub fn answer_ask<A: CountedWrite, C: CountedWrite + Drop>(
     requires allowed { IsAllowed session.old.solver literals.now }
     ensures carried { OnOk result (CarriedOut C.seen session.old session.new (Ask (named_literals literals.now))
         (A.seen answers.old) (A.seen answers.new)) }
+    ensures stops { (left : Reading) → StopsCarrying result session.old (Ask (named_literals literals.now)) left (A.seen answers.old) (A.seen answers.new) }
     ensures names { session.new.names ≡ session.old.names }
     ensures written { WritesBoth result C.seen (A.seen answers.old) (A.seen answers.new) session.old.solver session.new.solver }
 {

@@ -3,8 +3,9 @@ ghost use Rattle.std.specs.Prelude.{◌≡◌, [], true, Err, OnErr, OnOk, Some}
 ghost use Rattle.sat_base.specs.device.Device.{Takes};
 ghost use Rattle.sat_solver.specs.session.ProofView.{Gives, target_of};
 ghost use Rattle.certify.specs.Calls.{OneFailed};
+ghost use Rattle.certify.specs.run.Unfinished.{TookBytes};
 ghost use Rattle.certify.specs.serving.Calls.{IsReady, proof_in};
-ghost use Rattle.certify.specs.serving.Ending.{Closes, EndsRun, Finishes, HasTarget, IsOpen};
+ghost use Rattle.certify.specs.serving.Ending.{Closes, EndsRun, Finishes, GivesFront, HasTarget, IsOpen};
 
 use super::faults::fault_of;
 use super::session::Session;
@@ -16,7 +17,8 @@ use sat_solver::Solver;
 /// The certificate's writer, behind a fault. What waits for it is lost.
 fn give_back<C: CountedWrite + Drop>(solver: Solver<C>) -> C
     requires { HasTarget C.seen solver }
-    ensures { Gives (target_of C.seen (proof_in solver)) (Some (C.seen result)) }
+    ensures gives { Gives (target_of C.seen (proof_in solver)) (Some (C.seen result)) }
+    ensures front { GivesFront C.seen solver result }
 {
     match solver.into_target() {
         Some(certificate) => certificate,
@@ -28,7 +30,8 @@ fn give_back<C: CountedWrite + Drop>(solver: Solver<C>) -> C
 fn close_certificate<C: CountedWrite + Drop>(solver: Solver<C>) -> (C, Result<(), RunFault>)
     requires ready { IsReady solver }
     requires target { IsOpen C.seen solver }
-    ensures { Closes C.seen result.1 solver result.0 }
+    ensures closes { Closes C.seen result.1 solver result.0 }
+    ensures front { GivesFront C.seen solver result.0 }
 {
     let mut solver = solver;
     match solver.close_proof() {
@@ -43,6 +46,7 @@ fn flush_answers<A: CountedWrite>(answers: &mut A) -> Result<(), RunFault>
     ensures flushed { OnOk result ((A.seen answers.new).flushed ≡ true) }
     ensures fails { OnErr result (OneFailed (A.seen answers.old) (A.seen answers.new)) }
     ensures fault { OnErr result (result ≡ Err RunFault.AnswersWrite) }
+    ensures kept { OnErr result (TookBytes (A.seen answers.old) (A.seen answers.new) []) }
 {
     match answers.flush_counted() {
         Ok(()) => Ok(()),
@@ -57,7 +61,8 @@ fn finish<A: CountedWrite, C: CountedWrite + Drop>(
 ) -> (C, Result<(), RunFault>)
     requires ready { IsReady solver }
     requires target { IsOpen C.seen solver }
-    ensures { Finishes C.seen result.1 solver result.0 (A.seen answers.old) (A.seen answers.new) }
+    ensures finishes { Finishes C.seen result.1 solver result.0 (A.seen answers.old) (A.seen answers.new) }
+    ensures front { GivesFront C.seen solver result.0 }
 {
     let (certificate, closed) = close_certificate(solver);
     match closed {
@@ -75,7 +80,8 @@ pub(crate) fn end_run<A: CountedWrite, C: CountedWrite + Drop>(
     requires ready { OnOk served (IsReady session.solver) }
     requires target { OnOk served (IsOpen C.seen session.solver) }
     requires some { HasTarget C.seen session.solver }
-    ensures { EndsRun C.seen served result.1 session result.0 (A.seen answers.old) (A.seen answers.new) }
+    ensures ends { EndsRun C.seen served result.1 session result.0 (A.seen answers.old) (A.seen answers.new) }
+    ensures front { GivesFront C.seen session.solver result.0 }
 {
     let Session {
         names: _names,

@@ -2,7 +2,7 @@
 ghost use Rattle.std.specs.Prelude.{◌≡◌, ◌+◌, [], ◌∷◌, IfErr, OnOk};
 ghost use Rattle.sat_solver.specs.names.Refusing.{names_in};
 ghost use Rattle.sat_solver.specs.solver.Whole.{IsSolver};
-ghost use Rattle.certify.specs.serving.Calls.{FailsSolver, IsReady};
+ghost use Rattle.certify.specs.serving.Calls.{FailsSolver, IsCaused, IsReady, LacksRoom};
 ghost use Rattle.certify.specs.serving.Obeying.{ChangesName, Obeyed, command_to};
 
 use super::faults::fault_of;
@@ -37,6 +37,8 @@ fn set_name<C: CountedWrite + Drop>(
     requires free { solver.old.assumed.items ≡ [] }
     ensures obeyed { OnOk result (Obeyed C.seen (command_to state ((user + 1) ∷ [])) solver.old solver.new) }
     ensures fails { IfErr result (λ e. FailsSolver C.seen e solver.old solver.new) }
+    // No clause is stored.
+    ensures cause { IfErr result (λ e. IsCaused e ⊥ (LacksRoom solver.old (user ∷ []))) }
 {
     match change_name(solver, user, state) {
         Ok(()) => Ok(()),

@@ -13,8 +13,11 @@ use super::telling::Page;
 use crate::judge::Names;
 use crate::summary::AskReport;
 use sat_base::CountedWrite;
-use sat_solver::{ProofFormat, Solver};
+use sat_solver::{ProofFormat, Solver, SolverConfigUpdate};
 use std::alloc::Global;
+
+/// Rounds between reductions of the clauses of tier Local, a seventh of a solver's default: half as many clauses are watched.
+const REDUCE_LOCALS_INTERVAL: u64 = 2_000;
 
 /// What a run holds between commands.
 #[derive(Drop)]
@@ -40,6 +43,9 @@ fn solver_into<C: CountedWrite + Drop>(alloc: Global, certificate: C) -> Solver<
     ensures free { result.assumed.items ≡ [] }
 {
     let mut solver = Solver::new(alloc);
+    let mut update = SolverConfigUpdate::new();
+    update.reduce_locals_interval = Some(REDUCE_LOCALS_INTERVAL);
+    solver.config(&update).unwrap();
     solver
         .write_proof(certificate, ProofFormat::Varisat)
         .unwrap();

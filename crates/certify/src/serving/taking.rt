@@ -1,10 +1,11 @@
 //! Takes commands of the whole language.
-ghost use Rattle.std.specs.Prelude.{◌≡◌, ◌<◌, ◌-◌, ◌^◌, false, OnOk};
+ghost use Rattle.std.specs.Prelude.{◌≡◌, ◌<◌, ◌-◌, ◌^◌, ◌∷◌, [], false, OnOk};
+ghost use Rattle.sat_base.specs.script.Language.{Reading, onto_commands};
 ghost use Rattle.sat_base.specs.script.Script.{Command as Spelled};
 ghost use Rattle.sat_base.specs.script.Judge.{Judge, accepted};
 ghost use Rattle.certify.specs.judge.Names.{Stands};
 ghost use Rattle.certify.specs.reading.Commands.{IsLent};
-ghost use Rattle.certify.specs.serving.Standing.{Allows, CarriedOut, GoesOn, ServedNext, WritesBoth, spelled_by};
+ghost use Rattle.certify.specs.serving.Standing.{Allows, CarriedOut, GoesOn, ServedNext, StopsCarrying, StopsOver, WritesBoth, spelled_by};
 
 use super::asking::answer_ask;
 use super::calls::add_clause;
@@ -25,6 +26,7 @@ fn carry_out<A: CountedWrite, C: CountedWrite + Drop>(
     requires goes_on { GoesOn session.old }
     requires allowed { Allows session.old.names (spelled_by command) }
     ensures carried { OnOk result (CarriedOut C.seen session.old session.new (spelled_by command.entry) (A.seen answers.old) (A.seen answers.new)) }
+    ensures stops { (left : Reading) → StopsCarrying result session.old (spelled_by command.entry) left (A.seen answers.old) (A.seen answers.new) }
     ensures names { session.new.names ≡ session.old.names }
     ensures written { WritesBoth result C.seen (A.seen answers.old) (A.seen answers.new) session.old.solver session.new.solver }
 {
@@ -49,6 +51,7 @@ fn take_allowed<A: CountedWrite, C: CountedWrite + Drop>(
     requires allowed { Allows session.old.names (spelled_by command) }
     requires within { command.past_limit ≡ false }
     ensures carried { OnOk result (CarriedOut C.seen session.old session.new (spelled_by command.entry) (A.seen answers.old) (A.seen answers.new)) }
+    ensures stops { (left : Reading) → StopsCarrying result session.old (spelled_by command.entry) left (A.seen answers.old) (A.seen answers.new) }
     ensures names { OnOk result ((j : Judge) (c : Spelled) → Stands session.old.names j → IsLent command.entry c
         → Stands session.new.names (accepted c j)) }
     ensures written { WritesBoth result C.seen (A.seen answers.old) (A.seen answers.new) session.old.solver session.new.solver }
@@ -69,6 +72,8 @@ pub fn take_command<A: CountedWrite, C: CountedWrite + Drop>(
     requires whole { (c : Spelled) × IsLent command c }
     ensures served { (c : Spelled) → IsLent command.entry c
         → OnOk result (ServedNext C.seen session.old session.new c (A.seen answers.old) (A.seen answers.new)) }
+    ensures stops { (c : Spelled) → IsLent command.entry c → (left : Reading)
+        → StopsOver result session.old (onto_commands (c ∷ []) left) (A.seen answers.old) (A.seen answers.new) }
     ensures written { WritesBoth result C.seen (A.seen answers.old) (A.seen answers.new) session.old.solver session.new.solver }
 {
     session.commands += 1;

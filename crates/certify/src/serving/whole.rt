@@ -1,14 +1,15 @@
 //! Serves the commands of a script as they come, and then its end.
-ghost use Rattle.std.specs.Prelude.{◌≡◌, ◌+◌, ◌∷◌, [], false, IfOk, OnOk};
+ghost use Rattle.std.specs.Prelude.{◌≡◌, ◌+◌, ◌∷◌, [], false, IfOk, OnErr, OnOk};
 ghost use Rattle.sat_base.specs.device.Device.{Takes};
 ghost use Rattle.sat_base.specs.script.Judge.{Judge, start};
-ghost use Rattle.sat_base.specs.script.Script.{Command as Spelled};
+ghost use Rattle.sat_base.specs.script.Script.{Command as Spelled, Malformed};
 ghost use Rattle.certify.specs.answers.Answers.{malformed_line};
 ghost use Rattle.certify.specs.reading.Ahead.{IsOpen, source_in};
 ghost use Rattle.certify.specs.reading.Commands.{IsLent, Means, MeansIf, end_reading};
-ghost use Rattle.sat_base.specs.script.Language.{onto_commands, reading, written};
+ghost use Rattle.sat_base.specs.script.Language.{Reading, onto_commands, reading, written};
+ghost use Rattle.certify.specs.run.Unfinished.{TookFront};
 ghost use Rattle.certify.specs.serving.Calls.{IsReady};
-ghost use Rattle.certify.specs.serving.Standing.{GoesOn, IsAt, ServedNext, WritesBoth};
+ghost use Rattle.certify.specs.serving.Standing.{GoesOn, IsAt, ServedNext, StopsOver, WritesBoth};
 ghost use Rattle.certify.specs.serving.Whole.{Ends, ServesWhole, run_fault};
 
 use super::asking::answer_ask;
@@ -41,6 +42,8 @@ fn serve_next<A: CountedWrite, C: CountedWrite + Drop>(
     requires whole { (c : Spelled) × IsLent command c }
     ensures served { (c : Spelled) → IsLent command.entry c
         → OnOk result (ServedNext C.seen session.old session.new c (A.seen answers.old) (A.seen answers.new)) }
+    ensures stops { (c : Spelled) → IsLent command.entry c → (left : Reading)
+        → StopsOver result session.old (onto_commands (c ∷ []) left) (A.seen answers.old) (A.seen answers.new) }
     ensures written { WritesBoth result C.seen (A.seen answers.old) (A.seen answers.new) session.old.solver session.new.solver }
 {
     if session.commands == u64::MAX {
@@ -57,6 +60,7 @@ fn tell_malformed<A: CountedWrite, C: CountedWrite + Drop>(
 ) -> Result<(), RunFault>
     ensures told { OnOk result (Takes (A.seen answers.old) (A.seen answers.new) (malformed_line number)) }
     ensures same { session.new ≡ record session.old { page = session.new.page } }
+    ensures stops { (j : Judge) → OnErr result (TookFront number j ([], Malformed) (A.seen answers.old) (A.seen answers.new)) }
     ensures written { WritesBoth result C.seen (A.seen answers.old) (A.seen answers.new) session.old.solver session.new.solver }
 {
     session.page.text.clear();
@@ -73,6 +77,7 @@ fn serve_end<A: CountedWrite, C: CountedWrite + Drop>(
     requires { GoesOn session.old }
     ensures serves { (j : Judge) → IsAt session.old j
         → IfOk result (λ at. ServesWhole C.seen j (end_reading end) 0 at session.old session.new (A.seen answers.old) (A.seen answers.new)) }
+    ensures stops { StopsOver result session.old (end_reading end) (A.seen answers.old) (A.seen answers.new) }
     ensures ready { OnOk result (IsReady session.new.solver) }
     ensures written { WritesBoth result C.seen (A.seen answers.old) (A.seen answers.new) session.old.solver session.new.solver }
 {
@@ -104,6 +109,8 @@ fn serve_last<A: CountedWrite, C: CountedWrite + Drop>(
     ensures serves { (c : Spelled) → IsLent command.entry c → (j : Judge) → IsAt session.old j
         → IfOk result (λ at. ServesWhole C.seen j (onto_commands (c ∷ []) (end_reading end)) 1 at session.old session.new
         (A.seen answers.old) (A.seen answers.new)) }
+    ensures stops { (c : Spelled) → IsLent command.entry c
+        → StopsOver result session.old (onto_commands (c ∷ []) (end_reading end)) (A.seen answers.old) (A.seen answers.new) }
     ensures ready { OnOk result (IsReady session.new.solver) }
     ensures written { WritesBoth result C.seen (A.seen answers.old) (A.seen answers.new) session.old.solver session.new.solver }
 {

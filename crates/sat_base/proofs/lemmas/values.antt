@@ -1,2 +1,3 @@
 pub mod HashLemmas
 pub mod FlatLemmas
+pub mod TableLemmas

@@ -1,3 +1,4 @@
+pub mod Mixing
 pub mod Order
 pub mod Parts
 pub mod Walks

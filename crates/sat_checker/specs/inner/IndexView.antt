@@ -1,7 +1,7 @@
 -- What an index of pairs has of slots.
 use Rattle.std.specs.Prelude.{ℕ, ◌≡◌, ◌+◌, ◌<◌, ◌==◌, not, filter, List, [], ◌∷◌, length, if◌then◌else◌}
 use Rattle.std.specs.List.{AllByRecursion}
-use Rattle.sat_checker.specs.inner.PairView.{Indexed, AreInOrder, places_in}
+use Rattle.sat_checker.specs.inner.PairView.{Indexed, AreInOrder, places_in, mixed}
 use Rattle.sat_checker.specs.inner.SlotView.{Slot, is_gone, places_of}
 use Rattle.sat_checker.specs.declared.links.Pair.{Pair}
 
@@ -11,14 +11,14 @@ without_place place = filter (λ p. not (p == place))
 -- the pairs of the clauses that aren't gone, the first slot being at this place
 abbrev pub pairs_from : ℕ → List Slot → List Pair
 pairs_from place [] = []
-pairs_from place (s ∷ ss) = if is_gone s then pairs_from (place + 1) ss else (record { hash = s.hash; place = place }) ∷ pairs_from (place + 1) ss
+pairs_from place (s ∷ ss) = if is_gone s then pairs_from (place + 1) ss else (record { hash = mixed s.hash; place = place }) ∷ pairs_from (place + 1) ss
 
 abbrev pub pairs_of : List Slot → List Pair
 pairs_of slots = pairs_from 0 slots
 
--- the clauses that aren't gone are found by their hashes, and each slot has its place
+-- the clauses that aren't gone are found by their mixed hashes, and each slot has its place
 pub record Files (index : Indexed) (slots : List Slot) : Type 0 where
-  pub filed : (hash : ℕ) → places_in hash index.pairs ≡ places_of hash slots
+  pub filed : (hash : ℕ) → places_in (mixed hash) index.pairs ≡ places_of hash slots
   pub places : index.places ≡ length slots
   pub in_order : AreInOrder index.pairs
   pub below : AllByRecursion (λ p. p.place < index.places) index.pairs

@@ -91,8 +91,8 @@ place_before place [] = None
 place_before place (p ∷ []) = None
 place_before place (p ∷ q ∷ qs) = if q.place == place then Some p.place else place_before place (q ∷ qs)
 
--- what is kept of pairs whose hashes have so many bits, of which so many don't tell the head
-pub record AreKeptPairs (heads : List ℕ) (links : List Link) (bits shift : ℕ) : Type 0 where
+-- what is kept of pairs of whose hashes so many bits don't tell the head
+pub record AreKeptPairs (heads : List ℕ) (links : List Link) (shift : ℕ) : Type 0 where
   pub linked : AreLinked heads links shift
-  pub width : bits ≤ 64
+  pub few : 33 ≤ shift
   pub below : shift < 64

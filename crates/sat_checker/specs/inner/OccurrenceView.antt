@@ -1,5 +1,6 @@
 -- How often literals stand in clauses, and what is kept of it.
-use Rattle.std.specs.Prelude.{ℕ, ◌≡◌, ◌+◌, ◌==◌, List, [], ◌∷◌, slice_index_or, if◌then◌else◌}
+use Rattle.std.specs.Prelude.{ℕ, ◌≡◌, ◌+◌, ◌==◌, List, [], ◌∷◌, if◌then◌else◌}
+use Rattle.sat_base.specs.values.Tables.{value_at}
 use Rattle.sat_checker.specs.inner.IndexView.{Files}
 use Rattle.sat_checker.specs.inner.PairView.{Indexed}
 use Rattle.sat_checker.specs.inner.SlotView.{Slot, is_gone}
@@ -16,7 +17,7 @@ times_stored l [] = 0
 times_stored l (s ∷ ss) = (if is_gone s then 0 else times_in l s.clause.literals) + times_stored l ss
 
 abbrev pub count_at : Occurrences → ℕ → ℕ
-count_at kept l = slice_index_or kept.counts.items l 0
+count_at kept l = value_at 0 kept.counts l
 
 -- the clauses that aren't gone are found by their hashes, and their literals are counted
 pub record AreKept (slots : List Slot) (index : Indexed) (kept : Occurrences) : Type 0 where

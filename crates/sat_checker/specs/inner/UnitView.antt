@@ -1,5 +1,6 @@
 -- What the store's units mean.
-use Rattle.std.specs.Prelude.{ℕ, ◌≡◌, ◌==◌, ◌-◌, ◌^◌, List, Option, None, Some, map, reverse, slice_index_or, if◌then◌else◌}
+use Rattle.std.specs.Prelude.{ℕ, ◌≡◌, ◌==◌, ◌-◌, ◌^◌, List, Option, None, Some, map, reverse, if◌then◌else◌}
+use Rattle.sat_base.specs.values.Tables.{value_at}
 use Rattle.sat_checker.specs.Stored.{StoredUnit}
 use Rattle.sat_checker.specs.Storing.{unit_id}
 use Rattle.sat_checker.specs.declared.unit_ids.UnitIds.{UnitIds}
@@ -14,7 +15,7 @@ id_of n = if n == 2 ^ 64 - 1 then None else Some n
 
 -- the id that stands by a literal
 abbrev pub id_at : UnitIds → ℕ → Option ℕ
-id_at ids l = id_of (slice_index_or ids.ids.items l (2 ^ 64 - 1))
+id_at ids l = id_of (value_at (2 ^ 64 - 1) ids.ids l)
 
 -- each unit is assumed, and its id stands by its literal
 pub record AreUnits (list : List Unit) (ids : UnitIds) (assigned : List ℕ) : Type 0 where

@@ -1,8 +1,9 @@
 -- What the code keeps of variables.
-use Rattle.std.specs.Prelude.{ℕ, ◌≡◌, ◌↔◌, Bool, true, if◌then◌else◌, List, Option, None, Some, slice_index_or}
+use Rattle.std.specs.Prelude.{ℕ, ◌≡◌, ◌↔◌, Bool, true, if◌then◌else◌, List, Option, None, Some}
 use Rattle.std.specs.Bool.{MatchBool}
 use Rattle.std.specs.List.{AllByRecursion}
 use Rattle.sat_base.specs.values.Literals.{variable}
+use Rattle.sat_base.specs.values.Tables.{value_at}
 use Rattle.sat_base.specs.steps.Steps.{Step}
 use Rattle.sat_checker.specs.Stored.{Stored, Variable, Mode}
 use Rattle.sat_checker.specs.Accepts.{Accepts, effect}
@@ -24,10 +25,10 @@ abbrev pub unknown_data : VarData
 unknown_data = record { known = stored.unknown.known; mode = code.Sample; name = None }
 
 abbrev pub variable_at : Variables → ℕ → Variable
-variable_at vs v = variable_of (slice_index_or vs.data.items v unknown_data)
+variable_at vs v = variable_of (value_at unknown_data vs.data v)
 
 abbrev pub holder_at : Variables → ℕ → Option ℕ
-holder_at vs name = slice_index_or vs.holders.items name None
+holder_at vs name = value_at None vs.holders name
 
 abbrev pub known_if : Bool → Variable → Variable
 known_if b x = if b then record x { known = true } else x

@@ -10,17 +10,6 @@ use Rattle.sat_checker.proofs.lemmas.store.Mentions.{times_some, times_none}
 use Rattle.sat_hints.specs.Hints.{is_long}
 use Rattle.sat_hints.specs.inner.Clauses.{times_long, times_kept}
 
--- a short clause isn't counted
-pub times_short : (l : ℕ) (c : List ℕ) → length c < 2 → times_long l c ≡ 0
-times_short l [] h = refl
-times_short l (x ∷ []) h = refl
-times_short l (x ∷ y ∷ ys) h = absurd (omega arith)
-
-pub times_of_long : (l : ℕ) (c : List ℕ) → 2 ≤ length c → times_long l c ≡ times_in l c
-times_of_long l [] h = absurd (omega arith)
-times_of_long l (x ∷ []) h = absurd (omega arith)
-times_of_long l (x ∷ y ∷ ys) h = refl
-
 -- once at most in a sorted set
 pub times_one : (l : ℕ) (c : List ℕ) → IsIncreasing c → times_long l c ≤ 1
 times_one l [] h = omega arith
@@ -112,10 +101,6 @@ mentions_counted v c e m =
     let b = long_as (2 * v + 1) c e in
     let n : 0 < times_in (2 * v) c + times_in (2 * v + 1) c = times_some v c m in
     omega (arith, a, b, n)
-
--- THE FIRST CLAUSES
-pub times_none_yet : (l : ℕ) (cs : List (List ℕ)) (gs : List Bool) → times_kept l (take 0 cs) (take 0 gs) ≡ 0
-times_none_yet l cs gs = refl
 
 pub times-more : (l : ℕ) (cs : List (List ℕ)) (gs : List Bool) (i : ℕ) → length gs ≡ length cs → i < length cs
     → times_kept l (take (i + 1) cs) (take (i + 1) gs) ≡ times_kept l (take i cs) (take i gs) + cond (get_or gs i false) 0 (times_long l (get_or cs i []))

@@ -1,7 +1,6 @@
 -- What the course of clauses under assumed literals says.
-use Rattle.std.proofs.Common.{ℕ, ◌+◌, ◌<◌, ◌≡◌, Bool, true, false, not, ◌||◌, cond, eqb, List, [], ◌∷◌, length, drop, get_or, map, Option, None, Some, refl, sym, ◌∙◌, ap, subst, arith, ◌⊎◌, inl, inr}
+use Rattle.std.proofs.Common.{ℕ, ◌≡◌, Bool, true, false, not, ◌||◌, cond, eqb, List, [], ◌∷◌, Option, None, Some, refl, sym, ◌∙◌, ap, subst, ◌⊎◌, inl, inr}
 use Rattle.std.proofs.lemmas.Bool.{or_cases, or_left, or_right, both_ways, eqb-true, eq-eqb, true≢false, or_parts}
-use Rattle.std.proofs.lemmas.List.{drop_more, drop_all}
 use Rattle.std.specs.List.{AllByRecursion}
 use Rattle.sat_base.specs.values.Literals.{negated}
 use Rattle.sat_checker.specs.LiteralSets.{is_among}
@@ -185,26 +184,3 @@ same_course (c ∷ d ∷ ds) us vs same = ap (λ v. at_turn v (λ l. course (l �
     go ih rests = refl
 
 -- AT PLACES
-module _ (clause_at : ℕ → List ℕ) (places : List ℕ) (i : ℕ) where
-  next_place : i < length places → map clause_at (drop i places) ≡ clause_at (get_or places i 0) ∷ map clause_at (drop (i + 1) places)
-  next_place inside = ap (map clause_at) (drop_more places i 0 inside)
-
-  next_two : i + 1 < length places → map clause_at (drop i places) ≡ clause_at (get_or places i 0) ∷ clause_at (get_or places (i + 1) 0) ∷ map clause_at (drop (i + 1 + 1) places)
-  next_two more = next_place (omega arith) ∙ ap (λ ps. clause_at (get_or places i 0) ∷ map clause_at ps) (drop_more places (i + 1) 0 more)
-
-  pub course_opens : (whole : Option HintWhy) (mid : List ℕ) (l : ℕ) → i + 1 < length places → whole ≡ course mid (map clause_at (drop i places)) → verdict mid (clause_at (get_or places i 0)) ≡ opens l → whole ≡ course (l ∷ mid) (map clause_at (drop (i + 1) places))
-  course_opens whole mid l more h e =
-      h ∙ ap (course mid) (next_two more) ∙ ap (λ v. at_turn v (λ l. course (l ∷ mid) (clause_at (get_or places (i + 1) 0) ∷ map clause_at (drop (i + 1 + 1) places)))) e
-      ∙ ap (λ ps. course (l ∷ mid) (map clause_at ps)) (sym (drop_more places (i + 1) 0 more))
-
-  pub course_stops : (whole : Option HintWhy) (mid : List ℕ) → i + 1 < length places → whole ≡ course mid (map clause_at (drop i places)) → (verdict mid (clause_at (get_or places i 0)) ≡ falsified) ⊎ (verdict mid (clause_at (get_or places i 0)) ≡ rests) → Some NotUnit ≡ whole
-  course_stops whole mid more h e = sym (h ∙ ap (course mid) (next_two more) ∙ go e)
-    where
-      go : (verdict mid (clause_at (get_or places i 0)) ≡ falsified) ⊎ (verdict mid (clause_at (get_or places i 0)) ≡ rests) → course mid (clause_at (get_or places i 0) ∷ clause_at (get_or places (i + 1) 0) ∷ map clause_at (drop (i + 1 + 1) places)) ≡ Some NotUnit
-      go (inl f) = ap (λ v. at_turn v (λ l. course (l ∷ mid) (clause_at (get_or places (i + 1) 0) ∷ map clause_at (drop (i + 1 + 1) places)))) f
-      go (inr f) = ap (λ v. at_turn v (λ l. course (l ∷ mid) (clause_at (get_or places (i + 1) 0) ∷ map clause_at (drop (i + 1 + 1) places)))) f
-
-  pub course_ends : (whole : Option HintWhy) (mid : List ℕ) → i + 1 ≡ length places → whole ≡ course mid (map clause_at (drop i places)) → whole ≡ at_last (verdict mid (clause_at (get_or places i 0)))
-  course_ends whole mid last h =
-      let none : drop (i + 1) places ≡ [] = drop_all (i + 1) places (omega arith) in
-      h ∙ ap (course mid) (next_place (omega arith)) ∙ ap (λ ps. course mid (clause_at (get_or places i 0) ∷ map clause_at ps)) none

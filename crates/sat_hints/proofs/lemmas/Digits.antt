@@ -82,11 +82,6 @@ module _ (limit : ℕ) (fits : limit < 2 ^ 64) where
       let i : n ≤ limit = k.1 in
       omega arith
 
--- a number that has begun has its digits
-pub begun : (number : ℕ) → 0 < number → digits_so_far number ≡ decimal number
-begun zero h = absurd (omega arith)
-begun (suc number) h = refl
-
 plain_so_far : (number : ℕ) → number < 2 ^ 64 → Plain (digits_so_far number)
 plain_so_far zero h = tt
 plain_so_far (suc number) h = plain_number (suc number) h

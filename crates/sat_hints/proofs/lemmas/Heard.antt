@@ -58,9 +58,6 @@ put_sent text a b e d h = subst (λ f. PutBy f text a.sink b.sink) d (subst (λ 
 put_broken : (text : List ℕ) (a b : Outlet) → a.failed ≡ false → b.failed ≡ true → Put text a b → Broken a.sink b.sink text
 put_broken text a b e d h = subst (λ f. PutBy f text a.sink b.sink) d (subst (λ f. PutFrom f text a b) e h)
 
-itself : (t : Told) → SameTold t t
-itself t = record { announcement = refl; names = λ v. refl; modes = λ v. refl }
-
 module _ {W P T : Type 0} (seen : W → Writer) (Takes : P → Told → Result Unit Error → P → Type 0) (Reads : T → Transcribed → Result Unit Error → T → Type 0) where
   abbrev Hears : Hearers (LineWriter W) (Processing P T) → Told → Result Unit ProcessingError → Hearers (LineWriter W) (Processing P T) → Type 0
   Hears = HearsFirst (TakesTold seen) (HearsEach Takes Reads)

@@ -10,7 +10,7 @@ use Rattle.sat_hints.specs.inner.Holding.{IsWholeLine, TakesBytes, HasRead, HasF
 use Rattle.sat_hints.specs.declared.answer.HintWhy.{HintWhy}
 use Rattle.sat_hints.specs.declared.answer.HintWhy.TheVariants.{Syntax}
 use Rattle.sat_hints.specs.declared.answer.HintVerdict.{HintVerdict}
-use Rattle.sat_hints.specs.declared.answer.HintVerdict.TheVariants.{Proved, Bad}
+use Rattle.sat_hints.specs.declared.answer.HintVerdict.TheVariants.{Bad}
 use Rattle.sat_hints.specs.declared.checking.Checking.{Checking}
 
 -- no LF in both
@@ -83,18 +83,6 @@ reads_behind why a b xs ys h text r =
 pub reads_none : (c : Checking) → Reads None c [] c
 reads_none c text r = subst (HasRead c) (sym (append-nil text)) r
 
--- THE END OF A TEXT
-pub ends_well : (c : Checking) (text : List ℕ) → c.held.items ≡ [] → HasRead c text → Judges (Proved c.judge.empty c.judge.cores c.judge.lines) text
-ends_well c text e r = record {
-  all = r.lines;
-  whole = r.whole ∙ ap (λ x. text_of r.lines ++ x) e ∙ append-nil (text_of r.lines);
-  are = r.are;
-  derivation = r.derivation;
-  says_empty = r.taken.says_empty;
-  counts_cores = r.taken.counts_cores;
-  counts_lines = r.taken.counts_lines;
-}
-
 -- each line has its LF
 no_end_second : (xs ys : List ℕ) → HasNoEnd (xs ++ ys) → HasNoEnd ys
 no_end_second [] ys h = h
@@ -128,10 +116,6 @@ ends_badly c text v is some r = subst (λ v. Judges v text) (sym (is (length r.l
 pub says_fault : (c : Checking) (text : List ℕ) (why : HintWhy) (v : HintVerdict) → ((count : ℕ) → c.judge.lines ≡ held count → v ≡ Bad (held (count + 1)) why) → HasFault c text why → (rest : List ℕ) → Judges v (text ++ rest)
 says_fault c text why v is f rest = subst (λ v. Judges v (text ++ rest)) (sym (is f.count f.number)) (f.bad rest)
 
--- WHERE A LINE ENDS
-pub none_ends : (bytes : List ℕ) → HasNoEnd (take 0 bytes)
-none_ends bytes = tt
-
 pub goes_on : (bytes : List ℕ) (i : ℕ) → i < length bytes → (get_or bytes i 0 ≡ 10 → ⊥) → HasNoEnd (take i bytes) → HasNoEnd (take (i + 1) bytes)
 goes_on bytes i h other k = rw (take_more bytes i 0 h) (no_end_both (take i bytes) (get_or bytes i 0 ∷ []) k (other, tt))
 
@@ -144,7 +128,3 @@ no_line bytes i h k = subst HasNoEnd (take_all i bytes h) k
 -- a line is taken off the front of a piece
 pub split_off : (piece front rest line behind : List ℕ) (end : ℕ) → piece ≡ front ++ rest → line ≡ take end rest → behind ≡ drop end rest → piece ≡ (front ++ line) ++ behind
 split_off piece front rest line behind end e f g = rw (f, g) (e ∙ ap (λ x. front ++ x) (sym (take-append-drop end rest)) ∙ sym (append_assoc front (take end rest) (drop end rest)))
-
--- before the first byte
-pub starts : (c : Checking) → c.held.items ≡ [] → HasTaken c.judge [] → HasRead c []
-starts c e t = record { lines = []; whole = sym e; inside = subst HasNoEnd (sym e) tt; are = tt; derivation = tt; taken = t }

@@ -1,5 +1,5 @@
 -- Clauses by ids that rise.
-use Rattle.std.proofs.Common.{ℕ, zero, suc, ◌+◌, ◌<◌, ◌≤◌, ◌≡◌, Bool, true, false, cond, eqb, List, [], ◌∷◌, ◌++◌, length, take, get_or, set, Option, None, Some, Ok, Err, refl, sym, ◌∙◌, ap, subst, arith, inl, inr}
+use Rattle.std.proofs.Common.{ℕ, zero, suc, ◌+◌, ◌<◌, ◌≤◌, ◌≡◌, Bool, true, false, cond, eqb, List, [], ◌∷◌, ◌++◌, length, take, get_or, set, None, Some, Ok, Err, refl, sym, ◌∙◌, ap, subst, arith, inl, inr}
 use Rattle.std.proofs.lemmas.Bool.{eqb-true, eq-eqb, cases_eq, cases_lt}
 use Rattle.std.proofs.lemmas.List.{get_or-take, length-set, length-take-le, take_more, take_all}
 use Rattle.sat_hints.specs.declared.present.Present.{Present}
@@ -176,9 +176,6 @@ module _ (p : Present) (s : IsStore p) (id : ℕ) (xs : List ℕ) (is : xs ≡ p
         | inr b ↦ let k = high i b l in omega arith
       ])
 
-pub some_not_none : (o : Option (List ℕ)) (c : List ℕ) → o ≡ Some c → o ≡ None → ⊥
-some_not_none o c e f = cc
-
 -- a clause is taken out
 pub loses : (old new : Present) (place : ℕ) → IsStore old → place < length old.clauses → new.ids.items ≡ old.ids.items → new.gone.items ≡ set old.gone.items place true → new.clauses ≡ old.clauses → Loses old new (get_or old.ids.items place 0)
 loses old new place s l i g c =
@@ -200,9 +197,6 @@ loses old new place s l i g c =
     there d false f e = λ m.
         let is : get_or old.clauses place [] ≡ d = cc in
         subst (λ x. times_kept m old.clauses (set old.gone.items place true) + times_long m x ≡ times_kept m old.clauses old.gone.items) is (times-gone m old.clauses old.gone.items place (s.gone ∙ sym s.clauses) l f)
-
-pub keeps_itself : (p : Present) → IsStore p → Keeps p p
-keeps_itself p s = record { store = s; below = λ k h. h; clauses = λ j. refl; times = λ l. refl }
 
 pub loses_further : (old mid new : Present) (id : ℕ) → Loses old mid id → Keeps mid new → Loses old new id
 loses_further old mid new id l k = record { store = k.store; below = λ b h. k.below b (l.below b h); clauses = λ j. k.clauses j ∙ l.clauses j; times = λ c e m. ap (λ n. n + times_long m c) (k.times m) ∙ l.times c e m }

@@ -8,7 +8,7 @@ use Rattle.sat_base.specs.values.Literals.{negated, variable, is_positive}
 use Rattle.sat_base.specs.text.Text.{lines, onto_first}
 use Rattle.sat_base.specs.dimacs.DimacsText.{number_text}
 use Rattle.sat_checker.specs.LiteralSets.{is_among, is_tautology}
-use Rattle.sat_checker.specs.Propagation.{IsFalsified, IsUnit, UnitInTurn}
+use Rattle.sat_checker.specs.Propagation.{IsUnit, UnitInTurn}
 use Rattle.sat_hints.specs.Lines.{Line, Input, Derived, Gone, Core, Fresh, AreIds, AreLiterals, IsLine, AreLines, words, id_text, id_words, literal_words, line_text, text_of, HasNoEnd, BeginsWithLine, ended, cut_off}
 use Rattle.sat_hints.specs.Hints.{named_ids, clauses_under, assumed_by, Conflicts, ConflictsIf, Follows, IsHintDerivation}
 use Rattle.sat_hints.specs.Checks.{SomeIsNotUnit, LastIsNotFalsified, IsFaultOf, IsAtFault}
@@ -30,9 +30,6 @@ same_unit assumed clause l m u v = elim (all_at (λ x. (x ≡ l) ⊎ (is_among a
   | inl e ↦ e
   | inr k ↦ absurd (both_ways (is_among assumed (negated m)) v.not_false k)
 ]
-
-not_falsified : (assumed clause : List ℕ) (l : ℕ) → IsUnit assumed clause l → IsFalsified assumed clause → ⊥
-not_falsified assumed clause l u f = both_ways (is_among assumed (negated l)) u.not_false (all_at (λ x. is_among assumed (negated x) ≡ true) clause l f u.within)
 
 turn_not_unit : (cs : List (List ℕ)) (assumed : List ℕ) → UnitInTurn assumed cs → SomeIsNotUnit assumed cs → ⊥
 turn_not_unit [] assumed t s = t
@@ -69,10 +66,6 @@ module _ (earlier : List Line) (line : Line) (f : Follows earlier line) where
   never_at_fault NotUnit h = turn_not_unit h.clauses h.assumed (conflict_at h.assumed h.clauses h.assumes h.present h.consistent) h.fails
   never_at_fault NotFalsified h = turn_not_last h.clauses h.assumed (conflict_at h.assumed h.clauses h.assumes h.present h.consistent) h.fails
   never_at_fault VarInUse h = f.unused h
-
--- A LINE'S TEXT IS THAT OF NO OTHER
-end : List ℕ
-end = 48 ∷ 10 ∷ []
 
 no_literal : (rest : List ℕ) → NoWord number_text IsLiteral (48 ∷ rest)
 no_literal rest x t p f = literals_are_words.no_zero x rest t p f

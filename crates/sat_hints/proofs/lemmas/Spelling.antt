@@ -1,8 +1,8 @@
 -- Which bytes are a line.
 use Rattle.std.proofs.Common.{ℕ, ◌≡◌, Bool, true, false, MatchBool, List, [], ◌∷◌, ◌++◌, refl, sym, ◌∙◌, ap, subst, arith, append_assoc}
 use Rattle.sat_base.specs.dimacs.DimacsText.{number_text}
-use Rattle.sat_hints.specs.Lines.{Input, Derived, Gone, Core, Fresh, id_text, id_words, literal_words, Spells}
-use Rattle.sat_hints.specs.inner.LineReading.{IsId, IsVariable, IsLiteral, NoWord, BeginsWithWord, BeginsWithWords, IsOne, IsBoth, IsNoLine}
+use Rattle.sat_hints.specs.Lines.{Input, Derived, Gone, Core, Fresh, id_text, id_words, literal_words}
+use Rattle.sat_hints.specs.inner.LineReading.{IsId, IsVariable, IsLiteral, BeginsWithWord, BeginsWithWords, IsOne, IsBoth, IsNoLine}
 use Rattle.sat_hints.proofs.lemmas.Words.{ended_words, same_word, ids_are_words, literals_are_words}
 
 abbrev end : List ℕ
@@ -45,27 +45,6 @@ both_answer false bytes ls rest behind ids last r e s f = both_no_end bytes ls r
 -- one id in front
 one_id : (id : ℕ) (rest : List ℕ) → id_words (id ∷ []) ++ rest ≡ id_text id ++ (32 ∷ rest)
 one_id id rest = append_assoc (id_text id) (32 ∷ []) rest
-
-pub input_spelt : (bytes rest ls : List ℕ) (id : ℕ) → BeginsWithWord id_text IsId bytes id rest → IsOne rest ls → Spells (105 ∷ 32 ∷ bytes) (Input id ls)
-input_spelt bytes rest ls id b o = (
-  ((b.0, tt), o.0),
-  ap (λ t. 105 ∷ 32 ∷ t) (b.1 ∙ ap (λ t. id_text id ++ (32 ∷ t)) o.1 ∙ sym (one_id id (literal_words ls ++ end))),
-)
-
-pub derived_spelt : (bytes rest ls ids : List ℕ) (id : ℕ) → BeginsWithWord id_text IsId bytes id rest → IsBoth rest ls ids → Spells (100 ∷ 32 ∷ bytes) (Derived id ls ids)
-derived_spelt bytes rest ls ids id b o = (
-  ((b.0, tt), o.0, o.1),
-  ap (λ t. 100 ∷ 32 ∷ t) (b.1 ∙ ap (λ t. id_text id ++ (32 ∷ t)) o.2 ∙ sym (one_id id (literal_words ls ++ (48 ∷ 32 ∷ (id_words ids ++ end))))),
-)
-
-pub gone_spelt : (bytes rest : List ℕ) (id : ℕ) → BeginsWithWord id_text IsId bytes id rest → rest ≡ end → Spells (120 ∷ 32 ∷ bytes) (Gone id)
-gone_spelt bytes rest id b e = ((b.0, tt), ap (λ t. 120 ∷ 32 ∷ t) (b.1 ∙ ap (λ t. id_text id ++ (32 ∷ t)) e ∙ sym (one_id id end)))
-
-pub core_spelt : (bytes ls ids : List ℕ) → IsBoth bytes ls ids → Spells (102 ∷ 32 ∷ bytes) (Core ls ids)
-core_spelt bytes ls ids o = ((o.0, o.1), ap (λ t. 102 ∷ 32 ∷ t) o.2)
-
-pub fresh_spelt : (bytes rest : List ℕ) (v : ℕ) → BeginsWithWord id_text IsVariable bytes v rest → rest ≡ end → Spells (101 ∷ 32 ∷ bytes) (Fresh v)
-fresh_spelt bytes rest v b e = ((b.0, tt), ap (λ t. 101 ∷ 32 ∷ t) (b.1 ∙ ap (λ t. id_text v ++ (32 ∷ t)) e ∙ sym (one_id v end)))
 
 -- what a line of each kind is
 abbrev IsInput : List ℕ → Type 0
@@ -128,27 +107,14 @@ not_fresh bytes never (Derived id ls ids) s = let f = s.1 in let r : ◌≡◌ {
 not_fresh bytes never (Gone id) s = let f = s.1 in let r : ◌≡◌ {A = ℕ} 101 120 = cc in omega arith
 not_fresh bytes never (Core ls ids) s = let f = s.1 in let r : ◌≡◌ {A = ℕ} 101 102 = cc in omega arith
 
--- the id, and what is behind it, is read in one way
-pub no_id : {A : Type 0} (bytes : List ℕ) → NoWord id_text IsId bytes → (id : ℕ) (rest : List ℕ) → BeginsWithWord id_text IsId bytes id rest → A
-no_id bytes none id rest b = absurd (none id rest b.0 b.1)
-
 pub same_id : (bytes : List ℕ) (x y : ℕ) (r s : List ℕ) → BeginsWithWord id_text IsId bytes x r → BeginsWithWord id_text IsId bytes y s → s ≡ r
 same_id bytes x y r s b c = sym (same_word id_text IsId ids_are_words bytes x y r s b c.0 c.1).1
-
-pub input_no_id : (bytes : List ℕ) → NoWord id_text IsId bytes → IsNoLine (105 ∷ 32 ∷ bytes)
-input_no_id bytes none = not_input bytes (λ i. none i.0 i.1 i.3.0 i.3.1)
 
 pub input_refused : (bytes rest : List ℕ) (id : ℕ) → BeginsWithWord id_text IsId bytes id rest → ((ls : List ℕ) → IsOne rest ls → ⊥) → IsNoLine (105 ∷ 32 ∷ bytes)
 input_refused bytes rest id b never = not_input bytes (λ i. never i.2 (subst (λ t. IsOne t i.2) (same_id bytes id i.0 rest i.1 b i.3) i.4))
 
-pub derived_no_id : (bytes : List ℕ) → NoWord id_text IsId bytes → IsNoLine (100 ∷ 32 ∷ bytes)
-derived_no_id bytes none = not_derived bytes (λ i. none i.0 i.1 i.4.0 i.4.1)
-
 pub derived_refused : (bytes rest : List ℕ) (id : ℕ) → BeginsWithWord id_text IsId bytes id rest → ((ls ids : List ℕ) → IsBoth rest ls ids → ⊥) → IsNoLine (100 ∷ 32 ∷ bytes)
 derived_refused bytes rest id b never = not_derived bytes (λ i. never i.2 i.3 (subst (λ t. IsBoth t i.2 i.3) (same_id bytes id i.0 rest i.1 b i.4) i.5))
-
-pub gone_no_id : (bytes : List ℕ) → NoWord id_text IsId bytes → IsNoLine (120 ∷ 32 ∷ bytes)
-gone_no_id bytes none = not_gone bytes (λ i. none i.0 end i.1.0 i.1.1)
 
 pub gone_refused : (bytes rest : List ℕ) (id : ℕ) → BeginsWithWord id_text IsId bytes id rest → (rest ≡ end → ⊥) → IsNoLine (120 ∷ 32 ∷ bytes)
 gone_refused bytes rest id b never = not_gone bytes (λ i. never (sym (same_id bytes id i.0 rest end b i.1)))
@@ -157,19 +123,8 @@ gone_refused bytes rest id b never = not_gone bytes (λ i. never (sym (same_id b
 as_id : (bytes : List ℕ) (v : ℕ) (rest : List ℕ) → BeginsWithWord id_text IsVariable bytes v rest → BeginsWithWord id_text IsId bytes v rest
 as_id bytes v rest b = ((let k = b.0 in omega arith), b.1)
 
-pub fresh_no_variable : (bytes : List ℕ) → NoWord id_text IsVariable bytes → IsNoLine (101 ∷ 32 ∷ bytes)
-fresh_no_variable bytes none = not_fresh bytes (λ i. none i.0 end i.1.0 i.1.1)
-
 pub fresh_refused : (bytes rest : List ℕ) (v : ℕ) → BeginsWithWord id_text IsVariable bytes v rest → (rest ≡ end → ⊥) → IsNoLine (101 ∷ 32 ∷ bytes)
 fresh_refused bytes rest v b never = not_fresh bytes (λ i. never (sym (same_id bytes v i.0 rest end (as_id bytes v rest b) (as_id bytes i.0 end i.1))))
 
 pub core_refused : (bytes : List ℕ) → ((ls ids : List ℕ) → IsBoth bytes ls ids → ⊥) → IsNoLine (102 ∷ 32 ∷ bytes)
 core_refused bytes never = not_core bytes (λ i. never i.0 i.1 i.2)
-
--- no other kind
-pub no_kind : (bytes : List ℕ) → ((t : List ℕ) → bytes ≡ 100 ∷ 32 ∷ t → ⊥) → ((t : List ℕ) → bytes ≡ 120 ∷ 32 ∷ t → ⊥) → ((t : List ℕ) → bytes ≡ 105 ∷ 32 ∷ t → ⊥) → ((t : List ℕ) → bytes ≡ 102 ∷ 32 ∷ t → ⊥) → ((t : List ℕ) → bytes ≡ 101 ∷ 32 ∷ t → ⊥) → IsNoLine bytes
-no_kind bytes d x i f e (Input id ls) s = i (id_words (id ∷ []) ++ (literal_words ls ++ end)) s.1
-no_kind bytes d x i f e (Derived id ls ids) s = d (id_words (id ∷ []) ++ (literal_words ls ++ (48 ∷ 32 ∷ (id_words ids ++ end)))) s.1
-no_kind bytes d x i f e (Gone id) s = x (id_words (id ∷ []) ++ end) s.1
-no_kind bytes d x i f e (Core ls ids) s = f (literal_words ls ++ (48 ∷ 32 ∷ (id_words ids ++ end))) s.1
-no_kind bytes d x i f e (Fresh v) s = e (id_words (v ∷ []) ++ end) s.1

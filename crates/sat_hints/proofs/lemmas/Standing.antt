@@ -1,15 +1,15 @@
 -- The clauses that are present, as they come and go and as variables become new.
-use Rattle.std.proofs.Common.{ℕ, zero, suc, ◌+◌, ◌*◌, ◌<◌, ◌≤◌, ◌^◌, ◌≡◌, ◌≢◌, Bool, true, false, cond, eqb, nat_lt, List, [], ◌∷◌, length, get_or, set, Option, None, Some, refl, sym, ◌∙◌, ap, subst, arith, MatchBool}
+use Rattle.std.proofs.Common.{ℕ, zero, suc, ◌+◌, ◌*◌, ◌<◌, ◌≤◌, ◌^◌, ◌≡◌, ◌≢◌, Bool, true, false, cond, eqb, nat_lt, List, [], ◌∷◌, length, get_or, Option, None, Some, refl, sym, ◌∙◌, ap, subst, arith, MatchBool}
 use Rattle.std.proofs.lemmas.Bool.{eqb-true, eqb-false, lt-ltb, le-ltb}
-use Rattle.std.proofs.lemmas.List.{get_or-set_same, get_or-set_other}
+use Rattle.sat_base.specs.declared.table.Table.{Table}
 use Rattle.sat_base.specs.values.Literals.{variable}
+use Rattle.sat_base.specs.values.Tables.{value_at}
 use Rattle.sat_checker.specs.LiteralSets.{mentions}
 use Rattle.sat_checker.specs.SortedSets.{IsIncreasing}
 use Rattle.sat_hints.specs.Hints.{is_long, unless_unit_over}
-use Rattle.sat_hints.specs.inner.Clauses.{listed, clause_in, clause_at, times_long, times_kept, times_at, AllBelow, IsStore, Adds, Loses}
-use Rattle.sat_hints.specs.inner.Clauses as stock
+use Rattle.sat_hints.specs.inner.Clauses.{clause_in, clause_at, times_long, times_at, AllBelow, IsStore, Adds, Loses}
 use Rattle.sat_hints.specs.inner.UsesView.{if_counting, uses_at}
-use Rattle.sat_hints.specs.inner.Standing.{is_stale, unless_stale, clause_of, SinceWithin, IsStanding, FindsOne, Gains, Drops, Keeps, IsUsed, Forgets}
+use Rattle.sat_hints.specs.inner.Standing.{is_stale, unless_stale, clause_of, SinceWithin, IsStanding, FindsOne, Gains, Drops, IsUsed, Forgets}
 use Rattle.sat_hints.specs.declared.present.Present.{Present}
 use Rattle.sat_hints.specs.declared.standing.Standing.{Standing}
 use Rattle.sat_hints.specs.declared.uses.Uses.{Uses}
@@ -18,39 +18,24 @@ use Rattle.sat_hints.proofs.lemmas.Listed.{stands_at, listed-at}
 
 -- A STALE UNIT
 -- an id that comes is below none
-fresh_unit : (since : List ℕ) (id : ℕ) (c : List ℕ) → ((v : ℕ) → get_or since v 0 ≤ id) → is_stale since id c ≡ false
+fresh_unit : (since : Table ℕ) (id : ℕ) (c : List ℕ) → ((v : ℕ) → value_at 0 since v ≤ id) → is_stale since id c ≡ false
 fresh_unit since id [] h = refl
-fresh_unit since id (l ∷ []) h = le-ltb id (get_or since (variable l) 0) (h (variable l))
+fresh_unit since id (l ∷ []) h = le-ltb id (value_at 0 since (variable l)) (h (variable l))
 fresh_unit since id (l ∷ m ∷ ls) h = refl
 
-long_not_stale : (since : List ℕ) (id : ℕ) (c : List ℕ) → is_long c ≡ true → is_stale since id c ≡ false
+long_not_stale : (since : Table ℕ) (id : ℕ) (c : List ℕ) → is_long c ≡ true → is_stale since id c ≡ false
 long_not_stale since id [] e = refl
 long_not_stale since id (l ∷ []) e = absurd cc
 long_not_stale since id (l ∷ m ∷ ls) e = refl
 
 -- what is present was stored
-pub was_stored : (since : List ℕ) (id : ℕ) (o : Option (List ℕ)) (c : List ℕ) → unless_stale since id o ≡ Some c → o ≡ Some c
+pub was_stored : (since : Table ℕ) (id : ℕ) (o : Option (List ℕ)) (c : List ℕ) → unless_stale since id o ≡ Some c → o ≡ Some c
 was_stored since id None c e = absurd cc
 was_stored since id (Some d) c e = go (is_stale since id d) e
   where
     go : (b : Bool) → cond b None (Some d) ≡ Some c → Some d ≡ Some c
     go true f = absurd cc
     go false f = f
-
--- FINDING
-pub found : (s : Standing) (id place : ℕ) (b : Bool) (clause : List ℕ) → stock.FindsOne s.present id place → clause ≡ clause_at s.present place → b ≡ is_stale s.since.items id clause → b ≡ false → FindsOne s id place
-found s id place b clause f e d n = record {
-  within = f.within;
-  named = f.named;
-  stored = f.clause;
-  clause = ap (unless_stale s.since.items id) f.clause ∙ ap (λ t. cond t None (Some (clause_at s.present place))) (ap (is_stale s.since.items id) (sym e) ∙ sym d ∙ n);
-}
-
-pub found_stale : (s : Standing) (id place : ℕ) (b : Bool) (clause : List ℕ) → stock.FindsOne s.present id place → clause ≡ clause_at s.present place → b ≡ is_stale s.since.items id clause → b ≡ true → clause_of s id ≡ None
-found_stale s id place b clause f e d n = ap (unless_stale s.since.items id) f.clause ∙ ap (λ t. cond t None (Some (clause_at s.present place))) (ap (is_stale s.since.items id) (sym e) ∙ sym d ∙ n)
-
-pub found_none : (s : Standing) (id : ℕ) → clause_in s.present id ≡ None → clause_of s id ≡ None
-found_none s id e = ap (unless_stale s.since.items id) e
 
 -- COMING
 if_more : (b : Bool) (m n k : ℕ) → m ≡ n + k → if_counting b n + if_counting b k ≡ if_counting b m
@@ -68,11 +53,11 @@ gains old new id clause s w a e c u = record {
   };
   below = a.below;
   since = e;
-  clauses = λ j. ap (λ x. unless_stale x.items j (clause_in new.present j)) e ∙ ap (unless_stale old.since.items j) (a.clauses j) ∙ one j (eqb j id) refl;
+  clauses = λ j. ap (λ x. unless_stale x j (clause_in new.present j)) e ∙ ap (unless_stale old.since j) (a.clauses j) ∙ one j (eqb j id) refl;
 }
   where
-    one : (j : ℕ) (b : Bool) → eqb j id ≡ b → unless_stale old.since.items j (cond b (Some clause) (clause_in old.present j)) ≡ cond b (Some clause) (clause_of old j)
-    one j true t = let same : j ≡ id = eqb-true j id t in ap (λ x. cond x None (Some clause)) (subst (λ i. is_stale old.since.items i clause ≡ false) (sym same) (fresh_unit old.since.items id clause w))
+    one : (j : ℕ) (b : Bool) → eqb j id ≡ b → unless_stale old.since j (cond b (Some clause) (clause_in old.present j)) ≡ cond b (Some clause) (clause_of old j)
+    one j true t = let same : j ≡ id = eqb-true j id t in ap (λ x. cond x None (Some clause)) (subst (λ i. is_stale old.since i clause ≡ false) (sym same) (fresh_unit old.since id clause w))
     one j false t = refl
 
 -- there is room for the counts
@@ -126,10 +111,10 @@ module _ (old : Standing) (id place : ℕ) (s : IsStanding old) (f : FindsOne ol
         standing = record { store = l.store; counted = λ m. counts l m };
         below = l.below;
         since = w;
-        clauses = λ j. ap (λ x. unless_stale x.items j (clause_in new.present j)) w ∙ ap (unless_stale old.since.items j) (l.clauses j) ∙ one j (eqb j id);
+        clauses = λ j. ap (λ x. unless_stale x j (clause_in new.present j)) w ∙ ap (unless_stale old.since j) (l.clauses j) ∙ one j (eqb j id);
       }
     where
-      one : (j : ℕ) (b : Bool) → unless_stale old.since.items j (cond b None (clause_in old.present j)) ≡ cond b None (clause_of old j)
+      one : (j : ℕ) (b : Bool) → unless_stale old.since j (cond b None (clause_in old.present j)) ≡ cond b None (clause_of old j)
       one j true = refl
       one j false = refl
 
@@ -161,7 +146,7 @@ module _ (s : Standing) (v : ℕ) (st : IsStore s.present) where
       record {
         id = get_or s.present.ids.items t.place 0;
         clause = c;
-        present = ap (unless_stale s.since.items (get_or s.present.ids.items t.place 0)) at ∙ ap (λ b. cond b None (Some c)) (long_not_stale s.since.items (get_or s.present.ids.items t.place 0) c long);
+        present = ap (unless_stale s.since (get_or s.present.ids.items t.place 0)) at ∙ ap (λ b. cond b None (Some c)) (long_not_stale s.since (get_or s.present.ids.items t.place 0) c long);
         long = long;
         within = within c long t.holds;
       }
@@ -175,7 +160,7 @@ module _ (s : Standing) (v : ℕ) (st : IsStore s.present) where
 
   used_none : both ≡ 0 → IsUsed s v → ⊥
   used_none h u =
-      let e : clause_in s.present u.id ≡ Some u.clause = was_stored s.since.items u.id (clause_in s.present u.id) u.clause u.present in
+      let e : clause_in s.present u.id ≡ Some u.clause = was_stored s.since u.id (clause_in s.present u.id) u.clause u.present in
       let t = stands_at u.id u.clause s.present.ids.items s.present.clauses s.present.gone.items e in
       let g : length s.present.gone.items ≡ length s.present.clauses = st.gone ∙ sym st.clauses in
       let a : times_long (2 * v) (get_or s.present.clauses t.place []) ≤ times_at s.present (2 * v) = times-there (2 * v) s.present.clauses s.present.gone.items t.place g t.within t.there in
@@ -189,16 +174,6 @@ module _ (s : Standing) (v : ℕ) (st : IsStore s.present) where
   used_is true u e h = let a = e (2 * v) in let b = e (2 * v + 1) in used_some (omega (arith, a, b, h))
   used_is false u e h = let a = e (2 * v) in let b = e (2 * v + 1) in used_none (omega (arith, a, b, h))
 
-pub keeps : (old new : Standing) → IsStanding old → new.present ≡ old.present → new.since ≡ old.since → new.uses.counting ≡ true → ((l : ℕ) → uses_at new.uses l ≡ times_at old.present l) → Keeps old new
-keeps old new s p e c u = record {
-  standing = record {
-    store = subst IsStore (sym p) s.store;
-    counted = λ l. u l ∙ ap (λ x. times_at x l) (sym p) ∙ ap (λ b. if_counting b (times_at new.present l)) (sym c);
-  };
-  present = p;
-  since = e;
-}
-
 -- A NEW VARIABLE
 -- what is listed is under an id that is
 below_bound : (p : Present) (bound : ℕ) → IsStore p → AllBelow p.ids.items bound → (id : ℕ) (c : List ℕ) → clause_in p id ≡ Some c → id < bound
@@ -206,15 +181,8 @@ below_bound p bound s h id c e =
     let t = stands_at id c p.ids.items p.clauses p.gone.items e in
     subst (λ i. i < bound) t.named (h t.place (subst (λ n. t.place < n) s.clauses t.within))
 
-pub since_set : (mid old : List ℕ) (v place bound : ℕ) → place ≡ v → place < length mid → ((x : ℕ) → get_or mid x 0 ≡ get_or old x 0) → (x : ℕ) → get_or (set mid place bound) x 0 ≡ cond (eqb x v) bound (get_or old x 0)
-since_set mid old v place bound is inside same x = go (eqb x v) refl
-  where
-    go : (b : Bool) → eqb x v ≡ b → get_or (set mid place bound) x 0 ≡ cond b bound (get_or old x 0)
-    go true e = ap (λ y. get_or (set mid place bound) y 0) (eqb-true x v e ∙ sym is) ∙ get_or-set_same mid place bound 0 inside
-    go false e = get_or-set_other mid place x bound 0 (λ s. eqb-false x v e (s ∙ is)) ∙ same x
-
 module _ (old new : Standing) (v bound : ℕ) (s : IsStanding old) (above : AllBelow old.present.ids.items bound) (w : SinceWithin old bound)
-    (p : new.present ≡ old.present) (u : new.uses ≡ old.uses) (at : (x : ℕ) → get_or new.since.items x 0 ≡ cond (eqb x v) bound (get_or old.since.items x 0)) where
+    (p : new.present ≡ old.present) (u : new.uses ≡ old.uses) (at : (x : ℕ) → value_at 0 new.since x ≡ cond (eqb x v) bound (value_at 0 old.since x)) where
   unit_gone : (l : ℕ) (b : Bool) → eqb (variable l) v ≡ true → unless_unit_over v (cond b None (Some (l ∷ []))) ≡ None
   unit_gone l true e = refl
   unit_gone l false e = ap (λ t. cond t None (Some (l ∷ []))) e
@@ -223,23 +191,23 @@ module _ (old new : Standing) (v bound : ℕ) (s : IsStanding old) (above : AllB
   unit_kept l true e = refl
   unit_kept l false e = ap (λ t. cond t None (Some (l ∷ []))) e
 
-  one_unit : (j l : ℕ) (b : Bool) → j < bound → eqb (variable l) v ≡ b → unless_stale new.since.items j (Some (l ∷ [])) ≡ unless_unit_over v (unless_stale old.since.items j (Some (l ∷ [])))
+  one_unit : (j l : ℕ) (b : Bool) → j < bound → eqb (variable l) v ≡ b → unless_stale new.since j (Some (l ∷ [])) ≡ unless_unit_over v (unless_stale old.since j (Some (l ∷ [])))
   one_unit j l true h e =
-      let a : get_or new.since.items (variable l) 0 ≡ bound = at (variable l) ∙ ap (λ b. cond b bound (get_or old.since.items (variable l) 0)) e in
-      ap (λ b. cond b None (Some (l ∷ []))) (ap (nat_lt j) a ∙ lt-ltb j bound h) ∙ sym (unit_gone l (nat_lt j (get_or old.since.items (variable l) 0)) e)
+      let a : value_at 0 new.since (variable l) ≡ bound = at (variable l) ∙ ap (λ b. cond b bound (value_at 0 old.since (variable l))) e in
+      ap (λ b. cond b None (Some (l ∷ []))) (ap (nat_lt j) a ∙ lt-ltb j bound h) ∙ sym (unit_gone l (nat_lt j (value_at 0 old.since (variable l))) e)
   one_unit j l false h e =
-      let a : get_or new.since.items (variable l) 0 ≡ get_or old.since.items (variable l) 0 = at (variable l) ∙ ap (λ b. cond b bound (get_or old.since.items (variable l) 0)) e in
-      ap (λ n. cond (nat_lt j n) None (Some (l ∷ []))) a ∙ sym (unit_kept l (nat_lt j (get_or old.since.items (variable l) 0)) e)
+      let a : value_at 0 new.since (variable l) ≡ value_at 0 old.since (variable l) = at (variable l) ∙ ap (λ b. cond b bound (value_at 0 old.since (variable l))) e in
+      ap (λ n. cond (nat_lt j n) None (Some (l ∷ []))) a ∙ sym (unit_kept l (nat_lt j (value_at 0 old.since (variable l))) e)
 
-  one_clause : (j : ℕ) (o : Option (List ℕ)) → ((c : List ℕ) → o ≡ Some c → j < bound) → unless_stale new.since.items j o ≡ unless_unit_over v (unless_stale old.since.items j o)
+  one_clause : (j : ℕ) (o : Option (List ℕ)) → ((c : List ℕ) → o ≡ Some c → j < bound) → unless_stale new.since j o ≡ unless_unit_over v (unless_stale old.since j o)
   one_clause j None h = refl
   one_clause j (Some []) h = refl
   one_clause j (Some (l ∷ [])) h = one_unit j l (eqb (variable l) v) (h (l ∷ []) refl) refl
   one_clause j (Some (l ∷ m ∷ ls)) h = refl
 
-  within : (x : ℕ) (b : Bool) → eqb x v ≡ b → get_or new.since.items x 0 ≤ bound
-  within x true e = let a = at x ∙ ap (λ b. cond b bound (get_or old.since.items x 0)) e in omega (arith, a)
-  within x false e = let a = at x ∙ ap (λ b. cond b bound (get_or old.since.items x 0)) e in let k = w x in omega (arith, a, k)
+  within : (x : ℕ) (b : Bool) → eqb x v ≡ b → value_at 0 new.since x ≤ bound
+  within x true e = let a = at x ∙ ap (λ b. cond b bound (value_at 0 old.since x)) e in omega (arith, a)
+  within x false e = let a = at x ∙ ap (λ b. cond b bound (value_at 0 old.since x)) e in let k = w x in omega (arith, a, k)
 
   pub forgets : Forgets old new v bound
   forgets = record {
@@ -249,5 +217,5 @@ module _ (old new : Standing) (v bound : ℕ) (s : IsStanding old) (above : AllB
     };
     present = p;
     since = λ x. within x (eqb x v) refl;
-    clauses = λ j. ap (λ x. unless_stale new.since.items j (clause_in x j)) p ∙ one_clause j (clause_in old.present j) (λ c e. below_bound old.present bound s.store above j c e);
+    clauses = λ j. ap (λ x. unless_stale new.since j (clause_in x j)) p ∙ one_clause j (clause_in old.present j) (λ c e. below_bound old.present bound s.store above j c e);
   }

@@ -1,20 +1,21 @@
 -- What it is for a judge to take a line.
-use Rattle.std.proofs.Common.{ℕ, suc, ◌+◌, ◌-◌, ◌^◌, ◌<◌, ◌≤◌, ◌≡◌, ◌≢◌, Bool, true, false, cond, eqb, ◌||◌, List, [], ◌∷◌, length, get_or, min, map, Option, None, Some, refl, sym, ◌∙◌, ap, subst, arith, inl, inr}
+use Rattle.std.proofs.Common.{ℕ, ◌+◌, ◌-◌, ◌^◌, ◌≤◌, ◌≡◌, ◌≢◌, Bool, true, false, cond, eqb, ◌||◌, List, [], ◌∷◌, length, get_or, min, map, Option, None, Some, refl, sym, ◌∙◌, ap, subst, arith, inl, inr}
 use Rattle.std.proofs.lemmas.Bool.{eqb-true}
 use Rattle.std.specs.List.{AllByRecursion}
 use Rattle.sat_base.specs.text.Tokenizing.{held}
 use Rattle.sat_base.specs.values.Literals.{negated}
+use Rattle.sat_base.specs.values.Tables.{value_at}
 use Rattle.sat_checker.specs.LiteralSets.{canonical, is_tautology}
 use Rattle.sat_checker.specs.SortedSets.{NoRepeats}
 use Rattle.sat_checker.proofs.lemmas.sets.Canonical.{canonical_increasing}
 use Rattle.sat_checker.proofs.lemmas.sets.Marks.{once}
 use Rattle.sat_hints.specs.Lines.{Line, Input, Derived, Gone, Core, Fresh}
-use Rattle.sat_hints.specs.Hints.{and_clauses, unless_unit_over, clause_under, clauses_under, least_id, IsInOrder, named_ids, assumed_by, ConflictsIf, Conflicts, IsInUse, Follows, is_empty, derives_empty, count_of_cores}
+use Rattle.sat_hints.specs.Hints.{and_clauses, unless_unit_over, clause_under, clauses_under, IsInOrder, named_ids, assumed_by, ConflictsIf, Conflicts, IsInUse, Follows, is_empty, derives_empty, count_of_cores}
 use Rattle.sat_hints.specs.Checks.{IsFaultOf}
 use Rattle.sat_hints.specs.inner.Clauses.{clause_in, AllBelow}
 use Rattle.sat_hints.specs.inner.Standing.{unless_stale, clause_of, clauses_of, Drops, Forgets, IsStanding, IsUsed, Keeps, SinceWithin}
 use Rattle.sat_hints.specs.inner.Course.{course, signed, Runs}
-use Rattle.sat_hints.specs.inner.Judging.{IsReady, HasTaken, IsSame, Refutes, StoresClause, TakesOne, TakesLine}
+use Rattle.sat_hints.specs.inner.Judging.{IsReady, HasTaken, IsSame, Refutes, StoresClause, TakesOne}
 use Rattle.sat_hints.specs.declared.answer.HintWhy.{HintWhy}
 use Rattle.sat_hints.specs.declared.answer.HintWhy.TheVariants.{Syntax, IdOrder, UnknownId, NotUnit, NotFalsified, VarInUse}
 use Rattle.sat_hints.specs.declared.judging.Judge.{Judge}
@@ -99,37 +100,16 @@ signed_false : (ls : List ℕ) → signed false ls ≡ ls
 signed_false [] = refl
 signed_false (l ∷ ls) = ap (λ ms. l ∷ ms) (signed_false ls)
 
--- A CLAUSE OF THE FORMULA
-pub out_of_order : (old new : Judge) (id : ℕ) (clause : List ℕ) → new ≡ old → id < old.least_id → TakesOne (Some IdOrder) old new (Input id clause)
-out_of_order old new id clause e l = (ap (λ j. j.lines) e, λ lines t. λ h. let k : old.least_id ≡ least_id lines = t.least in omega arith)
-
 stored_ready : (old new : Judge) (id : ℕ) (clause : List ℕ) → SinceWithin old.standing id → StoresClause old new id clause → IsReady new
 stored_ready old new id clause w s = record {
   standing = s.adds.standing;
   below = subst (AllBelow new.standing.present.ids.items) (sym s.least) (s.adds.below (id + 1) (omega arith));
-  since = subst (SinceWithin new.standing) (sym s.least) (λ v. subst (λ x. get_or x.items v 0 ≤ id + 1) (sym s.adds.since) (let k = w v in omega (arith, k)));
+  since = subst (SinceWithin new.standing) (sym s.least) (λ v. subst (λ x. value_at 0 x v ≤ id + 1) (sym s.adds.since) (let k = w v in omega (arith, k)));
   nothing = s.nothing;
 }
 
 since_later : (old : Judge) (id : ℕ) → IsReady old → old.least_id ≤ id → SinceWithin old.standing id
 since_later old id r l = λ v. let k = r.since v in omega (arith, k, l)
-
-pub input_taken : (old new : Judge) (id : ℕ) (clause : List ℕ) → IsReady old → old.least_id ≤ id → StoresClause old new id clause → TakesOne None old new (Input id clause)
-input_taken old new id clause r l s = (
-  stored_ready old new id clause (since_later old id r l) s,
-  s.lines,
-  λ lines t. record {
-    follows = record { in_order = subst (λ n. n ≤ id) t.least l; clauses = []; present = refl; conflict = tt; unused = λ u. u };
-    clauses = λ j. s.adds.clauses j ∙ ap (λ o. cond (eqb j id) (Some (canonical clause)) o) (t.clauses j);
-    least = s.least;
-    says_empty = s.empty ∙ t.says_empty;
-    counts_cores = s.cores ∙ t.counts_cores;
-  },
-)
-
--- A CLAUSE THAT FOLLOWS
-pub derived_out_of_order : (old new : Judge) (id : ℕ) (clause ids : List ℕ) → new ≡ old → id < old.least_id → TakesOne (Some IdOrder) old new (Derived id clause ids)
-derived_out_of_order old new id clause ids e l = (ap (λ j. j.lines) e, λ lines t. λ h. let k : old.least_id ≡ least_id lines = t.least in omega arith)
 
 derived_refuted : (old : Judge) (id : ℕ) (clause ids : List ℕ) (why : Option HintWhy) → old.least_id ≤ id → Refutes old.standing (signed true clause) ids why → (lines : List Line) → HasTaken old lines → Says_of why lines (Derived id clause ids)
 derived_refuted old id clause ids why l r lines t =
@@ -166,7 +146,7 @@ some_clause (Some c) h = (c, refl)
 
 pub gone_taken : (old new : Judge) (id : ℕ) (p : Standing) → IsReady old → clause_of old.standing id ≢ None → Drops old.standing p id → new ≡ record old { standing = p } → TakesOne None old new (Gone id)
 gone_taken old new id p r h l n = (
-  subst IsReady (sym n) (record { standing = l.standing; below = l.below old.least_id r.below; since = λ v. subst (λ x. get_or x.items v 0 ≤ old.least_id) (sym l.since) (r.since v); nothing = r.nothing }),
+  subst IsReady (sym n) (record { standing = l.standing; below = l.below old.least_id r.below; since = λ v. subst (λ x. value_at 0 x v ≤ old.least_id) (sym l.since) (r.since v); nothing = r.nothing }),
   ap (λ j. j.lines) n,
   λ lines t.
       let c = some_clause (clause_of old.standing id) h in
@@ -178,9 +158,6 @@ gone_taken old new id p r h l n = (
         counts_cores = ap (λ j. j.cores) n ∙ t.counts_cores;
       },
 )
-
-pub gone_faulty : (old new : Judge) (id : ℕ) → clause_of old.standing id ≡ None → new.lines ≡ old.lines → TakesOne (Some UnknownId) old new (Gone id)
-gone_faulty old new id h n = (n, λ lines t. (tt, ap (λ o. and_clauses o (Some [])) (sym (t.clauses id) ∙ h)))
 
 -- A CORE
 core_refuted : (old : Judge) (core ids : List ℕ) (why : Option HintWhy) → Refutes old.standing (signed false core) ids why → (lines : List Line) → HasTaken old lines → Says_of why lines (Core core ids)
@@ -218,7 +195,7 @@ pub fresh_faulty : (old new : Judge) (v : ℕ) → IsUsed old.standing v → new
 fresh_faulty old new v u n = (n, λ lines t. record { id = u.id; clause = u.clause; present = sym (t.clauses u.id) ∙ u.present; long = u.long; within = u.within })
 
 same_of : (old mid : Standing) → Keeps old mid → (j : ℕ) → clause_of mid j ≡ clause_of old j
-same_of old mid k j = ap (λ x. unless_stale x.items j (clause_in mid.present j)) k.since ∙ ap (λ x. unless_stale old.since.items j (clause_in x j)) k.present
+same_of old mid k j = ap (λ x. unless_stale x j (clause_in mid.present j)) k.since ∙ ap (λ x. unless_stale old.since j (clause_in x j)) k.present
 
 pub fresh_taken : (old new : Judge) (v : ℕ) (mid last : Standing) → IsReady old → (IsUsed old.standing v → ⊥) → Keeps old.standing mid → Forgets mid last v old.least_id → new ≡ record old { standing = last } → TakesOne None old new (Fresh v)
 fresh_taken old new v mid last r none k f n = (
@@ -237,26 +214,3 @@ fresh_taken old new v mid last r none k f n = (
     counts_cores = ap (λ j. j.cores) n ∙ t.counts_cores;
   },
 )
-
--- THE NUMBER OF A LINE
-one_longer : (n count m : ℕ) → n ≡ held count → m ≡ min (n + 1) (2 ^ 64 - 1) → m ≡ held (suc count)
-one_longer n count m e f = omega arith
-
-pub line_taken : (old mid new : Judge) (line : Line) (n : ℕ) → TakesOne None old mid line → n ≡ min (mid.lines + 1) (2 ^ 64 - 1) → new ≡ record mid { lines = n } → (lines : List Line) → HasTaken old lines → TakesLine None old new lines line
-line_taken old mid new line n h f e lines t =
-    let k = h.2 lines t in (
-      k.follows,
-      record {
-        clauses = λ j. ap (λ k. clause_of k.standing j) e ∙ k.clauses j;
-        least = ap (λ j. j.least_id) e ∙ k.least;
-        says_empty = ap (λ j. j.empty) e ∙ k.says_empty;
-        counts_cores = ap (λ j. j.cores) e ∙ k.counts_cores;
-        counts_lines = ap (λ j. j.lines) e ∙ one_longer mid.lines (length lines) n (h.1 ∙ t.counts_lines) f;
-      },
-    )
-
-pub line_ready : (old mid new : Judge) (line : Line) (n : ℕ) → TakesOne None old mid line → new ≡ record mid { lines = n } → IsReady new
-line_ready old mid new line n h e = subst IsReady (sym e) (record { standing = h.0.standing; below = h.0.below; since = h.0.since; nothing = h.0.nothing })
-
-pub line_faulty : (old new : Judge) (line : Line) (why : HintWhy) → TakesOne (Some why) old new line → (lines : List Line) → HasTaken old lines → TakesLine (Some why) old new lines line
-line_faulty old new line why h lines t = (h.1 lines t, h.0)

@@ -1,10 +1,10 @@
 -- Words, each with a space behind it, are read in one way.
-use Rattle.std.proofs.Common.{ℕ, ◌+◌, ◌*◌, ◌/◌, ◌%◌, ◌^◌, ◌<◌, ◌≡◌, Bool, true, false, cond, eqb, List, [], ◌∷◌, ◌++◌, length, get_or, decimal, refl, sym, ◌∙◌, ap, subst, arith, append_assoc}
+use Rattle.std.proofs.Common.{ℕ, ◌+◌, ◌/◌, ◌%◌, ◌^◌, ◌<◌, ◌≡◌, Bool, true, false, cond, eqb, List, [], ◌∷◌, ◌++◌, length, get_or, decimal, refl, sym, ◌∙◌, ap, subst, arith, append_assoc}
 use Rattle.std.proofs.lemmas.Fmt.{decimal_injective, decimal_nonempty, first_decimal}
 use Rattle.std.proofs.lemmas.Str.Parse.{digit_from_value}
 use Rattle.std.specs.List.{AllByRecursion}
 use Rattle.std.specs.Str.Parse.{AllDigits}
-use Rattle.sat_base.specs.values.Literals.{largest, variable, is_positive, coded}
+use Rattle.sat_base.specs.values.Literals.{variable, is_positive}
 use Rattle.sat_base.specs.dimacs.DimacsText.{number_text}
 use Rattle.sat_hints.specs.Lines.{words, id_text}
 use Rattle.sat_hints.specs.inner.LineReading.{IsId, IsVariable, IsLiteral, NoWord, BeginsWithWord, BeginsWithWords}
@@ -72,17 +72,11 @@ module _ (word : ℕ → List ℕ) (P : ℕ → Type 0) where
     pub are : AllByRecursion P xs
     pub whole : bytes ≡ words word xs ++ rest
 
-  pub read_none : (bytes xs : List ℕ) → xs ≡ [] → ReadSoFar bytes xs bytes
-  read_none bytes xs e = record { are = rw e tt; whole = rw e refl }
-
   pub read_one : (bytes xs rest : List ℕ) (x : ℕ) (behind ys : List ℕ) → ReadSoFar bytes xs rest → BeginsWithWord word P rest x behind → ys ≡ xs ++ (x ∷ []) → ReadSoFar bytes ys behind
   read_one bytes xs rest x behind ys r b e = rw e (record {
     are = all-snoc xs x r.are b.0;
     whole = r.whole ∙ ap (λ t. words word xs ++ t) b.1 ∙ sym (words-snoc xs x behind);
   })
-
-  pub read_all : (bytes xs rest : List ℕ) → ReadSoFar bytes xs rest → NoWord word P rest → BeginsWithWords word P bytes xs rest
-  read_all bytes xs rest r n = record { are = r.are; whole = r.whole; no_more = n }
 
 -- IDs
 id_first : (ds : List ℕ) (rest tail : List ℕ) → 0 < length ds → 48 < get_or ds 0 0 → 48 ∷ rest ≡ ds ++ (32 ∷ tail) → ⊥
@@ -139,30 +133,3 @@ no_negative_word bytes behind e none l tail p f = go (is_positive l) f
     go : (s : Bool) → bytes ≡ (cond s [] (45 ∷ []) ++ decimal (l / 2 + 1)) ++ (32 ∷ tail) → ⊥
     go true f = no_sign (l / 2 + 1) tail behind (omega arith) (sym f ∙ e)
     go false f = none (l / 2) tail (omega arith) (let r : 45 ∷ behind ≡ 45 ∷ (decimal (l / 2 + 1) ++ (32 ∷ tail)) = sym e ∙ f in let t : behind ≡ decimal (l / 2 + 1) ++ (32 ∷ tail) = cc in t)
-
-pub no_positive_word : (bytes : List ℕ) → ((tail : List ℕ) → bytes ≡ 45 ∷ tail → ⊥) → NoWord id_text IsVariable bytes → NoWord number_text IsLiteral bytes
-no_positive_word bytes sign none l tail p f = go (is_positive l) f
-  where
-    go : (s : Bool) → bytes ≡ (cond s [] (45 ∷ []) ++ decimal (l / 2 + 1)) ++ (32 ∷ tail) → ⊥
-    go true f = none (l / 2) tail (omega arith) f
-    go false f = sign (decimal (l / 2 + 1) ++ (32 ∷ tail)) f
-
-coded_text : (v : ℕ) (s : Bool) → number_text (coded v s) ≡ cond s [] (45 ∷ []) ++ decimal (v + 1)
-coded_text v true =
-    let e : (2 * v + 0) % 2 ≡ 0 = omega arith in
-    let f : (2 * v + 0) / 2 ≡ v = omega arith in
-    rw (e, f) refl
-coded_text v false =
-    let e : (2 * v + 1) % 2 ≡ 1 = omega arith in
-    let f : (2 * v + 1) / 2 ≡ v = omega arith in
-    rw (e, f) refl
-
-coded_small : (v : ℕ) (s : Bool) → v < largest → coded v s < 2 * largest
-coded_small v true h = omega arith
-coded_small v false h = omega arith
-
-pub positive_word : (v l : ℕ) (bytes rest : List ℕ) → l ≡ coded v true → BeginsWithWord id_text IsVariable bytes v rest → BeginsWithWord number_text IsLiteral bytes l rest
-positive_word v l bytes rest e b = rw e (coded_small v true b.0, b.1 ∙ ap (λ t. t ++ (32 ∷ rest)) (sym (coded_text v true)))
-
-pub negative_word : (v l : ℕ) (bytes behind rest : List ℕ) → bytes ≡ 45 ∷ behind → l ≡ coded v false → BeginsWithWord id_text IsVariable behind v rest → BeginsWithWord number_text IsLiteral bytes l rest
-negative_word v l bytes behind rest d e b = rw e (coded_small v false b.0, d ∙ ap (λ t. 45 ∷ t) b.1 ∙ ap (λ t. t ++ (32 ∷ rest)) (sym (coded_text v false)))

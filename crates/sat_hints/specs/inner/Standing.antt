@@ -1,7 +1,9 @@
 -- The clauses that are present, but for units over variables that became new since they came.
-use Rattle.std.specs.Prelude.{ℕ, ◌≡◌, ◌≤◌, ◌<◌, ◌==◌, Bool, true, false, Option, None, Some, List, [], ◌∷◌, map, length, nat_lt, slice_index, slice_index_or, if◌then◌else◌}
+use Rattle.std.specs.Prelude.{ℕ, ◌≡◌, ◌≤◌, ◌<◌, ◌==◌, Bool, true, false, Option, None, Some, List, [], ◌∷◌, map, length, nat_lt, slice_index, if◌then◌else◌}
 use Rattle.std.specs.List.{AllByRecursion}
 use Rattle.sat_base.specs.values.Literals.{variable}
+use Rattle.sat_base.specs.values.Tables.{value_at}
+use Rattle.sat_base.specs.declared.table.Table.{Table}
 use Rattle.sat_checker.specs.LiteralSets.{mentions}
 use Rattle.sat_hints.specs.Hints.{and_clauses, is_long, unless_unit_over}
 use Rattle.sat_hints.specs.inner.Clauses.{clause_at, clause_in, times_at, AllBelow, IsStore}
@@ -9,17 +11,17 @@ use Rattle.sat_hints.specs.inner.UsesView.{if_counting, uses_at}
 use Rattle.sat_hints.specs.declared.standing.Standing.{Standing}
 
 -- is it a unit that came before its variable became new? All under ids below this did.
-abbrev pub is_stale : List ℕ → ℕ → List ℕ → Bool
+abbrev pub is_stale : Table ℕ → ℕ → List ℕ → Bool
 is_stale since id [] = false
-is_stale since id (l ∷ []) = nat_lt id (slice_index_or since (variable l) 0)
+is_stale since id (l ∷ []) = nat_lt id (value_at 0 since (variable l))
 is_stale since id (l ∷ m ∷ ls) = false
 
-abbrev pub unless_stale : List ℕ → ℕ → Option (List ℕ) → Option (List ℕ)
+abbrev pub unless_stale : Table ℕ → ℕ → Option (List ℕ) → Option (List ℕ)
 unless_stale since id None = None
 unless_stale since id (Some c) = if is_stale since id c then None else Some c
 
 abbrev pub clause_of : Standing → ℕ → Option (List ℕ)
-clause_of s id = unless_stale s.since.items id (clause_in s.present id)
+clause_of s id = unless_stale s.since id (clause_in s.present id)
 
 -- the clauses under these ids, if all are present
 abbrev pub clauses_of : Standing → List ℕ → Option (List (List ℕ))
@@ -28,7 +30,7 @@ clauses_of s (id ∷ ids) = and_clauses (clause_of s id) (clauses_of s ids)
 
 -- no variable became new from this id on
 abbrev pub SinceWithin : Standing → ℕ → Type 0
-SinceWithin s bound = (v : ℕ) → slice_index_or s.since.items v 0 ≤ bound
+SinceWithin s bound = (v : ℕ) → value_at 0 s.since v ≤ bound
 
 -- once counting has begun, the counts are those of the clauses of two literals or more
 pub record IsStanding (s : Standing) : Type 0 where

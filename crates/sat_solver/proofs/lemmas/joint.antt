@@ -29,3 +29,4 @@ pub mod AnswerParts
 pub mod LoadedParts
 pub mod FramedParts
 pub mod FailedParts
+pub mod QuietLemmas

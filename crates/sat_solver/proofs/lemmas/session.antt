@@ -4,7 +4,6 @@ pub mod AcceptLemmas
 pub mod StepLemmas
 pub mod Lists
 pub mod Deriving
-pub mod Trail
 pub mod Mapped
 pub mod Represented
 pub mod StepsOfClauses
@@ -32,3 +31,5 @@ pub mod UnitLemmas
 pub mod AskingLemmas
 pub mod Rolling
 pub mod HearingLemmas
+pub mod CertificateLemmas
+pub mod FrontLemmas

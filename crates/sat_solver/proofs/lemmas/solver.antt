@@ -17,3 +17,4 @@ pub mod EndingLemmas
 pub mod ConfigLemmas
 pub mod KeptLemmas
 pub mod ProgressLemmas
+pub mod FrontLemmas

@@ -24,6 +24,7 @@ pub record Indexes (old new : Variables) (from to : List Step) (before after : L
 -- The variable has no index from here on.
 pub record Unindexes (old new : Variables) (from to : List Step) (v x : ℕ) : Type 0 where
   pub does : DoesNothing old new from to
+  pub step : to ≡ SolverVarName v None ∷ from
   pub solvers : (w : ℕ) → solver_of new w ≡ (if w == v then None else solver_of old w)
   pub globals : new.globals ≡ old.globals
   pub used : indices_used new ≡ indices_used old

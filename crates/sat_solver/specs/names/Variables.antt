@@ -133,12 +133,6 @@ pub record AreJudged (n : Variables) (j : Judge) (live : Live) : Type 0 where
   pub increasing : NamesIncrease j.in_use
   pub modes : (v i : ℕ) → given live v ≡ Some i → IsModeOf (data_at n v).sampling_mode (get_or j.modes i Sampled)
 
--- All three say the same.
-pub record NamesAgree (n : Variables) (s : Session) (j : Judge) (live : Live) : Type 0 where
-  pub tidy : AreTidy n
-  pub said : AreSaid n s
-  pub judged : AreJudged n j live
-
 -- the mode that a user may set, as the solver and as the judge have it
 abbrev pub mode_for : Bool → SamplingMode
 mode_for true = kept.Sample

@@ -5,6 +5,7 @@ use Rattle.sat_base.specs.device.Device.{Writer}
 use Rattle.sat_base.specs.values.Literals.{variable}
 use Rattle.sat_base.specs.steps.Steps.{Step, AtClause, UnitClauses, DeleteClause}
 use Rattle.sat_checker.specs.declared.processing.ProofProcessor.{Ghosts}
+use Rattle.sat_solver.specs.joint.Quiet.{AreQuiet}
 use Rattle.sat_solver.specs.session.ProofView.{Adds, Fails, FailsCheck, Keeps, session_of}
 use Rattle.sat_solver.specs.declared.session.made.CheckFault.{CheckFault}
 use Rattle.sat_solver.specs.declared.session.made.CheckFault.TheVariants as checks
@@ -68,14 +69,24 @@ Went seen (Err (errors.ProofProcessorError cause)) steps old new = FailsCheck se
 Went seen (Err errors.CounterEnd) steps old new = FailsCheck seen checks.CounterEnd steps old new
 Went seen (Err e) steps old new = Adds seen steps old new
 
+-- nothing was learned, unless something may be
+abbrev pub AreQuietUnless : Bool → List Step → Type 0
+AreQuietUnless true steps = Unit {0}
+AreQuietUnless false steps = AreQuiet steps
+
 -- It made steps of a search, and came to an answer of which this holds, or failed, for a full clause buffer only where it is full.
-pub record GoesOr {A W L : Type 0} {G : Ghosts L} (full : Type 0) (seen : W → Writer) (result : Result A SolverError) (old new : Proof W L G) (Answers : A → List Step → Type 0) : Type 0 where
+pub record GoesWith {A W L : Type 0} {G : Ghosts L} (full : Type 0) (learns : Bool) (seen : W → Writer) (result : Result A SolverError) (old new : Proof W L G) (Answers : A → List Step → Type 0) : Type 0 where
   pub steps : List Step
   pub went : Went seen result steps old new
   pub searched : AreSearched (session_of old).solver_names steps
+  pub quiet : MatchResult result (λ _. AreQuietUnless learns steps) (λ _. Unit {0})
   pub keeps : Keeps new
   pub ends : MatchResult result (λ x. Answers x steps) (IsFaultOr full)
 
--- the same where no clause is stored
+-- something may be learned
+abbrev pub GoesOr : {A W L : Type 0} {G : Ghosts L} → (full : Type 0) → (W → Writer) → Result A SolverError → Proof W L G → Proof W L G → (A → List Step → Type 0) → Type 0
+GoesOr full seen result old new Answers = GoesWith full true seen result old new Answers
+
+-- nothing is, and no clause is stored
 abbrev pub Goes : {A W L : Type 0} {G : Ghosts L} → (W → Writer) → Result A SolverError → Proof W L G → Proof W L G → (A → List Step → Type 0) → Type 0
-Goes seen result old new Answers = GoesOr ⊥ seen result old new Answers
+Goes seen result old new Answers = GoesWith ⊥ false seen result old new Answers

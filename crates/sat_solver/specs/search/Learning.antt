@@ -13,13 +13,14 @@ use Rattle.sat_solver.specs.parts.Words.{Rises}
 use Rattle.sat_solver.specs.session.Session.{Session, session_after}
 use Rattle.sat_solver.specs.joint.Advancing.{Advances}
 use Rattle.sat_solver.specs.joint.Learning.{TakesIn}
+use Rattle.sat_solver.specs.joint.Quiet.{AreQuiet}
 use Rattle.sat_solver.specs.declared.search.work.Search.{Search}
 use Rattle.sat_solver.specs.search.Bumping.{all_bumped}
 use Rattle.sat_solver.specs.search.Grading.{graded, levels_in, TakePart}
 use Rattle.sat_solver.specs.search.Joint.{IsSearch, Moved}
 use Rattle.sat_solver.specs.search.Left.{SameSize}
 
--- the newest of these steps is a derived clause that advances behind the others and the earlier ones
+-- the newest of these steps is a derived clause that advances behind the others, by which nothing is learned, and the earlier ones
 pub record LastAdvances (earlier steps : List Step) : Type 0 where
   pub redundant : Bool
   pub clause : List ℕ
@@ -27,6 +28,7 @@ pub record LastAdvances (earlier steps : List Step) : Type 0 where
   pub rest : List Step
   pub is : steps ≡ AtClause redundant clause hashes ∷ rest
   pub advances : Advances (session_after (rest ++ earlier)) clause
+  pub quiet : AreQuiet rest
 
 -- a clause was learned and came in, and the word of the trail rose
 pub record Learned (earlier steps : List Step) (s : Session) (c c' : Search) : Type 0 where

@@ -3,6 +3,7 @@ use Rattle.std.specs.Prelude.{◌≡◌, true, false, List, ◌∷◌, ◌++◌}
 use Rattle.sat_base.specs.steps.Steps.{Step}
 use Rattle.sat_solver.specs.parts.Words.{RisesFor}
 use Rattle.sat_solver.specs.session.Session.{Session, session_after}
+use Rattle.sat_solver.specs.joint.Quiet.{AreQuiet}
 use Rattle.sat_solver.specs.declared.bound.search.Outcome.{Outcome}
 use Rattle.sat_solver.specs.declared.bound.search.Outcome.TheVariants as outcomes
 use Rattle.sat_solver.specs.declared.search.work.Search.{Search}
@@ -29,16 +30,17 @@ pub record RoundShows (s : Session) (c c' : Search) : Type 0 where
   pub moved : Moved c c'
   pub complete : IsComplete c'.assumptions.lits.items c'.parts
 
--- the newest of these steps recorded unsat, which wasn't recorded before it
+-- the newest of these steps recorded unsat, which wasn't recorded before it, and nothing was learned
 pub record LastRefutes (earlier steps : List Step) (s : Session) : Type 0 where
   pub last : Step
   pub rest : List Step
   pub is : steps ≡ last ∷ rest
   pub before : (session_after (rest ++ earlier)).unsat ≡ false
   pub now : s.unsat ≡ true
+  pub quiet : AreQuiet steps
 
 abbrev pub RoundSays : Outcome → (earlier steps : List Step) → Session → Search → Search → Type 0
 RoundSays outcomes.Learned earlier steps s c c' = RoundLearns earlier steps s c c'
-RoundSays outcomes.Model earlier steps s c c' = RoundShows s c c'
+RoundSays outcomes.Model earlier steps s c c' = RoundShows s c c' × AreQuiet steps
 RoundSays outcomes.Unsat earlier steps s c c' = LastRefutes earlier steps s
-RoundSays outcomes.Failed earlier steps s c c' = RoundFails s c c'
+RoundSays outcomes.Failed earlier steps s c c' = RoundFails s c c' × AreQuiet steps

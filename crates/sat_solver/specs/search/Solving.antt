@@ -9,6 +9,7 @@ use Rattle.sat_solver.specs.session.Coming.{Comes, EndsAtUnsat}
 use Rattle.sat_solver.specs.session.Session.{Session, session_after}
 use Rattle.sat_solver.specs.parts.Words.{Words}
 use Rattle.sat_solver.specs.joint.Advancing.{Advances}
+use Rattle.sat_solver.specs.joint.Quiet.{NeverAdvances, is_quiet}
 use Rattle.sat_solver.specs.declared.bound.search.Outcome.{Outcome}
 use Rattle.sat_solver.specs.declared.bound.search.Outcome.TheVariants as outcomes
 use Rattle.sat_solver.specs.declared.error.SolverError.{SolverError}
@@ -28,10 +29,16 @@ abbrev pub IsAdvancing : Session → Step → Type 0
 IsAdvancing s (AtClause redundant clause hashes) = Advances s clause
 IsAdvancing s step = ⊥
 
--- at least so many of these steps are derived clauses that advance, each behind the steps before it
+-- the step isn't one, by its form, whichever of its literals is taken
+pub record StandsStill (s : Session) (step : Step) : Type 0 where
+  pub quiet : is_quiet step ≡ true
+  pub never : NeverAdvances s step
+
+-- Exactly so many of these steps are derived clauses that advance, each behind the steps before it.
 abbrev pub AdvanceTimes : (earlier steps : List Step) → ℕ → Type 0
 AdvanceTimes earlier [] k = k ≡ 0
-AdvanceTimes earlier (step ∷ steps) k = AdvanceTimes earlier steps k ⊎ ((j : ℕ) × (k ≡ j + 1) × IsAdvancing (session_after (steps ++ earlier)) step × AdvanceTimes earlier steps j)
+AdvanceTimes earlier (step ∷ steps) k = (AdvanceTimes earlier steps k × StandsStill (session_after (steps ++ earlier)) step)
+    ⊎ ((j : ℕ) × (k ≡ j + 1) × IsAdvancing (session_after (steps ++ earlier)) step × AdvanceTimes earlier steps j)
 
 -- the same of all steps from these on
 pub record AdvancesIn (from to : List Step) (k : ℕ) : Type 0 where
@@ -54,7 +61,8 @@ words_in c w = Words (assumed_in c.search) c.search.parts w
 abbrev pub values_in : {W L : Type 0} {G : Ghosts L} → Core W L G → ℕ
 values_in c = length c.search.parts.assignment.current
 
--- it came there by so many rounds that ended in a conflict: from each of them comes a step that advances. The judge sees nothing of it.
+-- It came there by so many rounds that ended in a conflict: from each of them comes a step that advances, and no other does. The judge
+-- sees nothing of it.
 pub record Gone {W L : Type 0} {G : Ghosts L} (seen : W → Writer) (a : Core W L G) (n : Variables) (k : ℕ) (b : Core W L G) (m : Variables) : Type 0 where
   pub steps : List Step
   pub adds : Adds seen steps a.proof b.proof
@@ -70,8 +78,8 @@ EndSays outcomes.Model s m c c' = RoundShows s c c' × SharesIndices m c'
 EndSays outcomes.Unsat s m c c' = s.unsat ≡ true
 EndSays outcomes.Failed s m c c' = RoundFails s c c' × SharesIndices m c'
 
--- it came to this answer
-pub record Ended {W L : Type 0} {G : Ghosts L} (seen : W → Writer) (a : Core W L G) (n : Variables) (outcome : Outcome) (b : Core W L G) (m : Variables) : Type 0 where
+-- it came to this answer, behind so many rounds that ended in a conflict
+pub record Ended {W L : Type 0} {G : Ghosts L} (seen : W → Writer) (a : Core W L G) (n : Variables) (k : ℕ) (outcome : Outcome) (b : Core W L G) (m : Variables) : Type 0 where
   pub steps : List Step
   pub adds : Adds seen steps a.proof b.proof
   pub does : DoesNothing n m (steps_of a.proof) (steps_of b.proof)
@@ -80,6 +88,7 @@ pub record Ended {W L : Type 0} {G : Ghosts L} (seen : W → Writer) (a : Core W
   pub config : b.config ≡ a.config
   pub comes : Comes EndsAtUnsat (steps_of a.proof) (steps_of b.proof)
   pub says : EndSays outcome (session_of b.proof) m a.search b.search
+  pub times : AdvanceTimes (steps_of a.proof) steps k
 
 -- it came to this fault
 abbrev pub Broke : {W L : Type 0} {G : Ghosts L} → (W → Writer) → Core W L G → SolverError → Core W L G → Type 0

@@ -39,10 +39,16 @@ IsUpToDate lost (Some own) = (lost ≡ false) × IsSettled (kernel_of own.checke
 abbrev pub HasTold : {L : Type 0} {G : Ghosts L} → Made L G → Type 0
 HasTold m = IsUpToDate m.lost m.own
 
+-- a processor's fault comes only where somebody listens
+abbrev pub HasListeners : {L : Type 0} → CheckFault → Option (List L) → Type 0
+HasListeners checks.OutOfMemory listening = Unit {0}
+HasListeners checks.CounterEnd listening = Unit {0}
+HasListeners (checks.Processor cause) listening = listening ≡ Some [] → ⊥
+
 module _ {L : Type 0} (takes : L → Told → Result Unit Error → L → Type 0) where
   abbrev pub ComplainsIn : CheckFault → Option (Checked L) → (added : List L) → List Step → Type 0
   ComplainsIn fault None added steps = ⊥
-  ComplainsIn fault (Some own) added steps = ∥ Failed takes added (listeners_of (who_listens own)) steps fault ∥₁
+  ComplainsIn fault (Some own) added steps = ∥ Failed takes added (listeners_of (who_listens own)) steps fault ∥₁ × HasListeners fault (Some added)
 
   -- These were handed back: those who were added, behind what they have heard. Who has no checker has nobody to hand back.
   pub record IsHanded (added given : List L) (steps : List Step) : Type 0 where
@@ -54,7 +60,7 @@ module _ {L : Type 0} (takes : L → Told → Result Unit Error → L → Type 0
   HandedIn None given steps = given ≡ []
   HandedIn (Some added) given steps = ∥ IsHanded added given steps ∥₁
 
--- its checker failed for this reason: of a processor's fault, one of those who listen answered it
+-- its checker failed for this reason: of a processor's fault, one of those who listen answered it, so that there are some
 abbrev pub Complains : {L : Type 0} {G : Ghosts L} → CheckFault → Made L G → Type 0
 Complains {G = G} fault m = ComplainsIn G.takes fault m.own m.roll.items m.history.steps
 

@@ -4,6 +4,7 @@ use Rattle.sat_base.specs.device.Device.{Writer, Takes, Breaks}
 use Rattle.sat_base.specs.device.Sink.{empty_sink}
 use Rattle.sat_base.specs.steps.Steps.{Step}
 use Rattle.sat_base.specs.steps.StepText.{SpellsSteps}
+use Rattle.sat_checker.specs.Accepts.{AcceptsAll}
 use Rattle.sat_checker.specs.declared.processing.ProofProcessor.{Ghosts}
 use Rattle.sat_solver.specs.session.Counting.{start, Cuts}
 use Rattle.sat_solver.specs.session.OutputView.{text_in}
@@ -55,8 +56,7 @@ pub record TookSince (f : ProofFormat) (from given : Writer) (before now : List 
   pub behind : now ≡ steps ++ before
   pub took : TookText f from given steps
 
--- all steps since an opening, of whose text a target that failed took a front
-pub record BrokeSince (f : ProofFormat) (from given : Writer) (before now : List Step) : Type 0 where
-  pub steps : List Step
-  pub behind : now ≡ steps ++ before
-  pub broke : BrokeText f from given steps
+-- the same, and a checker accepts what was written for them, each step in its turn
+pub record IsCertificate (f : ProofFormat) (from given : Writer) (before now : List Step) : Type 0 where
+  pub since : TookSince f from given before now
+  pub accepted : AcceptsAll since.took.written

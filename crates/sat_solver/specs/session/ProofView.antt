@@ -70,7 +70,7 @@ is_lost p = mades.is_lost p.made
 abbrev pub HasTold : {W L : Type 0} {G : Ghosts L} → Proof W L G → Type 0
 HasTold p = mades.HasTold p.made
 
--- it failed for this reason: of a processor's fault, one of those who listen answered it
+-- it failed for this reason: of a processor's fault, one of those who listen answered it, so that there are some
 abbrev pub Complains : {W L : Type 0} {G : Ghosts L} → CheckFault → Proof W L G → Type 0
 Complains fault p = mades.Complains fault p.made
 

@@ -10,6 +10,7 @@ use Rattle.sat_solver.specs.names.Variables.{solver_of, global_at, indices_used}
 use Rattle.sat_solver.specs.declared.names.Variables.{Variables}
 use Rattle.sat_parts.specs.clause.Db.{live_refs}
 use Rattle.sat_solver.specs.declared.parts.Parts.{Parts}
+use Rattle.sat_solver.specs.joint.Quiet.{ComesQuietly}
 use Rattle.sat_solver.specs.parts.Round.{IsUnused as InNoClause}
 use Rattle.sat_solver.specs.parts.Frame.{SameClauses}
 use Rattle.sat_solver.specs.parts.Words.{ExtendsFor}
@@ -34,6 +35,7 @@ pub record GivesUp (old new : Variables) (from to : List Step) (v : ℕ) : Type 
   pub users : new.global_from_user ≡ old.global_from_user
   pub used : indices_used new ≡ indices_used old
   pub loses : LosesIndex (session_after from) (session_after to) v
+  pub quiet : ComesQuietly from to
 
 -- indices may be given up: the search is at level 0, with nothing on the trail, and has the indices that the names say
 pub record MayFree (n : Variables) (steps : List Step) (c : Search) : Type 0 where
@@ -48,9 +50,11 @@ pub record KeepsAsked (old new : Variables) (s t : Session) : Type 0 where
   pub assumed : t.assumed ≡ s.assumed
   pub indices : (v x : ℕ) → mentions s.assumed v ≡ true → solver_of old v ≡ Some x → solver_of new v ≡ Some x
 
--- some indices were given up: no step is one that the judge sees, clauses and assumptions are the same, and the word of the trail goes on
+-- some indices were given up: no step is one that the judge sees, or by which something is learned, clauses and assumptions are the same,
+-- and the word of the trail goes on
 pub record FreesSome (old new : Variables) (from to : List Step) (c c' : Search) : Type 0 where
   pub does : DoesNothing old new from to
+  pub quiet : ComesQuietly from to
   pub search : IsSearch (session_after to) c'
   pub shares : SharesIndices new c'
   pub flat : IsFlat c'.parts

@@ -12,6 +12,7 @@ use Rattle.sat_solver.specs.declared.session.proof.Proof.{Proof}
 use Rattle.sat_solver.specs.declared.error.SolverError.{SolverError}
 use Rattle.sat_solver.specs.names.Calls.{Stands, DoesNothing}
 use Rattle.sat_solver.specs.declared.names.Variables.{Variables}
+use Rattle.sat_solver.specs.joint.Quiet.{ComesQuietly}
 use Rattle.sat_solver.specs.parts.Words.{ExtendsFor}
 use Rattle.sat_solver.specs.search.Going.{IsFaultOr, Went}
 use Rattle.sat_solver.specs.search.Joint.{assumed_in, IsSearch, Moved}
@@ -37,11 +38,12 @@ pub record MaySettle {W L : Type 0} {G : Ghosts L} (n : Variables) (p : Proof W 
   pub propagated : IsPropagated (session_of p) c
   pub bottom : c.parts.trail.starts ≡ []
 
--- They stand together again: steps were made of which the judge sees nothing, assumptions are as they were, and the word of the trail
--- goes on.
+-- They stand together again: steps were made of which the judge sees nothing, and by which nothing is learned, assumptions are as they
+-- were, and the word of the trail goes on.
 pub record Passes {W L : Type 0} {G : Ghosts L} (seen : W → Writer) (n n' : Variables) (p p' : Proof W L G) (c c' : Search) : Type 0 where
   pub together : StandTogether n' p' c'
   pub took : Took seen p p'
+  pub quiet : ComesQuietly (steps_of p) (steps_of p')
   pub does : DoesNothing n n' (steps_of p) (steps_of p')
   pub asked : KeepsAsked n n' (session_of p) (session_of p')
   pub moved : Moved c c'

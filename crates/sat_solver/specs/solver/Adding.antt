@@ -72,12 +72,17 @@ IsDrat seen s = is_drat (target_of seen s.core.proof) ≡ true
 abbrev pub IsPastDrat : {W L : Type 0} {G : Ghosts L} → (W → Writer) → Solver W L G → Type 0
 IsPastDrat seen s = IsDrat seen s × (has_asked s.core.proof ≡ true)
 
+-- so that one may
+abbrev pub IsBeforeDrat : {W L : Type 0} {G : Ghosts L} → (W → Writer) → Solver W L G → Type 0
+IsBeforeDrat seen s = IsPastDrat seen s → ⊥
+
 -- no name is of mode witness, but for one that comes in there's no variable left
 abbrev pub LacksRoom : {W L : Type 0} {G : Ghosts L} → Solver W L G → List ℕ → Type 0
 LacksRoom s user = (s.failed ≡ false) × AreSampled s user × (HasRoom s.names (users_in user) → ⊥)
 
 -- a clause was added
 pub record Added {W L : Type 0} {G : Ghosts L} (seen : W → Writer) (old new : Solver W L G) (user : List ℕ) : Type 0 where
+  pub before_drat : IsBeforeDrat seen old
   pub sampled : AreSampled old user
   pub room : HasRoom old.names (users_in user)
   pub did : Did seen old new (with_added user) (due_for_clause old.state user)
@@ -86,13 +91,14 @@ pub record Added {W L : Type 0} {G : Ghosts L} (seen : W → Writer) (old new : 
   pub clock : new.clock ≡ old.clock
   pub state : Forgets old.state new.state
 
+-- Refusals come in this order: an earlier failure, lines of DRAT, a name of mode witness, no variable left.
 abbrev pub AddsClause : {W L : Type 0} {G : Ghosts L} → (W → Writer) → Result (Unit {0}) SolverError → Solver W L G → Solver W L G → List ℕ → Type 0
 AddsClause seen (Ok x) old new user = Added seen old new user
-AddsClause seen (Err errors.WitnessVariable) old new user = Refuses old new ((old.failed ≡ false) × HasWitness old user)
+AddsClause seen (Err errors.WitnessVariable) old new user = Refuses old new (((old.failed ≡ false) × IsBeforeDrat seen old) × HasWitness old user)
 AddsClause seen (Err errors.NotInDrat) old new user = Refuses old new ((old.failed ≡ false) × IsPastDrat seen old)
-AddsClause seen (Err errors.VariableLimit) old new user = Refuses old new (LacksRoom old user)
+AddsClause seen (Err errors.VariableLimit) old new user = Refuses old new (IsBeforeDrat seen old × LacksRoom old user)
 AddsClause seen (Err errors.HasFailed) old new user = Refuses old new (old.failed ≡ true)
-AddsClause seen (Err e) old new user = AreSampled old user × HasRoom old.names (users_in user) × EndsNamesOr (HasFullStore new) seen e old new
+AddsClause seen (Err e) old new user = (IsBeforeDrat seen old × AreSampled old user) × HasRoom old.names (users_in user) × EndsNamesOr (HasFullStore new) seen e old new
 
 -- other assumptions were taken, whatever will be answered
 pub record Assumed {W L : Type 0} {G : Ghosts L} (seen : W → Writer) (old new : Solver W L G) (user : List ℕ) : Type 0 where

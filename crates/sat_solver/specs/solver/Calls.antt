@@ -82,6 +82,13 @@ pub record Counts {W L : Type 0} {G : Ghosts L} (old new : Solver W L G) : Type 
   pub answered : (j : Judge) (live : Live) → Agree old.names (steps_in old) j live → 2 ^ (2 * j.next_identity + 3) ≤ rounds_left old →
       new.state ≡ states.Unknown → ⊥
 
+-- of so many rounds of an ask those that learn a clause: all, but for the one that answers
+abbrev pub learned_of : State → (rounds : ℕ) → ℕ
+learned_of states.Unknown rounds = rounds
+learned_of states.Sat rounds = rounds - 1
+learned_of states.UnsatUnderAssumptions rounds = rounds - 1
+learned_of states.Unsat rounds = rounds - 1
+
 -- nothing waits for an open target, whose last call was a flush
 abbrev pub IsFlushed : Target → Type 0
 IsFlushed Closed = Unit {0}
@@ -97,15 +104,15 @@ pub record AnswersAgain {W L : Type 0} {G : Ghosts L} (old new : Solver W L G) :
   pub steps : steps_in new ≡ steps_in old
   pub same : new ≡ record old { core = record old.core { proof = new.core.proof }; used = true }
 
--- An ask was looked at: assumptions are as they were, names stand for the variables for which they stood, and without an answer each
--- round derived a clause that advances. The solver's own checker was given all steps, and has told what waited.
+-- An ask was looked at: assumptions are as they were, names stand for the variables for which they stood, and each round derived a clause
+-- that advances, but for the one that answered; nothing else did. The solver's own checker was given all steps, and has told what waited.
 pub record Answered {W L : Type 0} {G : Ghosts L} (seen : W → Writer) (old new : Solver W L G) : Type 0 where
   pub did : Did seen old new (λ j. j) (λ j. told_by old.state new)
   pub comes : Comes EndsAtUnsat (steps_in old) (steps_in new)
   pub assumed : new.assumed ≡ old.assumed
   pub users : new.names.global_from_user ≡ old.names.global_from_user
   pub counts : Counts old new
-  pub times : new.state ≡ states.Unknown → AdvancesIn (steps_in old) (steps_in new) (new.clock.steps - old.clock.steps)
+  pub times : AdvancesIn (steps_in old) (steps_in new) (learned_of new.state (new.clock.steps - old.clock.steps))
   pub flushed : IsFlushed (target_of seen new.core.proof)
   pub told : HasTold new.core.proof
   pub asked : NotesAsk seen new.core.proof

@@ -1,5 +1,5 @@
 -- What a search came to, and told.
-use Rattle.std.specs.Prelude.{ℕ, ◌≡◌, Option, None, Some, List, MatchResult, Result}
+use Rattle.std.specs.Prelude.{ℕ, ◌-◌, ◌≡◌, Option, None, Some, List, MatchResult, Result}
 use Rattle.sat_base.specs.device.Device.{Writer}
 use Rattle.sat_checker.specs.declared.processing.ProofProcessor.{Ghosts}
 use Rattle.sat_solver.specs.declared.bound.search.Outcome.{Outcome}
@@ -14,23 +14,23 @@ use Rattle.sat_solver.specs.declared.solver.state.State.TheVariants as states
 use Rattle.sat_solver.specs.solver.Joined.{IsJoined}
 use Rattle.sat_solver.specs.solver.Answering.{Breaks, Shown, Failed}
 
--- a model was found and written
-pub record FoundModel {W L : Type 0} {G : Ghosts L} (seen : W → Writer) (n m : Variables) (a b : Core W L G) : Type 0 where
+-- a model was found in the last of so many rounds, and written
+pub record FoundModel {W L : Type 0} {G : Ghosts L} (seen : W → Writer) (rounds : ℕ) (n m : Variables) (a b : Core W L G) : Type 0 where
   pub mid : Core W L G
-  pub ended : Ended seen a n outcomes.Model mid m
+  pub ended : Ended seen a n (rounds - 1) outcomes.Model mid m
   pub shown : Shown seen m mid b
 
 -- assumptions that can't be true together were found and written
-pub record FoundCore {W L : Type 0} {G : Ghosts L} (seen : W → Writer) (n m : Variables) (a b : Core W L G) (core : List ℕ) : Type 0 where
+pub record FoundCore {W L : Type 0} {G : Ghosts L} (seen : W → Writer) (rounds : ℕ) (n m : Variables) (a b : Core W L G) (core : List ℕ) : Type 0 where
   pub mid : Core W L G
-  pub ended : Ended seen a n outcomes.Failed mid m
+  pub ended : Ended seen a n (rounds - 1) outcomes.Failed mid m
   pub failed : Failed seen m mid b core
 
-abbrev pub FoundSays : {W L : Type 0} {G : Ghosts L} → (W → Writer) → State → Variables → Variables → Core W L G → Core W L G → List ℕ → Type 0
-FoundSays seen states.Unknown n m a b core = ⊥
-FoundSays seen states.Sat n m a b core = FoundModel seen n m a b
-FoundSays seen states.UnsatUnderAssumptions n m a b core = FoundCore seen n m a b core
-FoundSays seen states.Unsat n m a b core = Ended seen a n outcomes.Unsat b m
+abbrev pub FoundSays : {W L : Type 0} {G : Ghosts L} → (W → Writer) → State → (rounds : ℕ) → Variables → Variables → Core W L G → Core W L G → List ℕ → Type 0
+FoundSays seen states.Unknown rounds n m a b core = ⊥
+FoundSays seen states.Sat rounds n m a b core = FoundModel seen rounds n m a b
+FoundSays seen states.UnsatUnderAssumptions rounds n m a b core = FoundCore seen rounds n m a b core
+FoundSays seen states.Unsat rounds n m a b core = Ended seen a n (rounds - 1) outcomes.Unsat b m
 
 -- no answer by now
 pub record FoundNone {W L : Type 0} {G : Ghosts L} (seen : W → Writer) (rounds : ℕ) (n m : Variables) (a b : Core W L G) : Type 0 where
@@ -39,7 +39,7 @@ pub record FoundNone {W L : Type 0} {G : Ghosts L} (seen : W → Writer) (rounds
 
 abbrev pub Finds : {W L : Type 0} {G : Ghosts L} → (W → Writer) → Option State → (rounds : ℕ) → Variables → Variables → Core W L G → Core W L G → List ℕ → Type 0
 Finds seen None rounds n m a b core = FoundNone seen rounds n m a b
-Finds seen (Some state) rounds n m a b core = FoundSays seen state n m a b core
+Finds seen (Some state) rounds n m a b core = FoundSays seen state rounds n m a b core
 
 -- what a search came to, before it's told
 abbrev pub ComesTo : {W L : Type 0} {G : Ghosts L} → Outcome → Variables → Core W L G → Type 0

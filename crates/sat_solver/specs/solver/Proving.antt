@@ -2,11 +2,12 @@
 use Rattle.std.specs.Prelude.{◌≡◌, ◌⊎◌, true, false, Option, None, Some, List, [], ◌∷◌, ◌++◌, Result, Ok, Err}
 use Rattle.sat_base.specs.device.Device.{Writer}
 use Rattle.sat_base.specs.device.Sink.{empty_sink}
-use Rattle.sat_base.specs.steps.Steps.{End}
+use Rattle.sat_base.specs.steps.Steps.{Step, End}
 use Rattle.sat_checker.specs.declared.processing.ProofProcessor.{Ghosts}
 use Rattle.sat_solver.specs.session.Checked.{has_begun}
 use Rattle.sat_solver.specs.session.Counting.{start}
 use Rattle.sat_solver.specs.session.Drat.{IsDratDerivation, Refutes, present}
+use Rattle.sat_solver.specs.session.ProofTexts.{IsCertificate, WroteSince}
 use Rattle.sat_solver.specs.session.ProofView as proofs
 use Rattle.sat_solver.specs.session.ProofView.{Open, Adds, ClosesNone, ClosesOne, Fails, FailsCheck, ListedAnew, audience, is_open, is_lost, target_of}
 use Rattle.sat_solver.specs.declared.session.format.ProofFormat.{ProofFormat}
@@ -92,6 +93,8 @@ pub record ClosedOne {W L : Type 0} {G : Ghosts L} (seen : W → Writer) (given 
   pub whole : IsWhole new
   pub does : Does old.names new.names (steps_in old) (steps_in new) (λ j. j) (λ j. Finish ∷ [])
   pub closes : ClosesOne seen given old.core.proof new.core.proof
+  -- since it was opened, before any step but ends of proofs, it took the text of steps that a checker accepts
+  pub certificate : (f : ProofFormat) (from : Writer) (before : List Step) → has_begun before ≡ false → WroteSince seen f from before old.core.proof → IsCertificate f from (seen given) before (steps_in new)
   -- the lines of DRAT that the steps give are a derivation, and refute the added clauses where these are known to be unsatisfiable
   pub derives : IsDratDerivation (steps_in new)
   pub refutes : old.state ≡ states.Unsat → Refutes (present (steps_in new)) []

@@ -11,7 +11,7 @@ use Rattle.sat_solver.specs.session.ProofView.{Adds}
 use Rattle.sat_solver.specs.declared.solver.Solver.{Solver}
 use Rattle.sat_solver.specs.declared.solver.state.State.TheVariants as states
 use Rattle.sat_solver.specs.solver.Answering.{Breaks, FlushFails}
-use Rattle.sat_solver.specs.solver.Calls.{Counts, CountsRounds, told_by}
+use Rattle.sat_solver.specs.solver.Calls.{Counts, CountsRounds, learned_of, told_by}
 use Rattle.sat_solver.specs.solver.Whole.{IsWhole, steps_in}
 
 -- an answer is known, or the rounds are spent
@@ -24,7 +24,7 @@ pub record Settled {W L : Type 0} {G : Ghosts L} (seen : W → Writer) (old new 
   pub users : new.names.global_from_user ≡ old.names.global_from_user
   pub config : new.core.config ≡ old.core.config
   pub counts : Counts old new
-  pub times : new.state ≡ states.Unknown → AdvancesIn (steps_in old) (steps_in new) (new.clock.steps - old.clock.steps)
+  pub times : AdvancesIn (steps_in old) (steps_in new) (learned_of new.state (new.clock.steps - old.clock.steps))
   pub known : (old.state ≡ states.Unknown → ⊥) → Adds seen [] old.core.proof new.core.proof × (new ≡ record old { core = record old.core { proof = new.core.proof } })
 
 abbrev pub Settles : {W L : Type 0} {G : Ghosts L} → (W → Writer) → Result (Unit {0}) SolverError → Solver W L G → Solver W L G → Type 0

@@ -52,8 +52,8 @@ pub trait Rounds {
     ghost most: { Self → ℕ };
     /// It came from there by so many rounds that ended in a conflict.
     ghost goes: { Self → Self.Names → ℕ → Self → Self.Names → Type 0 };
-    /// It came from there to this answer.
-    ghost ends: { Self → Self.Names → Outcome → Self → Self.Names → Type 0 };
+    /// It came from there to this answer, behind so many such rounds.
+    ghost ends: { Self → Self.Names → ℕ → Outcome → Self → Self.Names → Type 0 };
     /// It came from there to this fault.
     ghost fails: { Self → Self.Fault → Self → Type 0 };
 
@@ -81,7 +81,7 @@ pub trait Rounds {
         ensures most { IfOk result (λ r. r ≡ Outcome.Learned → most self.new ≡ most self.old) }
         ensures words { IfOk result (λ r. r ≡ Outcome.Learned → Climbs words (most self.old) self.old self.new) }
         ensures goes { IfOk result (λ r. r ≡ Outcome.Learned → (s : Self) (n : Self.Names) (k : ℕ) → goes s n k self.old names.old → goes s n (k + 1) self.new names.new) }
-        ensures ends { IfOk result (λ r. r ≢ Outcome.Learned → (s : Self) (n : Self.Names) (k : ℕ) → goes s n k self.old names.old → ends s n r self.new names.new) }
+        ensures ends { IfOk result (λ r. r ≢ Outcome.Learned → (s : Self) (n : Self.Names) (k : ℕ) → goes s n k self.old names.old → ends s n k r self.new names.new) }
         ensures fails { IfErr result (λ e. (s : Self) (n : Self.Names) (k : ℕ) → goes s n k self.old names.old → fails s e self.new) };
 }
 
@@ -126,7 +126,7 @@ pub fn search<R: Rounds>(
     ensures interrupted { IfOk result (λ r. r ≡ None → steps.new ≡ steps.old + steps_left max_steps steps.old) }
     ensures answered { (n : ℕ) → R.most rounds.old ≤ n → 2 ^ (2 * n + 3) ≤ steps_left max_steps steps.old → IfOk result (λ r. r ≡ None → ⊥) }
     ensures goes { IfOk result (λ r. r ≡ None → R.sound rounds.new names.new × (R.most rounds.new ≡ R.most rounds.old) × ((s : R) (n : R.Names) → R.goes s n 0 rounds.old names.old → R.goes s n (steps.new - steps.old) rounds.new names.new)) }
-    ensures ends { IfOk result (λ r. MatchOption r (Unit {0}) (λ o. (s : R) (n : R.Names) → R.goes s n 0 rounds.old names.old → R.ends s n o rounds.new names.new)) }
+    ensures ends { IfOk result (λ r. MatchOption r (Unit {0}) (λ o. (s : R) (n : R.Names) → R.goes s n 0 rounds.old names.old → R.ends s n (steps.new - steps.old - 1) o rounds.new names.new)) }
     ensures fails { IfErr result (λ e. (s : R) (n : R.Names) → R.goes s n 0 rounds.old names.old → R.fails s e rounds.new) }
 {
     let end = steps.saturating_add(max_steps);

@@ -74,7 +74,7 @@ pub fn solve<W: CountedWrite + Drop, P: ProofProcessor>(
     ensures interrupted { IfOk result (λ r. r ≡ None → steps.new ≡ steps.old + steps_left max_steps steps.old) }
     ensures answered { (n : ℕ) → values_in core.old ≤ n → 2 ^ (2 * n + 3) ≤ steps_left max_steps steps.old → IfOk result (λ r. r ≡ None → ⊥) }
     ensures goes { IfOk result (λ r. r ≡ None → IsJoined names.new core.new × Gone W.seen core.old names.old (steps.new - steps.old) core.new names.new) }
-    ensures ends { IfOk result (λ r. MatchOption r (Unit {0}) (λ o. Ended W.seen core.old names.old o core.new names.new)) }
+    ensures ends { IfOk result (λ r. MatchOption r (Unit {0}) (λ o. Ended W.seen core.old names.old (steps.new - steps.old - 1) o core.new names.new)) }
     ensures fails { IfErr result (λ e. Broke W.seen core.old e core.new) }
 {
     search(core, names, restarts, steps, max_steps)

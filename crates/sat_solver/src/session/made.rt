@@ -51,6 +51,7 @@ pub struct Made<P: ProofProcessor = Nobody> {
     /// Whether one was made that the checker hasn't taken.
     lost: bool,
     ghost counted: { begun ≡ has_begun history.steps },
+    ghost may: { ∥ MayAll history.steps ∥₁ },
     ghost fed: { ∥ FedUnless P.takes lost own roll.items history.steps ∥₁ },
 }
 
@@ -128,6 +129,7 @@ impl<P: ProofProcessor> Made<P> {
 
     /// Notes a step that the checker isn't given: it takes none from here on.
     pub fn skip(&mut self, step: &ProofStep<'_>)
+        requires { MayAll (step_of step.now ∷ self.old.history.steps) }
         ensures { Makes (step_of step.now) self.old self.new }
     {
         self.history = self.history.and(step);

@@ -4,7 +4,7 @@ ghost use Rattle.sat_solver.specs.names.Room.{HasRoom, users_in};
 ghost use Rattle.sat_solver.specs.search.Going.{IsFault, IsFaultOr};
 ghost use Rattle.sat_solver.specs.names.Adding.{NoWitness};
 ghost use Rattle.sat_solver.specs.declared.solver.state.State.TheVariants.{Unsat};
-ghost use Rattle.sat_solver.specs.solver.Adding.{AddsClause, IsPastDrat, TakesIn};
+ghost use Rattle.sat_solver.specs.solver.Adding.{AddsClause, IsBeforeDrat, IsPastDrat, TakesIn};
 ghost use Rattle.sat_solver.specs.solver.Whole.{HasFullStore, IsSolver, IsWhole};
 
 use crate::SolverError;
@@ -19,6 +19,17 @@ use sat_base::{CountedWrite, Lit};
 use sat_checker::ProofProcessor;
 
 impl<W: CountedWrite + Drop, P: ProofProcessor> Solver<W, P> {
+    /// Whether lines of DRAT are written, and an ask has begun.
+    fn is_past_drat(&self) -> bool
+        ensures yes { result ≡ true → IsPastDrat W.seen self.now }
+        ensures no { result ≡ false → IsBeforeDrat W.seen self.now }
+    {
+        if !self.core.proof.is_drat() {
+            return false;
+        }
+        self.core.proof.has_asked()
+    }
+
     /// Takes the names of a clause, and nothing more: the clauses alone are known to be unsatisfiable.
     fn leave_out(&mut self, lits: &[Lit]) -> Result<(), SolverError>
         requires whole { IsWhole self.old }
@@ -67,7 +78,7 @@ impl<W: CountedWrite + Drop, P: ProofProcessor> Solver<W, P> {
         if self.failed {
             return Err(SolverError::HasFailed);
         }
-        if self.core.proof.is_drat() && self.core.proof.has_asked() {
+        if self.is_past_drat() {
             return Err(SolverError::NotInDrat);
         }
         if leftmost_witness(&self.names, lits).is_some() {

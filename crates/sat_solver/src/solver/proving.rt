@@ -1,5 +1,6 @@
 //! The proof of a solver, where its text goes.
 ghost use Rattle.sat_solver.specs.session.ProofView.{Gives, Handed, seen_of, target_of};
+ghost use Rattle.sat_solver.specs.solver.Fronts.{HandsFront};
 ghost use Rattle.sat_solver.specs.solver.Proving.{AddsProcessor, Enables, Opens, ClosesProof};
 ghost use Rattle.sat_solver.specs.solver.Whole.{IsSolver};
 
@@ -96,9 +97,10 @@ impl<W: CountedWrite + Drop, P: ProofProcessor> Solver<W, P> {
     }
 
     /// The target as it is, where a proof is open or its target failed; what waits for it is lost. So who lent a target to a solver
-    /// that failed learns what it took.
+    /// that failed learns what it took: a front of the text of steps that a checker accepts.
     pub fn into_target(self) -> Option<W>
-        ensures { Gives (target_of W.seen self.core.proof) (seen_of W.seen result) }
+        ensures gives { Gives (target_of W.seen self.core.proof) (seen_of W.seen result) }
+        ensures front { HandsFront W.seen result self }
     {
         let mut solver = self;
         solver.core.proof.take_target()
@@ -108,6 +110,7 @@ impl<W: CountedWrite + Drop, P: ProofProcessor> Solver<W, P> {
     /// a failure; what waits for the target is lost.
     pub fn into_processors(self) -> HandedBack<W, P>
         ensures target { Gives (target_of W.seen self.core.proof) (seen_of W.seen result.target) }
+        ensures front { HandsFront W.seen result.target self }
         ensures processors { Handed self.core.proof result.processors.items }
     {
         let mut solver = self;

@@ -2,3 +2,4 @@ pub mod OrderLemmas
 pub mod FlagLemmas
 pub mod QueueLemmas
 pub mod GrowsLemmas
+pub mod MoveLemmas

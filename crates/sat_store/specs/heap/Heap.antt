@@ -1,25 +1,36 @@
--- All variables in a list, the first of them a heap by activity, and where in the list each stands.
+-- All variables in a list with their activities, the first of them a heap, and where in the list each stands.
 use Rattle.std.specs.Prelude.{◌≡◌, ◌≢◌, ℕ, ◌+◌, ◌-◌, ◌*◌, ◌/◌, ◌^◌, ◌<◌, ◌≤◌, ◌++◌, Bool, false, nat_lt, List, length, map, replicate, slice_index_or as get_or, slice_set as set}
 use Rattle.sat_base.specs.values.Literals.{largest}
+use Rattle.sat_store.specs.declared.vsids.heap.Entry.{Entry}
+
+abbrev pub no_entry : Entry
+no_entry = record { key = 0; var = 0 }
+
+-- the variable at this place of the list
+abbrev pub var_at : List Entry → ℕ → ℕ
+var_at heap k = (get_or heap k no_entry).var
+
+-- its activity
+abbrev pub key_at : List Entry → ℕ → ℕ
+key_at heap k = (get_or heap k no_entry).key
 
 -- each variable stands once in the list, where its position says
-pub record Placed (heap positions : List ℕ) : Type 0 where
+pub record Placed (heap : List Entry) (positions : List ℕ) : Type 0 where
   pub count : length heap ≡ length positions
-  pub listed : (k : ℕ) → k < length heap → get_or heap k 0 < length heap
-  pub position : (k : ℕ) → k < length heap → get_or positions (get_or heap k 0) 0 ≡ k
+  pub listed : (k : ℕ) → k < length heap → var_at heap k < length heap
+  pub position : (k : ℕ) → k < length heap → get_or positions (var_at heap k) 0 ≡ k
   pub placed : (v : ℕ) → v < length heap → get_or positions v 0 < length heap
-  pub variable : (v : ℕ) → v < length heap → get_or heap (get_or positions v 0) 0 ≡ v
+  pub variable : (v : ℕ) → v < length heap → var_at heap (get_or positions v 0) ≡ v
 
--- what a variable is ordered by: its activity, and of equals the lower index is the greater
-abbrev pub rank : List ℕ → ℕ → ℕ
-rank activities v = get_or activities v 0 * largest + (largest - 1 - v)
+-- what variables are ordered by: the activity, and of equals the lower index is the greater
+abbrev pub rank : Entry → ℕ
+rank e = e.key * largest + (largest - 1 - e.var)
 
--- the rank of the variable at this place of the list
-abbrev pub rank_at : List ℕ → List ℕ → ℕ → ℕ
-rank_at activities heap k = rank activities (get_or heap k 0)
+abbrev pub rank_at : List Entry → ℕ → ℕ
+rank_at heap k = rank (get_or heap k no_entry)
 
 abbrev pub parent : ℕ → ℕ
-parent k = (k - 1) / 2
+parent k = (k - 1) / 4
 
 -- of the first m, none is above its parent, where the parent stands at low or behind
 abbrev pub Ordered : (ℕ → ℕ) → ℕ → ℕ → Type 0
@@ -38,6 +49,18 @@ pub record DownFrom (r : ℕ → ℕ) (m low hole : ℕ) : Type 0 where
 -- none of those that the place at is parent of is above this child
 abbrev pub IsFirstChild : (r : ℕ → ℕ) (m at child : ℕ) → Type 0
 IsFirstChild r m at child = (k : ℕ) → 0 < k → k < m → parent k ≡ at → r k ≤ r child
+
+-- none of those that the place at is parent of is above this entry
+abbrev pub NoneAbove : (heap : List Entry) (m : ℕ) (entry : Entry) (at : ℕ) → Type 0
+NoneAbove heap m entry at = (k : ℕ) → 0 < k → k < m → parent k ≡ at → rank_at heap k ≤ rank entry
+
+-- the first of those that the place at is parent of, which is above this entry
+pub record FirstAbove (heap : List Entry) (m : ℕ) (entry : Entry) (at child : ℕ) : Type 0 where
+  pub under : parent child ≡ at
+  pub some : 0 < child
+  pub within : child < m
+  pub first : IsFirstChild (rank_at heap) m at child
+  pub above : rank entry < rank_at heap child
 
 -- where the ranks r were ordered but for the one at a place, the ranks s are
 abbrev pub SettlesDown : (r s : ℕ → ℕ) (m at : ℕ) → Type 0
@@ -60,23 +83,46 @@ pub record Transposes (old new : List ℕ) (i j : ℕ) : Type 0 where
 abbrev pub flags : ℕ → List ℕ → List Bool
 flags m positions = map (λ p. nat_lt p m) positions
 
+-- the activities of the variables
+abbrev pub keys : List Entry → List ℕ → List ℕ
+keys heap positions = map (λ p. key_at heap p) positions
+
+-- the variables at i and j exchanged
+pub record Exchanged (heap : List Entry) (positions : List ℕ) (heap' : List Entry) (positions' : List ℕ) (i j : ℕ) : Type 0 where
+  pub placed : Placed heap' positions'
+  pub count : length heap' ≡ length heap
+  pub ranks : Exchanges (rank_at heap) (rank_at heap') i j
+  pub places : Transposes positions positions' i j
+  pub keys : keys heap' positions' ≡ keys heap positions
+
+-- the first m are the same variables in another order, and so are the others
+pub record Rearranged (m : ℕ) (heap : List Entry) (positions : List ℕ) (heap' : List Entry) (positions' : List ℕ) : Type 0 where
+  pub placed : Placed heap' positions'
+  pub count : length heap' ≡ length heap
+  pub flags : flags m positions' ≡ flags m positions
+  pub keys : keys heap' positions' ≡ keys heap positions
+
 -- the flags before place m' are those that were before place m, but for that of one variable
 abbrev pub SetsFlag : (m m' : ℕ) (positions positions' : List ℕ) (v : ℕ) (flag : Bool) → Type 0
 SetsFlag m m' positions positions' v flag = flags m' positions' ≡ set (flags m positions) v flag
 
--- the flags of n variables, and those of new ones up to this count, which are false
-abbrev pub AddsFlags : (n count : ℕ) (positions positions' : List ℕ) → Type 0
-AddsFlags n count positions positions' = (m : ℕ) → m ≤ n → flags m positions' ≡ flags m positions ++ replicate (count - n) false
+-- new variables up to this count, which stand behind all others and have activity 0
+pub record Adds (count : ℕ) (heap : List Entry) (positions : List ℕ) (heap' : List Entry) (positions' : List ℕ) : Type 0 where
+  pub flags : (m : ℕ) → m ≤ length heap → flags m positions' ≡ flags m positions ++ replicate (count - length heap) false
+  pub keys : keys heap' positions' ≡ keys heap positions ++ replicate (count - length heap) 0
+
+-- an entry on a smaller scale
+abbrev pub scaled : Entry → Entry
+scaled e = record e { key = e.key / 2 ^ 40 }
 
 -- what is kept of a heap at all times
-pub record IsHeap (heap positions activities : List ℕ) (m : ℕ) : Type 0 where
+pub record IsHeap (heap : List Entry) (positions : List ℕ) (m : ℕ) : Type 0 where
   pub placed : Placed heap positions
   pub within : m ≤ length heap
   pub few : length heap ≤ largest
-  pub count : length activities ≡ length heap
-  pub small : (v : ℕ) → get_or activities v 0 < 2 ^ 60
-  pub ordered : Ordered (rank_at activities heap) m 0
+  pub small : (v : ℕ) → get_or (keys heap positions) v 0 < 2 ^ 60
+  pub ordered : Ordered (rank_at heap) m 0
 
 -- a heap stays one, whatever number of its variables may be picked
-abbrev pub IsKept : (heap positions activities heap' positions' activities' : List ℕ) → Type 0
-IsKept heap positions activities heap' positions' activities' = (m : ℕ) → IsHeap heap positions activities m → IsHeap heap' positions' activities' m
+abbrev pub IsKept : (heap : List Entry) (positions : List ℕ) (heap' : List Entry) (positions' : List ℕ) → Type 0
+IsKept heap positions heap' positions' = (m : ℕ) → IsHeap heap positions m → IsHeap heap' positions' m

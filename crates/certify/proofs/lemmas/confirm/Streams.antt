@@ -19,12 +19,14 @@ use Rattle.certify.specs.confirm.VerdictPromises.{TakesLooks}
 use Rattle.certify.specs.confirm.Walks.{LooksReach, Walks, walks_if, Tries, RunsOut}
 use Rattle.certify.specs.confirm.Views.{View, place}
 use Rattle.sat_checker.specs.Accepts.{Accepts, ready_after}
+use Rattle.sat_checker.specs.ProofView.{most_bytes}
 use Rattle.sat_checker.specs.KernelView.{looks_of, LooksAtMost}
 use Rattle.sat_checker.specs.declared.kernel.Kernel.{Kernel}
 use Rattle.certify.specs.declared.confirm.stop.Stop.{Stop}
 use Rattle.certify.specs.declared.confirm.stop.Stop.TheVariants as stop
 use Rattle.certify.specs.declared.verdict.Why.{Why}
 use Rattle.certify.specs.declared.verdict.Why.TheVariants.{CertificateEnds, StepRefused}
+use Rattle.certify.specs.run.Unfinished.{GaveFrontOf}
 use Rattle.certify.proofs.lemmas.confirm.LooksBound.{takes_looks}
 use Rattle.certify.proofs.lemmas.confirm.OneStep.{one_step}
 use Rattle.certify.proofs.lemmas.confirm.Walks.{walks_none, walks_on, tries_on, runs_on, tries_if, tries_none, walks_read, walks_fed, tries_fed, runs_fed, walks_settled, tries_kept, tries_spent, runs_spent, never_settled}
@@ -314,6 +316,13 @@ gave_enough r t text P p over f = record {
       (f (t.reader.given ++ rest) (record { later = rest; whole = refl; none = λ h. k (called_some r.calls t.reader.calls t.reads p.calls h.0) h.1 }));
 }
 
+-- so many reads give at most 2^60 bytes
+few_read : (lf tr : ℕ) → lf + 4096 * 0 ≤ 4096 * tr → tr ≤ most_reads → lf ≤ most_bytes
+few_read lf tr h k = omega arith
+
+pub few_given : (n : ℕ) (r : Reader) (t : Source) (text : List ℕ) → PassesBut n (unread r) t text → t.reads ≤ most_reads → length (rest_in t.reader.given (unread r)) ≤ most_bytes
+few_given n r t text p k = subst (λ bytes. length bytes ≤ most_bytes) (sym (rest_is (unread r) t.reader.given p.fresh p.gave)) (few_read (length p.fresh) t.reads p.room k)
+
 read_out : (rc tc tr m : ℕ) → tc + 0 ≡ rc + tr → m ≤ tr → tr ≤ m → tc ≡ rc + m
 read_out rc tc tr m e h k = omega arith
 
@@ -322,6 +331,27 @@ read_fails r t text b p = (
   elim p.cause [ inl h ↦ inl (h.0, h.1) | inr h ↦ inr (h.0, read_out r.calls t.reader.calls t.reads most_reads p.calls h.1 b) ],
   few_of r.calls t.reader.calls t.reads r.given t.reader.given p.fresh p.calls p.few p.gave,
 )
+
+-- what is so whatever follows, where the end perhaps wasn't looked for
+pub passed_front : (n : ℕ) (r : Reader) (t : Source) (text : List ℕ) (P : List ℕ → Type 0) → PassesBut n (unread r) t text → ((total : List ℕ) → Covers t total → P (rest_in total (unread r))) → GaveFrontOf r t.reader P
+passed_front n r t text P p f = record {
+  text = p.fresh;
+  front = record { gave = p.gave; told = told_front r.to_come t.reader.to_come t.waiting text p.fresh p.flows p.bytes; loans = p.loans };
+  holds = λ rest k.
+      let whole : t.reader.given ++ rest ≡ r.given ++ (p.fresh ++ rest) = ap (λ (z : List ℕ). z ++ rest) p.gave ∙ append_assoc r.given p.fresh rest in
+      subst P (rest_is (unread r) (t.reader.given ++ rest) (p.fresh ++ rest) whole)
+      (f (t.reader.given ++ rest) (record { later = rest; whole = refl; none = λ h. k (called_some r.calls t.reader.calls t.reads p.calls h.0) h.1 }));
+}
+
+pub faulted_front : (r : Reader) (t : Source) (text : List ℕ) (P : List ℕ → Type 0) → Faults (unread r) t text → ((total : List ℕ) → Covers t total → P (rest_in total (unread r))) → GaveFrontOf r t.reader P
+faulted_front r t text P p f = record {
+  text = p.fresh;
+  front = record { gave = p.gave; told = told_front r.to_come t.reader.to_come t.waiting text p.fresh (p.flows ∙ sym (append-nil text) ∙ ap (λ (z : List ℕ). text ++ z) (sym p.none)) p.bytes; loans = p.loans };
+  holds = λ rest k.
+      let whole : t.reader.given ++ rest ≡ r.given ++ (p.fresh ++ rest) = ap (λ (z : List ℕ). z ++ rest) p.gave ∙ append_assoc r.given p.fresh rest in
+      subst P (rest_is (unread r) (t.reader.given ++ rest) (p.fresh ++ rest) whole)
+      (f (t.reader.given ++ rest) (record { later = rest; whole = refl; none = λ h. k (called_some r.calls t.reader.calls t.reads p.calls h.0) h.1 }));
+}
 
 -- what is so of the looks whatever would follow
 pub took_looks : (n : ℕ) (r : Reader) (t : Source) (text : List ℕ) (to : ℕ) → PassesBut n (unread r) t text → ((total : List ℕ) → Covers t total → LooksReach [] (rest_in total (unread r)) 0 to) → TakesLooks r t.reader 0 to

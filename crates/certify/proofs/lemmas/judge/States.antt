@@ -13,9 +13,6 @@ use Rattle.certify.specs.declared.judge.NameState.TheVariants as state
 use Rattle.certify.specs.declared.judge.names.Names.{Names}
 use Rattle.certify.specs.judge.Names.{state_in, state_of_mode, mode_of_state, state_of_identity, Stands}
 
-abbrev under : Judge → ℕ → NameState
-under j name = state_of_identity j.modes (identity_of j name)
-
 none_some : {i : ℕ} → (let o : Option ℕ = None in o) ≡ Some i → ⊥
 none_some e = cc
 
@@ -170,21 +167,6 @@ moded old new j mode name h used same states =
         ∙ ap (state_of_identity j.modes) (sym x)
         ∙ h.each m
 
--- BEFORE THE FIRST COMMAND
-pub none_yet : (names : Names) → names.states.items ≡ [] → Stands names start
-none_yet names e = record {
-  first = rw e refl;
-  limit = omega arith;
-  each = λ m. rw e (nothing m);
-  given = tt;
-  modes = refl;
-  apart = λ m k i x y. absurd (none_some x);
-}
-  where
-    nothing : (m : ℕ) → state.Hidden ≡ state_in [] m
-    nothing zero = refl
-    nothing (suc i) = refl
-
 -- NAMES THAT COME IN
 pub new_past : (names : Names) (j : Judge) (name count first : ℕ) → Stands names j → j.first_unused ≤ name → count ≡ name + 1 - j.first_unused → first ≡ j.first_unused → new_names name j ≡ names_from count first
 new_past names j name count first h past c f = rw (c, f) (go (ltb name j.first_unused) refl)
@@ -202,9 +184,6 @@ below_at j name b low e = go (ltb name j.first_unused) refl
 
 pub new_hidden : (names : Names) (j : Judge) (name : ℕ) → Stands names j → name < j.first_unused → state_in names.states.items name ≡ state.Hidden → new_names name j ≡ name ∷ []
 new_hidden names j name h low e = below_at j name false low (ap is_some (hidden_none names j name h e))
-
-pub new_used : (names : Names) (j : Judge) (name : ℕ) → Stands names j → name < j.first_unused → (state_in names.states.items name ≡ state.Hidden → ⊥) → new_names name j ≡ []
-new_used names j name h low u = below_at j name true low (ap is_some (used_some names j name h u).1)
 
 pub sampled_used : (s : NameState) → s ≡ state.Sampled → s ≡ state.Hidden → ⊥
 sampled_used s e h = cc
@@ -252,9 +231,6 @@ again_at old new j index name h low n within e hidden_yet =
     let longer : length new.states.items ≡ max (length old.states.items) name = let l = a.0 in omega arith in
     let b : Stands new (with_name name j) = named old new j name h hidden_yet (omega arith) (omega arith) (omega arith) longer a.1 in
     subst (λ (ns : List ℕ). Stands new (with_names ns j)) (sym (new_hidden old j name h (omega arith) hidden_yet)) b
-
-pub used_still : (names : Names) (j : Judge) (name : ℕ) → Stands names j → name < j.first_unused → (state_in names.states.items name ≡ state.Hidden → ⊥) → Stands names (bring_in name j)
-used_still names j name h low u = subst (λ (ns : List ℕ). Stands names (with_names ns j)) (sym (new_used names j name h low u)) h
 
 pub state_next : (xs : List NameState) (index : ℕ) (s : NameState) → s ≡ get_or xs index s → s ≡ state.Hidden → state_in xs (index + 1) ≡ state.Hidden
 state_next xs index s at e =

@@ -1,5 +1,5 @@
 -- What is said of three texts, by how the confirmation of them ended.
-use Rattle.std.proofs.Common.{ℕ, ◌+◌, ◌-◌, ◌^◌, ◌<◌, ◌≤◌, ◌≡◌, ◌↔◌, ◌⊎◌, inl, inr, min, true, false, List, [], ◌++◌, Result, Ok, Err, refl, subst, arith}
+use Rattle.std.proofs.Common.{ℕ, ◌+◌, ◌-◌, ◌^◌, ◌<◌, ◌≤◌, ◌≡◌, ◌↔◌, ◌⊎◌, inl, inr, min, true, false, List, [], ◌++◌, length, Result, Ok, Err, refl, subst, arith}
 use Rattle.std.specs.Prelude.{IfOk}
 use Rattle.sat_base.specs.device.Device.{Reader, GaveEnough, ReadFails, most_reads}
 use Rattle.sat_base.specs.device.Reading.{Source, AtEnd, unread}
@@ -7,14 +7,15 @@ use Rattle.sat_base.specs.script.Judge.{start}
 use Rattle.sat_base.specs.steps.Steps.{Step}
 use Rattle.sat_base.proofs.lemmas.device.Given.{enough_as}
 use Rattle.sat_checker.specs.KernelView.{looks_of}
+use Rattle.sat_checker.specs.ProofView.{most_bytes}
 use Rattle.sat_checker.specs.declared.kernel.Kernel.{Kernel}
 use Rattle.sat_checker.specs.matching.ProofChecking.{the_checking}
 use Rattle.sat_checker.proofs.lemmas.matching.CheckerIsSound.{the_checking_sound}
 use Rattle.certify.specs.confirm.Matches.{Matches}
 use Rattle.certify.specs.confirm.Streams.{Confirms, Covers, rest_in, seen_in}
-use Rattle.certify.specs.confirm.VerdictPromises.{AreRightAnswers, Exact, Given, HasCounterEnd, HasTooMany, IsSound, TakesLooks, numbers}
+use Rattle.certify.specs.confirm.VerdictPromises.{AreRightAnswers, Exact, Given, IsSound, TakesLooks, numbers}
 use Rattle.certify.specs.confirm.Views.{View}
-use Rattle.certify.specs.confirm.Walks.{LooksReach, Spends, Tries}
+use Rattle.certify.specs.confirm.Walks.{LooksReach, Tries}
 use Rattle.certify.specs.matching.Confirming.{ConfirmsLast, HoldsAt, Table}
 use Rattle.certify.specs.matching.Halting.{Any}
 use Rattle.certify.specs.matching.Whole.{Ends, Standing, said_by}
@@ -31,11 +32,13 @@ use Rattle.certify.specs.declared.verdict.Verdict.{Verdict}
 use Rattle.certify.specs.declared.verdict.Verdict.TheVariants.{Yes, No}
 use Rattle.certify.specs.declared.verdict.Why.{Why}
 use Rattle.certify.proofs.lemmas.confirm.LeftByCommand.{left_begins}
+use Rattle.certify.proofs.lemmas.confirm.FewBytes.{nothing_spent}
 use Rattle.certify.proofs.lemmas.confirm.LooksBound.{takes_looks}
-use Rattle.certify.proofs.lemmas.confirm.Streams.{confirms_so, gave_enough, moves_halt, read_fails, took_faulted, took_looks}
+use Rattle.certify.proofs.lemmas.confirm.Streams.{confirms_so, few_given, gave_enough, moves_halt, read_fails, took_faulted, took_looks}
 use Rattle.certify.proofs.lemmas.confirm.Walks.{looks_from, tries_if}
 use Rattle.certify.proofs.lemmas.laws.ExpectedOutcomes.{matching_right}
 use Rattle.certify.proofs.lemmas.matching.Joining.{covers_given, took_kept}
+use Rattle.certify.proofs.lemmas.reading.FewCommands.{few_read}
 
 -- RIGHT ANSWERS
 
@@ -60,7 +63,7 @@ Tells x a c y b d (Err fault.ScriptRead) = Failed (unread x) y × Kept (unread a
 Tells x a c y b d (Err fault.AnswersRead) = Kept (unread x) y × Failed (unread a) b × Kept (unread c) d
 Tells x a c y b d (Err fault.CertificateRead) = Kept (unread x) y × Kept (unread a) b × Failed (unread c) d
 Tells x a c y b d (Err fault.OutOfMemory) = Kept (unread x) y × Kept (unread a) b × Kept (unread c) d
-Tells x a c y b d (Err fault.CounterEnd) = Kept (unread x) y × Kept (unread a) b × Kept (unread c) d × HasCounterEnd (x, y.reader) (c, d.reader)
+Tells x a c y b d (Err fault.CounterEnd) = ⊥
 
 -- no read failed, or one did and this is so
 abbrev Leaves : Type 0 → Reader → Source → Type 0
@@ -81,7 +84,7 @@ script_left x a c y b d (Err fault.ScriptRead) h = inr (refl, h.0)
 script_left x a c y b d (Err fault.AnswersRead) h = inl h.0
 script_left x a c y b d (Err fault.CertificateRead) h = inl h.0
 script_left x a c y b d (Err fault.OutOfMemory) h = inl h.0
-script_left x a c y b d (Err fault.CounterEnd) h = inl h.0
+script_left x a c y b d (Err fault.CounterEnd) h = absurd h
 
 answers_left : (x a c : Reader) (y b d : Source) (r : Result Verdict ConfirmFault) → Tells x a c y b d r → Leaves (r ≡ Err fault.AnswersRead) a b
 answers_left x a c y b d (Ok v) h = inl h.1
@@ -89,7 +92,7 @@ answers_left x a c y b d (Err fault.ScriptRead) h = inl h.1
 answers_left x a c y b d (Err fault.AnswersRead) h = inr (refl, h.1)
 answers_left x a c y b d (Err fault.CertificateRead) h = inl h.1
 answers_left x a c y b d (Err fault.OutOfMemory) h = inl h.1
-answers_left x a c y b d (Err fault.CounterEnd) h = inl h.1
+answers_left x a c y b d (Err fault.CounterEnd) h = absurd h
 
 certificate_left : (x a c : Reader) (y b d : Source) (r : Result Verdict ConfirmFault) → Tells x a c y b d r → Leaves (r ≡ Err fault.CertificateRead) c d
 certificate_left x a c y b d (Ok v) h = inl h.2
@@ -97,7 +100,7 @@ certificate_left x a c y b d (Err fault.ScriptRead) h = inl h.2
 certificate_left x a c y b d (Err fault.AnswersRead) h = inl h.2
 certificate_left x a c y b d (Err fault.CertificateRead) h = inr (refl, h.2)
 certificate_left x a c y b d (Err fault.OutOfMemory) h = inl h.2
-certificate_left x a c y b d (Err fault.CounterEnd) h = inl h.2
+certificate_left x a c y b d (Err fault.CounterEnd) h = absurd h
 
 said_exact : (x a c : Reader) (y b d : Source) (r : Result Verdict ConfirmFault) → Tells x a c y b d r → IfOk r (Exact (x, y.reader) (a, b.reader) (c, d.reader))
 said_exact x a c y b d (Ok v) h = h.3
@@ -110,7 +113,7 @@ pub record Promised (r : Result Verdict ConfirmFault) (script answers certificat
   pub script_read : r ≡ Err fault.ScriptRead → ReadFails script.0 script.1
   pub answers_read : r ≡ Err fault.AnswersRead → ReadFails answers.0 answers.1
   pub certificate_read : r ≡ Err fault.CertificateRead → ReadFails certificate.0 certificate.1
-  pub counter_end : r ≡ Err fault.CounterEnd → HasCounterEnd script certificate
+  pub counter_end : r ≡ Err fault.CounterEnd → ⊥
   pub kept_script : (r ≡ Err fault.ScriptRead) ⊎ (script.1.failures ≡ script.0.failures)
   pub kept_answers : (r ≡ Err fault.AnswersRead) ⊎ (answers.1.failures ≡ answers.0.failures)
   pub kept_certificate : (r ≡ Err fault.CertificateRead) ⊎ (certificate.1.failures ≡ certificate.0.failures)
@@ -131,7 +134,7 @@ promised x a c y b d r m n k h =
       script_read = λ e. let f = (subst T e h).0 in read_fails x y f.0 m f.1;
       answers_read = λ e. let f = (subst T e h).1 in read_fails a b f.0 n f.1;
       certificate_read = λ e. let f = (subst T e h).2 in read_fails c d f.0 k f.1;
-      counter_end = λ e. (subst T e h).3;
+      counter_end = λ e. subst T e h;
       kept_script = kept_or (r ≡ Err fault.ScriptRead) x y s;
       kept_answers = kept_or (r ≡ Err fault.AnswersRead) a b t;
       kept_certificate = kept_or (r ≡ Err fault.CertificateRead) c d u;
@@ -209,28 +212,33 @@ module _ (x a c : Reader) (checker : Kernel) (step : Step) (table : Table) (fres
       gave_enough c new.certificate.source p.0.0.0 (λ u. (No ask why ≡ Yes) ↔ Matches the_checking reading s t u) p.0.0.1 p.0.1
       (λ more m. ((λ said. absurd (cc)), (λ same. absurd (unmatched s t (rest_in more (unread c)) why (p.1 more m) same))))))
 
-  tells : (r : Result (Unit {0}) Halt) (asks : ℕ) → Ends reading r old new → Tells x a c new.script new.answers new.certificate.source (said_by r asks)
-  tells (Ok u) asks e =
+  tells : (r : Result (Unit {0}) Halt) (asks : ℕ) → new.script.reads ≤ most_reads → new.certificate.source.reads ≤ most_reads → Ends reading r old new → Tells x a c new.script new.answers new.certificate.source (said_by r asks)
+  tells (Ok u) asks short few e =
       let j = e.1 last (covers_given new.script) in
       let p = j.1 new.answers.reader.given (covers_given new.answers) in
       (took_kept false old.script new.script e.0, took_kept false old.answers new.answers j.0, (p.0.1.failures, p.0.1.calls), yes_exact e)
-  tells (Err (halt.Stop (stop.No why))) asks e =
+  tells (Err (halt.Stop (stop.No why))) asks short few e =
       let j = e.1 last (covers_given new.script) in
       let p = j.1 new.answers.reader.given (covers_given new.answers) in
       (took_kept false old.script new.script e.0, took_kept false old.answers new.answers j.0, (p.0.0.1.failures, p.0.0.1.calls), no_exact (min (asks + 1) (2 ^ 64 - 1)) why e)
-  tells (Err (halt.Stop stop.OutOfMemory)) asks e = let p = e.1.1 in (e.0, e.1.0, (p.0.0.1.failures, p.0.0.1.calls))
-  tells (Err (halt.Stop stop.Read)) asks e = let p = e.1.1 in (e.0, e.1.0, (p.0.0, p.0.1))
-  tells (Err (halt.Stop stop.CounterEnd)) asks e =
+  tells (Err (halt.Stop stop.OutOfMemory)) asks short few e = let p = e.1.1 in (e.0, e.1.0, (p.0.0.1.failures, p.0.0.1.calls))
+  tells (Err (halt.Stop stop.Read)) asks short few e = let p = e.1.1 in (e.0, e.1.0, (p.0.0, p.0.1))
+  tells (Err (halt.Stop stop.CounterEnd)) asks short few e =
       let p = e.1.1 in
-      (e.0, e.1.0, (p.0.0.1.failures, p.0.0.1.calls), inr (gave_enough c new.certificate.source p.0.0.0 (Spends []) p.0.0.1 p.0.1 (λ more m. p.1 more m [] (fresh (rest_in more (unread c))).at.taken)))
-  tells (Err halt.AnswersRead) asks e = let p = e.1.1 in (e.0, e.1.0, (p.0.0.1.failures, p.0.0.1.calls))
-  tells (Err halt.ScriptRead) asks e = let p = e.1.1 in (e.0, e.1.0, (p.0.0.1.failures, p.0.0.1.calls))
-  tells (Err halt.TooMany) asks e =
-      let p = e.2.1 in
-      (took_kept false old.script new.script e.0, e.2.0, (p.0.0.1.failures, p.0.0.1.calls), inl (given x new.script HasTooMany e.0 (λ total k. many (numbers (reading (rest_in total (unread x)))) (e.1 total k))))
+      let all = new.certificate.source.reader.given in
+      absurd (nothing_spent (rest_in all (unread c)) (few_given 1 c new.certificate.source p.0.0.0 p.0.0.1 few) (p.1 all (covers_given new.certificate.source) [] (fresh (rest_in all (unread c))).at.taken))
+  tells (Err halt.AnswersRead) asks short few e = let p = e.1.1 in (e.0, e.1.0, (p.0.0.1.failures, p.0.0.1.calls))
+  tells (Err halt.ScriptRead) asks short few e = let p = e.1.1 in (e.0, e.1.0, (p.0.0.1.failures, p.0.0.1.calls))
+  tells (Err halt.TooMany) asks short few e =
+      let all = new.script.reader.given in
+      let text = rest_in all (unread x) in
+      let many = e.1 all (covers_given new.script) in
+      let most = few_given 1 x new.script e.0.0.0 e.0.0.1 short in
+      let read = few_read text in
+      absurd (too_many (numbers (reading text)) (length text) many read most)
     where
-      many : (n : ℕ) → 2 ^ 64 < 1 + n → 2 ^ 64 ≤ n
-      many n h = omega arith
+      too_many : (n l : ℕ) → 2 ^ 64 < 1 + n → n ≤ l + 2 → l ≤ most_bytes → ⊥
+      too_many n l h k m = absurd (let e : most_bytes + 2 < 2 ^ 64 = omega arith in omega arith)
 
   -- HOW MANY LOOKS IT TOOK
 
@@ -275,7 +283,7 @@ module _ (x a c : Reader) (checker : Kernel) (step : Step) (table : Table) (fres
 pub keeps_promises : (x a c : Reader) (checker : Kernel) (step : Step) (table : Table) (new : Standing) → IsBegun checker step table → (r : Result (Unit {0}) Halt) (asks : ℕ) → new.script.reads ≤ most_reads → new.answers.reads ≤ most_reads → new.certificate.source.reads ≤ most_reads
     → Ends reading r (begun x a c checker step table) new → Promised (said_by r asks) (x, new.script.reader) (a, new.answers.reader) (c, new.certificate.source.reader)
 keeps_promises x a c checker step table new fresh r asks m n k h =
-    promised x a c new.script new.answers new.certificate.source (said_by r asks) m n k (tells x a c checker step table fresh new r asks h)
+    promised x a c new.script new.answers new.certificate.source (said_by r asks) m n k (tells x a c checker step table fresh new r asks m k h)
 
 -- by how the three are read as it begins
 pub begins : (r : Result (Unit {0}) Halt) (x a c : Reader) (script answers : Ahead) (certificate : Source) (checker : Kernel) (step : Step) (number : ℕ) (table : Table) (new : Standing)

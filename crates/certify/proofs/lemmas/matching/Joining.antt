@@ -11,7 +11,7 @@ use Rattle.certify.specs.declared.matching.halt.Halt.{Halt}
 use Rattle.certify.specs.declared.matching.halt.Halt.TheVariants as halt
 use Rattle.certify.specs.declared.verdict.Why.{Why}
 use Rattle.certify.specs.matching.Halting.{Any, Joins, Replies}
-use Rattle.certify.specs.reading.Ahead.{Failed, Kept, Took}
+use Rattle.certify.specs.reading.Ahead.{Failed, Kept, Passed, Took}
 use Rattle.certify.proofs.lemmas.confirm.Streams.{confirms_none, confirms_so, confirms_stop, confirms_then, covers_back, moves_halt, stays_open, then_stop}
 use Rattle.certify.proofs.lemmas.confirm.Walks.{tries_none}
 
@@ -48,6 +48,11 @@ took_then false s t u p q = ((p.0 ++ q.0.0, passes_more s t u p.0 q.0.0 p.1 q.0.
 pub took_kept : (goes : Bool) (s t : Source) → Took goes s t → Kept s t
 took_kept true s t p = (p.1.failures, p.1.calls)
 took_kept false s t p = (p.0.1.failures, p.0.1.calls)
+
+-- whether or not it goes on
+pub took_passed : (goes : Bool) (s t : Source) → Took goes s t → Passed s t
+took_passed true s t p = (p.0, weaker s t p.0 p.1)
+took_passed false s t p = p.0
 
 pub covers_took : (goes : Bool) (s t : Source) (total : List ℕ) → (AtEnd s → ⊥) → Took goes s t → Covers t total → Covers s total
 covers_took true s t total open_yet p c = covers_back 0 s t p.0 total open_yet p.1 c

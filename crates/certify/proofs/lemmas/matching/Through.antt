@@ -104,7 +104,7 @@ module _ (text : List ℕ → Reading) (old mid : Standing) (reader after_reader
 
   pub unread : (e : ReadError) (new : Source) → Comes (Err e) mid.script new reader after_reader → Ends text (Err (script_halt e)) old (record mid { script = new })
   unread errors.Failed new f = unread_script new f
-  unread errors.OutOfMemory new f = short_script new f
+  unread errors.OutOfMemory new f = short_script new (took_kept true mid.script new f)
 
   -- the end
   module _ (new : Standing) (M : Type 0) (took : Took false mid.script new.script) (left : Reading) (is : (total : List ℕ) → Covers new.script total → through.left (rest_in total mid.script) ≡ left) where

@@ -10,7 +10,7 @@ use Rattle.sat_base.specs.declared.device.whole.ReadError.{ReadError}
 use Rattle.sat_base.specs.declared.device.whole.ReadError.TheVariants as errors
 use Rattle.sat_base.proofs.lemmas.device.ReadLemmas.{gave_some, gave_nothing, passes_more}
 use Rattle.certify.specs.confirm.Streams.{rest_in}
-use Rattle.certify.specs.reading.Ahead.{Refills, source_in, waiting}
+use Rattle.certify.specs.reading.Ahead.{Refills, Took, source_in, waiting}
 use Rattle.certify.specs.reading.Commands.{EndsLast, MeansIf, TakesBytes, end_if}
 use Rattle.certify.specs.reading.Streaming.{Arrives, Brings, Comes, Finishes, Takes}
 use Rattle.certify.specs.declared.ahead.Ahead.{Ahead}
@@ -22,7 +22,7 @@ use Rattle.certify.specs.declared.reading.stream.CommandStream.{CommandStream}
 use Rattle.certify.specs.declared.reading.stream.Next.{Next}
 use Rattle.certify.specs.declared.reading.stream.Next.TheVariants as next
 use Rattle.certify.proofs.lemmas.confirm.Streams.{all_over, nothing_behind, stays_open, taken_front}
-use Rattle.certify.proofs.lemmas.matching.Joining.{covers_took, failed_then, kept_then, took_halted, took_kept, took_then}
+use Rattle.certify.proofs.lemmas.matching.Joining.{covers_took, failed_then, took_halted, took_none, took_then}
 use Rattle.certify.proofs.lemmas.reading.Ahead.{passes_front}
 use Rattle.certify.proofs.lemmas.reading.Bytes.{followed, goes_nowhere}
 
@@ -54,6 +54,12 @@ module _ {R : Type 0} (seen : R → Reader) (r : R) (old new : CommandStream) (s
           λ asks before m total c.
               ap before (taken_front 0 (source_in seen r old.ahead) (source_in seen r new.ahead) h.0 total h.1 c) ∙ h.3 asks before m (rest_in total (source_in seen r new.ahead)) ∙ sym (malformed asks),
         )
+
+-- no memory was left for them
+pub brings_none : {R : Type 0} (seen : R → Reader) (r : R) (old new : CommandStream) (e : ReadError) → e ≡ errors.OutOfMemory → new.ahead ≡ old.ahead → Brings (Err e) (source_in seen r old.ahead) (source_in seen r new.ahead) old.reader new.reader
+brings_none seen r old new e starved same =
+    subst (λ (x : ReadError). Brings (Err x) (source_in seen r old.ahead) (source_in seen r new.ahead) old.reader new.reader) (sym starved)
+    (subst (λ (a : Ahead). Took true (source_in seen r old.ahead) (source_in seen r a)) (sym same) (took_none (source_in seen r old.ahead)))
 
 -- fewer rounds are left
 pub taken_fewer : (old new : Ahead) (text : List ℕ) → waiting old ≡ text ++ waiting new → new.reads ≡ old.reads → 0 < length text → 4097 * (most_reads - new.reads) + length (waiting new) < 4097 * (most_reads - old.reads) + length (waiting old)
@@ -87,7 +93,7 @@ refill_ends n (next.End e) a b old new none h f =
 module _ (a b c : Source) (old mid new : ScriptReader) (text : List ℕ) (open_yet : AtEnd a → ⊥) (p : Passes a b text) (f : (asks : Bool) → Follows (MeansIf asks) old text mid) where
   pub brings_then : (e : ReadError) → Brings (Err e) b c mid new → Comes (Err e) a c old new
   brings_then errors.Failed h = failed_then a b c (text, p) h
-  brings_then errors.OutOfMemory h = kept_then a b c (took_kept true a b (text, p)) h
+  brings_then errors.OutOfMemory h = took_then true a b c (text, p) h
 
   pub follows_more : Brings (Ok None) b c mid new → (whole : List ℕ) × Passes a c whole × ((asks : Bool) → Follows (MeansIf asks) old whole new)
   follows_more h = (text ++ h.0, passes_more a b c text h.0 p h.1, followed reached.More old mid new text h.0 f h.2)

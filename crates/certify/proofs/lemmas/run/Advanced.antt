@@ -42,10 +42,6 @@ session_of c last = record {
   last = last;
 }
 
-pick : (b : Bool) (p q : Contents) (last : Option (List ℕ)) → (if b then session_of p last else session_of q last) ≡ session_of (if b then p else q) last
-pick true p q last = refl
-pick false p q last = refl
-
 either : (b : Bool) (x y : Session) (p q : Contents) (last : Option (List ℕ)) → x ≡ session_of p last → y ≡ session_of q last → (if b then x else y) ≡ session_of (if b then p else q) last
 either true x y p q last e f = e
 either false x y p q last e f = f
@@ -331,7 +327,7 @@ timed : {c d : Counting} {m w : List Step} → Cuts c m w d → (steps opened : 
 timed {c} {d} {m} {w} p [] opened k e t = record { middle = []; before = w; mid = d; whole = refl; cuts = subst (λ (n : List Step). Cuts c n w d) e p; times = t; unordered = λ u. tt }
 timed none_made (s ∷ steps) opened k e t = none_first s (steps ++ opened) e
 timed {c} {d} {m} {w} (ask_begun {d = b} p) (s ∷ steps) opened k e t = timed {c = c} {d = b} {m = m} {w = w} p (s ∷ steps) opened k e t
-timed (one_made {d = d} {made = m} {written = w} step kw p) (s ∷ steps) opened k e (inl t) =
+timed (one_made {d = d} {made = m} {written = w} step kw p) (s ∷ steps) opened k e (inl (t, still)) =
     let q = timed p steps opened k (same_later step s m (steps ++ opened) e) t in
     let f = written_for d.bits (counted step d).bits step in
     record {

@@ -1,5 +1,6 @@
 -- What a run has done at its end.
-use Rattle.std.proofs.Common.{ℕ, ◌+◌, ◌≤◌, ◌≡◌, ◌∙◌, true, false, Option, Some, None, List, [], ◌∷◌, ◌++◌, map, length, Result, Ok, Err, OnOk, IfOk, refl, sym, ap, subst, arith, append-nil}
+use Rattle.std.proofs.Common.{ℕ, ◌+◌, ◌≤◌, ◌≡◌, ◌∙◌, true, false, Option, Some, None, List, [], ◌∷◌, ◌++◌, map, length, Result, Ok, Err, OnErr, OnOk, IfOk, refl, sym, ap, subst, arith, append-nil}
+use Rattle.std.proofs.Math.Logic.{∥∥₁_elim, ∥∥₁_prop}
 use Rattle.sat_base.specs.device.Device.{Reader, Writer, GaveEnough, Takes, lent_writer, most_reads}
 use Rattle.sat_base.specs.device.Reading.{Source, unread}
 use Rattle.sat_base.specs.device.Sink.{empty_sink}
@@ -15,13 +16,14 @@ use Rattle.sat_solver.specs.session.OutputView.{text_in}
 use Rattle.sat_solver.specs.session.ProofTexts.{TookText}
 use Rattle.sat_solver.specs.session.ProofView.{Closed, Open, Broken, Carries, Stops, Gives, TakesAll, is_open, target_of}
 use Rattle.sat_solver.specs.session.Session.{MayAll}
+use Rattle.sat_solver.specs.solver.Fronts.{Went}
 use Rattle.sat_solver.specs.solver.Whole.{steps_in}
 use Rattle.sat_solver.proofs.lemmas.session.CutsLemmas.{cuts_are_free}
 use Rattle.sat_solver.proofs.lemmas.session.ProofLemmas.{closed_is_text}
 use Rattle.sat_solver.proofs.lemmas.session.StepLemmas.{sessions_are_accepted}
 use Rattle.certify.specs.Calls.{NoneFailed, OneFailed}
 use Rattle.certify.specs.answers.Answers.{answers_from, answers_text}
-use Rattle.certify.specs.confirm.Streams.{rest_in}
+use Rattle.certify.specs.confirm.Streams.{Covers, rest_in}
 use Rattle.certify.specs.declared.fault.RunFault.{RunFault}
 use Rattle.certify.specs.declared.fault.RunFault.TheVariants as fault
 use Rattle.certify.specs.declared.serving.session.Session.{Session}
@@ -32,17 +34,21 @@ use Rattle.certify.specs.reading.Ahead.{source_in, waiting}
 use Rattle.sat_base.specs.script.Language.{reading, written}
 use Rattle.certify.specs.run.FinishedRun.{Answered, Answers, Backs, TookCertificate, asked_steps, identities_given, malformed_at, AreSpent}
 use Rattle.certify.specs.run.Running.{ReadsFew, Runs, Wrote}
+use Rattle.certify.specs.run.Unfinished.{StepsFront, TookFront, TookSteps, Unfinished}
 use Rattle.certify.specs.serving.Calls.{Faults, IsReady, proof_in}
 use Rattle.certify.specs.serving.Certifies.{Certifies, complete, ordered}
-use Rattle.certify.specs.serving.Ending.{ClosedBy, EndsRun, GivenBack, HasTarget, IsOpen, SumsUp}
+use Rattle.certify.specs.serving.Ending.{ClosedBy, EndsRun, GivenBack, GivesFront, HasTarget, IsOpen, SumsUp}
+use Rattle.certify.specs.serving.Standing.{place_in}
 use Rattle.certify.specs.serving.Stretches.{MadeFor}
 use Rattle.certify.specs.serving.Whole.{Ends, FailsWhole, ServesWhole}
 use Rattle.certify.proofs.lemmas.run.Unhidden.{none_deletes}
 use Rattle.certify.proofs.lemmas.run.Unknown.{unknown_asks_learn}
-use Rattle.certify.proofs.lemmas.confirm.Streams.{gave_enough, read_fails}
+use Rattle.certify.proofs.lemmas.confirm.Streams.{faulted_front, gave_enough, passed_front, read_fails}
 use Rattle.certify.proofs.lemmas.matching.Joining.{covers_given, took_kept}
 use Rattle.certify.proofs.lemmas.serving.MadeCertifies.{made_certifies}
+use Rattle.certify.proofs.lemmas.serving.ProofFronts.{went_broke, went_took}
 use Rattle.certify.proofs.lemmas.serving.SessionCalls.{broke_later, took_both}
+use Rattle.certify.proofs.lemmas.serving.Stopping.{front_whole}
 use Rattle.certify.proofs.lemmas.serving.Written.{written_certifies}
 use Rattle.certify.specs.serving.Quiet.{Proof}
 
@@ -216,11 +222,11 @@ module _ {C : Type 0} (seen : C → Writer) (budget : ℕ) (w : Writer) (s t : S
   -- not all was served
   served_fault : (e : RunFault) → FailsWhole seen e (unread x) b s.solver t.solver u v → z ≡ v → Gives (target_of seen (proof_in t.solver)) (Some (seen given)) → Runs (Err e) budget (x, b.reader) (u, z) (w, seen given)
   served_fault fault.ScriptRead h same g = (read_fails x b h.0.0 bounded h.0.1, subst (NoneFailed u) (sym same) h.1, given_none seen w (proof_in s.solver) (proof_in t.solver) fresh.target (seen given) h.2 g)
-  served_fault fault.AnswersWrite h same g = (h.0.0, subst (OneFailed u) (sym same) h.1, given_none seen w (proof_in s.solver) (proof_in t.solver) fresh.target (seen given) h.2 g)
-  served_fault fault.CertificateWrite h same g = (h.0.0, subst (NoneFailed u) (sym same) h.1, given_one seen w (proof_in s.solver) (proof_in t.solver) fresh.target (seen given) h.2 g)
-  served_fault fault.OutOfMemory h same g = (h.0.0, subst (NoneFailed u) (sym same) h.1, given_none seen w (proof_in s.solver) (proof_in t.solver) fresh.target (seen given) h.2 g)
-  served_fault fault.StoreFull h same g = (h.0.0, subst (NoneFailed u) (sym same) h.1, given_none seen w (proof_in s.solver) (proof_in t.solver) fresh.target (seen given) h.2 g)
-  served_fault fault.CounterEnd h same g = (h.0.0, subst (NoneFailed u) (sym same) h.1, given_none seen w (proof_in s.solver) (proof_in t.solver) fresh.target (seen given) h.2 g)
+  served_fault fault.AnswersWrite h same g = (h.0.1.failures, subst (OneFailed u) (sym same) h.1, given_none seen w (proof_in s.solver) (proof_in t.solver) fresh.target (seen given) h.2 g)
+  served_fault fault.CertificateWrite h same g = (h.0.1.failures, subst (NoneFailed u) (sym same) h.1, given_one seen w (proof_in s.solver) (proof_in t.solver) fresh.target (seen given) h.2 g)
+  served_fault fault.OutOfMemory h same g = (h.0.1.failures, subst (NoneFailed u) (sym same) h.1, given_none seen w (proof_in s.solver) (proof_in t.solver) fresh.target (seen given) h.2 g)
+  served_fault fault.StoreFull h same g = (h.0.1.failures, subst (NoneFailed u) (sym same) h.1, given_none seen w (proof_in s.solver) (proof_in t.solver) fresh.target (seen given) h.2 g)
+  served_fault fault.CounterEnd h same g = (h.0.1.failures, subst (NoneFailed u) (sym same) h.1, given_none seen w (proof_in s.solver) (proof_in t.solver) fresh.target (seen given) h.2 g)
 
   pub runs_so : (served : Result (Option ℕ) RunFault) (r : Result Summary RunFault) → Ends seen start reading written served (unread x) b s t u v → EndsRun seen served r t given v z → Runs r budget (x, b.reader) (u, z) (w, seen given)
   runs_so (Ok at) (Ok summary) h f =
@@ -236,23 +242,60 @@ module _ {C : Type 0} (seen : C → Writer) (budget : ℕ) (w : Writer) (s t : S
         answers_flushed = f.0.2;
         certificate_flushed = flushed_text seen budget w s t fresh all at summary given u v z k f.0.0 f.0.1 f.1;
       }
-  runs_so (Ok at) (Err e) h f = ended_fault e at h f
-  runs_so (Err e) r h f = subst (λ (q : Result Summary RunFault). Runs q budget (x, b.reader) (u, z) (w, seen given)) (sym f.0) (served_fault e h f.1 f.2)
+  runs_so (Ok at) (Err e) h f = ended_fault e at h f.0
+  runs_so (Err e) r h f = subst (λ (q : Result Summary RunFault). Runs q budget (x, b.reader) (u, z) (w, seen given)) (sym f.0) (served_fault e h.0 f.1 f.2)
+
+  -- what it has written of the answers
+  abbrev Front : List ℕ → Writer → Type 0
+  Front text w = TookFront 1 start (reading text) u w
+
+  first_command : (text : List ℕ) (w : Writer) → TookFront (s.commands + 1) start (reading text) u w → Front text w
+  first_command text w k = subst (λ (n : ℕ). TookFront (n + 1) start (reading text) u w) fresh.commands k
+
+  served_front : (e : RunFault) → FailsWhole seen e (unread x) b s.solver t.solver u v → ((total : List ℕ) → Covers b total → Front (rest_in total (unread x)) z) → Unfinished (x, b.reader) (u, z)
+  served_front fault.ScriptRead h f = faulted_front x b h.0.0 (λ text. Front text z) h.0.1 f
+  served_front fault.AnswersWrite h f = passed_front 1 x b h.0.0 (λ text. Front text z) h.0.1 f
+  served_front fault.CertificateWrite h f = passed_front 1 x b h.0.0 (λ text. Front text z) h.0.1 f
+  served_front fault.OutOfMemory h f = passed_front 1 x b h.0.0 (λ text. Front text z) h.0.1 f
+  served_front fault.StoreFull h f = passed_front 1 x b h.0.0 (λ text. Front text z) h.0.1 f
+  served_front fault.CounterEnd h f = passed_front 1 x b h.0.0 (λ text. Front text z) h.0.1 f
+
+  pub unfinished_so : (served : Result (Option ℕ) RunFault) (r : Result Summary RunFault) → Ends seen start reading written served (unread x) b s t u v → EndsRun seen served r t given v z → OnErr r (Unfinished (x, b.reader) (u, z))
+  unfinished_so (Ok at) (Ok summary) h f = tt
+  unfinished_so (Ok at) (Err e) h f = passed_front 1 x b h.0.0.0 (λ text. Front text z) h.0.0.1
+      (λ total k.
+      let all = h.2 total k in
+      first_command (rest_in total (unread x)) z (front_whole s.budget (place_in s start) (reading (rest_in total (unread x))) (steps_in t.solver) all.text all.reports all.refused u v z all.serves all.told f.1))
+  unfinished_so (Err e) r h f = subst (λ (q : Result Summary RunFault). OnErr q (Unfinished (x, b.reader) (u, z))) (sym f.0)
+      (served_front e h.0 (λ total k. subst (λ (w : Writer). Front (rest_in total (unread x)) w) (sym f.1) (first_command (rest_in total (unread x)) v (h.1 total k))))
+
+  -- what it has written of the certificate
+  fails_went : (e : RunFault) → FailsWhole seen e (unread x) b s.solver t.solver u v → Went seen s.solver t.solver
+  fails_went fault.ScriptRead h = went_took seen s.solver t.solver h.2
+  fails_went fault.AnswersWrite h = went_took seen s.solver t.solver h.2
+  fails_went fault.CertificateWrite h = went_broke seen s.solver t.solver h.2
+  fails_went fault.OutOfMemory h = went_took seen s.solver t.solver h.2
+  fails_went fault.StoreFull h = went_took seen s.solver t.solver h.2
+  fails_went fault.CounterEnd h = went_took seen s.solver t.solver h.2
+
+  pub steps_so : (served : Result (Option ℕ) RunFault) → Ends seen start reading written served (unread x) b s t u v → GivesFront seen t.solver given → TookSteps (w, seen given)
+  steps_so (Ok at) h g = g.front s.solver w fresh.target fresh.steps (went_took seen s.solver t.solver (h.2 b.reader.given (covers_given b)).took)
+  steps_so (Err e) h g = g.front s.solver w fresh.target fresh.steps (fails_went e h.0)
 
   few_by : b.reader.calls + 0 ≡ x.calls + b.reads → ReadsFew (x, b.reader)
   few_by e = omega arith
 
   few_faults : (e : RunFault) → FailsWhole seen e (unread x) b s.solver t.solver u v → ReadsFew (x, b.reader)
   few_faults fault.ScriptRead h = few_by h.0.1.calls
-  few_faults fault.AnswersWrite h = few_by h.0.1
-  few_faults fault.CertificateWrite h = few_by h.0.1
-  few_faults fault.OutOfMemory h = few_by h.0.1
-  few_faults fault.StoreFull h = few_by h.0.1
-  few_faults fault.CounterEnd h = few_by h.0.1
+  few_faults fault.AnswersWrite h = few_by h.0.1.calls
+  few_faults fault.CertificateWrite h = few_by h.0.1.calls
+  few_faults fault.OutOfMemory h = few_by h.0.1.calls
+  few_faults fault.StoreFull h = few_by h.0.1.calls
+  few_faults fault.CounterEnd h = few_by h.0.1.calls
 
   pub reads_few : (served : Result (Option ℕ) RunFault) → Ends seen start reading written served (unread x) b s t u v → ReadsFew (x, b.reader)
   reads_few (Ok at) h = few_by (took_kept false (unread x) b h.0).1
-  reads_few (Err e) h = few_faults e h
+  reads_few (Err e) h = few_faults e h.0
 
   -- the target isn't closed yet
   fails_some : (e : RunFault) → FailsWhole seen e (unread x) b s.solver t.solver u v → HasTarget seen t.solver
@@ -265,7 +308,7 @@ module _ {C : Type 0} (seen : C → Writer) (budget : ℕ) (w : Writer) (s t : S
 
   pub has_target : (served : Result (Option ℕ) RunFault) → Ends seen start reading written served (unread x) b s t u v → HasTarget seen t.solver
   has_target (Ok at) h = took_target seen w (proof_in s.solver) (proof_in t.solver) fresh.target (h.2 b.reader.given (covers_given b)).took
-  has_target (Err e) h = fails_some e h
+  has_target (Err e) h = fails_some e h.0
 
   pub is_open_yet : (served : Result (Option ℕ) RunFault) → Ends seen start reading written served (unread x) b s t u v → OnOk served (IsOpen seen t.solver)
   is_open_yet (Ok at) h = took_open_target seen w (proof_in s.solver) (proof_in t.solver) fresh.target (h.2 b.reader.given (covers_given b)).took
@@ -339,6 +382,26 @@ pub runs_lent : {C : Type 0} (seen : C → Writer) (budget : ℕ) (x y : Reader)
 runs_lent seen budget x y u z a c v given back same r h =
     let is_back : c ≡ v = same (unlent_names (seen a) (seen v) given back (loans_kept budget x y u z (seen a) (seen v) given back r h)) in
     subst (λ (k : _). Runs r budget (x, y) (u, z) (seen a, seen k)) (sym is_back) (unlent budget x y u z (seen a) (seen v) given back r h)
+
+unlent_steps : (a b : Writer) (given back : ℕ) → TookSteps (lent_writer given a, lent_writer back b) → TookSteps (a, b)
+unlent_steps a b given back h = ∥∥₁_elim h ∥∥₁_prop (λ (k : StepsFront (lent_writer given a) (lent_writer back b)). ∣ record {
+  made = k.made;
+  steps = k.steps;
+  counting = k.counting;
+  cuts = k.cuts;
+  accepted = k.accepted;
+  bytes = k.bytes;
+  behind = k.behind;
+  whole = k.whole;
+  took = record { taken = k.took.taken; told = k.took.told };
+} ∣₁)
+
+-- the same of what it took of the certificate
+pub steps_lent : {C : Type 0} (seen : C → Writer) (budget : ℕ) (x y : Reader) (u z : Writer) (a c v : C) (given back : ℕ) → (given ≡ back → c ≡ v) → (r : Result Summary RunFault)
+    → Runs r budget (x, y) (u, z) (lent_writer given (seen a), lent_writer back (seen v)) → TookSteps (lent_writer given (seen a), lent_writer back (seen v)) → TookSteps (seen a, seen c)
+steps_lent seen budget x y u z a c v given back same r h k =
+    let is_back : c ≡ v = same (unlent_names (seen a) (seen v) given back (loans_kept budget x y u z (seen a) (seen v) given back r h)) in
+    subst (λ (q : _). TookSteps (seen a, seen q)) (sym is_back) (unlent_steps (seen a) (seen v) given back k)
 
 -- WHAT A RUN PROMISES
 

@@ -19,7 +19,7 @@ use Rattle.sat_solver.specs.search.Solving.{AdvancesIn}
 use Rattle.sat_solver.specs.session.Coming.{Comes, EndsAtUnsat}
 use Rattle.sat_solver.specs.session.ProofView.{steps_of}
 use Rattle.sat_solver.specs.solver.Adding.{Assumed, Forgets}
-use Rattle.sat_solver.specs.solver.Calls.{told_as}
+use Rattle.sat_solver.specs.solver.Calls.{learned_of, told_as}
 use Rattle.sat_solver.specs.solver.Resting.{core_for}
 use Rattle.sat_solver.specs.solver.Whole.{IsWhole, steps_in, line_in}
 use Rattle.certify.specs.answers.AnswerForms.{named_literals}
@@ -175,11 +175,8 @@ forgets_either states.Unknown states.UnsatUnderAssumptions h = absurd h
 forgets_either states.Sat states.UnsatUnderAssumptions h = absurd h
 forgets_either states.UnsatUnderAssumptions states.UnsatUnderAssumptions h = absurd h
 
--- an ask: its literals were assumed, the solver searched, and nothing is assumed from there on
-module _ {C : Type 0} (seen : C → Writer) (old mid now new : Solver C) (user : List ℕ) (budget : ℕ) (report : AskReport) (opened : Assumed seen old mid user) (searched : Searched seen budget report mid now) (closed : Assumed seen now new []) (right : IsToldRight report.answer now) where
-  ls : List Literal
-  ls = named_literals user
-
+-- an ask: its literals were assumed, and the solver searched; nothing is assumed from there on
+module _ {C : Type 0} (seen : C → Writer) (old mid now : Solver C) (user : List ℕ) (budget : ℕ) (report : AskReport) (opened : Assumed seen old mid user) (searched : Searched seen budget report mid now) (right : IsToldRight report.answer now) where
   o : Outcome
   o = outcome_for report.answer now
 
@@ -222,7 +219,7 @@ module _ {C : Type 0} (seen : C → Writer) (old mid now new : Solver C) (user :
       let r = searched.rounds in let l = searched.limited.rounds in
       let count : now.clock.steps - searched.mid.clock.steps ≡ report.steps = omega arith in
       subst (λ n. AdvancesIn (steps_in mid) (steps_in now) n) count
-      (subst (λ ss. AdvancesIn ss (steps_in now) (now.clock.steps - searched.mid.clock.steps)) same_steps (searched.solved.answered.times st))
+      (subst (λ ss. AdvancesIn ss (steps_in now) (now.clock.steps - searched.mid.clock.steps)) same_steps (subst (λ x. AdvancesIn (steps_in searched.mid) (steps_in now) (learned_of x (now.clock.steps - searched.mid.clock.steps))) st searched.solved.answered.times))
 
   pub ask_spent : IsSpent budget old.clock.steps report
   ask_spent = subst (λ (n : ℕ). IsSpent budget n report) (ap (λ (x : _). x.steps) opened.clock) searched.spent
@@ -240,9 +237,6 @@ module _ {C : Type 0} (seen : C → Writer) (old mid now new : Solver C) (user :
     second : solver.Kept now.names (steps_in searched.mid) (steps_in now) (accepted (Ask (named_literals user)) j) (told_as searched.mid.state now.state (line_in now) now.assumed.items now.told.failed_core.items)
     second = searched.solved.answered.did.does.kept (accepted (Ask (named_literals user)) j) first.live agree_at
 
-    third : solver.Kept new.names (steps_in now) (steps_in new) (accepted (Ask (named_literals user)) j) (Opens [] Unknown ∷ [])
-    third = (closed.did Unknown).does.kept (accepted (Ask (named_literals user)) j) second.live second.agree
-
     named : HasTrace the_checking (steps_in old) (steps_in mid) (bringing (names_of (named_literals user)) j ++ (Opens (named_literals user) (outcome_for report.answer now) ∷ []))
     named = subst (λ ns. HasTrace the_checking (steps_in old) (steps_in mid) (bringing ns j ++ (Opens (named_literals user) (outcome_for report.answer now) ∷ []))) (sym (names_same user)) first.trace
 
@@ -252,22 +246,6 @@ module _ {C : Type 0} (seen : C → Writer) (old mid now new : Solver C) (user :
     shown : HasTrace the_checking (steps_in mid) (steps_in now) (showing_if (the_checking.unsat (steps_in now)) (accepted (Ask (named_literals user)) j) (named_literals user) (outcome_for report.answer now))
     shown = answer_shown now searched.solved.answered.did.whole (named_literals user) assumed_is (accepted (Ask (named_literals user)) j) searched.mid.state (steps_in mid) report.answer searched.solved.answer_is was_unknown listed
         (subst (λ ss. HasTrace the_checking ss (steps_in now) (told_as searched.mid.state now.state (line_in now) now.assumed.items now.told.failed_core.items)) same_steps second.trace)
-
-    shut : HasTrace the_checking (steps_in now) (steps_in new) (Closes ∷ [])
-    shut = closed_by_none Unknown third.trace
-
-    pub ask_steps : AskStretches j (named_literals user) (outcome_for report.answer now) report.steps (steps_in old) (steps_in new)
-    ask_steps = record {
-      opened = steps_in mid;
-      shown = steps_in now;
-      opens = record { due = named; comes = subst (λ ns. Comes (MayTake ns) (steps_in old) (steps_in mid)) (sym (names_same user)) opened.comes };
-      searches = record { due = shown; comes = subst (λ ss. Comes EndsAtUnsat ss (steps_in now)) same_steps searched.solved.answered.comes };
-      closes = record { due = shut; comes = closed.comes };
-      known = known;
-      recorded = λ u. unsat_outcome now report.answer (unsat_known now searched.solved.answered.did.whole u) searched.solved.answer_is;
-      sought = sought;
-      spent = spent;
-    }
 
     pub ask_right : IsRight (accepted (Ask (named_literals user)) j) (named_literals user) (outcome_for report.answer now)
     ask_right = told_right now (named_literals user) assumed_is (accepted (Ask (named_literals user)) j) second.live second.agree report.answer right
@@ -281,11 +259,31 @@ module _ {C : Type 0} (seen : C → Writer) (old mid now new : Solver C) (user :
         let few : report.steps < most = omega arith in
         record { few = few; answered = λ left unknown. let all = ask_spent.unknown unknown in omega arith }
 
-    pub ask_then : (then : Live) × solver.Agree new.names (steps_in new) (accepted (Ask (named_literals user)) j) then
-    ask_then = (third.live, third.agree)
+    module _ (new : Solver C) (closed : Assumed seen now new []) where
+      third : solver.Kept new.names (steps_in now) (steps_in new) (accepted (Ask (named_literals user)) j) (Opens [] Unknown ∷ [])
+      third = (closed.did Unknown).does.kept (accepted (Ask (named_literals user)) j) second.live second.agree
 
-  pub ask_rounds : old.clock.steps + report.steps ≡ new.clock.steps
-  ask_rounds =
+      shut : HasTrace the_checking (steps_in now) (steps_in new) (Closes ∷ [])
+      shut = closed_by_none Unknown third.trace
+
+      pub ask_steps : AskStretches j (named_literals user) (outcome_for report.answer now) report.steps (steps_in old) (steps_in new)
+      ask_steps = record {
+        opened = steps_in mid;
+        shown = steps_in now;
+        opens = record { due = named; comes = subst (λ ns. Comes (MayTake ns) (steps_in old) (steps_in mid)) (sym (names_same user)) opened.comes };
+        searches = record { due = shown; comes = subst (λ ss. Comes EndsAtUnsat ss (steps_in now)) same_steps searched.solved.answered.comes };
+        closes = record { due = shut; comes = closed.comes };
+        known = known;
+        recorded = λ u. unsat_outcome now report.answer (unsat_known now searched.solved.answered.did.whole u) searched.solved.answer_is;
+        sought = sought;
+        spent = spent;
+      }
+
+      pub ask_then : (then : Live) × solver.Agree new.names (steps_in new) (accepted (Ask (named_literals user)) j) then
+      ask_then = (third.live, third.agree)
+
+  pub ask_rounds : (new : Solver C) → Assumed seen now new [] → old.clock.steps + report.steps ≡ new.clock.steps
+  ask_rounds new closed =
       let a : mid.clock.steps ≡ old.clock.steps = ap (λ (x : _). x.steps) opened.clock in
       let b : new.clock.steps ≡ now.clock.steps = ap (λ (x : _). x.steps) closed.clock in
       let r = searched.rounds in omega arith

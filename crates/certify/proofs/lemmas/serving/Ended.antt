@@ -1,5 +1,5 @@
 -- A certificate that isn't ended.
-use Rattle.std.proofs.Common.{◌∙◌, ◌⊎◌, inl, inr, Some, [], ◌∷◌, Err, sym}
+use Rattle.std.proofs.Common.{◌∙◌, ◌⊎◌, inl, inr, Some, [], ◌∷◌, Err, refl, sym}
 use Rattle.std.proofs.lemmas.Bool.{true≢false}
 use Rattle.sat_base.specs.device.Device.{Writer}
 use Rattle.sat_base.specs.steps.Steps.{End}
@@ -10,7 +10,10 @@ use Rattle.sat_solver.specs.session.Making.{Took, Broke}
 use Rattle.sat_solver.specs.session.ProofView.{Adds, FailsCheck, Gives, target_of}
 use Rattle.sat_solver.specs.solver.Proving.{ClosesProof}
 use Rattle.certify.specs.serving.Calls.{Faults, IsReady, fault_for, proof_in}
-use Rattle.certify.specs.serving.Ending.{GivenBack}
+use Rattle.certify.specs.declared.fault.RunFault.{RunFault}
+use Rattle.certify.specs.declared.fault.RunFault.TheVariants as fault
+use Rattle.certify.specs.serving.Ending.{Closes, Finishes, GivenBack}
+use Rattle.certify.proofs.lemmas.serving.Stopping.{bytes_none}
 use Rattle.certify.specs.serving.Quiet.{Solver}
 
 -- closing it failed, and its writer was given back
@@ -35,3 +38,12 @@ closing_fails seen errors.CounterEnd old new given ready h g = record { proof = 
 closing_fails seen errors.Read old new given ready h g = absurd h
 closing_fails seen errors.Malformed old new given ready h g = absurd h
 closing_fails seen errors.OutOfRange old new given ready h g = absurd h
+
+-- and the answers' writer was left alone
+pub closing_keeps : {C : Type 0} (seen : C → Writer) (e : RunFault) (s : Solver C) (given : C) (w : Writer) → Closes seen (Err e) s given → Finishes seen (Err e) s given w w
+closing_keeps seen fault.ScriptRead s given w f = absurd f
+closing_keeps seen fault.AnswersWrite s given w f = absurd f
+closing_keeps seen fault.CertificateWrite s given w f = (((refl, refl), f), bytes_none w)
+closing_keeps seen fault.OutOfMemory s given w f = (((refl, refl), f), bytes_none w)
+closing_keeps seen fault.StoreFull s given w f = (((refl, refl), f), bytes_none w)
+closing_keeps seen fault.CounterEnd s given w f = (((refl, refl), f), bytes_none w)

@@ -17,10 +17,10 @@ use Rattle.certify.specs.declared.reading.CommandKind.TheVariants as kind
 use Rattle.certify.specs.declared.serving.session.Session.{Session}
 use Rattle.certify.specs.judge.Names.{Judges}
 use Rattle.certify.specs.reading.Commands.{BeginsPast, IsLent, kind_of}
-use Rattle.sat_base.specs.script.Language.{command_of}
+use Rattle.sat_base.specs.script.Language.{Reading, command_of}
 use Rattle.certify.specs.serving.Calls.{FailsSolver, IsAllowed}
 use Rattle.certify.specs.serving.Obeying.{Obeyed, command_to}
-use Rattle.certify.specs.serving.Standing.{Allows, CarriedOut, GoesOn, WritesBoth, spelled_by}
+use Rattle.certify.specs.serving.Standing.{Allows, CarriedOut, GoesOn, StopsCarrying, WritesBoth, spelled_by}
 use Rattle.certify.proofs.lemmas.serving.Carried.{obeyed_carried}
 use Rattle.certify.proofs.lemmas.serving.NamesIn.{names_same}
 use Rattle.certify.proofs.lemmas.serving.Obeys.{clause_obeyed, names_ask_nothing}
@@ -76,6 +76,9 @@ module _ (lent : Lent) where
   module _ {C : Type 0} (seen : C → Writer) (old : Session C) (on : GoesOn old) where
     pub ask_carried : (r : Result (Unit {0}) RunFault) (new : Session C) (a b : Writer) → lent.kind ≡ kind.Ask → OnOk r (CarriedOut seen old new (Ask (named_literals lent.literals.now)) a b) → OnOk r (CarriedOut seen old new (spelled_by lent) a b)
     ask_carried r new a b e h = subst (λ c. OnOk r (CarriedOut seen old new c a b)) (sym (spelled_as kind.Ask e)) h
+
+    pub ask_stops : (r : Result (Unit {0}) RunFault) (left : Reading) (a b : Writer) → lent.kind ≡ kind.Ask → StopsCarrying r old (Ask (named_literals lent.literals.now)) left a b → StopsCarrying r old (spelled_by lent) left a b
+    ask_stops r left a b e h = subst (λ c. StopsCarrying r old c left a b) (sym (spelled_as kind.Ask e)) h
 
     module _ (r : Result (Unit {0}) RunFault) (s : Solver C) (w : Writer) where
       pub clause_carried : lent.kind ≡ kind.Clause → OnOk r (Added seen old.solver s lent.literals.now) → OnOk r (CarriedOut seen old (record old { solver = s }) (spelled_by lent) w w)

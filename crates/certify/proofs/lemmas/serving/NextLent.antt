@@ -1,15 +1,17 @@
 -- The next command that is lent was served.
-use Rattle.std.proofs.Common.{◌≡◌, false, Some, None, Result, Ok, Err, OnOk, sym, subst}
+use Rattle.std.proofs.Common.{◌+◌, ◌≡◌, false, Some, None, [], ◌∷◌, Result, Ok, Err, OnErr, OnOk, sym, subst}
 use Rattle.sat_base.specs.device.Device.{Writer}
+use Rattle.sat_base.specs.script.Language.{Reading, onto_commands}
 use Rattle.sat_base.specs.script.Script.{Command}
-use Rattle.sat_base.specs.script.Judge.{Judge, accepted}
+use Rattle.sat_base.specs.script.Judge.{Judge, accepted, refusal_of}
 use Rattle.certify.specs.declared.fault.RunFault.{RunFault}
 use Rattle.certify.specs.declared.judge.Refusal.{Refusal as CodeRefusal}
 use Rattle.certify.specs.declared.reading.Command.{Command as Lent}
 use Rattle.certify.specs.declared.serving.session.Session.{Session}
 use Rattle.certify.specs.judge.Names.{Judges, Stands, refusal_in}
 use Rattle.certify.specs.reading.Commands.{IsLent}
-use Rattle.certify.specs.serving.Standing.{CarriedOut, GoesOn, Refused, ServedNext, spelled_by}
+use Rattle.certify.specs.run.Unfinished.{TookFront}
+use Rattle.certify.specs.serving.Standing.{CarriedOut, GoesOn, Refused, ServedNext, StopsCarrying, StopsOver, spelled_by}
 use Rattle.certify.proofs.lemmas.serving.Lent.{lent_is}
 use Rattle.certify.proofs.lemmas.serving.Next.{counted, refused_next, taken_next}
 
@@ -24,3 +26,17 @@ module _ {C : Type 0} (seen : C → Writer) (old new : Session C) (lent : Lent) 
   taken_served (Ok x) within judges h k c l =
       taken_next seen old new c before after on (subst (λ d. CarriedOut seen (counted old) new d before after) (sym (lent_is lent c l within)) h) (λ j s. sym (judges j c s l)) (λ j s. k j c s l)
   taken_served (Err e) within judges h k c l = tt
+
+  pub refused_stops : (r : Result (Unit {0}) RunFault) (refusal : CodeRefusal) → Judges (Some refusal) old.names lent
+      → ((j : Judge) (c : Command) (left : Reading) → refusal_of j c ≡ Some (refusal_in refusal) → OnErr r (TookFront (old.commands + 1) j (onto_commands (c ∷ []) left) before after))
+      → (c : Command) → IsLent lent c → (left : Reading) → StopsOver r old (onto_commands (c ∷ []) left) before after
+  refused_stops (Ok x) refusal judges h c l left = tt
+  refused_stops (Err e) refusal judges h c l left = λ j at. h j c left (sym (judges j c at.names l))
+
+  pub taken_stops : (r : Result (Unit {0}) RunFault) → lent.past_limit ≡ false → Judges None old.names lent → ((left : Reading) → StopsCarrying r (counted old) (spelled_by lent) left before after)
+      → (c : Command) → IsLent lent c → (left : Reading) → StopsOver r old (onto_commands (c ∷ []) left) before after
+  taken_stops (Ok x) within judges h c l left = tt
+  taken_stops (Err e) within judges h c l left = λ j at.
+      let is = lent_is lent c l within in
+      subst (λ d. TookFront (old.commands + 1) j (onto_commands (d ∷ []) left) before after) (sym is)
+      (h left j at.live at.means (subst (λ d. refusal_of j d ≡ None) is (sym (judges j c at.names l))))

@@ -14,7 +14,7 @@ use Rattle.certify.specs.declared.summary.AskReport.{AskReport}
 
 -- A COMMAND THAT IS REFUSED
 
-accepted_refused : (j : Judge) (c : Command) (r : Refusal) (cs : List Command) → refusal_of j c ≡ Some r → accepted_of j (c ∷ cs) ≡ accepted_of j cs
+pub accepted_refused : (j : Judge) (c : Command) (r : Refusal) (cs : List Command) → refusal_of j c ≡ Some r → accepted_of j (c ∷ cs) ≡ accepted_of j cs
 accepted_refused j c r cs e = rw e refl
 
 pub serves_refused : (budget : ℕ) (a : Place) (c : Command) (r : Refusal) → refusal_of a.judge c ≡ Some r → Serves budget a (record a { number = a.number + 1 }) (c ∷ []) (refused_line a.number r) [] 1
@@ -30,7 +30,7 @@ serves_refused budget a c r e = record {
 
 -- ONE THAT IS NO ASK
 
-accepted_next : (j : Judge) (c : Command) (cs : List Command) → refusal_of j c ≡ None → accepted_of j (c ∷ cs) ≡ c ∷ accepted_of (accepted c j) cs
+pub accepted_next : (j : Judge) (c : Command) (cs : List Command) → refusal_of j c ≡ None → accepted_of j (c ∷ cs) ≡ c ∷ accepted_of (accepted c j) cs
 accepted_next j c cs e = rw e refl
 
 says_none : (k : ℕ) (j : Judge) (c : Command) (cs : List Command) (ending : Ending) (os : List Outcome) → IsNoAsk c → refusal_of j c ≡ None → answers_from k j (c ∷ cs) ending os ≡ answers_from (k + 1) (accepted c j) cs ending os

@@ -1,9 +1,11 @@
 -- What the parts of a run leave of its writers.
-use Rattle.std.proofs.Common.{ℕ, ◌+◌, ◌≡◌, List, [], ◌∷◌, ◌++◌, Result, Ok, Err, OnOk, IfErr, refl, sym, subst}
-use Rattle.sat_base.specs.device.Device.{Writer, Takes}
-use Rattle.sat_base.specs.script.Script.{Ask}
-use Rattle.sat_base.specs.script.Judge.{Judge, bring_all}
+use Rattle.std.proofs.Common.{ℕ, ◌+◌, ◌≡◌, List, [], ◌∷◌, ◌++◌, is_some, None, Result, Ok, Err, OnErr, OnOk, IfErr, refl, sym, ap, subst, ◌∙◌}
+use Rattle.sat_base.specs.device.Device.{Writer, Breaks, Takes}
+use Rattle.sat_base.specs.script.Script.{Command, Ask}
+use Rattle.sat_base.specs.script.Language.{Reading, onto_commands}
+use Rattle.sat_base.specs.script.Judge.{Judge, accepted, bring_all, refusal_of}
 use Rattle.sat_solver.specs.names.Calls as solver
+use Rattle.sat_checker.specs.matching.Bridge.{Live}
 use Rattle.sat_checker.specs.matching.Expected.{Unknown, Expected}
 use Rattle.sat_solver.specs.names.Refusing.{names_in}
 use Rattle.sat_solver.specs.session.Making.{Took, Broke}
@@ -18,15 +20,18 @@ use Rattle.certify.specs.declared.fault.RunFault.{RunFault}
 use Rattle.certify.specs.declared.fault.RunFault.TheVariants as fault
 use Rattle.certify.specs.declared.serving.session.Session.{Session}
 use Rattle.certify.specs.declared.summary.AskReport.{AskReport}
+use Rattle.certify.specs.answers.RightAnswers.{IsRight}
+use Rattle.certify.specs.run.Unfinished.{TookFront}
 use Rattle.certify.specs.serving.Asking.{Sought}
 use Rattle.certify.specs.serving.Calls.{Faults, FailsSolver, IsAllowed, IsReady, Searched, proof_in}
 use Rattle.certify.specs.serving.Serving.{Serves, behind}
-use Rattle.certify.specs.serving.Standing.{CarriedOut, WritesBoth, last_place}
+use Rattle.certify.specs.serving.Standing.{CarriedOut, Means, StopsCarrying, WritesBoth, last_place, place_in}
 use Rattle.certify.specs.serving.Telling.{outcome_for}
 use Rattle.certify.proofs.lemmas.serving.AskServed.{ask_bounded, ask_steps, ask_right, ask_then, ask_spent, ask_rounds, kind_told}
 use Rattle.certify.proofs.lemmas.serving.Carried.{place_behind}
 use Rattle.certify.proofs.lemmas.serving.NoLines.{none_still}
 use Rattle.certify.proofs.lemmas.serving.ServedOnce.{serves_ask}
+use Rattle.certify.proofs.lemmas.serving.Stopping.{front_answered, front_cut, front_none, front_served}
 use Rattle.certify.specs.serving.Quiet.{Proof, Solver}
 
 pub took_none : {C : Type 0} (seen : C → Writer) (p : Proof C) → Took seen p p
@@ -52,7 +57,7 @@ search_took seen budget report a b s = subst (λ p. Took seen p (proof_in b)) s.
 
 -- a call was carried out
 pub did_ready : {C : Type 0} (seen : C → Writer) (a b : Solver C) (judge : Judge → Judge) (due : Judge → List Expected) → IsReady a → Did seen a b judge due → IsReady b
-did_ready seen a b judge due ready did = record { solver = λ g. did.whole; going = did.failed; no_lines = none_still seen (proof_in a) (proof_in b) did.took ready.no_lines }
+did_ready seen a b judge due ready did = record { solver = λ g. did.whole; going = did.failed; no_lines = none_still seen (proof_in a) (proof_in b) did.took ready.no_lines; unchecked = ap is_some did.took.1.listening ∙ ready.unchecked }
 
 pub searched_ready : {C : Type 0} (seen : C → Writer) (budget : ℕ) (report : AskReport) (a b : Solver C) → Searched seen budget report a b → IsReady b
 searched_ready seen budget report a b s = did_ready seen s.mid b _ _ s.limited.ready s.solved.answered.did
@@ -84,12 +89,12 @@ asked_of seen old new now user text report before after sought told closed comma
   reports = report ∷ [];
   asks = asks;
   serves = λ j live means free.
-      let then = ask_then seen old.solver sought.mid now new.solver user old.budget report sought.opened sought.searched closed sought.right j live means free in
-      let right = ask_right seen old.solver sought.mid now new.solver user old.budget report sought.opened sought.searched closed sought.right j live means free in
-      let steps = ask_steps seen old.solver sought.mid now new.solver user old.budget report sought.opened sought.searched closed sought.right j live means free in
-      let bounded = ask_bounded seen old.solver sought.mid now new.solver user old.budget report sought.opened sought.searched closed sought.right j live means free in
-      let spent = ask_spent seen old.solver sought.mid now new.solver user old.budget report sought.opened sought.searched closed sought.right in
-      let rounds = ask_rounds seen old.solver sought.mid now new.solver user old.budget report sought.opened sought.searched closed sought.right in
+      let then = ask_then seen old.solver sought.mid now user old.budget report sought.opened sought.searched sought.right j live means free new.solver closed in
+      let right = ask_right seen old.solver sought.mid now user old.budget report sought.opened sought.searched sought.right j live means free in
+      let steps = ask_steps seen old.solver sought.mid now user old.budget report sought.opened sought.searched sought.right j live means free new.solver closed in
+      let bounded = ask_bounded seen old.solver sought.mid now user old.budget report sought.opened sought.searched sought.right j live means free in
+      let spent = ask_spent seen old.solver sought.mid now user old.budget report sought.opened sought.searched sought.right in
+      let rounds = ask_rounds seen old.solver sought.mid now user old.budget report sought.opened sought.searched sought.right new.solver closed in
       let serves = serves_ask old.budget (last_place old j) (named_literals user) (outcome_for report.answer now) report (steps_in new.solver) free right (kind_told report.answer now) spent bounded steps in (
         then.0,
         then.1,
@@ -99,6 +104,38 @@ asked_of seen old new now user text report before after sought told closed comma
 }
 
 -- WHERE A PART FAILED
+
+-- an answer that was found is right, of which all was written or a front
+module _ {C : Type 0} (seen : C → Writer) (old : Session C) (now : Solver C) (user text : List ℕ) (report : AskReport) (before after : Writer) (sought : Sought seen old.budget report user text old.solver now)
+    (left : Reading) (j : Judge) (live : Live) (means : Means old.solver j live) (free : refusal_of j (Ask (named_literals user)) ≡ None) where
+  right : IsRight (accepted (Ask (named_literals user)) j) (named_literals user) (outcome_for report.answer now)
+  right = ask_right seen old.solver sought.mid now user old.budget report sought.opened sought.searched sought.right j live means free
+
+  pub ask_told : Takes before after text → TookFront old.commands j (onto_commands (Ask (named_literals user) ∷ []) left) before after
+  ask_told t = front_answered old.commands j (named_literals user) (outcome_for report.answer now) left before after free right (subst (Takes before after) sought.text_is t)
+
+  pub ask_cut : Breaks before after text → TookFront old.commands j (onto_commands (Ask (named_literals user) ∷ []) left) before after
+  ask_cut b = front_cut old.commands j (named_literals user) (outcome_for report.answer now) left before after free right (subst (Breaks before after) sought.text_is b)
+
+-- a command that was carried out
+pub carried_stops : {C : Type 0} (seen : C → Writer) (old new : Session C) (c : Command) (before after : Writer) (left : Reading) → CarriedOut seen old new c before after
+    → (j : Judge) (live : Live) → Means old.solver j live → refusal_of j c ≡ None → TookFront old.commands j (onto_commands (c ∷ []) left) before after
+carried_stops seen old new c before after left h j live means free =
+    front_served old.budget (last_place old j) (place_in new (accepted c j)) (c ∷ []) left h.text h.reports 0 before after (h.serves j live means free).2 h.told
+
+-- nothing was written
+pub nothing_stops : {T C : Type 0} (r : Result T RunFault) (old : Session C) (c : Command) (left : Reading) (w : Writer) → StopsCarrying r old c left w w
+nothing_stops (Ok x) old c left w = tt
+nothing_stops (Err e) old c left w = λ j live means free. front_none old.commands j (onto_commands (c ∷ []) left) w
+
+-- of any fault
+pub on_err : {T : Type 0} (r : Result T RunFault) (P : Type 0) → P → OnErr r P
+on_err (Ok x) P p = tt
+on_err (Err e) P p = p
+
+pub err_map : {T : Type 0} (r : Result T RunFault) (P Q : Type 0) → (P → Q) → OnErr r P → OnErr r Q
+err_map (Ok x) P Q f p = tt
+err_map (Err e) P Q f p = f p
 
 pub memory_fails : {C : Type 0} (seen : C → Writer) (e : RunFault) (a b : Solver C) → e ≡ fault.OutOfMemory → Took seen (proof_in a) (proof_in b) → FailsSolver seen e a b
 memory_fails seen e a b m t = subst (λ x. FailsSolver seen x a b) (sym m) t

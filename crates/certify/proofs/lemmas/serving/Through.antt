@@ -1,9 +1,9 @@
 -- How a script is served that is read as its commands are wanted.
-use Rattle.std.proofs.Common.{ℕ, ◌+◌, ◌≡◌, ◌∙◌, true, false, Option, Some, None, List, [], ◌∷◌, ◌++◌, map, length, length-append, Result, Ok, Err, OnOk, IfOk, refl, sym, ap, subst, arith, append_assoc, append-nil}
+use Rattle.std.proofs.Common.{ℕ, ◌+◌, ◌≡◌, ◌∙◌, true, false, Option, Some, None, List, [], ◌∷◌, ◌++◌, map, length, length-append, Result, Ok, Err, OnErr, OnOk, IfOk, refl, sym, ap, subst, arith, append_assoc, append-nil}
 use Rattle.std.proofs.lemmas.List.{map-append}
 use Rattle.sat_base.specs.declared.device.whole.ReadError.{ReadError}
 use Rattle.sat_base.specs.declared.device.whole.ReadError.TheVariants as errors
-use Rattle.sat_base.specs.device.Device.{Writer, Takes}
+use Rattle.sat_base.specs.device.Device.{Writer, Breaks, Takes}
 use Rattle.sat_base.specs.device.Reading.{Source, AtEnd}
 use Rattle.sat_base.specs.script.Script.{Command, Ask, Ending, Clean, Malformed}
 use Rattle.sat_base.specs.script.Language.{Reading, onto_commands}
@@ -24,19 +24,21 @@ use Rattle.certify.specs.declared.reading.reader.ScriptReader.{ScriptReader}
 use Rattle.certify.specs.declared.reading.stream.Next.TheVariants as next
 use Rattle.certify.specs.declared.serving.session.Session.{Session}
 use Rattle.certify.specs.declared.summary.AskReport.{AskReport}
-use Rattle.certify.specs.reading.Ahead.{Kept, Took as TookOf}
+use Rattle.certify.specs.reading.Ahead.{Passed, Took as TookOf}
 use Rattle.certify.specs.reading.Commands.{HasWhole, Means, MeansIf, ReachesCommand, end_reading, end_if}
 use Rattle.certify.specs.reading.Streaming.{Arrives, Comes}
 use Rattle.certify.specs.run.FinishedRun.{malformed_at, kind_of, asked_steps}
+use Rattle.certify.specs.run.Unfinished.{BeginAnswers, TookFront}
 use Rattle.certify.specs.serving.Calls.{Faults, IsReady, proof_in}
 use Rattle.certify.specs.serving.Serving.{Place, Serves}
-use Rattle.certify.specs.serving.Standing.{CarriedOut, GoesOn, IsAt, ServedNext, WritesBoth, last_place, place_in}
+use Rattle.certify.specs.serving.Standing.{CarriedOut, GoesOn, IsAt, ServedNext, StopsCarrying, StopsOver, WritesBoth, last_place, place_in}
 use Rattle.certify.specs.serving.Stretches.{MadeFor, made_none}
 use Rattle.certify.specs.serving.Whole.{Ends, FailsWhole, GoesThrough, ServedAll, ServesTo, ServesWhole, run_fault}
-use Rattle.certify.proofs.lemmas.confirm.Streams.{all_over, nothing_behind, taken_front}
-use Rattle.certify.proofs.lemmas.matching.Joining.{covers_took, failed_then, kept_then, took_kept, took_none as took_nothing, took_open, took_then}
+use Rattle.certify.proofs.lemmas.confirm.Streams.{all_over, covers_fault, nothing_behind, taken_front}
+use Rattle.certify.proofs.lemmas.matching.Joining.{covers_took, failed_then, took_none as took_nothing, took_open, took_passed, took_then}
 use Rattle.certify.proofs.lemmas.serving.Served.{serves_none, serves_then}
 use Rattle.certify.proofs.lemmas.serving.SessionCalls.{took_none, took_both, broke_later}
+use Rattle.certify.proofs.lemmas.serving.Stopping.{front_later, front_malformed, front_none, front_served}
 use Rattle.certify.specs.serving.Quiet.{Solver}
 
 -- PLACES
@@ -176,6 +178,17 @@ module _ {C : Type 0} (seen : C → Writer) where
   unnumbered j k l [] = refl
   unnumbered j k l (o ∷ os) = refl
 
+  pub asked_stops : {T : Type 0} (r : Result T RunFault) (a : Session C) (u v : Writer) → StopsCarrying r a (Ask []) ([], Clean) u v → StopsOver r a (Ask [] ∷ [], Clean) u v
+  asked_stops (Ok x) a u v h = tt
+  asked_stops (Err e) a u v h = λ j at.
+      let k = h j at.live at.means refl in
+      let f = k.front in
+      record {
+        bytes = k.bytes;
+        took = k.took;
+        front = record { outcomes = f.outcomes; right = f.right; behind = f.behind; whole = unnumbered j (a.commands + 1) a.commands f.outcomes ∙ f.whole };
+      }
+
   pub ends_asked : (j : Judge) (a b : Session C) (u v : Writer) → IsAt a j → CarriedOut seen a b (Ask []) u v → ServesWhole seen j (Ask [] ∷ [], Clean) 0 None a b u v
   ends_asked j a b u v at h =
       let k = h.serves j at.live at.means refl in
@@ -208,8 +221,15 @@ module _ {C : Type 0} (seen : C → Writer) where
 
   -- FAULTS
 
+  -- behind one command that was served
+  pub stops_behind : {T : Type 0} (r : Result T RunFault) (c : Command) (script : Reading) (a b : Session C) (u v w : Writer) → ServedNext seen a b c u v → StopsOver r b script v w → StopsOver r a (onto_commands (c ∷ []) script) u w
+  stops_behind (Ok x) c script a b u v w f g = tt
+  stops_behind (Err e) c script a b u v w f g = λ j at.
+      let h = f.serves j at in
+      front_later a.budget (place_in a j) (place_in b (after_command c j)) (c ∷ []) script f.text f.reports f.refused u v w h.1 f.told (g (after_command c j) h.0)
+
   -- what a part behind others says of its devices
-  pub fails_then : (e : RunFault) (a b : Source) (p q r : Solver C) (u v w : Writer) → Kept a b → NoneFailed u v → Took seen (proof_in p) (proof_in q)
+  pub fails_then : (e : RunFault) (a b : Source) (p q r : Solver C) (u v w : Writer) → Passed a b → NoneFailed u v → Took seen (proof_in p) (proof_in q)
       → Faults e (OneFailed v w × Took seen (proof_in q) (proof_in r)) (NoneFailed v w × Broke seen (proof_in q) (proof_in r)) (NoneFailed v w × Took seen (proof_in q) (proof_in r)) → FailsWhole seen e a b p r u w
   fails_then fault.ScriptRead a b p q r u v w k n t h = absurd h
   fails_then fault.AnswersWrite a b p q r u v w k n t h = (k, one_later u v w n h.0, took_both seen (proof_in p) (proof_in q) (proof_in r) t h.1)
@@ -255,15 +275,26 @@ module _ {C : Type 0} (seen : C → Writer) (j : Judge) (text counted : List ℕ
   none_failed : NoneFailed u v
   none_failed = (through.served.told.failures, through.served.told.loans)
 
+  -- a front of right answers behind those to the commands that were served
+  behind : (c : Source) (script : List ℕ → Reading) (w : Writer) → ((total : List ℕ) → Covers c total → Covers b total) → ((total : List ℕ) → Covers c total → through.left (rest_in total b) ≡ script total)
+      → ((total : List ℕ) → Covers c total → TookFront (mid.commands + 1) through.served.judge (script total) v w) → (total : List ℕ) → Covers c total → TookFront (old.commands + 1) j (text (rest_in total a)) u w
+  behind c script w back is front total k =
+      let f = through.served in
+      subst (λ s. TookFront (old.commands + 1) j s u w) (sym (through.reads total (back total k) ∙ ap (onto_commands through.commands) (is total k)))
+      (front_later old.budget (place_in old j) (place_in mid f.judge) through.commands (script total) f.text f.reports f.refused u v w f.serves f.told (front total k))
+
+  served_so_far : (c : Source) → ((total : List ℕ) → Covers c total → Covers b total) → (total : List ℕ) → Covers c total → TookFront (old.commands + 1) j (text (rest_in total a)) u v
+  served_so_far c back = behind c (λ total. through.left (rest_in total b)) v back (λ total k. refl) (λ total k. front_none (mid.commands + 1) through.served.judge (through.left (rest_in total b)) v)
+
   -- the script can't be read any more
   pub unread : (e : ReadError) (c : Source) → Comes (Err e) b c reader after_reader → Ends seen j text counted (Err (run_fault e)) a c old mid u v
-  unread errors.Failed c f = (failed_then a b c through.took f, none_failed, through.served.took)
-  unread errors.OutOfMemory c f = (kept_then a b c (took_kept true a b through.took) f, none_failed, through.served.took)
+  unread errors.Failed c f = ((failed_then a b c through.took f, none_failed, through.served.took), served_so_far c (λ total k. covers_fault b c f.0 total mid_open f.1 k))
+  unread errors.OutOfMemory c f = ((took_passed true a c (took_then true a b c through.took f), none_failed, through.served.took), served_so_far c (λ total k. covers_took true b c total mid_open f k))
 
   -- the end
   module _ (c : Source) (new : Session C) (w : Writer) (took : TookOf false b c) (left plain : Reading) (is : (total : List ℕ) → Covers c total → through.left (rest_in total b) ≡ left) (is_plain : (total : List ℕ) → Covers c total → through.plain (rest_in total b) ≡ plain) where
-    whole : (r : Result (Option ℕ) RunFault) → OnOk r (IsReady new.solver) → IfOk r (λ at. ServesWhole seen through.served.judge left (length plain.0) at mid new v w) → WritesBoth r seen v w mid.solver new.solver → Ends seen j text counted r a c old new u w
-    whole (Ok at) ready serves both = (
+    whole : (r : Result (Option ℕ) RunFault) → OnOk r (IsReady new.solver) → IfOk r (λ at. ServesWhole seen through.served.judge left (length plain.0) at mid new v w) → WritesBoth r seen v w mid.solver new.solver → StopsOver r mid left v w → Ends seen j text counted r a c old new u w
+    whole (Ok at) ready serves both front = (
       took_then false a b c through.took took,
       ready,
       λ total k.
@@ -273,7 +304,10 @@ module _ {C : Type 0} (seen : C → Writer) (j : Judge) (text counted : List ℕ
           subst (λ (z : Reading). ServesWhole seen j z (length (counted (rest_in total a)).0) at old new u w) (sym script)
           (subst (λ (n : ℕ). ServesWhole seen j (onto_commands through.commands left) n at old new u w) (sym count) (served_whole seen j through.commands left (length plain.0) at old mid new u v w through.served serves)),
     )
-    whole (Err e) ready serves both = fails_then seen e a c old.solver mid.solver new.solver u v w (kept_then a b c (took_kept true a b through.took) (took_kept false b c took)) none_failed through.served.took both
+    whole (Err e) ready serves both front = (
+      fails_then seen e a c old.solver mid.solver new.solver u v w (took_passed false a c (took_then false a b c through.took took)) none_failed through.served.took both,
+      behind c (λ total. left) w (λ total k. covers_took false b c total mid_open took k) is (λ total k. front through.served.judge through.served.at),
+    )
 
   no_commands : (e : ScriptEnd) → length (end_if false e).0 ≡ 0
   no_commands ends.Clean = refl
@@ -281,21 +315,22 @@ module _ {C : Type 0} (seen : C → Writer) (j : Judge) (text counted : List ℕ
   no_commands ends.Malformed = refl
 
   pub ends_so : (c : Source) (new : Session C) (w : Writer) (e : ScriptEnd) (r : Result (Option ℕ) RunFault) → Arrives (next.End e) b c reader after_reader → OnOk r (IsReady new.solver)
-      → ((i : Judge) → IsAt mid i → IfOk r (λ at. ServesWhole seen i (end_reading e) 0 at mid new v w)) → WritesBoth r seen v w mid.solver new.solver → Ends seen j text counted r a c old new u w
-  ends_so c new w e r came ready serves both =
+      → ((i : Judge) → IsAt mid i → IfOk r (λ at. ServesWhole seen i (end_reading e) 0 at mid new v w)) → WritesBoth r seen v w mid.solver new.solver → StopsOver r mid (end_reading e) v w → Ends seen j text counted r a c old new u w
+  ends_so c new w e r came ready serves both front =
       whole c new w came.0 (end_reading e) (end_if false e) (came.1 true through.left through.means) (came.1 false through.plain through.counts) r ready
-      (subst (λ (n : ℕ). IfOk r (λ at. ServesWhole seen through.served.judge (end_reading e) n at mid new v w)) (sym (no_commands e)) (serves through.served.judge through.served.at)) both
+      (subst (λ (n : ℕ). IfOk r (λ at. ServesWhole seen through.served.judge (end_reading e) n at mid new v w)) (sym (no_commands e)) (serves through.served.judge through.served.at)) both front
 
   pub ends_last : (c : Source) (new : Session C) (w : Writer) (e : ScriptEnd) (r : Result (Option ℕ) RunFault) → Arrives (next.Last e) b c reader after_reader → OnOk r (IsReady new.solver)
-      → ((x : Command) → HasWhole after_reader x → (i : Judge) → IsAt mid i → IfOk r (λ at. ServesWhole seen i (onto_commands (x ∷ []) (end_reading e)) 1 at mid new v w)) → WritesBoth r seen v w mid.solver new.solver → Ends seen j text counted r a c old new u w
-  ends_last c new w e r came ready serves both =
+      → ((x : Command) → HasWhole after_reader x → (i : Judge) → IsAt mid i → IfOk r (λ at. ServesWhole seen i (onto_commands (x ∷ []) (end_reading e)) 1 at mid new v w)) → WritesBoth r seen v w mid.solver new.solver
+      → ((x : Command) → HasWhole after_reader x → StopsOver r mid (onto_commands (x ∷ []) (end_reading e)) v w) → Ends seen j text counted r a c old new u w
+  ends_last c new w e r came ready serves both front =
       let k = came.2 true through.left through.means in
       let n = came.2 false through.plain through.counts in
       let none = no_commands e in
       let one : length (n.0 ∷ (end_if false e).0) ≡ 1 = omega arith in
       whole c new w ((came.0, came.1.0), λ h. all_over c came.1.1) (onto_commands (k.0 ∷ []) (end_reading e)) (onto_commands (n.0 ∷ []) (end_if false e))
       (λ total x. ap through.left (nothing_behind b c came.0 total came.1 x) ∙ k.2) (λ total x. ap through.plain (nothing_behind b c came.0 total came.1 x) ∙ n.2) r ready
-      (subst (λ (i : ℕ). IfOk r (λ at. ServesWhole seen through.served.judge (onto_commands (k.0 ∷ []) (end_reading e)) i at mid new v w)) (sym one) (serves k.0 k.1 through.served.judge through.served.at)) both
+      (subst (λ (i : ℕ). IfOk r (λ at. ServesWhole seen through.served.judge (onto_commands (k.0 ∷ []) (end_reading e)) i at mid new v w)) (sym one) (serves k.0 k.1 through.served.judge through.served.at)) both (front k.0 k.1)
 
   -- a command
   module _ (c : Source) (new : Session C) (w : Writer) (came : Arrives next.Command b c reader after_reader) where
@@ -337,5 +372,11 @@ module _ {C : Type 0} (seen : C → Writer) (j : Judge) (text counted : List ℕ
         onto-onto : (xs ys : List Command) (r : Reading) → onto_commands xs (onto_commands ys r) ≡ onto_commands (xs ++ ys) r
         onto-onto xs ys r = ap (λ (zs : List Command). (zs, r.1)) (sym (append_assoc xs ys r.0))
 
-    pub stops : (e : RunFault) → WritesBoth {T = Unit {0}} (Err e) seen v w mid.solver new.solver → Ends seen j text counted (Err e) a c old new u w
-    stops e both = fails_then seen e a c old.solver mid.solver new.solver u v w (kept_then a b c (took_kept true a b through.took) (took_kept true b c took)) none_failed through.served.took both
+    pub stops : (e : RunFault) → WritesBoth {T = Unit {0}} (Err e) seen v w mid.solver new.solver → ((x : Command) → HasWhole after_reader x → (left : Reading) → StopsOver {T = Unit {0}} (Err e) mid (onto_commands (x ∷ []) left) v w)
+        → Ends seen j text counted (Err e) a c old new u w
+    stops e both front = (
+      fails_then seen e a c old.solver mid.solver new.solver u v w (took_passed true a c (took_then true a b c through.took took)) none_failed through.served.took both,
+      behind c (λ total. onto_commands (reaches.command ∷ []) (reaches.after (rest_in total c))) w (λ total k. covers_took true b c total mid_open took k)
+          (λ total k. ap through.left (taken_front 0 b c came.0 total came.1 k) ∙ reaches.reads (rest_in total c))
+          (λ total k. front reaches.command reaches.whole (reaches.after (rest_in total c)) through.served.judge through.served.at),
+    )

@@ -1,6 +1,7 @@
 use Rattle.std.proofs.Common.{◌≡◌, ◌+◌, ◌<◌, ◌≤◌, ◌∙◌, refl, ap, sym, length, arith, subst}
 use Rattle.sat_checker.specs.Stored.{hash_by}
 use Rattle.sat_checker.specs.HasherView.{solver_name_of, width_of}
+use Rattle.sat_checker.specs.inner.PairView.{mixed}
 use Rattle.sat_checker.specs.inner.SlotView.{Slot, slot_at, literals_at}
 use Rattle.sat_checker.proofs.lemmas.propagation.Walking.{looks_over}
 use Rattle.sat_checker.proofs.lemmas.store.Rehashing.{hashed_all, pairs_all, hashed_next, hashed_skip, gone_same, slot_left, pairs_gone, pairs_there, left_gone, left_there, length_left}
@@ -33,8 +34,8 @@ loop-place-preserved c =
     let hash_is = c.clause_hash-hash.ensures ∙ ap (hash_by names width) c.literals.ensures.lent in
     record {
       hashed = hashed_next names width c.args.slots.now c.loop-place.slots c.set_hash.new.self c.loop-place.place c.clause_hash-hash.result inside c.loop-place.invariant.hashed now_there hash_is c.set_hash.ensures;
-      listed = pairs_there names width c.loop-place.pairs.items c.push.new.self.items c.args.slots.now c.loop-place.place c.clause_hash-hash.result inside there
-          (hash_is ∙ ap (hash_by names width) same) c.loop-place.invariant.listed c.in_ok-push.ensures.items;
+      listed = pairs_there names width c.loop-place.pairs.items c.push.new.self.items c.args.slots.now c.loop-place.place c.mixed.result inside there
+          (c.mixed.ensures ∙ ap mixed (hash_is ∙ ap (hash_by names width) same)) c.loop-place.invariant.listed c.in_ok-push.ensures.items;
       looks =
           let left = left_there c.args.slots.now c.loop-place.place inside there in
           let count = ap length same in

@@ -3,13 +3,14 @@ use Rattle.std.proofs.Common.{ℕ, ◌+◌, ◌-◌, ◌<◌, ◌≤◌, ◌≡�
 use Rattle.std.proofs.Math.Seq.{drop-append_seam}
 use Rattle.std.proofs.lemmas.Bool.{or_parts, or_cases, eqb-true, true≢false}
 use Rattle.std.proofs.lemmas.List.{drop_more, drop_all, take-append-drop, reverse-append, length-reverse}
+use Rattle.sat_base.specs.declared.table.Table.{Table}
 use Rattle.sat_checker.specs.LiteralSets.{is_among}
 use Rattle.sat_checker.specs.inner.Marks.{AreMarks, NoRepeats, is_marked}
 use Rattle.sat_checker.proofs.lemmas.sets.Order.{among-append, among-reverse}
 use Rattle.sat_checker.proofs.lemmas.store.Places.{eqb_comm}
 
 -- the next one
-pub unmarked_next : (ls : List ℕ) (i x : ℕ) → i < length ls → x ≡ get_or ls i x → (old new : List Bool) → ((l : ℕ) → is_marked new l ≡ cond (eqb l x) false (is_marked old l)) → (k : ℕ)
+pub unmarked_next : (ls : List ℕ) (i x : ℕ) → i < length ls → x ≡ get_or ls i x → (old new : Table Bool) → ((l : ℕ) → is_marked new l ≡ cond (eqb l x) false (is_marked old l)) → (k : ℕ)
     → cond (is_among (drop (i + 1) ls) k) false (is_marked new k) ≡ cond (is_among (drop i ls) k) false (is_marked old k)
 unmarked_next ls i x inside e old new m k =
     ap (λ b. cond (is_among (drop (i + 1) ls) k) false b) (m k) ∙ go (eqb k x) (is_among (drop (i + 1) ls) k)
@@ -22,7 +23,7 @@ unmarked_next ls i x inside e old new m k =
     go false true = refl
     go false false = refl
 
-pub unmarked_all : (ls : List ℕ) (i : ℕ) → length ls ≤ i → (marks : List Bool) (k : ℕ) → is_marked marks k ≡ cond (is_among (drop i ls) k) false (is_marked marks k)
+pub unmarked_all : (ls : List ℕ) (i : ℕ) → length ls ≤ i → (marks : Table Bool) (k : ℕ) → is_marked marks k ≡ cond (is_among (drop i ls) k) false (is_marked marks k)
 unmarked_all ls i over marks k = ap (λ xs. cond (is_among xs k) false (is_marked marks k)) (sym (drop_all i ls over))
 
 -- what stands before doesn't stand behind
@@ -43,7 +44,7 @@ module _ (trail : List ℕ) (left : ℕ) where
   split : reverse (drop left trail) ++ reverse (take left trail) ≡ reverse trail
   split = sym (reverse-append (take left trail) (drop left trail)) ∙ ap reverse (take-append-drop left trail)
 
-  pub marks_left : (old new : List Bool) → AreMarks old (reverse trail) → ((l : ℕ) → is_marked new l ≡ cond (is_among (drop left trail) l) false (is_marked old l)) → AreMarks new (reverse (take left trail))
+  pub marks_left : (old new : Table Bool) → AreMarks old (reverse trail) → ((l : ℕ) → is_marked new l ≡ cond (is_among (drop left trail) l) false (is_marked old l)) → AreMarks new (reverse (take left trail))
   marks_left old new marks m = record {
     each = λ l.
         m l ∙ ap (λ b. cond (is_among (drop left trail) l) false b) (marks.each l ∙ ap (λ xs. is_among xs l) (sym split) ∙ among-append (reverse (drop left trail)) (reverse (take left trail)) l)

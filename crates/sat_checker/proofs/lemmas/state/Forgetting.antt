@@ -10,6 +10,7 @@ use Rattle.sat_checker.specs.LiteralSets.{is_among, mentions, canonical}
 use Rattle.sat_checker.specs.Stored.{Stored, StoredUnit, Variable}
 use Rattle.sat_checker.specs.Storing.{unit_id}
 use Rattle.sat_checker.specs.Accepts.{MayBeDeleted}
+use Rattle.sat_base.specs.declared.table.Table.{Table}
 use Rattle.sat_checker.specs.inner.Marks.{NoRepeats, AreMarks, is_marked}
 use Rattle.sat_checker.specs.inner.StateView.{Keeps}
 use Rattle.sat_checker.specs.inner.UnitView.{AreUnits, id_at, unit_of}
@@ -81,7 +82,7 @@ both_unmarked v l m = go (eqb l (2 * v + 1)) refl (eqb l (2 * v + 0)) refl
     go false e true f = same (let h = eqb-true l (2 * v + 0) f in omega (arith, h))
     go false e false f = sym (ap (λ b. not b && m) (not_it v l (eqb-false l (2 * v + 1) e) (eqb-false l (2 * v + 0) f)))
 
-pub marks_forgotten : (v p q : ℕ) (old one new : List Bool) (xs : List ℕ) → p ≡ 2 * v + 0 → q ≡ 2 * v + 1 → AreMarks old (reverse xs) → ((l : ℕ) → is_marked one l ≡ cond (eqb l p) false (is_marked old l)) → ((l : ℕ) → is_marked new l ≡ cond (eqb l q) false (is_marked one l))
+pub marks_forgotten : (v p q : ℕ) (old one new : Table Bool) (xs : List ℕ) → p ≡ 2 * v + 0 → q ≡ 2 * v + 1 → AreMarks old (reverse xs) → ((l : ℕ) → is_marked one l ≡ cond (eqb l p) false (is_marked old l)) → ((l : ℕ) → is_marked new l ≡ cond (eqb l q) false (is_marked one l))
     → (ys : List ℕ) → ys ≡ filter (is_other v) xs → AreMarks new (reverse ys)
 marks_forgotten v p q old one new xs pe qe m a b ys y = subst (λ zs. AreMarks new zs) (filter_reverse (is_other v) xs ∙ ap reverse (sym y)) (record {
   each = λ l.

@@ -9,7 +9,7 @@ use Rattle.sat_checker.specs.Stored.{Stored, hash_by}
 use Rattle.sat_checker.specs.Storing.{with_count, without_count}
 use Rattle.sat_checker.specs.inner.Marks.{IsIncreasing}
 use Rattle.sat_checker.specs.inner.IndexView.{Files, pairs_from, pairs_of}
-use Rattle.sat_checker.specs.inner.PairView.{Indexed, places_in}
+use Rattle.sat_checker.specs.inner.PairView.{Indexed, places_in, mixed}
 use Rattle.sat_checker.specs.inner.OccurrenceView.{times_in, times_stored, AreKept}
 use Rattle.sat_checker.specs.inner.SlotView.{Slot, unstored, slot_at, stored_slot, is_gone, is_filed, places_from, gone_count, standing, MayDrop, live, slot_ids, count_of, with_count_at, without_count_at, all_hashed_by}
 use Rattle.sat_checker.specs.inner.StoreView.{AreHashed, KeepsClauses, AreIds, KeepsIds}
@@ -206,20 +206,20 @@ count_listed k (s ∷ ss) = go (is_gone s) refl (λ n. count_listed n ss)
   where
     go : (b : Bool) → is_gone s ≡ b → ((n : ℕ) → length (pairs_from n (standing ss)) ≡ length (standing ss)) → length (pairs_from k (cond (not b) (s ∷ standing ss) (standing ss))) ≡ length (cond (not b) (s ∷ standing ss) (standing ss))
     go true g ih = ih k
-    go false g ih = ap (λ b. length (cond b (pairs_from (k + 1) (standing ss)) ((record { hash = s.hash; place = k }) ∷ pairs_from (k + 1) (standing ss)))) g ∙ ap suc (ih (k + 1))
+    go false g ih = ap (λ b. length (cond b (pairs_from (k + 1) (standing ss)) ((record { hash = mixed s.hash; place = k }) ∷ pairs_from (k + 1) (standing ss)))) g ∙ ap suc (ih (k + 1))
 
 pub listed_skip : (ps : List Pair) (ss : List Slot) (i : ℕ) → i < length ss → is_gone (slot_at ss i) ≡ true → ps ≡ pairs_of (standing (take i ss)) → ps ≡ pairs_of (standing (take (i + 1) ss))
 listed_skip ps ss i l g e = e ∙ ap pairs_of (standing_skip [] (standing (take i ss)) ss i l g refl)
 
-pub listed_put : (ps new : List Pair) (ss : List Slot) (i hash next : ℕ) → i < length ss → is_gone (slot_at ss i) ≡ false → hash ≡ (slot_at ss i).hash → next ≡ length ps → ps ≡ pairs_of (standing (take i ss))
+pub listed_put : (ps new : List Pair) (ss : List Slot) (i hash next : ℕ) → i < length ss → is_gone (slot_at ss i) ≡ false → hash ≡ mixed (slot_at ss i).hash → next ≡ length ps → ps ≡ pairs_of (standing (take i ss))
     → new ≡ ps ++ (record { hash = hash; place = next }) ∷ [] → new ≡ pairs_of (standing (take (i + 1) ss))
 listed_put ps new ss i hash next l n h c e w =
     let xs : List Slot = standing (take i ss) in
     let count : next ≡ 0 + length xs = c ∙ ap length e ∙ count_listed 0 (take i ss) ∙ (let z : length xs ≡ 0 + length xs = omega arith in z) in
     w ∙ ap (λ qs. qs ++ (record { hash = hash; place = next }) ∷ []) e ∙ ap (λ k. pairs_of xs ++ (record { hash = k; place = next }) ∷ []) h
-    ∙ ap (λ k. pairs_of xs ++ (record { hash = (slot_at ss i).hash; place = k }) ∷ []) count
+    ∙ ap (λ k. pairs_of xs ++ (record { hash = mixed (slot_at ss i).hash; place = k }) ∷ []) count
     ∙ sym (ap pairs_of (standing_next ss i l ∙ ap (λ b. xs ++ cond (not b) (slot_at ss i ∷ []) []) n) ∙ pairs_push 0 xs (slot_at ss i)
-    ∙ ap (λ b. pairs_of xs ++ cond b [] ((record { hash = (slot_at ss i).hash; place = 0 + length xs }) ∷ [])) n)
+    ∙ ap (λ b. pairs_of xs ++ cond b [] ((record { hash = mixed (slot_at ss i).hash; place = 0 + length xs }) ∷ [])) n)
 
 pub listed_all : (ps : List Pair) (ss : List Slot) (i : ℕ) → length ss ≤ i → ps ≡ pairs_of (standing (take i ss)) → ps ≡ pairs_of (standing ss)
 listed_all ps ss i l e = e ∙ ap (λ xs. pairs_of (standing xs)) (take_whole ss i l)
@@ -237,5 +237,5 @@ place_among k (s ∷ ss) (suc i) n l g e = go (is_filed (slot_at ss i).hash s) (
     go true ih = or_right (eqb k n) (is_among (places_from (k + 1) (slot_at ss i).hash ss) n) ih
     go false ih = ih
 
-pub hash_filed : (ss : List Slot) (index : Indexed) (i : ℕ) → Files index ss → i < length ss → is_gone (slot_at ss i) ≡ false → is_among (places_in (slot_at ss i).hash index.pairs) i ≡ true
+pub hash_filed : (ss : List Slot) (index : Indexed) (i : ℕ) → Files index ss → i < length ss → is_gone (slot_at ss i) ≡ false → is_among (places_in (mixed (slot_at ss i).hash) index.pairs) i ≡ true
 hash_filed ss index i f l g = ap (λ ps. is_among ps i) (f.filed (slot_at ss i).hash) ∙ place_among 0 ss i i l g (let z : 0 + i ≡ i = omega arith in z)

@@ -11,31 +11,32 @@ use Rattle.std.specs.Prelude.{slice_index_or}
 use Rattle.sat_checker.specs.LiteralSets.{is_among}
 use Rattle.sat_checker.specs.inner.Marks.{IsIncreasing}
 use Rattle.sat_checker.specs.inner.IndexView.{without_place, pairs_from, pairs_of}
-use Rattle.sat_checker.specs.inner.PairView.{IsBefore, AreInOrder, without_pair, places_in, first_of, behind, from_on, same_place}
+use Rattle.sat_checker.specs.inner.PairView.{IsBefore, AreInOrder, without_pair, places_in, first_of, behind, from_on, same_place, mixed}
 use Rattle.sat_checker.specs.inner.SlotView.{Slot, is_gone, is_filed, places_from, places_of}
 use Rattle.sat_checker.specs.declared.links.Pair.{Pair}
 use Rattle.sat_checker.proofs.lemmas.sets.Canonical.{same_increasing}
+use Rattle.sat_checker.proofs.lemmas.pairs.Mixing.{mixed_same}
 use Rattle.sat_checker.proofs.lemmas.store.Places.{places_above}
 
 -- the pairs of slots have the places of each hash
-pub pairs_places : (q k : ℕ) (ss : List Slot) → places_in q (pairs_from k ss) ≡ places_from k q ss
+pub pairs_places : (q k : ℕ) (ss : List Slot) → places_in (mixed q) (pairs_from k ss) ≡ places_from k q ss
 pairs_places q k [] = refl
 pairs_places q k (s ∷ ss) = go (is_gone s) (pairs_places q (k + 1) ss)
   where
-    pick : (d : Bool) → places_in q (pairs_from (k + 1) ss) ≡ places_from (k + 1) q ss
-        → map (λ (p : Pair). p.place) (cond d ((record { hash = s.hash; place = k }) ∷ filter (λ p. eqb p.hash q) (pairs_from (k + 1) ss)) (filter (λ p. eqb p.hash q) (pairs_from (k + 1) ss))) ≡ cond d (k ∷ places_from (k + 1) q ss) (places_from (k + 1) q ss)
+    pick : (d : Bool) → places_in (mixed q) (pairs_from (k + 1) ss) ≡ places_from (k + 1) q ss
+        → map (λ (p : Pair). p.place) (cond d ((record { hash = mixed s.hash; place = k }) ∷ filter (λ p. eqb p.hash (mixed q)) (pairs_from (k + 1) ss)) (filter (λ p. eqb p.hash (mixed q)) (pairs_from (k + 1) ss))) ≡ cond d (k ∷ places_from (k + 1) q ss) (places_from (k + 1) q ss)
     pick true ih = ap (λ ps. k ∷ ps) ih
     pick false ih = ih
 
-    go : (g : Bool) → places_in q (pairs_from (k + 1) ss) ≡ places_from (k + 1) q ss → places_in q (cond g (pairs_from (k + 1) ss) ((record { hash = s.hash; place = k }) ∷ pairs_from (k + 1) ss)) ≡ cond (not g && eqb s.hash q) (k ∷ places_from (k + 1) q ss) (places_from (k + 1) q ss)
+    go : (g : Bool) → places_in (mixed q) (pairs_from (k + 1) ss) ≡ places_from (k + 1) q ss → places_in (mixed q) (cond g (pairs_from (k + 1) ss) ((record { hash = mixed s.hash; place = k }) ∷ pairs_from (k + 1) ss)) ≡ cond (not g && eqb s.hash q) (k ∷ places_from (k + 1) q ss) (places_from (k + 1) q ss)
     go true ih = ih
-    go false ih = pick (eqb s.hash q) ih
+    go false ih = pick (eqb (mixed s.hash) (mixed q)) ih ∙ ap (λ d. cond d (k ∷ places_from (k + 1) q ss) (places_from (k + 1) q ss)) (mixed_same s.hash q)
 
 pairs_above : (b k : ℕ) (ss : List Slot) → b < k → AllByRecursion (λ (p : Pair). b < p.place) (pairs_from k ss)
 pairs_above b k [] l = tt
 pairs_above b k (s ∷ ss) l = go (is_gone s) (pairs_above b (k + 1) ss (omega arith))
   where
-    go : (g : Bool) → AllByRecursion (λ (p : Pair). b < p.place) (pairs_from (k + 1) ss) → AllByRecursion (λ (p : Pair). b < p.place) (cond g (pairs_from (k + 1) ss) ((record { hash = s.hash; place = k }) ∷ pairs_from (k + 1) ss))
+    go : (g : Bool) → AllByRecursion (λ (p : Pair). b < p.place) (pairs_from (k + 1) ss) → AllByRecursion (λ (p : Pair). b < p.place) (cond g (pairs_from (k + 1) ss) ((record { hash = mixed s.hash; place = k }) ∷ pairs_from (k + 1) ss))
     go true ih = ih
     go false ih = (l, ih)
 
@@ -43,7 +44,7 @@ pairs_below : (k n : ℕ) (ss : List Slot) → k + length ss ≤ n → AllByRecu
 pairs_below k n [] l = tt
 pairs_below k n (s ∷ ss) l = go (is_gone s) (pairs_below (k + 1) n ss (omega arith))
   where
-    go : (g : Bool) → AllByRecursion (λ (p : Pair). p.place < n) (pairs_from (k + 1) ss) → AllByRecursion (λ (p : Pair). p.place < n) (cond g (pairs_from (k + 1) ss) ((record { hash = s.hash; place = k }) ∷ pairs_from (k + 1) ss))
+    go : (g : Bool) → AllByRecursion (λ (p : Pair). p.place < n) (pairs_from (k + 1) ss) → AllByRecursion (λ (p : Pair). p.place < n) (cond g (pairs_from (k + 1) ss) ((record { hash = mixed s.hash; place = k }) ∷ pairs_from (k + 1) ss))
     go true ih = ih
     go false ih = (omega arith, ih)
 
@@ -54,7 +55,7 @@ pub pairs_count : (k : ℕ) (ss : List Slot) → length (pairs_from k ss) ≤ le
 pairs_count k [] = omega arith
 pairs_count k (s ∷ ss) = go (is_gone s) (pairs_count (k + 1) ss)
   where
-    go : (g : Bool) → length (pairs_from (k + 1) ss) ≤ length ss → length (cond g (pairs_from (k + 1) ss) ((record { hash = s.hash; place = k }) ∷ pairs_from (k + 1) ss)) ≤ length (s ∷ ss)
+    go : (g : Bool) → length (pairs_from (k + 1) ss) ≤ length ss → length (cond g (pairs_from (k + 1) ss) ((record { hash = mixed s.hash; place = k }) ∷ pairs_from (k + 1) ss)) ≤ length (s ∷ ss)
     go true ih = omega arith
     go false ih = omega arith
 
@@ -63,11 +64,11 @@ unfolding IsDistinct
 pairs_apart k [] = tt
 pairs_apart k (s ∷ ss) = go (is_gone s) (pairs_apart (k + 1) ss)
   where
-    differ : (ps : List Pair) → AllByRecursion (λ (p : Pair). k < p.place) ps → AllByRecursion (λ (p : Pair). same_place (record { hash = s.hash; place = k }) p ≡ false) ps
+    differ : (ps : List Pair) → AllByRecursion (λ (p : Pair). k < p.place) ps → AllByRecursion (λ (p : Pair). same_place (record { hash = mixed s.hash; place = k }) p ≡ false) ps
     differ [] h = tt
     differ (p ∷ ps) h = (ne_eqb k p.place (λ e. let l : k < p.place = h.0 in omega arith), differ ps h.1)
 
-    go : (g : Bool) → IsDistinct same_place (pairs_from (k + 1) ss) → IsDistinct same_place (cond g (pairs_from (k + 1) ss) ((record { hash = s.hash; place = k }) ∷ pairs_from (k + 1) ss))
+    go : (g : Bool) → IsDistinct same_place (pairs_from (k + 1) ss) → IsDistinct same_place (cond g (pairs_from (k + 1) ss) ((record { hash = mixed s.hash; place = k }) ∷ pairs_from (k + 1) ss))
     go true ih = ih
     go false ih = (differ (pairs_from (k + 1) ss) (pairs_above k (k + 1) ss (omega arith)), ih)
 
@@ -128,14 +129,14 @@ among_from q x (p ∷ ps) (suc i) l e = go (eqb p.hash q) (among_from q x ps i (
     go false k = k
 
 -- the sorted pairs of slots have the places of each hash
-pub sorted_places : (q : ℕ) (ss : List Slot) (sorted : List Pair) → IsPermutation (pairs_of ss) sorted → AreInOrder sorted → places_in q sorted ≡ places_of q ss
-sorted_places q ss sorted p o = same_increasing (places_in q sorted) (places_of q ss) (increasing_in q sorted o) (increasing_places 0 q ss) (λ x. both (is_among (places_in q sorted) x) (is_among (places_of q ss) x) (to x) (from x))
+pub sorted_places : (q : ℕ) (ss : List Slot) (sorted : List Pair) → IsPermutation (pairs_of ss) sorted → AreInOrder sorted → places_in (mixed q) sorted ≡ places_of q ss
+sorted_places q ss sorted p o = same_increasing (places_in (mixed q) sorted) (places_of q ss) (increasing_in (mixed q) sorted o) (increasing_places 0 q ss) (λ x. both (is_among (places_in (mixed q) sorted) x) (is_among (places_of q ss) x) (to x) (from x))
   where
-    to : (x : ℕ) → is_among (places_in q sorted) x ≡ true → is_among (places_of q ss) x ≡ true
-    to x e = let c = Contains-permutation sorted (pairs_of ss) (record { hash = q; place = x }) (IsPermutation-sym (pairs_of ss) sorted p) (contains_from q x sorted e) in ap (λ ps. is_among ps x) (sym (pairs_places q 0 ss)) ∙ among_from q x (pairs_of ss) c.0 c.1 c.2
+    to : (x : ℕ) → is_among (places_in (mixed q) sorted) x ≡ true → is_among (places_of q ss) x ≡ true
+    to x e = let c = Contains-permutation sorted (pairs_of ss) (record { hash = mixed q; place = x }) (IsPermutation-sym (pairs_of ss) sorted p) (contains_from (mixed q) x sorted e) in ap (λ ps. is_among ps x) (sym (pairs_places q 0 ss)) ∙ among_from (mixed q) x (pairs_of ss) c.0 c.1 c.2
 
-    from : (x : ℕ) → is_among (places_of q ss) x ≡ true → is_among (places_in q sorted) x ≡ true
-    from x e = let c = Contains-permutation (pairs_of ss) sorted (record { hash = q; place = x }) p (contains_from q x (pairs_of ss) (ap (λ ps. is_among ps x) (pairs_places q 0 ss) ∙ e)) in among_from q x sorted c.0 c.1 c.2
+    from : (x : ℕ) → is_among (places_of q ss) x ≡ true → is_among (places_in (mixed q) sorted) x ≡ true
+    from x e = let c = Contains-permutation (pairs_of ss) sorted (record { hash = mixed q; place = x }) p (contains_from (mixed q) x (pairs_of ss) (ap (λ ps. is_among ps x) (pairs_places q 0 ss) ∙ e)) in among_from (mixed q) x sorted c.0 c.1 c.2
 
     both : (b d : Bool) → (b ≡ true → d ≡ true) → (d ≡ true → b ≡ true) → b ≡ d
     both true true f g = refl
@@ -280,13 +281,13 @@ pub sorted_below : (ss : List Slot) (n : ℕ) (sorted : List Pair) → IsPermuta
 sorted_below ss n sorted p e = recursion_from_All (λ (x : Pair). x.place < n) sorted (All-permutation (λ (x : Pair). x.place < n) (pairs_of ss) sorted p (subst (λ m. All (λ (x : Pair). x.place < m) (pairs_of ss)) (sym e) (pairs_within ss)))
 
 -- one slot more at the end
-pub pairs_push : (k : ℕ) (ss : List Slot) (s : Slot) → pairs_from k (ss ++ s ∷ []) ≡ pairs_from k ss ++ cond (is_gone s) [] ((record { hash = s.hash; place = k + length ss }) ∷ [])
+pub pairs_push : (k : ℕ) (ss : List Slot) (s : Slot) → pairs_from k (ss ++ s ∷ []) ≡ pairs_from k ss ++ cond (is_gone s) [] ((record { hash = mixed s.hash; place = k + length ss }) ∷ [])
 pairs_push k [] s = let e : k + 0 ≡ k = omega arith in rw e refl
 pairs_push k (t ∷ ss) s =
     let e : (k + 1) + length ss ≡ k + length (t ∷ ss) = omega arith in
-    go (is_gone t) (pairs_push (k + 1) ss s ∙ ap (λ n. pairs_from (k + 1) ss ++ cond (is_gone s) [] ((record { hash = s.hash; place = n }) ∷ [])) e)
+    go (is_gone t) (pairs_push (k + 1) ss s ∙ ap (λ n. pairs_from (k + 1) ss ++ cond (is_gone s) [] ((record { hash = mixed s.hash; place = n }) ∷ [])) e)
   where
-    go : (b : Bool) → pairs_from (k + 1) (ss ++ s ∷ []) ≡ pairs_from (k + 1) ss ++ cond (is_gone s) [] ((record { hash = s.hash; place = k + length (t ∷ ss) }) ∷ [])
-        → cond b (pairs_from (k + 1) (ss ++ s ∷ [])) ((record { hash = t.hash; place = k }) ∷ pairs_from (k + 1) (ss ++ s ∷ [])) ≡ cond b (pairs_from (k + 1) ss) ((record { hash = t.hash; place = k }) ∷ pairs_from (k + 1) ss) ++ cond (is_gone s) [] ((record { hash = s.hash; place = k + length (t ∷ ss) }) ∷ [])
+    go : (b : Bool) → pairs_from (k + 1) (ss ++ s ∷ []) ≡ pairs_from (k + 1) ss ++ cond (is_gone s) [] ((record { hash = mixed s.hash; place = k + length (t ∷ ss) }) ∷ [])
+        → cond b (pairs_from (k + 1) (ss ++ s ∷ [])) ((record { hash = mixed t.hash; place = k }) ∷ pairs_from (k + 1) (ss ++ s ∷ [])) ≡ cond b (pairs_from (k + 1) ss) ((record { hash = mixed t.hash; place = k }) ∷ pairs_from (k + 1) ss) ++ cond (is_gone s) [] ((record { hash = mixed s.hash; place = k + length (t ∷ ss) }) ∷ [])
     go true h = h
-    go false h = ap (λ ps. (record { hash = t.hash; place = k }) ∷ ps) h
+    go false h = ap (λ ps. (record { hash = mixed t.hash; place = k }) ∷ ps) h

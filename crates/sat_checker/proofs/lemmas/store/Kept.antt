@@ -4,26 +4,28 @@ use Rattle.std.proofs.lemmas.Bool.{true≢false}
 use Rattle.std.specs.Result.{is_err}
 use Rattle.std.proofs.lemmas.List.{length-set}
 use Rattle.sat_checker.specs.inner.IndexView.{Files}
-use Rattle.sat_checker.specs.inner.PairView.{Indexed, places_in, inserted, without_pair}
+use Rattle.sat_checker.specs.inner.PairView.{Indexed, places_in, inserted, without_pair, mixed}
 use Rattle.sat_checker.specs.inner.OccurrenceView.{count_at, times_in, times_stored, AreKept}
 use Rattle.sat_checker.specs.Storing.{with_count, without_count}
 use Rattle.sat_checker.specs.inner.SlotView.{Slot, unstored, stored_slot, slot_at, literals_at, is_gone, count_of, with_count_at, without_count_at, all_hashed_by}
 use Rattle.sat_checker.specs.declared.occurrences.Occurrences.{Occurrences}
 use Rattle.sat_checker.proofs.lemmas.store.Places.{agrees_stored, agrees_counted, agrees_left, agrees_removed, stored_last, after, gone_there}
 use Rattle.sat_checker.proofs.lemmas.pairs.Order.{all_weaker, all_filter, all_inserted, order_filter, order_inserted, places_inserted}
+use Rattle.sat_checker.proofs.lemmas.pairs.Mixing.{mixed_same}
 use Rattle.sat_checker.proofs.lemmas.store.Filing.{places_without}
 use Rattle.sat_checker.proofs.lemmas.store.Counting.{times_more, times_counted, times_left, times_gone, times_hashed}
 
 -- a clause that is stored once
 pub kept_stored : (ss new all : List Slot) (index next : Indexed) (o mid p : Occurrences) (r : Bool) (id hash place : ℕ) (literals : List ℕ) → AreKept ss index o → ((l : ℕ) → count_at mid l ≡ count_at o l) → place ≡ length ss
-    → next ≡ record { pairs = inserted (record { hash = hash; place = index.places }) index.pairs; places = index.places + 1 } → new ≡ ss ++ unstored id hash literals ∷ [] → all ≡ with_count_at r place new → ((l : ℕ) → count_at p l ≡ count_at mid l + times_in l literals) → AreKept all next p
+    → next ≡ record { pairs = inserted (record { hash = mixed hash; place = index.places }) index.pairs; places = index.places + 1 } → new ≡ ss ++ unstored id hash literals ∷ [] → all ≡ with_count_at r place new → ((l : ℕ) → count_at p l ≡ count_at mid l + times_in l literals) → AreKept all next p
 kept_stored ss new all index next o mid p r id hash place literals k m is h e s a = record {
   files = subst (λ x. Files x all) (sym h) (record {
-    filed = agrees_stored (λ q. places_in q index.pairs) (λ q. places_in q (inserted (record { hash = hash; place = index.places }) index.pairs)) r id hash place literals ss new all k.files.filed is
-        (λ q. places_inserted q (record { hash = hash; place = index.places }) index.pairs k.files.in_order k.files.below ∙ ap (λ x. cond (eqb q hash) (places_in q index.pairs ++ x ∷ []) (places_in q index.pairs)) (k.files.places ∙ sym is)) e s;
+    filed = agrees_stored (λ q. places_in (mixed q) index.pairs) (λ q. places_in (mixed q) (inserted (record { hash = mixed hash; place = index.places }) index.pairs)) r id hash place literals ss new all k.files.filed is
+        (λ q. places_inserted (mixed q) (record { hash = mixed hash; place = index.places }) index.pairs k.files.in_order k.files.below ∙ ap (λ b. cond b (places_in (mixed q) index.pairs ++ index.places ∷ []) (places_in (mixed q) index.pairs)) (mixed_same q hash)
+        ∙ ap (λ x. cond (eqb q hash) (places_in (mixed q) index.pairs ++ x ∷ []) (places_in (mixed q) index.pairs)) (k.files.places ∙ sym is)) e s;
     places = let whole : length all ≡ length ss + 1 = ap length (stored_last r id hash place literals ss new all is e s) ∙ length_more ss (stored_slot r id hash literals) in omega (arith, whole, k.files.places);
-    in_order = order_inserted (record { hash = hash; place = index.places }) index.pairs (all_weaker (λ x. x.place < index.places) (λ x. index.places ≢ x.place) (λ x l d. omega (arith, l, d)) index.pairs k.files.below) k.files.in_order;
-    below = all_inserted (λ x. x.place < index.places + 1) (record { hash = hash; place = index.places }) index.pairs (omega arith) (all_weaker (λ x. x.place < index.places) (λ x. x.place < index.places + 1) (λ x l. omega (arith, l)) index.pairs k.files.below);
+    in_order = order_inserted (record { hash = mixed hash; place = index.places }) index.pairs (all_weaker (λ x. x.place < index.places) (λ x. index.places ≢ x.place) (λ x l d. omega (arith, l, d)) index.pairs k.files.below) k.files.in_order;
+    below = all_inserted (λ x. x.place < index.places + 1) (record { hash = mixed hash; place = index.places }) index.pairs (omega arith) (all_weaker (λ x. x.place < index.places) (λ x. x.place < index.places + 1) (λ x l. omega (arith, l)) index.pairs k.files.below);
   });
   counted = λ l.
       let more : times_stored l all ≡ times_stored l ss + times_in l literals = ap (times_stored l) (stored_last r id hash place literals ss new all is e s) ∙ times_more l r id hash literals ss in
@@ -39,7 +41,7 @@ kept_stored ss new all index next o mid p r id hash place literals k m is h e s 
 pub kept_counted : (old ss new : List Slot) (index : Indexed) (o : Occurrences) (r : Bool) (i : ℕ) → old ≡ ss → i < length ss → is_gone (slot_at ss i) ≡ false → AreKept old index o → new ≡ with_count_at r i old → AreKept new index o
 kept_counted old ss new index o r i is l n k e = record {
   files = record {
-    filed = agrees_counted (λ q. places_in q index.pairs) r i old ss new is l n k.files.filed e;
+    filed = agrees_counted (λ q. places_in (mixed q) index.pairs) r i old ss new is l n k.files.filed e;
     places = k.files.places ∙ sym (ap length e ∙ length-set old i (record (slot_at old i) { clause = with_count r (slot_at old i).clause }));
     in_order = k.files.in_order;
     below = k.files.below;
@@ -50,17 +52,17 @@ kept_counted old ss new index o r i is l n k e = record {
 -- a count less
 module _ (old ss new : List Slot) (index : Indexed) (o : Occurrences) (r : Bool) (i : ℕ) (is : old ≡ ss) (l : i < length ss) (c : 0 < count_of r (slot_at ss i)) (k : AreKept old index o) (e : new ≡ without_count_at r i old) where
   there : is_gone (slot_at new i) ≡ is_gone (record { clause = without_count r (slot_at ss i).clause; hash = (slot_at ss i).hash })
-  there = gone_there (λ q. places_in q index.pairs) r i old ss new is l c k.files.filed e
+  there = gone_there (λ q. places_in (mixed q) index.pairs) r i old ss new is l c k.files.filed e
 
   now : (q : ℕ) → times_stored q new ≡ times_stored q (without_count_at r i ss)
-  now q = ap (times_stored q) (after (λ q. places_in q index.pairs) r i old ss new is l c k.files.filed e)
+  now q = ap (times_stored q) (after (λ q. places_in (mixed q) index.pairs) r i old ss new is l c k.files.filed e)
 
   length_left : length new ≡ length old
   length_left = ap length e ∙ length-set old i (record (slot_at old i) { clause = without_count r (slot_at old i).clause })
 
   pub kept_left : is_gone (slot_at new i) ≡ false → AreKept new index o
   kept_left n = record {
-    files = record { filed = agrees_left (λ q. places_in q index.pairs) r i old ss new is l c k.files.filed e n; places = k.files.places ∙ sym length_left; in_order = k.files.in_order; below = k.files.below };
+    files = record { filed = agrees_left (λ q. places_in (mixed q) index.pairs) r i old ss new is l c k.files.filed e n; places = k.files.places ∙ sym length_left; in_order = k.files.in_order; below = k.files.below };
     counted = λ q. k.counted q ∙ ap (times_stored q) is ∙ sym (times_left q r i ss l c (sym there ∙ n)) ∙ sym (now q);
   }
 
@@ -76,7 +78,7 @@ module _ (old ss new : List Slot) (index : Indexed) (o : Occurrences) (r : Bool)
       → literals ≡ literals_at ss i → ((q : ℕ) → count_at p q + times_in q literals ≡ count_at o q) → is_gone (slot_at new i) ≡ true → AreKept new next p
   kept_removed next p literals w s m g = record {
     files = subst (λ x. Files x new) (sym w) (record {
-      filed = agrees_removed (λ q. places_in q index.pairs) r i old ss new is l c k.files.filed e (λ q. places_in q (without_pair i index.pairs)) (λ q. places_without q i index.pairs) g;
+      filed = agrees_removed (λ q. places_in (mixed q) index.pairs) r i old ss new is l c k.files.filed e (λ q. places_in (mixed q) (without_pair i index.pairs)) (λ q. places_without (mixed q) i index.pairs) g;
       places = k.files.places ∙ sym length_left;
       in_order = order_filter (λ x. not (eqb x.place i)) index.pairs k.files.in_order;
       below = all_filter (λ x. x.place < index.places) (λ x. not (eqb x.place i)) index.pairs k.files.below;

@@ -15,6 +15,7 @@ use Rattle.sat_checker.specs.declared.store.Store.{Store}
 use Rattle.sat_checker.proofs.lemmas.store.Keeping.{length_same}
 use Rattle.sat_checker.specs.inner.SlotView.{Slot, slot_at, literals_at, is_gone, live, live_length, with_hash_at, hashed_by, all_hashed_by, unstored}
 use Rattle.sat_checker.specs.inner.IndexView.{pairs_of}
+use Rattle.sat_checker.specs.inner.PairView.{mixed}
 use Rattle.sat_checker.specs.declared.links.Pair.{Pair}
 use Rattle.sat_checker.proofs.lemmas.store.Filing.{pairs_push}
 
@@ -85,24 +86,24 @@ module _ (names : ℕ → Option ℕ) (width : ℕ) where
   taken_length (s ∷ ss) zero l = refl
   taken_length (s ∷ ss) (suc i) l = ap suc (taken_length ss i (omega arith))
 
-  pairs_one : (ss : List Slot) (i : ℕ) → i < length ss → pairs_to (i + 1) ss ≡ pairs_to i ss ++ cond (is_gone (hashed_by names width (slot_at ss i))) [] ((record { hash = (hashed_by names width (slot_at ss i)).hash; place = i }) ∷ [])
+  pairs_one : (ss : List Slot) (i : ℕ) → i < length ss → pairs_to (i + 1) ss ≡ pairs_to i ss ++ cond (is_gone (hashed_by names width (slot_at ss i))) [] ((record { hash = mixed (hashed_by names width (slot_at ss i)).hash; place = i }) ∷ [])
   pairs_one ss i l =
       let m : i + 1 ≡ suc i = omega arith in
       let z : 0 + length (all_hashed_by names width (take i ss)) ≡ i = let k = taken_length ss i l in omega arith in
       ap (λ k. pairs_to k ss) m ∙ ap pairs_of (take_next ss i l) ∙ pairs_push 0 (all_hashed_by names width (take i ss)) (hashed_by names width (slot_at ss i))
-      ∙ ap (λ k. pairs_to i ss ++ cond (is_gone (hashed_by names width (slot_at ss i))) [] ((record { hash = (hashed_by names width (slot_at ss i)).hash; place = k }) ∷ [])) z
+      ∙ ap (λ k. pairs_to i ss ++ cond (is_gone (hashed_by names width (slot_at ss i))) [] ((record { hash = mixed (hashed_by names width (slot_at ss i)).hash; place = k }) ∷ [])) z
 
   pub pairs_gone : (ps : List Pair) (ss : List Slot) (i : ℕ) → i < length ss → is_gone (slot_at ss i) ≡ true → ps ≡ pairs_to i ss → ps ≡ pairs_to (i + 1) ss
   pairs_gone ps ss i l g e =
-      e ∙ sym (pairs_one ss i l ∙ ap (λ (s : Slot). pairs_to i ss ++ cond (is_gone s) [] ((record { hash = s.hash; place = i }) ∷ [])) (hashed_gone (slot_at ss i) g)
-      ∙ ap (λ b. pairs_to i ss ++ cond b [] ((record { hash = (slot_at ss i).hash; place = i }) ∷ [])) g ∙ append-nil (pairs_to i ss))
+      e ∙ sym (pairs_one ss i l ∙ ap (λ (s : Slot). pairs_to i ss ++ cond (is_gone s) [] ((record { hash = mixed s.hash; place = i }) ∷ [])) (hashed_gone (slot_at ss i) g)
+      ∙ ap (λ b. pairs_to i ss ++ cond b [] ((record { hash = mixed (slot_at ss i).hash; place = i }) ∷ [])) g ∙ append-nil (pairs_to i ss))
 
-  pub pairs_there : (ps new : List Pair) (ss : List Slot) (i hash : ℕ) → i < length ss → is_gone (slot_at ss i) ≡ false → hash ≡ hash_by names width (slot_at ss i).clause.literals → ps ≡ pairs_to i ss
+  pub pairs_there : (ps new : List Pair) (ss : List Slot) (i hash : ℕ) → i < length ss → is_gone (slot_at ss i) ≡ false → hash ≡ mixed (hash_by names width (slot_at ss i).clause.literals) → ps ≡ pairs_to i ss
       → new ≡ ps ++ (record { hash = hash; place = i }) ∷ [] → new ≡ pairs_to (i + 1) ss
   pairs_there ps new ss i hash l n h e w =
       w ∙ ap (λ qs. qs ++ (record { hash = hash; place = i }) ∷ []) e
-      ∙ sym (pairs_one ss i l ∙ ap (λ (s : Slot). pairs_to i ss ++ cond (is_gone s) [] ((record { hash = s.hash; place = i }) ∷ [])) (hashed_there (slot_at ss i) n)
-      ∙ ap (λ b. pairs_to i ss ++ cond b [] ((record { hash = hash_by names width (slot_at ss i).clause.literals; place = i }) ∷ [])) n
+      ∙ sym (pairs_one ss i l ∙ ap (λ (s : Slot). pairs_to i ss ++ cond (is_gone s) [] ((record { hash = mixed s.hash; place = i }) ∷ [])) (hashed_there (slot_at ss i) n)
+      ∙ ap (λ b. pairs_to i ss ++ cond b [] ((record { hash = mixed (hash_by names width (slot_at ss i).clause.literals); place = i }) ∷ [])) n
       ∙ ap (λ k. pairs_to i ss ++ (record { hash = k; place = i }) ∷ []) (sym h))
 
   pub pairs_all : (ss : List Slot) (i : ℕ) → length ss ≤ i → pairs_to i ss ≡ pairs_of (all_hashed_by names width ss)

@@ -1,7 +1,11 @@
--- How often a literal stands in what is left of a list.
-use Rattle.std.proofs.Common.{ℕ, zero, suc, ◌+◌, ◌<◌, ◌≤◌, ◌^◌, ◌≡◌, cond, eqb, List, [], ◌∷◌, length, drop, get_or, sym, ◌∙◌, ap, arith}
-use Rattle.std.proofs.lemmas.Bool.{eq-eqb}
-use Rattle.std.proofs.lemmas.List.{drop_more, get_or_read}
+-- How often a literal stands in what is left of a list, and its count in a table.
+use Rattle.std.proofs.Common.{ℕ, ◌+◌, ◌-◌, ◌<◌, ◌≤◌, ◌^◌, ◌≡◌, Bool, true, false, cond, eqb, List, ◌∷◌, length, drop, get_or, refl, sym, subst, ◌∙◌, ap, arith}
+use Rattle.std.proofs.lemmas.Bool.{eq-eqb, eqb-true, eqb-false}
+use Rattle.std.proofs.lemmas.List.{drop_more, get_or_default}
+use Rattle.sat_base.specs.declared.table.Table.{Table}
+use Rattle.sat_base.specs.values.Tables.{value_at, HasRoom}
+use Rattle.sat_base.proofs.lemmas.values.TableLemmas.{has_room}
+use Rattle.sat_checker.proofs.lemmas.store.Places.{eqb_comm}
 use Rattle.sat_checker.specs.inner.OccurrenceView.{times_in}
 
 -- what comes next is left
@@ -12,15 +16,39 @@ still_left ls i x k e =
     let is : cond (eqb (get_or ls i x) x) 1 0 ≡ one = ap (λ b. cond b 1 0) (eq-eqb _ _ (sym e)) in
     omega (arith, here, is)
 
--- a count that isn't zero is there
-pub some_there : (xs : List ℕ) (x : ℕ) → 1 ≤ get_or xs x 0 → x < length xs
-some_there [] x h = absurd (omega (arith, h))
-some_there (y ∷ ys) zero h = omega arith
-some_there (y ∷ ys) (suc x) h = let ih : x < length ys = some_there ys x h in omega (arith, ih)
+-- what is left is the next one and those behind it
+pub next_times : (ls : List ℕ) (i x : ℕ) → i < length ls → x ≡ get_or ls i x → (k : ℕ) → times_in k (drop i ls) ≡ cond (eqb k x) 1 0 + times_in k (drop (i + 1) ls)
+next_times ls i x h e k =
+    ap (times_in k) (drop_more ls i x h) ∙ ap (λ y. cond (eqb y k) 1 0 + times_in k (drop (i + 1) ls)) (sym e) ∙ ap (λ b. cond b 1 0 + times_in k (drop (i + 1) ls)) (eqb_comm x k)
 
--- the count that is read
-pub read_at : (xs : List ℕ) (p x r : ℕ) → p ≡ x → x < length xs → r ≡ get_or xs p r → r ≡ get_or xs x 0
-read_at xs p x r e l h = let inside : p < length xs = omega (arith, e, l) in get_or_read xs p r inside h 0 ∙ ap (λ q. get_or xs q 0) e
+-- a count that isn't zero has room
+pub some_room : (t : Table ℕ) (x : ℕ) → 0 < value_at 0 t x → HasRoom t x
+some_room t x h = has_room 0 t x (λ e. omega (arith, h, e))
+
+-- one count more, and one less
+module _ (t new : Table ℕ) (p x c : ℕ) (is : p ≡ x) (read : c ≡ value_at 0 t x) where
+  pub one_more : ((v : ℕ) → value_at 0 new v ≡ cond (eqb v p) (c + 1) (value_at 0 t v)) → (v : ℕ) → value_at 0 new v ≡ cond (eqb v x) 1 0 + value_at 0 t v
+  one_more set v = subst (λ q. value_at 0 new v ≡ cond (eqb v q) (c + 1) (value_at 0 t v)) is (set v) ∙ go (eqb v x) refl
+    where
+      go : (b : Bool) → eqb v x ≡ b → cond b (c + 1) (value_at 0 t v) ≡ cond b 1 0 + value_at 0 t v
+      go true e = let here = ap (value_at 0 t) (eqb-true v x e) in omega (arith, here, read)
+      go false e = omega arith
+
+  pub one_less : 0 < value_at 0 t x → ((v : ℕ) → value_at 0 new v ≡ cond (eqb v p) (c - 1) (value_at 0 t v)) → (v : ℕ) → cond (eqb v x) 1 0 + value_at 0 new v ≡ value_at 0 t v
+  one_less some set v = go (eqb v x) refl (subst (λ q. value_at 0 new v ≡ cond (eqb v q) (c - 1) (value_at 0 t v)) is (set v))
+    where
+      go : (b : Bool) → eqb v x ≡ b → value_at 0 new v ≡ cond b (c - 1) (value_at 0 t v) → cond b 1 0 + value_at 0 new v ≡ value_at 0 t v
+      go true e n = let here = ap (value_at 0 t) (eqb-true v x e) in omega (arith, here, read, n, some)
+      go false e n = omega (arith, n)
+
+-- room for one literal more
+pub room_next : (old new : Table ℕ) (ls : List ℕ) (i x : ℕ) → i < length ls → x ≡ get_or ls i x → ((j d : ℕ) → j < i → HasRoom old (get_or ls j d)) → ((k : ℕ) → HasRoom old k → HasRoom new k) → HasRoom new x
+    → (j d : ℕ) → j < i + 1 → HasRoom new (get_or ls j d)
+room_next old new ls i x inside is before others room j d h = go (eqb j i) refl
+  where
+    go : (b : Bool) → eqb j i ≡ b → HasRoom new (get_or ls j d)
+    go true e = subst (λ k. HasRoom new (get_or ls k d)) (sym (eqb-true j i e)) (subst (HasRoom new) (is ∙ get_or_default ls i x d inside) room)
+    go false e = let other = eqb-false j i e in others (get_or ls j d) (before j d (omega (arith, h, other)))
 
 pub fits_more : (r now left old all : ℕ) → r ≡ now → 1 ≤ left → now + left ≡ old + all → old + all < 2 ^ 64 → r + 1 < 2 ^ 64
 fits_more r now left old all e l h f = omega (arith, e, l, h, f)

@@ -13,7 +13,7 @@ use Rattle.sat_parts.specs.prop.State.{State, level, Agrees}
 use Rattle.sat_parts.specs.prop.Ready.{AreLists}
 use Rattle.sat_solver.specs.session.Session.{Session, with_solver_name, after}
 use Rattle.sat_solver.specs.session.LiveClauses.{LiveClause, IsIn, with_var}
-use Rattle.sat_solver.proofs.lemmas.session.Represented.{gets_name, loses_name, still_of}
+use Rattle.sat_solver.proofs.lemmas.session.Represented.{loses_name, still_of}
 use Rattle.sat_solver.specs.acceptance.SolverClauses.{binaries, longs, solver_clauses}
 use Rattle.sat_solver.specs.parts.Round.{IsUnused}
 use Rattle.sat_solver.specs.parts.Frame.{IsUnitLit}

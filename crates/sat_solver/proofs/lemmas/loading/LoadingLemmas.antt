@@ -101,8 +101,8 @@ leaves_both s t u x y = record { assumed = y.assumed ∙ x.assumed; names = λ v
 
 -- nothing was written, and then the clause buffer refused
 pub goes_unstored : {A W L full : Type 0} {G : Ghosts L} (seen : W → Writer) (e : StoreError) (p : Proof W L G) (P : A → List Step → Type 0) → Keeps p → (e ≡ stores.StoreFull → full) → GoesOr full seen (Err (failure_of e)) p p P
-goes_unstored seen stores.StoreFull p P keeps f = record { steps = []; went = adds_none seen p; searched = tt; keeps = keeps; ends = f refl }
-goes_unstored seen stores.OutOfMemory p P keeps f = record { steps = []; went = adds_none seen p; searched = tt; keeps = keeps; ends = tt }
+goes_unstored seen stores.StoreFull p P keeps f = record { steps = []; went = adds_none seen p; searched = tt; quiet = tt; keeps = keeps; ends = f refl }
+goes_unstored seen stores.OutOfMemory p P keeps f = record { steps = []; went = adds_none seen p; searched = tt; quiet = tt; keeps = keeps; ends = tt }
 
 -- lists that steps are made of don't matter
 loaded_scratch : (s : Session) (c c' : Search) (x : Scratch) → IsLoaded true s c c' → IsLoaded true s c (record c' { scratch = x })

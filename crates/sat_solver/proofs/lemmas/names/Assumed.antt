@@ -36,9 +36,6 @@ use Rattle.sat_solver.proofs.lemmas.names.ClauseWritten.{all_known, known_same, 
 pub record Marking (first now : ℕ → VarData) (all : List ℕ) (index : ℕ) (assumed : Bool) : Type 0 where
   pub rest : (new : ℕ → VarData) → Marks now new (drop index all) assumed → Marks first new all assumed
 
-pub none_marked : (first : ℕ → VarData) (all : List ℕ) (assumed : Bool) → Marking first first all 0 assumed
-none_marked first all assumed = record { rest = λ new m. m }
-
 pub one_marked : (first now next : ℕ → VarData) (all : List ℕ) (index l v : ℕ) (assumed : Bool) → Marking first now all index assumed → index < length all → l ≡ get_or all index 0 → v ≡ variable l
     → ((w : ℕ) → next w ≡ cond (eqb w v) (record (now v) { assumed = assumed }) (now w)) → Marking first next all (index + 1) assumed
 one_marked first now next all index l v assumed m lt at is put = record {

@@ -269,6 +269,7 @@ index_taken old new from to v x stands there unit unused put globals e = record 
   kept = put.kept;
   search = index_search from to v None e;
   used = put.used;
+  step = e;
 }
 
 -- there is room for an index in use to be free

@@ -19,9 +19,6 @@ mode_same kept.Sample q n h = sym (ap is_witness h)
 mode_same kept.Witness q n h = sym (ap is_witness h)
 mode_same kept.Hide q n h = absurd (n refl)
 
-pub witness_none : (n : Variables) (user : ℕ) → global_of n user ≡ None → (j : Judge) (live : Live) → AreJudged n j live → false ≡ has_witness j (identity_of j (user + 1))
-witness_none n user e j live judged = sym (ap (has_witness j) (judged.names user ∙ ap (given_of live) e))
-
 pub witness_some : (n : Variables) (user v : ℕ) → AreTidy n → global_of n user ≡ Some v → (j : Judge) (live : Live) → AreJudged n j live → is_witness_kept (data_at n v).sampling_mode ≡ has_witness j (identity_of j (user + 1))
 witness_some n user v tidy e j live judged =
     let name = tidy.users.back user v e in
@@ -32,17 +29,6 @@ witness_some n user v tidy e j live judged =
 -- what is left of the literals decides
 abbrev pub IsLeft : Variables → List ℕ → List ℕ → Type 0
 IsLeft n all rest = (j : Judge) (live : Live) → AreJudged n j live → refused_literal j (names_in all) ≡ refused_literal j (names_in rest)
-
-first_of : (j : Judge) (l : ℕ) (ls : List ℕ) (b : Bool) → variable l < largest → b ≡ has_witness j (identity_of j (variable l + 1)) → refused_literal j (names_in (l ∷ ls)) ≡ cond b (Some (WitnessName (variable l + 1))) (refused_literal j (names_in ls))
-first_of j l ls b small e =
-    ap (λ t. cond t (Some PastLimit) (cond (has_witness j (identity_of j (variable l + 1))) (Some (WitnessName (variable l + 1))) (refused_literal j (names_in ls)))) (le-ltb largest (variable l + 1) (omega arith))
-    ∙ ap (λ t. cond t (Some (WitnessName (variable l + 1))) (refused_literal j (names_in ls))) (sym e)
-
-pub passes_on : (n : Variables) (all ls : List ℕ) (l : ℕ) (b : Bool) → IsLeft n all (l ∷ ls) → variable l < largest → ((j : Judge) (live : Live) → AreJudged n j live → b ≡ has_witness j (identity_of j (variable l + 1))) → b ≡ false → IsLeft n all ls
-passes_on n all ls l b h small w e j live judged = h j live judged ∙ first_of j l ls b small (w j live judged) ∙ ap (λ t. cond t (Some (WitnessName (variable l + 1))) (refused_literal j (names_in ls))) e
-
-pub stops_at : (n : Variables) (all ls : List ℕ) (l : ℕ) (b : Bool) → IsLeft n all (l ∷ ls) → variable l < largest → ((j : Judge) (live : Live) → AreJudged n j live → b ≡ has_witness j (identity_of j (variable l + 1))) → b ≡ true → (j : Judge) (live : Live) → AreJudged n j live → refused_literal j (names_in all) ≡ as_refusal (Some (variable l))
-stops_at n all ls l b h small w e j live judged = h j live judged ∙ first_of j l ls b small (w j live judged) ∙ ap (λ t. cond t (Some (WitnessName (variable l + 1))) (refused_literal j (names_in ls))) e
 
 sampled_kept : (m : SamplingMode) → m ≢ kept.Hide → is_witness_kept m ≡ false → m ≡ kept.Sample
 sampled_kept kept.Sample n e = refl
@@ -56,15 +42,6 @@ sampled_some n user v tidy e w x f =
   where
     some_same : {a b : ℕ} {o : Option ℕ} → o ≡ Some a → o ≡ Some b → a ≡ b
     some_same f g = cc
-
-pub sampled_none : (n : Variables) (user : ℕ) → global_of n user ≡ None → IsSampled n user
-sampled_none n user e v f = absurd (none_some e f)
-  where
-    none_some : {x : ℕ} {o : Option ℕ} → o ≡ None → o ≡ Some x → ⊥
-    none_some e f = cc
-
-pub sampled_on : (n : Variables) (all ls : List ℕ) (l : ℕ) → (NoWitness n (l ∷ ls) → NoWitness n all) → IsSampled n (variable l) → NoWitness n ls → NoWitness n all
-sampled_on n all ls l f h rest = f (h, rest)
 
 -- ASSUMED NAMES
 

@@ -157,14 +157,6 @@ limit_fails errors.OutOfMemory old new from to tidy lt h = tt
 limit_fails (errors.Write cause) old new from to tidy lt h = tt
 limit_fails (errors.Check fault) old new from to tidy lt h = tt
 
-pub failure_limits : {W : Type 0} (e : NameError) (old new : Variables) (from to : W) → (NoneLeft old → ⊥) → IsFailure e → Limits e old new from to
-failure_limits errors.WitnessVariable old new from to left h = h
-failure_limits errors.AssumedVariable old new from to left h = h
-failure_limits errors.VariableLimit old new from to left h = absurd h
-failure_limits errors.OutOfMemory old new from to left h = left
-failure_limits (errors.Write cause) old new from to left h = left
-failure_limits (errors.Check fault) old new from to left h = left
-
 -- a fault that is handed on
 pub fails_on : {A : Type 0} (r : Result A NameError) (e : NameError) → IsErrAnd r (λ f. f ≡ e) → IsFailure e → IfErr r IsFailure
 fails_on r e h f = let p = err_from_is_err_and r h in subst (λ r. IfErr r IsFailure) (sym p.1) (subst IsFailure (sym p.2) f)
@@ -208,14 +200,6 @@ hidden_again n user us again = hidden_same n user us here
 
     here : (u : ℕ) → u < names_used n → u ≡ user → is_hidden_name n (user ∷ us) u ≡ is_hidden_name n us u
     here u low e = both (not (is_some (global_of n u))) (is_listed us u) (eqb user u) (ap (is_listed us) e ∙ again)
-
-pub hidden_used : (n : Variables) (user : ℕ) (us : List ℕ) → is_some (global_of n user) ≡ true → hidden_count n (user ∷ us) ≡ hidden_count n us
-hidden_used n user us some = hidden_same n user us here
-  where
-    here : (u : ℕ) → u < names_used n → u ≡ user → is_hidden_name n (user ∷ us) u ≡ is_hidden_name n us u
-    here u low e =
-        let there : is_some (global_of n u) ≡ true = ap (λ k. is_some (global_of n k)) e ∙ some in
-        ap (λ b. not b && is_listed (user ∷ us) u) there ∙ sym (ap (λ b. not b && is_listed us u) there)
 
 pub hidden_more : (n : Variables) (user : ℕ) (us : List ℕ) → user < names_used n → is_listed us user ≡ false → is_some (global_of n user) ≡ false → hidden_count n (user ∷ us) ≡ hidden_count n us + 1
 hidden_more n user us lt new free =

@@ -221,10 +221,6 @@ images_within n user order tidy images x m =
 pub within_all : (n : Variables) (user order set : List ℕ) → AreTidy n → Images n user order → set ≡ canonical order → (k : ℕ) → k < length set → variable (get_or set k 0) < length n.globals.items
 within_all n user order set tidy images e k lt = images_within n user order tidy images (get_or set k 0) (canonical_less order (get_or set k 0) (subst (Among (get_or set k 0)) e (among_place set k lt)))
 
-pub none_part : (o : Option ℕ) (b : Bool) (P : Type 0) → b ≡ is_some o → b ≡ false → IfNone o P → P
-none_part None b P e f p = p
-none_part (Some x) b P e f p = absurd (true≢false (sym e ∙ f))
-
 pub any_default : (xs : List ℕ) (i d e : ℕ) → i < length xs → get_or xs i d ≡ get_or xs i e
 any_default [] i d e lt = absurd (omega arith)
 any_default (x ∷ xs) zero d e lt = refl

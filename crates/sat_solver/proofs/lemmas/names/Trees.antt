@@ -228,47 +228,6 @@ pub record Mends (room : ℕ) (first nodes : List Bool) (leaf : ℕ) (value : Bo
   pub some : 0 < at
   pub within : at < 2 * room
 
-pub mend_begins : (f : FreeIndices) (nodes : List Bool) (leaf : ℕ) (value : Bool) → IsTree f → f.room ≤ leaf → leaf < 2 * f.room → length nodes ≡ length f.nodes.items → ((q : ℕ) → node_at nodes q ≡ cond (eqb q leaf) value (node_at f.nodes.items q)) → Mends f.room f.nodes.items nodes leaf value leaf
-mend_begins f nodes leaf value tree le lt size put = record {
-  size = size;
-  leaves = λ l m. put l;
-  inner = λ q pos low ne. other q (λ e. omega arith) ∙ tree.inner q pos low ∙ sym (both (node_at nodes (2 * q)) (node_at f.nodes.items (2 * q)) (node_at nodes (2 * q + 1)) (node_at f.nodes.items (2 * q + 1)) (other (2 * q) (λ e. ne (omega arith))) (other (2 * q + 1) (λ e. ne (omega arith))));
-  some = omega arith;
-  within = lt;
-}
-  where
-    other : (q : ℕ) → q ≢ leaf → node_at nodes q ≡ node_at f.nodes.items q
-    other q ne = put q ∙ ap (λ b. cond b value (node_at f.nodes.items q)) (ne_eqb q leaf ne)
-
-    both : (a b c d : Bool) → a ≡ b → c ≡ d → (a || c) ≡ (b || d)
-    both a b c d e g = ap (λ x. x || c) e ∙ ap (λ x. b || x) g
-
-pub mend_goes : (room : ℕ) (first nodes next : List Bool) (leaf : ℕ) (value : Bool) (at : ℕ) → room ≤ leaf → Mends room first nodes leaf value at → 1 < at → Refreshes nodes next (at / 2) → Mends room first next leaf value (at / 2)
-mend_goes room first nodes next leaf value at low m big r = record {
-  size = r.size ∙ m.size;
-  leaves = λ l le. other l (λ e. let w = m.within in omega arith) ∙ m.leaves l le;
-  inner = inner;
-  some = omega arith;
-  within = let w = m.within in omega arith;
-}
-  where
-    other : (q : ℕ) → q ≢ at / 2 → node_at next q ≡ node_at nodes q
-    other q ne = r.nodes q ∙ ap (λ b. cond b (node_at nodes (2 * (at / 2)) || node_at nodes (2 * (at / 2) + 1)) (node_at nodes q)) (ne_eqb q (at / 2) ne)
-
-    both : (a b c d : Bool) → a ≡ b → c ≡ d → (a || c) ≡ (b || d)
-    both a b c d e g = ap (λ x. x || c) e ∙ ap (λ x. b || x) g
-
-    inner : (q : ℕ) → 0 < q → q < room → q ≢ at / 2 / 2 → node_at next q ≡ (node_at next (2 * q) || node_at next (2 * q + 1))
-    inner q pos lt ne = elim (cases_eq q (at / 2)) [
-      | inl e ↦
-          r.nodes q ∙ ap (λ b. cond b (node_at nodes (2 * (at / 2)) || node_at nodes (2 * (at / 2) + 1)) (node_at nodes q)) (eq-eqb q (at / 2) e)
-          ∙ ap (λ k. node_at nodes (2 * k) || node_at nodes (2 * k + 1)) (sym e) ∙ kids
-      | inr n ↦ other q n ∙ m.inner q pos lt n ∙ kids
-    ]
-      where
-        kids : (node_at nodes (2 * q) || node_at nodes (2 * q + 1)) ≡ (node_at next (2 * q) || node_at next (2 * q + 1))
-        kids = sym (both (node_at next (2 * q)) (node_at nodes (2 * q)) (node_at next (2 * q + 1)) (node_at nodes (2 * q + 1)) (other (2 * q) (λ e. ne (omega arith))) (other (2 * q + 1) (λ e. ne (omega arith))))
-
 pub mended : (f g : FreeIndices) (index : ℕ) (value : Bool) (at : ℕ) → IsTree f → index < f.room → g.room ≡ f.room → g.height ≡ f.height → g.count + cond (is_free f index) 1 0 ≡ f.count + cond value 1 0 → Mends f.room f.nodes.items g.nodes.items (f.room + index) value at → at ≤ 1
     → IsTree g × ((i : ℕ) → is_free g i ≡ cond (eqb i index) value (is_free f i))
 mended f g index value at tree lt room height count m le = (
@@ -312,49 +271,6 @@ pub record Renews (room : ℕ) (first nodes : List Bool) (from : ℕ) : Type 0 w
   pub leaves : (l : ℕ) → room ≤ l → node_at nodes l ≡ node_at first l
   pub inner : (q : ℕ) → from ≤ q → 0 < q → q < room → node_at nodes q ≡ (node_at nodes (2 * q) || node_at nodes (2 * q + 1))
 
-pub renew_begins : (room : ℕ) (first : List Bool) (from : ℕ) → room ≤ from → Renews room first first from
-renew_begins room first from le = record { size = refl; leaves = λ l m. refl; inner = λ q m pos lt. absurd (omega arith) }
-
-pub renew_goes : (room : ℕ) (first nodes next : List Bool) (at : ℕ) → Renews room first nodes (at + 1) → at < room → 0 < at → Refreshes nodes next at → Renews room first next at
-renew_goes room first nodes next at m lt pos r = record {
-  size = r.size ∙ m.size;
-  leaves = λ l le. other l (λ e. omega arith) ∙ m.leaves l le;
-  inner = inner;
-}
-  where
-    other : (q : ℕ) → q ≢ at → node_at next q ≡ node_at nodes q
-    other q ne = r.nodes q ∙ ap (λ b. cond b (node_at nodes (2 * at) || node_at nodes (2 * at + 1)) (node_at nodes q)) (ne_eqb q at ne)
-
-    both : (a b c d : Bool) → a ≡ b → c ≡ d → (a || c) ≡ (b || d)
-    both a b c d e g = ap (λ x. x || c) e ∙ ap (λ x. b || x) g
-
-    inner : (q : ℕ) → at ≤ q → 0 < q → q < room → node_at next q ≡ (node_at next (2 * q) || node_at next (2 * q + 1))
-    inner q le some low = elim (cases_eq q at) [
-      | inl e ↦ r.nodes q ∙ ap (λ b. cond b (node_at nodes (2 * at) || node_at nodes (2 * at + 1)) (node_at nodes q)) (eq-eqb q at e) ∙ ap (λ k. node_at nodes (2 * k) || node_at nodes (2 * k + 1)) (sym e) ∙ kids
-      | inr n ↦ other q n ∙ m.inner q (omega arith) some low ∙ kids
-    ]
-      where
-        kids : (node_at nodes (2 * q) || node_at nodes (2 * q + 1)) ≡ (node_at next (2 * q) || node_at next (2 * q + 1))
-        kids = sym (both (node_at next (2 * q)) (node_at nodes (2 * q)) (node_at next (2 * q + 1)) (node_at nodes (2 * q + 1)) (other (2 * q) (λ e. omega arith)) (other (2 * q + 1) (λ e. omega arith)))
-
-pub renewed : (f g : FreeIndices) → length f.nodes.items ≡ 2 * f.room → Powers f → IsCounted f → g.room ≡ f.room → g.height ≡ f.height → g.count ≡ f.count → (from : ℕ) → from ≤ 1 → Renews f.room f.nodes.items g.nodes.items from → IsTree g × ((i : ℕ) → is_free g i ≡ is_free f i)
-renewed f g size powers counted room height count from le m = (
-  record {
-    size = m.size ∙ size ∙ ap (λ r. 2 * r) (sym room);
-    powers = same powers;
-    counted = count ∙ counted ∙ ap (λ r. count_to r (is_free f)) (sym room) ∙ count_same g.room (is_free f) (is_free g) (λ i lt. sym (free i));
-    inner = λ q pos lt. m.inner q (omega arith) pos (omega arith);
-  },
-  free,
-)
-  where
-    free : (i : ℕ) → is_free g i ≡ is_free f i
-    free i = ap (λ r. node_at g.nodes.items (r + i)) room ∙ m.leaves (f.room + i) (omega arith)
-
-    same : Powers f → Powers g
-    same (empty e) = empty (room ∙ e)
-    same (power e l) = power (room ∙ e ∙ ap doubled (sym height)) (omega arith)
-
 -- LEAVES MOVE
 
 -- so many leaves were copied
@@ -363,29 +279,6 @@ pub record Copies (first nodes : List Bool) (room index : ℕ) : Type 0 where
   pub there : (i : ℕ) → i < index → node_at nodes (2 * room + i) ≡ node_at first (room + i)
   pub kept : (q : ℕ) → q < 2 * room → node_at nodes q ≡ node_at first q
   pub past : (q : ℕ) → 3 * room ≤ q → node_at nodes q ≡ node_at first q
-
-pub none_copied : (first : List Bool) (room : ℕ) → Copies first first room 0
-none_copied first room = record { size = refl; there = λ i lt. absurd (let z : i < 0 = lt in omega arith); kept = λ q lt. refl; past = λ q le. refl }
-
-pub one_copied : (first nodes next : List Bool) (room index : ℕ) → Copies first nodes room index → index < room → length next ≡ length nodes → ((q : ℕ) → node_at next q ≡ cond (eqb q (2 * room + index)) (node_at nodes (room + index)) (node_at nodes q)) → Copies first next room (index + 1)
-one_copied first nodes next room index c lt size put = record {
-  size = size ∙ c.size;
-  there = there;
-  kept = λ q m. other q (λ e. omega arith) ∙ c.kept q m;
-  past = λ q m. other q (λ e. omega arith) ∙ c.past q m;
-}
-  where
-    other : (q : ℕ) → q ≢ 2 * room + index → node_at next q ≡ node_at nodes q
-    other q ne = put q ∙ ap (λ b. cond b (node_at nodes (room + index)) (node_at nodes q)) (ne_eqb q (2 * room + index) ne)
-
-    there : (i : ℕ) → i < index + 1 → node_at next (2 * room + i) ≡ node_at first (room + i)
-    there i m = elim (cases_eq i index) [
-      | inl e ↦ put (2 * room + i) ∙ ap (λ b. cond b (node_at nodes (room + index)) (node_at nodes (2 * room + i))) (eq-eqb (2 * room + i) (2 * room + index) (omega arith)) ∙ c.kept (room + index) (omega arith) ∙ ap (λ k. node_at first (room + k)) (sym e)
-      | inr ne ↦ other (2 * room + i) (λ e. ne (omega arith)) ∙ c.there i (omega arith)
-    ]
-
-pub copied : (first nodes : List Bool) (room index : ℕ) → Copies first nodes room index → room ≤ index → CopiesLeaves first nodes room
-copied first nodes room index c le = record { size = c.size; there = λ i lt. c.there i (omega arith); kept = c.past }
 
 -- in a list of twice the length the leaves are the same
 pub grown : (f g h : FreeIndices) (wide : List Bool) → IsTree f → f.room ≡ doubled f.height → length wide ≡ 4 * f.room → ((q : ℕ) → node_at wide q ≡ node_at f.nodes.items q) → CopiesLeaves wide g.nodes.items f.room → g.room ≡ 2 * f.room → ((i : ℕ) → is_free h i ≡ is_free g i) → (i : ℕ) → is_free h i ≡ is_free f i

@@ -1,5 +1,5 @@
 -- How rounds end that began with a simplification.
-use Rattle.std.proofs.Common.{◌∙◌, Result, Ok, Err, List, [], ◌++◌, sym, subst}
+use Rattle.std.proofs.Common.{◌∙◌, Result, Ok, Err, List, [], ◌++◌, refl, sym, subst}
 use Rattle.sat_base.specs.device.Device.{Writer}
 use Rattle.sat_base.specs.steps.Steps.{Step}
 use Rattle.sat_checker.specs.declared.processing.ProofProcessor.{Ghosts}
@@ -15,6 +15,8 @@ use Rattle.sat_solver.specs.declared.error.SolverError.{SolverError}
 use Rattle.sat_solver.specs.names.Calls.{DoesNothing}
 use Rattle.sat_solver.specs.declared.names.Variables.{Variables}
 use Rattle.sat_solver.proofs.lemmas.names.Doing.{does_none, does_both}
+use Rattle.sat_solver.specs.joint.Quiet.{ComesQuietly}
+use Rattle.sat_solver.proofs.lemmas.joint.QuietLemmas.{quiet_comes, comes_quiet}
 use Rattle.sat_solver.specs.parts.Words.{ExtendsFor}
 use Rattle.sat_solver.specs.parts.Full.{IsFull}
 use Rattle.sat_solver.specs.search.Going.{GoesOr}
@@ -36,6 +38,7 @@ use Rattle.sat_solver.proofs.lemmas.simplify.PassesLemmas.{falls_goes, falls_lat
 -- what a round began with
 record Reaches {W L : Type 0} {G : Ghosts L} (seen : W → Writer) (n m : Variables) (p q : Proof W L G) (c d : Search) : Type 0 where
   took : Took seen p q
+  quiet : ComesQuietly (steps_of p) (steps_of q)
   does : DoesNothing n m (steps_of p) (steps_of q)
   asked : KeepsAsked n m (session_of p) (session_of q)
   shares : SharesIndices m d
@@ -44,9 +47,9 @@ record Reaches {W L : Type 0} {G : Ghosts L} (seen : W → Writer) (n m : Variab
 
 shares_on : (o : Outcome) (earlier steps : List Step) (s : Session) (m : Variables) (d e : Search) → SharesIndices m d → RoundSays o earlier steps s d e → RoundShares o m e
 shares_on outcomes.Learned earlier steps s m d e h x = shares_moved m d e h x.moved
-shares_on outcomes.Model earlier steps s m d e h x = shares_moved m d e h x.moved
+shares_on outcomes.Model earlier steps s m d e h x = shares_moved m d e h x.0.moved
 shares_on outcomes.Unsat earlier steps s m d e h x = tt
-shares_on outcomes.Failed earlier steps s m d e h x = shares_moved m d e h x.moved
+shares_on outcomes.Failed earlier steps s m d e h x = shares_moved m d e h x.0.moved
 
 module _ {W L : Type 0} {G : Ghosts L} (seen : W → Writer) (n m : Variables) (p q : Proof W L G) (c d : Search) where
   ends_behind : Reaches seen n m p q c d → (r : Result Outcome SolverError) (z : Proof W L G) (e : Search) → GoesOr (IsFull e.parts) seen r q z (λ o steps. RoundSays o (steps_of q) steps (session_of z) d e) → EndsRound seen r n m p z c e
@@ -59,14 +62,14 @@ module _ {W L : Type 0} {G : Ghosts L} (seen : W → Writer) (n m : Variables) (
         keeps = g.keeps;
         does = does_both n m m (steps_of p) (steps_of q) (steps_of z) (λ j. j) (λ j. j) (λ j. []) (λ j. []) b.does quiet;
         asked = record { users = b.asked.users; assumed = (goes_leaves seen o q z _ g).assumed ∙ b.asked.assumed; indices = b.asked.indices };
-        says = round_from o (steps_of p) b.took.0 g.steps (session_of z) c d e b.moved b.word (subst (λ zs. RoundSays o zs g.steps (session_of z) d e) b.took.1.history g.ends);
+        says = round_from o (steps_of p) b.took.0 g.steps (session_of z) c d e b.moved b.word (comes_quiet (steps_of p) (steps_of q) b.took.0 b.quiet b.took.1.history) (subst (λ zs. RoundSays o zs g.steps (session_of z) d e) b.took.1.history g.ends);
         shares = shares_on o (steps_of q) g.steps (session_of z) m d e b.shares g.ends;
       }
   ends_behind b (Err f) z e g = falls_later seen f p q z b.took (falls_goes seen f q z (λ _ _. ⊥) (goes_failing seen f q z (λ o steps. RoundSays o (steps_of q) steps (session_of z) d e) (λ (_ : Unit {0}) _. ⊥) g))
 
   -- behind a simplification, or nothing
   pub ends_on : Passes seen n m p q c d → (r : Result Outcome SolverError) (z : Proof W L G) (e : Search) → GoesOr (IsFull e.parts) seen r q z (λ o steps. RoundSays o (steps_of q) steps (session_of z) d e) → EndsRound seen r n m p z c e
-  ends_on b = ends_behind (record { took = b.took; does = b.does; asked = b.asked; shares = b.together.shares; moved = b.moved; word = b.word })
+  ends_on b = ends_behind (record { took = b.took; quiet = b.quiet; does = b.does; asked = b.asked; shares = b.together.shares; moved = b.moved; word = b.word })
 
   -- behind a clause that is false at level 0
   pub ends_refuted : StandTogether n p c → (f : Conflict) → Refutes n m p q c d f → (r : Result Outcome SolverError) (z : Proof W L G) (e : Search) → GoesOr (IsFull e.parts) seen r q z (λ o steps. RoundSays o (steps_of q) steps (session_of z) d e) → EndsRound seen r n m p z c e
@@ -75,6 +78,7 @@ module _ {W L : Type 0} {G : Ghosts L} (seen : W → Writer) (n m : Variables) (
       here : Reaches seen n n p p c d
       here = record {
         took = ([], adds_none seen p);
+        quiet = quiet_comes (steps_of p) (steps_of p) [] refl tt;
         does = does_none n (steps_of p) h.stands;
         asked = asked_refl n (session_of p);
         shares = shares_moved n c d h.shares b.moved;

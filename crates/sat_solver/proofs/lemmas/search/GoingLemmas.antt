@@ -1,5 +1,5 @@
 -- Calls that make steps of a search, one after another.
-use Rattle.std.proofs.Common.{ℕ, ◌≡◌, Result, Ok, Err, Option, List, [], ◌∷◌, ◌++◌, refl, subst}
+use Rattle.std.proofs.Common.{ℕ, ◌≡◌, Bool, true, false, Result, Ok, Err, Option, List, [], ◌∷◌, ◌++◌, refl, subst}
 use Rattle.std.specs.Prelude.{MatchResult}
 use Rattle.sat_base.specs.device.Device.{Writer}
 use Rattle.sat_base.specs.steps.Steps.{Step}
@@ -17,7 +17,9 @@ use Rattle.sat_store.specs.declared.clause.alloc.StoreError.TheVariants as store
 use Rattle.sat_solver.specs.Recovery.{failure_of}
 use Rattle.sat_solver.specs.declared.error.SolverError.{SolverError}
 use Rattle.sat_solver.specs.declared.error.SolverError.TheVariants as errors
-use Rattle.sat_solver.specs.search.Going.{AreSearched, IsSearched, check_fault_of, fault_of, IsFault, IsFaultOr, Went, Goes, GoesOr}
+use Rattle.sat_solver.specs.joint.Quiet.{is_quiet, AreQuiet}
+use Rattle.sat_solver.proofs.lemmas.joint.QuietLemmas.{quiet_both}
+use Rattle.sat_solver.specs.search.Going.{AreSearched, IsSearched, AreQuietUnless, check_fault_of, fault_of, IsFault, IsFaultOr, Went, Goes, GoesOr, GoesWith}
 use Rattle.sat_solver.proofs.lemmas.search.AskedLemmas.{names_behind}
 
 both : (names : ℕ → Option ℕ) (ys xs : List Step) → AreSearched names ys → AreSearched names xs → AreSearched names (ys ++ xs)
@@ -60,14 +62,29 @@ ends_or : {A : Type 0} (full : Type 0) (r : Result A SolverError) (P : A → Typ
 ends_or full (Ok x) P h = h
 ends_or full (Err e) P h = fault_or full e h
 
+-- NOTHING IS LEARNED
+
+quiet_none : (learns : Bool) → AreQuietUnless learns []
+quiet_none true = tt
+quiet_none false = tt
+
+quiet_then : {B : Type 0} (learns : Bool) (r : Result B SolverError) (xs ys : List Step) → AreQuiet xs → MatchResult r (λ _. AreQuietUnless learns ys) (λ _. Unit {0}) → MatchResult r (λ _. AreQuietUnless learns (ys ++ xs)) (λ _. Unit {0})
+quiet_then true (Ok x) xs ys h k = tt
+quiet_then false (Ok x) xs ys h k = quiet_both xs ys h k
+quiet_then learns (Err e) xs ys h k = tt
+
+quiet_or : {B : Type 0} (r : Result B SolverError) → MatchResult r (λ _. Unit {0}) (λ _. Unit {0})
+quiet_or (Ok x) = tt
+quiet_or (Err e) = tt
+
 module _ {W L : Type 0} {G : Ghosts L} (seen : W → Writer) where
   -- nothing was written
-  pub goes_none : {A full : Type 0} (x : A) (p : Proof W L G) (P : A → List Step → Type 0) → Keeps p → P x [] → GoesOr full seen (Ok x) p p P
-  goes_none x p P keeps h = record { steps = []; went = adds_none seen p; searched = tt; keeps = keeps; ends = h }
+  pub goes_none : {A full : Type 0} {learns : Bool} (x : A) (p : Proof W L G) (P : A → List Step → Type 0) → Keeps p → P x [] → GoesWith full learns seen (Ok x) p p P
+  goes_none {learns = learns} x p P keeps h = record { steps = []; went = adds_none seen p; searched = tt; quiet = quiet_none learns; keeps = keeps; ends = h }
 
   -- no memory was left before anything was written
-  pub goes_starved : {A full : Type 0} (p : Proof W L G) (P : A → List Step → Type 0) → Keeps p → GoesOr full seen (Err errors.OutOfMemory) p p P
-  goes_starved p P keeps = record { steps = []; went = adds_none seen p; searched = tt; keeps = keeps; ends = tt }
+  pub goes_starved : {A full : Type 0} {learns : Bool} (p : Proof W L G) (P : A → List Step → Type 0) → Keeps p → GoesWith full learns seen (Err errors.OutOfMemory) p p P
+  goes_starved p P keeps = record { steps = []; went = adds_none seen p; searched = tt; quiet = tt; keeps = keeps; ends = tt }
 
   -- the checker failed
   pub went_checked : (A : Type 0) (fault : CheckFault) (steps : List Step) (p q : Proof W L G) → FailsCheck seen fault steps p q → Went {A = A} seen (Err (check_fault_of fault)) steps p q
@@ -75,20 +92,24 @@ module _ {W L : Type 0} {G : Ghosts L} (seen : W → Writer) where
   went_checked A checks.CounterEnd steps p q h = h
   went_checked A (checks.Processor cause) steps p q h = h
 
-  -- one step was written
-  pub goes_step : {A full : Type 0} (x : A) (p q : Proof W L G) (step : Step) (P : A → List Step → Type 0) → IsSearched (session_of p).solver_names step → Keeps q → Adds seen (step ∷ []) p q → P x (step ∷ []) → GoesOr full seen (Ok x) p q P
-  goes_step x p q step P s keeps adds h = record { steps = step ∷ []; went = adds; searched = (s, tt); keeps = keeps; ends = h }
+  -- one step was written, by which nothing is learned
+  pub goes_step : {A full : Type 0} (x : A) (p q : Proof W L G) (step : Step) (P : A → List Step → Type 0) → IsSearched (session_of p).solver_names step → is_quiet step ≡ true → Keeps q → Adds seen (step ∷ []) p q → P x (step ∷ []) → GoesWith full false seen (Ok x) p q P
+  goes_step x p q step P s quiet keeps adds h = record { steps = step ∷ []; went = adds; searched = (s, tt); quiet = (quiet, tt); keeps = keeps; ends = h }
+
+  -- or something is
+  pub goes_learned : {A full : Type 0} (x : A) (p q : Proof W L G) (step : Step) (P : A → List Step → Type 0) → IsSearched (session_of p).solver_names step → Keeps q → Adds seen (step ∷ []) p q → P x (step ∷ []) → GoesOr full seen (Ok x) p q P
+  goes_learned x p q step P s keeps adds h = record { steps = step ∷ []; went = adds; searched = (s, tt); quiet = tt; keeps = keeps; ends = h }
 
   -- a step was made, and the target failed at it, or no memory was left for it
-  pub goes_broken : {A full : Type 0} (e : ProofError) (p q : Proof W L G) (step : Step) (P : A → List Step → Type 0) → IsSearched (session_of p).solver_names step → Keeps q → Records {T = Unit {0}} seen (Err e) (step ∷ []) p q → GoesOr full seen (Err (fault_of e)) p q P
-  goes_broken (Write cause) p q step P s keeps fails = record { steps = step ∷ []; went = fails; searched = (s, tt); keeps = keeps; ends = tt }
-  goes_broken OutOfMemory p q step P s keeps adds = record { steps = []; went = adds; searched = tt; keeps = keeps; ends = tt }
-  goes_broken {A = A} {full} (Check fault) p q step P s keeps fails = record { steps = step ∷ []; went = went_checked A fault (step ∷ []) p q fails; searched = (s, tt); keeps = keeps; ends = fault_checked full fault }
+  pub goes_broken : {A full : Type 0} {learns : Bool} (e : ProofError) (p q : Proof W L G) (step : Step) (P : A → List Step → Type 0) → IsSearched (session_of p).solver_names step → Keeps q → Records {T = Unit {0}} seen (Err e) (step ∷ []) p q → GoesWith full learns seen (Err (fault_of e)) p q P
+  goes_broken (Write cause) p q step P s keeps fails = record { steps = step ∷ []; went = fails; searched = (s, tt); quiet = tt; keeps = keeps; ends = tt }
+  goes_broken OutOfMemory p q step P s keeps adds = record { steps = []; went = adds; searched = tt; quiet = tt; keeps = keeps; ends = tt }
+  goes_broken {A = A} {full} (Check fault) p q step P s keeps fails = record { steps = step ∷ []; went = went_checked A fault (step ∷ []) p q fails; searched = (s, tt); quiet = tt; keeps = keeps; ends = fault_checked full fault }
 
   -- a step was made, and then the clause buffer refused
-  pub goes_refused : {A full : Type 0} (s : StoreError) (p q : Proof W L G) (step : Step) (P : A → List Step → Type 0) → IsSearched (session_of p).solver_names step → Keeps q → Adds seen (step ∷ []) p q → (s ≡ stores.StoreFull → full) → GoesOr full seen (Err (failure_of s)) p q P
-  goes_refused stores.StoreFull p q step P s keeps adds f = record { steps = step ∷ []; went = adds; searched = (s, tt); keeps = keeps; ends = f refl }
-  goes_refused stores.OutOfMemory p q step P s keeps adds f = record { steps = step ∷ []; went = adds; searched = (s, tt); keeps = keeps; ends = tt }
+  pub goes_refused : {A full : Type 0} {learns : Bool} (s : StoreError) (p q : Proof W L G) (step : Step) (P : A → List Step → Type 0) → IsSearched (session_of p).solver_names step → Keeps q → Adds seen (step ∷ []) p q → (s ≡ stores.StoreFull → full) → GoesWith full learns seen (Err (failure_of s)) p q P
+  goes_refused stores.StoreFull p q step P s keeps adds f = record { steps = step ∷ []; went = adds; searched = (s, tt); quiet = tt; keeps = keeps; ends = f refl }
+  goes_refused stores.OutOfMemory p q step P s keeps adds f = record { steps = step ∷ []; went = adds; searched = (s, tt); quiet = tt; keeps = keeps; ends = tt }
 
   pub went_later : {A : Type 0} (r : Result A SolverError) (xs ys : List Step) (a b c : Proof W L G) → Adds seen xs a b → Went seen r ys b c → Went seen r (ys ++ xs) a c
   went_later (Ok x) xs ys a b c h k = adds_more seen xs ys a b c h k
@@ -109,15 +130,16 @@ module _ {W L : Type 0} {G : Ghosts L} (seen : W → Writer) where
   went_later (Err errors.OutOfRange) xs ys a b c h k = adds_more seen xs ys a b c h k
 
   -- what was answered says more
-  pub goes_map : {A full : Type 0} (r : Result A SolverError) (p q : Proof W L G) (P Q : A → List Step → Type 0) → ((x : A) (steps : List Step) → P x steps → Q x steps) → GoesOr full seen r p q P → GoesOr full seen r p q Q
-  goes_map {full} r p q P Q f h = record { steps = h.steps; went = h.went; searched = h.searched; keeps = h.keeps; ends = ends_with full r (λ x. P x h.steps) (λ x. Q x h.steps) (λ x. f x h.steps) h.ends }
+  pub goes_map : {A full : Type 0} {learns : Bool} (r : Result A SolverError) (p q : Proof W L G) (P Q : A → List Step → Type 0) → ((x : A) (steps : List Step) → P x steps → Q x steps) → GoesWith full learns seen r p q P → GoesWith full learns seen r p q Q
+  goes_map {full} r p q P Q f h = record { steps = h.steps; went = h.went; searched = h.searched; quiet = h.quiet; keeps = h.keeps; ends = ends_with full r (λ x. P x h.steps) (λ x. Q x h.steps) (λ x. f x h.steps) h.ends }
 
   -- one call after another
-  pub goes_then : {A B full : Type 0} (x : A) (r : Result B SolverError) (a b c : Proof W L G) (P : A → List Step → Type 0) (Q R : B → List Step → Type 0) → Goes seen (Ok x) a b P → GoesOr full seen r b c Q →
-      ((xs ys : List Step) (y : B) → P x xs → Q y ys → R y (ys ++ xs)) → GoesOr full seen r a c R
-  goes_then {full} x r a b c P Q R h k f = record {
+  pub goes_then : {A B full : Type 0} {learns : Bool} (x : A) (r : Result B SolverError) (a b c : Proof W L G) (P : A → List Step → Type 0) (Q R : B → List Step → Type 0) → Goes seen (Ok x) a b P → GoesWith full learns seen r b c Q →
+      ((xs ys : List Step) (y : B) → P x xs → Q y ys → R y (ys ++ xs)) → GoesWith full learns seen r a c R
+  goes_then {full} {learns} x r a b c P Q R h k f = record {
     steps = k.steps ++ h.steps;
     went = went_later r h.steps k.steps a b c h.went k.went;
+    quiet = quiet_then learns r h.steps k.steps h.quiet k.quiet;
     searched = searched_both k.steps h.steps (steps_of b) (steps_of a) h.went.history k.searched h.searched;
     keeps = k.keeps;
     ends = ends_with full r (λ y. Q y k.steps) (λ y. R y (k.steps ++ h.steps)) (λ y. f h.steps k.steps y h.ends) k.ends;
@@ -141,34 +163,40 @@ module _ {W L : Type 0} {G : Ghosts L} (seen : W → Writer) where
   went_failing A B errors.OutOfRange steps a b h = h
 
   -- the same, where the second call's answer speaks of the steps before it
-  pub goes_behind : {A B full : Type 0} (x : A) (r : Result B SolverError) (a b c : Proof W L G) (P : A → List Step → Type 0) (Q R : B → List Step → Type 0) → Goes seen (Ok x) a b P → GoesOr full seen r b c Q →
-      ((xs ys : List Step) (y : B) → steps_of b ≡ xs ++ steps_of a → P x xs → Q y ys → R y (ys ++ xs)) → GoesOr full seen r a c R
-  goes_behind {full} x r a b c P Q R h k f = record {
+  pub goes_behind : {A B full : Type 0} {learns : Bool} (x : A) (r : Result B SolverError) (a b c : Proof W L G) (P : A → List Step → Type 0) (Q R : B → List Step → Type 0) → Goes seen (Ok x) a b P → GoesWith full learns seen r b c Q →
+      ((xs ys : List Step) (y : B) → steps_of b ≡ xs ++ steps_of a → AreQuiet xs → P x xs → Q y ys → R y (ys ++ xs)) → GoesWith full learns seen r a c R
+  goes_behind {full} {learns} x r a b c P Q R h k f = record {
     steps = k.steps ++ h.steps;
     went = went_later r h.steps k.steps a b c h.went k.went;
+    quiet = quiet_then learns r h.steps k.steps h.quiet k.quiet;
     searched = searched_both k.steps h.steps (steps_of b) (steps_of a) h.went.history k.searched h.searched;
     keeps = k.keeps;
-    ends = ends_with full r (λ y. Q y k.steps) (λ y. R y (k.steps ++ h.steps)) (λ y. f h.steps k.steps y h.went.history h.ends) k.ends;
+    ends = ends_with full r (λ y. Q y k.steps) (λ y. R y (k.steps ++ h.steps)) (λ y. f h.steps k.steps y h.went.history h.quiet h.ends) k.ends;
   }
 
   -- one call after another, which fails
-  pub goes_then_fails : {A B C full : Type 0} (x : A) (e : SolverError) (a b c : Proof W L G) (P : A → List Step → Type 0) (Q : B → List Step → Type 0) (R : C → List Step → Type 0) → Goes seen (Ok x) a b P → GoesOr full seen (Err e) b c Q → GoesOr full seen (Err e) a c R
+  pub goes_then_fails : {A B C full : Type 0} {learns : Bool} (x : A) (e : SolverError) (a b c : Proof W L G) (P : A → List Step → Type 0) (Q : B → List Step → Type 0) (R : C → List Step → Type 0) → Goes seen (Ok x) a b P → GoesWith full learns seen (Err e) b c Q → GoesWith full learns seen (Err e) a c R
   goes_then_fails {A = A} {B = B} {C = C} x e a b c P Q R h k = record {
     steps = k.steps ++ h.steps;
     went = went_later {A = C} (Err e) h.steps k.steps a b c h.went (went_failing B C e k.steps b c k.went);
     searched = searched_both k.steps h.steps (steps_of b) (steps_of a) h.went.history k.searched h.searched;
+    quiet = tt;
     keeps = k.keeps;
     ends = k.ends;
   }
 
   -- it went well, and something else is answered
-  pub goes_on : {A B f g : Type 0} (x : A) (y : B) (a b : Proof W L G) (P : A → List Step → Type 0) (Q : B → List Step → Type 0) → ((steps : List Step) → P x steps → Q y steps) → GoesOr f seen (Ok x) a b P → GoesOr g seen (Ok y) a b Q
-  goes_on x y a b P Q f h = record { steps = h.steps; went = h.went; searched = h.searched; keeps = h.keeps; ends = f h.steps h.ends }
+  pub goes_on : {A B f g : Type 0} {learns : Bool} (x : A) (y : B) (a b : Proof W L G) (P : A → List Step → Type 0) (Q : B → List Step → Type 0) → ((steps : List Step) → P x steps → Q y steps) → GoesWith f learns seen (Ok x) a b P → GoesWith g learns seen (Ok y) a b Q
+  goes_on x y a b P Q f h = record { steps = h.steps; went = h.went; searched = h.searched; quiet = h.quiet; keeps = h.keeps; ends = f h.steps h.ends }
+
+  -- the same, where it's said that nothing was learned
+  pub goes_quietly : {A B full : Type 0} (x : A) (y : B) (a b : Proof W L G) (P : A → List Step → Type 0) (Q : B → List Step → Type 0) → ((steps : List Step) → AreQuiet steps → P x steps → Q y steps) → Goes seen (Ok x) a b P → GoesOr full seen (Ok y) a b Q
+  goes_quietly x y a b P Q f h = record { steps = h.steps; went = h.went; searched = h.searched; quiet = tt; keeps = h.keeps; ends = f h.steps h.quiet h.ends }
 
   -- what goes where no clause is stored goes where one is
   pub goes_or : {A full : Type 0} (r : Result A SolverError) (a b : Proof W L G) (P : A → List Step → Type 0) → Goes seen r a b P → GoesOr full seen r a b P
-  goes_or {full} r a b P h = record { steps = h.steps; went = h.went; searched = h.searched; keeps = h.keeps; ends = ends_or full r (λ x. P x h.steps) h.ends }
+  goes_or {full} r a b P h = record { steps = h.steps; went = h.went; searched = h.searched; quiet = quiet_or r; keeps = h.keeps; ends = ends_or full r (λ x. P x h.steps) h.ends }
 
   -- it failed, and the fault is passed on
-  pub goes_failing : {A B full : Type 0} (e : SolverError) (a b : Proof W L G) (P : A → List Step → Type 0) (Q : B → List Step → Type 0) → GoesOr full seen (Err e) a b P → GoesOr full seen (Err e) a b Q
-  goes_failing {A = A} {B = B} e a b P Q h = record { steps = h.steps; went = went_failing A B e h.steps a b h.went; searched = h.searched; keeps = h.keeps; ends = h.ends }
+  pub goes_failing : {A B full : Type 0} {learns : Bool} (e : SolverError) (a b : Proof W L G) (P : A → List Step → Type 0) (Q : B → List Step → Type 0) → GoesWith full learns seen (Err e) a b P → GoesWith full learns seen (Err e) a b Q
+  goes_failing {A = A} {B = B} e a b P Q h = record { steps = h.steps; went = went_failing A B e h.steps a b h.went; searched = h.searched; quiet = tt; keeps = h.keeps; ends = h.ends }

@@ -63,6 +63,7 @@ module _ (p : Parts) (e : Conflict) (w : Work) (back : ℕ) (steps : List Step) 
     hashes = hashes;
     rest = [];
     is = refl;
+    quiet = tt;
     advances = rw c (learned_clause_advances p e w back (session_after steps) global (units_consistent steps) refuted fits names learns);
   }
 

@@ -6,7 +6,7 @@ use Rattle.sat_base.specs.steps.Steps.{Step}
 use Rattle.sat_checker.specs.declared.processing.ProofProcessor.{Ghosts}
 use Rattle.sat_parts.specs.prop.TrailWord.{Letter}
 use Rattle.sat_solver.specs.session.ProofView.{Adds, steps_of, session_of}
-use Rattle.sat_solver.specs.session.Session.{Session, session_after}
+use Rattle.sat_solver.specs.session.Session.{Session, MayAll, session_after}
 use Rattle.sat_solver.proofs.lemmas.session.ProofLemmas.{adds_none, adds_more}
 use Rattle.sat_solver.specs.session.Coming.{Comes, EndsAtUnsat}
 use Rattle.sat_solver.proofs.lemmas.session.ComingLemmas.{comes_open, comes_last}
@@ -16,6 +16,8 @@ use Rattle.sat_solver.specs.parts.Whole.{state, Holds}
 use Rattle.sat_solver.specs.parts.Words.{Words, Stay, standing}
 use Rattle.sat_solver.proofs.lemmas.parts.WordSteps.{word_fits, word_begins}
 use Rattle.sat_solver.specs.joint.Advancing.{Advances}
+use Rattle.sat_solver.specs.joint.Quiet.{AreQuiet}
+use Rattle.sat_solver.proofs.lemmas.joint.QuietLemmas.{quiet_never}
 use Rattle.sat_solver.specs.bound.Climbing.{Keeps as Goes_up, Climbs}
 use Rattle.sat_solver.specs.declared.bound.search.Outcome.{Outcome}
 use Rattle.sat_solver.specs.declared.bound.search.Outcome.TheVariants as outcomes
@@ -39,21 +41,36 @@ use Rattle.sat_solver.specs.search.Joint.{assumed_in, Moved, global_in, IsSearch
 use Rattle.sat_solver.specs.search.Learning.{LastAdvances}
 use Rattle.sat_solver.specs.search.Reducing.{Reduced}
 use Rattle.sat_solver.specs.search.Rounds.{RoundLearns, RoundSays}
-use Rattle.sat_solver.specs.search.Solving.{AdvanceTimes, words_in, values_in, Gone, EndSays, Ended, Broke}
+use Rattle.sat_solver.specs.search.Solving.{AdvanceTimes, StandsStill, words_in, values_in, Gone, EndSays, Ended, Broke}
 use Rattle.sat_solver.proofs.lemmas.search.TurnLemmas.{moved_refl, moved_trans, ready_moved, free_moved, leaves_refl}
 use Rattle.sat_solver.specs.parts.Frame.{SameClauses, Carries}
 use Rattle.sat_solver.proofs.lemmas.joint.LearnedLemmas.{fits_undone}
 
 -- STEPS THAT ADVANCE
 
-skip_all : (earlier xs ys : List Step) (k : ℕ) → AdvanceTimes earlier xs k → AdvanceTimes earlier (ys ++ xs) k
-skip_all earlier xs [] k h = h
-skip_all earlier xs (y ∷ ys) k h = inl (skip_all earlier xs ys k h)
+-- steps by which nothing is learned come behind them
+pub times_quiet : (earlier xs ys : List Step) (k : ℕ) → MayAll (ys ++ (xs ++ earlier)) → AreQuiet ys → AdvanceTimes earlier xs k → AdvanceTimes earlier (ys ++ xs) k
+times_quiet earlier xs [] k may quiet h = h
+times_quiet earlier xs (y ∷ ys) k may quiet h =
+    inl (
+      times_quiet earlier xs ys k may.0 quiet.1 h,
+      subst (λ zs. StandsStill (session_after zs) y) (sym (append_assoc ys xs earlier)) (record { quiet = quiet.0; never = quiet_never (session_after (ys ++ (xs ++ earlier))) y may.1 quiet.0 }),
+    )
 
-one_times : (earlier xs ys : List Step) (k : ℕ) → LastAdvances (xs ++ earlier) ys → AdvanceTimes earlier xs k → AdvanceTimes earlier (ys ++ xs) (k + 1)
-one_times earlier xs ys k l h =
+-- and then one that advances
+times_more : (earlier xs ys : List Step) (k : ℕ) → MayAll (ys ++ (xs ++ earlier)) → LastAdvances (xs ++ earlier) ys → AdvanceTimes earlier xs k → AdvanceTimes earlier (ys ++ xs) (k + 1)
+times_more earlier xs ys k may l h =
     subst (λ zs. AdvanceTimes earlier (zs ++ xs) (k + 1)) (sym l.is)
-    (inr (k, refl, subst (λ zs. Advances (session_after zs) l.clause) (sym (append_assoc l.rest xs earlier)) l.advances, skip_all earlier xs l.rest k h))
+    (inr (
+      k,
+      refl,
+      subst (λ zs. Advances (session_after zs) l.clause) (sym (append_assoc l.rest xs earlier)) l.advances,
+      times_quiet earlier xs l.rest k (subst (λ zs. MayAll (zs ++ (xs ++ earlier))) l.is may).0 l.quiet h,
+    ))
+
+-- all steps from these on, as what was allowed in turn
+allowed : {W L : Type 0} {G : Ghosts L} (s a b : Core W L G) (xs ys : List Step) → steps_of a.proof ≡ xs ++ steps_of s.proof → steps_of b.proof ≡ ys ++ steps_of a.proof → MayAll (steps_of b.proof) → MayAll (ys ++ (xs ++ steps_of s.proof))
+allowed s a b xs ys e f may = subst (λ zs. MayAll (ys ++ zs)) e (subst MayAll f may)
 
 -- WORDS
 
@@ -135,7 +152,7 @@ module _ {W L : Type 0} {G : Ghosts L} (seen : W → Writer) where
     pub reduced_goes : (r : Result (Unit {0}) SolverError) → Reduction r → OnOk r ((s : Core W L G) (m : Variables) (k : ℕ) → Gone seen s m k a n → Gone seen s m k b n)
     reduced_goes (Ok x) g = λ s m k gone.
         (let p : Passes seen n n a.proof b.proof a.search b.search = passes_goes seen x n a.proof b.proof a.search b.search (λ _ _. Reduced (session_of b.proof) a.search b.search) joined.stands joined.shares g g.ends.search g.ends.moved g.ends.word in
-        gone_on a b n n config g.steps g.went p.does p.asked g.ends.moved s m k k gone (skip_all (steps_of s.proof) gone.steps g.steps k gone.times))
+        gone_on a b n n config g.steps g.went p.does p.asked g.ends.moved s m k k gone (times_quiet (steps_of s.proof) gone.steps g.steps k (allowed s a b gone.steps g.steps gone.adds.history g.went.history g.keeps) g.quiet gone.times))
     reduced_goes (Err e) g = tt
 
     pub reduced_fails : (r : Result (Unit {0}) SolverError) → Reduction r → IfErr r (λ e. (s : Core W L G) (m : Variables) (k : ℕ) → Gone seen s m k a n → Broke seen s e b)
@@ -180,7 +197,7 @@ module _ {W L : Type 0} {G : Ghosts L} (seen : W → Writer) where
     round_goes (Ok o) g = λ e s n k gone.
         (let l : RoundLearns (steps_of a.proof) g.steps (session_of b.proof) a.search b.search = learns o g.steps e g.says in
         gone_on a b na nb config g.steps g.adds g.does g.asked l.moved s n (k + 1) k gone
-        (one_times (steps_of s.proof) gone.steps g.steps k (subst (λ zs. LastAdvances zs g.steps) gone.adds.history l.last) gone.times))
+        (times_more (steps_of s.proof) gone.steps g.steps k (allowed s a b gone.steps g.steps gone.adds.history g.adds.history g.keeps) (subst (λ zs. LastAdvances zs g.steps) gone.adds.history l.last) gone.times))
     round_goes (Err e) g = tt
 
     behind : (s : Core W L G) (steps before : List Step) → steps_of b.proof ≡ steps ++ steps_of a.proof → steps_of a.proof ≡ before ++ steps_of s.proof → steps_of b.proof ≡ (steps ++ before) ++ steps_of s.proof
@@ -188,20 +205,26 @@ module _ {W L : Type 0} {G : Ghosts L} (seen : W → Writer) where
 
     end_says : (o : Outcome) (earlier steps : List Step) (s : Session) (c : Search) → o ≢ outcomes.Learned → Moved c a.search → RoundSays o earlier steps s a.search b.search → RoundShares o nb b.search → EndSays o s nb c b.search
     end_says outcomes.Learned earlier steps s c n m x shares = absurd (n refl)
-    end_says outcomes.Model earlier steps s c n m x shares = (record { search = x.search; moved = moved_trans c a.search b.search m x.moved; complete = x.complete }, shares)
+    end_says outcomes.Model earlier steps s c n m x shares = (record { search = x.0.search; moved = moved_trans c a.search b.search m x.0.moved; complete = x.0.complete }, shares)
     end_says outcomes.Unsat earlier steps s c n m x shares = x.now
-    end_says outcomes.Failed earlier steps s c n m x shares = (record { search = x.search; moved = moved_trans c a.search b.search m x.moved; failing = x.failing }, shares)
+    end_says outcomes.Failed earlier steps s c n m x shares = (record { search = x.0.search; moved = moved_trans c a.search b.search m x.0.moved; failing = x.0.failing }, shares)
 
     end_comes : (o : Outcome) (steps : List Step) → o ≢ outcomes.Learned → steps_of b.proof ≡ steps ++ steps_of a.proof → RoundSays o (steps_of a.proof) steps (session_of b.proof) a.search b.search →
         (s : Core W L G) (before : List Step) → steps_of a.proof ≡ before ++ steps_of s.proof → Comes EndsAtUnsat (steps_of s.proof) (steps_of b.proof)
     end_comes outcomes.Learned steps n e x s before f = absurd (n refl)
-    end_comes outcomes.Model steps n e x s before f = comes_open (steps_of s.proof) (steps_of b.proof) (steps ++ before) (behind s steps before e f) x.search.stands.fits.consistent
-    end_comes outcomes.Failed steps n e x s before f = comes_open (steps_of s.proof) (steps_of b.proof) (steps ++ before) (behind s steps before e f) x.search.stands.fits.consistent
+    end_comes outcomes.Model steps n e x s before f = comes_open (steps_of s.proof) (steps_of b.proof) (steps ++ before) (behind s steps before e f) x.0.search.stands.fits.consistent
+    end_comes outcomes.Failed steps n e x s before f = comes_open (steps_of s.proof) (steps_of b.proof) (steps ++ before) (behind s steps before e f) x.0.search.stands.fits.consistent
     end_comes outcomes.Unsat steps n e x s before f =
         comes_last (steps_of s.proof) (x.rest ++ steps_of a.proof) (steps_of b.proof) (x.rest ++ before) x.last (ap (λ ss. x.rest ++ ss) f ∙ sym (append_assoc x.rest before (steps_of s.proof))) x.before
         (e ∙ ap (λ ss. ss ++ steps_of a.proof) x.is)
 
-    pub round_ends : (r : Result Outcome SolverError) → Round r → IfOk r (λ o. o ≢ outcomes.Learned → (s : Core W L G) (n : Variables) (k : ℕ) → Gone seen s n k a na → Ended seen s n o b nb)
+    end_quiet : (o : Outcome) (earlier steps : List Step) → o ≢ outcomes.Learned → RoundSays o earlier steps (session_of b.proof) a.search b.search → AreQuiet steps
+    end_quiet outcomes.Learned earlier steps n x = absurd (n refl)
+    end_quiet outcomes.Model earlier steps n x = x.1
+    end_quiet outcomes.Unsat earlier steps n x = x.quiet
+    end_quiet outcomes.Failed earlier steps n x = x.1
+
+    pub round_ends : (r : Result Outcome SolverError) → Round r → IfOk r (λ o. o ≢ outcomes.Learned → (s : Core W L G) (n : Variables) (k : ℕ) → Gone seen s n k a na → Ended seen s n k o b nb)
     round_ends (Ok o) g = λ not s n k gone. record {
       steps = g.steps ++ gone.steps;
       adds = adds_more seen gone.steps g.steps s.proof a.proof b.proof gone.adds g.adds;
@@ -211,6 +234,7 @@ module _ {W L : Type 0} {G : Ghosts L} (seen : W → Writer) where
       config = config ∙ gone.config;
       comes = end_comes o g.steps not g.adds.history g.says s gone.steps gone.adds.history;
       says = end_says o (steps_of a.proof) g.steps (session_of b.proof) s.search not gone.moved g.says g.shares;
+      times = times_quiet (steps_of s.proof) gone.steps g.steps k (allowed s a b gone.steps g.steps gone.adds.history g.adds.history g.keeps) (end_quiet o (steps_of a.proof) g.steps not g.says) gone.times;
     }
     round_ends (Err e) g = tt
 

@@ -16,13 +16,15 @@ use Rattle.sat_checker.specs.declared.error.CheckerError.{CheckerError}
 use Rattle.sat_checker.specs.declared.error.CheckerError.TheVariants as errors
 use Rattle.sat_checker.specs.declared.processing.Nobody.{Nobody}
 use Rattle.sat_checker.specs.declared.processing.Processing.{Processing}
+use Rattle.sat_checker.specs.declared.processing.ProcessingError.TheVariants as faults
+use Rattle.sat_checker.proofs.lemmas.telling.Heard.{nobody_fails}
 use Rattle.sat_checker.specs.declared.processing.ProofProcessor.{Ghosts}
 use Rattle.sat_solver.specs.declared.session.made.CheckFault.{CheckFault}
 use Rattle.sat_solver.specs.declared.session.made.CheckFault.TheVariants as checks
 use Rattle.sat_solver.specs.session.Checked.{is_end, unended, has_begun, who_listens, Listened, FedUnless, IsFed, Heard, Failed, IsCause, cause_in, OrCause, TakesStep, TakesWidth, TakesDelayed, Feeds, TakesIn, BeginsAnew}
 use Rattle.sat_solver.specs.session.Due.{kept_if}
-use Rattle.sat_solver.specs.session.Listening.{AreListed, Hears, HasHeard, FailedOf}
-use Rattle.sat_solver.specs.session.MadeView.{audience, listed_in, Handed, HandedIn, IsHanded, ListedAnew}
+use Rattle.sat_solver.specs.session.Listening.{AreListed, Hears, HasHeard, FailedOf, reads_nothing}
+use Rattle.sat_solver.specs.session.MadeView.{audience, listed_in, Handed, HandedIn, HasListeners, IsHanded, ListedAnew}
 use Rattle.sat_solver.specs.declared.session.made.Made.{Made}
 use Rattle.sat_solver.specs.session.Session.{MayAll}
 use Rattle.sat_solver.specs.session.Widths.{KeepsWidth, narrowed, IsWritten, none_yet, width_changes, one_more}
@@ -240,6 +242,23 @@ starved_stable errors.ProofIncomplete h = refl
 starved_stable errors.IoError h = refl
 starved_stable errors.ParseError h = refl
 
+-- where nobody was added no processor answers a fault
+module _ {L : Type 0} (takes : L → Told → Result Unit Error → L → Type 0) where
+  nobody_failed : (now : Listeners L Nobody) (steps : List Step) (cause : Error) → Failed takes [] now steps (checks.Processor cause) → ⊥
+  nobody_failed now steps cause f = elim f.heard.2 [
+    | inl h ↦ nobody_fails takes reads_nothing (faults.ProofProcessorError cause) h.0 f.begun f.heard.0 f.were h.2
+    | inr h ↦ nobody_fails takes reads_nothing (faults.ProofProcessorError cause) h.0 f.begun f.heard.0 f.were h.2
+  ]
+
+  same_added : (xs : List L) → Some xs ≡ Some [] → xs ≡ []
+  same_added xs e = cc
+
+  with_listeners : (fault : CheckFault) (added : List L) (now : Listeners L Nobody) (steps : List Step) → ∥ Failed takes added now steps fault ∥₁ → ∥ Failed takes added now steps fault ∥₁ × HasListeners fault (Some added)
+  with_listeners checks.OutOfMemory added now steps h = (h, tt)
+  with_listeners checks.CounterEnd added now steps h = (h, tt)
+  with_listeners (checks.Processor cause) added now steps h =
+      (h, λ e. ∥∥₁_elim h (λ a b. absurd a) (λ f. nobody_failed now steps cause (subst (λ xs. Failed takes xs now steps (checks.Processor cause)) (same_added added e) f)))
+
 module _ {L : Type 0} (takes : L → Told → Result Unit Error → L → Type 0) (lost : Bool) (own : Option (Checked L)) (added : List L) (steps : List Step) (fed : ∥ FedUnless takes lost own added steps ∥₁) where
   -- a step more that the checker isn't given
   pub skipped_fed : (step : Step) (now : List Step) → now ≡ step ∷ steps → ∥ FedUnless takes true own added now ∥₁
@@ -276,8 +295,9 @@ module _ {L : Type 0} (takes : L → Told → Result Unit Error → L → Type 0
       pub taken_cause : (e : CheckerError) (step : Step) → lost ≡ false → MayAll (step ∷ steps) → TakesStep takes (Err e) old step new → IsCause e
       taken_cause e step l may takes_step = ∥∥₁_elim was (cause_prop e) (λ f. (takes_step added steps may (f.0 l)).0)
 
-      pub taken_why : (e : CheckerError) (step : Step) (now : List Step) → now ≡ step ∷ steps → lost ≡ false → MayAll (step ∷ steps) → TakesStep takes (Err e) old step new → ∥ Failed takes added (listeners_of (who_listens new)) now (cause_in e) ∥₁
-      taken_why e step now q l may takes_step = subst (λ x. ∥ Failed takes added (listeners_of (who_listens new)) x (cause_in e) ∥₁) (sym q) (∥∥₁_elim was ∥∥₁_prop (λ f. ∣ (takes_step added steps may (f.0 l)).1 ∣₁))
+      pub taken_why : (e : CheckerError) (step : Step) (now : List Step) → now ≡ step ∷ steps → lost ≡ false → MayAll (step ∷ steps) → TakesStep takes (Err e) old step new → ∥ Failed takes added (listeners_of (who_listens new)) now (cause_in e) ∥₁ × HasListeners (cause_in e) (Some added)
+      taken_why e step now q l may takes_step =
+          with_listeners takes (cause_in e) added (listeners_of (who_listens new)) now (subst (λ x. ∥ Failed takes added (listeners_of (who_listens new)) x (cause_in e) ∥₁) (sym q) (∥∥₁_elim was ∥∥₁_prop (λ f. ∣ (takes_step added steps may (f.0 l)).1 ∣₁)))
 
       -- what waited was told
       pub told_fed : lost ≡ false → TakesDelayed takes (Ok tt) old new → ∥ FedUnless takes lost (Some new) added steps ∥₁
@@ -294,8 +314,8 @@ module _ {L : Type 0} (takes : L → Told → Result Unit Error → L → Type 0
       pub told_cause : (e : CheckerError) → lost ≡ false → TakesDelayed takes (Err e) old new → IsCause e
       told_cause e l tells = ∥∥₁_elim was (cause_prop e) (λ f. (tells added steps (f.0 l)).0)
 
-      pub told_why : (e : CheckerError) → lost ≡ false → TakesDelayed takes (Err e) old new → ∥ Failed takes added (listeners_of (who_listens new)) steps (cause_in e) ∥₁
-      told_why e l tells = ∥∥₁_elim was ∥∥₁_prop (λ f. ∣ (tells added steps (f.0 l)).1 ∣₁)
+      pub told_why : (e : CheckerError) → lost ≡ false → TakesDelayed takes (Err e) old new → ∥ Failed takes added (listeners_of (who_listens new)) steps (cause_in e) ∥₁ × HasListeners (cause_in e) (Some added)
+      told_why e l tells = with_listeners takes (cause_in e) added (listeners_of (who_listens new)) steps (∥∥₁_elim was ∥∥₁_prop (λ f. ∣ (tells added steps (f.0 l)).1 ∣₁))
 
       -- another one listens
       pub listens_fed : (one : L) (more : List L) → more ≡ added ++ one ∷ [] → has_begun steps ≡ false → lost ≡ false → TakesIn takes (Ok tt) old one new → ∥ FedUnless takes lost (Some new) more steps ∥₁
@@ -326,13 +346,9 @@ module _ {L : Type 0} (takes : L → Told → Result Unit Error → L → Type 0
   pub anew_fed : (new : Checked L) (added : List L) (steps : List Step) → has_begun steps ≡ false → IsFed takes new added [] → ∥ FedUnless takes false (Some new) added steps ∥₁
   anew_fed new added steps u f = (let k = fed_ended takes new added steps u f in ∣ ((λ _. k), fed_heard takes new added steps k) ∣₁)
 
-  -- it lacks no step
-  pub still_fed : (own : Option (Checked L)) (lost : Bool) (added : List L) (steps : List Step) → ∥ FedUnless takes lost own added steps ∥₁ → lost ≡ false → ∥ FedUnless takes false own added steps ∥₁
-  still_fed own lost added steps fed l = subst (λ b. ∥ FedUnless takes b own added steps ∥₁) l fed
-
   -- where a step was lost before, that fails
-  pub lost_why : (own : Option (Checked L)) (old : Checked L) (lost : Bool) (added : List L) (steps : List Step) → ∥ FedUnless takes lost own added steps ∥₁ → own ≡ Some old → ∥ Failed takes added (listeners_of (who_listens old)) steps checks.OutOfMemory ∥₁
-  lost_why own old lost added steps fed is = ∥∥₁_elim (subst (λ o. ∥ FedUnless takes lost o added steps ∥₁) is fed) ∥∥₁_prop (λ f. ∣ f.1 ∣₁)
+  pub lost_why : (own : Option (Checked L)) (old : Checked L) (lost : Bool) (added : List L) (steps : List Step) → ∥ FedUnless takes lost own added steps ∥₁ → own ≡ Some old → ∥ Failed takes added (listeners_of (who_listens old)) steps checks.OutOfMemory ∥₁ × HasListeners checks.OutOfMemory (Some added)
+  lost_why own old lost added steps fed is = (∥∥₁_elim (subst (λ o. ∥ FedUnless takes lost o added steps ∥₁) is fed) ∥∥₁_prop (λ f. ∣ f.1 ∣₁), tt)
 
   -- a checker began anew
   pub anew : (old new : Checked L) (added given : List L) → added ≡ given → given ≡ (listeners_of (who_listens old)).processors → new.bits ≡ 64 → kernels.Stands (kernel_of new.checker) [] → has_failed (kernel_of new.checker) ≡ false
@@ -357,15 +373,13 @@ module _ {L : Type 0} {G : Ghosts L} (m : Made L G) where
   pub made_handed : (own : Checked L) (given : List L) → m.own ≡ Some own → given ≡ (listeners_of (who_listens own)).processors → Handed m given
   made_handed own given is e = subst (λ o. HandedIn G.takes (listed_in o m.roll.items) given m.history.steps) (sym is) (handed G.takes m.lost m.own m.roll.items m.history.steps m.fed own is given e)
 
-  pub none_handed : m.own ≡ None → Handed m []
-  none_handed is = subst (λ o. HandedIn G.takes (listed_in o m.roll.items) [] m.history.steps) (sym is) refl
-
   -- who listens as checking begins
   pub listed_first : m.own ≡ None → ListedAnew m.lost m (audience m) m.roll.items
   listed_first is = subst (λ o. ListedAnew m.lost m (listed_in o m.roll.items) m.roll.items) (sym is) (none_listed G.takes m.lost m.own m.roll.items m.history.steps m.fed is)
 
-  pub listed_still : (own : Checked L) → m.own ≡ Some own → m.lost ≡ false → ListedAnew m.lost m (audience m) m.roll.items
-  listed_still own is l = subst (λ o. ListedAnew m.lost m (listed_in o m.roll.items) m.roll.items) (sym is) (subst (λ b. ListedAnew b m (Some m.roll.items) m.roll.items) (sym l) refl)
-
   pub listed_again : (own : Checked L) (given : List L) → m.own ≡ Some own → m.lost ≡ true → given ≡ (listeners_of (who_listens own)).processors → ListedAnew m.lost m (audience m) given
   listed_again own given is l e = subst (λ o. ListedAnew m.lost m (listed_in o m.roll.items) given) (sym is) (subst (λ b. ListedAnew b m (Some m.roll.items) given) (sym l) (made_handed own given is e))
+
+-- a step more may be made
+pub may_more : (steps now : List Step) (step : Step) → now ≡ step ∷ steps → MayAll (step ∷ steps) → ∥ MayAll now ∥₁
+may_more steps now step e may = ∣ subst MayAll (sym e) may ∣₁

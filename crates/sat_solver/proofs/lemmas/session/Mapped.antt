@@ -97,10 +97,3 @@ module _ (global : ℕ → ℕ) where
     pub once_mapped : (ls : List ℕ) → AreMapped global names ls → NoRepeats ls → NoRepeats (map (with_var global) ls)
     once_mapped [] h n = tt
     once_mapped (l ∷ ls) h n = (not_among l ls h.0 h.1 n.0, once_mapped ls h.1 n.1)
-
--- a variable that no literal has may be mapped to another
-pub mapped_same : (f g : ℕ → ℕ) (v : ℕ) → ((w : ℕ) → w ≢ v → f w ≡ g w) → (ls : List ℕ) → mentions ls v ≡ false → map (with_var f) ls ≡ map (with_var g) ls
-mapped_same f g v same [] n = refl
-mapped_same f g v same (l ∷ ls) n =
-    let p = or_parts (eqb (variable l) v) (mentions ls v) n in
-    ap (λ x. (2 * x + l % 2) ∷ map (with_var f) ls) (same (variable l) (eqb-false (variable l) v p.0)) ∙ ap (λ ms. with_var g l ∷ ms) (mapped_same f g v same ls p.1)

@@ -10,23 +10,6 @@ use Rattle.sat_checker.proofs.lemmas.sets.Canonical.{canonical_among, canonical_
 use Rattle.sat_solver.specs.session.Session.{Session, IsLive, MayName, MayAll, session_after}
 use Rattle.sat_solver.proofs.lemmas.session.StepLemmas.{sessions_are_accepted}
 
--- a sampled variable is not hidden
-not_hide : Sample ≢ Hide
-not_hide e = cc
-
--- a variable that isn't known is as it was at first
-pub still_unknown : (steps : List Step) (v : ℕ) → MayAll steps → ((session_after steps).variables v).known ≡ false → (session_after steps).variables v ≡ unknown
-still_unknown steps v m k =
-    let a = sessions_are_accepted steps m in
-    let same : (ready_after steps).variables v ≡ (session_after steps).variables v = ap (λ f. f v) a.1.variables in
-    sym same ∙ unknown_is_unknown steps v a.0 (ap (λ x. x.known) same ∙ k)
-
--- so it may get any name that is free
-pub may_name : (steps : List Step) (v name : ℕ) → MayAll steps → ((session_after steps).variables v).known ≡ false → ((w : ℕ) → ((session_after steps).variables w).name ≢ Some name) → MayName (session_after steps) v name
-may_name steps v name m k free =
-    let u = still_unknown steps v m k in
-    record { free = free; nameless = ap (λ x. x.name) u; not_hidden = λ e. not_hide (sym (ap (λ x. x.mode) u) ∙ e) }
-
 -- a live clause with its literals in another order
 pub live_same : (s : Session) (c d : List ℕ) → IsLive s c → NoRepeats d → ((l : ℕ) → is_among c l ≡ is_among d l) → IsLive s d
 live_same s c d h n same =

@@ -13,7 +13,7 @@ use Rattle.sat_base.proofs.lemmas.device.Sending.{sent_none, sent_more}
 use Rattle.sat_base.proofs.lemmas.device.Writes.{took_more as took_both, breaks_later}
 use Rattle.sat_checker.specs.declared.processing.ProofProcessor.{Ghosts}
 use Rattle.sat_solver.specs.session.Counting.{start, Cuts, none_made, ask_begun, one_made, written_for, counted}
-use Rattle.sat_solver.specs.session.ProofTexts.{ClosedIsText, BrokenIsFront, BrokeText, WroteSince, TookSince, BrokeSince}
+use Rattle.sat_solver.specs.session.ProofTexts.{ClosedIsText, BrokenIsFront, BrokeText, WroteSince, TookSince}
 use Rattle.sat_solver.specs.session.OutputView.{step_text, SpellsIn, text_in, AreSpelt, Wrote}
 use Rattle.sat_solver.specs.session.ProofView.{Target, Closed, Open, Broken as Faulty, is_open, Carried, Carries, Stopped, Stops, Flushed, TookAll, TakesAll, Gives, target_of, steps_of, Adds, Fails, FailsCheck, Complains, is_checked, Records, Drains, Flushes, FlushesOrFails, Closes, ClosesOne, HandsBack}
 use Rattle.sat_solver.specs.session.MadeView as mades
@@ -91,10 +91,6 @@ pub cuts_one : (c : Counting) (step : Step) → KeepsWidth step → Cuts c (step
 cuts_one c step k = subst (λ (z : List Step). Cuts c (step ∷ []) z (counted step c)) (append-nil (written_for c.bits (counted step c).bits step)) (one_made step k none_made)
 
 -- TARGETS
-
--- the sink of an open target is one
-pub open_one : (f g : ProofFormat) (c d : Counting) (s t : Sink) → ◌≡◌ {A = Target} (Open f c s) (Open g d t) → s ≡ t
-open_one f g c d s t e = cc
 
 -- no step
 pub carries_none : (t : Target) → Carries t [] t
@@ -259,30 +255,10 @@ close_gives seen (Some w) a b c d open_yet p q h = record {
 
 -- SINCE THE OPENING
 
--- a target was just opened
-pub since_opened : {W L : Type 0} {G : Ghosts L} (seen : W → Writer) (f : ProofFormat) (from : Writer) (before : List Step) (p : Proof W L G) → steps_of p ≡ before → target_of seen p ≡ Open f start (empty_sink from) → WroteSince seen f from before p
-since_opened seen f from before p e o = record { steps = []; behind = e; target = subst (Carries (Open f start (empty_sink from)) []) (sym o) (carries_none (Open f start (empty_sink from))) }
-
--- steps were made
-pub since_more : {W L : Type 0} {G : Ghosts L} (seen : W → Writer) (f : ProofFormat) (from : Writer) (before steps : List Step) (p q : Proof W L G) → WroteSince seen f from before p → Adds seen steps p q → WroteSince seen f from before q
-since_more seen f from before steps p q w a = record {
-  steps = steps ++ w.steps;
-  behind = a.history ∙ ap (λ z. steps ++ z) w.behind ∙ sym (append_assoc steps w.steps before);
-  target = carries_more (Open f start (empty_sink from)) (target_of seen p) (target_of seen q) w.steps steps w.target a.target;
-}
-
 -- a proof was closed
 pub since_closed : {W L : Type 0} {G : Ghosts L} (seen : W → Writer) (f : ProofFormat) (from : Writer) (before : List Step) (given : W) (p q : Proof W L G) → WroteSince seen f from before p → ClosesOne seen given p q → TookSince f from (seen given) before (steps_of q)
 since_closed seen f from before given p q w c = record {
   steps = End ∷ w.steps;
   behind = c.history ∙ ap (λ z. End ∷ z) w.behind;
   took = closed_is_text f from (seen given) w.steps End (target_of seen p) w.target c.takes;
-}
-
--- a call of the target failed at the text of steps, and it was handed back
-pub since_broken : {W L : Type 0} {G : Ghosts L} (seen : W → Writer) (f : ProofFormat) (from : Writer) (before steps : List Step) (given : W) (p q r : Proof W L G) → WroteSince seen f from before p → Fails seen steps p q → HandsBack seen (Some given) q r → BrokeSince f from (seen given) before (steps_of r)
-since_broken seen f from before steps given p q r w b h = record {
-  steps = steps ++ w.steps;
-  behind = h.history ∙ b.history ∙ ap (λ z. steps ++ z) w.behind ∙ sym (append_assoc steps w.steps before);
-  broke = broken_is_front f from (seen given) (steps ++ w.steps) (target_of seen q) (stops_later (Open f start (empty_sink from)) (target_of seen p) (target_of seen q) w.steps steps w.target b.target) h.gives;
 }

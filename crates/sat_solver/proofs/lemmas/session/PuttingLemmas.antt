@@ -24,10 +24,6 @@ use Rattle.sat_solver.proofs.lemmas.session.ProofLemmas.{wrote_none, breaks_behi
 pub wrote_one : (f : ProofFormat) (step : Step) (s t : Sink) → Sent s t (step_text f step) → SpellsIn f step → Wrote f (step ∷ []) s t
 wrote_one f step s t h k = record { spelt = (k, tt); sent = h }
 
--- a width that stays isn't told
-pub told_none : (before now : ℕ) → nat_eq before now ≡ true → width_told before now ≡ []
-told_none before now e = ap (λ b. cond {A = List Step} b [] (ChangeHashBits now ∷ [])) e
-
 -- a step behind others that were written
 pub puts_behind : (f : ProofFormat) (step : Step) (xs : List Step) (s t u : Sink) → Wrote f xs s t → Breaks t.writer u.writer (t.waiting ++ step_text f step) → Breaks s.writer u.writer (s.waiting ++ text_in f (step ∷ xs))
 puts_behind f step xs s t u p q = breaks_behind f s t u.writer xs (step ∷ []) p q

@@ -10,7 +10,7 @@ use Rattle.sat_checker.specs.Contents.{same_side, more_if, less_if}
 use Rattle.sat_solver.specs.session.Session.{Session, with_live, without_live, with_solver_name, IsLive, hash_in}
 use Rattle.sat_solver.specs.session.LiveClauses.{LiveClause, count_of, IsIn, with_var, mapped, AreMapped, AreOf}
 use Rattle.sat_solver.proofs.lemmas.session.Lists.{count_between, in_counts, solver_hash}
-use Rattle.sat_solver.proofs.lemmas.session.Mapped.{once_mapped, mapped_same}
+use Rattle.sat_solver.proofs.lemmas.session.Mapped.{once_mapped}
 
 -- the images of a list with one clause between
 map_between : (f : LiveClause → LiveClause) (xs ys : List LiveClause) (c : LiveClause) → map f (xs ++ c ∷ ys) ≡ map f xs ++ f c ∷ map f ys
@@ -90,12 +90,6 @@ goes s global xs ys c h = record {
       ∙ less_more (same_side c.redundant r && same_literals (canonical (map (with_var global) c.literals)) set) (count_of (map (mapped global) (xs ++ ys)) r set);
 }
 
--- A solver variable that no clause has may be mapped to another proof variable.
-pub map_elsewhere : (s : Session) (f g : ℕ → ℕ) (v : ℕ) (cs : List LiveClause) → ((w : ℕ) → w ≢ v → f w ≡ g w) → ((c : LiveClause) → IsIn c cs → mentions c.literals v ≡ false) → map (mapped f) cs ≡ map (mapped g) cs
-map_elsewhere s f g v [] same h = refl
-map_elsewhere s f g v (c ∷ cs) same h =
-    ap (λ ls. (record c { literals = ls }) ∷ map (mapped f) cs) (mapped_same f g v same c.literals (h c (inl refl))) ∙ ap (λ ds. mapped g c ∷ ds) (map_elsewhere s f g v cs same (λ d k. h d (inr k)))
-
 -- SOLVER NAMES COME AND GO
 
 -- the literals of the clause have other variables
@@ -112,24 +106,9 @@ both_of P Q R (l ∷ ls) f p q = (f l p.0 q.0, both_of P Q R ls f p.1 q.1)
 some_same : (x y : ℕ) → Some x ≡ Some y → x ≡ y
 some_same x y e = cc
 
--- nothing is not something
-none_not_some : (x : ℕ) → None ≡ Some x → ⊥
-none_not_some x e = cc
-
 -- the name of another variable is as it was
 renamed : (names : ℕ → Option ℕ) (v w : ℕ) (name o : Option ℕ) → w ≢ v → names w ≡ o → cond (eqb w v) name (names w) ≡ o
 renamed names v w name o n e = ap (λ b. cond b name (names w)) (ne_eqb w v n) ∙ e
-
--- A proof variable without a solver name gets the name of a solver variable that no clause has.
-pub gets_name : (s : Session) (f g : ℕ → ℕ) (v x : ℕ) (cs : List LiveClause) → AreOf s f cs → s.solver_names v ≡ None → ((w : ℕ) → w ≢ x → f w ≡ g w) → ((c : LiveClause) → IsIn c cs → mentions c.literals x ≡ false)
-    → AreOf (with_solver_name v (Some x) s) g cs
-gets_name s f g v x cs h none same unused = record {
-  named = λ c k. both_of (λ l. s.solver_names (f (variable l)) ≡ Some (variable l)) (λ l. f (variable l) ≡ g (variable l)) (λ l. cond (eqb (g (variable l)) v) (Some x) (s.solver_names (g (variable l))) ≡ Some (variable l)) c.literals
-      (λ l p q. renamed s.solver_names v (g (variable l)) (Some x) (Some (variable l)) (λ e. none_not_some (variable l) (sym none ∙ ap s.solver_names (sym e ∙ sym q) ∙ p)) (ap s.solver_names (sym q) ∙ p))
-      (h.named c k) (others_of c.literals x (λ l. f (variable l) ≡ g (variable l)) (unused c k) (λ l n. same (variable l) n));
-  once = h.once;
-  counts = λ r set. h.counts r set ∙ ap (λ ds. count_of ds r set) (map_elsewhere s f g x cs same unused);
-}
 
 -- A solver variable that no clause has loses its proof variable.
 pub loses_name : (s : Session) (f : ℕ → ℕ) (v x : ℕ) (cs : List LiveClause) → AreOf s f cs → s.solver_names v ≡ Some x → ((c : LiveClause) → IsIn c cs → mentions c.literals x ≡ false) → AreOf (with_solver_name v None s) f cs

@@ -91,29 +91,6 @@ module _ (s : Session) (global : ℕ → ℕ) where
       let same : with_clause c.redundant w (knowing_literals w s) ≡ with_live c.redundant (canonical w) (knowing_literals w s) = clause_long c.redundant w (knowing_literals w s) (once_mapped global s.solver_names c.literals n o) long t in
       still_of (with_live c.redundant (canonical w) s) (after (AtClause c.redundant w hashes) s) global (xs ++ c ∷ ys) (λ r set. ap (λ x. x.live r set) same) (ap (λ x. x.solver_names) same) (comes_in s global xs ys c h n o)
 
-  -- a clause of the formula comes in
-  pub added_comes : (xs ys : List LiveClause) (ls : List ℕ) → s.unsat ≡ false → AreOf s global (xs ++ ys) → AreMapped global s.solver_names ls → NoRepeats ls → 1 < length ls → is_tautology (map (with_var global) ls) ≡ false
-      → AreOf (after (AddClause (map (with_var global) ls)) s) global (xs ++ (record { redundant = false; literals = ls }) ∷ ys)
-  added_comes xs ys ls u h n o l t =
-      let c : LiveClause = record { redundant = false; literals = ls } in
-      let w : List ℕ = map (with_var global) ls in
-      let long : 1 < length w = (let e : length w ≡ length ls = length_mapped (with_var global) ls in omega arith) in
-      let same : cond s.unsat s (with_clause false w (knowing_literals w s)) ≡ with_live false (canonical w) (knowing_literals w s) =
-      ap (λ b. cond b s (with_clause false w (knowing_literals w s))) u ∙ clause_long false w (knowing_literals w s) (once_mapped global s.solver_names ls n o) long t in
-      still_of (with_live false (canonical w) s) (after (AddClause w) s) global (xs ++ c ∷ ys) (λ r set. ap (λ x. x.live r set) same) (ap (λ x. x.solver_names) same) (comes_in s global xs ys c h n o)
-
-  -- a clause goes: a redundant one
-  pub redundant_goes : (xs ys : List LiveClause) (ls : List ℕ) → AreOf s global (xs ++ (record { redundant = true; literals = ls }) ∷ ys) → AreOf (after (DeleteClause (map (with_var global) ls) Redundant) s) global (xs ++ ys)
-  redundant_goes xs ys ls h = let g = goes s global xs ys (record { redundant = true; literals = ls }) h in record { named = g.named; once = g.once; counts = g.counts }
-
-  -- or an irredundant one, which is satisfied or was shortened
-  pub satisfied_goes : (xs ys : List LiveClause) (ls : List ℕ) → AreOf s global (xs ++ (record { redundant = false; literals = ls }) ∷ ys) → AreOf (after (DeleteClause (map (with_var global) ls) Satisfied) s) global (xs ++ ys)
-  satisfied_goes xs ys ls h = let g = goes s global xs ys (record { redundant = false; literals = ls }) h in record { named = g.named; once = g.once; counts = g.counts }
-
-  -- a clause that a stronger one replaced goes
-  pub simplified_goes : (xs ys : List LiveClause) (ls : List ℕ) → AreOf s global (xs ++ (record { redundant = false; literals = ls }) ∷ ys) → AreOf (after (DeleteClause (map (with_var global) ls) Simplified) s) global (xs ++ ys)
-  simplified_goes xs ys ls h = let g = goes s global xs ys (record { redundant = false; literals = ls }) h in record { named = g.named; once = g.once; counts = g.counts }
-
   -- units leave the clauses
   pub units_leave : (cs : List LiveClause) (us : List (ℕ × ℕ)) → AreOf s global cs → AreOf (after (UnitClauses us) s) global cs
   units_leave cs us h =

@@ -7,7 +7,7 @@ use Rattle.sat_store.specs.variables.Maps.{target}
 use Rattle.std.proofs.lemmas.Bool.{cases_lt, cases_eq, eq-eqb, ne_eqb, or_from, or_left, or_right, or_parts, true≢false, false_from_ne_true}
 use Rattle.std.specs.List.{Contains}
 use Rattle.sat_base.specs.values.Literals.{coded, variable, is_positive}
-use Rattle.sat_base.specs.steps.Steps.{Step, SolverVarName}
+use Rattle.sat_base.specs.steps.Steps.{Step, SolverVarName, DeleteVar}
 use Rattle.sat_checker.specs.LiteralSets.{mentions}
 use Rattle.sat_store.specs.heap.Vsids.{may_pick}
 use Rattle.sat_parts.specs.clause.Db.{live_refs}
@@ -29,6 +29,10 @@ use Rattle.sat_solver.proofs.lemmas.joint.CodeLemmas.{coded_by}
 use Rattle.sat_solver.proofs.lemmas.joint.FramedParts.{bottom_unit, fits_freed}
 use Rattle.sat_solver.proofs.lemmas.joint.ModelLemmas.{in_map_back}
 use Rattle.sat_solver.proofs.lemmas.joint.NamedLemmas.{unused_in}
+use Rattle.sat_solver.specs.joint.Quiet.{ComesQuietly, is_quiet}
+use Rattle.sat_solver.proofs.lemmas.joint.QuietLemmas.{quiet_comes}
+use Rattle.sat_solver.proofs.lemmas.session.ComingLemmas.{comes_both}
+use Rattle.sat_solver.specs.names.Coming.{ForgetsIdle}
 use Rattle.sat_checker.specs.matching.Traces.{no_step}
 use Rattle.sat_solver.specs.names.Calls.{Stands, DoesNothing}
 use Rattle.sat_solver.specs.names.Naming.{PutsUnit}
@@ -54,9 +58,9 @@ none_some x e = cc
 pub some_same : {A : Type 0} (x y : A) → Some x ≡ Some y → x ≡ y
 some_same x y e = cc
 
-pub on_ok_three : {T E : Type 0} (r : Result T E) (A B C D : Type 0) → (A → B → C → D) → OnOk r A → OnOk r B → OnOk r C → OnOk r D
-on_ok_three (Ok x) A B C D f a b c = f a b c
-on_ok_three (Err e) A B C D f a b c = tt
+pub on_ok_four : {T E : Type 0} (r : Result T E) (A B C D F : Type 0) → (A → B → C → D → F) → OnOk r A → OnOk r B → OnOk r C → OnOk r D → OnOk r F
+on_ok_four (Ok x) A B C D F f a b c d = f a b c d
+on_ok_four (Err e) A B C D F f a b c d = tt
 
 -- NAMES
 
@@ -64,9 +68,32 @@ module _ (old mid : Variables) (from mids : List Step) (v x : ℕ) (stands : Sta
   names_mid : (w : ℕ) → (session_after mids).solver_names w ≡ cond (eqb w v) None ((session_after from).solver_names w)
   names_mid w = u.does.stands.said.solver_names w ∙ u.solvers w ∙ ap (λ o. cond (eqb w v) None o) (sym (stands.said.solver_names w))
 
+  quiet_mid : ComesQuietly from mids
+  quiet_mid = quiet_comes from mids (SolverVarName v None ∷ []) u.step (refl, tt)
+
+  -- a variable that has a name
+  pub gives_up_named : GivesUp old mid from mids v
+  gives_up_named = record {
+    does = u.does;
+    solvers = u.solvers;
+    users = u.users;
+    used = u.used;
+    loses = record {
+      live = u.search.live;
+      units = λ w y b n e. ap (λ f. f (coded w b)) u.search.units;
+      names = names_mid;
+      unsat = u.search.unsat;
+      width = u.search.width;
+      assumed = u.search.assumed;
+    };
+    quiet = quiet_mid;
+  }
+
   -- and then its variable
-  pub gives_up_both : (new : Variables) (to : List Step) → DoesNothing mid new mids to → IsAlike mid new mids to → new.global_from_user ≡ mid.global_from_user → GivesUp old new from to v
-  gives_up_both new to does a users = record {
+  pub gives_up_both : (new : Variables) (to : List Step) → DoesNothing mid new mids to → IsAlike mid new mids to → ForgetsIdle mid mids to v → new.global_from_user ≡ mid.global_from_user → GivesUp old new from to v
+  gives_up_both new to does a idle users = record {
+    quiet = comes_both (λ earlier step. is_quiet step ≡ true) from mids to quiet_mid
+        (elim idle [ inl h ↦ quiet_comes mids to (DeleteVar v ∷ []) h.0 (refl, tt) | inr h ↦ quiet_comes mids to [] h.0 tt ]);
     does = does_both old mid new from mids to (λ j. j) (λ j. j) (λ j. []) (λ j. []) u.does does;
     solvers = λ w. ap (λ m. get_or m.fwd w None) a.solvers ∙ u.solvers w;
     users = users ∙ u.users;
@@ -330,6 +357,7 @@ module _ (n : Variables) (steps : List Step) (c : Search) (may : MayFree n steps
           let moved = freed_moved now c v x may.search may.flat own at unused t p gone.loses unmarked freed holds none room word in
           record {
             does = does_both n n1 new steps steps to (λ j. j) (λ j. j) (λ j. []) (λ j. []) noted_does gone.does;
+            quiet = gone.quiet;
             search = freed_search now c v x may.search may.flat own at unused t p gone.loses unmarked freed holds none room word;
             shares = shares_freed n new c (record c { parts = p }) v may.stands.tidy gone.does.stands.tidy
                 (λ w. gone.solvers w ∙ ap (λ m. cond (eqb w v) None (target m.fwd w)) put.maps.solvers) (gone.used ∙ ap (λ m. length m.bwd) put.maps.solvers) moved may.shares;
@@ -363,6 +391,7 @@ asked_trans a b d s t u x y = record {
 pub frees_none : (n : Variables) (steps : List Step) (c : Search) → MayFree n steps c → FreesSome n n steps steps c c
 frees_none n steps c h = record {
   does = does_none n steps h.stands;
+  quiet = quiet_comes steps steps [] refl tt;
   search = h.search;
   shares = h.shares;
   flat = h.flat;
@@ -377,6 +406,7 @@ frees_none n steps c h = record {
 pub frees_both : (a b d : Variables) (from mids to : List Step) (c1 c2 c3 : Search) → FreesSome a b from mids c1 c2 → FreesSome b d mids to c2 c3 → FreesSome a d from to c1 c3
 frees_both a b d from mids to c1 c2 c3 x y = record {
   does = does_both a b d from mids to (λ j. j) (λ j. j) (λ j. []) (λ j. []) x.does y.does;
+  quiet = comes_both (λ earlier step. is_quiet step ≡ true) from mids to x.quiet y.quiet;
   search = y.search;
   shares = y.shares;
   flat = y.flat;

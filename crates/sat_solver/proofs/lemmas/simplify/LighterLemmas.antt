@@ -1,5 +1,5 @@
 -- Clauses go with their steps at level 0.
-use Rattle.std.proofs.Common.{ℕ, zero, suc, ◌+◌, ◌*◌, ◌≡◌, ◌<◌, ◌∙◌, ◌⊎◌, true, false, ltb, List, [], ◌∷◌, map, length, get_or, refl, sym, ap, subst, arith, Ok}
+use Rattle.std.proofs.Common.{ℕ, zero, suc, ◌+◌, ◌*◌, ◌≡◌, ◌<◌, ◌∙◌, ◌⊎◌, Bool, true, false, ltb, List, [], ◌∷◌, map, length, get_or, refl, sym, ap, subst, arith, Ok}
 use Rattle.sat_base.specs.values.Literals.{variable, negated}
 use Rattle.sat_base.specs.steps.Steps.{DeleteClause, Satisfied}
 use Rattle.sat_parts.specs.prop.Binaries.{implied_by}
@@ -9,7 +9,7 @@ use Rattle.sat_checker.specs.declared.processing.ProofProcessor.{Ghosts}
 use Rattle.sat_solver.specs.session.Session.{Session, after, May, session_after}
 use Rattle.sat_solver.specs.session.ProofView.{steps_of, session_of}
 use Rattle.sat_solver.specs.declared.session.proof.Proof.{Proof}
-use Rattle.sat_solver.specs.search.Going.{GoesOr}
+use Rattle.sat_solver.specs.search.Going.{GoesWith}
 use Rattle.sat_solver.proofs.lemmas.search.AskedLemmas.{leaves_after, kinds_of}
 use Rattle.sat_solver.specs.session.LiveClauses.{with_var}
 use Rattle.sat_solver.specs.acceptance.SolverClauses.{pair, is_open_clause}
@@ -45,7 +45,7 @@ pub may_remove : (s : Session) (c : Search) → IsSearch s c → IsFlat c.parts 
 may_remove s c h flat = record { holds = h.stands.holds; flat = flat; paired = h.stands.fits.paired; names = h.ready.free.names }
 
 -- steps of a search leave what is assumed, and the names
-pub goes_leaves : {A W L full : Type 0} {G : Ghosts L} (seen : W → Writer) (x : A) (p q : Proof W L G) (P : A → List Step → Type 0) → GoesOr full seen (Ok x) p q P → Leaves (session_of p) (session_of q)
+pub goes_leaves : {A W L full : Type 0} {learns : Bool} {G : Ghosts L} (seen : W → Writer) (x : A) (p q : Proof W L G) (P : A → List Step → Type 0) → GoesWith full learns seen (Ok x) p q P → Leaves (session_of p) (session_of q)
 goes_leaves seen x p q P h = subst (λ ss. Leaves (session_of p) (session_after ss)) (sym h.went.history) (leaves_after h.steps (steps_of p) (kinds_of (session_of p).solver_names h.steps h.searched))
 
 pub may_scratch : (c : Search) (x : Scratch) → MayRemove c → MayRemove (record c { scratch = x })

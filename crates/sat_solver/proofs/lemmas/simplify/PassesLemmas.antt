@@ -1,5 +1,5 @@
 -- Names, proof and search stand together from call to call.
-use Rattle.std.proofs.Common.{ℕ, ◌≡◌, ◌<◌, ◌∙◌, length, Ok, Err, List, [], ◌++◌, None, refl, sym, ap, subst}
+use Rattle.std.proofs.Common.{ℕ, ◌≡◌, ◌<◌, ◌∙◌, Bool, true, length, Ok, Err, List, [], ◌++◌, None, refl, sym, ap, subst}
 use Rattle.std.specs.List.{Contains}
 use Rattle.sat_base.specs.device.Device.{Writer}
 use Rattle.sat_base.specs.steps.Steps.{Step}
@@ -15,6 +15,9 @@ use Rattle.sat_solver.specs.session.ProofView.{Adds, Keeps, steps_of, session_of
 use Rattle.sat_solver.specs.session.Session.{MayAll}
 use Rattle.sat_solver.specs.declared.session.proof.Proof.{Proof}
 use Rattle.sat_solver.proofs.lemmas.session.ProofLemmas.{adds_none, adds_more, fails_later, check_later}
+use Rattle.sat_solver.proofs.lemmas.session.ComingLemmas.{comes_both}
+use Rattle.sat_solver.specs.joint.Quiet.{is_quiet}
+use Rattle.sat_solver.proofs.lemmas.joint.QuietLemmas.{quiet_comes}
 use Rattle.sat_solver.proofs.lemmas.search.GoingLemmas.{went_checked, fault_checked, fault_or}
 use Rattle.sat_solver.specs.declared.error.SolverError.{SolverError}
 use Rattle.sat_solver.specs.declared.error.SolverError.TheVariants as errors
@@ -27,7 +30,7 @@ use Rattle.sat_solver.proofs.lemmas.names.Doing.{does_none, does_both}
 use Rattle.sat_solver.specs.parts.Frame.{SameClauses}
 use Rattle.sat_solver.specs.parts.Words.{ExtendsFor}
 use Rattle.sat_solver.proofs.lemmas.parts.WordSteps.{extends_refl, extends_after}
-use Rattle.sat_solver.specs.search.Going.{IsFaultOr, Went, Goes, GoesOr}
+use Rattle.sat_solver.specs.search.Going.{IsFaultOr, Went, Goes, GoesWith}
 use Rattle.sat_solver.specs.search.Joint.{assumed_in, IsSearch, Moved}
 use Rattle.sat_solver.specs.declared.search.work.Search.{Search}
 use Rattle.sat_solver.proofs.lemmas.search.TurnLemmas.{moved_refl, moved_trans}
@@ -47,6 +50,7 @@ module _ {W L : Type 0} {G : Ghosts L} (seen : W → Writer) where
   passes_refl n p c h = record {
     together = h;
     took = ([], adds_none seen p);
+    quiet = quiet_comes (steps_of p) (steps_of p) [] refl tt;
     does = does_none n (steps_of p) h.stands;
     asked = asked_refl n (session_of p);
     moved = moved_refl c;
@@ -57,6 +61,7 @@ module _ {W L : Type 0} {G : Ghosts L} (seen : W → Writer) where
   passes_trans a b d p q r x y z one two = record {
     together = two.together;
     took = (two.took.0 ++ one.took.0, adds_more seen one.took.0 two.took.0 p q r one.took.1 two.took.1);
+    quiet = comes_both (λ earlier step. is_quiet step ≡ true) (steps_of p) (steps_of q) (steps_of r) one.quiet two.quiet;
     does = does_both a b d (steps_of p) (steps_of q) (steps_of r) (λ j. j) (λ j. j) (λ j. []) (λ j. []) one.does two.does;
     asked = asked_trans a b d (session_of p) (session_of q) (session_of r) one.asked two.asked;
     moved = moved_trans x y z one.moved two.moved;
@@ -68,6 +73,7 @@ module _ {W L : Type 0} {G : Ghosts L} (seen : W → Writer) where
   passes_behind a b p q x y z moved word h = record {
     together = h.together;
     took = h.took;
+    quiet = h.quiet;
     does = h.does;
     asked = h.asked;
     moved = moved_trans x y z moved h.moved;
@@ -82,6 +88,7 @@ module _ {W L : Type 0} {G : Ghosts L} (seen : W → Writer) where
       record {
         together = record { keeps = g.keeps; stands = does.stands; search = search; shares = shares_moved n c d shares moved };
         took = (g.steps, g.went);
+        quiet = quiet_comes (steps_of p) (steps_of q) g.steps g.went.history g.quiet;
         does = does;
         asked = record { users = refl; assumed = (goes_leaves seen v p q P g).assumed; indices = λ w x m e. e };
         moved = moved;
@@ -93,6 +100,7 @@ module _ {W L : Type 0} {G : Ghosts L} (seen : W → Writer) where
   passes_frees a b p q c d f keeps came = record {
     together = record { keeps = keeps; stands = f.does.stands; search = f.search; shares = f.shares };
     took = came p ([], adds_none seen p);
+    quiet = f.quiet;
     does = f.does;
     asked = f.asked;
     moved = f.moved;
@@ -101,7 +109,7 @@ module _ {W L : Type 0} {G : Ghosts L} (seen : W → Writer) where
 
   -- FAULTS
 
-  pub falls_goes : {full : Type 0} (e : SolverError) (p q : Proof W L G) (P : Unit {0} → List Step → Type 0) → GoesOr {A = Unit {0}} full seen (Err e) p q P → FallsOr full seen e p q
+  pub falls_goes : {full : Type 0} {learns : Bool} (e : SolverError) (p q : Proof W L G) (P : Unit {0} → List Step → Type 0) → GoesWith {A = Unit {0}} full learns seen (Err e) p q P → FallsOr full seen e p q
   falls_goes e p q P g = record { fault = g.ends; steps = g.steps; went = g.went }
 
   -- what goes wrong where no clause is stored may go wrong where one is

@@ -15,7 +15,7 @@ use Rattle.sat_solver.specs.session.Coming.{Comes, EndsAtUnsat}
 use Rattle.sat_solver.specs.session.ProofView.{Adds}
 use Rattle.sat_solver.specs.solver.Answering.{Breaks, FlushFails}
 use Rattle.sat_solver.specs.declared.solver.state.State.TheVariants as states
-use Rattle.sat_solver.specs.solver.Calls.{RoundsOn, rounds_left, told_by}
+use Rattle.sat_solver.specs.solver.Calls.{RoundsOn, learned_of, rounds_left, told_by}
 use Rattle.sat_solver.specs.solver.Settling.{Settled}
 use Rattle.sat_solver.specs.solver.Whole.{IsWhole, steps_in}
 use Rattle.sat_solver.proofs.lemmas.search.GoingLemmas.{went_later}
@@ -38,7 +38,7 @@ module _ {W L : Type 0} {G : Ghosts L} (seen : W → Writer) (old : Solver W L G
     whole = s.whole;
     comes = subst (λ ss. Comes EndsAtUnsat ss (steps_in new)) adds.history s.comes;
     config = s.config;
-    times = λ u. subst (λ ss. AdvancesIn ss (steps_in new) (new.clock.steps - old.clock.steps)) adds.history (s.times u);
+    times = subst (λ ss. AdvancesIn ss (steps_in new) (learned_of new.state (new.clock.steps - old.clock.steps))) adds.history s.times;
     does = subst (λ ss. Does old.names new.names ss (steps_in new) (λ j. j) (λ j. told_by old.state new)) adds.history s.does;
     took = (_, adds_more seen [] s.took.0 old.core.proof p new.core.proof adds s.took.1);
     same = s.same;

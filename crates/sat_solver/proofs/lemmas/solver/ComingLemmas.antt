@@ -27,7 +27,7 @@ use Rattle.sat_solver.specs.declared.solver.taking.Loading.{Loading}
 use Rattle.sat_solver.specs.search.Going.{IsFault, IsFaultOr}
 use Rattle.sat_solver.specs.solver.Taking.{TookClause, TookAssumptions, BreaksNames, BreaksNamesOr}
 use Rattle.sat_solver.specs.solver.Whole.{HasFullStore, IsWhole, IsWholeOf, StateSays, GoesOn, steps_in}
-use Rattle.sat_solver.specs.solver.Adding.{TookIn, with_added, due_for_clause, Forgets, AreSampled, AddsClause, Assumed, Assumes, due_for_asked}
+use Rattle.sat_solver.specs.solver.Adding.{TookIn, with_added, due_for_clause, Forgets, AreSampled, IsBeforeDrat, AddsClause, Assumed, Assumes, due_for_asked}
 use Rattle.sat_solver.specs.search.Bumping.{AreDecays}
 use Rattle.sat_solver.specs.solver.Asking.{AskedIn}
 use Rattle.sat_solver.specs.names.Room.{HasRoom, users_in}
@@ -214,22 +214,22 @@ module _ {W L : Type 0} {G : Ghosts L} (seen : W → Writer) (s : Solver W L G) 
 -- FAULTS
 
 -- a call over a clause failed
-pub adding_ends : {W L : Type 0} {G : Ghosts L} (seen : W → Writer) (e : SolverError) (s new : Solver W L G) (user : List ℕ) → s.failed ≡ false → AreSampled s user → HasRoom s.names (users_in user) → IsFaultOr (HasFullStore new) e → BreaksNamesOr (HasFullStore new) seen e s.core new.core → new.clock ≡ s.clock → new.failed ≡ true → AddsClause seen (Err e) s new user
-adding_ends seen errors.OutOfMemory s new user g w r x b k f = (w, r, record { going = g; failed = f; fault = x; breaks = b; clock = k })
-adding_ends seen errors.StoreFull s new user g w r x b k f = (w, r, record { going = g; failed = f; fault = x; breaks = b; clock = k })
-adding_ends seen (errors.ProofIoError cause) s new user g w r x b k f = (w, r, record { going = g; failed = f; fault = x; breaks = b; clock = k })
-adding_ends seen errors.VariableLimit s new user g w r x b k f = absurd x
-adding_ends seen errors.Interrupted s new user g w r x b k f = absurd x
-adding_ends seen (errors.ProofProcessorError cause) s new user g w r x b k f = (w, r, record { going = g; failed = f; fault = x; breaks = b; clock = k })
-adding_ends seen errors.WitnessVariable s new user g w r x b k f = absurd x
-adding_ends seen errors.AssumedVariable s new user g w r x b k f = absurd x
-adding_ends seen errors.TooLate s new user g w r x b k f = absurd x
-adding_ends seen errors.NotInDrat s new user g w r x b k f = absurd x
-adding_ends seen errors.CounterEnd s new user g w r x b k f = (w, r, record { going = g; failed = f; fault = x; breaks = b; clock = k })
-adding_ends seen errors.HasFailed s new user g w r x b k f = absurd x
-adding_ends seen errors.Read s new user g w r x b k f = absurd x
-adding_ends seen errors.Malformed s new user g w r x b k f = absurd x
-adding_ends seen errors.OutOfRange s new user g w r x b k f = absurd x
+pub adding_ends : {W L : Type 0} {G : Ghosts L} (seen : W → Writer) (e : SolverError) (s new : Solver W L G) (user : List ℕ) → s.failed ≡ false → IsBeforeDrat seen s → AreSampled s user → HasRoom s.names (users_in user) → IsFaultOr (HasFullStore new) e → BreaksNamesOr (HasFullStore new) seen e s.core new.core → new.clock ≡ s.clock → new.failed ≡ true → AddsClause seen (Err e) s new user
+adding_ends seen errors.OutOfMemory s new user g d w r x b k f = ((d, w), r, record { going = g; failed = f; fault = x; breaks = b; clock = k })
+adding_ends seen errors.StoreFull s new user g d w r x b k f = ((d, w), r, record { going = g; failed = f; fault = x; breaks = b; clock = k })
+adding_ends seen (errors.ProofIoError cause) s new user g d w r x b k f = ((d, w), r, record { going = g; failed = f; fault = x; breaks = b; clock = k })
+adding_ends seen errors.VariableLimit s new user g d w r x b k f = absurd x
+adding_ends seen errors.Interrupted s new user g d w r x b k f = absurd x
+adding_ends seen (errors.ProofProcessorError cause) s new user g d w r x b k f = ((d, w), r, record { going = g; failed = f; fault = x; breaks = b; clock = k })
+adding_ends seen errors.WitnessVariable s new user g d w r x b k f = absurd x
+adding_ends seen errors.AssumedVariable s new user g d w r x b k f = absurd x
+adding_ends seen errors.TooLate s new user g d w r x b k f = absurd x
+adding_ends seen errors.NotInDrat s new user g d w r x b k f = absurd x
+adding_ends seen errors.CounterEnd s new user g d w r x b k f = ((d, w), r, record { going = g; failed = f; fault = x; breaks = b; clock = k })
+adding_ends seen errors.HasFailed s new user g d w r x b k f = absurd x
+adding_ends seen errors.Read s new user g d w r x b k f = absurd x
+adding_ends seen errors.Malformed s new user g d w r x b k f = absurd x
+adding_ends seen errors.OutOfRange s new user g d w r x b k f = absurd x
 
 -- CALLS
 

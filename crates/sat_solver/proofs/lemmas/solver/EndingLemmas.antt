@@ -27,7 +27,9 @@ use Rattle.sat_solver.specs.declared.solver.state.State.{State}
 use Rattle.sat_solver.specs.declared.solver.state.State.TheVariants as states
 use Rattle.sat_solver.specs.solver.Whole.{IsWhole, IsWholeOf, StateSays, GoesOn, steps_in}
 use Rattle.sat_solver.specs.solver.Proving.{ClosedOne, ClosesProof}
+use Rattle.sat_solver.proofs.lemmas.session.CertificateLemmas.{is_certificate}
 use Rattle.sat_solver.proofs.lemmas.session.DratDerivations.{drat_stands}
+use Rattle.sat_solver.proofs.lemmas.session.ProofLemmas.{since_closed}
 use Rattle.sat_solver.proofs.lemmas.solver.TellingLemmas.{search_rests}
 use Rattle.sat_solver.proofs.lemmas.solver.SettlingLemmas.{whole_over}
 
@@ -88,6 +90,7 @@ module _ {W L : Type 0} {G : Ghosts L} (seen : W → Writer) (s : Solver W L G) 
       kept = λ j live agree. record { live = live; agree = searches_agree s.names (steps_in s) End whole.stands may.1 tt j live agree; trace = visible finish no_step };
     });
     closes = c;
+    certificate = λ f from before none since. is_certificate f from (seen given) before (steps_of p) none keeps (since_closed seen f from before given s.core.proof p since c);
     derives = (drat_stands (steps_of p) keeps).0;
     refutes = λ e. (drat_stands (steps_of p) keeps).1 (subst (λ st. StateSays st (record s.core { proof = p }) s.names s.asked s.assumed.items s.told.failed_core.items) e ended.says);
     same = refl;

@@ -1,6 +1,6 @@
 -- What a search came to, told.
 use Rattle.std.specs.Prelude.{IfOk, IfErr}
-use Rattle.std.proofs.Common.{ℕ, Option, None, Some, Result, Ok, Err, List, ◌++◌, sym, subst}
+use Rattle.std.proofs.Common.{ℕ, ◌-◌, Option, None, Some, Result, Ok, Err, List, ◌++◌, sym, subst}
 use Rattle.sat_base.specs.device.Device.{Writer}
 use Rattle.sat_checker.specs.declared.processing.ProofProcessor.{Ghosts}
 use Rattle.sat_solver.proofs.lemmas.session.ProofLemmas.{adds_more, fails_later, check_later}
@@ -22,17 +22,17 @@ use Rattle.sat_solver.proofs.lemmas.solver.AnsweredLemmas.{joined_by}
 
 module _ {W L : Type 0} {G : Ghosts L} (seen : W → Writer) (n m : Variables) (a : Core W L G) where
   -- names stand where it came to
-  pub comes_to : IsJoined n a → (outcome : Outcome) (mid : Core W L G) → Ended seen a n outcome mid m → ComesTo outcome m mid
+  pub comes_to : {k : ℕ} → IsJoined n a → (outcome : Outcome) (mid : Core W L G) → Ended seen a n k outcome mid m → ComesTo outcome m mid
   comes_to joined outcomes.Learned mid e = e.says
   comes_to joined outcomes.Model mid e = (joined_by n m a mid joined e.config e.keeps e.does.stands e.says.0.search e.says.1, e.says.0.complete)
   comes_to joined outcomes.Failed mid e = (joined_by n m a mid joined e.config e.keeps e.does.stands e.says.0.search e.says.1, e.says.0.failing)
   comes_to joined outcomes.Unsat mid e = tt
 
   -- and it was told
-  pub finds_told : (outcome : Outcome) (o : Option State) (mid b : Core W L G) (core : List ℕ) (rounds : ℕ) → Ended seen a n outcome mid m → ToldSays seen o outcome m mid b core → Finds seen o rounds n m a b core
+  pub finds_told : (outcome : Outcome) (o : Option State) (mid b : Core W L G) (core : List ℕ) (rounds : ℕ) → Ended seen a n (rounds - 1) outcome mid m → ToldSays seen o outcome m mid b core → Finds seen o rounds n m a b core
   finds_told outcomes.Model (Some states.Sat) mid b core rounds e t = record { mid = mid; ended = e; shown = t }
   finds_told outcomes.Failed (Some states.UnsatUnderAssumptions) mid b core rounds e t = record { mid = mid; ended = e; failed = t }
-  finds_told outcomes.Unsat (Some states.Unsat) mid b core rounds e t = subst (λ c. Ended seen a n outcomes.Unsat c m) (sym t) e
+  finds_told outcomes.Unsat (Some states.Unsat) mid b core rounds e t = subst (λ c. Ended seen a n (rounds - 1) outcomes.Unsat c m) (sym t) e
   finds_told outcomes.Learned o mid b core rounds e t = absurd e.says
   finds_told outcomes.Model None mid b core rounds e t = absurd t
   finds_told outcomes.Model (Some states.Unknown) mid b core rounds e t = absurd t
@@ -48,7 +48,7 @@ module _ {W L : Type 0} {G : Ghosts L} (seen : W → Writer) (n m : Variables) (
   finds_told outcomes.Unsat (Some states.UnsatUnderAssumptions) mid b core rounds e t = absurd t
 
   -- or its telling failed
-  pub breaks_told : (outcome : Outcome) (e : SolverError) (mid b : Core W L G) → Ended seen a n outcome mid m → Breaks seen e mid b → Breaks seen e a b
+  pub breaks_told : {k : ℕ} → (outcome : Outcome) (e : SolverError) (mid b : Core W L G) → Ended seen a n k outcome mid m → Breaks seen e mid b → Breaks seen e a b
   breaks_told outcome e mid b ended k = record { fault = k.fault; steps = k.steps ++ ended.steps; went = later e k.fault k.went }
     where
       later : (e : SolverError) → IsFaultOr (IsFull b.search.parts) e → Went {A = Unit {0}} seen (Err e) k.steps mid.proof b.proof → Went {A = Unit {0}} seen (Err e) (k.steps ++ ended.steps) a.proof b.proof
@@ -69,10 +69,10 @@ module _ {W L : Type 0} {G : Ghosts L} (seen : W → Writer) (n m : Variables) (
       later errors.OutOfRange f w = absurd f
 
   -- what came of telling it
-  pub finds_by : (outcome : Outcome) (r : Result (Option State) SolverError) (mid b : Core W L G) (core : List ℕ) (rounds : ℕ) → Ended seen a n outcome mid m → Tells seen r outcome m mid b core → IfOk r (λ o. Finds seen o rounds n m a b core)
+  pub finds_by : (outcome : Outcome) (r : Result (Option State) SolverError) (mid b : Core W L G) (core : List ℕ) (rounds : ℕ) → Ended seen a n (rounds - 1) outcome mid m → Tells seen r outcome m mid b core → IfOk r (λ o. Finds seen o rounds n m a b core)
   finds_by outcome (Ok o) mid b core rounds e t = finds_told outcome o mid b core rounds e t
   finds_by outcome (Err x) mid b core rounds e t = tt
 
-  pub breaks_by : (outcome : Outcome) (r : Result (Option State) SolverError) (mid b : Core W L G) (core : List ℕ) → Ended seen a n outcome mid m → Tells seen r outcome m mid b core → IfErr r (λ x. Breaks seen x a b)
+  pub breaks_by : {k : ℕ} → (outcome : Outcome) (r : Result (Option State) SolverError) (mid b : Core W L G) (core : List ℕ) → Ended seen a n k outcome mid m → Tells seen r outcome m mid b core → IfErr r (λ x. Breaks seen x a b)
   breaks_by outcome (Ok o) mid b core e t = tt
   breaks_by outcome (Err x) mid b core e t = breaks_told outcome x mid b e t

@@ -1,9 +1,9 @@
 -- A solver that looked for an answer.
-use Rattle.std.proofs.Common.{ℕ, ◌+◌, ◌-◌, ◌*◌, ◌^◌, ◌≤◌, ◌<◌, ◌≡◌, ◌∙◌, true, false, Ok, Err, List, [], ◌∷◌, ◌++◌, length, map, get_or, refl, sym, ap, subst, arith}
+use Rattle.std.proofs.Common.{ℕ, ◌+◌, ◌-◌, ◌*◌, ◌^◌, ◌≤◌, ◌<◌, ◌≡◌, ◌∙◌, true, false, Ok, Err, List, [], ◌∷◌, ◌++◌, length, map, get_or, refl, sym, ap, subst, arith, inl}
 use Rattle.std.specs.List.{AllByRecursion, Contains}
 use Rattle.sat_base.specs.device.Device.{Writer}
 use Rattle.sat_base.specs.script.Script.{names_of, Among}
-use Rattle.sat_base.specs.steps.Steps.{FailedAssumptions}
+use Rattle.sat_base.specs.steps.Steps.{Step, FailedAssumptions}
 use Rattle.sat_base.specs.values.Clauses.{Valuation, EachTrue}
 use Rattle.sat_checker.specs.Fold.{Holds}
 use Rattle.sat_checker.specs.declared.processing.ProofProcessor.{Ghosts}
@@ -33,7 +33,7 @@ use Rattle.sat_solver.specs.search.Failing.{causes_hashes}
 use Rattle.sat_solver.specs.search.Joint.{global_in, AreAsked, IsSearch, Moved}
 use Rattle.sat_solver.specs.search.Bumping.{AreDecays}
 use Rattle.sat_solver.specs.search.Turns.{IsComplete}
-use Rattle.sat_solver.specs.search.Solving.{Ended, values_in}
+use Rattle.sat_solver.specs.search.Solving.{AdvancesIn, AdvanceTimes, StandsStill, Ended, values_in}
 use Rattle.sat_solver.specs.names.Adding.{named_literal, Images, GlobalImages}
 use Rattle.sat_checker.specs.matching.Checking.{variable_of}
 use Rattle.sat_checker.specs.matching.Expected.{Shows, SameSet}
@@ -54,7 +54,7 @@ use Rattle.sat_solver.specs.declared.solver.finding.Clock.{Clock}
 use Rattle.sat_solver.specs.solver.Joined.{IsJoined, name_of}
 use Rattle.sat_solver.specs.solver.Answering.{Breaks, FlushFails, Failed, line_of}
 use Rattle.sat_solver.specs.solver.Found.{FoundModel, FoundCore, FoundNone, FoundSays}
-use Rattle.sat_solver.specs.solver.Calls.{Answered, Counts, CountsRounds, RoundsOn, IsFlushed, NotesAsk, Solves, told_as, told_by}
+use Rattle.sat_solver.specs.solver.Calls.{Answered, Counts, CountsRounds, RoundsOn, IsFlushed, NotesAsk, Solves, learned_of, told_as, told_by}
 use Rattle.sat_solver.specs.solver.Settling.{Settled}
 use Rattle.sat_solver.specs.solver.Whole.{IsWhole, IsWholeOf, StateSays, GoesOn, HasCore, steps_in, session_in, line_in}
 use Rattle.sat_solver.proofs.lemmas.solver.AnsweredLemmas.{asked_shown, core_among, core_spelt, core_none, joined_by, does_shown, does_failed}
@@ -79,6 +79,17 @@ assumed_moved s t c c' h k moved =
     k ∙ ap (λ gs. map (with_var (λ x. get_or gs x 0)) c'.assumptions.lits.items) (ap (λ gs. gs.items) moved.globals)
     ∙ ap (λ ls. map (with_var (global_in c)) ls) (ap (λ ls. ls.items) moved.lits) ∙ sym h
 
+-- no round was made
+no_rounds : (st : State) (n : ℕ) → learned_of st (n - n) ≡ 0
+no_rounds states.Unknown n = omega arith
+no_rounds states.Sat n = omega arith
+no_rounds states.UnsatUnderAssumptions n = omega arith
+no_rounds states.Unsat n = omega arith
+
+-- and then a step that doesn't advance
+then_still : (from mids to steps : List Step) (step : Step) (k : ℕ) → mids ≡ steps ++ from → to ≡ step ∷ mids → AdvanceTimes from steps k → StandsStill (session_after (steps ++ from)) step → AdvancesIn from to k
+then_still from mids to steps step k e f times still = record { steps = step ∷ steps; behind = f ∙ ap (λ ss. step ∷ ss) e; times = inl (times, still) }
+
 module _ {W L : Type 0} {G : Ghosts L} (seen : W → Writer) (s : Solver W L G) (whole : IsWhole s) where
   -- where an answer was known
   pub settled_known : (s.state ≡ states.Unknown → ⊥) → Settled seen s s
@@ -96,7 +107,7 @@ module _ {W L : Type 0} {G : Ghosts L} (seen : W → Writer) (s : Solver W L G) 
       spent = λ u. absurd (n u);
       answered = λ j live a fits u. n u;
     };
-    times = λ u. absurd (n u);
+    times = record { steps = []; behind = refl; times = no_rounds s.state s.clock.steps };
     known = λ k. (adds_none seen s.core.proof, refl);
   }
     where
@@ -141,7 +152,7 @@ module _ {W L : Type 0} {G : Ghosts L} (seen : W → Writer) (s : Solver W L G) 
       users = found.gone.asked.users;
       config = found.gone.config;
       counts = counts;
-      times = λ u. record { steps = found.gone.steps; behind = found.gone.adds.history; times = found.gone.times };
+      times = subst (λ st. AdvancesIn (steps_in s) (steps_of core.proof) (learned_of st (clock.steps - s.clock.steps))) (sym unknown) (record { steps = found.gone.steps; behind = found.gone.adds.history; times = found.gone.times });
       known = λ k. absurd (k unknown);
     }
 
@@ -153,7 +164,7 @@ module _ {W L : Type 0} {G : Ghosts L} (seen : W → Writer) (s : Solver W L G) 
       unknown_told st d = subst (λ before. Does s.names m (steps_in s) (steps_of core.proof) (λ j. j) (λ j. told_as before st (line_of m core) s.assumed.items told.failed_core.items)) (sym unknown) d
 
       -- where a model was found
-      pub settled_model : Counts s (new states.Sat) → FoundModel seen s.names m s.core core → Settled seen s (new states.Sat)
+      pub settled_model : Counts s (new states.Sat) → FoundModel seen (clock.steps - s.clock.steps) s.names m s.core core → Settled seen s (new states.Sat)
       settled_model counts found = record {
         whole = record {
           stands = found.shown.joined.stands;
@@ -179,7 +190,7 @@ module _ {W L : Type 0} {G : Ghosts L} (seen : W → Writer) (s : Solver W L G) 
         users = found.ended.asked.users;
         config = found.shown.config ∙ found.ended.config;
         counts = counts;
-        times = λ u. absurd (apart_sat u);
+        times = then_still (steps_in s) (steps_of found.mid.proof) (steps_of core.proof) found.ended.steps _ _ found.ended.adds.history found.shown.adds.history found.ended.times (record { quiet = refl; never = tt });
         known = λ k. absurd (k unknown);
       }
         where
@@ -206,7 +217,7 @@ module _ {W L : Type 0} {G : Ghosts L} (seen : W → Writer) (s : Solver W L G) 
               (subst (λ ls. (k : ℕ) → k < length ls → IsTrueLit core.search.parts.assignment.current (get_or ls k 0)) lits complete.assumed)
 
       -- where assumptions were found that can't be true together
-      pub settled_core : Counts s (new states.UnsatUnderAssumptions) → FoundCore seen s.names m s.core core told.failed_core.items → Settled seen s (new states.UnsatUnderAssumptions)
+      pub settled_core : Counts s (new states.UnsatUnderAssumptions) → FoundCore seen (clock.steps - s.clock.steps) s.names m s.core core told.failed_core.items → Settled seen s (new states.UnsatUnderAssumptions)
       settled_core counts found = record {
         whole = record {
           stands = found.failed.joined.stands;
@@ -231,7 +242,7 @@ module _ {W L : Type 0} {G : Ghosts L} (seen : W → Writer) (s : Solver W L G) 
         users = found.ended.asked.users;
         config = found.failed.config ∙ found.ended.config;
         counts = counts;
-        times = λ u. absurd (apart_core u);
+        times = then_still (steps_in s) (steps_of found.mid.proof) (steps_of core.proof) found.ended.steps _ _ found.ended.adds.history (found.failed.adds.history ∙ ap (λ ss. ss ++ steps_of found.mid.proof) found.failed.told.is) found.ended.times (record { quiet = refl; never = tt });
         known = λ k. absurd (k unknown);
       }
         where
@@ -267,7 +278,7 @@ module _ {W L : Type 0} {G : Ghosts L} (seen : W → Writer) (s : Solver W L G) 
               }
 
       -- where the clauses alone turned out to be unsatisfiable
-      pub settled_unsat : Counts s (new states.Unsat) → Ended seen s.core s.names outcomes.Unsat core m → Settled seen s (new states.Unsat)
+      pub settled_unsat : Counts s (new states.Unsat) → Ended seen s.core s.names (clock.steps - s.clock.steps - 1) outcomes.Unsat core m → Settled seen s (new states.Unsat)
       settled_unsat counts ended = record {
         whole = record {
           stands = ended.does.stands;
@@ -286,7 +297,7 @@ module _ {W L : Type 0} {G : Ghosts L} (seen : W → Writer) (s : Solver W L G) 
         users = ended.asked.users;
         config = ended.config;
         counts = counts;
-        times = λ u. absurd (apart_unsat u);
+        times = record { steps = ended.steps; behind = ended.adds.history; times = ended.times };
         known = λ k. absurd (k unknown);
       }
 
@@ -348,7 +359,7 @@ module _ {W L : Type 0} {G : Ghosts L} (seen : W → Writer) (old mid : Solver W
     users = settled.users;
     config = settled.config;
     counts = record { on = settled.counts.on; round = settled.counts.round; spent = settled.counts.spent; answered = settled.counts.answered };
-    times = λ u. let h = settled.times u in record { steps = h.steps; behind = f.history ∙ h.behind; times = h.times };
+    times = record { steps = settled.times.steps; behind = f.history ∙ settled.times.behind; times = settled.times.times };
     known = λ k. let h = settled.known k in (adds_more seen [] [] old.core.proof mid.core.proof p h.0 (flush_records seen (Ok tt) mid.core.proof p f), ap (λ (m : Solver W L G). record m { core = record m.core { proof = p } }) h.1);
   }
 
@@ -388,7 +399,7 @@ module _ {W L : Type 0} {G : Ghosts L} (seen : W → Writer) (s : Solver W L G) 
   }
 
   -- an answer was found
-  pub settled_some : s.clock.steps < clock.steps → (st : State) → FoundSays seen st s.names m s.core core told.failed_core.items → Settled seen s (record s { core = core; names = m; told = told; clock = clock; state = st })
+  pub settled_some : s.clock.steps < clock.steps → (st : State) → FoundSays seen st (clock.steps - s.clock.steps) s.names m s.core core told.failed_core.items → Settled seen s (record s { core = core; names = m; told = told; clock = clock; state = st })
   settled_some round states.Unknown found = absurd found
   settled_some round states.Sat found = settled_model seen s whole goes_on core m told clock scale unknown (record { on = rounds_on; round = λ u k. round; spent = λ u. absurd (apart_sat u); answered = λ j live a fits u. apart_sat u }) found
   settled_some round states.UnsatUnderAssumptions found = settled_core seen s whole goes_on core m told clock scale unknown (record { on = rounds_on; round = λ u k. round; spent = λ u. absurd (apart_core u); answered = λ j live a fits u. apart_core u }) found

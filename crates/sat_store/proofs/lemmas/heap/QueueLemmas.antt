@@ -6,85 +6,106 @@ use Rattle.std.proofs.lemmas.List.Sums.{sum_by-set}
 use Rattle.std.proofs.lemmas.Nat.{div-add-mod', div_below}
 use Rattle.std.proofs.Math.Nat.{mul-add-div_right}
 use Rattle.std.proofs.lemmas.Bool.Decides.{nat_tests}
-use Rattle.std.proofs.lemmas.List.{get_or_read, set-get_or, get_or_append_left, get_or_at, get_or_past, get_or-map, length-map, ext_get_or, get_or-set_same, get_or-set_other, length-set, map-append, replicate-append-replicate}
+use Rattle.std.proofs.lemmas.List.{get_or_read, set-get_or, get_or_append_left, get_or_at, get_or_past, get_or-map, length-map, ext_get_or, get_or-set_same, get_or-set_other, length-set, map-append, append-nil, replicate-append-replicate}
 use Rattle.sat_base.specs.values.Literals.{largest}
-use Rattle.sat_store.specs.heap.Vsids.{Queue, quotient_up, decayed, IsFirst}
-use Rattle.sat_store.proofs.lemmas.heap.OrderLemmas.{top_greatest}
+use Rattle.sat_store.specs.declared.vsids.heap.Entry.{Entry}
+use Rattle.sat_store.specs.heap.Vsids.{Queue, activity_of, bumped, quotient_up, decayed, IsFirst}
+use Rattle.sat_store.proofs.lemmas.heap.OrderLemmas.{top_greatest, raised_up}
 use Rattle.sat_store.proofs.lemmas.heap.FlagLemmas.{flag_at, flags_count, flags_taken, flags_given}
-use Rattle.sat_store.specs.heap.Heap.{Placed, rank, rank_at, parent, Ordered, UpFrom, DownFrom, Exchanges, Transposes, flags, IsHeap}
+use Rattle.sat_store.proofs.lemmas.heap.MoveLemmas.{key_of, keys_count}
+use Rattle.sat_store.specs.heap.Heap.{no_entry, var_at, key_at, Placed, rank, rank_at, parent, Ordered, UpFrom, DownFrom, Exchanges, Exchanged, Transposes, Rearranged, Adds, flags, keys, scaled, IsHeap}
 
 -- one more variable
 
-at_left : (xs : List ℕ) (x v : ℕ) → v < length xs → get_or (xs ++ x ∷ []) v 0 ≡ get_or xs v 0
-at_left xs x v within = get_or_append_left xs (x ∷ []) 0 v within
+at_left : {A : Type 0} (xs : List A) (x d : A) (v : ℕ) → v < length xs → get_or (xs ++ x ∷ []) v d ≡ get_or xs v d
+at_left xs x d v within = get_or_append_left xs (x ∷ []) d v within
 
-at_end : (xs : List ℕ) (x n : ℕ) → length xs ≡ n → get_or (xs ++ x ∷ []) n 0 ≡ x
-at_end xs x n e = get_or_at xs x [] 0 n e
+at_end : {A : Type 0} (xs : List A) (x d : A) (n : ℕ) → length xs ≡ n → get_or (xs ++ x ∷ []) n d ≡ x
+at_end xs x d n e = get_or_at xs x [] d n e
 
-one_longer : (xs : List ℕ) (x : ℕ) → length (xs ++ x ∷ []) ≡ length xs + 1
+one_longer : {A : Type 0} (xs : List A) (x : A) → length (xs ++ x ∷ []) ≡ length xs + 1
 one_longer xs x = omega (arith, length-append xs (x ∷ []))
 
-grown_placed : (h p : List ℕ) → Placed h p → Placed (h ++ length h ∷ []) (p ++ length h ∷ [])
+-- a variable behind all others, of activity 0
+abbrev pub newcomer : ℕ → Entry
+newcomer v = record { key = 0; var = v }
+
+pub grown_placed : (h : List Entry) (p : List ℕ) → Placed h p → Placed (h ++ newcomer (length h) ∷ []) (p ++ length h ∷ [])
 grown_placed h p placed =
-    let n : ℕ = length h in
-    let lh : length (h ++ length h ∷ []) ≡ length h + 1 = one_longer h (length h) in
+    let e : Entry = newcomer (length h) in
+    let lh : length (h ++ e ∷ []) ≡ length h + 1 = one_longer h e in
     let lp : length (p ++ length h ∷ []) ≡ length p + 1 = one_longer p (length h) in
-    let last_h : get_or (h ++ length h ∷ []) (length h) 0 ≡ length h = at_end h (length h) (length h) refl in
-    let last_p : get_or (p ++ length h ∷ []) (length h) 0 ≡ length h = at_end p (length h) (length h) (sym placed.count) in
+    let last_h : var_at (h ++ e ∷ []) (length h) ≡ length h = ap (λ (x : Entry). x.var) (at_end h e no_entry (length h) refl) in
+    let last_p : get_or (p ++ length h ∷ []) (length h) 0 ≡ length h = at_end p (length h) 0 (length h) (sym placed.count) in
+    let old_h : (k : ℕ) → k < length h → var_at (h ++ e ∷ []) k ≡ var_at h k = λ k old. ap (λ (x : Entry). x.var) (at_left h e no_entry k old) in
+    let old_p : (v : ℕ) → v < length h → get_or (p ++ length h ∷ []) v 0 ≡ get_or p v 0 = λ v old. at_left p (length h) 0 v (omega (arith, placed.count)) in
     record {
       count = omega (arith, placed.count);
       listed = λ k small. elim (cases_lt k (length h)) [
-        | inl old ↦ omega (arith, at_left h (length h) k old, placed.listed k old)
-        | inr end ↦ let e : k ≡ length h = omega arith in subst (λ (x : ℕ). get_or (h ++ length h ∷ []) x 0 < length (h ++ length h ∷ [])) (sym e) (omega arith)
+        | inl old ↦ omega (arith, old_h k old, placed.listed k old)
+        | inr end ↦ let e' : k ≡ length h = omega arith in subst (λ (x : ℕ). var_at (h ++ e ∷ []) x < length (h ++ e ∷ [])) (sym e') (omega arith)
       ];
       position = λ k small. elim (cases_lt k (length h)) [
-        | inl old ↦
-            let v : get_or (h ++ length h ∷ []) k 0 ≡ get_or h k 0 = at_left h (length h) k old in
-            let at : get_or (p ++ length h ∷ []) (get_or h k 0) 0 ≡ get_or p (get_or h k 0) 0 = at_left p (length h) (get_or h k 0) (omega (arith, placed.listed k old, placed.count)) in
-            ap (λ (x : ℕ). get_or (p ++ length h ∷ []) x 0) v ∙ at ∙ placed.position k old
+        | inl old ↦ ap (λ (x : ℕ). get_or (p ++ length h ∷ []) x 0) (old_h k old) ∙ old_p (var_at h k) (placed.listed k old) ∙ placed.position k old
         | inr end ↦
-            let e : k ≡ length h = omega arith in
-            subst (λ (x : ℕ). get_or (p ++ length h ∷ []) (get_or (h ++ length h ∷ []) x 0) 0 ≡ x) (sym e) (ap (λ (x : ℕ). get_or (p ++ length h ∷ []) x 0) last_h ∙ last_p)
+            let e' : k ≡ length h = omega arith in
+            subst (λ (x : ℕ). get_or (p ++ length h ∷ []) (var_at (h ++ e ∷ []) x) 0 ≡ x) (sym e') (ap (λ (x : ℕ). get_or (p ++ length h ∷ []) x 0) last_h ∙ last_p)
       ];
       placed = λ v small. elim (cases_lt v (length h)) [
-        | inl old ↦ omega (arith, at_left p (length h) v (omega (arith, placed.count)), placed.placed v old)
-        | inr end ↦ let e : v ≡ length h = omega arith in subst (λ (x : ℕ). get_or (p ++ length h ∷ []) x 0 < length (h ++ length h ∷ [])) (sym e) (omega arith)
+        | inl old ↦ omega (arith, old_p v old, placed.placed v old)
+        | inr end ↦ let e' : v ≡ length h = omega arith in subst (λ (x : ℕ). get_or (p ++ length h ∷ []) x 0 < length (h ++ e ∷ [])) (sym e') (omega arith)
       ];
       variable = λ v small. elim (cases_lt v (length h)) [
-        | inl old ↦
-            let k : get_or (p ++ length h ∷ []) v 0 ≡ get_or p v 0 = at_left p (length h) v (omega (arith, placed.count)) in
-            let at : get_or (h ++ length h ∷ []) (get_or p v 0) 0 ≡ get_or h (get_or p v 0) 0 = at_left h (length h) (get_or p v 0) (placed.placed v old) in
-            ap (λ (x : ℕ). get_or (h ++ length h ∷ []) x 0) k ∙ at ∙ placed.variable v old
+        | inl old ↦ ap (var_at (h ++ e ∷ [])) (old_p v old) ∙ old_h (get_or p v 0) (placed.placed v old) ∙ placed.variable v old
         | inr end ↦
-            let e : v ≡ length h = omega arith in
-            subst (λ (x : ℕ). get_or (h ++ length h ∷ []) (get_or (p ++ length h ∷ []) x 0) 0 ≡ x) (sym e) (ap (λ (x : ℕ). get_or (h ++ length h ∷ []) x 0) last_p ∙ last_h)
+            let e' : v ≡ length h = omega arith in
+            subst (λ (x : ℕ). var_at (h ++ e ∷ []) (get_or (p ++ length h ∷ []) x 0) ≡ x) (sym e') (ap (var_at (h ++ e ∷ [])) last_p ∙ last_h)
       ];
     }
+
+pub grown_keys : (h : List Entry) (p : List ℕ) → Placed h p → keys (h ++ newcomer (length h) ∷ []) (p ++ length h ∷ []) ≡ keys h p ++ 0 ∷ []
+grown_keys h p placed =
+    let e : Entry = newcomer (length h) in
+    let more : List Entry = h ++ e ∷ [] in
+    let places : List ℕ = p ++ length h ∷ [] in
+    let lp : length places ≡ length p + 1 = one_longer p (length h) in
+    let lk : length (keys h p ++ 0 ∷ []) ≡ length p + 1 = one_longer (keys h p) 0 ∙ ap (λ (n : ℕ). n + 1) (keys_count h p) in
+    ext_get_or 0 (keys more places) (keys h p ++ 0 ∷ []) (keys_count more places ∙ lp ∙ sym lk) (λ v small.
+    let within : v < length places = omega (arith, keys_count more places) in
+    key_of more places v within ∙ elim (cases_lt v (length p)) [
+      | inl old ↦
+          ap (key_at more) (at_left p (length h) 0 v old)
+          ∙ ap (λ (x : Entry). x.key) (at_left h e no_entry (get_or p v 0) (placed.placed v (omega (arith, placed.count))))
+          ∙ sym (key_of h p v old)
+          ∙ sym (at_left (keys h p) 0 0 v (omega (arith, keys_count h p)))
+      | inr end ↦
+          let e' : v ≡ length p = omega arith in
+          ap (λ (x : ℕ). key_at more (get_or places x 0)) e'
+          ∙ ap (key_at more) (at_end p (length h) 0 (length p) refl)
+          ∙ ap (λ (x : Entry). x.key) (at_end h e no_entry (length h) refl)
+          ∙ sym (at_end (keys h p) 0 0 v (keys_count h p ∙ sym e'))
+    ])
 
 same_order : (r s : ℕ → ℕ) (m : ℕ) → ((k : ℕ) → k < m → s k ≡ r k) → Ordered r m 0 → Ordered s m 0
 same_order r s m same ordered k pos small low = omega (arith, same k small, same (parent k) (omega arith), ordered k pos small low)
 
-pub grown_heap : (h p a : List ℕ) (m : ℕ) → IsHeap h p a m → length h < largest → IsHeap (h ++ length h ∷ []) (p ++ length h ∷ []) (a ++ 0 ∷ []) m
-grown_heap h p a m heap few =
-    let lh : length (h ++ length h ∷ []) ≡ length h + 1 = one_longer h (length h) in
-    let la : length (a ++ 0 ∷ []) ≡ length a + 1 = one_longer a 0 in
+pub grown_heap : (h : List Entry) (p : List ℕ) (m : ℕ) → IsHeap h p m → length h < largest → IsHeap (h ++ newcomer (length h) ∷ []) (p ++ length h ∷ []) m
+grown_heap h p m heap few =
+    let e : Entry = newcomer (length h) in
+    let lh : length (h ++ e ∷ []) ≡ length h + 1 = one_longer h e in
+    let a : List ℕ = keys h p in
     record {
       placed = grown_placed h p heap.placed;
       within = omega (arith, heap.within);
       few = omega arith;
-      count = omega (arith, heap.count);
-      small = λ v. elim (cases_lt v (length a)) [
-        | inl old ↦ omega (arith, at_left a 0 v old, heap.small v)
+      small = λ v. rw (grown_keys h p heap.placed) (elim (cases_lt v (length a)) [
+        | inl old ↦ omega (arith, at_left a 0 0 v old, heap.small v)
         | inr new ↦ elim (cases_eq v (length a)) [
-          | inl end ↦ let e : get_or (a ++ 0 ∷ []) v 0 ≡ 0 = at_end a 0 v (sym end) in omega arith
-          | inr past ↦ let e : get_or (a ++ 0 ∷ []) v 0 ≡ 0 = get_or_past (a ++ 0 ∷ []) v 0 (omega arith) in omega arith
+          | inl end ↦ let z : get_or (a ++ 0 ∷ []) v 0 ≡ 0 = at_end a 0 0 v (sym end) in omega arith
+          | inr past ↦ let z : get_or (a ++ 0 ∷ []) v 0 ≡ 0 = get_or_past (a ++ 0 ∷ []) v 0 (omega (arith, one_longer a 0)) in omega arith
         ]
-      ];
-      ordered = same_order (rank_at a h) (rank_at (a ++ 0 ∷ []) (h ++ length h ∷ [])) m (λ k small.
-          let within : k < length h = omega (arith, heap.within) in
-          let v : get_or (h ++ length h ∷ []) k 0 ≡ get_or h k 0 = at_left h (length h) k within in
-          let at : get_or (a ++ 0 ∷ []) (get_or h k 0) 0 ≡ get_or a (get_or h k 0) 0 = at_left a 0 (get_or h k 0) (omega (arith, heap.placed.listed k within, heap.count)) in
-          ap (rank (a ++ 0 ∷ [])) v ∙ ap (λ (x : ℕ). x * largest + (largest - 1 - get_or h k 0)) at) heap.ordered;
+      ]);
+      ordered = same_order (rank_at h) (rank_at (h ++ e ∷ [])) m (λ k small. ap rank (at_left h e no_entry k (omega (arith, heap.within)))) heap.ordered;
     }
 
 from_test : (a b : ℕ) → b ≤ a → nat_lt a b ≡ false
@@ -95,18 +116,110 @@ grown_flags p m n past =
     let t : nat_lt n m ≡ false = from_test n m past in
     map-append (λ x. nat_lt x m) p (n ∷ []) ∙ ap (λ (b : Bool). flags m p ++ b ∷ []) t
 
--- an activity raised
+below_test : (a b : ℕ) → a < b → nat_lt a b ≡ true
+below_test a b e = grind (arith, nat_tests)
 
-rank_other : (a : List ℕ) (v x u : ℕ) → u ≢ v → rank (set a v x) u ≡ rank a u
-rank_other a v x u differ = ap (λ (y : ℕ). y * largest + (largest - 1 - u)) (get_or-set_other a v u x 0 differ)
+pub below_limit : (a : List ℕ) (v x u limit : ℕ) → ((w : ℕ) → get_or a w 0 < limit) → x < limit → get_or (set a v x) u 0 < limit
+below_limit a v x u limit small fits = elim (cases_eq u v) [
+  | inl same ↦ elim (cases_lt v (length a)) [
+    | inl within ↦ let e : get_or (set a v x) v 0 ≡ x = get_or-set_same a v x 0 within in subst (λ (y : ℕ). get_or (set a v x) y 0 < limit) (sym same) (omega arith)
+    | inr past ↦ let e : get_or (set a v x) u 0 ≡ 0 = get_or_past (set a v x) u 0 (omega (arith, length-set a v x)) in omega arith
+  ]
+  | inr differ ↦ let e : get_or (set a v x) u 0 ≡ get_or a u 0 = get_or-set_other a v u x 0 differ in omega (arith, small u)
+]
 
--- an activity written of a variable that isn't among the first m
-pub written_behind : (h p a : List ℕ) (m v x : ℕ) → IsHeap h p a m → v < length h → m ≤ get_or p v 0 → Ordered (rank_at (set a v x) h) m 0
-written_behind h p a m v x heap within behind =
-    same_order (rank_at a h) (rank_at (set a v x) h) m (λ k small. rank_other a v x (get_or h k 0) (λ e.
-    let back : get_or p (get_or h k 0) 0 ≡ k = heap.placed.position k (omega (arith, heap.within)) in
-    let there : get_or p (get_or h k 0) 0 ≡ get_or p v 0 = ap (λ (y : ℕ). get_or p y 0) e in
-    omega arith)) heap.ordered
+-- an activity written
+
+-- the entry with another activity
+abbrev pub with_key : ℕ → Entry → Entry
+with_key x e = record e { key = x }
+
+-- the list in which the entry at a place has another activity
+abbrev pub keyed : List Entry → ℕ → ℕ → List Entry
+keyed h at x = set h at (with_key x (get_or h at no_entry))
+
+pub keyed_count : (h : List Entry) (at x : ℕ) → length (keyed h at x) ≡ length h
+keyed_count h at x = length-set h at (with_key x (get_or h at no_entry))
+
+keyed_same : (h : List Entry) (at x k : ℕ) → k ≢ at → get_or (keyed h at x) k no_entry ≡ get_or h k no_entry
+keyed_same h at x k differ = get_or-set_other h at k (with_key x (get_or h at no_entry)) no_entry differ
+
+keyed_at : (h : List Entry) (at x : ℕ) → at < length h → get_or (keyed h at x) at no_entry ≡ with_key x (get_or h at no_entry)
+keyed_at h at x within = get_or-set_same h at (with_key x (get_or h at no_entry)) no_entry within
+
+-- the variables stand where they stood
+placed_again : (h h' : List Entry) (p : List ℕ) → Placed h p → length h' ≡ length h → ((k : ℕ) → k < length h → var_at h' k ≡ var_at h k) → Placed h' p
+placed_again h h' p placed count same = record {
+  count = count ∙ placed.count;
+  listed = λ k small. let within : k < length h = omega arith in omega (arith, same k within, placed.listed k within);
+  position = λ k small. let within : k < length h = omega arith in ap (λ (v : ℕ). get_or p v 0) (same k within) ∙ placed.position k within;
+  placed = λ v small. omega (arith, placed.placed v (omega arith));
+  variable = λ v small. let within : v < length h = omega arith in same (get_or p v 0) (placed.placed v within) ∙ placed.variable v within;
+}
+
+pub keyed_placed : (h : List Entry) (p : List ℕ) (at x : ℕ) → Placed h p → at < length h → Placed (keyed h at x) p
+keyed_placed h p at x placed within = placed_again h (keyed h at x) p placed (keyed_count h at x) (λ k small. elim (cases_eq k at) [
+  | inl same ↦ ap (var_at (keyed h at x)) same ∙ ap (λ (e : Entry). e.var) (keyed_at h at x within) ∙ ap (var_at h) (sym same)
+  | inr differ ↦ ap (λ (e : Entry). e.var) (keyed_same h at x k differ)
+])
+
+pub placed_once : (h : List Entry) (p : List ℕ) → Placed h p → (v w : ℕ) → v < length p → w < length p → get_or p v 0 ≡ get_or p w 0 → v ≡ w
+placed_once h p placed v w within_v within_w same =
+    sym (placed.variable v (omega (arith, placed.count))) ∙ ap (var_at h) same ∙ placed.variable w (omega (arith, placed.count))
+
+pub keyed_keys : (h : List Entry) (p : List ℕ) (v at x : ℕ) → Placed h p → v < length h → get_or p v 0 ≡ at → keys (keyed h at x) p ≡ set (keys h p) v x
+keyed_keys h p v at x placed within is =
+    let in_p : v < length p = omega (arith, placed.count) in
+    let in_h : at < length h = omega (arith, placed.placed v within) in
+    let count : length (keys (keyed h at x) p) ≡ length (set (keys h p) v x) = keys_count (keyed h at x) p ∙ sym (length-set (keys h p) v x ∙ keys_count h p) in
+    ext_get_or 0 (keys (keyed h at x) p) (set (keys h p) v x) count (λ u small.
+    let there : u < length p = omega (arith, keys_count (keyed h at x) p) in
+    key_of (keyed h at x) p u there ∙ elim (cases_eq u v) [
+      | inl same ↦
+          ap (λ (w : ℕ). key_at (keyed h at x) (get_or p w 0)) same
+          ∙ ap (key_at (keyed h at x)) is
+          ∙ ap (λ (e : Entry). e.key) (keyed_at h at x in_h)
+          ∙ sym (ap (λ (w : ℕ). get_or (set (keys h p) v x) w 0) same ∙ get_or-set_same (keys h p) v x 0 (omega (arith, keys_count h p)))
+      | inr differ ↦
+          let apart : get_or p u 0 ≢ at = λ e. differ (placed_once h p placed u v there in_p (e ∙ sym is)) in
+          ap (λ (e : Entry). e.key) (keyed_same h at x (get_or p u 0) apart) ∙ sym (key_of h p u there) ∙ sym (get_or-set_other (keys h p) v u x 0 differ)
+    ])
+
+-- behind the first m
+pub keyed_behind : (h : List Entry) (m at x : ℕ) → m ≤ at → Ordered (rank_at h) m 0 → Ordered (rank_at (keyed h at x)) m 0
+keyed_behind h m at x behind ordered = same_order (rank_at h) (rank_at (keyed h at x)) m (λ k small. ap rank (keyed_same h at x k (omega arith))) ordered
+
+-- among them, to a higher one
+pub keyed_up : (h : List Entry) (m at x : ℕ) → at < length h → key_at h at ≤ x → Ordered (rank_at h) m 0 → UpFrom (rank_at (keyed h at x)) m at
+keyed_up h m at x within more ordered =
+    let higher : rank_at h at ≤ rank_at (keyed h at x) at = rw (keyed_at h at x within) (omega arith) in
+    raised_up (rank_at h) (rank_at (keyed h at x)) m at (λ k differ. ap rank (keyed_same h at x k differ)) higher ordered
+
+pub keyed_heap : (h : List Entry) (p : List ℕ) (m v at x : ℕ) → IsHeap h p m → v < length h → get_or p v 0 ≡ at → m ≤ at → x < 2 ^ 60 → IsHeap (keyed h at x) p m
+keyed_heap h p m v at x heap within is behind fits = record {
+  placed = keyed_placed h p at x heap.placed (omega (arith, heap.placed.placed v within));
+  within = omega (arith, heap.within, keyed_count h at x);
+  few = omega (arith, heap.few, keyed_count h at x);
+  small = λ u. rw (keyed_keys h p v at x heap.placed within is) (below_limit (keys h p) v x u (2 ^ 60) heap.small fits);
+  ordered = keyed_behind h m at x behind heap.ordered;
+}
+
+-- the same of an entry that was read before
+pub written_key : (h : List Entry) (at x : ℕ) (e : Entry) → at < length h → e ≡ get_or h at e → set h at (record { key = x; var = e.var }) ≡ keyed h at x
+written_key h at x e within is = ap (λ (r : Entry). set h at (with_key x r)) (get_or_read h at e within is no_entry)
+
+pub place_read : (p : List ℕ) (i v at : ℕ) → i < length p → i ≡ v → at ≡ get_or p i at → get_or p v 0 ≡ at
+place_read p i v at within same is = sym (get_or_read p i at within is 0 ∙ ap (λ (x : ℕ). get_or p x 0) same)
+
+-- the activity of a variable, by its place
+pub key_there : (h : List Entry) (p : List ℕ) (m v at : ℕ) → IsHeap h p m → v < length h → get_or p v 0 ≡ at → key_at h at ≡ get_or (keys h p) v 0
+key_there h p m v at heap within is = sym (key_of h p v (omega (arith, heap.placed.count)) ∙ ap (key_at h) is)
+
+pub behind_those : (p : List ℕ) (m v : ℕ) → v < length p → get_or (flags m p) v false ≡ false → m ≤ get_or p v 0
+behind_those p m v within flag = elim (cases_lt (get_or p v 0) m) [
+  | inl less ↦ absurd (false≢true (sym flag ∙ flag_at m p v within ∙ below_test (get_or p v 0) m less))
+  | inr more ↦ more
+]
 
 -- a smaller scale
 
@@ -122,45 +235,62 @@ scaled_at a v = elim (cases_lt v (length a)) [
 pub scaled_small : (a : List ℕ) (v : ℕ) → ((w : ℕ) → get_or a w 0 < 2 ^ 61) → get_or (map (λ x. x / 2 ^ 40) a) v 0 < 2 ^ 60
 scaled_small a v small = omega (arith, scaled_at a v, small v)
 
-pub scaled_list : (a b : List ℕ) (n : ℕ) → length b ≡ length a → length a ≤ n → ((k : ℕ) → k < n → get_or b k 0 ≡ get_or a k 0 / 2 ^ 40) → b ≡ map (λ x. x / 2 ^ 40) a
-scaled_list a b n count all each = ext_get_or 0 b (map (λ x. x / 2 ^ 40) a) (count ∙ sym (length-map a (λ (x : ℕ). x / 2 ^ 40))) (λ k small. each k (omega arith) ∙ sym (scaled_at a k))
+-- an entry past the end has activity 0
+scaled_entry : (h : List Entry) (k : ℕ) → key_at (map scaled h) k ≡ key_at h k / 2 ^ 40
+scaled_entry h k = elim (cases_lt k (length h)) [
+  | inl within ↦ ap (λ (e : Entry). e.key) (get_or-map scaled h k no_entry no_entry within)
+  | inr past ↦
+      let e : get_or (map scaled h) k no_entry ≡ no_entry = get_or_past (map scaled h) k no_entry (omega (arith, length-map h scaled)) in
+      let f : get_or h k no_entry ≡ no_entry = get_or_past h k no_entry past in
+      ap (λ (x : Entry). x.key) e ∙ sym (ap (λ (x : Entry). x.key / 2 ^ 40) f)
+]
 
--- ranks of variables that were read from the list
+pub scaled_entries : (h h' : List Entry) (n : ℕ) → length h' ≡ length h → length h ≤ n → ((k : ℕ) → k < n → get_or h' k no_entry ≡ scaled (get_or h k no_entry)) → h' ≡ map scaled h
+scaled_entries h h' n count all each = ext_get_or no_entry h' (map scaled h) (count ∙ sym (length-map h scaled)) (λ k small.
+    each k (omega arith) ∙ sym (get_or-map scaled h k no_entry no_entry (omega arith)))
 
-pub above_read : (a h : List ℕ) (i j x y : ℕ) → i < length h → j < length h → x ≡ get_or h i x → y ≡ get_or h j y → rank a y < rank a x → rank_at a h j < rank_at a h i
-above_read a h i j x y within_i within_j read_x read_y above =
-    let ex : x ≡ get_or h i 0 = get_or_read h i x within_i read_x 0 in
-    let ey : y ≡ get_or h j 0 = get_or_read h j y within_j read_y 0 in
-    subst (λ (z : ℕ). rank a (get_or h j 0) < rank a z) ex (subst (λ (z : ℕ). rank a z < rank a x) ey above)
+pub scaled_placed : (h : List Entry) (p : List ℕ) → Placed h p → Placed (map scaled h) p
+scaled_placed h p placed = placed_again h (map scaled h) p placed (length-map h scaled) (λ k small. ap (λ (e : Entry). e.var) (get_or-map scaled h k no_entry no_entry small))
+
+pub scaled_keys : (h : List Entry) (p : List ℕ) → keys (map scaled h) p ≡ map (λ x. x / 2 ^ 40) (keys h p)
+scaled_keys h p =
+    let a : List ℕ = keys h p in
+    ext_get_or 0 (keys (map scaled h) p) (map (λ x. x / 2 ^ 40) a) (keys_count (map scaled h) p ∙ sym (length-map a (λ (x : ℕ). x / 2 ^ 40) ∙ keys_count h p)) (λ v small.
+    let within : v < length p = omega (arith, keys_count (map scaled h) p) in
+    key_of (map scaled h) p v within ∙ scaled_entry h (get_or p v 0) ∙ ap (λ (x : ℕ). x / 2 ^ 40) (sym (key_of h p v within)) ∙ sym (scaled_at a v))
 
 -- lists that grow by one element
 
 pub one_more_copy {ℓ} : {X : Type ℓ} → (xs ys : List X) (x : X) (k : ℕ) → ys ≡ xs ++ replicate k x → ys ++ x ∷ [] ≡ xs ++ replicate (k + 1) x
 one_more_copy xs ys x k is = ap (λ zs. zs ++ x ∷ []) is ∙ append_assoc xs (replicate k x) (x ∷ []) ∙ ap (λ zs. xs ++ zs) (replicate-append-replicate k 1 x)
 
+pub none_added : (h : List Entry) (p : List ℕ) (n : ℕ) → n ≡ length h → Adds n h p h p
+none_added h p n is =
+    let none : n - length h ≡ 0 = omega arith in
+    record {
+      flags = λ m within. sym (ap (λ (k : ℕ). flags m p ++ replicate k false) none ∙ append-nil (flags m p));
+      keys = sym (ap (λ (k : ℕ). keys h p ++ replicate k 0) none ∙ append-nil (keys h p));
+    }
+
+pub one_more_added : (h h' : List Entry) (p p' : List ℕ) (i : ℕ) → length h ≤ i → length h' ≡ i → Placed h' p' → Adds i h p h' p' → Adds (i + 1) h p (h' ++ newcomer i ∷ []) (p' ++ i ∷ [])
+one_more_added h h' p p' i some count placed adds =
+    let more : i + 1 - length h ≡ i - length h + 1 = omega arith in
+    let grown : keys (h' ++ newcomer i ∷ []) (p' ++ i ∷ []) ≡ keys h' p' ++ 0 ∷ [] = subst (λ (x : ℕ). keys (h' ++ newcomer x ∷ []) (p' ++ x ∷ []) ≡ keys h' p' ++ 0 ∷ []) count (grown_keys h' p' placed) in
+    record {
+      flags = λ m within. grown_flags p' m i (omega arith) ∙ one_more_copy (flags m p) (flags m p') false (i - length h) (adds.flags m within) ∙ ap (λ (k : ℕ). flags m p ++ replicate k false) (sym more);
+      keys = grown ∙ one_more_copy (keys h p) (keys h' p') 0 (i - length h) adds.keys ∙ ap (λ (k : ℕ). keys h p ++ replicate k 0) (sym more);
+    }
+
 -- after a change of scale and a new order
 
-pub heap_again : (h p a h' p' a' : List ℕ) (m : ℕ) → IsHeap h p a m → Placed h' p' → length h' ≡ length h → length a' ≡ length a → ((v : ℕ) → get_or a' v 0 < 2 ^ 60) → Ordered (rank_at a' h') m 0 → IsHeap h' p' a' m
-heap_again h p a h' p' a' m heap placed count_h count_a small ordered = record {
-  placed = placed;
-  within = omega (arith, heap.within);
-  few = omega (arith, heap.few);
-  count = omega (arith, heap.count);
-  small = small;
+pub heap_again : (h mid h' : List Entry) (p p' : List ℕ) (m : ℕ) → IsHeap h p m → length mid ≡ length h → Rearranged m mid p h' p' → ((v : ℕ) → get_or (keys mid p) v 0 < 2 ^ 60) → Ordered (rank_at h') m 0 → IsHeap h' p' m
+heap_again h mid h' p p' m heap count same small ordered = record {
+  placed = same.placed;
+  within = omega (arith, heap.within, same.count);
+  few = omega (arith, heap.few, same.count);
+  small = λ v. rw same.keys (small v);
   ordered = ordered;
 }
-
-pub below_limit : (a : List ℕ) (v x u limit : ℕ) → ((w : ℕ) → get_or a w 0 < limit) → x < limit → get_or (set a v x) u 0 < limit
-below_limit a v x u limit small fits = elim (cases_eq u v) [
-  | inl same ↦ elim (cases_lt v (length a)) [
-    | inl within ↦ let e : get_or (set a v x) v 0 ≡ x = get_or-set_same a v x 0 within in subst (λ (y : ℕ). get_or (set a v x) y 0 < limit) (sym same) (omega arith)
-    | inr past ↦ let e : get_or (set a v x) u 0 ≡ 0 = get_or_past (set a v x) u 0 (omega (arith, length-set a v x)) in omega arith
-  ]
-  | inr differ ↦ let e : get_or (set a v x) u 0 ≡ get_or a u 0 = get_or-set_other a v u x 0 differ in omega (arith, small u)
-]
-
-pub scaled_count : (a : List ℕ) → length (map (λ x. x / 2 ^ 40) a) ≡ length a
-scaled_count a = length-map a (λ (x : ℕ). x / 2 ^ 40)
 
 -- a quotient of a thousandfold, in parts that fit
 
@@ -177,9 +307,6 @@ thousandfold_below b d small low =
 
 -- the queue after a decay
 
-below_test : (a b : ℕ) → a < b → nat_lt a b ≡ true
-below_test a b e = grind (arith, nat_tests)
-
 pub decayed_small : (q : Queue) (b : ℕ) → b ≡ quotient_up (q.bump * 1000) q.decay → b < 2 ^ 60 → record q { bump = b } ≡ decayed q
 decayed_small q b is small =
     let t : nat_lt (quotient_up (q.bump * 1000) q.decay) (2 ^ 60) ≡ true = below_test (quotient_up (q.bump * 1000) q.decay) (2 ^ 60) (subst (λ (x : ℕ). x < 2 ^ 60) is small) in
@@ -189,6 +316,18 @@ pub decayed_large : (q : Queue) (b n : ℕ) (f : List Bool) (a : List ℕ) → b
 decayed_large q b n f a is large same scaled bump =
     let t : nat_lt (quotient_up (q.bump * 1000) q.decay) (2 ^ 60) ≡ false = from_test (quotient_up (q.bump * 1000) q.decay) (2 ^ 60) (subst (λ (x : ℕ). 2 ^ 60 ≤ x) is large) in
     rw (same, scaled, bump, is, t) refl
+
+-- the queue after a bump
+
+pub bumped_small : (q : Queue) (v x : ℕ) (f : List Bool) (a : List ℕ) → x ≡ activity_of q v + q.bump → x < 2 ^ 60 → f ≡ q.available → a ≡ set q.activities v x → record { available = f; activities = a; bump = q.bump; decay = q.decay } ≡ bumped v q
+bumped_small q v x f a is small same raised =
+    let t : nat_lt (activity_of q v + q.bump) (2 ^ 60) ≡ true = below_test (activity_of q v + q.bump) (2 ^ 60) (subst (λ (y : ℕ). y < 2 ^ 60) is small) in
+    rw (same, raised, is, t) refl
+
+pub bumped_large : (q : Queue) (v x n : ℕ) (f : List Bool) (a : List ℕ) → x ≡ activity_of q v + q.bump → 2 ^ 60 ≤ x → f ≡ q.available → a ≡ map (λ y. y / 2 ^ 40) (set q.activities v x) → n ≡ max (q.bump / 2 ^ 40) 1 → record { available = f; activities = a; bump = n; decay = q.decay } ≡ bumped v q
+bumped_large q v x n f a is large same raised bump =
+    let t : nat_lt (activity_of q v + q.bump) (2 ^ 60) ≡ false = from_test (activity_of q v + q.bump) (2 ^ 60) (subst (λ (y : ℕ). 2 ^ 60 ≤ y) is large) in
+    rw (same, raised, bump, is, t) refl
 
 -- a variable comes among the first, or leaves them
 
@@ -221,9 +360,31 @@ taken_down r s last i within ex fits ordered = record {
       omega (arith, ex.others k (omega arith) (omega arith), ex.others (parent i) (omega arith) (omega arith), ordered k pos (omega arith) (omega arith), ordered i some (omega arith) (omega arith));
 }
 
-pub placed_once : (h p : List ℕ) → Placed h p → (v w : ℕ) → v < length p → w < length p → get_or p v 0 ≡ get_or p w 0 → v ≡ w
-placed_once h p placed v w within_v within_w same =
-    sym (placed.variable v (omega (arith, placed.count))) ∙ ap (λ (k : ℕ). get_or h k 0) same ∙ placed.variable w (omega (arith, placed.count))
+-- where the variable that comes or goes was exchanged with the one behind the first
+
+pub given_up : (r s : ℕ → ℕ) (m i : ℕ) → m ≤ i → Exchanges r s i m → Ordered r m 0 → UpFrom s (m + 1) m
+given_up r s m i behind ex ordered = record {
+  others = λ k pos small differ. omega (arith, ex.others k (omega arith) differ, ex.others (parent k) (omega arith) (omega arith), ordered k pos (omega arith) (omega arith));
+  across = λ some k pos small under. absurd (omega arith);
+}
+
+pub heap_without_last : (h h' : List Entry) (p p' : List ℕ) (m i : ℕ) → IsHeap h p m → i < m → i ≡ m - 1 → Exchanged h p h' p' i (m - 1) → IsHeap h' p' (m - 1)
+heap_without_last h h' p p' m i heap within last ex = record {
+  placed = ex.placed;
+  within = omega (arith, heap.within, ex.count);
+  few = omega (arith, heap.few, ex.count);
+  small = λ v. rw ex.keys (heap.small v);
+  ordered = λ k pos small low. omega (arith, ex.ranks.others k (omega arith) (omega arith), ex.ranks.others (parent k) (omega arith) (omega arith), heap.ordered k pos (omega arith) low);
+}
+
+pub heap_of : (h h' h'' : List Entry) (p p' p'' : List ℕ) (m n i j : ℕ) → IsHeap h p m → Exchanged h p h' p' i j → Rearranged n h' p' h'' p'' → n ≤ length h → Ordered (rank_at h'') n 0 → IsHeap h'' p'' n
+heap_of h h' h'' p p' p'' m n i j heap ex same within ordered = record {
+  placed = same.placed;
+  within = omega (arith, same.count, ex.count);
+  few = omega (arith, heap.few, same.count, ex.count);
+  small = λ v. rw (same.keys, ex.keys) (heap.small v);
+  ordered = ordered;
+}
 
 -- the one in front goes before all others
 
@@ -236,24 +397,30 @@ flag_true m p u flag = elim (cases_lt u (length p)) [
   | inr past ↦ let no : get_or (flags m p) u false ≡ false = get_or_past (flags m p) u false (omega (arith, flags_count m p)) in absurd (false≢true (sym no ∙ flag))
 ]
 
-rank_says : (a : List ℕ) (u v : ℕ) → u < largest → v < largest → rank a u ≤ rank a v → (get_or a u 0 < get_or a v 0) ⊎ ((get_or a u 0 ≡ get_or a v 0) × (v ≤ u))
-rank_says a u v small_u small_v order = elim (cases_lt (get_or a u 0) (get_or a v 0)) [
+rank_says : (a b : Entry) → a.var < largest → b.var < largest → rank a ≤ rank b → (a.key < b.key) ⊎ ((a.key ≡ b.key) × (b.var ≤ a.var))
+rank_says a b small_a small_b order = elim (cases_lt a.key b.key) [
   | inl less ↦ inl less
   | inr more ↦ inr (omega arith, omega arith)
 ]
 
-pub front_first : (h p a : List ℕ) (m b d : ℕ) → IsHeap h p a m → 0 < m → IsFirst (record { available = flags m p; activities = a; bump = b; decay = d }) (get_or h 0 0)
-front_first h p a m b d heap some =
+pub front_first : (h : List Entry) (p : List ℕ) (m b d : ℕ) → IsHeap h p m → 0 < m → IsFirst (record { available = flags m p; activities = keys h p; bump = b; decay = d }) (var_at h 0)
+front_first h p m b d heap some =
     let within : 0 < length h = omega (arith, heap.within) in
-    let at : get_or p (get_or h 0 0) 0 ≡ 0 = heap.placed.position 0 within in
-    let listed : get_or h 0 0 < length h = heap.placed.listed 0 within in
+    let at : get_or p (var_at h 0) 0 ≡ 0 = heap.placed.position 0 within in
+    let listed : var_at h 0 < length h = heap.placed.listed 0 within in
+    let key : get_or (keys h p) (var_at h 0) 0 ≡ key_at h 0 = key_of h p (var_at h 0) (omega (arith, heap.placed.count)) ∙ ap (key_at h) at in
     record {
-      available = flag_at m p (get_or h 0 0) (omega (arith, heap.placed.count)) ∙ below_test (get_or p (get_or h 0 0) 0) m (omega arith);
+      available = flag_at m p (var_at h 0) (omega (arith, heap.placed.count)) ∙ below_test (get_or p (var_at h 0) 0) m (omega arith);
       first = λ u flag.
           let says : (u < length p) × (get_or p u 0 < m) = flag_true m p u flag in
-          let there : get_or h (get_or p u 0) 0 ≡ u = heap.placed.variable u (omega (arith, says.0, heap.placed.count)) in
-          let order : rank_at a h (get_or p u 0) ≤ rank_at a h 0 = top_greatest (rank_at a h) m (get_or p u 0) says.1 heap.ordered in
-          rank_says a u (get_or h 0 0) (omega (arith, says.0, heap.placed.count, heap.few)) (omega (arith, heap.few)) (subst (λ (x : ℕ). rank a x ≤ rank a (get_or h 0 0)) there order);
+          let there : var_at h (get_or p u 0) ≡ u = heap.placed.variable u (omega (arith, says.0, heap.placed.count)) in
+          let order : rank_at h (get_or p u 0) ≤ rank_at h 0 = top_greatest (rank_at h) m (get_or p u 0) says.1 heap.ordered in
+          let key_u : get_or (keys h p) u 0 ≡ key_at h (get_or p u 0) = key_of h p u says.0 in
+          let both = rank_says (get_or h (get_or p u 0) no_entry) (get_or h 0 no_entry) (omega (arith, there, says.0, heap.placed.count, heap.few)) (omega (arith, heap.few)) order in
+          elim both [
+            | inl less ↦ inl (omega (arith, key, key_u))
+            | inr equal ↦ inr (omega (arith, key, key_u, equal.0), omega (arith, there, equal.1))
+          ];
     }
 
 pub none_flagged : (p : List ℕ) (v : ℕ) → get_or (flags 0 p) v false ≡ false
@@ -267,19 +434,19 @@ set_again xs v b is = ap (λ (x : Bool). set xs v x) (sym is) ∙ set-get_or xs 
 
 -- the flags after a variable was taken out, or put in
 
-pub taken_flags : (h p p' : List ℕ) (m i : ℕ) → Placed h p → i < m → m ≤ length h → Transposes p p' i (m - 1) → flags (m - 1) p' ≡ set (flags m p) (get_or h i 0) false
+pub taken_flags : (h : List Entry) (p p' : List ℕ) (m i : ℕ) → Placed h p → i < m → m ≤ length h → Transposes p p' i (m - 1) → flags (m - 1) p' ≡ set (flags m p) (var_at h i) false
 taken_flags h p p' zero i placed within few t = absurd (omega arith)
 taken_flags h p p' (suc n) i placed within few t =
     let e : suc n - 1 ≡ n = omega arith in
     let moved : Transposes p p' i n = subst (λ (x : ℕ). Transposes p p' i x) e t in
-    let listed : get_or h i 0 < length p = omega (arith, placed.listed i (omega arith), placed.count) in
-    ap (λ (x : ℕ). flags x p') e ∙ flags_taken n i (get_or h i 0) p p' within listed (placed.position i (omega arith)) (placed_once h p placed) moved
+    let listed : var_at h i < length p = omega (arith, placed.listed i (omega arith), placed.count) in
+    ap (λ (x : ℕ). flags x p') e ∙ flags_taken n i (var_at h i) p p' within listed (placed.position i (omega arith)) (placed_once h p placed) moved
 
-pub given_flags : (h p p' : List ℕ) (m i : ℕ) → Placed h p → m ≤ i → i < length h → Transposes p p' i m → flags (m + 1) p' ≡ set (flags m p) (get_or h i 0) true
+pub given_flags : (h : List Entry) (p p' : List ℕ) (m i : ℕ) → Placed h p → m ≤ i → i < length h → Transposes p p' i m → flags (m + 1) p' ≡ set (flags m p) (var_at h i) true
 given_flags h p p' m i placed behind within t =
     let e : m + 1 ≡ suc m = omega arith in
-    let listed : get_or h i 0 < length p = omega (arith, placed.listed i within, placed.count) in
-    ap (λ (x : ℕ). flags x p') e ∙ flags_given m i (get_or h i 0) p p' behind listed (placed.position i within) (placed_once h p placed) t
+    let listed : var_at h i < length p = omega (arith, placed.listed i within, placed.count) in
+    ap (λ (x : ℕ). flags x p') e ∙ flags_given m i (var_at h i) p p' behind listed (placed.position i within) (placed_once h p placed) t
 
 pub one_fewer : (r : ℕ → ℕ) (m : ℕ) → 0 < m → Ordered r m 0 → Ordered r (m - 1 + 1) 0
 one_fewer r m some ordered = let e : m - 1 + 1 ≡ m = omega arith in subst (λ (x : ℕ). Ordered r x 0) (sym e) ordered
@@ -298,9 +465,9 @@ one_fewer_true f u within flag =
     let one : cond {A = ℕ} (get_or f u false) 1 0 ≡ 1 = ap (λ (b : Bool). cond {A = ℕ} b 1 0) flag in
     omega arith
 
-pub front_fewer : (h p a : List ℕ) (m : ℕ) → IsHeap h p a m → 0 < m → count_by (λ b. b) (set (flags m p) (get_or h 0 0) false) + 1 ≡ count_by (λ b. b) (flags m p)
-front_fewer h p a m heap some =
+pub front_fewer : (h : List Entry) (p : List ℕ) (m : ℕ) → IsHeap h p m → 0 < m → count_by (λ b. b) (set (flags m p) (var_at h 0) false) + 1 ≡ count_by (λ b. b) (flags m p)
+front_fewer h p m heap some =
     let within : 0 < length h = omega (arith, heap.within) in
-    let at : get_or p (get_or h 0 0) 0 ≡ 0 = heap.placed.position 0 within in
-    let listed : get_or h 0 0 < length p = omega (arith, heap.placed.listed 0 within, heap.placed.count) in
-    one_fewer_true (flags m p) (get_or h 0 0) (omega (arith, flags_count m p)) (flag_at m p (get_or h 0 0) listed ∙ below_test (get_or p (get_or h 0 0) 0) m (omega arith))
+    let at : get_or p (var_at h 0) 0 ≡ 0 = heap.placed.position 0 within in
+    let listed : var_at h 0 < length p = omega (arith, heap.placed.listed 0 within, heap.placed.count) in
+    one_fewer_true (flags m p) (var_at h 0) (omega (arith, flags_count m p)) (flag_at m p (var_at h 0) listed ∙ below_test (get_or p (var_at h 0) 0) m (omega arith))

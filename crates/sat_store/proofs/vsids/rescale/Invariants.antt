@@ -1,5 +1,9 @@
-use Rattle.std.proofs.Common.{◌≡◌, ◌<◌, ◌≤◌, ◌/◌, ◌^◌, ℕ, get_or}
+use Rattle.std.proofs.Common.{◌≡◌, ◌<◌, ◌≤◌, ℕ, get_or}
+use Rattle.sat_store.specs.heap.Heap.{no_entry, scaled}
 use Rattle.sat_store.proofs.vsids.rescale.Given as goal
 
-abbrev pub invariant-loop-activity : goal.invariant-loop-activity
-invariant-loop-activity l = ((k : ℕ) → k < l.activity-index → get_or l.activity-items k 0 ≡ get_or l.fn.activities.items k 0 / 2 ^ 40) × ((k : ℕ) → l.activity-index ≤ k → get_or l.activity-items k 0 ≡ get_or l.fn.activities.items k 0)
+abbrev pub invariant-loop-entry : goal.invariant-loop-entry
+invariant-loop-entry l = record {
+  done : (k : ℕ) → k < l.entry-index → get_or l.entry-items k no_entry ≡ scaled (get_or l.fn.heap.items k no_entry);
+  left : (k : ℕ) → l.entry-index ≤ k → get_or l.entry-items k no_entry ≡ get_or l.fn.heap.items k no_entry;
+}

@@ -1,8 +1,10 @@
 use Rattle.std.proofs.Common.{ℕ, List, refl, subst}
 use Rattle.std.proofs.lemmas.Result.{err_from_is_err_and}
-use Rattle.sat_base.specs.device.Device.{Takes}
+use Rattle.sat_base.specs.device.Device.{Breaks, Takes}
+use Rattle.sat_base.specs.script.Script.{Ask}
+use Rattle.certify.specs.answers.AnswerForms.{named_literals}
 use Rattle.sat_checker.specs.matching.Expected.{Unknown}
-use Rattle.certify.proofs.lemmas.serving.SessionCalls.{answers_say, asked_of, memory_says, solver_says, sought_writes, takes_none, took_both}
+use Rattle.certify.proofs.lemmas.serving.SessionCalls.{answers_say, ask_cut, ask_told, asked_of, memory_says, nothing_stops, solver_says, sought_writes, takes_none, took_both}
 use Rattle.certify.specs.serving.Calls.{proof_in}
 use Rattle.certify.proofs.serving.asking.answer_ask.Goals as goal
 
@@ -39,3 +41,30 @@ returns-clause-written g c =
       takes_none (g.A.CountedWrite.seen c.args.answers.now) (g.A.CountedWrite.seen c.write_answer.new.answers) _ c.in_ok-write_answer.ensures.takes,
       took_both g.C.CountedWrite.seen (proof_in s.solver) (proof_in c.ask.new.solver) (proof_in c.assume.new.solver) (sought_writes g.C.CountedWrite.seen s.solver c.ask.new.solver c.args.literals.now c.ask.new.page.text.items s.budget c.in_ok-report.report c.in_ok-report.ensures.sought) (c.in_ok-assume.ensures.assumed.did Unknown).took,
     )
+
+pub returns-in_err-report-clause-stops : goal.returns-in_err-report-clause-stops
+returns-in_err-report-clause-stops g c left = nothing_stops _ c.args.session.now (Ask (named_literals c.args.literals.now)) left (g.A.CountedWrite.seen c.args.answers.now)
+
+pub returns-in_err-write_answer-clause-stops : goal.returns-in_err-write_answer-clause-stops
+returns-in_err-write_answer-clause-stops g c left =
+    let p = err_from_is_err_and c.from_residual-in_err-write_answer.result c.from_residual-in_err-write_answer.ensures.1 in
+    let u = g.A.CountedWrite.seen c.args.answers.now in
+    let v = g.A.CountedWrite.seen c.write_answer.new.answers in
+    let cut = subst (λ (text : List ℕ). Breaks u v text) c.deref.ensures.value c.in_err-write_answer.ensures.breaks in
+    rw p.1 (λ j live means free. ask_cut g.C.CountedWrite.seen c.args.session.now c.ask.new.solver c.args.literals.now c.ask.new.page.text.items c.in_ok-report.report u v c.in_ok-report.ensures.sought left j live means free cut)
+
+pub returns-in_err-assume-clause-stops : goal.returns-in_err-assume-clause-stops
+returns-in_err-assume-clause-stops g c left =
+    let p = err_from_is_err_and c.from_residual-in_err-assume.result c.from_residual-in_err-assume.ensures.1 in
+    let u = g.A.CountedWrite.seen c.args.answers.now in
+    let v = g.A.CountedWrite.seen c.write_answer.new.answers in
+    let told = subst (λ (text : List ℕ). Takes u v text) c.deref.ensures.value c.in_ok-write_answer.ensures.takes in
+    rw p.1 (λ j live means free. ask_told g.C.CountedWrite.seen c.args.session.now c.ask.new.solver c.args.literals.now c.ask.new.page.text.items c.in_ok-report.report u v c.in_ok-report.ensures.sought left j live means free told)
+
+pub returns-in_err-push-clause-stops : goal.returns-in_err-push-clause-stops
+returns-in_err-push-clause-stops g c left =
+    let p = err_from_is_err_and c.from_residual-in_err-push.result c.from_residual-in_err-push.ensures.1 in
+    let u = g.A.CountedWrite.seen c.args.answers.now in
+    let v = g.A.CountedWrite.seen c.write_answer.new.answers in
+    let told = subst (λ (text : List ℕ). Takes u v text) c.deref.ensures.value c.in_ok-write_answer.ensures.takes in
+    rw p.1 (λ j live means free. ask_told g.C.CountedWrite.seen c.args.session.now c.ask.new.solver c.args.literals.now c.ask.new.page.text.items c.in_ok-report.report u v c.in_ok-report.ensures.sought left j live means free told)

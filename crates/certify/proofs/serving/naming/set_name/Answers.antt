@@ -1,7 +1,7 @@
 use Rattle.std.proofs.Common.{◌+◌, [], ◌∷◌}
 use Rattle.sat_base.specs.script.Judge.{accepted}
 use Rattle.certify.specs.serving.Obeying.{command_to, due_to, may_to}
-use Rattle.certify.proofs.lemmas.serving.CallFaults.{name_fails, name_fault}
+use Rattle.certify.proofs.lemmas.serving.CallFaults.{name_caused, name_fails, name_fault}
 use Rattle.certify.proofs.lemmas.serving.Obeys.{name_obeyed}
 use Rattle.certify.proofs.lemmas.serving.SessionCalls.{did_ready}
 use Rattle.certify.proofs.serving.naming.set_name.Goals as goal
@@ -21,3 +21,8 @@ pub returns-in-Err-clause-fails : goal.returns-in-Err-clause-fails
 returns-in-Err-clause-fails g c =
     let names = (c.args.user + 1) ∷ [] in
     rw c.fault_of.ensures (name_fails g.C.CountedWrite.seen c.args.solver.now c.change_name.new.solver c.args.user (accepted (command_to c.args.state names)) (due_to c.args.state names) (may_to c.args.state (c.args.user + 1)) c.requires.ready c.requires.free c.in-Err.error c.in-Err.ensures)
+
+pub returns-in-Err-clause-cause : goal.returns-in-Err-clause-cause
+returns-in-Err-clause-cause g c =
+    let names = (c.args.user + 1) ∷ [] in
+    rw c.fault_of.ensures (name_caused g.C.CountedWrite.seen c.args.solver.now c.change_name.new.solver c.args.user (accepted (command_to c.args.state names)) (due_to c.args.state names) (may_to c.args.state (c.args.user + 1)) c.requires.ready c.requires.free c.in-Err.error c.in-Err.ensures)

@@ -1,6 +1,8 @@
 use Rattle.sat_solver.specs.names.Refusing.{names_in}
 use Rattle.certify.specs.declared.judge.NameState.TheVariants as state
-use Rattle.certify.proofs.lemmas.serving.Lent.{ask_allowed, ask_carried, clause_allowed, clause_carried, clause_writes, lent_hides, lent_samples, lent_witnesses, names_carried, names_write}
+use Rattle.certify.proofs.lemmas.serving.Lent.{ask_allowed, ask_carried, ask_stops, clause_allowed, clause_carried, clause_writes, lent_hides, lent_samples, lent_witnesses, names_carried, names_write}
+use Rattle.certify.specs.serving.Standing.{spelled_by}
+use Rattle.certify.proofs.lemmas.serving.SessionCalls.{nothing_stops}
 use Rattle.certify.proofs.serving.taking.carry_out.Goals as goal
 
 pub add_clause-requires-clause-ready : goal.add_clause-requires-clause-ready
@@ -56,3 +58,19 @@ returns-in-Sample-clause-carried g c =
 pub returns-in-Sample-clause-written : goal.returns-in-Sample-clause-written
 returns-in-Sample-clause-written g c =
     names_write c.args.command g.C.CountedWrite.seen c.args.session.now c.requires.goes_on c.set_names-in-Sample.result c.set_names-in-Sample.new.solver (g.A.CountedWrite.seen c.args.answers.now) state.Sampled (names_in c.args.command.literals.now) c.set_names-in-Sample.ensures.obeyed c.set_names-in-Sample.ensures.fails
+
+pub returns-in-Clause-clause-stops : goal.returns-in-Clause-clause-stops
+returns-in-Clause-clause-stops g c left = nothing_stops c.add_clause.result c.args.session.now (spelled_by c.args.command) left (g.A.CountedWrite.seen c.args.answers.now)
+
+pub returns-in-Ask-clause-stops : goal.returns-in-Ask-clause-stops
+returns-in-Ask-clause-stops g c left =
+    ask_stops c.args.command g.C.CountedWrite.seen c.args.session.now c.requires.goes_on c.answer_ask.result left (g.A.CountedWrite.seen c.args.answers.now) (g.A.CountedWrite.seen c.answer_ask.new.answers) c.in-Ask.is (c.answer_ask.ensures.stops left)
+
+pub returns-in-Hide-clause-stops : goal.returns-in-Hide-clause-stops
+returns-in-Hide-clause-stops g c left = nothing_stops c.set_names.result c.args.session.now (spelled_by c.args.command) left (g.A.CountedWrite.seen c.args.answers.now)
+
+pub returns-in-Witness-clause-stops : goal.returns-in-Witness-clause-stops
+returns-in-Witness-clause-stops g c left = nothing_stops c.set_names-in-Witness.result c.args.session.now (spelled_by c.args.command) left (g.A.CountedWrite.seen c.args.answers.now)
+
+pub returns-in-Sample-clause-stops : goal.returns-in-Sample-clause-stops
+returns-in-Sample-clause-stops g c left = nothing_stops c.set_names-in-Sample.result c.args.session.now (spelled_by c.args.command) left (g.A.CountedWrite.seen c.args.answers.now)

@@ -2,7 +2,8 @@ use Rattle.std.proofs.Common.{sym, subst}
 use Rattle.std.proofs.lemmas.Result.{err_from_is_err_and}
 use Rattle.certify.specs.declared.judge.names.Names.{Names}
 use Rattle.certify.specs.judge.Names.{Stands}
-use Rattle.certify.proofs.lemmas.serving.SessionCalls.{memory_says}
+use Rattle.certify.proofs.lemmas.serving.SessionCalls.{carried_stops, memory_says, on_err}
+use Rattle.certify.specs.serving.Standing.{spelled_by}
 use Rattle.certify.proofs.serving.taking.take_allowed.Goals as goal
 
 pub returns-in_err-accept-clause-written : goal.returns-in_err-accept-clause-written
@@ -13,3 +14,10 @@ returns-in_err-accept-clause-written g c =
 
 pub returns-clause-names : goal.returns-clause-names
 returns-clause-names g c = λ j d s l. c.in_ok-accept.ensures j d (subst (λ (n : Names). Stands n j) (sym c.carry_out.ensures.names) s) l
+
+pub returns-in_err-carry_out-clause-stops : goal.returns-in_err-carry_out-clause-stops
+returns-in_err-carry_out-clause-stops g c left = on_err _ _ (c.in_err-carry_out.ensures.stops left)
+
+pub returns-in_err-accept-clause-stops : goal.returns-in_err-accept-clause-stops
+returns-in_err-accept-clause-stops g c left =
+    on_err _ _ (carried_stops g.C.CountedWrite.seen c.args.session.now c.carry_out.new.session (spelled_by c.args.command) (g.A.CountedWrite.seen c.args.answers.now) (g.A.CountedWrite.seen c.carry_out.new.answers) left c.in_ok-carry_out.ensures.carried)

@@ -1,10 +1,15 @@
-use Rattle.std.proofs.Common.{◌≡◌, ◌+◌, None, Some, refl, sym, ap, subst, rules}
+use Rattle.std.proofs.lemmas.Result.{err_from_is_err_and}
+use Rattle.std.proofs.Common.{◌≡◌, ◌+◌, [], Err, None, Some, refl, sym, ap, subst, rules}
 use Rattle.certify.specs.declared.reading.ScriptEnd.{ScriptEnd}
 use Rattle.certify.specs.reading.Commands.{end_reading}
 use Rattle.certify.specs.serving.Calls.{proof_in}
+use Rattle.sat_base.specs.script.Script.{Clean, Malformed}
+use Rattle.certify.specs.run.Unfinished.{TookFront}
+use Rattle.certify.specs.serving.Standing.{StopsOver}
 use Rattle.certify.specs.serving.Whole.{ServesWhole}
 use Rattle.certify.proofs.lemmas.serving.SessionCalls.{took_none}
-use Rattle.certify.proofs.lemmas.serving.Through.{ends_asked, ends_clean, ends_malformed}
+use Rattle.certify.proofs.lemmas.serving.Through.{asked_stops, ends_asked, ends_clean, ends_malformed}
+use Rattle.certify.proofs.lemmas.serving.Stopping.{front_none}
 use Rattle.certify.proofs.serving.whole.serve_end.Goals as goal
 
 pub returns-in_default-clause-written : goal.returns-in_default-clause-written
@@ -37,3 +42,27 @@ returns-in_ok-tell_malformed-in-Malformed-clause-serves g c j at =
     let number : c.in-Some.number ≡ s.commands + 1 = search rules in
     subst (λ (e : ScriptEnd). ServesWhole g.C.CountedWrite.seen j (end_reading e) 0 (Some c.in-Some.number) s t a b) (sym c.in-Malformed.is)
     (ends_malformed g.C.CountedWrite.seen j s t a b c.in-Some.number number (ap (λ (x : _). x.solver) same) (ap (λ (x : _). x.commands) same) (ap (λ (x : _). x.refused) same) (ap (λ (x : _). x.asks) same) c.in_ok-tell_malformed-in-Malformed.ensures.told)
+
+pub returns-in_default-clause-stops : goal.returns-in_default-clause-stops
+returns-in_default-clause-stops g c = λ j at. front_none (c.args.session.now.commands + 1) j (end_reading c.args.end) (g.A.CountedWrite.seen c.args.answers.now)
+
+pub returns-in_err-answer_ask-in-Asked-clause-stops : goal.returns-in_err-answer_ask-in-Asked-clause-stops
+returns-in_err-answer_ask-in-Asked-clause-stops g c =
+    let p = err_from_is_err_and c.from_residual.result c.from_residual.ensures.1 in
+    let s = c.args.session.now in
+    let e = c.in_err-answer_ask-in-Asked.field-0.0 in
+    let u = g.A.CountedWrite.seen c.args.answers.now in
+    let v = g.A.CountedWrite.seen c.answer_ask.new.answers in
+    rw p.1 (subst (λ (x : ScriptEnd). StopsOver {T = Unit {0}} (Err e) s (end_reading x) u v) (sym c.in-Asked.is)
+    (asked_stops g.C.CountedWrite.seen {T = Unit {0}} (Err e) s u v (c.in_err-answer_ask-in-Asked.ensures.stops ([], Clean))))
+
+pub returns-in_err-tell_malformed-in-Malformed-clause-stops : goal.returns-in_err-tell_malformed-in-Malformed-clause-stops
+returns-in_err-tell_malformed-in-Malformed-clause-stops g c =
+    let p = err_from_is_err_and c.from_residual-in_err-tell_malformed-in-Malformed.result c.from_residual-in_err-tell_malformed-in-Malformed.ensures.1 in
+    let s = c.args.session.now in
+    let e = c.in_err-tell_malformed-in-Malformed.field-0.0 in
+    let u = g.A.CountedWrite.seen c.args.answers.now in
+    let v = g.A.CountedWrite.seen c.tell_malformed.new.answers in
+    let number : c.in-Some.number ≡ s.commands + 1 = search rules in
+    rw p.1 (subst (λ (x : ScriptEnd). StopsOver {T = Unit {0}} (Err e) s (end_reading x) u v) (sym c.in-Malformed.is)
+    (λ j at. subst (λ n. TookFront n j ([], Malformed) u v) number (c.in_err-tell_malformed-in-Malformed.ensures.stops j)))

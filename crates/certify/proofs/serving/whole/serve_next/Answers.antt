@@ -1,7 +1,12 @@
-use Rattle.std.proofs.Common.{refl}
+use Rattle.std.proofs.Common.{◌+◌, [], ◌∷◌, refl}
+use Rattle.sat_base.specs.script.Language.{onto_commands}
 use Rattle.certify.specs.serving.Calls.{proof_in}
 use Rattle.certify.proofs.lemmas.serving.SessionCalls.{took_none}
+use Rattle.certify.proofs.lemmas.serving.Stopping.{front_none}
 use Rattle.certify.proofs.serving.whole.serve_next.Goals as goal
 
 pub returns-then-session-clause-written : goal.returns-then-session-clause-written
 returns-then-session-clause-written g c = ((refl, refl), took_none g.C.CountedWrite.seen (proof_in c.args.session.now.solver))
+
+pub returns-then-session-clause-stops : goal.returns-then-session-clause-stops
+returns-then-session-clause-stops g c = λ x is left j at. front_none (c.args.session.now.commands + 1) j (onto_commands (x ∷ []) left) (g.A.CountedWrite.seen c.args.answers.now)

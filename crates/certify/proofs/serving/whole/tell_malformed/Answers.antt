@@ -1,7 +1,12 @@
-use Rattle.std.proofs.Common.{refl}
+use Rattle.std.proofs.Common.{◌≡◌, [], refl, subst, rules}
+use Rattle.sat_base.specs.device.Device.{Breaks}
+use Rattle.sat_base.specs.script.Script.{Malformed}
+use Rattle.certify.specs.answers.Answers.{malformed_line}
+use Rattle.certify.specs.run.Unfinished.{TookFront}
 use Rattle.std.proofs.lemmas.Result.{err_from_is_err_and}
 use Rattle.certify.specs.serving.Calls.{proof_in}
-use Rattle.certify.proofs.lemmas.serving.SessionCalls.{memory_says, took_none, written_of}
+use Rattle.certify.proofs.lemmas.serving.SessionCalls.{err_map, memory_says, on_err, took_none, written_of}
+use Rattle.certify.proofs.lemmas.serving.Stopping.{front_malformed, front_none}
 use Rattle.certify.proofs.serving.whole.tell_malformed.Goals as goal
 
 pub returns-in_err-push_malformed-clause-written : goal.returns-in_err-push_malformed-clause-written
@@ -14,3 +19,14 @@ returns-in_err-push_malformed-clause-written g c =
 pub returns-clause-written : goal.returns-clause-written
 returns-clause-written g c =
     written_of g.C.CountedWrite.seen c.write_answer.result (g.A.CountedWrite.seen c.args.answers.now) (g.A.CountedWrite.seen c.write_answer.new.answers) c.args.session.now.solver c.deref.result.now c.write_answer.ensures.takes c.write_answer.ensures.fails
+
+pub returns-in_err-push_malformed-clause-stops : goal.returns-in_err-push_malformed-clause-stops
+returns-in_err-push_malformed-clause-stops g c j = on_err _ _ (front_none c.args.number j ([], Malformed) (g.A.CountedWrite.seen c.args.answers.now))
+
+pub returns-clause-stops : goal.returns-clause-stops
+returns-clause-stops g c j =
+    let u = g.A.CountedWrite.seen c.args.answers.now in
+    let v = g.A.CountedWrite.seen c.write_answer.new.answers in
+    let line : c.deref.result.now ≡ malformed_line c.args.number = search rules in
+    err_map c.write_answer.result (Breaks u v c.deref.result.now) (TookFront c.args.number j ([], Malformed) u v)
+    (λ b. front_malformed c.args.number j u v (subst (Breaks u v) line b)) c.write_answer.ensures.breaks

@@ -1,68 +1,52 @@
-use Rattle.std.proofs.Common.{ℕ, ◌+◌, ◌-◌, ◌≤◌, ◌<◌, ◌≡◌, ◌++◌, ◌∙◌, Bool, true, false, List, ◌∷◌, length, take, replicate, set, reverse, sym, subst, arith}
-use Rattle.std.proofs.lemmas.Bool.Decides.{nat_tests}
-use Rattle.std.proofs.lemmas.Grind.{common_steps}
+use Rattle.std.proofs.Common.{ℕ, ◌≡◌, ◌∙◌, ◌||◌, Bool, true, false, cond, eqb, List, ◌∷◌, reverse, refl, sym, ap, subst}
 use Rattle.std.proofs.lemmas.List.{reverse-append}
 use Rattle.std.proofs.lemmas.Result.{err_from_is_err_and}
+use Rattle.sat_base.specs.declared.table.Table.{Table}
+use Rattle.sat_base.specs.values.Tables.{HasRoom}
+use Rattle.sat_base.proofs.lemmas.values.TableLemmas.{value_set}
 use Rattle.sat_checker.specs.LiteralSets.{is_among}
 use Rattle.sat_checker.specs.inner.Marks.{AreMarks, is_marked}
-use Rattle.sat_checker.proofs.assigned.Assigned.assume.Goals.{then-len-place+in_ok-resize, else-len-place}
+use Rattle.sat_checker.proofs.lemmas.store.Places.{eqb_comm}
 use Rattle.sat_checker.proofs.assigned.Assigned.assume.Goals as goal
 
--- places without a mark behind the others
-more_places : (ms : List Bool) (n p l : ℕ) → n ≡ length ms → n ≤ p → is_marked (take (p + 1) ms ++ replicate (p + 1 - n) false) l ≡ is_marked ms l
-more_places ms n p l e h = grind (arith, common_steps)
-
-with_places : (ms new : List Bool) (ls : List ℕ) (n p : ℕ) → n ≡ length ms → n ≤ p → new ≡ take (p + 1) ms ++ replicate (p + 1 - n) false → AreMarks ms ls → AreMarks new ls
-with_places ms new ls n p e h is marks = rw is record { each = λ l. more_places ms n p l e h ∙ marks.each l; once = marks.once }
+with_room : (old new : Table Bool) (ls : List ℕ) → ((l : ℕ) → is_marked new l ≡ is_marked old l) → AreMarks old ls → AreMarks new ls
+with_room old new ls same marks = record { each = λ l. same l ∙ marks.each l; once = marks.once }
 
 -- one more is marked
-newly_marked : (ms : List Bool) (ls : List ℕ) (l : ℕ) → l < length ms → is_among ls l ≡ false → AreMarks ms ls → AreMarks (set ms l true) (l ∷ ls)
-newly_marked ms ls l inside fresh marks = record { each = λ k. let was = marks.each k in grind (arith, common_steps, nat_tests); once = (fresh, marks.once) }
-
-behind : (place lit n long : ℕ) → place ≡ lit → n ≡ place + 1 → n ≡ long → lit < long
-behind place lit n long e room is = omega arith
-
-within : (place lit r n long : ℕ) → place ≡ lit → place < r → r ≡ n → n ≡ long → lit < long
-within place lit r n long e inside room is = omega arith
+newly_marked : (old new : Table Bool) (ls : List ℕ) (l : ℕ) → ((k : ℕ) → is_marked new k ≡ cond (eqb k l) true (is_marked old k)) → is_among ls l ≡ false → AreMarks old ls → AreMarks new (l ∷ ls)
+newly_marked old new ls l set fresh marks = record {
+  each = λ k. set k ∙ ap (λ b. cond (eqb k l) true b) (marks.each k) ∙ either (eqb k l) (is_among ls k) ∙ ap (λ b. b || is_among ls k) (eqb_comm k l);
+  once = (fresh, marks.once);
+}
+  where
+    either : (b d : Bool) → cond b true d ≡ (b || d)
+    either true d = refl
+    either false d = refl
 
 pub invariant_of-self : goal.invariant_of-self
-invariant_of-self c = subst (λ (ms : List Bool). AreMarks ms (reverse c.self.inside.trail.items)) (sym c.in_err-resize.ensures.items) c.self.invariant
+invariant_of-self c = with_room c.self.inside.marks c.make_room.new.self (reverse c.self.inside.trail.items) c.make_room.ensures.same c.self.invariant
 
-pub returns-in_err-resize : goal.returns-in_err-resize
-returns-in_err-resize c =
+pub returns-in_err-make_room : goal.returns-in_err-make_room
+returns-in_err-make_room c =
     let failed = (err_from_is_err_and c.from_residual.result c.from_residual.ensures.1).1 in
     record { ok = rw failed tt; err = rw failed c.self.view_is }
 
 pub invariant_of-self-in_err-push : goal.invariant_of-self-in_err-push
 invariant_of-self-in_err-push c =
-    let v = c.self.inside.marks in
-    let ls = reverse c.self.inside.trail.items in
-    elim c.if-len-place.branch [
-      | then-len-place+in_ok-resize w ↦
-          rw (c.in_err-push.ensures.items, w.self-inside-is) (with_places v.items w.resize.new.self.items ls v.len c.code-place.result v.ok.0 (subst (λ n. n ≤ c.code-place.result) c.len.ensures w.if-len-place.true) w.in_ok-resize.ensures.items c.self.invariant)
-      | else-len-place w ↦ rw (c.in_err-push.ensures.items, w.self-inside-is) c.self.invariant
-    ]
+    rw c.in_err-push.ensures.items (with_room c.self.inside.marks c.make_room.new.self (reverse c.self.inside.trail.items) c.make_room.ensures.same c.self.invariant)
 
 pub returns-in_err-push : goal.returns-in_err-push
 returns-in_err-push c =
     let failed = (err_from_is_err_and c.from_residual-in_err-push.result c.from_residual-in_err-push.ensures.1).1 in
-    record {
-      ok = rw failed tt;
-      err = rw (failed, c.in_err-push.ensures.items) (elim c.if-len-place.branch [
-        | then-len-place+in_ok-resize w ↦ rw w.self-inside-is c.self.view_is
-        | else-len-place w ↦ rw w.self-inside-is c.self.view_is
-      ]);
-    }
+    record { ok = rw failed tt; err = rw (failed, c.in_err-push.ensures.items) c.self.view_is }
+
+pub put-requires : goal.put-requires
+put-requires c = c.in_ok-make_room.ensures.room
 
 pub invariant_of-self-2 : goal.invariant_of-self-2
 invariant_of-self-2 c =
-    let v = c.self.inside.marks in
     let ls = reverse c.self.inside.trail.items in
+    let marks = with_room c.self.inside.marks c.make_room.new.self ls c.in_ok-make_room.ensures.same c.self.invariant in
     let fresh = subst (λ ks. is_among ks c.args.lit ≡ false) (sym c.self.view_is) c.requires in
-    elim c.if-len-place.branch [
-      | then-len-place+in_ok-resize w ↦
-          let marks = with_places v.items w.resize.new.self.items ls v.len c.code-place.result v.ok.0 (subst (λ n. n ≤ c.code-place.result) c.len.ensures w.if-len-place.true) w.in_ok-resize.ensures.items c.self.invariant in
-          rw (c.in_ok-push.ensures.items, w.self-inside-is, c.code-place.ensures.value, reverse-append) (newly_marked w.resize.new.self.items ls c.args.lit (behind c.code-place.result c.args.lit w.resize.new.self.len (length w.resize.new.self.items) c.code-place.ensures.value w.in_ok-resize.ensures.len w.resize.new.self.ok.0) fresh marks)
-      | else-len-place w ↦
-          rw (c.in_ok-push.ensures.items, w.self-inside-is, c.code-place.ensures.value, reverse-append) (newly_marked v.items ls c.args.lit (within c.code-place.result c.args.lit c.len.result v.len (length v.items) c.code-place.ensures.value w.if-len-place.false c.len.ensures v.ok.0) fresh c.self.invariant)
-    ]
+    let set = value_set (λ (b : Bool). b) c.make_room.new.self c.put.new.self false false true c.code-place.result c.args.lit refl c.code-place.ensures.value (c.put.ensures.set false) in
+    rw (c.in_ok-push.ensures.items, reverse-append) (newly_marked c.make_room.new.self c.put.new.self ls c.args.lit set fresh marks)

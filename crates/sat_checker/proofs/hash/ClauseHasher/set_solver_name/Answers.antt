@@ -1,14 +1,11 @@
-use Rattle.std.proofs.Common.{refl, ap}
-use Rattle.std.proofs.lemmas.Result.{IfOk-from_err}
-use Rattle.sat_checker.specs.declared.hash.ClauseHasher.{ClauseHasher}
-use Rattle.sat_checker.proofs.hash.ClauseHasher.set_solver_name.Goals.{then-len-place+in_ok-resize, else-len-place}
+use Rattle.std.proofs.Common.{ℕ, Option, None, refl}
+use Rattle.std.proofs.lemmas.Result.{on_ok_weaker}
+use Rattle.sat_base.proofs.lemmas.values.TableLemmas.{value_set}
 use Rattle.sat_checker.proofs.hash.ClauseHasher.set_solver_name.Goals as goal
 
-pub returns-in_err-resize-clause-width : goal.returns-in_err-resize-clause-width
-returns-in_err-resize-clause-width c = refl
-
-pub returns-in_err-resize-clause-names : goal.returns-in_err-resize-clause-names
-returns-in_err-resize-clause-names c = IfOk-from_err c.from_residual.result _ c.from_residual.ensures.0
-
 pub returns-clause-width : goal.returns-clause-width
-returns-clause-width c = elim c.if-len-place.branch [ then-len-place+in_ok-resize w ↦ ap (λ (h : ClauseHasher). h.bits) w.self-is | else-len-place w ↦ ap (λ (h : ClauseHasher). h.bits) w.self-is ]
+returns-clause-width c = refl
+
+pub returns-clause-names : goal.returns-clause-names
+returns-clause-names c = on_ok_weaker c.set.result (λ made.
+    value_set (λ (x : Option ℕ). x) c.args.self.now.solver_names c.set.new.self None None c.args.name c.index.result c.args.var refl c.index.ensures.value made) c.set.ensures.ok

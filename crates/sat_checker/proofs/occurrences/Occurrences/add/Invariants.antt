@@ -1,4 +1,5 @@
-use Rattle.std.proofs.Common.{ℕ, ◌≡◌, ◌+◌, length, drop}
+use Rattle.std.proofs.Common.{ℕ, ◌≡◌, ◌+◌, drop}
+use Rattle.sat_base.specs.values.Tables.{HasRoom}
 use Rattle.sat_checker.specs.inner.OccurrenceView.{count_at, times_in}
 use Rattle.sat_checker.proofs.occurrences.Occurrences.add.Given as goal
 
@@ -6,5 +7,5 @@ use Rattle.sat_checker.proofs.occurrences.Occurrences.add.Given as goal
 abbrev pub invariant-loop-lit : goal.invariant-loop-lit
 invariant-loop-lit l = record {
   counted : (k : ℕ) → count_at l.self k + times_in k (drop l.lit-index l.literals) ≡ count_at l.fn.self k + times_in k l.literals;
-  room : length l.self.counts.items ≡ length l.fn.self.counts.items;
+  room : (k : ℕ) → HasRoom l.fn.self.counts k → HasRoom l.self.counts k;
 }

@@ -1,15 +1,24 @@
-use Rattle.std.proofs.Common.{◌+◌, ◌-◌, ◌<◌, ◌≡◌, ◌≢◌, length, sym, arith}
-use Rattle.std.proofs.lemmas.Bool.{eqb-false}
-use Rattle.std.proofs.lemmas.List.Elements.{All-from_recursion}
-use Rattle.std.proofs.lemmas.Result.{on_ok_weaker}
-use Rattle.sat_checker.proofs.lemmas.sets.Rising.{above_last}
+use Rattle.std.proofs.Common.{◌∙◌, arith, refl}
+use Rattle.std.proofs.lemmas.Result.{IfOk-from_err}
+use Rattle.sat_checker.proofs.lemmas.store.Times.{room_next}
 use Rattle.sat_checker.proofs.occurrences.Occurrences.make_room.Goals as goal
 
+pub loop-lit-init : goal.loop-lit-init
+loop-lit-init c = record { room = λ i d h. absurd (omega (arith, h)); same = λ k. refl }
+
+pub loop-lit-preserved : goal.loop-lit-preserved
+loop-lit-preserved c = record {
+  room =
+      room_next c.loop-lit.self.counts c.make_room_for.new.self.counts c.args.literals.now c.loop-lit.lit-index c.lit-item.result c.loop-lit-test.true c.lit-item.is c.loop-lit.invariant.room
+      c.in_ok-make_room_for.ensures.others c.in_ok-make_room_for.ensures.room;
+  same = λ k. c.in_ok-make_room_for.ensures.same k ∙ c.loop-lit.invariant.same k;
+}
+
 pub returns-clause-room : goal.returns-clause-room
-returns-clause-room c =
-    let last = length c.args.literals.now - 1 in
-    let some : length c.args.literals.now ≢ 0 = eqb-false (length c.args.literals.now) 0 (sym c.if-is_empty.ensures) in
-    let place : last + 1 ≡ length c.args.literals.now = omega (arith, some) in
-    on_ok_weaker c.make_room_for.result (λ room.
-    All-from_recursion (λ l. l < length c.make_room_for.new.self.counts.items) c.args.literals.now
-    (above_last c.args.literals.now last c.index-literals-literals.result (length c.make_room_for.new.self.counts.items) c.requires place c.index-literals-literals.is room)) c.make_room_for.ensures.room
+returns-clause-room c = λ i d h. c.loop-lit.invariant.room i d (omega (arith, h, c.loop-lit-test.false))
+
+pub returns-in_err-make_room_for-clause-room : goal.returns-in_err-make_room_for-clause-room
+returns-in_err-make_room_for-clause-room c = IfOk-from_err c.from_residual.result _ c.from_residual.ensures.0
+
+pub returns-in_err-make_room_for-clause-same : goal.returns-in_err-make_room_for-clause-same
+returns-in_err-make_room_for-clause-same c = λ k. c.make_room_for.ensures.same k ∙ c.loop-lit.invariant.same k

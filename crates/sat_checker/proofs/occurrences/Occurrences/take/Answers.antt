@@ -1,17 +1,15 @@
 use Rattle.std.proofs.Common.{arith}
-use Rattle.sat_checker.proofs.lemmas.store.Times.{still_left, some_there, read_at, still_counted}
+use Rattle.sat_checker.proofs.lemmas.store.Times.{still_left, still_counted, next_times}
 use Rattle.sat_checker.proofs.occurrences.Occurrences.take.Goals as goal
 
-pub index_mut-requires : goal.index_mut-requires
-index_mut-requires c =
+pub take_one-requires : goal.take_one-requires
+take_one-requires c =
     let left = still_left c.args.literals.now c.loop-lit.lit-index c.lit-item.result c.loop-lit-test.true c.lit-item.is in
-    let inside = some_there c.loop-lit.self.counts.items c.lit-item.result (still_counted _ _ _ _ (c.loop-lit.invariant c.lit-item.result) (c.requires c.lit-item.result) left) in
-    omega (arith, inside, c.code.ensures.value, c.loop-lit.self.counts.ok.0)
+    still_counted _ _ _ _ (c.loop-lit.invariant c.lit-item.result) (c.requires c.lit-item.result) left
 
-pub overflow_sub-index_mut : goal.overflow_sub-index_mut
-overflow_sub-index_mut c =
-    let left = still_left c.args.literals.now c.loop-lit.lit-index c.lit-item.result c.loop-lit-test.true c.lit-item.is in
-    let some = still_counted _ _ _ _ (c.loop-lit.invariant c.lit-item.result) (c.requires c.lit-item.result) left in
-    let inside = some_there c.loop-lit.self.counts.items c.lit-item.result some in
-    let read = read_at c.loop-lit.self.counts.items c.code.result c.lit-item.result c.index_mut.result.now c.code.ensures.value inside c.index_mut.ensures.value in
-    omega (arith, some, read)
+pub loop-lit-preserved : goal.loop-lit-preserved
+loop-lit-preserved c = λ k.
+    let here = next_times c.args.literals.now c.loop-lit.lit-index c.lit-item.result c.loop-lit-test.true c.lit-item.is k in
+    let one = c.take_one.ensures k in
+    let all = c.loop-lit.invariant k in
+    omega (arith, here, one, all)

@@ -14,7 +14,7 @@ returns-clause-listed c =
     on_ok c.list.result _ _
     (λ listed. λ whole e i.
     listed whole (c.in_ok-follow_all.ensures.followed whole e) i
-    ∙ denied_same c.mark_all.new.marked (map negated c.args.clause.now) whole c.args.units.now (marked_anew c.undo_to.new.self c.mark_all.new.marked (map negated c.args.clause.now) (c.undo_to.ensures ∙ none_left c.args.self.now.denied) c.in_ok-mark_all.ensures.marked))
+    ∙ denied_same c.mark_all.new.marked (map negated c.args.clause.now) whole c.args.units.now (marked_anew c.undo_to.new.self c.mark_all.new.marked (map negated c.args.clause.now) (c.undo_to.ensures ∙ none_left c.allow.new.self) c.in_ok-mark_all.ensures.marked))
     c.list.ensures
 
 pub returns-in_err-follow_all-clause-listed : goal.returns-in_err-follow_all-clause-listed

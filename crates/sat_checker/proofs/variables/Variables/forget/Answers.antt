@@ -8,4 +8,4 @@ use Rattle.sat_checker.proofs.variables.Variables.forget.Goals as goal
 pub returns : goal.returns
 returns c = on_ok_weaker c.set.result (λ made. λ g k n.
     set_kept c.args.self.now c.set.new.self g c.args.var unknown k (sym n)
-    (λ w. made w ∙ ap (λ (x : Variable). cond (eqb w c.args.var) x (variable_at c.args.self.now w)) c.unknown.ensures) c.set.ensures.holders) c.set.ensures.variables
+    (λ w. made w ∙ ap (λ (x : Variable). cond (eqb w c.args.var) x (variable_at c.args.self.now w)) c.unknown.ensures.variable) c.set.ensures.holders) c.set.ensures.variables

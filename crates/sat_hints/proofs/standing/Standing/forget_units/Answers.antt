@@ -1,8 +1,10 @@
-use Rattle.std.proofs.Common.{refl}
-use Rattle.sat_hints.proofs.lemmas.Standing.{forgets, since_set}
+use Rattle.std.proofs.Common.{ℕ, refl}
+use Rattle.std.proofs.lemmas.Result.{on_ok_weaker}
+use Rattle.sat_base.proofs.lemmas.values.TableLemmas.{value_set}
+use Rattle.sat_hints.proofs.lemmas.Standing.{forgets}
 use Rattle.sat_hints.proofs.standing.Standing.forget_units.Goals as goal
 
 pub returns : goal.returns
-returns c =
+returns c = on_ok_weaker c.set.result (λ made.
     forgets c.args.self.now _ c.args.var c.args.bound c.requires.standing c.requires.above c.requires.since refl refl
-    (since_set c.make_room.new.since.items c.args.self.now.since.items c.args.var c.index-place.result c.args.bound c.index-place.ensures.value c.in_ok-make_room.ensures.room c.make_room.ensures.same)
+    (value_set (λ (n : ℕ). n) c.args.self.now.since c.set.new.self 0 0 c.args.bound c.index.result c.args.var refl c.index.ensures.value made)) c.set.ensures.ok

@@ -1,4 +1,5 @@
-use Rattle.std.proofs.Common.{ℕ, ◌+◌, ◌-◌, ◌≤◌, ◌≡◌, ◌∙◌, subst, refl, arith}
+use Rattle.std.proofs.Common.{ℕ, ◌+◌, ◌-◌, ◌≤◌, ◌≡◌, ◌∙◌, subst, refl, sym, arith}
+use Rattle.std.proofs.lemmas.Bool.{true≢false}
 use Rattle.sat_solver.specs.bound.Climbing.{Climbs}
 use Rattle.sat_solver.proofs.lemmas.bound.ProgressLemmas.{come_begins, come_climbs, come_keeps, few_rounds, none_left}
 use Rattle.sat_solver.proofs.bound.search.search.Goals as goal
@@ -9,6 +10,9 @@ from_start A n h = subst A (let e : 0 ≡ n - n = omega arith in e) h
 
 one_more : (A : ℕ → Type 0) (m n : ℕ) → n ≤ m → A (m - n + 1) → A (m + 1 - n)
 one_more A m n le h = subst A (let e : m - n + 1 ≡ m + 1 - n = omega arith in e) h
+
+one_less : (A : ℕ → Type 0) (m n : ℕ) → n ≤ m → A (m - n) → A (m + 1 - n - 1)
+one_less A m n le h = subst A (let e : m - n ≡ m + 1 - n - 1 = omega arith in e) h
 
 pub loop-steps-init : goal.loop-steps-init
 loop-steps-init g c = record {
@@ -57,6 +61,13 @@ returns-then-not-is_learned-clause-counts g c = record {
 
 pub returns-then-not-is_learned-clause-round : goal.returns-then-not-is_learned-clause-round
 returns-then-not-is_learned-clause-round g c = λ k. omega (arith, c.loop-steps.invariant.before)
+
+pub returns-then-not-is_learned-clause-ends : goal.returns-then-not-is_learned-clause-ends
+returns-then-not-is_learned-clause-ends g c = λ s m h.
+    (let n : ℕ = c.loop-steps.steps - c.args.steps.now in
+    one_less (λ k. g.R.Rounds.ends s m k c.in_ok-outcome.outcome c.round.new.self c.round.new.names) c.loop-steps.steps c.args.steps.now c.loop-steps.invariant.before
+    (c.in_ok-outcome.ensures.ends (λ e. true≢false (sym (c.if-not-is_learned.ensures.1 e))) s m n
+    (c.in_ok-reduce.ensures.goes s m n (c.restart_where_due.ensures.goes s m n (c.loop-steps.invariant.goes s m h)))))
 
 pub returns : goal.returns
 returns g c =

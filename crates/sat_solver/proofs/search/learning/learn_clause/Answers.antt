@@ -14,7 +14,7 @@ use Rattle.sat_solver.specs.search.Joint.{global_in, Moved}
 use Rattle.sat_solver.specs.search.Learning.{Taken}
 use Rattle.sat_solver.proofs.lemmas.search.TakingLemmas.{free_taken}
 use Rattle.sat_store.specs.clause.Header.{Header}
-use Rattle.sat_solver.proofs.lemmas.search.GoingLemmas.{goes_starved, goes_step, goes_broken, goes_refused}
+use Rattle.sat_solver.proofs.lemmas.search.GoingLemmas.{goes_starved, goes_learned, goes_broken, goes_refused}
 use Rattle.sat_solver.proofs.lemmas.search.LearningLemmas.{learned_allowed, learned_stands, learned_last, learned_whole}
 use Rattle.sat_solver.proofs.lemmas.search.NamedLemmas.{learned_named}
 use Rattle.sat_solver.proofs.search.learning.learn_clause.Goals as goal
@@ -81,7 +81,7 @@ returns-clause-learned g c =
     let placed = c.cut.ensures.placed (state c.args.search.now.parts) (state c.take_in.new.search.parts) before (omega (arith, x.learns.below)) taken.keeps taken.starts in
     let moved : Moved c.analyze.new.search (record c.take_in.new.search { assumptions = c.cut.new.self }) =
     record { globals = ap (λ (s : Search). s.globals) y.same; lits = c.cut.ensures.lits ∙ ap (λ (s : Search). s.assumptions.lits) y.same; size = y.taken.size } in
-    goes_step g.W.CountedWrite.seen tt c.args.proof.now c.step.new.self (AtClause c.says_redundant.result c.deref.result.now c.deref-2.result.now) _
+    goes_learned g.W.CountedWrite.seen tt c.args.proof.now c.step.new.self (AtClause c.says_redundant.result c.deref.result.now c.deref-2.result.now) _
     (learned_named c.args.search.now.parts c.args.conflict.now c.analyze.new.search.analysis c.in_ok-level.level (session_of c.args.proof.now) (global_in c.args.search.now) (ready_names (session_of c.args.proof.now) c.args.search.now c.requires.stopped.ready) x.learns c.deref.result.now (c.deref.ensures.value ∙ x.clause)) c.in_default.ensures.keeps c.in_default.ensures.records
     (learned_whole (steps_of c.args.proof.now) (steps_of c.step.new.self) (AtClause c.says_redundant.result c.deref.result.now c.deref-2.result.now) c.args.search.now _ r.ready refl c.in_default.ensures.records.history
     (learned_stands c.args.search.now.parts c.args.conflict.now c.analyze.new.search.analysis c.in_ok-level.level (steps_of c.args.proof.now) (global_in c.args.search.now) r.refuted c.requires.above r.fits (ready_names (session_of c.args.proof.now) c.args.search.now r.ready) x.learns

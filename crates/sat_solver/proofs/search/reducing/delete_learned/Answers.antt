@@ -24,7 +24,7 @@ step-requires-clause-may g c =
 
 pub returns-in-Ok : goal.returns-in-Ok
 returns-in-Ok g c =
-    goes_step g.W.CountedWrite.seen true c.args.proof.now c.step.new.self (DeleteClause c.deref-2.result.now Redundant) _ tt c.in-Ok.ensures.keeps c.in-Ok.ensures.records
+    goes_step g.W.CountedWrite.seen true c.args.proof.now c.step.new.self (DeleteClause c.deref-2.result.now Redundant) _ tt refl c.in-Ok.ensures.keeps c.in-Ok.ensures.records
     (deleted_one (session_of c.args.proof.now) c.args.search.now _ c.requires.search refl refl refl refl c.args.cref c.requires.learned (c.drop_clause.ensures.dropped c.if-not-drop_clause.false)
     (session_of c.step.new.self) c.deref-2.result.now (c.deref-2.ensures.value ∙ rw c.deref.ensures.value at c.in_ok-map_clause.ensures) (ap (λ ss. session_after ss) c.in-Ok.ensures.records.history) c.drop_clause.ensures.holds c.drop_clause.ensures.word c.drop_clause.ensures.others (c.drop_clause.ensures.free c.if-not-drop_clause.false))
 

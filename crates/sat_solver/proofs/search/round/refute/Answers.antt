@@ -33,9 +33,9 @@ pub returns-in-Ok : goal.returns-in-Ok
 returns-in-Ok g c =
     let step : Step = AtClause false [] c.deref.result.now in
     goes_behind g.W.CountedWrite.seen c.in_ok-write_units.field-0 (Ok tt) c.args.proof.now c.write_units.new.proof c.step.new.self _ _ _ c.in_ok-write_units.ensures
-    (goes_step g.W.CountedWrite.seen tt c.write_units.new.proof c.step.new.self step (λ _ steps. LastRefutes (steps_of c.write_units.new.proof) steps (session_of c.step.new.self)) tt c.in-Ok.ensures.keeps c.in-Ok.ensures.records
-    (record { last = step; rest = []; is = refl; before = c.in_ok-write_units.ensures.ends.fits.consistent; now = ap (λ ss. (session_after ss).unsat) c.in-Ok.ensures.records.history }))
-    (λ xs ys y added a b. refutes_later (steps_of c.args.proof.now) xs ys (session_of c.step.new.self) (subst (λ zs. LastRefutes zs ys (session_of c.step.new.self)) added b))
+    (goes_step g.W.CountedWrite.seen tt c.write_units.new.proof c.step.new.self step (λ _ steps. LastRefutes (steps_of c.write_units.new.proof) steps (session_of c.step.new.self)) tt refl c.in-Ok.ensures.keeps c.in-Ok.ensures.records
+    (record { last = step; rest = []; is = refl; before = c.in_ok-write_units.ensures.ends.fits.consistent; now = ap (λ ss. (session_after ss).unsat) c.in-Ok.ensures.records.history; quiet = (refl, tt) }))
+    (λ xs ys y added quiet a b. refutes_later (steps_of c.args.proof.now) xs ys (session_of c.step.new.self) quiet (subst (λ zs. LastRefutes zs ys (session_of c.step.new.self)) added b))
 
 pub returns-in-Err : goal.returns-in-Err
 returns-in-Err g c =

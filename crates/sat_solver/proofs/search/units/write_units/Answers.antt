@@ -38,7 +38,7 @@ returns-in-Ok g c =
     let same : c.deref.result.now ≡ written_units c.args.parts.now.clauses (state c.args.parts.now) 64 (global_of c.args.globals.now) c.args.parts.now.trail.lits =
     c.deref.ensures.value ∙ ok_part c.collect_units.result _ (sym c.is_err.ensures.value ∙ c.if-is_err.false) c.collect_units.ensures in
     goes_step g.W.CountedWrite.seen tt c.args.proof.now c.step.new.self (UnitClauses c.deref.result.now) (λ _ _. AllUnits c.args.parts.now (session_of c.step.new.self) (global_of c.args.globals.now))
-    (units_named c.args.parts.now (session_of c.args.proof.now) (global_of c.args.globals.now) c.requires.named c.requires.orderly c.deref.result.now same) c.in-Ok.ensures.keeps c.in-Ok.ensures.records
+    (units_named c.args.parts.now (session_of c.args.proof.now) (global_of c.args.globals.now) c.requires.named c.requires.orderly c.deref.result.now same) refl c.in-Ok.ensures.keeps c.in-Ok.ensures.records
     (subst (λ ss. AllUnits c.args.parts.now (session_after ss) (global_of c.args.globals.now)) (sym c.in-Ok.ensures.records.history ∙ refl)
     (rw same (units_step c.args.parts.now (session_of c.args.proof.now) (global_of c.args.globals.now) c.requires.orderly c.requires.bottom c.requires.fits c.requires.named)))
 

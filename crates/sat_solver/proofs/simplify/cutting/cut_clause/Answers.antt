@@ -2,6 +2,7 @@ use Rattle.std.proofs.Common.{◌≡◌, ◌∙◌, sym, ap}
 use Rattle.std.proofs.lemmas.Result.{err_from_is_err_and}
 use Rattle.sat_store.specs.clause.Header.{Header, is_learned}
 use Rattle.sat_solver.specs.joint.Fits.{is_redundant}
+use Rattle.sat_solver.specs.joint.Quiet.{are_few}
 use Rattle.sat_solver.proofs.lemmas.search.GoingLemmas.{goes_starved}
 use Rattle.sat_solver.proofs.lemmas.simplify.CutEnds.{cut_named, cut_may, cut_ends}
 use Rattle.sat_solver.proofs.simplify.cutting.cut_clause.Goals as goal
@@ -27,6 +28,9 @@ write_cut-requires-clause-may g c =
     let side : is_redundant c.name_cut.new.search.parts.clauses c.args.cref ≡ c.redundant-redundant.result = ap (λ (h : Header). is_learned h.tier) (sym c.header.ensures.value) ∙ sym c.redundant-redundant.ensures in
     rw c.deref.ensures.value
     (cut_may g.W.CountedWrite.seen c.args.proof.now c.args.search.now c.name_cut.new.search c.args.cref c.in_ok-len.len c.requires.search c.requires.flat c.requires.live c.requires.some c.in_ok-len.ensures.same c.name_cut.new.part.items c.in_ok-len.ensures.named c.replace.new.parts c.in_ok-replace.ensures c.redundant-redundant.result side)
+
+pub write_cut-requires-clause-few : goal.write_cut-requires-clause-few
+write_cut-requires-clause-few g c = ap are_few c.in_ok-len.ensures.named.hashes
 
 pub returns : goal.returns
 returns g c =

@@ -1,4 +1,4 @@
-use Rattle.std.proofs.Common.{◌≡◌, ◌∙◌, List, ℕ, map, sym, ap, subst}
+use Rattle.std.proofs.Common.{◌≡◌, ◌∙◌, List, ℕ, map, refl, sym, ap, subst}
 use Rattle.std.proofs.lemmas.Result.{err_from_is_err_and}
 use Rattle.sat_base.specs.steps.Steps.{DeleteClause, Satisfied}
 use Rattle.sat_base.specs.steps.StepViews.{deletion_of}
@@ -40,7 +40,7 @@ returns-in-Ok g c =
     (subst (λ (ls : List ℕ). Lighter (after (deleted_step c.redundant-redundant.result Satisfied ls) (session_of c.args.proof.now)) c.args.search.now (record c.args.search.now { parts = c.delete_long.new.parts; scratch = scratch })) (sym clause)
     (true_lighter (session_of c.args.proof.now) c.args.search.now c.delete_long.new.parts c.args.cref c.requires.search c.requires.flat c.requires.live c.requires.satisfied c.delete_long.ensures.dropped c.redundant-redundant.result flag scratch c.delete_long.ensures.holds c.delete_long.ensures.word)) in
     let d : Search = record c.args.search.now { parts = c.delete_long.new.parts; scratch = scratch } in
-    goes_step g.W.CountedWrite.seen tt c.args.proof.now c.step.new.self (DeleteClause c.deref-2.result.now (deletion_of c.deletion_for.result)) (λ _ _. Lightens (session_of c.step.new.self) c.args.search.now d c.args.cref) tt c.in-Ok.ensures.keeps c.in-Ok.ensures.records
+    goes_step g.W.CountedWrite.seen tt c.args.proof.now c.step.new.self (DeleteClause c.deref-2.result.now (deletion_of c.deletion_for.result)) (λ _ _. Lightens (session_of c.step.new.self) c.args.search.now d c.args.cref) tt refl c.in-Ok.ensures.keeps c.in-Ok.ensures.records
     (lightens_dropped (session_of c.step.new.self) c.args.search.now d c.args.cref (subst (λ ss. Lighter (session_after ss) c.args.search.now d) (sym c.in-Ok.ensures.records.history) after_step) c.delete_long.ensures.dropped)
 
 pub returns-in-Err : goal.returns-in-Err

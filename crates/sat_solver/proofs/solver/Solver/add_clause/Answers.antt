@@ -8,5 +8,5 @@ pub returns-in-Err-clause-adds : goal.returns-in-Err-clause-adds
 returns-in-Err-clause-adds g c =
     let s = c.args.self.now in
     let room = said_room s.names (users_in c.args.lits.now) c.has_room.result c.has_room.ensures c.if-not-has_room.false in
-    adding_ends g.W.CountedWrite.seen c.in-Err.error s _ c.args.lits.now c.if-self.false (none_refused s c.args.lits.now c.leftmost_witness.result c.leftmost_witness.ensures.judged (sym c.is_some.ensures ∙ c.if-is_some.false)) room
+    adding_ends g.W.CountedWrite.seen c.in-Err.error s _ c.args.lits.now c.if-self.false (c.is_past_drat.ensures.no c.if-is_past_drat.false) (none_refused s c.args.lits.now c.leftmost_witness.result c.leftmost_witness.ensures.judged (sym c.is_some.ensures ∙ c.if-is_some.false)) room
     (c.in-Err.ensures.room room) c.in-Err.ensures.takes c.in-Err.ensures.clock refl

@@ -1,7 +1,8 @@
 use Rattle.std.proofs.Common.{◌≡◌, ◌<◌, ◌+◌, ◌-◌, ℕ, List, Bool, false, length, get_or, set, ap, ◌∙◌, refl, sym, subst, arith}
 use Rattle.std.proofs.lemmas.List.{get_or_read}
 use Rattle.std.specs.List.{count_by}
-use Rattle.sat_store.specs.heap.Heap.{flags}
+use Rattle.sat_store.specs.declared.vsids.heap.Entry.{Entry}
+use Rattle.sat_store.specs.heap.Heap.{no_entry, var_at, flags, keys}
 use Rattle.sat_store.specs.heap.Vsids.{Queue, may_pick, IsFirst, with_available}
 use Rattle.sat_store.proofs.lemmas.heap.QueueLemmas.{none_flagged, front_first, front_fewer}
 use Rattle.sat_store.proofs.vsids.VsidsIterator.next.Goals as goal
@@ -17,16 +18,18 @@ pub returns-clause-steps : goal.returns-clause-steps
 returns-clause-steps c =
     let h = c.self.inside.heap.items in
     let p = c.self.inside.positions.items in
-    let a = c.self.inside.activities.items in
+    let a = keys h p in
     let m = c.self.inside.available in
     let b = c.self.inside.bump in
     let d = c.self.inside.decay in
     let heap = c.self.invariant.0 in
     let some : 0 < m = omega (arith, c.if-self-eq0.false) in
     let within : 0 < length h = omega (arith, heap.within) in
-    let first : c.from_index-first.result ≡ get_or h 0 0 = c.from_index-first.ensures ∙ get_or_read h 0 c.index.result.now within c.index.ensures 0 in (
-      subst (λ (q : Queue). IsFirst q c.from_index-first.result) c.self.view_is (subst (IsFirst (record { available = flags m p; activities = a; bump = b; decay = d })) (sym first) (front_first h p a m b d heap some)),
-      ap (λ (f : List Bool). record { available = f; activities = a; bump = b; decay = d }) c.take_out.ensures.flags
+    let read = get_or_read h 0 c.index.result.now within c.index.ensures no_entry in
+    let first : c.from_index-first.result ≡ var_at h 0 = c.from_index-first.ensures ∙ ap (λ (e : Entry). e.var) read in (
+      subst (λ (q : Queue). IsFirst q c.from_index-first.result) c.self.view_is (subst (IsFirst (record { available = flags m p; activities = a; bump = b; decay = d })) (sym first) (front_first h p m b d heap some)),
+      ap (λ (k : List ℕ). record { available = flags (m - 1) c.take_out.new.positions.items; activities = k; bump = b; decay = d }) c.take_out.ensures.keys
+          ∙ ap (λ (f : List Bool). record { available = f; activities = a; bump = b; decay = d }) c.take_out.ensures.flags
           ∙ ap (λ (u : ℕ). record { available = set (flags m p) u false; activities = a; bump = b; decay = d }) (sym first)
           ∙ ap (with_available c.from_index-first.result false) c.self.view_is,
     )
@@ -40,6 +43,6 @@ returns-clause-goes c =
     let some : 0 < m = omega (arith, c.if-self-eq0.false) in
     let fewer : count_by (λ b. b) (flags (m - 1) c.take_out.new.positions.items) + 1 ≡ count_by (λ b. b) c.args.self.now.available =
     ap (λ (f : List Bool). count_by (λ b. b) f + 1) c.take_out.ensures.flags
-    ∙ front_fewer h p c.self.inside.activities.items m heap some
+    ∙ front_fewer h p m heap some
     ∙ ap (λ (q : Queue). count_by (λ b. b) q.available) c.self.view_is in
     record { on = λ fin. (tt, fin, omega arith); keeps = tt; rests = λ fin. tt }

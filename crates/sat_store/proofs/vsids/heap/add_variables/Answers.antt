@@ -1,28 +1,33 @@
-use Rattle.std.proofs.Common.{◌≡◌, ◌+◌, ◌-◌, ◌∷◌, ◌++◌, [], ℕ, false, length, replicate, ap, ◌∙◌, sym, subst, arith, length-append}
-use Rattle.sat_store.specs.heap.Heap.{IsHeap, flags}
-use Rattle.sat_store.proofs.lemmas.heap.QueueLemmas.{grown_heap, grown_flags, one_more_copy}
+use Rattle.std.proofs.Common.{◌≡◌, ◌∷◌, ◌++◌, [], ℕ, length, ◌∙◌, sym, subst, arith, rules, refl, length-append}
+use Rattle.sat_store.specs.heap.Heap.{Placed, IsHeap}
+use Rattle.sat_store.proofs.lemmas.heap.QueueLemmas.{newcomer, grown_heap, grown_placed, none_added, one_more_added}
 use Rattle.sat_store.proofs.vsids.heap.add_variables.Goals as goal
+
+pub loop-index-init : goal.loop-index-init
+loop-index-init c =
+    let n : c.len-index.result ≡ length c.args.heap.now.items = search rules in
+    record {
+      heap = λ m heap. heap;
+      placed = c.requires.placed;
+      adds = none_added c.args.heap.now.items c.args.positions.now.items c.len-index.result n;
+      count = sym n;
+      counts = sym c.requires.placed.count ∙ sym n;
+      heap_room = refl;
+      positions_room = refl;
+    }
 
 pub loop-index-preserved : goal.loop-index-preserved
 loop-index-preserved c =
     let before = c.loop-index.invariant in
-    let n = length c.args.heap.now.items in
     let i = c.loop-index.index in
     let h = c.loop-index.heap.items in
     let p = c.loop-index.positions.items in
-    let a = c.loop-index.activities.items in
-    let count : length h ≡ i = before.3 in
-    let more : i + 1 - n ≡ i - n + 1 = omega arith in
-    let eh = c.push_reserved.ensures.items in
-    let ep = c.push_reserved-in-loop-index.ensures.items in
-    let ea = c.push_reserved-in-loop-index-2.ensures.items in (
-      (λ m heap. rw (eh, ep, ea) (subst (λ (x : ℕ). IsHeap (h ++ x ∷ []) (p ++ x ∷ []) (a ++ 0 ∷ []) m) count (grown_heap h p a m (before.0 m heap) (omega arith)))),
-      (λ m within. ap (flags m) ep ∙ grown_flags p m i (omega arith) ∙ one_more_copy (flags m c.args.positions.now.items) (flags m p) false (i - n) (before.1 m within) ∙ ap (λ (k : ℕ). flags m c.args.positions.now.items ++ replicate k false) (sym more)),
-      ea ∙ one_more_copy c.args.activities.now.items a 0 (i - n) before.2 ∙ ap (λ (k : ℕ). c.args.activities.now.items ++ replicate k 0) (sym more),
-      omega (arith, ap length eh, length-append h (i ∷ []), before.3),
-      omega (arith, ap length ep, length-append p (i ∷ []), before.4),
-      omega (arith, ap length ea, length-append a (0 ∷ []), before.5),
-      c.push_reserved.ensures.capacity ∙ before.6,
-      c.push_reserved-in-loop-index.ensures.capacity ∙ before.7,
-      c.push_reserved-in-loop-index-2.ensures.capacity ∙ before.8,
-    )
+    rw (c.push_reserved.ensures.items, c.push_reserved-in-loop-index.ensures.items) record {
+      heap = λ m heap. subst (λ (x : ℕ). IsHeap (h ++ newcomer x ∷ []) (p ++ x ∷ []) m) before.count (grown_heap h p m (before.heap m heap) (omega (arith, before.count, c.requires.few)));
+      placed = subst (λ (x : ℕ). Placed (h ++ newcomer x ∷ []) (p ++ x ∷ [])) before.count (grown_placed h p before.placed);
+      adds = one_more_added c.args.heap.now.items h c.args.positions.now.items p i (omega (arith, c.loop-index.auto.index)) before.count before.placed before.adds;
+      count = omega (arith, length-append h (newcomer i ∷ []), before.count);
+      counts = omega (arith, length-append p (i ∷ []), before.counts);
+      heap_room = c.push_reserved.ensures.capacity ∙ before.heap_room;
+      positions_room = c.push_reserved-in-loop-index.ensures.capacity ∙ before.positions_room;
+    }

@@ -1,22 +1,69 @@
-use Rattle.std.proofs.Common.{◌∙◌, refl, arith}
-use Rattle.sat_store.specs.heap.Heap.{rank_at}
-use Rattle.sat_store.proofs.lemmas.heap.OrderLemmas.{down_step}
-use Rattle.sat_store.proofs.lemmas.heap.QueueLemmas.{above_read}
-use Rattle.sat_store.proofs.lemmas.heap.FlagLemmas.{flags_same}
+use Rattle.std.proofs.Common.{◌≡◌, ◌≢◌, ◌-◌, ◌/◌, ◌<◌, ◌≤◌, ◌∙◌, ℕ, length, set, refl, sym, arith, subst}
+use Rattle.std.proofs.lemmas.List.{get_or_read, length-set}
+use Rattle.sat_store.specs.declared.vsids.heap.Entry.{Entry}
+use Rattle.sat_store.specs.heap.Heap.{no_entry, rank_at, FirstAbove, NoneAbove, DownFrom, Ordered, Exchanged}
+use Rattle.sat_store.proofs.lemmas.heap.OrderLemmas.{down_step, down_done}
+use Rattle.sat_store.proofs.lemmas.heap.MoveLemmas.{full_again, not_moved, written_listed, child_is_above, child_is_first, none_is_above, exchanged_by_moving, one_more_exchanged}
 use Rattle.sat_store.proofs.vsids.heap.sift_down.Goals as goal
 
-pub loop-hole-preserved : goal.loop-hole-preserved
-loop-hole-preserved c =
-    let hole = c.loop-hole.hole in
-    let acts = c.args.activities.now in
+pub loop-child-init : goal.loop-child-init
+loop-child-init c =
+    let h = c.args.heap.now.items in
+    let p = c.args.positions.now.items in
+    let at = c.args.at in
+    let e = c.index-entry.result.now in
+    let within : at < length h = omega (arith, c.requires.at, c.requires.within) in
+    let is : e ≡ _ = get_or_read h at e within c.index-entry.ensures no_entry in
+    record {
+      within = c.requires.at;
+      behind = omega arith;
+      count = refl;
+      counts = sym c.requires.placed.count;
+      var = subst (λ (x : Entry). x.var < length h) (sym is) (c.requires.placed.listed at within);
+      listed = c.requires.placed.listed;
+      same = not_moved c.args.available at h p e within is c.requires.placed;
+      down = λ low below down. rw (full_again h at e is) down;
+    }
+
+pub loop-child-preserved : goal.loop-child-preserved
+loop-child-preserved c =
+    let before = c.loop-child.invariant in
+    let h = c.loop-child.heap.items in
+    let p = c.loop-child.positions.items in
+    let hole = c.loop-child.hole in
+    let child = c.in-Some.child in
     let m = c.args.available in
-    let ex = c.exchange.ensures in
-    let child = c.first_child-child.ensures in
-    let big = c.first_child-child.result in (
-      ex.placed,
-      ex.count ∙ c.loop-hole.invariant.1,
-      child.within,
-      λ low below down. down_step (rank_at acts c.loop-hole.heap.items) (rank_at acts c.exchange.new.heap.items) m low hole big child.child child.positive child.within (ex.ranks acts) (above_read acts c.loop-hole.heap.items big hole c.index.result.now c.index-in-loop-hole.result.now (omega arith) (omega arith) c.index.ensures c.index-in-loop-hole.ensures (c.if-not-is_above.ensures.0 refl)) (rw c.deref.ensures.value at child.first) (omega (arith, c.loop-hole.invariant.4)) (c.loop-hole.invariant.3 low below down),
-      omega (arith, child.child, child.positive, c.loop-hole.invariant.4),
-      flags_same m hole big c.loop-hole.positions.items c.exchange.new.positions.items c.loop-hole.invariant.2 child.within ex.places ∙ c.loop-hole.invariant.5,
-    )
+    let e = c.index-entry.result.now in
+    let b = c.index-other.result.now in
+    let within : hole < length h = omega (arith, before.within, before.count, c.requires.within) in
+    let f : FirstAbove h m e hole child = rw c.deref.ensures.value at c.in-Some.ensures in
+    let under : (child - 1) / 4 ≡ hole = f.under in
+    let differ : hole ≢ child = omega (arith, f.some) in
+    let in_child : child < length h = omega (arith, f.within, before.count, c.requires.within) in
+    let is : b ≡ _ = get_or_read h child b in_child c.index-other.ensures no_entry in
+    let ex : Exchanged (set h hole e) (set p e.var hole) (set (set h hole b) child e) (set (set p b.var hole) e.var child) hole child =
+    exchanged_by_moving h p e b hole child before.same.placed within in_child differ is in
+    let b_var : b.var < length h = subst (λ (x : Entry). x.var < length h) (sym is) (before.listed child in_child) in
+    rw (c.put.ensures.heap, c.put.ensures.positions) record {
+      within = f.within;
+      behind = omega (arith, before.behind, f.some);
+      count = length-set h hole b ∙ before.count;
+      counts = length-set p b.var hole ∙ before.counts;
+      var = omega (arith, length-set h hole b, before.var);
+      listed = λ k there. omega (arith, length-set h hole b, written_listed h hole (length h) b before.listed b_var within k there);
+      same = one_more_exchanged m hole child c.args.heap.now.items (set h hole e) (set (set h hole b) child e) c.args.positions.now.items (set p e.var hole) (set (set p b.var hole) e.var child) before.within f.within ex before.same;
+      down = λ low below down. down_step (rank_at (set h hole e)) (rank_at (set (set h hole b) child e)) m low hole child f.under f.some f.within ex.ranks (child_is_above h m hole child e within f) (child_is_first h m hole child e f) (omega (arith, before.behind)) (before.down low below down);
+    }
+
+pub returns-clause-ordered : goal.returns-clause-ordered
+returns-clause-ordered c =
+    let before = c.loop-child.invariant in
+    let h = c.loop-child.heap.items in
+    let hole = c.loop-child.hole in
+    let m = c.args.available in
+    let e = c.index-entry.result.now in
+    let within : hole < length h = omega (arith, before.within, before.count, c.requires.within) in
+    let none : NoneAbove h m e hole = rw c.deref.ensures.value at c.in_default.ensures in
+    let ordered : (low : ℕ) → low ≤ c.args.at → DownFrom (rank_at c.args.heap.now.items) m low c.args.at → Ordered (rank_at (set h hole e)) m low =
+    λ low below down. down_done (rank_at (set h hole e)) m low hole (none_is_above h m hole e within none) (before.down low below down) in
+    rw c.put-2.ensures.heap ordered

@@ -1,9 +1,18 @@
-use Rattle.std.proofs.Common.{◌≡◌, length, ◌<◌, ◌≤◌, ◌-◌, ℕ}
-use Rattle.sat_store.specs.heap.Heap.{Placed, rank_at, DownFrom, flags}
+use Rattle.std.proofs.Common.{◌≡◌, ◌<◌, ◌≤◌, ◌-◌, ℕ, length, set}
+use Rattle.sat_store.specs.heap.Heap.{var_at, rank_at, DownFrom, Rearranged}
 use Rattle.sat_store.proofs.vsids.heap.sift_down.Given as goal
 
-abbrev pub invariant-loop-hole : goal.invariant-loop-hole
-invariant-loop-hole l = Placed l.heap.items l.positions.items × (length l.heap.items ≡ length l.fn.heap.items) × (l.hole < l.available) × ((low : ℕ) → low ≤ l.at → DownFrom (rank_at l.activities l.fn.heap.items) l.available low l.at → DownFrom (rank_at l.activities l.heap.items) l.available low l.hole) × (l.at ≤ l.hole) × (flags l.available l.positions.items ≡ flags l.available l.fn.positions.items)
+abbrev pub invariant-loop-child : goal.invariant-loop-child
+invariant-loop-child l = record {
+  within : l.hole < l.available;
+  behind : l.at ≤ l.hole;
+  count : length l.heap.items ≡ length l.fn.heap.items;
+  counts : length l.positions.items ≡ length l.fn.heap.items;
+  var : l.entry.var < length l.heap.items;
+  listed : (k : ℕ) → k < length l.heap.items → var_at l.heap.items k < length l.heap.items;
+  same : Rearranged l.available l.fn.heap.items l.fn.positions.items (set l.heap.items l.hole l.entry) (set l.positions.items l.entry.var l.hole);
+  down : (low : ℕ) → low ≤ l.at → DownFrom (rank_at l.fn.heap.items) l.available low l.at → DownFrom (rank_at (set l.heap.items l.hole l.entry)) l.available low l.hole;
+}
 
-abbrev pub decreases-loop-hole : goal.decreases-loop-hole
-decreases-loop-hole l = l.available - l.hole
+abbrev pub decreases-loop-child : goal.decreases-loop-child
+decreases-loop-child l = l.available - l.hole

@@ -1,13 +1,19 @@
 use Rattle.std.proofs.Common.{Ok, ◌∙◌, subst}
+use Rattle.std.proofs.lemmas.Result.{err_from_is_err_and}
 use Rattle.sat_base.specs.declared.device.whole.ReadError.{ReadError}
 use Rattle.certify.specs.declared.reading.Reached.{Reached}
 use Rattle.certify.specs.declared.reading.ScriptEnd.TheVariants as ends
 use Rattle.certify.specs.reading.Ahead.{waiting}
 use Rattle.certify.specs.reading.Streaming.{Takes}
 use Rattle.certify.proofs.lemmas.matching.Compared.{some_list}
-use Rattle.certify.proofs.lemmas.reading.Streaming.{brings_more, brings_command, brings_malformed, some_bytes, taken_fewer}
+use Rattle.certify.proofs.lemmas.reading.Streaming.{brings_none, brings_more, brings_command, brings_malformed, some_bytes, taken_fewer}
 use Rattle.certify.proofs.lemmas.reading.Tokens.{end_malformed}
 use Rattle.certify.proofs.reading.stream.CommandStream.advance.Goals as goal
+
+pub returns-in_err-take-clause-brings : goal.returns-in_err-take-clause-brings
+returns-in_err-take-clause-brings g c =
+    let p = err_from_is_err_and c.from_residual.result c.from_residual.ensures.1 in
+    rw p.1 (brings_none g.S.CountedRead.seen c.args.script.now c.args.self.now c.take.new.self _ p.2 c.in_err-take.ensures)
 
 pub returns-in-More-clause-brings : goal.returns-in-More-clause-brings
 returns-in-More-clause-brings g c =

@@ -1,7 +1,7 @@
 use Rattle.std.proofs.Common.{ap, is_some}
 use Rattle.sat_base.specs.steps.StepViews.{step_of}
 use Rattle.sat_solver.specs.session.MadeView.{listed_in}
-use Rattle.sat_solver.proofs.lemmas.session.CheckedLemmas.{lost_fed, taken_fed, failed_fed, taken_cause, taken_why}
+use Rattle.sat_solver.proofs.lemmas.session.CheckedLemmas.{lost_fed, taken_fed, failed_fed, taken_cause, taken_why, may_more}
 use Rattle.sat_solver.proofs.session.made.Made.take.Goals as goal
 
 pub invariant_of-self-clause-fed : goal.invariant_of-self-clause-fed
@@ -31,3 +31,12 @@ returns-in-Err-clause-fails g c =
 
 pub take-requires-clause-cut : goal.take-requires-clause-cut
 take-requires-clause-cut g c = c.requires.cut (ap (λ o. is_some (listed_in o c.args.self.now.roll.items)) c.in-Some.is)
+
+pub invariant_of-self-clause-may : goal.invariant_of-self-clause-may
+invariant_of-self-clause-may g c = may_more c.args.self.now.history.steps c.and-self.result.steps (step_of c.args.step.now) c.and-self.ensures c.requires.may
+
+pub invariant_of-self-in-Ok-clause-may : goal.invariant_of-self-in-Ok-clause-may
+invariant_of-self-in-Ok-clause-may g c = may_more c.args.self.now.history.steps c.and-self.result.steps (step_of c.args.step.now) c.and-self.ensures c.requires.may
+
+pub invariant_of-self-in-Err-clause-may : goal.invariant_of-self-in-Err-clause-may
+invariant_of-self-in-Err-clause-may g c = may_more c.args.self.now.history.steps c.and-self.result.steps (step_of c.args.step.now) c.and-self.ensures c.requires.may

@@ -1,0 +1,184 @@
+#!/usr/bin/env python3
+"""How the time of small texts that ask much grows with their size.
+
+scale.py PROGRAM [NAME..]: for each text below (or those that are named), at three sizes, the time of PROGRAM (certify) in seconds of its
+own processor time, the least of three, and the exponent by which that grows with the bytes read. Those above 1.15 are marked. A text whose
+exponent counts is sized so that its last time is some tenths of a second or more; what takes less than a hundredth has no exponent.
+"""
+import math
+import os
+import resource
+import subprocess
+import sys
+import tempfile
+
+
+def number(n):
+    """A number of a certificate: seven bits a byte, the lowest first."""
+    out = bytearray()
+    while n > 127:
+        out.append(n & 127 | 128)
+        n >>= 7
+    out.append(n)
+    return bytes(out)
+
+
+def literals(clause):
+    codes = [(abs(l) - 1) * 2 + (l < 0) for l in clause]
+    return number(len(codes)) + b"".join(map(number, codes))
+
+
+def add(clause):
+    return b"\x05" + literals(clause)
+
+
+def derive(clause, hashes):
+    return b"\x06\x01" + literals(clause) + number(len(hashes)) + b"".join(map(number, hashes))
+
+
+def solver_name(var, name):
+    return b"\x01" + number(var) + number(name + 1)
+
+
+def delete_var(var):
+    return b"\x03" + number(var)
+
+
+def width(bits):
+    return b"\x09" + bytes([bits])
+
+
+END = b"\x0d"
+
+
+def join(pieces):
+    return b"".join(pieces)
+
+
+def line(*literals):
+    return b"%s 0\n" % b" ".join(b"%d" % l for l in literals)
+
+
+# Scripts.
+
+def chain(n):
+    """Implications from one name to the next, the first name true."""
+    return join(line(-(i + 1), i + 2) for i in range(n)) + line(1) + b"a 0\n"
+
+
+def pairs(n):
+    """Two neighbouring names a clause."""
+    return join(line(2 * i + 1, 2 * i + 2) for i in range(n)) + b"a 0\n"
+
+
+def hides(n):
+    """One name made true and hidden, again and again."""
+    return b"1 0\nh 1 0\n" * n + b"a 0\n"
+
+
+def falling(n):
+    """One clause, whose names an ask makes false in order."""
+    return line(*range(1, n + 1)) + b"a " + line(*range(-1, -n, -1))
+
+
+# Certificates.
+
+def widths(n):
+    """The width changes as often as there are clauses."""
+    return join(add([2 * i + 1, 2 * i + 2]) for i in range(n)) + join(width(64 if i % 2 else 32) for i in range(n)) + END
+
+
+def renames(n):
+    """One variable of all clauses has another solver name, again and again."""
+    return join(add([1, i + 2]) for i in range(n)) + join(solver_name(0, i % 2 * 5) for i in range(n)) + END
+
+
+def renames_all(n):
+    """Each variable has another solver name in turn."""
+    return join(add([i + 1, i + 2]) for i in range(n)) + join(solver_name(i, n + i + 1) for i in range(n)) + END
+
+
+def deletions(n):
+    """Units, whose variables are deleted in order."""
+    return join(add([i + 1]) for i in range(n)) + join(delete_var(i) for i in range(n)) + END
+
+
+def added_and_deleted(n):
+    """One variable has a unit and is deleted, again and again."""
+    return (add([1]) + delete_var(0)) * n + END
+
+
+def widths_used(n):
+    """The width changes again and again, and a hash is named at each."""
+    clauses = join(add([2 * i + 1, 2 * i + 2]) for i in range(n))
+    return clauses + (width(32) + derive([1, -1, 2], [0]) + width(64) + derive([1, -1, 2], [0])) * (n // 4) + END
+
+
+TEXTS = [
+    # text, commands, sizes
+    (chain, ["run", "confirm"], [32768, 131072, 262144]),
+    (pairs, ["run", "confirm"], [32768, 131072, 262144]),
+    (hides, ["run", "confirm"], [8192, 16384, 32768]),
+    (falling, ["run", "confirm"], [8192, 16384, 32768]),
+    (widths, ["hints"], [1024, 2048, 4096]),
+    (widths_used, ["hints"], [1024, 2048, 4096]),
+    (renames, ["hints"], [1024, 2048, 4096]),
+    (renames_all, ["hints"], [1024, 2048, 4096]),
+    (deletions, ["hints"], [8192, 16384, 32768]),
+    (added_and_deleted, ["hints"], [65536, 131072, 262144]),
+]
+
+
+def seconds(command):
+    """The least processor time of three runs."""
+    least = math.inf
+    for _ in range(3):
+        before = resource.getrusage(resource.RUSAGE_CHILDREN)
+        answer = subprocess.run(command, stdout=subprocess.DEVNULL, stderr=subprocess.PIPE, check=False)
+        after = resource.getrusage(resource.RUSAGE_CHILDREN)
+        if answer.returncode != 0:
+            sys.exit(f"{' '.join(command)}: status {answer.returncode}, {answer.stderr.decode(errors='replace')}")
+        least = min(least, after.ru_utime + after.ru_stime - before.ru_utime - before.ru_stime)
+    return least
+
+
+def measured(program, make, command, size):
+    """The bytes that are read, and the time."""
+    with open("in", "wb") as text:
+        text.write(make(size))
+    if command == "hints":
+        return os.path.getsize("in"), seconds([program, "hints", "in", "hints"])
+    run = seconds([program, "run", "in", "answers", "certificate"])
+    if command == "run":
+        return os.path.getsize("in"), run
+    read = sum(map(os.path.getsize, ["in", "answers", "certificate"]))
+    return read, seconds([program, "confirm", "in", "answers", "certificate"])
+
+
+def exponent(rows):
+    """The slope of the line through the logarithms, by least squares."""
+    if rows[0][1] < 0.01:
+        return None
+    xs, ys = [math.log(b) for b, _ in rows], [math.log(t) for _, t in rows]
+    x, y = sum(xs) / len(xs), sum(ys) / len(ys)
+    return sum((a - x) * (b - y) for a, b in zip(xs, ys)) / sum((a - x) ** 2 for a in xs)
+
+
+def main():
+    program, names = os.path.abspath(sys.argv[1]), sys.argv[2:]
+    with tempfile.TemporaryDirectory() as folder:
+        os.chdir(folder)
+        for make, commands, sizes in TEXTS:
+            if names and make.__name__ not in names:
+                continue
+            for command in commands:
+                rows = [measured(program, make, command, size) for size in sizes]
+                grows = exponent(rows)
+                shown = "    -" if grows is None else f"{grows:5.2f}{' above' if grows > 1.15 else ''}"
+                times = " ".join(f"{t:7.3f}" for _, t in rows)
+                print(f"{make.__name__:18} {command:8} {rows[-1][0]:10} bytes {times} s  exponent {shown}", flush=True)
+        os.chdir("/")
+
+
+if __name__ == "__main__":
+    main()

@@ -1,0 +1,64 @@
+-- The bytes that a reader gives are too few for the checker's ids and counts to come to their end.
+use Rattle.std.proofs.Common.{ℕ, ◌+◌, ◌^◌, ◌<◌, ◌≤◌, ◌≡◌, ◌⊎◌, ◌∙◌, List, [], ◌∷◌, ◌++◌, length, length-append, append_assoc, Option, None, Some, inl, inr, refl, sym, ap, subst, arith}
+use Rattle.std.proofs.lemmas.List.{append-nil}
+use Rattle.sat_base.specs.steps.Steps.{Step}
+use Rattle.sat_base.specs.steps.StepText.{SpellsStep, SpellsSteps}
+use Rattle.sat_checker.specs.Accepts.{Accepts, effect, stored_after, ready_after}
+use Rattle.sat_checker.specs.ProofView.{most_bytes, taken_after}
+use Rattle.sat_checker.specs.Spent.{IsSpent, SpentBy}
+use Rattle.sat_checker.specs.Stored.{Stored}
+use Rattle.sat_checker.specs.Storing.{clause_with, irredundant_count, redundant_count, settled, settled_by}
+use Rattle.sat_checker.proofs.lemmas.checker.Proofs.{taken_one}
+use Rattle.sat_checker.proofs.lemmas.invariants.FewBytes.{ids_within_bytes, none_is_spent}
+use Rattle.certify.specs.confirm.Walks.{Spends, spent_settling, spent_trying, spent_taking}
+
+-- a pending unit conflict that is settled raises no count
+settled_clauses : (f : Stored) → (settled f).clauses ≡ f.clauses
+settled_clauses f = go f.conflict
+  where
+    go : (o : Option (ℕ × ℕ)) → (settled_by o f).clauses ≡ f.clauses
+    go None = refl
+    go (Some units) = refl
+
+spent_before : (f : Stored) (n : ℕ) → (settled f).next_id ≤ n → n ≤ most_bytes → IsSpent (settled f) → IsSpent f
+spent_before f n i l spent = elim spent [
+  | inl h ↦ absurd (let e : most_bytes < 2 ^ 64 = omega arith in omega arith)
+  | inr h ↦ inr (record {
+    literals = h.literals;
+    past = subst (λ cs. (2 ^ 64 ≤ irredundant_count (clause_with h.literals cs)) ⊎ (2 ^ 64 ≤ redundant_count (clause_with h.literals cs))) (settled_clauses f) h.past;
+  })
+]
+
+spells_one : (steps : List Step) (text : List ℕ) (step : Step) (behind : List ℕ) → SpellsSteps steps text → SpellsStep step behind → SpellsSteps (steps ++ step ∷ []) (text ++ behind)
+spells_one [] text step behind s h = (behind, [], h, refl, ap (λ z. z ++ behind) s ∙ sym (append-nil behind))
+spells_one (x ∷ xs) text step behind s h = (s.0, s.1 ++ behind, s.2, spells_one xs s.1 step behind s.3 h, ap (λ z. z ++ behind) s.4 ∙ append_assoc s.0 s.1 behind)
+
+longer : (text step rest bytes : List ℕ) → bytes ≡ step ++ rest → length text + length bytes ≤ most_bytes → length (text ++ step) + length rest ≤ most_bytes
+longer text step rest bytes e l =
+    let a : length (text ++ step) ≡ length text + length step = length-append text step in
+    let b : length bytes ≡ length step + length rest = ap length e ∙ length-append step rest in
+    omega arith
+
+none_spent : (earlier done : List Step) (text bytes : List ℕ) → taken_after done [] ≡ earlier → SpellsSteps done text → length text + length bytes ≤ most_bytes → (IsSpent (ready_after earlier) → ⊥) → Spends earlier bytes → ⊥
+none_spent earlier done text bytes e s l low (spent_settling h) = low h
+none_spent earlier done text bytes e s l low (spent_trying step behind rest cut spelt h) =
+    let few : length (text ++ behind) ≤ most_bytes = let k = longer text behind rest bytes cut l in omega arith in
+    none_is_spent done step (text ++ behind) (spells_one done text step behind s spelt) few (subst (λ z. SpentBy step (stored_after z)) (sym e) h)
+none_spent earlier done text bytes e s l low (spent_taking step behind rest cut spelt accepts h) =
+    let more = spells_one done text step behind s spelt in
+    let k = longer text behind rest bytes cut l in
+    let few : length (text ++ behind) ≤ most_bytes = omega arith in
+    let whole : taken_after (done ++ step ∷ []) [] ≡ step ∷ earlier = taken_one done step [] ∙ ap (λ z. step ∷ z) e in
+    let ids : (ready_after (step ∷ earlier)).next_id ≤ length (text ++ behind) = subst (λ z. (ready_after z).next_id ≤ length (text ++ behind)) whole (ids_within_bytes (done ++ step ∷ []) (text ++ behind) more) in
+    none_spent (step ∷ earlier) (done ++ step ∷ []) (text ++ behind) rest whole more k
+    (λ spent. none_is_spent done step (text ++ behind) more few
+    (subst (λ z. SpentBy step (stored_after z)) (sym e) (inr (accepts, spent_before (effect step (ready_after earlier)) (length (text ++ behind)) ids few spent)))) h
+
+pub nothing_spent : (bytes : List ℕ) → length bytes ≤ most_bytes → Spends [] bytes → ⊥
+nothing_spent bytes l = none_spent [] [] [] bytes refl refl (let k : length bytes ≤ most_bytes = l in omega arith) none_begun
+  where
+    none_begun : IsSpent (ready_after []) → ⊥
+    none_begun spent = elim spent [
+      | inl h ↦ absurd (omega arith)
+      | inr h ↦ elim h.past [ inl k ↦ absurd (omega arith) | inr k ↦ absurd (omega arith) ]
+    ]

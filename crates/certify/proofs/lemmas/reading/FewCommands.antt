@@ -1,0 +1,153 @@
+-- A text has no more commands than bytes, but for two.
+use Rattle.std.proofs.Common.{ℕ, ◌+◌, ◌≤◌, ◌<◌, ◌≡◌, ◌∙◌, Bool, true, false, not, ◌&&◌, cond, nat_eq, Option, Some, None, is_some, List, [], ◌∷◌, ◌++◌, map, length, length-append, refl, sym, ap, subst, arith}
+use Rattle.std.proofs.lemmas.List.{length-map}
+use Rattle.sat_base.specs.text.Text.{Token, Number, Letter, Header, Wrong, is_blank, goes_on, begins_with, header_if, header_of, is_none, lines, onto_first, on_line, words, token, tokens, tokens_of, scan}
+use Rattle.sat_base.specs.script.Script.{Command, Ask, Ending, Clean, Malformed, has_ask, is_clean}
+use Rattle.sat_base.specs.script.Language.{Reading, Hand, Nothing, Within, Turn, GoesOn, Ends, Fails, at_end, behind_turn, commands_of, onto_commands, reading, spoken, turn, with_ask, written}
+use Rattle.certify.specs.confirm.VerdictPromises.{numbers}
+
+-- WORDS AND LINES
+
+firsts : (b : ℕ) (ws : List (List ℕ)) → length (onto_first b ws) ≤ length ws + 1
+firsts b [] = omega arith
+firsts b (w ∷ ws) = omega arith
+
+words_next : (b : ℕ) (bs : List ℕ) → length (words (b ∷ bs)) ≤ length (words bs) + 1
+unfolding words
+words_next b bs = go (is_blank b) (goes_on bs)
+  where
+    go : (x y : Bool) → length (cond x (words bs) (cond y (onto_first b (words bs)) ((b ∷ []) ∷ words bs))) ≤ length (words bs) + 1
+    go true y = omega arith
+    go false true = firsts b (words bs)
+    go false false = omega arith
+
+no_words : length (words []) ≤ 0
+unfolding words
+no_words = omega arith
+
+few_words : (line : List ℕ) → length (words line) ≤ length line
+few_words [] = no_words
+few_words (b ∷ bs) = let h = few_words bs in let k = words_next b bs in omega arith
+
+-- the bytes of lines
+abbrev total : List (List ℕ) → ℕ
+total [] = 0
+total (line ∷ ls) = length line + total ls
+
+firsts_total : (b : ℕ) (ls : List (List ℕ)) → total (onto_first b ls) ≤ total ls + 1
+firsts_total b [] = omega arith
+firsts_total b (line ∷ ls) = omega arith
+
+lines_next : (b : ℕ) (bs : List ℕ) → total (lines (b ∷ bs)) ≤ total (lines bs) + 1
+unfolding lines
+lines_next b bs = go (nat_eq b 10)
+  where
+    go : (x : Bool) → total (cond x ((b ∷ []) ∷ lines bs) (onto_first b (lines bs))) ≤ total (lines bs) + 1
+    go true = omega arith
+    go false = firsts_total b (lines bs)
+
+no_lines : total (lines []) ≤ 0
+unfolding lines
+no_lines = omega arith
+
+few_bytes : (text : List ℕ) → total (lines text) ≤ length text
+few_bytes [] = no_lines
+few_bytes (b ∷ bs) = let h = few_bytes bs in let k = lines_next b bs in omega arith
+
+-- TOKENS
+
+begins_none : (c : ℕ) → begins_with c [] ≡ false
+unfolding begins_with
+begins_none c = refl
+
+begins_some : (c : ℕ) (line : List ℕ) → begins_with c line ≡ true → 0 < length line
+begins_some c [] e = absurd (let k : false ≡ true = sym (begins_none c) ∙ e in cc)
+begins_some c (b ∷ bs) e = omega arith
+
+joined : (xs ys : List (ℕ × Token)) (a b : ℕ) → length xs ≤ a → length ys ≤ b → length (xs ++ ys) ≤ a + b
+joined xs ys a b h k = let l = length-append xs ys in omega arith
+
+lined : (n : ℕ) (line : List ℕ) → length (on_line n (words line)) ≤ length line
+lined n line = subst (λ k. k ≤ length line) (sym (length-map (words line) (λ w. (n, token w)))) (few_words line)
+
+tokens_next : (may : Bool) (n : ℕ) (line : List ℕ) (ls : List (List ℕ)) → ((m : Bool) (k : ℕ) → length (tokens_of m k ls) ≤ total ls) → length (tokens_of may n (line ∷ ls)) ≤ length line + total ls
+unfolding tokens_of
+tokens_next may n line ls ih = go (begins_with 37 line) (begins_with 99 line) (begins_with 112 line) refl
+  where
+    go : (x y z : Bool) → begins_with 112 line ≡ z → length (cond x [] (cond y (tokens_of may (n + 1) ls) (cond z ((n + 1, header_if may line) ∷ tokens_of false (n + 1) ls) (on_line (n + 1) (words line) ++ tokens_of (may && is_none (words line)) (n + 1) ls)))) ≤ length line + total ls
+    go true y z e = omega arith
+    go false true z e = let h = ih may (n + 1) in omega arith
+    go false false true e = let h = ih false (n + 1) in let k = begins_some 112 line e in omega arith
+    go false false false e = joined (on_line (n + 1) (words line)) (tokens_of (may && is_none (words line)) (n + 1) ls) (length line) (total ls) (lined (n + 1) line) (ih (may && is_none (words line)) (n + 1))
+
+no_tokens : (may : Bool) (n : ℕ) → length (tokens_of may n []) ≤ 0
+unfolding tokens_of
+no_tokens may n = omega arith
+
+few_tokens : (may : Bool) (n : ℕ) (ls : List (List ℕ)) → length (tokens_of may n ls) ≤ total ls
+few_tokens may n [] = no_tokens may n
+few_tokens may n (line ∷ ls) = tokens_next may n line ls (λ m k. few_tokens m k ls)
+
+both : (a b c : ℕ) → a ≤ b → b ≤ c → a ≤ c
+both a b c h k = omega arith
+
+few_scanned : (text : List ℕ) → length (tokens text) ≤ length text
+unfolding scan
+few_scanned text = both (length (tokens text)) (total (lines text)) (length text) (few_tokens true 0 (lines text)) (few_bytes text)
+
+-- COMMANDS
+
+least : (r : Reading) → length r.0 ≤ numbers r
+least (cs, Clean) = omega arith
+least (cs, Malformed) = omega arith
+
+one_more : (c : Command) (r : Reading) → numbers (onto_commands (c ∷ []) r) ≡ numbers r + 1
+one_more c (cs, Clean) = omega arith
+one_more c (cs, Malformed) = omega arith
+
+commands_none : (hand : Hand) → commands_of hand [] ≡ ([], at_end hand)
+unfolding commands_of
+commands_none hand = refl
+
+commands_next : (hand : Hand) (t : Token) (ts : List Token) → commands_of hand (t ∷ ts) ≡ behind_turn (turn hand t) (λ h. commands_of h ts)
+unfolding commands_of
+commands_next hand t ts = refl
+
+few_none : (hand : Hand) → numbers ([], at_end hand) ≤ 1
+few_none Nothing = omega arith
+few_none (Within k ls) = omega arith
+
+few_turn : (u : Turn) (more : Hand → Reading) (n : ℕ) → ((h : Hand) → numbers (more h) ≤ n + 1) → numbers (behind_turn u more) ≤ n + 1 + 1
+few_turn (GoesOn hand) more n f = let h = f hand in omega arith
+few_turn (Ends c) more n f = let h = f Nothing in let e = one_more c (more Nothing) in omega arith
+few_turn Fails more n f = omega arith
+
+few_commands : (hand : Hand) (ts : List Token) → numbers (commands_of hand ts) ≤ length ts + 1
+few_commands hand [] = subst (λ (r : Reading). numbers r ≤ 1) (sym (commands_none hand)) (few_none hand)
+few_commands hand (t ∷ ts) =
+    let h : numbers (commands_of hand (t ∷ ts)) ≤ length ts + 1 + 1 = subst (λ (r : Reading). numbers r ≤ length ts + 1 + 1) (sym (commands_next hand t ts)) (few_turn (turn hand t) (λ k. commands_of k ts) (length ts) (λ k. few_commands k ts)) in
+    omega arith
+
+few_asked : (due : Bool) (r : Reading) → numbers (with_ask due r) ≤ numbers r + 1
+few_asked due r = go (due && (is_clean r.1 && not (has_ask r.0)))
+  where
+    go : (b : Bool) → numbers (cond b (r.0 ++ Ask [] ∷ [], Clean) r) ≤ numbers r + 1
+    go true = let h = least r in let l = length-append r.0 (Ask [] ∷ []) in omega arith
+    go false = omega arith
+
+one_past : (a b c : ℕ) → a ≤ b + 1 → b ≤ c → a ≤ c + 1
+one_past a b c h k = omega arith
+
+few_spoken : (text : List ℕ) → length (spoken (tokens text)) ≤ length text
+few_spoken text = subst (λ k. k ≤ length text) (sym (length-map (tokens text) (λ t. t.1))) (few_scanned text)
+
+few_written : (text : List ℕ) → numbers (written text) ≤ length text + 1
+unfolding written
+few_written text = one_past (numbers (written text)) (length (spoken (tokens text))) (length text) (few_commands Nothing (spoken (tokens text))) (few_spoken text)
+
+two_past : (a b c : ℕ) → a ≤ b + 1 → b ≤ c + 1 → a ≤ c + 2
+two_past a b c h k = omega arith
+
+pub few_read : (text : List ℕ) → numbers (reading text) ≤ length text + 2
+unfolding reading
+few_read text = two_past (numbers (reading text)) (numbers (written text)) (length text) (few_asked (is_some (header_of text)) (written text)) (few_written text)

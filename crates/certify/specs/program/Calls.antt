@@ -1,0 +1,11 @@
+-- What a call of the program does to the files that its words name.
+use Rattle.std.specs.Prelude.{◌≡◌}
+use Rattle.certify.specs.declared.program.call.Call.{Call}
+use Rattle.certify.specs.declared.program.call.Call.TheVariants as call
+
+-- no file that it reads is written over: no output has the word of the input
+abbrev pub KeepsInput : Call → Type 0
+KeepsInput (call.Run files budget) = (files.answers.now ≡ files.script.now → ⊥) × (files.certificate.now ≡ files.script.now → ⊥)
+KeepsInput (call.Confirm files) = Unit {0}
+KeepsInput (call.Hints certificate hints) = hints.now ≡ certificate.now → ⊥
+KeepsInput (call.Check hints) = Unit {0}

@@ -1,0 +1,60 @@
+-- What a run that wasn't finished has written of the answers, and what any run has written of its certificate.
+use Rattle.std.specs.Prelude.{ℕ, ◌≡◌, List, ◌++◌}
+use Rattle.std.specs.Io.KnownBytes.{Appends}
+use Rattle.sat_base.specs.device.Device.{Reader, Writer, CanFollow, GaveFront}
+use Rattle.sat_base.specs.script.Judge.{Judge, accepted_of, start}
+use Rattle.sat_base.specs.script.Language.{Reading, reading}
+use Rattle.sat_base.specs.steps.Steps.{Step}
+use Rattle.sat_checker.specs.Accepts.{AcceptsAll}
+use Rattle.sat_checker.specs.matching.Expected.{Outcome}
+use Rattle.sat_solver.specs.declared.session.counting.Counting.{Counting}
+use Rattle.sat_solver.specs.declared.session.format.ProofFormat.TheVariants.{Varisat}
+use Rattle.sat_solver.specs.session.Counting.{start as uncounted, Cuts}
+use Rattle.sat_solver.specs.session.OutputView.{text_in}
+use Rattle.certify.specs.answers.Answers.{answers_from}
+use Rattle.certify.specs.answers.RightAnswers.{AreRight}
+
+-- the writer took these bytes, whether or not a call failed then
+pub record TookBytes (old new : Writer) (bytes : List ℕ) : Type 0 where
+  pub taken : new.taken ≡ old.taken ++ bytes
+  pub told : Appends old.contents new.contents bytes
+
+-- Right answers to a script begin with these bytes, where its first command has this number.
+pub record BeginAnswers (number : ℕ) (j : Judge) (script : Reading) (bytes : List ℕ) : Type 0 where
+  pub outcomes : List Outcome
+  pub right : AreRight j (accepted_of j script.0) outcomes
+  pub behind : List ℕ
+  pub whole : answers_from number j script.0 script.1 outcomes ≡ bytes ++ behind
+
+-- the writer took a front of them, and nothing else
+pub record TookFront (number : ℕ) (j : Judge) (script : Reading) (old new : Writer) : Type 0 where
+  pub bytes : List ℕ
+  pub took : TookBytes old new bytes
+  pub front : BeginAnswers number j script bytes
+
+-- a reader gave the front of a text of which this is so, whatever follows
+pub record GaveFrontOf (old new : Reader) (P : List ℕ → Type 0) : Type 0 where
+  pub text : List ℕ
+  pub front : GaveFront old new text
+  pub holds : (rest : List ℕ) → CanFollow old new rest → P (text ++ rest)
+
+-- the writer took a front of right answers to the text that the reader gave, whatever follows in it
+abbrev pub Unfinished : Reader × Reader → Writer × Writer → Type 0
+Unfinished script answers = GaveFrontOf script.0 script.1 (λ text. TookFront 1 start (reading text) answers.0 answers.1)
+
+-- The writer took a front of the text of these steps, and nothing else. A checker accepts each of them in its turn. They are what is written
+-- for those that were made, with widths for their hashes. Lists have the newest first.
+pub record StepsFront (old new : Writer) : Type 0 where
+  pub made : List Step
+  pub steps : List Step
+  pub counting : Counting
+  pub cuts : Cuts uncounted made steps counting
+  pub accepted : AcceptsAll steps
+  pub bytes : List ℕ
+  pub behind : List ℕ
+  pub whole : text_in Varisat steps ≡ bytes ++ behind
+  pub took : TookBytes old new bytes
+
+-- there are such steps
+abbrev pub TookSteps : Writer × Writer → Type 0
+TookSteps certificate = ∥ StepsFront certificate.0 certificate.1 ∥₁

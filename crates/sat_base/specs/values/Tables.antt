@@ -1,0 +1,22 @@
+-- What a table has at each place.
+use Rattle.std.specs.Prelude.{ℕ, ◌<◌, ◌⊎◌, Option, Some, None, length, slice_index_or, if◌then◌else◌, nat_lt}
+use Rattle.std.specs.Option.{IsSome}
+use Rattle.std.specs.Ordering.{nat_cmp}
+use Rattle.std.specs.BTreeMap.{get}
+use Rattle.sat_base.specs.declared.table.Table.{Table}
+
+-- how many places have their values in the list
+abbrev pub near_count : {T : Type 0} → Table T → ℕ
+near_count t = length t.near.items
+
+abbrev pub value_or : {T : Type 0} → Option T → T → T
+value_or (Some x) y = x
+value_or None y = y
+
+-- near places have their values in the list, others in the tree, or they are missing and have this one
+abbrev pub value_at : {T : Type 0} → T → Table T → ℕ → T
+value_at missing t v = if nat_lt v (near_count t) then slice_index_or t.near.items v missing else value_or (get nat_cmp t.far v) missing
+
+-- the value there can be set without memory
+abbrev pub HasRoom : {T : Type 0} → Table T → ℕ → Type 0
+HasRoom t v = (v < near_count t) ⊎ IsSome (get nat_cmp t.far v)

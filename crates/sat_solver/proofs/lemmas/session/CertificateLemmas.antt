@@ -1,0 +1,43 @@
+-- What a target took is the text of steps that a checker accepts.
+use Rattle.std.proofs.Common.{◌≡◌, ◌∙◌, true, false, List, [], ◌∷◌, ◌++◌, refl, sym, ap, subst}
+use Rattle.std.proofs.lemmas.Bool.{true≢false}
+use Rattle.sat_base.specs.device.Device.{Writer}
+use Rattle.sat_base.specs.steps.Steps.{Step, SolverVarName, UserVarName, DeleteVar, ChangeSamplingMode, AddClause, AtClause, UnitClauses, DeleteClause, ChangeHashBits, Model, Assumptions, FailedAssumptions, End}
+use Rattle.sat_solver.specs.session.Checked.{has_begun}
+use Rattle.sat_solver.specs.session.ProofTexts.{IsCertificate, TookSince}
+use Rattle.sat_solver.specs.session.Session.{May, MayAll, nothing, after, session_after}
+use Rattle.sat_solver.specs.declared.session.format.ProofFormat.{ProofFormat}
+use Rattle.sat_solver.proofs.lemmas.session.CutsLemmas.{cuts_are_free}
+use Rattle.sat_solver.proofs.lemmas.session.StepLemmas.{stands}
+
+-- ends of proofs leave nothing
+none_begun : (before : List Step) → has_begun before ≡ false → session_after before ≡ nothing
+none_begun [] e = refl
+none_begun (End ∷ steps) e = ap (after End) (none_begun steps e)
+none_begun (SolverVarName v name ∷ steps) e = absurd (true≢false e)
+none_begun (UserVarName v name ∷ steps) e = absurd (true≢false e)
+none_begun (DeleteVar v ∷ steps) e = absurd (true≢false e)
+none_begun (ChangeSamplingMode v sample ∷ steps) e = absurd (true≢false e)
+none_begun (AddClause clause ∷ steps) e = absurd (true≢false e)
+none_begun (AtClause redundant clause hashes ∷ steps) e = absurd (true≢false e)
+none_begun (UnitClauses us ∷ steps) e = absurd (true≢false e)
+none_begun (DeleteClause clause proof ∷ steps) e = absurd (true≢false e)
+none_begun (ChangeHashBits bits ∷ steps) e = absurd (true≢false e)
+none_begun (Model ls ∷ steps) e = absurd (true≢false e)
+none_begun (Assumptions ls ∷ steps) e = absurd (true≢false e)
+none_begun (FailedAssumptions core hashes ∷ steps) e = absurd (true≢false e)
+
+module _ (before : List Step) (none : session_after before ≡ nothing) where
+  session_behind : (steps : List Step) → session_after (steps ++ before) ≡ session_after steps
+  session_behind [] = none
+  session_behind (step ∷ steps) = ap (after step) (session_behind steps)
+
+  -- what comes behind them may come first
+  may_behind : (steps : List Step) → MayAll (steps ++ before) → MayAll steps
+  may_behind [] h = tt
+  may_behind (step ∷ steps) h = (may_behind steps h.0, subst (λ s. May s step) (session_behind steps) h.1)
+
+pub is_certificate : (f : ProofFormat) (from given : Writer) (before now : List Step) → has_begun before ≡ false → MayAll now → TookSince f from given before now → IsCertificate f from given before now
+is_certificate f from given before now e may since =
+    let written = cuts_are_free since.steps since.took.written since.took.counting since.took.cuts (may_behind before (none_begun before e) since.steps (subst MayAll since.behind may)) in
+    record { since = since; accepted = (stands since.took.written written.may).0 }

@@ -1,0 +1,151 @@
+//! Each call of a proof's target fails in turn, in each format, with and without a checker of the solver's own; and what a solver drops
+//! isn't called.
+
+use crate::calls::{Behind, Call, Kind, Part, Session, done, kind_of};
+use crate::devices::{ByFew, Tally, by_few};
+use crate::driver::{Closed, Play, Proved, played};
+use sat_base::Counted;
+use sat_solver::{HandedBack, ProofFormat, Solver};
+use std::alloc::Global;
+use std::cell::Cell;
+
+const ROWS: &[&[i64]] = &[
+    &[1, 2, 3],
+    &[1, 2, -3],
+    &[1, -2, 3],
+    &[1, -2, -3],
+    &[-1, 2, 3],
+    &[-1, 2, -3],
+    &[-1, -2, 3],
+    &[4, 5],
+];
+
+const LINES: &[Part<'static>] = &[(Kind::Right, &[Call::Formula(ROWS), Call::Solve(true)])];
+
+/// A name is hidden, and comes in again, before a second ask.
+const STEPS: &[Part<'static>] = &[(
+    Kind::Right,
+    &[
+        Call::Formula(ROWS),
+        Call::Solve(true),
+        Call::Hide(4),
+        Call::Clause(&[-1, -2, -3, 4]),
+        Call::Assume(&[-4, 6]),
+        Call::Solve(false),
+    ],
+)];
+
+const CHECKED: &[Part<'static>] = &[(Kind::Right, &[Call::Check])];
+
+/// How a session is written: whether it is checked as it goes, the format, and the calls.
+type Row = (
+    &'static [Part<'static>],
+    ProofFormat,
+    &'static [Part<'static>],
+);
+
+const SESSIONS: &[Row] = &[
+    (&[], ProofFormat::Varisat, STEPS),
+    (CHECKED, ProofFormat::Varisat, STEPS),
+    (&[], ProofFormat::Drat, LINES),
+    (CHECKED, ProofFormat::Drat, LINES),
+    (&[], ProofFormat::BinaryDrat, LINES),
+    (CHECKED, ProofFormat::BinaryDrat, LINES),
+];
+
+type Few = Counted<ByFew>;
+
+type Ended = ((Kind, Closed<Few>), bool);
+
+fn calls_of(target: Few) -> u64 {
+    target.into_inner().calls
+}
+
+/// How a session ends, closing its proof included, and how many calls a target got that was handed back by that, or else by the solver.
+fn end_of(told: Kind, closed: Closed<Few>, left: Option<Few>) -> (Kind, u64) {
+    match (closed, left) {
+        (Ok(Some(target)), None) => (told, calls_of(target)),
+        (Err(error), Some(target)) => {
+            let kind = if told == Kind::Right {
+                kind_of(&error)
+            } else {
+                told
+            };
+            (kind, calls_of(target))
+        }
+        _ => (Kind::Wrong, 0),
+    }
+}
+
+/// How a session ends whose target takes seven bytes at a time and fails at this call, whether the solver has failed then, and how many
+/// calls the target got.
+fn end_with(alloc: Global, (front, format, parts): Row, failing: u64) -> (Kind, bool, u64) {
+    let act = Behind(Proved {
+        target: by_few(alloc, 7, failing),
+        format,
+        act: Session { front, parts },
+    });
+    let (((told, closed), failed), left) = played::<
+        Option<Few>,
+        Solver<Few>,
+        Ended,
+        Behind<Proved<Few, Session<'_>>>,
+    >(alloc, act);
+    let (kind, calls) = end_of(told, closed, left);
+    (kind, failed, calls)
+}
+
+/// Whether each call of the target fails, none comes behind it, and the target is handed back.
+fn each_fails(alloc: Global, row: Row) -> bool {
+    let (whole, _, calls) = end_with(alloc, row, 0);
+    for at in 1..=calls {
+        if end_with(alloc, row, at) != (Kind::Target, true, at) {
+            return false;
+        }
+    }
+    whole == Kind::Right && calls > 2
+}
+
+fn sessions() -> &'static [Row] {
+    SESSIONS
+}
+
+#[test]
+fn each_call_of_a_target_fails(rt: HostRuntime) {
+    for row in sessions() {
+        assert!(rt; each_fails(rt.alloc(), *row));
+    }
+}
+
+/// Hands a proof's target and a processor to a solver that was used, and asks.
+#[derive(Drop)]
+struct Late<'a>(&'a Cell<u64>);
+
+impl<'a> Play<Solver<Counted<Tally<'a>>, Tally<'a>>, [Kind; 4]> for Late<'a> {
+    fn play(self, _alloc: Global, solver: &mut Solver<Counted<Tally<'a>>, Tally<'a>>) -> [Kind; 4] {
+        let used = done(solver.assume(&[]));
+        let target = Counted::new(Tally { calls: self.0 });
+        let proof = done(solver.write_proof(target, ProofFormat::Varisat));
+        let processor = done(solver.add_proof_processor(Tally { calls: self.0 }));
+        [used, proof, processor, done(solver.solve())]
+    }
+}
+
+/// How these calls are answered, and how often target and processor are called, on their way out too.
+fn told_late(alloc: Global) -> ([Kind; 4], u64) {
+    let calls = Cell::new(0);
+    let (kinds, left) = played::<
+        HandedBack<Counted<Tally<'_>>, Tally<'_>>,
+        Solver<Counted<Tally<'_>>, Tally<'_>>,
+        [Kind; 4],
+        Late<'_>,
+    >(alloc, Late(&calls));
+    drop(left);
+    (kinds, calls.get())
+}
+
+#[test]
+fn what_comes_too_late_is_not_called(rt: HostRuntime) {
+    let refused = [Kind::Right, Kind::TooLate, Kind::TooLate, Kind::Right];
+    assert!(rt; told_late(rt.alloc()) == (refused, 0));
+}

@@ -1,0 +1,541 @@
+//! Sessions: calls of a solver, and how each is answered.
+ghost use Rattle.sat_solver.specs.solver.Whole.{IsSolver};
+
+use crate::driver::{Made, Play};
+use sat_base::{CnfFormula, Counted, CountedWrite, ExtendFormula, Lit, Var};
+use sat_checker::ProofProcessor;
+use sat_solver::{Progress, ProofFormat, Solver, SolverConfigUpdate, SolverError};
+use std::alloc::{AllocError, Global};
+use std::io::ErrorKind;
+
+/// How a call is answered.
+#[derive(Clone, Copy, PartialEq, Eq)]
+pub(crate) enum Kind {
+    /// With what is wanted of it.
+    Right,
+    Wrong,
+    Interrupted,
+    Processor,
+    /// With the fault that the target answered.
+    Target,
+    Witness,
+    Assumed,
+    TooLate,
+    NotInDrat,
+    Limit,
+    Malformed,
+    OutOfRange,
+    Failed,
+    Other,
+}
+
+/// A call of a solver, with what it answers where it isn't refused. Names and literals are numbers.
+pub(crate) enum Call {
+    Clause(&'static [i64]),
+    Formula(&'static [&'static [i64]]),
+    Text(&'static [u8]),
+    Assume(&'static [i64]),
+    Set(SolverConfigUpdate),
+    /// So many rounds are allowed for an ask.
+    Allow(u64),
+    Solve(bool),
+    /// An ask under these literals, and a model; there are no assumptions afterwards.
+    Sat(&'static [i64], &'static [i64]),
+    /// The same, and a core.
+    Unsat(&'static [i64], &'static [i64]),
+    Model(&'static [i64]),
+    Core(&'static [i64]),
+    /// No model and no core is known.
+    Unknown,
+    /// Variables without a value, clauses of two literals, and long ones.
+    Counts([u64; 3]),
+    /// Rounds.
+    Steps(u64),
+    /// The least restarts, and the most.
+    Restarts(u64, u64),
+    Hide(i64),
+    Witness(i64),
+    Sample(i64),
+    New(i64),
+    /// The names that hidden variables get.
+    Observe(&'static [i64]),
+    Check,
+    Tell,
+    Proof,
+    Close,
+}
+
+/// Calls that are all answered in one way.
+pub(crate) type Part<'a> = (Kind, &'a [Call]);
+
+pub(crate) fn right_if(is_right: bool) -> Kind {
+    if is_right { Kind::Right } else { Kind::Wrong }
+}
+
+pub(crate) fn kind_of(error: &SolverError) -> Kind {
+    match error {
+        SolverError::Interrupted => Kind::Interrupted,
+        SolverError::ProofProcessorError { .. } => Kind::Processor,
+        SolverError::ProofIoError { cause } => {
+            if cause.kind() == ErrorKind::Interrupted {
+                Kind::Target
+            } else {
+                Kind::Other
+            }
+        }
+        SolverError::WitnessVariable => Kind::Witness,
+        SolverError::AssumedVariable => Kind::Assumed,
+        SolverError::TooLate => Kind::TooLate,
+        SolverError::NotInDrat => Kind::NotInDrat,
+        SolverError::VariableLimit => Kind::Limit,
+        SolverError::Malformed => Kind::Malformed,
+        SolverError::OutOfRange => Kind::OutOfRange,
+        SolverError::HasFailed => Kind::Failed,
+        _ => Kind::Other,
+    }
+}
+
+pub(crate) fn done<T: Drop>(came: Result<T, SolverError>) -> Kind {
+    match came {
+        Ok(_) => Kind::Right,
+        Err(error) => kind_of(&error),
+    }
+}
+
+/// The first that isn't right, if there is one.
+pub(crate) fn first_of(kinds: &[Kind]) -> Kind {
+    for kind in kinds {
+        if *kind != Kind::Right {
+            return *kind;
+        }
+    }
+    Kind::Right
+}
+
+/// Puts literals into a list, in place of what it had.
+pub(crate) fn read(lits: &mut Vec<Lit>, numbers: &[i64]) -> Result<(), AllocError> {
+    lits.clear();
+    for number in numbers {
+        if let Some(lit) = Lit::from_dimacs(*number) {
+            lits.push(lit)?;
+        }
+    }
+    Ok(())
+}
+
+/// Whether the literals are these numbers, in order.
+pub(crate) fn are(lits: &[Lit], numbers: &[i64]) -> bool {
+    if lits.len() != numbers.len() {
+        return false;
+    }
+    for at in 0..lits.len() {
+        if lits[at].to_dimacs() != numbers[at] {
+            return false;
+        }
+    }
+    true
+}
+
+/// Whether the names are these, in order.
+fn are_names(users: &[Var], names: &[i64]) -> bool {
+    if users.len() != names.len() {
+        return false;
+    }
+    for at in 0..users.len() {
+        if users[at].to_dimacs() != names[at] {
+            return false;
+        }
+    }
+    true
+}
+
+fn name(number: i64) -> Var {
+    match Var::from_dimacs(number) {
+        Some(name) => name,
+        None => Var::from_index(0),
+    }
+}
+
+fn add<W: CountedWrite + Drop, P: ProofProcessor>(
+    solver: &mut Solver<W, P>,
+    lits: &mut Vec<Lit>,
+    numbers: &[i64],
+) -> Kind
+    requires { IsSolver solver.old }
+    ensures { IsSolver solver.new }
+{
+    if read(lits, numbers).is_err() {
+        return Kind::Other;
+    }
+    done(solver.add_clause(lits))
+}
+
+fn assume<W: CountedWrite + Drop, P: ProofProcessor>(
+    solver: &mut Solver<W, P>,
+    lits: &mut Vec<Lit>,
+    numbers: &[i64],
+) -> Kind
+    requires { IsSolver solver.old }
+    ensures { IsSolver solver.new }
+{
+    if read(lits, numbers).is_err() {
+        return Kind::Other;
+    }
+    done(solver.assume(lits))
+}
+
+/// Adds these clauses to a formula. Gives whether there was memory.
+fn fill(formula: &mut CnfFormula, lits: &mut Vec<Lit>, rows: &[&[i64]]) -> bool {
+    for at in 0..rows.len() {
+        if read(lits, rows[at]).is_err() || formula.add_clause(lits).is_err() {
+            return false;
+        }
+    }
+    true
+}
+
+fn add_filled<W: CountedWrite + Drop, P: ProofProcessor>(
+    solver: &mut Solver<W, P>,
+    formula: &mut CnfFormula,
+    lits: &mut Vec<Lit>,
+    rows: &[&[i64]],
+) -> Kind
+    requires { IsSolver solver.old }
+    ensures { IsSolver solver.new }
+{
+    if !fill(formula, lits, rows) {
+        return Kind::Other;
+    }
+    done(solver.add_formula(formula))
+}
+
+fn add_formula<W: CountedWrite + Drop, P: ProofProcessor>(
+    alloc: Global,
+    solver: &mut Solver<W, P>,
+    lits: &mut Vec<Lit>,
+    rows: &[&[i64]],
+) -> Kind
+    requires { IsSolver solver.old }
+    ensures { IsSolver solver.new }
+{
+    let mut formula = CnfFormula::new(alloc);
+    add_filled(solver, &mut formula, lits, rows)
+}
+
+fn ask<W: CountedWrite + Drop, P: ProofProcessor>(solver: &mut Solver<W, P>, sat: bool) -> Kind
+    requires { IsSolver solver.old }
+    ensures { IsSolver solver.new }
+{
+    match solver.solve() {
+        Ok(found) => right_if(found == sat),
+        Err(error) => kind_of(&error),
+    }
+}
+
+fn has_model<W: CountedWrite + Drop, P: ProofProcessor>(
+    alloc: Global,
+    solver: &Solver<W, P>,
+    line: &[i64],
+) -> Kind
+    requires { IsSolver solver.now }
+{
+    match solver.model(alloc) {
+        Ok(Some(lits)) => right_if(are(&lits, line)),
+        Ok(None) => Kind::Wrong,
+        Err(error) => kind_of(&error),
+    }
+}
+
+fn has_core<W: CountedWrite + Drop, P: ProofProcessor>(solver: &Solver<W, P>, core: &[i64]) -> Kind
+    requires { IsSolver solver.now }
+{
+    match solver.failed_core() {
+        Some(lits) => right_if(are(lits, core)),
+        None => Kind::Wrong,
+    }
+}
+
+fn is_unknown<W: CountedWrite + Drop, P: ProofProcessor>(
+    alloc: Global,
+    solver: &Solver<W, P>,
+) -> Kind
+    requires { IsSolver solver.now }
+{
+    match solver.model(alloc) {
+        Ok(model) => right_if(model.is_none() && solver.failed_core().is_none()),
+        Err(error) => kind_of(&error),
+    }
+}
+
+fn ask_for_model<W: CountedWrite + Drop, P: ProofProcessor>(
+    alloc: Global,
+    solver: &mut Solver<W, P>,
+    lits: &mut Vec<Lit>,
+    assumed: &[i64],
+    line: &[i64],
+) -> Kind
+    requires { IsSolver solver.old }
+    ensures { IsSolver solver.new }
+{
+    let under = assume(solver, lits, assumed);
+    let answer = ask(solver, true);
+    let known = has_model(alloc, solver, line);
+    first_of(&[under, answer, known, assume(solver, lits, &[])])
+}
+
+fn ask_for_core<W: CountedWrite + Drop, P: ProofProcessor>(
+    solver: &mut Solver<W, P>,
+    lits: &mut Vec<Lit>,
+    assumed: &[i64],
+    core: &[i64],
+) -> Kind
+    requires { IsSolver solver.old }
+    ensures { IsSolver solver.new }
+{
+    let under = assume(solver, lits, assumed);
+    let answer = ask(solver, false);
+    let known = has_core(solver, core);
+    first_of(&[under, answer, known, assume(solver, lits, &[])])
+}
+
+fn bring_in<W: CountedWrite + Drop, P: ProofProcessor>(
+    solver: &mut Solver<W, P>,
+    number: i64,
+) -> Kind
+    requires { IsSolver solver.old }
+    ensures { IsSolver solver.new }
+{
+    match solver.new_var() {
+        Ok(name) => right_if(name.to_dimacs() == number),
+        Err(error) => kind_of(&error),
+    }
+}
+
+fn observe<W: CountedWrite + Drop, P: ProofProcessor>(
+    solver: &mut Solver<W, P>,
+    names: &[i64],
+) -> Kind
+    requires { IsSolver solver.old }
+    ensures { IsSolver solver.new }
+{
+    match solver.observe_internal_vars() {
+        Ok(users) => right_if(are_names(&users, names)),
+        Err(error) => kind_of(&error),
+    }
+}
+
+fn has_counts(progress: Progress, counts: [u64; 3]) -> Kind {
+    right_if([progress.vars, progress.binary, progress.irred] == counts)
+}
+
+fn has_steps(progress: Progress, steps: u64, rounds: u64) -> Kind {
+    right_if(steps == rounds && progress.conflicts == rounds)
+}
+
+fn has_restarts(progress: Progress, least: u64, most: u64) -> Kind {
+    right_if(least <= progress.restarts && progress.restarts <= most)
+}
+
+/// Makes a call about a proof or who listens.
+fn begin<W: CountedWrite + Drop + Made, P: ProofProcessor + Made>(
+    alloc: Global,
+    solver: &mut Solver<W, P>,
+    call: &Call,
+) -> Kind
+    requires { IsSolver solver.old }
+    ensures { IsSolver solver.new }
+{
+    match call {
+        Call::Check => done(solver.enable_self_checking()),
+        Call::Tell => done(solver.add_proof_processor(P::made(alloc))),
+        Call::Proof => done(solver.write_proof(W::made(alloc), ProofFormat::Varisat)),
+        Call::Close => done(solver.close_proof()),
+        _ => Kind::Other,
+    }
+}
+
+/// Makes a call about names.
+fn set<W: CountedWrite + Drop + Made, P: ProofProcessor + Made>(
+    alloc: Global,
+    solver: &mut Solver<W, P>,
+    call: &Call,
+) -> Kind
+    requires { IsSolver solver.old }
+    ensures { IsSolver solver.new }
+{
+    match call {
+        Call::Hide(number) => done(solver.hide_var(name(*number))),
+        Call::Witness(number) => done(solver.witness_var(name(*number))),
+        Call::Sample(number) => done(solver.sample_var(name(*number))),
+        Call::New(number) => bring_in(solver, *number),
+        Call::Observe(names) => observe(solver, *names),
+        _ => begin(alloc, solver, call),
+    }
+}
+
+/// Makes a call about what is known.
+fn tell<W: CountedWrite + Drop + Made, P: ProofProcessor + Made>(
+    alloc: Global,
+    solver: &mut Solver<W, P>,
+    call: &Call,
+) -> Kind
+    requires { IsSolver solver.old }
+    ensures { IsSolver solver.new }
+{
+    match call {
+        Call::Model(line) => has_model(alloc, solver, *line),
+        Call::Core(core) => has_core(solver, *core),
+        Call::Unknown => is_unknown(alloc, solver),
+        Call::Counts(counts) => has_counts(solver.progress(), *counts),
+        Call::Steps(rounds) => has_steps(solver.progress(), solver.steps(), *rounds),
+        Call::Restarts(least, most) => has_restarts(solver.progress(), *least, *most),
+        _ => set(alloc, solver, call),
+    }
+}
+
+fn allow<W: CountedWrite + Drop, P: ProofProcessor>(solver: &mut Solver<W, P>, rounds: u64) -> Kind
+    requires { IsSolver solver.old }
+    ensures { IsSolver solver.new }
+{
+    let mut update = SolverConfigUpdate::new();
+    update.max_steps = Some(rounds);
+    done(solver.config(&update))
+}
+
+/// Makes a call.
+fn make<W: CountedWrite + Drop + Made, P: ProofProcessor + Made>(
+    alloc: Global,
+    solver: &mut Solver<W, P>,
+    lits: &mut Vec<Lit>,
+    call: &Call,
+) -> Kind
+    requires { IsSolver solver.old }
+    ensures { IsSolver solver.new }
+{
+    match call {
+        Call::Clause(numbers) => add(solver, lits, *numbers),
+        Call::Formula(rows) => add_formula(alloc, solver, lits, *rows),
+        Call::Text(text) => done(solver.add_dimacs_cnf(&mut Counted::new(*text))),
+        Call::Assume(numbers) => assume(solver, lits, *numbers),
+        Call::Set(update) => done(solver.config(update)),
+        Call::Allow(rounds) => allow(solver, *rounds),
+        Call::Solve(sat) => ask(solver, *sat),
+        Call::Sat(assumed, line) => ask_for_model(alloc, solver, lits, *assumed, *line),
+        Call::Unsat(assumed, core) => ask_for_core(solver, lits, *assumed, *core),
+        _ => tell(alloc, solver, call),
+    }
+}
+
+/// Makes calls, up to the first that isn't answered in this way, whose answer is given.
+fn make_part<W: CountedWrite + Drop + Made, P: ProofProcessor + Made>(
+    alloc: Global,
+    solver: &mut Solver<W, P>,
+    lits: &mut Vec<Lit>,
+    calls: &[Call],
+    kind: Kind,
+) -> Kind
+    requires { IsSolver solver.old }
+    ensures { IsSolver solver.new }
+{
+    for at in 0..calls.len() {
+        let came = make(alloc, solver, lits, &calls[at]);
+        if came != kind {
+            return came;
+        }
+    }
+    kind
+}
+
+/// Makes calls, up to the first that isn't answered as its part says. Gives its answer, and that all is right where there is none.
+fn make_all<W: CountedWrite + Drop + Made, P: ProofProcessor + Made>(
+    alloc: Global,
+    solver: &mut Solver<W, P>,
+    lits: &mut Vec<Lit>,
+    parts: &[Part<'_>],
+) -> Kind
+    requires { IsSolver solver.old }
+    ensures { IsSolver solver.new }
+{
+    for at in 0..parts.len() {
+        let (kind, calls) = parts[at];
+        let came = make_part(alloc, solver, lits, calls, kind);
+        if came != kind {
+            return if came == Kind::Right {
+                Kind::Wrong
+            } else {
+                came
+            };
+        }
+    }
+    Kind::Right
+}
+
+/// Makes all calls, behind those of a front.
+#[derive(Drop)]
+pub(crate) struct Session<'a> {
+    pub(crate) front: &'a [Part<'a>],
+    pub(crate) parts: &'a [Part<'a>],
+}
+
+/// A session without a front.
+pub(crate) fn plain<'a>(parts: &'a [Part<'a>]) -> Session<'a> {
+    Session { front: &[], parts }
+}
+
+impl<W: CountedWrite + Drop + Made, P: ProofProcessor + Made> Play<Solver<W, P>, Kind>
+    for Session<'_> {
+    fn play(self, alloc: Global, solver: &mut Solver<W, P>) -> Kind {
+        let mut lits = Vec::new(alloc);
+        let begun = make_all(alloc, solver, &mut lits, self.front);
+        first_of(&[begun, make_all(alloc, solver, &mut lits, self.parts)])
+    }
+}
+
+/// No change of a parameter.
+pub(crate) const SAME: SolverConfigUpdate = SolverConfigUpdate {
+    vsids_decay: None,
+    clause_activity_decay: None,
+    reduce_locals_interval: None,
+    reduce_mids_interval: None,
+    luby_restart_interval_scale: None,
+    max_steps: None,
+};
+
+/// Each call that answers a `Result`.
+const EACH: &[Part<'static>] = &[(
+    Kind::Failed,
+    &[
+        Call::Clause(&[]),
+        Call::Formula(&[&[1]]),
+        Call::Text(b"1 0"),
+        Call::Assume(&[]),
+        Call::Set(SAME),
+        Call::Solve(true),
+        Call::Unknown,
+        Call::Hide(1),
+        Call::Witness(1),
+        Call::Sample(1),
+        Call::New(1),
+        Call::Observe(&[]),
+        Call::Check,
+        Call::Tell,
+        Call::Proof,
+        Call::Close,
+    ],
+)];
+
+/// A play, and whether each call answers behind it that the solver has failed, and no core is known.
+#[derive(Drop)]
+pub(crate) struct Behind<A>(pub(crate) A);
+
+impl<W: CountedWrite + Drop + Made, P: ProofProcessor + Made, R, A: Play<Solver<W, P>, R>> Play<
+    Solver<W, P>,
+    (R, bool),
+> for Behind<A> {
+    fn play(self, alloc: Global, solver: &mut Solver<W, P>) -> (R, bool) {
+        let Behind(act) = self;
+        let told = act.play(alloc, solver);
+        let failed = plain(EACH).play(alloc, solver) == Kind::Right;
+        (told, failed && solver.failed_core().is_none())
+    }
+}
