@@ -1,6 +1,6 @@
 //! A value for each place.
-ghost use Rattle.std.specs.Prelude.{ℕ, ◌≡◌, ◌≤◌, ◌<◌, ◌+◌, ◌==◌, length, OnOk, OnErr, if◌then◌else◌};
-ghost use Rattle.sat_base.specs.values.Tables.{near_count, value_at, HasRoom};
+ghost use Rattle.std.specs.Prelude.{ℕ, ◌≡◌, ◌≤◌, ◌<◌, ◌+◌, length, OnOk, OnErr};
+ghost use Rattle.sat_base.specs.values.Tables.{near_count, value_at, HasRoom, KeepsRoom, KeepsValues, SetsValue};
 
 use std::alloc::{AllocError, Global};
 use std::collections::BTreeMap;
@@ -37,8 +37,8 @@ impl<T: Copy> Table<T> {
     /// The list may be as long as this from here on, or as it might before. Takes no memory, and changes no value.
     #[inline(always)]
     pub fn allow(&mut self, limit: usize)
-        ensures same { (missing : T) (v : ℕ) → value_at missing self.new v ≡ value_at missing self.old v }
-        ensures room { (v : ℕ) → HasRoom self.old v → HasRoom self.new v }
+        ensures same { (missing : T) → KeepsValues missing self.old self.new }
+        ensures room { KeepsRoom self.old self.new }
     {
         self.limit = self.limit.max(limit);
     }
@@ -88,8 +88,8 @@ impl<T: Copy> Table<T> {
     #[inline(always)]
     pub fn make_room(&mut self, place: usize, missing: T) -> Result<(), AllocError>
         ensures room { OnOk result (HasRoom self.new place) }
-        ensures same { (v : ℕ) → value_at missing self.new v ≡ value_at missing self.old v }
-        ensures others { (v : ℕ) → HasRoom self.old v → HasRoom self.new v }
+        ensures same { KeepsValues missing self.old self.new }
+        ensures others { KeepsRoom self.old self.new }
     {
         if place < self.near.len() {
             return Ok(());
@@ -101,8 +101,8 @@ impl<T: Copy> Table<T> {
     fn make_room_behind(&mut self, place: usize, missing: T) -> Result<(), AllocError>
         requires { length self.old.near.items ≤ place }
         ensures room { OnOk result (HasRoom self.new place) }
-        ensures same { (v : ℕ) → value_at missing self.new v ≡ value_at missing self.old v }
-        ensures others { (v : ℕ) → HasRoom self.old v → HasRoom self.new v }
+        ensures same { KeepsValues missing self.old self.new }
+        ensures others { KeepsRoom self.old self.new }
     {
         if place < self.limit {
             return self.draw_near(place, missing);
@@ -114,8 +114,8 @@ impl<T: Copy> Table<T> {
     fn draw_near(&mut self, place: usize, missing: T) -> Result<(), AllocError>
         requires { length self.old.near.items ≤ place }
         ensures room { OnOk result (HasRoom self.new place) }
-        ensures same { (v : ℕ) → value_at missing self.new v ≡ value_at missing self.old v }
-        ensures others { (v : ℕ) → HasRoom self.old v → HasRoom self.new v }
+        ensures same { KeepsValues missing self.old self.new }
+        ensures others { KeepsRoom self.old self.new }
     {
         for next in self.near.len()..place {
             self.draw_next(next, missing)?;
@@ -129,8 +129,8 @@ impl<T: Copy> Table<T> {
     fn draw_next(&mut self, next: usize, missing: T) -> Result<(), AllocError>
         requires { length self.old.near.items ≡ next }
         ensures longer { OnOk result (length self.new.near.items ≡ next + 1) }
-        ensures same { (v : ℕ) → value_at missing self.new v ≡ value_at missing self.old v }
-        ensures others { (v : ℕ) → HasRoom self.old v → HasRoom self.new v }
+        ensures same { KeepsValues missing self.old self.new }
+        ensures others { KeepsRoom self.old self.new }
     {
         let value = self.get(next, missing);
         self.near.push(value)?;
@@ -141,8 +141,8 @@ impl<T: Copy> Table<T> {
     fn make_far(&mut self, place: usize, missing: T) -> Result<(), AllocError>
         requires { length self.old.near.items ≤ place }
         ensures room { OnOk result (HasRoom self.new place) }
-        ensures same { (v : ℕ) → value_at missing self.new v ≡ value_at missing self.old v }
-        ensures others { (v : ℕ) → HasRoom self.old v → HasRoom self.new v }
+        ensures same { KeepsValues missing self.old self.new }
+        ensures others { KeepsRoom self.old self.new }
     {
         if self.far.contains_key(&place) {
             return Ok(());
@@ -156,9 +156,8 @@ impl<T: Copy> Table<T> {
     #[inline(always)]
     pub fn put(&mut self, place: usize, value: T)
         requires { HasRoom self.old place }
-        ensures set { (missing : T) (v : ℕ) →
-            value_at missing self.new v ≡ (if v == place then value else value_at missing self.old v) }
-        ensures room { (v : ℕ) → HasRoom self.old v → HasRoom self.new v }
+        ensures set { (missing : T) → SetsValue missing self.old self.new place value }
+        ensures room { KeepsRoom self.old self.new }
     {
         if place < self.near.len() {
             self.near[place] = value;
@@ -171,9 +170,8 @@ impl<T: Copy> Table<T> {
     fn put_far(&mut self, place: usize, value: T)
         requires room { HasRoom self.old place }
         requires far { length self.old.near.items ≤ place }
-        ensures set { (missing : T) (v : ℕ) →
-            value_at missing self.new v ≡ (if v == place then value else value_at missing self.old v) }
-        ensures room { (v : ℕ) → HasRoom self.old v → HasRoom self.new v }
+        ensures set { (missing : T) → SetsValue missing self.old self.new place value }
+        ensures room { KeepsRoom self.old self.new }
     {
         if let Some(kept) = self.far.get_mut(&place) {
             *kept = value;
@@ -182,9 +180,8 @@ impl<T: Copy> Table<T> {
 
     /// Sets the value at a place, where others are missing with this one. Without memory none changes.
     pub fn set(&mut self, place: usize, value: T, missing: T) -> Result<(), AllocError>
-        ensures ok { OnOk result ((v : ℕ) →
-            value_at missing self.new v ≡ (if v == place then value else value_at missing self.old v)) }
-        ensures err { OnErr result ((v : ℕ) → value_at missing self.new v ≡ value_at missing self.old v) }
+        ensures ok { OnOk result (SetsValue missing self.old self.new place value) }
+        ensures err { OnErr result (KeepsValues missing self.old self.new) }
     {
         self.make_room(place, missing)?;
         self.put(place, value);
@@ -194,8 +191,8 @@ impl<T: Copy> Table<T> {
     /// The value at a place is this one from here on, which it has where it is missing. Takes no memory, and needs no room.
     #[inline(always)]
     pub fn reset(&mut self, place: usize, missing: T)
-        ensures set { (v : ℕ) → value_at missing self.new v ≡ (if v == place then missing else value_at missing self.old v) }
-        ensures room { (v : ℕ) → HasRoom self.old v → HasRoom self.new v }
+        ensures set { SetsValue missing self.old self.new place missing }
+        ensures room { KeepsRoom self.old self.new }
     {
         if place < self.near.len() {
             self.near[place] = missing;
@@ -207,8 +204,8 @@ impl<T: Copy> Table<T> {
     #[inline(never)]
     fn reset_far(&mut self, place: usize, missing: T)
         requires { length self.old.near.items ≤ place }
-        ensures set { (v : ℕ) → value_at missing self.new v ≡ (if v == place then missing else value_at missing self.old v) }
-        ensures room { (v : ℕ) → HasRoom self.old v → HasRoom self.new v }
+        ensures set { SetsValue missing self.old self.new place missing }
+        ensures room { KeepsRoom self.old self.new }
     {
         if let Some(kept) = self.far.get_mut(&place) {
             *kept = missing;

@@ -1,5 +1,5 @@
 -- What a table has at each place.
-use Rattle.std.specs.Prelude.{ℕ, ◌<◌, ◌⊎◌, Option, Some, None, length, slice_index_or, if◌then◌else◌, nat_lt}
+use Rattle.std.specs.Prelude.{ℕ, ◌≡◌, ◌<◌, ◌==◌, ◌⊎◌, Option, Some, None, length, slice_index_or, if◌then◌else◌, nat_lt}
 use Rattle.std.specs.Option.{IsSome}
 use Rattle.std.specs.Ordering.{nat_cmp}
 use Rattle.std.specs.BTreeMap.{get}
@@ -20,3 +20,15 @@ value_at missing t v = if nat_lt v (near_count t) then slice_index_or t.near.ite
 -- the value there can be set without memory
 abbrev pub HasRoom : {T : Type 0} → Table T → ℕ → Type 0
 HasRoom t v = (v < near_count t) ⊎ IsSome (get nat_cmp t.far v)
+
+-- what had room has it still
+abbrev pub KeepsRoom : {T : Type 0} → (old new : Table T) → Type 0
+KeepsRoom old new = (v : ℕ) → HasRoom old v → HasRoom new v
+
+-- each place has the value that it had
+abbrev pub KeepsValues : {T : Type 0} → T → (old new : Table T) → Type 0
+KeepsValues missing old new = (v : ℕ) → value_at missing new v ≡ value_at missing old v
+
+-- this place has this value, each other one the value that it had
+abbrev pub SetsValue : {T : Type 0} → T → (old new : Table T) → (place : ℕ) → T → Type 0
+SetsValue missing old new place value = (v : ℕ) → value_at missing new v ≡ (if v == place then value else value_at missing old v)
