@@ -1,4 +1,4 @@
-use Rattle.std.proofs.Common.{◌+◌, ◌*◌, ◌<◌, ◌≤◌, ◌⊎◌, ℕ, ◌≡◌, ◌∷◌, ◌-◌, Some, inl, inr, refl, sym, subst, ap, ◌∙◌, take, drop, arith}
+use Rattle.std.proofs.Common.{◌+◌, ◌*◌, ℕ, ◌≡◌, ◌-◌, inl, inr, refl, subst, ap, arith}
 use Rattle.sat_base.specs.declared.device.ahead.Ahead.{Ahead}
 use Rattle.sat_base.specs.steps.Numbers.{IsBelow}
 use Rattle.sat_base.proofs.lemmas.steps.NumbersAhead.{looked_at_none, looked_at_more, looked_at_last, group_small, positive_from}

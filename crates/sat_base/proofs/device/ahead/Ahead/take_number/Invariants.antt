@@ -1,5 +1,4 @@
-use Rattle.std.proofs.Common.{◌≡◌, ◌-◌, ◌≤◌, take, drop}
-use Rattle.sat_base.specs.declared.device.ahead.Ahead.{Ahead}
+use Rattle.std.proofs.Common.{◌≡◌, ◌-◌, take, drop}
 use Rattle.sat_base.specs.device.Waiting.{waiting}
 use Rattle.sat_base.proofs.lemmas.steps.NumbersAhead.{LookedAt}
 use Rattle.sat_base.proofs.device.ahead.Ahead.take_number.Given as goal
