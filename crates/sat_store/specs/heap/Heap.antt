@@ -10,7 +10,11 @@ no_entry = record { key = 0; var = 0 }
 abbrev pub var_at : List Entry → ℕ → ℕ
 var_at heap k = (get_or heap k no_entry).var
 
--- its activity
+-- each entry of the list is one of a variable
+abbrev pub HoldsVariables : List Entry → Type 0
+HoldsVariables heap = (k : ℕ) → k < length heap → var_at heap k < largest
+
+-- the activity of the variable at this place
 abbrev pub key_at : List Entry → ℕ → ℕ
 key_at heap k = (get_or heap k no_entry).key
 

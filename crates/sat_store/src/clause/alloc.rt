@@ -3,6 +3,7 @@ ghost use Rattle.std.specs.Prelude.{◌≡◌, ◌<◌, ◌≤◌, ◌^◌, ◌+
 ghost use Rattle.std.specs.List.{All};
 ghost use Rattle.sat_base.specs.values.Literals.{largest};
 ghost use Rattle.sat_store.specs.clause.Buffer.{IsClause, header_at, lits_at, ChangesAt, Adds, swapped};
+ghost use Rattle.sat_store.specs.clause.Full.{OnFull};
 
 use crate::clause::edit::ClauseMut;
 use crate::clause::header::ClauseHeader;
@@ -147,7 +148,7 @@ impl ClauseAlloc {
         requires { IsClause from.now cref }
         ensures added { IfOk result (λ c. Adds self.old self.new c (header_at from.now cref) (lits_at from.now cref)) }
         ensures full { (result ≡ Err StoreError.StoreFull) ↔ (2 ^ 32 - 1 < length self.old) }
-        ensures room { length self.old ≤ cref → result ≡ Err StoreError.StoreFull → ⊥ }
+        ensures room { length self.old ≤ cref → OnFull result ⊥ }
         ensures kept { OnErr result (self.new ≡ self.old) }
     {
         let offset = self.words.len();

@@ -1,7 +1,7 @@
 //! A heap of variables with their activities, in a list of all of them: each place is parent of four.
 ghost use Rattle.std.specs.Prelude.{◌≡◌, ℕ, ◌+◌, ◌*◌, ◌<◌, ◌≤◌, ◌↔◌, IsTrue, length, MatchOption, slice_set, ◌-◌, true, false, vec_capacity};
 ghost use Rattle.sat_base.specs.values.Literals.{largest};
-ghost use Rattle.sat_store.specs.heap.Heap.{var_at, Placed, IsHeap, IsKept, rank, rank_at, parent, Ordered, UpFrom, IsFirstChild, FirstAbove, NoneAbove, SettlesDown, Exchanged, Rearranged, SetsFlag, Adds, keys};
+ghost use Rattle.sat_store.specs.heap.Heap.{var_at, HoldsVariables, Placed, IsHeap, IsKept, rank, rank_at, parent, Ordered, UpFrom, IsFirstChild, FirstAbove, NoneAbove, SettlesDown, Exchanged, Rearranged, SetsFlag, Adds, keys};
 
 /// A variable, and its activity.
 #[derive(Clone, Copy)]
@@ -50,7 +50,7 @@ fn is_above(a: Entry, b: Entry) -> bool
 /// Whether a variable goes before the one at the parent of a place.
 #[inline(always)] // each step up asks this
 fn goes_up(heap: &[Entry], entry: Entry, at: usize) -> bool
-    requires listed { (k : ℕ) → k < length heap.now → var_at heap.now k < largest }
+    requires listed { HoldsVariables heap.now }
     requires var { entry.var < largest }
     requires at { at < length heap.now }
     ensures { IsTrue result ↔ ((0 < at) × (rank_at heap.now (parent at) < rank entry)) }
@@ -82,7 +82,7 @@ pub(super) fn sift_up(heap: &mut Vec<Entry>, positions: &mut Vec<u32>, available
 /// The child that goes before the others, of a place that has one.
 #[inline(always)] // each step down asks this
 fn first_child(heap: &[Entry], available: usize, at: usize) -> usize
-    requires listed { (k : ℕ) → k < length heap.now → var_at heap.now k < largest }
+    requires listed { HoldsVariables heap.now }
     requires few { length heap.now ≤ largest }
     requires within { available ≤ length heap.now }
     requires some { 4 * at + 1 < available }
@@ -108,7 +108,7 @@ fn first_child(heap: &[Entry], available: usize, at: usize) -> usize
 /// The child of a place that goes before the others, if it goes before an entry.
 #[inline(always)] // each step down asks this
 fn child_above(heap: &[Entry], available: usize, entry: Entry, at: usize) -> Option<usize>
-    requires listed { (k : ℕ) → k < length heap.now → var_at heap.now k < largest }
+    requires listed { HoldsVariables heap.now }
     requires few { length heap.now ≤ largest }
     requires within { available ≤ length heap.now }
     requires var { entry.var < largest }
