@@ -3,6 +3,7 @@ ghost use Rattle.std.specs.Prelude.{◌≡◌, ◌+◌, ◌-◌, ◌^◌, ◌<�
 ghost use Rattle.std.specs.List.{Contains};
 ghost use Rattle.sat_base.specs.values.Literals.{negated, variable};
 ghost use Rattle.sat_store.specs.clause.Buffer.{IsClause, Laid, Adds, header_at, lits_at};
+ghost use Rattle.sat_store.specs.clause.Full.{OnFull};
 ghost use Rattle.sat_store.specs.clause.Header.{index_of};
 ghost use Rattle.sat_parts.specs.clause.Db.{no_clauses, HoldsDb, live_refs, one_more, one_less, PutsHeader, AddsClause, DeletesClause, MovesClause, ShortensClause, IsAsserting};
 ghost use Rattle.sat_parts.specs.clause.Stored.{lit_of};
@@ -133,7 +134,7 @@ fn store_clause(
     requires second { negated (slice_index_or lits.now 1 0) < length watchlists.old.lists }
     ensures added { IfOk result (λ cref. Adds clauses.old clauses.new cref header lits.now) }
     ensures watched { IfOk result (λ cref. watchlists.new ≡ with_firsts cref lits.now watchlists.old) }
-    ensures full { result ≡ Err StoreError.StoreFull → 2 ^ 32 - 1 < length clauses.old }
+    ensures full { OnFull result (2 ^ 32 - 1 < length clauses.old) }
     ensures kept { OnErr result (clauses.new ≡ clauses.old) }
     ensures unwatched { OnErr result (watchlists.new ≡ watchlists.old) }
 {

@@ -1,7 +1,8 @@
 //! Collection of deleted clauses.
-ghost use Rattle.std.specs.Prelude.{ℕ, ◌≡◌, ◌<◌, ◌≤◌, ◌/◌, Err, [], length, slice_index, false, OnOk, OnErr, IfOk};
+ghost use Rattle.std.specs.Prelude.{ℕ, ◌≡◌, ◌<◌, ◌≤◌, ◌/◌, [], length, slice_index, false, OnOk, OnErr, IfOk};
 ghost use Rattle.sat_base.specs.values.Literals.{variable};
 ghost use Rattle.sat_store.specs.clause.Buffer.{IsClause};
+ghost use Rattle.sat_store.specs.clause.Full.{OnFull};
 ghost use Rattle.sat_parts.specs.clause.Db.{HoldsDb, live_refs};
 ghost use Rattle.sat_parts.specs.clause.Collected.{CopiesOne, Copying, AreFirsts, FollowsAll, Collects, AllStay, after_collection};
 ghost use Rattle.sat_parts.specs.prop.Graphs.{HasReason, with_reason};
@@ -23,7 +24,7 @@ fn copy_one(
 ) -> Result<(), StoreError>
     requires { IsClause clauses.now cref }
     ensures copied { OnOk result (CopiesOne clauses.now cref to.old refs.old.items to.new refs.new.items) }
-    ensures room { length to.old ≤ cref → result ≡ Err StoreError.StoreFull → ⊥ }
+    ensures room { length to.old ≤ cref → OnFull result ⊥ }
 {
     let copy = to.copy_clause(clauses, cref)?;
     match refs.push(copy) {
@@ -43,7 +44,7 @@ fn copy_live(
     requires no_words { to.old ≡ [] }
     requires no_refs { refs.old.items ≡ [] }
     ensures copied { OnOk result (Copying clauses.now db.now.refs to.new refs.new.items (length db.now.refs)) }
-    ensures room { result ≡ Err StoreError.StoreFull → ⊥ }
+    ensures room { OnFull result ⊥ }
 {
     for at in 0..db.len() {
         let cref = db.cref(at);
@@ -111,7 +112,7 @@ struct Copied {
 fn copy_all(alloc: Global, clauses: &ClauseAlloc, db: &ClauseDb) -> Result<Copied, StoreError>
     requires { HoldsDb clauses.now db.now }
     ensures copied { IfOk result (λ x. Copying clauses.now db.now.refs x.clauses x.refs.items (length db.now.refs)) }
-    ensures room { result ≡ Err StoreError.StoreFull → ⊥ }
+    ensures room { OnFull result ⊥ }
 {
     let live = clauses.buffer_size().saturating_sub(db.garbage_size());
     // Room for what is learned next, too.
@@ -155,7 +156,7 @@ pub fn collect_garbage(
     ensures watches { length clauses.old / 2 < db.old.garbage → OnOk result (watchlists.new ≡ record watchlists.old { enabled = false }) }
     ensures not_due { db.old.garbage ≤ length clauses.old / 2 →
         AllStay clauses.old db.old graph.old watchlists.old clauses.new db.new graph.new watchlists.new }
-    ensures room { result ≡ Err StoreError.StoreFull → ⊥ }
+    ensures room { OnFull result ⊥ }
     ensures same { OnErr result (AllStay clauses.old db.old graph.old watchlists.old clauses.new db.new graph.new watchlists.new) }
 {
     if db.garbage_size() <= clauses.buffer_size() / 2 {
