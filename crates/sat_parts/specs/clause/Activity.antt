@@ -67,6 +67,14 @@ BumpsOne words words' refs o s s' = (s' ≡ s) × PutsHeader words words' refs o
 abbrev pub BumpsAll : (words words' refs : List ℕ) (o : ℕ) (s s' : Scale) → Type 0
 BumpsAll words words' refs o s s' = (s' ≡ record s { bump = rescaled s.bump }) × PutsHeaders words words' refs (bumped_shifted words o s.bump)
 
+-- a bump that stays below 2^30 is one of the clause at o alone
+abbrev pub BumpsBelow : (words words' refs : List ℕ) (o : ℕ) (s s' : Scale) → Type 0
+BumpsBelow words words' refs o s s' = StaysBelow words o s → BumpsOne words words' refs o s s'
+
+-- a bump that comes to 2^30 puts all activities on a smaller scale
+abbrev pub BumpsPast : (words words' refs : List ℕ) (o : ℕ) (s s' : Scale) → Type 0
+BumpsPast words words' refs o s s' = ComesTo words o s → BumpsAll words words' refs o s s'
+
 -- the scale after a decay
 abbrev pub later_scale : Scale → Scale
 later_scale s = record s { bump = later_bump s }

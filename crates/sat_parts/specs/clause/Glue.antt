@@ -14,9 +14,13 @@ levels_of nodes ls = map (λ l. (node_of nodes (variable l)).level) ls
 abbrev pub different : List ℕ → ℕ
 different xs = distinct_count nat_eq xs
 
+-- the literals are over variables below this number
+abbrev pub VariablesBelow : List ℕ → ℕ → Type 0
+VariablesBelow ls n = (k : ℕ) → k < length ls → variable (get_or ls k 0) < n
+
 -- each literal's variable has a node
 abbrev pub HaveNodes : List ImplNode → List ℕ → Type 0
-HaveNodes nodes ls = (k : ℕ) → k < length ls → variable (get_or ls k 0) < length nodes
+HaveNodes nodes ls = VariablesBelow ls (length nodes)
 
 -- there is a flag for the level of each literal
 abbrev pub HaveFlags : List ImplNode → List Bool → List ℕ → Type 0

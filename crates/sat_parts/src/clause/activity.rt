@@ -3,7 +3,7 @@ ghost use Rattle.std.specs.Prelude.{◌≡◌, ◌+◌, ◌*◌, ◌/◌, ◌^�
 ghost use Rattle.std.specs.List.{Contains};
 ghost use Rattle.sat_store.specs.clause.Buffer.{header_at};
 ghost use Rattle.sat_parts.specs.clause.Db.{HoldsDb, PutsHeader, live_refs};
-ghost use Rattle.sat_parts.specs.clause.Activity.{PutsHeaders, BumpsOne, BumpsAll, DecaysAll, later_scale, first_scale, later_bump, with_activity, shifted, StaysBelow, ComesTo};
+ghost use Rattle.sat_parts.specs.clause.Activity.{PutsHeaders, BumpsBelow, BumpsPast, DecaysAll, later_scale, first_scale, later_bump, with_activity, shifted};
 
 use crate::clause::db::{ClauseDb, put_header};
 use sat_store::{ClauseAlloc, ClauseRef};
@@ -100,10 +100,8 @@ pub fn bump_clause_activity(
 )
     requires db { HoldsDb clauses.old db.now }
     requires there { Contains db.now.refs cref }
-    ensures raised { StaysBelow clauses.old cref activity.old →
-        BumpsOne clauses.old clauses.new db.now.refs cref activity.old activity.new }
-    ensures rescaled { ComesTo clauses.old cref activity.old →
-        BumpsAll clauses.old clauses.new db.now.refs cref activity.old activity.new }
+    ensures raised { BumpsBelow clauses.old clauses.new db.now.refs cref activity.old activity.new }
+    ensures rescaled { BumpsPast clauses.old clauses.new db.now.refs cref activity.old activity.new }
     ensures db { HoldsDb clauses.new db.now }
     ensures live { live_refs clauses.new db.now.refs ≡ live_refs clauses.old db.now.refs }
 {

@@ -1,10 +1,10 @@
 //! The trail of literals that were made true.
-ghost use Rattle.std.specs.Prelude.{◌≡◌, ◌+◌, ◌-◌, ◌^◌, ◌<◌, ◌≤◌, ◌↔◌, [], length, min, max, IsTrue, OnOk, OnErr, MatchOption, slice_get, IfNone, IfSome};
+ghost use Rattle.std.specs.Prelude.{◌≡◌, ◌+◌, ◌-◌, ◌^◌, ◌<◌, ◌≤◌, ◌↔◌, ◌⊎◌, [], length, min, max, IsTrue, OnOk, OnErr, MatchOption, slice_get, IfNone, IfSome};
 ghost use Rattle.sat_base.specs.values.Literals.{largest, variable};
+ghost use Rattle.sat_parts.specs.clause.Glue.{VariablesBelow};
 ghost use Rattle.sat_parts.specs.prop.Values.{made_true, IsOpenLit};
 ghost use Rattle.sat_parts.specs.prop.Graphs.{node_at, with_node};
 ghost use Rattle.sat_parts.specs.prop.Trails.{IsTrail, PopsNext, no_trail, first_start, with_lit, with_level, with_cleared};
-ghost use Rattle.std.specs.Prelude.{ℕ, ◌⊎◌, slice_index};
 ghost use Rattle.sat_parts.specs.prop.Trails.{cut_to};
 ghost use Rattle.sat_parts.specs.prop.Undone.{undone, undone_to, all_available, undone_lits};
 ghost use Rattle.sat_parts.specs.prop.State.{Agrees};
@@ -211,8 +211,8 @@ fn push_assignment(
 
 /// Takes the values of the literals' variables away, one after the other. These variables may be picked again.
 fn undo(assignment: &mut Assignment, vsids: &mut Vsids, lits: &[Lit])
-    requires values { (k : ℕ) → k < length lits.now → variable (slice_index lits.now k) < length assignment.old.current }
-    requires queue { (k : ℕ) → k < length lits.now → variable (slice_index lits.now k) < length vsids.old.available }
+    requires values { VariablesBelow lits.now (length assignment.old.current) }
+    requires queue { VariablesBelow lits.now (length vsids.old.available) }
     ensures values { assignment.new ≡ undone lits.now assignment.old }
     ensures available { vsids.new ≡ all_available lits.now vsids.old }
 {
@@ -225,8 +225,8 @@ fn undo(assignment: &mut Assignment, vsids: &mut Vsids, lits: &[Lit])
 /// Undoes the levels above this one: their literals leave the trail, their variables lose their values and may be picked again,
 /// and nothing is to be propagated. A level that isn't below the current one changes nothing. Takes no memory.
 pub fn backtrack(assignment: &mut Assignment, trail: &mut Trail, vsids: &mut Vsids, level: usize)
-    requires values { (k : ℕ) → k < length trail.old.lits → variable (slice_index trail.old.lits k) < length assignment.old.current }
-    requires queue { (k : ℕ) → k < length trail.old.lits → variable (slice_index trail.old.lits k) < length vsids.old.available }
+    requires values { VariablesBelow trail.old.lits (length assignment.old.current) }
+    requires queue { VariablesBelow trail.old.lits (length vsids.old.available) }
     ensures same_values { length trail.old.starts ≤ level → assignment.new ≡ assignment.old }
     ensures same_trail { length trail.old.starts ≤ level → trail.new ≡ trail.old }
     ensures same_queue { length trail.old.starts ≤ level → vsids.new ≡ vsids.old }
@@ -246,8 +246,8 @@ pub fn backtrack(assignment: &mut Assignment, trail: &mut Trail, vsids: &mut Vsi
 /// Undoes the levels above one that is below the current one.
 fn undo_levels(assignment: &mut Assignment, trail: &mut Trail, vsids: &mut Vsids, level: usize)
     requires below { level < length trail.old.starts }
-    requires values { (k : ℕ) → k < length trail.old.lits → variable (slice_index trail.old.lits k) < length assignment.old.current }
-    requires queue { (k : ℕ) → k < length trail.old.lits → variable (slice_index trail.old.lits k) < length vsids.old.available }
+    requires values { VariablesBelow trail.old.lits (length assignment.old.current) }
+    requires queue { VariablesBelow trail.old.lits (length vsids.old.available) }
     ensures values { assignment.new ≡ undone_to level trail.old assignment.old }
     ensures trail { trail.new ≡ cut_to level trail.old }
     ensures available { vsids.new ≡ all_available (undone_lits level trail.old) vsids.old }
