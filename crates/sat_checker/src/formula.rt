@@ -15,7 +15,7 @@ ghost use Rattle.sat_checker.specs.inner.Reasons.{noted_length};
 ghost use Rattle.sat_checker.specs.inner.StoreView.{TakesCount, with_less};
 ghost use Rattle.sat_checker.specs.inner.Marks.{IsIncreasing};
 ghost use Rattle.sat_checker.specs.declared.store.StoreError.TheVariants.{CounterEnd};
-ghost use Rattle.sat_checker.specs.inner.FormulaView.{KeepsFormula, ChecksAs, Becomes, TurnsIf, Deletes, Explained};
+ghost use Rattle.sat_checker.specs.inner.FormulaView.{KeepsFormula, refiled_in, ChecksAs, Becomes, TurnsIf, Deletes, Explained};
 ghost use Rattle.sat_checker.specs.telling.AnnouncingView.{AreLong};
 ghost use Rattle.sat_checker.specs.telling.NotedView.{Adds};
 
@@ -54,6 +54,16 @@ impl Formula {
         }
     }
 
+    /// Files the stored clauses by the hashes of now, where they wait for it.
+    #[inline(always)]
+    pub fn file(&mut self, looks: &mut Looks) -> Result<(), AllocError>
+        ensures kept { OnOk result ((f : Stored) → KeepsFormula (refiled_in self.old) f → KeepsFormula self.new f) }
+        ensures looks { (f : Stored) → KeepsFormula (refiled_in self.old) f → looks.new ≤ looks.old + literal_count f }
+        ensures rise { looks.old ≤ looks.new }
+    {
+        self.store.file(looks)
+    }
+
     /// The propagation check of a clause under hashes, whatever the ids of clauses and units are. What it notes is kept.
     pub fn check(
         &mut self,
@@ -74,7 +84,7 @@ impl Formula {
 
     /// The empty clause of a pending unit conflict takes the next id.
     pub fn settle(&mut self) -> Result<(), StoreError>
-        ensures settles { Becomes result self.old settled self.new }
+        ensures settles { Becomes result (refiled_in self.old) settled (refiled_in self.new) }
         ensures none { OnOk result (self.new.status.conflict ≡ None) }
         ensures spent { OnErr result (IsErrOf result CounterEnd) }
     {
@@ -367,7 +377,7 @@ impl Formula {
 
     /// Forgets the unit of a variable, which is deleted.
     pub fn forget(&mut self, var: Var)
-        ensures { (f : Stored) → KeepsFormula self.old f → KeepsFormula self.new (without_variable var f) }
+        ensures { (f : Stored) → KeepsFormula (refiled_in self.old) f → KeepsFormula (refiled_in self.new) (without_variable var f) }
     {
         self.units.forget(var);
         self.status.var_deleted = true;
@@ -380,9 +390,10 @@ impl Formula {
         literals: &[Lit],
         looks: &mut Looks,
     ) -> Result<bool, AllocError>
-        ensures exact { IfOk result (λ fits. (f : Stored) → KeepsFormula self.now f → IsTrue fits ↔ FitsModel f literals.now) }
+        ensures exact { IfOk result (λ fits. (f : Stored) → KeepsFormula (refiled_in self.now) f
+            → IsTrue fits ↔ FitsModel f literals.now) }
         ensures apart { OnErr result (VariablesApart literals.now) }
-        ensures looks { (f : Stored) → KeepsFormula self.now f → looks.new ≤ looks.old + literal_count f }
+        ensures looks { (f : Stored) → KeepsFormula (refiled_in self.now) f → looks.new ≤ looks.old + literal_count f }
         ensures rise { looks.old ≤ looks.new }
     {
         if self.status.unsat {
@@ -398,10 +409,10 @@ impl Formula {
 
     /// Whether no unit's negation is assumed, and each irredundant clause has an assumed literal.
     fn are_met(&self, assigned: &Assigned, looks: &mut Looks) -> bool
-        ensures met { (f : Stored) → KeepsFormula self.now f
+        ensures met { (f : Stored) → KeepsFormula (refiled_in self.now) f
             → result
             ≡ (not (list_any (λ u. is_among assigned.now (negated u.literal)) f.units) && are_all_true assigned.now f.clauses) }
-        ensures looks { (f : Stored) → KeepsFormula self.now f → looks.new ≤ looks.old + literal_count f }
+        ensures looks { (f : Stored) → KeepsFormula (refiled_in self.now) f → looks.new ≤ looks.old + literal_count f }
         ensures rise { looks.old ≤ looks.new }
     {
         !self.units.are_contradicted(assigned) && self.store.are_satisfied(assigned, looks)

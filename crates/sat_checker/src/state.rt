@@ -6,7 +6,7 @@ ghost use Rattle.sat_checker.specs.Accepts.{MayBeDeleted, MayBeAdded, VariablesA
 ghost use Rattle.sat_checker.specs.LiteralSets.{is_part};
 ghost use Rattle.sat_base.specs.steps.Steps.{SolverVarName, UserVarName, ChangeSamplingMode, AddClause, AtClause, ChangeHashBits, Assumptions, End, UnitClauses, DeleteClause, Model, FailedAssumptions, DeleteVar};
 ghost use Rattle.sat_base.specs.steps.StepViews.{deletion_of, step_of};
-ghost use Rattle.sat_checker.specs.inner.StateView.{Keeps, Leaves, with_added, with_derived, Decides, LooksWithin};
+ghost use Rattle.sat_checker.specs.inner.StateView.{Keeps, KeepsFiled, Leaves, with_added, with_derived, Decides, LooksWithin};
 ghost use Rattle.sat_checker.specs.telling.NotedView.{Announces};
 
 use crate::formula::Formula;
@@ -31,24 +31,15 @@ pub(crate) struct State {
 }
 
 impl State {
-    fn solver_var_name(
-        &mut self,
-        var: Var,
-        name: Option<Var>,
-        looks: &mut Looks,
-    ) -> Result<bool, StoreError>
-        ensures decides { Decides result self.old (SolverVarName var name) self.new }
-        ensures looks { LooksWithin self.old (SolverVarName var name) looks.old looks.new }
-        ensures rise { looks.old ≤ looks.new }
+    fn solver_var_name(&mut self, var: Var, name: Option<Var>) -> Result<bool, StoreError>
+        ensures { Decides result self.old (SolverVarName var name) self.new }
     {
         if let Some(solver) = name {
             self.variables.learn_var(var)?;
-            self.formula
-                .store
-                .set_solver_name(var, Some(solver), looks)?;
+            self.formula.store.set_solver_name(var, Some(solver))?;
             return Ok(true);
         }
-        self.formula.store.set_solver_name(var, None, looks)?;
+        self.formula.store.set_solver_name(var, None)?;
         Ok(true)
     }
 
@@ -103,6 +94,7 @@ impl State {
         if !self.variables.are_sampling(clause) {
             return Ok(false);
         }
+        self.formula.file(looks)?;
         self.formula.note_input(clause, notes, looks)?;
         self.store_input(clause, looks)?;
         Ok(true)
@@ -111,7 +103,7 @@ impl State {
     /// Stores a clause of the formula, which may be added.
     fn store_input(&mut self, clause: &[Lit], looks: &mut Looks) -> Result<(), StoreError>
         ensures stored { Leaves result self.old (with_added clause.now) self.new }
-        ensures looks { (f : Stored) → Keeps self.old f → looks.new ≤ looks.old + literal_count f }
+        ensures looks { (f : Stored) → KeepsFiled self.old f → looks.new ≤ looks.old + literal_count f }
         ensures rise { looks.old ≤ looks.new }
     {
         self.variables.learn(clause)?;
@@ -131,6 +123,7 @@ impl State {
         ensures rise { looks.old ≤ looks.new }
         ensures noted { Announces result self.old (AtClause redundant clause.now hashes.now) notes.old notes.new }
     {
+        self.formula.file(looks)?;
         if !self.formula.check(clause, hashes, looks)? {
             return Ok(false);
         }
@@ -147,7 +140,7 @@ impl State {
         looks: &mut Looks,
     ) -> Result<(), StoreError>
         ensures stored { Leaves result self.old (with_derived redundant clause.now) self.new }
-        ensures looks { (f : Stored) → Keeps self.old f → looks.new ≤ looks.old + literal_count f }
+        ensures looks { (f : Stored) → KeepsFiled self.old f → looks.new ≤ looks.old + literal_count f }
         ensures rise { looks.old ≤ looks.new }
     {
         self.variables.learn(clause)?;
@@ -155,12 +148,10 @@ impl State {
             .store_clause(redundant, clause, &mut self.buffer, looks)
     }
 
-    fn change_hash_bits(&mut self, bits: HashBits, looks: &mut Looks) -> Result<bool, StoreError>
-        ensures decides { Decides result self.old (ChangeHashBits bits) self.new }
-        ensures looks { LooksWithin self.old (ChangeHashBits bits) looks.old looks.new }
-        ensures rise { looks.old ≤ looks.new }
+    fn change_hash_bits(&mut self, bits: HashBits) -> Result<bool, StoreError>
+        ensures { Decides result self.old (ChangeHashBits bits) self.new }
     {
-        self.formula.store.set_bits(bits, looks)?;
+        self.formula.store.set_bits(bits);
         Ok(true)
     }
 
@@ -192,6 +183,7 @@ impl State {
         ensures rise { looks.old ≤ looks.new }
         ensures noted { Announces result self.old (UnitClauses units.now) notes.old notes.new }
     {
+        self.formula.file(looks)?;
         if !self.formula.store_units(units, notes, looks)? {
             return Ok(false);
         }
@@ -212,6 +204,7 @@ impl State {
         ensures rise { looks.old ≤ looks.new }
         ensures noted { Announces result self.old (DeleteClause clause.now (deletion_of proof)) notes.old notes.new }
     {
+        self.formula.file(looks)?;
         let literals = sorted_set(&mut self.buffer, clause)?;
         let deletion = self.formula.deletion(notes, literals, proof, looks);
         if !self.formula.delete(clause, proof, literals, looks) {
@@ -260,6 +253,7 @@ impl State {
         if !self.assumed.has_all(core) {
             return Ok(false);
         }
+        self.formula.file(looks)?;
         copy_negated(&mut self.buffer, core)?;
         let denied = self.buffer.as_slice();
         if !self.formula.check(denied, hashes, looks)? {
@@ -326,9 +320,7 @@ impl State {
         ensures noted { Announces result self.old (step_of step.now) notes.old notes.new }
     {
         match *step {
-            ProofStep::SolverVarName { global, solver } => {
-                self.solver_var_name(global, solver, looks)
-            }
+            ProofStep::SolverVarName { global, solver } => self.solver_var_name(global, solver),
             ProofStep::UserVarName { global, user } => self.user_var_name(global, user, notes),
             ProofStep::DeleteVar { var } => self.delete_var(var, notes),
             ProofStep::ChangeSamplingMode { var, sample } => {
@@ -344,7 +336,7 @@ impl State {
             ProofStep::DeleteClause { clause, proof } => {
                 self.delete_clause(clause, proof, notes, looks)
             }
-            ProofStep::ChangeHashBits { bits } => self.change_hash_bits(bits, looks),
+            ProofStep::ChangeHashBits { bits } => self.change_hash_bits(bits),
             ProofStep::Model { assignment } => self.model(assignment, notes, looks),
             ProofStep::Assumptions { assumptions } => self.assumptions(assumptions, notes),
             ProofStep::FailedAssumptions {

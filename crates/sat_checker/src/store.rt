@@ -3,8 +3,8 @@ ghost use Rattle.std.specs.Prelude.{ℕ, List, true, false, length, ◌≡◌, [
 ghost use Rattle.sat_checker.specs.inner.Marks.{IsIncreasing};
 ghost use Rattle.sat_checker.specs.Stored.{Stored, nothing_stored};
 ghost use Rattle.sat_checker.specs.Looks.{literal_count};
-ghost use Rattle.sat_checker.specs.inner.StoreView.{KeepsClauses, Stores, PlacesIds, KeepsIds, TakesCount, with_less, count_in, found_in};
-ghost use Rattle.sat_checker.specs.inner.SlotView.{slot_ids, live, gone_count};
+ghost use Rattle.sat_checker.specs.inner.StoreView.{KeepsClauses, refiled, Stores, PlacesIds, KeepsIds, TakesCount, with_less, count_in, found_in};
+ghost use Rattle.sat_checker.specs.inner.SlotView.{slot_ids, live, live_length, gone_count};
 ghost use Rattle.sat_checker.specs.Storing.{clause_with, clause_numbered, with_solver_name};
 ghost use Rattle.sat_checker.specs.Accepts.{IsStrictSubset};
 ghost use Rattle.sat_checker.specs.LiteralSets.{mentions};
@@ -57,6 +57,8 @@ pub struct Found {
 pub struct Store {
     pub clauses: Clauses,
     pub hasher: ClauseHasher,
+    /// Whether the clauses wait to be filed by the hashes of now.
+    pub stale: bool,
 }
 
 impl Store {
@@ -68,7 +70,34 @@ impl Store {
         Store {
             clauses: Clauses::new(alloc),
             hasher: ClauseHasher::new(alloc, all_bits()),
+            stale: false,
         }
+    }
+
+    /// Files the clauses by the hashes of now, where they wait for it. Hashes are looked up behind that.
+    #[inline(always)]
+    pub fn file(&mut self, looks: &mut Looks) -> Result<(), AllocError>
+        ensures filed { OnOk result (self.new ≡ refiled self.old) }
+        ensures looks { (f : Stored) → KeepsClauses (refiled self.old) f → looks.new ≤ looks.old + literal_count f }
+        ensures rise { looks.old ≤ looks.new }
+    {
+        if !self.stale {
+            return Ok(());
+        }
+        self.file_anew(looks)
+    }
+
+    /// Files the clauses by the hashes of now.
+    #[inline(never)]
+    fn file_anew(&mut self, looks: &mut Looks) -> Result<(), AllocError>
+        requires { self.old.stale ≡ true }
+        ensures filed { OnOk result (self.new ≡ refiled self.old) }
+        ensures looks { looks.new ≤ looks.old + live_length self.old.clauses }
+        ensures rise { looks.old ≤ looks.new }
+    {
+        self.clauses.rehash(&self.hasher, looks)?;
+        self.stale = false;
+        Ok(())
     }
 
     /// Stores sorted literals without repeats once more, under this id where they are new. The answer is under which id they are stored.
@@ -151,30 +180,23 @@ impl Store {
         self.clauses.compact()
     }
 
-    /// So many bits of each hash are kept from here on.
-    pub fn set_bits(&mut self, bits: HashBits, looks: &mut Looks) -> Result<(), AllocError>
-        ensures set { OnOk result ((f : Stored) → KeepsClauses self.old f → KeepsClauses self.new (record f { width = bits })) }
-        ensures ids { OnOk result (slot_ids self.new.clauses ≡ slot_ids self.old.clauses) }
-        ensures looks { (f : Stored) → KeepsClauses self.old f → looks.new ≤ looks.old + literal_count f }
-        ensures rise { looks.old ≤ looks.new }
+    /// So many bits of each hash are kept from here on. No clause is looked at before a hash is looked up.
+    pub fn set_bits(&mut self, bits: HashBits)
+        ensures set { (f : Stored) → KeepsClauses (refiled self.old) f → KeepsClauses (refiled self.new) (record f { width = bits }) }
+        ensures ids { slot_ids self.new.clauses ≡ slot_ids self.old.clauses }
     {
+        if self.hasher.bits() == bits {
+            return;
+        }
         self.hasher.set_bits(bits);
-        self.clauses.rehash(&self.hasher, looks)
+        self.stale = true;
     }
 
-    /// A variable has this solver name or none from here on. No clause is looked at where it had the same, or where none has the variable.
-    pub fn set_solver_name(
-        &mut self,
-        var: Var,
-        name: Option<Var>,
-        looks: &mut Looks,
-    ) -> Result<(), AllocError>
-        ensures set { OnOk result ((f : Stored) → KeepsClauses self.old f → KeepsClauses self.new (with_solver_name var name f)) }
-        ensures ids { OnOk result (slot_ids self.new.clauses ≡ slot_ids self.old.clauses) }
-        ensures looks { (f : Stored) → KeepsClauses self.old f → looks.new ≤ looks.old + literal_count f }
-        ensures unmentioned { (f : Stored) → KeepsClauses self.old f
-            → list_any (λ c. mentions c.literals var) f.clauses ≡ false → looks.new ≡ looks.old }
-        ensures rise { looks.old ≤ looks.new }
+    /// A variable has this solver name or none from here on. No clause is looked at before a hash is looked up.
+    pub fn set_solver_name(&mut self, var: Var, name: Option<Var>) -> Result<(), AllocError>
+        ensures set { OnOk result ((f : Stored) → KeepsClauses (refiled self.old) f
+            → KeepsClauses (refiled self.new) (with_solver_name var name f)) }
+        ensures ids { slot_ids self.new.clauses ≡ slot_ids self.old.clauses }
     {
         if self.hasher.solver_name(var) == name {
             return Ok(());
@@ -183,7 +205,8 @@ impl Store {
         if !self.clauses.mention(var) {
             return Ok(());
         }
-        self.clauses.rehash(&self.hasher, looks)
+        self.stale = true;
+        Ok(())
     }
 
     /// Whether the clause with this id isn't gone, and is a part of these sorted literals but not all of them. Ids rise by place.
@@ -207,17 +230,18 @@ impl Store {
 
     /// Whether a stored clause has a literal of the variable. No clause is looked at.
     pub fn mention(&self, var: Var) -> bool
-        ensures { (f : Stored) → KeepsClauses self.now f → result ≡ list_any (λ c. mentions c.literals var) f.clauses }
+        ensures { (f : Stored) → KeepsClauses (refiled self.now) f → result ≡ list_any (λ c. mentions c.literals var) f.clauses }
     {
         self.clauses.mention(var)
     }
 
     /// Whether each clause that stands as irredundant has an assumed literal.
     pub fn are_satisfied(&self, assigned: &Assigned, looks: &mut Looks) -> bool
-        ensures found { (f : Stored) → KeepsClauses self.now f → result ≡ are_all_true assigned.now f.clauses }
-        ensures looks { (f : Stored) → KeepsClauses self.now f → looks.new ≤ looks.old + literal_count f }
+        ensures found { (f : Stored) → KeepsClauses (refiled self.now) f → result ≡ are_all_true assigned.now f.clauses }
+        ensures looks { (f : Stored) → KeepsClauses (refiled self.now) f → looks.new ≤ looks.old + literal_count f }
         // All irredundant ones were looked at where they are.
-        ensures all { (f : Stored) → KeepsClauses self.now f → result ≡ true → looks.new ≡ looks.old + irredundant_length f.clauses }
+        ensures all { (f : Stored) → KeepsClauses (refiled self.now) f → result ≡ true
+            → looks.new ≡ looks.old + irredundant_length f.clauses }
         ensures rise { looks.old ≤ looks.new }
     {
         self.clauses.are_satisfied(assigned, looks)

@@ -21,7 +21,7 @@ fn kinds<'a>(
                 global: first,
                 solver: Some(third),
             },
-            8,
+            0,
         ),
         (
             ProofStep::SolverVarName {
@@ -63,7 +63,7 @@ fn kinds<'a>(
             },
             2,
         ),
-        (ProofStep::ChangeHashBits { bits }, 8),
+        (ProofStep::ChangeHashBits { bits }, 0),
         (ProofStep::Model { assignment: two }, 8),
         (ProofStep::Assumptions { assumptions: two }, 0),
         (
@@ -95,10 +95,26 @@ fn is_ready(checker: &mut Checker) -> bool {
     checker.self_check_step(&known).is_ok() && checker.self_check_step(&none).is_ok()
 }
 
-/// The looks that a step takes, whether it is accepted or not.
-fn looks_of(alloc: Global, step: &ProofStep<'_>) -> Option<u64> {
+/// Changes the width to this one and back, so often.
+fn changes(checker: &mut Checker, bits: HashBits, whole: HashBits, times: u64) -> bool {
+    for _ in 0..times {
+        for bits in [bits, whole] {
+            if checker
+                .self_check_step(&ProofStep::ChangeHashBits { bits })
+                .is_err()
+            {
+                return false;
+            }
+        }
+    }
+    true
+}
+
+/// The looks that a step takes behind so many changes of the width, whether it is accepted or not.
+fn looks_of(alloc: Global, step: &ProofStep<'_>, times: u64) -> Option<u64> {
     let mut checker = Checker::new(alloc);
-    if !is_ready(&mut checker) {
+    let (bits, whole) = (HashBits::new(8)?, HashBits::new(64)?);
+    if !is_ready(&mut checker) || !changes(&mut checker, bits, whole, times) {
         return None;
     }
     let before = checker.looks();
@@ -114,6 +130,19 @@ fn looks_of_each_kind(rt: HostRuntime) {
         return;
     };
     for (step, wanted) in &kinds(&two[..1], &two, &[HASH], &units, bits) {
-        assert!(rt; looks_of(rt.alloc(), step) == Some(*wanted));
+        assert!(rt; looks_of(rt.alloc(), step, 0) == Some(*wanted));
     }
+}
+
+/// All clauses are filed anew once, as hashes are looked up behind many changes.
+#[test]
+fn looks_behind_changes(rt: HostRuntime) {
+    let two = [Lit::from_code(0), Lit::from_code(2)];
+    let step = ProofStep::AtClause {
+        redundant: false,
+        clause: &two[..1],
+        propagation_hashes: &[HASH],
+    };
+    assert!(rt; looks_of(rt.alloc(), &step, 4000) == Some(8 + 2));
+    assert!(rt; looks_of(rt.alloc(), &ProofStep::End, 4000) == Some(0));
 }

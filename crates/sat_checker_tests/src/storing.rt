@@ -121,7 +121,8 @@ fn finds_at(
     let Some(bits) = HashBits::new(width) else {
         return Ok(false);
     };
-    store.set_bits(bits, looks)?;
+    store.set_bits(bits);
+    store.file(looks)?;
     finds_left(store, clause, looks)
 }
 

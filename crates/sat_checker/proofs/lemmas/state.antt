@@ -1,5 +1,6 @@
 pub mod Keeping
 pub mod Scanning
+pub mod Refiled
 pub mod Units
 pub mod Unnumbered
 pub mod Living

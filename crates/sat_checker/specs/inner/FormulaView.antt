@@ -8,7 +8,7 @@ use Rattle.sat_checker.specs.Accepts.{Accepts, effect}
 use Rattle.sat_checker.specs.Spent.{IsSpent}
 use Rattle.sat_checker.specs.inner.Reasons.{ExplainsCheck}
 use Rattle.sat_checker.specs.inner.SlotView.{slot_ids}
-use Rattle.sat_checker.specs.inner.StoreView.{KeepsClauses, KeepsHashed, AreIds}
+use Rattle.sat_checker.specs.inner.StoreView.{KeepsClauses, KeepsHashed, AreIds, refiled}
 use Rattle.sat_checker.specs.declared.store.StoreError.{StoreError}
 use Rattle.sat_checker.specs.declared.store.StoreError.TheVariants.{OutOfMemory, CounterEnd}
 use Rattle.sat_checker.specs.declared.status.LastClause.{LastClause}
@@ -63,6 +63,10 @@ pub record KeepsParts (formula : Formula) (kept : List StoredClause) (solver_nam
 
 abbrev pub KeepsFormula : Formula → Stored → Type 0
 KeepsFormula formula f = KeepsParts formula f.clauses f.solver_names f.width f.units (standing_of f)
+
+-- with all clauses filed by the hashes of now
+abbrev pub refiled_in : Formula → Formula
+refiled_in formula = record formula { store = refiled formula.store }
 
 -- what an answer says where this is stored then, and this is what would be
 abbrev pub Turns : {T : Type 0} → Result T StoreError → Type 0 → Stored → Type 0

@@ -6,12 +6,19 @@ use Rattle.sat_checker.specs.LiteralSets.{canonical}
 use Rattle.sat_checker.specs.Stored.{Stored}
 use Rattle.sat_checker.specs.Accepts.{Accepts, effect}
 use Rattle.sat_checker.specs.Looks.{most_looks}
-use Rattle.sat_checker.specs.inner.FormulaView.{KeepsFormula, Turns, TurnsIf}
+use Rattle.sat_checker.specs.inner.FormulaView.{KeepsFormula, refiled_in, Turns, TurnsIf}
 use Rattle.sat_checker.specs.inner.VariablesView.{KeepsVariables}
 use Rattle.sat_checker.specs.declared.state.State.{State}
 use Rattle.sat_checker.specs.declared.store.StoreError.{StoreError}
 
+-- it has this once all clauses are filed by the hashes of now
 pub record Keeps (state : State) (f : Stored) : Type 0 where
+  pub formula : KeepsFormula (refiled_in state.formula) f
+  pub variables : KeepsVariables state.variables f.variables
+  pub assumed : state.assumed ≡ canonical f.assumed
+
+-- it has this, and all clauses are filed by the hashes of now
+pub record KeepsFiled (state : State) (f : Stored) : Type 0 where
   pub formula : KeepsFormula state.formula f
   pub variables : KeepsVariables state.variables f.variables
   pub assumed : state.assumed ≡ canonical f.assumed
@@ -20,9 +27,9 @@ pub record Keeps (state : State) (f : Stored) : Type 0 where
 abbrev pub Decides : Result Bool StoreError → State → Step → State → Type 0
 Decides result old step new = (f : Stored) → Keeps old f → TurnsIf result (Accepts f step) (Keeps new (effect step f)) (effect step f)
 
--- what an answer says where the state is changed so
+-- what an answer says where the state, of which all clauses are filed, is changed so
 abbrev pub Leaves : {T : Type 0} → Result T StoreError → State → (Stored → Stored) → State → Type 0
-Leaves result old change new = (f : Stored) → Keeps old f → Turns result (Keeps new (change f)) (change f)
+Leaves result old change new = (f : Stored) → KeepsFiled old f → Turns result (Keeps new (change f)) (change f)
 
 -- a derived clause is stored, and its variables are known
 abbrev pub with_derived : Bool → List ℕ → Stored → Stored

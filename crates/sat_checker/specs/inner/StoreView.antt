@@ -6,7 +6,7 @@ use Rattle.std.specs.Bool.{MatchBool}
 use Rattle.sat_checker.specs.Storing.{clause_with, with_clause, without_clause, redundant_count, irredundant_count}
 use Rattle.sat_checker.specs.HasherView.{solver_name_of, width_of}
 use Rattle.sat_checker.specs.inner.Marks.{IsIncreasing}
-use Rattle.sat_checker.specs.inner.SlotView.{Slot, is_gone, live, slot_ids}
+use Rattle.sat_checker.specs.inner.SlotView.{Slot, is_gone, live, slot_ids, hashed_anew}
 use Rattle.sat_checker.specs.declared.hash.ClauseHasher.{ClauseHasher}
 use Rattle.sat_checker.specs.declared.store.Found.{Found}
 use Rattle.sat_checker.specs.declared.store.Store.{Store}
@@ -24,6 +24,10 @@ pub record KeepsHashed (store : Store) (kept : List StoredClause) (solver_names 
 
 abbrev pub KeepsClauses : Store → Stored → Type 0
 KeepsClauses store f = KeepsHashed store f.clauses f.solver_names f.width
+
+-- with all clauses filed by the hashes of now, where they wait for it
+abbrev pub refiled : Store → Store
+refiled store = record store { clauses = (if store.stale then hashed_anew store.hasher store.clauses else store.clauses); stale = false }
 
 abbrev pub count_in : Bool → Option StoredClause → ℕ
 count_in redundant c = if redundant then redundant_count c else irredundant_count c

@@ -1,5 +1,5 @@
 -- No two hashes are mixed to one.
-use Rattle.std.proofs.Common.{ℕ, zero, ◌+◌, ◌*◌, ◌/◌, ◌%◌, ◌^◌, ◌<◌, ◌≡◌, ◌≢◌, Bool, true, false, eqb, refl, sym, ◌∙◌, ap, arith, pow_pos}
+use Rattle.std.proofs.Common.{ℕ, zero, ◌+◌, ◌*◌, ◌/◌, ◌%◌, ◌^◌, ◌<◌, ◌≡◌, Bool, true, false, eqb, refl, sym, ◌∙◌, ap, arith, pow_pos}
 use Rattle.std.proofs.lemmas.Bool.{eq-eqb, ne_eqb, eqb-true, eqb-false}
 use Rattle.std.proofs.lemmas.Nat.{mod-mul-add, div-mul-add, mul-mod_first, div-add-mod'}
 use Rattle.std.proofs.Math.Nat.{mod-lt, div-eq_of_lt, add-mul-mod_self_right, mul_assoc, mul-add}

@@ -8,7 +8,7 @@ use Rattle.sat_checker.specs.Stored.{Stored, Variable, Sample, mode_of}
 use Rattle.sat_checker.specs.Storing.{settled, with_stored, with_input, with_literals_known, with_solver_name, with_known}
 use Rattle.sat_checker.specs.Accepts.{effect, IsStrictSubset}
 use Rattle.sat_checker.specs.Spent.{IsSpent}
-use Rattle.sat_checker.specs.inner.FormulaView.{KeepsFormula, Turns, TurnsIf}
+use Rattle.sat_checker.specs.inner.FormulaView.{KeepsFormula, refiled_in, Turns, TurnsIf}
 use Rattle.sat_checker.specs.inner.StateView.{Keeps, with_added}
 use Rattle.sat_checker.specs.inner.VariablesView.{KeepsVariables, AreSampling}
 use Rattle.sat_checker.specs.declared.store.StoreError.{StoreError}
@@ -16,6 +16,7 @@ use Rattle.sat_checker.specs.declared.store.StoreError.TheVariants.{OutOfMemory,
 use Rattle.sat_checker.specs.declared.state.State.{State}
 use Rattle.sat_checker.specs.declared.variables.Variables.{Variables}
 use Rattle.sat_checker.proofs.lemmas.sets.Canonical.{canonical_among}
+use Rattle.sat_checker.proofs.lemmas.state.Refiled.{loosened}
 use Rattle.sat_checker.proofs.lemmas.state.Scanning.{same_part}
 use Rattle.sat_checker.proofs.lemmas.meaning.Names.{SameVariables, stored_same, settled_same}
 
@@ -40,12 +41,12 @@ turns_then (Err CounterEnd) K L g f k = k
 -- a clause that was derived
 pub derived : (new : State) (f : Stored) (r : Bool) (c : List ℕ) → KeepsFormula new.formula (with_stored r c (with_literals_known c f)) → KeepsVariables new.variables (with_literals_known c f).variables → new.assumed ≡ canonical f.assumed
     → Keeps new (with_stored r c (with_literals_known c f))
-derived new f r c F V a = let s = stored_same r c (with_literals_known c f) in record { formula = F; variables = subst (KeepsVariables new.variables) (sym s.variables) V; assumed = a ∙ ap canonical (sym s.assumed) }
+derived new f r c F V a = let s = stored_same r c (with_literals_known c f) in record { formula = loosened new.formula (with_stored r c (with_literals_known c f)) F; variables = subst (KeepsVariables new.variables) (sym s.variables) V; assumed = a ∙ ap canonical (sym s.assumed) }
 
 -- a clause of the formula
 pub input_kept : (new : State) (f : Stored) (c : List ℕ) → KeepsFormula new.formula (with_input c (with_literals_known c f)) → KeepsVariables new.variables (with_literals_known c f).variables → new.assumed ≡ canonical f.assumed → Keeps new (with_added c f)
 input_kept new f c F V a =
-    let s = stored_same false c (with_literals_known c f) in record { formula = F; variables = subst (KeepsVariables new.variables) (sym s.variables) V; assumed = a ∙ ap canonical (sym s.assumed) }
+    let s = stored_same false c (with_literals_known c f) in record { formula = loosened new.formula (with_input c (with_literals_known c f)) F; variables = subst (KeepsVariables new.variables) (sym s.variables) V; assumed = a ∙ ap canonical (sym s.assumed) }
 
 pub added : (new : State) (f : Stored) (c : List ℕ) → f.unsat ≡ false → Keeps new (with_added c f) → Keeps new (effect (AddClause c) f)
 added new f c e k = subst (λ b. Keeps new (cond b f (with_added c f))) (sym e) k
@@ -54,11 +55,11 @@ pub added_spent : (f : Stored) (c : List ℕ) → f.unsat ≡ false → IsSpent 
 added_spent f c e k = subst (λ b. IsSpent (cond b f (with_added c f))) (sym e) k
 
 -- a solver name
-pub renamed : (new : State) (f : Stored) (v : ℕ) (name : Option ℕ) (n : ℕ) → name ≡ Some n → KeepsFormula new.formula (with_solver_name v (Some n) f) → KeepsVariables new.variables (with_known (v ∷ []) f).variables → new.assumed ≡ canonical f.assumed
+pub renamed : (new : State) (f : Stored) (v : ℕ) (name : Option ℕ) (n : ℕ) → name ≡ Some n → KeepsFormula (refiled_in new.formula) (with_solver_name v (Some n) f) → KeepsVariables new.variables (with_known (v ∷ []) f).variables → new.assumed ≡ canonical f.assumed
     → Keeps new (effect (SolverVarName v name) f)
 renamed new f v name n e F V a = subst (λ o. Keeps new (effect (SolverVarName v o) f)) (sym e) (record { formula = F; variables = V; assumed = a })
 
-pub unnamed : (new : State) (f : Stored) (v : ℕ) (name : Option ℕ) → name ≡ None → KeepsFormula new.formula (with_solver_name v None f) → KeepsVariables new.variables f.variables → new.assumed ≡ canonical f.assumed → Keeps new (effect (SolverVarName v name) f)
+pub unnamed : (new : State) (f : Stored) (v : ℕ) (name : Option ℕ) → name ≡ None → KeepsFormula (refiled_in new.formula) (with_solver_name v None f) → KeepsVariables new.variables f.variables → new.assumed ≡ canonical f.assumed → Keeps new (effect (SolverVarName v name) f)
 unnamed new f v name e F V a = subst (λ o. Keeps new (effect (SolverVarName v o) f)) (sym e) (record { formula = F; variables = V; assumed = a })
 
 -- the last irredundant clause, beside a clause or its sorted literals
@@ -83,13 +84,13 @@ deletion_same f c Simplified = record { variables = refl; deleted = refl; assume
 
 pub deleted_kept : (old new : State) (f : Stored) (c : List ℕ) (p : Deletion) → Keeps old f → KeepsFormula new.formula (effect (DeleteClause c p) f) → new.variables ≡ old.variables → new.assumed ≡ old.assumed → Keeps new (effect (DeleteClause c p) f)
 deleted_kept old new f c p k F v a = let s = deletion_same f c p in record {
-  formula = F;
+  formula = loosened new.formula (effect (DeleteClause c p) f) F;
   variables = subst (λ vs. KeepsVariables vs (effect (DeleteClause c p) f).variables) (sym v) (subst (KeepsVariables old.variables) (sym s.variables) k.variables);
   assumed = a ∙ k.assumed ∙ ap canonical (sym s.assumed);
 }
 
 -- what a step answers behind a settled conflict
-pub settled_kept : (old new : State) (f : Stored) → Keeps old f → KeepsFormula new.formula (settled f) → new.variables ≡ old.variables → new.assumed ≡ old.assumed → Keeps new (settled f)
+pub settled_kept : (old new : State) (f : Stored) → Keeps old f → KeepsFormula (refiled_in new.formula) (settled f) → new.variables ≡ old.variables → new.assumed ≡ old.assumed → Keeps new (settled f)
 settled_kept old new f k F v a = let s = settled_same f in record {
   formula = F;
   variables = subst (λ vs. KeepsVariables vs (settled f).variables) (sym v) (subst (KeepsVariables old.variables) (sym s.variables) k.variables);

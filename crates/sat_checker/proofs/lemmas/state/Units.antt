@@ -18,6 +18,7 @@ use Rattle.sat_checker.specs.declared.store.StoreError.TheVariants.{OutOfMemory,
 use Rattle.sat_checker.specs.declared.formula.Formula.{Formula}
 use Rattle.sat_checker.specs.declared.state.State.{State}
 use Rattle.sat_checker.proofs.lemmas.meaning.Names.{units_same}
+use Rattle.sat_checker.proofs.lemmas.state.Refiled.{loosened}
 
 abbrev pub firsts : List (ℕ × ℕ) → List ℕ
 firsts us = map (λ u. u.0) us
@@ -119,7 +120,7 @@ pub units_stored : (new : State) (f : Stored) (us : List (ℕ × ℕ)) → Keeps
 units_stored new f us F V a =
     let s = units_same (firsts us) f in
     subst (Keeps new) (sym (known_units (map variable (firsts us)) (firsts us) f)) (record {
-      formula = F;
+      formula = loosened new.formula (with_units (firsts us) f) F;
       variables = subst (λ g. KeepsVariables new.variables (with_literals_known (firsts us) (record f { variables = g })).variables) (sym s.variables) V;
       assumed = a ∙ ap canonical (sym s.assumed);
     })

@@ -10,10 +10,11 @@ use Rattle.sat_checker.specs.Stored.{Stored, solver_literal, hash_by}
 use Rattle.sat_checker.specs.Storing.{with_solver_name}
 use Rattle.sat_checker.specs.HasherView.{solver_name_of, width_of}
 use Rattle.sat_checker.specs.inner.OccurrenceView.{times_in, times_stored}
-use Rattle.sat_checker.specs.inner.SlotView.{Slot, is_gone, live}
-use Rattle.sat_checker.specs.inner.StoreView.{AreHashed, KeepsClauses}
+use Rattle.sat_checker.specs.inner.SlotView.{Slot, is_gone, live, hashed_anew}
+use Rattle.sat_checker.specs.inner.StoreView.{AreHashed, KeepsClauses, refiled}
 use Rattle.sat_checker.specs.declared.hash.ClauseHasher.{ClauseHasher}
 use Rattle.sat_checker.specs.declared.store.Store.{Store}
+use Rattle.sat_checker.proofs.lemmas.store.Rehashing.{all_hashed, refiled_live, stored_live}
 
 module _ (v : ℕ) where
   one_true : (x : ℕ) → eqb (variable x) v ≡ true → 1 ≤ cond (eqb x (2 * v)) 1 0 + cond (eqb x (2 * v + 1)) 1 0
@@ -114,11 +115,15 @@ module _ (v : ℕ) where
             (λ m. k.0 m ∙ same_hash s.clause.literals p.0, rest p.1)
 
 -- a variable that no clause has is named anew
-pub named_still : (store : Store) (f : Stored) (g : ClauseHasher) (v : ℕ) (name : Option ℕ) → KeepsClauses store f → ((w : ℕ) → solver_name_of g w ≡ cond (eqb w v) name (solver_name_of store.hasher w)) → width_of g ≡ width_of store.hasher
-    → list_any (λ c. mentions c.literals v) (live store.clauses) ≡ false → KeepsClauses (record { clauses = store.clauses; hasher = g }) (with_solver_name v name f)
+pub named_still : (store : Store) (f : Stored) (g : ClauseHasher) (v : ℕ) (name : Option ℕ) → KeepsClauses (refiled store) f → ((w : ℕ) → solver_name_of g w ≡ cond (eqb w v) name (solver_name_of store.hasher w)) → width_of g ≡ width_of store.hasher
+    → list_any (λ c. mentions c.literals v) (live store.clauses) ≡ false → KeepsClauses (refiled (record store { hasher = g })) (with_solver_name v name f)
 named_still store f g v name k names width none = record {
-  clauses = k.clauses;
-  hashed = hashed_still v store.hasher g (λ w n. sym (names w ∙ ap (λ b. cond b name (solver_name_of store.hasher w)) n)) (sym width) store.clauses none k.hashed;
+  clauses = refiled_live (record store { hasher = g }) ∙ stored_live store f k;
+  hashed = go store.stale k.hashed;
   names = λ w. names w ∙ ap (λ o. cond (eqb w v) name o) (k.names w);
   width = width ∙ k.width;
 }
+  where
+    go : (b : Bool) → AreHashed store.hasher (cond b (hashed_anew store.hasher store.clauses) store.clauses) → AreHashed g (cond b (hashed_anew g store.clauses) store.clauses)
+    go true h = all_hashed g store.clauses
+    go false h = hashed_still v store.hasher g (λ w n. sym (names w ∙ ap (λ b. cond b name (solver_name_of store.hasher w)) n)) (sym width) store.clauses none h

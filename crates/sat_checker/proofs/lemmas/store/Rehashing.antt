@@ -1,5 +1,5 @@
 -- Filing all clauses anew.
-use Rattle.std.proofs.Common.{ℕ, zero, suc, ◌+◌, ◌<◌, ◌≤◌, ◌≡◌, Bool, true, false, ◌&&◌, cond, eqb, List, [], ◌∷◌, ◌++◌, length, take, drop, map, Option, refl, sym, ◌∙◌, ap, subst, arith, slice_set, ◌||◌}
+use Rattle.std.proofs.Common.{ℕ, zero, suc, ◌+◌, ◌<◌, ◌≤◌, ◌≡◌, Bool, true, false, ◌&&◌, cond, eqb, List, [], ◌∷◌, ◌++◌, length, take, drop, map, Option, refl, sym, ◌∙◌, ap, arith, slice_set, ◌||◌}
 use Rattle.std.proofs.lemmas.Bool.{true≢false}
 use Rattle.std.specs.List.{list_any}
 use Rattle.std.proofs.lemmas.List.{drop_more, append-nil}
@@ -9,11 +9,11 @@ use Rattle.sat_checker.specs.Stored.{Stored, hash_by}
 use Rattle.sat_checker.specs.Storing.{unless_gone}
 use Rattle.sat_checker.specs.Looks.{total_length, literal_count}
 use Rattle.sat_checker.specs.HasherView.{solver_name_of, width_of}
-use Rattle.sat_checker.specs.inner.StoreView.{AreHashed, KeepsClauses}
+use Rattle.sat_checker.specs.inner.StoreView.{AreHashed, KeepsClauses, refiled}
 use Rattle.sat_checker.specs.declared.hash.ClauseHasher.{ClauseHasher}
 use Rattle.sat_checker.specs.declared.store.Store.{Store}
-use Rattle.sat_checker.proofs.lemmas.store.Keeping.{length_same}
-use Rattle.sat_checker.specs.inner.SlotView.{Slot, slot_at, literals_at, is_gone, live, live_length, with_hash_at, hashed_by, all_hashed_by, unstored}
+use Rattle.sat_checker.proofs.lemmas.store.Ids.{ids_hashed}
+use Rattle.sat_checker.specs.inner.SlotView.{Slot, slot_at, slot_ids, literals_at, is_gone, live, live_length, with_hash_at, hashed_by, all_hashed_by, hashed_anew, unstored}
 use Rattle.sat_checker.specs.inner.IndexView.{pairs_of}
 use Rattle.sat_checker.specs.inner.PairView.{mixed}
 use Rattle.sat_checker.specs.declared.links.Pair.{Pair}
@@ -194,7 +194,7 @@ live_hashed names width (s ∷ ss) = go (is_gone s) refl (live_hashed names widt
     go true g ih = ap (λ cs. unless_gone s.clause ++ cs) ih
     go false g ih = ap (λ cs. unless_gone s.clause ++ cs) ih
 
-all_hashed : (h : ClauseHasher) (ss : List Slot) → AreHashed h (all_hashed_by (solver_name_of h) (width_of h) ss)
+pub all_hashed : (h : ClauseHasher) (ss : List Slot) → AreHashed h (all_hashed_by (solver_name_of h) (width_of h) ss)
 all_hashed h [] = tt
 all_hashed h (s ∷ ss) = (go (is_gone s) refl, all_hashed h ss)
   where
@@ -203,14 +203,55 @@ all_hashed h (s ∷ ss) = (go (is_gone s) refl, all_hashed h ss)
     go true g n = absurd (true≢false (sym g ∙ n))
     go false g n = refl
 
-pub filed_anew : (store : Store) (f : Stored) (h : ClauseHasher) (new : List Slot) (names : ℕ → Option ℕ) (width : ℕ) → KeepsClauses store f → new ≡ all_hashed_by (solver_name_of h) (width_of h) store.clauses
-    → ((v : ℕ) → solver_name_of h v ≡ names v) → width_of h ≡ width → KeepsClauses (record { clauses = new; hasher = h }) (record f { solver_names = names; width = width })
-filed_anew store f h new names width k n e w = record {
-  clauses = ap live n ∙ live_hashed (solver_name_of h) (width_of h) store.clauses ∙ k.clauses;
-  hashed = subst (AreHashed h) (sym n) (all_hashed h store.clauses);
+-- what is stored stays while all clauses wait to be filed anew
+pub refiled_live : (store : Store) → live (refiled store).clauses ≡ live store.clauses
+refiled_live store = go store.stale
+  where
+    go : (b : Bool) → live (cond b (hashed_anew store.hasher store.clauses) store.clauses) ≡ live store.clauses
+    go true = live_hashed (solver_name_of store.hasher) (width_of store.hasher) store.clauses
+    go false = refl
+
+pub stored_live : (store : Store) (f : Stored) → KeepsClauses (refiled store) f → live store.clauses ≡ f.clauses
+stored_live store f k = sym (refiled_live store) ∙ k.clauses
+
+pub refiled_ids : (store : Store) → slot_ids (refiled store).clauses ≡ slot_ids store.clauses
+refiled_ids store = go store.stale
+  where
+    go : (b : Bool) → slot_ids (cond b (hashed_anew store.hasher store.clauses) store.clauses) ≡ slot_ids store.clauses
+    go true = ids_hashed (solver_name_of store.hasher) (width_of store.hasher) store.clauses
+    go false = refl
+
+-- a store whose clauses are filed by its hashes of now
+filed_already : (h : ClauseHasher) (ss : List Slot) (b : Bool) → AreHashed h ss → AreHashed h (cond b (hashed_anew h ss) ss)
+filed_already h ss true k = all_hashed h ss
+filed_already h ss false k = k
+
+pub refiled_kept : (store : Store) (f : Stored) → KeepsClauses store f → KeepsClauses (refiled store) f
+refiled_kept store f k = record {
+  clauses = refiled_live store ∙ k.clauses;
+  hashed = filed_already store.hasher store.clauses store.stale k.hashed;
+  names = k.names;
+  width = k.width;
+}
+
+-- other hashes hold from now on
+pub hashes_changed : (store : Store) (f : Stored) (h : ClauseHasher) (names : ℕ → Option ℕ) (width : ℕ) → KeepsClauses (refiled store) f → ((v : ℕ) → solver_name_of h v ≡ names v) → width_of h ≡ width
+    → KeepsClauses (refiled (record store { hasher = h; stale = true })) (record f { solver_names = names; width = width })
+hashes_changed store f h names width k e w = record {
+  clauses = live_hashed (solver_name_of h) (width_of h) store.clauses ∙ stored_live store f k;
+  hashed = all_hashed h store.clauses;
   names = e;
   width = w;
 }
 
-pub looks_anew : (store : Store) (old new : ℕ) → new ≤ old + live_length store.clauses → (f : Stored) → KeepsClauses store f → new ≤ old + literal_count f
-looks_anew store old new h f k = let b : live_length store.clauses ≡ literal_count f = length_same store f k in omega arith
+-- they hold already
+pub filed_still : (store : Store) → store.stale ≡ false → store ≡ refiled store
+filed_still store e = ap (λ b. record store { stale = b }) e ∙ ap (λ b. record store { clauses = cond b (hashed_anew store.hasher store.clauses) store.clauses; stale = false }) (sym e)
+
+pub filed_anew : (store : Store) (new : List Slot) → store.stale ≡ true → new ≡ hashed_anew store.hasher store.clauses → record store { clauses = new; stale = false } ≡ refiled store
+filed_anew store new e n = ap (λ ss. record store { clauses = ss; stale = false }) n ∙ ap (λ b. record store { clauses = cond b (hashed_anew store.hasher store.clauses) store.clauses; stale = false }) (sym e)
+
+pub looks_anew : (store : Store) (old new : ℕ) → new ≤ old + live_length store.clauses → (f : Stored) → KeepsClauses (refiled store) f → new ≤ old + literal_count f
+looks_anew store old new h f k =
+    let b : live_length store.clauses ≡ literal_count f = ap (λ cs. total_length (map (λ c. c.literals) cs)) (stored_live store f k) in
+    omega arith

@@ -209,7 +209,7 @@ module _ (store : Store) (f : Stored) (k : KeepsClauses store f) (literals : Lis
       zero_in false = refl
 
   pub stored_again : (p : ℕ) → Some p ≡ found_among store.clauses literals (places_of hash store.clauses) → (r : Bool) (id stored_id : ℕ) (new : List Slot) → new ≡ with_count_at r p store.clauses → stored_id ≡ (slot_at new p).clause.id
-      → Stores (record { clauses = new; hasher = store.hasher }) f id r literals stored_id false
+      → Stores (record store { clauses = new }) f id r literals stored_id false
   stored_again p found r id stored_id new n i =
       let s = stands_found store.hasher store.clauses literals hash k.hashed e p found in
       let was : clause_with literals f.clauses ≡ Some (slot_at store.clauses p).clause = ap (clause_with literals) (sym k.clauses) ∙ s.is in
@@ -236,7 +236,7 @@ module _ (store : Store) (f : Stored) (k : KeepsClauses store f) (literals : Lis
       counted_id false c = refl
 
   pub stored_new : None ≡ found_among store.clauses literals (places_of hash store.clauses) → (r : Bool) (id : ℕ) (new : List Slot) → new ≡ store.clauses ++ stored_slot r id hash literals ∷ []
-      → Stores (record { clauses = new; hasher = store.hasher }) f id r literals id true
+      → Stores (record store { clauses = new }) f id r literals id true
   stored_new found r id new n =
       let s = stands_none store.hasher store.clauses literals hash k.hashed e found in
       let was : clause_with literals f.clauses ≡ None = ap (clause_with literals) (sym k.clauses) ∙ s.none in
@@ -256,7 +256,7 @@ module _ (store : Store) (f : Stored) (k : KeepsClauses store f) (literals : Lis
       fresh_literals false = refl
 
   pub deleted_one : (p : ℕ) → Some p ≡ found_among store.clauses literals (places_of hash store.clauses) → (r : Bool) (new : List Slot) → new ≡ without_count_at r p store.clauses
-      → KeepsClauses (record { clauses = new; hasher = store.hasher }) (record f { clauses = without_clause r literals f.clauses })
+      → KeepsClauses (record store { clauses = new }) (record f { clauses = without_clause r literals f.clauses })
   deleted_one p found r new n =
       let s = stands_found store.hasher store.clauses literals hash k.hashed e p found in
       record {

@@ -49,18 +49,21 @@ derived_noted new old change id redundant both clause literals hashes ids f e ne
     e ∙ ap (λ i. old ++ stored_as change i redundant literals ids) next ∙ ap (λ x. old ++ x) stored ∙ ap (λ b. old ++ cond b [] (derived_set redundant literals ids f (id_of_set literals f))) signs
     ∙ ap (λ ls. old ++ cond (is_tautology clause) [] (derived_set redundant ls ids f (id_of_set ls f))) set ∙ ap (λ is. old ++ cond (is_tautology clause) [] (derived_set redundant (canonical clause) is f (id_of_set (canonical clause) f))) listed
 
--- the check's looks, those at what it noted, and one more pass
+-- a pass to file the clauses, the check's looks, those at what it noted, and one more pass
 once_more : (n l : ℕ) → (5 + 2 * n) * l ≡ n * l + (n * l + 5 * l)
 once_more n l = grind arith
 
-pub looks_judged : (old mid n l : ℕ) → mid ≤ old + n * l → mid ≤ old + (5 + 2 * n) * l
-looks_judged old mid n l h = let e = once_more n l in omega arith
+pub looks_filed : (before old n l : ℕ) → old ≤ before + l → old ≤ before + (5 + 2 * n) * l
+looks_filed before old n l b = let e = once_more n l in omega arith
 
-pub looks_noted : (old mid noted len n l : ℕ) → mid ≤ old + n * l → len + old ≤ mid → noted ≤ mid + len + l → noted ≤ old + (5 + 2 * n) * l
-looks_noted old mid noted len n l h r k = let e = once_more n l in omega arith
+pub looks_judged : (before old mid n l : ℕ) → old ≤ before + l → mid ≤ old + n * l → mid ≤ before + (5 + 2 * n) * l
+looks_judged before old mid n l b h = let e = once_more n l in omega arith
 
-pub looks_stored : (old mid noted new len n l : ℕ) → mid ≤ old + n * l → len + old ≤ mid → noted ≤ mid + len + l → new ≤ noted + l → new ≤ old + (5 + 2 * n) * l
-looks_stored old mid noted new len n l h r k j = let e = once_more n l in omega arith
+pub looks_noted : (before old mid noted len n l : ℕ) → old ≤ before + l → mid ≤ old + n * l → len + old ≤ mid → noted ≤ mid + len + l → noted ≤ before + (5 + 2 * n) * l
+looks_noted before old mid noted len n l b h r k = let e = once_more n l in omega arith
 
-pub looks_followed : (old mid noted len n l : ℕ) → mid ≤ old + n * l → len + old ≤ mid → noted ≤ mid + len → noted ≤ old + (5 + 2 * n) * l
-looks_followed old mid noted len n l h r k = let e = once_more n l in omega arith
+pub looks_stored : (before old mid noted new len n l : ℕ) → old ≤ before + l → mid ≤ old + n * l → len + old ≤ mid → noted ≤ mid + len + l → new ≤ noted + l → new ≤ before + (5 + 2 * n) * l
+looks_stored before old mid noted new len n l b h r k j = let e = once_more n l in omega arith
+
+pub looks_followed : (before old mid noted len n l : ℕ) → old ≤ before + l → mid ≤ old + n * l → len + old ≤ mid → noted ≤ mid + len → noted ≤ before + (5 + 2 * n) * l
+looks_followed before old mid noted len n l b h r k = let e = once_more n l in omega arith

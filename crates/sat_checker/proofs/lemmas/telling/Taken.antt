@@ -13,7 +13,7 @@ use Rattle.sat_checker.specs.KernelView as kernels
 use Rattle.sat_checker.specs.KernelView.{KeepsAfter, records_of}
 use Rattle.sat_checker.specs.CheckerView.{Seen, seen, has_failed, Fails, AnswersStep, AnswersDelayed}
 use Rattle.sat_checker.specs.announcements.Announcements.{Announcement, AtClause, Told, announced, delayed, delayed_by, told_over, told_after, all_told_after}
-use Rattle.sat_checker.specs.inner.FormulaView.{KeepsFormula, Standing, Turns, TurnsIf}
+use Rattle.sat_checker.specs.inner.FormulaView.{KeepsFormula, refiled_in, Standing, Turns, TurnsIf}
 use Rattle.sat_checker.specs.inner.StateView.{Keeps}
 use Rattle.sat_checker.specs.inner.TellingSteps.{announced_by, changed_by, put_back, failure_of, fault_of, records_in, TakesIn}
 use Rattle.sat_checker.specs.inner.VariablesView.{variable_at}
@@ -69,7 +69,7 @@ module _ (old : Kernel) (steps : List Step) (s : kernels.Stands old steps) (well
   is_stored = stored_is old steps kept (one, other) waits
 
   -- what is stored then
-  pub settled_stands : (new : Kernel) → (KeepsFormula old.state.formula kept.formula → KeepsFormula new.state.formula (settled kept.formula))
+  pub settled_stands : (new : Kernel) → (KeepsFormula (refiled_in old.state.formula) kept.formula → KeepsFormula (refiled_in new.state.formula) (settled kept.formula))
       → new.state.variables ≡ old.state.variables → new.state.assumed ≡ old.state.assumed → new.records ≡ old.records → kernels.Stands new steps
   settled_stands new k v a r = record {
     accepted = s.accepted;
@@ -149,7 +149,7 @@ changed_same (Assumptions ls) g h e = refl
 changed_same (FailedAssumptions core hs) g h e = refl
 changed_same End g h e = refl
 
-records_same : (new : Kernel) (g : Stored) → KeepsFormula new.state.formula g → records_in new.state.formula.status ≡ records_of g
+records_same : (new : Kernel) (g : Stored) → KeepsFormula (refiled_in new.state.formula) g → records_in new.state.formula.status ≡ records_of g
 records_same new g k = ap (λ (z : Standing). record { unsat = z.unsat; ended = z.ended; var_deleted = z.var_deleted }) k.status
 
 -- nothing waits, so all was told

@@ -1,4 +1,4 @@
-use Rattle.std.proofs.Common.{ℕ, ◌-◌, ◌≡◌, ◌∙◌, length, drop, ap, arith}
+use Rattle.std.proofs.Common.{◌-◌, ◌≡◌, ◌∙◌, length, drop, ap, arith}
 use Rattle.sat_checker.proofs.assigned.Assigned.forget.Goals as goal
 
 pub returns : goal.returns

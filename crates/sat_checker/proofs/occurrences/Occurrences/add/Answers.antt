@@ -1,6 +1,5 @@
-use Rattle.std.proofs.Common.{◌≡◌, ◌+◌, refl, subst, sym, arith}
+use Rattle.std.proofs.Common.{refl, subst, sym, arith}
 use Rattle.sat_base.specs.values.Tables.{HasRoom}
-use Rattle.sat_checker.specs.inner.OccurrenceView.{count_at}
 use Rattle.sat_checker.proofs.lemmas.store.Times.{still_left, fits_more, next_times}
 use Rattle.sat_checker.proofs.occurrences.Occurrences.add.Goals as goal
 

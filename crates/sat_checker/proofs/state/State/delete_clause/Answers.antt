@@ -13,7 +13,7 @@ pub delete-requires : goal.delete-requires
 delete-requires c = c.in_ok-literals.ensures.set
 
 pub returns-in_err-literals-clause-decides : goal.returns-in_err-literals-clause-decides
-returns-in_err-literals-clause-decides c = let p = err_from_is_err_and c.from_residual.result c.from_residual.ensures.1 in rw (p.1, p.2) (λ f k. tt)
+returns-in_err-literals-clause-decides c = let p = err_from_is_err_and c.from_residual-in_err-literals.result c.from_residual-in_err-literals.ensures.1 in rw (p.1, p.2) (λ f k. tt)
 
 pub returns-in_err-deleted-clause-decides : goal.returns-in_err-deleted-clause-decides
 returns-in_err-deleted-clause-decides c = let p = err_from_is_err_and c.from_residual-in_err-deleted.result c.from_residual-in_err-deleted.ensures.1 in rw (p.1, p.2) (λ f k. tt)
@@ -22,20 +22,20 @@ pub returns-in_err-compact-clause-decides : goal.returns-in_err-compact-clause-d
 returns-in_err-compact-clause-decides c = let p = err_from_is_err_and c.from_residual-in_err-compact.result c.from_residual-in_err-compact.ensures.1 in rw (p.1, p.2) (λ f k. tt)
 
 pub returns-then-not-delete-clause-decides : goal.returns-then-not-delete-clause-decides
-returns-then-not-delete-clause-decides c = λ f k. match_false _ _ _ (c.delete.ensures.decides f k.formula) c.if-not-delete.true
+returns-then-not-delete-clause-decides c = λ f k. match_false _ _ _ (c.delete.ensures.decides f (c.in_ok-file.ensures.kept f k.formula)) c.if-not-delete.true
 
 pub returns-clause-decides : goal.returns-clause-decides
 returns-clause-decides c = λ f k.
-    let gone = match_true _ _ _ (c.delete.ensures.decides f k.formula) c.if-not-delete.false in (
+    let gone = match_true _ _ _ (c.delete.ensures.decides f (c.in_ok-file.ensures.kept f k.formula)) c.if-not-delete.false in (
       gone.0,
       deleted_kept c.args.self.now _ f c.args.clause.now (deletion_of c.args.proof) k (c.in_ok-compact.ensures (effect (DeleteClause c.args.clause.now (deletion_of c.args.proof)) f) gone.1) refl refl,
     )
 
 pub returns-in_err-literals-clause-looks : goal.returns-in_err-literals-clause-looks
-returns-in_err-literals-clause-looks c = λ f k. omega arith
+returns-in_err-literals-clause-looks c = λ f k. let filed = c.file.ensures.looks f k.formula in omega arith
 
 pub returns-in_err-literals-clause-noted : goal.returns-in_err-literals-clause-noted
-returns-in_err-literals-clause-noted c = IfOk-from_err c.from_residual.result _ c.from_residual.ensures.0
+returns-in_err-literals-clause-noted c = IfOk-from_err c.from_residual-in_err-literals.result _ c.from_residual-in_err-literals.ensures.0
 
 pub returns-in_err-deleted-clause-noted : goal.returns-in_err-deleted-clause-noted
 returns-in_err-deleted-clause-noted c = IfOk-from_err c.from_residual-in_err-deleted.result _ c.from_residual-in_err-deleted.ensures.0
@@ -48,28 +48,41 @@ returns-then-not-delete-clause-noted c = λ t. absurd (true≢false (sym t))
 
 pub returns-then-not-delete-clause-looks : goal.returns-then-not-delete-clause-looks
 returns-then-not-delete-clause-looks c = λ f k.
-    let told = c.deletion-deletion.ensures.looks f k.formula in
-    let gone = c.delete.ensures.looks f k.formula in
+    let filed = c.file.ensures.looks f k.formula in
+    let told = c.deletion-deletion.ensures.looks f (c.in_ok-file.ensures.kept f k.formula) in
+    let gone = c.delete.ensures.looks f (c.in_ok-file.ensures.kept f k.formula) in
     omega arith
 
 pub returns-in_err-deleted-clause-looks : goal.returns-in_err-deleted-clause-looks
 returns-in_err-deleted-clause-looks c = λ f k.
-    let told = c.deletion-deletion.ensures.looks f k.formula in
-    let gone = c.delete.ensures.looks f k.formula in
+    let filed = c.file.ensures.looks f k.formula in
+    let told = c.deletion-deletion.ensures.looks f (c.in_ok-file.ensures.kept f k.formula) in
+    let gone = c.delete.ensures.looks f (c.in_ok-file.ensures.kept f k.formula) in
     omega arith
 
 pub returns-in_err-compact-clause-looks : goal.returns-in_err-compact-clause-looks
 returns-in_err-compact-clause-looks c = λ f k.
-    let told = c.deletion-deletion.ensures.looks f k.formula in
-    let gone = c.delete.ensures.looks f k.formula in
+    let filed = c.file.ensures.looks f k.formula in
+    let told = c.deletion-deletion.ensures.looks f (c.in_ok-file.ensures.kept f k.formula) in
+    let gone = c.delete.ensures.looks f (c.in_ok-file.ensures.kept f k.formula) in
     omega arith
 
 pub returns-clause-looks : goal.returns-clause-looks
 returns-clause-looks c = λ f k.
-    let told = c.deletion-deletion.ensures.looks f k.formula in
-    let gone = c.delete.ensures.looks f k.formula in
+    let filed = c.file.ensures.looks f k.formula in
+    let told = c.deletion-deletion.ensures.looks f (c.in_ok-file.ensures.kept f k.formula) in
+    let gone = c.delete.ensures.looks f (c.in_ok-file.ensures.kept f k.formula) in
     omega arith
 
 pub returns-clause-noted : goal.returns-clause-noted
 returns-clause-noted c = λ t f k long.
-    deletion_noted f c.args.clause.now (deletion_of c.args.proof) c.in_ok-literals.literals.now c.deletion-deletion.result c.args.notes.now c.deleted.new.self (λ h. c.deletion-deletion.ensures.told h f k.formula c.args.clause.now c.in_ok-literals.ensures.set) c.in_ok-deleted.ensures
+    deletion_noted f c.args.clause.now (deletion_of c.args.proof) c.in_ok-literals.literals.now c.deletion-deletion.result c.args.notes.now c.deleted.new.self (λ h. c.deletion-deletion.ensures.told h f (c.in_ok-file.ensures.kept f k.formula) c.args.clause.now c.in_ok-literals.ensures.set) c.in_ok-deleted.ensures
+
+pub returns-in_err-file-clause-decides : goal.returns-in_err-file-clause-decides
+returns-in_err-file-clause-decides c = let p = err_from_is_err_and c.from_residual.result c.from_residual.ensures.1 in rw (p.1, p.2) (λ f k. tt)
+
+pub returns-in_err-file-clause-looks : goal.returns-in_err-file-clause-looks
+returns-in_err-file-clause-looks c = λ f k. let filed = c.file.ensures.looks f k.formula in omega arith
+
+pub returns-in_err-file-clause-noted : goal.returns-in_err-file-clause-noted
+returns-in_err-file-clause-noted c = IfOk-from_err c.from_residual.result _ c.from_residual.ensures.0

@@ -7,10 +7,11 @@ use Rattle.sat_checker.specs.Looks.{literal_count}
 use Rattle.sat_checker.specs.Stored.{Stored}
 use Rattle.sat_checker.specs.inner.Reasons.{noted_length}
 use Rattle.sat_checker.specs.inner.StateView.{Keeps}
+use Rattle.sat_checker.proofs.lemmas.state.Refiled.{loosened}
 use Rattle.sat_checker.proofs.lemmas.state.Unnumbered.{checks_as, kept_beside}
 use Rattle.sat_checker.proofs.lemmas.state.Keeping.{within_assumed}
 use Rattle.sat_checker.proofs.lemmas.store.Entries.{on_err}
-use Rattle.sat_checker.proofs.lemmas.telling.Noting.{looks_judged, looks_followed}
+use Rattle.sat_checker.proofs.lemmas.telling.Noting.{looks_filed, looks_judged, looks_followed}
 use Rattle.sat_checker.proofs.state.State.failed_assumptions.Goals as goal
 
 pub note_core-requires-clause-denied : goal.note_core-requires-clause-denied
@@ -26,17 +27,17 @@ returns-then-not-has_all-clause-decides c = λ f k p.
 
 pub returns-then-not-branch-clause-decides : goal.returns-then-not-branch-clause-decides
 returns-then-not-branch-clause-decides c = λ f k p.
-    true≢false (sym ((subst (λ ls. (c.in_ok-check.field-0 ≡ true) ↔ Passes f ls c.args.hashes.now) (c.as_slice-denied.ensures.value ∙ c.in_ok-copy_negated.ensures) (c.in_ok-check.ensures.exact f (checks_as c.args.self.now.formula f k.formula))).1 p.1) ∙ c.if-not-branch.true)
+    true≢false (sym ((subst (λ ls. (c.in_ok-check.field-0 ≡ true) ↔ Passes f ls c.args.hashes.now) (c.as_slice-denied.ensures.value ∙ c.in_ok-copy_negated.ensures) (c.in_ok-check.ensures.exact f (checks_as c.file.new.self f (c.in_ok-file.ensures.kept f k.formula)))).1 p.1) ∙ c.if-not-branch.true)
 
 pub returns-clause-decides : goal.returns-clause-decides
 returns-clause-decides c = λ f k.
     let w = within_assumed c.has_all.result c.args.core.now f.assumed c.args.self.now.assumed k.assumed c.has_all.ensures in (
-      (sym w ∙ c.if-not-has_all.false, (subst (λ ls. (c.in_ok-check.field-0 ≡ true) ↔ Passes f ls c.args.hashes.now) (c.as_slice-denied.ensures.value ∙ c.in_ok-copy_negated.ensures) (c.in_ok-check.ensures.exact f (checks_as c.args.self.now.formula f k.formula))).0 c.if-not-branch.false),
-      record { formula = kept_beside c.args.self.now.formula c.check.new.self f c.check.ensures.rest k.formula; variables = k.variables; assumed = k.assumed },
+      (sym w ∙ c.if-not-has_all.false, (subst (λ ls. (c.in_ok-check.field-0 ≡ true) ↔ Passes f ls c.args.hashes.now) (c.as_slice-denied.ensures.value ∙ c.in_ok-copy_negated.ensures) (c.in_ok-check.ensures.exact f (checks_as c.file.new.self f (c.in_ok-file.ensures.kept f k.formula)))).0 c.if-not-branch.false),
+      record { formula = loosened c.check.new.self f (kept_beside c.file.new.self c.check.new.self f c.check.ensures.rest (c.in_ok-file.ensures.kept f k.formula)); variables = k.variables; assumed = k.assumed },
     )
 
 pub returns-in_err-copy_negated-clause-decides : goal.returns-in_err-copy_negated-clause-decides
-returns-in_err-copy_negated-clause-decides c = let p = err_from_is_err_and c.from_residual.result c.from_residual.ensures.1 in rw (p.1, p.2) (λ f k. tt)
+returns-in_err-copy_negated-clause-decides c = let p = err_from_is_err_and c.from_residual-in_err-copy_negated.result c.from_residual-in_err-copy_negated.ensures.1 in rw (p.1, p.2) (λ f k. tt)
 
 pub returns-in_err-check-clause-decides : goal.returns-in_err-check-clause-decides
 returns-in_err-check-clause-decides c = let p = err_from_is_err_and c.from_residual-in_err-check.result c.from_residual-in_err-check.ensures.1 in rw (p.1, p.2) (λ f k. tt)
@@ -48,22 +49,22 @@ pub returns-then-not-has_all-clause-looks : goal.returns-then-not-has_all-clause
 returns-then-not-has_all-clause-looks c = λ f k. omega arith
 
 pub returns-in_err-copy_negated-clause-looks : goal.returns-in_err-copy_negated-clause-looks
-returns-in_err-copy_negated-clause-looks c = λ f k. omega arith
+returns-in_err-copy_negated-clause-looks c = λ f k. looks_filed c.args.looks.now c.file.new.looks (length c.args.hashes.now) (literal_count f) (c.file.ensures.looks f k.formula)
 
 pub returns-in_err-check-clause-looks : goal.returns-in_err-check-clause-looks
-returns-in_err-check-clause-looks c = λ f k. looks_judged c.args.looks.now c.check.new.looks (length c.args.hashes.now) (literal_count f) (c.check.ensures.looks f (checks_as c.args.self.now.formula f k.formula))
+returns-in_err-check-clause-looks c = λ f k. looks_judged c.args.looks.now c.file.new.looks c.check.new.looks (length c.args.hashes.now) (literal_count f) (c.file.ensures.looks f k.formula) (c.check.ensures.looks f (checks_as c.file.new.self f (c.in_ok-file.ensures.kept f k.formula)))
 
 pub returns-then-not-branch-clause-looks : goal.returns-then-not-branch-clause-looks
-returns-then-not-branch-clause-looks c = λ f k. looks_judged c.args.looks.now c.check.new.looks (length c.args.hashes.now) (literal_count f) (c.check.ensures.looks f (checks_as c.args.self.now.formula f k.formula))
+returns-then-not-branch-clause-looks c = λ f k. looks_judged c.args.looks.now c.file.new.looks c.check.new.looks (length c.args.hashes.now) (literal_count f) (c.file.ensures.looks f k.formula) (c.check.ensures.looks f (checks_as c.file.new.self f (c.in_ok-file.ensures.kept f k.formula)))
 
 pub returns-in_err-note_core-clause-looks : goal.returns-in_err-note_core-clause-looks
-returns-in_err-note_core-clause-looks c = λ f k. looks_followed c.args.looks.now c.check.new.looks c.note_core.new.looks (noted_length c.check.new.self.store.clauses c.check.new.self.passed) (length c.args.hashes.now) (literal_count f) (c.check.ensures.looks f (checks_as c.args.self.now.formula f k.formula)) c.in_ok-check.ensures.read c.note_core.ensures.looks
+returns-in_err-note_core-clause-looks c = λ f k. looks_followed c.args.looks.now c.file.new.looks c.check.new.looks c.note_core.new.looks (noted_length c.check.new.self.store.clauses c.check.new.self.passed) (length c.args.hashes.now) (literal_count f) (c.file.ensures.looks f k.formula) (c.check.ensures.looks f (checks_as c.file.new.self f (c.in_ok-file.ensures.kept f k.formula))) c.in_ok-check.ensures.read c.note_core.ensures.looks
 
 pub returns-clause-looks : goal.returns-clause-looks
-returns-clause-looks c = λ f k. looks_followed c.args.looks.now c.check.new.looks c.note_core.new.looks (noted_length c.check.new.self.store.clauses c.check.new.self.passed) (length c.args.hashes.now) (literal_count f) (c.check.ensures.looks f (checks_as c.args.self.now.formula f k.formula)) c.in_ok-check.ensures.read c.note_core.ensures.looks
+returns-clause-looks c = λ f k. looks_followed c.args.looks.now c.file.new.looks c.check.new.looks c.note_core.new.looks (noted_length c.check.new.self.store.clauses c.check.new.self.passed) (length c.args.hashes.now) (literal_count f) (c.file.ensures.looks f k.formula) (c.check.ensures.looks f (checks_as c.file.new.self f (c.in_ok-file.ensures.kept f k.formula))) c.in_ok-check.ensures.read c.note_core.ensures.looks
 
 pub returns-in_err-copy_negated-clause-noted : goal.returns-in_err-copy_negated-clause-noted
-returns-in_err-copy_negated-clause-noted c = IfOk-from_err c.from_residual.result _ c.from_residual.ensures.0
+returns-in_err-copy_negated-clause-noted c = IfOk-from_err c.from_residual-in_err-copy_negated.result _ c.from_residual-in_err-copy_negated.ensures.0
 
 pub returns-in_err-check-clause-noted : goal.returns-in_err-check-clause-noted
 returns-in_err-check-clause-noted c = IfOk-from_err c.from_residual-in_err-check.result _ c.from_residual-in_err-check.ensures.0
@@ -78,7 +79,7 @@ pub returns-then-not-branch-clause-noted : goal.returns-then-not-branch-clause-n
 returns-then-not-branch-clause-noted c = λ t. absurd (true≢false (sym t))
 
 pub returns-clause-noted : goal.returns-clause-noted
-returns-clause-noted c = λ t f k long. c.in_ok-note_core.ensures.noted f c.args.hashes.now (kept_beside c.args.self.now.formula c.check.new.self f c.check.ensures.rest k.formula) (c.in_ok-check.ensures.explained c.if-not-branch.false)
+returns-clause-noted c = λ t f k long. c.in_ok-note_core.ensures.noted f c.args.hashes.now (kept_beside c.file.new.self c.check.new.self f c.check.ensures.rest (c.in_ok-file.ensures.kept f k.formula)) (c.in_ok-check.ensures.explained c.if-not-branch.false)
 
 pub returns-in_err-copy_negated-clause-among : goal.returns-in_err-copy_negated-clause-among
 returns-in_err-copy_negated-clause-among c =
@@ -92,5 +93,19 @@ returns-in_err-check-clause-among c =
 
 pub returns-in_err-note_core-clause-among : goal.returns-in_err-note_core-clause-among
 returns-in_err-note_core-clause-among c =
+    let among : (f : Stored) → Keeps c.args.self.now f → is_part c.args.core.now f.assumed ≡ true = λ f k. sym (within_assumed c.has_all.result c.args.core.now f.assumed c.args.self.now.assumed k.assumed c.has_all.ensures) ∙ c.if-not-has_all.false in
+    on_err _ _ among
+
+pub returns-in_err-file-clause-decides : goal.returns-in_err-file-clause-decides
+returns-in_err-file-clause-decides c = let p = err_from_is_err_and c.from_residual.result c.from_residual.ensures.1 in rw (p.1, p.2) (λ f k. tt)
+
+pub returns-in_err-file-clause-looks : goal.returns-in_err-file-clause-looks
+returns-in_err-file-clause-looks c = λ f k. looks_filed c.args.looks.now c.file.new.looks (length c.args.hashes.now) (literal_count f) (c.file.ensures.looks f k.formula)
+
+pub returns-in_err-file-clause-noted : goal.returns-in_err-file-clause-noted
+returns-in_err-file-clause-noted c = IfOk-from_err c.from_residual.result _ c.from_residual.ensures.0
+
+pub returns-in_err-file-clause-among : goal.returns-in_err-file-clause-among
+returns-in_err-file-clause-among c =
     let among : (f : Stored) → Keeps c.args.self.now f → is_part c.args.core.now f.assumed ≡ true = λ f k. sym (within_assumed c.has_all.result c.args.core.now f.assumed c.args.self.now.assumed k.assumed c.has_all.ensures) ∙ c.if-not-has_all.false in
     on_err _ _ among

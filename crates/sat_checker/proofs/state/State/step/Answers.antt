@@ -6,10 +6,7 @@ use Rattle.sat_checker.proofs.lemmas.telling.Noting.{nothing_noted}
 use Rattle.sat_checker.proofs.state.State.step.Goals as goal
 
 pub returns-in-SolverVarName-clause-decides : goal.returns-in-SolverVarName-clause-decides
-returns-in-SolverVarName-clause-decides c = decided_as c.solver_var_name.result c.args.self.now c.solver_var_name.new.self (step_of c.args.step.now) _ (ap step_of c.in-SolverVarName.is) c.solver_var_name.ensures.decides
-
-pub returns-in-SolverVarName-clause-looks : goal.returns-in-SolverVarName-clause-looks
-returns-in-SolverVarName-clause-looks c = within_as c.args.self.now (step_of c.args.step.now) _ c.args.looks.now c.solver_var_name.new.looks (ap step_of c.in-SolverVarName.is) c.solver_var_name.ensures.looks
+returns-in-SolverVarName-clause-decides c = decided_as c.solver_var_name.result c.args.self.now c.solver_var_name.new.self (step_of c.args.step.now) _ (ap step_of c.in-SolverVarName.is) c.solver_var_name.ensures
 
 pub returns-in-UserVarName-clause-decides : goal.returns-in-UserVarName-clause-decides
 returns-in-UserVarName-clause-decides c = decided_as c.user_var_name.result c.args.self.now c.user_var_name.new.self (step_of c.args.step.now) _ (ap step_of c.in-UserVarName.is) c.user_var_name.ensures.decides
@@ -63,10 +60,7 @@ pub returns-in-DeleteClause-clause-noted : goal.returns-in-DeleteClause-clause-n
 returns-in-DeleteClause-clause-noted c = announced_as c.delete_clause.result c.args.self.now (step_of c.args.step.now) _ c.args.notes.now c.delete_clause.new.notes (ap step_of c.in-DeleteClause.is) c.delete_clause.ensures.noted
 
 pub returns-in-ChangeHashBits-clause-decides : goal.returns-in-ChangeHashBits-clause-decides
-returns-in-ChangeHashBits-clause-decides c = decided_as c.change_hash_bits.result c.args.self.now c.change_hash_bits.new.self (step_of c.args.step.now) _ (ap step_of c.in-ChangeHashBits.is) c.change_hash_bits.ensures.decides
-
-pub returns-in-ChangeHashBits-clause-looks : goal.returns-in-ChangeHashBits-clause-looks
-returns-in-ChangeHashBits-clause-looks c = within_as c.args.self.now (step_of c.args.step.now) _ c.args.looks.now c.change_hash_bits.new.looks (ap step_of c.in-ChangeHashBits.is) c.change_hash_bits.ensures.looks
+returns-in-ChangeHashBits-clause-decides c = decided_as c.change_hash_bits.result c.args.self.now c.change_hash_bits.new.self (step_of c.args.step.now) _ (ap step_of c.in-ChangeHashBits.is) c.change_hash_bits.ensures
 
 pub returns-in-Model-clause-decides : goal.returns-in-Model-clause-decides
 returns-in-Model-clause-decides c = decided_as c.model.result c.args.self.now c.model.new.self (step_of c.args.step.now) _ (ap step_of c.in-Model.is) c.model.ensures.decides

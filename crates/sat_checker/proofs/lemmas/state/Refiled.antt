@@ -1,0 +1,27 @@
+-- What is kept while clauses wait to be filed by other hashes.
+use Rattle.std.proofs.Common.{ℕ, ◌≡◌, ◌∙◌, List, sym, subst}
+use Rattle.sat_checker.specs.Stored.{Stored, StoredUnit}
+use Rattle.sat_checker.specs.inner.FormulaView.{AreNumbered, KeepsFormula, refiled_in}
+use Rattle.sat_checker.specs.inner.SlotView.{slot_ids}
+use Rattle.sat_checker.specs.inner.StoreView.{refiled}
+use Rattle.sat_checker.specs.declared.formula.Formula.{Formula}
+use Rattle.sat_checker.specs.declared.status.LastClause.{LastClause}
+use Rattle.sat_checker.specs.declared.store.Store.{Store}
+use Rattle.sat_checker.proofs.lemmas.store.Rehashing.{refiled_ids, refiled_kept}
+
+-- ids stay
+pub numbered_by : (old new : Store) (units : List StoredUnit) (last : LastClause) (next_id : ℕ) → slot_ids new.clauses ≡ slot_ids old.clauses → AreNumbered (slot_ids (refiled old).clauses) units last next_id → AreNumbered (slot_ids (refiled new).clauses) units last next_id
+numbered_by old new units last next_id e n = subst (λ ids. AreNumbered ids units last next_id) (refiled_ids old ∙ sym e ∙ sym (refiled_ids new)) n
+
+-- what is kept where all are filed
+pub loosened : (F : Formula) (f : Stored) → KeepsFormula F f → KeepsFormula (refiled_in F) f
+loosened F f k = record {
+  clauses = refiled_kept F.store f k.clauses;
+  units = k.units;
+  status = k.status;
+  numbered = subst (λ ids. AreNumbered ids f.units F.status.last f.next_id) (sym (refiled_ids F.store)) k.numbered;
+}
+
+-- and once they are
+pub filed_now : (F : Formula) (store : Store) → store ≡ refiled F.store → (f : Stored) → KeepsFormula (refiled_in F) f → KeepsFormula (record F { store = store }) f
+filed_now F store e f k = subst (λ s. KeepsFormula (record F { store = s }) f) (sym e) k
