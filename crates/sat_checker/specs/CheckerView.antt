@@ -1,11 +1,12 @@
 -- What contracts see of a checker: the steps that it accepted, its input clauses among them, whether it has failed, and what those who listen have heard.
-use Rattle.std.specs.Prelude.{ℕ, ◌≡◌, ◌⊎◌, Bool, true, false, List, ◌∷◌, Result, Ok, Err}
+use Rattle.std.specs.Prelude.{ℕ, ◌≡◌, ◌⊎◌, Bool, true, false, List, ◌∷◌, Result, Ok, Err, IfErr}
 use Rattle.sat_base.specs.steps.Steps.{Step, AddClause}
 use Rattle.sat_checker.specs.Spent.{IsSpent, SpentBy}
 use Rattle.sat_checker.specs.Accepts.{Accepts, stored_after, ready_after}
 use Rattle.sat_checker.specs.KernelView as kernels
 use Rattle.sat_checker.specs.announcements.Announcements.{Told, told_after, all_told_after}
 use Rattle.sat_checker.specs.telling.Hearing.{Hearers, hearers, HearsSince, HearsSinceUpTo, told_by}
+use Rattle.sat_checker.specs.telling.ProcessingView.{FaultOfSomebody}
 use Rattle.sat_checker.specs.declared.kernel.Kernel.{Kernel}
 use Rattle.sat_checker.specs.declared.checker.Checker.{Checker}
 use Rattle.sat_checker.specs.declared.processing.Processing.{Processing}
@@ -43,6 +44,10 @@ looks_of c = c.kernel.looks
 -- no unit conflict waits for the id of its empty clause
 abbrev pub IsSettled : {L : Type 0} → Seen L → Type 0
 IsSettled c = kernels.IsSettled c.kernel
+
+-- One of those who were added answered the fault, where one was answered: nobody else did.
+abbrev pub FaultsOfSomebody : {P T : Type 0} → Result Unit CheckerError → Checker P T → Type 0
+FaultsOfSomebody result old = (steps : List Step) → kernels.Stands (kernel_of old) steps → IfErr result (FaultOfSomebody old.processing)
 
 -- What an answer to one who would listen from here on means: these listen then, who are those before and that one.
 abbrev pub AddsListener : {L : Type 0} → Result Unit CheckerError → Kernel → Kernel → L → L → L → Type 0

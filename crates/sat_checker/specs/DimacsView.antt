@@ -1,5 +1,5 @@
 -- What contracts see of a formula's text whose clauses are added: which text was read, and what an answer means.
-use Rattle.std.specs.Prelude.{ℕ, ◌≡◌, ◌⊎◌, true, List, [], ◌++◌, Result, Ok, Err}
+use Rattle.std.specs.Prelude.{ℕ, ◌≡◌, ◌⊎◌, true, List, [], ◌++◌, Result, Ok, Err, IfErr}
 use Rattle.sat_base.specs.device.Device.{Reader, GaveFront, GaveEnough, ReadFails}
 use Rattle.sat_base.specs.text.Tokenizing.{held}
 use Rattle.sat_base.specs.dimacs.Dimacs.{Clean, Malformed, Limit, dimacs, settled, IsDimacs}
@@ -7,10 +7,14 @@ use Rattle.sat_base.specs.dimacs.Parsing.{IsSoundText, ParsesShort}
 use Rattle.sat_base.specs.declared.dimacs.error.DimacsError.{DimacsError}
 use Rattle.sat_base.specs.declared.dimacs.error.DimacsError.TheVariants as texts
 use Rattle.sat_base.specs.steps.Steps.{Step}
-use Rattle.sat_checker.specs.CheckerView.{Seen, has_failed, Stands, Stops}
+use Rattle.sat_checker.specs.KernelView as kernels
+use Rattle.sat_checker.specs.CheckerView.{Seen, kernel_of, has_failed, Stands, Stops}
 use Rattle.sat_checker.specs.announcements.Announcements.{Told}
 use Rattle.sat_checker.specs.ProofView.{NoneFailed, GoesOn}
 use Rattle.sat_checker.specs.ClausesView.{Adds, behind, AnswersClauses}
+use Rattle.sat_checker.specs.telling.ProcessingView.{FaultOfSomebody}
+use Rattle.sat_checker.specs.declared.checker.Checker.{Checker}
+use Rattle.sat_checker.specs.declared.processing.Processing.{Processing}
 use Rattle.sat_checker.specs.declared.processing.ProcessingError.{ProcessingError}
 use Rattle.sat_checker.specs.declared.error.CheckerError.TheVariants as errors
 use Rattle.sat_checker.specs.declared.error.CheckerDimacsError.{CheckerDimacsError}
@@ -60,6 +64,14 @@ module _ {L : Type 0} (Hears : L → Told → Result Unit ProcessingError → L 
 module _ {L : Type 0} (Hears : L → Told → Result Unit ProcessingError → L → Type 0) where
   abbrev pub AddsDimacs : Result Unit CheckerDimacsError → Seen L → Seen L → Reader → Reader → Type 0
   AddsDimacs result old new from to = (before : List Told) (begun : L) (steps : List Step) → Stands Hears before begun old steps → AnswersDimacs Hears before begun result old new from to steps
+
+-- one of those who were added answered the fault, where one was answered
+abbrev pub DimacsFaultOfSomebody : {P T : Type 0} → Processing P T → CheckerDimacsError → Type 0
+DimacsFaultOfSomebody old (refused.Checker error) = FaultOfSomebody old error
+DimacsFaultOfSomebody old (refused.Dimacs error) = Unit {0}
+
+abbrev pub DimacsFaultsOfSomebody : {P T : Type 0} → Result Unit CheckerDimacsError → Checker P T → Type 0
+DimacsFaultsOfSomebody result old = (steps : List Step) → kernels.Stands (kernel_of old) steps → IfErr result (DimacsFaultOfSomebody old.processing)
 
 -- the clauses of the words that have ended in a text stay the first, however it goes on
 abbrev pub EndedStayFirst : Type 0

@@ -6,7 +6,7 @@ ghost use Rattle.sat_checker.specs.Stored.{is_known, name_of};
 ghost use Rattle.sat_checker.specs.Accepts.{ready_after};
 ghost use Rattle.sat_checker.specs.KernelView as kernels;
 ghost use Rattle.sat_checker.specs.KernelView.{has_failed, looks_of, LooksAtMost, Stands};
-ghost use Rattle.sat_checker.specs.CheckerView.{kernel_of, seen_of, AddsListener, ChecksStep, ChecksDelayed, ChecksClause};
+ghost use Rattle.sat_checker.specs.CheckerView.{kernel_of, seen_of, AddsListener, ChecksStep, ChecksDelayed, ChecksClause, FaultsOfSomebody};
 ghost use Rattle.sat_checker.specs.telling.ProcessingView.{listeners_of, HearsEach};
 
 mod dimacs;
@@ -126,6 +126,7 @@ impl<P: ProofProcessor, T: ProofTranscriptProcessor> Checker<P, T> {
             result (seen_of self.old) clause.now (seen_of self.new) }
         ensures looks { LooksAtMost (kernel_of self.old) (AddClause clause.now) (kernel_of self.new) }
         ensures rise { looks_of (kernel_of self.old) ≤ looks_of (kernel_of self.new) }
+        ensures faults { FaultsOfSomebody result self.old }
     {
         if self.kernel.failed {
             return Err(CheckerError::HasFailed);
@@ -143,6 +144,7 @@ impl<P: ProofProcessor, T: ProofTranscriptProcessor> Checker<P, T> {
             result (seen_of self.old) (step_of step.now) (seen_of self.new) }
         ensures looks { LooksAtMost (kernel_of self.old) (step_of step.now) (kernel_of self.new) }
         ensures rise { looks_of (kernel_of self.old) ≤ looks_of (kernel_of self.new) }
+        ensures faults { FaultsOfSomebody result self.old }
     {
         let mut nobody = Nobody {};
         self.kernel
@@ -214,6 +216,7 @@ impl<P: ProofProcessor, T: ProofTranscriptProcessor> SelfChecker for Checker<P, 
         ensures rise { looks_of (kernel_of self.old) ≤ looks_of (kernel_of self.new) }
         ensures tells { ChecksStep (HearsEach P.takes T.reads)
             result (seen_of self.old) (step_of step.now) (seen_of self.new) }
+        ensures faults { FaultsOfSomebody result self.old }
     {
         self.check_step(step)
     }
@@ -222,6 +225,7 @@ impl<P: ProofProcessor, T: ProofTranscriptProcessor> SelfChecker for Checker<P, 
         ensures judges { kernels.ChecksDelayed result (kernel_of self.old) (kernel_of self.new) }
         ensures tells { ChecksDelayed (HearsEach P.takes T.reads)
             result (seen_of self.old) (seen_of self.new) }
+        ensures faults { FaultsOfSomebody result self.old }
     {
         if self.kernel.failed {
             return Err(CheckerError::HasFailed);

@@ -5,6 +5,8 @@ use Rattle.sat_checker.specs.announcements.Announcements.{Told}
 use Rattle.sat_checker.specs.announcements.Transcripts.{Transcribed, transcript}
 use Rattle.sat_checker.specs.telling.Hearing.{HearsUpTo}
 use Rattle.sat_checker.specs.telling.Telling.{Listeners, Tells}
+use Rattle.sat_checker.specs.declared.error.CheckerError.{CheckerError}
+use Rattle.sat_checker.specs.declared.error.CheckerError.TheVariants as errors
 use Rattle.sat_checker.specs.declared.processing.Processing.{Processing}
 use Rattle.sat_checker.specs.declared.processing.ProcessingError.{ProcessingError}
 
@@ -18,3 +20,8 @@ HearsEach Takes Reads old t result new = Tells (λ r b d. Takes b t r d) (λ sai
 -- where nobody listens nobody answers a fault
 abbrev pub NobodyFails : {P T : Type 0} → (P → Told → Result Unit Error → P → Type 0) → (T → Transcribed → Result Unit Error → T → Type 0) → Type 0
 NobodyFails {P = P} {T = T} Takes Reads = (e : ProcessingError) (told : List Told) (old new : Processing P T) → listeners_of old ≡ record { processors = []; transcripts = [] } → HearsUpTo (HearsEach Takes Reads) e told old new → ⊥
+
+-- a fault was answered by somebody who listens
+abbrev pub FaultOfSomebody : {P T : Type 0} → Processing P T → CheckerError → Type 0
+FaultOfSomebody old (errors.ProofProcessorError cause) = listeners_of old ≡ record { processors = []; transcripts = [] } → ⊥
+FaultOfSomebody old error = Unit {0}

@@ -2,7 +2,7 @@
 ghost use Rattle.std.specs.Prelude.{◌≡◌, false};
 ghost use Rattle.sat_base.specs.dimacs.Parsing.{all_taken, no_progress};
 ghost use Rattle.sat_checker.specs.CheckerView.{has_failed, seen_of};
-ghost use Rattle.sat_checker.specs.DimacsView.{AddsDimacs};
+ghost use Rattle.sat_checker.specs.DimacsView.{AddsDimacs, DimacsFaultsOfSomebody};
 ghost use Rattle.sat_checker.specs.inner.DimacsPieces.{AddsRead, is_want};
 ghost use Rattle.sat_checker.specs.telling.ProcessingView.{HearsEach};
 
@@ -38,8 +38,9 @@ impl<P: ProofProcessor, T: ProofTranscriptProcessor> Checker<P, T> {
         &mut self,
         reader: &mut R,
     ) -> Result<(), CheckerDimacsError>
-        ensures { AddsDimacs (HearsEach P.takes T.reads)
+        ensures adds { AddsDimacs (HearsEach P.takes T.reads)
             result (seen_of self.old) (seen_of self.new) (R.seen reader.old) (R.seen reader.new) }
+        ensures faults { DimacsFaultsOfSomebody result self.old }
     {
         if self.kernel.failed {
             return Err(CheckerDimacsError::Checker(CheckerError::HasFailed));

@@ -1,5 +1,5 @@
 //! Formulas, clause by clause.
-ghost use Rattle.sat_checker.specs.CheckerView.{seen_of};
+ghost use Rattle.sat_checker.specs.CheckerView.{seen_of, FaultsOfSomebody};
 ghost use Rattle.sat_checker.specs.telling.ProcessingView.{HearsEach};
 ghost use Rattle.sat_checker.specs.ClausesView.{AddsClauses};
 
@@ -12,8 +12,9 @@ use sat_base::CnfFormula;
 impl<P: ProofProcessor, T: ProofTranscriptProcessor> Checker<P, T> {
     /// Takes the clauses of a formula, in order, up to the first that is refused. Those before it stand.
     pub fn add_formula(&mut self, formula: &CnfFormula) -> Result<(), CheckerError>
-        ensures { AddsClauses (HearsEach P.takes T.reads)
+        ensures adds { AddsClauses (HearsEach P.takes T.reads)
             result (seen_of self.old) (seen_of self.new) formula.now.clauses }
+        ensures faults { FaultsOfSomebody result self.old }
     {
         if self.kernel.failed {
             return Err(CheckerError::HasFailed);

@@ -6,7 +6,7 @@ ghost use Rattle.sat_base.specs.steps.Steps.{End};
 ghost use Rattle.sat_base.specs.steps.StepReading.{reader_source, reader_name, has_failed as is_stopped};
 ghost use Rattle.sat_base.specs.steps.StepViews.{step_of};
 ghost use Rattle.sat_checker.specs.KernelView.{has_failed};
-ghost use Rattle.sat_checker.specs.CheckerView.{kernel_of, seen_of, seen_with};
+ghost use Rattle.sat_checker.specs.CheckerView.{kernel_of, seen_of, seen_with, FaultsOfSomebody};
 ghost use Rattle.sat_checker.specs.announcements.Announcements.{Told};
 ghost use Rattle.sat_checker.specs.ProofView.{ChecksProof};
 ghost use Rattle.sat_checker.specs.inner.ProofSteps.{TurnsOn, error_of, is_final, turn, bytes_left};
@@ -57,8 +57,9 @@ impl<P: ProofProcessor, T: ProofTranscriptProcessor> Checker<P, T> {
     /// Reads and checks the steps of a proof up to its `End`; nothing behind that is looked at. One step is held at a time.
     /// The steps accepted before an error stand. A proof that can't be read or is cut off leaves the checker going on.
     pub fn check_proof<R: CountedRead>(&mut self, reader: &mut R) -> Result<(), CheckerError>
-        ensures { ChecksProof (HearsEach P.takes T.reads)
+        ensures proof { ChecksProof (HearsEach P.takes T.reads)
             result (seen_of self.old) (seen_of self.new) (R.seen reader.old) (R.seen reader.new) }
+        ensures faults { FaultsOfSomebody result self.old }
     {
         let mut nobody = Nobody {};
         self.check_proof_by(reader, &mut nobody, false)

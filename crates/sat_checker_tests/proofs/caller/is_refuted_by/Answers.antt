@@ -7,8 +7,8 @@ use Rattle.sat_checker_tests.proofs.caller.is_refuted_by.Goals as goal
 
 pub returns : goal.returns
 returns g c =
-    let added = c.in_ok-add_formula.ensures [] c.args.checker.now.processing [] (record { kernel = c.requires.stands; heard = λ _. ([], rw c.requires.settled refl, refl) }) in
-    let read = c.in_ok-check_proof.ensures [] c.args.checker.now.processing (behind c.args.formula.now.clauses []) added.1.0 in
+    let added = c.in_ok-add_formula.ensures.adds [] c.args.checker.now.processing [] (record { kernel = c.requires.stands; heard = λ _. ([], rw c.requires.settled refl, refl) }) in
+    let read = c.in_ok-check_proof.ensures.proof [] c.args.checker.now.processing (behind c.args.formula.now.clauses []) added.1.0 in
     let stands = read.4.0.kernel in (
       read.0,
       read.1,

@@ -4,6 +4,7 @@ use Rattle.sat_checker.specs.CheckerView.{seen_of}
 use Rattle.sat_checker.specs.ClausesView.{behind}
 use Rattle.sat_checker.specs.telling.ProcessingView.{HearsEach}
 use Rattle.sat_checker.proofs.lemmas.checker.Additions.{added_one, added_stops, added_all}
+use Rattle.sat_checker.proofs.lemmas.telling.Somebody.{clauses_faults}
 use Rattle.sat_checker.proofs.checker.Checker.add_formula.Goals as goal
 
 pub loop-clause-preserved : goal.loop-clause-preserved
@@ -15,14 +16,17 @@ loop-clause-preserved g c = (
       c.in_ok-add_clause.ensures.looks (c.in_ok-add_clause.ensures.checks before begun (behind p.added earlier) p.goes_on.0),
 )
 
-pub returns-in_err-add_clause : goal.returns-in_err-add_clause
-returns-in_err-add_clause g c = λ before begun earlier stands.
+pub returns-in_err-add_clause-clause-adds : goal.returns-in_err-add_clause-clause-adds
+returns-in_err-add_clause-clause-adds g c = λ before begun earlier stands.
     let q = err_from_is_err_and c.from_residual.result c.from_residual.ensures.1 in
     let p = c.loop-clause.invariant.1 before begun earlier stands in
     rw (q.1, q.2)
     (added_stops (HearsEach g.P.ProofProcessor.takes g.T.ProofTranscriptProcessor.reads) before begun (seen_of c.args.self.now) (seen_of c.loop-clause.self) (seen_of c.add_clause.new.self) c.in_err-add_clause.field-0.0 c.args.formula.now.clauses c.loop-clause.clause-iterator c.next.new.self c.in-Some.clause.now earlier
     c.loop-clause.invariant.0 c.in-Some.ensures.steps p c.in_err-add_clause.ensures.looks (c.in_err-add_clause.ensures.checks before begun (behind p.added earlier) p.goes_on.0))
 
-pub returns : goal.returns
-returns g c = λ before begun earlier stands.
+pub returns-clause-adds : goal.returns-clause-adds
+returns-clause-adds g c = λ before begun earlier stands.
     added_all (HearsEach g.P.ProofProcessor.takes g.T.ProofTranscriptProcessor.reads) before begun (seen_of c.args.self.now) (seen_of c.loop-clause.self) c.args.formula.now.clauses c.loop-clause.clause-iterator earlier c.loop-clause.invariant.0 (search rules) (c.loop-clause.invariant.1 before begun earlier stands)
+
+pub returns-in_err-add_clause-clause-faults : goal.returns-in_err-add_clause-clause-faults
+returns-in_err-add_clause-clause-faults g c = λ steps s. clauses_faults g.P.ProofProcessor.takes g.T.ProofTranscriptProcessor.reads (seen_of c.args.self.now) _ steps s c.from_residual.result c.args.formula.now.clauses (returns-in_err-add_clause-clause-adds g c)

@@ -7,5 +7,5 @@ pub returns-in-Err-answer-clause-adds : goal.returns-in-Err-answer-clause-adds
 returns-in-Err-answer-clause-adds g c = (
   c.take_formula-formula.result.clauses,
   c.take_formula-formula.ensures.clauses,
-  (c.in-Err-answer.is, seen_of c.add_formula.new.self, c.in_default.ensures, ap (λ (b : Bool). with_flag b (seen_of c.add_formula.new.self)) c.is_want-self.ensures),
+  (c.in-Err-answer.is, seen_of c.add_formula.new.self, c.in_default.ensures.adds, ap (λ (b : Bool). with_flag b (seen_of c.add_formula.new.self)) c.is_want-self.ensures),
 )

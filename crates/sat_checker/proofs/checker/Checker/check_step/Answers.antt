@@ -1,7 +1,9 @@
 use Rattle.sat_base.specs.steps.StepViews.{step_of}
+use Rattle.sat_checker.specs.CheckerView.{seen_of}
 use Rattle.sat_checker.specs.telling.Hearing.{hearers}
 use Rattle.sat_checker.specs.telling.ProcessingView.{HearsEach}
 use Rattle.sat_checker.proofs.lemmas.telling.Alone.{stands_up, step_down}
+use Rattle.sat_checker.proofs.lemmas.telling.Somebody.{step_faults}
 use Rattle.sat_checker.proofs.checker.Checker.check_step.Goals as goal
 
 pub returns-clause-tells : goal.returns-clause-tells
@@ -10,3 +12,6 @@ returns-clause-tells g c = λ before begun steps s.
 
 pub returns-clause-rise : goal.returns-clause-rise
 returns-clause-rise g c = c.check_step.ensures.rise
+
+pub returns-clause-faults : goal.returns-clause-faults
+returns-clause-faults g c = λ steps s. step_faults g.P.ProofProcessor.takes g.T.ProofTranscriptProcessor.reads (seen_of c.args.self.now) _ steps s c.check_step.result (step_of c.args.step.now) (returns-clause-tells g c)

@@ -1,0 +1,113 @@
+-- A fault is answered only by somebody who listens.
+use Rattle.std.proofs.Common.{ℕ, ◌≡◌, ◌++◌, List, [], Result, Ok, Err, IfErr, inl, inr, refl, sym}
+use Rattle.std.proofs.lemmas.List.{append-nil}
+use Rattle.anyhow.specs.declared.error.Error.{Error}
+use Rattle.sat_base.specs.device.Device.{Reader}
+use Rattle.sat_base.specs.steps.Steps.{Step, AddClause}
+use Rattle.sat_checker.specs.KernelView as kernels
+use Rattle.sat_checker.specs.CheckerView.{Seen, Stands, Breaks, BreaksAt, AnswersStep, AnswersDelayed, ChecksStep, ChecksDelayed}
+use Rattle.sat_checker.specs.ClausesView.{AnswersClauses, AddsClauses}
+use Rattle.sat_checker.specs.DimacsView.{AnswersDimacs, AddsDimacs, DimacsFaultOfSomebody}
+use Rattle.sat_checker.specs.ProofView.{AnswersProof, ChecksProof}
+use Rattle.sat_checker.specs.announcements.Announcements.{Told}
+use Rattle.sat_checker.specs.announcements.Transcripts.{Transcribed}
+use Rattle.sat_checker.specs.telling.Hearing.{told_by}
+use Rattle.sat_checker.specs.telling.ProcessingView.{listeners_of, HearsEach, FaultOfSomebody}
+use Rattle.sat_checker.specs.declared.kernel.Kernel.{Kernel}
+use Rattle.sat_checker.specs.declared.processing.Processing.{Processing}
+use Rattle.sat_checker.specs.declared.processing.ProcessingError.{ProcessingError}
+use Rattle.sat_checker.specs.declared.error.CheckerError.{CheckerError}
+use Rattle.sat_checker.specs.declared.error.CheckerError.TheVariants as errors
+use Rattle.sat_checker.specs.declared.error.CheckerDimacsError.{CheckerDimacsError}
+use Rattle.sat_checker.specs.declared.error.CheckerDimacsError.TheVariants as refused
+use Rattle.sat_checker.proofs.lemmas.telling.Heard.{nobody_fails}
+
+module _ {P T : Type 0} (Takes : P → Told → Result Unit Error → P → Type 0) (Reads : T → Transcribed → Result Unit Error → T → Type 0) where
+  -- all was told before, for those who listen now
+  abbrev before : Seen (Processing P T) → List Step → List Told
+  before old steps = told_by old.kernel.state.formula.status.conflict steps
+
+  stands_here : (old : Seen (Processing P T)) (steps : List Step) → kernels.Stands old.kernel steps → Stands (HearsEach Takes Reads) (before old steps) old.listeners old steps
+  stands_here old steps s = record { kernel = s; heard = λ e. ([], sym (append-nil (before old steps)), refl) }
+
+  module _ (earlier : List Told) (begun : Processing P T) (e : ProcessingError) where
+    broken : (told : List Told) (new : Seen (Processing P T)) (steps : List Step) → Breaks (HearsEach Takes Reads) earlier begun e told new steps → listeners_of begun ≡ record { processors = []; transcripts = [] } → ⊥
+    broken told new steps b none = nobody_fails Takes Reads e b.heard.0 begun new.listeners none b.heard.2
+
+    broken_at : (new : Seen (Processing P T)) (step : Step) (steps : List Step) → BreaksAt (HearsEach Takes Reads) earlier begun e new step steps → listeners_of begun ≡ record { processors = []; transcripts = [] } → ⊥
+    broken_at new step steps h none = elim h [
+      | inl b ↦ broken _ new steps b none
+      | inr b ↦ broken _ new _ b.1 none
+    ]
+
+  module _ (old new : Seen (Processing P T)) (steps : List Step) (s : kernels.Stands old.kernel steps) where
+    pub step_faults : (r : Result Unit CheckerError) (step : Step) → ChecksStep (HearsEach Takes Reads) r old step new → IfErr r (FaultOfSomebody old.listeners)
+    step_faults r step t = go r (t (before old steps) old.listeners steps (stands_here old steps s))
+      where
+        go : (r : Result Unit CheckerError) → AnswersStep (HearsEach Takes Reads) (before old steps) old.listeners r old step new steps → IfErr r (FaultOfSomebody old.listeners)
+        go (Ok x) a = tt
+        go (Err errors.CheckFailed) a = tt
+        go (Err errors.CounterEnd) a = tt
+        go (Err errors.OutOfMemory) a = tt
+        go (Err (errors.ProofProcessorError cause)) a = broken_at _ _ _ new step steps a.1
+        go (Err errors.HasFailed) a = tt
+        go (Err errors.ProofIncomplete) a = tt
+        go (Err errors.IoError) a = tt
+        go (Err errors.ParseError) a = tt
+
+    pub delayed_faults : (r : Result Unit CheckerError) → ChecksDelayed (HearsEach Takes Reads) r old new → IfErr r (FaultOfSomebody old.listeners)
+    delayed_faults r t = go r (t (before old steps) old.listeners steps (stands_here old steps s))
+      where
+        go : (r : Result Unit CheckerError) → AnswersDelayed (HearsEach Takes Reads) (before old steps) old.listeners r old new steps → IfErr r (FaultOfSomebody old.listeners)
+        go (Ok x) a = tt
+        go (Err errors.CheckFailed) a = tt
+        go (Err errors.CounterEnd) a = tt
+        go (Err errors.OutOfMemory) a = tt
+        go (Err (errors.ProofProcessorError cause)) a = broken _ _ _ _ new steps a.2
+        go (Err errors.HasFailed) a = tt
+        go (Err errors.ProofIncomplete) a = tt
+        go (Err errors.IoError) a = tt
+        go (Err errors.ParseError) a = tt
+
+    clauses_go : (r : Result Unit CheckerError) (clauses : List (List ℕ)) → AnswersClauses (HearsEach Takes Reads) (before old steps) old.listeners r old new clauses steps → IfErr r (FaultOfSomebody old.listeners)
+    clauses_go (Ok x) clauses a = tt
+    clauses_go (Err errors.CheckFailed) clauses a = tt
+    clauses_go (Err errors.CounterEnd) clauses a = tt
+    clauses_go (Err errors.OutOfMemory) clauses a = tt
+    clauses_go (Err (errors.ProofProcessorError cause)) clauses a = broken_at _ _ _ new (AddClause a.1) _ a.3
+    clauses_go (Err errors.HasFailed) clauses a = tt
+    clauses_go (Err errors.ProofIncomplete) clauses a = tt
+    clauses_go (Err errors.IoError) clauses a = tt
+    clauses_go (Err errors.ParseError) clauses a = tt
+
+    pub clauses_faults : (r : Result Unit CheckerError) (clauses : List (List ℕ)) → AddsClauses (HearsEach Takes Reads) r old new clauses → IfErr r (FaultOfSomebody old.listeners)
+    clauses_faults r clauses t = clauses_go r clauses (t (before old steps) old.listeners steps (stands_here old steps s))
+
+    pub dimacs_faults : (r : Result Unit CheckerDimacsError) (from to : Reader) → AddsDimacs (HearsEach Takes Reads) r old new from to → IfErr r (DimacsFaultOfSomebody old.listeners)
+    dimacs_faults r from to t = go r (t (before old steps) old.listeners steps (stands_here old steps s))
+      where
+        go : (r : Result Unit CheckerDimacsError) → AnswersDimacs (HearsEach Takes Reads) (before old steps) old.listeners r old new from to steps → IfErr r (DimacsFaultOfSomebody old.listeners)
+        go (Ok x) a = tt
+        go (Err (refused.Dimacs error)) a = tt
+        go (Err (refused.Checker errors.CheckFailed)) a = tt
+        go (Err (refused.Checker errors.CounterEnd)) a = tt
+        go (Err (refused.Checker errors.OutOfMemory)) a = tt
+        go (Err (refused.Checker (errors.ProofProcessorError cause))) a = clauses_go (Err (errors.ProofProcessorError cause)) _ a.3
+        go (Err (refused.Checker errors.HasFailed)) a = tt
+        go (Err (refused.Checker errors.ProofIncomplete)) a = tt
+        go (Err (refused.Checker errors.IoError)) a = tt
+        go (Err (refused.Checker errors.ParseError)) a = tt
+
+    pub proof_faults : (r : Result Unit CheckerError) (from to : Reader) → ChecksProof (HearsEach Takes Reads) r old new from to → IfErr r (FaultOfSomebody old.listeners)
+    proof_faults r from to t = go r (t (before old steps) old.listeners steps (stands_here old steps s))
+      where
+        go : (r : Result Unit CheckerError) → AnswersProof (HearsEach Takes Reads) (before old steps) old.listeners r old new from to steps → IfErr r (FaultOfSomebody old.listeners)
+        go (Ok x) a = tt
+        go (Err errors.CheckFailed) a = tt
+        go (Err errors.CounterEnd) a = tt
+        go (Err errors.OutOfMemory) a = tt
+        go (Err (errors.ProofProcessorError cause)) a = broken_at _ _ _ new a.1 _ a.5
+        go (Err errors.HasFailed) a = tt
+        go (Err errors.ProofIncomplete) a = tt
+        go (Err errors.IoError) a = tt
+        go (Err errors.ParseError) a = tt
