@@ -1,5 +1,5 @@
 //! A heap of variables with their activities, in a list of all of them: each place is parent of four.
-ghost use Rattle.std.specs.Prelude.{◌≡◌, ℕ, ◌+◌, ◌*◌, ◌<◌, ◌≤◌, ◌↔◌, IsTrue, length, MatchOption, slice_set, ◌-◌, true, false, vec_capacity};
+ghost use Rattle.std.specs.Prelude.{◌≡◌, ◌+◌, ◌*◌, ◌<◌, ◌≤◌, ◌↔◌, IsTrue, length, MatchOption, slice_set, ◌-◌, true, false, vec_capacity};
 ghost use Rattle.sat_base.specs.values.Literals.{largest};
 ghost use Rattle.sat_store.specs.heap.Heap.{var_at, HoldsVariables, Placed, IsHeap, IsKept, rank, rank_at, parent, Ordered, UpFrom, IsFirstChild, FirstAbove, NoneAbove, SettlesDown, Exchanged, Rearranged, SetsFlag, Adds, keys};
 
