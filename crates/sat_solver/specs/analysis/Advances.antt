@@ -8,10 +8,10 @@ use Rattle.sat_store.specs.clause.Buffer.{lits_at}
 use Rattle.sat_parts.specs.clause.Db.{live_refs}
 use Rattle.sat_parts.specs.prop.WatchLists.{Watching}
 use Rattle.sat_parts.specs.prop.Binaries.{implied_by}
-use Rattle.sat_parts.specs.prop.State.{State, current_level}
-use Rattle.sat_parts.specs.prop.Asks.{Asks}
+use Rattle.sat_parts.specs.prop.State.{State}
 use Rattle.sat_solver.specs.analysis.Work.{Work}
 use Rattle.sat_solver.specs.analysis.Derivation.{AreUnits, Learns}
+use Rattle.sat_solver.specs.analysis.Marks.{AsksBelow}
 
 -- a clause of two different literals, each implied by the other's negation
 abbrev pub IsPair : List (List ℕ) → ℕ → ℕ → Type 0
@@ -36,5 +36,5 @@ pub record StaysOpen (words live : List ℕ) (implied : List (List ℕ)) (l : �
 abbrev pub LearnedAdvances : Type 0
 LearnedAdvances =
     (words refs : List ℕ) (watching : Watching) (implied : List (List ℕ)) (s : State) (conflict : List ℕ) (w : Work) (back : ℕ) (units : List ℕ) (picked : List (List ℕ)) (reached : List ℕ) →
-    Asks words refs watching implied s (current_level s) → Learns words s conflict w back → AreUnits s units → AllByRecursion (IsStored words (live_refs words refs) implied) picked →
+    AsksBelow words refs watching implied s → Learns words s conflict w back → AreUnits s units → AllByRecursion (IsStored words (live_refs words refs) implied) picked →
     LeadTo (map negated (drop 1 w.clause) ++ units) picked reached → StaysOpen words (live_refs words refs) implied (get_or w.clause 0 0) reached

@@ -12,6 +12,8 @@ use Rattle.sat_parts.specs.clause.Orders.{AreDistinct, Shuffled}
 use Rattle.sat_parts.specs.prop.Graphs.{node_of}
 use Rattle.sat_solver.specs.analysis.Work.{Work}
 use Rattle.sat_solver.specs.analysis.Marks.{causes_at, IsReasoned, depth, HasVariable}
+use Rattle.sat_parts.specs.declared.prop.graph.Conflict.{Conflict}
+use Rattle.sat_parts.specs.prop.Causes.{falsified}
 
 -- the clause by which a literal is true
 abbrev pub clause_of : List ℕ → State → ℕ → List ℕ
@@ -40,7 +42,11 @@ pub record AreGrounds (words : List ℕ) (s : State) (conflict learned used : Li
   pub apart : (l : ℕ) → Contains used l → Contains learned (negated l) → ⊥
   pub distinct : AreDistinct used
 
--- the same in the order of the trail
+-- the same of the clause that was learned from a conflict
+abbrev pub HasGrounds : (words : List ℕ) (s : State) (e : Conflict) (w : Work) → Type 0
+HasGrounds words s e w = AreGrounds words s (falsified words e) w.clause w.used
+
+-- parts of a derivation in the order of the trail
 pub record IsDerivation (words : List ℕ) (s : State) (conflict learned used : List ℕ) : Type 0 where
   pub grounds : AreGrounds words s conflict learned used
   pub rising : (j k : ℕ) → j < k → k < length used → depth s (get_or used j 0) < depth s (get_or used k 0)
@@ -76,6 +82,10 @@ pub record Resolved (words : List ℕ) (s : State) (conflict : List ℕ) (w : Wo
   pub only : OnlyFlags w.flags w.clause
   pub flagged : (k : ℕ) → 0 < k → k < length w.clause → get_or w.flags (variable (get_or w.clause k 0)) false ≡ true
 
+-- the same of a conflict: resolution has come to the first unique implication point
+abbrev pub IsUipClause : (words : List ℕ) (s : State) (e : Conflict) (w : Work) → Type 0
+IsUipClause words s e w = Resolved words s (falsified words e) w
+
 -- the clause with a literal of the highest level among the others second, and this level, or 0 where there is no other
 pub record PutsSecond (nodes : List ImplNode) (clause clause' : List ℕ) (level : ℕ) : Type 0 where
   pub lits : Shuffled clause clause'
@@ -97,3 +107,7 @@ pub record Learns (words : List ℕ) (s : State) (conflict : List ℕ) (w : Work
   pub highest : (k : ℕ) → 0 < k → k < length w.clause → level s (get_or w.clause k 0) ≤ back
   pub below : back < current_level s
   pub clear : AreClear w.flags
+
+-- the same of a conflict
+abbrev pub LearnsFrom : (words : List ℕ) (s : State) (e : Conflict) (w : Work) (back : ℕ) → Type 0
+LearnsFrom words s e w back = Learns words s (falsified words e) w back

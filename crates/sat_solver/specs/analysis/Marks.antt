@@ -7,11 +7,15 @@ use Rattle.sat_parts.specs.declared.prop.graph.Reason.TheVariants.{Long}
 use Rattle.sat_parts.specs.clause.Orders.{AreDistinct}
 use Rattle.sat_parts.specs.prop.Values.{IsFalseLit}
 use Rattle.sat_parts.specs.prop.Graphs.{is_unit}
-use Rattle.sat_parts.specs.prop.Causes.{causes}
+use Rattle.sat_parts.specs.prop.Causes.{causes, falsified}
 use Rattle.sat_parts.specs.prop.State.{State, node, level, current_level, lit_at, IsBefore, Agrees}
-use Rattle.sat_parts.specs.prop.Reasons.{IsFalseBefore}
+use Rattle.sat_parts.specs.prop.Reasons.{IsFalseBefore, AreInTurn}
 use Rattle.sat_parts.specs.prop.TrailWord.{IsLevelled}
 use Rattle.sat_solver.specs.analysis.Work.{Work}
+use Rattle.sat_parts.specs.declared.prop.graph.Conflict.{Conflict}
+use Rattle.sat_parts.specs.clause.Db.{live_refs}
+use Rattle.sat_parts.specs.prop.WatchLists.{Watching}
+use Rattle.sat_parts.specs.prop.Asks.{Asks}
 
 -- the false literals of the reason at a place of the trail
 abbrev pub causes_at : List ℕ → State → ℕ → List ℕ
@@ -26,6 +30,14 @@ pub record CanAnalyze (words : List ℕ) (s : State) : Type 0 where
   pub before : (p k : ℕ) → get_or s.trail.starts 0 0 ≤ p → p < length s.trail.lits → k < length (causes_at words s (lit_at s p)) →
       IsFalseBefore s p (get_or (causes_at words s (lit_at s p)) k 0)
   pub stands : (p o : ℕ) → get_or s.trail.starts 0 0 ≤ p → p < length s.trail.lits → (node s (lit_at s p)).reason ≡ Long o → IsClause words o × (0 < length (lits_at words o))
+
+-- what propagation leaves where it found a conflict: what it asks, of the literals of levels below the current one
+abbrev pub AsksBelow : (words refs : List ℕ) (w : Watching) (implied : List (List ℕ)) (s : State) → Type 0
+AsksBelow words refs w implied s = Asks words refs w implied s (current_level s)
+
+-- the reasons of the literals above level 0 are unit in turn
+abbrev pub AreInTurnAbove : (words refs : List ℕ) (implied : List (List ℕ)) (s : State) → Type 0
+AreInTurnAbove words refs implied s = AreInTurn words (live_refs words refs) implied s (get_or s.trail.starts 0 0)
 
 -- whether a true literal is flagged and of a level not below the one from which literals are resolved
 abbrev pub is_open : State → ℕ → List Bool → ℕ → Bool
@@ -109,6 +121,14 @@ pub record Resolving (words : List ℕ) (s : State) (ls : List ℕ) (w : Work) (
   pub none : w.core ≡ []
   pub uses : AreUsed words s (current_level s) w at
   pub start : AreCovered s (current_level s) w at ls
+
+-- the resolvent of the clause that was found false, with the reasons from this place of the trail on
+abbrev pub IsResolvent : (words : List ℕ) (s : State) (e : Conflict) (w : Work) (at : ℕ) → Type 0
+IsResolvent words s e w at = Resolving words s (falsified words e) w at
+
+-- that clause itself: no reason was resolved with yet
+abbrev pub IsFirstResolvent : (words : List ℕ) (s : State) (e : Conflict) (w : Work) → Type 0
+IsFirstResolvent words s e w = IsResolvent words s e w (length s.trail.lits)
 
 -- some literal is of the current level
 abbrev pub HasTop : State → List ℕ → Type 0

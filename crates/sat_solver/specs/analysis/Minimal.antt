@@ -1,5 +1,5 @@
 -- What holds while literals that follow from the others of the clause are looked for.
-use Rattle.std.specs.Prelude.{ℕ, ◌≡◌, ◌+◌, ◌<◌, ◌≤◌, ◌⊎◌, ◌==◌, ◌||◌, ◌&&◌, not, if◌then◌else◌, Bool, true, false, List, [], ◌∷◌, ◌++◌, length, take, slice_index_or as get_or, slice_set as set}
+use Rattle.std.specs.Prelude.{ℕ, ◌≡◌, ◌+◌, ◌<◌, ◌≤◌, ◌⊎◌, ◌==◌, ◌||◌, ◌&&◌, not, if◌then◌else◌, Bool, true, false, MatchBool, List, [], ◌∷◌, ◌++◌, length, take, slice_index_or as get_or, slice_set as set}
 use Rattle.std.specs.List.{Contains}
 use Rattle.sat_base.specs.values.Literals.{variable, negated}
 use Rattle.sat_store.specs.levels.Levels.{passes}
@@ -9,6 +9,8 @@ use Rattle.sat_parts.specs.prop.Graphs.{is_unit, node_of}
 use Rattle.sat_parts.specs.prop.State.{State, level, current_level}
 use Rattle.sat_solver.specs.analysis.Work.{Work}
 use Rattle.sat_solver.specs.analysis.Marks.{causes_at, IsReasoned, IsLower, HasVariable}
+use Rattle.sat_parts.specs.declared.prop.graph.Conflict.{Conflict}
+use Rattle.sat_parts.specs.prop.Causes.{falsified}
 
 -- a false literal is accounted for: it is of level 0, the first of the clause, of a flagged variable, or false by a used clause
 pub data IsMarked (s : State) (first : ℕ) (w : Work) (r : ℕ) : Type 0 where
@@ -136,3 +138,13 @@ pub record FallsBefore (nodes : List ImplNode) (ls : List ℕ) (resolved : ℕ) 
   pub within : resolved ≤ length ls
   pub falling : (j k : ℕ) → j ≤ k → k < resolved → depth_in nodes (get_or ls k 0) ≤ depth_in nodes (get_or ls j 0)
   pub lower : (j k : ℕ) → j < resolved → resolved ≤ k → k < length ls → depth_in nodes (get_or ls k 0) ≤ depth_in nodes (get_or ls j 0)
+
+-- the causes of all used literals are accounted for, in the search for literals that follow from the others of the clause
+abbrev pub HasSearched : (words : List ℕ) (s : State) (e : Conflict) (low : ℕ) (w : Work) → Type 0
+HasSearched words s e low w = Searching words s (falsified words e) (get_or w.clause 0 0) low w (length w.used)
+
+-- whether a literal follows from the others: its negation is used then, with all by which it does, and else nothing has changed
+abbrev pub Searches : (words : List ℕ) (s : State) (e : Conflict) (low r : ℕ) (w w' : Work) → Bool → Type 0
+Searches words s e low r w w' b = MatchBool b
+    (MarksMore (used_up (negated r) w) w' × Searching words s (falsified words e) (get_or w.clause 0 0) low w' (length w'.used))
+    (SameWork w w')

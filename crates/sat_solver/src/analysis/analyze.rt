@@ -5,7 +5,7 @@ ghost use Rattle.sat_parts.specs.clause.Glue.{AreClear};
 ghost use Rattle.sat_parts.specs.prop.Causes.{falsified};
 ghost use Rattle.sat_parts.specs.prop.Ready.{IsFalsified, state_of};
 ghost use Rattle.sat_solver.specs.analysis.Marks.{CanAnalyze, HasTop};
-ghost use Rattle.sat_solver.specs.analysis.Derivation.{Learns};
+ghost use Rattle.sat_solver.specs.analysis.Derivation.{LearnsFrom};
 ghost use Rattle.sat_solver.specs.analysis.Involved.{IsResolution};
 
 use crate::analysis::minimize::minimize_clause;
@@ -30,8 +30,7 @@ pub fn analyze_conflict(
     requires stands { (o : ℕ) → conflict.now ≡ Conflict.Long o → IsClause clauses.now o }
     requires fails { IsFalsified assignment.now.current (falsified clauses.now conflict.now) }
     requires top { HasTop (state_of assignment.now graph.now trail.now) (falsified clauses.now conflict.now) }
-    ensures learns { IfOk result (λ back.
-        Learns clauses.now (state_of assignment.now graph.now trail.now) (falsified clauses.now conflict.now) analysis.new back) }
+    ensures learns { IfOk result (λ back. LearnsFrom clauses.now (state_of assignment.now graph.now trail.now) conflict.now analysis.new back) }
     ensures resolution { OnOk result (IsResolution clauses.now (state_of assignment.now graph.now trail.now) conflict.now analysis.new) }
     ensures size { OnOk result (length analysis.new.flags ≡ length assignment.now.current) }
 {

@@ -1,5 +1,5 @@
 //! Which assumptions make an assumption false.
-ghost use Rattle.std.specs.Prelude.{ℕ, ◌≡◌, ◌<◌, false, length, OnOk, IfOk};
+ghost use Rattle.std.specs.Prelude.{◌≡◌, ◌<◌, false, length, OnOk, IfOk};
 ghost use Rattle.sat_parts.specs.clause.Glue.{AreClear};
 ghost use Rattle.sat_parts.specs.prop.Graphs.{is_unit};
 ghost use Rattle.sat_parts.specs.prop.Ready.{state_of};

@@ -1,15 +1,13 @@
 //! Learns a clause from a conflict that propagation found.
-ghost use Rattle.std.specs.Prelude.{ℕ, ◌≡◌, ◌<◌, length, slice_index, OnOk, IfOk};
+ghost use Rattle.std.specs.Prelude.{ℕ, ◌≡◌, ◌<◌, length, OnOk, IfOk};
 ghost use Rattle.std.specs.List.{Contains};
 ghost use Rattle.sat_parts.specs.clause.Db.{live_refs};
 ghost use Rattle.sat_parts.specs.clause.Glue.{AreClear};
-ghost use Rattle.sat_parts.specs.prop.Asks.{Asks};
-ghost use Rattle.sat_parts.specs.prop.Causes.{falsified};
 ghost use Rattle.sat_parts.specs.prop.Ready.{IsConflict, state_of};
-ghost use Rattle.sat_parts.specs.prop.Reasons.{AreInTurn};
 ghost use Rattle.sat_parts.specs.prop.TrailWord.{IsLevelled};
-ghost use Rattle.sat_solver.specs.analysis.Derivation.{Learns};
+ghost use Rattle.sat_solver.specs.analysis.Derivation.{LearnsFrom};
 ghost use Rattle.sat_solver.specs.analysis.Involved.{IsResolution};
+ghost use Rattle.sat_solver.specs.analysis.Marks.{AsksBelow, AreInTurnAbove};
 
 use crate::analysis::analyze::analyze_conflict;
 use crate::analysis::work::Analysis;
@@ -29,15 +27,14 @@ pub fn learn_from_conflict(
     trail: &Trail,
     conflict: &Conflict,
 ) -> Result<usize, AllocError>
-    requires asks { Asks clauses.now db.now.refs watchlists.now binary.now.implied (state_of assignment.now graph.now trail.now) (length trail.now.starts) }
+    requires asks { AsksBelow clauses.now db.now.refs watchlists.now binary.now.implied (state_of assignment.now graph.now trail.now) }
     requires conflict { IsConflict clauses.now (live_refs clauses.now db.now.refs) binary.now.implied assignment.now.current conflict.now }
     requires above { 0 < length trail.now.starts }
     requires levelled { IsLevelled (state_of assignment.now graph.now trail.now) }
-    requires turns { AreInTurn clauses.now (live_refs clauses.now db.now.refs) binary.now.implied (state_of assignment.now graph.now trail.now) (slice_index trail.now.starts 0) }
+    requires turns { AreInTurnAbove clauses.now db.now.refs binary.now.implied (state_of assignment.now graph.now trail.now) }
     requires size { length analysis.old.flags ≡ length assignment.now.current }
     requires clear { AreClear analysis.old.flags }
-    ensures learns { IfOk result (λ back.
-        Learns clauses.now (state_of assignment.now graph.now trail.now) (falsified clauses.now conflict.now) analysis.new back) }
+    ensures learns { IfOk result (λ back. LearnsFrom clauses.now (state_of assignment.now graph.now trail.now) conflict.now analysis.new back) }
     ensures resolution { OnOk result (IsResolution clauses.now (state_of assignment.now graph.now trail.now) conflict.now analysis.new) }
     ensures live { OnOk result ((o : ℕ) → Contains analysis.new.involved o → Contains (live_refs clauses.now db.now.refs) o) }
     ensures clear { OnOk result (AreClear analysis.new.flags) }

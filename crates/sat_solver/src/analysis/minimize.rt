@@ -1,12 +1,12 @@
 //! Literals that follow from the others of the clause are dropped.
-ghost use Rattle.std.specs.Prelude.{ℕ, ◌≡◌, ◌≢◌, ◌<◌, ◌≤◌, length, slice_index, true, false, OnOk, IfOk, MatchBool};
-ghost use Rattle.sat_base.specs.values.Literals.{variable, negated};
+ghost use Rattle.std.specs.Prelude.{◌≡◌, length, OnOk, IfOk};
+ghost use Rattle.sat_parts.specs.clause.Glue.{HaveNodes};
 ghost use Rattle.sat_parts.specs.prop.Causes.{falsified};
 ghost use Rattle.sat_parts.specs.prop.Ready.{state_of, IsFalsified};
 ghost use Rattle.sat_solver.specs.analysis.Marks.{CanAnalyze};
-ghost use Rattle.sat_solver.specs.analysis.Derivation.{IsAsserting, AreGrounds, FlagsAmong, Resolved};
+ghost use Rattle.sat_solver.specs.analysis.Derivation.{IsAsserting, HasGrounds, FlagsAmong, IsUipClause};
 ghost use Rattle.sat_solver.specs.analysis.Involved.{KeepsResolved};
-ghost use Rattle.sat_solver.specs.analysis.Minimal.{Searching, MayStart, MarksMore, SameWork, used_up, followed};
+ghost use Rattle.sat_solver.specs.analysis.Minimal.{HasSearched, Searches, MayStart, followed};
 
 use crate::analysis::work::Analysis;
 use sat_base::Lit;
@@ -22,7 +22,7 @@ fn follow(
     levels: &LevelAbstraction,
     lits: &CauseLits,
 ) -> Result<bool, AllocError>
-    requires nodes { (k : ℕ) → k < length lits.now → variable (slice_index lits.now k) < length graph.now }
+    requires nodes { HaveNodes graph.now lits.now }
     requires flags { length analysis.old.flags ≡ length graph.now }
     ensures { IfOk result (λ b. followed graph.now levels.now lits.now analysis.old ≡ record { work = analysis.new; whole = b }) }
 {
@@ -54,12 +54,9 @@ fn is_implied(
     lit: Lit,
 ) -> Result<bool, AllocError>
     requires can { CanAnalyze clauses.now (state_of assignment.now graph.now trail.now) }
-    requires searching { Searching clauses.now (state_of assignment.now graph.now trail.now) (falsified clauses.now conflict.now) (slice_index analysis.old.clause 0) low analysis.old (length analysis.old.used) }
+    requires searching { HasSearched clauses.now (state_of assignment.now graph.now trail.now) conflict.now low analysis.old }
     requires may { MayStart (state_of assignment.now graph.now trail.now) analysis.old lit }
-    ensures { IfOk result (λ b. MatchBool b
-        (MarksMore (used_up (negated lit) analysis.old) analysis.new
-        × Searching clauses.now (state_of assignment.now graph.now trail.now) (falsified clauses.now conflict.now) (slice_index analysis.old.clause 0) low analysis.new (length analysis.new.used))
-        (SameWork analysis.old analysis.new)) }
+    ensures { IfOk result (λ b. Searches clauses.now (state_of assignment.now graph.now trail.now) conflict.now low lit analysis.old analysis.new b) }
 {
     let top = analysis.used().len();
     analysis.use_up(!lit)?;
@@ -78,7 +75,7 @@ fn is_implied(
 
 /// The levels of the literals.
 fn levels_of(graph: &ImplGraph, lits: &[Lit]) -> LevelAbstraction
-    requires { (k : ℕ) → k < length lits.now → variable (slice_index lits.now k) < length graph.now }
+    requires { HaveNodes graph.now lits.now }
 {
     let mut levels = LevelAbstraction::default();
     for lit in lits {
@@ -98,9 +95,9 @@ pub(crate) fn minimize_clause(
 ) -> Result<(), AllocError>
     requires can { CanAnalyze clauses.now (state_of assignment.now graph.now trail.now) }
     requires fails { IsFalsified assignment.now.current (falsified clauses.now conflict.now) }
-    requires resolved { Resolved clauses.now (state_of assignment.now graph.now trail.now) (falsified clauses.now conflict.now) analysis.old }
+    requires resolved { IsUipClause clauses.now (state_of assignment.now graph.now trail.now) conflict.now analysis.old }
     ensures asserting { OnOk result (IsAsserting (state_of assignment.now graph.now trail.now) analysis.new.clause) }
-    ensures grounds { OnOk result (AreGrounds clauses.now (state_of assignment.now graph.now trail.now) (falsified clauses.now conflict.now) analysis.new.clause analysis.new.used) }
+    ensures grounds { OnOk result (HasGrounds clauses.now (state_of assignment.now graph.now trail.now) conflict.now analysis.new) }
     ensures among { OnOk result (FlagsAmong analysis.new) }
     ensures kept { OnOk result (KeepsResolved (state_of assignment.now graph.now trail.now) analysis.old analysis.new) }
     ensures size { OnOk result (length analysis.new.flags ≡ length analysis.old.flags) }

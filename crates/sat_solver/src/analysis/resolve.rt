@@ -1,14 +1,13 @@
 //! Resolution up to the first unique implication point.
-ghost use Rattle.std.specs.Prelude.{ℕ, ◌≡◌, ◌<◌, ◌≤◌, length, slice_index, slice_index_or, true, false, OnOk, IfOk};
-ghost use Rattle.sat_base.specs.values.Literals.{variable};
+ghost use Rattle.std.specs.Prelude.{ℕ, ◌≡◌, ◌<◌, length, OnOk, IfOk};
 ghost use Rattle.sat_store.specs.clause.Buffer.{IsClause};
-ghost use Rattle.sat_parts.specs.clause.Glue.{AreClear};
+ghost use Rattle.sat_parts.specs.clause.Glue.{AreClear, HaveNodes};
 ghost use Rattle.sat_parts.specs.prop.Causes.{falsified};
 ghost use Rattle.sat_parts.specs.prop.Ready.{state_of, IsFalsified};
 ghost use Rattle.sat_solver.specs.analysis.Work.{with_literals};
-ghost use Rattle.sat_solver.specs.analysis.Marks.{CanAnalyze, Resolving, HasTop};
-ghost use Rattle.sat_solver.specs.analysis.Derivation.{Resolved};
-ghost use Rattle.sat_solver.specs.analysis.Involved.{Collecting, Collected};
+ghost use Rattle.sat_solver.specs.analysis.Marks.{CanAnalyze, IsResolvent, IsFirstResolvent, HasTop};
+ghost use Rattle.sat_solver.specs.analysis.Derivation.{IsUipClause};
+ghost use Rattle.sat_solver.specs.analysis.Involved.{Collecting, BeginsCollecting, Collected};
 
 use crate::analysis::work::Analysis;
 use sat_base::Lit;
@@ -23,7 +22,7 @@ pub(crate) fn add_all(
     top: usize,
     lits: &CauseLits,
 ) -> Result<(), AllocError>
-    requires nodes { (k : ℕ) → k < length lits.now → variable (slice_index lits.now k) < length graph.now }
+    requires nodes { HaveNodes graph.now lits.now }
     requires flags { length analysis.old.flags ≡ length graph.now }
     ensures { OnOk result (analysis.new ≡ with_literals graph.now top lits.now analysis.old) }
 {
@@ -44,11 +43,11 @@ fn resolve_next(
     before: usize,
 ) -> Result<usize, AllocError>
     requires can { CanAnalyze clauses.now (state_of assignment.now graph.now trail.now) }
-    requires resolving { Resolving clauses.now (state_of assignment.now graph.now trail.now) (falsified clauses.now conflict.now) analysis.old before }
+    requires resolving { IsResolvent clauses.now (state_of assignment.now graph.now trail.now) conflict.now analysis.old before }
     requires collecting { Collecting clauses.now (state_of assignment.now graph.now trail.now) conflict.now analysis.old before }
     requires two { 1 < analysis.old.pending }
     ensures next { IfOk result (λ p. (p < before)
-        × Resolving clauses.now (state_of assignment.now graph.now trail.now) (falsified clauses.now conflict.now) analysis.new p
+        × IsResolvent clauses.now (state_of assignment.now graph.now trail.now) conflict.now analysis.new p
         × Collecting clauses.now (state_of assignment.now graph.now trail.now) conflict.now analysis.new p) }
 {
     let lits = trail.trail();
@@ -75,10 +74,10 @@ pub(crate) fn resolve_conflict(
     conflict: &Conflict,
 ) -> Result<usize, AllocError>
     requires can { CanAnalyze clauses.now (state_of assignment.now graph.now trail.now) }
-    requires resolving { Resolving clauses.now (state_of assignment.now graph.now trail.now) (falsified clauses.now conflict.now) analysis.old (length trail.now.lits) }
-    requires collecting { Collecting clauses.now (state_of assignment.now graph.now trail.now) conflict.now analysis.old (length trail.now.lits) }
+    requires resolving { IsFirstResolvent clauses.now (state_of assignment.now graph.now trail.now) conflict.now analysis.old }
+    requires collecting { BeginsCollecting clauses.now (state_of assignment.now graph.now trail.now) conflict.now analysis.old }
     ensures next { IfOk result (λ p. (analysis.new.pending ≡ 1)
-        × Resolving clauses.now (state_of assignment.now graph.now trail.now) (falsified clauses.now conflict.now) analysis.new p
+        × IsResolvent clauses.now (state_of assignment.now graph.now trail.now) conflict.now analysis.new p
         × Collecting clauses.now (state_of assignment.now graph.now trail.now) conflict.now analysis.new p) }
 {
     let mut at = trail.trail().len();
@@ -103,8 +102,8 @@ pub(crate) fn begin_conflict(
     requires stands { (o : ℕ) → conflict.now ≡ Conflict.Long o → IsClause clauses.now o }
     requires fails { IsFalsified assignment.now.current (falsified clauses.now conflict.now) }
     requires top { HasTop (state_of assignment.now graph.now trail.now) (falsified clauses.now conflict.now) }
-    ensures resolving { OnOk result (Resolving clauses.now (state_of assignment.now graph.now trail.now) (falsified clauses.now conflict.now) analysis.new (length trail.now.lits)) }
-    ensures collecting { OnOk result (Collecting clauses.now (state_of assignment.now graph.now trail.now) conflict.now analysis.new (length trail.now.lits)) }
+    ensures resolving { OnOk result (IsFirstResolvent clauses.now (state_of assignment.now graph.now trail.now) conflict.now analysis.new) }
+    ensures collecting { OnOk result (BeginsCollecting clauses.now (state_of assignment.now graph.now trail.now) conflict.now analysis.new) }
 {
     analysis.begin(conflict)?;
     add_all(
@@ -127,10 +126,10 @@ pub(crate) fn finish_conflict(
     before: usize,
 ) -> Result<(), AllocError>
     requires can { CanAnalyze clauses.now (state_of assignment.now graph.now trail.now) }
-    requires resolving { Resolving clauses.now (state_of assignment.now graph.now trail.now) (falsified clauses.now conflict.now) analysis.old before }
+    requires resolving { IsResolvent clauses.now (state_of assignment.now graph.now trail.now) conflict.now analysis.old before }
     requires collecting { Collecting clauses.now (state_of assignment.now graph.now trail.now) conflict.now analysis.old before }
     requires one { analysis.old.pending ≡ 1 }
-    ensures resolved { OnOk result (Resolved clauses.now (state_of assignment.now graph.now trail.now) (falsified clauses.now conflict.now) analysis.new) }
+    ensures resolved { OnOk result (IsUipClause clauses.now (state_of assignment.now graph.now trail.now) conflict.now analysis.new) }
     ensures collected { OnOk result (Collected clauses.now (state_of assignment.now graph.now trail.now) conflict.now analysis.new) }
 {
     let lits = trail.trail();

@@ -2,7 +2,7 @@
 ghost use Rattle.std.specs.Prelude.{ℕ, ◌≡◌, ◌-◌, replicate, ◌<◌, ◌≤◌, ◌++◌, length, slice_index, slice_index_or, true, false, [], ◌∷◌, reverse, take, slice_set, OnOk};
 ghost use Rattle.std.specs.List.Sorted.{IsPermutation, IsNonDecreasingBy};
 ghost use Rattle.sat_base.specs.values.Literals.{variable};
-ghost use Rattle.sat_parts.specs.clause.Glue.{AreClear};
+ghost use Rattle.sat_parts.specs.clause.Glue.{AreClear, VariablesBelow, HaveNodes};
 ghost use Rattle.sat_solver.specs.analysis.Work.{Work, with_literal, passed_by, long_of, taken_up, with_chosen, begun, begun_core, with_first};
 ghost use Rattle.sat_solver.specs.analysis.Derivation.{FlagsAmong, PutsSecond};
 ghost use Rattle.sat_solver.specs.analysis.Minimal.{FallsBefore, depth_in, marked, used_up, Undoes};
@@ -243,8 +243,8 @@ impl Analysis {
 
     /// Clears the flags of the clause's and the used literals.
     pub(crate) fn clear_flags(&mut self)
-        requires clause { (k : ℕ) → k < length self.old.clause → variable (slice_index self.old.clause k) < length self.old.flags }
-        requires used { (k : ℕ) → k < length self.old.used → variable (slice_index self.old.used k) < length self.old.flags }
+        requires clause { VariablesBelow self.old.clause (length self.old.flags) }
+        requires used { VariablesBelow self.old.used (length self.old.flags) }
         requires only { FlagsAmong self.old }
         ensures clear { AreClear self.new.flags }
         ensures same { self.new ≡ record self.old { flags = self.new.flags } }
@@ -282,7 +282,7 @@ impl Analysis {
     /// Uses the literals from this place on no more, and unflags those behind the first of them.
     pub(crate) fn undo(&mut self, top: usize)
         requires top { top < length self.old.used }
-        requires flags { (k : ℕ) → k < length self.old.used → variable (slice_index self.old.used k) < length self.old.flags }
+        requires flags { VariablesBelow self.old.used (length self.old.flags) }
         ensures { Undoes top self.old self.new }
     {
         unflag(&mut self.flags, &self.used, top + 1);
@@ -306,7 +306,7 @@ impl Analysis {
 
     /// Puts a literal of the highest level among those behind the first one second, and gives this level, 0 where there is none.
     pub(crate) fn put_second(&mut self, graph: &ImplGraph) -> usize
-        requires nodes { (k : ℕ) → k < length self.old.clause → variable (slice_index self.old.clause k) < length graph.now }
+        requires nodes { HaveNodes graph.now self.old.clause }
         ensures second { PutsSecond graph.now self.old.clause self.new.clause result }
         ensures same { self.new ≡ record self.old { clause = self.new.clause } }
     {
