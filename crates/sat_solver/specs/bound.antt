@@ -3,3 +3,4 @@ pub mod Gaps
 pub mod Progress
 pub mod Climbing
 pub mod Counting
+pub mod Going

@@ -22,3 +22,7 @@ StartsAnew words old new = (w : List Letter) → words old w → (v : List Lette
 -- an ask over n variables has come to this round
 abbrev pub HasCome : {A : Type 0} (words : A → List Letter → Type 0) (s : A) (n start round next given : ℕ) → Type 0
 HasCome words s n start round next given = (w : List Letter) × (words s w × Progress n start round next given w)
+
+-- an ask that had come to this round has come to it still, whatever restarts changed of it
+abbrev pub KeepsProgress : {A : Type 0} (words : A → List Letter → Type 0) (round : ℕ) (old : A) (next given : ℕ) (new : A) (next' given' : ℕ) → Type 0
+KeepsProgress words round old next given new next' given' = (n start : ℕ) → HasCome words old n start round next given → HasCome words new n start round next' given'

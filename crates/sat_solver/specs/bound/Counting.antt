@@ -1,5 +1,5 @@
 -- How many rounds are made.
-use Rattle.std.specs.Prelude.{ℕ, ◌+◌, ◌-◌, ◌*◌, ◌<◌, ◌≤◌, ◌^◌, min}
+use Rattle.std.specs.Prelude.{ℕ, ◌≡◌, ◌+◌, ◌-◌, ◌*◌, ◌<◌, ◌≤◌, ◌^◌, min, Option, None, Result, IfOk}
 
 -- the rounds that a call may make: the smaller of its budget and of what is left of the count of all rounds, which goes to 2^64-1
 abbrev pub steps_left : (budget before : ℕ) → ℕ
@@ -10,3 +10,15 @@ pub record CountsOn (n budget before now : ℕ) : Type 0 where
   pub more : before ≤ now
   pub within : now ≤ before + steps_left budget before
   pub few : now < before + 2 ^ (2 * n + 3)
+
+-- an answer takes a round at least
+abbrev pub TakesRound : {T E : Type 0} → Result (Option T) E → (before now : ℕ) → Type 0
+TakesRound r before now = IfOk r (λ o. (o ≡ None → ⊥) → before < now)
+
+-- where there is no answer, so many rounds were made
+abbrev pub SpendsRounds : {T E : Type 0} → Result (Option T) E → (rounds before now : ℕ) → Type 0
+SpendsRounds r rounds before now = IfOk r (λ o. o ≡ None → now ≡ before + rounds)
+
+-- there is an answer where a call may make as many rounds as an ask over so many variables takes at most
+abbrev pub AnswersWithin : {T E : Type 0} → Result (Option T) E → (most rounds : ℕ) → Type 0
+AnswersWithin r most rounds = (n : ℕ) → most ≤ n → 2 ^ (2 * n + 3) ≤ rounds → IfOk r (λ o. o ≡ None → ⊥)

@@ -1,5 +1,5 @@
 -- What rounds come to, one after another.
-use Rattle.std.specs.Prelude.{ℕ, ◌≡◌, ◌+◌, ◌<◌, ◌⊎◌, true, List, [], ◌∷◌, ◌++◌, length}
+use Rattle.std.specs.Prelude.{ℕ, ◌≡◌, ◌+◌, ◌-◌, ◌<◌, ◌⊎◌, true, Option, MatchOption, List, [], ◌∷◌, ◌++◌, length}
 use Rattle.sat_base.specs.device.Device.{Writer}
 use Rattle.sat_base.specs.steps.Steps.{Step, AtClause}
 use Rattle.sat_checker.specs.declared.processing.ProofProcessor.{Ghosts}
@@ -89,6 +89,10 @@ pub record Ended {W L : Type 0} {G : Ghosts L} (seen : W → Writer) (a : Core W
   pub comes : Comes EndsAtUnsat (steps_of a.proof) (steps_of b.proof)
   pub says : EndSays outcome (session_of b.proof) m a.search b.search
   pub times : AdvanceTimes (steps_of a.proof) steps k
+
+-- where there is an answer, the last of so many rounds gave it
+abbrev pub EndedBy : {W L : Type 0} {G : Ghosts L} → (W → Writer) → (rounds : ℕ) → Option Outcome → Core W L G → Variables → Core W L G → Variables → Type 0
+EndedBy seen rounds answer a n b m = MatchOption answer (Unit {0}) (λ o. Ended seen a n (rounds - 1) o b m)
 
 -- it came to this fault
 abbrev pub Broke : {W L : Type 0} {G : Ghosts L} → (W → Writer) → Core W L G → SolverError → Core W L G → Type 0

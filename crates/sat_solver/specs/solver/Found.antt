@@ -13,6 +13,8 @@ use Rattle.sat_solver.specs.declared.solver.state.State.{State}
 use Rattle.sat_solver.specs.declared.solver.state.State.TheVariants as states
 use Rattle.sat_solver.specs.solver.Joined.{IsJoined}
 use Rattle.sat_solver.specs.solver.Answering.{Breaks, Shown, Failed}
+use Rattle.sat_solver.specs.declared.solver.finding.Clock.{Clock}
+use Rattle.sat_solver.specs.declared.solver.finding.Told.{Told}
 
 -- a model was found in the last of so many rounds, and written
 pub record FoundModel {W L : Type 0} {G : Ghosts L} (seen : W → Writer) (rounds : ℕ) (n m : Variables) (a b : Core W L G) : Type 0 where
@@ -40,6 +42,10 @@ pub record FoundNone {W L : Type 0} {G : Ghosts L} (seen : W → Writer) (rounds
 abbrev pub Finds : {W L : Type 0} {G : Ghosts L} → (W → Writer) → Option State → (rounds : ℕ) → Variables → Variables → Core W L G → Core W L G → List ℕ → Type 0
 Finds seen None rounds n m a b core = FoundNone seen rounds n m a b
 Finds seen (Some state) rounds n m a b core = FoundSays seen state rounds n m a b core
+
+-- the same by the counts of rounds before and now, and by what was told
+abbrev pub FindsBy : {W L : Type 0} {G : Ghosts L} → (W → Writer) → Option State → Clock → Clock → Variables → Variables → Core W L G → Core W L G → Told → Type 0
+FindsBy seen o before now n m a b told = Finds seen o (now.steps - before.steps) n m a b told.failed_core.items
 
 -- what a search came to, before it's told
 abbrev pub ComesTo : {W L : Type 0} {G : Ghosts L} → Outcome → Variables → Core W L G → Type 0

@@ -1,5 +1,5 @@
 //! When restarts are due.
-ghost use Rattle.std.specs.Prelude.{◌≡◌, ◌+◌, ◌<◌};
+ghost use Rattle.std.specs.Prelude.{◌≡◌, ◌+◌};
 ghost use Rattle.sat_store.specs.schedule.Luby.{luby, behind};
 ghost use Rattle.sat_solver.specs.bound.Gaps.{gap_end};
 

@@ -1,8 +1,9 @@
 //! Rounds with restarts.
-ghost use Rattle.std.specs.Prelude.{ℕ, List, ◌≡◌, ◌≢◌, ◌+◌, ◌-◌, ◌*◌, ◌^◌, ◌<◌, ◌≤◌, min, OnOk, IfOk, IfErr, MatchOption, None, Some};
+ghost use Rattle.std.specs.Prelude.{ℕ, List, ◌≡◌, ◌+◌, ◌-◌, ◌^◌, ◌<◌, IfOk, IfErr, None};
 ghost use Rattle.sat_parts.specs.prop.TrailWord.{Letter};
-ghost use Rattle.sat_solver.specs.bound.Climbing.{Keeps, Climbs, StartsAnew, HasCome};
-ghost use Rattle.sat_solver.specs.bound.Counting.{CountsOn, steps_left};
+ghost use Rattle.sat_solver.specs.bound.Climbing.{KeepsProgress};
+ghost use Rattle.sat_solver.specs.bound.Counting.{AnswersWithin, CountsOn, SpendsRounds, TakesRound, steps_left};
+ghost use Rattle.sat_solver.specs.bound.Going.{AddsNoRound, EndsBy, GoesBy};
 
 use crate::bound::restarts::{Restarts, begin_gap};
 
@@ -35,9 +36,10 @@ impl Outcome {
 
 /// What a search is made of, beside the names that it works for.
 pub trait Rounds {
-    ghost use Rattle.std.specs.Prelude.{ℕ, List, ◌≡◌, ◌≢◌, ◌+◌, OnOk, IfOk, IfErr};
+    ghost use Rattle.std.specs.Prelude.{ℕ, List, ◌≡◌, ◌≢◌, OnOk, IfOk, IfErr};
     ghost use Rattle.sat_parts.specs.prop.TrailWord.{Letter};
     ghost use Rattle.sat_solver.specs.bound.Climbing.{Keeps, Climbs, StartsAnew};
+    ghost use Rattle.sat_solver.specs.bound.Going.{AddsAnswer, AddsNoRound, AddsRound};
     ghost use Rattle.sat_solver.specs.declared.bound.search.Outcome.{Outcome};
 
     type Fault: Drop;
@@ -63,7 +65,7 @@ pub trait Rounds {
         ensures sound { sound self.new names.now }
         ensures most { most self.new ≡ most self.old }
         ensures words { StartsAnew words self.old self.new }
-        ensures goes { (s : Self) (n : Self.Names) (k : ℕ) → goes s n k self.old names.now → goes s n k self.new names.now };
+        ensures goes { AddsNoRound goes self.old names.now self.new names.now };
 
     /// What stands between rounds: reductions, collection.
     fn reduce(&mut self, names: &Self::Names, round: u64) -> Result<(), Self::Fault>
@@ -71,7 +73,7 @@ pub trait Rounds {
         ensures sound { OnOk result (sound self.new names.now) }
         ensures most { OnOk result (most self.new ≡ most self.old) }
         ensures words { OnOk result (Keeps words self.old self.new) }
-        ensures goes { OnOk result ((s : Self) (n : Self.Names) (k : ℕ) → goes s n k self.old names.now → goes s n k self.new names.now) }
+        ensures goes { OnOk result (AddsNoRound goes self.old names.now self.new names.now) }
         ensures fails { IfErr result (λ e. (s : Self) (n : Self.Names) (k : ℕ) → goes s n k self.old names.now → fails s e self.new) };
 
     /// Up to a conflict and what is learned from it, or an answer.
@@ -80,8 +82,8 @@ pub trait Rounds {
         ensures sound { IfOk result (λ r. r ≡ Outcome.Learned → sound self.new names.new) }
         ensures most { IfOk result (λ r. r ≡ Outcome.Learned → most self.new ≡ most self.old) }
         ensures words { IfOk result (λ r. r ≡ Outcome.Learned → Climbs words (most self.old) self.old self.new) }
-        ensures goes { IfOk result (λ r. r ≡ Outcome.Learned → (s : Self) (n : Self.Names) (k : ℕ) → goes s n k self.old names.old → goes s n (k + 1) self.new names.new) }
-        ensures ends { IfOk result (λ r. r ≢ Outcome.Learned → (s : Self) (n : Self.Names) (k : ℕ) → goes s n k self.old names.old → ends s n k r self.new names.new) }
+        ensures goes { IfOk result (λ r. r ≡ Outcome.Learned → AddsRound goes self.old names.old self.new names.new) }
+        ensures ends { IfOk result (λ r. r ≢ Outcome.Learned → AddsAnswer goes ends self.old names.old r self.new names.new) }
         ensures fails { IfErr result (λ e. (s : Self) (n : Self.Names) (k : ℕ) → goes s n k self.old names.old → fails s e self.new) };
 }
 
@@ -98,8 +100,8 @@ fn restart_where_due<R: Rounds>(
     ensures sound { R.sound rounds.new names.now }
     ensures scale { restarts.new.scale ≡ restarts.old.scale }
     ensures most { R.most rounds.new ≡ R.most rounds.old }
-    ensures come { (n start : ℕ) → HasCome R.words rounds.old n start round restarts.old.next restarts.old.sequence → HasCome R.words rounds.new n start round restarts.new.next restarts.new.sequence }
-    ensures goes { (s : R) (n : R.Names) (k : ℕ) → R.goes s n k rounds.old names.now → R.goes s n k rounds.new names.now }
+    ensures come { KeepsProgress R.words round rounds.old restarts.old.next restarts.old.sequence rounds.new restarts.new.next restarts.new.sequence }
+    ensures goes { AddsNoRound R.goes rounds.old names.now rounds.new names.now }
 {
     if round < restarts.next {
         return;
@@ -122,11 +124,11 @@ pub fn search<R: Rounds>(
     requires scale { 0 < restarts.old.scale }
     ensures scale { restarts.new.scale ≡ restarts.old.scale }
     ensures counts { CountsOn (R.most rounds.old) max_steps steps.old steps.new }
-    ensures round { IfOk result (λ r. (r ≡ None → ⊥) → steps.old < steps.new) }
-    ensures interrupted { IfOk result (λ r. r ≡ None → steps.new ≡ steps.old + steps_left max_steps steps.old) }
-    ensures answered { (n : ℕ) → R.most rounds.old ≤ n → 2 ^ (2 * n + 3) ≤ steps_left max_steps steps.old → IfOk result (λ r. r ≡ None → ⊥) }
-    ensures goes { IfOk result (λ r. r ≡ None → R.sound rounds.new names.new × (R.most rounds.new ≡ R.most rounds.old) × ((s : R) (n : R.Names) → R.goes s n 0 rounds.old names.old → R.goes s n (steps.new - steps.old) rounds.new names.new)) }
-    ensures ends { IfOk result (λ r. MatchOption r (Unit {0}) (λ o. (s : R) (n : R.Names) → R.goes s n 0 rounds.old names.old → R.ends s n (steps.new - steps.old - 1) o rounds.new names.new)) }
+    ensures round { TakesRound result steps.old steps.new }
+    ensures interrupted { SpendsRounds result (steps_left max_steps steps.old) steps.old steps.new }
+    ensures answered { AnswersWithin result (R.most rounds.old) (steps_left max_steps steps.old) }
+    ensures goes { IfOk result (λ r. r ≡ None → GoesBy R.sound R.most R.goes (steps.new - steps.old) rounds.old names.old rounds.new names.new) }
+    ensures ends { IfOk result (λ r. EndsBy R.goes R.ends (steps.new - steps.old) r rounds.old names.old rounds.new names.new) }
     ensures fails { IfErr result (λ e. (s : R) (n : R.Names) → R.goes s n 0 rounds.old names.old → R.fails s e rounds.new) }
 {
     let end = steps.saturating_add(max_steps);

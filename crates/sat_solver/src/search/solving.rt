@@ -1,7 +1,8 @@
 //! Rounds up to an answer.
-ghost use Rattle.std.specs.Prelude.{ℕ, ◌≡◌, ◌+◌, ◌-◌, ◌*◌, ◌^◌, ◌<◌, ◌≤◌, min, IfOk, IfErr, MatchOption, None};
-ghost use Rattle.sat_solver.specs.bound.Counting.{CountsOn, steps_left};
-ghost use Rattle.sat_solver.specs.search.Solving.{words_in, values_in, Gone, Ended, Broke};
+ghost use Rattle.std.specs.Prelude.{◌≡◌, ◌-◌, ◌<◌, IfOk, IfErr, None};
+ghost use Rattle.sat_solver.specs.bound.Counting.{AnswersWithin, CountsOn, SpendsRounds, TakesRound, steps_left};
+ghost use Rattle.sat_solver.specs.search.Solving.{values_in, EndedBy, Broke};
+ghost use Rattle.sat_solver.specs.solver.Found.{FoundNone};
 ghost use Rattle.sat_solver.specs.solver.Joined.{IsJoined};
 
 use crate::bound::restarts::Restarts;
@@ -70,11 +71,11 @@ pub fn solve<W: CountedWrite + Drop, P: ProofProcessor>(
     requires scale { 0 < restarts.old.scale }
     ensures scale { restarts.new.scale ≡ restarts.old.scale }
     ensures counts { CountsOn (values_in core.old) max_steps steps.old steps.new }
-    ensures round { IfOk result (λ r. (r ≡ None → ⊥) → steps.old < steps.new) }
-    ensures interrupted { IfOk result (λ r. r ≡ None → steps.new ≡ steps.old + steps_left max_steps steps.old) }
-    ensures answered { (n : ℕ) → values_in core.old ≤ n → 2 ^ (2 * n + 3) ≤ steps_left max_steps steps.old → IfOk result (λ r. r ≡ None → ⊥) }
-    ensures goes { IfOk result (λ r. r ≡ None → IsJoined names.new core.new × Gone W.seen core.old names.old (steps.new - steps.old) core.new names.new) }
-    ensures ends { IfOk result (λ r. MatchOption r (Unit {0}) (λ o. Ended W.seen core.old names.old (steps.new - steps.old - 1) o core.new names.new)) }
+    ensures round { TakesRound result steps.old steps.new }
+    ensures interrupted { SpendsRounds result (steps_left max_steps steps.old) steps.old steps.new }
+    ensures answered { AnswersWithin result (values_in core.old) (steps_left max_steps steps.old) }
+    ensures goes { IfOk result (λ r. r ≡ None → FoundNone W.seen (steps.new - steps.old) names.old names.new core.old core.new) }
+    ensures ends { IfOk result (λ r. EndedBy W.seen (steps.new - steps.old) r core.old names.old core.new names.new) }
     ensures fails { IfErr result (λ e. Broke W.seen core.old e core.new) }
 {
     search(core, names, restarts, steps, max_steps)

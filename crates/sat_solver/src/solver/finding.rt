@@ -1,10 +1,10 @@
 //! Rounds up to an answer, which is told by its step.
-ghost use Rattle.std.specs.Prelude.{ℕ, ◌≡◌, ◌+◌, ◌-◌, ◌*◌, ◌^◌, ◌<◌, ◌≤◌, min, IfOk, IfErr, None};
-ghost use Rattle.sat_solver.specs.bound.Counting.{CountsOn, steps_left};
+ghost use Rattle.std.specs.Prelude.{◌≡◌, ◌<◌, IfOk, IfErr};
+ghost use Rattle.sat_solver.specs.bound.Counting.{AnswersWithin, CountsOn, SpendsRounds, TakesRound, steps_left};
 ghost use Rattle.sat_solver.specs.search.Solving.{values_in};
 ghost use Rattle.sat_solver.specs.solver.Joined.{IsJoined};
 ghost use Rattle.sat_solver.specs.solver.Answering.{Breaks};
-ghost use Rattle.sat_solver.specs.solver.Found.{Finds, ComesTo, Tells};
+ghost use Rattle.sat_solver.specs.solver.Found.{FindsBy, ComesTo, Tells};
 
 use crate::SolverError;
 use crate::bound::restarts::Restarts;
@@ -65,10 +65,10 @@ pub fn find_answer<W: CountedWrite + Drop, P: ProofProcessor>(
     requires scale { 0 < clock.old.restarts.scale }
     ensures scale { clock.new.restarts.scale ≡ clock.old.restarts.scale }
     ensures counts { CountsOn (values_in core.old) core.old.config.max_steps clock.old.steps clock.new.steps }
-    ensures round { IfOk result (λ r. (r ≡ None → ⊥) → clock.old.steps < clock.new.steps) }
-    ensures interrupted { IfOk result (λ r. r ≡ None → clock.new.steps ≡ clock.old.steps + steps_left core.old.config.max_steps clock.old.steps) }
-    ensures answered { (n : ℕ) → values_in core.old ≤ n → 2 ^ (2 * n + 3) ≤ steps_left core.old.config.max_steps clock.old.steps → IfOk result (λ r. r ≡ None → ⊥) }
-    ensures finds { IfOk result (λ r. Finds W.seen r (clock.new.steps - clock.old.steps) names.old names.new core.old core.new told.new.failed_core.items) }
+    ensures round { TakesRound result clock.old.steps clock.new.steps }
+    ensures interrupted { SpendsRounds result (steps_left core.old.config.max_steps clock.old.steps) clock.old.steps clock.new.steps }
+    ensures answered { AnswersWithin result (values_in core.old) (steps_left core.old.config.max_steps clock.old.steps) }
+    ensures finds { IfOk result (λ r. FindsBy W.seen r clock.old clock.new names.old names.new core.old core.new told.new) }
     ensures breaks { IfErr result (λ e. Breaks W.seen e core.old core.new) }
 {
     let max_steps = core.config.max_steps;

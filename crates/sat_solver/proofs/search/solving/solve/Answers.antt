@@ -4,7 +4,7 @@ use Rattle.sat_solver.proofs.search.solving.solve.Goals as goal
 
 pub returns-clause-goes : goal.returns-clause-goes
 returns-clause-goes g c =
-    ok_map c.search.result _ _ (λ r h e. let x = h e in (x.0, x.2 c.args.core.now c.args.names.now (gone_none g.W.CountedWrite.seen c.args.core.now c.args.names.now c.requires.joined.stands))) c.search.ensures.goes
+    ok_map c.search.result _ _ (λ r h e. let x = h e in record { joined = x.0; gone = x.2 c.args.core.now c.args.names.now (gone_none g.W.CountedWrite.seen c.args.core.now c.args.names.now c.requires.joined.stands) }) c.search.ensures.goes
 
 pub returns-clause-ends : goal.returns-clause-ends
 returns-clause-ends g c =
