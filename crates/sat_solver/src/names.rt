@@ -1,7 +1,6 @@
 //! Names, variables and indices of a solver.
-ghost use Rattle.std.specs.Prelude.{ℕ, ◌≡◌, ◌≤◌, ◌<◌, None, Some, OnOk, IfSome, IfNone, MatchOption, length, true, false};
-ghost use Rattle.sat_store.specs.variables.Maps.{target};
-ghost use Rattle.sat_solver.specs.names.Variables.{AreTidy, data_at, global_of, global_at, user_of, solver_of, names_used, indices_used, variables_used};
+ghost use Rattle.std.specs.Prelude.{ℕ, ◌≡◌, ◌≤◌, ◌<◌, None, Some, OnOk, IfSome, IfNone, MatchOption, true, false};
+ghost use Rattle.sat_solver.specs.names.Variables.{AreTidy, data_at, global_of, user_of, solver_of, names_used, variables_used};
 ghost use Rattle.sat_solver.specs.names.Free.{is_free};
 ghost use Rattle.sat_solver.specs.names.Naming.{IsRoom, NamesFull, NoneLeft, PutsDeleted, PutsHidden, PutsIndex, PutsMode, PutsName, PutsObserved, PutsUnit, IsNextIndex, IsNextUser};
 
@@ -67,7 +66,7 @@ impl Variables {
     }
 
     /// The variable for a name that isn't in use: its own index if that is free or new, else the lowest free one.
-    #[tactic(auto, using(crate::proofs::lemmas::names::NextVariables::room_own, crate::proofs::lemmas::names::NextVariables::room_freed, crate::proofs::lemmas::names::NextVariables::room_new))]
+    #[tactic(auto, using(crate::proofs::lemmas::names::NextVariables::finding_room))]
     pub(crate) fn room_for(&self, user: Var) -> Option<Var>
         requires tidy { AreTidy self.now }
         requires within { user ≤ names_used self.now }

@@ -1,8 +1,9 @@
 -- How calls over names end, in what takes their steps.
-use Rattle.std.specs.Prelude.{◌≡◌, Result, Ok, Err}
+use Rattle.std.specs.Prelude.{ℕ, ◌≡◌, List, Result, Ok, Err, IfErr}
 use Rattle.sat_solver.specs.declared.names.error.NameError.{NameError}
 use Rattle.sat_solver.specs.declared.names.error.NameError.TheVariants as errors
 use Rattle.sat_solver.specs.names.Naming.{NoneLeft}
+use Rattle.sat_solver.specs.names.Room.{HasRoom}
 use Rattle.sat_solver.specs.declared.names.Variables.{Variables}
 
 -- want of memory, or a fault of what takes the steps
@@ -13,6 +14,10 @@ IsFailure errors.VariableLimit = ⊥
 IsFailure errors.OutOfMemory = Unit {0}
 IsFailure (errors.Write cause) = Unit {0}
 IsFailure (errors.Check fault) = Unit {0}
+
+-- where a variable is left for each name that comes in with these, nothing else goes wrong
+abbrev pub OnlyFails : {A : Type 0} → Result A NameError → Variables → (users : List ℕ) → Type 0
+OnlyFails r n users = HasRoom n users → IfErr r IsFailure
 
 -- It came from there to this fault, which no mode decides: where a step wasn't taken, that was the last.
 abbrev pub CameTo : {W : Type 0} → (took : W → W → Type 0) (broke : W → NameError → W → Type 0) → W → NameError → W → Type 0

@@ -1,5 +1,5 @@
 -- Whether a variable is left for each name that comes in.
-use Rattle.std.specs.Prelude.{ℕ, ◌+◌, ◌-◌, ◌<◌, ◌≤◌, ◌==◌, ◌≡◌, max, not, ◌&&◌, Bool, true, false, is_some, List, [], ◌∷◌, map}
+use Rattle.std.specs.Prelude.{ℕ, ◌+◌, ◌-◌, ◌<◌, ◌≤◌, ◌==◌, ◌≡◌, max, not, ◌&&◌, Bool, true, false, is_some, List, [], ◌∷◌, drop, map}
 use Rattle.std.specs.List.{list_any}
 use Rattle.sat_base.specs.values.Literals.{largest, variable}
 use Rattle.sat_solver.specs.names.Counting.{count_to}
@@ -30,6 +30,10 @@ is_hidden_name n users u = not (is_some (global_of n u)) && is_listed users u
 -- how many of these were hidden
 abbrev pub hidden_count : Variables → List ℕ → ℕ
 hidden_count n users = count_to (names_used n) (is_hidden_name n users)
+
+-- the same of the names of the literals from this place on
+abbrev pub hidden_behind : Variables → List ℕ → (at : ℕ) → ℕ
+hidden_behind n ls at = hidden_count n (users_in (drop at ls))
 
 -- how many names come in with these: all that were never used up to the highest of them, and those of them that were hidden
 abbrev pub coming : Variables → List ℕ → ℕ

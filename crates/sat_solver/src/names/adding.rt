@@ -1,5 +1,5 @@
 //! Takes a clause over names.
-ghost use Rattle.std.specs.Prelude.{ℕ, ◌≡◌, true, ◌∷◌, [], map, OnOk, IfOk, IfErr};
+ghost use Rattle.std.specs.Prelude.{◌≡◌, true, ◌∷◌, [], map, OnOk, IfOk, IfErr};
 ghost use Rattle.sat_base.specs.script.Judge.{with_clause};
 ghost use Rattle.sat_base.specs.steps.Steps.{AddClause};
 ghost use Rattle.sat_solver.specs.names.Adding.{NoWitness, SameLiterals, named_literal, Images, MapsClause};
@@ -9,8 +9,8 @@ ghost use Rattle.sat_solver.specs.names.Calls.{Stands, Does};
 ghost use Rattle.sat_solver.specs.names.Variables.{AreTidy};
 ghost use Rattle.sat_solver.specs.session.Session.{session_after};
 ghost use Rattle.sat_checker.specs.LiteralSets.{is_tautology};
-ghost use Rattle.sat_solver.specs.names.Failing.{IsFailure, Came};
-ghost use Rattle.sat_solver.specs.names.Room.{HasRoom, users_in};
+ghost use Rattle.sat_solver.specs.names.Failing.{IsFailure, Came, OnlyFails};
+ghost use Rattle.sat_solver.specs.names.Room.{users_in};
 
 use crate::names::Variables;
 use crate::names::error::NameError;
@@ -69,7 +69,7 @@ pub fn add_clause<W: StepWriter>(
     requires keeps { W.keeps writer.old }
     requires sampled { NoWitness variables.old lits.now }
     ensures adds { IfOk result (AddsClause variables.old variables.new (W.steps writer.old) (W.steps writer.new) lits.now taken.new) }
-    ensures room { HasRoom variables.old (users_in lits.now) → IfErr result IsFailure }
+    ensures room { OnlyFails result variables.old (users_in lits.now) }
     ensures keeps { OnOk result (W.keeps writer.new) }
     ensures came { Came W.took W.broke result writer.old writer.new }
 {
@@ -89,7 +89,7 @@ pub fn leave_out_clause<W: StepWriter>(
     requires keeps { W.keeps writer.old }
     requires unsat { (session_after (W.steps writer.old)).unsat ≡ true }
     ensures leaves { OnOk result (LeavesOut variables.old variables.new (W.steps writer.old) (W.steps writer.new) lits.now) }
-    ensures room { HasRoom variables.old (users_in lits.now) → IfErr result IsFailure }
+    ensures room { OnlyFails result variables.old (users_in lits.now) }
     ensures keeps { OnOk result (W.keeps writer.new) }
     ensures came { Came W.took W.broke result writer.old writer.new }
 {

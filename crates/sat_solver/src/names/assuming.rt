@@ -1,18 +1,17 @@
 //! Takes assumptions over names.
-ghost use Rattle.std.specs.Prelude.{ℕ, ◌≡◌, ◌<◌, ◌∷◌, [], OnOk, IfErr, map, length, slice_index_or};
-ghost use Rattle.sat_base.specs.values.Literals.{variable};
+ghost use Rattle.std.specs.Prelude.{ℕ, ◌≡◌, ◌<◌, OnOk, map, length, slice_index_or};
 ghost use Rattle.sat_base.specs.steps.Steps.{Assumptions};
 ghost use Rattle.sat_checker.specs.LiteralSets.{mentions};
 ghost use Rattle.sat_solver.specs.session.Session.{session_after};
 ghost use Rattle.sat_solver.specs.session.LiveClauses.{with_var};
 ghost use Rattle.sat_store.specs.variables.VarData.{unused_variable};
 ghost use Rattle.sat_solver.specs.names.Variables.{AreTidy, data_at};
-ghost use Rattle.sat_solver.specs.names.Adding.{NoWitness, SameLiterals, named_literal, Images, global_in};
+ghost use Rattle.sat_solver.specs.names.Adding.{NoWitness, Images, global_in};
 ghost use Rattle.sat_solver.specs.names.Assuming.{Marks, PutsMarks, Assumes};
-ghost use Rattle.sat_checker.specs.matching.Expected.{Opens};
-ghost use Rattle.sat_solver.specs.names.Calls.{Stands, Does};
-ghost use Rattle.sat_solver.specs.names.Failing.{IsFailure, Came};
-ghost use Rattle.sat_solver.specs.names.Room.{HasRoom, users_in};
+ghost use Rattle.sat_solver.specs.names.Calls.{Stands};
+ghost use Rattle.sat_solver.specs.names.Failing.{Came, OnlyFails};
+ghost use Rattle.sat_solver.specs.names.Room.{users_in};
+ghost use Rattle.sat_parts.specs.clause.Glue.{VariablesBelow};
 
 use crate::names::Variables;
 use crate::names::error::NameError;
@@ -25,7 +24,7 @@ use std::alloc::AllocError;
 
 /// Marks the variables of literals as assumed, or not.
 fn mark_all(list: &mut Vec<VarData>, lits: &[Lit], assumed: bool)
-    requires within { (k : ℕ) → k < length lits.now → variable (slice_index_or lits.now k 0) < length list.old.items }
+    requires within { VariablesBelow lits.now (length list.old.items) }
     ensures marks { Marks (λ v. slice_index_or list.old.items v unused_variable)
         (λ v. slice_index_or list.new.items v unused_variable) lits.now assumed }
     ensures size { length list.new.items ≡ length list.old.items }
@@ -68,7 +67,7 @@ pub fn assume<W: StepWriter>(
     requires sampled { NoWitness variables.old lits.now }
     requires asked { asked.old.globals.items ≡ (session_after (W.steps writer.old)).assumed }
     ensures assumes { OnOk result (Assumes variables.old variables.new (W.steps writer.old) (W.steps writer.new) lits.now asked.new) }
-    ensures room { HasRoom variables.old (users_in lits.now) → IfErr result IsFailure }
+    ensures room { OnlyFails result variables.old (users_in lits.now) }
     ensures keeps { OnOk result (W.keeps writer.new) }
     ensures came { Came W.took W.broke result writer.old writer.new }
 {

@@ -1,5 +1,5 @@
 //! Indices that are free.
-ghost use Rattle.std.specs.Prelude.{ℕ, ◌≡◌, ◌==◌, ◌||◌, ◌+◌, ◌*◌, ◌<◌, ◌≤◌, Bool, true, false, MatchOption, OnOk, List, length, if◌then◌else◌, slice_index_or};
+ghost use Rattle.std.specs.Prelude.{ℕ, ◌≡◌, ◌==◌, ◌||◌, ◌+◌, ◌*◌, ◌<◌, ◌≤◌, true, false, MatchOption, OnOk, length, if◌then◌else◌, slice_index_or};
 ghost use Rattle.sat_base.specs.values.Literals.{largest};
 ghost use Rattle.sat_solver.specs.names.Free.{is_free, IsTree, Powers, Refreshes, IsChild, IsLowest, CopiesLeaves, IsCounted};
 

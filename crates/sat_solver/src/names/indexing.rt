@@ -1,5 +1,5 @@
 //! Indices of the search, and the steps that speak of them.
-ghost use Rattle.std.specs.Prelude.{ℕ, ◌≡◌, false, Some, None, IfOk, IfErr, OnOk};
+ghost use Rattle.std.specs.Prelude.{◌≡◌, false, Some, None, IfOk, IfErr, OnOk};
 ghost use Rattle.sat_solver.specs.session.Session.{session_after};
 ghost use Rattle.sat_solver.specs.names.Variables.{data_at, solver_of, IsUnitOf, IsUnused};
 ghost use Rattle.sat_solver.specs.names.Calls.{Stands};

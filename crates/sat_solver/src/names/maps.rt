@@ -1,7 +1,7 @@
 //! Maps and data of variables, changed in one place.
 ghost use Rattle.std.specs.Prelude.{ℕ, ◌≡◌, ◌==◌, ◌+◌, ◌≤◌, ◌<◌, max, length, None, Some, OnOk, if◌then◌else◌, slice_index_or};
 ghost use Rattle.sat_store.specs.variables.Maps.{target, AreInverse, Links, Unlinks};
-ghost use Rattle.sat_store.specs.variables.VarData.{unused_variable, user_variable};
+ghost use Rattle.sat_store.specs.variables.VarData.{unused_variable};
 
 use sat_base::Var;
 use sat_store::{SamplingMode, VarBiMap, VarData};

@@ -1,5 +1,5 @@
 //! Models over the proof's variables and over names, from the values of the search.
-ghost use Rattle.std.specs.Prelude.{ℕ, ◌≡◌, ◌<◌, ◌++◌, OnOk, Option, None, slice_index_or, length};
+ghost use Rattle.std.specs.Prelude.{◌≡◌, ◌<◌, ◌++◌, OnOk, Option, None, slice_index_or};
 ghost use Rattle.sat_solver.specs.names.Variables.{AreTidy, global_of, names_used, variables_used};
 ghost use Rattle.sat_solver.specs.names.Models.{is_true, value_in, literal_in, model_to, name_literal, named_to};
 

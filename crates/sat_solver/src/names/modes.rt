@@ -1,5 +1,5 @@
 //! Modes of variables, names that go, and variables that are deleted.
-ghost use Rattle.std.specs.Prelude.{ℕ, ◌≡◌, ◌⊎◌, ◌+◌, true, false, Some, None, [], ◌∷◌, ◌++◌, map, IfOk, IfErr, OnOk, Bool};
+ghost use Rattle.std.specs.Prelude.{ℕ, ◌≡◌, ◌⊎◌, ◌+◌, true, false, Some, None, [], ◌∷◌, ◌++◌, map, IfErr, OnOk};
 ghost use Rattle.sat_base.specs.script.Judge.{without_name, with_mode, bring_in, new_names};
 ghost use Rattle.sat_solver.specs.session.Session.{session_after};
 ghost use Rattle.sat_solver.specs.names.Variables.{data_at, global_of, user_of, solver_of, judged_mode, mode_for};
@@ -11,8 +11,7 @@ ghost use Rattle.sat_solver.specs.names.Naming.{AreFresh, KeepsOthers};
 ghost use Rattle.sat_solver.specs.names.Calls.{Stands, Does, DoesNothing};
 ghost use Rattle.sat_solver.specs.names.Search.{IsUnseen, IsAlike, Forgets, KeepsUnits};
 ghost use Rattle.sat_solver.specs.names.Refusing.{IsAssumed};
-ghost use Rattle.sat_solver.specs.names.Failing.{IsFailure, Came};
-ghost use Rattle.sat_solver.specs.names.Room.{HasRoom};
+ghost use Rattle.sat_solver.specs.names.Failing.{IsFailure, Came, OnlyFails};
 
 use crate::names::Variables;
 use crate::names::error::NameError;
@@ -121,7 +120,7 @@ pub fn hide_var<W: StepWriter>(
     ensures alike { OnOk result (IsAlike variables.old variables.new (W.steps writer.old) (W.steps writer.new)) }
     ensures comes { OnOk result (Comes MayHide (W.steps writer.old) (W.steps writer.new)) }
     ensures gone { OnOk result (LeavesNoneIdle (W.steps writer.new)) }
-    ensures room { HasRoom variables.old (user ∷ []) → IfErr result IsFailure }
+    ensures room { OnlyFails result variables.old (user ∷ []) }
     ensures keeps { OnOk result (W.keeps writer.new) }
     ensures came { Came W.took W.broke result writer.old writer.new }
 {
@@ -141,7 +140,7 @@ fn mode_of(sample: bool) -> SamplingMode
 }
 
 /// Whether the mode is this one.
-#[tactic(auto, using(crate::proofs::lemmas::names::ModeChanges::sample_other, crate::proofs::lemmas::names::ModeChanges::witness_other, crate::proofs::lemmas::names::ModeChanges::hide_other))]
+#[tactic(auto, using(crate::proofs::lemmas::names::ModeChanges::other_modes))]
 fn is_mode(mode: SamplingMode, sample: bool) -> bool
     ensures same { result ≡ true → mode ≡ mode_for sample }
     ensures other { result ≡ false → mode ≡ mode_for sample → ⊥ }
@@ -202,7 +201,7 @@ pub fn set_sampling_mode<W: StepWriter>(
     ensures fresh { OnOk result (AreFresh variables.old variables.new) }
     ensures unseen { OnOk result (IsUnseen variables.old variables.new (W.steps writer.old) (W.steps writer.new)) }
     ensures comes { OnOk result (Comes (MaySet (user + 1) sample) (W.steps writer.old) (W.steps writer.new)) }
-    ensures room { HasRoom variables.old (user ∷ []) → IfErr result IsFailure }
+    ensures room { OnlyFails result variables.old (user ∷ []) }
     ensures keeps { OnOk result (W.keeps writer.new) }
     ensures came { Came W.took W.broke result writer.old writer.new }
 {

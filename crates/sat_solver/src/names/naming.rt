@@ -4,8 +4,8 @@ ghost use Rattle.sat_base.specs.script.Judge.{names_from};
 ghost use Rattle.sat_solver.specs.names.Variables.{global_of, names_used};
 ghost use Rattle.sat_solver.specs.names.Naming.{IsNextUser};
 ghost use Rattle.sat_solver.specs.names.Calls.{Stands, NamesOne, NamesAll, Brought};
-ghost use Rattle.sat_solver.specs.names.Failing.{IsFailure, Came, Limits};
-ghost use Rattle.sat_solver.specs.names.Room.{HasRoom, LeavesRoom};
+ghost use Rattle.sat_solver.specs.names.Failing.{Came, Limits, OnlyFails};
+ghost use Rattle.sat_solver.specs.names.Room.{LeavesRoom};
 
 use crate::names::Variables;
 use crate::names::error::NameError;
@@ -53,7 +53,7 @@ fn bring_new<W: StepWriter>(
     ensures names { OnOk result (NamesAll variables.old variables.new (W.steps writer.old) (W.steps writer.new)
         (names_from (user + 1 - names_used variables.old) (names_used variables.old + 1))) }
     ensures leaves { OnOk result (LeavesRoom variables.old variables.new user) }
-    ensures room { (us : List ℕ) → HasRoom variables.old (user ∷ us) → IfErr result IsFailure }
+    ensures room { (us : List ℕ) → OnlyFails result variables.old (user ∷ us) }
     ensures keeps { OnOk result (W.keeps writer.new) }
     ensures came { Came W.took W.broke result writer.old writer.new }
 {
@@ -64,7 +64,7 @@ fn bring_new<W: StepWriter>(
 }
 
 /// The variable of a name, which is brought in where it isn't in use, with all names below it that were never used.
-#[tactic(auto, using(crate::proofs::lemmas::names::NamingSteps::last_named, crate::proofs::lemmas::names::BroughtIn::ok_new, crate::proofs::lemmas::names::BroughtIn::ok_again, crate::proofs::lemmas::names::BroughtIn::brought_none))]
+#[tactic(auto, using(crate::proofs::lemmas::names::NamingSteps::last_named, crate::proofs::lemmas::names::BroughtIn::ok_new))]
 pub fn global_from_user<W: StepWriter>(
     variables: &mut Variables,
     writer: &mut W,
@@ -74,7 +74,7 @@ pub fn global_from_user<W: StepWriter>(
     requires keeps { W.keeps writer.old }
     ensures variable { IfOk result (λ v. global_of variables.new user ≡ Some v) }
     ensures brought { OnOk result (Brought variables.old variables.new (W.steps writer.old) (W.steps writer.new) user) }
-    ensures room { (us : List ℕ) → HasRoom variables.old (user ∷ us) → IfErr result IsFailure }
+    ensures room { (us : List ℕ) → OnlyFails result variables.old (user ∷ us) }
     ensures keeps { OnOk result (W.keeps writer.new) }
     ensures came { Came W.took W.broke result writer.old writer.new }
 {

@@ -1,5 +1,5 @@
 //! Which calls are refused, before anything changes.
-ghost use Rattle.std.specs.Prelude.{ℕ, ◌≡◌, ◌+◌, Bool, true, false, IfNone};
+ghost use Rattle.std.specs.Prelude.{◌≡◌, ◌+◌, true, false, IfNone};
 ghost use Rattle.sat_base.specs.script.Judge.{Judge, has_witness, identity_of, refused_literal};
 ghost use Rattle.sat_checker.specs.matching.Bridge.{Live};
 ghost use Rattle.sat_solver.specs.names.Variables.{AreTidy, AreJudged, is_witness_kept};

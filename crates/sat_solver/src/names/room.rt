@@ -1,8 +1,8 @@
 //! Whether a variable is left for each name that comes in.
-ghost use Rattle.std.specs.Prelude.{◌≡◌, ◌+◌, ◌<◌, ◌≤◌, [], ◌∷◌, drop, length};
+ghost use Rattle.std.specs.Prelude.{◌≡◌, ◌+◌, ◌<◌, ◌≤◌, [], ◌∷◌, length};
 ghost use Rattle.sat_base.specs.values.Literals.{largest};
 ghost use Rattle.sat_checker.specs.LiteralSets.{mentions};
-ghost use Rattle.sat_solver.specs.names.Room.{live_count, reach, users_in, hidden_count, SaysRoom};
+ghost use Rattle.sat_solver.specs.names.Room.{live_count, reach, users_in, hidden_count, SaysRoom, hidden_behind};
 ghost use Rattle.sat_solver.specs.names.Variables.{AreTidy};
 
 use crate::names::Variables;
@@ -47,7 +47,7 @@ fn has_name(lits: &[Lit], user: Var) -> bool
 fn count_hidden_name(variables: &Variables, lits: &[Lit], at: usize, count: usize) -> usize
     requires within { at < length lits.now }
     requires count { count ≤ largest }
-    ensures { count ≡ hidden_count variables.now (users_in (drop (at + 1) lits.now)) → result ≡ hidden_count variables.now (users_in (drop at lits.now)) }
+    ensures { count ≡ hidden_behind variables.now lits.now (at + 1) → result ≡ hidden_behind variables.now lits.now at }
 {
     let user = lits[at].var();
     if user.index() >= variables.name_count() {

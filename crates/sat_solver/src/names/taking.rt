@@ -1,11 +1,11 @@
 //! Names of literals come in, and their variables get indices.
-ghost use Rattle.std.specs.Prelude.{ℕ, ◌≡◌, ◌<◌, [], OnOk, IfOk, IfErr, length, map, slice_index_or};
-ghost use Rattle.sat_base.specs.values.Literals.{variable};
+ghost use Rattle.std.specs.Prelude.{◌≡◌, ◌<◌, [], OnOk, length, map, slice_index_or};
 ghost use Rattle.sat_solver.specs.session.LiveClauses.{with_var};
 ghost use Rattle.sat_solver.specs.names.Adding.{Takes};
 ghost use Rattle.sat_solver.specs.names.Calls.{Stands};
-ghost use Rattle.sat_solver.specs.names.Failing.{IsFailure, Came};
-ghost use Rattle.sat_solver.specs.names.Room.{HasRoom, users_in};
+ghost use Rattle.sat_solver.specs.names.Failing.{Came, OnlyFails};
+ghost use Rattle.sat_solver.specs.names.Room.{users_in};
+ghost use Rattle.sat_parts.specs.clause.Glue.{VariablesBelow};
 
 use crate::names::Variables;
 use crate::names::error::NameError;
@@ -56,7 +56,7 @@ pub fn take_names<W: StepWriter>(
     requires stands { Stands variables.old (W.steps writer.old) }
     requires keeps { W.keeps writer.old }
     ensures takes { OnOk result (Takes variables.old variables.new (W.steps writer.old) (W.steps writer.new) lits.now taken.new) }
-    ensures room { HasRoom variables.old (users_in lits.now) → IfErr result IsFailure }
+    ensures room { OnlyFails result variables.old (users_in lits.now) }
     ensures globals { taken.new.globals ≡ taken.old.globals }
     ensures keeps { OnOk result (W.keeps writer.new) }
     ensures came { Came W.took W.broke result writer.old writer.new }
@@ -73,7 +73,7 @@ pub fn take_names<W: StepWriter>(
 
 /// Puts literals over variables of the proof into a list in place of what it had.
 pub fn map_lits(globals: &[Var], lits: &[Lit], mapped: &mut Vec<Lit>) -> Result<(), AllocError>
-    requires { (k : ℕ) → k < length lits.now → variable (slice_index_or lits.now k 0) < length globals.now }
+    requires { VariablesBelow lits.now (length globals.now) }
     ensures { OnOk result (mapped.new.items ≡ map (with_var (λ x. slice_index_or globals.now x 0)) lits.now) }
 {
     mapped.clear();

@@ -304,3 +304,5 @@ witness_other false e h = true≢false e
 
 pub hide_other : (sample : Bool) → kept.Hide ≡ mode_for sample → ⊥
 hide_other sample h = not_hide sample (sym h)
+
+pub ruleset other_modes = (sample_other, witness_other, hide_other)

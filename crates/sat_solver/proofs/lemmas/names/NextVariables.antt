@@ -44,6 +44,8 @@ room_new n user v tidy live none e = record {
   lowest = λ d w m. taken n w tidy (omega arith) (none w);
 }
 
+pub ruleset finding_room = (room_own, room_freed, room_new)
+
 -- WHAT THE STEPS SAY
 
 known_of : (n : Variables) (s : Session) (w : ℕ) → AreSaid n s → (s.variables w).known ≡ not (data_at n w).deleted
