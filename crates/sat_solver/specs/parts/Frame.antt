@@ -1,23 +1,23 @@
 -- What the rest of a solver sees of a step: which clauses there are, and which literals of level 0. A step's contract has these words:
---   propagate_all: Reordered, Carries, KeepsTo
---   decide, assume, assume_next: SameClauses, Carries, KeepsTo
+--   propagate_all: Reordered, Carries, KeepsLevels
+--   decide, assume, assume_next: AddsNothing, KeepsLevels
 --   undo: SameClauses, Carries, KeepsTo (to the level that is gone back to)
 --   restart, full_restart: SameClauses, Carries
 --   learn: Learnt
 --   clear_units: SameClauses, Clears
 --   put_back: SameClauses, Carries
 --   grow: Grown
---   use_variable: SameClauses, SameState, and what may be picked
+--   use_variable: SameContents, and what may be picked
 --   free_variable: Freed; restore_unit: SameClauses, Gains
 --   load_unit: SameClauses, Gains
 --   load_binary, load_long: Stores
 --   load: LoadSays (specs/Loading), which says by the answer which of these it is
 --   drop_clause: Dropped where it deletes, else nothing changes
 --   put_header, set_tier, reduce_middle, bump_clause, decay_clauses: Headed, beside the word of the parts
---   bump_variable, decay_variables: SameClauses, SameState
+--   bump_variable, decay_variables: SameContents
 --   swap_behind: Swapped; shorten: Shortened; remove_binary: Removed; collect: Copied
 -- At level 0 KeepsTo 0 follows from Carries (keeps_carries); where SameState or SameSearch holds, Carries does (carries_same).
-use Rattle.std.specs.Prelude.{ℕ, ◌≡◌, ◌≢◌, ◌*◌, ◌<◌, ◌≤◌, ◌⊎◌, true, false, None, List, length, slice_index_or as get_or}
+use Rattle.std.specs.Prelude.{ℕ, ◌≡◌, ◌≢◌, ◌+◌, ◌*◌, ◌<◌, ◌≤◌, ◌⊎◌, true, false, None, List, length, slice_index_or as get_or}
 use Rattle.std.specs.List.{Contains}
 use Rattle.sat_base.specs.values.Literals.{variable}
 use Rattle.sat_store.specs.clause.Buffer.{header_at, lits_at, swapped}
@@ -33,6 +33,7 @@ use Rattle.sat_parts.specs.prop.Values.{IsTrueLit, value_of, assigned}
 use Rattle.sat_parts.specs.prop.State.{State, node, level, lit_at, IsRemoved, enqueued}
 use Rattle.sat_solver.specs.declared.parts.Parts.{Parts}
 use Rattle.sat_solver.specs.parts.Whole.{state}
+use Rattle.sat_parts.specs.prop.Trails.{with_lit}
 
 -- a literal of level 0 that stands on the trail and has no clause as its reason
 pub record IsBare (s : State) (l : ℕ) : Type 0 where
@@ -85,6 +86,30 @@ pub record KeepsTo (top : ℕ) (s s' : State) : Type 0 where
 abbrev pub SameState : Parts → Parts → Type 0
 SameState p p' = (p'.assignment ≡ p.assignment) × (p'.graph ≡ p.graph) × (p'.trail ≡ p.trail)
 
+-- clauses, values, reasons and trail are the same
+abbrev pub SameContents : Parts → Parts → Type 0
+SameContents p p' = SameClauses p p' × SameState p p'
+
+-- the variables that may be picked and the trail are the same
+abbrev pub SameQueues : Parts → Parts → Type 0
+SameQueues p p' = (p'.vsids ≡ p.vsids) × (p'.trail ≡ p.trail)
+
+-- no clause and no unit is new, and literals of level 0 stay so
+abbrev pub AddsNothing : Parts → Parts → Type 0
+AddsNothing p p' = SameClauses p p' × Carries (state p) (state p')
+
+-- what is true stays so, each at its level
+abbrev pub KeepsLevels : Parts → Parts → Type 0
+KeepsLevels p p' = (top : ℕ) → KeepsTo top (state p) (state p')
+
+-- one level more is open
+abbrev pub Deepens : Parts → Parts → Type 0
+Deepens p p' = length p'.trail.starts ≡ length p.trail.starts + 1
+
+-- the first of these literals came onto the trail
+abbrev pub EnqueuesFirst : List ℕ → Parts → Parts → Type 0
+EnqueuesFirst ls p p' = p'.trail ≡ with_lit (get_or ls 0 0) p.trail
+
 -- all is the same but long clauses and their watch lists
 abbrev pub SameSearch : Parts → Parts → Type 0
 SameSearch p p' = SameState p p' × (p'.binary ≡ p.binary) × (p'.vsids ≡ p.vsids)
@@ -121,7 +146,7 @@ pub record Copied (p p' : Parts) : Type 0 where
   pub trail : p'.trail ≡ p.trail
   pub queue : p'.vsids ≡ p.vsids
   pub carries : Carries (state p) (state p')
-  pub keeps : (top : ℕ) → KeepsTo top (state p) (state p')
+  pub keeps : KeepsLevels p p'
 
 -- the clauses of two literals of which a variable has a value are gone
 pub record Removed (p p' : Parts) : Type 0 where
@@ -140,7 +165,7 @@ pub record Grown (p p' : Parts) (count : ℕ) : Type 0 where
   pub db : p'.db ≡ p.db
   pub binary : p'.binary ≡ with_literals (2 * count) p.binary
   pub units : (l : ℕ) → IsUnitLit (state p') l → IsUnitLit (state p) l
-  pub keeps : (top : ℕ) → KeepsTo top (state p) (state p')
+  pub keeps : KeepsLevels p p'
 
 -- a variable lost its value, and isn't to be picked
 pub record Freed (p p' : Parts) (v : ℕ) : Type 0 where

@@ -1,5 +1,5 @@
 -- What holds of the struct of parts.
-use Rattle.std.specs.Prelude.{ℕ, ◌≡◌, ◌<◌, None, Bool, length, slice_index_or as get_or}
+use Rattle.std.specs.Prelude.{ℕ, ◌≡◌, ◌<◌, None, Bool, List, length, slice_index_or as get_or}
 use Rattle.std.specs.List.{Contains}
 use Rattle.sat_parts.specs.clause.Stored.{lit_of, size_of}
 use Rattle.sat_parts.specs.prop.Binaries.{implied_by}
@@ -17,6 +17,17 @@ use Rattle.sat_parts.specs.prop.Ready.{IsConflict}
 -- the state of the search
 abbrev pub state : Parts → State
 state p = state_of p.assignment p.graph p.trail
+
+-- a live long clause of the parts stands there
+abbrev pub HasClause : Parts → ℕ → Type 0
+HasClause p o = Contains (live_refs p.clauses p.db.refs) o
+
+abbrev pub HasClauses : Parts → List ℕ → Type 0
+HasClauses p os = (k : ℕ) → k < length os → HasClause p (get_or os k 0)
+
+-- no clause of the parts has the variable
+abbrev pub InNoClause : Parts → ℕ → Type 0
+InNoClause p v = IsUnused p.clauses (live_refs p.clauses p.db.refs) p.binary.implied v
 
 -- between rounds
 abbrev pub Holds : Parts → Type 0
@@ -45,7 +56,7 @@ IsDone p = p.trail.head ≡ length p.trail.lits
 
 -- each variable without a value is in no clause
 abbrev pub AllAssigned : Parts → Type 0
-AllAssigned p = (u : ℕ) → u < length p.assignment.current → value_of p.assignment.current u ≡ None → IsUnused p.clauses (live_refs p.clauses p.db.refs) p.binary.implied u
+AllAssigned p = (u : ℕ) → u < length p.assignment.current → value_of p.assignment.current u ≡ None → InNoClause p u
 
 -- a clause is false, and all holds once the current level is undone
 abbrev pub IsRefuted : Parts → Conflict → Type 0

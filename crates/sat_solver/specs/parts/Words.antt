@@ -1,5 +1,5 @@
 -- Words of trails since an ask began: the units that were taken off the trail since then, and then the literals that stand on it.
-use Rattle.std.specs.Prelude.{ℕ, ◌≡◌, ◌<◌, ◌⊎◌, None, false, List, ◌++◌, length, replicate, slice_index_or as get_or}
+use Rattle.std.specs.Prelude.{ℕ, ◌≡◌, ◌<◌, ◌⊎◌, None, true, false, List, ◌++◌, length, replicate, slice_index_or as get_or}
 use Rattle.std.specs.List.{Contains}
 use Rattle.sat_base.specs.values.Literals.{variable}
 use Rattle.sat_store.specs.heap.Vsids.{Queue, may_pick}
@@ -22,6 +22,10 @@ standing t = letters t.starts t.lits 0
 -- the variable has no value, isn't to be picked, and isn't assumed
 abbrev pub IsIdle : List ℕ → State → Queue → ℕ → Type 0
 IsIdle assumed s q v = (value_of s.values v ≡ None) × (may_pick q v ≡ false) × (Contains assumed v → ⊥)
+
+-- the variable is to be picked, or assumed
+abbrev pub IsAwaited : List ℕ → Queue → ℕ → Type 0
+IsAwaited assumed q v = (may_pick q v ≡ true) ⊎ Contains assumed v
 
 -- the variable has a value and its literal was taken off the trail, or it is idle
 abbrev pub IsGone : List ℕ → State → Queue → ℕ → Type 0

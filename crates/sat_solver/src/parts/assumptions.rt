@@ -1,12 +1,12 @@
 //! Literals that an ask assumes, and how far they were looked at.
-ghost use Rattle.std.specs.Prelude.{ℕ, List, ◌≡◌, ◌+◌, ◌-◌, ◌<◌, ◌≤◌, OnOk, IfOk, MatchOption, [], length, slice_index_or};
+ghost use Rattle.std.specs.Prelude.{◌≡◌, ◌+◌, ◌-◌, ◌<◌, ◌≤◌, OnOk, IfOk, MatchOption, [], length, slice_index_or};
 ghost use Rattle.sat_base.specs.values.Literals.{variable};
-ghost use Rattle.sat_parts.specs.prop.Values.{IsTrueLit, IsOpenLit};
+ghost use Rattle.sat_parts.specs.prop.Values.{IsOpenLit};
 ghost use Rattle.sat_parts.specs.prop.State.{State};
 ghost use Rattle.sat_solver.specs.parts.Whole.{state, Holds, IsDone};
 ghost use Rattle.sat_solver.specs.parts.Words.{Stay, ExtendsFor};
-ghost use Rattle.sat_solver.specs.parts.Assumed.{AreThere, variables, IsPlaced, ArePlaced, AssumedSays};
-ghost use Rattle.sat_solver.specs.parts.Frame.{Carries, SameClauses, KeepsTo};
+ghost use Rattle.sat_solver.specs.parts.Assumed.{AreThere, variables, ArePlaced, AssumedSays, AreCutTo, AreTrueFromTo, IsUntrueAt};
+ghost use Rattle.sat_solver.specs.parts.Frame.{Carries, SameClauses, AddsNothing, KeepsLevels, Deepens};
 
 use crate::parts::Parts;
 use crate::parts::steps::{assume, undo};
@@ -68,7 +68,7 @@ impl Assumptions {
     /// Goes back to what was looked at up to a level, as the levels above it are undone.
     pub fn cut(&mut self, level: usize)
         ensures lits { self.new.lits ≡ self.old.lits }
-        ensures placed { (s s' : State) → ArePlaced self.old s → level ≤ length s.trail.starts → KeepsTo level s s' → length s'.trail.starts ≡ level → ArePlaced self.new s' }
+        ensures placed { AreCutTo level self.old self.new }
     {
         if level >= self.below.len() {
             return;
@@ -86,9 +86,9 @@ fn next_untrue(parts: &Parts, assumptions: &mut Assumptions) -> Option<Lit>
     ensures below { assumptions.new.below ≡ assumptions.old.below }
     ensures within { assumptions.new.place ≤ length assumptions.new.lits.items }
     ensures further { assumptions.old.place ≤ assumptions.new.place }
-    ensures passed { (k : ℕ) → assumptions.old.place ≤ k → k < assumptions.new.place → IsTrueLit parts.now.assignment.current (slice_index_or assumptions.old.lits.items k 0) }
+    ensures passed { AreTrueFromTo parts.now assumptions.old.lits.items assumptions.old.place assumptions.new.place }
     ensures next { MatchOption result (assumptions.new.place ≡ length assumptions.old.lits.items)
-        (λ l. (assumptions.new.place < length assumptions.old.lits.items) × (slice_index_or assumptions.old.lits.items assumptions.new.place 0 ≡ l) × (IsTrueLit parts.now.assignment.current l → ⊥)) }
+        (IsUntrueAt parts.now assumptions.old.lits.items assumptions.new.place) }
 {
     while assumptions.place < assumptions.lits.len() {
         let lit = assumptions.lits[assumptions.place];
@@ -113,9 +113,9 @@ fn begin_level(parts: &mut Parts, assumptions: &mut Assumptions, lit: Lit) -> Re
     ensures lits { assumptions.new.lits ≡ assumptions.old.lits }
     ensures placed { OnOk result (ArePlaced assumptions.new (state parts.new)) }
     ensures word { OnOk result (ExtendsFor (variables assumptions.old.lits.items) parts.old parts.new) }
-    ensures same { OnOk result (SameClauses parts.old parts.new × Carries (state parts.old) (state parts.new)) }
-    ensures keeps { OnOk result ((top : ℕ) → KeepsTo top (state parts.old) (state parts.new)) }
-    ensures deeper { OnOk result (length parts.new.trail.starts ≡ length parts.old.trail.starts + 1) }
+    ensures same { OnOk result (AddsNothing parts.old parts.new) }
+    ensures keeps { OnOk result (KeepsLevels parts.old parts.new) }
+    ensures deeper { OnOk result (Deepens parts.old parts.new) }
 {
     assumptions.below.push(assumptions.place)?;
     assumptions.place += 1;
@@ -132,8 +132,8 @@ pub fn assume_next(parts: &mut Parts, assumptions: &mut Assumptions) -> Result<A
     ensures lits { assumptions.new.lits ≡ assumptions.old.lits }
     ensures placed { OnOk result (ArePlaced assumptions.new (state parts.new)) }
     ensures word { OnOk result (ExtendsFor (variables assumptions.old.lits.items) parts.old parts.new) }
-    ensures same { OnOk result (SameClauses parts.old parts.new × Carries (state parts.old) (state parts.new)) }
-    ensures keeps { OnOk result ((top : ℕ) → KeepsTo top (state parts.old) (state parts.new)) }
+    ensures same { OnOk result (AddsNothing parts.old parts.new) }
+    ensures keeps { OnOk result (KeepsLevels parts.old parts.new) }
     ensures says { IfOk result (λ r. AssumedSays r assumptions.new parts.old parts.new) }
 {
     let next = next_untrue(parts, assumptions);

@@ -1,18 +1,18 @@
 //! Clauses that are deleted, moved or collected between rounds.
-ghost use Rattle.std.specs.Prelude.{ℕ, ◌≡◌, ◌^◌, ◌<◌, ◌≢◌, ◌≤◌, ◌/◌, ◌↔◌, IsTrue, OnOk, Err, length, [], true, false};
+ghost use Rattle.std.specs.Prelude.{ℕ, ◌≡◌, ◌^◌, ◌<◌, ◌≢◌, ◌≤◌, ◌/◌, OnOk, length, [], true, false};
 ghost use Rattle.sat_base.specs.values.Literals.{negated};
 ghost use Rattle.sat_store.specs.clause.Buffer.{header_at};
 ghost use Rattle.sat_store.specs.clause.Header.{is_learned};
 ghost use Rattle.sat_store.specs.heap.Vsids.{bumped, decayed};
-ghost use Rattle.sat_parts.specs.clause.Activity.{PutsHeaders, StaysBelow, ComesTo, BumpsOne, BumpsAll, DecaysAll, later_bump, later_scale};
+ghost use Rattle.sat_parts.specs.clause.Activity.{PutsHeaders, DecaysAll, later_bump, later_scale, BumpsBelow, BumpsPast};
 ghost use Rattle.sat_parts.specs.clause.Reduced.{reduced};
 ghost use Rattle.sat_parts.specs.clause.Stored.{lit_of, size_of};
 ghost use Rattle.sat_parts.specs.prop.State.{HasLeft};
-ghost use Rattle.std.specs.List.{Contains};
-ghost use Rattle.sat_parts.specs.clause.Db.{live_refs, PutsHeader, MovesClause, IsAsserting};
-ghost use Rattle.sat_solver.specs.parts.Whole.{state, Holds};
+ghost use Rattle.sat_parts.specs.clause.Db.{PutsHeader, MovesClause, IsAsserting};
+ghost use Rattle.sat_solver.specs.parts.Whole.{state, Holds, HasClause};
 ghost use Rattle.sat_solver.specs.parts.Words.{Extends};
-ghost use Rattle.sat_solver.specs.parts.Frame.{SameClauses, SameState, Headed, Dropped, Copied, Swapped, Shortened, Removed};
+ghost use Rattle.sat_solver.specs.parts.Frame.{Headed, Dropped, Copied, Swapped, Shortened, Removed, SameContents};
+ghost use Rattle.sat_store.specs.clause.Full.{OnFull};
 
 use crate::parts::Parts;
 use sat_base::Var;
@@ -26,12 +26,12 @@ use std::alloc::Global;
 /// Deletes a live clause unless it is the reason of its first literal, and answers whether it did.
 pub fn drop_clause(parts: &mut Parts, cref: ClauseRef) -> bool
     requires holds { Holds parts.old }
-    requires live { Contains (live_refs parts.old.clauses parts.old.db.refs) cref }
+    requires live { HasClause parts.old cref }
     ensures holds { Holds parts.new }
     ensures dropped { result ≡ true → Dropped parts.old parts.new cref }
     ensures free { result ≡ true → IsAsserting parts.old.clauses parts.old.assignment.current parts.old.graph cref → ⊥ }
     ensures kept { result ≡ false → IsAsserting parts.old.clauses parts.old.assignment.current parts.old.graph cref × (parts.new ≡ parts.old) }
-    ensures others { (p : ℕ) → p ≢ cref → Contains (live_refs parts.old.clauses parts.old.db.refs) p → Contains (live_refs parts.new.clauses parts.new.db.refs) p }
+    ensures others { (p : ℕ) → p ≢ cref → HasClause parts.old p → HasClause parts.new p }
     ensures word { Extends parts.old parts.new }
 {
     try_delete_clause(
@@ -48,7 +48,7 @@ pub fn drop_clause(parts: &mut Parts, cref: ClauseRef) -> bool
 pub fn delete_long(parts: &mut Parts, cref: ClauseRef)
     requires holds { Holds parts.old }
     requires empty { parts.old.trail.lits ≡ [] }
-    requires live { Contains (live_refs parts.old.clauses parts.old.db.refs) cref }
+    requires live { HasClause parts.old cref }
     ensures holds { Holds parts.new }
     ensures dropped { Dropped parts.old parts.new cref }
     ensures word { Extends parts.old parts.new }
@@ -79,7 +79,7 @@ pub fn collect(alloc: Global, parts: &mut Parts) -> Result<(), StoreError>
     ensures copied { Copied parts.old parts.new }
     ensures due { length parts.old.clauses / 2 < parts.old.db.garbage → OnOk result (parts.new.db.garbage ≡ 0) }
     ensures not_due { parts.old.db.garbage ≤ length parts.old.clauses / 2 → parts.new ≡ parts.old }
-    ensures room { result ≡ Err StoreError.StoreFull → ⊥ }
+    ensures room { OnFull result ⊥ }
     ensures word { Extends parts.old parts.new }
 {
     collect_garbage(
@@ -95,7 +95,7 @@ pub fn collect(alloc: Global, parts: &mut Parts) -> Result<(), StoreError>
 /// Puts a header in the place of a live clause's own, with the same tier and length.
 pub fn put_header(parts: &mut Parts, cref: ClauseRef, header: ClauseHeader)
     requires holds { Holds parts.old }
-    requires live { Contains (live_refs parts.old.clauses parts.old.db.refs) cref }
+    requires live { HasClause parts.old cref }
     requires deleted { header.deleted ≡ (header_at parts.old.clauses cref).deleted }
     requires tier { header.tier ≡ (header_at parts.old.clauses cref).tier }
     requires len { header.len ≡ (header_at parts.old.clauses cref).len }
@@ -111,7 +111,7 @@ pub fn put_header(parts: &mut Parts, cref: ClauseRef, header: ClauseHeader)
 /// Moves a live clause to a tier. That of a clause that wasn't learned stays so.
 pub fn set_tier(parts: &mut Parts, cref: ClauseRef, tier: Tier)
     requires holds { Holds parts.old }
-    requires live { Contains (live_refs parts.old.clauses parts.old.db.refs) cref }
+    requires live { HasClause parts.old cref }
     requires side { is_learned tier ≡ is_learned (header_at parts.old.clauses cref).tier }
     ensures holds { Holds parts.new }
     ensures moves { MovesClause parts.old.clauses parts.old.db parts.new.clauses parts.new.db cref tier }
@@ -124,7 +124,7 @@ pub fn set_tier(parts: &mut Parts, cref: ClauseRef, tier: Tier)
 /// Exchanges two literals of a live clause that stand behind its first two.
 pub fn swap_behind(parts: &mut Parts, cref: ClauseRef, i: usize, j: usize)
     requires holds { Holds parts.old }
-    requires live { Contains (live_refs parts.old.clauses parts.old.db.refs) cref }
+    requires live { HasClause parts.old cref }
     requires first_behind { 2 ≤ i }
     requires second_behind { 2 ≤ j }
     requires first_within { i < size_of parts.old.clauses cref }
@@ -140,7 +140,7 @@ pub fn swap_behind(parts: &mut Parts, cref: ClauseRef, i: usize, j: usize)
 /// Drops the literals of a live clause from a place on, where the first two aren't false by literals that have left the queue.
 pub fn shorten(parts: &mut Parts, cref: ClauseRef, len: usize)
     requires holds { Holds parts.old }
-    requires live { Contains (live_refs parts.old.clauses parts.old.db.refs) cref }
+    requires live { HasClause parts.old cref }
     requires long { 3 ≤ len }
     requires no_longer { len ≤ size_of parts.old.clauses cref }
     requires fresh { (i : ℕ) → i < 2 → HasLeft (state parts.old) (negated (lit_of parts.old.clauses cref i)) → ⊥ }
@@ -171,10 +171,10 @@ pub fn remove_binary(parts: &mut Parts)
 /// Raises the activity of a live clause.
 pub fn bump_clause(parts: &mut Parts, activity: &mut ClauseActivity, cref: ClauseRef)
     requires holds { Holds parts.old }
-    requires live { Contains (live_refs parts.old.clauses parts.old.db.refs) cref }
+    requires live { HasClause parts.old cref }
     ensures holds { Holds parts.new }
-    ensures raised { StaysBelow parts.old.clauses cref activity.old → BumpsOne parts.old.clauses parts.new.clauses parts.old.db.refs cref activity.old activity.new }
-    ensures rescaled { ComesTo parts.old.clauses cref activity.old → BumpsAll parts.old.clauses parts.new.clauses parts.old.db.refs cref activity.old activity.new }
+    ensures raised { BumpsBelow parts.old.clauses parts.new.clauses parts.old.db.refs cref activity.old activity.new }
+    ensures rescaled { BumpsPast parts.old.clauses parts.new.clauses parts.old.db.refs cref activity.old activity.new }
     ensures db { parts.new.db ≡ parts.old.db }
     ensures headed { Headed parts.old parts.new }
     ensures word { Extends parts.old parts.new }
@@ -187,7 +187,7 @@ pub fn bump_variable(parts: &mut Parts, var: Var)
     requires holds { Holds parts.old }
     requires there { var < length parts.old.assignment.current }
     ensures holds { Holds parts.new }
-    ensures same { SameClauses parts.old parts.new × SameState parts.old parts.new }
+    ensures same { SameContents parts.old parts.new }
     ensures queue { parts.new.vsids ≡ bumped var parts.old.vsids }
     ensures picks { parts.new.vsids.available ≡ parts.old.vsids.available }
     ensures word { Extends parts.old parts.new }
@@ -212,7 +212,7 @@ pub fn decay_clauses(parts: &mut Parts, activity: &mut ClauseActivity)
 pub fn decay_variables(parts: &mut Parts)
     requires holds { Holds parts.old }
     ensures holds { Holds parts.new }
-    ensures same { SameClauses parts.old parts.new × SameState parts.old parts.new }
+    ensures same { SameContents parts.old parts.new }
     ensures queue { parts.new.vsids ≡ decayed parts.old.vsids }
     ensures picks { parts.new.vsids.available ≡ parts.old.vsids.available }
     ensures word { Extends parts.old parts.new }

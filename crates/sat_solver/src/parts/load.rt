@@ -1,21 +1,18 @@
 //! Clauses that are loaded at level 0.
-ghost use Rattle.std.specs.Prelude.{ℕ, List, ◌≡◌, ◌+◌, ◌-◌, ◌*◌, ◌^◌, ◌<◌, ◌≤◌, ◌++◌, ◌∷◌, OnOk, IfOk, None, length, slice_index_or, Err, [], true, false};
+ghost use Rattle.std.specs.Prelude.{ℕ, ◌≡◌, ◌-◌, ◌*◌, ◌^◌, ◌<◌, ◌≤◌, OnOk, IfOk, None, length, slice_index_or, [], true, false};
 ghost use Rattle.sat_base.specs.values.Literals.{variable, negated};
-ghost use Rattle.sat_store.specs.clause.Header.{no_header};
-ghost use Rattle.sat_store.specs.heap.Vsids.{may_pick, with_available};
-ghost use Rattle.sat_parts.specs.clause.Db.{live_refs};
+ghost use Rattle.sat_store.specs.heap.Vsids.{may_pick};
 ghost use Rattle.sat_parts.specs.clause.Orders.{AreDistinct};
 ghost use Rattle.sat_parts.specs.declared.prop.graph.Reason.TheVariants.{Unit as NoCause};
 ghost use Rattle.sat_parts.specs.prop.State.{HasLeft, enqueued};
-ghost use Rattle.sat_parts.specs.prop.Values.{IsOpenLit, IsTrueLit, IsFalseLit, value_of};
-ghost use Rattle.sat_solver.specs.parts.Round.{IsUnused};
-ghost use Rattle.sat_solver.specs.parts.Loadable.{IsLoadable, without_false, false_front, false_last, left_without, left_false, IsFoundIn, IsFoundNext, IsSorted};
+ghost use Rattle.sat_parts.specs.prop.Values.{IsOpenLit, IsFalseLit, value_of};
+ghost use Rattle.sat_solver.specs.parts.Loadable.{IsLoadable, false_last, IsSorted};
 ghost use Rattle.sat_solver.specs.parts.Whole.{state, Holds};
-ghost use Rattle.sat_solver.specs.parts.Frame.{Carries, SameClauses, SameState, Gains, Stores, Freed};
+ghost use Rattle.sat_solver.specs.parts.Frame.{Carries, SameClauses, SameState, Gains, Stores, SameQueues};
 ghost use Rattle.sat_solver.specs.parts.Full.{IsFull};
 ghost use Rattle.sat_solver.specs.parts.Loading.{LoadSays};
-ghost use Rattle.std.specs.List.{Contains};
-ghost use Rattle.sat_solver.specs.parts.Words.{Extends, ExtendsFor};
+ghost use Rattle.sat_solver.specs.parts.Words.{Extends};
+ghost use Rattle.sat_store.specs.clause.Full.{OnFull};
 
 use crate::parts::Parts;
 use crate::parts::sorting::{Sorting, join_false, split_false};
@@ -46,8 +43,8 @@ pub fn load_long(parts: &mut Parts, lits: &[Lit]) -> Result<(), StoreError>
     requires loadable { IsLoadable (state parts.old) parts.old.vsids lits.now }
     ensures holds { OnOk result (Holds parts.new) }
     ensures stores { OnOk result (Stores parts.old parts.new lits.now) }
-    ensures kept { OnOk result ((parts.new.vsids ≡ parts.old.vsids) × (parts.new.trail ≡ parts.old.trail)) }
-    ensures full { result ≡ Err StoreError.StoreFull → IsFull parts.new }
+    ensures kept { OnOk result (SameQueues parts.old parts.new) }
+    ensures full { OnFull result (IsFull parts.new) }
 {
     let header = ClauseHeader::new();
     let cref = add_clause(
@@ -68,7 +65,7 @@ pub fn load_binary(parts: &mut Parts, lits: &[Lit]) -> Result<(), AllocError>
     requires loadable { IsLoadable (state parts.old) parts.old.vsids lits.now }
     ensures holds { OnOk result (Holds parts.new) }
     ensures stores { OnOk result (Stores parts.old parts.new lits.now) }
-    ensures kept { OnOk result ((parts.new.vsids ≡ parts.old.vsids) × (parts.new.trail ≡ parts.old.trail)) }
+    ensures kept { OnOk result (SameQueues parts.old parts.new) }
     ensures state { OnOk result (SameState parts.old parts.new) }
     ensures word { OnOk result (Extends parts.old parts.new) }
 {
@@ -125,8 +122,8 @@ fn load_some(parts: &mut Parts, lits: &[Lit]) -> Result<(), StoreError>
     requires loadable { IsLoadable (state parts.old) parts.old.vsids lits.now }
     ensures holds { OnOk result (Holds parts.new) }
     ensures stores { OnOk result (Stores parts.old parts.new lits.now) }
-    ensures kept { OnOk result ((parts.new.vsids ≡ parts.old.vsids) × (parts.new.trail ≡ parts.old.trail)) }
-    ensures full { result ≡ Err StoreError.StoreFull → IsFull parts.new }
+    ensures kept { OnOk result (SameQueues parts.old parts.new) }
+    ensures full { OnFull result (IsFull parts.new) }
 {
     if lits.len() == 2 {
         load_binary(parts, lits)?;
@@ -144,7 +141,7 @@ fn load_sorted(parts: &mut Parts, lits: &[Lit], kept: usize) -> Result<Loaded, S
     ensures holds { OnOk result (Holds parts.new) }
     ensures says { IfOk result (λ r. LoadSays r parts.old parts.new lits.now) }
     ensures kept { OnOk result ((parts.new.vsids ≡ parts.old.vsids) × (parts.new.trail.starts ≡ [])) }
-    ensures full { result ≡ Err StoreError.StoreFull → IsFull parts.new }
+    ensures full { OnFull result (IsFull parts.new) }
 {
     if lits.len() > 1 {
         load_some(parts, lits)?;
@@ -171,7 +168,7 @@ pub fn load(parts: &mut Parts, given: &[Lit], sorting: &mut Sorting) -> Result<L
     ensures order { OnOk result (sorting.new.lits.items ≡ false_last parts.old.assignment.current given.now) }
     ensures says { IfOk result (λ r. LoadSays r parts.old parts.new (false_last parts.old.assignment.current given.now)) }
     ensures kept { OnOk result ((parts.new.vsids ≡ parts.old.vsids) × (parts.new.trail.starts ≡ [])) }
-    ensures full { result ≡ Err StoreError.StoreFull → IsFull parts.new }
+    ensures full { OnFull result (IsFull parts.new) }
 {
     let found = split_false(sorting, given, &parts.assignment)?;
     let kept = join_false(sorting)?;

@@ -1,11 +1,11 @@
 //! Which learned clauses a reduction looks at.
-ghost use Rattle.std.specs.Prelude.{ℕ, List, ◌≡◌, ◌<◌, OnOk, map, length, slice_index_or};
-ghost use Rattle.std.specs.List.{Contains, filter};
+ghost use Rattle.std.specs.Prelude.{ℕ, ◌≡◌, ◌<◌, OnOk, map, length, slice_index_or};
+ghost use Rattle.std.specs.List.{filter};
 ghost use Rattle.std.specs.List.Sorted.{IsPermutation, IsNonDecreasingBy};
 ghost use Rattle.sat_store.specs.clause.Buffer.{IsClause};
-ghost use Rattle.sat_parts.specs.clause.Db.{live_refs, is_live_of};
+ghost use Rattle.sat_parts.specs.clause.Db.{is_live_of};
 ghost use Rattle.sat_parts.specs.clause.Orders.{AreDistinct};
-ghost use Rattle.sat_solver.specs.parts.Whole.{Holds};
+ghost use Rattle.sat_solver.specs.parts.Whole.{Holds, HasClauses};
 ghost use Rattle.sat_solver.specs.parts.Reducing.{rank, ranked};
 
 use crate::parts::Parts;
@@ -84,7 +84,7 @@ pub fn list_locals(
     ensures locals { OnOk result (IsPermutation (filter (is_live_of parts.now.clauses Tier.Local) parts.now.db.refs) list.new.items) }
     ensures rising { OnOk result (IsNonDecreasingBy (rank parts.now.clauses) list.new.items) }
     ensures once { OnOk result (AreDistinct list.new.items) }
-    ensures live { OnOk result ((k : ℕ) → k < length list.new.items → Contains (live_refs parts.now.clauses parts.now.db.refs) (slice_index_or list.new.items k 0)) }
+    ensures live { OnOk result (HasClauses parts.now list.new.items) }
 {
     find_locals(parts, list)?;
     let mut ranks = Vec::new(alloc);

@@ -1,20 +1,20 @@
 //! The steps of a round.
-ghost use Rattle.std.specs.Prelude.{ℕ, List, ◌≡◌, ◌≢◌, ◌+◌, ◌^◌, ◌<◌, ◌≤◌, ◌⊎◌, OnOk, IfOk, MatchResult, MatchOption, IsTrue, Some, None, Err, true, false, [], ◌∷◌, length, slice_index_or};
-ghost use Rattle.std.specs.List.{Contains};
+ghost use Rattle.std.specs.Prelude.{ℕ, List, ◌≡◌, ◌≢◌, ◌+◌, ◌<◌, ◌≤◌, OnOk, IfOk, MatchResult, MatchOption, Some, None, true, false, [], length};
 ghost use Rattle.sat_base.specs.values.Literals.{variable};
 ghost use Rattle.sat_store.specs.heap.Vsids.{Queue, may_pick};
 ghost use Rattle.sat_parts.specs.prop.Values.{IsOpenLit, value_of};
 ghost use Rattle.sat_parts.specs.prop.State.{current_level};
-ghost use Rattle.sat_parts.specs.prop.Ready.{state_of, IsComplete, IsConflict};
+ghost use Rattle.sat_parts.specs.prop.Ready.{IsConflict};
 ghost use Rattle.sat_parts.specs.clause.Db.{live_refs};
 ghost use Rattle.sat_solver.specs.parts.Whole.{state, Holds, HoldsBelow, IsDone, IsPicked, AllAssigned};
 ghost use Rattle.sat_solver.specs.parts.Round.{AreUnits, IsBased};
-ghost use Rattle.sat_parts.specs.prop.Trails.{with_lit, cut_to};
+ghost use Rattle.sat_parts.specs.prop.Trails.{cut_to};
 ghost use Rattle.sat_parts.specs.prop.TrailWord.{decided_on};
-ghost use Rattle.sat_solver.specs.parts.Words.{WordExtends, ExtendsFor, Stay, Extends};
+ghost use Rattle.sat_solver.specs.parts.Words.{WordExtends, ExtendsFor, Stay, Extends, IsAwaited};
 ghost use Rattle.sat_solver.specs.parts.Learned.{IsLearned, IsPending};
-ghost use Rattle.sat_solver.specs.parts.Frame.{Carries, SameClauses, Reordered, Learnt, KeepsTo};
+ghost use Rattle.sat_solver.specs.parts.Frame.{Carries, SameClauses, Reordered, Learnt, KeepsTo, AddsNothing, KeepsLevels, Deepens, EnqueuesFirst};
 ghost use Rattle.sat_solver.specs.parts.Full.{IsFull};
+ghost use Rattle.sat_store.specs.clause.Full.{OnFull};
 
 use crate::parts::Parts;
 use sat_base::{Lit, Var};
@@ -37,7 +37,7 @@ pub fn propagate_all(alloc: Global, parts: &mut Parts) -> Result<Result<(), Conf
     ensures starts { OnOk result (parts.new.trail.starts ≡ parts.old.trail.starts) }
     ensures moved { OnOk result (Reordered parts.old parts.new) }
     ensures carries { OnOk result (Carries (state parts.old) (state parts.new)) }
-    ensures keeps { OnOk result ((top : ℕ) → KeepsTo top (state parts.old) (state parts.new)) }
+    ensures keeps { OnOk result (KeepsLevels parts.old parts.new) }
     ensures word { OnOk result (Extends parts.old parts.new) }
 {
     propagate(
@@ -75,9 +75,9 @@ fn decide_on(parts: &mut Parts, var: Var) -> Result<(), AllocError>
     requires picked { IsPicked parts.old var }
     requires done { IsDone parts.old }
     ensures holds { OnOk result (Holds parts.new) }
-    ensures deeper { OnOk result (length parts.new.trail.starts ≡ length parts.old.trail.starts + 1) }
-    ensures same { OnOk result (SameClauses parts.old parts.new × Carries (state parts.old) (state parts.new)) }
-    ensures keeps { OnOk result ((top : ℕ) → KeepsTo top (state parts.old) (state parts.new)) }
+    ensures deeper { OnOk result (Deepens parts.old parts.new) }
+    ensures same { OnOk result (AddsNothing parts.old parts.new) }
+    ensures keeps { OnOk result (KeepsLevels parts.old parts.new) }
     ensures word { (assumed : List ℕ) (q : Queue) → may_pick q var ≡ true → ((u : ℕ) → may_pick q u ≡ false → may_pick parts.old.vsids u ≡ false) →
         OnOk result (WordExtends assumed (state parts.old) q (state parts.new) parts.new.vsids) }
 {
@@ -99,7 +99,7 @@ fn learn_unit(parts: &mut Parts, header: ClauseHeader, lits: &[Lit])
     requires one { length lits.now ≡ 1 }
     requires pending { IsPending (state parts.old) parts.old.vsids lits.now }
     ensures holds { Holds parts.new }
-    ensures trail { parts.new.trail ≡ with_lit (slice_index_or lits.now 0 0) parts.old.trail }
+    ensures trail { EnqueuesFirst lits.now parts.old parts.new }
     ensures learnt { Learnt parts.old parts.new header lits.now }
     ensures stay { Stay parts.old parts.new }
 {
@@ -119,7 +119,7 @@ fn learn_binary(parts: &mut Parts, header: ClauseHeader, lits: &[Lit]) -> Result
     requires two { length lits.now ≡ 2 }
     requires pending { IsPending (state parts.old) parts.old.vsids lits.now }
     ensures holds { OnOk result (Holds parts.new) }
-    ensures trail { OnOk result (parts.new.trail ≡ with_lit (slice_index_or lits.now 0 0) parts.old.trail) }
+    ensures trail { OnOk result (EnqueuesFirst lits.now parts.old parts.new) }
     ensures learnt { OnOk result (Learnt parts.old parts.new header lits.now) }
     ensures stay { OnOk result (Stay parts.old parts.new) }
 {
@@ -144,10 +144,10 @@ fn learn_long(parts: &mut Parts, header: ClauseHeader, lits: &[Lit]) -> Result<(
     requires long { 3 ≤ length lits.now }
     requires pending { IsPending (state parts.old) parts.old.vsids lits.now }
     ensures holds { OnOk result (Holds parts.new) }
-    ensures trail { OnOk result (parts.new.trail ≡ with_lit (slice_index_or lits.now 0 0) parts.old.trail) }
+    ensures trail { OnOk result (EnqueuesFirst lits.now parts.old parts.new) }
     ensures learnt { OnOk result (Learnt parts.old parts.new header lits.now) }
     ensures stay { OnOk result (Stay parts.old parts.new) }
-    ensures full { result ≡ Err StoreError.StoreFull → IsFull parts.new }
+    ensures full { OnFull result (IsFull parts.new) }
 {
     let cref = add_clause(
         &mut parts.clauses,
@@ -172,10 +172,10 @@ pub fn learn(parts: &mut Parts, header: ClauseHeader, lits: &[Lit]) -> Result<()
     requires live { header.deleted ≡ false }
     requires pending { IsPending (state parts.old) parts.old.vsids lits.now }
     ensures holds { OnOk result (Holds parts.new) }
-    ensures trail { OnOk result (parts.new.trail ≡ with_lit (slice_index_or lits.now 0 0) parts.old.trail) }
+    ensures trail { OnOk result (EnqueuesFirst lits.now parts.old parts.new) }
     ensures learnt { OnOk result (Learnt parts.old parts.new header lits.now) }
     ensures stay { OnOk result (Stay parts.old parts.new) }
-    ensures full { result ≡ Err StoreError.StoreFull → IsFull parts.new }
+    ensures full { OnFull result (IsFull parts.new) }
 {
     if lits.len() == 1 {
         learn_unit(parts, header, lits);
@@ -235,11 +235,11 @@ pub fn decide(parts: &mut Parts) -> Result<bool, AllocError>
     requires done { IsDone parts.old }
     ensures holds { OnOk result (Holds parts.new) }
     ensures all { IfOk result (λ decided. decided ≡ false → IsDone parts.new × AllAssigned parts.new) }
-    ensures same { OnOk result (SameClauses parts.old parts.new × Carries (state parts.old) (state parts.new)) }
-    ensures keeps { OnOk result ((top : ℕ) → KeepsTo top (state parts.old) (state parts.new)) }
+    ensures same { OnOk result (AddsNothing parts.old parts.new) }
+    ensures keeps { OnOk result (KeepsLevels parts.old parts.new) }
     ensures word { OnOk result (Extends parts.old parts.new) }
     ensures flat { IfOk result (λ decided. decided ≡ false → parts.new.trail ≡ parts.old.trail) }
-    ensures deeper { IfOk result (λ decided. decided ≡ true → length parts.new.trail.starts ≡ length parts.old.trail.starts + 1) }
+    ensures deeper { IfOk result (λ decided. decided ≡ true → Deepens parts.old parts.new) }
 {
     let picked = pick(&mut parts.vsids, &parts.assignment);
     match picked {
@@ -258,11 +258,11 @@ pub fn assume(parts: &mut Parts, lit: Lit) -> Result<(), AllocError>
     requires there { variable lit < length parts.old.assignment.current }
     requires open { IsOpenLit parts.old.assignment.current lit }
     ensures holds { OnOk result (Holds parts.new) }
-    ensures word { (assumed : List ℕ) → (may_pick parts.old.vsids (variable lit) ≡ true) ⊎ Contains assumed (variable lit) → OnOk result (ExtendsFor assumed parts.old parts.new) }
-    ensures same { OnOk result (SameClauses parts.old parts.new × Carries (state parts.old) (state parts.new)) }
+    ensures word { (assumed : List ℕ) → IsAwaited assumed parts.old.vsids (variable lit) → OnOk result (ExtendsFor assumed parts.old parts.new) }
+    ensures same { OnOk result (AddsNothing parts.old parts.new) }
     ensures decided { OnOk result (state parts.new ≡ decided_on lit (state parts.old)) }
-    ensures keeps { OnOk result ((top : ℕ) → KeepsTo top (state parts.old) (state parts.new)) }
-    ensures deeper { OnOk result (length parts.new.trail.starts ≡ length parts.old.trail.starts + 1) }
+    ensures keeps { OnOk result (KeepsLevels parts.old parts.new) }
+    ensures deeper { OnOk result (Deepens parts.old parts.new) }
 {
     parts.trail.new_decision_level()?;
     enqueue_assignment(

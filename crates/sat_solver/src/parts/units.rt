@@ -1,12 +1,12 @@
 //! Units of level 0 that are taken off the trail, and put back.
-ghost use Rattle.std.specs.Prelude.{ℕ, ◌≡◌, ◌+◌, ◌<◌, [], length, slice_index_or, IsTrue};
-ghost use Rattle.sat_base.specs.values.Literals.{variable};
+ghost use Rattle.std.specs.Prelude.{ℕ, ◌≡◌, ◌+◌, [], length};
 ghost use Rattle.sat_parts.specs.prop.Values.{IsTrueLit, value_of};
 ghost use Rattle.sat_parts.specs.prop.State.{HasLeft};
 ghost use Rattle.sat_solver.specs.parts.Whole.{state, Holds, HoldsBelow, IsDone};
 ghost use Rattle.sat_solver.specs.parts.Words.{Extends};
 ghost use Rattle.sat_solver.specs.parts.Units.{removed};
 ghost use Rattle.sat_solver.specs.parts.Frame.{Carries, Clears, SameClauses};
+ghost use Rattle.sat_parts.specs.clause.Glue.{HaveNodes};
 
 use crate::parts::Parts;
 use sat_base::Lit;
@@ -14,7 +14,7 @@ use sat_parts::{ImplGraph, Reason, Trail, enqueue_assignment};
 
 /// Marks the variables of the literals as those of units taken off the trail.
 fn mark_removed(graph: &mut ImplGraph, trail: &Trail)
-    requires { (k : ℕ) → k < length trail.now.lits → variable (slice_index_or trail.now.lits k 0) < length graph.old }
+    requires { HaveNodes graph.old trail.now.lits }
     ensures { graph.new ≡ removed trail.now.lits graph.old }
 {
     for lit in trail.trail() {

@@ -1,12 +1,11 @@
 //! Which variables clauses have.
-ghost use Rattle.std.specs.Prelude.{ℕ, List, ◌≡◌, ◌<◌, OnOk, Bool, true, false, length, slice_index_or};
+ghost use Rattle.std.specs.Prelude.{ℕ, ◌≡◌, ◌<◌, OnOk, true, false, length, slice_index_or};
 ghost use Rattle.sat_base.specs.values.Literals.{variable};
 ghost use Rattle.sat_store.specs.clause.Buffer.{IsClause};
-ghost use Rattle.sat_parts.specs.clause.Db.{live_refs};
 ghost use Rattle.sat_parts.specs.clause.Stored.{lit_of, size_of};
-ghost use Rattle.sat_solver.specs.parts.Round.{IsUnused};
-ghost use Rattle.sat_solver.specs.parts.Whole.{Holds};
+ghost use Rattle.sat_solver.specs.parts.Whole.{Holds, InNoClause};
 ghost use Rattle.sat_solver.specs.parts.Using.{Marks, IsAmong, HasVar, InLong, InBinary};
+ghost use Rattle.sat_parts.specs.clause.Glue.{VariablesBelow};
 
 use crate::parts::Parts;
 use sat_base::Lit;
@@ -23,7 +22,7 @@ fn mark_lit(used: &mut Vec<bool>, lit: Lit)
 
 /// Marks the variables of literals.
 fn mark_lits(used: &mut Vec<bool>, lits: &[Lit])
-    requires { (k : ℕ) → k < length lits.now → variable (slice_index_or lits.now k 0) < length used.old.items }
+    requires { VariablesBelow lits.now (length used.old.items) }
     ensures { Marks used.old.items used.new.items (IsAmong lits.now (length lits.now)) }
 {
     for at in 0..lits.len() {
@@ -78,8 +77,8 @@ fn mark_binary(used: &mut Vec<bool>, parts: &Parts)
 pub fn mark_used(used: &mut Vec<bool>, parts: &Parts) -> Result<(), AllocError>
     requires holds { Holds parts.now }
     ensures size { OnOk result (length used.new.items ≡ length parts.now.assignment.current) }
-    ensures unused { OnOk result ((v : ℕ) → slice_index_or used.new.items v false ≡ false → IsUnused parts.now.clauses (live_refs parts.now.clauses parts.now.db.refs) parts.now.binary.implied v) }
-    ensures others { OnOk result ((v : ℕ) → IsUnused parts.now.clauses (live_refs parts.now.clauses parts.now.db.refs) parts.now.binary.implied v → slice_index_or used.new.items v false ≡ false) }
+    ensures unused { OnOk result ((v : ℕ) → slice_index_or used.new.items v false ≡ false → InNoClause parts.now v) }
+    ensures others { OnOk result ((v : ℕ) → InNoClause parts.now v → slice_index_or used.new.items v false ≡ false) }
 {
     used.clear();
     used.resize(parts.assignment.assignment().len(), false)?;

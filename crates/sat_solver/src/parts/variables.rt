@@ -3,12 +3,10 @@ ghost use Rattle.std.specs.Prelude.{ℕ, List, ◌≡◌, ◌<◌, None, length,
 ghost use Rattle.std.specs.List.{Contains};
 ghost use Rattle.sat_base.specs.values.Literals.{variable};
 ghost use Rattle.sat_store.specs.heap.Vsids.{may_pick, with_available};
-ghost use Rattle.sat_parts.specs.clause.Db.{live_refs};
 ghost use Rattle.sat_parts.specs.prop.State.{IsRemoved};
 ghost use Rattle.sat_parts.specs.prop.Values.{IsOpenLit, value_of, made_true};
-ghost use Rattle.sat_solver.specs.parts.Round.{IsUnused};
-ghost use Rattle.sat_solver.specs.parts.Whole.{state, Holds};
-ghost use Rattle.sat_solver.specs.parts.Frame.{SameClauses, SameState, Gains, Freed};
+ghost use Rattle.sat_solver.specs.parts.Whole.{state, Holds, InNoClause};
+ghost use Rattle.sat_solver.specs.parts.Frame.{SameClauses, Gains, Freed, SameContents};
 ghost use Rattle.sat_solver.specs.parts.Words.{ExtendsFor};
 
 use crate::parts::Parts;
@@ -20,7 +18,7 @@ pub fn free_variable(parts: &mut Parts, var: Var)
     requires bottom { parts.old.trail.starts ≡ [] }
     requires empty { parts.old.trail.lits ≡ [] }
     requires there { var < length parts.old.assignment.current }
-    requires unused { IsUnused parts.old.clauses (live_refs parts.old.clauses parts.old.db.refs) parts.old.binary.implied var }
+    requires unused { InNoClause parts.old var }
     ensures holds { Holds parts.new }
     ensures open { value_of parts.new.assignment.current var ≡ None }
     ensures freed { Freed parts.old parts.new var }
@@ -35,7 +33,7 @@ pub fn use_variable(parts: &mut Parts, var: Var)
     requires holds { Holds parts.old }
     requires there { var < length parts.old.assignment.current }
     ensures holds { Holds parts.new }
-    ensures same { SameClauses parts.old parts.new × SameState parts.old parts.new }
+    ensures same { SameContents parts.old parts.new }
     ensures queue { parts.new.vsids ≡ with_available var true parts.old.vsids }
 {
     parts.vsids.make_available(var);
@@ -47,7 +45,7 @@ pub fn reset_activity(parts: &mut Parts, var: Var)
     requires there { var < length parts.old.assignment.current }
     requires given_up { may_pick parts.old.vsids var ≡ false }
     ensures holds { Holds parts.new }
-    ensures same { SameClauses parts.old parts.new × SameState parts.old parts.new }
+    ensures same { SameContents parts.old parts.new }
     ensures queue { parts.new.vsids ≡ record parts.old.vsids { activities = slice_set parts.old.vsids.activities var 0 } }
 {
     parts.vsids.reset(var);
