@@ -1,10 +1,17 @@
 -- A clause that is loaded into a search.
-use Rattle.std.specs.Prelude.{ℕ, ◌≡◌, ◌<◌, ◌*◌, Bool, true, false, List, [], ◌∷◌, map, length, slice_index_or as get_or}
-use Rattle.sat_base.specs.steps.Steps.{Step, AddClause}
+use Rattle.std.specs.Prelude.{ℕ, ◌≡◌, ◌<◌, ◌*◌, Bool, true, false, List, [], ◌∷◌, map, length, Result, slice_index_or as get_or}
+use Rattle.sat_base.specs.device.Device.{Writer}
+use Rattle.sat_base.specs.steps.Steps.{Step, AddClause, DeleteClause, Satisfied}
+use Rattle.sat_checker.specs.declared.processing.ProofProcessor.{Ghosts}
 use Rattle.sat_checker.specs.LiteralSets.{is_tautology}
 use Rattle.sat_parts.specs.clause.Orders.{AreDistinct}
 use Rattle.sat_solver.specs.session.Session.{Session, session_after}
 use Rattle.sat_solver.specs.session.LiveClauses.{with_var, AreMapped}
+use Rattle.sat_solver.specs.session.ProofView.{steps_of, session_of}
+use Rattle.sat_solver.specs.declared.session.proof.Proof.{Proof}
+use Rattle.sat_solver.specs.declared.error.SolverError.{SolverError}
+use Rattle.sat_solver.specs.parts.Full.{IsFull}
+use Rattle.sat_solver.specs.search.Going.{Goes, GoesOr}
 use Rattle.sat_solver.specs.search.Joint.{global_in, IsSearch, Moved}
 use Rattle.sat_solver.specs.declared.search.work.Search.{Search}
 
@@ -32,3 +39,19 @@ pub record IsLoaded (left : Bool) (s : Session) (c c' : Search) : Type 0 where
   pub goes_on : GoesOn left s c'
   pub moved : Moved c c'
   pub bottom : c'.parts.trail.starts ≡ []
+
+-- the step of a clause that goes since one of its literals is true
+abbrev pub satisfied_step : (global : ℕ → ℕ) → List ℕ → Step
+satisfied_step global ls = DeleteClause (map (with_var global) ls) Satisfied
+
+-- it was made
+abbrev pub DeletesSatisfied : {W L : Type 0} {G : Ghosts L} → (W → Writer) → Result (Unit {0}) SolverError → Proof W L G → Proof W L G → (global : ℕ → ℕ) → List ℕ → Type 0
+DeletesSatisfied seen r p p' global ls = Goes seen r p p' (λ _ _. steps_of p' ≡ satisfied_step global ls ∷ steps_of p)
+
+-- and a valuation may be left
+abbrev pub DeletesTrue : {W L : Type 0} {G : Ghosts L} → (W → Writer) → Result Bool SolverError → Proof W L G → Proof W L G → (global : ℕ → ℕ) → List ℕ → Type 0
+DeletesTrue seen r p p' global ls = Goes seen r p p' (λ left _. (left ≡ true) × (steps_of p' ≡ satisfied_step global ls ∷ steps_of p))
+
+-- a clause was loaded, and it's answered whether a valuation may be left
+abbrev pub LoadsClause : {W L : Type 0} {G : Ghosts L} → (W → Writer) → Result Bool SolverError → Proof W L G → Proof W L G → Search → Search → Type 0
+LoadsClause seen r p p' c c' = GoesOr (IsFull c'.parts) seen r p p' (λ left _. IsLoaded left (session_of p') c c')

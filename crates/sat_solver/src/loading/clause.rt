@@ -1,16 +1,13 @@
 //! A clause comes to a search.
-ghost use Rattle.std.specs.Prelude.{ℕ, ◌≡◌, ◌<◌, ◌∷◌, length, map, slice_index_or, true, OnOk};
-ghost use Rattle.sat_base.specs.values.Literals.{variable};
+ghost use Rattle.std.specs.Prelude.{◌≡◌, ◌<◌, length, true, OnOk};
 ghost use Rattle.sat_base.specs.steps.Steps.{DeleteClause, Satisfied};
 ghost use Rattle.sat_solver.specs.session.Coming.{Comes, DeletesAdded};
 ghost use Rattle.sat_solver.specs.session.Session.{May};
-ghost use Rattle.sat_solver.specs.session.LiveClauses.{with_var};
 ghost use Rattle.sat_solver.specs.session.ProofView.{Keeps, steps_of, session_of};
 ghost use Rattle.sat_solver.specs.joint.Naming.{global_of};
-ghost use Rattle.sat_solver.specs.parts.Full.{IsFull};
-ghost use Rattle.sat_solver.specs.search.Going.{Goes, GoesOr};
 ghost use Rattle.sat_solver.specs.search.Joint.{global_in};
-ghost use Rattle.sat_solver.specs.loading.Loaded.{MayLoad, IsAdded, IsLoaded};
+ghost use Rattle.sat_solver.specs.loading.Loaded.{MayLoad, IsAdded, satisfied_step, DeletesSatisfied, DeletesTrue, LoadsClause};
+ghost use Rattle.sat_parts.specs.clause.Glue.{VariablesBelow};
 
 use crate::SolverError;
 use crate::joint::naming::map_lits;
@@ -32,9 +29,9 @@ pub fn delete_satisfied<W: CountedWrite + Drop, P: ProofProcessor>(
     clause: &mut Vec<Lit>,
 ) -> Result<(), SolverError>
     requires keeps { Keeps proof.old }
-    requires names { (k : ℕ) → k < length lits.now → variable (slice_index_or lits.now k 0) < length globals.now }
-    requires may { May (session_of proof.old) (DeleteClause (map (with_var (global_of globals.now)) lits.now) Satisfied) }
-    ensures { Goes W.seen result proof.old proof.new (λ _ _. steps_of proof.new ≡ DeleteClause (map (with_var (global_of globals.now)) lits.now) Satisfied ∷ steps_of proof.old) }
+    requires names { VariablesBelow lits.now (length globals.now) }
+    requires may { May (session_of proof.old) (satisfied_step (global_of globals.now) lits.now) }
+    ensures { DeletesSatisfied W.seen result proof.old proof.new (global_of globals.now) lits.now }
 {
     if map_lits(globals, lits, clause).is_err() {
         return Err(SolverError::OutOfMemory);
@@ -56,10 +53,10 @@ fn delete_true<W: CountedWrite + Drop, P: ProofProcessor>(
     lits: &[Lit],
 ) -> Result<bool, SolverError>
     requires keeps { Keeps proof.old }
-    requires names { (k : ℕ) → k < length lits.now → variable (slice_index_or lits.now k 0) < length search.old.globals.items }
-    requires may { May (session_of proof.old) (DeleteClause (map (with_var (global_in search.old)) lits.now) Satisfied) }
+    requires names { VariablesBelow lits.now (length search.old.globals.items) }
+    requires may { May (session_of proof.old) (satisfied_step (global_in search.old) lits.now) }
     ensures same { search.new ≡ record search.old { scratch = search.new.scratch } }
-    ensures deletes { Goes W.seen result proof.old proof.new (λ left _. (left ≡ true) × (steps_of proof.new ≡ DeleteClause (map (with_var (global_in search.old)) lits.now) Satisfied ∷ steps_of proof.old)) }
+    ensures deletes { DeletesTrue W.seen result proof.old proof.new (global_in search.old) lits.now }
 {
     let clause = &mut search.scratch.clause;
     match delete_satisfied(proof, &search.globals, lits, clause) {
@@ -79,7 +76,7 @@ pub fn load_clause<W: CountedWrite + Drop, P: ProofProcessor>(
     requires keeps { Keeps proof.old }
     requires added { IsAdded (steps_of proof.old) search.old lits.now }
     requires may { MayLoad search.old lits.now }
-    ensures goes { GoesOr (IsFull search.new.parts) W.seen result proof.old proof.new (λ left _. IsLoaded left (session_of proof.new) search.old search.new) }
+    ensures goes { LoadsClause W.seen result proof.old proof.new search.old search.new }
     ensures comes { OnOk result (Comes DeletesAdded (steps_of proof.old) (steps_of proof.new)) }
 {
     make_ready(&mut search.parts, lits);

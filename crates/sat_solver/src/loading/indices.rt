@@ -1,9 +1,7 @@
 //! Variables come to a search.
-ghost use Rattle.std.specs.Prelude.{ℕ, ◌≡◌, ◌<◌, ◌≤◌, None, false, [], ◌∷◌, OnOk, length};
+ghost use Rattle.std.specs.Prelude.{ℕ, ◌≡◌, ◌<◌, ◌≤◌, None, [], ◌∷◌, OnOk, length};
 ghost use Rattle.std.specs.List.{AllByRecursion};
 ghost use Rattle.sat_base.specs.values.Literals.{largest};
-ghost use Rattle.sat_store.specs.heap.Vsids.{may_pick};
-ghost use Rattle.sat_parts.specs.prop.Values.{value_of};
 ghost use Rattle.sat_solver.specs.names.Search.{GivenApart};
 ghost use Rattle.sat_solver.specs.parts.Whole.{Holds};
 ghost use Rattle.sat_solver.specs.loading.Indices.{IsVacant, AreVacant, TakesIndices, Renames, AreIndexed};

@@ -5,7 +5,8 @@ ghost use Rattle.sat_store.specs.heap.Vsids.{may_pick};
 ghost use Rattle.sat_checker.specs.LiteralSets.{mentions};
 ghost use Rattle.sat_parts.specs.prop.Values.{value_of};
 ghost use Rattle.sat_solver.specs.parts.Whole.{Holds};
-ghost use Rattle.sat_solver.specs.parts.Frame.{SameClauses, SameState};
+ghost use Rattle.sat_solver.specs.parts.Frame.{SameContents};
+ghost use Rattle.sat_solver.specs.parts.Assumed.{AreThere};
 
 use crate::parts::Parts;
 use crate::parts::variables::use_variable;
@@ -14,9 +15,9 @@ use sat_base::Lit;
 /// Lets the variables of these literals be picked, where they have no value.
 pub fn make_ready(parts: &mut Parts, lits: &[Lit])
     requires holds { Holds parts.old }
-    requires there { (k : ℕ) → k < length lits.now → variable (slice_index_or lits.now k 0) < length parts.old.assignment.current }
+    requires there { AreThere lits.now parts.old }
     ensures holds { Holds parts.new }
-    ensures same { SameClauses parts.old parts.new × SameState parts.old parts.new }
+    ensures same { SameContents parts.old parts.new }
     ensures ready { (k : ℕ) → k < length lits.now → value_of parts.old.assignment.current (variable (slice_index_or lits.now k 0)) ≡ None →
         may_pick parts.new.vsids (variable (slice_index_or lits.now k 0)) ≡ true }
     ensures others { (v : ℕ) → mentions lits.now v ≡ false → may_pick parts.new.vsids v ≡ may_pick parts.old.vsids v }
