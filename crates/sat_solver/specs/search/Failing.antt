@@ -16,6 +16,12 @@ use Rattle.sat_solver.specs.declared.error.SolverError.{SolverError}
 use Rattle.sat_solver.specs.declared.search.work.Search.{Search}
 use Rattle.sat_solver.specs.search.Going.{IsFault, Went}
 use Rattle.sat_solver.specs.search.Joint.{global_in, IsSearch, Moved}
+use Rattle.sat_solver.specs.analysis.Work.{Work}
+use Rattle.sat_solver.specs.analysis.Failing.{Fails}
+
+-- why the assumption fails, by the clauses of the parts
+abbrev pub FailsBy : Parts → (failed : ℕ) → Work → Type 0
+FailsBy p failed w = Fails p.clauses (state p) failed w.core w.used
 
 -- the hashes of the clauses by which these literals are true
 abbrev pub causes_hashes : Parts → List ℕ → List ℕ

@@ -5,7 +5,7 @@ use Rattle.sat_store.specs.clause.Buffer.{header_at, lits_at}
 use Rattle.sat_store.specs.clause.Header.{Header, no_header, is_learned}
 use Rattle.sat_store.specs.declared.clause.tier.Tier.{Tier}
 use Rattle.sat_store.specs.declared.clause.tier.Tier.TheVariants.{Core, Mid, Local}
-use Rattle.sat_parts.specs.clause.Activity.{Scale, StaysBelow, ComesTo, BumpsOne, BumpsAll, DecaysAll, later_bump, later_scale}
+use Rattle.sat_parts.specs.clause.Activity.{Scale, BumpsBelow, BumpsPast, DecaysAll, later_bump, later_scale}
 use Rattle.sat_parts.specs.clause.Db.{live_refs, PutsHeader}
 use Rattle.sat_parts.specs.clause.Glue.{levels_of, different, HaveFlags, AreClear}
 use Rattle.sat_solver.specs.declared.parts.Parts.{Parts}
@@ -37,8 +37,8 @@ levels_in p o = different (levels_of p.graph (lits_at p.clauses o))
 -- the activity of the clause at o was raised, and then its header improved
 pub record TakesPart (levels : ℕ) (words words' refs : List ℕ) (o : ℕ) (s s' : Scale) : Type 0 where
   pub raised : List ℕ
-  pub one : StaysBelow words o s → BumpsOne words raised refs o s s'
-  pub all : ComesTo words o s → BumpsAll words raised refs o s s'
+  pub one : BumpsBelow words raised refs o s s'
+  pub all : BumpsPast words raised refs o s s'
   pub improves : PutsHeader raised words' refs o (improved levels (header_at raised o))
 
 -- activities decayed

@@ -1,8 +1,11 @@
 -- What learning a clause leaves.
-use Rattle.std.specs.Prelude.{ℕ, ◌≡◌, Bool, List, ◌∷◌, ◌++◌, length}
+use Rattle.std.specs.Prelude.{ℕ, ◌≡◌, Bool, List, ◌∷◌, ◌++◌, length, Result}
+use Rattle.sat_base.specs.device.Device.{Writer}
 use Rattle.sat_base.specs.steps.Steps.{Step, AtClause}
+use Rattle.sat_checker.specs.declared.processing.ProofProcessor.{Ghosts}
 use Rattle.sat_store.specs.clause.Header.{Header}
 use Rattle.sat_store.specs.heap.Vsids.{decayed}
+use Rattle.sat_parts.specs.declared.prop.graph.Conflict.{Conflict}
 use Rattle.sat_parts.specs.clause.Activity.{Scale}
 use Rattle.sat_parts.specs.clause.Glue.{levels_of, different}
 use Rattle.sat_solver.specs.analysis.Work.{Work}
@@ -10,12 +13,18 @@ use Rattle.sat_solver.specs.declared.parts.Parts.{Parts}
 use Rattle.sat_solver.specs.parts.Frame.{SameClauses, KeepsTo, Learnt}
 use Rattle.sat_solver.specs.parts.Whole.{state, Holds}
 use Rattle.sat_solver.specs.parts.Words.{Rises}
+use Rattle.sat_solver.specs.parts.Full.{IsFull}
+use Rattle.sat_solver.specs.session.ProofView.{steps_of, session_of}
 use Rattle.sat_solver.specs.session.Session.{Session, session_after}
+use Rattle.sat_solver.specs.declared.session.proof.Proof.{Proof}
+use Rattle.sat_solver.specs.declared.error.SolverError.{SolverError}
 use Rattle.sat_solver.specs.joint.Advancing.{Advances}
+use Rattle.sat_solver.specs.joint.Laws.{named_hashes}
 use Rattle.sat_solver.specs.joint.Learning.{TakesIn}
 use Rattle.sat_solver.specs.joint.Quiet.{AreQuiet}
 use Rattle.sat_solver.specs.declared.search.work.Search.{Search}
 use Rattle.sat_solver.specs.search.Bumping.{all_bumped}
+use Rattle.sat_solver.specs.search.Going.{GoesOr}
 use Rattle.sat_solver.specs.search.Grading.{graded, levels_in, TakePart}
 use Rattle.sat_solver.specs.search.Joint.{IsSearch, Moved}
 use Rattle.sat_solver.specs.search.Left.{SameSize}
@@ -36,6 +45,14 @@ pub record Learned (earlier steps : List Step) (s : Session) (c c' : Search) : T
   pub moved : Moved c c'
   pub rises : Rises c.parts c'.parts
   pub last : LastAdvances earlier steps
+
+-- the same, where the buffer has room for it
+abbrev pub LearnsClause : {W L : Type 0} {G : Ghosts L} → (W → Writer) → Result (Unit {0}) SolverError → Proof W L G → Proof W L G → Search → Search → Type 0
+LearnsClause seen r p p' c c' = GoesOr (IsFull c'.parts) seen r p p' (λ _ steps. Learned (steps_of p) steps (session_of p') c c')
+
+-- the hashes of the clauses from which it follows, the one that was found false last
+abbrev pub learned_hashes : Parts → Work → Conflict → List ℕ
+learned_hashes p w e = named_hashes p.clauses (state p) w.used e
 
 -- the levels above this one were undone, and what was learned came in
 pub record Taken (p p' : Parts) (header : Header) (ls : List ℕ) (level : ℕ) : Type 0 where

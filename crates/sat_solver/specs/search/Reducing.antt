@@ -1,7 +1,9 @@
 -- What a reduction leaves.
-use Rattle.std.specs.Prelude.{ℕ, zero, suc, ◌≡◌, ◌≢◌, ◌==◌, ◌/◌, ◌%◌, ◌<◌, ◌≤◌, ◌⊎◌, Bool, true, false, List, [], ◌∷◌, length}
+use Rattle.std.specs.Prelude.{ℕ, zero, suc, ◌≡◌, ◌≢◌, ◌==◌, ◌/◌, ◌%◌, ◌<◌, ◌≤◌, ◌⊎◌, Bool, true, false, List, [], ◌∷◌, length, Result}
 use Rattle.std.specs.List.{Contains, filter}
 use Rattle.std.specs.List.Sorted.{IsPermutation, IsNonDecreasingBy}
+use Rattle.sat_base.specs.device.Device.{Writer}
+use Rattle.sat_checker.specs.declared.processing.ProofProcessor.{Ghosts}
 use Rattle.sat_store.specs.clause.Buffer.{Keeps, header_at}
 use Rattle.sat_store.specs.declared.clause.tier.Tier.TheVariants.{Local}
 use Rattle.sat_parts.specs.clause.Activity.{PutsHeaders}
@@ -12,9 +14,13 @@ use Rattle.sat_solver.specs.declared.parts.Parts.{Parts}
 use Rattle.sat_solver.specs.parts.Frame.{SameSearch, Headed, Dropped, Copied}
 use Rattle.sat_solver.specs.parts.Reducing.{rank}
 use Rattle.sat_solver.specs.parts.Words.{Extends, ExtendsFor}
+use Rattle.sat_solver.specs.session.ProofView.{session_of}
 use Rattle.sat_solver.specs.session.Session.{Session}
+use Rattle.sat_solver.specs.declared.session.proof.Proof.{Proof}
+use Rattle.sat_solver.specs.declared.error.SolverError.{SolverError}
 use Rattle.sat_solver.specs.joint.Fits.{is_redundant}
 use Rattle.sat_solver.specs.declared.search.work.Search.{Search}
+use Rattle.sat_solver.specs.search.Going.{Goes}
 use Rattle.sat_solver.specs.search.Joint.{assumed_in, IsSearch, Moved}
 
 -- a live long clause that was learned
@@ -44,6 +50,10 @@ pub record Reduced (s : Session) (c c' : Search) : Type 0 where
   pub search : IsSearch s c'
   pub moved : Moved c c'
   pub word : ExtendsFor (assumed_in c) c.parts c'.parts
+
+-- the same by steps, where the parts changed in this way
+abbrev pub ReducesBy : {W L : Type 0} {G : Ghosts L} → (Changes : Parts → Parts → Type 0) → (W → Writer) → Result (Unit {0}) SolverError → Proof W L G → Proof W L G → Search → Search → Type 0
+ReducesBy Changes seen r p p' c c' = Goes seen r p p' (λ _ _. Reduced (session_of p') c c' × Changes c.parts c'.parts)
 
 -- TIER LOCAL
 

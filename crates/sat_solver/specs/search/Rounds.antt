@@ -1,12 +1,19 @@
 -- How a round ends.
-use Rattle.std.specs.Prelude.{◌≡◌, true, false, List, ◌∷◌, ◌++◌}
+use Rattle.std.specs.Prelude.{◌≡◌, true, false, List, ◌∷◌, ◌++◌, Result}
+use Rattle.sat_base.specs.device.Device.{Writer}
 use Rattle.sat_base.specs.steps.Steps.{Step}
+use Rattle.sat_checker.specs.declared.processing.ProofProcessor.{Ghosts}
+use Rattle.sat_solver.specs.parts.Full.{IsFull}
 use Rattle.sat_solver.specs.parts.Words.{RisesFor}
+use Rattle.sat_solver.specs.session.ProofView.{steps_of, session_of}
 use Rattle.sat_solver.specs.session.Session.{Session, session_after}
+use Rattle.sat_solver.specs.declared.session.proof.Proof.{Proof}
+use Rattle.sat_solver.specs.declared.error.SolverError.{SolverError}
 use Rattle.sat_solver.specs.joint.Quiet.{AreQuiet}
 use Rattle.sat_solver.specs.declared.bound.search.Outcome.{Outcome}
 use Rattle.sat_solver.specs.declared.bound.search.Outcome.TheVariants as outcomes
 use Rattle.sat_solver.specs.declared.search.work.Search.{Search}
+use Rattle.sat_solver.specs.search.Going.{GoesOr}
 use Rattle.sat_solver.specs.search.Joint.{assumed_in, IsSearch, Moved}
 use Rattle.sat_solver.specs.search.Learning.{LastAdvances}
 use Rattle.sat_solver.specs.search.Turns.{IsComplete, IsFailing}
@@ -44,3 +51,7 @@ RoundSays outcomes.Learned earlier steps s c c' = RoundLearns earlier steps s c 
 RoundSays outcomes.Model earlier steps s c c' = RoundShows s c c' × AreQuiet steps
 RoundSays outcomes.Unsat earlier steps s c c' = LastRefutes earlier steps s
 RoundSays outcomes.Failed earlier steps s c c' = RoundFails s c c' × AreQuiet steps
+
+-- a round made its steps, and came to this outcome, or failed
+abbrev pub RoundGoes : {W L : Type 0} {G : Ghosts L} → (W → Writer) → Result Outcome SolverError → Proof W L G → Proof W L G → Search → Search → Type 0
+RoundGoes seen r p p' c c' = GoesOr (IsFull c'.parts) seen r p p' (λ outcome steps. RoundSays outcome (steps_of p) steps (session_of p') c c')

@@ -1,5 +1,5 @@
 //! The turns of a search: it propagates, and then assumes or decides.
-ghost use Rattle.std.specs.Prelude.{ℕ, ◌≡◌, IfOk};
+ghost use Rattle.std.specs.Prelude.{IfOk};
 ghost use Rattle.sat_solver.specs.session.ProofView.{Keeps, session_of};
 ghost use Rattle.sat_solver.specs.parts.Assumed.{AreThere, ArePlaced};
 ghost use Rattle.sat_solver.specs.parts.Whole.{state, Holds, IsDone};

@@ -1,8 +1,6 @@
 //! How a round begins: at level 0 what came there is propagated, and simplified by.
 ghost use Rattle.std.specs.Prelude.{◌≡◌, []};
-ghost use Rattle.sat_solver.specs.session.ProofView.{session_of};
-ghost use Rattle.sat_solver.specs.search.Turns.{IsPropagated};
-ghost use Rattle.sat_solver.specs.simplify.Passes.{StandTogether, MaySettle, Passes, Simplifies, Begins};
+ghost use Rattle.sat_solver.specs.simplify.Passes.{StandTogether, MaySettle, Simplifies, Begins};
 
 use crate::SolverError;
 use crate::names::Variables;

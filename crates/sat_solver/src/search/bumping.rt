@@ -1,13 +1,11 @@
 //! What an analysis met counts for more from there on: variables are picked sooner, and clauses are kept longer.
-ghost use Rattle.std.specs.Prelude.{◌≡◌, ℕ, length};
-ghost use Rattle.std.specs.List.{Contains};
+ghost use Rattle.std.specs.Prelude.{◌≡◌, length};
 ghost use Rattle.sat_store.specs.clause.Buffer.{lits_at};
 ghost use Rattle.sat_store.specs.heap.Vsids.{decayed};
-ghost use Rattle.sat_parts.specs.clause.Db.{live_refs};
 ghost use Rattle.sat_parts.specs.clause.Glue.{HaveFlags, AreClear};
 ghost use Rattle.sat_solver.specs.session.Session.{Session};
-ghost use Rattle.sat_solver.specs.parts.Frame.{SameClauses, SameState};
-ghost use Rattle.sat_solver.specs.parts.Whole.{Holds};
+ghost use Rattle.sat_solver.specs.parts.Frame.{SameClauses, SameContents};
+ghost use Rattle.sat_solver.specs.parts.Whole.{Holds, HasClause};
 ghost use Rattle.sat_solver.specs.parts.Words.{Extends};
 ghost use Rattle.sat_solver.specs.search.Bumping.{AreBelow, AreDecays, all_bumped, Bumped};
 ghost use Rattle.sat_solver.specs.search.Grading.{levels_in, TakesPart, TakePart, Rates, AreInvolved};
@@ -27,7 +25,7 @@ fn bump_all(parts: &mut Parts, vars: &[Var])
     requires holds { Holds parts.old }
     requires there { AreBelow vars.now (length parts.old.assignment.current) }
     ensures holds { Holds parts.new }
-    ensures same { SameClauses parts.old parts.new × SameState parts.old parts.new }
+    ensures same { SameContents parts.old parts.new }
     ensures word { Extends parts.old parts.new }
     ensures queue { parts.new.vsids ≡ decayed (all_bumped vars.now parts.old.vsids) }
 {
@@ -65,7 +63,7 @@ pub fn set_decays(search: &mut Search, config: &SolverConfig)
 /// Raises the activity of a clause that took part in an analysis, and improves its header by the levels of its literals.
 fn bump_one(parts: &mut Parts, activity: &mut ClauseActivity, flags: &mut TmpFlags, cref: ClauseRef)
     requires holds { Holds parts.old }
-    requires live { Contains (live_refs parts.old.clauses parts.old.db.refs) cref }
+    requires live { HasClause parts.old cref }
     requires levels { HaveFlags parts.old.graph flags.old.flags.items (lits_at parts.old.clauses cref) }
     requires clear { AreClear flags.old.flags.items }
     ensures rates { Rates parts.old parts.new }

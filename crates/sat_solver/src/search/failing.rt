@@ -2,10 +2,9 @@
 ghost use Rattle.std.specs.Prelude.{◌≡◌, ◌≤◌, map, length, OnOk};
 ghost use Rattle.sat_solver.specs.session.LiveClauses.{with_var};
 ghost use Rattle.sat_solver.specs.session.ProofView.{Keeps, session_of};
-ghost use Rattle.sat_solver.specs.analysis.Failing.{Fails};
 ghost use Rattle.sat_solver.specs.parts.Assumed.{AreThere};
-ghost use Rattle.sat_solver.specs.parts.Whole.{state, Holds};
-ghost use Rattle.sat_solver.specs.search.Failing.{causes_hashes, TellsCore};
+ghost use Rattle.sat_solver.specs.parts.Whole.{Holds};
+ghost use Rattle.sat_solver.specs.search.Failing.{causes_hashes, TellsCore, FailsBy};
 ghost use Rattle.sat_solver.specs.search.Joint.{global_in, IsFree, IsSearch};
 ghost use Rattle.sat_solver.specs.search.Turns.{IsFailing};
 
@@ -25,7 +24,7 @@ fn name_core(search: &mut Search) -> Result<(), AllocError>
     requires names { length search.old.parts.assignment.current ≤ length search.old.globals.items }
     requires there { AreThere search.old.assumptions.lits.items search.old.parts }
     requires failing { IsFailing search.old.assumptions.lits.items search.old.parts search.old.failed }
-    requires fails { Fails search.old.parts.clauses (state search.old.parts) search.old.failed search.old.analysis.core search.old.analysis.used }
+    requires fails { FailsBy search.old.parts search.old.failed search.old.analysis }
     ensures same { search.new ≡ record search.old { scratch = search.new.scratch } }
     ensures clause { OnOk result (search.new.scratch.clause.items ≡ map (with_var (global_in search.old)) search.old.analysis.core) }
     ensures hashes { OnOk result (search.new.scratch.hashes.items ≡ causes_hashes search.old.parts search.old.analysis.used) }
@@ -50,7 +49,7 @@ fn find_core(search: &mut Search) -> Result<(), AllocError>
     requires failing { IsFailing search.old.assumptions.lits.items search.old.parts search.old.failed }
     ensures same { search.new ≡ record search.old { analysis = search.new.analysis; scratch = search.new.scratch } }
     ensures free { OnOk result (IsFree search.new) }
-    ensures fails { OnOk result (Fails search.old.parts.clauses (state search.old.parts) search.old.failed search.new.analysis.core search.new.analysis.used) }
+    ensures fails { OnOk result (FailsBy search.old.parts search.old.failed search.new.analysis) }
     ensures clause { OnOk result (search.new.scratch.clause.items ≡ map (with_var (global_in search.old)) search.new.analysis.core) }
     ensures hashes { OnOk result (search.new.scratch.hashes.items ≡ causes_hashes search.old.parts search.new.analysis.used) }
 {

@@ -1,10 +1,9 @@
 //! Learned clauses are graded by the levels of their literals.
-ghost use Rattle.std.specs.Prelude.{ℕ, ◌≡◌, ◌<◌};
-ghost use Rattle.std.specs.List.{Contains};
-ghost use Rattle.sat_store.specs.clause.Buffer.{header_at, lits_at};
-ghost use Rattle.sat_parts.specs.clause.Db.{live_refs, PutsHeader};
+ghost use Rattle.std.specs.Prelude.{◌≡◌, ◌<◌};
+ghost use Rattle.sat_store.specs.clause.Buffer.{header_at};
+ghost use Rattle.sat_parts.specs.clause.Db.{PutsHeader};
 ghost use Rattle.sat_parts.specs.clause.Glue.{levels_of, different, HaveNodes, HaveFlags, AreClear};
-ghost use Rattle.sat_solver.specs.parts.Whole.{Holds};
+ghost use Rattle.sat_solver.specs.parts.Whole.{Holds, HasClause};
 ghost use Rattle.sat_solver.specs.search.Grading.{tier_for, graded, improved, Rates};
 
 use crate::parts::Parts;
@@ -42,7 +41,7 @@ pub fn assess(flags: &mut TmpFlags, graph: &ImplGraph, lits: &[Lit]) -> ClauseHe
 /// their number as its glue, with the tier for it.
 pub fn improve(parts: &mut Parts, cref: ClauseRef, levels: usize)
     requires holds { Holds parts.old }
-    requires live { Contains (live_refs parts.old.clauses parts.old.db.refs) cref }
+    requires live { HasClause parts.old cref }
     ensures rates { Rates parts.old parts.new }
     ensures put { PutsHeader parts.old.clauses parts.new.clauses parts.old.db.refs cref (improved levels (header_at parts.old.clauses cref)) }
 {

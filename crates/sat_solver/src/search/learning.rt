@@ -1,22 +1,20 @@
 //! A clause is learned from a conflict: its step is written, and it comes to the others.
-ghost use Rattle.std.specs.Prelude.{ℕ, ◌≡◌, ◌<◌, ◌≤◌, length, map, Err, true, false, OnOk, IfOk};
+ghost use Rattle.std.specs.Prelude.{◌≡◌, ◌<◌, ◌≤◌, length, map, Err, false, OnOk, IfOk};
 ghost use Rattle.sat_parts.specs.clause.Glue.{levels_of, different};
-ghost use Rattle.sat_parts.specs.prop.Causes.{falsified};
 ghost use Rattle.sat_solver.specs.session.LiveClauses.{with_var};
-ghost use Rattle.sat_solver.specs.session.ProofView.{Keeps, steps_of, session_of};
-ghost use Rattle.sat_solver.specs.analysis.Derivation.{Learns};
+ghost use Rattle.sat_solver.specs.session.ProofView.{Keeps, session_of};
+ghost use Rattle.sat_solver.specs.analysis.Derivation.{Learns, LearnsFrom};
 ghost use Rattle.sat_solver.specs.parts.Round.{AreUnits, IsBased};
 ghost use Rattle.sat_solver.specs.parts.Full.{IsFull};
 ghost use Rattle.sat_solver.specs.parts.Learned.{IsLearned};
 ghost use Rattle.sat_solver.specs.parts.Whole.{state, HoldsBelow, IsRefuted};
-ghost use Rattle.sat_solver.specs.joint.Laws.{named_hashes};
 ghost use Rattle.sat_solver.specs.joint.Fits.{FlagFits};
 ghost use Rattle.sat_solver.specs.search.Bumping.{AreBelow};
-ghost use Rattle.sat_solver.specs.search.Going.{GoesOr};
 ghost use Rattle.sat_solver.specs.search.Grading.{graded, AreInvolved};
 ghost use Rattle.sat_solver.specs.search.Joint.{global_in, IsFree};
-ghost use Rattle.sat_solver.specs.search.Learning.{Learned, Taken, Rated, IsRated, IsRaised};
+ghost use Rattle.sat_solver.specs.search.Learning.{Taken, Rated, IsRated, IsRaised, LearnsClause, learned_hashes};
 ghost use Rattle.sat_solver.specs.search.Turns.{IsStopped};
+ghost use Rattle.sat_store.specs.clause.Full.{OnFull};
 
 use crate::SolverError;
 use crate::analysis::learn_from_conflict;
@@ -37,10 +35,10 @@ use std::alloc::AllocError;
 fn name_learned(search: &mut Search, _level: usize, conflict: &Conflict) -> Result<(), AllocError>
     requires refuted { IsRefuted search.old.parts conflict.now }
     requires names { length search.old.parts.assignment.current ≤ length search.old.globals.items }
-    requires learns { Learns search.old.parts.clauses (state search.old.parts) (falsified search.old.parts.clauses conflict.now) search.old.analysis _level }
+    requires learns { LearnsFrom search.old.parts.clauses (state search.old.parts) conflict.now search.old.analysis _level }
     ensures same { search.new ≡ record search.old { scratch = search.new.scratch } }
     ensures clause { OnOk result (search.new.scratch.clause.items ≡ map (with_var (global_in search.old)) search.old.analysis.clause) }
-    ensures hashes { OnOk result (search.new.scratch.hashes.items ≡ named_hashes search.old.parts.clauses (state search.old.parts) search.old.analysis.used conflict.now) }
+    ensures hashes { OnOk result (search.new.scratch.hashes.items ≡ learned_hashes search.old.parts search.old.analysis conflict.now) }
 {
     map_lits(
         &search.globals,
@@ -68,7 +66,7 @@ fn take_in(search: &mut Search, header: ClauseHeader, level: usize) -> Result<()
     ensures flags { search.new.flags.flags.items ≡ search.old.flags.flags.items }
     ensures taken { OnOk result (Taken search.old.parts search.new.parts header search.old.analysis.clause level) }
     ensures rated { OnOk result (Rated search.old.parts search.old.activity search.old.analysis header search.new.parts search.new.activity) }
-    ensures full { result ≡ Err StoreError.StoreFull → IsFull search.new.parts }
+    ensures full { OnFull result (IsFull search.new.parts) }
 {
     undo(&mut search.parts, level);
     bump_clauses(
@@ -97,12 +95,12 @@ fn analyze(search: &mut Search, conflict: &Conflict) -> Result<(usize, ClauseHea
     requires free { IsFree search.old }
     ensures same { search.new ≡ record search.old { analysis = search.new.analysis; flags = search.new.flags; scratch = search.new.scratch } }
     ensures free { OnOk result (IsFree search.new) }
-    ensures learns { IfOk result (λ r. Learns search.old.parts.clauses (state search.old.parts) (falsified search.old.parts.clauses conflict.now) search.new.analysis r.0) }
+    ensures learns { IfOk result (λ r. LearnsFrom search.old.parts.clauses (state search.old.parts) conflict.now search.new.analysis r.0) }
     ensures header { IfOk result (λ r. r.1 ≡ graded (different (levels_of search.old.parts.graph search.new.analysis.clause))) }
     ensures involved { OnOk result (AreInvolved search.old.parts search.new.flags.flags.items search.new.analysis.involved) }
     ensures met { OnOk result (AreBelow search.new.analysis.met (length search.old.parts.assignment.current)) }
     ensures clause { OnOk result (search.new.scratch.clause.items ≡ map (with_var (global_in search.old)) search.new.analysis.clause) }
-    ensures hashes { OnOk result (search.new.scratch.hashes.items ≡ named_hashes search.old.parts.clauses (state search.old.parts) search.new.analysis.used conflict.now) }
+    ensures hashes { OnOk result (search.new.scratch.hashes.items ≡ learned_hashes search.old.parts search.new.analysis conflict.now) }
 {
     let parts = &search.parts;
     let level = learn_from_conflict(
@@ -134,7 +132,7 @@ fn learn_clause<W: CountedWrite + Drop, P: ProofProcessor>(
     requires keeps { Keeps proof.old }
     requires stopped { IsStopped (session_of proof.old) search.old conflict.now }
     requires above { 0 < length search.old.parts.trail.starts }
-    ensures learned { GoesOr (IsFull search.new.parts) W.seen result proof.old proof.new (λ _ steps. Learned (steps_of proof.old) steps (session_of proof.new) search.old search.new) }
+    ensures learned { LearnsClause W.seen result proof.old proof.new search.old search.new }
     ensures met { OnOk result (AreBelow search.new.analysis.met (length search.new.parts.assignment.current)) }
     ensures rated { OnOk result (IsRated search.old search.new) }
 {
@@ -162,7 +160,7 @@ pub fn learn_from<W: CountedWrite + Drop, P: ProofProcessor>(
     requires keeps { Keeps proof.old }
     requires stopped { IsStopped (session_of proof.old) search.old conflict.now }
     requires above { 0 < length search.old.parts.trail.starts }
-    ensures learned { GoesOr (IsFull search.new.parts) W.seen result proof.old proof.new (λ _ steps. Learned (steps_of proof.old) steps (session_of proof.new) search.old search.new) }
+    ensures learned { LearnsClause W.seen result proof.old proof.new search.old search.new }
     ensures raised { OnOk result (IsRaised search.old search.new) }
 {
     learn_clause(proof, search, conflict)?;

@@ -1,6 +1,5 @@
 //! Learned clauses that are used least are deleted, and the room of deleted clauses is taken back.
-ghost use Rattle.std.specs.Prelude.{ℕ, ◌≡◌, ◌-◌, ◌<◌, if◌then◌else◌, OnOk, Err, length, map, slice_index_or};
-ghost use Rattle.sat_base.specs.values.Literals.{variable};
+ghost use Rattle.std.specs.Prelude.{◌≡◌, ◌-◌, ◌<◌, if◌then◌else◌, OnOk, Err, length, map};
 ghost use Rattle.sat_store.specs.clause.Buffer.{IsClause, lits_at};
 ghost use Rattle.sat_solver.specs.session.LiveClauses.{with_var};
 ghost use Rattle.sat_solver.specs.session.ProofView.{Keeps, session_of};
@@ -9,7 +8,9 @@ ghost use Rattle.sat_solver.specs.parts.Whole.{Holds};
 ghost use Rattle.sat_solver.specs.joint.Naming.{global_of};
 ghost use Rattle.sat_solver.specs.search.Going.{Goes};
 ghost use Rattle.sat_solver.specs.search.Joint.{IsSearch};
-ghost use Rattle.sat_solver.specs.search.Reducing.{IsLearnt, Deleted, Reduced, ReducesLocals, ReducesMids, CollectsWhereDue, Reduces};
+ghost use Rattle.sat_solver.specs.search.Reducing.{IsLearnt, Deleted, Reduced, ReducesLocals, ReducesMids, CollectsWhereDue, Reduces, ReducesBy};
+ghost use Rattle.sat_parts.specs.clause.Glue.{VariablesBelow};
+ghost use Rattle.sat_store.specs.clause.Full.{OnFull};
 
 use crate::parts::Parts;
 use crate::parts::clauses::{collect, drop_clause, reduce_middle};
@@ -31,7 +32,7 @@ pub fn map_clause(
     clause: &mut Vec<Lit>,
 ) -> Result<(), AllocError>
     requires clause { IsClause parts.now.clauses cref }
-    requires names { (k : ℕ) → k < length (lits_at parts.now.clauses cref) → variable (slice_index_or (lits_at parts.now.clauses cref) k 0) < length globals.now }
+    requires names { VariablesBelow (lits_at parts.now.clauses cref) (length globals.now) }
     ensures { OnOk result (clause.new.items ≡ map (with_var (global_of globals.now)) (lits_at parts.now.clauses cref)) }
 {
     let lits = parts.clauses.clause(cref).lits();
@@ -90,7 +91,7 @@ fn reduce_locals<W: CountedWrite + Drop, P: ProofProcessor>(
 ) -> Result<(), SolverError>
     requires keeps { Keeps proof.old }
     requires search { IsSearch (session_of proof.old) search.old }
-    ensures { Goes W.seen result proof.old proof.new (λ _ _. Reduced (session_of proof.new) search.old search.new × ReducesLocals is_due search.old.parts search.new.parts) }
+    ensures { ReducesBy (ReducesLocals is_due) W.seen result proof.old proof.new search.old search.new }
 {
     if !is_due {
         return Ok(());
@@ -126,7 +127,7 @@ fn collect_deleted(search: &mut Search) -> Result<(), StoreError>
     requires holds { Holds search.old.parts }
     ensures reduced { OnOk result ((s : Session) → IsSearch s search.old → Reduced s search.old search.new) }
     ensures collects { OnOk result (CollectsWhereDue search.old.parts search.new.parts) }
-    ensures room { result ≡ Err StoreError.StoreFull → ⊥ }
+    ensures room { OnFull result ⊥ }
 {
     collect(search.alloc, &mut search.parts)
 }
@@ -143,7 +144,7 @@ pub fn reduce<W: CountedWrite + Drop, P: ProofProcessor>(
     requires search { IsSearch (session_of proof.old) search.old }
     requires locals { 0 < config.now.reduce_locals_interval }
     requires mids { 0 < config.now.reduce_mids_interval }
-    ensures { Goes W.seen result proof.old proof.new (λ _ _. Reduced (session_of proof.new) search.old search.new × Reduces config.now round search.old.parts search.new.parts) }
+    ensures { ReducesBy (Reduces config.now round) W.seen result proof.old proof.new search.old search.new }
 {
     let are_locals_due = round % config.reduce_locals_interval == 0;
     reduce_locals(proof, search, are_locals_due)?;

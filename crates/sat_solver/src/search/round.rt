@@ -1,14 +1,13 @@
 //! A round of the search: up to a conflict and what is learned from it, or an answer.
-ghost use Rattle.std.specs.Prelude.{ℕ, ◌≡◌, ◌<◌, ◌≤◌, length, true};
+ghost use Rattle.std.specs.Prelude.{◌≡◌, ◌<◌, ◌≤◌, length};
 ghost use Rattle.sat_solver.specs.session.ProofView.{Keeps, steps_of, session_of};
-ghost use Rattle.sat_solver.specs.parts.Full.{IsFull};
 ghost use Rattle.sat_solver.specs.parts.Whole.{IsRefuted};
 ghost use Rattle.sat_solver.specs.joint.Naming.{global_of};
 ghost use Rattle.sat_solver.specs.joint.Fits.{FitsParts, HaveNames};
-ghost use Rattle.sat_solver.specs.search.Going.{Goes, GoesOr};
+ghost use Rattle.sat_solver.specs.search.Going.{Goes};
 ghost use Rattle.sat_solver.specs.search.Joint.{IsSearch};
 ghost use Rattle.sat_solver.specs.search.Turns.{IsStopped};
-ghost use Rattle.sat_solver.specs.search.Rounds.{LastRefutes, RoundSays};
+ghost use Rattle.sat_solver.specs.search.Rounds.{LastRefutes, RoundGoes};
 ghost use Rattle.sat_solver.specs.search.Ending.{EndsRound};
 ghost use Rattle.sat_solver.specs.simplify.Passes.{StandTogether};
 
@@ -67,7 +66,7 @@ fn resolve<W: CountedWrite + Drop, P: ProofProcessor>(
 ) -> Result<Outcome, SolverError>
     requires keeps { Keeps proof.old }
     requires stopped { IsStopped (session_of proof.old) search.old conflict.now }
-    ensures { GoesOr (IsFull search.new.parts) W.seen result proof.old proof.new (λ outcome steps. RoundSays outcome (steps_of proof.old) steps (session_of proof.new) search.old search.new) }
+    ensures { RoundGoes W.seen result proof.old proof.new search.old search.new }
 {
     if search.parts.trail.current_level() > 0 {
         learn_from(proof, search, conflict)?;
@@ -90,7 +89,7 @@ fn search_on<W: CountedWrite + Drop, P: ProofProcessor>(
 ) -> Result<Outcome, SolverError>
     requires keeps { Keeps proof.old }
     requires search { IsSearch (session_of proof.old) search.old }
-    ensures { GoesOr (IsFull search.new.parts) W.seen result proof.old proof.new (λ outcome steps. RoundSays outcome (steps_of proof.old) steps (session_of proof.new) search.old search.new) }
+    ensures { RoundGoes W.seen result proof.old proof.new search.old search.new }
 {
     let stop = find_stop(proof, search)?;
     match stop {

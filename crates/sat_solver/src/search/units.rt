@@ -1,5 +1,5 @@
 //! Units of level 0 are written, and taken off the trail.
-ghost use Rattle.std.specs.Prelude.{ℕ, ◌≡◌, ◌+◌, ◌<◌, ◌≤◌, length};
+ghost use Rattle.std.specs.Prelude.{◌≡◌, ◌+◌, ◌<◌, ◌≤◌, length};
 ghost use Rattle.sat_solver.specs.session.ProofView.{Keeps, session_of};
 ghost use Rattle.sat_solver.specs.parts.Round.{AreUnits, IsBased};
 ghost use Rattle.sat_solver.specs.parts.Whole.{state, HoldsBelow, IsDone};
