@@ -1,14 +1,20 @@
 -- A search at level 0 whose trail is empty.
-use Rattle.std.specs.Prelude.{ℕ, ◌≡◌, ◌≢◌, ◌<◌, ◌≤◌, [], length, slice_index_or as get_or}
+use Rattle.std.specs.Prelude.{ℕ, ◌≡◌, ◌≢◌, ◌<◌, ◌≤◌, [], length, Result, slice_index_or as get_or}
 use Rattle.std.specs.List.{Contains}
+use Rattle.sat_base.specs.device.Device.{Writer}
+use Rattle.sat_checker.specs.declared.processing.ProofProcessor.{Ghosts}
 use Rattle.sat_parts.specs.clause.Db.{live_refs}
 use Rattle.sat_solver.specs.declared.parts.Parts.{Parts}
-use Rattle.sat_solver.specs.parts.Frame.{SameState}
+use Rattle.sat_solver.specs.parts.Frame.{SameState, Removed}
 use Rattle.sat_solver.specs.parts.Words.{ExtendsFor}
+use Rattle.sat_solver.specs.session.ProofView.{session_of}
 use Rattle.sat_solver.specs.session.Session.{Session}
+use Rattle.sat_solver.specs.declared.session.proof.Proof.{Proof}
+use Rattle.sat_solver.specs.declared.error.SolverError.{SolverError}
 use Rattle.sat_solver.specs.parts.Whole.{Holds}
 use Rattle.sat_solver.specs.joint.Fits.{ArePaired}
 use Rattle.sat_solver.specs.joint.Listed.{LeftParts}
+use Rattle.sat_solver.specs.search.Going.{Goes}
 use Rattle.sat_solver.specs.search.Joint.{assumed_in, global_in, IsSearch, Moved}
 use Rattle.sat_solver.specs.declared.search.work.Search.{Search}
 use Rattle.sat_solver.specs.simplify.Looks.{IsOpenAt}
@@ -37,11 +43,19 @@ pub record Lighter (s : Session) (c c' : Search) : Type 0 where
   pub state : SameState c.parts c'.parts
   pub refs : c'.parts.db.refs ≡ c.parts.db.refs
 
--- the same of one long clause: of what is left of it no literal has a value, and other clauses are as they were, but for their order
+-- the same by steps of clauses of two literals, of which those went that have a variable with a value
+abbrev pub RemovesPairs : {W L : Type 0} {G : Ghosts L} → (W → Writer) → Result (Unit {0}) SolverError → Proof W L G → Proof W L G → Search → Search → Type 0
+RemovesPairs seen r p p' c c' = Goes seen r p p' (λ _ _. Lighter (session_of p') c c' × Removed c.parts c'.parts)
+
+-- one long clause went or lost literals: of what is left of it no literal has a value, and other clauses are as they were, but for their order
 pub record Lightens (s : Session) (c c' : Search) (o : ℕ) : Type 0 where
   pub lighter : Lighter s c c'
   pub left : Contains (live_refs c'.parts.clauses c'.parts.db.refs) o → IsOpenAt c'.parts o
   pub others : (p : ℕ) → p ≢ o → Contains (live_refs c'.parts.clauses c'.parts.db.refs) p → Contains (live_refs c.parts.clauses c.parts.db.refs) p × (IsOpenAt c.parts p → IsOpenAt c'.parts p)
+
+-- and its steps were made
+abbrev pub LightensOne : {W L : Type 0} {G : Ghosts L} → (W → Writer) → Result (Unit {0}) SolverError → Proof W L G → Proof W L G → Search → Search → (o : ℕ) → Type 0
+LightensOne seen r p p' c c' o = Goes seen r p p' (λ _ _. Lightens (session_of p') c c' o)
 
 -- of the live clauses among the first so many of the list no literal has a value
 abbrev pub AreOpenTo : Search → Search → ℕ → Type 0

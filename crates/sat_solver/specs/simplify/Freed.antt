@@ -1,5 +1,5 @@
 -- Indices are given up.
-use Rattle.std.specs.Prelude.{ℕ, ◌≡◌, ◌≢◌, ◌<◌, ◌==◌, Bool, true, Some, None, List, if◌then◌else◌}
+use Rattle.std.specs.Prelude.{ℕ, ◌≡◌, ◌≢◌, ◌<◌, ◌==◌, Bool, true, Some, None, List, length, if◌then◌else◌}
 use Rattle.sat_base.specs.values.Literals.{coded}
 use Rattle.sat_base.specs.steps.Steps.{Step}
 use Rattle.sat_checker.specs.LiteralSets.{mentions}
@@ -8,10 +8,9 @@ use Rattle.sat_solver.specs.session.Session.{Session, session_after}
 use Rattle.sat_solver.specs.names.Calls.{Stands, DoesNothing}
 use Rattle.sat_solver.specs.names.Variables.{solver_of, global_at, indices_used}
 use Rattle.sat_solver.specs.declared.names.Variables.{Variables}
-use Rattle.sat_parts.specs.clause.Db.{live_refs}
 use Rattle.sat_solver.specs.declared.parts.Parts.{Parts}
 use Rattle.sat_solver.specs.joint.Quiet.{ComesQuietly}
-use Rattle.sat_solver.specs.parts.Round.{IsUnused as InNoClause}
+use Rattle.sat_solver.specs.parts.Whole.{InNoClause}
 use Rattle.sat_solver.specs.parts.Frame.{SameClauses}
 use Rattle.sat_solver.specs.parts.Words.{ExtendsFor}
 use Rattle.sat_solver.specs.search.Joint.{assumed_in, IsSearch, Moved}
@@ -71,4 +70,8 @@ IsLeft n s x = (v : ℕ) → global_at n x ≡ Some v → mentions s.assumed v �
 
 -- of the first so many indices each is of a variable that a clause has, or that is assumed
 abbrev pub AreLeft : Variables → Session → Parts → ℕ → Type 0
-AreLeft n s p at = (x : ℕ) → x < at → InNoClause p.clauses (live_refs p.clauses p.db.refs) p.binary.implied x → IsLeft n s x
+AreLeft n s p at = (x : ℕ) → x < at → InNoClause p x → IsLeft n s x
+
+-- the same of all indices
+abbrev pub AllLeft : Variables → Session → Parts → Type 0
+AllLeft n s p = AreLeft n s p (length p.assignment.current)

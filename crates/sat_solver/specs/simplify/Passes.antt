@@ -20,7 +20,7 @@ use Rattle.sat_solver.specs.search.Turns.{IsStopped, IsPropagated}
 use Rattle.sat_solver.specs.declared.search.work.Search.{Search}
 use Rattle.sat_solver.specs.loading.Shared.{SharesIndices}
 use Rattle.sat_solver.specs.simplify.Flat.{IsFlat}
-use Rattle.sat_solver.specs.simplify.Freed.{KeepsAsked, AreLeft}
+use Rattle.sat_solver.specs.simplify.Freed.{KeepsAsked, AllLeft}
 use Rattle.sat_solver.specs.simplify.Looks.{IsOpenAt}
 
 -- names, proof and search stand together
@@ -64,7 +64,7 @@ pub record Simplified {W L : Type 0} {G : Ghosts L} (seen : W → Writer) (n n' 
   pub passes : Passes seen n n' p p' c c'
   pub flat : IsFlat c'.parts
   pub left : (o : ℕ) → Contains (live_refs c'.parts.clauses c'.parts.db.refs) o → IsOpenAt c'.parts o
-  pub indices : AreLeft n' (session_of p') c'.parts (length c'.parts.assignment.current)
+  pub indices : AllLeft n' (session_of p') c'.parts
 
 abbrev pub Simplifies : {W L : Type 0} {G : Ghosts L} → (W → Writer) → Result (Unit {0}) SolverError → Variables → Variables → Proof W L G → Proof W L G → Search → Search → Type 0
 Simplifies seen r n n' p p' c c' = MatchResult r (λ _. Simplified seen n n' p p' c c') (λ e. Falls seen e p p')

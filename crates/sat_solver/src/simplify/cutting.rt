@@ -1,16 +1,12 @@
 //! Long clauses lose their false literals.
 ghost use Rattle.std.specs.Prelude.{ℕ, ◌≡◌, ◌<◌, ◌≤◌, OnOk, IfOk, length};
-ghost use Rattle.std.specs.List.{Contains};
-ghost use Rattle.sat_parts.specs.clause.Db.{live_refs};
 ghost use Rattle.sat_parts.specs.clause.Stored.{lit_of, size_of};
-ghost use Rattle.sat_parts.specs.prop.State.{HasLeft};
-ghost use Rattle.sat_parts.specs.prop.Values.{IsTrueLit, IsOpenLit};
+ghost use Rattle.sat_parts.specs.prop.Values.{IsOpenLit};
 ghost use Rattle.sat_solver.specs.session.ProofView.{Keeps, session_of};
-ghost use Rattle.sat_solver.specs.parts.Whole.{state, Holds};
-ghost use Rattle.sat_solver.specs.search.Going.{Goes};
+ghost use Rattle.sat_solver.specs.parts.Whole.{Holds, HasClause};
 ghost use Rattle.sat_solver.specs.search.Joint.{IsSearch};
 ghost use Rattle.sat_solver.specs.simplify.Cutting.{Gathers, Replaces, NamesCut};
-ghost use Rattle.sat_solver.specs.simplify.Flat.{IsFlat, Lightens};
+ghost use Rattle.sat_solver.specs.simplify.Flat.{IsFlat, LightensOne};
 ghost use Rattle.sat_solver.specs.simplify.Looks.{HasTrue, HasFalse};
 
 use crate::SolverError;
@@ -31,7 +27,7 @@ use std::alloc::AllocError;
 /// Brings the open literals of a clause to its front, in order, of which the first two are there. Answers how many they are.
 fn gather_open(parts: &mut Parts, cref: ClauseRef) -> usize
     requires holds { Holds parts.old }
-    requires live { Contains (live_refs parts.old.clauses parts.old.db.refs) cref }
+    requires live { HasClause parts.old cref }
     requires none { HasTrue parts.old cref → ⊥ }
     requires front { (k : ℕ) → k < 2 → IsOpenLit parts.old.assignment.current (lit_of parts.old.clauses cref k) }
     ensures gathers { Gathers parts.old parts.new cref result (size_of parts.old.clauses cref) }
@@ -54,7 +50,7 @@ fn name_cut(search: &mut Search, cref: ClauseRef, part: &mut Vec<Lit>) -> Result
     requires holds { Holds search.old.parts }
     requires flat { IsFlat search.old.parts }
     requires names { length search.old.parts.assignment.current ≤ length search.old.globals.items }
-    requires live { Contains (live_refs search.old.parts.clauses search.old.parts.db.refs) cref }
+    requires live { HasClause search.old.parts cref }
     requires none { HasTrue search.old.parts cref → ⊥ }
     ensures same { search.new ≡ record search.old { parts = search.new.parts; scratch = search.new.scratch } }
     ensures named { IfOk result (λ len. NamesCut search.old search.new part.new.items cref len) }
@@ -77,7 +73,7 @@ fn name_cut(search: &mut Search, cref: ClauseRef, part: &mut Vec<Lit>) -> Result
 fn replace(parts: &mut Parts, cref: ClauseRef, len: usize) -> Result<(), AllocError>
     requires holds { Holds parts.old }
     requires flat { IsFlat parts.old }
-    requires live { Contains (live_refs parts.old.clauses parts.old.db.refs) cref }
+    requires live { HasClause parts.old cref }
     requires some { 2 ≤ len }
     requires within { len ≤ size_of parts.old.clauses cref }
     requires front { (k : ℕ) → k < 2 → IsOpenLit parts.old.assignment.current (lit_of parts.old.clauses cref k) }
@@ -103,10 +99,10 @@ pub fn cut_clause<W: CountedWrite + Drop, P: ProofProcessor>(
     requires keeps { Keeps proof.old }
     requires search { IsSearch (session_of proof.old) search.old }
     requires flat { IsFlat search.old.parts }
-    requires live { Contains (live_refs search.old.parts.clauses search.old.parts.db.refs) cref }
+    requires live { HasClause search.old.parts cref }
     requires none { HasTrue search.old.parts cref → ⊥ }
     requires some { HasFalse search.old.parts cref }
-    ensures { Goes W.seen result proof.old proof.new (λ _ _. Lightens (session_of proof.new) search.old search.new cref) }
+    ensures { LightensOne W.seen result proof.old proof.new search.old search.new cref }
 {
     let len = name_cut(search, cref, part)?;
     let redundant = search.parts.clauses.header(cref).redundant();

@@ -1,13 +1,11 @@
 //! Variables that are in no clause lose their indices.
-ghost use Rattle.std.specs.Prelude.{ℕ, ◌≡◌, ◌<◌, ◌≤◌, IfErr, OnOk, Some, false, length};
-ghost use Rattle.sat_parts.specs.clause.Db.{live_refs};
-ghost use Rattle.sat_solver.specs.parts.Round.{IsUnused as InNoClause};
+ghost use Rattle.std.specs.Prelude.{◌≡◌, ◌<◌, IfErr, OnOk, Some, length};
 ghost use Rattle.sat_solver.specs.session.Session.{session_after};
-ghost use Rattle.sat_solver.specs.names.Variables.{solver_of, data_at, IsUnitOf, IsUnused};
+ghost use Rattle.sat_solver.specs.names.Variables.{solver_of, IsUnitOf, IsUnused};
 ghost use Rattle.sat_solver.specs.names.Calls.{Stands};
 ghost use Rattle.sat_solver.specs.names.Failing.{IsFailure, Came};
-ghost use Rattle.sat_solver.specs.simplify.Flat.{IsFlat};
-ghost use Rattle.sat_solver.specs.simplify.Freed.{GivesUp, MayFree, FreesSome, IsLeft, AreLeft};
+ghost use Rattle.sat_solver.specs.parts.Whole.{InNoClause};
+ghost use Rattle.sat_solver.specs.simplify.Freed.{GivesUp, MayFree, FreesSome, IsLeft, AllLeft};
 
 use crate::names::Variables;
 use crate::names::error::NameError;
@@ -53,7 +51,7 @@ fn free_unused<S: StepWriter>(
     requires keeps { S.keeps writer.old }
     requires may { MayFree variables.old (S.steps writer.old) search.old }
     requires there { index < length search.old.parts.assignment.current }
-    requires unused { InNoClause search.old.parts.clauses (live_refs search.old.parts.clauses search.old.parts.db.refs) search.old.parts.binary.implied index }
+    requires unused { InNoClause search.old.parts index }
     ensures frees { OnOk result (FreesSome variables.old variables.new (S.steps writer.old) (S.steps writer.new) search.old search.new) }
     ensures left { OnOk result (IsLeft variables.new (session_after (S.steps writer.old)) index) }
     ensures keeps { OnOk result (S.keeps writer.new) }
@@ -82,7 +80,7 @@ pub fn free_indices<S: StepWriter>(
     requires keeps { S.keeps writer.old }
     requires may { MayFree variables.old (S.steps writer.old) search.old }
     ensures frees { OnOk result (FreesSome variables.old variables.new (S.steps writer.old) (S.steps writer.new) search.old search.new) }
-    ensures left { OnOk result (AreLeft variables.new (session_after (S.steps writer.old)) search.old.parts (length search.old.parts.assignment.current)) }
+    ensures left { OnOk result (AllLeft variables.new (session_after (S.steps writer.old)) search.old.parts) }
     ensures keeps { OnOk result (S.keeps writer.new) }
     ensures fails { IfErr result IsFailure }
     ensures came { Came S.took S.broke result writer.old writer.new }

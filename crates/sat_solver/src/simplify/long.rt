@@ -1,11 +1,10 @@
 //! Long clauses go that units made true, and others lose the literals that units made false.
-ghost use Rattle.std.specs.List.{Contains};
-ghost use Rattle.sat_parts.specs.clause.Db.{live_refs};
 ghost use Rattle.sat_solver.specs.session.ProofView.{Keeps, session_of};
 ghost use Rattle.sat_solver.specs.search.Going.{Goes};
 ghost use Rattle.sat_solver.specs.search.Joint.{IsSearch};
-ghost use Rattle.sat_solver.specs.simplify.Flat.{IsFlat, Lightens, LightensAll};
+ghost use Rattle.sat_solver.specs.simplify.Flat.{IsFlat, LightensAll, LightensOne};
 ghost use Rattle.sat_solver.specs.simplify.Looks.{HasTrue};
+ghost use Rattle.sat_solver.specs.parts.Whole.{HasClause};
 
 use crate::SolverError;
 use crate::parts::clauses::delete_long;
@@ -29,9 +28,9 @@ fn delete_true<W: CountedWrite + Drop, P: ProofProcessor>(
     requires keeps { Keeps proof.old }
     requires search { IsSearch (session_of proof.old) search.old }
     requires flat { IsFlat search.old.parts }
-    requires live { Contains (live_refs search.old.parts.clauses search.old.parts.db.refs) cref }
+    requires live { HasClause search.old.parts cref }
     requires satisfied { HasTrue search.old.parts cref }
-    ensures { Goes W.seen result proof.old proof.new (λ _ _. Lightens (session_of proof.new) search.old search.new cref) }
+    ensures { LightensOne W.seen result proof.old proof.new search.old search.new cref }
 {
     map_clause(
         &search.parts,
@@ -61,8 +60,8 @@ fn simplify_clause<W: CountedWrite + Drop, P: ProofProcessor>(
     requires keeps { Keeps proof.old }
     requires search { IsSearch (session_of proof.old) search.old }
     requires flat { IsFlat search.old.parts }
-    requires live { Contains (live_refs search.old.parts.clauses search.old.parts.db.refs) cref }
-    ensures { Goes W.seen result proof.old proof.new (λ _ _. Lightens (session_of proof.new) search.old search.new cref) }
+    requires live { HasClause search.old.parts cref }
+    ensures { LightensOne W.seen result proof.old proof.new search.old search.new cref }
 {
     match look(&search.parts, cref) {
         Looks::Whole => Ok(()),

@@ -1,10 +1,8 @@
 //! What long clauses look like at level 0.
 ghost use Rattle.std.specs.Prelude.{ℕ, ◌<◌};
-ghost use Rattle.std.specs.List.{Contains};
-ghost use Rattle.sat_parts.specs.clause.Db.{live_refs};
 ghost use Rattle.sat_parts.specs.clause.Stored.{lit_of, size_of};
 ghost use Rattle.sat_parts.specs.prop.Values.{IsTrueLit, IsFalseLit};
-ghost use Rattle.sat_solver.specs.parts.Whole.{Holds};
+ghost use Rattle.sat_solver.specs.parts.Whole.{Holds, HasClause};
 ghost use Rattle.sat_solver.specs.simplify.Looks.{LooksSo};
 
 use crate::parts::Parts;
@@ -24,7 +22,7 @@ pub enum Looks {
 /// Looks for a true literal from a place on, at which a literal is false.
 fn look_on(parts: &Parts, cref: ClauseRef, from: usize) -> Looks
     requires holds { Holds parts.now }
-    requires live { Contains (live_refs parts.now.clauses parts.now.db.refs) cref }
+    requires live { HasClause parts.now cref }
     requires before { (k : ℕ) → k < from → IsTrueLit parts.now.assignment.current (lit_of parts.now.clauses cref k) → ⊥ }
     requires within { from < size_of parts.now.clauses cref }
     requires there { IsFalseLit parts.now.assignment.current (lit_of parts.now.clauses cref from) }
@@ -41,7 +39,7 @@ fn look_on(parts: &Parts, cref: ClauseRef, from: usize) -> Looks
 /// Looks at the literals of a clause.
 pub fn look(parts: &Parts, cref: ClauseRef) -> Looks
     requires holds { Holds parts.now }
-    requires live { Contains (live_refs parts.now.clauses parts.now.db.refs) cref }
+    requires live { HasClause parts.now cref }
     ensures { LooksSo result parts.now cref }
 {
     for at in 0..parts.clauses.len(cref) {

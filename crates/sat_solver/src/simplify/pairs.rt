@@ -1,13 +1,12 @@
 //! Clauses of two literals go that units made true.
-ghost use Rattle.std.specs.Prelude.{ℕ, ◌≡◌, ◌+◌, ◌<◌, length};
+ghost use Rattle.std.specs.Prelude.{◌≡◌, ◌+◌, ◌<◌, length};
 ghost use Rattle.sat_base.specs.values.Literals.{variable};
 ghost use Rattle.sat_parts.specs.prop.Binaries.{implied_by};
 ghost use Rattle.sat_solver.specs.acceptance.SolverClauses.{pair, is_open_clause};
 ghost use Rattle.sat_solver.specs.session.ProofView.{Keeps, session_of};
-ghost use Rattle.sat_solver.specs.parts.Frame.{Removed};
 ghost use Rattle.sat_solver.specs.search.Going.{Goes};
 ghost use Rattle.sat_solver.specs.search.Joint.{IsSearch};
-ghost use Rattle.sat_solver.specs.simplify.Flat.{IsFlat, MayRemove, LeavesPairs, Lighter};
+ghost use Rattle.sat_solver.specs.simplify.Flat.{IsFlat, MayRemove, LeavesPairs, RemovesPairs};
 
 use crate::SolverError;
 use crate::loading::clause::delete_satisfied;
@@ -82,7 +81,7 @@ pub fn delete_pairs<W: CountedWrite + Drop, P: ProofProcessor>(
     requires keeps { Keeps proof.old }
     requires search { IsSearch (session_of proof.old) search.old }
     requires flat { IsFlat search.old.parts }
-    ensures { Goes W.seen result proof.old proof.new (λ _ _. Lighter (session_of proof.new) search.old search.new × Removed search.old.parts search.new.parts) }
+    ensures { RemovesPairs W.seen result proof.old proof.new search.old search.new }
 {
     let count = 2 * search.parts.assignment.assignment().len();
     for code in 0..count {

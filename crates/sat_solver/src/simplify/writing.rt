@@ -1,11 +1,11 @@
 //! The steps of clauses that go, or lose literals.
-ghost use Rattle.std.specs.Prelude.{ℕ, ◌≡◌, ◌∷◌, ◌&&◌, true, nat_lt};
+ghost use Rattle.std.specs.Prelude.{◌≡◌, ◌&&◌, true, nat_lt};
 ghost use Rattle.sat_base.specs.steps.StepViews.{deletion_of};
 ghost use Rattle.sat_base.specs.steps.Steps.{Simplified};
-ghost use Rattle.sat_solver.specs.session.ProofView.{Keeps, steps_of, session_of};
+ghost use Rattle.sat_solver.specs.session.ProofView.{Keeps, session_of};
 ghost use Rattle.sat_solver.specs.joint.Quiet.{are_few};
-ghost use Rattle.sat_solver.specs.search.Going.{AreNamed, Goes};
-ghost use Rattle.sat_solver.specs.simplify.Cuts.{deletion, deleted_step, derived_step, MayCut};
+ghost use Rattle.sat_solver.specs.search.Going.{AreNamed};
+ghost use Rattle.sat_solver.specs.simplify.Cuts.{deletion, MayCut, WritesCut};
 
 use crate::SolverError;
 use crate::search::fault::proof_fault;
@@ -42,7 +42,7 @@ pub fn write_cut<W: CountedWrite + Drop, P: ProofProcessor>(
     requires named { AreNamed (session_of proof.old).solver_names part.now }
     requires may { MayCut (session_of proof.old) redundant part.now scratch.now.hashes.items scratch.now.clause.items }
     requires few { are_few scratch.now.hashes.items ≡ true }
-    ensures { Goes W.seen result proof.old proof.new (λ _ _. steps_of proof.new ≡ deleted_step redundant Simplified scratch.now.clause.items ∷ derived_step redundant part.now scratch.now.hashes.items ∷ steps_of proof.old) }
+    ensures { WritesCut W.seen result proof.old proof.new redundant part.now scratch.now.hashes.items scratch.now.clause.items }
 {
     let derived = ProofStep::AtClause {
         redundant: left_redundant(redundant, part.len()),
