@@ -40,7 +40,8 @@ fn is_used(used: bool, users: &[Var]) -> bool
 
 impl<W: CountedWrite + Drop, P: ProofProcessor> Solver<W, P> {
     /// Brings a name in, and hides it: its variable stays in the clauses, and the name may become that of a new variable. A variable
-    /// without an index, which is in no clause, is deleted at once. What is known of an answer stays. `AssumedVariable` where the name is assumed. `VariableLimit` where a variable is lacking for a name that would come in.
+    /// without an index, which is in no clause, is deleted at once. What is known of an answer stays. `AssumedVariable` where the name
+    /// is assumed. `VariableLimit` where a variable is lacking for a name that would come in.
     pub fn hide_var(&mut self, user: Var) -> Result<(), SolverError>
         requires { IsSolver self.old }
         ensures solver { IsSolver self.new }
