@@ -48,7 +48,7 @@ pub fn grow(alloc: Global, parts: &mut Parts, count: usize) -> Result<(), AllocE
     parts.vsids.set_var_count(count)
 }
 
-/// No variables and no clauses.
+/// No variables and no clauses. Watch lists are built by the first propagation.
 pub fn no_parts(alloc: Global) -> Parts
     ensures holds { Holds result }
     ensures none { result.assignment.current ≡ [] }
@@ -56,10 +56,12 @@ pub fn no_parts(alloc: Global) -> Parts
     ensures implied { result.binary.implied ≡ [] }
     ensures trail { result.trail ≡ no_trail }
 {
+    let mut watchlists = Watchlists::new(alloc);
+    watchlists.disable();
     Parts {
         clauses: ClauseAlloc::new(alloc),
         db: ClauseDb::new(alloc),
-        watchlists: Watchlists::new(alloc),
+        watchlists,
         binary: BinaryClauses::new(alloc),
         assignment: Assignment::new(alloc),
         graph: ImplGraph::new(alloc),
