@@ -1,7 +1,7 @@
 pub mod StepsLeft
 pub mod Hiding
 pub mod Advancing
-pub mod UnknownAsks
+pub mod Learning
 pub mod FinishedRun
 pub mod Running
 pub mod Unfinished

@@ -10,6 +10,7 @@ use Rattle.sat_checker.specs.Stored.{Stored, unit_literals, long_clauses}
 use Rattle.sat_checker.specs.Propagation.{IsFalsified, IsUnit}
 use Rattle.sat_checker.specs.Accepts.{ready_after}
 use Rattle.sat_checker.specs.matching.Checking.{is_ordered}
+use Rattle.sat_solver.specs.joint.Quiet.{others_of}
 
 -- stored clauses that are unit in turn under the first literals lead to the second
 pub data Leads (f : Stored) : List ℕ → List ℕ → Type 0 where
@@ -26,23 +27,24 @@ pub record IsOpenStill (f : Stored) (literal : ℕ) (reached : List ℕ) : Type 
   pub not_false : is_among reached (negated literal) ≡ false
   pub no_conflict : (clause : List ℕ) → Among clause (long_clauses f) → IsFalsified reached clause → ⊥
 
--- For some literal of the clause the stored units and the negations of its other literals agree and leave that literal open, and no stored
--- clauses that are unit in turn under them assign it or falsify a clause.
-pub record Advances (f : Stored) (clause : List ℕ) : Type 0 where
-  pub literal : ℕ
-  pub others : List ℕ
-  pub is : clause ≡ literal ∷ others
+-- The stored units and the negations of these literals agree and leave that one open, and no stored clauses that are unit in turn under
+-- them assign it or falsify a clause.
+pub record LeavesOpen (f : Stored) (others : List ℕ) (literal : ℕ) : Type 0 where
   pub agree : (l : ℕ) → is_among (supposed f others) l ≡ true → is_among (supposed f others) (negated l) ≡ false
   pub open_still : (reached : List ℕ) → Leads f (supposed f others) reached → IsOpenStill f literal reached
+
+-- the others of some literal of the clause leave that one open
+abbrev pub Advances : Stored → List ℕ → Type 0
+Advances f clause = (literal : ℕ) × (is_among clause literal ≡ true) × LeavesOpen f (others_of literal clause) literal
 
 abbrev pub IsAdvancing : Stored → Step → Type 0
 IsAdvancing f (AtClause redundant clause hashes) = Advances f clause
 IsAdvancing f step = ⊥
 
--- at least so many of these steps are derived clauses that advance, each behind the steps before it
+-- exactly so many of these steps are derived clauses that advance, each behind the steps before it
 abbrev pub AdvanceTimes : (earlier steps : List Step) → ℕ → Type 0
 AdvanceTimes earlier [] k = k ≡ 0
-AdvanceTimes earlier (step ∷ steps) k = AdvanceTimes earlier steps k
+AdvanceTimes earlier (step ∷ steps) k = (AdvanceTimes earlier steps k × (IsAdvancing (ready_after (steps ++ earlier)) step → ⊥))
     ⊎ ((j : ℕ) × (k ≡ j + 1) × IsAdvancing (ready_after (steps ++ earlier)) step × AdvanceTimes earlier steps j)
 
 -- none of them is expected of a script and its answers

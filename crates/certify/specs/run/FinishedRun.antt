@@ -17,7 +17,7 @@ use Rattle.sat_solver.specs.session.Counting.{start as uncounted, Cuts}
 use Rattle.sat_base.specs.script.Language.{reading, written}
 use Rattle.certify.specs.run.Hiding.{HidesNothing}
 use Rattle.certify.specs.run.StepsLeft.{steps_left}
-use Rattle.certify.specs.run.UnknownAsks.{EachLearns}
+use Rattle.certify.specs.run.Learning.{EachLearns}
 use Rattle.certify.specs.serving.Certifies.{Certifies}
 use Rattle.certify.specs.serving.Stretches.{MadeFor}
 use Rattle.certify.specs.declared.fault.RunFault.{RunFault}
@@ -100,7 +100,7 @@ pub record Backs (text : List ℕ) (budget : ℕ) (summary : Summary) (answered 
   pub follows : MadeFor start [] made (accepted_of start (reading text).0) is_answered.outcomes (asked_steps summary.asks.items)
   pub counting : Counting
   pub cuts : Cuts uncounted (End ∷ made) steps counting
-  -- each step that an unknown ask took has derived a clause that advances, which stands in the certificate
+  -- each step that an ask took has derived a clause that advances, but for the one that answered, and no other clause of the ask does
   pub learns : EachLearns steps 0 is_answered.outcomes (asked_steps summary.asks.items)
   -- where no accepted command hides a name, no variable is deleted
   pub keeps : AllByRecursion HidesNothing (accepted_of start (reading text).0) → has_delete_var steps ≡ false

@@ -1,9 +1,9 @@
 -- Which steps a run's solver makes, command by command, with whole hashes. Lists of steps have the newest first.
-use Rattle.std.specs.Prelude.{ℕ, ◌<◌, ◌≡◌, Bool, true, false, List, [], ◌∷◌, ◌++◌, if◌then◌else◌}
+use Rattle.std.specs.Prelude.{ℕ, ◌+◌, ◌≡◌, Bool, true, false, List, [], ◌∷◌, ◌++◌, if◌then◌else◌}
 use Rattle.sat_base.specs.script.Script.{Literal, Command, Clause, Ask, Hide, Witness, Sample, Among, names_of}
 use Rattle.sat_base.specs.script.Judge.{Judge, Sampled, Witnessed, accepted}
 use Rattle.sat_base.specs.steps.Steps.{Step}
-use Rattle.sat_checker.specs.matching.Expected.{Outcome, Unsat, Unknown, Expected, Adds, Opens, Closes, bringing, hiding, setting, showing}
+use Rattle.sat_checker.specs.matching.Expected.{Outcome, Sat, Unsat, Unknown, Expected, Adds, Opens, Closes, bringing, hiding, setting, showing}
 use Rattle.sat_checker.specs.matching.ProofChecking.{the_checking}
 use Rattle.sat_checker.specs.matching.Traces.{HasTrace}
 use Rattle.sat_solver.specs.names.Coming.{MayAdd, MayHide, MaySet, MayTake}
@@ -49,6 +49,19 @@ MayFor (Sample names) = MaySetOne names true
 abbrev pub showing_if : Bool → Judge → List Literal → Outcome → List Expected
 showing_if unsat j ask o = if unsat then [] else showing j ask o
 
+-- Each round of an ask derives a clause that advances, but for the one that answers. There is none once unsat is recorded.
+abbrev pub Learns : (unsat : Bool) → Outcome → (rounds learned : ℕ) → Type 0
+Learns true o rounds learned = (rounds ≡ 0) × (learned ≡ 0)
+Learns false Unknown rounds learned = rounds ≡ learned
+Learns false (Sat line) rounds learned = rounds ≡ learned + 1
+Learns false (Unsat core) rounds learned = rounds ≡ learned + 1
+
+-- exactly so many of the steps between these do
+pub record Learned (unsat : Bool) (o : Outcome) (rounds : ℕ) (opened shown : List Step) : Type 0 where
+  pub learned : ℕ
+  pub times : AdvancesIn opened shown learned
+  pub counts : Learns unsat o rounds learned
+
 -- Its names come in, with indices, and it is opened; the search makes whatever other steps, but none behind recorded unsat, and
 -- its outcome is shown; it is closed.
 pub record AskStretches (j : Judge) (ls : List Literal) (o : Outcome) (rounds : ℕ) (from to : List Step) : Type 0 where
@@ -60,9 +73,7 @@ pub record AskStretches (j : Judge) (ls : List Literal) (o : Outcome) (rounds : 
   -- what was recorded before is its outcome, without a round, and so is what the search records
   pub known : the_checking.unsat opened ≡ true → IsKnown o rounds
   pub recorded : the_checking.unsat shown ≡ true → o ≡ Unsat []
-  -- an answer that wasn't known takes a round, and where there is none each round has derived a clause that advances
-  pub sought : the_checking.unsat opened ≡ false → (o ≡ Unknown → ⊥) → 0 < rounds
-  pub spent : o ≡ Unknown → AdvancesIn opened shown rounds
+  pub learns : Learned (the_checking.unsat opened) o rounds opened shown
 
 -- ALL COMMANDS
 

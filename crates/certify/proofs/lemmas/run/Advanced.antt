@@ -1,33 +1,37 @@
--- Derived clauses that advance do so in what is written.
-use Rattle.std.proofs.Common.{ℕ, ◌+◌, ◌<◌, ◌≡◌, ◌∙◌, ◌⊎◌, Bool, true, false, Option, Some, None, List, [], ◌∷◌, ◌++◌, map, refl, sym, ap, subst, inl, inr, append_assoc, arith}
+-- Derived clauses advance in what is written where they do in what was made, and nowhere else.
+use Rattle.std.proofs.Common.{ℕ, ◌+◌, ◌<◌, ◌≡◌, ◌∙◌, ◌⊎◌, Bool, true, false, eqb, cond, Option, Some, None, List, [], ◌∷◌, ◌++◌, map, refl, sym, ap, subst, inl, inr, arith}
+use Rattle.std.proofs.lemmas.Bool.{eq-eqb, eqb-true, or_left, true≢false}
 use Rattle.std.specs.Prelude.{◌==◌, ◌||◌, nat_eq, if◌then◌else◌}
 use Rattle.std.specs.List.{AllByRecursion}
 use Rattle.sat_base.specs.values.Literals.{negated}
 use Rattle.sat_base.specs.script.Script.{Among}
 use Rattle.sat_base.specs.steps.Steps.{Redundant, Simplified, Satisfied, Step, SolverVarName, UserVarName, DeleteVar, ChangeSamplingMode, AddClause, AtClause, UnitClauses, DeleteClause, ChangeHashBits, Model, Assumptions, FailedAssumptions, End}
-use Rattle.sat_checker.specs.LiteralSets.{is_among, is_tautology, canonical}
+use Rattle.sat_checker.specs.LiteralSets.{is_among, is_tautology, canonical, same_literals}
 use Rattle.sat_checker.specs.Stored.{Stored, StoredClause, is_unit, unit_literals, long_clauses}
 use Rattle.sat_checker.specs.Storing.{clause_with, irredundant_count, redundant_count}
+use Rattle.sat_checker.specs.Propagation.{IsFalsified, IsUnit}
 use Rattle.sat_checker.specs.Accepts.{ready_after}
-use Rattle.sat_checker.specs.matching.Checking.{is_ordered}
-use Rattle.std.proofs.lemmas.List.{append_cancel_right}
 use Rattle.sat_checker.specs.Contents.{Contents, contents, contents_after, contents_of, clause_more, set_more, unit_more, units_more, literals_known, count_of, one_more}
 use Rattle.sat_checker.specs.Invariants.{IsProper}
 use Rattle.sat_checker.proofs.lemmas.contents.Steps.{contents_of_steps}
 use Rattle.sat_checker.proofs.lemmas.contents.Counts.{found}
 use Rattle.sat_checker.proofs.lemmas.invariants.Counted.{tidy_clauses}
 use Rattle.sat_checker.proofs.lemmas.invariants.Proper.{all_proper}
+use Rattle.sat_checker.proofs.lemmas.meaning.Clauses.{same as same_lists}
+use Rattle.sat_checker.proofs.lemmas.sets.Canonical.{canonical_among}
 use Rattle.sat_checker.proofs.lemmas.sets.Marks.{once}
+use Rattle.sat_checker.proofs.lemmas.sets.Members.{canonical_each}
 use Rattle.sat_checker.proofs.lemmas.sets.Order.{among-append}
 use Rattle.sat_checker.proofs.lemmas.sets.Rising.{canonical_stays}
 use Rattle.sat_solver.specs.session.Session.{Session, changed, after, last_after, session_after, with_clause, with_sorted, with_fact, with_facts, with_live, IsLive, denied}
 use Rattle.sat_solver.specs.session.Widths.{narrowed, KeepsWidth, kept_bits}
-use Rattle.sat_solver.specs.session.Counting.{Cuts, none_made, ask_begun, one_made, width_told, written_for, counted}
+use Rattle.sat_solver.specs.session.Counting.{Cuts, none_made, ask_begun, one_made, counted}
 use Rattle.sat_solver.specs.joint.Advancing as made
+use Rattle.sat_solver.specs.joint.Quiet.{NeverAdvances, others_of}
 use Rattle.sat_solver.specs.search.Solving as made_steps
 use Rattle.sat_solver.specs.declared.session.counting.Counting.{Counting}
-use Rattle.sat_solver.specs.search.Solving.{AdvancesIn}
-use Rattle.certify.specs.run.Advancing.{Leads, leads_none, leads_one, supposed, Advances, IsAdvancing, AdvanceTimes, AreUnordered}
+use Rattle.sat_solver.proofs.lemmas.session.Mapped.{among_mapped}
+use Rattle.certify.specs.run.Advancing.{Leads, leads_none, leads_one, supposed, IsOpenStill, LeavesOpen, Advances, IsAdvancing}
 
 -- A SESSION IS WHAT STEPS MAKE OF THE CONTENTS
 abbrev session_of : Contents → Option (List ℕ) → Session
@@ -141,13 +145,13 @@ after_wide w (FailedAssumptions core hashes) x c k = refl
 after_wide w End x c k = refl
 
 -- behind a width that is told
-told_wide : (same : Bool) (now : ℕ) (written : List Step) (c : Contents) (x : ℕ) → contents_of written ≡ wide x c
+pub told_wide : (same : Bool) (now : ℕ) (written : List Step) (c : Contents) (x : ℕ) → contents_of written ≡ wide x c
     → (y : ℕ) × (contents_of ((if same then [] else ChangeHashBits now ∷ []) ++ written) ≡ wide y c)
 told_wide true now written c x e = (x, e)
 told_wide false now written c x e = (now, ap (wide now) e)
 
 -- what was written has the contents of what was made, but for the width
-cuts_contents : {c d : Counting} {m w : List Step} → Cuts c m w d → (x : ℕ) × (contents_of w ≡ wide x (contents_of m))
+pub cuts_contents : {c d : Counting} {m w : List Step} → Cuts c m w d → (x : ℕ) × (contents_of w ≡ wide x (contents_of m))
 cuts_contents none_made = (64, refl)
 cuts_contents (ask_begun p) = cuts_contents p
 cuts_contents (one_made {d = d} {made = made} {written = written} step k p) =
@@ -161,7 +165,7 @@ pub record IsSame (f : Stored) (s : Session) : Type 0 where
   pub units : (l : ℕ) → is_unit f l ≡ s.units l
   pub live : (r : Bool) (set : List ℕ) → count_of r set f.clauses ≡ s.live r set
 
-is_same : (steps made : List Step) (x : ℕ) → contents_of steps ≡ wide x (contents_of made) → IsSame (ready_after steps) (session_after made)
+pub is_same : (steps made : List Step) (x : ℕ) → contents_of steps ≡ wide x (contents_of made) → IsSame (ready_after steps) (session_after made)
 is_same steps made x e =
     let s = session_is made in
     let c : contents (ready_after steps) ≡ wide x (contents_of made) = contents_of_steps steps ∙ e in
@@ -225,23 +229,49 @@ leads_on steps s same {start} {reached} (leads_one clause o a u rest) holds h =
 denied_is : (f : Stored) (s : Session) → IsSame f s → (ls : List ℕ) (m : ℕ) → is_among (supposed f ls) m ≡ denied s ls m
 denied_is f s same ls m = among-append (map negated ls) (unit_literals f) m ∙ ap (λ (b : Bool). is_among (map negated ls) m || b) (same.units m)
 
+either_way : (b : Bool) → (b ≡ true) ⊎ (b ≡ false)
+either_way true = inl refl
+either_way false = inr refl
+
+-- the literal that advances isn't among the others
+not_repeated : (s : Session) (l : ℕ) (ls : List ℕ) → made.Advances s (l ∷ ls) → is_among ls l ≡ false
+not_repeated s l ls a = elim (either_way (is_among ls l)) [
+  | inl t ↦
+      let new = a.stays [] (denied s ls) (λ m e. e) in
+      absurd (true≢false (sym (or_left (is_among (map negated ls) (negated l)) (s.units (negated l)) (among_mapped negated ls l t)) ∙ new.not_false))
+  | inr f ↦ f
+]
+
+others_none : (l : ℕ) (ls : List ℕ) → is_among ls l ≡ false → others_of l ls ≡ ls
+others_none l [] e = refl
+others_none l (m ∷ ms) e = go (eqb m l) e (others_none l ms)
+  where
+    go : (b : Bool) → (b || is_among ms l) ≡ false → (is_among ms l ≡ false → others_of l ms ≡ ms) → cond b (others_of l ms) (m ∷ others_of l ms) ≡ m ∷ ms
+    go true f later = absurd (true≢false f)
+    go false f later = ap (λ (ks : List ℕ). m ∷ ks) (later f)
+
+others_first : (l : ℕ) (ls : List ℕ) → is_among ls l ≡ false → others_of l (l ∷ ls) ≡ ls
+others_first l ls e = go (eqb l l) (eq-eqb l l refl)
+  where
+    go : (b : Bool) → b ≡ true → cond b (others_of l ls) (l ∷ others_of l ls) ≡ ls
+    go true f = others_none l ls e
+    go false f = absurd (true≢false (sym f))
+
 advances_as : (steps : List Step) (s : Session) → IsSame (ready_after steps) s → (clause : List ℕ) → made.Advances s clause → Advances (ready_after steps) clause
 advances_as steps s same [] a = absurd (let h = a.some in omega (arith, h))
 advances_as steps s same (l ∷ ls) a =
     let f = ready_after steps in
     let d = denied_is f s same ls in
-    record {
-      literal = l;
-      others = ls;
-      is = refl;
+    let leaves : LeavesOpen f ls l = record {
       agree = λ m e. d (negated m) ∙ a.agree m (sym (d m) ∙ e);
       open_still = λ reached leads.
           let on = leads_on steps s same leads (denied s ls) d in
           let new = a.stays on.0 (is_among reached) on.1 in
           record { not_true = new.not_true; not_false = new.not_false; no_conflict = λ c k falsified. new.no_conflict c (is_live steps s same c k) falsified };
-    }
+    } in
+    (l, or_left (eqb l l) (is_among ls l) (eq-eqb l l refl), subst (λ (ks : List ℕ). LeavesOpen f ks l) (sym (others_first l ls (not_repeated s l ls a))) leaves)
 
-advancing_as : (steps : List Step) (s : Session) → IsSame (ready_after steps) s → (w : ℕ) (step : Step) → made_steps.IsAdvancing s step → IsAdvancing (ready_after steps) (narrowed w step)
+pub advancing_as : (steps : List Step) (s : Session) → IsSame (ready_after steps) s → (w : ℕ) (step : Step) → made_steps.IsAdvancing s step → IsAdvancing (ready_after steps) (narrowed w step)
 advancing_as steps s same w (AtClause r clause hashes) a = advances_as steps s same clause a
 advancing_as steps s same w (SolverVarName v name) a = absurd a
 advancing_as steps s same w (UserVarName v name) a = absurd a
@@ -256,137 +286,100 @@ advancing_as steps s same w (Assumptions ls) a = absurd a
 advancing_as steps s same w (FailedAssumptions core hashes) a = absurd a
 advancing_as steps s same w End a = absurd a
 
--- BETWEEN TWO PLACES
-skips : (front before middle : List Step) (k : ℕ) → AdvanceTimes before middle k → AdvanceTimes before (front ++ middle) k
-skips [] before middle k t = t
-skips (s ∷ front) before middle k t = inl (skips front before middle k t)
+-- AND NOTHING ELSE DOES
 
-pub record Split (c : Counting) (made written : List Step) : Type 0 where
-  pub front : List Step
-  pub back : List Step
-  pub mid : Counting
-  pub whole : written ≡ front ++ back
-  pub cuts : Cuts c made back mid
+-- what is live is stored
+stored_by : (set : List ℕ) (cs : List StoredClause) → 0 < irredundant_count (clause_with set cs) + redundant_count (clause_with set cs) → Among set (map (λ c. c.literals) cs)
+stored_by set [] n = absurd (omega arith)
+stored_by set (c ∷ cs) n = go (same_literals c.literals set) refl n (stored_by set cs)
+  where
+    go : (b : Bool) → same_literals c.literals set ≡ b → 0 < irredundant_count (cond b (Some c) (clause_with set cs)) + redundant_count (cond b (Some c) (clause_with set cs))
+        → (0 < irredundant_count (clause_with set cs) + redundant_count (clause_with set cs) → Among set (map (λ c. c.literals) cs)) → Among set (map (λ c. c.literals) (c ∷ cs))
+    go true q n later = inl (sym (same_lists c.literals set q))
+    go false q n later = inr (later n)
 
-none_first : {A : Type 0} (s : Step) (ss : List Step) → ◌≡◌ {A = List Step} [] (s ∷ ss) → A
-none_first s ss e = absurd (cc)
+is_stored : (steps : List Step) (s : Session) → IsSame (ready_after steps) s → (clause : List ℕ) → IsLive s clause → Among (canonical clause) (long_clauses (ready_after steps))
+is_stored steps s same clause live =
+    let cs = (ready_after steps).clauses in
+    let irredundant : irredundant_count (clause_with (canonical clause) cs) ≡ s.live false (canonical clause) = same.live false (canonical clause) in
+    let redundant : redundant_count (clause_with (canonical clause) cs) ≡ s.live true (canonical clause) = same.live true (canonical clause) in
+    let n : 0 < irredundant_count (clause_with (canonical clause) cs) + redundant_count (clause_with (canonical clause) cs) = let h = live.counted in omega (arith, irredundant, redundant, h) in
+    stored_by (canonical clause) cs n
 
-same_later : (s t : Step) (ss ts : List Step) → ◌≡◌ {A = List Step} (s ∷ ss) (t ∷ ts) → ss ≡ ts
-same_later s t ss ts e = cc
+none_by : (b x : Bool) → (b ≡ true → x ≡ true) → x ≡ false → b ≡ false
+none_by true x f e = absurd (true≢false (sym (f refl) ∙ e))
+none_by false x f e = refl
 
-same_first : (s t : Step) (ss ts : List Step) → ◌≡◌ {A = List Step} (s ∷ ss) (t ∷ ts) → s ≡ t
-same_first s t ss ts e = cc
+-- what holds already is no more
+known_more : (holds : ℕ → Bool) (o : ℕ) → holds o ≡ true → (m : ℕ) → holds m ≡ ((o == m) || holds m)
+known_more holds o t m = go (eqb o m) refl
+  where
+    go : (b : Bool) → eqb o m ≡ b → holds m ≡ (b || holds m)
+    go true q = subst (λ (z : ℕ). holds z ≡ true) (eqb-true o m q) t
+    go false q = refl
 
-split : {c d : Counting} {m w : List Step} → Cuts c m w d → (later made : List Step) → m ≡ later ++ made → Split c made w
-split {c} {d} {m} {w} p [] made e = record { front = []; back = w; mid = d; whole = refl; cuts = subst (λ (n : List Step). Cuts c n w d) e p }
-split none_made (s ∷ later) made e = none_first s (later ++ made) e
-split {c} {d} {m} {w} (ask_begun {d = k} p) (s ∷ later) made e = split {c = c} {d = k} {m = m} {w = w} p (s ∷ later) made e
-split (one_made {d = d} {made = m} {written = w} step k p) (s ∷ later) made e =
-    let q = split p later made (same_later step s m (later ++ made) e) in
-    let f = written_for d.bits (counted step d).bits step in
-    record {
-      front = f ++ q.front;
-      back = q.back;
-      mid = q.mid;
-      whole = ap (λ (v : List Step). f ++ v) q.whole ∙ sym (append_assoc f q.front q.back);
-      cuts = q.cuts;
-    }
+all_false : (holds : ℕ → Bool) (o : ℕ) → holds (negated o) ≡ true → (m : ℕ) → (m ≡ o) ⊎ (holds (negated m) ≡ true) → holds (negated m) ≡ true
+all_false holds o t m (inl e) = subst (λ (z : ℕ). holds (negated z) ≡ true) (sym e) t
+all_false holds o t m (inr k) = k
 
-pub narrowed_order : (w : ℕ) (step : Step) → is_ordered (narrowed w step) ≡ is_ordered step
-narrowed_order w (SolverVarName v name) = refl
-narrowed_order w (UserVarName v name) = refl
-narrowed_order w (DeleteVar v) = refl
-narrowed_order w (ChangeSamplingMode v sample) = refl
-narrowed_order w (AddClause clause) = refl
-narrowed_order w (AtClause r clause hashes) = refl
-narrowed_order w (UnitClauses us) = refl
-narrowed_order w (DeleteClause clause proof) = refl
-narrowed_order w (ChangeHashBits bits) = refl
-narrowed_order w (Model ls) = refl
-narrowed_order w (Assumptions ls) = refl
-narrowed_order w (FailedAssumptions core hashes) = refl
-narrowed_order w End = refl
+still_by : (start : List ℕ) (holds : ℕ → Bool) → ((m : ℕ) → is_among start m ≡ holds m) → (o m : ℕ) → (m ≡ o) ⊎ (holds (negated m) ≡ true) → (m ≡ o) ⊎ (is_among start (negated m) ≡ true)
+still_by start holds h o m (inl e) = inl e
+still_by start holds h o m (inr k) = inr (h (negated m) ∙ k)
 
-told_unordered : (same : Bool) (now : ℕ) (middle : List Step) → AreUnordered middle → AreUnordered ((if same then [] else ChangeHashBits now ∷ []) ++ middle)
-told_unordered true now middle h = h
-told_unordered false now middle h = (refl, h)
+module _ (steps : List Step) (s : Session) (same : IsSame (ready_after steps) s) (l : ℕ) where
+  abbrev StaysOpen : List ℕ → Type 0
+  StaysOpen start = (reached : List ℕ) → Leads (ready_after steps) start reached → IsOpenStill (ready_after steps) l reached
 
-unordered_more : (now before : ℕ) (step s : Step) → step ≡ s → (middle : List Step) → is_ordered s ≡ false → AreUnordered middle → AreUnordered (written_for before now step ++ middle)
-unordered_more now before step s e middle u h = (narrowed_order now step ∙ ap is_ordered e ∙ u, told_unordered (nat_eq before now) now middle h)
+  falsified_by : (start : List ℕ) (holds : ℕ → Bool) → ((m : ℕ) → is_among start m ≡ holds m) → (c : List ℕ) → AllByRecursion (λ m. holds (negated m) ≡ true) c → IsFalsified start (canonical c)
+  falsified_by start holds h c k = canonical_each (λ m. is_among start (negated m) ≡ true) c (each_so (λ m. holds (negated m) ≡ true) (λ m. is_among start (negated m) ≡ true) (λ m e. h (negated m) ∙ e) c k)
 
-pub record Timed (c : Counting) (opened written steps : List Step) (k : ℕ) : Type 0 where
-  pub middle : List Step
-  pub before : List Step
-  pub mid : Counting
-  pub whole : written ≡ middle ++ before
-  pub cuts : Cuts c opened before mid
-  pub times : AdvanceTimes before middle k
-  pub unordered : AreUnordered steps → AreUnordered middle
+  -- live clauses that lead on are stored ones that do, but for what holds already
+  stays : (start : List ℕ) (holds : ℕ → Bool) → ((m : ℕ) → is_among start m ≡ holds m) → StaysOpen start → (picked : List (List ℕ)) (reached : ℕ → Bool) → made.LeadsOn s holds picked reached → made.StaysNew s l reached
+  stays start holds h still [] reached within =
+      let o = still start leads_none in
+      record {
+        not_true = none_by (reached l) (holds l) (within l) (sym (h l) ∙ o.not_true);
+        not_false = none_by (reached (negated l)) (holds (negated l)) (within (negated l)) (sym (h (negated l)) ∙ o.not_false);
+        no_conflict = λ c live k. o.no_conflict (canonical c) (is_stored steps s same c live) (falsified_by start holds h c (each_so (λ m. reached (negated m) ≡ true) (λ m. holds (negated m) ≡ true) (λ m e. within (negated m) e) c k));
+      }
+  stays start holds h still (c ∷ cs) reached (live, (o, split, among, rest)) = elim (either_way (holds o)) [
+    | inl t ↦ stays start (λ m. (o == m) || holds m) (λ m. h m ∙ known_more holds o t m) still cs reached rest
+    | inr f ↦ elim (either_way (holds (negated o))) [
+      | inl t ↦
+          absurd ((still start leads_none).no_conflict (canonical c) (is_stored steps s same c live)
+          (falsified_by start holds h c (each_so (λ m. (m ≡ o) ⊎ (holds (negated m) ≡ true)) (λ m. holds (negated m) ≡ true) (all_false holds o t) c split)))
+      | inr g ↦
+          let unit : IsUnit start (canonical c) o = record {
+            within = canonical_among c o ∙ among;
+            not_true = h o ∙ f;
+            not_false = h (negated o) ∙ g;
+            others = canonical_each (λ m. (m ≡ o) ⊎ (is_among start (negated m) ≡ true)) c
+                (each_so (λ m. (m ≡ o) ⊎ (holds (negated m) ≡ true)) (λ m. (m ≡ o) ⊎ (is_among start (negated m) ≡ true)) (still_by start holds h o) c split);
+          } in
+          stays (o ∷ start) (λ m. (o == m) || holds m) (λ m. ap (λ (b : Bool). (o == m) || b) (h m))
+          (λ more leads. still more (leads_one (canonical c) o (is_stored steps s same c live) unit leads)) cs reached rest
+    ]
+  ]
 
-timed : {c d : Counting} {m w : List Step} → Cuts c m w d → (steps opened : List Step) (k : ℕ) → m ≡ steps ++ opened → made_steps.AdvanceTimes opened steps k → Timed c opened w steps k
-timed {c} {d} {m} {w} p [] opened k e t = record { middle = []; before = w; mid = d; whole = refl; cuts = subst (λ (n : List Step). Cuts c n w d) e p; times = t; unordered = λ u. tt }
-timed none_made (s ∷ steps) opened k e t = none_first s (steps ++ opened) e
-timed {c} {d} {m} {w} (ask_begun {d = b} p) (s ∷ steps) opened k e t = timed {c = c} {d = b} {m = m} {w = w} p (s ∷ steps) opened k e t
-timed (one_made {d = d} {made = m} {written = w} step kw p) (s ∷ steps) opened k e (inl (t, still)) =
-    let q = timed p steps opened k (same_later step s m (steps ++ opened) e) t in
-    let f = written_for d.bits (counted step d).bits step in
-    record {
-      middle = f ++ q.middle;
-      before = q.before;
-      mid = q.mid;
-      whole = ap (λ (v : List Step). f ++ v) q.whole ∙ sym (append_assoc f q.middle q.before);
-      cuts = q.cuts;
-      times = skips f q.before q.middle k q.times;
-      unordered = λ u. unordered_more (counted step d).bits d.bits step s (same_first step s m (steps ++ opened) e) q.middle u.0 (q.unordered u.1);
-    }
-timed (one_made {d = d} {made = m} {written = w} step kw p) (s ∷ steps) opened k e (inr (j, n, a, t)) =
-    let rest = same_later step s m (steps ++ opened) e in
-    let q = timed p steps opened j rest t in
-    let now = (counted step d).bits in
-    let f = width_told d.bits now in
-    let h = cuts_contents p in
-    let wider = told_wide (nat_eq d.bits now) now w (contents_of m) h.0 h.1 in
-    let same : IsSame (ready_after (f ++ w)) (session_after m) = is_same (f ++ w) m wider.0 wider.1 in
-    let place : f ++ w ≡ (f ++ q.middle) ++ q.before = ap (λ (v : List Step). f ++ v) q.whole ∙ sym (append_assoc f q.middle q.before) in
-    let made_there : made_steps.IsAdvancing (session_after m) step = subst (λ (x : Step). made_steps.IsAdvancing (session_after m) x) (sym (same_first step s m (steps ++ opened) e)) (subst (λ (v : List Step). made_steps.IsAdvancing (session_after v) s) (sym rest) a) in
-    record {
-      middle = narrowed now step ∷ (f ++ q.middle);
-      before = q.before;
-      mid = q.mid;
-      whole = ap (λ (v : List Step). narrowed now step ∷ v) place;
-      cuts = q.cuts;
-      times = inr (j, n, subst (λ (v : List Step). IsAdvancing (ready_after v) (narrowed now step)) place (advancing_as (f ++ w) (session_after m) same now step made_there), skips f q.before q.middle j q.times);
-      unordered = λ u. unordered_more now d.bits step s (same_first step s m (steps ++ opened) e) q.middle u.0 (q.unordered u.1);
-    }
-
--- What was made between two places is written between two places, and as many of its steps advance there.
-pub record WrittenBetween (c : Counting) (opened shown written : List Step) (k : ℕ) : Type 0 where
-  pub before : List Step  -- what is written for the steps up to the first place
-  pub middle : List Step
-  pub behind : List Step
-  pub whole : written ≡ behind ++ (middle ++ before)
-  pub mid : Counting
-  pub cuts_before : Cuts c opened before mid
-  pub last : Counting
-  pub cuts_middle : Cuts c shown (middle ++ before) last
-  pub times : AdvanceTimes before middle k
-  -- where none of it is ordered, none of that is
-  pub unordered : (steps : List Step) → shown ≡ steps ++ opened → AreUnordered steps → AreUnordered middle
-
-pub advancing_is_written : (c d : Counting) (opened shown later written : List Step) (k : ℕ)
-    → Cuts c (later ++ shown) written d → AdvancesIn opened shown k → WrittenBetween c opened shown written k
-advancing_is_written c d opened shown later written k p a =
-    let q = split p later shown refl in
-    let t = timed q.cuts a.steps opened k a.behind a.times in
-    record {
-      before = t.before;
-      middle = t.middle;
-      behind = q.front;
-      whole = q.whole ∙ ap (λ (v : List Step). q.front ++ v) t.whole;
-      mid = t.mid;
-      cuts_before = t.cuts;
-      last = q.mid;
-      cuts_middle = subst (λ (v : List Step). Cuts c shown v q.mid) t.whole q.cuts;
-      times = t.times;
-      unordered = λ steps e u. t.unordered (subst AreUnordered (append_cancel_right steps a.steps opened (sym e ∙ a.behind)) u);
-    }
+-- so what never advances in the session doesn't where the checker stands
+pub never_as : (steps : List Step) (s : Session) → IsSame (ready_after steps) s → (w : ℕ) (step : Step) → NeverAdvances s step → IsAdvancing (ready_after steps) (narrowed w step) → ⊥
+never_as steps s same w (AtClause r clause hashes) never (l, among, leaves) =
+    let others = others_of l clause in
+    let d = denied_is (ready_after steps) s same others in
+    never l (record {
+      among = among;
+      agree = λ m e. sym (d (negated m)) ∙ leaves.agree m (d m ∙ e);
+      stays = stays steps s same l (supposed (ready_after steps) others) (denied s others) d leaves.open_still;
+    })
+never_as steps s same w (SolverVarName v name) never a = a
+never_as steps s same w (UserVarName v name) never a = a
+never_as steps s same w (DeleteVar v) never a = a
+never_as steps s same w (ChangeSamplingMode v sample) never a = a
+never_as steps s same w (AddClause clause) never a = a
+never_as steps s same w (UnitClauses us) never a = a
+never_as steps s same w (DeleteClause clause proof) never a = a
+never_as steps s same w (ChangeHashBits bits) never a = a
+never_as steps s same w (Model ls) never a = a
+never_as steps s same w (Assumptions ls) never a = a
+never_as steps s same w (FailedAssumptions core hashes) never a = a
+never_as steps s same w End never a = a

@@ -42,7 +42,7 @@ use Rattle.certify.specs.serving.Standing.{place_in}
 use Rattle.certify.specs.serving.Stretches.{MadeFor}
 use Rattle.certify.specs.serving.Whole.{Ends, FailsWhole, ServesWhole}
 use Rattle.certify.proofs.lemmas.run.Unhidden.{none_deletes}
-use Rattle.certify.proofs.lemmas.run.Unknown.{unknown_asks_learn}
+use Rattle.certify.proofs.lemmas.run.Learned.{asks_learn}
 use Rattle.certify.proofs.lemmas.confirm.Streams.{faulted_front, gave_enough, passed_front, read_fails}
 use Rattle.certify.proofs.lemmas.matching.Joining.{covers_given, took_kept}
 use Rattle.certify.proofs.lemmas.serving.MadeCertifies.{made_certifies}
@@ -170,7 +170,7 @@ module _ {C : Type 0} (seen : C → Writer) (budget : ℕ) (w : Writer) (s t : S
     follows = follows;
     counting = text_of.counting;
     cuts = text_of.cuts;
-    learns = unknown_asks_learn uncounted text_of.counting follows text_of.cuts;
+    learns = asks_learn uncounted text_of.counting follows text_of.cuts;
     keeps = λ hides. none_deletes follows text_of.cuts hides may.0;
   }
 

@@ -33,7 +33,7 @@ use Rattle.certify.specs.serving.Certifies.{IsKnown}
 use Rattle.certify.specs.serving.Standing.{Means}
 use Rattle.sat_checker.proofs.lemmas.matching.Traces.{closed_by_none}
 use Rattle.sat_checker.specs.matching.Traces.{HasTrace, no_step, silent, visible}
-use Rattle.certify.specs.serving.Stretches.{AskStretches, showing_if}
+use Rattle.certify.specs.serving.Stretches.{AskStretches, Learned, Learns, showing_if}
 use Rattle.certify.specs.serving.Telling.{outcome_for, IsToldRight}
 use Rattle.certify.proofs.lemmas.serving.NamesIn.{names_same}
 use Rattle.certify.proofs.lemmas.serving.Cores.{right_in_order, spelt_in_order}
@@ -96,12 +96,6 @@ core_apart st e f = cc
 unknown_apart : (st : State) → st ≡ states.Unknown → st ≡ states.Unsat → ⊥
 unknown_apart st e f = cc
 
-unknown_no_sat : (st : State) → st ≡ states.Unknown → st ≡ states.Sat → ⊥
-unknown_no_sat st e f = cc
-
-unknown_no_core : (st : State) → st ≡ states.Unknown → st ≡ states.UnsatUnderAssumptions → ⊥
-unknown_no_core st e f = cc
-
 unsat_apart : (st : State) → st ≡ states.Unsat → st ≡ states.Unknown → ⊥
 unsat_apart st e f = cc
 
@@ -110,11 +104,6 @@ unsat_outcome : {C : Type 0} (now : Solver C) (a : Answer) → now.state ≡ sta
 unsat_outcome now kind.Sat e h = absurd (sat_apart now.state (sat_state now.state h) e)
 unsat_outcome now kind.Unsat e h = ap (λ st. Unsat (named_literals (canonical (core_for st now)))) e
 unsat_outcome now kind.Unknown e h = absurd (unknown_apart now.state (unknown_state now.state h) e)
-
-unknown_outcome : {C : Type 0} (now : Solver C) (a : Answer) → now.state ≡ states.Unknown → AnswerIs now.state a → outcome_for a now ≡ Unknown
-unknown_outcome now kind.Unknown e h = refl
-unknown_outcome now kind.Sat e h = absurd (unknown_no_sat now.state e (sat_state now.state h))
-unknown_outcome now kind.Unsat e h = elim (unsat_state now.state h) [ inl f ↦ absurd (unknown_no_core now.state e f) | inr f ↦ absurd (unknown_apart now.state e f) ]
 
 -- what shows an answer
 module _ {C : Type 0} (now : Solver C) (whole : IsWhole now) (ask : List Literal) (asked : named_literals now.assumed.items ≡ ask) (j : Judge) (before : State) (s : List Step) where
@@ -175,6 +164,30 @@ forgets_either states.Unknown states.UnsatUnderAssumptions h = absurd h
 forgets_either states.Sat states.UnsatUnderAssumptions h = absurd h
 forgets_either states.UnsatUnderAssumptions states.UnsatUnderAssumptions h = absurd h
 
+-- how many rounds learn
+none_learned : (st : State) → learned_of st 0 ≡ 0
+none_learned states.Unknown = refl
+none_learned states.Sat = refl
+none_learned states.UnsatUnderAssumptions = refl
+none_learned states.Unsat = refl
+
+less_one : (n : ℕ) → 0 < n → n ≡ n - 1 + 1
+less_one n h = omega arith
+
+answer_learns : {C : Type 0} (now : Solver C) (st : State) (a : Answer) (n : ℕ) → AnswerIs st a → ((st ≡ states.Unknown → ⊥) → 0 < n) → Learns false (outcome_for a now) n (learned_of st n)
+answer_learns now states.Unknown kind.Unknown n h f = refl
+answer_learns now states.Sat kind.Sat n h f = less_one n (f (λ e. cc))
+answer_learns now states.UnsatUnderAssumptions kind.Unsat n h f = less_one n (f (λ e. cc))
+answer_learns now states.Unsat kind.Unsat n h f = less_one n (f (λ e. cc))
+answer_learns now states.Unknown kind.Sat n h f = absurd (cc)
+answer_learns now states.Unknown kind.Unsat n h f = absurd (cc)
+answer_learns now states.Sat kind.Unsat n h f = absurd (cc)
+answer_learns now states.Sat kind.Unknown n h f = absurd (cc)
+answer_learns now states.UnsatUnderAssumptions kind.Sat n h f = absurd (cc)
+answer_learns now states.UnsatUnderAssumptions kind.Unknown n h f = absurd (cc)
+answer_learns now states.Unsat kind.Sat n h f = absurd (cc)
+answer_learns now states.Unsat kind.Unknown n h f = absurd (cc)
+
 -- an ask: its literals were assumed, and the solver searched; nothing is assumed from there on
 module _ {C : Type 0} (seen : C → Writer) (old mid now : Solver C) (user : List ℕ) (budget : ℕ) (report : AskReport) (opened : Assumed seen old mid user) (searched : Searched seen budget report mid now) (right : IsToldRight report.answer now) where
   o : Outcome
@@ -200,26 +213,34 @@ module _ {C : Type 0} (seen : C → Writer) (old mid now : Solver C) (user : Lis
       let r = searched.rounds in let l = searched.limited.rounds in
       record { outcome = unsat_outcome now report.answer (unsat_stays at) searched.solved.answer_is; rounds = omega arith }
 
+  -- as the search counts rounds
+  count : now.clock.steps - searched.mid.clock.steps ≡ report.steps
+  count = let r = searched.rounds in let l = searched.limited.rounds in omega arith
+
   -- an answer that wasn't known took a round
-  sought : the_checking.unsat (steps_in mid) ≡ false → (outcome_for report.answer now ≡ Unknown → ⊥) → 0 < report.steps
+  sought : the_checking.unsat (steps_in mid) ≡ false → (now.state ≡ states.Unknown → ⊥) → 0 < report.steps
   sought g known_now =
       let before : searched.mid.state ≡ states.Unknown = elim (forgets_either old.state mid.state opened.state) [
         | inl e ↦ searched.limited.state ∙ e
         | inr e ↦ absurd (both_ways (the_checking.unsat (steps_in mid)) g (known_unsat mid (opened.did Unknown).whole e))
       ] in
-      let after : now.state ≡ states.Unknown → ⊥ = λ e. known_now (unknown_outcome now report.answer e searched.solved.answer_is) in
-      let c = searched.solved.answered.counts.round before after in
+      let c = searched.solved.answered.counts.round before known_now in
       let r = searched.rounds in let l = searched.limited.rounds in
       omega arith
 
-  -- and where there is none each round derived a clause that advances
-  spent : outcome_for report.answer now ≡ Unknown → AdvancesIn (steps_in mid) (steps_in now) report.steps
-  spent e =
-      let st = unknown_state now.state (subst (AnswerIs now.state) (kind_told report.answer now ∙ ap kind_of e) searched.solved.answer_is) in
-      let r = searched.rounds in let l = searched.limited.rounds in
-      let count : now.clock.steps - searched.mid.clock.steps ≡ report.steps = omega arith in
-      subst (λ n. AdvancesIn (steps_in mid) (steps_in now) n) count
-      (subst (λ ss. AdvancesIn ss (steps_in now) (now.clock.steps - searched.mid.clock.steps)) same_steps (subst (λ x. AdvancesIn (steps_in searched.mid) (steps_in now) (learned_of x (now.clock.steps - searched.mid.clock.steps))) st searched.solved.answered.times))
+  -- each round derived a clause that advances, but for the one that answered
+  learns : Learned (the_checking.unsat (steps_in mid)) (outcome_for report.answer now) report.steps (steps_in mid) (steps_in now)
+  learns = record {
+    learned = learned_of now.state report.steps;
+    times =
+        subst (λ n. AdvancesIn (steps_in mid) (steps_in now) (learned_of now.state n)) count
+        (subst (λ ss. AdvancesIn ss (steps_in now) (learned_of now.state (now.clock.steps - searched.mid.clock.steps))) same_steps searched.solved.answered.times);
+    counts = counted (the_checking.unsat (steps_in mid)) refl;
+  }
+    where
+      counted : (b : Bool) → the_checking.unsat (steps_in mid) ≡ b → Learns b (outcome_for report.answer now) report.steps (learned_of now.state report.steps)
+      counted true u = let k = (known u).rounds in (k, ap (learned_of now.state) k ∙ none_learned now.state)
+      counted false g = answer_learns now now.state report.answer report.steps searched.solved.answer_is (sought g)
 
   pub ask_spent : IsSpent budget old.clock.steps report
   ask_spent = subst (λ (n : ℕ). IsSpent budget n report) (ap (λ (x : _). x.steps) opened.clock) searched.spent
@@ -275,8 +296,7 @@ module _ {C : Type 0} (seen : C → Writer) (old mid now : Solver C) (user : Lis
         closes = record { due = shut; comes = closed.comes };
         known = known;
         recorded = λ u. unsat_outcome now report.answer (unsat_known now searched.solved.answered.did.whole u) searched.solved.answer_is;
-        sought = sought;
-        spent = spent;
+        learns = learns;
       }
 
       pub ask_then : (then : Live) × solver.Agree new.names (steps_in new) (accepted (Ask (named_literals user)) j) then

@@ -1,0 +1,232 @@
+-- What is made between two places is written between two places, where as many derived clauses advance.
+use Rattle.std.proofs.Common.{ℕ, ◌+◌, ◌≡◌, ◌∙◌, ◌⊎◌, Bool, true, false, Option, Some, None, List, [], ◌∷◌, ◌++◌, refl, sym, ap, subst, inl, inr, append_assoc, append-nil, arith}
+use Rattle.std.specs.Prelude.{nat_eq, if◌then◌else◌}
+use Rattle.std.specs.List.{AllByRecursion}
+use Rattle.sat_base.specs.steps.Steps.{Step, SolverVarName, UserVarName, DeleteVar, ChangeSamplingMode, AddClause, AtClause, UnitClauses, DeleteClause, ChangeHashBits, Model, Assumptions, FailedAssumptions, End}
+use Rattle.sat_checker.specs.Accepts.{ready_after}
+use Rattle.sat_checker.specs.Contents.{Contents, contents_after, contents_of}
+use Rattle.sat_checker.specs.Stored.{Stored}
+use Rattle.sat_checker.specs.matching.Checking.{is_ordered}
+use Rattle.sat_checker.specs.matching.ProofChecking.{the_checking}
+use Rattle.sat_checker.proofs.lemmas.contents.Steps.{contents_of_steps}
+use Rattle.sat_solver.specs.declared.session.counting.Counting.{Counting}
+use Rattle.sat_solver.specs.joint.Quiet.{NeverAdvances}
+use Rattle.sat_solver.specs.search.Solving as made
+use Rattle.sat_solver.specs.session.Counting.{Cuts, none_made, ask_begun, one_made, width_told, written_for, counted}
+use Rattle.sat_solver.specs.session.Session.{Session, session_after}
+use Rattle.sat_solver.specs.session.Widths.{narrowed}
+use Rattle.certify.specs.run.Advancing.{IsAdvancing, AdvanceTimes, AreUnordered}
+use Rattle.certify.proofs.lemmas.run.Advanced.{IsSame, advancing_as, cuts_contents, is_same, never_as, told_wide}
+
+-- STEPS BY WHICH NOTHING IS LEARNED, AND NOTHING RECORDED
+
+-- indices of variables, and widths
+pub data IsAside : Step → Type 0 where
+  index_aside : {v : ℕ} {index : Option ℕ} → IsAside (SolverVarName v index)
+  width_aside : {bits : ℕ} → IsAside (ChangeHashBits bits)
+
+abbrev pub AreAside : List Step → Type 0
+AreAside = AllByRecursion IsAside
+
+aside_unordered : {step : Step} → IsAside step → is_ordered step ≡ false
+aside_unordered index_aside = refl
+aside_unordered width_aside = refl
+
+pub asides_unordered : (xs : List Step) → AreAside xs → AreUnordered xs
+asides_unordered [] h = tt
+asides_unordered (x ∷ xs) h = (aside_unordered h.0, asides_unordered xs h.1)
+
+pub append_unordered : (xs ys : List Step) → AreUnordered xs → AreUnordered ys → AreUnordered (xs ++ ys)
+append_unordered [] ys h k = k
+append_unordered (x ∷ xs) ys h k = (h.0, append_unordered xs ys h.1 k)
+
+pub told_aside : (before now : ℕ) → AreAside (width_told before now)
+told_aside before now = go (nat_eq before now)
+  where
+    go : (same : Bool) → AreAside (if same then [] else ChangeHashBits now ∷ [])
+    go true = tt
+    go false = (width_aside, tt)
+
+-- in what is made
+aside_still : {step : Step} (s : Session) → IsAside step → made.StandsStill s step
+aside_still s index_aside = record { quiet = refl; never = tt }
+aside_still s width_aside = record { quiet = refl; never = tt }
+
+pub asides_still : (earlier front xs : List Step) (k : ℕ) → AreAside front → made.AdvanceTimes earlier xs k → made.AdvanceTimes earlier (front ++ xs) k
+asides_still earlier [] xs k h t = t
+asides_still earlier (s ∷ front) xs k h t = inl (asides_still earlier front xs k h.1 t, aside_still (session_after ((front ++ xs) ++ earlier)) h.0)
+
+pub behind_asides : (earlier mid xs : List Step) (k : ℕ) → AreAside mid → made.AdvanceTimes (mid ++ earlier) xs k → made.AdvanceTimes earlier (xs ++ mid) k
+behind_asides earlier mid [] k h t =
+    let none : k ≡ 0 = t in
+    subst (λ (n : ℕ). made.AdvanceTimes earlier mid n) (sym none) (subst (λ (ms : List Step). made.AdvanceTimes earlier ms 0) (append-nil mid) (asides_still earlier mid [] 0 h refl))
+behind_asides earlier mid (x ∷ xs) k h (inl (t, still)) =
+    inl (behind_asides earlier mid xs k h t, subst (λ (v : List Step). made.StandsStill (session_after v) x) (sym (append_assoc xs mid earlier)) still)
+behind_asides earlier mid (x ∷ xs) k h (inr (j, e, a, t)) =
+    inr (j, e, subst (λ (v : List Step). made.IsAdvancing (session_after v) x) (sym (append_assoc xs mid earlier)) a, behind_asides earlier mid xs j h t)
+
+-- in what is written
+aside_never : {step : Step} (f : Stored) → IsAside step → IsAdvancing f step → ⊥
+aside_never f index_aside a = a
+aside_never f width_aside a = a
+
+pub asides_never : (earlier front xs : List Step) (k : ℕ) → AreAside front → AdvanceTimes earlier xs k → AdvanceTimes earlier (front ++ xs) k
+asides_never earlier [] xs k h t = t
+asides_never earlier (s ∷ front) xs k h t = inl (asides_never earlier front xs k h.1 t, aside_never (ready_after ((front ++ xs) ++ earlier)) h.0)
+
+-- whether unsat is recorded
+unsat_is : (steps : List Step) → the_checking.unsat steps ≡ (contents_of steps).unsat
+unsat_is steps = ap (λ (c : Contents). c.unsat) (contents_of_steps steps)
+
+aside_unsat : {step : Step} (c : Contents) → IsAside step → (contents_after step c).unsat ≡ c.unsat
+aside_unsat c (index_aside {index = None}) = refl
+aside_unsat c (index_aside {index = Some x}) = refl
+aside_unsat c width_aside = refl
+
+asides_contents : (front earlier : List Step) → AreAside front → (contents_of (front ++ earlier)).unsat ≡ (contents_of earlier).unsat
+asides_contents [] earlier h = refl
+asides_contents (s ∷ front) earlier h = aside_unsat (contents_of (front ++ earlier)) h.0 ∙ asides_contents front earlier h.1
+
+pub asides_unsat : (front earlier : List Step) → AreAside front → the_checking.unsat (front ++ earlier) ≡ the_checking.unsat earlier
+asides_unsat front earlier h = unsat_is (front ++ earlier) ∙ asides_contents front earlier h ∙ sym (unsat_is earlier)
+
+pub cut_unsat : {c d : Counting} {m w : List Step} → Cuts c m w d → the_checking.unsat w ≡ the_checking.unsat m
+cut_unsat {m = m} {w = w} p = unsat_is w ∙ ap (λ (x : Contents). x.unsat) (cuts_contents p).1 ∙ sym (unsat_is m)
+
+-- BETWEEN TWO PLACES
+
+pub record Split (c : Counting) (made written : List Step) : Type 0 where
+  pub front : List Step
+  pub back : List Step
+  pub mid : Counting
+  pub whole : written ≡ front ++ back
+  pub cuts : Cuts c made back mid
+
+pub none_first : {A : Type 0} (s : Step) (ss : List Step) → ◌≡◌ {A = List Step} [] (s ∷ ss) → A
+none_first s ss e = absurd (cc)
+
+pub same_later : (s t : Step) (ss ts : List Step) → ◌≡◌ {A = List Step} (s ∷ ss) (t ∷ ts) → ss ≡ ts
+same_later s t ss ts e = cc
+
+pub same_first : (s t : Step) (ss ts : List Step) → ◌≡◌ {A = List Step} (s ∷ ss) (t ∷ ts) → s ≡ t
+same_first s t ss ts e = cc
+
+pub split : {c d : Counting} {m w : List Step} → Cuts c m w d → (later made : List Step) → m ≡ later ++ made → Split c made w
+split {c} {d} {m} {w} p [] made e = record { front = []; back = w; mid = d; whole = refl; cuts = subst (λ (n : List Step). Cuts c n w d) e p }
+split none_made (s ∷ later) made e = none_first s (later ++ made) e
+split {c} {d} {m} {w} (ask_begun {d = k} p) (s ∷ later) made e = split {c = c} {d = k} {m = m} {w = w} p (s ∷ later) made e
+split (one_made {d = d} {made = m} {written = w} step k p) (s ∷ later) made e =
+    let q = split p later made (same_later step s m (later ++ made) e) in
+    let f = written_for d.bits (counted step d).bits step in
+    record {
+      front = f ++ q.front;
+      back = q.back;
+      mid = q.mid;
+      whole = ap (λ (v : List Step). f ++ v) q.whole ∙ sym (append_assoc f q.front q.back);
+      cuts = q.cuts;
+    }
+
+pub narrowed_order : (w : ℕ) (step : Step) → is_ordered (narrowed w step) ≡ is_ordered step
+narrowed_order w (SolverVarName v name) = refl
+narrowed_order w (UserVarName v name) = refl
+narrowed_order w (DeleteVar v) = refl
+narrowed_order w (ChangeSamplingMode v sample) = refl
+narrowed_order w (AddClause clause) = refl
+narrowed_order w (AtClause r clause hashes) = refl
+narrowed_order w (UnitClauses us) = refl
+narrowed_order w (DeleteClause clause proof) = refl
+narrowed_order w (ChangeHashBits bits) = refl
+narrowed_order w (Model ls) = refl
+narrowed_order w (Assumptions ls) = refl
+narrowed_order w (FailedAssumptions core hashes) = refl
+narrowed_order w End = refl
+
+unordered_more : (now before : ℕ) (step s : Step) → step ≡ s → (middle : List Step) → is_ordered s ≡ false → AreUnordered middle → AreUnordered (written_for before now step ++ middle)
+unordered_more now before step s e middle u h = (narrowed_order now step ∙ ap is_ordered e ∙ u, append_unordered (width_told before now) middle (asides_unordered (width_told before now) (told_aside before now)) h)
+
+pub record Timed (c : Counting) (opened written steps : List Step) (k : ℕ) : Type 0 where
+  pub middle : List Step
+  pub before : List Step
+  pub mid : Counting
+  pub whole : written ≡ middle ++ before
+  pub cuts : Cuts c opened before mid
+  pub times : AdvanceTimes before middle k
+  pub unordered : AreUnordered steps → AreUnordered middle
+
+-- the last step that was made, and what stands before it
+pub record Head (c : Counting) (step : Step) (made written : List Step) : Type 0 where
+  pub bits : ℕ
+  pub told : List Step
+  pub back : List Step
+  pub mid : Counting
+  pub whole : written ≡ narrowed bits step ∷ (told ++ back)
+  pub aside : AreAside told
+  pub cuts : Cuts c made back mid
+
+pub head_cut : {c d : Counting} {m w : List Step} → Cuts c m w d → (step : Step) (made : List Step) → m ≡ step ∷ made → Head c step made w
+head_cut none_made step made e = none_first step made e
+head_cut {c} {d} {m} {w} (ask_begun {d = k} p) step made e = head_cut {c = c} {d = k} {m = m} {w = w} p step made e
+head_cut {c} (one_made {d = d} {made = m} {written = w} s k p) step made e =
+    let now = (counted s d).bits in
+    record {
+      bits = now;
+      told = width_told d.bits now;
+      back = w;
+      mid = d;
+      whole = ap (λ (x : Step). narrowed now x ∷ (width_told d.bits now ++ w)) (same_first s step m made e);
+      aside = told_aside d.bits now;
+      cuts = subst (λ (ms : List Step). Cuts c ms w d) (same_later s step m made e) p;
+    }
+
+-- what is written at a step
+record Here (d : Counting) (step : Step) (m w : List Step) : Type 0 where
+  same : IsSame (ready_after (width_told d.bits (counted step d).bits ++ w)) (session_after m)
+
+here : {c d : Counting} {m w : List Step} (step : Step) → Cuts c m w d → Here d step m w
+here {d = d} {m = m} {w = w} step p =
+    let now = (counted step d).bits in
+    let h = cuts_contents p in
+    let wider = told_wide (nat_eq d.bits now) now w (contents_of m) h.0 h.1 in
+    record { same = is_same (width_told d.bits now ++ w) m wider.0 wider.1 }
+
+pub timed : {c d : Counting} {m w : List Step} → Cuts c m w d → (steps opened : List Step) (k : ℕ) → m ≡ steps ++ opened → made.AdvanceTimes opened steps k → Timed c opened w steps k
+timed {c} {d} {m} {w} p [] opened k e t = record { middle = []; before = w; mid = d; whole = refl; cuts = subst (λ (n : List Step). Cuts c n w d) e p; times = t; unordered = λ u. tt }
+timed none_made (s ∷ steps) opened k e t = none_first s (steps ++ opened) e
+timed {c} {d} {m} {w} (ask_begun {d = b} p) (s ∷ steps) opened k e t = timed {c = c} {d = b} {m = m} {w = w} p (s ∷ steps) opened k e t
+timed (one_made {d = d} {made = m} {written = w} step kw p) (s ∷ steps) opened k e (inl (t, still)) =
+    let rest = same_later step s m (steps ++ opened) e in
+    let first = same_first step s m (steps ++ opened) e in
+    let q = timed p steps opened k rest t in
+    let now = (counted step d).bits in
+    let f = width_told d.bits now in
+    let place : f ++ w ≡ (f ++ q.middle) ++ q.before = ap (λ (v : List Step). f ++ v) q.whole ∙ sym (append_assoc f q.middle q.before) in
+    let never : NeverAdvances (session_after m) step = subst (λ (x : Step). NeverAdvances (session_after m) x) (sym first) (subst (λ (v : List Step). NeverAdvances (session_after v) s) (sym rest) still.never) in
+    record {
+      middle = narrowed now step ∷ (f ++ q.middle);
+      before = q.before;
+      mid = q.mid;
+      whole = ap (λ (v : List Step). narrowed now step ∷ v) place;
+      cuts = q.cuts;
+      times = inl (asides_never q.before f q.middle k (told_aside d.bits now) q.times,
+          subst (λ (v : List Step). IsAdvancing (ready_after v) (narrowed now step) → ⊥) place (never_as (f ++ w) (session_after m) (here step p).same now step never));
+      unordered = λ u. unordered_more now d.bits step s first q.middle u.0 (q.unordered u.1);
+    }
+timed (one_made {d = d} {made = m} {written = w} step kw p) (s ∷ steps) opened k e (inr (j, n, a, t)) =
+    let rest = same_later step s m (steps ++ opened) e in
+    let first = same_first step s m (steps ++ opened) e in
+    let q = timed p steps opened j rest t in
+    let now = (counted step d).bits in
+    let f = width_told d.bits now in
+    let place : f ++ w ≡ (f ++ q.middle) ++ q.before = ap (λ (v : List Step). f ++ v) q.whole ∙ sym (append_assoc f q.middle q.before) in
+    let there : made.IsAdvancing (session_after m) step = subst (λ (x : Step). made.IsAdvancing (session_after m) x) (sym first) (subst (λ (v : List Step). made.IsAdvancing (session_after v) s) (sym rest) a) in
+    record {
+      middle = narrowed now step ∷ (f ++ q.middle);
+      before = q.before;
+      mid = q.mid;
+      whole = ap (λ (v : List Step). narrowed now step ∷ v) place;
+      cuts = q.cuts;
+      times = inr (j, n,
+          subst (λ (v : List Step). IsAdvancing (ready_after v) (narrowed now step)) place (advancing_as (f ++ w) (session_after m) (here step p).same now step there),
+          asides_never q.before f q.middle j (told_aside d.bits now) q.times);
+      unordered = λ u. unordered_more now d.bits step s first q.middle u.0 (q.unordered u.1);
+    }

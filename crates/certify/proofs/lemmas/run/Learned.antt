@@ -1,0 +1,487 @@
+-- What a run made for its asks stands in its certificate.
+use Rattle.std.proofs.Common.{ℕ, ◌+◌, ◌*◌, ◌≡◌, ◌∙◌, Bool, true, false, List, [], ◌∷◌, ◌++◌, map, refl, sym, ap, subst, append_assoc, append-nil, arith}
+use Rattle.std.proofs.lemmas.Bool.{true≢false}
+use Rattle.std.proofs.lemmas.List.{append_cancel_right}
+use Rattle.std.specs.List.{AllByRecursion}
+use Rattle.std.specs.Prelude.{nat_eq, if◌then◌else◌}
+use Rattle.sat_base.specs.script.Script.{Literal, Command, Clause, Ask, Hide, Witness, Sample, names_of}
+use Rattle.sat_base.specs.script.Judge.{Judge, Mode, Sampled, Witnessed, accepted, bring_in, new_names, with_mode, without_name}
+use Rattle.sat_base.specs.steps.Steps.{Step, SolverVarName, UserVarName, DeleteVar, ChangeSamplingMode, AddClause, AtClause, UnitClauses, DeleteClause, ChangeHashBits, Model, Assumptions, FailedAssumptions, End}
+use Rattle.sat_checker.specs.matching.Checking.{Checking, is_ordered}
+use Rattle.sat_checker.specs.matching.Expected as expecting
+use Rattle.sat_checker.specs.matching.Expected.{Outcome, Sat, Unsat, Unknown, Expected, NewName, NoName, Adds, Opens, Shows, Fails, Closes, Finish, Fits, bringing, hiding, setting}
+use Rattle.sat_checker.specs.matching.ProofChecking.{the_checking}
+use Rattle.sat_checker.specs.matching.Traces.{HasTrace, no_step, silent, visible}
+use Rattle.sat_solver.specs.declared.session.counting.Counting.{Counting}
+use Rattle.sat_solver.specs.session.Counting.{Cuts, none_made, ask_begun, one_made, counted}
+use Rattle.sat_solver.specs.session.Widths.{narrowed}
+use Rattle.sat_solver.specs.names.Coming.{MayTake}
+use Rattle.sat_solver.specs.search.Solving as made
+use Rattle.sat_solver.specs.session.Coming.{EachComes}
+use Rattle.certify.specs.run.Advancing.{AdvanceTimes, AreUnordered}
+use Rattle.certify.specs.run.Learning.{assumed_times, LearnsIn, EachLearns}
+use Rattle.certify.specs.serving.Stretches.{IsNoAsk, Stretch, AskStretches, Learns, MadeFor, due_for, made_none, made_one, made_ask, showing_if}
+use Rattle.certify.proofs.lemmas.run.Between.{IsAside, index_aside, width_aside, AreAside, Head, Split, Timed, append_unordered, asides_never, asides_still, asides_unordered, asides_unsat, behind_asides, cut_unsat, head_cut, split, timed}
+
+-- STEPS BEHIND STEPS
+abbrev Ext : List Step → List Step → Type 0
+Ext from to = (steps : List Step) × (to ≡ steps ++ from)
+
+onward : {a b c : List Step} → Ext a b → Ext b c → Ext a c
+onward {a} {b} {c} x y = (y.0 ++ x.0, y.1 ∙ ap (λ (s : List Step). y.0 ++ s) x.1 ∙ sym (append_assoc y.0 x.0 a))
+
+ext_of : {May : List Step → Step → Type 0} {from to : List Step} {es : List Expected} → Stretch May from to es → Ext from to
+ext_of s = (s.comes.steps, s.comes.behind)
+
+extends : {j : Judge} {s t : List Step} {cs : List Command} {os : List Outcome} {ns : List ℕ} → MadeFor j s t cs os ns → Ext s t
+extends made_none = ([], refl)
+extends (made_one mid i st rest) = onward (ext_of st) (extends rest)
+extends (made_ask mid a rest) = onward (onward (onward (ext_of a.opens) (ext_of a.searches)) (ext_of a.closes)) (extends rest)
+
+-- THE LAST STEP THAT IS DUE
+
+none_more : {A : Type 0} (es : List Expected) (e : Expected) → ◌≡◌ {A = List Expected} [] (es ++ e ∷ []) → A
+none_more [] e h = absurd (cc)
+none_more (x ∷ xs) e h = absurd (cc)
+
+first_is : (a b : Expected) (xs ys : List Expected) → ◌≡◌ {A = List Expected} (a ∷ xs) (b ∷ ys) → a ≡ b
+first_is a b xs ys h = cc
+
+rest_is : (a b : Expected) (xs ys : List Expected) → ◌≡◌ {A = List Expected} (a ∷ xs) (b ∷ ys) → xs ≡ ys
+rest_is a b xs ys h = cc
+
+not_none : (y : Expected) (ys : List Expected) → ◌≡◌ {A = List Expected} (y ∷ ys) [] → ⊥
+not_none y ys h = cc
+
+quiet_between : {k : Checking} {s t : List Step} {es : List Expected} → HasTrace k s t es → es ≡ [] → (steps : List Step) × (t ≡ steps ++ s) × AreUnordered steps
+quiet_between no_step e = ([], refl, tt)
+quiet_between (silent {s = s} {step = step} n m) e =
+    let h = quiet_between m e in
+    (h.0 ++ (step ∷ []), h.1 ∙ sym (append_assoc h.0 (step ∷ []) s), append_unordered h.0 (step ∷ []) h.2 (n, tt))
+quiet_between (visible {e = x} {es = xs} f m) e = absurd (cc)
+
+-- where it stands, behind others that are due
+record LastDue (k : Checking) (s t : List Step) (fs : List Expected) (e : Expected) : Type 0 where
+  front : List Step
+  step : Step
+  behind : List Step
+  whole : t ≡ behind ++ (step ∷ (front ++ s))
+  fits : Fits (k.knows (front ++ s)) (front ++ s) e step
+  unordered : AreUnordered behind
+  alone : fs ≡ [] → AreUnordered front
+
+last_due : {k : Checking} {s t : List Step} {es : List Expected} → HasTrace k s t es → (fs : List Expected) (e : Expected) → es ≡ fs ++ (e ∷ []) → LastDue k s t fs e
+last_due no_step fs e h = none_more fs e h
+last_due {k} (silent {s = s} {step = step} n m) fs e h =
+    let d = last_due m fs e h in
+    let place = sym (append_assoc d.front (step ∷ []) s) in
+    record {
+      front = d.front ++ (step ∷ []);
+      step = d.step;
+      behind = d.behind;
+      whole = d.whole ∙ ap (λ (v : List Step). d.behind ++ (d.step ∷ v)) place;
+      fits = subst (λ (v : List Step). Fits (k.knows v) v e d.step) place d.fits;
+      unordered = d.unordered;
+      alone = λ z. append_unordered d.front (step ∷ []) (d.alone z) (n, tt);
+    }
+last_due {k} (visible {s = s} {step = step} {e = x} {es = xs} f m) [] e h =
+    let q = quiet_between m (rest_is x e xs [] h) in
+    record {
+      front = [];
+      step = step;
+      behind = q.0;
+      whole = q.1;
+      fits = subst (λ (y : Expected). Fits (k.knows s) s y step) (first_is x e xs [] h) f;
+      unordered = q.2;
+      alone = λ z. tt;
+    }
+last_due {k} (visible {s = s} {step = step} {e = x} {es = xs} f m) (y ∷ fs) e h =
+    let d = last_due m fs e (rest_is x y xs (fs ++ (e ∷ [])) h) in
+    let place = sym (append_assoc d.front (step ∷ []) s) in
+    record {
+      front = d.front ++ (step ∷ []);
+      step = d.step;
+      behind = d.behind;
+      whole = d.whole ∙ ap (λ (v : List Step). d.behind ++ (d.step ∷ v)) place;
+      fits = subst (λ (v : List Step). Fits (k.knows v) v e d.step) place d.fits;
+      unordered = d.unordered;
+      alone = λ z. absurd (not_none y fs z);
+    }
+
+opening : {knows : ℕ → Bool} {earlier : List Step} {ls : List Literal} {o : Outcome} {step : Step} → Fits knows earlier (Opens ls o) step → (c : List ℕ) × (step ≡ Assumptions c)
+opening (expecting.opens {c = c} h) = (c, refl)
+
+closing : {knows : ℕ → Bool} {earlier : List Step} {step : Step} → Fits knows earlier Closes step → step ≡ Assumptions []
+closing expecting.closes = refl
+
+-- WHAT ELSE COMES AT AN ASK'S ENDS
+
+-- each of these steps comes somewhere
+abbrev ComesThere : (List Step → Step → Type 0) → List Step → Type 0
+ComesThere May = AllByRecursion (λ step. (earlier : List Step) × May earlier step)
+
+first_come : (May : List Step → Step → Type 0) (earlier xs ys : List Step) → EachComes May earlier (xs ++ ys) → ComesThere May xs
+first_come May earlier [] ys h = tt
+first_come May earlier (x ∷ xs) ys h = (((xs ++ ys) ++ earlier, h.1), first_come May earlier xs ys h.0)
+
+later_come : (May : List Step → Step → Type 0) (earlier xs ys : List Step) → EachComes May earlier (xs ++ ys) → EachComes May earlier ys
+later_come May earlier [] ys h = h
+later_come May earlier (x ∷ xs) ys h = later_come May earlier xs ys h.0
+
+aside_one : (names : List ℕ) (earlier : List Step) (step : Step) → MayTake names earlier step → is_ordered step ≡ false → IsAside step
+aside_one names earlier (SolverVarName v index) m n = index_aside
+aside_one names earlier (ChangeHashBits bits) m n = width_aside
+aside_one names earlier (UserVarName v name) m n = absurd (true≢false n)
+aside_one names earlier (DeleteVar v) m n = absurd (true≢false (sym m))
+aside_one names earlier (ChangeSamplingMode v sample) m n = absurd (true≢false (sym m))
+aside_one names earlier (AddClause c) m n = absurd (true≢false n)
+aside_one names earlier (AtClause r c hs) m n = absurd (true≢false (sym m))
+aside_one names earlier (UnitClauses us) m n = absurd (true≢false (sym m))
+aside_one names earlier (DeleteClause c proof) m n = absurd (true≢false (sym m))
+aside_one names earlier (Model ls) m n = absurd (true≢false n)
+aside_one names earlier (Assumptions ls) m n = absurd (true≢false n)
+aside_one names earlier (FailedAssumptions core hs) m n = absurd (true≢false n)
+aside_one names earlier End m n = absurd (true≢false n)
+
+aside_each : (names : List ℕ) (xs : List Step) → ComesThere (MayTake names) xs → AreUnordered xs → AreAside xs
+aside_each names [] h u = tt
+aside_each names (x ∷ xs) h u = (aside_one names h.0.0 x h.0.1 u.0, aside_each names xs h.1 u.1)
+
+-- the steps before and behind the last that is due
+module _ (names : List ℕ) (from to : List Step) (es : List Expected) (st : Stretch (MayTake names) from to es) (fs : List Expected) (e : Expected) (d : LastDue the_checking from to fs e) where
+  steps_are : st.comes.steps ≡ d.behind ++ (d.step ∷ d.front)
+  steps_are = append_cancel_right st.comes.steps (d.behind ++ (d.step ∷ d.front)) from (sym st.comes.behind ∙ d.whole ∙ sym (append_assoc d.behind (d.step ∷ d.front) from))
+
+  each : EachComes (MayTake names) from (d.behind ++ (d.step ∷ d.front))
+  each = subst (EachComes (MayTake names) from) steps_are st.comes.each
+
+  behind_aside : AreAside d.behind
+  behind_aside = aside_each names d.behind (first_come (MayTake names) from d.behind (d.step ∷ d.front) each) d.unordered
+
+  front_each : EachComes (MayTake names) from (d.front ++ [])
+  front_each = subst (EachComes (MayTake names) from) (sym (append-nil d.front)) (later_come (MayTake names) from d.behind (d.step ∷ d.front) each).0
+
+  front_aside : fs ≡ [] → AreAside d.front
+  front_aside z = aside_each names d.front (first_come (MayTake names) from d.front [] front_each) (d.alone z)
+
+shows_none : (b : Bool) (j : Judge) (ls : List Literal) → showing_if b j ls Unknown ≡ []
+shows_none true j ls = refl
+shows_none false j ls = refl
+
+-- HOW OFTEN SOMETHING IS ASSUMED
+
+-- how often that is expected
+abbrev due_times : List Expected → ℕ
+due_times [] = 0
+due_times (Opens ls o ∷ es) = due_times es + 1
+due_times (Closes ∷ es) = due_times es + 1
+due_times (e ∷ es) = due_times es
+
+unordered_times : (step : Step) (earlier : List Step) → is_ordered step ≡ false → assumed_times (step ∷ earlier) ≡ assumed_times earlier
+unordered_times (SolverVarName v name) s e = refl
+unordered_times (UserVarName v name) s e = refl
+unordered_times (DeleteVar v) s e = refl
+unordered_times (ChangeSamplingMode v sample) s e = refl
+unordered_times (AddClause c) s e = refl
+unordered_times (AtClause r c hs) s e = refl
+unordered_times (UnitClauses us) s e = refl
+unordered_times (DeleteClause c proof) s e = refl
+unordered_times (ChangeHashBits bits) s e = refl
+unordered_times (Model ls) s e = refl
+unordered_times (Assumptions ls) s e = absurd (let d : true ≡ false = e in cc)
+unordered_times (FailedAssumptions core hs) s e = refl
+unordered_times End s e = refl
+
+fits_times : {knows : ℕ → Bool} {earlier : List Step} {e : Expected} {step : Step} (es : List Expected) → Fits knows earlier e step → assumed_times (step ∷ earlier) + due_times es ≡ assumed_times earlier + due_times (e ∷ es)
+fits_times es (expecting.new_name i k) = refl
+fits_times es (expecting.no_name v) = refl
+fits_times es (expecting.adds c) = refl
+fits_times es (expecting.opens c) = omega arith
+fits_times es (expecting.shows n c a) = refl
+fits_times es (expecting.fails c) = refl
+fits_times es expecting.closes = omega arith
+fits_times es expecting.finish = refl
+
+makes_times : {k : Checking} {s t : List Step} {es : List Expected} → HasTrace k s t es → assumed_times t ≡ assumed_times s + due_times es
+makes_times no_step = omega arith
+makes_times (silent {s = s} {step = step} {es = es} n m) = makes_times m ∙ ap (λ (k : ℕ). k + due_times es) (unordered_times step s n)
+makes_times (visible {es = es} f m) = makes_times m ∙ fits_times es f
+
+both_times : (xs ys : List Expected) → due_times (xs ++ ys) ≡ due_times xs + due_times ys
+both_times [] ys = omega arith
+both_times (NewName name ∷ xs) ys = both_times xs ys
+both_times (NoName name ∷ xs) ys = both_times xs ys
+both_times (Adds ls ∷ xs) ys = both_times xs ys
+both_times (Opens ls o ∷ xs) ys = let h = both_times xs ys in omega (arith, h)
+both_times (Shows names ask line ∷ xs) ys = both_times xs ys
+both_times (Fails ask core ∷ xs) ys = both_times xs ys
+both_times (Closes ∷ xs) ys = let h = both_times xs ys in omega (arith, h)
+both_times (Finish ∷ xs) ys = both_times xs ys
+
+-- behind what is no assumption
+behind_none : (xs ys : List Expected) → due_times xs ≡ 0 → due_times (xs ++ ys) ≡ due_times ys
+behind_none xs ys e = let h = both_times xs ys in omega (arith, h, e)
+
+new_times : (names : List ℕ) → due_times (map NewName names) ≡ 0
+new_times [] = refl
+new_times (name ∷ names) = new_times names
+
+bringing_times : (names : List ℕ) (j : Judge) → due_times (bringing names j) ≡ 0
+bringing_times [] j = refl
+bringing_times (name ∷ names) j = behind_none (map NewName (new_names name j)) (bringing names (bring_in name j)) (new_times (new_names name j)) ∙ bringing_times names (bring_in name j)
+
+hiding_times : (names : List ℕ) (j : Judge) → due_times (hiding names j) ≡ 0
+hiding_times [] j = refl
+hiding_times (name ∷ names) j =
+    behind_none (map NewName (new_names name j)) (NoName name ∷ hiding names (without_name name (bring_in name j))) (new_times (new_names name j)) ∙ hiding_times names (without_name name (bring_in name j))
+
+setting_times : (mode : Mode) (names : List ℕ) (j : Judge) → due_times (setting mode names j) ≡ 0
+setting_times mode [] j = refl
+setting_times mode (name ∷ names) j =
+    behind_none (map NewName (new_names name j)) (setting mode names (with_mode mode name (bring_in name j))) (new_times (new_names name j)) ∙ setting_times mode names (with_mode mode name (bring_in name j))
+
+-- a command that is no ask assumes nothing
+due_none : (unsat : Bool) (c : Command) (j : Judge) → IsNoAsk c → due_times (due_for unsat c j) ≡ 0
+due_none true (Clause ls) j h = behind_none (bringing (names_of ls) j) [] (bringing_times (names_of ls) j)
+due_none false (Clause ls) j h = behind_none (bringing (names_of ls) j) (Adds ls ∷ []) (bringing_times (names_of ls) j)
+due_none unsat (Ask ls) j h = absurd h
+due_none unsat (Hide names) j h = hiding_times names j
+due_none unsat (Witness names) j h = setting_times Witnessed names j
+due_none unsat (Sample names) j h = setting_times Sampled names j
+
+shown_none : (unsat : Bool) (j : Judge) (ls : List Literal) (o : Outcome) → due_times (showing_if unsat j ls o) ≡ 0
+shown_none true j ls o = refl
+shown_none false j ls (Sat line) = refl
+shown_none false j ls (Unsat core) = refl
+shown_none false j ls Unknown = refl
+
+-- widths assume nothing
+told_times : (same : Bool) (now : ℕ) (w : List Step) → assumed_times ((if same then [] else ChangeHashBits now ∷ []) ++ w) ≡ assumed_times w
+told_times true now w = refl
+told_times false now w = refl
+
+narrowed_times : (bits : ℕ) (step : Step) (made written : List Step) → assumed_times written ≡ assumed_times made → assumed_times (narrowed bits step ∷ written) ≡ assumed_times (step ∷ made)
+narrowed_times bits (SolverVarName v name) m w e = e
+narrowed_times bits (UserVarName v name) m w e = e
+narrowed_times bits (DeleteVar v) m w e = e
+narrowed_times bits (ChangeSamplingMode v sample) m w e = e
+narrowed_times bits (AddClause c) m w e = e
+narrowed_times bits (AtClause r c hs) m w e = e
+narrowed_times bits (UnitClauses us) m w e = e
+narrowed_times bits (DeleteClause c proof) m w e = e
+narrowed_times bits (ChangeHashBits n) m w e = e
+narrowed_times bits (Model ls) m w e = e
+narrowed_times bits (Assumptions ls) m w e = ap (λ (k : ℕ). k + 1) e
+narrowed_times bits (FailedAssumptions core hs) m w e = e
+narrowed_times bits End m w e = e
+
+-- what is written assumes as often as what was made
+cut_times : {c d : Counting} {m w : List Step} → Cuts c m w d → assumed_times w ≡ assumed_times m
+cut_times none_made = refl
+cut_times (ask_begun p) = cut_times p
+cut_times (one_made {d = d} {made = m} {written = w} step k p) =
+    let now = (counted step d).bits in
+    narrowed_times now step m ((if nat_eq d.bits now then [] else ChangeHashBits now ∷ []) ++ w) (told_times (nat_eq d.bits now) now w ∙ cut_times p)
+
+-- more of them
+both_assumed : (xs ys : List Step) → assumed_times (xs ++ ys) ≡ assumed_times xs + assumed_times ys
+both_assumed [] ys = omega arith
+both_assumed (SolverVarName v name ∷ xs) ys = both_assumed xs ys
+both_assumed (UserVarName v name ∷ xs) ys = both_assumed xs ys
+both_assumed (DeleteVar v ∷ xs) ys = both_assumed xs ys
+both_assumed (ChangeSamplingMode v sample ∷ xs) ys = both_assumed xs ys
+both_assumed (AddClause c ∷ xs) ys = both_assumed xs ys
+both_assumed (AtClause r c hs ∷ xs) ys = both_assumed xs ys
+both_assumed (UnitClauses us ∷ xs) ys = both_assumed xs ys
+both_assumed (DeleteClause c proof ∷ xs) ys = both_assumed xs ys
+both_assumed (ChangeHashBits bits ∷ xs) ys = both_assumed xs ys
+both_assumed (Model ls ∷ xs) ys = both_assumed xs ys
+both_assumed (Assumptions ls ∷ xs) ys = let h = both_assumed xs ys in omega (arith, h)
+both_assumed (FailedAssumptions core hs ∷ xs) ys = both_assumed xs ys
+both_assumed (End ∷ xs) ys = both_assumed xs ys
+
+aside_times : {step : Step} (earlier : List Step) → IsAside step → assumed_times (step ∷ earlier) ≡ assumed_times earlier
+aside_times earlier index_aside = refl
+aside_times earlier width_aside = refl
+
+asides_times : (xs earlier : List Step) → AreAside xs → assumed_times (xs ++ earlier) ≡ assumed_times earlier
+asides_times [] earlier h = refl
+asides_times (x ∷ xs) earlier h = aside_times (xs ++ earlier) h.0 ∙ asides_times xs earlier h.1
+
+-- WHAT AN ASK LEARNED
+
+-- in what is made
+record MadeAsk (from to : List Step) (o : Outcome) (rounds : ℕ) : Type 0 where
+  before : List Step
+  ask : List ℕ
+  middle : List Step
+  behind : List Step
+  whole : to ≡ behind ++ (Assumptions [] ∷ (middle ++ (Assumptions ask ∷ before)))
+  opened_at : assumed_times before ≡ assumed_times from
+  closed_at : assumed_times to ≡ assumed_times (middle ++ (Assumptions ask ∷ before)) + 1
+  learned : ℕ
+  times : made.AdvanceTimes (Assumptions ask ∷ before) middle learned
+  counts : Learns (the_checking.unsat (Assumptions ask ∷ before)) o rounds learned
+  unordered : o ≡ Unknown → AreUnordered middle
+
+module _ (j : Judge) (ls : List Literal) (o : Outcome) (n : ℕ) (from to : List Step) (a : AskStretches j ls o n from to) where
+  first : LastDue the_checking from a.opened (bringing (names_of ls) j) (Opens ls o)
+  first = last_due a.opens.due (bringing (names_of ls) j) (Opens ls o) refl
+
+  last : LastDue the_checking a.shown to [] Closes
+  last = last_due a.closes.due [] Closes refl
+
+  abbrev asked : List ℕ
+  asked = (opening first.fits).0
+
+  abbrev start : List Step
+  start = Assumptions asked ∷ (first.front ++ from)
+
+  opened_is : a.opened ≡ first.behind ++ start
+  opened_is = first.whole ∙ ap (λ (s : Step). first.behind ++ (s ∷ (first.front ++ from))) (opening first.fits).1
+
+  first_aside : AreAside first.behind
+  first_aside = behind_aside (names_of ls) from a.opened (bringing (names_of ls) j ++ (Opens ls o ∷ [])) a.opens (bringing (names_of ls) j) (Opens ls o) first
+
+  last_behind : AreAside last.behind
+  last_behind = behind_aside [] a.shown to (Closes ∷ []) a.closes [] Closes last
+
+  last_front : AreAside last.front
+  last_front = front_aside [] a.shown to (Closes ∷ []) a.closes [] Closes last refl
+
+  abbrev found : List Step
+  found = a.learns.times.steps
+
+  shown_is : last.front ++ a.shown ≡ (last.front ++ (found ++ first.behind)) ++ start
+  shown_is =
+      ap (λ (v : List Step). last.front ++ v) (a.learns.times.behind ∙ ap (λ (v : List Step). found ++ v) opened_is ∙ sym (append_assoc found first.behind start))
+      ∙ sym (append_assoc last.front (found ++ first.behind) start)
+
+  to_is : to ≡ last.behind ++ (Assumptions [] ∷ ((last.front ++ (found ++ first.behind)) ++ start))
+  to_is = last.whole ∙ ap (λ (s : Step). last.behind ++ (s ∷ (last.front ++ a.shown))) (closing last.fits) ∙ ap (λ (v : List Step). last.behind ++ (Assumptions [] ∷ v)) shown_is
+
+  opened_times : assumed_times (first.front ++ from) ≡ assumed_times from
+  opened_times =
+      let h : assumed_times a.opened ≡ assumed_times from + 1 = makes_times a.opens.due ∙ ap (λ (k : ℕ). assumed_times from + k) (behind_none (bringing (names_of ls) j) (Opens ls o ∷ []) (bringing_times (names_of ls) j)) in
+      let e = ap assumed_times opened_is in
+      let f : assumed_times (first.behind ++ start) ≡ assumed_times (first.front ++ from) + 1 = asides_times first.behind start first_aside in
+      omega (arith, h, e, f)
+
+  closed_times : assumed_times to ≡ assumed_times ((last.front ++ (found ++ first.behind)) ++ start) + 1
+  closed_times = ap assumed_times to_is ∙ asides_times last.behind (Assumptions [] ∷ ((last.front ++ (found ++ first.behind)) ++ start)) last_behind
+
+  found_unordered : o ≡ Unknown → AreUnordered found
+  found_unordered e =
+      let none : showing_if (the_checking.unsat a.shown) (accepted (Ask ls) j) ls o ≡ [] =
+      ap (showing_if (the_checking.unsat a.shown) (accepted (Ask ls) j) ls) e ∙ shows_none (the_checking.unsat a.shown) (accepted (Ask ls) j) ls in
+      let q = quiet_between a.searches.due none in
+      subst AreUnordered (append_cancel_right q.0 found a.opened (sym q.1 ∙ a.learns.times.behind)) q.2
+
+  made_ask_is : MadeAsk from to o n
+  made_ask_is = record {
+    before = first.front ++ from;
+    ask = asked;
+    middle = last.front ++ (found ++ first.behind);
+    behind = last.behind;
+    whole = to_is;
+    opened_at = opened_times;
+    closed_at = closed_times;
+    learned = a.learns.learned;
+    times = asides_still start last.front (found ++ first.behind) a.learns.learned last_front
+        (behind_asides start first.behind found a.learns.learned first_aside (subst (λ (v : List Step). made.AdvanceTimes v found a.learns.learned) opened_is a.learns.times.times));
+    counts = subst (λ (b : Bool). Learns b o n a.learns.learned) (ap (λ (v : List Step). the_checking.unsat v) opened_is ∙ asides_unsat first.behind start first_aside) a.learns.counts;
+    unordered = λ e. append_unordered last.front (found ++ first.behind) (asides_unordered last.front last_front)
+        (append_unordered found first.behind (found_unordered e) (asides_unordered first.behind first_aside));
+  }
+
+  ask_closed : assumed_times to ≡ assumed_times from + 2
+  ask_closed =
+      let opened : assumed_times a.opened ≡ assumed_times from + 1 = makes_times a.opens.due ∙ ap (λ (k : ℕ). assumed_times from + k) (behind_none (bringing (names_of ls) j) (Opens ls o ∷ []) (bringing_times (names_of ls) j)) in
+      let shown = makes_times a.searches.due in
+      let none = shown_none (the_checking.unsat a.shown) (accepted (Ask ls) j) ls o in
+      let closed : assumed_times to ≡ assumed_times a.shown + 1 = makes_times a.closes.due in
+      omega (arith, opened, shown, none, closed)
+
+-- and in what is written
+module _ {c d : Counting} {whole steps : List Step} (p : Cuts c whole steps d) (asks n : ℕ) (o : Outcome) (from to : List Step) (m : MadeAsk from to o n)
+    (ext : Ext to whole) (at : assumed_times from ≡ 2 * asks) (shut : assumed_times to ≡ assumed_times from + 2) where
+  abbrev opened : List Step
+  opened = Assumptions m.ask ∷ m.before
+
+  abbrev later : List Step
+  later = ext.0 ++ m.behind
+
+  made_is : whole ≡ later ++ (Assumptions [] ∷ (m.middle ++ opened))
+  made_is = ext.1 ∙ ap (λ (v : List Step). ext.0 ++ v) m.whole ∙ sym (append_assoc ext.0 m.behind (Assumptions [] ∷ (m.middle ++ opened)))
+
+  cut : Split c (Assumptions [] ∷ (m.middle ++ opened)) steps
+  cut = split p later (Assumptions [] ∷ (m.middle ++ opened)) made_is
+
+  closed_head : Head c (Assumptions []) (m.middle ++ opened) cut.back
+  closed_head = head_cut cut.cuts (Assumptions []) (m.middle ++ opened) refl
+
+  between : Timed c opened closed_head.back m.middle m.learned
+  between = timed closed_head.cuts m.middle opened m.learned refl m.times
+
+  opened_head : Head c (Assumptions m.ask) m.before between.before
+  opened_head = head_cut between.cuts (Assumptions m.ask) m.before refl
+
+  abbrev before_is : List Step
+  before_is = opened_head.told ++ opened_head.back
+
+  abbrev middle_is : List Step
+  middle_is = closed_head.told ++ between.middle
+
+  whole_is : steps ≡ cut.front ++ (Assumptions [] ∷ (middle_is ++ (Assumptions m.ask ∷ before_is)))
+  whole_is =
+      let inner : closed_head.told ++ closed_head.back ≡ middle_is ++ (Assumptions m.ask ∷ before_is) =
+          ap (λ (v : List Step). closed_head.told ++ v) (between.whole ∙ ap (λ (v : List Step). between.middle ++ v) opened_head.whole) ∙ sym (append_assoc closed_head.told between.middle (Assumptions m.ask ∷ before_is)) in
+      cut.whole ∙ ap (λ (v : List Step). cut.front ++ v) (closed_head.whole ∙ ap (λ (v : List Step). Assumptions [] ∷ v) inner)
+
+  opened_same : assumed_times between.before ≡ assumed_times from + 1
+  opened_same = let e : assumed_times between.before ≡ assumed_times m.before + 1 = cut_times between.cuts in let f = m.opened_at in omega (arith, e, f)
+
+  place_is : assumed_times before_is ≡ 2 * asks
+  place_is = let e : assumed_times between.before ≡ assumed_times before_is + 1 = ap assumed_times opened_head.whole in let f = opened_same in omega (arith, e, f, at)
+
+  only_is : assumed_times middle_is ≡ 0
+  only_is =
+      let all = cut_times closed_head.cuts in
+      let parts = ap assumed_times between.whole ∙ both_assumed between.middle between.before in
+      let told = asides_times closed_head.told between.middle closed_head.aside in
+      let f = opened_same in let closed = m.closed_at in
+      omega (arith, all, parts, told, f, closed, shut)
+
+  learns_in : LearnsIn steps asks o n
+  learns_in = record {
+    before = before_is;
+    ask = m.ask;
+    middle = middle_is;
+    behind = cut.front;
+    whole = whole_is;
+    place = place_is;
+    only = only_is;
+    learned = m.learned;
+    times = asides_never (Assumptions m.ask ∷ before_is) closed_head.told between.middle m.learned closed_head.aside
+        (subst (λ (v : List Step). AdvanceTimes v between.middle m.learned) opened_head.whole between.times);
+    counts = subst (λ (b : Bool). Learns b o n m.learned) (sym (ap (λ (v : List Step). the_checking.unsat v) (sym opened_head.whole) ∙ cut_unsat between.cuts)) m.counts;
+    unordered = λ e. append_unordered closed_head.told between.middle (asides_unordered closed_head.told closed_head.aside) (between.unordered (m.unordered e));
+  }
+
+each_learns : (c d : Counting) {j : Judge} {s t : List Step} {cs : List Command} {os : List Outcome} {ns : List ℕ} (asks : ℕ) (whole steps : List Step)
+    → MadeFor j s t cs os ns → assumed_times s ≡ 2 * asks → Ext t whole → Cuts c whole steps d → EachLearns steps asks os ns
+each_learns c d asks whole steps made_none before ext p = tt
+each_learns c d {j = j} {s = s} asks whole steps (made_one {c = command} mid i st rest) before ext p =
+    let here = makes_times st.due in
+    let none = due_none (the_checking.unsat s) command j i in
+    each_learns c d asks whole steps rest (omega (arith, here, none, before)) ext p
+each_learns c d {j = j} {s = s} asks whole steps (made_ask {ls = ls} {o = o} {n = n} mid a rest) before ext p =
+    let closed = ask_closed j ls o n s mid a in (
+      learns_in p asks n o s mid (made_ask_is j ls o n s mid a) (onward (extends rest) ext) before closed,
+      each_learns c d (asks + 1) whole steps rest (omega (arith, closed, before)) ext p,
+    )
+
+-- each ask of a run is such
+pub asks_learn : {j : Judge} {made steps : List Step} {commands : List Command} {outcomes : List Outcome} {counts : List ℕ} (c d : Counting)
+    → MadeFor j [] made commands outcomes counts → Cuts c (End ∷ made) steps d → EachLearns steps 0 outcomes counts
+asks_learn {made = made} {steps = steps} c d m p = each_learns c d 0 (End ∷ made) steps m refl (End ∷ [], refl) p

@@ -1,0 +1,35 @@
+-- Where asks stand in a certificate, and how often a clause that advances is derived there. Lists of steps have the newest first.
+use Rattle.std.specs.Prelude.{ℕ, ◌+◌, ◌*◌, ◌≡◌, List, [], ◌∷◌, ◌++◌}
+use Rattle.sat_base.specs.steps.Steps.{Step, Assumptions}
+use Rattle.sat_checker.specs.matching.Expected.{Outcome, Unknown}
+use Rattle.sat_checker.specs.matching.ProofChecking.{the_checking}
+use Rattle.certify.specs.run.Advancing.{AdvanceTimes, AreUnordered}
+use Rattle.certify.specs.serving.Stretches.{Learns}
+
+-- how often something is assumed: twice for each ask, its literals and, at its end, none
+abbrev pub assumed_times : List Step → ℕ
+assumed_times [] = 0
+assumed_times (Assumptions ls ∷ earlier) = assumed_times earlier + 1
+assumed_times (step ∷ earlier) = assumed_times earlier
+
+-- Between the assumptions of the ask that has so many before it and the next ones, which are none, exactly as many derived clauses advance
+-- as its rounds have learned. Of an unknown one there is no ordered step between.
+pub record LearnsIn (steps : List Step) (asks : ℕ) (o : Outcome) (rounds : ℕ) : Type 0 where
+  pub before : List Step
+  pub ask : List ℕ
+  pub middle : List Step
+  pub behind : List Step
+  pub whole : steps ≡ behind ++ (Assumptions [] ∷ (middle ++ (Assumptions ask ∷ before)))
+  pub place : assumed_times before ≡ 2 * asks
+  pub only : assumed_times middle ≡ 0
+  pub learned : ℕ
+  pub times : AdvanceTimes (Assumptions ask ∷ before) middle learned
+  pub counts : Learns (the_checking.unsat (Assumptions ask ∷ before)) o rounds learned
+  pub unordered : o ≡ Unknown → AreUnordered middle
+
+-- the same of each ask, which took so many rounds; so many stand before all of these
+abbrev pub EachLearns : (steps : List Step) (asks : ℕ) → List Outcome → List ℕ → Type 0
+EachLearns steps asks [] [] = Unit {0}
+EachLearns steps asks [] (n ∷ ns) = ⊥
+EachLearns steps asks (o ∷ os) [] = ⊥
+EachLearns steps asks (o ∷ os) (n ∷ ns) = LearnsIn steps asks o n × EachLearns steps (asks + 1) os ns
