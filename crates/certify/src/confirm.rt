@@ -1,7 +1,7 @@
 //! Confirms that script, answers and certificate belong together.
 ghost use Rattle.std.specs.Prelude.{◌≡◌, ◌+◌, ◌≤◌, ◌⊎◌, IfOk, IsErrOf};
 ghost use Rattle.sat_base.specs.device.Device.{most_reads, ReadFails};
-ghost use Rattle.certify.specs.confirm.VerdictPromises.{IsExact, IsSound, ReadsKept, TakesLooks, gave};
+ghost use Rattle.certify.specs.confirm.VerdictPromises.{IsExact, IsSound, Promised, ReadsKept, TakesLooks, gave};
 ghost use Rattle.certify.specs.matching.Whole.{said_by};
 
 pub(crate) mod feeding;
@@ -33,6 +33,30 @@ fn conclude(ended: Result<(), Halt>, asks: u64) -> Result<Verdict, ConfirmFault>
         Err(Halt::Stop(Stop::OutOfMemory)) => Err(ConfirmFault::OutOfMemory),
         Err(Halt::TooMany | Halt::Stop(Stop::CounterEnd)) => Err(ConfirmFault::CounterEnd),
     }
+}
+
+/// Compares a script, answers and a certificate as far as they match. Gives how that ended, and how many asks were confirmed wholly.
+fn compare<S: CountedRead, A: CountedRead, C: CountedRead>(
+    alloc: Global,
+    script: &mut S,
+    answers: &mut A,
+    certificate: &mut C,
+    looks: &mut Looks,
+) -> (Result<(), Halt>, u64)
+    ensures promised { Promised (said_by result.0 result.1) (gave S.seen script.old script.new) (gave A.seen answers.old answers.new)
+        (gave C.seen certificate.old certificate.new) }
+    ensures looks { TakesLooks (C.seen certificate.old) (C.seen certificate.new) looks.old looks.new }
+{
+    let mut confirmation = Confirmation {
+        script: CommandStream::new(alloc),
+        session: Session::new(alloc),
+    };
+    let mut steps = StepReader::new(alloc, certificate);
+    let ended = confirmation.confirm_all(script, answers, &mut steps);
+    looks.add(&confirmation.session.matching.certificate.checker);
+    let asks = confirmation.session.asks;
+    drop(confirmation);
+    (ended, asks)
 }
 
 /// Compares a script, answers and a certificate, and says yes exactly where they match. Each is read in pieces of at most 4,096 bytes, no
@@ -69,14 +93,6 @@ pub fn confirm<S: CountedRead, A: CountedRead, C: CountedRead>(
     ensures answers_reads { (A.seen answers.new).calls ≤ (A.seen answers.old).calls + most_reads }
     ensures certificate_reads { (C.seen certificate.new).calls ≤ (C.seen certificate.old).calls + most_reads }
 {
-    let mut confirmation = Confirmation {
-        script: CommandStream::new(alloc),
-        session: Session::new(alloc),
-    };
-    let mut steps = StepReader::new(alloc, certificate);
-    let ended = confirmation.confirm_all(script, answers, &mut steps);
-    looks.add(&confirmation.session.matching.certificate.checker);
-    let asks = confirmation.session.asks;
-    drop(confirmation);
+    let (ended, asks) = compare(alloc, script, answers, certificate, looks);
     conclude(ended, asks)
 }

@@ -34,6 +34,25 @@ fn answer<S: CountedRead, A: CountedWrite, C: CountedWrite + Drop>(
     end_run(session, answers, served)
 }
 
+/// Answers a script, with the certificate's writer lent.
+fn answer_into<S: CountedRead, A: CountedWrite, C: CountedWrite>(
+    alloc: Global,
+    script: &mut S,
+    answers: &mut A,
+    certificate: &mut C,
+    budget: u64,
+) -> Result<Summary, RunFault>
+    ensures runs { Runs result budget (gave S.seen script.old script.new) (took A.seen answers.old answers.new)
+        (took C.seen certificate.old certificate.new) }
+    ensures unfinished { OnErr result (Unfinished (gave S.seen script.old script.new) (took A.seen answers.old answers.new)) }
+    ensures steps { TookSteps (took C.seen certificate.old certificate.new) }
+    ensures reads { ReadsFew (gave S.seen script.old script.new) }
+{
+    let (lent, result) = answer(alloc, script, answers, certificate, budget);
+    let _certificate: &mut C = lent;
+    result
+}
+
 /// Answers each ask of a script, with at most `budget` steps of search for each, and writes the answers and a certificate
 /// behind what the writers hold.
 ///
@@ -69,7 +88,5 @@ pub fn run<S: CountedRead, A: CountedWrite, C: CountedWrite>(
     // The script is read at most 2^48 times.
     ensures reads { (S.seen script.new).calls ≤ (S.seen script.old).calls + most_reads }
 {
-    let (lent, result) = answer(alloc, script, answers, certificate, budget);
-    let _certificate: &mut C = lent;
-    result
+    answer_into(alloc, script, answers, certificate, budget)
 }

@@ -1,6 +1,6 @@
 -- What a verdict promises of the texts that three readers gave.
-use Rattle.std.specs.Prelude.{ℕ, ◌+◌, ◌*◌, ◌^◌, ◌≤◌, ◌≡◌, ◌↔◌, Result, IfOk, List, [], ◌++◌, length}
-use Rattle.sat_base.specs.device.Device.{Reader, GaveFront, GaveEnough, CanFollow}
+use Rattle.std.specs.Prelude.{ℕ, ◌+◌, ◌*◌, ◌^◌, ◌≤◌, ◌≡◌, ◌↔◌, ◌⊎◌, Result, Err, IfOk, List, [], ◌++◌, length}
+use Rattle.sat_base.specs.device.Device.{Reader, GaveFront, GaveEnough, CanFollow, ReadFails, most_reads}
 use Rattle.certify.specs.answers.Answers.{answers_text}
 use Rattle.sat_checker.specs.matching.Expected.{Outcome}
 use Rattle.certify.specs.answers.RightAnswers.{AnswersAreRight}
@@ -9,6 +9,8 @@ use Rattle.sat_checker.specs.matching.ProofChecking.{the_checking}
 use Rattle.certify.specs.confirm.Walks.{LooksReach}
 use Rattle.sat_base.specs.script.Script.{Clean, Malformed}
 use Rattle.sat_base.specs.script.Language.{Reading, reading}
+use Rattle.certify.specs.declared.verdict.ConfirmFault.{ConfirmFault}
+use Rattle.certify.specs.declared.verdict.ConfirmFault.TheVariants as fault
 use Rattle.certify.specs.declared.verdict.Verdict.{Verdict}
 use Rattle.certify.specs.declared.verdict.Verdict.TheVariants.{Yes}
 
@@ -58,3 +60,18 @@ pub record TakesLooks (old new : Reader) (from to : ℕ) : Type 0 where
 abbrev pub numbers : Reading → ℕ
 numbers (commands, Clean) = length commands
 numbers (commands, Malformed) = length commands + 1
+
+-- what `confirm` promises of its answer, but for the looks
+pub record Promised (r : Result Verdict ConfirmFault) (script answers certificate : Reader × Reader) : Type 0 where
+  pub exact : IfOk r (Exact script answers certificate)
+  pub sound : IfOk r (IsSound script answers)
+  pub script_read : r ≡ Err fault.ScriptRead → ReadFails script.0 script.1
+  pub answers_read : r ≡ Err fault.AnswersRead → ReadFails answers.0 answers.1
+  pub certificate_read : r ≡ Err fault.CertificateRead → ReadFails certificate.0 certificate.1
+  pub counter_end : r ≡ Err fault.CounterEnd → ⊥
+  pub kept_script : (r ≡ Err fault.ScriptRead) ⊎ (script.1.failures ≡ script.0.failures)
+  pub kept_answers : (r ≡ Err fault.AnswersRead) ⊎ (answers.1.failures ≡ answers.0.failures)
+  pub kept_certificate : (r ≡ Err fault.CertificateRead) ⊎ (certificate.1.failures ≡ certificate.0.failures)
+  pub script_reads : script.1.calls ≤ script.0.calls + most_reads
+  pub answers_reads : answers.1.calls ≤ answers.0.calls + most_reads
+  pub certificate_reads : certificate.1.calls ≤ certificate.0.calls + most_reads

@@ -13,7 +13,7 @@ use Rattle.sat_checker.specs.matching.ProofChecking.{the_checking}
 use Rattle.sat_checker.proofs.lemmas.matching.CheckerIsSound.{the_checking_sound}
 use Rattle.certify.specs.confirm.Matches.{Matches}
 use Rattle.certify.specs.confirm.Streams.{Confirms, Covers, rest_in, seen_in}
-use Rattle.certify.specs.confirm.VerdictPromises.{AreRightAnswers, Exact, Given, IsSound, TakesLooks, numbers}
+use Rattle.certify.specs.confirm.VerdictPromises.{AreRightAnswers, Exact, Given, IsSound, Promised, TakesLooks, numbers}
 use Rattle.certify.specs.confirm.Views.{View}
 use Rattle.certify.specs.confirm.Walks.{LooksReach, Tries}
 use Rattle.certify.specs.matching.Confirming.{ConfirmsLast, HoldsAt, Table}
@@ -105,21 +105,6 @@ certificate_left x a c y b d (Err fault.CounterEnd) h = absurd h
 said_exact : (x a c : Reader) (y b d : Source) (r : Result Verdict ConfirmFault) → Tells x a c y b d r → IfOk r (Exact (x, y.reader) (a, b.reader) (c, d.reader))
 said_exact x a c y b d (Ok v) h = h.3
 said_exact x a c y b d (Err e) h = tt
-
--- What `confirm` promises of its answer, but for the looks.
-pub record Promised (r : Result Verdict ConfirmFault) (script answers certificate : Reader × Reader) : Type 0 where
-  pub exact : IfOk r (Exact script answers certificate)
-  pub sound : IfOk r (IsSound script answers)
-  pub script_read : r ≡ Err fault.ScriptRead → ReadFails script.0 script.1
-  pub answers_read : r ≡ Err fault.AnswersRead → ReadFails answers.0 answers.1
-  pub certificate_read : r ≡ Err fault.CertificateRead → ReadFails certificate.0 certificate.1
-  pub counter_end : r ≡ Err fault.CounterEnd → ⊥
-  pub kept_script : (r ≡ Err fault.ScriptRead) ⊎ (script.1.failures ≡ script.0.failures)
-  pub kept_answers : (r ≡ Err fault.AnswersRead) ⊎ (answers.1.failures ≡ answers.0.failures)
-  pub kept_certificate : (r ≡ Err fault.CertificateRead) ⊎ (certificate.1.failures ≡ certificate.0.failures)
-  pub script_reads : script.1.calls ≤ script.0.calls + most_reads
-  pub answers_reads : answers.1.calls ≤ answers.0.calls + most_reads
-  pub certificate_reads : certificate.1.calls ≤ certificate.0.calls + most_reads
 
 promised : (x a c : Reader) (y b d : Source) (r : Result Verdict ConfirmFault) → y.reads ≤ most_reads → b.reads ≤ most_reads → d.reads ≤ most_reads → Tells x a c y b d r → Promised r (x, y.reader) (a, b.reader) (c, d.reader)
 promised x a c y b d r m n k h =

@@ -1,4 +1,4 @@
-use Rattle.certify.proofs.lemmas.run.Runs.{answered_if, backed_if, runs_lent, steps_lent}
+use Rattle.certify.proofs.lemmas.run.Runs.{answered_if, backed_if}
 use Rattle.certify.proofs.run.run.Goals as goal
 
 pub returns-clause-answered : goal.returns-clause-answered
@@ -6,32 +6,13 @@ returns-clause-answered g c =
     let S = g.S.CountedRead.seen in
     let A = g.A.CountedWrite.seen in
     let C = g.C.CountedWrite.seen in
-    let x = S c.args.script.now in
-    let y = S c.answer-lent.new.script in
-    let u = A c.args.answers.now in
-    let z = A c.answer-lent.new.answers in
-    answered_if c.args.budget x y u z (C c.args.certificate.now) (C _) c.answer-lent.result.1
-    (runs_lent C c.args.budget x y u z c.args.certificate.now _ c.answer-lent.result.0.now _ c.answer-lent.result.0.ghost_name c.certificate-1.given.1 c.answer-lent.result.1 c.answer-lent.ensures.runs)
+    let new = c.answer_into.new in
+    answered_if c.args.budget (S c.args.script.now) (S new.script) (A c.args.answers.now) (A new.answers) (C c.args.certificate.now) (C new.certificate) c.answer_into.result c.answer_into.ensures.runs
 
 pub returns-clause-backed : goal.returns-clause-backed
 returns-clause-backed g c =
     let S = g.S.CountedRead.seen in
     let A = g.A.CountedWrite.seen in
     let C = g.C.CountedWrite.seen in
-    let x = S c.args.script.now in
-    let y = S c.answer-lent.new.script in
-    let u = A c.args.answers.now in
-    let z = A c.answer-lent.new.answers in
-    backed_if c.args.budget x y u z (C c.args.certificate.now) (C _) c.answer-lent.result.1
-    (runs_lent C c.args.budget x y u z c.args.certificate.now _ c.answer-lent.result.0.now _ c.answer-lent.result.0.ghost_name c.certificate-1.given.1 c.answer-lent.result.1 c.answer-lent.ensures.runs)
-
-pub returns-clause-steps : goal.returns-clause-steps
-returns-clause-steps g c =
-    let S = g.S.CountedRead.seen in
-    let A = g.A.CountedWrite.seen in
-    let C = g.C.CountedWrite.seen in
-    let x = S c.args.script.now in
-    let y = S c.answer-lent.new.script in
-    let u = A c.args.answers.now in
-    let z = A c.answer-lent.new.answers in
-    steps_lent C c.args.budget x y u z c.args.certificate.now _ c.answer-lent.result.0.now _ c.answer-lent.result.0.ghost_name c.certificate-1.given.1 c.answer-lent.result.1 c.answer-lent.ensures.runs c.answer-lent.ensures.steps
+    let new = c.answer_into.new in
+    backed_if c.args.budget (S c.args.script.now) (S new.script) (A c.args.answers.now) (A new.answers) (C c.args.certificate.now) (C new.certificate) c.answer_into.result c.answer_into.ensures.runs

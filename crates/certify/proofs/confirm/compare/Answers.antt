@@ -4,7 +4,7 @@ use Rattle.sat_checker.specs.CheckerView.{kernel_of}
 use Rattle.certify.specs.matching.Confirming.{table_of}
 use Rattle.certify.specs.matching.Whole.{standing}
 use Rattle.certify.proofs.lemmas.matching.Decided.{IsBegun, begins, keeps_promises, looks_added}
-use Rattle.certify.proofs.confirm.confirm.Goals as goal
+use Rattle.certify.proofs.confirm.compare.Goals as goal
 
 pub returns : goal.returns
 returns g c =
@@ -25,19 +25,7 @@ returns g c =
     let ends = begins ended.result x a d script answers (reader_source C c.new-steps.result) checker step (c.new-2.result.number + 1) table new
     c.new.ensures.waiting c.new.ensures.reads c.new-2.ensures.waiting c.new-2.ensures.reads c.new-steps.ensures.source (ap (λ (n : ℕ). n + 1) c.new-2.ensures.number) ended.ensures.ends in
     let now : C c.certificate-1.given.0 ≡ C ended.new.steps.reader.now = ap C (c.certificate-1.given.1 (cc) ∙ c.drop-steps.ensures) in
-    let p = keeps_promises x a d checker step table new fresh ended.result ended.new.self.session.asks ended.new.self.script.ahead.bounded ended.new.self.session.answers.lines.ahead.bounded ended.ensures.bound ends in
-    rw (now, c.conclude.ensures) record {
-      exact = p.exact;
-      sound = p.sound;
-      script_read = p.script_read;
-      answers_read = p.answers_read;
-      certificate_read = p.certificate_read;
-      counter_end = p.counter_end;
+    rw now record {
+      promised = keeps_promises x a d checker step table new fresh ended.result ended.new.self.session.asks ended.new.self.script.ahead.bounded ended.new.self.session.answers.lines.ahead.bounded ended.ensures.bound ends;
       looks = looks_added x a d checker step table fresh new c.new-2.ensures.looks ended.result c.args.looks.now c.add.new.self c.add.ensures ends;
-      kept_script = p.kept_script;
-      kept_answers = p.kept_answers;
-      kept_certificate = p.kept_certificate;
-      script_reads = p.script_reads;
-      answers_reads = p.answers_reads;
-      certificate_reads = p.certificate_reads;
     }
