@@ -34,7 +34,7 @@ due_of code.End = λ o ask. Finish
 pub record AreKnown (known : Known) (earlier : List Step) : Type 0 where
   pub stands : Stands (kernel_of known.checker.now) earlier
   pub goes_on : has_failed (kernel_of known.checker.now) ≡ false
-  pub named : variable_of earlier ≡ variable_in known.variables.now.variables.items
+  pub named : variable_of earlier ≡ variable_in known.variables.now
 
 -- the step is what is expected, whatever outcome and ask, or isn't
 abbrev pub Compares : Due → Known → Step → Option Why → Type 0
@@ -46,9 +46,9 @@ Compares due known step (Some why) = (earlier : List Step) → AreKnown known ea
 -- the step is a model that has the literals of a line, or isn't
 abbrev pub ComparesLine : Known → List ℕ → Step → Option Why → Type 0
 ComparesLine known line step None = (codes : List ℕ) × (step ≡ Model codes)
-    × EachSpelt (variable_in known.variables.now.variables.items) (named_literals line) codes
+    × EachSpelt (variable_in known.variables.now) (named_literals line) codes
 ComparesLine known line step (Some why) = (codes : List ℕ) → step ≡ Model codes
-    → EachSpelt (variable_in known.variables.now.variables.items) (named_literals line) codes → ⊥
+    → EachSpelt (variable_in known.variables.now) (named_literals line) codes → ⊥
 
 -- what may be left unmet once unsat is recorded, where the outcome of an ask is then the only one; no other steps
 abbrev pub Allows : Expected → Type 0

@@ -1,5 +1,5 @@
 -- What names stand for behind one step more.
-use Rattle.std.specs.Prelude.{ℕ, ◌≤◌, ◌≡◌, true, false, Some, List, ◌∷◌, length}
+use Rattle.std.specs.Prelude.{ℕ, ◌≤◌, ◌≡◌, true, false, Some, List, ◌∷◌}
 use Rattle.sat_base.specs.values.Literals.{largest}
 use Rattle.sat_base.specs.script.Script.{Literal}
 use Rattle.sat_base.specs.steps.Steps.{Step}
@@ -14,10 +14,10 @@ use Rattle.certify.specs.declared.matching.named.NamedVars.{NamedVars}
 -- behind accepted steps these are the variables of the names: no two names have one, and each is known
 pub record StandFor (variables : NamedVars) (earlier : List Step) : Type 0 where
   pub accepted : Accepted the_checking earlier
-  pub named : variable_of earlier ≡ variable_in variables.variables.items
+  pub named : variable_of earlier ≡ variable_in variables
   pub apart : (m n v : ℕ) → variable_of earlier m ≡ Some v → variable_of earlier n ≡ Some v → m ≡ n
   pub known : (m v : ℕ) → variable_of earlier m ≡ Some v → the_checking.knows earlier v ≡ true
-  pub few : length variables.variables.items ≤ largest
+  pub few : (name v : ℕ) → variable_of earlier name ≡ Some v → name ≤ largest
 
 -- behind an accepted step that is what is expected
 abbrev pub Follows : Due → NamedVars → Step → NamedVars → Type 0

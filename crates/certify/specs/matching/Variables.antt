@@ -1,12 +1,13 @@
 -- The variables of names, some of which have none.
-use Rattle.std.specs.Prelude.{ℕ, zero, suc, ◌≤◌, ◌==◌, ◌≡◌, max, Option, None, List, length, get_or, if◌then◌else◌}
+use Rattle.std.specs.Prelude.{ℕ, zero, suc, ◌==◌, ◌≡◌, Option, None, if◌then◌else◌}
+use Rattle.sat_base.specs.values.Tables.{value_at}
+use Rattle.certify.specs.declared.matching.named.NamedVars.{NamedVars}
 
--- of a name, by a list that begins with name 1
-abbrev pub variable_in : List (Option ℕ) → ℕ → Option ℕ
-variable_in variables zero = None
-variable_in variables (suc index) = get_or variables index None
+-- of a name, by a table that begins with name 1
+abbrev pub variable_in : NamedVars → ℕ → Option ℕ
+variable_in names zero = None
+variable_in names (suc index) = value_at None names.variables index
 
 -- the name has this variable, or none, and every other name has what it had
-pub record IsPut (old new : List (Option ℕ)) (name : ℕ) (value : Option ℕ) : Type 0 where
+pub record IsPut (old new : NamedVars) (name : ℕ) (value : Option ℕ) : Type 0 where
   pub each : (m : ℕ) → variable_in new m ≡ (if name == m then value else variable_in old m)
-  pub room : length new ≤ max (length old) name

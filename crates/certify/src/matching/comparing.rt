@@ -67,7 +67,7 @@ pub(crate) fn has_all(line: &[Lit], literals: &[Lit], room: &mut Room) -> Result
 /// Spells the literals by the names' variables. The answer is whether each name has one.
 fn spell(variables: &NamedVars, literals: &[Lit], spelt: &mut Vec<Lit>) -> Result<bool, AllocError>
     ensures { IfOk result
-        (λ yes. SpellsAll yes (variable_in variables.now.variables.items) (named_literals literals.now) spelt.new.items) }
+        (λ yes. SpellsAll yes (variable_in variables.now) (named_literals literals.now) spelt.new.items) }
 {
     spelt.clear();
     for lit in literals {
@@ -87,7 +87,7 @@ pub(crate) fn are_spelt_in(
     room: &mut Room,
 ) -> Result<bool, AllocError>
     ensures { IfOk result
-        (λ yes. Tells yes (EachSpelt (variable_in variables.now.variables.items) (named_literals literals.now) codes.now)) }
+        (λ yes. Tells yes (EachSpelt (variable_in variables.now) (named_literals literals.now) codes.now)) }
 {
     if spell(variables, literals, &mut room.spelt)? {
         are_among(&room.spelt, codes, &mut room.sets)
@@ -104,7 +104,7 @@ pub(crate) fn are_spelt_by(
     room: &mut Room,
 ) -> Result<bool, AllocError>
     ensures { IfOk result
-        (λ yes. Tells yes (SameSet (variable_in variables.now.variables.items) (named_literals literals.now) codes.now)) }
+        (λ yes. Tells yes (SameSet (variable_in variables.now) (named_literals literals.now) codes.now)) }
 {
     if spell(variables, literals, &mut room.spelt)? {
         are_same(&room.spelt, codes, &mut room.sets)

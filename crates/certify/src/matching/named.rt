@@ -1,62 +1,46 @@
 //! The variables that names stand for.
-ghost use Rattle.std.specs.Prelude.{◌≡◌, ◌+◌, ◌<◌, [], None, Some, OnOk};
+ghost use Rattle.std.specs.Prelude.{ℕ, ◌≡◌, ◌+◌, ◌<◌, None, Some, OnOk};
 ghost use Rattle.sat_base.specs.values.Literals.{largest};
 ghost use Rattle.certify.specs.matching.Variables.{IsPut, variable_in};
 
-use sat_base::Var;
+use sat_base::{Table, Var};
 use std::alloc::{AllocError, Global};
 
-/// The variable of each name that has one, from name 1 on. A name is given by its index, which is one less.
+/// The variable of each name that has one. They take memory by how many were put, whatever the names are.
 #[derive(Drop)]
 pub(crate) struct NamedVars {
-    pub variables: Vec<Option<Var>>,
+    variables: Table<Option<Var>>,
 }
 
 impl NamedVars {
     pub fn new(alloc: Global) -> NamedVars
-        ensures { result.variables.items ≡ [] }
+        ensures { (name : ℕ) → variable_in result name ≡ None }
     {
         NamedVars {
-            variables: Vec::new(alloc),
+            variables: Table::new(alloc),
         }
     }
 
     /// The variable of a name.
     #[inline]
     pub fn get(&self, name: Var) -> Option<Var>
-        ensures { result ≡ variable_in self.now.variables.items (name + 1) }
+        ensures { result ≡ variable_in self.now (name + 1) }
     {
-        let place = name.index();
-        if place < self.variables.len() {
-            return self.variables[place];
-        }
-        None
+        self.variables.get(name.index(), None)
     }
 
     /// Puts a name on a variable.
     pub fn put(&mut self, name: Var, variable: Var) -> Result<(), AllocError>
-        ensures put { OnOk result (IsPut self.old.variables.items self.new.variables.items (name + 1) (Some variable)) }
+        ensures put { OnOk result (IsPut self.old self.new (name + 1) (Some variable)) }
         ensures within { name < largest }
     {
-        let place = name.index();
-        if place < self.variables.len() {
-            self.variables[place] = Some(variable);
-            return Ok(());
-        }
-        for next in self.variables.len()..place {
-            self.variables.push(None)?;
-        }
-        self.variables.push(Some(variable))?;
-        Ok(())
+        self.variables.set(name.index(), Some(variable), None)
     }
 
     /// Takes the variable from a name.
     pub fn remove(&mut self, name: Var)
-        ensures { IsPut self.old.variables.items self.new.variables.items (name + 1) None }
+        ensures { IsPut self.old self.new (name + 1) None }
     {
-        let place = name.index();
-        if place < self.variables.len() {
-            self.variables[place] = None;
-        }
+        self.variables.reset(name.index(), None);
     }
 }

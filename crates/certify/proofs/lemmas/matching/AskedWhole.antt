@@ -1,5 +1,6 @@
 -- An ask, from its names to its end.
 use Rattle.std.proofs.Common.{ℕ, append_assoc, ◌+◌, ◌≤◌, ◌≡◌, inl, inr, true, List, [], ◌∷◌, ◌++◌, length, map, Option, Some, None, sym, ◌∙◌, ap, subst, zero, suc, arith, get_or}
+use Rattle.sat_base.specs.values.Literals.{largest}
 use Rattle.sat_base.specs.script.Script.{Literal, Command, Ask, Ending, names_of}
 use Rattle.sat_base.specs.script.Judge.{Judge, accepted, accepted_of, refusal_of}
 use Rattle.sat_base.specs.steps.Steps.{Step}
@@ -35,17 +36,12 @@ all_listed names j h up line e =
 abbrev pub Within : List Step → Type 0
 Within earlier = (name v : ℕ) → variable_of earlier name ≡ Some v → IsName name
 
-got_within : (vs : List (Option ℕ)) (i v : ℕ) → get_or vs i None ≡ Some v → suc i ≤ length vs
-got_within [] i v e = absurd (cc)
-got_within (x ∷ vs) zero v e = omega arith
-got_within (x ∷ vs) (suc i) v e = let h = got_within vs i v e in omega arith
-
 pub all_within : (variables : NamedVars) (earlier : List Step) → StandFor variables earlier → Within earlier
-all_within variables earlier s name v e = go name (sym (ap (λ (f : ℕ → Option ℕ). f name) s.named) ∙ e)
+all_within variables earlier s name v e = go name (sym (ap (λ (f : ℕ → Option ℕ). f name) s.named) ∙ e) (s.few name v e)
   where
-    go : (name : ℕ) → variable_in variables.variables.items name ≡ Some v → IsName name
-    go zero e = absurd (cc)
-    go (suc i) e = let h = got_within variables.variables.items i v e in let k = s.few in (omega arith, omega arith)
+    go : (name : ℕ) → variable_in variables name ≡ Some v → name ≤ largest → IsName name
+    go zero e k = absurd (cc)
+    go (suc i) e k = (omega arith, k)
 
 variables_named : (earlier : List Step) (core : List Literal) → Within earlier → HaveVariables earlier core → HaveNames core
 variables_named earlier [] f h = tt

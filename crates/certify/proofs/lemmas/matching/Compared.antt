@@ -20,7 +20,7 @@ use Rattle.certify.proofs.lemmas.confirm.FittingSteps.{fits_new_name, fits_no_na
 use Rattle.certify.proofs.lemmas.matching.Named.{each_named, named_each}
 
 abbrev vars : Known → ℕ → Option ℕ
-vars known = variable_in known.variables.now.variables.items
+vars known = variable_in known.variables.now
 
 module _ (known : Known) (step : Step) where
   pub new_name_fits : (name v : ℕ) → step ≡ UserVarName v (Some name) → ((earlier : List Step) → AreKnown known earlier → is_known v (ready_after earlier) ≡ false) → Compares (λ o ask. NewName (name + 1)) known step None

@@ -1,7 +1,7 @@
 -- What names stand for behind one step more.
 use Rattle.std.proofs.Common.{ℕ, ◌+◌, ◌≤◌, ◌<◌, ◌≡◌, Bool, true, false, cond, eqb, List, ◌∷◌, length, Option, Some, None, refl, sym, ◌∙◌, ap, subst, arith, inl, inr}
-use Rattle.std.proofs.Common.{ltb, Result, Ok, Err, OnOk}
-use Rattle.std.proofs.lemmas.Bool.{true≢false, eqb-true, eqb-false, eq-eqb, ltb-true, ltb-false}
+use Rattle.std.proofs.Common.{Result, Ok, Err, OnOk}
+use Rattle.std.proofs.lemmas.Bool.{true≢false, eqb-true, eqb-false, eq-eqb}
 use mathlib.Core.Path.{fun_ext}
 use Rattle.sat_base.specs.values.Literals.{largest}
 use Rattle.sat_base.specs.script.Script.{Literal}
@@ -16,7 +16,6 @@ use Rattle.certify.specs.matching.Following.{StandFor, Follows, OthersPass}
 use Rattle.certify.specs.matching.Comparing.{Due}
 use Rattle.certify.specs.declared.matching.named.NamedVars.{NamedVars}
 use Rattle.certify.proofs.lemmas.confirm.FittingSteps.{fits_new_name, fits_no_name}
-use Rattle.certify.proofs.lemmas.matching.Named.{none_past}
 
 none_some : {v : ℕ} → (let o : Option ℕ = None in o) ≡ Some v → ⊥
 none_some e = cc
@@ -55,7 +54,7 @@ stays variables earlier step s a same =
       named = same ∙ s.named;
       apart = λ m n v x y. s.apart m n v (at m v x) (at n v y);
       known = λ m v x. known_still earlier step m v s.accepted a (at m v x) (s.known m v (at m v x));
-      few = s.few;
+      few = λ m v x. s.few m v (at m v x);
     }
 
 pub others : OthersPass
@@ -63,13 +62,13 @@ others variables earlier step s o a = stays variables earlier step s a (unnamed 
 
 -- A NEW NAME
 module _ (old new : NamedVars) (earlier : List Step) (s : StandFor old earlier) where
-  names_a : (v index : ℕ) → the_checking.knows earlier v ≡ false → Accepts (ready_after earlier) (UserVarName v (Some index)) → index + 1 ≤ largest → IsPut old.variables.items new.variables.items (index + 1) (Some v) → StandFor new (UserVarName v (Some index) ∷ earlier)
+  names_a : (v index : ℕ) → the_checking.knows earlier v ≡ false → Accepts (ready_after earlier) (UserVarName v (Some index)) → index + 1 ≤ largest → IsPut old new (index + 1) (Some v) → StandFor new (UserVarName v (Some index) ∷ earlier)
   names_a v index unknown a low p = record {
     accepted = (s.accepted, a);
     named = fun_ext (λ m. ap (λ (o : Option ℕ). cond (eqb (index + 1) m) (Some v) o) (ap (λ (f : ℕ → Option ℕ). f m) s.named) ∙ sym (p.each m));
     apart = λ m n w x y. alone m n w (eqb (index + 1) m) refl (eqb (index + 1) n) refl x y;
     known = λ m w x. is_known m w (eqb (index + 1) m) x;
-    few = let r = p.room in let f = s.few in omega arith;
+    few = λ m w x. is_few m w (eqb (index + 1) m) refl x;
   }
     where
       fresh : (n w : ℕ) → v ≡ w → variable_of earlier n ≡ Some w → ⊥
@@ -85,23 +84,20 @@ module _ (old new : NamedVars) (earlier : List Step) (s : StandFor old earlier) 
       is_known m w true x = subst (λ (z : ℕ). the_checking.knows (UserVarName v (Some index) ∷ earlier) z ≡ true) (one_of x) (the_checking_sound.names earlier v index a)
       is_known m w false x = known_still earlier (UserVarName v (Some index)) m w s.accepted a x (s.known m w x)
 
+      is_few : (m w : ℕ) (b : Bool) → eqb (index + 1) m ≡ b → cond b (Some v) (variable_of earlier m) ≡ Some w → m ≤ largest
+      is_few m w true e x = subst (λ (z : ℕ). z ≤ largest) (eqb-true (index + 1) m e) low
+      is_few m w false e x = s.few m w x
+
   -- A NAME TAKEN
-  takes_a : (name v : ℕ) → variable_of earlier name ≡ Some v → Accepts (ready_after earlier) (UserVarName v None) → IsPut old.variables.items new.variables.items name None → StandFor new (UserVarName v None ∷ earlier)
+  takes_a : (name v : ℕ) → variable_of earlier name ≡ Some v → Accepts (ready_after earlier) (UserVarName v None) → IsPut old new name None → StandFor new (UserVarName v None ∷ earlier)
   takes_a name v at a p = record {
     accepted = (s.accepted, a);
     named = fun_ext (λ m. taken m (eqb name m) refl (variable_of earlier m) refl ∙ ap (λ (o : Option ℕ). cond (eqb name m) None o) (ap (λ (f : ℕ → Option ℕ). f m) s.named) ∙ sym (p.each m));
     apart = λ m n w x y. s.apart m n w (before m w x) (before n w y);
     known = λ m w x. let e = before m w x in known_still earlier (UserVarName v None) m w s.accepted a e (s.known m w e);
-    few = let r = p.room in let f = s.few in let n = low in omega arith;
+    few = λ m w x. s.few m w (before m w x);
   }
     where
-      low : name ≤ length old.variables.items
-      low = go (ltb (length old.variables.items) name) refl
-        where
-          go : (b : Bool) → ltb (length old.variables.items) name ≡ b → name ≤ length old.variables.items
-          go true e = absurd (none_some (sym (none_past old.variables.items name (ltb-true (length old.variables.items) name e)) ∙ sym (ap (λ (f : ℕ → Option ℕ). f name) s.named) ∙ at))
-          go false e = ltb-false (length old.variables.items) name e
-
       same_v : eqb v v ≡ true
       same_v = eq-eqb v v refl
 
@@ -123,7 +119,7 @@ module _ (old new : NamedVars) (earlier : List Step) (s : StandFor old earlier) 
           go true x = absurd (none_some x)
           go false x = x
 
-  pub puts_new : (name v : ℕ) (step : Step) → Fits (the_checking.knows earlier) earlier (NewName (name + 1)) step → (u : Option ℕ) → step ≡ UserVarName v u → Accepts (ready_after earlier) step → name < largest → IsPut old.variables.items new.variables.items (name + 1) (Some v) → StandFor new (step ∷ earlier)
+  pub puts_new : (name v : ℕ) (step : Step) → Fits (the_checking.knows earlier) earlier (NewName (name + 1)) step → (u : Option ℕ) → step ≡ UserVarName v u → Accepts (ready_after earlier) step → name < largest → IsPut old new (name + 1) (Some v) → StandFor new (step ∷ earlier)
   puts_new name v step f u e a low p =
       let q = (fits_new_name the_checking earlier (name + 1) step).0 f in
       let index : q.1 ≡ name = let at = q.3 in omega arith in
@@ -133,7 +129,7 @@ module _ (old new : NamedVars) (earlier : List Step) (s : StandFor old earlier) 
       subst (λ (z : Step). StandFor new (z ∷ earlier)) (sym whole)
       (names_a v name (subst (λ (x : ℕ). the_checking.knows earlier x ≡ false) v_is q.4) (subst (λ (z : Step). Accepts (ready_after earlier) z) whole a) (omega arith) p)
 
-  pub takes_name : (name : ℕ) (step : Step) → Fits (the_checking.knows earlier) earlier (NoName name) step → Accepts (ready_after earlier) step → IsPut old.variables.items new.variables.items name None → StandFor new (step ∷ earlier)
+  pub takes_name : (name : ℕ) (step : Step) → Fits (the_checking.knows earlier) earlier (NoName name) step → Accepts (ready_after earlier) step → IsPut old new name None → StandFor new (step ∷ earlier)
   takes_name name step f a p =
       let q = (fits_no_name the_checking earlier name step).0 f in
       subst (λ (z : Step). StandFor new (z ∷ earlier)) (sym q.1) (takes_a name q.0 q.2 (subst (λ (z : Step). Accepts (ready_after earlier) z) q.1 a) p)

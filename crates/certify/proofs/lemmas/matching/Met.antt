@@ -125,24 +125,14 @@ expects_cut due names a b open_yet (Err stop.OutOfMemory) p s = absurd s
 expects_cut due names a b open_yet (Err stop.CounterEnd) p s = absurd s
 
 -- before the first step
-pub begins_at : (checker : Kernel) (names : NamedVars) → HasTaken checker [] → names.variables.items ≡ [] → IsAt checker names []
+pub begins_at : (checker : Kernel) (names : NamedVars) → HasTaken checker [] → ((name : ℕ) → variable_in names name ≡ None) → IsAt checker names []
 begins_at checker names taken none = record {
   taken = taken;
   stand = record {
     accepted = tt;
-    named = fun_ext (λ name. sym (none_named name none));
+    named = fun_ext (λ name. sym (none name));
     apart = λ m n v x y. absurd (let e : ◌≡◌ {A = Option ℕ} None (Some v) = x in cc);
     known = λ m v x. absurd (let e : ◌≡◌ {A = Option ℕ} None (Some v) = x in cc);
-    few = few_none none;
+    few = λ m v x. absurd (let e : ◌≡◌ {A = Option ℕ} None (Some v) = x in cc);
   };
 }
-  where
-    none_in : (name : ℕ) → variable_in [] name ≡ None
-    none_in zero = refl
-    none_in (suc i) = refl
-
-    none_named : (name : ℕ) → names.variables.items ≡ [] → variable_in names.variables.items name ≡ None
-    none_named name e = subst (λ (vs : List (Option ℕ)). variable_in vs name ≡ None) (sym e) (none_in name)
-
-    few_none : names.variables.items ≡ [] → length names.variables.items ≤ largest
-    few_none e = subst (λ (vs : List (Option ℕ)). length vs ≤ largest) (sym e) (omega arith)

@@ -10,7 +10,7 @@ use Rattle.certify.proofs.matching.comparing.are_spelt_in.Goals as goal
 
 pub returns-then-branch : goal.returns-then-branch
 returns-then-branch c =
-    let names = variable_in c.args.variables.now.variables.items in
+    let names = variable_in c.args.variables.now in
     let ls = named_literals c.args.literals.now in
     let P = AllAmong c.deref.result.now c.args.codes.now in
     let Q = EachSpelt names ls c.args.codes.now in
@@ -18,4 +18,4 @@ returns-then-branch c =
     (λ b m. each_answer names ls c.spell.new.spelt.items c.deref.result.now c.args.codes.now c.in_ok-spell.field-0 b ((codes : List ℕ) → EachSpelt names ls codes → ⊥) c.if-branch.true c.in_ok-spell.ensures c.deref.ensures.value m) c.are_among.ensures
 
 pub returns-else-branch : goal.returns-else-branch
-returns-else-branch c = unspelt_each (variable_in c.args.variables.now.variables.items) (named_literals c.args.literals.now) c.args.codes.now c.in_ok-spell.field-0 (AreSpelt (variable_in c.args.variables.now.variables.items) (named_literals c.args.literals.now) c.spell.new.spelt.items) c.if-branch.false c.in_ok-spell.ensures
+returns-else-branch c = unspelt_each (variable_in c.args.variables.now) (named_literals c.args.literals.now) c.args.codes.now c.in_ok-spell.field-0 (AreSpelt (variable_in c.args.variables.now) (named_literals c.args.literals.now) c.spell.new.spelt.items) c.if-branch.false c.in_ok-spell.ensures

@@ -5,4 +5,4 @@ use Rattle.certify.specs.matching.Variables.{variable_in}
 use Rattle.certify.proofs.matching.comparing.spell.Given as goal
 
 abbrev pub invariant-loop-lit : goal.invariant-loop-lit
-invariant-loop-lit l = AreSpelt (variable_in l.variables.variables.items) (take l.lit-index (named_literals l.literals)) l.spelt.items
+invariant-loop-lit l = AreSpelt (variable_in l.variables) (take l.lit-index (named_literals l.literals)) l.spelt.items

@@ -11,5 +11,5 @@ returns c =
     let old = c.args.variables.now in
     let new = c.put.new.self in
     let step = step_of c.args.step.now in
-    on_ok c.put.result (IsPut old.variables.items new.variables.items (c.args.name + 1) (Some c.in-UserVarName.global)) (Follows (λ o ask. NewName (c.args.name + 1)) old step new)
+    on_ok c.put.result (IsPut old new (c.args.name + 1) (Some c.in-UserVarName.global)) (Follows (λ o ask. NewName (c.args.name + 1)) old step new)
     (λ p earlier o ask s f a. puts_new old new earlier s c.args.name c.in-UserVarName.global step f c.in-UserVarName._user (ap step_of c.in-UserVarName.is) a c.put.ensures.within p) c.put.ensures.put
