@@ -1,6 +1,7 @@
 //! The program: what it does with its arguments and its standard streams.
 ghost use Rattle.std.specs.Prelude.{◌≡◌, ◌≤◌, [], IfOk};
 ghost use Rattle.certify.specs.run.FinishedRun.{gave, took};
+ghost use Rattle.certify.specs.program.Calls.{HasStatus};
 ghost use Rattle.certify.specs.program.Printing.{PrintsVerdict};
 
 mod call;
@@ -106,7 +107,7 @@ fn serve<R: AllocGlobal + Files, O: CountedWrite, E: CountedWrite>(
     output: &mut O,
     errors: &mut E,
 ) -> Result<u8, Fault>
-    ensures { IfOk result (λ status. status ≤ 1) }
+    ensures { HasStatus result }
 {
     match *call {
         Call::Run { files, budget } => run_files(rt, files, budget, errors),

@@ -1,5 +1,5 @@
 -- A certificate that is read step by step: what confirming makes of it, whatever would follow.
-use Rattle.std.specs.Prelude.{◌≡◌, ◌+◌, ◌-◌, ◌*◌, ◌≤◌, ℕ, Bool, true, false, List, [], ◌++◌, drop, length, Result, Ok, Err}
+use Rattle.std.specs.Prelude.{◌≡◌, ◌+◌, ◌-◌, ◌*◌, ◌≤◌, ℕ, Bool, true, false, List, [], ◌++◌, drop, length, Result, Ok, Err, OnOk}
 use Rattle.std.specs.Io.KnownBytes.{IsAtEnd}
 use Rattle.sat_base.specs.declared.steps.error.StepError.{StepError}
 use Rattle.sat_base.specs.declared.steps.error.StepError.TheVariants as errors
@@ -7,7 +7,7 @@ use Rattle.sat_base.specs.device.Reading.{Source, AtEnd, PassesBut, Passes, Faul
 use Rattle.sat_base.specs.declared.steps.reader.Buffers.{Buffers}
 use Rattle.sat_base.specs.declared.steps.reader.StepReader.{StepReader}
 use Rattle.sat_base.specs.device.Device.{Reader, most_reads, piece_size}
-use Rattle.sat_base.specs.steps.StepReading.{reader_source, has_failed, step_in}
+use Rattle.sat_base.specs.steps.StepReading.{reader_name, reader_source, has_failed, step_in}
 use Rattle.sat_base.specs.steps.Steps.{Step}
 use Rattle.certify.specs.confirm.Views.{View}
 use Rattle.certify.specs.confirm.Walks.{walks_if, Tries, RunsOut}
@@ -31,6 +31,18 @@ pub record GoesOn {R : Type 0} (seen : R → Reader) (r : StepReader R Buffers) 
   pub well : has_failed r ≡ false
   pub open_yet : AtEnd (reader_source seen r) → ⊥
   pub bound : (reader_source seen r).reads ≤ most_reads
+
+-- it is the same loan as before
+abbrev pub SameLoan : {R : Type 0} → StepReader R Buffers → StepReader R Buffers → Type 0
+SameLoan old new = reader_name new ≡ reader_name old
+
+-- its reader was read at most 2^48 times
+abbrev pub IsReadFew : {R : Type 0} → (R → Reader) → StepReader R Buffers → Type 0
+IsReadFew seen r = (reader_source seen r).reads ≤ most_reads
+
+-- it goes on where no call failed
+abbrev pub GoesOnIf : {R T E : Type 0} → Result T E → (R → Reader) → StepReader R Buffers → Type 0
+GoesOnIf result seen r = OnOk result (GoesOn seen r)
 
 -- the most bytes that can still be taken
 abbrev pub bytes_left : Source → ℕ

@@ -55,6 +55,10 @@ pub record IsFront (codes : List ℕ) (past : Bool) (ls : List Literal) : Type 0
 abbrev pub IsLent : Lent → Command → Type 0
 IsLent lent c = (ls : List Literal) × IsFront lent.literals.now lent.past_limit ls × (c ≡ command_of (kind_of lent.kind) ls)
 
+-- some command is
+abbrev pub IsSomeLent : Lent → Type 0
+IsSomeLent lent = (c : Command) × IsLent lent c
+
 -- so in its reader
 abbrev pub IsWhole : Draft → Command → Type 0
 IsWhole draft c = (ls : List Literal) × IsFront draft.literals.items draft.past_limit ls × (c ≡ command_of (kind_of draft.kind) ls)

@@ -1,5 +1,5 @@
 -- What a run's calls of its solver leave, and which faults they give.
-use Rattle.std.specs.Prelude.{ℕ, ◌+◌, ◌≡◌, Bool, true, false, None, List}
+use Rattle.std.specs.Prelude.{ℕ, ◌+◌, ◌≡◌, Bool, true, false, None, Result, IfErr, List}
 use Rattle.sat_base.specs.device.Device.{Writer}
 use Rattle.sat_base.specs.script.Judge.{Judge, refused_literal}
 use Rattle.sat_solver.specs.declared.error.SolverError.{SolverError}
@@ -63,6 +63,10 @@ proof_in s = s.core.proof
 -- a call of the solver failed, perhaps since one of the certificate's writer did, the last
 abbrev pub FailsSolver : {C : Type 0} → (C → Writer) → RunFault → Solver C → Solver C → Type 0
 FailsSolver seen e old new = Faults e ⊥ (Broke seen (proof_in old) (proof_in new)) (Took seen (proof_in old) (proof_in new))
+
+-- so, where there was a fault
+abbrev pub FailsIf : {T C : Type 0} → Result T RunFault → (C → Writer) → Solver C → Solver C → Type 0
+FailsIf r seen old new = IfErr r (λ e. FailsSolver seen e old new)
 
 -- no lines of DRAT are written
 abbrev pub HasNoLines : {C : Type 0} → Proof C → Type 0

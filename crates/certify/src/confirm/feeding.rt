@@ -1,12 +1,11 @@
 //! A certificate's steps, read and fed to a checker.
-ghost use Rattle.std.specs.Prelude.{◌≡◌, ◌≤◌, ◌<◌, OnOk, false};
-ghost use Rattle.sat_base.specs.device.Device.{most_reads};
-ghost use Rattle.sat_base.specs.steps.StepReading.{reader_name, reader_source};
+ghost use Rattle.std.specs.Prelude.{◌≡◌, ◌<◌, OnOk, false};
+ghost use Rattle.sat_base.specs.steps.StepReading.{reader_source};
 ghost use Rattle.sat_base.specs.steps.StepViews.{step_of};
 ghost use Rattle.sat_checker.specs.KernelView.{LooksAtMost};
 ghost use Rattle.certify.specs.confirm.Feeding.{Feeds, Settles};
 ghost use Rattle.certify.specs.confirm.Stepping.{ReadsOne, is_ordered_tag};
-ghost use Rattle.certify.specs.confirm.Streams.{GoesOn, Reading, bytes_left, stream_of};
+ghost use Rattle.certify.specs.confirm.Streams.{GoesOn, GoesOnIf, IsReadFew, Reading, SameLoan, bytes_left, stream_of};
 ghost use Rattle.sat_checker.specs.CheckerView.{kernel_of};
 ghost use Rattle.sat_checker.specs.declared.kernel.Kernel.{Kernel};
 
@@ -24,9 +23,9 @@ pub(crate) fn is_ordered(tag: u8) -> bool
 /// Reads the next step.
 pub(crate) fn read_next<R: CountedRead>(steps: &mut StepReader<'_, R>) -> Result<(), Stop>
     requires { GoesOn R.seen steps.old }
-    ensures same { reader_name steps.new ≡ reader_name steps.old }
-    ensures bound { (reader_source R.seen steps.new).reads ≤ most_reads }
-    ensures goes_on { OnOk result (GoesOn R.seen steps.new) }
+    ensures same { SameLoan steps.old steps.new }
+    ensures bound { IsReadFew R.seen steps.new }
+    ensures goes_on { GoesOnIf result R.seen steps.new }
     ensures takes { OnOk result (bytes_left (reader_source R.seen steps.new) < bytes_left (reader_source R.seen steps.old)) }
     ensures reads { (checker : Kernel)
         → Reading (λ x. false) result (stream_of R.seen steps.old checker) (stream_of R.seen steps.new checker) ReadsOne }

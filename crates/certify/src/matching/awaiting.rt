@@ -1,10 +1,9 @@
 //! The next ordered step of a certificate, behind others that are fed.
-ghost use Rattle.std.specs.Prelude.{◌≡◌, ◌≤◌, ◌<◌, IfNone, IfOk, OnOk};
-ghost use Rattle.sat_base.specs.device.Device.{most_reads};
-ghost use Rattle.sat_base.specs.steps.StepReading.{reader_name, reader_source};
+ghost use Rattle.std.specs.Prelude.{◌<◌, IfNone, IfOk};
+ghost use Rattle.sat_base.specs.steps.StepReading.{reader_source};
 ghost use Rattle.sat_checker.specs.CheckerView.{kernel_of};
 ghost use Rattle.certify.specs.confirm.Stepping.{is_fed, is_fed_so_far};
-ghost use Rattle.certify.specs.confirm.Streams.{GoesOn, Reading, bytes_left, stream_of};
+ghost use Rattle.certify.specs.confirm.Streams.{GoesOn, GoesOnIf, IsReadFew, Reading, SameLoan, bytes_left, stream_of};
 ghost use Rattle.certify.specs.declared.matching.named.NamedVars.{NamedVars};
 ghost use Rattle.certify.specs.matching.Awaiting.{AwaitsNext, StepsOnce};
 
@@ -28,9 +27,9 @@ fn advance<R: CountedRead>(
     steps: &mut StepReader<'_, R>,
 ) -> Result<Option<Awaited>, Stop>
     requires { GoesOn R.seen steps.old }
-    ensures same { reader_name steps.new ≡ reader_name steps.old }
-    ensures bound { (reader_source R.seen steps.new).reads ≤ most_reads }
-    ensures goes_on { OnOk result (GoesOn R.seen steps.new) }
+    ensures same { SameLoan steps.old steps.new }
+    ensures bound { IsReadFew R.seen steps.new }
+    ensures goes_on { GoesOnIf result R.seen steps.new }
     ensures takes { IfOk result
         (λ awaited. IfNone awaited (bytes_left (reader_source R.seen steps.new) < bytes_left (reader_source R.seen steps.old))) }
     ensures confirms { (names : NamedVars) → Reading is_fed_so_far result (stream_of R.seen steps.old (kernel_of checker.old))
@@ -54,9 +53,9 @@ fn find_ordered<R: CountedRead>(
     steps: &mut StepReader<'_, R>,
 ) -> Result<Awaited, Stop>
     requires { GoesOn R.seen steps.old }
-    ensures same { reader_name steps.new ≡ reader_name steps.old }
-    ensures bound { (reader_source R.seen steps.new).reads ≤ most_reads }
-    ensures goes_on { OnOk result (GoesOn R.seen steps.new) }
+    ensures same { SameLoan steps.old steps.new }
+    ensures bound { IsReadFew R.seen steps.new }
+    ensures goes_on { GoesOnIf result R.seen steps.new }
     ensures confirms { (names : NamedVars) → Reading is_fed result (stream_of R.seen steps.old (kernel_of checker.old))
         (stream_of R.seen steps.new (kernel_of checker.new)) (AwaitsNext names) }
 {
@@ -73,9 +72,9 @@ pub(crate) fn await_ordered<R: CountedRead>(
     steps: &mut StepReader<'_, R>,
 ) -> Result<Awaited, Stop>
     requires { GoesOn R.seen steps.old }
-    ensures same { reader_name steps.new ≡ reader_name steps.old }
-    ensures bound { (reader_source R.seen steps.new).reads ≤ most_reads }
-    ensures goes_on { OnOk result (GoesOn R.seen steps.new) }
+    ensures same { SameLoan steps.old steps.new }
+    ensures bound { IsReadFew R.seen steps.new }
+    ensures goes_on { GoesOnIf result R.seen steps.new }
     ensures confirms { (names : NamedVars) → Reading is_fed result (stream_of R.seen steps.old (kernel_of checker.old))
         (stream_of R.seen steps.new (kernel_of checker.new)) (AwaitsNext names) }
 {

@@ -1,10 +1,8 @@
 //! A certificate that is matched with what a script and its answers expect, step by step.
-ghost use Rattle.std.specs.Prelude.{◌≡◌, ◌≤◌, [], OnOk};
-ghost use Rattle.sat_base.specs.device.Device.{most_reads};
-ghost use Rattle.sat_base.specs.steps.StepReading.{reader_name, reader_source};
+ghost use Rattle.std.specs.Prelude.{◌≡◌, []};
 ghost use Rattle.sat_checker.specs.CheckerView.{kernel_of};
 ghost use Rattle.sat_checker.specs.KernelView.{looks_of};
-ghost use Rattle.certify.specs.confirm.Streams.{Confirms, GoesOn, stream_of};
+ghost use Rattle.certify.specs.confirm.Streams.{Confirms, GoesOn, GoesOnIf, IsReadFew, SameLoan, stream_of};
 ghost use Rattle.certify.specs.matching.Awaiting.{MeetsDue, SaysUnmet};
 ghost use Rattle.certify.specs.matching.Comparing.{due_of};
 
@@ -59,9 +57,9 @@ impl Certificate {
         expected: &Expected<'_>,
     ) -> Result<(), Stop>
         requires { GoesOn R.seen steps.old }
-        ensures same { reader_name steps.new ≡ reader_name steps.old }
-        ensures bound { (reader_source R.seen steps.new).reads ≤ most_reads }
-        ensures goes_on { OnOk result (GoesOn R.seen steps.new) }
+        ensures same { SameLoan steps.old steps.new }
+        ensures bound { IsReadFew R.seen steps.new }
+        ensures goes_on { GoesOnIf result R.seen steps.new }
         ensures confirms { Confirms result (stream_of R.seen steps.old (kernel_of self.old.checker))
             (stream_of R.seen steps.new (kernel_of self.new.checker)) (MeetsDue (due_of expected.now) self.old.names self.new.names) }
     {

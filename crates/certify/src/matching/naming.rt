@@ -1,14 +1,12 @@
 //! The names of a script's commands, as a certificate puts and takes them.
-ghost use Rattle.std.specs.Prelude.{◌≡◌, ◌+◌, ◌≤◌, map, OnOk};
-ghost use Rattle.sat_base.specs.device.Device.{most_reads};
+ghost use Rattle.std.specs.Prelude.{◌+◌, ◌≤◌, map, OnOk};
 ghost use Rattle.sat_base.specs.script.Judge.{names_from};
 ghost use Rattle.sat_base.specs.script.Script.{names_of};
-ghost use Rattle.sat_base.specs.steps.StepReading.{reader_name, reader_source};
 ghost use Rattle.sat_base.specs.values.Literals.{largest};
 ghost use Rattle.sat_checker.specs.CheckerView.{kernel_of};
 ghost use Rattle.sat_checker.specs.matching.Expected.{NewName};
 ghost use Rattle.certify.specs.answers.AnswerForms.{named_literals};
-ghost use Rattle.certify.specs.confirm.Streams.{Confirms, GoesOn, stream_of};
+ghost use Rattle.certify.specs.confirm.Streams.{Confirms, GoesOn, GoesOnIf, IsReadFew, SameLoan, stream_of};
 ghost use Rattle.certify.specs.judge.Names.{Changes, taken};
 ghost use Rattle.certify.specs.matching.Naming.{MeetsAll, MeetsName, MeetsNames, hidden_by, taken_by};
 ghost use Rattle.certify.specs.reading.Commands.{kind_of};
@@ -35,9 +33,9 @@ fn expect_new<R: CountedRead>(
 ) -> Result<(), Stop>
     requires goes_on { GoesOn R.seen steps.old }
     requires within { new.first + new.count ≤ largest }
-    ensures same { reader_name steps.new ≡ reader_name steps.old }
-    ensures bound { (reader_source R.seen steps.new).reads ≤ most_reads }
-    ensures goes_on { OnOk result (GoesOn R.seen steps.new) }
+    ensures same { SameLoan steps.old steps.new }
+    ensures bound { IsReadFew R.seen steps.new }
+    ensures goes_on { GoesOnIf result R.seen steps.new }
     ensures confirms { Confirms result (stream_of R.seen steps.old (kernel_of certificate.old.checker))
         (stream_of R.seen steps.new (kernel_of certificate.new.checker))
         (MeetsAll (map NewName (names_from new.count (new.first + 1))) certificate.old.names certificate.new.names) }
@@ -57,9 +55,9 @@ fn expect_hidden<R: CountedRead>(
     name: Var,
 ) -> Result<(), Stop>
     requires goes_on { GoesOn R.seen steps.old }
-    ensures same { reader_name steps.new ≡ reader_name steps.old }
-    ensures bound { (reader_source R.seen steps.new).reads ≤ most_reads }
-    ensures goes_on { OnOk result (GoesOn R.seen steps.new) }
+    ensures same { SameLoan steps.old steps.new }
+    ensures bound { IsReadFew R.seen steps.new }
+    ensures goes_on { GoesOnIf result R.seen steps.new }
     ensures confirms { Confirms result (stream_of R.seen steps.old (kernel_of certificate.old.checker))
         (stream_of R.seen steps.new (kernel_of certificate.new.checker))
         (MeetsAll (hidden_by (kind_of kind) (name + 1)) certificate.old.names certificate.new.names) }
@@ -82,9 +80,9 @@ impl Matching {
         name: Var,
     ) -> Result<(), Stop>
         requires goes_on { GoesOn R.seen steps.old }
-        ensures same { reader_name steps.new ≡ reader_name steps.old }
-        ensures bound { (reader_source R.seen steps.new).reads ≤ most_reads }
-        ensures goes_on { OnOk result (GoesOn R.seen steps.new) }
+        ensures same { SameLoan steps.old steps.new }
+        ensures bound { IsReadFew R.seen steps.new }
+        ensures goes_on { GoesOnIf result R.seen steps.new }
         ensures changes { OnOk result (Changes self.old.names self.new.names (taken (kind_of kind) (name + 1))) }
         ensures confirms { Confirms result (stream_of R.seen steps.old (kernel_of self.old.certificate.checker))
             (stream_of R.seen steps.new (kernel_of self.new.certificate.checker))
@@ -105,9 +103,9 @@ impl Matching {
         literals: &[Lit],
     ) -> Result<(), Stop>
         requires goes_on { GoesOn R.seen steps.old }
-        ensures same { reader_name steps.new ≡ reader_name steps.old }
-        ensures bound { (reader_source R.seen steps.new).reads ≤ most_reads }
-        ensures goes_on { OnOk result (GoesOn R.seen steps.new) }
+        ensures same { SameLoan steps.old steps.new }
+        ensures bound { IsReadFew R.seen steps.new }
+        ensures goes_on { GoesOnIf result R.seen steps.new }
         ensures changes { OnOk result (Changes self.old.names self.new.names
             (taken_by (kind_of kind) (names_of (named_literals literals.now)))) }
         ensures confirms { Confirms result (stream_of R.seen steps.old (kernel_of self.old.certificate.checker))

@@ -1,14 +1,12 @@
 //! Confirms commands, one after another.
-ghost use Rattle.std.specs.Prelude.{◌≡◌, ◌+◌, ◌^◌, ◌<◌, ◌≤◌, ℕ, List, [], true, false, OnOk};
-ghost use Rattle.sat_base.specs.device.Device.{most_reads};
+ghost use Rattle.std.specs.Prelude.{◌≡◌, ◌+◌, ◌^◌, ◌<◌, ℕ, List, [], true, false};
 ghost use Rattle.sat_base.specs.script.Script.{Clean, Command as Spelled};
 ghost use Rattle.sat_base.specs.script.Judge.{start};
 ghost use Rattle.sat_base.specs.steps.Steps.{Step};
-ghost use Rattle.sat_base.specs.steps.StepReading.{reader_name, reader_source};
 ghost use Rattle.sat_checker.specs.CheckerView.{kernel_of};
 ghost use Rattle.sat_checker.specs.KernelView.{looks_of};
 ghost use Rattle.certify.specs.answers.AnswerForms.{named_literals};
-ghost use Rattle.certify.specs.confirm.Streams.{Confirms, GoesOn, stream_of};
+ghost use Rattle.certify.specs.confirm.Streams.{Confirms, GoesOn, GoesOnIf, IsReadFew, SameLoan, stream_of};
 ghost use Rattle.certify.specs.confirm.VerdictPromises.{numbers};
 ghost use Rattle.certify.specs.matching.Confirming.{ConfirmsAnswer, ConfirmsContent, ConfirmsLast, ConfirmsNext, HoldsAt, MeetsContent, MeetsOutcome, MeetsShown, table_of};
 ghost use Rattle.certify.specs.matching.Lines.{outcome_in};
@@ -47,9 +45,9 @@ fn show<C: CountedRead>(
     reply: &Reply,
 ) -> Result<(), Stop>
     requires goes_on { GoesOn C.seen steps.old }
-    ensures same { reader_name steps.new ≡ reader_name steps.old }
-    ensures bound { (reader_source C.seen steps.new).reads ≤ most_reads }
-    ensures goes_on { OnOk result (GoesOn C.seen steps.new) }
+    ensures same { SameLoan steps.old steps.new }
+    ensures bound { IsReadFew C.seen steps.new }
+    ensures goes_on { GoesOnIf result C.seen steps.new }
     ensures names { matching.new.names ≡ matching.old.names }
     ensures confirms { Confirms result (stream_in C.seen steps.old matching.old) (stream_in C.seen steps.new matching.new)
         (MeetsShown matching.old.names (named_literals ask.now) (outcome_in reply.now)
@@ -75,9 +73,9 @@ fn close<C: CountedRead>(
     reply: &Reply,
 ) -> Result<(), Stop>
     requires goes_on { GoesOn C.seen steps.old }
-    ensures same { reader_name steps.new ≡ reader_name steps.old }
-    ensures bound { (reader_source C.seen steps.new).reads ≤ most_reads }
-    ensures goes_on { OnOk result (GoesOn C.seen steps.new) }
+    ensures same { SameLoan steps.old steps.new }
+    ensures bound { IsReadFew C.seen steps.new }
+    ensures goes_on { GoesOnIf result C.seen steps.new }
     ensures names { matching.new.names ≡ matching.old.names }
     ensures confirms { Confirms result (stream_in C.seen steps.old matching.old) (stream_in C.seen steps.new matching.new)
         (MeetsOutcome matching.old.names (named_literals ask.now) (outcome_in reply.now)
@@ -94,9 +92,9 @@ fn expect_content<C: CountedRead>(
     command: Command<'_>,
 ) -> Result<(), Stop>
     requires goes_on { GoesOn C.seen steps.old }
-    ensures same { reader_name steps.new ≡ reader_name steps.old }
-    ensures bound { (reader_source C.seen steps.new).reads ≤ most_reads }
-    ensures goes_on { OnOk result (GoesOn C.seen steps.new) }
+    ensures same { SameLoan steps.old steps.new }
+    ensures bound { IsReadFew C.seen steps.new }
+    ensures goes_on { GoesOnIf result C.seen steps.new }
     ensures confirms { Confirms result (stream_of C.seen steps.old (kernel_of certificate.old.checker))
         (stream_of C.seen steps.new (kernel_of certificate.new.checker))
         (MeetsContent (kind_of command.entry.kind) (named_literals command.entry.literals.now) certificate.old.names certificate.new.names) }

@@ -1,9 +1,7 @@
 //! Confirms the commands of a script as they come, and then its end.
 ghost use Rattle.std.specs.Prelude.{◌≡◌, ◌+◌, ◌^◌, ◌<◌, ◌≤◌, [], ◌∷◌, true, false, OnOk};
-ghost use Rattle.sat_base.specs.device.Device.{most_reads};
 ghost use Rattle.sat_base.specs.script.Script.{Command as Spelled};
-ghost use Rattle.sat_base.specs.steps.StepReading.{reader_name, reader_source};
-ghost use Rattle.certify.specs.confirm.Streams.{GoesOn};
+ghost use Rattle.certify.specs.confirm.Streams.{GoesOn, IsReadFew, SameLoan};
 ghost use Rattle.certify.specs.confirm.VerdictPromises.{numbers};
 ghost use Rattle.certify.specs.matching.Confirming.{ConfirmsLast, ConfirmsNext, table_of};
 ghost use Rattle.certify.specs.matching.Sessions.{ConfirmsBoth, answers_in};
@@ -83,8 +81,8 @@ impl Confirmation {
         requires open_yet { IsOpen (answers_in A.seen answers.old self.old.session) }
         requires script_open { IsOpen (script_in S.seen script.old self.old) }
         requires reads { Means self.old.script.reader reading }
-        ensures same { reader_name steps.new ≡ reader_name steps.old }
-        ensures bound { (reader_source C.seen steps.new).reads ≤ most_reads }
+        ensures same { SameLoan steps.old steps.new }
+        ensures bound { IsReadFew C.seen steps.new }
         ensures ends { Ends reading result (standing S.seen A.seen C.seen script.old answers.old steps.old self.old)
             (standing S.seen A.seen C.seen script.new answers.new steps.new self.new) }
     {

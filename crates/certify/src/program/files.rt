@@ -1,5 +1,5 @@
 //! Calls over files, which are opened in the order of the arguments.
-ghost use Rattle.std.specs.Prelude.{◌≤◌, IfOk};
+ghost use Rattle.certify.specs.program.Calls.{HasStatus};
 
 use crate::fault::RunFault;
 use crate::program::call::RunFiles;
@@ -33,7 +33,7 @@ pub(super) fn run_files<R: AllocGlobal + Files, E: CountedWrite>(
     budget: u64,
     errors: &mut E,
 ) -> Result<u8, Fault>
-    ensures { IfOk result (λ status. status ≤ 1) }
+    ensures { HasStatus result }
 {
     let mut script = open(rt, files.script, Fault::Run(RunFault::ScriptRead))?;
     let mut answers = make(rt, files.answers, Fault::Run(RunFault::AnswersWrite))?;
@@ -59,7 +59,7 @@ pub(super) fn confirm_files<R: AllocGlobal + Files, O: CountedWrite>(
     files: RunFiles<'_>,
     output: &mut O,
 ) -> Result<u8, Fault>
-    ensures { IfOk result (λ status. status ≤ 1) }
+    ensures { HasStatus result }
 {
     let mut script = open(rt, files.script, Fault::Confirm(ConfirmFault::ScriptRead))?;
     let mut answers = open(rt, files.answers, Fault::Confirm(ConfirmFault::AnswersRead))?;
@@ -84,7 +84,7 @@ pub(super) fn hint_files<R: AllocGlobal + Files, E: CountedWrite>(
     hints: &str,
     errors: &mut E,
 ) -> Result<u8, Fault>
-    ensures { IfOk result (λ status. status ≤ 1) }
+    ensures { HasStatus result }
 {
     let mut certificate = open(rt, certificate, Fault::Hints(HintsFault::Read))?;
     let mut hints = make(rt, hints, Fault::Hints(HintsFault::Write))?;
@@ -97,7 +97,7 @@ pub(super) fn check_file<R: AllocGlobal + Files, O: CountedWrite>(
     hints: &str,
     output: &mut O,
 ) -> Result<u8, Fault>
-    ensures { IfOk result (λ status. status ≤ 1) }
+    ensures { HasStatus result }
 {
     let mut text = open(rt, hints, Fault::Hints(HintsFault::Read))?;
     check_text(rt.alloc(), &mut text, output)

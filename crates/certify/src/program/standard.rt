@@ -1,6 +1,7 @@
 //! The call without arguments: a script from standard input, its certificate kept in memory.
-ghost use Rattle.std.specs.Prelude.{◌≤◌, IfOk};
+ghost use Rattle.std.specs.Prelude.{IfOk};
 ghost use Rattle.certify.specs.run.FinishedRun.{gave, took};
+ghost use Rattle.certify.specs.program.Calls.{HasStatus};
 ghost use Rattle.certify.specs.program.Printing.{IsWritten, Prints, PrintsVerdict};
 
 use crate::fault::RunFault;
@@ -30,7 +31,7 @@ fn print_confirmed<O: CountedWrite>(
     output: &mut O,
 ) -> Result<u8, Fault>
     requires { IsWritten script.now written.now }
-    ensures small { IfOk result (λ status. status ≤ 1) }
+    ensures small { HasStatus result }
     ensures printed { IfOk result (λ status. Prints status script.now (O.seen output.old) (O.seen output.new)) }
 {
     write_out(output, &written.answers)?;
@@ -54,7 +55,7 @@ pub(super) fn answer<I: CountedRead, O: CountedWrite, E: CountedWrite>(
     output: &mut O,
     errors: &mut E,
 ) -> Result<u8, Fault>
-    ensures small { IfOk result (λ status. status ≤ 1) }
+    ensures small { HasStatus result }
     ensures printed { IfOk result (λ s. PrintsVerdict s (gave I.seen input.old input.new) (took O.seen output.old output.new)) }
 {
     let script = read_whole(alloc, input)?;

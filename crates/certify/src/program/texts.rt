@@ -3,6 +3,7 @@ ghost use Rattle.std.specs.Prelude.{◌≡◌, ◌≤◌, ◌↔◌, None, [], I
 ghost use Rattle.sat_base.specs.device.Device.{Takes};
 ghost use Rattle.certify.specs.run.FinishedRun.{gave, took};
 ghost use Rattle.certify.specs.declared.verdict.Verdict.TheVariants.{Yes};
+ghost use Rattle.certify.specs.program.Calls.{HasStatus};
 ghost use Rattle.certify.specs.program.HintPrinting.{PrintsHintVerdict, WritesHints, hint_verdict_text, is_proved};
 ghost use Rattle.certify.specs.program.Printing.{PrintsLine, PrintsYesOrNo, Ran, yes_or_no_text};
 
@@ -51,7 +52,7 @@ fn print_yes_or_no<O: CountedWrite>(
     verdict: Verdict,
     output: &mut O,
 ) -> Result<u8, Fault>
-    ensures small { IfOk result (λ status. status ≤ 1) }
+    ensures small { HasStatus result }
     ensures printed { IfOk result (λ s. PrintsLine s (yes_or_no_text verdict) (verdict ≡ Yes) (O.seen output.old) (O.seen output.new)) }
 {
     let mut line = Vec::new(alloc);
@@ -70,7 +71,7 @@ pub(super) fn confirm_given<S: CountedRead, A: CountedRead, C: CountedRead, O: C
     certificate: &mut C,
     output: &mut O,
 ) -> Result<u8, Fault>
-    ensures small { IfOk result (λ status. status ≤ 1) }
+    ensures small { HasStatus result }
     ensures printed { IfOk result (λ s. PrintsYesOrNo s (gave S.seen script.old script.new) (gave A.seen answers.old answers.new)
         (gave C.seen certificate.old certificate.new) (took O.seen output.old output.new)) }
 {
@@ -86,7 +87,7 @@ pub(super) fn write_hints<C: CountedRead, H: CountedWrite, E: CountedWrite>(
     hints: &mut H,
     errors: &mut E,
 ) -> Result<u8, Fault>
-    ensures small { IfOk result (λ status. status ≤ 1) }
+    ensures small { HasStatus result }
     ensures written { IfOk result (λ s. WritesHints s (gave C.seen certificate.old certificate.new) (took H.seen hints.old hints.new)) }
 {
     match convert(alloc, certificate, hints) {
@@ -121,7 +122,7 @@ fn print_hint_verdict<O: CountedWrite>(
     verdict: HintVerdict,
     output: &mut O,
 ) -> Result<u8, Fault>
-    ensures small { IfOk result (λ status. status ≤ 1) }
+    ensures small { HasStatus result }
     ensures printed { IfOk result (λ s. PrintsLine s (hint_verdict_text verdict) (is_proved verdict ≡ true)
         (O.seen output.old) (O.seen output.new)) }
 {
@@ -139,7 +140,7 @@ pub(super) fn check_text<H: CountedRead, O: CountedWrite>(
     text: &mut H,
     output: &mut O,
 ) -> Result<u8, Fault>
-    ensures small { IfOk result (λ status. status ≤ 1) }
+    ensures small { HasStatus result }
     ensures printed { IfOk result (λ s. PrintsHintVerdict s (gave H.seen text.old text.new) (took O.seen output.old output.new)) }
 {
     let verdict = check(alloc, text)?;

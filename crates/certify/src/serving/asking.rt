@@ -1,10 +1,10 @@
 //! Answers an ask.
-ghost use Rattle.std.specs.Prelude.{◌≡◌, [], IfErr, IfOk, OnOk};
+ghost use Rattle.std.specs.Prelude.{◌≡◌, [], IfOk, OnOk};
 ghost use Rattle.sat_base.specs.script.Language.{Reading};
 ghost use Rattle.sat_base.specs.script.Script.{Ask};
 ghost use Rattle.certify.specs.answers.AnswerForms.{named_literals};
 ghost use Rattle.certify.specs.serving.Asking.{Sought};
-ghost use Rattle.certify.specs.serving.Calls.{FailsSolver, IsAllowed, IsReady};
+ghost use Rattle.certify.specs.serving.Calls.{FailsIf, IsAllowed, IsReady};
 ghost use Rattle.certify.specs.serving.Standing.{CarriedOut, StopsCarrying, WritesBoth};
 
 use super::calls::{assume, search};
@@ -29,7 +29,7 @@ fn ask<C: CountedWrite + Drop>(
     ensures ready { OnOk result (IsReady solver.new) }
     // No name is refused where there is none.
     ensures allowed { OnOk result (IsAllowed solver.new []) }
-    ensures fails { IfErr result (λ e. FailsSolver C.seen e solver.old solver.new) }
+    ensures fails { FailsIf result C.seen solver.old solver.new }
 {
     assume(solver, literals)?;
     let report = search(solver, budget)?;
@@ -47,7 +47,8 @@ pub fn answer_ask<A: CountedWrite, C: CountedWrite + Drop>(
     requires allowed { IsAllowed session.old.solver literals.now }
     ensures carried { OnOk result (CarriedOut C.seen session.old session.new (Ask (named_literals literals.now))
         (A.seen answers.old) (A.seen answers.new)) }
-    ensures stops { (left : Reading) → StopsCarrying result session.old (Ask (named_literals literals.now)) left (A.seen answers.old) (A.seen answers.new) }
+    ensures stops { (left : Reading)
+        → StopsCarrying result session.old (Ask (named_literals literals.now)) left (A.seen answers.old) (A.seen answers.new) }
     ensures names { session.new.names ≡ session.old.names }
     ensures written { WritesBoth result C.seen (A.seen answers.old) (A.seen answers.new) session.old.solver session.new.solver }
 {

@@ -3,7 +3,7 @@ ghost use Rattle.std.specs.Prelude.{IfOk, IfErr, OnOk};
 ghost use Rattle.sat_solver.specs.names.Room.{users_in};
 ghost use Rattle.sat_solver.specs.solver.Adding.{Added, Assumed};
 ghost use Rattle.sat_solver.specs.solver.Whole.{HasFullStore};
-ghost use Rattle.certify.specs.serving.Calls.{FailsSolver, IsAllowed, IsCaused, IsReady, LacksRoom, Limited, Searched, Solved};
+ghost use Rattle.certify.specs.serving.Calls.{FailsIf, IsAllowed, IsCaused, IsReady, LacksRoom, Limited, Searched, Solved};
 
 use super::faults::{fault_of, is_interrupted};
 use crate::fault::RunFault;
@@ -19,7 +19,7 @@ pub fn add_clause<C: CountedWrite + Drop>(
     requires ready { IsReady solver.old }
     requires allowed { IsAllowed solver.old literals.now }
     ensures added { OnOk result (Added C.seen solver.old solver.new literals.now) }
-    ensures fails { IfErr result (λ e. FailsSolver C.seen e solver.old solver.new) }
+    ensures fails { FailsIf result C.seen solver.old solver.new }
     ensures cause { IfErr result (λ e. IsCaused e (HasFullStore solver.new) (LacksRoom solver.old (users_in literals.now))) }
 {
     match solver.add_clause(literals) {
@@ -36,7 +36,7 @@ pub fn assume<C: CountedWrite + Drop>(
     requires ready { IsReady solver.old }
     requires allowed { IsAllowed solver.old literals.now }
     ensures assumed { OnOk result (Assumed C.seen solver.old solver.new literals.now) }
-    ensures fails { IfErr result (λ e. FailsSolver C.seen e solver.old solver.new) }
+    ensures fails { FailsIf result C.seen solver.old solver.new }
     // No clause is stored.
     ensures cause { IfErr result (λ e. IsCaused e ⊥ (LacksRoom solver.old (users_in literals.now))) }
 {
@@ -60,7 +60,7 @@ fn limit_rounds<C: CountedWrite + Drop>(solver: &mut Solver<C>, budget: u64)
 fn solve<C: CountedWrite + Drop>(solver: &mut Solver<C>) -> Result<Answer, RunFault>
     requires { IsReady solver.old }
     ensures solved { IfOk result (λ answer. Solved C.seen answer solver.old solver.new) }
-    ensures fails { IfErr result (λ e. FailsSolver C.seen e solver.old solver.new) }
+    ensures fails { FailsIf result C.seen solver.old solver.new }
     ensures cause { IfErr result (λ e. IsCaused e (HasFullStore solver.new) ⊥) }
 {
     match solver.solve() {
@@ -82,7 +82,7 @@ pub fn search<C: CountedWrite + Drop>(
 ) -> Result<AskReport, RunFault>
     requires { IsReady solver.old }
     ensures searched { IfOk result (λ report. Searched C.seen budget report solver.old solver.new) }
-    ensures fails { IfErr result (λ e. FailsSolver C.seen e solver.old solver.new) }
+    ensures fails { FailsIf result C.seen solver.old solver.new }
     ensures cause { IfErr result (λ e. IsCaused e (HasFullStore solver.new) ⊥) }
 {
     limit_rounds(solver, budget);

@@ -2,7 +2,7 @@
 ghost use Rattle.std.specs.Prelude.{◌≡◌, ◌+◌, [], ◌∷◌, IfErr, OnOk};
 ghost use Rattle.sat_solver.specs.names.Refusing.{names_in};
 ghost use Rattle.sat_solver.specs.solver.Whole.{IsSolver};
-ghost use Rattle.certify.specs.serving.Calls.{FailsSolver, IsCaused, IsReady, LacksRoom};
+ghost use Rattle.certify.specs.serving.Calls.{FailsIf, IsCaused, IsReady, LacksRoom};
 ghost use Rattle.certify.specs.serving.Obeying.{ChangesName, Obeyed, command_to};
 
 use super::faults::fault_of;
@@ -36,7 +36,7 @@ fn set_name<C: CountedWrite + Drop>(
     requires ready { IsReady solver.old }
     requires free { solver.old.assumed.items ≡ [] }
     ensures obeyed { OnOk result (Obeyed C.seen (command_to state ((user + 1) ∷ [])) solver.old solver.new) }
-    ensures fails { IfErr result (λ e. FailsSolver C.seen e solver.old solver.new) }
+    ensures fails { FailsIf result C.seen solver.old solver.new }
     // No clause is stored.
     ensures cause { IfErr result (λ e. IsCaused e ⊥ (LacksRoom solver.old (user ∷ []))) }
 {
@@ -55,7 +55,7 @@ pub(crate) fn set_names<C: CountedWrite + Drop>(
     requires ready { IsReady solver.old }
     requires free { solver.old.assumed.items ≡ [] }
     ensures obeyed { OnOk result (Obeyed C.seen (command_to state (names_in literals.now)) solver.old solver.new) }
-    ensures fails { IfErr result (λ e. FailsSolver C.seen e solver.old solver.new) }
+    ensures fails { FailsIf result C.seen solver.old solver.new }
 {
     for lit in literals {
         set_name(solver, lit.var(), state)?;

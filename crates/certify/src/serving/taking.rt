@@ -4,7 +4,7 @@ ghost use Rattle.sat_base.specs.script.Language.{Reading, onto_commands};
 ghost use Rattle.sat_base.specs.script.Script.{Command as Spelled};
 ghost use Rattle.sat_base.specs.script.Judge.{Judge, accepted};
 ghost use Rattle.certify.specs.judge.Names.{Stands};
-ghost use Rattle.certify.specs.reading.Commands.{IsLent};
+ghost use Rattle.certify.specs.reading.Commands.{IsLent, IsSomeLent};
 ghost use Rattle.certify.specs.serving.Standing.{Allows, CarriedOut, GoesOn, ServedNext, StopsCarrying, StopsOver, WritesBoth, spelled_by};
 
 use super::asking::answer_ask;
@@ -69,7 +69,7 @@ pub fn take_command<A: CountedWrite, C: CountedWrite + Drop>(
 ) -> Result<(), RunFault>
     requires goes_on { GoesOn session.old }
     requires few { session.old.commands < 2 ^ 64 - 1 }
-    requires whole { (c : Spelled) × IsLent command c }
+    requires whole { IsSomeLent command }
     ensures served { (c : Spelled) → IsLent command.entry c
         → OnOk result (ServedNext C.seen session.old session.new c (A.seen answers.old) (A.seen answers.new)) }
     ensures stops { (c : Spelled) → IsLent command.entry c → (left : Reading)

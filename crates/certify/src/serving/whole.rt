@@ -5,7 +5,7 @@ ghost use Rattle.sat_base.specs.script.Judge.{Judge, start};
 ghost use Rattle.sat_base.specs.script.Script.{Command as Spelled, Malformed};
 ghost use Rattle.certify.specs.answers.Answers.{malformed_line};
 ghost use Rattle.certify.specs.reading.Ahead.{IsOpen, source_in};
-ghost use Rattle.certify.specs.reading.Commands.{IsLent, Means, MeansIf, end_reading};
+ghost use Rattle.certify.specs.reading.Commands.{IsLent, IsSomeLent, Means, MeansIf, end_reading};
 ghost use Rattle.sat_base.specs.script.Language.{Reading, onto_commands, reading, written};
 ghost use Rattle.certify.specs.run.Unfinished.{TookFront};
 ghost use Rattle.certify.specs.serving.Calls.{IsReady};
@@ -39,7 +39,7 @@ fn serve_next<A: CountedWrite, C: CountedWrite + Drop>(
     command: Command<'_>,
 ) -> Result<(), RunFault>
     requires goes_on { GoesOn session.old }
-    requires whole { (c : Spelled) × IsLent command c }
+    requires whole { IsSomeLent command }
     ensures served { (c : Spelled) → IsLent command.entry c
         → OnOk result (ServedNext C.seen session.old session.new c (A.seen answers.old) (A.seen answers.new)) }
     ensures stops { (c : Spelled) → IsLent command.entry c → (left : Reading)
@@ -105,7 +105,7 @@ fn serve_last<A: CountedWrite, C: CountedWrite + Drop>(
     end: ScriptEnd,
 ) -> Result<Option<u64>, RunFault>
     requires goes_on { GoesOn session.old }
-    requires whole { (c : Spelled) × IsLent command c }
+    requires whole { IsSomeLent command }
     ensures serves { (c : Spelled) → IsLent command.entry c → (j : Judge) → IsAt session.old j
         → IfOk result (λ at. ServesWhole C.seen j (onto_commands (c ∷ []) (end_reading end)) 1 at session.old session.new
         (A.seen answers.old) (A.seen answers.new)) }
