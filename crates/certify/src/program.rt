@@ -1,7 +1,8 @@
 //! The program: what it does with its arguments and its standard streams.
-ghost use Rattle.std.specs.Prelude.{◌≡◌, ◌≤◌, [], IfOk};
+ghost use Rattle.std.specs.Prelude.{◌≡◌, ◌≤◌, ◌↔◌, [], map, IfOk};
+ghost use Rattle.std.specs.String.{string_bytes};
 ghost use Rattle.certify.specs.run.FinishedRun.{gave, took};
-ghost use Rattle.certify.specs.program.Calls.{HasStatus};
+ghost use Rattle.certify.specs.program.Calls.{HasStatus, IsMisuse};
 ghost use Rattle.certify.specs.program.Printing.{PrintsVerdict};
 
 mod call;
@@ -57,6 +58,8 @@ pub fn program<R: AllocGlobal + Files, I: CountedRead, O: CountedWrite, E: Count
     errors: &mut E,
 ) -> u8
     ensures status { result ≤ 3 }
+    // Of arguments that are text, 2 means exactly those that are no call.
+    ensures usage { IfOk arguments (λ words. (result ≡ 2) ↔ IsMisuse (map string_bytes words.items)) }
     // Without arguments, behind a status of 0 or 1 stand right answers to the script, none of them unknown but where all steps were
     // spent, and `c confirmed`. 0 means a script that isn't malformed.
     ensures printed { IfOk arguments (λ words. words.items ≡ [] → result ≤ 1
@@ -82,6 +85,7 @@ fn obey<R: AllocGlobal + Files, I: CountedRead, O: CountedWrite, E: CountedWrite
     errors: &mut E,
 ) -> u8
     ensures status { result ≤ 3 }
+    ensures usage { (result ≡ 2) ↔ IsMisuse (map string_bytes words.now) }
     ensures printed { words.now ≡ [] → result ≤ 1
         → PrintsVerdict result (gave I.seen input.old input.new) (took O.seen output.old output.new) }
 {

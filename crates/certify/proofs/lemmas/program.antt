@@ -1,1 +1,2 @@
 pub mod PrintedVerdicts
+pub mod Words

@@ -1,14 +1,67 @@
--- What a call of the program does to the files that its words name, and which status it has.
-use Rattle.std.specs.Prelude.{ℕ, ◌≡◌, ◌≤◌, Result, IfOk}
+-- What the words of a call ask for, and which status what it did has.
+use Rattle.std.specs.Prelude.{ℕ, ◌≡◌, ◌≤◌, ◌<◌, ◌⊎◌, true, Option, MatchOption, List, [], ◌∷◌, length, codes, Result, IfOk}
+use Rattle.std.specs.Str.{all_ascii_digits}
+use Rattle.std.specs.Str.Parse.{digits_value}
+use Rattle.certify.specs.run.StepsLeft.{largest_count}
 use Rattle.certify.specs.declared.program.call.Call.{Call}
 use Rattle.certify.specs.declared.program.call.Call.TheVariants as call
+use Rattle.certify.specs.declared.program.call.RunFiles.{RunFiles}
 
--- no file that it reads is written over: no output has the word of the input
-abbrev pub KeepsInput : Call → Type 0
-KeepsInput (call.Run files budget) = (files.answers.now ≡ files.script.now → ⊥) × (files.certificate.now ≡ files.script.now → ⊥)
-KeepsInput (call.Confirm files) = Unit {0}
-KeepsInput (call.Hints certificate hints) = hints.now ≡ certificate.now → ⊥
-KeepsInput (call.Check hints) = Unit {0}
+-- What is asked for over files, each of them by its word.
+pub data Request : Type 0 where
+  Run : (script answers certificate : List ℕ) (budget : ℕ) → Request
+  Confirm : (script answers certificate : List ℕ) → Request
+  Hints : (certificate hints : List ℕ) → Request
+  Check : (hints : List ℕ) → Request
+
+-- a word is the digits of a number of steps
+pub record IsSteps (word : List ℕ) (steps : ℕ) : Type 0 where
+  pub digits : all_ascii_digits word ≡ true
+  pub some : 0 < length word
+  pub value : steps ≡ digits_value 10 word
+  pub fits : steps ≤ largest_count
+
+-- the usage: `run S A C [STEPS]`, `confirm S A C`, `hints C H` or `check H`
+abbrev pub IsUsage : List (List ℕ) → Request → Type 0
+IsUsage words (Run s a c budget) = ((words ≡ codes "run" ∷ s ∷ a ∷ c ∷ []) × (budget ≡ largest_count))
+    ⊎ ((steps : List ℕ) × (words ≡ codes "run" ∷ s ∷ a ∷ c ∷ steps ∷ []) × IsSteps steps budget)
+IsUsage words (Confirm s a c) = words ≡ codes "confirm" ∷ s ∷ a ∷ c ∷ []
+IsUsage words (Hints c h) = words ≡ codes "hints" ∷ c ∷ h ∷ []
+IsUsage words (Check h) = words ≡ codes "check" ∷ h ∷ []
+
+-- no file that is read is written over: no output has the word of the input
+abbrev pub KeepsInput : Request → Type 0
+KeepsInput (Run s a c budget) = (a ≡ s → ⊥) × (c ≡ s → ⊥)
+KeepsInput (Confirm s a c) = Unit {0}
+KeepsInput (Hints c h) = h ≡ c → ⊥
+KeepsInput (Check h) = Unit {0}
+
+abbrev pub Asks : List (List ℕ) → Request → Type 0
+Asks words request = IsUsage words request × KeepsInput request
+
+abbrev pub AsksNothing : List (List ℕ) → Type 0
+AsksNothing words = (request : Request) → Asks words request → ⊥
+
+-- words that are no call: there are some, and they ask for nothing
+abbrev pub IsMisuse : List (List ℕ) → Type 0
+IsMisuse words = (words ≡ [] → ⊥) × AsksNothing words
+
+abbrev pub running : RunFiles → ℕ → Request
+running files budget = Run files.script.now files.answers.now files.certificate.now budget
+
+abbrev pub request_of : Call → Request
+request_of (call.Run files budget) = running files budget
+request_of (call.Confirm files) = Confirm files.script.now files.answers.now files.certificate.now
+request_of (call.Hints certificate hints) = Hints certificate.now hints.now
+request_of (call.Check hints) = Check hints.now
+
+-- the call is what the words ask for, or there is none and they ask for nothing
+abbrev pub IsCallOf : List (List ℕ) → Option Call → Type 0
+IsCallOf words answer = MatchOption answer (AsksNothing words) (λ c. Asks words (request_of c))
+
+-- the call is this request, which keeps its input, or there is none and it doesn't
+abbrev pub Allows : Option Call → Request → Type 0
+Allows answer request = MatchOption answer (KeepsInput request → ⊥) (λ c. (request_of c ≡ request) × KeepsInput request)
 
 -- the status of what was done or refused
 abbrev pub HasStatus : {E : Type 0} → Result ℕ E → Type 0

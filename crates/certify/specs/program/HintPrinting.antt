@@ -56,8 +56,9 @@ status_behind (Err error.Read) = None
 status_behind (Err error.Write) = None
 status_behind (Err error.OutOfMemory) = None
 
--- A certificate was read and its hint text written, or it has none.
+-- A certificate was read and its hint text written and flushed, or it has none.
 pub record WritesHints (status : ℕ) (certificate : Reader × Reader) (hints : Writer × Writer) : Type 0 where
   pub answer : Result (Unit {0}) HintError
   pub converts : Converts answer certificate.0 certificate.1 hints.0 hints.1
   pub behind : status_behind answer ≡ Some status
+  pub flushed : status ≡ 0 → hints.1.flushed ≡ true

@@ -6,7 +6,7 @@ use Rattle.sat_checker.specs.matching.ProofChecking.{the_checking}
 use Rattle.certify.specs.confirm.Matches.{Matches}
 use Rattle.certify.specs.confirm.VerdictPromises.{Exact}
 use Rattle.sat_base.specs.script.Language.{reading}
-use Rattle.certify.specs.run.FinishedRun.{Answered, Answers}
+use Rattle.certify.specs.run.FinishedRun.{Answers, TookCertificate}
 use Rattle.certify.specs.run.StepsLeft.{largest_count}
 use Rattle.certify.specs.declared.summary.Summary.{Summary}
 use Rattle.certify.specs.declared.verdict.Verdict.{Verdict}
@@ -122,8 +122,9 @@ pub record PrintsYesOrNo (status : ℕ) (script answers certificate : Reader × 
   pub exact : Exact script answers certificate verdict
   pub printed : PrintsLine status (yes_or_no_text verdict) (verdict ≡ Yes) output.0 output.1
 
--- The answers to the text that a reader gave were written. The status is 0 exactly where it isn't malformed.
-pub record Ran (status budget : ℕ) (script : Reader × Reader) (answers : Writer × Writer) : Type 0 where
+-- The answers to the text that a reader gave were written, and their certificate. The status is 0 exactly where it isn't malformed.
+pub record Ran (status budget : ℕ) (script : Reader × Reader) (answers certificate : Writer × Writer) : Type 0 where
   pub summary : Summary
-  pub answered : Answered budget summary script answers
+  pub backed : TookCertificate budget summary script answers certificate
+  pub flushed : (answers.1.flushed ≡ true) × (certificate.1.flushed ≡ true)
   pub done : (status ≡ 0) ↔ (summary.malformed ≡ None)

@@ -1,6 +1,7 @@
 //! What the arguments of the program ask for.
-ghost use Rattle.std.specs.Prelude.{IfSome};
-ghost use Rattle.certify.specs.program.Calls.{KeepsInput};
+ghost use Rattle.std.specs.Prelude.{ℕ, [], ◌∷◌, map, MatchOption};
+ghost use Rattle.std.specs.String.{string_bytes};
+ghost use Rattle.certify.specs.program.Calls.{Allows, IsCallOf, IsSteps, running};
 
 /// The files of a run: a script, its answers and their certificate.
 #[derive(Clone, Copy)]
@@ -34,7 +35,9 @@ pub(super) enum Call<'a> {
 }
 
 /// The number that a word of digits spells, where it is below 2^64.
-fn steps_of(word: &str) -> Option<u64> {
+fn steps_of(word: &str) -> Option<u64>
+    ensures { MatchOption result ((n : ℕ) → IsSteps word.now n → ⊥) (IsSteps word.now) }
+{
     for byte in word.as_bytes() {
         if !byte.is_ascii_digit() {
             return None;
@@ -45,7 +48,7 @@ fn steps_of(word: &str) -> Option<u64> {
 
 /// A run that doesn't write over its script.
 fn run_of(files: RunFiles<'_>, budget: u64) -> Option<Call<'_>>
-    ensures { IfSome result KeepsInput }
+    ensures { Allows result (running files.entry budget) }
 {
     if files.answers == files.script || files.certificate == files.script {
         return None;
@@ -53,42 +56,59 @@ fn run_of(files: RunFiles<'_>, budget: u64) -> Option<Call<'_>>
     Some(Call::Run { files, budget })
 }
 
-/// The hints of a certificate that aren't written over it.
-fn hints_of<'a>(certificate: &'a str, hints: &'a str) -> Option<Call<'a>>
-    ensures { IfSome result KeepsInput }
+/// `check H`
+fn check_of<'a>(name: &str, hints: &'a str) -> Option<Call<'a>>
+    ensures { IsCallOf (name.now ∷ hints.now ∷ []) result }
 {
-    if hints == certificate {
+    if name != "check" {
+        return None;
+    }
+    Some(Call::Check { hints })
+}
+
+/// `hints C H`, which doesn't write over the certificate.
+fn hints_of<'a>(name: &str, certificate: &'a str, hints: &'a str) -> Option<Call<'a>>
+    ensures { IsCallOf (name.now ∷ certificate.now ∷ hints.now ∷ []) result }
+{
+    if name != "hints" || hints == certificate {
         return None;
     }
     Some(Call::Hints { certificate, hints })
 }
 
-/// The call of a script, its answers and their certificate, with no word behind them or one.
-fn call_on<'a>(name: &str, files: RunFiles<'a>, steps: Option<&str>) -> Option<Call<'a>>
-    ensures { IfSome result KeepsInput }
+/// `run S A C` or `confirm S A C`.
+fn call_on<'a>(name: &str, files: RunFiles<'a>) -> Option<Call<'a>>
+    ensures { IsCallOf (name.now ∷ files.entry.script.now ∷ files.entry.answers.now ∷ files.entry.certificate.now ∷ []) result }
 {
-    match (name, steps) {
-        ("run", None) => run_of(files, u64::MAX),
-        ("run", Some(word)) => match steps_of(word) {
-            Some(budget) => run_of(files, budget),
-            None => None,
-        },
-        ("confirm", None) => Some(Call::Confirm { files }),
+    match name {
+        "run" => run_of(files, u64::MAX),
+        "confirm" => Some(Call::Confirm { files }),
         _ => None,
+    }
+}
+
+/// `run S A C STEPS`
+fn limited_run<'a>(name: &str, files: RunFiles<'a>, steps: &str) -> Option<Call<'a>>
+    ensures { IsCallOf (name.now ∷ files.entry.script.now ∷ files.entry.answers.now ∷ files.entry.certificate.now ∷ steps.now ∷ []) result }
+{
+    if name != "run" {
+        return None;
+    }
+    match steps_of(steps) {
+        Some(budget) => run_of(files, budget),
+        None => None,
     }
 }
 
 /// The call that these words are, if they are one with files. None writes over what it reads: an output with the word of its input is no
 /// call.
 pub(super) fn call_of(words: &[String]) -> Option<Call<'_>>
-    ensures { IfSome result KeepsInput }
+    ensures { IsCallOf (map string_bytes words.now) result }
 {
     match words {
-        [name, hints] if name.as_str() == "check" => Some(Call::Check {
-            hints: hints.as_str(),
-        }),
-        [name, certificate, hints] if name.as_str() == "hints" => {
-            hints_of(certificate.as_str(), hints.as_str())
+        [name, hints] => check_of(name.as_str(), hints.as_str()),
+        [name, certificate, hints] => {
+            hints_of(name.as_str(), certificate.as_str(), hints.as_str())
         }
         [name, script, answers, certificate] => {
             let files = RunFiles {
@@ -96,7 +116,7 @@ pub(super) fn call_of(words: &[String]) -> Option<Call<'_>>
                 answers: answers.as_str(),
                 certificate: certificate.as_str(),
             };
-            call_on(name.as_str(), files, None)
+            call_on(name.as_str(), files)
         }
         [name, script, answers, certificate, steps] => {
             let files = RunFiles {
@@ -104,7 +124,7 @@ pub(super) fn call_of(words: &[String]) -> Option<Call<'_>>
                 answers: answers.as_str(),
                 certificate: certificate.as_str(),
             };
-            call_on(name.as_str(), files, Some(steps.as_str()))
+            limited_run(name.as_str(), files, steps.as_str())
         }
         _ => None,
     }

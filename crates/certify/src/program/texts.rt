@@ -41,7 +41,8 @@ pub(super) fn run_text<S: CountedRead, A: CountedWrite, C: CountedWrite>(
     budget: u64,
 ) -> Result<(u8, Progress), Fault>
     ensures small { IfOk result (λ r. r.0 ≤ 1) }
-    ensures ran { IfOk result (λ r. Ran r.0 budget (gave S.seen script.old script.new) (took A.seen answers.old answers.new)) }
+    ensures ran { IfOk result (λ r. Ran r.0 budget (gave S.seen script.old script.new)
+        (took A.seen answers.old answers.new) (took C.seen certificate.old certificate.new)) }
 {
     let summary = run(alloc, script, answers, certificate, budget)?;
     Ok((run_status(&summary), summary.progress))
@@ -110,6 +111,7 @@ pub(super) fn write_hints<C: CountedRead, H: CountedWrite, E: CountedWrite>(
 fn finish_hints<H: CountedWrite>(hints: &mut H) -> Result<u8, Fault>
     ensures done { IfOk result (λ status. status ≡ 0) }
     ensures took { OnOk result (Takes (H.seen hints.old) (H.seen hints.new) []) }
+    ensures flushed { OnOk result ((H.seen hints.new).flushed ≡ true) }
 {
     match hints.flush_counted() {
         Ok(()) => Ok(DONE),
