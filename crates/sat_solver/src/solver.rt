@@ -4,7 +4,7 @@
 //! what holds between calls is `IsSolver`, which `new` gives and each call keeps.
 ghost use Rattle.std.specs.Prelude.{◌≡◌, true, false, []};
 ghost use Rattle.sat_base.specs.script.Judge.{start};
-ghost use Rattle.sat_solver.specs.session.ProofView.{Closed, is_checked, is_lost, target_of};
+ghost use Rattle.sat_solver.specs.session.ProofView.{Closed, has_asked, is_checked, is_lost, target_of};
 ghost use Rattle.sat_solver.specs.names.Calls.{Agree};
 ghost use Rattle.sat_solver.specs.Configs.{defaults};
 ghost use Rattle.sat_solver.specs.solver.Whole.{IsWhole, steps_in};
@@ -71,6 +71,7 @@ impl<W: CountedWrite + Drop> Solver<W, Nobody> {
         ensures target { target_of W.seen result.core.proof ≡ Closed }
         ensures checked { is_checked result.core.proof ≡ false }
         ensures taking { is_lost result.core.proof ≡ false }
+        ensures begun { has_asked result.core.proof ≡ false }
         ensures agree { Agree result.names [] start [] }
         ensures asked { result.assumed.items ≡ [] }
         ensures config { result.core.config ≡ defaults }
@@ -91,6 +92,7 @@ impl<W: CountedWrite + Drop, P: ProofProcessor> Solver<W, P> {
         ensures target { target_of W.seen result.core.proof ≡ Closed }
         ensures checked { is_checked result.core.proof ≡ false }
         ensures taking { is_lost result.core.proof ≡ false }
+        ensures begun { has_asked result.core.proof ≡ false }
         ensures agree { Agree result.names [] start [] }
         ensures asked { result.assumed.items ≡ [] }
         ensures config { result.core.config ≡ defaults }

@@ -10,7 +10,7 @@ use Rattle.sat_checker.specs.declared.processing.ProofProcessor.{Ghosts}
 use Rattle.sat_solver.specs.session.Counting.{start, counted, one_made, written_for}
 use Rattle.sat_solver.specs.session.OutputView.{text_in}
 use Rattle.sat_solver.specs.session.ProofTexts.{BrokeText}
-use Rattle.sat_solver.specs.session.ProofView.{Target, Open, Carries, Stops, Gives, seen_of, is_open, target_of, is_checked, Adds, Records, Closes, HandsBack}
+use Rattle.sat_solver.specs.session.ProofView.{Target, Open, Carries, Stops, Gives, seen_of, is_open, target_of, is_checked, Gains, Records, Closes, HandsBack}
 use Rattle.sat_solver.specs.declared.session.format.ProofFormat.{ProofFormat}
 use Rattle.sat_solver.specs.declared.session.format.ProofFormat.TheVariants.{Varisat}
 use Rattle.sat_solver.specs.declared.session.proof.Proof.{Proof}
@@ -53,7 +53,7 @@ module _ {W L : Type 0} {G : Ghosts L} (seen : W → Writer) (w : W) (p q : Proo
       subst (PutsOwned seen (Err OutOfMemory) w) (sym x.1) tt
   step_failed (Check fault) r given f h = absurd (true≢false (sym (complains_checked fault q f.why) ∙ ap (λ o. is_some o) f.adds.listening ∙ unchecked))
 
-  module _ (a : Adds seen (Assumptions [] ∷ []) p q) where
+  module _ (a : Gains seen (Assumptions [] ∷ []) p q) where
     carried : Carries (opened_as (seen w)) (Assumptions [] ∷ []) (target_of seen q)
     carried = subst (λ z. Carries z (Assumptions [] ∷ []) (target_of seen q)) opened a.target
 

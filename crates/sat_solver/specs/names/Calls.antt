@@ -29,6 +29,10 @@ pub record Agree (n : Variables) (steps : List Step) (j : Judge) (live : Live) :
   pub judged : AreJudged n j live
   pub bridge : IsBridge the_checking j steps live
 
+-- some state of the judge
+abbrev pub HasJudge : Variables → List Step → Type 0
+HasJudge n steps = (j : Judge) × (live : Live) × Agree n steps j live
+
 -- the judge's state is this from here on, and the steps' trace is what was expected
 pub record Kept (new : Variables) (from to : List Step) (j : Judge) (es : List Expected) : Type 0 where
   pub live : Live

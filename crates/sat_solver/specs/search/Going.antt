@@ -6,7 +6,7 @@ use Rattle.sat_base.specs.values.Literals.{variable}
 use Rattle.sat_base.specs.steps.Steps.{Step, AtClause, UnitClauses, DeleteClause}
 use Rattle.sat_checker.specs.declared.processing.ProofProcessor.{Ghosts}
 use Rattle.sat_solver.specs.joint.Quiet.{AreQuiet}
-use Rattle.sat_solver.specs.session.ProofView.{Adds, Fails, FailsCheck, Keeps, session_of}
+use Rattle.sat_solver.specs.session.ProofView.{Adds, Fails, FailsCheck, Gains, Keeps, session_of}
 use Rattle.sat_solver.specs.declared.session.made.CheckFault.{CheckFault}
 use Rattle.sat_solver.specs.declared.session.made.CheckFault.TheVariants as checks
 use Rattle.sat_solver.specs.declared.session.proof.Proof.{Proof}
@@ -63,7 +63,7 @@ IsFault = IsFaultOr ⊥
 
 -- These steps were made; where a call of the target failed, that was at their text. A count is at its end, or a processor answers a fault, only in the solver's own checker.
 abbrev pub Went : {A W L : Type 0} {G : Ghosts L} → (W → Writer) → Result A SolverError → List Step → Proof W L G → Proof W L G → Type 0
-Went seen (Ok x) steps old new = Adds seen steps old new
+Went seen (Ok x) steps old new = Gains seen steps old new
 Went seen (Err (errors.ProofIoError cause)) steps old new = Fails seen steps old new
 Went seen (Err (errors.ProofProcessorError cause)) steps old new = FailsCheck seen (checks.Processor cause) steps old new
 Went seen (Err errors.CounterEnd) steps old new = FailsCheck seen checks.CounterEnd steps old new

@@ -4,7 +4,7 @@ use Rattle.sat_base.specs.device.Device.{Writer}
 use Rattle.sat_base.specs.steps.Steps.{Step, AtClause}
 use Rattle.sat_checker.specs.declared.processing.ProofProcessor.{Ghosts}
 use Rattle.sat_parts.specs.prop.TrailWord.{Letter}
-use Rattle.sat_solver.specs.session.ProofView.{Adds, Keeps, steps_of, session_of}
+use Rattle.sat_solver.specs.session.ProofView.{Gains, Keeps, steps_of, session_of}
 use Rattle.sat_solver.specs.session.Coming.{Comes, EndsAtUnsat}
 use Rattle.sat_solver.specs.session.Session.{Session, session_after}
 use Rattle.sat_solver.specs.parts.Words.{Words}
@@ -65,7 +65,7 @@ values_in c = length c.search.parts.assignment.current
 -- sees nothing of it.
 pub record Gone {W L : Type 0} {G : Ghosts L} (seen : W → Writer) (a : Core W L G) (n : Variables) (k : ℕ) (b : Core W L G) (m : Variables) : Type 0 where
   pub steps : List Step
-  pub adds : Adds seen steps a.proof b.proof
+  pub adds : Gains seen steps a.proof b.proof
   pub does : DoesNothing n m (steps_of a.proof) (steps_of b.proof)
   pub asked : KeepsAsked n m (session_of a.proof) (session_of b.proof)
   pub moved : Moved a.search b.search
@@ -81,7 +81,7 @@ EndSays outcomes.Failed s m c c' = RoundFails s c c' × SharesIndices m c'
 -- it came to this answer, behind so many rounds that ended in a conflict
 pub record Ended {W L : Type 0} {G : Ghosts L} (seen : W → Writer) (a : Core W L G) (n : Variables) (k : ℕ) (outcome : Outcome) (b : Core W L G) (m : Variables) : Type 0 where
   pub steps : List Step
-  pub adds : Adds seen steps a.proof b.proof
+  pub adds : Gains seen steps a.proof b.proof
   pub does : DoesNothing n m (steps_of a.proof) (steps_of b.proof)
   pub asked : KeepsAsked n m (session_of a.proof) (session_of b.proof)
   pub keeps : Keeps b.proof

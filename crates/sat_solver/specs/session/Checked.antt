@@ -12,7 +12,7 @@ use Rattle.sat_checker.specs.declared.error.CheckerError.TheVariants as errors
 use Rattle.sat_checker.specs.declared.processing.Nobody.{Nobody}
 use Rattle.sat_checker.specs.declared.processing.Processing.{Processing}
 use Rattle.sat_solver.specs.session.Due.{kept_if}
-use Rattle.sat_solver.specs.session.Listening.{AreListed, Hears, HasHeard, FailedOf}
+use Rattle.sat_solver.specs.session.Listening.{AreListed, Hears, HeardAll, HasHeard, FailedOf}
 use Rattle.sat_solver.specs.session.Session.{MayAll}
 use Rattle.sat_solver.specs.session.Widths.{IsWritten}
 use Rattle.sat_solver.specs.declared.session.checked.Checked.{Checked}
@@ -84,6 +84,10 @@ module _ {L : Type 0} (takes : L → Told → Result Unit Error → L → Type 0
   -- those who were added have heard what it told, and are these now
   abbrev pub Heard : (added : List L) (now : Listeners L Nobody) → List Step → Type 0
   Heard added now steps = Listened added steps (λ begun written. (end : Processing L Nobody) × (listeners_of end ≡ now) × HasHeard takes begun end written)
+
+  -- those who were added have heard all that it told of all steps, and are these now
+  abbrev pub HeardWhole : (added : List L) (now : Listeners L Nobody) → List Step → Type 0
+  HeardWhole added now steps = (h : Listened added steps (λ begun written. (end : Processing L Nobody) × (listeners_of end ≡ now) × HeardAll takes begun end written)) × (h.later ≡ [])
 
   -- it failed so
   abbrev pub Failed : (added : List L) (now : Listeners L Nobody) → List Step → CheckFault → Type 0

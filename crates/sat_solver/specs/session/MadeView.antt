@@ -9,7 +9,7 @@ use Rattle.sat_checker.specs.telling.ProcessingView.{listeners_of}
 use Rattle.sat_checker.specs.telling.Telling.{Listeners}
 use Rattle.sat_checker.specs.declared.processing.Nobody.{Nobody}
 use Rattle.sat_checker.specs.declared.processing.ProofProcessor.{Ghosts}
-use Rattle.sat_solver.specs.session.Checked.{Failed, Heard, who_listens}
+use Rattle.sat_solver.specs.session.Checked.{Failed, Heard, HeardWhole, who_listens}
 use Rattle.sat_solver.specs.declared.session.checked.Checked.{Checked}
 use Rattle.sat_solver.specs.declared.session.made.Made.{Made}
 use Rattle.sat_solver.specs.declared.session.made.CheckFault.{CheckFault}
@@ -56,6 +56,16 @@ module _ {L : Type 0} (takes : L → Told → Result Unit Error → L → Type 0
     pub are : now.processors ≡ given
     pub heard : Heard takes added now steps
 
+  -- the same, behind all that is told of all steps
+  pub record IsHandedWhole (added given : List L) (steps : List Step) : Type 0 where
+    pub now : Listeners L Nobody
+    pub are : now.processors ≡ given
+    pub heard : HeardWhole takes added now steps
+
+  abbrev pub HandedWholeIn : Option (List L) → (given : List L) → List Step → Type 0
+  HandedWholeIn None given steps = given ≡ []
+  HandedWholeIn (Some added) given steps = ∥ IsHandedWhole added given steps ∥₁
+
   abbrev pub HandedIn : Option (List L) → (given : List L) → List Step → Type 0
   HandedIn None given steps = given ≡ []
   HandedIn (Some added) given steps = ∥ IsHanded added given steps ∥₁
@@ -67,6 +77,10 @@ Complains {G = G} fault m = ComplainsIn G.takes fault m.own m.roll.items m.histo
 -- those who listen are handed back
 abbrev pub Handed : {L : Type 0} {G : Ghosts L} → Made L G → (given : List L) → Type 0
 Handed {G = G} m given = HandedIn G.takes (audience m) given m.history.steps
+
+-- where it took each step they have heard all of it
+abbrev pub HandedWhole : {L : Type 0} {G : Ghosts L} → Made L G → (given : List L) → Type 0
+HandedWhole {G = G} m given = m.lost ≡ false → HandedWholeIn G.takes (audience m) given m.history.steps
 
 -- what an answer of the checker says
 abbrev pub OrComplains : {L : Type 0} {G : Ghosts L} → Result (Unit {0}) CheckFault → Made L G → Type 0

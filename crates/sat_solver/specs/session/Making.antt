@@ -3,12 +3,16 @@ use Rattle.std.specs.Prelude.{List}
 use Rattle.sat_base.specs.device.Device.{Writer}
 use Rattle.sat_base.specs.steps.Steps.{Step}
 use Rattle.sat_checker.specs.declared.processing.ProofProcessor.{Ghosts}
-use Rattle.sat_solver.specs.session.ProofView.{Adds, Fails}
+use Rattle.sat_solver.specs.session.ProofView.{Adds, Fails, Gains}
 use Rattle.sat_solver.specs.declared.session.proof.Proof.{Proof}
 
 -- it came from there by steps that were taken
 abbrev pub Took : {W L : Type 0} {G : Ghosts L} → (W → Writer) → Proof W L G → Proof W L G → Type 0
 Took seen old new = (steps : List Step) × Adds seen steps old new
+
+-- the same, and the checker took them, and no ask began
+abbrev pub Gained : {W L : Type 0} {G : Ghosts L} → (W → Writer) → Proof W L G → Proof W L G → Type 0
+Gained seen old new = (steps : List Step) × Gains seen steps old new
 
 -- it came from there by steps, at whose text a call of the target failed
 abbrev pub Broke : {W L : Type 0} {G : Ghosts L} → (W → Writer) → Proof W L G → Proof W L G → Type 0

@@ -78,6 +78,10 @@ Complains fault p = mades.Complains fault p.made
 abbrev pub Handed : {W L : Type 0} {G : Ghosts L} → Proof W L G → (given : List L) → Type 0
 Handed p given = mades.Handed p.made given
 
+-- where the checker took each step they have heard all that is told of all steps
+abbrev pub HandedWhole : {W L : Type 0} {G : Ghosts L} → Proof W L G → (given : List L) → Type 0
+HandedWhole p given = mades.HandedWhole p.made given
+
 -- there is a checker, which lacks no step
 abbrev pub Checks : {W L : Type 0} {G : Ghosts L} → Proof W L G → Proof W L G → Type 0
 Checks old new = mades.Checks old.made new.made
@@ -136,6 +140,14 @@ pub record FailsCheck {W L : Type 0} {G : Ghosts L} (seen : W → Writer) (fault
   pub adds : Adds seen steps old new
   pub why : Complains fault new
 
+-- The same, and the checker, where there is one, took them too, and no ask began.
+pub record Gains {W L : Type 0} {G : Ghosts L} (seen : W → Writer) (steps : List Step) (old new : Proof W L G) : Type 0 where
+  pub history : steps_of new ≡ steps ++ steps_of old
+  pub listening : audience new ≡ audience old
+  pub taking : is_lost new ≡ is_lost old
+  pub asked : has_asked new ≡ has_asked old
+  pub target : Carries (target_of seen old) steps (target_of seen new)
+
 -- what came of giving a step to the target
 abbrev pub PutsOn : Result (Unit {0}) ProofError → List Step → Target → Target → Type 0
 PutsOn (Ok x) steps old new = Carries old steps new
@@ -152,9 +164,9 @@ FailsOfCheck (Err (Check fault)) new = Complains fault new
 
 -- what came of making these steps: none is made where memory for one's hashes is wanting
 abbrev pub Records : {T W L : Type 0} {G : Ghosts L} → (W → Writer) → Result T ProofError → List Step → Proof W L G → Proof W L G → Type 0
-Records seen (Ok x) steps old new = Adds seen steps old new
+Records seen (Ok x) steps old new = Gains seen steps old new
 Records seen (Err (Write e)) steps old new = Fails seen steps old new
-Records seen (Err OutOfMemory) steps old new = Adds seen [] old new
+Records seen (Err OutOfMemory) steps old new = Gains seen [] old new
 Records seen (Err (Check fault)) steps old new = FailsCheck seen fault steps old new
 
 -- nothing waits for an open target any more, which was flushed
@@ -173,6 +185,8 @@ pub record Drains {W L : Type 0} {G : Ghosts L} (seen : W → Writer) (old new :
 pub record Flushes {W L : Type 0} {G : Ghosts L} (seen : W → Writer) (old new : Proof W L G) : Type 0 where
   pub history : steps_of new ≡ steps_of old
   pub listening : audience new ≡ audience old
+  pub taking : is_lost new ≡ is_lost old
+  pub asked : has_asked new ≡ has_asked old
   pub target : Flushed (target_of seen old) (target_of seen new)
   pub told : HasTold new
 
@@ -207,12 +221,16 @@ TakesAll (Broken w) steps given = ⊥
 pub record ClosesNone {W L : Type 0} {G : Ghosts L} (seen : W → Writer) (old new : Proof W L G) : Type 0 where
   pub history : steps_of new ≡ steps_of old
   pub listening : audience new ≡ audience old
+  pub taking : is_lost new ≡ is_lost old
+  pub asked : has_asked new ≡ has_asked old
   pub shut : is_open (target_of seen old) ≡ false
   pub target : target_of seen new ≡ target_of seen old
 
 pub record ClosesOne {W L : Type 0} {G : Ghosts L} (seen : W → Writer) (given : W) (old new : Proof W L G) : Type 0 where
   pub history : steps_of new ≡ End ∷ steps_of old
   pub listening : audience new ≡ audience old
+  pub taking : is_lost new ≡ is_lost old
+  pub asked : has_asked new ≡ has_asked old
   pub takes : TakesAll (target_of seen old) (End ∷ []) (seen given)
   pub target : target_of seen new ≡ Closed
   pub told : HasTold new
@@ -239,6 +257,7 @@ seen_of seen (Some w) = Some (seen w)
 pub record HandsBack {W L : Type 0} {G : Ghosts L} (seen : W → Writer) (given : Option W) (old new : Proof W L G) : Type 0 where
   pub history : steps_of new ≡ steps_of old
   pub made : new.made ≡ old.made
+  pub asked : has_asked new ≡ has_asked old
   pub gives : Gives (target_of seen old) (seen_of seen given)
   pub target : target_of seen new ≡ Closed
 
@@ -258,5 +277,6 @@ TakesListener (Err (Check fault)) processor old new = (fault ≡ checks.OutOfMem
 
 pub record Listens {W L : Type 0} {G : Ghosts L} (seen : W → Writer) (result : Result (Unit {0}) ProofError) (processor : L) (old new : Proof W L G) : Type 0 where
   pub history : steps_of new ≡ steps_of old
+  pub asked : has_asked new ≡ has_asked old
   pub target : target_of seen new ≡ target_of seen old
   pub takes : TakesListener result processor old new

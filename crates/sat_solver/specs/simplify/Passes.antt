@@ -6,7 +6,7 @@ use Rattle.sat_base.specs.steps.Steps.{Step}
 use Rattle.sat_checker.specs.declared.processing.ProofProcessor.{Ghosts}
 use Rattle.sat_parts.specs.declared.prop.graph.Conflict.{Conflict}
 use Rattle.sat_parts.specs.clause.Db.{live_refs}
-use Rattle.sat_solver.specs.session.Making.{Took}
+use Rattle.sat_solver.specs.session.Making.{Gained}
 use Rattle.sat_solver.specs.session.ProofView.{Keeps, steps_of, session_of}
 use Rattle.sat_solver.specs.declared.session.proof.Proof.{Proof}
 use Rattle.sat_solver.specs.declared.error.SolverError.{SolverError}
@@ -42,7 +42,7 @@ pub record MaySettle {W L : Type 0} {G : Ghosts L} (n : Variables) (p : Proof W 
 -- were, and the word of the trail goes on.
 pub record Passes {W L : Type 0} {G : Ghosts L} (seen : W → Writer) (n n' : Variables) (p p' : Proof W L G) (c c' : Search) : Type 0 where
   pub together : StandTogether n' p' c'
-  pub took : Took seen p p'
+  pub took : Gained seen p p'
   pub quiet : ComesQuietly (steps_of p) (steps_of p')
   pub does : DoesNothing n n' (steps_of p) (steps_of p')
   pub asked : KeepsAsked n n' (session_of p) (session_of p')

@@ -87,6 +87,7 @@ pub record Added {W L : Type 0} {G : Ghosts L} (seen : W → Writer) (old new : 
   pub room : HasRoom old.names (users_in user)
   pub did : Did seen old new (with_added user) (due_for_clause old.state user)
   pub comes : Comes (MayAdd (names_in user)) (steps_in old) (steps_in new)
+  pub asked : has_asked new.core.proof ≡ has_asked old.core.proof
   pub assumed : new.assumed ≡ old.assumed
   pub clock : new.clock ≡ old.clock
   pub state : Forgets old.state new.state
@@ -106,6 +107,7 @@ pub record Assumed {W L : Type 0} {G : Ghosts L} (seen : W → Writer) (old new 
   pub room : HasRoom old.names (users_in user)
   pub did : (o : Outcome) → Did seen old new (bring_all (names_in user)) (due_for_asked o user)
   pub comes : Comes (MayTake (names_in user)) (steps_in old) (steps_in new)
+  pub asked : has_asked new.core.proof ≡ has_asked old.core.proof
   pub assumed : new.assumed.items ≡ user
   pub clock : new.clock ≡ old.clock
   pub state : Forgets old.state new.state
@@ -126,6 +128,7 @@ pub record TookIn {W L : Type 0} {G : Ghosts L} (seen : W → Writer) (old new :
   pub does : Does old.names new.names (steps_in old) (steps_in new) (with_added user) (due_for_clause old.state user)
   pub comes : Comes (MayAdd (names_in user)) (steps_in old) (steps_in new)
   pub took : Took seen old.core.proof new.core.proof
+  pub asked : has_asked new.core.proof ≡ has_asked old.core.proof
   pub failed : new.failed ≡ old.failed
   pub used : new.used ≡ old.used
   pub config : new.core.config ≡ old.core.config

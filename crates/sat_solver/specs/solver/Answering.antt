@@ -3,7 +3,7 @@ use Rattle.std.specs.Prelude.{ℕ, ◌≡◌, List, [], ◌∷◌, map, MatchRes
 use Rattle.sat_base.specs.device.Device.{Writer}
 use Rattle.sat_base.specs.steps.Steps.{Step, Model}
 use Rattle.sat_checker.specs.declared.processing.ProofProcessor.{Ghosts}
-use Rattle.sat_solver.specs.session.ProofView.{Adds, Fails, FailsCheck, session_of}
+use Rattle.sat_solver.specs.session.ProofView.{Fails, FailsCheck, Gains, session_of}
 use Rattle.sat_solver.specs.search.Failing.{ToldCore}
 use Rattle.sat_solver.specs.parts.Full.{IsFull}
 use Rattle.sat_solver.specs.search.Going.{IsFaultOr, Went}
@@ -41,7 +41,7 @@ FlushFails seen e old new = ⊥
 
 -- the model of all variables was written
 pub record Shown {W L : Type 0} {G : Ghosts L} (seen : W → Writer) (n : Variables) (a b : Core W L G) : Type 0 where
-  pub adds : Adds seen (Model (model_of n a) ∷ []) a.proof b.proof
+  pub adds : Gains seen (Model (model_of n a) ∷ []) a.proof b.proof
   pub joined : IsJoined n b
   pub search : b.search ≡ a.search
   pub config : b.config ≡ a.config
@@ -52,7 +52,7 @@ ShowsModel seen r n a b = MatchResult r (λ _. Shown seen n a b) (λ e. Breaks s
 -- a failed core was written, and these are its literals over names
 pub record Failed {W L : Type 0} {G : Ghosts L} (seen : W → Writer) (n : Variables) (a b : Core W L G) (core : List ℕ) : Type 0 where
   pub steps : List Step
-  pub adds : Adds seen steps a.proof b.proof
+  pub adds : Gains seen steps a.proof b.proof
   pub told : ToldCore steps (session_of b.proof) a.search b.search
   pub joined : IsJoined n b
   pub config : b.config ≡ a.config

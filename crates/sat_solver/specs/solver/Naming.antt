@@ -19,6 +19,7 @@ use Rattle.sat_base.specs.steps.Steps.{Step}
 use Rattle.sat_solver.specs.session.Coming.{Comes}
 use Rattle.sat_solver.specs.names.Coming.{IsDue, MayHide, MaySet}
 use Rattle.sat_solver.specs.session.Making.{Took}
+use Rattle.sat_solver.specs.session.ProofView.{has_asked}
 use Rattle.sat_solver.specs.declared.solver.Solver.{Solver}
 use Rattle.sat_solver.specs.solver.Adding.{EndsNames}
 use Rattle.sat_solver.specs.solver.Calls.{Did, Refuses}
@@ -48,6 +49,7 @@ IsKeptOrFalse (Some a) (Some b) = b ≡ a
 pub record Renamed {W L : Type 0} {G : Ghosts L} (seen : W → Writer) (old new : Solver W L G) (judge : Judge → Judge) (due : Judge → List Expected) (May : List Step → Step → Type 0) : Type 0 where
   pub did : Did seen old new judge due
   pub comes : Comes May (steps_in old) (steps_in new)
+  pub asked : has_asked new.core.proof ≡ has_asked old.core.proof
   pub assumed : new.assumed ≡ old.assumed
   pub told : new.told ≡ old.told
   pub clock : new.clock ≡ old.clock
@@ -104,6 +106,7 @@ pub record Observed {W L : Type 0} {G : Ghosts L} (seen : W → Writer) (old new
   pub all : (v : ℕ) → IsHidden new.names v → ⊥
   pub values : (v : ℕ) → variable_value new (Some v) ≡ variable_value old (Some v)
   pub took : Took seen old.core.proof new.core.proof
+  pub asked : has_asked new.core.proof ≡ has_asked old.core.proof
   pub assumed : new.assumed ≡ old.assumed
   pub told : new.told ≡ old.told
   pub clock : new.clock ≡ old.clock

@@ -9,7 +9,7 @@ use Rattle.sat_solver.specs.session.Counting.{start}
 use Rattle.sat_solver.specs.session.Drat.{IsDratDerivation, Refutes, present}
 use Rattle.sat_solver.specs.session.ProofTexts.{IsCertificate, WroteSince}
 use Rattle.sat_solver.specs.session.ProofView as proofs
-use Rattle.sat_solver.specs.session.ProofView.{Open, Adds, ClosesNone, ClosesOne, Fails, FailsCheck, ListedAnew, audience, is_open, is_lost, target_of}
+use Rattle.sat_solver.specs.session.ProofView.{Open, Adds, ClosesNone, ClosesOne, Fails, FailsCheck, ListedAnew, audience, has_asked, is_open, is_lost, target_of}
 use Rattle.sat_solver.specs.declared.session.format.ProofFormat.{ProofFormat}
 use Rattle.sat_solver.specs.declared.error.SolverError.{SolverError}
 use Rattle.sat_solver.specs.declared.session.made.CheckFault.{CheckFault}
@@ -30,6 +30,7 @@ pub record Opened {W L : Type 0} {G : Ghosts L} (seen : W → Writer) (format : 
   pub steps : steps_in new ≡ steps_in old
   pub listening : audience new.core.proof ≡ audience old.core.proof
   pub taking : is_lost new.core.proof ≡ is_lost old.core.proof
+  pub asked : has_asked new.core.proof ≡ false
   pub target_is : target_of seen new.core.proof ≡ Open format start (empty_sink (seen target))
   pub same : new ≡ record old { core = record old.core { proof = new.core.proof } }
 
@@ -46,6 +47,7 @@ pub record Checks {W L : Type 0} {G : Ghosts L} (seen : W → Writer) (old new :
   pub begun : has_begun (steps_in old) ≡ false
   pub target : target_of seen new.core.proof ≡ target_of seen old.core.proof
   pub checks : proofs.Checks old.core.proof new.core.proof
+  pub asked : has_asked new.core.proof ≡ has_asked old.core.proof
   pub same : new ≡ record old { core = record old.core { proof = new.core.proof } }
 
 abbrev pub Enables : {W L : Type 0} {G : Ghosts L} → (W → Writer) → Result (Unit {0}) SolverError → Solver W L G → Solver W L G → Type 0
@@ -65,6 +67,7 @@ pub record Listens {W L : Type 0} {G : Ghosts L} (seen : W → Writer) (processo
   pub listed : ListedAnew old.core.proof before
   pub listening : audience new.core.proof ≡ Some (before ++ processor ∷ [])
   pub taking : is_lost new.core.proof ≡ false
+  pub asked : has_asked new.core.proof ≡ has_asked old.core.proof
   pub same : new ≡ record old { core = record old.core { proof = new.core.proof } }
 
 -- no memory was left for it

@@ -5,13 +5,21 @@ use Rattle.sat_checker.specs.declared.processing.ProofProcessor.{Ghosts}
 use Rattle.sat_solver.specs.declared.error.SolverError.{SolverError}
 use Rattle.sat_solver.specs.declared.error.SolverError.TheVariants as errors
 use Rattle.sat_solver.specs.names.Adding.{named_literal}
-use Rattle.sat_solver.specs.names.Calls.{Agree}
+use Rattle.sat_solver.specs.names.Calls.{Agree, HasJudge}
 use Rattle.sat_checker.specs.matching.Bridge.{Live}
 use Rattle.sat_solver.specs.declared.solver.Solver.{Solver}
 use Rattle.sat_solver.specs.declared.solver.state.State.{State}
 use Rattle.sat_solver.specs.declared.solver.state.State.TheVariants as states
 use Rattle.sat_solver.specs.solver.Lines.{IsCoreOf}
-use Rattle.sat_solver.specs.solver.Whole.{steps_in, asked_in, line_in}
+use Rattle.sat_solver.specs.solver.Whole.{IsSolver, steps_in, asked_in, line_in}
+
+-- some state of the judge is what names and steps say
+abbrev pub IsJudged : {W L : Type 0} {G : Ghosts L} → Solver W L G → Type 0
+IsJudged s = HasJudge s.names (steps_in s)
+
+-- so it is where a call may be made and none failed
+abbrev pub SolverIsJudged : {W L : Type 0} {G : Ghosts L} → Solver W L G → Type 0
+SolverIsJudged s = IsSolver s → s.failed ≡ false → IsJudged s
 
 -- right for the assumptions, whatever the judge's state is that names and steps agree with
 abbrev pub IsRightLine : {W L : Type 0} {G : Ghosts L} → Solver W L G → List ℕ → Type 0

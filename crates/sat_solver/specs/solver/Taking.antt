@@ -4,7 +4,7 @@ use Rattle.sat_base.specs.device.Device.{Writer}
 use Rattle.sat_base.specs.script.Judge.{bring_all, with_clause}
 use Rattle.sat_base.specs.steps.Steps.{Step}
 use Rattle.sat_checker.specs.declared.processing.ProofProcessor.{Ghosts}
-use Rattle.sat_solver.specs.session.Making.{Took}
+use Rattle.sat_solver.specs.session.Making.{Gained}
 use Rattle.sat_solver.specs.session.ProofView.{steps_of, session_of}
 use Rattle.sat_solver.specs.declared.error.SolverError.{SolverError}
 use Rattle.sat_solver.specs.declared.error.SolverError.TheVariants as errors
@@ -34,7 +34,7 @@ GoesOnOr false n c = (session_of c.proof).unsat ≡ true
 -- a clause came in; whether a valuation may be left
 pub record TookClause {W L : Type 0} {G : Ghosts L} (seen : W → Writer) (n n' : Variables) (a b : Core W L G) (user : List ℕ) (left : Bool) : Type 0 where
   pub does : Does n n' (steps_of a.proof) (steps_of b.proof) (λ j. with_clause (map named_literal user) (bring_all (names_in user) j)) (λ j. bringing (names_in user) j ++ (Adds (map named_literal user) ∷ []))
-  pub took : Took seen a.proof b.proof
+  pub took : Gained seen a.proof b.proof
   pub comes : Comes (MayAdd (names_in user)) (steps_of a.proof) (steps_of b.proof)
   pub goes_on : GoesOnOr left n' b
   pub names : KeepsNames n n'
@@ -63,7 +63,7 @@ TakesClause seen r n n' a b user = MatchResult r (TookClause seen n n' a b user)
 pub record TookAssumptions {W L : Type 0} {G : Ghosts L} (seen : W → Writer) (n n' : Variables) (a b : Core W L G) (user : List ℕ) (t : Taken) : Type 0 where
   pub does : (o : Outcome) → Does n n' (steps_of a.proof) (steps_of b.proof) (bring_all (names_in user)) (λ j. bringing (names_in user) j ++ (Opens (map named_literal user) o ∷ []))
   pub comes : Comes (MayTake (names_in user)) (steps_of a.proof) (steps_of b.proof)
-  pub took : Took seen a.proof b.proof
+  pub took : Gained seen a.proof b.proof
   pub joined : IsJoined n' b
   pub config : b.config ≡ a.config
   pub asked : AreAsked n' b user t

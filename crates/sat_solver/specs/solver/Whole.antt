@@ -7,12 +7,12 @@ use Rattle.sat_base.specs.values.Clauses.{Valuation, EachTrue}
 use Rattle.sat_checker.specs.Fold.{Holds}
 use Rattle.sat_checker.specs.declared.processing.ProofProcessor.{Ghosts}
 use Rattle.sat_solver.specs.parts.Full.{IsFull}
-use Rattle.sat_solver.specs.session.ProofView.{steps_of, session_of}
+use Rattle.sat_solver.specs.session.ProofView.{is_lost, steps_of, session_of}
 use Rattle.sat_solver.specs.session.Session.{Session}
 use Rattle.sat_solver.specs.search.Bumping.{AreDecays}
 use Rattle.sat_solver.specs.search.Turns.{IsComplete}
 use Rattle.sat_solver.specs.names.Adding.{named_literal, Images, GlobalImages}
-use Rattle.sat_solver.specs.names.Calls.{Stands}
+use Rattle.sat_solver.specs.names.Calls.{HasJudge, Stands}
 use Rattle.sat_checker.specs.matching.Checking.{variable_of}
 use Rattle.sat_checker.specs.matching.Expected.{SameSet}
 use Rattle.sat_solver.specs.declared.names.Variables.{Variables}
@@ -71,6 +71,10 @@ pub record IsWholeOf {W L : Type 0} {G : Ghosts L} (c : Core W L G) (n : Variabl
   pub positive : 0 < scale
   pub scaled : scale ≡ c.config.luby_restart_interval_scale
   pub decays : AreDecays c.config
+  -- the solver's own checker, where there is one, took all steps
+  pub taking : is_lost c.proof ≡ false
+  -- some state of the judge is what names and steps say
+  pub judged : HasJudge n (steps_of c.proof)
   pub says : StateSays state c n asked assumed core
 
 -- what holds unless a call failed

@@ -39,14 +39,14 @@ pub trait StepWriter: Drop {
 
 impl<W: CountedWrite + Drop, P: ProofProcessor> StepWriter for Proof<W, P> {
     ghost use Rattle.sat_solver.specs.session.ProofView.{Keeps, steps_of};
-    ghost use Rattle.sat_solver.specs.session.Making.{Took};
+    ghost use Rattle.sat_solver.specs.session.Making.{Gained};
     ghost use Rattle.sat_solver.specs.names.Taking.{NotTaken};
 
     ghost steps = { λ p. steps_of p };
 
     ghost keeps = { λ p. Keeps p };
 
-    ghost took = { Took W.seen };
+    ghost took = { Gained W.seen };
 
     ghost broke = { NotTaken W.seen };
 

@@ -56,7 +56,7 @@ pub struct Made<P: ProofProcessor = Nobody> {
 }
 
 impl<P: ProofProcessor> Made<P> {
-    ghost use Rattle.sat_solver.specs.session.MadeView.{audience, is_checked, is_lost, Checks, Handed, HasTold, Makes, OrComplains, TakesListener};
+    ghost use Rattle.sat_solver.specs.session.MadeView.{audience, is_checked, is_lost, Checks, Handed, HandedWhole, HasTold, Makes, OrComplains, TakesListener};
 
     /// No step yet, and no checker.
     pub fn new() -> Made<P>
@@ -148,6 +148,7 @@ impl<P: ProofProcessor> Made<P> {
         requires width { KeepsWidth (step_of step.now) }
         requires cut { is_checked self.old ≡ true → step_of cut.now ≡ narrowed bits (step_of step.now) }
         ensures makes { Makes (step_of step.now) self.old self.new }
+        ensures taking { OnOk result (is_lost self.new ≡ is_lost self.old) }
         ensures fails { OrComplains result self.new }
     {
         self.history = self.history.and(step);
@@ -171,6 +172,7 @@ impl<P: ProofProcessor> Made<P> {
     pub fn take_delayed(&mut self) -> Result<(), CheckFault>
         ensures steps { self.new.history.steps ≡ self.old.history.steps }
         ensures listening { audience self.new ≡ audience self.old }
+        ensures taking { OnOk result (is_lost self.new ≡ is_lost self.old) }
         ensures fails { OrComplains result self.new }
         ensures told { OnOk result (HasTold self.new) }
     {
@@ -193,7 +195,8 @@ impl<P: ProofProcessor> Made<P> {
 
     /// Those who listen, in the order in which they were added, also after a failure. There is no checker afterwards.
     pub fn take_processors(&mut self, alloc: Global) -> Vec<P>
-        ensures { Handed self.old result.items }
+        ensures handed { Handed self.old result.items }
+        ensures whole { HandedWhole self.old result.items }
     {
         let own = self.own.take();
         self.roll = Roll::new();

@@ -7,7 +7,7 @@ ghost use Rattle.sat_solver.specs.session.Checked.{has_begun};
 ghost use Rattle.sat_solver.specs.session.MadeView.{Makes};
 ghost use Rattle.sat_solver.specs.session.Session.{May, MayAll};
 ghost use Rattle.sat_solver.specs.session.Widths.{narrowed, KeepsWidth};
-ghost use Rattle.sat_solver.specs.session.ProofView.{Closed, Open, audience, is_open, is_drat, has_asked, target_of, steps_of, session_of, is_checked, is_lost, Checks, HasTold, Keeps, Adds, Records, PutsOn, FailsOfCheck, FlushesTarget, FlushesOrFails, Closes, Handed, HandsBack, Listens};
+ghost use Rattle.sat_solver.specs.session.ProofView.{Closed, Open, audience, is_open, is_drat, has_asked, target_of, steps_of, session_of, is_checked, is_lost, Checks, HasTold, Keeps, Adds, Records, PutsOn, FailsOfCheck, FlushesTarget, FlushesOrFails, Closes, Handed, HandedWhole, HandsBack, Listens};
 
 use crate::session::counting::Counting;
 use crate::session::cutting::{CutLists, narrow, narrow_units};
@@ -51,6 +51,7 @@ impl<W: CountedWrite + Drop, P: ProofProcessor> Proof<W, P> {
         ensures steps { steps_of result ≡ [] }
         ensures checked { is_checked result ≡ false }
         ensures taking { is_lost result ≡ false }
+        ensures asked { has_asked result ≡ false }
         ensures target { target_of W.seen result ≡ Closed }
     {
         Proof {
@@ -102,6 +103,7 @@ impl<W: CountedWrite + Drop, P: ProofProcessor> Proof<W, P> {
     pub fn begin_checking(&mut self, alloc: Global)
         requires { has_begun (steps_of self.old) ≡ false }
         ensures checks { Checks self.old self.new }
+        ensures asked { has_asked self.new ≡ has_asked self.old }
         ensures target { target_of W.seen self.new ≡ target_of W.seen self.old }
     {
         self.made.check(alloc);
@@ -127,6 +129,7 @@ impl<W: CountedWrite + Drop, P: ProofProcessor> Proof<W, P> {
         ensures steps { steps_of self.new ≡ steps_of self.old }
         ensures listening { audience self.new ≡ audience self.old }
         ensures taking { is_lost self.new ≡ is_lost self.old }
+        ensures asked { has_asked self.new ≡ false }
         ensures target { target_of W.seen self.new ≡ Open format start (empty_sink (W.seen target)) }
     {
         self.counting = Counting::new();
@@ -138,6 +141,7 @@ impl<W: CountedWrite + Drop, P: ProofProcessor> Proof<W, P> {
     pub fn begin_ask(&mut self)
         ensures keeps { Keeps self.old → Keeps self.new }
         ensures adds { Adds W.seen [] self.old self.new }
+        ensures taking { is_lost self.new ≡ is_lost self.old }
         ensures asked { has_asked self.new ≡ true }
     {
         self.counting.solving = true;
@@ -155,6 +159,7 @@ impl<W: CountedWrite + Drop, P: ProofProcessor> Proof<W, P> {
         requires cut { step_of cut.now ≡ narrowed counting.bits (step_of step.now) }
         ensures made { self.new.made ≡ self.old.made }
         ensures counting { OnOk result (self.new.counting ≡ counting) }
+        ensures asked { has_asked self.new ≡ has_asked self.old }
         ensures puts { PutsOn result (step_of step.now ∷ []) (target_of W.seen self.old) (target_of W.seen self.new) }
     {
         if self.broken {
@@ -186,6 +191,8 @@ impl<W: CountedWrite + Drop, P: ProofProcessor> Proof<W, P> {
         requires width { KeepsWidth (step_of step.now) }
         requires cut { is_checked self.old ≡ true → step_of cut.now ≡ narrowed self.old.counting.bits (step_of step.now) }
         ensures makes { Makes (step_of step.now) self.old.made self.new.made }
+        ensures taking { OnOk result (is_lost self.new ≡ is_lost self.old) }
+        ensures asked { has_asked self.new ≡ has_asked self.old }
         ensures target { target_of W.seen self.new ≡ target_of W.seen self.old }
         ensures fails { FailsOfCheck result self.new }
     {
@@ -344,6 +351,8 @@ impl<W: CountedWrite + Drop, P: ProofProcessor> Proof<W, P> {
     /// Writes out what waits for an open target, and flushes it.
     fn flush_target(&mut self) -> Result<(), ProofError>
         ensures flushes { FlushesTarget W.seen result self.old self.new }
+        ensures taking { is_lost self.new ≡ is_lost self.old }
+        ensures asked { has_asked self.new ≡ has_asked self.old }
     {
         if self.broken {
             return Ok(());
@@ -364,6 +373,8 @@ impl<W: CountedWrite + Drop, P: ProofProcessor> Proof<W, P> {
     fn take_delayed(&mut self) -> Result<(), ProofError>
         ensures steps { steps_of self.new ≡ steps_of self.old }
         ensures listening { audience self.new ≡ audience self.old }
+        ensures taking { OnOk result (is_lost self.new ≡ is_lost self.old) }
+        ensures asked { has_asked self.new ≡ has_asked self.old }
         ensures target { target_of W.seen self.new ≡ target_of W.seen self.old }
         ensures fails { FailsOfCheck result self.new }
         ensures told { OnOk result (HasTold self.new) }
@@ -410,7 +421,8 @@ impl<W: CountedWrite + Drop, P: ProofProcessor> Proof<W, P> {
     }
     /// Those who listen to the checker, in the order in which they were added, also after a failure. There is none afterwards.
     pub fn take_processors(&mut self, alloc: Global) -> Vec<P>
-        ensures { Handed self.old result.items }
+        ensures handed { Handed self.old result.items }
+        ensures whole { HandedWhole self.old result.items }
     {
         self.made.take_processors(alloc)
     }

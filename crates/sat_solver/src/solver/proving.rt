@@ -1,5 +1,5 @@
 //! The proof of a solver, where its text goes.
-ghost use Rattle.sat_solver.specs.session.ProofView.{Gives, Handed, seen_of, target_of};
+ghost use Rattle.sat_solver.specs.session.ProofView.{Gives, Handed, HandedWhole, seen_of, target_of};
 ghost use Rattle.sat_solver.specs.solver.Fronts.{HandsFront};
 ghost use Rattle.sat_solver.specs.solver.Proving.{AddsProcessor, Enables, Opens, ClosesProof};
 ghost use Rattle.sat_solver.specs.solver.Whole.{IsSolver};
@@ -112,6 +112,7 @@ impl<W: CountedWrite + Drop, P: ProofProcessor> Solver<W, P> {
         ensures target { Gives (target_of W.seen self.core.proof) (seen_of W.seen result.target) }
         ensures front { HandsFront W.seen result.target self }
         ensures processors { Handed self.core.proof result.processors.items }
+        ensures whole { HandedWhole self.core.proof result.processors.items }
     {
         let mut solver = self;
         let target = solver.core.proof.take_target();

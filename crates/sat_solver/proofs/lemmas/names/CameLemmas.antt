@@ -5,30 +5,30 @@ use Rattle.std.proofs.lemmas.Result.{err_from_is_err_and}
 use Rattle.sat_base.specs.device.Device.{Writer}
 use Rattle.sat_base.specs.steps.Steps.{Step}
 use Rattle.sat_checker.specs.declared.processing.ProofProcessor.{Ghosts}
-use Rattle.sat_solver.specs.session.Making.{Took, Broke}
-use Rattle.sat_solver.specs.session.ProofView.{Adds, Fails, FailsCheck}
+use Rattle.sat_solver.specs.session.Making.{Gained, Broke}
+use Rattle.sat_solver.specs.session.ProofView.{Gains, Fails, FailsCheck}
 use Rattle.sat_solver.specs.declared.session.made.CheckFault.{CheckFault}
 use Rattle.sat_solver.specs.declared.session.proof.Proof.{Proof}
 use Rattle.sat_solver.specs.declared.names.error.NameError.{NameError}
 use Rattle.sat_solver.specs.declared.names.error.NameError.TheVariants as errors
 use Rattle.sat_solver.specs.names.Failing.{CameTo, Came}
-use Rattle.sat_solver.proofs.lemmas.session.ProofLemmas.{adds_more, fails_later, check_later}
+use Rattle.sat_solver.proofs.lemmas.session.ProofLemmas.{gains_adds, gains_more, fails_later, check_later}
 
 -- a step was taken behind others
-pub took_step : {W L : Type 0} {G : Ghosts L} (seen : W → Writer) (w a b : Proof W L G) (step : Step) → Took seen w a → Adds seen (step ∷ []) a b → Took seen w b
-took_step seen w a b step t adds = (_, adds_more seen t.0 (step ∷ []) w a b t.1 adds)
+pub took_step : {W L : Type 0} {G : Ghosts L} (seen : W → Writer) (w a b : Proof W L G) (step : Step) → Gained seen w a → Gains seen (step ∷ []) a b → Gained seen w b
+took_step seen w a b step t adds = (_, gains_more seen t.0 (step ∷ []) w a b t.1 adds)
 
 -- or a call of the target failed at its text
-pub broke_step : {W L : Type 0} {G : Ghosts L} (seen : W → Writer) (w a b : Proof W L G) (step : Step) → Took seen w a → Fails seen (step ∷ []) a b → Broke seen w b
-broke_step seen w a b step t fails = (_, fails_later seen t.0 (step ∷ []) w a b t.1 fails)
+pub broke_step : {W L : Type 0} {G : Ghosts L} (seen : W → Writer) (w a b : Proof W L G) (step : Step) → Gained seen w a → Fails seen (step ∷ []) a b → Broke seen w b
+broke_step seen w a b step t fails = (_, fails_later seen t.0 (step ∷ []) w a b (gains_adds seen t.0 w a t.1) fails)
 
 -- or the checker failed at it
-pub check_step : {W L : Type 0} {G : Ghosts L} {fault : CheckFault} (seen : W → Writer) (w a b : Proof W L G) (step : Step) → Took seen w a → FailsCheck seen fault (step ∷ []) a b → (steps : List Step) × FailsCheck seen fault steps w b
-check_step seen w a b step t fails = (_, check_later seen t.0 (step ∷ []) w a b t.1 fails)
+pub check_step : {W L : Type 0} {G : Ghosts L} {fault : CheckFault} (seen : W → Writer) (w a b : Proof W L G) (step : Step) → Gained seen w a → FailsCheck seen fault (step ∷ []) a b → (steps : List Step) × FailsCheck seen fault steps w b
+check_step seen w a b step t fails = (_, check_later seen t.0 (step ∷ []) w a b (gains_adds seen t.0 w a t.1) fails)
 
 -- or none was made for want of memory
-pub took_none : {W L : Type 0} {G : Ghosts L} (seen : W → Writer) (w a b : Proof W L G) → Took seen w a → Adds seen [] a b → Took seen w b
-took_none seen w a b t adds = (_, adds_more seen t.0 [] w a b t.1 adds)
+pub took_none : {W L : Type 0} {G : Ghosts L} (seen : W → Writer) (w a b : Proof W L G) → Gained seen w a → Gains seen [] a b → Gained seen w b
+took_none seen w a b t adds = (_, gains_more seen t.0 [] w a b t.1 adds)
 
 module _ {W : Type 0} (took : W → W → Type 0) (broke : W → NameError → W → Type 0) where
   -- a call behind another that took its steps

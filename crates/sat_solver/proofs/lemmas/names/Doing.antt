@@ -7,11 +7,15 @@ use Rattle.sat_checker.specs.matching.Expected.{Expected}
 use Rattle.sat_checker.specs.matching.Traces.{HasTrace, no_step}
 use Rattle.sat_checker.specs.matching.ProofChecking.{the_checking}
 use Rattle.sat_checker.proofs.lemmas.matching.Traces.{traces_both}
-use Rattle.sat_solver.specs.names.Calls.{Stands, Does, DoesNothing}
+use Rattle.sat_solver.specs.names.Calls.{Stands, Does, DoesNothing, HasJudge}
 use Rattle.sat_solver.specs.declared.names.Variables.{Variables}
 
 pub does_none : (n : Variables) (log : List Step) → Stands n log → DoesNothing n n log log
 does_none n log stands = record { stands = stands; kept = λ j live a. record { live = live; agree = a; trace = no_step } }
+
+-- some state of the judge is what names and steps say behind a call, where one was before it
+pub judged_by : {old new : Variables} {from to : List Step} {f : Judge → Judge} {es : Judge → List Expected} → Does old new from to f es → HasJudge old from → HasJudge new to
+judged_by {f = f} d h = let k = d.kept h.0 h.1 h.2 in (f h.0, k.live, k.agree)
 
 -- one call, then another
 pub does_both : (old mid new : Variables) (from mids to : List Step) (f g : Judge → Judge) (es fs : Judge → List Expected) → Does old mid from mids f es → Does mid new mids to g fs → Does old new from to (λ j. g (f j)) (λ j. es j ++ fs (f j))

@@ -4,11 +4,11 @@ use Rattle.sat_base.specs.device.Device.{Writer}
 use Rattle.sat_base.specs.steps.Steps.{Step}
 use Rattle.sat_checker.specs.declared.processing.ProofProcessor.{Ghosts}
 use Rattle.sat_parts.specs.declared.prop.graph.Conflict.{Conflict}
-use Rattle.sat_solver.specs.session.Making.{Took}
+use Rattle.sat_solver.specs.session.Making.{Gained}
 use Rattle.sat_solver.specs.session.ProofView.{steps_of, session_of}
 use Rattle.sat_solver.specs.session.Session.{Session, MayAll}
 use Rattle.sat_solver.specs.declared.session.proof.Proof.{Proof}
-use Rattle.sat_solver.proofs.lemmas.session.ProofLemmas.{adds_none, adds_more}
+use Rattle.sat_solver.proofs.lemmas.session.ProofLemmas.{gains_none, gains_more}
 use Rattle.sat_solver.specs.declared.bound.search.Outcome.{Outcome}
 use Rattle.sat_solver.specs.declared.bound.search.Outcome.TheVariants as outcomes
 use Rattle.sat_solver.specs.declared.error.SolverError.{SolverError}
@@ -37,7 +37,7 @@ use Rattle.sat_solver.proofs.lemmas.simplify.PassesLemmas.{falls_goes, falls_lat
 
 -- what a round began with
 record Reaches {W L : Type 0} {G : Ghosts L} (seen : W → Writer) (n m : Variables) (p q : Proof W L G) (c d : Search) : Type 0 where
-  took : Took seen p q
+  took : Gained seen p q
   quiet : ComesQuietly (steps_of p) (steps_of q)
   does : DoesNothing n m (steps_of p) (steps_of q)
   asked : KeepsAsked n m (session_of p) (session_of q)
@@ -58,7 +58,7 @@ module _ {W L : Type 0} {G : Ghosts L} (seen : W → Writer) (n m : Variables) (
       let quiet : DoesNothing m m (steps_of q) (steps_of z) = subst (DoesNothing m m (steps_of q)) (sym g.went.history) (nothing_behind m (steps_of q) g.steps b.does.stands may g.searched) in
       record {
         steps = g.steps ++ b.took.0;
-        adds = adds_more seen b.took.0 g.steps p q z b.took.1 g.went;
+        adds = gains_more seen b.took.0 g.steps p q z b.took.1 g.went;
         keeps = g.keeps;
         does = does_both n m m (steps_of p) (steps_of q) (steps_of z) (λ j. j) (λ j. j) (λ j. []) (λ j. []) b.does quiet;
         asked = record { users = b.asked.users; assumed = (goes_leaves seen o q z _ g).assumed ∙ b.asked.assumed; indices = b.asked.indices };
@@ -77,7 +77,7 @@ module _ {W L : Type 0} {G : Ghosts L} (seen : W → Writer) (n m : Variables) (
     where
       here : Reaches seen n n p p c d
       here = record {
-        took = ([], adds_none seen p);
+        took = ([], gains_none seen p);
         quiet = quiet_comes (steps_of p) (steps_of p) [] refl tt;
         does = does_none n (steps_of p) h.stands;
         asked = asked_refl n (session_of p);

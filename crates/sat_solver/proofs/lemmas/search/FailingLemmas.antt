@@ -13,11 +13,11 @@ use Rattle.sat_parts.specs.prop.State.{State, node, lit_at}
 use Rattle.sat_parts.proofs.lemmas.clause.ListLemmas.{place_in, at_place}
 use Rattle.sat_parts.proofs.lemmas.prop.RoomLemmas.{below_from_value}
 use Rattle.sat_solver.specs.session.LiveClauses.{with_var}
-use Rattle.sat_solver.specs.session.ProofView.{Adds, Keeps, Records, session_of}
+use Rattle.sat_solver.specs.session.ProofView.{Gains, Keeps, Records, session_of}
 use Rattle.sat_solver.specs.declared.session.proof.Proof.{Proof}
 use Rattle.sat_solver.specs.declared.session.proof.ProofError.{ProofError}
 use Rattle.sat_solver.specs.declared.session.proof.ProofError.TheVariants.{Write, OutOfMemory, Check}
-use Rattle.sat_solver.proofs.lemmas.session.ProofLemmas.{adds_none}
+use Rattle.sat_solver.proofs.lemmas.session.ProofLemmas.{adds_none, gains_adds}
 use Rattle.sat_solver.specs.analysis.Marks.{CanAnalyze, IsReasoned}
 use Rattle.sat_solver.specs.analysis.Failing.{IsChosen, Fails, fails_bottom, fails_signs, fails_clauses}
 use Rattle.sat_solver.proofs.lemmas.analysis.Callers.{can_analyze, stands_by}
@@ -106,11 +106,11 @@ module _ {W L : Type 0} {G : Ghosts L} (seen : W → Writer) (a b : Proof W L G)
   -- the target failed
   pub tells_broken : (e : ProofError) (core hashes : List ℕ) → Keeps b → Records {T = Unit {0}} seen (Err e) (FailedAssumptions core hashes ∷ []) a b → TellsCore seen (Err (fault_of e)) a b c c'
   tells_broken (Write cause) core hashes keeps fails = record { steps = FailedAssumptions core hashes ∷ []; went = fails; core = (refl, tt); keeps = keeps; ends = tt }
-  tells_broken OutOfMemory core hashes keeps adds = record { steps = []; went = adds; core = tt; keeps = keeps; ends = tt }
+  tells_broken OutOfMemory core hashes keeps gains = record { steps = []; went = gains_adds seen [] a b gains; core = tt; keeps = keeps; ends = tt }
   tells_broken (Check fault) core hashes keeps fails = record { steps = FailedAssumptions core hashes ∷ []; went = went_checked seen (Unit {0}) fault (FailedAssumptions core hashes ∷ []) a b fails; core = (refl, tt); keeps = keeps; ends = fault_checked _ fault }
 
   -- what is told stands
-  pub tells_core : Keeps b → (core : List ℕ) → core ≡ map (with_var (global_in c)) c'.analysis.core → (hashes : List ℕ) → hashes ≡ causes_hashes c.parts c'.analysis.used → Adds seen (FailedAssumptions core hashes ∷ []) a b →
+  pub tells_core : Keeps b → (core : List ℕ) → core ≡ map (with_var (global_in c)) c'.analysis.core → (hashes : List ℕ) → hashes ≡ causes_hashes c.parts c'.analysis.used → Gains seen (FailedAssumptions core hashes ∷ []) a b →
       IsSearch (session_of a) c → IsFailing c.assumptions.lits.items c.parts c.failed → Fails c.parts.clauses (state c.parts) c.failed c'.analysis.core c'.analysis.used → IsFree c' →
       c'.parts ≡ c.parts → c'.globals ≡ c.globals → c'.assumptions ≡ c.assumptions → TellsCore seen (Ok tt) a b c c'
   tells_core keeps core core_is hashes hashes_is adds search failing f free parts globals assumptions = record {

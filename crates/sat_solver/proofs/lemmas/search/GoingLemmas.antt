@@ -4,14 +4,14 @@ use Rattle.std.specs.Prelude.{MatchResult}
 use Rattle.sat_base.specs.device.Device.{Writer}
 use Rattle.sat_base.specs.steps.Steps.{Step}
 use Rattle.sat_checker.specs.declared.processing.ProofProcessor.{Ghosts}
-use Rattle.sat_solver.specs.session.ProofView.{Adds, FailsCheck, Records, Keeps, steps_of, session_of}
+use Rattle.sat_solver.specs.session.ProofView.{Adds, FailsCheck, Gains, Records, Keeps, steps_of, session_of}
 use Rattle.sat_solver.specs.session.Session.{session_after}
 use Rattle.sat_solver.specs.declared.session.made.CheckFault.{CheckFault}
 use Rattle.sat_solver.specs.declared.session.made.CheckFault.TheVariants as checks
 use Rattle.sat_solver.specs.declared.session.proof.Proof.{Proof}
 use Rattle.sat_solver.specs.declared.session.proof.ProofError.{ProofError}
 use Rattle.sat_solver.specs.declared.session.proof.ProofError.TheVariants.{Write, OutOfMemory, Check}
-use Rattle.sat_solver.proofs.lemmas.session.ProofLemmas.{adds_none, adds_more, fails_later, check_later}
+use Rattle.sat_solver.proofs.lemmas.session.ProofLemmas.{adds_none, adds_more, gains_none, gains_adds, gains_more, fails_later, check_later}
 use Rattle.sat_store.specs.declared.clause.alloc.StoreError.{StoreError}
 use Rattle.sat_store.specs.declared.clause.alloc.StoreError.TheVariants as stores
 use Rattle.sat_solver.specs.Recovery.{failure_of}
@@ -80,7 +80,7 @@ quiet_or (Err e) = tt
 module _ {W L : Type 0} {G : Ghosts L} (seen : W → Writer) where
   -- nothing was written
   pub goes_none : {A full : Type 0} {learns : Bool} (x : A) (p : Proof W L G) (P : A → List Step → Type 0) → Keeps p → P x [] → GoesWith full learns seen (Ok x) p p P
-  goes_none {learns = learns} x p P keeps h = record { steps = []; went = adds_none seen p; searched = tt; quiet = quiet_none learns; keeps = keeps; ends = h }
+  goes_none {learns = learns} x p P keeps h = record { steps = []; went = gains_none seen p; searched = tt; quiet = quiet_none learns; keeps = keeps; ends = h }
 
   -- no memory was left before anything was written
   pub goes_starved : {A full : Type 0} {learns : Bool} (p : Proof W L G) (P : A → List Step → Type 0) → Keeps p → GoesWith full learns seen (Err errors.OutOfMemory) p p P
@@ -93,41 +93,46 @@ module _ {W L : Type 0} {G : Ghosts L} (seen : W → Writer) where
   went_checked A (checks.Processor cause) steps p q h = h
 
   -- one step was written, by which nothing is learned
-  pub goes_step : {A full : Type 0} (x : A) (p q : Proof W L G) (step : Step) (P : A → List Step → Type 0) → IsSearched (session_of p).solver_names step → is_quiet step ≡ true → Keeps q → Adds seen (step ∷ []) p q → P x (step ∷ []) → GoesWith full false seen (Ok x) p q P
-  goes_step x p q step P s quiet keeps adds h = record { steps = step ∷ []; went = adds; searched = (s, tt); quiet = (quiet, tt); keeps = keeps; ends = h }
+  pub goes_step : {A full : Type 0} (x : A) (p q : Proof W L G) (step : Step) (P : A → List Step → Type 0) → IsSearched (session_of p).solver_names step → is_quiet step ≡ true → Keeps q → Gains seen (step ∷ []) p q → P x (step ∷ []) → GoesWith full false seen (Ok x) p q P
+  goes_step x p q step P s quiet keeps gains h = record { steps = step ∷ []; went = gains; searched = (s, tt); quiet = (quiet, tt); keeps = keeps; ends = h }
 
   -- or something is
-  pub goes_learned : {A full : Type 0} (x : A) (p q : Proof W L G) (step : Step) (P : A → List Step → Type 0) → IsSearched (session_of p).solver_names step → Keeps q → Adds seen (step ∷ []) p q → P x (step ∷ []) → GoesOr full seen (Ok x) p q P
-  goes_learned x p q step P s keeps adds h = record { steps = step ∷ []; went = adds; searched = (s, tt); quiet = tt; keeps = keeps; ends = h }
+  pub goes_learned : {A full : Type 0} (x : A) (p q : Proof W L G) (step : Step) (P : A → List Step → Type 0) → IsSearched (session_of p).solver_names step → Keeps q → Gains seen (step ∷ []) p q → P x (step ∷ []) → GoesOr full seen (Ok x) p q P
+  goes_learned x p q step P s keeps gains h = record { steps = step ∷ []; went = gains; searched = (s, tt); quiet = tt; keeps = keeps; ends = h }
 
   -- a step was made, and the target failed at it, or no memory was left for it
   pub goes_broken : {A full : Type 0} {learns : Bool} (e : ProofError) (p q : Proof W L G) (step : Step) (P : A → List Step → Type 0) → IsSearched (session_of p).solver_names step → Keeps q → Records {T = Unit {0}} seen (Err e) (step ∷ []) p q → GoesWith full learns seen (Err (fault_of e)) p q P
   goes_broken (Write cause) p q step P s keeps fails = record { steps = step ∷ []; went = fails; searched = (s, tt); quiet = tt; keeps = keeps; ends = tt }
-  goes_broken OutOfMemory p q step P s keeps adds = record { steps = []; went = adds; searched = tt; quiet = tt; keeps = keeps; ends = tt }
+  goes_broken OutOfMemory p q step P s keeps gains = record { steps = []; went = gains_adds seen [] p q gains; searched = tt; quiet = tt; keeps = keeps; ends = tt }
   goes_broken {A = A} {full} (Check fault) p q step P s keeps fails = record { steps = step ∷ []; went = went_checked A fault (step ∷ []) p q fails; searched = (s, tt); quiet = tt; keeps = keeps; ends = fault_checked full fault }
 
   -- a step was made, and then the clause buffer refused
-  pub goes_refused : {A full : Type 0} {learns : Bool} (s : StoreError) (p q : Proof W L G) (step : Step) (P : A → List Step → Type 0) → IsSearched (session_of p).solver_names step → Keeps q → Adds seen (step ∷ []) p q → (s ≡ stores.StoreFull → full) → GoesWith full learns seen (Err (failure_of s)) p q P
-  goes_refused stores.StoreFull p q step P s keeps adds f = record { steps = step ∷ []; went = adds; searched = (s, tt); quiet = tt; keeps = keeps; ends = f refl }
-  goes_refused stores.OutOfMemory p q step P s keeps adds f = record { steps = step ∷ []; went = adds; searched = (s, tt); quiet = tt; keeps = keeps; ends = tt }
+  pub goes_refused : {A full : Type 0} {learns : Bool} (s : StoreError) (p q : Proof W L G) (step : Step) (P : A → List Step → Type 0) → IsSearched (session_of p).solver_names step → Keeps q → Gains seen (step ∷ []) p q → (s ≡ stores.StoreFull → full) → GoesWith full learns seen (Err (failure_of s)) p q P
+  goes_refused stores.StoreFull p q step P s keeps gains f = record { steps = step ∷ []; went = gains_adds seen (step ∷ []) p q gains; searched = (s, tt); quiet = tt; keeps = keeps; ends = f refl }
+  goes_refused stores.OutOfMemory p q step P s keeps gains f = record { steps = step ∷ []; went = gains_adds seen (step ∷ []) p q gains; searched = (s, tt); quiet = tt; keeps = keeps; ends = tt }
 
-  pub went_later : {A : Type 0} (r : Result A SolverError) (xs ys : List Step) (a b c : Proof W L G) → Adds seen xs a b → Went seen r ys b c → Went seen r (ys ++ xs) a c
-  went_later (Ok x) xs ys a b c h k = adds_more seen xs ys a b c h k
-  went_later (Err (errors.ProofIoError cause)) xs ys a b c h k = fails_later seen xs ys a b c h k
-  went_later (Err errors.Interrupted) xs ys a b c h k = adds_more seen xs ys a b c h k
-  went_later (Err (errors.ProofProcessorError cause)) xs ys a b c h k = check_later seen xs ys a b c h k
-  went_later (Err errors.OutOfMemory) xs ys a b c h k = adds_more seen xs ys a b c h k
-  went_later (Err errors.WitnessVariable) xs ys a b c h k = adds_more seen xs ys a b c h k
-  went_later (Err errors.AssumedVariable) xs ys a b c h k = adds_more seen xs ys a b c h k
-  went_later (Err errors.TooLate) xs ys a b c h k = adds_more seen xs ys a b c h k
-  went_later (Err errors.NotInDrat) xs ys a b c h k = adds_more seen xs ys a b c h k
-  went_later (Err errors.StoreFull) xs ys a b c h k = adds_more seen xs ys a b c h k
-  went_later (Err errors.VariableLimit) xs ys a b c h k = adds_more seen xs ys a b c h k
-  went_later (Err errors.CounterEnd) xs ys a b c h k = check_later seen xs ys a b c h k
-  went_later (Err errors.HasFailed) xs ys a b c h k = adds_more seen xs ys a b c h k
-  went_later (Err errors.Read) xs ys a b c h k = adds_more seen xs ys a b c h k
-  went_later (Err errors.Malformed) xs ys a b c h k = adds_more seen xs ys a b c h k
-  went_later (Err errors.OutOfRange) xs ys a b c h k = adds_more seen xs ys a b c h k
+  -- a fault behind steps that were made
+  pub went_behind : (A : Type 0) (e : SolverError) (xs ys : List Step) (a b c : Proof W L G) → Adds seen xs a b → Went {A = A} seen (Err e) ys b c → Went {A = A} seen (Err e) (ys ++ xs) a c
+  went_behind A (errors.ProofIoError cause) xs ys a b c h k = fails_later seen xs ys a b c h k
+  went_behind A errors.Interrupted xs ys a b c h k = adds_more seen xs ys a b c h k
+  went_behind A (errors.ProofProcessorError cause) xs ys a b c h k = check_later seen xs ys a b c h k
+  went_behind A errors.OutOfMemory xs ys a b c h k = adds_more seen xs ys a b c h k
+  went_behind A errors.WitnessVariable xs ys a b c h k = adds_more seen xs ys a b c h k
+  went_behind A errors.AssumedVariable xs ys a b c h k = adds_more seen xs ys a b c h k
+  went_behind A errors.TooLate xs ys a b c h k = adds_more seen xs ys a b c h k
+  went_behind A errors.NotInDrat xs ys a b c h k = adds_more seen xs ys a b c h k
+  went_behind A errors.StoreFull xs ys a b c h k = adds_more seen xs ys a b c h k
+  went_behind A errors.VariableLimit xs ys a b c h k = adds_more seen xs ys a b c h k
+  went_behind A errors.CounterEnd xs ys a b c h k = check_later seen xs ys a b c h k
+  went_behind A errors.HasFailed xs ys a b c h k = adds_more seen xs ys a b c h k
+  went_behind A errors.Read xs ys a b c h k = adds_more seen xs ys a b c h k
+  went_behind A errors.Malformed xs ys a b c h k = adds_more seen xs ys a b c h k
+  went_behind A errors.OutOfRange xs ys a b c h k = adds_more seen xs ys a b c h k
+
+  -- a call behind another that went well
+  pub went_later : {A : Type 0} (r : Result A SolverError) (xs ys : List Step) (a b c : Proof W L G) → Gains seen xs a b → Went seen r ys b c → Went seen r (ys ++ xs) a c
+  went_later (Ok x) xs ys a b c h k = gains_more seen xs ys a b c h k
+  went_later {A = A} (Err e) xs ys a b c h k = went_behind A e xs ys a b c (gains_adds seen xs a b h) k
 
   -- what was answered says more
   pub goes_map : {A full : Type 0} {learns : Bool} (r : Result A SolverError) (p q : Proof W L G) (P Q : A → List Step → Type 0) → ((x : A) (steps : List Step) → P x steps → Q x steps) → GoesWith full learns seen r p q P → GoesWith full learns seen r p q Q
@@ -145,7 +150,7 @@ module _ {W L : Type 0} {G : Ghosts L} (seen : W → Writer) where
     ends = ends_with full r (λ y. Q y k.steps) (λ y. R y (k.steps ++ h.steps)) (λ y. f h.steps k.steps y h.ends) k.ends;
   }
 
-  went_failing : (A B : Type 0) (e : SolverError) (steps : List Step) (a b : Proof W L G) → Went {A = A} seen (Err e) steps a b → Went {A = B} seen (Err e) steps a b
+  pub went_failing : (A B : Type 0) (e : SolverError) (steps : List Step) (a b : Proof W L G) → Went {A = A} seen (Err e) steps a b → Went {A = B} seen (Err e) steps a b
   went_failing A B (errors.ProofIoError cause) steps a b h = h
   went_failing A B errors.Interrupted steps a b h = h
   went_failing A B (errors.ProofProcessorError cause) steps a b h = h

@@ -5,9 +5,9 @@ use Rattle.sat_base.specs.device.Device.{Writer}
 use Rattle.sat_base.specs.steps.Steps.{Step}
 use Rattle.sat_checker.specs.declared.processing.ProofProcessor.{Ghosts}
 use Rattle.sat_parts.specs.prop.TrailWord.{Letter}
-use Rattle.sat_solver.specs.session.ProofView.{Adds, steps_of, session_of}
+use Rattle.sat_solver.specs.session.ProofView.{Gains, steps_of, session_of}
 use Rattle.sat_solver.specs.session.Session.{Session, MayAll, session_after}
-use Rattle.sat_solver.proofs.lemmas.session.ProofLemmas.{adds_none, adds_more}
+use Rattle.sat_solver.proofs.lemmas.session.ProofLemmas.{gains_none, gains_more}
 use Rattle.sat_solver.specs.session.Coming.{Comes, EndsAtUnsat}
 use Rattle.sat_solver.proofs.lemmas.session.ComingLemmas.{comes_open, comes_last}
 use Rattle.sat_solver.specs.declared.parts.Parts.{Parts}
@@ -110,7 +110,7 @@ module _ {W L : Type 0} {G : Ghosts L} (seen : W → Writer) where
   pub gone_none : (a : Core W L G) (n : Variables) → Stands n (steps_of a.proof) → Gone seen a n 0 a n
   gone_none a n stands = record {
     steps = [];
-    adds = adds_none seen a.proof;
+    adds = gains_none seen a.proof;
     does = does_none n (steps_of a.proof) stands;
     asked = asked_refl n (session_of a.proof);
     moved = moved_refl a.search;
@@ -119,11 +119,11 @@ module _ {W L : Type 0} {G : Ghosts L} (seen : W → Writer) where
   }
 
   module _ (a b : Core W L G) (na nb : Variables) (config : b.config ≡ a.config) where
-    gone_on : (ys : List Step) → Adds seen ys a.proof b.proof → DoesNothing na nb (steps_of a.proof) (steps_of b.proof) → KeepsAsked na nb (session_of a.proof) (session_of b.proof) → Moved a.search b.search →
+    gone_on : (ys : List Step) → Gains seen ys a.proof b.proof → DoesNothing na nb (steps_of a.proof) (steps_of b.proof) → KeepsAsked na nb (session_of a.proof) (session_of b.proof) → Moved a.search b.search →
         (s : Core W L G) (n : Variables) (j k : ℕ) → (g : Gone seen s n k a na) → AdvanceTimes (steps_of s.proof) (ys ++ g.steps) j → Gone seen s n j b nb
     gone_on ys adds does asked moved s n j k g times = record {
       steps = ys ++ g.steps;
-      adds = adds_more seen g.steps ys s.proof a.proof b.proof g.adds adds;
+      adds = gains_more seen g.steps ys s.proof a.proof b.proof g.adds adds;
       does = does_both n na nb (steps_of s.proof) (steps_of a.proof) (steps_of b.proof) (λ j. j) (λ j. j) (λ j. []) (λ j. []) g.does does;
       asked = asked_trans n na nb (session_of s.proof) (session_of a.proof) (session_of b.proof) g.asked asked;
       moved = moved_trans s.search a.search b.search g.moved moved;
@@ -227,7 +227,7 @@ module _ {W L : Type 0} {G : Ghosts L} (seen : W → Writer) where
     pub round_ends : (r : Result Outcome SolverError) → Round r → IfOk r (λ o. o ≢ outcomes.Learned → (s : Core W L G) (n : Variables) (k : ℕ) → Gone seen s n k a na → Ended seen s n k o b nb)
     round_ends (Ok o) g = λ not s n k gone. record {
       steps = g.steps ++ gone.steps;
-      adds = adds_more seen gone.steps g.steps s.proof a.proof b.proof gone.adds g.adds;
+      adds = gains_more seen gone.steps g.steps s.proof a.proof b.proof gone.adds g.adds;
       does = does_both n na nb (steps_of s.proof) (steps_of a.proof) (steps_of b.proof) (λ j. j) (λ j. j) (λ j. []) (λ j. []) gone.does g.does;
       asked = asked_trans n na nb (session_of s.proof) (session_of a.proof) (session_of b.proof) gone.asked g.asked;
       keeps = g.keeps;

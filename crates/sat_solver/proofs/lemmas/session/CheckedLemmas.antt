@@ -21,10 +21,10 @@ use Rattle.sat_checker.proofs.lemmas.telling.Heard.{nobody_fails}
 use Rattle.sat_checker.specs.declared.processing.ProofProcessor.{Ghosts}
 use Rattle.sat_solver.specs.declared.session.made.CheckFault.{CheckFault}
 use Rattle.sat_solver.specs.declared.session.made.CheckFault.TheVariants as checks
-use Rattle.sat_solver.specs.session.Checked.{is_end, unended, has_begun, who_listens, Listened, FedUnless, IsFed, Heard, Failed, IsCause, cause_in, OrCause, TakesStep, TakesWidth, TakesDelayed, Feeds, TakesIn, BeginsAnew}
+use Rattle.sat_solver.specs.session.Checked.{is_end, unended, has_begun, who_listens, Listened, FedUnless, IsFed, Heard, HeardWhole, Failed, IsCause, cause_in, OrCause, TakesStep, TakesWidth, TakesDelayed, Feeds, TakesIn, BeginsAnew}
 use Rattle.sat_solver.specs.session.Due.{kept_if}
 use Rattle.sat_solver.specs.session.Listening.{AreListed, Hears, HasHeard, FailedOf, reads_nothing}
-use Rattle.sat_solver.specs.session.MadeView.{audience, listed_in, Handed, HandedIn, HasListeners, IsHanded, ListedAnew}
+use Rattle.sat_solver.specs.session.MadeView.{audience, listed_in, Handed, HandedIn, HandedWhole, HandedWholeIn, HasListeners, IsHanded, IsHandedWhole, ListedAnew}
 use Rattle.sat_solver.specs.declared.session.made.Made.{Made}
 use Rattle.sat_solver.specs.session.Session.{MayAll}
 use Rattle.sat_solver.specs.session.Widths.{KeepsWidth, narrowed, IsWritten, none_yet, width_changes, one_more}
@@ -79,6 +79,23 @@ module _ {L : Type 0} (takes : L → Told → Result Unit Error → L → Type 0
     were = fed.were;
     heard = (who_listens own, refl, inl (heard_all takes fed.begun (who_listens own) fed.written own.checker.kernel.state.formula.status.conflict (fed.stands.heard fed.going)));
   }
+
+  -- all of it
+  pub fed_whole : (own : Checked L) (added : List L) (steps : List Step) → IsFed takes own added steps → HeardWhole takes added (listeners_of (who_listens own)) steps
+  fed_whole own added steps fed = (
+    record {
+      later = [];
+      taken = steps;
+      all = refl;
+      written = fed.written;
+      bits = own.bits;
+      cut = fed.cut;
+      begun = fed.begun;
+      were = fed.were;
+      heard = (who_listens own, refl, heard_all takes fed.begun (who_listens own) fed.written own.checker.kernel.state.formula.status.conflict (fed.stands.heard fed.going));
+    },
+    refl,
+  )
 
   -- so they have where it failed
   pub failed_heard : (added : List L) (now : Listeners L Nobody) (steps : List Step) (fault : CheckFault) → Failed takes added now steps fault → Heard takes added now steps
@@ -280,6 +297,10 @@ module _ {L : Type 0} (takes : L → Told → Result Unit Error → L → Type 0
     pub handed : (given : List L) → given ≡ (listeners_of (who_listens old)).processors → ∥ IsHanded takes added given steps ∥₁
     handed given e = ∥∥₁_elim was ∥∥₁_prop (λ f. ∣ record { now = listeners_of (who_listens old); are = sym e; heard = f.1 } ∣₁)
 
+    -- behind all that is told of all steps, where none was lost
+    pub handed_whole : (given : List L) → given ≡ (listeners_of (who_listens old)).processors → lost ≡ false → ∥ IsHandedWhole takes added given steps ∥₁
+    handed_whole given e l = ∥∥₁_elim was ∥∥₁_prop (λ f. ∣ record { now = listeners_of (who_listens old); are = sym e; heard = fed_whole takes old added steps (f.0 l) } ∣₁)
+
     module _ (new : Checked L) where
       -- a step was taken
       pub taken_fed : (step : Step) (now : List Step) → now ≡ step ∷ steps → lost ≡ false → MayAll (step ∷ steps) → TakesStep takes (Ok tt) old step new → ∥ FedUnless takes lost (Some new) added now ∥₁
@@ -372,6 +393,9 @@ module _ {L : Type 0} {G : Ghosts L} (m : Made L G) where
   -- those who listened are handed back
   pub made_handed : (own : Checked L) (given : List L) → m.own ≡ Some own → given ≡ (listeners_of (who_listens own)).processors → Handed m given
   made_handed own given is e = subst (λ o. HandedIn G.takes (listed_in o m.roll.items) given m.history.steps) (sym is) (handed G.takes m.lost m.own m.roll.items m.history.steps m.fed own is given e)
+
+  pub made_handed_whole : (own : Checked L) (given : List L) → m.own ≡ Some own → given ≡ (listeners_of (who_listens own)).processors → HandedWhole m given
+  made_handed_whole own given is e l = subst (λ o. HandedWholeIn G.takes (listed_in o m.roll.items) given m.history.steps) (sym is) (handed_whole G.takes m.lost m.own m.roll.items m.history.steps m.fed own is given e l)
 
   -- who listens as checking begins
   pub listed_first : m.own ≡ None → ListedAnew m.lost m (audience m) m.roll.items

@@ -15,7 +15,7 @@ use Rattle.sat_checker.specs.declared.processing.ProofProcessor.{Ghosts}
 use Rattle.sat_solver.specs.session.Counting.{start, Cuts, none_made, ask_begun, one_made, written_for, counted}
 use Rattle.sat_solver.specs.session.ProofTexts.{ClosedIsText, BrokenIsFront, BrokeText, WroteSince, TookSince}
 use Rattle.sat_solver.specs.session.OutputView.{step_text, SpellsIn, text_in, AreSpelt, Wrote}
-use Rattle.sat_solver.specs.session.ProofView.{Target, Closed, Open, Broken as Faulty, is_open, Carried, Carries, Stopped, Stops, Flushed, TookAll, TakesAll, Gives, target_of, steps_of, Adds, Fails, FailsCheck, Complains, is_checked, Records, Drains, Flushes, FlushesOrFails, Closes, ClosesOne, HandsBack}
+use Rattle.sat_solver.specs.session.ProofView.{Target, Closed, Open, Broken as Faulty, is_open, Carried, Carries, Stopped, Stops, Flushed, TookAll, TakesAll, Gives, target_of, steps_of, Adds, Gains, Fails, FailsCheck, Complains, is_checked, Records, Drains, Flushes, FlushesOrFails, Closes, ClosesOne, HandsBack}
 use Rattle.sat_solver.specs.session.MadeView as mades
 use Rattle.sat_solver.specs.declared.session.made.CheckFault.{CheckFault}
 use Rattle.sat_solver.specs.declared.session.checked.Checked.{Checked}
@@ -193,6 +193,18 @@ adds_more seen xs ys a b c p q = record {
   target = carries_more (target_of seen a) (target_of seen b) (target_of seen c) xs ys p.target q.target;
 }
 
+-- the same, where the checker took them
+pub gains_none : {W L : Type 0} {G : Ghosts L} (seen : W → Writer) (p : Proof W L G) → Gains seen [] p p
+gains_none seen p = record { history = refl; listening = refl; taking = refl; asked = refl; target = carries_none (target_of seen p) }
+
+pub gains_adds : {W L : Type 0} {G : Ghosts L} (seen : W → Writer) (xs : List Step) (a b : Proof W L G) → Gains seen xs a b → Adds seen xs a b
+gains_adds seen xs a b h = record { history = h.history; listening = h.listening; target = h.target }
+
+pub gains_more : {W L : Type 0} {G : Ghosts L} (seen : W → Writer) (xs ys : List Step) (a b c : Proof W L G) → Gains seen xs a b → Gains seen ys b c → Gains seen (ys ++ xs) a c
+gains_more seen xs ys a b c p q =
+    let both = adds_more seen xs ys a b c (gains_adds seen xs a b p) (gains_adds seen ys b c q) in
+    record { history = both.history; listening = both.listening; taking = q.taking ∙ p.taking; asked = q.asked ∙ p.asked; target = both.target }
+
 -- steps, and then a fault at later ones
 pub fails_later : {W L : Type 0} {G : Ghosts L} (seen : W → Writer) (xs ys : List Step) (a b c : Proof W L G) → Adds seen xs a b → Fails seen ys b c → Fails seen (ys ++ xs) a c
 fails_later seen xs ys a b c p q = record {
@@ -219,20 +231,26 @@ drained seen a b h = record { history = h.history; listening = h.listening; targ
 
 -- nor does what the checker tells behind it
 pub flush_records : {W L : Type 0} {G : Ghosts L} (seen : W → Writer) (r : Result (Unit {0}) ProofError) (a b : Proof W L G) → FlushesOrFails seen r a b → Records seen r [] a b
-flush_records seen (Ok x) a b h = record { history = h.history; listening = h.listening; target = flushed_carries (target_of seen a) (target_of seen b) h.target }
+flush_records seen (Ok x) a b h = record { history = h.history; listening = h.listening; taking = h.taking; asked = h.asked; target = flushed_carries (target_of seen a) (target_of seen b) h.target }
 flush_records seen (Err (Write e)) a b h = h
 flush_records seen (Err OutOfMemory) a b h = absurd h
 flush_records seen (Err (Check fault)) a b h = record { adds = drained seen a b h.0; why = h.1 }
 
+-- the last step wasn't made, or not taken
+pub close_stops : {W L : Type 0} {G : Ghosts L} (T : Type 0) (seen : W → Writer) (e : ProofError) (a b : Proof W L G) → Records {T = T} seen (Err e) (End ∷ []) a b → Closes seen (Err e) a b
+close_stops T seen (Write e) a b h = h
+close_stops T seen OutOfMemory a b h = gains_adds seen [] a b h
+close_stops T seen (Check fault) a b h = h
+
 -- the last step was made, and then a flush failed
-pub close_fails : {W L : Type 0} {G : Ghosts L} (seen : W → Writer) (e : ProofError) (a b c : Proof W L G) → Adds seen (End ∷ []) a b → FlushesOrFails seen (Err e) b c → Closes seen (Err e) a c
+pub close_fails : {W L : Type 0} {G : Ghosts L} (seen : W → Writer) (e : ProofError) (a b c : Proof W L G) → Gains seen (End ∷ []) a b → FlushesOrFails seen (Err e) b c → Closes seen (Err e) a c
 close_fails seen (Write e) a b c p q = record {
   history = q.history ∙ p.history;
   listening = q.listening ∙ p.listening;
   target = stops_later (target_of seen a) (target_of seen b) (target_of seen c) (End ∷ []) [] p.target q.target;
 }
 close_fails seen OutOfMemory a b c p q = absurd q
-close_fails seen (Check fault) a b c p q = record { adds = adds_more seen (End ∷ []) [] a b c p (drained seen b c q.0); why = q.1 }
+close_fails seen (Check fault) a b c p q = record { adds = adds_more seen (End ∷ []) [] a b c (gains_adds seen (End ∷ []) a b p) (drained seen b c q.0); why = q.1 }
 
 gives_none : (a b c : Target) (xs : List Step) → is_open a ≡ true → Carries a xs b → Flushed b c → Gives c None → ⊥
 gives_none Closed b c xs o p f g = absurd (true≢false (sym o))
@@ -243,11 +261,13 @@ gives_none (Open a n s) b c xs o p f g =
 gives_none (Faulty w) b c xs o p f g = absurd (true≢false (sym o))
 
 -- the last step was made, the target flushed and handed back
-pub close_gives : {W L : Type 0} {G : Ghosts L} (seen : W → Writer) (o : Option W) (a b c d : Proof W L G) → is_open (target_of seen a) ≡ true → Adds seen (End ∷ []) a b → Flushes seen b c → HandsBack seen o c d → Closes seen (Ok o) a d
+pub close_gives : {W L : Type 0} {G : Ghosts L} (seen : W → Writer) (o : Option W) (a b c d : Proof W L G) → is_open (target_of seen a) ≡ true → Gains seen (End ∷ []) a b → Flushes seen b c → HandsBack seen o c d → Closes seen (Ok o) a d
 close_gives seen None a b c d open_yet p q h = absurd (gives_none (target_of seen a) (target_of seen b) (target_of seen c) (End ∷ []) open_yet p.target q.target h.gives)
 close_gives seen (Some w) a b c d open_yet p q h = record {
   history = h.history ∙ q.history ∙ p.history;
   listening = ap mades.audience h.made ∙ q.listening ∙ p.listening;
+  taking = ap mades.is_lost h.made ∙ q.taking ∙ p.taking;
+  asked = h.asked ∙ q.asked ∙ p.asked;
   takes = takes_all (target_of seen a) (target_of seen b) (target_of seen c) (Some (seen w)) (seen w) (End ∷ []) open_yet p.target q.target h.gives refl;
   target = h.target;
   told = subst (λ (m : Made _ _). mades.HasTold m) (sym h.made) q.told;

@@ -9,16 +9,16 @@ use Rattle.sat_parts.specs.clause.Stored.{lit_of}
 use Rattle.sat_parts.specs.prop.Values.{value_of}
 use Rattle.sat_base.specs.values.Literals.{variable}
 use Rattle.sat_checker.specs.LiteralSets.{mentions}
-use Rattle.sat_solver.specs.session.Making.{Took}
+use Rattle.sat_solver.specs.session.Making.{Gained}
 use Rattle.sat_solver.specs.names.Taking.{NotTaken}
-use Rattle.sat_solver.specs.session.ProofView.{Adds, Keeps, steps_of, session_of}
+use Rattle.sat_solver.specs.session.ProofView.{Keeps, steps_of, session_of}
 use Rattle.sat_solver.specs.session.Session.{MayAll}
 use Rattle.sat_solver.specs.declared.session.proof.Proof.{Proof}
-use Rattle.sat_solver.proofs.lemmas.session.ProofLemmas.{adds_none, adds_more, fails_later, check_later}
+use Rattle.sat_solver.proofs.lemmas.session.ProofLemmas.{adds_none, gains_none, gains_adds, gains_more}
 use Rattle.sat_solver.proofs.lemmas.session.ComingLemmas.{comes_both}
 use Rattle.sat_solver.specs.joint.Quiet.{is_quiet}
 use Rattle.sat_solver.proofs.lemmas.joint.QuietLemmas.{quiet_comes}
-use Rattle.sat_solver.proofs.lemmas.search.GoingLemmas.{went_checked, fault_checked, fault_or}
+use Rattle.sat_solver.proofs.lemmas.search.GoingLemmas.{went_behind, went_checked, fault_checked, fault_or}
 use Rattle.sat_solver.specs.declared.error.SolverError.{SolverError}
 use Rattle.sat_solver.specs.declared.error.SolverError.TheVariants as errors
 use Rattle.sat_solver.specs.names.Calls.{Stands, DoesNothing}
@@ -30,7 +30,7 @@ use Rattle.sat_solver.proofs.lemmas.names.Doing.{does_none, does_both}
 use Rattle.sat_solver.specs.parts.Frame.{SameClauses}
 use Rattle.sat_solver.specs.parts.Words.{ExtendsFor}
 use Rattle.sat_solver.proofs.lemmas.parts.WordSteps.{extends_refl, extends_after}
-use Rattle.sat_solver.specs.search.Going.{IsFaultOr, Went, Goes, GoesWith}
+use Rattle.sat_solver.specs.search.Going.{Goes, GoesWith}
 use Rattle.sat_solver.specs.search.Joint.{assumed_in, IsSearch, Moved}
 use Rattle.sat_solver.specs.declared.search.work.Search.{Search}
 use Rattle.sat_solver.proofs.lemmas.search.TurnLemmas.{moved_refl, moved_trans}
@@ -49,7 +49,7 @@ module _ {W L : Type 0} {G : Ghosts L} (seen : W → Writer) where
   pub passes_refl : (n : Variables) (p : Proof W L G) (c : Search) → StandTogether n p c → Passes seen n n p p c c
   passes_refl n p c h = record {
     together = h;
-    took = ([], adds_none seen p);
+    took = ([], gains_none seen p);
     quiet = quiet_comes (steps_of p) (steps_of p) [] refl tt;
     does = does_none n (steps_of p) h.stands;
     asked = asked_refl n (session_of p);
@@ -60,7 +60,7 @@ module _ {W L : Type 0} {G : Ghosts L} (seen : W → Writer) where
   pub passes_trans : (a b d : Variables) (p q r : Proof W L G) (x y z : Search) → Passes seen a b p q x y → Passes seen b d q r y z → Passes seen a d p r x z
   passes_trans a b d p q r x y z one two = record {
     together = two.together;
-    took = (two.took.0 ++ one.took.0, adds_more seen one.took.0 two.took.0 p q r one.took.1 two.took.1);
+    took = (two.took.0 ++ one.took.0, gains_more seen one.took.0 two.took.0 p q r one.took.1 two.took.1);
     quiet = comes_both (λ earlier step. is_quiet step ≡ true) (steps_of p) (steps_of q) (steps_of r) one.quiet two.quiet;
     does = does_both a b d (steps_of p) (steps_of q) (steps_of r) (λ j. j) (λ j. j) (λ j. []) (λ j. []) one.does two.does;
     asked = asked_trans a b d (session_of p) (session_of q) (session_of r) one.asked two.asked;
@@ -96,10 +96,10 @@ module _ {W L : Type 0} {G : Ghosts L} (seen : W → Writer) where
       }
 
   -- indices that were given up
-  pub passes_frees : (a b : Variables) (p q : Proof W L G) (c d : Search) → FreesSome a b (steps_of p) (steps_of q) c d → Keeps q → ((w : Proof W L G) → Took seen w p → Took seen w q) → Passes seen a b p q c d
+  pub passes_frees : (a b : Variables) (p q : Proof W L G) (c d : Search) → FreesSome a b (steps_of p) (steps_of q) c d → Keeps q → ((w : Proof W L G) → Gained seen w p → Gained seen w q) → Passes seen a b p q c d
   passes_frees a b p q c d f keeps came = record {
     together = record { keeps = keeps; stands = f.does.stands; search = f.search; shares = f.shares };
-    took = came p ([], adds_none seen p);
+    took = came p ([], gains_none seen p);
     quiet = f.quiet;
     does = f.does;
     asked = f.asked;
@@ -119,32 +119,15 @@ module _ {W L : Type 0} {G : Ghosts L} (seen : W → Writer) where
   pub falls_starved : (p : Proof W L G) → Falls seen errors.OutOfMemory p p
   falls_starved p = record { fault = tt; steps = []; went = adds_none seen p }
 
-  went_later : (full : Type 0) (xs ys : List Step) (p q r : Proof W L G) → Adds seen xs p q → (e : SolverError) → IsFaultOr full e → Went {A = Unit {0}} seen (Err e) ys q r → Went {A = Unit {0}} seen (Err e) (ys ++ xs) p r
-  went_later full xs ys p q r adds errors.OutOfMemory f w = adds_more seen xs ys p q r adds w
-  went_later full xs ys p q r adds errors.StoreFull f w = adds_more seen xs ys p q r adds w
-  went_later full xs ys p q r adds (errors.ProofIoError cause) f w = fails_later seen xs ys p q r adds w
-  went_later full xs ys p q r adds errors.Interrupted f w = absurd f
-  went_later full xs ys p q r adds (errors.ProofProcessorError cause) f w = check_later seen xs ys p q r adds w
-  went_later full xs ys p q r adds errors.WitnessVariable f w = absurd f
-  went_later full xs ys p q r adds errors.AssumedVariable f w = absurd f
-  went_later full xs ys p q r adds errors.TooLate f w = absurd f
-  went_later full xs ys p q r adds errors.NotInDrat f w = absurd f
-  went_later full xs ys p q r adds errors.VariableLimit f w = absurd f
-  went_later full xs ys p q r adds errors.CounterEnd f w = check_later seen xs ys p q r adds w
-  went_later full xs ys p q r adds errors.HasFailed f w = absurd f
-  went_later full xs ys p q r adds errors.Read f w = absurd f
-  went_later full xs ys p q r adds errors.Malformed f w = absurd f
-  went_later full xs ys p q r adds errors.OutOfRange f w = absurd f
-
   -- behind what went well
-  pub falls_later : {full : Type 0} (e : SolverError) (p q r : Proof W L G) → Took seen p q → FallsOr full seen e q r → FallsOr full seen e p r
-  falls_later {full} e p q r took f = record { fault = f.fault; steps = f.steps ++ took.0; went = went_later full took.0 f.steps p q r took.1 e f.fault f.went }
+  pub falls_later : {full : Type 0} (e : SolverError) (p q r : Proof W L G) → Gained seen p q → FallsOr full seen e q r → FallsOr full seen e p r
+  falls_later e p q r took f = record { fault = f.fault; steps = f.steps ++ took.0; went = went_behind seen (Unit {0}) e took.0 f.steps p q r (gains_adds seen took.0 p q took.1) f.went }
 
   -- a call over names
-  pub falls_names : (e : NameError) (p q : Proof W L G) → IsFailure e → ((w : Proof W L G) → Took seen w p → CameTo (Took seen) (NotTaken seen) w e q) → Falls seen (told_as e) p q
-  falls_names names.OutOfMemory p q f came = (let t = came p ([], adds_none seen p) in record { fault = tt; steps = t.0; went = t.1 })
-  falls_names (names.Write cause) p q f came = (let t = came p ([], adds_none seen p) in record { fault = tt; steps = t.0; went = t.1 })
-  falls_names (names.Check fault) p q f came = (let t = came p ([], adds_none seen p) in record { fault = fault_checked _ fault; steps = t.0; went = went_checked seen (Unit {0}) fault t.0 p q t.1 })
+  pub falls_names : (e : NameError) (p q : Proof W L G) → IsFailure e → ((w : Proof W L G) → Gained seen w p → CameTo (Gained seen) (NotTaken seen) w e q) → Falls seen (told_as e) p q
+  falls_names names.OutOfMemory p q f came = (let t = came p ([], gains_none seen p) in record { fault = tt; steps = t.0; went = gains_adds seen t.0 p q t.1 })
+  falls_names (names.Write cause) p q f came = (let t = came p ([], gains_none seen p) in record { fault = tt; steps = t.0; went = t.1 })
+  falls_names (names.Check fault) p q f came = (let t = came p ([], gains_none seen p) in record { fault = fault_checked _ fault; steps = t.0; went = went_checked seen (Unit {0}) fault t.0 p q t.1 })
   falls_names names.WitnessVariable p q f came = absurd f
   falls_names names.AssumedVariable p q f came = absurd f
   falls_names names.VariableLimit p q f came = absurd f
@@ -171,7 +154,7 @@ module _ {W L : Type 0} {G : Ghosts L} (seen : W → Writer) where
     indices_freed f left x lt none v g =
         ap (λ ls. mentions ls v) f.asked.assumed ∙ left x (subst (λ k. x < k) f.moved.size lt) (rw (f.same.0, f.same.1, f.same.2) at none) v g
 
-    pub simplified : FreesSome n n' (steps_of q) (steps_of r) d e → AreLeft n' (session_of q) d.parts (length d.parts.assignment.current) → Keeps r → ((w : Proof W L G) → Took seen w q → Took seen w r) → Simplified seen n n' p r c e
+    pub simplified : FreesSome n n' (steps_of q) (steps_of r) d e → AreLeft n' (session_of q) d.parts (length d.parts.assignment.current) → Keeps r → ((w : Proof W L G) → Gained seen w q → Gained seen w r) → Simplified seen n n' p r c e
     simplified f left keeps came = record {
       passes = passes_trans n n n' p q r c d e lightened (passes_frees n n' q r d e f keeps came);
       flat = f.flat;

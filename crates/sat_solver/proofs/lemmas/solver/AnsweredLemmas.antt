@@ -12,7 +12,7 @@ use Rattle.sat_checker.specs.declared.processing.ProofProcessor.{Ghosts}
 use Rattle.sat_parts.specs.prop.Values.{IsTrueLit}
 use Rattle.sat_parts.proofs.lemmas.clause.ListLemmas.{at_place}
 use Rattle.sat_solver.proofs.lemmas.joint.CodeLemmas.{coded_by}
-use Rattle.sat_solver.specs.session.ProofView.{Adds, Keeps, steps_of, session_of}
+use Rattle.sat_solver.specs.session.ProofView.{Gains, Keeps, steps_of, session_of}
 use Rattle.sat_solver.specs.session.Session.{MayAll}
 use Rattle.sat_solver.proofs.lemmas.session.StepLemmas.{sessions_are_accepted}
 use Rattle.sat_solver.specs.session.LiveClauses.{with_var}
@@ -172,7 +172,7 @@ joined_by n m a b joined config keeps stands search shares = record {
 
 module _ {W L : Type 0} {G : Ghosts L} (seen : W → Writer) (n : Variables) (a : Core W L G) (joined : IsJoined n a) where
   -- names stand where a search came to
-  pub joined_at : (b : Core W L G) (steps : List Step) → Adds seen steps a.proof b.proof → AreSearched (session_of a.proof).solver_names steps → Keeps b.proof → Moved a.search b.search → IsSearch (session_of b.proof) b.search →
+  pub joined_at : (b : Core W L G) (steps : List Step) → Gains seen steps a.proof b.proof → AreSearched (session_of a.proof).solver_names steps → Keeps b.proof → Moved a.search b.search → IsSearch (session_of b.proof) b.search →
       b.config ≡ a.config → IsJoined n b
   joined_at b steps adds searched keeps moved search config = record {
     sound = record {

@@ -1,5 +1,5 @@
 -- An ask begins: no step is made of it, and from there on hashes are shortened.
-use Rattle.std.proofs.Common.{ℕ, ◌+◌, ◌-◌, ◌*◌, ◌^◌, ◌≤◌, ◌≡◌, ◌∙◌, Err, List, [], subst}
+use Rattle.std.proofs.Common.{ℕ, ◌+◌, ◌-◌, ◌*◌, ◌^◌, ◌≤◌, ◌≡◌, ◌∙◌, List, [], subst}
 use Rattle.sat_base.specs.device.Device.{Writer}
 use Rattle.sat_checker.specs.declared.processing.ProofProcessor.{Ghosts}
 use Rattle.sat_solver.specs.declared.error.SolverError.{SolverError}
@@ -12,22 +12,22 @@ use Rattle.sat_solver.specs.names.Calls.{Agree, Does}
 use Rattle.sat_checker.specs.matching.Bridge.{Live}
 use Rattle.sat_solver.specs.search.Solving.{AdvancesIn}
 use Rattle.sat_solver.specs.session.Coming.{Comes, EndsAtUnsat}
-use Rattle.sat_solver.specs.session.ProofView.{Adds}
+use Rattle.sat_solver.specs.session.ProofView.{Adds, is_lost}
 use Rattle.sat_solver.specs.solver.Answering.{Breaks, FlushFails}
 use Rattle.sat_solver.specs.declared.solver.state.State.TheVariants as states
 use Rattle.sat_solver.specs.solver.Calls.{RoundsOn, learned_of, rounds_left, told_by}
 use Rattle.sat_solver.specs.solver.Settling.{Settled}
 use Rattle.sat_solver.specs.solver.Whole.{IsWhole, steps_in}
-use Rattle.sat_solver.proofs.lemmas.search.GoingLemmas.{went_later}
+use Rattle.sat_solver.proofs.lemmas.search.GoingLemmas.{went_behind}
 use Rattle.sat_solver.proofs.lemmas.session.ProofLemmas.{adds_more, fails_later, check_later}
 use Rattle.sat_solver.proofs.lemmas.solver.SettlingLemmas.{whole_over}
 
-module _ {W L : Type 0} {G : Ghosts L} (seen : W → Writer) (old : Solver W L G) (p : Proof W L G) (adds : Adds seen [] old.core.proof p) where
+module _ {W L : Type 0} {G : Ghosts L} (seen : W → Writer) (old : Solver W L G) (p : Proof W L G) (adds : Adds seen [] old.core.proof p) (taking : is_lost p ≡ is_lost old.core.proof) where
   abbrev pub begun : Solver W L G
   begun = record old { core = record old.core { proof = p } }
 
   pub whole_begun : IsWhole old → IsWhole begun
-  whole_begun whole = whole_over old.core old.names old.asked old.assumed.items old.told.failed_core.items old.clock.restarts.scale old.state p whole adds.history
+  whole_begun whole = whole_over old.core old.names old.asked old.assumed.items old.told.failed_core.items old.clock.restarts.scale old.state p whole adds.history taking
 
   pub rounds_begun : (now : ℕ) → RoundsOn old.names (steps_in begun) old.core.config.max_steps old.clock.steps now → RoundsOn old.names (steps_in old) old.core.config.max_steps old.clock.steps now
   rounds_begun now h = subst (λ ss. RoundsOn old.names ss old.core.config.max_steps old.clock.steps now) adds.history h
@@ -66,4 +66,4 @@ module _ {W L : Type 0} {G : Ghosts L} (seen : W → Writer) (old : Solver W L G
 
   -- or fails
   pub breaks_begun : (e : SolverError) (core : Core W L G) → Breaks seen e begun.core core → Breaks seen e old.core core
-  breaks_begun e core b = record { fault = b.fault; steps = _; went = went_later seen {A = Unit {0}} (Err e) [] b.steps old.core.proof p core.proof adds b.went }
+  breaks_begun e core b = record { fault = b.fault; steps = _; went = went_behind seen (Unit {0}) e [] b.steps old.core.proof p core.proof adds b.went }

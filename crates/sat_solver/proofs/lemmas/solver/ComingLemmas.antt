@@ -5,8 +5,8 @@ use Rattle.sat_base.specs.script.Judge.{Judge, bring_all, refused_literal}
 use Rattle.sat_base.specs.values.Literals.{variable}
 use Rattle.sat_store.specs.variables.Maps.{target}
 use Rattle.sat_checker.specs.declared.processing.ProofProcessor.{Ghosts}
-use Rattle.sat_solver.specs.session.Making.{Took}
-use Rattle.sat_solver.specs.session.ProofView.{steps_of, session_of}
+use Rattle.sat_solver.specs.session.Making.{Took, Gained}
+use Rattle.sat_solver.specs.session.ProofView.{has_asked, steps_of, session_of}
 use Rattle.sat_solver.specs.session.Session.{session_after}
 use Rattle.sat_solver.specs.declared.session.proof.Proof.{Proof}
 use Rattle.sat_solver.specs.declared.error.SolverError.{SolverError}
@@ -19,6 +19,8 @@ use Rattle.sat_solver.specs.names.Adding.{Image, Images}
 use Rattle.sat_solver.specs.names.AddingCalls.{LeavesOut}
 use Rattle.sat_solver.specs.names.Assuming as assuming
 use Rattle.sat_solver.specs.names.Calls.{Does}
+use Rattle.sat_solver.proofs.lemmas.session.ProofLemmas.{gains_adds}
+use Rattle.sat_solver.proofs.lemmas.names.Doing.{judged_by}
 use Rattle.sat_solver.proofs.lemmas.solver.SpeltLemmas.{global_images_of, global_images_kept}
 use Rattle.sat_solver.specs.declared.solver.Solver.{Solver}
 use Rattle.sat_solver.specs.declared.solver.state.State.{State}
@@ -36,6 +38,7 @@ use Rattle.sat_checker.specs.matching.Bridge.{Live}
 use Rattle.sat_checker.specs.matching.Expected.{Unknown}
 use Rattle.sat_solver.specs.names.Variables.{AreJudged}
 use Rattle.std.proofs.lemmas.Bool.{true≢false}
+use Rattle.sat_solver.proofs.lemmas.solver.TakingLemmas.{took_starved}
 use Rattle.sat_solver.proofs.lemmas.names.ComingSteps.{comes_added}
 use Rattle.sat_solver.specs.session.Coming.{Comes}
 use Rattle.sat_solver.specs.names.Coming.{MayTake}
@@ -95,11 +98,14 @@ module _ {W L : Type 0} {G : Ghosts L} (seen : W → Writer) (s : Solver W L G) 
         positive = whole.positive;
         scaled = subst (λ (x : SolverConfig). s.clock.restarts.scale ≡ x.luby_restart_interval_scale) (sym t.config) whole.scaled;
         decays = subst AreDecays (sym t.config) whole.decays;
+        taking = t.took.1.taking ∙ whole.taking;
+        judged = judged_by t.does whole.judged;
         says = record { joined = t.goes_on; lits = ap (λ ls. ls.items) t.lits ∙ going_on.lits };
       };
       does = due_by s.state apart t.does;
       comes = t.comes;
-      took = t.took;
+      took = (t.took.0, gains_adds seen t.took.0 s.core.proof b.proof t.took.1);
+      asked = t.took.1.asked;
       failed = refl;
       used = refl;
       config = t.config;
@@ -117,11 +123,14 @@ module _ {W L : Type 0} {G : Ghosts L} (seen : W → Writer) (s : Solver W L G) 
         positive = whole.positive;
         scaled = subst (λ (x : SolverConfig). s.clock.restarts.scale ≡ x.luby_restart_interval_scale) (sym t.config) whole.scaled;
         decays = subst AreDecays (sym t.config) whole.decays;
+        taking = t.took.1.taking ∙ whole.taking;
+        judged = judged_by t.does whole.judged;
         says = t.goes_on;
       };
       does = due_by s.state apart t.does;
       comes = t.comes;
-      took = t.took;
+      took = (t.took.0, gains_adds seen t.took.0 s.core.proof b.proof t.took.1);
+      asked = t.took.1.asked;
       failed = refl;
       used = refl;
       config = t.config;
@@ -139,11 +148,14 @@ module _ {W L : Type 0} {G : Ghosts L} (seen : W → Writer) (s : Solver W L G) 
       positive = whole.positive;
       scaled = subst (λ (x : SolverConfig). s.clock.restarts.scale ≡ x.luby_restart_interval_scale) (sym t.config) whole.scaled;
       decays = subst AreDecays (sym t.config) whole.decays;
+      taking = t.took.1.taking ∙ whole.taking;
+      judged = judged_by (t.does Unknown) whole.judged;
       says = record { joined = t.joined; lits = t.asked.lits };
     };
     does = t.does;
     comes = t.comes;
-    took = t.took;
+    took = (t.took.0, gains_adds seen t.took.0 s.core.proof b.proof t.took.1);
+    asked = t.took.1.asked;
     failed = refl;
     used = refl;
     config = t.config;
@@ -156,7 +168,7 @@ module _ {W L : Type 0} {G : Ghosts L} (seen : W → Writer) (s : Solver W L G) 
       forgets states.UnsatUnderAssumptions k = tt
       forgets states.Unsat k = absurd (k refl)
 
-module _ {W L : Type 0} {G : Ghosts L} (seen : W → Writer) (s : Solver W L G) (whole : IsWhole s) (known : s.state ≡ states.Unsat) (p : Proof W L G) (n' : Variables) (user : List ℕ) (took : Took seen s.core.proof p) where
+module _ {W L : Type 0} {G : Ghosts L} (seen : W → Writer) (s : Solver W L G) (whole : IsWhole s) (known : s.state ≡ states.Unsat) (p : Proof W L G) (n' : Variables) (user : List ℕ) (took : Gained seen s.core.proof p) where
   unsat : (session_of s.core.proof).unsat ≡ true
   unsat = subst (λ st. StateSays st s.core s.names s.asked s.assumed.items s.told.failed_core.items) known whole.says
 
@@ -171,11 +183,14 @@ module _ {W L : Type 0} {G : Ghosts L} (seen : W → Writer) (s : Solver W L G) 
       positive = whole.positive;
       scaled = whole.scaled;
       decays = whole.decays;
+      taking = took.1.taking ∙ whole.taking;
+      judged = judged_by l.does whole.judged;
       says = subst (λ st. StateSays st (record s.core { proof = p }) n' s.asked s.assumed.items s.told.failed_core.items) (sym known) (l.unseen.search.unsat ∙ unsat);
     };
     does = subst (λ st. Does s.names n' (steps_in s) (steps_of p) (with_added user) (due_for_clause st user)) (sym known) l.does;
     comes = comes_added (names_in user) (steps_in s) (steps_of p) l.comes;
-    took = took;
+    took = (took.0, gains_adds seen took.0 s.core.proof p took.1);
+    asked = took.1.asked;
     failed = refl;
     used = refl;
     config = refl;
@@ -200,11 +215,14 @@ module _ {W L : Type 0} {G : Ghosts L} (seen : W → Writer) (s : Solver W L G) 
       positive = whole.positive;
       scaled = whole.scaled;
       decays = whole.decays;
+      taking = took.1.taking ∙ whole.taking;
+      judged = judged_by (a.does Unknown) whole.judged;
       says = subst (λ st. StateSays st (record s.core { proof = p }) n' asked user s.told.failed_core.items) (sym known) (ap (λ ss. (session_after ss).unsat) a.written ∙ a.search.unsat ∙ unsat);
     };
     does = a.does;
     comes = a.comes;
-    took = took;
+    took = (took.0, gains_adds seen took.0 s.core.proof p took.1);
+    asked = took.1.asked;
     failed = refl;
     used = refl;
     config = refl;
@@ -238,6 +256,14 @@ pub none_refused : {W L : Type 0} {G : Ghosts L} (s : Solver W L G) (user : List
 none_refused s user None judged none = λ j live agree. judged j live agree.judged
 none_refused s user (Some name) judged none = absurd (true≢false none)
 
+-- assumptions were taken, and no memory was left to list them over names
+pub asking_starved : {W L : Type 0} {G : Ghosts L} (seen : W → Writer) (s mid new : Solver W L G) (user : List ℕ) → s.failed ≡ false → AreSampled s user → HasRoom s.names (users_in user) → AskedIn seen (record s { used = true }) mid user → mid.clock ≡ s.clock → new.core ≡ mid.core → new.clock ≡ mid.clock → new.failed ≡ true → Assumes seen (Err errors.OutOfMemory) s new user
+asking_starved seen s mid new user going sampled room a clock core same failed = (
+  sampled,
+  room,
+  record { going = going; failed = failed; fault = tt; breaks = subst (λ c. BreaksNames seen errors.OutOfMemory s.core c) (sym core) (took_starved seen s.core mid.core a.took); clock = same ∙ clock },
+)
+
 -- assumptions were taken, and listed over names
 pub assumed_by : {W L : Type 0} {G : Ghosts L} (seen : W → Writer) (s mid new : Solver W L G) (user : List ℕ) → s.failed ≡ false → AreSampled s user → HasRoom s.names (users_in user) → AskedIn seen (record s { used = true }) mid user → mid.clock ≡ s.clock → new ≡ record mid { assumed = new.assumed } → new.assumed.items ≡ user → Assumed seen s new user
 assumed_by {W} {L} {G} seen s mid new user going sampled room a clock same items = record {
@@ -254,6 +280,7 @@ assumed_by {W} {L} {G} seen s mid new user going sampled room a clock same items
     took = subst (λ (x : Solver W L G). Took seen s.core.proof x.core.proof) (sym same) a.took;
   };
   comes = subst (λ (x : Solver W L G). Comes (MayTake (names_in user)) (steps_in s) (steps_in x)) (sym same) a.comes;
+  asked = ap (λ (x : Solver W L G). has_asked x.core.proof) same ∙ a.asked;
   assumed = items;
   clock = ap (λ (x : Solver W L G). x.clock) same ∙ clock;
   state = subst (λ (x : Solver W L G). Forgets s.state x.state) (sym same) a.state;

@@ -11,8 +11,8 @@ use Rattle.sat_solver.specs.declared.names.taking.Taken.{Taken}
 use Rattle.sat_solver.specs.declared.search.solving.Core.{Core}
 use Rattle.sat_solver.specs.declared.search.work.Search.{Search}
 use Rattle.sat_solver.specs.parts.Whole.{Holds}
-use Rattle.sat_solver.specs.session.ProofView.{session_of, steps_of}
-use Rattle.sat_solver.specs.names.Calls.{Stands}
+use Rattle.sat_solver.specs.session.ProofView.{is_lost, session_of, steps_of}
+use Rattle.sat_solver.specs.names.Calls.{HasJudge, Stands}
 use Rattle.sat_solver.specs.search.Bumping.{AreDecays}
 use Rattle.sat_solver.specs.search.Turns.{IsComplete}
 use Rattle.sat_solver.specs.declared.solver.state.State.{State}
@@ -113,5 +113,7 @@ module _ {W L : Type 0} {G : Ghosts L} (u : SolverConfigUpdate) (c : Core W L G)
     positive = scale_kept u scale range whole.positive;
     scaled = ap (unwrap_or u.luby_restart_interval_scale) whole.scaled ∙ sym (ap (λ (x : SolverConfig). x.luby_restart_interval_scale) (core_same st b d).1);
     decays = subst AreDecays (sym (core_same st b d).1) (decays_kept u c.config range whole.decays);
+    taking = ap is_lost (core_same st b d).0 ∙ whole.taking;
+    judged = subst (λ p. HasJudge n (steps_of p)) (sym (core_same st b d).0) whole.judged;
     says = says st b d whole.says;
   }

@@ -7,7 +7,7 @@ use Rattle.sat_checker.specs.Fold.{Holds}
 use Rattle.sat_checker.specs.declared.processing.ProofProcessor.{Ghosts}
 use Rattle.sat_solver.specs.names.Adding.{named_literal}
 use Rattle.sat_checker.specs.matching.Checking.{variable_of}
-use Rattle.sat_solver.specs.session.ProofView.{Closes, ClosesOne, Keeps, steps_of, session_of}
+use Rattle.sat_solver.specs.session.ProofView.{Closes, ClosesOne, Keeps, is_lost, steps_of, session_of}
 use Rattle.sat_solver.specs.session.Session.{MayAll, session_after}
 use Rattle.sat_solver.specs.declared.session.made.CheckFault.TheVariants as checks
 use Rattle.sat_solver.specs.declared.session.proof.Proof.{Proof}
@@ -19,7 +19,7 @@ use Rattle.sat_solver.specs.declared.search.solving.Core.{Core}
 use Rattle.sat_solver.specs.search.Going.{fault_of}
 use Rattle.sat_solver.specs.search.Joint.{IsSearch}
 use Rattle.sat_checker.specs.matching.Traces.{no_step, visible}
-use Rattle.sat_solver.specs.names.Calls.{Stands, Does}
+use Rattle.sat_solver.specs.names.Calls.{Stands, Agree, Does}
 use Rattle.sat_checker.specs.matching.Expected.{Finish, SameSet, finish}
 use Rattle.sat_solver.proofs.lemmas.names.Searched.{searches_stand, searches_agree}
 use Rattle.sat_solver.specs.declared.solver.Solver.{Solver}
@@ -34,8 +34,8 @@ use Rattle.sat_solver.proofs.lemmas.solver.TellingLemmas.{search_rests}
 use Rattle.sat_solver.proofs.lemmas.solver.SettlingLemmas.{whole_over}
 
 -- the last step leaves all as it is
-pub whole_ended : {W L : Type 0} {G : Ghosts L} (c : Core W L G) (n : Variables) (asked : Taken) (assumed core : List ℕ) (scale : ℕ) (state : State) (p : Proof W L G) → IsWholeOf c n asked assumed core scale state → steps_of p ≡ End ∷ steps_of c.proof → Keeps p → IsWholeOf (record c { proof = p }) n asked assumed core scale state
-whole_ended {W} {L} {G} c n asked assumed core scale state p whole e keeps = record {
+pub whole_ended : {W L : Type 0} {G : Ghosts L} (c : Core W L G) (n : Variables) (asked : Taken) (assumed core : List ℕ) (scale : ℕ) (state : State) (p : Proof W L G) → IsWholeOf c n asked assumed core scale state → steps_of p ≡ End ∷ steps_of c.proof → Keeps p → is_lost p ≡ is_lost c.proof → IsWholeOf (record c { proof = p }) n asked assumed core scale state
+whole_ended {W} {L} {G} c n asked assumed core scale state p whole e keeps taking = record {
   stands = stands;
   images = whole.images;
   spelt = whole.spelt;
@@ -43,6 +43,8 @@ whole_ended {W} {L} {G} c n asked assumed core scale state p whole e keeps = rec
   positive = whole.positive;
   scaled = whole.scaled;
   decays = whole.decays;
+  taking = taking ∙ whole.taking;
+  judged = (let k = whole.judged in (k.0, k.1, subst (λ ss. Agree n ss k.0 k.1) (sym e) (searches_agree n (steps_of c.proof) End whole.stands (subst MayAll e keeps).1 tt k.0 k.1 k.2)));
   says = says state whole.says;
 }
   where
@@ -97,7 +99,7 @@ module _ {W L : Type 0} {G : Ghosts L} (seen : W → Writer) (s : Solver W L G) 
   }
     where
       ended : IsWholeOf (record s.core { proof = p }) s.names s.asked s.assumed.items s.told.failed_core.items s.clock.restarts.scale s.state
-      ended = whole_ended s.core s.names s.asked s.assumed.items s.told.failed_core.items s.clock.restarts.scale s.state p whole c.history keeps
+      ended = whole_ended s.core s.names s.asked s.assumed.items s.told.failed_core.items s.clock.restarts.scale s.state p whole c.history keeps c.taking
 
       may : MayAll (End ∷ steps_in s)
       may = subst MayAll c.history keeps
@@ -108,5 +110,5 @@ module _ {W L : Type 0} {G : Ghosts L} (seen : W → Writer) (s : Solver W L G) 
   closed_by (Some given) c = closed_one given c
 
   pub closed_whole : (o : Option W) → Closes seen (Ok o) s.core.proof p → IsWhole (record s { core = record s.core { proof = p } })
-  closed_whole None c = whole_over s.core s.names s.asked s.assumed.items s.told.failed_core.items s.clock.restarts.scale s.state p whole c.history
-  closed_whole (Some given) c = whole_ended s.core s.names s.asked s.assumed.items s.told.failed_core.items s.clock.restarts.scale s.state p whole c.history keeps
+  closed_whole None c = whole_over s.core s.names s.asked s.assumed.items s.told.failed_core.items s.clock.restarts.scale s.state p whole c.history c.taking
+  closed_whole (Some given) c = whole_ended s.core s.names s.asked s.assumed.items s.told.failed_core.items s.clock.restarts.scale s.state p whole c.history keeps c.taking

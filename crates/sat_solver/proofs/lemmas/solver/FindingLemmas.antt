@@ -3,15 +3,13 @@ use Rattle.std.specs.Prelude.{IfOk, IfErr}
 use Rattle.std.proofs.Common.{ℕ, ◌-◌, Option, None, Some, Result, Ok, Err, List, ◌++◌, sym, subst}
 use Rattle.sat_base.specs.device.Device.{Writer}
 use Rattle.sat_checker.specs.declared.processing.ProofProcessor.{Ghosts}
-use Rattle.sat_solver.proofs.lemmas.session.ProofLemmas.{adds_more, fails_later, check_later}
+use Rattle.sat_solver.proofs.lemmas.session.ProofLemmas.{gains_adds}
+use Rattle.sat_solver.proofs.lemmas.search.GoingLemmas.{went_behind}
 use Rattle.sat_solver.specs.declared.bound.search.Outcome.{Outcome}
 use Rattle.sat_solver.specs.declared.bound.search.Outcome.TheVariants as outcomes
 use Rattle.sat_solver.specs.declared.error.SolverError.{SolverError}
-use Rattle.sat_solver.specs.declared.error.SolverError.TheVariants as errors
 use Rattle.sat_solver.specs.declared.names.Variables.{Variables}
 use Rattle.sat_solver.specs.declared.search.solving.Core.{Core}
-use Rattle.sat_solver.specs.parts.Full.{IsFull}
-use Rattle.sat_solver.specs.search.Going.{IsFaultOr, Went}
 use Rattle.sat_solver.specs.search.Solving.{Ended, Broke}
 use Rattle.sat_solver.specs.declared.solver.state.State.{State}
 use Rattle.sat_solver.specs.declared.solver.state.State.TheVariants as states
@@ -49,24 +47,7 @@ module _ {W L : Type 0} {G : Ghosts L} (seen : W → Writer) (n m : Variables) (
 
   -- or its telling failed
   pub breaks_told : {k : ℕ} → (outcome : Outcome) (e : SolverError) (mid b : Core W L G) → Ended seen a n k outcome mid m → Breaks seen e mid b → Breaks seen e a b
-  breaks_told outcome e mid b ended k = record { fault = k.fault; steps = k.steps ++ ended.steps; went = later e k.fault k.went }
-    where
-      later : (e : SolverError) → IsFaultOr (IsFull b.search.parts) e → Went {A = Unit {0}} seen (Err e) k.steps mid.proof b.proof → Went {A = Unit {0}} seen (Err e) (k.steps ++ ended.steps) a.proof b.proof
-      later errors.OutOfMemory f w = adds_more seen ended.steps k.steps a.proof mid.proof b.proof ended.adds w
-      later errors.StoreFull f w = adds_more seen ended.steps k.steps a.proof mid.proof b.proof ended.adds w
-      later (errors.ProofIoError cause) f w = fails_later seen ended.steps k.steps a.proof mid.proof b.proof ended.adds w
-      later errors.Interrupted f w = absurd f
-      later (errors.ProofProcessorError cause) f w = check_later seen ended.steps k.steps a.proof mid.proof b.proof ended.adds w
-      later errors.WitnessVariable f w = absurd f
-      later errors.AssumedVariable f w = absurd f
-      later errors.TooLate f w = absurd f
-      later errors.NotInDrat f w = absurd f
-      later errors.VariableLimit f w = absurd f
-      later errors.CounterEnd f w = check_later seen ended.steps k.steps a.proof mid.proof b.proof ended.adds w
-      later errors.HasFailed f w = absurd f
-      later errors.Read f w = absurd f
-      later errors.Malformed f w = absurd f
-      later errors.OutOfRange f w = absurd f
+  breaks_told outcome e mid b ended k = record { fault = k.fault; steps = k.steps ++ ended.steps; went = went_behind seen (Unit {0}) e ended.steps k.steps a.proof mid.proof b.proof (gains_adds seen ended.steps a.proof mid.proof ended.adds) k.went }
 
   -- what came of telling it
   pub finds_by : (outcome : Outcome) (r : Result (Option State) SolverError) (mid b : Core W L G) (core : List ℕ) (rounds : ℕ) → Ended seen a n (rounds - 1) outcome mid m → Tells seen r outcome m mid b core → IfOk r (λ o. Finds seen o rounds n m a b core)

@@ -10,8 +10,9 @@ use Rattle.sat_base.specs.script.Judge.{Judge}
 use Rattle.sat_checker.specs.LiteralSets.{mentions}
 use Rattle.sat_store.specs.variables.Maps.{target}
 use Rattle.sat_checker.specs.declared.processing.ProofProcessor.{Ghosts}
-use Rattle.sat_solver.specs.session.Making.{Took}
-use Rattle.sat_solver.specs.session.ProofView.{steps_of, session_of}
+use Rattle.sat_solver.specs.session.Making.{Gained}
+use Rattle.sat_solver.specs.session.ProofView.{is_lost, steps_of, session_of}
+use Rattle.sat_solver.proofs.lemmas.session.ProofLemmas.{gains_adds}
 use Rattle.sat_solver.specs.declared.session.made.CheckFault.TheVariants as checks
 use Rattle.sat_solver.specs.declared.session.proof.Proof.{Proof}
 use Rattle.sat_solver.specs.declared.error.SolverError.{SolverError}
@@ -24,7 +25,8 @@ use Rattle.sat_solver.specs.loading.Faults.{told_as}
 use Rattle.sat_solver.specs.loading.Alike.{LooksAlike}
 use Rattle.sat_solver.proofs.lemmas.loading.AlikeLemmas.{search_alike}
 use Rattle.sat_solver.specs.names.Adding.{named_literal, Image, Images, GlobalImages}
-use Rattle.sat_solver.specs.names.Calls.{Stands, Does}
+use Rattle.sat_solver.specs.names.Calls.{HasJudge, Stands, Does}
+use Rattle.sat_solver.proofs.lemmas.names.Doing.{judged_by}
 use Rattle.sat_checker.specs.matching.Checking.{variable_of}
 use Rattle.sat_checker.specs.matching.Expected.{Expected, Spells}
 use Rattle.sat_solver.specs.names.Models.{is_true, value_by, value_in}
@@ -229,8 +231,8 @@ module _ {W L : Type 0} {G : Ghosts L} (s : Solver W L G) (whole : IsWhole s) wh
     says states.Unsat h = alike.unsat ∙ h
 
     -- all stands behind it
-    pub whole_renamed : IsWholeOf new n' s.asked s.assumed.items s.told.failed_core.items s.clock.restarts.scale s.state
-    whole_renamed = record {
+    whole_renamed : HasJudge n' (steps_of p) → is_lost p ≡ is_lost s.core.proof → IsWholeOf new n' s.asked s.assumed.items s.told.failed_core.items s.clock.restarts.scale s.state
+    whole_renamed judged taking = record {
       stands = stands;
       images = images;
       spelt = spelt;
@@ -238,6 +240,8 @@ module _ {W L : Type 0} {G : Ghosts L} (s : Solver W L G) (whole : IsWhole s) wh
       positive = whole.positive;
       scaled = whole.scaled;
       decays = whole.decays;
+      taking = taking ∙ whole.taking;
+      judged = judged;
       says = says s.state whole.says;
     }
 
@@ -286,11 +290,12 @@ module _ {W L : Type 0} {G : Ghosts L} (seen : W → Writer) (s : Solver W L G) 
 
   -- a call over names was carried out
   pub renamed : (judge : Judge → Judge) (due : Judge → List Expected) (May : List Step → Step → Type 0) → Comes May (steps_in s) (steps_of p) → Does s.names n' (steps_in s) (steps_of p) judge due → AreFresh s.names n' → KeepsUnits n' (steps_in s) (steps_of p) →
-      ((l v : ℕ) → Among l s.assumed.items → global_of s.names (variable l) ≡ Some v → global_of n' (variable l) ≡ Some v) → IsAlike s.names n' (steps_in s) (steps_of p) → Took seen s.core.proof p →
+      ((l v : ℕ) → Among l s.assumed.items → global_of s.names (variable l) ≡ Some v → global_of n' (variable l) ≡ Some v) → IsAlike s.names n' (steps_in s) (steps_of p) → Gained seen s.core.proof p →
       Renamed seen s (record s { core = record s.core { proof = p }; names = n'; used = true }) judge due May
   renamed judge due May comes does fresh units kept alike took = record {
-    did = record { whole = whole_renamed s whole n' p does.stands kept alike; going = going; failed = going; used = refl; config = refl; does = does; took = took };
+    did = record { whole = whole_renamed s whole n' p does.stands kept alike (judged_by does whole.judged) took.1.taking; going = going; failed = going; used = refl; config = refl; does = does; took = (took.0, gains_adds seen took.0 s.core.proof p took.1) };
     comes = comes;
+    asked = took.1.asked;
     assumed = refl;
     told = refl;
     clock = refl;
@@ -387,10 +392,11 @@ pub next_name : {W L : Type 0} {G : Ghosts L} (s : Solver W L G) → IsWhole s �
 next_name s whole user next j live agree = lowest_unused s.names (steps_in s) j live user whole.stands agree.judged next
 
 -- hidden variables got names
-pub observed_all : {W L : Type 0} {G : Ghosts L} (seen : W → Writer) (s : Solver W L G) → IsWhole s → s.failed ≡ false → (n' : Variables) (p : Proof W L G) (users : List ℕ) (used : Bool) → used ≡ (s.used || not (eqb (length users) 0)) → NamesAllHidden s.names n' (steps_in s) (steps_of p) users → Took seen s.core.proof p →
+pub observed_all : {W L : Type 0} {G : Ghosts L} (seen : W → Writer) (s : Solver W L G) → IsWhole s → s.failed ≡ false → (n' : Variables) (p : Proof W L G) (users : List ℕ) (used : Bool) → used ≡ (s.used || not (eqb (length users) 0)) → NamesAllHidden s.names n' (steps_in s) (steps_of p) users → Gained seen s.core.proof p →
     Observed seen s (record s { core = record s.core { proof = p }; names = n'; used = used }) users
 observed_all seen s whole going n' p users used opened all took = record {
-  whole = whole_renamed s whole n' p all.stands (λ l v h e. all.names (variable l) v e) (alike_unseen s.names n' (steps_in s) (steps_of p) all.unseen);
+  whole = whole_renamed s whole n' p all.stands (λ l v h e. all.names (variable l) v e) (alike_unseen s.names n' (steps_in s) (steps_of p) all.unseen)
+      (let k = whole.judged in let kept = all.kept k.0 k.1 k.2 in (kept.0, k.1, kept.2)) took.1.taking;
   going = going;
   failed = going;
   used = opened;
@@ -398,7 +404,8 @@ observed_all seen s whole going n' p users used opened all took = record {
   observes = all.kept;
   all = all.all;
   values = λ v. ap (λ (b : Bool). Some b) (value_same seen s whole going n' p (alike_unseen s.names n' (steps_in s) (steps_of p) all.unseen) all.stands v (λ b. ap (λ f. f (coded v b)) all.unseen.search.units));
-  took = took;
+  took = (took.0, gains_adds seen took.0 s.core.proof p took.1);
+  asked = took.1.asked;
   assumed = refl;
   told = refl;
   clock = refl;

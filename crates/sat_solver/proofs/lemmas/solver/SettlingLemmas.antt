@@ -9,7 +9,7 @@ use Rattle.sat_checker.specs.Fold.{Holds}
 use Rattle.sat_checker.specs.declared.processing.ProofProcessor.{Ghosts}
 use Rattle.sat_parts.specs.prop.Values.{IsTrueLit}
 use Rattle.sat_solver.specs.session.LiveClauses.{with_var}
-use Rattle.sat_solver.specs.session.ProofView.{Target, Closed, Open, Broken, Flushed, Flushes, FlushesOrFails, FailsCheck, HasTold, steps_of, session_of, target_of}
+use Rattle.sat_solver.specs.session.ProofView.{Target, Closed, Open, Broken, Flushed, Flushes, FlushesOrFails, Adds, FailsCheck, HasTold, is_lost, steps_of, session_of, target_of}
 use Rattle.sat_solver.specs.declared.session.made.CheckFault.{CheckFault}
 use Rattle.sat_solver.specs.declared.session.made.CheckFault.TheVariants as checks
 use Rattle.sat_solver.specs.declared.session.proof.Proof.{Proof}
@@ -20,7 +20,7 @@ use Rattle.sat_solver.specs.session.Session.{Session, MayAll, session_after}
 use Rattle.sat_solver.specs.session.Coming.{Comes, EndsAtUnsat}
 use Rattle.sat_solver.proofs.lemmas.session.ComingLemmas.{comes_none, comes_one, comes_both, comes_open}
 use Rattle.std.proofs.lemmas.Bool.{true≢false}
-use Rattle.sat_solver.proofs.lemmas.session.ProofLemmas.{adds_none, adds_more, fails_later, flush_records, check_later}
+use Rattle.sat_solver.proofs.lemmas.session.ProofLemmas.{adds_none, adds_more, gains_adds, gains_more, fails_later, flush_records, check_later}
 use Rattle.sat_solver.proofs.lemmas.search.GoingLemmas.{went_checked, fault_checked}
 use Rattle.sat_base.specs.script.Judge.{Judge}
 use Rattle.sat_solver.specs.bound.Counting.{CountsOn, steps_left}
@@ -39,13 +39,13 @@ use Rattle.sat_checker.specs.matching.Checking.{variable_of}
 use Rattle.sat_checker.specs.matching.Expected.{Shows, SameSet}
 use Rattle.sat_solver.specs.names.Models.{named_to}
 use Rattle.sat_solver.specs.names.Variables.{names_used}
-use Rattle.sat_solver.specs.names.Calls.{Stands, Agree, Does}
+use Rattle.sat_solver.specs.names.Calls.{Stands, Agree, Does, HasJudge}
 use Rattle.sat_checker.specs.matching.Bridge.{Live}
 use Rattle.sat_solver.specs.declared.error.SolverError.{SolverError}
 use Rattle.sat_solver.specs.declared.error.SolverError.TheVariants as errors
 use Rattle.sat_solver.specs.declared.names.Variables.{Variables}
 use Rattle.sat_solver.specs.declared.names.taking.Taken.{Taken}
-use Rattle.sat_solver.proofs.lemmas.names.Doing.{does_none, does_both}
+use Rattle.sat_solver.proofs.lemmas.names.Doing.{does_none, does_both, judged_by}
 use Rattle.sat_solver.specs.declared.solver.Solver.{Solver}
 use Rattle.sat_solver.specs.declared.solver.state.State.{State}
 use Rattle.sat_solver.specs.declared.solver.state.State.TheVariants as states
@@ -143,11 +143,13 @@ module _ {W L : Type 0} {G : Ghosts L} (seen : W → Writer) (s : Solver W L G) 
         positive = positive;
         scaled = scaled core found.gone.config;
         decays = subst AreDecays (sym found.gone.config) whole.decays;
+        taking = found.gone.adds.taking ∙ whole.taking;
+        judged = judged_by found.gone.does whole.judged;
         says = subst (λ st. StateSays st core m s.asked s.assumed.items told.failed_core.items) (sym unknown) (record { joined = found.joined; lits = ap (λ ls. ls.items) found.gone.moved.lits ∙ goes.lits });
       };
       does = subst (λ st. Does s.names m (steps_in s) (steps_of core.proof) (λ j. j) (λ j. told_as st st (line_of m core) s.assumed.items told.failed_core.items)) (sym unknown) found.gone.does;
       comes = comes_open (steps_in s) (steps_of core.proof) found.gone.steps found.gone.adds.history found.joined.sound.search.stands.fits.consistent;
-      took = (found.gone.steps, found.gone.adds);
+      took = (found.gone.steps, gains_adds seen found.gone.steps s.core.proof core.proof found.gone.adds);
       same = refl;
       users = found.gone.asked.users;
       config = found.gone.config;
@@ -174,18 +176,17 @@ module _ {W L : Type 0} {G : Ghosts L} (seen : W → Writer) (s : Solver W L G) 
           positive = positive;
           scaled = scaled core (found.shown.config ∙ found.ended.config);
           decays = subst AreDecays (sym (found.shown.config ∙ found.ended.config)) whole.decays;
+          taking = found.shown.adds.taking ∙ found.ended.adds.taking ∙ whole.taking;
+          judged = judged_by does whole.judged;
           says = (
             record { joined = found.shown.joined; lits = lits },
             complete,
           );
         };
-        does = unknown_told states.Sat (does_both s.names m m (steps_in s) (steps_of found.mid.proof) (steps_of core.proof) (λ j. j) (λ j. j) (λ j. []) (λ j. told_as states.Unknown states.Sat (line_of m core) s.assumed.items told.failed_core.items)
-            found.ended.does
-            (subst (λ c. Does m m (steps_of found.mid.proof) (steps_of core.proof) (λ j. j) (λ j. Shows (names_of (map named_literal (line_by c))) (map named_literal s.assumed.items) (map named_literal (line_by c)) ∷ [])) (sym found.shown.search)
-            (does_shown seen m found.mid mid core found.shown s.assumed.items (subst (λ c. AllByRecursion (λ l. Among l (line_by c)) s.assumed.items) found.shown.search asked))));
+        does = unknown_told states.Sat does;
         comes = comes_both EndsAtUnsat (steps_in s) (steps_of found.mid.proof) (steps_of core.proof) found.ended.comes
             (comes_one EndsAtUnsat (steps_of found.mid.proof) (steps_of core.proof) _ found.shown.adds.history (λ u. absurd (true≢false (sym u ∙ found.ended.says.0.search.stands.fits.consistent))));
-        took = (_, adds_more seen found.ended.steps _ s.core.proof found.mid.proof core.proof found.ended.adds found.shown.adds);
+        took = (_, gains_adds seen _ s.core.proof core.proof (gains_more seen found.ended.steps _ s.core.proof found.mid.proof core.proof found.ended.adds found.shown.adds));
         same = refl;
         users = found.ended.asked.users;
         config = found.shown.config ∙ found.ended.config;
@@ -216,6 +217,12 @@ module _ {W L : Type 0} {G : Ghosts L} (seen : W → Writer) (s : Solver W L G) 
           asked = asked_shown m core.search.parts.assignment.current s.assumed.items s.asked.order.items images
               (subst (λ ls. (k : ℕ) → k < length ls → IsTrueLit core.search.parts.assignment.current (get_or ls k 0)) lits complete.assumed)
 
+          does : Does s.names m (steps_in s) (steps_of core.proof) (λ j. j) (λ j. told_as states.Unknown states.Sat (line_of m core) s.assumed.items told.failed_core.items)
+          does = does_both s.names m m (steps_in s) (steps_of found.mid.proof) (steps_of core.proof) (λ j. j) (λ j. j) (λ j. []) (λ j. told_as states.Unknown states.Sat (line_of m core) s.assumed.items told.failed_core.items)
+              found.ended.does
+              (subst (λ c. Does m m (steps_of found.mid.proof) (steps_of core.proof) (λ j. j) (λ j. Shows (names_of (map named_literal (line_by c))) (map named_literal s.assumed.items) (map named_literal (line_by c)) ∷ [])) (sym found.shown.search)
+              (does_shown seen m found.mid mid core found.shown s.assumed.items (subst (λ c. AllByRecursion (λ l. Among l (line_by c)) s.assumed.items) found.shown.search asked)))
+
       -- where assumptions were found that can't be true together
       pub settled_core : Counts s (new states.UnsatUnderAssumptions) → FoundCore seen (clock.steps - s.clock.steps) s.names m s.core core told.failed_core.items → Settled seen s (new states.UnsatUnderAssumptions)
       settled_core counts found = record {
@@ -227,17 +234,17 @@ module _ {W L : Type 0} {G : Ghosts L} (seen : W → Writer) (s : Solver W L G) 
           positive = positive;
           scaled = scaled core (found.failed.config ∙ found.ended.config);
           decays = subst AreDecays (sym (found.failed.config ∙ found.ended.config)) whole.decays;
+          taking = found.failed.adds.taking ∙ found.ended.adds.taking ∙ whole.taking;
+          judged = judged_by does whole.judged;
           says = (
             record { joined = found.failed.joined; lits = ap (λ ls. ls.items) moved.lits ∙ goes.lits },
             failed_is found.mid mid lits found.failed,
           );
         };
-        does = unknown_told states.UnsatUnderAssumptions (does_both s.names m m (steps_in s) (steps_of found.mid.proof) (steps_of core.proof) (λ j. j) (λ j. j) (λ j. []) (λ j. told_as states.Unknown states.UnsatUnderAssumptions (line_of m core) s.assumed.items told.failed_core.items)
-            found.ended.does
-            (does_failed seen m found.mid mid core told.failed_core.items found.failed s.assumed.items s.asked.order.items images lits));
+        does = unknown_told states.UnsatUnderAssumptions does;
         comes = comes_both EndsAtUnsat (steps_in s) (steps_of found.mid.proof) (steps_of core.proof) found.ended.comes
             (comes_one EndsAtUnsat (steps_of found.mid.proof) (steps_of core.proof) _ (found.failed.adds.history ∙ ap (λ ss. ss ++ steps_of found.mid.proof) found.failed.told.is) (λ u. absurd (true≢false (sym u ∙ found.ended.says.0.search.stands.fits.consistent))));
-        took = (_, adds_more seen found.ended.steps found.failed.steps s.core.proof found.mid.proof core.proof found.ended.adds found.failed.adds);
+        took = (_, gains_adds seen _ s.core.proof core.proof (gains_more seen found.ended.steps found.failed.steps s.core.proof found.mid.proof core.proof found.ended.adds found.failed.adds));
         same = refl;
         users = found.ended.asked.users;
         config = found.failed.config ∙ found.ended.config;
@@ -261,6 +268,10 @@ module _ {W L : Type 0} {G : Ghosts L} (seen : W → Writer) (s : Solver W L G) 
 
           lits : found.mid.search.assumptions.lits.items ≡ s.asked.order.items
           lits = ap (λ ls. ls.items) found.ended.says.0.moved.lits ∙ goes.lits
+
+          does : Does s.names m (steps_in s) (steps_of core.proof) (λ j. j) (λ j. told_as states.Unknown states.UnsatUnderAssumptions (line_of m core) s.assumed.items told.failed_core.items)
+          does = does_both s.names m m (steps_in s) (steps_of found.mid.proof) (steps_of core.proof) (λ j. j) (λ j. j) (λ j. []) (λ j. told_as states.Unknown states.UnsatUnderAssumptions (line_of m core) s.assumed.items told.failed_core.items)
+              found.ended.does (does_failed seen m found.mid mid core told.failed_core.items found.failed s.assumed.items s.asked.order.items images lits)
 
           failed_is : (mid : Core W L G) → IsJoined m mid → mid.search.assumptions.lits.items ≡ s.asked.order.items → Failed seen m mid core told.failed_core.items → HasCore core s.assumed.items told.failed_core.items
           failed_is mid joined lits f =
@@ -288,11 +299,13 @@ module _ {W L : Type 0} {G : Ghosts L} (seen : W → Writer) (s : Solver W L G) 
           positive = positive;
           scaled = scaled core ended.config;
           decays = subst AreDecays (sym ended.config) whole.decays;
+          taking = ended.adds.taking ∙ whole.taking;
+          judged = judged_by ended.does whole.judged;
           says = ended.says;
         };
         does = unknown_told states.Unsat ended.does;
         comes = ended.comes;
-        took = (ended.steps, ended.adds);
+        took = (ended.steps, gains_adds seen ended.steps s.core.proof core.proof ended.adds);
         same = refl;
         users = ended.asked.users;
         config = ended.config;
@@ -302,8 +315,8 @@ module _ {W L : Type 0} {G : Ghosts L} (seen : W → Writer) (s : Solver W L G) 
       }
 
 -- the same over a proof with the same steps
-pub whole_over : {W L : Type 0} {G : Ghosts L} (c : Core W L G) (n : Variables) (asked : Taken) (assumed core : List ℕ) (scale : ℕ) (state : State) (p : Proof W L G) → IsWholeOf c n asked assumed core scale state → steps_of p ≡ steps_of c.proof → IsWholeOf (record c { proof = p }) n asked assumed core scale state
-whole_over {W} {L} {G} c n asked assumed core scale state p whole e = record {
+pub whole_over : {W L : Type 0} {G : Ghosts L} (c : Core W L G) (n : Variables) (asked : Taken) (assumed core : List ℕ) (scale : ℕ) (state : State) (p : Proof W L G) → IsWholeOf c n asked assumed core scale state → steps_of p ≡ steps_of c.proof → is_lost p ≡ is_lost c.proof → IsWholeOf (record c { proof = p }) n asked assumed core scale state
+whole_over {W} {L} {G} c n asked assumed core scale state p whole e taking = record {
   stands = subst (Stands n) (sym e) whole.stands;
   images = whole.images;
   spelt = whole.spelt;
@@ -311,6 +324,8 @@ whole_over {W} {L} {G} c n asked assumed core scale state p whole e = record {
   positive = whole.positive;
   scaled = whole.scaled;
   decays = whole.decays;
+  taking = taking ∙ whole.taking;
+  judged = subst (HasJudge n) (sym e) whole.judged;
   says = says state whole.says;
 }
   where
@@ -348,19 +363,22 @@ whole_over {W} {L} {G} c n asked assumed core scale state p whole e = record {
     says states.Unsat h = subst (λ ss. (session_after ss).unsat ≡ true) (sym e) h
 
 module _ {W L : Type 0} {G : Ghosts L} (seen : W → Writer) (old mid : Solver W L G) (settled : Settled seen old mid) (p : Proof W L G) where
+  flush_adds : Flushes seen mid.core.proof p → Adds seen [] mid.core.proof p
+  flush_adds f = gains_adds seen [] mid.core.proof p (flush_records seen (Ok tt) mid.core.proof p f)
+
   -- the answer was flushed
   pub settled_flushed : Flushes seen mid.core.proof p → Settled seen old (record mid { core = record mid.core { proof = p } })
   settled_flushed f = record {
-    whole = whole_over mid.core mid.names mid.asked mid.assumed.items mid.told.failed_core.items mid.clock.restarts.scale mid.state p settled.whole f.history;
+    whole = whole_over mid.core mid.names mid.asked mid.assumed.items mid.told.failed_core.items mid.clock.restarts.scale mid.state p settled.whole f.history f.taking;
     does = subst (λ ss. Does old.names mid.names (steps_in old) ss (λ j. j) (λ j. told_by old.state mid)) (sym f.history) settled.does;
     comes = subst (Comes EndsAtUnsat (steps_in old)) (sym f.history) settled.comes;
-    took = (_, adds_more seen settled.took.0 [] old.core.proof mid.core.proof p settled.took.1 (flush_records seen (Ok tt) mid.core.proof p f));
+    took = (_, adds_more seen settled.took.0 [] old.core.proof mid.core.proof p settled.took.1 (flush_adds f));
     same = ap (λ (m : Solver W L G). record m { core = record mid.core { proof = p } }) settled.same;
     users = settled.users;
     config = settled.config;
     counts = record { on = settled.counts.on; round = settled.counts.round; spent = settled.counts.spent; answered = settled.counts.answered };
     times = record { steps = settled.times.steps; behind = f.history ∙ settled.times.behind; times = settled.times.times };
-    known = λ k. let h = settled.known k in (adds_more seen [] [] old.core.proof mid.core.proof p h.0 (flush_records seen (Ok tt) mid.core.proof p f), ap (λ (m : Solver W L G). record m { core = record m.core { proof = p } }) h.1);
+    known = λ k. let h = settled.known k in (adds_more seen [] [] old.core.proof mid.core.proof p h.0 (flush_adds f), ap (λ (m : Solver W L G). record m { core = record m.core { proof = p } }) h.1);
   }
 
   -- and where the target failed at it

@@ -1,5 +1,5 @@
 -- A solver before the first call.
-use Rattle.std.proofs.Common.{ℕ, ◌<◌, ◌≡◌, ◌∙◌, true, not, cond, Option, None, Some, List, [], ◌∷◌, length, map, refl, sym, ap, subst, arith}
+use Rattle.std.proofs.Common.{ℕ, ◌<◌, ◌≡◌, ◌∙◌, true, false, not, cond, Option, None, Some, List, [], ◌∷◌, length, map, refl, sym, ap, subst, arith}
 use Rattle.std.proofs.lemmas.Bool.{true≢false}
 use Rattle.std.proofs.lemmas.List.{get_or_past}
 use Rattle.std.proofs.lemmas.Option.{none-some}
@@ -8,7 +8,7 @@ use Rattle.sat_checker.specs.Stored.{unknown}
 use Rattle.sat_store.specs.declared.data.VarData.{VarData}
 use Rattle.sat_store.specs.variables.VarData.{unused_variable}
 use Rattle.sat_checker.specs.declared.processing.ProofProcessor.{Ghosts}
-use Rattle.sat_solver.specs.session.ProofView.{steps_of}
+use Rattle.sat_solver.specs.session.ProofView.{is_lost, steps_of}
 use Rattle.sat_solver.specs.session.Session.{nothing, MayAll, session_after}
 use Rattle.sat_solver.specs.declared.names.Variables.{Variables}
 use Rattle.sat_solver.specs.declared.names.taking.Taken.{Taken}
@@ -17,7 +17,7 @@ use Rattle.sat_solver.specs.search.Bumping.{AreDecays}
 use Rattle.sat_solver.specs.search.Joint.{IsSearch}
 use Rattle.sat_solver.specs.names.Variables.{AreTidy, AreSaid, says_unit, mode_in, user_of, data_at, global_of, solver_of, names_used, variables_used}
 use Rattle.sat_solver.specs.names.Live.{given_of}
-use Rattle.sat_solver.specs.names.Calls.{Stands, Agree}
+use Rattle.sat_solver.specs.names.Calls.{Stands, Agree, HasJudge}
 use Rattle.sat_checker.specs.matching.ProofChecking.{the_checking}
 use Rattle.sat_checker.proofs.lemmas.matching.Bridge.{begun}
 use Rattle.sat_solver.specs.solver.Joined.{IsJoined}
@@ -93,8 +93,8 @@ module _ (n : Variables) (tidy : AreTidy n) (none : variables_used n ≡ 0) wher
 
   -- a solver without steps is whole
   pub whole_first : {W L : Type 0} {G : Ghosts L} (c : Core W L G) (asked : Taken) (assumed core : List ℕ) (scale : ℕ) → steps_of c.proof ≡ [] → IsSearch nothing c.search → c.search.parts.assignment.current ≡ [] → c.search.globals.items ≡ [] →
-      0 < c.config.reduce_locals_interval → 0 < c.config.reduce_mids_interval → asked.order.items ≡ [] → asked.globals.items ≡ [] → assumed ≡ [] → 0 < scale → scale ≡ c.config.luby_restart_interval_scale → AreDecays c.config → IsWholeOf c n asked assumed core scale states.Unknown
-  whole_first c asked assumed core scale steps search values globals locals mids order asked_globals none_assumed positive scaled decays = record {
+      0 < c.config.reduce_locals_interval → 0 < c.config.reduce_mids_interval → asked.order.items ≡ [] → asked.globals.items ≡ [] → assumed ≡ [] → 0 < scale → scale ≡ c.config.luby_restart_interval_scale → AreDecays c.config → is_lost c.proof ≡ false → IsWholeOf c n asked assumed core scale states.Unknown
+  whole_first c asked assumed core scale steps search values globals locals mids order asked_globals none_assumed positive scaled decays taking = record {
     stands = stands;
     images = record { count = ap (λ xs. length xs) order ∙ sym (ap (λ xs. length xs) none_assumed); each = λ k lt. absurd (let z : k < 0 = subst (λ (xs : List ℕ). k < length xs) none_assumed lt in omega arith) };
     spelt = record { count = ap (λ xs. length xs) asked_globals ∙ sym (ap (λ xs. length xs) none_assumed); each = λ k lt. absurd (let z : k < 0 = subst (λ (xs : List ℕ). k < length xs) none_assumed lt in omega arith) };
@@ -102,6 +102,8 @@ module _ (n : Variables) (tidy : AreTidy n) (none : variables_used n ≡ 0) wher
     positive = positive;
     scaled = scaled;
     decays = decays;
+    taking = taking;
+    judged = subst (HasJudge n) (sym steps) (start, [], agree_first);
     says = record {
       joined = joined_first c steps search values globals locals mids;
       lits = none_mapped _ c.search.assumptions.lits.items search.ready.asked ∙ sym order;

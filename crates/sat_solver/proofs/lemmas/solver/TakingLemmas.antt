@@ -12,11 +12,11 @@ use Rattle.sat_checker.specs.declared.processing.ProofProcessor.{Ghosts}
 use Rattle.sat_solver.specs.declared.session.made.CheckFault.TheVariants as checks
 use Rattle.sat_solver.specs.session.ProofView.{Keeps, steps_of, session_of}
 use Rattle.sat_solver.specs.session.Session.{Session, MayAll, session_after}
-use Rattle.sat_solver.specs.session.Making.{Took}
+use Rattle.sat_solver.specs.session.Making.{Took, Gained}
 use Rattle.sat_solver.specs.names.Taking.{NotTaken}
 use Rattle.sat_solver.specs.declared.session.proof.Proof.{Proof}
-use Rattle.sat_solver.proofs.lemmas.session.ProofLemmas.{adds_none, adds_more, fails_later, check_later}
-use Rattle.sat_solver.proofs.lemmas.search.GoingLemmas.{went_checked, fault_checked}
+use Rattle.sat_solver.proofs.lemmas.session.ProofLemmas.{gains_none, gains_adds, gains_more}
+use Rattle.sat_solver.proofs.lemmas.search.GoingLemmas.{went_behind, went_checked, went_failing, fault_checked}
 use Rattle.sat_solver.specs.declared.error.SolverError.{SolverError}
 use Rattle.sat_solver.specs.declared.error.SolverError.TheVariants as errors
 use Rattle.sat_solver.specs.declared.names.error.NameError.{NameError}
@@ -26,7 +26,7 @@ use Rattle.sat_solver.specs.loading.Faults.{told_as}
 use Rattle.sat_solver.specs.declared.search.solving.Core.{Core}
 use Rattle.sat_solver.specs.declared.search.work.Search.{Search}
 use Rattle.sat_solver.specs.parts.Full.{IsFull}
-use Rattle.sat_solver.specs.search.Going.{IsFault, IsFaultOr, GoesOr, Went}
+use Rattle.sat_solver.specs.search.Going.{IsFault, IsFaultOr, GoesOr}
 use Rattle.sat_solver.specs.search.Joint.{global_in, IsSearch}
 use Rattle.sat_solver.proofs.lemmas.search.AskedLemmas.{asked_after, kinds_of}
 use Rattle.sat_solver.specs.names.Adding.{named_literal, Image}
@@ -64,8 +64,8 @@ use Rattle.sat_solver.proofs.lemmas.solver.TellingLemmas.{shares_moved}
 -- FAULTS
 
 -- nothing was made
-pub none_took : {W L : Type 0} {G : Ghosts L} (seen : W → Writer) (p : Proof W L G) → Took seen p p
-none_took seen p = ([], adds_none seen p)
+pub none_took : {W L : Type 0} {G : Ghosts L} (seen : W → Writer) (p : Proof W L G) → Gained seen p p
+none_took seen p = ([], gains_none seen p)
 
 -- a failure of a call over names, as a solver tells it
 pub told_fails : (e : NameError) → IsFailure e → IsFault (told_as e)
@@ -88,38 +88,28 @@ fault_ends seen (Err e) p q P goes = goes.ends
 
 module _ {W L : Type 0} {G : Ghosts L} (seen : W → Writer) (a b : Core W L G) where
   -- a call over names failed
-  pub names_broke : {full : Type 0} (e : NameError) → CameTo (Took seen) (NotTaken seen) a.proof e b.proof → BreaksNamesOr full seen (told_as e) a b
+  pub names_broke : {full : Type 0} (e : NameError) → CameTo (Gained seen) (NotTaken seen) a.proof e b.proof → BreaksNamesOr full seen (told_as e) a b
   names_broke names.WitnessVariable h = absurd h
   names_broke names.AssumedVariable h = absurd h
-  names_broke names.VariableLimit h = record { fault = inr refl; steps = h.0; went = h.1 }
-  names_broke names.OutOfMemory h = record { fault = inl tt; steps = h.0; went = h.1 }
+  names_broke names.VariableLimit h = record { fault = inr refl; steps = h.0; went = gains_adds seen h.0 a.proof b.proof h.1 }
+  names_broke names.OutOfMemory h = record { fault = inl tt; steps = h.0; went = gains_adds seen h.0 a.proof b.proof h.1 }
   names_broke (names.Write cause) h = record { fault = inl tt; steps = h.0; went = h.1 }
   names_broke (names.Check fault) h = record { fault = inl (fault_checked _ fault); steps = h.0; went = went_checked seen (Unit {0}) fault h.0 a.proof b.proof h.1 }
 
   -- no memory was left behind it
-  pub names_starved : {full : Type 0} → Took seen a.proof b.proof → BreaksNamesOr full seen errors.OutOfMemory a b
-  names_starved h = record { fault = inl tt; steps = h.0; went = h.1 }
+  pub took_starved : {full : Type 0} → Took seen a.proof b.proof → BreaksNamesOr full seen errors.OutOfMemory a b
+  took_starved h = record { fault = inl tt; steps = h.0; went = h.1 }
+
+  pub names_starved : {full : Type 0} → Gained seen a.proof b.proof → BreaksNamesOr full seen errors.OutOfMemory a b
+  names_starved h = took_starved (h.0, gains_adds seen h.0 a.proof b.proof h.1)
 
   -- a search failed behind it
-  pub load_broke : {A full : Type 0} (e : SolverError) (p : Proof W L G) (P : A → List Step → Type 0) → Took seen a.proof p → GoesOr {A = A} full seen (Err e) p b.proof P → BreaksNamesOr full seen e a b
-  load_broke {A} {full} e p P h goes = record { fault = inl goes.ends; steps = _; went = later e goes.went goes.ends }
-    where
-      later : (e : SolverError) → Went {A = A} seen (Err e) goes.steps p b.proof → IsFaultOr full e → Went {A = Unit {0}} seen (Err e) (goes.steps ++ h.0) a.proof b.proof
-      later errors.OutOfMemory w f = adds_more seen h.0 goes.steps a.proof p b.proof h.1 w
-      later errors.StoreFull w f = adds_more seen h.0 goes.steps a.proof p b.proof h.1 w
-      later (errors.ProofIoError cause) w f = fails_later seen h.0 goes.steps a.proof p b.proof h.1 w
-      later errors.Interrupted w f = absurd f
-      later (errors.ProofProcessorError cause) w f = check_later seen h.0 goes.steps a.proof p b.proof h.1 w
-      later errors.WitnessVariable w f = absurd f
-      later errors.AssumedVariable w f = absurd f
-      later errors.TooLate w f = absurd f
-      later errors.NotInDrat w f = absurd f
-      later errors.VariableLimit w f = absurd f
-      later errors.CounterEnd w f = check_later seen h.0 goes.steps a.proof p b.proof h.1 w
-      later errors.HasFailed w f = absurd f
-      later errors.Read w f = absurd f
-      later errors.Malformed w f = absurd f
-      later errors.OutOfRange w f = absurd f
+  pub load_broke : {A full : Type 0} (e : SolverError) (p : Proof W L G) (P : A → List Step → Type 0) → Gained seen a.proof p → GoesOr {A = A} full seen (Err e) p b.proof P → BreaksNamesOr full seen e a b
+  load_broke {A} {full} e p P h goes = record {
+    fault = inl goes.ends;
+    steps = _;
+    went = went_behind seen (Unit {0}) e h.0 goes.steps a.proof p b.proof (gains_adds seen h.0 a.proof p h.1) (went_failing seen A (Unit {0}) e goes.steps p b.proof goes.went);
+  }
 
 -- names that keep variables and indices keep their literals of the search
 keep_images : (n n' : Variables) (s : Session) (gs : _) → Extends n n' → Gives n n' s gs → KeepImages n n'
@@ -131,7 +121,7 @@ keep_images n n' s gs extends gives user order i = record {
 
 -- A CLAUSE
 
-module _ {W L : Type 0} {G : Ghosts L} (seen : W → Writer) (n n' : Variables) (a : Core W L G) (joined : IsJoined n a) (user : List ℕ) (t : Taken) (both : Bool) (p : Proof W L G) (adds : AddsClause n n' (steps_of a.proof) (steps_of p) user t both) (took : Took seen a.proof p) (keeps : Keeps p) where
+module _ {W L : Type 0} {G : Ghosts L} (seen : W → Writer) (n n' : Variables) (a : Core W L G) (joined : IsJoined n a) (user : List ℕ) (t : Taken) (both : Bool) (p : Proof W L G) (adds : AddsClause n n' (steps_of a.proof) (steps_of p) user t both) (took : Gained seen a.proof p) (keeps : Keeps p) where
   abbrev pub between : Session
   between = session_after adds.between
 
@@ -210,7 +200,7 @@ module _ {W L : Type 0} {G : Ghosts L} (seen : W → Writer) (n n' : Variables) 
       clause_loaded = record {
         does = does2;
         comes = comes_both (MayAdd (names_in user)) (steps_of a.proof) (steps_of p) (steps_of q) (comes_added (names_in user) (steps_of a.proof) (steps_of p) adds.comes) (comes_deleted (names_in user) (steps_of p) (steps_of q) deletes);
-        took = (_, adds_more seen took.0 goes.steps a.proof p q took.1 goes.went);
+        took = (_, gains_more seen took.0 goes.steps a.proof p q took.1 goes.went);
         goes_on = goes_on2 left goes.ends;
         names = λ u v e. (adds.extends.stays u v e).0;
         images = keep_images n n' (session_of a.proof) t.given.items adds.extends adds.gives;
@@ -226,7 +216,7 @@ module _ {W L : Type 0} {G : Ghosts L} (seen : W → Writer) (n n' : Variables) 
 
 -- ASSUMPTIONS
 
-module _ {W L : Type 0} {G : Ghosts L} (seen : W → Writer) (n n' : Variables) (a : Core W L G) (joined : IsJoined n a) (user : List ℕ) (t : Taken) (p : Proof W L G) (assumes : Assumes n n' (steps_of a.proof) (steps_of p) user t) (took : Took seen a.proof p) (keeps : Keeps p) where
+module _ {W L : Type 0} {G : Ghosts L} (seen : W → Writer) (n n' : Variables) (a : Core W L G) (joined : IsJoined n a) (user : List ℕ) (t : Taken) (p : Proof W L G) (assumes : Assumes n n' (steps_of a.proof) (steps_of p) user t) (took : Gained seen a.proof p) (keeps : Keeps p) where
   abbrev pub asked_between : Session
   asked_between = session_after assumes.between
 

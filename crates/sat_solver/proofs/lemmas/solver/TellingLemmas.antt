@@ -7,12 +7,12 @@ use Rattle.sat_base.specs.values.Literals.{variable}
 use Rattle.sat_base.specs.steps.Steps.{Step, Model, FailedAssumptions}
 use Rattle.sat_checker.specs.LiteralSets.{is_among}
 use Rattle.sat_checker.specs.declared.processing.ProofProcessor.{Ghosts}
-use Rattle.sat_solver.specs.session.ProofView.{Adds, Keeps, Records, steps_of, session_of}
+use Rattle.sat_solver.specs.session.ProofView.{Gains, Keeps, Records, steps_of, session_of}
 use Rattle.sat_solver.specs.session.Session.{Session, MayAll, after, session_after}
 use Rattle.sat_solver.specs.declared.session.proof.Proof.{Proof}
 use Rattle.sat_solver.specs.declared.session.proof.ProofError.{ProofError}
 use Rattle.sat_solver.specs.declared.session.proof.ProofError.TheVariants.{Write, OutOfMemory, Check}
-use Rattle.sat_solver.proofs.lemmas.session.ProofLemmas.{adds_none}
+use Rattle.sat_solver.proofs.lemmas.session.ProofLemmas.{adds_none, gains_adds}
 use Rattle.sat_solver.proofs.lemmas.search.GoingLemmas.{went_checked, fault_checked, fault_or}
 use Rattle.sat_solver.specs.joint.Listed.{Rests}
 use Rattle.sat_solver.proofs.lemmas.joint.AnswerParts.{parts_rests}
@@ -71,9 +71,9 @@ module _ {W L : Type 0} {G : Ghosts L} (seen : W → Writer) (n : Variables) (a 
     told = record a { proof = proof }
 
     -- the step of a model was taken
-    pub model_shown : (ls : List ℕ) → ls ≡ model_of n a → Adds seen (Model ls ∷ []) a.proof proof → Keeps proof → Shown seen n a told
+    pub model_shown : (ls : List ℕ) → ls ≡ model_of n a → Gains seen (Model ls ∷ []) a.proof proof → Keeps proof → Shown seen n a told
     model_shown ls e adds keeps =
-        let adds_model : Adds seen (Model (model_of n a) ∷ []) a.proof proof = subst (λ xs. Adds seen (Model xs ∷ []) a.proof proof) e adds in
+        let adds_model : Gains seen (Model (model_of n a) ∷ []) a.proof proof = subst (λ xs. Gains seen (Model xs ∷ []) a.proof proof) e adds in
         let may : MayAll (Model (model_of n a) ∷ steps_of a.proof) = subst MayAll adds_model.history keeps in
         record {
           adds = adds_model;
@@ -99,7 +99,7 @@ module _ {W L : Type 0} {G : Ghosts L} (seen : W → Writer) (n : Variables) (a 
   -- the target failed at a step
   pub broken : (e : ProofError) (step : Step) (proof : Proof W L G) → Records {T = Unit {0}} seen (Err e) (step ∷ []) a.proof proof → Breaks seen (fault_of e) a (record a { proof = proof })
   broken (Write cause) step proof fails = record { fault = tt; steps = step ∷ []; went = fails }
-  broken OutOfMemory step proof adds = record { fault = tt; steps = []; went = adds }
+  broken OutOfMemory step proof gains = record { fault = tt; steps = []; went = gains_adds seen [] a.proof proof gains }
   broken (Check fault) step proof fails = record { fault = fault_checked _ fault; steps = step ∷ []; went = went_checked seen (Unit {0}) fault (step ∷ []) a.proof proof fails }
 
   module _ (proof : Proof W L G) (c' : Search) where

@@ -1,6 +1,6 @@
 use Rattle.std.proofs.Common.{[], ◌∷◌, refl}
 use Rattle.sat_solver.proofs.lemmas.solver.TakingLemmas.{none_took, names_broke, told_fails}
-use Rattle.sat_solver.proofs.lemmas.solver.RenamedLemmas.{marked_asked, not_marked, others_kept, whole_renamed, renamed, mode_ends}
+use Rattle.sat_solver.proofs.lemmas.solver.RenamedLemmas.{marked_asked, not_marked, others_kept, renamed, mode_ends}
 use Rattle.sat_solver.proofs.lemmas.names.RoomLemmas.{said_room, said_none}
 use Rattle.sat_solver.proofs.solver.Solver.hide_var.Goals as goal
 
@@ -9,13 +9,6 @@ returns-then-is_assumed-clause-hides g c = record {
   same = refl;
   cause = (c.if-self.false, marked_asked c.args.self.now (c.requires c.if-self.false) c.args.user (c.is_assumed.ensures.assumed c.if-is_assumed.true));
 }
-
-pub returns-in-Ok-clause-solver : goal.returns-in-Ok-clause-solver
-returns-in-Ok-clause-solver g c = λ e.
-    let s = c.args.self.now in
-    let whole = c.requires c.if-self.false in
-    whole_renamed s whole c.hide_var.new.variables c.hide_var.new.writer c.in-Ok.ensures.does.stands
-    (others_kept s whole c.hide_var.new.variables c.args.user (not_marked s whole c.args.user (c.is_assumed.ensures.free c.if-is_assumed.false)) c.in-Ok.ensures.others) c.in-Ok.ensures.alike
 
 pub returns-in-Ok-clause-hides : goal.returns-in-Ok-clause-hides
 returns-in-Ok-clause-hides g c =
@@ -27,6 +20,9 @@ returns-in-Ok-clause-hides g c =
           c.in-Ok.ensures.alike (c.in-Ok.ensures.came s.core.proof (none_took g.W.CountedWrite.seen s.core.proof)),
       said_room s.names (c.args.user ∷ []) c.has_room_for.result c.has_room_for.ensures c.if-not-has_room_for.false,
     )
+
+pub returns-in-Ok-clause-solver : goal.returns-in-Ok-clause-solver
+returns-in-Ok-clause-solver g c = λ e. (returns-in-Ok-clause-hides g c).1.did.whole
 
 pub returns-in-Err-clause-hides : goal.returns-in-Err-clause-hides
 returns-in-Err-clause-hides g c =

@@ -6,16 +6,8 @@ use Rattle.sat_solver.proofs.lemmas.solver.TakingLemmas.{none_took, names_broke}
 use Rattle.sat_solver.specs.names.Failing.{IsFull, Limits}
 use Rattle.sat_solver.specs.solver.Whole.{IsSolver, steps_in}
 use Rattle.sat_solver.specs.session.ProofView.{steps_of}
-use Rattle.sat_solver.proofs.lemmas.solver.RenamedLemmas.{next_name, whole_renamed, renamed, new_fails, one_left, fault_left, told_limit, same_solver}
+use Rattle.sat_solver.proofs.lemmas.solver.RenamedLemmas.{next_name, renamed, new_fails, one_left, fault_left, told_limit, same_solver}
 use Rattle.sat_solver.proofs.solver.Solver.new_var.Goals as goal
-
-pub returns-in-Ok-clause-solver : goal.returns-in-Ok-clause-solver
-returns-in-Ok-clause-solver g c = λ e.
-    let s = c.args.self.now in
-    let n = c.new_user_var.new.variables in
-    let p = c.new_user_var.new.writer in
-    let b = c.in-Ok.ensures.brought in
-    whole_renamed s (c.requires c.if-self.false) n p b.brings.stands (λ l v h x. (b.extends.stays (variable l) v x).0) (alike_unseen s.names n (steps_in s) (steps_of p) b.unseen)
 
 pub returns-in-Ok-clause-names : goal.returns-in-Ok-clause-names
 returns-in-Ok-clause-names g c =
@@ -28,6 +20,9 @@ returns-in-Ok-clause-names g c =
       renamed g.W.CountedWrite.seen s whole c.if-self.false n p _ _ _ b.comes b.brings (are_fresh s.names n b.extends) (λ u v d e. ap (λ f. f (coded v d)) b.unseen.search.units) (λ l v h x. (b.extends.stays (variable l) v x).0) (alike_unseen s.names n (steps_in s) (steps_of p) b.unseen)
           (c.in-Ok.ensures.came s.core.proof (none_took g.W.CountedWrite.seen s.core.proof)),
     )
+
+pub returns-in-Ok-clause-solver : goal.returns-in-Ok-clause-solver
+returns-in-Ok-clause-solver g c = λ e. (returns-in-Ok-clause-names g c).1.did.whole
 
 pub returns-then-is_limit-clause-solver : goal.returns-then-is_limit-clause-solver
 returns-then-is_limit-clause-solver g c =

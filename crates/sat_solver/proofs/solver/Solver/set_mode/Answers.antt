@@ -4,7 +4,7 @@ use Rattle.sat_solver.proofs.lemmas.names.Giving.{alike_unseen}
 use Rattle.sat_solver.proofs.lemmas.solver.TakingLemmas.{none_took, names_broke, told_fails}
 use Rattle.sat_solver.specs.solver.Whole.{steps_in}
 use Rattle.sat_solver.specs.session.ProofView.{steps_of}
-use Rattle.sat_solver.proofs.lemmas.solver.RenamedLemmas.{marked_asked, not_marked, others_kept, whole_renamed, renamed, mode_ends}
+use Rattle.sat_solver.proofs.lemmas.solver.RenamedLemmas.{marked_asked, not_marked, others_kept, renamed, mode_ends}
 use Rattle.sat_solver.proofs.lemmas.names.RoomLemmas.{said_room, said_none}
 use Rattle.sat_solver.proofs.solver.Solver.set_mode.Goals as goal
 
@@ -13,16 +13,6 @@ returns-then-is_assumed-clause-sets g c = record {
   same = refl;
   cause = (c.if-self.false, marked_asked c.args.self.now (c.requires c.if-self.false) c.args.user (c.is_assumed.ensures.assumed c.if-is_assumed.true));
 }
-
-pub returns-in-Ok-clause-solver : goal.returns-in-Ok-clause-solver
-returns-in-Ok-clause-solver g c = λ e.
-    let s = c.args.self.now in
-    let whole = c.requires c.if-self.false in
-    let n = c.set_sampling_mode.new.variables in
-    let p = c.set_sampling_mode.new.writer in
-    whole_renamed s whole n p c.in-Ok.ensures.does.stands
-    (others_kept s whole n c.args.user (not_marked s whole c.args.user (c.is_assumed.ensures.free c.if-is_assumed.false)) c.in-Ok.ensures.others)
-    (alike_unseen s.names n (steps_in s) (steps_of p) c.in-Ok.ensures.unseen)
 
 pub returns-in-Ok-clause-sets : goal.returns-in-Ok-clause-sets
 returns-in-Ok-clause-sets g c =
@@ -36,6 +26,9 @@ returns-in-Ok-clause-sets g c =
           (alike_unseen s.names n (steps_in s) (steps_of p) c.in-Ok.ensures.unseen) (c.in-Ok.ensures.came s.core.proof (none_took g.W.CountedWrite.seen s.core.proof)),
       said_room s.names (c.args.user ∷ []) c.has_room_for.result c.has_room_for.ensures c.if-not-has_room_for.false,
     )
+
+pub returns-in-Ok-clause-solver : goal.returns-in-Ok-clause-solver
+returns-in-Ok-clause-solver g c = λ e. (returns-in-Ok-clause-sets g c).1.did.whole
 
 pub returns-in-Err-clause-sets : goal.returns-in-Err-clause-sets
 returns-in-Err-clause-sets g c =

@@ -12,3 +12,8 @@ pub returns-in-UnsatUnderAssumptions-clause-solves : goal.returns-in-UnsatUnderA
 returns-in-UnsatUnderAssumptions-clause-solves g c =
     let e = c.in_default.ensures in
     (answered g.W.CountedWrite.seen c.args.self.now c.settle_and_flush.new.self e.settles c.if-self.false e.flushed e.told e.asked, subst (λ st. is_answer st false) (sym c.in-UnsatUnderAssumptions.is) refl)
+
+pub returns-in-Unknown-clause-solves : goal.returns-in-Unknown-clause-solves
+returns-in-Unknown-clause-solves g c =
+    let e = c.in_default.ensures in
+    (answered g.W.CountedWrite.seen c.args.self.now c.settle_and_flush.new.self e.settles c.if-self.false e.flushed e.told e.asked, c.in-Unknown.is)

@@ -11,7 +11,7 @@ returns-clause-whole g c =
     c.new.ensures.steps c.no_search.ensures.search c.no_search.ensures.values c.no_search.ensures.globals
     (subst (λ (k : SolverConfig). 0 < k.reduce_locals_interval) e (omega arith)) (subst (λ (k : SolverConfig). 0 < k.reduce_mids_interval) e (omega arith))
     c.new-6.ensures.order c.new-6.ensures.globals c.new-7.ensures.items (subst (λ (k : SolverConfig). 0 < k.luby_restart_interval_scale) e (omega arith)) refl
-    (subst AreDecays e (omega arith, omega arith, omega arith, omega arith))
+    (subst AreDecays e (omega arith, omega arith, omega arith, omega arith)) c.new.ensures.taking
 
 pub returns-clause-agree : goal.returns-clause-agree
 returns-clause-agree g c = agree_first c.new-2.result c.new-2.ensures.tidy c.new-2.ensures.none
