@@ -41,7 +41,7 @@ def main():
         rows = [line.split() for line in file if line.strip()]
     print("| Formula | run | confirm | MiniSat |\n|---|---|---|---|")
     for name, answer, t, m, c, ct, cm, mt, mm, mc in rows:
-        told = lambda seconds, memory, conflicts: "stopped after 300 s" if seconds == "-" else f"{seconds} s, {memory} MB" + (f", {int(conflicts):,}" if conflicts != "-" else "")
+        told = lambda seconds, memory, conflicts: "stopped" if seconds == "-" else f"{seconds} s, {memory} MB" + (f", {int(conflicts):,}" if conflicts != "-" else "")
         print(f"| {name}, {answer.lower()} | {told(t, m, c)} | {told(ct, cm, '-')} | {told(mt, mm, mc)} |")
     timed = [(r[0], r[1], float(r[7]), float(r[2])) for r in rows if "-" not in (r[2], r[7])]
     confirmed = [(r[0], r[1], float(r[2]), float(r[5])) for r in rows if "-" not in (r[2], r[5])]
