@@ -68,8 +68,9 @@ pub fn run<S: CountedRead, A: CountedWrite, C: CountedWrite>(
     // The answers' writer took the answers to the text that was given, whatever would follow, and each of them is right.
     ensures answered { IfOk result (λ s. Answered budget s (gave S.seen script.old script.new) (took A.seen answers.old answers.new)) }
     // The certificate's writer took the steps of the accepted commands and of these answers, each accepted in its turn. Once it has
-    // recorded that the clauses are unsatisfiable, an ask is answered so without a round of search; an unknown ask has derived a clause
-    // that advances by each round. Where no command hides a name, no variable is deleted.
+    // recorded that the clauses are unsatisfiable, an ask is answered so without a round of search; each round of another ask has derived
+    // a clause that advances, but for the one that answered, and no other clause of it does. Where no command hides a name, no variable
+    // is deleted.
     ensures backed { Backed result budget S.seen A.seen C.seen (script.old, answers.old, certificate.old) (script.new, answers.new, certificate.new) }
     ensures flushed { OnOk result (((A.seen answers.new).flushed ≡ true) × ((C.seen certificate.new).flushed ≡ true)) }
     // Where it isn't finished, the answers' writer took a front of right answers to the text that was given, whatever would follow.

@@ -1,5 +1,5 @@
 -- An ask, from its names to its end.
-use Rattle.std.proofs.Common.{ℕ, append_assoc, ◌+◌, ◌≤◌, ◌≡◌, inl, inr, true, List, [], ◌∷◌, ◌++◌, length, map, Option, Some, None, sym, ◌∙◌, ap, subst, zero, suc, arith, get_or}
+use Rattle.std.proofs.Common.{ℕ, append_assoc, ◌+◌, ◌≤◌, ◌≡◌, inl, inr, true, List, [], ◌∷◌, ◌++◌, map, Option, Some, None, sym, ◌∙◌, ap, subst, zero, suc, arith}
 use Rattle.sat_base.specs.values.Literals.{largest}
 use Rattle.sat_base.specs.script.Script.{Literal, Command, Ask, Ending, names_of}
 use Rattle.sat_base.specs.script.Judge.{Judge, accepted, accepted_of, refusal_of}

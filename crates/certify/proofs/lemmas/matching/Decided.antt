@@ -1,7 +1,7 @@
 -- What is said of three texts, by how the confirmation of them ended.
 use Rattle.std.proofs.Common.{ℕ, ◌+◌, ◌-◌, ◌^◌, ◌<◌, ◌≤◌, ◌≡◌, ◌↔◌, ◌⊎◌, inl, inr, min, true, false, List, [], ◌++◌, length, Result, Ok, Err, refl, subst, arith}
 use Rattle.std.specs.Prelude.{IfOk}
-use Rattle.sat_base.specs.device.Device.{Reader, GaveEnough, ReadFails, most_reads}
+use Rattle.sat_base.specs.device.Device.{Reader, GaveEnough, most_reads}
 use Rattle.sat_base.specs.device.Reading.{Source, AtEnd, unread}
 use Rattle.sat_base.specs.script.Judge.{start}
 use Rattle.sat_base.specs.steps.Steps.{Step}
