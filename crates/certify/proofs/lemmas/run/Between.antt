@@ -207,8 +207,10 @@ timed (one_made {d = d} {made = m} {written = w} step kw p) (s ∷ steps) opened
       mid = q.mid;
       whole = ap (λ (v : List Step). narrowed now step ∷ v) place;
       cuts = q.cuts;
-      times = inl (asides_never q.before f q.middle k (told_aside d.bits now) q.times,
-          subst (λ (v : List Step). IsAdvancing (ready_after v) (narrowed now step) → ⊥) place (never_as (f ++ w) (session_after m) (here step p).same now step never));
+      times = inl (
+        asides_never q.before f q.middle k (told_aside d.bits now) q.times,
+        subst (λ (v : List Step). IsAdvancing (ready_after v) (narrowed now step) → ⊥) place (never_as (f ++ w) (session_after m) (here step p).same now step never),
+      );
       unordered = λ u. unordered_more now d.bits step s first q.middle u.0 (q.unordered u.1);
     }
 timed (one_made {d = d} {made = m} {written = w} step kw p) (s ∷ steps) opened k e (inr (j, n, a, t)) =
@@ -225,8 +227,11 @@ timed (one_made {d = d} {made = m} {written = w} step kw p) (s ∷ steps) opened
       mid = q.mid;
       whole = ap (λ (v : List Step). narrowed now step ∷ v) place;
       cuts = q.cuts;
-      times = inr (j, n,
-          subst (λ (v : List Step). IsAdvancing (ready_after v) (narrowed now step)) place (advancing_as (f ++ w) (session_after m) (here step p).same now step there),
-          asides_never q.before f q.middle j (told_aside d.bits now) q.times);
+      times = inr (
+        j,
+        n,
+        subst (λ (v : List Step). IsAdvancing (ready_after v) (narrowed now step)) place (advancing_as (f ++ w) (session_after m) (here step p).same now step there),
+        asides_never q.before f q.middle j (told_aside d.bits now) q.times,
+      );
       unordered = λ u. unordered_more now d.bits step s first q.middle u.0 (q.unordered u.1);
     }

@@ -435,7 +435,7 @@ module _ {c d : Counting} {whole steps : List Step} (p : Cuts c whole steps d) (
   whole_is : steps ≡ cut.front ++ (Assumptions [] ∷ (middle_is ++ (Assumptions m.ask ∷ before_is)))
   whole_is =
       let inner : closed_head.told ++ closed_head.back ≡ middle_is ++ (Assumptions m.ask ∷ before_is) =
-          ap (λ (v : List Step). closed_head.told ++ v) (between.whole ∙ ap (λ (v : List Step). between.middle ++ v) opened_head.whole) ∙ sym (append_assoc closed_head.told between.middle (Assumptions m.ask ∷ before_is)) in
+      ap (λ (v : List Step). closed_head.told ++ v) (between.whole ∙ ap (λ (v : List Step). between.middle ++ v) opened_head.whole) ∙ sym (append_assoc closed_head.told between.middle (Assumptions m.ask ∷ before_is)) in
       cut.whole ∙ ap (λ (v : List Step). cut.front ++ v) (closed_head.whole ∙ ap (λ (v : List Step). Assumptions [] ∷ v) inner)
 
   opened_same : assumed_times between.before ≡ assumed_times from + 1
