@@ -1,5 +1,5 @@
 -- Hidden variables that get names.
-use Rattle.std.specs.Prelude.{ℕ, ◌+◌, ◌≤◌, ◌==◌, ◌≡◌, max, set, false, Option, Some, None, List, [], ◌∷◌, if◌then◌else◌}
+use Rattle.std.specs.Prelude.{ℕ, ◌+◌, ◌≤◌, ◌==◌, ◌≡◌, max, set, false, Some, None, List, [], ◌∷◌, if◌then◌else◌}
 use Rattle.sat_base.specs.script.Judge.{Judge, Witnessed, placed}
 use Rattle.sat_base.specs.steps.Steps.{Step, UserVarName, ChangeSamplingMode}
 use Rattle.sat_solver.specs.names.Calls.{Stands, Agree}

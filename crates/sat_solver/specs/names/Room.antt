@@ -1,5 +1,5 @@
 -- Whether a variable is left for each name that comes in.
-use Rattle.std.specs.Prelude.{ℕ, ◌+◌, ◌-◌, ◌<◌, ◌≤◌, ◌==◌, ◌≡◌, max, not, ◌&&◌, Bool, true, false, is_some, List, [], ◌∷◌, drop, map}
+use Rattle.std.specs.Prelude.{ℕ, ◌+◌, ◌-◌, ◌≤◌, ◌==◌, max, not, ◌&&◌, Bool, true, false, is_some, List, [], ◌∷◌, drop, map}
 use Rattle.std.specs.List.{list_any}
 use Rattle.sat_base.specs.values.Literals.{largest, variable}
 use Rattle.sat_solver.specs.names.Counting.{count_to}

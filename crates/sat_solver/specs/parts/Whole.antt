@@ -1,9 +1,8 @@
 -- What holds of the struct of parts.
-use Rattle.std.specs.Prelude.{ℕ, ◌≡◌, ◌<◌, None, Bool, List, length, slice_index_or as get_or}
+use Rattle.std.specs.Prelude.{ℕ, ◌≡◌, ◌<◌, None, List, length, slice_index_or as get_or}
 use Rattle.std.specs.List.{Contains}
 use Rattle.sat_parts.specs.clause.Stored.{lit_of, size_of}
 use Rattle.sat_parts.specs.prop.Binaries.{implied_by}
-use Rattle.sat_parts.specs.prop.Implied.{IsModelOf}
 use Rattle.sat_store.specs.heap.Vsids.{Queue}
 use Rattle.sat_parts.specs.prop.State.{State}
 use Rattle.sat_parts.specs.prop.Ready.{state_of}

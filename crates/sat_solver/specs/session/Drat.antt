@@ -1,5 +1,5 @@
 -- DRAT derivations: the lines that steps give, over the clauses of the formula. A clause is taken as the sorted set of its literals; sets are counted. Lists of steps have the newest first.
-use Rattle.std.specs.Prelude.{ℕ, ◌<◌, ◌≡◌, true, false, List, [], ◌∷◌, map, if◌then◌else◌}
+use Rattle.std.specs.Prelude.{ℕ, ◌<◌, ◌≡◌, true, List, [], ◌∷◌, map, if◌then◌else◌}
 use Rattle.std.specs.List.{AllByRecursion}
 use Rattle.sat_base.specs.values.Literals.{negated}
 use Rattle.sat_base.specs.steps.Steps.{Step, AddClause}

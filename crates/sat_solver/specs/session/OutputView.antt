@@ -10,7 +10,6 @@ use Rattle.sat_base.specs.steps.StepWriting.{steps_sink}
 use Rattle.sat_solver.specs.session.DratText.{drat_text}
 use Rattle.sat_solver.specs.declared.session.format.ProofFormat.{ProofFormat}
 use Rattle.sat_solver.specs.declared.session.format.ProofFormat.TheVariants.{Varisat, Drat, BinaryDrat}
-use Rattle.sat_solver.specs.declared.session.output.LineWriter.{LineWriter}
 use Rattle.sat_solver.specs.declared.session.output.Output.{Output}
 use Rattle.sat_solver.specs.declared.session.output.Output.TheVariants.{Steps, Lines}
 use Rattle.sat_solver.specs.declared.session.proof.ProofError.{ProofError}

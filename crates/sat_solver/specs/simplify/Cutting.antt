@@ -1,5 +1,5 @@
 -- A long clause loses its false literals.
-use Rattle.std.specs.Prelude.{ℕ, ◌≡◌, ◌<◌, ◌≤◌, List, [], ◌∷◌, map, take, length}
+use Rattle.std.specs.Prelude.{ℕ, ◌≡◌, ◌<◌, ◌≤◌, List, [], ◌∷◌, map, take}
 use Rattle.sat_base.specs.values.Hashes.{hash_of}
 use Rattle.sat_store.specs.clause.Buffer.{lits_at}
 use Rattle.sat_parts.specs.clause.Stored.{lit_of, size_of}

@@ -1,6 +1,6 @@
 -- The same facts in the words in which code meets them.
 use Rattle.std.proofs.Common.{ℕ, ◌≡◌, ◌+◌, ◌<◌, ◌≤◌, inl, inr, Bool, true, false, List, length, get_or, refl, sym, ap, ◌∙◌, subst, arith}
-use Rattle.std.proofs.lemmas.Bool.{cases_eq, cases_Bool, both_ways}
+use Rattle.std.proofs.lemmas.Bool.{cases_eq}
 use Rattle.std.proofs.lemmas.Bool.Decides.{nat_tests}
 use Rattle.std.specs.List.{swap}
 use Rattle.std.proofs.lemmas.List.Edits.{swap_is}
@@ -9,7 +9,6 @@ use Rattle.sat_store.specs.clause.Buffer.{IsClause, lits_at, swapped}
 use Rattle.sat_parts.specs.declared.prop.graph.ImplNode.{ImplNode}
 use Rattle.sat_parts.specs.declared.prop.graph.Reason.{Reason}
 use Rattle.sat_parts.specs.declared.prop.graph.Reason.TheVariants.{Long}
-use Rattle.sat_parts.specs.clause.Glue.{AreClear}
 use Rattle.sat_parts.specs.clause.Orders.{Shuffled}
 use Rattle.sat_parts.specs.prop.Values.{IsTrueLit}
 use Rattle.sat_parts.specs.prop.Graphs.{node_of}
@@ -19,7 +18,6 @@ use Rattle.sat_parts.proofs.lemmas.prop.RoomLemmas.{below_from_value}
 use Rattle.sat_parts.proofs.lemmas.clause.OrderLemmas.{other, swapped_at, shuffled_swapped, shuffled_refl, shuffled_trans}
 use Rattle.sat_solver.specs.analysis.Work.{Work}
 use Rattle.sat_solver.specs.analysis.Marks.{causes_at, CanAnalyze, IsReasoned, MarksWork}
-use Rattle.sat_solver.specs.analysis.Derivation.{FlagsAmong, PutsSecond}
 use Rattle.sat_solver.proofs.lemmas.analysis.InTurn.{above_first}
 use Rattle.sat_solver.proofs.lemmas.analysis.Meeting.{OpenPlace, open_some, variable_below}
 use Rattle.sat_solver.proofs.lemmas.analysis.Resolution.{IsLastFlagged}

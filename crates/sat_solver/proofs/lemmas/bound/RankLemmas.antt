@@ -1,5 +1,5 @@
 -- Ranks of words.
-use Rattle.std.proofs.Common.{◌≡◌, ℕ, zero, suc, ◌+◌, ◌*◌, ◌^◌, ◌<◌, ◌≤◌, List, [], ◌∷◌, ◌++◌, length, arith, ap}
+use Rattle.std.proofs.Common.{◌≡◌, ℕ, zero, suc, ◌+◌, ◌*◌, ◌^◌, ◌<◌, ◌≤◌, List, [], ◌∷◌, ◌++◌, length, arith}
 use Rattle.sat_parts.specs.prop.TrailWord.{Letter, D, P, IsBelow}
 use Rattle.sat_solver.specs.bound.Ranks.{rank}
 

@@ -1,6 +1,6 @@
 -- Steps that change neither clauses nor units: names, modes, assumptions and answers.
 use Rattle.std.proofs.Common.{ℕ, ◌<◌, length, get_or, ◌≡◌, Bool, true, List, map, refl, ◌∙◌, ap, subst, Some, None}
-use Rattle.sat_base.specs.steps.Steps.{Step, UserVarName, ChangeSamplingMode, ChangeHashBits, Model, Assumptions, FailedAssumptions, End}
+use Rattle.sat_base.specs.steps.Steps.{Step, UserVarName, ChangeSamplingMode, Model, Assumptions, FailedAssumptions, End}
 use Rattle.std.specs.List.{Contains}
 use Rattle.sat_checker.specs.LiteralSets.{is_among, is_part}
 use Rattle.sat_checker.proofs.lemmas.sets.Canonical.{among_from_contains}

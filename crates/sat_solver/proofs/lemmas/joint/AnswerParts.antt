@@ -1,7 +1,7 @@
 -- The struct of parts, as names, modes, assumptions and answers are written.
 use Rattle.std.proofs.Common.{ℕ, ◌<◌, ◌≡◌, true, List, [], ◌∷◌, ◌++◌, map, length, get_or}
 use Rattle.sat_base.specs.values.Hashes.{hash_of}
-use Rattle.sat_base.specs.steps.Steps.{Step, ChangeHashBits, FailedAssumptions}
+use Rattle.sat_base.specs.steps.Steps.{Step, FailedAssumptions}
 use Rattle.sat_checker.specs.LiteralSets.{is_among, is_part}
 use Rattle.sat_checker.specs.Propagation.{UnitInTurn}
 use Rattle.sat_parts.specs.clause.Db.{live_refs}

@@ -3,7 +3,7 @@ use Rattle.std.proofs.Common.{ℕ, zero, suc, ◌<◌, ◌≡◌, ◌≢◌, Boo
 use Rattle.std.proofs.lemmas.Bool.{cases_order}
 use Rattle.std.specs.List.{Contains}
 use Rattle.sat_base.specs.values.Literals.{negated}
-use Rattle.sat_store.specs.clause.Buffer.{header_at, lits_at}
+use Rattle.sat_store.specs.clause.Buffer.{lits_at}
 use Rattle.sat_store.specs.clause.Header.{Header, is_learned}
 use Rattle.sat_parts.specs.clause.Db.{Db, HoldsDb, AreRising, is_live, live_refs, without, AddsClause, DeletesClause}
 use Rattle.sat_parts.specs.clause.Orders.{AreDistinct, Shuffled}

@@ -20,12 +20,10 @@ use Rattle.sat_solver.specs.acceptance.SolverClauses.{longs, solver_clauses}
 use Rattle.sat_solver.specs.declared.parts.Parts.{Parts}
 use Rattle.sat_solver.specs.parts.Round.{IsUnused}
 use Rattle.sat_solver.specs.parts.Whole.{state, Holds}
-use Rattle.sat_solver.specs.parts.Frame.{Carries, SameState, Headed, Dropped, Shortened, Swapped, Copied, Removed, Grown, Freed, Stores, stores_binary, stores_long, IsUnitLit}
-use Rattle.sat_solver.proofs.lemmas.parts.FrameLemmas.{carries_refl}
+use Rattle.sat_solver.specs.parts.Frame.{Carries, SameState, Headed, Dropped, Shortened, Copied, Removed, Grown, Freed, Stores, stores_binary, stores_long, IsUnitLit}
 use Rattle.sat_solver.specs.joint.Fits.{ArePaired, is_redundant, FitsParts}
 use Rattle.sat_solver.specs.joint.Listed.{LeftParts, ArePlain}
 use Rattle.sat_solver.proofs.lemmas.joint.FitLemmas.{longs_same, fits_carried, two_of}
-use Rattle.sat_solver.proofs.lemmas.joint.StepLemmas.{fits_propagated}
 use Rattle.sat_solver.proofs.lemmas.joint.MovedLemmas.{fits_longs, longs_copied}
 use Rattle.sat_solver.proofs.lemmas.joint.NamedLemmas.{LosesName, listed_unnamed, unused_in}
 use Rattle.sat_solver.proofs.lemmas.joint.GrownLemmas.{binaries_grown, paired_grown}

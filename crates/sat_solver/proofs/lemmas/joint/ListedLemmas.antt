@@ -15,7 +15,6 @@ use Rattle.sat_solver.proofs.lemmas.session.Mapped.{once_mapped, among_mapped}
 use Rattle.sat_solver.proofs.lemmas.session.Represented.{comes_in, goes, still_of}
 use Rattle.sat_solver.proofs.lemmas.session.StepsOfClauses.{length_sorted, length_mapped}
 use Rattle.sat_solver.specs.acceptance.SolverClauses.{solver_clauses, Inserted}
-use Rattle.sat_solver.specs.parts.Frame.{Carries}
 use Rattle.sat_solver.specs.joint.Fits.{ArePaired, is_redundant, Fits}
 use Rattle.sat_solver.specs.joint.Listed.{FitsList, SameFacts}
 use Rattle.sat_solver.proofs.lemmas.joint.SetLemmas.{set_shuffled, taut_shuffled, clause_of_set}

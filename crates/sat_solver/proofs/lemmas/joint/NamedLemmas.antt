@@ -1,18 +1,15 @@
 -- Solver variables get proof variables, and lose them.
-use Rattle.std.proofs.Common.{ℕ, suc, ◌+◌, ◌*◌, ◌%◌, ◌<◌, ◌≤◌, ◌≡◌, ◌≢◌, Bool, true, false, cond, eqb, List, [], ◌∷◌, length, get_or, refl, sym, ◌∙◌, ap, subst, arith, ◌⊎◌, inl, inr, Option, Some, None}
-use Rattle.std.proofs.lemmas.Bool.{cases_eq, cases_lt, eq-eqb, ne_eqb, or_from, true≢false}
-use Rattle.std.proofs.lemmas.List.{get_or_past}
-use Rattle.sat_base.specs.values.Literals.{variable, negated, is_positive}
+use Rattle.std.proofs.Common.{ℕ, suc, ◌<◌, ◌≡◌, ◌≢◌, Bool, false, cond, eqb, List, [], ◌∷◌, length, get_or, refl, sym, ◌∙◌, ap, arith, inl, inr, Option, Some, None}
+use Rattle.std.proofs.lemmas.Bool.{cases_eq, eq-eqb, ne_eqb, or_from}
+use Rattle.sat_base.specs.values.Literals.{variable, negated}
 use Rattle.sat_base.specs.steps.Steps.{SolverVarName}
 use Rattle.sat_store.specs.clause.Buffer.{lits_at}
 use Rattle.sat_checker.specs.LiteralSets.{mentions}
-use Rattle.sat_parts.specs.clause.Stored.{AreClauses, lit_of}
 use Rattle.sat_parts.specs.prop.Binaries.{implied_by}
-use Rattle.sat_parts.specs.prop.Values.{value_of, IsTrueLit}
-use Rattle.sat_parts.specs.prop.State.{State, level, Agrees}
-use Rattle.sat_parts.specs.prop.Ready.{AreLists}
+use Rattle.sat_parts.specs.prop.Values.{IsTrueLit}
+use Rattle.sat_parts.specs.prop.State.{State, level}
 use Rattle.sat_solver.specs.session.Session.{Session, with_solver_name, after}
-use Rattle.sat_solver.specs.session.LiveClauses.{LiveClause, IsIn, with_var}
+use Rattle.sat_solver.specs.session.LiveClauses.{LiveClause, IsIn}
 use Rattle.sat_solver.proofs.lemmas.session.Represented.{loses_name, still_of}
 use Rattle.sat_solver.specs.acceptance.SolverClauses.{binaries, longs, solver_clauses}
 use Rattle.sat_solver.specs.parts.Round.{IsUnused}
@@ -20,7 +17,6 @@ use Rattle.sat_solver.specs.parts.Frame.{IsUnitLit}
 use Rattle.sat_solver.specs.joint.Listed.{FitsList}
 use Rattle.sat_solver.proofs.lemmas.joint.FitLemmas.{long_of, in_either, IsLongOf}
 use Rattle.sat_solver.proofs.lemmas.joint.ModelLemmas.{pair_of, IsPairOf}
-use Rattle.sat_solver.proofs.lemmas.joint.AddedLemmas.{unit_true}
 
 -- CLAUSES THAT DON'T HAVE A VARIABLE
 

@@ -4,7 +4,7 @@ use Rattle.std.proofs.lemmas.Bool.{cases_eq}
 use Rattle.std.proofs.lemmas.List.{get_or-set_other}
 use Rattle.std.specs.List.{AllByRecursion}
 use Rattle.sat_base.specs.values.Literals.{coded, variable, is_positive}
-use Rattle.sat_store.specs.heap.Vsids.{may_pick, with_available}
+use Rattle.sat_store.specs.heap.Vsids.{may_pick}
 use Rattle.sat_parts.specs.prop.Values.{value_of, IsTrueLit, made_true}
 use Rattle.sat_parts.specs.prop.State.{level}
 use Rattle.sat_parts.proofs.lemmas.prop.StateLemmas.{lit_from_parts}

@@ -1,7 +1,7 @@
 -- What a call over names took is what a search loads.
 use Rattle.std.proofs.Common.{ℕ, zero, suc, ◌≡◌, ◌<◌, ◌∙◌, true, false, List, [], ◌∷◌, length, get_or, refl, sym, ap, subst, arith, Bool, cond, eqb, inl, inr, Some}
 use Rattle.std.proofs.lemmas.Bool.{true≢false, or_cases, or_left, or_right, eq-eqb, eqb-true}
-use Rattle.sat_base.specs.values.Literals.{variable, is_positive, coded}
+use Rattle.sat_base.specs.values.Literals.{variable, is_positive}
 use Rattle.sat_base.specs.steps.Steps.{Step, AddClause}
 use Rattle.sat_checker.specs.LiteralSets.{is_among, is_tautology, canonical}
 use Rattle.sat_checker.specs.SortedSets.{NoRepeats}
@@ -11,12 +11,10 @@ use Rattle.sat_parts.specs.clause.Orders.{AreDistinct}
 use Rattle.sat_solver.specs.session.Session.{Session, session_after, after, with_clause, knowing_literals}
 use Rattle.sat_solver.proofs.lemmas.joint.FitLemmas.{among_at, all_at}
 use Rattle.sat_solver.specs.names.Adding.{MapsClause, Images, Image}
-use Rattle.sat_solver.specs.names.Search.{KeepsSearch}
 use Rattle.sat_solver.specs.declared.names.Variables.{Variables}
 use Rattle.sat_solver.specs.declared.names.taking.Taken.{Taken}
 use Rattle.sat_solver.specs.declared.search.work.Search.{Search}
 use Rattle.sat_solver.specs.search.Joint.{IsSearch}
-use Rattle.sat_solver.specs.loading.Alike.{LooksAlike}
 use Rattle.sat_solver.specs.loading.Loaded.{MayLoad, IsAdded}
 use Rattle.std.specs.List.{AllByRecursion}
 use Rattle.sat_solver.specs.names.Variables.{AreTidy, solver_of, global_at}

@@ -8,7 +8,7 @@ use Rattle.sat_base.specs.steps.Steps.{Step, SolverVarName, UserVarName, DeleteV
 use Rattle.sat_checker.specs.LiteralSets.{mentions}
 use Rattle.sat_solver.specs.session.Coming.{Comes, DeletesAdded}
 use Rattle.sat_solver.specs.session.Session.{session_after}
-use Rattle.sat_checker.specs.matching.Checking.{is_ordered, variable_of}
+use Rattle.sat_checker.specs.matching.Checking.{variable_of}
 use Rattle.sat_solver.specs.names.Coming.{ForgetsIdle, IsDue, IsNextSolver, LeavesNoneIdle, MayTake, MayAdd, MayHide, TurnsMode, MaySet}
 use Rattle.sat_solver.specs.names.Naming.{Extends}
 use Rattle.sat_solver.specs.names.Refusing.{IsAssumed, names_in}

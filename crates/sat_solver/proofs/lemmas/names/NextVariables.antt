@@ -2,16 +2,14 @@
 use Rattle.std.proofs.Common.{ℕ, ◌<◌, ◌≤◌, ◌≡◌, Bool, true, false, not, ◌&&◌, cond, ltb, lt-ltb, Some, None, refl, sym, ◌∙◌, ap, arith}
 use Rattle.std.proofs.lemmas.Bool.{ltb-true, true≢false}
 use Rattle.std.proofs.lemmas.List.{get_or_past}
-use Rattle.sat_base.specs.steps.Steps.{Step}
-use Rattle.sat_store.specs.declared.data.VarData.{VarData}
 use Rattle.sat_store.specs.variables.VarData.{unused_variable}
 use Rattle.sat_store.specs.variables.Maps.{target}
 use Rattle.sat_checker.specs.Stored.{Variable, unknown}
-use Rattle.sat_solver.specs.session.Session.{Session, session_after}
+use Rattle.sat_solver.specs.session.Session.{Session}
 use Rattle.sat_solver.specs.names.Coming.{IsNextVariable, IsNextSolver}
 use Rattle.sat_solver.specs.names.Free.{is_free, IsLowest}
 use Rattle.sat_solver.specs.names.Naming.{IsRoom, IsNextIndex}
-use Rattle.sat_solver.specs.names.Variables.{AreTidy, AreSaid, data_at, user_of, global_at, names_used, variables_used, variable_at, mode_in}
+use Rattle.sat_solver.specs.names.Variables.{AreTidy, AreSaid, data_at, user_of, global_at, names_used, variables_used, mode_in}
 use Rattle.sat_solver.specs.declared.names.Variables.{Variables}
 use Rattle.sat_solver.proofs.lemmas.names.NewName.{none_or}
 

@@ -3,8 +3,6 @@ use Rattle.std.proofs.Common.{ℕ, zero, suc, set, append_assoc, ◌+◌, ◌<�
 use Rattle.std.proofs.lemmas.Bool.{eqb-true, eqb-false, eq-eqb, ne_eqb, cases_lt, ltb-true, true≢false}
 use Rattle.std.proofs.lemmas.List.{append-nil, get_or-set_same, get_or-set_other}
 use Rattle.std.proofs.Math.ListN.{length-set}
-use Rattle.std.specs.List.{AllByRecursion}
-use Rattle.sat_base.specs.values.Literals.{largest}
 use Rattle.sat_base.specs.script.Script.{Among}
 use Rattle.sat_base.proofs.lemmas.script.JudgeStates.{placed_order}
 use Rattle.sat_base.specs.script.Judge.{Judge, Named, Sampled, Witnessed, identity_in, identity_of}
@@ -27,7 +25,7 @@ use Rattle.sat_solver.specs.names.Calls.{Stands, Agree}
 use Rattle.sat_solver.specs.names.Naming.{IsNextUser, NamesFull, NoneLeft, PutsObserved, KeepsNames}
 use Rattle.sat_solver.specs.names.Observing.{observed, Observes, all_named, one_more, IsHidden, NamesHidden, NamesAllHidden}
 use Rattle.sat_solver.specs.names.Search.{KeepsSearch, IsUnseen}
-use Rattle.sat_solver.specs.names.Variables.{data_at, global_of, user_of, solver_of, global_at, names_used, variables_used, indices_used, AreTidy, mode_in, variable_at, AreSaid, IsModeOf, AreJudged, says_unit}
+use Rattle.sat_solver.specs.names.Variables.{data_at, global_of, user_of, names_used, variables_used, AreTidy, mode_in, variable_at, AreSaid, IsModeOf, AreJudged, says_unit}
 use Rattle.sat_solver.specs.declared.names.Variables.{Variables}
 use Rattle.sat_checker.proofs.lemmas.matching.Bridge.{nothing_new}
 use Rattle.sat_checker.proofs.lemmas.matching.CheckerIsSound.{the_checking_sound}
@@ -35,7 +33,7 @@ use Rattle.sat_solver.proofs.lemmas.names.Counts.{links_even, count_full, count_
 use Rattle.sat_solver.proofs.lemmas.names.Giving.{unseen_same, unseen_both}
 use Rattle.sat_base.proofs.lemmas.script.LiteralValues.{placed_found}
 use Rattle.sat_solver.proofs.lemmas.names.JudgeLemmas.{same_below, given_has, next_same}
-use Rattle.sat_solver.proofs.lemmas.names.ModeChanges.{live_within, known_at}
+use Rattle.sat_solver.proofs.lemmas.names.ModeChanges.{live_within}
 use Rattle.sat_solver.proofs.lemmas.names.NamedAgain.{named_again}
 use Rattle.sat_solver.proofs.lemmas.names.NewName.{and_false, nameless, none_or, shape}
 use Rattle.sat_solver.proofs.lemmas.names.NextUnused.{lowest_unused}

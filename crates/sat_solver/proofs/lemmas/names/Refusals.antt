@@ -1,7 +1,6 @@
 -- Names of mode witness.
-use Rattle.std.proofs.Common.{ℕ, ◌+◌, ◌<◌, ◌≡◌, ◌≢◌, Bool, true, false, not, cond, List, ◌∷◌, get_or, Option, Some, None, is_some, refl, sym, ◌∙◌, ap, arith}
-use Rattle.std.proofs.lemmas.Bool.{le-ltb, true≢false}
-use Rattle.sat_base.specs.values.Literals.{largest, variable}
+use Rattle.std.proofs.Common.{ℕ, ◌+◌, ◌≡◌, ◌≢◌, false, not, List, get_or, Option, Some, None, is_some, refl, sym, ◌∙◌, ap}
+use Rattle.std.proofs.lemmas.Bool.{true≢false}
 use Rattle.sat_base.specs.script.Judge.{Judge, Sampled, Witnessed, Refusal, PastLimit, WitnessName, identity_of, is_witness, has_witness, refused_literal}
 use Rattle.sat_base.specs.script.Judge as judged
 use Rattle.sat_store.specs.declared.data.SamplingMode.{SamplingMode}
@@ -9,8 +8,8 @@ use Rattle.sat_store.specs.declared.data.SamplingMode.TheVariants as kept
 use Rattle.sat_checker.specs.matching.Bridge.{Live}
 use Rattle.sat_solver.specs.names.Live.{given, given_of}
 use Rattle.sat_solver.specs.names.Variables.{data_at, global_of, AreTidy, IsModeOf, AreJudged, is_witness_kept}
-use Rattle.sat_solver.specs.names.Refusing.{names_in, as_refusal, IsAssumed}
-use Rattle.sat_solver.specs.names.Adding.{IsSampled, NoWitness}
+use Rattle.sat_solver.specs.names.Refusing.{names_in, IsAssumed}
+use Rattle.sat_solver.specs.names.Adding.{IsSampled}
 use Rattle.sat_solver.specs.declared.names.Variables.{Variables}
 use Rattle.sat_solver.proofs.lemmas.names.NewName.{none_or}
 

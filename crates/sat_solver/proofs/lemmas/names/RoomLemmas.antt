@@ -1,5 +1,5 @@
 -- Names that come in take a variable each.
-use Rattle.std.proofs.Common.{ℕ, zero, suc, ◌+◌, ◌-◌, ◌<◌, ◌≤◌, ◌≡◌, ◌≢◌, max, Bool, true, false, not, ◌&&◌, ◌||◌, cond, eqb, ltb, lt-ltb, set, List, [], ◌∷◌, drop, take, map, length, length-drop, get_or, Option, None, Some, is_some, Result, Ok, Err, IfErr, refl, sym, ◌∙◌, ap, subst, arith, inl, inr}
+use Rattle.std.proofs.Common.{ℕ, zero, suc, ◌+◌, ◌-◌, ◌<◌, ◌≤◌, ◌≡◌, ◌≢◌, max, Bool, true, false, not, ◌&&◌, ◌||◌, cond, eqb, ltb, lt-ltb, List, [], ◌∷◌, drop, take, length, length-drop, get_or, None, Some, is_some, Result, Ok, Err, IfErr, refl, sym, ◌∙◌, ap, subst, arith, inl, inr}
 use Rattle.std.specs.Prelude.{IsErrAnd}
 use Rattle.std.proofs.lemmas.Bool.{eq-eqb, ne_eqb, le-ltb, cases_eq, cases_lt, ltb-true, true≢false}
 use Rattle.std.proofs.lemmas.List.{get_or_past, drop_more, take_all, length-map}

@@ -3,7 +3,7 @@ use Rattle.std.proofs.Common.{ℕ, zero, suc, ◌+◌, ◌-◌, ◌*◌, ◌/◌
 use Rattle.std.proofs.lemmas.Bool.{eqb-true, eqb-false, eq-eqb, ne_eqb, true≢false, or_left, or_right, cases_eq, cases_lt}
 use Rattle.std.proofs.lemmas.List.{get_or_past, get_or_append_left, get_or-append_right, take_all}
 use Rattle.sat_base.specs.values.Literals.{largest}
-use Rattle.sat_solver.specs.names.Free.{node_at, is_free, doubled, Powers, empty, power, IsTree, Refreshes, IsChild, IsLowest, CopiesLeaves, IsCounted}
+use Rattle.sat_solver.specs.names.Free.{node_at, is_free, doubled, Powers, empty, power, IsTree, IsChild, IsLowest, CopiesLeaves, IsCounted}
 use Rattle.sat_solver.specs.declared.names.free.FreeIndices.{FreeIndices}
 use Rattle.sat_solver.specs.names.Counting.{count_to}
 use Rattle.sat_solver.proofs.lemmas.names.Counts.{count_zero, count_same, count_reach, count_changed, count_some, count_le}

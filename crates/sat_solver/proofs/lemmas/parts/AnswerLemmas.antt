@@ -1,13 +1,11 @@
 -- What holds when a search ends.
-use Rattle.std.proofs.Common.{inl, inr, length, refl, sym, ap, ◌∙◌, arith}
+use Rattle.std.proofs.Common.{inl, inr, refl, sym, ap, ◌∙◌, arith}
 use Rattle.sat_base.specs.values.Literals.{variable}
-use Rattle.sat_parts.specs.declared.prop.graph.Conflict.{Conflict}
-use Rattle.sat_parts.specs.clause.Db.{live_refs}
 use Rattle.sat_parts.specs.clause.Stored.{lit_of}
 use Rattle.sat_parts.specs.prop.Values.{value_of}
 use Rattle.sat_parts.proofs.lemmas.prop.StateLemmas.{level_low}
 use Rattle.sat_solver.specs.declared.parts.Parts.{Parts}
-use Rattle.sat_solver.specs.parts.Whole.{state, Holds, HoldsBelow, IsDone, AllAssigned, IsModelled, IsRefuted}
+use Rattle.sat_solver.specs.parts.Whole.{state, Holds, IsDone, AllAssigned, IsModelled}
 use Rattle.sat_solver.proofs.lemmas.parts.ValueLemmas.{open_or_true}
 use Rattle.sat_solver.proofs.lemmas.parts.LevelLemmas.{model_found, complete_now}
 

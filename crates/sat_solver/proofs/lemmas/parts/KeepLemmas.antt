@@ -1,5 +1,5 @@
 -- What stays of the levels up to one, as steps are made.
-use Rattle.std.proofs.Common.{ℕ, ◌≡◌, ◌+◌, ◌<◌, ◌≤◌, List, [], ◌∷◌, ◌++◌, length, get_or, take, refl, sym, ap, ◌∙◌, subst, arith}
+use Rattle.std.proofs.Common.{ℕ, ◌≡◌, ◌+◌, ◌<◌, List, [], ◌∷◌, ◌++◌, length, get_or, take, refl, sym, ap, ◌∙◌, subst, arith}
 use Rattle.std.proofs.lemmas.List.{length_push, get_or_append_left, get_or-take, length-take-le}
 use Rattle.sat_base.specs.values.Literals.{variable}
 use Rattle.sat_parts.specs.declared.prop.graph.ImplNode.{ImplNode}
@@ -15,11 +15,7 @@ use Rattle.sat_parts.specs.prop.Backtracked.{KeepsLow}
 use Rattle.sat_parts.proofs.lemmas.prop.StateLemmas.{grows_enqueued}
 use Rattle.sat_parts.proofs.lemmas.prop.BacktrackLemmas.{keeps_low}
 use Rattle.sat_parts.proofs.lemmas.prop.RoomLemmas.{room_for}
-use Rattle.sat_store.specs.clause.Header.{Header}
-use Rattle.sat_solver.specs.declared.parts.Parts.{Parts}
-use Rattle.sat_solver.specs.parts.Whole.{state, Holds}
-use Rattle.sat_solver.specs.parts.Learned.{IsPending}
-use Rattle.sat_solver.specs.parts.Frame.{Carries, Clears, KeepsTo, Learnt, learnt_unit, learnt_binary, learnt_long}
+use Rattle.sat_solver.specs.parts.Frame.{KeepsTo}
 
 pub keeps_refl : (top : ℕ) (s : State) → KeepsTo top s s
 keeps_refl top s = record { low = λ l t b. (t, refl); begun = λ j b lt. (lt, refl) }

@@ -1,26 +1,16 @@
 -- Propagation was complete at each level, and what follows: models, and conflicts at level 0.
 use Rattle.std.proofs.Common.{ℕ, ◌≡◌, ◌≢◌, ◌+◌, ◌<◌, ◌≤◌, ◌⊎◌, inl, inr, suc, zero, List, length, get_or, refl, sym, ap, ◌∙◌, subst, arith, Bool, true, false, not, Option, Some}
-use Rattle.std.proofs.lemmas.Bool.{cases_eq, cases_lt}
-use Rattle.std.proofs.lemmas.Bool.Decides.{nat_tests}
+use Rattle.std.proofs.lemmas.Bool.{cases_eq}
 use Rattle.std.specs.List.{Contains}
 use Rattle.sat_base.specs.values.Literals.{variable, is_positive, negated}
-use Rattle.sat_base.specs.values.Clauses.{literal_true}
 use Rattle.sat_store.specs.clause.Buffer.{lits_at}
-use Rattle.sat_parts.specs.declared.prop.graph.Conflict.{Conflict}
-use Rattle.sat_parts.specs.declared.prop.graph.Conflict.TheVariants.{Binary, Long}
 use Rattle.sat_parts.specs.clause.Db.{live_refs}
 use Rattle.sat_parts.specs.clause.Stored.{lit_of, size_of}
-use Rattle.sat_parts.specs.prop.Binaries.{implied_by}
 use Rattle.sat_parts.specs.prop.Values.{value_of, IsTrueLit, IsFalseLit}
 use Rattle.sat_parts.specs.prop.WatchLists.{Watching}
-use Rattle.sat_parts.specs.prop.State.{State, level, current_level, lit_at, HasLeft, Agrees, IsSatisfied}
-use Rattle.sat_parts.specs.prop.Reasons.{AreInTurn}
-use Rattle.sat_parts.specs.prop.Implied.{IsModelOf}
-use Rattle.sat_parts.specs.prop.Ready.{IsConflict}
+use Rattle.sat_parts.specs.prop.State.{State, level, current_level, HasLeft, Agrees, IsSatisfied}
 use Rattle.sat_parts.specs.prop.Asks.{Asks, AsksAll}
-use Rattle.sat_parts.proofs.lemmas.clause.ListLemmas.{at_place}
 use Rattle.sat_parts.proofs.lemmas.prop.StateLemmas.{level_low, true_from_false}
-use Rattle.sat_parts.proofs.lemmas.prop.ImpliedLemmas.{assigned_is_implied}
 use Rattle.sat_solver.specs.parts.Levels.{IsTrueAt, IsCompleteAt}
 
 -- with nothing in the queue all that is true has left it

@@ -1,14 +1,13 @@
 -- Variables are marked.
-use Rattle.std.proofs.Common.{ℕ, ◌≡◌, ◌+◌, ◌<◌, ◌⊎◌, inl, inr, Bool, true, false, List, [], length, get_or, set, length-set, get_or-set_same, get_or-set_other, refl, sym, ap, ◌∙◌, subst, arith}
-use Rattle.std.proofs.lemmas.Bool.{cases_eq, cases_lt, cases_Bool, true≢false}
+use Rattle.std.proofs.Common.{ℕ, ◌≡◌, ◌+◌, ◌<◌, ◌⊎◌, inl, inr, Bool, true, false, List, [], length, get_or, sym, ap, ◌∙◌, subst, arith}
+use Rattle.std.proofs.lemmas.Bool.{cases_lt, cases_Bool, true≢false}
 use Rattle.std.proofs.lemmas.List.{get_or_past}
-use Rattle.sat_base.specs.values.Literals.{variable}
 use Rattle.sat_parts.specs.clause.Db.{live_refs, is_live}
 use Rattle.sat_parts.specs.clause.Stored.{size_of}
 use Rattle.sat_parts.specs.prop.Binaries.{implied_by}
 use Rattle.sat_parts.proofs.lemmas.clause.ListLemmas.{place_in, at_place}
 use Rattle.sat_solver.specs.parts.Round.{IsUnused}
-use Rattle.sat_solver.specs.parts.Using.{Marks, IsAmong, HasVar, InLong, InBinary}
+use Rattle.sat_solver.specs.parts.Using.{Marks, HasVar, InLong, InBinary}
 use Rattle.sat_solver.proofs.lemmas.parts.ReduceLemmas.{filter_in, in_filter}
 
 pub marks_more : (a b c : List Bool) (P Q R : ℕ → Type 0) → Marks a b P → Marks b c Q → ((v : ℕ) → P v → R v) → ((v : ℕ) → Q v → R v) → ((v : ℕ) → R v → P v ⊎ Q v) → Marks a c R

@@ -1,11 +1,10 @@
 -- Headers of clauses that took part in an analysis.
-use Rattle.std.proofs.Common.{ℕ, zero, suc, ◌+◌, ◌*◌, ◌<◌, ◌≤◌, ◌≡◌, ◌∙◌, Bool, true, false, cond, List, [], ◌∷◌, length, drop, get_or, refl, sym, ap, subst, arith, lt-ltb, le-ltb}
+use Rattle.std.proofs.Common.{ℕ, zero, suc, ◌+◌, ◌*◌, ◌<◌, ◌≤◌, ◌≡◌, ◌∙◌, Bool, true, cond, List, [], ◌∷◌, length, drop, get_or, refl, sym, ap, subst, arith, lt-ltb}
 use Rattle.std.proofs.lemmas.List.{drop_more}
 use Rattle.std.specs.List.{Contains}
-use Rattle.std.specs.Prelude.{◌&&◌, nat_le, nat_lt}
+use Rattle.std.specs.Prelude.{◌&&◌}
 use Rattle.sat_store.specs.clause.Buffer.{lits_at}
 use Rattle.sat_store.specs.clause.Header.{Header, is_learned}
-use Rattle.sat_store.specs.declared.clause.tier.Tier.TheVariants.{Core, Mid, Local}
 use Rattle.sat_parts.specs.clause.Activity.{Scale}
 use Rattle.sat_parts.specs.clause.Db.{live_refs, PutsHeader}
 use Rattle.sat_parts.specs.clause.Glue.{HaveNodes, HaveFlags}
@@ -14,7 +13,7 @@ use Rattle.sat_solver.specs.declared.parts.Parts.{Parts}
 use Rattle.sat_solver.specs.parts.Frame.{Headed}
 use Rattle.sat_solver.specs.parts.Whole.{Holds}
 use Rattle.sat_solver.proofs.lemmas.parts.WordSteps.{extends_refl, extends_trans}
-use Rattle.sat_solver.specs.search.Grading.{tier_for, with_glue, improved, levels_in, TakesPart, Decays, TakePart, Rates, AreInvolved}
+use Rattle.sat_solver.specs.search.Grading.{with_glue, improved, levels_in, TakesPart, Decays, TakePart, Rates, AreInvolved}
 
 -- the header of a clause was put twice
 pub puts_twice : (a b c refs : List ℕ) (o : ℕ) (h k : Header) → PutsHeader a b refs o h → PutsHeader b c refs o k → PutsHeader a c refs o k

@@ -1,5 +1,5 @@
 -- The width of hashes, turn by turn.
-use Rattle.std.proofs.Common.{ℕ, zero, suc, ◌+◌, ◌-◌, ◌<◌, ◌≤◌, ◌≡◌, ◌∙◌, Bool, true, false, refl, sym, ap, arith}
+use Rattle.std.proofs.Common.{ℕ, zero, suc, ◌+◌, ◌-◌, ◌<◌, ◌≤◌, ◌≡◌, ◌∙◌, true, false, refl, sym, ap, arith}
 use Rattle.std.specs.Prelude.{cond, min}
 use Rattle.sat_solver.specs.session.Counting.{too_short, too_long, widened, shortened}
 

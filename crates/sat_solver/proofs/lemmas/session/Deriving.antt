@@ -1,12 +1,10 @@
 -- How a solver shows that a clause may be derived.
-use Rattle.std.proofs.Common.{ℕ, ◌≡◌, Bool, true, false, ◌||◌, eqb, List, [], ◌∷◌, ◌++◌, map, refl, sym, ◌∙◌, ap, subst, arith, ◌⊎◌, inl, inr}
-use Rattle.std.proofs.lemmas.Bool.{or_cases, or_left, or_right, eqb-true, eq-eqb, true≢false}
+use Rattle.std.proofs.Common.{ℕ, ◌≡◌, true, false, eqb, List, [], ◌∷◌, sym, ap, ◌⊎◌, inl, inr}
+use Rattle.std.proofs.lemmas.Bool.{or_left, or_right, eq-eqb}
 use Rattle.std.specs.List.{AllByRecursion}
 use Rattle.sat_base.specs.values.Literals.{negated}
-use Rattle.sat_checker.specs.LiteralSets.{is_among, is_tautology}
-use Rattle.sat_checker.proofs.lemmas.sets.Canonical.{tautology_from, both_signs}
-use Rattle.sat_checker.specs.Leading.{Leads}
-use Rattle.sat_solver.specs.session.Session.{Session, IsLive, AreNamed, denied, hash_in, MayDerive, MayFail, by_signs, by_unit, by_clauses}
+use Rattle.sat_checker.specs.LiteralSets.{is_among}
+use Rattle.sat_solver.specs.session.Session.{Session, IsLive, denied, hash_in, MayDerive, by_clauses}
 
 -- a unit of a trail: its reason has no other literal that isn't false by the units before it
 pub proves : (s : Session) (l hash : ℕ) (c : List ℕ) → IsLive s c → hash ≡ hash_in s c → AllByRecursion (λ m. (m ≡ l) ⊎ (s.units (negated m) ≡ true)) c → MayDerive s (l ∷ []) (hash ∷ [])

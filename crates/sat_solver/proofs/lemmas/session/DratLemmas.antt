@@ -1,12 +1,11 @@
 -- Clauses that are present, and what they refute.
-use Rattle.std.proofs.Common.{ℕ, suc, ◌+◌, ◌-◌, ◌<◌, ◌≤◌, ◌≡◌, ◌∙◌, ◌⊎◌, inl, inr, Bool, true, false, ◌||◌, ◌&&◌, cond, eqb, List, [], ◌∷◌, ◌++◌, map, filter, nat_eq, refl, sym, ap, subst, arith}
-use Rattle.std.specs.List.{AllByRecursion, list_any}
-use Rattle.std.specs.Cmp.Lexicographic.{pointwise, same_text}
-use Rattle.std.proofs.lemmas.Bool.{cases_Bool, or_cases, or_left, or_right, eqb-true, eq-eqb, true≢false}
+use Rattle.std.proofs.Common.{ℕ, ◌+◌, ◌<◌, ◌≤◌, ◌≡◌, ◌∙◌, ◌⊎◌, inl, inr, Bool, true, false, ◌||◌, ◌&&◌, cond, eqb, List, [], ◌∷◌, ◌++◌, map, refl, sym, ap, subst, arith}
+use Rattle.std.specs.List.{AllByRecursion}
+use Rattle.std.specs.Cmp.Lexicographic.{same_text}
+use Rattle.std.proofs.lemmas.Bool.{or_cases, or_left, or_right, eqb-true, eq-eqb, true≢false}
 use Rattle.sat_base.specs.values.Literals.{negated}
-use Rattle.sat_checker.specs.LiteralSets.{is_among, is_tautology, canonical, same_literals}
+use Rattle.sat_checker.specs.LiteralSets.{is_among, canonical, same_literals}
 use Rattle.sat_checker.specs.Propagation.{IsFalsified, IsUnit, UnitInTurn}
-use Rattle.sat_checker.proofs.lemmas.propagation.Soundness.{negated-negated}
 use Rattle.sat_checker.proofs.lemmas.sets.Canonical.{canonical_among}
 use Rattle.sat_checker.proofs.lemmas.sets.Members.{canonical_each}
 use Rattle.sat_solver.specs.session.Drat.{times, without_set, Refutes}

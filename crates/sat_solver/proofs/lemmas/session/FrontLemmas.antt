@@ -1,5 +1,5 @@
 -- What the target of a proof took, whatever call failed since it was opened.
-use Rattle.std.proofs.Common.{◌≡◌, ◌∙◌, ◌⊎◌, inl, inr, Bool, true, false, ◌||◌, not, Some, None, Option, List, [], ◌∷◌, ◌++◌, append_assoc, refl, sym, ap, subst}
+use Rattle.std.proofs.Common.{◌≡◌, ◌∙◌, inl, inr, false, Some, List, [], ◌∷◌, ◌++◌, append_assoc, refl, sym, ap, subst}
 use Rattle.std.proofs.lemmas.Bool.{true≢false}
 use Rattle.std.specs.Io.KnownBytes.{Appends}
 use Rattle.sat_base.specs.device.Device.{Writer}
@@ -7,12 +7,10 @@ use Rattle.sat_base.specs.device.Sink.{empty_sink}
 use Rattle.sat_base.specs.steps.Steps.{Step, SolverVarName, UserVarName, DeleteVar, ChangeSamplingMode, AddClause, AtClause, UnitClauses, DeleteClause, ChangeHashBits, Model, Assumptions, FailedAssumptions, End}
 use Rattle.sat_checker.specs.declared.processing.ProofProcessor.{Ghosts}
 use Rattle.sat_solver.specs.session.Checked.{has_begun}
-use Rattle.sat_solver.specs.session.Counting.{start, Cuts}
-use Rattle.sat_solver.specs.session.Fronts.{FrontText, FrontSince, Follows, WentOn, FrontsAreAccepted}
-use Rattle.sat_solver.specs.session.OutputView.{text_in}
-use Rattle.sat_solver.specs.session.ProofView.{Target, Closed, Open, Broken as Faulty, Carries, Stops, Flushed, Gives, target_of, steps_of, Adds, Fails}
-use Rattle.sat_solver.specs.session.Session.{Session, nothing, May, MayAll, after, session_after}
-use Rattle.sat_solver.specs.declared.session.counting.Counting.{Counting}
+use Rattle.sat_solver.specs.session.Counting.{start}
+use Rattle.sat_solver.specs.session.Fronts.{FrontText, Follows, WentOn, FrontsAreAccepted}
+use Rattle.sat_solver.specs.session.ProofView.{Target, Closed, Open, Broken as Faulty, Carries, Stops, Gives, target_of, steps_of, Adds, Fails}
+use Rattle.sat_solver.specs.session.Session.{nothing, May, MayAll, after, session_after}
 use Rattle.sat_solver.specs.declared.session.format.ProofFormat.{ProofFormat}
 use Rattle.sat_solver.specs.declared.session.proof.Proof.{Proof}
 use Rattle.sat_solver.proofs.lemmas.session.CutsLemmas.{cuts_are_free}

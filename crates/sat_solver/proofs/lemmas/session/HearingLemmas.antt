@@ -1,14 +1,14 @@
 -- What those hear who listen to a solver's own checker.
-use Rattle.std.proofs.Common.{ℕ, ◌≡◌, ◌∙◌, ◌⊎◌, inl, inr, false, Option, None, Some, List, [], ◌∷◌, ◌++◌, Result, Ok, Err, refl, sym, ap, subst}
+use Rattle.std.proofs.Common.{ℕ, ◌≡◌, ◌∙◌, ◌⊎◌, inl, inr, false, Option, None, Some, List, [], ◌∷◌, ◌++◌, Result, Ok, Err, refl, sym, ap}
 use Rattle.std.proofs.lemmas.Bool.{true≢false}
 use Rattle.anyhow.specs.declared.error.Error.{Error}
 use Rattle.sat_base.specs.steps.Steps.{Step, ChangeHashBits}
-use Rattle.sat_checker.specs.Accepts.{Accepts, stored_after, ready_after}
-use Rattle.sat_checker.specs.CheckerView.{Seen, Stands, Stops, Breaks, BreaksAt, AnswersStep, AnswersDelayed, has_failed}
+use Rattle.sat_checker.specs.Accepts.{stored_after}
+use Rattle.sat_checker.specs.CheckerView.{Seen, Stands, Stops, BreaksAt, AnswersStep, AnswersDelayed, has_failed}
 use Rattle.sat_checker.specs.KernelView.{IsSettled}
 use Rattle.sat_checker.specs.Stored.{Stored}
 use Rattle.sat_checker.specs.Storing.{settled, settled_by}
-use Rattle.sat_checker.specs.announcements.Announcements.{Told, told_after, all_told_after, told_over, delayed, delayed_by}
+use Rattle.sat_checker.specs.announcements.Announcements.{Told, told_after, told_over, delayed, delayed_by}
 use Rattle.sat_checker.specs.telling.Hearing.{HearsSince, told_by}
 use Rattle.sat_checker.specs.declared.error.CheckerError.{CheckerError}
 use Rattle.sat_checker.specs.declared.error.CheckerError.TheVariants as errors
@@ -18,7 +18,7 @@ use Rattle.sat_checker.specs.declared.processing.ProcessingError.{ProcessingErro
 use Rattle.sat_checker.specs.declared.processing.ProcessingError.TheVariants as faults
 use Rattle.sat_solver.specs.declared.session.made.CheckFault.{CheckFault}
 use Rattle.sat_solver.specs.declared.session.made.CheckFault.TheVariants as checks
-use Rattle.sat_solver.specs.session.Checked.{IsCause, cause_in, OrCause}
+use Rattle.sat_solver.specs.session.Checked.{OrCause}
 use Rattle.sat_solver.specs.session.Listening.{Hears, HeardAll, HeardUpTo, HasHeard, FailedOf}
 use Rattle.sat_solver.specs.session.Session.{MayAll}
 use Rattle.sat_solver.specs.session.Widths.{IsWritten, none_yet, width_changes, one_more}

@@ -1,5 +1,5 @@
 -- Lines that are put together.
-use Rattle.std.proofs.Common.{ℕ, suc, ◌+◌, ◌-◌, ◌/◌, ◌%◌, ◌^◌, ◌<◌, ◌≤◌, ◌≡◌, ◌∙◌, Bool, cond, nat_lt, decimal, OnOk, Result, Ok, Err, List, [], ◌∷◌, ◌++◌, append_assoc, le-ltb, refl, sym, ap, arith}
+use Rattle.std.proofs.Common.{ℕ, suc, ◌+◌, ◌-◌, ◌/◌, ◌%◌, ◌^◌, ◌<◌, ◌≤◌, ◌≡◌, ◌∙◌, cond, decimal, OnOk, Result, Ok, Err, List, [], ◌∷◌, ◌++◌, append_assoc, le-ltb, refl, sym, ap, arith}
 use Rattle.sat_base.proofs.lemmas.dimacs.TextWrites.{one_digit, last_digit}
 use Rattle.sat_solver.specs.session.DratText.{seven_bits}
 

@@ -1,14 +1,9 @@
 -- Names, and clauses in another order.
-use Rattle.std.proofs.Common.{ℕ, ◌+◌, ◌<◌, ◌≡◌, ◌≢◌, false, true, List, sym, ◌∙◌, ap, subst, Some}
-use Rattle.sat_base.specs.steps.Steps.{Step}
+use Rattle.std.proofs.Common.{ℕ, ◌+◌, ◌<◌, ◌≡◌, false, true, List, sym, ◌∙◌, subst}
 use Rattle.sat_checker.specs.LiteralSets.{is_among, canonical}
 use Rattle.sat_checker.specs.SortedSets.{NoRepeats}
-use Rattle.sat_checker.specs.Stored.{Sample, Hide, unknown}
-use Rattle.sat_checker.specs.Accepts.{ready_after}
-use Rattle.sat_checker.proofs.lemmas.meaning.Names.{unknown_is_unknown}
 use Rattle.sat_checker.proofs.lemmas.sets.Canonical.{canonical_among, canonical_increasing, same_increasing}
-use Rattle.sat_solver.specs.session.Session.{Session, IsLive, MayName, MayAll, session_after}
-use Rattle.sat_solver.proofs.lemmas.session.StepLemmas.{sessions_are_accepted}
+use Rattle.sat_solver.specs.session.Session.{Session, IsLive}
 
 -- a live clause with its literals in another order
 pub live_same : (s : Session) (c d : List ℕ) → IsLive s c → NoRepeats d → ((l : ℕ) → is_among c l ≡ is_among d l) → IsLive s d

@@ -2,13 +2,13 @@
 use Rattle.std.proofs.Common.{ℕ, ◌≡◌, ◌∙◌, Bool, true, false, Result, Ok, Err, List, [], ◌∷◌, ◌++◌, refl, sym, ap, subst}
 use Rattle.std.specs.Prelude.{nat_eq, cond}
 use Rattle.std.proofs.lemmas.List.{append-nil}
-use Rattle.sat_base.specs.device.Device.{Writer, Takes, Breaks, FlushesOnce}
-use Rattle.sat_base.specs.device.Sink.{Sink, Sent, Flushes, empty_sink}
+use Rattle.sat_base.specs.device.Device.{Writer, Breaks, FlushesOnce}
+use Rattle.sat_base.specs.device.Sink.{Flushes, empty_sink}
 use Rattle.sat_base.specs.steps.Steps.{Step, ChangeHashBits}
 use Rattle.sat_base.proofs.lemmas.device.Sending.{sent_none, sends_flush}
 use Rattle.sat_solver.specs.session.Counting.{width_told}
 use Rattle.sat_solver.specs.session.DratText.{drat_text}
-use Rattle.sat_solver.specs.session.OutputView.{is_lines, step_text, SpellsIn, text_in, AreSpelt, Wrote, PutsSteps, PutsLines, lines_format}
+use Rattle.sat_solver.specs.session.OutputView.{is_lines, step_text, SpellsIn, text_in, AreSpelt, PutsSteps, PutsLines, lines_format}
 use Rattle.sat_solver.specs.declared.session.proof.ProofError.{ProofError}
 use Rattle.sat_solver.specs.declared.session.proof.ProofError.TheVariants.{Write, OutOfMemory, Check}
 

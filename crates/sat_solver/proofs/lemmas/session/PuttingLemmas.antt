@@ -1,15 +1,13 @@
 -- Steps that are put into a target's text, with the widths that they have.
-use Rattle.std.proofs.Common.{ℕ, Bool, ◌≡◌, ◌∙◌, true, false, Option, None, Some, Result, Ok, Err, List, [], ◌∷◌, ◌++◌, append_assoc, refl, sym, ap, subst}
-use Rattle.std.proofs.lemmas.List.{append-nil}
-use Rattle.std.specs.Prelude.{nat_eq, cond}
+use Rattle.std.proofs.Common.{Bool, ◌≡◌, ◌∙◌, true, false, Option, None, Some, Err, List, [], ◌∷◌, ◌++◌, append_assoc, refl, sym, ap, subst}
 use Rattle.sat_base.specs.device.Device.{Writer, Breaks}
 use Rattle.sat_base.specs.device.Sink.{Sink, Sent}
-use Rattle.sat_base.specs.steps.Steps.{Step, ChangeHashBits}
+use Rattle.sat_base.specs.steps.Steps.{Step}
 use Rattle.sat_base.proofs.lemmas.device.Writes.{breaks_within}
 use Rattle.sat_checker.specs.declared.processing.ProofProcessor.{Ghosts}
 use Rattle.sat_solver.specs.session.Counting.{width_told, written_for, counted}
 use Rattle.sat_solver.specs.session.OutputView.{step_text, SpellsIn, text_in, Wrote, PutsSteps, output_format, output_sink}
-use Rattle.sat_solver.specs.session.ProofView.{Target, Carries, Stops, Closed, Open, Broken as Faulty, with_fault, target_in, target_of, Adds, Fails}
+use Rattle.sat_solver.specs.session.ProofView.{Carries, Stops, Open, Broken as Faulty, with_fault, target_in, target_of, Adds, Fails}
 use Rattle.sat_solver.specs.session.Widths.{narrowed, KeepsWidth}
 use Rattle.sat_solver.specs.declared.session.counting.Counting.{Counting}
 use Rattle.sat_solver.specs.declared.session.output.Output.{Output}

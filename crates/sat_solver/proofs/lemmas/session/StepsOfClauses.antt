@@ -2,14 +2,14 @@
 use Rattle.std.proofs.Common.{ℕ, suc, ◌+◌, ◌<◌, ◌≡◌, Bool, true, false, ◌||◌, cond, eqb, ltb, List, [], ◌∷◌, ◌++◌, map, length, refl, sym, ◌∙◌, ap, arith}
 use Rattle.std.proofs.lemmas.Bool.{both_ways, eqb-true, eq-eqb, true≢false}
 use Rattle.sat_base.specs.values.Literals.{negated}
-use Rattle.sat_base.specs.steps.Steps.{Redundant, Simplified, Satisfied, AddClause, AtClause, UnitClauses, DeleteClause}
+use Rattle.sat_base.specs.steps.Steps.{AtClause, UnitClauses}
 use Rattle.sat_checker.specs.LiteralSets.{is_among, is_tautology, with_literal, canonical}
 use Rattle.sat_checker.specs.SortedSets.{NoRepeats}
 use Rattle.sat_checker.proofs.lemmas.sets.Canonical.{canonical_among}
 use Rattle.sat_solver.specs.session.Session.{Session, with_live, with_fact, with_facts, with_sorted, with_clause, knowing_literals, after}
 use Rattle.sat_solver.specs.session.LiveClauses.{LiveClause, with_var, AreMapped, AreOf}
 use Rattle.sat_solver.proofs.lemmas.session.Mapped.{once_mapped}
-use Rattle.sat_solver.proofs.lemmas.session.Represented.{comes_in, goes, still_of}
+use Rattle.sat_solver.proofs.lemmas.session.Represented.{comes_in, still_of}
 
 -- THE LENGTH OF A SORTED SET
 

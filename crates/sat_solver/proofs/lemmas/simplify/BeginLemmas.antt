@@ -1,13 +1,11 @@
 -- How a round begins.
-use Rattle.std.proofs.Common.{ℕ, ◌≡◌, ◌∙◌, ◌<◌, Result, Ok, Err, Option, Some, None, List, [], length, refl, ap, subst, arith}
+use Rattle.std.proofs.Common.{◌≡◌, ◌∙◌, Result, Ok, Err, ap}
 use Rattle.sat_base.specs.device.Device.{Writer}
-use Rattle.sat_base.specs.steps.Steps.{Step}
 use Rattle.sat_checker.specs.declared.processing.ProofProcessor.{Ghosts}
-use Rattle.sat_solver.specs.session.ProofView.{steps_of, session_of}
+use Rattle.sat_solver.specs.session.ProofView.{session_of}
 use Rattle.sat_solver.specs.session.Session.{Session}
 use Rattle.sat_solver.specs.declared.session.proof.Proof.{Proof}
 use Rattle.sat_solver.specs.declared.names.Variables.{Variables}
-use Rattle.sat_solver.specs.declared.parts.Parts.{Parts}
 use Rattle.sat_solver.specs.declared.error.SolverError.{SolverError}
 use Rattle.sat_solver.specs.search.Going.{Goes}
 use Rattle.sat_solver.specs.search.Joint.{assumed_in, global_in, IsSearch, Moved, Leaves}
@@ -16,7 +14,7 @@ use Rattle.sat_solver.specs.search.Turns.{IsPropagated}
 use Rattle.sat_solver.specs.declared.search.work.Search.{Search}
 use Rattle.sat_solver.proofs.lemmas.search.TurnLemmas.{ready_moved, free_moved}
 use Rattle.sat_solver.specs.simplify.Flat.{IsFlat}
-use Rattle.sat_solver.specs.simplify.Passes.{MaySettle, StandTogether, Passes, Falls, Simplified, Simplifies}
+use Rattle.sat_solver.specs.simplify.Passes.{MaySettle, Passes, Simplifies}
 use Rattle.sat_solver.proofs.lemmas.simplify.LighterLemmas.{goes_leaves}
 use Rattle.sat_solver.proofs.lemmas.simplify.PassesLemmas.{passes_goes, passes_trans, falls_later}
 

@@ -1,5 +1,5 @@
 -- How a clause is cut.
-use Rattle.std.proofs.Common.{ℕ, ◌≡◌, ◌<◌, ◌≤◌, ◌∙◌, Bool, Result, Ok, Err, List, [], ◌∷◌, map, take, refl, sym, ap, subst}
+use Rattle.std.proofs.Common.{ℕ, ◌≡◌, ◌∙◌, Bool, Result, Ok, Err, List, [], ◌∷◌, map, take, sym, ap, subst}
 use Rattle.std.specs.List.{Contains}
 use Rattle.sat_base.specs.device.Device.{Writer}
 use Rattle.sat_base.specs.steps.Steps.{Step, Simplified}
@@ -7,10 +7,9 @@ use Rattle.sat_base.specs.values.Hashes.{hash_of}
 use Rattle.sat_store.specs.clause.Buffer.{lits_at}
 use Rattle.sat_checker.specs.declared.processing.ProofProcessor.{Ghosts}
 use Rattle.sat_parts.specs.clause.Db.{live_refs}
-use Rattle.sat_parts.specs.clause.Stored.{size_of}
 use Rattle.sat_solver.specs.session.LiveClauses.{with_var}
 use Rattle.sat_solver.specs.session.ProofView.{steps_of, session_of}
-use Rattle.sat_solver.specs.session.Session.{Session, session_after, after}
+use Rattle.sat_solver.specs.session.Session.{session_after}
 use Rattle.sat_solver.specs.declared.session.proof.Proof.{Proof}
 use Rattle.sat_solver.specs.declared.error.SolverError.{SolverError}
 use Rattle.sat_solver.specs.declared.parts.Parts.{Parts}
@@ -24,7 +23,7 @@ use Rattle.sat_solver.specs.search.Joint.{global_in, IsSearch, Leaves}
 use Rattle.sat_solver.specs.declared.search.work.Search.{Search}
 use Rattle.sat_solver.proofs.lemmas.search.GoingLemmas.{goes_on, goes_failing}
 use Rattle.sat_solver.specs.simplify.Cuts.{deleted_step, derived_step, MayCut}
-use Rattle.sat_solver.specs.simplify.Cutting.{Gathers, Replaces, NamesCut}
+use Rattle.sat_solver.specs.simplify.Cutting.{Replaces, NamesCut}
 use Rattle.sat_solver.specs.simplify.Flat.{IsFlat, Lighter, Lightens}
 use Rattle.sat_solver.specs.simplify.Looks.{HasFalse}
 use Rattle.sat_solver.proofs.lemmas.simplify.CutLemmas.{cut_goes, fewer_open, part_named}

@@ -1,30 +1,25 @@
 -- What is left of a long clause takes its place.
-use Rattle.std.proofs.Common.{ℕ, zero, suc, ◌+◌, ◌*◌, ◌≡◌, ◌≢◌, ◌<◌, ◌≤◌, ◌∙◌, ◌&&◌, inl, inr, ltb, Bool, true, false, Option, Some, None, List, [], ◌∷◌, map, take, length, get_or, refl, sym, ap, subst, arith, ◌⊎◌}
-use Rattle.std.proofs.lemmas.Bool.{cases_lt, lt-ltb, le-ltb}
+use Rattle.std.proofs.Common.{ℕ, zero, suc, ◌≡◌, ◌≢◌, ◌<◌, ◌≤◌, ◌∙◌, ◌&&◌, inl, inr, ltb, Bool, true, false, Some, List, [], ◌∷◌, map, take, length, get_or, refl, sym, ap, subst, arith}
+use Rattle.std.proofs.lemmas.Bool.{cases_lt, lt-ltb}
 use Rattle.std.proofs.lemmas.List.{get_or-take, length-take-le}
 use Rattle.std.specs.List.{Contains}
 use Rattle.sat_base.specs.values.Literals.{variable, negated}
 use Rattle.sat_base.specs.values.Hashes.{hash_of}
 use Rattle.sat_base.specs.steps.Steps.{Step, Simplified}
 use Rattle.sat_store.specs.clause.Buffer.{lits_at}
-use Rattle.sat_store.specs.clause.Header.{Header, is_learned}
-use Rattle.sat_checker.specs.LiteralSets.{is_among}
-use Rattle.sat_parts.specs.clause.Db.{Db, live_refs}
+use Rattle.sat_parts.specs.clause.Db.{live_refs}
 use Rattle.sat_parts.specs.clause.Orders.{AreDistinct, Shuffled}
 use Rattle.sat_parts.specs.clause.Stored.{lit_of, size_of}
-use Rattle.sat_parts.specs.prop.Values.{IsFalseLit, IsOpenLit}
-use Rattle.sat_parts.proofs.lemmas.clause.ListLemmas.{in_without}
-use Rattle.sat_parts.proofs.lemmas.clause.OrderLemmas.{shuffled_refl, shuffled_eq}
-use Rattle.sat_parts.proofs.lemmas.prop.BuildLemmas.{live_in}
+use Rattle.sat_parts.specs.prop.Values.{IsFalseLit}
+use Rattle.sat_parts.proofs.lemmas.clause.OrderLemmas.{shuffled_refl}
 use Rattle.sat_parts.proofs.lemmas.prop.StateLemmas.{true_from_false}
-use Rattle.sat_solver.specs.session.Session.{Session, session_after, after, May}
+use Rattle.sat_solver.specs.session.Session.{Session, session_after}
 use Rattle.sat_solver.specs.session.LiveClauses.{with_var}
 use Rattle.sat_solver.proofs.lemmas.session.StepsOfClauses.{length_mapped}
 use Rattle.sat_solver.specs.declared.parts.Parts.{Parts}
-use Rattle.sat_solver.specs.parts.Frame.{Reordered, Dropped, Shortened, SameState, Stores, stores_binary, stores_long, IsUnitLit}
-use Rattle.sat_solver.specs.parts.Whole.{state, Holds}
+use Rattle.sat_solver.specs.parts.Frame.{Dropped, Shortened, Stores, IsUnitLit}
+use Rattle.sat_solver.specs.parts.Whole.{state}
 use Rattle.sat_solver.specs.joint.Fits.{is_redundant, FitsParts}
-use Rattle.sat_solver.specs.joint.Listed.{ArePlain}
 use Rattle.sat_solver.proofs.lemmas.joint.FitLemmas.{among_at, mapped_at}
 use Rattle.sat_solver.proofs.lemmas.joint.UsableLemmas.{long_named}
 use Rattle.sat_solver.specs.search.Going.{AreNamed}
@@ -37,7 +32,7 @@ use Rattle.sat_solver.proofs.lemmas.parts.FrameLemmas.{carries_refl}
 use Rattle.sat_solver.specs.declared.search.work.Search.{Search}
 use Rattle.sat_solver.specs.search.Joint.{global_in, IsSearch}
 use Rattle.sat_solver.specs.simplify.Cuts.{deleted_step, derived_step}
-use Rattle.sat_solver.specs.simplify.Cutting.{Gathers, PutsPart, puts_long, puts_pair, Replaces}
+use Rattle.sat_solver.specs.simplify.Cutting.{Gathers, PutsPart, puts_long, puts_pair}
 use Rattle.sat_solver.specs.simplify.Flat.{IsFlat}
 use Rattle.sat_solver.specs.simplify.Looks.{HasFalse}
 use Rattle.sat_solver.proofs.lemmas.simplify.GatherLemmas.{moved_there, moved_size, open_not_false}

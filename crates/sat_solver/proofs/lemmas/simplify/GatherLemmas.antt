@@ -1,20 +1,17 @@
 -- Open literals come to the front of a clause.
-use Rattle.std.proofs.Common.{ℕ, zero, suc, ◌+◌, ◌*◌, ◌≡◌, ◌≢◌, ◌<◌, ◌≤◌, ◌∙◌, inl, inr, Bool, true, false, not, Option, Some, None, List, [], ◌∷◌, length, get_or, set, refl, sym, ap, subst, arith, get_or-set_same, get_or-set_other, length-set}
+use Rattle.std.proofs.Common.{ℕ, ◌+◌, ◌≡◌, ◌≢◌, ◌<◌, ◌≤◌, ◌∙◌, inl, inr, Bool, true, false, not, Option, Some, None, List, length, get_or, set, refl, sym, ap, subst, arith, get_or-set_same, get_or-set_other, length-set}
 use Rattle.std.proofs.lemmas.Bool.{cases_eq}
 use Rattle.std.specs.List.{Contains}
 use Rattle.sat_base.specs.values.Literals.{variable, negated, is_positive}
 use Rattle.sat_store.specs.clause.Buffer.{lits_at, swapped}
-use Rattle.sat_store.specs.heap.Vsids.{may_pick}
 use Rattle.sat_parts.specs.clause.Db.{live_refs}
-use Rattle.sat_parts.specs.clause.Orders.{AreDistinct, Shuffled}
 use Rattle.sat_parts.specs.clause.Stored.{lit_of, size_of}
 use Rattle.sat_parts.specs.prop.Values.{value_of, IsTrueLit, IsFalseLit, IsOpenLit}
 use Rattle.sat_parts.specs.prop.State.{HasLeft}
 use Rattle.sat_parts.proofs.lemmas.clause.OrderLemmas.{shuffled_refl, shuffled_trans}
-use Rattle.sat_parts.proofs.lemmas.prop.StateLemmas.{left_true, true_from_false}
+use Rattle.sat_parts.proofs.lemmas.prop.StateLemmas.{true_from_false}
 use Rattle.sat_solver.specs.declared.parts.Parts.{Parts}
 use Rattle.sat_solver.specs.parts.Frame.{Reordered, Swapped}
-use Rattle.sat_solver.specs.parts.Loadable.{IsLoadable}
 use Rattle.sat_solver.specs.parts.Whole.{state, Holds}
 use Rattle.sat_solver.specs.parts.Words.{Extends}
 use Rattle.sat_solver.proofs.lemmas.parts.ShortLemmas.{fresh_unsatisfied}

@@ -1,5 +1,5 @@
 -- One long clause was looked at, and the others are as they were.
-use Rattle.std.proofs.Common.{ℕ, ◌+◌, ◌≡◌, ◌≢◌, ◌<◌, ◌≤◌, ◌∙◌, List, [], ◌∷◌, take, length, get_or, refl, sym, ap, subst, arith}
+use Rattle.std.proofs.Common.{ℕ, ◌≡◌, ◌≢◌, ◌<◌, ◌≤◌, ◌∙◌, List, [], ◌∷◌, take, length, get_or, refl, sym, ap, subst, arith}
 use Rattle.std.proofs.lemmas.List.{get_or-take, length-take-le}
 use Rattle.std.specs.List.{Contains}
 use Rattle.sat_store.specs.clause.Buffer.{lits_at}
@@ -17,7 +17,7 @@ use Rattle.sat_solver.specs.search.Joint.{IsSearch}
 use Rattle.sat_solver.specs.simplify.Cutting.{Gathers, PutsPart, puts_long, puts_pair, Replaces}
 use Rattle.sat_solver.specs.simplify.Flat.{Lighter, Lightens}
 use Rattle.sat_solver.specs.simplify.Looks.{IsOpenAt}
-use Rattle.sat_solver.proofs.lemmas.simplify.GatherLemmas.{moved_there, moved_size}
+use Rattle.sat_solver.proofs.lemmas.simplify.GatherLemmas.{moved_size}
 use Rattle.sat_solver.proofs.lemmas.simplify.LighterLemmas.{lighter_refl}
 
 -- live clauses but for one are live ones of before, and open where they were

@@ -1,5 +1,5 @@
 -- The list of long clauses is walked.
-use Rattle.std.proofs.Common.{ℕ, ◌+◌, ◌≡◌, ◌≢◌, ◌<◌, ◌∙◌, inl, inr, false, true, List, length, get_or, refl, sym, subst, arith}
+use Rattle.std.proofs.Common.{ℕ, ◌+◌, ◌≡◌, ◌<◌, ◌∙◌, inl, inr, false, List, length, get_or, refl, sym, subst, arith}
 use Rattle.std.proofs.lemmas.Bool.{cases_eq, true≢false}
 use Rattle.std.proofs.lemmas.List.{get_or_default}
 use Rattle.std.specs.List.{Contains}
@@ -8,7 +8,7 @@ use Rattle.sat_parts.proofs.lemmas.prop.BuildLemmas.{live_in}
 use Rattle.sat_solver.proofs.lemmas.parts.ReduceLemmas.{filter_in}
 use Rattle.sat_solver.specs.session.Session.{Session}
 use Rattle.sat_solver.specs.declared.search.work.Search.{Search}
-use Rattle.sat_solver.specs.simplify.Flat.{Lightens, LightensAll, AreOpenTo}
+use Rattle.sat_solver.specs.simplify.Flat.{Lightens, AreOpenTo}
 use Rattle.sat_solver.specs.simplify.Looks.{IsOpenAt}
 
 pub to_none : (c d : Search) → AreOpenTo c d 0

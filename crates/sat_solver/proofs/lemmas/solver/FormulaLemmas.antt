@@ -3,8 +3,8 @@ use Rattle.std.proofs.Common.{ℕ, ◌+◌, ◌≤◌, ◌≡◌, ◌⊎◌, ◌
 use Rattle.std.proofs.lemmas.Bool.{true≢false}
 use Rattle.std.proofs.lemmas.List.{append-nil}
 use Rattle.sat_base.specs.device.Device.{Reader, Writer, GaveAll, GaveEnough, GaveFront, ReadFails}
-use Rattle.sat_base.specs.dimacs.Dimacs.{Clean, dimacs, settled, IsDimacs}
-use Rattle.sat_base.specs.dimacs.Parsing.{Progress, no_progress, with_fed, clauses_read, all_taken, Feeds, Finishes, IsSound, IsSoundText}
+use Rattle.sat_base.specs.dimacs.Dimacs.{dimacs, settled}
+use Rattle.sat_base.specs.dimacs.Parsing.{Progress, with_fed, clauses_read, all_taken, Feeds, Finishes, IsSound, IsSoundText}
 use Rattle.sat_base.specs.declared.dimacs.error.DimacsError.{DimacsError}
 use Rattle.sat_base.specs.declared.dimacs.error.DimacsError.TheVariants as texts
 use Rattle.sat_base.proofs.lemmas.device.Given.{enough_all, enough_front}
@@ -18,7 +18,7 @@ use Rattle.sat_solver.specs.declared.error.SolverError.TheVariants as errors
 use Rattle.sat_solver.specs.declared.solver.Solver.{Solver}
 use Rattle.sat_solver.specs.solver.Adding.{Added, AddsClause}
 use Rattle.sat_solver.specs.solver.Calls.{Refuses}
-use Rattle.sat_solver.specs.solver.Formulas.{AddsAll, StopsAt, AddsFormula, text_fault, TextFails, ClauseFails, AddsText, ReadStops, AnswersRead, AddsRead}
+use Rattle.sat_solver.specs.solver.Formulas.{AddsAll, StopsAt, AddsFormula, text_fault, TextFails, ClauseFails, AddsText, AddsRead}
 
 -- what was taken before isn't touched by reading
 

@@ -1,16 +1,14 @@
 -- What the target of a solver took, whatever call of the solver failed since it was opened.
-use Rattle.std.proofs.Common.{ℕ, ◌≡◌, ◌∙◌, ◌⊎◌, inl, inr, Some, None, Result, Ok, Err, List, [], ◌∷◌, ◌++◌, refl, sym, ap, subst, append-nil, Bool, true, Option}
+use Rattle.std.proofs.Common.{ℕ, ◌≡◌, ◌∙◌, ◌⊎◌, inl, inr, Some, Result, Ok, Err, List, [], ◌∷◌, ◌++◌, sym, ap, subst, append-nil, Bool, true, Option}
 use Rattle.std.proofs.Math.Logic.{∥∥₁_elim, ∥∥₁_prop}
 use Rattle.std.specs.Prelude.{reverse}
 use Rattle.sat_base.specs.device.Device.{Reader, Writer, Takes}
-use Rattle.sat_base.specs.device.Sink.{empty_sink}
 use Rattle.sat_base.specs.steps.Steps.{Step, End}
 use Rattle.sat_base.specs.steps.StepText.{SpellsSteps}
 use Rattle.sat_base.specs.script.Judge.{Judge}
 use Rattle.sat_checker.specs.declared.processing.ProofProcessor.{Ghosts}
 use Rattle.sat_checker.specs.matching.Expected.{Expected, Unknown}
 use Rattle.sat_solver.specs.search.Going as going
-use Rattle.sat_solver.specs.session.Counting.{start}
 use Rattle.sat_solver.specs.session.Fronts.{FrontSince, Follows, WentOn}
 use Rattle.sat_solver.specs.session.OutputView.{text_in, AreSpelt}
 use Rattle.sat_solver.specs.session.Making.{Took}
@@ -22,7 +20,7 @@ use Rattle.sat_solver.specs.solver.Calls.{Refuses, Solves, IsFlushed}
 use Rattle.sat_solver.specs.solver.Configuring.{Configures}
 use Rattle.sat_solver.specs.solver.Formulas.{AddsAll, StopsAt, AddsFormula, AddsText, TextFails, ClauseFails}
 use Rattle.sat_solver.specs.solver.Fronts.{Went, CallsGoOn, HandsFront, FlushedIsText}
-use Rattle.sat_solver.specs.solver.Naming.{ChangesMode, NamesNew, NamesFail, Observed}
+use Rattle.sat_solver.specs.solver.Naming.{ChangesMode, NamesNew, NamesFail}
 use Rattle.sat_solver.specs.solver.Proving.{AddsProcessor, ClosesProof, Enables}
 use Rattle.sat_solver.specs.solver.Taking.{BreaksNamesOr}
 use Rattle.sat_solver.specs.solver.Whole.{steps_in}

@@ -1,5 +1,5 @@
 -- Assumptions over names keep their literals of the search.
-use Rattle.std.proofs.Common.{ℕ, ◌<◌, ◌≡◌, ◌∙◌, true, Some, List, map, length, get_or, sym, ap, subst, arith}
+use Rattle.std.proofs.Common.{ℕ, ◌<◌, ◌≡◌, ◌∙◌, true, List, map, length, get_or, sym, ap, subst, arith}
 use Rattle.sat_base.specs.values.Literals.{variable, is_positive}
 use Rattle.sat_base.specs.steps.Steps.{Step}
 use Rattle.sat_checker.specs.LiteralSets.{mentions}

@@ -1,10 +1,8 @@
 -- What a solver counts.
-use Rattle.std.proofs.Common.{ℕ, zero, suc, ◌+◌, ◌<◌, ◌≤◌, ◌≡◌, ◌∙◌, Bool, true, false, not, ◌&&◌, cond, ltb, lt-ltb, List, length, get_or, Option, Some, None, is_some, refl, sym, ap, subst, arith}
-use Rattle.std.proofs.lemmas.Bool.{le-ltb}
+use Rattle.std.proofs.Common.{ℕ, suc, ◌+◌, ◌≡◌, ◌∙◌, Bool, cond, List, get_or, Option, refl, sym, ap, arith}
 use Rattle.sat_store.specs.clause.Header.{index_of}
 use Rattle.sat_store.specs.declared.clause.tier.Tier.{Tier}
 use Rattle.sat_checker.specs.declared.processing.ProofProcessor.{Ghosts}
-use Rattle.sat_parts.specs.prop.Values.{value_of}
 use Rattle.sat_solver.specs.declared.names.Variables.{Variables}
 use Rattle.sat_solver.specs.declared.solver.Solver.{Solver}
 use Rattle.sat_solver.specs.declared.solver.state.State.{State}
@@ -12,7 +10,6 @@ use Rattle.sat_solver.specs.declared.solver.state.State.TheVariants as states
 use Rattle.sat_solver.specs.declared.parts.Parts.{Parts}
 use Rattle.sat_solver.specs.names.Counting.{count_to}
 use Rattle.sat_solver.proofs.lemmas.names.Counts.{count_suc}
-use Rattle.sat_solver.specs.names.Variables.{AreTidy, solver_of, global_at}
 use Rattle.sat_solver.specs.parts.Whole.{Holds}
 use Rattle.sat_solver.specs.solver.Progressing.{is_open_at, clauses_of, GoesOnIn}
 use Rattle.sat_solver.specs.solver.Whole.{StateSays}

@@ -1,10 +1,10 @@
 -- Assumptions over names, and the literals of the proof that stand for them.
-use Rattle.std.proofs.Common.{ℕ, zero, suc, ◌<◌, ◌≡◌, ◌∙◌, refl, Some, List, [], ◌∷◌, length, map, get_or, sym, ap, arith}
+use Rattle.std.proofs.Common.{ℕ, zero, suc, ◌<◌, ◌≡◌, ◌∙◌, refl, List, [], ◌∷◌, length, map, get_or, sym, ap, arith}
 use Rattle.sat_base.specs.values.Literals.{variable, is_positive, coded}
 use Rattle.sat_solver.specs.session.LiveClauses.{with_var}
 use Rattle.sat_solver.specs.names.Adding.{Image, Images, GlobalImages, global_in}
 use Rattle.sat_solver.specs.names.Naming.{KeepsNames}
-use Rattle.sat_solver.specs.names.Variables.{AreTidy, global_of}
+use Rattle.sat_solver.specs.names.Variables.{AreTidy}
 use Rattle.sat_solver.specs.declared.names.Variables.{Variables}
 use Rattle.sat_solver.specs.declared.names.taking.Taken.{Taken}
 use Rattle.sat_solver.proofs.lemmas.joint.CodeLemmas.{coded_by}

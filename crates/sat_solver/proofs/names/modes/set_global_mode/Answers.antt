@@ -1,4 +1,4 @@
-use Rattle.std.proofs.Common.{◌≡◌, inl, inr, refl, sym, ◌∙◌, subst}
+use Rattle.std.proofs.Common.{◌≡◌, inr, sym, ◌∙◌, subst}
 use Rattle.sat_solver.specs.names.Variables.{data_at, mode_for}
 use Rattle.sat_solver.specs.names.Naming.{PutsMode}
 use Rattle.sat_solver.proofs.lemmas.names.ModeChanges.{named_within, mode_kept, mode_set, mode_unseen, may_mode, turns_mode}

@@ -1,4 +1,4 @@
-use Rattle.std.proofs.Common.{◌+◌, ◌≤◌, ◌++◌, [], ◌∷◌, sym, subst, arith}
+use Rattle.std.proofs.Common.{◌+◌, sym, subst, arith}
 use Rattle.sat_solver.specs.names.Observing.{IsHidden, NamesHidden}
 use Rattle.sat_solver.proofs.lemmas.names.ObservingLemmas.{Observing, observing_begins, observing_passes, observing_goes, observing_ends}
 use Rattle.sat_solver.proofs.names.observing.observe_internal_vars.Goals as goal

@@ -1,4 +1,4 @@
-use Rattle.std.proofs.Common.{ℕ, ◌≡◌, ◌<◌, ◌≤◌, ◌+◌, ◌∷◌, false, true, is_some, length, drop, None, ap, sym, ◌∙◌, arith}
+use Rattle.std.proofs.Common.{◌≡◌, ◌<◌, ◌≤◌, ◌+◌, false, true, is_some, drop, None, ap, sym, ◌∙◌, arith}
 use Rattle.sat_store.specs.variables.Maps.{target}
 use Rattle.sat_solver.specs.names.Room.{is_listed, users_in}
 use Rattle.sat_solver.specs.names.Variables.{global_of, names_used}

@@ -1,6 +1,5 @@
 use Rattle.std.proofs.Common.{◌∙◌, ap, arith}
 use Rattle.sat_solver.specs.names.Room.{reach, users_in}
-use Rattle.sat_solver.specs.names.Variables.{names_used}
 use Rattle.sat_solver.proofs.lemmas.names.RoomLemmas.{reach_low, fits_all}
 use Rattle.sat_solver.proofs.names.room.has_room.Goals as goal
 

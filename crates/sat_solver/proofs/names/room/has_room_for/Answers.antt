@@ -1,7 +1,5 @@
-use Rattle.std.proofs.Common.{◌≡◌, None, ap, sym, ◌∙◌, is_some, arith}
+use Rattle.std.proofs.Common.{ap, sym, ◌∙◌, is_some, arith}
 use Rattle.sat_store.specs.variables.Maps.{target}
-use Rattle.sat_solver.specs.names.Variables.{global_of}
-use Rattle.sat_solver.proofs.lemmas.names.Giving.{none_test}
 use Rattle.sat_solver.proofs.lemmas.names.RoomLemmas.{says_never, says_hidden, fits_used}
 use Rattle.sat_solver.proofs.names.room.has_room_for.Goals as goal
 

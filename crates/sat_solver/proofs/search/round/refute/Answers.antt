@@ -1,4 +1,4 @@
-use Rattle.std.proofs.Common.{◌≡◌, ◌∙◌, ap, refl, sym, subst, length, [], true, false, Ok}
+use Rattle.std.proofs.Common.{◌≡◌, ◌∙◌, ap, refl, sym, subst, length, [], false, Ok}
 use Rattle.sat_base.specs.steps.Steps.{Step, AtClause}
 use Rattle.sat_parts.specs.clause.Db.{live_refs}
 use Rattle.sat_solver.specs.session.Session.{MayDerive, session_after}

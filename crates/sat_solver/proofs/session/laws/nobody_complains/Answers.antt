@@ -1,4 +1,4 @@
-use Rattle.std.proofs.Common.{◌⊎◌, inl, inr}
+use Rattle.std.proofs.Common.{inl, inr}
 use Rattle.sat_checker.specs.declared.processing.ProcessingError.TheVariants.{ProofProcessorError}
 use Rattle.sat_solver.proofs.session.laws.nobody_complains.Goals as goal
 

@@ -1,7 +1,7 @@
-use Rattle.std.proofs.Common.{◌≡◌, ◌<◌, ◌∙◌, sym, subst, arith, length}
+use Rattle.std.proofs.Common.{◌≡◌, ◌<◌, ◌∙◌, sym, subst, arith}
 use Rattle.std.proofs.lemmas.Bool.{true≢false}
 use Rattle.sat_parts.specs.clause.Stored.{lit_of, size_of}
-use Rattle.sat_parts.specs.prop.Values.{IsTrueLit, IsFalseLit, IsOpenLit}
+use Rattle.sat_parts.specs.prop.Values.{IsTrueLit, IsFalseLit}
 use Rattle.sat_solver.proofs.lemmas.simplify.GatherLemmas.{gathers_none, gathers_skip, gathers_swap, open_from}
 use Rattle.sat_solver.proofs.simplify.cutting.gather_open.Goals as goal
 

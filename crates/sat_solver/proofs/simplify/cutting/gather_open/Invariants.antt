@@ -1,5 +1,4 @@
 use Rattle.std.proofs.Common.{◌≤◌}
-use Rattle.sat_parts.specs.clause.Stored.{size_of}
 use Rattle.sat_solver.specs.simplify.Cutting.{Gathers}
 use Rattle.sat_solver.proofs.simplify.cutting.gather_open.Given as goal
 

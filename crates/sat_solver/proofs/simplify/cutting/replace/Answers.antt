@@ -1,8 +1,8 @@
-use Rattle.std.proofs.Common.{ℕ, ◌≡◌, ◌∙◌, [], ◌∷◌, ap, subst, sym, refl, arith}
+use Rattle.std.proofs.Common.{ℕ, ◌∙◌, [], ◌∷◌, ap, subst, refl, arith}
 use Rattle.sat_parts.specs.clause.Stored.{lit_of}
 use Rattle.sat_solver.specs.parts.Frame.{Stores}
 use Rattle.sat_solver.proofs.lemmas.parts.WordSteps.{extends_trans}
-use Rattle.sat_solver.specs.simplify.Cutting.{puts_long, puts_pair}
+use Rattle.sat_solver.specs.simplify.Cutting.{puts_pair}
 use Rattle.sat_solver.proofs.lemmas.simplify.LightensLemmas.{stores_two}
 use Rattle.sat_solver.proofs.simplify.cutting.replace.Goals as goal
 

@@ -1,8 +1,8 @@
-use Rattle.std.proofs.Common.{◌≡◌, ◌∙◌, ◌<◌, ◌+◌, true, false, not, Ok, List, ℕ, length, get_or, sym, ap, subst, arith}
+use Rattle.std.proofs.Common.{◌≡◌, ◌∙◌, ◌<◌, true, false, not, Ok, List, ℕ, length, get_or, sym, ap, subst, arith}
 use Rattle.std.proofs.lemmas.Result.{err_from_is_err_and}
 use Rattle.std.specs.List.{Contains}
 use Rattle.sat_store.specs.clause.Header.{Header}
-use Rattle.sat_parts.specs.clause.Db.{live_refs, is_live}
+use Rattle.sat_parts.specs.clause.Db.{is_live}
 use Rattle.sat_parts.proofs.lemmas.clause.ListLemmas.{place_in}
 use Rattle.sat_solver.specs.session.ProofView.{session_of}
 use Rattle.sat_solver.proofs.lemmas.parts.ReduceLemmas.{in_filter}

@@ -1,6 +1,4 @@
-use Rattle.std.proofs.lemmas.Result.{err_from_is_err_and}
-use Rattle.sat_solver.specs.session.ProofView.{session_of}
-use Rattle.sat_solver.proofs.lemmas.simplify.PassesLemmas.{lightened, lightened_may, simplified, falls_goes, falls_later, falls_names}
+use Rattle.sat_solver.proofs.lemmas.simplify.PassesLemmas.{lightened, lightened_may, simplified, falls_later, falls_names}
 use Rattle.sat_solver.proofs.simplify.unit.unit_simplify.Goals as goal
 
 pub free_indices-requires-clause-may : goal.free_indices-requires-clause-may

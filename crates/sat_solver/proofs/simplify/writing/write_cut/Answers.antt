@@ -2,8 +2,8 @@ use Rattle.std.proofs.Common.{◌≡◌, ◌∙◌, ◌∷◌, ◌&&◌, Ok, ref
 use Rattle.std.specs.Prelude.{nat_lt}
 use Rattle.sat_base.specs.steps.Steps.{Step, AtClause, DeleteClause, Simplified}
 use Rattle.sat_base.specs.steps.StepViews.{deletion_of}
-use Rattle.sat_solver.specs.session.ProofView.{steps_of, session_of}
-use Rattle.sat_solver.specs.search.Going.{fault_of, AreNamed, Goes}
+use Rattle.sat_solver.specs.session.ProofView.{steps_of}
+use Rattle.sat_solver.specs.search.Going.{fault_of}
 use Rattle.sat_solver.proofs.lemmas.search.GoingLemmas.{goes_step, goes_broken, goes_then, goes_then_fails}
 use Rattle.sat_solver.specs.joint.Quiet.{are_few}
 use Rattle.sat_solver.proofs.lemmas.joint.QuietLemmas.{few_quiet}

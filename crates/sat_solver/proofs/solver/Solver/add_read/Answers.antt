@@ -1,4 +1,4 @@
-use Rattle.std.proofs.Common.{Bool, refl, sym, ap, subst, inl, inr}
+use Rattle.std.proofs.Common.{Bool, ap, inl, inr}
 use Rattle.std.proofs.lemmas.Result.{err_from_is_err_and}
 use Rattle.sat_solver.specs.solver.Formulas.{with_failed}
 use Rattle.sat_solver.proofs.lemmas.solver.FormulaLemmas.{stops_of, adds_going}

@@ -1,4 +1,4 @@
-use Rattle.std.proofs.Common.{◌≡◌, ◌<◌, ◌+◌, ◌∙◌, true, false, length, get_or, refl, sym, arith}
+use Rattle.std.proofs.Common.{◌≡◌, ◌<◌, ◌+◌, ◌∙◌, true, false, length, get_or, sym, arith}
 use Rattle.std.proofs.lemmas.List.{get_or_read}
 use Rattle.sat_solver.specs.solver.Progressing.{is_open_at}
 use Rattle.sat_solver.proofs.lemmas.names.Counts.{count_zero}

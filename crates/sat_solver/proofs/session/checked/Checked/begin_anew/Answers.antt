@@ -1,4 +1,4 @@
-use Rattle.std.proofs.Common.{◌∙◌, ap, sym}
+use Rattle.std.proofs.Common.{◌∙◌, ap}
 use Rattle.sat_checker.specs.CheckerView.{seen_of}
 use Rattle.sat_checker.specs.telling.ProcessingView.{listeners_of}
 use Rattle.sat_checker.specs.declared.checker.Checker.{Checker}
