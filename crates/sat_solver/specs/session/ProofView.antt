@@ -1,5 +1,5 @@
 -- What contracts see of the proof that a solver writes: its steps, and where their text goes. Lists of steps have the newest first.
-use Rattle.std.specs.Prelude.{◌≡◌, ℕ, Bool, true, false, Option, None, Some, List, [], ◌∷◌, ◌++◌, Result, Ok, Err}
+use Rattle.std.specs.Prelude.{◌≡◌, Bool, true, false, Option, None, Some, List, [], ◌∷◌, ◌++◌, Result, Ok, Err}
 use Rattle.sat_base.specs.device.Device.{Writer, Takes, Breaks}
 use Rattle.sat_base.specs.device.Sink.{Sink, Emptied}
 use Rattle.sat_base.specs.steps.Steps.{Step, End}

@@ -1,5 +1,5 @@
 -- What simplification leaves of names, proof and search.
-use Rattle.std.specs.Prelude.{ℕ, ◌≡◌, Option, None, Some, List, [], length, MatchResult, Result, Err}
+use Rattle.std.specs.Prelude.{ℕ, ◌≡◌, Option, None, Some, List, [], MatchResult, Result, Err}
 use Rattle.std.specs.List.{Contains}
 use Rattle.sat_base.specs.device.Device.{Writer}
 use Rattle.sat_base.specs.steps.Steps.{Step}

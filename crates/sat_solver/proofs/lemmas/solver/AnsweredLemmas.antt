@@ -30,7 +30,7 @@ use Rattle.sat_checker.specs.matching.Checking.{variable_of}
 use Rattle.sat_checker.specs.matching.Expected.{Shows, Fails, Spells, EachSpelt, SameSet, shows, fails}
 use Rattle.sat_checker.specs.matching.ProofChecking.{the_checking}
 use Rattle.sat_checker.specs.matching.Traces.{HasTrace, no_step, visible}
-use Rattle.sat_solver.specs.names.Calls.{Stands, Agree, Does, DoesNothing}
+use Rattle.sat_solver.specs.names.Calls.{Stands, Agree, Does}
 use Rattle.sat_solver.specs.declared.names.Variables.{Variables}
 use Rattle.sat_solver.proofs.lemmas.names.MapLemmas.{some_within}
 use Rattle.sat_solver.proofs.lemmas.names.ModeChanges.{live_within}
@@ -38,7 +38,7 @@ use Rattle.sat_solver.proofs.lemmas.names.Searched.{searches_agree}
 use Rattle.sat_solver.proofs.lemmas.names.TakenNames.{test_among}
 use Rattle.sat_solver.specs.solver.Joined.{IsJoined, name_of, named_by, user_by}
 use Rattle.sat_solver.specs.solver.Answering.{Shown, Failed, model_of, line_of}
-use Rattle.sat_solver.proofs.lemmas.solver.BehindLemmas.{stands_behind, nothing_behind}
+use Rattle.sat_solver.proofs.lemmas.solver.BehindLemmas.{stands_behind}
 use Rattle.sat_solver.proofs.lemmas.solver.ShownLemmas.{coded_back, coded_sign, model_all}
 use Rattle.sat_solver.proofs.lemmas.solver.LineLemmas.{named_has, named_each, mapped_each, literal_among}
 use Rattle.sat_solver.proofs.lemmas.solver.TellingLemmas.{each_live, shares_moved}

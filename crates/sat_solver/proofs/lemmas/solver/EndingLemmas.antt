@@ -1,5 +1,5 @@
 -- A solver whose proof was ended.
-use Rattle.std.proofs.Common.{ℕ, ◌≡◌, ◌∙◌, true, false, Option, None, Some, Ok, Err, inl, inr, List, [], ◌∷◌, map, refl, sym, ap, subst}
+use Rattle.std.proofs.Common.{ℕ, ◌≡◌, ◌∙◌, false, Option, None, Some, Ok, List, [], ◌∷◌, map, refl, sym, ap, subst}
 use Rattle.sat_base.specs.device.Device.{Writer}
 use Rattle.sat_base.specs.steps.Steps.{End}
 use Rattle.sat_base.specs.values.Clauses.{EachTrue}
@@ -9,14 +9,10 @@ use Rattle.sat_solver.specs.names.Adding.{named_literal}
 use Rattle.sat_checker.specs.matching.Checking.{variable_of}
 use Rattle.sat_solver.specs.session.ProofView.{Closes, ClosesOne, Keeps, is_lost, steps_of, session_of}
 use Rattle.sat_solver.specs.session.Session.{MayAll, session_after}
-use Rattle.sat_solver.specs.declared.session.made.CheckFault.TheVariants as checks
 use Rattle.sat_solver.specs.declared.session.proof.Proof.{Proof}
-use Rattle.sat_solver.specs.declared.session.proof.ProofError.{ProofError}
-use Rattle.sat_solver.specs.declared.session.proof.ProofError.TheVariants.{Write, OutOfMemory, Check}
 use Rattle.sat_solver.specs.declared.names.Variables.{Variables}
 use Rattle.sat_solver.specs.declared.names.taking.Taken.{Taken}
 use Rattle.sat_solver.specs.declared.search.solving.Core.{Core}
-use Rattle.sat_solver.specs.search.Going.{fault_of}
 use Rattle.sat_solver.specs.search.Joint.{IsSearch}
 use Rattle.sat_checker.specs.matching.Traces.{no_step, visible}
 use Rattle.sat_solver.specs.names.Calls.{Stands, Agree, Does}

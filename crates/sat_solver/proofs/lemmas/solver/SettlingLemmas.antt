@@ -41,8 +41,6 @@ use Rattle.sat_solver.specs.names.Models.{named_to}
 use Rattle.sat_solver.specs.names.Variables.{names_used}
 use Rattle.sat_solver.specs.names.Calls.{Stands, Agree, Does, HasJudge}
 use Rattle.sat_checker.specs.matching.Bridge.{Live}
-use Rattle.sat_solver.specs.declared.error.SolverError.{SolverError}
-use Rattle.sat_solver.specs.declared.error.SolverError.TheVariants as errors
 use Rattle.sat_solver.specs.declared.names.Variables.{Variables}
 use Rattle.sat_solver.specs.declared.names.taking.Taken.{Taken}
 use Rattle.sat_solver.proofs.lemmas.names.Doing.{does_none, does_both, judged_by}
@@ -54,7 +52,7 @@ use Rattle.sat_solver.specs.declared.solver.finding.Clock.{Clock}
 use Rattle.sat_solver.specs.solver.Joined.{IsJoined, name_of}
 use Rattle.sat_solver.specs.solver.Answering.{Breaks, FlushFails, Failed, line_of}
 use Rattle.sat_solver.specs.solver.Found.{FoundModel, FoundCore, FoundNone, FoundSays}
-use Rattle.sat_solver.specs.solver.Calls.{Answered, Counts, CountsRounds, RoundsOn, IsFlushed, NotesAsk, Solves, learned_of, told_as, told_by}
+use Rattle.sat_solver.specs.solver.Calls.{Answered, Counts, CountsRounds, RoundsOn, IsFlushed, NotesAsk, learned_of, told_as, told_by}
 use Rattle.sat_solver.specs.solver.Settling.{Settled}
 use Rattle.sat_solver.specs.solver.Whole.{IsWhole, IsWholeOf, StateSays, GoesOn, HasCore, steps_in, session_in, line_in}
 use Rattle.sat_solver.proofs.lemmas.solver.AnsweredLemmas.{asked_shown, core_among, core_spelt, core_none, joined_by, does_shown, does_failed}
