@@ -10,8 +10,8 @@ use std::test::*;
 
 type Row = (&'static [u8], &'static [u8]);
 
-/// A certificate, and its hint text.
-fn rows() -> [Row; 13] {
+/// Certificates of clauses and cores, each with its hint text.
+fn clauses() -> [Row; 8] {
     [
         // Nothing but its end.
         (&[0x0d], b""),
@@ -69,6 +69,12 @@ fn rows() -> [Row; 13] {
             &[0x0b, 0x02, 0x00, 0x01, 0x0c, 0x02, 0x00, 0x01, 0x00, 0x0d],
             b"f 1 -1 0 0\n",
         ),
+    ]
+}
+
+/// Certificates in which variables are deleted, or new, each with its text.
+fn variables() -> [Row; 5] {
+    [
         // A hidden variable is deleted behind the clauses that have it: its unit is gone, another stands.
         (
             &[
@@ -305,7 +311,8 @@ fn error_of(alloc: Global, certificate: &[u8]) -> u8 {
 
 #[test]
 fn rows_convert(rt: HostRuntime) {
-    assert!(rt; hold(rt.alloc(), &rows()));
+    assert!(rt; hold(rt.alloc(), &clauses()));
+    assert!(rt; hold(rt.alloc(), &variables()));
 }
 
 #[test]
