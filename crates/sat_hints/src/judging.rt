@@ -1,11 +1,11 @@
 //! Judging one line after another.
-ghost use Rattle.std.specs.Prelude.{◌≡◌, ◌≤◌, ◌+◌, ◌^◌, ◌-◌, ◌<◌, ℕ, List, [], None, Some, IfOk, OnOk};
+ghost use Rattle.std.specs.Prelude.{◌≡◌, ◌≤◌, ◌+◌, ◌^◌, ◌-◌, ◌<◌, ℕ, [], None, Some, IfOk, OnOk};
 ghost use Rattle.sat_base.specs.text.Tokenizing.{held};
 ghost use Rattle.sat_checker.specs.LiteralSets.{canonical};
-ghost use Rattle.sat_hints.specs.Lines.{Line, Input, Derived, Gone, Core, Fresh, IsLine};
+ghost use Rattle.sat_hints.specs.Lines.{Input, Derived, Gone, Core, Fresh, IsLine};
 ghost use Rattle.sat_hints.specs.inner.LineReading.{line_of, IsId};
 ghost use Rattle.sat_hints.specs.inner.Course.{signed};
-ghost use Rattle.sat_hints.specs.inner.Judging.{HasTaken, IsReady, IsSame, Refutes, StoresClause, TakesLine, TakesOne};
+ghost use Rattle.sat_hints.specs.inner.Judging.{HasTaken, IsReady, IsSame, Refutes, StoresClause, TakesNext, TakesOne};
 
 use crate::answer::{HintVerdict, HintWhy};
 use crate::line::HintLine;
@@ -173,7 +173,7 @@ impl Judge {
         requires ready { IsReady self.old }
         requires within { IsLine (line_of line.now) }
         ensures ready { IfOk result (λ why. why ≡ None → IsReady self.new) }
-        ensures takes { IfOk result (λ why. (lines : List Line) → HasTaken self.old lines → TakesLine why self.old self.new lines (line_of line.now)) }
+        ensures takes { IfOk result (λ why. TakesNext why self.old self.new (line_of line.now)) }
     {
         let why = self.take_unnumbered(line)?;
         if why.is_none() {

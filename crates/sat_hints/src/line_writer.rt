@@ -1,9 +1,9 @@
 //! Writing lines of a hint text, through bytes that wait.
-ghost use Rattle.std.specs.Prelude.{◌≡◌, ◌+◌, ◌<◌, ◌∷◌, ◌++◌, [], false, decimal, codes};
+ghost use Rattle.std.specs.Prelude.{◌≡◌, ◌+◌, ◌<◌, ◌∷◌, [], false, decimal};
 ghost use Rattle.sat_base.specs.dimacs.DimacsText.{number_text};
 ghost use Rattle.sat_hints.specs.Lines.{Input, Derived, Gone, Core, Fresh, id_text, id_words, line_text, literal_words};
 ghost use Rattle.sat_hints.specs.inner.LineReading.{line_of};
-ghost use Rattle.sat_hints.specs.inner.LineWriting.{outlet, Put};
+ghost use Rattle.sat_hints.specs.inner.LineWriting.{outlet, both_words, Put};
 
 use crate::digits::write_digits;
 use crate::line::HintLine;
@@ -186,7 +186,7 @@ impl<W: CountedWrite> LineWriter<W> {
 
     /// `LITS 0 IDS 0` and LF.
     fn put_both(&mut self, literals: &[Lit], ids: &[u64])
-        ensures { Put (literal_words literals.now ++ (codes "0 " ++ (id_words ids.now ++ codes "0\n"))) (outlet W.seen self.old) (outlet W.seen self.new) }
+        ensures { Put (both_words literals.now ids.now) (outlet W.seen self.old) (outlet W.seen self.new) }
     {
         self.put_literals(literals);
         self.put_all(b"0 ");

@@ -67,3 +67,7 @@ TakesOne (Some why) old new line = (new.lines ≡ old.lines) × ((lines : List L
 abbrev pub TakesLine : Option HintWhy → Judge → Judge → List Line → Line → Type 0
 TakesLine None old new lines line = Follows lines line × HasTaken new (line ∷ lines)
 TakesLine (Some why) old new lines line = IsFaultOf lines line why × (new.lines ≡ old.lines)
+
+-- whatever lines it was behind
+abbrev pub TakesNext : Option HintWhy → Judge → Judge → Line → Type 0
+TakesNext why old new line = (lines : List Line) → HasTaken old lines → TakesLine why old new lines line

@@ -1,7 +1,8 @@
 -- How lines are written through bytes that wait.
-use Rattle.std.specs.Prelude.{ℕ, ◌≡◌, Bool, true, false, List, take}
+use Rattle.std.specs.Prelude.{ℕ, ◌≡◌, ◌++◌, Bool, true, false, List, take, codes}
 use Rattle.sat_base.specs.device.Device.{Writer}
 use Rattle.sat_base.specs.device.Sink.{Sink, Sent, Broken}
+use Rattle.sat_hints.specs.Lines.{id_words, literal_words}
 use Rattle.sat_hints.specs.declared.line_writer.LineWriter.{LineWriter}
 
 -- a writer with the bytes that wait for it, and whether a write has failed
@@ -21,6 +22,10 @@ PutBy true text old new = Broken old new text
 abbrev pub PutFrom : Bool → List ℕ → Outlet → Outlet → Type 0
 PutFrom true text old new = new ≡ old
 PutFrom false text old new = PutBy new.failed text old.sink new.sink
+
+-- `LITS 0 IDS 0` and LF
+abbrev pub both_words : List ℕ → List ℕ → List ℕ
+both_words literals ids = literal_words literals ++ (codes "0 " ++ (id_words ids ++ codes "0\n"))
 
 abbrev pub Put : List ℕ → Outlet → Outlet → Type 0
 Put text old new = PutFrom old.failed text old new
