@@ -69,9 +69,8 @@ fn count_with(count: usize, given: &[Given]) -> usize
     all
 }
 
-/// Goes back to level 0, and takes the indices that proof variables were given: new ones, or such as others gave up. The list has the
-/// proof variable of each index, or the one that it had last.
-pub fn new_indices(search: &mut Search, globals: &[Var], given: &[Given]) -> Result<(), AllocError>
+/// Makes room for the indices that proof variables were given, goes back to level 0, and takes them.
+fn add_indices(search: &mut Search, globals: &[Var], given: &[Given]) -> Result<(), AllocError>
     requires holds { Holds search.old.parts }
     requires same { length search.old.globals.items ≡ length search.old.parts.assignment.current }
     requires vacant { AreVacant search.old.parts (length globals.now) given.now }
@@ -86,4 +85,19 @@ pub fn new_indices(search: &mut Search, globals: &[Var], given: &[Given]) -> Res
     rename(&mut search.globals, globals, given);
     take_indices(&mut search.parts, given);
     Ok(())
+}
+
+/// Goes back to level 0, and takes the indices that proof variables were given: new ones, or such as others gave up. The list has the
+/// proof variable of each index, or the one that it had last.
+pub fn new_indices(search: &mut Search, globals: &[Var], given: &[Given]) -> Result<(), AllocError>
+    requires holds { Holds search.old.parts }
+    requires same { length search.old.globals.items ≡ length search.old.parts.assignment.current }
+    requires vacant { AreVacant search.old.parts (length globals.now) given.now }
+    ensures { OnOk result (AreIndexed globals.now given.now search.old search.new) }
+{
+    if given.is_empty() {
+        back_to_bottom(search);
+        return Ok(());
+    }
+    add_indices(search, globals, given)
 }

@@ -311,3 +311,50 @@ pub front_kept : (xs zs : List ℕ) (count m x : ℕ) → length xs ≤ count �
 front_kept xs zs count m x le e v lt = ap (λ ws. get_or ws v 0) e ∙ ap (λ ws. get_or (ws ++ replicate m x) v 0) (take_all count xs le) ∙ get_or_append_left xs (replicate m x) 0 v lt
 
 -- THE COUNT
+
+-- NO INDICES
+
+-- a session in which only variables without an index got names is the same to a search
+none_given : (globals : List ℕ) (count : ℕ) (s t : Session) (c : Search) → IsSearch s c → GivesNames globals [] count s t → IsSearch t c
+none_given globals count s t c x g = record {
+  stands = record {
+    holds = x.stands.holds;
+    fits = record {
+      clauses = of_on (global_in c) (global_in c) s.solver_names t.solver_names (λ v own. (refl, g.stays (global_in c v) v own)) s t
+          (solver_clauses (is_redundant c.parts.clauses) c.parts.clauses (live_refs c.parts.clauses c.parts.db.refs) c.parts.binary.implied) refl refl g.keeps.live x.stands.fits.clauses;
+      paired = x.stands.fits.paired;
+      known = λ l u. ap (λ f. f (with_var (global_in c) l)) g.keeps.units ∙ x.stands.fits.known l u;
+      sound = λ l own u. elim (g.others (global_in c (variable l)) (variable l) own) [
+        | inl old ↦ x.stands.fits.sound l old (ap (λ f. f (with_var (global_in c) l)) (sym g.keeps.units) ∙ u)
+        | inr h ↦ absurd h
+      ];
+      consistent = g.keeps.unsat ∙ x.stands.fits.consistent;
+      width = g.keeps.width ∙ x.stands.fits.width;
+    };
+  };
+  ready = record {
+    free = x.ready.free;
+    placed = x.ready.placed;
+    there = x.ready.there;
+    asked = g.keeps.assumed ∙ x.ready.asked;
+    used = λ v lt. elim (x.ready.used v lt) [ inl own ↦ inl (g.stays (global_in c v) v own) | inr idle ↦ inr idle ];
+  };
+}
+
+-- where no index was given, a search that went back to level 0 has all of them
+pub none_indexed : (globals : List ℕ) (c c' : Search) → length c.globals.items ≡ length c.parts.assignment.current → AtBottom c c' → AreIndexed globals [] c c'
+none_indexed globals c c' next back =
+    let kept : length c'.globals.items ≡ length c.globals.items = ap (λ v. length v.items) back.moved.globals in
+    record {
+      named = λ v h. absurd h;
+      others = λ v lt out. ap (λ w. get_or w.items v 0) back.moved.globals;
+      more = omega (arith, kept);
+      few = λ le. omega (arith, kept, le);
+      there = tt;
+      size = back.moved.size ∙ sym next ∙ sym kept;
+      ready = λ v h unset. absurd h;
+      lits = back.moved.lits;
+      bottom = back.bottom;
+      holds = back.holds;
+      search = λ s t x g. none_given globals (length c.globals.items) s t c' (back.search s x) g;
+    }
