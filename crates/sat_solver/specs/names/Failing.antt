@@ -15,7 +15,7 @@ IsFailure errors.OutOfMemory = Unit {0}
 IsFailure (errors.Write cause) = Unit {0}
 IsFailure (errors.Check fault) = Unit {0}
 
--- where a variable is left for each name that comes in with these, nothing else goes wrong
+-- where a variable is left for each name that comes in with these, an error is want of memory or a fault of what takes the steps
 abbrev pub OnlyFails : {A : Type 0} → Result A NameError → Variables → (users : List ℕ) → Type 0
 OnlyFails r n users = HasRoom n users → IfErr r IsFailure
 

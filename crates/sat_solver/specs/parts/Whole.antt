@@ -21,6 +21,7 @@ state p = state_of p.assignment p.graph p.trail
 abbrev pub HasClause : Parts → ℕ → Type 0
 HasClause p o = Contains (live_refs p.clauses p.db.refs) o
 
+-- one stands at each of these places
 abbrev pub HasClauses : Parts → List ℕ → Type 0
 HasClauses p os = (k : ℕ) → k < length os → HasClause p (get_or os k 0)
 

@@ -46,7 +46,7 @@ pub record Learned (earlier steps : List Step) (s : Session) (c c' : Search) : T
   pub rises : Rises c.parts c'.parts
   pub last : LastAdvances earlier steps
 
--- the same, where the buffer has room for it
+-- it made these steps, or failed, for a full clause buffer only where it is full
 abbrev pub LearnsClause : {W L : Type 0} {G : Ghosts L} → (W → Writer) → Result (Unit {0}) SolverError → Proof W L G → Proof W L G → Search → Search → Type 0
 LearnsClause seen r p p' c c' = GoesOr (IsFull c'.parts) seen r p p' (λ _ steps. Learned (steps_of p) steps (session_of p') c c')
 
