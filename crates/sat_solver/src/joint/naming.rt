@@ -1,15 +1,16 @@
 //! Clauses in proof variables, and their hashes.
-ghost use Rattle.std.specs.Prelude.{ℕ, ◌≡◌, ◌<◌, ◌≤◌, OnOk, length, map, slice_index_or};
+ghost use Rattle.std.specs.Prelude.{ℕ, ◌≡◌, ◌<◌, ◌≤◌, OnOk, length, map};
 ghost use Rattle.sat_base.specs.values.Literals.{variable};
 ghost use Rattle.sat_base.specs.values.Hashes.{hash_of};
 ghost use Rattle.sat_store.specs.clause.Buffer.{IsClause, lits_at};
+ghost use Rattle.sat_parts.specs.clause.Glue.{VariablesBelow};
 ghost use Rattle.sat_parts.specs.prop.State.{node};
 ghost use Rattle.sat_solver.specs.session.LiveClauses.{with_var};
 ghost use Rattle.sat_solver.specs.analysis.Derivation.{clause_of};
 ghost use Rattle.sat_solver.specs.parts.Whole.{state};
 ghost use Rattle.sat_solver.specs.acceptance.TrailUnits.{written_units};
 ghost use Rattle.sat_solver.specs.joint.Going.{IsOrderly};
-ghost use Rattle.sat_solver.specs.joint.Naming.{global_of};
+ghost use Rattle.sat_solver.specs.joint.Naming.{global_of, ReasonsAreStored, ReasonsHaveLiterals};
 ghost use Rattle.sat_solver.specs.joint.Laws.{named_hashes};
 
 use crate::parts::Parts;
@@ -19,7 +20,7 @@ use std::alloc::AllocError;
 
 /// Puts the literals, in proof variables, into a list in place of what it had.
 pub fn map_lits(globals: &[Var], lits: &[Lit], clause: &mut Vec<Lit>) -> Result<(), AllocError>
-    requires { (k : ℕ) → k < length lits.now → variable (slice_index_or lits.now k 0) < length globals.now }
+    requires { VariablesBelow lits.now (length globals.now) }
     ensures { OnOk result (clause.new.items ≡ map (with_var (global_of globals.now)) lits.now) }
 {
     clause.clear();
@@ -58,9 +59,9 @@ pub fn name_reasons(
     used: &[Lit],
     hashes: &mut Vec<ClauseHash>,
 ) -> Result<(), AllocError>
-    requires there { (k : ℕ) → k < length used.now → variable (slice_index_or used.now k 0) < length parts.now.graph }
-    requires clause { (k o : ℕ) → k < length used.now → (node (state parts.now) (slice_index_or used.now k 0)).reason ≡ Reason.Long o → IsClause parts.now.clauses o }
-    requires some { (k o : ℕ) → k < length used.now → (node (state parts.now) (slice_index_or used.now k 0)).reason ≡ Reason.Long o → 0 < length (lits_at parts.now.clauses o) }
+    requires there { VariablesBelow used.now (length parts.now.graph) }
+    requires clause { ReasonsAreStored parts.now.clauses (state parts.now) used.now }
+    requires some { ReasonsHaveLiterals parts.now.clauses (state parts.now) used.now }
     ensures { OnOk result (hashes.new.items ≡ map (λ l. hash_of (clause_of parts.now.clauses (state parts.now) l)) used.now) }
 {
     hashes.clear();
@@ -77,9 +78,9 @@ pub fn name_clauses(
     conflict: &Conflict,
     hashes: &mut Vec<ClauseHash>,
 ) -> Result<(), AllocError>
-    requires there { (k : ℕ) → k < length used.now → variable (slice_index_or used.now k 0) < length parts.now.graph }
-    requires clause { (k o : ℕ) → k < length used.now → (node (state parts.now) (slice_index_or used.now k 0)).reason ≡ Reason.Long o → IsClause parts.now.clauses o }
-    requires some { (k o : ℕ) → k < length used.now → (node (state parts.now) (slice_index_or used.now k 0)).reason ≡ Reason.Long o → 0 < length (lits_at parts.now.clauses o) }
+    requires there { VariablesBelow used.now (length parts.now.graph) }
+    requires clause { ReasonsAreStored parts.now.clauses (state parts.now) used.now }
+    requires some { ReasonsHaveLiterals parts.now.clauses (state parts.now) used.now }
     requires conflict { (o : ℕ) → conflict.now ≡ Conflict.Long o → IsClause parts.now.clauses o }
     ensures { OnOk result (hashes.new.items ≡ named_hashes parts.now.clauses (state parts.now) used.now conflict.now) }
 {

@@ -81,7 +81,8 @@ impl<W: CountedWrite> Output<W> {
         step: &ProofStep<'_>,
     ) -> Result<(), ProofError>
         ensures format { output_format self.new ≡ output_format self.old }
-        ensures puts { PutsSteps (output_format self.old) result (step_of step.now ∷ width_told widths.0 widths.1) (output_sink W.seen self.old) (output_sink W.seen self.new) }
+        ensures puts { PutsSteps (output_format self.old) result (step_of step.now ∷ width_told widths.0 widths.1)
+            (output_sink W.seen self.old) (output_sink W.seen self.new) }
     {
         match self {
             Output::Steps(writer) => write_at(writer, widths, step),

@@ -32,7 +32,8 @@ pub fn write_at<W: CountedWrite>(
     widths: (HashBits, HashBits),
     step: &ProofStep<'_>,
 ) -> Result<(), ProofError>
-    ensures { PutsSteps Varisat result (step_of step.now ∷ width_told widths.0 widths.1) (steps_sink W.seen writer.old) (steps_sink W.seen writer.new) }
+    ensures { PutsSteps Varisat result (step_of step.now ∷ width_told widths.0 widths.1)
+        (steps_sink W.seen writer.old) (steps_sink W.seen writer.new) }
 {
     let (before, now) = widths;
     tell_width(writer, before, now)?;
