@@ -95,16 +95,17 @@ fn is_ready(checker: &mut Checker) -> bool {
     checker.self_check_step(&known).is_ok() && checker.self_check_step(&none).is_ok()
 }
 
-/// Changes the width to this one and back, so often.
+/// Whether a change to this width is accepted.
+fn is_changed(checker: &mut Checker, bits: HashBits) -> bool {
+    let change = ProofStep::ChangeHashBits { bits };
+    checker.self_check_step(&change).is_ok()
+}
+
+/// Changes the width to this one and back, so often. The answer is whether each change was accepted.
 fn changes(checker: &mut Checker, bits: HashBits, whole: HashBits, times: u64) -> bool {
     for _ in 0..times {
-        for bits in [bits, whole] {
-            if checker
-                .self_check_step(&ProofStep::ChangeHashBits { bits })
-                .is_err()
-            {
-                return false;
-            }
+        if !is_changed(checker, bits) || !is_changed(checker, whole) {
+            return false;
         }
     }
     true
