@@ -95,27 +95,27 @@ fn is_ready(checker: &mut Checker) -> bool {
     checker.self_check_step(&known).is_ok() && checker.self_check_step(&none).is_ok()
 }
 
-/// Whether a change to this width is accepted.
-fn is_changed(checker: &mut Checker, bits: HashBits) -> bool {
-    let change = ProofStep::ChangeHashBits { bits };
-    checker.self_check_step(&change).is_ok()
-}
-
-/// Changes the width to this one and back, so often. The answer is whether each change was accepted.
-fn changes(checker: &mut Checker, bits: HashBits, whole: HashBits, times: u64) -> bool {
+/// Gives the steps in turn, so often. The answer is whether each was accepted.
+fn are_accepted(checker: &mut Checker, steps: &[ProofStep<'_>], times: u64) -> bool {
     for _ in 0..times {
-        if !is_changed(checker, bits) || !is_changed(checker, whole) {
-            return false;
+        for step in steps {
+            if checker.self_check_step(step).is_err() {
+                return false;
+            }
         }
     }
     true
 }
 
-/// The looks that a step takes behind so many changes of the width, whether it is accepted or not.
-fn looks_of(alloc: Global, step: &ProofStep<'_>, times: u64) -> Option<u64> {
+/// The looks that a step takes behind these, given so often, whether it is accepted or not.
+fn looks_of(
+    alloc: Global,
+    earlier: &[ProofStep<'_>],
+    times: u64,
+    step: &ProofStep<'_>,
+) -> Option<u64> {
     let mut checker = Checker::new(alloc);
-    let (bits, whole) = (HashBits::new(8)?, HashBits::new(64)?);
-    if !is_ready(&mut checker) || !changes(&mut checker, bits, whole, times) {
+    if !is_ready(&mut checker) || !are_accepted(&mut checker, earlier, times) {
         return None;
     }
     let before = checker.looks();
@@ -131,7 +131,7 @@ fn looks_of_each_kind(rt: HostRuntime) {
         return;
     };
     for (step, wanted) in &kinds(&two[..1], &two, &[HASH], &units, bits) {
-        assert!(rt; looks_of(rt.alloc(), step, 0) == Some(*wanted));
+        assert!(rt; looks_of(rt.alloc(), &[], 0, step) == Some(*wanted));
     }
 }
 
@@ -139,11 +139,18 @@ fn looks_of_each_kind(rt: HostRuntime) {
 #[test]
 fn looks_behind_changes(rt: HostRuntime) {
     let two = [Lit::from_code(0), Lit::from_code(2)];
-    let step = ProofStep::AtClause {
+    let (Some(bits), Some(whole)) = (HashBits::new(8), HashBits::new(64)) else {
+        return;
+    };
+    let changes = [
+        ProofStep::ChangeHashBits { bits },
+        ProofStep::ChangeHashBits { bits: whole },
+    ];
+    let derived = ProofStep::AtClause {
         redundant: false,
         clause: &two[..1],
         propagation_hashes: &[HASH],
     };
-    assert!(rt; looks_of(rt.alloc(), &step, 4000) == Some(8 + 2));
-    assert!(rt; looks_of(rt.alloc(), &ProofStep::End, 4000) == Some(0));
+    assert!(rt; looks_of(rt.alloc(), &changes, 4000, &derived) == Some(8 + 2));
+    assert!(rt; looks_of(rt.alloc(), &changes, 4000, &ProofStep::End) == Some(0));
 }
