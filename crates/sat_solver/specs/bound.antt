@@ -4,3 +4,4 @@ pub mod Progress
 pub mod Climbing
 pub mod Counting
 pub mod Going
+pub mod Rounds

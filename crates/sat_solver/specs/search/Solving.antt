@@ -7,6 +7,7 @@ use Rattle.sat_parts.specs.prop.TrailWord.{Letter}
 use Rattle.sat_solver.specs.session.ProofView.{Gains, Keeps, steps_of, session_of}
 use Rattle.sat_solver.specs.session.Coming.{Comes, EndsAtUnsat}
 use Rattle.sat_solver.specs.session.Session.{Session, session_after}
+use Rattle.sat_solver.specs.parts.Frame.{SameClauses}
 use Rattle.sat_solver.specs.parts.Words.{Words}
 use Rattle.sat_solver.specs.joint.Advancing.{Advances}
 use Rattle.sat_solver.specs.joint.Quiet.{NeverAdvances, is_quiet}
@@ -16,6 +17,8 @@ use Rattle.sat_solver.specs.declared.error.SolverError.{SolverError}
 use Rattle.sat_solver.specs.declared.search.solving.Core.{Core}
 use Rattle.sat_solver.specs.declared.search.work.Search.{Search}
 use Rattle.sat_solver.specs.search.Joint.{assumed_in, IsSearch, Moved}
+use Rattle.sat_solver.specs.search.Ending.{RoundEnds}
+use Rattle.sat_solver.specs.search.Reducing.{Reduces}
 use Rattle.sat_solver.specs.search.Rounds.{RoundFails, RoundShows}
 use Rattle.sat_solver.specs.names.Calls.{DoesNothing}
 use Rattle.sat_solver.specs.declared.names.Variables.{Variables}
@@ -97,3 +100,17 @@ EndedBy seen rounds answer a n b m = MatchOption answer (Unit {0}) (λ o. Ended 
 -- it came to this fault
 abbrev pub Broke : {W L : Type 0} {G : Ghosts L} → (W → Writer) → Core W L G → SolverError → Core W L G → Type 0
 Broke seen a e b = FallsOr (IsFull b.search.parts) seen e a.proof b.proof
+
+-- decisions were undone, down to the levels of assumptions, and nothing else changed
+pub record Restarted {W L : Type 0} {G : Ghosts L} (a b : Core W L G) : Type 0 where
+  pub levels : length b.search.parts.trail.starts ≡ length a.search.assumptions.below.items
+  pub clauses : SameClauses a.search.parts b.search.parts
+  pub same : b ≡ record a { search = record a.search { parts = b.search.parts } }
+
+-- a reduction before the round of this number
+abbrev pub ReducedAt : {W L : Type 0} {G : Ghosts L} → Core W L G → ℕ → Core W L G → Type 0
+ReducedAt a round b = Reduces a.config round a.search.parts b.search.parts
+
+-- a round, which ended so
+abbrev pub RoundOf : {W L : Type 0} {G : Ghosts L} → (W → Writer) → Core W L G → Variables → Outcome → Core W L G → Variables → Type 0
+RoundOf seen a n outcome b m = RoundEnds seen outcome n m a.proof b.proof a.search b.search

@@ -4,6 +4,7 @@ ghost use Rattle.sat_parts.specs.prop.TrailWord.{Letter};
 ghost use Rattle.sat_solver.specs.bound.Climbing.{KeepsProgress};
 ghost use Rattle.sat_solver.specs.bound.Counting.{AnswersWithin, CountsOn, SpendsRounds, TakesRound, steps_left};
 ghost use Rattle.sat_solver.specs.bound.Going.{AddsNoRound, EndsBy, GoesBy};
+ghost use Rattle.sat_solver.specs.bound.Rounds.{ComesBy, RestartsWhereDue};
 
 use crate::bound::restarts::{Restarts, begin_gap};
 
@@ -58,6 +59,12 @@ pub trait Rounds {
     ghost ends: { Self → Self.Names → ℕ → Outcome → Self → Self.Names → Type 0 };
     /// It came from there to this fault.
     ghost fails: { Self → Self.Fault → Self → Type 0 };
+    /// It restarted.
+    ghost restarted: { Self → Self → Type 0 };
+    /// It reduced, before the round of this number.
+    ghost reduced: { Self → ℕ → Self → Type 0 };
+    /// It came from there by a round, which ended so.
+    ghost rounded: { Self → Self.Names → Outcome → Self → Self.Names → Type 0 };
 
     /// Undoes all decisions.
     fn restart(&mut self, names: &Self::Names)
@@ -65,7 +72,8 @@ pub trait Rounds {
         ensures sound { sound self.new names.now }
         ensures most { most self.new ≡ most self.old }
         ensures words { StartsAnew words self.old self.new }
-        ensures goes { AddsNoRound goes self.old names.now self.new names.now };
+        ensures goes { AddsNoRound goes self.old names.now self.new names.now }
+        ensures restarts { restarted self.old self.new };
 
     /// What stands between rounds: reductions, collection.
     fn reduce(&mut self, names: &Self::Names, round: u64) -> Result<(), Self::Fault>
@@ -74,6 +82,7 @@ pub trait Rounds {
         ensures most { OnOk result (most self.new ≡ most self.old) }
         ensures words { OnOk result (Keeps words self.old self.new) }
         ensures goes { OnOk result (AddsNoRound goes self.old names.now self.new names.now) }
+        ensures reduces { OnOk result (reduced self.old round self.new) }
         ensures fails { IfErr result (λ e. (s : Self) (n : Self.Names) (k : ℕ) → goes s n k self.old names.now → fails s e self.new) };
 
     /// Up to a conflict and what is learned from it, or an answer.
@@ -84,6 +93,7 @@ pub trait Rounds {
         ensures words { IfOk result (λ r. r ≡ Outcome.Learned → Climbs words (most self.old) self.old self.new) }
         ensures goes { IfOk result (λ r. r ≡ Outcome.Learned → AddsRound goes self.old names.old self.new names.new) }
         ensures ends { IfOk result (λ r. r ≢ Outcome.Learned → AddsAnswer goes ends self.old names.old r self.new names.new) }
+        ensures rounded { IfOk result (λ r. rounded self.old names.old r self.new names.new) }
         ensures fails { IfErr result (λ e. (s : Self) (n : Self.Names) (k : ℕ) → goes s n k self.old names.old → fails s e self.new) };
 }
 
@@ -102,6 +112,7 @@ fn restart_where_due<R: Rounds>(
     ensures most { R.most rounds.new ≡ R.most rounds.old }
     ensures come { KeepsProgress R.words round rounds.old restarts.old.next restarts.old.sequence rounds.new restarts.new.next restarts.new.sequence }
     ensures goes { AddsNoRound R.goes rounds.old names.now rounds.new names.now }
+    ensures due { RestartsWhereDue R.restarted round rounds.old restarts.old rounds.new restarts.new }
 {
     if round < restarts.next {
         return;
@@ -129,6 +140,7 @@ pub fn search<R: Rounds>(
     ensures answered { AnswersWithin result (R.most rounds.old) (steps_left max_steps steps.old) }
     ensures goes { IfOk result (λ r. r ≡ None → GoesBy R.sound R.most R.goes (steps.new - steps.old) rounds.old names.old rounds.new names.new) }
     ensures ends { IfOk result (λ r. EndsBy R.goes R.ends (steps.new - steps.old) r rounds.old names.old rounds.new names.new) }
+    ensures rounds { IfOk result (λ o. ComesBy R.restarted R.reduced R.rounded o rounds.old names.old restarts.old steps.old rounds.new names.new restarts.new steps.new) }
     ensures fails { IfErr result (λ e. (s : R) (n : R.Names) → R.goes s n 0 rounds.old names.old → R.fails s e rounds.new) }
 {
     let end = steps.saturating_add(max_steps);

@@ -1,7 +1,8 @@
 //! Rounds up to an answer.
 ghost use Rattle.std.specs.Prelude.{◌≡◌, ◌-◌, ◌<◌, IfOk, IfErr, None};
 ghost use Rattle.sat_solver.specs.bound.Counting.{AnswersWithin, CountsOn, SpendsRounds, TakesRound, steps_left};
-ghost use Rattle.sat_solver.specs.search.Solving.{values_in, EndedBy, Broke};
+ghost use Rattle.sat_solver.specs.bound.Rounds.{ComesBy};
+ghost use Rattle.sat_solver.specs.search.Solving.{values_in, EndedBy, Broke, Restarted, ReducedAt, RoundOf};
 ghost use Rattle.sat_solver.specs.solver.Found.{FoundNone};
 ghost use Rattle.sat_solver.specs.solver.Joined.{IsJoined};
 
@@ -26,7 +27,7 @@ pub struct Core<W: CountedWrite + Drop, P: ProofProcessor = Nobody> {
 }
 
 impl<W: CountedWrite + Drop, P: ProofProcessor> Rounds for Core<W, P> {
-    ghost use Rattle.sat_solver.specs.search.Solving.{words_in, values_in, Gone, Ended, Broke};
+    ghost use Rattle.sat_solver.specs.search.Solving.{words_in, values_in, Gone, Ended, Broke, Restarted, ReducedAt, RoundOf};
     ghost use Rattle.sat_solver.specs.solver.Joined.{IsJoined};
 
     type Fault = SolverError;
@@ -44,6 +45,12 @@ impl<W: CountedWrite + Drop, P: ProofProcessor> Rounds for Core<W, P> {
     ghost ends = { Ended W.seen };
 
     ghost fails = { Broke W.seen };
+
+    ghost restarted = { Restarted };
+
+    ghost reduced = { ReducedAt };
+
+    ghost rounded = { RoundOf W.seen };
 
     fn restart(&mut self, _names: &Variables) {
         restart(&mut self.search.parts, &self.search.assumptions);
@@ -76,6 +83,7 @@ pub fn solve<W: CountedWrite + Drop, P: ProofProcessor>(
     ensures answered { AnswersWithin result (values_in core.old) (steps_left max_steps steps.old) }
     ensures goes { IfOk result (λ r. r ≡ None → FoundNone W.seen (steps.new - steps.old) names.old names.new core.old core.new) }
     ensures ends { IfOk result (λ r. EndedBy W.seen (steps.new - steps.old) r core.old names.old core.new names.new) }
+    ensures rounds { IfOk result (λ o. ComesBy Restarted ReducedAt (RoundOf W.seen) o core.old names.old restarts.old steps.old core.new names.new restarts.new steps.new) }
     ensures fails { IfErr result (λ e. Broke W.seen core.old e core.new) }
 {
     search(core, names, restarts, steps, max_steps)

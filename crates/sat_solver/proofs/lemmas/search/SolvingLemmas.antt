@@ -39,9 +39,9 @@ use Rattle.sat_solver.specs.parts.Full.{IsFull}
 use Rattle.sat_solver.specs.search.Going.{Goes}
 use Rattle.sat_solver.specs.search.Joint.{assumed_in, Moved, global_in, IsSearch}
 use Rattle.sat_solver.specs.search.Learning.{LastAdvances}
-use Rattle.sat_solver.specs.search.Reducing.{Reduced}
+use Rattle.sat_solver.specs.search.Reducing.{Reduced, Reduces}
 use Rattle.sat_solver.specs.search.Rounds.{RoundLearns, RoundSays}
-use Rattle.sat_solver.specs.search.Solving.{AdvanceTimes, StandsStill, words_in, values_in, Gone, EndSays, Ended, Broke}
+use Rattle.sat_solver.specs.search.Solving.{AdvanceTimes, StandsStill, words_in, values_in, Gone, EndSays, Ended, Broke, ReducedAt, RoundOf}
 use Rattle.sat_solver.proofs.lemmas.search.TurnLemmas.{moved_refl, moved_trans, ready_moved, free_moved, leaves_refl}
 use Rattle.sat_solver.specs.parts.Frame.{SameClauses, Carries}
 use Rattle.sat_solver.proofs.lemmas.joint.LearnedLemmas.{fits_undone}
@@ -137,6 +137,11 @@ module _ {W L : Type 0} {G : Ghosts L} (seen : W → Writer) where
 
   -- REDUCTIONS
 
+  -- a reduction does what is due
+  pub reduced_at : (a b : Core W L G) (round : ℕ) (r : Result (Unit {0}) SolverError) → Goes seen r a.proof b.proof (λ _ _. Reduced (session_of b.proof) a.search b.search × Reduces a.config round a.search.parts b.search.parts) → OnOk r (ReducedAt a round b)
+  reduced_at a b round (Ok x) g = g.ends.1
+  reduced_at a b round (Err e) g = tt
+
   module _ (a b : Core W L G) (n : Variables) (config : b.config ≡ a.config) (joined : IsJoined n a) where
     abbrev Reduction : Result (Unit {0}) SolverError → Type 0
     Reduction r = Goes seen r a.proof b.proof (λ _ _. Reduced (session_of b.proof) a.search b.search)
@@ -160,6 +165,10 @@ module _ {W L : Type 0} {G : Ghosts L} (seen : W → Writer) where
     reduced_fails (Err e) g = λ s m k gone. falls a b n n config e (falls_or seen (IsFull b.search.parts) e a.proof b.proof (falls_goes seen e a.proof b.proof (λ _ _. Reduced (session_of b.proof) a.search b.search) g)) s m k gone
 
   -- ROUNDS
+
+  pub round_is : (a b : Core W L G) (na nb : Variables) (r : Result Outcome SolverError) → EndsRound seen r na nb a.proof b.proof a.search b.search → IfOk r (λ o. RoundOf seen a na o b nb)
+  round_is a b na nb (Ok o) g = g
+  round_is a b na nb (Err e) g = tt
 
   module _ (a b : Core W L G) (na nb : Variables) (config : b.config ≡ a.config) (joined : IsJoined na a) where
     abbrev Round : Result Outcome SolverError → Type 0

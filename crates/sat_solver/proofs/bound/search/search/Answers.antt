@@ -1,6 +1,7 @@
 use Rattle.std.proofs.Common.{ℕ, ◌+◌, ◌-◌, ◌≤◌, ◌≡◌, ◌∙◌, subst, refl, sym, arith}
 use Rattle.std.proofs.lemmas.Bool.{true≢false}
 use Rattle.sat_solver.specs.bound.Climbing.{Climbs}
+use Rattle.sat_solver.specs.bound.Rounds.{no_round, one_more as one_more_round}
 use Rattle.sat_solver.proofs.lemmas.bound.ProgressLemmas.{come_begins, come_climbs, come_keeps, few_rounds, none_left}
 use Rattle.sat_solver.proofs.bound.search.search.Goals as goal
 
@@ -24,6 +25,7 @@ loop-steps-init g c = record {
   within = omega (arith, c.saturating_add-end.ensures);
   come = λ few. come_begins g.R.Rounds.words c.args.rounds.now (g.R.Rounds.most c.args.rounds.now) c.args.steps.now c.args.restarts.now.next c.args.restarts.now.sequence g.word c.requires.1.1.1.1.0 few;
   goes = λ s m h. from_start (λ k. g.R.Rounds.goes s m k c.args.rounds.now c.args.names.now) c.args.steps.now h;
+  rounds = no_round;
 }
 
 pub loop-steps-preserved : goal.loop-steps-preserved
@@ -49,6 +51,13 @@ loop-steps-preserved g c =
           one_more (λ k. g.R.Rounds.goes s m k c.round.new.self c.round.new.names) c.loop-steps.steps c.args.steps.now c.loop-steps.invariant.before
           (c.in_ok-outcome.ensures.goes learned s m (c.loop-steps.steps - c.args.steps.now)
           (c.in_ok-reduce.ensures.goes s m (c.loop-steps.steps - c.args.steps.now) (c.restart_where_due.ensures.goes s m (c.loop-steps.steps - c.args.steps.now) (c.loop-steps.invariant.goes s m h))));
+      rounds = one_more_round c.loop-steps.invariant.rounds (record {
+        behind_restart = c.restart_where_due.new.rounds;
+        due = c.restart_where_due.ensures.due;
+        behind_reduction = c.reduce.new.self;
+        reduction = c.in_ok-reduce.ensures.reduces;
+        ends = subst (λ o. g.R.Rounds.rounded c.reduce.new.self c.loop-steps.names o c.round.new.self c.round.new.names) learned c.in_ok-outcome.ensures.rounded;
+      });
     }
 
 pub returns-then-not-is_learned-clause-counts : goal.returns-then-not-is_learned-clause-counts
@@ -69,6 +78,23 @@ returns-then-not-is_learned-clause-ends g c = λ s m h.
     (c.in_ok-outcome.ensures.ends (λ e. true≢false (sym (c.if-not-is_learned.ensures.1 e))) s m n
     (c.in_ok-reduce.ensures.goes s m n (c.restart_where_due.ensures.goes s m n (c.loop-steps.invariant.goes s m h)))))
 
+pub returns-then-not-is_learned-clause-rounds : goal.returns-then-not-is_learned-clause-rounds
+returns-then-not-is_learned-clause-rounds g c = (
+  c.loop-steps.rounds,
+  c.loop-steps.names,
+  c.loop-steps.restarts,
+  c.loop-steps.steps,
+  refl,
+  c.loop-steps.invariant.rounds,
+  record {
+    behind_restart = c.restart_where_due.new.rounds;
+    due = c.restart_where_due.ensures.due;
+    behind_reduction = c.reduce.new.self;
+    reduction = c.in_ok-reduce.ensures.reduces;
+    ends = c.in_ok-outcome.ensures.rounded;
+  },
+)
+
 pub returns : goal.returns
 returns g c =
     let few = few_rounds g.R.Rounds.words c.loop-steps.rounds (g.R.Rounds.most c.args.rounds.now) c.args.steps.now c.loop-steps.steps c.loop-steps.restarts.next c.loop-steps.restarts.sequence
@@ -86,6 +112,7 @@ returns g c =
           (omega (arith, c.loop-steps-test.false, c.saturating_add-end.ensures));
       goes = λ e. (c.loop-steps.invariant.sound, c.loop-steps.invariant.most, λ s m h. c.loop-steps.invariant.goes s m h);
       ends = tt;
+      rounds = c.loop-steps.invariant.rounds;
       fails = tt;
     }
 

@@ -21,5 +21,8 @@ returns-clause-sound g c =
       shares = shares_moved c.args._names.now c.args.self.now.search d c.requires.shares (record { globals = refl; lits = refl; size = e.carries.size });
     }
 
+pub returns-clause-restarts : goal.returns-clause-restarts
+returns-clause-restarts g c = record { levels = c.restart.ensures.levels; clauses = c.restart.ensures.same; same = refl }
+
 pub returns-clause-words : goal.returns-clause-words
 returns-clause-words g c = words_stay (assumed_in c.args.self.now.search) c.args.self.now.search.parts c.restart.new.parts c.restart.ensures.stay

@@ -1,6 +1,6 @@
 use Rattle.std.proofs.Common.{refl}
 use Rattle.sat_solver.specs.declared.search.solving.Core.{Core}
-use Rattle.sat_solver.proofs.lemmas.search.SolvingLemmas.{round_sound, round_most, round_words, round_goes, round_ends, round_fails}
+use Rattle.sat_solver.proofs.lemmas.search.SolvingLemmas.{round_is, round_sound, round_most, round_words, round_goes, round_ends, round_fails}
 use Rattle.sat_solver.proofs.search.solving.CoreRounds.round.Goals as goal
 
 pub returns-clause-sound : goal.returns-clause-sound
@@ -32,3 +32,8 @@ pub returns-clause-fails : goal.returns-clause-fails
 returns-clause-fails g c =
     let b : Core g.row.W.Denot g.row.P.Denot g.P.ProofProcessor = record c.args.self.now { proof = c.round.new.proof; search = c.round.new.search } in
     round_fails g.W.CountedWrite.seen c.args.self.now b c.args.names.now c.round.new.names refl c.requires c.round.result c.round.ensures
+
+pub returns-clause-rounded : goal.returns-clause-rounded
+returns-clause-rounded g c =
+    let b : Core g.row.W.Denot g.row.P.Denot g.P.ProofProcessor = record c.args.self.now { proof = c.round.new.proof; search = c.round.new.search } in
+    round_is g.W.CountedWrite.seen c.args.self.now b c.args.names.now c.round.new.names c.round.result c.round.ensures
