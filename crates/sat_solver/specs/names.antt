@@ -16,4 +16,5 @@ pub mod Counting
 pub mod Searching
 pub mod Models
 pub mod Coming
+pub mod Ordering
 pub mod Room

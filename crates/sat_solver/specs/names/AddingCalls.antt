@@ -11,7 +11,7 @@ use Rattle.sat_solver.specs.names.Adding.{named_literal, Images, MapsClause}
 use Rattle.sat_solver.specs.names.Search.{KeepsSearch, IsUnseen, Gives}
 use Rattle.sat_solver.specs.names.Calls.{Does}
 use Rattle.sat_solver.specs.session.Coming.{Comes}
-use Rattle.sat_solver.specs.names.Coming.{MayTake}
+use Rattle.sat_solver.specs.names.Coming.{IsDue, MayTake}
 use Rattle.sat_solver.specs.declared.names.Variables.{Variables}
 use Rattle.sat_solver.specs.declared.names.taking.Taken.{Taken}
 
@@ -25,6 +25,7 @@ pub record AddsClause (old new : Variables) (from to : List Step) (user : List â
   pub gives : Gives old new (session_after from) t.given.items
   -- the steps before the clause's, which the search doesn't see
   pub between : List Step
+  pub since : Comes (MayTake (names_in user)) from between
   pub written : to â‰¡ AddClause t.globals.items âˆ· between
   pub search : KeepsSearch (session_after from) (session_after between)
   pub comes : Comes (MayTake (names_in user)) from to
@@ -34,4 +35,4 @@ pub record LeavesOut (old new : Variables) (from to : List Step) (user : List â„
   pub does : Does old new from to (Î» j. with_clause (map named_literal user) (bring_all (names_in user) j)) (bringing (names_in user))
   pub extends : Extends old new
   pub unseen : IsUnseen old new from to
-  pub comes : Comes (MayTake (names_in user)) from to
+  pub comes : Comes IsDue from to

@@ -7,7 +7,8 @@ use Rattle.sat_solver.specs.declared.error.SolverError.{SolverError}
 use Rattle.sat_solver.specs.declared.error.SolverError.TheVariants as errors
 use Rattle.sat_solver.specs.names.Adding.{named_literal}
 use Rattle.sat_solver.specs.names.Calls.{Agree, Does}
-use Rattle.sat_solver.specs.names.Coming.{MayAdd, MayTake}
+use Rattle.sat_solver.specs.names.Coming.{IsDue, MayAdd, MayTake}
+use Rattle.sat_solver.specs.names.Ordering.{AddsInOrder}
 use Rattle.sat_solver.specs.session.Coming.{Comes}
 use Rattle.sat_solver.specs.session.Making.{Took}
 use Rattle.sat_solver.specs.session.ProofView.{is_drat, has_asked, target_of}
@@ -87,6 +88,8 @@ pub record Added {W L : Type 0} {G : Ghosts L} (seen : W → Writer) (old new : 
   pub room : HasRoom old.names (users_in user)
   pub did : Did seen old new (with_added user) (due_for_clause old.state user)
   pub comes : Comes (MayAdd (names_in user)) (steps_in old) (steps_in new)
+  pub order : (old.state ≡ states.Unsat → ⊥) → AddsInOrder (steps_in old) (steps_in new)
+  pub left_out : old.state ≡ states.Unsat → Comes IsDue (steps_in old) (steps_in new)
   pub asked : has_asked new.core.proof ≡ has_asked old.core.proof
   pub assumed : new.assumed ≡ old.assumed
   pub clock : new.clock ≡ old.clock
@@ -127,6 +130,8 @@ pub record TookIn {W L : Type 0} {G : Ghosts L} (seen : W → Writer) (old new :
   pub whole : IsWhole new
   pub does : Does old.names new.names (steps_in old) (steps_in new) (with_added user) (due_for_clause old.state user)
   pub comes : Comes (MayAdd (names_in user)) (steps_in old) (steps_in new)
+  pub order : (old.state ≡ states.Unsat → ⊥) → AddsInOrder (steps_in old) (steps_in new)
+  pub left_out : old.state ≡ states.Unsat → Comes IsDue (steps_in old) (steps_in new)
   pub took : Took seen old.core.proof new.core.proof
   pub asked : has_asked new.core.proof ≡ has_asked old.core.proof
   pub failed : new.failed ≡ old.failed

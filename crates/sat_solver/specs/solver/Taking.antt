@@ -13,6 +13,7 @@ use Rattle.sat_solver.specs.search.Going.{IsFaultOr, Went}
 use Rattle.sat_solver.specs.names.Adding.{named_literal, Images}
 use Rattle.sat_solver.specs.names.Calls.{Does}
 use Rattle.sat_solver.specs.names.Coming.{MayAdd, MayTake}
+use Rattle.sat_solver.specs.names.Ordering.{AddsInOrder}
 use Rattle.sat_solver.specs.session.Coming.{Comes}
 use Rattle.sat_checker.specs.matching.Expected.{Outcome, Adds, Opens, bringing}
 use Rattle.sat_solver.specs.names.Naming.{KeepsNames}
@@ -36,6 +37,7 @@ pub record TookClause {W L : Type 0} {G : Ghosts L} (seen : W → Writer) (n n' 
   pub does : Does n n' (steps_of a.proof) (steps_of b.proof) (λ j. with_clause (map named_literal user) (bring_all (names_in user) j)) (λ j. bringing (names_in user) j ++ (Adds (map named_literal user) ∷ []))
   pub took : Gained seen a.proof b.proof
   pub comes : Comes (MayAdd (names_in user)) (steps_of a.proof) (steps_of b.proof)
+  pub order : AddsInOrder (steps_of a.proof) (steps_of b.proof)
   pub goes_on : GoesOnOr left n' b
   pub names : KeepsNames n n'
   pub images : KeepImages n n'

@@ -48,6 +48,7 @@ clause_added old mid from mids to user t u both_signs takes maps signs order giv
   clause = maps;
   gives = subst (Gives old mid (session_after from)) (sym (ap (λ v. v.items) given)) takes.gives;
   between = mids;
+  since = takes.comes;
   written = e;
   search = takes.search;
   comes = comes_both (MayTake (names_in user)) from mids to takes.comes (comes_one (MayTake (names_in user)) mids to (AddClause u.globals.items) e refl);

@@ -29,7 +29,6 @@ use Rattle.sat_solver.proofs.lemmas.names.TakenNames.{Brings}
 use Rattle.sat_solver.specs.session.Coming.{Comes}
 use Rattle.sat_solver.specs.names.Coming.{IsDue}
 use Rattle.sat_solver.proofs.lemmas.session.ComingLemmas.{comes_none, comes_both}
-use Rattle.sat_solver.proofs.lemmas.names.ComingSteps.{comes_due}
 
 -- so many names came in
 pub record Bringing (old now : Variables) (from steps : List Step) (all : List ℕ) (index : ℕ) : Type 0 where
@@ -97,7 +96,7 @@ brought_out old new from to all index le unsat b = record {
   };
   extends = b.extends;
   unseen = b.unseen;
-  comes = comes_due (names_in all) from to b.comes;
+  comes = b.comes;
 }
   where
     brings : Brings old new from to all

@@ -39,7 +39,7 @@ use Rattle.sat_checker.specs.matching.Expected.{Unknown}
 use Rattle.sat_solver.specs.names.Variables.{AreJudged}
 use Rattle.std.proofs.lemmas.Bool.{true≢false}
 use Rattle.sat_solver.proofs.lemmas.solver.TakingLemmas.{took_starved}
-use Rattle.sat_solver.proofs.lemmas.names.ComingSteps.{comes_added}
+use Rattle.sat_solver.proofs.lemmas.names.ComingSteps.{comes_added, comes_due}
 use Rattle.sat_solver.specs.session.Coming.{Comes}
 use Rattle.sat_solver.specs.names.Coming.{MayTake}
 
@@ -104,6 +104,8 @@ module _ {W L : Type 0} {G : Ghosts L} (seen : W → Writer) (s : Solver W L G) 
       };
       does = due_by s.state apart t.does;
       comes = t.comes;
+      order = λ k. t.order;
+      left_out = λ e. absurd (apart e);
       took = (t.took.0, gains_adds seen t.took.0 s.core.proof b.proof t.took.1);
       asked = t.took.1.asked;
       failed = refl;
@@ -129,6 +131,8 @@ module _ {W L : Type 0} {G : Ghosts L} (seen : W → Writer) (s : Solver W L G) 
       };
       does = due_by s.state apart t.does;
       comes = t.comes;
+      order = λ k. t.order;
+      left_out = λ e. absurd (apart e);
       took = (t.took.0, gains_adds seen t.took.0 s.core.proof b.proof t.took.1);
       asked = t.took.1.asked;
       failed = refl;
@@ -188,7 +192,9 @@ module _ {W L : Type 0} {G : Ghosts L} (seen : W → Writer) (s : Solver W L G) 
       says = subst (λ st. StateSays st (record s.core { proof = p }) n' s.asked s.assumed.items s.told.failed_core.items) (sym known) (l.unseen.search.unsat ∙ unsat);
     };
     does = subst (λ st. Does s.names n' (steps_in s) (steps_of p) (with_added user) (due_for_clause st user)) (sym known) l.does;
-    comes = comes_added (names_in user) (steps_in s) (steps_of p) l.comes;
+    comes = comes_added (names_in user) (steps_in s) (steps_of p) (comes_due (names_in user) (steps_in s) (steps_of p) l.comes);
+    order = λ k. absurd (k known);
+    left_out = λ e. l.comes;
     took = (took.0, gains_adds seen took.0 s.core.proof p took.1);
     asked = took.1.asked;
     failed = refl;

@@ -1,13 +1,14 @@
 -- A clause, or assumptions, over names: names, proof and search behind them.
-use Rattle.std.proofs.Common.{ℕ, ◌<◌, ◌≡◌, ◌∙◌, Bool, true, false, Result, Ok, Err, IfErr, OnOk, List, [], ◌∷◌, ◌++◌, length, map, get_or, refl, sym, ap, subst, inl, inr}
+use Rattle.std.proofs.Common.{ℕ, ◌<◌, ◌≡◌, ◌∙◌, Bool, true, false, Result, Ok, Err, IfErr, OnOk, List, [], ◌∷◌, ◌++◌, length, map, get_or, append_assoc, refl, sym, ap, subst, inl, inr}
 use Rattle.std.specs.Prelude.{IsErrAnd}
 use Rattle.std.proofs.lemmas.Result.{err_from_is_err_and}
 use Rattle.sat_base.specs.device.Device.{Writer}
 use Rattle.sat_base.specs.values.Literals.{variable}
 use Rattle.sat_base.specs.script.Judge.{bring_all, with_clause}
-use Rattle.sat_base.specs.steps.Steps.{Step, Assumptions}
+use Rattle.sat_base.specs.steps.Steps.{Step, AddClause, Assumptions}
 use Rattle.sat_checker.specs.LiteralSets.{is_tautology}
-use Rattle.sat_checker.proofs.lemmas.sets.Canonical.{canonical_tautology}
+use Rattle.sat_checker.specs.SortedSets.{IsIncreasing}
+use Rattle.sat_checker.proofs.lemmas.sets.Canonical.{canonical_increasing, canonical_tautology}
 use Rattle.sat_checker.specs.declared.processing.ProofProcessor.{Ghosts}
 use Rattle.sat_solver.specs.declared.session.made.CheckFault.TheVariants as checks
 use Rattle.sat_solver.specs.session.ProofView.{Keeps, steps_of, session_of}
@@ -55,6 +56,7 @@ use Rattle.sat_solver.specs.solver.Joined.{IsJoined}
 use Rattle.sat_solver.specs.solver.Taking.{KeepImages, GoesOnOr, TookClause, TookAssumptions, TakesClause, BreaksNamesOr}
 use Rattle.sat_solver.proofs.lemmas.solver.SpeltLemmas.{global_images_of}
 use Rattle.sat_solver.specs.names.Coming.{MayAdd}
+use Rattle.sat_solver.specs.names.Ordering.{AddsInOrder, IsInOrder}
 use Rattle.sat_solver.specs.session.Coming.{Comes, DeletesAdded}
 use Rattle.sat_solver.proofs.lemmas.session.ComingLemmas.{comes_both}
 use Rattle.sat_solver.proofs.lemmas.names.ComingSteps.{comes_added, comes_deleted}
@@ -121,6 +123,9 @@ keep_images n n' s gs extends gives user order i = record {
 
 -- A CLAUSE
 
+same_rest : (x y : Step) (xs ys : List Step) → x ∷ xs ≡ y ∷ ys → xs ≡ ys
+same_rest x y xs ys e = cc
+
 module _ {W L : Type 0} {G : Ghosts L} (seen : W → Writer) (n n' : Variables) (a : Core W L G) (joined : IsJoined n a) (user : List ℕ) (t : Taken) (both : Bool) (p : Proof W L G) (adds : AddsClause n n' (steps_of a.proof) (steps_of p) user t both) (took : Gained seen a.proof p) (keeps : Keeps p) where
   abbrev pub between : Session
   between = session_after adds.between
@@ -148,6 +153,24 @@ module _ {W L : Type 0} {G : Ghosts L} (seen : W → Writer) (n n' : Variables) 
     pub clause_may : both ≡ false → MayLoad c1 t.lits.items
     clause_may e = taken_may n' t user adds.between (steps_of p) c1 adds.does.stands.tidy adds.images adds.clause shares1 indexed.bottom (sym adds.signs ∙ e)
 
+    since_added : clause_added.earlier ≡ adds.since.steps ++ steps_of a.proof
+    since_added = same_rest _ _ clause_added.earlier adds.between (sym clause_added.added ∙ adds.written) ∙ adds.since.behind
+
+    order_added : AddsInOrder (steps_of a.proof) (steps_of p)
+    order_added = record {
+      front = adds.since.steps;
+      clause = map (with_var (global_in c1)) t.lits.items;
+      behind = [];
+      steps = clause_added.added ∙ ap (λ ss. AddClause (map (with_var (global_in c1)) t.lits.items) ∷ ss) since_added;
+      order = subst (λ ss. IsInOrder ss (map (with_var (global_in c1)) t.lits.items)) since_added (record {
+        variable_at = global_in c1;
+        lits = t.lits.items;
+        is = refl;
+        indices = clause_added.named;
+        increasing = subst IsIncreasing (sym adds.clause.lits) (canonical_increasing t.order.items);
+      });
+    }
+
     assumed1 : (session_of p).assumed ≡ (session_of a.proof).assumed
     assumed1 = ap (λ ss. (session_after ss).assumed) adds.written ∙ asked_added t.globals.items adds.between (adds.search.unsat ∙ joined.sound.search.stands.fits.consistent) ∙ adds.search.assumed
 
@@ -168,6 +191,7 @@ module _ {W L : Type 0} {G : Ghosts L} (seen : W → Writer) (n n' : Variables) 
     clause_both e = record {
       does = adds.does;
       comes = comes_added (names_in user) (steps_of a.proof) (steps_of p) adds.comes;
+      order = order_added;
       took = took;
       goes_on = joined1 (record a { proof = p; search = c1 }) refl refl refl
           (tautology_loads (steps_of p) c1 t.lits.items clause_added (ap (λ ls. is_tautology ls) adds.clause.lits ∙ canonical_tautology t.order.items ∙ sym adds.signs ∙ e));
@@ -200,6 +224,7 @@ module _ {W L : Type 0} {G : Ghosts L} (seen : W → Writer) (n n' : Variables) 
       clause_loaded = record {
         does = does2;
         comes = comes_both (MayAdd (names_in user)) (steps_of a.proof) (steps_of p) (steps_of q) (comes_added (names_in user) (steps_of a.proof) (steps_of p) adds.comes) (comes_deleted (names_in user) (steps_of p) (steps_of q) deletes);
+        order = record { front = order_added.front; clause = order_added.clause; behind = goes.steps ++ order_added.behind; steps = goes.went.history ∙ ap (λ ss. goes.steps ++ ss) order_added.steps ∙ sym (append_assoc goes.steps order_added.behind (AddClause order_added.clause ∷ (order_added.front ++ steps_of a.proof))); order = order_added.order };
         took = (_, gains_more seen took.0 goes.steps a.proof p q took.1 goes.went);
         goes_on = goes_on2 left goes.ends;
         names = λ u v e. (adds.extends.stays u v e).0;

@@ -1,0 +1,22 @@
+-- In which order a clause has its literals. Lists of steps have the newest first.
+use Rattle.std.specs.Prelude.{ℕ, ◌≡◌, List, ◌∷◌, ◌++◌, map}
+use Rattle.sat_base.specs.steps.Steps.{Step, AddClause}
+use Rattle.sat_checker.specs.SortedSets.{IsIncreasing}
+use Rattle.sat_solver.specs.session.LiveClauses.{AreMapped, with_var}
+use Rattle.sat_solver.specs.session.Session.{session_after}
+
+-- literals by increasing index of their variables, a positive one before its negation, and none twice
+pub record IsInOrder (earlier : List Step) (clause : List ℕ) : Type 0 where
+  pub variable_at : ℕ → ℕ
+  pub lits : List ℕ
+  pub is : clause ≡ map (with_var variable_at) lits
+  pub indices : AreMapped variable_at (session_after earlier).solver_names lits
+  pub increasing : IsIncreasing lits
+
+-- one of the steps between these added such a clause
+pub record AddsInOrder (from to : List Step) : Type 0 where
+  pub front : List Step
+  pub clause : List ℕ
+  pub behind : List Step
+  pub steps : to ≡ behind ++ (AddClause clause ∷ (front ++ from))
+  pub order : IsInOrder (front ++ from) clause
