@@ -1,5 +1,5 @@
 -- All steps that a solver made, and its own checker.
-use Rattle.std.specs.Prelude.{◌≡◌, true, false, Bool, is_some, Option, None, Some, List, [], ◌∷◌, ◌++◌, Result, Ok, Err}
+use Rattle.std.specs.Prelude.{ℕ, ◌≡◌, true, false, Bool, is_some, Option, None, Some, List, [], ◌∷◌, ◌++◌, Result, Ok, Err}
 use Rattle.anyhow.specs.declared.error.Error.{Error}
 use Rattle.sat_base.specs.steps.Steps.{Step}
 use Rattle.sat_checker.specs.CheckerView.{kernel_of}
@@ -38,6 +38,14 @@ IsUpToDate lost (Some own) = (lost ≡ false) × IsSettled (kernel_of own.checke
 -- where there is a checker, it was given each step that was made, and nothing waits in it
 abbrev pub HasTold : {L : Type 0} {G : Ghosts L} → Made L G → Type 0
 HasTold m = IsUpToDate m.lost m.own
+
+abbrev pub IsToldIn : {L : Type 0} → ℕ → Option (Checked L) → Type 0
+IsToldIn bits None = Unit {0}
+IsToldIn bits (Some own) = own.bits ≡ bits
+
+-- where there is a checker that was given each step, it was told this width last
+abbrev pub IsTold : {L : Type 0} {G : Ghosts L} → ℕ → Made L G → Type 0
+IsTold bits m = m.lost ≡ false → IsToldIn bits m.own
 
 -- a processor's fault comes only where somebody listens
 abbrev pub HasListeners : {L : Type 0} → CheckFault → Option (List L) → Type 0

@@ -1,5 +1,5 @@
 -- What contracts see of the proof that a solver writes: its steps, and where their text goes. Lists of steps have the newest first.
-use Rattle.std.specs.Prelude.{◌≡◌, Bool, true, false, Option, None, Some, List, [], ◌∷◌, ◌++◌, Result, Ok, Err}
+use Rattle.std.specs.Prelude.{◌≡◌, ◌⊎◌, Bool, true, false, Option, None, Some, List, [], ◌∷◌, ◌++◌, Result, Ok, Err}
 use Rattle.sat_base.specs.device.Device.{Writer, Takes, Breaks}
 use Rattle.sat_base.specs.device.Sink.{Sink, Emptied}
 use Rattle.sat_base.specs.steps.Steps.{Step, End}
@@ -69,6 +69,10 @@ is_lost p = mades.is_lost p.made
 -- where there is a checker, it was given each step that was made, and nothing waits in it
 abbrev pub HasTold : {W L : Type 0} {G : Ghosts L} → Proof W L G → Type 0
 HasTold p = mades.HasTold p.made
+
+-- the width that its checker was told last, where there is one, is the one of the target's text
+abbrev pub IsAtWidth : {W L : Type 0} {G : Ghosts L} → Proof W L G → Type 0
+IsAtWidth p = mades.IsTold p.counting.bits p.made
 
 -- it failed for this reason: of a processor's fault, one of those who listen answered it, so that there are some
 abbrev pub Complains : {W L : Type 0} {G : Ghosts L} → CheckFault → Proof W L G → Type 0
@@ -140,12 +144,13 @@ pub record FailsCheck {W L : Type 0} {G : Ghosts L} (seen : W → Writer) (fault
   pub adds : Adds seen steps old new
   pub why : Complains fault new
 
--- The same, and the checker, where there is one, took them too, and no ask began.
+-- The same, and the checker, where there is one, took them too, at the widths of the target's text, and no ask began.
 pub record Gains {W L : Type 0} {G : Ghosts L} (seen : W → Writer) (steps : List Step) (old new : Proof W L G) : Type 0 where
   pub history : steps_of new ≡ steps ++ steps_of old
   pub listening : audience new ≡ audience old
   pub taking : is_lost new ≡ is_lost old
   pub asked : has_asked new ≡ has_asked old
+  pub width : IsAtWidth old ⊎ (steps ≡ [] → ⊥) → IsAtWidth new
   pub target : Carries (target_of seen old) steps (target_of seen new)
 
 -- what came of giving a step to the target
@@ -187,6 +192,7 @@ pub record Flushes {W L : Type 0} {G : Ghosts L} (seen : W → Writer) (old new 
   pub listening : audience new ≡ audience old
   pub taking : is_lost new ≡ is_lost old
   pub asked : has_asked new ≡ has_asked old
+  pub width : IsAtWidth old → IsAtWidth new
   pub target : Flushed (target_of seen old) (target_of seen new)
   pub told : HasTold new
 

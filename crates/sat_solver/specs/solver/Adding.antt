@@ -11,7 +11,7 @@ use Rattle.sat_solver.specs.names.Coming.{IsDue, MayAdd, MayTake}
 use Rattle.sat_solver.specs.names.Ordering.{AddsInOrder}
 use Rattle.sat_solver.specs.session.Coming.{Comes}
 use Rattle.sat_solver.specs.session.Making.{Took}
-use Rattle.sat_solver.specs.session.ProofView.{is_drat, has_asked, target_of}
+use Rattle.sat_solver.specs.session.ProofView.{IsAtWidth, is_drat, has_asked, target_of}
 use Rattle.sat_checker.specs.matching.Expected.{Outcome, Expected, Adds, Opens, bringing}
 use Rattle.sat_checker.specs.matching.Bridge.{Live}
 use Rattle.sat_solver.specs.names.Refusing.{names_in}
@@ -134,6 +134,7 @@ pub record TookIn {W L : Type 0} {G : Ghosts L} (seen : W → Writer) (old new :
   pub left_out : old.state ≡ states.Unsat → Comes IsDue (steps_in old) (steps_in new)
   pub took : Took seen old.core.proof new.core.proof
   pub asked : has_asked new.core.proof ≡ has_asked old.core.proof
+  pub width : (steps_in new ≡ steps_in old → ⊥) → IsAtWidth new.core.proof
   pub failed : new.failed ≡ old.failed
   pub used : new.used ≡ old.used
   pub config : new.core.config ≡ old.core.config

@@ -10,7 +10,7 @@ use Rattle.sat_solver.specs.names.Coming.{MayTake}
 use Rattle.sat_solver.specs.session.Coming.{Comes}
 use Rattle.sat_solver.specs.names.Refusing.{names_in}
 use Rattle.sat_solver.specs.session.Making.{Took}
-use Rattle.sat_solver.specs.session.ProofView.{has_asked}
+use Rattle.sat_solver.specs.session.ProofView.{IsAtWidth, has_asked}
 use Rattle.sat_solver.specs.declared.solver.Solver.{Solver}
 use Rattle.sat_solver.specs.solver.Adding.{Forgets, due_for_asked}
 use Rattle.sat_solver.specs.solver.Taking.{BreaksNames}
@@ -23,6 +23,7 @@ pub record AskedIn {W L : Type 0} {G : Ghosts L} (seen : W → Writer) (old new 
   pub comes : Comes (MayTake (names_in user)) (steps_in old) (steps_in new)
   pub took : Took seen old.core.proof new.core.proof
   pub asked : has_asked new.core.proof ≡ has_asked old.core.proof
+  pub width : (steps_in new ≡ steps_in old → ⊥) → IsAtWidth new.core.proof
   pub failed : new.failed ≡ old.failed
   pub used : new.used ≡ old.used
   pub config : new.core.config ≡ old.core.config

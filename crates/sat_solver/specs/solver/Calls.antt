@@ -16,7 +16,7 @@ use Rattle.sat_checker.specs.matching.Bridge.{Live}
 use Rattle.sat_solver.specs.search.Solving.{AdvancesIn}
 use Rattle.sat_solver.specs.session.Coming.{Comes, EndsAtUnsat}
 use Rattle.sat_solver.specs.session.Making.{Took}
-use Rattle.sat_solver.specs.session.ProofView.{Target, Closed, Open, Broken, HasTold, has_asked, is_open, target_of}
+use Rattle.sat_solver.specs.session.ProofView.{Target, Closed, Open, Broken, HasTold, IsAtWidth, has_asked, is_open, target_of}
 use Rattle.sat_solver.specs.declared.session.proof.Proof.{Proof}
 use Rattle.sat_solver.specs.declared.solver.Solver.{Solver}
 use Rattle.sat_solver.specs.declared.solver.state.State.{State}
@@ -33,6 +33,8 @@ pub record Did {W L : Type 0} {G : Ghosts L} (seen : W → Writer) (old new : So
   pub config : new.core.config ≡ old.core.config
   pub does : Does old.names new.names (steps_in old) (steps_in new) judge due
   pub took : Took seen old.core.proof new.core.proof
+  -- behind a step the solver's own checker, where there is one, is at the width of the target's text
+  pub width : (steps_in new ≡ steps_in old → ⊥) → IsAtWidth new.core.proof
 
 -- the rounds that a call may make
 abbrev pub rounds_left : {W L : Type 0} {G : Ghosts L} → Solver W L G → ℕ

@@ -19,7 +19,7 @@ use Rattle.sat_base.specs.steps.Steps.{Step}
 use Rattle.sat_solver.specs.session.Coming.{Comes}
 use Rattle.sat_solver.specs.names.Coming.{IsDue, MayHide, MaySet}
 use Rattle.sat_solver.specs.session.Making.{Took}
-use Rattle.sat_solver.specs.session.ProofView.{has_asked}
+use Rattle.sat_solver.specs.session.ProofView.{IsAtWidth, has_asked}
 use Rattle.sat_solver.specs.declared.solver.Solver.{Solver}
 use Rattle.sat_solver.specs.solver.Adding.{EndsNames}
 use Rattle.sat_solver.specs.solver.Calls.{Did, Refuses}
@@ -106,6 +106,7 @@ pub record Observed {W L : Type 0} {G : Ghosts L} (seen : W → Writer) (old new
   pub all : (v : ℕ) → IsHidden new.names v → ⊥
   pub values : (v : ℕ) → variable_value new (Some v) ≡ variable_value old (Some v)
   pub took : Took seen old.core.proof new.core.proof
+  pub width : (steps_in new ≡ steps_in old → ⊥) → IsAtWidth new.core.proof
   pub asked : has_asked new.core.proof ≡ has_asked old.core.proof
   pub assumed : new.assumed ≡ old.assumed
   pub told : new.told ≡ old.told

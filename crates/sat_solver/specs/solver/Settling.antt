@@ -7,7 +7,7 @@ use Rattle.sat_solver.specs.names.Calls.{Does}
 use Rattle.sat_solver.specs.search.Solving.{AdvancesIn}
 use Rattle.sat_solver.specs.session.Coming.{Comes, EndsAtUnsat}
 use Rattle.sat_solver.specs.session.Making.{Took}
-use Rattle.sat_solver.specs.session.ProofView.{Adds}
+use Rattle.sat_solver.specs.session.ProofView.{Adds, IsAtWidth}
 use Rattle.sat_solver.specs.declared.solver.Solver.{Solver}
 use Rattle.sat_solver.specs.declared.solver.state.State.TheVariants as states
 use Rattle.sat_solver.specs.solver.Answering.{Breaks, FlushFails}
@@ -20,6 +20,7 @@ pub record Settled {W L : Type 0} {G : Ghosts L} (seen : W → Writer) (old new 
   pub does : Does old.names new.names (steps_in old) (steps_in new) (λ j. j) (λ j. told_by old.state new)
   pub comes : Comes EndsAtUnsat (steps_in old) (steps_in new)
   pub took : Took seen old.core.proof new.core.proof
+  pub width : (steps_in new ≡ steps_in old → ⊥) → IsAtWidth new.core.proof
   pub same : new ≡ record old { core = new.core; names = new.names; told = new.told; clock = new.clock; state = new.state }
   pub users : new.names.global_from_user ≡ old.names.global_from_user
   pub config : new.core.config ≡ old.core.config

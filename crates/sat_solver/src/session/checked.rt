@@ -86,7 +86,8 @@ impl<P: ProofProcessor> Checked<P> {
     ) -> Result<(), CheckerError>
         requires width { KeepsWidth (step_of step.now) }
         requires cut { step_of cut.now ≡ narrowed bits (step_of step.now) }
-        ensures { TakesStep P.takes result self.old (step_of step.now) self.new }
+        ensures takes { TakesStep P.takes result self.old (step_of step.now) self.new }
+        ensures bits { OnOk result (self.new.bits ≡ bits) }
     {
         self.take_width(bits)?;
         if is_end(step) {
@@ -97,7 +98,8 @@ impl<P: ProofProcessor> Checked<P> {
 
     /// Gives a unit conflict that waits for it its id.
     pub fn take_delayed(&mut self) -> Result<(), CheckerError>
-        ensures { TakesDelayed P.takes result self.old self.new }
+        ensures takes { TakesDelayed P.takes result self.old self.new }
+        ensures bits { self.new.bits ≡ self.old.bits }
     {
         self.checker.self_check_delayed_steps()
     }

@@ -1,5 +1,5 @@
 //! All steps that a solver made, and its own checker, which takes them as they are made.
-ghost use Rattle.std.specs.Prelude.{◌≡◌, ◌∷◌, [], true, false, OnOk};
+ghost use Rattle.std.specs.Prelude.{ℕ, ◌≡◌, ◌∷◌, [], true, false, OnOk};
 ghost use Rattle.sat_base.specs.steps.StepViews.{step_of};
 ghost use Rattle.sat_solver.specs.session.Checked.{has_begun, cause_in, FedUnless, IsCause};
 ghost use Rattle.sat_solver.specs.session.Session.{MayAll};
@@ -56,7 +56,7 @@ pub struct Made<P: ProofProcessor = Nobody> {
 }
 
 impl<P: ProofProcessor> Made<P> {
-    ghost use Rattle.sat_solver.specs.session.MadeView.{audience, is_checked, is_lost, Checks, Handed, HandedWhole, HasTold, Makes, OrComplains, TakesListener};
+    ghost use Rattle.sat_solver.specs.session.MadeView.{audience, is_checked, is_lost, Checks, Handed, HandedWhole, HasTold, IsTold, Makes, OrComplains, TakesListener};
 
     /// No step yet, and no checker.
     pub fn new() -> Made<P>
@@ -149,6 +149,7 @@ impl<P: ProofProcessor> Made<P> {
         requires cut { is_checked self.old ≡ true → step_of cut.now ≡ narrowed bits (step_of step.now) }
         ensures makes { Makes (step_of step.now) self.old self.new }
         ensures taking { OnOk result (is_lost self.new ≡ is_lost self.old) }
+        ensures width { OnOk result (IsTold bits self.new) }
         ensures fails { OrComplains result self.new }
     {
         self.history = self.history.and(step);
@@ -173,6 +174,7 @@ impl<P: ProofProcessor> Made<P> {
         ensures steps { self.new.history.steps ≡ self.old.history.steps }
         ensures listening { audience self.new ≡ audience self.old }
         ensures taking { OnOk result (is_lost self.new ≡ is_lost self.old) }
+        ensures width { OnOk result ((bits : ℕ) → IsTold bits self.old → IsTold bits self.new) }
         ensures fails { OrComplains result self.new }
         ensures told { OnOk result (HasTold self.new) }
     {

@@ -1,5 +1,5 @@
 //! The proof that a solver writes. Each step goes through it, and nobody else writes.
-ghost use Rattle.std.specs.Prelude.{◌≡◌, ◌∷◌, [], true, false, OnOk};
+ghost use Rattle.std.specs.Prelude.{◌≡◌, ◌∷◌, [], true, false, OnOk, IfErr};
 ghost use Rattle.sat_base.specs.device.Sink.{empty_sink};
 ghost use Rattle.sat_base.specs.steps.StepViews.{step_of};
 ghost use Rattle.sat_solver.specs.session.Counting.{start, counted};
@@ -7,7 +7,7 @@ ghost use Rattle.sat_solver.specs.session.Checked.{has_begun};
 ghost use Rattle.sat_solver.specs.session.MadeView.{Makes};
 ghost use Rattle.sat_solver.specs.session.Session.{May, MayAll};
 ghost use Rattle.sat_solver.specs.session.Widths.{narrowed, KeepsWidth};
-ghost use Rattle.sat_solver.specs.session.ProofView.{Closed, Open, audience, is_open, is_drat, has_asked, target_of, steps_of, session_of, is_checked, is_lost, Checks, HasTold, Keeps, Adds, Records, PutsOn, FailsOfCheck, FlushesTarget, FlushesOrFails, Closes, Handed, HandedWhole, HandsBack, Listens};
+ghost use Rattle.sat_solver.specs.session.ProofView.{Closed, IsAtWidth, Open, audience, is_open, is_drat, has_asked, target_of, steps_of, session_of, is_checked, is_lost, Checks, HasTold, Keeps, Adds, Records, PutsOn, FailsOfCheck, FlushesTarget, FlushesOrFails, Closes, Handed, HandedWhole, HandsBack, Listens};
 
 use crate::session::counting::Counting;
 use crate::session::cutting::{CutLists, narrow, narrow_units};
@@ -159,6 +159,7 @@ impl<W: CountedWrite + Drop, P: ProofProcessor> Proof<W, P> {
         requires cut { step_of cut.now ≡ narrowed counting.bits (step_of step.now) }
         ensures made { self.new.made ≡ self.old.made }
         ensures counting { OnOk result (self.new.counting ≡ counting) }
+        ensures stays { IfErr result (λ e. self.new.counting ≡ self.old.counting) }
         ensures asked { has_asked self.new ≡ has_asked self.old }
         ensures puts { PutsOn result (step_of step.now ∷ []) (target_of W.seen self.old) (target_of W.seen self.new) }
     {
@@ -192,6 +193,7 @@ impl<W: CountedWrite + Drop, P: ProofProcessor> Proof<W, P> {
         requires cut { is_checked self.old ≡ true → step_of cut.now ≡ narrowed self.old.counting.bits (step_of step.now) }
         ensures makes { Makes (step_of step.now) self.old.made self.new.made }
         ensures taking { OnOk result (is_lost self.new ≡ is_lost self.old) }
+        ensures width { OnOk result (IsAtWidth self.new) }
         ensures asked { has_asked self.new ≡ has_asked self.old }
         ensures target { target_of W.seen self.new ≡ target_of W.seen self.old }
         ensures fails { FailsOfCheck result self.new }
@@ -352,6 +354,7 @@ impl<W: CountedWrite + Drop, P: ProofProcessor> Proof<W, P> {
     fn flush_target(&mut self) -> Result<(), ProofError>
         ensures flushes { FlushesTarget W.seen result self.old self.new }
         ensures taking { is_lost self.new ≡ is_lost self.old }
+        ensures width { IsAtWidth self.old → IsAtWidth self.new }
         ensures asked { has_asked self.new ≡ has_asked self.old }
     {
         if self.broken {
@@ -375,6 +378,7 @@ impl<W: CountedWrite + Drop, P: ProofProcessor> Proof<W, P> {
         ensures listening { audience self.new ≡ audience self.old }
         ensures taking { OnOk result (is_lost self.new ≡ is_lost self.old) }
         ensures asked { has_asked self.new ≡ has_asked self.old }
+        ensures width { OnOk result (IsAtWidth self.old → IsAtWidth self.new) }
         ensures target { target_of W.seen self.new ≡ target_of W.seen self.old }
         ensures fails { FailsOfCheck result self.new }
         ensures told { OnOk result (HasTold self.new) }

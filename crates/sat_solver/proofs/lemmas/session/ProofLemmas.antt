@@ -1,5 +1,5 @@
 -- Steps that went to a proof's target, one after another.
-use Rattle.std.proofs.Common.{◌≡◌, ◌∙◌, ℕ, true, false, Option, None, Some, Result, Ok, Err, List, [], ◌∷◌, ◌++◌, append_assoc, refl, sym, ap, subst}
+use Rattle.std.proofs.Common.{◌≡◌, ◌∙◌, ℕ, true, false, Option, None, Some, Result, Ok, Err, List, [], ◌∷◌, ◌++◌, append_assoc, refl, sym, ap, subst, ◌⊎◌, inl, inr}
 use Rattle.std.proofs.lemmas.Bool.{true≢false}
 use Rattle.std.proofs.lemmas.List.{append-nil, reverse-append}
 use Rattle.std.specs.Prelude.{is_some, reverse}
@@ -15,8 +15,9 @@ use Rattle.sat_checker.specs.declared.processing.ProofProcessor.{Ghosts}
 use Rattle.sat_solver.specs.session.Counting.{start, Cuts, none_made, ask_begun, one_made, written_for, counted}
 use Rattle.sat_solver.specs.session.ProofTexts.{ClosedIsText, BrokenIsFront, BrokeText, WroteSince, TookSince}
 use Rattle.sat_solver.specs.session.OutputView.{step_text, SpellsIn, text_in, AreSpelt, Wrote}
-use Rattle.sat_solver.specs.session.ProofView.{Target, Closed, Open, Broken as Faulty, is_open, Carried, Carries, Stopped, Stops, Flushed, TookAll, TakesAll, Gives, target_of, steps_of, Adds, Gains, Fails, FailsCheck, Complains, is_checked, Records, Drains, Flushes, FlushesOrFails, Closes, ClosesOne, HandsBack}
+use Rattle.sat_solver.specs.session.ProofView.{IsAtWidth, Target, Closed, Open, Broken as Faulty, is_open, Carried, Carries, Stopped, Stops, Flushed, TookAll, TakesAll, Gives, target_of, steps_of, has_asked, Adds, Gains, Fails, FailsCheck, Complains, is_checked, Records, Drains, Flushes, FlushesOrFails, Closes, ClosesOne, HandsBack}
 use Rattle.sat_solver.specs.session.MadeView as mades
+use Rattle.sat_solver.specs.session.Making.{Gained}
 use Rattle.sat_solver.specs.declared.session.made.CheckFault.{CheckFault}
 use Rattle.sat_solver.specs.declared.session.checked.Checked.{Checked}
 use Rattle.sat_solver.specs.declared.session.made.Made.{Made}
@@ -195,7 +196,22 @@ adds_more seen xs ys a b c p q = record {
 
 -- the same, where the checker took them
 pub gains_none : {W L : Type 0} {G : Ghosts L} (seen : W → Writer) (p : Proof W L G) → Gains seen [] p p
-gains_none seen p = record { history = refl; listening = refl; taking = refl; asked = refl; target = carries_none (target_of seen p) }
+gains_none seen p = record { history = refl; listening = refl; taking = refl; asked = refl; width = λ h. elim h [ inl w ↦ w | inr n ↦ absurd (n refl) ]; target = carries_none (target_of seen p) }
+
+-- nothing was made
+pub gains_kept : {W L : Type 0} {G : Ghosts L} (seen : W → Writer) (p q : Proof W L G) → q.made ≡ p.made → q.counting ≡ p.counting → has_asked q ≡ has_asked p → Carries (target_of seen p) [] (target_of seen q) → Gains seen [] p q
+gains_kept {W} {L} {G} seen p q made counting asked target = record {
+  history = ap (λ (m : Made L G). m.history.steps) made;
+  listening = ap (λ (m : Made L G). mades.audience m) made;
+  taking = ap (λ (m : Made L G). mades.is_lost m) made;
+  asked = asked;
+  width = λ h. elim h [ inl w ↦ subst (λ n. mades.IsTold n q.made) (ap (λ (n : Counting). n.bits) (sym counting)) (subst (λ (m : Made L G). mades.IsTold p.counting.bits m) (sym made) w) | inr n ↦ absurd (n refl) ];
+  target = target;
+}
+
+width_more : {W L : Type 0} {G : Ghosts L} (xs ys : List Step) (a b c : Proof W L G) → (IsAtWidth a ⊎ (xs ≡ [] → ⊥) → IsAtWidth b) → (IsAtWidth b ⊎ (ys ≡ [] → ⊥) → IsAtWidth c) → IsAtWidth a ⊎ (ys ++ xs ≡ [] → ⊥) → IsAtWidth c
+width_more xs [] a b c p q h = q (inl (p h))
+width_more xs (y ∷ ys) a b c p q h = q (inr (λ e. cc))
 
 pub gains_adds : {W L : Type 0} {G : Ghosts L} (seen : W → Writer) (xs : List Step) (a b : Proof W L G) → Gains seen xs a b → Adds seen xs a b
 gains_adds seen xs a b h = record { history = h.history; listening = h.listening; target = h.target }
@@ -203,7 +219,11 @@ gains_adds seen xs a b h = record { history = h.history; listening = h.listening
 pub gains_more : {W L : Type 0} {G : Ghosts L} (seen : W → Writer) (xs ys : List Step) (a b c : Proof W L G) → Gains seen xs a b → Gains seen ys b c → Gains seen (ys ++ xs) a c
 gains_more seen xs ys a b c p q =
     let both = adds_more seen xs ys a b c (gains_adds seen xs a b p) (gains_adds seen ys b c q) in
-    record { history = both.history; listening = both.listening; taking = q.taking ∙ p.taking; asked = q.asked ∙ p.asked; target = both.target }
+    record { history = both.history; listening = both.listening; taking = q.taking ∙ p.taking; asked = q.asked ∙ p.asked; width = width_more xs ys a b c p.width q.width; target = both.target }
+
+-- behind steps the checker is at the width of the target's text
+pub gained_width : {W L : Type 0} {G : Ghosts L} (seen : W → Writer) (a b : Proof W L G) → Gained seen a b → (steps_of b ≡ steps_of a → ⊥) → IsAtWidth b
+gained_width seen a b t n = t.1.width (inr (λ e. n (t.1.history ∙ ap (λ xs. xs ++ steps_of a) e)))
 
 -- steps, and then a fault at later ones
 pub fails_later : {W L : Type 0} {G : Ghosts L} (seen : W → Writer) (xs ys : List Step) (a b c : Proof W L G) → Adds seen xs a b → Fails seen ys b c → Fails seen (ys ++ xs) a c
@@ -231,7 +251,7 @@ drained seen a b h = record { history = h.history; listening = h.listening; targ
 
 -- nor does what the checker tells behind it
 pub flush_records : {W L : Type 0} {G : Ghosts L} (seen : W → Writer) (r : Result (Unit {0}) ProofError) (a b : Proof W L G) → FlushesOrFails seen r a b → Records seen r [] a b
-flush_records seen (Ok x) a b h = record { history = h.history; listening = h.listening; taking = h.taking; asked = h.asked; target = flushed_carries (target_of seen a) (target_of seen b) h.target }
+flush_records seen (Ok x) a b h = record { history = h.history; listening = h.listening; taking = h.taking; asked = h.asked; width = λ k. elim k [ inl w ↦ h.width w | inr n ↦ absurd (n refl) ]; target = flushed_carries (target_of seen a) (target_of seen b) h.target }
 flush_records seen (Err (Write e)) a b h = h
 flush_records seen (Err OutOfMemory) a b h = absurd h
 flush_records seen (Err (Check fault)) a b h = record { adds = drained seen a b h.0; why = h.1 }

@@ -41,6 +41,7 @@ module _ {W L : Type 0} {G : Ghosts L} (seen : W → Writer) (old : Solver W L G
     times = subst (λ ss. AdvancesIn ss (steps_in new) (learned_of new.state (new.clock.steps - old.clock.steps))) adds.history s.times;
     does = subst (λ ss. Does old.names new.names ss (steps_in new) (λ j. j) (λ j. told_by old.state new)) adds.history s.does;
     took = (_, adds_more seen [] s.took.0 old.core.proof p new.core.proof adds s.took.1);
+    width = λ n. s.width (λ e. n (e ∙ adds.history));
     same = s.same;
     users = s.users;
     counts = record { on = rounds_begun new.clock.steps s.counts.on; round = s.counts.round; spent = s.counts.spent; answered = subst (λ ss. (j : Judge) (live : Live) → Agree old.names ss j live → 2 ^ (2 * j.next_identity + 3) ≤ rounds_left old → new.state ≡ states.Unknown → ⊥) adds.history s.counts.answered };

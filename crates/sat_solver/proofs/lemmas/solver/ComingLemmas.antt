@@ -6,7 +6,7 @@ use Rattle.sat_base.specs.values.Literals.{variable}
 use Rattle.sat_store.specs.variables.Maps.{target}
 use Rattle.sat_checker.specs.declared.processing.ProofProcessor.{Ghosts}
 use Rattle.sat_solver.specs.session.Making.{Took, Gained}
-use Rattle.sat_solver.specs.session.ProofView.{has_asked, steps_of, session_of}
+use Rattle.sat_solver.specs.session.ProofView.{IsAtWidth, has_asked, steps_of, session_of}
 use Rattle.sat_solver.specs.session.Session.{session_after}
 use Rattle.sat_solver.specs.declared.session.proof.Proof.{Proof}
 use Rattle.sat_solver.specs.declared.error.SolverError.{SolverError}
@@ -19,7 +19,7 @@ use Rattle.sat_solver.specs.names.Adding.{Image, Images}
 use Rattle.sat_solver.specs.names.AddingCalls.{LeavesOut}
 use Rattle.sat_solver.specs.names.Assuming as assuming
 use Rattle.sat_solver.specs.names.Calls.{Does}
-use Rattle.sat_solver.proofs.lemmas.session.ProofLemmas.{gains_adds}
+use Rattle.sat_solver.proofs.lemmas.session.ProofLemmas.{gains_adds, gained_width}
 use Rattle.sat_solver.proofs.lemmas.names.Doing.{judged_by}
 use Rattle.sat_solver.proofs.lemmas.solver.SpeltLemmas.{global_images_of, global_images_kept}
 use Rattle.sat_solver.specs.declared.solver.Solver.{Solver}
@@ -108,6 +108,7 @@ module _ {W L : Type 0} {G : Ghosts L} (seen : W → Writer) (s : Solver W L G) 
       left_out = λ e. absurd (apart e);
       took = (t.took.0, gains_adds seen t.took.0 s.core.proof b.proof t.took.1);
       asked = t.took.1.asked;
+      width = gained_width seen s.core.proof b.proof t.took;
       failed = refl;
       used = refl;
       config = t.config;
@@ -135,6 +136,7 @@ module _ {W L : Type 0} {G : Ghosts L} (seen : W → Writer) (s : Solver W L G) 
       left_out = λ e. absurd (apart e);
       took = (t.took.0, gains_adds seen t.took.0 s.core.proof b.proof t.took.1);
       asked = t.took.1.asked;
+      width = gained_width seen s.core.proof b.proof t.took;
       failed = refl;
       used = refl;
       config = t.config;
@@ -160,6 +162,7 @@ module _ {W L : Type 0} {G : Ghosts L} (seen : W → Writer) (s : Solver W L G) 
     comes = t.comes;
     took = (t.took.0, gains_adds seen t.took.0 s.core.proof b.proof t.took.1);
     asked = t.took.1.asked;
+    width = gained_width seen s.core.proof b.proof t.took;
     failed = refl;
     used = refl;
     config = t.config;
@@ -197,6 +200,7 @@ module _ {W L : Type 0} {G : Ghosts L} (seen : W → Writer) (s : Solver W L G) 
     left_out = λ e. l.comes;
     took = (took.0, gains_adds seen took.0 s.core.proof p took.1);
     asked = took.1.asked;
+    width = gained_width seen s.core.proof p took;
     failed = refl;
     used = refl;
     config = refl;
@@ -229,6 +233,7 @@ module _ {W L : Type 0} {G : Ghosts L} (seen : W → Writer) (s : Solver W L G) 
     comes = a.comes;
     took = (took.0, gains_adds seen took.0 s.core.proof p took.1);
     asked = took.1.asked;
+    width = gained_width seen s.core.proof p took;
     failed = refl;
     used = refl;
     config = refl;
@@ -284,6 +289,7 @@ assumed_by {W} {L} {G} seen s mid new user going sampled room a clock same items
     config = ap (λ (x : Solver W L G). x.core.config) same ∙ a.config;
     does = subst (λ (x : Solver W L G). Does s.names x.names (steps_in s) (steps_in x) (bring_all (names_in user)) (due_for_asked o user)) (sym same) (a.does o);
     took = subst (λ (x : Solver W L G). Took seen s.core.proof x.core.proof) (sym same) a.took;
+    width = subst (λ (x : Solver W L G). (steps_in x ≡ steps_in s → ⊥) → IsAtWidth x.core.proof) (sym same) a.width;
   };
   comes = subst (λ (x : Solver W L G). Comes (MayTake (names_in user)) (steps_in s) (steps_in x)) (sym same) a.comes;
   asked = ap (λ (x : Solver W L G). has_asked x.core.proof) same ∙ a.asked;

@@ -12,7 +12,7 @@ use Rattle.sat_store.specs.variables.Maps.{target}
 use Rattle.sat_checker.specs.declared.processing.ProofProcessor.{Ghosts}
 use Rattle.sat_solver.specs.session.Making.{Gained}
 use Rattle.sat_solver.specs.session.ProofView.{is_lost, steps_of, session_of}
-use Rattle.sat_solver.proofs.lemmas.session.ProofLemmas.{gains_adds}
+use Rattle.sat_solver.proofs.lemmas.session.ProofLemmas.{gains_adds, gained_width}
 use Rattle.sat_solver.specs.declared.session.made.CheckFault.TheVariants as checks
 use Rattle.sat_solver.specs.declared.session.proof.Proof.{Proof}
 use Rattle.sat_solver.specs.declared.error.SolverError.{SolverError}
@@ -293,7 +293,7 @@ module _ {W L : Type 0} {G : Ghosts L} (seen : W → Writer) (s : Solver W L G) 
       ((l v : ℕ) → Among l s.assumed.items → global_of s.names (variable l) ≡ Some v → global_of n' (variable l) ≡ Some v) → IsAlike s.names n' (steps_in s) (steps_of p) → Gained seen s.core.proof p →
       Renamed seen s (record s { core = record s.core { proof = p }; names = n'; used = true }) judge due May
   renamed judge due May comes does fresh units kept alike took = record {
-    did = record { whole = whole_renamed s whole n' p does.stands kept alike (judged_by does whole.judged) took.1.taking; going = going; failed = going; used = refl; config = refl; does = does; took = (took.0, gains_adds seen took.0 s.core.proof p took.1) };
+    did = record { whole = whole_renamed s whole n' p does.stands kept alike (judged_by does whole.judged) took.1.taking; going = going; failed = going; used = refl; config = refl; does = does; took = (took.0, gains_adds seen took.0 s.core.proof p took.1); width = gained_width seen s.core.proof p took };
     comes = comes;
     asked = took.1.asked;
     assumed = refl;
@@ -405,6 +405,7 @@ observed_all seen s whole going n' p users used opened all took = record {
   all = all.all;
   values = λ v. ap (λ (b : Bool). Some b) (value_same seen s whole going n' p (alike_unseen s.names n' (steps_in s) (steps_of p) all.unseen) all.stands v (λ b. ap (λ f. f (coded v b)) all.unseen.search.units));
   took = (took.0, gains_adds seen took.0 s.core.proof p took.1);
+  width = gained_width seen s.core.proof p took;
   asked = took.1.asked;
   assumed = refl;
   told = refl;

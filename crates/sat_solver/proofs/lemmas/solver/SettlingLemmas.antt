@@ -3,13 +3,13 @@ use Rattle.std.proofs.Common.{ℕ, ◌+◌, ◌-◌, ◌*◌, ◌^◌, ◌≤◌
 use Rattle.std.specs.List.{AllByRecursion, Contains}
 use Rattle.sat_base.specs.device.Device.{Writer}
 use Rattle.sat_base.specs.script.Script.{names_of, Among}
-use Rattle.sat_base.specs.steps.Steps.{Step, FailedAssumptions}
+use Rattle.sat_base.specs.steps.Steps.{Step, FailedAssumptions, Model}
 use Rattle.sat_base.specs.values.Clauses.{Valuation, EachTrue}
 use Rattle.sat_checker.specs.Fold.{Holds}
 use Rattle.sat_checker.specs.declared.processing.ProofProcessor.{Ghosts}
 use Rattle.sat_parts.specs.prop.Values.{IsTrueLit}
 use Rattle.sat_solver.specs.session.LiveClauses.{with_var}
-use Rattle.sat_solver.specs.session.ProofView.{Target, Closed, Open, Broken, Flushed, Flushes, FlushesOrFails, Adds, FailsCheck, HasTold, is_lost, steps_of, session_of, target_of}
+use Rattle.sat_solver.specs.session.ProofView.{Target, Closed, Open, Broken, Flushed, Flushes, FlushesOrFails, Adds, Gains, FailsCheck, HasTold, is_lost, steps_of, session_of, target_of}
 use Rattle.sat_solver.specs.declared.session.made.CheckFault.{CheckFault}
 use Rattle.sat_solver.specs.declared.session.made.CheckFault.TheVariants as checks
 use Rattle.sat_solver.specs.declared.session.proof.Proof.{Proof}
@@ -20,7 +20,7 @@ use Rattle.sat_solver.specs.session.Session.{Session, MayAll, session_after}
 use Rattle.sat_solver.specs.session.Coming.{Comes, EndsAtUnsat}
 use Rattle.sat_solver.proofs.lemmas.session.ComingLemmas.{comes_none, comes_one, comes_both, comes_open}
 use Rattle.std.proofs.lemmas.Bool.{true≢false}
-use Rattle.sat_solver.proofs.lemmas.session.ProofLemmas.{adds_none, adds_more, gains_adds, gains_more, fails_later, flush_records, check_later}
+use Rattle.sat_solver.proofs.lemmas.session.ProofLemmas.{adds_none, adds_more, gained_width, gains_adds, gains_more, fails_later, flush_records, check_later}
 use Rattle.sat_solver.proofs.lemmas.search.GoingLemmas.{went_checked, fault_checked}
 use Rattle.sat_base.specs.script.Judge.{Judge}
 use Rattle.sat_solver.specs.bound.Counting.{CountsOn, steps_left}
@@ -50,7 +50,7 @@ use Rattle.sat_solver.specs.declared.solver.state.State.TheVariants as states
 use Rattle.sat_solver.specs.declared.solver.finding.Told.{Told}
 use Rattle.sat_solver.specs.declared.solver.finding.Clock.{Clock}
 use Rattle.sat_solver.specs.solver.Joined.{IsJoined, name_of}
-use Rattle.sat_solver.specs.solver.Answering.{Breaks, FlushFails, Failed, line_of}
+use Rattle.sat_solver.specs.solver.Answering.{Breaks, FlushFails, Failed, line_of, model_of}
 use Rattle.sat_solver.specs.solver.Found.{FoundModel, FoundCore, FoundNone, FoundSays}
 use Rattle.sat_solver.specs.solver.Calls.{Answered, Counts, CountsRounds, RoundsOn, IsFlushed, NotesAsk, learned_of, told_as, told_by}
 use Rattle.sat_solver.specs.solver.Settling.{Settled}
@@ -96,6 +96,7 @@ module _ {W L : Type 0} {G : Ghosts L} (seen : W → Writer) (s : Solver W L G) 
     does = none s.state n;
     comes = comes_none EndsAtUnsat (steps_in s);
     took = ([], adds_none seen s.core.proof);
+    width = λ k. absurd (k refl);
     same = refl;
     users = refl;
     config = refl;
@@ -148,6 +149,7 @@ module _ {W L : Type 0} {G : Ghosts L} (seen : W → Writer) (s : Solver W L G) 
       does = subst (λ st. Does s.names m (steps_in s) (steps_of core.proof) (λ j. j) (λ j. told_as st st (line_of m core) s.assumed.items told.failed_core.items)) (sym unknown) found.gone.does;
       comes = comes_open (steps_in s) (steps_of core.proof) found.gone.steps found.gone.adds.history found.joined.sound.search.stands.fits.consistent;
       took = (found.gone.steps, gains_adds seen found.gone.steps s.core.proof core.proof found.gone.adds);
+      width = gained_width seen s.core.proof core.proof (found.gone.steps, found.gone.adds);
       same = refl;
       users = found.gone.asked.users;
       config = found.gone.config;
@@ -184,7 +186,8 @@ module _ {W L : Type 0} {G : Ghosts L} (seen : W → Writer) (s : Solver W L G) 
         does = unknown_told states.Sat does;
         comes = comes_both EndsAtUnsat (steps_in s) (steps_of found.mid.proof) (steps_of core.proof) found.ended.comes
             (comes_one EndsAtUnsat (steps_of found.mid.proof) (steps_of core.proof) _ found.shown.adds.history (λ u. absurd (true≢false (sym u ∙ found.ended.says.0.search.stands.fits.consistent))));
-        took = (_, gains_adds seen _ s.core.proof core.proof (gains_more seen found.ended.steps _ s.core.proof found.mid.proof core.proof found.ended.adds found.shown.adds));
+        took = (_, gains_adds seen _ s.core.proof core.proof both);
+        width = gained_width seen s.core.proof core.proof (_, both);
         same = refl;
         users = found.ended.asked.users;
         config = found.shown.config ∙ found.ended.config;
@@ -215,6 +218,9 @@ module _ {W L : Type 0} {G : Ghosts L} (seen : W → Writer) (s : Solver W L G) 
           asked = asked_shown m core.search.parts.assignment.current s.assumed.items s.asked.order.items images
               (subst (λ ls. (k : ℕ) → k < length ls → IsTrueLit core.search.parts.assignment.current (get_or ls k 0)) lits complete.assumed)
 
+          both : Gains seen (Model (model_of m found.mid) ∷ found.ended.steps) s.core.proof core.proof
+          both = gains_more seen found.ended.steps (Model (model_of m found.mid) ∷ []) s.core.proof found.mid.proof core.proof found.ended.adds found.shown.adds
+
           does : Does s.names m (steps_in s) (steps_of core.proof) (λ j. j) (λ j. told_as states.Unknown states.Sat (line_of m core) s.assumed.items told.failed_core.items)
           does = does_both s.names m m (steps_in s) (steps_of found.mid.proof) (steps_of core.proof) (λ j. j) (λ j. j) (λ j. []) (λ j. told_as states.Unknown states.Sat (line_of m core) s.assumed.items told.failed_core.items)
               found.ended.does
@@ -242,7 +248,8 @@ module _ {W L : Type 0} {G : Ghosts L} (seen : W → Writer) (s : Solver W L G) 
         does = unknown_told states.UnsatUnderAssumptions does;
         comes = comes_both EndsAtUnsat (steps_in s) (steps_of found.mid.proof) (steps_of core.proof) found.ended.comes
             (comes_one EndsAtUnsat (steps_of found.mid.proof) (steps_of core.proof) _ (found.failed.adds.history ∙ ap (λ ss. ss ++ steps_of found.mid.proof) found.failed.told.is) (λ u. absurd (true≢false (sym u ∙ found.ended.says.0.search.stands.fits.consistent))));
-        took = (_, gains_adds seen _ s.core.proof core.proof (gains_more seen found.ended.steps found.failed.steps s.core.proof found.mid.proof core.proof found.ended.adds found.failed.adds));
+        took = (_, gains_adds seen _ s.core.proof core.proof both);
+        width = gained_width seen s.core.proof core.proof (_, both);
         same = refl;
         users = found.ended.asked.users;
         config = found.failed.config ∙ found.ended.config;
@@ -266,6 +273,9 @@ module _ {W L : Type 0} {G : Ghosts L} (seen : W → Writer) (s : Solver W L G) 
 
           lits : found.mid.search.assumptions.lits.items ≡ s.asked.order.items
           lits = ap (λ ls. ls.items) found.ended.says.0.moved.lits ∙ goes.lits
+
+          both : Gains seen (found.failed.steps ++ found.ended.steps) s.core.proof core.proof
+          both = gains_more seen found.ended.steps found.failed.steps s.core.proof found.mid.proof core.proof found.ended.adds found.failed.adds
 
           does : Does s.names m (steps_in s) (steps_of core.proof) (λ j. j) (λ j. told_as states.Unknown states.UnsatUnderAssumptions (line_of m core) s.assumed.items told.failed_core.items)
           does = does_both s.names m m (steps_in s) (steps_of found.mid.proof) (steps_of core.proof) (λ j. j) (λ j. j) (λ j. []) (λ j. told_as states.Unknown states.UnsatUnderAssumptions (line_of m core) s.assumed.items told.failed_core.items)
@@ -304,6 +314,7 @@ module _ {W L : Type 0} {G : Ghosts L} (seen : W → Writer) (s : Solver W L G) 
         does = unknown_told states.Unsat ended.does;
         comes = ended.comes;
         took = (ended.steps, gains_adds seen ended.steps s.core.proof core.proof ended.adds);
+        width = gained_width seen s.core.proof core.proof (ended.steps, ended.adds);
         same = refl;
         users = ended.asked.users;
         config = ended.config;
@@ -371,6 +382,7 @@ module _ {W L : Type 0} {G : Ghosts L} (seen : W → Writer) (old mid : Solver W
     does = subst (λ ss. Does old.names mid.names (steps_in old) ss (λ j. j) (λ j. told_by old.state mid)) (sym f.history) settled.does;
     comes = subst (Comes EndsAtUnsat (steps_in old)) (sym f.history) settled.comes;
     took = (_, adds_more seen settled.took.0 [] old.core.proof mid.core.proof p settled.took.1 (flush_adds f));
+    width = λ n. f.width (settled.width (λ e. n (f.history ∙ e)));
     same = ap (λ (m : Solver W L G). record m { core = record mid.core { proof = p } }) settled.same;
     users = settled.users;
     config = settled.config;
@@ -442,7 +454,7 @@ module _ {W L : Type 0} {G : Ghosts L} (seen : W → Writer) (s new : Solver W L
   -- an ask was looked at
   pub answered : Answered seen s new
   answered = record {
-    did = record { whole = settled.whole; going = going; failed = ap (λ (x : Solver W L G). x.failed) settled.same ∙ going; used = ap (λ (x : Solver W L G). x.used) settled.same; config = settled.config; does = settled.does; took = settled.took };
+    did = record { whole = settled.whole; going = going; failed = ap (λ (x : Solver W L G). x.failed) settled.same ∙ going; used = ap (λ (x : Solver W L G). x.used) settled.same; config = settled.config; does = settled.does; took = settled.took; width = settled.width };
     comes = settled.comes;
     assumed = ap (λ (x : Solver W L G). x.assumed) settled.same;
     users = settled.users;
