@@ -1,6 +1,7 @@
 pub mod Digits
 pub mod Words
 pub mod Spelling
+pub mod Fronts
 pub mod Counting
 pub mod Listed
 pub mod Standing

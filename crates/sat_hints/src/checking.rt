@@ -7,6 +7,7 @@ ghost use Rattle.sat_hints.specs.inner.Judging.{HasTaken, IsReady};
 ghost use Rattle.sat_hints.specs.inner.Holding.{HasRead, IsReadyIf, IsWholeLine, Reads, Says, TakesBytes, TakesPiece};
 
 use crate::answer::{HintFault, HintVerdict, HintWhy};
+use crate::fronts::{Place, behind};
 use crate::judging::Judge;
 use crate::reading::Lists;
 use sat_base::CountedRead;
@@ -23,6 +24,8 @@ const MAX_READS: u64 = 1 << 48;
 struct Checking {
     /// The bytes of a line whose LF has not come yet.
     held: Vec<u8>,
+    /// Where they end.
+    place: Place,
     lists: Lists,
     judge: Judge,
 }
@@ -63,6 +66,7 @@ impl Checking {
     {
         Checking {
             held: Vec::new(alloc),
+            place: Place::Letter,
             lists: Lists::new(alloc),
             judge: Judge::new(alloc),
         }
@@ -78,7 +82,23 @@ impl Checking {
         self.held.extend_from_slice(bytes)?;
         let why = take_line(&mut self.lists, &mut self.judge, &self.held)?;
         self.held.clear();
+        self.place = Place::Letter;
         Ok(why)
+    }
+
+    /// Holds bytes of a line that goes on. The answer is that it is at fault, where no line goes on with them.
+    fn hold(&mut self, bytes: &[u8]) -> Result<Option<HintWhy>, AllocError>
+        requires ready { IsReady self.old.judge }
+        requires inside { HasNoEnd bytes.now }
+        ensures ready { IfOk result (λ why. IsReadyIf why self.new.judge) }
+        ensures reads { IfOk result (λ why. Reads why self.old bytes.now self.new) }
+    {
+        let Some(place) = behind(self.place, bytes) else {
+            return Ok(Some(HintWhy::Syntax));
+        };
+        self.held.extend_from_slice(bytes)?;
+        self.place = place;
+        Ok(None)
     }
 
     /// Takes the next bytes of the text. The answer is why the first line at fault is, if there is one.
@@ -96,8 +116,7 @@ impl Checking {
             }
             rest = behind;
         }
-        self.held.extend_from_slice(rest)?;
-        Ok(None)
+        self.hold(rest)
     }
 
     /// As `feed`, with the verdict on the first line at fault.

@@ -6,6 +6,7 @@ mod checking;
 mod converting;
 mod digits;
 mod error;
+mod fronts;
 mod guesses;
 mod judging;
 pub mod laws;

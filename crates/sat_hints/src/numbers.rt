@@ -17,9 +17,8 @@ pub(crate) fn take_text<'a>(bytes: &'a [u8], text: &[u8]) -> Option<&'a [u8]>
 /// The number with one more digit, or the first digit where it is still 0. `None` for another byte, a leading zero, and a number
 /// past the limit.
 #[inline(always)]
-fn with_digit(number: u64, byte: u8, limit: u64) -> Option<u64>
-    requires within { number ≤ limit }
-    requires digits { 9 ≤ limit }
+pub(crate) fn with_digit(number: u64, byte: u8, limit: u64) -> Option<u64>
+    requires { 9 ≤ limit }
     ensures { MatchOption result (NoDigit limit number byte) (λ more. IsNumber limit more × (decimal more ≡ digits_so_far number ++ byte ∷ [])) }
 {
     if byte < b'0' || byte > b'9' {

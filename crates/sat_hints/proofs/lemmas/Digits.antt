@@ -71,7 +71,7 @@ module _ (limit : ℕ) (fits : limit < 2 ^ 64) where
   begun_value (suc number) h = value_of (suc number) h
 
   -- a number past the limit
-  pub past_limit : (number b : ℕ) → number ≤ limit → 48 ≤ b → b ≤ 57 → limit < 10 * number + (b - 48) → NoDigit limit number b
+  pub past_limit : (number b : ℕ) → number < 2 ^ 64 → 48 ≤ b → b ≤ 57 → limit < 10 * number + (b - 48) → NoDigit limit number b
   past_limit number b h low high past n more k e =
       let small : n < 2 ^ 64 = omega arith in
       let f : decimal n ≡ (digits_so_far number ++ (b ∷ [])) ++ more = e ∙ sym (append_assoc (digits_so_far number) (b ∷ []) more) in
@@ -82,7 +82,7 @@ module _ (limit : ℕ) (fits : limit < 2 ^ 64) where
       let i : n ≤ limit = k.1 in
       omega arith
 
-plain_so_far : (number : ℕ) → number < 2 ^ 64 → Plain (digits_so_far number)
+pub plain_so_far : (number : ℕ) → number < 2 ^ 64 → Plain (digits_so_far number)
 plain_so_far zero h = tt
 plain_so_far (suc number) h = plain_number (suc number) h
 
@@ -113,15 +113,15 @@ first_byte [] b x y h e = absurd (omega arith)
 first_byte (c ∷ cs) b x y h e = (cs, let r : c ≡ b = cc in ap (λ c. c ∷ cs) r)
 
 module _ (limit : ℕ) (fits : limit < 2 ^ 64) where
+  -- a number goes on behind the digits so far
+  pub number_goes_on : (number b : ℕ) (x : List ℕ) (n : ℕ) (tail : List ℕ) → number < 2 ^ 64 → (b ≡ 32 → number ≡ 0) → IsNumber limit n → digits_so_far number ++ (b ∷ x) ≡ decimal n ++ (32 ∷ tail) → (more : List ℕ) × (decimal n ≡ digits_so_far number ++ (b ∷ more))
+  number_goes_on zero b x n tail small space k e = first_byte (decimal n) b x tail (decimal_nonempty n (omega arith)) e
+  number_goes_on (suc number) b x n tail small space k e = goes_on (decimal (suc number)) (decimal n) b x tail (plain_so_far (suc number) small) (λ s. let z : suc number ≡ 0 = space s in omega arith) e
+
   -- where no digit of a number comes next
   pub no_number_so : (number b : ℕ) (bytes x : List ℕ) → number ≤ limit → (b ≡ 32 → number ≡ 0) → NoDigit limit number b → bytes ≡ digits_so_far number ++ (b ∷ x) → NoWord decimal (IsNumber limit) bytes
-  no_number_so zero b bytes x h space none e n tail k f =
-      let small : n < 2 ^ 64 = omega arith in
-      let r = first_byte (decimal n) b x tail (decimal_nonempty n small) (sym e ∙ f) in
-      none n r.0 k r.1
-  no_number_so (suc number) b bytes x h space none e n tail k f =
-      let small : suc number < 2 ^ 64 = omega arith in
-      let r = goes_on (decimal (suc number)) (decimal n) b x tail (plain_so_far (suc number) small) (λ s. let z : suc number ≡ 0 = space s in omega arith) (sym e ∙ f) in
+  no_number_so number b bytes x h space none e n tail k f =
+      let r = number_goes_on number b x n tail (omega arith) space k (sym e ∙ f) in
       none n r.0 k r.1
 
   -- where the bytes are over

@@ -1,10 +1,14 @@
 -- What bytes more leave of a text so far.
-use Rattle.std.proofs.Common.{ℕ, ◌+◌, ◌<◌, ◌≤◌, ◌≡◌, List, [], ◌∷◌, ◌++◌, length, take, drop, get_or, Option, None, Some, refl, sym, ◌∙◌, ap, subst, append_assoc, append-nil}
+use Rattle.std.proofs.Common.{ℕ, ◌+◌, ◌<◌, ◌≤◌, ◌≡◌, ◌⊎◌, inl, inr, Bool, true, false, eqb, List, [], ◌∷◌, ◌++◌, length, take, drop, get_or, Option, None, Some, refl, sym, ◌∙◌, ap, subst, arith, append_assoc, append-nil}
+use Rattle.std.proofs.lemmas.Bool.{both_ways, eqb-true, eq-eqb}
 use Rattle.std.proofs.lemmas.List.{take-append-drop, take_more, take_all}
 use Rattle.sat_base.specs.text.Tokenizing.{held}
-use Rattle.sat_hints.specs.Lines.{Line, Input, Derived, Gone, Core, Fresh, text_of, line_text, id_words, literal_words, Spells, HasNoEnd, ended, cut_off}
-use Rattle.sat_hints.specs.Hints.{Follows}
-use Rattle.sat_hints.specs.Checks.{IsAtFault, Judges}
+use Rattle.sat_hints.specs.Lines.{Line, AreLines, Input, Derived, Gone, Core, Fresh, text_of, line_text, id_words, literal_words, Spells, HasNoEnd, BeginsWithLine, ended, cut_off}
+use Rattle.sat_hints.specs.Hints.{Follows, IsHintDerivation}
+use Rattle.sat_hints.specs.Checks.{IsAtFault, IsBadAt, Judges}
+use Rattle.sat_hints.specs.inner.Fronts.{IsLeft, Leads}
+use Rattle.sat_hints.specs.declared.fronts.Place.{Place}
+use Rattle.sat_hints.specs.declared.fronts.Place.TheVariants.{Letter}
 use Rattle.sat_hints.specs.inner.Judging.{HasTaken}
 use Rattle.sat_hints.specs.inner.Holding.{IsWholeLine, TakesBytes, HasRead, HasFault, GoesOn, Reads}
 use Rattle.sat_hints.specs.declared.answer.HintWhy.{HintWhy}
@@ -24,11 +28,12 @@ whole_with held bytes h w = record { front = held ++ w.front; inside = no_end_bo
 
 -- a line's end comes
 module _ (old new : Checking) (bytes : List ℕ) (w : IsWholeLine bytes) where
-  line_follows : (text : List ℕ) (r : HasRead old text) (line : Line) → Spells (old.held.items ++ bytes) line → Follows r.lines line → HasTaken new.judge (line ∷ r.lines) → new.held.items ≡ [] → HasRead new (text ++ bytes)
-  line_follows text r line s f t e = record {
+  line_follows : (text : List ℕ) (r : HasRead old text) (line : Line) → Spells (old.held.items ++ bytes) line → Follows r.lines line → HasTaken new.judge (line ∷ r.lines) → new.held.items ≡ [] → new.place ≡ Letter → HasRead new (text ++ bytes)
+  line_follows text r line s f t e at = record {
     lines = line ∷ r.lines;
     whole = ap (λ x. x ++ bytes) r.whole ∙ append_assoc (text_of r.lines) old.held.items bytes ∙ ap (λ x. text_of r.lines ++ x) s.1 ∙ sym (append-nil (text_of (line ∷ r.lines))) ∙ ap (λ x. text_of (line ∷ r.lines) ++ x) (sym e);
     inside = subst HasNoEnd (sym e) tt;
+    fits = rw (e, at) (λ more h. h);
     are = (s.0, r.are);
     derivation = (r.derivation, f);
     taken = t;
@@ -51,19 +56,79 @@ module _ (old new : Checking) (bytes : List ℕ) (w : IsWholeLine bytes) where
     };
   }
 
-  pub line_ends : (why : Option HintWhy) (all : List ℕ) → all ≡ old.held.items ++ bytes → ((lines : List Line) → HasTaken old.judge lines → TakesBytes why old.judge new.judge lines all) → new.held.items ≡ [] → Reads why old bytes new
-  line_ends None all a h e text r = let t = subst (TakesBytes None old.judge new.judge r.lines) a (h r.lines r.taken) in line_follows text r t.0 t.1 t.2 t.3 e
-  line_ends (Some why) all a h e text r = let t = subst (TakesBytes (Some why) old.judge new.judge r.lines) a (h r.lines r.taken) in line_faulty text r why t.0 t.1
+  pub line_ends : (why : Option HintWhy) (all : List ℕ) → all ≡ old.held.items ++ bytes → ((lines : List Line) → HasTaken old.judge lines → TakesBytes why old.judge new.judge lines all) → new.held.items ≡ [] → new.place ≡ Letter → Reads why old bytes new
+  line_ends None all a h e at text r = let t = subst (TakesBytes None old.judge new.judge r.lines) a (h r.lines r.taken) in line_follows text r t.0 t.1 t.2 t.3 e at
+  line_ends (Some why) all a h e at text r = let t = subst (TakesBytes (Some why) old.judge new.judge r.lines) a (h r.lines r.taken) in line_faulty text r why t.0 t.1
+
+leads_on : (held bytes : List ℕ) (here : Place) (to : Option Place) → Leads Letter held (Some here) → Leads here bytes to → Leads Letter (held ++ bytes) to
+leads_on held bytes here to h k more l = k more (h (bytes ++ more) (subst (IsLeft Letter) (append_assoc held bytes more) l))
 
 -- bytes of a line that goes on
-pub held_more : (old new : Checking) (bytes : List ℕ) → HasNoEnd bytes → new.judge ≡ old.judge → new.held.items ≡ old.held.items ++ bytes → Reads None old bytes new
-held_more old new bytes h e f text r = record {
+pub held_more : (old new : Checking) (bytes : List ℕ) → HasNoEnd bytes → new.judge ≡ old.judge → new.held.items ≡ old.held.items ++ bytes → Leads old.place bytes (Some new.place) → Reads None old bytes new
+held_more old new bytes h e f leads text r = record {
   lines = r.lines;
   whole = ap (λ x. x ++ bytes) r.whole ∙ append_assoc (text_of r.lines) old.held.items bytes ∙ ap (λ x. text_of r.lines ++ x) (sym f);
   inside = subst HasNoEnd (sym f) (no_end_both old.held.items bytes r.inside h);
+  fits = subst (λ b. Leads Letter b (Some new.place)) (sym f) (leads_on old.held.items bytes old.place (Some new.place) r.fits leads);
   are = r.are;
   derivation = r.derivation;
   taken = subst (λ j. HasTaken j r.lines) (sym e) r.taken;
+}
+
+-- what comes up to the next LF, if there is one
+record Cut (all : List ℕ) : Type 0 where
+  bytes : List ℕ
+  rest : List ℕ
+  whole : all ≡ bytes ++ rest
+  ends : (HasNoEnd bytes × (rest ≡ [])) ⊎ IsWholeLine bytes
+
+cut : (all : List ℕ) → Cut all
+cut [] = record { bytes = []; rest = []; whole = refl; ends = inl (tt, refl) }
+cut (b ∷ all) = go (eqb b 10) refl (cut all)
+  where
+    longer : (bytes rest : List ℕ) → (b ≡ 10 → ⊥) → (HasNoEnd bytes × (rest ≡ [])) ⊎ IsWholeLine bytes → (HasNoEnd (b ∷ bytes) × (rest ≡ [])) ⊎ IsWholeLine (b ∷ bytes)
+    longer bytes rest other (inl h) = inl ((other, h.0), h.1)
+    longer bytes rest other (inr w) = inr (whole_with (b ∷ []) bytes (other, tt) w)
+
+    go : (is : Bool) → eqb b 10 ≡ is → Cut all → Cut (b ∷ all)
+    go true e c = record { bytes = b ∷ []; rest = all; whole = refl; ends = inr (record { front = []; inside = tt; ended = ap (λ b. b ∷ []) (eqb-true b 10 e) }) }
+    go false e c = record { bytes = b ∷ c.bytes; rest = c.rest; whole = ap (λ x. b ∷ x) c.whole; ends = longer c.bytes c.rest (λ f. both_ways (eqb b 10) e (eq-eqb b 10 f)) c.ends }
+
+-- a front that no line has is at fault, whatever follows
+module _ (front : List ℕ) (inside : HasNoEnd front) (never : Leads Letter front None) where
+  some_front : front ≡ [] → ⊥
+  some_front e = never (line_text (Gone 0)) (rw e (Gone 0, ((omega arith, tt), refl)))
+
+  begins : (bytes rest : List ℕ) → (HasNoEnd bytes × (rest ≡ [])) ⊎ IsWholeLine bytes → BeginsWithLine (front ++ bytes) rest
+  begins bytes rest (inl h) = cut_off (no_end_both front bytes inside h.0) (not_empty front some_front) h.1
+    where
+      not_empty : (xs : List ℕ) → (xs ≡ [] → ⊥) → xs ++ bytes ≡ [] → ⊥
+      not_empty [] some e = some refl
+      not_empty (x ∷ xs) some e = cc
+  begins bytes rest (inr w) = let k = whole_with front bytes inside w in ended k.front k.inside k.ended
+
+  front_faulty : (lines : List Line) (rest : List ℕ) → AreLines lines → IsHintDerivation lines → IsBadAt (text_of lines ++ (front ++ rest)) (held (length lines + 1)) Syntax
+  front_faulty lines rest are derivation =
+      let c = cut rest in
+      record {
+        earlier = lines;
+        bytes = front ++ c.bytes;
+        rest = c.rest;
+        whole = ap (λ x. text_of lines ++ x) (ap (λ x. front ++ x) c.whole ∙ sym (append_assoc front c.bytes c.rest));
+        are = are;
+        derivation = derivation;
+        first = begins c.bytes c.rest c.ends;
+        fault = λ line s. never c.bytes (line, s);
+        number = refl;
+      }
+
+pub held_faulty : (old : Checking) (bytes : List ℕ) → HasNoEnd bytes → Leads old.place bytes None → Reads (Some Syntax) old bytes old
+held_faulty old bytes h leads text r = record {
+  count = length r.lines;
+  number = r.taken.counts_lines;
+  bad = λ rest. subst (λ x. IsBadAt x (held (length r.lines + 1)) Syntax)
+    (sym (ap (λ x. (x ++ bytes) ++ rest) r.whole ∙ ap (λ x. x ++ rest) (append_assoc (text_of r.lines) old.held.items bytes) ∙ append_assoc (text_of r.lines) (old.held.items ++ bytes) rest))
+    (front_faulty (old.held.items ++ bytes) (no_end_both old.held.items bytes r.inside h) (leads_on old.held.items bytes old.place None r.fits leads) r.lines rest r.are r.derivation);
 }
 
 -- bytes, and then more

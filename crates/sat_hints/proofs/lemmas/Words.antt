@@ -79,7 +79,7 @@ module _ (word : ℕ → List ℕ) (P : ℕ → Type 0) where
   })
 
 -- IDs
-id_first : (ds : List ℕ) (rest tail : List ℕ) → 0 < length ds → 48 < get_or ds 0 0 → 48 ∷ rest ≡ ds ++ (32 ∷ tail) → ⊥
+pub id_first : (ds : List ℕ) (rest tail : List ℕ) → 0 < length ds → 48 < get_or ds 0 0 → 48 ∷ rest ≡ ds ++ (32 ∷ tail) → ⊥
 id_first [] rest tail h k e = omega arith
 id_first (d ∷ ds) rest tail h k e = let r : d ≡ 48 = cc in omega arith
 
@@ -120,7 +120,7 @@ literals_are_words = record {
 }
 
 -- a literal's number is one more than the index of its variable
-no_sign : (n : ℕ) (x y : List ℕ) → n < 2 ^ 64 → decimal n ++ (32 ∷ x) ≡ 45 ∷ y → ⊥
+pub no_sign : (n : ℕ) (x y : List ℕ) → n < 2 ^ 64 → decimal n ++ (32 ∷ x) ≡ 45 ∷ y → ⊥
 no_sign n x y h e = go (decimal n) (are_digits n h) (decimal_nonempty n h) e
   where
     go : (ds : List ℕ) → AllDigits 10 ds → 0 < length ds → ds ++ (32 ∷ x) ≡ 45 ∷ y → ⊥

@@ -4,6 +4,8 @@ use Rattle.sat_base.specs.text.Tokenizing.{held}
 use Rattle.sat_hints.specs.Lines.{Line, AreLines, text_of, Spells, HasNoEnd}
 use Rattle.sat_hints.specs.Hints.{IsHintDerivation, Follows}
 use Rattle.sat_hints.specs.Checks.{IsAtFault, Judges}
+use Rattle.sat_hints.specs.inner.Fronts.{Leads}
+use Rattle.sat_hints.specs.declared.fronts.Place.TheVariants.{Letter}
 use Rattle.sat_hints.specs.inner.Judging.{HasTaken, IsReady}
 use Rattle.sat_hints.specs.declared.answer.HintWhy.{HintWhy}
 use Rattle.sat_hints.specs.declared.answer.HintVerdict.{HintVerdict}
@@ -23,11 +25,12 @@ abbrev pub TakesBytes : Option HintWhy → Judge → Judge → List Line → Lis
 TakesBytes None old new lines bytes = (line : Line) × Spells bytes line × Follows lines line × HasTaken new (line ∷ lines)
 TakesBytes (Some why) old new lines bytes = IsAtFault lines bytes why × (new.lines ≡ old.lines)
 
--- The text so far: lines that are a derivation, and the front of one more.
+-- The text so far: lines that are a derivation, and the front of one more, up to the place where it ends.
 pub record HasRead (c : Checking) (text : List ℕ) : Type 0 where
   pub lines : List Line
   pub whole : text ≡ text_of lines ++ c.held.items
   pub inside : HasNoEnd c.held.items
+  pub fits : Leads Letter c.held.items (Some c.place)
   pub are : AreLines lines
   pub derivation : IsHintDerivation lines
   pub taken : HasTaken c.judge lines

@@ -10,7 +10,7 @@ pub returns-then-byte-lt48 : goal.returns-then-byte-lt48
 returns-then-byte-lt48 c = no_digit c.args.limit (omega arith) c.args.number c.args.byte (outside c.args.byte c.then-byte-lt48.either)
 
 pub returns-then-number-limit : goal.returns-then-number-limit
-returns-then-number-limit c = past_limit c.args.limit (omega arith) c.args.number c.args.byte c.requires.within c.if-byte-lt48.false c.if-byte-gt57.false (omega arith)
+returns-then-number-limit c = past_limit c.args.limit (omega arith) c.args.number c.args.byte (omega arith) c.if-byte-lt48.false c.if-byte-gt57.false (omega arith)
 
 pub returns-then-more-eq0 : goal.returns-then-more-eq0
 returns-then-more-eq0 c = no_zero c.args.limit (omega arith) c.args.number c.args.byte c.if-byte-lt48.false (omega arith)

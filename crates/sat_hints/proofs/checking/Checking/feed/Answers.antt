@@ -1,7 +1,7 @@
-use Rattle.std.proofs.Common.{rules, ◌≡◌, ◌++◌, [], None, Some, refl, sym, subst}
-use Rattle.sat_hints.specs.declared.checking.Checking.{Checking}
+use Rattle.std.proofs.Common.{rules, ◌≡◌, ◌++◌, [], None, Option, Some, Result, Ok, Err, IfOk, refl, sym, subst}
+use Rattle.sat_hints.specs.declared.answer.HintWhy.{HintWhy}
 use Rattle.sat_hints.specs.inner.Holding.{IsWholeLine, Reads}
-use Rattle.sat_hints.proofs.lemmas.Holding.{reads_none, reads_more, reads_behind, held_more, split_off}
+use Rattle.sat_hints.proofs.lemmas.Holding.{reads_none, reads_more, reads_behind, split_off}
 use Rattle.sat_hints.proofs.checking.Checking.feed.Goals as goal
 
 pub loop-end-init : goal.loop-end-init
@@ -36,6 +36,9 @@ loop-end-preserved c =
 pub returns-clause-reads : goal.returns-clause-reads
 returns-clause-reads c =
     let d = c.loop-end.invariant.done in
-    let items : c.extend_from_slice.new.self.items ≡ c.loop-end.self.held.items ++ c.loop-end.rest.now = search rules in
-    let new : Checking = record { held = c.extend_from_slice.new.self; lists = c.loop-end.self.lists; judge = c.loop-end.self.judge } in
-    subst (λ bytes. Reads None c.args.self.now bytes new) (sym d.1) (reads_more None c.args.self.now c.loop-end.self new d.0 c.loop-end.rest.now d.2 (held_more c.loop-end.self new c.loop-end.rest.now c.in_default.ensures refl items))
+    let h = c.hold.ensures.reads in
+    subst (λ bytes. IfOk c.hold.result (λ why. Reads why c.args.self.now bytes c.hold.new.self)) (sym d.1) (both c.hold.result h)
+  where
+    both : {E : Type 0} (r : Result (Option HintWhy) E) → IfOk r (λ why. Reads why c.loop-end.self c.loop-end.rest.now c.hold.new.self) → IfOk r (λ why. Reads why c.args.self.now (c.loop-end.invariant.done.0 ++ c.loop-end.rest.now) c.hold.new.self)
+    both (Ok why) h = reads_more why c.args.self.now c.loop-end.self c.hold.new.self c.loop-end.invariant.done.0 c.loop-end.rest.now c.loop-end.invariant.done.2 h
+    both (Err e) h = tt

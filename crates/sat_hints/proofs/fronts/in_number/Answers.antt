@@ -1,0 +1,22 @@
+use Rattle.std.proofs.Common.{◌≡◌, ◌≢◌, ◌<◌, ◌≤◌, ◌⊎◌, ℕ, inl, inr, [], ◌∷◌, None, Some, subst, sym, arith}
+use Rattle.sat_hints.specs.inner.Fronts.{limit_of, Leads}
+use Rattle.sat_hints.specs.inner.LineReading.{NoDigit}
+use Rattle.sat_hints.specs.declared.fronts.Place.TheVariants.{Digits, Item}
+use Rattle.sat_hints.proofs.lemmas.Fronts.{number_ends, number_goes, number_stops}
+use Rattle.sat_hints.proofs.fronts.in_number.Goals as goal
+
+at_zero : (b number : ℕ) → ((b ≡ 32) × (number ≤ 0)) ⊎ (b ≢ 32) → b ≡ 32 → number ≡ 0
+at_zero b number (inl h) e = omega arith
+at_zero b number (inr h) e = absurd (h e)
+
+pub returns-then-number-gt0 : goal.returns-then-number-gt0
+returns-then-number-gt0 c = subst (λ b. Leads (Digits c.args.part c.args.number) (b ∷ []) (Some (Item c.next.result))) (sym c.if-byte-eq32.true)
+    (rw c.next.ensures (number_ends c.args.part c.args.number (omega arith) (omega arith)))
+
+pub returns-in_err-more : goal.returns-in_err-more
+returns-in_err-more c =
+    let none : NoDigit (limit_of c.args.part) c.args.number c.args.byte = subst (λ limit. NoDigit limit c.args.number c.args.byte) c.limit.ensures.is c.in_err-more.ensures in
+    rw c.from_residual.ensures (number_stops c.args.part c.args.number c.args.byte (omega arith) (at_zero c.args.byte c.args.number c.else-byte-eq32.either) none)
+
+pub returns : goal.returns
+returns c = number_goes c.args.part c.args.number c.args.byte _ (rw c.limit.ensures.is at c.in_ok-more.ensures.0) c.in_ok-more.ensures.1

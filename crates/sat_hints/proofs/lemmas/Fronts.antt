@@ -1,0 +1,180 @@
+-- Which bytes may come at each place of a line.
+use Rattle.std.proofs.Common.{ℕ, zero, suc, ◌+◌, ◌-◌, ◌/◌, ◌^◌, ◌<◌, ◌≤◌, ◌≡◌, Bool, true, false, cond, Option, None, Some, List, [], ◌∷◌, ◌++◌, decimal, refl, sym, ◌∙◌, ap, subst, arith, append_assoc}
+use Rattle.std.proofs.lemmas.Fmt.{decimal_nonempty, first_decimal}
+use Rattle.sat_base.specs.values.Literals.{largest, is_positive}
+use Rattle.sat_base.specs.dimacs.DimacsText.{number_text}
+use Rattle.sat_hints.specs.Lines.{Line, Input, Derived, Gone, Core, Fresh, Spells, HasNoEnd, id_text, id_words, literal_words}
+use Rattle.sat_hints.specs.inner.LineReading.{IsNumber, IsLiteral, NoDigit, digits_so_far}
+use Rattle.sat_hints.specs.inner.Fronts.{limit_of, next_of, letter_place, zero_place, sign_place, Numbered, IsPart, IsLeft, IsLeftIf, Leads}
+use Rattle.sat_hints.specs.declared.fronts.Part.{Part}
+use Rattle.sat_hints.specs.declared.fronts.Part.TheVariants.{InputId, DerivedId, GoneId, FreshVar, Clause, Lists, Ids, End}
+use Rattle.sat_hints.specs.declared.fronts.Place.{Place}
+use Rattle.sat_hints.specs.declared.fronts.Place.TheVariants.{Letter, Space, Item, Digits, Over}
+use Rattle.sat_hints.proofs.lemmas.Digits.{number_goes_on, plain_number, plain_so_far}
+use Rattle.sat_hints.proofs.lemmas.Words.{at_space, id_first, no_sign}
+
+abbrev end : List ℕ
+end = 48 ∷ 10 ∷ []
+
+pub limit_fits : (part : Part) → limit_of part < 2 ^ 64
+limit_fits InputId = omega arith
+limit_fits DerivedId = omega arith
+limit_fits GoneId = omega arith
+limit_fits FreshVar = omega arith
+limit_fits Clause = omega arith
+limit_fits Lists = omega arith
+limit_fits Ids = omega arith
+limit_fits End = omega arith
+
+-- a part begins with a number, with `-` and a number, or with `0`
+data Turn (part : Part) (bytes : List ℕ) : Type 0 where
+  begun : Numbered (limit_of part) (IsPart (next_of part)) 0 bytes → Turn part bytes
+  negative : (rest : List ℕ) → bytes ≡ 45 ∷ rest → IsLeftIf (sign_place part) rest → Turn part bytes
+  last : (rest : List ℕ) → bytes ≡ 48 ∷ rest → IsLeftIf (zero_place part) rest → Turn part bytes
+
+-- a literal and a space
+data Signed (Rest : List ℕ → Type 0) (bytes : List ℕ) : Type 0 where
+  plain : Numbered largest Rest 0 bytes → Signed Rest bytes
+  minus : (rest : List ℕ) → bytes ≡ 45 ∷ rest → Numbered largest Rest 0 rest → Signed Rest bytes
+
+signed : (Rest : List ℕ → Type 0) (l : ℕ) (rest bytes : List ℕ) → IsLiteral l → bytes ≡ number_text l ++ (32 ∷ rest) → Rest rest → Signed Rest bytes
+signed Rest l rest bytes p e r = go (is_positive l) e
+  where
+    go : (s : Bool) → bytes ≡ (cond s [] (45 ∷ []) ++ decimal (l / 2 + 1)) ++ (32 ∷ rest) → Signed Rest bytes
+    go true e = plain (record { value = l / 2 + 1; rest = rest; within = (omega arith, omega arith); whole = e; behind = r })
+    go false e = minus (decimal (l / 2 + 1) ++ (32 ∷ rest)) e (record { value = l / 2 + 1; rest = rest; within = (omega arith, omega arith); whole = refl; behind = r })
+
+clause_turn : (bytes : List ℕ) → Signed (IsPart Clause) bytes → Turn Clause bytes
+clause_turn bytes (plain w) = begun w
+clause_turn bytes (minus rest e w) = negative rest e w
+
+lists_turn : (bytes : List ℕ) → Signed (IsPart Lists) bytes → Turn Lists bytes
+lists_turn bytes (plain w) = begun w
+lists_turn bytes (minus rest e w) = negative rest e w
+
+turn : (part : Part) (bytes : List ℕ) → IsPart part bytes → Turn part bytes
+turn InputId bytes h = begun h
+turn DerivedId bytes h = begun h
+turn GoneId bytes h = begun h
+turn FreshVar bytes h = begun h
+turn Clause bytes ([], o) = last (10 ∷ []) o.1 refl
+turn Clause bytes (l ∷ ls, o) = clause_turn bytes (signed (IsPart Clause) l (literal_words ls ++ end) bytes o.0.0 (o.1 ∙ append_assoc (number_text l) (32 ∷ literal_words ls) end) (ls, (o.0.1, refl)))
+turn Lists bytes ([], ids, o) = last (32 ∷ (id_words ids ++ end)) o.2 (id_words ids ++ end, refl, (ids, o.1, refl))
+turn Lists bytes (l ∷ ls, ids, o) =
+    let tail : List ℕ = 48 ∷ 32 ∷ (id_words ids ++ end) in
+    lists_turn bytes (signed (IsPart Lists) l (literal_words ls ++ tail) bytes o.0.0 (o.2 ∙ append_assoc (number_text l) (32 ∷ literal_words ls) tail) (ls, ids, (o.0.1, o.1, refl)))
+turn Ids bytes ([], are, e) = last (10 ∷ []) e refl
+turn Ids bytes (i ∷ is, are, e) = begun (record { value = i + 1; rest = id_words is ++ end; within = (omega arith, let k = are.0 in omega arith); whole = e ∙ append_assoc (id_text i) (32 ∷ id_words is) end; behind = (is, are.1, refl) })
+turn End bytes e = last (10 ∷ []) e refl
+
+-- no number begins with `0`
+not_zero : (part : Part) (Rest : List ℕ → Type 0) (more : List ℕ) → Numbered (limit_of part) Rest 0 (48 ∷ more) → ⊥
+not_zero part Rest more w =
+    let f = limit_fits part in
+    let k = w.within in
+    let small : w.value < 2 ^ 64 = omega arith in
+    id_first (decimal w.value) more w.rest (decimal_nonempty w.value small) (first_decimal w.value k.0 small) w.whole
+
+pub leads_zero : (part : Part) → Leads (Item part) (48 ∷ []) (zero_place part)
+leads_zero part more h = go (turn part (48 ∷ more) h)
+  where
+    go : Turn part (48 ∷ more) → IsLeftIf (zero_place part) more
+    go (begun w) = absurd (not_zero part (IsPart (next_of part)) more w)
+    go (negative rest e w) = absurd (let r : ◌≡◌ {A = ℕ} 48 45 = cc in omega arith)
+    go (last rest e w) = let r : rest ≡ more = cc in subst (IsLeftIf (zero_place part)) r w
+
+pub leads_sign : (part : Part) → Leads (Item part) (45 ∷ []) (sign_place part)
+leads_sign part more h = go (turn part (45 ∷ more) h)
+  where
+    go : Turn part (45 ∷ more) → IsLeftIf (sign_place part) more
+    go (begun w) = absurd (let f = limit_fits part in let k = w.within in no_sign w.value w.rest more (omega arith) (sym w.whole))
+    go (negative rest e w) = let r : rest ≡ more = cc in subst (IsLeftIf (sign_place part)) r w
+    go (last rest e w) = absurd (let r : ◌≡◌ {A = ℕ} 45 48 = cc in omega arith)
+
+-- with another byte a number begins
+pub leads_digit : (part : Part) (b : ℕ) (to : Option Place) → (b ≡ 48 → ⊥) → (b ≡ 45 → ⊥) → Leads (Digits part 0) (b ∷ []) to → Leads (Item part) (b ∷ []) to
+leads_digit part b to no_zero no_minus leads more h = go (turn part (b ∷ more) h)
+  where
+    go : Turn part (b ∷ more) → IsLeftIf to more
+    go (begun w) = leads more w
+    go (negative rest e w) = absurd (no_minus (let r : b ≡ 45 = cc in r))
+    go (last rest e w) = absurd (no_zero (let r : b ≡ 48 = cc in r))
+
+-- there is none where only `0` can come
+pub leads_end : (b : ℕ) → (b ≡ 48 → ⊥) → Leads (Item End) (b ∷ []) None
+leads_end b no_zero more h = no_zero (let r : b ≡ 48 = cc in r)
+
+-- a space ends a number
+pub number_ends : (part : Part) (number : ℕ) → number < 2 ^ 64 → 0 < number → Leads (Digits part number) (32 ∷ []) (Some (Item (next_of part)))
+number_ends part number small more_than more w =
+    let f = limit_fits part in
+    let k = w.within in
+    let e = at_space (digits_so_far number) (decimal w.value) more w.rest (plain_so_far number small) (plain_number w.value (omega arith)) w.whole in
+    subst (IsPart (next_of part)) (sym e.1) w.behind
+
+-- a digit comes
+so_far : (m : ℕ) → 1 ≤ m → digits_so_far m ≡ decimal m
+so_far zero h = absurd (omega arith)
+so_far (suc m) h = refl
+
+pub number_goes : (part : Part) (number b m : ℕ) → IsNumber (limit_of part) m → decimal m ≡ digits_so_far number ++ (b ∷ []) → Leads (Digits part number) (b ∷ []) (Some (Digits part m))
+number_goes part number b m within e more w = record {
+  value = w.value;
+  rest = w.rest;
+  within = w.within;
+  whole = ap (λ ds. ds ++ more) (so_far m within.0 ∙ e) ∙ append_assoc (digits_so_far number) (b ∷ []) more ∙ w.whole;
+  behind = w.behind;
+}
+
+pub number_stops : (part : Part) (number b : ℕ) → number < 2 ^ 64 → (b ≡ 32 → number ≡ 0) → NoDigit (limit_of part) number b → Leads (Digits part number) (b ∷ []) None
+number_stops part number b small space none more w =
+    let r = number_goes_on (limit_of part) (limit_fits part) number b more w.value w.rest small space w.within w.whole in
+    none w.value r.0 w.within r.1
+
+-- a line's letter
+one_id : (id : ℕ) (rest : List ℕ) → id_words (id ∷ []) ++ rest ≡ id_text id ++ (32 ∷ rest)
+one_id id rest = append_assoc (id_text id) (32 ∷ []) rest
+
+behind_letter : (b c : ℕ) (part : Part) (more rest : List ℕ) → letter_place c ≡ Some (Space part) → b ∷ more ≡ c ∷ 32 ∷ rest → IsPart part rest → IsLeftIf (letter_place b) more
+behind_letter b c part more rest at e p =
+    let r : b ≡ c = cc in
+    let t : more ≡ 32 ∷ rest = cc in
+    subst (λ to. IsLeftIf to more) (sym (ap letter_place r ∙ at)) (rest, t, p)
+
+pub leads_letter : (b : ℕ) → Leads Letter (b ∷ []) (letter_place b)
+leads_letter b more (Input id ls, s) = behind_letter b 105 InputId more (id_words (id ∷ []) ++ (literal_words ls ++ end)) refl s.1 (record { value = id + 1; rest = literal_words ls ++ end; within = (omega arith, let k = s.0.0.0 in omega arith); whole = one_id id (literal_words ls ++ end); behind = (ls, (s.0.1, refl)) })
+leads_letter b more (Derived id ls ids, s) =
+    let tail : List ℕ = literal_words ls ++ (48 ∷ 32 ∷ (id_words ids ++ end)) in
+    behind_letter b 100 DerivedId more (id_words (id ∷ []) ++ tail) refl s.1 (record { value = id + 1; rest = tail; within = (omega arith, let k = s.0.0.0 in omega arith); whole = one_id id tail; behind = (ls, ids, (s.0.1, s.0.2, refl)) })
+leads_letter b more (Gone id, s) = behind_letter b 120 GoneId more (id_words (id ∷ []) ++ end) refl s.1 (record { value = id + 1; rest = end; within = (omega arith, let k = s.0.0 in omega arith); whole = one_id id end; behind = refl })
+leads_letter b more (Core ls ids, s) = behind_letter b 102 Lists more (literal_words ls ++ (48 ∷ 32 ∷ (id_words ids ++ end))) refl s.1 (ls, ids, (s.0.0, s.0.1, refl))
+leads_letter b more (Fresh v, s) = behind_letter b 101 FreshVar more (id_words (v ∷ []) ++ end) refl s.1 (record { value = v + 1; rest = end; within = (omega arith, let k = s.0.0 in omega arith); whole = one_id v end; behind = refl })
+
+-- a space
+pub leads_space : (part : Part) → Leads (Space part) (32 ∷ []) (Some (Item part))
+leads_space part more h = let r : h.0 ≡ more = (let e = h.1 in cc) in subst (IsPart part) r h.2
+
+pub leads_no_space : (part : Part) (b : ℕ) → (b ≡ 32 → ⊥) → Leads (Space part) (b ∷ []) None
+leads_no_space part b other more h = other (let e = h.1 in let r : b ≡ 32 = cc in r)
+
+-- the LF
+pub leads_over : (b : ℕ) → (b ≡ 10 → ⊥) → Leads Over (b ∷ []) None
+leads_over b other more e = other (let r : b ≡ 10 = cc in r)
+
+-- so far bytes lead from one place to another
+pub record LeadsSoFar (from : Place) (bytes : List ℕ) (here : Place) (rest : List ℕ) : Type 0 where
+  pub inside : HasNoEnd rest
+  pub leads : (more : List ℕ) → IsLeft from (bytes ++ more) → IsLeft here (rest ++ more)
+
+module _ (from : Place) (bytes : List ℕ) (here : Place) where
+  pub leads_none : (b : ℕ) (rest left : List ℕ) → left ≡ b ∷ rest → LeadsSoFar from bytes here left → ((b ≡ 10 → ⊥) → Leads here (b ∷ []) None) → Leads from bytes None
+  leads_none b rest left e so leads more h = let k : HasNoEnd (b ∷ rest) = subst HasNoEnd e so.inside in leads k.0 (rest ++ more) (subst (λ x. IsLeft here (x ++ more)) e (so.leads more h))
+
+  pub leads_more : (b : ℕ) (rest left : List ℕ) (to : Place) → left ≡ b ∷ rest → LeadsSoFar from bytes here left → ((b ≡ 10 → ⊥) → Leads here (b ∷ []) (Some to)) → LeadsSoFar from bytes to rest
+  leads_more b rest left to e so leads = let k : HasNoEnd (b ∷ rest) = subst HasNoEnd e so.inside in record {
+    inside = k.1;
+    leads = λ more h. leads k.0 (rest ++ more) (subst (λ x. IsLeft here (x ++ more)) e (so.leads more h));
+  }
+
+  pub leads_all : (left : List ℕ) → left ≡ [] → LeadsSoFar from bytes here left → Leads from bytes (Some here)
+  leads_all left e so more h = subst (λ x. IsLeft here (x ++ more)) e (so.leads more h)

@@ -1,0 +1,93 @@
+-- What may still come of a line whose front was read.
+use Rattle.std.specs.Prelude.{ℕ, ◌-◌, ◌^◌, ◌==◌, ◌≡◌, Option, None, Some, List, [], ◌∷◌, ◌++◌, decimal, codes, if◌then◌else◌}
+use Rattle.sat_base.specs.values.Literals.{largest}
+use Rattle.sat_hints.specs.Lines.{Line, AreIds, id_words, Spells}
+use Rattle.sat_hints.specs.inner.LineReading.{IsNumber, IsOne, IsBoth, digits_so_far}
+use Rattle.sat_hints.specs.declared.fronts.Part.{Part}
+use Rattle.sat_hints.specs.declared.fronts.Part.TheVariants.{InputId, DerivedId, GoneId, FreshVar, Clause, Lists, Ids, End}
+use Rattle.sat_hints.specs.declared.fronts.Place.{Place}
+use Rattle.sat_hints.specs.declared.fronts.Place.TheVariants.{Letter, Space, Item, Digits, Over}
+
+-- up to where the numbers go with which a part may begin; `0` begins with none
+abbrev pub limit_of : Part → ℕ
+limit_of InputId = 2 ^ 64 - 1
+limit_of DerivedId = 2 ^ 64 - 1
+limit_of GoneId = 2 ^ 64 - 1
+limit_of FreshVar = largest
+limit_of Clause = largest
+limit_of Lists = largest
+limit_of Ids = 2 ^ 64 - 1
+limit_of End = 2 ^ 64 - 1
+
+-- what comes behind such a number
+abbrev pub next_of : Part → Part
+next_of InputId = Clause
+next_of DerivedId = Lists
+next_of GoneId = End
+next_of FreshVar = End
+next_of Clause = Clause
+next_of Lists = Lists
+next_of Ids = Ids
+next_of End = End
+
+-- with the digits so far in front, the bytes are a number, a space and such a rest
+pub record Numbered (limit : ℕ) (Rest : List ℕ → Type 0) (number : ℕ) (bytes : List ℕ) : Type 0 where
+  pub value : ℕ
+  pub rest : List ℕ
+  pub within : IsNumber limit value
+  pub whole : digits_so_far number ++ bytes ≡ decimal value ++ (32 ∷ rest)
+  pub behind : Rest rest
+
+-- the bytes are this part of a line
+abbrev pub IsPart : Part → List ℕ → Type 0
+IsPart InputId bytes = Numbered (2 ^ 64 - 1) (λ rest. (ls : List ℕ) × IsOne rest ls) 0 bytes
+IsPart DerivedId bytes = Numbered (2 ^ 64 - 1) (λ rest. (ls : List ℕ) × (ids : List ℕ) × IsBoth rest ls ids) 0 bytes
+IsPart GoneId bytes = Numbered (2 ^ 64 - 1) (λ rest. rest ≡ codes "0\n") 0 bytes
+IsPart FreshVar bytes = Numbered largest (λ rest. rest ≡ codes "0\n") 0 bytes
+IsPart Clause bytes = (ls : List ℕ) × IsOne bytes ls
+IsPart Lists bytes = (ls : List ℕ) × (ids : List ℕ) × IsBoth bytes ls ids
+IsPart Ids bytes = (ids : List ℕ) × AreIds ids × (bytes ≡ id_words ids ++ codes "0\n")
+IsPart End bytes = bytes ≡ codes "0\n"
+
+-- the bytes are what comes of a line from this place on
+abbrev pub IsLeft : Place → List ℕ → Type 0
+IsLeft Letter bytes = (line : Line) × Spells bytes line
+IsLeft (Space part) bytes = (rest : List ℕ) × (bytes ≡ 32 ∷ rest) × IsPart part rest
+IsLeft (Item part) bytes = IsPart part bytes
+IsLeft (Digits part number) bytes = Numbered (limit_of part) (IsPart (next_of part)) number bytes
+IsLeft Over bytes = bytes ≡ codes "\n"
+
+abbrev pub IsLeftIf : Option Place → List ℕ → Type 0
+IsLeftIf None bytes = ⊥
+IsLeftIf (Some place) bytes = IsLeft place bytes
+
+-- the place behind a line's letter
+abbrev pub letter_place : ℕ → Option Place
+letter_place b =
+    if b == 100 then Some (Space DerivedId) else if b == 120 then Some (Space GoneId) else if b == 105 then Some (Space InputId) else if b == 102 then Some (Space Lists) else if b == 101 then Some (Space FreshVar) else None
+
+-- behind a `0` with which a part begins
+abbrev pub zero_place : Part → Option Place
+zero_place InputId = None
+zero_place DerivedId = None
+zero_place GoneId = None
+zero_place FreshVar = None
+zero_place Clause = Some Over
+zero_place Lists = Some (Space Ids)
+zero_place Ids = Some Over
+zero_place End = Some Over
+
+-- and behind a `-`
+abbrev pub sign_place : Part → Option Place
+sign_place InputId = None
+sign_place DerivedId = None
+sign_place GoneId = None
+sign_place FreshVar = None
+sign_place Clause = Some (Digits Clause 0)
+sign_place Lists = Some (Digits Lists 0)
+sign_place Ids = None
+sign_place End = None
+
+-- bytes lead from one place to another; to none where no line goes on with them
+abbrev pub Leads : Place → List ℕ → Option Place → Type 0
+Leads from bytes to = (more : List ℕ) → IsLeft from (bytes ++ more) → IsLeftIf to more

@@ -1,0 +1,165 @@
+//! Whether bytes can begin a line, byte by byte.
+ghost use Rattle.std.specs.Prelude.{◌≡◌, ◌≤◌, ◌∷◌, []};
+ghost use Rattle.sat_hints.specs.Lines.{HasNoEnd};
+ghost use Rattle.sat_hints.specs.inner.Fronts.{letter_place, limit_of, next_of, sign_place, zero_place, Leads};
+ghost use Rattle.sat_hints.specs.declared.fronts.Place.TheVariants.{Digits, Item};
+
+use crate::numbers::with_digit;
+use sat_base::Var;
+
+/// What is still to come of a line.
+#[derive(Clone, Copy)]
+pub(crate) enum Part {
+    /// `ID LITS 0`
+    InputId,
+    /// `ID LITS 0 IDS 0`
+    DerivedId,
+    /// `ID 0`
+    GoneId,
+    /// `VAR 0`
+    FreshVar,
+    /// `LITS 0`
+    Clause,
+    /// `LITS 0 IDS 0`
+    Lists,
+    /// `IDS 0`
+    Ids,
+    /// `0`
+    End,
+}
+
+/// A place in a line.
+#[derive(Clone, Copy)]
+pub(crate) enum Place {
+    /// The line begins.
+    Letter,
+    /// A space comes, and then this part.
+    Space(Part),
+    /// This part comes.
+    Item(Part),
+    /// The number with which this part begins has these digits so far, or none where that is 0.
+    Digits(Part, u64),
+    /// The LF comes.
+    Over,
+}
+
+/// Up to where the numbers go with which a part may begin.
+fn limit(part: Part) -> u64
+    ensures is { result ≡ limit_of part }
+    ensures least { 9 ≤ result }
+{
+    match part {
+        Part::FreshVar | Part::Clause | Part::Lists => Var::max_count() as u64,
+        Part::InputId | Part::DerivedId | Part::GoneId | Part::Ids | Part::End => u64::MAX,
+    }
+}
+
+/// What comes behind a number with which a part begins.
+fn next(part: Part) -> Part
+    ensures { result ≡ next_of part }
+{
+    match part {
+        Part::InputId | Part::Clause => Part::Clause,
+        Part::DerivedId | Part::Lists => Part::Lists,
+        Part::Ids => Part::Ids,
+        Part::GoneId | Part::FreshVar | Part::End => Part::End,
+    }
+}
+
+/// The place behind a line's letter.
+fn behind_letter(byte: u8) -> Option<Place>
+    ensures { result ≡ letter_place byte }
+{
+    if byte == b'd' {
+        return Some(Place::Space(Part::DerivedId));
+    }
+    if byte == b'x' {
+        return Some(Place::Space(Part::GoneId));
+    }
+    if byte == b'i' {
+        return Some(Place::Space(Part::InputId));
+    }
+    if byte == b'f' {
+        return Some(Place::Space(Part::Lists));
+    }
+    if byte == b'e' {
+        return Some(Place::Space(Part::FreshVar));
+    }
+    None
+}
+
+/// The place behind a `0` with which a part begins.
+fn behind_zero(part: Part) -> Option<Place>
+    ensures { result ≡ zero_place part }
+{
+    match part {
+        Part::Clause | Part::Ids | Part::End => Some(Place::Over),
+        Part::Lists => Some(Place::Space(Part::Ids)),
+        Part::InputId | Part::DerivedId | Part::GoneId | Part::FreshVar => None,
+    }
+}
+
+/// The place behind a `-` with which a part begins.
+fn behind_sign(part: Part) -> Option<Place>
+    ensures { result ≡ sign_place part }
+{
+    match part {
+        Part::Clause | Part::Lists => Some(Place::Digits(part, 0)),
+        _ => None,
+    }
+}
+
+/// The place behind one more byte of a number.
+fn in_number(part: Part, number: u64, byte: u8) -> Option<Place>
+    ensures { Leads (Digits part number) (byte ∷ []) result }
+{
+    if byte == b' ' && number > 0 {
+        return Some(Place::Item(next(part)));
+    }
+    let more = with_digit(number, byte, limit(part))?;
+    Some(Place::Digits(part, more))
+}
+
+fn at_item(part: Part, byte: u8) -> Option<Place>
+    ensures { Leads (Item part) (byte ∷ []) result }
+{
+    if byte == b'0' {
+        return behind_zero(part);
+    }
+    if byte == b'-' {
+        return behind_sign(part);
+    }
+    match part {
+        Part::End => None,
+        _ => in_number(part, 0, byte),
+    }
+}
+
+fn behind_byte(place: Place, byte: u8) -> Option<Place>
+    ensures { (byte ≡ 10 → ⊥) → Leads place (byte ∷ []) result }
+{
+    match place {
+        Place::Letter => behind_letter(byte),
+        Place::Space(part) => {
+            if byte == b' ' {
+                return Some(Place::Item(part));
+            }
+            None
+        }
+        Place::Item(part) => at_item(part, byte),
+        Place::Digits(part, number) => in_number(part, number, byte),
+        Place::Over => None,
+    }
+}
+
+/// The place behind more bytes of a line. `None` where no line goes on with them.
+pub(crate) fn behind(place: Place, bytes: &[u8]) -> Option<Place>
+    requires { HasNoEnd bytes.now }
+    ensures { Leads place bytes.now result }
+{
+    let mut here = place;
+    for i in 0..bytes.len() {
+        here = behind_byte(here, bytes[i])?;
+    }
+    Some(here)
+}
