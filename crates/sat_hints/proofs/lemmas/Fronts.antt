@@ -1,15 +1,15 @@
 -- Which bytes may come at each place of a line.
-use Rattle.std.proofs.Common.{ℕ, zero, suc, ◌+◌, ◌-◌, ◌/◌, ◌^◌, ◌<◌, ◌≤◌, ◌≡◌, Bool, true, false, cond, Option, None, Some, List, [], ◌∷◌, ◌++◌, decimal, refl, sym, ◌∙◌, ap, subst, arith, append_assoc}
+use Rattle.std.proofs.Common.{ℕ, zero, suc, ◌+◌, ◌/◌, ◌^◌, ◌<◌, ◌≤◌, ◌≡◌, Bool, true, false, cond, Option, None, Some, List, [], ◌∷◌, ◌++◌, decimal, refl, sym, ◌∙◌, ap, subst, arith, append_assoc}
 use Rattle.std.proofs.lemmas.Fmt.{decimal_nonempty, first_decimal}
 use Rattle.sat_base.specs.values.Literals.{largest, is_positive}
 use Rattle.sat_base.specs.dimacs.DimacsText.{number_text}
-use Rattle.sat_hints.specs.Lines.{Line, Input, Derived, Gone, Core, Fresh, Spells, HasNoEnd, id_text, id_words, literal_words}
+use Rattle.sat_hints.specs.Lines.{HasNoEnd, id_text, id_words, literal_words}
 use Rattle.sat_hints.specs.inner.LineReading.{IsNumber, IsLiteral, NoDigit, digits_so_far}
-use Rattle.sat_hints.specs.inner.Fronts.{limit_of, next_of, letter_place, zero_place, sign_place, Numbered, IsPart, IsLeft, IsLeftIf, Leads}
+use Rattle.sat_hints.specs.inner.Fronts.{limit_of, next_of, zero_place, sign_place, Numbered, IsPart, IsLeft, IsLeftIf, Leads}
 use Rattle.sat_hints.specs.declared.fronts.Part.{Part}
 use Rattle.sat_hints.specs.declared.fronts.Part.TheVariants.{InputId, DerivedId, GoneId, FreshVar, Clause, Lists, Ids, End}
 use Rattle.sat_hints.specs.declared.fronts.Place.{Place}
-use Rattle.sat_hints.specs.declared.fronts.Place.TheVariants.{Letter, Space, Item, Digits, Over}
+use Rattle.sat_hints.specs.declared.fronts.Place.TheVariants.{Item, Digits}
 use Rattle.sat_hints.proofs.lemmas.Digits.{number_goes_on, plain_number, plain_so_far}
 use Rattle.sat_hints.proofs.lemmas.Words.{at_space, id_first, no_sign}
 
@@ -100,10 +100,6 @@ leads_digit part b to no_zero no_minus leads more h = go (turn part (b ∷ more)
     go (negative rest e w) = absurd (no_minus (let r : b ≡ 45 = cc in r))
     go (last rest e w) = absurd (no_zero (let r : b ≡ 48 = cc in r))
 
--- there is none where only `0` can come
-pub leads_end : (b : ℕ) → (b ≡ 48 → ⊥) → Leads (Item End) (b ∷ []) None
-leads_end b no_zero more h = no_zero (let r : b ≡ 48 = cc in r)
-
 -- a space ends a number
 pub number_ends : (part : Part) (number : ℕ) → number < 2 ^ 64 → 0 < number → Leads (Digits part number) (32 ∷ []) (Some (Item (next_of part)))
 number_ends part number small more_than more w =
@@ -131,50 +127,7 @@ number_stops part number b small space none more w =
     let r = number_goes_on (limit_of part) (limit_fits part) number b more w.value w.rest small space w.within w.whole in
     none w.value r.0 w.within r.1
 
--- a line's letter
-one_id : (id : ℕ) (rest : List ℕ) → id_words (id ∷ []) ++ rest ≡ id_text id ++ (32 ∷ rest)
-one_id id rest = append_assoc (id_text id) (32 ∷ []) rest
-
-behind_letter : (b c : ℕ) (part : Part) (more rest : List ℕ) → letter_place c ≡ Some (Space part) → b ∷ more ≡ c ∷ 32 ∷ rest → IsPart part rest → IsLeftIf (letter_place b) more
-behind_letter b c part more rest at e p =
-    let r : b ≡ c = cc in
-    let t : more ≡ 32 ∷ rest = cc in
-    subst (λ to. IsLeftIf to more) (sym (ap letter_place r ∙ at)) (rest, t, p)
-
-pub leads_letter : (b : ℕ) → Leads Letter (b ∷ []) (letter_place b)
-leads_letter b more (Input id ls, s) = behind_letter b 105 InputId more (id_words (id ∷ []) ++ (literal_words ls ++ end)) refl s.1 (record { value = id + 1; rest = literal_words ls ++ end; within = (omega arith, let k = s.0.0.0 in omega arith); whole = one_id id (literal_words ls ++ end); behind = (ls, (s.0.1, refl)) })
-leads_letter b more (Derived id ls ids, s) =
-    let tail : List ℕ = literal_words ls ++ (48 ∷ 32 ∷ (id_words ids ++ end)) in
-    behind_letter b 100 DerivedId more (id_words (id ∷ []) ++ tail) refl s.1 (record { value = id + 1; rest = tail; within = (omega arith, let k = s.0.0.0 in omega arith); whole = one_id id tail; behind = (ls, ids, (s.0.1, s.0.2, refl)) })
-leads_letter b more (Gone id, s) = behind_letter b 120 GoneId more (id_words (id ∷ []) ++ end) refl s.1 (record { value = id + 1; rest = end; within = (omega arith, let k = s.0.0 in omega arith); whole = one_id id end; behind = refl })
-leads_letter b more (Core ls ids, s) = behind_letter b 102 Lists more (literal_words ls ++ (48 ∷ 32 ∷ (id_words ids ++ end))) refl s.1 (ls, ids, (s.0.0, s.0.1, refl))
-leads_letter b more (Fresh v, s) = behind_letter b 101 FreshVar more (id_words (v ∷ []) ++ end) refl s.1 (record { value = v + 1; rest = end; within = (omega arith, let k = s.0.0 in omega arith); whole = one_id v end; behind = refl })
-
--- a space
-pub leads_space : (part : Part) → Leads (Space part) (32 ∷ []) (Some (Item part))
-leads_space part more h = let r : h.0 ≡ more = (let e = h.1 in cc) in subst (IsPart part) r h.2
-
-pub leads_no_space : (part : Part) (b : ℕ) → (b ≡ 32 → ⊥) → Leads (Space part) (b ∷ []) None
-leads_no_space part b other more h = other (let e = h.1 in let r : b ≡ 32 = cc in r)
-
--- the LF
-pub leads_over : (b : ℕ) → (b ≡ 10 → ⊥) → Leads Over (b ∷ []) None
-leads_over b other more e = other (let r : b ≡ 10 = cc in r)
-
 -- so far bytes lead from one place to another
 pub record LeadsSoFar (from : Place) (bytes : List ℕ) (here : Place) (rest : List ℕ) : Type 0 where
   pub inside : HasNoEnd rest
   pub leads : (more : List ℕ) → IsLeft from (bytes ++ more) → IsLeft here (rest ++ more)
-
-module _ (from : Place) (bytes : List ℕ) (here : Place) where
-  pub leads_none : (b : ℕ) (rest left : List ℕ) → left ≡ b ∷ rest → LeadsSoFar from bytes here left → ((b ≡ 10 → ⊥) → Leads here (b ∷ []) None) → Leads from bytes None
-  leads_none b rest left e so leads more h = let k : HasNoEnd (b ∷ rest) = subst HasNoEnd e so.inside in leads k.0 (rest ++ more) (subst (λ x. IsLeft here (x ++ more)) e (so.leads more h))
-
-  pub leads_more : (b : ℕ) (rest left : List ℕ) (to : Place) → left ≡ b ∷ rest → LeadsSoFar from bytes here left → ((b ≡ 10 → ⊥) → Leads here (b ∷ []) (Some to)) → LeadsSoFar from bytes to rest
-  leads_more b rest left to e so leads = let k : HasNoEnd (b ∷ rest) = subst HasNoEnd e so.inside in record {
-    inside = k.1;
-    leads = λ more h. leads k.0 (rest ++ more) (subst (λ x. IsLeft here (x ++ more)) e (so.leads more h));
-  }
-
-  pub leads_all : (left : List ℕ) → left ≡ [] → LeadsSoFar from bytes here left → Leads from bytes (Some here)
-  leads_all left e so more h = subst (λ x. IsLeft here (x ++ more)) e (so.leads more h)

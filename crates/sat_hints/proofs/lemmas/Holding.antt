@@ -127,8 +127,8 @@ held_faulty old bytes h leads text r = record {
   count = length r.lines;
   number = r.taken.counts_lines;
   bad = λ rest. subst (λ x. IsBadAt x (held (length r.lines + 1)) Syntax)
-    (sym (ap (λ x. (x ++ bytes) ++ rest) r.whole ∙ ap (λ x. x ++ rest) (append_assoc (text_of r.lines) old.held.items bytes) ∙ append_assoc (text_of r.lines) (old.held.items ++ bytes) rest))
-    (front_faulty (old.held.items ++ bytes) (no_end_both old.held.items bytes r.inside h) (leads_on old.held.items bytes old.place None r.fits leads) r.lines rest r.are r.derivation);
+      (sym (ap (λ x. (x ++ bytes) ++ rest) r.whole ∙ ap (λ x. x ++ rest) (append_assoc (text_of r.lines) old.held.items bytes) ∙ append_assoc (text_of r.lines) (old.held.items ++ bytes) rest))
+      (front_faulty (old.held.items ++ bytes) (no_end_both old.held.items bytes r.inside h) (leads_on old.held.items bytes old.place None r.fits leads) r.lines rest r.are r.derivation);
 }
 
 -- bytes, and then more

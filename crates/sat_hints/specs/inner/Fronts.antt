@@ -1,5 +1,5 @@
 -- What may still come of a line whose front was read.
-use Rattle.std.specs.Prelude.{ℕ, ◌-◌, ◌^◌, ◌==◌, ◌≡◌, Option, None, Some, List, [], ◌∷◌, ◌++◌, decimal, codes, if◌then◌else◌}
+use Rattle.std.specs.Prelude.{ℕ, ◌-◌, ◌^◌, ◌==◌, ◌≡◌, Option, None, Some, List, ◌∷◌, ◌++◌, decimal, codes, if◌then◌else◌}
 use Rattle.sat_base.specs.values.Literals.{largest}
 use Rattle.sat_hints.specs.Lines.{Line, AreIds, id_words, Spells}
 use Rattle.sat_hints.specs.inner.LineReading.{IsNumber, IsOne, IsBoth, digits_so_far}

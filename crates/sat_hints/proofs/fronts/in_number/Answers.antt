@@ -1,4 +1,4 @@
-use Rattle.std.proofs.Common.{◌≡◌, ◌≢◌, ◌<◌, ◌≤◌, ◌⊎◌, ℕ, inl, inr, [], ◌∷◌, None, Some, subst, sym, arith}
+use Rattle.std.proofs.Common.{◌≡◌, ◌≢◌, ◌≤◌, ◌⊎◌, ℕ, inl, inr, [], ◌∷◌, Some, subst, sym, arith}
 use Rattle.sat_hints.specs.inner.Fronts.{limit_of, Leads}
 use Rattle.sat_hints.specs.inner.LineReading.{NoDigit}
 use Rattle.sat_hints.specs.declared.fronts.Place.TheVariants.{Digits, Item}

@@ -1,4 +1,4 @@
-use Rattle.std.proofs.Common.{rules, ◌≡◌, ◌++◌, [], None, Option, Some, Result, Ok, Err, IfOk, refl, sym, subst}
+use Rattle.std.proofs.Common.{◌++◌, [], None, Option, Some, Result, Ok, Err, IfOk, refl, sym, subst}
 use Rattle.sat_hints.specs.declared.answer.HintWhy.{HintWhy}
 use Rattle.sat_hints.specs.inner.Holding.{IsWholeLine, Reads}
 use Rattle.sat_hints.proofs.lemmas.Holding.{reads_none, reads_more, reads_behind, split_off}
