@@ -1,9 +1,9 @@
 //! Rows of hint texts, whole and in pieces of one byte.
 
-use crate::devices::by_one;
+use crate::devices::{by_one, repeating};
 use sat_base::Counted;
 use sat_hints::{HintFault, HintVerdict, HintWhy, check};
-use std::alloc::Global;
+use std::alloc::{AllocError, Global};
 use std::test::*;
 
 pub(crate) const fn proved(empty: bool, cores: u64, lines: u64) -> HintVerdict {
@@ -237,4 +237,87 @@ fn reads_fail(rt: HostRuntime) {
     }
     let verdict = in_bytes(rt.alloc(), text, 16);
     assert!(rt; verdict == Ok(proved(false, 0, 2)));
+}
+
+/// Texts that are refused at their last byte, which is the first that no line has there.
+const FRONTS: [&[u8]; 24] = [
+    b"q",
+    b" ",
+    b"0",
+    b"i0",
+    b"i  ",
+    b"i 0",
+    b"i -",
+    b"i 18446744073709551616",
+    b"i 1 01",
+    b"i 1 1  ",
+    b"i 1 +",
+    b"i 1 -0",
+    b"i 1 - ",
+    b"i 1 --",
+    b"i 1 268435457",
+    b"i 1 1 0 ",
+    b"i 1 1 0\r",
+    b"d 1 1 0 -",
+    b"d 1 1 0 1 0 ",
+    b"x 1 1",
+    b"f 0 00",
+    b"e -",
+    b"e 268435457",
+    b"e 7 0\ni 1 q",
+];
+
+/// Whether a text is refused when it has been read, and how many reads of one byte there were.
+fn refused_in_bytes(alloc: Global, text: &[u8]) -> (bool, u64) {
+    let mut reader = by_one(text, 0);
+    let refused = match check(alloc, &mut reader) {
+        Ok(HintVerdict::Bad { why, .. }) => why == HintWhy::Syntax,
+        _ => false,
+    };
+    (refused, reader.into_inner().calls)
+}
+
+#[test]
+fn lines_are_refused_at_the_first_wrong_byte(rt: HostRuntime) {
+    for text in &FRONTS {
+        assert!(rt; refused_in_bytes(rt.alloc(), text) == (true, text.len() as u64));
+    }
+}
+
+/// The verdict on a text behind which one byte comes for ever, and how many reads there were.
+fn without_end(alloc: Global, text: &[u8], byte: u8) -> (Result<HintVerdict, HintFault>, u64) {
+    let mut reader = repeating(text, byte);
+    let verdict = check(alloc, &mut reader);
+    (verdict, reader.into_inner().calls)
+}
+
+/// `i 1`, the literal 1 so many times, and a space.
+fn long_line(alloc: Global, count: u64) -> Result<Vec<u8>, AllocError> {
+    let mut text = Vec::new(alloc);
+    text.extend_from_slice(b"i 1 ")?;
+    for _ in 0..count {
+        text.extend_from_slice(b"1 ")?;
+    }
+    Ok(text)
+}
+
+fn long_without_end(
+    alloc: Global,
+    count: u64,
+    byte: u8,
+) -> Option<(Result<HintVerdict, HintFault>, u64)> {
+    match long_line(alloc, count) {
+        Ok(text) => Some(without_end(alloc, &text, byte)),
+        Err(_) => None,
+    }
+}
+
+#[test]
+fn endless_texts_are_refused(rt: HostRuntime) {
+    let refused = Ok(bad(1, HintWhy::Syntax));
+    assert!(rt; without_end(rt.alloc(), b"", 0) == (refused, 1));
+    assert!(rt; without_end(rt.alloc(), b"", b'0') == (refused, 1));
+    assert!(rt; without_end(rt.alloc(), b"i ", b'9') == (refused, 1));
+    assert!(rt; without_end(rt.alloc(), b"e 7 0\n", b'i') == (Ok(bad(2, HintWhy::Syntax)), 1));
+    assert!(rt; long_without_end(rt.alloc(), 10000, b'q') == Some((refused, 5)));
 }

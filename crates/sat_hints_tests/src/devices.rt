@@ -9,7 +9,7 @@ use std::io::{ErrorKind, Read, Write};
 #[derive(Drop)]
 pub(crate) struct ByOne<'a> {
     text: &'a [u8],
-    calls: u64,
+    pub(crate) calls: u64,
     failing: u64,
 }
 
@@ -30,6 +30,28 @@ impl Read for ByOne<'_> {
             }
             None => Ok(0),
         }
+    }
+}
+
+/// A text, and behind it one byte for ever. Reads are counted.
+#[derive(Drop)]
+pub(crate) struct Endless<'a> {
+    text: &'a [u8],
+    byte: u8,
+    pub(crate) calls: u64,
+}
+
+impl Read for Endless<'_> {
+    fn read(&mut self, buf: &mut [u8]) -> io::Result<usize> {
+        self.calls = self.calls.saturating_add(1);
+        for i in 0..buf.len() {
+            buf[i] = self.byte;
+        }
+        let front = self.text.len().min(buf.len());
+        let (now, rest) = self.text.split_at(front);
+        buf[..front].copy_from_slice(now);
+        self.text = rest;
+        Ok(buf.len())
     }
 }
 
@@ -61,6 +83,14 @@ pub(crate) fn by_one(text: &[u8], failing: u64) -> Counted<ByOne<'_>> {
         text,
         calls: 0,
         failing,
+    })
+}
+
+pub(crate) fn repeating(text: &[u8], byte: u8) -> Counted<Endless<'_>> {
+    Counted::new(Endless {
+        text,
+        byte,
+        calls: 0,
     })
 }
 
