@@ -61,6 +61,13 @@ NoName bytes = (n : ℕ) (tail : List ℕ) → IsName n → bytes ≡ decimal n 
 abbrev pub NoLiteral : List ℕ → Type 0
 NoLiteral bytes = (l : Literal) (tail : List ℕ) → IsName l.name → bytes ≡ word_of l ++ (32 ∷ tail) → ⊥
 
+-- nor does a name and a space, or a literal and a space, begin with the bytes
+abbrev pub StartsNoName : List ℕ → Type 0
+StartsNoName bytes = (more : List ℕ) → NoName (bytes ++ more)
+
+abbrev pub StartsNoLiteral : List ℕ → Type 0
+StartsNoLiteral bytes = (more : List ℕ) → NoLiteral (bytes ++ more)
+
 -- the bytes begin with this text, but for the `0` and LF at its end
 abbrev pub BeginWithWordsOf : List ℕ → List ℕ → Type 0
 BeginWithWordsOf text bytes = (front : List ℕ) × (tail : List ℕ) × ((text ≡ front ++ (48 ∷ 10 ∷ [])) × (bytes ≡ front ++ tail))
@@ -88,6 +95,17 @@ NoLine k bytes Missing = HasLine k × (bytes ≡ [])
 NoLine k bytes Text = (bytes ≢ [])
     × ((ls : List Literal) (tail : List ℕ) → IsInForm (outcome_of k ls) → bytes ≡ second_line (outcome_of k ls) ++ tail → ⊥)
 NoLine k bytes OutOfMemory = WantsRoom k (λ ls. second_line (outcome_of k ls)) bytes
+
+-- no literals in form begin with the bytes, up to `0` and LF
+abbrev pub StartsNoLiterals : AnswerKind → List ℕ → Type 0
+StartsNoLiterals k bytes = (ls : List Literal) (more : List ℕ) → IsInForm (outcome_of k ls) → literals_text ls ≡ bytes ++ more → ⊥
+
+-- no first line begins with the bytes, and no second line in form
+abbrev pub StartsNoKind : List ℕ → Type 0
+StartsNoKind bytes = (k : AnswerKind) (more : List ℕ) → first_line k ≡ bytes ++ more → ⊥
+
+abbrev pub StartsNoLine : AnswerKind → List ℕ → Type 0
+StartsNoLine k bytes = (ls : List Literal) (more : List ℕ) → IsInForm (outcome_of k ls) → second_line (outcome_of k ls) ≡ bytes ++ more → ⊥
 
 -- the bytes are over where a line of an answer is due
 abbrev pub IsCutShort : List ℕ → Type 0

@@ -19,6 +19,8 @@ use Rattle.certify.specs.declared.confirm.stop.Stop.{Stop}
 use Rattle.certify.specs.declared.confirm.stop.Stop.TheVariants as stop
 use Rattle.certify.specs.declared.matching.answers.Answers.{Answers}
 use Rattle.certify.specs.declared.matching.answers.Reply.{Reply}
+use Rattle.certify.specs.declared.matching.lines.Wanted.{Wanted}
+use Rattle.certify.specs.declared.matching.lines.Wanted.TheVariants as wanted
 use Rattle.certify.specs.declared.matching.halt.Halt.{Halt}
 use Rattle.certify.specs.declared.matching.halt.Halt.TheVariants as halt
 use Rattle.certify.specs.declared.verdict.Why.{Why}
@@ -50,25 +52,40 @@ MovesFront (Ok whole) old new before after = (text : List ℕ) × (waiting old �
     × (after ≡ before ++ text) × EndsPart whole text (waiting new)
 MovesFront (Err e) old new before after = new ≡ old
 
--- a line was read, or what is left without one
-abbrev pub IsNextLine : Source → Source → List ℕ → Type 0
-IsNextLine a b line = (Passes a b line × IsLine line) ⊎ (PassesToEnd a b line × HasNoLf line)
+-- the lines that may stand where one is read
+abbrev pub IsRight : Wanted → List ℕ → List ℕ → Type 0
+IsRight wanted.Due due line = line ≡ due
+IsRight wanted.First due line = (k : AnswerKind) × (line ≡ first_line k)
+IsRight (wanted.Second k) due line = (ls : List Literal) × (IsInForm (outcome_of k ls) × (line ≡ second_line (outcome_of k ls)))
+IsRight wanted.Nothing due line = ⊥
 
-abbrev pub ReadsLine : Result (Unit {0}) ReadError → Source → Source → List ℕ → Type 0
-ReadsLine (Ok x) a b line = IsNextLine a b line
-ReadsLine (Err errors.Failed) a b line = Failed a b
-ReadsLine (Err errors.OutOfMemory) a b line = Kept a b
+-- none of these lines begins with the bytes, whatever would follow
+abbrev pub StartsNone : (List ℕ → Type 0) → List ℕ → Type 0
+StartsNone P bytes = (more : List ℕ) → P (bytes ++ more) → ⊥
+
+-- and there are some bytes
+abbrev pub IsWrong : (List ℕ → Type 0) → List ℕ → Type 0
+IsWrong P bytes = StartsNone P bytes × (bytes ≡ [] → ⊥)
+
+-- a line was read, or what is left without one, or bytes without LF with which none of these lines begins
+abbrev pub IsNextLine : (List ℕ → Type 0) → Source → Source → List ℕ → Type 0
+IsNextLine P a b line = (Passes a b line × IsLine line) ⊎ ((PassesToEnd a b line × HasNoLf line) ⊎ ((Passes a b line × HasNoLf line) × IsWrong P line))
+
+abbrev pub ReadsLine : (List ℕ → Type 0) → Result (Unit {0}) ReadError → Source → Source → List ℕ → Type 0
+ReadsLine P (Ok x) a b line = IsNextLine P a b line
+ReadsLine P (Err errors.Failed) a b line = Failed a b
+ReadsLine P (Err errors.OutOfMemory) a b line = Kept a b
 
 -- the same of answers
-abbrev pub NextLine : Result (Unit {0}) Halt → Source → Source → List ℕ → Type 0
-NextLine (Ok x) a b line = IsNextLine a b line
-NextLine (Err halt.AnswersRead) a b line = Failed a b
-NextLine (Err (halt.Stop stop.OutOfMemory)) a b line = Kept a b
-NextLine (Err (halt.Stop (stop.No why))) a b line = ⊥
-NextLine (Err (halt.Stop stop.Read)) a b line = ⊥
-NextLine (Err (halt.Stop stop.CounterEnd)) a b line = ⊥
-NextLine (Err halt.ScriptRead) a b line = ⊥
-NextLine (Err halt.TooMany) a b line = ⊥
+abbrev pub NextLine : (List ℕ → Type 0) → Result (Unit {0}) Halt → Source → Source → List ℕ → Type 0
+NextLine P (Ok x) a b line = IsNextLine P a b line
+NextLine P (Err halt.AnswersRead) a b line = Failed a b
+NextLine P (Err (halt.Stop stop.OutOfMemory)) a b line = Kept a b
+NextLine P (Err (halt.Stop (stop.No why))) a b line = ⊥
+NextLine P (Err (halt.Stop stop.Read)) a b line = ⊥
+NextLine P (Err (halt.Stop stop.CounterEnd)) a b line = ⊥
+NextLine P (Err halt.ScriptRead) a b line = ⊥
+NextLine P (Err halt.TooMany) a b line = ⊥
 
 -- the answers' reader, and what was read of it
 abbrev pub answers_source : {A : Type 0} → (A → Reader) → A → Answers → Source

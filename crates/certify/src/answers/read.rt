@@ -1,8 +1,8 @@
 //! Reads answers, line by line, from the front of their bytes. What isn't in form to the byte is refused:
 //! single spaces, no leading zeros, each line ended by LF, names from 1 to 2^28 in their order.
-ghost use Rattle.std.specs.Prelude.{◌≡◌, ◌++◌, ◌∷◌, [], ◌*◌, ◌<◌, ◌≤◌, decimal, MatchOption, MatchResult, List, ℕ};
+ghost use Rattle.std.specs.Prelude.{◌≡◌, ◌++◌, ◌∷◌, [], false, ◌*◌, ◌<◌, ◌≤◌, decimal, MatchOption, MatchResult, List, ℕ};
 ghost use Rattle.certify.specs.answers.AnswerForms.{IsName};
-ghost use Rattle.certify.specs.answers.AnswerReading.{NoDigit, NoName, NoLiteral, NoLiterals, NoKind, NoLine, NoOutcome, HasLine, IsHead, digits_so_far, first_line, place_in, BeginsWithLiteral, BeginsWithLiterals, BeginsWithLine, BeginsWithAnswer};
+ghost use Rattle.certify.specs.answers.AnswerReading.{NoDigit, NoName, NoLiteral, NoLiterals, NoKind, NoLine, NoOutcome, StartsNoName, StartsNoLiteral, StartsNoLiterals, StartsNoKind, StartsNoLine, HasLine, IsHead, digits_so_far, first_line, place_in, BeginsWithLiteral, BeginsWithLiterals, BeginsWithLine, BeginsWithAnswer};
 ghost use Rattle.sat_base.specs.values.Literals.{largest};
 
 use sat_base::{Lit, Var};
@@ -50,6 +50,16 @@ pub fn take_text<'a>(bytes: &'a [u8], text: &[u8]) -> Option<&'a [u8]>
     bytes.strip_prefix(text)
 }
 
+/// Whether the text begins with these bytes.
+pub fn is_front(bytes: &[u8], text: &[u8]) -> bool
+    ensures { result ≡ false → (tail : List ℕ) → text.now ≡ bytes.now ++ tail → ⊥ }
+{
+    match take_text(text, bytes) {
+        Some(_) => true,
+        None => false,
+    }
+}
+
 /// The name with one more digit, or the first digit where it is still 0.
 /// `None` for another byte, a leading zero, and a name past the limit.
 fn with_digit(name: usize, byte: u8) -> Option<usize>
@@ -81,6 +91,24 @@ fn read_name(bytes: &[u8]) -> Option<(usize, &[u8])>
     None
 }
 
+/// Whether a name in front of a space may begin with these bytes.
+fn begins_name(bytes: &[u8]) -> bool
+    ensures { result ≡ false → StartsNoName bytes.now }
+{
+    let mut name = 0;
+    for i in 0..bytes.len() {
+        let byte = bytes[i];
+        if byte == b' ' && name > 0 {
+            return true;
+        }
+        match with_digit(name, byte) {
+            Some(more) => name = more,
+            None => return false,
+        }
+    }
+    true
+}
+
 /// The literal in front of a space, and what is behind the space.
 fn read_literal(bytes: &[u8]) -> Option<(Lit, &[u8])>
     ensures { MatchOption result (NoLiteral bytes.now) (λ x. BeginsWithLiteral bytes.now x.0 x.1.now) }
@@ -94,6 +122,16 @@ fn read_literal(bytes: &[u8]) -> Option<(Lit, &[u8])>
             let (name, rest) = read_name(bytes)?;
             Some((Lit::from_index(name - 1, true), rest))
         }
+    }
+}
+
+/// Whether a literal in front of a space may begin with these bytes.
+fn begins_literal(bytes: &[u8]) -> bool
+    ensures { result ≡ false → StartsNoLiteral bytes.now }
+{
+    match take_text(bytes, b"-") {
+        Some(behind) => begins_name(behind),
+        None => begins_name(bytes),
     }
 }
 
@@ -134,6 +172,41 @@ fn read_literals<'a>(
     take_text(rest, b"0\n").ok_or(AnswerFault::Text)
 }
 
+/// Whether the literals of a line of this kind, up to `0` and LF, may begin with these bytes.
+fn begins_literals(kind: AnswerKind, bytes: &[u8]) -> bool
+    requires { HasLine kind }
+    ensures { result ≡ false → StartsNoLiterals kind bytes.now }
+{
+    let mut rest = bytes;
+    let mut lowest = 0;
+    while let Some(found) = read_literal(rest) {
+        let (lit, behind) = found;
+        let place = place_in(kind, lit);
+        if place < lowest {
+            return false;
+        }
+        lowest = place + 1;
+        rest = behind;
+    }
+    if is_front(rest, b"0\n") {
+        return true;
+    }
+    begins_literal(rest)
+}
+
+/// Whether the first line of an answer may begin with these bytes.
+pub fn begins_kind(bytes: &[u8]) -> bool
+    ensures { result ≡ false → StartsNoKind bytes.now }
+{
+    if is_front(bytes, b"s SATISFIABLE\n") {
+        return true;
+    }
+    if is_front(bytes, b"s UNSATISFIABLE\n") {
+        return true;
+    }
+    is_front(bytes, b"s UNKNOWN\n")
+}
+
 /// Reads the first line of an answer, and answers its kind and what is behind the line.
 pub fn read_kind(bytes: &[u8]) -> Result<(AnswerKind, &[u8]), AnswerFault>
     ensures { MatchResult result (λ x. bytes.now ≡ first_line x.0 ++ x.1.now) (NoKind bytes.now) }
@@ -168,6 +241,31 @@ fn read_list<'a>(
     }
     let behind = take_text(bytes, head).ok_or(AnswerFault::Text)?;
     read_literals(kind, behind, line)
+}
+
+/// Whether the line with this head, for an answer of this kind, may begin with these bytes.
+fn begins_list(kind: AnswerKind, head: &[u8], bytes: &[u8]) -> bool
+    requires { IsHead kind head.now }
+    ensures { result ≡ false → StartsNoLine kind bytes.now }
+{
+    if is_front(bytes, head) {
+        return true;
+    }
+    match take_text(bytes, head) {
+        Some(behind) => begins_literals(kind, behind),
+        None => false,
+    }
+}
+
+/// Whether the second line of an answer of this kind may begin with these bytes.
+pub fn begins_line(kind: AnswerKind, bytes: &[u8]) -> bool
+    ensures { result ≡ false → StartsNoLine kind bytes.now }
+{
+    match kind {
+        AnswerKind::Sat => begins_list(kind, b"v ", bytes),
+        AnswerKind::Unsat => begins_list(kind, b"f ", bytes),
+        AnswerKind::Unknown => is_front(bytes, b""),
+    }
 }
 
 /// Reads the second line of an answer of this kind, leaves its literals in `line`, and answers what is behind it.

@@ -6,7 +6,7 @@ ghost use Rattle.certify.specs.answers.AnswerForms.{named_literals};
 ghost use Rattle.certify.specs.answers.AnswerReading.{outcome_of};
 ghost use Rattle.certify.specs.matching.Lines.{TakesLine, stop_after};
 ghost use Rattle.certify.specs.matching.Halting.{Replies, SaysSo};
-ghost use Rattle.certify.specs.matching.Lines.{IsLine, IsReply, NextLine, ReadsFirst, ReadsSecond, answers_source};
+ghost use Rattle.certify.specs.matching.Lines.{IsLine, IsReply, IsRight, NextLine, ReadsFirst, ReadsSecond, answers_source};
 ghost use Rattle.certify.specs.judge.Names.{refusal_in};
 ghost use Rattle.certify.specs.reading.Ahead.{IsOpen, waiting};
 
@@ -16,7 +16,7 @@ use crate::answers::write::push_malformed;
 use crate::confirm::stop::Stop;
 use crate::judge::Refusal;
 use crate::matching::halt::{Halt, unread_answers};
-use crate::matching::lines::Lines;
+use crate::matching::lines::{Wanted, Lines};
 use crate::verdict::Why;
 use sat_base::{CountedRead, Lit};
 use std::alloc::Global;
@@ -100,13 +100,13 @@ impl Answers {
         }
     }
 
-    /// Reads the next line.
-    fn next_line<A: CountedRead>(&mut self, answers: &mut A) -> Result<(), Halt>
-        ensures line { NextLine result (answers_source A.seen answers.old self.old) (answers_source A.seen answers.new self.new)
+    /// Reads the next line, of those that are wanted.
+    fn next_line<A: CountedRead>(&mut self, answers: &mut A, wanted: Wanted) -> Result<(), Halt>
+        ensures line { NextLine (IsRight wanted self.old.due.items) result (answers_source A.seen answers.old self.old) (answers_source A.seen answers.new self.new)
             self.new.lines.line.items }
         ensures due { self.new.due.items ≡ self.old.due.items }
     {
-        match self.lines.next(answers) {
+        match self.lines.next(answers, wanted, &self.due) {
             Ok(()) => Ok(()),
             Err(error) => Err(unread_answers(error)),
         }
@@ -119,7 +119,7 @@ impl Answers {
         ensures { Replies true result (answers_source A.seen answers.old self.old) (answers_source A.seen answers.new self.new)
             (λ before behind. TakesLine before behind self.old.due.items) }
     {
-        self.next_line(answers)?;
+        self.next_line(answers, Wanted::Due)?;
         if is_same(&self.lines.line, &self.due) {
             return Ok(());
         }
@@ -162,7 +162,7 @@ impl Answers {
         ensures { Replies true result (answers_source A.seen answers.old self.old) (answers_source A.seen answers.new self.new)
             (ReadsFirst) }
     {
-        self.next_line(answers)?;
+        self.next_line(answers, Wanted::First)?;
         match read_kind(&self.lines.line) {
             Ok((kind, _)) => Ok(kind),
             Err(fault) => Err(Halt::Stop(unanswered(fault))),
@@ -179,7 +179,7 @@ impl Answers {
             self.reply.lits.clear();
             return Ok(());
         }
-        self.next_line(answers)?;
+        self.next_line(answers, Wanted::Second(kind))?;
         match read_line(kind, &self.lines.line, &mut self.reply.lits) {
             Ok(_) => Ok(()),
             Err(fault) => Err(Halt::Stop(unanswered(fault))),
@@ -210,7 +210,7 @@ impl Answers {
         ensures { Replies false result (answers_source A.seen answers.old self.old) (answers_source A.seen answers.new self.new)
             (λ before behind. SaysSo (before ≡ [])) }
     {
-        self.next_line(answers)?;
+        self.next_line(answers, Wanted::Nothing)?;
         if is_none(&self.lines.line) {
             return Ok(());
         }

@@ -1,11 +1,28 @@
 //! Answers that are read line by line.
-ghost use Rattle.std.specs.Prelude.{◌≡◌, []};
-ghost use Rattle.certify.specs.matching.Lines.{GoesUpToLine, MovesFront, ReadsLine};
+ghost use Rattle.std.specs.Prelude.{◌≡◌, ◌<◌, [], false, MatchOption};
+ghost use Rattle.certify.specs.matching.Lines.{GoesUpToLine, IsRight, IsWrong, MovesFront, ReadsLine, StartsNone};
 ghost use Rattle.certify.specs.reading.Ahead.{source_in, waiting};
 
 use crate::ahead::Ahead;
+use crate::answers::read::{AnswerKind, begins_kind, begins_line, is_front};
 use sat_base::{CountedRead, ReadError};
 use std::alloc::{AllocError, Global};
+
+/// How many bytes without LF are held before they are looked at.
+const HELD: usize = 4096;
+
+/// Which lines may stand where the next one is read.
+#[derive(Clone, Copy, Drop)]
+pub(crate) enum Wanted {
+    /// The line that is due.
+    Due,
+    /// The first line of an answer.
+    First,
+    /// The second line of an answer of this kind.
+    Second(AnswerKind),
+    /// None.
+    Nothing,
+}
 
 /// The line in hand of a text that is read in pieces of at most 4,096 bytes.
 #[derive(Drop)]
@@ -26,6 +43,32 @@ fn up_to_line(bytes: &[u8]) -> (usize, bool)
         }
     }
     (bytes.len(), false)
+}
+
+/// Whether a line that may stand there begins with these bytes.
+fn may_begin(wanted: Wanted, due: &[u8], bytes: &[u8]) -> bool
+    ensures { result ≡ false → StartsNone (IsRight wanted due.now) bytes.now }
+{
+    match wanted {
+        Wanted::Due => is_front(bytes, due),
+        Wanted::First => begins_kind(bytes),
+        Wanted::Second(kind) => begins_line(kind, bytes),
+        Wanted::Nothing => false,
+    }
+}
+
+/// How many bytes are held before they are looked at again. `None` where no line that may stand there begins with them.
+fn look(wanted: Wanted, due: &[u8], bytes: &[u8], limit: usize) -> Option<usize>
+    requires { 0 < limit }
+    ensures { MatchOption result (IsWrong (IsRight wanted due.now) bytes.now) (λ next. 0 < next) }
+{
+    if bytes.len() < limit {
+        return Some(limit);
+    }
+    if may_begin(wanted, due, bytes) {
+        return Some(bytes.len().saturating_mul(2));
+    }
+    None
 }
 
 impl Lines {
@@ -51,14 +94,25 @@ impl Lines {
         Ok(whole)
     }
 
-    /// Reads the next line, or what is left of the text where no LF comes.
-    pub fn next<A: CountedRead>(&mut self, answers: &mut A) -> Result<(), ReadError>
-        ensures { ReadsLine result (source_in A.seen answers.old self.old.ahead) (source_in A.seen answers.new self.new.ahead) self.new.line.items }
+    /// Reads the next line, or what is left of the text where no LF comes. Bytes without LF that begin no line which may
+    /// stand there are as good as a line: a line that is due, or in form, is held, and at most as much again.
+    pub fn next<A: CountedRead>(
+        &mut self,
+        answers: &mut A,
+        wanted: Wanted,
+        due: &[u8],
+    ) -> Result<(), ReadError>
+        ensures { ReadsLine (IsRight wanted due.now) result (source_in A.seen answers.old self.old.ahead) (source_in A.seen answers.new self.new.ahead) self.new.line.items }
     {
         self.line.clear();
+        let mut limit = HELD;
         loop {
             if self.take()? {
                 return Ok(());
+            }
+            match look(wanted, due, &self.line, limit) {
+                Some(next) => limit = next,
+                None => return Ok(()),
             }
             if self.ahead.refill(answers)? == 0 {
                 return Ok(());

@@ -5,7 +5,7 @@ use Rattle.sat_base.specs.script.Script.{Literal}
 use Rattle.certify.specs.answers.Answers.{s_satisfiable, s_unsatisfiable, s_unknown, literals_text, outcome_text}
 use Rattle.sat_checker.specs.matching.Expected.{Outcome, Sat, Unsat, Unknown}
 use Rattle.certify.specs.answers.AnswerForms.{IsInForm, literals_of}
-use Rattle.certify.specs.answers.AnswerReading.{NoKind, NoLiterals, NoLine, NoOutcome, HasLine, IsHead, IsCutShort, BeginsNoOutcome, first_line, outcome_of, second_line}
+use Rattle.certify.specs.answers.AnswerReading.{NoKind, NoLiterals, NoLine, NoOutcome, StartsNoLine, StartsNoLiterals, HasLine, IsHead, IsCutShort, BeginsNoOutcome, first_line, outcome_of, second_line}
 use Rattle.certify.specs.declared.answers.read.AnswerKind.{AnswerKind}
 use Rattle.certify.specs.declared.answers.read.AnswerKind.TheVariants as kind
 use Rattle.certify.specs.declared.answers.read.AnswerFault.{AnswerFault}
@@ -119,3 +119,20 @@ no_line k bytes behind Text e none = (
     cut kind.Unknown some e (inr (inl f)) = let g : s_unknown ++ behind ≡ s_satisfiable = sym e ∙ f in let r : ◌≡◌ {A = ℕ} 85 83 = cc in omega arith
     cut kind.Unknown some e (inr (inr f)) = let g : s_unknown ++ behind ≡ s_unsatisfiable = sym e ∙ f in let r : ◌≡◌ {A = ℕ} 75 83 = cc in omega arith
 no_line k bytes behind OutOfMemory e none = (k, behind, (e, none))
+
+-- no line begins with bytes that go past its head, if no literals begin with what is behind it
+pub starts_no_list : (k : AnswerKind) (head bytes behind : List ℕ) → IsHead k head → bytes ≡ head ++ behind → StartsNoLiterals k behind → StartsNoLine k bytes
+starts_no_list k head bytes behind h e none ls more o f =
+    none ls more o (append_cancel_left head (literals_text ls) (behind ++ more) (sym (line_text k head ls h) ∙ f ∙ ap (λ t. t ++ more) e ∙ append_assoc head behind more))
+
+-- nor with bytes of which neither text begins with the other
+pub starts_no_head : (k : AnswerKind) (head bytes : List ℕ) → IsHead k head → ((tail : List ℕ) → head ≡ bytes ++ tail → ⊥) → ((tail : List ℕ) → bytes ≡ head ++ tail → ⊥) → StartsNoLine k bytes
+starts_no_head k head bytes h short long ls more o f = go head bytes (literals_text ls) more short long (sym (line_text k head ls h) ∙ f)
+  where
+    go : (xs ys x y : List ℕ) → ((tail : List ℕ) → xs ≡ ys ++ tail → ⊥) → ((tail : List ℕ) → ys ≡ xs ++ tail → ⊥) → xs ++ x ≡ ys ++ y → ⊥
+    go [] ys x y short long e = long ys refl
+    go (a ∷ xs) [] x y short long e = short (a ∷ xs) refl
+    go (a ∷ xs) (b ∷ ys) x y short long e =
+        let same : a ≡ b = cc in
+        let next : xs ++ x ≡ ys ++ y = cc in
+        go xs ys x y (λ tail f. short tail (ap (λ c. c ∷ xs) same ∙ ap (λ t. b ∷ t) f)) (λ tail f. long tail (ap (λ c. c ∷ ys) (sym same) ∙ ap (λ t. a ∷ t) f)) next

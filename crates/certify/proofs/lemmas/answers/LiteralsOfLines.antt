@@ -50,11 +50,11 @@ pub all_read : (bytes line rest tail : List ℕ) → Read bytes line rest → re
 all_read bytes line rest tail r e = (r.names, r.back [] tail e ∙ ap (λ t. literals_text t ++ tail) (append-nil (named_literals line)))
 
 -- where neither a literal nor the end comes
-pub not_read : (bytes line rest : List ℕ) → Read bytes line rest → NoLiteral rest → ((tail : List ℕ) → rest ≡ 48 ∷ 10 ∷ tail → ⊥) → (ls : List Literal) (tail : List ℕ) → HaveNames ls → bytes ≡ literals_text ls ++ tail → ⊥
-not_read bytes line rest r none end ls tail h e = let more = r.forth ls tail h e in go more.0 more.1.0 more.1.1
+pub not_read : (bytes line rest : List ℕ) → Read bytes line rest → NoLiteral rest → (ls : List Literal) (tail : List ℕ) → (rest ≡ 48 ∷ 10 ∷ tail → ⊥) → HaveNames ls → bytes ≡ literals_text ls ++ tail → ⊥
+not_read bytes line rest r none ls tail end h e = let more = r.forth ls tail h e in go more.0 more.1.0 more.1.1
   where
     go : (more : List Literal) → HaveNames more → rest ≡ literals_text more ++ tail → ⊥
-    go [] k f = end tail f
+    go [] k f = end f
     go (l ∷ ks) k f = none l (literals_text ks ++ tail) k.0 (f ∙ append_assoc (word_of l) (32 ∷ literals_text ks) tail)
 
 -- a literal and a space are pushed in front of the rest

@@ -1,12 +1,12 @@
 -- Names, digit by digit, and literals as words in front of a space.
-use Rattle.std.proofs.Common.{ℕ, zero, suc, ◌+◌, ◌-◌, ◌*◌, ◌/◌, ◌%◌, ◌^◌, ◌<◌, ◌≤◌, ◌≡◌, Bool, true, false, cond, ◌∷◌, ◌++◌, [], List, length, take, get_or, decimal, append-nil, refl, sym, ◌∙◌, ap, subst, arith, append_assoc}
+use Rattle.std.proofs.Common.{ℕ, zero, suc, ◌+◌, ◌-◌, ◌*◌, ◌/◌, ◌%◌, ◌^◌, ◌<◌, ◌≤◌, ◌≡◌, ◌≢◌, ◌⊎◌, inl, inr, Bool, true, false, cond, ◌∷◌, ◌++◌, [], List, length, take, get_or, decimal, append-nil, refl, sym, ◌∙◌, ap, subst, arith, append_assoc}
 use Rattle.std.proofs.lemmas.Fmt.{decimal_digit, decimal_step, decimal_is_IsNumeral, first_decimal, decimal_nonempty}
 use Rattle.std.proofs.lemmas.Str.Parse.{digit_from_value, digits_value-take-le}
 use Rattle.std.proofs.Math.Seq.{take-append_seam}
 use Rattle.std.specs.Str.Parse.{AllDigits, digits_value}
 use Rattle.sat_base.specs.values.Literals.{largest}
 use Rattle.certify.specs.answers.AnswerForms.{IsName}
-use Rattle.certify.specs.answers.AnswerReading.{digits_so_far, NoDigit, NoName, NoLiteral}
+use Rattle.certify.specs.answers.AnswerReading.{digits_so_far, NoDigit, NoName, NoLiteral, StartsNoLiteral, StartsNoName}
 use Rattle.certify.proofs.lemmas.laws.TellingTexts.{Plain, plain_digits, small, numeral}
 
 -- the last digit, behind nothing or behind the others
@@ -96,6 +96,11 @@ first_byte : (ds : List ℕ) (b : ℕ) (x y : List ℕ) → 0 < length ds → b 
 first_byte [] b x y h e = absurd (omega arith)
 first_byte (c ∷ cs) b x y h e = (cs, let r : c ≡ b = cc in ap (λ c. c ∷ cs) r)
 
+-- a space comes next only where no digit has been read
+pub at_zero : (b name : ℕ) → ((b ≡ 32) × (name ≤ 0)) ⊎ (b ≢ 32) → b ≡ 32 → name ≡ 0
+at_zero b name (inl h) e = omega arith
+at_zero b name (inr h) e = absurd (h e)
+
 -- where no digit of a name comes next
 pub no_name_so : (name b : ℕ) (bytes x : List ℕ) → name ≤ largest → (b ≡ 32 → name ≡ 0) → NoDigit name b → bytes ≡ digits_so_far name ++ (b ∷ x) → NoName bytes
 no_name_so zero b bytes x h space none e n tail k f =
@@ -123,3 +128,26 @@ no_negative bytes behind e none l tail h f = go l.positive l.name h f
     go : (s : Bool) (n : ℕ) → IsName n → bytes ≡ (cond s [] (45 ∷ []) ++ decimal n) ++ (32 ∷ tail) → ⊥
     go true n h f = no_minus n tail behind h.1 (sym f ∙ e)
     go false n h f = none n tail h (let r : 45 ∷ behind ≡ 45 ∷ (decimal n ++ (32 ∷ tail)) = sym e ∙ f in let t : behind ≡ decimal n ++ (32 ∷ tail) = cc in t)
+
+-- BYTES WITH WHICH NONE BEGINS
+
+pub starts_no_name : (name b : ℕ) (bytes x : List ℕ) → name ≤ largest → (b ≡ 32 → name ≡ 0) → NoDigit name b → bytes ≡ digits_so_far name ++ (b ∷ x) → StartsNoName bytes
+starts_no_name name b bytes x h space none e more = no_name_so name b (bytes ++ more) (x ++ more) h space none (ap (λ t. t ++ more) e ∙ append_assoc (digits_so_far name) (b ∷ x) more)
+
+pub starts_no_negative : (bytes behind : List ℕ) → bytes ≡ 45 ∷ behind → StartsNoName behind → StartsNoLiteral bytes
+starts_no_negative bytes behind e none more = no_negative (bytes ++ more) (behind ++ more) (ap (λ t. t ++ more) e) (none more)
+
+-- some name begins with no bytes
+starts_some : (bytes : List ℕ) → StartsNoName bytes → bytes ≡ [] → ⊥
+starts_some bytes none e = none (decimal 1 ++ (32 ∷ [])) 1 [] (omega arith, omega arith) (ap (λ t. t ++ (decimal 1 ++ (32 ∷ []))) e)
+
+pub starts_no_positive : (bytes : List ℕ) → ((tail : List ℕ) → bytes ≡ 45 ∷ tail → ⊥) → StartsNoName bytes → StartsNoLiteral bytes
+starts_no_positive bytes other none more l tail h f = go l.positive l.name h f
+  where
+    with_minus : (bytes x y : List ℕ) → (bytes ≡ [] → ⊥) → ((tail : List ℕ) → bytes ≡ 45 ∷ tail → ⊥) → bytes ++ x ≡ 45 ∷ y → ⊥
+    with_minus [] x y some other e = some refl
+    with_minus (b ∷ bs) x y some other e = let same : b ≡ 45 = cc in other bs (ap (λ c. c ∷ bs) same)
+
+    go : (s : Bool) (n : ℕ) → IsName n → bytes ++ more ≡ (cond s [] (45 ∷ []) ++ decimal n) ++ (32 ∷ tail) → ⊥
+    go true n h f = none more n tail h f
+    go false n h f = with_minus bytes more (decimal n ++ (32 ∷ tail)) (starts_some bytes none) other f

@@ -12,11 +12,11 @@ use Rattle.sat_base.specs.script.Judge.{Refusal, PastLimit, WitnessName}
 use Rattle.sat_checker.specs.matching.Expected.{Outcome, Sat, Unsat}
 use Rattle.certify.specs.answers.Answers.{outcome_text, refused_line, refusal_text, malformed_line, literals_text, word_of}
 use Rattle.certify.specs.answers.AnswerForms.{HaveNames, IsInForm, named_literals}
-use Rattle.certify.specs.answers.AnswerReading.{HasLine, NoKind, NoLine, first_line, second_line, outcome_of}
+use Rattle.certify.specs.answers.AnswerReading.{HasLine, NoKind, NoLine, StartsNoKind, StartsNoLine, first_line, second_line, outcome_of}
 use Rattle.certify.specs.matching.Lines.{TakesLine, stop_after}
 use Rattle.certify.specs.confirm.Streams.{Covers, rest_in}
 use Rattle.certify.specs.matching.Halting.{Replies, SaysSo, answers_halt}
-use Rattle.certify.specs.matching.Lines.{EndsPart, GoesUpToLine, HasNoLf, IsLine, IsNextLine, IsReply, NextLine, ReadsFirst, ReadsLine, ReadsSecond}
+use Rattle.certify.specs.matching.Lines.{EndsPart, GoesUpToLine, HasNoLf, IsLine, IsNextLine, IsReply, IsRight, IsWrong, NextLine, ReadsFirst, ReadsLine, ReadsSecond, StartsNone}
 use Rattle.certify.specs.reading.Ahead.{Kept, Refills, Took}
 use Rattle.certify.specs.declared.answers.read.AnswerFault.{AnswerFault}
 use Rattle.certify.specs.declared.answers.read.AnswerFault.TheVariants as fault
@@ -25,6 +25,8 @@ use Rattle.certify.specs.declared.answers.read.AnswerKind.TheVariants as kind
 use Rattle.certify.specs.declared.confirm.stop.Stop.TheVariants as stop
 use Rattle.certify.specs.declared.matching.halt.Halt.{Halt}
 use Rattle.certify.specs.declared.matching.halt.Halt.TheVariants as halt
+use Rattle.certify.specs.declared.matching.lines.Wanted.{Wanted}
+use Rattle.certify.specs.declared.matching.lines.Wanted.TheVariants as wanted
 use Rattle.certify.specs.declared.verdict.Why.{Why}
 use Rattle.certify.proofs.lemmas.answers.AnswerLines.{lines_of, same_kind, printed}
 use Rattle.certify.proofs.lemmas.confirm.Streams.{all_over, nothing_behind, taken_front}
@@ -52,6 +54,16 @@ first_lf (a ∷ zs) (b ∷ bs) x y h k e =
     let more : zs ++ 10 ∷ x ≡ bs ++ 10 ∷ y = cc in
     let r = first_lf zs bs x y h.1 k.1 more in
     (ap (λ (ws : List ℕ). a ∷ ws) r.0 ∙ ap (λ (w : ℕ). w ∷ bs) same, r.1)
+
+-- bytes without LF in front of a line are in its front
+in_front : (xs ys more tail : List ℕ) → HasNoLf xs → xs ++ more ≡ ys ++ 10 ∷ tail → (rest : List ℕ) × (ys ++ 10 ∷ [] ≡ xs ++ rest)
+in_front [] ys more tail h e = (ys ++ 10 ∷ [], refl)
+in_front (x ∷ xs) [] more tail h e = let same : x ≡ 10 = cc in absurd (h.0 same)
+in_front (x ∷ xs) (y ∷ ys) more tail h e =
+    let same : y ≡ x = cc in
+    let next : xs ++ more ≡ ys ++ 10 ∷ tail = cc in
+    let r = in_front xs ys more tail h.1 next in
+    (r.0, ap (λ (zs : List ℕ). y ∷ zs) r.1 ∙ ap (λ (z : ℕ). z ∷ (xs ++ r.0)) same)
 
 -- TEXTS THAT ARE LINES
 
@@ -117,25 +129,29 @@ second_is_line kind.Unknown u ls h = absurd u
 
 -- THE LINE THAT WAS READ
 
--- it stands in front of what is left, or is all of it
-abbrev FirstLine : List ℕ → List ℕ → List ℕ → Type 0
-FirstLine line bytes more = (IsLine line × (bytes ≡ line ++ more)) ⊎ (HasNoLf line × (bytes ≡ line))
+-- it stands in front of what is left, or is all of it, or is wrong
+abbrev FirstLine : (List ℕ → Type 0) → List ℕ → List ℕ → List ℕ → Type 0
+FirstLine P line bytes more = (IsLine line × (bytes ≡ line ++ more)) ⊎ ((HasNoLf line × (bytes ≡ line)) ⊎ ((HasNoLf line × (bytes ≡ line ++ more)) × IsWrong P line))
 
-module _ (a b : Source) (line total : List ℕ) (c : Covers b total) where
-  first_of : IsNextLine a b line → FirstLine line (rest_in total a) (rest_in total b)
+module _ (P : List ℕ → Type 0) (a b : Source) (line total : List ℕ) (c : Covers b total) where
+  first_of : IsNextLine P a b line → FirstLine P line (rest_in total a) (rest_in total b)
   first_of (inl h) = inl (h.1, taken_front 0 a b line total h.0 c)
-  first_of (inr h) = inr (h.1, nothing_behind a b line total h.0 c)
+  first_of (inr (inl h)) = inr (inl (h.1, nothing_behind a b line total h.0 c))
+  first_of (inr (inr h)) = inr (inr ((h.0.1, taken_front 0 a b line total h.0.0 c), h.1))
 
--- a line that stands there is the one
-the_line : (line bytes more text tail : List ℕ) → IsLine text → FirstLine line bytes more → bytes ≡ text ++ tail → (line ≡ text) × (more ≡ tail)
-the_line line bytes more text tail t (inl h) e =
+-- a line that may stand there, and does, is the one
+the_line : (P : List ℕ → Type 0) (line bytes more text tail : List ℕ) → P text → IsLine text → FirstLine P line bytes more → bytes ≡ text ++ tail → (line ≡ text) × (more ≡ tail)
+the_line P line bytes more text tail right t (inl h) e =
     let l = h.0 in
     let whole : l.front ++ 10 ∷ more ≡ t.front ++ 10 ∷ tail =
     sym (append_assoc l.front (10 ∷ []) more) ∙ ap (λ (z : List ℕ). z ++ more) (sym l.whole) ∙ sym h.1 ∙ e ∙ ap (λ (z : List ℕ). z ++ tail) t.whole ∙ append_assoc t.front (10 ∷ []) tail in
     let r = first_lf l.front t.front more tail l.none t.none whole in
     (l.whole ∙ ap (λ (z : List ℕ). z ++ 10 ∷ []) r.0 ∙ sym t.whole, r.1)
-the_line line bytes more text tail t (inr h) e =
+the_line P line bytes more text tail right t (inr (inl h)) e =
     absurd (no_lf_in line t.front tail h.0 (sym h.1 ∙ e ∙ ap (λ (z : List ℕ). z ++ tail) t.whole ∙ append_assoc t.front (10 ∷ []) tail))
+the_line P line bytes more text tail right t (inr (inr h)) e =
+    let f = in_front line t.front more tail h.0.0 (sym h.0.1 ∙ e ∙ ap (λ (z : List ℕ). z ++ tail) t.whole ∙ append_assoc t.front (10 ∷ []) tail) in
+    absurd (h.1.0 f.0 (subst P (t.whole ∙ f.1) right))
 
 -- a text in front of the line is all of it
 front_is_line : (line text behind : List ℕ) → IsLine text → IsLine line → line ≡ text ++ behind → line ≡ text
@@ -143,88 +159,92 @@ front_is_line line text behind t l e =
     let r = first_lf l.front t.front [] behind l.none t.none (sym l.whole ∙ e ∙ ap (λ (z : List ℕ). z ++ behind) t.whole ∙ append_assoc t.front (10 ∷ []) behind) in
     l.whole ∙ ap (λ (z : List ℕ). z ++ 10 ∷ []) r.0 ∙ sym t.whole
 
-module _ (a b : Source) (line : List ℕ) (open_yet : AtEnd a → ⊥) where
-  line_halts : IsNextLine a b line → Took false a b
+module _ (P : List ℕ → Type 0) (a b : Source) (line : List ℕ) (open_yet : AtEnd a → ⊥) where
+  line_halts : IsNextLine P a b line → Took false a b
   line_halts (inl h) = took_halted a b open_yet (line, h.0)
-  line_halts (inr h) = ((line, h.0.0), λ e. all_over b h.0.1)
+  line_halts (inr (inl h)) = ((line, h.0.0), λ e. all_over b h.0.1)
+  line_halts (inr (inr h)) = took_halted a b open_yet (line, h.0.0)
 
   -- a line that is the text, or begins with it
-  line_taken : (text behind : List ℕ) → IsLine text → line ≡ text ++ behind → IsNextLine a b line → Took true a b × ((total : List ℕ) → Covers b total → rest_in total a ≡ text ++ rest_in total b)
+  line_taken : (text behind : List ℕ) → IsLine text → line ≡ text ++ behind → IsNextLine P a b line → Took true a b × ((total : List ℕ) → Covers b total → rest_in total a ≡ text ++ rest_in total b)
   line_taken text behind t e (inl h) =
       let same = front_is_line line text behind t h.1 e in
       ((line, h.0), λ total c. taken_front 0 a b line total h.0 c ∙ ap (λ (z : List ℕ). z ++ rest_in total b) same)
-  line_taken text behind t e (inr h) = absurd (no_lf_in line t.front behind h.1 (e ∙ ap (λ (z : List ℕ). z ++ behind) t.whole ∙ append_assoc t.front (10 ∷ []) behind))
+  line_taken text behind t e (inr (inl h)) = absurd (no_lf_in line t.front behind h.1 (e ∙ ap (λ (z : List ℕ). z ++ behind) t.whole ∙ append_assoc t.front (10 ∷ []) behind))
+  line_taken text behind t e (inr (inr h)) = absurd (no_lf_in line t.front behind h.0.1 (e ∙ ap (λ (z : List ℕ). z ++ behind) t.whole ∙ append_assoc t.front (10 ∷ []) behind))
 
   -- THE LINE THAT IS DUE
-  pub due_taken : (due : List ℕ) → IsLine due → line ≡ due → IsNextLine a b line → Replies {A = Unit {0}} true (Ok tt) a b (λ before behind. TakesLine before behind due)
+  pub due_taken : (due : List ℕ) → IsLine due → line ≡ due → IsNextLine P a b line → Replies {A = Unit {0}} true (Ok tt) a b (λ before behind. TakesLine before behind due)
   due_taken due d e h = let r = line_taken due [] d (e ∙ sym (append-nil due)) h in (r.0, r.1)
 
-  pub due_differs : (due : List ℕ) (why : Why) → IsLine due → (line ≡ due → ⊥) → IsNextLine a b line → Replies {A = Unit {0}} true (Err (halt.Stop (stop.No why))) a b (λ before behind. TakesLine before behind due)
-  due_differs due why d differ h = (line_halts h, λ total c tail e. differ (the_line line (rest_in total a) (rest_in total b) due tail d (first_of a b line total c h) e).0)
+  pub due_differs : (due : List ℕ) (why : Why) → P due → IsLine due → (line ≡ due → ⊥) → IsNextLine P a b line → Replies {A = Unit {0}} true (Err (halt.Stop (stop.No why))) a b (λ before behind. TakesLine before behind due)
+  due_differs due why right d differ h = (line_halts h, λ total c tail e. differ (the_line P line (rest_in total a) (rest_in total b) due tail right d (first_of P a b line total c h) e).0)
 
   -- AN ANSWER'S FIRST LINE
-  pub kind_read : (k : AnswerKind) (behind : List ℕ) → line ≡ first_line k ++ behind → IsNextLine a b line → Replies true (Ok k) a b ReadsFirst
+  pub kind_read : (k : AnswerKind) (behind : List ℕ) → line ≡ first_line k ++ behind → IsNextLine P a b line → Replies true (Ok k) a b ReadsFirst
   kind_read k behind e h = line_taken (first_line k) behind (first_is_line k) e h
 
-  pub kind_differs : (w : AnswerFault) → NoKind line w → IsNextLine a b line → Replies {A = AnswerKind} true (Err (halt.Stop (stop_after w))) a b ReadsFirst
-  kind_differs fault.Missing n h = (line_halts h, none)
+  pub kind_differs : ((k : AnswerKind) → P (first_line k)) → (w : AnswerFault) → NoKind line w → IsNextLine P a b line → Replies {A = AnswerKind} true (Err (halt.Stop (stop_after w))) a b ReadsFirst
+  kind_differs right fault.Missing n h = (line_halts h, none)
     where
       none : (total : List ℕ) → Covers b total → (o : Outcome) (tail : List ℕ) → rest_in total a ≡ outcome_text o ++ tail → ⊥
       none total c o tail e =
           let l = lines_of o tail (rest_in total a) e in
-          let same = (the_line line (rest_in total a) (rest_in total b) (first_line l.kind) (second_line o ++ tail) (first_is_line l.kind) (first_of a b line total c h) l.text).0 in
+          let same = (the_line P line (rest_in total a) (rest_in total b) (first_line l.kind) (second_line o ++ tail) (right l.kind) (first_is_line l.kind) (first_of P a b line total c h) l.text).0 in
           let t = first_is_line l.kind in
           no_lf_in [] t.front [] tt (sym n ∙ same ∙ t.whole)
-  kind_differs fault.Text n h = (line_halts h, none)
+  kind_differs right fault.Text n h = (line_halts h, none)
     where
       none : (total : List ℕ) → Covers b total → (o : Outcome) (tail : List ℕ) → rest_in total a ≡ outcome_text o ++ tail → ⊥
       none total c o tail e =
           let l = lines_of o tail (rest_in total a) e in
-          let same = (the_line line (rest_in total a) (rest_in total b) (first_line l.kind) (second_line o ++ tail) (first_is_line l.kind) (first_of a b line total c h) l.text).0 in
+          let same = (the_line P line (rest_in total a) (rest_in total b) (first_line l.kind) (second_line o ++ tail) (right l.kind) (first_is_line l.kind) (first_of P a b line total c h) l.text).0 in
           n.1 l.kind [] (same ∙ sym (append-nil (first_line l.kind)))
-  kind_differs fault.OutOfMemory n h = absurd n
+  kind_differs right fault.OutOfMemory n h = absurd n
 
   -- ITS SECOND LINE
-  pub second_read : (k : AnswerKind) (ls : List Literal) (behind : List ℕ) → HasLine k → IsInForm (outcome_of k ls) → line ≡ second_line (outcome_of k ls) ++ behind → IsNextLine a b line → Replies {A = Unit {0}} true (Ok tt) a b (ReadsSecond k ls)
+  pub second_read : (k : AnswerKind) (ls : List Literal) (behind : List ℕ) → HasLine k → IsInForm (outcome_of k ls) → line ≡ second_line (outcome_of k ls) ++ behind → IsNextLine P a b line → Replies {A = Unit {0}} true (Ok tt) a b (ReadsSecond k ls)
   second_read k ls behind u f e h = let r = line_taken (second_line (outcome_of k ls)) behind (second_is_line k u ls f) e h in (r.0, λ total c. (r.1 total c, f))
 
-  pub second_differs : (k : AnswerKind) (ls : List Literal) (w : AnswerFault) → HasLine k → NoLine k line w → IsNextLine a b line → Replies {A = Unit {0}} true (Err (halt.Stop (stop_after w))) a b (ReadsSecond k ls)
-  second_differs k ls fault.Missing u n h = (line_halts h, none)
+  pub second_differs : (k : AnswerKind) (ls : List Literal) → ((ks : List Literal) → IsInForm (outcome_of k ks) → P (second_line (outcome_of k ks))) → (w : AnswerFault) → HasLine k → NoLine k line w → IsNextLine P a b line → Replies {A = Unit {0}} true (Err (halt.Stop (stop_after w))) a b (ReadsSecond k ls)
+  second_differs k ls right fault.Missing u n h = (line_halts h, none)
     where
       none : (total : List ℕ) → Covers b total → (ks : List Literal) (tail : List ℕ) → IsInForm (outcome_of k ks) → rest_in total a ≡ second_line (outcome_of k ks) ++ tail → ⊥
       none total c ks tail f e =
           let t = second_is_line k u ks f in
-          no_lf_in [] t.front [] tt (sym n.1 ∙ (the_line line (rest_in total a) (rest_in total b) (second_line (outcome_of k ks)) tail t (first_of a b line total c h) e).0 ∙ t.whole)
-  second_differs k ls fault.Text u n h = (line_halts h, none)
+          no_lf_in [] t.front [] tt (sym n.1 ∙ (the_line P line (rest_in total a) (rest_in total b) (second_line (outcome_of k ks)) tail (right ks f) t (first_of P a b line total c h) e).0 ∙ t.whole)
+  second_differs k ls right fault.Text u n h = (line_halts h, none)
     where
       none : (total : List ℕ) → Covers b total → (ks : List Literal) (tail : List ℕ) → IsInForm (outcome_of k ks) → rest_in total a ≡ second_line (outcome_of k ks) ++ tail → ⊥
       none total c ks tail f e =
           let t = second_is_line k u ks f in
-          let same = (the_line line (rest_in total a) (rest_in total b) (second_line (outcome_of k ks)) tail t (first_of a b line total c h) e).0 in
+          let same = (the_line P line (rest_in total a) (rest_in total b) (second_line (outcome_of k ks)) tail (right ks f) t (first_of P a b line total c h) e).0 in
           n.1 ks [] f (same ∙ sym (append-nil (second_line (outcome_of k ks))))
-  second_differs k ls fault.OutOfMemory u n h = line_kept h
+  second_differs k ls right fault.OutOfMemory u n h = line_kept h
     where
-      line_kept : IsNextLine a b line → Kept a b
+      line_kept : IsNextLine P a b line → Kept a b
       line_kept h = took_kept false a b (line_halts h)
 
   -- THE END OF THE ANSWERS
-  pub over_here : line ≡ [] → IsNextLine a b line → Replies {A = Unit {0}} false (Ok tt) a b (λ before behind. SaysSo (before ≡ []))
+  pub over_here : line ≡ [] → IsNextLine P a b line → Replies {A = Unit {0}} false (Ok tt) a b (λ before behind. SaysSo (before ≡ []))
   over_here e h = (line_halts h, λ total c. here total c h)
     where
-      here : (total : List ℕ) → Covers b total → IsNextLine a b line → rest_in total a ≡ []
+      here : (total : List ℕ) → Covers b total → IsNextLine P a b line → rest_in total a ≡ []
       here total c (inl k) = absurd (no_lf_in [] k.1.front [] tt (sym e ∙ k.1.whole))
-      here total c (inr k) = nothing_behind a b line total k.0 c ∙ e
+      here total c (inr (inl k)) = nothing_behind a b line total k.0 c ∙ e
+      here total c (inr (inr k)) = absurd (k.1.1 e)
 
-  pub more_here : (why : Why) → (line ≡ [] → ⊥) → IsNextLine a b line → Replies {A = Unit {0}} false (Err (halt.Stop (stop.No why))) a b (λ before behind. SaysSo (before ≡ []))
+  pub more_here : (why : Why) → (line ≡ [] → ⊥) → IsNextLine P a b line → Replies {A = Unit {0}} false (Err (halt.Stop (stop.No why))) a b (λ before behind. SaysSo (before ≡ []))
   more_here why some h = (line_halts h, λ total c e. some (nothing total c h e))
     where
       empty : (xs ys : List ℕ) → xs ++ ys ≡ [] → xs ≡ []
       empty [] ys e = refl
       empty (x ∷ xs) ys e = absurd (cc)
 
-      nothing : (total : List ℕ) → Covers b total → IsNextLine a b line → rest_in total a ≡ [] → line ≡ []
+      nothing : (total : List ℕ) → Covers b total → IsNextLine P a b line → rest_in total a ≡ [] → line ≡ []
       nothing total c (inl k) e = empty line (rest_in total b) (sym (taken_front 0 a b line total k.0 c) ∙ e)
-      nothing total c (inr k) e = sym (nothing_behind a b line total k.0 c) ∙ e
+      nothing total c (inr (inl k)) e = sym (nothing_behind a b line total k.0 c) ∙ e
+      nothing total c (inr (inr k)) e = empty line (rest_in total b) (sym (taken_front 0 a b line total k.0.0 c) ∙ e)
 
 -- WHOLE ANSWERS
 
@@ -279,20 +299,34 @@ no_lf_more bytes i low differ h = subst HasNoLf (sym (take_more bytes i 0 low)) 
 pub no_lf_all : (bytes : List ℕ) (i : ℕ) → length bytes ≤ i → HasNoLf (take i bytes) → HasNoLf bytes
 no_lf_all bytes i over h = subst HasNoLf (take_all i bytes over) h
 
+-- BYTES WITH WHICH NO LINE THAT MAY STAND THERE BEGINS
+
+pub starts_due : (w : Wanted) (due bytes : List ℕ) → w ≡ wanted.Due → ((more : List ℕ) → due ≡ bytes ++ more → ⊥) → StartsNone (IsRight w due) bytes
+starts_due w due bytes is none more r = let e = subst (λ (v : Wanted). IsRight v due (bytes ++ more)) is r in none more (sym e)
+
+pub starts_first : (w : Wanted) (due bytes : List ℕ) → w ≡ wanted.First → StartsNoKind bytes → StartsNone (IsRight w due) bytes
+starts_first w due bytes is none more r = let e = subst (λ (v : Wanted). IsRight v due (bytes ++ more)) is r in none e.0 more (sym e.1)
+
+pub starts_second : (w : Wanted) (k : AnswerKind) (due bytes : List ℕ) → w ≡ wanted.Second k → StartsNoLine k bytes → StartsNone (IsRight w due) bytes
+starts_second w k due bytes is none more r = let e = subst (λ (v : Wanted). IsRight v due (bytes ++ more)) is r in none e.0 more e.1.0 (sym e.1.1)
+
+pub starts_nothing : (w : Wanted) (due bytes : List ℕ) → w ≡ wanted.Nothing → StartsNone (IsRight w due) bytes
+starts_nothing w due bytes is more r = subst (λ (v : Wanted). IsRight v due (bytes ++ more)) is r
+
 -- where no line was read
-pub line_stops : {A : Type 0} (goes : Bool) (e : Halt) (a b : Source) (line : List ℕ) (P : List ℕ → List ℕ → Result A Why → Type 0) → NextLine (Err e) a b line → Replies {A = A} goes (Err e) a b P
-line_stops goes halt.AnswersRead a b line P h = h
-line_stops goes (halt.Stop stop.OutOfMemory) a b line P h = h
-line_stops goes (halt.Stop (stop.No why)) a b line P h = absurd h
-line_stops goes (halt.Stop stop.Read) a b line P h = absurd h
-line_stops goes (halt.Stop stop.CounterEnd) a b line P h = absurd h
-line_stops goes halt.ScriptRead a b line P h = absurd h
-line_stops goes halt.TooMany a b line P h = absurd h
+pub line_stops : {A : Type 0} (F : List ℕ → Type 0) (goes : Bool) (e : Halt) (a b : Source) (line : List ℕ) (P : List ℕ → List ℕ → Result A Why → Type 0) → NextLine F (Err e) a b line → Replies {A = A} goes (Err e) a b P
+line_stops F goes halt.AnswersRead a b line P h = h
+line_stops F goes (halt.Stop stop.OutOfMemory) a b line P h = h
+line_stops F goes (halt.Stop (stop.No why)) a b line P h = absurd h
+line_stops F goes (halt.Stop stop.Read) a b line P h = absurd h
+line_stops F goes (halt.Stop stop.CounterEnd) a b line P h = absurd h
+line_stops F goes halt.ScriptRead a b line P h = absurd h
+line_stops F goes halt.TooMany a b line P h = absurd h
 
 -- nor read as an answer's
-pub line_unread : (e : ReadError) (a b : Source) (line : List ℕ) → ReadsLine (Err e) a b line → NextLine (Err (answers_halt e)) a b line
-line_unread errors.Failed a b line h = h
-line_unread errors.OutOfMemory a b line h = h
+pub line_unread : (F : List ℕ → Type 0) (e : ReadError) (a b : Source) (line : List ℕ) → ReadsLine F (Err e) a b line → NextLine F (Err (answers_halt e)) a b line
+line_unread F errors.Failed a b line h = h
+line_unread F errors.OutOfMemory a b line h = h
 
 -- bytes that are moved to the line in hand
 parts : (bytes w v : List ℕ) (count : ℕ) → bytes ≡ w → v ≡ drop count w → w ≡ take count bytes ++ v
@@ -306,21 +340,21 @@ line_part false bytes w v count e d h =
     (parts bytes w v count e d, (subst HasNoLf (sym all) h.1, d ∙ drop_all count w over))
 
 module _ (a b c : Source) (before text line : List ℕ) (p : Passes a b before) (none : HasNoLf before) (is : line ≡ before ++ text) where
-  pub line_came : Passes b c text → IsLine text → IsNextLine a c line
-  line_came q l = inl (subst (Passes a c) (sym is) (passes_more a b c before text p q), subst IsLine (sym is) (line_on before text none l))
+  pub line_came : (F : List ℕ → Type 0) → Passes b c text → IsLine text → IsNextLine F a c line
+  line_came F q l = inl (subst (Passes a c) (sym is) (passes_more a b c before text p q), subst IsLine (sym is) (line_on before text none l))
 
   pub part_came : Passes b c text → HasNoLf text → Passes a c line × HasNoLf line
   part_came q n = (subst (Passes a c) (sym is) (passes_more a b c before text p q), subst HasNoLf (sym is) (no_lf_append before text none n))
 
-pub line_ends : (a b c : Source) (line : List ℕ) (count : ℕ) → Passes a b line → HasNoLf line → count ≡ 0 → Refills (Ok count) b c → IsNextLine a c line
-line_ends a b c line count p none zero h = inr (ends_there a b c line p (gave_nothing count b c zero h.0, h.1 zero), none)
+pub line_ends : (F : List ℕ → Type 0) (a b c : Source) (line : List ℕ) (count : ℕ) → Passes a b line → HasNoLf line → count ≡ 0 → Refills (Ok count) b c → IsNextLine F a c line
+line_ends F a b c line count p none zero h = inr (inl (ends_there a b c line p (gave_nothing count b c zero h.0, h.1 zero), none))
 
 pub line_goes : (a b c : Source) (line : List ℕ) (count : ℕ) → Passes a b line → (count ≡ 0 → ⊥) → Refills (Ok count) b c → Passes a c line
 line_goes a b c line count p some h = subst (Passes a c) (append-nil line) (passes_more a b c line [] p (gave_some count b c some h.0))
 
-pub line_fails : (e : ReadError) (a b c : Source) (line other : List ℕ) → Passes a b line → Refills (Err e) b c → ReadsLine (Err e) a c other
-line_fails errors.Failed a b c line other p h = failed_then a b c (line, p) ([], h)
-line_fails errors.OutOfMemory a b c line other p h = absurd h
+pub line_fails : (F : List ℕ → Type 0) (e : ReadError) (a b c : Source) (line other : List ℕ) → Passes a b line → Refills (Err e) b c → ReadsLine F (Err e) a c other
+line_fails F errors.Failed a b c line other p h = failed_then a b c (line, p) ([], h)
+line_fails F errors.OutOfMemory a b c line other p h = absurd h
 
 -- an unknown answer has no second line
 pub second_unknown : (k : AnswerKind) (a : Source) (ls : List Literal) → k ≡ kind.Unknown → Replies {A = Unit {0}} true (Ok tt) a a (ReadsSecond k ls)

@@ -1,13 +1,9 @@
-use Rattle.std.proofs.Common.{ℕ, ◌≡◌, ◌≢◌, ◌<◌, ◌≤◌, ◌⊎◌, inl, inr, ◌++◌, ◌∷◌, [], length, drop, get_or, suc, ◌∙◌, ap, arith}
+use Rattle.std.proofs.Common.{◌≡◌, ◌<◌, ◌++◌, ◌∷◌, [], length, drop, get_or, suc, ◌∙◌, ap, arith}
 use Rattle.std.proofs.Math.Seq.{drop-cons}
 use Rattle.std.proofs.lemmas.List.{drop_all}
 use Rattle.certify.specs.answers.AnswerReading.{NoName, digits_so_far}
-use Rattle.certify.proofs.lemmas.answers.NamesAndWords.{no_name_so, no_name_end}
+use Rattle.certify.proofs.lemmas.answers.NamesAndWords.{at_zero, no_name_so, no_name_end}
 use Rattle.certify.proofs.answers.read.read_name.Goals as goal
-
-at_zero : (b name : ℕ) → ((b ≡ 32) × (name ≤ 0)) ⊎ (b ≢ 32) → b ≡ 32 → name ≡ 0
-at_zero b name (inl h) e = omega arith
-at_zero b name (inr h) e = absurd (h e)
 
 pub returns-in_err-name : goal.returns-in_err-name
 returns-in_err-name c =

@@ -1,9 +1,10 @@
 use Rattle.std.proofs.Common.{◌≡◌, [], Bool, false, sym, ◌∙◌, subst}
 use Rattle.std.proofs.lemmas.Result.{err_from_is_err_and}
 use Rattle.std.specs.Bool.{MatchBool}
+use Rattle.certify.specs.declared.matching.lines.Wanted.TheVariants as wanted
 use Rattle.certify.specs.declared.verdict.Why.TheVariants.{AnswerExtra}
 use Rattle.certify.specs.matching.Halting.{SaysSo}
-use Rattle.certify.specs.matching.Lines.{answers_source}
+use Rattle.certify.specs.matching.Lines.{IsRight, answers_source}
 use Rattle.certify.proofs.lemmas.matching.Lines.{over_here, more_here, line_stops}
 use Rattle.certify.proofs.matching.answers.Answers.expect_over.Goals as goal
 
@@ -16,7 +17,7 @@ returns-in_err-next_line g c =
     let b = answers_source A c.next_line.new.answers mid in
     let line = mid.lines.line.items in
     let p = err_from_is_err_and c.from_residual.result c.from_residual.ensures.1 in
-    rw (p.1, p.2) (line_stops false c.in_err-next_line.field-0.0 a b line (λ before behind. SaysSo (before ≡ [])) c.in_err-next_line.ensures.line)
+    rw (p.1, p.2) (line_stops (IsRight wanted.Nothing old.due.items) false c.in_err-next_line.field-0.0 a b line (λ before behind. SaysSo (before ≡ [])) c.in_err-next_line.ensures.line)
 
 pub returns-then-is_none : goal.returns-then-is_none
 returns-then-is_none g c =
@@ -27,7 +28,7 @@ returns-then-is_none g c =
     let b = answers_source A c.next_line.new.answers mid in
     let line = mid.lines.line.items in
     let none = subst (λ (t : Bool). MatchBool t (c.deref.result.now ≡ []) (c.deref.result.now ≡ [] → ⊥)) c.if-is_none.true c.is_none.ensures in
-    over_here a b line c.requires.open_yet (sym c.deref.ensures.value ∙ none) c.in_ok-next_line.ensures.line
+    over_here (IsRight wanted.Nothing old.due.items) a b line c.requires.open_yet (sym c.deref.ensures.value ∙ none) c.in_ok-next_line.ensures.line
 
 pub returns : goal.returns
 returns g c =
@@ -38,4 +39,4 @@ returns g c =
     let b = answers_source A c.next_line.new.answers mid in
     let line = mid.lines.line.items in
     let some = subst (λ (t : Bool). MatchBool t (c.deref.result.now ≡ []) (c.deref.result.now ≡ [] → ⊥)) c.if-is_none.false c.is_none.ensures in
-    more_here a b line c.requires.open_yet AnswerExtra (λ e. some (c.deref.ensures.value ∙ e)) c.in_ok-next_line.ensures.line
+    more_here (IsRight wanted.Nothing old.due.items) a b line c.requires.open_yet AnswerExtra (λ e. some (c.deref.ensures.value ∙ e)) c.in_ok-next_line.ensures.line

@@ -1,7 +1,8 @@
-use Rattle.std.proofs.Common.{true, List, ℕ, sym, ◌∙◌, subst}
+use Rattle.std.proofs.Common.{true, List, ℕ, refl, sym, ◌∙◌, subst}
 use Rattle.std.proofs.lemmas.Result.{err_from_is_err_and}
 use Rattle.certify.specs.answers.AnswerReading.{NoKind}
-use Rattle.certify.specs.matching.Lines.{ReadsFirst, answers_source}
+use Rattle.certify.specs.declared.matching.lines.Wanted.TheVariants as wanted
+use Rattle.certify.specs.matching.Lines.{IsRight, ReadsFirst, answers_source}
 use Rattle.certify.proofs.lemmas.matching.Lines.{kind_read, kind_differs, line_stops}
 use Rattle.certify.proofs.matching.answers.Answers.read_first.Goals as goal
 
@@ -14,7 +15,7 @@ returns-in_err-next_line g c =
     let b = answers_source A c.next_line.new.answers mid in
     let line = mid.lines.line.items in
     let p = err_from_is_err_and c.from_residual.result c.from_residual.ensures.1 in
-    rw (p.1, p.2) (line_stops true c.in_err-next_line.field-0.0 a b line ReadsFirst c.in_err-next_line.ensures.line)
+    rw (p.1, p.2) (line_stops (IsRight wanted.First old.due.items) true c.in_err-next_line.field-0.0 a b line ReadsFirst c.in_err-next_line.ensures.line)
 
 pub returns-in-Ok : goal.returns-in-Ok
 returns-in-Ok g c =
@@ -24,7 +25,7 @@ returns-in-Ok g c =
     let a = answers_source A c.args.answers.now old in
     let b = answers_source A c.next_line.new.answers mid in
     let line = mid.lines.line.items in
-    kind_read a b line c.requires.open_yet c.in-Ok.kind c.in-Ok.field-0-1.now (sym c.deref.ensures.value ∙ c.in-Ok.ensures) c.in_ok-next_line.ensures.line
+    kind_read (IsRight wanted.First old.due.items) a b line c.requires.open_yet c.in-Ok.kind c.in-Ok.field-0-1.now (sym c.deref.ensures.value ∙ c.in-Ok.ensures) c.in_ok-next_line.ensures.line
 
 pub returns-in-Err : goal.returns-in-Err
 returns-in-Err g c =
@@ -34,4 +35,4 @@ returns-in-Err g c =
     let a = answers_source A c.args.answers.now old in
     let b = answers_source A c.next_line.new.answers mid in
     let line = mid.lines.line.items in
-    rw c.unanswered.ensures (kind_differs a b line c.requires.open_yet c.in-Err.fault (subst (λ (xs : List ℕ). NoKind xs c.in-Err.fault) c.deref.ensures.value c.in-Err.ensures) c.in_ok-next_line.ensures.line)
+    rw c.unanswered.ensures (kind_differs (IsRight wanted.First old.due.items) a b line c.requires.open_yet (λ k. (k, refl)) c.in-Err.fault (subst (λ (xs : List ℕ). NoKind xs c.in-Err.fault) c.deref.ensures.value c.in-Err.ensures) c.in_ok-next_line.ensures.line)

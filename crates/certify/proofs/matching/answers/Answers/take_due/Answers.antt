@@ -1,9 +1,10 @@
-use Rattle.std.proofs.Common.{◌≡◌, Bool, true, sym, ◌∙◌, subst}
+use Rattle.std.proofs.Common.{◌≡◌, Bool, true, refl, sym, ◌∙◌, subst}
 use Rattle.std.proofs.lemmas.Result.{err_from_is_err_and}
 use Rattle.std.specs.Bool.{MatchBool}
 use Rattle.certify.specs.matching.Lines.{TakesLine}
+use Rattle.certify.specs.declared.matching.lines.Wanted.TheVariants as wanted
 use Rattle.certify.specs.declared.verdict.Why.TheVariants.{AnswerMissing, AnswerText}
-use Rattle.certify.specs.matching.Lines.{answers_source}
+use Rattle.certify.specs.matching.Lines.{IsRight, answers_source}
 use Rattle.certify.proofs.lemmas.matching.Lines.{due_taken, due_differs, line_stops}
 use Rattle.certify.proofs.matching.answers.Answers.take_due.Goals as goal
 
@@ -16,7 +17,7 @@ returns-in_err-next_line g c =
     let b = answers_source A c.next_line.new.answers mid in
     let line = mid.lines.line.items in
     let p = err_from_is_err_and c.from_residual.result c.from_residual.ensures.1 in
-    rw (p.1, p.2) (line_stops true c.in_err-next_line.field-0.0 a b line (λ before behind. TakesLine before behind old.due.items) c.in_err-next_line.ensures.line)
+    rw (p.1, p.2) (line_stops (IsRight wanted.Due old.due.items) true c.in_err-next_line.field-0.0 a b line (λ before behind. TakesLine before behind old.due.items) c.in_err-next_line.ensures.line)
 
 pub returns-then-is_same : goal.returns-then-is_same
 returns-then-is_same g c =
@@ -27,7 +28,7 @@ returns-then-is_same g c =
     let b = answers_source A c.next_line.new.answers mid in
     let line = mid.lines.line.items in
     let same = subst (λ (t : Bool). MatchBool t (c.deref.result.now ≡ c.deref-2.result.now) (c.deref.result.now ≡ c.deref-2.result.now → ⊥)) c.if-is_same.true c.is_same.ensures in
-    due_taken a b line c.requires.open_yet old.due.items c.requires.line (sym c.deref.ensures.value ∙ same ∙ c.deref-2.ensures.value ∙ c.in_ok-next_line.ensures.due) c.in_ok-next_line.ensures.line
+    due_taken (IsRight wanted.Due old.due.items) a b line c.requires.open_yet old.due.items c.requires.line (sym c.deref.ensures.value ∙ same ∙ c.deref-2.ensures.value ∙ c.in_ok-next_line.ensures.due) c.in_ok-next_line.ensures.line
 
 pub returns-then-is_none : goal.returns-then-is_none
 returns-then-is_none g c =
@@ -38,7 +39,7 @@ returns-then-is_none g c =
     let b = answers_source A c.next_line.new.answers mid in
     let line = mid.lines.line.items in
     let differ = subst (λ (t : Bool). MatchBool t (c.deref.result.now ≡ c.deref-2.result.now) (c.deref.result.now ≡ c.deref-2.result.now → ⊥)) c.if-is_same.false c.is_same.ensures in
-    due_differs a b line c.requires.open_yet old.due.items AnswerMissing c.requires.line (λ e. differ (c.deref.ensures.value ∙ e ∙ sym c.in_ok-next_line.ensures.due ∙ sym c.deref-2.ensures.value)) c.in_ok-next_line.ensures.line
+    due_differs (IsRight wanted.Due old.due.items) a b line c.requires.open_yet old.due.items AnswerMissing refl c.requires.line (λ e. differ (c.deref.ensures.value ∙ e ∙ sym c.in_ok-next_line.ensures.due ∙ sym c.deref-2.ensures.value)) c.in_ok-next_line.ensures.line
 
 pub returns : goal.returns
 returns g c =
@@ -49,4 +50,4 @@ returns g c =
     let b = answers_source A c.next_line.new.answers mid in
     let line = mid.lines.line.items in
     let differ = subst (λ (t : Bool). MatchBool t (c.deref.result.now ≡ c.deref-2.result.now) (c.deref.result.now ≡ c.deref-2.result.now → ⊥)) c.if-is_same.false c.is_same.ensures in
-    due_differs a b line c.requires.open_yet old.due.items AnswerText c.requires.line (λ e. differ (c.deref.ensures.value ∙ e ∙ sym c.in_ok-next_line.ensures.due ∙ sym c.deref-2.ensures.value)) c.in_ok-next_line.ensures.line
+    due_differs (IsRight wanted.Due old.due.items) a b line c.requires.open_yet old.due.items AnswerText refl c.requires.line (λ e. differ (c.deref.ensures.value ∙ e ∙ sym c.in_ok-next_line.ensures.due ∙ sym c.deref-2.ensures.value)) c.in_ok-next_line.ensures.line
