@@ -15,6 +15,8 @@ mod damage;
 #[cfg(test)]
 mod devices;
 #[cfg(test)]
+mod endless;
+#[cfg(test)]
 mod files;
 #[cfg(test)]
 mod hints;
