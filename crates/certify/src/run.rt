@@ -3,7 +3,7 @@ ghost use Rattle.std.specs.Prelude.{◌≡◌, ◌+◌, ◌≤◌, ◌⊎◌, tr
 ghost use Rattle.sat_base.specs.device.Device.{most_reads, ReadFails};
 ghost use Rattle.certify.specs.run.FinishedRun.{Answered, Backed, WriteFails, WritesKept, gave, took};
 ghost use Rattle.certify.specs.run.Running.{ReadsFew, Runs};
-ghost use Rattle.certify.specs.run.Unfinished.{TookSteps, Unfinished};
+ghost use Rattle.certify.specs.run.Unfinished.{CounterEnds, TookSteps, Unfinished};
 
 use crate::fault::RunFault;
 use crate::reading::stream::CommandStream;
@@ -26,6 +26,7 @@ fn answer<S: CountedRead, A: CountedWrite, C: CountedWrite + Drop>(
         (C.seen certificate, C.seen result.0) }
     ensures unfinished { OnErr result.1 (Unfinished (gave S.seen script.old script.new) (took A.seen answers.old answers.new)) }
     ensures steps { TookSteps (C.seen certificate, C.seen result.0) }
+    ensures counter_end { IsErrOf result.1 RunFault.CounterEnd → CounterEnds (gave S.seen script.old script.new) }
     ensures reads { ReadsFew (gave S.seen script.old script.new) }
 {
     let mut session = Session::new(alloc, certificate, budget);
@@ -46,6 +47,7 @@ fn answer_into<S: CountedRead, A: CountedWrite, C: CountedWrite>(
         (took C.seen certificate.old certificate.new) }
     ensures unfinished { OnErr result (Unfinished (gave S.seen script.old script.new) (took A.seen answers.old answers.new)) }
     ensures steps { TookSteps (took C.seen certificate.old certificate.new) }
+    ensures counter_end { IsErrOf result RunFault.CounterEnd → CounterEnds (gave S.seen script.old script.new) }
     ensures reads { ReadsFew (gave S.seen script.old script.new) }
 {
     let (lent, result) = answer(alloc, script, answers, certificate, budget);
@@ -82,6 +84,9 @@ pub fn run<S: CountedRead, A: CountedWrite, C: CountedWrite>(
     ensures script_read { IsErrOf result RunFault.ScriptRead → ReadFails (S.seen script.old) (S.seen script.new) }
     ensures answers_write { IsErrOf result RunFault.AnswersWrite → WriteFails (A.seen answers.old) (A.seen answers.new) }
     ensures certificate_write { IsErrOf result RunFault.CertificateWrite → WriteFails (C.seen certificate.old) (C.seen certificate.new) }
+    // A counter has ended only where the text that was given, whatever would follow, has 2^64-1 commands or brings more names in than
+    // there are variables.
+    ensures counter_end { IsErrOf result RunFault.CounterEnd → CounterEnds (gave S.seen script.old script.new) }
     // A call of a device has failed only where the answer is that.
     ensures kept_script { IsErrOf result RunFault.ScriptRead ⊎ ((S.seen script.new).failures ≡ (S.seen script.old).failures) }
     ensures kept_answers { IsErrOf result RunFault.AnswersWrite ⊎ WritesKept A.seen answers.old answers.new }

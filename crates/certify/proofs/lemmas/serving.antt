@@ -15,9 +15,11 @@ pub mod SessionCalls
 pub mod CallFaults
 pub mod Carried
 pub mod Obeys
+pub mod Needing
 pub mod Next
 pub mod Lent
 pub mod NextLent
+pub mod Caused
 pub mod Through
 pub mod Written
 pub mod Ended

@@ -1,9 +1,10 @@
 -- What a run that wasn't finished has written of the answers, and what any run has written of its certificate.
-use Rattle.std.specs.Prelude.{ℕ, ◌≡◌, List, ◌++◌}
+use Rattle.std.specs.Prelude.{ℕ, ◌+◌, ◌-◌, ◌^◌, ◌<◌, ◌≤◌, ◌≡◌, ◌⊎◌, List, ◌++◌, length}
 use Rattle.std.specs.Io.KnownBytes.{Appends}
 use Rattle.sat_base.specs.device.Device.{Reader, Writer, CanFollow, GaveFront}
-use Rattle.sat_base.specs.script.Judge.{Judge, accepted_of, start}
+use Rattle.sat_base.specs.script.Judge.{Judge, accepted_of, after_script, start}
 use Rattle.sat_base.specs.script.Language.{Reading, reading}
+use Rattle.sat_base.specs.values.Literals.{largest}
 use Rattle.sat_base.specs.steps.Steps.{Step}
 use Rattle.sat_checker.specs.Accepts.{AcceptsAll}
 use Rattle.sat_checker.specs.matching.Expected.{Outcome}
@@ -41,6 +42,14 @@ pub record GaveFrontOf (old new : Reader) (P : List ℕ → Type 0) : Type 0 whe
 -- the writer took a front of right answers to the text that the reader gave, whatever follows in it
 abbrev pub Unfinished : Reader × Reader → Writer × Writer → Type 0
 Unfinished script answers = GaveFrontOf script.0 script.1 (λ text. TookFront 1 start (reading text) answers.0 answers.1)
+
+-- Behind so many commands, these are more than are counted, or the judge gives out more identities than there are variables.
+abbrev pub Exceeds : (count : ℕ) → Judge → Reading → Type 0
+Exceeds count j script = (2 ^ 64 - 1 ≤ count + length script.0) ⊎ (largest < (after_script script.0 j).next_identity)
+
+-- so, whatever follows what the reader gave of the script
+abbrev pub CounterEnds : Reader × Reader → Type 0
+CounterEnds script = GaveFrontOf script.0 script.1 (λ text. Exceeds 0 start (reading text))
 
 -- The writer took a front of the text of these steps, and nothing else. A checker accepts each of them in its turn. They are what is written
 -- for those that were made, with widths for their hashes. Lists have the newest first.

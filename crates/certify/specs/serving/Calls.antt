@@ -1,7 +1,9 @@
 -- What a run's calls of its solver leave, and which faults they give.
-use Rattle.std.specs.Prelude.{ℕ, ◌+◌, ◌≡◌, Bool, true, false, None, Result, IfErr, List}
+use Rattle.std.specs.Prelude.{ℕ, ◌+◌, ◌<◌, ◌≡◌, Bool, true, false, None, Result, IfErr, List}
 use Rattle.sat_base.specs.device.Device.{Writer}
-use Rattle.sat_base.specs.script.Judge.{Judge, refused_literal}
+use Rattle.sat_base.specs.script.Judge.{Judge, accepted, refused_literal}
+use Rattle.sat_base.specs.script.Script.{Command}
+use Rattle.sat_base.specs.values.Literals.{largest}
 use Rattle.sat_solver.specs.declared.error.SolverError.{SolverError}
 use Rattle.sat_solver.specs.declared.error.SolverError.TheVariants as errors
 use Rattle.sat_solver.specs.declared.solver.state.State.{State}
@@ -86,6 +88,10 @@ IsAllowed s user = (j : Judge) × (live : Live) × Agree s.names (steps_in s) j 
 -- a variable is lacking for a name that would come in with these
 abbrev pub LacksRoom : {C : Type 0} → Solver C → (users : List ℕ) → Type 0
 LacksRoom s users = HasRoom s.names users → ⊥
+
+-- Once this command was carried out, the judge would have given out more identities than there are variables.
+abbrev pub NeedsMore : {C : Type 0} → Solver C → Command → Type 0
+NeedsMore s c = (j : Judge) (live : Live) → Agree s.names (steps_in s) j live → largest < (accepted c j).next_identity
 
 -- from here on a search makes at most so many rounds
 pub record Limited {C : Type 0} (budget : ℕ) (old new : Solver C) : Type 0 where

@@ -15,7 +15,7 @@ use Rattle.certify.specs.declared.fault.RunFault.{RunFault}
 use Rattle.certify.specs.declared.serving.session.Session.{Session}
 use Rattle.certify.specs.declared.summary.Summary.{Summary}
 use Rattle.certify.specs.run.Unfinished.{TookBytes, TookSteps}
-use Rattle.certify.specs.serving.Calls.{Faults, proof_in}
+use Rattle.certify.specs.serving.Calls.{Faults, IsCaused, proof_in}
 use Rattle.certify.specs.serving.Quiet.{Proof, Solver}
 
 -- a target is there, open or broken
@@ -43,10 +43,10 @@ pub record GivesFront {C : Type 0} (seen : C → Writer) (s : Solver C) (given :
   pub front : (opened : Solver C) (from : Writer) → target_of seen (proof_in opened) ≡ Open Varisat uncounted (empty_sink from)
       → steps_in opened ≡ [] → Went seen opened s → TookSteps (from, seen given)
 
--- the certificate was ended, or not
+-- the certificate was ended, or not, for which no store is to blame and no counter
 abbrev pub Closes : {C : Type 0} → (C → Writer) → Result (Unit {0}) RunFault → Solver C → C → Type 0
 Closes seen (Ok x) s given = ClosedBy seen s given
-Closes seen (Err e) s given = Faults e ⊥ (GivenBack seen Broke s given) (GivenBack seen Took s given)
+Closes seen (Err e) s given = Faults e ⊥ (GivenBack seen Broke s given) (GivenBack seen Took s given) × IsCaused e ⊥ ⊥
 
 -- and then the answers, whose writer was flushed, and took nothing
 abbrev pub Finishes : {C : Type 0} → (C → Writer) → Result (Unit {0}) RunFault → Solver C → C → Writer → Writer → Type 0
@@ -56,6 +56,7 @@ Finishes seen (Err e) s given before after = Faults e
     (NoneFailed before after × GivenBack seen Broke s given)
     (NoneFailed before after × GivenBack seen Took s given)
     × TookBytes before after []
+    × IsCaused e ⊥ ⊥
 
 -- what a session says of itself
 pub record SumsUp {C : Type 0} (at : Option ℕ) (s : Session C) (summary : Summary) : Type 0 where

@@ -1,12 +1,12 @@
 -- How a run stands between commands, and what one of them leaves.
-use Rattle.std.specs.Prelude.{ℕ, ◌+◌, ◌≤◌, ◌≡◌, None, List, [], ◌∷◌, ◌++◌, OnErr, Result, MatchResult}
+use Rattle.std.specs.Prelude.{ℕ, ◌+◌, ◌≤◌, ◌≡◌, None, List, [], ◌∷◌, ◌++◌, IfErr, OnErr, Result, MatchResult}
 use Rattle.sat_base.specs.device.Device.{Writer, Takes}
 use Rattle.sat_base.specs.script.Script.{Command}
 use Rattle.sat_base.specs.script.Judge.{Judge, Refusal, accepted, after_command, refusal_of}
 use Rattle.sat_solver.specs.names.Calls.{Agree}
 use Rattle.sat_checker.specs.matching.Bridge.{Live}
 use Rattle.sat_solver.specs.session.Making.{Took, Broke}
-use Rattle.sat_solver.specs.solver.Whole.{steps_in}
+use Rattle.sat_solver.specs.solver.Whole.{HasFullStore, steps_in}
 use Rattle.certify.specs.Calls.{NoneFailed, OneFailed}
 use Rattle.certify.specs.answers.AnswerForms.{named_literals}
 use Rattle.certify.specs.answers.Answers.{refused_line}
@@ -19,8 +19,8 @@ use Rattle.certify.specs.judge.Names.{Stands}
 use Rattle.sat_base.specs.script.JudgeLaws.{IsKept}
 use Rattle.certify.specs.reading.Commands.{kind_of}
 use Rattle.sat_base.specs.script.Language.{Reading, command_of, onto_commands}
-use Rattle.certify.specs.run.Unfinished.{TookFront}
-use Rattle.certify.specs.serving.Calls.{Faults, IsReady, proof_in}
+use Rattle.certify.specs.run.Unfinished.{Exceeds, TookFront}
+use Rattle.certify.specs.serving.Calls.{Faults, IsCaused, IsReady, NeedsMore, proof_in}
 use Rattle.certify.specs.serving.Serving.{Place, Serves}
 use Rattle.certify.specs.serving.Quiet.{Solver}
 
@@ -108,6 +108,14 @@ StopsCarrying r old c left before after =
 -- the same of a script that wasn't served from here on
 abbrev pub StopsOver : {T C : Type 0} → Result T RunFault → Session C → Reading → Writer → Writer → Type 0
 StopsOver r old script before after = OnErr r ((j : Judge) → IsAt old j → TookFront (old.commands + 1) j script before after)
+
+-- why the last command, which isn't refused, wasn't carried out, but for devices and memory
+abbrev pub CausedBy : {T C : Type 0} → Result T RunFault → Session C → Session C → Command → Type 0
+CausedBy r old new c = IfErr r (λ e. IsCaused e (HasFullStore new.solver) (NeedsMore old.solver c))
+
+-- the same of a script that wasn't served from here on
+abbrev pub CausedOver : {T C : Type 0} → Result T RunFault → Session C → Session C → Reading → Type 0
+CausedOver r old new script = IfErr r (λ e. IsCaused e (HasFullStore new.solver) ((j : Judge) → IsAt old j → Exceeds old.commands j script))
 
 -- what a part of a run did to the answers' writer and to the certificate: one call of one of them may have failed
 abbrev pub WritesBoth : {T C : Type 0} → Result T RunFault → (C → Writer) → Writer → Writer → Solver C → Solver C → Type 0

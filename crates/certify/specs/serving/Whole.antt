@@ -6,11 +6,11 @@ use Rattle.sat_base.specs.device.Device.{Writer, Takes}
 use Rattle.sat_base.specs.device.Reading.{Source}
 use Rattle.sat_base.specs.script.Script.{Command}
 use Rattle.sat_base.specs.script.Language.{Reading, onto_commands}
-use Rattle.sat_base.specs.script.Judge.{Judge, accepted_of}
+use Rattle.sat_base.specs.script.Judge.{Judge, accepted_of, after_script}
 use Rattle.sat_base.specs.steps.Steps.{Step}
 use Rattle.sat_checker.specs.matching.Expected.{Outcome}
 use Rattle.sat_solver.specs.session.Making.{Took, Broke}
-use Rattle.sat_solver.specs.solver.Whole.{steps_in}
+use Rattle.sat_solver.specs.solver.Whole.{HasFullStore, steps_in}
 use Rattle.certify.specs.Calls.{NoneFailed, OneFailed}
 use Rattle.certify.specs.answers.Answers.{answers_from}
 use Rattle.certify.specs.answers.RightAnswers.{AreRight}
@@ -23,8 +23,8 @@ use Rattle.certify.specs.declared.summary.AskReport.{AskReport}
 use Rattle.certify.specs.reading.Ahead.{Failed, Passed, Took as TookOf}
 use Rattle.certify.specs.reading.Commands.{Means, MeansIf}
 use Rattle.certify.specs.run.FinishedRun.{refused_count, malformed_at, kind_of, AreSpent, asked_steps, identities_given}
-use Rattle.certify.specs.run.Unfinished.{TookFront}
-use Rattle.certify.specs.serving.Calls.{IsReady, proof_in}
+use Rattle.certify.specs.run.Unfinished.{Exceeds, TookFront}
+use Rattle.certify.specs.serving.Calls.{IsCaused, IsReady, proof_in}
 use Rattle.certify.specs.serving.Serving.{Place, Serves}
 use Rattle.certify.specs.serving.Standing.{GoesOn, IsAt, place_in}
 use Rattle.certify.specs.serving.Stretches.{MadeFor}
@@ -35,6 +35,7 @@ pub record ServedAll {C : Type 0} (seen : C → Writer) (j : Judge) (commands : 
     (old new : Session C) (before after : Writer) : Type 0 where
   pub judge : Judge
   pub at : IsAt new judge
+  pub judges : judge ≡ after_script commands j
   pub took : Took seen (proof_in old.solver) (proof_in new.solver)
   pub counted : new.commands ≡ old.commands + length commands
   pub budget : new.budget ≡ old.budget
@@ -110,10 +111,12 @@ FailsWhole seen e a b old new before after = Cause e
     (Passed a b × NoneFailed before after × Broke seen (proof_in old) (proof_in new))
     (Passed a b × NoneFailed before after × Took seen (proof_in old) (proof_in new))
 
--- The script is served to its end; or there's a fault, and a front of right answers was written.
+-- The script is served to its end; or there's a fault, and a front of right answers was written. It is none of store or counter without
+-- a cause.
 abbrev pub Ends : {C : Type 0} → (C → Writer) → Judge → (List ℕ → Reading) → (List ℕ → Reading) → Result (Option ℕ) RunFault
     → Source → Source → Session C → Session C → Writer → Writer → Type 0
 Ends seen j text counted (Ok at) a b old new before after = TookOf false a b × IsReady new.solver × ((total : List ℕ) → Covers b total
     → ServesWhole seen j (text (rest_in total a)) (length (counted (rest_in total a)).0) at old new before after)
 Ends seen j text counted (Err e) a b old new before after = FailsWhole seen e a b old.solver new.solver before after
     × ((total : List ℕ) → Covers b total → TookFront (old.commands + 1) j (text (rest_in total a)) before after)
+    × IsCaused e (HasFullStore new.solver) ((total : List ℕ) → Covers b total → Exceeds old.commands j (text (rest_in total a)))

@@ -1,11 +1,12 @@
 //! Answers an ask.
-ghost use Rattle.std.specs.Prelude.{◌≡◌, [], IfOk, OnOk};
+ghost use Rattle.std.specs.Prelude.{◌≡◌, [], IfErr, IfOk, OnOk};
 ghost use Rattle.sat_base.specs.script.Language.{Reading};
 ghost use Rattle.sat_base.specs.script.Script.{Ask};
+ghost use Rattle.sat_solver.specs.solver.Whole.{HasFullStore};
 ghost use Rattle.certify.specs.answers.AnswerForms.{named_literals};
 ghost use Rattle.certify.specs.serving.Asking.{Sought};
-ghost use Rattle.certify.specs.serving.Calls.{FailsIf, IsAllowed, IsReady};
-ghost use Rattle.certify.specs.serving.Standing.{CarriedOut, StopsCarrying, WritesBoth};
+ghost use Rattle.certify.specs.serving.Calls.{FailsIf, IsAllowed, IsCaused, IsReady, NeedsMore};
+ghost use Rattle.certify.specs.serving.Standing.{CarriedOut, CausedBy, StopsCarrying, WritesBoth};
 
 use super::calls::{assume, search};
 use super::session::Session;
@@ -30,6 +31,7 @@ fn ask<C: CountedWrite + Drop>(
     // No name is refused where there is none.
     ensures allowed { OnOk result (IsAllowed solver.new []) }
     ensures fails { FailsIf result C.seen solver.old solver.new }
+    ensures cause { IfErr result (λ e. IsCaused e (HasFullStore solver.new) (NeedsMore solver.old (Ask (named_literals literals.now)))) }
 {
     assume(solver, literals)?;
     let report = search(solver, budget)?;
@@ -49,6 +51,7 @@ pub fn answer_ask<A: CountedWrite, C: CountedWrite + Drop>(
         (A.seen answers.old) (A.seen answers.new)) }
     ensures stops { (left : Reading)
         → StopsCarrying result session.old (Ask (named_literals literals.now)) left (A.seen answers.old) (A.seen answers.new) }
+    ensures cause { CausedBy result session.old session.new (Ask (named_literals literals.now)) }
     ensures names { session.new.names ≡ session.old.names }
     ensures written { WritesBoth result C.seen (A.seen answers.old) (A.seen answers.new) session.old.solver session.new.solver }
 {

@@ -2,7 +2,7 @@
 ghost use Rattle.std.specs.Prelude.{◌≡◌, ◌+◌, [], ◌∷◌, IfErr, OnOk};
 ghost use Rattle.sat_solver.specs.names.Refusing.{names_in};
 ghost use Rattle.sat_solver.specs.solver.Whole.{IsSolver};
-ghost use Rattle.certify.specs.serving.Calls.{FailsIf, IsCaused, IsReady, LacksRoom};
+ghost use Rattle.certify.specs.serving.Calls.{FailsIf, IsCaused, IsReady, LacksRoom, NeedsMore};
 ghost use Rattle.certify.specs.serving.Obeying.{ChangesName, Obeyed, command_to};
 
 use super::faults::fault_of;
@@ -56,6 +56,8 @@ pub(crate) fn set_names<C: CountedWrite + Drop>(
     requires free { solver.old.assumed.items ≡ [] }
     ensures obeyed { OnOk result (Obeyed C.seen (command_to state (names_in literals.now)) solver.old solver.new) }
     ensures fails { FailsIf result C.seen solver.old solver.new }
+    // No clause is stored.
+    ensures cause { IfErr result (λ e. IsCaused e ⊥ (NeedsMore solver.old (command_to state (names_in literals.now)))) }
 {
     for lit in literals {
         set_name(solver, lit.var(), state)?;

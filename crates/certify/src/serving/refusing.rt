@@ -1,10 +1,11 @@
 //! Refuses commands.
-ghost use Rattle.std.specs.Prelude.{◌+◌, ◌<◌, ◌≡◌, ◌∷◌, [], Some, OnErr, OnOk};
+ghost use Rattle.std.specs.Prelude.{◌+◌, ◌<◌, ◌≡◌, ◌∷◌, [], Some, IfErr, OnErr, OnOk};
 ghost use Rattle.sat_base.specs.script.Judge.{Judge, refusal_of};
 ghost use Rattle.sat_base.specs.script.Language.{Reading, onto_commands};
 ghost use Rattle.sat_base.specs.script.Script.{Command as Spelled};
 ghost use Rattle.certify.specs.run.Unfinished.{TookFront};
 ghost use Rattle.certify.specs.judge.Names.{refusal_in};
+ghost use Rattle.certify.specs.serving.Calls.{IsCaused};
 ghost use Rattle.certify.specs.serving.Standing.{Refused, WritesBoth};
 
 use super::session::Session;
@@ -24,6 +25,8 @@ pub fn refuse<A: CountedWrite, C: CountedWrite + Drop>(
     ensures refused { OnOk result (Refused session.old session.new (refusal_in refusal) (A.seen answers.old) (A.seen answers.new)) }
     ensures stops { (j : Judge) (c : Spelled) (left : Reading) → refusal_of j c ≡ Some (refusal_in refusal)
         → OnErr result (TookFront session.old.commands j (onto_commands (c ∷ []) left) (A.seen answers.old) (A.seen answers.new)) }
+    // No clause is stored, and no name comes in.
+    ensures cause { IfErr result (λ e. IsCaused e ⊥ ⊥) }
     ensures written { WritesBoth result C.seen (A.seen answers.old) (A.seen answers.new) session.old.solver session.new.solver }
 {
     session.refused += 1;

@@ -5,7 +5,7 @@ ghost use Rattle.sat_base.specs.script.Script.{Command as Spelled};
 ghost use Rattle.sat_base.specs.script.Judge.{Judge, accepted};
 ghost use Rattle.certify.specs.judge.Names.{Stands};
 ghost use Rattle.certify.specs.reading.Commands.{IsLent, IsSomeLent};
-ghost use Rattle.certify.specs.serving.Standing.{Allows, CarriedOut, GoesOn, ServedNext, StopsCarrying, StopsOver, WritesBoth, spelled_by};
+ghost use Rattle.certify.specs.serving.Standing.{Allows, CarriedOut, CausedBy, CausedOver, GoesOn, ServedNext, StopsCarrying, StopsOver, WritesBoth, spelled_by};
 
 use super::asking::answer_ask;
 use super::calls::add_clause;
@@ -27,6 +27,7 @@ fn carry_out<A: CountedWrite, C: CountedWrite + Drop>(
     requires allowed { Allows session.old.names (spelled_by command) }
     ensures carried { OnOk result (CarriedOut C.seen session.old session.new (spelled_by command.entry) (A.seen answers.old) (A.seen answers.new)) }
     ensures stops { (left : Reading) → StopsCarrying result session.old (spelled_by command.entry) left (A.seen answers.old) (A.seen answers.new) }
+    ensures cause { CausedBy result session.old session.new (spelled_by command.entry) }
     ensures names { session.new.names ≡ session.old.names }
     ensures written { WritesBoth result C.seen (A.seen answers.old) (A.seen answers.new) session.old.solver session.new.solver }
 {
@@ -52,6 +53,7 @@ fn take_allowed<A: CountedWrite, C: CountedWrite + Drop>(
     requires within { command.past_limit ≡ false }
     ensures carried { OnOk result (CarriedOut C.seen session.old session.new (spelled_by command.entry) (A.seen answers.old) (A.seen answers.new)) }
     ensures stops { (left : Reading) → StopsCarrying result session.old (spelled_by command.entry) left (A.seen answers.old) (A.seen answers.new) }
+    ensures cause { CausedBy result session.old session.new (spelled_by command.entry) }
     ensures names { OnOk result ((j : Judge) (c : Spelled) → Stands session.old.names j → IsLent command.entry c
         → Stands session.new.names (accepted c j)) }
     ensures written { WritesBoth result C.seen (A.seen answers.old) (A.seen answers.new) session.old.solver session.new.solver }
@@ -74,6 +76,8 @@ pub fn take_command<A: CountedWrite, C: CountedWrite + Drop>(
         → OnOk result (ServedNext C.seen session.old session.new c (A.seen answers.old) (A.seen answers.new)) }
     ensures stops { (c : Spelled) → IsLent command.entry c → (left : Reading)
         → StopsOver result session.old (onto_commands (c ∷ []) left) (A.seen answers.old) (A.seen answers.new) }
+    ensures cause { (c : Spelled) → IsLent command.entry c → (left : Reading)
+        → CausedOver result session.old session.new (onto_commands (c ∷ []) left) }
     ensures written { WritesBoth result C.seen (A.seen answers.old) (A.seen answers.new) session.old.solver session.new.solver }
 {
     session.commands += 1;

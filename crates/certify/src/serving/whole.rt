@@ -1,5 +1,5 @@
 //! Serves the commands of a script as they come, and then its end.
-ghost use Rattle.std.specs.Prelude.{◌≡◌, ◌+◌, ◌∷◌, [], false, IfOk, OnErr, OnOk};
+ghost use Rattle.std.specs.Prelude.{◌≡◌, ◌+◌, ◌∷◌, [], false, IfErr, IfOk, OnErr, OnOk};
 ghost use Rattle.sat_base.specs.device.Device.{Takes};
 ghost use Rattle.sat_base.specs.script.Judge.{Judge, start};
 ghost use Rattle.sat_base.specs.script.Script.{Command as Spelled, Malformed};
@@ -8,8 +8,8 @@ ghost use Rattle.certify.specs.reading.Ahead.{IsOpen, source_in};
 ghost use Rattle.certify.specs.reading.Commands.{IsLent, IsSomeLent, Means, MeansIf, end_reading};
 ghost use Rattle.sat_base.specs.script.Language.{Reading, onto_commands, reading, written};
 ghost use Rattle.certify.specs.run.Unfinished.{TookFront};
-ghost use Rattle.certify.specs.serving.Calls.{IsReady};
-ghost use Rattle.certify.specs.serving.Standing.{GoesOn, IsAt, ServedNext, StopsOver, WritesBoth};
+ghost use Rattle.certify.specs.serving.Calls.{IsCaused, IsReady};
+ghost use Rattle.certify.specs.serving.Standing.{CausedOver, GoesOn, IsAt, ServedNext, StopsOver, WritesBoth};
 ghost use Rattle.certify.specs.serving.Whole.{Ends, ServesWhole, run_fault};
 
 use super::asking::answer_ask;
@@ -44,6 +44,8 @@ fn serve_next<A: CountedWrite, C: CountedWrite + Drop>(
         → OnOk result (ServedNext C.seen session.old session.new c (A.seen answers.old) (A.seen answers.new)) }
     ensures stops { (c : Spelled) → IsLent command.entry c → (left : Reading)
         → StopsOver result session.old (onto_commands (c ∷ []) left) (A.seen answers.old) (A.seen answers.new) }
+    ensures cause { (c : Spelled) → IsLent command.entry c → (left : Reading)
+        → CausedOver result session.old session.new (onto_commands (c ∷ []) left) }
     ensures written { WritesBoth result C.seen (A.seen answers.old) (A.seen answers.new) session.old.solver session.new.solver }
 {
     if session.commands == u64::MAX {
@@ -61,6 +63,7 @@ fn tell_malformed<A: CountedWrite, C: CountedWrite + Drop>(
     ensures told { OnOk result (Takes (A.seen answers.old) (A.seen answers.new) (malformed_line number)) }
     ensures same { session.new ≡ record session.old { page = session.new.page } }
     ensures stops { (j : Judge) → OnErr result (TookFront number j ([], Malformed) (A.seen answers.old) (A.seen answers.new)) }
+    ensures cause { IfErr result (λ e. IsCaused e ⊥ ⊥) }
     ensures written { WritesBoth result C.seen (A.seen answers.old) (A.seen answers.new) session.old.solver session.new.solver }
 {
     session.page.text.clear();
@@ -78,6 +81,7 @@ fn serve_end<A: CountedWrite, C: CountedWrite + Drop>(
     ensures serves { (j : Judge) → IsAt session.old j
         → IfOk result (λ at. ServesWhole C.seen j (end_reading end) 0 at session.old session.new (A.seen answers.old) (A.seen answers.new)) }
     ensures stops { StopsOver result session.old (end_reading end) (A.seen answers.old) (A.seen answers.new) }
+    ensures cause { CausedOver result session.old session.new (end_reading end) }
     ensures ready { OnOk result (IsReady session.new.solver) }
     ensures written { WritesBoth result C.seen (A.seen answers.old) (A.seen answers.new) session.old.solver session.new.solver }
 {
@@ -111,6 +115,8 @@ fn serve_last<A: CountedWrite, C: CountedWrite + Drop>(
         (A.seen answers.old) (A.seen answers.new)) }
     ensures stops { (c : Spelled) → IsLent command.entry c
         → StopsOver result session.old (onto_commands (c ∷ []) (end_reading end)) (A.seen answers.old) (A.seen answers.new) }
+    ensures cause { (c : Spelled) → IsLent command.entry c
+        → CausedOver result session.old session.new (onto_commands (c ∷ []) (end_reading end)) }
     ensures ready { OnOk result (IsReady session.new.solver) }
     ensures written { WritesBoth result C.seen (A.seen answers.old) (A.seen answers.new) session.old.solver session.new.solver }
 {

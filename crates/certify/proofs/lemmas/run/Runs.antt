@@ -1,5 +1,6 @@
 -- What a run has done at its end.
 use Rattle.std.proofs.Common.{ℕ, ◌+◌, ◌≤◌, ◌≡◌, ◌∙◌, true, false, Option, Some, None, List, [], ◌∷◌, ◌++◌, map, length, Result, Ok, Err, OnErr, OnOk, IfOk, refl, sym, ap, subst, arith, append-nil}
+use Rattle.std.specs.Prelude.{IsErrOf}
 use Rattle.std.proofs.Math.Logic.{∥∥₁_elim, ∥∥₁_prop}
 use Rattle.sat_base.specs.device.Device.{Reader, Writer, GaveEnough, Takes, lent_writer, most_reads}
 use Rattle.sat_base.specs.device.Reading.{Source, unread}
@@ -17,7 +18,7 @@ use Rattle.sat_solver.specs.session.ProofTexts.{TookText}
 use Rattle.sat_solver.specs.session.ProofView.{Closed, Open, Broken, Carries, Stops, Gives, TakesAll, is_open, target_of}
 use Rattle.sat_solver.specs.session.Session.{MayAll}
 use Rattle.sat_solver.specs.solver.Fronts.{Went}
-use Rattle.sat_solver.specs.solver.Whole.{steps_in}
+use Rattle.sat_solver.specs.solver.Whole.{HasFullStore, steps_in}
 use Rattle.sat_solver.proofs.lemmas.session.CutsLemmas.{cuts_are_free}
 use Rattle.sat_solver.proofs.lemmas.session.ProofLemmas.{closed_is_text}
 use Rattle.sat_solver.proofs.lemmas.session.StepLemmas.{sessions_are_accepted}
@@ -34,8 +35,8 @@ use Rattle.certify.specs.reading.Ahead.{source_in, waiting}
 use Rattle.sat_base.specs.script.Language.{reading, written}
 use Rattle.certify.specs.run.FinishedRun.{Answered, Answers, Backs, TookCertificate, asked_steps, identities_given, malformed_at, AreSpent}
 use Rattle.certify.specs.run.Running.{ReadsFew, Runs, Wrote}
-use Rattle.certify.specs.run.Unfinished.{StepsFront, TookFront, TookSteps, Unfinished}
-use Rattle.certify.specs.serving.Calls.{Faults, IsReady, proof_in}
+use Rattle.certify.specs.run.Unfinished.{CounterEnds, Exceeds, StepsFront, TookFront, TookSteps, Unfinished}
+use Rattle.certify.specs.serving.Calls.{IsCaused, Faults, IsReady, proof_in}
 use Rattle.certify.specs.serving.Certifies.{Certifies, complete, ordered}
 use Rattle.certify.specs.serving.Ending.{ClosedBy, EndsRun, GivenBack, GivesFront, HasTarget, IsOpen, SumsUp}
 use Rattle.certify.specs.serving.Standing.{place_in}
@@ -268,6 +269,23 @@ module _ {C : Type 0} (seen : C → Writer) (budget : ℕ) (w : Writer) (s t : S
       first_command (rest_in total (unread x)) z (front_whole s.budget (place_in s start) (reading (rest_in total (unread x))) (steps_in t.solver) all.text all.reports all.refused u v z all.serves all.told f.1))
   unfinished_so (Err e) r h f = subst (λ (q : Result Summary RunFault). OnErr q (Unfinished (x, b.reader) (u, z))) (sym f.0)
       (served_front e h.0 (λ total k. subst (λ (w : Writer). Front (rest_in total (unread x)) w) (sym f.1) (first_command (rest_in total (unread x)) v (h.1 total k))))
+
+  -- why a counter has ended
+  served_end : (e : RunFault) → e ≡ fault.CounterEnd → FailsWhole seen e (unread x) b s.solver t.solver u v
+      → IsCaused e (HasFullStore t.solver) ((total : List ℕ) → Covers b total → Exceeds s.commands start (reading (rest_in total (unread x)))) → CounterEnds (x, b.reader)
+  served_end fault.ScriptRead q h k = absurd (cc)
+  served_end fault.AnswersWrite q h k = absurd (cc)
+  served_end fault.CertificateWrite q h k = absurd (cc)
+  served_end fault.OutOfMemory q h k = absurd (cc)
+  served_end fault.StoreFull q h k = absurd (cc)
+  served_end fault.CounterEnd q h k =
+      passed_front 1 x b h.0.0 (λ text. Exceeds 0 start (reading text)) h.0.1
+      (λ total y. subst (λ n. Exceeds n start (reading (rest_in total (unread x)))) fresh.commands (k total y))
+
+  pub counter_so : (served : Result (Option ℕ) RunFault) (r : Result Summary RunFault) → Ends seen start reading written served (unread x) b s t u v → EndsRun seen served r t given v z → IsErrOf r fault.CounterEnd → CounterEnds (x, b.reader)
+  counter_so (Ok at) (Ok summary) h f q = absurd (cc)
+  counter_so (Ok at) (Err e) h f q = let k : e ≡ fault.CounterEnd = cc in absurd (subst (λ i. IsCaused i ⊥ ⊥) k f.2)
+  counter_so (Err e) r h f q = let k : ◌≡◌ {A = Result Summary RunFault} (Err e) (Err fault.CounterEnd) = sym f.0 ∙ q in served_end e (cc) h.0 h.2
 
   -- what it has written of the certificate
   fails_went : (e : RunFault) → FailsWhole seen e (unread x) b s.solver t.solver u v → Went seen s.solver t.solver

@@ -33,14 +33,14 @@ apart e = cc
 none_some : (r : Refusal) → None ≡ Some r → ⊥
 none_some r e = cc
 
--- the same for what comes of a cause
-pub caused_map : (e : RunFault) (full P Q : Type 0) → (P → Q) → IsCaused e full P → IsCaused e full Q
-caused_map fault.ScriptRead full P Q f h = h
-caused_map fault.AnswersWrite full P Q f h = h
-caused_map fault.CertificateWrite full P Q f h = h
-caused_map fault.OutOfMemory full P Q f h = h
-caused_map fault.StoreFull full P Q f h = h
-caused_map fault.CounterEnd full P Q f h = f h
+-- the same for what comes of its causes
+pub caused_map : (e : RunFault) (full lacks P Q : Type 0) → (full → P) → (lacks → Q) → IsCaused e full lacks → IsCaused e P Q
+caused_map fault.ScriptRead full lacks P Q f g h = h
+caused_map fault.AnswersWrite full lacks P Q f g h = h
+caused_map fault.CertificateWrite full lacks P Q f g h = h
+caused_map fault.OutOfMemory full lacks P Q f g h = h
+caused_map fault.StoreFull full lacks P Q f g h = f h
+caused_map fault.CounterEnd full lacks P Q f g h = g h
 
 module _ {C : Type 0} (seen : C → Writer) (a b : Solver C) where
   ends : {full : Type 0} (e : SolverError) → EndsNamesOr full seen e a b → FailsSolver seen (fault_for e) a b
@@ -61,7 +61,7 @@ module _ {C : Type 0} (seen : C → Writer) (a b : Solver C) where
   ends errors.OutOfRange h = (h.breaks.steps, h.breaks.went)
 
   -- nobody complains of a checker that isn't there
-  complains_never : (k : CheckFault) → is_checked (proof_in a) ≡ false → (steps : List Step) → FailsCheck seen k steps (proof_in a) (proof_in b) → ⊥
+  pub complains_never : (k : CheckFault) → is_checked (proof_in a) ≡ false → (steps : List Step) → FailsCheck seen k steps (proof_in a) (proof_in b) → ⊥
   complains_never k alone steps h = go (proof_in b).made.own (ap is_some h.adds.listening ∙ alone) h.why
     where
       go : (own : Option (Checked Nobody)) → is_some (listed_in own (proof_in b).made.roll.items) ≡ false → ComplainsIn ghosts.takes k own (proof_in b).made.roll.items (proof_in b).made.history.steps → ⊥
@@ -86,7 +86,7 @@ module _ {C : Type 0} (seen : C → Writer) (a b : Solver C) where
   caused full errors.VariableLimit alone f steps w = absurd f
 
   ends_caused : (full lacks : Type 0) (e : SolverError) → IsReady a → EndsNamesOr full seen e a b → IsCaused (fault_for e) full lacks
-  ends_caused full lacks e ready h = caused_map (fault_for e) full ⊥ lacks (λ x. absurd x) (caused full e ready.unchecked h.fault h.breaks.steps h.breaks.went)
+  ends_caused full lacks e ready h = caused_map (fault_for e) full ⊥ full lacks (λ x. x) (λ x. absurd x) (caused full e ready.unchecked h.fault h.breaks.steps h.breaks.went)
 
   stays : b ≡ a → Took seen (proof_in a) (proof_in b)
   stays e = subst (λ (s : Solver C). Took seen (proof_in a) (proof_in s)) (sym e) (took_none seen (proof_in a))

@@ -9,10 +9,11 @@ use Rattle.sat_solver.specs.declared.session.made.CheckFault.TheVariants as chec
 use Rattle.sat_solver.specs.session.Making.{Took, Broke}
 use Rattle.sat_solver.specs.session.ProofView.{Adds, FailsCheck, Gives, target_of}
 use Rattle.sat_solver.specs.solver.Proving.{ClosesProof}
-use Rattle.certify.specs.serving.Calls.{Faults, IsReady, fault_for, proof_in}
+use Rattle.certify.specs.serving.Calls.{Faults, IsCaused, IsReady, fault_for, proof_in}
 use Rattle.certify.specs.declared.fault.RunFault.{RunFault}
 use Rattle.certify.specs.declared.fault.RunFault.TheVariants as fault
 use Rattle.certify.specs.serving.Ending.{Closes, Finishes, GivenBack}
+use Rattle.certify.proofs.lemmas.serving.CallFaults.{complains_never}
 use Rattle.certify.proofs.lemmas.serving.Stopping.{bytes_none}
 use Rattle.certify.specs.serving.Quiet.{Solver}
 
@@ -39,11 +40,29 @@ closing_fails seen errors.Read old new given ready h g = absurd h
 closing_fails seen errors.Malformed old new given ready h g = absurd h
 closing_fails seen errors.OutOfRange old new given ready h g = absurd h
 
+-- for which no store is to blame and no counter, since nobody checks the steps
+pub closing_caused : {C : Type 0} (seen : C → Writer) (e : SolverError) (old new : Solver C) → IsReady old → ClosesProof seen (Err e) old new → IsCaused (fault_for e) ⊥ ⊥
+closing_caused seen errors.HasFailed old new ready h = absurd (true≢false (sym h.cause ∙ ready.going))
+closing_caused seen (errors.ProofIoError cause) old new ready h = tt
+closing_caused seen errors.OutOfMemory old new ready h = tt
+closing_caused seen errors.Interrupted old new ready h = absurd h
+closing_caused seen (errors.ProofProcessorError cause) old new ready h = absurd (complains_never seen old new (checks.Processor cause) ready.unchecked (End ∷ []) h.fails)
+closing_caused seen errors.WitnessVariable old new ready h = absurd h
+closing_caused seen errors.AssumedVariable old new ready h = absurd h
+closing_caused seen errors.TooLate old new ready h = absurd h
+closing_caused seen errors.NotInDrat old new ready h = absurd h
+closing_caused seen errors.StoreFull old new ready h = absurd h
+closing_caused seen errors.VariableLimit old new ready h = absurd h
+closing_caused seen errors.CounterEnd old new ready h = absurd (complains_never seen old new checks.CounterEnd ready.unchecked (End ∷ []) h.fails)
+closing_caused seen errors.Read old new ready h = absurd h
+closing_caused seen errors.Malformed old new ready h = absurd h
+closing_caused seen errors.OutOfRange old new ready h = absurd h
+
 -- and the answers' writer was left alone
 pub closing_keeps : {C : Type 0} (seen : C → Writer) (e : RunFault) (s : Solver C) (given : C) (w : Writer) → Closes seen (Err e) s given → Finishes seen (Err e) s given w w
-closing_keeps seen fault.ScriptRead s given w f = absurd f
-closing_keeps seen fault.AnswersWrite s given w f = absurd f
-closing_keeps seen fault.CertificateWrite s given w f = (((refl, refl), f), bytes_none w)
-closing_keeps seen fault.OutOfMemory s given w f = (((refl, refl), f), bytes_none w)
-closing_keeps seen fault.StoreFull s given w f = (((refl, refl), f), bytes_none w)
-closing_keeps seen fault.CounterEnd s given w f = (((refl, refl), f), bytes_none w)
+closing_keeps seen fault.ScriptRead s given w f = absurd f.0
+closing_keeps seen fault.AnswersWrite s given w f = absurd f.0
+closing_keeps seen fault.CertificateWrite s given w f = (((refl, refl), f.0), bytes_none w, f.1)
+closing_keeps seen fault.OutOfMemory s given w f = (((refl, refl), f.0), bytes_none w, f.1)
+closing_keeps seen fault.StoreFull s given w f = (((refl, refl), f.0), bytes_none w, f.1)
+closing_keeps seen fault.CounterEnd s given w f = (((refl, refl), f.0), bytes_none w, f.1)

@@ -44,7 +44,7 @@ lent_allowed names lent h within judges j stands =
     sym (judges j (spelled_by lent) stands (subst (IsLent lent) (lent_is lent h.0 h.1 within) h.1))
 
 module _ (lent : Lent) where
-  spelled_as : (k : CommandKind) → lent.kind ≡ k → spelled_by lent ≡ command_of (kind_of k) (named_literals lent.literals.now)
+  pub spelled_as : (k : CommandKind) → lent.kind ≡ k → spelled_by lent ≡ command_of (kind_of k) (named_literals lent.literals.now)
   spelled_as k e = ap (λ x. command_of (kind_of x) (named_literals lent.literals.now)) e
 
   pub lent_hides : lent.kind ≡ kind.Hide → spelled_by lent ≡ command_to state.Hidden (names_in lent.literals.now)

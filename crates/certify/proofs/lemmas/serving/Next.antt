@@ -26,7 +26,7 @@ counted s = record s { commands = s.commands + 1 }
 pub starts_at : {C : Type 0} (s : Session C) → Agree s.solver.names [] start [] → steps_in s.solver ≡ [] → Stands s.names start → IsAt s start
 starts_at s agree none names = record { live = []; means = record { agree = subst (λ steps. Agree s.solver.names steps start []) (sym none) agree; kept = start_kept }; names = names }
 
-after_accepted : (j : Judge) (c : Command) → refusal_of j c ≡ None → after_command c j ≡ accepted c j
+pub after_accepted : (j : Judge) (c : Command) → refusal_of j c ≡ None → after_command c j ≡ accepted c j
 after_accepted j c e = rw e refl
 
 after_refused : (j : Judge) (c : Command) (r : Refusal) → refusal_of j c ≡ Some r → after_command c j ≡ j

@@ -48,7 +48,7 @@ setting_both mode (x ∷ xs) ys j =
     let next = with_mode mode x (bring_in x j) in
     ap (λ es. map NewName (new_names x j) ++ es) (setting_both mode xs ys next) ∙ sym (append_assoc (map NewName (new_names x j)) (setting mode xs next) (setting mode ys (set_all mode xs next)))
 
-accepted_both : (st : NameState) (xs ys : List ℕ) (j : Judge) → accepted (command_to st (xs ++ ys)) j ≡ accepted (command_to st ys) (accepted (command_to st xs) j)
+pub accepted_both : (st : NameState) (xs ys : List ℕ) (j : Judge) → accepted (command_to st (xs ++ ys)) j ≡ accepted (command_to st ys) (accepted (command_to st xs) j)
 accepted_both state.Hidden xs ys j = hidden_both xs ys j
 accepted_both state.Sampled xs ys j = set_both Sampled xs ys j
 accepted_both state.Witnessed xs ys j = set_both Witnessed xs ys j

@@ -65,13 +65,20 @@ searched_ready seen budget report a b s = did_ready seen s.mid b _ _ s.limited.r
 pub sought_took : {C : Type 0} (seen : C → Writer) (a b c : Solver C) (user : List ℕ) (budget : ℕ) (report : AskReport) → Assumed seen a b user → Searched seen budget report b c → Took seen (proof_in a) (proof_in c)
 sought_took seen a b c user budget report opened s = took_both seen (proof_in a) (proof_in b) (proof_in c) (opened.did Unknown).took (search_took seen budget report b c s)
 
--- some state of the judge agrees with a solver still, and no name is refused where there is none
+-- a solver still agrees with the judge
+pub agree_still : {C : Type 0} (seen : C → Writer) (a b c : Solver C) (user : List ℕ) (budget : ℕ) (report : AskReport) → Assumed seen a b user → Searched seen budget report b c
+    → (j : Judge) (live : Live) → solver.Agree a.names (steps_in a) j live → (then : Live) × solver.Agree c.names (steps_in c) (bring_all (names_in user) j) then
+agree_still seen a b c user budget report opened s j live agree =
+    let k = (opened.did Unknown).does.kept j live agree in
+    let at = subst (λ ns. solver.Agree ns (steps_in s.mid) (bring_all (names_in user) j) k.live) (sym s.limited.names) (subst (λ (p : Proof _). solver.Agree b.names (steps_of p) (bring_all (names_in user) j) k.live) (sym s.limited.proof) k.agree) in
+    let n = s.solved.answered.did.does.kept (bring_all (names_in user) j) k.live at in
+    (n.live, n.agree)
+
+-- some state of the judge agrees with it, and no name is refused where there is none
 pub allowed_still : {C : Type 0} (seen : C → Writer) (a b c : Solver C) (user : List ℕ) (budget : ℕ) (report : AskReport) → IsAllowed a user → Assumed seen a b user → Searched seen budget report b c → IsAllowed c []
 allowed_still seen a b c user budget report allowed opened s =
-    let k = (opened.did Unknown).does.kept allowed.0 allowed.1 allowed.2 in
-    let at = subst (λ ns. solver.Agree ns (steps_in s.mid) (bring_all (names_in user) allowed.0) k.live) (sym s.limited.names) (subst (λ (p : Proof _). solver.Agree b.names (steps_of p) (bring_all (names_in user) allowed.0) k.live) (sym s.limited.proof) k.agree) in
-    let n = s.solved.answered.did.does.kept (bring_all (names_in user) allowed.0) k.live at in
-    (bring_all (names_in user) allowed.0, n.live, n.agree, refl)
+    let n = agree_still seen a b c user budget report opened s allowed.0 allowed.1 allowed.2 in
+    (bring_all (names_in user) allowed.0, n.0, n.1, refl)
 
 -- an answer was written, and nothing is assumed any more
 pub asked_of : {C : Type 0} (seen : C → Writer) (old new : Session C) (now : Solver C) (user text : List ℕ) (report : AskReport) (before after : Writer)

@@ -7,12 +7,12 @@ use Rattle.sat_base.specs.device.Device.{Writer, Breaks, Takes}
 use Rattle.sat_base.specs.device.Reading.{Source, AtEnd}
 use Rattle.sat_base.specs.script.Script.{Command, Ask, Ending, Clean, Malformed}
 use Rattle.sat_base.specs.script.Language.{Reading, onto_commands}
-use Rattle.sat_base.specs.script.Judge.{Judge, accepted, accepted_of, after_command}
+use Rattle.sat_base.specs.script.Judge.{Judge, accepted, accepted_of, after_command, after_script}
 use Rattle.sat_base.specs.steps.Steps.{Step}
 use Rattle.sat_base.proofs.lemmas.device.Writes as writes
 use Rattle.sat_checker.specs.matching.Expected.{Outcome}
 use Rattle.sat_solver.specs.session.Making.{Took, Broke}
-use Rattle.sat_solver.specs.solver.Whole.{steps_in}
+use Rattle.sat_solver.specs.solver.Whole.{HasFullStore, steps_in}
 use Rattle.certify.specs.Calls.{NoneFailed, OneFailed}
 use Rattle.certify.specs.answers.Answers.{answers_from, ending_text, malformed_line}
 use Rattle.certify.specs.confirm.Streams.{Covers, rest_in}
@@ -28,14 +28,16 @@ use Rattle.certify.specs.reading.Ahead.{Passed, Took as TookOf}
 use Rattle.certify.specs.reading.Commands.{HasWhole, Means, MeansIf, ReachesCommand, end_reading, end_if}
 use Rattle.certify.specs.reading.Streaming.{Arrives, Comes}
 use Rattle.certify.specs.run.FinishedRun.{malformed_at, kind_of, asked_steps}
-use Rattle.certify.specs.run.Unfinished.{BeginAnswers, TookFront}
-use Rattle.certify.specs.serving.Calls.{Faults, IsReady, proof_in}
+use Rattle.certify.specs.run.Unfinished.{BeginAnswers, Exceeds, TookFront}
+use Rattle.certify.specs.serving.Calls.{Faults, IsCaused, IsReady, proof_in}
 use Rattle.certify.specs.serving.Serving.{Place, Serves}
-use Rattle.certify.specs.serving.Standing.{CarriedOut, GoesOn, IsAt, ServedNext, StopsCarrying, StopsOver, WritesBoth, last_place, place_in}
+use Rattle.certify.specs.serving.Standing.{CarriedOut, CausedOver, GoesOn, IsAt, ServedNext, StopsCarrying, StopsOver, WritesBoth, last_place, place_in}
 use Rattle.certify.specs.serving.Stretches.{MadeFor, made_none}
 use Rattle.certify.specs.serving.Whole.{Ends, FailsWhole, GoesThrough, ServedAll, ServesTo, ServesWhole, run_fault}
 use Rattle.certify.proofs.lemmas.confirm.Streams.{all_over, covers_fault, nothing_behind, taken_front}
 use Rattle.certify.proofs.lemmas.matching.Joining.{covers_took, failed_then, took_none as took_nothing, took_open, took_passed, took_then}
+use Rattle.certify.proofs.lemmas.serving.CallFaults.{caused_map}
+use Rattle.certify.proofs.lemmas.serving.Caused.{after_both, caused_all, exceeds_later}
 use Rattle.certify.proofs.lemmas.serving.Served.{serves_none, serves_then}
 use Rattle.certify.proofs.lemmas.serving.SessionCalls.{took_none, took_both, broke_later}
 use Rattle.certify.proofs.lemmas.serving.Stopping.{front_later, front_malformed, front_none, front_served}
@@ -75,6 +77,7 @@ module _ {C : Type 0} (seen : C → Writer) where
   served_none j s w at = record {
     judge = j;
     at = at;
+    judges = refl;
     took = took_none seen (proof_in s.solver);
     counted = omega arith;
     budget = refl;
@@ -97,6 +100,7 @@ module _ {C : Type 0} (seen : C → Writer) where
       record {
         judge = after_command c f.judge;
         at = h.0;
+        judges = ap (after_command c) f.judges ∙ sym (after_both cs (c ∷ []) j);
         took = took_both seen (proof_in a.solver) (proof_in b.solver) (proof_in d.solver) f.took g.took;
         counted = omega arith;
         budget = g.budget ∙ f.budget;
@@ -286,15 +290,24 @@ module _ {C : Type 0} (seen : C → Writer) (j : Judge) (text counted : List ℕ
   served_so_far : (c : Source) → ((total : List ℕ) → Covers c total → Covers b total) → (total : List ℕ) → Covers c total → TookFront (old.commands + 1) j (text (rest_in total a)) u v
   served_so_far c back = behind c (λ total. through.left (rest_in total b)) v back (λ total k. refl) (λ total k. front_none (mid.commands + 1) through.served.judge (through.left (rest_in total b)) v)
 
+  -- why no more was served, but for devices and memory
+  caused : (e : RunFault) (c : Source) (new : Session C) (script : List ℕ → Reading) → ((total : List ℕ) → Covers c total → Covers b total) → ((total : List ℕ) → Covers c total → through.left (rest_in total b) ≡ script total)
+      → IsCaused e (HasFullStore new.solver) ((total : List ℕ) (i : Judge) → IsAt mid i → Exceeds mid.commands i (script total)) → IsCaused e (HasFullStore new.solver) ((total : List ℕ) → Covers c total → Exceeds old.commands j (text (rest_in total a)))
+  caused e c new script back is h =
+      let f = through.served in
+      caused_map e (HasFullStore new.solver) ((total : List ℕ) (i : Judge) → IsAt mid i → Exceeds mid.commands i (script total)) (HasFullStore new.solver) ((total : List ℕ) → Covers c total → Exceeds old.commands j (text (rest_in total a))) (λ x. x)
+      (λ k total y. subst (λ s. Exceeds old.commands j s) (sym (through.reads total (back total y) ∙ ap (onto_commands through.commands) (is total y)))
+      (exceeds_later old.commands mid.commands through.commands (script total) j f.counted (subst (λ i. Exceeds mid.commands i (script total)) f.judges (k total f.judge f.at)))) h
+
   -- the script can't be read any more
   pub unread : (e : ReadError) (c : Source) → Comes (Err e) b c reader after_reader → Ends seen j text counted (Err (run_fault e)) a c old mid u v
-  unread errors.Failed c f = ((failed_then a b c through.took f, none_failed, through.served.took), served_so_far c (λ total k. covers_fault b c f.0 total mid_open f.1 k))
-  unread errors.OutOfMemory c f = ((took_passed true a c (took_then true a b c through.took f), none_failed, through.served.took), served_so_far c (λ total k. covers_took true b c total mid_open f k))
+  unread errors.Failed c f = ((failed_then a b c through.took f, none_failed, through.served.took), served_so_far c (λ total k. covers_fault b c f.0 total mid_open f.1 k), tt)
+  unread errors.OutOfMemory c f = ((took_passed true a c (took_then true a b c through.took f), none_failed, through.served.took), served_so_far c (λ total k. covers_took true b c total mid_open f k), tt)
 
   -- the end
   module _ (c : Source) (new : Session C) (w : Writer) (took : TookOf false b c) (left plain : Reading) (is : (total : List ℕ) → Covers c total → through.left (rest_in total b) ≡ left) (is_plain : (total : List ℕ) → Covers c total → through.plain (rest_in total b) ≡ plain) where
-    whole : (r : Result (Option ℕ) RunFault) → OnOk r (IsReady new.solver) → IfOk r (λ at. ServesWhole seen through.served.judge left (length plain.0) at mid new v w) → WritesBoth r seen v w mid.solver new.solver → StopsOver r mid left v w → Ends seen j text counted r a c old new u w
-    whole (Ok at) ready serves both front = (
+    whole : (r : Result (Option ℕ) RunFault) → OnOk r (IsReady new.solver) → IfOk r (λ at. ServesWhole seen through.served.judge left (length plain.0) at mid new v w) → WritesBoth r seen v w mid.solver new.solver → StopsOver r mid left v w → CausedOver r mid new left → Ends seen j text counted r a c old new u w
+    whole (Ok at) ready serves both front cause = (
       took_then false a b c through.took took,
       ready,
       λ total k.
@@ -304,9 +317,10 @@ module _ {C : Type 0} (seen : C → Writer) (j : Judge) (text counted : List ℕ
           subst (λ (z : Reading). ServesWhole seen j z (length (counted (rest_in total a)).0) at old new u w) (sym script)
           (subst (λ (n : ℕ). ServesWhole seen j (onto_commands through.commands left) n at old new u w) (sym count) (served_whole seen j through.commands left (length plain.0) at old mid new u v w through.served serves)),
     )
-    whole (Err e) ready serves both front = (
+    whole (Err e) ready serves both front cause = (
       fails_then seen e a c old.solver mid.solver new.solver u v w (took_passed false a c (took_then false a b c through.took took)) none_failed through.served.took both,
       behind c (λ total. left) w (λ total k. covers_took false b c total mid_open took k) is (λ total k. front through.served.judge through.served.at),
+      caused e c new (λ total. left) (λ total k. covers_took false b c total mid_open took k) is (caused_map e (HasFullStore new.solver) ((i : Judge) → IsAt mid i → Exceeds mid.commands i left) (HasFullStore new.solver) (List ℕ → (i : Judge) → IsAt mid i → Exceeds mid.commands i left) (λ x. x) (λ k total. k) cause),
     )
 
   no_commands : (e : ScriptEnd) → length (end_if false e).0 ≡ 0
@@ -315,22 +329,23 @@ module _ {C : Type 0} (seen : C → Writer) (j : Judge) (text counted : List ℕ
   no_commands ends.Malformed = refl
 
   pub ends_so : (c : Source) (new : Session C) (w : Writer) (e : ScriptEnd) (r : Result (Option ℕ) RunFault) → Arrives (next.End e) b c reader after_reader → OnOk r (IsReady new.solver)
-      → ((i : Judge) → IsAt mid i → IfOk r (λ at. ServesWhole seen i (end_reading e) 0 at mid new v w)) → WritesBoth r seen v w mid.solver new.solver → StopsOver r mid (end_reading e) v w → Ends seen j text counted r a c old new u w
-  ends_so c new w e r came ready serves both front =
+      → ((i : Judge) → IsAt mid i → IfOk r (λ at. ServesWhole seen i (end_reading e) 0 at mid new v w)) → WritesBoth r seen v w mid.solver new.solver → StopsOver r mid (end_reading e) v w → CausedOver r mid new (end_reading e) → Ends seen j text counted r a c old new u w
+  ends_so c new w e r came ready serves both front cause =
       whole c new w came.0 (end_reading e) (end_if false e) (came.1 true through.left through.means) (came.1 false through.plain through.counts) r ready
-      (subst (λ (n : ℕ). IfOk r (λ at. ServesWhole seen through.served.judge (end_reading e) n at mid new v w)) (sym (no_commands e)) (serves through.served.judge through.served.at)) both front
+      (subst (λ (n : ℕ). IfOk r (λ at. ServesWhole seen through.served.judge (end_reading e) n at mid new v w)) (sym (no_commands e)) (serves through.served.judge through.served.at)) both front cause
 
   pub ends_last : (c : Source) (new : Session C) (w : Writer) (e : ScriptEnd) (r : Result (Option ℕ) RunFault) → Arrives (next.Last e) b c reader after_reader → OnOk r (IsReady new.solver)
       → ((x : Command) → HasWhole after_reader x → (i : Judge) → IsAt mid i → IfOk r (λ at. ServesWhole seen i (onto_commands (x ∷ []) (end_reading e)) 1 at mid new v w)) → WritesBoth r seen v w mid.solver new.solver
-      → ((x : Command) → HasWhole after_reader x → StopsOver r mid (onto_commands (x ∷ []) (end_reading e)) v w) → Ends seen j text counted r a c old new u w
-  ends_last c new w e r came ready serves both front =
+      → ((x : Command) → HasWhole after_reader x → StopsOver r mid (onto_commands (x ∷ []) (end_reading e)) v w)
+      → ((x : Command) → HasWhole after_reader x → CausedOver r mid new (onto_commands (x ∷ []) (end_reading e))) → Ends seen j text counted r a c old new u w
+  ends_last c new w e r came ready serves both front cause =
       let k = came.2 true through.left through.means in
       let n = came.2 false through.plain through.counts in
       let none = no_commands e in
       let one : length (n.0 ∷ (end_if false e).0) ≡ 1 = omega arith in
       whole c new w ((came.0, came.1.0), λ h. all_over c came.1.1) (onto_commands (k.0 ∷ []) (end_reading e)) (onto_commands (n.0 ∷ []) (end_if false e))
       (λ total x. ap through.left (nothing_behind b c came.0 total came.1 x) ∙ k.2) (λ total x. ap through.plain (nothing_behind b c came.0 total came.1 x) ∙ n.2) r ready
-      (subst (λ (i : ℕ). IfOk r (λ at. ServesWhole seen through.served.judge (onto_commands (k.0 ∷ []) (end_reading e)) i at mid new v w)) (sym one) (serves k.0 k.1 through.served.judge through.served.at)) both (front k.0 k.1)
+      (subst (λ (i : ℕ). IfOk r (λ at. ServesWhole seen through.served.judge (onto_commands (k.0 ∷ []) (end_reading e)) i at mid new v w)) (sym one) (serves k.0 k.1 through.served.judge through.served.at)) both (front k.0 k.1) (cause k.0 k.1)
 
   -- a command
   module _ (c : Source) (new : Session C) (w : Writer) (came : Arrives next.Command b c reader after_reader) where
@@ -373,10 +388,16 @@ module _ {C : Type 0} (seen : C → Writer) (j : Judge) (text counted : List ℕ
         onto-onto xs ys r = ap (λ (zs : List Command). (zs, r.1)) (sym (append_assoc xs ys r.0))
 
     pub stops : (e : RunFault) → WritesBoth {T = Unit {0}} (Err e) seen v w mid.solver new.solver → ((x : Command) → HasWhole after_reader x → (left : Reading) → StopsOver {T = Unit {0}} (Err e) mid (onto_commands (x ∷ []) left) v w)
+        → ((x : Command) → HasWhole after_reader x → (left : Reading) → CausedOver {T = Unit {0}} (Err e) mid new (onto_commands (x ∷ []) left))
         → Ends seen j text counted (Err e) a c old new u w
-    stops e both front = (
+    stops e both front cause = (
       fails_then seen e a c old.solver mid.solver new.solver u v w (took_passed true a c (took_then true a b c through.took took)) none_failed through.served.took both,
       behind c (λ total. onto_commands (reaches.command ∷ []) (reaches.after (rest_in total c))) w (λ total k. covers_took true b c total mid_open took k)
           (λ total k. ap through.left (taken_front 0 b c came.0 total came.1 k) ∙ reaches.reads (rest_in total c))
           (λ total k. front reaches.command reaches.whole (reaches.after (rest_in total c)) through.served.judge through.served.at),
+      caused e c new (λ total. onto_commands (reaches.command ∷ []) (reaches.after (rest_in total c))) (λ total k. covers_took true b c total mid_open took k)
+          (λ total k. ap through.left (taken_front 0 b c came.0 total came.1 k) ∙ reaches.reads (rest_in total c))
+          (caused_map e (HasFullStore new.solver) ((left : Reading) (i : Judge) → IsAt mid i → Exceeds mid.commands i (onto_commands (reaches.command ∷ []) left)) (HasFullStore new.solver)
+          ((total : List ℕ) (i : Judge) → IsAt mid i → Exceeds mid.commands i (onto_commands (reaches.command ∷ []) (reaches.after (rest_in total c)))) (λ x. x) (λ k total. k (reaches.after (rest_in total c)))
+          (caused_all e (HasFullStore new.solver) Reading (λ left. (i : Judge) → IsAt mid i → Exceeds mid.commands i (onto_commands (reaches.command ∷ []) left)) ([], Clean) (cause reaches.command reaches.whole))),
     )

@@ -4,7 +4,7 @@ use Rattle.sat_base.specs.script.Judge.{start}
 use Rattle.certify.specs.reading.Ahead.{source_in}
 use Rattle.sat_base.specs.script.Language.{reading, written}
 use Rattle.certify.specs.serving.Whole.{Ends}
-use Rattle.certify.proofs.lemmas.run.Runs.{IsNew, fresh_source, has_target, is_open_yet, is_ready, reads_few, runs_so, steps_so, unfinished_so}
+use Rattle.certify.proofs.lemmas.run.Runs.{IsNew, counter_so, fresh_source, has_target, is_open_yet, is_ready, reads_few, runs_so, steps_so, unfinished_so}
 use Rattle.certify.proofs.run.answer.Goals as goal
 
 pub end_run-requires-clause-ready : goal.end_run-requires-clause-ready
@@ -111,3 +111,18 @@ returns-clause-steps g c =
     let fresh : IsNew C c.args.budget (C c.args.certificate) s = record { steps = n.steps; target = n.target; rounds = n.rounds; budget_is = n.budget; commands = n.commands; refused = n.refused; asks = n.asks } in
     let ends = subst (λ (a : Source). Ends C start reading written c.serve_all-served.result a b s t u v) (fresh_source S c.args.script.now c.new-stream.result.ahead c.new-stream.ensures.waiting c.new-stream.ensures.reads) c.serve_all-served.ensures in
     steps_so C c.args.budget (C c.args.certificate) s t fresh (S c.args.script.now) b c.serve_all-served.new.stream.ahead.bounded c.end_run.result.0 u v (A c.end_run.new.answers) c.serve_all-served.result ends c.end_run.ensures.front
+
+pub returns-clause-counter_end : goal.returns-clause-counter_end
+returns-clause-counter_end g c =
+    let S = g.S.CountedRead.seen in
+    let A = g.A.CountedWrite.seen in
+    let C = g.C.CountedWrite.seen in
+    let s = c.new-session.result in
+    let t = c.serve_all-served.new.session in
+    let b = source_in S c.serve_all-served.new.script c.serve_all-served.new.stream.ahead in
+    let u = A c.args.answers.now in
+    let v = A c.serve_all-served.new.answers in
+    let n = c.new-session.ensures in
+    let fresh : IsNew C c.args.budget (C c.args.certificate) s = record { steps = n.steps; target = n.target; rounds = n.rounds; budget_is = n.budget; commands = n.commands; refused = n.refused; asks = n.asks } in
+    let ends = subst (λ (a : Source). Ends C start reading written c.serve_all-served.result a b s t u v) (fresh_source S c.args.script.now c.new-stream.result.ahead c.new-stream.ensures.waiting c.new-stream.ensures.reads) c.serve_all-served.ensures in
+    counter_so C c.args.budget (C c.args.certificate) s t fresh (S c.args.script.now) b c.serve_all-served.new.stream.ahead.bounded c.end_run.result.0 u v (A c.end_run.new.answers) c.serve_all-served.result c.end_run.result.1 ends c.end_run.ensures.ends

@@ -1,6 +1,6 @@
 use Rattle.std.proofs.Common.{Option, Ok, subst}
 use Rattle.sat_solver.specs.solver.Proving.{ClosesProof}
-use Rattle.certify.proofs.lemmas.serving.Ended.{closing_fails}
+use Rattle.certify.proofs.lemmas.serving.Ended.{closing_caused, closing_fails}
 use Rattle.certify.proofs.lemmas.serving.ProofFronts.{front_behind, front_closed}
 use Rattle.certify.proofs.serving.ending.close_certificate.Goals as goal
 
@@ -10,7 +10,10 @@ returns-in-Ok-Some-clause-front g c =
 
 pub returns-in-Err-clause-closes : goal.returns-in-Err-clause-closes
 returns-in-Err-clause-closes g c =
-    rw c.fault_of.ensures (closing_fails g.C.CountedWrite.seen c.in-Err.error c.args.solver c.close_proof.new.self c.give_back.result c.requires.ready c.in-Err.ensures.closes c.give_back.ensures.gives)
+    rw c.fault_of.ensures (
+      closing_fails g.C.CountedWrite.seen c.in-Err.error c.args.solver c.close_proof.new.self c.give_back.result c.requires.ready c.in-Err.ensures.closes c.give_back.ensures.gives,
+      closing_caused g.C.CountedWrite.seen c.in-Err.error c.args.solver c.close_proof.new.self c.requires.ready c.in-Err.ensures.closes,
+    )
 
 pub returns-in-Err-clause-front : goal.returns-in-Err-clause-front
 returns-in-Err-clause-front g c =

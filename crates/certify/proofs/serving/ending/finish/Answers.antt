@@ -1,4 +1,4 @@
-use Rattle.std.proofs.Common.{Result, Err, subst}
+use Rattle.std.proofs.Common.{Result, subst}
 use Rattle.certify.specs.declared.fault.RunFault.{RunFault}
 use Rattle.certify.specs.serving.Ending.{Closes}
 use Rattle.certify.proofs.lemmas.serving.Ended.{closing_keeps}

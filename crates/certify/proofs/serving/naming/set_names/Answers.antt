@@ -5,6 +5,7 @@ use Rattle.sat_solver.specs.names.Refusing.{names_in}
 use Rattle.certify.specs.serving.Obeying.{Obeyed, command_to}
 use Rattle.certify.proofs.lemmas.serving.Obeys.{none_obeyed, names_obeyed, name_more}
 use Rattle.certify.proofs.lemmas.serving.SessionCalls.{fails_then}
+use Rattle.certify.proofs.lemmas.serving.Caused.{names_caused}
 use Rattle.certify.proofs.serving.naming.set_names.Goals as goal
 
 pub loop-lit-init : goal.loop-lit-init
@@ -31,3 +32,8 @@ returns-in_err-set_name-clause-fails g c =
 pub returns-clause-obeyed : goal.returns-clause-obeyed
 returns-clause-obeyed g c =
     subst (λ (codes : List ℕ). Obeyed g.C.CountedWrite.seen (command_to c.args.state (names_in codes)) c.args.solver.now c.loop-lit.solver) (take_all c.loop-lit.lit-index c.args.literals.now (omega arith)) c.loop-lit.invariant
+
+pub returns-in_err-set_name-clause-cause : goal.returns-in_err-set_name-clause-cause
+returns-in_err-set_name-clause-cause g c =
+    let p = err_from_is_err_and c.from_residual.result c.from_residual.ensures.1 in
+    rw (p.1, p.2) (names_caused g.C.CountedWrite.seen c.args.state c.args.literals.now c.loop-lit.lit-index c.lit-item.result c.var.result c.args.solver.now c.loop-lit.solver c.in_err-set_name.field-0.0 (omega arith) c.lit-item.is c.var.ensures c.loop-lit.invariant c.in_err-set_name.ensures.cause)

@@ -3,6 +3,8 @@ use Rattle.certify.specs.declared.judge.NameState.TheVariants as state
 use Rattle.certify.proofs.lemmas.serving.Lent.{ask_allowed, ask_carried, ask_stops, clause_allowed, clause_carried, clause_writes, lent_hides, lent_samples, lent_witnesses, names_carried, names_write}
 use Rattle.certify.specs.serving.Standing.{spelled_by}
 use Rattle.certify.proofs.lemmas.serving.SessionCalls.{nothing_stops}
+use Rattle.certify.specs.serving.Obeying.{command_to}
+use Rattle.certify.proofs.lemmas.serving.Caused.{ask_caused_by, clause_caused_by, names_caused_by}
 use Rattle.certify.proofs.serving.taking.carry_out.Goals as goal
 
 pub add_clause-requires-clause-ready : goal.add_clause-requires-clause-ready
@@ -74,3 +76,21 @@ returns-in-Witness-clause-stops g c left = nothing_stops c.set_names-in-Witness.
 
 pub returns-in-Sample-clause-stops : goal.returns-in-Sample-clause-stops
 returns-in-Sample-clause-stops g c left = nothing_stops c.set_names-in-Sample.result c.args.session.now (spelled_by c.args.command) left (g.A.CountedWrite.seen c.args.answers.now)
+
+pub returns-in-Clause-clause-cause : goal.returns-in-Clause-clause-cause
+returns-in-Clause-clause-cause g c = clause_caused_by c.args.command c.args.session.now c.add_clause.result c.add_clause.new.solver c.in-Clause.is c.add_clause.ensures.cause
+
+pub returns-in-Ask-clause-cause : goal.returns-in-Ask-clause-cause
+returns-in-Ask-clause-cause g c = ask_caused_by c.args.command c.args.session.now c.answer_ask.new.session c.answer_ask.result c.in-Ask.is c.answer_ask.ensures.cause
+
+pub returns-in-Hide-clause-cause : goal.returns-in-Hide-clause-cause
+returns-in-Hide-clause-cause g c =
+    names_caused_by c.args.command c.args.session.now c.set_names.result c.set_names.new.solver (command_to state.Hidden (names_in c.args.command.literals.now)) (lent_hides c.args.command c.in-Hide.is) c.set_names.ensures.cause
+
+pub returns-in-Witness-clause-cause : goal.returns-in-Witness-clause-cause
+returns-in-Witness-clause-cause g c =
+    names_caused_by c.args.command c.args.session.now c.set_names-in-Witness.result c.set_names-in-Witness.new.solver (command_to state.Witnessed (names_in c.args.command.literals.now)) (lent_witnesses c.args.command c.in-Witness.is) c.set_names-in-Witness.ensures.cause
+
+pub returns-in-Sample-clause-cause : goal.returns-in-Sample-clause-cause
+returns-in-Sample-clause-cause g c =
+    names_caused_by c.args.command c.args.session.now c.set_names-in-Sample.result c.set_names-in-Sample.new.solver (command_to state.Sampled (names_in c.args.command.literals.now)) (lent_samples c.args.command c.in-Sample.is) c.set_names-in-Sample.ensures.cause

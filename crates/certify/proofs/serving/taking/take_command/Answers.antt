@@ -1,6 +1,9 @@
-use Rattle.std.proofs.Common.{refl}
+use Rattle.std.proofs.Common.{[], ◌∷◌, refl}
 use Rattle.certify.proofs.lemmas.serving.Lent.{lent_allowed}
 use Rattle.certify.proofs.lemmas.serving.NextLent.{refused_served, refused_stops, taken_served, taken_stops}
+use Rattle.sat_base.specs.script.Language.{onto_commands}
+use Rattle.certify.proofs.lemmas.serving.Caused.{blameless, taken_caused}
+use Rattle.certify.proofs.lemmas.serving.Next.{counted}
 use Rattle.certify.proofs.serving.taking.take_command.Goals as goal
 
 pub returns-in-Some-clause-served : goal.returns-in-Some-clause-served
@@ -21,3 +24,10 @@ returns-in-Some-clause-stops g c =
 pub returns-in-None-clause-stops : goal.returns-in-None-clause-stops
 returns-in-None-clause-stops g c =
     taken_stops g.C.CountedWrite.seen c.args.session.now c.take_allowed.new.session c.args.command (g.A.CountedWrite.seen c.args.answers.now) (g.A.CountedWrite.seen c.take_allowed.new.answers) c.requires.goes_on c.take_allowed.result (c.in-None.ensures.within refl) c.in-None.ensures.judges c.take_allowed.ensures.stops
+
+pub returns-in-Some-clause-cause : goal.returns-in-Some-clause-cause
+returns-in-Some-clause-cause g c = λ x is left. blameless c.refuse.result c.args.session.now c.refuse.new.session (onto_commands (x ∷ []) left) c.refuse.ensures.cause
+
+pub returns-in-None-clause-cause : goal.returns-in-None-clause-cause
+returns-in-None-clause-cause g c =
+    taken_caused c.args.session.now (counted c.args.session.now) c.take_allowed.new.session c.args.command c.take_allowed.result (c.in-None.ensures.within refl) c.in-None.ensures.judges refl c.take_allowed.ensures.cause

@@ -46,7 +46,8 @@ returns-in_err-serve_next-in-Command g c =
     let came = subst (λ (n : Next). Arrives n b d l.stream.reader c.next.new.self.reader) c.in-Command.is c.in-Ok.ensures in
     let p = err_from_is_err_and c.from_residual.result c.from_residual.ensures.1 in
     rw (p.1, p.2) (stops g.C.CountedWrite.seen start reading written a b l.stream.reader c.next.new.self.reader c.args.session.now l.session (A c.args.answers.now) (A l.answers) l.invariant.through c.requires.open_yet
-    d c.serve_next.new.session (A c.serve_next.new.answers) came c.in_err-serve_next-in-Command.field-0.0 c.in_err-serve_next-in-Command.ensures.written (λ x is. c.in_err-serve_next-in-Command.ensures.stops x (c.command.ensures x is)))
+    d c.serve_next.new.session (A c.serve_next.new.answers) came c.in_err-serve_next-in-Command.field-0.0 c.in_err-serve_next-in-Command.ensures.written (λ x is. c.in_err-serve_next-in-Command.ensures.stops x (c.command.ensures x is))
+    (λ x is. c.in_err-serve_next-in-Command.ensures.cause x (c.command.ensures x is)))
 
 pub loop-next-preserved : goal.loop-next-preserved
 loop-next-preserved g c =
@@ -93,7 +94,7 @@ returns-in-Last g c =
     let came = subst (λ (n : Next). Arrives n b d l.stream.reader c.next.new.self.reader) c.in-Last.is c.in-Ok.ensures in
     ends_last g.C.CountedWrite.seen start reading written a b l.stream.reader c.next.new.self.reader c.args.session.now l.session (A c.args.answers.now) (A l.answers) l.invariant.through c.requires.open_yet
     d c.serve_last.new.session (A c.serve_last.new.answers) c.in-Last.end c.serve_last.result came c.serve_last.ensures.ready (λ x is. c.serve_last.ensures.serves x (c.command-in-Last.ensures x is)) c.serve_last.ensures.written
-    (λ x is. c.serve_last.ensures.stops x (c.command-in-Last.ensures x is))
+    (λ x is. c.serve_last.ensures.stops x (c.command-in-Last.ensures x is)) (λ x is. c.serve_last.ensures.cause x (c.command-in-Last.ensures x is))
 
 pub returns-in-End : goal.returns-in-End
 returns-in-End g c =
@@ -105,4 +106,4 @@ returns-in-End g c =
     let d = source_in S c.next.new.script c.next.new.self.ahead in
     let came = subst (λ (n : Next). Arrives n b d l.stream.reader c.next.new.self.reader) c.in-End.is c.in-Ok.ensures in
     ends_so g.C.CountedWrite.seen start reading written a b l.stream.reader c.next.new.self.reader c.args.session.now l.session (A c.args.answers.now) (A l.answers) l.invariant.through c.requires.open_yet
-    d c.serve_end.new.session (A c.serve_end.new.answers) c.in-End.end c.serve_end.result came c.serve_end.ensures.ready c.serve_end.ensures.serves c.serve_end.ensures.written c.serve_end.ensures.stops
+    d c.serve_end.new.session (A c.serve_end.new.answers) c.in-End.end c.serve_end.result came c.serve_end.ensures.ready c.serve_end.ensures.serves c.serve_end.ensures.written c.serve_end.ensures.stops c.serve_end.ensures.cause

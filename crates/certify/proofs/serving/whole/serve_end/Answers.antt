@@ -1,15 +1,16 @@
 use Rattle.std.proofs.lemmas.Result.{err_from_is_err_and}
-use Rattle.std.proofs.Common.{◌≡◌, ◌+◌, [], Err, None, Some, refl, sym, ap, subst, rules}
+use Rattle.std.proofs.Common.{◌≡◌, ◌+◌, ◌-◌, ◌^◌, arith, inl, [], Err, None, Some, refl, sym, ap, subst, rules}
 use Rattle.certify.specs.declared.reading.ScriptEnd.{ScriptEnd}
 use Rattle.certify.specs.reading.Commands.{end_reading}
 use Rattle.certify.specs.serving.Calls.{proof_in}
 use Rattle.sat_base.specs.script.Script.{Clean, Malformed}
 use Rattle.certify.specs.run.Unfinished.{TookFront}
-use Rattle.certify.specs.serving.Standing.{StopsOver}
+use Rattle.certify.specs.serving.Standing.{CausedOver, StopsOver}
 use Rattle.certify.specs.serving.Whole.{ServesWhole}
 use Rattle.certify.proofs.lemmas.serving.SessionCalls.{took_none}
 use Rattle.certify.proofs.lemmas.serving.Through.{asked_stops, ends_asked, ends_clean, ends_malformed}
 use Rattle.certify.proofs.lemmas.serving.Stopping.{front_none}
+use Rattle.certify.proofs.lemmas.serving.Caused.{asked_caused, blameless}
 use Rattle.certify.proofs.serving.whole.serve_end.Goals as goal
 
 pub returns-in_default-clause-written : goal.returns-in_default-clause-written
@@ -66,3 +67,19 @@ returns-in_err-tell_malformed-in-Malformed-clause-stops g c =
     let number : c.in-Some.number ≡ s.commands + 1 = search rules in
     rw p.1 (subst (λ (x : ScriptEnd). StopsOver {T = Unit {0}} (Err e) s (end_reading x) u v) (sym c.in-Malformed.is)
     (λ j at. subst (λ n. TookFront n j ([], Malformed) u v) number (c.in_err-tell_malformed-in-Malformed.ensures.stops j)))
+
+pub returns-in_default-clause-cause : goal.returns-in_default-clause-cause
+returns-in_default-clause-cause g c = λ j at. inl (let full : c.args.session.now.commands ≡ 2 ^ 64 - 1 = search rules in omega arith)
+
+pub returns-in_err-answer_ask-in-Asked-clause-cause : goal.returns-in_err-answer_ask-in-Asked-clause-cause
+returns-in_err-answer_ask-in-Asked-clause-cause g c =
+    let p = err_from_is_err_and c.from_residual.result c.from_residual.ensures.1 in
+    let s = c.args.session.now in
+    let t = c.answer_ask.new.session in
+    let e = c.in_err-answer_ask-in-Asked.field-0.0 in
+    rw (p.1, p.2) (subst (λ (x : ScriptEnd). CausedOver {T = Unit {0}} (Err e) s t (end_reading x)) (sym c.in-Asked.is) (asked_caused {T = Unit {0}} s t (Err e) c.in_err-answer_ask-in-Asked.ensures.cause))
+
+pub returns-in_err-tell_malformed-in-Malformed-clause-cause : goal.returns-in_err-tell_malformed-in-Malformed-clause-cause
+returns-in_err-tell_malformed-in-Malformed-clause-cause g c =
+    let p = err_from_is_err_and c.from_residual-in_err-tell_malformed-in-Malformed.result c.from_residual-in_err-tell_malformed-in-Malformed.ensures.1 in
+    rw (p.1, p.2) (blameless {T = Unit {0}} (Err c.in_err-tell_malformed-in-Malformed.field-0.0) c.args.session.now c.tell_malformed.new.session (end_reading c.args.end) c.in_err-tell_malformed-in-Malformed.ensures.cause)

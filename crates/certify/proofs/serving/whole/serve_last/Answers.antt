@@ -1,6 +1,7 @@
 use Rattle.std.proofs.lemmas.Result.{err_from_is_err_and}
 use Rattle.certify.specs.reading.Commands.{end_reading}
 use Rattle.certify.proofs.lemmas.serving.Through.{both_then, served_last_if, stops_behind}
+use Rattle.certify.proofs.lemmas.serving.Caused.{caused_behind}
 use Rattle.certify.proofs.serving.whole.serve_last.Goals as goal
 
 pub serve_end-requires : goal.serve_end-requires
@@ -25,3 +26,13 @@ pub returns-clause-written : goal.returns-clause-written
 returns-clause-written g c =
     let A = g.A.CountedWrite.seen in
     both_then g.C.CountedWrite.seen c.serve_end.result c.args.session.now.solver c.serve_next.new.session.solver c.serve_end.new.session.solver (A c.args.answers.now) (A c.serve_next.new.answers) (A c.serve_end.new.answers) c.in_ok-serve_next.ensures.written c.serve_end.ensures.written
+
+pub returns-in_err-serve_next-clause-cause : goal.returns-in_err-serve_next-clause-cause
+returns-in_err-serve_next-clause-cause g c x is =
+    let p = err_from_is_err_and c.from_residual.result c.from_residual.ensures.1 in
+    rw (p.1, p.2) (c.in_err-serve_next.ensures.cause x is (end_reading c.args.end))
+
+pub returns-clause-cause : goal.returns-clause-cause
+returns-clause-cause g c x is =
+    let A = g.A.CountedWrite.seen in
+    caused_behind g.C.CountedWrite.seen c.serve_end.result x (end_reading c.args.end) c.args.session.now c.serve_next.new.session c.serve_end.new.session (A c.args.answers.now) (A c.serve_next.new.answers) (c.in_ok-serve_next.ensures.served x is) c.serve_end.ensures.cause

@@ -7,6 +7,8 @@ use Rattle.std.proofs.lemmas.Result.{err_from_is_err_and}
 use Rattle.certify.specs.serving.Calls.{proof_in}
 use Rattle.certify.proofs.lemmas.serving.SessionCalls.{err_map, memory_says, on_err, took_none, written_of}
 use Rattle.certify.proofs.lemmas.serving.Stopping.{front_malformed, front_none}
+use Rattle.certify.specs.Calls.{OneFailed}
+use Rattle.certify.proofs.lemmas.serving.Caused.{memory_caused, unwritten_if}
 use Rattle.certify.proofs.serving.whole.tell_malformed.Goals as goal
 
 pub returns-in_err-push_malformed-clause-written : goal.returns-in_err-push_malformed-clause-written
@@ -30,3 +32,11 @@ returns-clause-stops g c j =
     let line : c.deref.result.now ≡ malformed_line c.args.number = search rules in
     err_map c.write_answer.result (Breaks u v c.deref.result.now) (TookFront c.args.number j ([], Malformed) u v)
     (λ b. front_malformed c.args.number j u v (subst (Breaks u v) line b)) c.write_answer.ensures.breaks
+
+pub returns-in_err-push_malformed-clause-cause : goal.returns-in_err-push_malformed-clause-cause
+returns-in_err-push_malformed-clause-cause g c =
+    let p = err_from_is_err_and c.from_residual.result c.from_residual.ensures.1 in
+    rw p.1 (memory_caused _ ⊥ ⊥ p.2)
+
+pub returns-clause-cause : goal.returns-clause-cause
+returns-clause-cause g c = unwritten_if c.write_answer.result (OneFailed (g.A.CountedWrite.seen c.args.answers.now) (g.A.CountedWrite.seen c.write_answer.new.answers)) c.write_answer.ensures.fails
