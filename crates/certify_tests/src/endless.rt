@@ -74,7 +74,12 @@ static ENDLESS: [((&[u8], &[u8]), &[u8], &[u8], Why); 9] = [
     (MALFORMED, b"c malformed 1", b"1", Why::AnswerText),
 ];
 
-fn endless() -> &'static [((&'static [u8], &'static [u8]), &'static [u8], &'static [u8], Why)] {
+fn endless() -> &'static [(
+    (&'static [u8], &'static [u8]),
+    &'static [u8],
+    &'static [u8],
+    Why,
+)] {
     &ENDLESS
 }
 

@@ -16,7 +16,7 @@ use crate::answers::write::push_malformed;
 use crate::confirm::stop::Stop;
 use crate::judge::Refusal;
 use crate::matching::halt::{Halt, unread_answers};
-use crate::matching::lines::{Wanted, Lines};
+use crate::matching::lines::{Lines, Wanted};
 use crate::verdict::Why;
 use sat_base::{CountedRead, Lit};
 use std::alloc::Global;
