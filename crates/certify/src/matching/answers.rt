@@ -102,7 +102,8 @@ impl Answers {
 
     /// Reads the next line, of those that are wanted.
     fn next_line<A: CountedRead>(&mut self, answers: &mut A, wanted: Wanted) -> Result<(), Halt>
-        ensures line { NextLine (IsRight wanted self.old.due.items) result (answers_source A.seen answers.old self.old) (answers_source A.seen answers.new self.new)
+        ensures line { NextLine (IsRight wanted self.old.due.items) result
+            (answers_source A.seen answers.old self.old) (answers_source A.seen answers.new self.new)
             self.new.lines.line.items }
         ensures due { self.new.due.items ≡ self.old.due.items }
     {

@@ -102,7 +102,8 @@ impl Lines {
         wanted: Wanted,
         due: &[u8],
     ) -> Result<(), ReadError>
-        ensures { ReadsLine (IsRight wanted due.now) result (source_in A.seen answers.old self.old.ahead) (source_in A.seen answers.new self.new.ahead) self.new.line.items }
+        ensures { ReadsLine (IsRight wanted due.now) result (source_in A.seen answers.old self.old.ahead)
+            (source_in A.seen answers.new self.new.ahead) self.new.line.items }
     {
         self.line.clear();
         let mut limit = HELD;

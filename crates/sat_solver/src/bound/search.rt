@@ -140,7 +140,8 @@ pub fn search<R: Rounds>(
     ensures answered { AnswersWithin result (R.most rounds.old) (steps_left max_steps steps.old) }
     ensures goes { IfOk result (λ r. r ≡ None → GoesBy R.sound R.most R.goes (steps.new - steps.old) rounds.old names.old rounds.new names.new) }
     ensures ends { IfOk result (λ r. EndsBy R.goes R.ends (steps.new - steps.old) r rounds.old names.old rounds.new names.new) }
-    ensures rounds { IfOk result (λ o. ComesBy R.restarted R.reduced R.rounded o rounds.old names.old restarts.old steps.old rounds.new names.new restarts.new steps.new) }
+    ensures rounds { IfOk result (λ o. ComesBy R.restarted R.reduced R.rounded o rounds.old names.old restarts.old steps.old
+        rounds.new names.new restarts.new steps.new) }
     ensures fails { IfErr result (λ e. (s : R) (n : R.Names) → R.goes s n 0 rounds.old names.old → R.fails s e rounds.new) }
 {
     let end = steps.saturating_add(max_steps);

@@ -83,7 +83,8 @@ pub fn solve<W: CountedWrite + Drop, P: ProofProcessor>(
     ensures answered { AnswersWithin result (values_in core.old) (steps_left max_steps steps.old) }
     ensures goes { IfOk result (λ r. r ≡ None → FoundNone W.seen (steps.new - steps.old) names.old names.new core.old core.new) }
     ensures ends { IfOk result (λ r. EndedBy W.seen (steps.new - steps.old) r core.old names.old core.new names.new) }
-    ensures rounds { IfOk result (λ o. ComesBy Restarted ReducedAt (RoundOf W.seen) o core.old names.old restarts.old steps.old core.new names.new restarts.new steps.new) }
+    ensures rounds { IfOk result (λ o. ComesBy Restarted ReducedAt (RoundOf W.seen) o core.old names.old restarts.old steps.old
+        core.new names.new restarts.new steps.new) }
     ensures fails { IfErr result (λ e. Broke W.seen core.old e core.new) }
 {
     search(core, names, restarts, steps, max_steps)

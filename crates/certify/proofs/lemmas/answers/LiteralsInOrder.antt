@@ -118,16 +118,6 @@ pub record ReadSoFar (k : AnswerKind) (bytes rest : List ℕ) (least : ℕ) : Ty
   pub line : List ℕ
   pub before : (more : List ℕ) → ReadInOrder k (bytes ++ more) line (rest ++ more) least
 
-pub none_so_far : (k : AnswerKind) (bytes : List ℕ) → ReadSoFar k bytes bytes 0
-none_so_far k bytes = record {
-  line = [];
-  before = λ more. record {
-    read = record { names = tt; forth = λ ls tail h e. (ls, (h, e)); back = λ ls tail e. e };
-    words = refl;
-    order = λ places. (λ r. r, λ r. r);
-  };
-}
-
 -- the word, the space and what is behind it, with what would follow
 behind_space : (l : ℕ) (rest behind more : List ℕ) → rest ≡ word_of (named_literal l) ++ (32 ∷ behind) → rest ++ more ≡ word_of (named_literal l) ++ (32 ∷ (behind ++ more))
 behind_space l rest behind more e = ap (λ t. t ++ more) e ∙ append_assoc (word_of (named_literal l)) (32 ∷ behind) more
