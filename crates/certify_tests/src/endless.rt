@@ -74,7 +74,7 @@ static ENDLESS: [((&[u8], &[u8]), &[u8], &[u8], Why); 9] = [
     (MALFORMED, b"c malformed 1", b"1", Why::AnswerText),
 ];
 
-fn endless() -> &'static [(
+fn rows() -> &'static [(
     (&'static [u8], &'static [u8]),
     &'static [u8],
     &'static [u8],
@@ -94,7 +94,7 @@ fn is_refused(alloc: Global, texts: (&[u8], &[u8]), text: &[u8], again: &[u8], w
 
 #[test]
 fn answers_that_never_end_are_refused(rt: HostRuntime) {
-    for &(texts, text, again, why) in endless() {
+    for &(texts, text, again, why) in rows() {
         assert!(rt; is_refused(rt.alloc(), texts, text, again, why), "{text:?}");
     }
 }
