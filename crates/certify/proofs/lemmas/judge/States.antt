@@ -5,7 +5,7 @@ use Rattle.std.proofs.Math.Seq.{get_or-append_seam}
 use Rattle.std.proofs.lemmas.List.{length-append, get_or-set_same, get_or-set_other}
 use Rattle.std.proofs.lemmas.Bool.{eqb-true, eqb-false, ne_eqb, ltb-true, ltb-false}
 use Rattle.sat_base.specs.values.Literals.{largest}
-use Rattle.sat_base.specs.script.Judge.{Judge, Named, Mode, Sampled, Witnessed, identity_of, or_zero, with_name, with_names, names_from, new_names, bring_in, without_name, with_mode, start}
+use Rattle.sat_base.specs.script.Judge.{Judge, Named, Mode, Sampled, Witnessed, identity_of, or_zero, with_name, with_names, names_from, new_names, bring_in, without_name, with_mode}
 use Rattle.sat_base.proofs.lemmas.script.LiteralValues.{all_map, placed_found, removed_found, removed_gone}
 use Rattle.sat_base.proofs.lemmas.script.JudgeStates.{placed_all, filtered_all, given_at}
 use Rattle.certify.specs.declared.judge.NameState.{NameState}

@@ -1,8 +1,8 @@
 -- A text has no more commands than bytes, but for two.
-use Rattle.std.proofs.Common.{ℕ, ◌+◌, ◌≤◌, ◌<◌, ◌≡◌, ◌∙◌, Bool, true, false, not, ◌&&◌, cond, nat_eq, Option, Some, None, is_some, List, [], ◌∷◌, ◌++◌, map, length, length-append, refl, sym, ap, subst, arith}
+use Rattle.std.proofs.Common.{ℕ, ◌+◌, ◌≤◌, ◌<◌, ◌≡◌, ◌∙◌, Bool, true, false, not, ◌&&◌, cond, nat_eq, is_some, List, [], ◌∷◌, ◌++◌, length, length-append, refl, sym, subst, arith}
 use Rattle.std.proofs.lemmas.List.{length-map}
-use Rattle.sat_base.specs.text.Text.{Token, Number, Letter, Header, Wrong, is_blank, goes_on, begins_with, header_if, header_of, is_none, lines, onto_first, on_line, words, token, tokens, tokens_of, scan}
-use Rattle.sat_base.specs.script.Script.{Command, Ask, Ending, Clean, Malformed, has_ask, is_clean}
+use Rattle.sat_base.specs.text.Text.{Token, is_blank, goes_on, begins_with, header_if, header_of, is_none, lines, onto_first, on_line, words, token, tokens, tokens_of, scan}
+use Rattle.sat_base.specs.script.Script.{Command, Ask, Clean, Malformed, has_ask, is_clean}
 use Rattle.sat_base.specs.script.Language.{Reading, Hand, Nothing, Within, Turn, GoesOn, Ends, Fails, at_end, behind_turn, commands_of, onto_commands, reading, spoken, turn, with_ask, written}
 use Rattle.certify.specs.confirm.VerdictPromises.{numbers}
 

@@ -16,7 +16,7 @@ use Rattle.sat_checker.specs.declared.processing.Nobody.{Nobody}
 use Rattle.sat_solver.specs.declared.session.checked.Checked.{Checked}
 use Rattle.sat_solver.specs.declared.session.made.CheckFault.{CheckFault}
 use Rattle.sat_solver.specs.declared.session.made.CheckFault.TheVariants as checks
-use Rattle.sat_solver.specs.names.Room.{HasRoom, users_in}
+use Rattle.sat_solver.specs.names.Room.{users_in}
 use Rattle.sat_solver.specs.search.Going.{IsFaultOr, Went}
 use Rattle.sat_solver.specs.session.MadeView.{ComplainsIn, listed_in}
 use Rattle.sat_solver.specs.session.ProofView.{FailsCheck, is_checked}

@@ -1,5 +1,5 @@
 -- Why a part of a run failed, but for devices and memory.
-use Rattle.std.proofs.Common.{ℕ, ◌+◌, ◌-◌, ◌^◌, ◌<◌, ◌≤◌, ◌≡◌, ◌∙◌, ◌⊎◌, inl, inr, cond, false, is_some, Option, Some, None, List, [], ◌∷◌, ◌++◌, drop, get_or, length, length-append, map, take, Result, Ok, Err, IfErr, refl, sym, ap, subst, append_assoc, arith}
+use Rattle.std.proofs.Common.{ℕ, ◌+◌, ◌<◌, ◌≡◌, ◌∙◌, inl, inr, false, None, List, [], ◌∷◌, ◌++◌, drop, get_or, length, length-append, take, Result, Ok, Err, IfErr, refl, sym, ap, subst, append_assoc, arith}
 use Rattle.std.proofs.lemmas.List.{map-append, take-append-drop}
 use Rattle.sat_base.specs.device.Device.{Writer}
 use Rattle.sat_base.specs.script.Script.{Command, Clause, Ask, Clean}
@@ -13,7 +13,6 @@ use Rattle.certify.specs.answers.AnswerForms.{named_literals}
 use Rattle.certify.specs.declared.fault.RunFault.{RunFault}
 use Rattle.certify.specs.declared.fault.RunFault.TheVariants as fault
 use Rattle.certify.specs.declared.judge.NameState.{NameState}
-use Rattle.certify.specs.declared.judge.Refusal.{Refusal as CodeRefusal}
 use Rattle.certify.specs.declared.reading.Command.{Command as Lent}
 use Rattle.certify.specs.declared.reading.CommandKind.TheVariants as kind
 use Rattle.certify.specs.declared.serving.session.Session.{Session}

@@ -1,17 +1,17 @@
 -- Names for which no variable is left need more identities than there are variables.
-use Rattle.std.proofs.Common.{ℕ, zero, suc, ◌+◌, ◌-◌, ◌<◌, ◌≤◌, ◌≡◌, ◌≢◌, ◌∙◌, max, Bool, true, false, not, ◌&&◌, ◌||◌, cond, eqb, ltb, Option, Some, None, is_some, List, [], ◌∷◌, ◌++◌, map, inl, inr, lt-ltb, refl, sym, ap, subst, arith}
-use Rattle.std.proofs.lemmas.Bool.{eq-eqb, ne_eqb, le-ltb, cases_eq, cases_lt, ltb-true, ltb-false}
+use Rattle.std.proofs.Common.{ℕ, zero, suc, ◌+◌, ◌-◌, ◌<◌, ◌≤◌, ◌≡◌, ◌≢◌, ◌∙◌, Bool, true, false, not, ◌&&◌, ◌||◌, cond, ltb, Option, Some, None, is_some, List, [], ◌∷◌, ◌++◌, map, inl, inr, refl, sym, ap, subst, arith}
+use Rattle.std.proofs.lemmas.Bool.{eq-eqb, ne_eqb, cases_eq, cases_lt, ltb-true, ltb-false}
 use Rattle.sat_base.specs.device.Device.{Writer}
 use Rattle.sat_base.specs.values.Literals.{largest, variable}
 use Rattle.sat_base.specs.script.Script.{Command, Clause, Ask, Hide, Witness, Sample, names_of}
-use Rattle.sat_base.specs.script.Judge.{Judge, Mode, Named, Sampled, Witnessed, accepted, after_command, after_script, bring_all, bring_in, hide_all, identity_of, names_from, new_names, placed, refusal_of, set_all, with_mode, with_name, with_names, without_name}
+use Rattle.sat_base.specs.script.Judge.{Judge, Mode, Sampled, Witnessed, accepted, after_command, after_script, bring_all, bring_in, hide_all, identity_of, names_from, new_names, refusal_of, set_all, with_mode, with_name, with_names, without_name}
 use Rattle.sat_base.proofs.lemmas.script.LiteralValues.{placed_found}
 use Rattle.sat_base.specs.steps.Steps.{Step}
 use Rattle.sat_checker.specs.matching.Bridge.{Live}
 use Rattle.sat_solver.specs.declared.names.Variables.{Variables}
 use Rattle.sat_solver.specs.names.Calls.{Agree}
 use Rattle.sat_solver.specs.names.Counting.{count_to}
-use Rattle.sat_solver.specs.names.Live.{given, given_of}
+use Rattle.sat_solver.specs.names.Live.{given_of}
 use Rattle.sat_solver.specs.names.Refusing.{names_in}
 use Rattle.sat_solver.specs.names.Room.{HasRoom, coming, is_hidden_name, is_listed, live_count, reach, users_in}
 use Rattle.sat_solver.specs.names.Variables.{global_of, names_used, variables_used}

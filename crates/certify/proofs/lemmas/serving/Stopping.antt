@@ -1,18 +1,16 @@
 -- What a part of a run that failed has written of the answers.
-use Rattle.std.proofs.Common.{ℕ, ◌+◌, ◌≡◌, ◌∙◌, Option, Some, None, List, [], ◌∷◌, ◌++◌, Result, Ok, Err, OnOk, IfErr, append_assoc, refl, sym, ap, subst}
+use Rattle.std.proofs.Common.{ℕ, ◌+◌, ◌≡◌, ◌∙◌, Option, Some, None, List, [], ◌∷◌, ◌++◌, Err, append_assoc, refl, sym, ap, subst}
 use Rattle.std.proofs.lemmas.List.{append-nil}
 use Rattle.std.specs.Io.KnownBytes.{Appends, Keeps}
 use Rattle.sat_base.specs.device.Device.{Writer, FlushesOnce, Takes, Breaks}
 use Rattle.sat_base.specs.script.Script.{Literal, Command, Clause, Ask, Hide, Witness, Sample, Malformed}
 use Rattle.sat_base.specs.script.Language.{Reading, onto_commands}
-use Rattle.sat_base.specs.script.Judge.{Judge, Refusal, accepted, accepted_of, after_command, refusal_of}
+use Rattle.sat_base.specs.script.Judge.{Judge, Refusal, accepted, accepted_of, refusal_of}
 use Rattle.sat_base.proofs.lemmas.device.Known.{appends_none, appends_more}
 use Rattle.sat_base.specs.steps.Steps.{Step}
 use Rattle.sat_checker.specs.matching.Expected.{Outcome, Unknown}
 use Rattle.certify.specs.answers.Answers.{answers_from, malformed_line, outcome_text, refused_line}
 use Rattle.certify.specs.answers.RightAnswers.{AreRight, IsRight}
-use Rattle.certify.specs.declared.fault.RunFault.{RunFault}
-use Rattle.certify.specs.declared.fault.RunFault.TheVariants as fault
 use Rattle.certify.specs.declared.summary.AskReport.{AskReport}
 use Rattle.certify.specs.run.Unfinished.{BeginAnswers, TookBytes, TookFront}
 use Rattle.certify.specs.serving.Serving.{Place, Serves}

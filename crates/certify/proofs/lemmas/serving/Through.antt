@@ -1,13 +1,13 @@
 -- How a script is served that is read as its commands are wanted.
-use Rattle.std.proofs.Common.{ℕ, ◌+◌, ◌≡◌, ◌∙◌, true, false, Option, Some, None, List, [], ◌∷◌, ◌++◌, map, length, length-append, Result, Ok, Err, OnErr, OnOk, IfOk, refl, sym, ap, subst, arith, append_assoc, append-nil}
+use Rattle.std.proofs.Common.{ℕ, ◌+◌, ◌≡◌, ◌∙◌, true, false, Option, Some, None, List, [], ◌∷◌, ◌++◌, map, length, length-append, Result, Ok, Err, OnOk, IfOk, refl, sym, ap, subst, arith, append_assoc, append-nil}
 use Rattle.std.proofs.lemmas.List.{map-append}
 use Rattle.sat_base.specs.declared.device.whole.ReadError.{ReadError}
 use Rattle.sat_base.specs.declared.device.whole.ReadError.TheVariants as errors
-use Rattle.sat_base.specs.device.Device.{Writer, Breaks, Takes}
+use Rattle.sat_base.specs.device.Device.{Writer, Takes}
 use Rattle.sat_base.specs.device.Reading.{Source, AtEnd}
 use Rattle.sat_base.specs.script.Script.{Command, Ask, Ending, Clean, Malformed}
 use Rattle.sat_base.specs.script.Language.{Reading, onto_commands}
-use Rattle.sat_base.specs.script.Judge.{Judge, accepted, accepted_of, after_command, after_script}
+use Rattle.sat_base.specs.script.Judge.{Judge, accepted, accepted_of, after_command}
 use Rattle.sat_base.specs.steps.Steps.{Step}
 use Rattle.sat_base.proofs.lemmas.device.Writes as writes
 use Rattle.sat_checker.specs.matching.Expected.{Outcome}
@@ -28,7 +28,7 @@ use Rattle.certify.specs.reading.Ahead.{Passed, Took as TookOf}
 use Rattle.certify.specs.reading.Commands.{HasWhole, Means, MeansIf, ReachesCommand, end_reading, end_if}
 use Rattle.certify.specs.reading.Streaming.{Arrives, Comes}
 use Rattle.certify.specs.run.FinishedRun.{malformed_at, kind_of, asked_steps}
-use Rattle.certify.specs.run.Unfinished.{BeginAnswers, Exceeds, TookFront}
+use Rattle.certify.specs.run.Unfinished.{Exceeds, TookFront}
 use Rattle.certify.specs.serving.Calls.{Faults, IsCaused, IsReady, proof_in}
 use Rattle.certify.specs.serving.Serving.{Place, Serves}
 use Rattle.certify.specs.serving.Standing.{CarriedOut, CausedOver, GoesOn, IsAt, ServedNext, StopsCarrying, StopsOver, WritesBoth, last_place, place_in}
@@ -40,7 +40,7 @@ use Rattle.certify.proofs.lemmas.serving.CallFaults.{caused_map}
 use Rattle.certify.proofs.lemmas.serving.Caused.{after_both, caused_all, exceeds_later}
 use Rattle.certify.proofs.lemmas.serving.Served.{serves_none, serves_then}
 use Rattle.certify.proofs.lemmas.serving.SessionCalls.{took_none, took_both, broke_later}
-use Rattle.certify.proofs.lemmas.serving.Stopping.{front_later, front_malformed, front_none, front_served}
+use Rattle.certify.proofs.lemmas.serving.Stopping.{front_later, front_none}
 use Rattle.certify.specs.serving.Quiet.{Solver}
 
 -- PLACES

@@ -1,5 +1,5 @@
 -- A fault is answered only by somebody who listens.
-use Rattle.std.proofs.Common.{ℕ, ◌≡◌, ◌++◌, List, [], Result, Ok, Err, IfErr, inl, inr, refl, sym}
+use Rattle.std.proofs.Common.{ℕ, ◌≡◌, List, [], Result, Ok, Err, IfErr, inl, inr, refl, sym}
 use Rattle.std.proofs.lemmas.List.{append-nil}
 use Rattle.anyhow.specs.declared.error.Error.{Error}
 use Rattle.sat_base.specs.device.Device.{Reader}
@@ -13,7 +13,6 @@ use Rattle.sat_checker.specs.announcements.Announcements.{Told}
 use Rattle.sat_checker.specs.announcements.Transcripts.{Transcribed}
 use Rattle.sat_checker.specs.telling.Hearing.{told_by}
 use Rattle.sat_checker.specs.telling.ProcessingView.{listeners_of, HearsEach, FaultOfSomebody}
-use Rattle.sat_checker.specs.declared.kernel.Kernel.{Kernel}
 use Rattle.sat_checker.specs.declared.processing.Processing.{Processing}
 use Rattle.sat_checker.specs.declared.processing.ProcessingError.{ProcessingError}
 use Rattle.sat_checker.specs.declared.error.CheckerError.{CheckerError}

@@ -21,9 +21,9 @@ use Rattle.sat_checker.proofs.lemmas.telling.Heard.{nobody_fails}
 use Rattle.sat_checker.specs.declared.processing.ProofProcessor.{Ghosts}
 use Rattle.sat_solver.specs.declared.session.made.CheckFault.{CheckFault}
 use Rattle.sat_solver.specs.declared.session.made.CheckFault.TheVariants as checks
-use Rattle.sat_solver.specs.session.Checked.{is_end, unended, has_begun, who_listens, Listened, FedUnless, IsFed, Heard, HeardWhole, Failed, IsCause, cause_in, OrCause, TakesStep, TakesWidth, TakesDelayed, Feeds, TakesIn, BeginsAnew}
+use Rattle.sat_solver.specs.session.Checked.{is_end, unended, has_begun, who_listens, FedUnless, IsFed, Heard, HeardWhole, Failed, IsCause, cause_in, OrCause, TakesStep, TakesWidth, TakesDelayed, Feeds, TakesIn, BeginsAnew}
 use Rattle.sat_solver.specs.session.Due.{kept_if}
-use Rattle.sat_solver.specs.session.Listening.{AreListed, Hears, HasHeard, FailedOf, reads_nothing}
+use Rattle.sat_solver.specs.session.Listening.{AreListed, Hears, FailedOf, reads_nothing}
 use Rattle.sat_solver.specs.session.MadeView.{audience, listed_in, Handed, HandedIn, HandedWhole, HandedWholeIn, HasListeners, IsHanded, IsHandedWhole, ListedAnew}
 use Rattle.sat_solver.specs.declared.session.made.Made.{Made}
 use Rattle.sat_solver.specs.session.Session.{MayAll}

@@ -1,5 +1,5 @@
 -- Steps that went to a proof's target, one after another.
-use Rattle.std.proofs.Common.{◌≡◌, ◌∙◌, ℕ, true, false, Option, None, Some, Result, Ok, Err, List, [], ◌∷◌, ◌++◌, append_assoc, refl, sym, ap, subst, ◌⊎◌, inl, inr}
+use Rattle.std.proofs.Common.{◌≡◌, ◌∙◌, ℕ, true, Option, None, Some, Result, Ok, Err, List, [], ◌∷◌, ◌++◌, append_assoc, refl, sym, ap, subst, ◌⊎◌, inl, inr}
 use Rattle.std.proofs.lemmas.Bool.{true≢false}
 use Rattle.std.proofs.lemmas.List.{append-nil, reverse-append}
 use Rattle.std.specs.Prelude.{is_some, reverse}
@@ -12,10 +12,10 @@ use Rattle.sat_base.specs.steps.StepText.{SpellsStep, SpellsSteps}
 use Rattle.sat_base.proofs.lemmas.device.Sending.{sent_none, sent_more}
 use Rattle.sat_base.proofs.lemmas.device.Writes.{took_more as took_both, breaks_later}
 use Rattle.sat_checker.specs.declared.processing.ProofProcessor.{Ghosts}
-use Rattle.sat_solver.specs.session.Counting.{start, Cuts, none_made, ask_begun, one_made, written_for, counted}
-use Rattle.sat_solver.specs.session.ProofTexts.{ClosedIsText, BrokenIsFront, BrokeText, WroteSince, TookSince}
-use Rattle.sat_solver.specs.session.OutputView.{step_text, SpellsIn, text_in, AreSpelt, Wrote}
-use Rattle.sat_solver.specs.session.ProofView.{IsAtWidth, Target, Closed, Open, Broken as Faulty, is_open, Carried, Carries, Stopped, Stops, Flushed, TookAll, TakesAll, Gives, target_of, steps_of, has_asked, Adds, Gains, Fails, FailsCheck, Complains, is_checked, Records, Drains, Flushes, FlushesOrFails, Closes, ClosesOne, HandsBack}
+use Rattle.sat_solver.specs.session.Counting.{Cuts, none_made, ask_begun, one_made, written_for, counted}
+use Rattle.sat_solver.specs.session.ProofTexts.{ClosedIsText, BrokenIsFront, WroteSince, TookSince}
+use Rattle.sat_solver.specs.session.OutputView.{step_text, text_in, AreSpelt, Wrote}
+use Rattle.sat_solver.specs.session.ProofView.{IsAtWidth, Target, Closed, Open, Broken as Faulty, is_open, Carried, Carries, Stops, Flushed, TakesAll, Gives, target_of, steps_of, has_asked, Adds, Gains, Fails, FailsCheck, Complains, is_checked, Records, Drains, Flushes, FlushesOrFails, Closes, ClosesOne, HandsBack}
 use Rattle.sat_solver.specs.session.MadeView as mades
 use Rattle.sat_solver.specs.session.Making.{Gained}
 use Rattle.sat_solver.specs.declared.session.made.CheckFault.{CheckFault}

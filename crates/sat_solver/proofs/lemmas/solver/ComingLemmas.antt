@@ -26,7 +26,7 @@ use Rattle.sat_solver.specs.declared.solver.Solver.{Solver}
 use Rattle.sat_solver.specs.declared.solver.state.State.{State}
 use Rattle.sat_solver.specs.declared.solver.state.State.TheVariants as states
 use Rattle.sat_solver.specs.declared.solver.taking.Loading.{Loading}
-use Rattle.sat_solver.specs.search.Going.{IsFault, IsFaultOr}
+use Rattle.sat_solver.specs.search.Going.{IsFaultOr}
 use Rattle.sat_solver.specs.solver.Taking.{TookClause, TookAssumptions, BreaksNames, BreaksNamesOr}
 use Rattle.sat_solver.specs.solver.Whole.{HasFullStore, IsWhole, IsWholeOf, StateSays, GoesOn, steps_in}
 use Rattle.sat_solver.specs.solver.Adding.{TookIn, with_added, due_for_clause, Forgets, AreSampled, IsBeforeDrat, AddsClause, Assumed, Assumes, due_for_asked}

@@ -10,7 +10,6 @@ use Rattle.sat_solver.specs.declared.names.Variables.{Variables}
 use Rattle.sat_solver.specs.declared.names.taking.Taken.{Taken}
 use Rattle.sat_solver.specs.declared.search.solving.Core.{Core}
 use Rattle.sat_solver.specs.declared.search.work.Search.{Search}
-use Rattle.sat_solver.specs.parts.Whole.{Holds}
 use Rattle.sat_solver.specs.session.ProofView.{is_lost, session_of, steps_of}
 use Rattle.sat_solver.specs.names.Calls.{HasJudge, Stands}
 use Rattle.sat_solver.specs.search.Bumping.{AreDecays}
@@ -19,7 +18,6 @@ use Rattle.sat_solver.specs.declared.solver.state.State.{State}
 use Rattle.sat_solver.specs.declared.solver.state.State.TheVariants as states
 use Rattle.sat_solver.specs.solver.Configuring.{Decays, HandsOn}
 use Rattle.sat_solver.specs.solver.Whole.{IsWholeOf, StateSays, GoesOn, HasCore}
-use Rattle.sat_solver.proofs.lemmas.solver.ComingLemmas.{goes_of}
 use Rattle.sat_solver.proofs.lemmas.solver.TellingLemmas.{shares_moved}
 
 and_both : (a b : Bool) → (a && b) ≡ true → (a ≡ true) × (b ≡ true)

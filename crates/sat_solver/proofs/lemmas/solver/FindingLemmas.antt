@@ -10,7 +10,7 @@ use Rattle.sat_solver.specs.declared.bound.search.Outcome.TheVariants as outcome
 use Rattle.sat_solver.specs.declared.error.SolverError.{SolverError}
 use Rattle.sat_solver.specs.declared.names.Variables.{Variables}
 use Rattle.sat_solver.specs.declared.search.solving.Core.{Core}
-use Rattle.sat_solver.specs.search.Solving.{Ended, Broke}
+use Rattle.sat_solver.specs.search.Solving.{Ended}
 use Rattle.sat_solver.specs.declared.solver.state.State.{State}
 use Rattle.sat_solver.specs.declared.solver.state.State.TheVariants as states
 use Rattle.sat_solver.specs.solver.Joined.{IsJoined}

@@ -13,13 +13,11 @@ use Rattle.sat_solver.specs.declared.session.proof.Proof.{Proof}
 use Rattle.sat_solver.specs.declared.session.proof.ProofError.{ProofError}
 use Rattle.sat_solver.specs.declared.session.proof.ProofError.TheVariants.{Write, OutOfMemory, Check}
 use Rattle.sat_solver.proofs.lemmas.session.ProofLemmas.{adds_none, gains_adds}
-use Rattle.sat_solver.proofs.lemmas.search.GoingLemmas.{went_checked, fault_checked, fault_or}
+use Rattle.sat_solver.proofs.lemmas.search.GoingLemmas.{went_checked, fault_checked}
 use Rattle.sat_solver.specs.joint.Listed.{Rests}
 use Rattle.sat_solver.proofs.lemmas.joint.AnswerParts.{parts_rests}
-use Rattle.sat_solver.specs.declared.error.SolverError.{SolverError}
 use Rattle.sat_solver.specs.declared.error.SolverError.TheVariants as errors
 use Rattle.sat_solver.specs.search.Failing.{TellsCore}
-use Rattle.sat_solver.specs.parts.Full.{IsFull}
 use Rattle.sat_solver.specs.search.Going.{fault_of}
 use Rattle.sat_solver.specs.search.Joint.{assumed_in, global_in, IsSearch, Moved}
 use Rattle.sat_solver.specs.parts.Whole.{state}

@@ -1,4 +1,4 @@
-use Rattle.std.proofs.Common.{◌≡◌, List, [], length, sym, subst, arith}
+use Rattle.std.proofs.Common.{◌≡◌, List, [], sym, subst, arith}
 use Rattle.std.proofs.lemmas.Grind.{common_steps}
 use Rattle.std.proofs.lemmas.List.{nil_from_length}
 use Rattle.sat_solver.specs.loading.Indices.{AreIndexed}

@@ -1,9 +1,7 @@
-use Rattle.std.proofs.Common.{◌≡◌, ◌∙◌, ◌++◌, List, ℕ, true, is_err, refl, sym, ap, subst}
+use Rattle.std.proofs.Common.{◌≡◌, ◌∙◌, ◌++◌, true, is_err, refl, sym, ap, subst}
 use Rattle.std.proofs.lemmas.Bool.{true≢false}
 use Rattle.std.proofs.lemmas.Result.{err_from_is_err_and}
-use Rattle.sat_solver.specs.solver.Adding.{AreSampled}
 use Rattle.sat_solver.specs.solver.Asking.{Asks}
-use Rattle.sat_solver.specs.names.Refusing.{as_refusal}
 use Rattle.sat_solver.proofs.lemmas.solver.ComingLemmas.{asking_starved, assumed_by, none_refused}
 use Rattle.sat_solver.specs.names.Room.{users_in}
 use Rattle.sat_solver.proofs.lemmas.names.RoomLemmas.{said_room}

@@ -1,4 +1,3 @@
-use Rattle.std.proofs.Common.{◌≡◌}
 use Rattle.sat_solver.proofs.lemmas.session.ProofLemmas.{gains_none}
 use Rattle.sat_solver.proofs.session.proof.Proof.record_cut.Goals as goal
 
