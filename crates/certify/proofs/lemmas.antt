@@ -3,7 +3,5 @@ pub mod confirm
 pub mod run
 pub mod answers
 pub mod program
-pub mod reading
+pub mod script
 pub mod judge
-pub mod matching
-pub mod serving

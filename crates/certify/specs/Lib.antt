@@ -1,10 +1,8 @@
-pub mod Calls
+pub mod Devices
 pub mod answers
 pub mod confirm
 pub mod run
 pub mod laws
 pub mod program
-pub mod reading
+pub mod script
 pub mod judge
-pub mod matching
-pub mod serving

@@ -9,3 +9,13 @@ pub mod Streams
 pub mod Views
 pub mod SpeltLiterals
 pub mod Stepping
+pub mod Variables
+pub mod Comparing
+pub mod Following
+pub mod Awaiting
+pub mod Naming
+pub mod Confirming
+pub mod Stopping
+pub mod Lines
+pub mod Sessions
+pub mod ConfirmedScript

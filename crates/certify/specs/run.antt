@@ -5,3 +5,15 @@ pub mod Learning
 pub mod FinishedRun
 pub mod Running
 pub mod Unfinished
+pub mod Asking
+pub mod SolverCalls
+pub mod Certifies
+pub mod Ending
+pub mod Obeying
+pub mod Quiet
+pub mod Serving
+pub mod ServingLaws
+pub mod Standing
+pub mod Stretches
+pub mod Telling
+pub mod ServedScript

@@ -1,37 +1,48 @@
 //! Confirms that script, answers and certificate belong together.
 ghost use Rattle.std.specs.Prelude.{◌≡◌, ◌+◌, ◌≤◌, ◌⊎◌, IfOk, IsErrOf};
 ghost use Rattle.sat_base.specs.device.Device.{most_reads, ReadFails};
-ghost use Rattle.certify.specs.confirm.VerdictPromises.{IsExact, IsSound, Promised, ReadsKept, TakesLooks, gave};
-ghost use Rattle.certify.specs.matching.Whole.{said_by};
+ghost use Rattle.certify.specs.Devices.{gave};
+ghost use Rattle.certify.specs.confirm.VerdictPromises.{IsExact, IsSound, Promised, ReadsKept, TakesLooks};
+ghost use Rattle.certify.specs.confirm.ConfirmedScript.{said_by};
 
-pub(crate) mod feeding;
+pub(crate) mod answers;
+pub(crate) mod certificate;
+pub(crate) mod commands;
+pub(crate) mod confirmation;
+pub(crate) mod expect;
+pub(crate) mod feed;
+pub(crate) mod follow;
+pub(crate) mod lines;
+pub(crate) mod literals;
+pub(crate) mod names;
+pub(crate) mod ordered;
 pub(crate) mod stop;
+pub(crate) mod variables;
 
-use crate::matching::halt::Halt;
-use crate::matching::session::Session;
-use crate::matching::whole::Confirmation;
-use crate::reading::stream::CommandStream;
+use crate::script::stream::CommandStream;
 use crate::verdict::{ConfirmFault, Verdict};
+use commands::Session;
+use confirmation::Confirmation;
 use sat_base::{CountedRead, StepReader};
 use sat_checker::Looks;
 use std::alloc::Global;
 use stop::Stop;
 
 /// What is said where a confirmation ended so, behind so many asks that were confirmed wholly.
-fn conclude(ended: Result<(), Halt>, asks: u64) -> Result<Verdict, ConfirmFault>
+fn conclude(ended: Result<(), Stop>, asks: u64) -> Result<Verdict, ConfirmFault>
     ensures { result ≡ said_by ended asks }
 {
     match ended {
         Ok(()) => Ok(Verdict::Yes),
-        Err(Halt::Stop(Stop::No(why))) => Ok(Verdict::No {
+        Err(Stop::No(why)) => Ok(Verdict::No {
             ask: asks.saturating_add(1),
             why,
         }),
-        Err(Halt::ScriptRead) => Err(ConfirmFault::ScriptRead),
-        Err(Halt::AnswersRead) => Err(ConfirmFault::AnswersRead),
-        Err(Halt::Stop(Stop::Read)) => Err(ConfirmFault::CertificateRead),
-        Err(Halt::Stop(Stop::OutOfMemory)) => Err(ConfirmFault::OutOfMemory),
-        Err(Halt::TooMany | Halt::Stop(Stop::CounterEnd)) => Err(ConfirmFault::CounterEnd),
+        Err(Stop::ScriptRead) => Err(ConfirmFault::ScriptRead),
+        Err(Stop::AnswersRead) => Err(ConfirmFault::AnswersRead),
+        Err(Stop::CertificateRead) => Err(ConfirmFault::CertificateRead),
+        Err(Stop::OutOfMemory) => Err(ConfirmFault::OutOfMemory),
+        Err(Stop::TooMany | Stop::CounterEnd) => Err(ConfirmFault::CounterEnd),
     }
 }
 
@@ -42,7 +53,7 @@ fn compare<S: CountedRead, A: CountedRead, C: CountedRead>(
     answers: &mut A,
     certificate: &mut C,
     looks: &mut Looks,
-) -> (Result<(), Halt>, u64)
+) -> (Result<(), Stop>, u64)
     ensures promised { Promised (said_by result.0 result.1) (gave S.seen script.old script.new) (gave A.seen answers.old answers.new)
         (gave C.seen certificate.old certificate.new) }
     ensures looks { TakesLooks (C.seen certificate.old) (C.seen certificate.new) looks.old looks.new }

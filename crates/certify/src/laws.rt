@@ -7,6 +7,9 @@ ghost use Rattle.sat_checker.specs.matching.Checking.{IsSound};
 ghost use Rattle.sat_checker.specs.matching.ProofChecking.{the_checking};
 ghost use Rattle.certify.specs.laws.Rows.{AnswersTwice, AskAloneText, BehindEndUncertified, ChainCertified, UnknownUncertified, ClauseAndAskCertified, ClauseAndAskExpected, ClauseAndAskMatches, ClauseAndAskRight, ClauseAndAskSteps, ClauseAndAskText, ClauseUncertified, CoreUncertified, EarlyUncertified, EmptyMatches, EmptyText, EndAlone, EndAloneUncertified, HiddenAndBackExpected, HiddenAndBackState, HiddenAtOnceState, KnownWithoutRounds, LeftOutCertified, LeftmostRefuses, MalformedText, ModelUncertified, NameOnOldVariable, NoAnswers, TwoUnitsMatches, TwoUnitsRight, TwoUnitsSteps, WitnessRefusedText, WitnessRefusesAsk};
 
+pub mod commands;
+pub mod names;
+
 /// Where script, answers and certificate match, the answers are right: by steps and outcomes, and by the three texts.
 pub fn matching_is_right()
     ensures steps { MatchingIsRight }

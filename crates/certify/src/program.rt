@@ -1,7 +1,7 @@
 //! The program: what it does with its arguments and its standard streams.
 ghost use Rattle.std.specs.Prelude.{◌≡◌, ◌≤◌, ◌↔◌, [], map, IfOk};
 ghost use Rattle.std.specs.String.{string_bytes};
-ghost use Rattle.certify.specs.run.FinishedRun.{gave, took};
+ghost use Rattle.certify.specs.Devices.{gave, took};
 ghost use Rattle.certify.specs.program.Calls.{HasStatus, IsMisuse};
 ghost use Rattle.certify.specs.program.Printing.{PrintsVerdict};
 

@@ -1,17 +1,30 @@
-//! Answers a script, with a certificate.
+//! Answers a script as it is read, with a certificate: what a run does for each command and at its end, over its solver.
 ghost use Rattle.std.specs.Prelude.{◌≡◌, ◌+◌, ◌≤◌, ◌⊎◌, true, IfOk, OnErr, OnOk, IsErrOf};
 ghost use Rattle.sat_base.specs.device.Device.{most_reads, ReadFails};
-ghost use Rattle.certify.specs.run.FinishedRun.{Answered, Backed, WriteFails, WritesKept, gave, took};
+ghost use Rattle.certify.specs.Devices.{gave, took};
+ghost use Rattle.certify.specs.run.FinishedRun.{Answered, Backed, WriteFails, WritesKept};
 ghost use Rattle.certify.specs.run.Running.{ReadsFew, Runs};
 ghost use Rattle.certify.specs.run.Unfinished.{CounterEnds, TookSteps, Unfinished};
 
+pub mod ask;
+pub mod commands;
+pub(crate) mod end;
+pub mod faults;
+pub mod names;
+pub mod page;
+pub mod refuse;
+pub(crate) mod serve;
+pub mod session;
+pub mod solver;
+pub mod write;
+
 use crate::fault::RunFault;
-use crate::reading::stream::CommandStream;
-use crate::serving::ending::end_run;
-use crate::serving::session::Session;
-use crate::serving::whole::serve_all;
+use crate::script::stream::CommandStream;
 use crate::summary::Summary;
+use end::end_run;
 use sat_base::{CountedRead, CountedWrite};
+use serve::serve_all;
+use session::Session;
 use std::alloc::Global;
 
 /// Answers a script. Gives the certificate's writer back.

@@ -1,7 +1,8 @@
 //! Callers with contracts of their own.
 ghost use Rattle.std.specs.Prelude.{◌≡◌, ◌≤◌, ◌+◌, true, IfOk};
-ghost use Rattle.certify.specs.confirm.VerdictPromises.{AreRightAnswers, Given, gave};
-ghost use Rattle.certify.specs.laws.EndToEnd.{Certified, Says, most_looks};
+ghost use Rattle.certify.specs.Devices.{gave};
+ghost use Rattle.certify.specs.confirm.VerdictPromises.{AreRightAnswers, Given};
+ghost use Rattle.certify.specs.laws.EndToEnd.{Certified, VerdictSays, most_looks_over};
 ghost use Rattle.certify.specs.run.FinishedRun.{Backs};
 
 use certify::confirm::confirm;
@@ -64,8 +65,8 @@ fn confirm_over(
     certificate: &[u8],
     looks: &mut Looks,
 ) -> Result<Verdict, ConfirmFault>
-    ensures says { IfOk result (Says script.now answers.now certificate.now) }
-    ensures looks { looks.new ≤ looks.old + most_looks script.now answers.now certificate.now }
+    ensures says { IfOk result (VerdictSays script.now answers.now certificate.now) }
+    ensures looks { looks.new ≤ looks.old + most_looks_over script.now answers.now certificate.now }
 {
     let mut script = Counted::new(script);
     let mut answers = Counted::new(answers);

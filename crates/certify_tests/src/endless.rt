@@ -1,5 +1,9 @@
-//! Answers that never end: a line is refused once no line that may stand there begins with its bytes.
+//! Texts that never end: a line of answers is refused once no line that may stand there begins with its bytes, and a script is malformed at
+//! the first byte behind which no right word goes on.
 
+use crate::confirm::said_at;
+use crate::devices::fails_at;
+use crate::written::{AMPLE, run_on};
 use certify::confirm::confirm;
 use certify::verdict::{ConfirmFault, Verdict, Why};
 use sat_base::Counted;
@@ -83,11 +87,11 @@ fn rows() -> &'static [(
     &ENDLESS
 }
 
-/// Tests whether this is said, after one read of the text and 4,096 of one or two bytes.
+/// Tests whether this is said, after one read of the text and at most ten of one or two bytes, the digits of a number past the limit.
 fn is_refused(alloc: Global, texts: (&[u8], &[u8]), text: &[u8], again: &[u8], why: Why) -> bool {
     let (said, reads) = said_of(alloc, texts, text, again);
     match said {
-        Ok(Verdict::No { why: told, .. }) => told == why && reads <= 4097,
+        Ok(Verdict::No { why: told, .. }) => told == why && reads <= 11,
         _ => false,
     }
 }
@@ -97,4 +101,56 @@ fn answers_that_never_end_are_refused(rt: HostRuntime) {
     for &(texts, text, again, why) in rows() {
         assert!(rt; is_refused(rt.alloc(), texts, text, again, why), "{text:?}");
     }
+}
+
+/// Scripts that are malformed at their last byte, and the answers.
+static MALFORMED_THERE: [(&[u8], &[u8]); 9] = [
+    (b"\0", b"c malformed 1\n"),
+    (b"1 0\n1x", b"c malformed 2\n"),
+    (b"1 0\n2 --", b"c malformed 2\n"),
+    (b"a 0\nab", b"s SATISFIABLE\nv 0\nc malformed 2\n"),
+    (b"h 0\nc -\n0 +", b"c malformed 3\n"),
+    (b"pc", b"c malformed 1\n"),
+    (b"p cnf 1 -", b"c malformed 1\n"),
+    (b"p cnf 1 1 1", b"c malformed 1\n"),
+    (b"0\n\tp", b"c malformed 2\n"),
+];
+
+fn malformed_there() -> &'static [(&'static [u8], &'static [u8])] {
+    &MALFORMED_THERE
+}
+
+/// Tests whether a script that is read byte by byte has these answers, and they are confirmed, where a read behind its last byte would fail.
+fn is_decided(alloc: Global, text: &[u8], answers: &[u8]) -> bool {
+    let behind = (text.len() as u64).saturating_add(1);
+    let written = run_on(alloc, &mut fails_at(text, behind), AMPLE);
+    let texts = (
+        text,
+        written.answers.as_slice(),
+        written.certificate.as_slice(),
+    );
+    written.has_answers(answers) && said_at(alloc, texts, (behind, 0, 0)) == Ok(Verdict::Yes)
+}
+
+#[test]
+fn nothing_is_read_behind_a_wrong_word(rt: HostRuntime) {
+    for &(text, answers) in malformed_there() {
+        assert!(rt; is_decided(rt.alloc(), text, answers), "{text:?}");
+    }
+}
+
+/// Tests whether a script that never ends is malformed from the beginning, and read once.
+fn is_read_once(alloc: Global, again: &[u8]) -> bool {
+    let mut script = Counted::new(Endless {
+        text: b"",
+        again,
+        reads: 0,
+    });
+    let written = run_on(alloc, &mut script, AMPLE);
+    written.has_answers(b"c malformed 1\n") && script.into_inner().reads == 1
+}
+
+#[test]
+fn a_script_that_never_ends_is_read_once(rt: HostRuntime) {
+    assert!(rt; is_read_once(rt.alloc(), &[0; 64]));
 }

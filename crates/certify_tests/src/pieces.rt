@@ -109,8 +109,8 @@ fn is_confirmed(alloc: Global) -> io::Result<bool> {
     Ok(are_confirmed(alloc, (&script, &answers, &certificate)))
 }
 
-/// Tests whether a run over the clause and an ask in pieces of this size is confirmed in such pieces, and what it asked for is small.
-fn is_run_in(alloc: Global, script: &[u8], piece: usize) -> bool {
+/// The answers of a run over a script in pieces of this size, where they are confirmed in such pieces and no larger ones were asked for.
+fn answers_in(alloc: Global, script: &[u8], piece: usize) -> Option<Vec<u8>> {
     let mut reader = in_pieces(script, piece);
     let written = run_on(alloc, &mut reader, 1);
     let texts = (
@@ -118,16 +118,28 @@ fn is_run_in(alloc: Global, script: &[u8], piece: usize) -> bool {
         written.answers.as_slice(),
         written.certificate.as_slice(),
     );
-    written.fault.is_none()
+    let is_confirmed = written.fault.is_none()
         && reader.into_inner().largest <= 4096
-        && said_in(alloc, texts, piece).0 == Ok(Verdict::Yes)
+        && said_in(alloc, texts, piece).0 == Ok(Verdict::Yes);
+    if is_confirmed {
+        Some(written.answers)
+    } else {
+        None
+    }
 }
 
-/// Tests whether a run over all of the literals is confirmed.
+/// Tests whether runs over all of the literals are confirmed, and answer alike in pieces of one byte and of the largest.
 fn is_run(alloc: Global) -> Result<bool, AllocError> {
     let lits = literals(alloc)?;
     let script = script_of(alloc, &lits)?;
-    Ok(is_run_in(alloc, &script, 4096))
+    match (
+        answers_in(alloc, &script, 1),
+        answers_in(alloc, &script, 4096),
+    ) {
+        (Some(bytewise), Some(whole)) => Ok(bytewise.as_slice() == whole.as_slice()),
+        (Some(_), None) => Ok(false),
+        (None, _) => Ok(false),
+    }
 }
 
 #[test]

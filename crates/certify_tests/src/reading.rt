@@ -2,7 +2,7 @@
 
 use certify::answers::write::push_literal;
 use certify::judge::{Names, NewNames, Refusal};
-use certify::reading::{Command, CommandKind, Reached, ScriptEnd, ScriptReader};
+use certify::script::{Command, CommandKind, Reached, ScriptEnd, ScriptReader};
 use sat_base::Var;
 use std::alloc::{AllocError, Global};
 

@@ -71,11 +71,11 @@ impl DimacsParser {
         }
     }
 
-    /// Takes the next bytes of the text. An `Err` says that it stopped: at a fault, whose line is then that of the wrong word,
-    /// of the number past 2^28, or for want of memory.
+    /// Takes the next bytes of the text. An `Err` says that it stopped: at a fault, whose line is then that of the wrong word or
+    /// of the number past 2^28, or for want of memory. A wrong word is told at the first byte behind which no right one goes on.
     pub fn feed(&mut self, piece: &[u8]) -> Result<(), DimacsError>
         ensures answer { Feeds result piece.now self.old self.new }
-        // No fault is held back at the end of its line.
+        // No fault is held back at the end of its line, nor a word that is wrong whatever follows.
         ensures sound { OnOk result (IsSound self.new) }
     {
         self.parser.feed(piece)
@@ -128,7 +128,7 @@ impl DimacsParser {
         // A read has failed only where the answer is that, and none is tried again.
         ensures kept { IsErrOf result DimacsError.Read ⊎ ((R.seen reader.new).failures ≡ (R.seen reader.old).failures) }
         ensures read { IsErrOf result DimacsError.Read → ReadFails (R.seen reader.old) (R.seen reader.new) }
-        // No fault of a line that was given is passed over.
+        // No fault of a line that was given is passed over, nor a word that is wrong whatever follows.
         ensures sound { IsErrOf result DimacsError.Read → GaveSound (R.seen reader.old) (R.seen reader.new) }
         ensures reads { (R.seen reader.new).calls ≤ (R.seen reader.old).calls + most_reads }
         ensures fresh { IsErrOf result DimacsError.HasFailed → ⊥ }

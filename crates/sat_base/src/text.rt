@@ -2,6 +2,7 @@
 ghost use Rattle.std.specs.Prelude.{◌≡◌, ◌+◌, ◌*◌, ◌-◌, ◌<◌, ◌≤◌, ℕ, List, [], Bool, true, false, None, Some, IfSome, length, take};
 ghost use Rattle.sat_base.specs.text.Text.{is_blank, is_digit, is_letter, Scan, scan};
 ghost use Rattle.sat_base.specs.text.Chunks.{Follows};
+ghost use Rattle.sat_base.specs.text.WrongWords.{RightAhead, WrongAhead};
 ghost use Rattle.sat_base.specs.text.Tokenizing.{grown, held, may_come, Began, Moves, MovesBy, BeginsWord, Says, SaysAtBlank, LeadsBehind, IsQuiet, Stands, Takes, TakesFront, Quiet, GivesLast};
 
 mod header;
@@ -354,6 +355,7 @@ impl Tokenizer {
     fn end_line(&mut self) -> Option<Token>
         ensures takes { Takes self.old 10 result self.new }
         ensures ended { (after : List ℕ → Scan) → Stands self.new after → (after []).tokens ≡ [] }
+        ensures right { (after : List ℕ → Scan) → Stands self.new after → RightAhead after }
     {
         if let Place::Over = self.place {
             return None;
@@ -371,9 +373,11 @@ impl Tokenizer {
         ensures takes { Takes self.old byte result self.new }
         // Only a blank ends a word,
         ensures inside { is_blank byte ≡ false → result ≡ None }
-        // and behind it none is in hand, nor a header line behind LF.
+        // and behind it none is in hand, nor a header line behind LF,
         ensures quiet { is_blank byte ≡ true → (after : List ℕ → Scan) → Stands self.new after → Quiet (after []) }
         ensures ended { byte ≡ 10 → (after : List ℕ → Scan) → Stands self.new after → (after []).tokens ≡ [] }
+        // and what comes may be right.
+        ensures right { is_blank byte ≡ true → (after : List ℕ → Scan) → Stands self.new after → RightAhead after }
     {
         // Most bytes are a further digit, for which no other place is looked at.
         if let Place::Digits { negative, value } = self.place {
@@ -417,6 +421,7 @@ impl Tokenizer {
         ensures some { 0 < result.0 }
         ensures within { result.0 ≤ length bytes.now }
         ensures takes { TakesFront self.old (take result.0 bytes.now) result.1 self.new }
+        ensures right { (result.1 ≡ None → ⊥) → (after : List ℕ → Scan) → Stands self.new after → RightAhead after }
     {
         let Some(count) = self.push_number(bytes) else {
             return (1, self.push(bytes[0]));
@@ -426,6 +431,20 @@ impl Tokenizer {
             return (count, None);
         }
         (count + 1, self.push(bytes[count]))
+    }
+
+    /// Whether the word or header line in hand is wrong whatever follows: from its first byte on behind which no right one goes
+    /// on. So `1x` is wrong at `x` and `--` at the second `-`, but `-0`, which may go on as `-01`, only where it ends.
+    #[inline(always)]
+    pub fn is_wrong(&self) -> bool
+        ensures wrong { result ≡ true → (before : List ℕ → Scan) → Stands self.now before → WrongAhead before }
+        ensures right { result ≡ false → (before : List ℕ → Scan) → Stands self.now before → RightAhead before }
+    {
+        match self.place {
+            Place::Bad => true,
+            Place::Spoilt => true,
+            _ => false,
+        }
     }
 
     /// The token in hand where the text ends here, if there is one.

@@ -414,6 +414,38 @@ fn a_caller_sees_each_piece_up_to_a_percent_line(rt: HostRuntime) {
     assert!(rt; calls == reads && 2 < reads && reads < 6);
 }
 
+/// How often a reader of a text is called that gives it byte by byte, and the fault.
+fn reads_and_fault(alloc: Global, text: &[u8]) -> (u64, Option<DimacsError>) {
+    let mut reader = by_one(text, 0);
+    let fault = DimacsParser::parse(alloc, &mut reader).err();
+    (reader.into_inner().calls, fault)
+}
+
+/// A text, and the line and the byte at which it is found malformed.
+static FIRST_WRONG: [(&[u8], u64, u64); 5] = [
+    (b"\0\0\0\n", 1, 1),
+    (b"1 0\n2x 0\n", 2, 6),
+    (b"1 0\n--2 0\n", 2, 6),
+    (b"p cnf 1 x 0\n", 1, 9),
+    (b"1\np cnf 1 1\n", 2, 3),
+];
+
+fn first_wrong() -> &'static [(&'static [u8], u64, u64)] {
+    &FIRST_WRONG
+}
+
+/// Nothing is read behind the first byte of a wrong word behind which no right one goes on.
+#[test]
+fn wrong_words_are_told_at_once(rt: HostRuntime) {
+    for &(text, line, reads) in first_wrong() {
+        let found = reads_and_fault(rt.alloc(), text);
+        assert!(rt;
+            found == (reads, Some(DimacsError::Malformed { line })),
+            "{text:?} {found:?}"
+        );
+    }
+}
+
 #[test]
 fn a_caller_may_refuse_and_a_read_may_fail(rt: HostRuntime) {
     let text: &[u8] = b"1 0\n2 0\n";

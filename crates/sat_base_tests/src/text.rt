@@ -298,3 +298,73 @@ fn tells_numbers_from_wrong_words(rt: HostRuntime) {
     let wrong = wrong_word();
     assert!(rt; wrong == None, "{wrong:?}");
 }
+
+/// How many bytes of a text lead to a word or header line that is wrong whatever follows, if some do.
+fn wrong_behind(text: &[u8]) -> Option<u64> {
+    let mut tokenizer = Tokenizer::new();
+    let mut count = 0u64;
+    for byte in text {
+        tokenizer.push(*byte);
+        count = count.saturating_add(1);
+        if tokenizer.is_wrong() {
+            return Some(count);
+        }
+    }
+    None
+}
+
+/// Texts, and the bytes of each up to the first behind which no right word or header line goes on.
+static TURNS: [(&[u8], Option<u64>); 37] = [
+    (b"", None),
+    (b"1x0 0", Some(2)),
+    (b"--1", Some(2)),
+    (b"-x", Some(2)),
+    (b"1-", Some(2)),
+    (b"+1", Some(1)),
+    (b"\0\0", Some(1)),
+    (b"\xc3\xa4", Some(1)),
+    (b"1\x0b0", Some(2)),
+    (b"ab", Some(2)),
+    (b"b1", Some(2)),
+    (b"a b c", None),
+    (b"-", None),
+    // Behind these a further digit makes a number.
+    (b"-0", None),
+    (b"-00", None),
+    (b"-01 0", None),
+    (b"99999999999999999999999", None),
+    (b"1 0\n2\t-3\r\n 4_", Some(13)),
+    // A word that its end makes wrong is told by its token.
+    (b"- -0 +", Some(6)),
+    (b"c\0+\n_", Some(5)),
+    (b" \tc--\n1", None),
+    (b"1 c1", Some(4)),
+    (b"%--\n+", None),
+    (b"1\n %--\n+", None),
+    (b"1 %", Some(3)),
+    (b"pcnf", Some(2)),
+    (b"p cnf 1 1\n1 0", None),
+    (b"p dnf 1 1", Some(3)),
+    (b"p cx", Some(4)),
+    (b"p cnfx", Some(6)),
+    (b"p cnf +1", Some(7)),
+    (b"p cnf 1 -", Some(9)),
+    (b"p cnf 1 1x", Some(10)),
+    (b"p cnf 1 1 1", Some(11)),
+    // The line's other words say nothing.
+    (b"p cn 1 1 x\n", None),
+    (b"p cnf 1 1\np", Some(11)),
+    (b"1\n\tp", Some(4)),
+];
+
+fn turns() -> &'static [(&'static [u8], Option<u64>)] {
+    &TURNS
+}
+
+#[test]
+fn wrong_words_are_told_at_their_first_wrong_byte(rt: HostRuntime) {
+    for &(text, count) in turns() {
+        let found = wrong_behind(text);
+        assert!(rt; found == count, "{text:?} {found:?}");
+    }
+}

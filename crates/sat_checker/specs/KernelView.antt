@@ -8,7 +8,7 @@ use Rattle.sat_checker.specs.Looks.{most_looks}
 use Rattle.sat_checker.specs.inner.StateView.{Keeps}
 use Rattle.sat_checker.specs.declared.kernel.Kernel.{Kernel}
 use Rattle.sat_checker.specs.declared.state.State.{State}
-use Rattle.sat_checker.specs.declared.status.Records.{Records}
+use Rattle.sat_checker.specs.declared.state.status.Records.{Records}
 use Rattle.sat_checker.specs.declared.error.CheckerError.{CheckerError}
 use Rattle.sat_checker.specs.declared.error.CheckerError.TheVariants as errors
 

@@ -2,8 +2,8 @@
 use Rattle.std.specs.Prelude.{ℕ, not, List, [], ◌∷◌, filter, if◌then◌else◌}
 use Rattle.sat_base.specs.values.Literals.{negated}
 use Rattle.sat_checker.specs.LiteralSets.{is_among}
-use Rattle.sat_checker.specs.declared.assigned.Look.{Look}
-use Rattle.sat_checker.specs.declared.assigned.Look.TheVariants as look
+use Rattle.sat_checker.specs.declared.units.assigned.Look.{Look}
+use Rattle.sat_checker.specs.declared.units.assigned.Look.TheVariants as look
 
 -- what a clause says under the assumed literals
 pub data Verdict : Type 0 where

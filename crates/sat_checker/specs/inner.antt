@@ -9,6 +9,7 @@ pub mod OccurrenceView
 pub mod EntryView
 pub mod VariablesView
 pub mod StoreView
+pub mod LitNumbers
 pub mod UnitView
 pub mod FormulaView
 pub mod StateView

@@ -19,15 +19,17 @@ ghost use Rattle.sat_checker.specs.inner.FormulaView.{KeepsFormula, refiled_in, 
 ghost use Rattle.sat_checker.specs.telling.AnnouncingView.{AreLong};
 ghost use Rattle.sat_checker.specs.telling.NotedView.{Adds};
 
-use crate::assigned::Assigned;
+pub(crate) mod unnumbered;
+
+use crate::announce::notes::Notes;
 use crate::looks::Looks;
-use crate::notes::Notes;
-use crate::passed::Passed;
+use crate::rup::passed::Passed;
 use crate::sorted_lits::{has_both_signs, is_subset, sorted_set};
-use crate::status::{LastClause, Status};
+use crate::state::status::{LastClause, Status};
 use crate::store::{Store, StoreError};
 use crate::units::Units;
-use crate::valuation::assume_apart;
+use crate::units::assigned::Assigned;
+use crate::units::valuation::assume_apart;
 use sat_base::{ClauseHash, DeleteClauseProof, Lit, Var};
 use std::alloc::{AllocError, Global};
 

@@ -1,5 +1,5 @@
 //! The part of a checker that judges steps, and tells what they announce.
-ghost use Rattle.std.specs.Prelude.{List, ◌≤◌, ◌≡◌, false, [], None, Ok, OnOk, IsTrue, MatchResult};
+ghost use Rattle.std.specs.Prelude.{List, ◌≤◌, ◌≡◌, true, false, [], None, Ok, Err, OnOk, IsTrue, MatchResult};
 ghost use Rattle.sat_base.specs.steps.StepViews.{step_of};
 ghost use Rattle.sat_checker.specs.KernelView as kernels;
 ghost use Rattle.sat_checker.specs.KernelView.{has_failed, looks_of, Stands};
@@ -11,15 +11,15 @@ ghost use Rattle.sat_checker.specs.telling.AnnouncementView.{variables_of};
 ghost use Rattle.sat_checker.specs.telling.Hearing.{hearers, HearsAll, HearsFirst, HearsUpTo};
 ghost use Rattle.sat_checker.specs.telling.ProcessingView.{listeners_of, HearsEach};
 
-use crate::announcement::{CheckedProofStep, CheckerData, Was};
+use crate::announce::announcement::{CheckedProofStep, CheckerData, Was};
+use crate::announce::news::News;
+use crate::announce::notes::Notes;
+use crate::announce::transcript::ProofTranscriptProcessor;
 use crate::error::CheckerError;
 use crate::looks::Looks;
-use crate::news::News;
-use crate::notes::Notes;
 use crate::processing::{Processing, ProcessingError, ProofProcessor};
 use crate::state::State;
-use crate::status::{Records, Status};
-use crate::transcript::ProofTranscriptProcessor;
+use crate::state::status::{Records, Status};
 use crate::variables::Variables;
 use sat_base::ProofStep;
 use std::alloc::Global;
@@ -142,6 +142,8 @@ impl Kernel {
             result (seen self.old (hearers own.old others.old)) (step_of step.now) (seen self.new (hearers own.new others.new)) }
         ensures looks { kernels.LooksAtMost self.old (step_of step.now) self.new }
         ensures rise { looks_of self.old ≤ looks_of self.new }
+        ensures failed { has_failed self.old ≡ true
+            → (result ≡ Err CheckerError.HasFailed) × (self.new ≡ self.old) × (others.new ≡ others.old) }
     {
         if self.failed {
             return Err(CheckerError::HasFailed);

@@ -3,8 +3,8 @@ ghost use Rattle.sat_checker.specs.announcements.Promises.{ConflictIsAnnounced, 
 ghost use Rattle.sat_checker.specs.announcements.Rows.{AnswersRead, Assumed, CollidingTold, ConflictAndUnitTold, Contradiction, CoreFailed, CoreOfBothSigns, DerivedIrredundant, DerivedIrredundantAgain, DerivedNew, DerivedRedundantAgain, DerivedTautology, DerivedUnitAgain, InputBehindUnsat, InputDuplicate, InputNew, InputRedundant, InputTautology, InputUnitAgain, InputsRead, ModeChanged, ModeLeft, ModeOfNameless, Modelled, ModesRead, NameNew, NameNewRead, NameOfKnown, NameOfKnownRead, NameRemoved, NameRemovedRead, NamedTwiceTold, OthersRead, OthersTell, PassedNotNeeded, RedundantGone, RedundantStays, RefutedAtZeroTold, RefutedRead, RefutedTold, SatisfiedGone, SatisfiedKept, SatisfiedStays, SimplifiedByEmpty, SimplifiedGone, SolverNameSet, UnitAlone, UnitsFirst, UnitsHeld};
 ghost use Rattle.sat_checker.specs.telling.ProcessingView.{NobodyFails};
 
+use crate::announce::transcript::ProofTranscriptProcessor;
 use crate::processing::ProofProcessor;
-use crate::transcript::ProofTranscriptProcessor;
 
 /// What a clause that passes the check rests on.
 pub fn propagations_run_to_conflict()

@@ -3,10 +3,12 @@ ghost use Rattle.std.specs.Prelude.{◌≡◌, ◌+◌, ◌-◌, ◌^◌, min};
 ghost use Rattle.sat_checker.specs.CheckerView.{kernel_of};
 ghost use Rattle.sat_checker.specs.KernelView.{looks_of};
 
+pub(crate) mod tally;
+
+use crate::announce::transcript::ProofTranscriptProcessor;
 use crate::checker::Checker;
+use crate::looks::tally::LookTally;
 use crate::processing::ProofProcessor;
-use crate::tally::LookTally;
-use crate::transcript::ProofTranscriptProcessor;
 use std::marker::Model;
 
 /// How many literals of stored clauses were looked at, which contracts see without a largest value.

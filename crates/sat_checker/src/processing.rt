@@ -10,8 +10,10 @@ ghost use Rattle.sat_checker.specs.telling.TranscriptView.{transcribed_of};
 ghost use Rattle.sat_checker.specs.telling.Telling.{AllTold, SomeTold, Transcribes};
 ghost use Rattle.sat_checker.specs.telling.ProcessingView.{listeners_of, HearsEach};
 
-use crate::announcement::{CheckedProofStep, CheckerData};
-use crate::transcript::{ProofTranscriptProcessor, ProofTranscriptStep, Transcript};
+pub(crate) mod boxes;
+
+use crate::announce::announcement::{CheckedProofStep, CheckerData};
+use crate::announce::transcript::{ProofTranscriptProcessor, ProofTranscriptStep, Transcript};
 use crate::variables::Variables;
 use std::alloc::{AllocError, Global};
 use thiserror::Error;

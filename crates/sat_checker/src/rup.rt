@@ -7,10 +7,14 @@ ghost use Rattle.sat_checker.specs.inner.Reasons.{clause_at, filed, named, noted
 ghost use Rattle.sat_checker.specs.inner.SlotView.{literals_at, bucket_in, bucket_of, live_length};
 ghost use Rattle.sat_checker.specs.inner.Walk.{verdict, walk_on, walk_buckets, denied};
 
-use crate::assigned::{Assigned, Look, look_at};
-use crate::clauses::Clauses;
+pub(crate) mod needed;
+pub(crate) mod passed;
+pub(crate) mod propagations;
+
 use crate::looks::Looks;
-use crate::passed::Passed;
+use crate::rup::passed::Passed;
+use crate::store::clauses::Clauses;
+use crate::units::assigned::{Assigned, Look, look_at};
 use sat_base::{ClauseHash, Lit};
 use std::alloc::AllocError;
 

@@ -9,11 +9,14 @@ ghost use Rattle.sat_base.specs.steps.StepViews.{deletion_of, step_of};
 ghost use Rattle.sat_checker.specs.inner.StateView.{Keeps, KeepsFiled, Leaves, with_added, with_derived, Decides, LooksWithin};
 ghost use Rattle.sat_checker.specs.telling.NotedView.{Announces};
 
+pub(crate) mod lit_set;
+pub(crate) mod status;
+
+use crate::announce::notes::Notes;
 use crate::formula::Formula;
-use crate::lit_set::LitSet;
 use crate::looks::Looks;
-use crate::notes::Notes;
 use crate::sorted_lits::{copy_negated, sorted_set};
+use crate::state::lit_set::LitSet;
 use crate::store::StoreError;
 use crate::variables::Variables;
 use sat_base::{ClauseHash, DeleteClauseProof, HashBits, Lit, ProofStep, Var};

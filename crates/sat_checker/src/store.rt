@@ -11,11 +11,18 @@ ghost use Rattle.sat_checker.specs.LiteralSets.{mentions};
 ghost use Rattle.sat_checker.specs.inner.ModelTests.{are_all_true, irredundant_length};
 ghost use Rattle.std.specs.List.{list_any};
 
-use crate::assigned::Assigned;
-use crate::clauses::{Clauses, all_bits};
+pub mod clauses;
+pub(crate) mod filed_hash;
+pub mod links;
+pub mod occurrences;
+pub mod slots;
+pub mod sorted_pairs;
+
 use crate::hash::ClauseHasher;
 use crate::looks::Looks;
 use crate::sorted_lits::is_subset;
+use crate::store::clauses::{Clauses, all_bits};
+use crate::units::assigned::Assigned;
 use sat_base::{HashBits, Lit, Var};
 use std::alloc::{AllocError, Global};
 

@@ -1,10 +1,11 @@
 //! The stored units.
-ghost use Rattle.std.specs.Prelude.{◌≡◌, ◌++◌, ◌∷◌, [], ◌+◌, ◌*◌, ◌^◌, ◌<◌, ◌≤◌, ◌↔◌, false, length, map, IfOk, IsTrue, OnOk, filter, not, ◌==◌};
+ghost use Rattle.std.specs.Prelude.{ℕ, ◌≡◌, ◌++◌, ◌∷◌, [], ◌+◌, ◌*◌, ◌^◌, ◌<◌, ◌≤◌, ◌↔◌, true, false, length, map, reverse, IfOk, IsTrue, OnOk, filter, not, ◌==◌, if◌then◌else◌};
 ghost use Rattle.sat_base.specs.values.Literals.{negated, variable};
 ghost use Rattle.std.specs.List.{list_any};
 ghost use Rattle.sat_checker.specs.LiteralSets.{is_among};
 ghost use Rattle.sat_checker.specs.announcements.Needed.{true_unit};
 ghost use Rattle.sat_checker.specs.inner.Marks.{NoRepeats};
+ghost use Rattle.sat_checker.specs.inner.LitNumbers.{ArePlaced};
 ghost use Rattle.sat_checker.specs.inner.Reasons.{noted_length, ExplainsCheck};
 ghost use Rattle.sat_checker.specs.Storing.{unit_id};
 ghost use Rattle.sat_checker.specs.Stored.{Stored};
@@ -12,41 +13,58 @@ ghost use Rattle.sat_checker.specs.Accepts.{Passes};
 ghost use Rattle.sat_checker.specs.Looks.{literal_count};
 ghost use Rattle.sat_checker.specs.inner.StoreView.{KeepsClauses};
 
-use crate::assigned::Assigned;
+pub mod assigned;
+pub(crate) mod lit_numbers;
+pub(crate) mod unit_order;
+pub(crate) mod valuation;
+
 use crate::looks::Looks;
-use crate::passed::Passed;
 use crate::rup::check_clause_with_hashes;
+use crate::rup::passed::Passed;
 use crate::store::Store;
-use crate::unit_ids::UnitIds;
+use crate::units::assigned::Assigned;
+use crate::units::lit_numbers::LitNumbers;
+use crate::units::unit_order::UnitOrder;
 use sat_base::{ClauseHash, Lit, Var};
 use std::alloc::{AllocError, Global};
 use std::marker::Model;
 
-/// A unit, with its id.
-#[derive(Clone, Copy)]
-struct Unit {
-    id: u64,
-    lit: Lit,
-}
-
-/// The units in the order in which they were stored, which are assumed whenever a clause is checked.
+/// The units, which are assumed whenever a clause is checked. Contracts see them in the order in which they were stored.
 #[derive(Drop)]
 pub(crate) struct Units {
-    list: Vec<Unit>,
-    ids: UnitIds,
+    ids: LitNumbers,
+    /// The place of each on the trail of what is assumed, by which it is taken out of there.
+    places: LitNumbers,
     assigned: Assigned,
+    order: UnitOrder,
 }
 
 impl Model for Units {
-    ghost use Rattle.std.specs.Prelude.{List, map};
+    ghost use Rattle.std.specs.Prelude.{List};
     ghost use Rattle.sat_checker.specs.Stored.{StoredUnit};
-    ghost use Rattle.sat_checker.specs.inner.UnitView.{AreUnits, unit_of};
+    ghost use Rattle.sat_checker.specs.inner.UnitView.{AreUnits};
 
     ghost Value = { List StoredUnit };
 
-    ghost view = { λ s. map unit_of s.list.items };
+    ghost view = { λ s. s.order.units };
 
-    ghost invariant = { λ s. AreUnits s.list.items s.ids s.assigned };
+    ghost invariant = { λ s. AreUnits s.order.units s.ids s.places s.assigned };
+}
+
+/// Forgets an assumed literal, by its place on the trail. The newest takes its place.
+fn take_out(assigned: &mut Assigned, places: &mut LitNumbers, lit: Lit)
+    requires assumed { is_among assigned.old lit ≡ true }
+    requires placed { ArePlaced places.old (reverse assigned.old) }
+    ensures assumed { (l : ℕ) → is_among assigned.new l ≡ (if l == lit then false else is_among assigned.old l) }
+    ensures placed { ArePlaced places.new (reverse assigned.new) }
+{
+    let Some(place) = places.get(lit) else {
+        return;
+    };
+    let trail = assigned.literals();
+    let newest = trail[trail.len() - 1];
+    places.put(newest, place);
+    assigned.forget_at(place as usize);
 }
 
 impl Units {
@@ -54,17 +72,18 @@ impl Units {
         ensures { result ≡ [] }
     {
         Units {
-            list: Vec::new(alloc),
-            ids: UnitIds::new(alloc),
+            ids: LitNumbers::new(alloc),
+            places: LitNumbers::new(alloc),
             assigned: Assigned::new(alloc),
+            order: UnitOrder::new(),
         }
     }
 
-    pub fn len(&self) -> usize
-        ensures count { result ≡ length self.now }
-        ensures once { NoRepeats (map (λ u. u.literal) self.now) }
+    /// No literal is a unit twice. For contracts alone: it does nothing at run time.
+    pub fn stand_once(&self)
+        ensures { NoRepeats (map (λ u. u.literal) self.now) }
     {
-        self.assigned.literals().len()
+        let _ = &self.order;
     }
 
     pub fn is_unit(&self, lit: Lit) -> bool
@@ -92,11 +111,13 @@ impl Units {
         requires id { id + 1 < 2 ^ 64 }
         ensures { OnOk result (self.new ≡ self.old ++ (record { id = id; literal = lit }) ∷ []) }
     {
-        self.list.reserve(1)?;
         self.ids.make_room(lit)?;
+        self.places.make_room(lit)?;
         self.assigned.assume(lit)?;
+        let place = self.assigned.len() - 1;
         self.ids.put(lit, id);
-        self.list.push(Unit { id, lit })?;
+        self.places.put(lit, place as u64);
+        self.order = self.order.and(id, lit.code());
         Ok(())
     }
 
@@ -120,19 +141,23 @@ impl Units {
         None
     }
 
-    /// Forgets the unit of a variable.
+    /// Forgets the unit of a variable. It takes the same time however many units there are.
     pub fn forget(&mut self, var: Var)
         ensures { self.new ≡ filter (λ u. not (variable u.literal == var)) self.old }
     {
-        let positive = var.lit(true);
-        let negative = var.lit(false);
-        if !self.is_unit(positive) && !self.is_unit(negative) {
+        self.forget_lit(var.lit(true));
+        self.forget_lit(var.lit(false));
+    }
+
+    fn forget_lit(&mut self, lit: Lit)
+        ensures { self.new ≡ filter (λ u. not (u.literal == lit)) self.old }
+    {
+        if !self.is_unit(lit) {
             return;
         }
-        self.assigned.forget_var(var);
-        self.ids.forget(positive);
-        self.ids.forget(negative);
-        self.list.retain(|unit| unit.lit.var() != var);
+        take_out(&mut self.assigned, &mut self.places, lit);
+        self.ids.forget(lit);
+        self.order = self.order.without(lit.code());
     }
 
     /// Whether the negation of a unit is assumed.

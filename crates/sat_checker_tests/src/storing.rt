@@ -1,9 +1,9 @@
 //! A store alone: clauses of three, four and five literals come and go, the width changes, and those that are left are found.
 use sat_base::{HashBits, Lit};
 use sat_checker::Looks;
-use sat_checker::links::Pair;
 use sat_checker::sorted_lits::copy_canonical;
 use sat_checker::store::Store;
+use sat_checker::store::links::Pair;
 use std::alloc::{AllocError, Global};
 
 /// How many clauses are stored.

@@ -1,5 +1,5 @@
 //! Reading a line from its bytes.
-ghost use Rattle.std.specs.Prelude.{◌≡◌, ◌++◌, List, ℕ, codes, IfOk, MatchBool, MatchOption};
+ghost use Rattle.std.specs.Prelude.{◌≡◌, ◌++◌, List, ℕ, codes, IfOk, MatchBool, MatchOption, []};
 ghost use Rattle.sat_base.specs.dimacs.DimacsText.{number_text};
 ghost use Rattle.sat_hints.specs.Lines.{Spells, id_text};
 ghost use Rattle.sat_hints.specs.inner.LineReading.{BeginsWithWords, IsBoth, IsId, IsLiteral, IsNoLine, IsOne, line_of, line_with};
@@ -62,7 +62,10 @@ fn is_end(bytes: &[u8]) -> bool
 }
 
 impl Lists {
-    pub(crate) fn new(alloc: Global) -> Lists {
+    pub(crate) fn new(alloc: Global) -> Lists
+        ensures literals { result.literals.items ≡ [] }
+        ensures ids { result.ids.items ≡ [] }
+    {
         Lists {
             literals: Vec::new(alloc),
             ids: Vec::new(alloc),

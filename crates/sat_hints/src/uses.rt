@@ -7,7 +7,7 @@ ghost use Rattle.sat_hints.specs.inner.UsesView.{if_counting, uses_at};
 
 use crate::present::Present;
 use sat_base::{Lit, Var};
-use sat_checker::occurrences::Occurrences;
+use sat_checker::store::occurrences::Occurrences;
 use std::alloc::{AllocError, Global};
 
 /// How often literals stand in the clauses of two or more that are present. They are counted from the first time on that it is

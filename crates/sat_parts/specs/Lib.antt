@@ -1,2 +1,3 @@
 pub mod clause
 pub mod prop
+pub mod parts

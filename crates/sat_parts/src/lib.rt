@@ -1,10 +1,12 @@
-//! What a solver propagates with: values of variables, the trail, reasons, lists of clauses, and propagation itself.
+//! What a solver propagates with: values of variables, the trail, reasons, lists of clauses, and propagation itself; and all of
+//! these as one struct.
 #![tactic(auto)]
 
 pub mod binary;
 pub mod clause;
 pub mod glue;
 pub mod laws;
+pub mod parts;
 pub mod prop;
 
 pub use binary::BinaryClauses;
@@ -17,6 +19,7 @@ pub use clause::gc::collect_garbage;
 pub use clause::iter::{ClausesIter, clauses_iter};
 pub use clause::reduce::{dedup_and_mark_by_tier, reduce_mids};
 pub use glue::{compute_clause_glue, compute_glue};
+pub use parts::Parts;
 pub use prop::assignment::{Assignment, fast_option_eq};
 pub use prop::binary::propagate_binary;
 pub use prop::cause::{CauseLits, CauseLitsIter};

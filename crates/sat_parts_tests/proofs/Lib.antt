@@ -1,2 +1,2 @@
-pub mod LoadLemmas
+pub mod ListLemmas
 pub mod LiveLemmas

@@ -1,38 +1,24 @@
 //! The two parts of propagation, each alone, and the building of watch lists.
-ghost use Rattle.std.specs.Prelude.{ℕ, List, ◌≡◌, ◌+◌, ◌<◌, true, [], length};
-ghost use Rattle.sat_store.specs.heap.Vsids.{no_variables};
-ghost use Rattle.sat_parts.specs.clause.Db.{no_clauses, HoldsDb};
-ghost use Rattle.sat_parts.specs.prop.Trails.{no_trail};
+ghost use Rattle.std.specs.Prelude.{ℕ, List, ◌≡◌, ◌+◌, ◌<◌, [], length};
 ghost use Rattle.sat_parts.specs.prop.State.{level, current_level};
-ghost use Rattle.sat_parts.specs.prop.Ready.{state_of, LongReady};
-ghost use Rattle.sat_parts_tests.specs.Loading.{Serves};
+ghost use Rattle.sat_parts.specs.prop.Ready.{LongReady};
+ghost use Rattle.sat_parts.specs.parts.Whole.{state, PartsInvariant, HoldsBelow};
 
-use crate::parts::{Parts, no_parts};
-use crate::propagation::{assumed, names_first, reads};
-use crate::search::{enqueue, propagate_all};
+use crate::loading::loaded;
+use crate::propagation::{names_first, reads};
 use sat_base::{Lit, Var};
-use sat_parts::{Conflict, Reason, enable_watchlists, propagate_binary, propagate_long};
+use sat_parts::parts::no_parts;
+use sat_parts::parts::steps::propagate_all;
+use sat_parts::{Conflict, Parts, Reason, enable_watchlists, propagate_binary, propagate_long};
 use sat_store::StoreError;
 use std::alloc::{AllocError, Global};
 
-/// Makes another literal true, and answers whether it was open.
-fn assumed_too(parts: &mut Parts, lit: Lit) -> bool
-    requires serves { Serves parts.old.clauses parts.old.db parts.old.watchlists parts.old.binary
-        parts.old.assignment parts.old.graph parts.old.trail parts.old.vsids (length parts.old.trail.starts + 1) }
-    ensures serves { Serves parts.new.clauses parts.new.db parts.new.watchlists parts.new.binary
-        parts.new.assignment parts.new.graph parts.new.trail parts.new.vsids (length parts.new.trail.starts + 1) }
-{
-    if lit.index() >= parts.assignment.assignment().len() || !parts.assignment.lit_is_unk(lit) {
-        return false;
-    }
-    enqueue(parts, lit);
-    true
-}
+/// How many variables there are.
+const COUNT: usize = 3;
 
 /// Propagates the next literal of the queue over the clauses of two literals. None where the queue is empty.
 fn over_binary(parts: &mut Parts) -> Result<Option<Result<(), Conflict>>, AllocError>
-    requires serves { Serves parts.old.clauses parts.old.db parts.old.watchlists parts.old.binary
-        parts.old.assignment parts.old.graph parts.old.trail parts.old.vsids (length parts.old.trail.starts + 1) }
+    requires { HoldsBelow (length parts.old.trail.starts + 1) parts.old }
 {
     let next = parts.trail.pop_queue();
     match next {
@@ -54,9 +40,7 @@ fn over_binary(parts: &mut Parts) -> Result<Option<Result<(), Conflict>>, AllocE
 fn over_long(alloc: Global, parts: &mut Parts) -> Result<Option<Result<(), Conflict>>, AllocError>
     ghost live: { List ℕ }
     requires { LongReady parts.old.clauses live parts.old.watchlists.lists
-        (state_of parts.old.assignment parts.old.graph parts.old.trail)
-        (λ l. level (state_of parts.old.assignment parts.old.graph parts.old.trail) l
-        < current_level (state_of parts.old.assignment parts.old.graph parts.old.trail) + 1) }
+        (state parts.old) (λ l. level (state parts.old) l < current_level (state parts.old) + 1) }
 {
     let next = parts.trail.pop_queue();
     match next {
@@ -81,28 +65,23 @@ fn built_and_over_long(
     alloc: Global,
     parts: &mut Parts,
 ) -> Result<Option<Result<(), Conflict>>, AllocError>
-    requires serves { Serves parts.old.clauses parts.old.db parts.old.watchlists parts.old.binary
-        parts.old.assignment parts.old.graph parts.old.trail parts.old.vsids (length parts.old.trail.starts + 1) }
+    requires { HoldsBelow (length parts.old.trail.starts + 1) parts.old }
 {
     enable_watchlists(&mut parts.watchlists, &parts.clauses, &parts.db)?;
     over_long(alloc, parts)
 }
 
-/// What each part answers alone, with two literals true over these clauses. None where they aren't clauses over three variables.
+/// What each part answers alone over these clauses. None where they aren't clauses over three variables.
 fn found_alone(
     alloc: Global,
     parts: &mut Parts,
     clauses: &[&[i64]],
     is_long: bool,
 ) -> Result<Option<Result<(), Conflict>>, StoreError>
-    requires clauses { HoldsDb parts.old.clauses parts.old.db × (parts.old.db ≡ no_clauses) }
-    requires lists { (parts.old.watchlists.lists ≡ []) × (parts.old.binary.implied ≡ []) }
-    requires values { (parts.old.assignment.current ≡ []) × (parts.old.graph ≡ []) }
-    requires trail { (parts.old.trail ≡ no_trail) × (parts.old.vsids ≡ no_variables) }
+    requires holds { PartsInvariant parts.old }
+    requires none { parts.old.assignment.current ≡ [] }
 {
-    if !assumed(alloc, parts, clauses, Lit::from_code(0))?
-        || !assumed_too(parts, Lit::from_code(2))
-    {
+    if !loaded(alloc, parts, COUNT, clauses)? {
         return Ok(None);
     }
     if is_long {
@@ -112,20 +91,16 @@ fn found_alone(
     }
 }
 
-/// What propagation answers with two literals true over these clauses. None where they aren't clauses over three variables.
+/// What propagation answers over these clauses. None where they aren't clauses over three variables.
 fn found_together(
     alloc: Global,
     parts: &mut Parts,
     clauses: &[&[i64]],
 ) -> Result<Option<Result<(), Conflict>>, StoreError>
-    requires clauses { HoldsDb parts.old.clauses parts.old.db × (parts.old.db ≡ no_clauses) }
-    requires lists { (parts.old.watchlists.lists ≡ []) × (parts.old.binary.implied ≡ []) }
-    requires values { (parts.old.assignment.current ≡ []) × (parts.old.graph ≡ []) }
-    requires trail { (parts.old.trail ≡ no_trail) × (parts.old.vsids ≡ no_variables) }
+    requires holds { PartsInvariant parts.old }
+    requires none { parts.old.assignment.current ≡ [] }
 {
-    if !assumed(alloc, parts, clauses, Lit::from_code(0))?
-        || !assumed_too(parts, Lit::from_code(2))
-    {
+    if !loaded(alloc, parts, COUNT, clauses)? {
         return Ok(None);
     }
     let found = propagate_all(alloc, parts)?;
@@ -144,7 +119,7 @@ fn third_by_first(parts: &Parts) -> bool {
 #[test]
 fn long_clauses_alone(rt: HostRuntime) {
     let mut parts = no_parts(rt.alloc());
-    let clauses: [&[i64]; 2] = [&[3, -1, -2], &[-1, -3]];
+    let clauses: [&[i64]; 4] = [&[3, -1, -2], &[-1, -3], &[1], &[2]];
     let found = found_alone(rt.alloc(), &mut parts, &clauses, true);
     assert!(rt; found == Ok(Some(Ok(()))));
     assert!(rt; reads(parts.trail.trail(), &[1, 2, 3]));
@@ -156,7 +131,7 @@ fn long_clauses_alone(rt: HostRuntime) {
 #[test]
 fn binary_clauses_alone(rt: HostRuntime) {
     let mut parts = no_parts(rt.alloc());
-    let clauses: [&[i64]; 2] = [&[3, -1, -2], &[-1, -3]];
+    let clauses: [&[i64]; 4] = [&[3, -1, -2], &[-1, -3], &[1], &[2]];
     let found = found_alone(rt.alloc(), &mut parts, &clauses, false);
     assert!(rt; found == Ok(Some(Ok(()))));
     assert!(rt; reads(parts.trail.trail(), &[1, 2, -3]));
@@ -167,7 +142,7 @@ fn binary_clauses_alone(rt: HostRuntime) {
 #[test]
 fn binary_conflict_alone(rt: HostRuntime) {
     let mut parts = no_parts(rt.alloc());
-    let clauses: [&[i64]; 1] = [&[-2, -1]];
+    let clauses: [&[i64]; 3] = [&[-2, -1], &[1], &[2]];
     let found = found_alone(rt.alloc(), &mut parts, &clauses, false);
     let lits = [Lit::from_code(3), Lit::from_code(1)];
     assert!(rt; found == Ok(Some(Err(Conflict::Binary(lits)))));
@@ -177,7 +152,7 @@ fn binary_conflict_alone(rt: HostRuntime) {
 #[test]
 fn binary_clauses_go_before_long_ones(rt: HostRuntime) {
     let mut parts = no_parts(rt.alloc());
-    let clauses: [&[i64]; 2] = [&[3, -1, -2], &[-1, -3]];
+    let clauses: [&[i64]; 4] = [&[3, -1, -2], &[-1, -3], &[1], &[2]];
     let found = found_together(rt.alloc(), &mut parts, &clauses);
     assert!(rt; reads(parts.trail.trail(), &[1, 2, -3]));
     assert!(rt; names_first(&parts.db, &found));

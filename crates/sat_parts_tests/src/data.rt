@@ -1,12 +1,9 @@
 //! What each part answers by itself.
 ghost use Rattle.std.specs.Prelude.{◌≡◌, ◌<◌, [], length};
 ghost use Rattle.sat_base.specs.values.Literals.{variable};
-ghost use Rattle.sat_store.specs.heap.Vsids.{no_variables};
-ghost use Rattle.sat_parts.specs.clause.Db.{no_clauses, HoldsDb};
 ghost use Rattle.sat_parts.specs.prop.Trails.{no_trail};
 ghost use Rattle.sat_parts.specs.prop.Values.{IsOpenLit};
 
-use crate::parts::{Parts, no_parts, prepare};
 use sat_base::{Lit, Var};
 use sat_parts::{
     Assignment, BinaryClauses, ImplGraph, Reason, Trail, enqueue_assignment, fast_option_eq,
@@ -81,33 +78,55 @@ fn removal(binary: &mut BinaryClauses, values: &mut Assignment) -> Result<bool, 
     )
 }
 
-fn removal_row(alloc: Global, parts: &mut Parts) -> Result<bool, AllocError>
-    requires clauses { HoldsDb parts.old.clauses parts.old.db × (parts.old.db ≡ no_clauses) }
-    requires lists { (parts.old.watchlists.lists ≡ []) × (parts.old.binary.implied ≡ []) }
-    requires values { (parts.old.assignment.current ≡ []) × (parts.old.graph ≡ []) }
-    requires trail { (parts.old.trail ≡ no_trail) × (parts.old.vsids ≡ no_variables) }
+fn removal_row(
+    alloc: Global,
+    binary: &mut BinaryClauses,
+    values: &mut Assignment,
+) -> Result<bool, AllocError>
+    requires lists { binary.old.implied ≡ [] }
 {
-    prepare(alloc, parts, 3)?;
-    removal(&mut parts.binary, &mut parts.assignment)
+    binary.set_var_count(alloc, 3)?;
+    values.set_var_count(3)?;
+    removal(binary, values)
 }
 
 #[test]
 fn clauses_with_a_value_are_removed(rt: HostRuntime) {
-    let mut parts = no_parts(rt.alloc());
-    assert!(rt; removal_row(rt.alloc(), &mut parts) == Ok(true));
-    drop(parts);
+    let mut binary = BinaryClauses::new(rt.alloc());
+    let mut values = Assignment::new(rt.alloc());
+    assert!(rt; removal_row(rt.alloc(), &mut binary, &mut values) == Ok(true));
+    drop(binary);
+    drop(values);
+}
+
+fn values_row(assignment: &mut Assignment) -> Result<bool, AllocError> {
+    assignment.set_var_count(2)?;
+    Ok(values(assignment))
+}
+
+fn nodes_row(graph: &mut ImplGraph) -> Result<bool, AllocError> {
+    graph.set_var_count(2)?;
+    Ok(nodes(graph))
+}
+
+fn implications_row(alloc: Global, binary: &mut BinaryClauses) -> Result<bool, AllocError>
+    requires lists { binary.old.implied ≡ [] }
+{
+    binary.set_var_count(alloc, 2)?;
+    implications(binary)
 }
 
 #[test]
 fn parts_are_read_back(rt: HostRuntime) {
-    let mut parts = no_parts(rt.alloc());
-    if prepare(rt.alloc(), &mut parts, 2).is_err() {
-        panic!(rt; "no memory");
-    }
-    assert!(rt; values(&mut parts.assignment));
-    assert!(rt; nodes(&mut parts.graph));
-    assert!(rt; implications(&mut parts.binary) == Ok(true));
-    drop(parts);
+    let mut assignment = Assignment::new(rt.alloc());
+    let mut graph = ImplGraph::new(rt.alloc());
+    let mut binary = BinaryClauses::new(rt.alloc());
+    assert!(rt; values_row(&mut assignment) == Ok(true));
+    assert!(rt; nodes_row(&mut graph) == Ok(true));
+    assert!(rt; implications_row(rt.alloc(), &mut binary) == Ok(true));
+    drop(assignment);
+    drop(graph);
+    drop(binary);
 }
 
 /// Whether the queue and the count of level 0 have a unit, and what is left of it once the trail is cleared.
@@ -127,24 +146,27 @@ fn cleared(assignment: &mut Assignment, graph: &mut ImplGraph, trail: &mut Trail
         && trail.trail().is_empty()
 }
 
-fn clear_row(alloc: Global, parts: &mut Parts) -> Result<bool, AllocError>
-    requires clauses { HoldsDb parts.old.clauses parts.old.db × (parts.old.db ≡ no_clauses) }
-    requires lists { (parts.old.watchlists.lists ≡ []) × (parts.old.binary.implied ≡ []) }
-    requires values { (parts.old.assignment.current ≡ []) × (parts.old.graph ≡ []) }
-    requires trail { (parts.old.trail ≡ no_trail) × (parts.old.vsids ≡ no_variables) }
+fn clear_row(
+    assignment: &mut Assignment,
+    graph: &mut ImplGraph,
+    trail: &mut Trail,
+) -> Result<bool, AllocError>
+    requires values { assignment.old.current ≡ [] }
+    requires trail { trail.old ≡ no_trail }
 {
-    prepare(alloc, parts, 2)?;
-    Ok(cleared(
-        &mut parts.assignment,
-        &mut parts.graph,
-        &mut parts.trail,
-        Lit::from_index(1, false),
-    ))
+    assignment.set_var_count(2)?;
+    graph.set_var_count(2)?;
+    trail.set_var_count(2)?;
+    Ok(cleared(assignment, graph, trail, Lit::from_index(1, false)))
 }
 
 #[test]
 fn cleared_literals_stay_counted(rt: HostRuntime) {
-    let mut parts = no_parts(rt.alloc());
-    assert!(rt; clear_row(rt.alloc(), &mut parts) == Ok(true));
-    drop(parts);
+    let mut assignment = Assignment::new(rt.alloc());
+    let mut graph = ImplGraph::new(rt.alloc());
+    let mut trail = Trail::new(rt.alloc());
+    assert!(rt; clear_row(&mut assignment, &mut graph, &mut trail) == Ok(true));
+    drop(assignment);
+    drop(graph);
+    drop(trail);
 }

@@ -16,13 +16,9 @@ mod lists;
 #[cfg(test)]
 mod loading;
 #[cfg(test)]
-mod parts;
-#[cfg(test)]
 mod passes;
 #[cfg(test)]
 mod propagation;
-#[cfg(test)]
-mod search;
 #[cfg(test)]
 mod table;
 #[cfg(test)]

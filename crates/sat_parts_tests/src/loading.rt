@@ -1,16 +1,19 @@
-//! Clauses that are put into the parts of a search.
-ghost use Rattle.std.specs.Prelude.{ℕ, ◌≡◌, ◌≢◌, ◌*◌, ◌<◌, ◌≤◌, IsTrue, OnOk, IfOk, length, slice_index_or};
-ghost use Rattle.std.specs.List.{Contains};
-ghost use Rattle.sat_store.specs.clause.Buffer.{lits_at};
-ghost use Rattle.sat_parts.specs.clause.Db.{live_refs};
+//! Clauses that come to the parts of a search.
+ghost use Rattle.std.specs.Prelude.{ℕ, ◌≡◌, ◌≢◌, ◌*◌, ◌<◌, ◌≤◌, IsTrue, OnOk, [], length, slice_index_or};
+ghost use Rattle.sat_base.specs.values.Literals.{largest};
 ghost use Rattle.sat_parts.specs.clause.Orders.{AreDistinct};
-ghost use Rattle.sat_parts_tests.specs.Loading.{HoldsClauses, IsClauseOver};
+ghost use Rattle.sat_parts.specs.parts.Whole.{PartsInvariant};
+ghost use Rattle.sat_parts_tests.specs.Loading.{IsReady};
 
-use crate::parts::Parts;
-use sat_base::Lit;
-use sat_parts::clause::db::add_clause;
-use sat_store::{ClauseHeader, ClauseRef, StoreError, Tier};
-use std::alloc::AllocError;
+use sat_base::{Lit, Var};
+use sat_parts::Parts;
+use sat_parts::parts::grow;
+use sat_parts::parts::load::load;
+use sat_parts::parts::sorting::{Sorting, no_sorting};
+use sat_parts::parts::steps::full_restart;
+use sat_parts::parts::variables::use_variable;
+use sat_store::StoreError;
+use std::alloc::{AllocError, Global};
 
 /// Whether the literal stands at this place or behind it.
 fn stands_from(lits: &[Lit], from: usize, lit: Lit) -> bool
@@ -48,79 +51,51 @@ fn are_distinct(lits: &[Lit]) -> bool
     true
 }
 
-/// Whether the literals are a long clause over so many variables.
-pub fn is_clause_over(lits: &[Lit], count: usize) -> bool
-    ensures { IsTrue result → IsClauseOver lits.now count }
+/// Lets each variable be picked.
+fn use_all(parts: &mut Parts, count: usize)
+    requires holds { PartsInvariant parts.old }
+    requires bottom { parts.old.trail.starts ≡ [] }
+    requires size { length parts.old.assignment.current ≡ count }
+    requires few { count ≤ largest }
+    ensures { IsReady parts.new count }
 {
-    3 <= lits.len() && lits.len() < 4294967296 && are_below(lits, count) && are_distinct(lits)
+    for index in 0..count {
+        use_variable(parts, Var::from_index(index));
+    }
 }
 
-/// Adds a long clause, while nothing has a value.
-pub fn add_long(
-    parts: &mut Parts,
-    count: usize,
-    tier: Tier,
-    lits: &[Lit],
-) -> Result<ClauseRef, StoreError>
-    requires stored { HoldsClauses parts.old.clauses parts.old.db parts.old.watchlists parts.old.binary count }
-    requires clause { IsClauseOver lits.now count }
-    ensures stored { OnOk result (HoldsClauses parts.new.clauses parts.new.db parts.new.watchlists parts.new.binary count) }
-    ensures live { IfOk result (λ cref. Contains (live_refs parts.new.clauses parts.new.db.refs) cref) }
-    ensures lits { IfOk result (λ cref. lits_at parts.new.clauses cref ≡ lits.now) }
-    ensures assignment { parts.new.assignment ≡ parts.old.assignment }
-    ensures graph { parts.new.graph ≡ parts.old.graph }
-    ensures trail { parts.new.trail ≡ parts.old.trail }
-    ensures vsids { parts.new.vsids ≡ parts.old.vsids }
+/// Makes the variables those with an index below the count, where there were none.
+fn begin(alloc: Global, parts: &mut Parts, count: usize) -> Result<(), AllocError>
+    requires holds { PartsInvariant parts.old }
+    requires none { parts.old.assignment.current ≡ [] }
+    requires few { count ≤ largest }
+    ensures { OnOk result (IsReady parts.new count) }
 {
-    let mut header = ClauseHeader::new();
-    header.set_tier(tier);
-    let cref = add_clause(
-        &mut parts.clauses,
-        &mut parts.db,
-        &mut parts.watchlists,
-        header,
-        lits,
-    )?;
-    Ok(cref)
-}
-
-/// Adds a clause of two literals, while nothing has a value.
-pub fn add_binary(parts: &mut Parts, count: usize, lits: [Lit; 2]) -> Result<(), AllocError>
-    requires stored { HoldsClauses parts.old.clauses parts.old.db parts.old.watchlists parts.old.binary count }
-    requires first { slice_index_or lits 0 0 < 2 * count }
-    requires second { slice_index_or lits 1 0 < 2 * count }
-    ensures stored { OnOk result (HoldsClauses parts.new.clauses parts.new.db parts.new.watchlists parts.new.binary count) }
-    ensures assignment { parts.new.assignment ≡ parts.old.assignment }
-    ensures graph { parts.new.graph ≡ parts.old.graph }
-    ensures trail { parts.new.trail ≡ parts.old.trail }
-    ensures vsids { parts.new.vsids ≡ parts.old.vsids }
-{
-    parts.binary.add_binary_clause(lits)?;
+    grow(alloc, parts, count)?;
+    full_restart(parts);
+    use_all(parts, count);
     Ok(())
 }
 
-/// Adds a clause of two literals or more. Answers whether it is one over so many variables.
-fn add(parts: &mut Parts, count: usize, lits: &[Lit]) -> Result<bool, StoreError>
-    requires stored { HoldsClauses parts.old.clauses parts.old.db parts.old.watchlists parts.old.binary count }
-    ensures stored { OnOk result (HoldsClauses parts.new.clauses parts.new.db parts.new.watchlists parts.new.binary count) }
-    ensures assignment { parts.new.assignment ≡ parts.old.assignment }
-    ensures graph { parts.new.graph ≡ parts.old.graph }
-    ensures trail { parts.new.trail ≡ parts.old.trail }
-    ensures vsids { parts.new.vsids ≡ parts.old.vsids }
+/// Loads a clause. Answers whether it is one of different literals over so many variables.
+fn load_one(
+    parts: &mut Parts,
+    count: usize,
+    lits: &[Lit],
+    sorting: &mut Sorting,
+) -> Result<bool, StoreError>
+    requires { IsReady parts.old count }
+    ensures { OnOk result (IsReady parts.new count) }
 {
-    if lits.len() == 2 && are_below(lits, count) {
-        add_binary(parts, count, [lits[0], lits[1]])?;
-        return Ok(true);
+    if lits.len() >= 4294967296 || !are_below(lits, count) || !are_distinct(lits) {
+        return Ok(false);
     }
-    if is_clause_over(lits, count) {
-        add_long(parts, count, Tier::Irred, lits)?;
-        return Ok(true);
-    }
-    Ok(false)
+    load(parts, lits, sorting)?;
+    Ok(true)
 }
 
 /// Makes these the literals, of which each is a number that stands for one.
-pub fn read_lits(lits: &mut Vec<Lit>, numbers: &[i64]) -> Result<(), AllocError> {
+fn read_lits(lits: &mut Vec<Lit>, numbers: &[i64]) -> Result<(), AllocError> {
     lits.clear();
     for number in numbers {
         if let Some(lit) = Lit::from_dimacs(*number) {
@@ -130,25 +105,40 @@ pub fn read_lits(lits: &mut Vec<Lit>, numbers: &[i64]) -> Result<(), AllocError>
     Ok(())
 }
 
-/// Adds clauses. Answers whether all of them are over so many variables.
-pub fn load(
+/// Loads clauses in their order.
+fn load_all(
     parts: &mut Parts,
-    lits: &mut Vec<Lit>,
     count: usize,
+    lits: &mut Vec<Lit>,
+    sorting: &mut Sorting,
     clauses: &[&[i64]],
 ) -> Result<bool, StoreError>
-    requires stored { HoldsClauses parts.old.clauses parts.old.db parts.old.watchlists parts.old.binary count }
-    ensures stored { OnOk result (HoldsClauses parts.new.clauses parts.new.db parts.new.watchlists parts.new.binary count) }
-    ensures assignment { parts.new.assignment ≡ parts.old.assignment }
-    ensures graph { parts.new.graph ≡ parts.old.graph }
-    ensures trail { parts.new.trail ≡ parts.old.trail }
-    ensures vsids { parts.new.vsids ≡ parts.old.vsids }
+    requires { IsReady parts.old count }
+    ensures { OnOk result (IsReady parts.new count) }
 {
     for numbers in clauses {
         read_lits(lits, numbers)?;
-        if !add(parts, count, lits)? {
+        if !load_one(parts, count, lits, sorting)? {
             return Ok(false);
         }
     }
     Ok(true)
+}
+
+/// Makes so many variables, where there were none, and loads clauses in their order. Answers whether they are clauses over them.
+pub fn loaded(
+    alloc: Global,
+    parts: &mut Parts,
+    count: usize,
+    clauses: &[&[i64]],
+) -> Result<bool, StoreError>
+    requires holds { PartsInvariant parts.old }
+    requires none { parts.old.assignment.current ≡ [] }
+    requires few { count ≤ largest }
+    ensures { OnOk result (IsReady parts.new count) }
+{
+    begin(alloc, parts, count)?;
+    let mut lits = Vec::new(alloc);
+    let mut sorting = no_sorting(alloc);
+    load_all(parts, count, &mut lits, &mut sorting, clauses)
 }

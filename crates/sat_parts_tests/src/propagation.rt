@@ -1,58 +1,28 @@
-//! Propagation of a unit.
-ghost use Rattle.std.specs.Prelude.{◌≡◌, ◌+◌, true, [], length, IfOk};
-ghost use Rattle.sat_store.specs.heap.Vsids.{no_variables};
-ghost use Rattle.sat_parts.specs.clause.Db.{no_clauses, HoldsDb};
-ghost use Rattle.sat_parts.specs.prop.Trails.{no_trail};
-ghost use Rattle.sat_parts_tests.specs.Loading.{Serves};
+//! Propagation of units.
+ghost use Rattle.std.specs.Prelude.{◌≡◌, []};
+ghost use Rattle.sat_parts.specs.parts.Whole.{PartsInvariant};
 
-use crate::loading::load;
-use crate::parts::{Parts, no_parts, prepare};
-use crate::search::{begin, enqueue, propagate_again, propagate_all};
+use crate::loading::loaded;
 use sat_base::Lit;
-use sat_parts::{ClauseDb, Conflict};
+use sat_parts::parts::no_parts;
+use sat_parts::parts::steps::propagate_all;
+use sat_parts::{ClauseDb, Conflict, Parts};
 use sat_store::StoreError;
 use std::alloc::Global;
 
 /// How many variables there are.
 const COUNT: usize = 3;
 
-/// Makes a unit true over these clauses, and answers whether they are clauses over three variables.
-pub fn assumed(
-    alloc: Global,
-    parts: &mut Parts,
-    clauses: &[&[i64]],
-    unit: Lit,
-) -> Result<bool, StoreError>
-    requires clauses { HoldsDb parts.old.clauses parts.old.db × (parts.old.db ≡ no_clauses) }
-    requires lists { (parts.old.watchlists.lists ≡ []) × (parts.old.binary.implied ≡ []) }
-    requires values { (parts.old.assignment.current ≡ []) × (parts.old.graph ≡ []) }
-    requires trail { (parts.old.trail ≡ no_trail) × (parts.old.vsids ≡ no_variables) }
-    ensures serves { IfOk result (λ good. good ≡ true → Serves parts.new.clauses parts.new.db parts.new.watchlists parts.new.binary
-        parts.new.assignment parts.new.graph parts.new.trail parts.new.vsids (length parts.new.trail.starts + 1)) }
-{
-    prepare(alloc, parts, COUNT)?;
-    let mut lits = Vec::new(alloc);
-    if !load(parts, &mut lits, COUNT, clauses)? || unit.index() >= COUNT {
-        return Ok(false);
-    }
-    begin(parts, COUNT);
-    enqueue(parts, unit);
-    Ok(true)
-}
-
-/// What propagation of a unit answers over these clauses. None where they aren't clauses over three variables.
+/// What propagation answers over these clauses. None where they aren't clauses over three variables.
 fn propagated(
     alloc: Global,
     parts: &mut Parts,
     clauses: &[&[i64]],
-    unit: Lit,
 ) -> Result<Option<Result<(), Conflict>>, StoreError>
-    requires clauses { HoldsDb parts.old.clauses parts.old.db × (parts.old.db ≡ no_clauses) }
-    requires lists { (parts.old.watchlists.lists ≡ []) × (parts.old.binary.implied ≡ []) }
-    requires values { (parts.old.assignment.current ≡ []) × (parts.old.graph ≡ []) }
-    requires trail { (parts.old.trail ≡ no_trail) × (parts.old.vsids ≡ no_variables) }
+    requires holds { PartsInvariant parts.old }
+    requires none { parts.old.assignment.current ≡ [] }
 {
-    if !assumed(alloc, parts, clauses, unit)? {
+    if !loaded(alloc, parts, COUNT, clauses)? {
         return Ok(None);
     }
     let found = propagate_all(alloc, parts)?;
@@ -64,18 +34,20 @@ fn propagated_twice(
     alloc: Global,
     parts: &mut Parts,
     clauses: &[&[i64]],
-    unit: Lit,
 ) -> Result<Option<Result<(), Conflict>>, StoreError>
-    requires clauses { HoldsDb parts.old.clauses parts.old.db × (parts.old.db ≡ no_clauses) }
-    requires lists { (parts.old.watchlists.lists ≡ []) × (parts.old.binary.implied ≡ []) }
-    requires values { (parts.old.assignment.current ≡ []) × (parts.old.graph ≡ []) }
-    requires trail { (parts.old.trail ≡ no_trail) × (parts.old.vsids ≡ no_variables) }
+    requires holds { PartsInvariant parts.old }
+    requires none { parts.old.assignment.current ≡ [] }
 {
-    if !assumed(alloc, parts, clauses, unit)? {
+    if !loaded(alloc, parts, COUNT, clauses)? {
         return Ok(None);
     }
-    let found = propagate_again(alloc, parts)?;
-    Ok(Some(found))
+    match propagate_all(alloc, parts)? {
+        Ok(()) => {
+            let found = propagate_all(alloc, parts)?;
+            Ok(Some(found))
+        }
+        Err(conflict) => Ok(Some(Err(conflict))),
+    }
 }
 
 /// Whether the literals are those with these numbers.
@@ -105,8 +77,8 @@ pub fn names_first(
 #[test]
 fn long_clause_behind_binary(rt: HostRuntime) {
     let mut parts = no_parts(rt.alloc());
-    let clauses: [&[i64]; 2] = [&[-1, 2], &[-1, -2, 3]];
-    let found = propagated(rt.alloc(), &mut parts, &clauses, Lit::from_index(0, true));
+    let clauses: [&[i64]; 3] = [&[-1, 2], &[-1, -2, 3], &[1]];
+    let found = propagated(rt.alloc(), &mut parts, &clauses);
     assert!(rt; found == Ok(Some(Ok(()))));
     assert!(rt; reads(parts.trail.trail(), &[1, 2, 3]));
     assert!(rt; parts.trail.fully_propagated());
@@ -117,8 +89,8 @@ fn long_clause_behind_binary(rt: HostRuntime) {
 #[test]
 fn falsified_clause_is_named(rt: HostRuntime) {
     let mut parts = no_parts(rt.alloc());
-    let clauses: [&[i64]; 3] = [&[-1, 2], &[-1, -2, 3], &[-2, -3]];
-    let found = propagated(rt.alloc(), &mut parts, &clauses, Lit::from_index(0, true));
+    let clauses: [&[i64]; 4] = [&[-1, 2], &[-1, -2, 3], &[-2, -3], &[1]];
+    let found = propagated(rt.alloc(), &mut parts, &clauses);
     assert!(rt; reads(parts.trail.trail(), &[1, 2, -3]));
     assert!(rt; names_first(&parts.db, &found));
     drop(parts);
@@ -127,8 +99,8 @@ fn falsified_clause_is_named(rt: HostRuntime) {
 #[test]
 fn falsified_binary_clause_is_named(rt: HostRuntime) {
     let mut parts = no_parts(rt.alloc());
-    let clauses: [&[i64]; 2] = [&[-1, 2], &[-1, -2]];
-    let found = propagated(rt.alloc(), &mut parts, &clauses, Lit::from_index(0, true));
+    let clauses: [&[i64]; 3] = [&[-1, 2], &[-1, -2], &[1]];
+    let found = propagated(rt.alloc(), &mut parts, &clauses);
     let lits = [Lit::from_index(1, false), Lit::from_index(0, false)];
     assert!(rt; found == Ok(Some(Err(Conflict::Binary(lits)))));
     drop(parts);
@@ -137,8 +109,8 @@ fn falsified_binary_clause_is_named(rt: HostRuntime) {
 #[test]
 fn nothing_is_left_to_propagate(rt: HostRuntime) {
     let mut parts = no_parts(rt.alloc());
-    let clauses: [&[i64]; 2] = [&[-1, 2], &[-1, -2, 3]];
-    let found = propagated_twice(rt.alloc(), &mut parts, &clauses, Lit::from_index(0, true));
+    let clauses: [&[i64]; 3] = [&[-1, 2], &[-1, -2, 3], &[1]];
+    let found = propagated_twice(rt.alloc(), &mut parts, &clauses);
     assert!(rt; found == Ok(Some(Ok(()))));
     assert!(rt; reads(parts.trail.trail(), &[1, 2, 3]));
     drop(parts);

@@ -1,68 +1,21 @@
 //! What becoming true and being undone change, and the levels of a clause.
-ghost use Rattle.std.specs.Prelude.{ℕ, ◌≡◌, ◌+◌, ◌<◌, IfOk, IsTrue, OnOk, [], length, slice_index, slice_index_or, false};
+ghost use Rattle.std.specs.Prelude.{ℕ, ◌≡◌, ◌<◌, IfOk, IsTrue, OnOk, [], length, slice_index, slice_index_or, false};
 ghost use Rattle.sat_base.specs.values.Literals.{variable};
-ghost use Rattle.sat_store.specs.heap.Vsids.{no_variables};
-ghost use Rattle.sat_parts.specs.clause.Db.{no_clauses, HoldsDb};
 ghost use Rattle.sat_parts.specs.prop.Graphs.{node_of};
-ghost use Rattle.sat_parts.specs.prop.Trails.{no_trail};
-ghost use Rattle.sat_parts_tests.specs.Loading.{Serves};
+ghost use Rattle.sat_parts.specs.parts.Whole.{PartsInvariant, IsDone};
 
-use crate::loading::load;
-use crate::parts::{Parts, no_parts, prepare};
-use crate::search::{begin, decide, enqueue, propagate_all, undo_all};
+use crate::loading::loaded;
 use sat_base::{Lit, Var};
-use sat_parts::{ImplGraph, Reason, compute_glue};
+use sat_parts::parts::clauses::bump_variable;
+use sat_parts::parts::no_parts;
+use sat_parts::parts::steps::{assume, full_restart, pick, propagate_all};
+use sat_parts::parts::units::clear_units;
+use sat_parts::{ImplGraph, Parts, Reason, compute_glue};
 use sat_store::{StoreError, TmpFlags};
 use std::alloc::{AllocError, Global};
 
 /// How many variables there are.
 const COUNT: usize = 5;
-
-/// Loads two clauses, makes the first variable true, and propagates.
-fn begun(alloc: Global, parts: &mut Parts) -> Result<bool, StoreError>
-    requires clauses { HoldsDb parts.old.clauses parts.old.db × (parts.old.db ≡ no_clauses) }
-    requires lists { (parts.old.watchlists.lists ≡ []) × (parts.old.binary.implied ≡ []) }
-    requires values { (parts.old.assignment.current ≡ []) × (parts.old.graph ≡ []) }
-    requires trail { (parts.old.trail ≡ no_trail) × (parts.old.vsids ≡ no_variables) }
-    ensures serves { IfOk result (λ ok. IsTrue ok → Serves parts.new.clauses parts.new.db parts.new.watchlists parts.new.binary
-        parts.new.assignment parts.new.graph parts.new.trail parts.new.vsids (length parts.new.trail.starts + 1)) }
-    ensures done { IfOk result (λ ok. IsTrue ok → parts.new.trail.head ≡ length parts.new.trail.lits) }
-{
-    prepare(alloc, parts, COUNT)?;
-    let mut lits = Vec::new(alloc);
-    let clauses: [&[i64]; 2] = [&[-3, 4], &[-3, -4, 5]];
-    if !load(parts, &mut lits, COUNT, &clauses)? {
-        return Ok(false);
-    }
-    begin(parts, COUNT);
-    enqueue(parts, Lit::from_code(0));
-    match propagate_all(alloc, parts)? {
-        Ok(()) => Ok(true),
-        Err(_) => Ok(false),
-    }
-}
-
-/// Decides an open literal and propagates. Answers whether that could be done, and without a conflict.
-fn advance(alloc: Global, parts: &mut Parts, lit: Lit) -> Result<bool, AllocError>
-    requires serves { Serves parts.old.clauses parts.old.db parts.old.watchlists parts.old.binary
-        parts.old.assignment parts.old.graph parts.old.trail parts.old.vsids (length parts.old.trail.starts + 1) }
-    requires done { parts.old.trail.head ≡ length parts.old.trail.lits }
-    ensures serves { IfOk result (λ ok. IsTrue ok → Serves parts.new.clauses parts.new.db parts.new.watchlists parts.new.binary
-        parts.new.assignment parts.new.graph parts.new.trail parts.new.vsids (length parts.new.trail.starts + 1)) }
-    ensures done { IfOk result (λ ok. IsTrue ok → parts.new.trail.head ≡ length parts.new.trail.lits) }
-{
-    if lit.index() >= parts.assignment.assignment().len()
-        || parts.trail.current_level() >= 4294967294
-        || !parts.assignment.lit_is_unk(lit)
-    {
-        return Ok(false);
-    }
-    decide(parts, lit)?;
-    match propagate_all(alloc, parts)? {
-        Ok(()) => Ok(true),
-        Err(_) => Ok(false),
-    }
-}
 
 /// Reason, level and depth of a variable that there is.
 fn node(graph: &ImplGraph, index: usize) -> Option<(Reason, usize, usize)> {
@@ -73,18 +26,56 @@ fn node(graph: &ImplGraph, index: usize) -> Option<(Reason, usize, usize)> {
     Some((graph.reason(var), graph.level(var), graph.depth(var)))
 }
 
-/// Whether the nodes are those of one unit, two decisions, and what the second one implies by each clause.
+/// Loads two clauses and a unit, propagates, and takes the unit off the trail. Answers whether it stood there without a reason.
+fn begun(alloc: Global, parts: &mut Parts) -> Result<bool, StoreError>
+    requires holds { PartsInvariant parts.old }
+    requires none { parts.old.assignment.current ≡ [] }
+    ensures holds { IfOk result (λ ok. IsTrue ok → PartsInvariant parts.new) }
+    ensures done { IfOk result (λ ok. IsTrue ok → IsDone parts.new) }
+{
+    let clauses: [&[i64]; 3] = [&[-3, 4], &[-3, -4, 5], &[1]];
+    if !loaded(alloc, parts, COUNT, &clauses)? {
+        return Ok(false);
+    }
+    match propagate_all(alloc, parts)? {
+        Ok(()) => {
+            let is_unit = node(&parts.graph, 0) == Some((Reason::Unit, 0, 1));
+            clear_units(parts);
+            Ok(is_unit)
+        }
+        Err(_) => Ok(false),
+    }
+}
+
+/// Decides an open literal and propagates. Answers whether that could be done, and without a conflict.
+fn advance(alloc: Global, parts: &mut Parts, lit: Lit) -> Result<bool, AllocError>
+    requires holds { PartsInvariant parts.old }
+    requires done { IsDone parts.old }
+    ensures holds { IfOk result (λ ok. IsTrue ok → PartsInvariant parts.new) }
+    ensures done { IfOk result (λ ok. IsTrue ok → IsDone parts.new) }
+{
+    if lit.index() >= parts.assignment.assignment().len() || !parts.assignment.lit_is_unk(lit) {
+        return Ok(false);
+    }
+    assume(parts, lit)?;
+    match propagate_all(alloc, parts)? {
+        Ok(()) => Ok(true),
+        Err(_) => Ok(false),
+    }
+}
+
+/// Whether the nodes are those of a unit off the trail, two decisions, and what the second one implies by each clause.
 fn nodes_are_right(parts: &Parts) -> bool {
     let cref = match parts.db.refs().first() {
         Some(cref) => *cref,
         None => return false,
     };
     let graph = &parts.graph;
-    node(graph, 0) == Some((Reason::Unit, 0, 1))
-        && node(graph, 1) == Some((Reason::Unit, 1, 2))
-        && node(graph, 2) == Some((Reason::Unit, 2, 3))
-        && node(graph, 3) == Some((Reason::Binary([Lit::from_code(5)]), 2, 4))
-        && node(graph, 4) == Some((Reason::Long(cref), 2, 5))
+    node(graph, 0) == Some((Reason::Unit, 0, 4294967295))
+        && node(graph, 1) == Some((Reason::Unit, 1, 1))
+        && node(graph, 2) == Some((Reason::Unit, 2, 2))
+        && node(graph, 3) == Some((Reason::Binary([Lit::from_code(5)]), 2, 3))
+        && node(graph, 4) == Some((Reason::Long(cref), 2, 4))
 }
 
 /// Whether each literal has a node of a level below the bound.
@@ -124,11 +115,9 @@ fn glue_of(flags: &mut TmpFlags, graph: &ImplGraph, lits: &[Lit]) -> Result<usiz
 
 /// Whether the decisions can be made, and the nodes are right.
 fn decisions(alloc: Global, parts: &mut Parts) -> Result<bool, AllocError>
-    requires serves { Serves parts.old.clauses parts.old.db parts.old.watchlists parts.old.binary
-        parts.old.assignment parts.old.graph parts.old.trail parts.old.vsids (length parts.old.trail.starts + 1) }
-    requires done { parts.old.trail.head ≡ length parts.old.trail.lits }
-    ensures serves { IfOk result (λ ok. IsTrue ok → Serves parts.new.clauses parts.new.db parts.new.watchlists parts.new.binary
-        parts.new.assignment parts.new.graph parts.new.trail parts.new.vsids (length parts.new.trail.starts + 1)) }
+    requires holds { PartsInvariant parts.old }
+    requires done { IsDone parts.old }
+    ensures holds { IfOk result (λ ok. IsTrue ok → PartsInvariant parts.new) }
 {
     if !advance(alloc, parts, Lit::from_code(2))? {
         return Ok(false);
@@ -139,21 +128,39 @@ fn decisions(alloc: Global, parts: &mut Parts) -> Result<bool, AllocError>
     Ok(nodes_are_right(parts) && parts.trail.current_level() == 2)
 }
 
+/// Whether nothing is left on the trail once all levels are undone, and an open variable that was raised is picked.
+fn undone(parts: &mut Parts) -> bool
+    requires { PartsInvariant parts.old }
+{
+    full_restart(parts);
+    let raised = Var::from_index(2);
+    if parts.assignment.assignment().len() <= raised.index() {
+        return false;
+    }
+    bump_variable(parts, raised);
+    parts.trail.trail().is_empty()
+        && parts.trail.current_level() == 0
+        && pick(&mut parts.vsids, &parts.assignment) == Some(raised)
+}
+
 fn table(alloc: Global, parts: &mut Parts, flags: &mut TmpFlags) -> Result<bool, StoreError>
-    requires clauses { HoldsDb parts.old.clauses parts.old.db × (parts.old.db ≡ no_clauses) }
-    requires lists { (parts.old.watchlists.lists ≡ []) × (parts.old.binary.implied ≡ []) }
-    requires values { (parts.old.assignment.current ≡ []) × (parts.old.graph ≡ []) }
-    requires trail { (parts.old.trail ≡ no_trail) × (parts.old.vsids ≡ no_variables) }
+    requires holds { PartsInvariant parts.old }
+    requires none { parts.old.assignment.current ≡ [] }
     requires flags { flags.old.flags.items ≡ [] }
 {
-    if !begun(alloc, parts)? {
+    if !begun(alloc, parts)? || !decisions(alloc, parts)? {
         return Ok(false);
     }
-    if !decisions(alloc, parts)? || glue_of(flags, &parts.graph, parts.trail.trail())? != 3 {
+    let lits = [
+        Lit::from_code(0),
+        Lit::from_code(2),
+        Lit::from_code(4),
+        Lit::from_code(6),
+    ];
+    if glue_of(flags, &parts.graph, &lits)? != 3 {
         return Ok(false);
     }
-    undo_all(parts);
-    Ok(parts.trail.trail() == [Lit::from_code(0)].as_slice() && parts.trail.current_level() == 0)
+    Ok(undone(parts))
 }
 
 /// Whether the variable has lost this value.
@@ -174,7 +181,6 @@ fn levels_are_entered_and_undone(rt: HostRuntime) {
         assert!(rt; has_lost(&parts, index, true));
     }
     assert!(rt; !has_lost(&parts, 0, true));
-    assert!(rt; parts.vsids.next() == Some(Var::from_index(1)));
     assert!(rt; flags.flags.as_slice() == [false; 10].as_slice());
     drop(parts);
     drop(flags);

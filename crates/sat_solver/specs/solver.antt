@@ -15,3 +15,4 @@ pub mod Configuring
 pub mod Naming
 pub mod Formulas
 pub mod Fronts
+pub mod Failing

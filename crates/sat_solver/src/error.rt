@@ -2,7 +2,6 @@
 ghost use Rattle.std.specs.Prelude.{◌≡◌};
 ghost use Rattle.sat_solver.specs.Recovery.{is_recoverable};
 
-use sat_store::StoreError;
 use std::alloc::AllocError;
 use std::io;
 use thiserror::Error;
@@ -93,19 +92,5 @@ impl From<AllocError> for SolverError {
 
     fn from(_e: AllocError) -> SolverError {
         SolverError::OutOfMemory
-    }
-}
-
-impl From<StoreError> for SolverError {
-    ghost use Rattle.std.specs.Prelude.{◌≡◌};
-    ghost use Rattle.sat_solver.specs.Recovery.{failure_of};
-
-    ghost from_gives = { λ s e. e ≡ failure_of s };
-
-    fn from(error: StoreError) -> SolverError {
-        match error {
-            StoreError::StoreFull => SolverError::StoreFull,
-            StoreError::OutOfMemory => SolverError::OutOfMemory,
-        }
     }
 }

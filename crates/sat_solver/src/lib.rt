@@ -1,24 +1,29 @@
 //! An incremental CDCL solver that answers under assumptions and writes a proof.
 #![tactic(auto)]
 
-pub mod acceptance;
-pub mod analysis;
-pub mod bound;
+pub mod analyze_conflict;
+pub mod assumptions;
+pub mod cdcl;
+pub mod clause;
 pub mod config;
+pub mod context;
+pub mod decision;
 pub mod error;
-pub mod joint;
-pub mod loading;
-pub mod names;
-pub mod parts;
+pub mod load;
+pub mod minimize;
+pub mod model;
 pub mod progress;
-pub mod search;
+pub mod proof;
+pub mod schedule;
 pub mod session;
-pub mod simplify;
 pub mod solver;
+pub mod state;
+pub mod unit_simplify;
+pub mod variables;
 
 pub use config::{SolverConfig, SolverConfigUpdate};
 pub use error::SolverError;
 pub use progress::Progress;
-pub use session::format::ProofFormat;
+pub use proof::format::ProofFormat;
 pub use solver::Solver;
-pub use solver::proving::HandedBack;
+pub use solver::proof::HandedBack;

@@ -7,16 +7,16 @@ use Rattle.sat_base.specs.device.Sink.{empty_sink}
 use Rattle.sat_base.specs.steps.Steps.{Step, Assumptions, End}
 use Rattle.sat_base.proofs.lemmas.device.Writes.{breaks_within, lent_puts}
 use Rattle.sat_checker.specs.declared.processing.ProofProcessor.{Ghosts}
-use Rattle.sat_solver.specs.session.Counting.{start, counted, one_made, written_for}
-use Rattle.sat_solver.specs.session.OutputView.{text_in}
-use Rattle.sat_solver.specs.session.ProofTexts.{BrokeText}
-use Rattle.sat_solver.specs.session.ProofView.{Target, Open, Carries, Stops, Gives, seen_of, is_open, target_of, is_checked, Gains, Records, Closes, HandsBack}
-use Rattle.sat_solver.specs.declared.session.format.ProofFormat.{ProofFormat}
-use Rattle.sat_solver.specs.declared.session.format.ProofFormat.TheVariants.{Varisat}
-use Rattle.sat_solver.specs.declared.session.proof.Proof.{Proof}
-use Rattle.sat_solver.specs.declared.session.proof.ProofError.{ProofError}
-use Rattle.sat_solver.specs.declared.session.proof.ProofError.TheVariants.{Write, OutOfMemory, Check}
-use Rattle.sat_solver.proofs.lemmas.session.ProofLemmas.{text_append, carries_more, complains_checked, stops_later, closed_is_text, broken_is_front}
+use Rattle.sat_solver.specs.proof.Counting.{start, counted, one_made, written_for}
+use Rattle.sat_solver.specs.proof.OutputView.{text_in}
+use Rattle.sat_solver.specs.proof.ProofTexts.{BrokeText}
+use Rattle.sat_solver.specs.proof.ProofView.{Target, Open, Carries, Stops, Gives, seen_of, is_open, target_of, is_checked, is_lost, Gains, Records, Closes, HandsBack}
+use Rattle.sat_solver.specs.declared.proof.format.ProofFormat.{ProofFormat}
+use Rattle.sat_solver.specs.declared.proof.format.ProofFormat.TheVariants.{Varisat}
+use Rattle.sat_solver.specs.declared.proof.Proof.{Proof}
+use Rattle.sat_solver.specs.declared.proof.ProofError.{ProofError}
+use Rattle.sat_solver.specs.declared.proof.ProofError.TheVariants.{Write, OutOfMemory, Check}
+use Rattle.sat_solver.proofs.lemmas.session.ProofLemmas.{text_append, carries_more, complains_checked, complains_now, stops_later, closed_is_text, broken_is_front}
 use Rattle.sat_solver_tests.specs.Calling.{made, PutsMade, Calls, PutsOwned}
 
 abbrev opened_as : Writer → Target
@@ -46,26 +46,28 @@ module _ {W L : Type 0} {G : Ghosts L} (seen : W → Writer) (w : W) (p q : Proo
   -- the first step failed
   pub step_failed : (e : ProofError) (r : Proof W L G) (given : Option W) → Records {T = Unit {0}} seen (Err e) (Assumptions [] ∷ []) p q → HandsBack seen given q r → PutsOwned seen (Err e) w given
   step_failed (Write e) r given f h =
-      let x = faulty seen (seen w) (Assumptions [] ∷ []) (target_of seen q) given (subst (λ z. Stops z (Assumptions [] ∷ []) (target_of seen q)) opened f.target) h.gives in
+      let x = faulty seen (seen w) (Assumptions [] ∷ []) (target_of seen q) given (subst (λ z. Stops z (Assumptions [] ∷ []) (target_of seen q)) opened f.0.target) h.gives in
       subst (PutsOwned seen (Err (Write e)) w) (sym x.1) (all_broke e (seen w) (seen x.0) x.2)
   step_failed OutOfMemory r given a h =
       let x = still seen (seen w) [] (target_of seen q) given (subst (λ z. Carries z [] (target_of seen q)) opened a.target) h.gives in
       subst (PutsOwned seen (Err OutOfMemory) w) (sym x.1) tt
-  step_failed (Check fault) r given f h = absurd (true≢false (sym (complains_checked fault q f.why) ∙ ap (λ o. is_some o) f.adds.listening ∙ unchecked))
+  step_failed (Check fault) r given f h = absurd (true≢false (sym (complains_checked fault q f.0.why) ∙ ap (λ o. is_some o) f.0.adds.listening ∙ unchecked))
 
   module _ (a : Gains seen (Assumptions [] ∷ []) p q) where
     carried : Carries (opened_as (seen w)) (Assumptions [] ∷ []) (target_of seen q)
     carried = subst (λ z. Carries z (Assumptions [] ∷ []) (target_of seen q)) opened a.target
 
     -- closing failed
-    pub close_failed : (e : ProofError) (r s : Proof W L G) (given : Option W) → Closes seen (Err e) q r → HandsBack seen given r s → PutsOwned seen (Err e) w given
-    close_failed (Write e) r s given c h =
-        let x = faulty seen (seen w) made (target_of seen r) given (stops_later (opened_as (seen w)) (target_of seen q) (target_of seen r) (Assumptions [] ∷ []) (End ∷ []) carried c.target) h.gives in
+    pub close_failed : is_lost p ≡ false → (e : ProofError) (r s : Proof W L G) (given : Option W) → Closes seen (Err e) q r → HandsBack seen given r s → PutsOwned seen (Err e) w given
+    close_failed taking (Write e) r s given c h =
+        let x = faulty seen (seen w) made (target_of seen r) given (stops_later (opened_as (seen w)) (target_of seen q) (target_of seen r) (Assumptions [] ∷ []) (End ∷ []) carried c.0.target) h.gives in
         subst (PutsOwned seen (Err (Write e)) w) (sym x.1) (record { written = x.2.written; counting = x.2.counting; cuts = x.2.cuts; puts = x.2.breaks })
-    close_failed OutOfMemory r s given c h =
+    close_failed taking OutOfMemory r s given c h =
         let x = still seen (seen w) (Assumptions [] ∷ []) (target_of seen r) given (carries_more (opened_as (seen w)) (target_of seen q) (target_of seen r) (Assumptions [] ∷ []) [] carried c.target) h.gives in
         subst (PutsOwned seen (Err OutOfMemory) w) (sym x.1) tt
-    close_failed (Check fault) r s given c h = absurd (true≢false (sym (complains_checked fault r c.why) ∙ ap (λ o. is_some o) (c.adds.listening ∙ a.listening) ∙ unchecked))
+    close_failed taking (Check fault) r s given c h =
+        let k = complains_now fault r (is_lost q) (a.taking ∙ taking) c.1 in
+        absurd (true≢false (sym (complains_checked fault r k.0) ∙ ap (λ o. is_some o) (c.0.listening ∙ a.listening) ∙ unchecked))
 
     -- it was closed
     pub closed : (o : Option W) (r : Proof W L G) → Closes seen (Ok o) q r → PutsOwned seen (Ok tt) w o

@@ -2,12 +2,12 @@
 use Rattle.std.specs.Prelude.{List, [], ◌∷◌, Option, None, Some, Result, Ok, Err}
 use Rattle.sat_base.specs.device.Device.{Writer, Puts}
 use Rattle.sat_base.specs.steps.Steps.{Step, Assumptions, End}
-use Rattle.sat_solver.specs.session.Counting.{start, Cuts}
-use Rattle.sat_solver.specs.session.OutputView.{text_in}
-use Rattle.sat_solver.specs.declared.session.format.ProofFormat.TheVariants.{Varisat}
-use Rattle.sat_solver.specs.declared.session.counting.Counting.{Counting}
-use Rattle.sat_solver.specs.declared.session.proof.ProofError.{ProofError}
-use Rattle.sat_solver.specs.declared.session.proof.ProofError.TheVariants.{Write, OutOfMemory, Check}
+use Rattle.sat_solver.specs.proof.Counting.{start, TruncatesHashes}
+use Rattle.sat_solver.specs.proof.OutputView.{text_in}
+use Rattle.sat_solver.specs.declared.proof.format.ProofFormat.TheVariants.{Varisat}
+use Rattle.sat_solver.specs.declared.proof.hash_bits.Counting.{Counting}
+use Rattle.sat_solver.specs.declared.proof.ProofError.{ProofError}
+use Rattle.sat_solver.specs.declared.proof.ProofError.TheVariants.{Write, OutOfMemory, Check}
 
 -- the steps, the newest first
 abbrev pub made : List Step
@@ -17,7 +17,7 @@ made = End ∷ Assumptions [] ∷ []
 pub record PutsMade (r : Result (Unit {0}) ProofError) (old new : Writer) : Type 0 where
   pub written : List Step
   pub counting : Counting
-  pub cuts : Cuts start made written counting
+  pub cuts : TruncatesHashes start made written counting
   pub puts : Puts (text_in Varisat written) r old new
 
 -- where memory was wanting nothing more is said; there is no checker

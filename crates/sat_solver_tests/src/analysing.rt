@@ -3,10 +3,10 @@
 use crate::searcher::{no_room, search};
 use sat_base::{Counted, Lit};
 use sat_solver::SolverConfig;
-use sat_solver::names::Variables;
-use sat_solver::search::solving::Core;
-use sat_solver::search::work::{Search, no_search};
-use sat_solver::session::proof::Proof;
+use sat_solver::context::{Search, no_search};
+use sat_solver::proof::Proof;
+use sat_solver::schedule::solve::Core;
+use sat_solver::variables::Variables;
 use std::alloc::Global;
 
 /// Clauses; the codes of the learned clause, the one that asserts first; those of the literals whose reasons were used, those of

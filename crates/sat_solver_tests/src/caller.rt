@@ -3,7 +3,7 @@ ghost use Rattle.sat_solver.specs.solver.Whole.{IsSolver};
 ghost use Rattle.sat_solver_tests.specs.Calling.{Calls, PutsOwned};
 
 use sat_base::{CountedWrite, Lit, ProofStep};
-use sat_solver::session::proof::{Proof, ProofError};
+use sat_solver::proof::{Proof, ProofError};
 use sat_solver::{ProofFormat, Solver, SolverError};
 use std::alloc::Global;
 

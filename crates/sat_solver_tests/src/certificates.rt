@@ -4,7 +4,7 @@ use crate::calls::{Call, Kind, Part};
 use crate::scripts::text_of;
 use sat_base::{DeleteClauseProof, ProofStep, Var};
 use sat_solver::ProofFormat;
-use sat_solver::session::lines::put_step;
+use sat_solver::proof::drat::put_step;
 use std::alloc::Global;
 
 const TWO_BY_TWO: &[&[i64]] = &[&[1, 2], &[1, -2], &[-1, 2], &[-1, -2]];
@@ -50,6 +50,24 @@ const LINES: &[Part<'static>] = &[
 
 const UNIT: &[Part<'static>] = &[(Kind::Right, &[Call::Clause(&[1]), Call::Solve(true)])];
 
+/// A unit makes two clauses of two literals true: that of the lower literal goes first, though it came later.
+const PAIRS: &[Part<'static>] = &[(
+    Kind::Right,
+    &[
+        Call::Clause(&[1, 2]),
+        Call::Clause(&[3, 4]),
+        Call::Clause(&[1, 3]),
+        Call::Clause(&[3]),
+        Call::Sat(&[], &[-1, 2, 3, -4]),
+    ],
+)];
+
+/// Repeated assumptions are written so, and a core has none twice.
+const REPEATED: &[Part<'static>] = &[(
+    Kind::Right,
+    &[Call::Clause(&[-1]), Call::Unsat(&[1, 1], &[1])],
+)];
+
 /// Calls, the format of their proof, and its text.
 type Row = (&'static [Part<'static>], ProofFormat, &'static [u8]);
 
@@ -88,6 +106,22 @@ const ROWS: &[Row] = &[
         ProofFormat::Varisat,
         &[
             2, 0, 1, 2, 1, 2, 2, 1, 0, 3, 1, 11, 0, 9, 6, 10, 1, 1, 11, 0, 13,
+        ],
+    ),
+    (
+        PAIRS,
+        ProofFormat::Varisat,
+        &[
+            2, 0, 1, 1, 0, 1, 2, 1, 2, 1, 1, 2, 5, 2, 0, 2, 2, 2, 3, 1, 2, 3, 2, 3, 4, 1, 3, 4, 5,
+            2, 4, 6, 5, 2, 0, 4, 5, 1, 4, 11, 0, 9, 6, 8, 2, 0, 4, 2, 8, 2, 4, 6, 2, 1, 2, 0, 1, 3,
+            0, 10, 4, 1, 2, 4, 7, 11, 0, 13,
+        ],
+    ),
+    (
+        REPEATED,
+        ProofFormat::Varisat,
+        &[
+            2, 0, 1, 1, 0, 1, 5, 1, 1, 11, 2, 0, 0, 9, 6, 12, 1, 0, 0, 11, 0, 13,
         ],
     ),
     (LINES, ProofFormat::Drat, b"1 0\n2 0\n0\n"),

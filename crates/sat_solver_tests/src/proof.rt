@@ -1,11 +1,11 @@
 //! Proofs that are written, and targets that fail.
-ghost use Rattle.sat_solver.specs.session.ProofView.{Keeps};
+ghost use Rattle.sat_solver.specs.proof.ProofView.{Keeps};
 
 use crate::caller::write_lent;
 use crate::devices::{ByFew, by_few};
 use sat_base::{Counted, CountedWrite, Lit, ProofStep, Var};
 use sat_solver::ProofFormat;
-use sat_solver::session::proof::Proof;
+use sat_solver::proof::Proof;
 use std::alloc::{AllocError, Global};
 
 /// A target that takes at most so many bytes of a piece, and the call of it that fails, counted from 1.

@@ -90,6 +90,16 @@ const TWO_ASSUMED: &[Part<'static>] = &[(
 
 const BOTH_SIGNS: &[Part<'static>] = &[(Kind::Right, &[Call::Unsat(&[1, -1], &[-1, 1])])];
 
+const REPEATED_ASSUMED: &[Part<'static>] = &[(
+    Kind::Right,
+    &[
+        Call::Clause(&[-1, -2]),
+        Call::Unsat(&[1, 2, 1], &[2, 1]),
+        Call::Unsat(&[1, 1, 2], &[2, 1]),
+        Call::Sat(&[1, 1], &[1, -2]),
+    ],
+)];
+
 const UNIT_ASKED: &[Part<'static>] = &[(
     Kind::Right,
     &[
@@ -349,6 +359,7 @@ const SCRIPTS: &[&[Part<'static>]] = &[
     EMPTY_CLAUSE,
     TWO_ASSUMED,
     BOTH_SIGNS,
+    REPEATED_ASSUMED,
     UNIT_ASKED,
     ASKS_BETWEEN,
     FOUR_CLAUSES,

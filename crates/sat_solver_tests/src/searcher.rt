@@ -4,13 +4,13 @@ ghost use Rattle.sat_solver.specs.solver.Joined.{IsJoined};
 ghost use Rattle.sat_solver.specs.solver.Taking.{GoesOnOr};
 
 use sat_base::{CountedWrite, Lit};
-use sat_solver::bound::restarts::Restarts;
-use sat_solver::names::Variables;
-use sat_solver::names::refusing::leftmost_witness;
-use sat_solver::names::taking::Taken;
-use sat_solver::parts::sorting::no_sorting;
-use sat_solver::search::solving::{Core, solve};
-use sat_solver::solver::taking::{Loading, take_clause};
+use sat_parts::parts::sorting::no_sorting;
+use sat_solver::load::literals::Taken;
+use sat_solver::schedule::restarts::Restarts;
+use sat_solver::schedule::solve::{Core, solve};
+use sat_solver::solver::load::{Loading, take_clause};
+use sat_solver::variables::Variables;
+use sat_solver::variables::refuse::leftmost_witness;
 use sat_store::LubySequence;
 use std::alloc::Global;
 

@@ -40,9 +40,9 @@ IsHead kind.Unsat head = head ≡ 102 ∷ 32 ∷ []
 IsHead kind.Unknown head = ⊥
 
 -- a model's literals stand by variable, those of a core by their codes
-abbrev pub place_in : AnswerKind → ℕ → ℕ
-place_in kind.Sat l = variable l
-place_in k l = l
+abbrev pub literal_place : AnswerKind → ℕ → ℕ
+literal_place kind.Sat l = variable l
+literal_place k l = l
 
 -- the digits of a name that has begun; 0 where none has been read
 abbrev pub digits_so_far : ℕ → List ℕ

@@ -33,14 +33,20 @@ stop_by (errors.ProofProcessorError cause) = stop.OutOfMemory
 abbrev pub Feeds : Result (Unit {0}) Stop → Kernel → Step → Kernel → Type 0
 Feeds (Ok x) old step new = (steps : List Step) → HasTaken old steps → Accepts (ready_after steps) step × HasTaken new (step ∷ steps)
 Feeds (Err (stop.No why)) old step new = (steps : List Step) → HasTaken old steps → Accepts (ready_after steps) step → ⊥
-Feeds (Err stop.Read) old step new = ⊥
+Feeds (Err stop.CertificateRead) old step new = ⊥
 Feeds (Err stop.OutOfMemory) old step new = Unit {0}
 Feeds (Err stop.CounterEnd) old step new = (steps : List Step) → HasTaken old steps → SpentBy step (stored_after steps)
+Feeds (Err stop.ScriptRead) old step new = ⊥
+Feeds (Err stop.AnswersRead) old step new = ⊥
+Feeds (Err stop.TooMany) old step new = ⊥
 
 -- A pending unit conflict is settled, or there is no id for it: no step and no look more.
 abbrev pub Settles : Result (Unit {0}) Stop → Kernel → Kernel → Type 0
 Settles (Ok x) old new = (steps : List Step) → HasTaken old steps → HasTaken new steps × (looks_of new ≡ looks_of old)
 Settles (Err (stop.No why)) old new = (steps : List Step) → HasTaken old steps → ⊥
-Settles (Err stop.Read) old new = ⊥
+Settles (Err stop.CertificateRead) old new = ⊥
 Settles (Err stop.OutOfMemory) old new = (steps : List Step) → HasTaken old steps → looks_of new ≡ looks_of old
 Settles (Err stop.CounterEnd) old new = (steps : List Step) → HasTaken old steps → IsSpent (ready_after steps) × (looks_of new ≡ looks_of old)
+Settles (Err stop.ScriptRead) old new = ⊥
+Settles (Err stop.AnswersRead) old new = ⊥
+Settles (Err stop.TooMany) old new = ⊥

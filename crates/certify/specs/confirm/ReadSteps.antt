@@ -4,12 +4,12 @@ use Rattle.sat_base.specs.steps.Steps.{Step}
 use Rattle.sat_base.specs.steps.StepText.{SpellsStep}
 
 -- where a certificate was read to: the step that was read last, and the bytes behind it
-pub record Place : Type 0 where
+pub record CertificatePlace : Type 0 where
   pub step : Step
   pub rest : List ℕ
 
 -- a step was read from the front of the bytes
-pub record ReadsStep (old new : Place) : Type 0 where
+pub record ReadsStep (old new : CertificatePlace) : Type 0 where
   pub text : List ℕ
   pub spelt : SpellsStep new.step text
   pub front : old.rest ≡ text ++ new.rest

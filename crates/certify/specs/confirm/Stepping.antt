@@ -1,9 +1,9 @@
 -- What a certificate's steps bring, up to the next ordered one.
 use Rattle.std.specs.Prelude.{ℕ, ◌==◌, ◌||◌, Bool, true, false, Option, Some, None, Result, Ok, Err}
 use Rattle.certify.specs.confirm.ReadSteps.{ReadsStep, BeginsNoStep}
-use Rattle.certify.specs.confirm.Views.{View, place}
-use Rattle.certify.specs.declared.matching.awaiting.Awaited.{Awaited}
-use Rattle.certify.specs.declared.matching.awaiting.Awaited.TheVariants as awaited
+use Rattle.certify.specs.confirm.Views.{View, certificate_place}
+use Rattle.certify.specs.declared.confirm.ordered.Awaited.{Awaited}
+use Rattle.certify.specs.declared.confirm.ordered.Awaited.TheVariants as awaited
 use Rattle.certify.specs.declared.verdict.Why.{Why}
 
 -- the tags of ordered steps
@@ -21,5 +21,5 @@ is_fed_so_far (Some a) = is_fed a
 
 -- a step was read, or none stands there
 abbrev pub ReadsOne : View → View → Result (Unit {0}) Why → Type 0
-ReadsOne old new (Ok x) = ReadsStep (place old) (place new)
+ReadsOne old new (Ok x) = ReadsStep (certificate_place old) (certificate_place new)
 ReadsOne old new (Err why) = BeginsNoStep old.rest

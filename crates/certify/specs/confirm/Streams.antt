@@ -27,7 +27,7 @@ abbrev pub stream_of : {R : Type 0} → (R → Reader) → StepReader R Buffers 
 stream_of seen r checker = record { source = reader_source seen r; checker = checker; step = step_in r }
 
 -- a reader of steps that goes on: it hasn't failed, and isn't at its end
-pub record GoesOn {R : Type 0} (seen : R → Reader) (r : StepReader R Buffers) : Type 0 where
+pub record StepsGoOn {R : Type 0} (seen : R → Reader) (r : StepReader R Buffers) : Type 0 where
   pub well : has_failed r ≡ false
   pub open_yet : AtEnd (reader_source seen r) → ⊥
   pub bound : (reader_source seen r).reads ≤ most_reads
@@ -41,8 +41,8 @@ abbrev pub IsReadFew : {R : Type 0} → (R → Reader) → StepReader R Buffers 
 IsReadFew seen r = (reader_source seen r).reads ≤ most_reads
 
 -- it goes on where no call failed
-abbrev pub GoesOnIf : {R T E : Type 0} → Result T E → (R → Reader) → StepReader R Buffers → Type 0
-GoesOnIf result seen r = OnOk result (GoesOn seen r)
+abbrev pub StepsGoOnIf : {R T E : Type 0} → Result T E → (R → Reader) → StepReader R Buffers → Type 0
+StepsGoOnIf result seen r = OnOk result (StepsGoOn seen r)
 
 -- the most bytes that can still be taken
 abbrev pub bytes_left : Source → ℕ
@@ -79,35 +79,41 @@ Halts old new = ((text : List ℕ) × PassesBut 1 old.source new.source text) ×
 abbrev pub Going : Bool → Stream → Stream → (View → View → Type 0) → Type 0
 Going fed old new P = Moves old new × Over old new P × Over old new (walks_if fed)
 
--- It stops; P says what a no makes of what confirming saw and sees. Whatever stopped it, the checker took the looks of what it was fed.
+-- It stops, by no other text; P says what a no makes of what confirming saw and sees. Whatever stopped it, the checker took the looks of what it was fed.
 abbrev pub Failing : Stop → Stream → Stream → (View → View → Why → Type 0) → Type 0
 Failing (stop.No why) old new P = Halts old new × Over old new (λ a b. P a b why) × Over old new Tries
-Failing stop.Read old new P = ((text : List ℕ) × Faults old.source new.source text) × Over old new Tries
+Failing stop.CertificateRead old new P = ((text : List ℕ) × Faults old.source new.source text) × Over old new Tries
 Failing stop.OutOfMemory old new P = Halts old new × Over old new Tries
 Failing stop.CounterEnd old new P = Halts old new × Over old new RunsOut × Over old new Tries
+Failing stop.ScriptRead old new P = ⊥
+Failing stop.AnswersRead old new P = ⊥
+Failing stop.TooMany old new P = ⊥
 
 -- What a call answers: it goes on, or it stops; P says what an answer makes of what confirming saw and sees.
-abbrev pub Reading : {A : Type 0} → (A → Bool) → Result A Stop → Stream → Stream → (View → View → Result A Why → Type 0) → Type 0
-Reading fed (Ok x) old new P = Going (fed x) old new (λ a b. P a b (Ok x))
-Reading fed (Err e) old new P = Failing e old new (λ a b why. P a b (Err why))
+abbrev pub GoesOrStops : {A : Type 0} → (A → Bool) → Result A Stop → Stream → Stream → (View → View → Result A Why → Type 0) → Type 0
+GoesOrStops fed (Ok x) old new P = Going (fed x) old new (λ a b. P a b (Ok x))
+GoesOrStops fed (Err e) old new P = Failing e old new (λ a b why. P a b (Err why))
 
 -- where the checker is fed each step that is read
 abbrev pub Confirms : {A : Type 0} → Result A Stop → Stream → Stream → (View → View → Result A Why → Type 0) → Type 0
-Confirms r old new P = Reading (λ x. true) r old new P
+Confirms r old new P = GoesOrStops (λ x. true) r old new P
 
 -- what a call answers that reads nothing: P says what it makes of what it was given
-abbrev pub Says : {A : Type 0} → Result A Stop → (Result A Why → Type 0) → Type 0
-Says (Ok x) P = P (Ok x)
-Says (Err (stop.No why)) P = P (Err why)
-Says (Err stop.Read) P = ⊥
-Says (Err stop.OutOfMemory) P = Unit {0}
-Says (Err stop.CounterEnd) P = ⊥
+abbrev pub SaysAlone : {A : Type 0} → Result A Stop → (Result A Why → Type 0) → Type 0
+SaysAlone (Ok x) P = P (Ok x)
+SaysAlone (Err (stop.No why)) P = P (Err why)
+SaysAlone (Err stop.CertificateRead) P = ⊥
+SaysAlone (Err stop.OutOfMemory) P = Unit {0}
+SaysAlone (Err stop.CounterEnd) P = ⊥
+SaysAlone (Err stop.ScriptRead) P = ⊥
+SaysAlone (Err stop.AnswersRead) P = ⊥
+SaysAlone (Err stop.TooMany) P = ⊥
 
 -- what a call answers where no step was read
 abbrev pub stop_of : StepError → Stop
 stop_of errors.Ends = stop.No CertificateEnds
 stop_of errors.Cut = stop.No CertificateEnds
 stop_of errors.BadByte = stop.No StepRefused
-stop_of errors.Read = stop.Read
+stop_of errors.Read = stop.CertificateRead
 stop_of errors.OutOfMemory = stop.OutOfMemory
-stop_of errors.HasFailed = stop.Read
+stop_of errors.HasFailed = stop.CertificateRead

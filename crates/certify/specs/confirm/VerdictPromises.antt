@@ -1,6 +1,7 @@
 -- What a verdict promises of the texts that three readers gave.
 use Rattle.std.specs.Prelude.{ℕ, ◌+◌, ◌*◌, ◌^◌, ◌≤◌, ◌≡◌, ◌↔◌, ◌⊎◌, Result, Err, IfOk, List, [], ◌++◌, length}
 use Rattle.sat_base.specs.device.Device.{Reader, GaveFront, GaveEnough, CanFollow, ReadFails, most_reads}
+use Rattle.certify.specs.Devices.{gave}
 use Rattle.certify.specs.answers.Answers.{answers_text}
 use Rattle.sat_checker.specs.matching.Expected.{Outcome}
 use Rattle.certify.specs.answers.RightAnswers.{AnswersAreRight}
@@ -13,10 +14,6 @@ use Rattle.certify.specs.declared.verdict.ConfirmFault.{ConfirmFault}
 use Rattle.certify.specs.declared.verdict.ConfirmFault.TheVariants as fault
 use Rattle.certify.specs.declared.verdict.Verdict.{Verdict}
 use Rattle.certify.specs.declared.verdict.Verdict.TheVariants.{Yes}
-
--- a reader before and after
-abbrev pub gave : {D : Type 0} → (D → Reader) → D → D → Reader × Reader
-gave seen old new = (seen old, seen new)
 
 -- the reader gave a text of which this is so, whatever would follow
 abbrev pub Given : Reader × Reader → (List ℕ → Type 0) → Type 0

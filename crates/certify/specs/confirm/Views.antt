@@ -1,7 +1,7 @@
 -- What confirming sees of a certificate.
 use Rattle.std.specs.Prelude.{ℕ, List}
 use Rattle.sat_base.specs.steps.Steps.{Step}
-use Rattle.certify.specs.confirm.ReadSteps.{Place}
+use Rattle.certify.specs.confirm.ReadSteps.{CertificatePlace}
 use Rattle.sat_checker.specs.declared.kernel.Kernel.{Kernel}
 
 -- a certificate as far as its steps were accepted
@@ -11,5 +11,5 @@ pub record View : Type 0 where
   pub rest : List ℕ  -- the bytes still to come
 
 -- where it was read to
-abbrev pub place : View → Place
-place v = record { step = v.step; rest = v.rest }
+abbrev pub certificate_place : View → CertificatePlace
+certificate_place v = record { step = v.step; rest = v.rest }

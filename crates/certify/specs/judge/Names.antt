@@ -6,8 +6,8 @@ use Rattle.sat_base.specs.script.Script.{Command, names_of}
 use Rattle.certify.specs.answers.AnswerForms.{named_literals}
 use Rattle.sat_base.specs.script.Judge.{Judge, Mode, Sampled, Witnessed, identity_of, bring_in, without_name, with_mode, Refusal, PastLimit, WitnessName, refusal_of}
 use Rattle.sat_base.specs.script.Language.{Kind, OfClause, OfAsk, OfHide, OfWitness, OfSample}
-use Rattle.certify.specs.reading.Commands.{IsLent}
-use Rattle.certify.specs.declared.reading.Command.{Command as Lent}
+use Rattle.certify.specs.script.Commands.{IsLent}
+use Rattle.certify.specs.declared.script.Command.{Command as Lent}
 use Rattle.certify.specs.declared.judge.NameState.{NameState}
 use Rattle.certify.specs.declared.judge.NameState.TheVariants as state
 use Rattle.certify.specs.declared.judge.Refusal.{Refusal as CodeRefusal}
@@ -29,7 +29,7 @@ state_of_identity modes None = state.Hidden
 state_of_identity modes (Some identity) = state_of_mode (get_or modes identity Sampled)
 
 -- names and modes are the judge's, who was asked of names within the limit alone
-pub record Stands (names : Names) (j : Judge) : Type 0 where
+pub record NamesStand (names : Names) (j : Judge) : Type 0 where
   pub first : j.first_unused ≡ length names.states.items + 1
   pub limit : j.first_unused ≤ largest + 1
   pub each : (name : ℕ) → state_of_identity j.modes (identity_of j name) ≡ state_in names.states.items name
@@ -65,7 +65,7 @@ refusal_said (Some refusal) = Some (refusal_in refusal)
 
 -- why a command is refused, if it is
 abbrev pub Judges : Option CodeRefusal → Names → Lent → Type 0
-Judges refusal names lent = (j : Judge) (c : Command) → Stands names j → IsLent lent c → refusal_said refusal ≡ refusal_of j c
+Judges refusal names lent = (j : Judge) (c : Command) → NamesStand names j → IsLent lent c → refusal_said refusal ≡ refusal_of j c
 
 abbrev pub limit_refusal : Bool → Option CodeRefusal
 limit_refusal false = None
@@ -98,4 +98,4 @@ taken kind name j = changed kind name (bring_in name j)
 
 -- a change of the judge's state
 abbrev pub Changes : Names → Names → (Judge → Judge) → Type 0
-Changes old new change = (j : Judge) → Stands old j → Stands new (change j)
+Changes old new change = (j : Judge) → NamesStand old j → NamesStand new (change j)

@@ -10,7 +10,7 @@ use Rattle.sat_checker.specs.matching.ProofChecking.{the_checking}
 use Rattle.certify.specs.answers.Answers.{answers_text}
 use Rattle.certify.specs.answers.RightAnswers.{AnswersAreRight}
 use Rattle.certify.specs.confirm.Matches.{Matches}
-use Rattle.certify.specs.serving.Certifies.{Certifies}
+use Rattle.certify.specs.run.Certifies.{Certifies}
 
 -- However a script is read: right outcomes, as they are answered, and accepted steps that certify them match it. Of the steps the
 -- newest stands first; the certificate is their text.

@@ -28,13 +28,13 @@ FinishedIsConfirmed =
 -- OVER TEXTS IN MEMORY
 
 -- a verdict on three texts: yes exactly where they match, and then the answers are right
-pub record Says (script answers certificate : List ℕ) (v : Verdict) : Type 0 where
+pub record VerdictSays (script answers certificate : List ℕ) (v : Verdict) : Type 0 where
   pub exact : (v ≡ Yes) ↔ Matches the_checking reading script answers certificate
   pub sound : v ≡ Yes → AreRightAnswers script answers
 
 -- so many looks at most, for so many bytes
-abbrev pub most_looks : List ℕ → List ℕ → List ℕ → ℕ
-most_looks script answers certificate = 16 * (length script + length answers + length certificate + 1) ^ 2
+abbrev pub most_looks_over : List ℕ → List ℕ → List ℕ → ℕ
+most_looks_over script answers certificate = 16 * (length script + length answers + length certificate + 1) ^ 2
 
 -- A script was run, and these answers and this certificate were written. They were confirmed, and so were others, with so many looks.
 pub record Certified (script : List ℕ) (budget : ℕ) (claimed shown : List ℕ) (summary : Summary) (answers certificate : List ℕ)
@@ -45,5 +45,5 @@ pub record Certified (script : List ℕ) (budget : ℕ) (claimed shown : List �
   -- what a run wrote is confirmed
   pub confirmed : own ≡ Yes
   -- yes to any answers and certificate says that those answers are right
-  pub any : Says script claimed shown other
-  pub looks : after ≤ before + most_looks script answers certificate + most_looks script claimed shown
+  pub any : VerdictSays script claimed shown other
+  pub looks : after ≤ before + most_looks_over script answers certificate + most_looks_over script claimed shown

@@ -39,17 +39,17 @@ abbrev pub AskLeavesNames : Type 0
 AskLeavesNames = (j : Judge) (ls ks : List Literal) → names_of ls ≡ names_of ks → accepted (Ask ls) j ≡ accepted (Ask ks) j
 
 -- no name past the limit
-abbrev pub Prints : Outcome → Type 0
-Prints (Sat line) = AllByRecursion (λ l. l.name ≤ largest) line
-Prints (Unsat core) = AllByRecursion (λ l. l.name ≤ largest) core
-Prints Unknown = Unit {0}
+abbrev pub HasPrintableNames : Outcome → Type 0
+HasPrintableNames (Sat line) = AllByRecursion (λ l. l.name ≤ largest) line
+HasPrintableNames (Unsat core) = AllByRecursion (λ l. l.name ≤ largest) core
+HasPrintableNames Unknown = Unit {0}
 
 -- different outcomes give different texts
 abbrev pub TextsTellOutcomes : Type 0
 TextsTellOutcomes =
     (commands : List Command) (ending : Ending) (vs ws : List Outcome)
     → OneEach (accepted_of start commands) vs → OneEach (accepted_of start commands) ws
-    → AllByRecursion Prints vs → AllByRecursion Prints ws
+    → AllByRecursion HasPrintableNames vs → AllByRecursion HasPrintableNames ws
     → answers_text commands ending vs ≡ answers_text commands ending ws
     → vs ≡ ws
 

@@ -9,7 +9,7 @@ use Rattle.certify.specs.answers.Answers.{answers_text}
 use Rattle.sat_checker.specs.matching.Expected.{Outcome, Sat, Unsat, Unknown, expected, NewName, NoName, Adds, Opens, Shows, Closes, Finish}
 use Rattle.certify.specs.answers.RightAnswers.{AnswersAreRight}
 use Rattle.certify.specs.confirm.Matches.{StepsMatch, MatchesCommands}
-use Rattle.certify.specs.serving.Certifies.{Certifies}
+use Rattle.certify.specs.run.Certifies.{Certifies}
 use Rattle.sat_checker.specs.matching.ProofChecking.{the_checking}
 
 -- the positive literal of a name, and the negative one

@@ -36,11 +36,11 @@ KeepsInput (Confirm s a c) = Unit {0}
 KeepsInput (Hints c h) = h ≡ c → ⊥
 KeepsInput (Check h) = Unit {0}
 
-abbrev pub Asks : List (List ℕ) → Request → Type 0
-Asks words request = IsUsage words request × KeepsInput request
+abbrev pub AsksFor : List (List ℕ) → Request → Type 0
+AsksFor words request = IsUsage words request × KeepsInput request
 
 abbrev pub AsksNothing : List (List ℕ) → Type 0
-AsksNothing words = (request : Request) → Asks words request → ⊥
+AsksNothing words = (request : Request) → AsksFor words request → ⊥
 
 -- words that are no call: there are some, and they ask for nothing
 abbrev pub IsMisuse : List (List ℕ) → Type 0
@@ -57,11 +57,11 @@ request_of (call.Check hints) = Check hints.now
 
 -- the call is what the words ask for, or there is none and they ask for nothing
 abbrev pub IsCallOf : List (List ℕ) → Option Call → Type 0
-IsCallOf words answer = MatchOption answer (AsksNothing words) (λ c. Asks words (request_of c))
+IsCallOf words answer = MatchOption answer (AsksNothing words) (λ c. AsksFor words (request_of c))
 
 -- the call is this request, which keeps its input, or there is none and it doesn't
-abbrev pub Allows : Option Call → Request → Type 0
-Allows answer request = MatchOption answer (KeepsInput request → ⊥) (λ c. (request_of c ≡ request) × KeepsInput request)
+abbrev pub AllowsRequest : Option Call → Request → Type 0
+AllowsRequest answer request = MatchOption answer (KeepsInput request → ⊥) (λ c. (request_of c ≡ request) × KeepsInput request)
 
 -- the status of what was done or refused
 abbrev pub HasStatus : {E : Type 0} → Result ℕ E → Type 0

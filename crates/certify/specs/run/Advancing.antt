@@ -10,13 +10,13 @@ use Rattle.sat_checker.specs.Stored.{Stored, unit_literals, long_clauses}
 use Rattle.sat_checker.specs.Propagation.{IsFalsified, IsUnit}
 use Rattle.sat_checker.specs.Accepts.{ready_after}
 use Rattle.sat_checker.specs.matching.Checking.{is_ordered}
-use Rattle.sat_solver.specs.joint.Quiet.{others_of}
+use Rattle.sat_solver.specs.session.Quiet.{others_of}
 
 -- stored clauses that are unit in turn under the first literals lead to the second
-pub data Leads (f : Stored) : List ℕ → List ℕ → Type 0 where
-  leads_none : {ls : List ℕ} → Leads f ls ls
+pub data PropagatesTo (f : Stored) : List ℕ → List ℕ → Type 0 where
+  leads_none : {ls : List ℕ} → PropagatesTo f ls ls
   leads_one : {ls ks : List ℕ} (clause : List ℕ) (open_literal : ℕ) → Among clause (long_clauses f) → IsUnit ls clause open_literal
-      → Leads f (open_literal ∷ ls) ks → Leads f ls ks
+      → PropagatesTo f (open_literal ∷ ls) ks → PropagatesTo f ls ks
 
 -- what is assumed: the negations of a clause's other literals, and the stored units
 abbrev pub supposed : Stored → List ℕ → List ℕ
@@ -31,7 +31,7 @@ pub record IsOpenStill (f : Stored) (literal : ℕ) (reached : List ℕ) : Type 
 -- them assign it or falsify a clause.
 pub record LeavesOpen (f : Stored) (others : List ℕ) (literal : ℕ) : Type 0 where
   pub agree : (l : ℕ) → is_among (supposed f others) l ≡ true → is_among (supposed f others) (negated l) ≡ false
-  pub open_still : (reached : List ℕ) → Leads f (supposed f others) reached → IsOpenStill f literal reached
+  pub open_still : (reached : List ℕ) → PropagatesTo f (supposed f others) reached → IsOpenStill f literal reached
 
 -- the others of some literal of the clause leave that one open
 abbrev pub Advances : Stored → List ℕ → Type 0

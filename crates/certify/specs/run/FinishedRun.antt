@@ -6,20 +6,21 @@ use Rattle.sat_base.specs.script.Script.{Command, Clause, Ask, Hide, Witness, Sa
 use Rattle.sat_base.specs.script.Judge.{Judge, refusal_of, after_command, accepted, accepted_of, start}
 use Rattle.sat_base.specs.steps.Steps.{Step, End}
 use Rattle.sat_base.specs.steps.StepText.{SpellsSteps}
+use Rattle.certify.specs.Devices.{gave, took}
 use Rattle.certify.specs.answers.Answers.{answers_text}
 use Rattle.sat_checker.specs.Accepts.{AcceptsAll}
 use Rattle.sat_checker.specs.Laws.{has_delete_var}
 use Rattle.sat_checker.specs.matching.Expected.{Outcome, Sat, Unsat, Unknown, expected}
 use Rattle.certify.specs.answers.RightAnswers.{AnswersAreRight}
 use Rattle.sat_checker.specs.matching.ProofChecking.{the_checking}
-use Rattle.sat_solver.specs.declared.session.counting.Counting.{Counting}
-use Rattle.sat_solver.specs.session.Counting.{start as uncounted, Cuts}
+use Rattle.sat_solver.specs.declared.proof.hash_bits.Counting.{Counting}
+use Rattle.sat_solver.specs.proof.Counting.{start as uncounted, TruncatesHashes}
 use Rattle.sat_base.specs.script.Language.{reading, written}
 use Rattle.certify.specs.run.Hiding.{HidesNothing}
 use Rattle.certify.specs.run.StepsLeft.{steps_left}
 use Rattle.certify.specs.run.Learning.{EachLearns}
-use Rattle.certify.specs.serving.Certifies.{Certifies}
-use Rattle.certify.specs.serving.Stretches.{MadeFor}
+use Rattle.certify.specs.run.Certifies.{Certifies}
+use Rattle.certify.specs.run.Stretches.{MadeFor}
 use Rattle.certify.specs.declared.fault.RunFault.{RunFault}
 use Rattle.certify.specs.declared.summary.Answer.{Answer}
 use Rattle.certify.specs.declared.summary.Answer.TheVariants as kind
@@ -37,10 +38,10 @@ abbrev pub malformed_at : ℕ → Ending → Option ℕ
 malformed_at number Clean = None
 malformed_at number Malformed = Some number
 
-abbrev pub kind_of : Outcome → Answer
-kind_of (Sat line) = kind.Sat
-kind_of (Unsat core) = kind.Unsat
-kind_of Unknown = kind.Unknown
+abbrev pub answer_kind : Outcome → Answer
+answer_kind (Sat line) = kind.Sat
+answer_kind (Unsat core) = kind.Unsat
+answer_kind Unknown = kind.Unknown
 
 -- An ask takes no more steps than are left, and has no answer only where it took all of them.
 pub record IsSpent (budget before : ℕ) (report : AskReport) : Type 0 where
@@ -82,7 +83,7 @@ pub record Answers (text : List ℕ) (budget : ℕ) (summary : Summary) (answere
   pub refused : summary.refused ≡ refused_count start (reading text).0
   pub malformed : summary.malformed ≡ malformed_at (length (reading text).0 + 1) (reading text).1
   -- one report for each outcome, of its kind
-  pub kinds : map (λ r. r.answer) summary.asks.items ≡ map kind_of outcomes
+  pub kinds : map (λ r. r.answer) summary.asks.items ≡ map answer_kind outcomes
   pub spent : AreSpent budget 0 (identities_given start (accepted_of start (reading text).0)) summary.asks.items
 
 -- What its certificate is to the answers: it spells steps, the oldest first, which are, in order, those of the accepted commands and of
@@ -99,21 +100,13 @@ pub record Backs (text : List ℕ) (budget : ℕ) (summary : Summary) (answered 
   pub made : List Step
   pub follows : MadeFor start [] made (accepted_of start (reading text).0) is_answered.outcomes (asked_steps summary.asks.items)
   pub counting : Counting
-  pub cuts : Cuts uncounted (End ∷ made) steps counting
+  pub cuts : TruncatesHashes uncounted (End ∷ made) steps counting
   -- each step that an ask took has derived a clause that advances, but for the one that answered, and no other clause of the ask does
   pub learns : EachLearns steps 0 is_answered.outcomes (asked_steps summary.asks.items)
   -- where no accepted command hides a name, no variable is deleted
   pub keeps : AllByRecursion HidesNothing (accepted_of start (reading text).0) → has_delete_var steps ≡ false
 
 -- WHAT THREE DEVICES SHOW OF IT
-
--- a reader before and after
-abbrev pub gave : {D : Type 0} → (D → Reader) → D → D → Reader × Reader
-gave seen old new = (seen old, seen new)
-
--- a writer before and after
-abbrev pub took : {D : Type 0} → (D → Writer) → D → D → Writer × Writer
-took seen old new = (seen old, seen new)
 
 -- the answers' writer took the answers to the text that was given, whatever would follow
 abbrev pub Answered : ℕ → Summary → Reader × Reader → Writer × Writer → Type 0

@@ -4,7 +4,7 @@ use Rattle.sat_base.specs.steps.Steps.{Step, Assumptions}
 use Rattle.sat_checker.specs.matching.Expected.{Outcome, Unknown}
 use Rattle.sat_checker.specs.matching.ProofChecking.{the_checking}
 use Rattle.certify.specs.run.Advancing.{AdvanceTimes, AreUnordered}
-use Rattle.certify.specs.serving.Stretches.{Learns}
+use Rattle.certify.specs.run.Stretches.{Learns}
 
 -- how often something is assumed: twice for each ask, its literals and, at its end, none
 abbrev pub assumed_times : List Step → ℕ

@@ -1,11 +1,11 @@
 -- What a run does to its three devices.
 use Rattle.std.specs.Prelude.{ℕ, ◌+◌, ◌≡◌, ◌≤◌, true, List, Result, Ok, Err}
 use Rattle.sat_base.specs.device.Device.{Reader, Writer, GaveEnough, ReadFails, Takes, most_reads}
-use Rattle.certify.specs.Calls.{NoneFailed, OneFailed}
+use Rattle.certify.specs.Devices.{NoneFailed, OneFailed}
 use Rattle.certify.specs.declared.fault.RunFault.{RunFault}
 use Rattle.certify.specs.declared.summary.Summary.{Summary}
 use Rattle.certify.specs.run.FinishedRun.{Backs}
-use Rattle.certify.specs.serving.Whole.{Cause}
+use Rattle.certify.specs.run.ServedScript.{RunFaultSays}
 
 -- what was written to a text, with its certificate
 pub record Wrote (text : List ℕ) (budget : ℕ) (summary : Summary) (answers certificate : Writer × Writer) : Type 0 where
@@ -31,7 +31,7 @@ pub record Finished (budget : ℕ) (summary : Summary) (script : Reader × Reade
 -- so, or one call of one device failed, perhaps, which the fault names
 abbrev pub Runs : Result Summary RunFault → ℕ → Reader × Reader → Writer × Writer → Writer × Writer → Type 0
 Runs (Ok summary) budget script answers certificate = Finished budget summary script answers certificate
-Runs (Err e) budget script answers certificate = Cause e
+Runs (Err e) budget script answers certificate = RunFaultSays e
     (ReadFails script.0 script.1 × NoneFailed answers.0 answers.1 × NoneFailed certificate.0 certificate.1)
     (NoneUnread script × OneFailed answers.0 answers.1 × NoneFailed certificate.0 certificate.1)
     (NoneUnread script × NoneFailed answers.0 answers.1 × OneFailed certificate.0 certificate.1)

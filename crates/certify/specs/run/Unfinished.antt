@@ -8,10 +8,10 @@ use Rattle.sat_base.specs.values.Literals.{largest}
 use Rattle.sat_base.specs.steps.Steps.{Step}
 use Rattle.sat_checker.specs.Accepts.{AcceptsAll}
 use Rattle.sat_checker.specs.matching.Expected.{Outcome}
-use Rattle.sat_solver.specs.declared.session.counting.Counting.{Counting}
-use Rattle.sat_solver.specs.declared.session.format.ProofFormat.TheVariants.{Varisat}
-use Rattle.sat_solver.specs.session.Counting.{start as uncounted, Cuts}
-use Rattle.sat_solver.specs.session.OutputView.{text_in}
+use Rattle.sat_solver.specs.declared.proof.hash_bits.Counting.{Counting}
+use Rattle.sat_solver.specs.declared.proof.format.ProofFormat.TheVariants.{Varisat}
+use Rattle.sat_solver.specs.proof.Counting.{start as uncounted, TruncatesHashes}
+use Rattle.sat_solver.specs.proof.OutputView.{text_in}
 use Rattle.certify.specs.answers.Answers.{answers_from}
 use Rattle.certify.specs.answers.RightAnswers.{AreRight}
 
@@ -57,7 +57,7 @@ pub record StepsFront (old new : Writer) : Type 0 where
   pub made : List Step
   pub steps : List Step
   pub counting : Counting
-  pub cuts : Cuts uncounted made steps counting
+  pub cuts : TruncatesHashes uncounted made steps counting
   pub accepted : AcceptsAll steps
   pub bytes : List ℕ
   pub behind : List ℕ

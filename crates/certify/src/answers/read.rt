@@ -2,7 +2,7 @@
 //! single spaces, no leading zeros, each line ended by LF, names from 1 to 2^28 in their order.
 ghost use Rattle.std.specs.Prelude.{◌≡◌, ◌++◌, ◌∷◌, [], false, ◌*◌, ◌<◌, ◌≤◌, decimal, MatchOption, MatchResult, List, ℕ};
 ghost use Rattle.certify.specs.answers.AnswerForms.{IsName};
-ghost use Rattle.certify.specs.answers.AnswerReading.{NoDigit, NoName, NoLiteral, NoLiterals, NoKind, NoLine, NoOutcome, StartsNoName, StartsNoLiteral, StartsNoLiterals, StartsNoKind, StartsNoLine, HasLine, IsHead, digits_so_far, first_line, place_in, BeginsWithLiteral, BeginsWithLiterals, BeginsWithLine, BeginsWithAnswer};
+ghost use Rattle.certify.specs.answers.AnswerReading.{NoDigit, NoName, NoLiteral, NoLiterals, NoKind, NoLine, NoOutcome, StartsNoName, StartsNoLiteral, StartsNoLiterals, StartsNoKind, StartsNoLine, HasLine, IsHead, digits_so_far, first_line, literal_place, BeginsWithLiteral, BeginsWithLiterals, BeginsWithLine, BeginsWithAnswer};
 ghost use Rattle.sat_base.specs.values.Literals.{largest};
 
 use sat_base::{Lit, Var};
@@ -136,8 +136,8 @@ fn begins_literal(bytes: &[u8]) -> bool
 }
 
 /// Where the literal stands in a line of this kind.
-fn place_in(kind: AnswerKind, lit: Lit) -> usize
-    ensures value { result ≡ place_in kind lit }
+fn literal_place(kind: AnswerKind, lit: Lit) -> usize
+    ensures value { result ≡ literal_place kind lit }
     ensures bound { result < 2 * largest }
 {
     match kind {
@@ -161,7 +161,7 @@ fn read_literals<'a>(
     let mut least = 0;
     while let Some(found) = read_literal(rest) {
         let (lit, behind) = found;
-        let place = place_in(kind, lit);
+        let place = literal_place(kind, lit);
         if place < least {
             return Err(AnswerFault::Text);
         }
@@ -181,7 +181,7 @@ fn begins_literals(kind: AnswerKind, bytes: &[u8]) -> bool
     let mut lowest = 0;
     while let Some(found) = read_literal(rest) {
         let (lit, behind) = found;
-        let place = place_in(kind, lit);
+        let place = literal_place(kind, lit);
         if place < lowest {
             return false;
         }

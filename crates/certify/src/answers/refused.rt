@@ -3,7 +3,7 @@ ghost use Rattle.std.specs.Prelude.{◌≡◌, ◌+◌, ◌++◌, OnOk};
 ghost use Rattle.sat_base.specs.script.Judge.{WitnessName};
 ghost use Rattle.certify.specs.answers.Answers.{refused_line};
 ghost use Rattle.certify.specs.judge.Names.{refusal_in};
-ghost use Rattle.certify.specs.matching.Lines.{IsLine};
+ghost use Rattle.certify.specs.confirm.Lines.{IsLine};
 
 use super::write::{push_number, push_refused_limit};
 use crate::judge::Refusal;

@@ -1,23 +1,30 @@
-//! What ends a confirmation that reads its certificate step by step.
+//! What ends a confirmation.
 ghost use Rattle.std.specs.Prelude.{◌≡◌};
 ghost use Rattle.certify.specs.confirm.Feeding.{stop_by};
+ghost use Rattle.certify.specs.confirm.Stopping.{answers_stop, script_stop};
 ghost use Rattle.certify.specs.confirm.Streams.{stop_of};
 
 use crate::verdict::Why;
-use sat_base::StepError;
+use sat_base::{ReadError, StepError};
 use sat_checker::CheckerError;
 use std::alloc::{AllocError, AllocFailed};
 
-/// Why nothing more is confirmed.
+/// Why nothing more is confirmed, whichever of the three texts it is about.
 #[derive(Clone, Copy, Drop)]
 pub(crate) enum Stop {
     /// What was met first that doesn't match.
     No(Why),
+    /// The script's reader failed, or was read 2^48 times.
+    ScriptRead,
+    /// The answers' reader failed, or was read 2^48 times.
+    AnswersRead,
     /// The certificate's reader failed, or was read 2^48 times.
-    Read,
+    CertificateRead,
     OutOfMemory,
     /// A number of the checker's would be past 64 bits.
     CounterEnd,
+    /// A command's number would be past 64 bits.
+    TooMany,
 }
 
 impl From<AllocError> for Stop {
@@ -42,6 +49,26 @@ impl<T: Drop> From<AllocFailed<T>> for Stop {
     }
 }
 
+/// The script can't be read.
+pub(crate) fn unread_script(error: ReadError) -> Stop
+    ensures { result ≡ script_stop error }
+{
+    match error {
+        ReadError::Failed => Stop::ScriptRead,
+        ReadError::OutOfMemory => Stop::OutOfMemory,
+    }
+}
+
+/// The answers can't be read.
+pub(crate) fn unread_answers(error: ReadError) -> Stop
+    ensures { result ≡ answers_stop error }
+{
+    match error {
+        ReadError::Failed => Stop::AnswersRead,
+        ReadError::OutOfMemory => Stop::OutOfMemory,
+    }
+}
+
 /// Why no step was read. A reader of steps that has failed isn't asked again.
 pub(crate) fn unread(error: StepError) -> Stop
     ensures { result ≡ stop_of error }
@@ -50,9 +77,9 @@ pub(crate) fn unread(error: StepError) -> Stop
         StepError::Ends => Stop::No(Why::CertificateEnds),
         StepError::Cut => Stop::No(Why::CertificateEnds),
         StepError::BadByte => Stop::No(Why::StepRefused),
-        StepError::Read => Stop::Read,
+        StepError::Read => Stop::CertificateRead,
         StepError::OutOfMemory => Stop::OutOfMemory,
-        StepError::HasFailed => Stop::Read,
+        StepError::HasFailed => Stop::CertificateRead,
     }
 }
 

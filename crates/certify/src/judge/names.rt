@@ -4,11 +4,11 @@ ghost use Rattle.std.specs.Bool.{MatchBool};
 ghost use Rattle.sat_base.specs.values.Literals.{largest};
 ghost use Rattle.sat_base.specs.script.Script.{Command as Spelled, Literal, names_of};
 ghost use Rattle.sat_base.specs.script.Judge.{Judge, accepted, bring_in, names_from, new_names, refused_literal, start, with_mode, without_name};
-ghost use Rattle.certify.specs.reading.Commands.{IsFront, IsLent, kind_of};
-ghost use Rattle.certify.specs.judge.Names.{Changes, IsInUse, ListsUsed, changed, Judges, Stands, is_witnessed, limit_refusal, mode_of_state, refusal_said, state_in, taken};
+ghost use Rattle.certify.specs.script.Commands.{IsFront, IsLent, kind_of};
+ghost use Rattle.certify.specs.judge.Names.{Changes, IsInUse, ListsUsed, changed, Judges, NamesStand, is_witnessed, limit_refusal, mode_of_state, refusal_said, state_in, taken};
 
 use super::{NameState, Refusal};
-use crate::reading::{Command, CommandKind};
+use crate::script::{Command, CommandKind};
 use sat_base::{Lit, Var};
 use std::alloc::{AllocError, Global};
 
@@ -39,7 +39,7 @@ fn limit_refusal(past_limit: bool) -> Option<Refusal>
 impl Names {
     /// Before the first command.
     pub fn new(alloc: Global) -> Names
-        ensures { Stands result start }
+        ensures { NamesStand result start }
     {
         Names {
             states: Vec::new(alloc),
@@ -70,7 +70,7 @@ impl Names {
 
     /// Why a clause or an ask is refused, if it is.
     fn literal_refusal(&self, literals: &[Lit], past_limit: bool) -> Option<Refusal>
-        ensures judges { (j : Judge) (ls : List Literal) → Stands self.now j → IsFront literals.now past_limit ls
+        ensures judges { (j : Judge) (ls : List Literal) → NamesStand self.now j → IsFront literals.now past_limit ls
             → refusal_said result ≡ refused_literal j (names_of ls) }
         ensures within { result ≡ None → past_limit ≡ false }
     {
@@ -100,7 +100,7 @@ impl Names {
     /// The names that become new variables where this one is brought in, in order: all from the first never used up to it, or a hidden
     /// one itself.
     pub fn new_names(&self, var: Var) -> NewNames
-        ensures told { (j : Judge) → Stands self.now j → new_names (var + 1) j ≡ names_from result.count (result.first + 1) }
+        ensures told { (j : Judge) → NamesStand self.now j → new_names (var + 1) j ≡ names_from result.count (result.first + 1) }
         ensures within { result.first + result.count ≤ largest }
     {
         let index = var.index();
@@ -223,7 +223,7 @@ impl Names {
     /// What a command that isn't refused makes of all its names.
     pub fn accept(&mut self, command: Command<'_>) -> Result<(), AllocError>
         requires { command.past_limit ≡ false }
-        ensures { OnOk result ((j : Judge) (c : Spelled) → Stands self.old j → IsLent command.entry c → Stands self.new (accepted c j)) }
+        ensures { OnOk result ((j : Judge) (c : Spelled) → NamesStand self.old j → IsLent command.entry c → NamesStand self.new (accepted c j)) }
     {
         for lit in command.literals {
             self.take(command.kind, lit.var())?;

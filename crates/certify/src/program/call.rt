@@ -1,7 +1,7 @@
 //! What the arguments of the program ask for.
 ghost use Rattle.std.specs.Prelude.{ℕ, [], ◌∷◌, map, MatchOption};
 ghost use Rattle.std.specs.String.{string_bytes};
-ghost use Rattle.certify.specs.program.Calls.{Allows, IsCallOf, IsSteps, running};
+ghost use Rattle.certify.specs.program.Calls.{AllowsRequest, IsCallOf, IsSteps, running};
 
 /// The files of a run: a script, its answers and their certificate.
 #[derive(Clone, Copy)]
@@ -48,7 +48,7 @@ fn steps_of(word: &str) -> Option<u64>
 
 /// A run that doesn't write over its script.
 fn run_of(files: RunFiles<'_>, budget: u64) -> Option<Call<'_>>
-    ensures { Allows result (running files.entry budget) }
+    ensures { AllowsRequest result (running files.entry budget) }
 {
     if files.answers == files.script || files.certificate == files.script {
         return None;

@@ -1,6 +1,6 @@
 //! The call without arguments: a script from standard input, its certificate kept in memory.
 ghost use Rattle.std.specs.Prelude.{IfOk};
-ghost use Rattle.certify.specs.run.FinishedRun.{gave, took};
+ghost use Rattle.certify.specs.Devices.{gave, took};
 ghost use Rattle.certify.specs.program.Calls.{HasStatus};
 ghost use Rattle.certify.specs.program.Printing.{IsWritten, Prints, PrintsVerdict};
 

@@ -1,7 +1,7 @@
 //! What the calls with files do, over any readers and writers. The answer of each is the status.
 ghost use Rattle.std.specs.Prelude.{◌≡◌, ◌≤◌, ◌↔◌, None, [], IfOk, OnOk, true};
 ghost use Rattle.sat_base.specs.device.Device.{Takes};
-ghost use Rattle.certify.specs.run.FinishedRun.{gave, took};
+ghost use Rattle.certify.specs.Devices.{gave, took};
 ghost use Rattle.certify.specs.declared.verdict.Verdict.TheVariants.{Yes};
 ghost use Rattle.certify.specs.program.Calls.{HasStatus};
 ghost use Rattle.certify.specs.program.HintPrinting.{PrintsHintVerdict, WritesHints, hint_verdict_text, is_proved};

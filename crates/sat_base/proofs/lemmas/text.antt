@@ -7,3 +7,4 @@ pub mod TextRuns
 pub mod SeveralBytes
 pub mod HeaderFirst
 pub mod PlainTokens
+pub mod RightWords

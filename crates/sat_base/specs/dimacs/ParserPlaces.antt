@@ -5,6 +5,7 @@ use Rattle.sat_base.specs.declared.dimacs.error.DimacsError.{DimacsError}
 use Rattle.sat_base.specs.declared.dimacs.error.DimacsError.TheVariants as errors
 use Rattle.sat_base.specs.text.Text.{is_blank, Token, Scan, scan, header_first, header_of}
 use Rattle.sat_base.specs.text.Spot.{onto}
+use Rattle.sat_base.specs.text.WrongWords.{RightAhead}
 use Rattle.sat_base.specs.text.Tokenizing.{held, Stands, Quiet}
 use Rattle.sat_base.specs.values.Formulas.{vars_of}
 use Rattle.sat_base.specs.dimacs.Dimacs.{Hand, Dimacs, clauses_of}
@@ -43,6 +44,7 @@ pub record Goes (p : Parser) : Type 0 where
   pub heads : header_of (whole_lines p.history.fed) ≡ header_first before
   pub sound : NoFault None (scan (whole_lines p.history.fed)).tokens
   pub quiet : is_blank (last_byte p.history.fed) ≡ true → Quiet (left_of [])
+  pub right : RightAhead left_of
 
 -- what is so of every parser
 pub record IsParser (p : Parser) : Type 0 where

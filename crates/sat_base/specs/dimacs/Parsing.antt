@@ -5,6 +5,7 @@ use Rattle.std.specs.List.{FoldsTo, concat}
 use Rattle.std.specs.Prelude.{◌≡◌, ◌<◌, ◌≤◌, ◌+◌, ◌⊎◌, ◌-◌, ℕ, length, get_or, nat_eq, List, [], ◌∷◌, ◌++◌, Bool, true, false, ◌||◌, Option, None, Some, Result, Ok, Err, if◌then◌else◌}
 use Rattle.sat_base.specs.device.Device.{Reader, CanFollow, GaveFront, GaveEnough}
 use Rattle.sat_base.specs.text.Text.{is_blank, Token, Number, scan, tokens, header_of}
+use Rattle.sat_base.specs.text.WrongWords.{RightAhead}
 use Rattle.sat_base.specs.text.Tokenizing.{held}
 use Rattle.sat_base.specs.values.Formulas.{Formula, vars_of}
 use Rattle.sat_base.specs.dimacs.Dimacs.{Ending, Clean, Malformed, Limit, Hand, Turn, GoesOn, Ends, Fails, turn, dimacs, settled, IsDimacs}
@@ -80,9 +81,10 @@ abbrev pub NoFault : Hand → List (ℕ × Token) → Type 0
 NoFault hand [] = Unit {0}
 NoFault hand (t ∷ ts) = unless_fault (turn hand t.0 t.1) (λ h. NoFault h ts)
 
--- no line of a text that has ended has a fault
-abbrev pub IsSoundText : List ℕ → Type 0
-IsSoundText text = NoFault None (tokens (whole_lines text))
+-- no line of a text that has ended has a fault, and the text can go on without a wrong word
+pub record IsSoundText (text : List ℕ) : Type 0 where
+  pub lines : NoFault None (tokens (whole_lines text))
+  pub words : RightAhead (λ rest. scan (text ++ rest))
 
 abbrev pub IsSound : Progress → Type 0
 IsSound p = IsSoundText p.fed

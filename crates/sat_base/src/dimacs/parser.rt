@@ -55,6 +55,11 @@ impl Parser {
     {
         let Some(token) = self.tokenizer.push(byte) else {
             self.history = self.history.and_byte(byte);
+            if self.tokenizer.is_wrong() {
+                self.stopped = true;
+                self.ended = true;
+                return Err(DimacsError::Malformed { line: self.line() });
+            }
             return Ok(());
         };
         match self.clauses.take(token) {

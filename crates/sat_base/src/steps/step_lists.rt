@@ -1,5 +1,5 @@
 //! The lists of the step in hand, whose room is used again.
-ghost use Rattle.std.specs.Prelude.{◌≡◌};
+ghost use Rattle.std.specs.Prelude.{◌≡◌, []};
 ghost use Rattle.sat_base.specs.steps.StepViews.{step_of};
 ghost use Rattle.sat_base.specs.steps.Kinds.{step_with};
 
@@ -15,7 +15,11 @@ pub(crate) struct Lists {
 }
 
 impl Lists {
-    pub(crate) fn new(alloc: Global) -> Lists {
+    pub(crate) fn new(alloc: Global) -> Lists
+        ensures literals { result.literals.items ≡ [] }
+        ensures hashes { result.hashes.items ≡ [] }
+        ensures units { result.units.items ≡ [] }
+    {
         Lists {
             literals: Vec::new(alloc),
             hashes: Vec::new(alloc),

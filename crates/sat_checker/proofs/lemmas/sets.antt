@@ -9,3 +9,4 @@ pub mod Distinct
 pub mod Members
 pub mod Unmarking
 pub mod Searching
+pub mod Trails

@@ -11,9 +11,9 @@ use Rattle.sat_checker.specs.inner.SlotView.{slot_ids}
 use Rattle.sat_checker.specs.inner.StoreView.{KeepsClauses, KeepsHashed, AreIds, refiled}
 use Rattle.sat_checker.specs.declared.store.StoreError.{StoreError}
 use Rattle.sat_checker.specs.declared.store.StoreError.TheVariants.{OutOfMemory, CounterEnd}
-use Rattle.sat_checker.specs.declared.status.LastClause.{LastClause}
-use Rattle.sat_checker.specs.declared.status.LastClause.TheVariants as code
-use Rattle.sat_checker.specs.declared.status.Status.{Status}
+use Rattle.sat_checker.specs.declared.state.status.LastClause.{LastClause}
+use Rattle.sat_checker.specs.declared.state.status.LastClause.TheVariants as code
+use Rattle.sat_checker.specs.declared.state.status.Status.{Status}
 use Rattle.sat_checker.specs.declared.formula.Formula.{Formula}
 
 -- what is recorded beside clauses, units and variables

@@ -3,7 +3,7 @@ use Rattle.std.specs.Prelude.{ℕ, ◌≡◌, ◌+◌, ◌<◌, ◌==◌, not, f
 use Rattle.std.specs.List.{AllByRecursion}
 use Rattle.sat_checker.specs.inner.PairView.{Indexed, AreInOrder, places_in, mixed}
 use Rattle.sat_checker.specs.inner.SlotView.{Slot, is_gone, places_of}
-use Rattle.sat_checker.specs.declared.links.Pair.{Pair}
+use Rattle.sat_checker.specs.declared.store.links.Pair.{Pair}
 
 abbrev pub without_place : ℕ → List ℕ → List ℕ
 without_place place = filter (λ p. not (p == place))

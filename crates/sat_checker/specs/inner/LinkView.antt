@@ -2,8 +2,8 @@
 use Rattle.std.specs.Prelude.{ℕ, zero, suc, ◌≡◌, ◌≤◌, ◌<◌, ◌==◌, ◌-◌, ◌/◌, ◌^◌, min, nat_le, List, [], ◌∷◌, ◌++◌, length, filter, slice_index_or, Option, None, Some, if◌then◌else◌}
 use Rattle.std.specs.List.{AllByRecursion}
 use Rattle.sat_checker.specs.inner.PairView.{AreInOrder}
-use Rattle.sat_checker.specs.declared.links.Pair.{Pair}
-use Rattle.sat_checker.specs.declared.links.Link.{Link}
+use Rattle.sat_checker.specs.declared.store.links.Pair.{Pair}
+use Rattle.sat_checker.specs.declared.store.links.Link.{Link}
 
 -- no place
 abbrev pub nowhere : ℕ

@@ -1,5 +1,5 @@
 -- Marks by number.
-use Rattle.std.specs.Prelude.{ℕ, ◌≡◌, Bool, false, List}
+use Rattle.std.specs.Prelude.{ℕ, ◌≡◌, ◌<◌, ◌+◌, ◌-◌, ◌==◌, Bool, false, List, length, get_or, if◌then◌else◌}
 use Rattle.sat_base.specs.declared.table.Table.{Table}
 use Rattle.sat_base.specs.values.Tables.{value_at}
 use Rattle.sat_checker.specs.LiteralSets.{is_among}
@@ -13,3 +13,8 @@ is_marked = value_at false
 pub record AreMarks (marks : Table Bool) (literals : List ℕ) : Type 0 where
   pub each : (l : ℕ) → is_marked marks l ≡ is_among literals l
   pub once : NoRepeats literals
+
+-- The list has lost what stood at a place, where its last one stands now.
+pub record LosesAt (place : ℕ) (old new : List ℕ) : Type 0 where
+  pub count : length new + 1 ≡ length old
+  pub each : (i : ℕ) → i < length new → get_or new i 0 ≡ (if i == place then get_or old (length old - 1) 0 else get_or old i 0)

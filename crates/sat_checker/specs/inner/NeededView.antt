@@ -2,7 +2,7 @@
 use Rattle.std.specs.Prelude.{ℕ, ◌≡◌, map, reverse}
 use Rattle.sat_checker.specs.LiteralSets.{is_among}
 use Rattle.sat_checker.specs.announcements.Needed.{Ground}
-use Rattle.sat_checker.specs.declared.needed.Needed.{Needed}
+use Rattle.sat_checker.specs.declared.rup.needed.Needed.{Needed}
 
 -- just the literals that the conflict rests on are marked, and the ids are those of the clauses needed, the last one first
 pub record IsFollowed (needed : Needed) (g : Ground) : Type 0 where

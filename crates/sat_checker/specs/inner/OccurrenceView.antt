@@ -4,7 +4,7 @@ use Rattle.sat_base.specs.values.Tables.{value_at}
 use Rattle.sat_checker.specs.inner.IndexView.{Files}
 use Rattle.sat_checker.specs.inner.PairView.{Indexed}
 use Rattle.sat_checker.specs.inner.SlotView.{Slot, is_gone}
-use Rattle.sat_checker.specs.declared.occurrences.Occurrences.{Occurrences}
+use Rattle.sat_checker.specs.declared.store.occurrences.Occurrences.{Occurrences}
 
 -- how often a literal stands in a clause
 abbrev pub times_in : ℕ → List ℕ → ℕ

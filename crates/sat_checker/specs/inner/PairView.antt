@@ -1,7 +1,7 @@
 -- Lists of pairs of a hash and a place.
 use Rattle.std.specs.Prelude.{ℕ, ◌+◌, ◌*◌, ◌/◌, ◌%◌, ◌^◌, ◌≡◌, ◌≤◌, ◌<◌, ◌==◌, Bool, not, ◌||◌, ◌&&◌, nat_lt, nat_le, List, [], ◌∷◌, map, filter, Option, None, Some, if◌then◌else◌}
 use Rattle.std.specs.List.{AllByRecursion}
-use Rattle.sat_checker.specs.declared.links.Pair.{Pair}
+use Rattle.sat_checker.specs.declared.store.links.Pair.{Pair}
 
 -- the hash by which the index files another: no two are mixed to one, and what is past 64 bits stays
 unfoldable pub mixed : ℕ → ℕ

@@ -9,8 +9,8 @@ use Rattle.sat_checker.specs.announcements.Needed.{Ground, ground}
 use Rattle.sat_checker.specs.announcements.Promises.{Reason}
 use Rattle.sat_checker.specs.announcements.Following.{followed_back}
 use Rattle.sat_checker.specs.inner.SlotView.{Slot, slot_at, literals_at, is_filed}
-use Rattle.sat_checker.specs.declared.passed.Passed.{Passed}
-use Rattle.sat_checker.specs.declared.passed.Reason as noted
+use Rattle.sat_checker.specs.declared.rup.passed.Passed.{Passed}
+use Rattle.sat_checker.specs.declared.rup.passed.Reason as noted
 use Rattle.sat_checker.specs.declared.rup.Walked.{Walked}
 use Rattle.sat_checker.specs.declared.rup.Walked.TheVariants.{Empty, Conflict, Open}
 

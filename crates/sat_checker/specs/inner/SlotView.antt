@@ -6,7 +6,7 @@ use Rattle.sat_checker.specs.Stored.{StoredClause, hash_by}
 use Rattle.sat_checker.specs.Storing.{with_count, without_count, new_clause, unless_gone}
 use Rattle.sat_checker.specs.HasherView.{solver_name_of, width_of}
 use Rattle.sat_checker.specs.declared.hash.ClauseHasher.{ClauseHasher}
-use Rattle.sat_checker.specs.declared.slots.ClauseLits.{ClauseLits}
+use Rattle.sat_checker.specs.declared.store.slots.ClauseLits.{ClauseLits}
 
 -- the literals that lie inline, or in the buffer
 abbrev pub lits_in : List ℕ → ClauseLits → List ℕ

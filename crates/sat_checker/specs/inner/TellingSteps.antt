@@ -10,11 +10,11 @@ use Rattle.sat_checker.specs.declared.error.CheckerError.{CheckerError}
 use Rattle.sat_checker.specs.declared.error.CheckerError.TheVariants as errors
 use Rattle.sat_checker.specs.declared.processing.ProcessingError.{ProcessingError}
 use Rattle.sat_checker.specs.declared.processing.ProcessingError.TheVariants as faults
-use Rattle.sat_checker.specs.declared.status.Status.{Status}
-use Rattle.sat_checker.specs.declared.status.Records.{Records}
+use Rattle.sat_checker.specs.declared.state.status.Status.{Status}
+use Rattle.sat_checker.specs.declared.state.status.Records.{Records}
 use Rattle.sat_checker.specs.declared.store.StoreError.{StoreError}
 use Rattle.sat_checker.specs.declared.store.StoreError.TheVariants as stores
-use Rattle.sat_checker.specs.declared.announcement.Was.{Was}
+use Rattle.sat_checker.specs.declared.announce.announcement.Was.{Was}
 
 -- announcements while these variables may be looked up
 abbrev pub announced_by : (ℕ → Variable) → List Announcement → List Told

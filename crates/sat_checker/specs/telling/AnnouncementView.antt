@@ -5,13 +5,13 @@ use Rattle.std.specs.Option.{option_map}
 use Rattle.sat_checker.specs.Stored.{Variable}
 use Rattle.sat_checker.specs.announcements.Announcements.{UserVariable, Announcement, UserVar, DeleteVar, AddClause, DuplicatedClause, TautologicalClause, AtClause, MakeIrredundant, DeleteClause, DeleteAtClause, DeleteRatClause, Model, Assumptions, FailedAssumptions, Told}
 use Rattle.sat_checker.specs.inner.VariablesView.{variable_at, variable_of}
-use Rattle.sat_checker.specs.declared.announcement.CheckedSamplingMode.{CheckedSamplingMode}
-use Rattle.sat_checker.specs.declared.announcement.CheckedSamplingMode.TheVariants as modes
-use Rattle.sat_checker.specs.declared.announcement.CheckedUserVar.{CheckedUserVar}
-use Rattle.sat_checker.specs.declared.announcement.CheckedProofStep.{CheckedProofStep}
-use Rattle.sat_checker.specs.declared.announcement.CheckedProofStep.TheVariants as code
-use Rattle.sat_checker.specs.declared.announcement.CheckerData.{CheckerData}
-use Rattle.sat_checker.specs.declared.announcement.Was.{Was}
+use Rattle.sat_checker.specs.declared.announce.announcement.CheckedSamplingMode.{CheckedSamplingMode}
+use Rattle.sat_checker.specs.declared.announce.announcement.CheckedSamplingMode.TheVariants as modes
+use Rattle.sat_checker.specs.declared.announce.announcement.CheckedUserVar.{CheckedUserVar}
+use Rattle.sat_checker.specs.declared.announce.announcement.CheckedProofStep.{CheckedProofStep}
+use Rattle.sat_checker.specs.declared.announce.announcement.CheckedProofStep.TheVariants as code
+use Rattle.sat_checker.specs.declared.announce.announcement.CheckerData.{CheckerData}
+use Rattle.sat_checker.specs.declared.announce.announcement.Was.{Was}
 
 abbrev pub is_sampling : CheckedSamplingMode → Bool
 is_sampling modes.Sample = true

@@ -4,9 +4,9 @@ use Rattle.sat_checker.specs.Stored.{Stored}
 use Rattle.sat_checker.specs.Storing.{clause_with}
 use Rattle.sat_checker.specs.announcements.Announcements.{Announcement, AtClause, MakeIrredundant, redundant_deleted, irredundant_deleted, one}
 use Rattle.sat_checker.specs.inner.StoreView.{found_in}
-use Rattle.sat_checker.specs.declared.announcing.Change.{Change}
-use Rattle.sat_checker.specs.declared.announcing.Change.TheVariants as changes
-use Rattle.sat_checker.specs.declared.announcing.Deletion.{Deletion}
+use Rattle.sat_checker.specs.declared.announce.announcing.Change.{Change}
+use Rattle.sat_checker.specs.declared.announce.announcing.Change.TheVariants as changes
+use Rattle.sat_checker.specs.declared.announce.announcing.Deletion.{Deletion}
 
 -- a derived clause that changes what is stored so
 abbrev pub stored_as : Change → ℕ → Bool → List ℕ → List ℕ → List Announcement

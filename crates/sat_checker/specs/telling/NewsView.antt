@@ -3,9 +3,9 @@ use Rattle.std.specs.Prelude.{ℕ, ◌<◌, List, [], length, slice_index_or}
 use Rattle.std.specs.Option.{option_map}
 use Rattle.sat_checker.specs.announcements.Announcements.{Announcement, UserVar, DeleteVar, AddClause, DuplicatedClause, TautologicalClause, AtClause, MakeIrredundant, DeleteClause, DeleteAtClause, Model, Assumptions, FailedAssumptions}
 use Rattle.sat_checker.specs.telling.AnnouncementView.{user_of}
-use Rattle.sat_checker.specs.declared.news.Kind.{Kind}
-use Rattle.sat_checker.specs.declared.news.Kind.TheVariants as kinds
-use Rattle.sat_checker.specs.declared.news.Item.{Item}
+use Rattle.sat_checker.specs.declared.announce.news.Kind.{Kind}
+use Rattle.sat_checker.specs.declared.announce.news.Kind.TheVariants as kinds
+use Rattle.sat_checker.specs.declared.announce.news.Item.{Item}
 
 -- with these literals and ids
 abbrev pub announcement_with : Kind → List ℕ → List ℕ → Announcement

@@ -5,7 +5,7 @@ use Rattle.sat_checker.specs.Stored.{Stored}
 use Rattle.sat_checker.specs.announcements.Announcements.{Announcement, announced}
 use Rattle.sat_checker.specs.inner.StateView.{Keeps}
 use Rattle.sat_checker.specs.telling.AnnouncingView.{AreLong}
-use Rattle.sat_checker.specs.declared.notes.Notes.{Notes}
+use Rattle.sat_checker.specs.declared.announce.notes.Notes.{Notes}
 use Rattle.sat_checker.specs.declared.store.StoreError.{StoreError}
 use Rattle.sat_checker.specs.declared.state.State.{State}
 

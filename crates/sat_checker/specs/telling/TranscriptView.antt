@@ -1,7 +1,7 @@
 -- What a transcript's step of the code says.
 use Rattle.sat_checker.specs.announcements.Transcripts.{Transcribed, WitnessVar, SampleVar, HideVar, ObserveInternalVar, AddClause, Unsat, Model, Assume, FailedAssumptions}
-use Rattle.sat_checker.specs.declared.transcript.ProofTranscriptStep.{ProofTranscriptStep}
-use Rattle.sat_checker.specs.declared.transcript.ProofTranscriptStep.TheVariants as code
+use Rattle.sat_checker.specs.declared.announce.transcript.ProofTranscriptStep.{ProofTranscriptStep}
+use Rattle.sat_checker.specs.declared.announce.transcript.ProofTranscriptStep.TheVariants as code
 
 -- the step without where it lies in memory
 abbrev pub transcribed_of : ProofTranscriptStep → Transcribed

@@ -6,17 +6,18 @@ ghost use Rattle.sat_base.specs.steps.Steps.{End};
 ghost use Rattle.sat_base.specs.steps.StepReading.{reader_source, reader_name, has_failed as is_stopped};
 ghost use Rattle.sat_base.specs.steps.StepViews.{step_of};
 ghost use Rattle.sat_checker.specs.KernelView.{has_failed};
-ghost use Rattle.sat_checker.specs.CheckerView.{kernel_of, seen_of, seen_with, FaultsOfSomebody};
+ghost use Rattle.sat_checker.specs.CheckerView.{kernel_of, seen_of, seen_with, FaultsOfSomebody, OnlyFails};
+ghost use Rattle.sat_checker.specs.declared.error.CheckerError.TheVariants.{HasFailed};
 ghost use Rattle.sat_checker.specs.announcements.Announcements.{Told};
 ghost use Rattle.sat_checker.specs.ProofView.{ChecksProof};
 ghost use Rattle.sat_checker.specs.inner.ProofSteps.{TurnsOn, error_of, is_final, turn, bytes_left};
 ghost use Rattle.sat_checker.specs.telling.Hearing.{HearsFirst};
 ghost use Rattle.sat_checker.specs.telling.ProcessingView.{HearsEach};
 
+use crate::announce::transcript::ProofTranscriptProcessor;
 use crate::checker::Checker;
 use crate::error::CheckerError;
 use crate::processing::{Nobody, ProofProcessor};
-use crate::transcript::ProofTranscriptProcessor;
 use sat_base::{CountedRead, ProofStep, StepError, StepReader};
 
 /// What a checker answers where no step was read.
@@ -60,6 +61,7 @@ impl<P: ProofProcessor, T: ProofTranscriptProcessor> Checker<P, T> {
         ensures proof { ChecksProof (HearsEach P.takes T.reads)
             result (seen_of self.old) (seen_of self.new) (R.seen reader.old) (R.seen reader.new) }
         ensures faults { FaultsOfSomebody result self.old }
+        ensures failed { OnlyFails HasFailed result self.old self.new }
     {
         let mut nobody = Nobody {};
         self.check_proof_by(reader, &mut nobody, false)
@@ -71,8 +73,9 @@ impl<P: ProofProcessor, T: ProofTranscriptProcessor> Checker<P, T> {
         reader: &mut R,
         own: &mut O,
     ) -> Result<(), CheckerError>
-        ensures { ChecksProof (HearsFirst O.takes (HearsEach P.takes T.reads))
+        ensures proof { ChecksProof (HearsFirst O.takes (HearsEach P.takes T.reads))
             result (seen_with own.old self.old) (seen_with own.new self.new) (R.seen reader.old) (R.seen reader.new) }
+        ensures failed { OnlyFails HasFailed result self.old self.new }
     {
         self.check_proof_by(reader, own, true)
     }
@@ -84,8 +87,9 @@ impl<P: ProofProcessor, T: ProofTranscriptProcessor> Checker<P, T> {
         has_own: bool,
     ) -> Result<(), CheckerError>
         requires { has_own ≡ false → (v : _) (t : Told) → O.takes v t (Ok tt) v }
-        ensures { ChecksProof (HearsFirst O.takes (HearsEach P.takes T.reads))
+        ensures proof { ChecksProof (HearsFirst O.takes (HearsEach P.takes T.reads))
             result (seen_with own.old self.old) (seen_with own.new self.new) (R.seen reader.old) (R.seen reader.new) }
+        ensures failed { OnlyFails HasFailed result self.old self.new }
     {
         if self.kernel.failed {
             return Err(CheckerError::HasFailed);

@@ -19,7 +19,7 @@ use Rattle.sat_parts.specs.prop.Ready.{AreWatched, AreSettled, AreImplied, AreLi
 -- up watch them by their first two literals; values, nodes and trail agree; literals in the queue are of the current level;
 -- long reasons have their literals first; and clauses made false in a watched literal by one that has left the queue, of a level
 -- below the top, have a true literal of no higher level. Watch lists that aren't kept up may hold anything
-pub record Asks (words refs : List ℕ) (w : Watching) (implied : List (List ℕ)) (s : State) (top : ℕ) : Type 0 where
+pub record PropagationInvariant (words refs : List ℕ) (w : Watching) (implied : List (List ℕ)) (s : State) (top : ℕ) : Type 0 where
   pub laid : Laid words refs
   pub clauses : AreClauses words (live_refs words refs) (length s.values)
   pub room : length w.lists ≡ 2 * length s.values
@@ -63,13 +63,13 @@ pub record AsksForReason (lit : ℕ) (reason : Reason) (words refs : List ℕ) (
 
 -- what propagation asks before it goes on
 abbrev pub AsksAll : (words refs : List ℕ) (w : Watching) (implied : List (List ℕ)) (s : State) → Type 0
-AsksAll words refs w implied s = Asks words refs w implied s (current_level s + 1)
+AsksAll words refs w implied s = PropagationInvariant words refs w implied s (current_level s + 1)
 
 -- what propagation gives: the pieces in between, and either what it asked, with nothing in the queue and no clause left to do,
 -- or a falsified clause, and what it asks once the current level is undone
-pub record Gives (refs : List ℕ) (implied : List (List ℕ)) (words : List ℕ) (s : State) (words' : List ℕ) (s' : State) (w : Watching) (r : Result (Unit {0}) Conflict) : Type 0 where
+pub record PropagationResult (refs : List ℕ) (implied : List (List ℕ)) (words : List ℕ) (s : State) (words' : List ℕ) (s' : State) (w : Watching) (r : Result (Unit {0}) Conflict) : Type 0 where
   pub moves : Moves (live_refs words refs) implied words s words' s'
   pub live : live_refs words' refs ≡ live_refs words refs
   pub outcome : MatchResult r
       (λ _. AsksAll words' refs w implied s' × (s'.trail.head ≡ length s'.trail.lits) × IsComplete words' (live_refs words' refs) implied s'.values)
-      (λ e. Asks words' refs w implied s' (current_level s') × IsConflict words' (live_refs words' refs) implied s'.values e)
+      (λ e. PropagationInvariant words' refs w implied s' (current_level s') × IsConflict words' (live_refs words' refs) implied s'.values e)

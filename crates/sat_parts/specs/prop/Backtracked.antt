@@ -12,14 +12,14 @@ use Rattle.sat_parts.specs.prop.WatchLists.{Watching}
 use Rattle.sat_parts.specs.prop.State.{State, level, lit_at, IsRemoved, Agrees}
 use Rattle.sat_parts.specs.prop.Reasons.{AreInTurn}
 use Rattle.sat_parts.specs.prop.Ready.{state_of}
-use Rattle.sat_parts.specs.prop.Asks.{Asks, AsksForReason, AsksAll}
+use Rattle.sat_parts.specs.prop.Asks.{PropagationInvariant, AsksForReason, AsksAll}
 
 -- where what propagation asks held for the literals of levels below a top, and this level is below it, it holds for all that is
 -- left: after a propagation that found nothing false, and after one that did once its level is undone
 abbrev pub KeepsAsked : (level : ℕ) (a : Values) (t : Trailed) (a' : Values) (t' : Trailed) → Type 0
 KeepsAsked level a t a' t' =
     (words refs : List ℕ) (w : Watching) (implied : List (List ℕ)) (nodes : List ImplNode) (top : ℕ) → level < top →
-    Asks words refs w implied (state_of a nodes t) top → AsksAll words refs w implied (state_of a' nodes t')
+    PropagationInvariant words refs w implied (state_of a nodes t) top → AsksAll words refs w implied (state_of a' nodes t')
 
 -- reasons that are unit in turn stay so
 abbrev pub KeepsTurns : (a : Values) (t : Trailed) (a' : Values) (t' : Trailed) → Type 0
@@ -33,7 +33,7 @@ abbrev pub KeepsAskedBy : (lit : ℕ) (reason : Reason) (a : Values) (nodes : Li
 KeepsAskedBy lit reason a nodes t a' nodes' t' =
     (words refs : List ℕ) (w : Watching) (implied : List (List ℕ)) (top : ℕ) →
     ((o : ℕ) → reason ≡ Long o → Contains (live_refs words refs) o × (lit_of words o 0 ≡ lit)) →
-    AsksForReason lit reason words refs w implied (state_of a nodes t) top → Asks words refs w implied (state_of a' nodes' t') top
+    AsksForReason lit reason words refs w implied (state_of a nodes t) top → PropagationInvariant words refs w implied (state_of a' nodes' t') top
 
 -- what propagation asks stays so where a level begins while nothing is in the queue
 abbrev pub KeepsAskedAbove : (t t' : Trailed) → Type 0

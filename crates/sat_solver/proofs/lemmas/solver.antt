@@ -18,3 +18,4 @@ pub mod ConfigLemmas
 pub mod KeptLemmas
 pub mod ProgressLemmas
 pub mod FrontLemmas
+pub mod ToldLemmas

@@ -5,15 +5,15 @@ use Rattle.sat_checker.specs.LiteralSets.{canonical}
 use Rattle.sat_solver.specs.session.Session.{session_after}
 
 -- each of these steps may come behind those before it
-abbrev pub EachComes : (List Step → Step → Type 0) → (earlier steps : List Step) → Type 0
-EachComes May earlier [] = Unit {0}
-EachComes May earlier (step ∷ steps) = EachComes May earlier steps × May (steps ++ earlier) step
+abbrev pub EachIsAllowed : (List Step → Step → Type 0) → (earlier steps : List Step) → Type 0
+EachIsAllowed May earlier [] = Unit {0}
+EachIsAllowed May earlier (step ∷ steps) = EachIsAllowed May earlier steps × May (steps ++ earlier) step
 
 -- the same of all steps from these on
-pub record Comes (May : List Step → Step → Type 0) (from to : List Step) : Type 0 where
+pub record OnlyAllowedSteps (May : List Step → Step → Type 0) (from to : List Step) : Type 0 where
   pub steps : List Step
   pub behind : to ≡ steps ++ from
-  pub each : EachComes May from steps
+  pub each : EachIsAllowed May from steps
 
 abbrev pub sets_width : Step → Bool
 sets_width (ChangeHashBits bits) = true

@@ -2,7 +2,7 @@
 use Rattle.std.specs.Prelude.{◌≡◌, Bool, true, false, List, [], ◌∷◌, map, ℕ}
 use Rattle.sat_base.specs.steps.Steps.{Step, FailedAssumptions}
 use Rattle.sat_checker.specs.matching.Checking.{is_ordered}
-use Rattle.sat_solver.specs.session.Widths.{IsWritten}
+use Rattle.sat_solver.specs.proof.Widths.{IsWritten}
 
 abbrev pub kept_if : Bool → Step → List Step → List Step
 kept_if true step steps = step ∷ steps

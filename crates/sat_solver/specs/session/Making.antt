@@ -3,8 +3,8 @@ use Rattle.std.specs.Prelude.{List}
 use Rattle.sat_base.specs.device.Device.{Writer}
 use Rattle.sat_base.specs.steps.Steps.{Step}
 use Rattle.sat_checker.specs.declared.processing.ProofProcessor.{Ghosts}
-use Rattle.sat_solver.specs.session.ProofView.{Adds, Fails, Gains}
-use Rattle.sat_solver.specs.declared.session.proof.Proof.{Proof}
+use Rattle.sat_solver.specs.proof.ProofView.{Adds, Fails, Gains}
+use Rattle.sat_solver.specs.declared.proof.Proof.{Proof}
 
 -- it came from there by steps that were taken
 abbrev pub Took : {W L : Type 0} {G : Ghosts L} → (W → Writer) → Proof W L G → Proof W L G → Type 0

@@ -5,23 +5,23 @@ use Rattle.sat_base.specs.script.Judge.{Judge, WitnessName, bring_all, with_clau
 use Rattle.sat_checker.specs.declared.processing.ProofProcessor.{Ghosts}
 use Rattle.sat_solver.specs.declared.error.SolverError.{SolverError}
 use Rattle.sat_solver.specs.declared.error.SolverError.TheVariants as errors
-use Rattle.sat_solver.specs.names.Adding.{named_literal}
-use Rattle.sat_solver.specs.names.Calls.{Agree, Does}
-use Rattle.sat_solver.specs.names.Coming.{IsDue, MayAdd, MayTake}
-use Rattle.sat_solver.specs.names.Ordering.{AddsInOrder}
-use Rattle.sat_solver.specs.session.Coming.{Comes}
+use Rattle.sat_solver.specs.load.Literals.{named_literal}
+use Rattle.sat_solver.specs.variables.Calls.{Agree, NamesRefineJudge}
+use Rattle.sat_solver.specs.variables.Coming.{IsDue, MayAdd, MayTake}
+use Rattle.sat_solver.specs.variables.Ordering.{AddsInOrder}
+use Rattle.sat_solver.specs.session.Coming.{OnlyAllowedSteps}
 use Rattle.sat_solver.specs.session.Making.{Took}
-use Rattle.sat_solver.specs.session.ProofView.{IsAtWidth, is_drat, has_asked, target_of}
+use Rattle.sat_solver.specs.proof.ProofView.{IsAtWidth, is_drat, has_asked, target_of}
 use Rattle.sat_checker.specs.matching.Expected.{Outcome, Expected, Adds, Opens, bringing}
 use Rattle.sat_checker.specs.matching.Bridge.{Live}
-use Rattle.sat_solver.specs.names.Refusing.{names_in}
-use Rattle.sat_solver.specs.names.Room.{HasRoom, users_in}
-use Rattle.sat_solver.specs.search.Going.{IsFaultOr}
+use Rattle.sat_solver.specs.variables.Refusing.{names_in}
+use Rattle.sat_solver.specs.variables.Room.{HasRoom, users_in}
+use Rattle.sat_solver.specs.cdcl.Going.{IsFaultOr}
 use Rattle.sat_solver.specs.declared.solver.Solver.{Solver}
-use Rattle.sat_solver.specs.declared.solver.state.State.{State}
-use Rattle.sat_solver.specs.declared.solver.state.State.TheVariants as states
-use Rattle.sat_solver.specs.solver.Calls.{Did, Refuses}
-use Rattle.sat_solver.specs.solver.Taking.{BreaksNamesOr}
+use Rattle.sat_solver.specs.declared.state.State.{State}
+use Rattle.sat_solver.specs.declared.state.State.TheVariants as states
+use Rattle.sat_solver.specs.solver.Calls.{RefinesJudge, Refuses}
+use Rattle.sat_solver.specs.solver.Taking.{BreaksNamesOff, BreaksNamesOr}
 use Rattle.sat_solver.specs.solver.Whole.{HasFullStore, IsWhole, steps_in}
 
 -- the literals come in, and then the clause
@@ -86,10 +86,10 @@ pub record Added {W L : Type 0} {G : Ghosts L} (seen : W → Writer) (old new : 
   pub before_drat : IsBeforeDrat seen old
   pub sampled : AreSampled old user
   pub room : HasRoom old.names (users_in user)
-  pub did : Did seen old new (with_added user) (due_for_clause old.state user)
-  pub comes : Comes (MayAdd (names_in user)) (steps_in old) (steps_in new)
+  pub did : RefinesJudge seen old new (with_added user) (due_for_clause old.state user)
+  pub comes : OnlyAllowedSteps (MayAdd (names_in user)) (steps_in old) (steps_in new)
   pub order : (old.state ≡ states.Unsat → ⊥) → AddsInOrder (steps_in old) (steps_in new)
-  pub left_out : old.state ≡ states.Unsat → Comes IsDue (steps_in old) (steps_in new)
+  pub left_out : old.state ≡ states.Unsat → OnlyAllowedSteps IsDue (steps_in old) (steps_in new)
   pub asked : has_asked new.core.proof ≡ has_asked old.core.proof
   pub assumed : new.assumed ≡ old.assumed
   pub clock : new.clock ≡ old.clock
@@ -108,8 +108,8 @@ AddsClause seen (Err e) old new user = (IsBeforeDrat seen old × AreSampled old 
 pub record Assumed {W L : Type 0} {G : Ghosts L} (seen : W → Writer) (old new : Solver W L G) (user : List ℕ) : Type 0 where
   pub sampled : AreSampled old user
   pub room : HasRoom old.names (users_in user)
-  pub did : (o : Outcome) → Did seen old new (bring_all (names_in user)) (due_for_asked o user)
-  pub comes : Comes (MayTake (names_in user)) (steps_in old) (steps_in new)
+  pub did : (o : Outcome) → RefinesJudge seen old new (bring_all (names_in user)) (due_for_asked o user)
+  pub comes : OnlyAllowedSteps (MayTake (names_in user)) (steps_in old) (steps_in new)
   pub asked : has_asked new.core.proof ≡ has_asked old.core.proof
   pub assumed : new.assumed.items ≡ user
   pub clock : new.clock ≡ old.clock
@@ -128,10 +128,10 @@ Assumes seen (Err e) old new user = AreSampled old user × HasRoom old.names (us
 -- the same without the flag of failure: what a clause leaves
 pub record TookIn {W L : Type 0} {G : Ghosts L} (seen : W → Writer) (old new : Solver W L G) (user : List ℕ) : Type 0 where
   pub whole : IsWhole new
-  pub does : Does old.names new.names (steps_in old) (steps_in new) (with_added user) (due_for_clause old.state user)
-  pub comes : Comes (MayAdd (names_in user)) (steps_in old) (steps_in new)
+  pub does : NamesRefineJudge old.names new.names (steps_in old) (steps_in new) (with_added user) (due_for_clause old.state user)
+  pub comes : OnlyAllowedSteps (MayAdd (names_in user)) (steps_in old) (steps_in new)
   pub order : (old.state ≡ states.Unsat → ⊥) → AddsInOrder (steps_in old) (steps_in new)
-  pub left_out : old.state ≡ states.Unsat → Comes IsDue (steps_in old) (steps_in new)
+  pub left_out : old.state ≡ states.Unsat → OnlyAllowedSteps IsDue (steps_in old) (steps_in new)
   pub took : Took seen old.core.proof new.core.proof
   pub asked : has_asked new.core.proof ≡ has_asked old.core.proof
   pub width : (steps_in new ≡ steps_in old → ⊥) → IsAtWidth new.core.proof
@@ -142,4 +142,4 @@ pub record TookIn {W L : Type 0} {G : Ghosts L} (seen : W → Writer) (old new :
 
 abbrev pub TakesIn : {W L : Type 0} {G : Ghosts L} → (W → Writer) → Result (Unit {0}) SolverError → Solver W L G → Solver W L G → List ℕ → Type 0
 TakesIn seen (Ok x) old new user = TookIn seen old new user
-TakesIn seen (Err e) old new user = BreaksNamesOr (HasFullStore new) seen e old.core new.core
+TakesIn seen (Err e) old new user = BreaksNamesOff (HasFullStore new) seen e old.core new.core

@@ -3,18 +3,19 @@ use Rattle.std.specs.Prelude.{ℕ, ◌≡◌, List, [], ◌∷◌, map, MatchRes
 use Rattle.sat_base.specs.device.Device.{Writer}
 use Rattle.sat_base.specs.steps.Steps.{Step, Model}
 use Rattle.sat_checker.specs.declared.processing.ProofProcessor.{Ghosts}
-use Rattle.sat_solver.specs.session.ProofView.{Fails, FailsCheck, Gains, session_of}
-use Rattle.sat_solver.specs.search.Failing.{ToldCore}
-use Rattle.sat_solver.specs.parts.Full.{IsFull}
-use Rattle.sat_solver.specs.search.Going.{IsFaultOr, Went}
-use Rattle.sat_solver.specs.names.Models.{model_to, named_to}
-use Rattle.sat_solver.specs.names.Variables.{names_used, variables_used}
+use Rattle.sat_solver.specs.proof.ProofView.{Fails, FailsCheck, Gains, session_of}
+use Rattle.sat_solver.specs.assumptions.Core.{ToldCore}
+use Rattle.sat_parts.specs.parts.Full.{IsFull}
+use Rattle.sat_solver.specs.cdcl.Faults.{IsKept, NamesLoss}
+use Rattle.sat_solver.specs.cdcl.Going.{IsFaultOr, Went}
+use Rattle.sat_solver.specs.Models.{model_to, named_to}
+use Rattle.sat_solver.specs.variables.Variables.{names_used, variables_used}
 use Rattle.sat_solver.specs.declared.error.SolverError.{SolverError}
 use Rattle.sat_solver.specs.declared.error.SolverError.TheVariants as errors
-use Rattle.sat_solver.specs.declared.names.Variables.{Variables}
-use Rattle.sat_solver.specs.declared.search.solving.Core.{Core}
-use Rattle.sat_solver.specs.declared.session.made.CheckFault.TheVariants as checks
-use Rattle.sat_solver.specs.declared.session.proof.Proof.{Proof}
+use Rattle.sat_solver.specs.declared.variables.Variables.{Variables}
+use Rattle.sat_solver.specs.declared.schedule.solve.Core.{Core}
+use Rattle.sat_solver.specs.declared.proof.made.CheckFault.TheVariants as checks
+use Rattle.sat_solver.specs.declared.proof.Proof.{Proof}
 use Rattle.sat_solver.specs.solver.Joined.{IsJoined, name_of}
 
 -- what the values of the search make of all variables of the proof
@@ -30,6 +31,11 @@ pub record Breaks {W L : Type 0} {G : Ghosts L} (seen : W → Writer) (e : Solve
   pub fault : IsFaultOr (IsFull b.search.parts) e
   pub steps : List Step
   pub went : Went {A = Unit {0}} seen (Err e) steps a.proof b.proof
+  pub loss : NamesLoss e a.proof b.proof
+
+-- the same, and the proof keeps the cause until it is told
+abbrev pub BreaksOff : {W L : Type 0} {G : Ghosts L} → (W → Writer) → SolverError → Core W L G → Core W L G → Type 0
+BreaksOff seen e a b = Breaks seen e a b × IsKept e b.proof
 
 -- no step was made: a call of the target failed at what waited for it, or the solver's own checker at what waited for its id
 abbrev pub FlushFails : {W L : Type 0} {G : Ghosts L} → (W → Writer) → SolverError → Proof W L G → Proof W L G → Type 0
@@ -47,7 +53,7 @@ pub record Shown {W L : Type 0} {G : Ghosts L} (seen : W → Writer) (n : Variab
   pub config : b.config ≡ a.config
 
 abbrev pub ShowsModel : {W L : Type 0} {G : Ghosts L} → (W → Writer) → Result (Unit {0}) SolverError → Variables → Core W L G → Core W L G → Type 0
-ShowsModel seen r n a b = MatchResult r (λ _. Shown seen n a b) (λ e. Breaks seen e a b)
+ShowsModel seen r n a b = MatchResult r (λ _. Shown seen n a b) (λ e. BreaksOff seen e a b)
 
 -- a failed core was written, and these are its literals over names
 pub record Failed {W L : Type 0} {G : Ghosts L} (seen : W → Writer) (n : Variables) (a b : Core W L G) (core : List ℕ) : Type 0 where
@@ -59,4 +65,4 @@ pub record Failed {W L : Type 0} {G : Ghosts L} (seen : W → Writer) (n : Varia
   pub named : core ≡ map (name_of n) b.search.analysis.core
 
 abbrev pub FailsCore : {W L : Type 0} {G : Ghosts L} → (W → Writer) → Result (Unit {0}) SolverError → Variables → Core W L G → Core W L G → List ℕ → Type 0
-FailsCore seen r n a b core = MatchResult r (λ _. Failed seen n a b core) (λ e. Breaks seen e a b)
+FailsCore seen r n a b core = MatchResult r (λ _. Failed seen n a b core) (λ e. BreaksOff seen e a b)

@@ -5,22 +5,22 @@ use Rattle.sat_base.specs.script.Judge.{bring_all}
 use Rattle.sat_checker.specs.declared.processing.ProofProcessor.{Ghosts}
 use Rattle.sat_checker.specs.matching.Expected.{Outcome}
 use Rattle.sat_solver.specs.declared.error.SolverError.{SolverError}
-use Rattle.sat_solver.specs.names.Calls.{Does}
-use Rattle.sat_solver.specs.names.Coming.{MayTake}
-use Rattle.sat_solver.specs.session.Coming.{Comes}
-use Rattle.sat_solver.specs.names.Refusing.{names_in}
+use Rattle.sat_solver.specs.variables.Calls.{NamesRefineJudge}
+use Rattle.sat_solver.specs.variables.Coming.{MayTake}
+use Rattle.sat_solver.specs.session.Coming.{OnlyAllowedSteps}
+use Rattle.sat_solver.specs.variables.Refusing.{names_in}
 use Rattle.sat_solver.specs.session.Making.{Took}
-use Rattle.sat_solver.specs.session.ProofView.{IsAtWidth, has_asked}
+use Rattle.sat_solver.specs.proof.ProofView.{IsAtWidth, has_asked}
 use Rattle.sat_solver.specs.declared.solver.Solver.{Solver}
 use Rattle.sat_solver.specs.solver.Adding.{Forgets, due_for_asked}
-use Rattle.sat_solver.specs.solver.Taking.{BreaksNames}
+use Rattle.sat_solver.specs.solver.Taking.{BreaksNamesOff}
 use Rattle.sat_solver.specs.solver.Whole.{IsWholeOf, steps_in}
 
 -- these were taken, but for the list over names
 pub record AskedIn {W L : Type 0} {G : Ghosts L} (seen : W → Writer) (old new : Solver W L G) (user : List ℕ) : Type 0 where
   pub whole : IsWholeOf new.core new.names new.asked user new.told.failed_core.items new.clock.restarts.scale new.state
-  pub does : (o : Outcome) → Does old.names new.names (steps_in old) (steps_in new) (bring_all (names_in user)) (due_for_asked o user)
-  pub comes : Comes (MayTake (names_in user)) (steps_in old) (steps_in new)
+  pub does : (o : Outcome) → NamesRefineJudge old.names new.names (steps_in old) (steps_in new) (bring_all (names_in user)) (due_for_asked o user)
+  pub comes : OnlyAllowedSteps (MayTake (names_in user)) (steps_in old) (steps_in new)
   pub took : Took seen old.core.proof new.core.proof
   pub asked : has_asked new.core.proof ≡ has_asked old.core.proof
   pub width : (steps_in new ≡ steps_in old → ⊥) → IsAtWidth new.core.proof
@@ -31,4 +31,4 @@ pub record AskedIn {W L : Type 0} {G : Ghosts L} (seen : W → Writer) (old new 
 
 abbrev pub Asks : {W L : Type 0} {G : Ghosts L} → (W → Writer) → Result (Unit {0}) SolverError → Solver W L G → Solver W L G → List ℕ → Type 0
 Asks seen (Ok x) old new user = AskedIn seen old new user
-Asks seen (Err e) old new user = BreaksNames seen e old.core new.core
+Asks seen (Err e) old new user = BreaksNamesOff ⊥ seen e old.core new.core

@@ -5,33 +5,33 @@ use Rattle.sat_base.specs.script.Script.{names_of}
 use Rattle.sat_base.specs.script.Judge.{Judge}
 use Rattle.sat_base.specs.steps.Steps.{Step}
 use Rattle.sat_checker.specs.declared.processing.ProofProcessor.{Ghosts}
-use Rattle.sat_solver.specs.bound.Counting.{steps_left}
+use Rattle.sat_solver.specs.schedule.Counting.{steps_left}
 use Rattle.sat_solver.specs.declared.error.SolverError.{SolverError}
 use Rattle.sat_solver.specs.declared.error.SolverError.TheVariants as errors
-use Rattle.sat_solver.specs.declared.names.Variables.{Variables}
-use Rattle.sat_solver.specs.names.Adding.{named_literal}
-use Rattle.sat_solver.specs.names.Calls.{Agree, Does}
+use Rattle.sat_solver.specs.declared.variables.Variables.{Variables}
+use Rattle.sat_solver.specs.load.Literals.{named_literal}
+use Rattle.sat_solver.specs.variables.Calls.{Agree, NamesRefineJudge}
 use Rattle.sat_checker.specs.matching.Expected.{Expected, Shows, Fails}
 use Rattle.sat_checker.specs.matching.Bridge.{Live}
-use Rattle.sat_solver.specs.search.Solving.{AdvancesIn}
-use Rattle.sat_solver.specs.session.Coming.{Comes, EndsAtUnsat}
+use Rattle.sat_solver.specs.schedule.Solving.{AdvancesIn}
+use Rattle.sat_solver.specs.session.Coming.{OnlyAllowedSteps, EndsAtUnsat}
 use Rattle.sat_solver.specs.session.Making.{Took}
-use Rattle.sat_solver.specs.session.ProofView.{Target, Closed, Open, Broken, HasTold, IsAtWidth, has_asked, is_open, target_of}
-use Rattle.sat_solver.specs.declared.session.proof.Proof.{Proof}
+use Rattle.sat_solver.specs.proof.ProofView.{Target, Closed, Open, Broken, HasTold, IsAtWidth, has_asked, is_open, target_of}
+use Rattle.sat_solver.specs.declared.proof.Proof.{Proof}
 use Rattle.sat_solver.specs.declared.solver.Solver.{Solver}
-use Rattle.sat_solver.specs.declared.solver.state.State.{State}
-use Rattle.sat_solver.specs.declared.solver.state.State.TheVariants as states
+use Rattle.sat_solver.specs.declared.state.State.{State}
+use Rattle.sat_solver.specs.declared.state.State.TheVariants as states
 use Rattle.sat_solver.specs.solver.Answering.{Breaks, FlushFails}
 use Rattle.sat_solver.specs.solver.Whole.{IsWhole, steps_in, line_in}
 
 -- a call was carried out: what it does to the judge's state, and which steps it has made for it, whatever others come between
-pub record Did {W L : Type 0} {G : Ghosts L} (seen : W → Writer) (old new : Solver W L G) (judge : Judge → Judge) (due : Judge → List Expected) : Type 0 where
+pub record RefinesJudge {W L : Type 0} {G : Ghosts L} (seen : W → Writer) (old new : Solver W L G) (judge : Judge → Judge) (due : Judge → List Expected) : Type 0 where
   pub whole : IsWhole new
   pub going : old.failed ≡ false
   pub failed : new.failed ≡ false
   pub used : new.used ≡ true
   pub config : new.core.config ≡ old.core.config
-  pub does : Does old.names new.names (steps_in old) (steps_in new) judge due
+  pub does : NamesRefineJudge old.names new.names (steps_in old) (steps_in new) judge due
   pub took : Took seen old.core.proof new.core.proof
   -- behind a step the solver's own checker, where there is one, is at the width of the target's text
   pub width : (steps_in new ≡ steps_in old → ⊥) → IsAtWidth new.core.proof
@@ -109,8 +109,8 @@ pub record AnswersAgain {W L : Type 0} {G : Ghosts L} (old new : Solver W L G) :
 -- An ask was looked at: assumptions are as they were, names stand for the variables for which they stood, and each round derived a clause
 -- that advances, but for the one that answered; nothing else did. The solver's own checker was given all steps, and has told what waited.
 pub record Answered {W L : Type 0} {G : Ghosts L} (seen : W → Writer) (old new : Solver W L G) : Type 0 where
-  pub did : Did seen old new (λ j. j) (λ j. told_by old.state new)
-  pub comes : Comes EndsAtUnsat (steps_in old) (steps_in new)
+  pub did : RefinesJudge seen old new (λ j. j) (λ j. told_by old.state new)
+  pub comes : OnlyAllowedSteps EndsAtUnsat (steps_in old) (steps_in new)
   pub assumed : new.assumed ≡ old.assumed
   pub users : new.names.global_from_user ≡ old.names.global_from_user
   pub counts : Counts old new

@@ -6,12 +6,12 @@ use Rattle.sat_solver.specs.session.Session.{Session}
 use Rattle.sat_solver.specs.declared.config.SolverConfigUpdate.{SolverConfigUpdate}
 use Rattle.sat_solver.specs.declared.error.SolverError.{SolverError}
 use Rattle.sat_solver.specs.declared.error.SolverError.TheVariants as errors
-use Rattle.sat_solver.specs.declared.search.solving.Core.{Core}
-use Rattle.sat_solver.specs.search.Bumping.{Bumped}
-use Rattle.sat_solver.specs.search.Joint.{IsSearch}
+use Rattle.sat_solver.specs.declared.schedule.solve.Core.{Core}
+use Rattle.sat_solver.specs.clause.Activity.{Bumped}
+use Rattle.sat_solver.specs.cdcl.Joint.{IsSearch}
 use Rattle.sat_solver.specs.declared.solver.Solver.{Solver}
-use Rattle.sat_solver.specs.declared.solver.state.State.{State}
-use Rattle.sat_solver.specs.declared.solver.state.State.TheVariants as states
+use Rattle.sat_solver.specs.declared.state.State.{State}
+use Rattle.sat_solver.specs.declared.state.State.TheVariants as states
 use Rattle.sat_solver.specs.solver.Calls.{Refuses}
 
 -- the search has the decays of the parameters, and nothing else changed

@@ -2,19 +2,19 @@
 use Rattle.std.specs.Prelude.{ℕ, ◌-◌, ◌≡◌, Option, None, Some, List, MatchResult, Result}
 use Rattle.sat_base.specs.device.Device.{Writer}
 use Rattle.sat_checker.specs.declared.processing.ProofProcessor.{Ghosts}
-use Rattle.sat_solver.specs.declared.bound.search.Outcome.{Outcome}
-use Rattle.sat_solver.specs.declared.bound.search.Outcome.TheVariants as outcomes
+use Rattle.sat_solver.specs.declared.schedule.Outcome.{Outcome}
+use Rattle.sat_solver.specs.declared.schedule.Outcome.TheVariants as outcomes
 use Rattle.sat_solver.specs.declared.error.SolverError.{SolverError}
-use Rattle.sat_solver.specs.search.Turns.{IsComplete, IsFailing}
-use Rattle.sat_solver.specs.search.Solving.{Ended, Gone}
-use Rattle.sat_solver.specs.declared.names.Variables.{Variables}
-use Rattle.sat_solver.specs.declared.search.solving.Core.{Core}
-use Rattle.sat_solver.specs.declared.solver.state.State.{State}
-use Rattle.sat_solver.specs.declared.solver.state.State.TheVariants as states
+use Rattle.sat_solver.specs.cdcl.Turns.{IsComplete, IsFailing}
+use Rattle.sat_solver.specs.schedule.Solving.{Ended, Gone}
+use Rattle.sat_solver.specs.declared.variables.Variables.{Variables}
+use Rattle.sat_solver.specs.declared.schedule.solve.Core.{Core}
+use Rattle.sat_solver.specs.declared.state.State.{State}
+use Rattle.sat_solver.specs.declared.state.State.TheVariants as states
 use Rattle.sat_solver.specs.solver.Joined.{IsJoined}
-use Rattle.sat_solver.specs.solver.Answering.{Breaks, Shown, Failed}
-use Rattle.sat_solver.specs.declared.solver.finding.Clock.{Clock}
-use Rattle.sat_solver.specs.declared.solver.finding.Told.{Told}
+use Rattle.sat_solver.specs.solver.Answering.{BreaksOff, Shown, Failed}
+use Rattle.sat_solver.specs.declared.solver.find.Clock.{Clock}
+use Rattle.sat_solver.specs.declared.solver.find.Told.{Told}
 
 -- a model was found in the last of so many rounds, and written
 pub record FoundModel {W L : Type 0} {G : Ghosts L} (seen : W → Writer) (rounds : ℕ) (n m : Variables) (a b : Core W L G) : Type 0 where
@@ -61,4 +61,4 @@ ToldSays seen (Some states.Unsat) outcomes.Unsat n a b core = b ≡ a
 ToldSays seen o outcome n a b core = ⊥
 
 abbrev pub Tells : {W L : Type 0} {G : Ghosts L} → (W → Writer) → Result (Option State) SolverError → Outcome → Variables → Core W L G → Core W L G → List ℕ → Type 0
-Tells seen r outcome n a b core = MatchResult r (λ o. ToldSays seen o outcome n a b core) (λ e. Breaks seen e a b)
+Tells seen r outcome n a b core = MatchResult r (λ o. ToldSays seen o outcome n a b core) (λ e. BreaksOff seen e a b)

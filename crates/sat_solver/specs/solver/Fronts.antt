@@ -4,11 +4,11 @@ use Rattle.sat_base.specs.device.Device.{Reader, Writer}
 use Rattle.sat_base.specs.device.Sink.{empty_sink}
 use Rattle.sat_base.specs.steps.Steps.{Step}
 use Rattle.sat_checker.specs.declared.processing.ProofProcessor.{Ghosts}
-use Rattle.sat_solver.specs.session.Checked.{has_begun}
-use Rattle.sat_solver.specs.session.Counting.{start}
-use Rattle.sat_solver.specs.session.Fronts.{FrontSince, WentOn}
-use Rattle.sat_solver.specs.session.ProofTexts.{TookText}
-use Rattle.sat_solver.specs.session.ProofView.{Target, Open, Carries, Gives, target_of}
+use Rattle.sat_solver.specs.proof.Checked.{has_begun}
+use Rattle.sat_solver.specs.proof.Counting.{start}
+use Rattle.sat_solver.specs.proof.Fronts.{FrontSince, WentOn}
+use Rattle.sat_solver.specs.proof.ProofTexts.{TookText}
+use Rattle.sat_solver.specs.proof.ProofView.{Target, Open, Carries, Gives, target_of}
 use Rattle.sat_solver.specs.solver.Adding.{AddsClause, Assumes}
 use Rattle.sat_solver.specs.solver.Calls.{Solves, IsFlushed}
 use Rattle.sat_solver.specs.solver.Configuring.{Configures}
@@ -18,7 +18,7 @@ use Rattle.sat_solver.specs.solver.Proving.{AddsProcessor, ClosesProof, Enables}
 use Rattle.sat_solver.specs.solver.Whole.{steps_in}
 use Rattle.sat_solver.specs.declared.config.SolverConfigUpdate.{SolverConfigUpdate}
 use Rattle.sat_solver.specs.declared.error.SolverError.{SolverError}
-use Rattle.sat_solver.specs.declared.session.format.ProofFormat.{ProofFormat}
+use Rattle.sat_solver.specs.declared.proof.format.ProofFormat.{ProofFormat}
 use Rattle.sat_solver.specs.declared.solver.Solver.{Solver}
 
 -- the solver came from there by steps, whether or not a call failed

@@ -2,20 +2,20 @@
 use Rattle.std.specs.Prelude.{ℕ, ◌≡◌, Option, None, Some, List}
 use Rattle.sat_base.specs.values.Literals.{variable, is_positive, coded}
 use Rattle.sat_checker.specs.declared.processing.ProofProcessor.{Ghosts}
-use Rattle.sat_solver.specs.session.ProofView.{steps_of, session_of}
-use Rattle.sat_solver.specs.search.Solving.{IsCore}
-use Rattle.sat_solver.specs.loading.Shared.{SharesIndices}
-use Rattle.sat_solver.specs.names.Adding.{Images, GlobalImages}
-use Rattle.sat_solver.specs.names.Calls.{Stands}
-use Rattle.sat_solver.specs.names.Variables.{global_at, user_of}
-use Rattle.sat_solver.specs.declared.names.Variables.{Variables}
-use Rattle.sat_solver.specs.declared.names.taking.Taken.{Taken}
-use Rattle.sat_solver.specs.declared.search.solving.Core.{Core}
+use Rattle.sat_solver.specs.proof.ProofView.{steps_of, session_of}
+use Rattle.sat_solver.specs.schedule.Solving.{IsCore}
+use Rattle.sat_solver.specs.variables.Shared.{SharesIndices}
+use Rattle.sat_solver.specs.load.Literals.{Images, GlobalImages}
+use Rattle.sat_solver.specs.variables.Calls.{NamesInvariant}
+use Rattle.sat_solver.specs.variables.Variables.{global_at, user_of}
+use Rattle.sat_solver.specs.declared.variables.Variables.{Variables}
+use Rattle.sat_solver.specs.declared.load.literals.Taken.{Taken}
+use Rattle.sat_solver.specs.declared.schedule.solve.Core.{Core}
 
 -- names and search stand, over the same indices
 pub record IsJoined {W L : Type 0} {G : Ghosts L} (n : Variables) (c : Core W L G) : Type 0 where
   pub sound : IsCore c
-  pub stands : Stands n (steps_of c.proof)
+  pub stands : NamesInvariant n (steps_of c.proof)
   pub shares : SharesIndices n c.search
 
 -- these literals over names are the assumptions of the search and of the proof

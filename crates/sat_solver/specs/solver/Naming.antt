@@ -7,22 +7,22 @@ use Rattle.sat_base.specs.script.Judge.{Judge, Sampled, Witnessed, bring_in, new
 use Rattle.sat_checker.specs.declared.processing.ProofProcessor.{Ghosts}
 use Rattle.sat_solver.specs.declared.error.SolverError.{SolverError}
 use Rattle.sat_solver.specs.declared.error.SolverError.TheVariants as errors
-use Rattle.sat_solver.specs.names.Calls.{Agree}
+use Rattle.sat_solver.specs.variables.Calls.{Agree}
 use Rattle.sat_checker.specs.matching.Expected.{Expected, NewName, hiding, setting}
 use Rattle.sat_checker.specs.matching.Bridge.{Live}
-use Rattle.sat_solver.specs.names.Naming.{IsLowestUnused, NoneLeft}
-use Rattle.sat_solver.specs.names.Observing.{Observes, IsHidden}
-use Rattle.sat_solver.specs.names.Room.{HasRoom}
-use Rattle.sat_solver.specs.names.Models.{value_in}
-use Rattle.sat_solver.specs.names.Variables.{global_of, judged_mode}
+use Rattle.sat_solver.specs.variables.Naming.{IsLowestUnused, NoneLeft}
+use Rattle.sat_solver.specs.variables.Observing.{Observes, IsHidden}
+use Rattle.sat_solver.specs.variables.Room.{HasRoom}
+use Rattle.sat_solver.specs.Models.{value_in}
+use Rattle.sat_solver.specs.variables.Variables.{global_of, judged_mode}
 use Rattle.sat_base.specs.steps.Steps.{Step}
-use Rattle.sat_solver.specs.session.Coming.{Comes}
-use Rattle.sat_solver.specs.names.Coming.{IsDue, MayHide, MaySet}
+use Rattle.sat_solver.specs.session.Coming.{OnlyAllowedSteps}
+use Rattle.sat_solver.specs.variables.Coming.{IsDue, MayHide, MaySet}
 use Rattle.sat_solver.specs.session.Making.{Took}
-use Rattle.sat_solver.specs.session.ProofView.{IsAtWidth, has_asked}
+use Rattle.sat_solver.specs.proof.ProofView.{IsAtWidth, has_asked}
 use Rattle.sat_solver.specs.declared.solver.Solver.{Solver}
 use Rattle.sat_solver.specs.solver.Adding.{EndsNames}
-use Rattle.sat_solver.specs.solver.Calls.{Did, Refuses}
+use Rattle.sat_solver.specs.solver.Calls.{RefinesJudge, Refuses}
 use Rattle.sat_solver.specs.solver.Whole.{IsWhole, steps_in}
 
 -- the name is one of those assumed
@@ -47,8 +47,8 @@ IsKeptOrFalse (Some a) (Some b) = b ≡ a
 -- a call over names was carried out, by steps that may come in it, and what is known of an answer stands: in a model, names that came in
 -- are false
 pub record Renamed {W L : Type 0} {G : Ghosts L} (seen : W → Writer) (old new : Solver W L G) (judge : Judge → Judge) (due : Judge → List Expected) (May : List Step → Step → Type 0) : Type 0 where
-  pub did : Did seen old new judge due
-  pub comes : Comes May (steps_in old) (steps_in new)
+  pub did : RefinesJudge seen old new judge due
+  pub comes : OnlyAllowedSteps May (steps_in old) (steps_in new)
   pub asked : has_asked new.core.proof ≡ has_asked old.core.proof
   pub assumed : new.assumed ≡ old.assumed
   pub told : new.told ≡ old.told

@@ -6,13 +6,13 @@ use Rattle.sat_checker.specs.declared.processing.ProofProcessor.{Ghosts}
 use Rattle.sat_parts.specs.clause.Db.{is_live_of}
 use Rattle.sat_parts.specs.prop.Binaries.{implications}
 use Rattle.sat_parts.specs.prop.Values.{value_of}
-use Rattle.sat_solver.specs.declared.names.Variables.{Variables}
-use Rattle.sat_solver.specs.declared.parts.Parts.{Parts}
+use Rattle.sat_solver.specs.declared.variables.Variables.{Variables}
+use Rattle.sat_parts.specs.declared.parts.Parts.{Parts}
 use Rattle.sat_solver.specs.declared.progress.Progress.{Progress}
 use Rattle.sat_solver.specs.declared.solver.Solver.{Solver}
-use Rattle.sat_solver.specs.declared.solver.state.State.TheVariants as states
-use Rattle.sat_solver.specs.names.Counting.{count_to}
-use Rattle.sat_solver.specs.names.Variables.{global_at, indices_used}
+use Rattle.sat_solver.specs.declared.state.State.TheVariants as states
+use Rattle.sat_solver.specs.variables.Counting.{count_to}
+use Rattle.sat_solver.specs.variables.Variables.{global_at, indices_used}
 use Rattle.sat_solver.specs.solver.Whole.{IsSolver}
 
 -- a variable has this index, and no value

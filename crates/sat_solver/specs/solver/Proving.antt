@@ -4,21 +4,22 @@ use Rattle.sat_base.specs.device.Device.{Writer}
 use Rattle.sat_base.specs.device.Sink.{empty_sink}
 use Rattle.sat_base.specs.steps.Steps.{Step, End}
 use Rattle.sat_checker.specs.declared.processing.ProofProcessor.{Ghosts}
-use Rattle.sat_solver.specs.session.Checked.{has_begun}
-use Rattle.sat_solver.specs.session.Counting.{start}
-use Rattle.sat_solver.specs.session.Drat.{IsDratDerivation, Refutes, present}
-use Rattle.sat_solver.specs.session.ProofTexts.{IsCertificate, WroteSince}
-use Rattle.sat_solver.specs.session.ProofView as proofs
-use Rattle.sat_solver.specs.session.ProofView.{Open, Adds, ClosesNone, ClosesOne, Fails, FailsCheck, ListedAnew, audience, has_asked, is_open, is_lost, target_of}
-use Rattle.sat_solver.specs.declared.session.format.ProofFormat.{ProofFormat}
+use Rattle.sat_solver.specs.proof.Checked.{has_begun}
+use Rattle.sat_solver.specs.proof.Counting.{start}
+use Rattle.sat_solver.specs.proof.Drat.{IsDratDerivation, Refutes, present}
+use Rattle.sat_solver.specs.proof.ProofTexts.{IsCertificate, WroteSince}
+use Rattle.sat_solver.specs.proof.ProofView as proofs
+use Rattle.sat_solver.specs.proof.ProofView.{Open, Adds, ClosesNone, ClosesOne, Fails, FailsCheck, ListedAnew, audience, has_asked, is_open, is_lost, target_of}
+use Rattle.sat_solver.specs.declared.proof.format.ProofFormat.{ProofFormat}
 use Rattle.sat_solver.specs.declared.error.SolverError.{SolverError}
-use Rattle.sat_solver.specs.declared.session.made.CheckFault.{CheckFault}
-use Rattle.sat_solver.specs.declared.session.made.CheckFault.TheVariants as checks
+use Rattle.sat_solver.specs.declared.proof.made.CheckFault.{CheckFault}
+use Rattle.sat_solver.specs.declared.proof.made.CheckFault.TheVariants as checks
 use Rattle.sat_solver.specs.declared.error.SolverError.TheVariants as errors
-use Rattle.sat_solver.specs.names.Calls.{Does}
+use Rattle.sat_solver.specs.variables.Calls.{NamesRefineJudge}
+use Rattle.sat_solver.specs.cdcl.Faults.{NamesLoss}
 use Rattle.sat_checker.specs.matching.Expected.{Finish}
 use Rattle.sat_solver.specs.declared.solver.Solver.{Solver}
-use Rattle.sat_solver.specs.declared.solver.state.State.TheVariants as states
+use Rattle.sat_solver.specs.declared.state.State.TheVariants as states
 use Rattle.sat_solver.specs.solver.Calls.{Refuses}
 use Rattle.sat_solver.specs.solver.Whole.{IsWhole, steps_in}
 
@@ -94,7 +95,7 @@ AddsProcessor seen (Err e) processor old new = ⊥
 pub record ClosedOne {W L : Type 0} {G : Ghosts L} (seen : W → Writer) (given : W) (old new : Solver W L G) : Type 0 where
   pub going : old.failed ≡ false
   pub whole : IsWhole new
-  pub does : Does old.names new.names (steps_in old) (steps_in new) (λ j. j) (λ j. Finish ∷ [])
+  pub does : NamesRefineJudge old.names new.names (steps_in old) (steps_in new) (λ j. j) (λ j. Finish ∷ [])
   pub closes : ClosesOne seen given old.core.proof new.core.proof
   -- since it was opened, before any step but ends of proofs, it took the text of steps that a checker accepts
   pub certificate : (f : ProofFormat) (from : Writer) (before : List Step) → has_begun before ≡ false → WroteSince seen f from before old.core.proof → IsCertificate f from (seen given) before (steps_in new)
@@ -121,6 +122,7 @@ pub record ClosedStarved {W L : Type 0} {G : Ghosts L} (seen : W → Writer) (ol
   pub going : old.failed ≡ false
   pub failed : new.failed ≡ true
   pub adds : Adds seen [] old.core.proof new.core.proof ⊎ FailsCheck seen checks.OutOfMemory (End ∷ []) old.core.proof new.core.proof
+  pub loss : NamesLoss errors.OutOfMemory old.core.proof new.core.proof
   pub clock : new.clock ≡ old.clock
 
 -- the solver's own checker failed behind the last step

@@ -3,22 +3,22 @@ use Rattle.std.specs.Prelude.{◌-◌, ◌≡◌, [], Result, Ok, Err}
 use Rattle.sat_base.specs.device.Device.{Writer}
 use Rattle.sat_checker.specs.declared.processing.ProofProcessor.{Ghosts}
 use Rattle.sat_solver.specs.declared.error.SolverError.{SolverError}
-use Rattle.sat_solver.specs.names.Calls.{Does}
-use Rattle.sat_solver.specs.search.Solving.{AdvancesIn}
-use Rattle.sat_solver.specs.session.Coming.{Comes, EndsAtUnsat}
+use Rattle.sat_solver.specs.variables.Calls.{NamesRefineJudge}
+use Rattle.sat_solver.specs.schedule.Solving.{AdvancesIn}
+use Rattle.sat_solver.specs.session.Coming.{OnlyAllowedSteps, EndsAtUnsat}
 use Rattle.sat_solver.specs.session.Making.{Took}
-use Rattle.sat_solver.specs.session.ProofView.{Adds, IsAtWidth}
+use Rattle.sat_solver.specs.proof.ProofView.{Adds, IsAtWidth}
 use Rattle.sat_solver.specs.declared.solver.Solver.{Solver}
-use Rattle.sat_solver.specs.declared.solver.state.State.TheVariants as states
-use Rattle.sat_solver.specs.solver.Answering.{Breaks, FlushFails}
+use Rattle.sat_solver.specs.declared.state.State.TheVariants as states
+use Rattle.sat_solver.specs.solver.Answering.{BreaksOff, FlushFails}
 use Rattle.sat_solver.specs.solver.Calls.{Counts, CountsRounds, learned_of, told_by}
 use Rattle.sat_solver.specs.solver.Whole.{IsWhole, steps_in}
 
 -- an answer is known, or the rounds are spent
 pub record Settled {W L : Type 0} {G : Ghosts L} (seen : W → Writer) (old new : Solver W L G) : Type 0 where
   pub whole : IsWhole new
-  pub does : Does old.names new.names (steps_in old) (steps_in new) (λ j. j) (λ j. told_by old.state new)
-  pub comes : Comes EndsAtUnsat (steps_in old) (steps_in new)
+  pub does : NamesRefineJudge old.names new.names (steps_in old) (steps_in new) (λ j. j) (λ j. told_by old.state new)
+  pub comes : OnlyAllowedSteps EndsAtUnsat (steps_in old) (steps_in new)
   pub took : Took seen old.core.proof new.core.proof
   pub width : (steps_in new ≡ steps_in old → ⊥) → IsAtWidth new.core.proof
   pub same : new ≡ record old { core = new.core; names = new.names; told = new.told; clock = new.clock; state = new.state }
@@ -30,4 +30,4 @@ pub record Settled {W L : Type 0} {G : Ghosts L} (seen : W → Writer) (old new 
 
 abbrev pub Settles : {W L : Type 0} {G : Ghosts L} → (W → Writer) → Result (Unit {0}) SolverError → Solver W L G → Solver W L G → Type 0
 Settles seen (Ok x) old new = Settled seen old new
-Settles seen (Err e) old new = Breaks seen e old.core new.core × CountsRounds old new × ((old.state ≡ states.Unknown → ⊥) → FlushFails seen e old.core.proof new.core.proof)
+Settles seen (Err e) old new = BreaksOff seen e old.core new.core × CountsRounds old new × ((old.state ≡ states.Unknown → ⊥) → FlushFails seen e old.core.proof new.core.proof)

@@ -5,22 +5,23 @@ use Rattle.sat_base.specs.script.Judge.{bring_all, with_clause}
 use Rattle.sat_base.specs.steps.Steps.{Step}
 use Rattle.sat_checker.specs.declared.processing.ProofProcessor.{Ghosts}
 use Rattle.sat_solver.specs.session.Making.{Gained}
-use Rattle.sat_solver.specs.session.ProofView.{steps_of, session_of}
+use Rattle.sat_solver.specs.proof.ProofView.{steps_of, session_of}
 use Rattle.sat_solver.specs.declared.error.SolverError.{SolverError}
 use Rattle.sat_solver.specs.declared.error.SolverError.TheVariants as errors
-use Rattle.sat_solver.specs.parts.Full.{IsFull}
-use Rattle.sat_solver.specs.search.Going.{IsFaultOr, Went}
-use Rattle.sat_solver.specs.names.Adding.{named_literal, Images}
-use Rattle.sat_solver.specs.names.Calls.{Does}
-use Rattle.sat_solver.specs.names.Coming.{MayAdd, MayTake}
-use Rattle.sat_solver.specs.names.Ordering.{AddsInOrder}
-use Rattle.sat_solver.specs.session.Coming.{Comes}
+use Rattle.sat_parts.specs.parts.Full.{IsFull}
+use Rattle.sat_solver.specs.cdcl.Faults.{IsKept, NamesLoss}
+use Rattle.sat_solver.specs.cdcl.Going.{IsFaultOr, Went}
+use Rattle.sat_solver.specs.load.Literals.{named_literal, Images}
+use Rattle.sat_solver.specs.variables.Calls.{NamesRefineJudge}
+use Rattle.sat_solver.specs.variables.Coming.{MayAdd, MayTake}
+use Rattle.sat_solver.specs.variables.Ordering.{AddsInOrder}
+use Rattle.sat_solver.specs.session.Coming.{OnlyAllowedSteps}
 use Rattle.sat_checker.specs.matching.Expected.{Outcome, Adds, Opens, bringing}
-use Rattle.sat_solver.specs.names.Naming.{KeepsNames}
-use Rattle.sat_solver.specs.names.Refusing.{names_in}
-use Rattle.sat_solver.specs.declared.names.Variables.{Variables}
-use Rattle.sat_solver.specs.declared.names.taking.Taken.{Taken}
-use Rattle.sat_solver.specs.declared.search.solving.Core.{Core}
+use Rattle.sat_solver.specs.variables.Naming.{KeepsNames}
+use Rattle.sat_solver.specs.variables.Refusing.{names_in}
+use Rattle.sat_solver.specs.declared.variables.Variables.{Variables}
+use Rattle.sat_solver.specs.declared.load.literals.Taken.{Taken}
+use Rattle.sat_solver.specs.declared.schedule.solve.Core.{Core}
 use Rattle.sat_solver.specs.solver.Joined.{IsJoined, AreAsked}
 
 -- names keep their literals of the search
@@ -34,9 +35,9 @@ GoesOnOr false n c = (session_of c.proof).unsat ≡ true
 
 -- a clause came in; whether a valuation may be left
 pub record TookClause {W L : Type 0} {G : Ghosts L} (seen : W → Writer) (n n' : Variables) (a b : Core W L G) (user : List ℕ) (left : Bool) : Type 0 where
-  pub does : Does n n' (steps_of a.proof) (steps_of b.proof) (λ j. with_clause (map named_literal user) (bring_all (names_in user) j)) (λ j. bringing (names_in user) j ++ (Adds (map named_literal user) ∷ []))
+  pub does : NamesRefineJudge n n' (steps_of a.proof) (steps_of b.proof) (λ j. with_clause (map named_literal user) (bring_all (names_in user) j)) (λ j. bringing (names_in user) j ++ (Adds (map named_literal user) ∷ []))
   pub took : Gained seen a.proof b.proof
-  pub comes : Comes (MayAdd (names_in user)) (steps_of a.proof) (steps_of b.proof)
+  pub comes : OnlyAllowedSteps (MayAdd (names_in user)) (steps_of a.proof) (steps_of b.proof)
   pub order : AddsInOrder (steps_of a.proof) (steps_of b.proof)
   pub goes_on : GoesOnOr left n' b
   pub names : KeepsNames n n'
@@ -53,22 +54,27 @@ pub record BreaksNamesOr {W L : Type 0} {G : Ghosts L} (full : Type 0) (seen : W
   pub fault : IsNameFaultOr full e
   pub steps : List Step
   pub went : Went {A = Unit {0}} seen (Err e) steps a.proof b.proof
+  pub loss : NamesLoss e a.proof b.proof
 
 -- the same where no clause is stored
 abbrev pub BreaksNames : {W L : Type 0} {G : Ghosts L} → (W → Writer) → SolverError → Core W L G → Core W L G → Type 0
 BreaksNames seen e a b = BreaksNamesOr ⊥ seen e a b
 
+-- the same, and the proof keeps the cause until it is told
+abbrev pub BreaksNamesOff : {W L : Type 0} {G : Ghosts L} → (full : Type 0) → (W → Writer) → SolverError → Core W L G → Core W L G → Type 0
+BreaksNamesOff full seen e a b = BreaksNamesOr full seen e a b × IsKept e b.proof
+
 abbrev pub TakesClause : {W L : Type 0} {G : Ghosts L} → (W → Writer) → Result Bool SolverError → Variables → Variables → Core W L G → Core W L G → List ℕ → Type 0
-TakesClause seen r n n' a b user = MatchResult r (TookClause seen n n' a b user) (λ e. BreaksNamesOr (IsFull b.search.parts) seen e a b)
+TakesClause seen r n n' a b user = MatchResult r (TookClause seen n n' a b user) (λ e. BreaksNamesOff (IsFull b.search.parts) seen e a b)
 
 -- assumptions came in, in place of others
 pub record TookAssumptions {W L : Type 0} {G : Ghosts L} (seen : W → Writer) (n n' : Variables) (a b : Core W L G) (user : List ℕ) (t : Taken) : Type 0 where
-  pub does : (o : Outcome) → Does n n' (steps_of a.proof) (steps_of b.proof) (bring_all (names_in user)) (λ j. bringing (names_in user) j ++ (Opens (map named_literal user) o ∷ []))
-  pub comes : Comes (MayTake (names_in user)) (steps_of a.proof) (steps_of b.proof)
+  pub does : (o : Outcome) → NamesRefineJudge n n' (steps_of a.proof) (steps_of b.proof) (bring_all (names_in user)) (λ j. bringing (names_in user) j ++ (Opens (map named_literal user) o ∷ []))
+  pub comes : OnlyAllowedSteps (MayTake (names_in user)) (steps_of a.proof) (steps_of b.proof)
   pub took : Gained seen a.proof b.proof
   pub joined : IsJoined n' b
   pub config : b.config ≡ a.config
   pub asked : AreAsked n' b user t
 
 abbrev pub TakesAssumptions : {W L : Type 0} {G : Ghosts L} → (W → Writer) → Result (Unit {0}) SolverError → Variables → Variables → Core W L G → Core W L G → List ℕ → Taken → Type 0
-TakesAssumptions seen r n n' a b user t = MatchResult r (λ _. TookAssumptions seen n n' a b user t) (λ e. BreaksNames seen e a b)
+TakesAssumptions seen r n n' a b user t = MatchResult r (λ _. TookAssumptions seen n n' a b user t) (λ e. BreaksNamesOff ⊥ seen e a b)

@@ -6,21 +6,21 @@ use Rattle.sat_base.specs.steps.Steps.{Step}
 use Rattle.sat_base.specs.values.Clauses.{Valuation, EachTrue}
 use Rattle.sat_checker.specs.Fold.{Holds}
 use Rattle.sat_checker.specs.declared.processing.ProofProcessor.{Ghosts}
-use Rattle.sat_solver.specs.parts.Full.{IsFull}
-use Rattle.sat_solver.specs.session.ProofView.{is_lost, steps_of, session_of}
+use Rattle.sat_parts.specs.parts.Full.{IsFull}
+use Rattle.sat_solver.specs.proof.ProofView.{is_lost, steps_of, session_of}
 use Rattle.sat_solver.specs.session.Session.{Session}
-use Rattle.sat_solver.specs.search.Bumping.{AreDecays}
-use Rattle.sat_solver.specs.search.Turns.{IsComplete}
-use Rattle.sat_solver.specs.names.Adding.{named_literal, Images, GlobalImages}
-use Rattle.sat_solver.specs.names.Calls.{HasJudge, Stands}
+use Rattle.sat_solver.specs.clause.Activity.{AreDecays}
+use Rattle.sat_solver.specs.cdcl.Turns.{IsComplete}
+use Rattle.sat_solver.specs.load.Literals.{named_literal, Images, GlobalImages}
+use Rattle.sat_solver.specs.variables.Calls.{HasJudge, NamesInvariant}
 use Rattle.sat_checker.specs.matching.Checking.{variable_of}
 use Rattle.sat_checker.specs.matching.Expected.{SameSet}
-use Rattle.sat_solver.specs.declared.names.Variables.{Variables}
-use Rattle.sat_solver.specs.declared.names.taking.Taken.{Taken}
-use Rattle.sat_solver.specs.declared.search.solving.Core.{Core}
+use Rattle.sat_solver.specs.declared.variables.Variables.{Variables}
+use Rattle.sat_solver.specs.declared.load.literals.Taken.{Taken}
+use Rattle.sat_solver.specs.declared.schedule.solve.Core.{Core}
 use Rattle.sat_solver.specs.declared.solver.Solver.{Solver}
-use Rattle.sat_solver.specs.declared.solver.state.State.{State}
-use Rattle.sat_solver.specs.declared.solver.state.State.TheVariants as states
+use Rattle.sat_solver.specs.declared.state.State.{State}
+use Rattle.sat_solver.specs.declared.state.State.TheVariants as states
 use Rattle.sat_solver.specs.solver.Joined.{IsJoined}
 use Rattle.sat_solver.specs.solver.Answering.{line_of}
 
@@ -52,19 +52,19 @@ pub record HasCore {W L : Type 0} {G : Ghosts L} (c : Core W L G) (assumed core 
   pub among : AllByRecursion (λ l. Among l assumed) core
 
 -- the search goes on, under the assumptions
-pub record GoesOn {W L : Type 0} {G : Ghosts L} (c : Core W L G) (n : Variables) (asked : Taken) : Type 0 where
+pub record AskGoesOn {W L : Type 0} {G : Ghosts L} (c : Core W L G) (n : Variables) (asked : Taken) : Type 0 where
   pub joined : IsJoined n c
   pub lits : c.search.assumptions.lits.items ≡ asked.order.items
 
 abbrev pub StateSays : {W L : Type 0} {G : Ghosts L} → State → Core W L G → Variables → Taken → (assumed core : List ℕ) → Type 0
-StateSays states.Unknown c n asked assumed core = GoesOn c n asked
-StateSays states.Sat c n asked assumed core = GoesOn c n asked × HasModel c
-StateSays states.UnsatUnderAssumptions c n asked assumed core = GoesOn c n asked × HasCore c assumed core
+StateSays states.Unknown c n asked assumed core = AskGoesOn c n asked
+StateSays states.Sat c n asked assumed core = AskGoesOn c n asked × HasModel c
+StateSays states.UnsatUnderAssumptions c n asked assumed core = AskGoesOn c n asked × HasCore c assumed core
 StateSays states.Unsat c n asked assumed core = (session_of c.proof).unsat ≡ true
 
 -- what holds of a solver's pieces
 pub record IsWholeOf {W L : Type 0} {G : Ghosts L} (c : Core W L G) (n : Variables) (asked : Taken) (assumed core : List ℕ) (scale : ℕ) (state : State) : Type 0 where
-  pub stands : Stands n (steps_of c.proof)
+  pub stands : NamesInvariant n (steps_of c.proof)
   pub images : Images n assumed asked.order.items
   pub spelt : GlobalImages n assumed asked.globals.items
   pub globals : asked.globals.items ≡ (session_of c.proof).assumed

@@ -1,13 +1,13 @@
 //! What holds of sessions: each law is the contract of a function that does nothing.
 ghost use Rattle.sat_solver.specs.session.Promises.{CoresAreRight, MayIsAccepted, ModelsAreRight, SessionsAreAccepted, UnsatIsRight};
-ghost use Rattle.sat_solver.specs.session.Checked.{NobodyComplains};
-ghost use Rattle.sat_solver.specs.session.Drat.{DratStands};
+ghost use Rattle.sat_solver.specs.proof.Checked.{NobodyComplains};
+ghost use Rattle.sat_solver.specs.proof.Drat.{DratStands};
 ghost use Rattle.sat_solver.specs.session.Due.{WidthsKeepOrder};
 ghost use Rattle.sat_solver.specs.session.NamedMeaning.{NamedCoresAreRight, NamedModelsAreRight, NamedUnsatIsRight, NoneHiddenMeans};
-ghost use Rattle.sat_solver.specs.session.ProofRows.{CountRow, LineRows, WidthRows};
-ghost use Rattle.sat_solver.specs.session.ProofTexts.{BrokenIsFront, ClosedIsText, CutsAreFree};
+ghost use Rattle.sat_solver.specs.proof.ProofRows.{CountRow, LineRows, WidthRows};
+ghost use Rattle.sat_solver.specs.proof.ProofTexts.{BrokenIsFront, ClosedIsText, CutsAreFree};
 ghost use Rattle.sat_solver.specs.session.SessionRows.{CollidingMay, HiddenMay};
-ghost use Rattle.sat_solver.specs.session.Widths.{WidthsAreFree};
+ghost use Rattle.sat_solver.specs.proof.Widths.{WidthsAreFree};
 
 use sat_checker::law_announcements::nobody_answers_a_fault;
 use sat_checker::{Nobody, ProofProcessor};

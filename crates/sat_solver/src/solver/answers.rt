@@ -5,9 +5,9 @@ ghost use Rattle.sat_solver.specs.solver.Resting.{HasNone, HasNoCore, IsCore, Is
 ghost use Rattle.sat_solver.specs.solver.Whole.{IsSolver, line_in};
 
 use crate::SolverError;
-use crate::names::models::named_lits;
+use crate::model::named_lits;
 use crate::solver::Solver;
-use crate::solver::state::State;
+use crate::state::State;
 use sat_base::{CountedWrite, Lit};
 use sat_checker::ProofProcessor;
 use std::alloc::Global;

@@ -1,9 +1,9 @@
 use Rattle.std.proofs.Common.{ℕ, ◌+◌, ◌≡◌, ◌∙◌, ap}
 use Rattle.sat_base.specs.steps.StepReading.{reader_source, step_in}
 use Rattle.sat_checker.specs.CheckerView.{kernel_of}
-use Rattle.certify.specs.matching.Confirming.{table_of}
-use Rattle.certify.specs.matching.Whole.{standing}
-use Rattle.certify.proofs.lemmas.matching.Decided.{IsBegun, begins, keeps_promises, looks_added}
+use Rattle.certify.specs.confirm.Confirming.{table_of}
+use Rattle.certify.specs.confirm.ConfirmedScript.{standing}
+use Rattle.certify.proofs.lemmas.confirm.Decided.{IsBegun, begins, keeps_promises, looks_added}
 use Rattle.certify.proofs.confirm.compare.Goals as goal
 
 pub returns : goal.returns

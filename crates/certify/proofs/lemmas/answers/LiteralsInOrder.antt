@@ -4,7 +4,7 @@ use Rattle.std.proofs.lemmas.List.{map-append}
 use Rattle.sat_base.specs.script.Script.{Literal, names_of, InOrder}
 use Rattle.certify.specs.answers.Answers.{literals_text, word_of}
 use Rattle.certify.specs.answers.AnswerForms.{HaveNames, NamesRise, IsInForm, IsName, IsOrdered, named_literal, named_literals}
-use Rattle.certify.specs.answers.AnswerReading.{HasLine, NoLiterals, StartsNoLiteral, StartsNoLiterals, outcome_of, place_in}
+use Rattle.certify.specs.answers.AnswerReading.{HasLine, NoLiterals, StartsNoLiteral, StartsNoLiterals, outcome_of, literal_place}
 use Rattle.certify.specs.declared.answers.read.AnswerKind.{AnswerKind}
 use Rattle.certify.specs.declared.answers.read.AnswerKind.TheVariants as kind
 use Rattle.certify.specs.declared.answers.read.AnswerFault.TheVariants.{Text, OutOfMemory}
@@ -19,7 +19,7 @@ words_text (l ∷ ls) = word_of l ++ (32 ∷ words_text ls)
 
 -- places rise behind the line's own exactly where they rise from the least one
 abbrev pub GoOnFrom : AnswerKind → List ℕ → ℕ → Type 0
-GoOnFrom k line least = (places : List ℕ) → RiseFrom 0 (map (place_in k) line ++ places) ↔ RiseFrom least places
+GoOnFrom k line least = (places : List ℕ) → RiseFrom 0 (map (literal_place k) line ++ places) ↔ RiseFrom least places
 
 -- the line's literals have been read, word by word and in their order, and the rest of the bytes is left
 pub record ReadInOrder (k : AnswerKind) (bytes line rest : List ℕ) (least : ℕ) : Type 0 where
@@ -54,21 +54,21 @@ ordered_front kind.Unsat ls ks h = in_order_front ls ks h
 ordered_front kind.Unknown ls ks h = tt
 
 -- one more place
-goes_on : (k : AnswerKind) (line : List ℕ) (l least : ℕ) → GoOnFrom k line least → least ≤ place_in k l → GoOnFrom k (line ++ (l ∷ [])) (place_in k l + 1)
+goes_on : (k : AnswerKind) (line : List ℕ) (l least : ℕ) → GoOnFrom k line least → least ≤ literal_place k l → GoOnFrom k (line ++ (l ∷ [])) (literal_place k l + 1)
 goes_on k line l least g h places =
-    let e : map (place_in k) (line ++ (l ∷ [])) ++ places ≡ map (place_in k) line ++ (place_in k l ∷ places)
-    = ap (λ t. t ++ places) (map-append (place_in k) line (l ∷ [])) ∙ append_assoc (map (place_in k) line) (place_in k l ∷ []) places in
-    (λ r. ((g (place_in k l ∷ places)).0 (subst (RiseFrom 0) e r)).1, λ r. subst (RiseFrom 0) (sym e) ((g (place_in k l ∷ places)).1 (h, r)))
+    let e : map (literal_place k) (line ++ (l ∷ [])) ++ places ≡ map (literal_place k) line ++ (literal_place k l ∷ places)
+    = ap (λ t. t ++ places) (map-append (literal_place k) line (l ∷ [])) ∙ append_assoc (map (literal_place k) line) (literal_place k l ∷ []) places in
+    (λ r. ((g (literal_place k l ∷ places)).0 (subst (RiseFrom 0) e r)).1, λ r. subst (RiseFrom 0) (sym e) ((g (literal_place k l ∷ places)).1 (h, r)))
 
 -- all the places rise
 in_full_order : (k : AnswerKind) (line : List ℕ) (least : ℕ) → GoOnFrom k line least → IsOrdered (outcome_of k (named_literals line))
-in_full_order k line least g = rise_ordered k line (subst (RiseFrom 0) (append-nil (map (place_in k) line)) ((g []).1 tt))
+in_full_order k line least g = rise_ordered k line (subst (RiseFrom 0) (append-nil (map (literal_place k) line)) ((g []).1 tt))
 
 pub in_form : (k : AnswerKind) (bytes line rest : List ℕ) (least : ℕ) → HasLine k → ReadInOrder k bytes line rest least → IsInForm (outcome_of k (named_literals line))
 in_form k bytes line rest least d r = (subst HaveNames (sym (line_literals k (named_literals line) d)) r.read.names, in_full_order k line least r.order)
 
-pub one_in_order : (k : AnswerKind) (bytes line rest behind : List ℕ) (l least : ℕ) → ReadInOrder k bytes line rest least → IsName (named_literal l).name → rest ≡ word_of (named_literal l) ++ (32 ∷ behind) → least ≤ place_in k l
-    → ReadInOrder k bytes (line ++ (l ∷ [])) behind (place_in k l + 1)
+pub one_in_order : (k : AnswerKind) (bytes line rest behind : List ℕ) (l least : ℕ) → ReadInOrder k bytes line rest least → IsName (named_literal l).name → rest ≡ word_of (named_literal l) ++ (32 ∷ behind) → least ≤ literal_place k l
+    → ReadInOrder k bytes (line ++ (l ∷ [])) behind (literal_place k l + 1)
 one_in_order k bytes line rest behind l least r n e h = record {
   read = one_read bytes line rest behind l r.read n e;
   words =
@@ -92,22 +92,22 @@ begun k bytes line rest ls tail d r o e =
     (more.0, (same_literals ls (named_literals line ++ more.0) tail tail n m (sym e ∙ r.back more.0 tail more.1.1)).0)
 
 -- a place below the least one
-pub out_of_order : (k : AnswerKind) (bytes line rest behind : List ℕ) (l least : ℕ) → HasLine k → ReadInOrder k bytes line rest least → IsName (named_literal l).name → rest ≡ word_of (named_literal l) ++ (32 ∷ behind) → place_in k l < least
+pub out_of_order : (k : AnswerKind) (bytes line rest behind : List ℕ) (l least : ℕ) → HasLine k → ReadInOrder k bytes line rest least → IsName (named_literal l).name → rest ≡ word_of (named_literal l) ++ (32 ∷ behind) → literal_place k l < least
     → NoLiterals k bytes Text
 out_of_order k bytes line rest behind l least d r n e low ls tail o f =
     let b = begun k bytes (line ++ (l ∷ [])) behind ls tail d (one_read bytes line rest behind l r.read n e) o f in
     let s : IsOrdered (outcome_of k (named_literals (line ++ (l ∷ [])))) = ordered_front k (named_literals (line ++ (l ∷ []))) b.0 (subst (λ t. IsOrdered (outcome_of k t)) b.1 o.1) in
-    let p : RiseFrom 0 (map (place_in k) line ++ (place_in k l ∷ [])) = subst (RiseFrom 0) (map-append (place_in k) line (l ∷ [])) (ordered_rise k (line ++ (l ∷ [])) d s) in
-    let q = ((r.order (place_in k l ∷ [])).0 p).0 in
+    let p : RiseFrom 0 (map (literal_place k) line ++ (literal_place k l ∷ [])) = subst (RiseFrom 0) (map-append (literal_place k) line (l ∷ [])) (ordered_rise k (line ++ (l ∷ [])) d s) in
+    let q = ((r.order (literal_place k l ∷ [])).0 p).0 in
     omega arith
 
 -- memory is wanted for a literal in its order
-pub no_room : (k : AnswerKind) (bytes line rest behind : List ℕ) (l least : ℕ) → HasLine k → ReadInOrder k bytes line rest least → IsName (named_literal l).name → rest ≡ word_of (named_literal l) ++ (32 ∷ behind) → least ≤ place_in k l
+pub no_room : (k : AnswerKind) (bytes line rest behind : List ℕ) (l least : ℕ) → HasLine k → ReadInOrder k bytes line rest least → IsName (named_literal l).name → rest ≡ word_of (named_literal l) ++ (32 ∷ behind) → least ≤ literal_place k l
     → NoLiterals k bytes OutOfMemory
 no_room k bytes line rest behind l least d r n e h =
     let s = one_in_order k bytes line rest behind l least r n e h in
     let t : named_literals (line ++ (l ∷ [])) ≡ named_literals line ++ (named_literal l ∷ []) = map-append named_literal line (l ∷ []) in
-    let o = subst (λ ls. IsInForm (outcome_of k ls)) t (in_form k bytes (line ++ (l ∷ [])) behind (place_in k l + 1) d s) in
+    let o = subst (λ ls. IsInForm (outcome_of k ls)) t (in_form k bytes (line ++ (l ∷ [])) behind (literal_place k l + 1) d s) in
     let w = s.words ∙ ap (λ ls. words_text ls ++ behind) t in
     (d, (named_literals line, named_literal l, (o, (words_text (named_literals line ++ (named_literal l ∷ [])), behind, (words_ended (named_literals line ++ (named_literal l ∷ [])), w)))))
 
@@ -122,14 +122,14 @@ pub record ReadSoFar (k : AnswerKind) (bytes rest : List ℕ) (least : ℕ) : Ty
 behind_space : (l : ℕ) (rest behind more : List ℕ) → rest ≡ word_of (named_literal l) ++ (32 ∷ behind) → rest ++ more ≡ word_of (named_literal l) ++ (32 ∷ (behind ++ more))
 behind_space l rest behind more e = ap (λ t. t ++ more) e ∙ append_assoc (word_of (named_literal l)) (32 ∷ behind) more
 
-pub one_so_far : (k : AnswerKind) (bytes rest behind : List ℕ) (l least : ℕ) → ReadSoFar k bytes rest least → IsName (named_literal l).name → rest ≡ word_of (named_literal l) ++ (32 ∷ behind) → least ≤ place_in k l
-    → ReadSoFar k bytes behind (place_in k l + 1)
+pub one_so_far : (k : AnswerKind) (bytes rest behind : List ℕ) (l least : ℕ) → ReadSoFar k bytes rest least → IsName (named_literal l).name → rest ≡ word_of (named_literal l) ++ (32 ∷ behind) → least ≤ literal_place k l
+    → ReadSoFar k bytes behind (literal_place k l + 1)
 one_so_far k bytes rest behind l least r n e h = record {
   line = r.line ++ (l ∷ []);
   before = λ more. one_in_order k (bytes ++ more) r.line (rest ++ more) (behind ++ more) l least (r.before more) n (behind_space l rest behind more e) h;
 }
 
-pub starts_out_of_order : (k : AnswerKind) (bytes rest behind : List ℕ) (l least : ℕ) → HasLine k → ReadSoFar k bytes rest least → IsName (named_literal l).name → rest ≡ word_of (named_literal l) ++ (32 ∷ behind) → place_in k l < least
+pub starts_out_of_order : (k : AnswerKind) (bytes rest behind : List ℕ) (l least : ℕ) → HasLine k → ReadSoFar k bytes rest least → IsName (named_literal l).name → rest ≡ word_of (named_literal l) ++ (32 ∷ behind) → literal_place k l < least
     → StartsNoLiterals k bytes
 starts_out_of_order k bytes rest behind l least d r n e low ls more o f =
     out_of_order k (bytes ++ more) r.line (rest ++ more) (behind ++ more) l least d (r.before more) n (behind_space l rest behind more e) low ls [] o (sym f ∙ sym (append-nil (literals_text ls)))

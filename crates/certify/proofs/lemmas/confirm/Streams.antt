@@ -14,10 +14,10 @@ use Rattle.sat_base.specs.steps.StepText.{SpellsStep, tag_of}
 use Rattle.sat_base.proofs.lemmas.device.ReadLemmas.{passes_more, faults_later, passes_none}
 use Rattle.certify.specs.confirm.ReadSteps.{BeginsNoStep, ReadsStep}
 use Rattle.certify.specs.confirm.Feeding.{HasTaken, Feeds, Settles}
-use Rattle.certify.specs.confirm.Streams.{Stream, rest_in, seen_in, Covers, Over, Moves, Halts, Going, Confirms, Says, stop_of, bytes_left}
+use Rattle.certify.specs.confirm.Streams.{Stream, rest_in, seen_in, Covers, Over, Moves, Halts, Going, Confirms, SaysAlone, stop_of, bytes_left}
 use Rattle.certify.specs.confirm.VerdictPromises.{TakesLooks}
 use Rattle.certify.specs.confirm.Walks.{LooksReach, Walks, walks_if, Tries, RunsOut}
-use Rattle.certify.specs.confirm.Views.{View, place}
+use Rattle.certify.specs.confirm.Views.{View, certificate_place}
 use Rattle.sat_checker.specs.Accepts.{Accepts, ready_after}
 use Rattle.sat_checker.specs.ProofView.{most_bytes}
 use Rattle.sat_checker.specs.KernelView.{looks_of, LooksAtMost}
@@ -137,7 +137,7 @@ then_stop x (stop.No why) a b c P Q R open_yet f p q =
       over_then 1 a b c q.0.0.0 (λ u v. P u v (Ok x)) (λ u v. Q u v (Err why)) (λ u v. R u v (Err why)) here q.0.0.1 (λ total. f total why) p.1 q.1,
       over_then 1 a b c q.0.0.0 Walks Tries Tries here q.0.0.1 (λ total. tries_on (seen_in total a) (seen_in total b) (seen_in total c)) p.2 q.2,
     )
-then_stop x stop.Read a b c P Q R open_yet f p q =
+then_stop x stop.CertificateRead a b c P Q R open_yet f p q =
     let here = stays_open a.source b.source p.0.0 open_yet p.0.1 in (
       (p.0.0 ++ q.0.0, faults_later a.source b.source c.source p.0.0 q.0.0 p.0.1 q.0.1),
       over_fault a b c q.0.0 Walks Tries Tries here q.0.1 (λ total. tries_on (seen_in total a) (seen_in total b) (seen_in total c)) p.2 q.1,
@@ -153,6 +153,9 @@ then_stop x stop.CounterEnd a b c P Q R open_yet f p q =
       over_then 1 a b c q.0.0.0 Walks RunsOut RunsOut here q.0.0.1 (λ total. runs_on (seen_in total a) (seen_in total b) (seen_in total c)) p.2 q.1,
       over_then 1 a b c q.0.0.0 Walks Tries Tries here q.0.0.1 (λ total. tries_on (seen_in total a) (seen_in total b) (seen_in total c)) p.2 q.2,
     )
+then_stop x stop.ScriptRead a b c P Q R open_yet f p q = absurd q
+then_stop x stop.AnswersRead a b c P Q R open_yet f p q = absurd q
+then_stop x stop.TooMany a b c P Q R open_yet f p q = absurd q
 
 -- behind a call that went on
 pub confirms_then : {A B : Type 0} (x : A) (r : Result B Stop) (a b c : Stream) (P : View → View → Result A Why → Type 0) (Q R : View → View → Result B Why → Type 0) → (AtEnd a.source → ⊥)
@@ -164,9 +167,12 @@ confirms_then x (Err e) a b c P Q R open_yet f p q = then_stop x e a b c P Q R o
 pub confirms_stop : {A B : Type 0} (e : Stop) (a b : Stream) (P : View → View → Result A Why → Type 0) (R : View → View → Result B Why → Type 0)
     → ((total : List ℕ) (why : Why) → P (seen_in total a) (seen_in total b) (Err why) → R (seen_in total a) (seen_in total b) (Err why)) → Confirms {A = A} (Err e) a b P → Confirms {A = B} (Err e) a b R
 confirms_stop (stop.No why) a b P R f p = (p.0, (λ total k. f total why (p.1 total k)), p.2)
-confirms_stop stop.Read a b P R f p = p
+confirms_stop stop.CertificateRead a b P R f p = p
 confirms_stop stop.OutOfMemory a b P R f p = p
 confirms_stop stop.CounterEnd a b P R f p = p
+confirms_stop stop.ScriptRead a b P R f p = absurd p
+confirms_stop stop.AnswersRead a b P R f p = absurd p
+confirms_stop stop.TooMany a b P R f p = absurd p
 
 -- the same of what is said behind it
 pub confirms_so : {A : Type 0} (r : Result A Stop) (a b : Stream) (P R : View → View → Result A Why → Type 0) → ((total : List ℕ) (y : Result A Why) → P (seen_in total a) (seen_in total b) y → R (seen_in total a) (seen_in total b) y) → Confirms r a b P → Confirms r a b R
@@ -181,11 +187,14 @@ confirms_none x a P f = (([], passes_none a.source), (λ total k. f total), (λ 
 -- an error of what reads nothing, behind a call that went on
 pub says_stop : {B C : Type 0} (fed : Bool) (e : Stop) (a b : Stream) (P : View → View → Type 0) (S : Result B Why → Type 0) (R : View → View → Result C Why → Type 0) → (AtEnd a.source → ⊥)
     → ((total : List ℕ) (why : Why) → P (seen_in total a) (seen_in total b) → S (Err why) → R (seen_in total a) (seen_in total b) (Err why))
-    → Going fed a b P → Says {A = B} (Err e) S → Confirms {A = C} (Err e) a b R
+    → Going fed a b P → SaysAlone {A = B} (Err e) S → Confirms {A = C} (Err e) a b R
 says_stop fed (stop.No why) a b P S R open_yet f p s = (moves_halt a b open_yet p.0, (λ total k. f total why (p.1 total k) s), (λ total k. tries_if fed (seen_in total a) (seen_in total b) (p.2 total k)))
-says_stop fed stop.Read a b P S R open_yet f p s = absurd s
+says_stop fed stop.CertificateRead a b P S R open_yet f p s = absurd s
 says_stop fed stop.OutOfMemory a b P S R open_yet f p s = (moves_halt a b open_yet p.0, (λ total k. tries_if fed (seen_in total a) (seen_in total b) (p.2 total k)))
 says_stop fed stop.CounterEnd a b P S R open_yet f p s = absurd s
+says_stop fed stop.ScriptRead a b P S R open_yet f p s = absurd s
+says_stop fed stop.AnswersRead a b P S R open_yet f p s = absurd s
+says_stop fed stop.TooMany a b P S R open_yet f p s = absurd s
 
 -- WHAT A CHECKER IS FED
 
@@ -202,13 +211,16 @@ pub feeds_stop : {C : Type 0} (e : Stop) (a b : Stream) (next : Kernel) (P : Vie
     → Going false a b P → Confirms {A = C} (Err e) a (record b { checker = next }) R
 feeds_stop (stop.No why) a b next P R open_yet fed looks f p =
     (moves_halt a b open_yet p.0, (λ total k. f total why (p.1 total k) fed), (λ total k. tries_fed (seen_in total a) (seen_in total b) (seen_in total (record b { checker = next })) looks (p.2 total k)))
-feeds_stop stop.Read a b next P R open_yet fed looks f p = absurd fed
+feeds_stop stop.CertificateRead a b next P R open_yet fed looks f p = absurd fed
 feeds_stop stop.OutOfMemory a b next P R open_yet fed looks f p = (moves_halt a b open_yet p.0, (λ total k. tries_fed (seen_in total a) (seen_in total b) (seen_in total (record b { checker = next })) looks (p.2 total k)))
 feeds_stop stop.CounterEnd a b next P R open_yet fed looks f p = (
   moves_halt a b open_yet p.0,
   (λ total k. runs_fed (seen_in total a) (seen_in total b) (seen_in total (record b { checker = next })) next fed (p.2 total k)),
   (λ total k. tries_fed (seen_in total a) (seen_in total b) (seen_in total (record b { checker = next })) looks (p.2 total k)),
 )
+feeds_stop stop.ScriptRead a b next P R open_yet fed looks f p = absurd fed
+feeds_stop stop.AnswersRead a b next P R open_yet fed looks f p = absurd fed
+feeds_stop stop.TooMany a b next P R open_yet fed looks f p = absurd fed
 
 -- a pending unit conflict is settled
 pub settles_on : (fed : Bool) (a b : Stream) (next : Kernel) (P Q : View → View → Type 0) → Settles (Ok tt) b.checker next
@@ -226,7 +238,7 @@ settles_stop (stop.No why) fed a b next P R open_yet settled f p = (
   (λ total k. f total why (p.1 total k) settled),
   (λ total k earlier t. never_settled fed (seen_in total a) (seen_in total b) (LooksReach earlier (rest_in total a.source) (looks_of a.checker) (looks_of next)) earlier settled (p.2 total k) t),
 )
-settles_stop stop.Read fed a b next P R open_yet settled f p = absurd settled
+settles_stop stop.CertificateRead fed a b next P R open_yet settled f p = absurd settled
 settles_stop stop.OutOfMemory fed a b next P R open_yet settled f p = (
   moves_halt a b open_yet p.0,
   (λ total k. tries_kept fed (seen_in total a) (seen_in total b) (seen_in total (record b { checker = next })) settled (p.2 total k)),
@@ -236,6 +248,9 @@ settles_stop stop.CounterEnd fed a b next P R open_yet settled f p = (
   (λ total k. runs_spent fed (seen_in total a) (seen_in total b) (seen_in total (record b { checker = next })) settled (p.2 total k)),
   (λ total k. tries_spent fed (seen_in total a) (seen_in total b) (seen_in total (record b { checker = next })) settled (p.2 total k)),
 )
+settles_stop stop.ScriptRead fed a b next P R open_yet settled f p = absurd settled
+settles_stop stop.AnswersRead fed a b next P R open_yet settled f p = absurd settled
+settles_stop stop.TooMany fed a b next P R open_yet settled f p = absurd settled
 
 -- THE NEXT STEP
 
@@ -249,7 +264,7 @@ answered (Err errors.Read) s t e h = h
 answered (Err errors.OutOfMemory) s t e h = h
 answered (Err errors.HasFailed) s t e h = absurd (let k : true ≡ false = e in cc)
 
-pub step_came : (step : Step) (a b : Stream) → b.step ≡ step → b.checker ≡ a.checker → Answers (Ok step) a.source b.source → Going false a b (λ u v. ReadsStep (place u) (place v))
+pub step_came : (step : Step) (a b : Stream) → b.step ≡ step → b.checker ≡ a.checker → Answers (Ok step) a.source b.source → Going false a b (λ u v. ReadsStep (certificate_place u) (certificate_place v))
 step_came step a b e c h =
     let spelt : SpellsStep b.step h.0 = subst (λ (z : Step). SpellsStep z h.0) (sym e) h.2 in (
       (h.0, h.1),

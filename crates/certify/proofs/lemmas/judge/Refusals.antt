@@ -8,11 +8,11 @@ use Rattle.sat_base.specs.script.Script.{Literal, names_of}
 use Rattle.sat_base.specs.script.Judge.{Judge, Mode, Sampled, Witnessed, identity_of, is_witness, has_witness, WitnessName, refused_literal, refused_name, refusal_of}
 use Rattle.certify.specs.answers.AnswerForms.{named_literals}
 use Rattle.sat_base.specs.script.Language.{Kind, OfClause, OfAsk, OfHide, OfWitness, OfSample, command_of}
-use Rattle.certify.specs.reading.Commands.{kind_of, BeginsPast, IsFront}
-use Rattle.certify.specs.declared.reading.Command.{Command as Lent}
+use Rattle.certify.specs.script.Commands.{kind_of, BeginsPast, IsFront}
+use Rattle.certify.specs.declared.script.Command.{Command as Lent}
 use Rattle.certify.specs.declared.judge.Refusal.{Refusal as CodeRefusal}
 use Rattle.certify.specs.declared.judge.names.Names.{Names}
-use Rattle.certify.specs.judge.Names.{state_in, state_of_mode, state_of_identity, Stands, is_witnessed, limit_refusal, refusal_said, Judges}
+use Rattle.certify.specs.judge.Names.{state_in, state_of_mode, state_of_identity, NamesStand, is_witnessed, limit_refusal, refusal_said, Judges}
 
 witness_at : (j : Judge) (o : Option ℕ) → has_witness j o ≡ is_witnessed (state_of_identity j.modes o)
 witness_at j None = refl
@@ -22,7 +22,7 @@ witness_at j (Some i) = go (get_or j.modes i Sampled)
     go Sampled = refl
     go Witnessed = refl
 
-pub witness_is : (names : Names) (j : Judge) (name : ℕ) → Stands names j → has_witness j (identity_of j name) ≡ is_witnessed (state_in names.states.items name)
+pub witness_is : (names : Names) (j : Judge) (name : ℕ) → NamesStand names j → has_witness j (identity_of j name) ≡ is_witnessed (state_in names.states.items name)
 witness_is names j name h = witness_at j (identity_of j name) ∙ ap is_witnessed (h.each name)
 
 within : (name : ℕ) → name ≤ largest → ltb largest name ≡ false
@@ -33,12 +33,12 @@ within name h = go (ltb largest name) refl
     go false e = refl
 
 -- the next literal decides, or those behind it
-refused_next : (names : Names) (j : Judge) (code : ℕ) (codes : List ℕ) (tail : List Literal) → Stands names j → variable code < largest
+refused_next : (names : Names) (j : Judge) (code : ℕ) (codes : List ℕ) (tail : List Literal) → NamesStand names j → variable code < largest
     → refused_literal j (names_of (named_literals (code ∷ codes) ++ tail))
     ≡ cond (is_witnessed (state_in names.states.items (variable code + 1))) (Some (WitnessName (variable code + 1))) (refused_literal j (names_of (named_literals codes ++ tail)))
 refused_next names j code codes tail h low = rw (within (variable code + 1) (omega arith), witness_is names j (variable code + 1) h) refl
 
-pub refused_at : (names : Names) (j : Judge) (codes : List ℕ) (tail : List Literal) (k code : ℕ) (b : Bool) → Stands names j → k < length codes → code ≡ get_or codes k code → variable code < largest
+pub refused_at : (names : Names) (j : Judge) (codes : List ℕ) (tail : List Literal) (k code : ℕ) (b : Bool) → NamesStand names j → k < length codes → code ≡ get_or codes k code → variable code < largest
     → is_witnessed (state_in names.states.items (variable code + 1)) ≡ b
     → refused_literal j (names_of (named_literals (drop k codes) ++ tail)) ≡ cond b (Some (WitnessName (variable code + 1))) (refused_literal j (names_of (named_literals (drop (k + 1) codes) ++ tail)))
 refused_at names j codes tail k code b h within at low e =
@@ -72,7 +72,7 @@ names_refused codes past ls f = ap (λ (ks : List Literal). refused_name (names_
 
 -- WHOLE COMMANDS
 pub says_literals : (names : Names) (lent : Lent) (r : Option CodeRefusal) → (kind_of lent.kind ≡ OfClause) ⊎ (kind_of lent.kind ≡ OfAsk)
-    → ((j : Judge) (ls : List Literal) → Stands names j → IsFront lent.literals.now lent.past_limit ls → refusal_said r ≡ refused_literal j (names_of ls)) → Judges r names lent
+    → ((j : Judge) (ls : List Literal) → NamesStand names j → IsFront lent.literals.now lent.past_limit ls → refusal_said r ≡ refused_literal j (names_of ls)) → Judges r names lent
 says_literals names lent r (inl k) said j c h (ls, f, e) = said j ls h f ∙ sym (ap (refusal_of j) (e ∙ ap (λ (kind : Kind). command_of kind ls) k))
 says_literals names lent r (inr k) said j c h (ls, f, e) = said j ls h f ∙ sym (ap (refusal_of j) (e ∙ ap (λ (kind : Kind). command_of kind ls) k))
 

@@ -11,7 +11,7 @@ use Rattle.sat_base.proofs.lemmas.script.JudgeStates.{placed_all, filtered_all, 
 use Rattle.certify.specs.declared.judge.NameState.{NameState}
 use Rattle.certify.specs.declared.judge.NameState.TheVariants as state
 use Rattle.certify.specs.declared.judge.names.Names.{Names}
-use Rattle.certify.specs.judge.Names.{state_in, state_of_mode, mode_of_state, state_of_identity, Stands}
+use Rattle.certify.specs.judge.Names.{state_in, state_of_mode, mode_of_state, state_of_identity, NamesStand}
 
 none_some : {i : ℕ} → (let o : Option ℕ = None in o) ≡ Some i → ⊥
 none_some e = cc
@@ -62,7 +62,7 @@ some_used modes i e = go (get_or modes i Sampled) e
     go Witnessed e = cc
 
 -- a hidden name has no identity
-pub hidden_none : (names : Names) (j : Judge) (name : ℕ) → Stands names j → state_in names.states.items name ≡ state.Hidden → identity_of j name ≡ None
+pub hidden_none : (names : Names) (j : Judge) (name : ℕ) → NamesStand names j → state_in names.states.items name ≡ state.Hidden → identity_of j name ≡ None
 hidden_none names j name h e = go (identity_of j name) refl
   where
     go : (o : Option ℕ) → identity_of j name ≡ o → o ≡ None
@@ -70,7 +70,7 @@ hidden_none names j name h e = go (identity_of j name) refl
     go (Some i) x = absurd (some_used j.modes i (ap (state_of_identity j.modes) (sym x) ∙ h.each name ∙ e))
 
 -- another has one
-pub used_some : (names : Names) (j : Judge) (name : ℕ) → Stands names j → (state_in names.states.items name ≡ state.Hidden → ⊥) → (i : ℕ) × (identity_of j name ≡ Some i)
+pub used_some : (names : Names) (j : Judge) (name : ℕ) → NamesStand names j → (state_in names.states.items name ≡ state.Hidden → ⊥) → (i : ℕ) × (identity_of j name ≡ Some i)
 used_some names j name h u = go (identity_of j name) refl
   where
     go : (o : Option ℕ) → identity_of j name ≡ o → (i : ℕ) × (identity_of j name ≡ Some i)
@@ -82,9 +82,9 @@ named_state : (j : Judge) (o : Option ℕ) → ((i : ℕ) → o ≡ Some i → i
 named_state j None h = refl
 named_state j (Some i) h = ap state_of_mode (get_or-append j.modes (Sampled ∷ []) Sampled i (h i refl))
 
-pub named : (old new : Names) (j : Judge) (name : ℕ) → Stands old j → state_in old.states.items name ≡ state.Hidden → 1 ≤ name → name ≤ largest → name ≤ j.first_unused
+pub named : (old new : Names) (j : Judge) (name : ℕ) → NamesStand old j → state_in old.states.items name ≡ state.Hidden → 1 ≤ name → name ≤ largest → name ≤ j.first_unused
     → length new.states.items ≡ max (length old.states.items) name
-    → ((m : ℕ) → state_in new.states.items m ≡ cond (eqb name m) state.Sampled (state_in old.states.items m)) → Stands new (with_name name j)
+    → ((m : ℕ) → state_in new.states.items m ≡ cond (eqb name m) state.Sampled (state_in old.states.items m)) → NamesStand new (with_name name j)
 named old new j name h hidden low high next longer states =
     let n : Named = record { name = name; identity = j.next_identity } in
     let f = h.first in
@@ -111,8 +111,8 @@ named old new j name h hidden low high next longer states =
     alone m k i false e false g x y = h.apart m k i x y
 
 -- A NAME HIDDEN
-pub hidden : (old new : Names) (j : Judge) (name : ℕ) → Stands old j → length new.states.items ≡ length old.states.items
-    → ((m : ℕ) → state_in new.states.items m ≡ cond (eqb name m) state.Hidden (state_in old.states.items m)) → Stands new (without_name name j)
+pub hidden : (old new : Names) (j : Judge) (name : ℕ) → NamesStand old j → length new.states.items ≡ length old.states.items
+    → ((m : ℕ) → state_in new.states.items m ≡ cond (eqb name m) state.Hidden (state_in old.states.items m)) → NamesStand new (without_name name j)
 hidden old new j name h same states = record {
   first = let f = h.first in omega arith;
   limit = h.limit;
@@ -134,8 +134,8 @@ hidden old new j name h same states = record {
         go false e = sym (removed_found name j.in_use m (λ q. eqb-false name m e (sym q))) ∙ x
 
 -- A MODE SET
-pub moded : (old new : Names) (j : Judge) (mode : Mode) (name : ℕ) → Stands old j → (state_in old.states.items name ≡ state.Hidden → ⊥) → length new.states.items ≡ length old.states.items
-    → ((m : ℕ) → state_in new.states.items m ≡ cond (eqb name m) (state_of_mode mode) (state_in old.states.items m)) → Stands new (with_mode mode name j)
+pub moded : (old new : Names) (j : Judge) (mode : Mode) (name : ℕ) → NamesStand old j → (state_in old.states.items name ≡ state.Hidden → ⊥) → length new.states.items ≡ length old.states.items
+    → ((m : ℕ) → state_in new.states.items m ≡ cond (eqb name m) (state_of_mode mode) (state_in old.states.items m)) → NamesStand new (with_mode mode name j)
 moded old new j mode name h used same states =
     let u = used_some old j name h used in
     let at_name : or_zero (identity_of j name) ≡ u.0 = ap or_zero u.1 in
@@ -168,7 +168,7 @@ moded old new j mode name h used same states =
         ∙ h.each m
 
 -- NAMES THAT COME IN
-pub new_past : (names : Names) (j : Judge) (name count first : ℕ) → Stands names j → j.first_unused ≤ name → count ≡ name + 1 - j.first_unused → first ≡ j.first_unused → new_names name j ≡ names_from count first
+pub new_past : (names : Names) (j : Judge) (name count first : ℕ) → NamesStand names j → j.first_unused ≤ name → count ≡ name + 1 - j.first_unused → first ≡ j.first_unused → new_names name j ≡ names_from count first
 new_past names j name count first h past c f = rw (c, f) (go (ltb name j.first_unused) refl)
   where
     go : (b : Bool) → ltb name j.first_unused ≡ b → cond b (cond (is_some (identity_of j name)) [] (name ∷ [])) (names_from (name + 1 - j.first_unused) j.first_unused) ≡ names_from (name + 1 - j.first_unused) j.first_unused
@@ -182,7 +182,7 @@ below_at j name b low e = go (ltb name j.first_unused) refl
     go true x = rw e refl
     go false x = let y = ltb-false name j.first_unused x in absurd (omega arith)
 
-pub new_hidden : (names : Names) (j : Judge) (name : ℕ) → Stands names j → name < j.first_unused → state_in names.states.items name ≡ state.Hidden → new_names name j ≡ name ∷ []
+pub new_hidden : (names : Names) (j : Judge) (name : ℕ) → NamesStand names j → name < j.first_unused → state_in names.states.items name ≡ state.Hidden → new_names name j ≡ name ∷ []
 new_hidden names j name h low e = below_at j name false low (ap is_some (hidden_none names j name h e))
 
 pub sampled_used : (s : NameState) → s ≡ state.Sampled → s ≡ state.Hidden → ⊥
@@ -196,12 +196,12 @@ at_index xs ys index name s low n e = (
   λ m. ap (λ (zs : List NameState). state_in zs m) e ∙ set_at xs index s m low ∙ ap (λ (k : ℕ). cond (eqb k m) s (state_in xs m)) n,
 )
 
-pub hide_at : (old new : Names) (j : Judge) (index name : ℕ) → Stands old j → index < length old.states.items → index + 1 ≡ name → new.states.items ≡ set old.states.items index state.Hidden → Stands new (without_name name j)
+pub hide_at : (old new : Names) (j : Judge) (index name : ℕ) → NamesStand old j → index < length old.states.items → index + 1 ≡ name → new.states.items ≡ set old.states.items index state.Hidden → NamesStand new (without_name name j)
 hide_at old new j index name h low n e =
     let a = at_index old.states.items new.states.items index name state.Hidden low n e in
     hidden old new j name h a.0 a.1
 
-pub hide_past : (names : Names) (j : Judge) (name : ℕ) → Stands names j → length names.states.items < name → Stands names (without_name name j)
+pub hide_past : (names : Names) (j : Judge) (name : ℕ) → NamesStand names j → length names.states.items < name → NamesStand names (without_name name j)
 hide_past names j name h past = hidden names names j name h refl same
   where
     same : (m : ℕ) → state_in names.states.items m ≡ cond (eqb name m) state.Hidden (state_in names.states.items m)
@@ -216,21 +216,21 @@ mode_back state.Hidden u = absurd (u refl)
 mode_back state.Sampled u = refl
 mode_back state.Witnessed u = refl
 
-pub mode_at : (old new : Names) (j : Judge) (s : NameState) (index name : ℕ) → Stands old j → index < length old.states.items → index + 1 ≡ name → new.states.items ≡ set old.states.items index s
-    → (state_in old.states.items name ≡ state.Hidden → ⊥) → (s ≡ state.Hidden → ⊥) → Stands new (with_mode (mode_of_state s) name j)
+pub mode_at : (old new : Names) (j : Judge) (s : NameState) (index name : ℕ) → NamesStand old j → index < length old.states.items → index + 1 ≡ name → new.states.items ≡ set old.states.items index s
+    → (state_in old.states.items name ≡ state.Hidden → ⊥) → (s ≡ state.Hidden → ⊥) → NamesStand new (with_mode (mode_of_state s) name j)
 mode_at old new j s index name h low n e used u =
     let a = at_index old.states.items new.states.items index name s low n e in
     moded old new j (mode_of_state s) name h used a.0 (λ m. a.1 m ∙ ap (λ (t : NameState). cond (eqb name m) t (state_in old.states.items m)) (sym (mode_back s u)))
 
 -- a hidden name is used again
-pub again_at : (old new : Names) (j : Judge) (index name : ℕ) → Stands old j → index < length old.states.items → index + 1 ≡ name → index < largest → new.states.items ≡ set old.states.items index state.Sampled
-    → state_in old.states.items name ≡ state.Hidden → Stands new (bring_in name j)
+pub again_at : (old new : Names) (j : Judge) (index name : ℕ) → NamesStand old j → index < length old.states.items → index + 1 ≡ name → index < largest → new.states.items ≡ set old.states.items index state.Sampled
+    → state_in old.states.items name ≡ state.Hidden → NamesStand new (bring_in name j)
 again_at old new j index name h low n within e hidden_yet =
     let a = at_index old.states.items new.states.items index name state.Sampled low n e in
     let f = h.first in
     let longer : length new.states.items ≡ max (length old.states.items) name = let l = a.0 in omega arith in
-    let b : Stands new (with_name name j) = named old new j name h hidden_yet (omega arith) (omega arith) (omega arith) longer a.1 in
-    subst (λ (ns : List ℕ). Stands new (with_names ns j)) (sym (new_hidden old j name h (omega arith) hidden_yet)) b
+    let b : NamesStand new (with_name name j) = named old new j name h hidden_yet (omega arith) (omega arith) (omega arith) longer a.1 in
+    subst (λ (ns : List ℕ). NamesStand new (with_names ns j)) (sym (new_hidden old j name h (omega arith) hidden_yet)) b
 
 pub state_next : (xs : List NameState) (index : ℕ) (s : NameState) → s ≡ get_or xs index s → s ≡ state.Hidden → state_in xs (index + 1) ≡ state.Hidden
 state_next xs index s at e =

@@ -16,8 +16,8 @@ use Rattle.sat_checker.specs.matching.ProofChecking.{the_checking}
 use Rattle.certify.specs.answers.Answers.{answers_text}
 use Rattle.certify.specs.answers.RightAnswers.{AreRight, AnswersAreRight}
 use Rattle.certify.specs.confirm.Matches.{OneEach, InForm, Excused, Meets, met, cut, other, ordered, Matches}
-use Rattle.certify.specs.serving.Certifies as by
-use Rattle.certify.specs.serving.Certifies.{Certifies, MayLack, MayStand}
+use Rattle.certify.specs.run.Certifies as by
+use Rattle.certify.specs.run.Certifies.{Certifies, MayLack, MayStand}
 use Rattle.certify.proofs.lemmas.confirm.Settled.{settled_unsat}
 
 -- recorded unsat stays

@@ -6,10 +6,10 @@ use Rattle.sat_base.specs.steps.Steps.{Step, UserVarName, AddClause, AtClause, A
 use Rattle.sat_checker.specs.matching.Expected.{Outcome, Sat, Unsat, Expected, NewName, Adds, Opens, Shows, Closes, Finish, Fits, new_name, adds, opens, shows, closes, finish}
 use Rattle.sat_checker.specs.matching.Checking.{is_ordered}
 use Rattle.sat_checker.specs.matching.ProofChecking.{the_checking}
-use Rattle.certify.specs.serving.Certifies.{Certifies, IsKnown, complete, left_out, other, ordered, asked, answered}
+use Rattle.certify.specs.run.Certifies.{Certifies, IsKnown, complete, left_out, other, ordered, asked, answered}
 use Rattle.certify.specs.laws.Rows.{BehindEndUncertified, ChainCertified, ClauseAndAskCertified, ClauseUncertified, CoreUncertified, EarlyUncertified, EndAloneUncertified, KnownWithoutRounds, LeftOutCertified, ModelUncertified, UnknownUncertified, neg, pos}
 use Rattle.certify.proofs.lemmas.confirm.FittingSteps.{fits_new_name, fits_adds, fits_shows}
-use Rattle.certify.proofs.lemmas.serving.Written.{certified_front, next_same}
+use Rattle.certify.proofs.lemmas.run.Written.{certified_front, next_same}
 
 pub clause_and_ask : ClauseAndAskCertified
 clause_and_ask = ordered tt (new_name refl refl) (ordered tt (new_name refl refl)

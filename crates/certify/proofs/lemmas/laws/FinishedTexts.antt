@@ -10,7 +10,7 @@ use Rattle.sat_base.proofs.lemmas.device.Given.{enough_told}
 use Rattle.sat_checker.specs.matching.ProofChecking.{the_checking}
 use Rattle.certify.specs.confirm.Matches.{Matches}
 use Rattle.certify.specs.confirm.VerdictPromises.{AreRightAnswers, Exact, Given, IsSound, TakesLooks}
-use Rattle.certify.specs.laws.EndToEnd.{CanBe, FinishedIsConfirmed, Says, most_looks}
+use Rattle.certify.specs.laws.EndToEnd.{CanBe, FinishedIsConfirmed, VerdictSays, most_looks_over}
 use Rattle.certify.specs.run.FinishedRun.{Backs, TookCertificate, asked_steps}
 use Rattle.certify.specs.declared.summary.Summary.{Summary}
 use Rattle.certify.specs.declared.verdict.ConfirmFault.{ConfirmFault}
@@ -40,7 +40,7 @@ pub told : (a b : Reader) (P : List ℕ → Type 0) (text : List ℕ) → a.to_c
 told a b P text e g = subst (λ o. IfSome o P) e (enough_told a b P g)
 
 pub says : (r : Result Verdict ConfirmFault) (a x b y c z : Reader) (s t u : List ℕ) → a.to_come ≡ Some s → b.to_come ≡ Some t → c.to_come ≡ Some u
-    → IfOk r (Exact (a, x) (b, y) (c, z)) → IfOk r (IsSound (a, x) (b, y)) → IfOk r (Says s t u)
+    → IfOk r (Exact (a, x) (b, y) (c, z)) → IfOk r (IsSound (a, x) (b, y)) → IfOk r (VerdictSays s t u)
 says (Ok v) a x b y c z s t u d e f h k = record {
   exact = told c z (λ n. (v ≡ Yes) ↔ Matches the_checking reading s t n) u f
       (told b y (λ m. Given (c, z) (λ n. (v ≡ Yes) ↔ Matches the_checking reading s m n)) t e
@@ -66,7 +66,7 @@ squares_rise m n h =
     let p : m * m ≤ n * n = mul-le-mul h h in
     rw (square m, square n) (omega (arith, p))
 
-pub looks_within : (c z : Reader) (s t u : List ℕ) (from to : ℕ) → c.to_come ≡ Some u → TakesLooks c z from to → to ≤ from + most_looks s t u
+pub looks_within : (c z : Reader) (s t u : List ℕ) (from to : ℕ) → c.to_come ≡ Some u → TakesLooks c z from to → to ≤ from + most_looks_over s t u
 looks_within c z s t u from to e k =
     let few = consumed c.to_come z.to_come u k.text e k.front.told in
     let up = squares_rise (length k.text + 1) (length s + length t + length u + 1) (omega (arith, few)) in
@@ -91,5 +91,5 @@ run_finished budget summary x y a b c d text answers certificate e f g h i took 
     subst (λ s. Backs text budget summary answers s) (sym is_certified) (subst (λ s. Backs text budget summary s p.1) (sym is_answered) p.4)
 
 -- a verdict on what a finished run wrote is yes
-pub backed_yes : (budget : ℕ) (summary : Summary) (script answers certificate : List ℕ) (v : Verdict) → Backs script budget summary answers certificate → Says script answers certificate v → v ≡ Yes
+pub backed_yes : (budget : ℕ) (summary : Summary) (script answers certificate : List ℕ) (v : Verdict) → Backs script budget summary answers certificate → VerdictSays script answers certificate v → v ≡ Yes
 backed_yes budget summary script answers certificate v b s = s.exact.1 (backed_matches budget summary script answers certificate b)

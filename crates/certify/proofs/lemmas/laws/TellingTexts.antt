@@ -11,7 +11,7 @@ use Rattle.sat_base.specs.script.Judge.{Judge, Refusal, refusal_of, accepted, ac
 use Rattle.certify.specs.answers.Answers.{word_of, literals_text, outcome_text, answers_from, piece, outcomes_left}
 use Rattle.sat_checker.specs.matching.Expected.{Outcome, Sat, Unsat, Unknown}
 use Rattle.certify.specs.confirm.Matches.{OneEach}
-use Rattle.certify.specs.laws.Laws.{Prints, TextsTellOutcomes, AskBindsNothing}
+use Rattle.certify.specs.laws.Laws.{HasPrintableNames, TextsTellOutcomes, AskBindsNothing}
 
 -- neither a space nor LF
 abbrev pub Plain : List ℕ → Type 0
@@ -91,7 +91,7 @@ same_literals (l ∷ ls) (m ∷ ks) x y h k e =
     pair : (l m : Literal) (ls ks : List Literal) → l ≡ m → ls ≡ ks → (l ∷ ls) ≡ (m ∷ ks)
     pair l m ls ks h t = cc
 
-pub same_outcome : (v w : Outcome) (x y : List ℕ) → Prints v → Prints w → outcome_text v ++ x ≡ outcome_text w ++ y → (v ≡ w) × (x ≡ y)
+pub same_outcome : (v w : Outcome) (x y : List ℕ) → HasPrintableNames v → HasPrintableNames w → outcome_text v ++ x ≡ outcome_text w ++ y → (v ≡ w) × (x ≡ y)
 same_outcome (Sat a) (Sat b) x y h k e = let p = same_literals a b x y h k (let r : literals_text a ++ x ≡ literals_text b ++ y = cc in r) in (ap Sat p.0, p.1)
 same_outcome (Unsat a) (Unsat b) x y h k e = let p = same_literals a b x y h k (let r : literals_text a ++ x ≡ literals_text b ++ y = cc in r) in (ap Unsat p.0, p.1)
 same_outcome Unknown Unknown x y h k e = (refl, cc)
@@ -102,19 +102,19 @@ same_outcome Unknown (Sat b) x y h k e = let r : ◌≡◌ {A = ℕ} 85 83 = cc 
 same_outcome (Unsat a) Unknown x y h k e = let r : ◌≡◌ {A = ℕ} 83 75 = cc in absurd (omega arith)
 same_outcome Unknown (Unsat b) x y h k e = let r : ◌≡◌ {A = ℕ} 75 83 = cc in absurd (omega arith)
 
-same_outcomes : (commands : List Command) (n : ℕ) (j : Judge) (ending : Ending) (vs ws : List Outcome) → OneEach (accepted_of j commands) vs → OneEach (accepted_of j commands) ws → AllByRecursion Prints vs → AllByRecursion Prints ws → answers_from n j commands ending vs ≡ answers_from n j commands ending ws → vs ≡ ws
+same_outcomes : (commands : List Command) (n : ℕ) (j : Judge) (ending : Ending) (vs ws : List Outcome) → OneEach (accepted_of j commands) vs → OneEach (accepted_of j commands) ws → AllByRecursion HasPrintableNames vs → AllByRecursion HasPrintableNames ws → answers_from n j commands ending vs ≡ answers_from n j commands ending ws → vs ≡ ws
 same_outcomes [] n j ending [] [] o u p q e = refl
 same_outcomes [] n j ending [] (w ∷ ws) o u p q e = absurd u
 same_outcomes [] n j ending (v ∷ vs) ws o u p q e = absurd o
 same_outcomes (command ∷ commands) n j ending vs ws o u p q e =
     go command (refusal_of j command) (same_outcomes commands (n + 1) j ending) (same_outcomes commands (n + 1) (accepted command j) ending) vs ws o u p q e
   where
-    go : (command : Command) (r : Option Refusal) → ((vs ws : List Outcome) → OneEach (accepted_of j commands) vs → OneEach (accepted_of j commands) ws → AllByRecursion Prints vs → AllByRecursion Prints ws → answers_from (n + 1) j commands ending vs ≡ answers_from (n + 1) j commands ending ws → vs ≡ ws)
-        → ((vs ws : List Outcome) → OneEach (accepted_of (accepted command j) commands) vs → OneEach (accepted_of (accepted command j) commands) ws → AllByRecursion Prints vs → AllByRecursion Prints ws → answers_from (n + 1) (accepted command j) commands ending vs ≡ answers_from (n + 1) (accepted command j) commands ending ws → vs ≡ ws)
+    go : (command : Command) (r : Option Refusal) → ((vs ws : List Outcome) → OneEach (accepted_of j commands) vs → OneEach (accepted_of j commands) ws → AllByRecursion HasPrintableNames vs → AllByRecursion HasPrintableNames ws → answers_from (n + 1) j commands ending vs ≡ answers_from (n + 1) j commands ending ws → vs ≡ ws)
+        → ((vs ws : List Outcome) → OneEach (accepted_of (accepted command j) commands) vs → OneEach (accepted_of (accepted command j) commands) ws → AllByRecursion HasPrintableNames vs → AllByRecursion HasPrintableNames ws → answers_from (n + 1) (accepted command j) commands ending vs ≡ answers_from (n + 1) (accepted command j) commands ending ws → vs ≡ ws)
         → (vs ws : List Outcome)
         → OneEach (cond (is_some r) (accepted_of j commands) (command ∷ accepted_of (accepted command j) commands)) vs
         → OneEach (cond (is_some r) (accepted_of j commands) (command ∷ accepted_of (accepted command j) commands)) ws
-        → AllByRecursion Prints vs → AllByRecursion Prints ws
+        → AllByRecursion HasPrintableNames vs → AllByRecursion HasPrintableNames ws
         → piece n r command vs ++ answers_from (n + 1) (cond (is_some r) j (accepted command j)) commands ending (outcomes_left r command vs)
         ≡ piece n r command ws ++ answers_from (n + 1) (cond (is_some r) j (accepted command j)) commands ending (outcomes_left r command ws)
         → vs ≡ ws

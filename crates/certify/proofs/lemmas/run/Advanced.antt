@@ -24,14 +24,14 @@ use Rattle.sat_checker.proofs.lemmas.sets.Members.{canonical_each}
 use Rattle.sat_checker.proofs.lemmas.sets.Order.{among-append}
 use Rattle.sat_checker.proofs.lemmas.sets.Rising.{canonical_stays}
 use Rattle.sat_solver.specs.session.Session.{Session, changed, after, last_after, session_after, with_clause, with_sorted, with_fact, with_facts, with_live, IsLive, denied}
-use Rattle.sat_solver.specs.session.Widths.{narrowed, KeepsWidth, kept_bits}
-use Rattle.sat_solver.specs.session.Counting.{Cuts, none_made, ask_begun, one_made, counted}
-use Rattle.sat_solver.specs.joint.Advancing as made
-use Rattle.sat_solver.specs.joint.Quiet.{NeverAdvances, others_of}
-use Rattle.sat_solver.specs.search.Solving as made_steps
-use Rattle.sat_solver.specs.declared.session.counting.Counting.{Counting}
+use Rattle.sat_solver.specs.proof.Widths.{narrowed, KeepsWidth, kept_bits}
+use Rattle.sat_solver.specs.proof.Counting.{TruncatesHashes, none_made, ask_begun, one_made, counted}
+use Rattle.sat_solver.specs.session.Advancing as made
+use Rattle.sat_solver.specs.session.Quiet.{NeverAdvances, others_of}
+use Rattle.sat_solver.specs.schedule.Solving as made_steps
+use Rattle.sat_solver.specs.declared.proof.hash_bits.Counting.{Counting}
 use Rattle.sat_solver.proofs.lemmas.session.Mapped.{among_mapped}
-use Rattle.certify.specs.run.Advancing.{Leads, leads_none, leads_one, supposed, IsOpenStill, LeavesOpen, Advances, IsAdvancing}
+use Rattle.certify.specs.run.Advancing.{PropagatesTo, leads_none, leads_one, supposed, IsOpenStill, LeavesOpen, Advances, IsAdvancing}
 
 -- A SESSION IS WHAT STEPS MAKE OF THE CONTENTS
 abbrev session_of : Contents → Option (List ℕ) → Session
@@ -151,7 +151,7 @@ told_wide true now written c x e = (x, e)
 told_wide false now written c x e = (now, ap (wide now) e)
 
 -- what was written has the contents of what was made, but for the width
-pub cuts_contents : {c d : Counting} {m w : List Step} → Cuts c m w d → (x : ℕ) × (contents_of w ≡ wide x (contents_of m))
+pub cuts_contents : {c d : Counting} {m w : List Step} → TruncatesHashes c m w d → (x : ℕ) × (contents_of w ≡ wide x (contents_of m))
 cuts_contents none_made = (64, refl)
 cuts_contents (ask_begun p) = cuts_contents p
 cuts_contents (one_made {d = d} {made = made} {written = written} step k p) =
@@ -219,7 +219,7 @@ false_by : (o : ℕ) (start : List ℕ) (holds : ℕ → Bool) → ((m : ℕ) �
 false_by o start holds h l (inl e) = inl e
 false_by o start holds h l (inr e) = inr (sym (h (negated l)) ∙ e)
 
-leads_on : (steps : List Step) (s : Session) → IsSame (ready_after steps) s → {start reached : List ℕ} → Leads (ready_after steps) start reached → (holds : ℕ → Bool) → ((m : ℕ) → is_among start m ≡ holds m)
+leads_on : (steps : List Step) (s : Session) → IsSame (ready_after steps) s → {start reached : List ℕ} → PropagatesTo (ready_after steps) start reached → (holds : ℕ → Bool) → ((m : ℕ) → is_among start m ≡ holds m)
     → (picked : List (List ℕ)) × made.LeadsOn s holds picked (is_among reached)
 leads_on steps s same leads_none holds h = ([], λ l e. sym (h l) ∙ e)
 leads_on steps s same {start} {reached} (leads_one clause o a u rest) holds h =
@@ -328,7 +328,7 @@ still_by start holds h o m (inr k) = inr (h (negated m) ∙ k)
 
 module _ (steps : List Step) (s : Session) (same : IsSame (ready_after steps) s) (l : ℕ) where
   abbrev StaysOpen : List ℕ → Type 0
-  StaysOpen start = (reached : List ℕ) → Leads (ready_after steps) start reached → IsOpenStill (ready_after steps) l reached
+  StaysOpen start = (reached : List ℕ) → PropagatesTo (ready_after steps) start reached → IsOpenStill (ready_after steps) l reached
 
   falsified_by : (start : List ℕ) (holds : ℕ → Bool) → ((m : ℕ) → is_among start m ≡ holds m) → (c : List ℕ) → AllByRecursion (λ m. holds (negated m) ≡ true) c → IsFalsified start (canonical c)
   falsified_by start holds h c k = canonical_each (λ m. is_among start (negated m) ≡ true) c (each_so (λ m. holds (negated m) ≡ true) (λ m. is_among start (negated m) ≡ true) (λ m e. h (negated m) ∙ e) c k)

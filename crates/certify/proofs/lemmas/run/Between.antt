@@ -9,12 +9,12 @@ use Rattle.sat_checker.specs.Stored.{Stored}
 use Rattle.sat_checker.specs.matching.Checking.{is_ordered}
 use Rattle.sat_checker.specs.matching.ProofChecking.{the_checking}
 use Rattle.sat_checker.proofs.lemmas.contents.Steps.{contents_of_steps}
-use Rattle.sat_solver.specs.declared.session.counting.Counting.{Counting}
-use Rattle.sat_solver.specs.joint.Quiet.{NeverAdvances}
-use Rattle.sat_solver.specs.search.Solving as made
-use Rattle.sat_solver.specs.session.Counting.{Cuts, none_made, ask_begun, one_made, width_told, written_for, counted}
+use Rattle.sat_solver.specs.declared.proof.hash_bits.Counting.{Counting}
+use Rattle.sat_solver.specs.session.Quiet.{NeverAdvances}
+use Rattle.sat_solver.specs.schedule.Solving as made
+use Rattle.sat_solver.specs.proof.Counting.{TruncatesHashes, none_made, ask_begun, one_made, width_told, written_for, counted}
 use Rattle.sat_solver.specs.session.Session.{Session, session_after}
-use Rattle.sat_solver.specs.session.Widths.{narrowed}
+use Rattle.sat_solver.specs.proof.Widths.{narrowed}
 use Rattle.certify.specs.run.Advancing.{IsAdvancing, AdvanceTimes, AreUnordered}
 use Rattle.certify.proofs.lemmas.run.Advanced.{IsSame, advancing_as, cuts_contents, is_same, never_as, told_wide}
 
@@ -90,7 +90,7 @@ asides_contents (s ∷ front) earlier h = aside_unsat (contents_of (front ++ ear
 pub asides_unsat : (front earlier : List Step) → AreAside front → the_checking.unsat (front ++ earlier) ≡ the_checking.unsat earlier
 asides_unsat front earlier h = unsat_is (front ++ earlier) ∙ asides_contents front earlier h ∙ sym (unsat_is earlier)
 
-pub cut_unsat : {c d : Counting} {m w : List Step} → Cuts c m w d → the_checking.unsat w ≡ the_checking.unsat m
+pub cut_unsat : {c d : Counting} {m w : List Step} → TruncatesHashes c m w d → the_checking.unsat w ≡ the_checking.unsat m
 cut_unsat {m = m} {w = w} p = unsat_is w ∙ ap (λ (x : Contents). x.unsat) (cuts_contents p).1 ∙ sym (unsat_is m)
 
 -- BETWEEN TWO PLACES
@@ -100,7 +100,7 @@ pub record Split (c : Counting) (made written : List Step) : Type 0 where
   pub back : List Step
   pub mid : Counting
   pub whole : written ≡ front ++ back
-  pub cuts : Cuts c made back mid
+  pub cuts : TruncatesHashes c made back mid
 
 pub none_first : {A : Type 0} (s : Step) (ss : List Step) → ◌≡◌ {A = List Step} [] (s ∷ ss) → A
 none_first s ss e = absurd (cc)
@@ -111,8 +111,8 @@ same_later s t ss ts e = cc
 pub same_first : (s t : Step) (ss ts : List Step) → ◌≡◌ {A = List Step} (s ∷ ss) (t ∷ ts) → s ≡ t
 same_first s t ss ts e = cc
 
-pub split : {c d : Counting} {m w : List Step} → Cuts c m w d → (later made : List Step) → m ≡ later ++ made → Split c made w
-split {c} {d} {m} {w} p [] made e = record { front = []; back = w; mid = d; whole = refl; cuts = subst (λ (n : List Step). Cuts c n w d) e p }
+pub split : {c d : Counting} {m w : List Step} → TruncatesHashes c m w d → (later made : List Step) → m ≡ later ++ made → Split c made w
+split {c} {d} {m} {w} p [] made e = record { front = []; back = w; mid = d; whole = refl; cuts = subst (λ (n : List Step). TruncatesHashes c n w d) e p }
 split none_made (s ∷ later) made e = none_first s (later ++ made) e
 split {c} {d} {m} {w} (ask_begun {d = k} p) (s ∷ later) made e = split {c = c} {d = k} {m = m} {w = w} p (s ∷ later) made e
 split (one_made {d = d} {made = m} {written = w} step k p) (s ∷ later) made e =
@@ -149,7 +149,7 @@ pub record Timed (c : Counting) (opened written steps : List Step) (k : ℕ) : T
   pub before : List Step
   pub mid : Counting
   pub whole : written ≡ middle ++ before
-  pub cuts : Cuts c opened before mid
+  pub cuts : TruncatesHashes c opened before mid
   pub times : AdvanceTimes before middle k
   pub unordered : AreUnordered steps → AreUnordered middle
 
@@ -161,9 +161,9 @@ pub record Head (c : Counting) (step : Step) (made written : List Step) : Type 0
   pub mid : Counting
   pub whole : written ≡ narrowed bits step ∷ (told ++ back)
   pub aside : AreAside told
-  pub cuts : Cuts c made back mid
+  pub cuts : TruncatesHashes c made back mid
 
-pub head_cut : {c d : Counting} {m w : List Step} → Cuts c m w d → (step : Step) (made : List Step) → m ≡ step ∷ made → Head c step made w
+pub head_cut : {c d : Counting} {m w : List Step} → TruncatesHashes c m w d → (step : Step) (made : List Step) → m ≡ step ∷ made → Head c step made w
 head_cut none_made step made e = none_first step made e
 head_cut {c} {d} {m} {w} (ask_begun {d = k} p) step made e = head_cut {c = c} {d = k} {m = m} {w = w} p step made e
 head_cut {c} (one_made {d = d} {made = m} {written = w} s k p) step made e =
@@ -175,22 +175,22 @@ head_cut {c} (one_made {d = d} {made = m} {written = w} s k p) step made e =
       mid = d;
       whole = ap (λ (x : Step). narrowed now x ∷ (width_told d.bits now ++ w)) (same_first s step m made e);
       aside = told_aside d.bits now;
-      cuts = subst (λ (ms : List Step). Cuts c ms w d) (same_later s step m made e) p;
+      cuts = subst (λ (ms : List Step). TruncatesHashes c ms w d) (same_later s step m made e) p;
     }
 
 -- what is written at a step
 record Here (d : Counting) (step : Step) (m w : List Step) : Type 0 where
   same : IsSame (ready_after (width_told d.bits (counted step d).bits ++ w)) (session_after m)
 
-here : {c d : Counting} {m w : List Step} (step : Step) → Cuts c m w d → Here d step m w
+here : {c d : Counting} {m w : List Step} (step : Step) → TruncatesHashes c m w d → Here d step m w
 here {d = d} {m = m} {w = w} step p =
     let now = (counted step d).bits in
     let h = cuts_contents p in
     let wider = told_wide (nat_eq d.bits now) now w (contents_of m) h.0 h.1 in
     record { same = is_same (width_told d.bits now ++ w) m wider.0 wider.1 }
 
-pub timed : {c d : Counting} {m w : List Step} → Cuts c m w d → (steps opened : List Step) (k : ℕ) → m ≡ steps ++ opened → made.AdvanceTimes opened steps k → Timed c opened w steps k
-timed {c} {d} {m} {w} p [] opened k e t = record { middle = []; before = w; mid = d; whole = refl; cuts = subst (λ (n : List Step). Cuts c n w d) e p; times = t; unordered = λ u. tt }
+pub timed : {c d : Counting} {m w : List Step} → TruncatesHashes c m w d → (steps opened : List Step) (k : ℕ) → m ≡ steps ++ opened → made.AdvanceTimes opened steps k → Timed c opened w steps k
+timed {c} {d} {m} {w} p [] opened k e t = record { middle = []; before = w; mid = d; whole = refl; cuts = subst (λ (n : List Step). TruncatesHashes c n w d) e p; times = t; unordered = λ u. tt }
 timed none_made (s ∷ steps) opened k e t = none_first s (steps ++ opened) e
 timed {c} {d} {m} {w} (ask_begun {d = b} p) (s ∷ steps) opened k e t = timed {c = c} {d = b} {m = m} {w = w} p (s ∷ steps) opened k e t
 timed (one_made {d = d} {made = m} {written = w} step kw p) (s ∷ steps) opened k e (inl (t, still)) =

@@ -12,15 +12,15 @@ use Rattle.sat_checker.specs.matching.Expected as expecting
 use Rattle.sat_checker.specs.matching.Expected.{Outcome, Sat, Unsat, Unknown, Expected, NewName, NoName, Adds, Opens, Shows, Fails, Closes, Finish, Fits, bringing, hiding, setting}
 use Rattle.sat_checker.specs.matching.ProofChecking.{the_checking}
 use Rattle.sat_checker.specs.matching.Traces.{HasTrace, no_step, silent, visible}
-use Rattle.sat_solver.specs.declared.session.counting.Counting.{Counting}
-use Rattle.sat_solver.specs.session.Counting.{Cuts, none_made, ask_begun, one_made, counted}
-use Rattle.sat_solver.specs.session.Widths.{narrowed}
-use Rattle.sat_solver.specs.names.Coming.{MayTake}
-use Rattle.sat_solver.specs.search.Solving as made
-use Rattle.sat_solver.specs.session.Coming.{EachComes}
+use Rattle.sat_solver.specs.declared.proof.hash_bits.Counting.{Counting}
+use Rattle.sat_solver.specs.proof.Counting.{TruncatesHashes, none_made, ask_begun, one_made, counted}
+use Rattle.sat_solver.specs.proof.Widths.{narrowed}
+use Rattle.sat_solver.specs.variables.Coming.{MayTake}
+use Rattle.sat_solver.specs.schedule.Solving as made
+use Rattle.sat_solver.specs.session.Coming.{EachIsAllowed}
 use Rattle.certify.specs.run.Advancing.{AdvanceTimes, AreUnordered}
 use Rattle.certify.specs.run.Learning.{assumed_times, LearnsIn, EachLearns}
-use Rattle.certify.specs.serving.Stretches.{IsNoAsk, Stretch, AskStretches, Learns, MadeFor, due_for, made_none, made_one, made_ask, showing_if}
+use Rattle.certify.specs.run.Stretches.{IsNoAsk, Stretch, AskStretches, Learns, MadeFor, due_for, made_none, made_one, made_ask, showing_if}
 use Rattle.certify.proofs.lemmas.run.Between.{IsAside, index_aside, width_aside, AreAside, Head, Split, Timed, append_unordered, asides_never, asides_still, asides_unordered, asides_unsat, behind_asides, cut_unsat, head_cut, split, timed}
 
 -- STEPS BEHIND STEPS
@@ -120,11 +120,11 @@ closing expecting.closes = refl
 abbrev ComesThere : (List Step → Step → Type 0) → List Step → Type 0
 ComesThere May = AllByRecursion (λ step. (earlier : List Step) × May earlier step)
 
-first_come : (May : List Step → Step → Type 0) (earlier xs ys : List Step) → EachComes May earlier (xs ++ ys) → ComesThere May xs
+first_come : (May : List Step → Step → Type 0) (earlier xs ys : List Step) → EachIsAllowed May earlier (xs ++ ys) → ComesThere May xs
 first_come May earlier [] ys h = tt
 first_come May earlier (x ∷ xs) ys h = (((xs ++ ys) ++ earlier, h.1), first_come May earlier xs ys h.0)
 
-later_come : (May : List Step → Step → Type 0) (earlier xs ys : List Step) → EachComes May earlier (xs ++ ys) → EachComes May earlier ys
+later_come : (May : List Step → Step → Type 0) (earlier xs ys : List Step) → EachIsAllowed May earlier (xs ++ ys) → EachIsAllowed May earlier ys
 later_come May earlier [] ys h = h
 later_come May earlier (x ∷ xs) ys h = later_come May earlier xs ys h.0
 
@@ -152,14 +152,14 @@ module _ (names : List ℕ) (from to : List Step) (es : List Expected) (st : Str
   steps_are : st.comes.steps ≡ d.behind ++ (d.step ∷ d.front)
   steps_are = append_cancel_right st.comes.steps (d.behind ++ (d.step ∷ d.front)) from (sym st.comes.behind ∙ d.whole ∙ sym (append_assoc d.behind (d.step ∷ d.front) from))
 
-  each : EachComes (MayTake names) from (d.behind ++ (d.step ∷ d.front))
-  each = subst (EachComes (MayTake names) from) steps_are st.comes.each
+  each : EachIsAllowed (MayTake names) from (d.behind ++ (d.step ∷ d.front))
+  each = subst (EachIsAllowed (MayTake names) from) steps_are st.comes.each
 
   behind_aside : AreAside d.behind
   behind_aside = aside_each names d.behind (first_come (MayTake names) from d.behind (d.step ∷ d.front) each) d.unordered
 
-  front_each : EachComes (MayTake names) from (d.front ++ [])
-  front_each = subst (EachComes (MayTake names) from) (sym (append-nil d.front)) (later_come (MayTake names) from d.behind (d.step ∷ d.front) each).0
+  front_each : EachIsAllowed (MayTake names) from (d.front ++ [])
+  front_each = subst (EachIsAllowed (MayTake names) from) (sym (append-nil d.front)) (later_come (MayTake names) from d.behind (d.step ∷ d.front) each).0
 
   front_aside : fs ≡ [] → AreAside d.front
   front_aside z = aside_each names d.front (first_come (MayTake names) from d.front [] front_each) (d.alone z)
@@ -276,7 +276,7 @@ narrowed_times bits (FailedAssumptions core hs) m w e = e
 narrowed_times bits End m w e = e
 
 -- what is written assumes as often as what was made
-cut_times : {c d : Counting} {m w : List Step} → Cuts c m w d → assumed_times w ≡ assumed_times m
+cut_times : {c d : Counting} {m w : List Step} → TruncatesHashes c m w d → assumed_times w ≡ assumed_times m
 cut_times none_made = refl
 cut_times (ask_begun p) = cut_times p
 cut_times (one_made {d = d} {made = m} {written = w} step k p) =
@@ -403,7 +403,7 @@ module _ (j : Judge) (ls : List Literal) (o : Outcome) (n : ℕ) (from to : List
       omega (arith, opened, shown, none, closed)
 
 -- and in what is written
-module _ {c d : Counting} {whole steps : List Step} (p : Cuts c whole steps d) (asks n : ℕ) (o : Outcome) (from to : List Step) (m : MadeAsk from to o n)
+module _ {c d : Counting} {whole steps : List Step} (p : TruncatesHashes c whole steps d) (asks n : ℕ) (o : Outcome) (from to : List Step) (m : MadeAsk from to o n)
     (ext : Ext to whole) (at : assumed_times from ≡ 2 * asks) (shut : assumed_times to ≡ assumed_times from + 2) where
   abbrev opened : List Step
   opened = Assumptions m.ask ∷ m.before
@@ -469,7 +469,7 @@ module _ {c d : Counting} {whole steps : List Step} (p : Cuts c whole steps d) (
   }
 
 each_learns : (c d : Counting) {j : Judge} {s t : List Step} {cs : List Command} {os : List Outcome} {ns : List ℕ} (asks : ℕ) (whole steps : List Step)
-    → MadeFor j s t cs os ns → assumed_times s ≡ 2 * asks → Ext t whole → Cuts c whole steps d → EachLearns steps asks os ns
+    → MadeFor j s t cs os ns → assumed_times s ≡ 2 * asks → Ext t whole → TruncatesHashes c whole steps d → EachLearns steps asks os ns
 each_learns c d asks whole steps made_none before ext p = tt
 each_learns c d {j = j} {s = s} asks whole steps (made_one {c = command} mid i st rest) before ext p =
     let here = makes_times st.due in
@@ -483,5 +483,5 @@ each_learns c d {j = j} {s = s} asks whole steps (made_ask {ls = ls} {o = o} {n 
 
 -- each ask of a run is such
 pub asks_learn : {j : Judge} {made steps : List Step} {commands : List Command} {outcomes : List Outcome} {counts : List ℕ} (c d : Counting)
-    → MadeFor j [] made commands outcomes counts → Cuts c (End ∷ made) steps d → EachLearns steps 0 outcomes counts
+    → MadeFor j [] made commands outcomes counts → TruncatesHashes c (End ∷ made) steps d → EachLearns steps 0 outcomes counts
 asks_learn {made = made} {steps = steps} c d m p = each_learns c d 0 (End ∷ made) steps m refl (End ∷ [], refl) p

@@ -10,48 +10,48 @@ use Rattle.sat_base.specs.steps.Steps.{Step, End}
 use Rattle.sat_base.proofs.lemmas.device.Writes as writes
 use Rattle.sat_checker.specs.matching.Expected.{Finish, expected, finish}
 use Rattle.sat_checker.specs.matching.ProofChecking.{the_checking}
-use Rattle.sat_solver.specs.declared.session.format.ProofFormat.TheVariants.{Varisat}
-use Rattle.sat_solver.specs.session.Counting.{start as uncounted}
+use Rattle.sat_solver.specs.declared.proof.format.ProofFormat.TheVariants.{Varisat}
+use Rattle.sat_solver.specs.proof.Counting.{start as uncounted}
 use Rattle.sat_solver.specs.session.Making.{Took, Broke}
-use Rattle.sat_solver.specs.session.OutputView.{text_in}
-use Rattle.sat_solver.specs.session.ProofTexts.{TookText}
-use Rattle.sat_solver.specs.session.ProofView.{Closed, Open, Broken, Carries, Stops, Gives, TakesAll, is_open, target_of}
+use Rattle.sat_solver.specs.proof.OutputView.{text_in}
+use Rattle.sat_solver.specs.proof.ProofTexts.{TookText}
+use Rattle.sat_solver.specs.proof.ProofView.{Closed, Open, Broken, Carries, Stops, Gives, TakesAll, is_open, target_of}
 use Rattle.sat_solver.specs.session.Session.{MayAll}
 use Rattle.sat_solver.specs.solver.Fronts.{Went}
 use Rattle.sat_solver.specs.solver.Whole.{HasFullStore, steps_in}
 use Rattle.sat_solver.proofs.lemmas.session.CutsLemmas.{cuts_are_free}
 use Rattle.sat_solver.proofs.lemmas.session.ProofLemmas.{closed_is_text}
 use Rattle.sat_solver.proofs.lemmas.session.StepLemmas.{sessions_are_accepted}
-use Rattle.certify.specs.Calls.{NoneFailed, OneFailed}
+use Rattle.certify.specs.Devices.{NoneFailed, OneFailed}
 use Rattle.certify.specs.answers.Answers.{answers_from, answers_text}
 use Rattle.certify.specs.confirm.Streams.{Covers, rest_in}
 use Rattle.certify.specs.declared.fault.RunFault.{RunFault}
 use Rattle.certify.specs.declared.fault.RunFault.TheVariants as fault
-use Rattle.certify.specs.declared.serving.session.Session.{Session}
+use Rattle.certify.specs.declared.run.session.Session.{Session}
 use Rattle.certify.specs.declared.summary.AskReport.{AskReport}
 use Rattle.certify.specs.declared.summary.Summary.{Summary}
-use Rattle.certify.specs.declared.ahead.Ahead.{Ahead}
-use Rattle.certify.specs.reading.Ahead.{source_in, waiting}
+use Rattle.certify.specs.declared.script.ahead.Ahead.{Ahead}
+use Rattle.certify.specs.script.Ahead.{source_in, waiting}
 use Rattle.sat_base.specs.script.Language.{reading, written}
 use Rattle.certify.specs.run.FinishedRun.{Answered, Answers, Backs, TookCertificate, asked_steps, identities_given, malformed_at, AreSpent}
 use Rattle.certify.specs.run.Running.{ReadsFew, Runs, Wrote}
 use Rattle.certify.specs.run.Unfinished.{CounterEnds, Exceeds, StepsFront, TookFront, TookSteps, Unfinished}
-use Rattle.certify.specs.serving.Calls.{IsCaused, Faults, IsReady, proof_in}
-use Rattle.certify.specs.serving.Certifies.{Certifies, complete, ordered}
-use Rattle.certify.specs.serving.Ending.{ClosedBy, EndsRun, GivenBack, GivesFront, HasTarget, IsOpen, SumsUp}
-use Rattle.certify.specs.serving.Standing.{place_in}
-use Rattle.certify.specs.serving.Stretches.{MadeFor}
-use Rattle.certify.specs.serving.Whole.{Ends, FailsWhole, ServesWhole}
+use Rattle.certify.specs.run.SolverCalls.{IsCaused, FaultSays, IsReady, proof_in}
+use Rattle.certify.specs.run.Certifies.{Certifies, complete, ordered}
+use Rattle.certify.specs.run.Ending.{ClosedBy, EndsRun, GivenBack, GivesFront, HasTarget, HasOpenTarget, SumsUp}
+use Rattle.certify.specs.run.Standing.{place_in}
+use Rattle.certify.specs.run.Stretches.{MadeFor}
+use Rattle.certify.specs.run.ServedScript.{ServesScript, FailsWhole, ServesWhole}
 use Rattle.certify.proofs.lemmas.run.Unhidden.{none_deletes}
 use Rattle.certify.proofs.lemmas.run.Learned.{asks_learn}
 use Rattle.certify.proofs.lemmas.confirm.Streams.{faulted_front, gave_enough, passed_front, read_fails}
-use Rattle.certify.proofs.lemmas.matching.Joining.{covers_given, took_kept}
-use Rattle.certify.proofs.lemmas.serving.MadeCertifies.{made_certifies}
-use Rattle.certify.proofs.lemmas.serving.ProofFronts.{went_broke, went_took}
-use Rattle.certify.proofs.lemmas.serving.SessionCalls.{broke_later, took_both}
-use Rattle.certify.proofs.lemmas.serving.Stopping.{front_whole}
-use Rattle.certify.proofs.lemmas.serving.Written.{written_certifies}
-use Rattle.certify.specs.serving.Quiet.{Proof}
+use Rattle.certify.proofs.lemmas.confirm.Joining.{covers_given, took_kept}
+use Rattle.certify.proofs.lemmas.run.MadeCertifies.{made_certifies}
+use Rattle.certify.proofs.lemmas.run.ProofFronts.{went_broke, went_took}
+use Rattle.certify.proofs.lemmas.run.SessionCalls.{broke_later, took_both}
+use Rattle.certify.proofs.lemmas.run.Stopping.{front_whole}
+use Rattle.certify.proofs.lemmas.run.Written.{written_certifies}
+use Rattle.certify.specs.run.Quiet.{Proof}
 
 -- a session before its first command, whose certificate is written to this writer
 pub record IsNew {C : Type 0} (seen : C → Writer) (budget : ℕ) (certificate : Writer) (s : Session C) : Type 0 where
@@ -200,7 +200,7 @@ one_both u v w n m = (let a = n.0 in let b = m.0 in omega arith, m.1, m.2 ∙ n.
 
 module _ {C : Type 0} (seen : C → Writer) (budget : ℕ) (w : Writer) (s t : Session C) (fresh : IsNew seen budget w s) (x : Reader) (b : Source) (bounded : b.reads ≤ most_reads) (given : C) (u v z : Writer) where
   -- all was served, and the end isn't finished
-  ended_fault : (e : RunFault) (at : Option ℕ) → Ends seen start reading written (Ok at) (unread x) b s t u v → Faults e (OneFailed v z × ClosedBy seen t.solver given) (NoneFailed v z × GivenBack seen Broke t.solver given) (NoneFailed v z × GivenBack seen Took t.solver given)
+  ended_fault : (e : RunFault) (at : Option ℕ) → ServesScript seen start reading written (Ok at) (unread x) b s t u v → FaultSays e (OneFailed v z × ClosedBy seen t.solver given) (NoneFailed v z × GivenBack seen Broke t.solver given) (NoneFailed v z × GivenBack seen Took t.solver given)
       → Runs (Err e) budget (x, b.reader) (u, z) (w, seen given)
   ended_fault fault.ScriptRead at h f = absurd f
   ended_fault fault.AnswersWrite at h f =
@@ -229,7 +229,7 @@ module _ {C : Type 0} (seen : C → Writer) (budget : ℕ) (w : Writer) (s t : S
   served_fault fault.StoreFull h same g = (h.0.1.failures, subst (NoneFailed u) (sym same) h.1, given_none seen w (proof_in s.solver) (proof_in t.solver) fresh.target (seen given) h.2 g)
   served_fault fault.CounterEnd h same g = (h.0.1.failures, subst (NoneFailed u) (sym same) h.1, given_none seen w (proof_in s.solver) (proof_in t.solver) fresh.target (seen given) h.2 g)
 
-  pub runs_so : (served : Result (Option ℕ) RunFault) (r : Result Summary RunFault) → Ends seen start reading written served (unread x) b s t u v → EndsRun seen served r t given v z → Runs r budget (x, b.reader) (u, z) (w, seen given)
+  pub runs_so : (served : Result (Option ℕ) RunFault) (r : Result Summary RunFault) → ServesScript seen start reading written served (unread x) b s t u v → EndsRun seen served r t given v z → Runs r budget (x, b.reader) (u, z) (w, seen given)
   runs_so (Ok at) (Ok summary) h f =
       let k = h.2 b.reader.given (covers_given b) in
       let all = rest_in b.reader.given (unread x) in
@@ -261,7 +261,7 @@ module _ {C : Type 0} (seen : C → Writer) (budget : ℕ) (w : Writer) (s t : S
   served_front fault.StoreFull h f = passed_front 1 x b h.0.0 (λ text. Front text z) h.0.1 f
   served_front fault.CounterEnd h f = passed_front 1 x b h.0.0 (λ text. Front text z) h.0.1 f
 
-  pub unfinished_so : (served : Result (Option ℕ) RunFault) (r : Result Summary RunFault) → Ends seen start reading written served (unread x) b s t u v → EndsRun seen served r t given v z → OnErr r (Unfinished (x, b.reader) (u, z))
+  pub unfinished_so : (served : Result (Option ℕ) RunFault) (r : Result Summary RunFault) → ServesScript seen start reading written served (unread x) b s t u v → EndsRun seen served r t given v z → OnErr r (Unfinished (x, b.reader) (u, z))
   unfinished_so (Ok at) (Ok summary) h f = tt
   unfinished_so (Ok at) (Err e) h f = passed_front 1 x b h.0.0.0 (λ text. Front text z) h.0.0.1
       (λ total k.
@@ -282,7 +282,7 @@ module _ {C : Type 0} (seen : C → Writer) (budget : ℕ) (w : Writer) (s t : S
       passed_front 1 x b h.0.0 (λ text. Exceeds 0 start (reading text)) h.0.1
       (λ total y. subst (λ n. Exceeds n start (reading (rest_in total (unread x)))) fresh.commands (k total y))
 
-  pub counter_so : (served : Result (Option ℕ) RunFault) (r : Result Summary RunFault) → Ends seen start reading written served (unread x) b s t u v → EndsRun seen served r t given v z → IsErrOf r fault.CounterEnd → CounterEnds (x, b.reader)
+  pub counter_so : (served : Result (Option ℕ) RunFault) (r : Result Summary RunFault) → ServesScript seen start reading written served (unread x) b s t u v → EndsRun seen served r t given v z → IsErrOf r fault.CounterEnd → CounterEnds (x, b.reader)
   counter_so (Ok at) (Ok summary) h f q = absurd (cc)
   counter_so (Ok at) (Err e) h f q = let k : e ≡ fault.CounterEnd = cc in absurd (subst (λ i. IsCaused i ⊥ ⊥) k f.2)
   counter_so (Err e) r h f q = let k : ◌≡◌ {A = Result Summary RunFault} (Err e) (Err fault.CounterEnd) = sym f.0 ∙ q in served_end e (cc) h.0 h.2
@@ -296,7 +296,7 @@ module _ {C : Type 0} (seen : C → Writer) (budget : ℕ) (w : Writer) (s t : S
   fails_went fault.StoreFull h = went_took seen s.solver t.solver h.2
   fails_went fault.CounterEnd h = went_took seen s.solver t.solver h.2
 
-  pub steps_so : (served : Result (Option ℕ) RunFault) → Ends seen start reading written served (unread x) b s t u v → GivesFront seen t.solver given → TookSteps (w, seen given)
+  pub steps_so : (served : Result (Option ℕ) RunFault) → ServesScript seen start reading written served (unread x) b s t u v → GivesFront seen t.solver given → TookSteps (w, seen given)
   steps_so (Ok at) h g = g.front s.solver w fresh.target fresh.steps (went_took seen s.solver t.solver (h.2 b.reader.given (covers_given b)).took)
   steps_so (Err e) h g = g.front s.solver w fresh.target fresh.steps (fails_went e h.0)
 
@@ -311,7 +311,7 @@ module _ {C : Type 0} (seen : C → Writer) (budget : ℕ) (w : Writer) (s t : S
   few_faults fault.StoreFull h = few_by h.0.1.calls
   few_faults fault.CounterEnd h = few_by h.0.1.calls
 
-  pub reads_few : (served : Result (Option ℕ) RunFault) → Ends seen start reading written served (unread x) b s t u v → ReadsFew (x, b.reader)
+  pub reads_few : (served : Result (Option ℕ) RunFault) → ServesScript seen start reading written served (unread x) b s t u v → ReadsFew (x, b.reader)
   reads_few (Ok at) h = few_by (took_kept false (unread x) b h.0).1
   reads_few (Err e) h = few_faults e h.0
 
@@ -324,15 +324,15 @@ module _ {C : Type 0} (seen : C → Writer) (budget : ℕ) (w : Writer) (s t : S
   fails_some fault.StoreFull h = took_target seen w (proof_in s.solver) (proof_in t.solver) fresh.target h.2
   fails_some fault.CounterEnd h = took_target seen w (proof_in s.solver) (proof_in t.solver) fresh.target h.2
 
-  pub has_target : (served : Result (Option ℕ) RunFault) → Ends seen start reading written served (unread x) b s t u v → HasTarget seen t.solver
+  pub has_target : (served : Result (Option ℕ) RunFault) → ServesScript seen start reading written served (unread x) b s t u v → HasTarget seen t.solver
   has_target (Ok at) h = took_target seen w (proof_in s.solver) (proof_in t.solver) fresh.target (h.2 b.reader.given (covers_given b)).took
   has_target (Err e) h = fails_some e h.0
 
-  pub is_open_yet : (served : Result (Option ℕ) RunFault) → Ends seen start reading written served (unread x) b s t u v → OnOk served (IsOpen seen t.solver)
+  pub is_open_yet : (served : Result (Option ℕ) RunFault) → ServesScript seen start reading written served (unread x) b s t u v → OnOk served (HasOpenTarget seen t.solver)
   is_open_yet (Ok at) h = took_open_target seen w (proof_in s.solver) (proof_in t.solver) fresh.target (h.2 b.reader.given (covers_given b)).took
   is_open_yet (Err e) h = tt
 
-  pub is_ready : (served : Result (Option ℕ) RunFault) → Ends seen start reading written served (unread x) b s t u v → OnOk served (IsReady t.solver)
+  pub is_ready : (served : Result (Option ℕ) RunFault) → ServesScript seen start reading written served (unread x) b s t u v → OnOk served (IsReady t.solver)
   is_ready (Ok at) h = h.1
   is_ready (Err e) h = tt
 

@@ -14,11 +14,11 @@ use Rattle.sat_checker.specs.matching.Expected.{Outcome, Sat, Unsat, Unknown, Ex
 use Rattle.sat_checker.specs.matching.ProofChecking.{the_checking}
 use Rattle.sat_checker.specs.matching.Traces.{HasTrace, no_step, silent, visible}
 use Rattle.sat_solver.specs.session.Session.{Session, with_fact, with_facts, with_sorted, with_clause, knowing, changed, session_after, MayAll}
-use Rattle.sat_solver.specs.session.Widths.{narrowed}
-use Rattle.sat_solver.specs.session.Counting.{Cuts, none_made, ask_begun, one_made, width_told, counted}
-use Rattle.sat_solver.specs.declared.session.counting.Counting.{Counting}
+use Rattle.sat_solver.specs.proof.Widths.{narrowed}
+use Rattle.sat_solver.specs.proof.Counting.{TruncatesHashes, none_made, ask_begun, one_made, width_told, counted}
+use Rattle.sat_solver.specs.declared.proof.hash_bits.Counting.{Counting}
 use Rattle.certify.specs.run.Hiding.{HidesNothing}
-use Rattle.certify.specs.serving.Stretches.{due_for, showing_if, MadeFor, made_none, made_one, made_ask}
+use Rattle.certify.specs.run.Stretches.{due_for, showing_if, MadeFor, made_none, made_one, made_ask}
 
 -- STEPS THAT DON'T END, AND TAKE NO NAME BUT WHERE HIDING IS ALLOWED
 abbrev IsPlain : Bool → Step → Type 0
@@ -255,7 +255,7 @@ narrowed_delete bits (Assumptions ls) made written e = e
 narrowed_delete bits (FailedAssumptions core hs) made written e = e
 narrowed_delete bits End made written e = e
 
-cuts_delete : {c d : Counting} {made written : List Step} → Cuts c made written d → has_delete_var written ≡ has_delete_var made
+cuts_delete : {c d : Counting} {made written : List Step} → TruncatesHashes c made written d → has_delete_var written ≡ has_delete_var made
 cuts_delete none_made = refl
 cuts_delete (ask_begun k) = cuts_delete k
 cuts_delete (one_made {d = d} {made = made} {written = written} step keeps k) =
@@ -291,7 +291,7 @@ narrowed_goes_on bits (Assumptions ls) n e = cc
 narrowed_goes_on bits (FailedAssumptions core hs) n e = cc
 narrowed_goes_on bits End n e = n refl
 
-cuts_go_on : {c d : Counting} {made written : List Step} → Cuts c made written d → GoOn made → GoOn written
+cuts_go_on : {c d : Counting} {made written : List Step} → TruncatesHashes c made written d → GoOn made → GoOn written
 cuts_go_on none_made h = tt
 cuts_go_on (ask_begun k) h = cuts_go_on k h
 cuts_go_on (one_made {d = d} {written = written} step keeps k) h =
@@ -303,7 +303,7 @@ pub record EndsWith (steps : List Step) : Type 0 where
   pub last : steps ≡ End ∷ before
   pub goes_on : AllByRecursion (λ step. step ≢ End) before
 
-cuts_end : {c d : Counting} {all written : List Step} → Cuts c all written d → (made : List Step) → all ≡ End ∷ made → GoOn made → EndsWith written
+cuts_end : {c d : Counting} {all written : List Step} → TruncatesHashes c all written d → (made : List Step) → all ≡ End ∷ made → GoOn made → EndsWith written
 cuts_end none_made made e h = absurd cc
 cuts_end (ask_begun k) made e h = cuts_end k made e h
 cuts_end (one_made {d = d} {made = earlier} {written = written} step keeps k) made e h =
@@ -315,7 +315,7 @@ cuts_end (one_made {d = d} {made = earlier} {written = written} step keeps k) ma
       goes_on = told_goes_on d.bits (counted step d).bits written (cuts_go_on k (subst GoOn (sym rest) h));
     }
 
-module _ {j : Judge} {all written : List Step} {cs : List Command} {os : List Outcome} {counts : List ℕ} {c d : Counting} (follows : MadeFor j [] all cs os counts) (cuts : Cuts c (End ∷ all) written d) where
+module _ {j : Judge} {all written : List Step} {cs : List Command} {os : List Outcome} {counts : List ℕ} {c d : Counting} (follows : MadeFor j [] all cs os counts) (cuts : TruncatesHashes c (End ∷ all) written d) where
   pub none_deletes : AllByRecursion HidesNothing cs → MayAll all → has_delete_var written ≡ false
   none_deletes hides may = cuts_delete cuts ∙ none_deleted all may (made_plain false follows (none_allowed cs hides) tt)
 

@@ -1,9 +1,9 @@
 use Rattle.std.proofs.Common.{subst}
 use Rattle.sat_base.specs.device.Reading.{Source}
 use Rattle.sat_base.specs.script.Judge.{start}
-use Rattle.certify.specs.reading.Ahead.{source_in}
+use Rattle.certify.specs.script.Ahead.{source_in}
 use Rattle.sat_base.specs.script.Language.{reading, written}
-use Rattle.certify.specs.serving.Whole.{Ends}
+use Rattle.certify.specs.run.ServedScript.{ServesScript}
 use Rattle.certify.proofs.lemmas.run.Runs.{IsNew, counter_so, fresh_source, has_target, is_open_yet, is_ready, reads_few, runs_so, steps_so, unfinished_so}
 use Rattle.certify.proofs.run.answer.Goals as goal
 
@@ -19,7 +19,7 @@ end_run-requires-clause-ready g c =
     let v = A c.serve_all-served.new.answers in
     let n = c.new-session.ensures in
     let fresh : IsNew C c.args.budget (C c.args.certificate) s = record { steps = n.steps; target = n.target; rounds = n.rounds; budget_is = n.budget; commands = n.commands; refused = n.refused; asks = n.asks } in
-    let ends = subst (λ (a : Source). Ends C start reading written c.serve_all-served.result a b s t u v) (fresh_source S c.args.script.now c.new-stream.result.ahead c.new-stream.ensures.waiting c.new-stream.ensures.reads) c.serve_all-served.ensures in
+    let ends = subst (λ (a : Source). ServesScript C start reading written c.serve_all-served.result a b s t u v) (fresh_source S c.args.script.now c.new-stream.result.ahead c.new-stream.ensures.waiting c.new-stream.ensures.reads) c.serve_all-served.ensures in
     is_ready C c.args.budget (C c.args.certificate) s t fresh (S c.args.script.now) b c.serve_all-served.new.stream.ahead.bounded c.args.certificate u v v c.serve_all-served.result ends
 
 pub end_run-requires-clause-target : goal.end_run-requires-clause-target
@@ -34,7 +34,7 @@ end_run-requires-clause-target g c =
     let v = A c.serve_all-served.new.answers in
     let n = c.new-session.ensures in
     let fresh : IsNew C c.args.budget (C c.args.certificate) s = record { steps = n.steps; target = n.target; rounds = n.rounds; budget_is = n.budget; commands = n.commands; refused = n.refused; asks = n.asks } in
-    let ends = subst (λ (a : Source). Ends C start reading written c.serve_all-served.result a b s t u v) (fresh_source S c.args.script.now c.new-stream.result.ahead c.new-stream.ensures.waiting c.new-stream.ensures.reads) c.serve_all-served.ensures in
+    let ends = subst (λ (a : Source). ServesScript C start reading written c.serve_all-served.result a b s t u v) (fresh_source S c.args.script.now c.new-stream.result.ahead c.new-stream.ensures.waiting c.new-stream.ensures.reads) c.serve_all-served.ensures in
     is_open_yet C c.args.budget (C c.args.certificate) s t fresh (S c.args.script.now) b c.serve_all-served.new.stream.ahead.bounded c.args.certificate u v v c.serve_all-served.result ends
 
 pub end_run-requires-clause-some : goal.end_run-requires-clause-some
@@ -49,7 +49,7 @@ end_run-requires-clause-some g c =
     let v = A c.serve_all-served.new.answers in
     let n = c.new-session.ensures in
     let fresh : IsNew C c.args.budget (C c.args.certificate) s = record { steps = n.steps; target = n.target; rounds = n.rounds; budget_is = n.budget; commands = n.commands; refused = n.refused; asks = n.asks } in
-    let ends = subst (λ (a : Source). Ends C start reading written c.serve_all-served.result a b s t u v) (fresh_source S c.args.script.now c.new-stream.result.ahead c.new-stream.ensures.waiting c.new-stream.ensures.reads) c.serve_all-served.ensures in
+    let ends = subst (λ (a : Source). ServesScript C start reading written c.serve_all-served.result a b s t u v) (fresh_source S c.args.script.now c.new-stream.result.ahead c.new-stream.ensures.waiting c.new-stream.ensures.reads) c.serve_all-served.ensures in
     has_target C c.args.budget (C c.args.certificate) s t fresh (S c.args.script.now) b c.serve_all-served.new.stream.ahead.bounded c.args.certificate u v v c.serve_all-served.result ends
 
 pub returns-clause-reads : goal.returns-clause-reads
@@ -64,7 +64,7 @@ returns-clause-reads g c =
     let v = A c.serve_all-served.new.answers in
     let n = c.new-session.ensures in
     let fresh : IsNew C c.args.budget (C c.args.certificate) s = record { steps = n.steps; target = n.target; rounds = n.rounds; budget_is = n.budget; commands = n.commands; refused = n.refused; asks = n.asks } in
-    let ends = subst (λ (a : Source). Ends C start reading written c.serve_all-served.result a b s t u v) (fresh_source S c.args.script.now c.new-stream.result.ahead c.new-stream.ensures.waiting c.new-stream.ensures.reads) c.serve_all-served.ensures in
+    let ends = subst (λ (a : Source). ServesScript C start reading written c.serve_all-served.result a b s t u v) (fresh_source S c.args.script.now c.new-stream.result.ahead c.new-stream.ensures.waiting c.new-stream.ensures.reads) c.serve_all-served.ensures in
     reads_few C c.args.budget (C c.args.certificate) s t fresh (S c.args.script.now) b c.serve_all-served.new.stream.ahead.bounded c.args.certificate u v v c.serve_all-served.result ends
 
 pub returns-clause-runs : goal.returns-clause-runs
@@ -79,7 +79,7 @@ returns-clause-runs g c =
     let v = A c.serve_all-served.new.answers in
     let n = c.new-session.ensures in
     let fresh : IsNew C c.args.budget (C c.args.certificate) s = record { steps = n.steps; target = n.target; rounds = n.rounds; budget_is = n.budget; commands = n.commands; refused = n.refused; asks = n.asks } in
-    let ends = subst (λ (a : Source). Ends C start reading written c.serve_all-served.result a b s t u v) (fresh_source S c.args.script.now c.new-stream.result.ahead c.new-stream.ensures.waiting c.new-stream.ensures.reads) c.serve_all-served.ensures in
+    let ends = subst (λ (a : Source). ServesScript C start reading written c.serve_all-served.result a b s t u v) (fresh_source S c.args.script.now c.new-stream.result.ahead c.new-stream.ensures.waiting c.new-stream.ensures.reads) c.serve_all-served.ensures in
     runs_so C c.args.budget (C c.args.certificate) s t fresh (S c.args.script.now) b c.serve_all-served.new.stream.ahead.bounded c.end_run.result.0 u v (A c.end_run.new.answers) c.serve_all-served.result c.end_run.result.1 ends c.end_run.ensures.ends
 
 pub returns-clause-unfinished : goal.returns-clause-unfinished
@@ -94,7 +94,7 @@ returns-clause-unfinished g c =
     let v = A c.serve_all-served.new.answers in
     let n = c.new-session.ensures in
     let fresh : IsNew C c.args.budget (C c.args.certificate) s = record { steps = n.steps; target = n.target; rounds = n.rounds; budget_is = n.budget; commands = n.commands; refused = n.refused; asks = n.asks } in
-    let ends = subst (λ (a : Source). Ends C start reading written c.serve_all-served.result a b s t u v) (fresh_source S c.args.script.now c.new-stream.result.ahead c.new-stream.ensures.waiting c.new-stream.ensures.reads) c.serve_all-served.ensures in
+    let ends = subst (λ (a : Source). ServesScript C start reading written c.serve_all-served.result a b s t u v) (fresh_source S c.args.script.now c.new-stream.result.ahead c.new-stream.ensures.waiting c.new-stream.ensures.reads) c.serve_all-served.ensures in
     unfinished_so C c.args.budget (C c.args.certificate) s t fresh (S c.args.script.now) b c.serve_all-served.new.stream.ahead.bounded c.end_run.result.0 u v (A c.end_run.new.answers) c.serve_all-served.result c.end_run.result.1 ends c.end_run.ensures.ends
 
 pub returns-clause-steps : goal.returns-clause-steps
@@ -109,7 +109,7 @@ returns-clause-steps g c =
     let v = A c.serve_all-served.new.answers in
     let n = c.new-session.ensures in
     let fresh : IsNew C c.args.budget (C c.args.certificate) s = record { steps = n.steps; target = n.target; rounds = n.rounds; budget_is = n.budget; commands = n.commands; refused = n.refused; asks = n.asks } in
-    let ends = subst (λ (a : Source). Ends C start reading written c.serve_all-served.result a b s t u v) (fresh_source S c.args.script.now c.new-stream.result.ahead c.new-stream.ensures.waiting c.new-stream.ensures.reads) c.serve_all-served.ensures in
+    let ends = subst (λ (a : Source). ServesScript C start reading written c.serve_all-served.result a b s t u v) (fresh_source S c.args.script.now c.new-stream.result.ahead c.new-stream.ensures.waiting c.new-stream.ensures.reads) c.serve_all-served.ensures in
     steps_so C c.args.budget (C c.args.certificate) s t fresh (S c.args.script.now) b c.serve_all-served.new.stream.ahead.bounded c.end_run.result.0 u v (A c.end_run.new.answers) c.serve_all-served.result ends c.end_run.ensures.front
 
 pub returns-clause-counter_end : goal.returns-clause-counter_end
@@ -124,5 +124,5 @@ returns-clause-counter_end g c =
     let v = A c.serve_all-served.new.answers in
     let n = c.new-session.ensures in
     let fresh : IsNew C c.args.budget (C c.args.certificate) s = record { steps = n.steps; target = n.target; rounds = n.rounds; budget_is = n.budget; commands = n.commands; refused = n.refused; asks = n.asks } in
-    let ends = subst (λ (a : Source). Ends C start reading written c.serve_all-served.result a b s t u v) (fresh_source S c.args.script.now c.new-stream.result.ahead c.new-stream.ensures.waiting c.new-stream.ensures.reads) c.serve_all-served.ensures in
+    let ends = subst (λ (a : Source). ServesScript C start reading written c.serve_all-served.result a b s t u v) (fresh_source S c.args.script.now c.new-stream.result.ahead c.new-stream.ensures.waiting c.new-stream.ensures.reads) c.serve_all-served.ensures in
     counter_so C c.args.budget (C c.args.certificate) s t fresh (S c.args.script.now) b c.serve_all-served.new.stream.ahead.bounded c.end_run.result.0 u v (A c.end_run.new.answers) c.serve_all-served.result c.end_run.result.1 ends c.end_run.ensures.ends

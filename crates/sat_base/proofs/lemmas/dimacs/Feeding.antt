@@ -15,11 +15,12 @@ use Rattle.sat_base.specs.declared.text.Token.TheVariants as code
 use Rattle.sat_base.specs.declared.text.Tokenizer.{Tokenizer}
 use Rattle.sat_base.specs.text.Text.{is_blank, Token, Number, Letter, Header, Wrong, Scan, lines, tokens_of, last_line, scan, header_from, header_first, header_of}
 use Rattle.sat_base.specs.text.Spot.{onto}
+use Rattle.sat_base.specs.text.WrongWords.{AreRight, RightAhead, WrongAhead}
 use Rattle.sat_base.specs.text.Tokenizing.{held, held_token, Stands, Takes, GivesLast, IsOfHeader, Quiet}
 use Rattle.sat_base.specs.values.Formulas.{Formula, no_formula, vars_in, vars_of}
 use Rattle.sat_base.specs.dimacs.Dimacs.{Hand, Turn, GoesOn, Ends, Fails, Ending, Clean, Malformed, Limit, Dimacs, literals_in, turn, at_end, clauses_of, dimacs, settled}
 use Rattle.sat_base.specs.dimacs.Collecting.{token_of, hand_in, header_behind, is_literal, NeedsRoom, Stay, AllStay, Turns}
-use Rattle.sat_base.specs.dimacs.Parsing.{Progress, NoFault, GoesWell, EndsWell, Faults, Feeds, Finishes, with_fed, cut_short, at_its_end, clauses_read, lines_read, whole_lines, held_numbers, last_byte}
+use Rattle.sat_base.specs.dimacs.Parsing.{Progress, NoFault, unless_fault, IsSoundText, GoesWell, EndsWell, Faults, Feeds, Finishes, with_fed, cut_short, at_its_end, clauses_read, lines_read, whole_lines, held_numbers, last_byte}
 use Rattle.sat_base.specs.dimacs.ParserPlaces.{progress_of, all_in, onto_clauses, Turned, Goes, IsParser, EndsClean}
 use Rattle.sat_base.proofs.lemmas.values.FlatLemmas.{vars_of_more}
 use Rattle.sat_base.specs.script.Language.{spoken}
@@ -105,8 +106,8 @@ module _ (old new : Parser) (g : Goes old) (b : ℕ) (xs : List (ℕ × Token)) 
   step_last =
       ap last_byte s.fed ∙ get_or_push old.history.fed b 10 (length (old.history.fed ++ b ∷ []) - 1) (omega (arith, length_push old.history.fed b))
 
-  pub step_goes : new.ended ≡ false → Stands new.tokenizer after → Turned (g.before ++ xs) (all_in new) (hand_in new.clauses) → Goes new
-  step_goes e st m = record {
+  pub step_goes : new.ended ≡ false → Stands new.tokenizer after → RightAhead after → Turned (g.before ++ xs) (all_in new) (hand_in new.clauses) → Goes new
+  step_goes e st r m = record {
     ended = e;
     before = g.before ++ xs;
     left_of = after;
@@ -116,6 +117,7 @@ module _ (old new : Parser) (g : Goes old) (b : ℕ) (xs : List (ℕ × Token)) 
     heads = step_heads (nat_eq b 10) refl;
     sound = step_sound m (nat_eq b 10) refl;
     quiet = λ k. s.quiet (ap is_blank (sym step_last) ∙ k);
+    right = r;
   }
 
   pub step_settled : (old_clauses : (dimacs (settled old.history.fed)).clauses ≡ all_in old) → (is_blank b ≡ false → all_in new ≡ all_in old) → Turned (g.before ++ xs) (all_in new) (hand_in new.clauses)
@@ -138,11 +140,11 @@ header_open p e h = rw e h
 pub header_before : (p : Parser) → IsParser p → (g : Goes p) → p.clauses.header ≡ held_numbers (header_first g.before)
 header_before p i g = let h = rw g.ended at i.header in h ∙ ap held_numbers g.heads
 
-pub step_parser : (old new : Parser) (g : Goes old) (b : ℕ) (xs : List (ℕ × Token)) (after : List ℕ → Scan) → Stepped old new g b xs after → IsParser old → new.ended ≡ false → Stands new.tokenizer after
+pub step_parser : (old new : Parser) (g : Goes old) (b : ℕ) (xs : List (ℕ × Token)) (after : List ℕ → Scan) → Stepped old new g b xs after → IsParser old → new.ended ≡ false → Stands new.tokenizer after → RightAhead after
     → (is_blank b ≡ false → all_in new ≡ all_in old) → Turned (g.before ++ xs) (all_in new) (hand_in new.clauses) → Counted new.history.taken new.clauses → new.clauses.header ≡ held_numbers (header_first (g.before ++ xs))
     → IsParser new
-step_parser old new g b xs after s i e st inside m c h =
-    let now = step_goes old new g b xs after s e st m in
+step_parser old new g b xs after s i e st r inside m c h =
+    let now = step_goes old new g b xs after s e st r m in
     record {
       clauses = clauses_open new e (step_settled old new g b xs after s (settled_open old g.ended i.clauses) inside m (is_blank b) refl);
       count = c.0;
@@ -157,11 +159,12 @@ pub record Pushed (old new : Tokenizer) (b : ℕ) (given : Option CodeToken) : T
   pub inside : is_blank b ≡ false → given ≡ None
   pub quiet : is_blank b ≡ true → (after : List ℕ → Scan) → Stands new after → Quiet (after [])
   pub ended : b ≡ 10 → (after : List ℕ → Scan) → Stands new after → (after []).tokens ≡ []
+  pub right : is_blank b ≡ true → (after : List ℕ → Scan) → Stands new after → RightAhead after
 
 pub pushed : (old new : Tokenizer) (b : ℕ) (given : Option CodeToken) → Takes old b given new → (is_blank b ≡ false → given ≡ None)
     → (is_blank b ≡ true → (after : List ℕ → Scan) → Stands new after → Quiet (after [])) → (b ≡ 10 → (after : List ℕ → Scan) → Stands new after → (after []).tokens ≡ [])
-    → Pushed old new b given
-pushed old new b given t i q e = record { takes = t; inside = i; quiet = q; ended = e }
+    → (is_blank b ≡ true → (after : List ℕ → Scan) → Stands new after → RightAhead after) → Pushed old new b given
+pushed old new b given t i q e r = record { takes = t; inside = i; quiet = q; ended = e; right = r }
 
 -- the bytes taken and the clauses handed over grow by a byte
 pub record ByteTaken (old new : Parser) (b : ℕ) : Type 0 where
@@ -172,23 +175,28 @@ same_all : (old new : Parser) → new.history.taken ≡ old.history.taken → ne
 same_all old new t f = rw (t, f) refl
 
 -- a byte that ends no token
-pub push_none : (old new : Parser) (b : ℕ) → IsParser old → old.stopped ≡ false → Pushed old.tokenizer new.tokenizer b None → ByteTaken old new b → new.clauses ≡ old.clauses → new.ended ≡ old.ended
-    → IsParser new
-push_none old new b i o p t c e =
-    let g = i.goes o in
+stepped_none : (old new : Parser) (g : Goes old) (b : ℕ) (p : Pushed old.tokenizer new.tokenizer b None) → ByteTaken old new b → Stepped old new g b [] (p.takes g.left_of g.stands).0
+stepped_none old new g b p t =
     let q = p.takes g.left_of g.stands in
-    let same : all_in new ≡ all_in old = same_all old new t.taken (ap (λ (x : Clauses). x.formula) c) in
-    let none : g.before ++ [] ≡ g.before = append-nil g.before in
-    let s : Stepped old new g b [] q.0 = record {
+    record {
       fed = t.fed;
       gives = q.2;
       quiet = λ k. p.quiet k q.0 q.1;
       ended = λ k. p.ended k q.0 q.1;
-      heads = λ _. ap header_first none;
-    } in
+      heads = λ _. ap header_first (append-nil g.before);
+    }
+
+pub push_none : (old new : Parser) (b : ℕ) → IsParser old → old.stopped ≡ false → Pushed old.tokenizer new.tokenizer b None → ByteTaken old new b → new.clauses ≡ old.clauses → new.ended ≡ old.ended
+    → ((after : List ℕ → Scan) → Stands new.tokenizer after → RightAhead after) → IsParser new
+push_none old new b i o p t c e r =
+    let g = i.goes o in
+    let q = p.takes g.left_of g.stands in
+    let same : all_in new ≡ all_in old = same_all old new t.taken (ap (λ (x : Clauses). x.formula) c) in
+    let none : g.before ++ [] ≡ g.before = append-nil g.before in
+    let s = stepped_none old new g b p t in
     let m : Turned (g.before ++ []) (all_in new) (hand_in new.clauses) = rw (none, same, c) g.turned in
     let counts : Counted new.history.taken new.clauses = rw (t.taken, c) (i.count, i.vars) in
-    step_parser old new g b [] q.0 s i (e ∙ g.ended) q.1 (λ _. same) m counts (ap (λ (x : Clauses). x.header) c ∙ header_before old i g ∙ ap (λ (ts : List (ℕ × Token)). held_numbers (header_first ts)) (sym none))
+    step_parser old new g b [] q.0 s i (e ∙ g.ended) q.1 (r q.0 q.1) (λ _. same) m counts (ap (λ (x : Clauses). x.header) c ∙ header_before old i g ∙ ap (λ (ts : List (ℕ × Token)). held_numbers (header_first ts)) (sym none))
 
 -- where a token that is no header stands behind others, or first
 header_aside : (before : List (ℕ × Token)) (x : ℕ × Token) → header_from x.1 ≡ None → header_first (before ++ x ∷ []) ≡ header_first before
@@ -282,7 +290,7 @@ push_some old new b t i o p y e c h =
     let turns : Turns k old.clauses new.clauses = subst (λ (j : Turn). Turns j old.clauses new.clauses) (turn_of old.clauses n t v.given v.held) (c n) in
     let m = turned_by g.before old.history.taken old.clauses new.clauses n v.given k refl g.turned turns in
     let counts = counted_by old.history.taken old.clauses new.clauses k turns (i.count, i.vars) in
-    step_parser old new g b ((n, v.given) ∷ []) v.after v.stepped i (e ∙ g.ended) v.stands (λ k. absurd (v.blank k))
+    step_parser old new g b ((n, v.given) ∷ []) v.after v.stepped i (e ∙ g.ended) v.stands (p.right (not_false (is_blank b) v.blank) v.after v.stands) (λ k. absurd (v.blank k))
     (subst (λ (cs : List (List ℕ)). Turned (g.before ++ (n, v.given) ∷ []) (cs ++ new.clauses.formula.clauses) (hand_in new.clauses)) (sym y.taken) m)
     (subst (λ (cs : List (List ℕ)). Counted cs new.clauses) (sym y.taken) counts)
     (header_given old new g b t v i h)
@@ -354,6 +362,72 @@ push_fails old new b t ending line i o p y st en stay f l =
         progress = progress_is new (old.history.fed ++ b ∷ []) old.history.taken true true y.fed y.taken st en;
         ends = λ rest. says rest ∙ ap (λ (cs : List (List ℕ)). record { clauses = cs; ending = ending n }) (sym good.clauses);
       };
+    }
+
+-- a byte behind which a wrong word is in hand, whatever follows
+pub push_wrong : (old new : Parser) (b line : ℕ) → IsParser old → old.stopped ≡ false → Pushed old.tokenizer new.tokenizer b None → ByteTaken old new b
+    → new.stopped ≡ true → new.ended ≡ true → new.clauses ≡ old.clauses → ((before : List ℕ → Scan) → Stands new.tokenizer before → WrongAhead before)
+    → ((before : List ℕ → Scan) → Stands new.tokenizer before → line ≡ held (before []).last) → FaultAt Malformed line b old new
+push_wrong old new b line i o p y st en c w l =
+    let g = i.goes o in
+    let q = p.takes g.left_of g.stands in
+    let s = stepped_none old new g b p y in
+    let n = (q.0 []).last in
+    let x : ℕ × Token = (n, Wrong) in
+    let wrong = w q.0 q.1 in
+    let same : all_in new ≡ all_in old = same_all old new y.taken (ap (λ (k : Clauses). k.formula) c) in
+    let tokens : (rest : List ℕ) → (g.before ++ []) ++ (q.0 rest).tokens ≡ (g.before ++ x ∷ []) ++ (wrong rest).0 = λ rest.
+    ap (λ (ts : List (ℕ × Token)). (g.before ++ []) ++ ts) (wrong rest).1 ∙ ap (λ (ts : List (ℕ × Token)). ts ++ x ∷ (wrong rest).0) (append-nil g.before)
+    ∙ sym (append_assoc g.before (x ∷ []) (wrong rest).0) in
+    let says : (rest : List ℕ) → dimacs (new.history.fed ++ rest) ≡ record { clauses = all_in new; ending = Malformed n } = λ rest.
+    dimacs_is (new.history.fed ++ rest) (g.before ++ []) (q.0 rest) (step_scans old new g b [] q.0 s rest)
+    ∙ ap (clauses_of None (q.0 rest).last) (tokens rest)
+    ∙ fails_there g.before (all_in old) (hand_in old.clauses) n Wrong g.turned (Malformed n) refl (q.0 rest).last (wrong rest).0
+    ∙ ap (λ (cs : List (List ℕ)). record { clauses = cs; ending = Malformed n }) (sym same) in
+    let whole : dimacs new.history.fed ≡ record { clauses = all_in new; ending = Malformed n } = ap dimacs (sym (append-nil new.history.fed)) ∙ says [] in
+    let heads : header_of new.history.fed ≡ header_first g.before =
+    ap (λ (k : Scan). header_first k.tokens) (step_scan old new g b [] q.0 s) ∙ ap header_first (tokens []) ∙ header_within g.before (wrong []).0 x refl in
+    let counts : Counted new.history.taken new.clauses = rw (y.taken, c) (i.count, i.vars) in
+    let good = over_parser new (Malformed n) (header_first g.before) st en whole counts (ap (λ (k : Clauses). k.header) c ∙ header_before old i g) heads in
+    record {
+      n = n;
+      shown = l q.0 q.1;
+      parser = good;
+      faults = record {
+        front = b ∷ [];
+        behind = [];
+        whole = refl;
+        progress = progress_is new (old.history.fed ++ b ∷ []) old.history.taken true true y.fed y.taken st en;
+        ends = λ rest. says rest ∙ ap (λ (cs : List (List ℕ)). record { clauses = cs; ending = Malformed n }) (sym good.clauses);
+      };
+    }
+
+-- WHAT WENT WELL
+right_first : (h : Hand) (n : ℕ) (t : Token) (more : Hand → Type 0) → unless_fault (turn h n t) more → t ≡ Wrong → ⊥
+right_first h n t more u e = let v : unless_fault (turn h n Wrong) more = subst (λ (k : Token). unless_fault (turn h n k) more) e u in v
+
+sound_next : (k : Turn) (ts : List (ℕ × Token)) → unless_fault k (λ h. NoFault h ts) → (h : Hand) × NoFault h ts
+sound_next (GoesOn h) ts u = (h, u)
+sound_next (Ends c) ts u = (None, u)
+sound_next (Fails ending) ts u = absurd u
+
+-- what is no fault is no wrong word
+sound_right : (h : Hand) (ts : List (ℕ × Token)) → NoFault h ts → AreRight ts
+sound_right h [] s = tt
+sound_right h (t ∷ ts) s =
+    let k = sound_next (turn h t.0 t.1) ts s in
+    (right_first h t.0 t.1 (λ g. NoFault g ts) s, sound_right k.0 ts k.1)
+
+right_append : (xs ys : List (ℕ × Token)) → AreRight xs → AreRight ys → AreRight (xs ++ ys)
+right_append [] ys f g = g
+right_append (x ∷ xs) ys f g = (f.0, right_append xs ys f.1 g)
+
+pub sound_text : (p : Parser) → Goes p → IsSoundText p.history.fed
+sound_text p g =
+    let before : AreRight g.before = sound_right None g.before (subst (NoFault None) (append-nil g.before) (g.turned.sound [] tt)) in
+    record {
+      lines = g.sound;
+      words = (g.right.0, subst (λ (s : Scan). AreRight s.tokens) (sym (g.scans g.right.0)) (right_append g.before (g.left_of g.right.0).tokens before g.right.1));
     }
 
 -- PIECES
@@ -678,5 +752,6 @@ first_parser p f t m h c e o s =
         heads = rw f refl;
         sound = rw f tt;
         quiet = λ _. inl refl;
+        right = ([], tt);
       };
     }

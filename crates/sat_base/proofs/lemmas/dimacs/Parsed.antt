@@ -102,7 +102,7 @@ piece_given n buf h k = let e = length-take-le n buf h in omega arith
 -- no text has no fault
 pub sound_none : IsSoundText []
 unfolding scan tokens_of lines
-sound_none = tt
+sound_none = record { lines = tt; words = ([], tt) }
 
 -- a piece more has a byte more, at least
 pub piece_more : (pieces : List (List ℕ)) (piece : List ℕ) (n : ℕ) → n ≤ length (concat pieces) → 0 < length piece → n + 1 ≤ length (concat (pieces ++ (piece ∷ [])))

@@ -101,7 +101,7 @@ ended_vars value spot (x, w, s, (m, h, k), e) = rw e (Vars m, (m, k, refl), ap (
 pub ended_clauses : (vars value : ℕ) (spot : Spot) → IsAtHeader (header.Clauses vars value) spot → IsStageIf (Some (stage.Both vars value)) (ended_stage spot)
 ended_clauses vars value spot (v, x, w, k, s, (m, h, j), e) = rw e (Both v m, (v, m, k, j, refl), ap (with_value (Both v)) h)
 
-abbrev EndsAs : HeaderPlace → Option CodeStage → Type 0
+abbrev pub EndsAs : HeaderPlace → Option CodeStage → Type 0
 EndsAs place o = (spot : Spot) → IsAtHeader place spot → IsStageIf o (ended_stage spot)
 
 -- where the line ends

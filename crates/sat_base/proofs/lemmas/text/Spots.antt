@@ -74,7 +74,7 @@ word_cut x [] b bs s e = words_one x (b ∷ bs) s.0 (ap not e) ∙ ap (λ (ws : 
 word_cut x (y ∷ w) b bs s e = words_more x ((y ∷ w) ++ b ∷ bs) s.0 (ap not s.1.0) ∙ ap (onto_first x) (word_cut y w b bs s.1 e)
 
 -- the first word of bytes that begin so
-abbrev BeginsWord : ℕ → List ℕ → List ℕ → Type 0
+abbrev pub BeginsWord : ℕ → List ℕ → List ℕ → Type 0
 BeginsWord x w bs = (more : List ℕ) × (ws : List (List ℕ)) × (words ((x ∷ w) ++ bs) ≡ ((x ∷ w) ++ more) ∷ ws)
 
 onto_some : (x : ℕ) (ws : List (List ℕ)) → (more : List ℕ) × (us : List (List ℕ)) × (onto_first x ws ≡ (x ∷ more) ∷ us)
@@ -85,7 +85,7 @@ first_word_if : (x : ℕ) (bs : List ℕ) (more : Bool) → is_blank x ≡ false
 first_word_if x bs true e g = let o = onto_some x (words bs) in (o.0, o.1, words_more x bs e g ∙ o.2)
 first_word_if x bs false e g = ([], words bs, words_one x bs e g)
 
-first_word : (x : ℕ) (w bs : List ℕ) → Solid (x ∷ w) → BeginsWord x w bs
+pub first_word : (x : ℕ) (w bs : List ℕ) → Solid (x ∷ w) → BeginsWord x w bs
 first_word x [] bs s = first_word_if x bs (goes_on bs) s.0 refl
 first_word x (y ∷ w) bs s = let h = first_word y w bs s.1 in (h.0, h.1, words_more x ((y ∷ w) ++ bs) s.0 (ap not s.1.0) ∙ ap (onto_first x) h.2)
 

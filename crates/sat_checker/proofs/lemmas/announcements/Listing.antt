@@ -13,17 +13,15 @@ use Rattle.sat_checker.specs.Storing.{unit_id}
 use Rattle.sat_checker.specs.inner.Marks.{NoRepeats, IsIncreasing}
 use Rattle.sat_checker.specs.inner.Reasons.{named, Explains}
 use Rattle.sat_checker.specs.inner.SlotView.{Slot}
-use Rattle.sat_checker.specs.inner.UnitView.{unit_of}
 use Rattle.sat_checker.specs.announcements.Needed.{Ground, ground, needed_units, conflict_ids, or_else, true_unit}
 use Rattle.sat_checker.specs.announcements.Promises.{IsOneOf}
-use Rattle.sat_checker.specs.declared.passed.Passed.{Passed}
-use Rattle.sat_checker.specs.declared.units.Unit.{Unit}
+use Rattle.sat_checker.specs.declared.rup.passed.Passed.{Passed}
 use Rattle.sat_checker.proofs.lemmas.sets.Canonical.{same_increasing, among_from_contains, contains_from_among}
 use Rattle.sat_checker.proofs.lemmas.sets.Distinct.{sorted_increasing}
 use Rattle.sat_checker.proofs.lemmas.sets.Merging.{nothing_left}
 use Rattle.sat_checker.proofs.lemmas.sets.Order.{among-append, among-reverse}
 use Rattle.sat_checker.proofs.lemmas.propagation.Members.{same_any}
-use Rattle.sat_checker.proofs.lemmas.store.Units.{among_units, same_tests}
+use Rattle.sat_checker.proofs.lemmas.sets.Trails.{same_tests}
 use Rattle.sat_checker.proofs.lemmas.announcements.Sorted.{few_increasing}
 use Rattle.sat_checker.proofs.lemmas.announcements.Rests.{unit_found, not_both, both_from}
 use Rattle.sat_checker.proofs.lemmas.announcements.Exact.{one_among}
@@ -31,13 +29,12 @@ use Rattle.sat_checker.proofs.lemmas.announcements.Marking.{or_none}
 use Rattle.sat_checker.proofs.lemmas.announcements.Noting.{ground_same}
 
 -- what the notes explain, whatever the order in which the units are assumed
-pub explained_units : {E : Type 0} (r : Result Bool E) (ss : List Slot) (passed : Passed) (us : List Unit) (value : List StoredUnit) (assigned clause hashes : List ℕ) → map unit_of us ≡ value → assigned ≡ reverse (map (λ u. u.lit) us)
+pub explained_units : {E : Type 0} (r : Result Bool E) (ss : List Slot) (passed : Passed) (value : List StoredUnit) (assigned clause hashes : List ℕ) → ((l : ℕ) → is_among assigned l ≡ is_among (map (λ u. u.literal) value) l)
     → IfOk r (λ b. b ≡ true → list_any (is_among assigned) clause ≡ false → is_tautology clause ≡ false → Explains ss passed (ground (map negated clause ++ assigned) (named hashes ss)))
     → IfOk r (λ b. b ≡ true → list_any (is_among (map (λ u. u.literal) value)) clause ≡ false → is_tautology clause ≡ false → Explains ss passed (ground (map negated clause ++ map (λ u. u.literal) value) (named hashes ss)))
-explained_units (Err e) ss passed us value assigned clause hashes is a h = tt
-explained_units (Ok b) ss passed us value assigned clause hashes is a h = λ t n s.
+explained_units (Err e) ss passed value assigned clause hashes same h = tt
+explained_units (Ok b) ss passed value assigned clause hashes same h = λ t n s.
     let units : List ℕ = map (λ u. u.literal) value in
-    let same : (l : ℕ) → is_among assigned l ≡ is_among units l = λ l. among_units us value assigned l is a in
     let front : (l : ℕ) → is_among (map negated clause ++ assigned) l ≡ is_among (map negated clause ++ units) l = λ l.
     among-append (map negated clause) assigned l ∙ ap (λ d. is_among (map negated clause) l || d) (same l) ∙ sym (among-append (map negated clause) units l) in
     subst (Explains ss passed) (ground_same (named hashes ss) (map negated clause ++ assigned) (map negated clause ++ units) front) (h t (same_any assigned units clause same ∙ n) s)

@@ -6,15 +6,15 @@ use Rattle.sat_base.specs.values.Literals.{negated}
 use Rattle.std.specs.List.{AllByRecursion}
 use Rattle.sat_checker.specs.Looks.{total_length}
 use Rattle.sat_checker.specs.announcements.Following.{followed_back}
-use Rattle.sat_checker.specs.declared.passed.Passed.{Passed}
-use Rattle.sat_checker.specs.declared.passed.Reason as noted
+use Rattle.sat_checker.specs.declared.rup.passed.Passed.{Passed}
+use Rattle.sat_checker.specs.declared.rup.passed.Reason as noted
 use Rattle.sat_checker.specs.LiteralSets.{is_among}
 use Rattle.sat_checker.specs.Stored.{StoredClause}
 use Rattle.sat_checker.specs.announcements.Needed.{Ground, others_denied, with_reason}
 use Rattle.sat_checker.specs.inner.NeededView.{IsFollowed}
 use Rattle.sat_checker.specs.inner.SlotView.{Slot, literals_at}
 use Rattle.sat_checker.specs.inner.Reasons.{clause_at, reason_in, conflict_at, conflict_length, noted_length}
-use Rattle.sat_checker.specs.declared.needed.Needed.{Needed}
+use Rattle.sat_checker.specs.declared.rup.needed.Needed.{Needed}
 use Rattle.sat_checker.proofs.lemmas.sets.Order.{among-append}
 
 pub mark_had : (marked : List ℕ) (l : ℕ) → is_among marked l ≡ true → (m : ℕ) → is_among marked m ≡ (eqb l m || is_among marked m)

@@ -12,8 +12,8 @@ use Rattle.sat_checker.specs.announcements.Needed.{with_reason, ground_by, groun
 use Rattle.sat_checker.specs.announcements.Following.{followed_back}
 use Rattle.sat_checker.specs.inner.SlotView.{Slot, slot_at, literals_at, is_filed, places_from, places_of}
 use Rattle.sat_checker.specs.inner.Reasons.{clause_at, filed, named, reason_in, reasons_in, conflict_at, conflict_length, noted_length, IsThere, Leads, Ends, Explains}
-use Rattle.sat_checker.specs.declared.passed.Passed.{Passed}
-use Rattle.sat_checker.specs.declared.passed.Reason as noted
+use Rattle.sat_checker.specs.declared.rup.passed.Passed.{Passed}
+use Rattle.sat_checker.specs.declared.rup.passed.Reason as noted
 use Rattle.sat_checker.proofs.lemmas.propagation.Walking.{walking}
 use Rattle.sat_checker.proofs.lemmas.propagation.Denied.{denied_none, denied_some}
 use Rattle.sat_checker.proofs.lemmas.announcements.Following.{passed_open, passed_over, passed_conflict}

@@ -13,8 +13,8 @@ use Rattle.sat_checker.specs.inner.Marks.{IsIncreasing}
 use Rattle.sat_checker.specs.inner.SlotView.{Slot, slot_ids, live}
 use Rattle.sat_checker.specs.inner.StoreView.{PlacesIds, AreIds, KeepsIds}
 use Rattle.sat_checker.specs.inner.FormulaView.{Standing, IsUnitOf, IsPut, AreNumbered, KeepsFormula, last_in}
-use Rattle.sat_checker.specs.declared.status.LastClause.{LastClause}
-use Rattle.sat_checker.specs.declared.status.LastClause.TheVariants as code
+use Rattle.sat_checker.specs.declared.state.status.LastClause.{LastClause}
+use Rattle.sat_checker.specs.declared.state.status.LastClause.TheVariants as code
 use Rattle.sat_checker.specs.declared.formula.Formula.{Formula}
 use Rattle.sat_checker.proofs.lemmas.meaning.Orderly.{below_more, below_push, increasing_push}
 

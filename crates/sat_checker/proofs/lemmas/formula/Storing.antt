@@ -14,8 +14,8 @@ use Rattle.sat_checker.specs.declared.store.Placed.{Placed}
 use Rattle.sat_checker.specs.declared.store.Store.{Store}
 use Rattle.sat_checker.specs.declared.store.StoreError.{StoreError}
 use Rattle.sat_checker.specs.declared.store.StoreError.TheVariants.{OutOfMemory, CounterEnd}
-use Rattle.sat_checker.specs.declared.status.LastClause.TheVariants as code
-use Rattle.sat_checker.specs.declared.status.Status.{Status}
+use Rattle.sat_checker.specs.declared.state.status.LastClause.TheVariants as code
+use Rattle.sat_checker.specs.declared.state.status.Status.{Status}
 use Rattle.sat_checker.specs.declared.formula.Formula.{Formula}
 use Rattle.sat_checker.proofs.lemmas.formula.Numbering.{numbered_more, numbered_placed, numbered_unit, unit_noted}
 

@@ -8,8 +8,8 @@ use Rattle.std.proofs.lemmas.Map.Keys.{IsDistinct-head, IsDistinct-tail}
 use Rattle.std.proofs.lemmas.List.Elements.{All-from_recursion}
 use Rattle.sat_checker.specs.inner.PairView.{IsBefore, AreInOrder, inserted, without_pair, same_place}
 use Rattle.sat_checker.specs.inner.LinkView.{nowhere, link_at, Leads, joined, top_of, head_at, part_at, listed, IsPart, AreLinked, Lists, up_to, last_or, place_before}
-use Rattle.sat_checker.specs.declared.links.Pair.{Pair}
-use Rattle.sat_checker.specs.declared.links.Link.{Link}
+use Rattle.sat_checker.specs.declared.store.links.Pair.{Pair}
+use Rattle.sat_checker.specs.declared.store.links.Link.{Link}
 use Rattle.sat_checker.proofs.lemmas.pairs.Order.{all_weaker, all_both, all_filter, all_inserted, order_filter, order_inserted, length_inserted, length_filter, inserted_first}
 use Rattle.sat_checker.proofs.lemmas.pairs.Parts.{Tops, filter_joined, inserted_joined, length_part, all_part}
 use Rattle.sat_checker.proofs.lemmas.pairs.Walks.{IsThere, leads_there, there_apart}

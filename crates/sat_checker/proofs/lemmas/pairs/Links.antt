@@ -6,8 +6,8 @@ use Rattle.std.specs.List.{AllByRecursion}
 use Rattle.sat_checker.specs.inner.PairView.{IsBefore, AreInOrder, inserted, without_pair, places_in, behind}
 use Rattle.sat_checker.specs.LiteralSets.{is_among}
 use Rattle.sat_checker.specs.inner.LinkView.{nowhere, link_at, rest, Leads, joined, top_of, head_at, part_at, listed, IsWalk, IsPart, AreLinked, up_to, last_or, place_before}
-use Rattle.sat_checker.specs.declared.links.Pair.{Pair}
-use Rattle.sat_checker.specs.declared.links.Link.{Link}
+use Rattle.sat_checker.specs.declared.store.links.Pair.{Pair}
+use Rattle.sat_checker.specs.declared.store.links.Link.{Link}
 use Rattle.sat_checker.proofs.lemmas.pairs.Order.{all_weaker, all_both, all_filter, filter_none, filter_whole, inserted_first, not-before}
 use Rattle.sat_checker.proofs.lemmas.pairs.Parts.{Tops, joined_same, all_joined, order_joined, places_joined}
 use Rattle.sat_checker.proofs.lemmas.pairs.Walks.{IsThere, leads_there, there_apart, chain_is}

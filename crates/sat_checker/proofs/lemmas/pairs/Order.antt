@@ -4,7 +4,7 @@ use Rattle.std.proofs.lemmas.Bool.{cases_lt, ne_eqb, eqb-true}
 use Rattle.std.proofs.lemmas.Bool.Decides.{nat_tests}
 use Rattle.std.specs.List.{AllByRecursion}
 use Rattle.sat_checker.specs.inner.PairView.{IsBefore, AreInOrder, is_before, inserted, places_in}
-use Rattle.sat_checker.specs.declared.links.Pair.{Pair}
+use Rattle.sat_checker.specs.declared.store.links.Pair.{Pair}
 
 pub all_append : (P : Pair → Type 0) (xs ys : List Pair) → AllByRecursion P xs → AllByRecursion P ys → AllByRecursion P (xs ++ ys)
 all_append P [] ys h k = k

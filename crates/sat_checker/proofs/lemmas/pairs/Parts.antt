@@ -7,7 +7,7 @@ use Rattle.std.proofs.Math.Nat.{div-mul-le_self}
 use Rattle.std.specs.List.{AllByRecursion}
 use Rattle.sat_checker.specs.inner.PairView.{IsBefore, AreInOrder, inserted, places_in}
 use Rattle.sat_checker.specs.inner.LinkView.{joined, top_of}
-use Rattle.sat_checker.specs.declared.links.Pair.{Pair}
+use Rattle.sat_checker.specs.declared.store.links.Pair.{Pair}
 use Rattle.sat_checker.proofs.lemmas.pairs.Order.{all_append, all_left, all_right, all_weaker, filter_none, filter_two, order_append, inserted_behind, inserted_within}
 
 pub joined_same : (f g : ℕ → List Pair) (n : ℕ) → ((s : ℕ) → s < n → f s ≡ g s) → joined f n ≡ joined g n

@@ -7,7 +7,7 @@ use Rattle.std.specs.List.{IsDistinct}
 use Rattle.std.specs.Ordering.{ordering_then}
 use Rattle.std.specs.declared.cmp.Ordering.TheVariants.{Less, Equal, Greater}
 use Rattle.sat_checker.specs.inner.PairView.{IsBefore, AreInOrder, same_place}
-use Rattle.sat_checker.specs.declared.links.Pair.{Pair}
+use Rattle.sat_checker.specs.declared.store.links.Pair.{Pair}
 use Rattle.sat_checker.proofs.lemmas.pairs.Order.{before_all}
 
 cmp_less : (a b : ℕ) → a < b → nat_cmp a b ≡ Less

@@ -6,8 +6,8 @@ use Rattle.std.specs.List.{AllByRecursion}
 use Rattle.sat_checker.specs.LiteralSets.{is_among}
 use Rattle.sat_checker.specs.inner.PairView.{IsBefore, AreInOrder, places_in, first_of}
 use Rattle.sat_checker.specs.inner.LinkView.{nowhere, link_at, pair_at, chain, rest, Leads, IsWalk, up_to, last_or, place_before}
-use Rattle.sat_checker.specs.declared.links.Pair.{Pair}
-use Rattle.sat_checker.specs.declared.links.Link.{Link}
+use Rattle.sat_checker.specs.declared.store.links.Pair.{Pair}
+use Rattle.sat_checker.specs.declared.store.links.Link.{Link}
 use Rattle.sat_checker.proofs.lemmas.pairs.Order.{all_weaker, filter_none, places_past}
 
 -- a pair stands at its place

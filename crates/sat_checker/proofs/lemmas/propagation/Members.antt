@@ -1,10 +1,10 @@
 -- What passes the check depends on which literals are units, not on their order.
-use Rattle.std.proofs.Common.{ℕ, ◌≡◌, ◌||◌, true, eqb, List, [], ◌∷◌, ◌++◌, map, reverse, sym, ◌∙◌, ap, refl, ◌⊎◌, inl, inr, ◌↔◌}
+use Rattle.std.proofs.Common.{ℕ, ◌≡◌, ◌||◌, true, eqb, List, [], ◌∷◌, ◌++◌, map, sym, ◌∙◌, ap, refl, ◌⊎◌, inl, inr}
 use Rattle.std.specs.List.{AllByRecursion, list_any}
 use Rattle.sat_base.specs.values.Literals.{negated}
 use Rattle.sat_checker.specs.LiteralSets.{is_among}
 use Rattle.sat_checker.specs.Propagation.{IsFalsified, UnitInTurn, PassesCheck, tautology, unit_true, conflict}
-use Rattle.sat_checker.proofs.lemmas.sets.Order.{among-append, among-reverse}
+use Rattle.sat_checker.proofs.lemmas.sets.Order.{among-append}
 
 -- where units have the same members, the same clauses pass
 abbrev SameMembers : List ℕ → List ℕ → Type 0
@@ -43,6 +43,3 @@ same_passes us vs clause buckets same (conflict k) =
     let front : SameMembers (map negated clause ++ us) (map negated clause ++ vs) = λ l.
     among-append (map negated clause) us l ∙ ap (λ b. is_among (map negated clause) l || b) (same l) ∙ sym (among-append (map negated clause) vs l) in
     conflict (record { first = k.first; rest = k.rest; picked = k.picked; split = k.split; none_empty = k.none_empty; chosen = k.chosen; conflict = same_runs k.picked (map negated clause ++ us) (map negated clause ++ vs) front k.conflict })
-
-pub passes_reversed : (us clause : List ℕ) (buckets : List (List (List ℕ))) → PassesCheck (reverse us) clause buckets ↔ PassesCheck us clause buckets
-passes_reversed us clause buckets = (same_passes (reverse us) us clause buckets (among-reverse us), same_passes us (reverse us) clause buckets (λ l. sym (among-reverse us l)))

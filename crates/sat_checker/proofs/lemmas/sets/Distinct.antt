@@ -1,4 +1,4 @@
--- Lists in which nothing stands twice, turned round and sorted.
+-- Lists in which nothing stands twice, in another order.
 use Rattle.std.proofs.Common.{ℕ, ◌≡◌, false, eqb, List, [], ◌∷◌, reverse, refl, ◌∙◌}
 use Rattle.std.proofs.lemmas.Bool.{or_parts, or_from}
 use Rattle.std.proofs.lemmas.List.Sorted.{IsPermutation-reverse, IsNonDecreasingBy-from_sort}
@@ -28,8 +28,11 @@ once_from (x ∷ xs) h = (differ xs (IsDistinct-head eqb x xs h), once_from xs (
     differ [] k = refl
     differ (y ∷ ys) k = or_from (eqb y x) (is_among ys x) (eqb_comm y x ∙ k.0) (differ ys k.1)
 
+pub once_permuted : (xs ys : List ℕ) → IsPermutation xs ys → NoRepeats xs → NoRepeats ys
+once_permuted xs ys p h = once_from ys (IsDistinct-IsPermutation eqb eqb_comm xs ys p (distinct_from xs h))
+
 pub once_reversed : (xs : List ℕ) → NoRepeats xs → NoRepeats (reverse xs)
-once_reversed xs h = once_from (reverse xs) (IsDistinct-IsPermutation eqb eqb_comm xs (reverse xs) (IsPermutation-reverse xs) (distinct_from xs h))
+once_reversed xs = once_permuted xs (reverse xs) (IsPermutation-reverse xs)
 
 -- sorting a list without repeats gives an increasing one
 pub sorted_increasing : (xs sorted : List ℕ) → NoRepeats xs → IsPermutation xs sorted → IsSorted nat_cmp sorted → IsIncreasing sorted

@@ -3,7 +3,7 @@ use Rattle.std.proofs.Common.{ℕ, ◌≡◌, Bool, Result, sym, subst}
 use Rattle.sat_base.specs.steps.Steps.{Step}
 use Rattle.sat_checker.specs.inner.StateView.{Decides, LooksWithin}
 use Rattle.sat_checker.specs.telling.NotedView.{Announces}
-use Rattle.sat_checker.specs.declared.notes.Notes.{Notes}
+use Rattle.sat_checker.specs.declared.announce.notes.Notes.{Notes}
 use Rattle.sat_checker.specs.declared.state.State.{State}
 use Rattle.sat_checker.specs.declared.store.StoreError.{StoreError}
 

@@ -5,7 +5,7 @@ use Rattle.sat_checker.specs.inner.FormulaView.{AreNumbered, KeepsFormula, refil
 use Rattle.sat_checker.specs.inner.SlotView.{slot_ids}
 use Rattle.sat_checker.specs.inner.StoreView.{refiled}
 use Rattle.sat_checker.specs.declared.formula.Formula.{Formula}
-use Rattle.sat_checker.specs.declared.status.LastClause.{LastClause}
+use Rattle.sat_checker.specs.declared.state.status.LastClause.{LastClause}
 use Rattle.sat_checker.specs.declared.store.Store.{Store}
 use Rattle.sat_checker.proofs.lemmas.store.Rehashing.{refiled_ids, refiled_kept}
 

@@ -14,9 +14,9 @@ use Rattle.sat_checker.specs.inner.OccurrenceView.{times_in, times_stored, AreKe
 use Rattle.sat_checker.specs.inner.SlotView.{Slot, unstored, slot_at, stored_slot, is_gone, is_filed, places_from, gone_count, standing, MayDrop, live, slot_ids, count_of, with_count_at, without_count_at, all_hashed_by}
 use Rattle.sat_checker.specs.inner.StoreView.{AreHashed, KeepsClauses, AreIds, KeepsIds}
 use Rattle.sat_checker.specs.declared.hash.ClauseHasher.{ClauseHasher}
-use Rattle.sat_checker.specs.declared.occurrences.Occurrences.{Occurrences}
+use Rattle.sat_checker.specs.declared.store.occurrences.Occurrences.{Occurrences}
 use Rattle.sat_checker.specs.declared.store.Store.{Store}
-use Rattle.sat_checker.specs.declared.links.Pair.{Pair}
+use Rattle.sat_checker.specs.declared.store.links.Pair.{Pair}
 use Rattle.sat_checker.proofs.lemmas.store.Filing.{pairs_push}
 use Rattle.sat_checker.proofs.lemmas.store.Places.{gone_more, gone_not, set_at}
 

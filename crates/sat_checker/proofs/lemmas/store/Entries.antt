@@ -8,9 +8,9 @@ use Rattle.sat_checker.specs.Storing.{with_count, without_count}
 use Rattle.sat_checker.specs.inner.Marks.{IsIncreasing}
 use Rattle.sat_checker.specs.inner.SlotView.{lits_in, LitsWithin, Slot, slot_at, all_lits, slot_ids, unstored, with_count_at, without_count_at, with_hash_at}
 use Rattle.sat_checker.specs.inner.EntryView.{slot_of, IsEntry}
-use Rattle.sat_checker.specs.declared.filed_hash.FiledHash.{FiledHash}
-use Rattle.sat_checker.specs.declared.slots.Entry.{Entry}
-use Rattle.sat_checker.specs.declared.slots.ClauseLits.{ClauseLits}
+use Rattle.sat_checker.specs.declared.store.filed_hash.FiledHash.{FiledHash}
+use Rattle.sat_checker.specs.declared.store.slots.Entry.{Entry}
+use Rattle.sat_checker.specs.declared.store.slots.ClauseLits.{ClauseLits}
 
 -- an entry that is read is the model's slot
 module _ (buffer : List ℕ) (es : List Entry) (value : List Slot) (i : ℕ) (x : Entry) (is : map (slot_of buffer) es ≡ value) (inside : i < length value) (read : x ≡ get_or es i x) where

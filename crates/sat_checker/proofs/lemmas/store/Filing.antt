@@ -13,7 +13,7 @@ use Rattle.sat_checker.specs.inner.Marks.{IsIncreasing}
 use Rattle.sat_checker.specs.inner.IndexView.{without_place, pairs_from, pairs_of}
 use Rattle.sat_checker.specs.inner.PairView.{IsBefore, AreInOrder, without_pair, places_in, first_of, behind, from_on, same_place, mixed}
 use Rattle.sat_checker.specs.inner.SlotView.{Slot, is_gone, is_filed, places_from, places_of}
-use Rattle.sat_checker.specs.declared.links.Pair.{Pair}
+use Rattle.sat_checker.specs.declared.store.links.Pair.{Pair}
 use Rattle.sat_checker.proofs.lemmas.sets.Canonical.{same_increasing}
 use Rattle.sat_checker.proofs.lemmas.pairs.Mixing.{mixed_same}
 use Rattle.sat_checker.proofs.lemmas.store.Places.{places_above}

@@ -8,7 +8,7 @@ use Rattle.sat_checker.specs.inner.PairView.{Indexed, places_in, inserted, witho
 use Rattle.sat_checker.specs.inner.OccurrenceView.{count_at, times_in, times_stored, AreKept}
 use Rattle.sat_checker.specs.Storing.{with_count, without_count}
 use Rattle.sat_checker.specs.inner.SlotView.{Slot, unstored, stored_slot, slot_at, literals_at, is_gone, count_of, with_count_at, without_count_at, all_hashed_by}
-use Rattle.sat_checker.specs.declared.occurrences.Occurrences.{Occurrences}
+use Rattle.sat_checker.specs.declared.store.occurrences.Occurrences.{Occurrences}
 use Rattle.sat_checker.proofs.lemmas.store.Places.{agrees_stored, agrees_counted, agrees_left, agrees_removed, stored_last, after, gone_there}
 use Rattle.sat_checker.proofs.lemmas.pairs.Order.{all_weaker, all_filter, all_inserted, order_filter, order_inserted, places_inserted}
 use Rattle.sat_checker.proofs.lemmas.pairs.Mixing.{mixed_same}

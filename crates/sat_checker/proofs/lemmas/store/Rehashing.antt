@@ -16,7 +16,7 @@ use Rattle.sat_checker.proofs.lemmas.store.Ids.{ids_hashed}
 use Rattle.sat_checker.specs.inner.SlotView.{Slot, slot_at, slot_ids, literals_at, is_gone, live, live_length, with_hash_at, hashed_by, all_hashed_by, hashed_anew, unstored}
 use Rattle.sat_checker.specs.inner.IndexView.{pairs_of}
 use Rattle.sat_checker.specs.inner.PairView.{mixed}
-use Rattle.sat_checker.specs.declared.links.Pair.{Pair}
+use Rattle.sat_checker.specs.declared.store.links.Pair.{Pair}
 use Rattle.sat_checker.proofs.lemmas.store.Filing.{pairs_push}
 
 module _ (names : ℕ → Option ℕ) (width : ℕ) where

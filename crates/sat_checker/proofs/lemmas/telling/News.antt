@@ -4,8 +4,8 @@ use Rattle.std.proofs.lemmas.List.{get_or-map, get_or_append_left, get_or_at, le
 use Rattle.std.specs.List.{All}
 use Rattle.sat_checker.specs.announcements.Announcements.{Announcement}
 use Rattle.sat_checker.specs.telling.NewsView.{announcement_with, announcement_at, IsItem}
-use Rattle.sat_checker.specs.declared.news.Kind.{Kind}
-use Rattle.sat_checker.specs.declared.news.Item.{Item}
+use Rattle.sat_checker.specs.declared.announce.news.Kind.{Kind}
+use Rattle.sat_checker.specs.declared.announce.news.Item.{Item}
 
 abbrev pub Lists : Type 0
 Lists = List (List ℕ)

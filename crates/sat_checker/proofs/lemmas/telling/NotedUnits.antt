@@ -9,7 +9,7 @@ use Rattle.sat_checker.specs.inner.FormulaView.{KeepsFormula}
 use Rattle.sat_checker.specs.telling.AnnouncingView.{AreLong}
 use Rattle.sat_checker.specs.telling.NotedView.{Adds}
 use Rattle.sat_checker.specs.declared.formula.Formula.{Formula}
-use Rattle.sat_checker.specs.declared.notes.Notes.{Notes}
+use Rattle.sat_checker.specs.declared.announce.notes.Notes.{Notes}
 use Rattle.sat_checker.proofs.lemmas.store.Buckets.{looks_more, looks_rest, looks_within}
 use Rattle.sat_checker.proofs.lemmas.telling.Noting.{none_behind}
 

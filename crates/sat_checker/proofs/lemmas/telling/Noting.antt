@@ -9,9 +9,9 @@ use Rattle.sat_checker.specs.announcements.Announcements.{Announcement, announce
 use Rattle.sat_checker.specs.announcements.Needed.{propagations}
 use Rattle.sat_checker.specs.telling.AnnouncingView.{stored_as, deletion_told}
 use Rattle.sat_checker.specs.telling.NotedView.{Adds, Announces}
-use Rattle.sat_checker.specs.declared.announcing.Change.{Change}
-use Rattle.sat_checker.specs.declared.announcing.Deletion.{Deletion}
-use Rattle.sat_checker.specs.declared.notes.Notes.{Notes}
+use Rattle.sat_checker.specs.declared.announce.announcing.Change.{Change}
+use Rattle.sat_checker.specs.declared.announce.announcing.Deletion.{Deletion}
+use Rattle.sat_checker.specs.declared.announce.notes.Notes.{Notes}
 use Rattle.sat_checker.specs.declared.state.State.{State}
 use Rattle.sat_checker.specs.declared.store.StoreError.{StoreError}
 

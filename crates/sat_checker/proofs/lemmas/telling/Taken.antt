@@ -20,7 +20,7 @@ use Rattle.sat_checker.specs.inner.VariablesView.{variable_at}
 use Rattle.sat_checker.specs.telling.Hearing.{SameTold, HearsSame, HearsAll, HearsUpTo, HearsSince, HearsSinceUpTo, told_by}
 use Rattle.sat_checker.specs.telling.NotedView.{Adds}
 use Rattle.sat_checker.specs.declared.kernel.Kernel.{Kernel}
-use Rattle.sat_checker.specs.declared.notes.Notes.{Notes}
+use Rattle.sat_checker.specs.declared.announce.notes.Notes.{Notes}
 use Rattle.sat_checker.specs.declared.state.State.{State}
 use Rattle.sat_checker.specs.declared.error.CheckerError.{CheckerError}
 use Rattle.sat_checker.specs.declared.error.CheckerError.TheVariants as errors

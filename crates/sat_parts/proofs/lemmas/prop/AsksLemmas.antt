@@ -10,10 +10,10 @@ use Rattle.sat_parts.specs.prop.WatchLists.{Watching}
 use Rattle.sat_parts.specs.prop.State.{State, level, current_level}
 use Rattle.sat_parts.specs.prop.Reasons.{HaveFirsts}
 use Rattle.sat_parts.specs.prop.Ready.{AreWatched, AreSettled, ReadyBelow, Propagated, IsComplete, IsConflict}
-use Rattle.sat_parts.specs.prop.Asks.{Asks, Gives}
+use Rattle.sat_parts.specs.prop.Asks.{PropagationInvariant, PropagationResult}
 use Rattle.sat_parts.proofs.lemmas.prop.BuildLemmas.{live_in, live_same}
 
-pub ready_from : (words refs : List ℕ) (w w' : Watching) (implied : List (List ℕ)) (s : State) (top : ℕ) → Asks words refs w implied s top →
+pub ready_from : (words refs : List ℕ) (w w' : Watching) (implied : List (List ℕ)) (s : State) (top : ℕ) → PropagationInvariant words refs w implied s top →
     AreWatched words (live_refs words refs) w'.lists (length s.values) → ReadyBelow words (live_refs words refs) w'.lists implied s top
 ready_from words refs w w' implied s top h x = record {
   long = record { clauses = h.clauses; watches = x; agrees = h.agrees; queue = h.queue; settled = h.settled };
@@ -23,7 +23,7 @@ ready_from words refs w w' implied s top h x = record {
 }
 
 asks_from : (words refs : List ℕ) (w : Watching) (implied : List (List ℕ)) (s : State) (top : ℕ) (live : List ℕ) → Laid words refs → live_refs words refs ≡ live →
-    ReadyBelow words live w.lists implied s top → Asks words refs w implied s top
+    ReadyBelow words live w.lists implied s top → PropagationInvariant words refs w implied s top
 asks_from words refs w implied s top live laid e h = record {
   laid = laid;
   clauses = subst (λ (z : List ℕ). AreClauses words z (length s.values)) (sym e) h.long.clauses;
@@ -38,7 +38,7 @@ asks_from words refs w implied s top live laid e h = record {
 }
 
 pub gives_from : (refs : List ℕ) (implied : List (List ℕ)) (words : List ℕ) (s : State) (words' : List ℕ) (s' : State) (w : Watching) (r : Result (Unit {0}) Conflict) →
-    Laid words refs → Propagated (live_refs words refs) implied words s words' s' w.lists r → Gives refs implied words s words' s' w r
+    Laid words refs → Propagated (live_refs words refs) implied words s words' s' w.lists r → PropagationResult refs implied words s words' s' w r
 gives_from refs implied words s words' s' w (Ok x) laid h =
     let k : Kept words words' refs = h.moves.reorders.all refs (λ o g. live_in words refs o g) laid in
     let e : live_refs words' refs ≡ live_refs words refs = live_same words words' refs k.headers in
@@ -64,7 +64,7 @@ gives_from refs implied words s words' s' w (Err x) laid h =
     }
 
 -- the lists are watched once they are kept up
-pub watched_now : (words refs : List ℕ) (w w' : Watching) (implied : List (List ℕ)) (s : State) (top : ℕ) → Asks words refs w implied s top →
+pub watched_now : (words refs : List ℕ) (w w' : Watching) (implied : List (List ℕ)) (s : State) (top : ℕ) → PropagationInvariant words refs w implied s top →
     (w.enabled ≡ true → w' ≡ w) → (w.enabled ≡ false → AreWatched words (live_refs words refs) w'.lists (length w.lists / 2)) →
     AreWatched words (live_refs words refs) w'.lists (length s.values)
 watched_now words refs w w' implied s top h same built =

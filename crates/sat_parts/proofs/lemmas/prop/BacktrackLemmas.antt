@@ -20,7 +20,7 @@ use Rattle.sat_parts.specs.prop.Backtracked.{KeepsLow}
 use Rattle.sat_parts.specs.prop.State.{State, node, level, lit_at, IsRemoved, IsBefore, HasLeft, Agrees, IsQueueCurrent, IsSatisfied}
 use Rattle.sat_parts.specs.prop.Reasons.{IsFalseBefore, Implies, AreInTurn}
 use Rattle.sat_parts.specs.prop.Ready.{AreWatched, AreLists}
-use Rattle.sat_parts.specs.prop.Asks.{Asks, AsksAll}
+use Rattle.sat_parts.specs.prop.Asks.{PropagationInvariant, AsksAll}
 use Rattle.sat_parts.proofs.lemmas.prop.StateLemmas.{left_true}
 use Rattle.sat_parts.proofs.lemmas.prop.RoomLemmas.{places_apart}
 
@@ -307,7 +307,7 @@ satisfied_after v a nodes t ls bound h lt le x = record {
 
 -- what propagation asks holds once the levels above this one are undone, where it held for those that are left
 pub asks_after : (words refs : List ℕ) (w : Watching) (implied : List (List ℕ)) (v : ℕ) (a : Values) (nodes : List ImplNode) (t : Trailed) (top : ℕ) →
-    Asks words refs w implied (before a nodes t) top → v < length t.starts → v < top → AsksAll words refs w implied (after v a nodes t)
+    PropagationInvariant words refs w implied (before a nodes t) top → v < length t.starts → v < top → AsksAll words refs w implied (after v a nodes t)
 asks_after words refs w implied v a nodes t top h lt below =
     let s : State = before a nodes t in
     let n : length (take (cut_at v t) t.lits) ≡ cut_at v t = cut_length v a nodes t h.agrees lt in

@@ -20,18 +20,18 @@ use Rattle.sat_parts.specs.prop.Binaries.{Binaries, implied_by, open_among, Remo
 use Rattle.sat_parts.specs.prop.WatchLists.{Watching, no_watch, watch_on, watches_of, more_at, with_watch, with_clause}
 use Rattle.sat_parts.specs.prop.State.{State, node, level, current_level, lit_at, HasLeft, IsSatisfied}
 use Rattle.sat_parts.specs.prop.Ready.{IsGood, HasWatch, AreWatched}
-use Rattle.sat_parts.specs.prop.Asks.{Asks, AsksForReason, IsOwnLong}
+use Rattle.sat_parts.specs.prop.Asks.{PropagationInvariant, AsksForReason, IsOwnLong}
 use Rattle.sat_parts.proofs.lemmas.clause.ListLemmas.{place_in, at_place}
 use Rattle.sat_parts.proofs.lemmas.clause.FilterLemmas.{filtered_in}
 use Rattle.sat_parts.proofs.lemmas.prop.BuildLemmas.{live_in}
 use Rattle.sat_parts.proofs.lemmas.prop.WalkLemmas.{more_watch, new_watch, good_lists, at_two}
 
 -- fewer clauses are live, each with its literals as before, and each reason of the trail is one of them
-pub asks_fewer : (words refs words' refs' : List ℕ) (w w' : Watching) (implied : List (List ℕ)) (s : State) (top : ℕ) → Asks words refs w implied s top → Laid words' refs' →
+pub asks_fewer : (words refs words' refs' : List ℕ) (w w' : Watching) (implied : List (List ℕ)) (s : State) (top : ℕ) → PropagationInvariant words refs w implied s top → Laid words' refs' →
     ((o : ℕ) → Contains (live_refs words' refs') o → Contains (live_refs words refs) o × (lits_at words' o ≡ lits_at words o)) →
     length w'.lists ≡ length w.lists → (w'.enabled ≡ true → AreWatched words' (live_refs words' refs') w'.lists (length s.values)) →
     ((i o : ℕ) → i < length s.trail.lits → (node s (lit_at s i)).reason ≡ Long o → Contains (live_refs words' refs') o) →
-    Asks words' refs' w' implied s top
+    PropagationInvariant words' refs' w' implied s top
 asks_fewer words refs words' refs' w w' implied s top h laid same room watched reasons = record {
   laid = laid;
   clauses = record {
@@ -55,7 +55,7 @@ asks_fewer words refs words' refs' w w' implied s top h laid same room watched r
 }
 
 -- what is asked for a reason of no clause is what is asked
-pub asks_of_unit : (words refs : List ℕ) (w : Watching) (implied : List (List ℕ)) (s : State) (top lit : ℕ) → AsksForReason lit NoCause words refs w implied s top → Asks words refs w implied s top
+pub asks_of_unit : (words refs : List ℕ) (w : Watching) (implied : List (List ℕ)) (s : State) (top lit : ℕ) → AsksForReason lit NoCause words refs w implied s top → PropagationInvariant words refs w implied s top
 asks_of_unit words refs w implied s top lit h = record {
   laid = h.laid;
   clauses = h.clauses;
@@ -133,7 +133,7 @@ watched_added words words' db db' o count header lits w x laid three below on h 
 -- after an addition of a clause of different literals of known variables, which may be the next literal's reason: its false
 -- literals that are watched and have left the queue are settled, or of the current level
 pub asks_added : (words words' : List ℕ) (db db' : Db) (o : ℕ) (header : Header) (lits : List ℕ) (w : Watching) (implied : List (List ℕ)) (s : State) (top lit : ℕ) (r : Reason) →
-    Asks words db.refs w implied s top → AddsClause words db words' db' o header lits → AreDistinct lits → 3 ≤ length lits → ((k : ℕ) → k < length lits → get_or lits k 0 < 2 * length s.values) →
+    PropagationInvariant words db.refs w implied s top → AddsClause words db words' db' o header lits → AreDistinct lits → 3 ≤ length lits → ((k : ℕ) → k < length lits → get_or lits k 0 < 2 * length s.values) →
     ((i : ℕ) → i < 2 → HasLeft s (negated (get_or lits i 0)) → level s (negated (get_or lits i 0)) < top →
     IsSatisfied s lits (level s (negated (get_or lits i 0))) ⊎ (IsOwnLong r o × (current_level s ≤ level s (negated (get_or lits i 0))))) →
     AsksForReason lit r words' db'.refs (with_clause o (get_or lits 0 0) (get_or lits 1 0) w) implied s top
@@ -186,8 +186,8 @@ open_in values v m ls c =
     ]
 
 -- the clauses of two literals of which a variable has a value are gone
-pub asks_removed : (words refs : List ℕ) (w : Watching) (old new : Binaries) (s : State) (top : ℕ) → Asks words refs w old.implied s top → RemovesAssigned s.values old new →
-    Asks words refs w new.implied s top
+pub asks_removed : (words refs : List ℕ) (w : Watching) (old new : Binaries) (s : State) (top : ℕ) → PropagationInvariant words refs w old.implied s top → RemovesAssigned s.values old new →
+    PropagationInvariant words refs w new.implied s top
 asks_removed words refs w old new s top h x =
     let was : (l k : ℕ) → k < length (implied_by new.implied l) → Contains (implied_by old.implied l) (get_or (implied_by new.implied l) k 0) = λ l k b.
     open_in s.values (variable l) (get_or (implied_by new.implied l) k 0) (implied_by old.implied l)
@@ -213,9 +213,9 @@ asks_removed words refs w old new s top h x =
 
 -- after a pass over the clauses that kept the reasons of the trail
 pub asks_filtered : {F : Type 0} (R : F → ℕ → Bool → F → Type 0) (f : F) (words refs words' : List ℕ) (w : Watching) (implied : List (List ℕ)) (s : State) (top : ℕ) →
-    Asks words refs w implied s top → IsFiltered R f (live_refs words refs) (live_refs words' refs) → AreKept words words' (live_refs words' refs) → Laid words' refs →
+    PropagationInvariant words refs w implied s top → IsFiltered R f (live_refs words refs) (live_refs words' refs) → AreKept words words' (live_refs words' refs) → Laid words' refs →
     ((i o : ℕ) → i < length s.trail.lits → (node s (lit_at s i)).reason ≡ Long o → Contains (live_refs words' refs) o) →
-    Asks words' refs (record w { enabled = false }) implied s top
+    PropagationInvariant words' refs (record w { enabled = false }) implied s top
 asks_filtered R f words refs words' w implied s top h x kept laid reasons =
     let v : Watching = record w { enabled = false } in
     asks_fewer words refs words' refs w v implied s top h laid

@@ -15,7 +15,7 @@ use Rattle.sat_parts.specs.clause.Stored.{lit_of}
 use Rattle.sat_parts.specs.prop.Trails.{LevelIs}
 use Rattle.sat_parts.specs.prop.WatchLists.{Watching}
 use Rattle.sat_parts.specs.prop.State.{State, node, level, lit_at, IsRemoved, HasLeft, Agrees, IsSatisfied}
-use Rattle.sat_parts.specs.prop.Asks.{Asks}
+use Rattle.sat_parts.specs.prop.Asks.{PropagationInvariant}
 use Rattle.sat_parts.proofs.lemmas.prop.BuildLemmas.{live_in}
 use Rattle.sat_parts.proofs.lemmas.clause.ListLemmas.{at_place, place_in}
 use Rattle.sat_parts.proofs.lemmas.clause.GcLemmas.{long_same}
@@ -66,8 +66,8 @@ followed_first words live words' refs' lit o (Long p) r' n same first h e =
     )
 
 pub asks_collected : (words : List ℕ) (db : Db) (s : State) (words' : List ℕ) (db' : Db) (nodes' : List ImplNode) (w w' : Watching) (implied : List (List ℕ)) (top : ℕ) →
-    Collects words db s.nodes s.trail.lits words' db' nodes' → w'.enabled ≡ false → length w'.lists ≡ length w.lists → Asks words db.refs w implied s top →
-    Asks words' db'.refs w' implied (with_graph s nodes') top
+    Collects words db s.nodes s.trail.lits words' db' nodes' → w'.enabled ≡ false → length w'.lists ≡ length w.lists → PropagationInvariant words db.refs w implied s top →
+    PropagationInvariant words' db'.refs w' implied (with_graph s nodes') top
 asks_collected words db s words' db' nodes' w w' implied top x off size h =
     let live : List ℕ = live_refs words db.refs in
     let t : State = with_graph s nodes' in

@@ -17,7 +17,7 @@ use Rattle.sat_parts.specs.prop.WatchLists.{Watching}
 use Rattle.sat_parts.specs.prop.State.{State, node, level, lit_at, IsRemoved, HasLeft, Agrees, IsSatisfied, Grows, enqueued}
 use Rattle.sat_parts.specs.prop.Reasons.{HaveFirsts}
 use Rattle.sat_parts.specs.prop.Ready.{AreWatched, AreLists}
-use Rattle.sat_parts.specs.prop.Asks.{Asks, AsksForReason, IsOwnLong, IsOwnBinary, AsksAll}
+use Rattle.sat_parts.specs.prop.Asks.{PropagationInvariant, AsksForReason, IsOwnLong, IsOwnBinary, AsksAll}
 use Rattle.sat_parts.proofs.lemmas.prop.StateLemmas.{left_true, left_back, level_kept, level_low, satisfied_forth, agrees_enqueued, grows_enqueued, queue_enqueued, lit_front, lit_last, node_kept, node_new, true_new}
 use Rattle.sat_parts.proofs.lemmas.prop.RoomLemmas.{room_for}
 
@@ -49,7 +49,7 @@ own_binary (Binary ls) lit l m h = h.0
 own_binary (Long o) lit l m h = absurd h
 
 -- where all clauses are settled, those but the reason's are
-pub asks_for_reason : (words refs : List ℕ) (w : Watching) (implied : List (List ℕ)) (s : State) (top l : ℕ) (r : Reason) → Asks words refs w implied s top → AsksForReason l r words refs w implied s top
+pub asks_for_reason : (words refs : List ℕ) (w : Watching) (implied : List (List ℕ)) (s : State) (top l : ℕ) (r : Reason) → PropagationInvariant words refs w implied s top → AsksForReason l r words refs w implied s top
 asks_for_reason words refs w implied s top l r h = record {
   laid = h.laid;
   clauses = h.clauses;
@@ -65,7 +65,7 @@ asks_for_reason words refs w implied s top l r h = record {
 
 -- an open literal becomes true
 pub asks_enqueued : (words refs : List ℕ) (w : Watching) (implied : List (List ℕ)) (s : State) (top l : ℕ) (r : Reason) → IsOpenLit s.values l → variable l < length s.values →
-    ((o : ℕ) → r ≡ Long o → Contains (live_refs words refs) o × (lit_of words o 0 ≡ l)) → AsksForReason l r words refs w implied s top → Asks words refs w implied (enqueued l r s) top
+    ((o : ℕ) → r ≡ Long o → Contains (live_refs words refs) o × (lit_of words o 0 ≡ l)) → AsksForReason l r words refs w implied s top → PropagationInvariant words refs w implied (enqueued l r s) top
 asks_enqueued words refs w implied s top l r n below cause h =
     let room : length s.trail.lits < s.trail.room = room_for s l r h.agrees n below in
     let t : State = enqueued l r s in

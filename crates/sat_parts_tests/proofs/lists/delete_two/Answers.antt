@@ -1,6 +1,6 @@
 use Rattle.std.proofs.Common.{ap, ◌∙◌, List, ℕ, [], ◌∷◌, arith}
 use Rattle.sat_parts.specs.clause.Db.{without}
-use Rattle.sat_parts_tests.proofs.LoadLemmas.{contains_at}
+use Rattle.sat_parts_tests.proofs.ListLemmas.{contains_at}
 use Rattle.sat_parts_tests.proofs.lists.delete_two.Goals as goal
 
 pub delete_clause-requires-2-clause-live : goal.delete_clause-requires-2-clause-live

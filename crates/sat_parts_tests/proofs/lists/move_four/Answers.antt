@@ -1,5 +1,5 @@
 use Rattle.std.proofs.Common.{◌∙◌, [], ◌∷◌, arith}
-use Rattle.sat_parts_tests.proofs.LoadLemmas.{contains_at}
+use Rattle.sat_parts_tests.proofs.ListLemmas.{contains_at}
 use Rattle.sat_parts_tests.proofs.lists.move_four.Goals as goal
 
 pub set_clause_tier-requires-3-clause-live : goal.set_clause_tier-requires-3-clause-live

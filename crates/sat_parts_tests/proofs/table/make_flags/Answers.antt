@@ -1,4 +1,4 @@
-use Rattle.sat_parts_tests.proofs.LoadLemmas.{flags_clear}
+use Rattle.sat_parts_tests.proofs.ListLemmas.{flags_clear}
 use Rattle.sat_parts_tests.proofs.table.make_flags.Goals as goal
 
 pub returns-clause-clear : goal.returns-clause-clear

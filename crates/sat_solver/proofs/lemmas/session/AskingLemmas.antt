@@ -4,11 +4,11 @@ use Rattle.std.proofs.lemmas.Bool.{true≢false}
 use Rattle.sat_base.specs.device.Device.{Writer}
 use Rattle.sat_base.specs.steps.Steps.{Step}
 use Rattle.sat_checker.specs.declared.processing.ProofProcessor.{Ghosts}
-use Rattle.sat_solver.specs.session.Counting.{Cuts, none_made, ask_begun, one_made}
-use Rattle.sat_solver.specs.session.ProofView.{Target, Closed, Open, Broken, target_in, target_of, is_open, has_asked, Adds, Carries, Flushes}
-use Rattle.sat_solver.specs.declared.session.counting.Counting.{Counting}
-use Rattle.sat_solver.specs.declared.session.output.Output.{Output}
-use Rattle.sat_solver.specs.declared.session.proof.Proof.{Proof}
+use Rattle.sat_solver.specs.proof.Counting.{TruncatesHashes, none_made, ask_begun, one_made}
+use Rattle.sat_solver.specs.proof.ProofView.{Target, Closed, Open, Broken, target_in, target_of, is_open, has_asked, Adds, Carries, Flushes}
+use Rattle.sat_solver.specs.declared.proof.hash_bits.Counting.{Counting}
+use Rattle.sat_solver.specs.declared.proof.output.Output.{Output}
+use Rattle.sat_solver.specs.declared.proof.Proof.{Proof}
 use Rattle.sat_solver.proofs.lemmas.session.ProofLemmas.{flushed_carries}
 
 -- where the target is open, its count says that an ask has begun
@@ -17,7 +17,7 @@ IsNoted Closed = Unit {0}
 IsNoted (Open f c s) = c.solving ≡ true
 IsNoted (Broken w) = Unit {0}
 
-cuts_noted : {c d : Counting} {made written : List Step} → Cuts c made written d → c.solving ≡ true → d.solving ≡ true
+cuts_noted : {c d : Counting} {made written : List Step} → TruncatesHashes c made written d → c.solving ≡ true → d.solving ≡ true
 cuts_noted none_made e = e
 cuts_noted (ask_begun k) e = refl
 cuts_noted (one_made step w k) e = cuts_noted k e

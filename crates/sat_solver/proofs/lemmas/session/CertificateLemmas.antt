@@ -3,10 +3,10 @@ use Rattle.std.proofs.Common.{◌≡◌, false, List, [], ◌∷◌, ◌++◌, r
 use Rattle.std.proofs.lemmas.Bool.{true≢false}
 use Rattle.sat_base.specs.device.Device.{Writer}
 use Rattle.sat_base.specs.steps.Steps.{Step, SolverVarName, UserVarName, DeleteVar, ChangeSamplingMode, AddClause, AtClause, UnitClauses, DeleteClause, ChangeHashBits, Model, Assumptions, FailedAssumptions, End}
-use Rattle.sat_solver.specs.session.Checked.{has_begun}
-use Rattle.sat_solver.specs.session.ProofTexts.{IsCertificate, TookSince}
+use Rattle.sat_solver.specs.proof.Checked.{has_begun}
+use Rattle.sat_solver.specs.proof.ProofTexts.{IsCertificate, TookSince}
 use Rattle.sat_solver.specs.session.Session.{May, MayAll, nothing, after, session_after}
-use Rattle.sat_solver.specs.declared.session.format.ProofFormat.{ProofFormat}
+use Rattle.sat_solver.specs.declared.proof.format.ProofFormat.{ProofFormat}
 use Rattle.sat_solver.proofs.lemmas.session.CutsLemmas.{cuts_are_free}
 use Rattle.sat_solver.proofs.lemmas.session.StepLemmas.{stands}
 

@@ -1,6 +1,7 @@
 -- A solver's own checker takes what may be made.
 use Rattle.std.proofs.Common.{ℕ, ◌≡◌, ◌∙◌, ◌⊎◌, inl, inr, Bool, true, false, not, ◌||◌, Option, None, Some, List, [], ◌∷◌, ◌++◌, Result, Ok, Err, refl, sym, ap, subst}
 use Rattle.std.proofs.lemmas.Bool.{true≢false}
+use Rattle.std.proofs.Math.Bool.{Bool-set}
 use Rattle.std.proofs.Math.Logic.{∥∥₁_elim, ∥∥₁_prop}
 use Rattle.anyhow.specs.declared.error.Error.{Error}
 use Rattle.sat_base.specs.steps.Steps.{Step, ChangeHashBits}
@@ -19,16 +20,16 @@ use Rattle.sat_checker.specs.declared.processing.Processing.{Processing}
 use Rattle.sat_checker.specs.declared.processing.ProcessingError.TheVariants as faults
 use Rattle.sat_checker.proofs.lemmas.telling.Heard.{nobody_fails}
 use Rattle.sat_checker.specs.declared.processing.ProofProcessor.{Ghosts}
-use Rattle.sat_solver.specs.declared.session.made.CheckFault.{CheckFault}
-use Rattle.sat_solver.specs.declared.session.made.CheckFault.TheVariants as checks
-use Rattle.sat_solver.specs.session.Checked.{is_end, unended, has_begun, who_listens, FedUnless, IsFed, Heard, HeardWhole, Failed, IsCause, cause_in, OrCause, TakesStep, TakesWidth, TakesDelayed, Feeds, TakesIn, BeginsAnew}
+use Rattle.sat_solver.specs.declared.proof.made.CheckFault.{CheckFault}
+use Rattle.sat_solver.specs.declared.proof.made.CheckFault.TheVariants as checks
+use Rattle.sat_solver.specs.proof.Checked.{is_end, unended, has_begun, who_listens, FedUnless, IsFed, Heard, HeardWhole, Failed, IsCause, cause_in, OrCause, TakesStep, TakesWidth, TakesDelayed, Feeds, TakesIn, BeginsAnew}
 use Rattle.sat_solver.specs.session.Due.{kept_if}
-use Rattle.sat_solver.specs.session.Listening.{AreListed, Hears, FailedOf, reads_nothing}
-use Rattle.sat_solver.specs.session.MadeView.{audience, listed_in, Handed, HandedIn, HandedWhole, HandedWholeIn, HasListeners, IsHanded, IsHandedWhole, ListedAnew}
-use Rattle.sat_solver.specs.declared.session.made.Made.{Made}
+use Rattle.sat_solver.specs.proof.Listening.{AreListed, Hears, FailedOf, reads_nothing}
+use Rattle.sat_solver.specs.proof.MadeView.{audience, listed_in, Handed, HandedIn, HandedWhole, HandedWholeIn, HasListeners, IsHanded, IsHandedWhole, ListedAnew, told}
+use Rattle.sat_solver.specs.declared.proof.made.Made.{Made}
 use Rattle.sat_solver.specs.session.Session.{MayAll}
-use Rattle.sat_solver.specs.session.Widths.{KeepsWidth, narrowed, IsWritten, none_yet, width_changes, one_more}
-use Rattle.sat_solver.specs.declared.session.checked.Checked.{Checked}
+use Rattle.sat_solver.specs.proof.Widths.{KeepsWidth, narrowed, IsWritten, none_yet, width_changes, one_more}
+use Rattle.sat_solver.specs.declared.proof.checker.Checked.{Checked}
 use Rattle.sat_solver.proofs.lemmas.session.EndedLemmas.{unended_may}
 use Rattle.sat_solver.proofs.lemmas.session.HearingLemmas.{answered_delayed, has_heard, heard_all, none_told, widths_quiet}
 use Rattle.sat_solver.proofs.lemmas.session.Narrowing.{widths_are_free}
@@ -367,10 +368,6 @@ module _ {L : Type 0} (takes : L → Told → Result Unit Error → L → Type 0
   pub anew_fed : (new : Checked L) (added : List L) (steps : List Step) → has_begun steps ≡ false → IsFed takes new added [] → ∥ FedUnless takes false (Some new) added steps ∥₁
   anew_fed new added steps u f = (let k = fed_ended takes new added steps u f in ∣ ((λ _. k), fed_heard takes new added steps k) ∣₁)
 
-  -- where a step was lost before, that fails
-  pub lost_why : (own : Option (Checked L)) (old : Checked L) (lost : Bool) (added : List L) (steps : List Step) → ∥ FedUnless takes lost own added steps ∥₁ → own ≡ Some old → ∥ Failed takes added (listeners_of (who_listens old)) steps checks.OutOfMemory ∥₁ × HasListeners checks.OutOfMemory (Some added)
-  lost_why own old lost added steps fed is = (∥∥₁_elim (subst (λ o. ∥ FedUnless takes lost o added steps ∥₁) is fed) ∥∥₁_prop (λ f. ∣ f.1 ∣₁), tt)
-
   -- a checker began anew
   pub anew : (old new : Checked L) (added given : List L) → added ≡ given → given ≡ (listeners_of (who_listens old)).processors → new.bits ≡ 64 → kernels.Stands (kernel_of new.checker) [] → has_failed (kernel_of new.checker) ≡ false
       → kernels.IsSettled (kernel_of new.checker) → listeners_of (who_listens new) ≡ record { processors = given; transcripts = [] } → BeginsAnew takes old new added
@@ -403,6 +400,16 @@ module _ {L : Type 0} {G : Ghosts L} (m : Made L G) where
 
   pub listed_again : (own : Checked L) (given : List L) → m.own ≡ Some own → m.lost ≡ true → given ≡ (listeners_of (who_listens own)).processors → ListedAnew m.lost m (audience m) given
   listed_again own given is l e = subst (λ o. ListedAnew m.lost m (listed_in o m.roll.items) given) (sym is) (subst (λ b. ListedAnew b m (Some m.roll.items) given) (sym l) (made_handed own given is e))
+
+-- a complaint was told, and nothing else has changed
+pub complaint_told : {L : Type 0} {G : Ghosts L} (m : Made L G) (complaint : Option Error) (counted : m.begun ≡ has_begun m.history.steps) (may : ∥ MayAll m.history.steps ∥₁) (fed : ∥ FedUnless G.takes m.lost m.own m.roll.items m.history.steps ∥₁) → complaint ≡ None
+    → record { history = m.history; own = m.own; roll = m.roll; begun = m.begun; lost = m.lost; complaint = complaint; counted = counted; may = may; fed = fed } ≡ told m
+complaint_told m complaint counted may fed none = λ i. record m {
+  complaint = none i;
+  counted = Bool-set m.begun (has_begun m.history.steps) counted m.counted i;
+  may = ∥∥₁_prop may m.may i;
+  fed = ∥∥₁_prop fed m.fed i;
+}
 
 -- a step more may be made
 pub may_more : (steps now : List Step) (step : Step) → now ≡ step ∷ steps → MayAll (step ∷ steps) → ∥ MayAll now ∥₁

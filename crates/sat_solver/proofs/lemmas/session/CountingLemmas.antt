@@ -1,7 +1,7 @@
 -- The width of hashes, turn by turn.
 use Rattle.std.proofs.Common.{ℕ, zero, suc, ◌+◌, ◌-◌, ◌<◌, ◌≤◌, ◌≡◌, ◌∙◌, true, false, refl, sym, ap, arith}
 use Rattle.std.specs.Prelude.{cond, min}
-use Rattle.sat_solver.specs.session.Counting.{too_short, too_long, widened, shortened}
+use Rattle.sat_solver.specs.proof.Counting.{too_short, too_long, widened, shortened}
 
 -- a turn is left
 turn : (i : ℕ) → i < 32 → 32 - i ≡ suc (32 - (i + 1))

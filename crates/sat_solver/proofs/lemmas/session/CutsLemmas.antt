@@ -2,10 +2,10 @@
 use Rattle.std.proofs.Common.{ℕ, ◌≡◌, Bool, true, false, cond, eqb, List, [], ◌∷◌, ◌++◌, refl, sym, subst}
 use Rattle.std.proofs.lemmas.Bool.{eqb-true}
 use Rattle.sat_base.specs.steps.Steps.{Step, ChangeHashBits}
-use Rattle.sat_solver.specs.session.Counting.{start, width_told, counted, Cuts, none_made, ask_begun, one_made}
-use Rattle.sat_solver.specs.session.ProofTexts.{CutsAreFree}
-use Rattle.sat_solver.specs.session.Widths.{IsWritten, none_yet, width_changes, one_more}
-use Rattle.sat_solver.specs.declared.session.counting.Counting.{Counting}
+use Rattle.sat_solver.specs.proof.Counting.{start, width_told, counted, TruncatesHashes, none_made, ask_begun, one_made}
+use Rattle.sat_solver.specs.proof.ProofTexts.{CutsAreFree}
+use Rattle.sat_solver.specs.proof.Widths.{IsWritten, none_yet, width_changes, one_more}
+use Rattle.sat_solver.specs.declared.proof.hash_bits.Counting.{Counting}
 use Rattle.sat_solver.proofs.lemmas.session.Narrowing.{widths_are_free}
 
 -- a width that changes was written
@@ -17,7 +17,7 @@ told {made} {written} before now w = go (eqb before now) refl
     go false e = width_changes now w
 
 -- what is written for steps, by whole hashes at first
-pub is_written : {c d : Counting} {made written : List Step} → c ≡ start → Cuts c made written d → IsWritten made written d.bits
+pub is_written : {c d : Counting} {made written : List Step} → c ≡ start → TruncatesHashes c made written d → IsWritten made written d.bits
 is_written e none_made = subst (λ (x : Counting). IsWritten [] [] x.bits) (sym e) none_yet
 is_written e (ask_begun p) = is_written e p
 is_written e (one_made {d = d} step k p) = one_more step k (told d.bits (counted step d).bits (is_written e p))

@@ -1,7 +1,7 @@
 -- Hashes that are cut one after the other.
 use Rattle.std.proofs.lemmas.Bool.{true≢false}
 use Rattle.std.proofs.Common.{ℕ, suc, false, is_err, OnOk, ◌+◌, ◌<◌, ◌≡◌, ◌++◌, List, [], ◌∷◌, map, drop, length, slice_index_or, Result, Ok, Err, arith, append_assoc, drop-cons}
-use Rattle.sat_solver.specs.session.Widths.{kept_bits}
+use Rattle.sat_solver.specs.proof.Widths.{kept_bits}
 
 -- one hash more
 pub narrow_next : (w i : ℕ) (items hs : List ℕ) → i < length hs → (items ++ kept_bits w (slice_index_or hs i 0) ∷ []) ++ map (kept_bits w) (drop (i + 1) hs) ≡ items ++ map (kept_bits w) (drop i hs)

@@ -7,8 +7,8 @@ use Rattle.sat_base.specs.values.Literals.{variable, negated}
 use Rattle.sat_base.specs.steps.Steps.{Redundant, Simplified, Satisfied, Step, SolverVarName, UserVarName, DeleteVar, ChangeSamplingMode, AddClause, AtClause, UnitClauses, DeleteClause, ChangeHashBits, Model, Assumptions, FailedAssumptions, End}
 use Rattle.sat_checker.specs.LiteralSets.{is_among, is_tautology, canonical, same_literals}
 use Rattle.sat_checker.proofs.lemmas.propagation.Soundness.{negated-negated}
-use Rattle.sat_solver.specs.session.Drat.{times, without_set, behind_lines, behind_step, present, Refutes, LinesStand, IsDratDerivation, DratStands}
-use Rattle.sat_solver.specs.session.DratText.{unit_lines, lines_of}
+use Rattle.sat_solver.specs.proof.Drat.{times, without_set, behind_lines, behind_step, present, Refutes, LinesStand, IsDratDerivation, DratStands}
+use Rattle.sat_solver.specs.proof.DratText.{unit_lines, lines_of}
 use Rattle.sat_checker.specs.Contents.{more_if, less_if, same_side}
 use Rattle.sat_solver.specs.session.Session.{Session, nothing, with_live, without_live, with_fact, with_facts, with_sorted, with_clause, knowing_literals, after, session_after, AreNamed, denied, MayDerive, by_unit, by_clauses, MayProve, May, MayAll}
 use Rattle.sat_solver.proofs.lemmas.session.DratLemmas.{times_behind, times_itself, times_left, times_less, refutes_one, refutes_unit, leads_refute, units_first, negations, leads_within, units_in, units_there, units_are}

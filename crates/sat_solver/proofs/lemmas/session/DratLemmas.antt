@@ -8,7 +8,7 @@ use Rattle.sat_checker.specs.LiteralSets.{is_among, canonical, same_literals}
 use Rattle.sat_checker.specs.Propagation.{IsFalsified, IsUnit, UnitInTurn}
 use Rattle.sat_checker.proofs.lemmas.sets.Canonical.{canonical_among}
 use Rattle.sat_checker.proofs.lemmas.sets.Members.{canonical_each}
-use Rattle.sat_solver.specs.session.Drat.{times, without_set, Refutes}
+use Rattle.sat_solver.specs.proof.Drat.{times, without_set, Refutes}
 use Rattle.sat_checker.specs.Leading.{Leads}
 use Rattle.sat_checker.specs.Contents.{more_if}
 

@@ -2,7 +2,7 @@
 use Rattle.std.proofs.Common.{ℕ, ◌≡◌, List, [], ◌∷◌, map, refl, ap}
 use Rattle.sat_base.specs.steps.Steps.{Step, SolverVarName, UserVarName, DeleteVar, ChangeSamplingMode, AddClause, AtClause, UnitClauses, DeleteClause, ChangeHashBits, Model, Assumptions, FailedAssumptions, End}
 use Rattle.sat_checker.specs.matching.Checking.{is_ordered}
-use Rattle.sat_solver.specs.session.Widths.{narrowed, IsWritten, none_yet, width_changes, one_more}
+use Rattle.sat_solver.specs.proof.Widths.{narrowed, IsWritten, none_yet, width_changes, one_more}
 use Rattle.sat_solver.specs.session.Due.{kept_if, ordered_of, without_hashes, WidthsKeepOrder}
 
 -- one step, before the earlier ones

@@ -4,7 +4,7 @@ use Rattle.sat_base.specs.values.Literals.{negated}
 use Rattle.sat_base.specs.steps.Steps.{Redundant, Simplified, Satisfied, Step, SolverVarName, UserVarName, DeleteVar, ChangeSamplingMode, AddClause, AtClause, UnitClauses, DeleteClause, ChangeHashBits, Model, Assumptions, FailedAssumptions, End}
 use Rattle.sat_checker.specs.LiteralSets.{is_tautology, canonical}
 use Rattle.sat_solver.specs.session.Session.{Session, with_fact, with_facts, with_sorted, with_clause, knowing_literals, changed, last_after, after, session_after, AreNamed, MayDerive, MayFail, by_signs, by_derivation, by_unit, by_clauses, MayProve, May, MayAll}
-use Rattle.sat_solver.specs.session.Checked.{unended}
+use Rattle.sat_solver.specs.proof.Checked.{unended}
 
 -- the session with another last clause
 abbrev at : Option (List ℕ) → Session → Session

@@ -6,13 +6,13 @@ use Rattle.sat_base.specs.device.Device.{Writer}
 use Rattle.sat_base.specs.device.Sink.{empty_sink}
 use Rattle.sat_base.specs.steps.Steps.{Step, SolverVarName, UserVarName, DeleteVar, ChangeSamplingMode, AddClause, AtClause, UnitClauses, DeleteClause, ChangeHashBits, Model, Assumptions, FailedAssumptions, End}
 use Rattle.sat_checker.specs.declared.processing.ProofProcessor.{Ghosts}
-use Rattle.sat_solver.specs.session.Checked.{has_begun}
-use Rattle.sat_solver.specs.session.Counting.{start}
-use Rattle.sat_solver.specs.session.Fronts.{FrontText, Follows, WentOn, FrontsAreAccepted}
-use Rattle.sat_solver.specs.session.ProofView.{Target, Closed, Open, Broken as Faulty, Carries, Stops, Gives, target_of, steps_of, Adds, Fails}
+use Rattle.sat_solver.specs.proof.Checked.{has_begun}
+use Rattle.sat_solver.specs.proof.Counting.{start}
+use Rattle.sat_solver.specs.proof.Fronts.{FrontText, Follows, WentOn, FrontsAreAccepted}
+use Rattle.sat_solver.specs.proof.ProofView.{Target, Closed, Open, Broken as Faulty, Carries, Stops, Gives, target_of, steps_of, Adds, Fails}
 use Rattle.sat_solver.specs.session.Session.{nothing, May, MayAll, after, session_after}
-use Rattle.sat_solver.specs.declared.session.format.ProofFormat.{ProofFormat}
-use Rattle.sat_solver.specs.declared.session.proof.Proof.{Proof}
+use Rattle.sat_solver.specs.declared.proof.format.ProofFormat.{ProofFormat}
+use Rattle.sat_solver.specs.declared.proof.Proof.{Proof}
 use Rattle.sat_solver.proofs.lemmas.session.CutsLemmas.{cuts_are_free}
 use Rattle.sat_solver.proofs.lemmas.session.ProofLemmas.{carries_none, carries_more, stops_later}
 use Rattle.sat_solver.proofs.lemmas.session.StepLemmas.{sessions_are_accepted}

@@ -16,12 +16,12 @@ use Rattle.sat_checker.specs.declared.processing.Nobody.{Nobody}
 use Rattle.sat_checker.specs.declared.processing.Processing.{Processing}
 use Rattle.sat_checker.specs.declared.processing.ProcessingError.{ProcessingError}
 use Rattle.sat_checker.specs.declared.processing.ProcessingError.TheVariants as faults
-use Rattle.sat_solver.specs.declared.session.made.CheckFault.{CheckFault}
-use Rattle.sat_solver.specs.declared.session.made.CheckFault.TheVariants as checks
-use Rattle.sat_solver.specs.session.Checked.{OrCause}
-use Rattle.sat_solver.specs.session.Listening.{Hears, HeardAll, HeardUpTo, HasHeard, FailedOf}
+use Rattle.sat_solver.specs.declared.proof.made.CheckFault.{CheckFault}
+use Rattle.sat_solver.specs.declared.proof.made.CheckFault.TheVariants as checks
+use Rattle.sat_solver.specs.proof.Checked.{OrCause}
+use Rattle.sat_solver.specs.proof.Listening.{Hears, HeardAll, HeardUpTo, HasHeard, FailedOf}
 use Rattle.sat_solver.specs.session.Session.{MayAll}
-use Rattle.sat_solver.specs.session.Widths.{IsWritten, none_yet, width_changes, one_more}
+use Rattle.sat_solver.specs.proof.Widths.{IsWritten, none_yet, width_changes, one_more}
 use Rattle.sat_solver.proofs.lemmas.session.StepLemmas.{sessions_are_accepted}
 
 -- changes of width tell nothing, and leave no unit conflict
@@ -59,7 +59,7 @@ module _ {L : Type 0} (takes : L → Told → Result Unit Error → L → Type 0
 
   -- what was heard where it failed
   pub has_heard : (now : Processing L Nobody) (written : List Step) (fault : CheckFault) → FailedOf takes begun now written fault → HasHeard takes begun now written
-  has_heard now written checks.OutOfMemory h = h
+  has_heard now written checks.OutOfMemory h = elim h [ inl a ↦ inl a | inr b ↦ inr (faults.OutOfMemory, b) ]
   has_heard now written checks.CounterEnd h = inl h.1
   has_heard now written (checks.Processor cause) h = inr (faults.ProofProcessorError cause, h)
 
@@ -73,8 +73,8 @@ module _ {L : Type 0} (takes : L → Told → Result Unit Error → L → Type 0
     up_to step e (inr b) = inr (inl b.1.heard)
 
     starved : (step : Step) → HeardUpTo takes begun new.listeners written faults.OutOfMemory ⊎ HeardUpTo takes begun new.listeners (step ∷ written) faults.OutOfMemory → Broke step checks.OutOfMemory
-    starved step (inl h) = inl (inr (faults.OutOfMemory, h))
-    starved step (inr h) = inr (inr (faults.OutOfMemory, h))
+    starved step (inl h) = inl (inr h)
+    starved step (inr h) = inr (inr h)
 
     starved_at : (step : Step) → Stops (Hears takes) [] begun new written ⊎ BreaksAt (Hears takes) [] begun faults.OutOfMemory new step written → Broke step checks.OutOfMemory
     starved_at step (inl s) = inl (inl s.heard)
@@ -97,7 +97,7 @@ module _ {L : Type 0} (takes : L → Told → Result Unit Error → L → Type 0
     pub answered_delayed : (r : Result (Unit {0}) CheckerError) → AnswersDelayed (Hears takes) [] begun r old new written
         → OrCause r (Stands (Hears takes) [] begun new written × (has_failed new ≡ false) × IsSettled new.kernel) (FailedOf takes begun new.listeners written)
     answered_delayed (Ok x) a = (a.2, a.3, a.4)
-    answered_delayed (Err errors.OutOfMemory) a = (tt, inr (faults.OutOfMemory, inr a.2.heard))
+    answered_delayed (Err errors.OutOfMemory) a = (tt, inr (inr a.2.heard))
     answered_delayed (Err errors.CounterEnd) a = (tt, (inr a.2, a.3.heard))
     answered_delayed (Err (errors.ProofProcessorError cause)) a = (tt, inr a.2.heard)
     answered_delayed (Err errors.HasFailed) a = absurd (true≢false (sym a.0 ∙ going))

@@ -1,7 +1,7 @@
 -- Lines that are put together.
 use Rattle.std.proofs.Common.{ℕ, suc, ◌+◌, ◌-◌, ◌/◌, ◌%◌, ◌^◌, ◌<◌, ◌≤◌, ◌≡◌, ◌∙◌, cond, decimal, OnOk, Result, Ok, Err, List, [], ◌∷◌, ◌++◌, append_assoc, le-ltb, refl, sym, ap, arith}
 use Rattle.sat_base.proofs.lemmas.dimacs.TextWrites.{one_digit, last_digit}
-use Rattle.sat_solver.specs.session.DratText.{seven_bits}
+use Rattle.sat_solver.specs.proof.DratText.{seven_bits}
 
 -- one byte behind a text
 pub with_digit : (n : ℕ) (old new : List ℕ) → n < 10 → new ≡ old ++ (48 + n) ∷ [] → new ≡ old ++ decimal n

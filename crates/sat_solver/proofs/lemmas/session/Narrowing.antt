@@ -6,7 +6,7 @@ use Rattle.sat_base.specs.steps.Steps.{Redundant, Simplified, Satisfied, Step, S
 use Rattle.sat_checker.specs.LiteralSets.{is_tautology, canonical}
 use Rattle.sat_checker.specs.Stored.{solver_literal}
 use Rattle.sat_solver.specs.session.Session.{Session, with_fact, with_facts, with_sorted, with_clause, knowing_literals, changed, last_after, after, session_after, AreNamed, MayDerive, MayFail, by_signs, by_derivation, by_unit, by_clauses, MayProve, May, MayAll}
-use Rattle.sat_solver.specs.session.Widths.{kept_bits, narrowed, KeepsWidth, IsWritten, none_yet, width_changes, one_more, MayAt, WidthsAreFree}
+use Rattle.sat_solver.specs.proof.Widths.{kept_bits, narrowed, KeepsWidth, IsWritten, none_yet, width_changes, one_more, MayAt, WidthsAreFree}
 
 -- the session at another width
 abbrev pub at : ℕ → Session → Session

@@ -6,11 +6,11 @@ use Rattle.sat_base.specs.device.Device.{Writer, Breaks, FlushesOnce}
 use Rattle.sat_base.specs.device.Sink.{Flushes, empty_sink}
 use Rattle.sat_base.specs.steps.Steps.{Step, ChangeHashBits}
 use Rattle.sat_base.proofs.lemmas.device.Sending.{sent_none, sends_flush}
-use Rattle.sat_solver.specs.session.Counting.{width_told}
-use Rattle.sat_solver.specs.session.DratText.{drat_text}
-use Rattle.sat_solver.specs.session.OutputView.{is_lines, step_text, SpellsIn, text_in, AreSpelt, PutsSteps, PutsLines, lines_format}
-use Rattle.sat_solver.specs.declared.session.proof.ProofError.{ProofError}
-use Rattle.sat_solver.specs.declared.session.proof.ProofError.TheVariants.{Write, OutOfMemory, Check}
+use Rattle.sat_solver.specs.proof.Counting.{width_told}
+use Rattle.sat_solver.specs.proof.DratText.{drat_text}
+use Rattle.sat_solver.specs.proof.OutputView.{is_lines, step_text, SpellsIn, text_in, AreSpelt, PutsSteps, PutsLines, lines_format}
+use Rattle.sat_solver.specs.declared.proof.output.OutputError.{OutputError}
+use Rattle.sat_solver.specs.declared.proof.output.OutputError.TheVariants.{Write, OutOfMemory}
 
 module _ (binary : Bool) where
   step_is : (step : Step) → step_text (lines_format binary) step ≡ drat_text binary step
@@ -46,11 +46,10 @@ lines_are false = refl
 lines_are true = refl
 
 -- lines were put, and nothing waits
-pub lines_put : (binary : Bool) (r : Result (Unit {0}) ProofError) (before now : ℕ) (step : Step) (v w : Writer) → PutsLines binary r step v w → PutsSteps (lines_format binary) r (step ∷ width_told before now) (empty_sink v) (empty_sink w)
+pub lines_put : (binary : Bool) (r : Result (Unit {0}) OutputError) (before now : ℕ) (step : Step) (v w : Writer) → PutsLines binary r step v w → PutsSteps (lines_format binary) r (step ∷ width_told before now) (empty_sink v) (empty_sink w)
 lines_put binary (Ok x) before now step v w h = record { spelt = spelt_any binary (step ∷ width_told before now); sent = record { fresh = drat_text binary step; flows = text_is binary before now step ∙ sym (append-nil (drat_text binary step)); takes = h } }
 lines_put binary (Err (Write e)) before now step v w h = subst (Breaks v w) (sym (text_is binary before now step)) h
 lines_put binary (Err OutOfMemory) before now step v w h = ap empty_sink h
-lines_put binary (Err (Check fault)) before now step v w h = h
 
 -- they were flushed
 pub lines_flushed : {E : Type 0} (r : Result (Unit {0}) E) (v w : Writer) → FlushesOnce r v w → Flushes r (empty_sink v) (empty_sink w)

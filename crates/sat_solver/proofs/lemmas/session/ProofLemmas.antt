@@ -1,5 +1,5 @@
 -- Steps that went to a proof's target, one after another.
-use Rattle.std.proofs.Common.{◌≡◌, ◌∙◌, ℕ, true, Option, None, Some, Result, Ok, Err, List, [], ◌∷◌, ◌++◌, append_assoc, refl, sym, ap, subst, ◌⊎◌, inl, inr}
+use Rattle.std.proofs.Common.{◌≡◌, ◌∙◌, ℕ, Bool, true, false, Option, None, Some, Result, Ok, Err, List, [], ◌∷◌, ◌++◌, append_assoc, refl, sym, ap, subst, ◌⊎◌, inl, inr}
 use Rattle.std.proofs.lemmas.Bool.{true≢false}
 use Rattle.std.proofs.lemmas.List.{append-nil, reverse-append}
 use Rattle.std.specs.Prelude.{is_some, reverse}
@@ -12,22 +12,23 @@ use Rattle.sat_base.specs.steps.StepText.{SpellsStep, SpellsSteps}
 use Rattle.sat_base.proofs.lemmas.device.Sending.{sent_none, sent_more}
 use Rattle.sat_base.proofs.lemmas.device.Writes.{took_more as took_both, breaks_later}
 use Rattle.sat_checker.specs.declared.processing.ProofProcessor.{Ghosts}
-use Rattle.sat_solver.specs.session.Counting.{Cuts, none_made, ask_begun, one_made, written_for, counted}
-use Rattle.sat_solver.specs.session.ProofTexts.{ClosedIsText, BrokenIsFront, WroteSince, TookSince}
-use Rattle.sat_solver.specs.session.OutputView.{step_text, text_in, AreSpelt, Wrote}
-use Rattle.sat_solver.specs.session.ProofView.{IsAtWidth, Target, Closed, Open, Broken as Faulty, is_open, Carried, Carries, Stops, Flushed, TakesAll, Gives, target_of, steps_of, has_asked, Adds, Gains, Fails, FailsCheck, Complains, is_checked, Records, Drains, Flushes, FlushesOrFails, Closes, ClosesOne, HandsBack}
-use Rattle.sat_solver.specs.session.MadeView as mades
+use Rattle.sat_solver.specs.proof.Counting.{TruncatesHashes, none_made, ask_begun, one_made, written_for, counted}
+use Rattle.sat_solver.specs.proof.ProofTexts.{ClosedIsText, BrokenIsFront, WroteSince, TookSince}
+use Rattle.sat_solver.specs.proof.OutputView.{step_text, text_in, AreSpelt, Wrote}
+use Rattle.sat_solver.specs.proof.ProofView.{IsAtWidth, Target, Closed, Open, Broken as Faulty, is_open, Carried, Carries, Stops, Flushed, TakesAll, Gives, target_of, steps_of, has_asked, Adds, Gains, Fails, FailsCheck, Complains, is_checked, is_lost, Records, Drains, Flushes, FlushesOrFails, Closes, ClosesOne, HandsBack}
+use Rattle.sat_solver.specs.proof.Complaints.{IsComplaint}
+use Rattle.sat_solver.specs.proof.MadeView as mades
 use Rattle.sat_solver.specs.session.Making.{Gained}
-use Rattle.sat_solver.specs.declared.session.made.CheckFault.{CheckFault}
-use Rattle.sat_solver.specs.declared.session.checked.Checked.{Checked}
-use Rattle.sat_solver.specs.declared.session.made.Made.{Made}
-use Rattle.sat_solver.specs.session.Widths.{KeepsWidth}
-use Rattle.sat_solver.specs.declared.session.counting.Counting.{Counting}
-use Rattle.sat_solver.specs.declared.session.format.ProofFormat.{ProofFormat}
-use Rattle.sat_solver.specs.declared.session.format.ProofFormat.TheVariants.{Varisat}
-use Rattle.sat_solver.specs.declared.session.proof.Proof.{Proof}
-use Rattle.sat_solver.specs.declared.session.proof.ProofError.{ProofError}
-use Rattle.sat_solver.specs.declared.session.proof.ProofError.TheVariants.{Write, OutOfMemory, Check}
+use Rattle.sat_solver.specs.declared.proof.made.CheckFault.{CheckFault}
+use Rattle.sat_solver.specs.declared.proof.checker.Checked.{Checked}
+use Rattle.sat_solver.specs.declared.proof.made.Made.{Made}
+use Rattle.sat_solver.specs.proof.Widths.{KeepsWidth}
+use Rattle.sat_solver.specs.declared.proof.hash_bits.Counting.{Counting}
+use Rattle.sat_solver.specs.declared.proof.format.ProofFormat.{ProofFormat}
+use Rattle.sat_solver.specs.declared.proof.format.ProofFormat.TheVariants.{Varisat}
+use Rattle.sat_solver.specs.declared.proof.Proof.{Proof}
+use Rattle.sat_solver.specs.declared.proof.ProofError.{ProofError}
+use Rattle.sat_solver.specs.declared.proof.ProofError.TheVariants.{Write, OutOfMemory, Check}
 
 -- TEXTS
 
@@ -81,15 +82,15 @@ module _ (f : ProofFormat) where
 -- WIDTHS
 
 -- steps that were made, and then later ones
-pub cuts_more : {c d e : Counting} {xs ys ws vs : List Step} → Cuts c xs ws d → Cuts d ys vs e → Cuts c (ys ++ xs) (vs ++ ws) e
+pub cuts_more : {c d e : Counting} {xs ys ws vs : List Step} → TruncatesHashes c xs ws d → TruncatesHashes d ys vs e → TruncatesHashes c (ys ++ xs) (vs ++ ws) e
 cuts_more p none_made = p
 cuts_more p (ask_begun q) = ask_begun (cuts_more p q)
 cuts_more {c = c} {xs = xs} {ws = ws} p (one_made {d = d} {made = made} {written = written} step k q) =
-    subst (λ (z : List Step). Cuts c (step ∷ (made ++ xs)) z (counted step d)) (sym (append_assoc (written_for d.bits (counted step d).bits step) written ws)) (one_made step k (cuts_more p q))
+    subst (λ (z : List Step). TruncatesHashes c (step ∷ (made ++ xs)) z (counted step d)) (sym (append_assoc (written_for d.bits (counted step d).bits step) written ws)) (one_made step k (cuts_more p q))
 
 -- one step
-pub cuts_one : (c : Counting) (step : Step) → KeepsWidth step → Cuts c (step ∷ []) (written_for c.bits (counted step c).bits step) (counted step c)
-cuts_one c step k = subst (λ (z : List Step). Cuts c (step ∷ []) z (counted step c)) (append-nil (written_for c.bits (counted step c).bits step)) (one_made step k none_made)
+pub cuts_one : (c : Counting) (step : Step) → KeepsWidth step → TruncatesHashes c (step ∷ []) (written_for c.bits (counted step c).bits step) (counted step c)
+cuts_one c step k = subst (λ (z : List Step). TruncatesHashes c (step ∷ []) z (counted step c)) (append-nil (written_for c.bits (counted step c).bits step)) (one_made step k none_made)
 
 -- TARGETS
 
@@ -249,28 +250,35 @@ check_later seen xs ys a b c p q = record { adds = adds_more seen xs ys a b c p 
 drained : {W L : Type 0} {G : Ghosts L} (seen : W → Writer) (a b : Proof W L G) → Drains seen a b → Adds seen [] a b
 drained seen a b h = record { history = h.history; listening = h.listening; target = flushed_carries (target_of seen a) (target_of seen b) h.target }
 
+-- it hadn't failed before
+pub complains_now : {W L : Type 0} {G : Ghosts L} (fault : CheckFault) (p : Proof W L G) (lost : Bool) → lost ≡ false → mades.ComplainsOr lost fault p.made → Complains fault p × IsComplaint fault p.made.complaint
+complains_now fault p lost taking h = elim h [ inl k ↦ k | inr k ↦ absurd (true≢false (sym k.0 ∙ taking)) ]
+
 -- nor does what the checker tells behind it
-pub flush_records : {W L : Type 0} {G : Ghosts L} (seen : W → Writer) (r : Result (Unit {0}) ProofError) (a b : Proof W L G) → FlushesOrFails seen r a b → Records seen r [] a b
-flush_records seen (Ok x) a b h = record { history = h.history; listening = h.listening; taking = h.taking; asked = h.asked; width = λ k. elim k [ inl w ↦ h.width w | inr n ↦ absurd (n refl) ]; target = flushed_carries (target_of seen a) (target_of seen b) h.target }
-flush_records seen (Err (Write e)) a b h = h
-flush_records seen (Err OutOfMemory) a b h = absurd h
-flush_records seen (Err (Check fault)) a b h = record { adds = drained seen a b h.0; why = h.1 }
+pub flush_records : {W L : Type 0} {G : Ghosts L} (seen : W → Writer) (r : Result (Unit {0}) ProofError) (a b : Proof W L G) → is_lost a ≡ false → FlushesOrFails seen r a b → Records seen r [] a b
+flush_records seen (Ok x) a b taking h = record { history = h.history; listening = h.listening; taking = h.taking; asked = h.asked; width = λ k. elim k [ inl w ↦ h.width w | inr n ↦ absurd (n refl) ]; target = flushed_carries (target_of seen a) (target_of seen b) h.target }
+flush_records seen (Err (Write e)) a b taking h = h
+flush_records seen (Err OutOfMemory) a b taking h = absurd h
+flush_records seen (Err (Check fault)) a b taking h = (let k = complains_now fault b (is_lost a) taking h.1 in (record { adds = drained seen a b h.0; why = k.0 }, k.1))
 
 -- the last step wasn't made, or not taken
 pub close_stops : {W L : Type 0} {G : Ghosts L} (T : Type 0) (seen : W → Writer) (e : ProofError) (a b : Proof W L G) → Records {T = T} seen (Err e) (End ∷ []) a b → Closes seen (Err e) a b
 close_stops T seen (Write e) a b h = h
-close_stops T seen OutOfMemory a b h = gains_adds seen [] a b h
-close_stops T seen (Check fault) a b h = h
+close_stops T seen OutOfMemory a b h = h
+close_stops T seen (Check fault) a b h = (h.0.adds, inl (h.0.why, h.1))
 
 -- the last step was made, and then a flush failed
 pub close_fails : {W L : Type 0} {G : Ghosts L} (seen : W → Writer) (e : ProofError) (a b c : Proof W L G) → Gains seen (End ∷ []) a b → FlushesOrFails seen (Err e) b c → Closes seen (Err e) a c
-close_fails seen (Write e) a b c p q = record {
-  history = q.history ∙ p.history;
-  listening = q.listening ∙ p.listening;
-  target = stops_later (target_of seen a) (target_of seen b) (target_of seen c) (End ∷ []) [] p.target q.target;
-}
+close_fails seen (Write e) a b c p q = (
+  record {
+    history = q.0.history ∙ p.history;
+    listening = q.0.listening ∙ p.listening;
+    target = stops_later (target_of seen a) (target_of seen b) (target_of seen c) (End ∷ []) [] p.target q.0.target;
+  },
+  q.1,
+)
 close_fails seen OutOfMemory a b c p q = absurd q
-close_fails seen (Check fault) a b c p q = record { adds = adds_more seen (End ∷ []) [] a b c (gains_adds seen (End ∷ []) a b p) (drained seen b c q.0); why = q.1 }
+close_fails seen (Check fault) a b c p q = (adds_more seen (End ∷ []) [] a b c (gains_adds seen (End ∷ []) a b p) (drained seen b c q.0), elim q.1 [ inl k ↦ inl k | inr k ↦ inr (sym p.taking ∙ k.0, k.1) ])
 
 gives_none : (a b c : Target) (xs : List Step) → is_open a ≡ true → Carries a xs b → Flushed b c → Gives c None → ⊥
 gives_none Closed b c xs o p f g = absurd (true≢false (sym o))

@@ -1,7 +1,7 @@
 -- Rows of widths and lines, computed.
 use Rattle.std.proofs.Common.{refl}
-use Rattle.sat_solver.specs.session.Counting.{widened, shortened}
-use Rattle.sat_solver.specs.session.ProofRows.{WidthRows, CountRow, LineRows}
+use Rattle.sat_solver.specs.proof.Counting.{widened, shortened}
+use Rattle.sat_solver.specs.proof.ProofRows.{WidthRows, CountRow, LineRows}
 
 pub width_rows : WidthRows
 unfolding widened shortened

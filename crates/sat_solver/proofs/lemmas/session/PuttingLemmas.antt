@@ -5,17 +5,17 @@ use Rattle.sat_base.specs.device.Sink.{Sink, Sent}
 use Rattle.sat_base.specs.steps.Steps.{Step}
 use Rattle.sat_base.proofs.lemmas.device.Writes.{breaks_within}
 use Rattle.sat_checker.specs.declared.processing.ProofProcessor.{Ghosts}
-use Rattle.sat_solver.specs.session.Counting.{width_told, written_for, counted}
-use Rattle.sat_solver.specs.session.OutputView.{step_text, SpellsIn, text_in, Wrote, PutsSteps, output_format, output_sink}
-use Rattle.sat_solver.specs.session.ProofView.{Carries, Stops, Open, Broken as Faulty, with_fault, target_in, target_of, Adds, Fails}
-use Rattle.sat_solver.specs.session.Widths.{narrowed, KeepsWidth}
-use Rattle.sat_solver.specs.declared.session.counting.Counting.{Counting}
-use Rattle.sat_solver.specs.declared.session.output.Output.{Output}
-use Rattle.sat_solver.specs.declared.session.format.ProofFormat.{ProofFormat}
-use Rattle.sat_solver.specs.session.Counting.{none_made, ask_begun}
-use Rattle.sat_solver.specs.declared.session.proof.Proof.{Proof}
-use Rattle.sat_solver.specs.declared.session.proof.ProofError.{ProofError}
-use Rattle.sat_solver.specs.declared.session.proof.ProofError.TheVariants.{Write, OutOfMemory, Check}
+use Rattle.sat_solver.specs.proof.Counting.{width_told, written_for, counted}
+use Rattle.sat_solver.specs.proof.OutputView.{step_text, SpellsIn, text_in, Wrote, PutsSteps, output_format, output_sink}
+use Rattle.sat_solver.specs.proof.ProofView.{Carries, Stops, Open, Broken as Faulty, with_fault, target_in, target_of, Adds, Fails}
+use Rattle.sat_solver.specs.proof.Widths.{narrowed, KeepsWidth}
+use Rattle.sat_solver.specs.declared.proof.hash_bits.Counting.{Counting}
+use Rattle.sat_solver.specs.declared.proof.output.Output.{Output}
+use Rattle.sat_solver.specs.declared.proof.format.ProofFormat.{ProofFormat}
+use Rattle.sat_solver.specs.proof.Counting.{none_made, ask_begun}
+use Rattle.sat_solver.specs.declared.proof.Proof.{Proof}
+use Rattle.sat_solver.specs.declared.proof.output.OutputError.{OutputError}
+use Rattle.sat_solver.specs.declared.proof.output.OutputError.TheVariants.{Write, OutOfMemory}
 use Rattle.sat_solver.proofs.lemmas.session.ProofLemmas.{wrote_none, breaks_behind, cuts_one, carries_none}
 
 -- one step was written
@@ -27,11 +27,10 @@ pub puts_behind : (f : ProofFormat) (step : Step) (xs : List Step) (s t u : Sink
 puts_behind f step xs s t u p q = breaks_behind f s t u.writer xs (step ∷ []) p q
 
 -- a fault at the text of steps is one at the text of these and one more
-pub puts_short : (f : ProofFormat) (e : ProofError) (step : Step) (xs : List Step) (s t : Sink) → PutsSteps f (Err e) xs s t → PutsSteps f (Err e) (step ∷ xs) s t
+pub puts_short : (f : ProofFormat) (e : OutputError) (step : Step) (xs : List Step) (s t : Sink) → PutsSteps f (Err e) xs s t → PutsSteps f (Err e) (step ∷ xs) s t
 puts_short f (Write e) step xs s t h =
     subst (Breaks s.writer t.writer) (append_assoc s.waiting (text_in f xs) (step_text f step)) (breaks_within s.writer t.writer (s.waiting ++ text_in f xs) (step_text f step) h)
 puts_short f OutOfMemory step xs s t h = h
-puts_short f (Check fault) step xs s t h = h
 
 -- a step was carried
 pub carries_step : (f : ProofFormat) (c : Counting) (s t : Sink) (step : Step) → KeepsWidth step → Wrote f (written_for c.bits (counted step c).bits step) s t → Carries (Open f c s) (step ∷ []) (Open f (counted step c) t)
@@ -59,8 +58,8 @@ module _ {W L : Type 0} {G : Ghosts L} (seen : W → Writer) (p : Proof W L G) w
     was_open = sym (ap (λ x. target_in seen x p.broken p.counting) is ∙ ap (λ b. with_fault b (output_format o) p.counting (output_sink seen o)) well)
 
     -- a flush failed
-    pub fails_flush : Breaks (output_sink seen o).writer (output_sink seen u).writer ((output_sink seen o).waiting ++ []) → Fails seen [] p (record p { output = Some u; broken = true })
-    fails_flush b = record {
+    pub fails_flush : (cause : _) → Breaks (output_sink seen o).writer (output_sink seen u).writer ((output_sink seen o).waiting ++ []) → Fails seen [] p (record p { output = Some u; broken = true; cause = Some cause })
+    fails_flush cause b = record {
       history = refl;
       listening = refl;
       target = subst (λ t. Stops t [] (Faulty (output_sink seen u).writer)) was_open ((output_sink seen u).writer, refl, record { written = []; counting = p.counting; cuts = none_made; breaks = b });

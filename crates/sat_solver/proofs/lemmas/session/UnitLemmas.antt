@@ -6,7 +6,7 @@ use Rattle.sat_base.specs.steps.Steps.{Redundant, Simplified, Satisfied, Step, S
 use Rattle.sat_checker.specs.LiteralSets.{is_tautology, canonical}
 use Rattle.sat_parts.proofs.lemmas.prop.StateLemmas.{negated_twice}
 use Rattle.sat_solver.specs.session.Session.{Session, with_fact, with_facts, with_sorted, with_clause, knowing_literals, after, session_after}
-use Rattle.sat_solver.specs.joint.Advancing.{AreConsistent}
+use Rattle.sat_solver.specs.session.Advancing.{AreConsistent}
 
 negated_other : (l : ℕ) → negated l ≢ l
 negated_other l e = omega arith

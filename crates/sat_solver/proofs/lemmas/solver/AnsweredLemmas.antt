@@ -11,38 +11,38 @@ use Rattle.sat_checker.proofs.lemmas.meaning.Answers.{cores_fail}
 use Rattle.sat_checker.specs.declared.processing.ProofProcessor.{Ghosts}
 use Rattle.sat_parts.specs.prop.Values.{IsTrueLit}
 use Rattle.sat_parts.proofs.lemmas.clause.ListLemmas.{at_place}
-use Rattle.sat_solver.proofs.lemmas.joint.CodeLemmas.{coded_by}
-use Rattle.sat_solver.specs.session.ProofView.{Gains, Keeps, steps_of, session_of}
+use Rattle.sat_solver.proofs.lemmas.fits.CodeLemmas.{coded_by}
+use Rattle.sat_solver.specs.proof.ProofView.{Gains, Keeps, steps_of, session_of}
 use Rattle.sat_solver.specs.session.Session.{MayAll}
 use Rattle.sat_solver.proofs.lemmas.session.StepLemmas.{sessions_are_accepted}
 use Rattle.sat_solver.specs.session.LiveClauses.{with_var}
-use Rattle.sat_solver.specs.declared.search.solving.Core.{Core}
-use Rattle.sat_solver.specs.declared.search.work.Search.{Search}
+use Rattle.sat_solver.specs.declared.schedule.solve.Core.{Core}
+use Rattle.sat_solver.specs.declared.context.Search.{Search}
 use Rattle.sat_solver.specs.declared.config.SolverConfig.{SolverConfig}
-use Rattle.sat_solver.specs.search.Failing.{causes_hashes}
-use Rattle.sat_solver.specs.search.Going.{AreSearched}
-use Rattle.sat_solver.specs.search.Joint.{global_in, IsSearch, Moved}
-use Rattle.sat_solver.specs.names.Adding.{named_literal, Images}
-use Rattle.sat_solver.specs.names.Variables.{data_at, global_at, user_of, names_used, variables_used}
-use Rattle.sat_solver.specs.loading.Shared.{SharesIndices}
-use Rattle.sat_solver.specs.names.Models.{is_true, value_by, value_in, model_to, named_to}
+use Rattle.sat_solver.specs.assumptions.Core.{causes_hashes}
+use Rattle.sat_solver.specs.cdcl.Going.{AreSearched}
+use Rattle.sat_solver.specs.cdcl.Joint.{global_in, IsSearch, Moved}
+use Rattle.sat_solver.specs.load.Literals.{named_literal, Images}
+use Rattle.sat_solver.specs.variables.Variables.{data_at, global_at, user_of, names_used, variables_used}
+use Rattle.sat_solver.specs.variables.Shared.{SharesIndices}
+use Rattle.sat_solver.specs.Models.{is_true, value_by, value_in, model_to, named_to}
 use Rattle.sat_checker.specs.matching.Checking.{variable_of}
 use Rattle.sat_checker.specs.matching.Expected.{Shows, Fails, Spells, EachSpelt, SameSet, shows, fails}
 use Rattle.sat_checker.specs.matching.ProofChecking.{the_checking}
 use Rattle.sat_checker.specs.matching.Traces.{HasTrace, no_step, visible}
-use Rattle.sat_solver.specs.names.Calls.{Stands, Agree, Does}
-use Rattle.sat_solver.specs.declared.names.Variables.{Variables}
-use Rattle.sat_solver.proofs.lemmas.names.MapLemmas.{some_within}
-use Rattle.sat_solver.proofs.lemmas.names.ModeChanges.{live_within}
-use Rattle.sat_solver.proofs.lemmas.names.Searched.{searches_agree}
-use Rattle.sat_solver.proofs.lemmas.names.TakenNames.{test_among}
+use Rattle.sat_solver.specs.variables.Calls.{NamesInvariant, Agree, NamesRefineJudge}
+use Rattle.sat_solver.specs.declared.variables.Variables.{Variables}
+use Rattle.sat_solver.proofs.lemmas.variables.MapLemmas.{some_within}
+use Rattle.sat_solver.proofs.lemmas.variables.ModeChanges.{live_within}
+use Rattle.sat_solver.proofs.lemmas.variables.Searched.{searches_agree}
+use Rattle.sat_solver.proofs.lemmas.variables.TakenNames.{test_among}
 use Rattle.sat_solver.specs.solver.Joined.{IsJoined, name_of, named_by, user_by}
 use Rattle.sat_solver.specs.solver.Answering.{Shown, Failed, model_of, line_of}
 use Rattle.sat_solver.proofs.lemmas.solver.BehindLemmas.{stands_behind}
 use Rattle.sat_solver.proofs.lemmas.solver.ShownLemmas.{coded_back, coded_sign, model_all}
 use Rattle.sat_solver.proofs.lemmas.solver.LineLemmas.{named_has, named_each, mapped_each, literal_among}
 use Rattle.sat_solver.proofs.lemmas.solver.TellingLemmas.{each_live, shares_moved}
-use Rattle.sat_solver.proofs.lemmas.parts.ValueLemmas.{coded_variable}
+use Rattle.sat_parts.proofs.lemmas.parts.ValueLemmas.{coded_variable}
 
 -- what holds at each place holds of all
 pub all_places : (P : ℕ → Type 0) (ls : List ℕ) → ((k : ℕ) → k < length ls → P (get_or ls k 0)) → AllByRecursion P ls
@@ -70,7 +70,7 @@ module _ (n : Variables) (values : List (Option Bool)) (user order : List ℕ) (
 
 -- CORES OVER NAMES
 
-module _ (n : Variables) (steps : List Step) (stands : Stands n steps) (c : Search) (shares : SharesIndices n c) (user order : List ℕ) (images : Images n user order) where
+module _ (n : Variables) (steps : List Step) (stands : NamesInvariant n steps) (c : Search) (shares : SharesIndices n c) (user order : List ℕ) (images : Images n user order) where
   -- the literal over names that an assumption of the search was taken from
   pub record Taken_from (l : ℕ) : Type 0 where
     pub from : ℕ
@@ -142,7 +142,7 @@ core_none steps codes hashes may a held t = (let s = sessions_are_accepted (Fail
 -- STEPS OF ANSWERS
 
 -- the line of a model spells what was written
-pub line_spelt : (n : Variables) (steps : List Step) (values : List (Option Bool)) → Stands n steps → EachSpelt (variable_of steps) (map named_literal (named_to n values (names_used n))) (model_to n values (variables_used n))
+pub line_spelt : (n : Variables) (steps : List Step) (values : List (Option Bool)) → NamesInvariant n steps → EachSpelt (variable_of steps) (map named_literal (named_to n values (names_used n))) (model_to n values (variables_used n))
 line_spelt n steps values stands =
     mapped_each (λ l. (code : ℕ) × Spells (variable_of steps) l code × Among code (model_to n values (variables_used n))) (named_to n values (names_used n))
     (named_each n values (λ l. (code : ℕ) × Spells (variable_of steps) (named_literal l) code × Among code (model_to n values (variables_used n))) (names_used n) (λ u v lt e.
@@ -158,7 +158,7 @@ named_among_all line [] h = tt
 named_among_all line (l ∷ asked) h = (literal_among l line h.0, named_among_all line asked h.1)
 
 -- names and search stand where a search came to, whatever became of names
-pub joined_by : {W L : Type 0} {G : Ghosts L} (n m : Variables) (a b : Core W L G) → IsJoined n a → b.config ≡ a.config → Keeps b.proof → Stands m (steps_of b.proof) → IsSearch (session_of b.proof) b.search → SharesIndices m b.search → IsJoined m b
+pub joined_by : {W L : Type 0} {G : Ghosts L} (n m : Variables) (a b : Core W L G) → IsJoined n a → b.config ≡ a.config → Keeps b.proof → NamesInvariant m (steps_of b.proof) → IsSearch (session_of b.proof) b.search → SharesIndices m b.search → IsJoined m b
 joined_by n m a b joined config keeps stands search shares = record {
   sound = record {
     keeps = keeps;
@@ -181,13 +181,13 @@ module _ {W L : Type 0} {G : Ghosts L} (seen : W → Writer) (n : Variables) (a 
       locals = subst (λ (c : SolverConfig). 0 < c.reduce_locals_interval) (sym config) joined.sound.locals;
       mids = subst (λ (c : SolverConfig). 0 < c.reduce_mids_interval) (sym config) joined.sound.mids;
     };
-    stands = subst (Stands n) (sym adds.history) (stands_behind n (steps_of a.proof) steps joined.stands (subst MayAll adds.history keeps) searched);
+    stands = subst (NamesInvariant n) (sym adds.history) (stands_behind n (steps_of a.proof) steps joined.stands (subst MayAll adds.history keeps) searched);
     shares = shares_moved n a.search b.search joined.shares moved;
   }
 
   -- the step of a model, as the judge expects it
   pub does_shown : (b : Core W L G) → Shown seen n a b → (asked : List ℕ) → AllByRecursion (λ l. Among l (line_of n a)) asked →
-      Does n n (steps_of a.proof) (steps_of b.proof) (λ j. j) (λ j. Shows (names_of (map named_literal (line_of n a))) (map named_literal asked) (map named_literal (line_of n a)) ∷ [])
+      NamesRefineJudge n n (steps_of a.proof) (steps_of b.proof) (λ j. j) (λ j. Shows (names_of (map named_literal (line_of n a))) (map named_literal asked) (map named_literal (line_of n a)) ∷ [])
   does_shown b shown asked among =
       let may : MayAll (Model (model_of n a) ∷ steps_of a.proof) = subst MayAll shown.adds.history shown.joined.sound.keeps in
       record {
@@ -203,9 +203,9 @@ module _ {W L : Type 0} {G : Ghosts L} (seen : W → Writer) (n : Variables) (a 
 
   -- the step of a core, as the judge expects it
   pub does_failed : (b : Core W L G) (core : List ℕ) → Failed seen n a b core → (asked order : List ℕ) → Images n asked order → a.search.assumptions.lits.items ≡ order →
-      Does n n (steps_of a.proof) (steps_of b.proof) (λ j. j) (λ j. Fails (map named_literal asked) (map named_literal core) ∷ [])
+      NamesRefineJudge n n (steps_of a.proof) (steps_of b.proof) (λ j. j) (λ j. Fails (map named_literal asked) (map named_literal core) ∷ [])
   does_failed b core f asked order images lits =
-      subst (λ ss. Does n n (steps_of a.proof) ss (λ j. j) (λ j. Fails (map named_literal asked) (map named_literal core) ∷ [])) (sym (history_of f))
+      subst (λ ss. NamesRefineJudge n n (steps_of a.proof) ss (λ j. j) (λ j. Fails (map named_literal asked) (map named_literal core) ∷ [])) (sym (history_of f))
       (record {
         stands = stands;
         kept = λ j live agree. record {
@@ -230,8 +230,8 @@ module _ {W L : Type 0} {G : Ghosts L} (seen : W → Writer) (n : Variables) (a 
       may : MayAll (step ∷ steps_of a.proof)
       may = subst MayAll (history_of f) f.joined.sound.keeps
 
-      stands : Stands n (step ∷ steps_of a.proof)
-      stands = subst (Stands n) (history_of f) f.joined.stands
+      stands : NamesInvariant n (step ∷ steps_of a.proof)
+      stands = subst (NamesInvariant n) (history_of f) f.joined.stands
 
       spelt : SameSet (variable_of (steps_of a.proof)) (map named_literal (map (name_of n) used)) codes
       spelt = core_spelt n (steps_of a.proof) joined.stands a.search joined.shares asked order images used (λ k lt. subst (λ ls. Contains ls (get_or used k 0)) lits (f.told.failed.among k lt))

@@ -4,21 +4,21 @@ use Rattle.sat_base.specs.device.Device.{Writer}
 use Rattle.sat_checker.specs.declared.processing.ProofProcessor.{Ghosts}
 use Rattle.sat_solver.specs.declared.error.SolverError.{SolverError}
 use Rattle.sat_solver.specs.declared.error.SolverError.TheVariants as errors
-use Rattle.sat_solver.specs.declared.search.solving.Core.{Core}
-use Rattle.sat_solver.specs.declared.session.proof.Proof.{Proof}
+use Rattle.sat_solver.specs.declared.schedule.solve.Core.{Core}
+use Rattle.sat_solver.specs.declared.proof.Proof.{Proof}
 use Rattle.sat_solver.specs.declared.solver.Solver.{Solver}
 use Rattle.sat_base.specs.script.Judge.{Judge}
-use Rattle.sat_solver.specs.names.Calls.{Agree, Does}
+use Rattle.sat_solver.specs.variables.Calls.{Agree, NamesRefineJudge}
 use Rattle.sat_checker.specs.matching.Bridge.{Live}
-use Rattle.sat_solver.specs.search.Solving.{AdvancesIn}
-use Rattle.sat_solver.specs.session.Coming.{Comes, EndsAtUnsat}
-use Rattle.sat_solver.specs.session.ProofView.{Adds, is_lost}
-use Rattle.sat_solver.specs.solver.Answering.{Breaks, FlushFails}
-use Rattle.sat_solver.specs.declared.solver.state.State.TheVariants as states
+use Rattle.sat_solver.specs.schedule.Solving.{AdvancesIn}
+use Rattle.sat_solver.specs.session.Coming.{OnlyAllowedSteps, EndsAtUnsat}
+use Rattle.sat_solver.specs.proof.ProofView.{Adds, is_lost}
+use Rattle.sat_solver.specs.solver.Answering.{BreaksOff, FlushFails}
+use Rattle.sat_solver.specs.declared.state.State.TheVariants as states
 use Rattle.sat_solver.specs.solver.Calls.{RoundsOn, learned_of, rounds_left, told_by}
 use Rattle.sat_solver.specs.solver.Settling.{Settled}
 use Rattle.sat_solver.specs.solver.Whole.{IsWhole, steps_in}
-use Rattle.sat_solver.proofs.lemmas.search.GoingLemmas.{went_behind}
+use Rattle.sat_solver.proofs.lemmas.cdcl.GoingLemmas.{loss_later, went_behind}
 use Rattle.sat_solver.proofs.lemmas.session.ProofLemmas.{adds_more, fails_later, check_later}
 use Rattle.sat_solver.proofs.lemmas.solver.SettlingLemmas.{whole_over}
 
@@ -36,10 +36,10 @@ module _ {W L : Type 0} {G : Ghosts L} (seen : W → Writer) (old : Solver W L G
   pub settled_begun : (new : Solver W L G) → Settled seen begun new → Settled seen old new
   settled_begun new s = record {
     whole = s.whole;
-    comes = subst (λ ss. Comes EndsAtUnsat ss (steps_in new)) adds.history s.comes;
+    comes = subst (λ ss. OnlyAllowedSteps EndsAtUnsat ss (steps_in new)) adds.history s.comes;
     config = s.config;
     times = subst (λ ss. AdvancesIn ss (steps_in new) (learned_of new.state (new.clock.steps - old.clock.steps))) adds.history s.times;
-    does = subst (λ ss. Does old.names new.names ss (steps_in new) (λ j. j) (λ j. told_by old.state new)) adds.history s.does;
+    does = subst (λ ss. NamesRefineJudge old.names new.names ss (steps_in new) (λ j. j) (λ j. told_by old.state new)) adds.history s.does;
     took = (_, adds_more seen [] s.took.0 old.core.proof p new.core.proof adds s.took.1);
     width = λ n. s.width (λ e. n (e ∙ adds.history));
     same = s.same;
@@ -66,5 +66,5 @@ module _ {W L : Type 0} {G : Ghosts L} (seen : W → Writer) (old : Solver W L G
   flush_begun errors.OutOfRange q h = absurd h
 
   -- or fails
-  pub breaks_begun : (e : SolverError) (core : Core W L G) → Breaks seen e begun.core core → Breaks seen e old.core core
-  breaks_begun e core b = record { fault = b.fault; steps = _; went = went_behind seen (Unit {0}) e [] b.steps old.core.proof p core.proof adds b.went }
+  pub breaks_begun : (e : SolverError) (core : Core W L G) → BreaksOff seen e begun.core core → BreaksOff seen e old.core core
+  breaks_begun e core b = (record { fault = b.0.fault; steps = _; went = went_behind seen (Unit {0}) e [] b.0.steps old.core.proof p core.proof adds b.0.went; loss = loss_later e old.core.proof p core.proof taking b.0.loss }, b.1)

@@ -5,19 +5,19 @@ use Rattle.sat_base.specs.values.Literals.{variable}
 use Rattle.sat_base.specs.script.Judge.{Judge}
 use Rattle.sat_base.specs.steps.Steps.{Step, SolverVarName, UserVarName, DeleteVar, ChangeSamplingMode, AddClause, AtClause, UnitClauses, DeleteClause, ChangeHashBits, Model, Assumptions, FailedAssumptions, End}
 use Rattle.sat_solver.specs.session.Session.{Session, MayAll, session_after}
-use Rattle.sat_solver.specs.search.Going.{AreNamed, IsSearched}
+use Rattle.sat_solver.specs.cdcl.Going.{AreNamed, IsSearched}
 use Rattle.sat_checker.specs.matching.Bridge.{Live}
-use Rattle.sat_solver.specs.names.Variables.{AreSaid}
+use Rattle.sat_solver.specs.variables.Variables.{AreSaid}
 use Rattle.sat_checker.specs.matching.Checking.{is_ordered}
 use Rattle.sat_checker.specs.matching.Expected.{Expected}
 use Rattle.sat_checker.specs.matching.ProofChecking.{the_checking}
 use Rattle.sat_checker.specs.matching.Traces.{HasTrace, no_step, silent}
-use Rattle.sat_solver.specs.names.Calls.{Stands, Agree, Does, DoesNothing}
-use Rattle.sat_solver.specs.names.Searching.{AreIndexed, IsOfSearch}
-use Rattle.sat_solver.specs.declared.names.Variables.{Variables}
+use Rattle.sat_solver.specs.variables.Calls.{NamesInvariant, Agree, NamesRefineJudge, DoesNothing}
+use Rattle.sat_solver.specs.variables.Searching.{AreIndexed, IsOfSearch}
+use Rattle.sat_solver.specs.declared.variables.Variables.{Variables}
 use Rattle.sat_checker.proofs.lemmas.matching.Traces.{traces_both}
-use Rattle.sat_solver.proofs.lemmas.names.Doing.{does_both}
-use Rattle.sat_solver.proofs.lemmas.names.Searched.{searches_stand, searches_agree}
+use Rattle.sat_solver.proofs.lemmas.variables.Doing.{does_both}
+use Rattle.sat_solver.proofs.lemmas.variables.Searched.{searches_stand, searches_agree}
 use Rattle.std.proofs.lemmas.List.{append-nil}
 
 indexed : (n : Variables) (s : Session) (ls : List ℕ) → AreSaid n s → AreNamed s.solver_names ls → AreIndexed n ls
@@ -55,12 +55,12 @@ unordered names (FailedAssumptions core hashes) h = absurd h
 unordered names End h = absurd h
 
 -- names stand behind steps of a search
-pub stands_behind : (n : Variables) (earlier steps : List Step) → Stands n earlier → MayAll (steps ++ earlier) → AllByRecursion (IsSearched (session_after earlier).solver_names) steps → Stands n (steps ++ earlier)
+pub stands_behind : (n : Variables) (earlier steps : List Step) → NamesInvariant n earlier → MayAll (steps ++ earlier) → AllByRecursion (IsSearched (session_after earlier).solver_names) steps → NamesInvariant n (steps ++ earlier)
 stands_behind n earlier [] stands may h = stands
 stands_behind n earlier (step ∷ steps) stands may h =
     searches_stand n (steps ++ earlier) step (stands_behind n earlier steps stands may.0 h.1) may.1 (of_search n (session_after earlier) step stands.said h.0)
 
-agree_behind : (n : Variables) (earlier steps : List Step) → Stands n earlier → MayAll (steps ++ earlier) → AllByRecursion (IsSearched (session_after earlier).solver_names) steps →
+agree_behind : (n : Variables) (earlier steps : List Step) → NamesInvariant n earlier → MayAll (steps ++ earlier) → AllByRecursion (IsSearched (session_after earlier).solver_names) steps →
     (j : Judge) (live : Live) → Agree n earlier j live → Agree n (steps ++ earlier) j live
 agree_behind n earlier [] stands may h j live a = a
 agree_behind n earlier (step ∷ steps) stands may h j live a =
@@ -72,15 +72,15 @@ quiet_writes names earlier [] h = no_step
 quiet_writes names earlier (step ∷ steps) h = traces_both (quiet_writes names earlier steps h.1) (silent (unordered names step h.0) no_step)
 
 -- the judge sees nothing of them
-pub nothing_behind : (n : Variables) (earlier steps : List Step) → Stands n earlier → MayAll (steps ++ earlier) → AllByRecursion (IsSearched (session_after earlier).solver_names) steps → DoesNothing n n earlier (steps ++ earlier)
+pub nothing_behind : (n : Variables) (earlier steps : List Step) → NamesInvariant n earlier → MayAll (steps ++ earlier) → AllByRecursion (IsSearched (session_after earlier).solver_names) steps → DoesNothing n n earlier (steps ++ earlier)
 nothing_behind n earlier steps stands may h = record {
   stands = stands_behind n earlier steps stands may h;
   kept = λ j live a. record { live = live; agree = agree_behind n earlier steps stands may h j live a; trace = quiet_writes (session_after earlier).solver_names earlier steps h };
 }
 
 -- a call, and then steps of a search
-pub does_behind : (old new : Variables) (from to steps : List Step) (judge : Judge → Judge) (due : Judge → List Expected) → Does old new from to judge due → MayAll (steps ++ to) → AllByRecursion (IsSearched (session_after to).solver_names) steps →
-    Does old new from (steps ++ to) judge due
+pub does_behind : (old new : Variables) (from to steps : List Step) (judge : Judge → Judge) (due : Judge → List Expected) → NamesRefineJudge old new from to judge due → MayAll (steps ++ to) → AllByRecursion (IsSearched (session_after to).solver_names) steps →
+    NamesRefineJudge old new from (steps ++ to) judge due
 does_behind old new from to steps judge due does may h =
     let both = does_both old new new from to (steps ++ to) judge (λ j. j) due (λ j. []) does (nothing_behind new to steps does.stands may h) in
     record {

@@ -6,52 +6,54 @@ use Rattle.sat_base.specs.values.Literals.{variable}
 use Rattle.sat_store.specs.variables.Maps.{target}
 use Rattle.sat_checker.specs.declared.processing.ProofProcessor.{Ghosts}
 use Rattle.sat_solver.specs.session.Making.{Took, Gained}
-use Rattle.sat_solver.specs.session.ProofView.{IsAtWidth, has_asked, steps_of, session_of}
+use Rattle.sat_solver.specs.proof.ProofView.{IsAtWidth, has_asked, is_lost, steps_of, session_of}
 use Rattle.sat_solver.specs.session.Session.{session_after}
-use Rattle.sat_solver.specs.declared.session.proof.Proof.{Proof}
+use Rattle.sat_solver.specs.declared.proof.Proof.{Proof}
 use Rattle.sat_solver.specs.declared.error.SolverError.{SolverError}
 use Rattle.sat_solver.specs.declared.error.SolverError.TheVariants as errors
-use Rattle.sat_solver.specs.declared.names.Variables.{Variables}
-use Rattle.sat_solver.specs.declared.names.taking.Taken.{Taken}
-use Rattle.sat_solver.specs.declared.search.solving.Core.{Core}
+use Rattle.sat_solver.specs.declared.variables.Variables.{Variables}
+use Rattle.sat_solver.specs.declared.load.literals.Taken.{Taken}
+use Rattle.sat_solver.specs.declared.schedule.solve.Core.{Core}
 use Rattle.sat_solver.specs.declared.config.SolverConfig.{SolverConfig}
-use Rattle.sat_solver.specs.names.Adding.{Image, Images}
-use Rattle.sat_solver.specs.names.AddingCalls.{LeavesOut}
-use Rattle.sat_solver.specs.names.Assuming as assuming
-use Rattle.sat_solver.specs.names.Calls.{Does}
+use Rattle.sat_solver.specs.load.Literals.{Image, Images}
+use Rattle.sat_solver.specs.load.Clauses.{LeavesOut}
+use Rattle.sat_solver.specs.load.Assumed as assuming
+use Rattle.sat_solver.specs.variables.Calls.{NamesRefineJudge}
 use Rattle.sat_solver.proofs.lemmas.session.ProofLemmas.{gains_adds, gained_width}
-use Rattle.sat_solver.proofs.lemmas.names.Doing.{judged_by}
+use Rattle.sat_solver.proofs.lemmas.variables.Doing.{judged_by}
 use Rattle.sat_solver.proofs.lemmas.solver.SpeltLemmas.{global_images_of, global_images_kept}
 use Rattle.sat_solver.specs.declared.solver.Solver.{Solver}
-use Rattle.sat_solver.specs.declared.solver.state.State.{State}
-use Rattle.sat_solver.specs.declared.solver.state.State.TheVariants as states
-use Rattle.sat_solver.specs.declared.solver.taking.Loading.{Loading}
-use Rattle.sat_solver.specs.search.Going.{IsFaultOr}
+use Rattle.sat_solver.specs.declared.state.State.{State}
+use Rattle.sat_solver.specs.declared.state.State.TheVariants as states
+use Rattle.sat_solver.specs.declared.solver.load.Loading.{Loading}
+use Rattle.sat_solver.specs.cdcl.Going.{IsFault, IsFaultOr}
 use Rattle.sat_solver.specs.solver.Taking.{TookClause, TookAssumptions, BreaksNames, BreaksNamesOr}
-use Rattle.sat_solver.specs.solver.Whole.{HasFullStore, IsWhole, IsWholeOf, StateSays, GoesOn, steps_in}
+use Rattle.sat_solver.specs.solver.Whole.{HasFullStore, IsWhole, IsWholeOf, StateSays, AskGoesOn, steps_in}
 use Rattle.sat_solver.specs.solver.Adding.{TookIn, with_added, due_for_clause, Forgets, AreSampled, IsBeforeDrat, AddsClause, Assumed, Assumes, due_for_asked}
-use Rattle.sat_solver.specs.search.Bumping.{AreDecays}
+use Rattle.sat_solver.specs.clause.Activity.{AreDecays}
 use Rattle.sat_solver.specs.solver.Asking.{AskedIn}
-use Rattle.sat_solver.specs.names.Room.{HasRoom, users_in}
-use Rattle.sat_solver.specs.names.Refusing.{names_in, as_refusal}
+use Rattle.sat_solver.specs.variables.Room.{HasRoom, users_in}
+use Rattle.sat_solver.specs.variables.Refusing.{names_in, as_refusal}
 use Rattle.sat_checker.specs.matching.Bridge.{Live}
 use Rattle.sat_checker.specs.matching.Expected.{Unknown}
-use Rattle.sat_solver.specs.names.Variables.{AreJudged}
+use Rattle.sat_solver.specs.variables.Variables.{AreJudged}
 use Rattle.std.proofs.lemmas.Bool.{true≢false}
+use Rattle.sat_solver.specs.solver.Failing.{failed_with}
+use Rattle.sat_solver.proofs.lemmas.solver.ToldLemmas.{names_told}
 use Rattle.sat_solver.proofs.lemmas.solver.TakingLemmas.{took_starved}
-use Rattle.sat_solver.proofs.lemmas.names.ComingSteps.{comes_added, comes_due}
-use Rattle.sat_solver.specs.session.Coming.{Comes}
-use Rattle.sat_solver.specs.names.Coming.{MayTake}
+use Rattle.sat_solver.proofs.lemmas.variables.ComingSteps.{comes_added, comes_due}
+use Rattle.sat_solver.specs.session.Coming.{OnlyAllowedSteps}
+use Rattle.sat_solver.specs.variables.Coming.{MayTake}
 
 -- the search goes on unless unsat is recorded
-pub goes_of : {W L : Type 0} {G : Ghosts L} (st : State) (c : Core W L G) (n : Variables) (asked : Taken) (assumed core : List ℕ) → (st ≡ states.Unsat → ⊥) → StateSays st c n asked assumed core → GoesOn c n asked
+pub goes_of : {W L : Type 0} {G : Ghosts L} (st : State) (c : Core W L G) (n : Variables) (asked : Taken) (assumed core : List ℕ) → (st ≡ states.Unsat → ⊥) → StateSays st c n asked assumed core → AskGoesOn c n asked
 goes_of states.Unknown c n asked assumed core k h = h
 goes_of states.Sat c n asked assumed core k h = h.0
 goes_of states.UnsatUnderAssumptions c n asked assumed core k h = h.0
 goes_of states.Unsat c n asked assumed core k h = absurd (k refl)
 
 module _ {W L : Type 0} {G : Ghosts L} (seen : W → Writer) (s : Solver W L G) (whole : IsWhole s) (apart : s.state ≡ states.Unsat → ⊥) where
-  pub going_on : GoesOn s.core s.names s.asked
+  pub going_on : AskGoesOn s.core s.names s.asked
   going_on = goes_of s.state s.core s.names s.asked s.assumed.items s.told.failed_core.items apart whole.says
 
   module _ (b : Core W L G) (n' : Variables) (user : List ℕ) (loading : Loading) where
@@ -81,7 +83,7 @@ module _ {W L : Type 0} {G : Ghosts L} (seen : W → Writer) (s : Solver W L G) 
         core_unsat : states.UnsatUnderAssumptions ≡ states.Unsat → ⊥
         core_unsat x = cc
 
-    due_by : (st : State) → (st ≡ states.Unsat → ⊥) → Does s.names n' (steps_in s) (steps_of b.proof) (with_added user) (due_for_clause states.Unknown user) → Does s.names n' (steps_in s) (steps_of b.proof) (with_added user) (due_for_clause st user)
+    due_by : (st : State) → (st ≡ states.Unsat → ⊥) → NamesRefineJudge s.names n' (steps_in s) (steps_of b.proof) (with_added user) (due_for_clause states.Unknown user) → NamesRefineJudge s.names n' (steps_in s) (steps_of b.proof) (with_added user) (due_for_clause st user)
     due_by states.Unknown k d = d
     due_by states.Sat k d = d
     due_by states.UnsatUnderAssumptions k d = d
@@ -194,7 +196,7 @@ module _ {W L : Type 0} {G : Ghosts L} (seen : W → Writer) (s : Solver W L G) 
       judged = judged_by l.does whole.judged;
       says = subst (λ st. StateSays st (record s.core { proof = p }) n' s.asked s.assumed.items s.told.failed_core.items) (sym known) (l.unseen.search.unsat ∙ unsat);
     };
-    does = subst (λ st. Does s.names n' (steps_in s) (steps_of p) (with_added user) (due_for_clause st user)) (sym known) l.does;
+    does = subst (λ st. NamesRefineJudge s.names n' (steps_in s) (steps_of p) (with_added user) (due_for_clause st user)) (sym known) l.does;
     comes = comes_added (names_in user) (steps_in s) (steps_of p) (comes_due (names_in user) (steps_in s) (steps_of p) l.comes);
     order = λ k. absurd (k known);
     left_out = λ e. l.comes;
@@ -260,6 +262,24 @@ adding_ends seen errors.Read s new user g d w r x b k f = absurd x
 adding_ends seen errors.Malformed s new user g d w r x b k f = absurd x
 adding_ends seen errors.OutOfRange s new user g d w r x b k f = absurd x
 
+-- a call over assumptions failed
+pub asking_ends : {W L : Type 0} {G : Ghosts L} (seen : W → Writer) (e : SolverError) (s new : Solver W L G) (user : List ℕ) → s.failed ≡ false → AreSampled s user → HasRoom s.names (users_in user) → IsFault e → BreaksNames seen e s.core new.core → new.clock ≡ s.clock → new.failed ≡ true → Assumes seen (Err e) s new user
+asking_ends seen errors.OutOfMemory s new user g w r x b k f = (w, r, record { going = g; failed = f; fault = x; breaks = b; clock = k })
+asking_ends seen errors.StoreFull s new user g w r x b k f = absurd x
+asking_ends seen (errors.ProofIoError cause) s new user g w r x b k f = (w, r, record { going = g; failed = f; fault = x; breaks = b; clock = k })
+asking_ends seen errors.VariableLimit s new user g w r x b k f = absurd x
+asking_ends seen errors.Interrupted s new user g w r x b k f = absurd x
+asking_ends seen (errors.ProofProcessorError cause) s new user g w r x b k f = (w, r, record { going = g; failed = f; fault = x; breaks = b; clock = k })
+asking_ends seen errors.WitnessVariable s new user g w r x b k f = absurd x
+asking_ends seen errors.AssumedVariable s new user g w r x b k f = absurd x
+asking_ends seen errors.TooLate s new user g w r x b k f = absurd x
+asking_ends seen errors.NotInDrat s new user g w r x b k f = absurd x
+asking_ends seen errors.CounterEnd s new user g w r x b k f = (w, r, record { going = g; failed = f; fault = x; breaks = b; clock = k })
+asking_ends seen errors.HasFailed s new user g w r x b k f = absurd x
+asking_ends seen errors.Read s new user g w r x b k f = absurd x
+asking_ends seen errors.Malformed s new user g w r x b k f = absurd x
+asking_ends seen errors.OutOfRange s new user g w r x b k f = absurd x
+
 -- CALLS
 
 -- no name of mode witness was found
@@ -268,11 +288,11 @@ none_refused s user None judged none = λ j live agree. judged j live agree.judg
 none_refused s user (Some name) judged none = absurd (true≢false none)
 
 -- assumptions were taken, and no memory was left to list them over names
-pub asking_starved : {W L : Type 0} {G : Ghosts L} (seen : W → Writer) (s mid new : Solver W L G) (user : List ℕ) → s.failed ≡ false → AreSampled s user → HasRoom s.names (users_in user) → AskedIn seen (record s { used = true }) mid user → mid.clock ≡ s.clock → new.core ≡ mid.core → new.clock ≡ mid.clock → new.failed ≡ true → Assumes seen (Err errors.OutOfMemory) s new user
-asking_starved seen s mid new user going sampled room a clock core same failed = (
+pub asking_starved : {W L : Type 0} {G : Ghosts L} (seen : W → Writer) (s mid new : Solver W L G) (user : List ℕ) → s.failed ≡ false → AreSampled s user → HasRoom s.names (users_in user) → is_lost s.core.proof ≡ false → AskedIn seen (record s { used = true }) mid user → mid.clock ≡ s.clock → new.core ≡ (failed_with mid).core → new.clock ≡ mid.clock → new.failed ≡ true → Assumes seen (Err errors.OutOfMemory) s new user
+asking_starved seen s mid new user going sampled room taking a clock core same failed = (
   sampled,
   room,
-  record { going = going; failed = failed; fault = tt; breaks = subst (λ c. BreaksNames seen errors.OutOfMemory s.core c) (sym core) (took_starved seen s.core mid.core a.took); clock = same ∙ clock },
+  record { going = going; failed = failed; fault = tt; breaks = subst (λ c. BreaksNames seen errors.OutOfMemory s.core c) (sym core) (names_told seen errors.OutOfMemory s.core mid (took_starved seen s.core mid.core a.took (a.whole.taking ∙ sym taking))); clock = same ∙ clock },
 )
 
 -- assumptions were taken, and listed over names
@@ -287,11 +307,11 @@ assumed_by {W} {L} {G} seen s mid new user going sampled room a clock same items
     failed = ap (λ (x : Solver W L G). x.failed) same ∙ a.failed ∙ going;
     used = ap (λ (x : Solver W L G). x.used) same ∙ a.used;
     config = ap (λ (x : Solver W L G). x.core.config) same ∙ a.config;
-    does = subst (λ (x : Solver W L G). Does s.names x.names (steps_in s) (steps_in x) (bring_all (names_in user)) (due_for_asked o user)) (sym same) (a.does o);
+    does = subst (λ (x : Solver W L G). NamesRefineJudge s.names x.names (steps_in s) (steps_in x) (bring_all (names_in user)) (due_for_asked o user)) (sym same) (a.does o);
     took = subst (λ (x : Solver W L G). Took seen s.core.proof x.core.proof) (sym same) a.took;
     width = subst (λ (x : Solver W L G). (steps_in x ≡ steps_in s → ⊥) → IsAtWidth x.core.proof) (sym same) a.width;
   };
-  comes = subst (λ (x : Solver W L G). Comes (MayTake (names_in user)) (steps_in s) (steps_in x)) (sym same) a.comes;
+  comes = subst (λ (x : Solver W L G). OnlyAllowedSteps (MayTake (names_in user)) (steps_in s) (steps_in x)) (sym same) a.comes;
   asked = ap (λ (x : Solver W L G). has_asked x.core.proof) same ∙ a.asked;
   assumed = items;
   clock = ap (λ (x : Solver W L G). x.clock) same ∙ clock;

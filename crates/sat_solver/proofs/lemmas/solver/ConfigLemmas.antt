@@ -6,18 +6,18 @@ use Rattle.sat_checker.specs.declared.processing.ProofProcessor.{Ghosts}
 use Rattle.sat_solver.specs.Configs.{in_range, is_decay, passes, updated}
 use Rattle.sat_solver.specs.declared.config.SolverConfig.{SolverConfig}
 use Rattle.sat_solver.specs.declared.config.SolverConfigUpdate.{SolverConfigUpdate}
-use Rattle.sat_solver.specs.declared.names.Variables.{Variables}
-use Rattle.sat_solver.specs.declared.names.taking.Taken.{Taken}
-use Rattle.sat_solver.specs.declared.search.solving.Core.{Core}
-use Rattle.sat_solver.specs.declared.search.work.Search.{Search}
-use Rattle.sat_solver.specs.session.ProofView.{is_lost, session_of, steps_of}
-use Rattle.sat_solver.specs.names.Calls.{HasJudge, Stands}
-use Rattle.sat_solver.specs.search.Bumping.{AreDecays}
-use Rattle.sat_solver.specs.search.Turns.{IsComplete}
-use Rattle.sat_solver.specs.declared.solver.state.State.{State}
-use Rattle.sat_solver.specs.declared.solver.state.State.TheVariants as states
+use Rattle.sat_solver.specs.declared.variables.Variables.{Variables}
+use Rattle.sat_solver.specs.declared.load.literals.Taken.{Taken}
+use Rattle.sat_solver.specs.declared.schedule.solve.Core.{Core}
+use Rattle.sat_solver.specs.declared.context.Search.{Search}
+use Rattle.sat_solver.specs.proof.ProofView.{is_lost, session_of, steps_of}
+use Rattle.sat_solver.specs.variables.Calls.{HasJudge, NamesInvariant}
+use Rattle.sat_solver.specs.clause.Activity.{AreDecays}
+use Rattle.sat_solver.specs.cdcl.Turns.{IsComplete}
+use Rattle.sat_solver.specs.declared.state.State.{State}
+use Rattle.sat_solver.specs.declared.state.State.TheVariants as states
 use Rattle.sat_solver.specs.solver.Configuring.{Decays, HandsOn}
-use Rattle.sat_solver.specs.solver.Whole.{IsWholeOf, StateSays, GoesOn, HasCore}
+use Rattle.sat_solver.specs.solver.Whole.{IsWholeOf, StateSays, AskGoesOn, HasCore}
 use Rattle.sat_solver.proofs.lemmas.solver.TellingLemmas.{shares_moved}
 
 and_both : (a b : Bool) → (a && b) ≡ true → (a ≡ true) × (b ≡ true)
@@ -63,10 +63,10 @@ module _ {W L : Type 0} {G : Ghosts L} (u : SolverConfigUpdate) (c : Core W L G)
   abbrev pub changed : Core W L G
   changed = record c { config = updated u c.config }
 
-  going : (b : Core W L G) → Decays changed b → GoesOn c n asked → GoesOn b n asked
+  going : (b : Core W L G) → Decays changed b → AskGoesOn c n asked → AskGoesOn b n asked
   going b d g =
       let bumped = d.bumped (session_of c.proof) g.joined.sound.search in
-      subst (λ x. GoesOn x n asked) (sym d.same) (record {
+      subst (λ x. AskGoesOn x n asked) (sym d.same) (record {
         joined = record {
           sound = record {
             keeps = g.joined.sound.keeps;
@@ -104,7 +104,7 @@ module _ {W L : Type 0} {G : Ghosts L} (u : SolverConfigUpdate) (c : Core W L G)
   -- all stands behind it
   pub whole_configured : (st : State) (b : Core W L G) → HandsOn st changed b → IsWholeOf c n asked assumed core scale st → IsWholeOf b n asked assumed core (unwrap_or u.luby_restart_interval_scale scale) st
   whole_configured st b d whole = record {
-    stands = subst (λ p. Stands n (steps_of p)) (sym (core_same st b d).0) whole.stands;
+    stands = subst (λ p. NamesInvariant n (steps_of p)) (sym (core_same st b d).0) whole.stands;
     images = whole.images;
     spelt = whole.spelt;
     globals = whole.globals ∙ ap (λ p. (session_of p).assumed) (sym (core_same st b d).0);

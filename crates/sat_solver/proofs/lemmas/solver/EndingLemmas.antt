@@ -5,23 +5,23 @@ use Rattle.sat_base.specs.steps.Steps.{End}
 use Rattle.sat_base.specs.values.Clauses.{EachTrue}
 use Rattle.sat_checker.specs.Fold.{Holds}
 use Rattle.sat_checker.specs.declared.processing.ProofProcessor.{Ghosts}
-use Rattle.sat_solver.specs.names.Adding.{named_literal}
+use Rattle.sat_solver.specs.load.Literals.{named_literal}
 use Rattle.sat_checker.specs.matching.Checking.{variable_of}
-use Rattle.sat_solver.specs.session.ProofView.{Closes, ClosesOne, Keeps, is_lost, steps_of, session_of}
+use Rattle.sat_solver.specs.proof.ProofView.{Closes, ClosesOne, Keeps, is_lost, steps_of, session_of}
 use Rattle.sat_solver.specs.session.Session.{MayAll, session_after}
-use Rattle.sat_solver.specs.declared.session.proof.Proof.{Proof}
-use Rattle.sat_solver.specs.declared.names.Variables.{Variables}
-use Rattle.sat_solver.specs.declared.names.taking.Taken.{Taken}
-use Rattle.sat_solver.specs.declared.search.solving.Core.{Core}
-use Rattle.sat_solver.specs.search.Joint.{IsSearch}
+use Rattle.sat_solver.specs.declared.proof.Proof.{Proof}
+use Rattle.sat_solver.specs.declared.variables.Variables.{Variables}
+use Rattle.sat_solver.specs.declared.load.literals.Taken.{Taken}
+use Rattle.sat_solver.specs.declared.schedule.solve.Core.{Core}
+use Rattle.sat_solver.specs.cdcl.Joint.{IsSearch}
 use Rattle.sat_checker.specs.matching.Traces.{no_step, visible}
-use Rattle.sat_solver.specs.names.Calls.{Stands, Agree, Does}
+use Rattle.sat_solver.specs.variables.Calls.{NamesInvariant, Agree, NamesRefineJudge}
 use Rattle.sat_checker.specs.matching.Expected.{Finish, SameSet, finish}
-use Rattle.sat_solver.proofs.lemmas.names.Searched.{searches_stand, searches_agree}
+use Rattle.sat_solver.proofs.lemmas.variables.Searched.{searches_stand, searches_agree}
 use Rattle.sat_solver.specs.declared.solver.Solver.{Solver}
-use Rattle.sat_solver.specs.declared.solver.state.State.{State}
-use Rattle.sat_solver.specs.declared.solver.state.State.TheVariants as states
-use Rattle.sat_solver.specs.solver.Whole.{IsWhole, IsWholeOf, StateSays, GoesOn, steps_in}
+use Rattle.sat_solver.specs.declared.state.State.{State}
+use Rattle.sat_solver.specs.declared.state.State.TheVariants as states
+use Rattle.sat_solver.specs.solver.Whole.{IsWhole, IsWholeOf, StateSays, AskGoesOn, steps_in}
 use Rattle.sat_solver.specs.solver.Proving.{ClosedOne, ClosesProof}
 use Rattle.sat_solver.proofs.lemmas.session.CertificateLemmas.{is_certificate}
 use Rattle.sat_solver.proofs.lemmas.session.DratDerivations.{drat_stands}
@@ -44,10 +44,10 @@ whole_ended {W} {L} {G} c n asked assumed core scale state p whole e keeps takin
   says = says state whole.says;
 }
   where
-    stands : Stands n (steps_of p)
-    stands = subst (Stands n) (sym e) (searches_stand n (steps_of c.proof) End whole.stands (subst MayAll e keeps).1 tt)
+    stands : NamesInvariant n (steps_of p)
+    stands = subst (NamesInvariant n) (sym e) (searches_stand n (steps_of c.proof) End whole.stands (subst MayAll e keeps).1 tt)
 
-    joined : GoesOn c n asked → GoesOn (record c { proof = p }) n asked
+    joined : AskGoesOn c n asked → AskGoesOn (record c { proof = p }) n asked
     joined g = record {
       joined = record {
         sound = record {
@@ -83,7 +83,7 @@ module _ {W L : Type 0} {G : Ghosts L} (seen : W → Writer) (s : Solver W L G) 
   closed_one given c = record {
     going = going;
     whole = ended;
-    does = subst (λ ss. Does s.names s.names (steps_in s) ss (λ j. j) (λ j. Finish ∷ [])) (sym c.history) (record {
+    does = subst (λ ss. NamesRefineJudge s.names s.names (steps_in s) ss (λ j. j) (λ j. Finish ∷ [])) (sym c.history) (record {
       stands = searches_stand s.names (steps_in s) End whole.stands may.1 tt;
       kept = λ j live agree. record { live = live; agree = searches_agree s.names (steps_in s) End whole.stands may.1 tt j live agree; trace = visible finish no_step };
     });

@@ -4,17 +4,17 @@ use Rattle.std.proofs.Common.{ℕ, ◌-◌, Option, None, Some, Result, Ok, Err,
 use Rattle.sat_base.specs.device.Device.{Writer}
 use Rattle.sat_checker.specs.declared.processing.ProofProcessor.{Ghosts}
 use Rattle.sat_solver.proofs.lemmas.session.ProofLemmas.{gains_adds}
-use Rattle.sat_solver.proofs.lemmas.search.GoingLemmas.{went_behind}
-use Rattle.sat_solver.specs.declared.bound.search.Outcome.{Outcome}
-use Rattle.sat_solver.specs.declared.bound.search.Outcome.TheVariants as outcomes
+use Rattle.sat_solver.proofs.lemmas.cdcl.GoingLemmas.{loss_later, went_behind}
+use Rattle.sat_solver.specs.declared.schedule.Outcome.{Outcome}
+use Rattle.sat_solver.specs.declared.schedule.Outcome.TheVariants as outcomes
 use Rattle.sat_solver.specs.declared.error.SolverError.{SolverError}
-use Rattle.sat_solver.specs.declared.names.Variables.{Variables}
-use Rattle.sat_solver.specs.declared.search.solving.Core.{Core}
-use Rattle.sat_solver.specs.search.Solving.{Ended}
-use Rattle.sat_solver.specs.declared.solver.state.State.{State}
-use Rattle.sat_solver.specs.declared.solver.state.State.TheVariants as states
+use Rattle.sat_solver.specs.declared.variables.Variables.{Variables}
+use Rattle.sat_solver.specs.declared.schedule.solve.Core.{Core}
+use Rattle.sat_solver.specs.schedule.Solving.{Ended}
+use Rattle.sat_solver.specs.declared.state.State.{State}
+use Rattle.sat_solver.specs.declared.state.State.TheVariants as states
 use Rattle.sat_solver.specs.solver.Joined.{IsJoined}
-use Rattle.sat_solver.specs.solver.Answering.{Breaks}
+use Rattle.sat_solver.specs.solver.Answering.{BreaksOff}
 use Rattle.sat_solver.specs.solver.Found.{ComesTo, ToldSays, Tells, Finds}
 use Rattle.sat_solver.proofs.lemmas.solver.AnsweredLemmas.{joined_by}
 
@@ -46,14 +46,14 @@ module _ {W L : Type 0} {G : Ghosts L} (seen : W → Writer) (n m : Variables) (
   finds_told outcomes.Unsat (Some states.UnsatUnderAssumptions) mid b core rounds e t = absurd t
 
   -- or its telling failed
-  pub breaks_told : {k : ℕ} → (outcome : Outcome) (e : SolverError) (mid b : Core W L G) → Ended seen a n k outcome mid m → Breaks seen e mid b → Breaks seen e a b
-  breaks_told outcome e mid b ended k = record { fault = k.fault; steps = k.steps ++ ended.steps; went = went_behind seen (Unit {0}) e ended.steps k.steps a.proof mid.proof b.proof (gains_adds seen ended.steps a.proof mid.proof ended.adds) k.went }
+  pub breaks_told : {k : ℕ} → (outcome : Outcome) (e : SolverError) (mid b : Core W L G) → Ended seen a n k outcome mid m → BreaksOff seen e mid b → BreaksOff seen e a b
+  breaks_told outcome e mid b ended k = (record { fault = k.0.fault; steps = k.0.steps ++ ended.steps; went = went_behind seen (Unit {0}) e ended.steps k.0.steps a.proof mid.proof b.proof (gains_adds seen ended.steps a.proof mid.proof ended.adds) k.0.went; loss = loss_later e a.proof mid.proof b.proof ended.adds.taking k.0.loss }, k.1)
 
   -- what came of telling it
   pub finds_by : (outcome : Outcome) (r : Result (Option State) SolverError) (mid b : Core W L G) (core : List ℕ) (rounds : ℕ) → Ended seen a n (rounds - 1) outcome mid m → Tells seen r outcome m mid b core → IfOk r (λ o. Finds seen o rounds n m a b core)
   finds_by outcome (Ok o) mid b core rounds e t = finds_told outcome o mid b core rounds e t
   finds_by outcome (Err x) mid b core rounds e t = tt
 
-  pub breaks_by : {k : ℕ} → (outcome : Outcome) (r : Result (Option State) SolverError) (mid b : Core W L G) (core : List ℕ) → Ended seen a n k outcome mid m → Tells seen r outcome m mid b core → IfErr r (λ x. Breaks seen x a b)
+  pub breaks_by : {k : ℕ} → (outcome : Outcome) (r : Result (Option State) SolverError) (mid b : Core W L G) (core : List ℕ) → Ended seen a n k outcome mid m → Tells seen r outcome m mid b core → IfErr r (λ x. BreaksOff seen x a b)
   breaks_by outcome (Ok o) mid b core e t = tt
   breaks_by outcome (Err x) mid b core e t = breaks_told outcome x mid b e t

@@ -8,11 +8,11 @@ use Rattle.sat_base.specs.steps.StepText.{SpellsSteps}
 use Rattle.sat_base.specs.script.Judge.{Judge}
 use Rattle.sat_checker.specs.declared.processing.ProofProcessor.{Ghosts}
 use Rattle.sat_checker.specs.matching.Expected.{Expected, Unknown}
-use Rattle.sat_solver.specs.search.Going as going
-use Rattle.sat_solver.specs.session.Fronts.{FrontSince, Follows, WentOn}
-use Rattle.sat_solver.specs.session.OutputView.{text_in, AreSpelt}
+use Rattle.sat_solver.specs.cdcl.Going as going
+use Rattle.sat_solver.specs.proof.Fronts.{FrontSince, Follows, WentOn}
+use Rattle.sat_solver.specs.proof.OutputView.{text_in, AreSpelt}
 use Rattle.sat_solver.specs.session.Making.{Took}
-use Rattle.sat_solver.specs.session.ProofView.{Target, FailsCheck, Carries, Gives, target_of, steps_of, seen_of}
+use Rattle.sat_solver.specs.proof.ProofView.{Target, FailsCheck, Carries, Gives, target_of, steps_of, seen_of}
 use Rattle.sat_solver.specs.session.Session.{MayAll}
 use Rattle.sat_solver.specs.solver.Adding.{Added, AddsClause, Assumes}
 use Rattle.sat_solver.specs.solver.Answering.{Breaks}
@@ -27,10 +27,10 @@ use Rattle.sat_solver.specs.solver.Whole.{steps_in}
 use Rattle.sat_solver.specs.declared.config.SolverConfigUpdate.{SolverConfigUpdate}
 use Rattle.sat_solver.specs.declared.error.SolverError.{SolverError}
 use Rattle.sat_solver.specs.declared.error.SolverError.TheVariants as errors
-use Rattle.sat_solver.specs.declared.search.solving.Core.{Core}
-use Rattle.sat_solver.specs.declared.session.format.ProofFormat.{ProofFormat}
-use Rattle.sat_solver.specs.declared.session.made.CheckFault.{CheckFault}
-use Rattle.sat_solver.specs.declared.session.proof.Proof.{Proof}
+use Rattle.sat_solver.specs.declared.schedule.solve.Core.{Core}
+use Rattle.sat_solver.specs.declared.proof.format.ProofFormat.{ProofFormat}
+use Rattle.sat_solver.specs.declared.proof.made.CheckFault.{CheckFault}
+use Rattle.sat_solver.specs.declared.proof.Proof.{Proof}
 use Rattle.sat_solver.specs.declared.solver.Solver.{Solver}
 use Rattle.sat_solver.proofs.lemmas.session.FrontLemmas.{fronts_are_accepted, went_none, went_more, went_added, went_failed}
 use Rattle.sat_solver.proofs.lemmas.session.ProofLemmas.{carries_none, text_spells}

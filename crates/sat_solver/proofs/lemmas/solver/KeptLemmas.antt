@@ -6,17 +6,17 @@ use Rattle.sat_checker.specs.LiteralSets.{mentions}
 use Rattle.sat_store.specs.variables.Maps.{target}
 use Rattle.sat_solver.specs.session.Session.{Session}
 use Rattle.sat_solver.specs.session.LiveClauses.{with_var}
-use Rattle.sat_solver.specs.search.Joint.{global_in}
-use Rattle.sat_solver.specs.declared.search.work.Search.{Search}
-use Rattle.sat_solver.specs.loading.Shared.{SharesIndices}
-use Rattle.sat_solver.specs.names.Adding.{Image, Images, GlobalImages}
-use Rattle.sat_solver.specs.names.Calls.{Stands}
-use Rattle.sat_solver.specs.declared.names.Variables.{Variables}
-use Rattle.sat_solver.specs.simplify.Freed.{KeepsAsked}
-use Rattle.sat_solver.proofs.lemmas.parts.ValueLemmas.{coded_variable}
-use Rattle.sat_solver.proofs.lemmas.simplify.FreedLemmas.{assumed_mention, contains_at}
+use Rattle.sat_solver.specs.cdcl.Joint.{global_in}
+use Rattle.sat_solver.specs.declared.context.Search.{Search}
+use Rattle.sat_solver.specs.variables.Shared.{SharesIndices}
+use Rattle.sat_solver.specs.load.Literals.{Image, Images, GlobalImages}
+use Rattle.sat_solver.specs.variables.Calls.{NamesInvariant}
+use Rattle.sat_solver.specs.declared.variables.Variables.{Variables}
+use Rattle.sat_solver.specs.unit_simplify.Freed.{KeepsAsked}
+use Rattle.sat_parts.proofs.lemmas.parts.ValueLemmas.{coded_variable}
+use Rattle.sat_solver.proofs.lemmas.unit_simplify.FreedLemmas.{assumed_mention, contains_at}
 
-pub images_kept : (n m : Variables) (steps : List Step) (c : Search) (s t : Session) → Stands n steps → SharesIndices n c → (user order : List ℕ) → s.assumed ≡ map (with_var (global_in c)) order → Images n user order → KeepsAsked n m s t → Images m user order
+pub images_kept : (n m : Variables) (steps : List Step) (c : Search) (s t : Session) → NamesInvariant n steps → SharesIndices n c → (user order : List ℕ) → s.assumed ≡ map (with_var (global_in c)) order → Images n user order → KeepsAsked n m s t → Images m user order
 images_kept n m steps c s t stands shares user order asked images kept = record {
   count = images.count;
   each = λ k lt. (let i = images.each k lt in record {

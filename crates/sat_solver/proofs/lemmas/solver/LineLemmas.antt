@@ -15,20 +15,20 @@ use Rattle.sat_checker.specs.Fold.{Holds}
 use Rattle.sat_solver.specs.session.Session.{May, session_after}
 use Rattle.sat_solver.specs.session.NamedMeaning.{Means, AgreeOn, Reads, AllRead}
 use Rattle.sat_solver.proofs.lemmas.session.NamedLemmas.{all_at, all_from, among_images, read_value, named_models_are_right}
-use Rattle.sat_solver.specs.names.Adding.{named_literal}
+use Rattle.sat_solver.specs.load.Literals.{named_literal}
 use Rattle.sat_checker.specs.matching.Bridge.{Live, Agrees}
-use Rattle.sat_solver.specs.names.Live.{given_of}
-use Rattle.sat_solver.specs.names.Variables.{global_of, names_used, variables_used}
-use Rattle.sat_solver.specs.names.Models.{value_in, model_to, name_literal, named_to}
+use Rattle.sat_solver.specs.variables.Live.{given_of}
+use Rattle.sat_solver.specs.variables.Variables.{global_of, names_used, variables_used}
+use Rattle.sat_solver.specs.Models.{value_in, model_to, name_literal, named_to}
 use Rattle.sat_checker.specs.matching.Checking.{variable_of}
-use Rattle.sat_solver.specs.names.Calls.{Stands, Agree}
-use Rattle.sat_solver.specs.declared.names.Variables.{Variables}
-use Rattle.sat_solver.proofs.lemmas.names.MapLemmas.{some_within}
-use Rattle.sat_solver.proofs.lemmas.names.TakenNames.{test_among}
-use Rattle.sat_solver.proofs.lemmas.names.ModelSteps.{named_zero, named_next}
+use Rattle.sat_solver.specs.variables.Calls.{NamesInvariant, Agree}
+use Rattle.sat_solver.specs.declared.variables.Variables.{Variables}
+use Rattle.sat_solver.proofs.lemmas.variables.MapLemmas.{some_within}
+use Rattle.sat_solver.proofs.lemmas.variables.TakenNames.{test_among}
+use Rattle.sat_solver.proofs.lemmas.variables.ModelSteps.{named_zero, named_next}
 use Rattle.sat_checker.proofs.lemmas.matching.Bridge.{pulled, pulled_agrees}
-use Rattle.sat_solver.proofs.lemmas.names.ModeChanges.{live_within}
-use Rattle.sat_solver.proofs.lemmas.parts.ValueLemmas.{coded_variable}
+use Rattle.sat_solver.proofs.lemmas.variables.ModeChanges.{live_within}
+use Rattle.sat_parts.proofs.lemmas.parts.ValueLemmas.{coded_variable}
 use Rattle.sat_solver.specs.solver.Lines.{IsCoreOf}
 use Rattle.sat_checker.specs.matching.Expected.{Spells, SameSet}
 use Rattle.sat_solver.proofs.lemmas.solver.ShownLemmas.{coded_sign, model_all}
@@ -61,7 +61,7 @@ module _ (n : Variables) (steps : List Step) (j : Judge) (live : Live) (agree : 
   }
 
   -- the proof's literal of a name in use
-  pub reads_at : (u v : ℕ) (b : Bool) → Stands n steps → global_of n u ≡ Some v → Reads j (variable_of steps) (named_literal (coded u b)) (coded v b)
+  pub reads_at : (u v : ℕ) (b : Bool) → NamesInvariant n steps → global_of n u ≡ Some v → Reads j (variable_of steps) (named_literal (coded u b)) (coded v b)
   reads_at u v b stands e =
       let name : variable_of steps (variable (coded u b) + 1) ≡ Some v = ap (λ w. variable_of steps (w + 1)) (coded_variable u b) ∙ stands.read u ∙ e in
       let k = agree.bridge.named (variable (coded u b) + 1) v name in
@@ -146,7 +146,7 @@ pub literal_among : (l : ℕ) (ls : List ℕ) → Among l ls → Among (named_li
 literal_among l [] m = absurd m
 literal_among l (x ∷ xs) m = elim m [ inl e ↦ inl (ap named_literal e) | inr k ↦ inr (literal_among l xs k) ]
 
-module _ (n : Variables) (steps : List Step) (values : List (Option Bool)) (stands : Stands n steps) where
+module _ (n : Variables) (steps : List Step) (values : List (Option Bool)) (stands : NamesInvariant n steps) where
   abbrev pub line : List ℕ
   line = named_to n values (names_used n)
 

@@ -3,22 +3,22 @@ use Rattle.std.proofs.Common.{ℕ, suc, ◌+◌, ◌≡◌, ◌∙◌, Bool, con
 use Rattle.sat_store.specs.clause.Header.{index_of}
 use Rattle.sat_store.specs.declared.clause.tier.Tier.{Tier}
 use Rattle.sat_checker.specs.declared.processing.ProofProcessor.{Ghosts}
-use Rattle.sat_solver.specs.declared.names.Variables.{Variables}
+use Rattle.sat_solver.specs.declared.variables.Variables.{Variables}
 use Rattle.sat_solver.specs.declared.solver.Solver.{Solver}
-use Rattle.sat_solver.specs.declared.solver.state.State.{State}
-use Rattle.sat_solver.specs.declared.solver.state.State.TheVariants as states
-use Rattle.sat_solver.specs.declared.parts.Parts.{Parts}
-use Rattle.sat_solver.specs.names.Counting.{count_to}
-use Rattle.sat_solver.proofs.lemmas.names.Counts.{count_suc}
-use Rattle.sat_solver.specs.parts.Whole.{Holds}
+use Rattle.sat_solver.specs.declared.state.State.{State}
+use Rattle.sat_solver.specs.declared.state.State.TheVariants as states
+use Rattle.sat_parts.specs.declared.parts.Parts.{Parts}
+use Rattle.sat_solver.specs.variables.Counting.{count_to}
+use Rattle.sat_solver.proofs.lemmas.variables.Counts.{count_suc}
+use Rattle.sat_parts.specs.parts.Whole.{PartsInvariant}
 use Rattle.sat_solver.specs.solver.Progressing.{is_open_at, clauses_of, GoesOnIn}
 use Rattle.sat_solver.specs.solver.Whole.{StateSays}
 
 -- the search goes on
-pub parts_hold : {W L : Type 0} {G : Ghosts L} (s : Solver W L G) → GoesOnIn s → Holds s.core.search.parts
+pub parts_hold : {W L : Type 0} {G : Ghosts L} (s : Solver W L G) → GoesOnIn s → PartsInvariant s.core.search.parts
 parts_hold s h = go s.state refl (h.solver h.going).says
   where
-    go : (st : State) → s.state ≡ st → StateSays st s.core s.names s.asked s.assumed.items s.told.failed_core.items → Holds s.core.search.parts
+    go : (st : State) → s.state ≡ st → StateSays st s.core s.names s.asked s.assumed.items s.told.failed_core.items → PartsInvariant s.core.search.parts
     go states.Unknown e x = x.joined.sound.search.stands.holds
     go states.Sat e x = x.0.joined.sound.search.stands.holds
     go states.UnsatUnderAssumptions e x = x.0.joined.sound.search.stands.holds
@@ -31,5 +31,5 @@ counted_next n values x count next b c e s =
     ∙ ap (λ k. count_to k (is_open_at n values)) (let q : suc x ≡ x + 1 = omega arith in q)
 
 -- the number of a tier is that of its live clauses
-pub tier_count : (p : Parts) → Holds p → (tier : Tier) (r : ℕ) → r ≡ get_or p.db.counts (index_of tier) 0 → r ≡ clauses_of p tier
+pub tier_count : (p : Parts) → PartsInvariant p → (tier : Tier) (r : ℕ) → r ≡ get_or p.db.counts (index_of tier) 0 → r ≡ clauses_of p tier
 tier_count p h tier r e = e ∙ h.below.held.counts tier

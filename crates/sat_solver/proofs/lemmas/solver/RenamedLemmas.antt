@@ -11,44 +11,44 @@ use Rattle.sat_checker.specs.LiteralSets.{mentions}
 use Rattle.sat_store.specs.variables.Maps.{target}
 use Rattle.sat_checker.specs.declared.processing.ProofProcessor.{Ghosts}
 use Rattle.sat_solver.specs.session.Making.{Gained}
-use Rattle.sat_solver.specs.session.ProofView.{is_lost, steps_of, session_of}
+use Rattle.sat_solver.specs.proof.ProofView.{is_lost, steps_of, session_of}
 use Rattle.sat_solver.proofs.lemmas.session.ProofLemmas.{gains_adds, gained_width}
-use Rattle.sat_solver.specs.declared.session.made.CheckFault.TheVariants as checks
-use Rattle.sat_solver.specs.declared.session.proof.Proof.{Proof}
+use Rattle.sat_solver.specs.declared.proof.made.CheckFault.TheVariants as checks
+use Rattle.sat_solver.specs.declared.proof.Proof.{Proof}
 use Rattle.sat_solver.specs.declared.error.SolverError.{SolverError}
 use Rattle.sat_solver.specs.declared.error.SolverError.TheVariants as errors
-use Rattle.sat_solver.specs.declared.names.error.NameError.{NameError}
-use Rattle.sat_solver.specs.declared.names.error.NameError.TheVariants as names
+use Rattle.sat_solver.specs.declared.variables.error.NameError.{NameError}
+use Rattle.sat_solver.specs.declared.variables.error.NameError.TheVariants as names
 use Rattle.sat_base.specs.steps.Steps.{Step}
-use Rattle.sat_solver.specs.session.Coming.{Comes}
-use Rattle.sat_solver.specs.loading.Faults.{told_as}
-use Rattle.sat_solver.specs.loading.Alike.{LooksAlike}
-use Rattle.sat_solver.proofs.lemmas.loading.AlikeLemmas.{search_alike}
-use Rattle.sat_solver.specs.names.Adding.{named_literal, Image, Images, GlobalImages}
-use Rattle.sat_solver.specs.names.Calls.{HasJudge, Stands, Does}
-use Rattle.sat_solver.proofs.lemmas.names.Doing.{judged_by}
+use Rattle.sat_solver.specs.session.Coming.{OnlyAllowedSteps}
+use Rattle.sat_solver.specs.load.Faults.{told_as}
+use Rattle.sat_solver.specs.load.Alike.{LooksAlike}
+use Rattle.sat_solver.proofs.lemmas.load.AlikeLemmas.{search_alike}
+use Rattle.sat_solver.specs.load.Literals.{named_literal, Image, Images, GlobalImages}
+use Rattle.sat_solver.specs.variables.Calls.{HasJudge, NamesInvariant, NamesRefineJudge}
+use Rattle.sat_solver.proofs.lemmas.variables.Doing.{judged_by}
 use Rattle.sat_checker.specs.matching.Checking.{variable_of}
 use Rattle.sat_checker.specs.matching.Expected.{Expected, Spells}
-use Rattle.sat_solver.specs.names.Models.{is_true, value_by, value_in}
-use Rattle.sat_solver.specs.names.Failing.{Limits}
-use Rattle.sat_solver.specs.names.Room.{HasRoom}
-use Rattle.sat_solver.specs.names.Naming.{AreFresh, KeepsOthers, IsNextUser, NoneLeft}
-use Rattle.sat_solver.specs.names.Observing.{NamesAllHidden}
-use Rattle.sat_solver.specs.names.Refusing.{IsAssumed}
-use Rattle.sat_solver.specs.names.Search.{IsAlike, KeepsUnits}
-use Rattle.sat_solver.specs.names.Variables.{data_at, global_of, user_of, solver_of, says_unit}
-use Rattle.sat_solver.specs.declared.names.Variables.{Variables}
+use Rattle.sat_solver.specs.Models.{is_true, value_by, value_in}
+use Rattle.sat_solver.specs.variables.Failing.{Limits}
+use Rattle.sat_solver.specs.variables.Room.{HasRoom}
+use Rattle.sat_solver.specs.variables.Naming.{AreFresh, KeepsOthers, IsNextUser, NoneLeft}
+use Rattle.sat_solver.specs.variables.Observing.{NamesAllHidden}
+use Rattle.sat_solver.specs.variables.Refusing.{IsAssumed}
+use Rattle.sat_solver.specs.variables.Search.{IsAlike, KeepsUnits}
+use Rattle.sat_solver.specs.variables.Variables.{data_at, global_of, user_of, solver_of, says_unit}
+use Rattle.sat_solver.specs.declared.variables.Variables.{Variables}
 use Rattle.sat_solver.specs.declared.solver.Solver.{Solver}
-use Rattle.sat_solver.specs.declared.solver.state.State.{State}
-use Rattle.sat_solver.specs.declared.solver.state.State.TheVariants as states
+use Rattle.sat_solver.specs.declared.state.State.{State}
+use Rattle.sat_solver.specs.declared.state.State.TheVariants as states
 use Rattle.sat_solver.specs.solver.Naming.{IsAsked, IsKeptOrFalse, variable_value, name_value, IsNextName, Renamed, Observed, ChangesMode, NewFails, NamesFail}
 use Rattle.sat_solver.specs.solver.Taking.{IsNameFaultOr, BreaksNames}
-use Rattle.sat_solver.specs.search.Going.{IsFault}
-use Rattle.sat_solver.specs.declared.search.solving.Core.{Core}
-use Rattle.sat_solver.specs.solver.Whole.{IsWhole, IsWholeOf, StateSays, GoesOn, HasCore, steps_in, session_in}
-use Rattle.sat_solver.proofs.lemmas.names.Giving.{alike_unseen}
-use Rattle.sat_solver.proofs.lemmas.names.NextUnused.{lowest_unused}
-use Rattle.sat_solver.proofs.lemmas.parts.ValueLemmas.{coded_variable}
+use Rattle.sat_solver.specs.cdcl.Going.{IsFault}
+use Rattle.sat_solver.specs.declared.schedule.solve.Core.{Core}
+use Rattle.sat_solver.specs.solver.Whole.{IsWhole, IsWholeOf, StateSays, AskGoesOn, HasCore, steps_in, session_in}
+use Rattle.sat_solver.proofs.lemmas.variables.Giving.{alike_unseen}
+use Rattle.sat_solver.proofs.lemmas.variables.NextUnused.{lowest_unused}
+use Rattle.sat_parts.proofs.lemmas.parts.ValueLemmas.{coded_variable}
 
 -- LISTS
 
@@ -127,7 +127,7 @@ module _ {W L : Type 0} {G : Ghosts L} (s : Solver W L G) (whole : IsWhole s) wh
 
   -- NAMES THAT THE ASSUMPTIONS DON'T HAVE
 
-  module _ (n' : Variables) (p : Proof W L G) (stands : Stands n' (steps_of p)) (kept : (l v : ℕ) → Among l s.assumed.items → global_of s.names (variable l) ≡ Some v → global_of n' (variable l) ≡ Some v) (alike : IsAlike s.names n' (steps_in s) (steps_of p)) where
+  module _ (n' : Variables) (p : Proof W L G) (stands : NamesInvariant n' (steps_of p)) (kept : (l v : ℕ) → Among l s.assumed.items → global_of s.names (variable l) ≡ Some v → global_of n' (variable l) ≡ Some v) (alike : IsAlike s.names n' (steps_in s) (steps_of p)) where
     abbrev new : Core W L G
     new = record s.core { proof = p }
 
@@ -156,7 +156,7 @@ module _ {W L : Type 0} {G : Ghosts L} (s : Solver W L G) (whole : IsWhole s) wh
       assumed = alike.assumed;
     }
 
-    going : GoesOn s.core s.names s.asked → GoesOn new n' s.asked
+    going : AskGoesOn s.core s.names s.asked → AskGoesOn new n' s.asked
     going g = record {
       joined = record {
         sound = record { keeps = stands.may; search = search_alike (session_in s) (session_of p) s.core.search g.joined.sound.search looks; locals = g.joined.sound.locals; mids = g.joined.sound.mids };
@@ -253,7 +253,7 @@ module _ {W L : Type 0} {G : Ghosts L} (seen : W → Writer) (s : Solver W L G) 
   abbrev values : List (Option Bool)
   values = s.core.search.parts.assignment.current
 
-  module _ (alike : IsAlike s.names n' (steps_in s) (steps_of p)) (stands : Stands n' (steps_of p)) where
+  module _ (alike : IsAlike s.names n' (steps_in s) (steps_of p)) (stands : NamesInvariant n' (steps_of p)) where
     says_true : (o : Option Bool) → says_unit o true ≡ is_true o
     says_true None = refl
     says_true (Some b) = refl
@@ -289,7 +289,7 @@ module _ {W L : Type 0} {G : Ghosts L} (seen : W → Writer) (s : Solver W L G) 
         go (Some v) e (Some w) f = value_same w (λ b. units user w b f) ∙ ap (value_in s.names values) (fresh.same user v w e f)
 
   -- a call over names was carried out
-  pub renamed : (judge : Judge → Judge) (due : Judge → List Expected) (May : List Step → Step → Type 0) → Comes May (steps_in s) (steps_of p) → Does s.names n' (steps_in s) (steps_of p) judge due → AreFresh s.names n' → KeepsUnits n' (steps_in s) (steps_of p) →
+  pub renamed : (judge : Judge → Judge) (due : Judge → List Expected) (May : List Step → Step → Type 0) → OnlyAllowedSteps May (steps_in s) (steps_of p) → NamesRefineJudge s.names n' (steps_in s) (steps_of p) judge due → AreFresh s.names n' → KeepsUnits n' (steps_in s) (steps_of p) →
       ((l v : ℕ) → Among l s.assumed.items → global_of s.names (variable l) ≡ Some v → global_of n' (variable l) ≡ Some v) → IsAlike s.names n' (steps_in s) (steps_of p) → Gained seen s.core.proof p →
       Renamed seen s (record s { core = record s.core { proof = p }; names = n'; used = true }) judge due May
   renamed judge due May comes does fresh units kept alike took = record {
@@ -360,8 +360,6 @@ new_fails seen errors.OutOfRange s new g n x b k f = absurd x
 -- where it wasn't for want of a variable, there was one
 pub one_left : {W : Type 0} (e : NameError) (old new : Variables) (from to : W) → (told_as e ≡ errors.VariableLimit → ⊥) → Limits e old new from to → NoneLeft old → ⊥
 one_left names.VariableLimit old new from to n h = absurd (n refl)
-one_left names.WitnessVariable old new from to n h = absurd h
-one_left names.AssumedVariable old new from to n h = absurd h
 one_left names.OutOfMemory old new from to n h = h
 one_left (names.Write cause) old new from to n h = h
 one_left (names.Check fault) old new from to n h = h
@@ -373,8 +371,6 @@ fault_left e h n = elim h [ inl x ↦ x | inr q ↦ absurd (n q) ]
 -- which fault a call over names tells as the limit
 pub told_limit : (e : NameError) → told_as e ≡ errors.VariableLimit → e ≡ names.VariableLimit
 told_limit names.VariableLimit h = refl
-told_limit names.WitnessVariable h = cc
-told_limit names.AssumedVariable h = cc
 told_limit names.OutOfMemory h = cc
 told_limit (names.Write cause) h = cc
 told_limit (names.Check checks.OutOfMemory) h = cc

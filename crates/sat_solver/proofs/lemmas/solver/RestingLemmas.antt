@@ -2,11 +2,11 @@
 use Rattle.std.proofs.Common.{ℕ, ◌<◌, ◌≡◌, ◌∙◌, Bool, false, Option, List, [], length, get_or, refl, sym, subst}
 use Rattle.sat_checker.specs.declared.processing.ProofProcessor.{Ghosts}
 use Rattle.sat_parts.specs.prop.Values.{IsTrueLit}
-use Rattle.sat_solver.specs.session.ProofView.{session_of}
+use Rattle.sat_solver.specs.proof.ProofView.{session_of}
 use Rattle.sat_solver.proofs.lemmas.session.NamedLemmas.{named_unsat_is_right}
 use Rattle.sat_checker.specs.matching.Checking.{variable_of}
 use Rattle.sat_solver.specs.declared.solver.Solver.{Solver}
-use Rattle.sat_solver.specs.declared.solver.state.State.TheVariants as states
+use Rattle.sat_solver.specs.declared.state.State.TheVariants as states
 use Rattle.sat_solver.specs.solver.Whole.{IsWhole, StateSays, steps_in, line_in}
 use Rattle.sat_solver.specs.solver.Resting.{IsModel, IsRightLine, IsRightCoreOf, IsCore}
 use Rattle.sat_solver.proofs.lemmas.solver.ShownLemmas.{shown_may}

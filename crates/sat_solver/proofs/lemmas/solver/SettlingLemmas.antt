@@ -9,55 +9,55 @@ use Rattle.sat_checker.specs.Fold.{Holds}
 use Rattle.sat_checker.specs.declared.processing.ProofProcessor.{Ghosts}
 use Rattle.sat_parts.specs.prop.Values.{IsTrueLit}
 use Rattle.sat_solver.specs.session.LiveClauses.{with_var}
-use Rattle.sat_solver.specs.session.ProofView.{Target, Closed, Open, Broken, Flushed, Flushes, FlushesOrFails, Adds, Gains, FailsCheck, HasTold, is_lost, steps_of, session_of, target_of}
-use Rattle.sat_solver.specs.declared.session.made.CheckFault.{CheckFault}
-use Rattle.sat_solver.specs.declared.session.made.CheckFault.TheVariants as checks
-use Rattle.sat_solver.specs.declared.session.proof.Proof.{Proof}
-use Rattle.sat_solver.specs.declared.session.proof.ProofError.{ProofError}
-use Rattle.sat_solver.specs.declared.session.proof.ProofError.TheVariants.{Write, OutOfMemory, Check}
-use Rattle.sat_solver.specs.search.Going.{check_fault_of, fault_of}
+use Rattle.sat_solver.specs.proof.ProofView.{Target, Closed, Open, Broken, Flushed, Flushes, FlushesOrFails, Adds, Gains, FailsCheck, HasTold, is_lost, steps_of, session_of, target_of}
+use Rattle.sat_solver.specs.declared.proof.made.CheckFault.{CheckFault}
+use Rattle.sat_solver.specs.declared.proof.made.CheckFault.TheVariants as checks
+use Rattle.sat_solver.specs.declared.proof.Proof.{Proof}
+use Rattle.sat_solver.specs.declared.proof.ProofError.{ProofError}
+use Rattle.sat_solver.specs.declared.proof.ProofError.TheVariants.{Write, OutOfMemory, Check}
+use Rattle.sat_solver.specs.cdcl.Going.{check_fault_of, fault_of}
 use Rattle.sat_solver.specs.session.Session.{Session, MayAll, session_after}
-use Rattle.sat_solver.specs.session.Coming.{Comes, EndsAtUnsat}
+use Rattle.sat_solver.specs.session.Coming.{OnlyAllowedSteps, EndsAtUnsat}
 use Rattle.sat_solver.proofs.lemmas.session.ComingLemmas.{comes_none, comes_one, comes_both, comes_open}
 use Rattle.std.proofs.lemmas.Bool.{true≢false}
 use Rattle.sat_solver.proofs.lemmas.session.ProofLemmas.{adds_none, adds_more, gained_width, gains_adds, gains_more, fails_later, flush_records, check_later}
-use Rattle.sat_solver.proofs.lemmas.search.GoingLemmas.{went_checked, fault_checked}
+use Rattle.sat_solver.proofs.lemmas.cdcl.GoingLemmas.{check_loss, complaint_kept, went_checked, fault_checked}
 use Rattle.sat_base.specs.script.Judge.{Judge}
-use Rattle.sat_solver.specs.bound.Counting.{CountsOn, steps_left}
-use Rattle.sat_solver.proofs.lemmas.bound.GapLemmas.{pow_pos, pow_mono}
-use Rattle.sat_solver.specs.declared.bound.search.Outcome.TheVariants as outcomes
-use Rattle.sat_solver.specs.declared.search.solving.Core.{Core}
+use Rattle.sat_solver.specs.schedule.Counting.{CountsOn, steps_left}
+use Rattle.sat_solver.proofs.lemmas.schedule.GapLemmas.{pow_pos, pow_mono}
+use Rattle.sat_solver.specs.declared.schedule.Outcome.TheVariants as outcomes
+use Rattle.sat_solver.specs.declared.schedule.solve.Core.{Core}
 use Rattle.sat_solver.specs.declared.config.SolverConfig.{SolverConfig}
-use Rattle.sat_solver.specs.declared.search.work.Search.{Search}
-use Rattle.sat_solver.specs.search.Failing.{causes_hashes}
-use Rattle.sat_solver.specs.search.Joint.{global_in, AreAsked, IsSearch, Moved}
-use Rattle.sat_solver.specs.search.Bumping.{AreDecays}
-use Rattle.sat_solver.specs.search.Turns.{IsComplete}
-use Rattle.sat_solver.specs.search.Solving.{AdvancesIn, AdvanceTimes, StandsStill, Ended, values_in}
-use Rattle.sat_solver.specs.names.Adding.{named_literal, Images, GlobalImages}
+use Rattle.sat_solver.specs.declared.context.Search.{Search}
+use Rattle.sat_solver.specs.assumptions.Core.{causes_hashes}
+use Rattle.sat_solver.specs.cdcl.Joint.{global_in, AreAsked, IsSearch, Moved}
+use Rattle.sat_solver.specs.clause.Activity.{AreDecays}
+use Rattle.sat_solver.specs.cdcl.Turns.{IsComplete}
+use Rattle.sat_solver.specs.schedule.Solving.{AdvancesIn, AdvanceTimes, StandsStill, Ended, values_in}
+use Rattle.sat_solver.specs.load.Literals.{named_literal, Images, GlobalImages}
 use Rattle.sat_checker.specs.matching.Checking.{variable_of}
 use Rattle.sat_checker.specs.matching.Expected.{Shows, SameSet}
-use Rattle.sat_solver.specs.names.Models.{named_to}
-use Rattle.sat_solver.specs.names.Variables.{names_used}
-use Rattle.sat_solver.specs.names.Calls.{Stands, Agree, Does, HasJudge}
+use Rattle.sat_solver.specs.Models.{named_to}
+use Rattle.sat_solver.specs.variables.Variables.{names_used}
+use Rattle.sat_solver.specs.variables.Calls.{NamesInvariant, Agree, NamesRefineJudge, HasJudge}
 use Rattle.sat_checker.specs.matching.Bridge.{Live}
-use Rattle.sat_solver.specs.declared.names.Variables.{Variables}
-use Rattle.sat_solver.specs.declared.names.taking.Taken.{Taken}
-use Rattle.sat_solver.proofs.lemmas.names.Doing.{does_none, does_both, judged_by}
+use Rattle.sat_solver.specs.declared.variables.Variables.{Variables}
+use Rattle.sat_solver.specs.declared.load.literals.Taken.{Taken}
+use Rattle.sat_solver.proofs.lemmas.variables.Doing.{does_none, does_both, judged_by}
 use Rattle.sat_solver.specs.declared.solver.Solver.{Solver}
-use Rattle.sat_solver.specs.declared.solver.state.State.{State}
-use Rattle.sat_solver.specs.declared.solver.state.State.TheVariants as states
-use Rattle.sat_solver.specs.declared.solver.finding.Told.{Told}
-use Rattle.sat_solver.specs.declared.solver.finding.Clock.{Clock}
+use Rattle.sat_solver.specs.declared.state.State.{State}
+use Rattle.sat_solver.specs.declared.state.State.TheVariants as states
+use Rattle.sat_solver.specs.declared.solver.find.Told.{Told}
+use Rattle.sat_solver.specs.declared.solver.find.Clock.{Clock}
 use Rattle.sat_solver.specs.solver.Joined.{IsJoined, name_of}
-use Rattle.sat_solver.specs.solver.Answering.{Breaks, FlushFails, Failed, line_of, model_of}
+use Rattle.sat_solver.specs.solver.Answering.{BreaksOff, FlushFails, Failed, line_of, model_of}
 use Rattle.sat_solver.specs.solver.Found.{FoundModel, FoundCore, FoundNone, FoundSays}
 use Rattle.sat_solver.specs.solver.Calls.{Answered, Counts, CountsRounds, RoundsOn, IsFlushed, NotesAsk, learned_of, told_as, told_by}
 use Rattle.sat_solver.specs.solver.Settling.{Settled}
-use Rattle.sat_solver.specs.solver.Whole.{IsWhole, IsWholeOf, StateSays, GoesOn, HasCore, steps_in, session_in, line_in}
+use Rattle.sat_solver.specs.solver.Whole.{IsWhole, IsWholeOf, StateSays, AskGoesOn, HasCore, steps_in, session_in, line_in}
 use Rattle.sat_solver.proofs.lemmas.solver.AnsweredLemmas.{asked_shown, core_among, core_spelt, core_none, joined_by, does_shown, does_failed}
 use Rattle.sat_solver.proofs.lemmas.solver.KeptLemmas.{images_kept, globals_kept}
-use Rattle.sat_solver.specs.simplify.Freed.{KeepsAsked}
+use Rattle.sat_solver.specs.unit_simplify.Freed.{KeepsAsked}
 
 apart_sat : states.Sat ≡ states.Unknown → ⊥
 apart_sat e = cc
@@ -110,13 +110,13 @@ module _ {W L : Type 0} {G : Ghosts L} (seen : W → Writer) (s : Solver W L G) 
     known = λ k. (adds_none seen s.core.proof, refl);
   }
     where
-      none : (st : State) → (st ≡ states.Unknown → ⊥) → Does s.names s.names (steps_in s) (steps_in s) (λ j. j) (λ j. told_as st st (line_in s) s.assumed.items s.told.failed_core.items)
+      none : (st : State) → (st ≡ states.Unknown → ⊥) → NamesRefineJudge s.names s.names (steps_in s) (steps_in s) (λ j. j) (λ j. told_as st st (line_in s) s.assumed.items s.told.failed_core.items)
       none states.Unknown n = absurd (n refl)
       none states.Sat n = does_none s.names (steps_in s) whole.stands
       none states.UnsatUnderAssumptions n = does_none s.names (steps_in s) whole.stands
       none states.Unsat n = does_none s.names (steps_in s) whole.stands
 
-  module _ (goes : GoesOn s.core s.names s.asked) (core : Core W L G) (m : Variables) (told : Told) (clock : Clock) (scale : clock.restarts.scale ≡ s.clock.restarts.scale) where
+  module _ (goes : AskGoesOn s.core s.names s.asked) (core : Core W L G) (m : Variables) (told : Told) (clock : Clock) (scale : clock.restarts.scale ≡ s.clock.restarts.scale) where
     positive : 0 < clock.restarts.scale
     positive = subst (λ (k : ℕ). 0 < k) (sym scale) whole.positive
 
@@ -146,7 +146,7 @@ module _ {W L : Type 0} {G : Ghosts L} (seen : W → Writer) (s : Solver W L G) 
         judged = judged_by found.gone.does whole.judged;
         says = subst (λ st. StateSays st core m s.asked s.assumed.items told.failed_core.items) (sym unknown) (record { joined = found.joined; lits = ap (λ ls. ls.items) found.gone.moved.lits ∙ goes.lits });
       };
-      does = subst (λ st. Does s.names m (steps_in s) (steps_of core.proof) (λ j. j) (λ j. told_as st st (line_of m core) s.assumed.items told.failed_core.items)) (sym unknown) found.gone.does;
+      does = subst (λ st. NamesRefineJudge s.names m (steps_in s) (steps_of core.proof) (λ j. j) (λ j. told_as st st (line_of m core) s.assumed.items told.failed_core.items)) (sym unknown) found.gone.does;
       comes = comes_open (steps_in s) (steps_of core.proof) found.gone.steps found.gone.adds.history found.joined.sound.search.stands.fits.consistent;
       took = (found.gone.steps, gains_adds seen found.gone.steps s.core.proof core.proof found.gone.adds);
       width = gained_width seen s.core.proof core.proof (found.gone.steps, found.gone.adds);
@@ -162,8 +162,8 @@ module _ {W L : Type 0} {G : Ghosts L} (seen : W → Writer) (s : Solver W L G) 
       abbrev pub new : State → Solver W L G
       new st = record s { core = core; names = m; told = told; clock = clock; state = st }
 
-      unknown_told : (st : State) → Does s.names m (steps_in s) (steps_of core.proof) (λ j. j) (λ j. told_as states.Unknown st (line_of m core) s.assumed.items told.failed_core.items) → Does s.names m (steps_in s) (steps_of core.proof) (λ j. j) (λ j. told_as s.state st (line_of m core) s.assumed.items told.failed_core.items)
-      unknown_told st d = subst (λ before. Does s.names m (steps_in s) (steps_of core.proof) (λ j. j) (λ j. told_as before st (line_of m core) s.assumed.items told.failed_core.items)) (sym unknown) d
+      unknown_told : (st : State) → NamesRefineJudge s.names m (steps_in s) (steps_of core.proof) (λ j. j) (λ j. told_as states.Unknown st (line_of m core) s.assumed.items told.failed_core.items) → NamesRefineJudge s.names m (steps_in s) (steps_of core.proof) (λ j. j) (λ j. told_as s.state st (line_of m core) s.assumed.items told.failed_core.items)
+      unknown_told st d = subst (λ before. NamesRefineJudge s.names m (steps_in s) (steps_of core.proof) (λ j. j) (λ j. told_as before st (line_of m core) s.assumed.items told.failed_core.items)) (sym unknown) d
 
       -- where a model was found
       pub settled_model : Counts s (new states.Sat) → FoundModel seen (clock.steps - s.clock.steps) s.names m s.core core → Settled seen s (new states.Sat)
@@ -221,10 +221,10 @@ module _ {W L : Type 0} {G : Ghosts L} (seen : W → Writer) (s : Solver W L G) 
           both : Gains seen (Model (model_of m found.mid) ∷ found.ended.steps) s.core.proof core.proof
           both = gains_more seen found.ended.steps (Model (model_of m found.mid) ∷ []) s.core.proof found.mid.proof core.proof found.ended.adds found.shown.adds
 
-          does : Does s.names m (steps_in s) (steps_of core.proof) (λ j. j) (λ j. told_as states.Unknown states.Sat (line_of m core) s.assumed.items told.failed_core.items)
+          does : NamesRefineJudge s.names m (steps_in s) (steps_of core.proof) (λ j. j) (λ j. told_as states.Unknown states.Sat (line_of m core) s.assumed.items told.failed_core.items)
           does = does_both s.names m m (steps_in s) (steps_of found.mid.proof) (steps_of core.proof) (λ j. j) (λ j. j) (λ j. []) (λ j. told_as states.Unknown states.Sat (line_of m core) s.assumed.items told.failed_core.items)
               found.ended.does
-              (subst (λ c. Does m m (steps_of found.mid.proof) (steps_of core.proof) (λ j. j) (λ j. Shows (names_of (map named_literal (line_by c))) (map named_literal s.assumed.items) (map named_literal (line_by c)) ∷ [])) (sym found.shown.search)
+              (subst (λ c. NamesRefineJudge m m (steps_of found.mid.proof) (steps_of core.proof) (λ j. j) (λ j. Shows (names_of (map named_literal (line_by c))) (map named_literal s.assumed.items) (map named_literal (line_by c)) ∷ [])) (sym found.shown.search)
               (does_shown seen m found.mid mid core found.shown s.assumed.items (subst (λ c. AllByRecursion (λ l. Among l (line_by c)) s.assumed.items) found.shown.search asked)))
 
       -- where assumptions were found that can't be true together
@@ -277,7 +277,7 @@ module _ {W L : Type 0} {G : Ghosts L} (seen : W → Writer) (s : Solver W L G) 
           both : Gains seen (found.failed.steps ++ found.ended.steps) s.core.proof core.proof
           both = gains_more seen found.ended.steps found.failed.steps s.core.proof found.mid.proof core.proof found.ended.adds found.failed.adds
 
-          does : Does s.names m (steps_in s) (steps_of core.proof) (λ j. j) (λ j. told_as states.Unknown states.UnsatUnderAssumptions (line_of m core) s.assumed.items told.failed_core.items)
+          does : NamesRefineJudge s.names m (steps_in s) (steps_of core.proof) (λ j. j) (λ j. told_as states.Unknown states.UnsatUnderAssumptions (line_of m core) s.assumed.items told.failed_core.items)
           does = does_both s.names m m (steps_in s) (steps_of found.mid.proof) (steps_of core.proof) (λ j. j) (λ j. j) (λ j. []) (λ j. told_as states.Unknown states.UnsatUnderAssumptions (line_of m core) s.assumed.items told.failed_core.items)
               found.ended.does (does_failed seen m found.mid mid core told.failed_core.items found.failed s.assumed.items s.asked.order.items images lits)
 
@@ -326,7 +326,7 @@ module _ {W L : Type 0} {G : Ghosts L} (seen : W → Writer) (s : Solver W L G) 
 -- the same over a proof with the same steps
 pub whole_over : {W L : Type 0} {G : Ghosts L} (c : Core W L G) (n : Variables) (asked : Taken) (assumed core : List ℕ) (scale : ℕ) (state : State) (p : Proof W L G) → IsWholeOf c n asked assumed core scale state → steps_of p ≡ steps_of c.proof → is_lost p ≡ is_lost c.proof → IsWholeOf (record c { proof = p }) n asked assumed core scale state
 whole_over {W} {L} {G} c n asked assumed core scale state p whole e taking = record {
-  stands = subst (Stands n) (sym e) whole.stands;
+  stands = subst (NamesInvariant n) (sym e) whole.stands;
   images = whole.images;
   spelt = whole.spelt;
   globals = whole.globals ∙ ap (λ ss. (session_after ss).assumed) (sym e);
@@ -341,7 +341,7 @@ whole_over {W} {L} {G} c n asked assumed core scale state p whole e taking = rec
     new : Core W L G
     new = record c { proof = p }
 
-    joined : GoesOn c n asked → GoesOn new n asked
+    joined : AskGoesOn c n asked → AskGoesOn new n asked
     joined g = record {
       joined = record {
         sound = record {
@@ -350,7 +350,7 @@ whole_over {W} {L} {G} c n asked assumed core scale state p whole e taking = rec
           locals = g.joined.sound.locals;
           mids = g.joined.sound.mids;
         };
-        stands = subst (Stands n) (sym e) g.joined.stands;
+        stands = subst (NamesInvariant n) (sym e) g.joined.stands;
         shares = g.joined.shares;
       };
       lits = g.lits;
@@ -373,14 +373,14 @@ whole_over {W} {L} {G} c n asked assumed core scale state p whole e taking = rec
 
 module _ {W L : Type 0} {G : Ghosts L} (seen : W → Writer) (old mid : Solver W L G) (settled : Settled seen old mid) (p : Proof W L G) where
   flush_adds : Flushes seen mid.core.proof p → Adds seen [] mid.core.proof p
-  flush_adds f = gains_adds seen [] mid.core.proof p (flush_records seen (Ok tt) mid.core.proof p f)
+  flush_adds f = gains_adds seen [] mid.core.proof p (flush_records seen (Ok tt) mid.core.proof p settled.whole.taking f)
 
   -- the answer was flushed
   pub settled_flushed : Flushes seen mid.core.proof p → Settled seen old (record mid { core = record mid.core { proof = p } })
   settled_flushed f = record {
     whole = whole_over mid.core mid.names mid.asked mid.assumed.items mid.told.failed_core.items mid.clock.restarts.scale mid.state p settled.whole f.history f.taking;
-    does = subst (λ ss. Does old.names mid.names (steps_in old) ss (λ j. j) (λ j. told_by old.state mid)) (sym f.history) settled.does;
-    comes = subst (Comes EndsAtUnsat (steps_in old)) (sym f.history) settled.comes;
+    does = subst (λ ss. NamesRefineJudge old.names mid.names (steps_in old) ss (λ j. j) (λ j. told_by old.state mid)) (sym f.history) settled.does;
+    comes = subst (OnlyAllowedSteps EndsAtUnsat (steps_in old)) (sym f.history) settled.comes;
     took = (_, adds_more seen settled.took.0 [] old.core.proof mid.core.proof p settled.took.1 (flush_adds f));
     width = λ n. f.width (settled.width (λ e. n (f.history ∙ e)));
     same = ap (λ (m : Solver W L G). record m { core = record mid.core { proof = p } }) settled.same;
@@ -392,13 +392,13 @@ module _ {W L : Type 0} {G : Ghosts L} (seen : W → Writer) (old mid : Solver W
   }
 
   -- and where the target failed at it
-  pub settled_broken : (e : ProofError) → FlushesOrFails seen (Err e) mid.core.proof p → Breaks seen (fault_of e) old.core (record mid.core { proof = p }) × CountsRounds old mid × ((old.state ≡ states.Unknown → ⊥) → FlushFails seen (fault_of e) old.core.proof p)
-  settled_broken (Write cause) f = (record { fault = tt; steps = _; went = fails_later seen settled.took.0 [] old.core.proof mid.core.proof p settled.took.1 f }, settled.counts.on, λ k. fails_later seen [] [] old.core.proof mid.core.proof p (settled.known k).0 f)
+  pub settled_broken : (e : ProofError) → FlushesOrFails seen (Err e) mid.core.proof p → BreaksOff seen (fault_of e) old.core (record mid.core { proof = p }) × CountsRounds old mid × ((old.state ≡ states.Unknown → ⊥) → FlushFails seen (fault_of e) old.core.proof p)
+  settled_broken (Write cause) f = ((record { fault = tt; steps = _; went = fails_later seen settled.took.0 [] old.core.proof mid.core.proof p settled.took.1 f.0; loss = tt }, f.1), settled.counts.on, λ k. fails_later seen [] [] old.core.proof mid.core.proof p (settled.known k).0 f.0)
   settled_broken OutOfMemory f = absurd f
   settled_broken (Check fault) f =
-      let k = flush_records seen (Err (Check fault)) mid.core.proof p f in
+      let k = flush_records seen (Err (Check fault)) mid.core.proof p settled.whole.taking f in
       let steps = settled.took.0 in
-      (record { fault = fault_checked _ fault; steps = [] ++ steps; went = went_checked seen (Unit {0}) fault ([] ++ steps) old.core.proof p (check_later seen steps [] old.core.proof mid.core.proof p settled.took.1 k) }, settled.counts.on, λ n. flush_checked fault (check_later seen [] [] old.core.proof mid.core.proof p (settled.known n).0 k))
+      ((record { fault = fault_checked _ fault; steps = [] ++ steps; went = went_checked seen (Unit {0}) fault ([] ++ steps) old.core.proof p (check_later seen steps [] old.core.proof mid.core.proof p settled.took.1 k.0); loss = check_loss fault old.core.proof p k.0.why }, complaint_kept fault p k.1), settled.counts.on, λ n. flush_checked fault (check_later seen [] [] old.core.proof mid.core.proof p (settled.known n).0 k.0))
     where
       flush_checked : (f : CheckFault) → FailsCheck seen f [] old.core.proof p → FlushFails seen (check_fault_of f) old.core.proof p
       flush_checked checks.OutOfMemory h = h
@@ -406,7 +406,7 @@ module _ {W L : Type 0} {G : Ghosts L} (seen : W → Writer) (old mid : Solver W
       flush_checked (checks.Processor cause) h = h
 
 module _ {W L : Type 0} {G : Ghosts L} (seen : W → Writer) (s : Solver W L G) (whole : IsWhole s) (unknown : s.state ≡ states.Unknown) (core : Core W L G) (m : Variables) (told : Told) (clock : Clock) (scale : clock.restarts.scale ≡ s.clock.restarts.scale) (on : CountsOn (values_in s.core) s.core.config.max_steps s.clock.steps clock.steps) where
-  goes_on : GoesOn s.core s.names s.asked
+  goes_on : AskGoesOn s.core s.names s.asked
   goes_on = subst (λ st. StateSays st s.core s.names s.asked s.assumed.items s.told.failed_core.items) unknown whole.says
 
   -- no more variables than identities

@@ -10,20 +10,20 @@ use Rattle.sat_checker.specs.Accepts.{VariablesApart}
 use Rattle.sat_checker.proofs.lemmas.sets.Order.{among-append}
 use Rattle.sat_solver.specs.session.LiveClauses.{with_var}
 use Rattle.sat_solver.specs.session.Session.{Session, May, MayShow}
-use Rattle.sat_solver.specs.declared.search.work.Search.{Search}
-use Rattle.sat_solver.specs.search.Joint.{global_in, IsSearch}
-use Rattle.sat_solver.specs.search.Showing.{true_lits}
-use Rattle.sat_solver.specs.search.Turns.{IsComplete}
-use Rattle.sat_solver.proofs.lemmas.search.ShowingLemmas.{are_true_lits, complete_may}
-use Rattle.sat_solver.proofs.lemmas.joint.CodeLemmas.{coded_by}
-use Rattle.sat_solver.proofs.lemmas.names.ModeChanges.{live_within}
-use Rattle.sat_solver.proofs.lemmas.search.TurnLemmas.{ready_names}
-use Rattle.sat_solver.specs.names.Variables.{AreTidy, AreSaid, data_at, solver_of, variables_used, says_unit}
-use Rattle.sat_solver.specs.loading.Shared.{SharesIndices}
-use Rattle.sat_solver.specs.names.Models.{is_true, value_by, value_in, literal_in, model_to}
-use Rattle.sat_solver.specs.declared.names.Variables.{Variables}
-use Rattle.sat_solver.proofs.lemmas.names.ModelSteps.{model_zero, model_next}
-use Rattle.sat_solver.proofs.lemmas.parts.ValueLemmas.{coded_variable}
+use Rattle.sat_solver.specs.declared.context.Search.{Search}
+use Rattle.sat_solver.specs.cdcl.Joint.{global_in, IsSearch}
+use Rattle.sat_solver.specs.cdcl.Showing.{true_lits}
+use Rattle.sat_solver.specs.cdcl.Turns.{IsComplete}
+use Rattle.sat_solver.proofs.lemmas.cdcl.ShowingLemmas.{are_true_lits, complete_may}
+use Rattle.sat_solver.proofs.lemmas.fits.CodeLemmas.{coded_by}
+use Rattle.sat_solver.proofs.lemmas.variables.ModeChanges.{live_within}
+use Rattle.sat_solver.proofs.lemmas.cdcl.TurnLemmas.{ready_names}
+use Rattle.sat_solver.specs.variables.Variables.{AreTidy, AreSaid, data_at, solver_of, variables_used, says_unit}
+use Rattle.sat_solver.specs.variables.Shared.{SharesIndices}
+use Rattle.sat_solver.specs.Models.{is_true, value_by, value_in, literal_in, model_to}
+use Rattle.sat_solver.specs.declared.variables.Variables.{Variables}
+use Rattle.sat_solver.proofs.lemmas.variables.ModelSteps.{model_zero, model_next}
+use Rattle.sat_parts.proofs.lemmas.parts.ValueLemmas.{coded_variable}
 
 -- the literal is the one of a variable in use, below the count, with its value
 pub record IsShown (n : Variables) (values : List (Option Bool)) (count l : ℕ) : Type 0 where

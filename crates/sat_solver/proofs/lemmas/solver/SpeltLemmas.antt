@@ -2,13 +2,13 @@
 use Rattle.std.proofs.Common.{ℕ, zero, suc, ◌<◌, ◌≡◌, ◌∙◌, refl, List, [], ◌∷◌, length, map, get_or, sym, ap, arith}
 use Rattle.sat_base.specs.values.Literals.{variable, is_positive, coded}
 use Rattle.sat_solver.specs.session.LiveClauses.{with_var}
-use Rattle.sat_solver.specs.names.Adding.{Image, Images, GlobalImages, global_in}
-use Rattle.sat_solver.specs.names.Naming.{KeepsNames}
-use Rattle.sat_solver.specs.names.Variables.{AreTidy}
-use Rattle.sat_solver.specs.declared.names.Variables.{Variables}
-use Rattle.sat_solver.specs.declared.names.taking.Taken.{Taken}
-use Rattle.sat_solver.proofs.lemmas.joint.CodeLemmas.{coded_by}
-use Rattle.sat_solver.proofs.lemmas.parts.ValueLemmas.{coded_variable}
+use Rattle.sat_solver.specs.load.Literals.{Image, Images, GlobalImages, global_in}
+use Rattle.sat_solver.specs.variables.Naming.{KeepsNames}
+use Rattle.sat_solver.specs.variables.Variables.{AreTidy}
+use Rattle.sat_solver.specs.declared.variables.Variables.{Variables}
+use Rattle.sat_solver.specs.declared.load.literals.Taken.{Taken}
+use Rattle.sat_solver.proofs.lemmas.fits.CodeLemmas.{coded_by}
+use Rattle.sat_parts.proofs.lemmas.parts.ValueLemmas.{coded_variable}
 use Rattle.sat_solver.proofs.lemmas.solver.ShownLemmas.{coded_sign}
 
 length_mapped : (f : ℕ → ℕ) (ls : List ℕ) → length (map f ls) ≡ length ls

@@ -8,21 +8,21 @@ use Rattle.sat_checker.specs.Stored.{unknown}
 use Rattle.sat_store.specs.declared.data.VarData.{VarData}
 use Rattle.sat_store.specs.variables.VarData.{unused_variable}
 use Rattle.sat_checker.specs.declared.processing.ProofProcessor.{Ghosts}
-use Rattle.sat_solver.specs.session.ProofView.{is_lost, steps_of}
+use Rattle.sat_solver.specs.proof.ProofView.{is_lost, steps_of}
 use Rattle.sat_solver.specs.session.Session.{nothing, MayAll, session_after}
-use Rattle.sat_solver.specs.declared.names.Variables.{Variables}
-use Rattle.sat_solver.specs.declared.names.taking.Taken.{Taken}
-use Rattle.sat_solver.specs.declared.search.solving.Core.{Core}
-use Rattle.sat_solver.specs.search.Bumping.{AreDecays}
-use Rattle.sat_solver.specs.search.Joint.{IsSearch}
-use Rattle.sat_solver.specs.names.Variables.{AreTidy, AreSaid, says_unit, mode_in, user_of, data_at, global_of, solver_of, names_used, variables_used}
-use Rattle.sat_solver.specs.names.Live.{given_of}
-use Rattle.sat_solver.specs.names.Calls.{Stands, Agree, HasJudge}
+use Rattle.sat_solver.specs.declared.variables.Variables.{Variables}
+use Rattle.sat_solver.specs.declared.load.literals.Taken.{Taken}
+use Rattle.sat_solver.specs.declared.schedule.solve.Core.{Core}
+use Rattle.sat_solver.specs.clause.Activity.{AreDecays}
+use Rattle.sat_solver.specs.cdcl.Joint.{IsSearch}
+use Rattle.sat_solver.specs.variables.Variables.{AreTidy, AreSaid, says_unit, mode_in, user_of, data_at, global_of, solver_of, names_used, variables_used}
+use Rattle.sat_solver.specs.variables.Live.{given_of}
+use Rattle.sat_solver.specs.variables.Calls.{NamesInvariant, Agree, HasJudge}
 use Rattle.sat_checker.specs.matching.ProofChecking.{the_checking}
 use Rattle.sat_checker.proofs.lemmas.matching.Bridge.{begun}
 use Rattle.sat_solver.specs.solver.Joined.{IsJoined}
 use Rattle.sat_solver.specs.solver.Whole.{IsWholeOf}
-use Rattle.sat_solver.specs.declared.solver.state.State.TheVariants as states
+use Rattle.sat_solver.specs.declared.state.State.TheVariants as states
 
 none_mapped : (f : ℕ → ℕ) (ls : List ℕ) → [] ≡ map f ls → ls ≡ []
 none_mapped f [] e = refl
@@ -57,7 +57,7 @@ module _ (n : Variables) (tidy : AreTidy n) (none : variables_used n ≡ 0) wher
     marked = λ v. ap (λ d. d.assumed) (sym (unused v));
   }
 
-  pub stands_first : Stands n []
+  pub stands_first : NamesInvariant n []
   stands_first = record { tidy = tidy; said = said; may = tt; read = λ u. sym (no_name u) }
 
   pub agree_first : Agree n [] start []
@@ -82,7 +82,7 @@ module _ (n : Variables) (tidy : AreTidy n) (none : variables_used n ≡ 0) wher
   pub joined_first : {W L : Type 0} {G : Ghosts L} (c : Core W L G) → steps_of c.proof ≡ [] → IsSearch nothing c.search → c.search.parts.assignment.current ≡ [] → c.search.globals.items ≡ [] → 0 < c.config.reduce_locals_interval → 0 < c.config.reduce_mids_interval → IsJoined n c
   joined_first c steps search values globals locals mids = record {
     sound = record { keeps = subst MayAll (sym steps) tt; search = subst (λ ss. IsSearch (session_after ss) c.search) (sym steps) search; locals = locals; mids = mids };
-    stands = subst (Stands n) (sym steps) stands_first;
+    stands = subst (NamesInvariant n) (sym steps) stands_first;
     shares = record {
       size = ap (λ xs. length xs) values ∙ sym (ap (λ xs. length xs) globals);
       few = (let e : length c.search.globals.items ≡ 0 = ap (λ xs. length xs) globals in omega arith);
@@ -110,5 +110,5 @@ module _ (n : Variables) (tidy : AreTidy n) (none : variables_used n ≡ 0) wher
     };
   }
     where
-      stands : Stands n (steps_of c.proof)
-      stands = subst (Stands n) (sym steps) stands_first
+      stands : NamesInvariant n (steps_of c.proof)
+      stands = subst (NamesInvariant n) (sym steps) stands_first

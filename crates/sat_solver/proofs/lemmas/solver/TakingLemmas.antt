@@ -10,56 +10,56 @@ use Rattle.sat_checker.specs.LiteralSets.{is_tautology}
 use Rattle.sat_checker.specs.SortedSets.{IsIncreasing}
 use Rattle.sat_checker.proofs.lemmas.sets.Canonical.{canonical_increasing, canonical_tautology}
 use Rattle.sat_checker.specs.declared.processing.ProofProcessor.{Ghosts}
-use Rattle.sat_solver.specs.declared.session.made.CheckFault.TheVariants as checks
-use Rattle.sat_solver.specs.session.ProofView.{Keeps, steps_of, session_of}
+use Rattle.sat_solver.specs.declared.proof.made.CheckFault.TheVariants as checks
+use Rattle.sat_solver.specs.proof.ProofView.{Keeps, is_lost, steps_of, session_of}
 use Rattle.sat_solver.specs.session.Session.{Session, MayAll, session_after}
 use Rattle.sat_solver.specs.session.Making.{Took, Gained}
-use Rattle.sat_solver.specs.names.Taking.{NotTaken}
-use Rattle.sat_solver.specs.declared.session.proof.Proof.{Proof}
+use Rattle.sat_solver.specs.variables.Taking.{NotTaken}
+use Rattle.sat_solver.specs.declared.proof.Proof.{Proof}
 use Rattle.sat_solver.proofs.lemmas.session.ProofLemmas.{gains_none, gains_adds, gains_more}
-use Rattle.sat_solver.proofs.lemmas.search.GoingLemmas.{went_behind, went_checked, went_failing, fault_checked}
+use Rattle.sat_solver.proofs.lemmas.cdcl.GoingLemmas.{check_loss, complaint_kept, loss_later, went_behind, went_checked, went_failing, fault_checked}
 use Rattle.sat_solver.specs.declared.error.SolverError.{SolverError}
 use Rattle.sat_solver.specs.declared.error.SolverError.TheVariants as errors
-use Rattle.sat_solver.specs.declared.names.error.NameError.{NameError}
-use Rattle.sat_solver.specs.declared.names.error.NameError.TheVariants as names
-use Rattle.sat_solver.specs.names.Failing.{IsFailure, CameTo}
-use Rattle.sat_solver.specs.loading.Faults.{told_as}
-use Rattle.sat_solver.specs.declared.search.solving.Core.{Core}
-use Rattle.sat_solver.specs.declared.search.work.Search.{Search}
-use Rattle.sat_solver.specs.parts.Full.{IsFull}
-use Rattle.sat_solver.specs.search.Going.{IsFault, IsFaultOr, GoesOr}
-use Rattle.sat_solver.specs.search.Joint.{global_in, IsSearch}
-use Rattle.sat_solver.proofs.lemmas.search.AskedLemmas.{asked_after, kinds_of}
-use Rattle.sat_solver.specs.names.Adding.{named_literal, Image}
-use Rattle.sat_solver.specs.names.AddingCalls.{AddsClause}
-use Rattle.sat_solver.specs.names.Assuming.{Assumes}
+use Rattle.sat_solver.specs.declared.variables.error.NameError.{NameError}
+use Rattle.sat_solver.specs.declared.variables.error.NameError.TheVariants as names
+use Rattle.sat_solver.specs.variables.Failing.{IsFailure, EmitsUpTo}
+use Rattle.sat_solver.specs.load.Faults.{told_as}
+use Rattle.sat_solver.specs.declared.schedule.solve.Core.{Core}
+use Rattle.sat_solver.specs.declared.context.Search.{Search}
+use Rattle.sat_parts.specs.parts.Full.{IsFull}
+use Rattle.sat_solver.specs.cdcl.Going.{IsFault, IsFaultOr, EmitsStepsOr}
+use Rattle.sat_solver.specs.cdcl.Joint.{global_in, IsSearch}
+use Rattle.sat_solver.proofs.lemmas.cdcl.AskedLemmas.{asked_after, kinds_of}
+use Rattle.sat_solver.specs.load.Literals.{named_literal, Image}
+use Rattle.sat_solver.specs.load.Clauses.{AddsClause}
+use Rattle.sat_solver.specs.load.Assumed.{Assumes}
 use Rattle.sat_solver.specs.declared.config.SolverConfig.{SolverConfig}
 use Rattle.sat_solver.specs.session.LiveClauses.{with_var}
-use Rattle.sat_solver.specs.parts.Assumed.{AreThere}
-use Rattle.sat_solver.specs.names.Calls.{Stands, Does}
+use Rattle.sat_parts.specs.parts.Assumed.{AreThere}
+use Rattle.sat_solver.specs.variables.Calls.{NamesInvariant, NamesRefineJudge}
 use Rattle.sat_checker.specs.matching.Expected.{Unknown, Adds, bringing}
-use Rattle.sat_solver.specs.names.Refusing.{names_in}
-use Rattle.sat_solver.specs.names.Naming.{Extends}
-use Rattle.sat_solver.specs.names.Search.{Gives}
-use Rattle.sat_solver.specs.names.Variables.{solver_of}
-use Rattle.sat_solver.specs.declared.names.Variables.{Variables}
-use Rattle.sat_solver.specs.declared.names.taking.Taken.{Taken}
-use Rattle.sat_solver.specs.loading.Indices.{AreVacant, AreIndexed}
-use Rattle.sat_solver.specs.loading.Shared.{SharesIndices}
-use Rattle.sat_solver.specs.loading.Loaded.{MayLoad, IsAdded, IsLoaded}
-use Rattle.sat_solver.specs.loading.Assuming.{AreAssumed}
-use Rattle.sat_solver.proofs.lemmas.loading.AlikeLemmas.{tautology_loads}
-use Rattle.sat_solver.proofs.lemmas.loading.LoadingLemmas.{asked_added}
-use Rattle.sat_solver.proofs.lemmas.loading.SharedLemmas.{gives_names, given_vacant, shares_given, AreOver, over_below, over_named, over_same}
-use Rattle.sat_solver.proofs.lemmas.loading.TakenLemmas.{added_names, images_over, taken_may, taken_added}
+use Rattle.sat_solver.specs.variables.Refusing.{names_in}
+use Rattle.sat_solver.specs.variables.Naming.{Extends}
+use Rattle.sat_solver.specs.variables.Search.{Gives}
+use Rattle.sat_solver.specs.variables.Variables.{solver_of}
+use Rattle.sat_solver.specs.declared.variables.Variables.{Variables}
+use Rattle.sat_solver.specs.declared.load.literals.Taken.{Taken}
+use Rattle.sat_solver.specs.variables.Initialized.{AreVacant, AreIndexed}
+use Rattle.sat_solver.specs.variables.Shared.{SharesIndices}
+use Rattle.sat_solver.specs.load.Loaded.{MayLoad, IsAdded, IsLoaded}
+use Rattle.sat_solver.specs.assumptions.Setting.{AreAssumed}
+use Rattle.sat_solver.proofs.lemmas.load.AlikeLemmas.{tautology_loads}
+use Rattle.sat_solver.proofs.lemmas.load.LoadingLemmas.{asked_added}
+use Rattle.sat_solver.proofs.lemmas.load.SharedLemmas.{gives_names, given_vacant, shares_given, AreOver, over_below, over_named, over_same}
+use Rattle.sat_solver.proofs.lemmas.load.TakenLemmas.{added_names, images_over, taken_may, taken_added}
 use Rattle.sat_solver.specs.solver.Joined.{IsJoined}
-use Rattle.sat_solver.specs.solver.Taking.{KeepImages, GoesOnOr, TookClause, TookAssumptions, TakesClause, BreaksNamesOr}
+use Rattle.sat_solver.specs.solver.Taking.{KeepImages, GoesOnOr, TookClause, TookAssumptions, TakesClause, BreaksNamesOff, BreaksNamesOr}
 use Rattle.sat_solver.proofs.lemmas.solver.SpeltLemmas.{global_images_of}
-use Rattle.sat_solver.specs.names.Coming.{MayAdd}
-use Rattle.sat_solver.specs.names.Ordering.{AddsInOrder, IsInOrder}
-use Rattle.sat_solver.specs.session.Coming.{Comes, DeletesAdded}
+use Rattle.sat_solver.specs.variables.Coming.{MayAdd}
+use Rattle.sat_solver.specs.variables.Ordering.{AddsInOrder, IsInOrder}
+use Rattle.sat_solver.specs.session.Coming.{OnlyAllowedSteps, DeletesAdded}
 use Rattle.sat_solver.proofs.lemmas.session.ComingLemmas.{comes_both}
-use Rattle.sat_solver.proofs.lemmas.names.ComingSteps.{comes_added, comes_deleted}
+use Rattle.sat_solver.proofs.lemmas.variables.ComingSteps.{comes_added, comes_deleted}
 use Rattle.sat_solver.proofs.lemmas.solver.BehindLemmas.{does_behind}
 use Rattle.sat_solver.proofs.lemmas.solver.TellingLemmas.{shares_moved}
 
@@ -71,8 +71,6 @@ none_took seen p = ([], gains_none seen p)
 
 -- a failure of a call over names, as a solver tells it
 pub told_fails : (e : NameError) → IsFailure e → IsFault (told_as e)
-told_fails names.WitnessVariable h = absurd h
-told_fails names.AssumedVariable h = absurd h
 told_fails names.VariableLimit h = absurd h
 told_fails names.OutOfMemory h = tt
 told_fails (names.Write cause) h = tt
@@ -84,34 +82,36 @@ told_fails (names.Check (checks.Processor cause)) h = tt
 pub fault_on : {A : Type 0} (full : Type 0) (r : Result A SolverError) (e : SolverError) → IsErrAnd r (λ f. f ≡ e) → IsFaultOr full e → IfErr r (IsFaultOr full)
 fault_on full r e h f = let p = err_from_is_err_and r h in subst (λ r. IfErr r (IsFaultOr full)) (sym p.1) (subst (IsFaultOr full) (sym p.2) f)
 
-pub fault_ends : {A W L full : Type 0} {G : Ghosts L} (seen : W → Writer) (r : Result A SolverError) (p q : Proof W L G) (P : A → List Step → Type 0) → GoesOr full seen r p q P → IfErr r (IsFaultOr full)
+pub fault_ends : {A W L full : Type 0} {G : Ghosts L} (seen : W → Writer) (r : Result A SolverError) (p q : Proof W L G) (P : A → List Step → Type 0) → EmitsStepsOr full seen r p q P → IfErr r (IsFaultOr full)
 fault_ends seen (Ok x) p q P goes = tt
 fault_ends seen (Err e) p q P goes = goes.ends
 
 module _ {W L : Type 0} {G : Ghosts L} (seen : W → Writer) (a b : Core W L G) where
   -- a call over names failed
-  pub names_broke : {full : Type 0} (e : NameError) → CameTo (Gained seen) (NotTaken seen) a.proof e b.proof → BreaksNamesOr full seen (told_as e) a b
-  names_broke names.WitnessVariable h = absurd h
-  names_broke names.AssumedVariable h = absurd h
-  names_broke names.VariableLimit h = record { fault = inr refl; steps = h.0; went = gains_adds seen h.0 a.proof b.proof h.1 }
-  names_broke names.OutOfMemory h = record { fault = inl tt; steps = h.0; went = gains_adds seen h.0 a.proof b.proof h.1 }
-  names_broke (names.Write cause) h = record { fault = inl tt; steps = h.0; went = h.1 }
-  names_broke (names.Check fault) h = record { fault = inl (fault_checked _ fault); steps = h.0; went = went_checked seen (Unit {0}) fault h.0 a.proof b.proof h.1 }
+  pub names_broke : {full : Type 0} (e : NameError) → EmitsUpTo (Gained seen) (NotTaken seen) a.proof e b.proof → BreaksNamesOff full seen (told_as e) a b
+  names_broke names.VariableLimit h = (record { fault = inr refl; steps = h.0; went = gains_adds seen h.0 a.proof b.proof h.1; loss = h.1.taking }, tt)
+  names_broke names.OutOfMemory h = (record { fault = inl tt; steps = h.0; went = gains_adds seen h.0 a.proof b.proof h.1; loss = inl h.1.taking }, tt)
+  names_broke (names.Write cause) h = (record { fault = inl tt; steps = h.0.0; went = h.0.1; loss = tt }, h.1)
+  names_broke (names.Check fault) h = (record { fault = inl (fault_checked _ fault); steps = h.0; went = went_checked seen (Unit {0}) fault h.0 a.proof b.proof h.1; loss = check_loss fault a.proof b.proof h.1.why }, complaint_kept fault b.proof h.2)
 
   -- no memory was left behind it
-  pub took_starved : {full : Type 0} → Took seen a.proof b.proof → BreaksNamesOr full seen errors.OutOfMemory a b
-  took_starved h = record { fault = inl tt; steps = h.0; went = h.1 }
+  pub took_starved : {full : Type 0} → Took seen a.proof b.proof → is_lost b.proof ≡ is_lost a.proof → BreaksNamesOr full seen errors.OutOfMemory a b
+  took_starved h taking = record { fault = inl tt; steps = h.0; went = h.1; loss = inl taking }
 
-  pub names_starved : {full : Type 0} → Gained seen a.proof b.proof → BreaksNamesOr full seen errors.OutOfMemory a b
-  names_starved h = took_starved (h.0, gains_adds seen h.0 a.proof b.proof h.1)
+  pub names_starved : {full : Type 0} → Gained seen a.proof b.proof → BreaksNamesOff full seen errors.OutOfMemory a b
+  names_starved h = (took_starved (h.0, gains_adds seen h.0 a.proof b.proof h.1) h.1.taking, tt)
 
   -- a search failed behind it
-  pub load_broke : {A full : Type 0} (e : SolverError) (p : Proof W L G) (P : A → List Step → Type 0) → Gained seen a.proof p → GoesOr {A = A} full seen (Err e) p b.proof P → BreaksNamesOr full seen e a b
-  load_broke {A} {full} e p P h goes = record {
-    fault = inl goes.ends;
-    steps = _;
-    went = went_behind seen (Unit {0}) e h.0 goes.steps a.proof p b.proof (gains_adds seen h.0 a.proof p h.1) (went_failing seen A (Unit {0}) e goes.steps p b.proof goes.went);
-  }
+  pub load_broke : {A full : Type 0} (e : SolverError) (p : Proof W L G) (P : A → List Step → Type 0) → Gained seen a.proof p → EmitsStepsOr {A = A} full seen (Err e) p b.proof P → BreaksNamesOff full seen e a b
+  load_broke {A} {full} e p P h goes = (
+    record {
+      fault = inl goes.ends;
+      steps = _;
+      went = went_behind seen (Unit {0}) e h.0 goes.steps a.proof p b.proof (gains_adds seen h.0 a.proof p h.1) (went_failing seen A (Unit {0}) e goes.steps p b.proof goes.went);
+      loss = loss_later e a.proof p b.proof h.1.taking goes.loss;
+    },
+    goes.kept,
+  )
 
 -- names that keep variables and indices keep their literals of the search
 keep_images : (n n' : Variables) (s : Session) (gs : _) → Extends n n' → Gives n n' s gs → KeepImages n n'
@@ -182,7 +182,7 @@ module _ {W L : Type 0} {G : Ghosts L} (seen : W → Writer) (n n' : Variables) 
         locals = subst (λ (c : SolverConfig). 0 < c.reduce_locals_interval) (sym g) joined.sound.locals;
         mids = subst (λ (c : SolverConfig). 0 < c.reduce_mids_interval) (sym g) joined.sound.mids;
       };
-      stands = subst (λ q. Stands n' (steps_of q)) (sym e) adds.does.stands;
+      stands = subst (λ q. NamesInvariant n' (steps_of q)) (sym e) adds.does.stands;
       shares = subst (SharesIndices n') (sym f) shares1;
     }
 
@@ -203,12 +203,12 @@ module _ {W L : Type 0} {G : Ghosts L} (seen : W → Writer) (n n' : Variables) 
     }
 
     -- another one is loaded
-    module _ (left : Bool) (q : Proof W L G) (c2 : Search) (goes : GoesOr (IsFull c2.parts) seen (Ok left) p q (λ l _. IsLoaded l (session_of q) c1 c2)) (deletes : Comes DeletesAdded (steps_of p) (steps_of q)) where
+    module _ (left : Bool) (q : Proof W L G) (c2 : Search) (goes : EmitsStepsOr (IsFull c2.parts) seen (Ok left) p q (λ l _. IsLoaded l (session_of q) c1 c2)) (deletes : OnlyAllowedSteps DeletesAdded (steps_of p) (steps_of q)) where
       abbrev pub new : Core W L G
       new = record a { proof = q; search = c2 }
 
-      does2 : Does n n' (steps_of a.proof) (steps_of q) (λ j. with_clause (map named_literal user) (bring_all (names_in user) j)) (λ j. bringing (names_in user) j ++ (Adds (map named_literal user) ∷ []))
-      does2 = subst (λ ss. Does n n' (steps_of a.proof) ss (λ j. with_clause (map named_literal user) (bring_all (names_in user) j)) (λ j. bringing (names_in user) j ++ (Adds (map named_literal user) ∷ []))) (sym goes.went.history)
+      does2 : NamesRefineJudge n n' (steps_of a.proof) (steps_of q) (λ j. with_clause (map named_literal user) (bring_all (names_in user) j)) (λ j. bringing (names_in user) j ++ (Adds (map named_literal user) ∷ []))
+      does2 = subst (λ ss. NamesRefineJudge n n' (steps_of a.proof) ss (λ j. with_clause (map named_literal user) (bring_all (names_in user) j)) (λ j. bringing (names_in user) j ++ (Adds (map named_literal user) ∷ []))) (sym goes.went.history)
           (does_behind n n' (steps_of a.proof) (steps_of p) goes.steps (λ j. with_clause (map named_literal user) (bring_all (names_in user) j)) (λ j. bringing (names_in user) j ++ (Adds (map named_literal user) ∷ []))
           adds.does (subst MayAll goes.went.history goes.keeps) goes.searched)
 
@@ -235,7 +235,7 @@ module _ {W L : Type 0} {G : Ghosts L} (seen : W → Writer) (n n' : Variables) 
       }
 
     -- or it isn't
-    pub clause_told : (r : Result Bool SolverError) (q : Proof W L G) (c2 : Search) → GoesOr (IsFull c2.parts) seen r p q (λ l _. IsLoaded l (session_of q) c1 c2) → OnOk r (Comes DeletesAdded (steps_of p) (steps_of q)) → TakesClause seen r n n' a (record a { proof = q; search = c2 }) user
+    pub clause_told : (r : Result Bool SolverError) (q : Proof W L G) (c2 : Search) → EmitsStepsOr (IsFull c2.parts) seen r p q (λ l _. IsLoaded l (session_of q) c1 c2) → OnOk r (OnlyAllowedSteps DeletesAdded (steps_of p) (steps_of q)) → TakesClause seen r n n' a (record a { proof = q; search = c2 }) user
     clause_told (Ok left) q c2 goes deletes = clause_loaded left q c2 goes deletes
     clause_told (Err e) q c2 goes deletes = load_broke seen a (record a { proof = q; search = c2 }) e p (λ l _. IsLoaded l (session_of q) c1 c2) took goes
 

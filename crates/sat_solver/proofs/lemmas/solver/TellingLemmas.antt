@@ -1,5 +1,5 @@
 -- Names and search behind the step of an answer.
-use Rattle.std.proofs.Common.{ℕ, ◌<◌, ◌≤◌, ◌≡◌, ◌⊎◌, ◌∙◌, Bool, true, false, Option, Some, Ok, Err, eqb, List, [], ◌∷◌, ◌++◌, length, map, get_or, refl, sym, ap, subst}
+use Rattle.std.proofs.Common.{inl, ℕ, ◌<◌, ◌≤◌, ◌≡◌, ◌⊎◌, ◌∙◌, Bool, true, false, Option, Some, Ok, Err, eqb, List, [], ◌∷◌, ◌++◌, length, map, get_or, refl, sym, ap, subst}
 use Rattle.std.proofs.lemmas.Bool.{or_left, or_right, eq-eqb}
 use Rattle.std.specs.List.{AllByRecursion}
 use Rattle.sat_base.specs.device.Device.{Writer}
@@ -7,31 +7,31 @@ use Rattle.sat_base.specs.values.Literals.{variable}
 use Rattle.sat_base.specs.steps.Steps.{Step, Model, FailedAssumptions}
 use Rattle.sat_checker.specs.LiteralSets.{is_among}
 use Rattle.sat_checker.specs.declared.processing.ProofProcessor.{Ghosts}
-use Rattle.sat_solver.specs.session.ProofView.{Gains, Keeps, Records, steps_of, session_of}
+use Rattle.sat_solver.specs.proof.ProofView.{Gains, Keeps, Records, steps_of, session_of}
 use Rattle.sat_solver.specs.session.Session.{Session, MayAll, after, session_after}
-use Rattle.sat_solver.specs.declared.session.proof.Proof.{Proof}
-use Rattle.sat_solver.specs.declared.session.proof.ProofError.{ProofError}
-use Rattle.sat_solver.specs.declared.session.proof.ProofError.TheVariants.{Write, OutOfMemory, Check}
+use Rattle.sat_solver.specs.declared.proof.Proof.{Proof}
+use Rattle.sat_solver.specs.declared.proof.ProofError.{ProofError}
+use Rattle.sat_solver.specs.declared.proof.ProofError.TheVariants.{Write, OutOfMemory, Check}
 use Rattle.sat_solver.proofs.lemmas.session.ProofLemmas.{adds_none, gains_adds}
-use Rattle.sat_solver.proofs.lemmas.search.GoingLemmas.{went_checked, fault_checked}
-use Rattle.sat_solver.specs.joint.Listed.{Rests}
-use Rattle.sat_solver.proofs.lemmas.joint.AnswerParts.{parts_rests}
+use Rattle.sat_solver.proofs.lemmas.cdcl.GoingLemmas.{check_loss, complaint_kept, went_checked, fault_checked}
+use Rattle.sat_solver.specs.session.Listed.{Rests}
+use Rattle.sat_solver.proofs.lemmas.fits.AnswerParts.{parts_rests}
 use Rattle.sat_solver.specs.declared.error.SolverError.TheVariants as errors
-use Rattle.sat_solver.specs.search.Failing.{TellsCore}
-use Rattle.sat_solver.specs.search.Going.{fault_of}
-use Rattle.sat_solver.specs.search.Joint.{assumed_in, global_in, IsSearch, Moved}
-use Rattle.sat_solver.specs.parts.Whole.{state}
-use Rattle.sat_solver.specs.parts.Words.{IsIdle}
-use Rattle.sat_solver.specs.declared.search.work.Search.{Search}
-use Rattle.sat_solver.specs.declared.search.solving.Core.{Core}
-use Rattle.sat_solver.specs.names.Variables.{data_at, variables_used, indices_used}
-use Rattle.sat_solver.specs.loading.Shared.{SharesIndices}
-use Rattle.sat_solver.specs.names.Models.{model_to}
-use Rattle.sat_solver.specs.names.Calls.{Stands}
-use Rattle.sat_solver.specs.declared.names.Variables.{Variables}
-use Rattle.sat_solver.proofs.lemmas.names.Searched.{searches_stand}
+use Rattle.sat_solver.specs.assumptions.Core.{TellsCore}
+use Rattle.sat_solver.specs.cdcl.Going.{fault_of}
+use Rattle.sat_solver.specs.cdcl.Joint.{assumed_in, global_in, IsSearch, Moved}
+use Rattle.sat_parts.specs.parts.Whole.{state}
+use Rattle.sat_parts.specs.parts.Words.{IsIdle}
+use Rattle.sat_solver.specs.declared.context.Search.{Search}
+use Rattle.sat_solver.specs.declared.schedule.solve.Core.{Core}
+use Rattle.sat_solver.specs.variables.Variables.{data_at, variables_used, indices_used}
+use Rattle.sat_solver.specs.variables.Shared.{SharesIndices}
+use Rattle.sat_solver.specs.Models.{model_to}
+use Rattle.sat_solver.specs.variables.Calls.{NamesInvariant}
+use Rattle.sat_solver.specs.declared.variables.Variables.{Variables}
+use Rattle.sat_solver.proofs.lemmas.variables.Searched.{searches_stand}
 use Rattle.sat_solver.specs.solver.Joined.{IsJoined, name_of}
-use Rattle.sat_solver.specs.solver.Answering.{Shown, Failed, Breaks, model_of}
+use Rattle.sat_solver.specs.solver.Answering.{Shown, Failed, BreaksOff, model_of}
 use Rattle.sat_solver.proofs.lemmas.solver.ShownLemmas.{model_only}
 
 -- the search doesn't see a step that leaves clauses, units, names and assumptions as they are
@@ -84,21 +84,21 @@ module _ {W L : Type 0} {G : Ghosts L} (seen : W → Writer) (n : Variables) (a 
               locals = joined.sound.locals;
               mids = joined.sound.mids;
             };
-            stands = subst (Stands n) (sym adds_model.history)
+            stands = subst (NamesInvariant n) (sym adds_model.history)
                 (searches_stand n (steps_of a.proof) (Model (model_of n a)) joined.stands may.1 (each_live n a.search.parts.assignment.current (variables_used n) (model_of n a) (λ l t. t)));
             shares = joined.shares;
           };
         }
 
   -- want of memory before anything was written
-  pub starved : Breaks seen errors.OutOfMemory a a
-  starved = record { fault = tt; steps = []; went = adds_none seen a.proof }
+  pub starved : BreaksOff seen errors.OutOfMemory a a
+  starved = (record { fault = tt; steps = []; went = adds_none seen a.proof; loss = inl refl }, tt)
 
   -- the target failed at a step
-  pub broken : (e : ProofError) (step : Step) (proof : Proof W L G) → Records {T = Unit {0}} seen (Err e) (step ∷ []) a.proof proof → Breaks seen (fault_of e) a (record a { proof = proof })
-  broken (Write cause) step proof fails = record { fault = tt; steps = step ∷ []; went = fails }
-  broken OutOfMemory step proof gains = record { fault = tt; steps = []; went = gains_adds seen [] a.proof proof gains }
-  broken (Check fault) step proof fails = record { fault = fault_checked _ fault; steps = step ∷ []; went = went_checked seen (Unit {0}) fault (step ∷ []) a.proof proof fails }
+  pub broken : (e : ProofError) (step : Step) (proof : Proof W L G) → Records {T = Unit {0}} seen (Err e) (step ∷ []) a.proof proof → BreaksOff seen (fault_of e) a (record a { proof = proof })
+  broken (Write cause) step proof fails = (record { fault = tt; steps = step ∷ []; went = fails.0; loss = tt }, fails.1)
+  broken OutOfMemory step proof gains = (record { fault = tt; steps = []; went = gains_adds seen [] a.proof proof gains; loss = inl gains.taking }, tt)
+  broken (Check fault) step proof fails = (record { fault = fault_checked _ fault; steps = step ∷ []; went = went_checked seen (Unit {0}) fault (step ∷ []) a.proof proof fails.0; loss = check_loss fault a.proof proof fails.0.why }, complaint_kept fault proof fails.1)
 
   module _ (proof : Proof W L G) (c' : Search) where
     abbrev pub searched : Core W L G
@@ -119,7 +119,7 @@ module _ {W L : Type 0} {G : Ghosts L} (seen : W → Writer) (n : Variables) (a 
       };
     }
       where
-        stands_told : {ls hs : List ℕ} → steps_of proof ≡ FailedAssumptions ls hs ∷ steps_of a.proof → Stands n (steps_of proof)
+        stands_told : {ls hs : List ℕ} → steps_of proof ≡ FailedAssumptions ls hs ∷ steps_of a.proof → NamesInvariant n (steps_of proof)
         stands_told {ls} {hs} e =
             let may : MayAll (FailedAssumptions ls hs ∷ steps_of a.proof) = subst MayAll e t.keeps in
-            subst (Stands n) (sym e) (searches_stand n (steps_of a.proof) (FailedAssumptions ls hs) joined.stands may.1 tt)
+            subst (NamesInvariant n) (sym e) (searches_stand n (steps_of a.proof) (FailedAssumptions ls hs) joined.stands may.1 tt)

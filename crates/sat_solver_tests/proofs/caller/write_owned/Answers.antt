@@ -13,5 +13,5 @@ returns-in-Ok g c =
 
 pub returns : goal.returns
 returns g c =
-    close_failed g.W.CountedWrite.seen c.args.target c.open.new.self c.step.new.self c.open.ensures.target (ap (λ o. is_some o) c.open.ensures.listening ∙ c.new-proof.ensures.checked) c.in_default.ensures.records c.in-Err-close.error c.close.new.self c.take_target-in-Err-close.new.self c.take_target-in-Err-close.result
+    close_failed g.W.CountedWrite.seen c.args.target c.open.new.self c.step.new.self c.open.ensures.target (ap (λ o. is_some o) c.open.ensures.listening ∙ c.new-proof.ensures.checked) c.in_default.ensures.records (c.open.ensures.taking ∙ c.new-proof.ensures.taking) c.in-Err-close.error c.close.new.self c.take_target-in-Err-close.new.self c.take_target-in-Err-close.result
     c.in-Err-close.ensures.closes c.take_target-in-Err-close.ensures.gives

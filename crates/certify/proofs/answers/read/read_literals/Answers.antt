@@ -20,20 +20,20 @@ ended k bytes line rest least d i none (Some x) h = (in_form k bytes line rest l
 pub returns-then-place-least : goal.returns-then-place-least
 returns-then-place-least c =
     out_of_order c.args.kind c.args.bytes.now c.loop-found.line.items c.loop-found.rest.now c.in-Some.found.1.now c.in-Some.found.0 c.loop-found.least c.requires c.loop-found.invariant c.in-Some.ensures.0 c.in-Some.ensures.1
-    (subst (λ p. p < c.loop-found.least) c.place_in-place.ensures.value c.if-place-least.true)
+    (subst (λ p. p < c.loop-found.least) c.literal_place-place.ensures.value c.if-place-least.true)
 
 pub returns-in_err-push : goal.returns-in_err-push
 returns-in_err-push c =
     let p = err_from_is_err_and c.from_residual.result c.from_residual.ensures.1 in
     let n = no_room c.args.kind c.args.bytes.now c.loop-found.line.items c.loop-found.rest.now c.in-Some.found.1.now c.in-Some.found.0 c.loop-found.least c.requires c.loop-found.invariant c.in-Some.ensures.0 c.in-Some.ensures.1
-    (subst (λ p. c.loop-found.least ≤ p) c.place_in-place.ensures.value c.if-place-least.false) in
+    (subst (λ p. c.loop-found.least ≤ p) c.literal_place-place.ensures.value c.if-place-least.false) in
     rw (p.1, p.2) n
 
 pub loop-found-preserved : goal.loop-found-preserved
 loop-found-preserved c =
     let r = one_in_order c.args.kind c.args.bytes.now c.loop-found.line.items c.loop-found.rest.now c.in-Some.found.1.now c.in-Some.found.0 c.loop-found.least c.loop-found.invariant c.in-Some.ensures.0 c.in-Some.ensures.1
-    (subst (λ p. c.loop-found.least ≤ p) c.place_in-place.ensures.value c.if-place-least.false) in
-    rw (c.in_ok-push.ensures.items, c.place_in-place.ensures.value) r
+    (subst (λ p. c.loop-found.least ≤ p) c.literal_place-place.ensures.value c.if-place-least.false) in
+    rw (c.in_ok-push.ensures.items, c.literal_place-place.ensures.value) r
 
 pub returns : goal.returns
 returns c = rw c.ok_or.ensures.value (ended c.args.kind c.args.bytes.now c.loop-found.line.items c.loop-found.rest.now c.loop-found.least c.requires c.loop-found.invariant c.in_default.ensures c.take_text.result c.take_text.ensures)

@@ -2,8 +2,8 @@ use Rattle.std.proofs.Common.{◌≡◌, ◌++◌, Ok, Err, Result, OnOk, sym, s
 use Rattle.certify.specs.declared.judge.Refusal.TheVariants as code
 use Rattle.certify.specs.answers.Answers.{refused_line}
 use Rattle.certify.specs.judge.Names.{refusal_in}
-use Rattle.certify.specs.matching.Lines.{IsLine}
-use Rattle.certify.proofs.lemmas.matching.Lines.{limit_is_line}
+use Rattle.certify.specs.confirm.Lines.{IsLine}
+use Rattle.certify.proofs.lemmas.confirm.Lines.{limit_is_line}
 use Rattle.certify.proofs.answers.refused.push_refused.Goals as goal
 
 pub returns-in-Limit-clause-text : goal.returns-in-Limit-clause-text

@@ -1,5 +1,5 @@
 use Rattle.std.proofs.Common.{◌<◌, ◌^◌, arith}
-use Rattle.certify.proofs.lemmas.matching.Lines.{witness_is_line}
+use Rattle.certify.proofs.lemmas.confirm.Lines.{witness_is_line}
 use Rattle.certify.proofs.answers.refused.push_refused_witness.Goals as goal
 
 pub returns-clause-line : goal.returns-clause-line

@@ -1,5 +1,7 @@
-use Rattle.std.proofs.Common.{refl}
+use Rattle.std.proofs.Common.{refl, sym, subst}
+use Rattle.sat_base.specs.text.Tokenizing.{IsQuiet}
 use Rattle.sat_base.proofs.lemmas.text.TextRuns.{takes_LF, over_LF, none_fresh, none_over}
+use Rattle.sat_base.proofs.lemmas.text.RightWords.{right_ahead, right_behind}
 use Rattle.sat_base.proofs.text.Tokenizer.end_line.Goals as goal
 
 pub returns-in-Over-clause-takes : goal.returns-in-Over-clause-takes
@@ -12,4 +14,8 @@ pub returns : goal.returns
 returns c = rw c.may_come.ensures (record {
   takes = takes_LF c.args.self.now c.token_in-token.result c.saturating_add-self.result c.in_default.not-Over c.token_in-token.ensures c.saturating_add-self.ensures;
   ended = none_fresh _ _ refl;
+  right = right_ahead _ (λ e. cc) (λ e. cc);
 })
+
+pub returns-in-Over-clause-right : goal.returns-in-Over-clause-right
+returns-in-Over-clause-right c = right_behind c.args.self.now (subst IsQuiet (sym c.in-Over.is) tt)

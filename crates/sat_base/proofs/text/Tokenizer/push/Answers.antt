@@ -2,6 +2,7 @@ use Rattle.std.proofs.Common.{◌≡◌, false, inl, arith}
 use Rattle.std.specs.Prelude.{nat_eq}
 use Rattle.std.proofs.lemmas.Bool.Decides.{nat_tests}
 use Rattle.sat_base.proofs.lemmas.text.TextRuns.{takes_byte, takes_blank, quiet_behind}
+use Rattle.sat_base.proofs.lemmas.text.RightWords.{right_behind}
 use Rattle.sat_base.proofs.text.Tokenizer.push.Goals as goal
 
 pub returns-then-is_digit-clause-takes : goal.returns-then-is_digit-clause-takes
@@ -27,3 +28,9 @@ returns-clause-takes c =
 
 pub returns-clause-quiet : goal.returns-clause-quiet
 returns-clause-quiet c blank = quiet_behind _ c.after_blank-self.ensures.quiet
+
+pub returns-then-byte-eq10-clause-right : goal.returns-then-byte-eq10-clause-right
+returns-then-byte-eq10-clause-right c blank = c.end_line.ensures.right
+
+pub returns-clause-right : goal.returns-clause-right
+returns-clause-right c blank = right_behind _ c.after_blank-self.ensures.quiet

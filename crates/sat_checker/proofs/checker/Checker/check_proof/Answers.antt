@@ -7,7 +7,7 @@ use Rattle.sat_checker.proofs.checker.Checker.check_proof.Goals as goal
 
 pub returns-clause-proof : goal.returns-clause-proof
 returns-clause-proof g c = λ before begun steps s.
-    proof_down (HearsEach g.P.ProofProcessor.takes g.T.ProofTranscriptProcessor.reads) _ before begun c.check_proof_by.result _ _ _ _ steps (c.check_proof_by.ensures before (hearers _ begun) steps (stands_up (HearsEach g.P.ProofProcessor.takes g.T.ProofTranscriptProcessor.reads) _ before begun c.args.self.now.kernel c.args.self.now.processing steps s))
+    proof_down (HearsEach g.P.ProofProcessor.takes g.T.ProofTranscriptProcessor.reads) _ before begun c.check_proof_by.result _ _ _ _ steps (c.check_proof_by.ensures.proof before (hearers _ begun) steps (stands_up (HearsEach g.P.ProofProcessor.takes g.T.ProofTranscriptProcessor.reads) _ before begun c.args.self.now.kernel c.args.self.now.processing steps s))
 
 pub returns-clause-faults : goal.returns-clause-faults
 returns-clause-faults g c = λ steps s. proof_faults g.P.ProofProcessor.takes g.T.ProofTranscriptProcessor.reads (seen_of c.args.self.now) _ steps s c.check_proof_by.result _ _ (returns-clause-proof g c)

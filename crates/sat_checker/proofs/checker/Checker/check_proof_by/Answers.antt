@@ -6,8 +6,8 @@ use Rattle.sat_checker.specs.telling.Hearing.{HearsFirst}
 use Rattle.sat_checker.specs.telling.ProcessingView.{HearsEach}
 use Rattle.sat_checker.proofs.checker.Checker.check_proof_by.Goals as goal
 
-pub returns : goal.returns
-returns g c = λ before begun steps s.
+pub returns-clause-proof : goal.returns-clause-proof
+returns-clause-proof g c = λ before begun steps s.
     let S = g.R.CountedRead.seen in
     subst (λ z. AnswersProof (HearsFirst g.O.ProofProcessor.takes (HearsEach g.P.ProofProcessor.takes g.T.ProofTranscriptProcessor.reads)) before begun c.check_steps.result (seen_with c.args.own.now c.args.self.now) (seen_with c.check_steps.new.own c.check_steps.new.self) (S c.args.reader.now) (S z) steps) (search rules)
     (subst (λ r. AnswersProof (HearsFirst g.O.ProofProcessor.takes (HearsEach g.P.ProofProcessor.takes g.T.ProofTranscriptProcessor.reads)) before begun c.check_steps.result (seen_with c.args.own.now c.args.self.now) (seen_with c.check_steps.new.own c.check_steps.new.self) r (S c.check_steps.new.steps.reader.now) steps)

@@ -3,4 +3,4 @@ use Rattle.sat_checker.proofs.lemmas.store.Units.{among_units}
 use Rattle.sat_checker.proofs.units.Units.is_unit.Goals as goal
 
 pub returns : goal.returns
-returns c = c.is_true.ensures ∙ among_units c.self.inside.list.items c.args.self.now c.self.inside.assigned c.args.lit c.self.view_is c.self.invariant.assumed
+returns c = c.is_true.ensures ∙ among_units c.self.inside.order.units c.args.self.now c.self.inside.ids c.self.inside.places c.self.inside.assigned c.self.view_is c.self.invariant c.args.lit

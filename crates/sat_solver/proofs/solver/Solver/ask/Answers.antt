@@ -1,6 +1,6 @@
 use Rattle.std.proofs.Common.{◌≡◌}
-use Rattle.sat_solver.specs.declared.solver.state.State.{State}
-use Rattle.sat_solver.specs.declared.solver.state.State.TheVariants as states
+use Rattle.sat_solver.specs.declared.state.State.{State}
+use Rattle.sat_solver.specs.declared.state.State.TheVariants as states
 use Rattle.sat_solver.proofs.lemmas.solver.ComingLemmas.{asked_in}
 use Rattle.sat_solver.proofs.solver.Solver.ask.Goals.{in-Unknown, in-Sat, in-UnsatUnderAssumptions}
 use Rattle.sat_solver.proofs.solver.Solver.ask.Goals as goal

@@ -1,6 +1,8 @@
 use Rattle.std.proofs.Common.{ℕ, ◌||◌, ◌∙◌, not, eqb, List, length, refl, ap}
 use Rattle.sat_solver.proofs.lemmas.solver.TakingLemmas.{none_took, names_broke}
 use Rattle.sat_solver.proofs.lemmas.solver.RenamedLemmas.{observed_all, new_ends, fault_left, told_limit}
+use Rattle.sat_solver.specs.solver.Failing.{failed_with}
+use Rattle.sat_solver.proofs.lemmas.solver.ToldLemmas.{names_told}
 use Rattle.sat_solver.proofs.solver.Solver.observe_internal_vars.Goals as goal
 
 pub returns-in-Ok-clause-solver : goal.returns-in-Ok-clause-solver
@@ -19,4 +21,10 @@ pub returns-in-Err-clause-fails : goal.returns-in-Err-clause-fails
 returns-in-Err-clause-fails g c =
     let s = c.args.self.now in
     let broke = names_broke g.W.CountedWrite.seen s.core (record s.core { proof = c.observe_internal_vars.new.writer }) c.in-Err.error (c.in-Err.ensures.came s.core.proof (none_took g.W.CountedWrite.seen s.core.proof)) in
-    rw c.name_fault.ensures (new_ends g.W.CountedWrite.seen _ s _ c.if-self.false (fault_left _ broke.fault (λ e. c.in-Err.ensures.left (told_limit c.in-Err.error e))) broke refl refl)
+    let failing = record s { names = c.observe_internal_vars.new.variables; core = record s.core { proof = c.observe_internal_vars.new.writer } } in
+    rw (c.fail.ensures.error, c.fail.ensures.fails, c.name_fault.ensures) (new_ends g.W.CountedWrite.seen _ s (failed_with failing) c.if-self.false (fault_left _ broke.0.fault (λ e. c.in-Err.ensures.left (told_limit c.in-Err.error e))) (names_told g.W.CountedWrite.seen _ s.core failing broke.0) refl refl)
+
+pub fail-requires : goal.fail-requires
+fail-requires g c =
+    let s = c.args.self.now in
+    record { kept = rw c.name_fault.ensures (names_broke g.W.CountedWrite.seen s.core (record s.core { proof = c.observe_internal_vars.new.writer }) {full = ⊥} c.in-Err.error (c.in-Err.ensures.came s.core.proof (none_took g.W.CountedWrite.seen s.core.proof))).1 }

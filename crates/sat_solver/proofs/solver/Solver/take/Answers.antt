@@ -1,6 +1,6 @@
 use Rattle.std.proofs.Common.{◌≡◌, Bool, subst}
-use Rattle.sat_solver.specs.declared.solver.state.State.{State}
-use Rattle.sat_solver.specs.declared.solver.state.State.TheVariants as states
+use Rattle.sat_solver.specs.declared.state.State.{State}
+use Rattle.sat_solver.specs.declared.state.State.TheVariants as states
 use Rattle.sat_solver.specs.solver.Taking.{TookClause}
 use Rattle.sat_solver.proofs.lemmas.solver.ComingLemmas.{took_left, took_none}
 use Rattle.sat_solver.proofs.solver.Solver.take.Goals.{in-Unknown, in-Sat, in-UnsatUnderAssumptions, then-left, else-left}

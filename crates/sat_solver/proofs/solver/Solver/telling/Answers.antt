@@ -1,6 +1,6 @@
 use Rattle.std.proofs.Common.{◌<◌, refl, sym, subst, arith}
 use Rattle.sat_solver.specs.declared.config.SolverConfig.{SolverConfig}
-use Rattle.sat_solver.specs.search.Bumping.{AreDecays}
+use Rattle.sat_solver.specs.clause.Activity.{AreDecays}
 use Rattle.sat_solver.proofs.lemmas.solver.StartLemmas.{agree_first, whole_first}
 use Rattle.sat_solver.proofs.solver.Solver.telling.Goals as goal
 

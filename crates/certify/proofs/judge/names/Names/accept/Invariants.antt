@@ -2,12 +2,12 @@ use Rattle.std.proofs.Common.{◌≡◌, drop}
 use Rattle.sat_base.specs.script.Script.{names_of}
 use Rattle.sat_base.specs.script.Judge.{Judge}
 use Rattle.certify.specs.answers.AnswerForms.{named_literals}
-use Rattle.certify.specs.reading.Commands.{kind_of}
-use Rattle.certify.specs.judge.Names.{Stands}
+use Rattle.certify.specs.script.Commands.{kind_of}
+use Rattle.certify.specs.judge.Names.{NamesStand}
 use Rattle.certify.proofs.lemmas.judge.Taken.{taken_all}
 use Rattle.certify.proofs.judge.names.Names.accept.Given as goal
 
 abbrev pub invariant-loop-lit : goal.invariant-loop-lit
-invariant-loop-lit l = (j : Judge) → Stands l.fn.self j
-    → (mid : Judge) × Stands l.self mid
+invariant-loop-lit l = (j : Judge) → NamesStand l.fn.self j
+    → (mid : Judge) × NamesStand l.self mid
     × (taken_all (kind_of l.command.kind) (names_of (named_literals l.command.literals.now)) j ≡ taken_all (kind_of l.command.kind) (names_of (named_literals (drop l.lit-index l.command.literals.now))) mid)

@@ -5,7 +5,7 @@ use Rattle.sat_base.specs.script.Judge.{Judge, names_from, with_names}
 use Rattle.certify.specs.declared.judge.NameState.{NameState}
 use Rattle.certify.specs.declared.judge.NameState.TheVariants as state
 use Rattle.certify.specs.declared.judge.names.Names.{Names}
-use Rattle.certify.specs.judge.Names.{Stands, state_in}
+use Rattle.certify.specs.judge.Names.{NamesStand, state_in}
 use Rattle.certify.proofs.lemmas.judge.States.{pushed_at, sampled_used}
 use Rattle.certify.proofs.lemmas.judge.Taken.{grows_more, grown}
 use Rattle.certify.proofs.judge.names.Names.grow.Goals as goal
@@ -19,7 +19,7 @@ loop-next-init c =
       longer = sym n;
       begun = omega arith;
       last = λ h. absurd (omega arith);
-      stands = λ j h. subst (λ (k : ℕ). Stands old (with_names (names_from k j.first_unused) j)) (sym none) h;
+      stands = λ j h. subst (λ (k : ℕ). NamesStand old (with_names (names_from k j.first_unused) j)) (sym none) h;
     }
 
 pub loop-next-preserved : goal.loop-next-preserved
@@ -47,6 +47,6 @@ returns c =
     let inv = l.invariant in
     let end : l.next ≡ c.args.index + 1 = let f = c.requires.fresh in omega (arith, l.auto, c.len-next.ensures, old.states.ok.0) in
     record {
-      changes = grown old l.self c.args.index (subst (λ (n : ℕ). (j : Judge) → Stands old j → Stands l.self (with_names (names_from (n - length old.states.items) j.first_unused) j)) end inv.stands) c.requires.fresh;
+      changes = grown old l.self c.args.index (subst (λ (n : ℕ). (j : Judge) → NamesStand old j → NamesStand l.self (with_names (names_from (n - length old.states.items) j.first_unused) j)) end inv.stands) c.requires.fresh;
       in_use = subst (λ (n : ℕ). state_in l.self.states.items n ≡ state.Hidden → ⊥) end (sampled_used _ (inv.last (let f = c.requires.fresh in omega arith)));
     }

@@ -1,0 +1,42 @@
+use Rattle.std.proofs.Common.{true, List, ℕ, refl, sym, ◌∙◌, subst}
+use Rattle.std.proofs.lemmas.Result.{err_from_is_err_and}
+use Rattle.certify.specs.answers.AnswerForms.{named_literals}
+use Rattle.certify.specs.answers.AnswerReading.{NoLine}
+use Rattle.certify.specs.declared.confirm.lines.Wanted.TheVariants as wanted
+use Rattle.certify.specs.confirm.Lines.{IsWantedLine, ReadsSecond, answers_source}
+use Rattle.certify.proofs.lemmas.confirm.Lines.{has_line, second_read, second_differs, second_unknown, line_stops}
+use Rattle.certify.proofs.confirm.answers.Answers.read_second.Goals as goal
+
+pub returns-in-Unknown : goal.returns-in-Unknown
+returns-in-Unknown g c = second_unknown c.args.kind (answers_source g.A.CountedRead.seen c.args.answers.now c.args.self.now) (named_literals c.clear.new.self.items) c.in-Unknown.is
+
+pub returns-in_err-next_line : goal.returns-in_err-next_line
+returns-in_err-next_line g c =
+    let A = g.A.CountedRead.seen in
+    let old = c.args.self.now in
+    let mid = c.next_line.new.self in
+    let a = answers_source A c.args.answers.now old in
+    let b = answers_source A c.next_line.new.answers mid in
+    let line = mid.lines.line.items in
+    let p = err_from_is_err_and c.from_residual.result c.from_residual.ensures.1 in
+    rw (p.1, p.2) (line_stops (IsWantedLine (wanted.Second c.args.kind) old.due.items) true c.in_err-next_line.field-0.0 a b line (ReadsSecond c.args.kind (named_literals mid.reply.lits.items)) c.in_err-next_line.ensures.line)
+
+pub returns-in-Ok : goal.returns-in-Ok
+returns-in-Ok g c =
+    let A = g.A.CountedRead.seen in
+    let old = c.args.self.now in
+    let mid = c.next_line.new.self in
+    let a = answers_source A c.args.answers.now old in
+    let b = answers_source A c.next_line.new.answers mid in
+    let line = mid.lines.line.items in
+    second_read (IsWantedLine (wanted.Second c.args.kind) old.due.items) a b line c.requires.open_yet c.args.kind (named_literals c.read_line.new.line.items) c.in-Ok.field-0.now (has_line c.args.kind c.in_default.not-Unknown) c.in-Ok.ensures.0 (sym c.deref.ensures.value ∙ c.in-Ok.ensures.1) c.in_ok-next_line.ensures.line
+
+pub returns-in-Err : goal.returns-in-Err
+returns-in-Err g c =
+    let A = g.A.CountedRead.seen in
+    let old = c.args.self.now in
+    let mid = c.next_line.new.self in
+    let a = answers_source A c.args.answers.now old in
+    let b = answers_source A c.next_line.new.answers mid in
+    let line = mid.lines.line.items in
+    rw c.unanswered.ensures (second_differs (IsWantedLine (wanted.Second c.args.kind) old.due.items) a b line c.requires.open_yet c.args.kind (named_literals c.read_line.new.line.items) (λ ks f. (ks, (f, refl))) c.in-Err.fault (has_line c.args.kind c.in_default.not-Unknown) (subst (λ (xs : List ℕ). NoLine c.args.kind xs c.in-Err.fault) c.deref.ensures.value c.in-Err.ensures) c.in_ok-next_line.ensures.line)

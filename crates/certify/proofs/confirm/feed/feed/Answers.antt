@@ -1,0 +1,9 @@
+use Rattle.sat_checker.specs.CheckerView.{kernel_of}
+use Rattle.certify.proofs.lemmas.confirm.Feeding.{fed, unfed}
+use Rattle.certify.proofs.confirm.feed.feed.Goals as goal
+
+pub returns-in-Ok-clause-feeds : goal.returns-in-Ok-clause-feeds
+returns-in-Ok-clause-feeds c = fed (kernel_of c.args.checker.now) _ (kernel_of c.self_check_step.new.self) c.in-Ok.ensures.judges
+
+pub returns-in-Err-clause-feeds : goal.returns-in-Err-clause-feeds
+returns-in-Err-clause-feeds c = rw c.refused.ensures (unfed c.in-Err.error (kernel_of c.args.checker.now) _ (kernel_of c.self_check_step.new.self) c.in-Err.ensures.judges)

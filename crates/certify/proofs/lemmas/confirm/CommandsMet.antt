@@ -1,0 +1,300 @@
+-- Commands, confirmed one after another.
+use Rattle.std.proofs.Common.{ℕ, ◌+◌, ◌≡◌, ◌↔◌, true, List, [], ◌∷◌, ◌++◌, Some, None, Result, Ok, Err, refl, sym, ◌∙◌, ap, subst, append_assoc}
+use Rattle.std.proofs.lemmas.List.{append_cancel_left, append-nil}
+use Rattle.sat_base.specs.script.Script.{Literal, Command, Clause, Ask, Hide, Witness, Sample, Ending, Clean, Malformed, names_of}
+use Rattle.sat_base.specs.script.Judge.{Judge, Sampled, Witnessed, Refusal, refusal_of, accepted, accepted_of, after_command, bring_all, with_clause}
+use Rattle.sat_base.specs.steps.Steps.{Step}
+use Rattle.sat_checker.specs.Accepts.{ready_after}
+use Rattle.sat_checker.specs.KernelView.{Stands as HasTakenSteps}
+use Rattle.sat_checker.specs.matching.Expected.{Outcome, Unsat, Expected, Adds, Opens, Closes, Finish, bringing, hiding, setting, showing, expected}
+use Rattle.certify.specs.answers.AnswerForms.{IsInForm}
+use Rattle.certify.specs.answers.Answers.{outcome_text, refused_line, malformed_line, answers_from, outcomes_left, piece}
+use Rattle.certify.specs.confirm.CertificatePlaces.{CanMeet, Bars}
+use Rattle.certify.specs.confirm.Lines.{TakesLine}
+use Rattle.certify.specs.confirm.Matches.{OneEach}
+use Rattle.certify.specs.confirm.Views.{View}
+use Rattle.certify.specs.judge.Names.{NamesStand}
+use Rattle.certify.specs.confirm.Awaiting.{IsMet, MeetsDue}
+use Rattle.certify.specs.confirm.Confirming.{Table, HoldsAt, ToConfirm, Confirmed, ConfirmsNext, ConfirmsLast, IsNamed, MeetsOutcome}
+use Rattle.certify.specs.confirm.Naming.{MeetsAll, GoesOnTo, naming_all, taken_by}
+use Rattle.sat_base.specs.script.Language.{Kind, OfClause, OfAsk, OfHide, OfWitness, OfSample, command_of}
+use Rattle.certify.specs.declared.judge.names.Names.{Names}
+use Rattle.certify.specs.declared.confirm.variables.NamedVars.{NamedVars}
+use Rattle.certify.specs.declared.verdict.Why.{Why}
+use Rattle.certify.proofs.lemmas.confirm.LeftByCommand.{Rest, refused_on, refused_back, left_on, left_back, left_barred, end_on, end_back}
+use Rattle.certify.proofs.lemmas.confirm.CertificatePlaces.{nothing_met}
+use Rattle.sat_base.proofs.lemmas.script.JudgeStates.{accepted_kept}
+use Rattle.certify.proofs.lemmas.confirm.AskedWhole.{Listed, all_listed, Within, all_within, ask_unnamed, ask_unopened, answered_on, answered_back, ask_unread}
+use Rattle.certify.proofs.lemmas.confirm.NamesExpected.{names_are_expected}
+
+-- WHAT A COMMAND EXPECTS
+
+abbrev NoAsk : Command → Type 0
+NoAsk (Clause ls) = Unit {0}
+NoAsk (Ask ls) = ⊥
+NoAsk (Hide names) = Unit {0}
+NoAsk (Witness names) = Unit {0}
+NoAsk (Sample names) = Unit {0}
+
+-- for its names
+abbrev for_names : Command → Judge → List Expected
+for_names (Clause ls) j = bringing (names_of ls) j
+for_names (Ask ls) j = bringing (names_of ls) j
+for_names (Hide names) j = hiding names j
+for_names (Witness names) j = setting Witnessed names j
+for_names (Sample names) j = setting Sampled names j
+
+-- and behind them
+abbrev behind_names : Command → List Expected
+behind_names (Clause ls) = Adds ls ∷ []
+behind_names (Ask ls) = []
+behind_names (Hide names) = []
+behind_names (Witness names) = []
+behind_names (Sample names) = []
+
+expected_on : (c : Command) → NoAsk c → (j : Judge) (cs : List Command) (os : List Outcome) → expected j (c ∷ cs) os ≡ (for_names c j ++ behind_names c) ++ expected (accepted c j) cs os
+expected_on (Clause ls) a j cs os = sym (append_assoc (bringing (names_of ls) j) (Adds ls ∷ []) (expected (accepted (Clause ls) j) cs os))
+expected_on (Ask ls) a j cs os = absurd a
+expected_on (Hide names) a j cs os = ap (λ (es : List Expected). es ++ expected (accepted (Hide names) j) cs os) (sym (append-nil (hiding names j)))
+expected_on (Witness names) a j cs os = ap (λ (es : List Expected). es ++ expected (accepted (Witness names) j) cs os) (sym (append-nil (setting Witnessed names j)))
+expected_on (Sample names) a j cs os = ap (λ (es : List Expected). es ++ expected (accepted (Sample names) j) cs os) (sym (append-nil (setting Sampled names j)))
+
+one_on : (c : Command) → NoAsk c → (cs : List Command) (os : List Outcome) → OneEach (c ∷ cs) os ↔ OneEach cs os
+one_on (Clause ls) a cs os = ((λ h. h), (λ h. h))
+one_on (Ask ls) a cs os = absurd a
+one_on (Hide names) a cs os = ((λ h. h), (λ h. h))
+one_on (Witness names) a cs os = ((λ h. h), (λ h. h))
+one_on (Sample names) a cs os = ((λ h. h), (λ h. h))
+
+no_piece : (c : Command) → NoAsk c → (n : ℕ) (os : List Outcome) → piece n None c os ≡ []
+no_piece (Clause ls) a n os = refl
+no_piece (Ask ls) a n os = absurd a
+no_piece (Hide names) a n os = refl
+no_piece (Witness names) a n os = refl
+no_piece (Sample names) a n os = refl
+
+all_left : (c : Command) → NoAsk c → (os : List Outcome) → outcomes_left None c os ≡ os
+all_left (Clause ls) a os = refl
+all_left (Ask ls) a os = absurd a
+all_left (Hide names) a os = refl
+all_left (Witness names) a os = refl
+all_left (Sample names) a os = refl
+
+command_pending : (c : Command) → NoAsk c → (j : Judge) (n : ℕ) (earlier : List Step) (cs : List Command) (ending : Ending) (answers certificate : List ℕ) → refusal_of j c ≡ None
+    → Rest j n earlier [] (c ∷ cs) ending answers certificate ↔ Rest (accepted c j) (n + 1) earlier (for_names c j ++ behind_names c) cs ending answers certificate
+command_pending c a j n earlier cs ending answers certificate e =
+    let next = accepted c j in
+    let text : (os : List Outcome) → piece n None c os ++ answers_from (n + 1) next cs ending (outcomes_left None c os) ≡ answers_from (n + 1) next cs ending os = λ os.
+    ap (λ (xs : List ℕ). xs ++ answers_from (n + 1) next cs ending (outcomes_left None c os)) (no_piece c a n os) ∙ ap (answers_from (n + 1) next cs ending) (all_left c a os) in (
+      (λ l. record {
+        outcomes = l.outcomes;
+        answered = (rw e at l.answered) ∙ text l.outcomes;
+        one_each = (one_on c a (accepted_of next cs) l.outcomes).0 (rw e at l.one_each);
+        in_form = l.in_form;
+        certified = subst (λ es. CanMeet earlier es certificate) (expected_on c a j (accepted_of next cs) l.outcomes) (rw e at l.certified);
+      }),
+      (λ l. record {
+        outcomes = l.outcomes;
+        answered = rw e (l.answered ∙ sym (text l.outcomes));
+        one_each = rw e ((one_on c a (accepted_of next cs) l.outcomes).1 l.one_each);
+        in_form = l.in_form;
+        certified = rw e (subst (λ es. CanMeet earlier es certificate) (sym (expected_on c a j (accepted_of next cs) l.outcomes)) l.certified);
+      }),
+    )
+
+-- WHERE A COMMAND IS REFUSED
+
+after_refused : (j : Judge) (c : Command) (r : Refusal) → refusal_of j c ≡ Some r → after_command c j ≡ j
+after_refused j c r e = rw e refl
+
+after_accepted : (j : Judge) (c : Command) → refusal_of j c ≡ None → after_command c j ≡ accepted c j
+after_accepted j c e = rw e refl
+
+-- behind a command that leaves this state
+confirmed : (before behind : List ℕ) (old new : View) (j next : Judge) (earlier later : List Step) (n : ℕ) (c : Command) (t : Table) → after_command c j ≡ next → HoldsAt t new next later
+    → ((cs : List Command) (ending : Ending) → ToConfirm j n earlier (c ∷ cs) ending before old.rest → ToConfirm next (n + 1) later cs ending behind new.rest)
+    → ((cs : List Command) (ending : Ending) → ToConfirm next (n + 1) later cs ending behind new.rest → ToConfirm j n earlier (c ∷ cs) ending before old.rest)
+    → Confirmed before behind old new j earlier n c t
+confirmed before behind old new j next earlier later n c t e s on back = record {
+  later = later;
+  stands = subst (λ x. HoldsAt t new x later) (sym e) s;
+  on = λ cs ending h. subst (λ x. ToConfirm x (n + 1) later cs ending behind new.rest) (sym e) (on cs ending h);
+  back = λ cs ending h. back cs ending (subst (λ x. ToConfirm x (n + 1) later cs ending behind new.rest) e h);
+}
+
+pub command_refused : (before behind : List ℕ) (u : View) (n : ℕ) (c : Command) (t : Table) (r : Refusal) (y : Result (Unit {0}) Why) → ((j : Judge) → NamesStand t.names j → refusal_of j c ≡ Some r)
+    → TakesLine before behind (refused_line n r) y → ConfirmsNext n c t t before behind u u y
+command_refused before behind u n c t r (Ok x) refused line = λ j earlier s.
+    let e = refused j s.judged in
+    confirmed before behind u u j j earlier earlier n c t (after_refused j c r e) s
+    (λ cs ending h.
+    let p = refused_on j n earlier c cs ending before u.rest r e h in
+    let tail : p.0 ≡ behind = append_cancel_left (refused_line n r) p.0 behind (sym p.1 ∙ line) in
+    subst (λ x. Rest j (n + 1) earlier [] cs ending x u.rest) tail p.2)
+    (λ cs ending h. refused_back j n earlier c cs ending before behind u.rest r e line h)
+command_refused before behind u n c t r (Err why) refused line = λ j earlier s cs ending h.
+    let p = refused_on j n earlier c cs ending before u.rest r (refused j s.judged) h in
+    line p.0 p.1
+
+-- WHERE IT ISN'T
+
+-- what its names expect
+naming_is : (kind : Kind) (ls : List Literal) (j : Judge) → naming_all kind (names_of ls) j ≡ for_names (command_of kind ls) j
+naming_is OfClause ls j = names_are_expected.clauses (names_of ls) j
+naming_is OfAsk ls j = names_are_expected.asks (names_of ls) j
+naming_is OfHide ls j = names_are_expected.hides (names_of ls) j
+naming_is OfWitness ls j = names_are_expected.witnesses (names_of ls) j
+naming_is OfSample ls j = names_are_expected.samples (names_of ls) j
+
+-- names and modes don't depend on clauses
+with_clauses : (names : Names) (ls : List Literal) (j : Judge) → NamesStand names j → NamesStand names (with_clause ls j)
+with_clauses names ls j h = record { first = h.first; limit = h.limit; each = h.each; given = h.given; modes = h.modes; apart = h.apart }
+
+-- what its names leave
+left_is : (kind : Kind) (ls : List Literal) (j : Judge) (names : Names) → NamesStand names (taken_by kind (names_of ls) j) → NamesStand names (accepted (command_of kind ls) j)
+left_is OfClause ls j names h = with_clauses names ls (bring_all (names_of ls) j) (subst (NamesStand names) (names_are_expected.left_by_clause (names_of ls) j) h)
+left_is OfAsk ls j names h = subst (NamesStand names) (names_are_expected.left_by_ask (names_of ls) j) h
+left_is OfHide ls j names h = subst (NamesStand names) (names_are_expected.left_by_hide (names_of ls) j) h
+left_is OfWitness ls j names h = subst (NamesStand names) (names_are_expected.left_by_witness (names_of ls) j) h
+left_is OfSample ls j names h = subst (NamesStand names) (names_are_expected.left_by_sample (names_of ls) j) h
+
+-- they can't be met
+unnamed_barred : (c : Command) (j : Judge) (n : ℕ) (earlier : List Step) (cs : List Command) (ending : Ending) (answers certificate : List ℕ) → refusal_of j c ≡ None → Bars earlier certificate (for_names c j) → Rest j n earlier [] (c ∷ cs) ending answers certificate → ⊥
+unnamed_barred (Clause ls) j n earlier cs ending answers certificate e b h = left_barred (Adds ls ∷ []) (accepted (Clause ls) j) (n + 1) cs ending answers b ((command_pending (Clause ls) tt j n earlier cs ending answers certificate e).0 h)
+unnamed_barred (Ask ls) j n earlier cs ending answers certificate e b h = ask_unnamed j n ls cs ending answers e earlier certificate b h
+unnamed_barred (Hide names) j n earlier cs ending answers certificate e b h = left_barred [] (accepted (Hide names) j) (n + 1) cs ending answers b ((command_pending (Hide names) tt j n earlier cs ending answers certificate e).0 h)
+unnamed_barred (Witness names) j n earlier cs ending answers certificate e b h = left_barred [] (accepted (Witness names) j) (n + 1) cs ending answers b ((command_pending (Witness names) tt j n earlier cs ending answers certificate e).0 h)
+unnamed_barred (Sample names) j n earlier cs ending answers certificate e b h = left_barred [] (accepted (Sample names) j) (n + 1) cs ending answers b ((command_pending (Sample names) tt j n earlier cs ending answers certificate e).0 h)
+
+pub command_unnamed : (kind : Kind) (ls : List Literal) (t next : Table) (before behind : List ℕ) (u v : View) (n : ℕ) (after : NamedVars) (why : Why) → ((j : Judge) → NamesStand t.names j → refusal_of j (command_of kind ls) ≡ None)
+    → ((j : Judge) → NamesStand t.names j → MeetsAll (naming_all kind (names_of ls) j) t.variables after u v (Err why)) → ConfirmsNext n (command_of kind ls) t next before behind u v (Err why)
+command_unnamed kind ls t next before behind u v n after why allowed met j earlier s cs ending h =
+    unnamed_barred (command_of kind ls) j n earlier cs ending before u.rest (allowed j s.judged) (subst (Bars earlier u.rest) (naming_is kind ls j) (met j s.judged earlier s.at)) h
+
+named_on : (kind : Kind) (ls : List Literal) (t next : Table) (u v : View) → IsNamed kind ls t next u v → (j : Judge) (earlier : List Step) → HoldsAt t u j earlier → GoesOnTo (for_names (command_of kind ls) j) next.variables u earlier v
+named_on kind ls t next u v named j earlier s = subst (λ (es : List Expected). GoesOnTo es next.variables u earlier v) (naming_is kind ls j) (named.met j s.judged earlier s.at)
+
+-- a command that is no ask
+module _ (kind : Kind) (ls : List Literal) (a : NoAsk (command_of kind ls)) (t named : Table) (u v : View) (n : ℕ) (is : IsNamed kind ls t named u v) (before : List ℕ) where
+  c : Command
+  c = command_of kind ls
+
+  pub plain_confirmed : (next : Table) (w : View) (y : Result (Unit {0}) Why) → next.names ≡ named.names → MeetsAll (behind_names (command_of kind ls)) named.variables next.variables v w y → ConfirmsNext n (command_of kind ls) t next before before u w y
+  plain_confirmed next w (Ok x) same met = λ j earlier s.
+      let e = is.allowed j s.judged in
+      let first = named_on kind ls t named u v is j earlier s in
+      let second = met first.later first.stands in
+      let left = accepted (command_of kind ls) j in
+      let pending = command_pending (command_of kind ls) a j n earlier in
+      let stands : NamesStand next.names left = subst (λ (x : Names). NamesStand x left) (sym same) (left_is kind ls j named.names (is.changes j s.judged)) in
+      confirmed before before u w j left earlier second.later n (command_of kind ls) next (after_accepted j (command_of kind ls) e)
+      (record { judged = stands; kept = accepted_kept (command_of kind ls) j e s.kept; at = second.stands })
+      (λ cs ending h. left_on [] left (n + 1) cs ending before second.leads
+      (subst (λ (es : List Expected). Rest left (n + 1) first.later es cs ending before v.rest) (sym (append-nil (behind_names (command_of kind ls))))
+      (left_on (behind_names (command_of kind ls)) left (n + 1) cs ending before first.leads ((pending cs ending before u.rest e).0 h))))
+      (λ cs ending h. (pending cs ending before u.rest e).1
+      (left_back (behind_names (command_of kind ls)) left (n + 1) cs ending before first.leads
+      (subst (λ (es : List Expected). Rest left (n + 1) first.later es cs ending before v.rest) (append-nil (behind_names (command_of kind ls))) (left_back [] left (n + 1) cs ending before second.leads h))))
+  plain_confirmed next w (Err why) same met = λ j earlier s cs ending h.
+      let e = is.allowed j s.judged in
+      let first = named_on kind ls t named u v is j earlier s in
+      let left = accepted (command_of kind ls) j in
+      left_barred [] left (n + 1) cs ending before (met first.later first.stands)
+      (subst (λ (es : List Expected). Rest left (n + 1) first.later es cs ending before v.rest) (sym (append-nil (behind_names (command_of kind ls))))
+      (left_on (behind_names (command_of kind ls)) left (n + 1) cs ending before first.leads ((command_pending (command_of kind ls) a j n earlier cs ending before u.rest e).0 h)))
+
+-- AN ASK
+
+module _ (ls : List Literal) (t named : Table) (u v : View) (n : ℕ) (is : IsNamed OfAsk ls t named u v) where
+  first : (j : Judge) (earlier : List Step) → HoldsAt t u j earlier → GoesOnTo (bringing (names_of ls) j) named.variables u earlier v
+  first j earlier s = named_on OfAsk ls t named u v is j earlier s
+
+  pub ask_without_assumptions : (next : Table) (before behind : List ℕ) (after : NamedVars) (w : View) (why : Why) → MeetsDue (λ o ask. Opens ls o) named.variables after v w (Err why) → ConfirmsNext n (Ask ls) t next before behind u w (Err why)
+  ask_without_assumptions next before behind after w why bars j earlier s cs ending h =
+      let f = first j earlier s in
+      ask_unopened j n ls cs ending before (is.allowed j s.judged) earlier f.later u.rest v.rest f.leads (λ o. bars f.later f.stands o []) h
+
+  module _ (asked : Table) (w : View) (same : named.names ≡ asked.names) (opens : MeetsDue (λ o ask. Opens ls o) named.variables asked.variables v w (Ok tt)) (before : List ℕ) where
+    second : (j : Judge) (earlier : List Step) (s : HoldsAt t u j earlier) → IsMet (λ o ask. Opens ls o) asked.variables v (first j earlier s).later w
+    second j earlier s = let f = first j earlier s in opens f.later f.stands
+
+    holds : (j : Judge) (earlier : List Step) (s : HoldsAt t u j earlier) → HoldsAt asked w (accepted (Ask ls) j) (second j earlier s).later
+    holds j earlier s =
+        let e = is.allowed j s.judged in
+        record {
+          judged = subst (λ (x : Names). NamesStand x (accepted (Ask ls) j)) same (left_is OfAsk ls j named.names (is.changes j s.judged));
+          kept = accepted_kept (Ask ls) j e s.kept;
+          at = (second j earlier s).stands;
+        }
+
+    listed : (j : Judge) (earlier : List Step) → HoldsAt t u j earlier → Listed (accepted (Ask ls) j)
+    listed j earlier s = let h = holds j earlier s in all_listed asked.names (accepted (Ask ls) j) h.judged h.kept.order
+
+    within : (j : Judge) (earlier : List Step) (s : HoldsAt t u j earlier) → Within (second j earlier s).later
+    within j earlier s = let h = holds j earlier s in all_within asked.variables (second j earlier s).later h.at.stand
+
+    pub ask_without_answer : (next : Table) (behind : List ℕ) (x : View) (why : Why)
+        → ((steps : List Step) → HasTakenSteps w.checker steps → (o : Outcome) (tail : List ℕ) → IsInForm o → ((ready_after steps).unsat ≡ true → o ≡ Unsat []) → before ≡ outcome_text o ++ tail → ⊥)
+        → ConfirmsNext n (Ask ls) t next before behind u x (Err why)
+    ask_without_answer next behind x why none j earlier s cs ending h =
+        let f = first j earlier s in
+        let g = second j earlier s in
+        ask_unread j n ls cs ending before (is.allowed j s.judged) earlier f.later u.rest v.rest f.leads g.later w.rest (λ o only. g.leads o [] only) (λ o es m closed. g.alone o [] es m closed) (listed j earlier s) (within j earlier s)
+        (none g.later g.stands.taken.stands) h
+
+    module _ (o : Outcome) (behind : List ℕ)
+        (read : (steps : List Step) → HasTakenSteps w.checker steps → (before ≡ outcome_text o ++ behind) × IsInForm o × ((ready_after steps).unsat ≡ true → o ≡ Unsat [])) where
+      pub ask_answered : (next : Table) (y : View) (r : Result (Unit {0}) Why) → next.names ≡ asked.names → MeetsOutcome asked.names ls o asked.variables next.variables w y r → ConfirmsNext n (Ask ls) t next before behind u y r
+      ask_answered next y (Ok z) kept met = λ j earlier s.
+          let e = is.allowed j s.judged in
+          let f = first j earlier s in
+          let g = second j earlier s in
+          let q = read g.later g.stands.taken.stands in
+          let left = accepted (Ask ls) j in
+          let h = holds j earlier s in
+          let m = met left h.judged h.kept.order g.later g.stands in
+          let more = showing left ls o ++ Closes ∷ [] in
+          confirmed before behind u y j left earlier m.later n (Ask ls) next (after_accepted j (Ask ls) e)
+          (record { judged = subst (λ (x : Names). NamesStand x left) (sym kept) h.judged; kept = h.kept; at = m.stands })
+          (λ cs ending p. left_on [] left (n + 1) cs ending behind m.leads
+          (subst (λ (es : List Expected). Rest left (n + 1) g.later es cs ending behind w.rest) (sym (append-nil more))
+          (answered_on j n ls cs ending before e earlier f.later u.rest v.rest f.leads g.later w.rest (λ o only. g.leads o [] only) (λ o es m closed. g.alone o [] es m closed) (listed j earlier s) (within j earlier s) o behind q.1 q.0 p)))
+          (λ cs ending p. answered_back j n ls cs ending before e earlier f.later u.rest v.rest f.leads g.later w.rest (λ o only. g.leads o [] only) (λ o es m closed. g.alone o [] es m closed) (listed j earlier s) (within j earlier s) o behind q.1 q.0 q.2
+          (subst (λ (es : List Expected). Rest left (n + 1) g.later es cs ending behind w.rest) (append-nil more) (left_back [] left (n + 1) cs ending behind m.leads p)))
+      ask_answered next y (Err why) kept met = λ j earlier s cs ending p.
+          let f = first j earlier s in
+          let g = second j earlier s in
+          let q = read g.later g.stands.taken.stands in
+          let left = accepted (Ask ls) j in
+          let h = holds j earlier s in
+          let more = showing left ls o ++ Closes ∷ [] in
+          left_barred [] left (n + 1) cs ending behind (met left h.judged h.kept.order g.later g.stands)
+          (subst (λ (es : List Expected). Rest left (n + 1) g.later es cs ending behind w.rest) (sym (append-nil more))
+          (answered_on j n ls cs ending before (is.allowed j s.judged) earlier f.later u.rest v.rest f.leads g.later w.rest (λ o only. g.leads o [] only) (λ o es m closed. g.alone o [] es m closed) (listed j earlier s) (within j earlier s) o behind q.1 q.0 p))
+
+-- THE END
+
+pub over_barred : (n : ℕ) (t : Table) (after : NamedVars) (before : List ℕ) (u v : View) (why : Why) → MeetsAll (Finish ∷ []) t.variables after u v (Err why) → ConfirmsLast n ([], Clean) t before u (Err why)
+over_barred n t after before u v why bars j earlier s h = (bars earlier s.at).none [] (end_on j n earlier Clean before u.rest h).1
+
+pub over_done : (n : ℕ) (t : Table) (after : NamedVars) (before : List ℕ) (u v : View) → MeetsAll (Finish ∷ []) t.variables after u v (Ok tt) → before ≡ [] → ConfirmsLast n ([], Clean) t before u (Ok tt)
+over_done n t after before u v met a j earlier s =
+    let o = met earlier s.at in
+    end_back j n earlier Clean before u.rest a (o.leads.back [] (nothing_met o.later v.rest))
+
+pub over_extra : (n : ℕ) (t : Table) (before : List ℕ) (u : View) (why : Why) → (before ≡ [] → ⊥) → ConfirmsLast n ([], Clean) t before u (Err why)
+over_extra n t before u why x j earlier s h = x (end_on j n earlier Clean before u.rest h).0
+
+-- behind the last line of the answers to a malformed text
+pub malformed_barred : (n : ℕ) (t : Table) (before behind : List ℕ) (u : View) (why : Why) → TakesLine before behind (malformed_line n) (Err why) → ConfirmsLast n ([], Malformed) t before u (Err why)
+malformed_barred n t before behind u why line j earlier s h = line [] ((end_on j n earlier Malformed before u.rest h).0 ∙ sym (append-nil (malformed_line n)))
+
+pub malformed_then : (n : ℕ) (t : Table) (before behind : List ℕ) (u : View) (y : Result (Unit {0}) Why) → TakesLine before behind (malformed_line n) (Ok tt) → ConfirmsLast n ([], Clean) t behind u y → ConfirmsLast n ([], Malformed) t before u y
+malformed_then n t before behind u (Ok x) line k = λ j earlier s.
+    let p = end_on j n earlier Clean behind u.rest (k j earlier s) in
+    end_back j n earlier Malformed before u.rest (line ∙ ap (λ x. malformed_line n ++ x) p.0 ∙ append-nil (malformed_line n)) p.1
+malformed_then n t before behind u (Err why) line k = λ j earlier s h.
+    let p = end_on j n earlier Malformed before u.rest h in
+    k j earlier s
+    (end_back j n earlier Clean behind u.rest
+    (append_cancel_left (malformed_line n) behind [] (sym line ∙ p.0 ∙ sym (append-nil (malformed_line n)))) p.1)

@@ -1,0 +1,184 @@
+-- How a script is confirmed that is read as its commands are wanted.
+use Rattle.std.proofs.Common.{ℕ, ◌+◌, ◌^◌, ◌<◌, ◌≤◌, ◌≡◌, true, false, List, [], ◌∷◌, Result, Ok, Err, refl, sym, ◌∙◌, ap, subst, arith}
+use Rattle.sat_base.specs.device.Reading.{Source, AtEnd}
+use Rattle.sat_base.specs.script.Script.{Command, Clean, Malformed}
+use Rattle.sat_base.specs.script.Language.{Reading, onto_commands}
+use Rattle.sat_base.specs.script.Judge.{Judge, after_command}
+use Rattle.sat_base.specs.steps.Steps.{Step}
+use Rattle.certify.specs.confirm.Streams.{Stream, Confirms, Covers, rest_in}
+use Rattle.certify.specs.confirm.VerdictPromises.{numbers}
+use Rattle.certify.specs.confirm.Views.{View}
+use Rattle.certify.specs.declared.confirm.stop.Stop.TheVariants as stop
+use Rattle.certify.specs.declared.confirm.stop.Stop.{Stop}
+use Rattle.certify.specs.declared.script.ScriptEnd.{ScriptEnd}
+use Rattle.certify.specs.declared.script.reader.ScriptReader.{ScriptReader}
+use Rattle.certify.specs.declared.script.stream.Next.TheVariants as next
+use Rattle.certify.specs.declared.verdict.Why.{Why}
+use Rattle.certify.specs.confirm.Confirming.{ConfirmsLast, ConfirmsNext, HoldsAt, Table, ToConfirm, Through}
+use Rattle.certify.specs.confirm.Stopping.{Any, Joins, script_stop}
+use Rattle.sat_base.specs.declared.device.whole.ReadError.{ReadError}
+use Rattle.sat_base.specs.declared.device.whole.ReadError.TheVariants as errors
+use Rattle.certify.specs.confirm.ConfirmedScript.{ConfirmsScript, ConfirmsThrough, Standing}
+use Rattle.certify.specs.script.Ahead.{Failed, Kept, TakesSome}
+use Rattle.certify.specs.script.Commands.{HasWhole, Means, ReachesCommand, end_reading}
+use Rattle.certify.specs.script.Streaming.{Arrives, NextComes}
+use Rattle.certify.proofs.lemmas.confirm.Streams.{all_over, confirms_none, nothing_behind, says_stop, taken_front}
+use Rattle.certify.proofs.lemmas.confirm.Joining.{covers_given, covers_took, failed_then, joins_stop, joins_then, kept_then, took_halted, took_kept, took_none, took_open, took_then}
+
+-- BEFORE THE FIRST COMMAND
+
+pub through_none : (text : List ℕ → Reading) (s : Standing) (reader : ScriptReader) → Means reader text → ConfirmsThrough text s s reader
+through_none text s reader m = record {
+  left = text;
+  means = m;
+  took = took_none s.script;
+  counted = λ total k. refl;
+  joins = λ total k. (
+    took_none s.answers,
+    λ more c. confirms_none tt s.certificate (Through s.number (text (rest_in total s.script)) s.table s.number (text (rest_in total s.script)) s.table (rest_in more s.answers) (rest_in more s.answers))
+        (λ rest j earlier h. record { judge = j; later = earlier; stands = h; on = λ x. x; back = λ x. x }),
+  );
+}
+
+-- ONE MORE
+
+pub numbers_more : (c : Command) (r : Reading) → numbers (onto_commands (c ∷ []) r) ≡ numbers r + 1
+numbers_more c (cs, Clean) = omega arith
+numbers_more c (cs, Malformed) = omega arith
+
+through_command : (n m k : ℕ) (script : Reading) (c : Command) (left : Reading) (t between next : Table) (p q z : List ℕ) (u v w : View) → k ≡ m + 1
+    → Through n script t m (onto_commands (c ∷ []) left) between p q u v (Ok tt) → ConfirmsNext m c between next q z v w (Ok tt) → Through n script t k left next p z u w (Ok tt)
+through_command n m k script c left t between next p q z u v w e f g j earlier s =
+    let x = f j earlier s in
+    let y = g x.judge x.later x.stands in
+    record {
+      judge = after_command c x.judge;
+      later = y.later;
+      stands = y.stands;
+      on = λ h. subst (λ i. ToConfirm (after_command c x.judge) i y.later left.0 left.1 z w.rest) (sym e) (y.on left.0 left.1 (x.on h));
+      back = λ h. x.back (y.back left.0 left.1 (subst (λ i. ToConfirm (after_command c x.judge) i y.later left.0 left.1 z w.rest) e h));
+    }
+
+-- nothing of what is left can be confirmed
+abbrev Nothing : ℕ → Reading → Table → List ℕ → List ℕ → View → View → Result (Unit {0}) Why → Type 0
+Nothing n script t before behind old new r = (j : Judge) (earlier : List Step) → HoldsAt t old j earlier → ToConfirm j n earlier script.0 script.1 before old.rest → ⊥
+
+through_last : (n m : ℕ) (script left : Reading) (t between : Table) (p q z : List ℕ) (u v w : View) (y : Result (Unit {0}) Why) → Through n script t m left between p q u v (Ok tt) → ConfirmsLast m left between q v y → ConfirmsLast n script t p u y
+through_last n m script left t between p q z u v w (Ok x) f g = λ j earlier s. let h = f j earlier s in h.back (g h.judge h.later h.stands)
+through_last n m script left t between p q z u v w (Err why) f g = λ j earlier s k. let h = f j earlier s in g h.judge h.later h.stands (h.on k)
+
+through_nothing : (n m : ℕ) (script left : Reading) (t between : Table) (p q z : List ℕ) (u v w : View) (y : Result (Unit {0}) Why) → Through n script t m left between p q u v (Ok tt) → Nothing m left between q z v w y → Nothing n script t p z u w y
+through_nothing n m script left t between p q z u v w y f g j earlier s k = let h = f j earlier s in g h.judge h.later h.stands (h.on k)
+
+-- what a call leaves that went on
+pub quits : (a b : Source) (s t : Stream) (P : List ℕ → List ℕ → View → View → Result (Unit {0}) Why → Type 0) → (AtEnd s.source → ⊥) → Joins ⊥ true (Ok tt) a b s t P → Kept a b × Confirms {A = Unit {0}} (Err stop.OutOfMemory) s t Any
+quits a b s t P open_yet h =
+    let total = b.reader.given in
+    (took_kept true a b h.0, says_stop {B = ℕ} {C = Unit {0}} true stop.OutOfMemory s t (λ u v. P (rest_in total a) (rest_in total b) u v (Ok tt)) (λ y. ⊥) Any open_yet (λ more why f n. tt) (h.1 total (covers_given b)) tt)
+
+-- by what is said of the whole script
+ends_by : (M : Type 0) (text : List ℕ → Reading) (r : Result (Unit {0}) Stop) (old new : Standing) → TakesSome false old.script new.script → (M → (total : List ℕ) → Covers new.script total → 2 ^ 64 < old.number + numbers (text (rest_in total old.script)))
+    → ((total : List ℕ) → Covers new.script total → Joins M false r old.answers new.answers old.certificate new.certificate (λ before behind u v. ConfirmsLast old.number (text (rest_in total old.script)) old.table before u)) → ConfirmsScript text r old new
+ends_by M text (Ok x) old new took many joins = (took, joins)
+ends_by M text (Err (stop.No why)) old new took many joins = (took, joins)
+ends_by M text (Err stop.OutOfMemory) old new took many joins = (took_kept false old.script new.script took, joins new.script.reader.given (covers_given new.script))
+ends_by M text (Err stop.CertificateRead) old new took many joins = (took_kept false old.script new.script took, joins new.script.reader.given (covers_given new.script))
+ends_by M text (Err stop.CounterEnd) old new took many joins = (took_kept false old.script new.script took, joins new.script.reader.given (covers_given new.script))
+ends_by M text (Err stop.AnswersRead) old new took many joins = (took_kept false old.script new.script took, joins new.script.reader.given (covers_given new.script))
+ends_by M text (Err stop.ScriptRead) old new took many joins = absurd (joins new.script.reader.given (covers_given new.script))
+ends_by M text (Err stop.TooMany) old new took many joins =
+    let j = joins new.script.reader.given (covers_given new.script) in
+    (took, (λ total k. many (joins total k).2 total k), (j.0, j.1))
+
+module _ (text : List ℕ → Reading) (old mid : Standing) (reader after_reader : ScriptReader) (through : ConfirmsThrough text old mid reader) (script_open : AtEnd old.script → ⊥) (answers_open : AtEnd old.answers → ⊥) (open_yet : AtEnd old.certificate.source → ⊥) where
+  mid_open : AtEnd mid.script → ⊥
+  mid_open = took_open old.script mid.script script_open through.took
+
+  -- a text can't be read any more
+  pub unread_script : (new : Source) → Failed mid.script new → ConfirmsScript text (Err stop.ScriptRead) old (record mid { script = new })
+  unread_script new f = (failed_then old.script mid.script new through.took f, quits old.answers mid.answers old.certificate mid.certificate (Through old.number (text (rest_in mid.script.reader.given old.script)) old.table mid.number (through.left (rest_in mid.script.reader.given mid.script)) mid.table) open_yet (through.joins mid.script.reader.given (covers_given mid.script)))
+
+  pub short_script : (new : Source) → Kept mid.script new → ConfirmsScript text (Err stop.OutOfMemory) old (record mid { script = new })
+  short_script new f = (kept_then old.script mid.script new (took_kept true old.script mid.script through.took) f, quits old.answers mid.answers old.certificate mid.certificate (Through old.number (text (rest_in mid.script.reader.given old.script)) old.table mid.number (through.left (rest_in mid.script.reader.given mid.script)) mid.table) open_yet (through.joins mid.script.reader.given (covers_given mid.script)))
+
+  pub unread : (e : ReadError) (new : Source) → NextComes (Err e) mid.script new reader after_reader → ConfirmsScript text (Err (script_stop e)) old (record mid { script = new })
+  unread errors.Failed new f = unread_script new f
+  unread errors.OutOfMemory new f = short_script new (took_kept true mid.script new f)
+
+  -- the end
+  module _ (new : Standing) (M : Type 0) (took : TakesSome false mid.script new.script) (left : Reading) (is : (total : List ℕ) → Covers new.script total → through.left (rest_in total mid.script) ≡ left) where
+    whole : (r : Result (Unit {0}) Stop) → (M → 2 ^ 64 < mid.number + numbers left)
+        → Joins M false r mid.answers new.answers mid.certificate new.certificate (λ before behind u v. ConfirmsLast mid.number left mid.table before u) → ConfirmsScript text r old new
+    whole r many joins = ends_by M text r old new (took_then false old.script mid.script new.script through.took took)
+        (λ x total k.
+        let before = covers_took false mid.script new.script total mid_open took k in
+        let c = through.counted total before in
+        let l : numbers (through.left (rest_in total mid.script)) ≡ numbers left = ap numbers (is total k) in
+        let m = many x in
+        omega arith)
+        (λ total k.
+        let before = covers_took false mid.script new.script total mid_open took k in
+        joins_then M false tt r old.answers mid.answers new.answers old.certificate mid.certificate new.certificate
+        (Through old.number (text (rest_in total old.script)) old.table mid.number left mid.table) (λ before behind u v. ConfirmsLast mid.number left mid.table before u) (λ before behind u v. ConfirmsLast old.number (text (rest_in total old.script)) old.table before u)
+        answers_open open_yet (λ p q z u v w y f g. through_last old.number mid.number (text (rest_in total old.script)) left old.table mid.table p q z u v w y f g)
+        (subst (λ (x : Reading). Joins M true (Ok tt) old.answers mid.answers old.certificate mid.certificate (Through old.number (text (rest_in total old.script)) old.table mid.number x mid.table)) (is total k) (through.joins total before)) joins)
+
+  pub ends_so : (new : Standing) (e : ScriptEnd) (r : Result (Unit {0}) Stop) → Arrives (next.End e) mid.script new.script reader after_reader
+      → Joins (2 ^ 64 < mid.number + numbers (end_reading e)) false r mid.answers new.answers mid.certificate new.certificate (λ before behind u v. ConfirmsLast mid.number (end_reading e) mid.table before u) → ConfirmsScript text r old new
+  ends_so new e r a joins = whole new (2 ^ 64 < mid.number + numbers (end_reading e)) a.0 (end_reading e) (a.1 true through.left through.means) r (λ x. x) joins
+
+  pub ends_last : (new : Standing) (e : ScriptEnd) (r : Result (Unit {0}) Stop) → Arrives (next.Last e) mid.script new.script reader after_reader
+      → ((c : Command) → HasWhole after_reader c → Joins (2 ^ 64 < mid.number + numbers (onto_commands (c ∷ []) (end_reading e))) false r mid.answers new.answers mid.certificate new.certificate (λ before behind u v. ConfirmsLast mid.number (onto_commands (c ∷ []) (end_reading e)) mid.table before u)) → ConfirmsScript text r old new
+  ends_last new e r a joins =
+      let k = a.2 true through.left through.means in
+      whole new (2 ^ 64 < mid.number + numbers (onto_commands (k.0 ∷ []) (end_reading e))) ((a.0, a.1.0), λ h. all_over new.script a.1.1) (onto_commands (k.0 ∷ []) (end_reading e))
+      (λ total c. ap through.left (nothing_behind mid.script new.script a.0 total a.1 c) ∙ k.2) r (λ x. x) (joins k.0 k.1)
+
+  -- a command
+  module _ (new : Standing) (a : Arrives next.Command mid.script new.script reader after_reader) where
+    reaches : ReachesCommand true through.left a.0 after_reader
+    reaches = a.3 true through.left through.means
+
+    took : TakesSome true mid.script new.script
+    took = (a.0, a.1)
+
+    left_is : (total : List ℕ) → Covers new.script total → through.left (rest_in total mid.script) ≡ onto_commands (reaches.command ∷ []) (reaches.after (rest_in total new.script))
+    left_is total k = ap through.left (taken_front 0 mid.script new.script a.0 total a.1 k) ∙ reaches.reads (rest_in total new.script)
+
+    pub one_more : new.number ≡ mid.number + 1
+        → ((c : Command) → HasWhole after_reader c → Joins (2 ^ 64 ≤ mid.number) true (Ok tt) mid.answers new.answers mid.certificate new.certificate (ConfirmsNext mid.number c mid.table new.table)) → ConfirmsThrough text old new after_reader
+    one_more n joins = record {
+      left = reaches.after;
+      means = reaches.stands;
+      took = took_then true old.script mid.script new.script through.took took;
+      counted = λ total k.
+          let c = through.counted total (covers_took true mid.script new.script total mid_open took k) in
+          let l : numbers (through.left (rest_in total mid.script)) ≡ numbers (reaches.after (rest_in total new.script)) + 1 = ap numbers (left_is total k) ∙ numbers_more reaches.command (reaches.after (rest_in total new.script)) in
+          omega arith;
+      joins = λ total k.
+          let before = covers_took true mid.script new.script total mid_open took k in
+          let left = reaches.after (rest_in total new.script) in
+          let script = text (rest_in total old.script) in
+          joins_then ⊥ true tt (Ok tt) old.answers mid.answers new.answers old.certificate mid.certificate new.certificate
+          (Through old.number script old.table mid.number (onto_commands (reaches.command ∷ []) left) mid.table) (λ q z v w (y : Result (Unit {0}) Why). ConfirmsNext mid.number reaches.command mid.table new.table q z v w (Ok tt)) (Through old.number script old.table new.number left new.table)
+          answers_open open_yet (λ p q z u v w y f g. through_command old.number mid.number new.number script reaches.command left old.table mid.table new.table p q z u v w n f g)
+          (subst (λ (x : Reading). Joins ⊥ true (Ok tt) old.answers mid.answers old.certificate mid.certificate (Through old.number script old.table mid.number x mid.table)) (left_is total k) (through.joins total before)) (joins reaches.command reaches.whole);
+    }
+
+    pub stops : (e : Stop) → ((c : Command) → HasWhole after_reader c → Joins {A = Unit {0}} (2 ^ 64 ≤ mid.number) true (Err e) mid.answers new.answers mid.certificate new.certificate (ConfirmsNext mid.number c mid.table new.table)) → ConfirmsScript text (Err e) old new
+    stops e joins = ends_by (2 ^ 64 ≤ mid.number) text (Err e) old new (took_halted old.script new.script script_open (took_then true old.script mid.script new.script through.took took))
+        (λ x total k.
+        let c = through.counted total (covers_took true mid.script new.script total mid_open took k) in
+        let l : numbers (through.left (rest_in total mid.script)) ≡ numbers (reaches.after (rest_in total new.script)) + 1 = ap numbers (left_is total k) ∙ numbers_more reaches.command (reaches.after (rest_in total new.script)) in
+        omega arith)
+        (λ total k.
+        let before = covers_took true mid.script new.script total mid_open took k in
+        let left = onto_commands (reaches.command ∷ []) (reaches.after (rest_in total new.script)) in
+        let script = text (rest_in total old.script) in
+        let here = joins_stop (2 ^ 64 ≤ mid.number) false e mid.answers new.answers mid.certificate new.certificate (ConfirmsNext mid.number reaches.command mid.table new.table) (Nothing mid.number left mid.table)
+        (λ p q u v why f j earlier s h. f j earlier s (reaches.after (rest_in total new.script)).0 (reaches.after (rest_in total new.script)).1 h) (joins reaches.command reaches.whole) in
+        joins_stop (2 ^ 64 ≤ mid.number) false e old.answers new.answers old.certificate new.certificate (Nothing old.number script old.table) (λ before behind u v. ConfirmsLast old.number script old.table before u) (λ p q u v why f. f)
+        (joins_then (2 ^ 64 ≤ mid.number) false tt (Err e) old.answers mid.answers new.answers old.certificate mid.certificate new.certificate
+        (Through old.number script old.table mid.number left mid.table) (Nothing mid.number left mid.table) (Nothing old.number script old.table)
+        answers_open open_yet (λ p q z u v w y f g. through_nothing old.number mid.number script left old.table mid.table p q z u v w y f g)
+        (subst (λ (x : Reading). Joins (2 ^ 64 ≤ mid.number) true (Ok tt) old.answers mid.answers old.certificate mid.certificate (Through old.number script old.table mid.number x mid.table)) (left_is total k) (through.joins total before)) here))

@@ -1,0 +1,298 @@
+-- What is said of three texts, by how the confirmation of them ended.
+use Rattle.std.proofs.Common.{ℕ, ◌+◌, ◌-◌, ◌^◌, ◌<◌, ◌≤◌, ◌≡◌, ◌↔◌, ◌⊎◌, inl, inr, min, true, false, List, [], ◌++◌, length, Result, Ok, Err, refl, subst, arith}
+use Rattle.std.specs.Prelude.{IfOk}
+use Rattle.sat_base.specs.device.Device.{Reader, GaveEnough, most_reads}
+use Rattle.sat_base.specs.device.Reading.{Source, AtEnd, unread}
+use Rattle.sat_base.specs.script.Judge.{start}
+use Rattle.sat_base.specs.steps.Steps.{Step}
+use Rattle.sat_base.proofs.lemmas.device.Given.{enough_as}
+use Rattle.sat_checker.specs.KernelView.{looks_of}
+use Rattle.sat_checker.specs.ProofView.{most_bytes}
+use Rattle.sat_checker.specs.declared.kernel.Kernel.{Kernel}
+use Rattle.sat_checker.specs.matching.ProofChecking.{the_checking}
+use Rattle.sat_checker.proofs.lemmas.matching.CheckerIsSound.{the_checking_sound}
+use Rattle.certify.specs.confirm.Matches.{Matches}
+use Rattle.certify.specs.confirm.Streams.{Confirms, Covers, rest_in, seen_in}
+use Rattle.certify.specs.confirm.VerdictPromises.{AreRightAnswers, Exact, Given, IsSound, Promised, TakesLooks, numbers}
+use Rattle.certify.specs.confirm.Views.{View}
+use Rattle.certify.specs.confirm.Walks.{LooksReach, Tries}
+use Rattle.certify.specs.confirm.Confirming.{ConfirmsLast, HoldsAt, Table}
+use Rattle.certify.specs.confirm.Stopping.{Any}
+use Rattle.certify.specs.confirm.ConfirmedScript.{ConfirmsScript, Standing, said_by}
+use Rattle.certify.specs.script.Ahead.{Failed, Kept, TakesSome, waiting}
+use Rattle.sat_base.specs.script.Language.{reading}
+use Rattle.certify.specs.declared.script.ahead.Ahead.{Ahead}
+use Rattle.certify.specs.declared.confirm.stop.Stop.{Stop}
+use Rattle.certify.specs.declared.confirm.stop.Stop.TheVariants as stop
+use Rattle.certify.specs.declared.verdict.ConfirmFault.{ConfirmFault}
+use Rattle.certify.specs.declared.verdict.ConfirmFault.TheVariants as fault
+use Rattle.certify.specs.declared.verdict.Verdict.{Verdict}
+use Rattle.certify.specs.declared.verdict.Verdict.TheVariants.{Yes, No}
+use Rattle.certify.specs.declared.verdict.Why.{Why}
+use Rattle.certify.proofs.lemmas.confirm.LeftByCommand.{left_begins}
+use Rattle.certify.proofs.lemmas.confirm.FewBytes.{nothing_spent}
+use Rattle.certify.proofs.lemmas.confirm.LooksBound.{takes_looks}
+use Rattle.certify.proofs.lemmas.confirm.Streams.{confirms_so, few_given, gave_enough, moves_halt, read_fails, took_faulted, took_looks}
+use Rattle.certify.proofs.lemmas.confirm.Walks.{looks_from, tries_if}
+use Rattle.certify.proofs.lemmas.laws.ExpectedOutcomes.{matching_right}
+use Rattle.certify.proofs.lemmas.confirm.Joining.{covers_given, took_kept}
+use Rattle.certify.proofs.lemmas.script.FewCommands.{few_read}
+
+-- RIGHT ANSWERS
+
+-- a yes that is exact is sound
+pub sound_as : {E : Type 0} (r : Result Verdict E) (script answers certificate : Reader × Reader) → IfOk r (Exact script answers certificate) → IfOk r (IsSound script answers)
+sound_as (Err e) script answers certificate h = tt
+sound_as (Ok v) script answers certificate h = λ said.
+    enough_as script.0 script.1 (λ s. Given answers (λ a. Given certificate (λ c. (v ≡ Yes) ↔ Matches the_checking reading s a c))) (λ s. Given answers (AreRightAnswers s))
+    (λ s g.
+    enough_as answers.0 answers.1 (λ a. Given certificate (λ c. (v ≡ Yes) ↔ Matches the_checking reading s a c)) (AreRightAnswers s)
+    (λ a k.
+    let m : Matches the_checking reading s a (k.text ++ []) = (k.holds [] (λ called ended. refl)).0 said in
+    record { outcomes = m.outcomes; answered = m.answered; right = matching_right the_checking the_checking_sound (reading s).0 m.outcomes m.steps m.match })
+    g) h
+
+-- HOW EACH READER WAS LEFT
+
+-- what an answer says of three readers, of which the last reads are counted: a read of one text failed at most, that of its fault
+abbrev pub Tells : Reader → Reader → Reader → Source → Source → Source → Result Verdict ConfirmFault → Type 0
+Tells x a c y b d (Ok v) = Kept (unread x) y × Kept (unread a) b × Kept (unread c) d × Exact (x, y.reader) (a, b.reader) (c, d.reader) v
+Tells x a c y b d (Err fault.ScriptRead) = Failed (unread x) y × Kept (unread a) b × Kept (unread c) d
+Tells x a c y b d (Err fault.AnswersRead) = Kept (unread x) y × Failed (unread a) b × Kept (unread c) d
+Tells x a c y b d (Err fault.CertificateRead) = Kept (unread x) y × Kept (unread a) b × Failed (unread c) d
+Tells x a c y b d (Err fault.OutOfMemory) = Kept (unread x) y × Kept (unread a) b × Kept (unread c) d
+Tells x a c y b d (Err fault.CounterEnd) = ⊥
+
+-- no read failed, or one did and this is so
+abbrev Leaves : Type 0 → Reader → Source → Type 0
+Leaves P x y = Kept (unread x) y ⊎ (P × Failed (unread x) y)
+
+kept_or : (P : Type 0) (x : Reader) (y : Source) → Leaves P x y → P ⊎ (y.reader.failures ≡ x.failures)
+kept_or P x y h = elim h [ inl k ↦ inr k.0 | inr f ↦ inl f.0 ]
+
+few_calls : (rc tc tr m : ℕ) → tc + 0 ≡ rc + tr → tr ≤ m → tc ≤ rc + m
+few_calls rc tc tr m e h = omega arith
+
+few_reads : (P : Type 0) (x : Reader) (y : Source) → Leaves P x y → y.reads ≤ most_reads → y.reader.calls ≤ x.calls + most_reads
+few_reads P x y h m = elim h [ inl k ↦ few_calls x.calls y.reader.calls y.reads most_reads k.1 m | inr f ↦ few_calls x.calls y.reader.calls y.reads most_reads f.1.1.calls m ]
+
+script_left : (x a c : Reader) (y b d : Source) (r : Result Verdict ConfirmFault) → Tells x a c y b d r → Leaves (r ≡ Err fault.ScriptRead) x y
+script_left x a c y b d (Ok v) h = inl h.0
+script_left x a c y b d (Err fault.ScriptRead) h = inr (refl, h.0)
+script_left x a c y b d (Err fault.AnswersRead) h = inl h.0
+script_left x a c y b d (Err fault.CertificateRead) h = inl h.0
+script_left x a c y b d (Err fault.OutOfMemory) h = inl h.0
+script_left x a c y b d (Err fault.CounterEnd) h = absurd h
+
+answers_left : (x a c : Reader) (y b d : Source) (r : Result Verdict ConfirmFault) → Tells x a c y b d r → Leaves (r ≡ Err fault.AnswersRead) a b
+answers_left x a c y b d (Ok v) h = inl h.1
+answers_left x a c y b d (Err fault.ScriptRead) h = inl h.1
+answers_left x a c y b d (Err fault.AnswersRead) h = inr (refl, h.1)
+answers_left x a c y b d (Err fault.CertificateRead) h = inl h.1
+answers_left x a c y b d (Err fault.OutOfMemory) h = inl h.1
+answers_left x a c y b d (Err fault.CounterEnd) h = absurd h
+
+certificate_left : (x a c : Reader) (y b d : Source) (r : Result Verdict ConfirmFault) → Tells x a c y b d r → Leaves (r ≡ Err fault.CertificateRead) c d
+certificate_left x a c y b d (Ok v) h = inl h.2
+certificate_left x a c y b d (Err fault.ScriptRead) h = inl h.2
+certificate_left x a c y b d (Err fault.AnswersRead) h = inl h.2
+certificate_left x a c y b d (Err fault.CertificateRead) h = inr (refl, h.2)
+certificate_left x a c y b d (Err fault.OutOfMemory) h = inl h.2
+certificate_left x a c y b d (Err fault.CounterEnd) h = absurd h
+
+said_exact : (x a c : Reader) (y b d : Source) (r : Result Verdict ConfirmFault) → Tells x a c y b d r → IfOk r (Exact (x, y.reader) (a, b.reader) (c, d.reader))
+said_exact x a c y b d (Ok v) h = h.3
+said_exact x a c y b d (Err e) h = tt
+
+promised : (x a c : Reader) (y b d : Source) (r : Result Verdict ConfirmFault) → y.reads ≤ most_reads → b.reads ≤ most_reads → d.reads ≤ most_reads → Tells x a c y b d r → Promised r (x, y.reader) (a, b.reader) (c, d.reader)
+promised x a c y b d r m n k h =
+    let T = Tells x a c y b d in
+    let exact = said_exact x a c y b d r h in
+    let s = script_left x a c y b d r h in
+    let t = answers_left x a c y b d r h in
+    let u = certificate_left x a c y b d r h in
+    record {
+      exact = exact;
+      sound = sound_as r (x, y.reader) (a, b.reader) (c, d.reader) exact;
+      script_read = λ e. let f = (subst T e h).0 in read_fails x y f.0 m f.1;
+      answers_read = λ e. let f = (subst T e h).1 in read_fails a b f.0 n f.1;
+      certificate_read = λ e. let f = (subst T e h).2 in read_fails c d f.0 k f.1;
+      counter_end = λ e. subst T e h;
+      kept_script = kept_or (r ≡ Err fault.ScriptRead) x y s;
+      kept_answers = kept_or (r ≡ Err fault.AnswersRead) a b t;
+      kept_certificate = kept_or (r ≡ Err fault.CertificateRead) c d u;
+      script_reads = few_reads (r ≡ Err fault.ScriptRead) x y s m;
+      answers_reads = few_reads (r ≡ Err fault.AnswersRead) a b t n;
+      certificate_reads = few_reads (r ≡ Err fault.CertificateRead) c d u k;
+    }
+
+-- FROM THE BEGINNING
+
+-- before the first command
+abbrev pub begun : Reader → Reader → Reader → Kernel → Step → Table → Standing
+begun x a c checker step table = record {
+  script = unread x;
+  answers = unread a;
+  certificate = record { source = unread c; checker = checker; step = step };
+  number = 1;
+  table = table;
+}
+
+-- the checker took no step yet, and names nothing
+abbrev pub IsBegun : Kernel → Step → Table → Type 0
+IsBegun checker step table = (rest : List ℕ) → HoldsAt table (record { checker = checker; step = step; rest = rest }) start []
+
+unread_open : (r : Reader) → AtEnd (unread r) → ⊥
+unread_open r h = none h.0
+  where
+    none : 0 < 0 → ⊥
+    none k = absurd (omega arith)
+
+-- what is so of all that a reader gave, whatever would follow
+given : (r : Reader) (t : Source) (P : List ℕ → Type 0) → TakesSome false (unread r) t → ((total : List ℕ) → Covers t total → P (rest_in total (unread r))) → GaveEnough r t.reader P
+given r t P h f = gave_enough r t h.0.0 P h.0.1 h.1 f
+
+module _ (x a c : Reader) (checker : Kernel) (step : Step) (table : Table) (fresh : IsBegun checker step table) (new : Standing) where
+  abbrev old : Standing
+  old = begun x a c checker step table
+
+  abbrev last : List ℕ
+  last = new.script.reader.given
+
+  abbrev Sure : Verdict → Type 0
+  Sure v = Exact (x, new.script.reader) (a, new.answers.reader) (c, new.certificate.source.reader) v
+
+  matched : (s t u : List ℕ) (v : View) → ConfirmsLast 1 (reading s) table t (record { checker = checker; step = step; rest = u }) (Ok tt) → Matches the_checking reading s t u
+  matched s t u v h = (left_begins (reading s).0 (reading s).1 t u).1 (h start [] (fresh u))
+
+  unmatched : (s t u : List ℕ) (why : Why) → ConfirmsLast 1 (reading s) table t (record { checker = checker; step = step; rest = u }) (Err why) → Matches the_checking reading s t u → ⊥
+  unmatched s t u why h m = h start [] (fresh u) ((left_begins (reading s).0 (reading s).1 t u).0 m)
+
+  yes_exact : ConfirmsScript reading (Ok tt) old new → Sure Yes
+  yes_exact e =
+      given x new.script (λ s. Given (a, new.answers.reader) (λ t. Given (c, new.certificate.source.reader) (λ u. (Yes ≡ Yes) ↔ Matches the_checking reading s t u))) e.0
+      (λ total k.
+      let s = rest_in total (unread x) in
+      let j = e.1 total k in
+      given a new.answers (λ t. Given (c, new.certificate.source.reader) (λ u. (Yes ≡ Yes) ↔ Matches the_checking reading s t u)) j.0
+      (λ all l.
+      let t = rest_in all (unread a) in
+      let p = j.1 all l in
+      let h = moves_halt old.certificate new.certificate (unread_open c) p.0 in
+      gave_enough c new.certificate.source h.0.0 (λ u. (Yes ≡ Yes) ↔ Matches the_checking reading s t u) h.0.1 h.1
+      (λ more m. ((λ said. matched s t (rest_in more (unread c)) (seen_in more old.certificate) (p.1 more m)), (λ said. refl)))))
+
+  no_exact : (ask : ℕ) (why : Why) → ConfirmsScript reading (Err (stop.No why)) old new → Sure (No ask why)
+  no_exact ask why e =
+      given x new.script (λ s. Given (a, new.answers.reader) (λ t. Given (c, new.certificate.source.reader) (λ u. (No ask why ≡ Yes) ↔ Matches the_checking reading s t u))) e.0
+      (λ total k.
+      let s = rest_in total (unread x) in
+      let j = e.1 total k in
+      given a new.answers (λ t. Given (c, new.certificate.source.reader) (λ u. (No ask why ≡ Yes) ↔ Matches the_checking reading s t u)) j.0
+      (λ all l.
+      let t = rest_in all (unread a) in
+      let p = j.1 all l in
+      gave_enough c new.certificate.source p.0.0.0 (λ u. (No ask why ≡ Yes) ↔ Matches the_checking reading s t u) p.0.0.1 p.0.1
+      (λ more m. ((λ said. absurd (cc)), (λ same. absurd (unmatched s t (rest_in more (unread c)) why (p.1 more m) same))))))
+
+  tells : (r : Result (Unit {0}) Stop) (asks : ℕ) → new.script.reads ≤ most_reads → new.certificate.source.reads ≤ most_reads → ConfirmsScript reading r old new → Tells x a c new.script new.answers new.certificate.source (said_by r asks)
+  tells (Ok u) asks short few e =
+      let j = e.1 last (covers_given new.script) in
+      let p = j.1 new.answers.reader.given (covers_given new.answers) in
+      (took_kept false old.script new.script e.0, took_kept false old.answers new.answers j.0, (p.0.1.failures, p.0.1.calls), yes_exact e)
+  tells (Err (stop.No why)) asks short few e =
+      let j = e.1 last (covers_given new.script) in
+      let p = j.1 new.answers.reader.given (covers_given new.answers) in
+      (took_kept false old.script new.script e.0, took_kept false old.answers new.answers j.0, (p.0.0.1.failures, p.0.0.1.calls), no_exact (min (asks + 1) (2 ^ 64 - 1)) why e)
+  tells (Err stop.OutOfMemory) asks short few e = let p = e.1.1 in (e.0, e.1.0, (p.0.0.1.failures, p.0.0.1.calls))
+  tells (Err stop.CertificateRead) asks short few e = let p = e.1.1 in (e.0, e.1.0, (p.0.0, p.0.1))
+  tells (Err stop.CounterEnd) asks short few e =
+      let p = e.1.1 in
+      let all = new.certificate.source.reader.given in
+      absurd (nothing_spent (rest_in all (unread c)) (few_given 1 c new.certificate.source p.0.0.0 p.0.0.1 few) (p.1 all (covers_given new.certificate.source) [] (fresh (rest_in all (unread c))).at.taken))
+  tells (Err stop.AnswersRead) asks short few e = let p = e.1.1 in (e.0, e.1.0, (p.0.0.1.failures, p.0.0.1.calls))
+  tells (Err stop.ScriptRead) asks short few e = let p = e.1.1 in (e.0, e.1.0, (p.0.0.1.failures, p.0.0.1.calls))
+  tells (Err stop.TooMany) asks short few e =
+      let all = new.script.reader.given in
+      let text = rest_in all (unread x) in
+      let many = e.1 all (covers_given new.script) in
+      let most = few_given 1 x new.script e.0.0.0 e.0.0.1 short in
+      let read = few_read text in
+      absurd (too_many (numbers (reading text)) (length text) many read most)
+    where
+      too_many : (n l : ℕ) → 2 ^ 64 < 1 + n → n ≤ l + 2 → l ≤ most_bytes → ⊥
+      too_many n l h k m = absurd (let e : most_bytes + 2 < 2 ^ 64 = omega arith in omega arith)
+
+  -- HOW MANY LOOKS IT TOOK
+
+  certified : (r : Result (Unit {0}) Stop) → ConfirmsScript reading r old new → (q : Result (Unit {0}) Stop) × Confirms q old.certificate new.certificate Any
+  certified (Ok u) e =
+      let p = (e.1 last (covers_given new.script)).1 new.answers.reader.given (covers_given new.answers) in
+      (Ok tt, confirms_so (Ok tt) old.certificate new.certificate (λ v w. ConfirmsLast 1 (reading (rest_in last (unread x))) table (rest_in new.answers.reader.given (unread a)) v) Any (λ total y h. tt) p)
+  certified (Err (stop.No why)) e =
+      let p = (e.1 last (covers_given new.script)).1 new.answers.reader.given (covers_given new.answers) in
+      (Err (stop.No why), confirms_so (Err (stop.No why)) old.certificate new.certificate (λ v w. ConfirmsLast 1 (reading (rest_in last (unread x))) table (rest_in new.answers.reader.given (unread a)) v) Any (λ total y h. tt) p)
+  certified (Err stop.OutOfMemory) e = (Err stop.OutOfMemory, e.1.1)
+  certified (Err stop.CertificateRead) e = (Err stop.CertificateRead, e.1.1)
+  certified (Err stop.CounterEnd) e = (Err stop.CounterEnd, e.1.1)
+  certified (Err stop.AnswersRead) e = (Err stop.OutOfMemory, e.1.1)
+  certified (Err stop.ScriptRead) e = (Err stop.OutOfMemory, e.1.1)
+  certified (Err stop.TooMany) e = (Err stop.OutOfMemory, e.2.1)
+
+  module _ (none : looks_of checker ≡ 0) where
+    reached_by : (bytes : List ℕ) → Tries (record { checker = checker; step = step; rest = bytes }) (record { checker = new.certificate.checker; step = new.certificate.step; rest = bytes }) → LooksReach [] bytes 0 (looks_of new.certificate.checker)
+    reached_by bytes h = subst (λ k. LooksReach [] bytes k (looks_of new.certificate.checker)) none (h [] (fresh bytes).at.taken)
+
+    took : (q : Result (Unit {0}) Stop) → Confirms q old.certificate new.certificate Any → TakesLooks c new.certificate.source.reader 0 (looks_of new.certificate.checker)
+    took (Ok u) p = took_looks 0 c new.certificate.source p.0.0 (looks_of new.certificate.checker) p.0.1 (λ total k. reached_by (rest_in total (unread c)) (tries_if true (seen_in total old.certificate) (seen_in total new.certificate) (p.2 total k)))
+    took (Err (stop.No why)) p = took_looks 1 c new.certificate.source p.0.0.0 (looks_of new.certificate.checker) p.0.0.1 (λ total k. reached_by (rest_in total (unread c)) (p.2 total k))
+    took (Err stop.CertificateRead) p = took_faulted c new.certificate.source p.0.0 (looks_of new.certificate.checker) p.0.1 (λ total k. reached_by (rest_in total (unread c)) (p.1 total k))
+    took (Err stop.OutOfMemory) p = took_looks 1 c new.certificate.source p.0.0.0 (looks_of new.certificate.checker) p.0.0.1 (λ total k. reached_by (rest_in total (unread c)) (p.1 total k))
+    took (Err stop.CounterEnd) p = took_looks 1 c new.certificate.source p.0.0.0 (looks_of new.certificate.checker) p.0.0.1 (λ total k. reached_by (rest_in total (unread c)) (p.2 total k))
+    took (Err stop.ScriptRead) p = absurd p
+    took (Err stop.AnswersRead) p = absurd p
+    took (Err stop.TooMany) p = absurd p
+
+    -- added to those of others
+    pub looks_added : (r : Result (Unit {0}) Stop) (before after : ℕ) → after ≡ before + looks_of new.certificate.checker → ConfirmsScript reading r old new → TakesLooks c new.certificate.source.reader before after
+    looks_added r before after e ends =
+        let q = certified r ends in
+        let t = took q.0 q.1 in
+        let sum : looks_of new.certificate.checker + before ≡ after = omega (arith, e) in
+        let zero : 0 + before ≡ before = omega arith in
+        takes_looks c new.certificate.source.reader t.text before after t.front (omega (arith, e))
+        (λ rest k.
+        subst (λ to. LooksReach [] (t.text ++ rest) before to) sum
+        (subst (λ from. LooksReach [] (t.text ++ rest) from (looks_of new.certificate.checker + before)) zero (looks_from before [] (t.text ++ rest) 0 (looks_of new.certificate.checker) (t.reached rest k))))
+
+-- a confirmation of what three readers give keeps its promises
+pub keeps_promises : (x a c : Reader) (checker : Kernel) (step : Step) (table : Table) (new : Standing) → IsBegun checker step table → (r : Result (Unit {0}) Stop) (asks : ℕ) → new.script.reads ≤ most_reads → new.answers.reads ≤ most_reads → new.certificate.source.reads ≤ most_reads
+    → ConfirmsScript reading r (begun x a c checker step table) new → Promised (said_by r asks) (x, new.script.reader) (a, new.answers.reader) (c, new.certificate.source.reader)
+keeps_promises x a c checker step table new fresh r asks m n k h =
+    promised x a c new.script new.answers new.certificate.source (said_by r asks) m n k (tells x a c checker step table fresh new r asks m k h)
+
+-- by how the three are read as it begins
+pub begins : (r : Result (Unit {0}) Stop) (x a c : Reader) (script answers : Ahead) (certificate : Source) (checker : Kernel) (step : Step) (number : ℕ) (table : Table) (new : Standing)
+    → waiting script ≡ [] → script.reads ≡ 0 → waiting answers ≡ [] → answers.reads ≡ 0 → certificate ≡ unread c → number ≡ 1
+    → ConfirmsScript reading r (record {
+      script = record { reader = x; waiting = waiting script; reads = script.reads; names = [] };
+      answers = record { reader = a; waiting = waiting answers; reads = answers.reads; names = [] };
+      certificate = record { source = certificate; checker = checker; step = step };
+      number = number;
+      table = table;
+    }) new
+    → ConfirmsScript reading r (begun x a c checker step table) new
+begins r x a c script answers certificate checker step number table new e f g h i n ends =
+    let at : List ℕ → ℕ → List ℕ → ℕ → Source → ℕ → Standing = λ w p v q s m. record {
+      script = record { reader = x; waiting = w; reads = p; names = [] };
+      answers = record { reader = a; waiting = v; reads = q; names = [] };
+      certificate = record { source = s; checker = checker; step = step };
+      number = m;
+      table = table;
+    } in
+    subst (λ m. ConfirmsScript reading r (at [] 0 [] 0 (unread c) m) new) n
+    (subst (λ s. ConfirmsScript reading r (at [] 0 [] 0 s number) new) i
+    (subst (λ q. ConfirmsScript reading r (at [] 0 [] q certificate number) new) h
+    (subst (λ v. ConfirmsScript reading r (at [] 0 v answers.reads certificate number) new) g
+    (subst (λ p. ConfirmsScript reading r (at [] p (waiting answers) answers.reads certificate number) new) f
+    (subst (λ w. ConfirmsScript reading r (at w script.reads (waiting answers) answers.reads certificate number) new) e ends)))))

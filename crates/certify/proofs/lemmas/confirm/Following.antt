@@ -1,0 +1,164 @@
+-- What names stand for behind one step more.
+use Rattle.std.proofs.Common.{ℕ, ◌+◌, ◌≤◌, ◌<◌, ◌≡◌, Bool, true, false, cond, eqb, List, ◌∷◌, Option, Some, None, refl, sym, ◌∙◌, ap, subst, arith, inl, inr}
+use Rattle.std.proofs.Common.{Result, Ok, Err, OnOk}
+use Rattle.std.proofs.lemmas.Bool.{true≢false, eqb-true, eqb-false, eq-eqb}
+use mathlib.Core.Path.{fun_ext}
+use Rattle.sat_base.specs.values.Literals.{largest}
+use Rattle.sat_base.specs.script.Script.{Literal}
+use Rattle.sat_base.specs.steps.Steps.{Step, SolverVarName, UserVarName, DeleteVar, ChangeSamplingMode, AddClause, AtClause, UnitClauses, DeleteClause, ChangeHashBits, Model, Assumptions, FailedAssumptions, End}
+use Rattle.sat_checker.specs.Accepts.{Accepts, ready_after}
+use Rattle.sat_checker.specs.matching.Checking.{Accepted, is_ordered, is_variable, variable_of}
+use Rattle.sat_checker.specs.matching.Expected.{Outcome, Expected, NewName, NoName, Adds, Opens, Shows, Fails, Closes, Finish, Fits, new_name, no_name, adds, opens, shows, fails, closes, finish}
+use Rattle.sat_checker.specs.matching.ProofChecking.{the_checking}
+use Rattle.sat_checker.proofs.lemmas.matching.CheckerIsSound.{the_checking_sound}
+use Rattle.certify.specs.confirm.Variables.{IsPut}
+use Rattle.certify.specs.confirm.Following.{StandFor, NamesFollow, OthersPass}
+use Rattle.certify.specs.confirm.Comparing.{Due}
+use Rattle.certify.specs.declared.confirm.variables.NamedVars.{NamedVars}
+use Rattle.certify.proofs.lemmas.confirm.FittingSteps.{fits_new_name, fits_no_name}
+
+none_some : {v : ℕ} → (let o : Option ℕ = None in o) ≡ Some v → ⊥
+none_some e = cc
+
+one_of : {v w : ℕ} → Some v ≡ Some w → v ≡ w
+one_of e = cc
+
+-- a step that isn't ordered puts no name
+unnamed : (step : Step) (earlier : List Step) → is_ordered step ≡ false → variable_of (step ∷ earlier) ≡ variable_of earlier
+unnamed (UserVarName v name) earlier h = absurd (true≢false h)
+unnamed (SolverVarName v s) earlier h = refl
+unnamed (DeleteVar v) earlier h = refl
+unnamed (ChangeSamplingMode v m) earlier h = refl
+unnamed (AddClause c) earlier h = refl
+unnamed (AtClause r c hashes) earlier h = refl
+unnamed (UnitClauses us) earlier h = refl
+unnamed (DeleteClause c d) earlier h = refl
+unnamed (ChangeHashBits b) earlier h = refl
+unnamed (Model ls) earlier h = refl
+unnamed (Assumptions ls) earlier h = refl
+unnamed (FailedAssumptions core hashes) earlier h = refl
+unnamed End earlier h = refl
+
+-- what has a name is known still
+known_still : (earlier : List Step) (step : Step) (m v : ℕ) → Accepted the_checking earlier → Accepts (ready_after earlier) step → variable_of earlier m ≡ Some v → the_checking.knows earlier v ≡ true → the_checking.knows (step ∷ earlier) v ≡ true
+known_still earlier step m v all a e k = elim (the_checking_sound.keeps earlier step v a k) [
+  | inl h ↦ h
+  | inr d ↦ absurd (the_checking_sound.nameless earlier v m all (subst (λ (s : Step). Accepts (ready_after earlier) s) d a) e)
+]
+
+pub stays : (variables : NamedVars) (earlier : List Step) (step : Step) → StandFor variables earlier → Accepts (ready_after earlier) step → variable_of (step ∷ earlier) ≡ variable_of earlier → StandFor variables (step ∷ earlier)
+stays variables earlier step s a same =
+    let at : (m v : ℕ) → variable_of (step ∷ earlier) m ≡ Some v → variable_of earlier m ≡ Some v = λ m v e. sym (ap (λ (f : ℕ → Option ℕ). f m) same) ∙ e in
+    record {
+      accepted = (s.accepted, a);
+      named = same ∙ s.named;
+      apart = λ m n v x y. s.apart m n v (at m v x) (at n v y);
+      known = λ m v x. known_still earlier step m v s.accepted a (at m v x) (s.known m v (at m v x));
+      few = λ m v x. s.few m v (at m v x);
+    }
+
+pub others : OthersPass
+others variables earlier step s o a = stays variables earlier step s a (unnamed step earlier o)
+
+-- A NEW NAME
+module _ (old new : NamedVars) (earlier : List Step) (s : StandFor old earlier) where
+  names_a : (v index : ℕ) → the_checking.knows earlier v ≡ false → Accepts (ready_after earlier) (UserVarName v (Some index)) → index + 1 ≤ largest → IsPut old new (index + 1) (Some v) → StandFor new (UserVarName v (Some index) ∷ earlier)
+  names_a v index unknown a low p = record {
+    accepted = (s.accepted, a);
+    named = fun_ext (λ m. ap (λ (o : Option ℕ). cond (eqb (index + 1) m) (Some v) o) (ap (λ (f : ℕ → Option ℕ). f m) s.named) ∙ sym (p.each m));
+    apart = λ m n w x y. alone m n w (eqb (index + 1) m) refl (eqb (index + 1) n) refl x y;
+    known = λ m w x. is_known m w (eqb (index + 1) m) x;
+    few = λ m w x. is_few m w (eqb (index + 1) m) refl x;
+  }
+    where
+      fresh : (n w : ℕ) → v ≡ w → variable_of earlier n ≡ Some w → ⊥
+      fresh n w e x = true≢false (sym (s.known n w x) ∙ subst (λ (z : ℕ). the_checking.knows earlier z ≡ false) e unknown)
+
+      alone : (m n w : ℕ) (b : Bool) → eqb (index + 1) m ≡ b → (d : Bool) → eqb (index + 1) n ≡ d → cond b (Some v) (variable_of earlier m) ≡ Some w → cond d (Some v) (variable_of earlier n) ≡ Some w → m ≡ n
+      alone m n w true e true g x y = sym (eqb-true (index + 1) m e) ∙ eqb-true (index + 1) n g
+      alone m n w true e false g x y = absurd (fresh n w (one_of x) y)
+      alone m n w false e true g x y = absurd (fresh m w (one_of y) x)
+      alone m n w false e false g x y = s.apart m n w x y
+
+      is_known : (m w : ℕ) (b : Bool) → cond b (Some v) (variable_of earlier m) ≡ Some w → the_checking.knows (UserVarName v (Some index) ∷ earlier) w ≡ true
+      is_known m w true x = subst (λ (z : ℕ). the_checking.knows (UserVarName v (Some index) ∷ earlier) z ≡ true) (one_of x) (the_checking_sound.names earlier v index a)
+      is_known m w false x = known_still earlier (UserVarName v (Some index)) m w s.accepted a x (s.known m w x)
+
+      is_few : (m w : ℕ) (b : Bool) → eqb (index + 1) m ≡ b → cond b (Some v) (variable_of earlier m) ≡ Some w → m ≤ largest
+      is_few m w true e x = subst (λ (z : ℕ). z ≤ largest) (eqb-true (index + 1) m e) low
+      is_few m w false e x = s.few m w x
+
+  -- A NAME TAKEN
+  takes_a : (name v : ℕ) → variable_of earlier name ≡ Some v → Accepts (ready_after earlier) (UserVarName v None) → IsPut old new name None → StandFor new (UserVarName v None ∷ earlier)
+  takes_a name v at a p = record {
+    accepted = (s.accepted, a);
+    named = fun_ext (λ m. taken m (eqb name m) refl (variable_of earlier m) refl ∙ ap (λ (o : Option ℕ). cond (eqb name m) None o) (ap (λ (f : ℕ → Option ℕ). f m) s.named) ∙ sym (p.each m));
+    apart = λ m n w x y. s.apart m n w (before m w x) (before n w y);
+    known = λ m w x. let e = before m w x in known_still earlier (UserVarName v None) m w s.accepted a e (s.known m w e);
+    few = λ m w x. s.few m w (before m w x);
+  }
+    where
+      same_v : eqb v v ≡ true
+      same_v = eq-eqb v v refl
+
+      taken : (m : ℕ) (b : Bool) → eqb name m ≡ b → (o : Option ℕ) → variable_of earlier m ≡ o → cond (is_variable v o) None o ≡ cond b None o
+      taken m true e o x =
+          let here : o ≡ Some v = sym x ∙ ap (variable_of earlier) (sym (eqb-true name m e)) ∙ at in
+          subst (λ (z : Option ℕ). cond (is_variable v z) None z ≡ None) (sym here) (rw same_v refl)
+      taken m false e None x = refl
+      taken m false e (Some w) x = go (eqb w v) refl
+        where
+          go : (b : Bool) → eqb w v ≡ b → cond b None (Some w) ≡ Some w
+          go true y = absurd (eqb-false name m e (s.apart name m v at (x ∙ ap Some (eqb-true w v y))))
+          go false y = refl
+
+      before : (m w : ℕ) → cond (is_variable v (variable_of earlier m)) None (variable_of earlier m) ≡ Some w → variable_of earlier m ≡ Some w
+      before m w x = go (is_variable v (variable_of earlier m)) x
+        where
+          go : (b : Bool) → cond b None (variable_of earlier m) ≡ Some w → variable_of earlier m ≡ Some w
+          go true x = absurd (none_some x)
+          go false x = x
+
+  pub puts_new : (name v : ℕ) (step : Step) → Fits (the_checking.knows earlier) earlier (NewName (name + 1)) step → (u : Option ℕ) → step ≡ UserVarName v u → Accepts (ready_after earlier) step → name < largest → IsPut old new (name + 1) (Some v) → StandFor new (step ∷ earlier)
+  puts_new name v step f u e a low p =
+      let q = (fits_new_name the_checking earlier (name + 1) step).0 f in
+      let index : q.1 ≡ name = let at = q.3 in omega arith in
+      let same : UserVarName v u ≡ UserVarName q.0 (Some q.1) = sym e ∙ q.2 in
+      let v_is : q.0 ≡ v = cc in
+      let whole : step ≡ UserVarName v (Some name) = q.2 ∙ ap (λ (x : ℕ). UserVarName x (Some q.1)) v_is ∙ ap (λ (x : ℕ). UserVarName v (Some x)) index in
+      subst (λ (z : Step). StandFor new (z ∷ earlier)) (sym whole)
+      (names_a v name (subst (λ (x : ℕ). the_checking.knows earlier x ≡ false) v_is q.4) (subst (λ (z : Step). Accepts (ready_after earlier) z) whole a) (omega arith) p)
+
+  pub takes_name : (name : ℕ) (step : Step) → Fits (the_checking.knows earlier) earlier (NoName name) step → Accepts (ready_after earlier) step → IsPut old new name None → StandFor new (step ∷ earlier)
+  takes_name name step f a p =
+      let q = (fits_no_name the_checking earlier name step).0 f in
+      subst (λ (z : Step). StandFor new (z ∷ earlier)) (sym q.1) (takes_a name q.0 q.2 (subst (λ (z : Step). Accepts (ready_after earlier) z) q.1 a) p)
+
+abbrev pub puts_name : Expected → Bool
+puts_name (NewName name) = true
+puts_name (NoName name) = true
+puts_name (Adds ls) = false
+puts_name (Opens ls o) = false
+puts_name (Shows names ask line) = false
+puts_name (Fails ask core) = false
+puts_name Closes = false
+puts_name Finish = false
+
+-- another step puts no name
+pub unput : (earlier : List Step) (e : Expected) (step : Step) → Fits (the_checking.knows earlier) earlier e step → (b : Bool) → puts_name e ≡ b → b ≡ false → variable_of (step ∷ earlier) ≡ variable_of earlier
+unput earlier e step (new_name is unknown) b x y = absurd (true≢false (x ∙ y))
+unput earlier e step (no_name at) b x y = absurd (true≢false (x ∙ y))
+unput earlier e step (adds same) b x y = refl
+unput earlier e step (opens same) b x y = refl
+unput earlier e step (shows n spelt asked) b x y = refl
+unput earlier e step (fails same) b x y = refl
+unput earlier e step closes b x y = refl
+unput earlier e step finish b x y = refl
+
+pub on_ok : {A E : Type 0} (r : Result A E) (P Q : Type 0) → (P → Q) → OnOk r P → OnOk r Q
+on_ok (Ok x) P Q f p = f p
+on_ok (Err e) P Q f p = tt
+
+-- nothing changes behind one
+pub unchanged : (due : Due) (variables : NamedVars) (step : Step) → ((o : Outcome) (ask : List Literal) → puts_name (due o ask) ≡ false) → NamesFollow due variables step variables
+unchanged due variables step less earlier o ask s f a = stays variables earlier step s a (unput earlier (due o ask) step f false (less o ask) refl)

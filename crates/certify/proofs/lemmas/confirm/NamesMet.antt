@@ -1,0 +1,87 @@
+-- How all names of a command are met.
+use Rattle.std.proofs.Common.{ℕ, ◌+◌, ◌≤◌, ◌<◌, ◌≡◌, List, [], ◌∷◌, ◌++◌, length, get_or, take, drop, Ok, Err, refl, sym, ◌∙◌, ap, subst, append_assoc}
+use Rattle.std.proofs.lemmas.List.{append-nil, take_more, take_all, take-append-drop}
+use Rattle.sat_base.specs.device.Reading.{AtEnd}
+use Rattle.sat_base.specs.script.Script.{names_of}
+use Rattle.sat_base.specs.script.Judge.{Judge}
+use Rattle.sat_base.specs.values.Literals.{variable}
+use Rattle.sat_checker.specs.matching.Expected.{Expected}
+use Rattle.certify.specs.answers.AnswerForms.{named_literals}
+use Rattle.certify.specs.confirm.Streams.{Stream, seen_in, Confirms}
+use Rattle.certify.specs.judge.Names.{NamesStand, Changes, taken}
+use Rattle.certify.specs.confirm.Naming.{MeetsAll, MeetsName, MeetsNames, naming, naming_all, taken_by}
+use Rattle.sat_base.specs.script.Language.{Kind}
+use Rattle.certify.specs.declared.confirm.stop.Stop.{Stop}
+use Rattle.certify.specs.declared.judge.names.Names.{Names}
+use Rattle.certify.specs.declared.confirm.variables.NamedVars.{NamedVars}
+use Rattle.certify.proofs.lemmas.confirm.Streams.{confirms_none, confirms_then, then_stop}
+use Rattle.certify.proofs.lemmas.confirm.Naming.{both, first_barred, nothing}
+
+naming_append : (kind : Kind) (xs ys : List ℕ) (j : Judge) → naming_all kind (xs ++ ys) j ≡ naming_all kind xs j ++ naming_all kind ys (taken_by kind xs j)
+naming_append kind [] ys j = refl
+naming_append kind (x ∷ xs) ys j = ap (λ (es : List Expected). naming kind x j ++ es) (naming_append kind xs ys (taken kind x j)) ∙ sym (append_assoc (naming kind x j) (naming_all kind xs (taken kind x j)) (naming_all kind ys (taken_by kind xs (taken kind x j))))
+
+taken_append : (kind : Kind) (xs ys : List ℕ) (j : Judge) → taken_by kind (xs ++ ys) j ≡ taken_by kind ys (taken_by kind xs j)
+taken_append kind [] ys j = refl
+taken_append kind (x ∷ xs) ys j = taken_append kind xs ys (taken kind x j)
+
+abbrev pub listed : List ℕ → List ℕ
+listed codes = names_of (named_literals codes)
+
+listed_append : (xs ys : List ℕ) → listed (xs ++ ys) ≡ listed xs ++ listed ys
+listed_append [] ys = refl
+listed_append (x ∷ xs) ys = ap (λ (ns : List ℕ). (variable x + 1) ∷ ns) (listed_append xs ys)
+
+listed_more : (codes : List ℕ) (i code : ℕ) → i < length codes → code ≡ get_or codes i code → listed (take (i + 1) codes) ≡ listed (take i codes) ++ (variable code + 1) ∷ []
+listed_more codes i code low at = ap listed (take_more codes i code low ∙ ap (λ (c : ℕ). take i codes ++ c ∷ []) (sym at)) ∙ listed_append (take i codes) (code ∷ [])
+
+-- so far
+abbrev pub SoFar : Kind → List ℕ → ℕ → Names → Names → Type 0
+SoFar kind codes i first now = Changes first now (taken_by kind (listed (take i codes)))
+
+pub none_taken : (kind : Kind) (codes : List ℕ) (names : Names) → SoFar kind codes 0 names names
+none_taken kind codes names j h = h
+
+pub one_taken : (kind : Kind) (codes : List ℕ) (i code v : ℕ) (first now next : Names) → i < length codes → code ≡ get_or codes i code → v ≡ variable code → SoFar kind codes i first now → Changes now next (taken kind (v + 1)) → SoFar kind codes (i + 1) first next
+one_taken kind codes i code v first now next low at is so_far change j h =
+    let list = listed_more codes i code low at in
+    let mid = taken_by kind (listed (take i codes)) j in
+    let whole : taken_by kind (listed (take (i + 1) codes)) j ≡ taken kind (v + 1) mid =
+    ap (λ (ns : List ℕ). taken_by kind ns j) list ∙ taken_append kind (listed (take i codes)) ((variable code + 1) ∷ []) j ∙ ap (λ (n : ℕ). taken kind (n + 1) mid) (sym is) in
+    subst (NamesStand next) (sym whole) (change mid (so_far j h))
+
+pub all_taken : (kind : Kind) (codes : List ℕ) (i : ℕ) (first now : Names) → length codes ≤ i → SoFar kind codes i first now → Changes first now (taken_by kind (listed codes))
+all_taken kind codes i first now over so_far j h = subst (λ (xs : List ℕ). NamesStand now (taken_by kind (listed xs) j)) (take_all i codes over) (so_far j h)
+
+pub none_met : (kind : Kind) (codes : List ℕ) (names : Names) (vars : NamedVars) (a : Stream) → Confirms (Ok tt) a a (MeetsNames kind (listed (take 0 codes)) names vars vars)
+none_met kind codes names vars a = confirms_none tt a (MeetsNames kind (listed (take 0 codes)) names vars vars) (λ total j h. nothing vars (seen_in total a))
+
+module _ (kind : Kind) (codes : List ℕ) (i code v : ℕ) (first now : Names) (before mid after : NamedVars) (low : i < length codes) (at : code ≡ get_or codes i code) (is : v ≡ variable code) (so_far : SoFar kind codes i first now)
+    (a b c : Stream) (open_yet : AtEnd a.source → ⊥) (p : Confirms (Ok tt) a b (MeetsNames kind (listed (take i codes)) first before mid)) where
+  next_pending : (j : Judge) → naming_all kind (listed (take i codes)) j ++ naming kind (v + 1) (taken_by kind (listed (take i codes)) j) ≡ naming_all kind (listed (take (i + 1) codes)) j
+  next_pending j =
+      let before = listed (take i codes) in
+      let now = taken_by kind before j in
+      ap (λ (n : ℕ). naming_all kind before j ++ naming kind (n + 1) now) is
+      ∙ ap (λ (es : List Expected). naming_all kind before j ++ es) (sym (append-nil (naming kind (variable code + 1) now)))
+      ∙ sym (naming_append kind before ((variable code + 1) ∷ []) j)
+      ∙ ap (λ (ns : List ℕ). naming_all kind ns j) (sym (listed_more codes i code low at))
+
+  pub next_met : Confirms (Ok tt) b c (MeetsName kind (v + 1) now mid after) → Confirms (Ok tt) a c (MeetsNames kind (listed (take (i + 1) codes)) first before after)
+  next_met q = confirms_then tt (Ok tt) a b c (MeetsNames kind (listed (take i codes)) first before mid) (MeetsName kind (v + 1) now mid after) (MeetsNames kind (listed (take (i + 1) codes)) first before after) open_yet
+      (λ total y f g j h. subst (λ (es : List Expected). MeetsAll es before after (seen_in total a) (seen_in total c) y) (next_pending j)
+      (both (naming_all kind (listed (take i codes)) j) (naming kind (v + 1) (taken_by kind (listed (take i codes)) j)) before mid after (seen_in total a) (seen_in total b) (seen_in total c) y (f j h) (g (taken_by kind (listed (take i codes)) j) (so_far j h)))) p q
+
+  pub next_stop : (e : Stop) → Confirms {A = Unit {0}} (Err e) b c (MeetsName kind (v + 1) now mid after) → Confirms {A = Unit {0}} (Err e) a c (MeetsNames kind (listed codes) first before after)
+  next_stop e q = then_stop tt e a b c (MeetsNames kind (listed (take i codes)) first before mid) (MeetsName kind (v + 1) now mid after) (MeetsNames kind (listed codes) first before after) open_yet
+      (λ total why f g j h.
+      let rest = naming_all kind (listed (drop (i + 1) codes)) (taken_by kind (listed (take (i + 1) codes)) j) in
+      let whole : naming_all kind (listed (take (i + 1) codes)) j ++ rest ≡ naming_all kind (listed codes) j =
+      sym (naming_append kind (listed (take (i + 1) codes)) (listed (drop (i + 1) codes)) j) ∙ ap (λ (ns : List ℕ). naming_all kind ns j) (sym (listed_append (take (i + 1) codes) (drop (i + 1) codes)) ∙ ap listed (take-append-drop (i + 1) codes)) in
+      subst (λ (es : List Expected). MeetsAll es before after (seen_in total a) (seen_in total c) (Err why)) whole
+      (first_barred (naming_all kind (listed (take (i + 1) codes)) j) rest before after after (seen_in total a) (seen_in total c) why
+      (subst (λ (es : List Expected). MeetsAll es before after (seen_in total a) (seen_in total c) (Err why)) (next_pending j)
+      (both (naming_all kind (listed (take i codes)) j) (naming kind (v + 1) (taken_by kind (listed (take i codes)) j)) before mid after (seen_in total a) (seen_in total b) (seen_in total c) (Err why) (f j h) (g (taken_by kind (listed (take i codes)) j) (so_far j h)))))) p q
+
+pub all_met : (kind : Kind) (codes : List ℕ) (i : ℕ) (names : Names) (before after : NamedVars) (a b : Stream) → length codes ≤ i → Confirms (Ok tt) a b (MeetsNames kind (listed (take i codes)) names before after) → Confirms (Ok tt) a b (MeetsNames kind (listed codes) names before after)
+all_met kind codes i names before after a b over p = subst (λ (xs : List ℕ). Confirms (Ok tt) a b (MeetsNames kind (listed xs) names before after)) (take_all i codes over) p

@@ -1,0 +1,109 @@
+-- How the names of a command are met.
+use Rattle.std.proofs.Common.{ℕ, true, ◌+◌, ◌-◌, ◌<◌, ◌≡◌, List, [], ◌∷◌, ◌++◌, map, Result, Ok, Err, refl, sym, ◌∙◌, ap, subst, arith}
+use Rattle.std.proofs.lemmas.List.{map-append}
+use Rattle.sat_base.specs.device.Reading.{AtEnd}
+use Rattle.sat_base.specs.script.Script.{Literal}
+use Rattle.sat_base.specs.script.Judge.{Judge, names_from, new_names}
+use Rattle.sat_checker.specs.matching.Expected.{Outcome, Unknown, Expected, NewName}
+use Rattle.certify.specs.confirm.CertificatePlaces.{Leads, Bars}
+use Rattle.certify.specs.confirm.Streams.{Stream, seen_in, Confirms}
+use Rattle.certify.specs.confirm.Views.{View}
+use Rattle.certify.specs.judge.Names.{NamesStand}
+use Rattle.certify.specs.confirm.Awaiting.{MeetsDue}
+use Rattle.certify.specs.confirm.Comparing.{MayStayUnmet, Due}
+use Rattle.certify.specs.confirm.Naming.{MeetsAll, MeetsName, hidden_by}
+use Rattle.sat_base.specs.script.Language.{Kind}
+use Rattle.certify.specs.declared.confirm.stop.Stop.{Stop}
+use Rattle.certify.specs.declared.confirm.stop.Stop.TheVariants as stop
+use Rattle.certify.specs.declared.judge.names.Names.{Names}
+use Rattle.certify.specs.declared.confirm.variables.NamedVars.{NamedVars}
+use Rattle.certify.specs.declared.verdict.Why.{Why}
+use Rattle.certify.proofs.lemmas.confirm.CertificatePlaces.{leads_nowhere, leads_on, bars_behind, bars_more}
+use Rattle.certify.proofs.lemmas.confirm.NamesFrom.{from_more, from_split}
+use Rattle.certify.proofs.lemmas.confirm.Streams.{confirms_none, confirms_so, confirms_stop, confirms_then, says_stop}
+
+pub nothing : (names : NamedVars) (u : View) → MeetsAll [] names names u u (Ok tt)
+nothing names u earlier s = record { later = earlier; stands = s; leads = leads_nowhere earlier u.rest }
+
+pub all_none : (names : NamedVars) (a : Stream) → Confirms (Ok tt) a a (MeetsAll [] names names)
+all_none names a = confirms_none tt a (MeetsAll [] names names) (λ total earlier s. record { later = earlier; stands = s; leads = leads_nowhere earlier (seen_in total a).rest })
+
+-- one thing that is expected, whatever outcome and ask
+pub one : (due : Due) (e : Expected) → ((o : Outcome) (ask : List Literal) → due o ask ≡ e) → MayStayUnmet e → (before after : NamedVars) (u v : View) (y : Result (Unit {0}) Why) → MeetsDue due before after u v y → MeetsAll (e ∷ []) before after u v y
+one due e is free before after u v (Ok x) m = λ earlier s.
+    let k = m earlier s in
+    record {
+      later = k.later;
+      stands = k.stands;
+      leads = subst (λ (d : Expected). Leads earlier u.rest (d ∷ []) k.later v.rest) (is Unknown []) (k.leads Unknown [] (λ closed. subst MayStayUnmet (sym (is Unknown [])) free));
+    }
+one due e is free before after u v (Err why) m = λ earlier s. subst (λ (d : Expected). Bars earlier u.rest (d ∷ [])) (is Unknown []) (m earlier s Unknown [])
+
+-- some things, and then others
+pub both : (p q : List Expected) (first mid last : NamedVars) (u v w : View) (y : Result (Unit {0}) Why) → MeetsAll p first mid u v (Ok tt) → MeetsAll q mid last v w y → MeetsAll (p ++ q) first last u w y
+both p q first mid last u v w (Ok x) f g = λ earlier s.
+    let k = f earlier s in
+    let m = g k.later k.stands in
+    record { later = m.later; stands = m.stands; leads = leads_on k.leads m.leads }
+both p q first mid last u v w (Err why) f g = λ earlier s. let k = f earlier s in bars_behind k.leads (g k.later k.stands)
+
+-- where the first aren't met
+pub first_barred : (p q : List Expected) (before after end : NamedVars) (u v : View) (why : Why) → MeetsAll p before after u v (Err why) → MeetsAll (p ++ q) before end u v (Err why)
+first_barred p q before after end u v why f earlier s = bars_more q (f earlier s)
+
+pub meets_one : (due : Due) (e : Expected) → ((o : Outcome) (ask : List Literal) → due o ask ≡ e) → MayStayUnmet e → (before after : NamedVars) (r : Result (Unit {0}) Stop) (a b : Stream) → Confirms r a b (MeetsDue due before after) → Confirms r a b (MeetsAll (e ∷ []) before after)
+meets_one due e is free before after r a b p = confirms_so r a b (MeetsDue due before after) (MeetsAll (e ∷ []) before after) (λ total y m. one due e is free before after (seen_in total a) (seen_in total b) y m) p
+
+pub meets_both : (p q : List Expected) (first mid last : NamedVars) (r : Result (Unit {0}) Stop) (a b c : Stream) → (AtEnd a.source → ⊥) → Confirms (Ok tt) a b (MeetsAll p first mid) → Confirms r b c (MeetsAll q mid last) → Confirms r a c (MeetsAll (p ++ q) first last)
+meets_both p q first mid last r a b c open_yet f g = confirms_then tt r a b c (MeetsAll p first mid) (MeetsAll q mid last) (MeetsAll (p ++ q) first last) open_yet
+    (λ total y x z. both p q first mid last (seen_in total a) (seen_in total b) (seen_in total c) y x z) f g
+
+barred_more : (e : Stop) (a c : Stream) (p q : List Expected) (before after : NamedVars) → Confirms {A = Unit {0}} (Err e) a c (MeetsAll p before after) → Confirms {A = Unit {0}} (Err e) a c (MeetsAll (p ++ q) before after)
+barred_more e a c p q before after h = confirms_stop e a c (MeetsAll p before after) (MeetsAll (p ++ q) before after) (λ total why f. first_barred p q before after after (seen_in total a) (seen_in total c) why f) h
+
+-- NEW NAMES
+abbrev pub news : ℕ → ℕ → List Expected
+news count first = map NewName (names_from count first)
+
+news_more : (count first : ℕ) → news count first ++ NewName (first + count) ∷ [] ≡ news (count + 1) first
+news_more count first = sym (map-append NewName (names_from count first) ((first + count) ∷ [])) ∙ ap (map NewName) (sym (from_more count first))
+
+news_split : (done count first : ℕ) → done < count → (news done first ++ NewName (first + done) ∷ []) ++ news (count - (done + 1)) (first + (done + 1)) ≡ news count first
+news_split done count first low =
+    let total : done + 1 + (count - (done + 1)) ≡ count = omega arith in
+    ap (λ (xs : List Expected). xs ++ news (count - (done + 1)) (first + (done + 1))) (news_more done first)
+    ∙ sym (map-append NewName (names_from (done + 1) first) (names_from (count - (done + 1)) (first + (done + 1))))
+    ∙ ap (map NewName) (sym (from_split (done + 1) (count - (done + 1)) first))
+    ∙ ap (λ (n : ℕ). map NewName (names_from n first)) total
+
+module _ (count first done name : ℕ) (low : done < count) (is : name ≡ first + done) (before mid after : NamedVars) (a b c : Stream) (open_yet : AtEnd a.source → ⊥) (so_far : Confirms (Ok tt) a b (MeetsAll (news done first) before mid)) where
+  pub new_more : Confirms (Ok tt) b c (MeetsDue (λ o ask. NewName name) mid after) → Confirms (Ok tt) a c (MeetsAll (news (done + 1) first) before after)
+  new_more p =
+      let q = meets_both (news done first) (NewName name ∷ []) before mid after (Ok tt) a b c open_yet so_far (meets_one (λ o ask. NewName name) (NewName name) (λ o ask. refl) tt mid after (Ok tt) b c p) in
+      subst (λ (es : List Expected). Confirms (Ok tt) a c (MeetsAll es before after)) (ap (λ (n : ℕ). news done first ++ NewName n ∷ []) is ∙ news_more done first) q
+
+  pub new_stop : (e : Stop) → Confirms {A = Unit {0}} (Err e) b c (MeetsDue (λ o ask. NewName name) mid after) → Confirms {A = Unit {0}} (Err e) a c (MeetsAll (news count first) before after)
+  new_stop e p =
+      let prefix = news done first ++ NewName (first + done) ∷ [] in
+      let rest = news (count - (done + 1)) (first + (done + 1)) in
+      let q : Confirms {A = Unit {0}} (Err e) a c (MeetsAll prefix before after) =
+      subst (λ (n : ℕ). Confirms {A = Unit {0}} (Err e) a c (MeetsAll (news done first ++ NewName n ∷ []) before after)) is
+      (meets_both (news done first) (NewName name ∷ []) before mid after (Err e) a b c open_yet so_far (meets_one (λ o ask. NewName name) (NewName name) (λ o ask. refl) tt mid after (Err e) b c p)) in
+      subst (λ (es : List Expected). Confirms {A = Unit {0}} (Err e) a c (MeetsAll es before after)) (news_split done count first low) (barred_more e a c prefix rest before after q)
+
+-- THE NAMES OF A COMMAND
+
+module _ (kind : Kind) (name : ℕ) (names : Names) (count first : ℕ) (told : (j : Judge) → NamesStand names j → new_names name j ≡ names_from count first) (before after : NamedVars) where
+  pub name_stop : (unused : NamedVars) (e : Stop) (a b : Stream) → Confirms {A = Unit {0}} (Err e) a b (MeetsAll (news count first) before unused) → Confirms {A = Unit {0}} (Err e) a b (MeetsName kind name names before after)
+  name_stop unused e a b p = confirms_stop e a b (MeetsAll (news count first) before unused) (MeetsName kind name names before after)
+      (λ total why f j s. subst (λ (ns : List ℕ). MeetsAll (map NewName ns ++ hidden_by kind name) before after (seen_in total a) (seen_in total b) (Err why)) (sym (told j s))
+      (first_barred (news count first) (hidden_by kind name) before unused after (seen_in total a) (seen_in total b) why f)) p
+
+  pub name_goes : (mid : NamedVars) (r : Result (Unit {0}) Stop) (a b c : Stream) → (AtEnd a.source → ⊥) → Confirms (Ok tt) a b (MeetsAll (news count first) before mid) → Confirms r b c (MeetsAll (hidden_by kind name) mid after)
+      → Confirms r a c (MeetsName kind name names before after)
+  name_goes mid r a b c open_yet p q = confirms_so r a c (MeetsAll (news count first ++ hidden_by kind name) before after) (MeetsName kind name names before after)
+      (λ total y f j s. subst (λ (ns : List ℕ). MeetsAll (map NewName ns ++ hidden_by kind name) before after (seen_in total a) (seen_in total c) y) (sym (told j s)) f)
+      (meets_both (news count first) (hidden_by kind name) before mid after r a b c open_yet p q)
+
+  pub name_short : (a c : Stream) → (AtEnd a.source → ⊥) → Confirms (Ok tt) a c (MeetsName kind name names before after) → Confirms {A = Unit {0}} (Err stop.OutOfMemory) a c (MeetsName kind name names before after)
+  name_short a c open_yet p = says_stop {B = ℕ} true stop.OutOfMemory a c (λ u v. MeetsName kind name names before after u v (Ok tt)) (λ y. ⊥) (MeetsName kind name names before after) open_yet (λ total why h n. absurd n) p tt

@@ -1,0 +1,46 @@
+-- The last command that came was carried out.
+use Rattle.std.proofs.Common.{ℕ, ◌+◌, ◌≡◌, ◌∙◌, [], ◌∷◌, refl, sym, ap, subst}
+use Rattle.std.proofs.lemmas.List.{append-nil}
+use Rattle.sat_base.specs.device.Device.{Writer}
+use Rattle.sat_base.specs.script.Script.{Command}
+use Rattle.sat_base.specs.script.Judge.{Judge, accepted}
+use Rattle.sat_base.proofs.lemmas.device.Writes.{took_none}
+use Rattle.sat_solver.specs.solver.Whole.{steps_in}
+use Rattle.certify.specs.declared.run.session.Session.{Session}
+use Rattle.certify.specs.run.Obeying.{Obeyed}
+use Rattle.certify.specs.run.Serving.{RunPlace, Serves, behind}
+use Rattle.certify.specs.run.Standing.{CarriedOut, last_place, place_in}
+use Rattle.certify.specs.run.Stretches.{IsNoAsk}
+use Rattle.certify.proofs.lemmas.run.ServedOnce.{serves_plain}
+use Rattle.certify.specs.run.Quiet.{Solver}
+
+-- where a run stands behind the last command that came
+pub place_behind : {C : Type 0} (old new : Session C) (c : Command) (j : Judge) (rounds : ℕ) → new.commands ≡ old.commands → rounds ≡ new.solver.clock.steps
+    → behind (last_place old j) c (steps_in new.solver) rounds ≡ place_in new (accepted c j)
+place_behind old new c j rounds e f = ap (λ (k : ℕ). at (k + 1) rounds) (sym e) ∙ ap (at (new.commands + 1)) f
+  where
+    at : ℕ → ℕ → RunPlace
+    at k n = record { judge = accepted c j; number = k; steps = steps_in new.solver; rounds = n }
+
+-- by the solver alone
+pub obeyed_carried : {C : Type 0} (seen : C → Writer) (old : Session C) (s : Solver C) (c : Command) (w : Writer) → IsNoAsk c → old.solver.assumed.items ≡ [] → Obeyed seen c old.solver s
+    → CarriedOut seen old (record old { solver = s }) c w w
+obeyed_carried seen old s c w quiet free o = record {
+  ready = o.ready;
+  free = ap (λ (v : _). v.items) o.assumed ∙ free;
+  took = o.took;
+  commands = refl;
+  refused = refl;
+  budget = refl;
+  text = [];
+  told = took_none w;
+  reports = [];
+  asks = sym (append-nil old.asks.items);
+  serves = λ j live means allowed.
+      let k = o.keeps j live means.agree in (
+        k.0,
+        k.1,
+        subst (λ b. Serves old.budget (last_place old j) b (c ∷ []) [] [] 0) (place_behind old (record old { solver = s }) c j old.solver.clock.steps refl (ap (λ (x : _). x.steps) (sym o.clock)))
+            (serves_plain old.budget (last_place old j) c (steps_in s) quiet allowed k.2),
+      );
+}

@@ -1,0 +1,123 @@
+-- Why a part of a run failed, but for devices and memory.
+use Rattle.std.proofs.Common.{ℕ, ◌+◌, ◌<◌, ◌≡◌, ◌∙◌, inl, inr, false, None, List, [], ◌∷◌, ◌++◌, drop, get_or, length, length-append, take, Result, Ok, Err, IfErr, refl, sym, ap, subst, append_assoc, arith}
+use Rattle.std.proofs.lemmas.List.{map-append, take-append-drop}
+use Rattle.sat_base.specs.device.Device.{Writer}
+use Rattle.sat_base.specs.script.Script.{Command, Clause, Ask, Clean}
+use Rattle.sat_base.specs.script.Language.{Reading, onto_commands}
+use Rattle.sat_base.specs.script.Judge.{Judge, accepted, after_command, after_script, refusal_of}
+use Rattle.sat_base.specs.values.Literals.{largest, variable}
+use Rattle.sat_solver.specs.variables.Refusing.{names_in}
+use Rattle.sat_solver.specs.variables.Room.{users_in}
+use Rattle.sat_solver.specs.solver.Whole.{HasFullStore}
+use Rattle.certify.specs.answers.AnswerForms.{named_literals}
+use Rattle.certify.specs.declared.fault.RunFault.{RunFault}
+use Rattle.certify.specs.declared.fault.RunFault.TheVariants as fault
+use Rattle.certify.specs.declared.judge.NameState.{NameState}
+use Rattle.certify.specs.declared.script.Command.{Command as Lent}
+use Rattle.certify.specs.declared.script.CommandKind.TheVariants as kind
+use Rattle.certify.specs.declared.run.session.Session.{Session}
+use Rattle.certify.specs.judge.Names.{Judges}
+use Rattle.certify.specs.script.Commands.{IsLent}
+use Rattle.certify.specs.run.Unfinished.{Exceeds}
+use Rattle.certify.specs.run.SolverCalls.{IsCaused, LacksRoom, NeedsMore}
+use Rattle.certify.specs.run.Obeying.{Obeyed, command_to}
+use Rattle.certify.specs.run.Quiet.{Solver}
+use Rattle.certify.specs.run.Standing.{CausedBy, CausedOver, JudgeIsAt, ServedNext, spelled_by}
+use Rattle.certify.proofs.lemmas.run.CallFaults.{caused_map}
+use Rattle.certify.proofs.lemmas.run.Lent.{lent_is, spelled_as}
+use Rattle.certify.proofs.lemmas.run.Needing.{clause_needs, name_needs, names_need_more, script_grows}
+use Rattle.certify.proofs.lemmas.run.Next.{after_accepted}
+use Rattle.certify.proofs.lemmas.run.Obeys.{name_more}
+
+-- no store is to blame where memory was lacking, and no counter
+pub memory_caused : (e : RunFault) (full lacks : Type 0) → e ≡ fault.OutOfMemory → IsCaused e full lacks
+memory_caused e full lacks m = subst (λ x. IsCaused x full lacks) (sym m) tt
+
+-- nor where answers couldn't be written
+pub unwritten_caused : (e : RunFault) (full lacks : Type 0) → e ≡ fault.AnswersWrite → IsCaused e full lacks
+unwritten_caused e full lacks m = subst (λ x. IsCaused x full lacks) (sym m) tt
+
+pub unwritten_if : {T : Type 0} (r : Result T RunFault) (P : Type 0) → IfErr r (λ e. (e ≡ fault.AnswersWrite) × P) → IfErr r (λ e. IsCaused e ⊥ ⊥)
+unwritten_if (Ok x) P h = tt
+unwritten_if (Err e) P h = unwritten_caused e ⊥ ⊥ h.0
+
+caused_if : {T : Type 0} (r : Result T RunFault) (full lacks P Q : Type 0) → (full → P) → (lacks → Q) → IfErr r (λ e. IsCaused e full lacks) → IfErr r (λ e. IsCaused e P Q)
+caused_if (Ok x) full lacks P Q f g h = tt
+caused_if (Err e) full lacks P Q f g h = caused_map e full lacks P Q f g h
+
+-- whatever is left
+pub caused_all : (e : RunFault) (full : Type 0) (A : Type 0) (P : A → Type 0) → A → ((x : A) → IsCaused e full (P x)) → IsCaused e full ((x : A) → P x)
+caused_all fault.ScriptRead full A P a h = tt
+caused_all fault.AnswersWrite full A P a h = tt
+caused_all fault.CertificateWrite full A P a h = tt
+caused_all fault.OutOfMemory full A P a h = tt
+caused_all fault.StoreFull full A P a h = h a
+caused_all fault.CounterEnd full A P a h = h
+
+-- NAMES
+
+-- the names of literals up to one, its own and those behind it
+names_split : (codes : List ℕ) (k code user : ℕ) → k < length codes → code ≡ get_or codes k code → user ≡ variable code → names_in (take k codes) ++ ((user + 1) ∷ [] ++ names_in (drop (k + 1) codes)) ≡ names_in codes
+names_split codes k code user lt is at =
+    sym (append_assoc (names_in (take k codes)) ((user + 1) ∷ []) (names_in (drop (k + 1) codes))) ∙ ap (λ ns. ns ++ names_in (drop (k + 1) codes)) (name_more codes k code user lt is at)
+    ∙ sym (map-append (λ l. variable l + 1) (take (k + 1) codes) (drop (k + 1) codes)) ∙ ap names_in (take-append-drop (k + 1) codes)
+
+pub names_caused : {C : Type 0} (seen : C → Writer) (st : NameState) (codes : List ℕ) (k code user : ℕ) (a b : Solver C) (e : RunFault) → k < length codes → code ≡ get_or codes k code → user ≡ variable code
+    → Obeyed seen (command_to st (names_in (take k codes))) a b → IsCaused e ⊥ (LacksRoom b (user ∷ [])) → IsCaused e ⊥ (NeedsMore a (command_to st (names_in codes)))
+names_caused seen st codes k code user a b e lt is at done h =
+    caused_map e ⊥ (LacksRoom b (user ∷ [])) ⊥ (NeedsMore a (command_to st (names_in codes))) (λ x. x)
+    (λ lacks. subst (λ names. NeedsMore a (command_to st names)) (names_split codes k code user lt is at) (names_need_more seen st (names_in (take k codes)) ((user + 1) ∷ []) (names_in (drop (k + 1) codes)) a b done (name_needs b st user lacks))) h
+
+-- COMMANDS
+
+module _ {C : Type 0} (lent : Lent) (old : Session C) (r : Result (Unit {0}) RunFault) (new : Solver C) where
+  pub clause_caused_by : lent.kind ≡ kind.Clause → IfErr r (λ e. IsCaused e (HasFullStore new) (LacksRoom old.solver (users_in lent.literals.now))) → CausedBy r old (record old { solver = new }) (spelled_by lent)
+  clause_caused_by e h = subst (λ c. CausedBy r old (record old { solver = new }) c) (sym (spelled_as lent kind.Clause e))
+      (caused_if r (HasFullStore new) (LacksRoom old.solver (users_in lent.literals.now)) (HasFullStore new) (NeedsMore old.solver (Clause (named_literals lent.literals.now))) (λ x. x) (clause_needs old.solver lent.literals.now) h)
+
+  pub names_caused_by : (c : Command) → spelled_by lent ≡ c → IfErr r (λ e. IsCaused e ⊥ (NeedsMore old.solver c)) → CausedBy r old (record old { solver = new }) (spelled_by lent)
+  names_caused_by c e h = subst (λ d. CausedBy r old (record old { solver = new }) d) (sym e)
+      (caused_if r ⊥ (NeedsMore old.solver c) (HasFullStore new) (NeedsMore old.solver c) (λ x. absurd x) (λ x. x) h)
+
+pub ask_caused_by : {C : Type 0} (lent : Lent) (old new : Session C) (r : Result (Unit {0}) RunFault) → lent.kind ≡ kind.Ask → CausedBy r old new (Ask (named_literals lent.literals.now)) → CausedBy r old new (spelled_by lent)
+ask_caused_by lent old new r e h = subst (λ c. CausedBy r old new c) (sym (spelled_as lent kind.Ask e)) h
+
+-- WHAT IS LEFT OF A SCRIPT
+
+-- what comes behind takes no identity back
+pub needs_exceed : {C : Type 0} (old : Session C) (c : Command) (left : Reading) (j : Judge) → JudgeIsAt old j → refusal_of j c ≡ None → NeedsMore old.solver c → Exceeds old.commands j (onto_commands (c ∷ []) left)
+needs_exceed old c left j at free needs =
+    let h = needs j at.live at.means.agree in
+    let g = script_grows left.0 (accepted c j) in
+    inr (subst (λ i. largest < (after_script left.0 i).next_identity) (sym (after_accepted j c free)) (omega arith))
+
+module _ {C : Type 0} (old mid new : Session C) (lent : Lent) (r : Result (Unit {0}) RunFault) where
+  pub taken_caused : lent.past_limit ≡ false → Judges None old.names lent → mid.solver ≡ old.solver → CausedBy r mid new (spelled_by lent) → (c : Command) → IsLent lent c → (left : Reading) → CausedOver r old new (onto_commands (c ∷ []) left)
+  taken_caused within judges same h c l left =
+      caused_if r (HasFullStore new.solver) (NeedsMore mid.solver (spelled_by lent)) (HasFullStore new.solver) ((j : Judge) → JudgeIsAt old j → Exceeds old.commands j (onto_commands (c ∷ []) left)) (λ x. x)
+      (λ needs j at. needs_exceed old c left j at (sym (judges j c at.names l)) (subst (λ s. NeedsMore s c) same (subst (NeedsMore mid.solver) (sym (lent_is lent c l within)) needs))) h
+
+-- nothing is to blame
+pub blameless : {T C : Type 0} (r : Result T RunFault) (old new : Session C) (script : Reading) → IfErr r (λ e. IsCaused e ⊥ ⊥) → CausedOver r old new script
+blameless r old new script h = caused_if r ⊥ ⊥ (HasFullStore new.solver) ((j : Judge) → JudgeIsAt old j → Exceeds old.commands j script) (λ x. absurd x) (λ x. absurd x) h
+
+pub after_both : (xs ys : List Command) (i : Judge) → after_script (xs ++ ys) i ≡ after_script ys (after_script xs i)
+after_both [] ys i = refl
+after_both (x ∷ xs) ys i = after_both xs ys (after_command x i)
+
+-- commands that were served before
+pub exceeds_later : (n m : ℕ) (cs : List Command) (script : Reading) (j : Judge) → m ≡ n + length cs → Exceeds m (after_script cs j) script → Exceeds n j (onto_commands cs script)
+exceeds_later n m cs script j e (inl few) = inl (let l = length-append cs script.0 in omega arith)
+exceeds_later n m cs script j e (inr needs) = inr (subst (λ i. largest < i.next_identity) (sym (after_both cs script.0 j)) needs)
+
+-- one command, and what is left
+pub caused_behind : {T C : Type 0} (seen : C → Writer) (r : Result T RunFault) (c : Command) (script : Reading) (a b new : Session C) (u v : Writer) → ServedNext seen a b c u v → CausedOver r b new script → CausedOver r a new (onto_commands (c ∷ []) script)
+caused_behind seen r c script a b new u v f h =
+    caused_if r (HasFullStore new.solver) ((j : Judge) → JudgeIsAt b j → Exceeds b.commands j script) (HasFullStore new.solver) ((j : Judge) → JudgeIsAt a j → Exceeds a.commands j (onto_commands (c ∷ []) script)) (λ x. x)
+    (λ k j at. exceeds_later a.commands b.commands (c ∷ []) script j f.commands (k (after_command c j) (f.serves j at).0)) h
+
+-- the ask that a header brings
+pub asked_caused : {T C : Type 0} (a new : Session C) (r : Result T RunFault) → CausedBy r a new (Ask []) → CausedOver r a new (Ask [] ∷ [], Clean)
+asked_caused a new r h =
+    caused_if r (HasFullStore new.solver) (NeedsMore a.solver (Ask [])) (HasFullStore new.solver) ((j : Judge) → JudgeIsAt a j → Exceeds a.commands j (Ask [] ∷ [], Clean)) (λ x. x)
+    (λ needs j at. needs_exceed a (Ask []) ([], Clean) j at refl needs) h

@@ -1,0 +1,65 @@
+-- An ask is closed by steps that record nothing.
+use Rattle.std.proofs.Common.{◌≡◌, ◌∙◌, false, List, [], ◌∷◌, ◌++◌, refl, sym, subst, append_assoc}
+use Rattle.std.proofs.lemmas.List.{append_cancel_right}
+use Rattle.std.specs.List.{AllByRecursion}
+use Rattle.sat_base.specs.steps.Steps.{Step, SolverVarName, UserVarName, DeleteVar, ChangeSamplingMode, AddClause, AtClause, UnitClauses, DeleteClause, ChangeHashBits, Model, Assumptions, FailedAssumptions, End}
+use Rattle.sat_checker.specs.Accepts.{effect, ready_after}
+use Rattle.sat_checker.specs.matching.Checking.{is_ordered}
+use Rattle.sat_checker.specs.matching.Expected.{Expected, Closes, Fits, closes}
+use Rattle.sat_checker.specs.matching.ProofChecking.{the_checking}
+use Rattle.sat_solver.specs.variables.Coming.{MayTake}
+use Rattle.sat_solver.specs.session.Coming.{EachIsAllowed}
+use Rattle.sat_checker.specs.matching.Traces.{HasTrace, no_step, silent, visible}
+use Rattle.certify.proofs.lemmas.confirm.Settled.{settled_unsat}
+
+made_behind : {s t : List Step} {es : List Expected} → HasTrace the_checking s t es → (zs : List Step) × (t ≡ zs ++ s)
+made_behind no_step = ([], refl)
+made_behind (silent {s = s} {step = step} q m) = let r = made_behind m in (r.0 ++ (step ∷ []), r.1 ∙ sym (append_assoc r.0 (step ∷ []) s))
+made_behind (visible {s = s} {step = step} f m) = let r = made_behind m in (r.0 ++ (step ∷ []), r.1 ∙ sym (append_assoc r.0 (step ∷ []) s))
+
+each_first : (s : List Step) (x : Step) (ys : List Step) → EachIsAllowed (MayTake []) s (ys ++ (x ∷ [])) → MayTake [] s x × EachIsAllowed (MayTake []) (x ∷ s) ys
+each_first s x [] h = (h.1, tt)
+each_first s x (y ∷ ys) h = let r = each_first s x ys h.0 in (r.0, (r.1, subst (λ e. MayTake [] e y) (append_assoc ys (x ∷ []) s) h.1))
+
+record Onwards (s t : List Step) (x : Step) : Type 0 where
+  may : MayTake [] s x
+  steps : List Step
+  behind : t ≡ steps ++ (x ∷ s)
+  each : EachIsAllowed (MayTake []) (x ∷ s) steps
+
+first_comes : (s t : List Step) (x : Step) (ys zs : List Step) → t ≡ ys ++ s → EachIsAllowed (MayTake []) s ys → t ≡ zs ++ (x ∷ s) → Onwards s t x
+first_comes s t x ys zs b c d =
+    let e : ys ≡ zs ++ (x ∷ []) = append_cancel_right ys (zs ++ (x ∷ [])) s (sym b ∙ d ∙ sym (append_assoc zs (x ∷ []) s)) in
+    let h = each_first s x zs (subst (EachIsAllowed (MayTake []) s) e c) in
+    record { may = h.0; steps = zs; behind = d; each = h.1 }
+
+-- a step that comes of itself records nothing
+keeps_going : (s : List Step) (step : Step) → is_ordered step ≡ false → MayTake [] s step → the_checking.unsat s ≡ false → the_checking.unsat (step ∷ s) ≡ false
+keeps_going s (ChangeHashBits bits) q m g = settled_unsat (effect (ChangeHashBits bits) (ready_after s)) ∙ g
+keeps_going s (SolverVarName v n) q m g = absurd (m.2.1)
+keeps_going s (UserVarName v n) q m g = absurd (cc)
+keeps_going s (AddClause c) q m g = absurd (cc)
+keeps_going s (Model ls) q m g = absurd (cc)
+keeps_going s (Assumptions ls) q m g = absurd (cc)
+keeps_going s (FailedAssumptions c h) q m g = absurd (cc)
+keeps_going s End q m g = absurd (cc)
+keeps_going s (DeleteVar v) q m g = absurd (cc)
+keeps_going s (ChangeSamplingMode v b) q m g = absurd (cc)
+keeps_going s (AtClause r c h) q m g = absurd (cc)
+keeps_going s (UnitClauses us) q m g = absurd (cc)
+keeps_going s (DeleteClause c p) q m g = absurd (cc)
+
+close_keeps : (s : List Step) (x : Expected) (step : Step) → Fits (the_checking.knows s) s x step → x ≡ Closes → the_checking.unsat s ≡ false → the_checking.unsat (step ∷ s) ≡ false
+close_keeps s Closes step closes e g = settled_unsat (effect (Assumptions []) (ready_after s)) ∙ g
+close_keeps s x step f e g = absurd (cc)
+
+pub closing : {s t : List Step} {es : List Expected} → HasTrace the_checking s t es → AllByRecursion (λ e. e ≡ Closes) es → (ys : List Step) → t ≡ ys ++ s → EachIsAllowed (MayTake []) s ys → the_checking.unsat s ≡ false → the_checking.unsat t ≡ false
+closing no_step h ys b c g = g
+closing {t = t} (silent {s = s} {step = step} q m) h ys b c g =
+    let z = made_behind m in
+    let r = first_comes s t step ys z.0 b c z.1 in
+    closing m h r.steps r.behind r.each (keeps_going s step q r.may g)
+closing {t = t} (visible {s = s} {step = step} {e = x} f m) h ys b c g =
+    let z = made_behind m in
+    let r = first_comes s t step ys z.0 b c z.1 in
+    closing m h.1 r.steps r.behind r.each (close_keeps s x step f h.0 g)

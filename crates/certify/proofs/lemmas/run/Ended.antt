@@ -1,0 +1,68 @@
+-- A certificate that isn't ended.
+use Rattle.std.proofs.Common.{◌∙◌, ◌⊎◌, inl, inr, Some, [], ◌∷◌, Err, refl, sym}
+use Rattle.std.proofs.lemmas.Bool.{true≢false}
+use Rattle.sat_base.specs.device.Device.{Writer}
+use Rattle.sat_base.specs.steps.Steps.{End}
+use Rattle.sat_solver.specs.declared.error.SolverError.{SolverError}
+use Rattle.sat_solver.specs.declared.error.SolverError.TheVariants as errors
+use Rattle.sat_solver.specs.declared.proof.made.CheckFault.TheVariants as checks
+use Rattle.sat_solver.specs.session.Making.{Took, Broke}
+use Rattle.sat_solver.specs.proof.ProofView.{Adds, FailsCheck, Gives, target_of}
+use Rattle.sat_solver.specs.solver.Proving.{ClosesProof}
+use Rattle.certify.specs.run.SolverCalls.{FaultSays, IsCaused, IsReady, fault_for, proof_in}
+use Rattle.certify.specs.declared.fault.RunFault.{RunFault}
+use Rattle.certify.specs.declared.fault.RunFault.TheVariants as fault
+use Rattle.certify.specs.run.Ending.{Closes, FinishesRun, GivenBack}
+use Rattle.certify.proofs.lemmas.run.CallFaults.{complains_never}
+use Rattle.certify.proofs.lemmas.run.Stopping.{bytes_none}
+use Rattle.certify.specs.run.Quiet.{Solver}
+
+-- closing it failed, and its writer was given back
+pub closing_fails : {C : Type 0} (seen : C → Writer) (e : SolverError) (old new : Solver C) (given : C) → IsReady old → ClosesProof seen (Err e) old new → Gives (target_of seen (proof_in new)) (Some (seen given))
+    → FaultSays (fault_for e) ⊥ (GivenBack seen Broke old given) (GivenBack seen Took old given)
+closing_fails seen errors.HasFailed old new given ready h g = absurd (true≢false (sym h.cause ∙ ready.going))
+closing_fails seen (errors.ProofIoError cause) old new given ready h g = record { proof = proof_in new; goes = (End ∷ [], h.fails); gives = g }
+closing_fails {C} seen errors.OutOfMemory old new given ready h g = at h.adds
+  where
+    at : Adds seen [] (proof_in old) (proof_in new) ⊎ FailsCheck seen checks.OutOfMemory (End ∷ []) (proof_in old) (proof_in new) → GivenBack seen Took old given
+    at (inl a) = record { proof = proof_in new; goes = ([], a); gives = g }
+    at (inr f) = record { proof = proof_in new; goes = (End ∷ [], f.adds); gives = g }
+closing_fails seen errors.Interrupted old new given ready h g = absurd h
+closing_fails seen (errors.ProofProcessorError cause) old new given ready h g = record { proof = proof_in new; goes = (End ∷ [], h.fails.adds); gives = g }
+closing_fails seen errors.WitnessVariable old new given ready h g = absurd h
+closing_fails seen errors.AssumedVariable old new given ready h g = absurd h
+closing_fails seen errors.TooLate old new given ready h g = absurd h
+closing_fails seen errors.NotInDrat old new given ready h g = absurd h
+closing_fails seen errors.StoreFull old new given ready h g = absurd h
+closing_fails seen errors.VariableLimit old new given ready h g = absurd h
+closing_fails seen errors.CounterEnd old new given ready h g = record { proof = proof_in new; goes = (End ∷ [], h.fails.adds); gives = g }
+closing_fails seen errors.Read old new given ready h g = absurd h
+closing_fails seen errors.Malformed old new given ready h g = absurd h
+closing_fails seen errors.OutOfRange old new given ready h g = absurd h
+
+-- for which no store is to blame and no counter, since nobody checks the steps
+pub closing_caused : {C : Type 0} (seen : C → Writer) (e : SolverError) (old new : Solver C) → IsReady old → ClosesProof seen (Err e) old new → IsCaused (fault_for e) ⊥ ⊥
+closing_caused seen errors.HasFailed old new ready h = absurd (true≢false (sym h.cause ∙ ready.going))
+closing_caused seen (errors.ProofIoError cause) old new ready h = tt
+closing_caused seen errors.OutOfMemory old new ready h = tt
+closing_caused seen errors.Interrupted old new ready h = absurd h
+closing_caused seen (errors.ProofProcessorError cause) old new ready h = absurd (complains_never seen old new (checks.Processor cause) ready.unchecked (End ∷ []) h.fails)
+closing_caused seen errors.WitnessVariable old new ready h = absurd h
+closing_caused seen errors.AssumedVariable old new ready h = absurd h
+closing_caused seen errors.TooLate old new ready h = absurd h
+closing_caused seen errors.NotInDrat old new ready h = absurd h
+closing_caused seen errors.StoreFull old new ready h = absurd h
+closing_caused seen errors.VariableLimit old new ready h = absurd h
+closing_caused seen errors.CounterEnd old new ready h = absurd (complains_never seen old new checks.CounterEnd ready.unchecked (End ∷ []) h.fails)
+closing_caused seen errors.Read old new ready h = absurd h
+closing_caused seen errors.Malformed old new ready h = absurd h
+closing_caused seen errors.OutOfRange old new ready h = absurd h
+
+-- and the answers' writer was left alone
+pub closing_keeps : {C : Type 0} (seen : C → Writer) (e : RunFault) (s : Solver C) (given : C) (w : Writer) → Closes seen (Err e) s given → FinishesRun seen (Err e) s given w w
+closing_keeps seen fault.ScriptRead s given w f = absurd f.0
+closing_keeps seen fault.AnswersWrite s given w f = absurd f.0
+closing_keeps seen fault.CertificateWrite s given w f = (((refl, refl), f.0), bytes_none w, f.1)
+closing_keeps seen fault.OutOfMemory s given w f = (((refl, refl), f.0), bytes_none w, f.1)
+closing_keeps seen fault.StoreFull s given w f = (((refl, refl), f.0), bytes_none w, f.1)
+closing_keeps seen fault.CounterEnd s given w f = (((refl, refl), f.0), bytes_none w, f.1)

@@ -1,0 +1,180 @@
+-- Commands that a solver carries out by itself.
+use Rattle.std.proofs.Common.{ℕ, ◌+◌, ◌<◌, ◌≡◌, ◌∙◌, Bool, List, [], ◌∷◌, ◌++◌, map, length, get_or, take, inl, inr, refl, sym, ap, subst, append_assoc}
+use Rattle.std.proofs.lemmas.List.{map-append, take_more}
+use Rattle.sat_base.specs.device.Device.{Writer}
+use Rattle.sat_base.specs.values.Literals.{variable}
+use Rattle.sat_base.specs.script.Script.{Clause, Among}
+use Rattle.sat_base.specs.script.Judge.{Judge, Mode, Sampled, Witnessed, accepted, bring_in, hide_all, new_names, set_all, with_mode, without_name}
+use Rattle.sat_base.specs.steps.Steps.{Step}
+use Rattle.sat_checker.specs.matching.Expected.{NewName, NoName, hiding, setting}
+use Rattle.sat_checker.specs.matching.ProofChecking.{the_checking}
+use Rattle.sat_solver.specs.variables.Calls.{Agree}
+use Rattle.sat_solver.specs.variables.Refusing.{names_in}
+use Rattle.sat_solver.specs.solver.Adding.{Added}
+use Rattle.sat_solver.specs.solver.Naming.{Renamed}
+use Rattle.sat_solver.specs.solver.Whole.{steps_in}
+use Rattle.sat_solver.proofs.lemmas.session.ComingLemmas.{comes_both, comes_map, comes_none}
+use Rattle.certify.specs.answers.AnswerForms.{named_literals}
+use Rattle.certify.specs.declared.judge.NameState.{NameState}
+use Rattle.certify.specs.declared.judge.NameState.TheVariants as state
+use Rattle.certify.specs.run.SolverCalls.{IsReady, proof_in}
+use Rattle.certify.specs.run.Obeying.{Obeyed, command_to, due_to, may_to}
+use Rattle.sat_checker.specs.matching.Traces.{HasTrace, no_step}
+use Rattle.certify.specs.run.Stretches.{IsNoAsk, MayFor, due_for}
+use Rattle.certify.proofs.lemmas.run.ClauseServed.{clause_agrees, clause_stretch}
+use Rattle.sat_checker.proofs.lemmas.matching.Traces.{traces_both}
+use Rattle.certify.proofs.lemmas.run.SessionCalls.{took_both, took_none}
+use Rattle.certify.specs.run.Quiet.{Solver}
+
+-- SEVERAL NAMES, AND THEN OTHERS
+
+hidden_both : (xs ys : List ℕ) (j : Judge) → hide_all (xs ++ ys) j ≡ hide_all ys (hide_all xs j)
+hidden_both [] ys j = refl
+hidden_both (x ∷ xs) ys j = hidden_both xs ys (without_name x (bring_in x j))
+
+set_both : (mode : Mode) (xs ys : List ℕ) (j : Judge) → set_all mode (xs ++ ys) j ≡ set_all mode ys (set_all mode xs j)
+set_both mode [] ys j = refl
+set_both mode (x ∷ xs) ys j = set_both mode xs ys (with_mode mode x (bring_in x j))
+
+hiding_both : (xs ys : List ℕ) (j : Judge) → hiding (xs ++ ys) j ≡ hiding xs j ++ hiding ys (hide_all xs j)
+hiding_both [] ys j = refl
+hiding_both (x ∷ xs) ys j =
+    let next = without_name x (bring_in x j) in
+    ap (λ es. map NewName (new_names x j) ++ (NoName x ∷ es)) (hiding_both xs ys next) ∙ sym (append_assoc (map NewName (new_names x j)) (NoName x ∷ hiding xs next) (hiding ys (hide_all xs next)))
+
+setting_both : (mode : Mode) (xs ys : List ℕ) (j : Judge) → setting mode (xs ++ ys) j ≡ setting mode xs j ++ setting mode ys (set_all mode xs j)
+setting_both mode [] ys j = refl
+setting_both mode (x ∷ xs) ys j =
+    let next = with_mode mode x (bring_in x j) in
+    ap (λ es. map NewName (new_names x j) ++ es) (setting_both mode xs ys next) ∙ sym (append_assoc (map NewName (new_names x j)) (setting mode xs next) (setting mode ys (set_all mode xs next)))
+
+pub accepted_both : (st : NameState) (xs ys : List ℕ) (j : Judge) → accepted (command_to st (xs ++ ys)) j ≡ accepted (command_to st ys) (accepted (command_to st xs) j)
+accepted_both state.Hidden xs ys j = hidden_both xs ys j
+accepted_both state.Sampled xs ys j = set_both Sampled xs ys j
+accepted_both state.Witnessed xs ys j = set_both Witnessed xs ys j
+
+-- recorded unsat is of no matter to names
+due_both : (st : NameState) (u v : Bool) (xs ys : List ℕ) (j : Judge) → due_for u (command_to st (xs ++ ys)) j ≡ due_for u (command_to st xs) j ++ due_for v (command_to st ys) (accepted (command_to st xs) j)
+due_both state.Hidden u v xs ys j = hiding_both xs ys j
+due_both state.Sampled u v xs ys j = setting_both Sampled xs ys j
+due_both state.Witnessed u v xs ys j = setting_both Witnessed xs ys j
+
+due_same : (st : NameState) (u : Bool) (names : List ℕ) (j : Judge) → due_to st names j ≡ due_for u (command_to st names) j
+due_same state.Hidden u names j = refl
+due_same state.Sampled u names j = refl
+due_same state.Witnessed u names j = refl
+
+-- what may come for one of several names
+front_among : (x : ℕ) (xs ys : List ℕ) → Among x xs → Among x (xs ++ ys)
+front_among x [] ys m = absurd m
+front_among x (y ∷ xs) ys m = elim m [ inl e ↦ inl e | inr k ↦ inr (front_among x xs ys k) ]
+
+back_among : (x : ℕ) (xs ys : List ℕ) → Among x ys → Among x (xs ++ ys)
+back_among x [] ys m = m
+back_among x (y ∷ xs) ys m = inr (back_among x xs ys m)
+
+may_one : (st : NameState) (name : ℕ) (earlier : List Step) (step : Step) → may_to st name earlier step → MayFor (command_to st (name ∷ [])) earlier step
+may_one state.Hidden name earlier step m = m
+may_one state.Sampled name earlier step m = (name, inl refl, m)
+may_one state.Witnessed name earlier step m = (name, inl refl, m)
+
+may_front : (st : NameState) (xs ys : List ℕ) (earlier : List Step) (step : Step) → MayFor (command_to st xs) earlier step → MayFor (command_to st (xs ++ ys)) earlier step
+may_front state.Hidden xs ys earlier step m = m
+may_front state.Sampled xs ys earlier step m = (m.0, front_among m.0 xs ys m.1, m.2)
+may_front state.Witnessed xs ys earlier step m = (m.0, front_among m.0 xs ys m.1, m.2)
+
+may_back : (st : NameState) (xs ys : List ℕ) (earlier : List Step) (step : Step) → MayFor (command_to st ys) earlier step → MayFor (command_to st (xs ++ ys)) earlier step
+may_back state.Hidden xs ys earlier step m = m
+may_back state.Sampled xs ys earlier step m = (m.0, back_among m.0 xs ys m.1, m.2)
+may_back state.Witnessed xs ys earlier step m = (m.0, back_among m.0 xs ys m.1, m.2)
+
+pub names_ask_nothing : (st : NameState) (names : List ℕ) → IsNoAsk (command_to st names)
+names_ask_nothing state.Hidden names = tt
+names_ask_nothing state.Sampled names = tt
+names_ask_nothing state.Witnessed names = tt
+
+none_accepted : (st : NameState) (j : Judge) → accepted (command_to st []) j ≡ j
+none_accepted state.Hidden j = refl
+none_accepted state.Sampled j = refl
+none_accepted state.Witnessed j = refl
+
+none_due : (st : NameState) (u : Bool) (j : Judge) → due_for u (command_to st []) j ≡ []
+none_due state.Hidden u j = refl
+none_due state.Sampled u j = refl
+none_due state.Witnessed u j = refl
+
+-- the next of several names
+pub name_more : (codes : List ℕ) (k code v : ℕ) → k < length codes → code ≡ get_or codes k code → v ≡ variable code → names_in (take k codes) ++ ((v + 1) ∷ []) ≡ names_in (take (k + 1) codes)
+name_more codes k code v within at e =
+    let cut : take (k + 1) codes ≡ take k codes ++ (code ∷ []) = take_more codes k code within ∙ ap (λ (x : ℕ). take k codes ++ (x ∷ [])) (sym at) in
+    ap (λ (x : ℕ). names_in (take k codes) ++ ((x + 1) ∷ [])) e ∙ sym (map-append (λ (l : ℕ). variable l + 1) (take k codes) (code ∷ [])) ∙ ap names_in (sym cut)
+
+module _ {C : Type 0} (seen : C → Writer) where
+  -- a name was hidden, or its mode was set
+  pub name_obeyed : (st : NameState) (name : ℕ) (a b : Solver C) → IsReady b → Renamed seen a b (accepted (command_to st (name ∷ []))) (due_to st (name ∷ [])) (may_to st name) → Obeyed seen (command_to st (name ∷ [])) a b
+  name_obeyed st name a b ready r = record {
+    ready = ready;
+    took = r.did.took;
+    assumed = r.assumed;
+    clock = r.clock;
+    keeps = λ j live agree.
+        let k = r.did.does.kept j live agree in
+        let u = the_checking.unsat (steps_in a) in
+        let c = command_to st (name ∷ []) in (
+          k.live,
+          k.agree,
+          record {
+            due = subst (HasTrace the_checking (steps_in a) (steps_in b)) (due_same st u (name ∷ []) j) k.trace;
+            comes = comes_map (may_to st name) (MayFor c) (may_one st name) (steps_in a) (steps_in b) r.comes;
+          },
+        );
+  }
+
+  pub none_obeyed : (st : NameState) (a : Solver C) → IsReady a → Obeyed seen (command_to st []) a a
+  none_obeyed st a ready = record {
+    ready = ready;
+    took = took_none seen (proof_in a);
+    assumed = refl;
+    clock = refl;
+    keeps = λ j live agree. (
+      live,
+      subst (λ k. Agree a.names (steps_in a) k live) (sym (none_accepted st j)) agree,
+      record {
+        due = subst (HasTrace the_checking (steps_in a) (steps_in a)) (sym (none_due st (the_checking.unsat (steps_in a)) j)) no_step;
+        comes = comes_none (MayFor (command_to st [])) (steps_in a);
+      },
+    );
+  }
+
+  pub names_obeyed : (st : NameState) (xs ys : List ℕ) (a b c : Solver C) → Obeyed seen (command_to st xs) a b → Obeyed seen (command_to st ys) b c → Obeyed seen (command_to st (xs ++ ys)) a c
+  names_obeyed st xs ys a b c f g = record {
+    ready = g.ready;
+    took = took_both seen (proof_in a) (proof_in b) (proof_in c) f.took g.took;
+    assumed = g.assumed ∙ f.assumed;
+    clock = g.clock ∙ f.clock;
+    keeps = λ j live agree.
+        let x = f.keeps j live agree in
+        let y = g.keeps (accepted (command_to st xs) j) x.0 x.1 in (
+          y.0,
+          subst (λ k. Agree c.names (steps_in c) k y.0) (sym (accepted_both st xs ys j)) y.1,
+          record {
+            due = subst (HasTrace the_checking (steps_in a) (steps_in c)) (sym (due_both st (the_checking.unsat (steps_in a)) (the_checking.unsat (steps_in b)) xs ys j)) (traces_both x.2.due y.2.due);
+            comes = comes_both (MayFor (command_to st (xs ++ ys))) (steps_in a) (steps_in b) (steps_in c)
+                (comes_map (MayFor (command_to st xs)) (MayFor (command_to st (xs ++ ys))) (may_front st xs ys) (steps_in a) (steps_in b) x.2.comes)
+                (comes_map (MayFor (command_to st ys)) (MayFor (command_to st (xs ++ ys))) (may_back st xs ys) (steps_in b) (steps_in c) y.2.comes);
+          },
+        );
+  }
+
+  -- a clause came in
+  pub clause_obeyed : (user : List ℕ) (a b : Solver C) → IsReady a → IsReady b → Added seen a b user → Obeyed seen (Clause (named_literals user)) a b
+  clause_obeyed user a b before ready added = record {
+    ready = ready;
+    took = added.did.took;
+    assumed = added.assumed;
+    clock = added.clock;
+    keeps = λ j live agree.
+        let whole = before.solver before.going in
+        let then = clause_agrees seen a b user whole added j live agree in
+        (then.0, then.1, clause_stretch seen a b user whole added j live agree);
+  }

@@ -1,0 +1,88 @@
+-- What the certificate's writer took, whatever call failed.
+use Rattle.std.proofs.Common.{◌≡◌, ◌∙◌, inl, inr, Some, Option, Ok, Err, List, [], ◌∷◌, ◌++◌, refl, sym, ap, subst, append-nil}
+use Rattle.std.proofs.Math.Logic.{∥∥₁_elim, ∥∥₁_prop}
+use Rattle.sat_base.specs.device.Device.{Writer}
+use Rattle.sat_base.specs.steps.Steps.{Step, End}
+use Rattle.sat_solver.specs.declared.error.SolverError.{SolverError}
+use Rattle.sat_solver.specs.declared.proof.format.ProofFormat.TheVariants.{Varisat}
+use Rattle.sat_solver.specs.proof.Checked.{has_begun}
+use Rattle.sat_solver.specs.proof.Fronts.{FrontText, Follows}
+use Rattle.sat_solver.specs.session.Making.{Took, Broke}
+use Rattle.sat_solver.specs.proof.OutputView.{text_in}
+use Rattle.sat_solver.specs.proof.ProofTexts.{IsCertificate}
+use Rattle.sat_solver.specs.proof.ProofView.{Target, TakesAll, target_of}
+use Rattle.sat_solver.specs.solver.Fronts.{Went, HandsFront}
+use Rattle.sat_solver.specs.solver.Proving.{ClosesProof}
+use Rattle.sat_solver.specs.solver.Whole.{steps_in}
+use Rattle.sat_solver.proofs.lemmas.session.FrontLemmas.{went_added, went_failed, went_more}
+use Rattle.sat_solver.proofs.lemmas.solver.FrontLemmas.{calls_go_on}
+use Rattle.certify.specs.run.Unfinished.{StepsFront}
+use Rattle.certify.specs.run.SolverCalls.{proof_in}
+use Rattle.certify.specs.run.Ending.{GivesFront}
+use Rattle.certify.specs.run.Quiet.{Solver}
+
+-- FRONTS
+
+front_of : (from given : Writer) (made : List Step) → FrontText Varisat from given made → StepsFront from given
+front_of from given made h = record {
+  made = made;
+  steps = h.written;
+  counting = h.counting;
+  cuts = h.cuts;
+  accepted = h.accepts;
+  bytes = h.front;
+  behind = h.behind;
+  whole = h.whole;
+  took = record { taken = h.taken; told = h.told };
+}
+
+-- all of the text is a front of it
+whole_of : (from given : Writer) (now : List Step) → IsCertificate Varisat from given [] now → StepsFront from given
+whole_of from given now h = record {
+  made = h.since.steps;
+  steps = h.since.took.written;
+  counting = h.since.took.counting;
+  cuts = h.since.took.cuts;
+  accepted = h.accepted;
+  bytes = text_in Varisat h.since.took.written;
+  behind = [];
+  whole = sym (append-nil (text_in Varisat h.since.took.written));
+  took = record { taken = h.since.took.takes.taken; told = h.since.took.takes.told };
+}
+
+module _ {C : Type 0} (seen : C → Writer) where
+  -- WHERE A SOLVER WENT
+
+  pub went_took : (a b : Solver C) → Took seen (proof_in a) (proof_in b) → Went seen a b
+  went_took a b t = went_added seen t.0 (proof_in a) (proof_in b) t.1
+
+  pub went_broke : (a b : Solver C) → Broke seen (proof_in a) (proof_in b) → Went seen a b
+  went_broke a b t = went_failed seen t.0 (proof_in a) (proof_in b) t.1
+
+  -- WHAT IS GIVEN BACK
+
+  -- as it is
+  pub front_handed : (s : Solver C) (handed : Option C) (given : C) → handed ≡ Some given → HandsFront seen handed s → GivesFront seen s given
+  front_handed s handed given is h = record {
+    front = λ opened from open_then none went.
+        ∥∥₁_elim (h opened Varisat from given is open_then (ap has_begun none) went) ∥∥₁_prop (λ k. ∣ front_of from (seen given) k.steps k.front ∣₁);
+  }
+
+  -- behind a call that failed to end it
+  pub front_behind : (s new : Solver C) (given : C) (e : SolverError) → ClosesProof seen (Err e) s new → GivesFront seen new given → GivesFront seen s given
+  front_behind s new given e h g = record {
+    front = λ opened from open_then none went.
+        g.front opened from open_then none (went_more seen (proof_in opened) (proof_in s) (proof_in new) went ((calls_go_on seen s new).closing_fails e h));
+  }
+
+  -- at the end
+  pub front_closed : (s new : Solver C) (given : C) → ClosesProof seen (Ok (Some given)) s new → GivesFront seen s given
+  front_closed s new given h = record {
+    front = λ opened from open_then none went.
+        let now = target_of seen (proof_in s) in
+        let follows = subst (λ (t : Target). Follows t went.steps now) open_then went.target in
+        elim follows [
+          | inl k ↦ ∣ whole_of from (seen given) (steps_in new) (h.certificate Varisat from [] refl (record { steps = went.steps; behind = went.history ∙ ap (λ (xs : List Step). went.steps ++ xs) none; target = k })) ∣₁
+          | inr k ↦ absurd (subst (λ (t : Target). TakesAll t (End ∷ []) (seen given)) k.3.1 h.closes.takes)
+        ];
+  }

@@ -1,0 +1,56 @@
+-- Whether unsat is recorded where a solver stands.
+use Rattle.std.proofs.Common.{◌≡◌, ◌∙◌, true, false, List, refl, sym, subst}
+use Rattle.std.proofs.lemmas.Bool.{both_ways}
+use Rattle.sat_base.specs.steps.Steps.{Step}
+use Rattle.sat_checker.specs.matching.ProofChecking.{the_checking}
+use Rattle.sat_checker.proofs.lemmas.meaning.Answers.{unsat_means_none}
+use Rattle.sat_solver.specs.session.Session.{MayAll, session_after}
+use Rattle.sat_solver.specs.declared.state.State.{State}
+use Rattle.sat_solver.specs.declared.state.State.TheVariants as states
+use Rattle.sat_solver.specs.solver.Whole.{IsWhole, StateSays, steps_in, session_in}
+use Rattle.sat_solver.proofs.lemmas.session.StepLemmas.{sessions_are_accepted}
+use Rattle.certify.specs.run.Certifies.{IsRecorded}
+use Rattle.certify.specs.run.Quiet.{Solver}
+
+unsat_as : (steps : List Step) → MayAll steps → the_checking.unsat steps ≡ (session_after steps).unsat
+unsat_as steps may = (sessions_are_accepted steps may).1.unsat
+
+pub recorded_at : (steps : List Step) → MayAll steps → the_checking.unsat steps ≡ true → IsRecorded the_checking steps
+recorded_at steps may u = record { recorded = u; none = λ a h. unsat_means_none steps a (sessions_are_accepted steps may).0 u h }
+
+module _ {C : Type 0} (s : Solver C) (whole : IsWhole s) where
+  -- it is where the clauses alone are known to be unsatisfiable
+  pub known_unsat : s.state ≡ states.Unsat → the_checking.unsat (steps_in s) ≡ true
+  known_unsat e = unsat_as (steps_in s) whole.stands.may ∙ subst (λ st. StateSays st s.core s.names s.asked s.assumed.items s.told.failed_core.items) e whole.says
+
+  going_by : (st : State) → (st ≡ states.Unsat → ⊥) → StateSays st s.core s.names s.asked s.assumed.items s.told.failed_core.items → (session_in s).unsat ≡ false
+  going_by states.Unknown n h = h.joined.sound.search.stands.fits.consistent
+  going_by states.Sat n h = h.0.joined.sound.search.stands.fits.consistent
+  going_by states.UnsatUnderAssumptions n h = h.0.joined.sound.search.stands.fits.consistent
+  going_by states.Unsat n h = absurd (n refl)
+
+  -- and nowhere else
+  pub going_on : (s.state ≡ states.Unsat → ⊥) → the_checking.unsat (steps_in s) ≡ false
+  going_on n = unsat_as (steps_in s) whole.stands.may ∙ going_by s.state n whole.says
+
+  -- so where it is recorded, they are known to be
+  pub unsat_known : the_checking.unsat (steps_in s) ≡ true → s.state ≡ states.Unsat
+  unsat_known u = at s.state refl
+    where
+      at : (st : State) → s.state ≡ st → s.state ≡ states.Unsat
+      at states.Unsat e = e
+      at states.Unknown e = absurd (both_ways (the_checking.unsat (steps_in s)) (going_on (λ f. apart (sym e ∙ f))) u)
+        where
+          apart : states.Unknown ≡ states.Unsat → ⊥
+          apart x = cc
+      at states.Sat e = absurd (both_ways (the_checking.unsat (steps_in s)) (going_on (λ f. apart (sym e ∙ f))) u)
+        where
+          apart : states.Sat ≡ states.Unsat → ⊥
+          apart x = cc
+      at states.UnsatUnderAssumptions e = absurd (both_ways (the_checking.unsat (steps_in s)) (going_on (λ f. apart (sym e ∙ f))) u)
+        where
+          apart : states.UnsatUnderAssumptions ≡ states.Unsat → ⊥
+          apart x = cc
+
+  pub recorded : s.state ≡ states.Unsat → IsRecorded the_checking (steps_in s)
+  recorded e = recorded_at (steps_in s) whole.stands.may (known_unsat e)

@@ -1,0 +1,403 @@
+-- How a script is served that is read as its commands are wanted.
+use Rattle.std.proofs.Common.{ℕ, ◌+◌, ◌≡◌, ◌∙◌, true, false, Option, Some, None, List, [], ◌∷◌, ◌++◌, map, length, length-append, Result, Ok, Err, OnOk, IfOk, refl, sym, ap, subst, arith, append_assoc, append-nil}
+use Rattle.std.proofs.lemmas.List.{map-append}
+use Rattle.sat_base.specs.declared.device.whole.ReadError.{ReadError}
+use Rattle.sat_base.specs.declared.device.whole.ReadError.TheVariants as errors
+use Rattle.sat_base.specs.device.Device.{Writer, Takes}
+use Rattle.sat_base.specs.device.Reading.{Source, AtEnd}
+use Rattle.sat_base.specs.script.Script.{Command, Ask, Ending, Clean, Malformed}
+use Rattle.sat_base.specs.script.Language.{Reading, onto_commands}
+use Rattle.sat_base.specs.script.Judge.{Judge, accepted, accepted_of, after_command}
+use Rattle.sat_base.specs.steps.Steps.{Step}
+use Rattle.sat_base.proofs.lemmas.device.Writes as writes
+use Rattle.sat_checker.specs.matching.Expected.{Outcome}
+use Rattle.sat_solver.specs.session.Making.{Took, Broke}
+use Rattle.sat_solver.specs.solver.Whole.{HasFullStore, steps_in}
+use Rattle.certify.specs.Devices.{NoneFailed, OneFailed}
+use Rattle.certify.specs.answers.Answers.{answers_from, ending_text, malformed_line}
+use Rattle.certify.specs.confirm.Streams.{Covers, rest_in}
+use Rattle.certify.specs.declared.fault.RunFault.{RunFault}
+use Rattle.certify.specs.declared.fault.RunFault.TheVariants as fault
+use Rattle.certify.specs.declared.script.ScriptEnd.{ScriptEnd}
+use Rattle.certify.specs.declared.script.ScriptEnd.TheVariants as ends
+use Rattle.certify.specs.declared.script.reader.ScriptReader.{ScriptReader}
+use Rattle.certify.specs.declared.script.stream.Next.TheVariants as next
+use Rattle.certify.specs.declared.run.session.Session.{Session}
+use Rattle.certify.specs.declared.summary.AskReport.{AskReport}
+use Rattle.certify.specs.script.Ahead.{Passed, TakesSome as TookOf}
+use Rattle.certify.specs.script.Commands.{HasWhole, Means, MeansIf, ReachesCommand, end_reading, end_if}
+use Rattle.certify.specs.script.Streaming.{Arrives, NextComes}
+use Rattle.certify.specs.run.FinishedRun.{malformed_at, answer_kind, asked_steps}
+use Rattle.certify.specs.run.Unfinished.{Exceeds, TookFront}
+use Rattle.certify.specs.run.SolverCalls.{FaultSays, IsCaused, IsReady, proof_in}
+use Rattle.certify.specs.run.Serving.{RunPlace, Serves}
+use Rattle.certify.specs.run.Standing.{CarriedOut, CausedOver, RunGoesOn, JudgeIsAt, ServedNext, StopsCarrying, StopsOver, WritesBoth, last_place, place_in}
+use Rattle.certify.specs.run.Stretches.{MadeFor, made_none}
+use Rattle.certify.specs.run.ServedScript.{ServesScript, FailsWhole, ServesThrough, ServedAll, ServesTo, ServesWhole, run_fault}
+use Rattle.certify.proofs.lemmas.confirm.Streams.{all_over, covers_fault, nothing_behind, taken_front}
+use Rattle.certify.proofs.lemmas.confirm.Joining.{covers_took, failed_then, took_none as took_nothing, took_open, took_passed, took_then}
+use Rattle.certify.proofs.lemmas.run.CallFaults.{caused_map}
+use Rattle.certify.proofs.lemmas.run.Caused.{after_both, caused_all, exceeds_later}
+use Rattle.certify.proofs.lemmas.run.Served.{serves_none, serves_then}
+use Rattle.certify.proofs.lemmas.run.SessionCalls.{took_none, took_both, broke_later}
+use Rattle.certify.proofs.lemmas.run.Stopping.{front_later, front_none}
+use Rattle.certify.specs.run.Quiet.{Solver}
+
+-- PLACES
+
+pub to_end : (budget : ℕ) (a : RunPlace) (ending : Ending) → ServesTo budget a ([], ending) a.steps (ending_text a.number ending) [] 0
+to_end budget a ending = record {
+  outcomes = [];
+  right = tt;
+  says = refl;
+  refuses = refl;
+  kinds = refl;
+  spent = tt;
+  follows = made_none;
+}
+
+pub to_then : (budget : ℕ) (a b : RunPlace) (cs : List Command) (script : Reading) (to : List Step) (s t : List ℕ) (rs qs : List AskReport) (k l : ℕ)
+    → Serves budget a b cs s rs k → ServesTo budget b script to t qs l → ServesTo budget a (onto_commands cs script) to (s ++ t) (rs ++ qs) (k + l)
+to_then budget a b cs script to s t rs qs k l f g = record {
+  outcomes = f.outcomes ++ g.outcomes;
+  right = f.right script.0 g.outcomes g.right;
+  says = f.says script.0 script.1 g.outcomes ∙ ap (λ u. s ++ u) g.says;
+  refuses = f.refuses script.0 ∙ ap (λ (n : ℕ). k + n) g.refuses;
+  kinds = map-append (λ (r : AskReport). r.answer) rs qs ∙ ap (λ ks. ks ++ map (λ (r : AskReport). r.answer) qs) f.kinds ∙ ap (λ ks. map answer_kind f.outcomes ++ ks) g.kinds ∙ sym (map-append answer_kind f.outcomes g.outcomes);
+  spent = f.spent script.0 qs g.spent;
+  follows =
+      subst (λ ns. MadeFor a.judge a.steps to (accepted_of a.judge (cs ++ script.0)) (f.outcomes ++ g.outcomes) ns) (sym (map-append (λ (r : AskReport). r.steps) rs qs))
+      (f.follows to script.0 g.outcomes (asked_steps qs) g.follows);
+}
+
+-- SESSIONS
+
+module _ {C : Type 0} (seen : C → Writer) where
+  pub served_none : (j : Judge) (s : Session C) (w : Writer) → JudgeIsAt s j → ServedAll seen j [] s s w w
+  served_none j s w at = record {
+    judge = j;
+    at = at;
+    judges = refl;
+    took = took_none seen (proof_in s.solver);
+    counted = omega arith;
+    budget = refl;
+    text = [];
+    told = writes.took_none w;
+    reports = [];
+    asks = sym (append-nil s.asks.items);
+    refused = 0;
+    refusals = omega arith;
+    serves = serves_none s.budget (place_in s j);
+  }
+
+  -- one more
+  pub served_more : (j : Judge) (cs : List Command) (c : Command) (a b d : Session C) (u v w : Writer) → ServedAll seen j cs a b u v → ServedNext seen b d c v w → ServedAll seen j (cs ++ c ∷ []) a d u w
+  served_more j cs c a b d u v w f g =
+      let h = g.serves f.judge f.at in
+      let l = length-append cs (c ∷ []) in
+      let m = f.counted in let n = g.commands in
+      let p = f.refusals in let q = g.refusals in
+      record {
+        judge = after_command c f.judge;
+        at = h.0;
+        judges = ap (after_command c) f.judges ∙ sym (after_both cs (c ∷ []) j);
+        took = took_both seen (proof_in a.solver) (proof_in b.solver) (proof_in d.solver) f.took g.took;
+        counted = omega arith;
+        budget = g.budget ∙ f.budget;
+        text = f.text ++ g.text;
+        told = writes.took_more u v w f.text g.text f.told g.told;
+        reports = f.reports ++ g.reports;
+        asks = g.asks ∙ ap (λ rs. rs ++ g.reports) f.asks ∙ append_assoc a.asks.items f.reports g.reports;
+        refused = f.refused + g.refused;
+        refusals = omega arith;
+        serves = serves_then a.budget (place_in a j) (place_in b f.judge) (place_in d (after_command c f.judge)) cs (c ∷ []) f.text g.text f.reports g.reports f.refused g.refused f.serves
+            (subst (λ n. Serves n (place_in b f.judge) (place_in d (after_command c f.judge)) (c ∷ []) g.text g.reports g.refused) f.budget h.1);
+      }
+
+  -- and the end
+  pub served_whole : (j : Judge) (cs : List Command) (script : Reading) (k : ℕ) (at : Option ℕ) (a b d : Session C) (u v w : Writer) → (f : ServedAll seen j cs a b u v) → ServesWhole seen f.judge script k at b d v w → ServesWhole seen j (onto_commands cs script) (length cs + k) at a d u w
+  served_whole j cs script k at a b d u v w f g =
+      let m = f.counted in let n = g.counted in
+      let p = f.refusals in let q = g.refusals in
+      let l = length-append cs script.0 in
+      let e : b.commands + length script.0 + 1 ≡ a.commands + length (cs ++ script.0) + 1 = omega arith in
+      record {
+        took = took_both seen (proof_in a.solver) (proof_in b.solver) (proof_in d.solver) f.took g.took;
+        counted = omega arith;
+        ends = g.ends ∙ ap (λ (i : ℕ). malformed_at i script.1) e;
+        text = f.text ++ g.text;
+        told = writes.took_more u v w f.text g.text f.told g.told;
+        reports = f.reports ++ g.reports;
+        asks = g.asks ∙ ap (λ rs. rs ++ g.reports) f.asks ∙ append_assoc a.asks.items f.reports g.reports;
+        refused = f.refused + g.refused;
+        refusals = omega arith;
+        serves = to_then a.budget (place_in a j) (place_in b f.judge) cs script (steps_in d.solver) f.text g.text f.reports g.reports f.refused g.refused f.serves
+            (subst (λ n. ServesTo n (place_in b f.judge) script (steps_in d.solver) g.text g.reports g.refused) f.budget g.serves);
+      }
+
+  -- one command is the last
+  pub served_last : (j : Judge) (c : Command) (script : Reading) (at : Option ℕ) (a b d : Session C) (u v w : Writer) → JudgeIsAt a j → ServedNext seen a b c u v → ((i : Judge) → JudgeIsAt b i → ServesWhole seen i script 0 at b d v w) → ServesWhole seen j (onto_commands (c ∷ []) script) 1 at a d u w
+  served_last j c script at a b d u v w is f g =
+      let h : ServedAll seen j (c ∷ []) a b u v = served_more j [] c a a b u u v (served_none j a u is) f in
+      served_whole j (c ∷ []) script 0 at a b d u v w h (g h.judge h.at)
+
+  pub served_last_if : (j : Judge) (c : Command) (script : Reading) (r : Result (Option ℕ) RunFault) (a b d : Session C) (u v w : Writer) → JudgeIsAt a j → ServedNext seen a b c u v → ((i : Judge) → JudgeIsAt b i → IfOk r (λ at. ServesWhole seen i script 0 at b d v w)) → IfOk r (λ at. ServesWhole seen j (onto_commands (c ∷ []) script) 1 at a d u w)
+  served_last_if j c script (Ok at) a b d u v w is f g = served_last j c script at a b d u v w is f g
+  served_last_if j c script (Err e) a b d u v w is f g = tt
+
+  -- THE END
+
+  -- nothing more is told
+  pub ends_clean : (j : Judge) (s : Session C) (w : Writer) → ServesWhole seen j ([], Clean) 0 None s s w w
+  ends_clean j s w = record {
+    took = took_none seen (proof_in s.solver);
+    counted = omega arith;
+    ends = refl;
+    text = [];
+    told = writes.took_none w;
+    reports = [];
+    asks = sym (append-nil s.asks.items);
+    refused = 0;
+    refusals = omega arith;
+    serves = to_end s.budget (place_in s j) Clean;
+  }
+
+  -- its last line
+  pub ends_malformed : (j : Judge) (a b : Session C) (u v : Writer) (number : ℕ) → number ≡ a.commands + 1 → b.solver ≡ a.solver → b.commands ≡ a.commands → b.refused ≡ a.refused → b.asks ≡ a.asks → Takes u v (malformed_line number) → ServesWhole seen j ([], Malformed) 0 (Some number) a b u v
+  ends_malformed j a b u v number e solver commands refused asks told = record {
+    took = subst (λ x. Took seen (proof_in a.solver) (proof_in x)) (sym solver) (took_none seen (proof_in a.solver));
+    counted = omega (arith, commands);
+    ends = ap Some (let x : number ≡ a.commands + 0 + 1 = omega (arith, e) in x);
+    text = malformed_line (a.commands + 1);
+    told = subst (λ n. Takes u v (malformed_line n)) e told;
+    reports = [];
+    asks = ap (λ (rs : _). rs.items) asks ∙ sym (append-nil a.asks.items);
+    refused = 0;
+    refusals = omega (arith, refused);
+    serves = subst (λ x. ServesTo a.budget (place_in a j) ([], Malformed) (steps_in x) (malformed_line (a.commands + 1)) [] 0) (sym solver) (to_end a.budget (place_in a j) Malformed);
+  }
+
+  -- the ask behind a header, which has no number
+  unnumbered : (j : Judge) (k l : ℕ) (os : List Outcome) → answers_from k j (Ask [] ∷ []) Clean os ≡ answers_from l j (Ask [] ∷ []) Clean os
+  unnumbered j k l [] = refl
+  unnumbered j k l (o ∷ os) = refl
+
+  pub asked_stops : {T : Type 0} (r : Result T RunFault) (a : Session C) (u v : Writer) → StopsCarrying r a (Ask []) ([], Clean) u v → StopsOver r a (Ask [] ∷ [], Clean) u v
+  asked_stops (Ok x) a u v h = tt
+  asked_stops (Err e) a u v h = λ j at.
+      let k = h j at.live at.means refl in
+      let f = k.front in
+      record {
+        bytes = k.bytes;
+        took = k.took;
+        front = record { outcomes = f.outcomes; right = f.right; behind = f.behind; whole = unnumbered j (a.commands + 1) a.commands f.outcomes ∙ f.whole };
+      }
+
+  pub ends_asked : (j : Judge) (a b : Session C) (u v : Writer) → JudgeIsAt a j → CarriedOut seen a b (Ask []) u v → ServesWhole seen j (Ask [] ∷ [], Clean) 0 None a b u v
+  ends_asked j a b u v at h =
+      let k = h.serves j at.live at.means refl in
+      let place = place_in b (accepted (Ask []) j) in
+      let s : ServesTo a.budget (last_place a j) (Ask [] ∷ [], Clean) (steps_in b.solver) (h.text ++ []) (h.reports ++ []) 0 = to_then a.budget (last_place a j) place (Ask [] ∷ []) ([], Clean) (steps_in b.solver) h.text [] h.reports [] 0 0 k.2 (to_end a.budget place Clean) in
+      let c = h.commands in let r = h.refused in
+      let t : ServesTo a.budget (last_place a j) (Ask [] ∷ [], Clean) (steps_in b.solver) h.text h.reports 0 =
+      subst (λ rs. ServesTo a.budget (last_place a j) (Ask [] ∷ [], Clean) (steps_in b.solver) h.text rs 0) (append-nil h.reports)
+      (subst (λ t. ServesTo a.budget (last_place a j) (Ask [] ∷ [], Clean) (steps_in b.solver) t (h.reports ++ []) 0) (append-nil h.text) s) in
+      record {
+        took = h.took;
+        counted = omega arith;
+        ends = refl;
+        text = h.text;
+        told = h.told;
+        reports = h.reports;
+        asks = h.asks;
+        refused = 0;
+        refusals = omega arith;
+        serves = record {
+          outcomes = t.outcomes;
+          right = t.right;
+          says = unnumbered j (a.commands + 1) a.commands t.outcomes ∙ t.says;
+          refuses = t.refuses;
+          kinds = t.kinds;
+          spent = t.spent;
+          follows = t.follows;
+        };
+      }
+
+  -- FAULTS
+
+  -- behind one command that was served
+  pub stops_behind : {T : Type 0} (r : Result T RunFault) (c : Command) (script : Reading) (a b : Session C) (u v w : Writer) → ServedNext seen a b c u v → StopsOver r b script v w → StopsOver r a (onto_commands (c ∷ []) script) u w
+  stops_behind (Ok x) c script a b u v w f g = tt
+  stops_behind (Err e) c script a b u v w f g = λ j at.
+      let h = f.serves j at in
+      front_later a.budget (place_in a j) (place_in b (after_command c j)) (c ∷ []) script f.text f.reports f.refused u v w h.1 f.told (g (after_command c j) h.0)
+
+  -- what a part behind others says of its devices
+  pub fails_then : (e : RunFault) (a b : Source) (p q r : Solver C) (u v w : Writer) → Passed a b → NoneFailed u v → Took seen (proof_in p) (proof_in q)
+      → FaultSays e (OneFailed v w × Took seen (proof_in q) (proof_in r)) (NoneFailed v w × Broke seen (proof_in q) (proof_in r)) (NoneFailed v w × Took seen (proof_in q) (proof_in r)) → FailsWhole seen e a b p r u w
+  fails_then fault.ScriptRead a b p q r u v w k n t h = absurd h
+  fails_then fault.AnswersWrite a b p q r u v w k n t h = (k, one_later u v w n h.0, took_both seen (proof_in p) (proof_in q) (proof_in r) t h.1)
+    where
+      one_later : (u v w : Writer) → NoneFailed u v → OneFailed v w → OneFailed u w
+      one_later u v w n h = (omega (arith, n.0, h.0), h.1, h.2 ∙ n.1)
+  fails_then fault.CertificateWrite a b p q r u v w k n t h = (k, (h.0.0 ∙ n.0, h.0.1 ∙ n.1), broke_later seen (proof_in p) (proof_in q) (proof_in r) t h.1)
+  fails_then fault.OutOfMemory a b p q r u v w k n t h = (k, (h.0.0 ∙ n.0, h.0.1 ∙ n.1), took_both seen (proof_in p) (proof_in q) (proof_in r) t h.1)
+  fails_then fault.StoreFull a b p q r u v w k n t h = (k, (h.0.0 ∙ n.0, h.0.1 ∙ n.1), took_both seen (proof_in p) (proof_in q) (proof_in r) t h.1)
+  fails_then fault.CounterEnd a b p q r u v w k n t h = (k, (h.0.0 ∙ n.0, h.0.1 ∙ n.1), took_both seen (proof_in p) (proof_in q) (proof_in r) t h.1)
+
+  -- one behind another
+  pub both_then : {B : Type 0} (r : Result B RunFault) (p q s : Solver C) (u v w : Writer) → NoneFailed u v × Took seen (proof_in p) (proof_in q) → WritesBoth r seen v w q s → WritesBoth r seen u w p s
+  both_then (Ok y) p q s u v w f g = ((g.0.0 ∙ f.0.0, g.0.1 ∙ f.0.1), took_both seen (proof_in p) (proof_in q) (proof_in s) f.1 g.1)
+  both_then (Err fault.ScriptRead) p q s u v w f g = absurd g
+  both_then (Err fault.AnswersWrite) p q s u v w f g = ((let n = f.0.0 in let m = g.0.0 in omega arith, g.0.1, g.0.2 ∙ f.0.1), took_both seen (proof_in p) (proof_in q) (proof_in s) f.1 g.1)
+  both_then (Err fault.CertificateWrite) p q s u v w f g = ((g.0.0 ∙ f.0.0, g.0.1 ∙ f.0.1), broke_later seen (proof_in p) (proof_in q) (proof_in s) f.1 g.1)
+  both_then (Err fault.OutOfMemory) p q s u v w f g = ((g.0.0 ∙ f.0.0, g.0.1 ∙ f.0.1), took_both seen (proof_in p) (proof_in q) (proof_in s) f.1 g.1)
+  both_then (Err fault.StoreFull) p q s u v w f g = ((g.0.0 ∙ f.0.0, g.0.1 ∙ f.0.1), took_both seen (proof_in p) (proof_in q) (proof_in s) f.1 g.1)
+  both_then (Err fault.CounterEnd) p q s u v w f g = ((g.0.0 ∙ f.0.0, g.0.1 ∙ f.0.1), took_both seen (proof_in p) (proof_in q) (proof_in s) f.1 g.1)
+
+-- READING ON
+
+pub through_none : {C : Type 0} (seen : C → Writer) (j : Judge) (text counted : List ℕ → Reading) (a : Source) (reader : ScriptReader) (s : Session C) (w : Writer) → Means reader text → MeansIf false reader counted → RunGoesOn s → JudgeIsAt s j
+    → ServesThrough seen j text counted a a reader s s w w
+through_none seen j text counted a reader s w m n g at = record {
+  commands = [];
+  left = text;
+  means = m;
+  plain = counted;
+  counts = n;
+  took = took_nothing a;
+  reads = λ total k. refl;
+  holds = λ total k. omega arith;
+  goes_on = g;
+  served = served_none seen j s w at;
+}
+
+module _ {C : Type 0} (seen : C → Writer) (j : Judge) (text counted : List ℕ → Reading) (a b : Source) (reader after_reader : ScriptReader) (old mid : Session C) (u v : Writer) (through : ServesThrough seen j text counted a b reader old mid u v) (script_open : AtEnd a → ⊥) where
+  mid_open : AtEnd b → ⊥
+  mid_open = took_open a b script_open through.took
+
+  none_failed : NoneFailed u v
+  none_failed = (through.served.told.failures, through.served.told.loans)
+
+  -- a front of right answers behind those to the commands that were served
+  behind : (c : Source) (script : List ℕ → Reading) (w : Writer) → ((total : List ℕ) → Covers c total → Covers b total) → ((total : List ℕ) → Covers c total → through.left (rest_in total b) ≡ script total)
+      → ((total : List ℕ) → Covers c total → TookFront (mid.commands + 1) through.served.judge (script total) v w) → (total : List ℕ) → Covers c total → TookFront (old.commands + 1) j (text (rest_in total a)) u w
+  behind c script w back is front total k =
+      let f = through.served in
+      subst (λ s. TookFront (old.commands + 1) j s u w) (sym (through.reads total (back total k) ∙ ap (onto_commands through.commands) (is total k)))
+      (front_later old.budget (place_in old j) (place_in mid f.judge) through.commands (script total) f.text f.reports f.refused u v w f.serves f.told (front total k))
+
+  served_so_far : (c : Source) → ((total : List ℕ) → Covers c total → Covers b total) → (total : List ℕ) → Covers c total → TookFront (old.commands + 1) j (text (rest_in total a)) u v
+  served_so_far c back = behind c (λ total. through.left (rest_in total b)) v back (λ total k. refl) (λ total k. front_none (mid.commands + 1) through.served.judge (through.left (rest_in total b)) v)
+
+  -- why no more was served, but for devices and memory
+  caused : (e : RunFault) (c : Source) (new : Session C) (script : List ℕ → Reading) → ((total : List ℕ) → Covers c total → Covers b total) → ((total : List ℕ) → Covers c total → through.left (rest_in total b) ≡ script total)
+      → IsCaused e (HasFullStore new.solver) ((total : List ℕ) (i : Judge) → JudgeIsAt mid i → Exceeds mid.commands i (script total)) → IsCaused e (HasFullStore new.solver) ((total : List ℕ) → Covers c total → Exceeds old.commands j (text (rest_in total a)))
+  caused e c new script back is h =
+      let f = through.served in
+      caused_map e (HasFullStore new.solver) ((total : List ℕ) (i : Judge) → JudgeIsAt mid i → Exceeds mid.commands i (script total)) (HasFullStore new.solver) ((total : List ℕ) → Covers c total → Exceeds old.commands j (text (rest_in total a))) (λ x. x)
+      (λ k total y. subst (λ s. Exceeds old.commands j s) (sym (through.reads total (back total y) ∙ ap (onto_commands through.commands) (is total y)))
+      (exceeds_later old.commands mid.commands through.commands (script total) j f.counted (subst (λ i. Exceeds mid.commands i (script total)) f.judges (k total f.judge f.at)))) h
+
+  -- the script can't be read any more
+  pub unread : (e : ReadError) (c : Source) → NextComes (Err e) b c reader after_reader → ServesScript seen j text counted (Err (run_fault e)) a c old mid u v
+  unread errors.Failed c f = ((failed_then a b c through.took f, none_failed, through.served.took), served_so_far c (λ total k. covers_fault b c f.0 total mid_open f.1 k), tt)
+  unread errors.OutOfMemory c f = ((took_passed true a c (took_then true a b c through.took f), none_failed, through.served.took), served_so_far c (λ total k. covers_took true b c total mid_open f k), tt)
+
+  -- the end
+  module _ (c : Source) (new : Session C) (w : Writer) (took : TookOf false b c) (left plain : Reading) (is : (total : List ℕ) → Covers c total → through.left (rest_in total b) ≡ left) (is_plain : (total : List ℕ) → Covers c total → through.plain (rest_in total b) ≡ plain) where
+    whole : (r : Result (Option ℕ) RunFault) → OnOk r (IsReady new.solver) → IfOk r (λ at. ServesWhole seen through.served.judge left (length plain.0) at mid new v w) → WritesBoth r seen v w mid.solver new.solver → StopsOver r mid left v w → CausedOver r mid new left → ServesScript seen j text counted r a c old new u w
+    whole (Ok at) ready serves both front cause = (
+      took_then false a b c through.took took,
+      ready,
+      λ total k.
+          let before = covers_took false b c total mid_open took k in
+          let script : text (rest_in total a) ≡ onto_commands through.commands left = through.reads total before ∙ ap (onto_commands through.commands) (is total k) in
+          let count : length (counted (rest_in total a)).0 ≡ length through.commands + length plain.0 = through.holds total before ∙ ap (λ (z : Reading). length through.commands + length z.0) (is_plain total k) in
+          subst (λ (z : Reading). ServesWhole seen j z (length (counted (rest_in total a)).0) at old new u w) (sym script)
+          (subst (λ (n : ℕ). ServesWhole seen j (onto_commands through.commands left) n at old new u w) (sym count) (served_whole seen j through.commands left (length plain.0) at old mid new u v w through.served serves)),
+    )
+    whole (Err e) ready serves both front cause = (
+      fails_then seen e a c old.solver mid.solver new.solver u v w (took_passed false a c (took_then false a b c through.took took)) none_failed through.served.took both,
+      behind c (λ total. left) w (λ total k. covers_took false b c total mid_open took k) is (λ total k. front through.served.judge through.served.at),
+      caused e c new (λ total. left) (λ total k. covers_took false b c total mid_open took k) is (caused_map e (HasFullStore new.solver) ((i : Judge) → JudgeIsAt mid i → Exceeds mid.commands i left) (HasFullStore new.solver) (List ℕ → (i : Judge) → JudgeIsAt mid i → Exceeds mid.commands i left) (λ x. x) (λ k total. k) cause),
+    )
+
+  no_commands : (e : ScriptEnd) → length (end_if false e).0 ≡ 0
+  no_commands ends.Clean = refl
+  no_commands ends.Asked = refl
+  no_commands ends.Malformed = refl
+
+  pub ends_so : (c : Source) (new : Session C) (w : Writer) (e : ScriptEnd) (r : Result (Option ℕ) RunFault) → Arrives (next.End e) b c reader after_reader → OnOk r (IsReady new.solver)
+      → ((i : Judge) → JudgeIsAt mid i → IfOk r (λ at. ServesWhole seen i (end_reading e) 0 at mid new v w)) → WritesBoth r seen v w mid.solver new.solver → StopsOver r mid (end_reading e) v w → CausedOver r mid new (end_reading e) → ServesScript seen j text counted r a c old new u w
+  ends_so c new w e r came ready serves both front cause =
+      whole c new w came.0 (end_reading e) (end_if false e) (came.1 true through.left through.means) (came.1 false through.plain through.counts) r ready
+      (subst (λ (n : ℕ). IfOk r (λ at. ServesWhole seen through.served.judge (end_reading e) n at mid new v w)) (sym (no_commands e)) (serves through.served.judge through.served.at)) both front cause
+
+  pub ends_last : (c : Source) (new : Session C) (w : Writer) (e : ScriptEnd) (r : Result (Option ℕ) RunFault) → Arrives (next.Last e) b c reader after_reader → OnOk r (IsReady new.solver)
+      → ((x : Command) → HasWhole after_reader x → (i : Judge) → JudgeIsAt mid i → IfOk r (λ at. ServesWhole seen i (onto_commands (x ∷ []) (end_reading e)) 1 at mid new v w)) → WritesBoth r seen v w mid.solver new.solver
+      → ((x : Command) → HasWhole after_reader x → StopsOver r mid (onto_commands (x ∷ []) (end_reading e)) v w)
+      → ((x : Command) → HasWhole after_reader x → CausedOver r mid new (onto_commands (x ∷ []) (end_reading e))) → ServesScript seen j text counted r a c old new u w
+  ends_last c new w e r came ready serves both front cause =
+      let k = came.2 true through.left through.means in
+      let n = came.2 false through.plain through.counts in
+      let none = no_commands e in
+      let one : length (n.0 ∷ (end_if false e).0) ≡ 1 = omega arith in
+      whole c new w ((came.0, came.1.0), λ h. all_over c came.1.1) (onto_commands (k.0 ∷ []) (end_reading e)) (onto_commands (n.0 ∷ []) (end_if false e))
+      (λ total x. ap through.left (nothing_behind b c came.0 total came.1 x) ∙ k.2) (λ total x. ap through.plain (nothing_behind b c came.0 total came.1 x) ∙ n.2) r ready
+      (subst (λ (i : ℕ). IfOk r (λ at. ServesWhole seen through.served.judge (onto_commands (k.0 ∷ []) (end_reading e)) i at mid new v w)) (sym one) (serves k.0 k.1 through.served.judge through.served.at)) both (front k.0 k.1) (cause k.0 k.1)
+
+  -- a command
+  module _ (c : Source) (new : Session C) (w : Writer) (came : Arrives next.Command b c reader after_reader) where
+    reaches : ReachesCommand true through.left came.0 after_reader
+    reaches = came.3 true through.left through.means
+
+    plainly : ReachesCommand false through.plain came.0 after_reader
+    plainly = came.3 false through.plain through.counts
+
+    took : TookOf true b c
+    took = (came.0, came.1)
+
+    pub one_more : ((x : Command) → HasWhole after_reader x → ServedNext seen mid new x v w) → ServesThrough seen j text counted a c after_reader old new u w
+    one_more serves =
+        let cs = through.commands in
+        let x = reaches.command in
+        let s = serves x reaches.whole in
+        record {
+          commands = cs ++ x ∷ [];
+          left = reaches.after;
+          means = reaches.stands;
+          plain = plainly.after;
+          counts = plainly.stands;
+          took = took_then true a b c through.took took;
+          reads = λ total k.
+              let before = covers_took true b c total mid_open took k in
+              through.reads total before ∙ ap (onto_commands cs) (ap through.left (taken_front 0 b c came.0 total came.1 k) ∙ reaches.reads (rest_in total c))
+              ∙ onto-onto cs (x ∷ []) (reaches.after (rest_in total c));
+          holds = λ total k.
+              let before = covers_took true b c total mid_open took k in
+              let h = through.holds total before in
+              let e = ap (λ (z : Reading). length z.0) (ap through.plain (taken_front 0 b c came.0 total came.1 k) ∙ plainly.reads (rest_in total c)) in
+              let l = length-append cs (x ∷ []) in
+              omega arith;
+          goes_on = s.goes_on;
+          served = served_more seen j cs x old mid new u v w through.served s;
+        }
+      where
+        onto-onto : (xs ys : List Command) (r : Reading) → onto_commands xs (onto_commands ys r) ≡ onto_commands (xs ++ ys) r
+        onto-onto xs ys r = ap (λ (zs : List Command). (zs, r.1)) (sym (append_assoc xs ys r.0))
+
+    pub stops : (e : RunFault) → WritesBoth {T = Unit {0}} (Err e) seen v w mid.solver new.solver → ((x : Command) → HasWhole after_reader x → (left : Reading) → StopsOver {T = Unit {0}} (Err e) mid (onto_commands (x ∷ []) left) v w)
+        → ((x : Command) → HasWhole after_reader x → (left : Reading) → CausedOver {T = Unit {0}} (Err e) mid new (onto_commands (x ∷ []) left))
+        → ServesScript seen j text counted (Err e) a c old new u w
+    stops e both front cause = (
+      fails_then seen e a c old.solver mid.solver new.solver u v w (took_passed true a c (took_then true a b c through.took took)) none_failed through.served.took both,
+      behind c (λ total. onto_commands (reaches.command ∷ []) (reaches.after (rest_in total c))) w (λ total k. covers_took true b c total mid_open took k)
+          (λ total k. ap through.left (taken_front 0 b c came.0 total came.1 k) ∙ reaches.reads (rest_in total c))
+          (λ total k. front reaches.command reaches.whole (reaches.after (rest_in total c)) through.served.judge through.served.at),
+      caused e c new (λ total. onto_commands (reaches.command ∷ []) (reaches.after (rest_in total c))) (λ total k. covers_took true b c total mid_open took k)
+          (λ total k. ap through.left (taken_front 0 b c came.0 total came.1 k) ∙ reaches.reads (rest_in total c))
+          (caused_map e (HasFullStore new.solver) ((left : Reading) (i : Judge) → JudgeIsAt mid i → Exceeds mid.commands i (onto_commands (reaches.command ∷ []) left)) (HasFullStore new.solver)
+          ((total : List ℕ) (i : Judge) → JudgeIsAt mid i → Exceeds mid.commands i (onto_commands (reaches.command ∷ []) (reaches.after (rest_in total c)))) (λ x. x) (λ k total. k (reaches.after (rest_in total c)))
+          (caused_all e (HasFullStore new.solver) Reading (λ left. (i : Judge) → JudgeIsAt mid i → Exceeds mid.commands i (onto_commands (reaches.command ∷ []) left)) ([], Clean) (cause reaches.command reaches.whole))),
+    )

@@ -1,0 +1,218 @@
+-- What is certified by the steps that a solver made is certified by what it wrote for them.
+use Rattle.std.proofs.Common.{ℕ, ◌≡◌, ◌∙◌, Bool, true, false, eqb, Option, Some, None, List, [], ◌∷◌, ◌++◌, length, length-append, refl, sym, ap, subst, arith, append_assoc}
+use Rattle.std.proofs.lemmas.Bool.{eqb-true}
+use mathlib.Core.Path.{fun_ext}
+use Rattle.sat_base.specs.steps.Steps.{Step, SolverVarName, UserVarName, DeleteVar, ChangeSamplingMode, AddClause, AtClause, UnitClauses, DeleteClause, ChangeHashBits, Model, Assumptions, FailedAssumptions, End}
+use Rattle.sat_checker.specs.matching.Checking.{is_ordered, variable_of}
+use Rattle.sat_checker.specs.matching.Expected.{Outcome, Expected, Opens, Closes, Fits, new_name, no_name, adds, opens, shows, fails, closes, finish, EachSpelt, SameSet}
+use Rattle.sat_checker.specs.matching.ProofChecking.{the_checking}
+use Rattle.sat_solver.specs.proof.Counting.{start, counted, width_told, written_for, TruncatesHashes, none_made, ask_begun, one_made}
+use Rattle.sat_solver.specs.session.Session.{MayAll}
+use Rattle.sat_solver.specs.proof.Widths.{IsWritten, none_yet, width_changes, one_more, KeepsWidth, MayAt, narrowed}
+use Rattle.sat_solver.proofs.lemmas.session.Narrowing.{widths_are_free}
+use Rattle.sat_solver.proofs.lemmas.session.StepLemmas.{sessions_are_accepted}
+use Rattle.certify.specs.run.Certifies.{Certifies, complete, left_out, other, ordered, asked, answered, IsRecorded, MayStand}
+use Rattle.certify.proofs.lemmas.run.Recorded.{recorded_at}
+
+-- STEP BY STEP
+
+-- From these steps and what is written for them, at this width, to all steps and all that is written.
+data Narrows : List Step → List Step → ℕ → List Step → List Step → Type 0 where
+  all_narrowed : {made written : List Step} {width : ℕ} → Narrows made written width made written
+  same_width : {e w made written : List Step} {width : ℕ} (step : Step) → KeepsWidth step → Narrows (step ∷ e) (narrowed width step ∷ w) width made written → Narrows e w width made written
+  new_width : {e w made written : List Step} {width : ℕ} (bits : ℕ) (step : Step) → KeepsWidth step → Narrows (step ∷ e) (narrowed bits step ∷ ChangeHashBits bits ∷ w) bits made written → Narrows e w width made written
+
+one_narrowed : {e w made written : List Step} (before now : ℕ) (step : Step) → KeepsWidth step → (told : Bool) → eqb before now ≡ told → Narrows (step ∷ e) (written_for before now step ++ w) now made written → Narrows e w before made written
+one_narrowed {e} {w} {made} {written} before now step k true same n =
+    subst (λ b. Narrows e w b made written) (sym (eqb-true before now same)) (same_width step k (subst (λ (t : List Step). Narrows (step ∷ e) (narrowed now step ∷ (t ++ w)) now made written) (none before now same) n))
+  where
+    none : (before now : ℕ) → eqb before now ≡ true → width_told before now ≡ []
+    none before now e = rw e refl
+one_narrowed {e} {w} {made} {written} before now step k false same n =
+    new_width now step k (subst (λ (t : List Step). Narrows (step ∷ e) (narrowed now step ∷ (t ++ w)) now made written) (some before now same) n)
+  where
+    some : (before now : ℕ) → eqb before now ≡ false → width_told before now ≡ ChangeHashBits now ∷ []
+    some before now e = rw e refl
+
+narrows : {c d : _} {e w made written : List Step} → c ≡ start → TruncatesHashes c e w d → Narrows e w d.bits made written → Narrows [] [] 64 made written
+narrows {made = made} {written = written} s none_made n = subst (λ x. Narrows [] [] x.bits made written) s n
+narrows s (ask_begun p) n = narrows s p n
+narrows s (one_made {d = d} step k p) n = narrows s p (one_narrowed d.bits (counted step d).bits step k (eqb d.bits (counted step d).bits) refl n)
+
+-- THE NEXT STEP
+
+pub certified_front : {all : List Step} {current : Option Outcome} {earlier : List Step} {es : List Expected} {counts : List ℕ} → Certifies the_checking all current earlier es counts → (later : List Step) × (all ≡ later ++ earlier)
+certified_front complete = ([], refl)
+certified_front (left_out m r c) = certified_front c
+certified_front (other {earlier = earlier} {step = step} q c) = let h = certified_front c in (h.0 ++ step ∷ [], h.1 ∙ sym (append_assoc h.0 (step ∷ []) earlier))
+certified_front (ordered {earlier = earlier} {step = step} m f c) = let h = certified_front c in (h.0 ++ step ∷ [], h.1 ∙ sym (append_assoc h.0 (step ∷ []) earlier))
+certified_front (asked {earlier = earlier} {step = step} k f c) = let h = certified_front c in (h.0 ++ step ∷ [], h.1 ∙ sym (append_assoc h.0 (step ∷ []) earlier))
+certified_front (answered {earlier = earlier} {step = step} k f c) = let h = certified_front c in (h.0 ++ step ∷ [], h.1 ∙ sym (append_assoc h.0 (step ∷ []) earlier))
+
+narrowed_front : {e w made written : List Step} {width : ℕ} → Narrows e w width made written → (later : List Step) × (made ≡ later ++ e)
+narrowed_front all_narrowed = ([], refl)
+narrowed_front (same_width {e = e} step k n) = let h = narrowed_front n in (h.0 ++ step ∷ [], h.1 ∙ sym (append_assoc h.0 (step ∷ []) e))
+narrowed_front (new_width {e = e} bits step k n) = let h = narrowed_front n in (h.0 ++ step ∷ [], h.1 ∙ sym (append_assoc h.0 (step ∷ []) e))
+
+pub too_long : (xs : List Step) (s : Step) (e : List Step) → e ≡ xs ++ s ∷ e → ⊥
+too_long xs s e h = let l : length e ≡ length (xs ++ s ∷ e) = ap length h in let m = length-append xs (s ∷ e) in omega arith
+
+head_same : (s t : Step) (e f : List Step) → ◌≡◌ {A = List Step} (s ∷ e) (t ∷ f) → s ≡ t
+head_same s t e f h = cc
+
+tail_same : (s t : Step) (e f : List Step) → ◌≡◌ {A = List Step} (s ∷ e) (t ∷ f) → e ≡ f
+tail_same s t e f h = cc
+
+pub next_same : (xs ys : List Step) (s t : Step) (e : List Step) → xs ++ s ∷ e ≡ ys ++ t ∷ e → s ≡ t
+next_same [] [] s t e h = head_same s t e e h
+next_same [] (y ∷ ys) s t e h = absurd (too_long ys t e (tail_same s y e (ys ++ t ∷ e) h))
+next_same (x ∷ xs) [] s t e h = absurd (too_long xs s e (sym (tail_same x t (xs ++ s ∷ e) e h)))
+next_same (x ∷ xs) (y ∷ ys) s t e h = next_same xs ys s t e (tail_same x y (xs ++ s ∷ e) (ys ++ t ∷ e) h)
+
+-- WHAT A CHECKER SEES
+
+quiet_narrowed : (bits : ℕ) (step : Step) → is_ordered (narrowed bits step) ≡ is_ordered step
+quiet_narrowed bits (SolverVarName v s) = refl
+quiet_narrowed bits (UserVarName v n) = refl
+quiet_narrowed bits (DeleteVar v) = refl
+quiet_narrowed bits (ChangeSamplingMode v m) = refl
+quiet_narrowed bits (AddClause c) = refl
+quiet_narrowed bits (AtClause r c hs) = refl
+quiet_narrowed bits (UnitClauses us) = refl
+quiet_narrowed bits (DeleteClause c p) = refl
+quiet_narrowed bits (ChangeHashBits b) = refl
+quiet_narrowed bits (Model ls) = refl
+quiet_narrowed bits (Assumptions ls) = refl
+quiet_narrowed bits (FailedAssumptions c hs) = refl
+quiet_narrowed bits End = refl
+
+-- one step more
+variable_narrowed : (bits : ℕ) (step : Step) (w e : List Step) (name : ℕ) → variable_of w name ≡ variable_of e name → variable_of (narrowed bits step ∷ w) name ≡ variable_of (step ∷ e) name
+variable_narrowed bits (SolverVarName v s) w e name h = h
+variable_narrowed bits (UserVarName v (Some i)) w e name h = rw h refl
+variable_narrowed bits (UserVarName v None) w e name h = rw h refl
+variable_narrowed bits (DeleteVar v) w e name h = h
+variable_narrowed bits (ChangeSamplingMode v m) w e name h = h
+variable_narrowed bits (AddClause c) w e name h = h
+variable_narrowed bits (AtClause r c hs) w e name h = h
+variable_narrowed bits (UnitClauses us) w e name h = h
+variable_narrowed bits (DeleteClause c p) w e name h = h
+variable_narrowed bits (ChangeHashBits b) w e name h = h
+variable_narrowed bits (Model ls) w e name h = h
+variable_narrowed bits (Assumptions ls) w e name h = h
+variable_narrowed bits (FailedAssumptions c hs) w e name h = h
+variable_narrowed bits End w e name h = h
+
+variable_written : {e w : List Step} {width : ℕ} → IsWritten e w width → (name : ℕ) → variable_of w name ≡ variable_of e name
+variable_written none_yet name = refl
+variable_written (width_changes bits p) name = variable_written p name
+variable_written (one_more {wide = e} {written = w} {width = width} step k p) name = variable_narrowed width step w e name (variable_written p name)
+
+-- it sees the same behind what is written
+module _ (e w : List Step) (width : ℕ) (p : IsWritten e w width) (may : MayAll e) where
+  at : MayAt e w width
+  at = widths_are_free e w width p may
+
+  pub unsat_same : the_checking.unsat w ≡ the_checking.unsat e
+  unsat_same = (sessions_are_accepted w at.may).1.unsat ∙ ap (λ s. s.unsat) at.session ∙ sym (sessions_are_accepted e may).1.unsat
+
+  knows_same : the_checking.knows w ≡ the_checking.knows e
+  knows_same = fun_ext (λ v.
+      ap (λ f. (f v).known) (sessions_are_accepted w at.may).1.variables ∙ ap (λ s. (s.variables v).known) at.session ∙ sym (ap (λ f. (f v).known) (sessions_are_accepted e may).1.variables))
+
+  names_same : variable_of w ≡ variable_of e
+  names_same = fun_ext (variable_written p)
+
+  pub recorded_same : IsRecorded the_checking e → IsRecorded the_checking w
+  recorded_same r = recorded_at w at.may (unsat_same ∙ r.recorded)
+
+  pub stands_same : (x : Expected) → MayStand (the_checking.unsat e) x → MayStand (the_checking.unsat w) x
+  stands_same x = subst (λ b. MayStand b x) (sym unsat_same)
+
+  known_not : (v : ℕ) → the_checking.knows e v ≡ false → the_checking.knows w v ≡ false
+  known_not v h = ap (λ f. f v) knows_same ∙ h
+
+  set_same : (ls : _) (c : List ℕ) → SameSet (variable_of e) ls c → SameSet (variable_of w) ls c
+  set_same ls c = subst (λ f. SameSet f ls c) (sym names_same)
+
+  pub fits_same : (bits : ℕ) (x : Expected) (step : Step) → Fits (the_checking.knows e) e x step → Fits (the_checking.knows w) w x (narrowed bits step)
+  fits_same bits x step (new_name {v = v} h k) = new_name h (known_not v k)
+  fits_same bits x step (no_name {name = name} h) = no_name (ap (λ f. f name) names_same ∙ h)
+  fits_same bits x step (adds {ls = ls} {c = c} h) = adds (set_same ls c h)
+  fits_same bits x step (opens {ls = ls} {c = c} h) = opens (set_same ls c h)
+  fits_same bits x step (shows {line = line} {c = c} h k m) = shows h (subst (λ f. EachSpelt f line c) (sym names_same) k) m
+  fits_same bits x step (fails {core = core} {c = c} h) = fails (set_same core c h)
+  fits_same bits x step closes = closes
+  fits_same bits x step finish = finish
+
+-- ALL STEPS
+
+may_front : {e w made written : List Step} {width : ℕ} → Narrows e w width made written → MayAll made → MayAll e
+may_front all_narrowed m = m
+may_front (same_width step k n) m = (may_front n m).0
+may_front (new_width bits step k n) m = (may_front n m).0
+
+-- what is written next, and what is certified behind it
+record Turned (e w made written : List Step) (width : ℕ) (step : Step) : Type 0 where
+  now : ℕ
+  told : List Step
+  is_told : (es : List Expected) (x : Expected) (current : Option Outcome) (counts : List ℕ) → Certifies the_checking written current (told ++ w) (x ∷ es) counts → Certifies the_checking written current w (x ∷ es) counts
+  before : IsWritten e (told ++ w) now
+  next : Narrows (step ∷ e) (narrowed now step ∷ (told ++ w)) now made written
+  behind : IsWritten (step ∷ e) (narrowed now step ∷ (told ++ w)) now
+
+turned_to : {e w made written : List Step} {width : ℕ} (step : Step) (later : List Step) → made ≡ later ++ step ∷ e → IsWritten e w width → Narrows e w width made written → Turned e w made written width step
+turned_to {e} {w} {made} {written} {width} step later h p all_narrowed = absurd (too_long later step e h)
+turned_to {e} {w} {made} {written} {width} step later h p (same_width other_step k n) =
+    let f = narrowed_front n in
+    let same : other_step ≡ step = next_same f.0 later other_step step e (sym f.1 ∙ h) in
+    subst (λ s. Turned e w made written width s) same record {
+      now = width;
+      told = [];
+      is_told = λ es x current counts c. c;
+      before = p;
+      next = n;
+      behind = one_more other_step k p;
+    }
+turned_to {e} {w} {made} {written} {width} step later h p (new_width bits other_step k n) =
+    let f = narrowed_front n in
+    let same : other_step ≡ step = next_same f.0 later other_step step e (sym f.1 ∙ h) in
+    subst (λ s. Turned e w made written width s) same record {
+      now = bits;
+      told = ChangeHashBits bits ∷ [];
+      is_told = λ es x current counts c. other refl c;
+      before = width_changes bits p;
+      next = n;
+      behind = one_more other_step k (width_changes bits p);
+    }
+
+at_end : {e all w written : List Step} {width : ℕ} → e ≡ all → Narrows e w width all written → w ≡ written
+at_end same all_narrowed = refl
+at_end {e} same (same_width step k n) = let f = narrowed_front n in absurd (too_long f.0 step e (same ∙ f.1))
+at_end {e} same (new_width bits step k n) = let f = narrowed_front n in absurd (too_long f.0 step e (same ∙ f.1))
+
+transferred : {made written : List Step} (may : MayAll made) {current : Option Outcome} {e w : List Step} {width : ℕ} {es : List Expected} {counts : List ℕ} → IsWritten e w width → Narrows e w width made written → Certifies the_checking made current e es counts → Certifies the_checking written current w es counts
+transferred {made} {written} may p n complete = subst (λ w. Certifies the_checking written None w [] []) (sym (at_end refl n)) complete
+transferred may {e = e} {w = w} {width = width} p n (left_out m r c) = left_out m (recorded_same e w width p (may_front n may) r) (transferred may p n c)
+transferred may {current = current} {e = e} {w = w} {width = width} {counts = counts} p n (other {step = step} {e = x} {es = es} q c) =
+    let f = certified_front c in
+    let t = turned_to step f.0 f.1 p n in
+    t.is_told es x current counts (other (quiet_narrowed t.now step ∙ q) (transferred may t.behind t.next c))
+transferred may {current = current} {e = e} {w = w} {width = width} {counts = counts} p n (ordered {step = step} {e = x} {es = es} m s c) =
+    let f = certified_front c in
+    let t = turned_to step f.0 f.1 p n in
+    let may_here = may_front n may in
+    t.is_told es x current counts (ordered (stands_same e (t.told ++ w) t.now t.before may_here x m) (fits_same e (t.told ++ w) t.now t.before may_here t.now x step s) (transferred may t.behind t.next c))
+transferred may {e = e} {w = w} {width = width} p n (asked {step = step} {ask = ask} {o = o} {n = rounds} {es = es} {counts = counts} k s c) =
+    let f = certified_front c in
+    let t = turned_to step f.0 f.1 p n in
+    let may_here = may_front n may in
+    t.is_told es (Opens ask o) None (rounds ∷ counts) (asked (λ u. k (sym (unsat_same e (t.told ++ w) t.now t.before may_here) ∙ u)) (fits_same e (t.told ++ w) t.now t.before may_here t.now (Opens ask o) step s) (transferred may t.behind t.next c))
+transferred may {e = e} {w = w} {width = width} p n (answered {step = step} {o = o} {es = es} {counts = counts} k s c) =
+    let f = certified_front c in
+    let t = turned_to step f.0 f.1 p n in
+    let may_here = may_front n may in
+    t.is_told es Closes (Some o) counts (answered (λ u. k (sym (unsat_same e (t.told ++ w) t.now t.before may_here) ∙ u)) (fits_same e (t.told ++ w) t.now t.before may_here t.now Closes step s) (transferred may t.behind t.next c))
+
+pub written_certifies : (made written : List Step) (c : _) (es : List Expected) (counts : List ℕ) → TruncatesHashes start made written c → MayAll made → Certifies the_checking made None [] es counts → Certifies the_checking written None [] es counts
+written_certifies made written c es counts p may h = transferred may none_yet (narrows refl p all_narrowed) h

@@ -1,0 +1,172 @@
+-- What a reader of scripts makes of bytes.
+use Rattle.std.proofs.Common.{◌≡◌, ℕ, ◌+◌, ◌-◌, ◌≤◌, List, [], ◌∷◌, ◌++◌, Bool, true, false, length, take, drop, Some, None, is_some, refl, sym, ap, subst, ◌∙◌, append_assoc, arith, inl, inr}
+use Rattle.std.specs.Prelude.{◌&&◌}
+use Rattle.std.proofs.Math.Seq.{take-add}
+use Rattle.std.proofs.lemmas.List.{length-take, take-take}
+use Rattle.sat_base.specs.declared.text.Token.{Token as CodeToken}
+use Rattle.sat_base.specs.declared.text.Tokenizer.{Tokenizer}
+use Rattle.sat_base.specs.text.Text.{Token, Number, Letter, Header, Wrong, Scan, scan, tokens, header_first, header_from, header_of}
+use Rattle.sat_base.specs.text.Tokenizing.{TakesFront, Stands, GivesLast, held_token}
+use Rattle.sat_base.specs.text.WrongWords.{WrongAhead}
+use Rattle.sat_base.specs.text.Chunks.{Follows}
+use Rattle.sat_base.proofs.lemmas.text.HeaderFirst.{IsWord, AreWords, AreScript, text_is}
+use Rattle.sat_base.specs.script.Language.{Reading, spoken, Hand, Nothing, commands_of, with_ask, written, reading}
+use Rattle.certify.specs.script.Commands.{HoldsHand, any_header, meaning, TakesToken, Means, MeansIf, TakesBytes, EndsSo, EndsLast}
+use Rattle.certify.specs.declared.script.Reached.{Reached}
+use Rattle.certify.specs.declared.script.Reached.TheVariants as reached
+use Rattle.certify.specs.declared.script.ScriptEnd.{ScriptEnd}
+use Rattle.certify.specs.declared.script.commands.Commands.{Commands}
+use Rattle.certify.specs.declared.script.reader.ScriptReader.{ScriptReader}
+use Rattle.certify.proofs.lemmas.script.Tokens.{fails}
+
+abbrev pub reader : Tokenizer → Commands → ScriptReader
+reader tokenizer commands = record { tokenizer = tokenizer; commands = commands }
+
+pub bytes_go : (old : ScriptReader) (bytes : List ℕ) (next : Tokenizer) → TakesFront old.tokenizer bytes None next → (asks : Bool) → Follows (MeansIf asks) old bytes (reader next old.commands)
+bytes_go old bytes next t asks before m =
+    let h = t m.scan_of m.stands in (
+      λ rest. meaning asks old.commands m.hand (spoken (h.0 rest).tokens),
+      record { hand = m.hand; holds = m.holds; scan_of = h.0; stands = h.1; reads = λ rest. refl },
+      λ rest. m.reads (bytes ++ rest) ∙ ap (λ (s : Scan). meaning asks old.commands m.hand (spoken s.tokens)) (h.2 rest),
+    )
+
+pub bytes_take : (r : Reached) (old : ScriptReader) (bytes : List ℕ) (t : CodeToken) (next : Tokenizer) (new : Commands) → TakesFront old.tokenizer bytes (Some t) next
+    → ((given : Token) → t ≡ held_token given → TakesToken r old.commands given new) → TakesBytes r old bytes (reader next new)
+bytes_take reached.More old bytes t next new k r = λ asks before m.
+    let h = k m.scan_of m.stands in
+    let given = h.2.0 in
+    let n = r given h.2.1 m.hand m.holds in (
+      λ rest. meaning asks new n.0 (spoken (h.0 rest).tokens),
+      record { hand = n.0; holds = n.1; scan_of = h.0; stands = h.1; reads = λ rest. refl },
+      λ rest. m.reads (bytes ++ rest) ∙ ap (λ (s : Scan). meaning asks old.commands m.hand (spoken s.tokens)) (h.2.2 rest) ∙ n.2 asks (spoken (h.0 rest).tokens),
+    )
+bytes_take reached.Command old bytes t next new k r = λ asks before m.
+    let h = k m.scan_of m.stands in
+    let given = h.2.0 in
+    let n = r given h.2.1 m.hand m.holds in
+    record {
+      command = n.0;
+      whole = record { whole = n.1 };
+      after = λ rest. meaning asks new Nothing (spoken (h.0 rest).tokens);
+      stands = record { hand = Nothing; holds = n.2; scan_of = h.0; stands = h.1; reads = λ rest. refl };
+      reads = λ rest. m.reads (bytes ++ rest) ∙ ap (λ (s : Scan). meaning asks old.commands m.hand (spoken s.tokens)) (h.2.2 rest) ∙ n.3 asks (spoken (h.0 rest).tokens);
+    }
+bytes_take reached.Malformed old bytes t next new k r = λ asks before m rest.
+    let h = k m.scan_of m.stands in
+    m.reads (bytes ++ rest) ∙ ap (λ (s : Scan). meaning asks old.commands m.hand (spoken s.tokens)) (h.2.2 rest) ∙ r h.2.0 h.2.1 m.hand m.holds asks (spoken (h.0 rest).tokens)
+
+-- behind them a word is wrong, whatever follows
+pub bytes_wrong : (old : ScriptReader) (bytes : List ℕ) (next : Tokenizer) → TakesFront old.tokenizer bytes None next → ((after : List ℕ → Scan) → Stands next after → WrongAhead after)
+    → TakesBytes reached.Malformed old bytes (reader next old.commands)
+bytes_wrong old bytes next t w = λ asks before m rest.
+    let h = t m.scan_of m.stands in
+    let wrong = w h.0 h.1 rest in
+    m.reads (bytes ++ rest) ∙ ap (λ (s : Scan). meaning asks old.commands m.hand (spoken s.tokens)) (h.2 rest)
+    ∙ ap (λ (ts : List (ℕ × Token)). meaning asks old.commands m.hand (spoken ts)) wrong.1 ∙ fails old.commands m.hand Wrong refl asks (spoken wrong.0)
+
+-- some bytes, and then others
+pub followed : (r : Reached) (a b c : ScriptReader) (xs ys : List ℕ) → ((asks : Bool) → Follows (MeansIf asks) a xs b) → TakesBytes r b ys c → TakesBytes r a (xs ++ ys) c
+followed reached.More a b c xs ys f t = λ asks before m.
+    let h = f asks before m in
+    let k = t asks h.0 h.1 in
+    (k.0, k.1, λ rest. ap before (append_assoc xs ys rest) ∙ h.2 (ys ++ rest) ∙ k.2 rest)
+followed reached.Command a b c xs ys f t = λ asks before m.
+    let h = f asks before m in
+    let k = t asks h.0 h.1 in
+    record {
+      command = k.command;
+      whole = k.whole;
+      after = k.after;
+      stands = k.stands;
+      reads = λ rest. ap before (append_assoc xs ys rest) ∙ h.2 (ys ++ rest) ∙ k.reads rest;
+    }
+followed reached.Malformed a b c xs ys f t = λ asks before m rest.
+    let h = f asks before m in
+    ap before (append_assoc xs ys rest) ∙ h.2 (ys ++ rest) ∙ t asks h.0 h.1 rest
+
+pub goes_nowhere : (a : ScriptReader) (asks : Bool) → Follows (MeansIf asks) a [] a
+goes_nowhere a asks before m = (before, m, λ rest. refl)
+
+pub no_more : (xs : List ℕ) (n k : ℕ) → n ≤ length xs → k ≤ length (take (length xs - n) (drop n xs)) → n + k ≤ length xs
+no_more xs n k h i = let l = length-take (length xs - n) (drop n xs) in omega arith
+
+-- the first bytes, and then some of those behind them
+front_and : (n k : ℕ) (xs : List ℕ) → n ≤ length xs → k ≤ length (take (length xs - n) (drop n xs)) → take (n + k) xs ≡ take n xs ++ take k (take (length xs - n) (drop n xs))
+front_and n k xs h i = take-add n k xs ∙ ap (λ (ys : List ℕ). take n xs ++ ys) (sym (take-take k (length xs - n) (drop n xs) (let l = length-take (length xs - n) (drop n xs) in omega arith)))
+
+pub followed_front : (r : Reached) (a b c : ScriptReader) (xs : List ℕ) (n k : ℕ) → n ≤ length xs → k ≤ length (take (length xs - n) (drop n xs)) → ((asks : Bool) → Follows (MeansIf asks) a (take n xs) b)
+    → TakesBytes r b (take k (take (length xs - n) (drop n xs))) c → TakesBytes r a (take (n + k) xs) c
+followed_front r a b c xs n k h i f t =
+    subst (λ (bs : List ℕ). TakesBytes r a bs c) (sym (front_and n k xs h i)) (followed r a b c (take n xs) (take k (take (length xs - n) (drop n xs))) f t)
+
+-- THE END
+pub ends_none : (asks : Bool) (old : ScriptReader) (before : List ℕ → Reading) (r : Reading) → ((scan_of : List ℕ → Scan) → Stands old.tokenizer scan_of → GivesLast None (scan_of [])) → MeansIf asks old before
+    → ((hand : Hand) → HoldsHand old.commands.draft hand → r ≡ meaning asks old.commands hand []) → before [] ≡ r
+ends_none asks old before r k m e = m.reads [] ∙ ap (λ (ts : List (ℕ × Token)). meaning asks old.commands m.hand (spoken ts)) (k m.scan_of m.stands) ∙ sym (e m.hand m.holds)
+
+lasts : (asks completes : Bool) (e : ScriptEnd) (new : ScriptReader) (r : Reading) → EndsSo asks completes e new.commands r → EndsLast asks completes e new r
+lasts asks true e new r h = (h.0, record { whole = h.1 }, h.2)
+lasts asks false e new r h = h
+
+pub ends_some : (asks : Bool) (old new : ScriptReader) (t : CodeToken) (completes : Bool) (e : ScriptEnd) (before : List ℕ → Reading) → ((scan_of : List ℕ → Scan) → Stands old.tokenizer scan_of → GivesLast (Some t) (scan_of [])) → MeansIf asks old before
+    → ((given : Token) → t ≡ held_token given → (hand : Hand) → HoldsHand old.commands.draft hand → EndsSo asks completes e new.commands (meaning asks old.commands hand (given ∷ [])))
+    → EndsLast asks completes e new (before [])
+ends_some asks old new t completes e before k m r =
+    let h = k m.scan_of m.stands in
+    let same : before [] ≡ meaning asks old.commands m.hand (h.0 ∷ []) = m.reads [] ∙ ap (λ (ts : List (ℕ × Token)). meaning asks old.commands m.hand (spoken ts)) h.2 in
+    subst (λ (x : Reading). EndsLast asks completes e new x) (sym same) (lasts asks completes e new (meaning asks old.commands m.hand (h.0 ∷ [])) (r h.0 h.1 m.hand m.holds))
+
+-- WHOLE TEXTS
+words_none : (ts : List Token) → AreWords ts → any_header ts ≡ false
+words_none [] w = refl
+words_none (Number negative value ∷ ts) w = words_none ts w.1
+words_none (Letter b ∷ ts) w = words_none ts w.1
+words_none (Header v c ∷ ts) w = absurd w.0
+words_none (Wrong ∷ ts) w = words_none ts w.1
+
+word_none : (t : Token) → IsWord t → is_some (header_from t) ≡ false
+word_none (Number negative value) w = refl
+word_none (Letter b) w = refl
+word_none (Header v c) w = absurd w
+word_none Wrong w = refl
+
+first_none : (ts : List (ℕ × Token)) → AreWords (spoken ts) → is_some (header_first ts) ≡ false
+first_none [] w = refl
+first_none (t ∷ ts) w = word_none t.1 w.0
+
+abbrev first_of : List Token → Token
+first_of [] = Wrong
+first_of (t ∷ ts) = t
+
+first_header : (ts : List (ℕ × Token)) (v c : ℕ) (rest : List Token) → spoken ts ≡ Header v c ∷ rest → is_some (header_first ts) ≡ true
+first_header [] v c rest e = absurd (cc)
+first_header (t ∷ ts) v c rest e = let h : t.1 ≡ Header v c = ap first_of e in rw h refl
+
+-- a text's header is the only one of its tokens
+headed_by : (ts : List (ℕ × Token)) → AreScript (spoken ts) → any_header (spoken ts) ≡ is_some (header_first ts)
+headed_by ts (inl w) = words_none (spoken ts) w ∙ sym (first_none ts w)
+headed_by ts (inr (v, c, rest, w, e)) = ap any_header e ∙ sym (first_header ts v c rest e)
+
+reading_is : (text : List ℕ) → reading text ≡ with_ask (is_some (header_of text)) (commands_of Nothing (spoken (tokens text)))
+unfolding reading written
+reading_is text = refl
+
+and_true : (b : Bool) → (b && true) ≡ b
+and_true true = refl
+and_true false = refl
+
+pub read_from_start : (c : Commands) (text : List ℕ) → c.headed ≡ false → c.asked ≡ false → reading text ≡ meaning true c Nothing (spoken (scan text).tokens)
+read_from_start c text h a =
+    reading_is text
+    ∙ ap (λ (b : Bool). with_ask b (commands_of Nothing (spoken (tokens text)))) (sym (headed_by (tokens text) (text_is text)) ∙ sym (and_true (any_header (spoken (tokens text)))))
+    ∙ sym (rw (h, a) refl)
+
+pub means_first : (tokenizer : Tokenizer) (commands : Commands) → Stands tokenizer scan → HoldsHand commands.draft Nothing → commands.headed ≡ false → commands.asked ≡ false → Means (reader tokenizer commands) reading
+means_first tokenizer commands s n h a = record { hand = Nothing; holds = n; scan_of = scan; stands = s; reads = λ text. read_from_start commands text h a }
+
+written_is : (text : List ℕ) → written text ≡ commands_of Nothing (spoken (tokens text))
+unfolding written
+written_is text = refl
+
+pub counts_first : (tokenizer : Tokenizer) (commands : Commands) → Stands tokenizer scan → HoldsHand commands.draft Nothing → MeansIf false (reader tokenizer commands) written
+counts_first tokenizer commands s n = record { hand = Nothing; holds = n; scan_of = scan; stands = s; reads = λ text. written_is text }

@@ -1,0 +1,226 @@
+-- What tokens make of what is in hand.
+use Rattle.std.proofs.Common.{◌≡◌, ℕ, ◌<◌, List, [], ◌∷◌, ◌++◌, Bool, true, false, cond, Option, Some, None, refl, sym, ap, ◌∙◌, arith}
+use Rattle.std.specs.Prelude.{nat_eq, not, ◌&&◌, ◌||◌}
+use Rattle.std.proofs.lemmas.Bool.Decides.{nat_tests}
+use Rattle.sat_base.specs.declared.text.Token.TheVariants as code
+use Rattle.sat_base.specs.text.Text.{Token, Number, Letter, Header, Wrong}
+use Rattle.sat_base.specs.text.Tokenizing.{held, held_token}
+use Rattle.sat_base.specs.script.Script.{Literal, Command, Clause, Ask, Hide, Witness, Sample, Ending, Clean, Malformed, has_ask, is_clean}
+use Rattle.sat_base.specs.script.Language.{Reading, onto_commands, Kind, OfClause, OfAsk, OfHide, OfWitness, OfSample, command_of, Hand, Nothing, Within, Turn, GoesOn, Ends, Fails, command_in, may_stand, with_literal, kind_of_letter, beginning, with_letter, turn, at_end, behind_turn, commands_of, with_ask}
+use Rattle.sat_base.proofs.lemmas.script.ScriptSpellings.{commands_of_nil, commands_of_cons}
+use Rattle.certify.specs.script.Commands.{kind_of, is_ask_kind, IsWhole, HoldsHand, opened, is_header, any_header, meaning, TakesToken, end_if}
+use Rattle.certify.specs.declared.script.Reached.TheVariants as reached
+use Rattle.certify.specs.declared.script.ScriptEnd.TheVariants as ends
+use Rattle.certify.specs.declared.script.draft.Draft.{Draft}
+use Rattle.certify.specs.declared.script.commands.Commands.{Commands}
+
+-- ASKS AND HEADERS
+abbrev is_ask : Command → Bool
+is_ask (Clause ls) = false
+is_ask (Ask ls) = true
+is_ask (Hide names) = false
+is_ask (Witness names) = false
+is_ask (Sample names) = false
+
+or_false : (b : Bool) → (b || false) ≡ b
+or_false true = refl
+or_false false = refl
+
+or_true : (b : Bool) → (b || true) ≡ true
+or_true true = refl
+or_true false = refl
+
+malformed_if : (due : Bool) → with_ask due ([], Malformed) ≡ ([], Malformed)
+malformed_if true = refl
+malformed_if false = refl
+
+-- where no ask is due
+undue : (due : Bool) (r : Reading) → due ≡ false → with_ask due r ≡ r
+undue due r e = rw e refl
+
+asked_no_more : (h a : Bool) → (h && not (a || true)) ≡ false
+asked_no_more true true = refl
+asked_no_more true false = refl
+asked_no_more false a = refl
+
+has_one : (due : Bool) (cs : List Command) (e : Ending) (ls : List Literal) → with_ask due (Ask ls ∷ cs, e) ≡ (Ask ls ∷ cs, e)
+has_one true cs Clean ls = refl
+has_one true cs Malformed ls = refl
+has_one false cs e ls = refl
+
+-- a command that is no ask
+plain_onto : (due : Bool) (c : Command) (r : Reading) → has_ask (c ∷ r.0) ≡ has_ask r.0 → with_ask due (onto_commands (c ∷ []) r) ≡ onto_commands (c ∷ []) (with_ask due r)
+plain_onto due c r e = rw e (go (due && (is_clean r.1 && not (has_ask r.0))))
+  where
+    go : (b : Bool) → cond b ((c ∷ r.0) ++ Ask [] ∷ [], Clean) (c ∷ r.0, r.1) ≡ onto_commands (c ∷ []) (cond b (r.0 ++ Ask [] ∷ [], Clean) r)
+    go true = refl
+    go false = refl
+
+ask_onto : (h a : Bool) (c : Command) (r : Reading) → with_ask (h && not a) (onto_commands (c ∷ []) r) ≡ onto_commands (c ∷ []) (with_ask (h && not (a || is_ask c)) r)
+ask_onto h a (Clause ls) r = rw (or_false a) (plain_onto (h && not a) (Clause ls) r refl)
+ask_onto h a (Ask ls) r = has_one (h && not a) r.0 r.1 ls ∙ ap (onto_commands (Ask ls ∷ [])) (sym (undue (h && not (a || true)) r (asked_no_more h a)))
+ask_onto h a (Hide names) r = rw (or_false a) (plain_onto (h && not a) (Hide names) r refl)
+ask_onto h a (Witness names) r = rw (or_false a) (plain_onto (h && not a) (Witness names) r refl)
+ask_onto h a (Sample names) r = rw (or_false a) (plain_onto (h && not a) (Sample names) r refl)
+
+-- so where the header's ask isn't asked for
+ask_onto_if : (asks h a : Bool) (c : Command) (r : Reading) → with_ask (asks && (h && not a)) (onto_commands (c ∷ []) r) ≡ onto_commands (c ∷ []) (with_ask (asks && (h && not (a || is_ask c))) r)
+ask_onto_if true h a c r = ask_onto h a c r
+ask_onto_if false h a c r = refl
+
+is_asked : (k : Kind) (ls : List Literal) → is_ask (command_of k ls) ≡ is_ask_kind k
+is_asked OfClause ls = refl
+is_asked OfAsk ls = refl
+is_asked OfHide ls = refl
+is_asked OfWitness ls = refl
+is_asked OfSample ls = refl
+
+-- TOKENS
+behind : (asks : Bool) (old : Commands) (hand : Hand) (t : Token) (k : Turn) (ts : List Token) → turn hand t ≡ k
+    → meaning asks old hand (t ∷ ts) ≡ with_ask (asks && ((old.headed || (is_header t || any_header ts)) && not old.asked)) (behind_turn k (λ d. commands_of d ts))
+behind asks old hand t k ts e =
+    ap (with_ask (asks && ((old.headed || (is_header t || any_header ts)) && not old.asked))) (commands_of_cons hand t ts ∙ ap (λ (j : Turn). behind_turn j (λ d. commands_of d ts)) e)
+
+-- a token that is no header, behind which the command goes on
+pub goes_on : (old new : Commands) (hand next : Hand) (t : Token) → is_header t ≡ false → new.headed ≡ old.headed → new.asked ≡ old.asked → turn hand t ≡ GoesOn next
+    → (asks : Bool) (ts : List Token) → meaning asks old hand (t ∷ ts) ≡ meaning asks new next ts
+goes_on old new hand next t w h a e asks ts = behind asks old hand t (GoesOn next) ts e ∙ rw (w, h, a) refl
+
+pub fails : (old : Commands) (hand : Hand) (t : Token) → turn hand t ≡ Fails → (asks : Bool) (ts : List Token) → meaning asks old hand (t ∷ ts) ≡ ([], Malformed)
+fails old hand t e asks ts = behind asks old hand t Fails ts e ∙ malformed_if (asks && ((old.headed || (is_header t || any_header ts)) && not old.asked))
+
+-- a header
+pub header_taken : (old new : Commands) (v c : ℕ) → new ≡ record old { headed = true } → TakesToken reached.More old (Header v c) new
+header_taken old new v c e hand h =
+    let whole = λ (asks : Bool) (ts : List Token). behind asks old hand (Header v c) (GoesOn hand) ts refl ∙ ap (λ (b : Bool). with_ask (asks && (b && not old.asked)) (commands_of hand ts)) (or_true old.headed) in
+    rw e (hand, h, whole)
+
+-- a zero
+pub zero_taken : (old new : Commands) (negative : Bool) → new.headed ≡ old.headed → new.asked ≡ (old.asked || is_ask_kind (kind_of new.draft.kind)) → HoldsHand new.draft Nothing
+    → ((hand : Hand) → HoldsHand old.draft hand → IsWhole new.draft (command_in hand)) → TakesToken reached.Command old (Number negative 0) new
+zero_taken old new negative h a none whole hand holds =
+    let c = command_in hand in
+    let w = whole hand holds in
+    let k : is_ask c ≡ is_ask_kind (kind_of new.draft.kind) = ap is_ask w.2 ∙ is_asked (kind_of new.draft.kind) w.0 in
+    let asked : new.asked ≡ (old.asked || is_ask c) = a ∙ ap (λ (b : Bool). old.asked || b) (sym k) in
+    let read = λ (asks : Bool) (ts : List Token).
+    behind asks old hand (Number negative 0) (Ends c) ts refl
+    ∙ ask_onto_if asks (old.headed || any_header ts) old.asked c (commands_of Nothing ts)
+    ∙ ap (λ (b : Bool). onto_commands (c ∷ []) (with_ask (asks && ((old.headed || any_header ts) && not b)) (commands_of Nothing ts))) (sym asked)
+    ∙ ap (λ (b : Bool). onto_commands (c ∷ []) (with_ask (asks && ((b || any_header ts) && not new.asked)) (commands_of Nothing ts))) (sym h) in
+    (c, w, none, read)
+
+-- a literal
+pub turn_number : (hand : Hand) (negative : Bool) (value : ℕ) → 0 < value → turn hand (Number negative value) ≡ with_literal hand (record { name = value; positive = not negative })
+turn_number hand negative value some = let e : nat_eq value 0 ≡ false = grind (arith, nat_tests) in rw e refl
+
+-- a literal where it may stand
+pub stands : (d : Draft) (hand : Hand) (l : Literal) → HoldsHand d (opened hand) → may_stand (kind_of d.kind) l.positive ≡ true
+    → (kind : Kind) × (ls : List Literal) × HoldsHand d (Within kind ls) × (with_literal hand l ≡ GoesOn (Within kind (ls ++ l ∷ [])))
+stands d Nothing l h m = (OfClause, [], h, refl)
+stands d (Within kind ls) l h m = (kind, ls, h, let e : may_stand kind l.positive ≡ true = ap (λ (k : Kind). may_stand k l.positive) h.1 ∙ m in rw e refl)
+
+pub misplaced : (d : Draft) (hand : Hand) (l : Literal) → HoldsHand d (opened hand) → may_stand (kind_of d.kind) l.positive ≡ false → with_literal hand l ≡ Fails
+misplaced d Nothing l h m = absurd (let e : may_stand OfClause l.positive ≡ may_stand (kind_of d.kind) l.positive = ap (λ (k : Kind). may_stand k l.positive) h.1 in cc)
+misplaced d (Within kind ls) l h m = let e : may_stand kind l.positive ≡ false = ap (λ (k : Kind). may_stand k l.positive) h.1 ∙ m in rw e refl
+
+-- a letter inside a command
+pub letter_inside : (d : Draft) (hand : Hand) (b : ℕ) → d.is_open ≡ true → HoldsHand d hand → with_letter hand b ≡ Fails
+letter_inside d Nothing b o h = absurd (cc)
+letter_inside d (Within kind ls) b o h = refl
+
+-- one that begins no command
+pub letter_unknown : (hand : Hand) (b : ℕ) → kind_of_letter b ≡ None → with_letter hand b ≡ Fails
+letter_unknown Nothing b e = ap beginning e
+letter_unknown (Within kind ls) b e = refl
+
+pub letter_begins : (d : Draft) (hand : Hand) (b : ℕ) (k : Kind) → d.is_open ≡ false → HoldsHand d hand → kind_of_letter b ≡ Some k → with_letter hand b ≡ GoesOn (Within k [])
+letter_begins d Nothing b k o h e = ap beginning e
+letter_begins d (Within kind ls) b k o h e = absurd (cc (h.0))
+
+-- THE CODE'S TOKENS
+pub number_is : (t : Token) (negative : Bool) (value : ℕ) → code.Number negative value ≡ held_token t → (v : ℕ) × (t ≡ Number negative v) × (value ≡ held v)
+number_is (Number n v) negative value e = (v, let x : negative ≡ n = cc in ap (λ (b : Bool). Number b v) (sym x), let y : value ≡ held v = cc in y)
+number_is (Letter b) negative value e = absurd (cc)
+number_is (Header v c) negative value e = absurd (cc)
+number_is Wrong negative value e = absurd (cc)
+
+pub letter_is : (t : Token) (b : ℕ) → code.Letter b ≡ held_token t → t ≡ Letter b
+letter_is (Number n v) b e = absurd (cc)
+letter_is (Letter d) b e = let x : b ≡ d = cc in ap Letter (sym x)
+letter_is (Header v c) b e = absurd (cc)
+letter_is Wrong b e = absurd (cc)
+
+pub header_is : (t : Token) (v c : ℕ) → code.Header v c ≡ held_token t → (x : ℕ) × (y : ℕ) × (t ≡ Header x y)
+header_is (Number n u) v c e = absurd (cc)
+header_is (Letter b) v c e = absurd (cc)
+header_is (Header x y) v c e = (x, y, refl)
+header_is Wrong v c e = absurd (cc)
+
+pub wrong_is : (t : Token) → code.Wrong ≡ held_token t → t ≡ Wrong
+wrong_is (Number n v) e = absurd (cc)
+wrong_is (Letter b) e = absurd (cc)
+wrong_is (Header v c) e = absurd (cc)
+wrong_is Wrong e = refl
+
+pub held_zero : (v : ℕ) → 0 ≡ held v → v ≡ 0
+held_zero v e = omega arith
+
+pub held_some : (v name : ℕ) → name ≡ held v → 0 < name → 0 < v
+held_some v name e h = omega arith
+
+-- THE END
+ends_at : (asks : Bool) (commands : Commands) (hand : Hand) → meaning asks commands hand [] ≡ with_ask (asks && (commands.headed && not commands.asked)) ([], at_end hand)
+ends_at asks commands hand = ap (λ (b : Bool). with_ask (asks && (b && not commands.asked)) (commands_of hand [])) (or_false commands.headed) ∙ ap (with_ask (asks && (commands.headed && not commands.asked))) (commands_of_nil hand)
+
+-- malformed text ends so, whatever is asked for
+pub end_malformed : (asks : Bool) → end_if asks ends.Malformed ≡ ([], Malformed)
+end_malformed true = refl
+end_malformed false = refl
+
+pub ends_inside : (asks : Bool) (commands : Commands) (hand : Hand) → commands.draft.is_open ≡ true → HoldsHand commands.draft hand → end_if asks ends.Malformed ≡ meaning asks commands hand []
+ends_inside asks commands Nothing o h = absurd (cc)
+ends_inside asks commands (Within kind ls) o h = end_malformed asks ∙ sym (ends_at asks commands (Within kind ls) ∙ malformed_if (asks && (commands.headed && not commands.asked)))
+
+pub ends_due : (asks : Bool) (commands : Commands) (hand : Hand) → commands.draft.is_open ≡ false → HoldsHand commands.draft hand → (commands.headed && not commands.asked) ≡ true → end_if asks ends.Asked ≡ meaning asks commands hand []
+ends_due true commands Nothing o h e = sym (ends_at true commands Nothing ∙ rw e refl)
+ends_due false commands Nothing o h e = sym (ends_at false commands Nothing)
+ends_due asks commands (Within kind ls) o h e = absurd (cc (h.0))
+
+pub ends_clean : (asks : Bool) (commands : Commands) (hand : Hand) → commands.draft.is_open ≡ false → HoldsHand commands.draft hand → (commands.headed && not commands.asked) ≡ false → end_if asks ends.Clean ≡ meaning asks commands hand []
+ends_clean true commands Nothing o h e = sym (ends_at true commands Nothing ∙ rw e refl)
+ends_clean false commands Nothing o h e = sym (ends_at false commands Nothing)
+ends_clean asks commands (Within kind ls) o h e = absurd (cc (h.0))
+
+-- a last word that goes on in a command, or fails
+pub ends_with : (asks : Bool) (commands : Commands) (hand : Hand) (t : Token) → ((kind : Kind) × (ls : List Literal) × (turn hand t ≡ GoesOn (Within kind ls))) → end_if asks ends.Malformed ≡ meaning asks commands hand (t ∷ [])
+ends_with asks commands hand t x =
+    end_malformed asks ∙ sym (behind asks commands hand t (GoesOn (Within x.0 x.1)) [] x.2 ∙ ap (with_ask (asks && ((commands.headed || (is_header t || false)) && not commands.asked))) (commands_of_nil (Within x.0 x.1)) ∙ malformed_if (asks && ((commands.headed || (is_header t || false)) && not commands.asked)))
+
+pub ends_wrong : (asks : Bool) (commands : Commands) (hand : Hand) (t : Token) → turn hand t ≡ Fails → end_if asks ends.Malformed ≡ meaning asks commands hand (t ∷ [])
+ends_wrong asks commands hand t e = end_malformed asks ∙ sym (fails commands hand t e asks [])
+
+number_at : (asks : Bool) (commands : Commands) (kind : Kind) (ls : List Literal) (l : Literal) (t : Token) (hand : Hand) (b : Bool) → may_stand kind l.positive ≡ b → turn hand t ≡ cond b (GoesOn (Within kind (ls ++ l ∷ []))) Fails → end_if asks ends.Malformed ≡ meaning asks commands hand (t ∷ [])
+number_at asks commands kind ls l t hand true m e = ends_with asks commands hand t (kind, ls ++ l ∷ [], e)
+number_at asks commands kind ls l t hand false m e = ends_wrong asks commands hand t e
+
+pub number_ends : (asks : Bool) (commands : Commands) (hand : Hand) (negative : Bool) (value : ℕ) → 0 < value → end_if asks ends.Malformed ≡ meaning asks commands hand (Number negative value ∷ [])
+number_ends asks commands Nothing negative value some =
+    ends_with asks commands Nothing (Number negative value) (OfClause, record { name = value; positive = not negative } ∷ [], turn_number Nothing negative value some)
+number_ends asks commands (Within kind ls) negative value some =
+    let l : Literal = record { name = value; positive = not negative } in
+    number_at asks commands kind ls l (Number negative value) (Within kind ls) (may_stand kind l.positive) refl (turn_number (Within kind ls) negative value some)
+
+letter_at : (asks : Bool) (commands : Commands) (b : ℕ) (o : Option Kind) → with_letter Nothing b ≡ beginning o → end_if asks ends.Malformed ≡ meaning asks commands Nothing (Letter b ∷ [])
+letter_at asks commands b None e = ends_wrong asks commands Nothing (Letter b) e
+letter_at asks commands b (Some kind) e = ends_with asks commands Nothing (Letter b) (kind, [], e)
+
+pub letter_ends : (asks : Bool) (commands : Commands) (hand : Hand) (b : ℕ) → end_if asks ends.Malformed ≡ meaning asks commands hand (Letter b ∷ [])
+letter_ends asks commands Nothing b = letter_at asks commands b (kind_of_letter b) refl
+letter_ends asks commands (Within kind ls) b = ends_wrong asks commands (Within kind ls) (Letter b) refl
+
+-- behind a last header
+pub header_ends : (asks : Bool) (old new : Commands) (hand : Hand) (v c : ℕ) → new ≡ record old { headed = true } → meaning asks old hand (Header v c ∷ []) ≡ meaning asks new hand []
+header_ends asks old new hand v c e =
+    let whole = behind asks old hand (Header v c) (GoesOn hand) [] refl ∙ ap (λ (b : Bool). with_ask (asks && (b && not old.asked)) (commands_of hand [])) (or_true old.headed) in
+    rw e whole

@@ -1,8 +1,0 @@
-use Rattle.certify.specs.reading.Ahead.{waiting}
-use Rattle.certify.proofs.lemmas.reading.Streaming.{take_parts}
-use Rattle.certify.proofs.reading.stream.CommandStream.take.Goals as goal
-
-pub returns : goal.returns
-returns c =
-    let p = take_parts c.in_ok-count.reached c.args.self.now.reader c.push.new.self c.waiting.result.now (waiting c.args.self.now.ahead) (waiting c.take.new.self) c.in_ok-count.count c.waiting.ensures c.in_ok-count.ensures.within c.in_ok-count.ensures.some c.take.ensures.waiting c.in_ok-count.ensures.takes in
-    (p.0, p.1, c.take.ensures.reads, p.2, p.3)

@@ -1,0 +1,95 @@
+use Rattle.std.proofs.Common.{ℕ, List, [], refl, subst}
+use Rattle.std.proofs.lemmas.Result.{err_from_is_err_and}
+use Rattle.sat_base.specs.device.Device.{Breaks, Takes}
+use Rattle.sat_base.specs.script.Script.{Ask}
+use Rattle.certify.specs.answers.AnswerForms.{named_literals}
+use Rattle.sat_checker.specs.matching.Expected.{Unknown}
+use Rattle.certify.proofs.lemmas.run.SessionCalls.{answers_say, ask_cut, ask_told, asked_of, memory_says, nothing_stops, solver_says, sought_writes, takes_none, took_both}
+use Rattle.certify.specs.run.SolverCalls.{proof_in}
+use Rattle.sat_solver.specs.solver.Whole.{HasFullStore}
+use Rattle.certify.specs.run.SolverCalls.{LacksRoom, NeedsMore}
+use Rattle.certify.proofs.lemmas.run.CallFaults.{caused_map}
+use Rattle.certify.proofs.lemmas.run.Caused.{memory_caused, unwritten_caused}
+use Rattle.certify.proofs.lemmas.run.Needing.{none_needs}
+use Rattle.certify.proofs.run.ask.answer_ask.Goals as goal
+
+pub returns-in_err-write_answer-clause-written : goal.returns-in_err-write_answer-clause-written
+returns-in_err-write_answer-clause-written g c =
+    let p = err_from_is_err_and c.from_residual-in_err-write_answer.result c.from_residual-in_err-write_answer.ensures.1 in
+    let s = c.args.session.now in
+    rw (p.1, p.2) (answers_say g.C.CountedWrite.seen c.in_err-write_answer.field-0.0 (g.A.CountedWrite.seen c.args.answers.now) (g.A.CountedWrite.seen c.write_answer.new.answers) s.solver c.ask.new.solver c.in_err-write_answer.ensures.fails.0 c.in_err-write_answer.ensures.fails.1
+    (sought_writes g.C.CountedWrite.seen s.solver c.ask.new.solver c.args.literals.now c.ask.new.page.text.items s.budget c.in_ok-report.report c.in_ok-report.ensures.sought))
+
+pub returns-in_err-assume-clause-written : goal.returns-in_err-assume-clause-written
+returns-in_err-assume-clause-written g c =
+    let p = err_from_is_err_and c.from_residual-in_err-assume.result c.from_residual-in_err-assume.ensures.1 in
+    let s = c.args.session.now in
+    rw (p.1, p.2) (solver_says g.C.CountedWrite.seen c.in_err-assume.field-0.0 (g.A.CountedWrite.seen c.args.answers.now) (g.A.CountedWrite.seen c.write_answer.new.answers) s.solver c.ask.new.solver c.assume.new.solver (takes_none (g.A.CountedWrite.seen c.args.answers.now) (g.A.CountedWrite.seen c.write_answer.new.answers) _ c.in_ok-write_answer.ensures.takes)
+    (sought_writes g.C.CountedWrite.seen s.solver c.ask.new.solver c.args.literals.now c.ask.new.page.text.items s.budget c.in_ok-report.report c.in_ok-report.ensures.sought) c.in_err-assume.ensures.fails)
+
+pub returns-in_err-push-clause-written : goal.returns-in_err-push-clause-written
+returns-in_err-push-clause-written g c =
+    let p = err_from_is_err_and c.from_residual-in_err-push.result c.from_residual-in_err-push.ensures.1 in
+    let s = c.args.session.now in
+    rw p.1 (memory_says g.C.CountedWrite.seen _ (g.A.CountedWrite.seen c.args.answers.now) (g.A.CountedWrite.seen c.write_answer.new.answers) s.solver c.assume.new.solver p.2 (takes_none (g.A.CountedWrite.seen c.args.answers.now) (g.A.CountedWrite.seen c.write_answer.new.answers) _ c.in_ok-write_answer.ensures.takes)
+    (took_both g.C.CountedWrite.seen (proof_in s.solver) (proof_in c.ask.new.solver) (proof_in c.assume.new.solver) (sought_writes g.C.CountedWrite.seen s.solver c.ask.new.solver c.args.literals.now c.ask.new.page.text.items s.budget c.in_ok-report.report c.in_ok-report.ensures.sought) (c.in_ok-assume.ensures.assumed.did Unknown).took))
+
+pub returns-clause-carried : goal.returns-clause-carried
+returns-clause-carried g c =
+    let s = c.args.session.now in
+    let told = subst (λ (text : List ℕ). Takes (g.A.CountedWrite.seen c.args.answers.now) (g.A.CountedWrite.seen c.write_answer.new.answers) text) c.deref.ensures.value c.in_ok-write_answer.ensures.takes in
+    asked_of g.C.CountedWrite.seen s _ c.ask.new.solver c.args.literals.now c.ask.new.page.text.items c.in_ok-report.report _ _ c.in_ok-report.ensures.sought told c.in_ok-assume.ensures.assumed refl refl refl c.in_ok-push.ensures.items
+
+pub returns-clause-written : goal.returns-clause-written
+returns-clause-written g c =
+    let s = c.args.session.now in (
+      takes_none (g.A.CountedWrite.seen c.args.answers.now) (g.A.CountedWrite.seen c.write_answer.new.answers) _ c.in_ok-write_answer.ensures.takes,
+      took_both g.C.CountedWrite.seen (proof_in s.solver) (proof_in c.ask.new.solver) (proof_in c.assume.new.solver) (sought_writes g.C.CountedWrite.seen s.solver c.ask.new.solver c.args.literals.now c.ask.new.page.text.items s.budget c.in_ok-report.report c.in_ok-report.ensures.sought) (c.in_ok-assume.ensures.assumed.did Unknown).took,
+    )
+
+pub returns-in_err-report-clause-stops : goal.returns-in_err-report-clause-stops
+returns-in_err-report-clause-stops g c left = nothing_stops _ c.args.session.now (Ask (named_literals c.args.literals.now)) left (g.A.CountedWrite.seen c.args.answers.now)
+
+pub returns-in_err-write_answer-clause-stops : goal.returns-in_err-write_answer-clause-stops
+returns-in_err-write_answer-clause-stops g c left =
+    let p = err_from_is_err_and c.from_residual-in_err-write_answer.result c.from_residual-in_err-write_answer.ensures.1 in
+    let u = g.A.CountedWrite.seen c.args.answers.now in
+    let v = g.A.CountedWrite.seen c.write_answer.new.answers in
+    let cut = subst (λ (text : List ℕ). Breaks u v text) c.deref.ensures.value c.in_err-write_answer.ensures.breaks in
+    rw p.1 (λ j live means free. ask_cut g.C.CountedWrite.seen c.args.session.now c.ask.new.solver c.args.literals.now c.ask.new.page.text.items c.in_ok-report.report u v c.in_ok-report.ensures.sought left j live means free cut)
+
+pub returns-in_err-assume-clause-stops : goal.returns-in_err-assume-clause-stops
+returns-in_err-assume-clause-stops g c left =
+    let p = err_from_is_err_and c.from_residual-in_err-assume.result c.from_residual-in_err-assume.ensures.1 in
+    let u = g.A.CountedWrite.seen c.args.answers.now in
+    let v = g.A.CountedWrite.seen c.write_answer.new.answers in
+    let told = subst (λ (text : List ℕ). Takes u v text) c.deref.ensures.value c.in_ok-write_answer.ensures.takes in
+    rw p.1 (λ j live means free. ask_told g.C.CountedWrite.seen c.args.session.now c.ask.new.solver c.args.literals.now c.ask.new.page.text.items c.in_ok-report.report u v c.in_ok-report.ensures.sought left j live means free told)
+
+pub returns-in_err-push-clause-stops : goal.returns-in_err-push-clause-stops
+returns-in_err-push-clause-stops g c left =
+    let p = err_from_is_err_and c.from_residual-in_err-push.result c.from_residual-in_err-push.ensures.1 in
+    let u = g.A.CountedWrite.seen c.args.answers.now in
+    let v = g.A.CountedWrite.seen c.write_answer.new.answers in
+    let told = subst (λ (text : List ℕ). Takes u v text) c.deref.ensures.value c.in_ok-write_answer.ensures.takes in
+    rw p.1 (λ j live means free. ask_told g.C.CountedWrite.seen c.args.session.now c.ask.new.solver c.args.literals.now c.ask.new.page.text.items c.in_ok-report.report u v c.in_ok-report.ensures.sought left j live means free told)
+
+pub returns-in_err-write_answer-clause-cause : goal.returns-in_err-write_answer-clause-cause
+returns-in_err-write_answer-clause-cause g c =
+    let p = err_from_is_err_and c.from_residual-in_err-write_answer.result c.from_residual-in_err-write_answer.ensures.1 in
+    rw (p.1, p.2) (unwritten_caused c.in_err-write_answer.field-0.0 (HasFullStore c.ask.new.solver) (NeedsMore c.args.session.now.solver (Ask (named_literals c.args.literals.now))) c.in_err-write_answer.ensures.fails.0)
+
+pub returns-in_err-assume-clause-cause : goal.returns-in_err-assume-clause-cause
+returns-in_err-assume-clause-cause g c =
+    let p = err_from_is_err_and c.from_residual-in_err-assume.result c.from_residual-in_err-assume.ensures.1 in
+    let s = c.args.session.now in
+    let t = c.ask.new.solver in
+    let user = c.args.literals.now in
+    let sought = c.in_ok-report.ensures.sought in
+    rw (p.1, p.2) (caused_map c.in_err-assume.field-0.0 ⊥ (LacksRoom t []) (HasFullStore c.assume.new.solver) (NeedsMore s.solver (Ask (named_literals user))) (λ x. absurd x)
+    (none_needs g.C.CountedWrite.seen s.solver sought.mid t user s.budget c.in_ok-report.report sought.opened sought.searched) c.in_err-assume.ensures.cause)
+
+pub returns-in_err-push-clause-cause : goal.returns-in_err-push-clause-cause
+returns-in_err-push-clause-cause g c =
+    let p = err_from_is_err_and c.from_residual-in_err-push.result c.from_residual-in_err-push.ensures.1 in
+    rw p.1 (memory_caused _ (HasFullStore c.assume.new.solver) (NeedsMore c.args.session.now.solver (Ask (named_literals c.args.literals.now))) p.2)

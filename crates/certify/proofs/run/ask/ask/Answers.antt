@@ -1,0 +1,53 @@
+use Rattle.std.proofs.lemmas.Result.{err_from_is_err_and}
+use Rattle.sat_checker.specs.matching.Expected.{Unknown}
+use Rattle.certify.proofs.lemmas.run.SessionCalls.{did_ready, fails_then, memory_fails, searched_ready, sought_took, allowed_still}
+use Rattle.sat_base.specs.script.Script.{Ask}
+use Rattle.sat_solver.specs.variables.Room.{users_in}
+use Rattle.sat_solver.specs.solver.Whole.{HasFullStore}
+use Rattle.certify.specs.answers.AnswerForms.{named_literals}
+use Rattle.certify.specs.run.SolverCalls.{LacksRoom, NeedsMore}
+use Rattle.certify.proofs.lemmas.run.CallFaults.{caused_map}
+use Rattle.certify.proofs.lemmas.run.Caused.{memory_caused}
+use Rattle.certify.proofs.lemmas.run.Needing.{ask_needs}
+use Rattle.certify.proofs.run.ask.ask.Goals as goal
+
+pub returns-in_err-report-clause-fails : goal.returns-in_err-report-clause-fails
+returns-in_err-report-clause-fails g c =
+    let p = err_from_is_err_and c.from_residual-in_err-report.result c.from_residual-in_err-report.ensures.1 in
+    rw (p.1, p.2) (fails_then g.C.CountedWrite.seen c.in_err-report.field-0.0 c.args.solver.now c.assume.new.solver c.search.new.solver (c.in_ok-assume.ensures.assumed.did Unknown).took c.in_err-report.ensures.fails)
+
+pub returns-in_err-tell-clause-fails : goal.returns-in_err-tell-clause-fails
+returns-in_err-tell-clause-fails g c =
+    let p = err_from_is_err_and c.from_residual-in_err-tell.result c.from_residual-in_err-tell.ensures.1 in
+    rw (p.1, p.2) (memory_fails g.C.CountedWrite.seen c.in_err-tell.field-0.0 c.args.solver.now c.search.new.solver c.in_err-tell.ensures.memory
+    (sought_took g.C.CountedWrite.seen c.args.solver.now c.assume.new.solver c.search.new.solver c.args.literals.now c.args.budget c.in_ok-report.report c.in_ok-assume.ensures.assumed c.in_ok-report.ensures.searched))
+
+pub returns-clause-allowed : goal.returns-clause-allowed
+returns-clause-allowed g c =
+    allowed_still g.C.CountedWrite.seen c.args.solver.now c.assume.new.solver c.search.new.solver c.args.literals.now c.args.budget c.in_ok-report.report c.requires.allowed c.in_ok-assume.ensures.assumed c.in_ok-report.ensures.searched
+
+pub returns-clause-ready : goal.returns-clause-ready
+returns-clause-ready g c = searched_ready g.C.CountedWrite.seen c.args.budget c.in_ok-report.report c.assume.new.solver c.search.new.solver c.in_ok-report.ensures.searched
+
+pub tell-requires-clause-ready : goal.tell-requires-clause-ready
+tell-requires-clause-ready g c = searched_ready g.C.CountedWrite.seen c.args.budget c.in_ok-report.report c.assume.new.solver c.search.new.solver c.in_ok-report.ensures.searched
+
+pub search-requires : goal.search-requires
+search-requires g c = did_ready g.C.CountedWrite.seen c.args.solver.now c.assume.new.solver _ _ c.requires.ready (c.in_ok-assume.ensures.assumed.did Unknown)
+
+pub returns-in_err-assume-clause-cause : goal.returns-in_err-assume-clause-cause
+returns-in_err-assume-clause-cause g c =
+    let p = err_from_is_err_and c.from_residual.result c.from_residual.ensures.1 in
+    let s = c.args.solver.now in
+    let user = c.args.literals.now in
+    rw (p.1, p.2) (caused_map c.in_err-assume.field-0.0 ⊥ (LacksRoom s (users_in user)) (HasFullStore c.assume.new.solver) (NeedsMore s (Ask (named_literals user))) (λ x. absurd x) (ask_needs s user) c.in_err-assume.ensures.cause)
+
+pub returns-in_err-report-clause-cause : goal.returns-in_err-report-clause-cause
+returns-in_err-report-clause-cause g c =
+    let p = err_from_is_err_and c.from_residual-in_err-report.result c.from_residual-in_err-report.ensures.1 in
+    rw (p.1, p.2) (caused_map c.in_err-report.field-0.0 (HasFullStore c.search.new.solver) ⊥ (HasFullStore c.search.new.solver) (NeedsMore c.args.solver.now (Ask (named_literals c.args.literals.now))) (λ x. x) (λ x. absurd x) c.in_err-report.ensures.cause)
+
+pub returns-in_err-tell-clause-cause : goal.returns-in_err-tell-clause-cause
+returns-in_err-tell-clause-cause g c =
+    let p = err_from_is_err_and c.from_residual-in_err-tell.result c.from_residual-in_err-tell.ensures.1 in
+    rw (p.1, p.2) (memory_caused c.in_err-tell.field-0.0 (HasFullStore c.search.new.solver) (NeedsMore c.args.solver.now (Ask (named_literals c.args.literals.now))) c.in_err-tell.ensures.memory)

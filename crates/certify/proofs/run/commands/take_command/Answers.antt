@@ -1,0 +1,33 @@
+use Rattle.std.proofs.Common.{[], ◌∷◌, refl}
+use Rattle.certify.proofs.lemmas.run.Lent.{lent_allowed}
+use Rattle.certify.proofs.lemmas.run.NextLent.{refused_served, refused_stops, taken_served, taken_stops}
+use Rattle.sat_base.specs.script.Language.{onto_commands}
+use Rattle.certify.proofs.lemmas.run.Caused.{blameless, taken_caused}
+use Rattle.certify.proofs.lemmas.run.Next.{counted}
+use Rattle.certify.proofs.run.commands.take_command.Goals as goal
+
+pub returns-in-Some-clause-served : goal.returns-in-Some-clause-served
+returns-in-Some-clause-served g c =
+    refused_served g.C.CountedWrite.seen c.args.session.now c.refuse.new.session c.args.command (g.A.CountedWrite.seen c.args.answers.now) (g.A.CountedWrite.seen c.refuse.new.answers) c.requires.goes_on c.refuse.result c.in-Some.refusal c.in-Some.ensures.judges c.refuse.ensures.refused
+
+pub take_allowed-requires-clause-allowed : goal.take_allowed-requires-clause-allowed
+take_allowed-requires-clause-allowed g c = lent_allowed c.args.session.now.names c.args.command c.requires.whole (c.in-None.ensures.within refl) c.in-None.ensures.judges
+
+pub returns-in-None-clause-served : goal.returns-in-None-clause-served
+returns-in-None-clause-served g c =
+    taken_served g.C.CountedWrite.seen c.args.session.now c.take_allowed.new.session c.args.command (g.A.CountedWrite.seen c.args.answers.now) (g.A.CountedWrite.seen c.take_allowed.new.answers) c.requires.goes_on c.take_allowed.result (c.in-None.ensures.within refl) c.in-None.ensures.judges c.take_allowed.ensures.carried c.take_allowed.ensures.names
+
+pub returns-in-Some-clause-stops : goal.returns-in-Some-clause-stops
+returns-in-Some-clause-stops g c =
+    refused_stops g.C.CountedWrite.seen c.args.session.now c.refuse.new.session c.args.command (g.A.CountedWrite.seen c.args.answers.now) (g.A.CountedWrite.seen c.refuse.new.answers) c.requires.goes_on c.refuse.result c.in-Some.refusal c.in-Some.ensures.judges c.refuse.ensures.stops
+
+pub returns-in-None-clause-stops : goal.returns-in-None-clause-stops
+returns-in-None-clause-stops g c =
+    taken_stops g.C.CountedWrite.seen c.args.session.now c.take_allowed.new.session c.args.command (g.A.CountedWrite.seen c.args.answers.now) (g.A.CountedWrite.seen c.take_allowed.new.answers) c.requires.goes_on c.take_allowed.result (c.in-None.ensures.within refl) c.in-None.ensures.judges c.take_allowed.ensures.stops
+
+pub returns-in-Some-clause-cause : goal.returns-in-Some-clause-cause
+returns-in-Some-clause-cause g c = λ x is left. blameless c.refuse.result c.args.session.now c.refuse.new.session (onto_commands (x ∷ []) left) c.refuse.ensures.cause
+
+pub returns-in-None-clause-cause : goal.returns-in-None-clause-cause
+returns-in-None-clause-cause g c =
+    taken_caused c.args.session.now (counted c.args.session.now) c.take_allowed.new.session c.args.command c.take_allowed.result (c.in-None.ensures.within refl) c.in-None.ensures.judges refl c.take_allowed.ensures.cause

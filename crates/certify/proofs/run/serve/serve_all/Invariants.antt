@@ -1,0 +1,16 @@
+use Rattle.sat_base.specs.script.Judge.{start}
+use Rattle.certify.specs.confirm.Streams.{bytes_left}
+use Rattle.certify.specs.script.Ahead.{IsNotAtEnd, source_in}
+use Rattle.sat_base.specs.script.Language.{reading, written}
+use Rattle.certify.specs.run.ServedScript.{ServesThrough}
+use Rattle.certify.proofs.run.serve.serve_all.Given as goal
+
+abbrev pub invariant-loop-next : goal.invariant-loop-next
+invariant-loop-next g l = record {
+  script_open : IsNotAtEnd (source_in g.S.CountedRead.seen l.script l.stream.ahead);
+  through : ServesThrough g.C.CountedWrite.seen start reading written (source_in g.S.CountedRead.seen l.fn.script l.fn.stream.ahead) (source_in g.S.CountedRead.seen l.script l.stream.ahead) l.stream.reader
+      l.fn.session l.session (g.A.CountedWrite.seen l.fn.answers) (g.A.CountedWrite.seen l.answers);
+}
+
+abbrev pub decreases-loop-next : goal.decreases-loop-next
+decreases-loop-next g l = bytes_left (source_in g.S.CountedRead.seen l.script l.stream.ahead)

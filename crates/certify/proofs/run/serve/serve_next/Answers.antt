@@ -1,0 +1,15 @@
+use Rattle.std.proofs.Common.{◌+◌, [], ◌∷◌, arith, inl, refl}
+use Rattle.sat_base.specs.script.Language.{onto_commands}
+use Rattle.certify.specs.run.SolverCalls.{proof_in}
+use Rattle.certify.proofs.lemmas.run.SessionCalls.{took_none}
+use Rattle.certify.proofs.lemmas.run.Stopping.{front_none}
+use Rattle.certify.proofs.run.serve.serve_next.Goals as goal
+
+pub returns-then-session-clause-written : goal.returns-then-session-clause-written
+returns-then-session-clause-written g c = ((refl, refl), took_none g.C.CountedWrite.seen (proof_in c.args.session.now.solver))
+
+pub returns-then-session-clause-stops : goal.returns-then-session-clause-stops
+returns-then-session-clause-stops g c = λ x is left j at. front_none (c.args.session.now.commands + 1) j (onto_commands (x ∷ []) left) (g.A.CountedWrite.seen c.args.answers.now)
+
+pub returns-then-session-clause-cause : goal.returns-then-session-clause-cause
+returns-then-session-clause-cause g c = λ x is left j at. inl (omega arith)

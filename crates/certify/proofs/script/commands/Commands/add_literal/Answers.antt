@@ -1,0 +1,26 @@
+use Rattle.std.proofs.Common.{◌≡◌, ◌∷◌, ◌++◌, [], true, false, refl, sym, ◌∙◌}
+use Rattle.std.specs.Prelude.{not}
+use Rattle.sat_base.specs.text.Text.{Number}
+use Rattle.sat_base.specs.script.Script.{Literal}
+use Rattle.sat_base.specs.script.Language.{Within, may_stand}
+use Rattle.certify.specs.script.Commands.{kind_of}
+use Rattle.certify.proofs.lemmas.script.Tokens.{fails, goes_on, turn_number, stands, misplaced, held_some}
+use Rattle.certify.proofs.script.commands.Commands.add_literal.Goals as goal
+
+pub returns-then-not-may_stand : goal.returns-then-not-may_stand
+returns-then-not-may_stand c value e hand h =
+    let l : Literal = record { name = value; positive = not c.args.negative } in
+    let may : may_stand (kind_of c.open.new.self.kind) l.positive ≡ false = sym c.may_stand.ensures ∙ c.if-not-may_stand.true in
+    let t = turn_number hand c.args.negative value (held_some value c.args.name e c.requires) in
+    fails c.args.self.now hand (Number c.args.negative value) (t ∙ misplaced c.open.new.self hand l (c.open.ensures hand h) may)
+
+pub returns : goal.returns
+returns c value e hand h =
+    let old = c.args.self.now in
+    let l : Literal = record { name = value; positive = not c.args.negative } in
+    let may : may_stand (kind_of c.open.new.self.kind) l.positive ≡ true = sym c.may_stand.ensures ∙ c.if-not-may_stand.false in
+    let s = stands c.open.new.self hand l (c.open.ensures hand h) may in
+    let t = turn_number hand c.args.negative value (held_some value c.args.name e c.requires) in
+    let new = record old { draft = c.add.new.self } in
+    let holds = c.in_ok-add.ensures s.0 s.1 l (record { number = e; sign = refl }) s.2 in
+    (Within s.0 (s.1 ++ l ∷ []), holds, goes_on old new hand (Within s.0 (s.1 ++ l ∷ [])) (Number c.args.negative value) refl refl refl (t ∙ s.3))

@@ -1,0 +1,39 @@
+use Rattle.std.proofs.Common.{◌≡◌, ◌<◌, [], ◌∷◌, true, sym, ◌∙◌, ap, refl, arith}
+use Rattle.sat_base.specs.text.Text.{Token, Number, Wrong}
+use Rattle.sat_base.specs.script.Language.{onto_commands, Nothing}
+use Rattle.certify.specs.script.Commands.{meaning}
+use Rattle.certify.proofs.lemmas.script.Tokens.{number_is, letter_is, header_is, wrong_is, held_zero, held_some, ends_wrong, number_ends, letter_ends, header_ends}
+use Rattle.certify.proofs.script.commands.Commands.finish_with.Goals as goal
+
+pub returns-then-value-eq0 : goal.returns-then-value-eq0
+returns-then-value-eq0 c t e asks hand h =
+    let old = c.args.self.now in
+    let n = number_is t c.in-Number.negative c.in-Number.value (sym c.in-Number.is ∙ e) in
+    let zero : n.0 ≡ 0 = held_zero n.0 (sym c.if-value-eq0.true ∙ n.2) in
+    let same : t ≡ Number c.in-Number.negative 0 = n.1 ∙ ap (Number c.in-Number.negative) zero in
+    let k = c.end_command.ensures c.in-Number.negative hand h in
+    let ended = c.ending.ensures asks Nothing k.2 in
+    (k.0, k.1, ap (λ (u : Token). meaning asks old hand (u ∷ [])) same ∙ k.3 asks [] ∙ ap (onto_commands (k.0 ∷ [])) (sym ended))
+
+pub returns-else-value-eq0 : goal.returns-else-value-eq0
+returns-else-value-eq0 c t e asks hand h =
+    let old = c.args.self.now in
+    let n = number_is t c.in-Number.negative c.in-Number.value (sym c.in-Number.is ∙ e) in
+    let some : 0 < c.in-Number.value = omega arith in
+    ap (λ (u : Token). meaning asks old hand (u ∷ [])) n.1 ∙ sym (number_ends asks old hand c.in-Number.negative n.0 (held_some n.0 c.in-Number.value n.2 some))
+
+pub returns-in-Header : goal.returns-in-Header
+returns-in-Header c t e asks hand h =
+    let old = c.args.self.now in
+    let n = header_is t c.in-Header.vars c.in-Header.clauses (sym c.in-Header.is ∙ e) in
+    ap (λ (u : Token). meaning asks old hand (u ∷ [])) n.2 ∙ header_ends asks old (record old { headed = true }) hand n.0 n.1 refl ∙ sym (c.ending-in-Header.ensures asks hand h)
+
+pub returns-in-Letter : goal.returns-in-Letter
+returns-in-Letter c t e asks hand h =
+    let old = c.args.self.now in
+    ap (λ (u : Token). meaning asks old hand (u ∷ [])) (letter_is t c.in-Letter.field-0 (sym c.in-Letter.is ∙ e)) ∙ sym (letter_ends asks old hand c.in-Letter.field-0)
+
+pub returns-in-Wrong : goal.returns-in-Wrong
+returns-in-Wrong c t e asks hand h =
+    let old = c.args.self.now in
+    ap (λ (u : Token). meaning asks old hand (u ∷ [])) (wrong_is t (sym c.in-Wrong.is ∙ e)) ∙ sym (ends_wrong asks old hand Wrong refl)

@@ -1,6 +1,0 @@
-use Rattle.certify.proofs.lemmas.serving.ProofFronts.{front_handed}
-use Rattle.certify.proofs.serving.ending.give_back.Goals as goal
-
-pub returns-clause-front : goal.returns-clause-front
-returns-clause-front g c =
-    front_handed g.C.CountedWrite.seen c.args.solver c.into_target.result c.in-Some.certificate c.in-Some.is c.into_target.ensures.front

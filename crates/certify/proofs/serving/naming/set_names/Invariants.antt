@@ -1,7 +1,0 @@
-use Rattle.std.proofs.Common.{take}
-use Rattle.sat_solver.specs.names.Refusing.{names_in}
-use Rattle.certify.specs.serving.Obeying.{Obeyed, command_to}
-use Rattle.certify.proofs.serving.naming.set_names.Given as goal
-
-abbrev pub invariant-loop-lit : goal.invariant-loop-lit
-invariant-loop-lit g l = Obeyed g.C.CountedWrite.seen (command_to l.state (names_in (take l.lit-index l.literals))) l.fn.solver l.solver

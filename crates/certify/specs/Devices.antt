@@ -1,0 +1,19 @@
+-- Readers and writers before and after, and calls of a writer that failed.
+use Rattle.std.specs.Prelude.{◌+◌, ◌≡◌, true}
+use Rattle.sat_base.specs.device.Device.{Reader, Writer}
+
+-- a reader before and after
+abbrev pub gave : {D : Type 0} → (D → Reader) → D → D → Reader × Reader
+gave seen old new = (seen old, seen new)
+
+-- a writer before and after
+abbrev pub took : {D : Type 0} → (D → Writer) → D → D → Writer × Writer
+took seen old new = (seen old, seen new)
+
+-- none did
+abbrev pub NoneFailed : Writer → Writer → Type 0
+NoneFailed old new = (new.failures ≡ old.failures) × (new.loans ≡ old.loans)
+
+-- one did, the last
+abbrev pub OneFailed : Writer → Writer → Type 0
+OneFailed old new = (new.failures ≡ old.failures + 1) × (new.failed ≡ true) × (new.loans ≡ old.loans)

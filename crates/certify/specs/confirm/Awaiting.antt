@@ -1,0 +1,86 @@
+-- What a certificate's steps bring, up to the next ordered one, and what becomes of what is expected of that. The names are beside what
+-- confirming sees.
+use Rattle.std.specs.Prelude.{◌≡◌, true, false, Option, Some, None, Result, Ok, Err, List, [], ◌∷◌}
+use Rattle.sat_base.specs.script.Script.{Literal}
+use Rattle.sat_base.specs.steps.Steps.{Step}
+use Rattle.sat_checker.specs.Accepts.{ready_after}
+use Rattle.sat_checker.specs.declared.kernel.Kernel.{Kernel}
+use Rattle.sat_checker.specs.matching.Expected.{Outcome, Expected}
+use Rattle.certify.specs.confirm.CertificatePlaces.{CanMeet, Leads, Bars, Skips, Stops, Offers}
+use Rattle.certify.specs.confirm.Feeding.{HasTaken}
+use Rattle.certify.specs.confirm.Views.{View}
+use Rattle.certify.specs.confirm.Comparing.{MayStayUnmet, Due, Excuses}
+use Rattle.certify.specs.confirm.Following.{StandFor}
+use Rattle.certify.specs.declared.confirm.ordered.Awaited.{Awaited}
+use Rattle.certify.specs.declared.confirm.ordered.Awaited.TheVariants as awaited
+use Rattle.certify.specs.declared.confirm.stop.Stop.{Stop}
+use Rattle.certify.specs.declared.confirm.stop.Stop.TheVariants as stop
+use Rattle.certify.specs.declared.confirm.variables.NamedVars.{NamedVars}
+use Rattle.certify.specs.declared.verdict.Why.{Why}
+
+-- the checker was fed these steps, behind which the names stand for these variables
+pub record CheckerIsAt (checker : Kernel) (names : NamedVars) (earlier : List Step) : Type 0 where
+  pub taken : HasTaken checker earlier
+  pub stand : StandFor names earlier
+
+-- the next ordered step was read, and unsat isn't recorded
+pub record StepIsReady (names : NamedVars) (old : View) (earlier : List Step) (new : View) : Type 0 where
+  pub later : List Step
+  pub stands : CheckerIsAt new.checker names later
+  pub open_yet : (ready_after later).unsat ≡ false
+  pub offers : Offers earlier old.rest later new.step new.rest
+
+-- unsat is recorded before an ordered step came
+pub record UnsatIsRecorded (names : NamedVars) (old : View) (earlier : List Step) (new : View) : Type 0 where
+  pub later : List Step
+  pub stands : CheckerIsAt new.checker names later
+  pub closed : (ready_after later).unsat ≡ true
+  pub skips : Skips earlier old.rest later new.rest
+
+-- a step that nobody expects was taken
+pub record StepWasPassed (names : NamedVars) (old : View) (earlier : List Step) (new : View) : Type 0 where
+  pub later : List Step
+  pub stands : CheckerIsAt new.checker names later
+  pub skips : Skips earlier old.rest later new.rest
+
+-- what came where an ordered step is awaited, or that none can come
+abbrev pub AwaitsNext : NamedVars → View → View → Result Awaited Why → Type 0
+AwaitsNext names old new (Ok awaited.Step) = (earlier : List Step) → CheckerIsAt old.checker names earlier → StepIsReady names old earlier new
+AwaitsNext names old new (Ok awaited.Cut) = (earlier : List Step) → CheckerIsAt old.checker names earlier → UnsatIsRecorded names old earlier new
+AwaitsNext names old new (Err why) = (earlier : List Step) → CheckerIsAt old.checker names earlier → Stops earlier old.rest
+
+-- what one more step brought
+abbrev pub StepsOnce : NamedVars → View → View → Result (Option Awaited) Why → Type 0
+StepsOnce names old new (Ok None) = (earlier : List Step) → CheckerIsAt old.checker names earlier → StepWasPassed names old earlier new
+StepsOnce names old new (Ok (Some a)) = AwaitsNext names old new (Ok a)
+StepsOnce names old new (Err why) = AwaitsNext names old new (Err why)
+
+-- only steps that nobody expects were taken
+abbrev pub PassesUnordered : NamedVars → View → View → Result (Unit {0}) Why → Type 0
+PassesUnordered names old new r = (earlier : List Step) → CheckerIsAt old.checker names earlier → StepWasPassed names old earlier new
+
+-- just what is expected is met
+pub record IsMet (due : Due) (after : NamedVars) (old : View) (earlier : List Step) (new : View) : Type 0 where
+  pub later : List Step
+  pub stands : CheckerIsAt new.checker after later
+  pub leads : (o : Outcome) (ask : List Literal)
+      → ((ready_after later).unsat ≡ true → MayStayUnmet (due o ask)) → Leads earlier old.rest (due o ask ∷ []) later new.rest
+  pub alone : (o : Outcome) (ask : List Literal) (es : List Expected)
+      → CanMeet earlier (due o ask ∷ es) old.rest → (ready_after later).unsat ≡ true → MayStayUnmet (due o ask)
+
+-- what is expected is met, or can't be
+abbrev pub MeetsDue : Due → NamedVars → NamedVars → View → View → Result (Unit {0}) Why → Type 0
+MeetsDue due before after old new (Ok x) = (earlier : List Step) → CheckerIsAt old.checker before earlier → IsMet due after old earlier new
+MeetsDue due before after old new (Err why) = (earlier : List Step) → CheckerIsAt old.checker before earlier
+    → (o : Outcome) (ask : List Literal) → Bars earlier old.rest (due o ask ∷ [])
+
+-- what is said where it stays unmet
+abbrev pub SaysUnmet : Due → Result (Unit {0}) Stop → Type 0
+SaysUnmet due (Ok x) = Excuses due None
+SaysUnmet due (Err (stop.No why)) = Excuses due (Some why)
+SaysUnmet due (Err stop.CertificateRead) = ⊥
+SaysUnmet due (Err stop.OutOfMemory) = ⊥
+SaysUnmet due (Err stop.CounterEnd) = ⊥
+SaysUnmet due (Err stop.ScriptRead) = ⊥
+SaysUnmet due (Err stop.AnswersRead) = ⊥
+SaysUnmet due (Err stop.TooMany) = ⊥

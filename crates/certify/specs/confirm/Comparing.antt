@@ -1,0 +1,67 @@
+-- What a step is compared with.
+use Rattle.std.specs.Prelude.{ℕ, ◌+◌, ◌≡◌, false, Option, Some, None, List, []}
+use Rattle.sat_base.specs.script.Script.{Literal}
+use Rattle.sat_base.specs.steps.Steps.{Step, Model}
+use Rattle.sat_checker.specs.KernelView.{Stands, has_failed}
+use Rattle.sat_checker.specs.CheckerView.{kernel_of}
+use Rattle.sat_checker.specs.matching.Checking.{variable_of}
+use Rattle.sat_checker.specs.matching.Expected.{Outcome, Unsat, EachSpelt, Expected, NewName, NoName, Adds, Opens, Shows, Fails, Closes, Finish, Fits}
+use Rattle.sat_checker.specs.matching.ProofChecking.{the_checking}
+use Rattle.certify.specs.confirm.Matches.{Excused}
+use Rattle.certify.specs.answers.AnswerForms.{named_literals}
+use Rattle.certify.specs.judge.Names.{used_in}
+use Rattle.certify.specs.confirm.Variables.{variable_in}
+use Rattle.certify.specs.declared.confirm.expect.Expected.{Expected as CodeExpected}
+use Rattle.certify.specs.declared.confirm.expect.Expected.TheVariants as code
+use Rattle.certify.specs.declared.confirm.expect.Known.{Known}
+use Rattle.certify.specs.declared.verdict.Why.{Why}
+
+-- what is expected, where this outcome answers this ask
+abbrev pub Due : Type 0
+Due = Outcome → List Literal → Expected
+
+abbrev pub due_of : CodeExpected → Due
+due_of (code.NewName v) = λ o ask. NewName (v + 1)
+due_of (code.NoName v) = λ o ask. NoName (v + 1)
+due_of (code.Clause ls) = λ o ask. Adds (named_literals ls.now)
+due_of (code.Ask ls) = λ o ask. Opens (named_literals ls.now) o
+due_of (code.Model names ls line) = λ o ask. Shows (used_in names.now.states.items) (named_literals ls.now) (named_literals line.now)
+due_of (code.Core core) = λ o ask. Fails ask (named_literals core.now)
+due_of code.Close = λ o ask. Closes
+due_of code.End = λ o ask. Finish
+
+-- the checker took these steps, behind which the names have the variables that are known
+pub record AreKnown (known : Known) (earlier : List Step) : Type 0 where
+  pub stands : Stands (kernel_of known.checker.now) earlier
+  pub goes_on : has_failed (kernel_of known.checker.now) ≡ false
+  pub named : variable_of earlier ≡ variable_in known.variables.now
+
+-- the step is what is expected, whatever outcome and ask, or isn't
+abbrev pub Compares : Due → Known → Step → Option Why → Type 0
+Compares due known step None = (earlier : List Step) → AreKnown known earlier
+    → (o : Outcome) (ask : List Literal) → Fits (the_checking.knows earlier) earlier (due o ask) step
+Compares due known step (Some why) = (earlier : List Step) → AreKnown known earlier
+    → (o : Outcome) (ask : List Literal) → Fits (the_checking.knows earlier) earlier (due o ask) step → ⊥
+
+-- the step is a model that has the literals of a line, or isn't
+abbrev pub ComparesLine : Known → List ℕ → Step → Option Why → Type 0
+ComparesLine known line step None = (codes : List ℕ) × (step ≡ Model codes)
+    × EachSpelt (variable_in known.variables.now) (named_literals line) codes
+ComparesLine known line step (Some why) = (codes : List ℕ) → step ≡ Model codes
+    → EachSpelt (variable_in known.variables.now) (named_literals line) codes → ⊥
+
+-- what may be left unmet once unsat is recorded, where the outcome of an ask is then the only one; no other steps
+abbrev pub MayStayUnmet : Expected → Type 0
+MayStayUnmet (NewName name) = Unit {0}
+MayStayUnmet (NoName name) = Unit {0}
+MayStayUnmet (Adds ls) = Unit {0}
+MayStayUnmet (Opens ls o) = o ≡ Unsat []
+MayStayUnmet (Shows names ask line) = Unit {0}
+MayStayUnmet (Fails ask core) = Unit {0}
+MayStayUnmet Closes = Unit {0}
+MayStayUnmet Finish = Unit {0}
+
+-- what is expected may stay unmet once unsat is recorded, or may not
+abbrev pub Excuses : Due → Option Why → Type 0
+Excuses due None = (o : Outcome) (ask : List Literal) → MayStayUnmet (due o ask) → Excused (due o ask)
+Excuses due (Some why) = (o : Outcome) (ask : List Literal) → Excused (due o ask) → ⊥

@@ -1,0 +1,91 @@
+-- How a script is confirmed that is read as its commands are wanted, whatever would follow in the three texts.
+use Rattle.std.specs.Prelude.{ℕ, ◌+◌, ◌-◌, ◌^◌, ◌<◌, ◌≡◌, min, true, false, List, Result, Ok, Err}
+use Rattle.sat_base.specs.declared.steps.reader.Buffers.{Buffers}
+use Rattle.sat_base.specs.declared.steps.reader.StepReader.{StepReader}
+use Rattle.sat_base.specs.device.Device.{Reader}
+use Rattle.sat_base.specs.device.Reading.{Source}
+use Rattle.sat_base.specs.script.Language.{Reading}
+use Rattle.certify.specs.confirm.Streams.{Stream, Confirms, Covers, rest_in}
+use Rattle.certify.specs.confirm.VerdictPromises.{numbers}
+use Rattle.certify.specs.confirm.Confirming.{ConfirmsLast, Table, Through, table_of}
+use Rattle.certify.specs.confirm.Stopping.{Any, Joins}
+use Rattle.certify.specs.confirm.Sessions.{answers_in, stream_in}
+use Rattle.certify.specs.script.Ahead.{Failed, Kept, TakesSome, source_in}
+use Rattle.certify.specs.script.Commands.{Means}
+use Rattle.certify.specs.declared.confirm.stop.Stop.TheVariants as stop
+use Rattle.certify.specs.declared.confirm.stop.Stop.{Stop}
+use Rattle.certify.specs.declared.confirm.confirmation.Confirmation.{Confirmation}
+use Rattle.certify.specs.declared.script.reader.ScriptReader.{ScriptReader}
+use Rattle.certify.specs.declared.verdict.ConfirmFault.{ConfirmFault}
+use Rattle.certify.specs.declared.verdict.ConfirmFault.TheVariants as fault
+use Rattle.certify.specs.declared.verdict.Verdict.{Verdict}
+use Rattle.certify.specs.declared.verdict.Verdict.TheVariants.{Yes, No}
+
+-- Where confirming stands: script, answers and certificate as they are read, the number of the next command, and the names.
+pub record Standing : Type 0 where
+  pub script : Source
+  pub answers : Source
+  pub certificate : Stream
+  pub number : ℕ
+  pub table : Table
+
+-- the script's reader, and what was read of it
+abbrev pub script_in : {S : Type 0} → (S → Reader) → S → Confirmation → Source
+script_in seen script c = source_in seen script c.script.ahead
+
+abbrev pub standing : {S A C : Type 0} → (S → Reader) → (A → Reader) → (C → Reader) → S → A → StepReader C Buffers → Confirmation → Standing
+standing script_seen seen steps_seen script answers steps c = record {
+  script = script_in script_seen script c;
+  answers = answers_in seen answers c.session;
+  certificate = stream_in steps_seen steps c.session.matching;
+  number = c.session.number + 1;
+  table = table_of c.session.matching;
+}
+
+-- Between two of these commands were confirmed; behind them the reader of scripts stands where `left` says what is left.
+pub record ConfirmsThrough (text : List ℕ → Reading) (old new : Standing) (reader : ScriptReader) : Type 0 where
+  pub left : List ℕ → Reading
+  pub means : Means reader left
+  pub took : TakesSome true old.script new.script
+  pub counted : (total : List ℕ) → Covers new.script total
+      → old.number + numbers (text (rest_in total old.script)) ≡ new.number + numbers (left (rest_in total new.script))
+  pub joins : (total : List ℕ) → Covers new.script total → Joins ⊥ true (Ok tt) old.answers new.answers old.certificate new.certificate
+      (Through old.number (text (rest_in total old.script)) old.table new.number (left (rest_in total new.script)) new.table)
+
+-- what is said of the whole script, which is this
+abbrev pub JoinsWhole : Result (Unit {0}) Stop → Reading → Standing → Standing → Type 0
+JoinsWhole r script old new = Joins ⊥ false r old.answers new.answers old.certificate new.certificate
+    (λ before behind u v. ConfirmsLast old.number script old.table before u)
+
+-- nothing is said of it
+abbrev pub Unsaid : Standing → Standing → Type 0
+Unsaid old new = Kept old.answers new.answers × Confirms {A = Unit {0}} (Err stop.OutOfMemory) old.certificate new.certificate Any
+
+-- The script is confirmed to its end, or isn't; or a text can't be read, or the commands are too many.
+abbrev pub ConfirmsScript : (List ℕ → Reading) → Result (Unit {0}) Stop → Standing → Standing → Type 0
+ConfirmsScript text (Ok x) old new = TakesSome false old.script new.script
+    × ((total : List ℕ) → Covers new.script total → JoinsWhole (Ok x) (text (rest_in total old.script)) old new)
+ConfirmsScript text (Err (stop.No why)) old new = TakesSome false old.script new.script
+    × ((total : List ℕ) → Covers new.script total → JoinsWhole (Err (stop.No why)) (text (rest_in total old.script)) old new)
+ConfirmsScript text (Err stop.OutOfMemory) old new = Kept old.script new.script × Unsaid old new
+ConfirmsScript text (Err stop.CertificateRead) old new = Kept old.script new.script
+    × (Kept old.answers new.answers × Confirms {A = Unit {0}} (Err stop.CertificateRead) old.certificate new.certificate Any)
+ConfirmsScript text (Err stop.CounterEnd) old new = Kept old.script new.script
+    × (Kept old.answers new.answers × Confirms {A = Unit {0}} (Err stop.CounterEnd) old.certificate new.certificate Any)
+ConfirmsScript text (Err stop.AnswersRead) old new = Kept old.script new.script
+    × (Failed old.answers new.answers × Confirms {A = Unit {0}} (Err stop.OutOfMemory) old.certificate new.certificate Any)
+ConfirmsScript text (Err stop.ScriptRead) old new = Failed old.script new.script × Unsaid old new
+ConfirmsScript text (Err stop.TooMany) old new = TakesSome false old.script new.script
+    × ((total : List ℕ) → Covers new.script total → 2 ^ 64 < old.number + numbers (text (rest_in total old.script)))
+    × Unsaid old new
+
+-- what is said behind so many asks, which are held at 2^64-1
+abbrev pub said_by : Result (Unit {0}) Stop → ℕ → Result Verdict ConfirmFault
+said_by (Ok x) asks = Ok Yes
+said_by (Err (stop.No why)) asks = Ok (No (min (asks + 1) (2 ^ 64 - 1)) why)
+said_by (Err stop.OutOfMemory) asks = Err fault.OutOfMemory
+said_by (Err stop.CertificateRead) asks = Err fault.CertificateRead
+said_by (Err stop.CounterEnd) asks = Err fault.CounterEnd
+said_by (Err stop.AnswersRead) asks = Err fault.AnswersRead
+said_by (Err stop.ScriptRead) asks = Err fault.ScriptRead
+said_by (Err stop.TooMany) asks = Err fault.CounterEnd

@@ -1,0 +1,122 @@
+-- Texts that are read line by line.
+use Rattle.std.specs.Prelude.{ℕ, ◌≤◌, ◌≡◌, ◌⊎◌, Bool, true, false, List, [], ◌∷◌, ◌++◌, length, take, Result, Ok, Err}
+use Rattle.std.specs.List.{AllByRecursion}
+use Rattle.sat_base.specs.device.Device.{Reader}
+use Rattle.sat_base.specs.device.Reading.{Source, Passes, PassesToEnd}
+use Rattle.sat_base.specs.declared.device.whole.ReadError.{ReadError}
+use Rattle.sat_base.specs.declared.device.whole.ReadError.TheVariants as errors
+use Rattle.sat_base.specs.script.Script.{Literal}
+use Rattle.sat_checker.specs.matching.Expected.{Outcome, Unsat}
+use Rattle.certify.specs.answers.Answers.{outcome_text}
+use Rattle.certify.specs.answers.AnswerForms.{IsInForm, named_literals}
+use Rattle.certify.specs.answers.AnswerReading.{first_line, second_line, outcome_of}
+use Rattle.certify.specs.script.Ahead.{Failed, Kept, source_in, waiting}
+use Rattle.certify.specs.declared.script.ahead.Ahead.{Ahead}
+use Rattle.certify.specs.declared.answers.read.AnswerFault.{AnswerFault}
+use Rattle.certify.specs.declared.answers.read.AnswerFault.TheVariants as unread
+use Rattle.certify.specs.declared.answers.read.AnswerKind.{AnswerKind}
+use Rattle.certify.specs.declared.confirm.stop.Stop.{Stop}
+use Rattle.certify.specs.declared.confirm.stop.Stop.TheVariants as stop
+use Rattle.certify.specs.declared.confirm.answers.Answers.{Answers}
+use Rattle.certify.specs.declared.confirm.answers.Reply.{Reply}
+use Rattle.certify.specs.declared.confirm.lines.Wanted.{Wanted}
+use Rattle.certify.specs.declared.confirm.lines.Wanted.TheVariants as wanted
+use Rattle.certify.specs.declared.verdict.Why.{Why}
+use Rattle.certify.specs.declared.verdict.Why.TheVariants.{AnswerMissing, AnswerText}
+
+-- no LF is among the bytes
+abbrev pub HasNoLf : List ℕ → Type 0
+HasNoLf = AllByRecursion (λ byte. byte ≡ 10 → ⊥)
+
+-- one is the last
+pub record IsLine (text : List ℕ) : Type 0 where
+  pub front : List ℕ
+  pub none : HasNoLf front
+  pub whole : text ≡ front ++ 10 ∷ []
+
+-- so many bytes are a line, or all are and have no LF
+abbrev pub GoesUpToLine : Bool → List ℕ → ℕ → Type 0
+GoesUpToLine true bytes count = (count ≤ length bytes) × IsLine (take count bytes)
+GoesUpToLine false bytes count = (count ≡ length bytes) × HasNoLf bytes
+
+-- up to the end of a line, or all
+abbrev pub EndsPart : Bool → List ℕ → List ℕ → Type 0
+EndsPart true text left = IsLine text
+EndsPart false text left = HasNoLf text × (left ≡ [])
+
+-- bytes that waited were moved to the line in hand
+abbrev pub MovesFront : {E : Type 0} → Result Bool E → Ahead → Ahead → List ℕ → List ℕ → Type 0
+MovesFront (Ok whole) old new before after = (text : List ℕ) × (waiting old ≡ text ++ waiting new) × (new.reads ≡ old.reads)
+    × (after ≡ before ++ text) × EndsPart whole text (waiting new)
+MovesFront (Err e) old new before after = new ≡ old
+
+-- the lines that may stand where one is read
+abbrev pub IsWantedLine : Wanted → List ℕ → List ℕ → Type 0
+IsWantedLine wanted.Due due line = line ≡ due
+IsWantedLine wanted.First due line = (k : AnswerKind) × (line ≡ first_line k)
+IsWantedLine (wanted.Second k) due line = (ls : List Literal) × (IsInForm (outcome_of k ls) × (line ≡ second_line (outcome_of k ls)))
+IsWantedLine wanted.Nothing due line = ⊥
+
+-- none of these lines begins with the bytes, whatever would follow
+abbrev pub StartsNone : (List ℕ → Type 0) → List ℕ → Type 0
+StartsNone P bytes = (more : List ℕ) → P (bytes ++ more) → ⊥
+
+-- and there are some bytes
+abbrev pub IsWrong : (List ℕ → Type 0) → List ℕ → Type 0
+IsWrong P bytes = StartsNone P bytes × (bytes ≡ [] → ⊥)
+
+-- a line was read, or what is left without one, or bytes without LF with which none of these lines begins
+abbrev pub IsNextLine : (List ℕ → Type 0) → Source → Source → List ℕ → Type 0
+IsNextLine P a b line = (Passes a b line × IsLine line) ⊎ ((PassesToEnd a b line × HasNoLf line) ⊎ ((Passes a b line × HasNoLf line) × IsWrong P line))
+
+abbrev pub ReadsLine : (List ℕ → Type 0) → Result (Unit {0}) ReadError → Source → Source → List ℕ → Type 0
+ReadsLine P (Ok x) a b line = IsNextLine P a b line
+ReadsLine P (Err errors.Failed) a b line = Failed a b
+ReadsLine P (Err errors.OutOfMemory) a b line = Kept a b
+
+-- the same of answers
+abbrev pub NextLine : (List ℕ → Type 0) → Result (Unit {0}) Stop → Source → Source → List ℕ → Type 0
+NextLine P (Ok x) a b line = IsNextLine P a b line
+NextLine P (Err stop.AnswersRead) a b line = Failed a b
+NextLine P (Err stop.OutOfMemory) a b line = Kept a b
+NextLine P (Err (stop.No why)) a b line = ⊥
+NextLine P (Err stop.CertificateRead) a b line = ⊥
+NextLine P (Err stop.CounterEnd) a b line = ⊥
+NextLine P (Err stop.ScriptRead) a b line = ⊥
+NextLine P (Err stop.TooMany) a b line = ⊥
+
+-- the answers' reader, and what was read of it
+abbrev pub answers_source : {A : Type 0} → (A → Reader) → A → Answers → Source
+answers_source seen answers s = source_in seen answers s.lines.ahead
+
+-- the line was taken, or isn't there
+abbrev pub TakesLine : List ℕ → List ℕ → List ℕ → Result (Unit {0}) Why → Type 0
+TakesLine old new line (Ok x) = old ≡ line ++ new
+TakesLine old new line (Err why) = (tail : List ℕ) → old ≡ line ++ tail → ⊥
+
+-- what a call answers where no answer was read
+abbrev pub stop_after : AnswerFault → Stop
+stop_after unread.Missing = stop.No AnswerMissing
+stop_after unread.Text = stop.No AnswerText
+stop_after unread.OutOfMemory = stop.OutOfMemory
+
+-- the first line of an answer was read, or no answer stands there
+abbrev pub ReadsFirst : List ℕ → List ℕ → Result AnswerKind Why → Type 0
+ReadsFirst before behind (Ok kind) = before ≡ first_line kind ++ behind
+ReadsFirst before behind (Err why) = (o : Outcome) (tail : List ℕ) → before ≡ outcome_text o ++ tail → ⊥
+
+-- so the second one of an answer of this kind, or none stands there
+abbrev pub ReadsSecond : AnswerKind → List Literal → List ℕ → List ℕ → Result (Unit {0}) Why → Type 0
+ReadsSecond kind line before behind (Ok x) = (before ≡ second_line (outcome_of kind line) ++ behind) × IsInForm (outcome_of kind line)
+ReadsSecond kind line before behind (Err why) =
+    (ls : List Literal) (tail : List ℕ) → IsInForm (outcome_of kind ls) → before ≡ second_line (outcome_of kind ls) ++ tail → ⊥
+
+-- what an answer says
+abbrev pub outcome_in : Reply → Outcome
+outcome_in r = outcome_of r.kind (named_literals r.lits.items)
+
+-- an answer was read, which is the only one where unsat is recorded; or none can be
+abbrev pub IsReply : List ℕ → List ℕ → Outcome → Bool → Result (Unit {0}) Why → Type 0
+IsReply before behind reply settled (Ok x) = (before ≡ outcome_text reply ++ behind) × IsInForm reply × (settled ≡ true → reply ≡ Unsat [])
+IsReply before behind reply settled (Err why) =
+    (o : Outcome) (tail : List ℕ) → IsInForm o → (settled ≡ true → o ≡ Unsat []) → before ≡ outcome_text o ++ tail → ⊥

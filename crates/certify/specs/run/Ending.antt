@@ -1,0 +1,73 @@
+-- How a run ends.
+use Rattle.std.specs.Prelude.{◌≡◌, ℕ, true, Option, Some, [], ◌∷◌, Result, Ok, Err}
+use Rattle.sat_base.specs.device.Device.{Writer, Takes}
+use Rattle.sat_base.specs.steps.Steps.{End}
+use Rattle.sat_base.specs.device.Sink.{empty_sink}
+use Rattle.sat_solver.specs.declared.proof.format.ProofFormat.TheVariants.{Varisat}
+use Rattle.sat_solver.specs.proof.Counting.{start as uncounted}
+use Rattle.sat_solver.specs.session.Making.{Took, Broke}
+use Rattle.sat_solver.specs.proof.ProofView.{Closed, Open, Gives, TakesAll, is_open, target_of}
+use Rattle.sat_solver.specs.session.Session.{MayAll}
+use Rattle.sat_solver.specs.solver.Fronts.{Went}
+use Rattle.sat_solver.specs.solver.Whole.{steps_in}
+use Rattle.certify.specs.Devices.{NoneFailed, OneFailed}
+use Rattle.certify.specs.declared.fault.RunFault.{RunFault}
+use Rattle.certify.specs.declared.run.session.Session.{Session}
+use Rattle.certify.specs.declared.summary.Summary.{Summary}
+use Rattle.certify.specs.run.Unfinished.{TookBytes, TookSteps}
+use Rattle.certify.specs.run.SolverCalls.{FaultSays, IsCaused, proof_in}
+use Rattle.certify.specs.run.Quiet.{Proof, Solver}
+
+-- a target is there, open or broken
+abbrev pub HasTarget : {C : Type 0} → (C → Writer) → Solver C → Type 0
+HasTarget seen s = target_of seen (proof_in s) ≡ Closed → ⊥
+
+-- it's open
+abbrev pub HasOpenTarget : {C : Type 0} → (C → Writer) → Solver C → Type 0
+HasOpenTarget seen s = is_open (target_of seen (proof_in s)) ≡ true
+
+-- the last step was written, and the writer is given back
+pub record ClosedBy {C : Type 0} (seen : C → Writer) (s : Solver C) (given : C) : Type 0 where
+  pub takes : TakesAll (target_of seen (proof_in s)) (End ∷ []) (seen given)
+  pub may : MayAll (End ∷ steps_in s)
+
+-- behind more steps, the writer is given back as it is
+pub record GivenBack {C : Type 0} (seen : C → Writer) (Goes : (C → Writer) → Proof C → Proof C → Type 0) (s : Solver C) (given : C) : Type 0 where
+  pub proof : Proof C
+  pub goes : Goes seen (proof_in s) proof
+  pub gives : Gives (target_of seen proof) (Some (seen given))
+
+-- Where its certificate was opened before any step, and it has come from there, also to a fault: the writer that is given back took a front
+-- of the text of accepted steps.
+pub record GivesFront {C : Type 0} (seen : C → Writer) (s : Solver C) (given : C) : Type 0 where
+  pub front : (opened : Solver C) (from : Writer) → target_of seen (proof_in opened) ≡ Open Varisat uncounted (empty_sink from)
+      → steps_in opened ≡ [] → Went seen opened s → TookSteps (from, seen given)
+
+-- the certificate was ended, or not, for which no store is to blame and no counter
+abbrev pub Closes : {C : Type 0} → (C → Writer) → Result (Unit {0}) RunFault → Solver C → C → Type 0
+Closes seen (Ok x) s given = ClosedBy seen s given
+Closes seen (Err e) s given = FaultSays e ⊥ (GivenBack seen Broke s given) (GivenBack seen Took s given) × IsCaused e ⊥ ⊥
+
+-- and then the answers, whose writer was flushed, and took nothing
+abbrev pub FinishesRun : {C : Type 0} → (C → Writer) → Result (Unit {0}) RunFault → Solver C → C → Writer → Writer → Type 0
+FinishesRun seen (Ok x) s given before after = ClosedBy seen s given × Takes before after [] × (after.flushed ≡ true)
+FinishesRun seen (Err e) s given before after = FaultSays e
+    (OneFailed before after × ClosedBy seen s given)
+    (NoneFailed before after × GivenBack seen Broke s given)
+    (NoneFailed before after × GivenBack seen Took s given)
+    × TookBytes before after []
+    × IsCaused e ⊥ ⊥
+
+-- what a session says of itself
+pub record SumsUp {C : Type 0} (at : Option ℕ) (s : Session C) (summary : Summary) : Type 0 where
+  pub commands : summary.commands ≡ s.commands
+  pub refused : summary.refused ≡ s.refused
+  pub ends : summary.malformed ≡ at
+  pub asks : summary.asks ≡ s.asks
+
+-- A run whose script was served so ends so: behind a fault nothing more is written.
+abbrev pub EndsRun : {C : Type 0} → (C → Writer) → Result (Option ℕ) RunFault → Result Summary RunFault → Session C → C → Writer → Writer → Type 0
+EndsRun seen (Ok at) (Ok summary) s given before after = FinishesRun seen (Ok tt) s.solver given before after × SumsUp at s summary
+EndsRun seen (Ok at) (Err e) s given before after = FinishesRun seen (Err e) s.solver given before after
+EndsRun seen (Err e) r s given before after =
+    (r ≡ Err e) × (after ≡ before) × Gives (target_of seen (proof_in s.solver)) (Some (seen given))

@@ -1,0 +1,53 @@
+-- Commands that a run's solver carries out by itself: clauses, and those that hide names or set their mode.
+use Rattle.std.specs.Prelude.{ℕ, ◌+◌, ◌≡◌, true, false, List, [], ◌∷◌, Result}
+use Rattle.sat_base.specs.device.Device.{Writer}
+use Rattle.sat_base.specs.script.Script.{Command, Hide, Witness, Sample}
+use Rattle.sat_base.specs.script.Judge.{Judge, Sampled, Witnessed, accepted}
+use Rattle.sat_base.specs.steps.Steps.{Step}
+use Rattle.sat_checker.specs.matching.ProofChecking.{the_checking}
+use Rattle.sat_solver.specs.declared.error.SolverError.{SolverError}
+use Rattle.sat_solver.specs.variables.Calls.{Agree}
+use Rattle.sat_solver.specs.variables.Coming.{MayHide, MaySet}
+use Rattle.sat_checker.specs.matching.Expected.{Expected, hiding, setting}
+use Rattle.sat_checker.specs.matching.Bridge.{Live}
+use Rattle.sat_solver.specs.session.Making.{Took}
+use Rattle.sat_solver.specs.solver.Naming.{ChangesMode}
+use Rattle.sat_solver.specs.solver.Whole.{steps_in}
+use Rattle.certify.specs.declared.judge.NameState.{NameState}
+use Rattle.certify.specs.declared.judge.NameState.TheVariants as state
+use Rattle.certify.specs.run.SolverCalls.{IsReady, proof_in}
+use Rattle.certify.specs.run.Stretches.{MayFor, Stretch, due_for}
+use Rattle.certify.specs.run.Quiet.{Solver}
+
+-- the command by which names get this state
+abbrev pub command_to : NameState → List ℕ → Command
+command_to state.Hidden names = Hide names
+command_to state.Sampled names = Sample names
+command_to state.Witnessed names = Witness names
+
+-- what a solver makes for it
+abbrev pub due_to : NameState → List ℕ → Judge → List Expected
+due_to state.Hidden names = hiding names
+due_to state.Sampled names = setting Sampled names
+due_to state.Witnessed names = setting Witnessed names
+
+-- which steps may come for one name of it
+abbrev pub may_to : NameState → ℕ → List Step → Step → Type 0
+may_to state.Hidden name = MayHide
+may_to state.Sampled name = MaySet name true
+may_to state.Witnessed name = MaySet name false
+
+-- what came of a call that brings a name in, which gets this state
+abbrev pub ChangesName : {C : Type 0} → (C → Writer) → Result (Unit {0}) SolverError → Solver C → Solver C → ℕ → NameState → Type 0
+ChangesName seen r old new user st =
+    ChangesMode seen r old new user (accepted (command_to st ((user + 1) ∷ []))) (due_to st ((user + 1) ∷ [])) (may_to st (user + 1))
+
+-- a command that is no ask was carried out
+pub record Obeyed {C : Type 0} (seen : C → Writer) (c : Command) (old new : Solver C) : Type 0 where
+  pub ready : IsReady new
+  pub took : Took seen (proof_in old) (proof_in new)
+  pub assumed : new.assumed ≡ old.assumed
+  pub clock : new.clock ≡ old.clock
+  pub keeps : (j : Judge) (live : Live) → Agree old.names (steps_in old) j live
+      → (then : Live) × Agree new.names (steps_in new) (accepted c j) then
+      × Stretch (MayFor c) (steps_in old) (steps_in new) (due_for (the_checking.unsat (steps_in old)) c j)

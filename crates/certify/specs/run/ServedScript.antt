@@ -1,0 +1,122 @@
+-- How a script is served that is read as its commands are wanted, whatever would follow in it. Lists of steps have the newest first.
+use Rattle.std.specs.Prelude.{ℕ, ◌+◌, ◌≡◌, true, false, Option, List, ◌++◌, map, length, Result, Ok, Err}
+use Rattle.sat_base.specs.declared.device.whole.ReadError.{ReadError}
+use Rattle.sat_base.specs.declared.device.whole.ReadError.TheVariants as errors
+use Rattle.sat_base.specs.device.Device.{Writer, Takes}
+use Rattle.sat_base.specs.device.Reading.{Source}
+use Rattle.sat_base.specs.script.Script.{Command}
+use Rattle.sat_base.specs.script.Language.{Reading, onto_commands}
+use Rattle.sat_base.specs.script.Judge.{Judge, accepted_of, after_script}
+use Rattle.sat_base.specs.steps.Steps.{Step}
+use Rattle.sat_checker.specs.matching.Expected.{Outcome}
+use Rattle.sat_solver.specs.session.Making.{Took, Broke}
+use Rattle.sat_solver.specs.solver.Whole.{HasFullStore, steps_in}
+use Rattle.certify.specs.Devices.{NoneFailed, OneFailed}
+use Rattle.certify.specs.answers.Answers.{answers_from}
+use Rattle.certify.specs.answers.RightAnswers.{AreRight}
+use Rattle.certify.specs.confirm.Streams.{Covers, rest_in}
+use Rattle.certify.specs.declared.fault.RunFault.{RunFault}
+use Rattle.certify.specs.declared.fault.RunFault.TheVariants as fault
+use Rattle.certify.specs.declared.script.reader.ScriptReader.{ScriptReader}
+use Rattle.certify.specs.declared.run.session.Session.{Session}
+use Rattle.certify.specs.declared.summary.AskReport.{AskReport}
+use Rattle.certify.specs.script.Ahead.{Failed, Passed, TakesSome as TookOf}
+use Rattle.certify.specs.script.Commands.{Means, MeansIf}
+use Rattle.certify.specs.run.FinishedRun.{refused_count, malformed_at, answer_kind, AreSpent, asked_steps, identities_given}
+use Rattle.certify.specs.run.Unfinished.{Exceeds, TookFront}
+use Rattle.certify.specs.run.SolverCalls.{IsCaused, IsReady, proof_in}
+use Rattle.certify.specs.run.Serving.{RunPlace, Serves}
+use Rattle.certify.specs.run.Standing.{RunGoesOn, JudgeIsAt, place_in}
+use Rattle.certify.specs.run.Stretches.{MadeFor}
+use Rattle.certify.specs.run.Quiet.{Solver}
+
+-- These commands were served, one after another.
+pub record ServedAll {C : Type 0} (seen : C → Writer) (j : Judge) (commands : List Command)
+    (old new : Session C) (before after : Writer) : Type 0 where
+  pub judge : Judge
+  pub at : JudgeIsAt new judge
+  pub judges : judge ≡ after_script commands j
+  pub took : Took seen (proof_in old.solver) (proof_in new.solver)
+  pub counted : new.commands ≡ old.commands + length commands
+  pub budget : new.budget ≡ old.budget
+  pub text : List ℕ
+  pub told : Takes before after text
+  pub reports : List AskReport
+  pub asks : new.asks.items ≡ old.asks.items ++ reports
+  pub refused : ℕ
+  pub refusals : new.refused ≡ old.refused + refused
+  pub serves : Serves old.budget (place_in old j) (place_in new judge) commands text reports refused
+
+-- From this place on the whole script was served, which made these steps. This was answered, these are the reports of the asks, and
+-- so many commands were refused.
+pub record ServesTo (budget : ℕ) (a : RunPlace) (script : Reading) (to : List Step)
+    (answered : List ℕ) (reports : List AskReport) (refused : ℕ) : Type 0 where
+  pub outcomes : List Outcome
+  pub right : AreRight a.judge (accepted_of a.judge script.0) outcomes
+  pub says : answers_from a.number a.judge script.0 script.1 outcomes ≡ answered
+  pub refuses : refused_count a.judge script.0 ≡ refused
+  pub kinds : map (λ r. r.answer) reports ≡ map answer_kind outcomes
+  pub spent : AreSpent budget a.rounds (identities_given a.judge (accepted_of a.judge script.0)) reports
+  pub follows : MadeFor a.judge a.steps to (accepted_of a.judge script.0) outcomes (asked_steps reports)
+
+-- The whole script was served, in which so many commands stand. It is malformed at this command, if it is.
+pub record ServesWhole {C : Type 0} (seen : C → Writer) (j : Judge) (script : Reading) (count : ℕ) (at : Option ℕ)
+    (old new : Session C) (before after : Writer) : Type 0 where
+  pub took : Took seen (proof_in old.solver) (proof_in new.solver)
+  pub counted : new.commands ≡ old.commands + count
+  pub ends : at ≡ malformed_at (old.commands + length script.0 + 1) script.1
+  pub text : List ℕ
+  pub told : Takes before after text
+  pub reports : List AskReport
+  pub asks : new.asks.items ≡ old.asks.items ++ reports
+  pub refused : ℕ
+  pub refusals : new.refused ≡ old.refused + refused
+  pub serves : ServesTo old.budget (place_in old j) script (steps_in new.solver) text reports refused
+
+-- Between two of these commands were served; behind them the reader of scripts stands where `left` says what is left, and `plain` what
+-- is left of the commands that stand in the text.
+pub record ServesThrough {C : Type 0} (seen : C → Writer) (j : Judge) (text counted : List ℕ → Reading) (a b : Source)
+    (reader : ScriptReader) (old new : Session C) (before after : Writer) : Type 0 where
+  pub commands : List Command
+  pub left : List ℕ → Reading
+  pub means : Means reader left
+  pub plain : List ℕ → Reading
+  pub counts : MeansIf false reader plain
+  pub took : TookOf true a b
+  pub reads : (total : List ℕ) → Covers b total → text (rest_in total a) ≡ onto_commands commands (left (rest_in total b))
+  pub holds : (total : List ℕ) → Covers b total
+      → length (counted (rest_in total a)).0 ≡ length commands + length (plain (rest_in total b)).0
+  pub goes_on : RunGoesOn new
+  pub served : ServedAll seen j commands old new before after
+
+-- a run's fault where its script can't be read
+abbrev pub run_fault : ReadError → RunFault
+run_fault errors.Failed = fault.ScriptRead
+run_fault errors.OutOfMemory = fault.OutOfMemory
+
+-- what each fault says, where the script can't be read, the answers not written or the certificate, and otherwise
+abbrev pub RunFaultSays : RunFault → Type 0 → Type 0 → Type 0 → Type 0 → Type 0
+RunFaultSays fault.ScriptRead script answers certificate rest = script
+RunFaultSays fault.AnswersWrite script answers certificate rest = answers
+RunFaultSays fault.CertificateWrite script answers certificate rest = certificate
+RunFaultSays fault.OutOfMemory script answers certificate rest = rest
+RunFaultSays fault.StoreFull script answers certificate rest = rest
+RunFaultSays fault.CounterEnd script answers certificate rest = rest
+
+-- one call of one device failed, perhaps, which the fault names
+abbrev pub FailsWhole : {C : Type 0} → (C → Writer) → RunFault → Source → Source → Solver C → Solver C → Writer → Writer → Type 0
+FailsWhole seen e a b old new before after = RunFaultSays e
+    (Failed a b × NoneFailed before after × Took seen (proof_in old) (proof_in new))
+    (Passed a b × OneFailed before after × Took seen (proof_in old) (proof_in new))
+    (Passed a b × NoneFailed before after × Broke seen (proof_in old) (proof_in new))
+    (Passed a b × NoneFailed before after × Took seen (proof_in old) (proof_in new))
+
+-- The script is served to its end; or there's a fault, and a front of right answers was written. It is none of store or counter without
+-- a cause.
+abbrev pub ServesScript : {C : Type 0} → (C → Writer) → Judge → (List ℕ → Reading) → (List ℕ → Reading) → Result (Option ℕ) RunFault
+    → Source → Source → Session C → Session C → Writer → Writer → Type 0
+ServesScript seen j text counted (Ok at) a b old new before after = TookOf false a b × IsReady new.solver × ((total : List ℕ) → Covers b total
+    → ServesWhole seen j (text (rest_in total a)) (length (counted (rest_in total a)).0) at old new before after)
+ServesScript seen j text counted (Err e) a b old new before after = FailsWhole seen e a b old.solver new.solver before after
+    × ((total : List ℕ) → Covers b total → TookFront (old.commands + 1) j (text (rest_in total a)) before after)
+    × IsCaused e (HasFullStore new.solver) ((total : List ℕ) → Covers b total → Exceeds old.commands j (text (rest_in total a)))

@@ -1,0 +1,41 @@
+-- What a run makes of commands, one after another. Lists of steps have the newest first.
+use Rattle.std.specs.Prelude.{ℕ, ◌+◌, ◌≡◌, List, ◌++◌, map}
+use Rattle.sat_base.specs.script.Script.{Command, Ending}
+use Rattle.sat_base.specs.script.Judge.{Judge, accepted, accepted_of}
+use Rattle.sat_base.specs.steps.Steps.{Step}
+use Rattle.sat_checker.specs.matching.Expected.{Outcome}
+use Rattle.certify.specs.answers.Answers.{answers_from}
+use Rattle.certify.specs.answers.RightAnswers.{AreRight}
+use Rattle.certify.specs.run.FinishedRun.{refused_count, answer_kind, AreSpent, asked_steps, identities_given}
+use Rattle.certify.specs.run.Stretches.{MadeFor}
+use Rattle.certify.specs.declared.summary.AskReport.{AskReport}
+
+-- where a run stands: the judge's state, the number of the next command, the steps made so far and the rounds
+pub record RunPlace : Type 0 where
+  pub judge : Judge
+  pub number : ℕ
+  pub steps : List Step
+  pub rounds : ℕ
+
+-- These commands brought a run from one place to another. This was answered, these are the reports of the asks, and so many were
+-- refused; whatever commands are left, and whatever is answered to them.
+pub record Serves (budget : ℕ) (a b : RunPlace) (commands : List Command)
+    (answered : List ℕ) (reports : List AskReport) (refused : ℕ) : Type 0 where
+  pub outcomes : List Outcome
+  pub right : (left : List Command) (rest : List Outcome) → AreRight b.judge (accepted_of b.judge left) rest
+      → AreRight a.judge (accepted_of a.judge (commands ++ left)) (outcomes ++ rest)
+  pub says : (left : List Command) (ending : Ending) (rest : List Outcome)
+      → answers_from a.number a.judge (commands ++ left) ending (outcomes ++ rest)
+      ≡ answered ++ answers_from b.number b.judge left ending rest
+  pub refuses : (left : List Command) → refused_count a.judge (commands ++ left) ≡ refused + refused_count b.judge left
+  pub kinds : map (λ r. r.answer) reports ≡ map answer_kind outcomes
+  pub spent : (left : List Command) (rest : List AskReport)
+      → AreSpent budget b.rounds (identities_given b.judge (accepted_of b.judge left)) rest
+      → AreSpent budget a.rounds (identities_given a.judge (accepted_of a.judge (commands ++ left))) (reports ++ rest)
+  pub follows : (to : List Step) (left : List Command) (rest : List Outcome) (counts : List ℕ)
+      → MadeFor b.judge b.steps to (accepted_of b.judge left) rest counts
+      → MadeFor a.judge a.steps to (accepted_of a.judge (commands ++ left)) (outcomes ++ rest) (asked_steps reports ++ counts)
+
+-- behind a command that isn't refused
+abbrev pub behind : RunPlace → Command → List Step → ℕ → RunPlace
+behind a c steps rounds = record { judge = accepted c a.judge; number = a.number + 1; steps = steps; rounds = rounds }

@@ -1,0 +1,47 @@
+-- What holds of commands that are served.
+use Rattle.std.specs.Prelude.{ℕ, ◌+◌, ◌≡◌, Some, None, List, [], ◌∷◌, ◌++◌, map}
+use Rattle.std.specs.List.{AllByRecursion}
+use Rattle.sat_base.specs.values.Clauses.{Valuation, EachTrue, EachHolds}
+use Rattle.sat_base.specs.script.Script.{Literal, Command, Ask, Among}
+use Rattle.sat_base.specs.script.Judge.{Judge, Refusal, IsRightCore, accepted, over, refusal_of}
+use Rattle.sat_base.specs.steps.Steps.{Step}
+use Rattle.sat_checker.specs.LiteralSets.{canonical}
+use Rattle.sat_checker.specs.matching.Expected.{Outcome}
+use Rattle.sat_checker.specs.matching.ProofChecking.{the_checking}
+use Rattle.certify.specs.answers.AnswerForms.{named_literals}
+use Rattle.certify.specs.answers.Answers.{refused_line, outcome_text}
+use Rattle.certify.specs.answers.RightAnswers.{IsRight}
+use Rattle.certify.specs.run.FinishedRun.{IsBounded, IsSpent, answer_kind}
+use Rattle.certify.specs.run.Serving.{RunPlace, Serves, behind}
+use Rattle.certify.specs.run.Stretches.{AskStretches, IsNoAsk, MayFor, Stretch, due_for}
+use Rattle.certify.specs.declared.summary.AskReport.{AskReport}
+
+-- what serves some commands and then others serves them all
+abbrev pub ServingComposes : Type 0
+ServingComposes = (budget : ℕ) (a b c : RunPlace) (xs ys : List Command) (s t : List ℕ) (rs qs : List AskReport) (k l : ℕ)
+    → Serves budget a b xs s rs k → Serves budget b c ys t qs l → Serves budget a c (xs ++ ys) (s ++ t) (rs ++ qs) (k + l)
+
+-- a refused command is answered by its line, and nothing else changes
+abbrev pub RefusalServes : Type 0
+RefusalServes = (budget : ℕ) (a : RunPlace) (c : Command) (r : Refusal) → refusal_of a.judge c ≡ Some r
+    → Serves budget a (record a { number = a.number + 1 }) (c ∷ []) (refused_line a.number r) [] 1
+
+-- one that isn't refused and is no ask is answered by nothing, where what is due for it was made
+abbrev pub PlainServes : Type 0
+PlainServes = (budget : ℕ) (a : RunPlace) (c : Command) (steps : List Step) → IsNoAsk c → refusal_of a.judge c ≡ None
+    → Stretch (MayFor c) a.steps steps (due_for (the_checking.unsat a.steps) c a.judge)
+    → Serves budget a (behind a c steps a.rounds) (c ∷ []) [] [] 0
+
+-- an ask is answered by its outcome, where that is right and took no more rounds than there might be
+abbrev pub AskServes : Type 0
+AskServes = (budget : ℕ) (a : RunPlace) (ls : List Literal) (o : Outcome) (report : AskReport) (steps : List Step) → refusal_of a.judge (Ask ls) ≡ None
+    → IsRight (accepted (Ask ls) a.judge) ls o → report.answer ≡ answer_kind o → IsSpent budget a.rounds report
+    → IsBounded (accepted (Ask ls) a.judge).next_identity budget a.rounds report
+    → AskStretches a.judge ls o report.steps a.steps steps
+    → Serves budget a (behind a (Ask ls) steps (a.rounds + report.steps)) (Ask ls ∷ []) (outcome_text o) (report ∷ []) 0
+
+-- a core of an ask, whatever its order, is a right core once its literals are sorted
+abbrev pub CoresAreSorted : Type 0
+CoresAreSorted = (j : Judge) (ask : List Literal) (core : List ℕ) → AllByRecursion (λ l. Among l ask) (named_literals core)
+    → ((a : Valuation) → EachTrue a (map (over j) (named_literals core)) → EachHolds a j.clauses → ⊥)
+    → IsRightCore j ask (named_literals (canonical core))

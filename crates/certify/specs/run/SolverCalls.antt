@@ -1,0 +1,124 @@
+-- What a run's calls of its solver leave, and which faults they give.
+use Rattle.std.specs.Prelude.{ℕ, ◌+◌, ◌<◌, ◌≡◌, Bool, true, false, None, Result, IfErr, List}
+use Rattle.sat_base.specs.device.Device.{Writer}
+use Rattle.sat_base.specs.script.Judge.{Judge, accepted, refused_literal}
+use Rattle.sat_base.specs.script.Script.{Command}
+use Rattle.sat_base.specs.values.Literals.{largest}
+use Rattle.sat_solver.specs.declared.error.SolverError.{SolverError}
+use Rattle.sat_solver.specs.declared.error.SolverError.TheVariants as errors
+use Rattle.sat_solver.specs.declared.state.State.{State}
+use Rattle.sat_solver.specs.declared.state.State.TheVariants as states
+use Rattle.sat_solver.specs.variables.Calls.{Agree}
+use Rattle.sat_checker.specs.matching.Bridge.{Live}
+use Rattle.sat_solver.specs.variables.Refusing.{names_in}
+use Rattle.sat_solver.specs.variables.Room.{HasRoom}
+use Rattle.sat_solver.specs.session.Making.{Took, Broke}
+use Rattle.sat_solver.specs.proof.ProofView.{is_checked, is_drat, target_of}
+use Rattle.sat_solver.specs.solver.Calls.{Answered}
+use Rattle.sat_solver.specs.solver.Taking.{IsNameFaultOr}
+use Rattle.sat_solver.specs.solver.Whole.{IsSolver, steps_in}
+use Rattle.certify.specs.declared.fault.RunFault.{RunFault}
+use Rattle.certify.specs.declared.fault.RunFault.TheVariants as fault
+use Rattle.certify.specs.declared.summary.Answer.{Answer}
+use Rattle.certify.specs.declared.summary.Answer.TheVariants as kind
+use Rattle.certify.specs.declared.summary.AskReport.{AskReport}
+use Rattle.certify.specs.run.FinishedRun.{IsSpent}
+use Rattle.certify.specs.run.Quiet.{Proof, Solver}
+
+-- what a solver that goes on, and isn't refused, may fail of
+abbrev pub IsSolverFault : SolverError → Type 0
+IsSolverFault = IsNameFaultOr (Unit {0})
+
+-- the same as a run's fault
+abbrev pub fault_for : SolverError → RunFault
+fault_for (errors.ProofIoError cause) = fault.CertificateWrite
+fault_for errors.OutOfMemory = fault.OutOfMemory
+fault_for errors.StoreFull = fault.StoreFull
+fault_for e = fault.CounterEnd
+
+abbrev pub is_interrupted : SolverError → Bool
+is_interrupted errors.Interrupted = true
+is_interrupted e = false
+
+-- what each fault says, where writing the answers failed, writing the certificate, and what no device decides; the script wasn't read
+abbrev pub FaultSays : RunFault → Type 0 → Type 0 → Type 0 → Type 0
+FaultSays fault.ScriptRead answers certificate rest = ⊥
+FaultSays fault.AnswersWrite answers certificate rest = answers
+FaultSays fault.CertificateWrite answers certificate rest = certificate
+FaultSays fault.OutOfMemory answers certificate rest = rest
+FaultSays fault.StoreFull answers certificate rest = rest
+FaultSays fault.CounterEnd answers certificate rest = rest
+
+-- why a fault came that is no device's and no want of memory: the clause buffer is full, or a variable is lacking for a name
+abbrev pub IsCaused : RunFault → (full lacks : Type 0) → Type 0
+IsCaused fault.ScriptRead full lacks = Unit {0}
+IsCaused fault.AnswersWrite full lacks = Unit {0}
+IsCaused fault.CertificateWrite full lacks = Unit {0}
+IsCaused fault.OutOfMemory full lacks = Unit {0}
+IsCaused fault.StoreFull full lacks = full
+IsCaused fault.CounterEnd full lacks = lacks
+
+-- where a solver writes
+abbrev pub proof_in : {C : Type 0} → Solver C → Proof C
+proof_in s = s.core.proof
+
+-- a call of the solver failed, perhaps since one of the certificate's writer did, the last
+abbrev pub FailsSolver : {C : Type 0} → (C → Writer) → RunFault → Solver C → Solver C → Type 0
+FailsSolver seen e old new = FaultSays e ⊥ (Broke seen (proof_in old) (proof_in new)) (Took seen (proof_in old) (proof_in new))
+
+-- so, where there was a fault
+abbrev pub FailsIf : {T C : Type 0} → Result T RunFault → (C → Writer) → Solver C → Solver C → Type 0
+FailsIf r seen old new = IfErr r (λ e. FailsSolver seen e old new)
+
+-- no lines of DRAT are written
+abbrev pub HasNoLines : {C : Type 0} → Proof C → Type 0
+HasNoLines {C} p = (seen : C → Writer) → is_drat (target_of seen p) ≡ false
+
+-- a solver that goes on, whose asks may have assumptions, with no checker of its own
+pub record IsReady {C : Type 0} (s : Solver C) : Type 0 where
+  pub solver : IsSolver s
+  pub going : s.failed ≡ false
+  pub no_lines : HasNoLines (proof_in s)
+  pub unchecked : is_checked (proof_in s) ≡ false
+
+-- none of the names is refused, by a state of the judge that the solver agrees with
+abbrev pub IsAllowed : {C : Type 0} → Solver C → List ℕ → Type 0
+IsAllowed s user = (j : Judge) × (live : Live) × Agree s.names (steps_in s) j live × (refused_literal j (names_in user) ≡ None)
+
+-- a variable is lacking for a name that would come in with these
+abbrev pub LacksRoom : {C : Type 0} → Solver C → (users : List ℕ) → Type 0
+LacksRoom s users = HasRoom s.names users → ⊥
+
+-- Once this command was carried out, the judge would have given out more identities than there are variables.
+abbrev pub NeedsMore : {C : Type 0} → Solver C → Command → Type 0
+NeedsMore s c = (j : Judge) (live : Live) → Agree s.names (steps_in s) j live → largest < (accepted c j).next_identity
+
+-- from here on a search makes at most so many rounds
+pub record Limited {C : Type 0} (budget : ℕ) (old new : Solver C) : Type 0 where
+  pub ready : IsReady new
+  pub limit : new.core.config.max_steps ≡ budget
+  pub proof : proof_in new ≡ proof_in old
+  pub names : new.names ≡ old.names
+  pub state : new.state ≡ old.state
+  pub assumed : new.assumed ≡ old.assumed
+  pub rounds : new.clock.steps ≡ old.clock.steps
+
+-- what is known, as an answer
+abbrev pub AnswerIs : State → Answer → Type 0
+AnswerIs states.Unknown answer = answer ≡ kind.Unknown
+AnswerIs states.Sat answer = answer ≡ kind.Sat
+AnswerIs states.UnsatUnderAssumptions answer = answer ≡ kind.Unsat
+AnswerIs states.Unsat answer = answer ≡ kind.Unsat
+
+-- a search came to this answer
+pub record Solved {C : Type 0} (seen : C → Writer) (answer : Answer) (old new : Solver C) : Type 0 where
+  pub answered : Answered seen old new
+  pub answer_is : AnswerIs new.state answer
+
+-- with at most so many rounds, of which it made some
+pub record Searched {C : Type 0} (seen : C → Writer) (budget : ℕ) (report : AskReport) (old new : Solver C) : Type 0 where
+  pub mid : Solver C
+  pub limited : Limited budget old mid
+  pub solved : Solved seen report.answer mid new
+  pub spent : IsSpent budget old.clock.steps report
+  pub rounds : new.clock.steps ≡ old.clock.steps + report.steps

@@ -1,0 +1,126 @@
+-- How a run stands between commands, and what one of them leaves.
+use Rattle.std.specs.Prelude.{ℕ, ◌+◌, ◌≤◌, ◌≡◌, None, List, [], ◌∷◌, ◌++◌, IfErr, OnErr, Result, MatchResult}
+use Rattle.sat_base.specs.device.Device.{Writer, Takes}
+use Rattle.sat_base.specs.script.Script.{Command}
+use Rattle.sat_base.specs.script.Judge.{Judge, Refusal, accepted, after_command, refusal_of}
+use Rattle.sat_solver.specs.variables.Calls.{Agree}
+use Rattle.sat_checker.specs.matching.Bridge.{Live}
+use Rattle.sat_solver.specs.session.Making.{Took, Broke}
+use Rattle.sat_solver.specs.solver.Whole.{HasFullStore, steps_in}
+use Rattle.certify.specs.Devices.{NoneFailed, OneFailed}
+use Rattle.certify.specs.answers.AnswerForms.{named_literals}
+use Rattle.certify.specs.answers.Answers.{refused_line}
+use Rattle.certify.specs.declared.fault.RunFault.{RunFault}
+use Rattle.certify.specs.declared.judge.names.Names.{Names}
+use Rattle.certify.specs.declared.script.Command.{Command as Lent}
+use Rattle.certify.specs.declared.run.session.Session.{Session}
+use Rattle.certify.specs.declared.summary.AskReport.{AskReport}
+use Rattle.certify.specs.judge.Names.{NamesStand}
+use Rattle.sat_base.specs.script.JudgeLaws.{IsKept}
+use Rattle.certify.specs.script.Commands.{kind_of}
+use Rattle.sat_base.specs.script.Language.{Reading, command_of, onto_commands}
+use Rattle.certify.specs.run.Unfinished.{Exceeds, TookFront}
+use Rattle.certify.specs.run.SolverCalls.{FaultSays, IsCaused, IsReady, NeedsMore, proof_in}
+use Rattle.certify.specs.run.Serving.{RunPlace, Serves}
+use Rattle.certify.specs.run.Quiet.{Solver}
+
+-- the judge's state is this, whatever names say of it
+pub record AgreesWithJudge {C : Type 0} (s : Solver C) (j : Judge) (live : Live) : Type 0 where
+  pub agree : Agree s.names (steps_in s) j live
+  pub kept : IsKept j
+
+-- a run between commands, where the judge's state is this
+pub record JudgeIsAt {C : Type 0} (s : Session C) (j : Judge) : Type 0 where
+  pub live : Live
+  pub means : AgreesWithJudge s.solver j live
+  pub names : NamesStand s.names j
+
+-- a run that goes on between commands, with nothing assumed
+pub record RunGoesOn {C : Type 0} (s : Session C) : Type 0 where
+  pub ready : IsReady s.solver
+  pub free : s.solver.assumed.items ≡ []
+  pub counted : s.refused ≤ s.commands
+  pub judge : Judge
+  pub at : JudgeIsAt s judge
+
+-- where a run stands, by the judge's state
+abbrev pub place_in : {C : Type 0} → Session C → Judge → RunPlace
+place_in s j = record { judge = j; number = s.commands + 1; steps = steps_in s.solver; rounds = s.solver.clock.steps }
+
+-- where it stood before the last command that came, of which nothing was done yet but counting it
+abbrev pub last_place : {C : Type 0} → Session C → Judge → RunPlace
+last_place s j = record { judge = j; number = s.commands; steps = steps_in s.solver; rounds = s.solver.clock.steps }
+
+-- the command that is lent, where no name is past the limit
+abbrev pub spelled_by : Lent → Command
+spelled_by lent = command_of (kind_of lent.kind) (named_literals lent.literals.now)
+
+-- no judge for whom the names stand refuses it
+abbrev pub NamesAllow : Names → Command → Type 0
+NamesAllow names c = (j : Judge) → NamesStand names j → refusal_of j c ≡ None
+
+-- the last command that came was carried out by solver and answers; the names are told of it apart
+pub record CarriedOut {C : Type 0} (seen : C → Writer) (old new : Session C) (c : Command) (before after : Writer) : Type 0 where
+  pub ready : IsReady new.solver
+  pub free : new.solver.assumed.items ≡ []
+  pub took : Took seen (proof_in old.solver) (proof_in new.solver)
+  pub commands : new.commands ≡ old.commands
+  pub refused : new.refused ≡ old.refused
+  pub budget : new.budget ≡ old.budget
+  pub text : List ℕ
+  pub told : Takes before after text
+  pub reports : List AskReport
+  pub asks : new.asks.items ≡ old.asks.items ++ reports
+  pub serves : (j : Judge) (live : Live) → AgreesWithJudge old.solver j live → refusal_of j c ≡ None
+      → (then : Live) × Agree new.solver.names (steps_in new.solver) (accepted c j) then
+      × Serves old.budget (last_place old j) (place_in new (accepted c j)) (c ∷ []) text reports 0
+
+-- a command was refused, the last that came
+pub record Refused {C : Type 0} (old new : Session C) (why : Refusal) (before after : Writer) : Type 0 where
+  pub told : Takes before after (refused_line old.commands why)
+  pub solver : new.solver ≡ old.solver
+  pub names : new.names ≡ old.names
+  pub commands : new.commands ≡ old.commands
+  pub refused : new.refused ≡ old.refused + 1
+  pub budget : new.budget ≡ old.budget
+  pub asks : new.asks ≡ old.asks
+
+-- the next command was served: refused, or taken
+pub record ServedNext {C : Type 0} (seen : C → Writer) (old new : Session C) (c : Command) (before after : Writer) : Type 0 where
+  pub goes_on : RunGoesOn new
+  pub took : Took seen (proof_in old.solver) (proof_in new.solver)
+  pub commands : new.commands ≡ old.commands + 1
+  pub budget : new.budget ≡ old.budget
+  pub text : List ℕ
+  pub told : Takes before after text
+  pub reports : List AskReport
+  pub asks : new.asks.items ≡ old.asks.items ++ reports
+  pub refused : ℕ
+  pub refusals : new.refused ≡ old.refused + refused
+  pub serves : (j : Judge) → JudgeIsAt old j
+      → JudgeIsAt new (after_command c j) × Serves old.budget (place_in old j) (place_in new (after_command c j)) (c ∷ []) text reports refused
+
+-- Where the last command, which isn't refused, wasn't carried out, a front of right answers to it and what is left was written.
+abbrev pub StopsCarrying : {T C : Type 0} → Result T RunFault → Session C → Command → Reading → Writer → Writer → Type 0
+StopsCarrying r old c left before after =
+    OnErr r ((j : Judge) (live : Live) → AgreesWithJudge old.solver j live → refusal_of j c ≡ None → TookFront old.commands j (onto_commands (c ∷ []) left) before after)
+
+-- the same of a script that wasn't served from here on
+abbrev pub StopsOver : {T C : Type 0} → Result T RunFault → Session C → Reading → Writer → Writer → Type 0
+StopsOver r old script before after = OnErr r ((j : Judge) → JudgeIsAt old j → TookFront (old.commands + 1) j script before after)
+
+-- why the last command, which isn't refused, wasn't carried out, but for devices and memory
+abbrev pub CausedBy : {T C : Type 0} → Result T RunFault → Session C → Session C → Command → Type 0
+CausedBy r old new c = IfErr r (λ e. IsCaused e (HasFullStore new.solver) (NeedsMore old.solver c))
+
+-- the same of a script that wasn't served from here on
+abbrev pub CausedOver : {T C : Type 0} → Result T RunFault → Session C → Session C → Reading → Type 0
+CausedOver r old new script = IfErr r (λ e. IsCaused e (HasFullStore new.solver) ((j : Judge) → JudgeIsAt old j → Exceeds old.commands j script))
+
+-- what a part of a run did to the answers' writer and to the certificate: one call of one of them may have failed
+abbrev pub WritesBoth : {T C : Type 0} → Result T RunFault → (C → Writer) → Writer → Writer → Solver C → Solver C → Type 0
+WritesBoth r seen before after old new = MatchResult r
+    (λ _. NoneFailed before after × Took seen (proof_in old) (proof_in new))
+    (λ e. FaultSays e (OneFailed before after × Took seen (proof_in old) (proof_in new))
+    (NoneFailed before after × Broke seen (proof_in old) (proof_in new))
+    (NoneFailed before after × Took seen (proof_in old) (proof_in new)))

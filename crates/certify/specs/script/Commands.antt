@@ -1,0 +1,163 @@
+-- How a reader of scripts stands in a text, and what tokens and bytes make of it.
+use Rattle.std.specs.Prelude.{ℕ, ◌≡◌, ◌<◌, ◌*◌, Bool, true, false, not, ◌&&◌, ◌||◌, Option, Some, None, List, [], ◌∷◌, ◌++◌}
+use Rattle.std.specs.List.{AllByRecursion}
+use Rattle.sat_base.specs.values.Literals.{largest}
+use Rattle.sat_base.specs.text.Text.{Token, Number, Letter, Header, Wrong, Scan}
+use Rattle.sat_base.specs.text.Chunks.{Follows}
+use Rattle.sat_base.specs.text.WrongWords.{RightAhead}
+use Rattle.sat_base.specs.text.Tokenizing.{Stands, held}
+use Rattle.sat_base.specs.script.Script.{Literal, Command, Ask, Clean, Malformed}
+use Rattle.certify.specs.answers.AnswerForms.{named_literals}
+use Rattle.sat_base.specs.script.Language.{Reading, onto_commands, spoken, Kind, OfClause, OfAsk, OfHide, OfWitness, OfSample, command_of, kind_of_letter, Hand, Nothing, Within, commands_of, with_ask}
+use Rattle.certify.specs.declared.script.CommandKind.{CommandKind}
+use Rattle.certify.specs.declared.script.CommandKind.TheVariants as kind
+use Rattle.certify.specs.declared.script.Command.{Command as Lent}
+use Rattle.certify.specs.declared.script.Reached.{Reached}
+use Rattle.certify.specs.declared.script.Reached.TheVariants as reached
+use Rattle.certify.specs.declared.script.ScriptEnd.{ScriptEnd}
+use Rattle.certify.specs.declared.script.ScriptEnd.TheVariants as ends
+use Rattle.certify.specs.declared.script.draft.Draft.{Draft}
+use Rattle.certify.specs.declared.script.commands.Commands.{Commands}
+use Rattle.certify.specs.declared.script.reader.ScriptReader.{ScriptReader}
+
+abbrev pub kind_of : CommandKind → Kind
+kind_of kind.Clause = OfClause
+kind_of kind.Ask = OfAsk
+kind_of kind.Hide = OfHide
+kind_of kind.Witness = OfWitness
+kind_of kind.Sample = OfSample
+
+-- what a letter begins
+abbrev pub BeginsKind : Option CommandKind → ℕ → Type 0
+BeginsKind None letter = kind_of_letter letter ≡ None
+BeginsKind (Some kind) letter = kind_of_letter letter ≡ Some (kind_of kind)
+
+abbrev pub is_ask_kind : Kind → Bool
+is_ask_kind OfClause = false
+is_ask_kind OfAsk = true
+is_ask_kind OfHide = false
+is_ask_kind OfWitness = false
+is_ask_kind OfSample = false
+
+-- nothing, or a literal past the limit and others
+abbrev pub BeginsPast : Bool → List Literal → Type 0
+BeginsPast false ls = ls ≡ []
+BeginsPast true [] = ⊥
+BeginsPast true (l ∷ ls) = largest < l.name
+
+-- the codes are those of the literals, up to the first past the limit
+pub record IsFront (codes : List ℕ) (past : Bool) (ls : List Literal) : Type 0 where
+  pub within : AllByRecursion (λ code. code < 2 * largest) codes
+  pub behind : List Literal
+  pub whole : ls ≡ named_literals codes ++ behind
+  pub limit : BeginsPast past behind
+
+-- a command is lent, with its literals up to the first past the limit
+abbrev pub IsLent : Lent → Command → Type 0
+IsLent lent c = (ls : List Literal) × IsFront lent.literals.now lent.past_limit ls × (c ≡ command_of (kind_of lent.kind) ls)
+
+-- some command is
+abbrev pub IsSomeLent : Lent → Type 0
+IsSomeLent lent = (c : Command) × IsLent lent c
+
+-- so in its reader
+abbrev pub IsWhole : Draft → Command → Type 0
+IsWhole draft c = (ls : List Literal) × IsFront draft.literals.items draft.past_limit ls × (c ≡ command_of (kind_of draft.kind) ls)
+
+-- it is what is in hand
+abbrev pub HoldsHand : Draft → Hand → Type 0
+HoldsHand draft Nothing = draft.is_open ≡ false
+HoldsHand draft (Within k ls) = (draft.is_open ≡ true) × (k ≡ kind_of draft.kind) × IsFront draft.literals.items draft.past_limit ls
+
+-- with a command in hand, which a literal begins
+abbrev pub opened : Hand → Hand
+opened Nothing = Within OfClause []
+opened (Within kind ls) = Within kind ls
+
+-- the literal has this number, which is held at 2^64-1, and this sign
+pub record IsNumbered (l : Literal) (name : ℕ) (positive : Bool) : Type 0 where
+  pub number : name ≡ held l.name
+  pub sign : positive ≡ l.positive
+
+abbrev pub is_header : Token → Bool
+is_header (Number negative value) = false
+is_header (Letter b) = false
+is_header (Header v c) = true
+is_header Wrong = false
+
+abbrev pub any_header : List Token → Bool
+any_header [] = false
+any_header (t ∷ ts) = is_header t || any_header ts
+
+-- What is still to be read behind what is in hand, where these tokens are to come: with the ask that a header may make due, or without.
+abbrev pub meaning : Bool → Commands → Hand → List Token → Reading
+meaning asks commands hand ts = with_ask (asks && ((commands.headed || any_header ts) && not commands.asked)) (commands_of hand ts)
+
+-- what a token leaves, behind any others: less to read, a whole command and then less, or a malformed text
+abbrev pub TakesToken : Reached → Commands → Token → Commands → Type 0
+TakesToken reached.More old t new = (hand : Hand) → HoldsHand old.draft hand
+    → (next : Hand) × HoldsHand new.draft next × ((asks : Bool) (ts : List Token) → meaning asks old hand (t ∷ ts) ≡ meaning asks new next ts)
+TakesToken reached.Command old t new = (hand : Hand) → HoldsHand old.draft hand
+    → (c : Command) × IsWhole new.draft c × HoldsHand new.draft Nothing
+    × ((asks : Bool) (ts : List Token) → meaning asks old hand (t ∷ ts) ≡ onto_commands (c ∷ []) (meaning asks new Nothing ts))
+TakesToken reached.Malformed old t new = (hand : Hand) → HoldsHand old.draft hand
+    → (asks : Bool) (ts : List Token) → meaning asks old hand (t ∷ ts) ≡ ([], Malformed)
+
+-- the reader stands at a place of a text: `left_of` says what is still to be read, whatever bytes come
+pub record MeansIf (asks : Bool) (reader : ScriptReader) (left_of : List ℕ → Reading) : Type 0 where
+  pub hand : Hand
+  pub holds : HoldsHand reader.commands.draft hand
+  pub scan_of : List ℕ → Scan
+  pub stands : Stands reader.tokenizer scan_of
+  pub reads : (rest : List ℕ) → left_of rest ≡ meaning asks reader.commands hand (spoken (scan_of rest).tokens)
+
+-- with the ask that a header may make due
+abbrev pub Means : ScriptReader → (List ℕ → Reading) → Type 0
+Means = MeansIf true
+
+-- no word is in hand that is wrong whatever follows: some text may follow without one
+abbrev pub MayGoOn : ScriptReader → Type 0
+MayGoOn reader = (scan_of : List ℕ → Scan) → Stands reader.tokenizer scan_of → RightAhead scan_of
+
+-- a command was read, and is to be lent
+pub record HasWhole (reader : ScriptReader) (c : Command) : Type 0 where
+  pub whole : IsWhole reader.commands.draft c
+
+-- bytes lead to a command, whatever follows
+pub record ReachesCommand (asks : Bool) (before : List ℕ → Reading) (bytes : List ℕ) (new : ScriptReader) : Type 0 where
+  pub command : Command
+  pub whole : HasWhole new command
+  pub after : List ℕ → Reading
+  pub stands : MeansIf asks new after
+  pub reads : (rest : List ℕ) → before (bytes ++ rest) ≡ onto_commands (command ∷ []) (after rest)
+
+-- what bytes leave, whatever follows
+abbrev pub TakesBytes : Reached → ScriptReader → List ℕ → ScriptReader → Type 0
+TakesBytes reached.More old bytes new = (asks : Bool) → Follows (MeansIf asks) old bytes new
+TakesBytes reached.Command old bytes new =
+    (asks : Bool) (before : List ℕ → Reading) → MeansIf asks old before → ReachesCommand asks before bytes new
+TakesBytes reached.Malformed old bytes new =
+    (asks : Bool) (before : List ℕ → Reading) → MeansIf asks old before → (rest : List ℕ) → before (bytes ++ rest) ≡ ([], Malformed)
+
+-- how a script ends: behind a header that no ask followed it is asked once
+abbrev pub end_reading : ScriptEnd → Reading
+end_reading ends.Clean = ([], Clean)
+end_reading ends.Asked = (Ask [] ∷ [], Clean)
+end_reading ends.Malformed = ([], Malformed)
+
+-- so with that ask, or without
+abbrev pub end_if : Bool → ScriptEnd → Reading
+end_if true e = end_reading e
+end_if false ends.Clean = ([], Clean)
+end_if false ends.Asked = ([], Clean)
+end_if false ends.Malformed = ([], Malformed)
+
+-- what is left where the text ends: perhaps a command, and the end
+abbrev pub EndsSo : Bool → Bool → ScriptEnd → Commands → Reading → Type 0
+EndsSo asks false e new r = r ≡ end_if asks e
+EndsSo asks true e new r = (c : Command) × IsWhole new.draft c × (r ≡ onto_commands (c ∷ []) (end_if asks e))
+
+-- so of a reader
+abbrev pub EndsLast : Bool → Bool → ScriptEnd → ScriptReader → Reading → Type 0
+EndsLast asks false e new r = r ≡ end_if asks e
+EndsLast asks true e new r = (c : Command) × HasWhole new c × (r ≡ onto_commands (c ∷ []) (end_if asks e))

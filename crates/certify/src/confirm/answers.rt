@@ -1,0 +1,219 @@
+//! The answers to a script, as they are due.
+ghost use Rattle.std.specs.Prelude.{◌≡◌, [], true, false};
+ghost use Rattle.std.specs.Bool.{MatchBool};
+ghost use Rattle.certify.specs.answers.Answers.{malformed_line, refused_line};
+ghost use Rattle.certify.specs.answers.AnswerForms.{named_literals};
+ghost use Rattle.certify.specs.answers.AnswerReading.{outcome_of};
+ghost use Rattle.certify.specs.confirm.Lines.{TakesLine, stop_after};
+ghost use Rattle.certify.specs.confirm.Stopping.{Replies, SaysSo};
+ghost use Rattle.certify.specs.confirm.Lines.{IsLine, IsReply, IsWantedLine, NextLine, ReadsFirst, ReadsSecond, answers_source};
+ghost use Rattle.certify.specs.judge.Names.{refusal_in};
+ghost use Rattle.certify.specs.script.Ahead.{IsNotAtEnd, waiting};
+
+use crate::answers::read::{AnswerFault, AnswerKind, read_kind, read_line};
+use crate::answers::refused::push_refused;
+use crate::answers::write::push_malformed;
+use crate::confirm::lines::{Lines, Wanted};
+use crate::confirm::stop::{Stop, unread_answers};
+use crate::judge::Refusal;
+use crate::verdict::Why;
+use sat_base::{CountedRead, Lit};
+use std::alloc::Global;
+
+/// An answer, and the literals of its line by the indices of their names.
+#[derive(Drop)]
+pub(crate) struct Reply {
+    pub kind: AnswerKind,
+    pub lits: Vec<Lit>,
+}
+
+/// The answers, of which the line in hand is held.
+#[derive(Drop)]
+pub(crate) struct Answers {
+    lines: Lines,
+    pub reply: Reply,
+    /// A line that is due.
+    due: Vec<u8>,
+}
+
+fn is_same(line: &[u8], due: &[u8]) -> bool
+    ensures { MatchBool result (line.now ≡ due.now) (line.now ≡ due.now → ⊥) }
+{
+    line == due
+}
+
+fn is_none(line: &[u8]) -> bool
+    ensures { MatchBool result (line.now ≡ []) (line.now ≡ [] → ⊥) }
+{
+    line.is_empty()
+}
+
+/// Whether only one answer may stand where another kind does.
+fn is_other(settled: bool, kind: AnswerKind) -> bool
+    ensures { MatchBool result ((settled ≡ true) × (kind ≡ AnswerKind.Unsat → ⊥)) (settled ≡ true → kind ≡ AnswerKind.Unsat) }
+{
+    if !settled {
+        return false;
+    }
+    match kind {
+        AnswerKind::Sat => true,
+        AnswerKind::Unsat => false,
+        AnswerKind::Unknown => true,
+    }
+}
+
+/// Whether only an answer without literals may stand where there are some.
+fn has_more(settled: bool, lits: &[Lit]) -> bool
+    ensures { MatchBool result ((settled ≡ true) × (lits.now ≡ [] → ⊥)) (settled ≡ true → lits.now ≡ []) }
+{
+    if !settled {
+        return false;
+    }
+    !lits.is_empty()
+}
+
+/// No answer was read.
+fn unanswered(fault: AnswerFault) -> Stop
+    ensures { result ≡ stop_after fault }
+{
+    match fault {
+        AnswerFault::Missing => Stop::No(Why::AnswerMissing),
+        AnswerFault::Text => Stop::No(Why::AnswerText),
+        AnswerFault::OutOfMemory => Stop::OutOfMemory,
+    }
+}
+
+impl Answers {
+    /// Before the first line.
+    pub fn new(alloc: Global) -> Answers
+        ensures waiting { waiting result.lines.ahead ≡ [] }
+        ensures reads { result.lines.ahead.reads ≡ 0 }
+    {
+        Answers {
+            lines: Lines::new(alloc),
+            reply: Reply {
+                kind: AnswerKind::Unknown,
+                lits: Vec::new(alloc),
+            },
+            due: Vec::new(alloc),
+        }
+    }
+
+    /// Reads the next line, of those that are wanted.
+    fn next_line<A: CountedRead>(&mut self, answers: &mut A, wanted: Wanted) -> Result<(), Stop>
+        ensures line { NextLine (IsWantedLine wanted self.old.due.items) result
+            (answers_source A.seen answers.old self.old) (answers_source A.seen answers.new self.new)
+            self.new.lines.line.items }
+        ensures due { self.new.due.items ≡ self.old.due.items }
+    {
+        match self.lines.next(answers, wanted, &self.due) {
+            Ok(()) => Ok(()),
+            Err(error) => Err(unread_answers(error)),
+        }
+    }
+
+    /// Takes the line that is due.
+    fn take_due<A: CountedRead>(&mut self, answers: &mut A) -> Result<(), Stop>
+        requires open_yet { IsNotAtEnd (answers_source A.seen answers.old self.old) }
+        requires line { IsLine self.old.due.items }
+        ensures { Replies true result (answers_source A.seen answers.old self.old) (answers_source A.seen answers.new self.new)
+            (λ before behind. TakesLine before behind self.old.due.items) }
+    {
+        self.next_line(answers, Wanted::Due)?;
+        if is_same(&self.lines.line, &self.due) {
+            return Ok(());
+        }
+        if is_none(&self.lines.line) {
+            return Err(Stop::No(Why::AnswerMissing));
+        }
+        Err(Stop::No(Why::AnswerText))
+    }
+
+    /// Expects the line that refuses the command of this number.
+    pub fn refuse<A: CountedRead>(
+        &mut self,
+        answers: &mut A,
+        number: u64,
+        refusal: Refusal,
+    ) -> Result<(), Stop>
+        requires open_yet { IsNotAtEnd (answers_source A.seen answers.old self.old) }
+        ensures { Replies true result (answers_source A.seen answers.old self.old) (answers_source A.seen answers.new self.new)
+            (λ before behind. TakesLine before behind (refused_line number (refusal_in refusal))) }
+    {
+        self.due.clear();
+        push_refused(&mut self.due, number, refusal)?;
+        self.take_due(answers)
+    }
+
+    /// Expects the last line of the answers to a malformed text.
+    pub fn refuse_rest<A: CountedRead>(&mut self, answers: &mut A, number: u64) -> Result<(), Stop>
+        requires open_yet { IsNotAtEnd (answers_source A.seen answers.old self.old) }
+        ensures { Replies true result (answers_source A.seen answers.old self.old) (answers_source A.seen answers.new self.new)
+            (λ before behind. TakesLine before behind (malformed_line number)) }
+    {
+        self.due.clear();
+        push_malformed(&mut self.due, number)?;
+        self.take_due(answers)
+    }
+
+    /// Reads the first line of an answer.
+    fn read_first<A: CountedRead>(&mut self, answers: &mut A) -> Result<AnswerKind, Stop>
+        requires open_yet { IsNotAtEnd (answers_source A.seen answers.old self.old) }
+        ensures { Replies true result (answers_source A.seen answers.old self.old) (answers_source A.seen answers.new self.new)
+            (ReadsFirst) }
+    {
+        self.next_line(answers, Wanted::First)?;
+        match read_kind(&self.lines.line) {
+            Ok((kind, _)) => Ok(kind),
+            Err(fault) => Err(unanswered(fault)),
+        }
+    }
+
+    /// Reads the second line of an answer of this kind, if it has one.
+    fn read_second<A: CountedRead>(&mut self, answers: &mut A, kind: AnswerKind) -> Result<(), Stop>
+        requires open_yet { IsNotAtEnd (answers_source A.seen answers.old self.old) }
+        ensures { Replies true result (answers_source A.seen answers.old self.old) (answers_source A.seen answers.new self.new)
+            (ReadsSecond kind (named_literals self.new.reply.lits.items)) }
+    {
+        if let AnswerKind::Unknown = kind {
+            self.reply.lits.clear();
+            return Ok(());
+        }
+        self.next_line(answers, Wanted::Second(kind))?;
+        match read_line(kind, &self.lines.line, &mut self.reply.lits) {
+            Ok(_) => Ok(()),
+            Err(fault) => Err(unanswered(fault)),
+        }
+    }
+
+    /// Reads an answer, with its line. Where `unsat` is recorded there is only one.
+    pub fn read<A: CountedRead>(&mut self, answers: &mut A, settled: bool) -> Result<(), Stop>
+        requires open_yet { IsNotAtEnd (answers_source A.seen answers.old self.old) }
+        ensures { Replies true result (answers_source A.seen answers.old self.old) (answers_source A.seen answers.new self.new)
+            (λ before behind. IsReply before behind (outcome_of self.new.reply.kind (named_literals self.new.reply.lits.items)) settled) }
+    {
+        let kind = self.read_first(answers)?;
+        if is_other(settled, kind) {
+            return Err(Stop::No(Why::AnswerDiffers));
+        }
+        self.read_second(answers, kind)?;
+        if has_more(settled, &self.reply.lits) {
+            return Err(Stop::No(Why::AnswerDiffers));
+        }
+        self.reply.kind = kind;
+        Ok(())
+    }
+
+    /// Expects that nothing is left.
+    pub fn expect_over<A: CountedRead>(&mut self, answers: &mut A) -> Result<(), Stop>
+        requires open_yet { IsNotAtEnd (answers_source A.seen answers.old self.old) }
+        ensures { Replies false result (answers_source A.seen answers.old self.old) (answers_source A.seen answers.new self.new)
+            (λ before behind. SaysSo (before ≡ [])) }
+    {
+        self.next_line(answers, Wanted::Nothing)?;
+        if is_none(&self.lines.line) {
+            return Ok(());
+        }
+        Err(Stop::No(Why::AnswerExtra))
+    }
+}

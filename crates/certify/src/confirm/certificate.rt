@@ -1,0 +1,82 @@
+//! A certificate that is matched with what a script and its answers expect, step by step.
+ghost use Rattle.std.specs.Prelude.{◌≡◌, []};
+ghost use Rattle.sat_checker.specs.CheckerView.{kernel_of};
+ghost use Rattle.sat_checker.specs.KernelView.{looks_of};
+ghost use Rattle.certify.specs.confirm.Streams.{Confirms, StepsGoOn, StepsGoOnIf, IsReadFew, SameLoan, stream_of};
+ghost use Rattle.certify.specs.confirm.Awaiting.{MeetsDue, SaysUnmet};
+ghost use Rattle.certify.specs.confirm.Comparing.{due_of};
+
+use crate::confirm::expect::{Expected, Known, excuse, fits};
+use crate::confirm::feed::feed;
+use crate::confirm::follow::follow;
+use crate::confirm::literals::Room;
+use crate::confirm::ordered::{Awaited, await_ordered};
+use crate::confirm::stop::Stop;
+use crate::confirm::variables::NamedVars;
+use sat_base::{CountedRead, StepReader};
+use sat_checker::Checker;
+use std::alloc::Global;
+
+/// The checker that a certificate's steps are fed to, and what the names stand for.
+#[derive(Drop)]
+pub(crate) struct Certificate {
+    pub checker: Checker,
+    pub names: NamedVars,
+    room: Room,
+}
+
+/// Stops unless what is expected may stay unmet once `unsat` is recorded.
+fn excuse_unmet(expected: &Expected<'_>) -> Result<(), Stop>
+    ensures { SaysUnmet (due_of expected.now) result }
+{
+    let Some(why) = excuse(expected) else {
+        return Ok(());
+    };
+    Err(Stop::No(why))
+}
+
+impl Certificate {
+    ghost use Rattle.certify.specs.confirm.Awaiting.{CheckerIsAt};
+
+    /// Before the first step.
+    pub fn new(alloc: Global) -> Certificate
+        ensures stands { CheckerIsAt (kernel_of result.checker) result.names [] }
+        ensures looks { looks_of (kernel_of result.checker) ≡ 0 }
+    {
+        Certificate {
+            checker: Checker::new(alloc),
+            names: NamedVars::new(alloc),
+            room: Room::new(alloc),
+        }
+    }
+
+    /// Expects that the next ordered step is this one, and feeds it.
+    pub fn expect<R: CountedRead>(
+        &mut self,
+        steps: &mut StepReader<'_, R>,
+        expected: &Expected<'_>,
+    ) -> Result<(), Stop>
+        requires { StepsGoOn R.seen steps.old }
+        ensures same { SameLoan steps.old steps.new }
+        ensures bound { IsReadFew R.seen steps.new }
+        ensures goes_on { StepsGoOnIf result R.seen steps.new }
+        ensures confirms { Confirms result (stream_of R.seen steps.old (kernel_of self.old.checker))
+            (stream_of R.seen steps.new (kernel_of self.new.checker)) (MeetsDue (due_of expected.now) self.old.names self.new.names) }
+    {
+        match await_ordered(&mut self.checker, steps)? {
+            Awaited::Cut => return excuse_unmet(expected),
+            Awaited::Step => {}
+        }
+        let step = steps.step();
+        let known = Known {
+            checker: &self.checker,
+            variables: &self.names,
+        };
+        if let Some(why) = fits(known, &step, expected, &mut self.room)? {
+            return Err(Stop::No(why));
+        }
+        feed(&mut self.checker, &step)?;
+        follow(&mut self.names, expected, &step)?;
+        Ok(())
+    }
+}

@@ -1,0 +1,271 @@
+//! Confirms commands, one after another.
+ghost use Rattle.std.specs.Prelude.{◌≡◌, ◌+◌, ◌^◌, ◌<◌, ℕ, List, [], true, false};
+ghost use Rattle.sat_base.specs.script.Script.{Clean, Command as Spelled};
+ghost use Rattle.sat_base.specs.script.Judge.{start};
+ghost use Rattle.sat_base.specs.steps.Steps.{Step};
+ghost use Rattle.sat_checker.specs.CheckerView.{kernel_of};
+ghost use Rattle.sat_checker.specs.KernelView.{looks_of};
+ghost use Rattle.certify.specs.answers.AnswerForms.{named_literals};
+ghost use Rattle.certify.specs.confirm.Streams.{Confirms, StepsGoOn, StepsGoOnIf, IsReadFew, SameLoan, stream_of};
+ghost use Rattle.certify.specs.confirm.VerdictPromises.{numbers};
+ghost use Rattle.certify.specs.confirm.Confirming.{ConfirmsAnswer, ConfirmsContent, ConfirmsLast, ConfirmsNext, HoldsAt, MeetsContent, MeetsOutcome, MeetsShown, table_of};
+ghost use Rattle.certify.specs.confirm.Lines.{outcome_in};
+ghost use Rattle.certify.specs.confirm.Sessions.{ConfirmsBoth, answers_in, stream_in};
+ghost use Rattle.certify.specs.script.Ahead.{IsNotAtEnd, waiting};
+ghost use Rattle.certify.specs.script.Commands.{IsLent, end_reading, kind_of};
+
+use crate::answers::read::AnswerKind;
+use crate::confirm::answers::{Answers, Reply};
+use crate::confirm::certificate::Certificate;
+use crate::confirm::expect::Expected;
+use crate::confirm::names::Matching;
+use crate::confirm::stop::Stop;
+use crate::judge::Names;
+use crate::script::{Command, CommandKind, ScriptEnd};
+use sat_base::{CountedRead, Lit, StepReader};
+use std::alloc::Global;
+
+/// What the certificate's steps and the script's names have made so far, and the answers' line in hand.
+#[derive(Drop)]
+pub(crate) struct Session {
+    pub matching: Matching,
+    answers: Answers,
+    /// The number of the last command that came.
+    pub number: u64,
+    /// The accepted asks that were confirmed wholly.
+    pub asks: u64,
+}
+
+/// Expects what shows the answer to an ask.
+fn show<C: CountedRead>(
+    matching: &mut Matching,
+    steps: &mut StepReader<'_, C>,
+    ask: &[Lit],
+    reply: &Reply,
+) -> Result<(), Stop>
+    requires goes_on { StepsGoOn C.seen steps.old }
+    ensures same { SameLoan steps.old steps.new }
+    ensures bound { IsReadFew C.seen steps.new }
+    ensures goes_on { StepsGoOnIf result C.seen steps.new }
+    ensures names { matching.new.names ≡ matching.old.names }
+    ensures confirms { Confirms result (stream_in C.seen steps.old matching.old) (stream_in C.seen steps.new matching.new)
+        (MeetsShown matching.old.names (named_literals ask.now) (outcome_in reply.now)
+        matching.old.certificate.names matching.new.certificate.names) }
+{
+    let line = reply.lits.as_slice();
+    match reply.kind {
+        AnswerKind::Sat => {
+            let names = &matching.names;
+            let expected = Expected::Model { names, ask, line };
+            matching.certificate.expect(steps, &expected)
+        }
+        AnswerKind::Unsat => matching.certificate.expect(steps, &Expected::Core(line)),
+        AnswerKind::Unknown => Ok(()),
+    }
+}
+
+/// Expects what shows the answer to an ask, and the end of the ask.
+fn close<C: CountedRead>(
+    matching: &mut Matching,
+    steps: &mut StepReader<'_, C>,
+    ask: &[Lit],
+    reply: &Reply,
+) -> Result<(), Stop>
+    requires goes_on { StepsGoOn C.seen steps.old }
+    ensures same { SameLoan steps.old steps.new }
+    ensures bound { IsReadFew C.seen steps.new }
+    ensures goes_on { StepsGoOnIf result C.seen steps.new }
+    ensures names { matching.new.names ≡ matching.old.names }
+    ensures confirms { Confirms result (stream_in C.seen steps.old matching.old) (stream_in C.seen steps.new matching.new)
+        (MeetsOutcome matching.old.names (named_literals ask.now) (outcome_in reply.now)
+        matching.old.certificate.names matching.new.certificate.names) }
+{
+    show(matching, steps, ask, reply)?;
+    matching.certificate.expect(steps, &Expected::Close)
+}
+
+/// Expects what a command adds or asks behind its names.
+fn expect_content<C: CountedRead>(
+    certificate: &mut Certificate,
+    steps: &mut StepReader<'_, C>,
+    command: Command<'_>,
+) -> Result<(), Stop>
+    requires goes_on { StepsGoOn C.seen steps.old }
+    ensures same { SameLoan steps.old steps.new }
+    ensures bound { IsReadFew C.seen steps.new }
+    ensures goes_on { StepsGoOnIf result C.seen steps.new }
+    ensures confirms { Confirms result (stream_of C.seen steps.old (kernel_of certificate.old.checker))
+        (stream_of C.seen steps.new (kernel_of certificate.new.checker))
+        (MeetsContent (kind_of command.entry.kind) (named_literals command.entry.literals.now) certificate.old.names certificate.new.names) }
+{
+    match command.kind {
+        CommandKind::Clause => certificate.expect(steps, &Expected::Clause(command.literals)),
+        CommandKind::Ask => certificate.expect(steps, &Expected::Ask(command.literals)),
+        CommandKind::Hide => Ok(()),
+        CommandKind::Witness => Ok(()),
+        CommandKind::Sample => Ok(()),
+    }
+}
+
+impl Session {
+    /// Before the first command.
+    pub fn new(alloc: Global) -> Session
+        ensures stands { (rest : List ℕ) (step : Step) → HoldsAt (table_of result.matching)
+            (record { checker = kernel_of result.matching.certificate.checker; step = step; rest = rest }) start [] }
+        ensures looks { looks_of (kernel_of result.matching.certificate.checker) ≡ 0 }
+        ensures number { result.number ≡ 0 }
+        ensures waiting { waiting result.answers.lines.ahead ≡ [] }
+        ensures reads { result.answers.lines.ahead.reads ≡ 0 }
+    {
+        Session {
+            matching: Matching {
+                certificate: Certificate::new(alloc),
+                names: Names::new(alloc),
+            },
+            answers: Answers::new(alloc),
+            number: 0,
+            asks: 0,
+        }
+    }
+
+    /// Expects an answer behind the assumptions of its ask, what shows it, and the end of the ask.
+    fn confirm_answer<A: CountedRead, C: CountedRead>(
+        &mut self,
+        answers: &mut A,
+        steps: &mut StepReader<'_, C>,
+        ask: &[Lit],
+    ) -> Result<(), Stop>
+        requires goes_on { StepsGoOn C.seen steps.old }
+        requires open_yet { IsNotAtEnd (answers_in A.seen answers.old self.old) }
+        ensures number { self.new.number ≡ self.old.number }
+        ensures confirms { ConfirmsBoth ⊥ true result A.seen C.seen answers.old answers.new steps.old steps.new self.old self.new
+            (ConfirmsAnswer self.old.number (named_literals ask.now) (table_of self.old.matching) (table_of self.new.matching)) }
+    {
+        let settled = self.matching.certificate.checker.unsat();
+        self.answers.read(answers, settled)?;
+        close(&mut self.matching, steps, ask, &self.answers.reply)?;
+        self.asks = self.asks.saturating_add(1);
+        Ok(())
+    }
+
+    /// Confirms what a command adds or asks behind its names.
+    fn confirm_content<A: CountedRead, C: CountedRead>(
+        &mut self,
+        answers: &mut A,
+        steps: &mut StepReader<'_, C>,
+        command: Command<'_>,
+    ) -> Result<(), Stop>
+        requires goes_on { StepsGoOn C.seen steps.old }
+        requires open_yet { IsNotAtEnd (answers_in A.seen answers.old self.old) }
+        ensures number { self.new.number ≡ self.old.number }
+        ensures confirms { ConfirmsBoth ⊥ true result A.seen C.seen answers.old answers.new steps.old steps.new self.old self.new
+            (ConfirmsContent self.old.number (kind_of command.entry.kind) (named_literals command.entry.literals.now)
+            (table_of self.old.matching) (table_of self.new.matching)) }
+    {
+        expect_content(&mut self.matching.certificate, steps, command)?;
+        if let CommandKind::Ask = command.kind {
+            return self.confirm_answer(answers, steps, command.literals);
+        }
+        Ok(())
+    }
+
+    /// Confirms the next command.
+    pub fn confirm_command<A: CountedRead, C: CountedRead>(
+        &mut self,
+        answers: &mut A,
+        steps: &mut StepReader<'_, C>,
+        command: Command<'_>,
+    ) -> Result<(), Stop>
+        requires goes_on { StepsGoOn C.seen steps.old }
+        requires open_yet { IsNotAtEnd (answers_in A.seen answers.old self.old) }
+        ensures number { self.new.number ≡ self.old.number }
+        ensures confirms { (c : Spelled) → IsLent command.entry c
+            → ConfirmsBoth ⊥ true result A.seen C.seen answers.old answers.new steps.old steps.new self.old self.new
+            (ConfirmsNext self.old.number c (table_of self.old.matching) (table_of self.new.matching)) }
+    {
+        if let Some(refusal) = self.matching.names.refusal(command) {
+            return self.answers.refuse(answers, self.number, refusal);
+        }
+        self.matching
+            .take_names(steps, command.kind, command.literals)?;
+        self.confirm_content(answers, steps, command)
+    }
+
+    /// Confirms that nothing is left but the end of the certificate.
+    fn confirm_over<A: CountedRead, C: CountedRead>(
+        &mut self,
+        answers: &mut A,
+        steps: &mut StepReader<'_, C>,
+    ) -> Result<(), Stop>
+        requires goes_on { StepsGoOn C.seen steps.old }
+        requires open_yet { IsNotAtEnd (answers_in A.seen answers.old self.old) }
+        ensures confirms { (n : ℕ) → ConfirmsBoth ⊥ false result A.seen C.seen answers.old answers.new steps.old steps.new self.old self.new
+            (λ before behind u v. ConfirmsLast n ([], Clean) (table_of self.old.matching) before u) }
+    {
+        self.matching.certificate.expect(steps, &Expected::End)?;
+        self.answers.expect_over(answers)
+    }
+
+    /// Confirms the ask under no literals that stands behind the last command, and the end.
+    fn confirm_asked<A: CountedRead, C: CountedRead>(
+        &mut self,
+        answers: &mut A,
+        steps: &mut StepReader<'_, C>,
+    ) -> Result<(), Stop>
+        requires goes_on { StepsGoOn C.seen steps.old }
+        requires open_yet { IsNotAtEnd (answers_in A.seen answers.old self.old) }
+        ensures confirms { ConfirmsBoth (2 ^ 64 < self.old.number + 1 + numbers (end_reading ScriptEnd.Asked)) false result
+            A.seen C.seen answers.old answers.new steps.old steps.new self.old self.new
+            (λ before behind u v. ConfirmsLast (self.old.number + 1) (end_reading ScriptEnd.Asked) (table_of self.old.matching) before u) }
+    {
+        if self.number == u64::MAX {
+            return Err(Stop::TooMany);
+        }
+        self.number += 1;
+        let ask = Command {
+            kind: CommandKind::Ask,
+            literals: &[],
+            past_limit: false,
+        };
+        self.confirm_command(answers, steps, ask)?;
+        self.confirm_over(answers, steps)
+    }
+
+    fn confirm_malformed<A: CountedRead, C: CountedRead>(
+        &mut self,
+        answers: &mut A,
+        steps: &mut StepReader<'_, C>,
+    ) -> Result<(), Stop>
+        requires goes_on { StepsGoOn C.seen steps.old }
+        requires open_yet { IsNotAtEnd (answers_in A.seen answers.old self.old) }
+        ensures confirms { ConfirmsBoth (2 ^ 64 < self.old.number + 1 + numbers (end_reading ScriptEnd.Malformed)) false result
+            A.seen C.seen answers.old answers.new steps.old steps.new self.old self.new
+            (λ before behind u v. ConfirmsLast (self.old.number + 1) (end_reading ScriptEnd.Malformed) (table_of self.old.matching) before u) }
+    {
+        if self.number == u64::MAX {
+            return Err(Stop::TooMany);
+        }
+        self.answers.refuse_rest(answers, self.number + 1)?;
+        self.confirm_over(answers, steps)
+    }
+
+    /// Confirms what is left where the text ends so.
+    pub fn confirm_end<A: CountedRead, C: CountedRead>(
+        &mut self,
+        answers: &mut A,
+        steps: &mut StepReader<'_, C>,
+        end: ScriptEnd,
+    ) -> Result<(), Stop>
+        requires goes_on { StepsGoOn C.seen steps.old }
+        requires open_yet { IsNotAtEnd (answers_in A.seen answers.old self.old) }
+        ensures confirms { ConfirmsBoth (2 ^ 64 < self.old.number + 1 + numbers (end_reading end)) false result
+            A.seen C.seen answers.old answers.new steps.old steps.new self.old self.new
+            (λ before behind u v. ConfirmsLast (self.old.number + 1) (end_reading end) (table_of self.old.matching) before u) }
+    {
+        match end {
+            ScriptEnd::Clean => self.confirm_over(answers, steps),
+            ScriptEnd::Asked => self.confirm_asked(answers, steps),
+            ScriptEnd::Malformed => self.confirm_malformed(answers, steps),
+        }
+    }
+}

@@ -1,0 +1,101 @@
+//! Confirms the commands of a script as they come, and then its end.
+ghost use Rattle.std.specs.Prelude.{◌≡◌, ◌+◌, ◌^◌, ◌<◌, ◌≤◌, [], ◌∷◌, true, false, OnOk};
+ghost use Rattle.sat_base.specs.script.Script.{Command as Spelled};
+ghost use Rattle.certify.specs.confirm.Streams.{StepsGoOn, IsReadFew, SameLoan};
+ghost use Rattle.certify.specs.confirm.VerdictPromises.{numbers};
+ghost use Rattle.certify.specs.confirm.Confirming.{ConfirmsLast, ConfirmsNext, table_of};
+ghost use Rattle.certify.specs.confirm.Sessions.{ConfirmsBoth, answers_in};
+ghost use Rattle.certify.specs.confirm.ConfirmedScript.{ConfirmsScript, script_in, standing};
+ghost use Rattle.certify.specs.script.Ahead.{IsNotAtEnd};
+ghost use Rattle.certify.specs.script.Commands.{HasWhole, Means, end_reading};
+ghost use Rattle.sat_base.specs.script.Language.{onto_commands, reading};
+
+use crate::confirm::commands::Session;
+use crate::confirm::stop::{Stop, unread_script};
+use crate::script::ScriptEnd;
+use crate::script::stream::{CommandStream, Next};
+use sat_base::{CountedRead, StepReader};
+use std::alloc::Global;
+
+/// A script that is read as its commands are wanted, and what was confirmed of it.
+#[derive(Drop)]
+pub(crate) struct Confirmation {
+    pub script: CommandStream,
+    pub session: Session,
+}
+
+impl Confirmation {
+    /// Confirms the command that came.
+    fn confirm_next<A: CountedRead, C: CountedRead>(
+        &mut self,
+        answers: &mut A,
+        steps: &mut StepReader<'_, C>,
+    ) -> Result<(), Stop>
+        requires goes_on { StepsGoOn C.seen steps.old }
+        requires open_yet { IsNotAtEnd (answers_in A.seen answers.old self.old.session) }
+        requires whole { (c : Spelled) × HasWhole self.old.script.reader c }
+        ensures script { self.new.script ≡ self.old.script }
+        ensures number { OnOk result (self.new.session.number ≡ self.old.session.number + 1) }
+        ensures confirms { (c : Spelled) → HasWhole self.old.script.reader c
+            → ConfirmsBoth (2 ^ 64 ≤ self.old.session.number + 1) true result A.seen C.seen answers.old answers.new
+            steps.old steps.new self.old.session self.new.session
+            (ConfirmsNext (self.old.session.number + 1) c (table_of self.old.session.matching) (table_of self.new.session.matching)) }
+    {
+        if self.session.number == u64::MAX {
+            return Err(Stop::TooMany);
+        }
+        self.session.number += 1;
+        self.session
+            .confirm_command(answers, steps, self.script.command())
+    }
+
+    /// Confirms the last command, and the end.
+    fn confirm_last<A: CountedRead, C: CountedRead>(
+        &mut self,
+        answers: &mut A,
+        steps: &mut StepReader<'_, C>,
+        end: ScriptEnd,
+    ) -> Result<(), Stop>
+        requires goes_on { StepsGoOn C.seen steps.old }
+        requires open_yet { IsNotAtEnd (answers_in A.seen answers.old self.old.session) }
+        requires whole { (c : Spelled) × HasWhole self.old.script.reader c }
+        ensures script { self.new.script ≡ self.old.script }
+        ensures confirms { (c : Spelled) → HasWhole self.old.script.reader c
+            → ConfirmsBoth (2 ^ 64 < self.old.session.number + 1 + numbers (onto_commands (c ∷ []) (end_reading end))) false result
+            A.seen C.seen answers.old answers.new steps.old steps.new self.old.session self.new.session
+            (λ before behind u v. ConfirmsLast (self.old.session.number + 1) (onto_commands (c ∷ []) (end_reading end))
+            (table_of self.old.session.matching) before u) }
+    {
+        self.confirm_next(answers, steps)?;
+        self.session.confirm_end(answers, steps, end)
+    }
+
+    /// Confirms all commands, and the end.
+    pub fn confirm_all<S: CountedRead, A: CountedRead, C: CountedRead>(
+        &mut self,
+        script: &mut S,
+        answers: &mut A,
+        steps: &mut StepReader<'_, C>,
+    ) -> Result<(), Stop>
+        requires goes_on { StepsGoOn C.seen steps.old }
+        requires open_yet { IsNotAtEnd (answers_in A.seen answers.old self.old.session) }
+        requires script_open { IsNotAtEnd (script_in S.seen script.old self.old) }
+        requires reads { Means self.old.script.reader reading }
+        ensures same { SameLoan steps.old steps.new }
+        ensures bound { IsReadFew C.seen steps.new }
+        ensures ends { ConfirmsScript reading result (standing S.seen A.seen C.seen script.old answers.old steps.old self.old)
+            (standing S.seen A.seen C.seen script.new answers.new steps.new self.new) }
+    {
+        loop {
+            let next = match self.script.next(script) {
+                Ok(next) => next,
+                Err(error) => return Err(unread_script(error)),
+            };
+            match next {
+                Next::Command => self.confirm_next(answers, steps)?,
+                Next::Last(end) => return self.confirm_last(answers, steps, end),
+                Next::End(end) => return self.session.confirm_end(answers, steps, end),
+            }
+        }
+    }
+}

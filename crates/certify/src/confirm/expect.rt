@@ -1,0 +1,241 @@
+//! What a script and its answers ask of the next ordered step of a certificate.
+ghost use Rattle.std.specs.Prelude.{◌≡◌, ◌+◌, Some, None, IfOk, if◌then◌else◌};
+ghost use Rattle.sat_base.specs.steps.StepViews.{step_of};
+ghost use Rattle.sat_checker.specs.matching.Expected.{NewName, NoName, Adds, Opens, Fails, Closes, Finish};
+ghost use Rattle.certify.specs.answers.AnswerForms.{named_literals};
+ghost use Rattle.certify.specs.confirm.SpeltLiterals.{AllAmong, Tells};
+ghost use Rattle.certify.specs.judge.Names.{ListsUsed};
+ghost use Rattle.certify.specs.confirm.Comparing.{Compares, ComparesLine, Excuses, due_of};
+
+use crate::confirm::literals::{Room, are_spelt_by, are_spelt_in, has_all};
+use crate::confirm::variables::NamedVars;
+use crate::judge::Names;
+use crate::verdict::Why;
+use sat_base::{Lit, ProofStep, Var};
+use sat_checker::Checker;
+use std::alloc::AllocError;
+
+/// What the next ordered step has to be, by names. A literal is one of the name of its index.
+#[derive(Clone, Copy)]
+pub(crate) enum Expected<'a> {
+    /// The name is put on a variable that the checker doesn't know.
+    NewName(Var),
+    /// The name's variable loses it.
+    NoName(Var),
+    /// A clause of these literals.
+    Clause(&'a [Lit]),
+    /// The assumptions of an ask.
+    Ask(&'a [Lit]),
+    /// A model, which the line of an answer shows for the names in use.
+    Model {
+        names: &'a Names,
+        ask: &'a [Lit],
+        line: &'a [Lit],
+    },
+    /// That this core fails.
+    Core(&'a [Lit]),
+    /// The end of an ask: assumptions without literals.
+    Close,
+    /// The end of the certificate.
+    End,
+}
+
+/// What a step is compared by: the checker that was fed those before it, and the variables of the names.
+#[derive(Clone, Copy)]
+pub(crate) struct Known<'a> {
+    pub checker: &'a Checker,
+    pub variables: &'a NamedVars,
+}
+
+/// Nothing, or why not.
+fn unless(holds: bool, why: Why) -> Option<Why>
+    ensures { result ≡ (if holds then None else Some why) }
+{
+    if holds {
+        return None;
+    }
+    Some(why)
+}
+
+fn compare_new_name(known: Known<'_>, step: &ProofStep<'_>, name: Var) -> Option<Why>
+    ensures { Compares (λ o ask. NewName (name + 1)) known.entry (step_of step.now) result }
+{
+    let ProofStep::UserVarName { global, user } = *step else {
+        return Some(Why::StepOutOfPlace);
+    };
+    let Some(user) = user else {
+        return Some(Why::NameDiffers);
+    };
+    if user.index() != name.index() {
+        return Some(Why::NameDiffers);
+    }
+    let known_before = known.checker.knows(global);
+    if known_before {
+        return Some(Why::NameNotFresh);
+    }
+    None
+}
+
+fn compare_no_name(known: Known<'_>, step: &ProofStep<'_>, name: Var) -> Option<Why>
+    ensures { Compares (λ o ask. NoName (name + 1)) known.entry (step_of step.now) result }
+{
+    let ProofStep::UserVarName { global, user } = *step else {
+        return Some(Why::StepOutOfPlace);
+    };
+    if let Some(_) = user {
+        return Some(Why::NameDiffers);
+    }
+    let Some(variable) = known.variables.get(name) else {
+        return Some(Why::NameDiffers);
+    };
+    if variable.index() != global.index() {
+        return Some(Why::NameDiffers);
+    }
+    None
+}
+
+fn compare_clause(
+    known: Known<'_>,
+    step: &ProofStep<'_>,
+    literals: &[Lit],
+    room: &mut Room,
+) -> Result<Option<Why>, AllocError>
+    ensures { IfOk result (Compares (λ o ask. Adds (named_literals literals.now)) known.entry (step_of step.now)) }
+{
+    let ProofStep::AddClause { clause } = *step else {
+        return Ok(Some(Why::StepOutOfPlace));
+    };
+    let same = are_spelt_by(known.variables, literals, clause, room)?;
+    Ok(unless(same, Why::ClauseDiffers))
+}
+
+fn compare_ask(
+    known: Known<'_>,
+    step: &ProofStep<'_>,
+    literals: &[Lit],
+    room: &mut Room,
+) -> Result<Option<Why>, AllocError>
+    ensures { IfOk result (Compares (λ o ask. Opens (named_literals literals.now) o) known.entry (step_of step.now)) }
+{
+    let ProofStep::Assumptions { assumptions } = *step else {
+        return Ok(Some(Why::StepOutOfPlace));
+    };
+    let same = are_spelt_by(known.variables, literals, assumptions, room)?;
+    Ok(unless(same, Why::AskDiffers))
+}
+
+fn compare_core(
+    known: Known<'_>,
+    step: &ProofStep<'_>,
+    core: &[Lit],
+    room: &mut Room,
+) -> Result<Option<Why>, AllocError>
+    ensures { IfOk result (Compares (λ o ask. Fails ask (named_literals core.now)) known.entry (step_of step.now)) }
+{
+    let ProofStep::FailedAssumptions {
+        failed_core,
+        propagation_hashes: _hashes,
+    } = *step
+    else {
+        return Ok(Some(Why::StepOutOfPlace));
+    };
+    let same = are_spelt_by(known.variables, core, failed_core, room)?;
+    Ok(unless(same, Why::AnswerDiffers))
+}
+
+/// Whether a line lists the names in use, in order, and has the ask's literals.
+fn is_line(names: &Names, ask: &[Lit], line: &[Lit], room: &mut Room) -> Result<bool, AllocError>
+    ensures { IfOk result (λ yes. Tells yes (ListsUsed names.now line.now × AllAmong ask.now line.now)) }
+{
+    if names.are_listed(line) {
+        return has_all(line, ask, room);
+    }
+    Ok(false)
+}
+
+/// Compares the literals of a model with a line that lists the names in use and has an ask's literals.
+fn compare_line(
+    known: Known<'_>,
+    step: &ProofStep<'_>,
+    line: &[Lit],
+    room: &mut Room,
+) -> Result<Option<Why>, AllocError>
+    ensures { IfOk result (ComparesLine known.entry line.now (step_of step.now)) }
+{
+    let ProofStep::Model { assignment } = *step else {
+        return Ok(Some(Why::StepOutOfPlace));
+    };
+    let shown = are_spelt_in(known.variables, line, assignment, room)?;
+    Ok(unless(shown, Why::AnswerDiffers))
+}
+
+fn compare_close(known: Known<'_>, step: &ProofStep<'_>) -> Option<Why>
+    ensures { Compares (λ o ask. Closes) known.entry (step_of step.now) result }
+{
+    let ProofStep::Assumptions { assumptions } = *step else {
+        return Some(Why::StepOutOfPlace);
+    };
+    if assumptions.is_empty() {
+        return None;
+    }
+    Some(Why::AskDiffers)
+}
+
+fn compare_end(known: Known<'_>, step: &ProofStep<'_>) -> Option<Why>
+    ensures { Compares (λ o ask. Finish) known.entry (step_of step.now) result }
+{
+    let ProofStep::End = *step else {
+        return Some(Why::StepOutOfPlace);
+    };
+    None
+}
+
+/// Compares a step with what is expected, by the variables of the names.
+pub(crate) fn fits(
+    known: Known<'_>,
+    step: &ProofStep<'_>,
+    expected: &Expected<'_>,
+    room: &mut Room,
+) -> Result<Option<Why>, AllocError>
+    ensures { IfOk result (Compares (due_of expected.now) known.entry (step_of step.now)) }
+{
+    match *expected {
+        Expected::NewName(name) => Ok(compare_new_name(known, step, name)),
+        Expected::NoName(name) => Ok(compare_no_name(known, step, name)),
+        Expected::Clause(literals) => compare_clause(known, step, literals, room),
+        Expected::Ask(literals) => compare_ask(known, step, literals, room),
+        Expected::Model { names, ask, line } => {
+            let ProofStep::Model { .. } = *step else {
+                return Ok(Some(Why::StepOutOfPlace));
+            };
+            if !is_line(names, ask, line, room)? {
+                return Ok(Some(Why::AnswerDiffers));
+            }
+            compare_line(known, step, line, room)
+        }
+        Expected::Core(core) => compare_core(known, step, core, room),
+        Expected::Close => Ok(compare_close(known, step)),
+        Expected::End => Ok(compare_end(known, step)),
+    }
+}
+
+/// What may stay unmet once `unsat` is recorded: all but a model, and but a core that isn't empty.
+pub(crate) fn excuse(expected: &Expected<'_>) -> Option<Why>
+    ensures { Excuses (due_of expected.now) result }
+{
+    match *expected {
+        Expected::Model { names: _names, .. } => Some(Why::AnswerDiffers),
+        Expected::Core(core) => {
+            if core.is_empty() {
+                return None;
+            }
+            Some(Why::AnswerDiffers)
+        }
+        Expected::NewName(_name) => None,
+        Expected::NoName(_name) => None,
+        Expected::Clause(_) => None,
+        Expected::Ask(_) => None,
+        Expected::Close => None,
+        Expected::End => None,
+    }
+}

@@ -1,0 +1,62 @@
+//! A certificate's steps, read and fed to a checker.
+ghost use Rattle.std.specs.Prelude.{◌≡◌, ◌<◌, OnOk, false};
+ghost use Rattle.sat_base.specs.steps.StepReading.{reader_source};
+ghost use Rattle.sat_base.specs.steps.StepViews.{step_of};
+ghost use Rattle.sat_checker.specs.KernelView.{LooksAtMost};
+ghost use Rattle.certify.specs.confirm.Feeding.{Feeds, Settles};
+ghost use Rattle.certify.specs.confirm.Stepping.{ReadsOne, is_ordered_tag};
+ghost use Rattle.certify.specs.confirm.Streams.{StepsGoOn, StepsGoOnIf, IsReadFew, GoesOrStops, SameLoan, bytes_left, stream_of};
+ghost use Rattle.sat_checker.specs.CheckerView.{kernel_of};
+ghost use Rattle.sat_checker.specs.declared.kernel.Kernel.{Kernel};
+
+use crate::confirm::stop::{Stop, refused, unread};
+use sat_base::{CountedRead, ProofStep, StepReader};
+use sat_checker::{Checker, SelfChecker};
+
+/// The tags of steps that a script and its answers ask for; the others are fed wherever they stand.
+pub(crate) fn is_ordered(tag: u8) -> bool
+    ensures { result ≡ is_ordered_tag tag }
+{
+    tag == 2 || tag == 5 || tag == 10 || tag == 11 || tag == 12 || tag == 13
+}
+
+/// Reads the next step.
+pub(crate) fn read_next<R: CountedRead>(steps: &mut StepReader<'_, R>) -> Result<(), Stop>
+    requires { StepsGoOn R.seen steps.old }
+    ensures same { SameLoan steps.old steps.new }
+    ensures bound { IsReadFew R.seen steps.new }
+    ensures goes_on { StepsGoOnIf result R.seen steps.new }
+    ensures takes { OnOk result (bytes_left (reader_source R.seen steps.new) < bytes_left (reader_source R.seen steps.old)) }
+    ensures reads { (checker : Kernel)
+        → GoesOrStops (λ x. false) result (stream_of R.seen steps.old checker) (stream_of R.seen steps.new checker) ReadsOne }
+{
+    match steps.advance() {
+        Ok(()) => Ok(()),
+        Err(error) => Err(unread(error)),
+    }
+}
+
+/// Feeds a step to the checker.
+pub(crate) fn feed(checker: &mut Checker, step: &ProofStep<'_>) -> Result<(), Stop>
+    ensures feeds { Feeds result (kernel_of checker.old) (step_of step.now) (kernel_of checker.new) }
+    ensures looks { LooksAtMost (kernel_of checker.old) (step_of step.now) (kernel_of checker.new) }
+{
+    match checker.self_check_step(step) {
+        Ok(()) => Ok(()),
+        Err(error) => Err(refused(error)),
+    }
+}
+
+/// Settles a unit conflict that is pending.
+pub(crate) fn settle(checker: &mut Checker) -> Result<(), Stop>
+    ensures { Settles result (kernel_of checker.old) (kernel_of checker.new) }
+{
+    // Mostly none is pending, and then nothing is cleared for what the call may answer, which is large.
+    if checker.is_settled() {
+        return Ok(());
+    }
+    match checker.self_check_delayed_steps() {
+        Ok(()) => Ok(()),
+        Err(error) => Err(refused(error)),
+    }
+}

@@ -1,0 +1,118 @@
+//! Lists of literals, compared as sets; those of names by the names' variables.
+ghost use Rattle.std.specs.Prelude.{IfOk, ◌≡◌, []};
+ghost use Rattle.sat_checker.specs.matching.Expected.{EachSpelt, SameSet};
+ghost use Rattle.certify.specs.answers.AnswerForms.{named_literals};
+ghost use Rattle.certify.specs.confirm.SpeltLiterals.{AllAmong, SpellsAll, Tells};
+ghost use Rattle.certify.specs.confirm.Variables.{variable_in};
+
+use crate::confirm::variables::NamedVars;
+use sat_base::Lit;
+use sat_checker::sorted_lits::{copy_canonical, is_subset};
+use std::alloc::{AllocError, Global};
+
+/// Room for comparisons; nothing is kept in it between them.
+#[derive(Drop)]
+pub(crate) struct Room {
+    spelt: Vec<Lit>,
+    sets: Sets,
+}
+
+/// Two sorted sets.
+#[derive(Drop)]
+pub(crate) struct Sets {
+    first: Vec<Lit>,
+    second: Vec<Lit>,
+}
+
+impl Room {
+    pub fn new(alloc: Global) -> Room
+        ensures spelt { result.spelt.items ≡ [] }
+        ensures first { result.sets.first.items ≡ [] }
+        ensures second { result.sets.second.items ≡ [] }
+    {
+        Room {
+            spelt: Vec::new(alloc),
+            sets: Sets {
+                first: Vec::new(alloc),
+                second: Vec::new(alloc),
+            },
+        }
+    }
+}
+
+/// Whether each of the literals is one of the others.
+fn are_among(literals: &[Lit], others: &[Lit], sets: &mut Sets) -> Result<bool, AllocError>
+    ensures { IfOk result (λ yes. Tells yes (AllAmong literals.now others.now)) }
+{
+    copy_canonical(&mut sets.first, literals)?;
+    copy_canonical(&mut sets.second, others)?;
+    Ok(is_subset(&sets.first, &sets.second, false))
+}
+
+/// Whether both lists have the same literals.
+fn are_same(xs: &[Lit], ys: &[Lit], sets: &mut Sets) -> Result<bool, AllocError>
+    ensures { IfOk result (λ yes. Tells yes (AllAmong xs.now ys.now × AllAmong ys.now xs.now)) }
+{
+    copy_canonical(&mut sets.first, xs)?;
+    copy_canonical(&mut sets.second, ys)?;
+    if !is_subset(&sets.first, &sets.second, false) {
+        return Ok(false);
+    }
+    Ok(is_subset(&sets.second, &sets.first, false))
+}
+
+/// Whether all of the literals stand in the line.
+pub(crate) fn has_all(line: &[Lit], literals: &[Lit], room: &mut Room) -> Result<bool, AllocError>
+    ensures { IfOk result (λ yes. Tells yes (AllAmong literals.now line.now)) }
+{
+    are_among(literals, line, &mut room.sets)
+}
+
+/// Spells the literals by the names' variables. The answer is whether each name has one.
+fn spell(variables: &NamedVars, literals: &[Lit], spelt: &mut Vec<Lit>) -> Result<bool, AllocError>
+    ensures { IfOk result
+        (λ yes. SpellsAll yes (variable_in variables.now) (named_literals literals.now) spelt.new.items) }
+{
+    spelt.clear();
+    for lit in literals {
+        let Some(variable) = variables.get(lit.var()) else {
+            return Ok(false);
+        };
+        spelt.push(variable.lit(lit.is_positive()))?;
+    }
+    Ok(true)
+}
+
+/// Whether all of the names' literals stand among the codes.
+pub(crate) fn are_spelt_in(
+    variables: &NamedVars,
+    literals: &[Lit],
+    codes: &[Lit],
+    room: &mut Room,
+) -> Result<bool, AllocError>
+    ensures { IfOk result
+        (λ yes. Tells yes (EachSpelt (variable_in variables.now) (named_literals literals.now) codes.now)) }
+{
+    if spell(variables, literals, &mut room.spelt)? {
+        are_among(&room.spelt, codes, &mut room.sets)
+    } else {
+        Ok(false)
+    }
+}
+
+/// Whether the names' literals and the codes are the same sets.
+pub(crate) fn are_spelt_by(
+    variables: &NamedVars,
+    literals: &[Lit],
+    codes: &[Lit],
+    room: &mut Room,
+) -> Result<bool, AllocError>
+    ensures { IfOk result
+        (λ yes. Tells yes (SameSet (variable_in variables.now) (named_literals literals.now) codes.now)) }
+{
+    if spell(variables, literals, &mut room.spelt)? {
+        are_same(&room.spelt, codes, &mut room.sets)
+    } else {
+        Ok(false)
+    }
+}

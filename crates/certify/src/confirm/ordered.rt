@@ -1,0 +1,84 @@
+//! The next ordered step of a certificate, behind others that are fed.
+ghost use Rattle.std.specs.Prelude.{◌<◌, IfNone, IfOk};
+ghost use Rattle.sat_base.specs.steps.StepReading.{reader_source};
+ghost use Rattle.sat_checker.specs.CheckerView.{kernel_of};
+ghost use Rattle.certify.specs.confirm.Stepping.{is_fed, is_fed_so_far};
+ghost use Rattle.certify.specs.confirm.Streams.{StepsGoOn, StepsGoOnIf, IsReadFew, GoesOrStops, SameLoan, bytes_left, stream_of};
+ghost use Rattle.certify.specs.declared.confirm.variables.NamedVars.{NamedVars};
+ghost use Rattle.certify.specs.confirm.Awaiting.{AwaitsNext, StepsOnce};
+
+use crate::confirm::feed::{feed, is_ordered, read_next, settle};
+use crate::confirm::stop::Stop;
+use sat_base::{CountedRead, StepReader};
+use sat_checker::Checker;
+
+/// What came where an ordered step is awaited.
+#[derive(Clone, Copy)]
+pub(crate) enum Awaited {
+    /// The step that was read, which is not yet fed.
+    Step,
+    /// `unsat` is recorded, and nothing more is read.
+    Cut,
+}
+
+/// One more step, unless `unsat` is recorded. `None`: it was another than an ordered one, and is fed.
+fn advance<R: CountedRead>(
+    checker: &mut Checker,
+    steps: &mut StepReader<'_, R>,
+) -> Result<Option<Awaited>, Stop>
+    requires { StepsGoOn R.seen steps.old }
+    ensures same { SameLoan steps.old steps.new }
+    ensures bound { IsReadFew R.seen steps.new }
+    ensures goes_on { StepsGoOnIf result R.seen steps.new }
+    ensures takes { IfOk result
+        (λ awaited. IfNone awaited (bytes_left (reader_source R.seen steps.new) < bytes_left (reader_source R.seen steps.old))) }
+    ensures confirms { (names : NamedVars) → GoesOrStops is_fed_so_far result (stream_of R.seen steps.old (kernel_of checker.old))
+        (stream_of R.seen steps.new (kernel_of checker.new)) (StepsOnce names) }
+{
+    if checker.unsat() {
+        return Ok(Some(Awaited::Cut));
+    }
+    read_next(steps)?;
+    if is_ordered(steps.tag()) {
+        return Ok(Some(Awaited::Step));
+    }
+    let step = steps.step();
+    feed(checker, &step)?;
+    Ok(None)
+}
+
+/// Feeds the other steps, up to the next ordered one.
+fn find_ordered<R: CountedRead>(
+    checker: &mut Checker,
+    steps: &mut StepReader<'_, R>,
+) -> Result<Awaited, Stop>
+    requires { StepsGoOn R.seen steps.old }
+    ensures same { SameLoan steps.old steps.new }
+    ensures bound { IsReadFew R.seen steps.new }
+    ensures goes_on { StepsGoOnIf result R.seen steps.new }
+    ensures confirms { (names : NamedVars) → GoesOrStops is_fed result (stream_of R.seen steps.old (kernel_of checker.old))
+        (stream_of R.seen steps.new (kernel_of checker.new)) (AwaitsNext names) }
+{
+    loop {
+        if let Some(awaited) = advance(checker, steps)? {
+            return Ok(awaited);
+        }
+    }
+}
+
+/// Feeds the other steps, up to the next ordered one, and settles a unit conflict that they left pending.
+pub(crate) fn await_ordered<R: CountedRead>(
+    checker: &mut Checker,
+    steps: &mut StepReader<'_, R>,
+) -> Result<Awaited, Stop>
+    requires { StepsGoOn R.seen steps.old }
+    ensures same { SameLoan steps.old steps.new }
+    ensures bound { IsReadFew R.seen steps.new }
+    ensures goes_on { StepsGoOnIf result R.seen steps.new }
+    ensures confirms { (names : NamedVars) → GoesOrStops is_fed result (stream_of R.seen steps.old (kernel_of checker.old))
+        (stream_of R.seen steps.new (kernel_of checker.new)) (AwaitsNext names) }
+{
+    let awaited = find_ordered(checker, steps)?;
+    settle(checker)?;
+    Ok(awaited)
+}

@@ -1,0 +1,68 @@
+//! Answers an ask.
+ghost use Rattle.std.specs.Prelude.{◌≡◌, [], IfErr, IfOk, OnOk};
+ghost use Rattle.sat_base.specs.script.Language.{Reading};
+ghost use Rattle.sat_base.specs.script.Script.{Ask};
+ghost use Rattle.sat_solver.specs.solver.Whole.{HasFullStore};
+ghost use Rattle.certify.specs.answers.AnswerForms.{named_literals};
+ghost use Rattle.certify.specs.run.Asking.{Sought};
+ghost use Rattle.certify.specs.run.SolverCalls.{FailsIf, IsAllowed, IsCaused, IsReady, NeedsMore};
+ghost use Rattle.certify.specs.run.Standing.{CarriedOut, CausedBy, StopsCarrying, WritesBoth};
+
+use super::page::Page;
+use super::session::Session;
+use super::solver::{assume, search};
+use super::write::write_answer;
+use crate::fault::RunFault;
+use crate::summary::AskReport;
+use sat_base::{CountedWrite, Lit};
+use sat_solver::Solver;
+
+/// Looks for the answer of an ask, and leaves its text on the page.
+fn ask<C: CountedWrite + Drop>(
+    solver: &mut Solver<C>,
+    literals: &[Lit],
+    budget: u64,
+    page: &mut Page,
+) -> Result<AskReport, RunFault>
+    requires ready { IsReady solver.old }
+    requires allowed { IsAllowed solver.old literals.now }
+    ensures sought { IfOk result (λ report. Sought C.seen budget report literals.now page.new.text.items solver.old solver.new) }
+    ensures ready { OnOk result (IsReady solver.new) }
+    // No name is refused where there is none.
+    ensures allowed { OnOk result (IsAllowed solver.new []) }
+    ensures fails { FailsIf result C.seen solver.old solver.new }
+    ensures cause { IfErr result (λ e. IsCaused e (HasFullStore solver.new) (NeedsMore solver.old (Ask (named_literals literals.now)))) }
+{
+    assume(solver, literals)?;
+    let report = search(solver, budget)?;
+    page.tell(solver, report.answer)?;
+    Ok(report)
+}
+
+/// Answers the last command that came, an ask under these literals, of whose names none is refused.
+pub fn answer_ask<A: CountedWrite, C: CountedWrite + Drop>(
+    session: &mut Session<C>,
+    answers: &mut A,
+    literals: &[Lit],
+) -> Result<(), RunFault>
+    requires ready { IsReady session.old.solver }
+    requires allowed { IsAllowed session.old.solver literals.now }
+    ensures carried { OnOk result (CarriedOut C.seen session.old session.new (Ask (named_literals literals.now))
+        (A.seen answers.old) (A.seen answers.new)) }
+    ensures stops { (left : Reading)
+        → StopsCarrying result session.old (Ask (named_literals literals.now)) left (A.seen answers.old) (A.seen answers.new) }
+    ensures cause { CausedBy result session.old session.new (Ask (named_literals literals.now)) }
+    ensures names { session.new.names ≡ session.old.names }
+    ensures written { WritesBoth result C.seen (A.seen answers.old) (A.seen answers.new) session.old.solver session.new.solver }
+{
+    let report = ask(
+        &mut session.solver,
+        literals,
+        session.budget,
+        &mut session.page,
+    )?;
+    write_answer(answers, &session.page.text)?;
+    assume(&mut session.solver, &[])?;
+    session.asks.push(report)?;
+    Ok(())
+}

@@ -1,0 +1,88 @@
+//! Takes commands of the whole language.
+ghost use Rattle.std.specs.Prelude.{◌≡◌, ◌<◌, ◌-◌, ◌^◌, ◌∷◌, [], false, OnOk};
+ghost use Rattle.sat_base.specs.script.Language.{Reading, onto_commands};
+ghost use Rattle.sat_base.specs.script.Script.{Command as Spelled};
+ghost use Rattle.sat_base.specs.script.Judge.{Judge, accepted};
+ghost use Rattle.certify.specs.judge.Names.{NamesStand};
+ghost use Rattle.certify.specs.script.Commands.{IsLent, IsSomeLent};
+ghost use Rattle.certify.specs.run.Standing.{NamesAllow, CarriedOut, CausedBy, CausedOver, RunGoesOn, ServedNext, StopsCarrying, StopsOver, WritesBoth, spelled_by};
+
+use super::ask::answer_ask;
+use super::names::set_names;
+use super::refuse::refuse;
+use super::session::Session;
+use super::solver::add_clause;
+use crate::fault::RunFault;
+use crate::judge::NameState;
+use crate::script::{Command, CommandKind};
+use sat_base::CountedWrite;
+
+/// Has the last command that came, which isn't refused, carried out by the solver, and an ask answered.
+fn carry_out<A: CountedWrite, C: CountedWrite + Drop>(
+    session: &mut Session<C>,
+    answers: &mut A,
+    command: Command<'_>,
+) -> Result<(), RunFault>
+    requires goes_on { RunGoesOn session.old }
+    requires allowed { NamesAllow session.old.names (spelled_by command) }
+    ensures carried { OnOk result (CarriedOut C.seen session.old session.new (spelled_by command.entry) (A.seen answers.old) (A.seen answers.new)) }
+    ensures stops { (left : Reading) → StopsCarrying result session.old (spelled_by command.entry) left (A.seen answers.old) (A.seen answers.new) }
+    ensures cause { CausedBy result session.old session.new (spelled_by command.entry) }
+    ensures names { session.new.names ≡ session.old.names }
+    ensures written { WritesBoth result C.seen (A.seen answers.old) (A.seen answers.new) session.old.solver session.new.solver }
+{
+    match command.kind {
+        CommandKind::Clause => add_clause(&mut session.solver, command.literals),
+        CommandKind::Ask => answer_ask(session, answers, command.literals),
+        CommandKind::Hide => set_names(&mut session.solver, command.literals, NameState::Hidden),
+        CommandKind::Witness => {
+            set_names(&mut session.solver, command.literals, NameState::Witnessed)
+        }
+        CommandKind::Sample => set_names(&mut session.solver, command.literals, NameState::Sampled),
+    }
+}
+
+/// Takes the last command that came, which isn't refused.
+fn take_allowed<A: CountedWrite, C: CountedWrite + Drop>(
+    session: &mut Session<C>,
+    answers: &mut A,
+    command: Command<'_>,
+) -> Result<(), RunFault>
+    requires goes_on { RunGoesOn session.old }
+    requires allowed { NamesAllow session.old.names (spelled_by command) }
+    requires within { command.past_limit ≡ false }
+    ensures carried { OnOk result (CarriedOut C.seen session.old session.new (spelled_by command.entry) (A.seen answers.old) (A.seen answers.new)) }
+    ensures stops { (left : Reading) → StopsCarrying result session.old (spelled_by command.entry) left (A.seen answers.old) (A.seen answers.new) }
+    ensures cause { CausedBy result session.old session.new (spelled_by command.entry) }
+    ensures names { OnOk result ((j : Judge) (c : Spelled) → NamesStand session.old.names j → IsLent command.entry c
+        → NamesStand session.new.names (accepted c j)) }
+    ensures written { WritesBoth result C.seen (A.seen answers.old) (A.seen answers.new) session.old.solver session.new.solver }
+{
+    carry_out(session, answers, command)?;
+    session.names.accept(command)?;
+    Ok(())
+}
+
+/// Serves a command: it is refused, or taken, and an ask is answered.
+pub fn take_command<A: CountedWrite, C: CountedWrite + Drop>(
+    session: &mut Session<C>,
+    answers: &mut A,
+    command: Command<'_>,
+) -> Result<(), RunFault>
+    requires goes_on { RunGoesOn session.old }
+    requires few { session.old.commands < 2 ^ 64 - 1 }
+    requires whole { IsSomeLent command }
+    ensures served { (c : Spelled) → IsLent command.entry c
+        → OnOk result (ServedNext C.seen session.old session.new c (A.seen answers.old) (A.seen answers.new)) }
+    ensures stops { (c : Spelled) → IsLent command.entry c → (left : Reading)
+        → StopsOver result session.old (onto_commands (c ∷ []) left) (A.seen answers.old) (A.seen answers.new) }
+    ensures cause { (c : Spelled) → IsLent command.entry c → (left : Reading)
+        → CausedOver result session.old session.new (onto_commands (c ∷ []) left) }
+    ensures written { WritesBoth result C.seen (A.seen answers.old) (A.seen answers.new) session.old.solver session.new.solver }
+{
+    session.commands += 1;
+    match session.names.refusal(command) {
+        Some(refusal) => refuse(session, answers, refusal),
+        None => take_allowed(session, answers, command),
+    }
+}

@@ -1,0 +1,111 @@
+//! Ends a run.
+ghost use Rattle.std.specs.Prelude.{◌≡◌, [], true, Err, OnErr, OnOk, Some};
+ghost use Rattle.sat_base.specs.device.Device.{Takes};
+ghost use Rattle.sat_solver.specs.proof.ProofView.{Gives, target_of};
+ghost use Rattle.certify.specs.Devices.{OneFailed};
+ghost use Rattle.certify.specs.run.Unfinished.{TookBytes};
+ghost use Rattle.certify.specs.run.SolverCalls.{IsReady, proof_in};
+ghost use Rattle.certify.specs.run.Ending.{Closes, EndsRun, FinishesRun, GivesFront, HasTarget, HasOpenTarget};
+
+use super::faults::fault_of;
+use super::session::Session;
+use crate::fault::RunFault;
+use crate::summary::Summary;
+use sat_base::CountedWrite;
+use sat_solver::Solver;
+
+/// The certificate's writer, behind a fault. What waits for it is lost.
+fn give_back<C: CountedWrite + Drop>(solver: Solver<C>) -> C
+    requires { HasTarget C.seen solver }
+    ensures gives { Gives (target_of C.seen (proof_in solver)) (Some (C.seen result)) }
+    ensures front { GivesFront C.seen solver result }
+{
+    match solver.into_target() {
+        Some(certificate) => certificate,
+        None => unreachable!(),
+    }
+}
+
+/// Writes the certificate's last step and all that waits, and flushes its writer.
+fn close_certificate<C: CountedWrite + Drop>(solver: Solver<C>) -> (C, Result<(), RunFault>)
+    requires ready { IsReady solver }
+    requires target { HasOpenTarget C.seen solver }
+    ensures closes { Closes C.seen result.1 solver result.0 }
+    ensures front { GivesFront C.seen solver result.0 }
+{
+    let mut solver = solver;
+    match solver.close_proof() {
+        Ok(Some(certificate)) => (certificate, Ok(())),
+        Ok(None) => unreachable!(),
+        Err(error) => (give_back(solver), Err(fault_of(error))),
+    }
+}
+
+fn flush_answers<A: CountedWrite>(answers: &mut A) -> Result<(), RunFault>
+    ensures took { OnOk result (Takes (A.seen answers.old) (A.seen answers.new) []) }
+    ensures flushed { OnOk result ((A.seen answers.new).flushed ≡ true) }
+    ensures fails { OnErr result (OneFailed (A.seen answers.old) (A.seen answers.new)) }
+    ensures fault { OnErr result (result ≡ Err RunFault.AnswersWrite) }
+    ensures kept { OnErr result (TookBytes (A.seen answers.old) (A.seen answers.new) []) }
+{
+    match answers.flush_counted() {
+        Ok(()) => Ok(()),
+        Err(_) => Err(RunFault::AnswersWrite),
+    }
+}
+
+/// Ends the certificate, and then the answers.
+fn finish<A: CountedWrite, C: CountedWrite + Drop>(
+    solver: Solver<C>,
+    answers: &mut A,
+) -> (C, Result<(), RunFault>)
+    requires ready { IsReady solver }
+    requires target { HasOpenTarget C.seen solver }
+    ensures finishes { FinishesRun C.seen result.1 solver result.0 (A.seen answers.old) (A.seen answers.new) }
+    ensures front { GivesFront C.seen solver result.0 }
+{
+    let (certificate, closed) = close_certificate(solver);
+    match closed {
+        Ok(()) => (certificate, flush_answers(answers)),
+        Err(fault) => (certificate, Err(fault)),
+    }
+}
+
+/// Ends a run whose script was served so, and sums it up. Gives the certificate's writer back.
+pub(crate) fn end_run<A: CountedWrite, C: CountedWrite + Drop>(
+    session: Session<C>,
+    answers: &mut A,
+    served: Result<Option<u64>, RunFault>,
+) -> (C, Result<Summary, RunFault>)
+    requires ready { OnOk served (IsReady session.solver) }
+    requires target { OnOk served (HasOpenTarget C.seen session.solver) }
+    requires some { HasTarget C.seen session.solver }
+    ensures ends { EndsRun C.seen served result.1 session result.0 (A.seen answers.old) (A.seen answers.new) }
+    ensures front { GivesFront C.seen session.solver result.0 }
+{
+    let Session {
+        names: _names,
+        solver,
+        budget: _budget,
+        page: _page,
+        commands,
+        refused,
+        asks,
+    } = session;
+    let malformed = match served {
+        Ok(malformed) => malformed,
+        Err(fault) => return (give_back(solver), Err(fault)),
+    };
+    let summary = Summary {
+        commands,
+        refused,
+        malformed,
+        asks,
+        progress: solver.progress(),
+    };
+    let (certificate, finished) = finish(solver, answers);
+    match finished {
+        Ok(()) => (certificate, Ok(summary)),
+        Err(fault) => (certificate, Err(fault)),
+    }
+}

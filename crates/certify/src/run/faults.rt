@@ -1,0 +1,27 @@
+//! Faults of a run that are its solver's.
+ghost use Rattle.std.specs.Prelude.{◌≡◌};
+ghost use Rattle.certify.specs.run.SolverCalls.{IsSolverFault, fault_for, is_interrupted};
+
+use crate::fault::RunFault;
+use sat_solver::SolverError;
+
+/// The fault of a run for what its solver fails of.
+pub fn fault_of(error: SolverError) -> RunFault
+    requires { IsSolverFault error }
+    ensures { result ≡ fault_for error }
+{
+    match error {
+        SolverError::ProofIoError { .. } => RunFault::CertificateWrite,
+        SolverError::OutOfMemory => RunFault::OutOfMemory,
+        SolverError::StoreFull => RunFault::StoreFull,
+        // No index of a variable is left.
+        _ => RunFault::CounterEnd,
+    }
+}
+
+/// Whether the rounds were spent.
+pub fn is_interrupted(error: &SolverError) -> bool
+    ensures { result ≡ is_interrupted error.now }
+{
+    matches!(error, SolverError::Interrupted)
+}

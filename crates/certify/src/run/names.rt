@@ -1,0 +1,66 @@
+//! Names of a run's solver that are hidden, or get a mode.
+ghost use Rattle.std.specs.Prelude.{◌≡◌, ◌+◌, [], ◌∷◌, IfErr, OnOk};
+ghost use Rattle.sat_solver.specs.variables.Refusing.{names_in};
+ghost use Rattle.sat_solver.specs.solver.Whole.{IsSolver};
+ghost use Rattle.certify.specs.run.SolverCalls.{FailsIf, IsCaused, IsReady, LacksRoom, NeedsMore};
+ghost use Rattle.certify.specs.run.Obeying.{ChangesName, Obeyed, command_to};
+
+use super::faults::fault_of;
+use crate::fault::RunFault;
+use crate::judge::NameState;
+use sat_base::{CountedWrite, Lit, Var};
+use sat_solver::{Solver, SolverError};
+
+/// Brings a name in, which gets this state.
+fn change_name<C: CountedWrite + Drop>(
+    solver: &mut Solver<C>,
+    user: Var,
+    state: NameState,
+) -> Result<(), SolverError>
+    requires { IsSolver solver.old }
+    ensures { ChangesName C.seen result solver.old solver.new user state }
+{
+    match state {
+        NameState::Hidden => solver.hide_var(user),
+        NameState::Sampled => solver.sample_var(user),
+        NameState::Witnessed => solver.witness_var(user),
+    }
+}
+
+/// Brings a name in, which gets this state, where nothing is assumed.
+fn set_name<C: CountedWrite + Drop>(
+    solver: &mut Solver<C>,
+    user: Var,
+    state: NameState,
+) -> Result<(), RunFault>
+    requires ready { IsReady solver.old }
+    requires free { solver.old.assumed.items ≡ [] }
+    ensures obeyed { OnOk result (Obeyed C.seen (command_to state ((user + 1) ∷ [])) solver.old solver.new) }
+    ensures fails { FailsIf result C.seen solver.old solver.new }
+    // No clause is stored.
+    ensures cause { IfErr result (λ e. IsCaused e ⊥ (LacksRoom solver.old (user ∷ []))) }
+{
+    match change_name(solver, user, state) {
+        Ok(()) => Ok(()),
+        Err(error) => Err(fault_of(error)),
+    }
+}
+
+/// Brings the names of literals in, which get this state, where nothing is assumed.
+pub(crate) fn set_names<C: CountedWrite + Drop>(
+    solver: &mut Solver<C>,
+    literals: &[Lit],
+    state: NameState,
+) -> Result<(), RunFault>
+    requires ready { IsReady solver.old }
+    requires free { solver.old.assumed.items ≡ [] }
+    ensures obeyed { OnOk result (Obeyed C.seen (command_to state (names_in literals.now)) solver.old solver.new) }
+    ensures fails { FailsIf result C.seen solver.old solver.new }
+    // No clause is stored.
+    ensures cause { IfErr result (λ e. IsCaused e ⊥ (NeedsMore solver.old (command_to state (names_in literals.now)))) }
+{
+    for lit in literals {
+        set_name(solver, lit.var(), state)?;
+    }
+    Ok(())
+}

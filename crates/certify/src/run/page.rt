@@ -1,0 +1,95 @@
+//! The text of an answer that a run's solver found.
+ghost use Rattle.std.specs.Prelude.{◌≡◌, ◌++◌, IfErr, OnOk, []};
+ghost use Rattle.certify.specs.answers.Answers.{outcome_text};
+ghost use Rattle.certify.specs.run.SolverCalls.{AnswerIs, IsReady};
+ghost use Rattle.certify.specs.run.Telling.{IsToldRight, outcome_for};
+
+use crate::answers::write::{push_sat, push_unknown, push_unsat};
+use crate::fault::RunFault;
+use crate::summary::Answer;
+use sat_base::{CountedWrite, Lit};
+use sat_checker::sorted_lits::copy_canonical;
+use sat_solver::Solver;
+use std::alloc::{AllocError, Global};
+
+/// Appends the text of a model that was found.
+fn push_model<C: CountedWrite + Drop>(
+    text: &mut Vec<u8>,
+    solver: &Solver<C>,
+    alloc: Global,
+) -> Result<(), RunFault>
+    requires ready { IsReady solver.now }
+    requires sat { AnswerIs solver.now.state Answer.Sat }
+    ensures text { OnOk result (text.new.items ≡ text.old.items ++ outcome_text (outcome_for Answer.Sat solver.now)) }
+    ensures right { OnOk result (IsToldRight Answer.Sat solver.now) }
+    ensures memory { IfErr result (λ e. e ≡ RunFault.OutOfMemory) }
+{
+    match solver.model(alloc) {
+        Ok(Some(line)) => Ok(push_sat(text, &line)?),
+        Ok(None) => unreachable!(),
+        Err(_) => Err(RunFault::OutOfMemory),
+    }
+}
+
+/// Appends the text of a core that was found, whose literals are put in order.
+fn push_core<C: CountedWrite + Drop>(
+    text: &mut Vec<u8>,
+    solver: &Solver<C>,
+    core: &mut Vec<Lit>,
+) -> Result<(), AllocError>
+    requires ready { IsReady solver.now }
+    requires unsat { AnswerIs solver.now.state Answer.Unsat }
+    ensures text { OnOk result (text.new.items ≡ text.old.items ++ outcome_text (outcome_for Answer.Unsat solver.now)) }
+    ensures right { OnOk result (IsToldRight Answer.Unsat solver.now) }
+{
+    match solver.failed_core() {
+        Some(failed) => {
+            copy_canonical(core, failed)?;
+            push_unsat(text, core)
+        }
+        None => unreachable!(),
+    }
+}
+
+/// Where the texts of answers are put together.
+#[derive(Drop)]
+pub struct Page {
+    alloc: Global,
+    /// The literals of one core.
+    core: Vec<Lit>,
+    /// The text of one answer.
+    pub(crate) text: Vec<u8>,
+}
+
+impl Page {
+    pub fn new(alloc: Global) -> Page
+        ensures core { result.core.items ≡ [] }
+        ensures text { result.text.items ≡ [] }
+    {
+        Page {
+            alloc,
+            core: Vec::new(alloc),
+            text: Vec::new(alloc),
+        }
+    }
+
+    /// Puts the text of an answer in place of what was there.
+    pub fn tell<C: CountedWrite + Drop>(
+        &mut self,
+        solver: &Solver<C>,
+        answer: Answer,
+    ) -> Result<(), RunFault>
+        requires ready { IsReady solver.now }
+        requires answer { AnswerIs solver.now.state answer }
+        ensures text { OnOk result (self.new.text.items ≡ outcome_text (outcome_for answer solver.now)) }
+        ensures right { OnOk result (IsToldRight answer solver.now) }
+        ensures memory { IfErr result (λ e. e ≡ RunFault.OutOfMemory) }
+    {
+        self.text.clear();
+        match answer {
+            Answer::Sat => push_model(&mut self.text, solver, self.alloc),
+            Answer::Unsat => Ok(push_core(&mut self.text, solver, &mut self.core)?),
+            Answer::Unknown => Ok(push_unknown(&mut self.text)?),
+        }
+    }
+}

@@ -1,0 +1,153 @@
+//! Serves the commands of a script as they come, and then its end.
+ghost use Rattle.std.specs.Prelude.{◌≡◌, ◌+◌, ◌∷◌, [], false, IfErr, IfOk, OnErr, OnOk};
+ghost use Rattle.sat_base.specs.device.Device.{Takes};
+ghost use Rattle.sat_base.specs.script.Judge.{Judge, start};
+ghost use Rattle.sat_base.specs.script.Script.{Command as Spelled, Malformed};
+ghost use Rattle.certify.specs.answers.Answers.{malformed_line};
+ghost use Rattle.certify.specs.script.Ahead.{IsNotAtEnd, source_in};
+ghost use Rattle.certify.specs.script.Commands.{IsLent, IsSomeLent, Means, MeansIf, end_reading};
+ghost use Rattle.sat_base.specs.script.Language.{Reading, onto_commands, reading, written};
+ghost use Rattle.certify.specs.run.Unfinished.{TookFront};
+ghost use Rattle.certify.specs.run.SolverCalls.{IsCaused, IsReady};
+ghost use Rattle.certify.specs.run.Standing.{CausedOver, RunGoesOn, JudgeIsAt, ServedNext, StopsOver, WritesBoth};
+ghost use Rattle.certify.specs.run.ServedScript.{ServesScript, ServesWhole, run_fault};
+
+use super::ask::answer_ask;
+use super::commands::take_command;
+use super::session::Session;
+use super::write::write_answer;
+use crate::answers::write::push_malformed;
+use crate::fault::RunFault;
+use crate::script::stream::{CommandStream, Next};
+use crate::script::{Command, ScriptEnd};
+use sat_base::{CountedRead, CountedWrite, ReadError};
+
+/// The fault of a run whose script can't be read.
+fn unread_script(error: ReadError) -> RunFault
+    ensures { result ≡ run_fault error }
+{
+    match error {
+        ReadError::Failed => RunFault::ScriptRead,
+        ReadError::OutOfMemory => RunFault::OutOfMemory,
+    }
+}
+
+/// Serves the command that came.
+fn serve_next<A: CountedWrite, C: CountedWrite + Drop>(
+    session: &mut Session<C>,
+    answers: &mut A,
+    command: Command<'_>,
+) -> Result<(), RunFault>
+    requires goes_on { RunGoesOn session.old }
+    requires whole { IsSomeLent command }
+    ensures served { (c : Spelled) → IsLent command.entry c
+        → OnOk result (ServedNext C.seen session.old session.new c (A.seen answers.old) (A.seen answers.new)) }
+    ensures stops { (c : Spelled) → IsLent command.entry c → (left : Reading)
+        → StopsOver result session.old (onto_commands (c ∷ []) left) (A.seen answers.old) (A.seen answers.new) }
+    ensures cause { (c : Spelled) → IsLent command.entry c → (left : Reading)
+        → CausedOver result session.old session.new (onto_commands (c ∷ []) left) }
+    ensures written { WritesBoth result C.seen (A.seen answers.old) (A.seen answers.new) session.old.solver session.new.solver }
+{
+    if session.commands == u64::MAX {
+        return Err(RunFault::CounterEnd);
+    }
+    take_command(session, answers, command)
+}
+
+/// Tells that the text is malformed at the command that would have this number.
+fn tell_malformed<A: CountedWrite, C: CountedWrite + Drop>(
+    session: &mut Session<C>,
+    answers: &mut A,
+    number: u64,
+) -> Result<(), RunFault>
+    ensures told { OnOk result (Takes (A.seen answers.old) (A.seen answers.new) (malformed_line number)) }
+    ensures same { session.new ≡ record session.old { page = session.new.page } }
+    ensures stops { (j : Judge) → OnErr result (TookFront number j ([], Malformed) (A.seen answers.old) (A.seen answers.new)) }
+    ensures cause { IfErr result (λ e. IsCaused e ⊥ ⊥) }
+    ensures written { WritesBoth result C.seen (A.seen answers.old) (A.seen answers.new) session.old.solver session.new.solver }
+{
+    session.page.text.clear();
+    push_malformed(&mut session.page.text, number)?;
+    write_answer(answers, &session.page.text)
+}
+
+/// Serves the end of a script. The answer is the number at which the text is malformed.
+fn serve_end<A: CountedWrite, C: CountedWrite + Drop>(
+    session: &mut Session<C>,
+    answers: &mut A,
+    end: ScriptEnd,
+) -> Result<Option<u64>, RunFault>
+    requires { RunGoesOn session.old }
+    ensures serves { (j : Judge) → JudgeIsAt session.old j
+        → IfOk result (λ at. ServesWhole C.seen j (end_reading end) 0 at session.old session.new (A.seen answers.old) (A.seen answers.new)) }
+    ensures stops { StopsOver result session.old (end_reading end) (A.seen answers.old) (A.seen answers.new) }
+    ensures cause { CausedOver result session.old session.new (end_reading end) }
+    ensures ready { OnOk result (IsReady session.new.solver) }
+    ensures written { WritesBoth result C.seen (A.seen answers.old) (A.seen answers.new) session.old.solver session.new.solver }
+{
+    match end {
+        ScriptEnd::Clean => Ok(None),
+        ScriptEnd::Asked => {
+            answer_ask(session, answers, &[])?;
+            Ok(None)
+        }
+        ScriptEnd::Malformed => {
+            let Some(number) = session.commands.checked_add(1) else {
+                return Err(RunFault::CounterEnd);
+            };
+            tell_malformed(session, answers, number)?;
+            Ok(Some(number))
+        }
+    }
+}
+
+/// Serves the last command, and the end.
+fn serve_last<A: CountedWrite, C: CountedWrite + Drop>(
+    session: &mut Session<C>,
+    answers: &mut A,
+    command: Command<'_>,
+    end: ScriptEnd,
+) -> Result<Option<u64>, RunFault>
+    requires goes_on { RunGoesOn session.old }
+    requires whole { IsSomeLent command }
+    ensures serves { (c : Spelled) → IsLent command.entry c → (j : Judge) → JudgeIsAt session.old j
+        → IfOk result (λ at. ServesWhole C.seen j (onto_commands (c ∷ []) (end_reading end)) 1 at session.old session.new
+        (A.seen answers.old) (A.seen answers.new)) }
+    ensures stops { (c : Spelled) → IsLent command.entry c
+        → StopsOver result session.old (onto_commands (c ∷ []) (end_reading end)) (A.seen answers.old) (A.seen answers.new) }
+    ensures cause { (c : Spelled) → IsLent command.entry c
+        → CausedOver result session.old session.new (onto_commands (c ∷ []) (end_reading end)) }
+    ensures ready { OnOk result (IsReady session.new.solver) }
+    ensures written { WritesBoth result C.seen (A.seen answers.old) (A.seen answers.new) session.old.solver session.new.solver }
+{
+    serve_next(session, answers, command)?;
+    serve_end(session, answers, end)
+}
+
+/// Serves all commands, and the end. The answer is the number at which the text is malformed.
+pub(crate) fn serve_all<S: CountedRead, A: CountedWrite, C: CountedWrite + Drop>(
+    session: &mut Session<C>,
+    stream: &mut CommandStream,
+    script: &mut S,
+    answers: &mut A,
+) -> Result<Option<u64>, RunFault>
+    requires goes_on { RunGoesOn session.old }
+    requires at { JudgeIsAt session.old start }
+    requires open_yet { IsNotAtEnd (source_in S.seen script.old stream.old.ahead) }
+    requires means { Means stream.old.reader reading }
+    requires counts { MeansIf false stream.old.reader written }
+    ensures { ServesScript C.seen start reading written result (source_in S.seen script.old stream.old.ahead)
+        (source_in S.seen script.new stream.new.ahead) session.old session.new (A.seen answers.old) (A.seen answers.new) }
+{
+    loop {
+        let next = match stream.next(script) {
+            Ok(next) => next,
+            Err(error) => return Err(unread_script(error)),
+        };
+        match next {
+            Next::Command => serve_next(session, answers, stream.command())?,
+            Next::Last(end) => return serve_last(session, answers, stream.command(), end),
+            Next::End(end) => return serve_end(session, answers, end),
+        }
+    }
+}

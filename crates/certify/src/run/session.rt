@@ -1,0 +1,78 @@
+//! What a run holds between commands.
+ghost use Rattle.std.specs.Prelude.{◌≡◌, [], ◌+◌};
+ghost use Rattle.sat_base.specs.device.Sink.{empty_sink};
+ghost use Rattle.sat_base.specs.script.Judge.{start};
+ghost use Rattle.sat_solver.specs.variables.Calls.{Agree};
+ghost use Rattle.sat_solver.specs.proof.Counting.{start as uncounted};
+ghost use Rattle.sat_solver.specs.proof.ProofView.{Open, target_of};
+ghost use Rattle.sat_solver.specs.solver.Whole.{steps_in};
+ghost use Rattle.certify.specs.run.SolverCalls.{IsReady, proof_in};
+ghost use Rattle.certify.specs.run.Standing.{RunGoesOn, JudgeIsAt};
+
+use super::page::Page;
+use crate::judge::Names;
+use crate::summary::AskReport;
+use sat_base::CountedWrite;
+use sat_solver::{ProofFormat, Solver, SolverConfigUpdate};
+use std::alloc::Global;
+
+/// Rounds between reductions of the clauses of tier Local, a seventh of a solver's default: half as many clauses are watched.
+const REDUCE_LOCALS_INTERVAL: u64 = 2_000;
+
+/// What a run holds between commands.
+#[derive(Drop)]
+pub struct Session<C: CountedWrite + Drop> {
+    pub(crate) names: Names,
+    pub(crate) solver: Solver<C>,
+    /// The most rounds of search for an ask.
+    pub(crate) budget: u64,
+    pub(crate) page: Page,
+    /// How many commands came, those that were refused too.
+    pub(crate) commands: u64,
+    pub(crate) refused: u64,
+    pub(crate) asks: Vec<AskReport>,
+}
+
+/// A solver that writes its steps to this writer.
+fn solver_into<C: CountedWrite + Drop>(alloc: Global, certificate: C) -> Solver<C>
+    ensures ready { IsReady result }
+    ensures agree { Agree result.names [] start [] }
+    ensures steps { steps_in result ≡ [] }
+    ensures target { target_of C.seen (proof_in result) ≡ Open ProofFormat.Varisat uncounted (empty_sink (C.seen certificate)) }
+    ensures rounds { result.clock.steps ≡ 0 }
+    ensures free { result.assumed.items ≡ [] }
+{
+    let mut solver = Solver::new(alloc);
+    let mut update = SolverConfigUpdate::new();
+    update.reduce_locals_interval = Some(REDUCE_LOCALS_INTERVAL);
+    solver.config(&update).unwrap();
+    solver
+        .write_proof(certificate, ProofFormat::Varisat)
+        .unwrap();
+    solver
+}
+
+impl<C: CountedWrite + Drop> Session<C> {
+    /// Before the first command, with a certificate that is written to this writer.
+    pub fn new(alloc: Global, certificate: C, budget: u64) -> Session<C>
+        ensures goes_on { RunGoesOn result }
+        ensures at { JudgeIsAt result start }
+        ensures steps { steps_in result.solver ≡ [] }
+        ensures target { target_of C.seen (proof_in result.solver) ≡ Open ProofFormat.Varisat uncounted (empty_sink (C.seen certificate)) }
+        ensures rounds { result.solver.clock.steps ≡ 0 }
+        ensures budget { result.budget ≡ budget }
+        ensures commands { result.commands ≡ 0 }
+        ensures refused { result.refused ≡ 0 }
+        ensures asks { result.asks.items ≡ [] }
+    {
+        Session {
+            names: Names::new(alloc),
+            solver: solver_into(alloc, certificate),
+            budget,
+            page: Page::new(alloc),
+            commands: 0,
+            refused: 0,
+            asks: Vec::new(alloc),
+        }
+    }
+}

@@ -1,0 +1,95 @@
+//! Calls of a run's solver.
+ghost use Rattle.std.specs.Prelude.{IfOk, IfErr, OnOk};
+ghost use Rattle.sat_solver.specs.variables.Room.{users_in};
+ghost use Rattle.sat_solver.specs.solver.Adding.{Added, Assumed};
+ghost use Rattle.sat_solver.specs.solver.Whole.{HasFullStore};
+ghost use Rattle.certify.specs.run.SolverCalls.{FailsIf, IsAllowed, IsCaused, IsReady, LacksRoom, Limited, Searched, Solved};
+
+use super::faults::{fault_of, is_interrupted};
+use crate::fault::RunFault;
+use crate::summary::{Answer, AskReport};
+use sat_base::{CountedWrite, Lit};
+use sat_solver::{Solver, SolverConfigUpdate};
+
+/// Adds a clause, of which no name is refused.
+pub fn add_clause<C: CountedWrite + Drop>(
+    solver: &mut Solver<C>,
+    literals: &[Lit],
+) -> Result<(), RunFault>
+    requires ready { IsReady solver.old }
+    requires allowed { IsAllowed solver.old literals.now }
+    ensures added { OnOk result (Added C.seen solver.old solver.new literals.now) }
+    ensures fails { FailsIf result C.seen solver.old solver.new }
+    ensures cause { IfErr result (λ e. IsCaused e (HasFullStore solver.new) (LacksRoom solver.old (users_in literals.now))) }
+{
+    match solver.add_clause(literals) {
+        Ok(()) => Ok(()),
+        Err(error) => Err(fault_of(error)),
+    }
+}
+
+/// Assumes literals in place of those before; none of their names is refused.
+pub fn assume<C: CountedWrite + Drop>(
+    solver: &mut Solver<C>,
+    literals: &[Lit],
+) -> Result<(), RunFault>
+    requires ready { IsReady solver.old }
+    requires allowed { IsAllowed solver.old literals.now }
+    ensures assumed { OnOk result (Assumed C.seen solver.old solver.new literals.now) }
+    ensures fails { FailsIf result C.seen solver.old solver.new }
+    // No clause is stored.
+    ensures cause { IfErr result (λ e. IsCaused e ⊥ (LacksRoom solver.old (users_in literals.now))) }
+{
+    match solver.assume(literals) {
+        Ok(()) => Ok(()),
+        Err(error) => Err(fault_of(error)),
+    }
+}
+
+/// From here on a search makes at most so many rounds.
+fn limit_rounds<C: CountedWrite + Drop>(solver: &mut Solver<C>, budget: u64)
+    requires { IsReady solver.old }
+    ensures { Limited budget solver.old solver.new }
+{
+    let mut update = SolverConfigUpdate::new();
+    update.max_steps = Some(budget);
+    solver.config(&update).unwrap();
+}
+
+/// Searches for an answer.
+fn solve<C: CountedWrite + Drop>(solver: &mut Solver<C>) -> Result<Answer, RunFault>
+    requires { IsReady solver.old }
+    ensures solved { IfOk result (λ answer. Solved C.seen answer solver.old solver.new) }
+    ensures fails { FailsIf result C.seen solver.old solver.new }
+    ensures cause { IfErr result (λ e. IsCaused e (HasFullStore solver.new) ⊥) }
+{
+    match solver.solve() {
+        Ok(true) => Ok(Answer::Sat),
+        Ok(false) => Ok(Answer::Unsat),
+        Err(error) => {
+            if is_interrupted(&error) {
+                return Ok(Answer::Unknown);
+            }
+            Err(fault_of(error))
+        }
+    }
+}
+
+/// Searches for an answer, with at most so many rounds.
+pub fn search<C: CountedWrite + Drop>(
+    solver: &mut Solver<C>,
+    budget: u64,
+) -> Result<AskReport, RunFault>
+    requires { IsReady solver.old }
+    ensures searched { IfOk result (λ report. Searched C.seen budget report solver.old solver.new) }
+    ensures fails { FailsIf result C.seen solver.old solver.new }
+    ensures cause { IfErr result (λ e. IsCaused e (HasFullStore solver.new) ⊥) }
+{
+    limit_rounds(solver, budget);
+    let before = solver.steps();
+    let answer = solve(solver)?;
+    Ok(AskReport {
+        answer,
+        steps: solver.steps() - before,
+    })
+}

@@ -1,0 +1,60 @@
+//! Taking bytes that were read ahead.
+ghost use Rattle.std.specs.Prelude.{◌≡◌, ◌+◌, ◌≤◌, [], length, drop, OnOk};
+ghost use Rattle.certify.specs.script.Ahead.{Refills, source_in, waiting};
+
+use super::{Ahead, PIECE};
+use sat_base::{CountedRead, ReadError};
+
+/// A reader is read at most so often.
+const MAX_READS: u64 = 1 << 48;
+
+impl Ahead {
+    pub fn new() -> Ahead
+        ensures waiting { waiting result ≡ [] }
+        ensures reads { result.reads ≡ 0 }
+    {
+        Ahead {
+            piece: [0; PIECE],
+            at: 0,
+            end: 0,
+            reads: 0,
+        }
+    }
+
+    /// The bytes read and not yet taken.
+    pub fn waiting(&self) -> &[u8]
+        ensures { result.now ≡ waiting self.now }
+    {
+        &self.piece[self.at..self.end]
+    }
+
+    /// Takes so many of them.
+    pub fn take(&mut self, count: usize)
+        requires { count ≤ length (waiting self.old) }
+        ensures waiting { waiting self.new ≡ drop count (waiting self.old) }
+        ensures reads { self.new.reads ≡ self.old.reads }
+    {
+        self.at += count;
+    }
+
+    /// Reads the next piece, where all of the last one was taken. Says how many bytes came: none only at the reader's end.
+    pub fn refill<R: CountedRead>(&mut self, reader: &mut R) -> Result<usize, ReadError>
+        requires { waiting self.old ≡ [] }
+        ensures bytes { Refills result (source_in R.seen reader.old self.old) (source_in R.seen reader.new self.new) }
+        ensures reads { OnOk result (self.new.reads ≡ self.old.reads + 1) }
+    {
+        if self.reads >= MAX_READS {
+            return Err(ReadError::Failed);
+        }
+        self.reads += 1;
+        self.at = 0;
+        self.end = 0;
+        match reader.read_counted(&mut self.piece) {
+            Ok(count) => {
+                self.end = count;
+                Ok(count)
+            }
+            Err(_) => Err(ReadError::Failed),
+        }
+    }
+}

@@ -1,0 +1,81 @@
+//! The reader of scripts.
+ghost use Rattle.std.specs.Prelude.{◌≡◌, ◌<◌, ◌≤◌, ℕ, Bool, false, List, [], length, take, IfOk};
+ghost use Rattle.sat_base.specs.script.Script.{Command as SpelledCommand};
+ghost use Rattle.sat_base.specs.script.Language.{Reading, reading, written};
+ghost use Rattle.certify.specs.script.Commands.{EndsLast, HasWhole, IsLent, MayGoOn, Means, MeansIf, TakesBytes};
+
+use super::commands::Commands;
+use super::{Command, Reached, ScriptEnd};
+use sat_base::Tokenizer;
+use std::alloc::{AllocError, Global};
+
+/// Takes the bytes of a script in any pieces, and lends each command as soon as it is complete. It holds no bytes, and of the
+/// commands only the one in hand. Behind malformed text it isn't asked again.
+#[derive(Drop)]
+pub struct ScriptReader {
+    tokenizer: Tokenizer,
+    commands: Commands,
+}
+
+impl ScriptReader {
+    /// A reader before the first byte of a script.
+    pub fn new(alloc: Global) -> ScriptReader
+        ensures means { Means result reading }
+        ensures counts { MeansIf false result written }
+    {
+        ScriptReader {
+            tokenizer: Tokenizer::new(),
+            commands: Commands::new(alloc),
+        }
+    }
+
+    /// The command that was reached.
+    pub fn command(&self) -> Command<'_>
+        ensures { (c : SpelledCommand) → HasWhole self.now c → IsLent result c }
+    {
+        Command {
+            kind: self.commands.draft.kind,
+            literals: &self.commands.draft.literals,
+            past_limit: self.commands.draft.past_limit,
+        }
+    }
+
+    /// Takes bytes up to the one that completes a command or makes the text malformed, or all. Says how many, and what it came to.
+    pub fn push(&mut self, bytes: &[u8]) -> Result<(usize, Reached), AllocError>
+        ensures within { IfOk result (λ r. r.0 ≤ length bytes.now) }
+        ensures some { IfOk result (λ r. 0 < length bytes.now → 0 < r.0) }
+        // Where it came to neither, all were taken.
+        ensures all { IfOk result (λ r. r.1 ≡ Reached.More → r.0 ≡ length bytes.now) }
+        // A wrong word is told at the first byte behind which no right one goes on.
+        ensures right { IfOk result (λ r. 0 < length bytes.now → r.1 ≡ Reached.More → MayGoOn self.new) }
+        ensures takes { IfOk result (λ r. TakesBytes r.1 self.old (take r.0 bytes.now) self.new) }
+    {
+        let mut at = 0;
+        while at < bytes.len() {
+            let (count, token) = self.tokenizer.push_some(&bytes[at..]);
+            at += count;
+            let Some(token) = token else {
+                if self.tokenizer.is_wrong() {
+                    return Ok((at, Reached::Malformed));
+                }
+                continue;
+            };
+            match self.commands.take(token)? {
+                Reached::More => {}
+                Reached::Command => return Ok((at, Reached::Command)),
+                Reached::Malformed => return Ok((at, Reached::Malformed)),
+            }
+        }
+        Ok((at, Reached::More))
+    }
+
+    /// The text ends here. Says whether that completes a command, and how the script ends.
+    pub fn finish(&mut self) -> (bool, ScriptEnd)
+        ensures { (asks : Bool) (before : List ℕ → Reading) → MeansIf asks self.old before → EndsLast asks result.0 result.1 self.new (before []) }
+    {
+        match self.tokenizer.finish() {
+            None => (false, self.commands.ending()),
+            Some(token) => self.commands.finish_with(token),
+        }
+    }
+}

@@ -1,0 +1,117 @@
+//! Scripts that are read command by command.
+ghost use Rattle.std.specs.Prelude.{◌≡◌, [], false};
+ghost use Rattle.sat_base.specs.script.Script.{Command as SpelledCommand};
+ghost use Rattle.certify.specs.script.Ahead.{IsNotAtEnd, source_in, waiting};
+ghost use Rattle.certify.specs.script.Commands.{HasWhole, IsLent, Means, MeansIf};
+ghost use Rattle.sat_base.specs.script.Language.{reading, written};
+ghost use Rattle.certify.specs.script.Streaming.{Brings, NextComes, Falls, FinishesText, TakesWaiting};
+
+use super::reader::ScriptReader;
+use super::{Command, Reached, ScriptEnd};
+use crate::script::ahead::Ahead;
+use sat_base::{CountedRead, ReadError};
+use std::alloc::{AllocError, Global};
+
+/// What comes next in a script.
+#[derive(Clone, Copy)]
+pub(crate) enum Next {
+    /// A command.
+    Command,
+    /// The last command, behind which the text ends so.
+    Last(ScriptEnd),
+    /// No command: the text ends so.
+    End(ScriptEnd),
+}
+
+/// A script that is read as its commands are wanted, in pieces of at most 4,096 bytes.
+#[derive(Drop)]
+pub(crate) struct CommandStream {
+    reader: ScriptReader,
+    ahead: Ahead,
+}
+
+impl CommandStream {
+    /// Before the first byte.
+    pub fn new(alloc: Global) -> CommandStream
+        ensures means { Means result.reader reading }
+        ensures counts { MeansIf false result.reader written }
+        ensures waiting { waiting result.ahead ≡ [] }
+        ensures reads { result.ahead.reads ≡ 0 }
+    {
+        CommandStream {
+            reader: ScriptReader::new(alloc),
+            ahead: Ahead::new(),
+        }
+    }
+
+    /// The command that came.
+    pub fn command(&self) -> Command<'_>
+        ensures { (c : SpelledCommand) → HasWhole self.now.reader c → IsLent result c }
+    {
+        self.reader.command()
+    }
+
+    /// Takes bytes that wait.
+    fn take(&mut self) -> Result<Reached, AllocError>
+        ensures { TakesWaiting result self.old self.new }
+    {
+        let (count, reached) = self.reader.push(self.ahead.waiting())?;
+        self.ahead.take(count);
+        Ok(reached)
+    }
+
+    /// The text is over.
+    fn finish(&mut self) -> Next
+        ensures finishes { FinishesText result self.old.reader self.new.reader }
+        ensures ahead { self.new.ahead ≡ self.old.ahead }
+    {
+        let (whole, end) = self.reader.finish();
+        if whole {
+            return Next::Last(end);
+        }
+        Next::End(end)
+    }
+
+    /// Reads the next bytes, where none wait. `None`: some came.
+    fn refill<S: CountedRead>(&mut self, script: &mut S) -> Result<Option<Next>, ReadError>
+        requires { waiting self.old.ahead ≡ [] }
+        ensures brings { Brings result (source_in S.seen script.old self.old.ahead) (source_in S.seen script.new self.new.ahead)
+            self.old.reader self.new.reader }
+        ensures falls { Falls result self.old.ahead self.new.ahead }
+    {
+        if self.ahead.refill(script)? == 0 {
+            return Ok(Some(self.finish()));
+        }
+        Ok(None)
+    }
+
+    /// Takes bytes that wait, or reads the next ones. `None`: nothing came of them yet.
+    fn advance<S: CountedRead>(&mut self, script: &mut S) -> Result<Option<Next>, ReadError>
+        requires { IsNotAtEnd (source_in S.seen script.old self.old.ahead) }
+        ensures brings { Brings result (source_in S.seen script.old self.old.ahead) (source_in S.seen script.new self.new.ahead)
+            self.old.reader self.new.reader }
+        ensures falls { Falls result self.old.ahead self.new.ahead }
+    {
+        if self.ahead.waiting().is_empty() {
+            return self.refill(script);
+        }
+        match self.take()? {
+            Reached::More => Ok(None),
+            Reached::Command => Ok(Some(Next::Command)),
+            Reached::Malformed => Ok(Some(Next::End(ScriptEnd::Malformed))),
+        }
+    }
+
+    /// Reads on to the next command, or to the end.
+    pub fn next<S: CountedRead>(&mut self, script: &mut S) -> Result<Next, ReadError>
+        requires { IsNotAtEnd (source_in S.seen script.old self.old.ahead) }
+        ensures { NextComes result (source_in S.seen script.old self.old.ahead) (source_in S.seen script.new self.new.ahead)
+            self.old.reader self.new.reader }
+    {
+        loop {
+            if let Some(next) = self.advance(script)? {
+                return Ok(next);
+            }
+        }
+    }
+}

@@ -1,0 +1,210 @@
+-- From which places a text can go on without a wrong word.
+use Rattle.std.proofs.Common.{◌≡◌, ℕ, ◌+◌, ◌<◌, List, [], ◌∷◌, ◌++◌, Bool, true, false, Option, Some, None, refl, sym, ap, subst, ◌∙◌, arith}
+use Rattle.sat_base.specs.declared.text.Place.{Place}
+use Rattle.sat_base.specs.declared.text.Place.TheVariants as at
+use Rattle.sat_base.specs.declared.text.header.HeaderPlace.{HeaderPlace}
+use Rattle.sat_base.specs.declared.text.header.HeaderPlace.TheVariants as header
+use Rattle.sat_base.specs.declared.text.header.Stage.{Stage as CodeStage}
+use Rattle.sat_base.specs.declared.text.header.Stage.TheVariants as stage
+use Rattle.sat_base.specs.declared.text.Token.{Token as CodeToken}
+use Rattle.sat_base.specs.declared.text.Token.TheVariants as code
+use Rattle.sat_base.specs.declared.text.Tokenizer.{Tokenizer}
+use Rattle.sat_base.specs.text.Text.{is_blank, lines, on_line, tokens_of, Token, Wrong, Scan}
+use Rattle.sat_base.specs.text.Spot.{first_line, later_lines, Stage, Named, Format, Spot, Within, Spoilt, Solid, left, in_hand, spoils, ended_by_blank, behind_blank}
+use Rattle.sat_base.specs.text.WrongWords.{AreRight, RightAhead, WrongAhead}
+use Rattle.sat_base.specs.text.Tokenizing.{held_token, BeginsWrong, IsAtHeader, IsAt, Moves, BeganHeader, grown, Given, Says, SaysAtBlank, ended_stage, LeadsBehind, IsQuiet, Stands}
+use Rattle.sat_base.proofs.lemmas.text.Spots.{first_word, blank_left, end_left, last_left_end}
+use Rattle.sat_base.proofs.lemmas.text.Places.{IsSpot_of, moves_minus_digit, moves_digit, says_letter, says_number}
+use Rattle.sat_base.proofs.lemmas.text.HeaderPlaces.{EndsAs, begun_c, begun_vars, begun_clauses, between_moves, c_n, cn_f, ended_vars, ended_clauses, says_header, behind_ended}
+
+-- some bytes may follow at this place so that nothing more is wrong
+abbrev MayBeRight : Place → Type 0
+MayBeRight p = (spot : Spot) → IsAt p spot → (n : ℕ) → RightAhead (left spot n)
+
+-- none is in hand, or one that isn't wrong
+abbrev IsRight : Option CodeToken → Type 0
+IsRight None = Unit {0}
+IsRight (Some t) = t ≡ code.Wrong → ⊥
+
+right_in_hand : (given : Option CodeToken) (tokens : ℕ → List (ℕ × Token)) (n : ℕ) → Given given tokens → IsRight given → AreRight (tokens n)
+right_in_hand None tokens n e r = rw (e n) tt
+right_in_hand (Some t) tokens n g r = rw (g.2 n) ((λ e. r (g.1 ∙ ap held_token e)), tt)
+
+-- the text may end here
+right_at_end : (p : Place) (given : Option CodeToken) → Says given p → IsRight given → MayBeRight p
+right_at_end p given says r spot i n =
+    ([], subst AreRight (sym (ap (λ (s : Scan). s.tokens) (end_left spot n (IsSpot_of p spot i)))) (right_in_hand given (in_hand spot) n (says spot i) r))
+
+-- a byte may follow
+right_before : (p q : Place) (b : ℕ) → Moves p b q → MayBeRight q → MayBeRight p
+right_before p q b m r spot i n =
+    let k = m spot i in
+    let h = r k.0 k.1 n in
+    (b ∷ h.0, subst (λ (s : Scan). AreRight s.tokens) (sym (k.2 n h.0)) h.1)
+
+-- a space may follow
+right_before_blank : (p q : Place) → LeadsBehind p q → SaysAtBlank None p → MayBeRight q → MayBeRight p
+right_before_blank p q leads says r spot i n =
+    let h = r (behind_blank spot) (leads spot i) n in
+    (32 ∷ h.0, subst (λ (s : Scan). AreRight s.tokens) (sym (blank_left spot n 32 h.0 (IsSpot_of p spot i) refl refl)) (rw (says spot i n) h.1))
+
+-- WORDS
+letter_right : (b : ℕ) → MayBeRight (at.Letter b)
+letter_right b = right_at_end (at.Letter b) (Some (code.Letter b)) (says_letter b) (λ e. cc)
+
+number_right : (negative : Bool) (v : ℕ) → (negative ≡ true → 0 < v) → MayBeRight (at.Digits negative v)
+number_right negative v z = right_at_end (at.Digits negative v) (Some (code.Number negative v)) (says_number negative v z) (λ e. cc)
+
+-- a number with a minus sign may still get a digit that isn't 0
+digits_right : (negative : Bool) (v : ℕ) → MayBeRight (at.Digits negative v)
+digits_right false v = number_right false v (λ e. absurd (cc))
+digits_right true v = right_before (at.Digits true v) (at.Digits true (grown v 49)) 49 (moves_digit true v 49 refl refl) (number_right true (grown v 49) (λ e. omega arith))
+
+minus_right : MayBeRight at.Minus
+minus_right = right_before at.Minus (at.Digits true 1) 49 (moves_minus_digit 49 refl refl (omega arith)) (number_right true 1 (λ e. omega arith))
+
+-- HEADER LINES
+ended_in_header : (p : HeaderPlace) (spot : Spot) (n : ℕ) → IsAtHeader p spot → ended_by_blank spot n ≡ spoils (ended_stage spot) n
+ended_in_header (header.Between ended) spot n (s, h, e) = rw e refl
+ended_in_header header.P spot n e = rw e refl
+ended_in_header header.C spot n e = rw e refl
+ended_in_header header.Cn spot n e = rw e refl
+ended_in_header header.Cnf spot n e = rw e refl
+ended_in_header (header.Vars value) spot n (x, w, s, h, e) = rw e refl
+ended_in_header (header.Clauses vars value) spot n (v, x, w, k, s, h, e) = rw e refl
+
+-- a space may end a word that may stand there
+right_before_space : (p : HeaderPlace) (ended : CodeStage) → EndsAs p (Some ended) → MayBeRight (at.Header (header.Between ended)) → MayBeRight (at.Header p)
+right_before_space p ended ends = right_before_blank (at.Header p) (at.Header (header.Between ended)) (behind_ended p ended ends)
+    (λ spot i n. let h = ends spot i in ended_in_header p spot n i ∙ ap (λ (o : Option Stage). spoils o n) h.2)
+
+header_right : (p : HeaderPlace) (vars clauses : ℕ) → EndsAs p (Some (stage.Both vars clauses)) → MayBeRight (at.Header p)
+header_right p vars clauses ends = right_at_end (at.Header p) (Some (code.Header vars clauses)) (says_header p vars clauses ends) (λ e. cc)
+
+both_right : (vars clauses : ℕ) → MayBeRight (at.Header (header.Between (stage.Both vars clauses)))
+both_right vars clauses = header_right (header.Between (stage.Both vars clauses)) vars clauses ends
+  where
+    ends : EndsAs (header.Between (stage.Both vars clauses)) (Some (stage.Both vars clauses))
+    ends spot (s, h, e) = rw e (s, h, refl)
+
+clauses_right : (vars value : ℕ) → MayBeRight (at.Header (header.Clauses vars value))
+clauses_right vars value = header_right (header.Clauses vars value) vars value (ended_clauses vars value)
+
+-- a byte may follow that begins a word
+begun_right : (ended : CodeStage) (b : ℕ) (p : HeaderPlace) → is_blank b ≡ false → BeganHeader ended b (Some p) → MayBeRight (at.Header p) → MayBeRight (at.Header (header.Between ended))
+begun_right ended b p f began = right_before (at.Header (header.Between ended)) (at.Header p) b (between_moves ended b (Some p) f began)
+
+behind_vars_right : (vars : ℕ) → MayBeRight (at.Header (header.Between (stage.Vars vars)))
+behind_vars_right vars = begun_right (stage.Vars vars) 49 (header.Clauses vars 1) refl (begun_clauses vars 49 refl refl (omega arith)) (clauses_right vars 1)
+
+vars_right : (value : ℕ) → MayBeRight (at.Header (header.Vars value))
+vars_right value = right_before_space (header.Vars value) (stage.Vars value) (ended_vars value) (behind_vars_right value)
+
+behind_format_right : MayBeRight (at.Header (header.Between stage.Format))
+behind_format_right = begun_right stage.Format 49 (header.Vars 1) refl (begun_vars 49 refl refl (omega arith)) (vars_right 1)
+
+cnf_right : MayBeRight (at.Header header.Cnf)
+cnf_right = right_before_space header.Cnf stage.Format (λ spot e. rw e (Format, refl, refl)) behind_format_right
+
+cn_right : MayBeRight (at.Header header.Cn)
+cn_right = right_before (at.Header header.Cn) (at.Header header.Cnf) 102 cn_f cnf_right
+
+c_right : MayBeRight (at.Header header.C)
+c_right = right_before (at.Header header.C) (at.Header header.Cn) 110 c_n cn_right
+
+behind_p_right : MayBeRight (at.Header (header.Between stage.Named))
+behind_p_right = begun_right stage.Named 99 header.C refl begun_c c_right
+
+p_right : MayBeRight (at.Header header.P)
+p_right = right_before_space header.P stage.Named (λ spot e. rw e (Named, refl, refl)) behind_p_right
+
+behind_stage_right : (ended : CodeStage) → MayBeRight (at.Header (header.Between ended))
+behind_stage_right stage.Named = behind_p_right
+behind_stage_right stage.Format = behind_format_right
+behind_stage_right (stage.Vars vars) = behind_vars_right vars
+behind_stage_right (stage.Both vars clauses) = both_right vars clauses
+
+in_header_right : (p : HeaderPlace) → MayBeRight (at.Header p)
+in_header_right (header.Between ended) = behind_stage_right ended
+in_header_right header.P = p_right
+in_header_right header.C = c_right
+in_header_right header.Cn = cn_right
+in_header_right header.Cnf = cnf_right
+in_header_right (header.Vars value) = vars_right value
+in_header_right (header.Clauses vars value) = clauses_right vars value
+
+-- ALL PLACES
+-- in a word that is wrong, or behind one of a header line
+abbrev IsWrongPlace : Place → Type 0
+IsWrongPlace at.Bad = Unit {0}
+IsWrongPlace at.Spoilt = Unit {0}
+IsWrongPlace place = ⊥
+
+none_right : (p : Place) → Says None p → MayBeRight p
+none_right p says = right_at_end p None says tt
+
+place_right : (p : Place) → (IsWrongPlace p → ⊥) → MayBeRight p
+place_right (at.Fresh may) w = none_right (at.Fresh may) (λ spot e. rw e (λ n. refl))
+place_right (at.Leading may) w = none_right (at.Leading may) (λ spot e. rw e (λ n. refl))
+place_right (at.Comment may) w = none_right (at.Comment may) (λ spot e. rw e (λ n. refl))
+place_right at.Between w = none_right at.Between (λ spot e. rw e (λ n. refl))
+place_right at.Minus w = minus_right
+place_right (at.Digits negative value) w = digits_right negative value
+place_right (at.Letter b) w = letter_right b
+place_right at.Bad w = absurd (w tt)
+place_right (at.Header p) w = in_header_right p
+place_right at.Spoilt w = absurd (w tt)
+place_right at.Over w = none_right at.Over (λ spot e. rw e (λ n. refl))
+
+pub right_ahead : (machine : Tokenizer) → (machine.place ≡ at.Bad → ⊥) → (machine.place ≡ at.Spoilt → ⊥) → (before : List ℕ → Scan) → Stands machine before → RightAhead before
+unfolding Stands
+right_ahead machine b s before (spot, n, i, l, e) =
+    let h = place_right machine.place (apart machine.place b s) spot i n in
+    (h.0, subst (λ (k : Scan). AreRight k.tokens) (sym (e h.0)) h.1)
+  where
+    apart : (p : Place) → (p ≡ at.Bad → ⊥) → (p ≡ at.Spoilt → ⊥) → IsWrongPlace p → ⊥
+    apart at.Bad b s w = b refl
+    apart at.Spoilt b s w = s refl
+    apart p b s w = w
+
+-- behind a blank
+pub right_behind : (machine : Tokenizer) → IsQuiet machine.place → (before : List ℕ → Scan) → Stands machine before → RightAhead before
+right_behind machine q = right_ahead machine (λ e. subst IsQuiet e q) (λ e. subst IsQuiet e q)
+
+-- WRONG WORDS
+-- what is left behind a line's word in hand
+word_wrong : (x : ℕ) (w : List ℕ) (n : ℕ) (rest : List ℕ) → Solid (x ∷ w) → BeginsWrong (x ∷ w) → (more : List (ℕ × Token)) × ((left (Within x w) n rest).tokens ≡ (n + 1, Wrong) ∷ more)
+unfolding left
+word_wrong x w n rest s h =
+    let ls = lines rest in
+    let f = first_word x w (first_line ls) s in
+    let more = on_line (n + 1) f.1 ++ tokens_of false (n + 1) (later_lines ls) in
+    (more, ap (λ (ws : List (List ℕ)). on_line (n + 1) ws ++ tokens_of false (n + 1) (later_lines ls)) f.2 ∙ ap (λ (t : Token). (n + 1, t) ∷ more) (h f.0))
+
+line_wrong : (n : ℕ) (rest : List ℕ) → (more : List (ℕ × Token)) × ((left Spoilt n rest).tokens ≡ (n + 1, Wrong) ∷ more)
+unfolding left
+line_wrong n rest = (tokens_of false (n + 1) (later_lines (lines rest)), refl)
+
+-- on the line of the last byte
+on_last : (before : List ℕ → Scan) (spot : Spot) (n : ℕ) → ((rest : List ℕ) → before rest ≡ left spot n rest) → (left spot n []).last ≡ n + 1
+    → ((rest : List ℕ) → (more : List (ℕ × Token)) × ((left spot n rest).tokens ≡ (n + 1, Wrong) ∷ more)) → WrongAhead before
+on_last before spot n e l h rest =
+    let k = h rest in
+    let last : n + 1 ≡ (before []).last = sym (ap (λ (s : Scan). s.last) (e []) ∙ l) in
+    (k.0, ap (λ (s : Scan). s.tokens) (e rest) ∙ k.1 ∙ ap (λ (m : ℕ). (m, Wrong) ∷ k.0) last)
+
+pub wrong_word : (machine : Tokenizer) → machine.place ≡ at.Bad → (before : List ℕ → Scan) → Stands machine before → WrongAhead before
+unfolding Stands
+wrong_word machine p before (spot, n, i, l, e) = let j : IsAt at.Bad spot = rw p at i in of_word spot n e j
+  where
+    of_word : (spot : Spot) (n : ℕ) → ((rest : List ℕ) → before rest ≡ left spot n rest) → IsAt at.Bad spot → WrongAhead before
+    of_word spot n e (x, w, s, h, f) =
+        let g : (rest : List ℕ) → before rest ≡ left (Within x w) n rest = λ rest. e rest ∙ ap (λ (k : Spot). left k n rest) f in
+        on_last before (Within x w) n g (last_left_end (Within x w) n s) (λ rest. word_wrong x w n rest s h)
+
+pub wrong_line : (machine : Tokenizer) → machine.place ≡ at.Spoilt → (before : List ℕ → Scan) → Stands machine before → WrongAhead before
+unfolding Stands
+wrong_line machine p before (spot, n, i, l, e) =
+    let j : spot ≡ Spoilt = rw p at i in
+    let g : (rest : List ℕ) → before rest ≡ left Spoilt n rest = λ rest. e rest ∙ ap (λ (k : Spot). left k n rest) j in
+    on_last before Spoilt n g (last_left_end Spoilt n tt) (line_wrong n)

@@ -1,0 +1,71 @@
+use Rattle.std.proofs.Common.{ℕ, ◌+◌, ◌≤◌, [], ◌∷◌, ◌++◌, map, Result, Ok, Err, OnOk, sym, ◌∙◌, ap, subst, arith}
+use Rattle.std.proofs.lemmas.Result.{IfOk-from_err}
+use Rattle.sat_base.specs.values.Literals.{negated}
+use Rattle.sat_checker.specs.Stored.{StoredUnit, unit_literals}
+use Rattle.sat_checker.specs.announcements.Needed.{ground, conflict_ids, true_unit}
+use Rattle.sat_checker.specs.inner.Marks.{IsIncreasing}
+use Rattle.sat_checker.specs.inner.Reasons.{named}
+use Rattle.sat_checker.proofs.lemmas.sets.Canonical.{canonical_increasing}
+use Rattle.sat_checker.proofs.lemmas.store.Keeping.{named_same}
+use Rattle.sat_checker.proofs.lemmas.announcements.Cases.{met_conflict, none_of_signs, unit_of_literals, ids_of_conflict}
+use Rattle.sat_checker.proofs.rup.propagations.Propagations.list.Goals as goal
+
+no_less : (a b : ℕ) → a ≤ a + b
+no_less a b = omega arith
+
+on_ok : {A E : Type 0} (r : Result A E) (P Q : Type 0) → (P → Q) → OnOk r P → OnOk r Q
+on_ok (Ok x) P Q w h = w h
+on_ok (Err e) P Q w h = tt
+
+pub has_both_signs-requires : goal.has_both_signs-requires
+has_both_signs-requires c = subst IsIncreasing (sym c.requires.canonical) (canonical_increasing c.args.clause.now)
+
+pub returns-then-has_both_signs-clause-looks : goal.returns-then-has_both_signs-clause-looks
+returns-then-has_both_signs-clause-looks c = no_less c.args.looks.now _
+
+pub returns-in-Some-clause-looks : goal.returns-in-Some-clause-looks
+returns-in-Some-clause-looks c = no_less c.args.looks.now _
+
+pub returns-in_err-push-clause-looks : goal.returns-in_err-push-clause-looks
+returns-in_err-push-clause-looks c = no_less c.args.looks.now _
+
+-- both signs of a variable
+pub returns-then-has_both_signs-clause-listed : goal.returns-then-has_both_signs-clause-listed
+returns-then-has_both_signs-clause-listed c = λ f hashes k e x i.
+    c.clear.ensures.items ∙ sym (none_of_signs c.args.clause.now c.args.literals.now c.requires.canonical f hashes (sym c.has_both_signs.ensures ∙ c.if-has_both_signs.true))
+
+-- a unit that is true
+pub returns-in-Some-clause-listed : goal.returns-in-Some-clause-listed
+returns-in-Some-clause-listed c = λ f hashes k e x i.
+    let found = ap (true_unit c.args.literals.now) (sym e) ∙ sym c.true_id.ensures ∙ c.in-Some.is in
+    c.in_ok-push.ensures.items ∙ ap (λ xs. xs ++ c.in-Some.id ∷ []) c.clear.ensures.items
+    ∙ sym (unit_of_literals c.args.clause.now c.args.literals.now c.requires.canonical f hashes c.in-Some.id (sym c.has_both_signs.ensures ∙ c.if-has_both_signs.false) found)
+
+-- a conflict
+pub list_conflict-requires-clause-empty : goal.list_conflict-requires-clause-empty
+list_conflict-requires-clause-empty c = c.clear.ensures.items
+
+pub list_conflict-requires-clause-there : goal.list_conflict-requires-clause-there
+list_conflict-requires-clause-there c =
+    (met_conflict c.args.clause.now c.args.literals.now c.requires.canonical c.args.units.now c.has_both_signs.result _ c.has_both_signs.ensures c.if-has_both_signs.false (sym c.true_id.ensures ∙ c.in_default.is) c.requires.explained.1).there
+
+pub list_conflict-requires-clause-met : goal.list_conflict-requires-clause-met
+list_conflict-requires-clause-met c =
+    (met_conflict c.args.clause.now c.args.literals.now c.requires.canonical c.args.units.now c.has_both_signs.result _ c.has_both_signs.ensures c.if-has_both_signs.false (sym c.true_id.ensures ∙ c.in_default.is) c.requires.explained.1).met
+
+pub returns-clause-listed : goal.returns-clause-listed
+returns-clause-listed c = on_ok c.list_conflict.result _ _
+    (λ lists f hashes k e x i.
+    let none = sym c.true_id.ensures ∙ c.in_default.is in
+    let explained = met_conflict c.args.clause.now c.args.literals.now c.requires.canonical c.args.units.now c.has_both_signs.result _ c.has_both_signs.ensures c.if-has_both_signs.false none x in
+    let denied = map negated c.args.clause.now in
+    let noted = named hashes c.args.store.now.clauses in
+    lists (ground (denied ++ map (λ u. u.literal) c.args.units.now) noted) explained (subst (λ us. IsIncreasing (map (λ (u : StoredUnit). u.id) us)) (sym e) i)
+    ∙ ap (conflict_ids denied (ground (denied ++ map (λ u. u.literal) c.args.units.now) noted)) e
+    ∙ ap (λ us. conflict_ids denied (ground (denied ++ map (λ (u : StoredUnit). u.literal) us) noted) f.units) e
+    ∙ ap (λ cs. conflict_ids denied (ground (denied ++ unit_literals f) cs) f.units) (named_same c.args.store.now f k hashes)
+    ∙ sym (ids_of_conflict c.args.clause.now c.args.literals.now c.requires.canonical f hashes (sym c.has_both_signs.ensures ∙ c.if-has_both_signs.false) (ap (true_unit c.args.literals.now) (sym e) ∙ none)))
+    c.list_conflict.ensures.listed
+
+pub returns-in_err-push-clause-listed : goal.returns-in_err-push-clause-listed
+returns-in_err-push-clause-listed c = IfOk-from_err c.from_residual.result _ c.from_residual.ensures.0

@@ -1,7 +1,0 @@
-use Rattle.std.proofs.Common.{◌≡◌, ◌++◌, take}
-use Rattle.sat_checker.specs.inner.SlotView.{standing}
-use Rattle.sat_checker.proofs.slots.Slots.push_standing.Given as goal
-
--- those so far that aren't gone stand behind the old ones
-abbrev pub invariant-loop-place : goal.invariant-loop-place
-invariant-loop-place l = l.self ≡ l.fn.self ++ standing (take l.place l.fn.others)

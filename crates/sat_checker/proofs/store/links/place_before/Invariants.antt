@@ -1,0 +1,13 @@
+use Rattle.std.proofs.Common.{◌≡◌, length}
+use Rattle.sat_checker.specs.inner.LinkView.{rest, IsWalk, place_before}
+use Rattle.sat_checker.proofs.store.links.place_before.Given as goal
+
+-- the place is behind one of those that are left
+abbrev pub invariant-loop-at : goal.invariant-loop-at
+invariant-loop-at l = record {
+  walk : IsWalk l.links l.at;
+  same : place_before l.place (rest l.links l.from) ≡ place_before l.place (rest l.links l.at);
+}
+
+abbrev pub decreases-loop-at : goal.decreases-loop-at
+decreases-loop-at l = length (rest l.links l.at)

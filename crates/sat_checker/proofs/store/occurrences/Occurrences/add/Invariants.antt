@@ -1,0 +1,11 @@
+use Rattle.std.proofs.Common.{ℕ, ◌≡◌, ◌+◌, drop}
+use Rattle.sat_base.specs.values.Tables.{HasRoom}
+use Rattle.sat_checker.specs.inner.OccurrenceView.{count_at, times_in}
+use Rattle.sat_checker.proofs.store.occurrences.Occurrences.add.Given as goal
+
+-- what is counted and what is left make the whole, and the room stays
+abbrev pub invariant-loop-lit : goal.invariant-loop-lit
+invariant-loop-lit l = record {
+  counted : (k : ℕ) → count_at l.self k + times_in k (drop l.lit-index l.literals) ≡ count_at l.fn.self k + times_in k l.literals;
+  room : (k : ℕ) → HasRoom l.fn.self.counts k → HasRoom l.self.counts k;
+}

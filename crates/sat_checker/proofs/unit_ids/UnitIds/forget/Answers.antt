@@ -1,7 +1,0 @@
-use Rattle.std.proofs.Common.{◌-◌, ◌^◌, refl}
-use Rattle.sat_base.proofs.lemmas.values.TableLemmas.{value_set}
-use Rattle.sat_checker.specs.inner.UnitView.{id_of}
-use Rattle.sat_checker.proofs.unit_ids.UnitIds.forget.Goals as goal
-
-pub returns : goal.returns
-returns c = value_set id_of c.args.self.now.ids c.reset.new.self (2 ^ 64 - 1) (2 ^ 64 - 1) (2 ^ 64 - 1) c.code.result c.args.lit refl c.code.ensures.value c.reset.ensures.set

@@ -1,0 +1,272 @@
+//! What a step announces, by what is stored and known before it.
+ghost use Rattle.std.specs.Prelude.{ℕ, List, ◌≡◌, ◌+◌, ◌≤◌, ◌++◌, ◌∷◌, [], OnOk, OnErr, if◌then◌else◌};
+ghost use Rattle.sat_checker.specs.Looks.{literal_count};
+ghost use Rattle.sat_checker.specs.Stored.{Stored};
+ghost use Rattle.sat_checker.specs.announcements.Announcements as told;
+ghost use Rattle.sat_checker.specs.announcements.Announcements.{derived_set, id_of_set, input_set, irredundant_deleted, is_sample, is_witness, last_id, mode_change, naming, one, redundant_deleted, renaming};
+ghost use Rattle.sat_checker.specs.inner.FormulaView.{last_in, KeepsFormula};
+ghost use Rattle.sat_checker.specs.inner.StoreView.{found_in};
+ghost use Rattle.sat_checker.specs.inner.VariablesView.{mode_in, variable_of};
+ghost use Rattle.sat_checker.specs.telling.AnnouncementView.{is_sampling};
+ghost use Rattle.sat_checker.specs.telling.AnnouncingView.{stored_as, deletion_told, AreLong};
+
+use crate::announce::announcement::{CheckedSamplingMode, CheckedUserVar};
+use crate::announce::news::News;
+use crate::formula::Formula;
+use crate::looks::Looks;
+use crate::state::status::LastClause;
+use crate::store::Found;
+use crate::variables::{SamplingMode, VarData};
+use sat_base::{Lit, Var};
+use std::alloc::AllocError;
+
+/// What storing a derived clause changes: it is new, or becomes irredundant under its id, or none of both.
+#[derive(Clone, Copy)]
+pub(crate) enum Change {
+    New,
+    Irredundant(u64),
+    Neither,
+}
+
+/// A clause that is to be deleted, as it stands, and the id that it follows from where it is irredundant.
+#[derive(Clone, Copy)]
+pub(crate) struct Deletion {
+    pub(crate) redundant: bool,
+    pub(crate) stored: Option<Found>,
+    pub(crate) from: Option<u64>,
+}
+
+impl Formula {
+    /// The id under which sorted literals are stored.
+    pub fn id_of_set(&self, literals: &[Lit], looks: &mut Looks) -> Option<u64>
+        ensures id { (f : Stored) → KeepsFormula self.now f → result ≡ id_of_set literals.now f }
+        ensures looks { (f : Stored) → KeepsFormula self.now f → looks.new ≤ looks.old + literal_count f }
+        ensures rise { looks.old ≤ looks.new }
+    {
+        if literals.is_empty() {
+            return None;
+        }
+        if literals.len() == 1 {
+            return self.units.id(literals[0]);
+        }
+        match self.store.stored(literals, looks) {
+            Some(clause) => Some(clause.id),
+            None => None,
+        }
+    }
+
+    /// What storing sorted literals as a derived clause will change.
+    pub fn change(&self, redundant: bool, literals: &[Lit], looks: &mut Looks) -> Change
+        ensures change { (f : Stored) → KeepsFormula self.now f → AreLong f → (ids : List ℕ) →
+            stored_as result f.next_id redundant literals.now ids
+            ≡ derived_set redundant literals.now ids f (id_of_set literals.now f) }
+        ensures looks { (f : Stored) → KeepsFormula self.now f → looks.new ≤ looks.old + literal_count f }
+        ensures rise { looks.old ≤ looks.new }
+    {
+        if literals.len() < 2 {
+            return match self.id_of_set(literals, looks) {
+                None => Change::New,
+                Some(_) => Change::Neither,
+            };
+        }
+        let Some(clause) = self.store.stored(literals, looks) else {
+            return Change::New;
+        };
+        if redundant {
+            return Change::Neither;
+        }
+        if clause.irredundant == 0 {
+            return Change::Irredundant(clause.id);
+        }
+        Change::Neither
+    }
+}
+
+fn checked_mode(mode: SamplingMode) -> CheckedSamplingMode
+    ensures { is_sampling result ≡ is_sample (mode_in mode) }
+{
+    match mode {
+        SamplingMode::Sample => CheckedSamplingMode::Sample,
+        SamplingMode::Witness | SamplingMode::Hide => CheckedSamplingMode::Witness,
+    }
+}
+
+fn mode_of(sampling: bool) -> CheckedSamplingMode
+    ensures { is_sampling result ≡ sampling }
+{
+    if sampling {
+        CheckedSamplingMode::Sample
+    } else {
+        CheckedSamplingMode::Witness
+    }
+}
+
+impl LastClause {
+    /// The id of the last irredundant clause stored.
+    pub fn id(self) -> Option<u64>
+        ensures { result ≡ last_id (last_in self) }
+    {
+        match self {
+            LastClause::NoneYet => None,
+            LastClause::Empty(id) | LastClause::Single(id, _) | LastClause::Long(id) => Some(id),
+        }
+    }
+}
+
+/// Whether it is a sampling one, or where that isn't asked a witness.
+fn has_mode(mode: SamplingMode, sampling: bool) -> bool
+    ensures { result ≡ (if sampling then is_sample (mode_in mode) else is_witness (mode_in mode)) }
+{
+    match mode {
+        SamplingMode::Sample => sampling,
+        SamplingMode::Witness => !sampling,
+        SamplingMode::Hide => false,
+    }
+}
+
+impl News {
+    /// A clause of the formula that takes this id. Its sorted literals have both signs of a variable, or are stored under an id or not.
+    pub fn input(
+        &mut self,
+        id: u64,
+        literals: &[Lit],
+        both_signs: bool,
+        same: Option<u64>,
+    ) -> Result<(), AllocError>
+        ensures ok { OnOk result (self.new ≡ self.old
+            ++ (if both_signs then told.TautologicalClause id literals.now ∷ [] else input_set id literals.now same)) }
+        ensures err { OnErr result (self.new ≡ self.old) }
+    {
+        if both_signs {
+            return self.tautological_clause(id, literals);
+        }
+        match same {
+            None => self.add_clause(id, literals),
+            Some(same) => self.duplicated_clause(id, same, literals),
+        }
+    }
+
+    /// A derived clause that changed what is stored so.
+    pub fn derived(
+        &mut self,
+        change: Change,
+        id: u64,
+        redundant: bool,
+        literals: &[Lit],
+        propagations: &[u64],
+    ) -> Result<(), AllocError>
+        ensures ok { OnOk result (self.new ≡ self.old ++ stored_as change id redundant literals.now propagations.now) }
+        ensures err { OnErr result (self.new ≡ self.old) }
+    {
+        match change {
+            Change::New => self.at_clause(id, redundant, literals, propagations),
+            Change::Irredundant(id) => self.make_irredundant(id, literals),
+            Change::Neither => Ok(()),
+        }
+    }
+
+    /// One redundant count was taken from a clause that was stored so.
+    pub fn redundant_deleted(
+        &mut self,
+        literals: &[Lit],
+        stored: Option<Found>,
+    ) -> Result<(), AllocError>
+        ensures ok { OnOk result (self.new ≡ self.old ++ redundant_deleted (found_in literals.now stored)) }
+        ensures err { OnErr result (self.new ≡ self.old) }
+    {
+        let Some(clause) = stored else {
+            return Ok(());
+        };
+        if clause.irredundant == 0 && clause.redundant == 1 {
+            return self.delete_clause(clause.id, literals);
+        }
+        Ok(())
+    }
+
+    /// One irredundant count was taken from a clause that was stored so, and follows from the one with this id.
+    pub fn irredundant_deleted(
+        &mut self,
+        literals: &[Lit],
+        stored: Option<Found>,
+        from: Option<u64>,
+    ) -> Result<(), AllocError>
+        ensures ok { OnOk result (self.new ≡ self.old ++ irredundant_deleted (one from) (found_in literals.now stored)) }
+        ensures err { OnErr result (self.new ≡ self.old) }
+    {
+        let Some(clause) = stored else {
+            return Ok(());
+        };
+        if clause.irredundant != 1 {
+            return Ok(());
+        }
+        let kept = clause.redundant > 0;
+        match from {
+            Some(from) => self.delete_at_clause(clause.id, kept, literals, &[from]),
+            None => self.delete_at_clause(clause.id, kept, literals, &[]),
+        }
+    }
+
+    /// A clause with these literals was deleted.
+    pub fn deleted(&mut self, literals: &[Lit], deletion: Deletion) -> Result<(), AllocError>
+        ensures ok { OnOk result (self.new ≡ self.old ++ deletion_told literals.now deletion) }
+        ensures err { OnErr result (self.new ≡ self.old) }
+    {
+        if deletion.redundant {
+            return self.redundant_deleted(literals, deletion.stored);
+        }
+        self.irredundant_deleted(literals, deletion.stored, deletion.from)
+    }
+
+    /// A variable, which was like this, gets a name.
+    pub fn naming(&mut self, var: Var, name: Var, before: VarData) -> Result<(), AllocError>
+        ensures ok { OnOk result (self.new ≡ self.old ++ naming var name (variable_of before)) }
+        ensures err { OnErr result (self.new ≡ self.old) }
+    {
+        let user = CheckedUserVar {
+            user_var: name,
+            sampling_mode: checked_mode(before.mode),
+            new_var: !before.known,
+        };
+        self.user_var(var, Some(user))
+    }
+
+    /// A variable, which was like this, gets a name, or loses it.
+    pub fn renaming(
+        &mut self,
+        var: Var,
+        user: Option<Var>,
+        before: VarData,
+    ) -> Result<(), AllocError>
+        ensures ok { OnOk result (self.new ≡ self.old ++ renaming var user (variable_of before)) }
+        ensures err { OnErr result (self.new ≡ self.old) }
+    {
+        match user {
+            Some(name) => self.naming(var, name, before),
+            None => self.user_var(var, None),
+        }
+    }
+
+    /// A variable, which was like this, gets another mode.
+    pub fn mode_change(
+        &mut self,
+        var: Var,
+        sampling: bool,
+        before: VarData,
+    ) -> Result<(), AllocError>
+        ensures ok { OnOk result (self.new ≡ self.old ++ mode_change var sampling (mode_in before.mode) before.name) }
+        ensures err { OnErr result (self.new ≡ self.old) }
+    {
+        let Some(name) = before.name else {
+            return Ok(());
+        };
+        if has_mode(before.mode, sampling) {
+            return Ok(());
+        }
+        let user = CheckedUserVar {
+            user_var: name,
+            sampling_mode: mode_of(sampling),
+            new_var: false,
+        };
+        self.user_var(var, Some(user))
+    }
+}

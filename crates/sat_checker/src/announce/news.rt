@@ -1,0 +1,284 @@
+//! Announcements that wait until their step is accepted.
+ghost use Rattle.std.specs.Prelude.{◌≡◌, ◌<◌, ◌++◌, ◌∷◌, [], length, slice_index_or, take, OnOk, OnErr};
+ghost use Rattle.std.specs.Option.{option_map};
+ghost use Rattle.sat_checker.specs.announcements.Announcements as told;
+ghost use Rattle.sat_checker.specs.announcements.Announcements.{Announcement};
+ghost use Rattle.sat_checker.specs.telling.AnnouncementView.{announcement_of, user_of};
+ghost use Rattle.sat_checker.specs.telling.NewsView.{announcement_with};
+
+use crate::announce::announcement::{CheckedProofStep, CheckedUserVar};
+use sat_base::{FlatLists, Lit, Var};
+use std::alloc::{AllocError, Global};
+use std::marker::Model;
+
+/// What an announcement says beside its literals and the ids that something follows from.
+#[derive(Clone, Copy)]
+enum Kind {
+    UserVar(Var, Option<CheckedUserVar>),
+    DeleteVar(Var),
+    AddClause(u64),
+    DuplicatedClause(u64, u64),
+    TautologicalClause(u64),
+    AtClause(u64, bool),
+    MakeIrredundant(u64),
+    DeleteClause(u64),
+    DeleteAtClause(u64, bool),
+    Model,
+    Assumptions,
+    FailedAssumptions,
+}
+
+impl Kind {
+    /// The announcement with these literals and ids.
+    fn lend<'a>(self, literals: &'a [Lit], ids: &'a [u64]) -> CheckedProofStep<'a>
+        ensures { announcement_of result ≡ announcement_with self literals.now ids.now }
+    {
+        match self {
+            Kind::UserVar(var, user_var) => CheckedProofStep::UserVar { var, user_var },
+            Kind::DeleteVar(var) => CheckedProofStep::DeleteVar { var },
+            Kind::AddClause(id) => CheckedProofStep::AddClause {
+                id,
+                clause: literals,
+            },
+            Kind::DuplicatedClause(id, same_as_id) => CheckedProofStep::DuplicatedClause {
+                id,
+                same_as_id,
+                clause: literals,
+            },
+            Kind::TautologicalClause(id) => CheckedProofStep::TautologicalClause {
+                id,
+                clause: literals,
+            },
+            Kind::AtClause(id, redundant) => CheckedProofStep::AtClause {
+                id,
+                redundant,
+                clause: literals,
+                propagations: ids,
+            },
+            Kind::MakeIrredundant(id) => CheckedProofStep::MakeIrredundant {
+                id,
+                clause: literals,
+            },
+            Kind::DeleteClause(id) => CheckedProofStep::DeleteClause {
+                id,
+                clause: literals,
+            },
+            Kind::DeleteAtClause(id, keep_as_redundant) => CheckedProofStep::DeleteAtClause {
+                id,
+                keep_as_redundant,
+                clause: literals,
+                propagations: ids,
+            },
+            Kind::Model => CheckedProofStep::Model {
+                assignment: literals,
+            },
+            Kind::Assumptions => CheckedProofStep::Assumptions {
+                assumptions: literals,
+            },
+            Kind::FailedAssumptions => CheckedProofStep::FailedAssumptions {
+                failed_core: literals,
+                propagations: ids,
+            },
+        }
+    }
+}
+
+/// An announcement, and the places of the lists of its literals and of its ids.
+#[derive(Clone, Copy)]
+struct Item {
+    kind: Kind,
+    literals: usize,
+    ids: usize,
+}
+
+/// Announcements in order, with copies of their literals and ids. Contracts see the list of them.
+#[derive(Drop)]
+pub(crate) struct News {
+    items: Vec<Item>,
+    literals: FlatLists<Lit>,
+    ids: FlatLists<u64>,
+}
+
+impl Model for News {
+    ghost use Rattle.std.specs.Prelude.{List, map};
+    ghost use Rattle.std.specs.List.{All};
+    ghost use Rattle.sat_checker.specs.announcements.Announcements.{Announcement};
+    ghost use Rattle.sat_checker.specs.telling.NewsView.{announcement_at, IsItem};
+
+    ghost Value = { List Announcement };
+
+    ghost view = { λ s. map (announcement_at s.literals s.ids) s.items.items };
+
+    ghost invariant = { λ s. All (IsItem s.literals s.ids) s.items.items };
+}
+
+impl News {
+    /// None yet. Takes no memory.
+    pub fn new(alloc: Global) -> News
+        ensures { result ≡ [] }
+    {
+        News {
+            items: Vec::new(alloc),
+            literals: FlatLists::new(alloc),
+            ids: FlatLists::new(alloc),
+        }
+    }
+
+    /// Forgets all, and keeps the room.
+    pub fn clear(&mut self)
+        ensures { self.new ≡ [] }
+    {
+        self.items.clear();
+        self.literals.clear();
+        self.ids.clear();
+    }
+
+    pub fn len(&self) -> usize
+        ensures { result ≡ length self.now }
+    {
+        self.items.len()
+    }
+
+    /// Forgets all but the first ones.
+    pub fn truncate(&mut self, len: usize)
+        ensures { self.new ≡ take len self.old }
+    {
+        self.items.truncate(len);
+    }
+
+    /// The announcement at this place.
+    pub fn get(&self, index: usize) -> CheckedProofStep<'_>
+        requires { index < length self.now }
+        ensures { (d : Announcement) → announcement_of result ≡ slice_index_or self.now index d }
+    {
+        let item = self.items[index];
+        item.kind
+            .lend(self.literals.get(item.literals), self.ids.get(item.ids))
+    }
+
+    #[inline(never)]
+    fn push(&mut self, kind: Kind, literals: &[Lit], ids: &[u64]) -> Result<(), AllocError>
+        ensures ok { OnOk result (self.new ≡ self.old ++ announcement_with kind literals.now ids.now ∷ []) }
+        ensures err { OnErr result (self.new ≡ self.old) }
+    {
+        let item = Item {
+            kind,
+            literals: self.literals.len(),
+            ids: self.ids.len(),
+        };
+        self.literals.push(literals)?;
+        self.ids.push(ids)?;
+        self.items.push(item)?;
+        Ok(())
+    }
+
+    pub fn user_var(&mut self, var: Var, user: Option<CheckedUserVar>) -> Result<(), AllocError>
+        ensures ok { OnOk result (self.new ≡ self.old ++ told.UserVar var (option_map user_of user) ∷ []) }
+        ensures err { OnErr result (self.new ≡ self.old) }
+    {
+        self.push(Kind::UserVar(var, user), &[], &[])
+    }
+
+    pub fn delete_var(&mut self, var: Var) -> Result<(), AllocError>
+        ensures ok { OnOk result (self.new ≡ self.old ++ told.DeleteVar var ∷ []) }
+        ensures err { OnErr result (self.new ≡ self.old) }
+    {
+        self.push(Kind::DeleteVar(var), &[], &[])
+    }
+
+    pub fn add_clause(&mut self, id: u64, clause: &[Lit]) -> Result<(), AllocError>
+        ensures ok { OnOk result (self.new ≡ self.old ++ told.AddClause id clause.now ∷ []) }
+        ensures err { OnErr result (self.new ≡ self.old) }
+    {
+        self.push(Kind::AddClause(id), clause, &[])
+    }
+
+    pub fn duplicated_clause(
+        &mut self,
+        id: u64,
+        same_as: u64,
+        clause: &[Lit],
+    ) -> Result<(), AllocError>
+        ensures ok { OnOk result (self.new ≡ self.old ++ told.DuplicatedClause id same_as clause.now ∷ []) }
+        ensures err { OnErr result (self.new ≡ self.old) }
+    {
+        self.push(Kind::DuplicatedClause(id, same_as), clause, &[])
+    }
+
+    pub fn tautological_clause(&mut self, id: u64, clause: &[Lit]) -> Result<(), AllocError>
+        ensures ok { OnOk result (self.new ≡ self.old ++ told.TautologicalClause id clause.now ∷ []) }
+        ensures err { OnErr result (self.new ≡ self.old) }
+    {
+        self.push(Kind::TautologicalClause(id), clause, &[])
+    }
+
+    pub fn at_clause(
+        &mut self,
+        id: u64,
+        redundant: bool,
+        clause: &[Lit],
+        propagations: &[u64],
+    ) -> Result<(), AllocError>
+        ensures ok { OnOk result (self.new ≡ self.old ++ told.AtClause id redundant clause.now propagations.now ∷ []) }
+        ensures err { OnErr result (self.new ≡ self.old) }
+    {
+        self.push(Kind::AtClause(id, redundant), clause, propagations)
+    }
+
+    pub fn make_irredundant(&mut self, id: u64, clause: &[Lit]) -> Result<(), AllocError>
+        ensures ok { OnOk result (self.new ≡ self.old ++ told.MakeIrredundant id clause.now ∷ []) }
+        ensures err { OnErr result (self.new ≡ self.old) }
+    {
+        self.push(Kind::MakeIrredundant(id), clause, &[])
+    }
+
+    pub fn delete_clause(&mut self, id: u64, clause: &[Lit]) -> Result<(), AllocError>
+        ensures ok { OnOk result (self.new ≡ self.old ++ told.DeleteClause id clause.now ∷ []) }
+        ensures err { OnErr result (self.new ≡ self.old) }
+    {
+        self.push(Kind::DeleteClause(id), clause, &[])
+    }
+
+    pub fn delete_at_clause(
+        &mut self,
+        id: u64,
+        keep_as_redundant: bool,
+        clause: &[Lit],
+        propagations: &[u64],
+    ) -> Result<(), AllocError>
+        ensures ok { OnOk result
+            (self.new ≡ self.old ++ told.DeleteAtClause id keep_as_redundant clause.now propagations.now ∷ []) }
+        ensures err { OnErr result (self.new ≡ self.old) }
+    {
+        self.push(
+            Kind::DeleteAtClause(id, keep_as_redundant),
+            clause,
+            propagations,
+        )
+    }
+
+    pub fn model(&mut self, assignment: &[Lit]) -> Result<(), AllocError>
+        ensures ok { OnOk result (self.new ≡ self.old ++ told.Model assignment.now ∷ []) }
+        ensures err { OnErr result (self.new ≡ self.old) }
+    {
+        self.push(Kind::Model, assignment, &[])
+    }
+
+    pub fn assumptions(&mut self, assumptions: &[Lit]) -> Result<(), AllocError>
+        ensures ok { OnOk result (self.new ≡ self.old ++ told.Assumptions assumptions.now ∷ []) }
+        ensures err { OnErr result (self.new ≡ self.old) }
+    {
+        self.push(Kind::Assumptions, assumptions, &[])
+    }
+
+    pub fn failed_assumptions(
+        &mut self,
+        core: &[Lit],
+        propagations: &[u64],
+    ) -> Result<(), AllocError>
+        ensures ok { OnOk result (self.new ≡ self.old ++ told.FailedAssumptions core.now propagations.now ∷ []) }
+        ensures err { OnErr result (self.new ≡ self.old) }
+    {
+        self.push(Kind::FailedAssumptions, core, propagations)
+    }
+}

@@ -1,0 +1,162 @@
+//! Transcripts: what was announced, in the user's names.
+ghost use Rattle.std.specs.Prelude.{◌≡◌, IfOk, OnOk, Result, if◌then◌else◌, []};
+ghost use Rattle.std.specs.Option.{option_map};
+ghost use Rattle.anyhow.specs.declared.error.Error.{Error};
+ghost use Rattle.sat_checker.specs.announcements.Transcripts.{Transcribed, SampleVar, WitnessVar, deriving_of, in_user_names, transcript};
+ghost use Rattle.sat_checker.specs.announcements.Announcements.{UserVar};
+ghost use Rattle.sat_checker.specs.telling.AnnouncementView.{announcement_of, user_of, variables_of};
+ghost use Rattle.sat_checker.specs.telling.TranscriptView.{transcribed_of};
+
+use crate::announce::announcement::{
+    CheckedProofStep, CheckedSamplingMode, CheckedUserVar, CheckerData,
+};
+use sat_base::{Lit, Var};
+use std::alloc::{AllocError, Global};
+
+/// A step of a transcript. Its lists are lent.
+#[derive(Clone, Copy)]
+pub enum ProofTranscriptStep<'a> {
+    /// The variable is a witness from here on.
+    WitnessVar { var: Var },
+    /// The variable is sampled from here on.
+    SampleVar { var: Var },
+    /// The variable is hidden from here on.
+    HideVar { var: Var },
+    /// A variable that the solver made gets this name.
+    ObserveInternalVar { var: Var },
+    /// A clause of the formula.
+    AddClause { clause: &'a [Lit] },
+    /// The formula has no model.
+    Unsat,
+    Model { assignment: &'a [Lit] },
+    Assume { assumptions: &'a [Lit] },
+    FailedAssumptions { failed_core: &'a [Lit] },
+}
+
+/// What is told the steps of a transcript.
+pub trait ProofTranscriptProcessor: Drop {
+    /// From the value before, this step was answered so, to the value after.
+    ghost reads: { Self → Transcribed → Result (Unit {0}) Error → Self → Type 0 };
+
+    fn process_step(&mut self, step: &ProofTranscriptStep<'_>) -> anyhow::Result<()>
+        ensures { reads self.old (transcribed_of step.now) result self.new };
+}
+
+/// Makes a transcript of announcements.
+#[derive(Drop)]
+pub struct Transcript {
+    /// Room for literals in the user's names.
+    lits: Vec<Lit>,
+}
+
+impl Transcript {
+    /// Nothing is allocated.
+    pub fn new(alloc: Global) -> Transcript
+        ensures { result.lits.items ≡ [] }
+    {
+        Transcript {
+            lits: Vec::new(alloc),
+        }
+    }
+
+    /// What a transcript says of the announcement, if anything.
+    pub fn transcript_step(
+        &mut self,
+        step: &CheckedProofStep<'_>,
+        names: CheckerData<'_>,
+    ) -> Result<Option<ProofTranscriptStep<'_>>, AllocError>
+        ensures { IfOk result (λ said.
+            option_map transcribed_of said ≡ transcript (variables_of names.entry) (announcement_of step.now)) }
+    {
+        match *step {
+            CheckedProofStep::UserVar { var, user_var } => Ok(name_change(names, var, user_var)),
+            CheckedProofStep::AddClause { clause, .. }
+            | CheckedProofStep::DuplicatedClause { clause, .. }
+            | CheckedProofStep::TautologicalClause { clause, .. } => {
+                self.rename(clause, names)?;
+                Ok(Some(ProofTranscriptStep::AddClause { clause: &self.lits }))
+            }
+            CheckedProofStep::AtClause { clause, .. } => Ok(derivation(clause)),
+            CheckedProofStep::Model { assignment } => {
+                self.rename(assignment, names)?;
+                Ok(Some(ProofTranscriptStep::Model {
+                    assignment: &self.lits,
+                }))
+            }
+            CheckedProofStep::Assumptions { assumptions } => {
+                self.rename(assumptions, names)?;
+                Ok(Some(ProofTranscriptStep::Assume {
+                    assumptions: &self.lits,
+                }))
+            }
+            CheckedProofStep::FailedAssumptions { failed_core, .. } => {
+                self.rename(failed_core, names)?;
+                Ok(Some(ProofTranscriptStep::FailedAssumptions {
+                    failed_core: &self.lits,
+                }))
+            }
+            CheckedProofStep::DeleteVar { .. }
+            | CheckedProofStep::MakeIrredundant { .. }
+            | CheckedProofStep::DeleteClause { .. }
+            | CheckedProofStep::DeleteAtClause { .. }
+            | CheckedProofStep::DeleteRatClause { .. } => Ok(None),
+        }
+    }
+
+    /// Puts the literals into the buffer in the user's names, and drops those of variables that have none.
+    fn rename(&mut self, literals: &[Lit], names: CheckerData<'_>) -> Result<(), AllocError>
+        ensures { OnOk result (self.new.lits.items ≡ in_user_names (variables_of names.entry) literals.now) }
+    {
+        self.lits.clear();
+        for lit in literals {
+            if let Some(name) = names.user_from_proof_var(lit.var()) {
+                self.lits.push(name.lit(lit.is_positive()))?;
+            }
+        }
+        Ok(())
+    }
+}
+
+/// What is said where a name or a mode changes.
+fn name_change<'s>(
+    names: CheckerData<'_>,
+    var: Var,
+    user_var: Option<CheckedUserVar>,
+) -> Option<ProofTranscriptStep<'s>>
+    ensures { option_map transcribed_of result ≡ transcript (variables_of names.entry) (UserVar var (option_map user_of user_var)) }
+{
+    let explicit = names.explicit_name(var);
+    let Some(user) = user_var else {
+        let name = explicit?;
+        return Some(ProofTranscriptStep::HideVar { var: name });
+    };
+    if explicit.is_some() {
+        return Some(mode_change(user));
+    }
+    if user.new_var {
+        return None;
+    }
+    Some(ProofTranscriptStep::ObserveInternalVar { var: user.user_var })
+}
+
+/// What is said where a mode changes.
+fn mode_change<'s>(user: CheckedUserVar) -> ProofTranscriptStep<'s>
+    ensures { transcribed_of result
+        ≡ (if (user_of user).sampling then SampleVar user.user_var else WitnessVar user.user_var) }
+{
+    let var = user.user_var;
+    match user.sampling_mode {
+        CheckedSamplingMode::Sample => ProofTranscriptStep::SampleVar { var },
+        CheckedSamplingMode::Witness => ProofTranscriptStep::WitnessVar { var },
+    }
+}
+
+/// What is said where a clause is derived.
+fn derivation<'s>(clause: &[Lit]) -> Option<ProofTranscriptStep<'s>>
+    ensures { option_map transcribed_of result ≡ deriving_of clause.now }
+{
+    if clause.is_empty() {
+        return Some(ProofTranscriptStep::Unsat);
+    }
+    None
+}

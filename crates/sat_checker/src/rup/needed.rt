@@ -1,0 +1,184 @@
+//! What a conflict rests on, followed backwards over the notes of a walk.
+ghost use Rattle.std.specs.Prelude.{ℕ, ◌≡◌, ◌+◌, ◌<◌, ◌≤◌, ◌==◌, ◌||◌, [], map, length, OnOk, Some};
+ghost use Rattle.sat_base.specs.values.Literals.{negated};
+ghost use Rattle.sat_checker.specs.LiteralSets.{is_among};
+ghost use Rattle.sat_checker.specs.announcements.Needed.{Ground, others_denied, with_reason, needed_units, conflict_ids};
+ghost use Rattle.sat_checker.specs.inner.Marks.{IsIncreasing};
+ghost use Rattle.sat_checker.specs.inner.NeededView.{IsFollowed};
+ghost use Rattle.sat_checker.specs.inner.Reasons.{clause_at, conflict_at, noted_length, AreThere, IsThere, Explains};
+ghost use Rattle.sat_checker.specs.inner.SlotView.{literals_at};
+
+use crate::looks::Looks;
+use crate::rup::passed::{Passed, Reason};
+use crate::store::clauses::Clauses;
+use crate::units::Units;
+use crate::units::assigned::Assigned;
+use sat_base::Lit;
+use std::alloc::{AllocError, Global};
+
+/// Marked literals, and the ids of the clauses needed, the last one first.
+#[derive(Drop)]
+pub(crate) struct Needed {
+    marked: Assigned,
+    ids: Vec<u64>,
+}
+
+#[tactic(auto, using(crate::proofs::lemmas::announcements::Marking::marking))]
+fn mark(marked: &mut Assigned, lit: Lit) -> Result<(), AllocError>
+    ensures marked { OnOk result ((m : ℕ) → is_among marked.new m ≡ (lit == m || is_among marked.old m)) }
+{
+    if marked.is_true(lit) {
+        return Ok(());
+    }
+    marked.assume(lit)
+}
+
+/// Marks the negations of a clause's literals.
+#[tactic(auto, using(crate::proofs::lemmas::announcements::Marking::marking))]
+pub(crate) fn mark_all(marked: &mut Assigned, clause: &[Lit]) -> Result<(), AllocError>
+    ensures marked { OnOk result ((m : ℕ) → is_among marked.new m ≡ (is_among (map negated clause.now) m || is_among marked.old m)) }
+{
+    for lit in clause {
+        mark(marked, !*lit)?;
+    }
+    Ok(())
+}
+
+/// Marks the negations of a clause's literals other than this one.
+#[tactic(auto, using(crate::proofs::lemmas::announcements::Marking::marking))]
+fn mark_others(marked: &mut Assigned, clause: &[Lit], made: Lit) -> Result<(), AllocError>
+    ensures marked { OnOk result
+        ((m : ℕ) → is_among marked.new m ≡ (is_among (others_denied made clause.now) m || is_among marked.old m)) }
+{
+    for lit in clause {
+        if *lit == made {
+            continue;
+        }
+        mark(marked, !*lit)?;
+    }
+    Ok(())
+}
+
+/// Lists the ids of those marked literals that are units and aren't denied, in their order.
+#[tactic(auto, using(crate::proofs::lemmas::announcements::Listing::listing))]
+fn list_units(
+    marked: &Assigned,
+    denied: &Assigned,
+    units: &Units,
+    ids: &mut Vec<u64>,
+) -> Result<(), AllocError>
+    requires { ids.old.items ≡ [] }
+    ensures { OnOk result ((g : Ground) → ((m : ℕ) → is_among marked.now m ≡ is_among g.literals m)
+        → IsIncreasing (map (λ u. u.id) units.now) → ids.new.items ≡ map (λ u. u.id) (needed_units denied.now g units.now)) }
+{
+    units.stand_once();
+    for lit in marked.literals() {
+        if denied.is_true(*lit) {
+            continue;
+        }
+        if let Some(id) = units.id(*lit) {
+            ids.push(id)?;
+        }
+    }
+    ids.sort_unstable();
+    Ok(())
+}
+
+impl Needed {
+    pub fn new(alloc: Global) -> Needed
+        ensures marked { result.marked ≡ [] }
+        ensures none { result.ids.items ≡ [] }
+    {
+        Needed {
+            marked: Assigned::new(alloc),
+            ids: Vec::new(alloc),
+        }
+    }
+
+    /// Begins at the falsified clause.
+    #[tactic(auto, using(crate::proofs::lemmas::announcements::Marking::following))]
+    pub fn begin(
+        &mut self,
+        clauses: &Clauses,
+        place: usize,
+        looks: &mut Looks,
+    ) -> Result<(), AllocError>
+        requires { place < length clauses.now }
+        ensures followed { OnOk result (IsFollowed self.new (conflict_at clauses.now (Some place))) }
+        ensures looks { looks.new ≡ looks.old + length (literals_at clauses.now place) }
+    {
+        self.ids.clear();
+        self.marked.allow(clauses.near_count());
+        self.marked.undo_to(0);
+        mark_all(&mut self.marked, clauses.literals(place, looks))?;
+        self.ids.push(clauses.id(place))?;
+        Ok(())
+    }
+
+    /// Follows a reason: it is needed where its literal is.
+    #[tactic(auto, using(crate::proofs::lemmas::announcements::Marking::following))]
+    pub fn follow(
+        &mut self,
+        clauses: &Clauses,
+        reason: Reason,
+        looks: &mut Looks,
+    ) -> Result<(), AllocError>
+        requires { reason.place < length clauses.now }
+        ensures followed { OnOk result ((g : Ground) → IsFollowed self.old g
+            → IsFollowed self.new (with_reason reason.lit (clause_at clauses.now reason.place) g)) }
+        ensures looks { looks.new ≤ looks.old + length (literals_at clauses.now reason.place) }
+        ensures rise { looks.old ≤ looks.new }
+    {
+        if !self.marked.is_true(reason.lit) {
+            return Ok(());
+        }
+        mark_others(
+            &mut self.marked,
+            clauses.literals(reason.place, looks),
+            reason.lit,
+        )?;
+        self.ids.push(clauses.id(reason.place))?;
+        Ok(())
+    }
+
+    /// Follows the notes of a walk from its conflict back to its start.
+    pub fn follow_all(
+        &mut self,
+        clauses: &Clauses,
+        passed: &Passed,
+        looks: &mut Looks,
+    ) -> Result<(), AllocError>
+        requires there { AreThere clauses.now passed.now }
+        requires met { IsThere clauses.now passed.now.conflict }
+        ensures followed { OnOk result ((whole : Ground) → Explains clauses.now passed.now whole → IsFollowed self.new whole) }
+        ensures looks { looks.new ≤ looks.old + noted_length clauses.now passed.now }
+        ensures rise { looks.old ≤ looks.new }
+    {
+        let Some(place) = passed.conflict else {
+            return Ok(());
+        };
+        self.begin(clauses, place, looks)?;
+        let count = passed.reasons.len();
+        for done in 0..count {
+            let reason = passed.reasons[count - 1 - done];
+            self.follow(clauses, reason, looks)?;
+        }
+        Ok(())
+    }
+
+    /// Lists the ids of the units needed, by increasing id, and then those of the clauses, the falsified one last.
+    pub fn list(
+        &mut self,
+        denied: &Assigned,
+        units: &Units,
+        ids: &mut Vec<u64>,
+    ) -> Result<(), AllocError>
+        requires { ids.old.items ≡ [] }
+        ensures { OnOk result ((g : Ground) → IsFollowed self.old g
+            → IsIncreasing (map (λ u. u.id) units.now) → ids.new.items ≡ conflict_ids denied.now g units.now) }
+    {
+        list_units(&self.marked, denied, units, ids)?;
+        self.ids.reverse();
+        ids.extend_from_slice(&self.ids)
+    }
+}

@@ -1,0 +1,102 @@
+//! The ids that a clause rests on which passed the propagation check. They are listed where somebody listens.
+ghost use Rattle.std.specs.Prelude.{ℕ, List, ◌≡◌, ◌+◌, ◌≤◌, ◌++◌, [], map, OnOk};
+ghost use Rattle.sat_base.specs.values.Literals.{negated};
+ghost use Rattle.sat_checker.specs.LiteralSets.{canonical};
+ghost use Rattle.sat_checker.specs.Stored.{Stored};
+ghost use Rattle.sat_checker.specs.announcements.Needed.{Ground, ground, conflict_ids, propagations};
+ghost use Rattle.sat_checker.specs.inner.Marks.{IsIncreasing};
+ghost use Rattle.sat_checker.specs.inner.Reasons.{named, noted_length, AreThere, IsThere, Explains, ExplainsUnless};
+ghost use Rattle.sat_checker.specs.inner.StoreView.{KeepsClauses};
+
+use crate::looks::Looks;
+use crate::rup::needed::{Needed, mark_all};
+use crate::rup::passed::Passed;
+use crate::sorted_lits::has_both_signs;
+use crate::store::Store;
+use crate::units::Units;
+use crate::units::assigned::Assigned;
+use sat_base::Lit;
+use std::alloc::{AllocError, Global};
+
+/// The propagations of a clause that passed the check, and room for the next ones.
+#[derive(Drop)]
+pub(crate) struct Propagations {
+    ids: Vec<u64>,
+    needed: Needed,
+    denied: Assigned,
+}
+
+impl Propagations {
+    pub fn new(alloc: Global) -> Propagations
+        ensures { result.ids.items ≡ [] }
+    {
+        Propagations {
+            ids: Vec::new(alloc),
+            needed: Needed::new(alloc),
+            denied: Assigned::new(alloc),
+        }
+    }
+
+    pub fn ids(&self) -> &[u64]
+        ensures { result.now ≡ self.now.ids.items }
+    {
+        &self.ids
+    }
+
+    /// Lists the propagations of a clause that passed the check, by what the check noted. These are its sorted literals.
+    #[inline(never)]
+    pub fn list(
+        &mut self,
+        store: &Store,
+        units: &Units,
+        passed: &Passed,
+        clause: &[Lit],
+        literals: &[Lit],
+        looks: &mut Looks,
+    ) -> Result<(), AllocError>
+        requires canonical { literals.now ≡ canonical clause.now }
+        requires explained { (whole : Ground)
+            × ExplainsUnless store.now.clauses passed.now (map (λ u. u.literal) units.now) clause.now whole }
+        ensures listed { OnOk result ((f : Stored) (hashes : List ℕ) → KeepsClauses store.now f → units.now ≡ f.units
+            → ExplainsUnless store.now.clauses passed.now (map (λ u. u.literal) units.now) clause.now
+            (ground (map negated clause.now ++ map (λ u. u.literal) units.now) (named hashes store.now.clauses))
+            → IsIncreasing (map (λ u. u.id) f.units) → self.new.ids.items ≡ propagations f clause.now hashes) }
+        ensures looks { looks.new ≤ looks.old + noted_length store.now.clauses passed.now }
+        ensures rise { looks.old ≤ looks.new }
+    {
+        self.ids.clear();
+        if has_both_signs(literals) {
+            return Ok(());
+        }
+        if let Some(id) = units.true_id(literals) {
+            self.ids.push(id)?;
+            return Ok(());
+        }
+        self.list_conflict(store, units, passed, clause, looks)
+    }
+
+    /// Lists what the conflict rests on that was noted under the negated clause.
+    fn list_conflict(
+        &mut self,
+        store: &Store,
+        units: &Units,
+        passed: &Passed,
+        clause: &[Lit],
+        looks: &mut Looks,
+    ) -> Result<(), AllocError>
+        requires empty { self.old.ids.items ≡ [] }
+        requires there { AreThere store.now.clauses passed.now }
+        requires met { IsThere store.now.clauses passed.now.conflict }
+        ensures listed { OnOk result ((whole : Ground) → Explains store.now.clauses passed.now whole
+            → IsIncreasing (map (λ u. u.id) units.now)
+            → self.new.ids.items ≡ conflict_ids (map negated clause.now) whole units.now) }
+        ensures looks { looks.new ≤ looks.old + noted_length store.now.clauses passed.now }
+        ensures rise { looks.old ≤ looks.new }
+    {
+        self.needed.follow_all(&store.clauses, passed, looks)?;
+        self.denied.allow(store.clauses.near_count());
+        self.denied.undo_to(0);
+        mark_all(&mut self.denied, clause)?;
+        self.needed.list(&self.denied, units, &mut self.ids)
+    }
+}

@@ -1,0 +1,74 @@
+//! Sets of literals.
+ghost use Rattle.std.specs.Prelude.{◌≡◌, [], OnOk};
+ghost use Rattle.sat_checker.specs.LiteralSets.{canonical, is_among, is_part, mentions};
+
+use crate::sorted_lits::copy_canonical;
+use crate::units::valuation::mentions;
+use sat_base::{Lit, Var};
+use std::alloc::{AllocError, Global};
+use std::marker::Model;
+
+/// A set of literals. Contracts see the sorted list of them.
+#[derive(Drop)]
+pub(crate) struct LitSet {
+    lits: Vec<Lit>,
+}
+
+impl Model for LitSet {
+    ghost use Rattle.std.specs.Prelude.{List, ℕ};
+    ghost use Rattle.sat_checker.specs.inner.Marks.{IsIncreasing};
+
+    ghost Value = { List ℕ };
+
+    ghost view = { λ s. s.lits.items };
+
+    ghost invariant = { λ s. IsIncreasing s.lits.items };
+}
+
+impl LitSet {
+    pub fn new(alloc: Global) -> LitSet
+        ensures { result ≡ [] }
+    {
+        LitSet {
+            lits: Vec::new(alloc),
+        }
+    }
+
+    /// Holds these literals in place of those of before. After an error it is empty.
+    #[tactic(auto, using(crate::proofs::lemmas::sets::Canonical::canonical_increasing))]
+    pub fn replace(&mut self, literals: &[Lit]) -> Result<(), AllocError>
+        ensures { OnOk result (self.new ≡ canonical literals.now) }
+    {
+        match copy_canonical(&mut self.lits, literals) {
+            Ok(_signs) => Ok(()),
+            Err(error) => {
+                self.lits.clear();
+                Err(error)
+            }
+        }
+    }
+
+    fn has(&self, lit: Lit) -> bool
+        ensures { result ≡ is_among self.now lit }
+    {
+        self.lits.binary_search(&lit).is_ok()
+    }
+
+    /// Whether it has all of these literals.
+    pub fn has_all(&self, part: &[Lit]) -> bool
+        ensures { result ≡ is_part part.now self.now }
+    {
+        for lit in part {
+            if !self.has(*lit) {
+                return false;
+            }
+        }
+        true
+    }
+
+    pub fn mentions(&self, var: Var) -> bool
+        ensures { result ≡ mentions self.now var }
+    {
+        mentions(&self.lits, var)
+    }
+}

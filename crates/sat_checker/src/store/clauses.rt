@@ -1,0 +1,390 @@
+//! The stored clauses of two literals or more.
+ghost use Rattle.std.specs.Prelude.{◌≡◌, ◌+◌, ◌*◌, ◌<◌, ◌≤◌, ◌^◌, [], ◌∷◌, ◌++◌, length, true, false, None, OnOk, OnErr, IfSome};
+ghost use Rattle.std.specs.List.{AllByRecursion, list_any};
+ghost use Rattle.sat_checker.specs.inner.ModelTests.{are_all_true, irredundant_length};
+ghost use Rattle.sat_checker.specs.Looks.{total_length};
+ghost use Rattle.sat_checker.specs.inner.Marks.{IsIncreasing};
+ghost use Rattle.sat_checker.specs.inner.SlotView.{slot_at, literals_at, all_lits, stored_slot, with_count_at, without_count_at, count_of, is_gone, gone_count, standing, MayDrop, IsStanding, slot_ids, places_of, bucket_in, is_same_at, found_among, hashed_anew, live, live_length};
+ghost use Rattle.sat_checker.specs.Storing.{clause_numbered};
+ghost use Rattle.sat_checker.specs.LiteralSets.{mentions, is_among};
+ghost use Rattle.sat_checker.specs.inner.PairView.{first_of, behind};
+ghost use Rattle.sat_checker.specs.inner.IndexView.{Files, pairs_of};
+ghost use Rattle.sat_checker.specs.inner.OccurrenceView.{AreKept};
+
+use crate::hash::{ClauseHasher, mixed};
+use crate::looks::Looks;
+use crate::store::filed_hash::FiledHash;
+use crate::store::links::Pair;
+use crate::store::occurrences::Occurrences;
+use crate::store::slots::{Slots, in_buffer};
+use crate::store::sorted_pairs::{SortedPairs, sorted};
+use crate::units::assigned::Assigned;
+use crate::units::valuation::makes_true;
+use sat_base::{ClauseHash, HashBits, Lit, Var};
+use std::alloc::{AllocError, Global};
+use std::marker::Model;
+
+/// Clauses at their places. Unless it is gone each is found by its hash, and its literals are counted.
+#[derive(Drop)]
+pub struct Clauses {
+    alloc: Global,
+    slots: Slots,
+    index: SortedPairs,
+    occurrences: Occurrences,
+    /// How many are gone.
+    gone: usize,
+    /// How many literals of those lie in the buffer. Nothing but the time of a compaction hangs on it.
+    unused: usize,
+}
+
+impl Model for Clauses {
+    ghost use Rattle.std.specs.Prelude.{List, ◌≡◌};
+    ghost use Rattle.sat_checker.specs.inner.SlotView.{Slot, gone_count};
+    ghost use Rattle.sat_checker.specs.inner.OccurrenceView.{AreKept};
+
+    ghost Value = { List Slot };
+
+    ghost view = { λ s. s.slots };
+
+    ghost invariant = { λ s. AreKept s.slots s.index s.occurrences × (s.gone ≡ gone_count s.slots) };
+}
+
+impl Clauses {
+    pub fn new(alloc: Global) -> Clauses
+        ensures { result ≡ [] }
+    {
+        Clauses {
+            alloc,
+            slots: Slots::new(alloc),
+            index: SortedPairs::new(alloc),
+            occurrences: Occurrences::new(alloc),
+            gone: 0,
+            unused: 0,
+        }
+    }
+
+    /// The sorted list of the mixed hashes and places of those that aren't gone.
+    pub fn index(&self) -> &SortedPairs
+        ensures { Files result.now self.now }
+    {
+        &self.index
+    }
+
+    pub fn len(&self) -> usize
+        ensures count { result ≡ length self.now }
+        ensures increasing { AllByRecursion IsIncreasing (all_lits self.now) }
+    {
+        self.slots.len()
+    }
+
+    /// Lends the literals at a place, which counts as a look at each.
+    #[inline(always)]
+    pub fn literals(&self, place: usize, looks: &mut Looks) -> &[Lit]
+        requires { place < length self.now }
+        ensures lent { result.now ≡ literals_at self.now place }
+        ensures looks { looks.new ≡ looks.old + length (literals_at self.now place) }
+    {
+        self.slots.literals(place, looks)
+    }
+
+    pub fn id(&self, place: usize) -> u64
+        requires { place < length self.now }
+        ensures { result ≡ (slot_at self.now place).clause.id }
+    {
+        self.slots.id(place)
+    }
+
+    /// How often the clause stands as redundant, or as irredundant.
+    pub fn count(&self, place: usize, redundant: bool) -> u64
+        requires { place < length self.now }
+        ensures { result ≡ count_of redundant (slot_at self.now place) }
+    {
+        self.slots.count(place, redundant)
+    }
+
+    /// The first place of a hash, in order of ids.
+    #[inline(always)]
+    pub fn first(&self, hash: ClauseHash) -> Option<usize>
+        ensures { result ≡ first_of (places_of hash self.now) }
+    {
+        self.index.first(mixed(hash))
+    }
+
+    /// The next place of a hash, behind one of them.
+    #[inline(always)]
+    pub fn next(&self, hash: ClauseHash, place: usize) -> Option<usize>
+        requires { is_among (places_of hash self.now) place ≡ true }
+        ensures { result ≡ first_of (behind place (places_of hash self.now)) }
+    {
+        self.index.next(mixed(hash), place)
+    }
+
+    fn is_same(&self, place: usize, literals: &[Lit], looks: &mut Looks) -> bool
+        requires { place < length self.now }
+        ensures same { result ≡ is_same_at self.now literals.now place }
+        ensures looks { looks.new ≡ looks.old + length (literals_at self.now place) }
+    {
+        self.literals(place, looks) == literals
+    }
+
+    /// The first place of the hash that has these literals.
+    #[tactic(auto, using(crate::proofs::lemmas::store::Finding::finding))]
+    pub fn find(&self, hash: ClauseHash, literals: &[Lit], looks: &mut Looks) -> Option<usize>
+        ensures found { result ≡ found_among self.now literals.now (places_of hash self.now) }
+        ensures looks { looks.new ≤ looks.old + total_length (bucket_in hash self.now) }
+        ensures rise { looks.old ≤ looks.new }
+    {
+        let mut next = self.first(hash);
+        while let Some(place) = next {
+            if self.is_same(place, literals, looks) {
+                return Some(place);
+            }
+            next = self.next(hash, place);
+        }
+        None
+    }
+
+    /// The place of the clause with this id, unless it is gone. Ids rise by place.
+    pub fn place_of(&self, id: u64) -> Option<usize>
+        ensures found { IfSome result (IsStanding self.now id) }
+        ensures absent { result ≡ None → IsIncreasing (slot_ids self.now) → clause_numbered id (live self.now) ≡ None }
+    {
+        let place = self.slots.place_of(id)?;
+        if self.slots.is_gone(place) {
+            return None;
+        }
+        Some(place)
+    }
+
+    /// How many places a table of marks of these clauses' literals may have in one list.
+    pub fn near_count(&self) -> usize {
+        self.occurrences.near_count()
+    }
+
+    /// Whether a clause that isn't gone has a literal of the variable. No clause is looked at.
+    pub fn mention(&self, var: Var) -> bool
+        ensures { result ≡ list_any (λ c. mentions c.literals var) (live self.now) }
+    {
+        self.occurrences.has(var)
+    }
+
+    /// Whether each clause that stands as irredundant has an assumed literal.
+    pub fn are_satisfied(&self, assigned: &Assigned, looks: &mut Looks) -> bool
+        ensures found { result ≡ are_all_true assigned.now (live self.now) }
+        ensures looks { looks.new ≤ looks.old + live_length self.now }
+        // All irredundant ones were looked at where they are.
+        ensures all { result ≡ true → looks.new ≡ looks.old + irredundant_length (live self.now) }
+        ensures rise { looks.old ≤ looks.new }
+    {
+        for place in 0..self.slots.len() {
+            if self.slots.count(place, false) == 0 {
+                continue;
+            }
+            if !makes_true(assigned, self.slots.literals(place, looks)) {
+                return false;
+            }
+        }
+        true
+    }
+
+    /// Puts a clause with one count behind the others. Where memory is wanted none is left.
+    pub fn push(
+        &mut self,
+        id: u64,
+        redundant: bool,
+        hash: ClauseHash,
+        literals: &[Lit],
+    ) -> Result<(), AllocError>
+        requires { IsIncreasing literals.now }
+        ensures { OnOk result (self.new ≡ self.old ++ stored_slot redundant id hash literals.now ∷ []) }
+    {
+        let alloc = self.alloc;
+        let added = add(
+            &mut self.slots,
+            &mut self.index,
+            &mut self.occurrences,
+            id,
+            redundant,
+            hash,
+            literals,
+        );
+        if added.is_err() {
+            *self = Clauses::new(alloc);
+            return Err(AllocError);
+        }
+        Ok(())
+    }
+
+    /// Files all clauses anew, by the hashes of this hasher. Where memory is wanted none is left.
+    pub fn rehash(&mut self, hasher: &ClauseHasher, looks: &mut Looks) -> Result<(), AllocError>
+        ensures hashed { OnOk result (self.new ≡ hashed_anew hasher.now self.old) }
+        ensures looks { looks.new ≤ looks.old + live_length self.old }
+        ensures rise { looks.old ≤ looks.new }
+    {
+        let alloc = self.alloc;
+        if file_all(alloc, &mut self.slots, hasher, &mut self.index, looks).is_err() {
+            *self = Clauses::new(alloc);
+            return Err(AllocError);
+        }
+        Ok(())
+    }
+
+    /// One count more of a clause that isn't gone.
+    pub fn add_count(&mut self, place: usize, redundant: bool)
+        requires inside { place < length self.old }
+        requires there { is_gone (slot_at self.old place) ≡ false }
+        requires room { count_of redundant (slot_at self.old place) + 1 < 2 ^ 64 }
+        ensures { self.new ≡ with_count_at redundant place self.old }
+    {
+        self.slots.add_count(place, redundant);
+    }
+
+    /// One count less of the clause with these literals. A clause without a count is gone.
+    pub fn take_count(&mut self, place: usize, redundant: bool, literals: &[Lit])
+        requires inside { place < length self.old }
+        requires literals { literals.now ≡ literals_at self.old place }
+        requires some { 0 < count_of redundant (slot_at self.old place) }
+        ensures { self.new ≡ without_count_at redundant place self.old }
+    {
+        let _count = self.slots.len();
+        self.slots.take_count(place, redundant);
+        if self.slots.is_gone(place) {
+            self.index.remove(place);
+            self.occurrences.take(literals);
+            self.gone += 1;
+            self.unused = self.unused.saturating_add(in_buffer(literals.len()));
+        }
+    }
+
+    /// Drops the clauses that are gone, where more than half of all are, or more than half of the buffer is theirs. Their places are
+    /// given again. Where memory is wanted they stay.
+    pub fn compact(&mut self) -> Result<(), AllocError>
+        ensures left { MayDrop self.old self.new }
+        ensures few { OnOk result (2 * gone_count self.new ≤ length self.new) }
+    {
+        if self.gone <= self.slots.len() / 2 && self.unused <= self.slots.buffered() / 2 {
+            return Ok(());
+        }
+        drop_gone(self.alloc, &mut self.slots, &mut self.index)?;
+        self.gone = 0;
+        self.unused = 0;
+        Ok(())
+    }
+}
+
+/// All 64 bits of a hash.
+pub(crate) fn all_bits() -> HashBits
+    ensures { result ≡ 64 }
+{
+    HashBits::new(64).unwrap()
+}
+
+/// Puts a clause with one count behind the others.
+fn add(
+    slots: &mut Slots,
+    index: &mut SortedPairs,
+    occurrences: &mut Occurrences,
+    id: u64,
+    redundant: bool,
+    hash: ClauseHash,
+    literals: &[Lit],
+) -> Result<(), AllocError>
+    requires kept { AreKept slots.old index.old occurrences.old }
+    requires increasing { IsIncreasing literals.now }
+    ensures kept { OnOk result (AreKept slots.new index.new occurrences.new) }
+    ensures slots { OnOk result (slots.new ≡ slots.old ++ stored_slot redundant id hash literals.now ∷ []) }
+{
+    occurrences.make_room(literals)?;
+    slots.push(id, 0, 0, FiledHash::new(hash), literals)?;
+    index.push(mixed(hash))?;
+    let count = slots.len();
+    slots.add_count(count - 1, redundant);
+    occurrences.add(literals);
+    Ok(())
+}
+
+/// Hashes the clauses that aren't gone, and lists the pairs of their mixed hashes and places.
+#[tactic(auto, using(crate::proofs::lemmas::store::Rehashing::filing))]
+fn hash_all(
+    slots: &mut Slots,
+    hasher: &ClauseHasher,
+    pairs: &mut Vec<Pair>,
+    looks: &mut Looks,
+) -> Result<(), AllocError>
+    requires { pairs.old.items ≡ [] }
+    ensures hashed { OnOk result (slots.new ≡ hashed_anew hasher.now slots.old) }
+    ensures pairs { OnOk result (pairs.new.items ≡ pairs_of (hashed_anew hasher.now slots.old)) }
+    ensures looks { looks.new ≤ looks.old + live_length slots.old }
+    ensures rise { looks.old ≤ looks.new }
+{
+    for place in 0..slots.len() {
+        if slots.is_gone(place) {
+            continue;
+        }
+        let hash = hasher.clause_hash(slots.literals(place, looks));
+        pairs.push(Pair {
+            hash: mixed(hash),
+            place,
+        })?;
+        slots.set_hash(place, hash);
+    }
+    Ok(())
+}
+
+/// Lists the pairs of the clauses that aren't gone, by the places that they have once the others are dropped.
+fn list_standing(
+    slots: &Slots,
+    index: &SortedPairs,
+    pairs: &mut Vec<Pair>,
+) -> Result<(), AllocError>
+    requires filed { Files index.now slots.now }
+    requires none { pairs.old.items ≡ [] }
+    ensures { OnOk result (pairs.new.items ≡ pairs_of (standing slots.now)) }
+{
+    for place in 0..slots.len() {
+        if slots.is_gone(place) {
+            continue;
+        }
+        let hash = index.hash(place);
+        let next = pairs.len();
+        pairs.push(Pair { hash, place: next })?;
+    }
+    Ok(())
+}
+
+/// Drops the clauses that are gone, and files the others by their new places. Where memory is wanted all stay.
+fn drop_gone(alloc: Global, slots: &mut Slots, index: &mut SortedPairs) -> Result<(), AllocError>
+    requires { Files index.old slots.old }
+    ensures left { OnOk result (slots.new ≡ standing slots.old) }
+    ensures filed { OnOk result (Files index.new (standing slots.old)) }
+    ensures err { OnErr result ((slots.new ≡ slots.old) × (index.new ≡ index.old)) }
+{
+    let mut pairs = Vec::new(alloc);
+    list_standing(slots, index, &mut pairs)?;
+    let mut left = Slots::new(alloc);
+    left.push_standing(slots)?;
+    *index = sorted(alloc, pairs, left.len())?;
+    let _count = index.places();
+    *slots = left;
+    Ok(())
+}
+
+/// Hashes the clauses that aren't gone, and files them by one sort.
+fn file_all(
+    alloc: Global,
+    slots: &mut Slots,
+    hasher: &ClauseHasher,
+    index: &mut SortedPairs,
+    looks: &mut Looks,
+) -> Result<(), AllocError>
+    ensures hashed { OnOk result (slots.new ≡ hashed_anew hasher.now slots.old) }
+    ensures filed { OnOk result (Files index.new (hashed_anew hasher.now slots.old)) }
+    ensures looks { looks.new ≤ looks.old + live_length slots.old }
+    ensures rise { looks.old ≤ looks.new }
+{
+    let mut pairs = Vec::new(alloc);
+    hash_all(slots, hasher, &mut pairs, looks)?;
+    *index = sorted(alloc, pairs, slots.len())?;
+    let _count = index.places();
+    Ok(())
+}

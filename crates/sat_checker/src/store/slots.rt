@@ -1,0 +1,253 @@
+//! Clauses of sorted literals by place, with their ids, counts and hashes.
+ghost use Rattle.std.specs.Prelude.{◌≡◌, ◌+◌, ◌<◌, ◌^◌, ℕ, List, ◌∷◌, [], ◌++◌, length, nat_le, false, None, OnOk, OnErr, IfOk, IfSome, if◌then◌else◌};
+ghost use Rattle.std.specs.List.{AllByRecursion};
+ghost use Rattle.sat_checker.specs.LiteralSets.{is_among};
+ghost use Rattle.sat_checker.specs.inner.Marks.{IsIncreasing};
+ghost use Rattle.sat_checker.specs.inner.SlotView.{lits_in, LitsWithin, slot_at, literals_at, all_lits, slot_ids, slot_with, with_count_at, without_count_at, with_hash_at, count_of, is_gone, standing};
+
+use crate::looks::Looks;
+use crate::store::filed_hash::FiledHash;
+use sat_base::{ClauseHash, Lit};
+use std::alloc::{AllocError, Global};
+use std::marker::Model;
+
+/// A clause's literals: up to four lie here, and more in a buffer.
+#[derive(Clone, Copy)]
+pub struct ClauseLits {
+    inline: [Lit; 4],
+    len: u32,
+    start: u32,
+}
+
+impl ClauseLits {
+    /// Puts literals here or at the end of the buffer.
+    fn new(buffer: &mut Vec<Lit>, literals: &[Lit]) -> Result<ClauseLits, AllocError>
+        ensures kept { (more : List ℕ) × (buffer.new.items ≡ buffer.old.items ++ more) }
+        ensures within { IfOk result (λ c. LitsWithin buffer.new.items c) }
+        ensures literals { IfOk result (λ c. lits_in buffer.new.items c ≡ literals.now) }
+    {
+        let mut inline = [Lit::from_code(0); 4];
+        let len = literals.len();
+        let start = buffer.len();
+        if len <= 4 {
+            inline[..len].copy_from_slice(literals);
+            return Ok(ClauseLits {
+                inline,
+                len: len as u32,
+                start: 0,
+            });
+        }
+        if len > u32::MAX as usize || start > u32::MAX as usize {
+            return Err(AllocError);
+        }
+        buffer.extend_from_slice(literals)?;
+        Ok(ClauseLits {
+            inline,
+            len: len as u32,
+            start: start as u32,
+        })
+    }
+
+    /// The literals, where those that don't lie here are in this buffer.
+    pub fn slice<'a>(&'a self, buffer: &'a [Lit]) -> &'a [Lit]
+        requires { LitsWithin buffer.now self.now }
+        ensures { result.now ≡ lits_in buffer.now self.now }
+    {
+        let len = self.len as usize;
+        if len <= 4 {
+            &self.inline[..len]
+        } else {
+            let start = self.start as usize;
+            &buffer[start..start + len]
+        }
+    }
+}
+
+/// Of so many literals of a clause, so many lie in the buffer.
+pub(crate) fn in_buffer(count: usize) -> usize
+    ensures { result ≡ (if nat_le count 4 then 0 else count) }
+{
+    if count <= 4 { 0 } else { count }
+}
+
+/// A clause at its place, in 48 bytes. Its hash stands in the index.
+#[derive(Drop)]
+struct Entry {
+    lits: ClauseLits,
+    id: u64,
+    irredundant: u64,
+    redundant: u64,
+    hash: FiledHash,
+}
+
+/// Clauses at their places, those that are gone among them. Contracts see the list of them.
+#[derive(Drop)]
+pub(crate) struct Slots {
+    entries: Vec<Entry>,
+    buffer: Vec<Lit>,
+}
+
+impl Model for Slots {
+    ghost use Rattle.std.specs.Prelude.{List, map};
+    ghost use Rattle.std.specs.List.{All};
+    ghost use Rattle.sat_checker.specs.inner.SlotView.{Slot};
+    ghost use Rattle.sat_checker.specs.inner.EntryView.{slot_of, IsEntry};
+
+    ghost Value = { List Slot };
+
+    ghost view = { λ s. map (slot_of s.buffer.items) s.entries.items };
+
+    ghost invariant = { λ s. All (IsEntry s.buffer.items) s.entries.items };
+}
+
+impl Slots {
+    pub fn new(alloc: Global) -> Slots
+        ensures { result ≡ [] }
+    {
+        Slots {
+            entries: Vec::new(alloc),
+            buffer: Vec::new(alloc),
+        }
+    }
+
+    pub fn len(&self) -> usize
+        ensures count { result ≡ length self.now }
+        ensures increasing { AllByRecursion IsIncreasing (all_lits self.now) }
+    {
+        self.entries.len()
+    }
+
+    /// Lends the literals at a place, which counts as a look at each. There is no other way to them.
+    #[inline(always)]
+    pub fn literals(&self, place: usize, looks: &mut Looks) -> &[Lit]
+        requires { place < length self.now }
+        ensures lent { result.now ≡ literals_at self.now place }
+        ensures looks { looks.new ≡ looks.old + length (literals_at self.now place) }
+    {
+        let literals = self.entries[place].lits.slice(&self.buffer);
+        looks.count(literals.len());
+        literals
+    }
+
+    pub fn id(&self, place: usize) -> u64
+        requires { place < length self.now }
+        ensures { result ≡ (slot_at self.now place).clause.id }
+    {
+        self.entries[place].id
+    }
+
+    /// The place of the clause with this id, where ids rise by place.
+    pub fn place_of(&self, id: u64) -> Option<usize>
+        ensures found { IfSome result (λ place. (place < length self.now) × ((slot_at self.now place).clause.id ≡ id)) }
+        ensures absent { result ≡ None → IsIncreasing (slot_ids self.now) → is_among (slot_ids self.now) id ≡ false }
+    {
+        self.entries
+            .binary_search_by_key(&id, |entry| entry.id)
+            .ok()
+    }
+
+    /// How many literals lie in the buffer, those of clauses that are gone among them.
+    pub fn buffered(&self) -> usize {
+        self.buffer.len()
+    }
+
+    /// How often the clause stands as redundant, or as irredundant.
+    pub fn count(&self, place: usize, redundant: bool) -> u64
+        requires { place < length self.now }
+        ensures { result ≡ count_of redundant (slot_at self.now place) }
+    {
+        let entry = &self.entries[place];
+        if redundant {
+            entry.redundant
+        } else {
+            entry.irredundant
+        }
+    }
+
+    /// Whether the clause has no count.
+    pub fn is_gone(&self, place: usize) -> bool
+        requires { place < length self.now }
+        ensures { result ≡ is_gone (slot_at self.now place) }
+    {
+        self.count(place, false) == 0 && self.count(place, true) == 0
+    }
+
+    /// Puts a clause with these counts behind the others.
+    pub fn push(
+        &mut self,
+        id: u64,
+        irredundant: u64,
+        redundant: u64,
+        hash: FiledHash,
+        literals: &[Lit],
+    ) -> Result<(), AllocError>
+        requires { IsIncreasing literals.now }
+        ensures ok { OnOk result (self.new ≡ self.old ++ slot_with id irredundant redundant hash.hash literals.now ∷ []) }
+        ensures err { OnErr result (self.new ≡ self.old) }
+    {
+        let lits = ClauseLits::new(&mut self.buffer, literals)?;
+        self.entries.push(Entry {
+            lits,
+            id,
+            irredundant,
+            redundant,
+            hash,
+        })?;
+        Ok(())
+    }
+
+    /// Puts the clauses of other slots behind these, but for those that are gone. Nobody looks at their literals.
+    pub fn push_standing(&mut self, others: &Slots) -> Result<(), AllocError>
+        ensures { OnOk result (self.new ≡ self.old ++ standing others.now) }
+    {
+        for place in 0..others.len() {
+            if others.is_gone(place) {
+                continue;
+            }
+            let entry = &others.entries[place];
+            self.push(
+                entry.id,
+                entry.irredundant,
+                entry.redundant,
+                entry.hash.same(),
+                entry.lits.slice(&others.buffer),
+            )?;
+        }
+        Ok(())
+    }
+
+    /// One count more.
+    pub fn add_count(&mut self, place: usize, redundant: bool)
+        requires inside { place < length self.old }
+        requires room { count_of redundant (slot_at self.old place) + 1 < 2 ^ 64 }
+        ensures { self.new ≡ with_count_at redundant place self.old }
+    {
+        let entry = &mut self.entries[place];
+        if redundant {
+            entry.redundant += 1;
+        } else {
+            entry.irredundant += 1;
+        }
+    }
+
+    /// One count less.
+    pub fn take_count(&mut self, place: usize, redundant: bool)
+        requires inside { place < length self.old }
+        requires some { 0 < count_of redundant (slot_at self.old place) }
+        ensures { self.new ≡ without_count_at redundant place self.old }
+    {
+        let entry = &mut self.entries[place];
+        if redundant {
+            entry.redundant -= 1;
+        } else {
+            entry.irredundant -= 1;
+        }
+    }
+
+    pub fn set_hash(&mut self, place: usize, hash: ClauseHash)
+        requires { place < length self.old }
+        ensures { self.new ≡ with_hash_at hash place self.old }
+    {
+        self.entries[place].hash = FiledHash::new(hash);
+    }
+}

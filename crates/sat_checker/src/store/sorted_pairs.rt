@@ -1,0 +1,217 @@
+//! One sorted list of pairs of a hash and a place. Its hashes are mixed: a search starts by their top bits, and needs them spread.
+ghost use Rattle.std.specs.Prelude.{All, ℕ, true, ◌≡◌, ◌+◌, ◌++◌, ◌<◌, ◌≤◌, [], length, OnOk, OnErr, IfOk};
+ghost use Rattle.std.specs.List.{IsDistinct};
+ghost use Rattle.std.specs.List.Sorted.{IsPermutation};
+ghost use Rattle.sat_checker.specs.LiteralSets.{is_among};
+ghost use Rattle.sat_checker.specs.inner.PairView.{AreInOrder, inserted, without_pair, places_in, first_of, behind, same_place};
+ghost use Rattle.sat_checker.specs.inner.LinkView.{listed, AreKeptPairs, Lists, nowhere};
+
+use crate::store::links::{Link, NOWHERE, Pair, first_from, link_all, list_all, put, take, top};
+use sat_base::ClauseHash;
+use std::alloc::{AllocError, Global};
+use std::marker::Model;
+
+/// The fewest bits of a hash that don't tell its head: there are at most 2^31 heads.
+const LEAST_SHIFT: u32 = 33;
+
+/// How many bits of a hash don't tell its head: there are as many heads as places, or more.
+fn shift_for(places: usize) -> u32
+    ensures few { 33 ≤ result }
+    ensures below { result < 64 }
+{
+    (places as u64).leading_zeros().min(58).max(LEAST_SHIFT)
+}
+
+/// Heads of nothing.
+fn no_heads(alloc: Global, shift: u32) -> Result<Vec<u32>, AllocError>
+    requires few { 33 ≤ shift }
+    requires below { shift < 64 }
+    ensures none { IfOk result (λ heads. All (λ h. h ≡ nowhere) heads.items) }
+    ensures some { IfOk result (λ heads. 0 < length heads.items) }
+{
+    let mut heads = Vec::new(alloc);
+    heads.resize(1usize << (64 - shift), NOWHERE)?;
+    Ok(heads)
+}
+
+/// Makes more heads, and links all pairs anew. The answer is how many bits of a hash don't tell its head then.
+fn grow(
+    alloc: Global,
+    heads: &mut Vec<u32>,
+    links: &mut [Link],
+    shift: u32,
+) -> Result<u32, AllocError>
+    requires { AreKeptPairs heads.old.items links.old shift }
+    ensures ok { IfOk result (λ s. Lists heads.new.items links.new s (listed heads.old.items links.old)) }
+    ensures some { OnOk result (0 < length heads.new.items) }
+    ensures few { IfOk result (λ s. 33 ≤ s) }
+    ensures below { IfOk result (λ s. s < 64) }
+    ensures count { length links.new ≡ length links.old }
+    ensures err { OnErr result ((heads.new.items ≡ heads.old.items) × (links.new ≡ links.old)) }
+{
+    let mut pairs = Vec::new(alloc);
+    list_all(heads, links, &mut pairs)?;
+    let less = shift_for(links.len());
+    *heads = no_heads(alloc, less)?;
+    link_all(heads, links, less, &pairs);
+    Ok(less)
+}
+
+/// Makes heads where there are none, or no more than places.
+fn make_heads(
+    alloc: Global,
+    heads: &mut Vec<u32>,
+    links: &mut [Link],
+    shift: u32,
+) -> Result<u32, AllocError>
+    requires { AreKeptPairs heads.old.items links.old shift }
+    ensures ok { IfOk result (λ s. Lists heads.new.items links.new s (listed heads.old.items links.old)) }
+    ensures some { OnOk result (0 < length heads.new.items) }
+    ensures few { IfOk result (λ s. 33 ≤ s) }
+    ensures below { IfOk result (λ s. s < 64) }
+    ensures count { length links.new ≡ length links.old }
+    ensures err { OnErr result ((heads.new.items ≡ heads.old.items) × (links.new ≡ links.old)) }
+{
+    if heads.is_empty() {
+        return grow(alloc, heads, links, shift);
+    }
+    if shift > LEAST_SHIFT && links.len() >= heads.len() {
+        return grow(alloc, heads, links, shift);
+    }
+    Ok(shift)
+}
+
+/// Pairs by hashes, those of one hash by places. Contracts see the list of them.
+#[derive(Drop)]
+pub struct SortedPairs {
+    alloc: Global,
+    heads: Vec<u32>,
+    links: Vec<Link>,
+    shift: u32,
+}
+
+impl Model for SortedPairs {
+    ghost use Rattle.std.specs.Prelude.{length};
+    ghost use Rattle.sat_checker.specs.inner.PairView.{Indexed};
+    ghost use Rattle.sat_checker.specs.inner.LinkView.{listed, AreKeptPairs};
+
+    ghost Value = { Indexed };
+
+    ghost view = { λ s. record { pairs = listed s.heads.items s.links.items; places = length s.links.items } };
+
+    ghost invariant = { λ s. AreKeptPairs s.heads.items s.links.items s.shift };
+}
+
+impl SortedPairs {
+    /// No pair.
+    pub fn new(alloc: Global) -> SortedPairs
+        ensures { result ≡ record { pairs = []; places = 0 } }
+    {
+        SortedPairs {
+            alloc,
+            heads: Vec::new(alloc),
+            links: Vec::new(alloc),
+            shift: LEAST_SHIFT,
+        }
+    }
+
+    /// How many places were given.
+    pub fn places(&self) -> usize
+        ensures count { result ≡ self.now.places }
+        ensures order { AreInOrder self.now.pairs }
+    {
+        self.links.len()
+    }
+
+    /// The first place of a hash.
+    #[inline(always)]
+    pub fn first(&self, hash: ClauseHash) -> Option<usize>
+        ensures { result ≡ first_of (places_in hash self.now.pairs) }
+    {
+        if self.heads.is_empty() {
+            return None;
+        }
+        let top = top(hash, self.shift, self.heads.len());
+        first_from(&self.links, self.heads[top], hash)
+    }
+
+    /// The next place of the hash of a place.
+    #[inline(always)]
+    pub fn next(&self, hash: ClauseHash, place: usize) -> Option<usize>
+        requires { is_among (places_in hash self.now.pairs) place ≡ true }
+        ensures { result ≡ first_of (behind place (places_in hash self.now.pairs)) }
+    {
+        first_from(&self.links, self.links[place].next, hash)
+    }
+
+    /// Lists the pairs in order, behind those that are listed.
+    pub fn list(&self, pairs: &mut Vec<Pair>) -> Result<(), AllocError>
+        ensures { OnOk result (pairs.new.items ≡ pairs.old.items ++ self.now.pairs) }
+    {
+        list_all(&self.heads, &self.links, pairs)
+    }
+
+    /// The hash of a place that has a pair.
+    pub fn hash(&self, place: usize) -> ClauseHash
+        requires { place < self.now.places }
+        ensures { (h : ℕ) → is_among (places_in h self.now.pairs) place ≡ true → result ≡ h }
+    {
+        self.links[place].hash
+    }
+
+    /// Puts a pair in, at the next place.
+    pub fn push(&mut self, hash: ClauseHash) -> Result<(), AllocError>
+        ensures ok { OnOk result (self.new ≡ record {
+          pairs = inserted (record { hash = hash; place = self.old.places }) self.old.pairs;
+          places = self.old.places + 1;
+        }) }
+        ensures err { OnErr result (self.new ≡ self.old) }
+    {
+        if self.links.len() >= NOWHERE as usize {
+            return Err(AllocError);
+        }
+        self.shift = make_heads(self.alloc, &mut self.heads, &mut self.links, self.shift)?;
+        put(&mut self.heads, &mut self.links, self.shift, hash)?;
+        Ok(())
+    }
+
+    /// Takes the pair of a place out. The place isn't given again.
+    pub fn remove(&mut self, place: usize)
+        requires { place < self.old.places }
+        ensures { self.new ≡ record self.old { pairs = without_pair place self.old.pairs } }
+    {
+        if self.heads.is_empty() {
+            return;
+        }
+        take(&mut self.heads, &mut self.links, self.shift, place);
+    }
+}
+
+/// Pairs that are sorted once. As many places are given.
+pub(crate) fn sorted(
+    alloc: Global,
+    mut pairs: Vec<Pair>,
+    places: usize,
+) -> Result<SortedPairs, AllocError>
+    requires apart { IsDistinct same_place pairs.items }
+    requires within { All (λ p. p.place < places) pairs.items }
+    requires count { length pairs.items ≤ places }
+    ensures same { IfOk result (λ s. IsPermutation pairs.items s.pairs) }
+    ensures places { IfOk result (λ s. s.places ≡ places) }
+{
+    if places > NOWHERE as usize {
+        return Err(AllocError);
+    }
+    let shift = shift_for(places);
+    let mut heads = no_heads(alloc, shift)?;
+    let mut links = Vec::new(alloc);
+    links.resize(places, Link { hash: 0, next: 0 })?;
+    pairs.sort_unstable();
+    link_all(&mut heads, &mut links, shift, &pairs);
+    Ok(SortedPairs {
+        alloc,
+        heads,
+        links,
+        shift,
+    })
+}

@@ -1,0 +1,55 @@
+//! Numbers of literals, by their code.
+ghost use Rattle.std.specs.Prelude.{ℕ, ◌≡◌, ◌==◌, ◌+◌, ◌^◌, ◌<◌, OnOk, Some, None, if◌then◌else◌};
+ghost use Rattle.sat_base.specs.values.Tables.{HasRoom};
+ghost use Rattle.sat_checker.specs.inner.LitNumbers.{number_at};
+
+use sat_base::{Lit, Table};
+use std::alloc::{AllocError, Global};
+
+/// A number for each of some literals, by their code. Where there is none stands 2^64-1, which no literal has.
+#[derive(Drop)]
+pub(crate) struct LitNumbers {
+    numbers: Table<u64>,
+}
+
+impl LitNumbers {
+    pub fn new(alloc: Global) -> LitNumbers
+        ensures { (l : ℕ) → number_at result l ≡ None }
+    {
+        LitNumbers {
+            numbers: Table::new(alloc),
+        }
+    }
+
+    pub fn get(&self, lit: Lit) -> Option<u64>
+        ensures { result ≡ number_at self.now lit }
+    {
+        let number = self.numbers.get(lit.code(), u64::MAX);
+        if number == u64::MAX {
+            return None;
+        }
+        Some(number)
+    }
+
+    /// Makes room for the number of a literal.
+    pub fn make_room(&mut self, lit: Lit) -> Result<(), AllocError>
+        ensures room { OnOk result (HasRoom self.new.numbers lit) }
+        ensures same { (l : ℕ) → number_at self.new l ≡ number_at self.old l }
+    {
+        self.numbers.make_room(lit.code(), u64::MAX)
+    }
+
+    pub fn put(&mut self, lit: Lit, number: u64)
+        requires room { HasRoom self.old.numbers lit }
+        requires number { number + 1 < 2 ^ 64 }
+        ensures { (l : ℕ) → number_at self.new l ≡ (if l == lit then Some number else number_at self.old l) }
+    {
+        self.numbers.put(lit.code(), number);
+    }
+
+    pub fn forget(&mut self, lit: Lit)
+        ensures { (l : ℕ) → number_at self.new l ≡ (if l == lit then None else number_at self.old l) }
+    {
+        self.numbers.reset(lit.code(), u64::MAX);
+    }
+}

@@ -1,0 +1,169 @@
+-- What steps that touch long clauses alone leave of them.
+use Rattle.std.proofs.Common.{ℕ, ◌≡◌, ◌==◌, ◌^◌, ◌/◌, ◌<◌, ◌≤◌, ◌&&◌, inl, inr, Bool, true, false, not, List, length, refl, sym, ap, ◌∙◌, subst, Result, Ok, Err, if◌then◌else◌}
+use Rattle.std.specs.Prelude.{OnOk, OnErr}
+use Rattle.std.proofs.lemmas.Bool.{cases_lt, cases_eq, true≢false}
+use Rattle.std.specs.List.{Contains}
+use Rattle.sat_base.specs.values.Literals.{variable}
+use Rattle.sat_store.specs.clause.Buffer.{header_at, lits_at}
+use Rattle.sat_store.specs.clause.Header.{Header, is_learned, index_of}
+use Rattle.sat_store.specs.declared.clause.tier.Tier.{Tier}
+use Rattle.sat_store.specs.declared.clause.tier.Tier.TheVariants.{Irred, Core, Mid, Local}
+use Rattle.sat_store.specs.declared.clause.alloc.StoreError.{StoreError}
+use Rattle.sat_parts.specs.declared.prop.graph.ImplNode.{ImplNode}
+use Rattle.sat_parts.specs.declared.prop.graph.Reason.{Reason}
+use Rattle.sat_parts.specs.declared.prop.graph.Reason.TheVariants.{Unit as NoCause, Binary, Long}
+use Rattle.sat_parts.specs.clause.Activity.{PutsHeaders, Scale, StaysBelow, ComesTo, BumpsOne, BumpsAll, DecaysAll, later_bump, raised, shifted, bumped_shifted, with_activity}
+use Rattle.sat_parts.specs.clause.Collected.{Copies, Collects, FollowsClause, AllStay}
+use Rattle.sat_parts.specs.clause.Db.{Db, live_refs, PutsHeader}
+use Rattle.sat_parts.specs.clause.Orders.{Shuffles, Reorders, Kept}
+use Rattle.sat_parts.specs.clause.Reduced.{reduced}
+use Rattle.sat_parts.specs.prop.Graphs.{is_unit}
+use Rattle.sat_parts.specs.prop.Values.{Values}
+use Rattle.sat_parts.specs.prop.Trails.{Trailed}
+use Rattle.sat_parts.specs.prop.WatchLists.{Watching}
+use Rattle.sat_parts.specs.prop.State.{State, node, lit_at}
+use Rattle.sat_parts.specs.prop.Ready.{state_of}
+use Rattle.sat_parts.proofs.lemmas.clause.OrderLemmas.{reorders_one}
+use Rattle.sat_parts.proofs.lemmas.prop.BuildLemmas.{live_in}
+use Rattle.sat_parts.proofs.lemmas.prop.BuildLemmas.{live_same}
+use Rattle.sat_parts.specs.declared.parts.Parts.{Parts}
+use Rattle.sat_parts.specs.parts.Whole.{state, PartsInvariant}
+use Rattle.sat_parts.specs.parts.Frame.{Carries, KeepsTo, SameSearch, Reordered, Headed, Copied}
+
+-- what stays of clauses whose headers changed
+pub record SidesStay (words words' refs : List ℕ) : Type 0 where
+  pub lits : (o : ℕ) → Contains refs o → lits_at words' o ≡ lits_at words o
+  pub sides : (o : ℕ) → Contains refs o → is_learned (header_at words' o).tier ≡ is_learned (header_at words o).tier
+
+pub sides_one : (words words' refs : List ℕ) (o : ℕ) (header : Header) → PutsHeader words words' refs o header → is_learned header.tier ≡ is_learned (header_at words o).tier → SidesStay words words' refs
+sides_one words words' refs o header x side = record {
+  lits = λ p c. elim (cases_eq p o) [
+    | inl e ↦ ap (λ z. lits_at words' z) e ∙ x.lits_there ∙ ap (λ z. lits_at words z) (sym e)
+    | inr n ↦ (x.others p c n).lits
+  ];
+  sides = λ p c. elim (cases_eq p o) [
+    | inl e ↦ ap (λ z. is_learned (header_at words' z).tier) e ∙ ap (λ (h : Header). is_learned h.tier) x.header_there ∙ side ∙ ap (λ z. is_learned (header_at words z).tier) (sym e)
+    | inr n ↦ ap (λ (h : Header). is_learned h.tier) (x.others p c n).header
+  ];
+}
+
+pub sides_all : (words words' refs : List ℕ) (f : ℕ → Header) → PutsHeaders words words' refs f → ((o : ℕ) → Contains refs o → is_learned (f o).tier ≡ is_learned (header_at words o).tier) → SidesStay words words' refs
+sides_all words words' refs f x side = record { lits = x.lits; sides = λ o c. ap (λ (h : Header). is_learned h.tier) (x.headers o c) ∙ side o c }
+
+pub sides_refl : (words refs : List ℕ) → SidesStay words words refs
+sides_refl words refs = record { lits = λ o c. refl; sides = λ o c. refl }
+
+-- a reduction moves learned clauses alone
+learned_middle : (t : Tier) → (index_of t == 2) ≡ true → is_learned t ≡ true
+learned_middle Irred e = absurd (true≢false (sym e))
+learned_middle Core e = refl
+learned_middle Mid e = refl
+learned_middle Local e = refl
+
+reduced_by : (h : Header) (due active : Bool) → (due ≡ true → is_learned h.tier ≡ true) → is_learned (if due then (if active then record h { active = false } else record h { tier = Local }) else h).tier ≡ is_learned h.tier
+reduced_by h false active l = refl
+reduced_by h true true l = refl
+reduced_by h true false l = sym (l refl)
+
+second_true : (a b : Bool) → (a && b) ≡ true → b ≡ true
+second_true true b e = e
+second_true false b e = absurd (true≢false (sym e))
+
+pub reduced_side : (h : Header) → is_learned (reduced h).tier ≡ is_learned h.tier
+reduced_side h = reduced_by h (not h.deleted && (index_of h.tier == 2)) h.active (λ e. learned_middle h.tier (second_true (not h.deleted) (index_of h.tier == 2) e))
+
+pub sides_bumped : (words words' refs : List ℕ) (o : ℕ) (c c' : Scale) → (StaysBelow words o c → BumpsOne words words' refs o c c') → (ComesTo words o c → BumpsAll words words' refs o c c') → SidesStay words words' refs
+sides_bumped words words' refs o c c' one all = elim (cases_lt (raised words o c.bump) (2 ^ 30)) [
+  | inl lt ↦ sides_one words words' refs o (with_activity (header_at words o) (raised words o c.bump)) (one lt).1 refl
+  | inr le ↦ sides_all words words' refs (bumped_shifted words o c.bump) (all le).1 (λ p k. refl)
+]
+
+pub sides_decayed : (words words' refs : List ℕ) (c c' : Scale) → (later_bump c < 2 ^ 30 → words' ≡ words) → (2 ^ 30 ≤ later_bump c → DecaysAll words words' refs c c') → SidesStay words words' refs
+sides_decayed words words' refs c c' later all = elim (cases_lt (later_bump c) (2 ^ 30)) [
+  | inl lt ↦ subst (λ (ws : List ℕ). SidesStay words ws refs) (sym (later lt)) (sides_refl words refs)
+  | inr le ↦ sides_all words words' refs (shifted words) (all le).1 (λ p k. refl)
+]
+
+pub headed_by : (p p' : Parts) → live_refs p'.clauses p'.db.refs ≡ live_refs p.clauses p.db.refs → SidesStay p.clauses p'.clauses p.db.refs → SameSearch p p' → Headed p p'
+headed_by p p' live x same = record {
+  live = live;
+  lits = λ o c. x.lits o (live_in p.clauses p.db.refs o c);
+  sides = λ o c. x.sides o (live_in p.clauses p.db.refs o c);
+  same = same;
+}
+
+-- COLLECTION
+
+unit_followed : (live refs' : List ℕ) (r r' : Reason) → FollowsClause live refs' r r' → is_unit r' ≡ is_unit r
+unit_followed live refs' NoCause r' f = ap (λ (z : Reason). is_unit z) f
+unit_followed live refs' (Binary ls) r' f = ap (λ (z : Reason). is_unit z) f
+unit_followed live refs' (Long o) r' f = ap (λ (z : Reason). is_unit z) f.1.2
+
+copies_refl : (words live : List ℕ) → Copies words live words live
+copies_refl words live = record { size = refl; headers = λ k b. refl; lits = λ k b. refl }
+
+carries_collected : (words : List ℕ) (db : Db) (a : Values) (g g' : List ImplNode) (t : Trailed) (words' : List ℕ) (db' : Db) → Collects words db g t.lits words' db' g' → Carries (state_of a g t) (state_of a g' t)
+carries_collected words db a g g' t words' db' x = record {
+  size = refl;
+  units = λ l u. elim u [
+    | inl r ↦ inl (record { holds = r.holds; depth = sym (x.depths (variable l)) ∙ r.depth; bottom = sym (x.levels (variable l)) ∙ r.bottom })
+    | inr b ↦
+        let s : State = state_of a g t in
+        let s' : State = state_of a g' t in
+        let same : is_unit (node s' l).reason ≡ is_unit (node s l).reason = subst (λ m. is_unit (node s' m).reason ≡ is_unit (node s m).reason) b.there
+        (unit_followed (live_refs words db.refs) db'.refs (node s (lit_at s b.place)).reason (node s' (lit_at s b.place)).reason (x.reasons b.place b.within)) in
+        inr (record { place = b.place; within = b.within; there = b.there; bottom = sym (x.levels (variable l)) ∙ b.bottom; none = sym same ∙ b.none })
+  ];
+  bottom = λ l h z. (h, x.levels (variable l) ∙ z);
+}
+
+keeps_collected : (top : ℕ) (words : List ℕ) (db : Db) (a : Values) (g g' : List ImplNode) (t : Trailed) (words' : List ℕ) (db' : Db) → Collects words db g t.lits words' db' g' → KeepsTo top (state_of a g t) (state_of a g' t)
+keeps_collected top words db a g g' t words' db' x = record { low = λ l h b. (h, x.levels (variable l)); begun = λ j b lt. (lt, refl) }
+
+carries_stayed : (s : State) → Carries s s
+carries_stayed s = record { size = refl; units = λ l u. u; bottom = λ l h z. (h, z) }
+
+keeps_stayed : (top : ℕ) (s : State) → KeepsTo top s s
+keeps_stayed top s = record { low = λ l h b. (h, refl); begun = λ j b lt. (lt, refl) }
+
+-- a collection that is due
+copied_due : (p : Parts) (words' : List ℕ) (db' : Db) (w' : Watching) (g' : List ImplNode) → Collects p.clauses p.db p.graph p.trail.lits words' db' g' → Copied p (record p { clauses = words'; db = db'; watchlists = w'; graph = g' })
+copied_due p words' db' w' g' x = record {
+  copies = subst (λ (xs : List ℕ). Copies p.clauses (live_refs p.clauses p.db.refs) words' xs) (sym x.live) x.copies;
+  binary = refl;
+  values = refl;
+  trail = refl;
+  queue = refl;
+  carries = carries_collected p.clauses p.db p.assignment p.graph g' p.trail words' db' x;
+  keeps = λ top. keeps_collected top p.clauses p.db p.assignment p.graph g' p.trail words' db' x;
+}
+
+-- one that isn't, or fails
+copied_none : (p : Parts) (words' : List ℕ) (db' : Db) (w' : Watching) (g' : List ImplNode) → AllStay p.clauses p.db p.graph p.watchlists words' db' g' w' → Copied p (record p { clauses = words'; db = db'; watchlists = w'; graph = g' })
+copied_none p words' db' w' g' x = rw (x.0, x.1, x.2) record {
+  copies = copies_refl p.clauses (live_refs p.clauses p.db.refs);
+  binary = refl;
+  values = refl;
+  trail = refl;
+  queue = refl;
+  carries = carries_stayed (state p);
+  keeps = λ top. keeps_stayed top (state p);
+}
+
+pub copied_collect : (p : Parts) (words' : List ℕ) (db' : Db) (w' : Watching) (g' : List ImplNode) (r : Result (Unit {0}) StoreError) →
+    (length p.clauses / 2 < p.db.garbage → OnOk r (Collects p.clauses p.db p.graph p.trail.lits words' db' g')) →
+    (p.db.garbage ≤ length p.clauses / 2 → AllStay p.clauses p.db p.graph p.watchlists words' db' g' w') → OnErr r (AllStay p.clauses p.db p.graph p.watchlists words' db' g' w') →
+    Copied p (record p { clauses = words'; db = db'; watchlists = w'; graph = g' })
+copied_collect p words' db' w' g' (Ok x) due not_due same = elim (cases_lt (length p.clauses / 2) p.db.garbage) [
+  | inl lt ↦ copied_due p words' db' w' g' (due lt)
+  | inr le ↦ copied_none p words' db' w' g' (not_due le)
+]
+copied_collect p words' db' w' g' (Err e) due not_due same = copied_none p words' db' w' g' same
+
+-- ORDER
+
+pub moved_shuffled : (p : Parts) (words' : List ℕ) (o : ℕ) → PartsInvariant p → Contains (live_refs p.clauses p.db.refs) o → Shuffles p.clauses words' o → Reordered p (record p { clauses = words' })
+moved_shuffled p words' o h c x =
+    let r : Reorders p.clauses words' (live_refs p.clauses p.db.refs) = reorders_one p.clauses words' (live_refs p.clauses p.db.refs) o c x in
+    let k : Kept p.clauses words' p.db.refs = r.all p.db.refs (λ q d. live_in p.clauses p.db.refs q d) h.below.asks.laid in
+    record { live = live_same p.clauses words' p.db.refs k.headers; kept = r.all (live_refs p.clauses p.db.refs) (λ q d. d) h.below.asks.clauses.laid; binary = refl }

@@ -1,0 +1,174 @@
+-- Clauses that are loaded at level 0, and variables that are given up.
+use Rattle.std.proofs.Common.{ℕ, ◌≡◌, ◌≢◌, ◌+◌, ◌*◌, ◌<◌, ◌≤◌, inl, inr, List, [], length, get_or, set, length-set, get_or-set_same, get_or-set_other, sym, ap, ◌∙◌, subst, arith, true, false, None}
+use Rattle.std.proofs.lemmas.Bool.{cases_Bool, cases_eq, true≢false}
+use Rattle.sat_base.specs.values.Literals.{variable, negated}
+use Rattle.sat_store.specs.clause.Buffer.{lits_at}
+use Rattle.sat_store.specs.clause.Header.{Header}
+use Rattle.sat_store.specs.heap.Vsids.{Queue, may_pick, with_available}
+use Rattle.sat_parts.specs.declared.prop.graph.ImplNode.{ImplNode}
+use Rattle.sat_parts.specs.declared.prop.graph.Reason.TheVariants.{Unit as NoCause}
+use Rattle.sat_parts.specs.clause.Db.{Db, live_refs, AddsClause}
+use Rattle.sat_parts.specs.clause.Stored.{AreClauses, lit_of}
+use Rattle.sat_parts.specs.prop.Binaries.{Binaries, implied_by, with_binary}
+use Rattle.sat_parts.specs.prop.Values.{Values, value_of, assigned, IsTrueLit}
+use Rattle.sat_parts.specs.prop.Trails.{Trailed}
+use Rattle.sat_parts.specs.prop.WatchLists.{Watching, with_firsts}
+use Rattle.sat_parts.specs.prop.State.{State, level, HasLeft, Agrees, IsSatisfied}
+use Rattle.sat_parts.specs.prop.Ready.{state_of, AreWatched, AreLists}
+use Rattle.sat_parts.proofs.lemmas.prop.CallLemmas.{asks_added, asks_of_unit}
+use Rattle.sat_parts.proofs.lemmas.prop.WordLemmas.{levels_stay}
+use Rattle.sat_parts.specs.parts.Round.{IsUnused, IsSoundBelow, IsSound}
+use Rattle.sat_parts.specs.parts.Loadable.{IsLoadable}
+use Rattle.sat_parts.proofs.lemmas.parts.ValueLemmas.{some_none, pick_set}
+use Rattle.sat_parts.proofs.lemmas.parts.LearnLemmas.{turns_added, unused_added}
+use Rattle.sat_parts.proofs.lemmas.parts.BinaryLemmas.{asks_binary_added, turns_binary, unused_binary}
+
+-- an open variable of a loadable clause may be picked
+not_in : (s : State) (q : Queue) (ls : List ℕ) (u : ℕ) → IsLoadable s q ls → value_of s.values u ≡ None → may_pick q u ≡ false → (k : ℕ) → k < length ls → variable (get_or ls k 0) ≢ u
+not_in s q ls u x none not k b e =
+    true≢false (sym (x.ready k b (ap (λ v. value_of s.values v) e ∙ none)) ∙ ap (λ v. may_pick q v) e ∙ not)
+
+pub sound_loaded_long : (words words' : List ℕ) (db db' : Db) (w : Watching) (b : Binaries) (a : Values) (g : List ImplNode) (t : Trailed) (q : Queue) (ls : List ℕ) (o : ℕ) (header : Header) →
+    IsSound words db w b a g t q → IsLoadable (state_of a g t) q ls → 3 ≤ length ls → AddsClause words db words' db' o header ls →
+    IsSound words' db' (with_firsts o ls w) b a g t q
+sound_loaded_long words words' db db' w b a g t q ls o header h x three added =
+    let s : State = state_of a g t in
+    let y : IsSoundBelow words db w b a g t q (length t.starts + 1) = h.below in
+    record {
+      below = record {
+        held = added.holds;
+        asks = asks_of_unit words' db'.refs (with_firsts o ls w) b.implied s (length t.starts + 1) 0
+            (asks_added words words' db db' o header ls w b.implied s (length t.starts + 1) 0 NoCause y.asks added x.distinct three x.below (λ i hi left d. absurd (x.fresh i hi left)));
+        turns = turns_added words words' db db' o header ls b.implied s y.held added y.turns;
+        levelled = y.levelled;
+        queue = y.queue;
+        ready = λ u lt none. elim (cases_Bool (may_pick q u)) [
+          | inl p ↦ inl p
+          | inr not ↦ elim (y.ready u lt none) [ inl p ↦ inl p | inr v ↦ inr (unused_added words words' db db' o header ls b.implied u y.held added (not_in s q ls u x none not) v) ]
+        ];
+      };
+      units = h.units;
+      base = h.base;
+    }
+
+pub sound_loaded_binary : (words : List ℕ) (db : Db) (w : Watching) (x : Binaries) (a : Values) (g : List ImplNode) (t : Trailed) (q : Queue) (ls : List ℕ) →
+    IsSound words db w x a g t q → IsLoadable (state_of a g t) q ls → length ls ≡ 2 →
+    IsSound words db w (with_binary (get_or ls 0 0) (get_or ls 1 0) x) a g t q
+sound_loaded_binary words db w x a g t q ls h p two =
+    let s : State = state_of a g t in
+    let y : IsSoundBelow words db w x a g t q (length t.starts + 1) = h.below in
+    let c : ℕ = get_or ls 0 0 in
+    let d : ℕ = get_or ls 1 0 in
+    let small_c : get_or ls 0 0 < 2 * length a.current = p.below 0 (omega arith) in
+    let small_d : get_or ls 1 0 < 2 * length a.current = p.below 1 (omega arith) in
+    let first : negated (get_or ls 0 0) < length x.implied = omega (arith, y.asks.ranges.room) in
+    let second : negated (get_or ls 1 0) < length x.implied = omega (arith, y.asks.ranges.room) in
+    record {
+      below = record {
+        held = y.held;
+        asks = asks_of_unit words db.refs w (with_binary c d x).implied s (length t.starts + 1) 0
+            (asks_binary_added words db.refs w x s (length t.starts + 1) 0 (get_or ls 0 0) (get_or ls 1 0) NoCause y.asks small_c small_d
+            (λ left due. absurd (p.fresh 0 (omega arith) left)) (λ left due. absurd (p.fresh 1 (omega arith) left)));
+        turns = turns_binary words (live_refs words db.refs) x s (get_or ls 0 0) (get_or ls 1 0) first second y.turns;
+        levelled = y.levelled;
+        queue = y.queue;
+        ready = λ u lt none. elim (cases_Bool (may_pick q u)) [
+          | inl e ↦ inl e
+          | inr not ↦ elim (y.ready u lt none) [
+            | inl e ↦ inl e
+            | inr v ↦ inr (unused_binary words (live_refs words db.refs) x (get_or ls 0 0) (get_or ls 1 0) u first second (not_in s q ls u p none not 0 (omega arith)) (not_in s q ls u p none not 1 (omega arith)) v)
+          ]
+        ];
+      };
+      units = h.units;
+      base = h.base;
+    }
+
+-- the state where a variable has no value
+abbrev lost_value : ℕ → State → State
+lost_value v s = record s { values = set s.values v None }
+
+lost_true : (s : State) (v m : ℕ) → v < length s.values → IsTrueLit (lost_value v s).values m → (variable m ≢ v) × IsTrueLit s.values m
+lost_true s v m below h = elim (cases_eq (variable m) v) [
+  | inl e ↦ absurd (some_none h (ap (λ u. value_of (set s.values v None) u) e ∙ get_or-set_same s.values v None None below))
+  | inr n ↦ (n, sym (get_or-set_other s.values v (variable m) None None n) ∙ h)
+]
+
+-- (e) a variable that no clause has, with nothing on the trail, is given up
+pub sound_freed : (words : List ℕ) (db : Db) (w : Watching) (b : Binaries) (a : Values) (g : List ImplNode) (t : Trailed) (q : Queue) (v : ℕ) →
+    IsSound words db w b a g t q → t.starts ≡ [] → t.lits ≡ [] → v < length a.current → IsUnused words (live_refs words db.refs) b.implied v →
+    IsSound words db w b (assigned v None a) g t (with_available v false q)
+sound_freed words db w b a g t q v h bottom empty below unused =
+    let s : State = state_of a g t in
+    let s' : State = lost_value v (state_of a g t) in
+    let y : IsSoundBelow words db w b a g t q (length t.starts + 1) = h.below in
+    let old : Agrees (state_of a g t) = y.asks.agrees in
+    let none : length t.lits ≡ 0 = ap (λ (xs : List ℕ). length xs) empty in
+    let size : length (set a.current v None) ≡ length a.current = length-set a.current v None in
+    let kept : (m : ℕ) → variable m ≢ v → IsTrueLit a.current m → IsTrueLit (lost_value v (state_of a g t)).values m = λ m n holds. get_or-set_other a.current v (variable m) None None n ∙ holds in
+    let agrees : Agrees (lost_value v (state_of a g t)) = record {
+      trail = old.trail;
+      nodes = old.nodes ∙ sym size;
+      room = omega (arith, old.room);
+      holds = λ i lt. absurd (omega arith);
+      depths = λ i lt. absurd (omega arith);
+      levels = λ i lt. absurd (omega arith);
+      known = λ m holds. elim (old.known m (lost_true s v m below holds).1) [
+        | inl x ↦ absurd (omega (arith, x.within))
+        | inr x ↦ inr (record { holds = holds; depth = x.depth; bottom = x.bottom })
+      ];
+    } in
+    let left : (m : ℕ) → HasLeft (lost_value v (state_of a g t)) m → HasLeft s m = λ m x. elim x [
+      | inl z ↦ absurd (omega (arith, z.within))
+      | inr z ↦ inr (record { holds = (lost_true s v m below z.holds).1; depth = z.depth; bottom = z.bottom })
+    ] in
+    record {
+      below = record {
+        held = y.held;
+        asks = record {
+          laid = y.asks.laid;
+          clauses = subst (λ (k : ℕ). AreClauses words (live_refs words db.refs) k) (sym size) y.asks.clauses;
+          room = y.asks.room ∙ ap (λ k. 2 * k) (sym size);
+          watches = λ on. subst (λ (k : ℕ). AreWatched words (live_refs words db.refs) w.lists k) (sym size) (y.asks.watches on);
+          agrees = agrees;
+          queue = λ i le lt. absurd (omega arith);
+          firsts = λ i o lt e. absurd (omega arith);
+          settled = λ o i c hi x d.
+              let z : IsSatisfied s (lits_at words o) (level s (negated (lit_of words o i))) = y.asks.settled o i c hi (left (negated (lit_of words o i)) x) d in
+              record { place = z.place; within = z.within; holds = kept (get_or (lits_at words o) z.place 0) (unused.long o z.place c z.within) z.holds; low = z.low };
+          ranges = subst (λ (k : ℕ). AreLists b.implied k) (sym size) y.asks.ranges;
+          binary = λ l k x d lt.
+              let z = y.asks.binary l k (left l x) d lt in
+              (kept (get_or (implied_by b.implied l) k 0) (unused.binary l k lt).1 z.0, z.1);
+        };
+        turns = λ i le lt. absurd (omega arith);
+        levelled = levels_stay.none s' bottom;
+        queue = length-set q.available v false ∙ y.queue ∙ sym size;
+        ready = λ u lt open_u. elim (cases_eq u v) [
+          | inl e ↦ inr (subst (λ z. IsUnused words (live_refs words db.refs) b.implied z) (sym e) unused)
+          | inr n ↦ elim (y.ready u (omega arith) (sym (get_or-set_other a.current v u None None n) ∙ open_u)) [
+            | inl p ↦ inl (get_or-set_other q.available v u false false n ∙ p)
+            | inr z ↦ inr z
+          ]
+        ];
+      };
+      units = λ i lt. absurd (omega arith);
+      base = h.base;
+    }
+
+-- more variables may be picked
+pub sound_picked : (words : List ℕ) (db : Db) (w : Watching) (b : Binaries) (a : Values) (g : List ImplNode) (t : Trailed) (q : Queue) (v : ℕ) → IsSound words db w b a g t q → IsSound words db w b a g t (with_available v true q)
+sound_picked words db w b a g t q v h =
+    let y : IsSoundBelow words db w b a g t q (length t.starts + 1) = h.below in
+    record {
+      below = record {
+        held = y.held;
+        asks = y.asks;
+        turns = y.turns;
+        levelled = y.levelled;
+        queue = length-set q.available v true ∙ y.queue;
+        ready = λ u lt none. elim (y.ready u lt none) [ inl p ↦ inl (pick_set q v u p) | inr z ↦ inr z ];
+      };
+      units = h.units;
+      base = h.base;
+    }

@@ -1,0 +1,100 @@
+-- Propagation keeps what holds between rounds.
+use Rattle.std.proofs.Common.{ℕ, ◌≡◌, ◌+◌, ◌<◌, inl, inr, List, length, get_or, sym, ap, ◌∙◌, subst, arith, None, Result, Ok, Err}
+use Rattle.std.specs.Prelude.{MatchResult}
+use Rattle.std.proofs.lemmas.Bool.{cases_lt}
+use Rattle.std.specs.List.{Contains}
+use Rattle.sat_base.specs.values.Literals.{variable}
+use Rattle.sat_store.specs.heap.Vsids.{Queue}
+use Rattle.sat_parts.specs.declared.prop.graph.ImplNode.{ImplNode}
+use Rattle.sat_parts.specs.declared.prop.graph.Conflict.{Conflict}
+use Rattle.sat_parts.specs.clause.Orders.{Kept}
+use Rattle.sat_parts.specs.clause.Db.{Db, HoldsDb, live_refs}
+use Rattle.sat_parts.specs.prop.Binaries.{Binaries}
+use Rattle.sat_parts.specs.prop.Values.{Values, value_of}
+use Rattle.sat_parts.specs.prop.Trails.{Trailed, LevelIs}
+use Rattle.sat_parts.specs.prop.WatchLists.{Watching}
+use Rattle.sat_parts.specs.prop.State.{State, node, level, lit_at, Agrees, Grows}
+use Rattle.sat_parts.specs.prop.Reasons.{AreInTurn, Moves}
+use Rattle.sat_parts.specs.prop.Ready.{state_of, IsConflict}
+use Rattle.sat_parts.specs.prop.Asks.{PropagationInvariant, PropagationResult}
+use Rattle.sat_parts.proofs.lemmas.prop.BuildLemmas.{live_in}
+use Rattle.sat_parts.proofs.lemmas.prop.WordLemmas.{levels_stay}
+use Rattle.sat_parts.proofs.lemmas.clause.HeldLemmas.{held_reordered}
+use Rattle.sat_parts.specs.parts.Round.{AreReady, AreUnits, IsBased, IsSoundBelow}
+use Rattle.sat_parts.proofs.lemmas.parts.ValueLemmas.{open_or_true, not_true}
+
+-- what is open after a piece of propagation was open before
+pub open_back : (s s' : State) (v : ℕ) → Grows s s' → value_of s'.values v ≡ None → value_of s.values v ≡ None
+open_back s s' v g none = elim (open_or_true s.values v) [
+  | inl e ↦ e
+  | inr x ↦ absurd (not_true s'.values v x.0 none x.1.0 (g.kept x.0 x.1.1))
+]
+
+ready_moved : (words words' refs : List ℕ) (implied : List (List ℕ)) (s s' : State) (q : Queue) → Moves (live_refs words refs) implied words s words' s' → Kept words words' refs →
+    live_refs words' refs ≡ live_refs words refs → AreReady words (live_refs words refs) implied s.values q → AreReady words' (live_refs words' refs) implied s'.values q
+ready_moved words words' refs implied s s' q m kept e h v b none = elim (h v (omega (arith, m.grows.size)) (open_back s s' v m.grows none)) [
+  | inl p ↦ inl p
+  | inr u ↦ inr (record {
+    long = λ o k c lt same.
+        let d : Contains (live_refs words refs) o = subst (λ (xs : List ℕ). Contains xs o) e c in
+        let x = kept.lits o (live_in words refs o d) in
+        let j = x.back k (omega (arith, x.size)) in
+        u.long o j.0 d j.1.0 (ap (λ l. variable l) j.1.1 ∙ same);
+    binary = u.binary;
+  })
+]
+
+pub sound_moved : (words words' : List ℕ) (db : Db) (w w' : Watching) (b : Binaries) (a a' : Values) (g g' : List ImplNode) (t t' : Trailed) (q : Queue) (top top' : ℕ) →
+    IsSoundBelow words db w b a g t q top → HoldsDb words' db → Moves (live_refs words db.refs) b.implied words (state_of a g t) words' (state_of a' g' t') →
+    live_refs words' db.refs ≡ live_refs words db.refs → PropagationInvariant words' db.refs w' b.implied (state_of a' g' t') top' →
+    IsSoundBelow words' db w' b a' g' t' q top'
+sound_moved words words' db w w' b a a' g g' t t' q top top' h held m e asks =
+    let s : State = state_of a g t in
+    let s' : State = state_of a' g' t' in
+    record {
+      held = held;
+      asks = asks;
+      turns = subst (λ (xs : List ℕ). AreInTurn words' xs b.implied s' 0) (sym e) (m.turns 0 (omega arith) h.turns);
+      levelled = levels_stay.moves words (live_refs words db.refs) words' b.implied s s' h.asks.agrees m h.levelled;
+      queue = h.queue ∙ sym m.grows.size;
+      ready = ready_moved words words' db.refs b.implied s s' q m (m.reorders.all db.refs (λ o c. live_in words db.refs o c) h.asks.laid) e h.ready;
+    }
+
+-- after Ok what holds between rounds and nothing in the queue, and after a conflict the same below the current level
+pub sound_propagated : (words words' : List ℕ) (db : Db) (w w' : Watching) (b : Binaries) (a a' : Values) (g g' : List ImplNode) (t t' : Trailed) (q : Queue) (r : Result (Unit {0}) Conflict) →
+    IsSoundBelow words db w b a g t q (length t.starts + 1) → PropagationResult db.refs b.implied words (state_of a g t) words' (state_of a' g' t') w' r →
+    MatchResult r (λ _. IsSoundBelow words' db w' b a' g' t' q (length t'.starts + 1))
+    (λ e. IsSoundBelow words' db w' b a' g' t' q (length t'.starts) × IsConflict words' (live_refs words' db.refs) b.implied a'.current e)
+sound_propagated words words' db w w' b a a' g g' t t' q (Ok x) h given =
+    sound_moved words words' db w w' b a a' g g' t t' q (length t.starts + 1) (length t'.starts + 1) h (held_reordered words words' db h.held given.moves.reorders) given.moves given.live given.outcome.0
+sound_propagated words words' db w w' b a a' g g' t t' q (Err x) h given = (
+  sound_moved words words' db w w' b a a' g g' t t' q (length t.starts + 1) (length t'.starts) h (held_reordered words words' db h.held given.moves.reorders) given.moves given.live given.outcome.0,
+  given.outcome.1,
+)
+
+pub agrees_given : (words words' refs : List ℕ) (implied : List (List ℕ)) (s s' : State) (w' : Watching) (r : Result (Unit {0}) Conflict) → PropagationResult refs implied words s words' s' w' r → Agrees s'
+agrees_given words words' refs implied s s' w' (Ok x) given = given.outcome.0.agrees
+agrees_given words words' refs implied s s' w' (Err x) given = given.outcome.0.agrees
+
+-- what the literals of level 0 are stays so above level 0
+pub base_given : (words words' refs : List ℕ) (implied : List (List ℕ)) (a a' : Values) (g g' : List ImplNode) (t t' : Trailed) (w' : Watching) (r : Result (Unit {0}) Conflict) →
+    PropagationResult refs implied words (state_of a g t) words' (state_of a' g' t') w' r → 0 < length t.starts → IsBased t → IsBased t'
+base_given words words' refs implied a a' g g' t t' w' r given some h =
+    let n : length t'.starts ≡ length t.starts = ap (λ (xs : List ℕ). length xs) given.moves.grows.starts in
+    record {
+      above = λ z. ap (λ (xs : List ℕ). get_or xs 0 0) given.moves.grows.starts ∙ h.above some;
+      bottom = λ e. absurd (omega arith);
+    }
+
+-- above level 0 propagation leaves the literals of level 0 as they are
+pub units_moved : (live : List ℕ) (implied : List (List ℕ)) (words words' : List ℕ) (s s' : State) → Agrees s → Agrees s' → Moves live implied words s words' s' → 0 < length s.trail.starts → AreUnits s → AreUnits s'
+units_moved live implied words words' s s' h h' m some x i b e = elim (cases_lt i (length s.trail.lits)) [
+  | inl lt ↦
+      let same : node s' (lit_at s' i) ≡ node s (lit_at s i) = ap (λ l. node s' l) (m.grows.front i lt) ∙ m.grows.nodes (lit_at s i) (h.holds i lt) in
+      ap (λ (z : ImplNode). z.reason) same ∙ x i lt (sym (ap (λ (z : ImplNode). z.level) same) ∙ e)
+  | inr le ↦
+      let l : LevelIs s'.trail.starts i (level s' (lit_at s' i)) = h'.levels i b in
+      let n : length s'.trail.starts ≡ length s.trail.starts = ap (λ (xs : List ℕ). length xs) m.grows.starts in
+      let zero_there : get_or s'.trail.starts 0 0 ≡ get_or s.trail.starts 0 0 = ap (λ (xs : List ℕ). get_or xs 0 0) m.grows.starts in
+      absurd (omega (arith, l.not_begun 0 (omega arith) (omega arith), h.trail.levels.within 0 some))
+]

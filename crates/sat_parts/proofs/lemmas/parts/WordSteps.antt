@@ -1,0 +1,559 @@
+-- Words of trails since an ask began, from step to step.
+use Rattle.std.proofs.Common.{ℕ, ◌≡◌, ◌≢◌, ◌+◌, ◌-◌, ◌<◌, ◌≤◌, ◌⊎◌, inl, inr, List, [], ◌∷◌, ◌++◌, map, suc, zero, length, get_or, take, drop, refl, sym, ap, ◌∙◌, subst, arith, append_assoc, true, false, Some, None, Result, Ok, Err, ◌/◌, eqb, set, get_or-set_other, get_or-set_same, length-set}
+use Rattle.std.specs.Prelude.{replicate, OnOk, OnErr}
+use Rattle.sat_parts.specs.declared.prop.graph.Conflict.{Conflict}
+use Rattle.sat_store.specs.declared.clause.alloc.StoreError.{StoreError}
+use Rattle.sat_parts.specs.prop.Asks.{PropagationResult}
+use Rattle.sat_parts.specs.clause.Collected.{Collects, AllStay}
+use Rattle.sat_parts.proofs.lemmas.parts.MoveLemmas.{sound_propagated}
+use Rattle.std.specs.List.{Contains}
+use Rattle.std.proofs.lemmas.Bool.{cases_eq, cases_lt, ne_eqb, eqb-true, true≢false}
+use Rattle.std.proofs.lemmas.List.{length-take-le, take-append-drop, length-append, length-map, get_or-map, get_or_append_left, get_or-append_right, get_or-drop, length-drop}
+use Rattle.std.proofs.lemmas.Map.Keys.{IsDistinct-from_apart}
+use Rattle.std.proofs.lemmas.Map.Steps.{length-le_from_distinct_below}
+use Rattle.std.proofs.lemmas.Map.Views.{Contains-from_any}
+use Rattle.sat_base.specs.values.Literals.{variable, is_positive}
+use Rattle.sat_store.specs.heap.Vsids.{Queue, may_pick, with_available}
+use Rattle.sat_parts.specs.declared.prop.graph.ImplNode.{ImplNode}
+use Rattle.sat_parts.specs.declared.prop.graph.Reason.{Reason}
+use Rattle.sat_parts.specs.declared.prop.graph.Reason.TheVariants.{Unit as NoCause, Binary, Long}
+use Rattle.sat_parts.specs.clause.Db.{Db, live_refs}
+use Rattle.sat_parts.specs.clause.Orders.{AreDistinct, Kept}
+use Rattle.sat_parts.specs.clause.Stored.{size_of}
+use Rattle.sat_parts.specs.prop.Binaries.{Binaries}
+use Rattle.sat_parts.specs.prop.WatchLists.{Watching}
+use Rattle.sat_parts.specs.prop.Values.{Values, value_of, assigned, IsTrueLit, IsOpenLit}
+use Rattle.sat_parts.specs.prop.Graphs.{is_unit}
+use Rattle.sat_parts.specs.prop.Trails.{Trailed, with_lit, with_level, with_cleared, cut_to}
+use Rattle.sat_parts.specs.prop.State.{State, lit_at, Grows, Agrees, enqueued}
+use Rattle.sat_parts.specs.prop.Reasons.{Implies, Moves}
+use Rattle.sat_parts.specs.prop.Ready.{state_of}
+use Rattle.sat_parts.specs.prop.Undone.{undone_to, undone_lits, all_available}
+use Rattle.sat_parts.specs.prop.Backtracked.{KeepsLow}
+use Rattle.sat_parts.specs.prop.TrailWord.{Letter, D, P, letter, letters, IsBelow, IsLevelled, decided_on}
+use Rattle.sat_parts.proofs.lemmas.prop.WordLemmas.{words_rise}
+use Rattle.sat_parts.proofs.lemmas.prop.StateLemmas.{removed_forth, true_kept, node_kept}
+use Rattle.sat_parts.proofs.lemmas.prop.RoomLemmas.{places_apart, below_from_value}
+use Rattle.sat_parts.proofs.lemmas.prop.BacktrackLemmas.{keeps_low, undone_length}
+use Rattle.sat_parts.proofs.lemmas.prop.BuildLemmas.{live_in}
+use Rattle.sat_parts.specs.declared.parts.Parts.{Parts}
+use Rattle.sat_parts.specs.parts.Whole.{state}
+use Rattle.sat_parts.specs.parts.Round.{IsUnused, IsSoundBelow}
+use Rattle.sat_parts.specs.parts.Units.{removed}
+use Rattle.sat_parts.specs.parts.Words.{Begins, standing, IsIdle, IsGone, GoesOn, IsWord, WordExtends, WordRises, Words, TrailWordStays, TrailWordExtends, TrailWordRises, TrailWordExtendsFor, TrailWordRisesFor}
+use Rattle.sat_parts.proofs.lemmas.parts.ValueLemmas.{open_or_true, not_true}
+use Rattle.sat_parts.proofs.lemmas.parts.ClearLemmas.{all_removed, apart_removed}
+
+append_none : (u : List Letter) → u ++ [] ≡ u
+append_none [] = refl
+append_none (x ∷ u) = ap (λ (v : List Letter). x ∷ v) (append_none u)
+
+pub begins_refl : (u : List Letter) → Begins u u
+begins_refl u = ([], sym (append_none u))
+
+pub begins_trans : (u v w : List Letter) → Begins u v → Begins v w → Begins u w
+begins_trans u v w x y = (x.0 ++ y.0, y.1 ∙ ap (λ (z : List Letter). z ++ y.0) x.1 ∙ append_assoc u x.0 y.0)
+
+-- what begins a word is below what that is below of
+pub below_front : (u w z : List Letter) → IsBelow (u ++ w) z → IsBelow u z
+below_front [] [] [] h = h
+below_front [] [] (y ∷ z) h = tt
+below_front [] (x ∷ w) [] h = absurd h
+below_front [] (x ∷ w) (y ∷ z) h = tt
+below_front (x ∷ u) w [] h = h
+below_front (D ∷ u) w (D ∷ z) h = below_front u w z h
+below_front (D ∷ u) w (P ∷ z) h = tt
+below_front (P ∷ u) w (D ∷ z) h = h
+below_front (P ∷ u) w (P ∷ z) h = below_front u w z h
+
+-- the same letters before both
+below_behind : (k : ℕ) (u v : List Letter) → IsBelow u v → IsBelow (replicate k P ++ u) (replicate k P ++ v)
+below_behind zero u v h = h
+below_behind (suc k) u v h = below_behind k u v h
+
+begins_behind : (k : ℕ) (u v : List Letter) → Begins u v → Begins (replicate k P ++ u) (replicate k P ++ v)
+begins_behind k u v x = (x.0, ap (λ (z : List Letter). replicate k P ++ z) x.1 ∙ sym (append_assoc (replicate k P) u x.0))
+
+-- letters go by places alone
+letters_length : (starts xs ys : List ℕ) (at : ℕ) → length xs ≡ length ys → letters starts xs at ≡ letters starts ys at
+letters_length starts [] [] at e = refl
+letters_length starts [] (y ∷ ys) at e = absurd (omega arith)
+letters_length starts (x ∷ xs) [] at e = absurd (omega arith)
+letters_length starts (x ∷ xs) (y ∷ ys) at e = ap (λ (w : List Letter). letter starts at ∷ w) (letters_length starts xs ys (at + 1) (omega arith))
+
+letters_append : (starts xs ys : List ℕ) (at : ℕ) → letters starts (xs ++ ys) at ≡ letters starts xs at ++ letters starts ys (at + length xs)
+letters_append starts [] ys at = ap (λ n. letters starts ys n) (omega arith)
+letters_append starts (x ∷ xs) ys at =
+    ap (λ (w : List Letter). letter starts at ∷ w) (letters_append starts xs ys (at + 1) ∙ ap (λ n. letters starts xs (at + 1) ++ letters starts ys n) (omega arith))
+
+letters_count : (starts xs : List ℕ) (at : ℕ) → length (letters starts xs at) ≡ length xs
+letters_count starts [] at = refl
+letters_count starts (x ∷ xs) at = ap (λ n. suc n) (letters_count starts xs (at + 1))
+
+-- more literals of the same levels
+pub standing_grown : (s s' : State) → Grows s s' → Begins (standing s.trail) (standing s'.trail)
+standing_grown s s' g =
+    let n : ℕ = length s.trail.lits in
+    let starts : List ℕ = s.trail.starts in
+    let size : length (take (length s.trail.lits) s'.trail.lits) ≡ length s.trail.lits = length-take-le (length s.trail.lits) s'.trail.lits g.longer in
+    let rest : List Letter = letters starts (drop n s'.trail.lits) (0 + length (take n s'.trail.lits)) in (
+      rest,
+      ap (λ (xs : List ℕ). letters xs s'.trail.lits 0) g.starts ∙ ap (λ (xs : List ℕ). letters s.trail.starts xs 0) (sym (take-append-drop n s'.trail.lits))
+          ∙ letters_append starts (take n s'.trail.lits) (drop n s'.trail.lits) 0 ∙ ap (λ (w : List Letter). w ++ rest) (letters_length starts (take n s'.trail.lits) s.trail.lits 0 size),
+    )
+
+-- the state with nothing counted as cleared, whose word is that of its literals
+abbrev from_now : State → State
+from_now s = record s { trail = record s.trail { cleared = 0 } }
+
+levelled_now : (s : State) → IsLevelled s → IsLevelled (from_now s)
+levelled_now s x = record { strict = x.strict; begun = x.begun; decided = x.decided; caused = x.caused }
+
+pub standing_decided : (s : State) (l : ℕ) → IsLevelled s → Begins (standing s.trail) (standing (with_lit l (with_level s.trail)))
+standing_decided s l x = (D ∷ [], words_rise.decided (from_now s) l (levelled_now s x))
+
+pub standing_learned : (s : State) (l v : ℕ) → IsLevelled s → v < length s.trail.starts → IsBelow (standing s.trail) (standing (with_lit l (cut_to v s.trail)))
+standing_learned s l v x lt = words_rise.rises (from_now s) l v (levelled_now s x) lt
+
+-- what is gone has no literal on the trail
+gone_off : (am : List ℕ) → (s : State) (q : Queue) (v i : ℕ) → Agrees s → IsGone am s q v → i < length s.trail.lits → variable (lit_at s i) ≢ v
+gone_off am s q v i h x b e = elim x.1 [
+  | inl r ↦ apart_removed s r.0 i h r.1.1 b (e ∙ sym r.1.0)
+  | inr n ↦ not_true s.values v (lit_at s i) n.0 e (h.holds i b)
+]
+
+-- the variables of the trail, and those that are gone
+abbrev taken : State → List ℕ → List ℕ
+taken s gone = map (λ l. variable l) s.trail.lits ++ gone
+
+taken_length : (s : State) (gone : List ℕ) → length (taken s gone) ≡ length s.trail.lits + length gone
+taken_length s gone = length-append (map (λ l. variable l) s.trail.lits) gone ∙ ap (λ n. n + length gone) (length-map s.trail.lits (λ l. variable l))
+
+taken_front : (s : State) (gone : List ℕ) (i d : ℕ) → i < length s.trail.lits → get_or (taken s gone) i d ≡ variable (lit_at s i)
+taken_front s gone i d b =
+    get_or_append_left (map (λ l. variable l) s.trail.lits) gone d i (omega (arith, length-map s.trail.lits (λ l. variable l)))
+    ∙ get_or-map (λ l. variable l) s.trail.lits i 0 d b
+
+taken_back : (s : State) (gone : List ℕ) (i d : ℕ) → length s.trail.lits ≤ i → get_or (taken s gone) i d ≡ get_or gone (i - length s.trail.lits) d
+taken_back s gone i d b =
+    get_or-append_right (map (λ l. variable l) s.trail.lits) gone (length s.trail.lits) i d (length-map s.trail.lits (λ l. variable l)) b
+
+pub default_free : (xs : List ℕ) (i d e : ℕ) → i < length xs → get_or xs i d ≡ get_or xs i e
+default_free [] i d e b = absurd (omega arith)
+default_free (x ∷ xs) zero d e b = refl
+default_free (x ∷ xs) (suc i) d e b = default_free xs i d e (omega arith)
+
+-- each of them once
+taken_distinct : (am : List ℕ) → (s : State) (q : Queue) (gone : List ℕ) → Agrees s → AreDistinct gone → ((k : ℕ) → k < length gone → IsGone am s q (get_or gone k 0)) → AreDistinct (taken s gone)
+taken_distinct am s q gone h distinct each i j p r e =
+    let n : length (taken s gone) ≡ length s.trail.lits + length gone = taken_length s gone in
+    elim (cases_lt i (length s.trail.lits)) [
+      | inl a ↦ elim (cases_lt j (length s.trail.lits)) [
+        | inl b ↦ places_apart s i j h a b (sym (taken_front s gone i 0 a) ∙ e ∙ taken_front s gone j 0 b)
+        | inr b ↦ absurd (gone_off am s q (get_or gone (j - length s.trail.lits) 0) i h (each (j - length s.trail.lits) (omega arith)) a (sym (taken_front s gone i 0 a) ∙ e ∙ taken_back s gone j 0 b))
+      ]
+      | inr a ↦ elim (cases_lt j (length s.trail.lits)) [
+        | inl b ↦ absurd (gone_off am s q (get_or gone (i - length s.trail.lits) 0) j h (each (i - length s.trail.lits) (omega arith)) b (sym (taken_front s gone j 0 b) ∙ sym e ∙ taken_back s gone i 0 a))
+        | inr b ↦
+            let same : i - length s.trail.lits ≡ j - length s.trail.lits = distinct (i - length s.trail.lits) (j - length s.trail.lits) (omega arith) (omega arith) (sym (taken_back s gone i 0 a) ∙ e ∙ taken_back s gone j 0 b) in
+            omega arith
+      ]
+    ]
+
+taken_there : (am : List ℕ) → (s : State) (q : Queue) (gone : List ℕ) (i : ℕ) → Agrees s → ((k : ℕ) → k < length gone → IsGone am s q (get_or gone k 0)) → i < length (taken s gone) → get_or (taken s gone) i 0 < length s.values
+taken_there am s q gone i h each b =
+    let n : length (taken s gone) ≡ length s.trail.lits + length gone = taken_length s gone in
+    elim (cases_lt i (length s.trail.lits)) [
+      | inl a ↦ subst (λ (z : ℕ). z < length s.values) (sym (taken_front s gone i 0 a)) (below_from_value s.values (variable (lit_at s i)) (is_positive (lit_at s i)) (h.holds i a))
+      | inr a ↦ subst (λ (z : ℕ). z < length s.values) (sym (taken_back s gone i 0 a)) (each (i - length s.trail.lits) (omega arith)).0
+    ]
+
+-- different numbers below a bound are no more than the bound
+pub fits_below : (xs : List ℕ) (n : ℕ) → AreDistinct xs → ((i : ℕ) → i < length xs → get_or xs i 0 < n) → length xs ≤ n
+fits_below xs n distinct below =
+    length-le_from_distinct_below xs n
+    (IsDistinct-from_apart eqb xs (λ i j d lt b. ne_eqb (get_or xs i d) (get_or xs j d) (λ e.
+    let same : i ≡ j = distinct i j (omega arith) b (default_free xs i 0 d (omega arith) ∙ e ∙ default_free xs j d 0 b) in
+    omega arith)))
+    (λ q any.
+    let c : Contains xs q = Contains-from_any {eq = eqb} (λ x y e. eqb-true x y e) q xs any in
+    subst (λ (z : ℕ). z < n) (default_free xs c.0 0 q c.1 ∙ c.2) (below c.0 c.1))
+
+-- a word has at most a letter for each variable
+pub word_fits : (am : List ℕ) → (s : State) (q : Queue) (w : List Letter) → Agrees s → IsWord am s q w → length w ≤ length s.values
+word_fits am s q w h x =
+    let n : length (taken s x.gone) ≡ length s.trail.lits + length x.gone = taken_length s x.gone in
+    let all : length (taken s x.gone) ≤ length s.values = fits_below (taken s x.gone) (length s.values) (taken_distinct am s q x.gone h x.distinct x.each) (λ i b. taken_there am s q x.gone i h x.each b) in
+    omega (arith, ap (λ (v : List Letter). length v) x.is, length-append (replicate (length x.gone) P) (standing s.trail), count_of (length x.gone), letters_count s.trail.starts s.trail.lits 0)
+  where
+    count_of : (k : ℕ) → length (replicate k P) ≡ k
+    count_of zero = refl
+    count_of (suc k) = ap (λ n. suc n) (count_of k)
+
+-- what is gone goes on where a literal of another variable becomes true, which may be picked
+module _ (am : List ℕ) (s : State) (q : Queue) (l : ℕ) (r : Reason) (unset : IsOpenLit s.values l) (picks : (may_pick q (variable l) ≡ true) ⊎ Contains am (variable l)) where
+  idle_enqueued : (v : ℕ) → IsIdle am s q v → IsIdle am (enqueued l r s) q v
+  idle_enqueued v y =
+      let other : v ≢ variable l = λ e. elim picks [
+        | inl p ↦ true≢false (sym (ap (λ u. may_pick q u) e ∙ p) ∙ y.1)
+        | inr c ↦ y.2 (subst (λ u. Contains am u) (sym e) c)
+      ] in
+      (get_or-set_other s.values (variable l) v (Some (is_positive l)) None other ∙ y.0, y.1, y.2)
+
+  pub gone_enqueued : GoesOn am s q (enqueued l r s) q
+  gone_enqueued = record {
+    size = length-set s.values (variable l) (Some (is_positive l));
+    gone = λ v x. (
+      omega (arith, x.0, length-set s.values (variable l) (Some (is_positive l))),
+      elim x.1 [
+        | inl y ↦ inl (
+          y.0,
+          (
+            y.1.0,
+            record {
+              holds = true_kept s l y.0 r unset y.1.1.holds;
+              depth = ap (λ (z : ImplNode). z.depth) (node_kept s l y.0 r unset y.1.1.holds) ∙ y.1.1.depth;
+              bottom = ap (λ (z : ImplNode). z.level) (node_kept s l y.0 r unset y.1.1.holds) ∙ y.1.1.bottom;
+            },
+          ),
+        )
+        | inr y ↦ inr (idle_enqueued v y)
+      ],
+    );
+    idle = idle_enqueued;
+  }
+
+-- the same where the variable was picked
+pub gone_decided : (am : List ℕ) → (s : State) (q q' : Queue) (l : ℕ) → IsOpenLit s.values l → (may_pick q (variable l) ≡ true) ⊎ Contains am (variable l) → ((u : ℕ) → may_pick q u ≡ false → may_pick q' u ≡ false) → GoesOn am s q (decided_on l s) q'
+gone_decided am s q q' l unset picks less =
+    let f : GoesOn am (record s { trail = with_level s.trail }) q (decided_on l s) q = gone_enqueued am (record s { trail = with_level s.trail }) q l NoCause unset picks in
+    record {
+      size = f.size;
+      gone = λ v x.
+          let y : IsGone am (decided_on l s) q v = f.gone v (
+            x.0,
+            elim x.1 [
+              | inl z ↦ inl (z.0, (z.1.0, record { holds = z.1.1.holds; depth = z.1.1.depth; bottom = z.1.1.bottom }))
+              | inr z ↦ inr z
+            ],
+          ) in
+          (y.0, elim y.1 [ inl z ↦ inl z | inr z ↦ inr (z.0, less v z.1, z.2) ]);
+      idle = λ v x. (let z : IsIdle am (decided_on l s) q v = f.idle v x in (z.0, less v z.1, z.2));
+    }
+
+-- a variable that no clause has isn't made true by a clause
+implied_used : (words live : List ℕ) (implied : List (List ℕ)) (s : State) (i : ℕ) (r : Reason) → is_unit r ≡ false → ((o : ℕ) → Contains live o → 3 ≤ size_of words o) → Implies words live implied s i r →
+    IsUnused words live implied (variable (lit_at s i)) → ⊥
+implied_used words live implied s i NoCause clause sizes h u = true≢false clause
+implied_used words live implied s i (Binary ls) clause sizes h u = (u.binary _ h.0.0 h.0.1).1 (ap (λ l. variable l) (default_free _ h.0.0 0 _ h.0.1 ∙ h.0.2))
+implied_used words live implied s i (Long o) clause sizes h u = u.long o 0 h.0 (omega (arith, sizes o h.0)) (ap (λ l. variable l) h.1)
+
+unused_moved : (words words' refs : List ℕ) (implied : List (List ℕ)) (v : ℕ) → Kept words words' refs → live_refs words' refs ≡ live_refs words refs →
+    IsUnused words (live_refs words refs) implied v → IsUnused words' (live_refs words' refs) implied v
+unused_moved words words' refs implied v kept e u = record {
+  long = λ o k c lt same.
+      let d : Contains (live_refs words refs) o = subst (λ (xs : List ℕ). Contains xs o) e c in
+      let x = kept.lits o (live_in words refs o d) in
+      let j = x.back k (omega (arith, x.size)) in
+      u.long o j.0 d j.1.0 (ap (λ l. variable l) j.1.1 ∙ same);
+  binary = u.binary;
+}
+
+-- what is gone goes on through propagation
+pub gone_moved : (am : List ℕ) → (words words' : List ℕ) (db : Db) (w w' : Watching) (b : Binaries) (a a' : Values) (g g' : List ImplNode) (t t' : Trailed) (q : Queue) (top top' : ℕ) →
+    IsSoundBelow words db w b a g t q top → IsSoundBelow words' db w' b a' g' t' q top' → Moves (live_refs words db.refs) b.implied words (state_of a g t) words' (state_of a' g' t') →
+    live_refs words' db.refs ≡ live_refs words db.refs → GoesOn am (state_of a g t) q (state_of a' g' t') q
+gone_moved am words words' db w w' b a a' g g' t t' q top top' h h' m e = record {
+  size = m.grows.size;
+  gone = λ v x. (
+    omega (arith, x.0, m.grows.size),
+    elim x.1 [
+      | inl y ↦ inl (y.0, (y.1.0, removed_forth s s' y.0 m.grows y.1.1))
+      | inr y ↦ inr (idle v y)
+    ],
+  );
+  idle = idle;
+}
+  where
+    s : State
+    s = state_of a g t
+
+    s' : State
+    s' = state_of a' g' t'
+
+    found : (v : ℕ) → v < length a.current → value_of a.current v ≡ None → may_pick q v ≡ false → (l : ℕ) → variable l ≡ v → IsTrueLit a'.current l → ⊥
+    found v there none shut l at holds = elim (h'.asks.agrees.known l holds) [
+      | inl y ↦ elim (cases_lt y.place (length t.lits)) [
+        | inl lt ↦ not_true a.current v (lit_at (state_of a g t) y.place) none (ap (λ z. variable z) (sym (m.grows.front y.place lt) ∙ y.there) ∙ at) (h.asks.agrees.holds y.place lt)
+        | inr ge ↦ elim (h.ready v there none) [
+          | inl p ↦ true≢false (sym p ∙ shut)
+          | inr u ↦
+              let place : variable (lit_at (state_of a' g' t') y.place) ≡ v = ap (λ z. variable z) y.there ∙ at in
+              implied_used words' (live_refs words' db.refs) b.implied (state_of a' g' t') y.place _ (m.caused y.place ge y.within).1 h'.asks.clauses.long (h'.turns y.place (omega arith) y.within)
+              (subst (λ z. IsUnused words' (live_refs words' db.refs) b.implied z) (sym place)
+              (unused_moved words words' db.refs b.implied v (m.reorders.all db.refs (λ o c. live_in words db.refs o c) h.asks.laid) e u))
+        ]
+      ]
+      | inr r ↦ not_true a.current v l none at (m.grows.removed l r).holds
+    ]
+
+    idle : (v : ℕ) → IsIdle am (state_of a g t) q v → IsIdle am (state_of a' g' t') q v
+    idle v y = (
+      elim (open_or_true a'.current v) [
+        | inl none ↦ none
+        | inr z ↦
+            let there : variable z.0 < length a'.current = below_from_value a'.current (variable z.0) (is_positive z.0) z.1.1 in
+            absurd (found v (subst (λ n. v < n) m.grows.size (subst (λ u. u < length a'.current) z.1.0 there)) y.0 y.1 z.0 z.1.0 z.1.1)
+      ],
+      y.1,
+      y.2,
+    )
+
+available_other : (ls : List ℕ) (q : Queue) (v : ℕ) → ((k : ℕ) → k < length ls → variable (get_or ls k 0) ≢ v) → may_pick (all_available ls q) v ≡ may_pick q v
+available_other [] q v h = refl
+available_other (l ∷ ls) q v h =
+    available_other ls (with_available (variable l) true q) v (λ k b. h (suc k) (omega arith)) ∙ get_or-set_other q.available (variable l) v true false (λ e. h 0 (omega arith) (sym e))
+
+-- where levels are undone
+pub gone_undone : (am : List ℕ) → (top : ℕ) (a : Values) (g : List ImplNode) (t : Trailed) (q : Queue) → Agrees (state_of a g t) → top < length t.starts →
+    GoesOn am (state_of a g t) q (state_of (undone_to top t a) g (cut_to top t)) (all_available (undone_lits top t) q)
+gone_undone am top a g t q h lt = record {
+  size = undone_length (undone_lits top t) a;
+  gone = λ v x. (
+    omega (arith, x.0, undone_length (undone_lits top t) a),
+    elim x.1 [
+      | inl y ↦ inl (y.0, (y.1.0, k.removed_kept y.0 y.1.1))
+      | inr y ↦ inr (idle v y)
+    ],
+  );
+  idle = idle;
+}
+  where
+    k : KeepsLow top (state_of a g t) (state_of (undone_to top t a) g (cut_to top t))
+    k = keeps_low top a g t h lt
+
+    idle : (v : ℕ) → IsIdle am (state_of a g t) q v → IsIdle am (state_of (undone_to top t a) g (cut_to top t)) (all_available (undone_lits top t) q) v
+    idle v y = (
+      elim (open_or_true (undone_to top t a).current v) [
+        | inl none ↦ none
+        | inr z ↦ absurd (not_true a.current v z.0 y.0 z.1.0 (k.true_kept z.0 z.1.1))
+      ],
+      available_other (undone_lits top t) q v (λ i b e.
+          let at : get_or (drop (get_or t.starts top 0) t.lits) i 0 ≡ get_or t.lits (get_or t.starts top 0 + i) 0 = get_or-drop (get_or t.starts top 0) t.lits i 0 in
+          let size : length (drop (get_or t.starts top 0) t.lits) ≡ length t.lits - get_or t.starts top 0 = length-drop (get_or t.starts top 0) t.lits in
+          not_true a.current v (get_or t.lits (get_or t.starts top 0 + i) 0) y.0 (ap (λ l. variable l) (sym at) ∙ e) (h.holds (get_or t.starts top 0 + i) (omega arith)))
+          ∙ y.1,
+      y.2,
+    )
+
+-- where units are taken off the trail
+gone_cleared : (am : List ℕ) → (a : Values) (g : List ImplNode) (t : Trailed) (q : Queue) → Agrees (state_of a g t) → GoesOn am (state_of a g t) q (state_of a (removed t.lits g) (with_cleared t)) q
+gone_cleared am a g t q h = record {
+  size = refl;
+  gone = λ v x. (
+    x.0,
+    elim x.1 [
+      | inl y ↦ inl (y.0, (y.1.0, all_removed a g t y.0 h y.1.1.holds))
+      | inr y ↦ inr y
+    ],
+  );
+  idle = λ v y. y;
+}
+
+pub word_goes : (am : List ℕ) → (s : State) (q : Queue) (s' : State) (q' : Queue) → GoesOn am s q s' q' → Begins (standing s.trail) (standing s'.trail) → WordExtends am s q s' q'
+word_goes am s q s' q' stay more = (
+  stay,
+  λ w x. (
+    replicate (length x.gone) P ++ standing s'.trail,
+    (
+      record { gone = x.gone; distinct = x.distinct; each = λ k b. stay.gone (get_or x.gone k 0) (x.each k b); is = refl },
+      subst (λ (u : List Letter). Begins u (replicate (length x.gone) P ++ standing s'.trail)) (sym x.is) (begins_behind (length x.gone) (standing s.trail) (standing s'.trail) more),
+    ),
+  ),
+)
+
+pub word_rises : (am : List ℕ) → (s : State) (q : Queue) (s' : State) (q' : Queue) → GoesOn am s q s' q' → IsBelow (standing s.trail) (standing s'.trail) → WordRises am s q s' q'
+word_rises am s q s' q' stay more = (
+  stay,
+  λ w x. (
+    replicate (length x.gone) P ++ standing s'.trail,
+    (
+      record { gone = x.gone; distinct = x.distinct; each = λ k b. stay.gone (get_or x.gone k 0) (x.each k b); is = refl },
+      subst (λ (u : List Letter). IsBelow u (replicate (length x.gone) P ++ standing s'.trail)) (sym x.is) (below_behind (length x.gone) (standing s.trail) (standing s'.trail) more),
+    ),
+  ),
+)
+
+all_pushed : (lits : List ℕ) (at : ℕ) → letters [] lits at ≡ replicate (length lits) P
+all_pushed [] at = refl
+all_pushed (l ∷ ls) at = ap (λ (w : List Letter). P ∷ w) (all_pushed ls (at + 1))
+
+replicate_sum : (m n : ℕ) → replicate (m + n) P ≡ replicate m P ++ replicate n P
+replicate_sum zero n = ap (λ k. replicate k P) (omega arith)
+replicate_sum (suc m) n = ap (λ k. replicate k P) (let e : suc m + n ≡ suc (m + n) = omega arith in e) ∙ ap (λ (w : List Letter). P ∷ w) (replicate_sum m n)
+
+-- units that are taken off the trail leave the word as it is
+pub word_cleared : (am : List ℕ) → (a : Values) (g : List ImplNode) (t : Trailed) (q : Queue) → Agrees (state_of a g t) → t.starts ≡ [] →
+    WordExtends am (state_of a g t) q (state_of a (removed t.lits g) (with_cleared t)) q
+word_cleared am a g t q h e = (
+  gone_cleared am a g t q h,
+  λ w x.
+      let s : State = state_of a g t in
+      let s' : State = state_of a (removed t.lits g) (with_cleared t) in
+      let n : length (taken (state_of a g t) x.gone) ≡ length t.lits + length x.gone = taken_length (state_of a g t) x.gone in (
+        w,
+        (
+          record {
+            gone = taken s x.gone;
+            distinct = taken_distinct am s q x.gone h x.distinct x.each;
+            each = λ k b. elim (cases_lt k (length t.lits)) [
+              | inl lt ↦ subst (λ z. IsGone am (state_of a (removed t.lits g) (with_cleared t)) q z) (sym (taken_front (state_of a g t) x.gone k 0 lt)) (
+                below_from_value a.current (variable (get_or t.lits k 0)) (is_positive (get_or t.lits k 0)) (h.holds k lt),
+                inl (get_or t.lits k 0, (refl, all_removed a g t (get_or t.lits k 0) h (h.holds k lt))),
+              )
+              | inr ge ↦ subst (λ z. IsGone am (state_of a (removed t.lits g) (with_cleared t)) q z) (sym (taken_back (state_of a g t) x.gone k 0 ge))
+                  ((gone_cleared am a g t q h).gone (get_or x.gone (k - length t.lits) 0) (x.each (k - length t.lits) (omega arith)))
+            ];
+            is = x.is ∙ ap (λ (xs : List ℕ). replicate (length x.gone) P ++ letters xs t.lits 0) e ∙ ap (λ (u : List Letter). replicate (length x.gone) P ++ u) (all_pushed t.lits 0)
+                ∙ sym (replicate_sum (length x.gone) (length t.lits)) ∙ ap (λ k. replicate k P) (let d : length x.gone + length t.lits ≡ length (taken (state_of a g t) x.gone) = omega arith in d)
+                ∙ sym (append_none (replicate (length (taken (state_of a g t) x.gone)) P));
+          },
+          begins_refl w,
+        ),
+      ),
+)
+
+-- as an ask begins, nothing is taken off yet
+pub word_begins : (am : List ℕ) (p : Parts) → Words am p (standing p.trail)
+word_begins am p = record { gone = []; distinct = λ i j a b e. absurd (omega arith); each = λ k b. absurd (omega arith); is = refl }
+
+pub goes_refl : (am : List ℕ) → (s : State) (q : Queue) → GoesOn am s q s q
+goes_refl am s q = record { size = refl; gone = λ v x. x; idle = λ v x. x }
+
+pub goes_trans : (am : List ℕ) → (s : State) (q : Queue) (s' : State) (q' : Queue) (s'' : State) (q'' : Queue) → GoesOn am s q s' q' → GoesOn am s' q' s'' q'' → GoesOn am s q s'' q''
+goes_trans am s q s' q' s'' q'' x y = record { size = y.size ∙ x.size; gone = λ v z. y.gone v (x.gone v z); idle = λ v z. y.idle v (x.idle v z) }
+
+pub extends_refl : (p : Parts) → TrailWordExtends p p
+extends_refl p am = (goes_refl am (state p) p.vsids, λ w x. (w, (x, begins_refl w)))
+
+pub extends_after : (am : List ℕ) (p q r : Parts) → TrailWordExtendsFor am p q → TrailWordExtendsFor am q r → TrailWordExtendsFor am p r
+extends_after am p q r x y = (
+  goes_trans am (state p) p.vsids (state q) q.vsids (state r) r.vsids x.0 y.0,
+  λ w h.
+      let a = x.1 w h in
+      let b = y.1 a.0 a.1.0 in
+      (b.0, (b.1.0, begins_trans w a.0 b.0 a.1.1 b.1.1)),
+)
+
+pub extends_trans : (p q r : Parts) → TrailWordExtends p q → TrailWordExtends q r → TrailWordExtends p r
+extends_trans p q r x y am = extends_after am p q r (x am) (y am)
+
+-- parts whose word is extended before it rises
+pub rises_after : (am : List ℕ) (p q r : Parts) → TrailWordExtendsFor am p q → TrailWordRisesFor am q r → TrailWordRisesFor am p r
+rises_after am p q r x y = (
+  goes_trans am (state p) p.vsids (state q) q.vsids (state r) r.vsids x.0 y.0,
+  λ w h.
+      let a = x.1 w h in
+      let b = y.1 a.0 a.1.0 in
+      (b.0, (b.1.0, below_front w a.1.1.0 b.0 (subst (λ (u : List Letter). IsBelow u b.0) a.1.1.1 b.1.1))),
+)
+
+-- fewer variables may be picked
+pub extends_fewer : (am : List ℕ) → (s : State) (q q' : Queue) → ((u : ℕ) → may_pick q u ≡ false → may_pick q' u ≡ false) → WordExtends am s q s q'
+extends_fewer am s q q' less =
+    word_goes am s q s q' (record {
+      size = refl;
+      gone = λ v x. (x.0, elim x.1 [ inl y ↦ inl y | inr y ↦ inr (y.0, less v y.1, y.2) ]);
+      idle = λ v y. (y.0, less v y.1, y.2);
+    }) (begins_refl (standing s.trail))
+
+pub extends_decided : (am : List ℕ) → (s : State) (q q' : Queue) (l : ℕ) → IsOpenLit s.values l → (may_pick q (variable l) ≡ true) ⊎ Contains am (variable l) → ((u : ℕ) → may_pick q u ≡ false → may_pick q' u ≡ false) → IsLevelled s → WordExtends am s q (decided_on l s) q'
+extends_decided am s q q' l unset picks less levels = word_goes am s q (decided_on l s) q' (gone_decided am s q q' l unset picks less) (standing_decided s l levels)
+
+pub extends_propagated : (am : List ℕ) → (words words' : List ℕ) (db : Db) (w w' : Watching) (b : Binaries) (a a' : Values) (g g' : List ImplNode) (t t' : Trailed) (q : Queue) (r : Result (Unit {0}) Conflict) →
+    IsSoundBelow words db w b a g t q (length t.starts + 1) → PropagationResult db.refs b.implied words (state_of a g t) words' (state_of a' g' t') w' r →
+    WordExtends am (state_of a g t) q (state_of a' g' t') q
+extends_propagated am words words' db w w' b a a' g g' t t' q (Ok x) h given =
+    let h' : IsSoundBelow words' db w' b a' g' t' q (length t'.starts + 1) = sound_propagated words words' db w w' b a a' g g' t t' q (Ok x) h given in
+    word_goes am (state_of a g t) q (state_of a' g' t') q (gone_moved am words words' db w w' b a a' g g' t t' q (length t.starts + 1) (length t'.starts + 1) h h' given.moves given.live)
+    (standing_grown (state_of a g t) (state_of a' g' t') given.moves.grows)
+extends_propagated am words words' db w w' b a a' g g' t t' q (Err x) h given =
+    let h' = sound_propagated words words' db w w' b a a' g g' t t' q (Err x) h given in
+    word_goes am (state_of a g t) q (state_of a' g' t') q (gone_moved am words words' db w w' b a a' g g' t t' q (length t.starts + 1) (length t'.starts) h h'.0 given.moves given.live)
+    (standing_grown (state_of a g t) (state_of a' g' t') given.moves.grows)
+
+-- a collection
+pub extends_collect : (am : List ℕ) → (words words' : List ℕ) (db db' : Db) (w w' : Watching) (a : Values) (g g' : List ImplNode) (t : Trailed) (q : Queue) (r : Result (Unit {0}) StoreError) →
+    (length words / 2 < db.garbage → OnOk r (Collects words db g t.lits words' db' g')) → (db.garbage ≤ length words / 2 → AllStay words db g w words' db' g' w') → OnErr r (AllStay words db g w words' db' g' w') →
+    WordExtends am (state_of a g t) q (state_of a g' t) q
+extends_collect am words words' db db' w w' a g g' t q (Ok x) due not_due same = elim (cases_lt (length words / 2) db.garbage) [
+  | inl lt ↦
+      let c : Collects words db g t.lits words' db' g' = due lt in
+      word_goes am (state_of a g t) q (state_of a g' t) q (record {
+        size = refl;
+        gone = λ v z. (
+          z.0,
+          elim z.1 [
+            | inl y ↦ inl (y.0, (y.1.0, record { holds = y.1.1.holds; depth = c.depths (variable y.0) ∙ y.1.1.depth; bottom = c.levels (variable y.0) ∙ y.1.1.bottom }))
+            | inr y ↦ inr y
+          ],
+        );
+        idle = λ v y. y;
+      }) (begins_refl (standing t))
+  | inr le ↦ (let y = not_due le in rw y.2 (extends_fewer am (state_of a g t) q q (λ u e. e)))
+]
+extends_collect am words words' db db' w w' a g g' t q (Err x) due not_due same = rw same.2 (extends_fewer am (state_of a g t) q q (λ u e. e))
+
+-- learned: levels are undone, and a literal becomes true
+pub rises_learned : (am : List ℕ) → (s : State) (q : Queue) (s' : State) (q' : Queue) (l top : ℕ) → GoesOn am s q s' q' → IsLevelled s → top < length s.trail.starts → s'.trail ≡ with_lit l (cut_to top s.trail) → WordRises am s q s' q'
+rises_learned am s q s' q' l top stay levels lt e =
+    word_rises am s q s' q' stay (subst (λ (t : Trailed). IsBelow (standing s.trail) (standing t)) (sym e) (standing_learned s l top levels lt))
+
+-- levels are undone, and a learned literal comes in their place
+pub rises_taken : (p u n : Parts) (l top : ℕ) → TrailWordStays p u → TrailWordStays u n → u.trail ≡ cut_to top p.trail → n.trail ≡ with_lit l u.trail → IsLevelled (state p) → top < length p.trail.starts → TrailWordRises p n
+rises_taken p u n l top undone stay cut last levelled lt am =
+    rises_learned am (state p) p.vsids (state n) n.vsids l top (goes_trans am (state p) p.vsids (state u) u.vsids (state n) n.vsids (undone am) (stay am)) levelled lt
+    (last ∙ ap (λ (t : Trailed). with_lit l t) cut)
+
+-- a variable that isn't assumed is given up
+pub gone_freed : (am : List ℕ) (a : Values) (g : List ImplNode) (t : Trailed) (q : Queue) (u : ℕ) → u < length q.available → length q.available ≡ length a.current → (Contains am u → ⊥) →
+    GoesOn am (state_of a g t) q (state_of (assigned u None a) g t) (with_available u false q)
+gone_freed am a g t q u there same free = record {
+  size = length-set a.current u None;
+  gone = λ v x. (
+    omega (arith, x.0, length-set a.current u None),
+    elim (cases_eq v u) [
+      | inl e ↦ inr (its v e)
+      | inr n ↦ elim x.1 [
+        | inl y ↦ inl (
+          y.0,
+          (
+            y.1.0,
+            record {
+              holds = get_or-set_other a.current u (variable y.0) None None (λ e. n (sym y.1.0 ∙ e)) ∙ y.1.1.holds;
+              depth = y.1.1.depth;
+              bottom = y.1.1.bottom;
+            },
+          ),
+        )
+        | inr y ↦ inr (others v n y)
+      ]
+    ],
+  );
+  idle = λ v y. elim (cases_eq v u) [ inl e ↦ its v e | inr n ↦ others v n y ];
+}
+  where
+    its : (v : ℕ) → v ≡ u → IsIdle am (state_of (assigned u None a) g t) (with_available u false q) v
+    its v e = (
+      ap (λ z. value_of (set a.current u None) z) e ∙ get_or-set_same a.current u None None (omega arith),
+      ap (λ z. may_pick (with_available u false q) z) e ∙ get_or-set_same q.available u false false there,
+      λ c. free (subst (λ z. Contains am z) e c),
+    )
+
+    others : (v : ℕ) → v ≢ u → IsIdle am (state_of a g t) q v → IsIdle am (state_of (assigned u None a) g t) (with_available u false q) v
+    others v n y = (get_or-set_other a.current u v None None n ∙ y.0, get_or-set_other q.available u v false false n ∙ y.1, y.2)
+
+pub propagated_extends : (words words' : List ℕ) (db : Db) (w w' : Watching) (b : Binaries) (a a' : Values) (g g' : List ImplNode) (t t' : Trailed) (q : Queue) (r : Result (Unit {0}) Conflict) →
+    IsSoundBelow words db w b a g t q (length t.starts + 1) → PropagationResult db.refs b.implied words (state_of a g t) words' (state_of a' g' t') w' r →
+    (am : List ℕ) → WordExtends am (state_of a g t) q (state_of a' g' t') q
+propagated_extends words words' db w w' b a a' g g' t t' q r h given am = extends_propagated am words words' db w w' b a a' g g' t t' q r h given

@@ -1,0 +1,23 @@
+use Rattle.std.proofs.Common.{ap}
+use Rattle.sat_parts.specs.prop.Trails.{Trailed}
+use Rattle.sat_parts.proofs.lemmas.parts.WordSteps.{word_cleared}
+use Rattle.sat_parts.proofs.lemmas.parts.ClearLemmas.{sound_cleared}
+use Rattle.sat_parts.proofs.lemmas.parts.FrameLemmas.{clears_cleared}
+use Rattle.sat_parts.proofs.parts.units.clear_units.Goals as goal
+
+pub returns-clause-holds : goal.returns-clause-holds
+returns-clause-holds c =
+    rw (c.mark_removed.ensures, c.clear.ensures) (sound_cleared _ _ _ _ _ _ _ _ c.requires.holds c.requires.bottom c.requires.done)
+
+pub returns-clause-word : goal.returns-clause-word
+returns-clause-word c =
+    let p = c.args.parts.now in
+    rw (c.mark_removed.ensures, c.clear.ensures) (λ am. word_cleared am p.assignment p.graph p.trail p.vsids c.requires.holds.asks.agrees c.requires.bottom)
+
+pub returns-clause-clears : goal.returns-clause-clears
+returns-clause-clears c =
+    let p = c.args.parts.now in
+    rw (c.mark_removed.ensures, c.clear.ensures) (clears_cleared p.assignment p.graph p.trail c.requires.holds.asks.agrees c.requires.bottom)
+
+pub returns-clause-empty : goal.returns-clause-empty
+returns-clause-empty c = ap (λ (t : Trailed). t.lits) c.clear.ensures

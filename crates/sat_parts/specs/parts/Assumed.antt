@@ -1,0 +1,57 @@
+-- What an ask assumes, and how far it was looked at.
+use Rattle.std.specs.Prelude.{ℕ, ◌≡◌, ◌<◌, ◌≤◌, true, List, map, length, slice_index_or as get_or}
+use Rattle.std.specs.List.{Contains}
+use Rattle.sat_base.specs.values.Literals.{variable}
+use Rattle.sat_parts.specs.clause.Glue.{VariablesBelow}
+use Rattle.sat_parts.specs.prop.Graphs.{is_unit}
+use Rattle.sat_parts.specs.prop.Values.{IsTrueLit, IsFalseLit}
+use Rattle.sat_parts.specs.prop.State.{State, node, level, lit_at}
+use Rattle.sat_parts.specs.declared.parts.Parts.{Parts}
+use Rattle.sat_parts.specs.parts.Whole.{state}
+use Rattle.sat_parts.specs.parts.Frame.{Deepens, KeepsTo}
+use Rattle.sat_parts.specs.declared.parts.assumptions.Assumptions.{Assumptions}
+use Rattle.sat_parts.specs.declared.parts.assumptions.Assumed.{Assumed}
+use Rattle.sat_parts.specs.declared.parts.assumptions.Assumed.TheVariants.{All, Next, Failed}
+
+abbrev pub variables : List ℕ → List ℕ
+variables ls = map (λ l. variable l) ls
+
+-- the variables of the literals are there
+abbrev pub AreThere : List ℕ → Parts → Type 0
+AreThere ls p = VariablesBelow ls (length p.assignment.current)
+
+-- how far these assumptions were looked at: on each level that one of them began, and on level 0, those in front of its place are
+-- true at that level or below it. Levels that something else began come only once all were looked at
+pub record IsPlaced (ls below : List ℕ) (place : ℕ) (s : State) : Type 0 where
+  pub levels : length below ≤ length s.trail.starts
+  pub within : place ≤ length ls
+  pub low_within : (j : ℕ) → j < length below → get_or below j 0 ≤ length ls
+  pub passed : (k : ℕ) → k < place → IsTrueLit s.values (get_or ls k 0) × (level s (get_or ls k 0) ≤ length below)
+  pub low_passed : (j k : ℕ) → j < length below → k < get_or below j 0 → IsTrueLit s.values (get_or ls k 0) × (level s (get_or ls k 0) ≤ j)
+  pub begun : (j : ℕ) → j < length below → Contains ls (lit_at s (get_or s.trail.starts j 0))
+  pub all : length below < length s.trail.starts → place ≡ length ls
+
+abbrev pub ArePlaced : Assumptions → State → Type 0
+ArePlaced a s = IsPlaced a.lits.items a.below.items a.place s
+
+-- where the levels above one are undone, they stand as they did there
+abbrev pub AreCutTo : (level : ℕ) (a a' : Assumptions) → Type 0
+AreCutTo level a a' = (s s' : State) → ArePlaced a s → level ≤ length s.trail.starts → KeepsTo level s s' → length s'.trail.starts ≡ level → ArePlaced a' s'
+
+-- the literals from one place up to another are true
+abbrev pub AreTrueFromTo : Parts → List ℕ → (from to : ℕ) → Type 0
+AreTrueFromTo p ls from to = (k : ℕ) → from ≤ k → k < to → IsTrueLit p.assignment.current (get_or ls k 0)
+
+-- this literal stands at the place, and isn't true
+abbrev pub IsUntrueAt : Parts → List ℕ → (at l : ℕ) → Type 0
+IsUntrueAt p ls at l = (at < length ls) × (get_or ls at 0 ≡ l) × (IsTrueLit p.assignment.current l → ⊥)
+
+-- each literal of the trail above level 0 that no clause makes true is among these
+abbrev pub AreDecided : List ℕ → State → Type 0
+AreDecided ls s = (i : ℕ) → i < length s.trail.lits → 0 < level s (lit_at s i) → is_unit (node s (lit_at s i)).reason ≡ true → Contains ls (lit_at s i)
+
+-- what was found of the assumptions, and done
+abbrev pub AssumedSays : Assumed → Assumptions → Parts → Parts → Type 0
+AssumedSays All a p p' = (p' ≡ p) × (a.place ≡ length a.lits.items) × ((k : ℕ) → k < length a.lits.items → IsTrueLit p.assignment.current (get_or a.lits.items k 0))
+AssumedSays Next a p p' = Deepens p p'
+AssumedSays (Failed l) a p p' = (p' ≡ p) × Contains a.lits.items l × IsFalseLit p.assignment.current l × (length a.below.items ≡ length p.trail.starts) × AreDecided a.lits.items (state p)

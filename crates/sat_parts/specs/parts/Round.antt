@@ -1,0 +1,55 @@
+-- What holds of the parts of a search between rounds.
+use Rattle.std.specs.Prelude.{ℕ, ◌≡◌, ◌≢◌, ◌+◌, ◌<◌, ◌⊎◌, Bool, true, Option, None, List, length, slice_index_or as get_or}
+use Rattle.std.specs.List.{Contains}
+use Rattle.sat_base.specs.values.Literals.{variable}
+use Rattle.sat_store.specs.heap.Vsids.{Queue, may_pick}
+use Rattle.sat_parts.specs.declared.prop.graph.ImplNode.{ImplNode}
+use Rattle.sat_parts.specs.declared.prop.graph.Reason.TheVariants.{Unit as NoCause}
+use Rattle.sat_parts.specs.clause.Db.{Db, HoldsDb, live_refs}
+use Rattle.sat_parts.specs.clause.Stored.{lit_of, size_of}
+use Rattle.sat_parts.specs.prop.Binaries.{Binaries, implied_by}
+use Rattle.sat_parts.specs.prop.Values.{Values, value_of}
+use Rattle.sat_parts.specs.prop.Trails.{Trailed}
+use Rattle.sat_parts.specs.prop.WatchLists.{Watching}
+use Rattle.sat_parts.specs.prop.State.{State, node, level, lit_at}
+use Rattle.sat_parts.specs.prop.Reasons.{AreInTurn}
+use Rattle.sat_parts.specs.prop.Ready.{state_of}
+use Rattle.sat_parts.specs.prop.Asks.{PropagationInvariant}
+use Rattle.sat_parts.specs.prop.TrailWord.{IsLevelled}
+
+-- no clause has the variable
+pub record IsUnused (words live : List ℕ) (implied : List (List ℕ)) (v : ℕ) : Type 0 where
+  pub long : (o k : ℕ) → Contains live o → k < size_of words o → variable (lit_of words o k) ≢ v
+  pub binary : (l k : ℕ) → k < length (implied_by implied l) → (variable l ≢ v) × (variable (get_or (implied_by implied l) k 0) ≢ v)
+
+-- each variable without a value may be picked, unless no clause has it
+abbrev pub AreReady : (words live : List ℕ) (implied : List (List ℕ)) (values : List (Option Bool)) (q : Queue) → Type 0
+AreReady words live implied values q = (v : ℕ) → v < length values → value_of values v ≡ None → (may_pick q v ≡ true) ⊎ IsUnused words live implied v
+
+-- what may be picked of the variables without a value stays so, but for one variable
+abbrev pub KeepsPicks : (values : List (Option Bool)) (q q' : Queue) (v : ℕ) → Type 0
+KeepsPicks values q q' v = (u : ℕ) → u ≢ v → value_of values u ≡ None → may_pick q u ≡ true → may_pick q' u ≡ true
+
+-- the literals of level 0 that stand on the trail have no clause as their reason
+abbrev pub AreUnits : State → Type 0
+AreUnits s = (i : ℕ) → i < length s.trail.lits → level s (lit_at s i) ≡ 0 → (node s (lit_at s i)).reason ≡ NoCause
+
+-- what holds of all parts, where what propagation asks is said of the literals of levels below the top
+pub record IsSoundBelow (words : List ℕ) (db : Db) (w : Watching) (b : Binaries) (a : Values) (g : List ImplNode) (t : Trailed) (q : Queue) (top : ℕ) : Type 0 where
+  pub held : HoldsDb words db
+  pub asks : PropagationInvariant words db.refs w b.implied (state_of a g t) top
+  pub turns : AreInTurn words (live_refs words db.refs) b.implied (state_of a g t) 0
+  pub levelled : IsLevelled (state_of a g t)
+  pub queue : length q.available ≡ length a.current
+  pub ready : AreReady words (live_refs words db.refs) b.implied a.current q
+
+-- above level 0 no literal of level 0 stands on the trail, and at level 0 all of them are in the queue
+pub record IsBased (t : Trailed) : Type 0 where
+  pub above : 0 < length t.starts → get_or t.starts 0 0 ≡ 0
+  pub bottom : length t.starts ≡ 0 → t.head ≡ 0
+
+-- what holds between rounds
+pub record IsSound (words : List ℕ) (db : Db) (w : Watching) (b : Binaries) (a : Values) (g : List ImplNode) (t : Trailed) (q : Queue) : Type 0 where
+  pub below : IsSoundBelow words db w b a g t q (length t.starts + 1)
+  pub units : AreUnits (state_of a g t)
+  pub base : IsBased t

@@ -1,0 +1,168 @@
+//! Literals that an ask assumes, and how far they were looked at.
+ghost use Rattle.std.specs.Prelude.{◌≡◌, ◌+◌, ◌-◌, ◌<◌, ◌≤◌, OnOk, IfOk, MatchOption, [], length, slice_index_or};
+ghost use Rattle.sat_base.specs.values.Literals.{variable};
+ghost use Rattle.sat_parts.specs.prop.Values.{IsOpenLit};
+ghost use Rattle.sat_parts.specs.prop.State.{State};
+ghost use Rattle.sat_parts.specs.parts.Whole.{state, PartsInvariant, IsDone};
+ghost use Rattle.sat_parts.specs.parts.Words.{TrailWordStays, TrailWordExtendsFor};
+ghost use Rattle.sat_parts.specs.parts.Assumed.{AreThere, variables, ArePlaced, AssumedSays, AreCutTo, AreTrueFromTo, IsUntrueAt};
+ghost use Rattle.sat_parts.specs.parts.Frame.{Carries, SameClauses, AddsNothing, KeepsLevels, Deepens};
+
+use crate::parts::Parts;
+use crate::parts::steps::{assume, undo};
+use sat_base::Lit;
+use std::alloc::{AllocError, Global};
+
+/// The literals that an ask assumes. Those that aren't true yet are made true in their order, each on a level of its own, before
+/// anything is decided. One that is true already gets no level.
+#[derive(Drop)]
+pub struct Assumptions {
+    /// The whole list.
+    pub lits: Vec<Lit>,
+    /// For each level below the last one that an assumption began, from level 0 on, the first assumption that wasn't looked at there.
+    pub below: Vec<usize>,
+    /// The same for the last level that an assumption began.
+    pub place: usize,
+}
+
+/// How a list of assumptions stands.
+#[derive(Clone, Copy)]
+pub enum Assumed {
+    /// Each is true.
+    All,
+    /// One became true, on a level of its own.
+    Next,
+    /// This one is false.
+    Failed(Lit),
+}
+
+impl Assumptions {
+    /// No assumptions. Takes no memory.
+    pub fn new(alloc: Global) -> Assumptions
+        ensures none { result.lits.items ≡ [] }
+        ensures placed { (s : State) → ArePlaced result s }
+    {
+        Assumptions {
+            lits: Vec::new(alloc),
+            below: Vec::new(alloc),
+            place: 0,
+        }
+    }
+
+    /// How many levels assumptions began.
+    pub fn levels(&self) -> usize
+        ensures { result ≡ length self.now.below.items }
+    {
+        self.below.len()
+    }
+
+    /// Looks at the list from its start on: for a new list, and where all levels were undone.
+    pub fn begin(&mut self)
+        ensures lits { self.new.lits ≡ self.old.lits }
+        ensures placed { (s : State) → s.trail.starts ≡ [] → ArePlaced self.new s }
+    {
+        self.below.clear();
+        self.place = 0;
+    }
+
+    /// Goes back to what was looked at up to a level, as the levels above it are undone.
+    pub fn cut(&mut self, level: usize)
+        ensures lits { self.new.lits ≡ self.old.lits }
+        ensures placed { AreCutTo level self.old self.new }
+    {
+        if level >= self.below.len() {
+            return;
+        }
+        self.place = self.below[level];
+        self.below.truncate(level);
+    }
+}
+
+/// Goes over assumptions that are true, and answers the first that isn't.
+fn next_untrue(parts: &Parts, assumptions: &mut Assumptions) -> Option<Lit>
+    requires there { AreThere assumptions.old.lits.items parts.now }
+    requires within { assumptions.old.place ≤ length assumptions.old.lits.items }
+    ensures lits { assumptions.new.lits ≡ assumptions.old.lits }
+    ensures below { assumptions.new.below ≡ assumptions.old.below }
+    ensures within { assumptions.new.place ≤ length assumptions.new.lits.items }
+    ensures further { assumptions.old.place ≤ assumptions.new.place }
+    ensures passed { AreTrueFromTo parts.now assumptions.old.lits.items assumptions.old.place assumptions.new.place }
+    ensures next { MatchOption result (assumptions.new.place ≡ length assumptions.old.lits.items)
+        (IsUntrueAt parts.now assumptions.old.lits.items assumptions.new.place) }
+{
+    while assumptions.place < assumptions.lits.len() {
+        let lit = assumptions.lits[assumptions.place];
+        if !parts.assignment.lit_is_true(lit) {
+            return Some(lit);
+        }
+        assumptions.place += 1;
+    }
+    None
+}
+
+/// Begins a level with the assumption that is looked at, which is open.
+fn begin_level(parts: &mut Parts, assumptions: &mut Assumptions, lit: Lit) -> Result<(), AllocError>
+    requires holds { PartsInvariant parts.old }
+    requires done { IsDone parts.old }
+    requires there { variable lit < length parts.old.assignment.current }
+    requires open { IsOpenLit parts.old.assignment.current lit }
+    requires placed { ArePlaced assumptions.old (state parts.old) }
+    requires next { assumptions.old.place < length assumptions.old.lits.items }
+    requires is { slice_index_or assumptions.old.lits.items assumptions.old.place 0 ≡ lit }
+    ensures holds { OnOk result (PartsInvariant parts.new) }
+    ensures lits { assumptions.new.lits ≡ assumptions.old.lits }
+    ensures placed { OnOk result (ArePlaced assumptions.new (state parts.new)) }
+    ensures word { OnOk result (TrailWordExtendsFor (variables assumptions.old.lits.items) parts.old parts.new) }
+    ensures same { OnOk result (AddsNothing parts.old parts.new) }
+    ensures keeps { OnOk result (KeepsLevels parts.old parts.new) }
+    ensures deeper { OnOk result (Deepens parts.old parts.new) }
+{
+    assumptions.below.push(assumptions.place)?;
+    assumptions.place += 1;
+    assume(parts, lit)
+}
+
+/// Makes the first assumption true that isn't true yet, of those that weren't looked at.
+pub fn assume_next(parts: &mut Parts, assumptions: &mut Assumptions) -> Result<Assumed, AllocError>
+    requires holds { PartsInvariant parts.old }
+    requires done { IsDone parts.old }
+    requires there { AreThere assumptions.old.lits.items parts.old }
+    requires placed { ArePlaced assumptions.old (state parts.old) }
+    ensures holds { OnOk result (PartsInvariant parts.new) }
+    ensures lits { assumptions.new.lits ≡ assumptions.old.lits }
+    ensures placed { OnOk result (ArePlaced assumptions.new (state parts.new)) }
+    ensures word { OnOk result (TrailWordExtendsFor (variables assumptions.old.lits.items) parts.old parts.new) }
+    ensures same { OnOk result (AddsNothing parts.old parts.new) }
+    ensures keeps { OnOk result (KeepsLevels parts.old parts.new) }
+    ensures says { IfOk result (λ r. AssumedSays r assumptions.new parts.old parts.new) }
+{
+    let next = next_untrue(parts, assumptions);
+    match next {
+        None => Ok(Assumed::All),
+        Some(lit) => {
+            if parts.assignment.lit_is_false(lit) {
+                return Ok(Assumed::Failed(lit));
+            }
+            begin_level(parts, assumptions, lit)?;
+            Ok(Assumed::Next)
+        }
+    }
+}
+
+/// Undoes decisions, and keeps the levels of assumptions.
+pub fn restart(parts: &mut Parts, assumptions: &Assumptions)
+    requires holds { PartsInvariant parts.old }
+    requires placed { ArePlaced assumptions.now (state parts.old) }
+    ensures holds { PartsInvariant parts.new }
+    ensures levels { length parts.new.trail.starts ≡ length assumptions.now.below.items }
+    ensures placed { ArePlaced assumptions.now (state parts.new) }
+    ensures same { SameClauses parts.old parts.new }
+    ensures carries { Carries (state parts.old) (state parts.new) }
+    ensures stay { TrailWordStays parts.old parts.new }
+{
+    let levels = assumptions.levels();
+    if parts.trail.current_level() <= levels {
+        return;
+    }
+    undo(parts, levels);
+}

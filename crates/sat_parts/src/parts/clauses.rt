@@ -1,0 +1,221 @@
+//! Clauses that are deleted, moved or collected between rounds.
+ghost use Rattle.std.specs.Prelude.{ℕ, ◌≡◌, ◌^◌, ◌<◌, ◌≢◌, ◌≤◌, ◌/◌, OnOk, length, [], true, false};
+ghost use Rattle.sat_base.specs.values.Literals.{negated};
+ghost use Rattle.sat_store.specs.clause.Buffer.{header_at};
+ghost use Rattle.sat_store.specs.clause.Header.{is_learned};
+ghost use Rattle.sat_store.specs.heap.Vsids.{bumped, decayed};
+ghost use Rattle.sat_parts.specs.clause.Activity.{PutsHeaders, DecaysAll, later_bump, later_scale, BumpsBelow, BumpsPast};
+ghost use Rattle.sat_parts.specs.clause.Reduced.{reduced};
+ghost use Rattle.sat_parts.specs.clause.Stored.{lit_of, size_of};
+ghost use Rattle.sat_parts.specs.prop.State.{HasLeft};
+ghost use Rattle.sat_parts.specs.clause.Db.{PutsHeader, MovesClause, IsAsserting};
+ghost use Rattle.sat_parts.specs.parts.Whole.{state, PartsInvariant, HasClause};
+ghost use Rattle.sat_parts.specs.parts.Words.{TrailWordExtends};
+ghost use Rattle.sat_parts.specs.parts.Frame.{Headed, Dropped, Copied, Swapped, Shortened, Removed, SameContents};
+ghost use Rattle.sat_store.specs.clause.Full.{OnFull};
+
+use crate::parts::Parts;
+use crate::{
+    ClauseActivity, bump_clause_activity, collect_garbage, decay_clause_activities, delete_clause,
+    reduce_mids, set_clause_tier, shorten_clause, try_delete_clause,
+};
+use sat_base::Var;
+use sat_store::{ClauseHeader, ClauseRef, StoreError, Tier};
+use std::alloc::Global;
+
+/// Deletes a live clause unless it is the reason of its first literal, and answers whether it did.
+pub fn drop_clause(parts: &mut Parts, cref: ClauseRef) -> bool
+    requires holds { PartsInvariant parts.old }
+    requires live { HasClause parts.old cref }
+    ensures holds { PartsInvariant parts.new }
+    ensures dropped { result ≡ true → Dropped parts.old parts.new cref }
+    ensures free { result ≡ true → IsAsserting parts.old.clauses parts.old.assignment.current parts.old.graph cref → ⊥ }
+    ensures kept { result ≡ false → IsAsserting parts.old.clauses parts.old.assignment.current parts.old.graph cref × (parts.new ≡ parts.old) }
+    ensures others { (p : ℕ) → p ≢ cref → HasClause parts.old p → HasClause parts.new p }
+    ensures word { TrailWordExtends parts.old parts.new }
+{
+    try_delete_clause(
+        &mut parts.clauses,
+        &mut parts.db,
+        &mut parts.watchlists,
+        &parts.graph,
+        &parts.assignment,
+        cref,
+    )
+}
+
+/// Deletes a live clause while nothing is on the trail.
+pub fn delete_long(parts: &mut Parts, cref: ClauseRef)
+    requires holds { PartsInvariant parts.old }
+    requires empty { parts.old.trail.lits ≡ [] }
+    requires live { HasClause parts.old cref }
+    ensures holds { PartsInvariant parts.new }
+    ensures dropped { Dropped parts.old parts.new cref }
+    ensures word { TrailWordExtends parts.old parts.new }
+{
+    delete_clause(
+        &mut parts.clauses,
+        &mut parts.db,
+        &mut parts.watchlists,
+        cref,
+    );
+}
+
+/// Moves unused clauses of tier Mid to Local.
+pub fn reduce_middle(parts: &mut Parts)
+    requires holds { PartsInvariant parts.old }
+    ensures holds { PartsInvariant parts.new }
+    ensures headers { PutsHeaders parts.old.clauses parts.new.clauses parts.old.db.refs (λ o. reduced (header_at parts.old.clauses o)) }
+    ensures headed { Headed parts.old parts.new }
+    ensures word { TrailWordExtends parts.old parts.new }
+{
+    reduce_mids(&mut parts.clauses, &mut parts.db);
+}
+
+/// Collects deleted clauses.
+pub fn collect(alloc: Global, parts: &mut Parts) -> Result<(), StoreError>
+    requires holds { PartsInvariant parts.old }
+    ensures holds { PartsInvariant parts.new }
+    ensures copied { Copied parts.old parts.new }
+    ensures due { length parts.old.clauses / 2 < parts.old.db.garbage → OnOk result (parts.new.db.garbage ≡ 0) }
+    ensures not_due { parts.old.db.garbage ≤ length parts.old.clauses / 2 → parts.new ≡ parts.old }
+    ensures room { OnFull result ⊥ }
+    ensures word { TrailWordExtends parts.old parts.new }
+{
+    collect_garbage(
+        alloc,
+        &mut parts.clauses,
+        &mut parts.db,
+        &mut parts.graph,
+        &mut parts.watchlists,
+        &parts.trail,
+    )
+}
+
+/// Puts a header in the place of a live clause's own, with the same tier and length.
+pub fn put_header(parts: &mut Parts, cref: ClauseRef, header: ClauseHeader)
+    requires holds { PartsInvariant parts.old }
+    requires live { HasClause parts.old cref }
+    requires deleted { header.deleted ≡ (header_at parts.old.clauses cref).deleted }
+    requires tier { header.tier ≡ (header_at parts.old.clauses cref).tier }
+    requires len { header.len ≡ (header_at parts.old.clauses cref).len }
+    ensures holds { PartsInvariant parts.new }
+    ensures put { PutsHeader parts.old.clauses parts.new.clauses parts.old.db.refs cref header }
+    ensures db { parts.new.db ≡ parts.old.db }
+    ensures headed { Headed parts.old parts.new }
+    ensures word { TrailWordExtends parts.old parts.new }
+{
+    parts.clauses.set_header(cref, header);
+}
+
+/// Moves a live clause to a tier. That of a clause that wasn't learned stays so.
+pub fn set_tier(parts: &mut Parts, cref: ClauseRef, tier: Tier)
+    requires holds { PartsInvariant parts.old }
+    requires live { HasClause parts.old cref }
+    requires side { is_learned tier ≡ is_learned (header_at parts.old.clauses cref).tier }
+    ensures holds { PartsInvariant parts.new }
+    ensures moves { MovesClause parts.old.clauses parts.old.db parts.new.clauses parts.new.db cref tier }
+    ensures headed { Headed parts.old parts.new }
+    ensures word { TrailWordExtends parts.old parts.new }
+{
+    set_clause_tier(&mut parts.clauses, &mut parts.db, cref, tier);
+}
+
+/// Exchanges two literals of a live clause that stand behind its first two.
+pub fn swap_behind(parts: &mut Parts, cref: ClauseRef, i: usize, j: usize)
+    requires holds { PartsInvariant parts.old }
+    requires live { HasClause parts.old cref }
+    requires first_behind { 2 ≤ i }
+    requires second_behind { 2 ≤ j }
+    requires first_within { i < size_of parts.old.clauses cref }
+    requires second_within { j < size_of parts.old.clauses cref }
+    ensures holds { PartsInvariant parts.new }
+    ensures swapped { Swapped parts.old parts.new cref i j }
+    ensures db { parts.new.db ≡ parts.old.db }
+    ensures word { TrailWordExtends parts.old parts.new }
+{
+    parts.clauses.swap_lits(cref, i, j);
+}
+
+/// Drops the literals of a live clause from a place on, where the first two aren't false by literals that have left the queue.
+pub fn shorten(parts: &mut Parts, cref: ClauseRef, len: usize)
+    requires holds { PartsInvariant parts.old }
+    requires live { HasClause parts.old cref }
+    requires long { 3 ≤ len }
+    requires no_longer { len ≤ size_of parts.old.clauses cref }
+    requires fresh { (i : ℕ) → i < 2 → HasLeft (state parts.old) (negated (lit_of parts.old.clauses cref i)) → ⊥ }
+    ensures holds { PartsInvariant parts.new }
+    ensures shortened { Shortened parts.old parts.new cref len }
+    ensures word { TrailWordExtends parts.old parts.new }
+{
+    shorten_clause(
+        &mut parts.clauses,
+        &parts.db,
+        &mut parts.watchlists,
+        cref,
+        len,
+    );
+}
+
+/// Removes the clauses of two literals of which a variable has a value, while nothing is on the trail.
+pub fn remove_binary(parts: &mut Parts)
+    requires holds { PartsInvariant parts.old }
+    requires empty { parts.old.trail.lits ≡ [] }
+    ensures holds { PartsInvariant parts.new }
+    ensures removed { Removed parts.old parts.new }
+    ensures word { TrailWordExtends parts.old parts.new }
+{
+    parts.binary.remove_assigned(&parts.assignment);
+}
+
+/// Raises the activity of a live clause.
+pub fn bump_clause(parts: &mut Parts, activity: &mut ClauseActivity, cref: ClauseRef)
+    requires holds { PartsInvariant parts.old }
+    requires live { HasClause parts.old cref }
+    ensures holds { PartsInvariant parts.new }
+    ensures raised { BumpsBelow parts.old.clauses parts.new.clauses parts.old.db.refs cref activity.old activity.new }
+    ensures rescaled { BumpsPast parts.old.clauses parts.new.clauses parts.old.db.refs cref activity.old activity.new }
+    ensures db { parts.new.db ≡ parts.old.db }
+    ensures headed { Headed parts.old parts.new }
+    ensures word { TrailWordExtends parts.old parts.new }
+{
+    bump_clause_activity(activity, &mut parts.clauses, &parts.db, cref);
+}
+
+/// Raises the activity of a variable.
+pub fn bump_variable(parts: &mut Parts, var: Var)
+    requires holds { PartsInvariant parts.old }
+    requires there { var < length parts.old.assignment.current }
+    ensures holds { PartsInvariant parts.new }
+    ensures same { SameContents parts.old parts.new }
+    ensures queue { parts.new.vsids ≡ bumped var parts.old.vsids }
+    ensures picks { parts.new.vsids.available ≡ parts.old.vsids.available }
+    ensures word { TrailWordExtends parts.old parts.new }
+{
+    parts.vsids.bump(var);
+}
+
+/// Lets later bumps of clauses raise more.
+pub fn decay_clauses(parts: &mut Parts, activity: &mut ClauseActivity)
+    requires holds { PartsInvariant parts.old }
+    ensures holds { PartsInvariant parts.new }
+    ensures later { later_bump activity.old < 2 ^ 30 → (activity.new ≡ later_scale activity.old) × (parts.new.clauses ≡ parts.old.clauses) }
+    ensures rescaled { 2 ^ 30 ≤ later_bump activity.old → DecaysAll parts.old.clauses parts.new.clauses parts.old.db.refs activity.old activity.new }
+    ensures db { parts.new.db ≡ parts.old.db }
+    ensures headed { Headed parts.old parts.new }
+    ensures word { TrailWordExtends parts.old parts.new }
+{
+    decay_clause_activities(activity, &mut parts.clauses, &parts.db);
+}
+
+/// Lets later bumps of variables raise more.
+pub fn decay_variables(parts: &mut Parts)
+    requires holds { PartsInvariant parts.old }
+    ensures holds { PartsInvariant parts.new }
+    ensures same { SameContents parts.old parts.new }
+    ensures queue { parts.new.vsids ≡ decayed parts.old.vsids }
+    ensures picks { parts.new.vsids.available ≡ parts.old.vsids.available }
+    ensures word { TrailWordExtends parts.old parts.new }
+{
+    parts.vsids.decay();
+}

@@ -1,0 +1,180 @@
+//! Clauses that are loaded at level 0.
+ghost use Rattle.std.specs.Prelude.{ℕ, ◌≡◌, ◌-◌, ◌*◌, ◌^◌, ◌<◌, ◌≤◌, OnOk, IfOk, None, length, slice_index_or, [], true, false};
+ghost use Rattle.sat_base.specs.values.Literals.{variable, negated};
+ghost use Rattle.sat_store.specs.heap.Vsids.{may_pick};
+ghost use Rattle.sat_parts.specs.clause.Orders.{AreDistinct};
+ghost use Rattle.sat_parts.specs.declared.prop.graph.Reason.TheVariants.{Unit as NoCause};
+ghost use Rattle.sat_parts.specs.prop.State.{HasLeft, enqueued};
+ghost use Rattle.sat_parts.specs.prop.Values.{IsOpenLit, IsFalseLit, value_of};
+ghost use Rattle.sat_parts.specs.parts.Loadable.{IsLoadable, false_last, IsSorted};
+ghost use Rattle.sat_parts.specs.parts.Whole.{state, PartsInvariant};
+ghost use Rattle.sat_parts.specs.parts.Frame.{Carries, SameClauses, SameState, GainsUnit, Stores, SameQueues};
+ghost use Rattle.sat_parts.specs.parts.Full.{IsFull};
+ghost use Rattle.sat_parts.specs.parts.Loading.{LoadSays};
+ghost use Rattle.sat_parts.specs.parts.Words.{TrailWordExtends};
+ghost use Rattle.sat_store.specs.clause.Full.{OnFull};
+
+use crate::parts::Parts;
+use crate::parts::sorting::{Sorting, join_false, split_false};
+use crate::parts::units::put_back;
+use crate::{Assignment, Reason, add_clause, enqueue_assignment};
+use sat_base::{Lit, Var};
+use sat_store::{ClauseHeader, StoreError};
+use std::alloc::{AllocError, Global};
+
+/// What became of a clause that was loaded.
+#[derive(Clone, Copy)]
+pub enum Loaded {
+    /// It came to the other clauses.
+    Stored,
+    /// It has one literal, which is true from here on.
+    Unit,
+    /// One of its literals was true already: it didn't come to the others.
+    Satisfied,
+    /// It has no literal, or one that is false: no valuation satisfies it.
+    Falsified,
+}
+
+/// Loads a long clause.
+pub fn load_long(parts: &mut Parts, lits: &[Lit]) -> Result<(), StoreError>
+    requires holds { PartsInvariant parts.old }
+    requires long { 3 ≤ length lits.now }
+    requires fits { length lits.now < 2 ^ 32 }
+    requires loadable { IsLoadable (state parts.old) parts.old.vsids lits.now }
+    ensures holds { OnOk result (PartsInvariant parts.new) }
+    ensures stores { OnOk result (Stores parts.old parts.new lits.now) }
+    ensures kept { OnOk result (SameQueues parts.old parts.new) }
+    ensures full { OnFull result (IsFull parts.new) }
+{
+    let header = ClauseHeader::new();
+    let cref = add_clause(
+        &mut parts.clauses,
+        &mut parts.db,
+        &mut parts.watchlists,
+        header,
+        lits,
+    )?;
+    let _ = cref;
+    Ok(())
+}
+
+/// Loads a clause of two literals.
+pub fn load_binary(parts: &mut Parts, lits: &[Lit]) -> Result<(), AllocError>
+    requires holds { PartsInvariant parts.old }
+    requires two { length lits.now ≡ 2 }
+    requires loadable { IsLoadable (state parts.old) parts.old.vsids lits.now }
+    ensures holds { OnOk result (PartsInvariant parts.new) }
+    ensures stores { OnOk result (Stores parts.old parts.new lits.now) }
+    ensures kept { OnOk result (SameQueues parts.old parts.new) }
+    ensures state { OnOk result (SameState parts.old parts.new) }
+    ensures word { OnOk result (TrailWordExtends parts.old parts.new) }
+{
+    parts.binary.add_binary_clause([lits[0], lits[1]])?;
+    Ok(())
+}
+
+/// Loads a unit clause whose literal is open.
+pub fn load_unit(parts: &mut Parts, lit: Lit)
+    requires holds { PartsInvariant parts.old }
+    requires bottom { parts.old.trail.starts ≡ [] }
+    requires there { variable lit < length parts.old.assignment.current }
+    requires open { IsOpenLit parts.old.assignment.current lit }
+    ensures holds { PartsInvariant parts.new }
+    ensures bottom { parts.new.trail.starts ≡ [] }
+    ensures same { SameClauses parts.old parts.new }
+    ensures comes { state parts.new ≡ enqueued lit NoCause (state parts.old) }
+    ensures gains { GainsUnit lit (state parts.old) (state parts.new) }
+    ensures queue { parts.new.vsids ≡ parts.old.vsids }
+{
+    enqueue_assignment(
+        &mut parts.assignment,
+        &mut parts.graph,
+        &mut parts.trail,
+        lit,
+        Reason::Unit,
+    );
+}
+
+/// Puts the units back that make the literals from a place on false.
+fn put_all_back(parts: &mut Parts, lits: &[Lit], kept: usize)
+    requires holds { PartsInvariant parts.old }
+    requires bottom { parts.old.trail.starts ≡ [] }
+    requires back { (k : ℕ) → kept ≤ k → k < length lits.now → IsFalseLit parts.old.assignment.current (slice_index_or lits.now k 0) }
+    ensures holds { PartsInvariant parts.new }
+    ensures bottom { parts.new.trail.starts ≡ [] }
+    ensures values { (v : ℕ) → value_of parts.new.assignment.current v ≡ value_of parts.old.assignment.current v }
+    ensures size { length parts.new.assignment.current ≡ length parts.old.assignment.current }
+    ensures queue { parts.new.vsids ≡ parts.old.vsids }
+    ensures fresh { (k : ℕ) → kept ≤ k → k < length lits.now → HasLeft (state parts.new) (negated (slice_index_or lits.now k 0)) → ⊥ }
+    ensures same { SameClauses parts.old parts.new }
+    ensures carries { Carries (state parts.old) (state parts.new) }
+{
+    for at in kept..lits.len() {
+        put_back(parts, !lits[at]);
+    }
+}
+
+/// Loads a clause of two or more literals.
+fn load_some(parts: &mut Parts, lits: &[Lit]) -> Result<(), StoreError>
+    requires holds { PartsInvariant parts.old }
+    requires some { 2 ≤ length lits.now }
+    requires fits { length lits.now < 2 ^ 32 }
+    requires loadable { IsLoadable (state parts.old) parts.old.vsids lits.now }
+    ensures holds { OnOk result (PartsInvariant parts.new) }
+    ensures stores { OnOk result (Stores parts.old parts.new lits.now) }
+    ensures kept { OnOk result (SameQueues parts.old parts.new) }
+    ensures full { OnFull result (IsFull parts.new) }
+{
+    if lits.len() == 2 {
+        load_binary(parts, lits)?;
+        return Ok(());
+    }
+    load_long(parts, lits)
+}
+
+/// Loads a clause none of whose literals is true, where false ones are behind the others.
+fn load_sorted(parts: &mut Parts, lits: &[Lit], kept: usize) -> Result<Loaded, StoreError>
+    requires holds { PartsInvariant parts.old }
+    requires bottom { parts.old.trail.starts ≡ [] }
+    requires fits { length lits.now < 2 ^ 32 }
+    requires sorted { IsSorted (state parts.old) parts.old.vsids lits.now kept }
+    ensures holds { OnOk result (PartsInvariant parts.new) }
+    ensures says { IfOk result (λ r. LoadSays r parts.old parts.new lits.now) }
+    ensures kept { OnOk result ((parts.new.vsids ≡ parts.old.vsids) × (parts.new.trail.starts ≡ [])) }
+    ensures full { OnFull result (IsFull parts.new) }
+{
+    if lits.len() > 1 {
+        load_some(parts, lits)?;
+        return Ok(Loaded::Stored);
+    }
+    if kept == 0 {
+        return Ok(Loaded::Falsified);
+    }
+    load_unit(parts, lits[0]);
+    Ok(Loaded::Unit)
+}
+
+/// Loads a clause at level 0. Its false literals in front of the first true one go last, in order, and the units that make them
+/// false are put back into the queue. It is stored in this order unless one of its literals is true, or it has less than two.
+pub fn load(parts: &mut Parts, given: &[Lit], sorting: &mut Sorting) -> Result<Loaded, StoreError>
+    requires holds { PartsInvariant parts.old }
+    requires bottom { parts.old.trail.starts ≡ [] }
+    requires distinct { AreDistinct given.now }
+    requires fits { length given.now < 2 ^ 32 }
+    requires below { (k : ℕ) → k < length given.now → slice_index_or given.now k 0 < 2 * length parts.old.assignment.current }
+    requires ready { (k : ℕ) → k < length given.now → value_of parts.old.assignment.current (variable (slice_index_or given.now k 0)) ≡ None →
+        may_pick parts.old.vsids (variable (slice_index_or given.now k 0)) ≡ true }
+    ensures holds { OnOk result (PartsInvariant parts.new) }
+    ensures order { OnOk result (sorting.new.lits.items ≡ false_last parts.old.assignment.current given.now) }
+    ensures says { IfOk result (λ r. LoadSays r parts.old parts.new (false_last parts.old.assignment.current given.now)) }
+    ensures kept { OnOk result ((parts.new.vsids ≡ parts.old.vsids) × (parts.new.trail.starts ≡ [])) }
+    ensures full { OnFull result (IsFull parts.new) }
+{
+    let found = split_false(sorting, given, &parts.assignment)?;
+    let kept = join_false(sorting)?;
+    put_all_back(parts, &sorting.lits, kept);
+    if found {
+        return Ok(Loaded::Satisfied);
+    }
+    load_sorted(parts, &sorting.lits, kept)
+}

@@ -1,0 +1,94 @@
+//! Which learned clauses a reduction looks at.
+ghost use Rattle.std.specs.Prelude.{ℕ, ◌≡◌, ◌<◌, OnOk, map, length, slice_index_or};
+ghost use Rattle.std.specs.List.{filter};
+ghost use Rattle.std.specs.List.Sorted.{IsPermutation, IsNonDecreasingBy};
+ghost use Rattle.sat_store.specs.clause.Buffer.{IsClause};
+ghost use Rattle.sat_parts.specs.clause.Db.{is_live_of};
+ghost use Rattle.sat_parts.specs.clause.Orders.{AreDistinct};
+ghost use Rattle.sat_parts.specs.parts.Whole.{PartsInvariant, HasClauses};
+ghost use Rattle.sat_parts.specs.parts.Reducing.{rank, ranked};
+
+use crate::parts::Parts;
+use sat_store::{ClauseAlloc, ClauseRef, Tier};
+use std::alloc::{AllocError, Global};
+
+/// Whether a clause is a live one of tier Local.
+fn is_local(clauses: &ClauseAlloc, cref: ClauseRef) -> bool
+    requires { IsClause clauses.now cref }
+    ensures { result ≡ is_live_of clauses.now Tier.Local cref }
+{
+    let header = clauses.header(cref);
+    if header.deleted() {
+        return false;
+    }
+    header.tier().index() == 3
+}
+
+/// Puts the live clauses of tier Local into a list, in the order in which they came.
+fn find_locals(parts: &Parts, list: &mut Vec<ClauseRef>) -> Result<(), AllocError>
+    requires holds { PartsInvariant parts.now }
+    ensures { OnOk result (list.new.items ≡ filter (is_live_of parts.now.clauses Tier.Local) parts.now.db.refs) }
+{
+    list.clear();
+    for at in 0..parts.db.len() {
+        let cref = parts.db.cref(at);
+        if is_local(&parts.clauses, cref) {
+            list.push(cref)?;
+        }
+    }
+    Ok(())
+}
+
+/// The activity of a clause, and then its place.
+fn rank_of(clauses: &ClauseAlloc, cref: ClauseRef) -> u128
+    requires { IsClause clauses.now cref }
+    ensures { result ≡ rank clauses.now cref }
+{
+    u128::from(clauses.header(cref).activity()) * 18446744073709551616 + cref.offset() as u128
+}
+
+/// Puts clauses with their ranks into a list.
+fn rank_all(
+    clauses: &ClauseAlloc,
+    list: &[ClauseRef],
+    ranks: &mut Vec<(u128, ClauseRef)>,
+) -> Result<(), AllocError>
+    requires { (k : ℕ) → k < length list.now → IsClause clauses.now (slice_index_or list.now k 0) }
+    ensures { OnOk result (ranks.new.items ≡ map (ranked clauses.now) list.now) }
+{
+    ranks.clear();
+    for cref in list {
+        ranks.push((rank_of(clauses, *cref), *cref))?;
+    }
+    Ok(())
+}
+
+/// Puts the clauses of a list with ranks into a list without.
+fn take_clauses(ranks: &[(u128, ClauseRef)], list: &mut Vec<ClauseRef>) -> Result<(), AllocError>
+    ensures { OnOk result (list.new.items ≡ map (λ x. x.1) ranks.now) }
+{
+    list.clear();
+    for pair in ranks {
+        list.push(pair.1)?;
+    }
+    Ok(())
+}
+
+/// Puts the live clauses of tier Local into a list: those of lower activity first, and of equals the one that came first.
+pub fn list_locals(
+    alloc: Global,
+    parts: &Parts,
+    list: &mut Vec<ClauseRef>,
+) -> Result<(), AllocError>
+    requires holds { PartsInvariant parts.now }
+    ensures locals { OnOk result (IsPermutation (filter (is_live_of parts.now.clauses Tier.Local) parts.now.db.refs) list.new.items) }
+    ensures rising { OnOk result (IsNonDecreasingBy (rank parts.now.clauses) list.new.items) }
+    ensures once { OnOk result (AreDistinct list.new.items) }
+    ensures live { OnOk result (HasClauses parts.now list.new.items) }
+{
+    find_locals(parts, list)?;
+    let mut ranks = Vec::new(alloc);
+    rank_all(&parts.clauses, list, &mut ranks)?;
+    ranks.sort_unstable_by_key(|pair| pair.0);
+    take_clauses(&ranks, list)
+}

@@ -1,0 +1,275 @@
+//! The steps of a round.
+ghost use Rattle.std.specs.Prelude.{ℕ, List, ◌≡◌, ◌≢◌, ◌+◌, ◌<◌, ◌≤◌, OnOk, IfOk, MatchResult, MatchOption, Some, None, true, false, [], length};
+ghost use Rattle.sat_base.specs.values.Literals.{variable};
+ghost use Rattle.sat_store.specs.heap.Vsids.{Queue, may_pick};
+ghost use Rattle.sat_parts.specs.prop.Values.{IsOpenLit, value_of};
+ghost use Rattle.sat_parts.specs.prop.State.{current_level};
+ghost use Rattle.sat_parts.specs.prop.Ready.{IsConflict};
+ghost use Rattle.sat_parts.specs.clause.Db.{live_refs};
+ghost use Rattle.sat_parts.specs.parts.Whole.{state, PartsInvariant, HoldsBelow, IsDone, IsPicked, AllAssigned};
+ghost use Rattle.sat_parts.specs.parts.Round.{AreUnits, IsBased};
+ghost use Rattle.sat_parts.specs.prop.Trails.{cut_to};
+ghost use Rattle.sat_parts.specs.prop.TrailWord.{decided_on};
+ghost use Rattle.sat_parts.specs.parts.Words.{WordExtends, TrailWordExtendsFor, TrailWordStays, TrailWordExtends, IsAwaited};
+ghost use Rattle.sat_parts.specs.parts.Learned.{IsLearned, IsPending};
+ghost use Rattle.sat_parts.specs.parts.Frame.{Carries, SameClauses, Reordered, Learnt, KeepsTo, AddsNothing, KeepsLevels, Deepens, EnqueuesFirst};
+ghost use Rattle.sat_parts.specs.parts.Full.{IsFull};
+ghost use Rattle.sat_store.specs.clause.Full.{OnFull};
+
+use crate::parts::Parts;
+use crate::{Assignment, Conflict, Reason, add_clause, backtrack, enqueue_assignment, propagate};
+use sat_base::{Lit, Var};
+use sat_store::{ClauseHeader, StoreError, Vsids};
+use std::alloc::{AllocError, Global};
+
+/// Propagates. After a conflict the parts hold again once the current level is undone.
+pub fn propagate_all(alloc: Global, parts: &mut Parts) -> Result<Result<(), Conflict>, AllocError>
+    requires holds { HoldsBelow (length parts.old.trail.starts + 1) parts.old }
+    ensures holds { IfOk result (λ r. MatchResult r
+        (λ _. HoldsBelow (length parts.new.trail.starts + 1) parts.new)
+        (λ e. HoldsBelow (length parts.new.trail.starts) parts.new
+        × IsConflict parts.new.clauses (live_refs parts.new.clauses parts.new.db.refs) parts.new.binary.implied parts.new.assignment.current e)) }
+    ensures done { IfOk result (λ r. OnOk r (IsDone parts.new)) }
+    ensures units { 0 < length parts.old.trail.starts → AreUnits (state parts.old) → OnOk result (AreUnits (state parts.new)) }
+    ensures base { 0 < length parts.old.trail.starts → IsBased parts.old.trail → OnOk result (IsBased parts.new.trail) }
+    ensures starts { OnOk result (parts.new.trail.starts ≡ parts.old.trail.starts) }
+    ensures moved { OnOk result (Reordered parts.old parts.new) }
+    ensures carries { OnOk result (Carries (state parts.old) (state parts.new)) }
+    ensures keeps { OnOk result (KeepsLevels parts.old parts.new) }
+    ensures word { OnOk result (TrailWordExtends parts.old parts.new) }
+{
+    propagate(
+        alloc,
+        &mut parts.clauses,
+        &parts.db,
+        &mut parts.watchlists,
+        &mut parts.assignment,
+        &mut parts.graph,
+        &mut parts.trail,
+        &parts.binary,
+    )
+}
+
+/// The variable of highest activity of those without a value.
+pub fn pick(vsids: &mut Vsids, assignment: &Assignment) -> Option<Var>
+    requires size { length vsids.old.available ≡ length assignment.now.current }
+    ensures size { length vsids.new.available ≡ length vsids.old.available }
+    ensures kept { (u : ℕ) → value_of assignment.now.current u ≡ None → MatchOption result (may_pick vsids.old u ≡ false)
+        (λ v. u ≢ v → may_pick vsids.old u ≡ true → may_pick vsids.new u ≡ true) }
+    ensures open { MatchOption result ℕ (λ v. (v < length assignment.now.current) × (value_of assignment.now.current v ≡ None)) }
+    ensures picked { MatchOption result ℕ (λ v. may_pick vsids.old v ≡ true) }
+    ensures fewer { (u : ℕ) → may_pick vsids.old u ≡ false → may_pick vsids.new u ≡ false }
+{
+    while let Some(var) = vsids.next() {
+        if assignment.var_value(var).is_none() {
+            return Some(var);
+        }
+    }
+    None
+}
+
+/// Decides a variable without a value, which was picked.
+fn decide_on(parts: &mut Parts, var: Var) -> Result<(), AllocError>
+    requires picked { IsPicked parts.old var }
+    requires done { IsDone parts.old }
+    ensures holds { OnOk result (PartsInvariant parts.new) }
+    ensures deeper { OnOk result (Deepens parts.old parts.new) }
+    ensures same { OnOk result (AddsNothing parts.old parts.new) }
+    ensures keeps { OnOk result (KeepsLevels parts.old parts.new) }
+    ensures word { (assumed : List ℕ) (q : Queue) → may_pick q var ≡ true → ((u : ℕ) → may_pick q u ≡ false → may_pick parts.old.vsids u ≡ false) →
+        OnOk result (WordExtends assumed (state parts.old) q (state parts.new) parts.new.vsids) }
+{
+    let lit = var.lit(parts.assignment.last_var_value(var));
+    parts.trail.new_decision_level()?;
+    enqueue_assignment(
+        &mut parts.assignment,
+        &mut parts.graph,
+        &mut parts.trail,
+        lit,
+        Reason::Unit,
+    );
+    Ok(())
+}
+
+/// Makes a unit true at level 0.
+fn learn_unit(parts: &mut Parts, header: ClauseHeader, lits: &[Lit])
+    requires holds { PartsInvariant parts.old }
+    requires one { length lits.now ≡ 1 }
+    requires pending { IsPending (state parts.old) parts.old.vsids lits.now }
+    ensures holds { PartsInvariant parts.new }
+    ensures trail { EnqueuesFirst lits.now parts.old parts.new }
+    ensures learnt { Learnt parts.old parts.new header lits.now }
+    ensures stay { TrailWordStays parts.old parts.new }
+{
+    let _ = header;
+    enqueue_assignment(
+        &mut parts.assignment,
+        &mut parts.graph,
+        &mut parts.trail,
+        lits[0],
+        Reason::Unit,
+    );
+}
+
+/// Adds a clause of two literals, and makes it the reason of the first.
+fn learn_binary(parts: &mut Parts, header: ClauseHeader, lits: &[Lit]) -> Result<(), AllocError>
+    requires holds { PartsInvariant parts.old }
+    requires two { length lits.now ≡ 2 }
+    requires pending { IsPending (state parts.old) parts.old.vsids lits.now }
+    ensures holds { OnOk result (PartsInvariant parts.new) }
+    ensures trail { OnOk result (EnqueuesFirst lits.now parts.old parts.new) }
+    ensures learnt { OnOk result (Learnt parts.old parts.new header lits.now) }
+    ensures stay { OnOk result (TrailWordStays parts.old parts.new) }
+{
+    let _ = header;
+    let first = lits[0];
+    let second = lits[1];
+    parts.binary.add_binary_clause([first, second])?;
+    enqueue_assignment(
+        &mut parts.assignment,
+        &mut parts.graph,
+        &mut parts.trail,
+        first,
+        Reason::Binary([second]),
+    );
+    Ok(())
+}
+
+/// Adds a long clause, and makes it the reason of its first literal.
+fn learn_long(parts: &mut Parts, header: ClauseHeader, lits: &[Lit]) -> Result<(), StoreError>
+    requires holds { PartsInvariant parts.old }
+    requires live { header.deleted ≡ false }
+    requires long { 3 ≤ length lits.now }
+    requires pending { IsPending (state parts.old) parts.old.vsids lits.now }
+    ensures holds { OnOk result (PartsInvariant parts.new) }
+    ensures trail { OnOk result (EnqueuesFirst lits.now parts.old parts.new) }
+    ensures learnt { OnOk result (Learnt parts.old parts.new header lits.now) }
+    ensures stay { OnOk result (TrailWordStays parts.old parts.new) }
+    ensures full { OnFull result (IsFull parts.new) }
+{
+    let cref = add_clause(
+        &mut parts.clauses,
+        &mut parts.db,
+        &mut parts.watchlists,
+        header,
+        lits,
+    )?;
+    enqueue_assignment(
+        &mut parts.assignment,
+        &mut parts.graph,
+        &mut parts.trail,
+        lits[0],
+        Reason::Long(cref),
+    );
+    Ok(())
+}
+
+/// Adds a pending clause, and makes its first literal true.
+pub fn learn(parts: &mut Parts, header: ClauseHeader, lits: &[Lit]) -> Result<(), StoreError>
+    requires holds { PartsInvariant parts.old }
+    requires live { header.deleted ≡ false }
+    requires pending { IsPending (state parts.old) parts.old.vsids lits.now }
+    ensures holds { OnOk result (PartsInvariant parts.new) }
+    ensures trail { OnOk result (EnqueuesFirst lits.now parts.old parts.new) }
+    ensures learnt { OnOk result (Learnt parts.old parts.new header lits.now) }
+    ensures stay { OnOk result (TrailWordStays parts.old parts.new) }
+    ensures full { OnFull result (IsFull parts.new) }
+{
+    if lits.len() == 1 {
+        learn_unit(parts, header, lits);
+        return Ok(());
+    }
+    if lits.len() == 2 {
+        learn_binary(parts, header, lits)?;
+        return Ok(());
+    }
+    learn_long(parts, header, lits)
+}
+
+/// Undoes the levels above one that is below the current one.
+pub fn undo(parts: &mut Parts, level: usize)
+    ghost top: { ℕ }
+    requires holds { HoldsBelow top parts.old }
+    requires units { AreUnits (state parts.old) }
+    requires base { IsBased parts.old.trail }
+    requires below { level < length parts.old.trail.starts }
+    requires due { level < top }
+    ensures holds { PartsInvariant parts.new }
+    ensures pending { (ls : List ℕ) → IsLearned (state parts.old) ls level → IsPending (state parts.new) parts.new.vsids ls }
+    ensures starts { length parts.new.trail.starts ≡ level }
+    ensures trail { parts.new.trail ≡ cut_to level parts.old.trail }
+    ensures graph { parts.new.graph ≡ parts.old.graph }
+    ensures same { SameClauses parts.old parts.new }
+    ensures carries { Carries (state parts.old) (state parts.new) }
+    ensures keeps { KeepsTo level (state parts.old) (state parts.new) }
+    ensures stay { TrailWordStays parts.old parts.new }
+{
+    backtrack(
+        &mut parts.assignment,
+        &mut parts.trail,
+        &mut parts.vsids,
+        level,
+    );
+}
+
+/// Undoes all levels.
+pub fn full_restart(parts: &mut Parts)
+    requires holds { PartsInvariant parts.old }
+    ensures holds { PartsInvariant parts.new }
+    ensures bottom { parts.new.trail.starts ≡ [] }
+    ensures same { SameClauses parts.old parts.new }
+    ensures carries { Carries (state parts.old) (state parts.new) }
+    ensures stay { TrailWordStays parts.old parts.new }
+{
+    if parts.trail.current_level() == 0 {
+        return;
+    }
+    undo(parts, 0);
+}
+
+/// Decides an open variable, if there is one. Answers whether it did.
+pub fn decide(parts: &mut Parts) -> Result<bool, AllocError>
+    requires holds { PartsInvariant parts.old }
+    requires done { IsDone parts.old }
+    ensures holds { OnOk result (PartsInvariant parts.new) }
+    ensures all { IfOk result (λ decided. decided ≡ false → IsDone parts.new × AllAssigned parts.new) }
+    ensures same { OnOk result (AddsNothing parts.old parts.new) }
+    ensures keeps { OnOk result (KeepsLevels parts.old parts.new) }
+    ensures word { OnOk result (TrailWordExtends parts.old parts.new) }
+    ensures flat { IfOk result (λ decided. decided ≡ false → parts.new.trail ≡ parts.old.trail) }
+    ensures deeper { IfOk result (λ decided. decided ≡ true → Deepens parts.old parts.new) }
+{
+    let picked = pick(&mut parts.vsids, &parts.assignment);
+    match picked {
+        None => Ok(false),
+        Some(var) => {
+            decide_on(parts, var)?;
+            Ok(true)
+        }
+    }
+}
+
+/// Makes an open literal true as an assumption, on a level of its own.
+pub fn assume(parts: &mut Parts, lit: Lit) -> Result<(), AllocError>
+    requires holds { PartsInvariant parts.old }
+    requires done { IsDone parts.old }
+    requires there { variable lit < length parts.old.assignment.current }
+    requires open { IsOpenLit parts.old.assignment.current lit }
+    ensures holds { OnOk result (PartsInvariant parts.new) }
+    ensures word { (assumed : List ℕ) → IsAwaited assumed parts.old.vsids (variable lit)
+        → OnOk result (TrailWordExtendsFor assumed parts.old parts.new) }
+    ensures same { OnOk result (AddsNothing parts.old parts.new) }
+    ensures decided { OnOk result (state parts.new ≡ decided_on lit (state parts.old)) }
+    ensures keeps { OnOk result (KeepsLevels parts.old parts.new) }
+    ensures deeper { OnOk result (Deepens parts.old parts.new) }
+{
+    parts.trail.new_decision_level()?;
+    enqueue_assignment(
+        &mut parts.assignment,
+        &mut parts.graph,
+        &mut parts.trail,
+        lit,
+        Reason::Unit,
+    );
+    Ok(())
+}

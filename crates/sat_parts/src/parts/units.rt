@@ -1,0 +1,67 @@
+//! Units of level 0 that are taken off the trail, and put back.
+ghost use Rattle.std.specs.Prelude.{ℕ, ◌≡◌, ◌+◌, [], length};
+ghost use Rattle.sat_parts.specs.prop.Values.{IsTrueLit, value_of};
+ghost use Rattle.sat_parts.specs.prop.State.{HasLeft};
+ghost use Rattle.sat_parts.specs.parts.Whole.{state, PartsInvariant, HoldsBelow, IsDone};
+ghost use Rattle.sat_parts.specs.parts.Words.{TrailWordExtends};
+ghost use Rattle.sat_parts.specs.parts.Units.{removed};
+ghost use Rattle.sat_parts.specs.parts.Frame.{Carries, Clears, SameClauses};
+ghost use Rattle.sat_parts.specs.clause.Glue.{HaveNodes};
+
+use crate::parts::Parts;
+use crate::{ImplGraph, Reason, Trail, enqueue_assignment};
+use sat_base::Lit;
+
+/// Marks the variables of the literals as those of units taken off the trail.
+fn mark_removed(graph: &mut ImplGraph, trail: &Trail)
+    requires { HaveNodes graph.old trail.now.lits }
+    ensures { graph.new ≡ removed trail.now.lits graph.old }
+{
+    for lit in trail.trail() {
+        graph.update_removed_unit(lit.var());
+    }
+}
+
+/// Takes the literals of level 0 off the trail, once all is propagated.
+pub fn clear_units(parts: &mut Parts)
+    requires holds { HoldsBelow (length parts.old.trail.starts + 1) parts.old }
+    requires bottom { parts.old.trail.starts ≡ [] }
+    requires done { IsDone parts.old }
+    ensures holds { PartsInvariant parts.new }
+    ensures done { IsDone parts.new }
+    ensures bottom { parts.new.trail.starts ≡ [] }
+    ensures empty { parts.new.trail.lits ≡ [] }
+    ensures same { SameClauses parts.old parts.new }
+    ensures clears { Clears (state parts.old) (state parts.new) }
+    ensures word { TrailWordExtends parts.old parts.new }
+{
+    mark_removed(&mut parts.graph, &parts.trail);
+    parts.trail.clear();
+}
+
+/// Puts a unit that was taken off the trail back into the queue.
+pub fn put_back(parts: &mut Parts, lit: Lit)
+    requires holds { PartsInvariant parts.old }
+    requires bottom { parts.old.trail.starts ≡ [] }
+    requires true_lit { IsTrueLit parts.old.assignment.current lit }
+    ensures holds { PartsInvariant parts.new }
+    ensures bottom { parts.new.trail.starts ≡ [] }
+    ensures values { (v : ℕ) → value_of parts.new.assignment.current v ≡ value_of parts.old.assignment.current v }
+    ensures size { length parts.new.assignment.current ≡ length parts.old.assignment.current }
+    ensures queue { parts.new.vsids ≡ parts.old.vsids }
+    ensures fresh { HasLeft (state parts.new) lit → ⊥ }
+    ensures left { (l : ℕ) → HasLeft (state parts.new) l → HasLeft (state parts.old) l }
+    ensures same { SameClauses parts.old parts.new }
+    ensures carries { Carries (state parts.old) (state parts.new) }
+{
+    if parts.graph.is_removed_unit(lit.var()) {
+        parts.assignment.unassign_var(lit.var());
+        enqueue_assignment(
+            &mut parts.assignment,
+            &mut parts.graph,
+            &mut parts.trail,
+            lit,
+            Reason::Unit,
+        );
+    }
+}

@@ -1,0 +1,88 @@
+//! Which variables clauses have.
+ghost use Rattle.std.specs.Prelude.{ℕ, ◌≡◌, ◌<◌, OnOk, true, false, length, slice_index_or};
+ghost use Rattle.sat_base.specs.values.Literals.{variable};
+ghost use Rattle.sat_store.specs.clause.Buffer.{IsClause};
+ghost use Rattle.sat_parts.specs.clause.Stored.{lit_of, size_of};
+ghost use Rattle.sat_parts.specs.parts.Whole.{PartsInvariant, InNoClause};
+ghost use Rattle.sat_parts.specs.parts.Using.{Marks, IsAmong, HasVar, InLong, InBinary};
+ghost use Rattle.sat_parts.specs.clause.Glue.{VariablesBelow};
+
+use crate::parts::Parts;
+use sat_base::Lit;
+use sat_store::{ClauseAlloc, ClauseRef};
+use std::alloc::AllocError;
+
+/// Marks the variable of a literal.
+fn mark_lit(used: &mut Vec<bool>, lit: Lit)
+    requires { variable lit < length used.old.items }
+    ensures { Marks used.old.items used.new.items (λ v. variable lit ≡ v) }
+{
+    used[lit.index()] = true;
+}
+
+/// Marks the variables of literals.
+fn mark_lits(used: &mut Vec<bool>, lits: &[Lit])
+    requires { VariablesBelow lits.now (length used.old.items) }
+    ensures { Marks used.old.items used.new.items (IsAmong lits.now (length lits.now)) }
+{
+    for at in 0..lits.len() {
+        mark_lit(used, lits[at]);
+    }
+}
+
+/// Marks the variables of a clause.
+fn mark_clause(used: &mut Vec<bool>, clauses: &ClauseAlloc, cref: ClauseRef)
+    requires clause { IsClause clauses.now cref }
+    requires below { (k : ℕ) → k < size_of clauses.now cref → variable (lit_of clauses.now cref k) < length used.old.items }
+    ensures { Marks used.old.items used.new.items (HasVar clauses.now cref (size_of clauses.now cref)) }
+{
+    for at in 0..clauses.len(cref) {
+        mark_lit(used, clauses.lit(cref, at));
+    }
+}
+
+/// Marks the variables of the live long clauses.
+fn mark_long(used: &mut Vec<bool>, parts: &Parts)
+    requires holds { PartsInvariant parts.now }
+    requires size { length used.old.items ≡ length parts.now.assignment.current }
+    ensures { Marks used.old.items used.new.items (InLong parts.now.clauses parts.now.db.refs (length parts.now.db.refs)) }
+{
+    for at in 0..parts.db.len() {
+        let cref = parts.db.cref(at);
+        if parts.clauses.header(cref).deleted() {
+            continue;
+        }
+        mark_clause(used, &parts.clauses, cref);
+    }
+}
+
+/// Marks the variables of the clauses of two literals.
+fn mark_binary(used: &mut Vec<bool>, parts: &Parts)
+    requires holds { PartsInvariant parts.now }
+    requires size { length used.old.items ≡ length parts.now.assignment.current }
+    ensures { Marks used.old.items used.new.items (InBinary parts.now.binary.implied (length parts.now.binary.implied)) }
+{
+    for code in 0..2 * used.len() {
+        let lit = Lit::from_code(code);
+        let implied = parts.binary.implied(lit);
+        if implied.is_empty() {
+            continue;
+        }
+        mark_lit(used, lit);
+        mark_lits(used, implied);
+    }
+}
+
+/// Finds the variables that clauses have, in place of what the list had: the others are in no clause.
+pub fn mark_used(used: &mut Vec<bool>, parts: &Parts) -> Result<(), AllocError>
+    requires holds { PartsInvariant parts.now }
+    ensures size { OnOk result (length used.new.items ≡ length parts.now.assignment.current) }
+    ensures unused { OnOk result ((v : ℕ) → slice_index_or used.new.items v false ≡ false → InNoClause parts.now v) }
+    ensures others { OnOk result ((v : ℕ) → InNoClause parts.now v → slice_index_or used.new.items v false ≡ false) }
+{
+    used.clear();
+    used.resize(parts.assignment.assignment().len(), false)?;
+    mark_long(used, parts);
+    mark_binary(used, parts);
+    Ok(())
+}

@@ -1,0 +1,71 @@
+//! Variables that are given up and used again.
+ghost use Rattle.std.specs.Prelude.{ℕ, List, ◌≡◌, ◌<◌, None, length, [], true, false, slice_set};
+ghost use Rattle.std.specs.List.{Contains};
+ghost use Rattle.sat_base.specs.values.Literals.{variable};
+ghost use Rattle.sat_store.specs.heap.Vsids.{may_pick, with_available};
+ghost use Rattle.sat_parts.specs.prop.State.{IsRemoved};
+ghost use Rattle.sat_parts.specs.prop.Values.{IsOpenLit, value_of, made_true};
+ghost use Rattle.sat_parts.specs.parts.Whole.{state, PartsInvariant, InNoClause};
+ghost use Rattle.sat_parts.specs.parts.Frame.{SameClauses, GainsUnit, Freed, SameContents};
+ghost use Rattle.sat_parts.specs.parts.Words.{TrailWordExtendsFor};
+
+use crate::parts::Parts;
+use sat_base::{Lit, Var};
+
+/// Gives up a variable that no clause has, while nothing is on the trail.
+pub fn free_variable(parts: &mut Parts, var: Var)
+    requires holds { PartsInvariant parts.old }
+    requires bottom { parts.old.trail.starts ≡ [] }
+    requires empty { parts.old.trail.lits ≡ [] }
+    requires there { var < length parts.old.assignment.current }
+    requires unused { InNoClause parts.old var }
+    ensures holds { PartsInvariant parts.new }
+    ensures open { value_of parts.new.assignment.current var ≡ None }
+    ensures freed { Freed parts.old parts.new var }
+    ensures word { (assumed : List ℕ) → (Contains assumed var → ⊥) → TrailWordExtendsFor assumed parts.old parts.new }
+{
+    parts.assignment.set_var(var, None);
+    parts.vsids.make_unavailable(var);
+}
+
+/// Lets a variable that was given up be picked again.
+pub fn use_variable(parts: &mut Parts, var: Var)
+    requires holds { PartsInvariant parts.old }
+    requires there { var < length parts.old.assignment.current }
+    ensures holds { PartsInvariant parts.new }
+    ensures same { SameContents parts.old parts.new }
+    ensures queue { parts.new.vsids ≡ with_available var true parts.old.vsids }
+{
+    parts.vsids.make_available(var);
+}
+
+/// Sets the activity of a variable that was given up to 0.
+pub fn reset_activity(parts: &mut Parts, var: Var)
+    requires holds { PartsInvariant parts.old }
+    requires there { var < length parts.old.assignment.current }
+    requires given_up { may_pick parts.old.vsids var ≡ false }
+    ensures holds { PartsInvariant parts.new }
+    ensures same { SameContents parts.old parts.new }
+    ensures queue { parts.new.vsids ≡ record parts.old.vsids { activities = slice_set parts.old.vsids.activities var 0 } }
+{
+    parts.vsids.reset(var);
+}
+
+/// Gives a variable that was given up the value that makes a unit true, as it had when the unit was taken off the trail.
+pub fn restore_unit(parts: &mut Parts, lit: Lit)
+    requires holds { PartsInvariant parts.old }
+    requires bottom { parts.old.trail.starts ≡ [] }
+    requires there { variable lit < length parts.old.assignment.current }
+    requires open { IsOpenLit parts.old.assignment.current lit }
+    requires given_up { may_pick parts.old.vsids (variable lit) ≡ false }
+    ensures holds { PartsInvariant parts.new }
+    ensures same { SameClauses parts.old parts.new }
+    ensures gains { GainsUnit lit (state parts.old) (state parts.new) }
+    ensures removed { IsRemoved (state parts.new) lit }
+    ensures values { parts.new.assignment ≡ made_true lit parts.old.assignment }
+    ensures queue { parts.new.vsids ≡ parts.old.vsids }
+    ensures trail { parts.new.trail ≡ parts.old.trail }
+{
+    parts.assignment.assign_lit(lit);
+    parts.graph.update_removed_unit(lit.var());
+}

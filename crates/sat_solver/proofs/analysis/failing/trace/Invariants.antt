@@ -1,9 +1,0 @@
-use Rattle.sat_parts.specs.prop.Ready.{state_of}
-use Rattle.sat_solver.specs.analysis.Failing.{Tracing}
-use Rattle.sat_solver.proofs.analysis.failing.trace.Given as goal
-
-abbrev pub invariant-loop-failed : goal.invariant-loop-failed
-invariant-loop-failed l = Tracing l.clauses (state_of l.assignment l.graph l.trail) l.failed l.analysis l.at
-
-abbrev pub decreases-loop-failed : goal.decreases-loop-failed
-decreases-loop-failed l = l.at

@@ -1,0 +1,16 @@
+use Rattle.sat_solver.specs.proof.ProofView.{steps_of, session_of}
+use Rattle.sat_solver.proofs.lemmas.clause.BumpingLemmas.{learned_on}
+use Rattle.sat_solver.proofs.lemmas.cdcl.GoingLemmas.{goes_on}
+use Rattle.sat_solver.proofs.cdcl.learn.learn_from.Goals as goal
+
+pub returns-clause-learned : goal.returns-clause-learned
+returns-clause-learned g c =
+    let s = session_of c.learn_clause.new.proof in
+    goes_on g.W.CountedWrite.seen tt tt c.args.proof.now c.learn_clause.new.proof _ _
+    (λ steps x. learned_on (steps_of c.args.proof.now) steps s c.args.search.now c.learn_clause.new.search c.bump_met.new.search x (c.bump_met.ensures.bumped s x.search))
+    c.in_ok-learn_clause.ensures.learned
+
+pub returns-clause-raised : goal.returns-clause-raised
+returns-clause-raised g c =
+    let e = c.bump_met.ensures in
+    record { behind = c.learn_clause.new.search; rated = c.in_ok-learn_clause.ensures.rated; rest = e.rest; clauses = e.clauses; queue = e.queue }

@@ -1,0 +1,28 @@
+use Rattle.sat_solver.proofs.lemmas.cdcl.TakingLemmas.{still_pending, taken_ok, involved_undone, rated_ok}
+use Rattle.sat_solver.proofs.cdcl.learn.take_in.Goals as goal
+
+pub bump_clauses-requires-clause-involved : goal.bump_clauses-requires-clause-involved
+bump_clauses-requires-clause-involved c =
+    rw c.involved.ensures (involved_undone c.args.search.now.parts c.undo.new.parts c.undo.ensures.same c.undo.ensures.graph c.args.search.now.flags.flags.items c.args.search.now.analysis.involved c.requires.involved)
+
+pub learn-requires-clause-pending : goal.learn-requires-clause-pending
+learn-requires-clause-pending c =
+    let u = c.undo.ensures in
+    rw c.clause.ensures
+    (still_pending c.args.search.now.parts c.undo.new.parts c.bump_clauses.new.parts c.undo.new.parts c.args.header c.args.search.now.analysis.clause c.args.level c.requires.holds.levelled c.requires.learned
+    u.trail u.starts u.same u.carries u.keeps u.stay (u.pending c.args.search.now.analysis.clause c.requires.learned) c.bump_clauses.ensures.rates.headed c.bump_clauses.ensures.rates.holds)
+
+pub returns-clause-taken : goal.returns-clause-taken
+returns-clause-taken c =
+    let u = c.undo.ensures in
+    let n = c.learn.ensures in
+    taken_ok c.args.search.now.parts c.undo.new.parts c.bump_clauses.new.parts c.learn.new.parts c.args.header c.args.search.now.analysis.clause c.args.level c.requires.holds.levelled c.requires.learned
+    u.trail u.starts u.same u.carries u.keeps u.stay (u.pending c.args.search.now.analysis.clause c.requires.learned) c.bump_clauses.ensures.rates.headed c.bump_clauses.ensures.rates.holds
+    c.learn.result n.holds (rw c.clause.ensures at n.trail) (rw c.clause.ensures at n.learnt) n.stay
+
+pub returns-clause-rated : goal.returns-clause-rated
+returns-clause-rated c =
+    let u = c.undo.ensures in
+    let b = c.bump_clauses.ensures in
+    rated_ok c.args.search.now.parts c.undo.new.parts u.same u.graph c.bump_clauses.new.parts c.learn.new.parts c.args.search.now.activity c.bump_clauses.new.activity c.args.search.now.analysis c.args.header b.rates.refs
+    (rw c.involved.ensures at b.take) c.learn.result (rw c.clause.ensures at c.learn.ensures.learnt)

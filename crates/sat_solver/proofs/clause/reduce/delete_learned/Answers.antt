@@ -1,0 +1,34 @@
+use Rattle.std.proofs.Common.{◌∙◌, refl, ap, true, false}
+use Rattle.std.proofs.lemmas.Result.{err_from_is_err_and}
+use Rattle.sat_base.specs.steps.Steps.{DeleteClause, Redundant}
+use Rattle.sat_solver.specs.proof.ProofView.{session_of}
+use Rattle.sat_solver.specs.session.Session.{session_after}
+use Rattle.sat_solver.proofs.lemmas.cdcl.GoingLemmas.{goes_none, goes_starved, goes_step, goes_broken}
+use Rattle.sat_solver.proofs.lemmas.clause.ReducingLemmas.{deleted_none, deleted_may, deleted_one}
+use Rattle.sat_solver.proofs.clause.reduce.delete_learned.Goals as goal
+
+pub returns-in_err-map_clause : goal.returns-in_err-map_clause
+returns-in_err-map_clause g c =
+    let p = err_from_is_err_and c.from_residual.result c.from_residual.ensures.1 in
+    rw (p.1, p.2) (goes_starved g.W.CountedWrite.seen c.args.proof.now _ c.requires.keeps)
+
+pub returns-then-not-drop_clause : goal.returns-then-not-drop_clause
+returns-then-not-drop_clause g c =
+    goes_none g.W.CountedWrite.seen false c.args.proof.now _ c.requires.keeps
+    (deleted_none (session_of c.args.proof.now) c.args.search.now _ c.requires.search refl refl refl refl c.args.cref (c.drop_clause.ensures.kept c.if-not-drop_clause.true).0 (c.drop_clause.ensures.kept c.if-not-drop_clause.true).1)
+
+pub step-requires-clause-may : goal.step-requires-clause-may
+step-requires-clause-may g c =
+    deleted_may (session_of c.args.proof.now) c.args.search.now (record c.args.search.now { parts = c.drop_clause.new.parts }) c.requires.search refl refl refl refl c.args.cref c.requires.learned (c.drop_clause.ensures.dropped c.if-not-drop_clause.false)
+    c.deref-2.result.now (c.deref-2.ensures.value ∙ rw c.deref.ensures.value at c.in_ok-map_clause.ensures)
+
+pub returns-in-Ok : goal.returns-in-Ok
+returns-in-Ok g c =
+    goes_step g.W.CountedWrite.seen true c.args.proof.now c.step.new.self (DeleteClause c.deref-2.result.now Redundant) _ tt refl c.in-Ok.ensures.keeps c.in-Ok.ensures.records
+    (deleted_one (session_of c.args.proof.now) c.args.search.now _ c.requires.search refl refl refl refl c.args.cref c.requires.learned (c.drop_clause.ensures.dropped c.if-not-drop_clause.false)
+    (session_of c.step.new.self) c.deref-2.result.now (c.deref-2.ensures.value ∙ rw c.deref.ensures.value at c.in_ok-map_clause.ensures) (ap (λ ss. session_after ss) c.in-Ok.ensures.records.history) c.drop_clause.ensures.holds c.drop_clause.ensures.word c.drop_clause.ensures.others (c.drop_clause.ensures.free c.if-not-drop_clause.false))
+
+pub returns-in-Err : goal.returns-in-Err
+returns-in-Err g c =
+    rw c.proof_fault.ensures
+    (goes_broken g.W.CountedWrite.seen c.in-Err.error c.args.proof.now c.step.new.self (DeleteClause c.deref-2.result.now Redundant) _ tt c.in-Err.ensures.keeps c.in-Err.ensures.records)

@@ -1,5 +1,0 @@
-use Rattle.sat_solver.proofs.lemmas.joint.LawLemmas.{learned_is_new}
-use Rattle.sat_solver.proofs.joint.laws.learned_is_new.Goals as goal
-
-pub returns : goal.returns
-returns c = learned_is_new

@@ -1,9 +1,0 @@
-use Rattle.std.proofs.Common.{◌≡◌, ◌++◌, drop}
-use Rattle.sat_solver.specs.acceptance.TrailUnits.{written_units}
-use Rattle.sat_solver.specs.parts.Whole.{state}
-use Rattle.sat_solver.specs.joint.Naming.{global_of}
-use Rattle.sat_solver.proofs.joint.naming.collect_units.Given as goal
-
-abbrev pub invariant-loop-lit : goal.invariant-loop-lit
-invariant-loop-lit l =
-    l.units.items ++ written_units l.parts.clauses (state l.parts) 64 (global_of l.globals) (drop l.lit-index l.parts.trail.lits) ≡ written_units l.parts.clauses (state l.parts) 64 (global_of l.globals) l.parts.trail.lits

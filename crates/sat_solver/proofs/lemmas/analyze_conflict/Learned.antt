@@ -1,0 +1,76 @@
+-- What was resolved, in the order of the trail and with its second literal in place, is what analysis gives.
+use Rattle.std.proofs.Common.{ℕ, ◌≡◌, ◌<◌, ◌≤◌, inl, inr, List, length, get_or, sym, ap, ◌∙◌, subst, arith}
+use Rattle.std.proofs.lemmas.Bool.{cases_eq, cases_lt}
+use Rattle.std.proofs.lemmas.List.Sorted.{IsPermutation-sym, Contains-permutation}
+use Rattle.sat_base.specs.values.Literals.{negated}
+use Rattle.sat_parts.specs.clause.Glue.{AreClear}
+use Rattle.sat_parts.specs.clause.Orders.{Shuffled}
+use Rattle.sat_parts.specs.prop.Values.{IsFalseLit}
+use Rattle.sat_parts.specs.prop.Ready.{IsFalsified}
+use Rattle.sat_parts.specs.prop.State.{State, level, current_level}
+use Rattle.sat_parts.proofs.lemmas.clause.ListLemmas.{place_in}
+use Rattle.sat_solver.specs.analyze_conflict.Work.{Work}
+use Rattle.sat_solver.specs.analyze_conflict.Marks.{causes_at, CanAnalyze}
+use Rattle.sat_solver.specs.analyze_conflict.Derivation.{IsGrounded, grounded_unit, grounded_clause, grounded_reason, AreGrounds, IsDerivation, IsAsserting, PutsSecond, Learns}
+use Rattle.sat_solver.proofs.lemmas.analyze_conflict.InTurn.{acceptable}
+
+-- the same clause in another order
+grounds_shuffled : (words : List ℕ) (s : State) (conflict learned learned' used : List ℕ) → Shuffled learned learned' → AreGrounds words s conflict learned used → AreGrounds words s conflict learned' used
+grounds_shuffled words s conflict learned learned' used p g =
+    let forth : (r : ℕ) → IsGrounded s learned used r → IsGrounded s learned' used r = λ r x. moved s learned learned' used r p x in
+    record {
+      reasons = g.reasons;
+      causes = λ l c i lt. forth (get_or (causes_at words s l) i 0) (g.causes l c i lt);
+      start = λ i lt. forth (get_or conflict i 0) (g.start i lt);
+      apart = λ l c x. g.apart l c (Contains-permutation learned' learned (negated l) (IsPermutation-sym learned learned' p.order) x);
+      distinct = g.distinct;
+    }
+  where
+    moved : (s : State) (learned learned' used : List ℕ) (r : ℕ) → Shuffled learned learned' → IsGrounded s learned used r → IsGrounded s learned' used r
+    moved s learned learned' used r p (grounded_unit z) = grounded_unit z
+    moved s learned learned' used r p (grounded_clause c) = grounded_clause (Contains-permutation learned learned' r p.order c)
+    moved s learned learned' used r p (grounded_reason c) = grounded_reason c
+
+-- each literal of the other order was at a place, and behind the first one at one behind the first
+at_other : (ls ms : List ℕ) (k : ℕ) → Shuffled ls ms → k < length ms → (j : ℕ) × ((j < length ls) × (get_or ls j 0 ≡ get_or ms k 0))
+at_other ls ms k p lt = p.back k (omega (arith, p.size))
+
+asserting_shuffled : (s : State) (ls ms : List ℕ) → Shuffled ls ms → get_or ms 0 0 ≡ get_or ls 0 0 → IsAsserting s ls → IsAsserting s ms
+asserting_shuffled s ls ms p first h = record {
+  some = omega (arith, p.size, h.some);
+  fails = λ k lt.
+      let o : (j : ℕ) × ((j < length ls) × (get_or ls j 0 ≡ get_or ms k 0)) = at_other ls ms k p lt in
+      subst (λ z. IsFalseLit s.values z) o.1.1 (h.fails o.0 o.1.0);
+  top = ap (λ z. level s z) first ∙ h.top;
+  lower = λ k b lt.
+      let o : (j : ℕ) × ((j < length ls) × (get_or ls j 0 ≡ get_or ms k 0)) = at_other ls ms k p lt in
+      subst (λ z. (0 < level s z) × (level s z < current_level s)) o.1.1 (elim (cases_eq o.0 0) [
+        | inl e ↦
+            let d : 0 ≡ k = p.apart h.distinct 0 k (omega (arith, p.size, h.some)) lt (first ∙ ap (λ z. get_or ls z 0) (sym e) ∙ o.1.1) in
+            absurd (omega arith)
+        | inr n ↦ h.lower o.0 (omega arith) o.1.0
+      ]);
+  distinct = p.apart h.distinct;
+}
+
+pub learned : (words : List ℕ) (s : State) (conflict : List ℕ) (w w' : Work) (back : ℕ) → CanAnalyze words s → IsFalsified s.values conflict → IsAsserting s w.clause → IsDerivation words s conflict w.clause w'.used →
+    PutsSecond s.nodes w.clause w'.clause back → AreClear w'.flags → Learns words s conflict w' back
+learned words s conflict w w' back can fails a d p clear =
+    let b : IsAsserting s w'.clause = asserting_shuffled s w.clause w'.clause p.lits p.first a in
+    let size : length w'.clause ≡ length w.clause = p.lits.size in
+    let second : 2 ≤ length w'.clause → back ≡ level s (get_or w'.clause 1 0) = λ le. p.second (omega arith) in
+    record {
+      asserting = b;
+      reasons = λ k lt. d.grounds.reasons (get_or w'.used k 0) (place_in w'.used k lt);
+      rising = d.rising;
+      acceptable = acceptable words s conflict w'.clause w'.used can b.fails fails
+          (record { grounds = grounds_shuffled words s conflict w.clause w'.clause w'.used p.lits d.grounds; rising = d.rising });
+      alone = λ lt. p.alone (omega arith);
+      second = second;
+      highest = λ k q lt. p.highest k q (omega arith);
+      below = elim (cases_lt (length w'.clause) 2) [
+        | inl lt ↦ omega (arith, p.alone (omega arith), can.above)
+        | inr le ↦ omega (arith, second le, (b.lower 1 (omega arith) (omega arith)).1)
+      ];
+      clear = clear;
+    }

@@ -1,3 +1,0 @@
-pub mod RankLemmas
-pub mod GapLemmas
-pub mod ProgressLemmas

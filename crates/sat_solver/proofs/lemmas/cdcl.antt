@@ -1,0 +1,12 @@
+pub mod AskedLemmas
+pub mod BeginLemmas
+pub mod DeletingLemmas
+pub mod EndingLemmas
+pub mod GoingLemmas
+pub mod LearningLemmas
+pub mod LeftLemmas
+pub mod NamedLemmas
+pub mod RoundLemmas
+pub mod ShowingLemmas
+pub mod TakingLemmas
+pub mod TurnLemmas

@@ -1,0 +1,249 @@
+-- Calls that make steps of a search, one after another.
+use Rattle.std.proofs.Common.{ℕ, ◌≡◌, ◌∙◌, ◌⊎◌, inl, inr, Bool, true, false, Result, Ok, Err, Option, List, [], ◌∷◌, ◌++◌, refl, subst}
+use Rattle.std.specs.Prelude.{MatchResult, IfErr}
+use Rattle.sat_base.specs.device.Device.{Writer}
+use Rattle.sat_base.specs.steps.Steps.{Step}
+use Rattle.sat_checker.specs.declared.processing.ProofProcessor.{Ghosts}
+use Rattle.sat_solver.specs.proof.ProofView.{Adds, Complains, FailsCheck, Gains, Records, Keeps, is_lost, steps_of, session_of}
+use Rattle.sat_solver.specs.session.Session.{session_after}
+use Rattle.sat_solver.specs.declared.proof.made.CheckFault.{CheckFault}
+use Rattle.sat_solver.specs.declared.proof.made.CheckFault.TheVariants as checks
+use Rattle.sat_solver.specs.declared.proof.Proof.{Proof}
+use Rattle.sat_solver.specs.declared.proof.ProofError.{ProofError}
+use Rattle.sat_solver.specs.declared.proof.ProofError.TheVariants.{Write, OutOfMemory, Check}
+use Rattle.sat_solver.proofs.lemmas.session.ProofLemmas.{adds_none, adds_more, gains_none, gains_adds, gains_more, fails_later, check_later}
+use Rattle.sat_store.specs.declared.clause.alloc.StoreError.{StoreError}
+use Rattle.sat_store.specs.declared.clause.alloc.StoreError.TheVariants as stores
+use Rattle.sat_solver.specs.Recovery.{failure_of}
+use Rattle.sat_solver.specs.proof.Complaints.{IsComplaint}
+use Rattle.sat_solver.specs.cdcl.Faults.{IsKept, NamesLoss}
+use Rattle.sat_solver.specs.declared.error.SolverError.{SolverError}
+use Rattle.sat_solver.specs.declared.error.SolverError.TheVariants as errors
+use Rattle.sat_solver.specs.session.Quiet.{is_quiet, AreQuiet}
+use Rattle.sat_solver.proofs.lemmas.fits.QuietLemmas.{quiet_both}
+use Rattle.sat_solver.specs.cdcl.Going.{AreSearched, IsSearched, AreQuietUnless, check_fault_of, fault_of, IsFault, IsFaultOr, Went, EmitsSteps, EmitsStepsOr, EmitsStepsWith}
+use Rattle.sat_solver.proofs.lemmas.cdcl.AskedLemmas.{names_behind}
+
+both : (names : ℕ → Option ℕ) (ys xs : List Step) → AreSearched names ys → AreSearched names xs → AreSearched names (ys ++ xs)
+both names [] xs h k = k
+both names (y ∷ ys) xs h k = (h.0, both names ys xs h.1 k)
+
+-- Steps of a search, and then later ones of it: the solver names are the same.
+pub searched_both : (ys xs later earlier : List Step) → later ≡ xs ++ earlier → AreSearched (session_after later).solver_names ys → AreSearched (session_after earlier).solver_names xs → AreSearched (session_after earlier).solver_names (ys ++ xs)
+searched_both ys xs later earlier written h k =
+    both (session_after earlier).solver_names ys xs (subst (λ names. AreSearched names ys) (names_behind xs later earlier (session_after earlier).solver_names written k) h) k
+
+-- what may happen where no clause is stored may happen where one is
+pub fault_or : (full : Type 0) (e : SolverError) → IsFault e → IsFaultOr full e
+fault_or full errors.OutOfMemory h = h
+fault_or full errors.StoreFull h = absurd h
+fault_or full (errors.ProofIoError cause) h = h
+fault_or full (errors.ProofProcessorError cause) h = h
+fault_or full errors.CounterEnd h = h
+fault_or full errors.Interrupted h = absurd h
+fault_or full errors.WitnessVariable h = absurd h
+fault_or full errors.AssumedVariable h = absurd h
+fault_or full errors.TooLate h = absurd h
+fault_or full errors.NotInDrat h = absurd h
+fault_or full errors.VariableLimit h = absurd h
+fault_or full errors.HasFailed h = absurd h
+fault_or full errors.Read h = absurd h
+fault_or full errors.Malformed h = absurd h
+fault_or full errors.OutOfRange h = absurd h
+
+pub fault_checked : (full : Type 0) (fault : CheckFault) → IsFaultOr full (check_fault_of fault)
+fault_checked full checks.OutOfMemory = tt
+fault_checked full checks.CounterEnd = tt
+fault_checked full (checks.Processor cause) = tt
+
+ends_with : {A : Type 0} (full : Type 0) (r : Result A SolverError) (P Q : A → Type 0) → ((x : A) → P x → Q x) → MatchResult r P (IsFaultOr full) → MatchResult r Q (IsFaultOr full)
+ends_with full (Ok x) P Q f h = f x h
+ends_with full (Err e) P Q f h = h
+
+ends_or : {A : Type 0} (full : Type 0) (r : Result A SolverError) (P : A → Type 0) → MatchResult r P IsFault → MatchResult r P (IsFaultOr full)
+ends_or full (Ok x) P h = h
+ends_or full (Err e) P h = fault_or full e h
+
+-- what a checker's processor complained of is kept
+pub complaint_kept : {W L : Type 0} {G : Ghosts L} (fault : CheckFault) (p : Proof W L G) → IsComplaint fault p.made.complaint → IsKept (check_fault_of fault) p
+complaint_kept checks.OutOfMemory p h = tt
+complaint_kept checks.CounterEnd p h = tt
+complaint_kept (checks.Processor cause) p h = h
+
+-- and its fault is named
+pub check_loss : {W L : Type 0} {G : Ghosts L} (fault : CheckFault) (p q : Proof W L G) → Complains fault q → NamesLoss (check_fault_of fault) p q
+check_loss checks.OutOfMemory p q h = inr h
+check_loss checks.CounterEnd p q h = tt
+check_loss (checks.Processor cause) p q h = tt
+
+-- behind a call that lost no step
+pub loss_later : {W L : Type 0} {G : Ghosts L} (e : SolverError) (a b c : Proof W L G) → is_lost b ≡ is_lost a → NamesLoss e b c → NamesLoss e a c
+loss_later errors.Interrupted a b c same h = h ∙ same
+loss_later (errors.ProofProcessorError cause) a b c same h = tt
+loss_later (errors.ProofIoError cause) a b c same h = tt
+loss_later errors.OutOfMemory a b c same h = elim h [ inl k ↦ inl (k ∙ same) | inr w ↦ inr w ]
+loss_later errors.WitnessVariable a b c same h = h ∙ same
+loss_later errors.AssumedVariable a b c same h = h ∙ same
+loss_later errors.TooLate a b c same h = h ∙ same
+loss_later errors.NotInDrat a b c same h = h ∙ same
+loss_later errors.StoreFull a b c same h = h ∙ same
+loss_later errors.VariableLimit a b c same h = h ∙ same
+loss_later errors.CounterEnd a b c same h = tt
+loss_later errors.HasFailed a b c same h = h ∙ same
+loss_later errors.Read a b c same h = h ∙ same
+loss_later errors.Malformed a b c same h = h ∙ same
+loss_later errors.OutOfRange a b c same h = h ∙ same
+
+loss_behind : {A W L : Type 0} {G : Ghosts L} (r : Result A SolverError) (a b c : Proof W L G) → is_lost b ≡ is_lost a → IfErr r (λ e. NamesLoss e b c) → IfErr r (λ e. NamesLoss e a c)
+loss_behind (Ok x) a b c same h = tt
+loss_behind (Err e) a b c same h = loss_later e a b c same h
+
+-- NOTHING IS LEARNED
+
+quiet_none : (learns : Bool) → AreQuietUnless learns []
+quiet_none true = tt
+quiet_none false = tt
+
+quiet_then : {B : Type 0} (learns : Bool) (r : Result B SolverError) (xs ys : List Step) → AreQuiet xs → MatchResult r (λ _. AreQuietUnless learns ys) (λ _. Unit {0}) → MatchResult r (λ _. AreQuietUnless learns (ys ++ xs)) (λ _. Unit {0})
+quiet_then true (Ok x) xs ys h k = tt
+quiet_then false (Ok x) xs ys h k = quiet_both xs ys h k
+quiet_then learns (Err e) xs ys h k = tt
+
+quiet_or : {B : Type 0} (r : Result B SolverError) → MatchResult r (λ _. Unit {0}) (λ _. Unit {0})
+quiet_or (Ok x) = tt
+quiet_or (Err e) = tt
+
+module _ {W L : Type 0} {G : Ghosts L} (seen : W → Writer) where
+  -- nothing was written
+  pub goes_none : {A full : Type 0} {learns : Bool} (x : A) (p : Proof W L G) (P : A → List Step → Type 0) → Keeps p → P x [] → EmitsStepsWith full learns seen (Ok x) p p P
+  goes_none {learns = learns} x p P keeps h = record { steps = []; went = gains_none seen p; searched = tt; quiet = quiet_none learns; keeps = keeps; kept = tt; loss = tt; ends = h }
+
+  -- no memory was left before anything was written
+  pub goes_starved : {A full : Type 0} {learns : Bool} (p : Proof W L G) (P : A → List Step → Type 0) → Keeps p → EmitsStepsWith full learns seen (Err errors.OutOfMemory) p p P
+  goes_starved p P keeps = record { steps = []; went = adds_none seen p; searched = tt; quiet = tt; keeps = keeps; kept = tt; loss = inl refl; ends = tt }
+
+  -- the checker failed
+  pub went_checked : (A : Type 0) (fault : CheckFault) (steps : List Step) (p q : Proof W L G) → FailsCheck seen fault steps p q → Went {A = A} seen (Err (check_fault_of fault)) steps p q
+  went_checked A checks.OutOfMemory steps p q h = h.adds
+  went_checked A checks.CounterEnd steps p q h = h
+  went_checked A (checks.Processor cause) steps p q h = h
+
+  -- one step was written, by which nothing is learned
+  pub goes_step : {A full : Type 0} (x : A) (p q : Proof W L G) (step : Step) (P : A → List Step → Type 0) → IsSearched (session_of p).solver_names step → is_quiet step ≡ true → Keeps q → Gains seen (step ∷ []) p q → P x (step ∷ []) → EmitsStepsWith full false seen (Ok x) p q P
+  goes_step x p q step P s quiet keeps gains h = record { steps = step ∷ []; went = gains; searched = (s, tt); quiet = (quiet, tt); keeps = keeps; kept = tt; loss = tt; ends = h }
+
+  -- or something is
+  pub goes_learned : {A full : Type 0} (x : A) (p q : Proof W L G) (step : Step) (P : A → List Step → Type 0) → IsSearched (session_of p).solver_names step → Keeps q → Gains seen (step ∷ []) p q → P x (step ∷ []) → EmitsStepsOr full seen (Ok x) p q P
+  goes_learned x p q step P s keeps gains h = record { steps = step ∷ []; went = gains; searched = (s, tt); quiet = tt; keeps = keeps; kept = tt; loss = tt; ends = h }
+
+  -- a step was made, and the target failed at it, or no memory was left for it
+  pub goes_broken : {A full : Type 0} {learns : Bool} (e : ProofError) (p q : Proof W L G) (step : Step) (P : A → List Step → Type 0) → IsSearched (session_of p).solver_names step → Keeps q → Records {T = Unit {0}} seen (Err e) (step ∷ []) p q → EmitsStepsWith full learns seen (Err (fault_of e)) p q P
+  goes_broken (Write cause) p q step P s keeps fails = record { steps = step ∷ []; went = fails.0; searched = (s, tt); quiet = tt; keeps = keeps; kept = fails.1; loss = tt; ends = tt }
+  goes_broken OutOfMemory p q step P s keeps gains = record { steps = []; went = gains_adds seen [] p q gains; searched = tt; quiet = tt; keeps = keeps; kept = tt; loss = inl gains.taking; ends = tt }
+  goes_broken {A = A} {full} (Check fault) p q step P s keeps fails = record { steps = step ∷ []; went = went_checked A fault (step ∷ []) p q fails.0; searched = (s, tt); quiet = tt; keeps = keeps; kept = complaint_kept fault q fails.1; loss = check_loss fault p q fails.0.why; ends = fault_checked full fault }
+
+  -- a step was made, and then the clause buffer refused
+  pub goes_refused : {A full : Type 0} {learns : Bool} (s : StoreError) (p q : Proof W L G) (step : Step) (P : A → List Step → Type 0) → IsSearched (session_of p).solver_names step → Keeps q → Gains seen (step ∷ []) p q → (s ≡ stores.StoreFull → full) → EmitsStepsWith full learns seen (Err (failure_of s)) p q P
+  goes_refused stores.StoreFull p q step P s keeps gains f = record { steps = step ∷ []; went = gains_adds seen (step ∷ []) p q gains; searched = (s, tt); quiet = tt; keeps = keeps; kept = tt; loss = gains.taking; ends = f refl }
+  goes_refused stores.OutOfMemory p q step P s keeps gains f = record { steps = step ∷ []; went = gains_adds seen (step ∷ []) p q gains; searched = (s, tt); quiet = tt; keeps = keeps; kept = tt; loss = inl gains.taking; ends = tt }
+
+  -- a fault behind steps that were made
+  pub went_behind : (A : Type 0) (e : SolverError) (xs ys : List Step) (a b c : Proof W L G) → Adds seen xs a b → Went {A = A} seen (Err e) ys b c → Went {A = A} seen (Err e) (ys ++ xs) a c
+  went_behind A (errors.ProofIoError cause) xs ys a b c h k = fails_later seen xs ys a b c h k
+  went_behind A errors.Interrupted xs ys a b c h k = adds_more seen xs ys a b c h k
+  went_behind A (errors.ProofProcessorError cause) xs ys a b c h k = check_later seen xs ys a b c h k
+  went_behind A errors.OutOfMemory xs ys a b c h k = adds_more seen xs ys a b c h k
+  went_behind A errors.WitnessVariable xs ys a b c h k = adds_more seen xs ys a b c h k
+  went_behind A errors.AssumedVariable xs ys a b c h k = adds_more seen xs ys a b c h k
+  went_behind A errors.TooLate xs ys a b c h k = adds_more seen xs ys a b c h k
+  went_behind A errors.NotInDrat xs ys a b c h k = adds_more seen xs ys a b c h k
+  went_behind A errors.StoreFull xs ys a b c h k = adds_more seen xs ys a b c h k
+  went_behind A errors.VariableLimit xs ys a b c h k = adds_more seen xs ys a b c h k
+  went_behind A errors.CounterEnd xs ys a b c h k = check_later seen xs ys a b c h k
+  went_behind A errors.HasFailed xs ys a b c h k = adds_more seen xs ys a b c h k
+  went_behind A errors.Read xs ys a b c h k = adds_more seen xs ys a b c h k
+  went_behind A errors.Malformed xs ys a b c h k = adds_more seen xs ys a b c h k
+  went_behind A errors.OutOfRange xs ys a b c h k = adds_more seen xs ys a b c h k
+
+  -- a call behind another that went well
+  pub went_later : {A : Type 0} (r : Result A SolverError) (xs ys : List Step) (a b c : Proof W L G) → Gains seen xs a b → Went seen r ys b c → Went seen r (ys ++ xs) a c
+  went_later (Ok x) xs ys a b c h k = gains_more seen xs ys a b c h k
+  went_later {A = A} (Err e) xs ys a b c h k = went_behind A e xs ys a b c (gains_adds seen xs a b h) k
+
+  -- what was answered says more
+  pub goes_map : {A full : Type 0} {learns : Bool} (r : Result A SolverError) (p q : Proof W L G) (P Q : A → List Step → Type 0) → ((x : A) (steps : List Step) → P x steps → Q x steps) → EmitsStepsWith full learns seen r p q P → EmitsStepsWith full learns seen r p q Q
+  goes_map {full} r p q P Q f h = record { steps = h.steps; went = h.went; searched = h.searched; quiet = h.quiet; keeps = h.keeps; kept = h.kept; loss = h.loss; ends = ends_with full r (λ x. P x h.steps) (λ x. Q x h.steps) (λ x. f x h.steps) h.ends }
+
+  -- one call after another
+  pub goes_then : {A B full : Type 0} {learns : Bool} (x : A) (r : Result B SolverError) (a b c : Proof W L G) (P : A → List Step → Type 0) (Q R : B → List Step → Type 0) → EmitsSteps seen (Ok x) a b P → EmitsStepsWith full learns seen r b c Q →
+      ((xs ys : List Step) (y : B) → P x xs → Q y ys → R y (ys ++ xs)) → EmitsStepsWith full learns seen r a c R
+  goes_then {full} {learns} x r a b c P Q R h k f = record {
+    steps = k.steps ++ h.steps;
+    went = went_later r h.steps k.steps a b c h.went k.went;
+    quiet = quiet_then learns r h.steps k.steps h.quiet k.quiet;
+    searched = searched_both k.steps h.steps (steps_of b) (steps_of a) h.went.history k.searched h.searched;
+    keeps = k.keeps;
+    kept = k.kept;
+    loss = loss_behind r a b c h.went.taking k.loss;
+    ends = ends_with full r (λ y. Q y k.steps) (λ y. R y (k.steps ++ h.steps)) (λ y. f h.steps k.steps y h.ends) k.ends;
+  }
+
+  pub went_failing : (A B : Type 0) (e : SolverError) (steps : List Step) (a b : Proof W L G) → Went {A = A} seen (Err e) steps a b → Went {A = B} seen (Err e) steps a b
+  went_failing A B (errors.ProofIoError cause) steps a b h = h
+  went_failing A B errors.Interrupted steps a b h = h
+  went_failing A B (errors.ProofProcessorError cause) steps a b h = h
+  went_failing A B errors.OutOfMemory steps a b h = h
+  went_failing A B errors.WitnessVariable steps a b h = h
+  went_failing A B errors.AssumedVariable steps a b h = h
+  went_failing A B errors.TooLate steps a b h = h
+  went_failing A B errors.NotInDrat steps a b h = h
+  went_failing A B errors.StoreFull steps a b h = h
+  went_failing A B errors.VariableLimit steps a b h = h
+  went_failing A B errors.CounterEnd steps a b h = h
+  went_failing A B errors.HasFailed steps a b h = h
+  went_failing A B errors.Read steps a b h = h
+  went_failing A B errors.Malformed steps a b h = h
+  went_failing A B errors.OutOfRange steps a b h = h
+
+  -- the same, where the second call's answer speaks of the steps before it
+  pub goes_behind : {A B full : Type 0} {learns : Bool} (x : A) (r : Result B SolverError) (a b c : Proof W L G) (P : A → List Step → Type 0) (Q R : B → List Step → Type 0) → EmitsSteps seen (Ok x) a b P → EmitsStepsWith full learns seen r b c Q →
+      ((xs ys : List Step) (y : B) → steps_of b ≡ xs ++ steps_of a → AreQuiet xs → P x xs → Q y ys → R y (ys ++ xs)) → EmitsStepsWith full learns seen r a c R
+  goes_behind {full} {learns} x r a b c P Q R h k f = record {
+    steps = k.steps ++ h.steps;
+    went = went_later r h.steps k.steps a b c h.went k.went;
+    quiet = quiet_then learns r h.steps k.steps h.quiet k.quiet;
+    searched = searched_both k.steps h.steps (steps_of b) (steps_of a) h.went.history k.searched h.searched;
+    keeps = k.keeps;
+    kept = k.kept;
+    loss = loss_behind r a b c h.went.taking k.loss;
+    ends = ends_with full r (λ y. Q y k.steps) (λ y. R y (k.steps ++ h.steps)) (λ y. f h.steps k.steps y h.went.history h.quiet h.ends) k.ends;
+  }
+
+  -- one call after another, which fails
+  pub goes_then_fails : {A B C full : Type 0} {learns : Bool} (x : A) (e : SolverError) (a b c : Proof W L G) (P : A → List Step → Type 0) (Q : B → List Step → Type 0) (R : C → List Step → Type 0) → EmitsSteps seen (Ok x) a b P → EmitsStepsWith full learns seen (Err e) b c Q → EmitsStepsWith full learns seen (Err e) a c R
+  goes_then_fails {A = A} {B = B} {C = C} x e a b c P Q R h k = record {
+    steps = k.steps ++ h.steps;
+    went = went_later {A = C} (Err e) h.steps k.steps a b c h.went (went_failing B C e k.steps b c k.went);
+    searched = searched_both k.steps h.steps (steps_of b) (steps_of a) h.went.history k.searched h.searched;
+    quiet = tt;
+    keeps = k.keeps;
+    kept = k.kept;
+    loss = loss_later e a b c h.went.taking k.loss;
+    ends = k.ends;
+  }
+
+  -- it went well, and something else is answered
+  pub goes_on : {A B f g : Type 0} {learns : Bool} (x : A) (y : B) (a b : Proof W L G) (P : A → List Step → Type 0) (Q : B → List Step → Type 0) → ((steps : List Step) → P x steps → Q y steps) → EmitsStepsWith f learns seen (Ok x) a b P → EmitsStepsWith g learns seen (Ok y) a b Q
+  goes_on x y a b P Q f h = record { steps = h.steps; went = h.went; searched = h.searched; quiet = h.quiet; keeps = h.keeps; kept = tt; loss = tt; ends = f h.steps h.ends }
+
+  -- the same, where it's said that nothing was learned
+  pub goes_quietly : {A B full : Type 0} (x : A) (y : B) (a b : Proof W L G) (P : A → List Step → Type 0) (Q : B → List Step → Type 0) → ((steps : List Step) → AreQuiet steps → P x steps → Q y steps) → EmitsSteps seen (Ok x) a b P → EmitsStepsOr full seen (Ok y) a b Q
+  goes_quietly x y a b P Q f h = record { steps = h.steps; went = h.went; searched = h.searched; quiet = tt; keeps = h.keeps; kept = tt; loss = tt; ends = f h.steps h.quiet h.ends }
+
+  -- what goes where no clause is stored goes where one is
+  pub goes_or : {A full : Type 0} (r : Result A SolverError) (a b : Proof W L G) (P : A → List Step → Type 0) → EmitsSteps seen r a b P → EmitsStepsOr full seen r a b P
+  goes_or {full} r a b P h = record { steps = h.steps; went = h.went; searched = h.searched; quiet = quiet_or r; keeps = h.keeps; kept = h.kept; loss = h.loss; ends = ends_or full r (λ x. P x h.steps) h.ends }
+
+  -- it failed, and the fault is passed on
+  pub goes_failing : {A B full : Type 0} {learns : Bool} (e : SolverError) (a b : Proof W L G) (P : A → List Step → Type 0) (Q : B → List Step → Type 0) → EmitsStepsWith full learns seen (Err e) a b P → EmitsStepsWith full learns seen (Err e) a b Q
+  goes_failing {A = A} {B = B} e a b P Q h = record { steps = h.steps; went = went_failing A B e h.steps a b h.went; searched = h.searched; quiet = tt; keeps = h.keeps; kept = h.kept; loss = h.loss; ends = h.ends }

@@ -1,0 +1,84 @@
+-- What the parts of a search are left as.
+use Rattle.std.proofs.Common.{ℕ, ◌≡◌, ◌<◌, ◌+◌, ◌∙◌, List, [], ◌∷◌, length, get_or, refl, sym, ap, subst, arith}
+use Rattle.sat_base.specs.steps.Steps.{UnitClauses}
+use Rattle.sat_parts.specs.clause.Db.{live_refs}
+use Rattle.sat_parts.specs.declared.parts.Parts.{Parts}
+use Rattle.sat_parts.specs.parts.Round.{AreUnits, IsBased}
+use Rattle.sat_parts.specs.prop.State.{State}
+use Rattle.sat_parts.specs.parts.Assumed.{IsPlaced}
+use Rattle.sat_parts.specs.parts.Whole.{state, PartsInvariant, HoldsBelow, IsDone}
+use Rattle.sat_parts.specs.parts.Frame.{SameClauses, Clears}
+use Rattle.sat_parts.specs.parts.Words.{TrailWordExtends}
+use Rattle.sat_parts.proofs.lemmas.parts.WordSteps.{extends_refl}
+use Rattle.sat_solver.specs.session.Session.{Session, after}
+use Rattle.sat_solver.specs.session.TrailUnits.{written_units}
+use Rattle.sat_solver.specs.session.Fits.{SessionMatchesParts, HaveNames}
+use Rattle.sat_solver.specs.session.Units.{FitsAll}
+use Rattle.sat_solver.specs.session.Going.{IsOrderly}
+use Rattle.sat_solver.proofs.lemmas.fits.StepLemmas.{starts_none}
+use Rattle.sat_solver.proofs.lemmas.fits.UnitLemmas.{units_written, fits_cleared}
+use Rattle.sat_solver.specs.unit_simplify.Left.{AllUnits, IsSettled}
+
+pub none_left : {A : Type 0} (xs : List A) → length xs ≡ 0 → xs ≡ []
+none_left [] e = refl
+none_left (x ∷ xs) e = absurd (omega arith)
+
+-- no unit was written: all of them are units of the session
+fits_quiet : (words live : List ℕ) (implied : List (List ℕ)) (p : Parts) (s : Session) (global : ℕ → ℕ) → FitsAll words live implied (state p) (after (UnitClauses []) s) global → FitsAll words live implied (state p) s global
+fits_quiet words live implied p s global h = record {
+  fits = record {
+    clauses = record { named = h.fits.clauses.named; once = h.fits.clauses.once; counts = h.fits.clauses.counts };
+    paired = h.fits.paired;
+    known = h.fits.known;
+    sound = h.fits.sound;
+    consistent = h.fits.consistent;
+    width = h.fits.width;
+  };
+  all = h.all;
+}
+
+module _ (p : Parts) (s : Session) (global : ℕ → ℕ) (orderly : IsOrderly p) (bottom : length p.trail.starts ≡ 0) (fits : SessionMatchesParts p s global) (names : HaveNames p.assignment.current s global) where
+  pub units_step : AllUnits p (after (UnitClauses (written_units p.clauses (state p) 64 global p.trail.lits)) s) global
+  units_step = units_written p.clauses (live_refs p.clauses p.db.refs) p.binary.implied (state p) s global fits names orderly.agrees orderly.clauses orderly.turns bottom
+
+  pub units_none : written_units p.clauses (state p) 64 global p.trail.lits ≡ [] → AllUnits p s global
+  units_none none =
+      fits_quiet p.clauses (live_refs p.clauses p.db.refs) p.binary.implied p s global (subst (λ us. AllUnits p (after (UnitClauses us) s) global) none units_step)
+
+-- what was looked at at level 0 stays so
+placed_cleared : (ls below : List ℕ) (place : ℕ) (s s' : State) → length s.trail.starts ≡ 0 → s'.trail.starts ≡ [] → Clears s s' → IsPlaced ls below place s → IsPlaced ls below place s'
+placed_cleared ls below place s s' bottom none clears x =
+    let flat : length s'.trail.starts ≡ 0 = ap (λ (xs : List ℕ). length xs) none in
+    record {
+      levels = omega (arith, x.levels);
+      within = x.within;
+      low_within = x.low_within;
+      passed = λ k b. (let p = x.passed k b in let q = clears.bottom (get_or ls k 0) p.0 (omega (arith, p.1, x.levels)) in (q.0, omega (arith, q.1)));
+      low_passed = λ j k b d. absurd (omega (arith, x.levels));
+      begun = λ j b. absurd (omega (arith, x.levels));
+      all = λ lt. absurd (omega arith);
+    }
+
+-- above level 0 nothing is done
+pub settled_above : (p : Parts) (s : Session) (global : ℕ → ℕ) → 0 < length p.trail.starts → HoldsBelow (length p.trail.starts + 1) p → IsDone p → AreUnits (state p) × IsBased p.trail → SessionMatchesParts p s global → IsSettled p p s global
+settled_above p s global above h done units fits = record {
+  stands = record { holds = record { below = h; units = units.0; base = units.1 }; fits = fits };
+  done = done;
+  starts = refl;
+  empty = λ e. absurd (let n : length p.trail.starts ≡ 0 = ap (λ (xs : List ℕ). length xs) e in omega arith);
+  word = extends_refl p;
+  size = refl;
+  placed = λ a x. x;
+}
+
+-- at level 0 units were taken off the trail
+pub settled_bottom : (p q : Parts) (s : Session) (global : ℕ → ℕ) → AllUnits p s global → length p.trail.starts ≡ 0 → PartsInvariant q → IsDone q → q.trail.starts ≡ [] → q.trail.lits ≡ [] → SameClauses p q → Clears (state p) (state q) → TrailWordExtends p q → IsSettled p q s global
+settled_bottom p q s global all bottom holds done none empty same clears word = record {
+  stands = record { holds = holds; fits = rw (same.0, same.1, same.2) (fits_cleared p.clauses (live_refs p.clauses p.db.refs) p.binary.implied (state p) (state q) s global clears all) };
+  done = done;
+  starts = none ∙ sym (starts_none p bottom);
+  empty = λ e. empty;
+  word = word;
+  size = clears.size;
+  placed = λ a x. placed_cleared a.lits.items a.below.items a.place (state p) (state q) bottom none clears x;
+}

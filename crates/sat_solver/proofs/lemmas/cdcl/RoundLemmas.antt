@@ -1,0 +1,64 @@
+-- How rounds end.
+use Rattle.std.proofs.Common.{ℕ, ◌≡◌, false, List, ◌++◌, sym, ap, subst, append_assoc}
+use Rattle.sat_base.specs.steps.Steps.{Step}
+use Rattle.sat_parts.specs.parts.Words.{TrailWordExtendsFor}
+use Rattle.sat_parts.proofs.lemmas.parts.WordSteps.{rises_after}
+use Rattle.sat_solver.specs.session.Session.{Session, session_after}
+use Rattle.sat_solver.specs.session.Advancing.{Advances}
+use Rattle.sat_solver.specs.session.Quiet.{AreQuiet}
+use Rattle.sat_solver.proofs.lemmas.fits.QuietLemmas.{quiet_both}
+use Rattle.sat_solver.specs.declared.schedule.Outcome.{Outcome}
+use Rattle.sat_solver.specs.declared.schedule.Outcome.TheVariants as outcomes
+use Rattle.sat_solver.specs.declared.context.Search.{Search}
+use Rattle.sat_solver.specs.cdcl.Joint.{assumed_in, IsSearch, Moved}
+use Rattle.sat_solver.specs.cdcl.Learning.{LastAdvances}
+use Rattle.sat_solver.specs.cdcl.Rounds.{LastRefutes, RoundSays}
+use Rattle.sat_solver.proofs.lemmas.cdcl.TurnLemmas.{moved_trans}
+
+-- the newest step advances, whatever steps are told apart from the earlier ones
+pub last_later : (earlier xs ys : List Step) → AreQuiet xs → LastAdvances (xs ++ earlier) ys → LastAdvances earlier (ys ++ xs)
+last_later earlier xs ys quiet l = record {
+  redundant = l.redundant;
+  clause = l.clause;
+  hashes = l.hashes;
+  rest = l.rest ++ xs;
+  is = ap (λ zs. zs ++ xs) l.is;
+  advances = subst (λ zs. Advances (session_after zs) l.clause) (sym (append_assoc l.rest xs earlier)) l.advances;
+  quiet = quiet_both xs l.rest quiet l.quiet;
+}
+
+-- the newest step refutes, whatever steps are told apart from the earlier ones
+pub refutes_later : (earlier xs ys : List Step) (s : Session) → AreQuiet xs → LastRefutes (xs ++ earlier) ys s → LastRefutes earlier (ys ++ xs) s
+refutes_later earlier xs ys s quiet l = record {
+  last = l.last;
+  rest = l.rest ++ xs;
+  is = ap (λ zs. zs ++ xs) l.is;
+  before = subst (λ zs. (session_after zs).unsat ≡ false) (sym (append_assoc l.rest xs earlier)) l.before;
+  now = l.now;
+  quiet = quiet_both xs ys quiet l.quiet;
+}
+
+-- what is said of a later state behind an earlier one
+pub round_from : (outcome : Outcome) (earlier xs ys : List Step) (s : Session) (a b c : Search) → Moved a b → TrailWordExtendsFor (assumed_in a) a.parts b.parts → AreQuiet xs → RoundSays outcome (xs ++ earlier) ys s b c → RoundSays outcome earlier (ys ++ xs) s a c
+round_from outcomes.Learned earlier xs ys s a b c moved word quiet r = record {
+  search = r.search;
+  moved = moved_trans a b c moved r.moved;
+  rises = rises_after (assumed_in a) a.parts b.parts c.parts word (rw moved.lits at r.rises);
+  last = last_later earlier xs ys quiet r.last;
+}
+round_from outcomes.Model earlier xs ys s a b c moved word quiet r = (record { search = r.0.search; moved = moved_trans a b c moved r.0.moved; complete = r.0.complete }, quiet_both xs ys quiet r.1)
+round_from outcomes.Unsat earlier xs ys s a b c moved word quiet r = refutes_later earlier xs ys s quiet r
+round_from outcomes.Failed earlier xs ys s a b c moved word quiet r = (record { search = r.0.search; moved = moved_trans a b c moved r.0.moved; failing = r.0.failing }, quiet_both xs ys quiet r.1)
+
+-- which assumption failed is noted
+pub search_failed : (s : Session) (c : Search) (l : ℕ) → IsSearch s c → IsSearch s (record c { failed = l })
+search_failed s c l h = record {
+  stands = h.stands;
+  ready = record {
+    free = record { names = h.ready.free.names; size = h.ready.free.size; clear = h.ready.free.clear; flags_size = h.ready.free.flags_size; flags_clear = h.ready.free.flags_clear };
+    placed = h.ready.placed;
+    there = h.ready.there;
+    asked = h.ready.asked;
+    used = h.ready.used;
+  };
+}

@@ -1,0 +1,81 @@
+-- What was learned comes in where levels were undone and headers changed.
+use Rattle.std.proofs.Common.{ℕ, ◌≡◌, ◌∙◌, Bool, List, length, get_or, refl, ap, subst, Result, Ok, Err, OnOk}
+use Rattle.sat_store.specs.clause.Header.{Header}
+use Rattle.sat_parts.specs.clause.Activity.{Scale}
+use Rattle.sat_parts.specs.clause.Db.{Db}
+use Rattle.sat_parts.specs.prop.State.{State}
+use Rattle.sat_parts.specs.prop.Trails.{Trailed, cut_to, with_lit}
+use Rattle.sat_parts.specs.prop.TrailWord.{IsLevelled}
+use Rattle.sat_store.specs.heap.Vsids.{Queue}
+use Rattle.sat_solver.specs.analyze_conflict.Work.{Work}
+use Rattle.sat_parts.specs.declared.parts.Parts.{Parts}
+use Rattle.sat_parts.specs.parts.Frame.{SameClauses, Carries, KeepsTo, Learnt, Headed}
+use Rattle.sat_parts.specs.parts.Learned.{IsLearned, IsPending}
+use Rattle.sat_parts.specs.parts.Whole.{state, PartsInvariant}
+use Rattle.sat_parts.specs.parts.Words.{GoesOn, TrailWordStays}
+use Rattle.sat_parts.proofs.lemmas.parts.KeepLemmas.{keeps_trans}
+use Rattle.sat_parts.proofs.lemmas.parts.WordSteps.{rises_taken}
+use Rattle.sat_solver.proofs.lemmas.fits.FramedParts.{fits_headed}
+use Rattle.sat_solver.proofs.lemmas.fits.LearnedLemmas.{size_learnt, fits_learnt, fits_undone, false_signs}
+use Rattle.sat_solver.specs.clause.Assessed.{levels_in, TakePart, AreInvolved}
+use Rattle.sat_solver.specs.declared.context.Search.{Search}
+use Rattle.sat_solver.specs.cdcl.Joint.{IsFree, Moved}
+use Rattle.sat_solver.specs.cdcl.Learning.{Taken, Rated}
+use Rattle.sat_solver.proofs.lemmas.cdcl.LearningLemmas.{keeps_learnt, starts_learnt}
+
+module _ (p mid q n : Parts) (header : Header) (ls : List ℕ) (top : ℕ) (levelled : IsLevelled (state p)) (learned : IsLearned (state p) ls top)
+    (trail : mid.trail ≡ cut_to top p.trail) (starts : length mid.trail.starts ≡ top) (same : SameClauses p mid) (carries : Carries (state p) (state mid)) (keeps : KeepsTo top (state p) (state mid)) (stay : TrailWordStays p mid)
+    (pending : IsPending (state mid) mid.vsids ls) (headed : Headed mid q) (holds : PartsInvariant q) where
+  same_state : state q ≡ state mid
+  same_state = rw (headed.same.0.0, headed.same.0.1, headed.same.0.2) (refl {a = state mid})
+
+  pub still_pending : IsPending (state q) q.vsids ls
+  still_pending = rw (same_state, headed.same.2) pending
+
+  stay_before : TrailWordStays q n → TrailWordStays mid n
+  stay_before x am = subst (λ (v : Queue). GoesOn am (state mid) v (state n) n.vsids) headed.same.2 (subst (λ (s : State). GoesOn am s q.vsids (state n) n.vsids) same_state (x am))
+
+  taken : PartsInvariant n → n.trail ≡ with_lit (get_or ls 0 0) q.trail → Learnt q n header ls → TrailWordStays q n → Taken p n header ls top
+  taken after last learnt more = record {
+    holds = after;
+    fits = λ s global hashes flag flags names fits.
+        fits_learnt q n s global header ls hashes flag flags (false_signs p.assignment.current ls learned.falsified) names holds still_pending learnt (fits_headed mid q s global (fits_undone p mid s global same carries fits) headed);
+    rises = rises_taken p mid n (get_or ls 0 0) top stay (stay_before more) trail (last ∙ ap (λ (t : Trailed). with_lit (get_or ls 0 0) t) headed.same.0.2) levelled learned.below;
+    size = size_learnt q n header ls learnt ∙ ap (λ (s : State). length s.values) same_state ∙ carries.size;
+    keeps = keeps_trans top (state p) (state mid) (state n) keeps (subst (λ (s : State). KeepsTo top s (state n)) same_state (keeps_learnt q n header ls top holds still_pending learnt));
+    starts = ap (λ (xs : List ℕ). length xs) (starts_learnt q n header ls learnt) ∙ ap (λ (t : Trailed). length t.starts) headed.same.0.2 ∙ starts;
+  }
+
+  pub taken_ok : {E : Type 0} (r : Result (Unit {0}) E) → OnOk r (PartsInvariant n) → OnOk r (n.trail ≡ with_lit (get_or ls 0 0) q.trail) → OnOk r (Learnt q n header ls) → OnOk r (TrailWordStays q n) → OnOk r (Taken p n header ls top)
+  taken_ok (Ok x) a b c d = taken a b c d
+  taken_ok (Err e) a b c d = tt
+
+-- clauses and levels are the same once levels are undone
+module _ (p mid : Parts) (same : SameClauses p mid) (graph : mid.graph ≡ p.graph) where
+  pub involved_undone : (flags : List Bool) (os : List ℕ) → AreInvolved p flags os → AreInvolved mid flags os
+  involved_undone flags os x = record {
+    live = rw (same.0, same.1) x.live;
+    levels = rw (same.0, graph) x.levels;
+    clear = x.clear;
+  }
+
+  module _ (q n : Parts) (s s' : Scale) (w : Work) (header : Header) where
+    -- what became of the clauses that took part, and of the learned one
+    pub rated_ok : {E : Type 0} → q.db.refs ≡ mid.db.refs → TakePart (levels_in mid) mid.db.refs w.involved mid.clauses s q.clauses s' → (r : Result (Unit {0}) E) → OnOk r (Learnt q n header w.clause) → OnOk r (Rated p s w header n s')
+    rated_ok refs take (Ok x) learnt = record {
+      between = q;
+      take = rw (same.0, same.1, graph) at take;
+      refs = refs ∙ ap (λ (d : Db). d.refs) same.1;
+      learnt = learnt;
+    }
+    rated_ok refs take (Err e) learnt = tt
+
+-- the flags are again as they were
+pub free_taken : (c c' : Search) → IsFree c → Moved c c' → c'.analysis ≡ c.analysis → c'.flags.flags.items ≡ c.flags.flags.items → IsFree c'
+free_taken c c' f moved analysis flags = record {
+  names = rw (moved.globals, moved.size) f.names;
+  size = rw (analysis, moved.size) f.size;
+  clear = rw analysis f.clear;
+  flags_size = rw (flags, moved.size) f.flags_size;
+  flags_clear = rw flags f.flags_clear;
+}

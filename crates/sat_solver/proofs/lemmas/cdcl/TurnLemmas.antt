@@ -1,0 +1,158 @@
+-- The turns of a search.
+use Rattle.std.proofs.Common.{ℕ, ◌+◌, ◌<◌, ◌≡◌, ◌∙◌, Option, None, Some, length, refl, ap, arith, inl, inr, sym, subst}
+use Rattle.sat_parts.specs.declared.prop.graph.Conflict.{Conflict}
+use Rattle.sat_parts.specs.clause.Db.{live_refs}
+use Rattle.sat_parts.specs.prop.Ready.{IsConflict}
+use Rattle.sat_parts.specs.declared.parts.Parts.{Parts}
+use Rattle.sat_parts.specs.parts.Assumed.{ArePlaced}
+use Rattle.sat_parts.specs.parts.Frame.{Reordered, Carries, KeepsTo}
+use Rattle.sat_parts.specs.parts.Round.{AreUnits, IsBased}
+use Rattle.sat_parts.specs.parts.Whole.{state, HoldsBelow, IsDone}
+use Rattle.sat_parts.specs.parts.Words.{TrailWordExtends, TrailWordExtendsFor, GoesOn}
+use Rattle.sat_parts.proofs.lemmas.parts.AssumeLemmas.{placed_kept}
+use Rattle.sat_parts.proofs.lemmas.parts.WordSteps.{extends_after}
+use Rattle.sat_solver.specs.session.Session.{Session}
+use Rattle.sat_solver.specs.session.Fits.{SessionMatchesParts, HaveNames}
+use Rattle.sat_solver.proofs.lemmas.fits.LearnedLemmas.{fits_undone}
+use Rattle.sat_solver.proofs.lemmas.fits.StepLemmas.{fits_propagated}
+use Rattle.sat_solver.specs.declared.cdcl.find_conflict.FoundConflict.{FoundConflict}
+use Rattle.sat_solver.specs.declared.cdcl.find_conflict.FoundConflict.TheVariants.{Falsified, Complete, Failed}
+use Rattle.sat_solver.specs.declared.context.Search.{Search}
+use Rattle.sat_solver.specs.cdcl.Joint.{global_in, assumed_in, IsFree, IsReady, IsSearch, Moved, Leaves}
+use Rattle.sat_solver.specs.unit_simplify.Left.{IsSettled}
+use Rattle.sat_solver.specs.cdcl.Turns.{GoesDeeper, IsPropagated, StopsAt, TurnSays, Turned, Stopped}
+use Rattle.sat_base.specs.values.Literals.{variable}
+use Rattle.sat_parts.proofs.lemmas.prop.RoomLemmas.{below_from_value}
+
+pub moved_refl : (c : Search) → Moved c c
+moved_refl c = record { globals = refl; lits = refl; size = refl }
+
+pub moved_trans : (a b c : Search) → Moved a b → Moved b c → Moved a c
+moved_trans a b c x y = record { globals = y.globals ∙ x.globals; lits = y.lits ∙ x.lits; size = y.size ∙ x.size }
+
+-- what is true, or may be picked, or is assumed, is of variables that have their solver names
+none_some : {A : Type 0} (x : A) → None ≡ Some x → ⊥
+none_some x e = cc
+
+pub ready_names : (s : Session) (c : Search) → IsReady s c → HaveNames c.parts.assignment.current s (global_in c)
+ready_names s c r l t = elim (r.used (variable l) (below_from_value c.parts.assignment.current (variable l) _ t)) [
+  | inl own ↦ own
+  | inr idle ↦ absurd (none_some _ (sym idle.0 ∙ t))
+]
+
+pub leaves_refl : (s : Session) → Leaves s s
+leaves_refl s = record { assumed = refl; names = λ v. refl }
+
+-- variables and assumptions are the same, and what was looked at of these stands
+pub ready_moved : (s s' : Session) (c c' : Search) → IsReady s c → Leaves s s' → Moved c c' → GoesOn (assumed_in c) (state c.parts) c.parts.vsids (state c'.parts) c'.parts.vsids → ArePlaced c'.assumptions (state c'.parts) → IsFree c' → IsReady s' c'
+ready_moved s s' c c' r leaves moved goes placed free = record {
+  free = free;
+  placed = placed;
+  there = rw (moved.lits, moved.size) r.there;
+  asked = rw (moved.lits, moved.globals) (leaves.assumed ∙ r.asked);
+  used = λ v lt. elim (r.used v (subst (λ n. v < n) moved.size lt)) [
+    | inl own ↦ inl (rw moved.globals (leaves.names (global_in c v) ∙ own))
+    | inr idle ↦ inr (rw moved.lits (goes.idle v idle))
+  ];
+}
+
+-- the flags and lists that analysis works with are the same, and so is the number of variables
+pub free_moved : (c c' : Search) → IsFree c → Moved c c' → c'.analysis ≡ c.analysis → c'.flags ≡ c.flags → IsFree c'
+free_moved c c' f moved analysis flags = record {
+  names = rw (moved.globals, moved.size) f.names;
+  size = rw (analysis, moved.size) f.size;
+  clear = rw analysis f.clear;
+  flags_size = rw (flags, moved.size) f.flags_size;
+  flags_clear = rw flags f.flags_clear;
+}
+
+-- PROPAGATION
+
+module _ (s : Session) (c c' : Search) (search : IsSearch s c) (globals : c'.globals ≡ c.globals) (assumptions : c'.assumptions ≡ c.assumptions) (analysis : c'.analysis ≡ c.analysis) (flags : c'.flags ≡ c.flags)
+    (starts : c'.parts.trail.starts ≡ c.parts.trail.starts) (moved : Reordered c.parts c'.parts) (carries : Carries (state c.parts) (state c'.parts)) (word : TrailWordExtends c.parts c'.parts) (keeps : (top : ℕ) → KeepsTo top (state c.parts) (state c'.parts)) where
+  pub propagated_moved : Moved c c'
+  propagated_moved = record { globals = globals; lits = ap (λ a. a.lits) assumptions; size = carries.size }
+
+  propagated_ready : IsReady s c'
+  propagated_ready =
+      let a = search.ready.placed in
+      ready_moved s s c c' search.ready (leaves_refl s) propagated_moved (word (assumed_in c)).0
+      (rw assumptions (placed_kept c.assumptions.lits.items c.assumptions.below.items c.assumptions.place (length c.assumptions.below.items) (state c.parts) (state c'.parts) a (keeps (length c.assumptions.below.items)) (omega arith)
+      (rw starts a.levels) (rw starts a.all)))
+      (free_moved c c' search.ready.free propagated_moved analysis flags)
+
+  propagated_fits : HoldsBelow (length c'.parts.trail.starts) c'.parts → SessionMatchesParts c'.parts s (global_in c')
+  propagated_fits holds = rw globals (fits_propagated c.parts c'.parts s (global_in c) moved carries holds.asks.clauses search.stands.fits)
+
+  propagated_fits_all : HoldsBelow (length c'.parts.trail.starts + 1) c'.parts → SessionMatchesParts c'.parts s (global_in c')
+  propagated_fits_all holds = rw globals (fits_propagated c.parts c'.parts s (global_in c) moved carries holds.asks.clauses search.stands.fits)
+
+  pub propagated_whole : HoldsBelow (length c'.parts.trail.starts + 1) c'.parts → IsDone c'.parts → (0 < length c.parts.trail.starts → AreUnits (state c.parts) → AreUnits (state c'.parts)) →
+      (0 < length c.parts.trail.starts → IsBased c.parts.trail → IsBased c'.parts.trail) → IsPropagated s c'
+  propagated_whole holds done units base = record {
+    holds = holds;
+    done = done;
+    units = λ some. (let old : 0 < length c.parts.trail.starts = rw starts at some in (units old search.stands.holds.units, base old search.stands.holds.base));
+    fits = propagated_fits_all holds;
+    ready = propagated_ready;
+  }
+
+  pub falsified_whole : (e : Conflict) → HoldsBelow (length c'.parts.trail.starts) c'.parts → IsConflict c'.parts.clauses (live_refs c'.parts.clauses c'.parts.db.refs) c'.parts.binary.implied c'.parts.assignment.current e →
+      (0 < length c.parts.trail.starts → AreUnits (state c.parts) → AreUnits (state c'.parts)) → (0 < length c.parts.trail.starts → IsBased c.parts.trail → IsBased c'.parts.trail) → Turned (Some (Falsified e)) s c c'
+  falsified_whole e holds conflict units base = record {
+    says = record {
+      refuted = (holds, conflict, λ some. let old : 0 < length c.parts.trail.starts = rw starts at some in (units old search.stands.holds.units, base old search.stands.holds.base));
+      fits = propagated_fits holds;
+      ready = propagated_ready;
+    };
+    moved = propagated_moved;
+    word = word (assumed_in c);
+  }
+
+-- A LEVEL BEGINS, OR NONE
+
+-- what is said of a later state behind an earlier one
+pub turned_from : (found : Option FoundConflict) (s : Session) (a b c : Search) → Moved a b → TrailWordExtendsFor (assumed_in a) a.parts b.parts → length b.parts.trail.starts ≡ length a.parts.trail.starts → Turned found s b c → Turned found s a c
+turned_from found s a b c moved word starts t = record {
+  says = later found t.says;
+  moved = moved_trans a b c moved t.moved;
+  word = extends_after (assumed_in a) a.parts b.parts c.parts word (rw moved.lits at t.word);
+}
+  where
+    later : (f : Option FoundConflict) → TurnSays f s b c → TurnSays f s a c
+    later None x = (x.0, x.1 ∙ ap (λ n. n + 1) starts)
+    later (Some stop) x = x
+
+pub stopped_from : (stop : FoundConflict) (s : Session) (a b c : Search) → Moved a b → TrailWordExtendsFor (assumed_in a) a.parts b.parts → Turned (Some stop) s b c → Stopped stop s a c
+stopped_from stop s a b c moved word t = record {
+  says = t.says;
+  moved = moved_trans a b c moved t.moved;
+  word = extends_after (assumed_in a) a.parts b.parts c.parts word (rw moved.lits at t.word);
+}
+
+module _ (s s' : Session) (c c' : Search) (mid : Parts) (propagated : IsPropagated s c) (leaves : Leaves s s') (settled : IsSettled c.parts mid s' (global_in c))
+    (globals : c'.globals ≡ c.globals) (analysis : c'.analysis ≡ c.analysis) (flags : c'.flags ≡ c.flags) where
+  pub gone_on : (found : Option FoundConflict) → GoesDeeper found c.assumptions c'.assumptions mid c'.parts → Turned found s' c c'
+  gone_on found d = record {
+    says = says found d.stops;
+    moved = moved;
+    word = word;
+  }
+    where
+      word : TrailWordExtendsFor (assumed_in c) c.parts c'.parts
+      word = extends_after (assumed_in c) c.parts mid c'.parts (settled.word (assumed_in c)) d.word
+
+      moved : Moved c c'
+      moved = record { globals = globals; lits = d.lits; size = d.carries.size ∙ settled.size }
+
+      search : IsSearch s' c'
+      search = record {
+        stands = record { holds = d.holds; fits = rw globals (fits_undone mid c'.parts s' (global_in c) d.same d.carries settled.stands.fits) };
+        ready = ready_moved s s' c c' propagated.ready leaves moved word.0 d.placed (free_moved c c' propagated.ready.free moved analysis flags);
+      }
+
+      says : (f : Option FoundConflict) → StopsAt f c.assumptions.lits.items mid c'.parts → TurnSays f s' c c'
+      says None x = (search, x ∙ ap (λ ss. length ss + 1) settled.starts)
+      says (Some (Falsified e)) x = absurd x
+      says (Some Complete) x = (search, rw d.lits x)
+      says (Some (Failed l)) x = (search, rw d.lits x)

@@ -1,0 +1,5 @@
+pub mod BumpingLemmas
+pub mod GlueLemmas
+pub mod GradingLemmas
+pub mod InvolvedLemmas
+pub mod ReducingLemmas

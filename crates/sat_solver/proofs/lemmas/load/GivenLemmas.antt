@@ -1,0 +1,360 @@
+-- Indices that proof variables were given, in the session and in the search.
+use Rattle.std.specs.Prelude.{replicate}
+use Rattle.std.proofs.Common.{ℕ, zero, suc, take, ◌+◌, ◌*◌, ◌/◌, ◌%◌, ◌≡◌, ◌≢◌, ◌<◌, ◌≤◌, ◌∙◌, ◌⊎◌, inl, inr, Bool, true, false, Option, Some, None, List, [], ◌∷◌, ◌++◌, map, length, get_or, refl, sym, ap, subst, arith}
+use Rattle.std.proofs.lemmas.Bool.{cases_lt, true≢false}
+use Rattle.std.proofs.lemmas.List.{get_or_past, get_or_append_left, take_all}
+use Rattle.std.specs.List.{Contains, AllByRecursion}
+use Rattle.sat_base.specs.values.Literals.{coded, variable, is_positive}
+use Rattle.sat_store.specs.heap.Vsids.{may_pick}
+use Rattle.sat_store.specs.variables.Flags.{GrowsFlags}
+use Rattle.sat_parts.specs.clause.Glue.{AreClear}
+use Rattle.sat_parts.specs.clause.Db.{live_refs}
+use Rattle.sat_parts.specs.prop.Values.{value_of, IsTrueLit}
+use Rattle.sat_parts.specs.prop.State.{State, level}
+use Rattle.sat_solver.specs.session.Session.{Session}
+use Rattle.sat_solver.specs.session.LiveClauses.{LiveClause, IsIn, with_var, mapped, count_of, AreMapped, AreOf}
+use Rattle.sat_solver.specs.session.SolverClauses.{solver_clauses}
+use Rattle.sat_parts.specs.declared.parts.Parts.{Parts}
+use Rattle.sat_parts.specs.parts.Assumed.{IsPlaced, ArePlaced, variables}
+use Rattle.sat_parts.specs.parts.Frame.{Grown, IsUnitLit}
+use Rattle.sat_parts.specs.parts.Whole.{state, PartsInvariant}
+use Rattle.sat_parts.specs.parts.Words.{IsIdle}
+use Rattle.sat_solver.specs.session.Fits.{is_redundant, SessionMatchesParts, HaveNames}
+use Rattle.sat_solver.specs.session.Naming.{global_of}
+use Rattle.sat_solver.proofs.lemmas.fits.AddedLemmas.{unit_true}
+use Rattle.sat_solver.proofs.lemmas.fits.CodeLemmas.{coded_by}
+use Rattle.sat_solver.proofs.lemmas.fits.FramedParts.{fits_grown}
+use Rattle.sat_solver.proofs.lemmas.fits.LearnedLemmas.{fits_undone}
+use Rattle.sat_solver.specs.variables.Variables.{says_unit}
+use Rattle.sat_solver.specs.variables.Search.{GivenApart, HasGiven}
+use Rattle.sat_solver.specs.declared.variables.solver_vars.Given.{Given}
+use Rattle.sat_solver.specs.declared.context.Search.{Search}
+use Rattle.sat_solver.specs.cdcl.Joint.{global_in, assumed_in, IsFree, IsSearch}
+use Rattle.sat_solver.proofs.lemmas.cdcl.TurnLemmas.{ready_names}
+use Rattle.sat_solver.specs.load.Bottom.{AtBottom}
+use Rattle.sat_solver.specs.variables.Initialized.{GivesLit, IsVacant, AreVacant, TakesIndices, Renames, IsGivenTo, GivesNames, AreIndexed}
+use Rattle.sat_solver.proofs.lemmas.load.IndexLemmas.{given_or_not, lit_given}
+
+-- two maps of literals agree where their variables do
+pub mapped_same : (f h : ℕ → ℕ) (ls : List ℕ) → ((k : ℕ) → k < length ls → f (variable (get_or ls k 0)) ≡ h (variable (get_or ls k 0))) → map (with_var f) ls ≡ map (with_var h) ls
+mapped_same f h [] same = refl
+mapped_same f h (l ∷ ls) same =
+    let e : f (l / 2) ≡ h (l / 2) = same 0 (omega arith) in
+    ap (λ v. (2 * v + l % 2) ∷ map (with_var f) ls) e ∙ ap (λ ms. with_var h l ∷ ms) (mapped_same f h ls (λ k lt. same (suc k) (omega arith)))
+
+-- other sessions, in which variables that had solver names have them still
+module _ (f h : ℕ → ℕ) (p q : ℕ → Option ℕ) (stays : (v : ℕ) → p (f v) ≡ Some v → (h v ≡ f v) × (q (h v) ≡ Some v)) where
+  mapped_on : (ls : List ℕ) → AreMapped f p ls → AreMapped h q ls
+  mapped_on [] m = tt
+  mapped_on (l ∷ ls) m = ((stays (variable l) m.0).1, mapped_on ls m.1)
+
+  lits_on : (ls : List ℕ) → AreMapped f p ls → map (with_var f) ls ≡ map (with_var h) ls
+  lits_on [] m = refl
+  lits_on (l ∷ ls) m =
+      let e : f (l / 2) ≡ h (l / 2) = sym (stays (variable l) m.0).0 in
+      ap (λ v. (2 * v + l % 2) ∷ map (with_var f) ls) e ∙ ap (λ ms. with_var h l ∷ ms) (lits_on ls m.1)
+
+  clauses_on : (cs : List LiveClause) → ((c : LiveClause) → IsIn c cs → AreMapped f p c.literals) → map (mapped f) cs ≡ map (mapped h) cs
+  clauses_on [] m = refl
+  clauses_on (c ∷ cs) m =
+      ap (λ ls. (record c { literals = ls }) ∷ map (mapped f) cs) (lits_on c.literals (m c (inl refl))) ∙ ap (λ ds. mapped h c ∷ ds) (clauses_on cs (λ d k. m d (inr k)))
+
+  pub of_on : (s t : Session) (cs : List LiveClause) → s.solver_names ≡ p → t.solver_names ≡ q → t.live ≡ s.live → AreOf s f cs → AreOf t h cs
+  of_on s t cs ep eq live a = record {
+    named = λ c k. subst (λ z. AreMapped h z c.literals) (sym eq) (mapped_on c.literals (subst (λ z. AreMapped f z c.literals) ep (a.named c k)));
+    once = a.once;
+    counts = λ r set. ap (λ z. z r set) live ∙ a.counts r set ∙ ap (λ ds. count_of ds r set) (clauses_on cs (λ c k. subst (λ z. AreMapped f z c.literals) ep (a.named c k)));
+  }
+
+record Found (globals : List ℕ) (s t : Session) (x : ℕ) : Type 0 where
+  without : s.solver_names (global_of globals x) ≡ None
+  free : (v : ℕ) → s.solver_names v ≢ Some x
+  named : t.solver_names (global_of globals x) ≡ Some x
+
+found : (globals : List ℕ) (s t : Session) (gs : List Given) (x : ℕ) → AllByRecursion (IsGivenTo globals s t) gs → HasGiven gs x → Found globals s t x
+found globals s t [] x all h = absurd h
+found globals s t (g ∷ gs) x all (inl e) = subst (λ z. Found globals s t z) e (record { without = all.0.without; free = all.0.free; named = all.0.named })
+found globals s t (g ∷ gs) x all (inr k) = found globals s t gs x all.1 k
+
+-- the unit of a given index is the session's
+lit_unit : (globals : List ℕ) (s t : Session) (gs : List Given) (l : ℕ) → AllByRecursion (IsGivenTo globals s t) gs → GivesLit gs l → s.units (with_var (global_of globals) l) ≡ true
+lit_unit globals s t [] l all h = absurd h
+lit_unit globals s t (g ∷ gs) l all (inl e) =
+    ap s.units (sym (coded_by (global_of globals) l)) ∙ ap (λ v. s.units (coded (global_of globals v) (is_positive l))) (sym e.0)
+    ∙ all.0.unit (is_positive l) ∙ ap (λ u. says_unit u (is_positive l)) e.1 ∙ says_itself (is_positive l)
+  where
+    says_itself : (b : Bool) → says_unit (Some b) b ≡ true
+    says_itself true = refl
+    says_itself false = refl
+lit_unit globals s t (g ∷ gs) l all (inr k) = lit_unit globals s t gs l all.1 k
+
+unit_lit : (globals : List ℕ) (s t : Session) (gs : List Given) (l : ℕ) → AllByRecursion (IsGivenTo globals s t) gs → HasGiven gs (variable l) → s.units (with_var (global_of globals) l) ≡ true → GivesLit gs l
+unit_lit globals s t [] l all h u = h
+unit_lit globals s t (g ∷ gs) l all (inl e) u =
+    inl (e, says_only g.unit (is_positive l) (sym (all.0.unit (is_positive l)) ∙ ap (λ v. s.units (coded (global_of globals v) (is_positive l))) e ∙ ap s.units (coded_by (global_of globals) l) ∙ u))
+  where
+    says_only : (o : Option Bool) (b : Bool) → says_unit o b ≡ true → o ≡ Some b
+    says_only None b h = absurd (true≢false (sym h))
+    says_only (Some true) true h = refl
+    says_only (Some false) true h = absurd (true≢false (sym h))
+    says_only (Some true) false h = absurd (true≢false (sym h))
+    says_only (Some false) false h = refl
+unit_lit globals s t (g ∷ gs) l all (inr k) u = inr (unit_lit globals s t gs l all.1 k u)
+
+-- at level 0 what was looked at stands as long as literals of level 0 do
+pub placed_bottom : (ls below : List ℕ) (place : ℕ) (s s' : State) → s.trail.starts ≡ [] → s'.trail.starts ≡ [] → ((l : ℕ) → IsTrueLit s.values l → level s l ≡ 0 → IsTrueLit s'.values l × (level s' l ≡ 0)) →
+    IsPlaced ls below place s → IsPlaced ls below place s'
+placed_bottom ls below place s s' e e' kept h =
+    let none : length s.trail.starts ≡ 0 = ap (λ (xs : List ℕ). length xs) e in
+    let none' : length s'.trail.starts ≡ 0 = ap (λ (xs : List ℕ). length xs) e' in
+    let flat : length below ≡ 0 = omega (arith, h.levels) in
+    record {
+      levels = omega arith;
+      within = h.within;
+      low_within = h.low_within;
+      passed = λ k lt. (let x = h.passed k lt in let y = kept (get_or ls k 0) x.0 (omega (arith, x.1)) in (y.0, omega (arith, y.1)));
+      low_passed = λ j k lt less. absurd (omega arith);
+      begun = λ j lt. absurd (omega arith);
+      all = λ lt. absurd (omega arith);
+    }
+
+module _ (c c1 c2 c3 : Search) (globals : List ℕ) (gs : List Given) (count : ℕ) (holds : PartsInvariant c.parts) (next : length c.globals.items ≡ length c.parts.assignment.current) (more : length c.globals.items ≤ count) (least : length c.globals.items ≤ length globals → count ≤ length globals) (past : AllByRecursion (λ g. g.solver < count) gs)
+    (grown : Grown c.parts c1.parts count) (assumptions1 : c1.assumptions ≡ c.assumptions) (flags1 : length c1.analysis.flags ≡ count) (clear1 : AreClear c.analysis.flags → AreClear c1.analysis.flags)
+    (glue1 : GrowsFlags count c.flags.flags.items c1.flags.flags.items) (globals1 : (v : ℕ) → v < length c.globals.items → get_or c1.globals.items v 0 ≡ get_or c.globals.items v 0) (many1 : length c1.globals.items ≡ count)
+    (back : AtBottom c1 c2) (holds1 : PartsInvariant c1.parts) (renamed : Renames gs globals c2.globals.items c3.globals.items) (takes : TakesIndices gs c2.parts c3.parts)
+    (analysis3 : c3.analysis ≡ c2.analysis) (flags3 : c3.flags ≡ c2.flags) (assumptions3 : c3.assumptions ≡ c2.assumptions) where
+  abbrev n : ℕ
+  n = length c.parts.assignment.current
+
+  size3 : length c3.parts.assignment.current ≡ count
+  size3 = takes.size ∙ back.moved.size ∙ grown.size
+
+  globals_size : length c3.globals.items ≡ count
+  globals_size = renamed.size ∙ ap (λ v. length v.items) back.moved.globals ∙ many1
+
+  lits3 : c3.assumptions.lits ≡ c.assumptions.lits
+  lits3 = ap (λ a. a.lits) assumptions3 ∙ back.moved.lits ∙ ap (λ a. a.lits) assumptions1
+
+  others : (v : ℕ) → v < length c.globals.items → (HasGiven gs v → ⊥) → get_or c3.globals.items v 0 ≡ get_or c.globals.items v 0
+  others v lt out = renamed.others v out ∙ ap (λ w. get_or w.items v 0) back.moved.globals ∙ globals1 v lt
+
+  module _ (s t : Session) (x : IsSearch s c) (g : GivesNames globals gs (length c.globals.items) s t) where
+    -- what had a solver name wasn't given
+    old_stays : (v : ℕ) → s.solver_names (global_in c v) ≡ Some v → (global_in c3 v ≡ global_in c v) × (t.solver_names (global_in c3 v) ≡ Some v)
+    old_stays v own =
+        let out : HasGiven gs v → ⊥ = λ h. (found globals s t gs v g.each h).free (global_in c v) own in
+        let same : global_in c3 v ≡ global_in c v = others v (g.below (global_in c v) v own) out in
+        (same, ap t.solver_names same ∙ g.stays (global_in c v) v own)
+
+    new_named : (v : ℕ) → HasGiven gs v → t.solver_names (global_in c3 v) ≡ Some v
+    new_named v h = ap t.solver_names (renamed.named v h) ∙ (found globals s t gs v g.each h).named
+
+    fits2 : SessionMatchesParts c2.parts s (global_in c)
+    fits2 = fits_undone c1.parts c2.parts s (global_in c) back.same back.carries (fits_grown c.parts c1.parts count s (global_in c) holds (omega (arith, next, more)) grown x.stands.fits)
+
+    names : HaveNames c.parts.assignment.current s (global_in c)
+    names = ready_names s c x.ready
+
+    -- units of before are of variables that had solver names
+    unit_named : (l : ℕ) → IsUnitLit (state c2.parts) l → s.solver_names (global_in c (variable l)) ≡ Some (variable l)
+    unit_named l u = names l (unit_true (state c.parts) l holds.below.asks.agrees (grown.units l (back.carries.units l u))).0
+
+    moved_lit : (l : ℕ) → global_in c3 (variable l) ≡ global_in c (variable l) → with_var (global_in c3) l ≡ with_var (global_in c) l
+    moved_lit l e = ap (λ v. 2 * v + l % 2) e
+
+    given_lit : (l : ℕ) → HasGiven gs (variable l) → with_var (global_in c3) l ≡ with_var (global_of globals) l
+    given_lit l h = ap (λ v. 2 * v + l % 2) (renamed.named (variable l) h)
+
+    fits3 : SessionMatchesParts c3.parts t (global_in c3)
+    fits3 = rw (takes.same.0, takes.same.1, takes.same.2) (record {
+      clauses = of_on (global_in c) (global_in c3) s.solver_names t.solver_names old_stays s t (solver_clauses (is_redundant c2.parts.clauses) c2.parts.clauses (live_refs c2.parts.clauses c2.parts.db.refs) c2.parts.binary.implied) refl refl g.keeps.live fits2.clauses;
+      paired = fits2.paired;
+      known = λ l u. elim (takes.units l u) [
+        | inl o ↦ ap t.units (moved_lit l (old_stays (variable l) (unit_named l o)).0) ∙ ap (λ f. f (with_var (global_in c) l)) g.keeps.units ∙ fits2.known l o
+        | inr k ↦ ap t.units (given_lit l (lit_given gs l k)) ∙ ap (λ f. f (with_var (global_of globals) l)) g.keeps.units ∙ lit_unit globals s t gs l g.each k
+      ];
+      sound = λ l own u. elim (given_or_not gs (variable l)) [
+        | inl h ↦ takes.its l (unit_lit globals s t gs l g.each h (ap (λ f. f (with_var (global_of globals) l)) (sym g.keeps.units) ∙ ap t.units (sym (given_lit l h)) ∙ u))
+        | inr out ↦ elim (g.others (global_in c3 (variable l)) (variable l) own) [
+          | inl old ↦
+              let same : global_in c3 (variable l) ≡ global_in c (variable l) = others (variable l) (g.below (global_in c3 (variable l)) (variable l) old) out in
+              let y = fits2.sound l (ap s.solver_names (sym same) ∙ old) (ap (λ f. f (with_var (global_in c) l)) (sym g.keeps.units) ∙ ap t.units (sym (moved_lit l same)) ∙ u) in
+              takes.kept l y.0 y.1
+          | inr h ↦ absurd (out h)
+        ]
+      ];
+      consistent = g.keeps.unsat ∙ fits2.consistent;
+      width = g.keeps.width ∙ fits2.width;
+    })
+
+    small : (k : ℕ) → k < length c.assumptions.lits.items → variable (get_or c.assumptions.lits.items k 0) < n
+    small = x.ready.there
+
+    -- what is past the variables is idle
+    past_idle : (v : ℕ) → n ≤ v → IsIdle (assumed_in c) (state c.parts) c.parts.vsids v
+    past_idle v ge = (
+      get_or_past c.parts.assignment.current v None ge,
+      get_or_past c.parts.vsids.available v false (omega (arith, holds.below.queue)),
+      λ k. past_all c.assumptions.lits.items v small ge k,
+    )
+      where
+        past_all : (ls : List ℕ) (v : ℕ) → ((k : ℕ) → k < length ls → variable (get_or ls k 0) < n) → n ≤ v → Contains (variables ls) v → ⊥
+        past_all [] v below ge k = (let lt : k.0 < 0 = k.1 in omega arith)
+        past_all (l ∷ ls) v below ge (zero, lt, e) = (let z : variable l < n = below 0 (omega arith) in let f : variable l ≡ v = e in omega arith)
+        past_all (l ∷ ls) v below ge (suc i, lt, e) = past_all ls v (λ j less. below (suc j) (omega arith)) ge (i, omega arith, e)
+
+    idle3 : (v : ℕ) → (HasGiven gs v → ⊥) → IsIdle (assumed_in c) (state c.parts) c.parts.vsids v → IsIdle (assumed_in c) (state c3.parts) c3.parts.vsids v
+    idle3 v out idle =
+        let one : IsIdle (assumed_in c) (state c1.parts) c1.parts.vsids v = (grown.values v ∙ idle.0, grown.picks v ∙ idle.1, idle.2) in
+        let two : IsIdle (assumed_in c) (state c2.parts) c2.parts.vsids v = (back.stay (assumed_in c)).idle v one in
+        (takes.values v out ∙ two.0, takes.picks v out ∙ two.1, two.2)
+
+    used_or_idle : (v : ℕ) → (s.solver_names (global_in c v) ≡ Some v) ⊎ IsIdle (assumed_in c) (state c.parts) c.parts.vsids v
+    used_or_idle v = elim (cases_lt v n) [ inl lt ↦ x.ready.used v lt | inr ge ↦ inr (past_idle v ge) ]
+
+    assumed_named : (k : ℕ) → k < length c.assumptions.lits.items → s.solver_names (global_in c (variable (get_or c.assumptions.lits.items k 0))) ≡ Some (variable (get_or c.assumptions.lits.items k 0))
+    assumed_named k lt = elim (x.ready.used (variable (get_or c.assumptions.lits.items k 0)) (small k lt)) [
+      | inl own ↦ own
+      | inr idle ↦ absurd (idle.2 (contains_at c.assumptions.lits.items k lt))
+    ]
+      where
+        contains_at : (ls : List ℕ) (k : ℕ) → k < length ls → Contains (variables ls) (variable (get_or ls k 0))
+        contains_at [] k lt = absurd (omega arith)
+        contains_at (l ∷ ls) zero lt = (0, omega arith, refl)
+        contains_at (l ∷ ls) (suc k) lt = let y = contains_at ls k (omega arith) in (suc y.0, omega (arith, y.1), y.2)
+
+    free1 : IsFree c1
+    free1 = record {
+      names = omega (arith, many1, grown.size);
+      size = flags1 ∙ sym grown.size;
+      clear = clear1 x.ready.free.clear;
+      flags_size = omega (arith, glue1.size, grown.size);
+      flags_clear = glue1.clear x.ready.free.flags_clear;
+    }
+
+    free2 : IsFree c2
+    free2 = back.free free1
+
+    free3 : IsFree c3
+    free3 = record {
+      names = omega (arith, globals_size, size3);
+      size = ap (λ a. length a.flags) analysis3 ∙ free2.size ∙ sym takes.size;
+      clear = rw analysis3 free2.clear;
+      flags_size = rw (flags3, takes.size) free2.flags_size;
+      flags_clear = rw flags3 free2.flags_clear;
+    }
+
+    placed3 : ArePlaced c3.assumptions (state c3.parts)
+    placed3 = rw assumptions3 (placed_bottom c2.assumptions.lits.items c2.assumptions.below.items c2.assumptions.place (state c2.parts) (state c3.parts) back.bottom takes.bottom takes.kept back.placed)
+
+    search3 : IsSearch t c3
+    search3 = record {
+      stands = record { holds = takes.holds; fits = fits3 };
+      ready = record {
+        free = free3;
+        placed = placed3;
+        there = rw (lits3, size3) (λ k lt. (let z : variable (get_or c.assumptions.lits.items k 0) < n = small k lt in omega (arith, next, more)));
+        asked = rw lits3 (g.keeps.assumed ∙ x.ready.asked ∙ mapped_same (global_in c) (global_in c3) c.assumptions.lits.items (λ k lt. sym (old_stays (variable (get_or c.assumptions.lits.items k 0)) (assumed_named k lt)).0));
+        used = λ v lt. elim (given_or_not gs v) [
+          | inl h ↦ inl (new_named v h)
+          | inr out ↦ elim (used_or_idle v) [ inl own ↦ inl (old_stays v own).1 | inr idle ↦ inr (rw lits3 (idle3 v out idle)) ]
+        ];
+      };
+    }
+
+  pub indexed : AreIndexed globals gs c c3
+  indexed = record {
+    named = renamed.named;
+    others = others;
+    more = omega (arith, more, globals_size);
+    few = λ le. (let k = least le in omega (arith, globals_size));
+    there = subst (λ m. AllByRecursion (λ g. g.solver < m) gs) (sym globals_size) past;
+    size = size3 ∙ sym globals_size;
+    ready = takes.ready;
+    lits = lits3;
+    bottom = takes.bottom;
+    holds = takes.holds;
+    search = search3;
+  }
+
+-- an index that no proof variable has is vacant
+pub idle_index : (s : Session) (c : Search) (x : ℕ) → IsSearch s c → ((v : ℕ) → s.solver_names v ≢ Some x) → (value_of c.parts.assignment.current x ≡ None) × (may_pick c.parts.vsids x ≡ false)
+idle_index s c x h none = elim (cases_lt x (length c.parts.assignment.current)) [
+  | inl lt ↦ elim (h.ready.used x lt) [ inl own ↦ absurd (none (global_in c x) own) | inr idle ↦ (idle.0, idle.1) ]
+  | inr ge ↦ (get_or_past c.parts.assignment.current x None ge, get_or_past c.parts.vsids.available x false (omega (arith, h.stands.holds.below.queue)))
+]
+
+pub are_vacant : (globals : List ℕ) (s t : Session) (c : Search) (count : ℕ) (gs : List Given) → IsSearch s c → AllByRecursion (IsGivenTo globals s t) gs → AllByRecursion (λ g. g.solver < count) gs → GivenApart gs → AreVacant c.parts count gs
+are_vacant globals s t c count gs h each below apart = record { each = go gs each below; apart = apart }
+  where
+    go : (ks : List Given) → AllByRecursion (IsGivenTo globals s t) ks → AllByRecursion (λ g. g.solver < count) ks → AllByRecursion (IsVacant c.parts count) ks
+    go [] a b = tt
+    go (k ∷ ks) a b = let i = idle_index s c k.solver h a.0.free in (record { below = b.0; open_value = i.0; unpicked = i.1 }, go ks a.1 b.1)
+
+-- what is vacant is so at level 0, where there are more variables
+pub vacant_bottom : (c c1 c2 : Search) (reach count : ℕ) (gs : List Given) → Grown c.parts c1.parts count → AtBottom c1 c2 → AllByRecursion (λ g. g.solver < count) gs → AreVacant c.parts reach gs → AreVacant c2.parts (length c2.parts.assignment.current) gs
+vacant_bottom c c1 c2 reach count gs grown back past h = record { each = subst (λ n. AllByRecursion (IsVacant c2.parts n) gs) (sym (back.moved.size ∙ grown.size)) (go gs past h.each); apart = h.apart }
+  where
+    go : (ks : List Given) → AllByRecursion (λ g. g.solver < count) ks → AllByRecursion (IsVacant c.parts reach) ks → AllByRecursion (IsVacant c2.parts count) ks
+    go [] b a = tt
+    go (k ∷ ks) b a =
+        let idle : IsIdle [] (state c2.parts) c2.parts.vsids k.solver = (back.stay []).idle k.solver (grown.values k.solver ∙ a.0.open_value, grown.picks k.solver ∙ a.0.unpicked, λ x. let lt : x.0 < 0 = x.1 in omega arith) in
+        (record { below = b.0; open_value = idle.0; unpicked = idle.1 }, go ks b.1 a.1)
+
+pub below_all : (p : Parts) (count : ℕ) (gs : List Given) → AllByRecursion (IsVacant p count) gs → AllByRecursion (λ g. g.solver < count) gs
+below_all p count [] a = tt
+below_all p count (g ∷ gs) a = (a.0.below, below_all p count gs a.1)
+
+-- A LIST THAT IS FILLED UP
+
+pub front_kept : (xs zs : List ℕ) (count m x : ℕ) → length xs ≤ count → zs ≡ take count xs ++ replicate m x → (v : ℕ) → v < length xs → get_or zs v 0 ≡ get_or xs v 0
+front_kept xs zs count m x le e v lt = ap (λ ws. get_or ws v 0) e ∙ ap (λ ws. get_or (ws ++ replicate m x) v 0) (take_all count xs le) ∙ get_or_append_left xs (replicate m x) 0 v lt
+
+-- THE COUNT
+
+-- NO INDICES
+
+-- a session in which only variables without an index got names is the same to a search
+none_given : (globals : List ℕ) (count : ℕ) (s t : Session) (c : Search) → IsSearch s c → GivesNames globals [] count s t → IsSearch t c
+none_given globals count s t c x g = record {
+  stands = record {
+    holds = x.stands.holds;
+    fits = record {
+      clauses = of_on (global_in c) (global_in c) s.solver_names t.solver_names (λ v own. (refl, g.stays (global_in c v) v own)) s t
+          (solver_clauses (is_redundant c.parts.clauses) c.parts.clauses (live_refs c.parts.clauses c.parts.db.refs) c.parts.binary.implied) refl refl g.keeps.live x.stands.fits.clauses;
+      paired = x.stands.fits.paired;
+      known = λ l u. ap (λ f. f (with_var (global_in c) l)) g.keeps.units ∙ x.stands.fits.known l u;
+      sound = λ l own u. elim (g.others (global_in c (variable l)) (variable l) own) [
+        | inl old ↦ x.stands.fits.sound l old (ap (λ f. f (with_var (global_in c) l)) (sym g.keeps.units) ∙ u)
+        | inr h ↦ absurd h
+      ];
+      consistent = g.keeps.unsat ∙ x.stands.fits.consistent;
+      width = g.keeps.width ∙ x.stands.fits.width;
+    };
+  };
+  ready = record {
+    free = x.ready.free;
+    placed = x.ready.placed;
+    there = x.ready.there;
+    asked = g.keeps.assumed ∙ x.ready.asked;
+    used = λ v lt. elim (x.ready.used v lt) [ inl own ↦ inl (g.stays (global_in c v) v own) | inr idle ↦ inr idle ];
+  };
+}
+
+-- where no index was given, a search that went back to level 0 has all of them
+pub none_indexed : (globals : List ℕ) (c c' : Search) → length c.globals.items ≡ length c.parts.assignment.current → AtBottom c c' → AreIndexed globals [] c c'
+none_indexed globals c c' next back =
+    let kept : length c'.globals.items ≡ length c.globals.items = ap (λ v. length v.items) back.moved.globals in
+    record {
+      named = λ v h. absurd h;
+      others = λ v lt out. ap (λ w. get_or w.items v 0) back.moved.globals;
+      more = omega (arith, kept);
+      few = λ le. omega (arith, kept, le);
+      there = tt;
+      size = back.moved.size ∙ sym next ∙ sym kept;
+      ready = λ v h unset. absurd h;
+      lits = back.moved.lits;
+      bottom = back.bottom;
+      holds = back.holds;
+      search = λ s t x g. none_given globals (length c.globals.items) s t c' (back.search s x) g;
+    }

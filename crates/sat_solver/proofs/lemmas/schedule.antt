@@ -1,0 +1,4 @@
+pub mod GapLemmas
+pub mod ProgressLemmas
+pub mod RankLemmas
+pub mod SolvingLemmas

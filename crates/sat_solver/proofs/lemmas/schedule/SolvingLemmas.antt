@@ -1,0 +1,252 @@
+-- Rounds, one after another.
+use Rattle.std.proofs.Common.{ℕ, ◌+◌, ◌<◌, ◌≤◌, ◌≡◌, ◌≢◌, ◌∙◌, Result, Ok, Err, List, [], ◌∷◌, ◌++◌, length, refl, sym, ap, subst, arith, append_assoc, inl, inr}
+use Rattle.std.specs.Prelude.{OnOk, IfOk, IfErr, MatchOption, Option, None, Some}
+use Rattle.sat_base.specs.device.Device.{Writer}
+use Rattle.sat_base.specs.steps.Steps.{Step}
+use Rattle.sat_checker.specs.declared.processing.ProofProcessor.{Ghosts}
+use Rattle.sat_parts.specs.prop.TrailWord.{Letter}
+use Rattle.sat_solver.specs.proof.ProofView.{Gains, steps_of, session_of}
+use Rattle.sat_solver.specs.session.Session.{Session, MayAll, session_after}
+use Rattle.sat_solver.proofs.lemmas.session.ProofLemmas.{gains_none, gains_more}
+use Rattle.sat_solver.specs.session.Coming.{OnlyAllowedSteps, EndsAtUnsat}
+use Rattle.sat_solver.proofs.lemmas.session.ComingLemmas.{comes_open, comes_last}
+use Rattle.sat_parts.specs.declared.parts.Parts.{Parts}
+use Rattle.sat_parts.specs.parts.Assumed.{variables, ArePlaced}
+use Rattle.sat_parts.specs.parts.Whole.{state, PartsInvariant}
+use Rattle.sat_parts.specs.parts.Words.{Words, TrailWordStays, standing}
+use Rattle.sat_parts.proofs.lemmas.parts.WordSteps.{word_fits, word_begins}
+use Rattle.sat_solver.specs.session.Advancing.{Advances}
+use Rattle.sat_solver.specs.session.Quiet.{AreQuiet}
+use Rattle.sat_solver.proofs.lemmas.fits.QuietLemmas.{quiet_never}
+use Rattle.sat_solver.specs.schedule.Climbing.{Keeps as Goes_up, Climbs}
+use Rattle.sat_solver.specs.declared.schedule.Outcome.{Outcome}
+use Rattle.sat_solver.specs.declared.schedule.Outcome.TheVariants as outcomes
+use Rattle.sat_solver.specs.declared.error.SolverError.{SolverError}
+use Rattle.sat_solver.specs.declared.config.SolverConfig.{SolverConfig}
+use Rattle.sat_solver.specs.declared.schedule.solve.Core.{Core}
+use Rattle.sat_solver.specs.variables.Calls.{NamesInvariant, DoesNothing}
+use Rattle.sat_solver.specs.declared.variables.Variables.{Variables}
+use Rattle.sat_solver.proofs.lemmas.variables.Doing.{does_none, does_both}
+use Rattle.sat_solver.specs.cdcl.Ending.{RoundShares, EndsRound}
+use Rattle.sat_solver.specs.solver.Joined.{IsJoined}
+use Rattle.sat_solver.proofs.lemmas.solver.AnsweredLemmas.{joined_at}
+use Rattle.sat_solver.specs.unit_simplify.Freed.{KeepsAsked}
+use Rattle.sat_solver.specs.unit_simplify.Passes.{Passes, FallsOr}
+use Rattle.sat_solver.proofs.lemmas.unit_simplify.FreedLemmas.{asked_refl, asked_trans}
+use Rattle.sat_solver.proofs.lemmas.unit_simplify.PassesLemmas.{passes_goes, falls_goes, falls_later, falls_or}
+use Rattle.sat_solver.specs.declared.context.Search.{Search}
+use Rattle.sat_parts.specs.parts.Full.{IsFull}
+use Rattle.sat_solver.specs.cdcl.Going.{EmitsSteps}
+use Rattle.sat_solver.specs.cdcl.Joint.{assumed_in, Moved, global_in, IsSearch}
+use Rattle.sat_solver.specs.cdcl.Learning.{LastAdvances}
+use Rattle.sat_solver.specs.clause.Reduced.{Reduced, Reduces}
+use Rattle.sat_solver.specs.cdcl.Rounds.{RoundLearns, RoundSays}
+use Rattle.sat_solver.specs.schedule.Solving.{AdvanceTimes, StandsStill, words_in, values_in, Gone, EndSays, Ended, Broke, ReducedAt, RoundOf}
+use Rattle.sat_solver.proofs.lemmas.cdcl.TurnLemmas.{moved_refl, moved_trans, ready_moved, free_moved, leaves_refl}
+use Rattle.sat_parts.specs.parts.Frame.{SameClauses, Carries}
+use Rattle.sat_solver.proofs.lemmas.fits.LearnedLemmas.{fits_undone}
+
+-- STEPS THAT ADVANCE
+
+-- steps by which nothing is learned come behind them
+pub times_quiet : (earlier xs ys : List Step) (k : ℕ) → MayAll (ys ++ (xs ++ earlier)) → AreQuiet ys → AdvanceTimes earlier xs k → AdvanceTimes earlier (ys ++ xs) k
+times_quiet earlier xs [] k may quiet h = h
+times_quiet earlier xs (y ∷ ys) k may quiet h =
+    inl (
+      times_quiet earlier xs ys k may.0 quiet.1 h,
+      subst (λ zs. StandsStill (session_after zs) y) (sym (append_assoc ys xs earlier)) (record { quiet = quiet.0; never = quiet_never (session_after (ys ++ (xs ++ earlier))) y may.1 quiet.0 }),
+    )
+
+-- and then one that advances
+times_more : (earlier xs ys : List Step) (k : ℕ) → MayAll (ys ++ (xs ++ earlier)) → LastAdvances (xs ++ earlier) ys → AdvanceTimes earlier xs k → AdvanceTimes earlier (ys ++ xs) (k + 1)
+times_more earlier xs ys k may l h =
+    subst (λ zs. AdvanceTimes earlier (zs ++ xs) (k + 1)) (sym l.is)
+    (inr (
+      k,
+      refl,
+      subst (λ zs. Advances (session_after zs) l.clause) (sym (append_assoc l.rest xs earlier)) l.advances,
+      times_quiet earlier xs l.rest k (subst (λ zs. MayAll (zs ++ (xs ++ earlier))) l.is may).0 l.quiet h,
+    ))
+
+-- all steps from these on, as what was allowed in turn
+allowed : {W L : Type 0} {G : Ghosts L} (s a b : Core W L G) (xs ys : List Step) → steps_of a.proof ≡ xs ++ steps_of s.proof → steps_of b.proof ≡ ys ++ steps_of a.proof → MayAll (steps_of b.proof) → MayAll (ys ++ (xs ++ steps_of s.proof))
+allowed s a b xs ys e f may = subst (λ zs. MayAll (ys ++ zs)) e (subst MayAll f may)
+
+-- WORDS
+
+pub words_stay : (am : List ℕ) (p p' : Parts) → TrailWordStays p p' → (w : List Letter) → Words am p w → (v : List Letter) × Words am p' v
+words_stay am p p' stay w x = (_, record { gone = x.gone; distinct = x.distinct; each = λ k b. (stay am).gone _ (x.each k b); is = refl })
+
+words_moved : (p : Parts) (a b : Search) → Moved a b → (v : List Letter) → Words (assumed_in a) p v → Words (assumed_in b) p v
+words_moved p a b m v x = subst (λ ls. Words (variables ls.items) p v) (sym m.lits) x
+
+pub core_word : {W L : Type 0} {G : Ghosts L} (c : Core W L G) → Words (assumed_in c.search) c.search.parts (standing c.search.parts.trail)
+core_word c = word_begins (assumed_in c.search) c.search.parts
+
+-- decisions were undone
+pub search_undone : (s : Session) (c : Search) (p : Parts) → IsSearch s c → PartsInvariant p → SameClauses c.parts p → Carries (state c.parts) (state p) → TrailWordStays c.parts p → ArePlaced c.assumptions (state p) → IsSearch s (record c { parts = p })
+search_undone s c p h holds same carries stay placed =
+    let moved : Moved c (record c { parts = p }) = record { globals = refl; lits = refl; size = carries.size } in
+    record {
+      stands = record { holds = holds; fits = fits_undone c.parts p s (global_in c) same carries h.stands.fits };
+      ready = ready_moved s s c (record c { parts = p }) h.ready (leaves_refl s) moved (stay (assumed_in c)) placed (free_moved c (record c { parts = p }) h.ready.free moved refl refl);
+    }
+
+-- ANSWERS
+
+pub ok_map : {T E : Type 0} (r : Result T E) (P Q : T → Type 0) → ((x : T) → P x → Q x) → IfOk r P → IfOk r Q
+ok_map (Ok x) P Q f h = f x h
+ok_map (Err e) P Q f h = tt
+
+pub err_map : {T E : Type 0} (r : Result T E) (P Q : E → Type 0) → ((e : E) → P e → Q e) → IfErr r P → IfErr r Q
+err_map (Ok x) P Q f h = tt
+err_map (Err e) P Q f h = f e h
+
+pub some_map : {T : Type 0} (r : Option T) (P Q : T → Type 0) → ((x : T) → P x → Q x) → MatchOption r (Unit {0}) P → MatchOption r (Unit {0}) Q
+some_map None P Q f h = tt
+some_map (Some x) P Q f h = f x h
+
+module _ {W L : Type 0} {G : Ghosts L} (seen : W → Writer) where
+  pub gone_none : (a : Core W L G) (n : Variables) → NamesInvariant n (steps_of a.proof) → Gone seen a n 0 a n
+  gone_none a n stands = record {
+    steps = [];
+    adds = gains_none seen a.proof;
+    does = does_none n (steps_of a.proof) stands;
+    asked = asked_refl n (session_of a.proof);
+    moved = moved_refl a.search;
+    config = refl;
+    times = refl;
+  }
+
+  module _ (a b : Core W L G) (na nb : Variables) (config : b.config ≡ a.config) where
+    gone_on : (ys : List Step) → Gains seen ys a.proof b.proof → DoesNothing na nb (steps_of a.proof) (steps_of b.proof) → KeepsAsked na nb (session_of a.proof) (session_of b.proof) → Moved a.search b.search →
+        (s : Core W L G) (n : Variables) (j k : ℕ) → (g : Gone seen s n k a na) → AdvanceTimes (steps_of s.proof) (ys ++ g.steps) j → Gone seen s n j b nb
+    gone_on ys adds does asked moved s n j k g times = record {
+      steps = ys ++ g.steps;
+      adds = gains_more seen g.steps ys s.proof a.proof b.proof g.adds adds;
+      does = does_both n na nb (steps_of s.proof) (steps_of a.proof) (steps_of b.proof) (λ j. j) (λ j. j) (λ j. []) (λ j. []) g.does does;
+      asked = asked_trans n na nb (session_of s.proof) (session_of a.proof) (session_of b.proof) g.asked asked;
+      moved = moved_trans s.search a.search b.search g.moved moved;
+      config = config ∙ g.config;
+      times = times;
+    }
+
+    -- a fault behind what went well
+    falls : (e : SolverError) → FallsOr (IsFull b.search.parts) seen e a.proof b.proof → (s : Core W L G) (n : Variables) (k : ℕ) → Gone seen s n k a na → Broke seen s e b
+    falls e f s n k gone = falls_later seen e s.proof a.proof b.proof (gone.steps, gone.adds) f
+
+  -- REDUCTIONS
+
+  -- a reduction does what is due
+  pub reduced_at : (a b : Core W L G) (round : ℕ) (r : Result (Unit {0}) SolverError) → EmitsSteps seen r a.proof b.proof (λ _ _. Reduced (session_of b.proof) a.search b.search × Reduces a.config round a.search.parts b.search.parts) → OnOk r (ReducedAt a round b)
+  reduced_at a b round (Ok x) g = g.ends.1
+  reduced_at a b round (Err e) g = tt
+
+  module _ (a b : Core W L G) (n : Variables) (config : b.config ≡ a.config) (joined : IsJoined n a) where
+    abbrev Reduction : Result (Unit {0}) SolverError → Type 0
+    Reduction r = EmitsSteps seen r a.proof b.proof (λ _ _. Reduced (session_of b.proof) a.search b.search)
+
+    pub reduced_sound : (r : Result (Unit {0}) SolverError) → Reduction r → OnOk r (IsJoined n b)
+    reduced_sound (Ok x) g = joined_at seen n a joined b g.steps g.went g.searched g.keeps g.ends.moved g.ends.search config
+    reduced_sound (Err e) g = tt
+
+    pub reduced_words : (r : Result (Unit {0}) SolverError) → Reduction r → OnOk r (Goes_up words_in a b)
+    reduced_words (Ok x) g = λ w h. (let y = g.ends.word.1 w h in (y.0, (rw g.ends.moved.lits y.1.0, y.1.1)))
+    reduced_words (Err e) g = tt
+
+    pub reduced_goes : (r : Result (Unit {0}) SolverError) → Reduction r → OnOk r ((s : Core W L G) (m : Variables) (k : ℕ) → Gone seen s m k a n → Gone seen s m k b n)
+    reduced_goes (Ok x) g = λ s m k gone.
+        (let p : Passes seen n n a.proof b.proof a.search b.search = passes_goes seen x n a.proof b.proof a.search b.search (λ _ _. Reduced (session_of b.proof) a.search b.search) joined.stands joined.shares g g.ends.search g.ends.moved g.ends.word in
+        gone_on a b n n config g.steps g.went p.does p.asked g.ends.moved s m k k gone (times_quiet (steps_of s.proof) gone.steps g.steps k (allowed s a b gone.steps g.steps gone.adds.history g.went.history g.keeps) g.quiet gone.times))
+    reduced_goes (Err e) g = tt
+
+    pub reduced_fails : (r : Result (Unit {0}) SolverError) → Reduction r → IfErr r (λ e. (s : Core W L G) (m : Variables) (k : ℕ) → Gone seen s m k a n → Broke seen s e b)
+    reduced_fails (Ok x) g = tt
+    reduced_fails (Err e) g = λ s m k gone. falls a b n n config e (falls_or seen (IsFull b.search.parts) e a.proof b.proof (falls_goes seen e a.proof b.proof (λ _ _. Reduced (session_of b.proof) a.search b.search) g)) s m k gone
+
+  -- ROUNDS
+
+  pub round_is : (a b : Core W L G) (na nb : Variables) (r : Result Outcome SolverError) → EndsRound seen r na nb a.proof b.proof a.search b.search → IfOk r (λ o. RoundOf seen a na o b nb)
+  round_is a b na nb (Ok o) g = g
+  round_is a b na nb (Err e) g = tt
+
+  module _ (a b : Core W L G) (na nb : Variables) (config : b.config ≡ a.config) (joined : IsJoined na a) where
+    abbrev Round : Result Outcome SolverError → Type 0
+    Round r = EndsRound seen r na nb a.proof b.proof a.search b.search
+
+    learns : (o : Outcome) (steps : List Step) → o ≡ outcomes.Learned → RoundSays o (steps_of a.proof) steps (session_of b.proof) a.search b.search → RoundLearns (steps_of a.proof) steps (session_of b.proof) a.search b.search
+    learns o steps e x = subst (λ z. RoundSays z (steps_of a.proof) steps (session_of b.proof) a.search b.search) e x
+
+    pub round_sound : (r : Result Outcome SolverError) → Round r → IfOk r (λ o. o ≡ outcomes.Learned → IsJoined nb b)
+    round_sound (Ok o) g = λ e. record {
+      sound = record {
+        keeps = g.keeps;
+        search = (learns o g.steps e g.says).search;
+        locals = subst (λ (c : SolverConfig). 0 < c.reduce_locals_interval) (sym config) joined.sound.locals;
+        mids = subst (λ (c : SolverConfig). 0 < c.reduce_mids_interval) (sym config) joined.sound.mids;
+      };
+      stands = g.does.stands;
+      shares = subst (λ z. RoundShares z nb b.search) e g.shares;
+    }
+    round_sound (Err e) g = tt
+
+    pub round_most : (r : Result Outcome SolverError) → Round r → IfOk r (λ o. o ≡ outcomes.Learned → values_in b ≡ values_in a)
+    round_most (Ok o) g = λ e. (learns o g.steps e g.says).moved.size
+    round_most (Err e) g = tt
+
+    pub round_words : (r : Result Outcome SolverError) → Round r → IfOk r (λ o. o ≡ outcomes.Learned → Climbs words_in (values_in a) a b)
+    round_words (Ok o) g = λ e w h.
+        (let l : RoundLearns (steps_of a.proof) g.steps (session_of b.proof) a.search b.search = learns o g.steps e g.says in
+        let y = l.rises.1 w h in
+        let fits : length y.0 ≤ length b.search.parts.assignment.current = word_fits (assumed_in a.search) (state b.search.parts) b.search.parts.vsids y.0 l.search.stands.holds.below.asks.agrees y.1.0 in
+        (y.0, (words_moved b.search.parts a.search b.search l.moved y.0 y.1.0, y.1.1, omega (arith, fits, l.moved.size))))
+    round_words (Err e) g = tt
+
+    pub round_goes : (r : Result Outcome SolverError) → Round r → IfOk r (λ o. o ≡ outcomes.Learned → (s : Core W L G) (n : Variables) (k : ℕ) → Gone seen s n k a na → Gone seen s n (k + 1) b nb)
+    round_goes (Ok o) g = λ e s n k gone.
+        (let l : RoundLearns (steps_of a.proof) g.steps (session_of b.proof) a.search b.search = learns o g.steps e g.says in
+        gone_on a b na nb config g.steps g.adds g.does g.asked l.moved s n (k + 1) k gone
+        (times_more (steps_of s.proof) gone.steps g.steps k (allowed s a b gone.steps g.steps gone.adds.history g.adds.history g.keeps) (subst (λ zs. LastAdvances zs g.steps) gone.adds.history l.last) gone.times))
+    round_goes (Err e) g = tt
+
+    behind : (s : Core W L G) (steps before : List Step) → steps_of b.proof ≡ steps ++ steps_of a.proof → steps_of a.proof ≡ before ++ steps_of s.proof → steps_of b.proof ≡ (steps ++ before) ++ steps_of s.proof
+    behind s steps before e f = e ∙ ap (λ ss. steps ++ ss) f ∙ sym (append_assoc steps before (steps_of s.proof))
+
+    end_says : (o : Outcome) (earlier steps : List Step) (s : Session) (c : Search) → o ≢ outcomes.Learned → Moved c a.search → RoundSays o earlier steps s a.search b.search → RoundShares o nb b.search → EndSays o s nb c b.search
+    end_says outcomes.Learned earlier steps s c n m x shares = absurd (n refl)
+    end_says outcomes.Model earlier steps s c n m x shares = (record { search = x.0.search; moved = moved_trans c a.search b.search m x.0.moved; complete = x.0.complete }, shares)
+    end_says outcomes.Unsat earlier steps s c n m x shares = x.now
+    end_says outcomes.Failed earlier steps s c n m x shares = (record { search = x.0.search; moved = moved_trans c a.search b.search m x.0.moved; failing = x.0.failing }, shares)
+
+    end_comes : (o : Outcome) (steps : List Step) → o ≢ outcomes.Learned → steps_of b.proof ≡ steps ++ steps_of a.proof → RoundSays o (steps_of a.proof) steps (session_of b.proof) a.search b.search →
+        (s : Core W L G) (before : List Step) → steps_of a.proof ≡ before ++ steps_of s.proof → OnlyAllowedSteps EndsAtUnsat (steps_of s.proof) (steps_of b.proof)
+    end_comes outcomes.Learned steps n e x s before f = absurd (n refl)
+    end_comes outcomes.Model steps n e x s before f = comes_open (steps_of s.proof) (steps_of b.proof) (steps ++ before) (behind s steps before e f) x.0.search.stands.fits.consistent
+    end_comes outcomes.Failed steps n e x s before f = comes_open (steps_of s.proof) (steps_of b.proof) (steps ++ before) (behind s steps before e f) x.0.search.stands.fits.consistent
+    end_comes outcomes.Unsat steps n e x s before f =
+        comes_last (steps_of s.proof) (x.rest ++ steps_of a.proof) (steps_of b.proof) (x.rest ++ before) x.last (ap (λ ss. x.rest ++ ss) f ∙ sym (append_assoc x.rest before (steps_of s.proof))) x.before
+        (e ∙ ap (λ ss. ss ++ steps_of a.proof) x.is)
+
+    end_quiet : (o : Outcome) (earlier steps : List Step) → o ≢ outcomes.Learned → RoundSays o earlier steps (session_of b.proof) a.search b.search → AreQuiet steps
+    end_quiet outcomes.Learned earlier steps n x = absurd (n refl)
+    end_quiet outcomes.Model earlier steps n x = x.1
+    end_quiet outcomes.Unsat earlier steps n x = x.quiet
+    end_quiet outcomes.Failed earlier steps n x = x.1
+
+    pub round_ends : (r : Result Outcome SolverError) → Round r → IfOk r (λ o. o ≢ outcomes.Learned → (s : Core W L G) (n : Variables) (k : ℕ) → Gone seen s n k a na → Ended seen s n k o b nb)
+    round_ends (Ok o) g = λ not s n k gone. record {
+      steps = g.steps ++ gone.steps;
+      adds = gains_more seen gone.steps g.steps s.proof a.proof b.proof gone.adds g.adds;
+      does = does_both n na nb (steps_of s.proof) (steps_of a.proof) (steps_of b.proof) (λ j. j) (λ j. j) (λ j. []) (λ j. []) gone.does g.does;
+      asked = asked_trans n na nb (session_of s.proof) (session_of a.proof) (session_of b.proof) gone.asked g.asked;
+      keeps = g.keeps;
+      config = config ∙ gone.config;
+      comes = end_comes o g.steps not g.adds.history g.says s gone.steps gone.adds.history;
+      says = end_says o (steps_of a.proof) g.steps (session_of b.proof) s.search not gone.moved g.says g.shares;
+      times = times_quiet (steps_of s.proof) gone.steps g.steps k (allowed s a b gone.steps g.steps gone.adds.history g.adds.history g.keeps) (end_quiet o (steps_of a.proof) g.steps not g.says) gone.times;
+    }
+    round_ends (Err e) g = tt
+
+    pub round_fails : (r : Result Outcome SolverError) → Round r → IfErr r (λ e. (s : Core W L G) (n : Variables) (k : ℕ) → Gone seen s n k a na → Broke seen s e b)
+    round_fails (Ok o) g = tt
+    round_fails (Err e) g = λ s n k gone. falls a b na nb config e g s n k gone

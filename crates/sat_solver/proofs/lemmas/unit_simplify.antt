@@ -1,0 +1,10 @@
+pub mod BeginLemmas
+pub mod CutEnds
+pub mod CutLemmas
+pub mod FreedLemmas
+pub mod GatherLemmas
+pub mod LightensLemmas
+pub mod LighterLemmas
+pub mod PassesLemmas
+pub mod TrueLemmas
+pub mod WalkLemmas

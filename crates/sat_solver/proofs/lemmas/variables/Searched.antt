@@ -1,0 +1,182 @@
+-- Steps of the search leave the names as they are.
+use Rattle.std.proofs.Common.{ℕ, ◌+◌, ◌-◌, ◌<◌, ◌≡◌, ◌≢◌, Bool, true, false, ◌||◌, ◌&&◌, cond, eqb, List, [], ◌∷◌, map, Option, Some, None, refl, sym, ◌∙◌, ap, arith}
+use Rattle.std.proofs.lemmas.Bool.{eqb-true, eq-eqb, ne_eqb, true≢false}
+use Rattle.std.specs.List.{AllByRecursion}
+use Rattle.sat_base.specs.values.Literals.{variable, coded, negated}
+use Rattle.sat_base.specs.steps.Steps.{Step, AtClause, UnitClauses, DeleteClause, ChangeHashBits, Model, FailedAssumptions, End, Redundant, Simplified, Satisfied}
+use Rattle.sat_checker.specs.LiteralSets.{is_among, is_tautology, canonical, mentions, same_literals}
+use Rattle.sat_checker.proofs.lemmas.sets.Canonical.{canonical_among}
+use Rattle.sat_checker.proofs.lemmas.state.Forgetting.{mentions_set}
+use Rattle.sat_checker.specs.Contents.{more_if, less_if, same_side}
+use Rattle.sat_solver.specs.session.Session.{Session, May, MayAll, session_after, after, with_fact, with_facts, with_sorted, with_live, without_live, knowing_literals}
+use Rattle.sat_solver.specs.session.Session as sessions
+use Rattle.sat_solver.proofs.lemmas.session.StepLemmas.{sessions_are_accepted}
+use Rattle.sat_solver.specs.variables.Variables.{data_at, solver_of, AreTidy, AreSaid, IsUnused}
+use Rattle.sat_checker.specs.matching.Bridge.{IsBridge}
+use Rattle.sat_checker.specs.matching.Checking.{variable_of}
+use Rattle.sat_checker.specs.matching.ProofChecking.{the_checking}
+use Rattle.sat_solver.specs.variables.Searching.{AreIndexed, IsOfSearch, SearchesStand, SearchesAgree}
+use Rattle.sat_solver.specs.declared.variables.Variables.{Variables}
+use Rattle.sat_checker.proofs.lemmas.matching.Bridge.{nothing_new}
+use Rattle.sat_checker.proofs.lemmas.matching.CheckerIsSound.{the_checking_sound}
+use Rattle.sat_base.proofs.lemmas.script.LiteralValues.{coded_half, all_map}
+use Rattle.sat_solver.proofs.lemmas.variables.ModeChanges.{known_at}
+use Rattle.sat_solver.proofs.lemmas.variables.ClauseWritten.{known_same, same_lists, and_right}
+
+none_some : {x : ℕ} {o : Option ℕ} → o ≡ None → o ≡ Some x → ⊥
+none_some e f = cc
+
+-- What a step over variables with indices leaves: all but clauses and units over these.
+pub record Leaves (n : Variables) (s t : Session) : Type 0 where
+  variables : (v : ℕ) → t.variables v ≡ s.variables v
+  solver_names : t.solver_names ≡ s.solver_names
+  assumed : t.assumed ≡ s.assumed
+  units : (v : ℕ) → solver_of n v ≡ None → (b : Bool) → t.units (coded v b) ≡ s.units (coded v b)
+  unused : (v : ℕ) → solver_of n v ≡ None → IsUnused s v → IsUnused t v
+
+leaves_same : (n : Variables) (s : Session) → Leaves n s s
+leaves_same n s = record { variables = λ v. refl; solver_names = refl; assumed = refl; units = λ v e b. refl; unused = λ v e h. h }
+
+leaves_both : (n : Variables) (a b c : Session) → Leaves n a b → Leaves n b c → Leaves n a c
+leaves_both n a b c x y = record {
+  variables = λ v. y.variables v ∙ x.variables v;
+  solver_names = y.solver_names ∙ x.solver_names;
+  assumed = y.assumed ∙ x.assumed;
+  units = λ v e d. y.units v e d ∙ x.units v e d;
+  unused = λ v e h. y.unused v e (x.unused v e h);
+}
+
+-- a literal over a variable that has an index isn't one of a variable that has none
+differs : (n : Variables) (l v x : ℕ) (b : Bool) → solver_of n (variable l) ≡ Some x → solver_of n v ≡ None → l ≢ coded v b
+differs n l v x b e f q = none_some (ap (solver_of n) (ap variable q ∙ coded_half v b) ∙ f) e
+
+leaves_fact : (n : Variables) (l x : ℕ) (s : Session) → solver_of n (variable l) ≡ Some x → Leaves n s (with_fact l s)
+leaves_fact n l x s e = go (s.units l) (s.units (negated l))
+  where
+    go : (b d : Bool) → Leaves n s (cond b s (cond d (record s { unsat = true }) (record s { units = λ m. eqb l m || s.units m })))
+    go true d = leaves_same n s
+    go false true = record { variables = λ v. refl; solver_names = refl; assumed = refl; units = λ v f b. refl; unused = λ v f h. h }
+    go false false = record { variables = λ v. refl; solver_names = refl; assumed = refl; units = λ v f b. ap (λ q. q || s.units (coded v b)) (ne_eqb l (coded v b) (differs n l v x b e f)); unused = λ v f h. h }
+
+leaves_facts : (n : Variables) (ls : List ℕ) (s : Session) → AreIndexed n ls → Leaves n s (with_facts ls s)
+leaves_facts n [] s h = leaves_same n s
+leaves_facts n (l ∷ ls) s h = leaves_both n s (with_fact l s) (with_facts ls (with_fact l s)) (leaves_fact n l h.0.0 s h.0.1) (leaves_facts n ls (with_fact l s) h.1)
+
+-- a variable without index is in none of them
+unmentioned : (n : Variables) (c : List ℕ) (v : ℕ) → solver_of n v ≡ None → AreIndexed n c → mentions c v ≡ false
+unmentioned n [] v e h = refl
+unmentioned n (x ∷ xs) v e h = ap (λ b. b || mentions xs v) (ne_eqb (variable x) v (λ q. none_some (ap (solver_of n) q ∙ e) h.0.1)) ∙ unmentioned n xs v e h.1
+
+leaves_live : (n : Variables) (r : Bool) (set : List ℕ) (s : Session) → ((v : ℕ) → solver_of n v ≡ None → mentions set v ≡ false) → Leaves n s (with_live r set s)
+leaves_live n r set s none = record {
+  variables = λ v. refl;
+  solver_names = refl;
+  assumed = refl;
+  units = λ v e b. refl;
+  unused = λ v e h q other lt. go v e h q other (same_side r q && same_literals set other) refl lt;
+}
+  where
+    go : (v : ℕ) → solver_of n v ≡ None → IsUnused s v → (q : Bool) (other : List ℕ) (b : Bool) → (same_side r q && same_literals set other) ≡ b → 0 < more_if b (s.live q other) → mentions other v ≡ false
+    go v e h q other false t lt = h q other lt
+    go v e h q other true t lt = ap (λ z. mentions z v) (sym (same_lists set other (and_right (same_side r q) (same_literals set other) t))) ∙ none v e
+
+leaves_sorted : (n : Variables) (r : Bool) (set c : List ℕ) (s : Session) → AreIndexed n c → set ≡ canonical c → Leaves n s (with_sorted r set s)
+leaves_sorted n r [] c s h e = record { variables = λ v. refl; solver_names = refl; assumed = refl; units = λ v f b. refl; unused = λ v f k. k }
+leaves_sorted n r (l ∷ []) c s h e = let i = has c h (sym (canonical_among c l) ∙ ap (λ ls. is_among ls l) (sym e) ∙ ap (λ b. b || false) (eq-eqb l l refl)) in leaves_fact n l i.0 s i.1
+  where
+    has : (xs : List ℕ) → AreIndexed n xs → is_among xs l ≡ true → (x : ℕ) × (solver_of n (variable l) ≡ Some x)
+    has [] k m = absurd (true≢false (sym m))
+    has (x ∷ xs) k m = at (has xs k.1) (eqb x l) refl m
+      where
+        at : (is_among xs l ≡ true → (x : ℕ) × (solver_of n (variable l) ≡ Some x)) → (b : Bool) → eqb x l ≡ b → (b || is_among xs l) ≡ true → (x : ℕ) × (solver_of n (variable l) ≡ Some x)
+        at ih true t m = (k.0.0, ap (λ y. solver_of n (variable y)) (sym (eqb-true x l t)) ∙ k.0.1)
+        at ih false t m = ih m
+leaves_sorted n r (l ∷ m ∷ ls) c s h e = leaves_live n r (l ∷ m ∷ ls) s (λ v f. ap (λ z. mentions z v) e ∙ mentions_set c v ∙ unmentioned n c v f h)
+
+leaves_clause : (n : Variables) (r : Bool) (c : List ℕ) (s : Session) → AreIndexed n c → Leaves n s (sessions.with_clause r c s)
+leaves_clause n r c s h = go (is_tautology c)
+  where
+    go : (b : Bool) → Leaves n s (cond b s (with_sorted r (canonical c) s))
+    go true = leaves_same n s
+    go false = leaves_sorted n r (canonical c) c s h refl
+
+leaves_less : (n : Variables) (r : Bool) (set : List ℕ) (s : Session) → Leaves n s (without_live r set s)
+leaves_less n r set s = record {
+  variables = λ v. refl;
+  solver_names = refl;
+  assumed = refl;
+  units = λ v e b. refl;
+  unused = λ v e h q other lt. h q other (fewer (same_side r q && same_literals set other) (s.live q other) lt);
+}
+  where
+    fewer : (b : Bool) (m : ℕ) → 0 < less_if b m → 0 < m
+    fewer true m lt = let z : 0 < m - 1 = lt in omega arith
+    fewer false m lt = lt
+
+-- variables in use are known
+leaves_known : (n : Variables) (ls : List ℕ) (s : Session) → AllByRecursion (λ l. (s.variables (variable l)).known ≡ true) ls → Leaves n s (knowing_literals ls s)
+leaves_known n ls s h = record { variables = λ v. known_same s ls v h; solver_names = refl; assumed = refl; units = λ v e b. refl; unused = λ v e k. k }
+
+known_indexed : (n : Variables) (ls : List ℕ) (s : Session) → AreTidy n → AreSaid n s → AreIndexed n ls → AllByRecursion (λ l. (s.variables (variable l)).known ≡ true) ls
+known_indexed n ls s tidy said = all_map (λ l. (x : ℕ) × (solver_of n (variable l) ≡ Some x)) (λ l. (s.variables (variable l)).known ≡ true) ls (λ l i. known_at n (variable l) s said (tidy.indexed (variable l) i.0 i.1))
+
+step_leaves : (n : Variables) (step : Step) (s : Session) → AreTidy n → AreSaid n s → IsOfSearch n step → Leaves n s (after step s)
+step_leaves n (AtClause r c hs) s tidy said h =
+    let l = leaves_both n s (knowing_literals c s) (sessions.with_clause r c (knowing_literals c s)) (leaves_known n c s (known_indexed n c s tidy said h)) (leaves_clause n r c (knowing_literals c s) h) in
+    record { variables = l.variables; solver_names = l.solver_names; assumed = l.assumed; units = l.units; unused = l.unused }
+step_leaves n (UnitClauses us) s tidy said h =
+    let l = leaves_both n s (knowing_literals (map (λ u. u.0) us) s) (with_facts (map (λ u. u.0) us) (knowing_literals (map (λ u. u.0) us) s)) (leaves_known n (map (λ u. u.0) us) s (known_indexed n (map (λ u. u.0) us) s tidy said h)) (leaves_facts n (map (λ u. u.0) us) (knowing_literals (map (λ u. u.0) us) s) h) in
+    record { variables = l.variables; solver_names = l.solver_names; assumed = l.assumed; units = l.units; unused = l.unused }
+step_leaves n (DeleteClause c Redundant) s tidy said h = let l = leaves_less n true (canonical c) s in record { variables = l.variables; solver_names = l.solver_names; assumed = l.assumed; units = l.units; unused = l.unused }
+step_leaves n (DeleteClause c Simplified) s tidy said h = let l = leaves_less n false (canonical c) s in record { variables = l.variables; solver_names = l.solver_names; assumed = l.assumed; units = l.units; unused = l.unused }
+step_leaves n (DeleteClause c Satisfied) s tidy said h = let l = leaves_less n false (canonical c) s in record { variables = l.variables; solver_names = l.solver_names; assumed = l.assumed; units = l.units; unused = l.unused }
+step_leaves n (ChangeHashBits bits) s tidy said h = record { variables = λ v. refl; solver_names = refl; assumed = refl; units = λ v e b. refl; unused = λ v e k. k }
+step_leaves n (Model ls) s tidy said h =
+    let l = leaves_known n ls s (all_map (λ l. (data_at n (variable l)).deleted ≡ false) (λ l. (s.variables (variable l)).known ≡ true) ls (λ l i. known_at n (variable l) s said i) h) in
+    record { variables = l.variables; solver_names = l.solver_names; assumed = l.assumed; units = l.units; unused = l.unused }
+step_leaves n (FailedAssumptions core hashes) s tidy said h = record { variables = λ v. refl; solver_names = refl; assumed = refl; units = λ v e b. refl; unused = λ v e k. k }
+step_leaves n End s tidy said h = record { variables = λ v. refl; solver_names = refl; assumed = refl; units = λ v e b. refl; unused = λ v e k. k }
+step_leaves n _ s tidy said h = absurd h
+
+said_kept : (n : Variables) (s t : Session) → Leaves n s t → AreSaid n s → AreSaid n t
+said_kept n s t l said = record {
+  variables = λ v. l.variables v ∙ said.variables v;
+  solver_names = λ v. ap (λ f. f v) l.solver_names ∙ said.solver_names v;
+  units = λ v e b. l.units v e b ∙ said.units v e b;
+  unused = λ v e. l.unused v e (said.unused v e);
+  marked = λ v. ap (λ ls. mentions ls v) l.assumed ∙ said.marked v;
+}
+
+read_same : (n : Variables) (step : Step) (steps : List Step) → IsOfSearch n step → (name : ℕ) → variable_of (step ∷ steps) name ≡ variable_of steps name
+read_same n (AtClause r c hs) steps h name = refl
+read_same n (UnitClauses us) steps h name = refl
+read_same n (DeleteClause c proof) steps h name = refl
+read_same n (ChangeHashBits bits) steps h name = refl
+read_same n (Model ls) steps h name = refl
+read_same n (FailedAssumptions core hashes) steps h name = refl
+read_same n End steps h name = refl
+read_same n _ steps h name = absurd h
+
+pub searches_stand : SearchesStand
+searches_stand n steps step stands may h = record {
+  tidy = stands.tidy;
+  said = said_kept n (session_after steps) (session_after (step ∷ steps)) (step_leaves n step (session_after steps) stands.tidy stands.said h) stands.said;
+  may = (stands.may, may);
+  read = λ u. read_same n step steps h (u + 1) ∙ stands.read u;
+}
+
+pub searches_agree : SearchesAgree
+searches_agree n steps step stands may h j live a = record { judged = a.judged; bridge = go step h accepted }
+  where
+    accepted : the_checking.Accepts steps step
+    accepted = (sessions_are_accepted (step ∷ steps) (stands.may, may)).0.1
+
+    go : (step : Step) → IsOfSearch n step → the_checking.Accepts steps step → IsBridge the_checking j (step ∷ steps) live
+    go (AtClause r c hs) h acc = nothing_new the_checking the_checking_sound j steps live a.bridge (AtClause r c hs) acc (λ v e. cc) (λ m. refl) (λ b k. k) (λ b k. k)
+    go (UnitClauses us) h acc = nothing_new the_checking the_checking_sound j steps live a.bridge (UnitClauses us) acc (λ v e. cc) (λ m. refl) (λ b k. k) (λ b k. k)
+    go (DeleteClause c proof) h acc = nothing_new the_checking the_checking_sound j steps live a.bridge (DeleteClause c proof) acc (λ v e. cc) (λ m. refl) (λ b k. k) (λ b k. k)
+    go (ChangeHashBits bits) h acc = nothing_new the_checking the_checking_sound j steps live a.bridge (ChangeHashBits bits) acc (λ v e. cc) (λ m. refl) (λ b k. k) (λ b k. k)
+    go (Model ls) h acc = nothing_new the_checking the_checking_sound j steps live a.bridge (Model ls) acc (λ v e. cc) (λ m. refl) (λ b k. k) (λ b k. k)
+    go (FailedAssumptions core hashes) h acc = nothing_new the_checking the_checking_sound j steps live a.bridge (FailedAssumptions core hashes) acc (λ v e. cc) (λ m. refl) (λ b k. k) (λ b k. k)
+    go End h acc = nothing_new the_checking the_checking_sound j steps live a.bridge End acc (λ v e. cc) (λ m. refl) (λ b k. k) (λ b k. k)
+    go _ h acc = absurd h

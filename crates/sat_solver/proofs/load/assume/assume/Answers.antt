@@ -1,0 +1,31 @@
+use Rattle.std.proofs.Common.{ℕ, ◌≡◌, ◌∷◌, List, sym, ◌∙◌, ap}
+use Rattle.sat_base.specs.steps.Steps.{Assumptions}
+use Rattle.sat_checker.specs.LiteralSets.{mentions}
+use Rattle.sat_solver.proofs.lemmas.variables.Assumed.{assumptions_written}
+use Rattle.sat_solver.proofs.lemmas.variables.Added.{assumed_literals, assumptions_added}
+use Rattle.sat_solver.proofs.load.assume.assume.Goals as goal
+
+pub change_marks-requires-clause-tidy : goal.change_marks-requires-clause-tidy
+change_marks-requires-clause-tidy g c = c.in_ok-take_names.ensures.takes.does.stands.tidy
+
+pub change_marks-requires-clause-marked : goal.change_marks-requires-clause-marked
+change_marks-requires-clause-marked g c = λ v. ap (λ ls. mentions ls v) (ap (λ w. w.items) c.in_ok-take_names.ensures.globals ∙ c.requires.asked ∙ sym c.in_ok-take_names.ensures.takes.search.assumed) ∙ c.in_ok-take_names.ensures.takes.does.stands.said.marked v
+
+pub change_marks-requires-clause-images : goal.change_marks-requires-clause-images
+change_marks-requires-clause-images g c = c.in_ok-take_names.ensures.takes.images
+
+pub step-requires-clause-may : goal.step-requires-clause-may
+step-requires-clause-may g c = tt
+
+pub returns-clause-assumes : goal.returns-clause-assumes
+returns-clause-assumes g c =
+    let takes = c.in_ok-take_names.ensures.takes in
+    let written : g.W.StepWriter.steps c.step.new.self ≡ Assumptions c.change_marks.new.asked.globals.items ∷ g.W.StepWriter.steps c.take_names.new.writer =
+    c.in_ok-step.ensures.steps ∙ ap (λ (ls : List ℕ). Assumptions ls ∷ g.W.StepWriter.steps c.take_names.new.writer) c.deref.ensures.value in
+    assumptions_added c.args.variables.now c.take_names.new.variables c.change_marks.new.variables (g.W.StepWriter.steps c.args.writer.now) (g.W.StepWriter.steps c.take_names.new.writer) (g.W.StepWriter.steps c.step.new.self) c.args.lits.now c.take_names.new.taken c.change_marks.new.asked
+    takes c.in_ok-change_marks.ensures.puts c.in_ok-change_marks.ensures.globals c.in_ok-change_marks.ensures.order c.in_ok-change_marks.ensures.given
+    (assumptions_written c.take_names.new.variables c.change_marks.new.variables (g.W.StepWriter.steps c.take_names.new.writer) (g.W.StepWriter.steps c.step.new.self) c.args.lits.now c.change_marks.new.asked.globals.items takes.does.stands
+    (assumed_literals c.args.variables.now c.take_names.new.variables c.args.lits.now c.take_names.new.taken c.change_marks.new.asked takes.does.stands.tidy takes.extends
+    c.requires.sampled takes.images c.in_ok-change_marks.ensures.globals)
+    c.in_ok-change_marks.ensures.puts written)
+    written

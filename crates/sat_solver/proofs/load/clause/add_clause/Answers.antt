@@ -1,0 +1,32 @@
+use Rattle.std.proofs.Common.{ℕ, ◌∷◌, List, sym, ◌∙◌, ap, subst}
+use Rattle.sat_base.specs.steps.Steps.{AddClause}
+use Rattle.sat_solver.specs.load.Literals.{SameLiterals}
+use Rattle.sat_solver.proofs.lemmas.variables.Added.{clause_literals, clause_added}
+use Rattle.sat_solver.specs.variables.Failing.{EmitsUpTo}
+use Rattle.sat_solver.proofs.lemmas.variables.CameLemmas.{came_on}
+use Rattle.sat_solver.proofs.load.clause.add_clause.Goals as goal
+
+pub map_clause-requires-clause-tidy : goal.map_clause-requires-clause-tidy
+map_clause-requires-clause-tidy g c = c.in_ok-take_names.ensures.takes.does.stands.tidy
+
+pub map_clause-requires-clause-images : goal.map_clause-requires-clause-images
+map_clause-requires-clause-images g c = c.in_ok-take_names.ensures.takes.images
+
+pub write_clause-requires-clause-stands : goal.write_clause-requires-clause-stands
+write_clause-requires-clause-stands g c = c.in_ok-take_names.ensures.takes.does.stands
+
+pub write_clause-requires-clause-literals : goal.write_clause-requires-clause-literals
+write_clause-requires-clause-literals g c = subst (SameLiterals c.take_names.new.variables c.args.lits.now) (sym c.deref.ensures.value)
+    (clause_literals c.args.variables.now c.take_names.new.variables c.args.lits.now c.take_names.new.taken c.map_clause.new.taken c.in_ok-take_names.ensures.takes.does.stands.tidy c.in_ok-take_names.ensures.takes.extends
+    c.requires.sampled
+    c.in_ok-take_names.ensures.takes.images c.in_ok-both_signs.ensures.maps c.in_ok-both_signs.ensures.order)
+
+pub returns-clause-adds : goal.returns-clause-adds
+returns-clause-adds g c = clause_added c.args.variables.now c.take_names.new.variables (g.W.StepWriter.steps c.args.writer.now) (g.W.StepWriter.steps c.take_names.new.writer) (g.W.StepWriter.steps c.write_clause.new.writer) c.args.lits.now c.take_names.new.taken c.map_clause.new.taken c.in_ok-both_signs.both_signs
+    c.in_ok-take_names.ensures.takes c.in_ok-both_signs.ensures.maps c.in_ok-both_signs.ensures.signs c.in_ok-both_signs.ensures.order c.in_ok-both_signs.ensures.given
+    c.in_ok-write_clause.ensures.does (c.in_ok-write_clause.ensures.step ∙ ap (λ (ls : List ℕ). AddClause ls ∷ g.W.StepWriter.steps c.take_names.new.writer) c.deref.ensures.value)
+
+pub returns-in_err-both_signs-clause-came : goal.returns-in_err-both_signs-clause-came
+returns-in_err-both_signs-clause-came g c =
+    came_on g.W.StepWriter.took g.W.StepWriter.broke c.from_residual-in_err-both_signs.result c.in_err-both_signs.field-0.0 c.args.writer.now c.take_names.new.writer c.from_residual-in_err-both_signs.ensures.1
+    (subst (λ e. (w : g.row.W.Denot) → g.W.StepWriter.took w c.args.writer.now → EmitsUpTo g.W.StepWriter.took g.W.StepWriter.broke w e c.take_names.new.writer) (sym c.in_err-both_signs.ensures.memory) c.in_ok-take_names.ensures.came)

@@ -1,5 +1,0 @@
-use Rattle.sat_solver.proofs.lemmas.names.Indices.{index_within}
-use Rattle.sat_solver.proofs.names.Variables.take_index.Goals as goal
-
-pub put-requires-clause-within : goal.put-requires-clause-within
-put-requires-clause-within c = index_within c.args.self.now c.args.global c.args.solver c.requires.tidy c.requires.there

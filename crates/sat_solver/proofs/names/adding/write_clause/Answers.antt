@@ -1,8 +1,0 @@
-use Rattle.sat_solver.proofs.lemmas.names.ClauseWritten.{may_add, clause_written}
-use Rattle.sat_solver.proofs.names.adding.write_clause.Goals as goal
-
-pub step-requires-clause-may : goal.step-requires-clause-may
-step-requires-clause-may g c = may_add c.args._variables.now (g.W.StepWriter.steps c.args.writer.now) c.args._user.now c.args.clause.now c.requires.stands c.requires.literals
-
-pub returns-clause-does : goal.returns-clause-does
-returns-clause-does g c = clause_written c.args._variables.now (g.W.StepWriter.steps c.args.writer.now) c.args._user.now c.args.clause.now c.requires.stands c.requires.literals (g.W.StepWriter.steps c.step.new.self) c.in_ok-step.ensures.steps

@@ -1,7 +1,0 @@
-use Rattle.std.proofs.Common.{drop}
-use Rattle.sat_solver.specs.names.Adding.{NoWitness}
-use Rattle.sat_solver.proofs.lemmas.names.Refusals.{IsLeft}
-use Rattle.sat_solver.proofs.names.refusing.leftmost_witness.Given as goal
-
-abbrev pub invariant-loop-lit : goal.invariant-loop-lit
-invariant-loop-lit l = IsLeft l.variables l.lits (drop l.lit-index l.lits) × (NoWitness l.variables (drop l.lit-index l.lits) → NoWitness l.variables l.lits)

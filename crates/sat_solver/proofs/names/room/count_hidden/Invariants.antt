@@ -1,6 +1,0 @@
-use Rattle.std.proofs.Common.{◌≡◌, drop}
-use Rattle.sat_solver.specs.names.Room.{users_in, hidden_count}
-use Rattle.sat_solver.proofs.names.room.count_hidden.Given as goal
-
-abbrev pub invariant-loop-at : goal.invariant-loop-at
-invariant-loop-at l = l.count ≡ hidden_count l.variables (users_in (drop l.at l.lits))

@@ -1,7 +1,0 @@
-use Rattle.std.proofs.Common.{◌≡◌, ◌≤◌, drop}
-use Rattle.sat_base.specs.values.Literals.{largest}
-use Rattle.sat_solver.specs.names.Room.{reach, users_in}
-use Rattle.sat_solver.proofs.names.room.name_reach.Given as goal
-
-abbrev pub invariant-loop-lit : goal.invariant-loop-lit
-invariant-loop-lit l = (reach l.top (users_in (drop l.lit-index l.lits)) ≡ reach l.used (users_in l.lits)) × (l.top ≤ largest)

@@ -1,6 +1,0 @@
-use Rattle.std.proofs.Common.{◌≡◌, take, map}
-use Rattle.sat_solver.specs.parts.Reducing.{ranked}
-use Rattle.sat_solver.proofs.parts.reduce.rank_all.Given as goal
-
-abbrev pub invariant-loop-cref : goal.invariant-loop-cref
-invariant-loop-cref l = l.ranks.items ≡ map (ranked l.clauses) (take l.cref-index l.list)

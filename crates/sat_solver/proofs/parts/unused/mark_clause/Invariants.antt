@@ -1,5 +1,0 @@
-use Rattle.sat_solver.specs.parts.Using.{Marks, HasVar}
-use Rattle.sat_solver.proofs.parts.unused.mark_clause.Given as goal
-
-abbrev pub invariant-loop-at : goal.invariant-loop-at
-invariant-loop-at l = Marks l.fn.used.items l.used.items (HasVar l.clauses l.fn.cref l.at)

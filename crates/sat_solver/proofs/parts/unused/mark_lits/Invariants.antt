@@ -1,5 +1,0 @@
-use Rattle.sat_solver.specs.parts.Using.{Marks, IsAmong}
-use Rattle.sat_solver.proofs.parts.unused.mark_lits.Given as goal
-
-abbrev pub invariant-loop-at : goal.invariant-loop-at
-invariant-loop-at l = Marks l.fn.used.items l.used.items (IsAmong l.lits l.at)

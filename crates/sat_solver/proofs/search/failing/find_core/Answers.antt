@@ -1,5 +1,0 @@
-use Rattle.sat_solver.proofs.lemmas.search.FailingLemmas.{parts_can}
-use Rattle.sat_solver.proofs.search.failing.find_core.Goals as goal
-
-pub analyze_assumption-requires-clause-can : goal.analyze_assumption-requires-clause-can
-analyze_assumption-requires-clause-can c = parts_can c.args.search.now.parts c.requires.holds

@@ -1,7 +1,0 @@
-use Rattle.std.proofs.Common.{[], ap}
-use Rattle.sat_solver.specs.declared.session.counting.Counting.{Counting}
-use Rattle.sat_solver.proofs.lemmas.session.CheckedLemmas.{fed_first}
-use Rattle.sat_solver.proofs.session.checked.Checked.new.Goals as goal
-
-pub returns : goal.returns
-returns g c = fed_first g.P.ProofProcessor.takes _ [] (ap (λ (k : Counting). k.bits) c.new.ensures) c.telling.ensures.stands c.telling.ensures.goes_on c.telling.ensures.settled c.telling.ensures.listeners

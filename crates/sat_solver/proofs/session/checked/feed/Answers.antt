@@ -1,9 +1,0 @@
-use Rattle.std.proofs.Common.{[]}
-use Rattle.sat_base.specs.steps.StepViews.{step_of}
-use Rattle.sat_checker.specs.CheckerView.{seen_of}
-use Rattle.sat_solver.proofs.lemmas.session.HearingLemmas.{answered}
-use Rattle.sat_solver.proofs.session.checked.feed.Goals as goal
-
-pub returns : goal.returns
-returns g c = λ begun written s going may.
-    answered g.P.ProofProcessor.takes begun (seen_of c.args.checker.now) (seen_of c.self_check_step.new.self) written going c.self_check_step.result (step_of c.args.step.now) may (c.self_check_step.ensures.tells [] begun written s)

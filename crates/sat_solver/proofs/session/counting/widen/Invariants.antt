@@ -1,6 +1,0 @@
-use Rattle.std.proofs.Common.{◌≡◌, ◌≤◌, ◌-◌}
-use Rattle.sat_solver.specs.session.Counting.{widened}
-use Rattle.sat_solver.proofs.session.counting.widen.Given as goal
-
-abbrev pub invariant-loop : goal.invariant-loop
-invariant-loop l = (widened (32 - l.counter) l.clauses l.bits ≡ widened 32 l.clauses l.fn.from) × (l.bits ≤ 64)

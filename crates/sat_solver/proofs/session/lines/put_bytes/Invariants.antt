@@ -1,6 +1,0 @@
-use Rattle.std.proofs.Common.{◌≡◌, ◌++◌, drop}
-use Rattle.sat_solver.specs.session.DratText.{bytes_line}
-use Rattle.sat_solver.proofs.session.lines.put_bytes.Given as goal
-
-abbrev pub invariant-loop-lit : goal.invariant-loop-lit
-invariant-loop-lit l = l.text.items ++ bytes_line (drop l.lit-index l.lits) ≡ l.fn.text.items ++ bytes_line l.lits

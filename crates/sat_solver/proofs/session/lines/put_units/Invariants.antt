@@ -1,6 +1,0 @@
-use Rattle.std.proofs.Common.{◌≡◌, ◌++◌, drop}
-use Rattle.sat_solver.specs.session.DratText.{unit_lines, lines_text}
-use Rattle.sat_solver.proofs.session.lines.put_units.Given as goal
-
-abbrev pub invariant-loop-unit : goal.invariant-loop-unit
-invariant-loop-unit l = l.text.items ++ lines_text l.binary (unit_lines (drop l.unit-index l.units)) ≡ l.fn.text.items ++ lines_text l.binary (unit_lines l.units)

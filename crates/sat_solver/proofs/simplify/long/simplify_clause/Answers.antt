@@ -1,7 +1,0 @@
-use Rattle.sat_solver.specs.session.ProofView.{session_of}
-use Rattle.sat_solver.proofs.lemmas.search.GoingLemmas.{goes_none}
-use Rattle.sat_solver.proofs.lemmas.simplify.LightensLemmas.{lightens_none}
-use Rattle.sat_solver.proofs.simplify.long.simplify_clause.Goals as goal
-
-pub returns-in-Whole : goal.returns-in-Whole
-returns-in-Whole g c = goes_none g.W.CountedWrite.seen tt c.args.proof.now _ c.requires.keeps (lightens_none (session_of c.args.proof.now) c.args.search.now c.args.cref c.requires.search c.in-Whole.ensures)

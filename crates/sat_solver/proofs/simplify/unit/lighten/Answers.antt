@@ -1,9 +1,0 @@
-use Rattle.sat_solver.specs.session.ProofView.{session_of}
-use Rattle.sat_solver.proofs.lemmas.search.GoingLemmas.{goes_then}
-use Rattle.sat_solver.proofs.lemmas.simplify.LighterLemmas.{lighter_trans}
-use Rattle.sat_solver.proofs.simplify.unit.lighten.Goals as goal
-
-pub returns : goal.returns
-returns g c =
-    goes_then g.W.CountedWrite.seen tt c.simplify_clauses.result c.args.proof.now c.delete_pairs.new.proof c.simplify_clauses.new.proof _ _ _ c.in_ok-delete_pairs.ensures c.simplify_clauses.ensures
-    (λ xs ys y a b. record { lighter = lighter_trans (session_of c.delete_pairs.new.proof) (session_of c.simplify_clauses.new.proof) c.args.search.now c.delete_pairs.new.search c.simplify_clauses.new.search a.0 b.lighter; left = b.left })

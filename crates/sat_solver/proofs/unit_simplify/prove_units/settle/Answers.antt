@@ -1,0 +1,27 @@
+use Rattle.std.proofs.Common.{arith, length, ◌+◌}
+use Rattle.sat_solver.specs.proof.ProofView.{session_of}
+use Rattle.sat_solver.specs.session.Naming.{global_of}
+use Rattle.sat_solver.proofs.lemmas.fits.StepLemmas.{starts_none, orderly_from}
+use Rattle.sat_solver.specs.unit_simplify.Left.{AllUnits, IsSettled}
+use Rattle.sat_solver.proofs.lemmas.cdcl.GoingLemmas.{goes_none, goes_on}
+use Rattle.sat_solver.proofs.lemmas.cdcl.LeftLemmas.{settled_above, settled_bottom}
+use Rattle.sat_solver.proofs.unit_simplify.prove_units.settle.Goals as goal
+
+pub write_units-requires-clause-orderly : goal.write_units-requires-clause-orderly
+write_units-requires-clause-orderly g c = orderly_from c.args.parts.now (length c.args.parts.now.trail.starts + 1) c.requires.holds
+
+pub clear_units-requires-clause-bottom : goal.clear_units-requires-clause-bottom
+clear_units-requires-clause-bottom g c = starts_none c.args.parts.now (omega (arith, c.current_level.ensures))
+
+pub returns-then-current_level-gt0 : goal.returns-then-current_level-gt0
+returns-then-current_level-gt0 g c =
+    goes_none g.W.CountedWrite.seen tt c.args.proof.now (λ _ _. IsSettled c.args.parts.now c.args.parts.now (session_of c.args.proof.now) (global_of c.args.globals.now)) c.requires.keeps
+    (settled_above c.args.parts.now (session_of c.args.proof.now) (global_of c.args.globals.now) (omega (arith, c.current_level.ensures)) c.requires.holds c.requires.done (c.requires.units (omega (arith, c.current_level.ensures))) c.requires.fits)
+
+pub returns-in-Ok : goal.returns-in-Ok
+returns-in-Ok g c =
+    goes_on g.W.CountedWrite.seen tt tt c.args.proof.now c.write_units.new.proof (λ _ _. AllUnits c.args.parts.now (session_of c.write_units.new.proof) (global_of c.args.globals.now))
+    (λ _ _. IsSettled c.args.parts.now c.clear_units.new.parts (session_of c.write_units.new.proof) (global_of c.args.globals.now))
+    (λ steps all. settled_bottom c.args.parts.now c.clear_units.new.parts (session_of c.write_units.new.proof) (global_of c.args.globals.now) all (omega (arith, c.current_level.ensures))
+    c.clear_units.ensures.holds c.clear_units.ensures.done c.clear_units.ensures.bottom c.clear_units.ensures.empty c.clear_units.ensures.same c.clear_units.ensures.clears c.clear_units.ensures.word)
+    c.in-Ok.ensures

@@ -1,0 +1,13 @@
+use Rattle.std.proofs.Common.{◌∙◌, arith}
+use Rattle.sat_solver.proofs.lemmas.variables.Trees.{leaf_is, some_counted, counted_small, mended}
+use Rattle.sat_solver.proofs.variables.free.FreeIndices.set.Goals as goal
+
+pub recounted-self-requires-clause-some : goal.recounted-self-requires-clause-some
+recounted-self-requires-clause-some c = λ e. some_counted c.args.self.now c.args.index c.requires.tree c.requires.within (leaf_is c.args.self.now c.args.index c.index-before.result.now c.requires.tree c.requires.within c.index-before.ensures ∙ e)
+
+pub recounted-self-requires-clause-small : goal.recounted-self-requires-clause-small
+recounted-self-requires-clause-small c = counted_small c.args.self.now c.requires.tree
+
+pub returns-clause-tree : goal.returns-clause-tree
+returns-clause-tree c =
+    (mended c.args.self.now c.loop-at.self c.args.index c.args.free c.loop-at.at c.requires.tree c.requires.within c.loop-at.invariant.room c.loop-at.invariant.height c.loop-at.invariant.count c.loop-at.invariant.mends (let t = c.loop-at-test.false in omega arith)).0

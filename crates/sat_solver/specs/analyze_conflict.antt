@@ -1,0 +1,6 @@
+pub mod Advances
+pub mod Derivation
+pub mod Involved
+pub mod Marks
+pub mod Minimal
+pub mod Work

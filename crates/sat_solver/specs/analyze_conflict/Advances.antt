@@ -1,0 +1,40 @@
+-- What is learned was not there: from the negations of the learned clause's other literals, no clauses that are unit in turn assign its first.
+use Rattle.std.specs.Prelude.{ℕ, ◌≡◌, ◌≢◌, false, List, [], ◌∷◌, ◌++◌, map, drop, slice_index_or as get_or}
+use Rattle.std.specs.List.{Contains, AllByRecursion}
+use Rattle.sat_base.specs.values.Literals.{negated}
+use Rattle.sat_checker.specs.LiteralSets.{is_among}
+use Rattle.sat_checker.specs.Propagation.{IsFalsified, IsUnit}
+use Rattle.sat_store.specs.clause.Buffer.{lits_at}
+use Rattle.sat_parts.specs.clause.Db.{live_refs}
+use Rattle.sat_parts.specs.prop.WatchLists.{Watching}
+use Rattle.sat_parts.specs.prop.Binaries.{implied_by}
+use Rattle.sat_parts.specs.prop.State.{State}
+use Rattle.sat_solver.specs.analyze_conflict.Work.{Work}
+use Rattle.sat_solver.specs.analyze_conflict.Derivation.{AreUnits, Learns}
+use Rattle.sat_solver.specs.analyze_conflict.Marks.{AsksBelow}
+
+-- a clause of two different literals, each implied by the other's negation
+abbrev pub IsPair : List (List ℕ) → ℕ → ℕ → Type 0
+IsPair implied a b = (a ≢ b) × Contains (implied_by implied (negated b)) a × Contains (implied_by implied (negated a)) b
+
+-- a live long clause, or one of two literals
+pub data IsStored (words live : List ℕ) (implied : List (List ℕ)) (c : List ℕ) : Type 0 where
+  stored_long : (o : ℕ) → Contains live o → c ≡ lits_at words o → IsStored words live implied c
+  stored_pair : (a b : ℕ) → IsPair implied a b → c ≡ a ∷ b ∷ [] → IsStored words live implied c
+
+-- clauses that are unit in turn, with the literals that are assumed after them
+abbrev pub LeadTo : (assumed : List ℕ) (picked : List (List ℕ)) (reached : List ℕ) → Type 0
+LeadTo assumed [] reached = reached ≡ assumed
+LeadTo assumed (c ∷ cs) reached = (o : ℕ) × IsUnit assumed c o × LeadTo (o ∷ assumed) cs reached
+
+-- the first literal of what is learned is neither assigned nor contradicted, and no stored clause falsified
+pub record StaysOpen (words live : List ℕ) (implied : List (List ℕ)) (l : ℕ) (reached : List ℕ) : Type 0 where
+  pub not_true : is_among reached l ≡ false
+  pub not_false : is_among reached (negated l) ≡ false
+  pub no_conflict : (c : List ℕ) → IsStored words live implied c → IsFalsified reached c → ⊥
+
+abbrev pub LearnedAdvances : Type 0
+LearnedAdvances =
+    (words refs : List ℕ) (watching : Watching) (implied : List (List ℕ)) (s : State) (conflict : List ℕ) (w : Work) (back : ℕ) (units : List ℕ) (picked : List (List ℕ)) (reached : List ℕ) →
+    AsksBelow words refs watching implied s → Learns words s conflict w back → AreUnits s units → AllByRecursion (IsStored words (live_refs words refs) implied) picked →
+    LeadTo (map negated (drop 1 w.clause) ++ units) picked reached → StaysOpen words (live_refs words refs) implied (get_or w.clause 0 0) reached

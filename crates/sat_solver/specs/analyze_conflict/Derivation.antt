@@ -1,0 +1,113 @@
+-- The derivation of a learned clause, in the checker's words.
+use Rattle.std.specs.Prelude.{ℕ, ◌≡◌, ◌<◌, ◌≤◌, ◌⊎◌, true, false, List, [], ◌∷◌, ◌++◌, length, map, Bool, slice_index_or as get_or}
+use Rattle.std.specs.List.{Contains}
+use Rattle.sat_base.specs.values.Literals.{variable, negated}
+use Rattle.sat_checker.specs.LiteralSets.{is_among}
+use Rattle.sat_checker.specs.Propagation.{UnitInTurn}
+use Rattle.sat_parts.specs.prop.Values.{IsTrueLit, IsFalseLit}
+use Rattle.sat_parts.specs.prop.State.{State, level, current_level}
+use Rattle.sat_parts.specs.declared.prop.graph.ImplNode.{ImplNode}
+use Rattle.sat_parts.specs.clause.Glue.{AreClear}
+use Rattle.sat_parts.specs.clause.Orders.{AreDistinct, Shuffled}
+use Rattle.sat_parts.specs.prop.Graphs.{node_of}
+use Rattle.sat_solver.specs.analyze_conflict.Work.{Work}
+use Rattle.sat_solver.specs.analyze_conflict.Marks.{causes_at, IsReasoned, depth, HasVariable}
+use Rattle.sat_parts.specs.declared.prop.graph.Conflict.{Conflict}
+use Rattle.sat_parts.specs.prop.Causes.{falsified}
+
+-- the clause by which a literal is true
+abbrev pub clause_of : List ℕ → State → ℕ → List ℕ
+clause_of words s l = l ∷ causes_at words s l
+
+-- these are exactly the true literals of level 0
+pub record AreUnits (s : State) (units : List ℕ) : Type 0 where
+  pub all : (l : ℕ) → IsTrueLit s.values l → level s l ≡ 0 → is_among units l ≡ true
+  pub only : (l : ℕ) → is_among units l ≡ true → IsTrueLit s.values l × (level s l ≡ 0)
+
+-- a false literal is of level 0, in the clause, or false by one of the used clauses
+pub data IsGrounded (s : State) (learned used : List ℕ) (r : ℕ) : Type 0 where
+  grounded_unit : level s r ≡ 0 → IsGrounded s learned used r
+  grounded_clause : Contains learned r → IsGrounded s learned used r
+  grounded_reason : Contains used (negated r) → IsGrounded s learned used r
+
+abbrev pub AreGrounded : State → (learned used rs : List ℕ) → Type 0
+AreGrounded s learned used rs = (k : ℕ) → k < length rs → IsGrounded s learned used (get_or rs k 0)
+
+-- the parts of a derivation, in any order: the clauses of some literals whose causes are accounted for, as are the literals of the
+-- clause that was found false
+pub record AreGrounds (words : List ℕ) (s : State) (conflict learned used : List ℕ) : Type 0 where
+  pub reasons : (l : ℕ) → Contains used l → IsReasoned s 0 l
+  pub causes : (l : ℕ) → Contains used l → AreGrounded s learned used (causes_at words s l)
+  pub start : AreGrounded s learned used conflict
+  pub apart : (l : ℕ) → Contains used l → Contains learned (negated l) → ⊥
+  pub distinct : AreDistinct used
+
+-- the same of the clause that was learned from a conflict
+abbrev pub HasGrounds : (words : List ℕ) (s : State) (e : Conflict) (w : Work) → Type 0
+HasGrounds words s e w = AreGrounds words s (falsified words e) w.clause w.used
+
+-- parts of a derivation in the order of the trail
+pub record IsDerivation (words : List ℕ) (s : State) (conflict learned used : List ℕ) : Type 0 where
+  pub grounds : AreGrounds words s conflict learned used
+  pub rising : (j k : ℕ) → j < k → k < length used → depth s (get_or used j 0) < depth s (get_or used k 0)
+
+-- the checker accepts: under the negated clause and the units the used clauses are unit in turn, and the one that was found false is falsified
+abbrev pub IsAcceptable : (words : List ℕ) (s : State) (conflict learned used : List ℕ) → Type 0
+IsAcceptable words s conflict learned used =
+    (units : List ℕ) → AreUnits s units → UnitInTurn (map negated learned ++ units) (map (clause_of words s) used ++ conflict ∷ [])
+
+-- what is learned: the first literal alone is of the current level, the others are of lower ones above 0, all are false, none twice
+pub record IsAsserting (s : State) (learned : List ℕ) : Type 0 where
+  pub some : 0 < length learned
+  pub fails : (k : ℕ) → k < length learned → IsFalseLit s.values (get_or learned k 0)
+  pub top : level s (get_or learned 0 0) ≡ current_level s
+  pub lower : (k : ℕ) → 0 < k → k < length learned → (0 < level s (get_or learned k 0)) × (level s (get_or learned k 0) < current_level s)
+  pub distinct : AreDistinct learned
+
+-- the flags are those of the clause's literals
+abbrev pub OnlyFlags : List Bool → List ℕ → Type 0
+OnlyFlags flags ls = (v : ℕ) → get_or flags v false ≡ true → HasVariable ls v
+
+-- the flags are those of literals of the clause, or used ones
+abbrev pub FlagsAmong : Work → Type 0
+FlagsAmong w = (v : ℕ) → get_or w.flags v false ≡ true → HasVariable w.clause v ⊎ HasVariable w.used v
+
+-- after resolution: what was learned, with its first literal last on the trail, and its parts of a derivation, the deepest first
+pub record Resolved (words : List ℕ) (s : State) (conflict : List ℕ) (w : Work) : Type 0 where
+  pub size : length w.flags ≡ length s.values
+  pub asserting : IsAsserting s w.clause
+  pub grounds : AreGrounds words s conflict w.clause w.used
+  pub falling : (j k : ℕ) → j < k → k < length w.used → depth s (get_or w.used k 0) < depth s (get_or w.used j 0)
+  pub tops : (k : ℕ) → k < length w.used → level s (get_or w.used k 0) ≡ current_level s
+  pub only : OnlyFlags w.flags w.clause
+  pub flagged : (k : ℕ) → 0 < k → k < length w.clause → get_or w.flags (variable (get_or w.clause k 0)) false ≡ true
+
+-- the same of a conflict: resolution has come to the first unique implication point
+abbrev pub IsUipClause : (words : List ℕ) (s : State) (e : Conflict) (w : Work) → Type 0
+IsUipClause words s e w = Resolved words s (falsified words e) w
+
+-- the clause with a literal of the highest level among the others second, and this level, or 0 where there is no other
+pub record PutsSecond (nodes : List ImplNode) (clause clause' : List ℕ) (level : ℕ) : Type 0 where
+  pub lits : Shuffled clause clause'
+  pub first : get_or clause' 0 0 ≡ get_or clause 0 0
+  pub alone : length clause < 2 → level ≡ 0
+  pub second : 2 ≤ length clause → level ≡ (node_of nodes (variable (get_or clause' 1 0))).level
+  pub highest : (k : ℕ) → 0 < k → k < length clause → (node_of nodes (variable (get_or clause' k 0))).level ≤ level
+
+-- what analysis gives: a clause that asserts its first literal once the levels above the one given are undone, and the literals whose
+-- clauses, in the order of the trail, and then the one that was found false, lead the checker to a conflict. Each of these has a clause as
+-- its reason
+pub record Learns (words : List ℕ) (s : State) (conflict : List ℕ) (w : Work) (back : ℕ) : Type 0 where
+  pub asserting : IsAsserting s w.clause
+  pub reasons : (k : ℕ) → k < length w.used → IsReasoned s 0 (get_or w.used k 0)
+  pub rising : (j k : ℕ) → j < k → k < length w.used → depth s (get_or w.used j 0) < depth s (get_or w.used k 0)
+  pub acceptable : IsAcceptable words s conflict w.clause w.used
+  pub alone : length w.clause < 2 → back ≡ 0
+  pub second : 2 ≤ length w.clause → back ≡ level s (get_or w.clause 1 0)
+  pub highest : (k : ℕ) → 0 < k → k < length w.clause → level s (get_or w.clause k 0) ≤ back
+  pub below : back < current_level s
+  pub clear : AreClear w.flags
+
+-- the same of a conflict
+abbrev pub LearnsFrom : (words : List ℕ) (s : State) (e : Conflict) (w : Work) (back : ℕ) → Type 0
+LearnsFrom words s e w back = Learns words s (falsified words e) w back

@@ -1,0 +1,150 @@
+-- What holds while literals that follow from the others of the clause are looked for.
+use Rattle.std.specs.Prelude.{ℕ, ◌≡◌, ◌+◌, ◌<◌, ◌≤◌, ◌⊎◌, ◌==◌, ◌||◌, ◌&&◌, not, if◌then◌else◌, Bool, true, false, MatchBool, List, [], ◌∷◌, ◌++◌, length, take, slice_index_or as get_or, slice_set as set}
+use Rattle.std.specs.List.{Contains}
+use Rattle.sat_base.specs.values.Literals.{variable, negated}
+use Rattle.sat_store.specs.levels.Levels.{passes}
+use Rattle.sat_parts.specs.declared.prop.graph.ImplNode.{ImplNode}
+use Rattle.sat_parts.specs.clause.Orders.{AreDistinct}
+use Rattle.sat_parts.specs.prop.Graphs.{is_unit, node_of}
+use Rattle.sat_parts.specs.prop.State.{State, level, current_level}
+use Rattle.sat_solver.specs.analyze_conflict.Work.{Work}
+use Rattle.sat_solver.specs.analyze_conflict.Marks.{causes_at, IsReasoned, IsLower, HasVariable}
+use Rattle.sat_parts.specs.declared.prop.graph.Conflict.{Conflict}
+use Rattle.sat_parts.specs.prop.Causes.{falsified}
+
+-- a false literal is accounted for: it is of level 0, the first of the clause, of a flagged variable, or false by a used clause
+pub data IsMarked (s : State) (first : ℕ) (w : Work) (r : ℕ) : Type 0 where
+  marked_unit : level s r ≡ 0 → IsMarked s first w r
+  marked_first : first ≡ r → IsMarked s first w r
+  marked_flag : get_or w.flags (variable r) false ≡ true → IsMarked s first w r
+  marked_reason : Contains w.used (negated r) → IsMarked s first w r
+
+abbrev pub AreMarked : State → ℕ → Work → List ℕ → Type 0
+AreMarked s first w rs = (k : ℕ) → k < length rs → IsMarked s first w (get_or rs k 0)
+
+-- a literal of the current level whose reason was resolved with, or a flagged one of a lower level
+pub data IsUse (s : State) (low : ℕ) (flags : List Bool) (k l : ℕ) : Type 0 where
+  use_top : k < low → level s l ≡ current_level s → IsUse s low flags k l
+  use_low : low ≤ k → level s l < current_level s → get_or flags (variable l) false ≡ true → IsUse s low flags k l
+
+-- the used literals: those before place at have causes that are accounted for
+pub record Searching (words : List ℕ) (s : State) (conflict : List ℕ) (first low : ℕ) (w : Work) (at : ℕ) : Type 0 where
+  pub size : length w.flags ≡ length s.values
+  pub within : at ≤ length w.used
+  pub behind : low ≤ at
+  pub reasons : (k : ℕ) → k < length w.used → IsReasoned s 0 (get_or w.used k 0)
+  pub uses : (k : ℕ) → k < length w.used → IsUse s low w.flags k (get_or w.used k 0)
+  pub distinct : AreDistinct w.used
+  pub causes : (k : ℕ) → k < at → AreMarked s first w (causes_at words s (get_or w.used k 0))
+  pub start : AreMarked s first w conflict
+
+-- a literal of this variable is among the used ones from a place on
+pub record IsNewUse (used : List ℕ) (from v : ℕ) : Type 0 where
+  pub place : ℕ
+  pub behind : from ≤ place
+  pub within : place < length used
+  pub there : variable (get_or used place 0) ≡ v
+
+-- more literals were marked: they are used, and weren't flagged
+pub record MarksMore (w w' : Work) : Type 0 where
+  pub clause : w'.clause ≡ w.clause
+  pub met : w'.met ≡ w.met
+  pub involved : w'.involved ≡ w.involved
+  pub core : w'.core ≡ w.core
+  pub pending : w'.pending ≡ w.pending
+  pub size : length w'.flags ≡ length w.flags
+  pub longer : length w.used ≤ length w'.used
+  pub front : take (length w.used) w'.used ≡ w.used
+  pub kept : (v : ℕ) → get_or w.flags v false ≡ true → get_or w'.flags v false ≡ true
+  pub fresh : (k : ℕ) → length w.used ≤ k → k < length w'.used → get_or w.flags (variable (get_or w'.used k 0)) false ≡ false
+  pub raised : (v : ℕ) → get_or w'.flags v false ≡ true → (get_or w.flags v false ≡ true) ⊎ IsNewUse w'.used (length w.used) v
+
+-- a false literal is marked: its negation is used
+abbrev pub marked : ℕ → Work → Work
+marked r w = record w { flags = set w.flags (variable r) true; used = w.used ++ negated r ∷ [] }
+
+abbrev pub used_up : ℕ → Work → Work
+used_up l w = record w { used = w.used ++ l ∷ [] }
+
+-- the literals of a reason are marked one after the other, up to one that can't follow from the clause: a decision, or one of a level
+-- that the filter holds back
+pub record Followed : Type 0 where
+  pub work : Work
+  pub whole : Bool
+
+abbrev pub can_follow : (nodes : List ImplNode) (filter r : ℕ) → Bool
+can_follow nodes filter r = not (is_unit (node_of nodes (variable r)).reason) && passes filter (node_of nodes (variable r)).level
+
+abbrev pub is_settled : (nodes : List ImplNode) (r : ℕ) → Work → Bool
+is_settled nodes r w = (node_of nodes (variable r)).level == 0 || get_or w.flags (variable r) false
+
+abbrev pub followed : (nodes : List ImplNode) (filter : ℕ) → List ℕ → Work → Followed
+followed nodes filter [] w = record { work = w; whole = true }
+followed nodes filter (r ∷ rs) w =
+    if is_settled nodes r w then followed nodes filter rs w
+    else (if can_follow nodes filter r then followed nodes filter rs (marked r w) else record { work = w; whole = false })
+
+-- the clause while its literals are gone through: the first is of the current level, each other one is false, of a level between 0
+-- and that, and flagged; what is flagged is of the clause or used; and nothing that is used is the negation of one of the clause
+pub record Minimal (words : List ℕ) (s : State) (conflict : List ℕ) (first low : ℕ) (rest : List ℕ) (w : Work) : Type 0 where
+  pub searching : Searching words s conflict first low w (length w.used)
+  pub distinct : AreDistinct rest
+  pub has_first : Contains rest first
+  pub top : level s first ≡ current_level s
+  pub lower : (r : ℕ) → Contains rest r → (r ≡ first) ⊎ IsLower s (current_level s) w.flags r
+  pub only : (v : ℕ) → get_or w.flags v false ≡ true → HasVariable rest v ⊎ IsNewUse w.used low v
+  pub apart : (l : ℕ) → Contains w.used l → Contains rest (negated l) → ⊥
+
+-- the marks of a search are taken back: the literals used from a place on are used no more, and those behind the first of them unflagged
+pub record Undoes (top : ℕ) (w w' : Work) : Type 0 where
+  pub clause : w'.clause ≡ w.clause
+  pub met : w'.met ≡ w.met
+  pub involved : w'.involved ≡ w.involved
+  pub core : w'.core ≡ w.core
+  pub pending : w'.pending ≡ w.pending
+  pub used : w'.used ≡ take top w.used
+  pub size : length w'.flags ≡ length w.flags
+  pub cleared : (k : ℕ) → top < k → k < length w.used → get_or w'.flags (variable (get_or w.used k 0)) false ≡ false
+  pub others : (v : ℕ) → (IsNewUse w.used (top + 1) v → ⊥) → get_or w'.flags v false ≡ get_or w.flags v false
+
+-- the same work, but for how its flags are written
+pub record SameWork (w w' : Work) : Type 0 where
+  pub clause : w'.clause ≡ w.clause
+  pub met : w'.met ≡ w.met
+  pub involved : w'.involved ≡ w.involved
+  pub core : w'.core ≡ w.core
+  pub pending : w'.pending ≡ w.pending
+  pub used : w'.used ≡ w.used
+  pub flags : w'.flags ≡ w.flags
+
+-- a search begins with the negation of a flagged literal
+pub record MayStart (s : State) (w : Work) (c : ℕ) : Type 0 where
+  pub flagged : get_or w.flags (variable c) false ≡ true
+  pub reasoned : IsReasoned s 0 (negated c)
+  pub below : level s (negated c) < current_level s
+  pub new : Contains w.used (negated c) → ⊥
+
+-- how many flags aren't set
+abbrev pub unset : List Bool → ℕ
+unset [] = 0
+unset (b ∷ bs) = (if b then 0 else 1) + unset bs
+
+-- the depth of a literal's variable
+abbrev pub depth_in : List ImplNode → ℕ → ℕ
+depth_in nodes l = (node_of nodes (variable l)).depth
+
+-- the first literals of the list are of falling depth, and those behind them of no greater depth than any of these
+pub record FallsBefore (nodes : List ImplNode) (ls : List ℕ) (resolved : ℕ) : Type 0 where
+  pub within : resolved ≤ length ls
+  pub falling : (j k : ℕ) → j ≤ k → k < resolved → depth_in nodes (get_or ls k 0) ≤ depth_in nodes (get_or ls j 0)
+  pub lower : (j k : ℕ) → j < resolved → resolved ≤ k → k < length ls → depth_in nodes (get_or ls k 0) ≤ depth_in nodes (get_or ls j 0)
+
+-- the causes of all used literals are accounted for, in the search for literals that follow from the others of the clause
+abbrev pub HasSearched : (words : List ℕ) (s : State) (e : Conflict) (low : ℕ) (w : Work) → Type 0
+HasSearched words s e low w = Searching words s (falsified words e) (get_or w.clause 0 0) low w (length w.used)
+
+-- whether a literal follows from the others: its negation is used then, with all by which it does, and else nothing has changed
+abbrev pub Searches : (words : List ℕ) (s : State) (e : Conflict) (low r : ℕ) (w w' : Work) → Bool → Type 0
+Searches words s e low r w w' b = MatchBool b
+    (MarksMore (used_up (negated r) w) w' × Searching words s (falsified words e) (get_or w.clause 0 0) low w' (length w'.used))
+    (SameWork w w')

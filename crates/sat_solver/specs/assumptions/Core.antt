@@ -1,0 +1,58 @@
+-- Which assumptions can't be true together, as a step tells it.
+use Rattle.std.specs.Prelude.{ℕ, ◌≡◌, ◌<◌, Bool, true, false, List, [], ◌∷◌, map, length, MatchResult, IfErr, Result, slice_index_or as get_or}
+use Rattle.std.specs.List.{AllByRecursion, Contains}
+use Rattle.sat_base.specs.device.Device.{Writer}
+use Rattle.sat_base.specs.values.Hashes.{hash_of}
+use Rattle.sat_base.specs.steps.Steps.{Step, FailedAssumptions}
+use Rattle.sat_checker.specs.declared.processing.ProofProcessor.{Ghosts}
+use Rattle.sat_solver.specs.session.LiveClauses.{with_var}
+use Rattle.sat_solver.specs.proof.ProofView.{Keeps, session_of}
+use Rattle.sat_solver.specs.session.Session.{Session}
+use Rattle.sat_solver.specs.declared.proof.Proof.{Proof}
+use Rattle.sat_solver.specs.analyze_conflict.Derivation.{clause_of}
+use Rattle.sat_parts.specs.declared.parts.Parts.{Parts}
+use Rattle.sat_parts.specs.parts.Whole.{state}
+use Rattle.sat_solver.specs.declared.error.SolverError.{SolverError}
+use Rattle.sat_solver.specs.declared.context.Search.{Search}
+use Rattle.sat_solver.specs.cdcl.Faults.{IsKept, NamesLoss}
+use Rattle.sat_solver.specs.cdcl.Going.{IsFault, Went}
+use Rattle.sat_solver.specs.cdcl.Joint.{global_in, IsSearch, Moved}
+use Rattle.sat_solver.specs.analyze_conflict.Work.{Work}
+use Rattle.sat_solver.specs.assumptions.Failing.{Fails}
+
+-- why the assumption fails, by the clauses of the parts
+abbrev pub FailsBy : Parts → (failed : ℕ) → Work → Type 0
+FailsBy p failed w = Fails p.clauses (state p) failed w.core w.used
+
+-- the hashes of the clauses by which these literals are true
+abbrev pub causes_hashes : Parts → List ℕ → List ℕ
+causes_hashes p used = map (λ l. hash_of (clause_of p.clauses (state p) l)) used
+
+-- does the step tell a core?
+abbrev pub is_core : Step → Bool
+is_core (FailedAssumptions core hashes) = true
+is_core step = false
+
+-- the assumption that failed comes first, and all are assumptions
+pub record AreFailed (assumed : List ℕ) (failed : ℕ) (core : List ℕ) : Type 0 where
+  pub some : 0 < length core
+  pub first : get_or core 0 0 ≡ failed
+  pub among : (k : ℕ) → k < length core → Contains assumed (get_or core k 0)
+
+-- a core was told by one step
+pub record ToldCore (steps : List Step) (s : Session) (c c' : Search) : Type 0 where
+  pub is : steps ≡ FailedAssumptions (map (with_var (global_in c)) c'.analysis.core) (causes_hashes c.parts c'.analysis.used) ∷ []
+  pub failed : AreFailed c.assumptions.lits.items c.failed c'.analysis.core
+  pub search : IsSearch s c'
+  pub moved : Moved c c'
+  pub same : c'.parts ≡ c.parts
+
+-- It made the step of a core, or failed.
+pub record TellsCore {W L : Type 0} {G : Ghosts L} (seen : W → Writer) (result : Result (Unit {0}) SolverError) (old new : Proof W L G) (c c' : Search) : Type 0 where
+  pub steps : List Step
+  pub went : Went seen result steps old new
+  pub core : AllByRecursion (λ step. is_core step ≡ true) steps
+  pub keeps : Keeps new
+  pub kept : IfErr result (λ e. IsKept e new)
+  pub loss : IfErr result (λ e. NamesLoss e old new)
+  pub ends : MatchResult result (λ _. ToldCore steps (session_of new) c c') IsFault

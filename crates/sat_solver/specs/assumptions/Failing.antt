@@ -1,0 +1,65 @@
+-- Why an assumption fails: the assumptions that it can't be true with, and the clauses by which it is false.
+use Rattle.std.specs.Prelude.{ℕ, ◌≡◌, ◌-◌, ◌<◌, ◌≤◌, true, List, [], ◌∷◌, ◌++◌, length, map, slice_index_or as get_or}
+use Rattle.sat_base.specs.values.Literals.{negated}
+use Rattle.sat_checker.specs.Propagation.{UnitInTurn}
+use Rattle.sat_parts.specs.clause.Glue.{AreClear}
+use Rattle.sat_parts.specs.clause.Orders.{AreDistinct}
+use Rattle.sat_parts.specs.prop.Graphs.{is_unit}
+use Rattle.sat_parts.specs.prop.State.{State, node, level, lit_at}
+use Rattle.sat_solver.specs.analyze_conflict.Work.{Work}
+use Rattle.sat_solver.specs.analyze_conflict.Marks.{depth, MarksWork, AreUsed}
+use Rattle.sat_solver.specs.analyze_conflict.Derivation.{clause_of, AreUnits, AreGrounds, IsDerivation}
+
+-- a true literal of the trail, above level 0 and from a place on, that has no clause as its reason: a decision or an assumption
+pub record IsChosen (s : State) (at l : ℕ) : Type 0 where
+  pub place : ℕ
+  pub from : at ≤ place
+  pub within : place < length s.trail.lits
+  pub there : lit_at s place ≡ l
+  pub above : 0 < level s l
+  pub free : is_unit (node s l).reason ≡ true
+
+-- the assumption that failed, and then literals that were chosen, from a place of the trail on, the last ones first
+pub record IsCoreFrom (s : State) (failed : ℕ) (core : List ℕ) (at : ℕ) : Type 0 where
+  pub some : 0 < length core
+  pub first : get_or core 0 0 ≡ failed
+  pub chosen : (k : ℕ) → 0 < k → k < length core → IsChosen s at (get_or core k 0)
+  pub falling : (j k : ℕ) → 0 < j → j < k → k < length core → depth s (get_or core k 0) < depth s (get_or core j 0)
+
+-- the same from its begin on, none twice
+pub record IsCoreOf (s : State) (failed : ℕ) (core : List ℕ) : Type 0 where
+  pub lits : IsCoreFrom s failed core 0
+  pub distinct : AreDistinct core
+
+-- the clauses of the used literals, in the order of the trail, derive the clause of the core's negations: the last one is the clause by
+-- which the assumption is false. The checker accepts: under the core and the units they are unit in turn, and the last one is falsified
+pub record IsRefutation (words : List ℕ) (s : State) (failed : ℕ) (core used : List ℕ) : Type 0 where
+  pub lits : IsCoreOf s failed core
+  pub derivation : IsDerivation words s (clause_of words s (negated failed)) (map negated core) used
+  pub some : 0 < length used
+  pub last : get_or used (length used - 1) 0 ≡ negated failed
+  pub acceptable : (units : List ℕ) → AreUnits s units → UnitInTurn (core ++ units) (map (clause_of words s) used)
+
+-- a false assumption fails: it is false at level 0, or its negation was chosen before it, or it is refuted by clauses
+pub data Fails (words : List ℕ) (s : State) (failed : ℕ) (core used : List ℕ) : Type 0 where
+  fails_bottom : level s failed ≡ 0 → core ≡ failed ∷ [] → used ≡ [] → Fails words s failed core used
+  fails_signs : IsChosen s 0 (negated failed) → core ≡ failed ∷ negated failed ∷ [] → used ≡ [] → Fails words s failed core used
+  fails_clauses : IsRefutation words s failed core used → Fails words s failed core used
+
+-- while the reasons are gone back over: flagged literals of all levels above 0 are still to be looked at, those before the place
+pub record Tracing (words : List ℕ) (s : State) (failed : ℕ) (w : Work) (at : ℕ) : Type 0 where
+  pub marks : MarksWork s 1 w at
+  pub uses : AreUsed words s 1 w at
+  pub lits : IsCoreFrom s failed w.core at
+  pub some : 0 < length w.used
+  pub head : get_or w.used 0 0 ≡ negated failed
+
+-- once none is flagged any more
+pub record Traced (words : List ℕ) (s : State) (failed : ℕ) (w : Work) : Type 0 where
+  pub size : length w.flags ≡ length s.values
+  pub clear : AreClear w.flags
+  pub core : IsCoreOf s failed w.core
+  pub grounds : AreGrounds words s (clause_of words s (negated failed)) (map negated w.core) w.used
+  pub falling : (j k : ℕ) → j < k → k < length w.used → depth s (get_or w.used k 0) < depth s (get_or w.used j 0)
+  pub some : 0 < length w.used
+  pub head : get_or w.used 0 0 ≡ negated failed

@@ -1,0 +1,33 @@
+-- Why a call failed, as a solver tells it, and where its cause is kept until then.
+use Rattle.std.specs.Prelude.{◌≡◌, ◌⊎◌, Some}
+use Rattle.sat_checker.specs.declared.processing.ProofProcessor.{Ghosts}
+use Rattle.sat_solver.specs.proof.ProofView.{Complains, is_lost}
+use Rattle.sat_solver.specs.declared.proof.made.CheckFault.TheVariants as checks
+use Rattle.sat_solver.specs.declared.proof.Proof.{Proof}
+use Rattle.sat_solver.specs.declared.cdcl.fault.Kind.{Kind}
+use Rattle.sat_solver.specs.declared.cdcl.fault.Kind.TheVariants as kinds
+use Rattle.sat_solver.specs.declared.error.SolverError.{SolverError}
+use Rattle.sat_solver.specs.declared.error.SolverError.TheVariants as errors
+
+abbrev pub error_of : Kind → SolverError
+error_of (kinds.Write cause) = errors.ProofIoError cause
+error_of (kinds.Processor cause) = errors.ProofProcessorError cause
+error_of kinds.OutOfMemory = errors.OutOfMemory
+error_of kinds.StoreFull = errors.StoreFull
+error_of kinds.VariableLimit = errors.VariableLimit
+error_of kinds.CounterEnd = errors.CounterEnd
+
+-- the proof keeps the cause of this error, where it has one
+abbrev pub IsKept : {W L : Type 0} {G : Ghosts L} → SolverError → Proof W L G → Type 0
+IsKept (errors.ProofIoError cause) p = p.cause ≡ Some cause
+IsKept (errors.ProofProcessorError cause) p = p.made.complaint ≡ Some cause
+IsKept e p = Unit {0}
+
+-- The checker lacks a step that was made only where the target failed at it, or where the checker itself failed: this error says so. For want of
+-- memory it lacks none, unless the memory was wanting in the checker.
+abbrev pub NamesLoss : {W L : Type 0} {G : Ghosts L} → SolverError → Proof W L G → Proof W L G → Type 0
+NamesLoss (errors.ProofIoError cause) old new = Unit {0}
+NamesLoss (errors.ProofProcessorError cause) old new = Unit {0}
+NamesLoss errors.CounterEnd old new = Unit {0}
+NamesLoss errors.OutOfMemory old new = (is_lost new ≡ is_lost old) ⊎ Complains checks.OutOfMemory new
+NamesLoss e old new = is_lost new ≡ is_lost old

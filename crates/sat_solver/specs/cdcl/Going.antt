@@ -1,0 +1,95 @@
+-- What a call that makes steps of a search leaves of the proof. Lists of steps have the newest first.
+use Rattle.std.specs.Prelude.{ℕ, ◌≡◌, Bool, true, false, Option, Some, List, map, MatchResult, IfErr, Result, Ok, Err}
+use Rattle.std.specs.List.{AllByRecursion}
+use Rattle.sat_base.specs.device.Device.{Writer}
+use Rattle.sat_base.specs.values.Literals.{variable}
+use Rattle.sat_base.specs.steps.Steps.{Step, AtClause, UnitClauses, DeleteClause}
+use Rattle.sat_checker.specs.declared.processing.ProofProcessor.{Ghosts}
+use Rattle.sat_solver.specs.session.Quiet.{AreQuiet}
+use Rattle.sat_solver.specs.cdcl.Faults.{IsKept, NamesLoss}
+use Rattle.sat_solver.specs.proof.ProofView.{Adds, Fails, FailsCheck, Gains, Keeps, session_of}
+use Rattle.sat_solver.specs.declared.proof.made.CheckFault.{CheckFault}
+use Rattle.sat_solver.specs.declared.proof.made.CheckFault.TheVariants as checks
+use Rattle.sat_solver.specs.declared.proof.Proof.{Proof}
+use Rattle.sat_solver.specs.declared.proof.ProofError.{ProofError}
+use Rattle.sat_solver.specs.declared.proof.ProofError.TheVariants.{Write, OutOfMemory, Check}
+use Rattle.sat_solver.specs.declared.error.SolverError.{SolverError}
+use Rattle.sat_solver.specs.declared.error.SolverError.TheVariants as errors
+
+-- the kinds of step that a search makes by itself
+abbrev pub is_searched : Step → Bool
+is_searched (AtClause redundant clause hashes) = true
+is_searched (UnitClauses units) = true
+is_searched (DeleteClause clause proof) = true
+is_searched step = false
+
+-- each literal is over a variable that has a solver name
+abbrev pub AreNamed : (ℕ → Option ℕ) → List ℕ → Type 0
+AreNamed names = AllByRecursion (λ l. (x : ℕ) × (names (variable l) ≡ Some x))
+
+-- a step that a search makes by itself, over variables that have solver names
+abbrev pub IsSearched : (ℕ → Option ℕ) → Step → Type 0
+IsSearched names (AtClause redundant clause hashes) = AreNamed names clause
+IsSearched names (UnitClauses units) = AreNamed names (map (λ u. u.0) units)
+IsSearched names (DeleteClause clause proof) = Unit {0}
+IsSearched names step = ⊥
+
+abbrev pub AreSearched : (ℕ → Option ℕ) → List Step → Type 0
+AreSearched names = AllByRecursion (IsSearched names)
+
+-- why a solver's own checker failed, as the solver tells it
+abbrev pub check_fault_of : CheckFault → SolverError
+check_fault_of checks.OutOfMemory = errors.OutOfMemory
+check_fault_of checks.CounterEnd = errors.CounterEnd
+check_fault_of (checks.Processor cause) = errors.ProofProcessorError cause
+
+-- why a step wasn't made, or not checked, as a solver tells it
+abbrev pub fault_of : ProofError → SolverError
+fault_of (Write cause) = errors.ProofIoError cause
+fault_of OutOfMemory = errors.OutOfMemory
+fault_of (Check fault) = check_fault_of fault
+
+-- what a search may fail of: that the clause buffer is full comes only where this holds
+abbrev pub IsFaultOr : (full : Type 0) → SolverError → Type 0
+IsFaultOr full errors.OutOfMemory = Unit {0}
+IsFaultOr full errors.StoreFull = full
+IsFaultOr full (errors.ProofIoError cause) = Unit {0}
+IsFaultOr full (errors.ProofProcessorError cause) = Unit {0}
+IsFaultOr full errors.CounterEnd = Unit {0}
+IsFaultOr full e = ⊥
+
+-- the same where no clause is stored
+abbrev pub IsFault : SolverError → Type 0
+IsFault = IsFaultOr ⊥
+
+-- These steps were made; where a call of the target failed, that was at their text. A count is at its end, or a processor answers a fault, only in the solver's own checker.
+abbrev pub Went : {A W L : Type 0} {G : Ghosts L} → (W → Writer) → Result A SolverError → List Step → Proof W L G → Proof W L G → Type 0
+Went seen (Ok x) steps old new = Gains seen steps old new
+Went seen (Err (errors.ProofIoError cause)) steps old new = Fails seen steps old new
+Went seen (Err (errors.ProofProcessorError cause)) steps old new = FailsCheck seen (checks.Processor cause) steps old new
+Went seen (Err errors.CounterEnd) steps old new = FailsCheck seen checks.CounterEnd steps old new
+Went seen (Err e) steps old new = Adds seen steps old new
+
+-- nothing was learned, unless something may be
+abbrev pub AreQuietUnless : Bool → List Step → Type 0
+AreQuietUnless true steps = Unit {0}
+AreQuietUnless false steps = AreQuiet steps
+
+-- It made steps of a search, and came to an answer of which this holds, or failed, for a full clause buffer only where it is full.
+pub record EmitsStepsWith {A W L : Type 0} {G : Ghosts L} (full : Type 0) (learns : Bool) (seen : W → Writer) (result : Result A SolverError) (old new : Proof W L G) (Answers : A → List Step → Type 0) : Type 0 where
+  pub steps : List Step
+  pub went : Went seen result steps old new
+  pub searched : AreSearched (session_of old).solver_names steps
+  pub quiet : MatchResult result (λ _. AreQuietUnless learns steps) (λ _. Unit {0})
+  pub keeps : Keeps new
+  pub kept : IfErr result (λ e. IsKept e new)
+  pub loss : IfErr result (λ e. NamesLoss e old new)
+  pub ends : MatchResult result (λ x. Answers x steps) (IsFaultOr full)
+
+-- something may be learned
+abbrev pub EmitsStepsOr : {A W L : Type 0} {G : Ghosts L} → (full : Type 0) → (W → Writer) → Result A SolverError → Proof W L G → Proof W L G → (A → List Step → Type 0) → Type 0
+EmitsStepsOr full seen result old new Answers = EmitsStepsWith full true seen result old new Answers
+
+-- nothing is, and no clause is stored
+abbrev pub EmitsSteps : {A W L : Type 0} {G : Ghosts L} → (W → Writer) → Result A SolverError → Proof W L G → Proof W L G → (A → List Step → Type 0) → Type 0
+EmitsSteps seen result old new Answers = EmitsStepsWith ⊥ false seen result old new Answers

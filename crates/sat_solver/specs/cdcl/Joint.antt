@@ -1,0 +1,60 @@
+-- What holds of a search and the session behind its proof.
+use Rattle.std.specs.Prelude.{ℕ, ◌≡◌, ◌≤◌, ◌<◌, ◌*◌, ◌⊎◌, Some, List, map, length}
+use Rattle.sat_parts.specs.clause.Glue.{AreClear}
+use Rattle.sat_parts.specs.parts.Assumed.{AreThere, ArePlaced, variables}
+use Rattle.sat_parts.specs.parts.Whole.{state}
+use Rattle.sat_parts.specs.parts.Words.{IsIdle}
+use Rattle.sat_solver.specs.session.Session.{Session}
+use Rattle.sat_solver.specs.session.LiveClauses.{with_var}
+use Rattle.sat_solver.specs.session.Naming.{global_of}
+use Rattle.sat_solver.specs.session.Fits.{Stands}
+use Rattle.sat_solver.specs.unit_simplify.Left.{SameSize}
+use Rattle.sat_solver.specs.declared.context.Search.{Search}
+
+-- the proof variable of a variable of the search
+abbrev pub global_in : Search → ℕ → ℕ
+global_in c = global_of c.globals.items
+
+-- the variables that are assumed
+abbrev pub assumed_in : Search → List ℕ
+assumed_in c = variables c.assumptions.lits.items
+
+-- Each variable has a proof variable, and analysis may begin.
+pub record IsFree (c : Search) : Type 0 where
+  pub names : length c.parts.assignment.current ≤ length c.globals.items
+  pub size : length c.analysis.flags ≡ length c.parts.assignment.current
+  pub clear : AreClear c.analysis.flags
+  pub flags_size : 2 * length c.parts.assignment.current ≤ length c.flags.flags.items
+  pub flags_clear : AreClear c.flags.flags.items
+
+-- what the session has of the assumptions
+abbrev pub AreAsked : Session → Search → Type 0
+AreAsked s c = s.assumed ≡ map (with_var (global_in c)) c.assumptions.lits.items
+
+-- what is assumed, and the solver names, are as they were
+pub record Leaves (s t : Session) : Type 0 where
+  pub assumed : t.assumed ≡ s.assumed
+  pub names : (v : ℕ) → t.solver_names v ≡ s.solver_names v
+
+-- each variable has its solver name, or is idle
+abbrev pub AreUsed : Session → Search → Type 0
+AreUsed s c = (v : ℕ) → v < length c.parts.assignment.current → (s.solver_names (global_in c v) ≡ Some v) ⊎ IsIdle (assumed_in c) (state c.parts) c.parts.vsids v
+
+-- all but parts and clauses
+pub record IsReady (s : Session) (c : Search) : Type 0 where
+  pub free : IsFree c
+  pub placed : ArePlaced c.assumptions (state c.parts)
+  pub there : AreThere c.assumptions.lits.items c.parts
+  pub asked : AreAsked s c
+  pub used : AreUsed s c
+
+-- what holds between the turns of a search
+pub record IsSearch (s : Session) (c : Search) : Type 0 where
+  pub stands : Stands c.parts s (global_in c)
+  pub ready : IsReady s c
+
+-- variables and assumptions are the same
+pub record Moved (c c' : Search) : Type 0 where
+  pub globals : c'.globals ≡ c.globals
+  pub lits : c'.assumptions.lits ≡ c.assumptions.lits
+  pub size : SameSize c.parts c'.parts

@@ -1,0 +1,84 @@
+-- What learning a clause leaves.
+use Rattle.std.specs.Prelude.{ℕ, ◌≡◌, Bool, List, ◌∷◌, ◌++◌, length, Result}
+use Rattle.sat_base.specs.device.Device.{Writer}
+use Rattle.sat_base.specs.steps.Steps.{Step, AtClause}
+use Rattle.sat_checker.specs.declared.processing.ProofProcessor.{Ghosts}
+use Rattle.sat_store.specs.clause.Header.{Header}
+use Rattle.sat_store.specs.heap.Vsids.{decayed}
+use Rattle.sat_parts.specs.declared.prop.graph.Conflict.{Conflict}
+use Rattle.sat_parts.specs.clause.Activity.{Scale}
+use Rattle.sat_parts.specs.clause.Glue.{levels_of, different}
+use Rattle.sat_solver.specs.analyze_conflict.Work.{Work}
+use Rattle.sat_parts.specs.declared.parts.Parts.{Parts}
+use Rattle.sat_parts.specs.parts.Frame.{SameClauses, KeepsTo, Learnt}
+use Rattle.sat_parts.specs.parts.Whole.{state, PartsInvariant}
+use Rattle.sat_parts.specs.parts.Words.{TrailWordRises}
+use Rattle.sat_parts.specs.parts.Full.{IsFull}
+use Rattle.sat_solver.specs.proof.ProofView.{steps_of, session_of}
+use Rattle.sat_solver.specs.session.Session.{Session, session_after}
+use Rattle.sat_solver.specs.declared.proof.Proof.{Proof}
+use Rattle.sat_solver.specs.declared.error.SolverError.{SolverError}
+use Rattle.sat_solver.specs.session.Advancing.{Advances}
+use Rattle.sat_solver.specs.session.FitLaws.{named_hashes}
+use Rattle.sat_solver.specs.session.Learning.{TakesIn}
+use Rattle.sat_solver.specs.session.Quiet.{AreQuiet}
+use Rattle.sat_solver.specs.declared.context.Search.{Search}
+use Rattle.sat_solver.specs.clause.Activity.{all_bumped}
+use Rattle.sat_solver.specs.cdcl.Going.{EmitsStepsOr}
+use Rattle.sat_solver.specs.clause.Assessed.{graded, levels_in, TakePart}
+use Rattle.sat_solver.specs.cdcl.Joint.{IsSearch, Moved}
+use Rattle.sat_solver.specs.unit_simplify.Left.{SameSize}
+
+-- the newest of these steps is a derived clause that advances behind the others, by which nothing is learned, and the earlier ones
+pub record LastAdvances (earlier steps : List Step) : Type 0 where
+  pub redundant : Bool
+  pub clause : List ℕ
+  pub hashes : List ℕ
+  pub rest : List Step
+  pub is : steps ≡ AtClause redundant clause hashes ∷ rest
+  pub advances : Advances (session_after (rest ++ earlier)) clause
+  pub quiet : AreQuiet rest
+
+-- a clause was learned and came in, and the word of the trail rose
+pub record Learned (earlier steps : List Step) (s : Session) (c c' : Search) : Type 0 where
+  pub search : IsSearch s c'
+  pub moved : Moved c c'
+  pub rises : TrailWordRises c.parts c'.parts
+  pub last : LastAdvances earlier steps
+
+-- it made these steps, or failed, for a full clause buffer only where it is full
+abbrev pub LearnsClause : {W L : Type 0} {G : Ghosts L} → (W → Writer) → Result (Unit {0}) SolverError → Proof W L G → Proof W L G → Search → Search → Type 0
+LearnsClause seen r p p' c c' = EmitsStepsOr (IsFull c'.parts) seen r p p' (λ _ steps. Learned (steps_of p) steps (session_of p') c c')
+
+-- the hashes of the clauses from which it follows, the one that was found false last
+abbrev pub learned_hashes : Parts → Work → Conflict → List ℕ
+learned_hashes p w e = named_hashes p.clauses (state p) w.used e
+
+-- the levels above this one were undone, and what was learned came in
+pub record Taken (p p' : Parts) (header : Header) (ls : List ℕ) (level : ℕ) : Type 0 where
+  pub holds : PartsInvariant p'
+  pub fits : TakesIn p p' header ls
+  pub rises : TrailWordRises p p'
+  pub size : SameSize p p'
+  pub keeps : KeepsTo level (state p) (state p')
+  pub starts : length p'.trail.starts ≡ level
+
+-- The long clauses that took part, the one that was found false first, were raised and improved by the levels that were, and
+-- activities decayed. Then a clause of this header came in, of activity 0.
+pub record Rated (p : Parts) (s : Scale) (w : Work) (header : Header) (p' : Parts) (s' : Scale) : Type 0 where
+  pub between : Parts
+  pub take : TakePart (levels_in p) p.db.refs w.involved p.clauses s between.clauses s'
+  pub refs : between.db.refs ≡ p.db.refs
+  pub learnt : Learnt between p' header w.clause
+
+-- the same of a search: a learned clause has the glue of its levels
+abbrev pub IsRated : Search → Search → Type 0
+IsRated c c' = Rated c.parts c.activity c'.analysis (graded (different (levels_of c.parts.graph c'.analysis.clause))) c'.parts c'.activity
+
+-- and then the variables that were met were raised, each once, and their activities decayed; clauses stayed as they were
+pub record IsRaised (c c' : Search) : Type 0 where
+  pub behind : Search
+  pub rated : IsRated c behind
+  pub rest : c' ≡ record behind { parts = c'.parts }
+  pub clauses : SameClauses behind.parts c'.parts
+  pub queue : c'.parts.vsids ≡ decayed (all_bumped behind.analysis.met behind.parts.vsids)

@@ -1,0 +1,57 @@
+-- How a round ends.
+use Rattle.std.specs.Prelude.{◌≡◌, true, false, List, ◌∷◌, ◌++◌, Result}
+use Rattle.sat_base.specs.device.Device.{Writer}
+use Rattle.sat_base.specs.steps.Steps.{Step}
+use Rattle.sat_checker.specs.declared.processing.ProofProcessor.{Ghosts}
+use Rattle.sat_parts.specs.parts.Full.{IsFull}
+use Rattle.sat_parts.specs.parts.Words.{TrailWordRisesFor}
+use Rattle.sat_solver.specs.proof.ProofView.{steps_of, session_of}
+use Rattle.sat_solver.specs.session.Session.{Session, session_after}
+use Rattle.sat_solver.specs.declared.proof.Proof.{Proof}
+use Rattle.sat_solver.specs.declared.error.SolverError.{SolverError}
+use Rattle.sat_solver.specs.session.Quiet.{AreQuiet}
+use Rattle.sat_solver.specs.declared.schedule.Outcome.{Outcome}
+use Rattle.sat_solver.specs.declared.schedule.Outcome.TheVariants as outcomes
+use Rattle.sat_solver.specs.declared.context.Search.{Search}
+use Rattle.sat_solver.specs.cdcl.Going.{EmitsStepsOr}
+use Rattle.sat_solver.specs.cdcl.Joint.{assumed_in, IsSearch, Moved}
+use Rattle.sat_solver.specs.cdcl.Learning.{LastAdvances}
+use Rattle.sat_solver.specs.cdcl.Turns.{IsComplete, IsFailing}
+
+-- a clause was learned, by a step that advances, and the word of the trail rose
+pub record RoundLearns (earlier steps : List Step) (s : Session) (c c' : Search) : Type 0 where
+  pub search : IsSearch s c'
+  pub moved : Moved c c'
+  pub rises : TrailWordRisesFor (assumed_in c) c.parts c'.parts
+  pub last : LastAdvances earlier steps
+
+-- an assumption failed
+pub record RoundFails (s : Session) (c c' : Search) : Type 0 where
+  pub search : IsSearch s c'
+  pub moved : Moved c c'
+  pub failing : IsFailing c'.assumptions.lits.items c'.parts c'.failed
+
+-- no variable of a clause is open
+pub record RoundShows (s : Session) (c c' : Search) : Type 0 where
+  pub search : IsSearch s c'
+  pub moved : Moved c c'
+  pub complete : IsComplete c'.assumptions.lits.items c'.parts
+
+-- the newest of these steps recorded unsat, which wasn't recorded before it, and nothing was learned
+pub record LastRefutes (earlier steps : List Step) (s : Session) : Type 0 where
+  pub last : Step
+  pub rest : List Step
+  pub is : steps ≡ last ∷ rest
+  pub before : (session_after (rest ++ earlier)).unsat ≡ false
+  pub now : s.unsat ≡ true
+  pub quiet : AreQuiet steps
+
+abbrev pub RoundSays : Outcome → (earlier steps : List Step) → Session → Search → Search → Type 0
+RoundSays outcomes.Learned earlier steps s c c' = RoundLearns earlier steps s c c'
+RoundSays outcomes.Model earlier steps s c c' = RoundShows s c c' × AreQuiet steps
+RoundSays outcomes.Unsat earlier steps s c c' = LastRefutes earlier steps s
+RoundSays outcomes.Failed earlier steps s c c' = RoundFails s c c' × AreQuiet steps
+
+-- a round made its steps, and came to this outcome, or failed
+abbrev pub RoundGoes : {W L : Type 0} {G : Ghosts L} → (W → Writer) → Result Outcome SolverError → Proof W L G → Proof W L G → Search → Search → Type 0
+RoundGoes seen r p p' c c' = EmitsStepsOr (IsFull c'.parts) seen r p p' (λ outcome steps. RoundSays outcome (steps_of p) steps (session_of p') c c')

@@ -1,0 +1,3 @@
+pub mod Activity
+pub mod Assessed
+pub mod Reduced

@@ -1,0 +1,65 @@
+-- How learned clauses are graded by the levels of their literals, and what an analysis makes of the clauses that it took.
+use Rattle.std.specs.Prelude.{ℕ, ◌≡◌, ◌-◌, ◌^◌, ◌<◌, ◌≤◌, ◌&&◌, nat_le, nat_lt, min, Bool, true, List, [], ◌∷◌, if◌then◌else◌}
+use Rattle.std.specs.List.{Contains}
+use Rattle.sat_store.specs.clause.Buffer.{header_at, lits_at}
+use Rattle.sat_store.specs.clause.Header.{Header, no_header, is_learned}
+use Rattle.sat_store.specs.declared.clause.tier.Tier.{Tier}
+use Rattle.sat_store.specs.declared.clause.tier.Tier.TheVariants.{Core, Mid, Local}
+use Rattle.sat_parts.specs.clause.Activity.{Scale, BumpsBelow, BumpsPast, DecaysAll, later_bump, later_scale}
+use Rattle.sat_parts.specs.clause.Db.{live_refs, PutsHeader}
+use Rattle.sat_parts.specs.clause.Glue.{levels_of, different, HaveFlags, AreClear}
+use Rattle.sat_parts.specs.declared.parts.Parts.{Parts}
+use Rattle.sat_parts.specs.parts.Frame.{Headed}
+use Rattle.sat_parts.specs.parts.Whole.{PartsInvariant}
+use Rattle.sat_parts.specs.parts.Words.{TrailWordExtends}
+
+-- the tier of a learned clause of this glue
+abbrev pub tier_for : ℕ → Tier
+tier_for glue = if nat_le glue 2 then Core else (if nat_le glue 6 then Mid else Local)
+
+-- with this glue, of which 63 is the most that is kept, and the tier for it
+abbrev pub with_glue : ℕ → Header → Header
+with_glue glue h = record h { glue = min glue 63; tier = tier_for glue }
+
+-- the header of a learned clause whose literals are of this many levels: its glue is their number, less one
+abbrev pub graded : ℕ → Header
+graded levels = with_glue (levels - 1) no_header
+
+-- A clause that took part is active. A learned one whose literals are of fewer levels than its glue says takes their number as its
+-- glue, with the tier for it.
+abbrev pub improved : ℕ → Header → Header
+improved levels h = if is_learned h.tier && nat_lt levels h.glue then with_glue levels (record h { active = true }) else record h { active = true }
+
+-- of how many levels the literals of the clause at o are
+abbrev pub levels_in : Parts → ℕ → ℕ
+levels_in p o = different (levels_of p.graph (lits_at p.clauses o))
+
+-- the activity of the clause at o was raised, and then its header improved
+pub record TakesPart (levels : ℕ) (words words' refs : List ℕ) (o : ℕ) (s s' : Scale) : Type 0 where
+  pub raised : List ℕ
+  pub one : BumpsBelow words raised refs o s s'
+  pub all : BumpsPast words raised refs o s s'
+  pub improves : PutsHeader raised words' refs o (improved levels (header_at raised o))
+
+-- activities decayed
+pub record Decays (words words' refs : List ℕ) (s s' : Scale) : Type 0 where
+  pub later : later_bump s < 2 ^ 30 → (s' ≡ later_scale s) × (words' ≡ words)
+  pub rescaled : 2 ^ 30 ≤ later_bump s → DecaysAll words words' refs s s'
+
+-- each of these clauses in turn took part, and then activities decayed
+abbrev pub TakePart : (levels : ℕ → ℕ) (refs os words : List ℕ) (s : Scale) (words' : List ℕ) (s' : Scale) → Type 0
+TakePart levels refs [] words s words' s' = Decays words words' refs s s'
+TakePart levels refs (o ∷ os) words s words' s' = (mid : List ℕ) × (t : Scale) × TakesPart (levels o) words mid refs o s t × TakePart levels refs os mid t words' s'
+
+-- headers of long clauses changed, and nothing else did
+pub record Rates (p p' : Parts) : Type 0 where
+  pub holds : PartsInvariant p'
+  pub headed : Headed p p'
+  pub refs : p'.db.refs ≡ p.db.refs
+  pub word : TrailWordExtends p p'
+
+-- the clauses are live ones, and there is a flag for the level of each of their literals
+pub record AreInvolved (p : Parts) (flags : List Bool) (os : List ℕ) : Type 0 where
+  pub live : (o : ℕ) → Contains os o → Contains (live_refs p.clauses p.db.refs) o
+  pub levels : (o : ℕ) → Contains os o → HaveFlags p.graph flags (lits_at p.clauses o)
+  pub clear : AreClear flags

@@ -1,0 +1,116 @@
+-- What a reduction leaves.
+use Rattle.std.specs.Prelude.{ℕ, zero, suc, ◌≡◌, ◌≢◌, ◌==◌, ◌/◌, ◌%◌, ◌<◌, ◌≤◌, ◌⊎◌, Bool, true, false, List, [], ◌∷◌, length, Result}
+use Rattle.std.specs.List.{Contains, filter}
+use Rattle.std.specs.List.Sorted.{IsPermutation, IsNonDecreasingBy}
+use Rattle.sat_base.specs.device.Device.{Writer}
+use Rattle.sat_checker.specs.declared.processing.ProofProcessor.{Ghosts}
+use Rattle.sat_store.specs.clause.Buffer.{Keeps, header_at}
+use Rattle.sat_store.specs.declared.clause.tier.Tier.TheVariants.{Local}
+use Rattle.sat_parts.specs.clause.Activity.{PutsHeaders}
+use Rattle.sat_parts.specs.clause.Db.{live_refs, is_live_of, IsAsserting}
+use Rattle.sat_parts.specs.clause.Reduced.{reduced}
+use Rattle.sat_solver.specs.declared.config.SolverConfig.{SolverConfig}
+use Rattle.sat_parts.specs.declared.parts.Parts.{Parts}
+use Rattle.sat_parts.specs.parts.Frame.{SameSearch, Headed, Dropped, Copied}
+use Rattle.sat_parts.specs.parts.Reducing.{rank}
+use Rattle.sat_parts.specs.parts.Words.{TrailWordExtends, TrailWordExtendsFor}
+use Rattle.sat_solver.specs.proof.ProofView.{session_of}
+use Rattle.sat_solver.specs.session.Session.{Session}
+use Rattle.sat_solver.specs.declared.proof.Proof.{Proof}
+use Rattle.sat_solver.specs.declared.error.SolverError.{SolverError}
+use Rattle.sat_solver.specs.session.Fits.{is_redundant}
+use Rattle.sat_solver.specs.declared.context.Search.{Search}
+use Rattle.sat_solver.specs.cdcl.Going.{EmitsSteps}
+use Rattle.sat_solver.specs.cdcl.Joint.{assumed_in, IsSearch, Moved}
+
+-- a live long clause that was learned
+pub record IsLearnt (p : Parts) (o : ℕ) : Type 0 where
+  pub live : Contains (live_refs p.clauses p.db.refs) o
+  pub learned : is_redundant p.clauses o ≡ true
+
+-- the clause at o is the reason of its first literal
+abbrev pub IsReason : Parts → ℕ → Type 0
+IsReason p o = IsAsserting p.clauses p.assignment.current p.graph o
+
+-- the clause at o was deleted where it is no reason, and else nothing changed
+abbrev pub Tried : (deleted : Bool) (o : ℕ) → Parts → Parts → Type 0
+Tried true o p p' = (IsReason p o → ⊥) × Dropped p p' o
+Tried false o p p' = IsReason p o × (p' ≡ p)
+
+-- the clause at o was deleted, or it stands
+pub record Deleted (deleted : Bool) (o : ℕ) (s : Session) (c c' : Search) : Type 0 where
+  pub search : IsSearch s c'
+  pub moved : Moved c c'
+  pub word : TrailWordExtends c.parts c'.parts
+  pub others : (p : ℕ) → p ≢ o → IsLearnt c.parts p → IsLearnt c'.parts p
+  pub tried : Tried deleted o c.parts c'.parts
+
+-- what is searched is the same, and the trail's words go on
+pub record Reduced (s : Session) (c c' : Search) : Type 0 where
+  pub search : IsSearch s c'
+  pub moved : Moved c c'
+  pub word : TrailWordExtendsFor (assumed_in c) c.parts c'.parts
+
+-- the same by steps, where the parts changed in this way
+abbrev pub ReducesBy : {W L : Type 0} {G : Ghosts L} → (Changes : Parts → Parts → Type 0) → (W → Writer) → Result (Unit {0}) SolverError → Proof W L G → Proof W L G → Search → Search → Type 0
+ReducesBy Changes seen r p p' c c' = EmitsSteps seen r p p' (λ _ _. Reduced (session_of p') c c' × Changes c.parts c'.parts)
+
+-- TIER LOCAL
+
+-- of a list of clauses these are, in order, the first n that are no reason: all such where there are fewer
+abbrev pub AreFirstFree : Parts → (list : List ℕ) (n : ℕ) (free : List ℕ) → Type 0
+AreFirstFree p [] n free = free ≡ []
+AreFirstFree p (o ∷ os) zero free = free ≡ []
+AreFirstFree p (o ∷ os) (suc n) free =
+    (IsReason p o × AreFirstFree p os (suc n) free) ⊎ ((IsReason p o → ⊥) × (rest : List ℕ) × (free ≡ o ∷ rest) × AreFirstFree p os n rest)
+
+-- these live clauses were deleted, and the others are live and as they were
+pub record Deletes (p p' : Parts) (gone : List ℕ) : Type 0 where
+  pub deleted : (o : ℕ) → Contains gone o → Contains (live_refs p.clauses p.db.refs) o × (Contains (live_refs p'.clauses p'.db.refs) o → ⊥)
+  pub others : (o : ℕ) → Contains (live_refs p.clauses p.db.refs) o → Contains gone o ⊎ Contains (live_refs p'.clauses p'.db.refs) o
+  pub stay : (o : ℕ) → Contains (live_refs p'.clauses p'.db.refs) o → Contains (live_refs p.clauses p.db.refs) o × Keeps p.clauses p'.clauses o
+  pub same : SameSearch p p'
+
+-- half of the live clauses of tier Local, rounded down, were deleted: those of lowest activity, of equals the one that came first, but
+-- none that is a reason
+pub record HalvesLocals (p p' : Parts) : Type 0 where
+  pub locals : List ℕ
+  pub all : IsPermutation (filter (is_live_of p.clauses Local) p.db.refs) locals
+  pub rising : IsNonDecreasingBy (rank p.clauses) locals
+  pub gone : List ℕ
+  pub first : AreFirstFree p locals (length locals / 2) gone
+  pub deletes : Deletes p p' gone
+
+-- where that is due
+abbrev pub ReducesLocals : Bool → Parts → Parts → Type 0
+ReducesLocals true p p' = HalvesLocals p p'
+ReducesLocals false p p' = p' ≡ p
+
+-- TIER MID
+
+-- clauses of tier Mid that weren't active came to be of tier Local, the others aren't active any more, and nothing else changed
+pub record MovesMids (p p' : Parts) : Type 0 where
+  pub headers : PutsHeaders p.clauses p'.clauses p.db.refs (λ o. reduced (header_at p.clauses o))
+  pub headed : Headed p p'
+
+-- where that is due
+abbrev pub ReducesMids : Bool → Parts → Parts → Type 0
+ReducesMids true p p' = MovesMids p p'
+ReducesMids false p p' = p' ≡ p
+
+-- COLLECTION
+
+-- where deleted clauses take more than half of the buffer, the live ones came to other places, in order, and no room is lost any more
+pub record CollectsWhereDue (p p' : Parts) : Type 0 where
+  pub due : length p.clauses / 2 < p.db.garbage → Copied p p' × (p'.db.garbage ≡ 0)
+  pub not_due : p.db.garbage ≤ length p.clauses / 2 → p' ≡ p
+
+-- ALL OF THESE
+
+-- before the round of this number
+pub record Reduces (config : SolverConfig) (round : ℕ) (p p' : Parts) : Type 0 where
+  pub behind_locals : Parts
+  pub behind_mids : Parts
+  pub locals : ReducesLocals (round % config.reduce_locals_interval == 0) p behind_locals
+  pub mids : ReducesMids (round % config.reduce_mids_interval == 0) behind_locals behind_mids
+  pub collection : CollectsWhereDue behind_mids p'

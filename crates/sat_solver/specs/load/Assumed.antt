@@ -1,0 +1,52 @@
+-- Assumptions over names, and the marks of their variables.
+use Rattle.std.specs.Prelude.{ℕ, ◌≡◌, ◌∷◌, ◌++◌, [], Bool, true, false, List, map}
+use Rattle.sat_base.specs.script.Judge.{bring_all}
+use Rattle.sat_base.specs.steps.Steps.{Step, Assumptions}
+use Rattle.sat_checker.specs.LiteralSets.{mentions}
+use Rattle.sat_solver.specs.session.Session.{session_after}
+use Rattle.sat_solver.specs.session.LiveClauses.{with_var}
+use Rattle.sat_store.specs.declared.data.VarData.{VarData}
+use Rattle.sat_solver.specs.variables.Variables.{data_at, variables_used}
+use Rattle.sat_solver.specs.variables.Naming.{Extends}
+use Rattle.sat_solver.specs.variables.Refusing.{names_in}
+use Rattle.sat_checker.specs.matching.Expected.{Outcome, Opens, bringing}
+use Rattle.sat_solver.specs.load.Literals.{named_literal, Images, global_in}
+use Rattle.sat_solver.specs.variables.Search.{KeepsSearch, Gives}
+use Rattle.sat_solver.specs.variables.Calls.{NamesRefineJudge}
+use Rattle.sat_solver.specs.session.Coming.{OnlyAllowedSteps}
+use Rattle.sat_solver.specs.variables.Coming.{MayTake}
+use Rattle.sat_solver.specs.declared.variables.Variables.{Variables}
+use Rattle.sat_solver.specs.declared.load.literals.Taken.{Taken}
+
+-- marked as assumed, or not, where asked
+abbrev pub marked_if : Bool → Bool → VarData → VarData
+marked_if true assumed d = record d { assumed = assumed }
+marked_if false assumed d = d
+
+-- the variables of these literals are marked so
+pub record Marks (old new : ℕ → VarData) (ls : List ℕ) (assumed : Bool) : Type 0 where
+  pub each : (v : ℕ) → new v ≡ marked_if (mentions ls v) assumed (old v)
+
+-- exactly the variables of these literals are marked
+pub record PutsMarks (old new : Variables) (ls : List ℕ) : Type 0 where
+  pub users : new.global_from_user ≡ old.global_from_user
+  pub solvers : new.solver_from_global ≡ old.solver_from_global
+  pub globals : new.globals ≡ old.globals
+  pub kept : (v : ℕ) → data_at new v ≡ record (data_at old v) { assumed = mentions ls v }
+  pub count : variables_used new ≡ variables_used old
+  pub free_users : new.free_users ≡ old.free_users
+  pub free_globals : new.free_globals ≡ old.free_globals
+  pub free_solvers : new.free_solvers ≡ old.free_solvers
+
+-- The names of the literals came in, their variables have indices, and they are the assumptions from here on, whatever will be answered.
+pub record Assumes (old new : Variables) (from to : List Step) (user : List ℕ) (t : Taken) : Type 0 where
+  pub does : (o : Outcome) → NamesRefineJudge old new from to (bring_all (names_in user)) (λ j. bringing (names_in user) j ++ (Opens (map named_literal user) o ∷ []))
+  pub extends : Extends old new
+  pub images : Images new user t.order.items
+  pub globals : t.globals.items ≡ map (with_var (global_in new)) t.order.items
+  pub gives : Gives old new (session_after from) t.given.items
+  -- the steps before theirs, which the search doesn't see
+  pub between : List Step
+  pub written : to ≡ Assumptions t.globals.items ∷ between
+  pub search : KeepsSearch (session_after from) (session_after between)
+  pub comes : OnlyAllowedSteps (MayTake (names_in user)) from to

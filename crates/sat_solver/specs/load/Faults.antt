@@ -1,0 +1,12 @@
+-- Why a call over names failed, as a solver tells it.
+use Rattle.sat_solver.specs.declared.variables.error.NameError.{NameError}
+use Rattle.sat_solver.specs.declared.variables.error.NameError.TheVariants as names
+use Rattle.sat_solver.specs.declared.error.SolverError.{SolverError}
+use Rattle.sat_solver.specs.declared.error.SolverError.TheVariants as errors
+use Rattle.sat_solver.specs.cdcl.Going.{check_fault_of}
+
+abbrev pub told_as : NameError → SolverError
+told_as names.VariableLimit = errors.VariableLimit
+told_as names.OutOfMemory = errors.OutOfMemory
+told_as (names.Write cause) = errors.ProofIoError cause
+told_as (names.Check fault) = check_fault_of fault

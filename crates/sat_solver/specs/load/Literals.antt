@@ -1,0 +1,82 @@
+-- Literals over names, and those of the search and of the proof that stand for them.
+use Rattle.std.specs.Prelude.{ℕ, ◌+◌, ◌<◌, ◌≡◌, Some, List, map, length, get_or}
+use Rattle.std.specs.List.{AllByRecursion}
+use Rattle.sat_base.specs.values.Literals.{variable, is_positive, coded}
+use Rattle.sat_base.specs.script.Script.{Literal, Among}
+use Rattle.sat_base.specs.script.Judge.{bring_all}
+use Rattle.sat_base.specs.steps.Steps.{Step}
+use Rattle.sat_checker.specs.LiteralSets.{canonical}
+use Rattle.sat_solver.specs.session.Session.{session_after}
+use Rattle.sat_solver.specs.session.LiveClauses.{with_var}
+use Rattle.sat_store.specs.declared.data.SamplingMode.TheVariants as kept
+use Rattle.sat_solver.specs.variables.Variables.{data_at, global_of, solver_of}
+use Rattle.sat_solver.specs.variables.Naming.{Extends}
+use Rattle.sat_solver.specs.variables.Refusing.{names_in}
+use Rattle.sat_checker.specs.matching.Expected.{bringing}
+use Rattle.sat_solver.specs.variables.Search.{KeepsSearch, Gives}
+use Rattle.sat_solver.specs.variables.Calls.{NamesRefineJudge}
+use Rattle.sat_solver.specs.session.Coming.{OnlyAllowedSteps}
+use Rattle.sat_solver.specs.variables.Coming.{MayTake}
+use Rattle.sat_solver.specs.declared.variables.Variables.{Variables}
+use Rattle.sat_solver.specs.declared.load.literals.Taken.{Taken}
+
+-- a literal of the user's
+abbrev pub named_literal : ℕ → Literal
+named_literal l = record { name = variable l + 1; positive = is_positive l }
+
+-- the literal of the proof that stands for one of the user's, over a sampling variable that has an index
+pub record StandsFor (n : Variables) (l code : ℕ) : Type 0 where
+  pub variable_is : ℕ
+  pub index_is : ℕ
+  pub named : global_of n (variable l) ≡ Some variable_is
+  pub indexed : solver_of n variable_is ≡ Some index_is
+  pub sampled : (data_at n variable_is).sampling_mode ≡ kept.Sample
+  pub is : code ≡ coded variable_is (is_positive l)
+
+-- the same set of literals, in whatever order, and however often
+pub record SameLiterals (n : Variables) (user clause : List ℕ) : Type 0 where
+  pub there : AllByRecursion (λ l. (code : ℕ) × StandsFor n l code × Among code clause) user
+  pub only : AllByRecursion (λ code. (l : ℕ) × StandsFor n l code × Among l user) clause
+
+-- the literal of the search for one of the user's
+pub record Image (n : Variables) (l code : ℕ) : Type 0 where
+  pub variable_is : ℕ
+  pub index_is : ℕ
+  pub named : global_of n (variable l) ≡ Some variable_is
+  pub indexed : solver_of n variable_is ≡ Some index_is
+  pub is : code ≡ coded index_is (is_positive l)
+
+-- one for each, in order
+pub record Images (n : Variables) (user lits : List ℕ) : Type 0 where
+  pub count : length lits ≡ length user
+  pub each : (k : ℕ) → k < length user → Image n (get_or user k 0) (get_or lits k 0)
+
+-- the literals of the proof for those of the user's, one for each, in order
+pub record GlobalImages (n : Variables) (user codes : List ℕ) : Type 0 where
+  pub count : length codes ≡ length user
+  pub each : (k : ℕ) → k < length user → (v : ℕ) × (global_of n (variable (get_or user k 0)) ≡ Some v) × (get_or codes k 0 ≡ coded v (is_positive (get_or user k 0)))
+
+-- where the name is in use, it is of mode sample
+abbrev pub IsSampled : Variables → ℕ → Type 0
+IsSampled n user = (v : ℕ) → global_of n user ≡ Some v → (data_at n v).sampling_mode ≡ kept.Sample
+
+abbrev pub NoWitness : Variables → List ℕ → Type 0
+NoWitness n = AllByRecursion (λ l. IsSampled n (variable l))
+
+-- the variable that an index has
+abbrev pub global_in : Variables → ℕ → ℕ
+global_in n x = get_or n.globals.items x 0
+
+-- The names of the literals came in, and their variables have indices.
+pub record Takes (old new : Variables) (from to : List Step) (user : List ℕ) (t : Taken) : Type 0 where
+  pub does : NamesRefineJudge old new from to (bring_all (names_in user)) (bringing (names_in user))
+  pub extends : Extends old new
+  pub images : Images new user t.order.items
+  pub gives : Gives old new (session_after from) t.given.items
+  pub search : KeepsSearch (session_after from) (session_after to)
+  pub comes : OnlyAllowedSteps (MayTake (names_in user)) from to
+
+-- The clause over the proof's variables is the set of the literals, in order of the search's codes.
+pub record MapsClause (new : Variables) (t : Taken) : Type 0 where
+  pub lits : t.lits.items ≡ canonical t.order.items
+  pub globals : t.globals.items ≡ map (with_var (global_in new)) t.lits.items

@@ -1,0 +1,13 @@
+pub mod Checked
+pub mod Complaints
+pub mod Counting
+pub mod Drat
+pub mod DratText
+pub mod Fronts
+pub mod Listening
+pub mod MadeView
+pub mod OutputView
+pub mod ProofRows
+pub mod ProofTexts
+pub mod ProofView
+pub mod Widths

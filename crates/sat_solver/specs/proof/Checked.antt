@@ -1,0 +1,133 @@
+-- A solver's own checker: it takes the steps that a file in bytes would have, but for the ends of proofs. Lists of steps have the newest first.
+use Rattle.std.specs.Prelude.{ℕ, ◌≡◌, ◌⊎◌, Bool, true, false, not, ◌||◌, Option, None, Some, List, [], ◌∷◌, ◌++◌, Result, Ok, Err}
+use Rattle.anyhow.specs.declared.error.Error.{Error}
+use Rattle.sat_base.specs.steps.Steps.{Step, End}
+use Rattle.sat_checker.specs.CheckerView.{Seen, Stands, kernel_of, seen_of}
+use Rattle.sat_checker.specs.KernelView.{IsSettled, has_failed}
+use Rattle.sat_checker.specs.announcements.Announcements.{Told}
+use Rattle.sat_checker.specs.telling.ProcessingView.{listeners_of}
+use Rattle.sat_checker.specs.telling.Telling.{Listeners}
+use Rattle.sat_checker.specs.declared.error.CheckerError.{CheckerError}
+use Rattle.sat_checker.specs.declared.error.CheckerError.TheVariants as errors
+use Rattle.sat_checker.specs.declared.processing.Nobody.{Nobody}
+use Rattle.sat_checker.specs.declared.processing.Processing.{Processing}
+use Rattle.sat_solver.specs.session.Due.{kept_if}
+use Rattle.sat_solver.specs.proof.Listening.{AreListed, Hears, HeardAll, HasHeard, FailedOf}
+use Rattle.sat_solver.specs.session.Session.{MayAll}
+use Rattle.sat_solver.specs.proof.Widths.{IsWritten}
+use Rattle.sat_solver.specs.declared.proof.checker.Checked.{Checked}
+use Rattle.sat_solver.specs.declared.proof.made.CheckFault.{CheckFault}
+use Rattle.sat_solver.specs.declared.proof.made.CheckFault.TheVariants as checks
+
+abbrev pub is_end : Step → Bool
+is_end End = true
+is_end step = false
+
+-- the steps without ends of proofs
+abbrev pub unended : List Step → List Step
+unended [] = []
+unended (step ∷ earlier) = kept_if (not (is_end step)) step (unended earlier)
+
+-- are there any?
+abbrev pub has_begun : List Step → Bool
+has_begun [] = false
+has_begun (step ∷ earlier) = not (is_end step) || has_begun earlier
+
+-- who listens to it
+abbrev pub who_listens : {L : Type 0} → Checked L → Processing L Nobody
+who_listens own = (seen_of own.checker).listeners
+
+-- Of these steps it has taken all but some of the newest, as they are written at the widths that it was told, and of what those tell, since these
+-- processors were added, this was heard.
+pub record Listened {L : Type 0} (added : List L) (steps : List Step) (Heard : Processing L Nobody → List Step → Type 0) : Type 0 where
+  pub later : List Step
+  pub taken : List Step
+  pub all : steps ≡ later ++ taken
+  pub written : List Step
+  pub bits : ℕ
+  pub cut : IsWritten (unended taken) written bits
+  pub begun : Processing L Nobody
+  pub were : AreListed added begun
+  pub heard : Heard begun written
+
+-- why it may fail of a step that it doesn't refuse
+abbrev pub IsCause : CheckerError → Type 0
+IsCause errors.OutOfMemory = Unit {0}
+IsCause errors.CounterEnd = Unit {0}
+IsCause (errors.ProofProcessorError cause) = Unit {0}
+IsCause errors.CheckFailed = ⊥
+IsCause errors.HasFailed = ⊥
+IsCause errors.ProofIncomplete = ⊥
+IsCause errors.IoError = ⊥
+IsCause errors.ParseError = ⊥
+
+-- as a solver tells it; no other comes
+abbrev pub cause_in : CheckerError → CheckFault
+cause_in errors.CounterEnd = checks.CounterEnd
+cause_in (errors.ProofProcessorError cause) = checks.Processor cause
+cause_in e = checks.OutOfMemory
+
+abbrev pub OrCause : Result (Unit {0}) CheckerError → Type 0 → (CheckFault → Type 0) → Type 0
+OrCause (Ok x) Fed Failed = Fed
+OrCause (Err e) Fed Failed = IsCause e × Failed (cause_in e)
+
+module _ {L : Type 0} (takes : L → Told → Result Unit Error → L → Type 0) where
+  -- it has accepted what is written for these steps, but for ends, goes on, and has told it to these, since they were added
+  pub record IsFed (own : Checked L) (added : List L) (steps : List Step) : Type 0 where
+    pub written : List Step
+    pub cut : IsWritten (unended steps) written own.bits
+    pub begun : Processing L Nobody
+    pub were : AreListed added begun
+    pub stands : Stands (Hears takes) [] begun (seen_of own.checker) written
+    pub going : has_failed (kernel_of own.checker) ≡ false
+
+  -- those who were added have heard what it told, and are these now
+  abbrev pub Heard : (added : List L) (now : Listeners L Nobody) → List Step → Type 0
+  Heard added now steps = Listened added steps (λ begun written. (end : Processing L Nobody) × (listeners_of end ≡ now) × HasHeard takes begun end written)
+
+  -- those who were added have heard all that it told of all steps, and are these now
+  abbrev pub HeardWhole : (added : List L) (now : Listeners L Nobody) → List Step → Type 0
+  HeardWhole added now steps = (h : Listened added steps (λ begun written. (end : Processing L Nobody) × (listeners_of end ≡ now) × HeardAll takes begun end written)) × (h.later ≡ [])
+
+  -- it failed so
+  abbrev pub Failed : (added : List L) (now : Listeners L Nobody) → List Step → CheckFault → Type 0
+  Failed added now steps fault = Listened added steps (λ begun written. (end : Processing L Nobody) × (listeners_of end ≡ now) × FailedOf takes begun end written fault)
+
+  -- a step that may be made is taken, or something failed that isn't the step
+  abbrev pub TakesStep : Result (Unit {0}) CheckerError → Checked L → Step → Checked L → Type 0
+  TakesStep result old step new = (added : List L) (steps : List Step) → MayAll (step ∷ steps) → IsFed old added steps
+      → OrCause result (IsFed new added (step ∷ steps)) (Failed added (listeners_of (who_listens new)) (step ∷ steps))
+
+  -- it's told a width
+  abbrev pub TakesWidth : Result (Unit {0}) CheckerError → Checked L → Checked L → Type 0
+  TakesWidth result old new = (added : List L) (steps : List Step) → MayAll steps → IsFed old added steps → OrCause result (IsFed new added steps) (Failed added (listeners_of (who_listens new)) steps)
+
+  -- no unit conflict waits for its id any more
+  abbrev pub TakesDelayed : Result (Unit {0}) CheckerError → Checked L → Checked L → Type 0
+  TakesDelayed result old new = (added : List L) (steps : List Step) → IsFed old added steps
+      → OrCause result (IsFed new added steps × IsSettled (kernel_of new.checker)) (Failed added (listeners_of (who_listens new)) steps)
+
+  -- what may be written is never refused
+  abbrev pub Feeds : Result (Unit {0}) CheckerError → Seen (Processing L Nobody) → Step → Seen (Processing L Nobody) → Type 0
+  Feeds result old step new =
+      (begun : Processing L Nobody) (written : List Step) → Stands (Hears takes) [] begun old written → has_failed old.kernel ≡ false → MayAll (step ∷ written)
+      → OrCause result (Stands (Hears takes) [] begun new (step ∷ written) × (has_failed new.kernel ≡ false)) (λ fault. FailedOf takes begun new.listeners written fault ⊎ FailedOf takes begun new.listeners (step ∷ written) fault)
+
+  -- unless a step that was made wasn't taken
+  abbrev pub FedUnless : Bool → Option (Checked L) → (added : List L) → List Step → Type 0
+  FedUnless lost None added steps = added ≡ []
+  FedUnless lost (Some own) added steps = (lost ≡ false → IsFed own added steps) × Heard added (listeners_of (who_listens own)) steps
+
+  -- where nobody was added no processor answers a fault
+  abbrev pub NobodyComplains : Type 0
+  NobodyComplains = (now : Listeners L Nobody) (steps : List Step) (cause : Error) → Failed [] now steps (checks.Processor cause) → ⊥
+
+  -- another one listens too, or no memory was left for it
+  abbrev pub TakesIn : Result (Unit {0}) CheckerError → Checked L → L → Checked L → Type 0
+  TakesIn result old processor new = (added : List L) (steps : List Step) → has_begun steps ≡ false → IsFed old added steps
+      → OrCause result (IsFed new (added ++ processor ∷ []) steps) (λ fault. (fault ≡ checks.OutOfMemory) × Heard added (listeners_of (who_listens new)) steps)
+
+  -- it begins anew, and those who listened to it are those who were added to it
+  pub record BeginsAnew (old new : Checked L) (added : List L) : Type 0 where
+    pub listed : added ≡ (listeners_of (who_listens old)).processors
+    pub fed : IsFed new added []

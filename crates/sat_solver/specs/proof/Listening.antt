@@ -1,0 +1,48 @@
+-- What the processors of a solver's own checker hear. Lists of steps have the newest first.
+use Rattle.std.specs.Prelude.{◌≡◌, ◌⊎◌, List, [], Result, Ok}
+use Rattle.anyhow.specs.declared.error.Error.{Error}
+use Rattle.sat_base.specs.steps.Steps.{Step}
+use Rattle.sat_checker.specs.Accepts.{stored_after, ready_after}
+use Rattle.sat_checker.specs.Spent.{IsSpent, SpentBy}
+use Rattle.sat_checker.specs.announcements.Announcements.{Told, told_after, all_told_after}
+use Rattle.sat_checker.specs.announcements.Transcripts.{Transcribed}
+use Rattle.sat_checker.specs.telling.Hearing.{HearsSince, HearsSinceUpTo}
+use Rattle.sat_checker.specs.telling.ProcessingView.{HearsEach, listeners_of}
+use Rattle.sat_checker.specs.declared.processing.Nobody.{Nobody}
+use Rattle.sat_checker.specs.declared.processing.Processing.{Processing}
+use Rattle.sat_checker.specs.declared.processing.ProcessingError.{ProcessingError}
+use Rattle.sat_checker.specs.declared.processing.ProcessingError.TheVariants as faults
+use Rattle.sat_solver.specs.declared.proof.made.CheckFault.{CheckFault}
+use Rattle.sat_solver.specs.declared.proof.made.CheckFault.TheVariants as checks
+
+-- there are no transcripts
+abbrev pub reads_nothing : Nobody → Transcribed → Result Unit Error → Nobody → Type 0
+reads_nothing old said result new = (result ≡ Ok tt) × (new ≡ old)
+
+-- these listen, and nobody else
+abbrev pub AreListed : {L : Type 0} → List L → Processing L Nobody → Type 0
+AreListed listed who = listeners_of who ≡ record { processors = listed; transcripts = [] }
+
+module _ {L : Type 0} (takes : L → Told → Result Unit Error → L → Type 0) where
+  -- each processor hears what is told, as its relation has it
+  abbrev pub Hears : Processing L Nobody → Told → Result Unit ProcessingError → Processing L Nobody → Type 0
+  Hears = HearsEach takes reads_nothing
+
+  module _ (begun now : Processing L Nobody) (written : List Step) where
+    -- Each announcement of these steps was heard once, in order; the empty clause of a unit conflict that they leave may still wait.
+    abbrev pub HeardAll : Type 0
+    HeardAll = HearsSince Hears [] (told_after written) begun now ⊎ HearsSince Hears [] (all_told_after written) begun now
+
+    -- so it was up to this fault, which a processor answered
+    abbrev pub HeardUpTo : ProcessingError → Type 0
+    HeardUpTo e = HearsSinceUpTo Hears e [] (told_after written) begun now ⊎ HearsSinceUpTo Hears e [] (all_told_after written) begun now
+
+    abbrev pub HasHeard : Type 0
+    HasHeard = HeardAll ⊎ ((e : ProcessingError) × HeardUpTo e)
+
+    -- Why the checker failed behind these steps: no memory, id or count was left for what came next, or a processor answered the fault. For want
+    -- of memory no processor did, unless that was the answer.
+    abbrev pub FailedOf : CheckFault → Type 0
+    FailedOf checks.OutOfMemory = HeardAll ⊎ HeardUpTo faults.OutOfMemory
+    FailedOf checks.CounterEnd = (((step : Step) × SpentBy step (stored_after written)) ⊎ IsSpent (ready_after written)) × HeardAll
+    FailedOf (checks.Processor cause) = HeardUpTo (faults.ProofProcessorError cause)

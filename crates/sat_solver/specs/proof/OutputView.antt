@@ -1,0 +1,75 @@
+-- Where a proof's text goes, and what it is in each format. Lists of steps have the newest first.
+use Rattle.std.specs.Prelude.{◌≡◌, ℕ, Bool, true, false, List, [], ◌∷◌, ◌++◌, Result, Ok, Err}
+use Rattle.std.specs.List.{AllByRecursion}
+use Rattle.sat_base.specs.device.Device.{Writer, Takes, Breaks}
+use Rattle.sat_base.specs.device.Sink.{Sink, Sent, empty_sink}
+use Rattle.sat_base.specs.steps.Steps.{Step}
+use Rattle.sat_base.specs.steps.StepBytes.{step_bytes}
+use Rattle.sat_base.specs.steps.StepText.{SpellsStep}
+use Rattle.sat_base.specs.steps.StepWriting.{steps_sink}
+use Rattle.sat_solver.specs.proof.DratText.{drat_text}
+use Rattle.sat_solver.specs.declared.proof.format.ProofFormat.{ProofFormat}
+use Rattle.sat_solver.specs.declared.proof.format.ProofFormat.TheVariants.{Varisat, Drat, BinaryDrat}
+use Rattle.sat_solver.specs.declared.proof.output.Output.{Output}
+use Rattle.sat_solver.specs.declared.proof.output.Output.TheVariants.{Steps, Lines}
+use Rattle.sat_solver.specs.declared.proof.output.OutputError.{OutputError}
+use Rattle.sat_solver.specs.declared.proof.output.OutputError.TheVariants.{Write, OutOfMemory}
+
+-- TEXTS
+
+-- the text of a step
+abbrev pub step_text : ProofFormat → Step → List ℕ
+step_text Varisat step = step_bytes step
+step_text Drat step = drat_text false step
+step_text BinaryDrat step = drat_text true step
+
+-- in bytes it spells the step
+abbrev pub SpellsIn : ProofFormat → Step → Type 0
+SpellsIn Varisat step = SpellsStep step (step_bytes step)
+SpellsIn Drat step = Unit {0}
+SpellsIn BinaryDrat step = Unit {0}
+
+-- the text of steps
+abbrev pub text_in : ProofFormat → List Step → List ℕ
+text_in f [] = []
+text_in f (step ∷ earlier) = text_in f earlier ++ step_text f step
+
+abbrev pub AreSpelt : ProofFormat → List Step → Type 0
+AreSpelt f = AllByRecursion (SpellsIn f)
+
+-- these steps' text was written to a sink, or waits in it
+pub record Wrote (f : ProofFormat) (steps : List Step) (old new : Sink) : Type 0 where
+  pub spelt : AreSpelt f steps
+  pub sent : Sent old new (text_in f steps)
+
+-- what came of writing steps
+abbrev pub PutsSteps : ProofFormat → Result (Unit {0}) OutputError → List Step → Sink → Sink → Type 0
+PutsSteps f (Ok x) steps old new = Wrote f steps old new
+PutsSteps f (Err (Write e)) steps old new = Breaks old.writer new.writer (old.waiting ++ text_in f steps)
+PutsSteps f (Err OutOfMemory) steps old new = new ≡ old
+
+-- what came of writing the lines of a step
+abbrev pub PutsLines : Bool → Result (Unit {0}) OutputError → Step → Writer → Writer → Type 0
+PutsLines binary (Ok x) step old new = Takes old new (drat_text binary step)
+PutsLines binary (Err (Write e)) step old new = Breaks old new (drat_text binary step)
+PutsLines binary (Err OutOfMemory) step old new = new ≡ old
+
+-- OUTPUTS
+
+abbrev pub is_lines : ProofFormat → Bool
+is_lines Varisat = false
+is_lines Drat = true
+is_lines BinaryDrat = true
+
+abbrev pub lines_format : Bool → ProofFormat
+lines_format false = Drat
+lines_format true = BinaryDrat
+
+abbrev pub output_format : {W : Type 0} → Output W → ProofFormat
+output_format (Steps w) = Varisat
+output_format (Lines w) = lines_format w.binary
+
+-- nothing waits for a writer of lines
+abbrev pub output_sink : {W : Type 0} → (W → Writer) → Output W → Sink
+output_sink seen (Steps w) = steps_sink seen w
+output_sink seen (Lines w) = empty_sink (seen w.writer)

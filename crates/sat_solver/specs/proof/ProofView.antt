@@ -1,0 +1,306 @@
+-- What contracts see of the proof that a solver writes: its steps, and where their text goes. Lists of steps have the newest first.
+use Rattle.std.specs.Prelude.{◌≡◌, ◌⊎◌, Bool, true, false, Option, None, Some, List, [], ◌∷◌, ◌++◌, Result, Ok, Err}
+use Rattle.sat_base.specs.device.Device.{Writer, Takes, Breaks}
+use Rattle.sat_base.specs.device.Sink.{Sink, Emptied}
+use Rattle.sat_base.specs.steps.Steps.{Step, End}
+use Rattle.sat_checker.specs.declared.processing.ProofProcessor.{Ghosts}
+use Rattle.sat_solver.specs.proof.Counting.{TruncatesHashes}
+use Rattle.sat_solver.specs.proof.Complaints.{IsComplaint}
+use Rattle.sat_solver.specs.proof.MadeView as mades
+use Rattle.sat_solver.specs.proof.OutputView.{is_lines, text_in, AreSpelt, Wrote, output_format, output_sink}
+use Rattle.sat_solver.specs.session.Session.{Session, MayAll, session_after}
+use Rattle.sat_solver.specs.declared.proof.made.CheckFault.{CheckFault}
+use Rattle.sat_solver.specs.declared.proof.made.CheckFault.TheVariants as checks
+use Rattle.sat_solver.specs.declared.proof.hash_bits.Counting.{Counting}
+use Rattle.sat_solver.specs.declared.proof.format.ProofFormat.{ProofFormat}
+use Rattle.sat_solver.specs.declared.proof.output.Output.{Output}
+use Rattle.sat_solver.specs.declared.proof.Proof.{Proof}
+use Rattle.sat_solver.specs.declared.proof.ProofError.{ProofError}
+use Rattle.sat_solver.specs.declared.proof.ProofError.TheVariants.{Write, OutOfMemory, Check}
+
+-- where the steps' text goes
+pub data Target : Type 0 where
+  Closed : Target
+  Open : ProofFormat → Counting → Sink → Target
+  Broken : Writer → Target  -- a call of it failed, and it isn't used again
+
+abbrev pub with_fault : Bool → ProofFormat → Counting → Sink → Target
+with_fault false f c s = Open f c s
+with_fault true f c s = Broken s.writer
+
+abbrev pub target_in : {W : Type 0} → (W → Writer) → Option (Output W) → Bool → Counting → Target
+target_in seen None broken c = Closed
+target_in seen (Some o) broken c = with_fault broken (output_format o) c (output_sink seen o)
+
+abbrev pub target_of : {W L : Type 0} {G : Ghosts L} → (W → Writer) → Proof W L G → Target
+target_of seen p = target_in seen p.output p.broken p.counting
+
+-- are steps written to it?
+abbrev pub is_open : Target → Bool
+is_open Closed = false
+is_open (Open f c s) = true
+is_open (Broken w) = false
+
+-- are they written as lines of DRAT?
+abbrev pub is_drat : Target → Bool
+is_drat Closed = false
+is_drat (Open f c s) = is_lines f
+is_drat (Broken w) = false
+
+-- has an ask begun?
+abbrev pub has_asked : {W L : Type 0} {G : Ghosts L} → Proof W L G → Bool
+has_asked p = p.counting.solving
+
+-- all steps that were made
+abbrev pub steps_of : {W L : Type 0} {G : Ghosts L} → Proof W L G → List Step
+steps_of p = p.made.history.steps
+
+-- does a checker take them?
+abbrev pub is_checked : {W L : Type 0} {G : Ghosts L} → Proof W L G → Bool
+is_checked p = mades.is_checked p.made
+
+-- where there is one: those who listen to it, each as it was when it was added, in order
+abbrev pub audience : {W L : Type 0} {G : Ghosts L} → Proof W L G → Option (List L)
+audience p = mades.audience p.made
+
+-- has a step been made that the checker wasn't given?
+abbrev pub is_lost : {W L : Type 0} {G : Ghosts L} → Proof W L G → Bool
+is_lost p = mades.is_lost p.made
+
+-- where there is a checker, it was given each step that was made, and nothing waits in it
+abbrev pub HasTold : {W L : Type 0} {G : Ghosts L} → Proof W L G → Type 0
+HasTold p = mades.HasTold p.made
+
+-- the width that its checker was told last, where there is one, is the one of the target's text
+abbrev pub IsAtWidth : {W L : Type 0} {G : Ghosts L} → Proof W L G → Type 0
+IsAtWidth p = mades.IsTold p.counting.bits p.made
+
+-- it failed for this reason: of a processor's fault, one of those who listen answered it, so that there are some
+abbrev pub Complains : {W L : Type 0} {G : Ghosts L} → CheckFault → Proof W L G → Type 0
+Complains fault p = mades.Complains fault p.made
+
+-- where a call of the target failed, the cause is kept
+abbrev pub HasCause : {W L : Type 0} {G : Ghosts L} → ProofError → Proof W L G → Type 0
+HasCause (Write cause) p = p.cause ≡ Some cause
+HasCause OutOfMemory p = Unit {0}
+HasCause (Check fault) p = Unit {0}
+
+-- its processor's complaint was told
+abbrev pub told : {W L : Type 0} {G : Ghosts L} → Proof W L G → Proof W L G
+told p = record p { made = mades.told p.made }
+
+-- those who listen are handed back, behind what they have heard of all steps, each once and in order
+abbrev pub Handed : {W L : Type 0} {G : Ghosts L} → Proof W L G → (given : List L) → Type 0
+Handed p given = mades.Handed p.made given
+
+-- where the checker took each step they have heard all that is told of all steps
+abbrev pub HandedWhole : {W L : Type 0} {G : Ghosts L} → Proof W L G → (given : List L) → Type 0
+HandedWhole p given = mades.HandedWhole p.made given
+
+-- there is a checker, which lacks no step
+abbrev pub Checks : {W L : Type 0} {G : Ghosts L} → Proof W L G → Proof W L G → Type 0
+Checks old new = mades.Checks old.made new.made
+
+-- these listen as checking begins
+abbrev pub ListedAnew : {W L : Type 0} {G : Ghosts L} → Proof W L G → List L → Type 0
+ListedAnew p begun = mades.ListedAnew (is_lost p) p.made (audience p) begun
+
+-- the session behind them
+abbrev pub session_of : {W L : Type 0} {G : Ghosts L} → Proof W L G → Session
+session_of p = session_after (steps_of p)
+
+-- each of its steps was allowed in its turn
+abbrev pub Keeps : {W L : Type 0} {G : Ghosts L} → Proof W L G → Type 0
+Keeps p = MayAll (steps_of p)
+
+-- an open target was given the text of steps that were written for those that were made
+pub record Carried (f : ProofFormat) (c : Counting) (s : Sink) (steps : List Step) (d : Counting) (t : Sink) : Type 0 where
+  pub written : List Step
+  pub cuts : TruncatesHashes c steps written d
+  pub wrote : Wrote f written s t
+
+-- an open target was given the text of these steps, and another one nothing
+abbrev pub Carries : Target → List Step → Target → Type 0
+Carries Closed steps new = new ≡ Closed
+Carries (Open f c s) steps new = (d : Counting) × (t : Sink) × (new ≡ Open f d t) × Carried f c s steps d t
+Carries (Broken w) steps new = new ≡ Broken w
+
+-- One call of it failed, the last, as it was given that text. It has taken a front of what waited and of the text.
+pub record Stopped (f : ProofFormat) (c : Counting) (s : Sink) (steps : List Step) (w : Writer) : Type 0 where
+  pub written : List Step
+  pub counting : Counting
+  pub cuts : TruncatesHashes c steps written counting
+  pub breaks : Breaks s.writer w (s.waiting ++ text_in f written)
+
+-- one call of an open target failed at the text of these steps
+abbrev pub Stops : Target → List Step → Target → Type 0
+Stops Closed steps new = ⊥
+Stops (Open f c s) steps new = (w : Writer) × (new ≡ Broken w) × Stopped f c s steps w
+Stops (Broken w) steps new = ⊥
+
+-- these steps were made, and went where steps go
+pub record Adds {W L : Type 0} {G : Ghosts L} (seen : W → Writer) (steps : List Step) (old new : Proof W L G) : Type 0 where
+  pub history : steps_of new ≡ steps ++ steps_of old
+  pub listening : audience new ≡ audience old
+  pub target : Carries (target_of seen old) steps (target_of seen new)
+
+-- these steps were made, and a call of the target failed at their text
+pub record Fails {W L : Type 0} {G : Ghosts L} (seen : W → Writer) (steps : List Step) (old new : Proof W L G) : Type 0 where
+  pub history : steps_of new ≡ steps ++ steps_of old
+  pub listening : audience new ≡ audience old
+  pub target : Stops (target_of seen old) steps (target_of seen new)
+
+-- these steps were made, and went where steps go, and then the checker failed for this reason
+pub record FailsCheck {W L : Type 0} {G : Ghosts L} (seen : W → Writer) (fault : CheckFault) (steps : List Step) (old new : Proof W L G) : Type 0 where
+  pub adds : Adds seen steps old new
+  pub why : Complains fault new
+
+-- The same, and the checker, where there is one, took them too, at the widths of the target's text, and no ask began.
+pub record Gains {W L : Type 0} {G : Ghosts L} (seen : W → Writer) (steps : List Step) (old new : Proof W L G) : Type 0 where
+  pub history : steps_of new ≡ steps ++ steps_of old
+  pub listening : audience new ≡ audience old
+  pub taking : is_lost new ≡ is_lost old
+  pub asked : has_asked new ≡ has_asked old
+  pub width : IsAtWidth old ⊎ (steps ≡ [] → ⊥) → IsAtWidth new
+  pub target : Carries (target_of seen old) steps (target_of seen new)
+
+-- what came of giving a step to the target
+abbrev pub PutsOn : Result (Unit {0}) ProofError → List Step → Target → Target → Type 0
+PutsOn (Ok x) steps old new = Carries old steps new
+PutsOn (Err (Write e)) steps old new = Stops old steps new
+PutsOn (Err OutOfMemory) steps old new = Carries old [] new
+PutsOn (Err (Check fault)) steps old new = ⊥
+
+-- nothing but the checker failed
+abbrev pub FailsOfCheck : {W L : Type 0} {G : Ghosts L} → Result (Unit {0}) ProofError → Proof W L G → Type 0
+FailsOfCheck (Ok x) new = Unit {0}
+FailsOfCheck (Err (Write e)) new = ⊥
+FailsOfCheck (Err OutOfMemory) new = ⊥
+FailsOfCheck (Err (Check fault)) new = Complains fault new × IsComplaint fault new.made.complaint
+
+-- the same, where it may have failed before
+abbrev pub FailsOfCheckUnless : {W L : Type 0} {G : Ghosts L} → (lost : Bool) → Result (Unit {0}) ProofError → Proof W L G → Type 0
+FailsOfCheckUnless lost (Ok x) new = Unit {0}
+FailsOfCheckUnless lost (Err (Write e)) new = ⊥
+FailsOfCheckUnless lost (Err OutOfMemory) new = ⊥
+FailsOfCheckUnless lost (Err (Check fault)) new = mades.ComplainsOr lost fault new.made
+
+-- what came of making these steps: none is made where memory for one's hashes is wanting
+abbrev pub Records : {T W L : Type 0} {G : Ghosts L} → (W → Writer) → Result T ProofError → List Step → Proof W L G → Proof W L G → Type 0
+Records seen (Ok x) steps old new = Gains seen steps old new
+Records seen (Err (Write e)) steps old new = Fails seen steps old new × (new.cause ≡ Some e)
+Records seen (Err OutOfMemory) steps old new = Gains seen [] old new
+Records seen (Err (Check fault)) steps old new = FailsCheck seen fault steps old new × IsComplaint fault new.made.complaint
+
+-- nothing waits for an open target any more, which was flushed
+abbrev pub Flushed : Target → Target → Type 0
+Flushed Closed new = new ≡ Closed
+Flushed (Open f c s) new = (t : Sink) × (new ≡ Open f c t) × Emptied s t
+Flushed (Broken w) new = new ≡ Broken w
+
+-- the target was flushed, whatever the checker has told
+pub record Drains {W L : Type 0} {G : Ghosts L} (seen : W → Writer) (old new : Proof W L G) : Type 0 where
+  pub history : steps_of new ≡ steps_of old
+  pub listening : audience new ≡ audience old
+  pub target : Flushed (target_of seen old) (target_of seen new)
+
+-- and the checker has told what waited
+pub record Flushes {W L : Type 0} {G : Ghosts L} (seen : W → Writer) (old new : Proof W L G) : Type 0 where
+  pub history : steps_of new ≡ steps_of old
+  pub listening : audience new ≡ audience old
+  pub taking : is_lost new ≡ is_lost old
+  pub asked : has_asked new ≡ has_asked old
+  pub width : IsAtWidth old → IsAtWidth new
+  pub target : Flushed (target_of seen old) (target_of seen new)
+  pub told : HasTold new
+
+-- what came of a flush of the target alone
+abbrev pub FlushesTarget : {W L : Type 0} {G : Ghosts L} → (W → Writer) → Result (Unit {0}) ProofError → Proof W L G → Proof W L G → Type 0
+FlushesTarget seen (Ok x) old new = Drains seen old new
+FlushesTarget seen (Err (Write e)) old new = Fails seen [] old new × (new.cause ≡ Some e)
+FlushesTarget seen (Err OutOfMemory) old new = ⊥
+FlushesTarget seen (Err (Check fault)) old new = ⊥
+
+-- what came of a flush, behind which the checker tells what waited
+abbrev pub FlushesOrFails : {W L : Type 0} {G : Ghosts L} → (W → Writer) → Result (Unit {0}) ProofError → Proof W L G → Proof W L G → Type 0
+FlushesOrFails seen (Ok x) old new = Flushes seen old new
+FlushesOrFails seen (Err (Write e)) old new = Fails seen [] old new × (new.cause ≡ Some e)
+FlushesOrFails seen (Err OutOfMemory) old new = ⊥
+FlushesOrFails seen (Err (Check fault)) old new = Drains seen old new × mades.ComplainsOr (is_lost old) fault new.made
+
+-- an open target is handed back, which took what waited and the text of these steps, and was flushed
+pub record TookAll (f : ProofFormat) (c : Counting) (s : Sink) (steps : List Step) (given : Writer) : Type 0 where
+  pub written : List Step
+  pub counting : Counting
+  pub cuts : TruncatesHashes c steps written counting
+  pub spelt : AreSpelt f written
+  pub takes : Takes s.writer given (s.waiting ++ text_in f written)
+  pub flushed : given.flushed ≡ true
+
+abbrev pub TakesAll : Target → List Step → Writer → Type 0
+TakesAll Closed steps given = ⊥
+TakesAll (Open f c s) steps given = TookAll f c s steps given
+TakesAll (Broken w) steps given = ⊥
+
+pub record ClosesNone {W L : Type 0} {G : Ghosts L} (seen : W → Writer) (old new : Proof W L G) : Type 0 where
+  pub history : steps_of new ≡ steps_of old
+  pub listening : audience new ≡ audience old
+  pub taking : is_lost new ≡ is_lost old
+  pub asked : has_asked new ≡ has_asked old
+  pub shut : is_open (target_of seen old) ≡ false
+  pub target : target_of seen new ≡ target_of seen old
+
+pub record ClosesOne {W L : Type 0} {G : Ghosts L} (seen : W → Writer) (given : W) (old new : Proof W L G) : Type 0 where
+  pub history : steps_of new ≡ End ∷ steps_of old
+  pub listening : audience new ≡ audience old
+  pub taking : is_lost new ≡ is_lost old
+  pub asked : has_asked new ≡ has_asked old
+  pub takes : TakesAll (target_of seen old) (End ∷ []) (seen given)
+  pub target : target_of seen new ≡ Closed
+  pub told : HasTold new
+
+-- What came of closing a proof. A fault was at the text of the last step, or at what waited then.
+abbrev pub Closes : {W L : Type 0} {G : Ghosts L} → (W → Writer) → Result (Option W) ProofError → Proof W L G → Proof W L G → Type 0
+Closes seen (Ok None) old new = ClosesNone seen old new
+Closes seen (Ok (Some given)) old new = ClosesOne seen given old new
+Closes seen (Err (Write e)) old new = Fails seen (End ∷ []) old new × (new.cause ≡ Some e)
+Closes seen (Err OutOfMemory) old new = Gains seen [] old new
+Closes seen (Err (Check fault)) old new = Adds seen (End ∷ []) old new × mades.ComplainsOr (is_lost old) fault new.made
+
+-- the writer of a target, of which what waits is lost
+abbrev pub Gives : Target → Option Writer → Type 0
+Gives Closed given = given ≡ None
+Gives (Open f c s) given = given ≡ Some s.writer
+Gives (Broken w) given = given ≡ Some w
+
+abbrev pub seen_of : {W : Type 0} → (W → Writer) → Option W → Option Writer
+seen_of seen None = None
+seen_of seen (Some w) = Some (seen w)
+
+-- the target is handed back as it is
+pub record HandsBack {W L : Type 0} {G : Ghosts L} (seen : W → Writer) (given : Option W) (old new : Proof W L G) : Type 0 where
+  pub history : steps_of new ≡ steps_of old
+  pub made : new.made ≡ old.made
+  pub asked : has_asked new ≡ has_asked old
+  pub gives : Gives (target_of seen old) (seen_of seen given)
+  pub target : target_of seen new ≡ Closed
+
+-- another processor listens to the checker too
+pub record ListensToo {W L : Type 0} {G : Ghosts L} (processor : L) (old new : Proof W L G) : Type 0 where
+  pub before : List L
+  pub listened : audience old ≡ Some before
+  pub listening : audience new ≡ Some (before ++ processor ∷ [])
+  pub taking : is_lost new ≡ false
+
+-- what came of adding it: no memory may be left
+abbrev pub TakesListener : {W L : Type 0} {G : Ghosts L} → Result (Unit {0}) ProofError → L → Proof W L G → Proof W L G → Type 0
+TakesListener (Ok x) processor old new = ListensToo processor old new
+TakesListener (Err (Write e)) processor old new = ⊥
+TakesListener (Err OutOfMemory) processor old new = ⊥
+TakesListener (Err (Check fault)) processor old new = (fault ≡ checks.OutOfMemory) × (audience new ≡ audience old)
+
+pub record Listens {W L : Type 0} {G : Ghosts L} (seen : W → Writer) (result : Result (Unit {0}) ProofError) (processor : L) (old new : Proof W L G) : Type 0 where
+  pub history : steps_of new ≡ steps_of old
+  pub asked : has_asked new ≡ has_asked old
+  pub target : target_of seen new ≡ target_of seen old
+  pub takes : TakesListener result processor old new

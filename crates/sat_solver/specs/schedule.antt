@@ -1,0 +1,8 @@
+pub mod Climbing
+pub mod Counting
+pub mod Gaps
+pub mod Going
+pub mod Progress
+pub mod Ranks
+pub mod Rounds
+pub mod Solving

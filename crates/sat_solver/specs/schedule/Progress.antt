@@ -1,0 +1,26 @@
+-- How far an ask has come.
+use Rattle.std.specs.Prelude.{ℕ, ◌≡◌, ◌+◌, ◌-◌, ◌*◌, ◌^◌, ◌≤◌, ◌⊎◌, List}
+use Rattle.sat_parts.specs.prop.TrailWord.{Letter}
+use Rattle.sat_store.specs.schedule.Luby.{luby}
+use Rattle.sat_solver.specs.schedule.Ranks.{rank}
+use Rattle.sat_solver.specs.schedule.Gaps.{given_after}
+
+-- a long gap is still to come, this many terms on
+pub record IsComing (n gaps given : ℕ) : Type 0 where
+  pub ahead : ℕ
+  pub few : gaps + ahead + 2 ≤ 2 ^ (n + 2)
+  pub long : 2 ^ (n + 1) ≤ luby (given_after ahead given + 1)
+
+-- the gap that began before this round is a long one, or lasts until the count is spent
+pub record IsLong (n gaps base next : ℕ) : Type 0 where
+  pub few : gaps + 1 ≤ 2 ^ (n + 2)
+  pub long : (base + 2 ^ (n + 1) ≤ next) ⊎ (next ≡ 2 ^ 64 - 1)
+
+-- an ask over n variables that began before round start has come to this round, with this word: it restarted a few times
+-- (gaps), each time after fewer rounds than there are words, and the word rose with each round since (base)
+pub record Progress (n start round next given : ℕ) (w : List Letter) : Type 0 where
+  pub gaps : ℕ
+  pub base : ℕ
+  pub spent : base + 2 * gaps ≤ start + gaps * 2 ^ (n + 1)
+  pub risen : round ≤ base + rank n w
+  pub due : IsComing n gaps given ⊎ IsLong n gaps base next

@@ -1,0 +1,41 @@
+-- A derived clause that advances: its first literal was not there, whatever live clauses of the session are used.
+use Rattle.std.specs.Prelude.{ℕ, ◌≡◌, ◌<◌, ◌⊎◌, ◌==◌, ◌||◌, Bool, true, false, List, [], ◌∷◌, map, drop, length, slice_index_or as get_or}
+use Rattle.std.specs.List.{AllByRecursion}
+use Rattle.sat_base.specs.values.Literals.{negated}
+use Rattle.sat_checker.specs.LiteralSets.{is_among}
+use Rattle.sat_parts.specs.declared.prop.graph.Conflict.{Conflict}
+use Rattle.sat_parts.specs.prop.Causes.{falsified}
+use Rattle.sat_solver.specs.session.Session.{Session, IsLive, denied}
+use Rattle.sat_solver.specs.session.LiveClauses.{with_var}
+use Rattle.sat_solver.specs.analyze_conflict.Work.{Work}
+use Rattle.sat_solver.specs.analyze_conflict.Derivation.{Learns}
+use Rattle.sat_parts.specs.declared.parts.Parts.{Parts}
+use Rattle.sat_parts.specs.parts.Whole.{state, IsRefuted}
+use Rattle.sat_solver.specs.session.Fits.{SessionMatchesParts, HaveNames}
+
+-- live clauses, each of which has no literal but one that isn't false by then, and what holds behind them
+abbrev pub LeadsOn : Session → (ℕ → Bool) → List (List ℕ) → (ℕ → Bool) → Type 0
+LeadsOn s holds [] reached = (l : ℕ) → reached l ≡ true → holds l ≡ true
+LeadsOn s holds (c ∷ cs) reached = IsLive s c × ((o : ℕ) × AllByRecursion (λ l. (l ≡ o) ⊎ (holds (negated l) ≡ true)) c × (is_among c o ≡ true) × LeadsOn s (λ l. (o == l) || holds l) cs reached)
+
+pub record StaysNew (s : Session) (l : ℕ) (reached : ℕ → Bool) : Type 0 where
+  pub not_true : reached l ≡ false
+  pub not_false : reached (negated l) ≡ false
+  pub no_conflict : (c : List ℕ) → IsLive s c → AllByRecursion (λ m. reached (negated m) ≡ true) c → ⊥
+
+-- no literal of these has its negation among them
+abbrev pub AreConsistent : (ℕ → Bool) → Type 0
+AreConsistent holds = (l : ℕ) → holds l ≡ true → holds (negated l) ≡ false
+
+-- the units and the negations of a clause's other literals agree and leave its first one open, and no live clauses that are unit in turn
+-- under them assign it or are falsified
+pub record Advances (s : Session) (clause : List ℕ) : Type 0 where
+  pub some : 0 < length clause
+  pub agree : AreConsistent (denied s (drop 1 clause))
+  pub stays : (picked : List (List ℕ)) (reached : ℕ → Bool) → LeadsOn s (denied s (drop 1 clause)) picked reached → StaysNew s (get_or clause 0 0) reached
+
+-- what is learned advances in the session
+abbrev pub LearnedAdvancesIn : Type 0
+LearnedAdvancesIn =
+    (p : Parts) (e : Conflict) (w : Work) (back : ℕ) (s : Session) (global : ℕ → ℕ) (picked : List (List ℕ)) (reached : ℕ → Bool) → IsRefuted p e → SessionMatchesParts p s global → HaveNames p.assignment.current s global → Learns p.clauses (state p) (falsified p.clauses e) w back →
+    LeadsOn s (denied s (map (with_var global) (drop 1 w.clause))) picked reached → StaysNew s (with_var global (get_or w.clause 0 0)) reached

@@ -1,0 +1,50 @@
+-- What holds of a session and a list of live clauses, while steps are written of which the parts don't know yet.
+use Rattle.std.specs.Prelude.{ℕ, ◌≡◌, ◌<◌, Bool, true, false, Some, List, ◌++◌}
+use Rattle.sat_base.specs.values.Literals.{variable}
+use Rattle.sat_base.specs.steps.Steps.{Step, UserVarName, ChangeSamplingMode, Model, Assumptions, FailedAssumptions, End}
+use Rattle.sat_checker.specs.LiteralSets.{is_tautology}
+use Rattle.sat_parts.specs.clause.Db.{live_refs}
+use Rattle.sat_parts.specs.prop.Values.{IsTrueLit}
+use Rattle.sat_parts.specs.prop.State.{State, level}
+use Rattle.sat_solver.specs.session.Session.{Session}
+use Rattle.sat_solver.specs.session.LiveClauses.{LiveClause, with_var, AreOf}
+use Rattle.sat_solver.specs.session.SolverClauses.{longs, binaries_left}
+use Rattle.sat_parts.specs.declared.parts.Parts.{Parts}
+use Rattle.sat_parts.specs.parts.Whole.{state}
+use Rattle.sat_parts.specs.parts.Frame.{IsUnitLit}
+use Rattle.sat_solver.specs.session.Fits.{is_redundant}
+
+-- the live clauses of the session are these, and its units are literals of level 0, among them those that no clause of the trail
+-- makes true
+pub record FitsList (cs : List LiveClause) (st : State) (s : Session) (global : ℕ → ℕ) : Type 0 where
+  pub clauses : AreOf s global cs
+  pub known : (l : ℕ) → IsUnitLit st l → s.units (with_var global l) ≡ true
+  pub sound : (l : ℕ) → s.solver_names (global (variable l)) ≡ Some (variable l) → s.units (with_var global l) ≡ true → IsTrueLit st.values l × (level st l ≡ 0)
+  pub consistent : s.unsat ≡ false
+  pub width : s.width ≡ 64
+
+-- two sessions have the same units, solver names and width
+pub record SameFacts (s t : Session) : Type 0 where
+  pub names : (v : ℕ) → t.solver_names v ≡ s.solver_names v
+  pub units : (l : ℕ) → t.units l ≡ s.units l
+  pub unsat : t.unsat ≡ s.unsat
+  pub width : t.width ≡ s.width
+
+-- no live clause has both signs of a variable
+abbrev pub ArePlain : Session → Type 0
+ArePlain s = (r : Bool) (set : List ℕ) → 0 < s.live r set → is_tautology set ≡ false
+
+-- a step that leaves clauses, units, solver names and width as they are: names of users, modes, assumptions and answers
+abbrev pub Rests : Step → Type 0
+Rests (UserVarName v name) = Unit {0}
+Rests (ChangeSamplingMode v sample) = Unit {0}
+Rests (Model ls) = Unit {0}
+Rests (Assumptions ls) = Unit {0}
+Rests (FailedAssumptions core hashes) = Unit {0}
+Rests End = Unit {0}
+Rests step = ⊥
+
+-- the struct of parts fits, but for clauses of two literals with a variable that has a value: these are gone from the session, as
+-- far as the first k literals of the list l and all lists before it were looked at
+abbrev pub LeftParts : Parts → Session → (ℕ → ℕ) → (l k : ℕ) → Type 0
+LeftParts p s global l k = FitsList (binaries_left p.assignment.current p.binary.implied l k ++ longs (is_redundant p.clauses) p.clauses (live_refs p.clauses p.db.refs)) (state p) s global

@@ -1,0 +1,20 @@
+-- What fits once a clause of the formula was loaded and its steps were written.
+use Rattle.std.specs.Prelude.{ℕ, ◌≡◌, ◌≤◌, true, List, map, length}
+use Rattle.sat_base.specs.steps.Steps.{AddClause, DeleteClause, Satisfied as True}
+use Rattle.sat_solver.specs.session.Session.{Session, after, May}
+use Rattle.sat_solver.specs.session.LiveClauses.{with_var}
+use Rattle.sat_parts.specs.declared.parts.Parts.{Parts}
+use Rattle.sat_parts.specs.declared.parts.load.Loaded.{Loaded}
+use Rattle.sat_parts.specs.declared.parts.load.Loaded.TheVariants.{Stored, Unit as One, Satisfied, Falsified}
+use Rattle.sat_solver.specs.session.Fits.{SessionMatchesParts}
+
+-- the step adds the clause as it was given. A clause with a true literal goes at once, with its literals in the order ls, unless it
+-- has one literal alone; behind a clause whose one literal is false, or that has none, unsat is recorded
+abbrev pub LoadFits : Loaded → Parts → Session → (ℕ → ℕ) → (given ls : List ℕ) → Type 0
+LoadFits Stored p s global given ls = SessionMatchesParts p (after (AddClause (map (with_var global) given)) s) global
+LoadFits One p s global given ls = SessionMatchesParts p (after (AddClause (map (with_var global) given)) s) global
+LoadFits Satisfied p s global given ls =
+    (length ls ≡ 1 → SessionMatchesParts p (after (AddClause (map (with_var global) given)) s) global)
+    × (2 ≤ length ls → May (after (AddClause (map (with_var global) given)) s) (DeleteClause (map (with_var global) ls) True)
+    × SessionMatchesParts p (after (DeleteClause (map (with_var global) ls) True) (after (AddClause (map (with_var global) given)) s)) global)
+LoadFits Falsified p s global given ls = (after (AddClause (map (with_var global) given)) s).unsat ≡ true

@@ -1,0 +1,42 @@
+-- The units of level 0 as they are written.
+use Rattle.std.specs.Prelude.{ℕ, ◌-◌, ◌/◌, ◌^◌, ◌<◌, ◌≡◌, true, false, Some, List, [], ◌∷◌, map, length, if◌then◌else◌}
+use Rattle.std.specs.List.{Contains}
+use Rattle.sat_base.specs.values.Literals.{variable}
+use Rattle.sat_base.specs.values.Hashes.{hash_of}
+use Rattle.sat_parts.specs.prop.Graphs.{is_unit}
+use Rattle.sat_parts.specs.prop.Values.{IsTrueLit}
+use Rattle.sat_parts.specs.prop.State.{State, node, lit_at, IsRemoved, Agrees}
+use Rattle.sat_parts.specs.prop.Reasons.{AreInTurn}
+use Rattle.sat_parts.specs.clause.Stored.{size_of}
+use Rattle.sat_solver.specs.session.Session.{Session, IsLive, MayProve, hash_in}
+use Rattle.sat_solver.specs.session.LiveClauses.{with_var}
+use Rattle.sat_solver.specs.session.TrailEntries.{reason_clause}
+
+-- those that have a clause as their reason, in proof variables, each with its hash at this width
+abbrev pub written_units : List ℕ → State → ℕ → (ℕ → ℕ) → List ℕ → List (ℕ × ℕ)
+written_units words st width global [] = []
+written_units words st width global (l ∷ ls) =
+    if is_unit (node st l).reason then written_units words st width global ls
+    else (with_var global l, hash_of (reason_clause words l (node st l).reason) / 2 ^ (64 - width)) ∷ written_units words st width global ls
+
+-- a clause is live in the session, and has there the hash that is computed over the solver's variables
+pub record IsUsable (s : Session) (global : ℕ → ℕ) (c : List ℕ) : Type 0 where
+  pub live : IsLive s (map (with_var global) c)
+  pub hash : hash_of c / 2 ^ (64 - s.width) ≡ hash_in s (map (with_var global) c)
+
+abbrev pub IsNamed : Session → (ℕ → ℕ) → ℕ → Type 0
+IsNamed s global l = s.solver_names (global (variable l)) ≡ Some (variable l)
+
+-- what a session and a trail of level 0 have to do with each other
+pub record UnitsFit (words : List ℕ) (st : State) (s : Session) (global : ℕ → ℕ) : Type 0 where
+  pub named : (i : ℕ) → i < length st.trail.lits → IsNamed s global (lit_at st i)
+  pub usable : (i : ℕ) → i < length st.trail.lits → is_unit (node st (lit_at st i)).reason ≡ false → IsUsable s global (reason_clause words (lit_at st i) (node st (lit_at st i)).reason)
+  pub given : (i : ℕ) → i < length st.trail.lits → is_unit (node st (lit_at st i)).reason ≡ true → s.units (with_var global (lit_at st i)) ≡ true
+  pub removed : (l : ℕ) → IsRemoved st l → s.units (with_var global l) ≡ true
+  pub sound : (l : ℕ) → IsNamed s global l → s.units (with_var global l) ≡ true → IsTrueLit st.values l
+
+-- they may be written in the order of the trail
+abbrev pub TrailUnitsMay : Type 0
+TrailUnitsMay =
+    (words live : List ℕ) (implied : List (List ℕ)) (st : State) (s : Session) (global : ℕ → ℕ) → ((o : ℕ) → Contains live o → 0 < size_of words o) → Agrees st → AreInTurn words live implied st 0
+    → UnitsFit words st s global → MayProve s (written_units words st s.width global st.trail.lits)

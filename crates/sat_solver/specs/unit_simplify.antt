@@ -1,0 +1,7 @@
+pub mod Left
+pub mod Cuts
+pub mod Cutting
+pub mod Flat
+pub mod Freed
+pub mod Looks
+pub mod Passes

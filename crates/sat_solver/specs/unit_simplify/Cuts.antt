@@ -1,0 +1,31 @@
+-- Steps by which a long clause goes, or what is left of it takes its place.
+use Rattle.std.specs.Prelude.{ℕ, ◌≡◌, Bool, ◌&&◌, nat_lt, List, ◌∷◌, length, Result, if◌then◌else◌}
+use Rattle.sat_base.specs.device.Device.{Writer}
+use Rattle.sat_base.specs.steps.Steps.{Deletion, Redundant, Simplified, Step, AtClause, DeleteClause}
+use Rattle.sat_checker.specs.declared.processing.ProofProcessor.{Ghosts}
+use Rattle.sat_solver.specs.proof.ProofView.{steps_of}
+use Rattle.sat_solver.specs.session.Session.{Session, after, May}
+use Rattle.sat_solver.specs.declared.proof.Proof.{Proof}
+use Rattle.sat_solver.specs.declared.error.SolverError.{SolverError}
+use Rattle.sat_solver.specs.cdcl.Going.{EmitsSteps}
+
+-- why a long clause may be deleted: it's redundant, or what is said of others
+abbrev pub deletion : Bool → Deletion → Deletion
+deletion redundant other = if redundant then Redundant else other
+
+abbrev pub deleted_step : Bool → Deletion → List ℕ → Step
+deleted_step redundant other clause = DeleteClause clause (deletion redundant other)
+
+-- what is left of a clause is as redundant as the clause was, unless it has two literals
+abbrev pub derived_step : Bool → (part hashes : List ℕ) → Step
+derived_step redundant part hashes = AtClause (redundant && nat_lt 2 (length part)) part hashes
+
+-- what is left of a clause may be derived, and then the clause may go
+pub record MayCut (s : Session) (redundant : Bool) (part hashes clause : List ℕ) : Type 0 where
+  pub derive : May s (derived_step redundant part hashes)
+  pub delete : May (after (derived_step redundant part hashes) s) (deleted_step redundant Simplified clause)
+
+-- these two steps were made
+abbrev pub WritesCut : {W L : Type 0} {G : Ghosts L} → (W → Writer) → Result (Unit {0}) SolverError → Proof W L G → Proof W L G → (redundant : Bool) (part hashes clause : List ℕ) → Type 0
+WritesCut seen r p p' redundant part hashes clause =
+    EmitsSteps seen r p p' (λ _ _. steps_of p' ≡ deleted_step redundant Simplified clause ∷ derived_step redundant part hashes ∷ steps_of p)

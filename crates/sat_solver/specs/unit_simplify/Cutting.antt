@@ -1,0 +1,47 @@
+-- A long clause loses its false literals.
+use Rattle.std.specs.Prelude.{ℕ, ◌≡◌, ◌<◌, ◌≤◌, List, [], ◌∷◌, map, take}
+use Rattle.sat_base.specs.values.Hashes.{hash_of}
+use Rattle.sat_store.specs.clause.Buffer.{lits_at}
+use Rattle.sat_parts.specs.clause.Stored.{lit_of, size_of}
+use Rattle.sat_parts.specs.prop.Values.{IsFalseLit, IsOpenLit}
+use Rattle.sat_solver.specs.session.LiveClauses.{with_var}
+use Rattle.sat_parts.specs.declared.parts.Parts.{Parts}
+use Rattle.sat_parts.specs.parts.Frame.{Reordered, SameSearch, SameState, Stores, Dropped, Shortened}
+use Rattle.sat_parts.specs.parts.Whole.{PartsInvariant}
+use Rattle.sat_parts.specs.parts.Words.{TrailWordExtends}
+use Rattle.sat_solver.specs.declared.context.Search.{Search}
+use Rattle.sat_solver.specs.cdcl.Joint.{global_in}
+
+-- the literals of the clause at o came to another order: open ones in front of the place kept, false ones from there up to the next
+-- place, and behind it those that were there
+pub record Gathers (p p' : Parts) (o kept next : ℕ) : Type 0 where
+  pub holds : PartsInvariant p'
+  pub moved : Reordered p p'
+  pub same : SameSearch p p'
+  pub db : p'.db ≡ p.db
+  pub word : TrailWordExtends p p'
+  pub front : (k : ℕ) → k < kept → IsOpenLit p.assignment.current (lit_of p'.clauses o k)
+  pub cut : (k : ℕ) → kept ≤ k → k < next → IsFalseLit p.assignment.current (lit_of p'.clauses o k)
+  pub rest : (k : ℕ) → next ≤ k → lit_of p'.clauses o k ≡ lit_of p.clauses o k
+
+-- the first literals of the clause at o are what is left of it: a long clause, or one of two literals that came in its place
+pub data PutsPart (p p' : Parts) (o len : ℕ) : Type 0 where
+  puts_long : 3 ≤ len → Shortened p p' o len → PutsPart p p' o len
+  puts_pair : len ≡ 2 → (mid : Parts) → Stores p mid (lit_of p.clauses o 0 ∷ lit_of p.clauses o 1 ∷ []) → Dropped mid p' o → PutsPart p p' o len
+
+-- and nothing else changed
+pub record Replaces (p p' : Parts) (o len : ℕ) : Type 0 where
+  pub holds : PartsInvariant p'
+  pub state : SameState p p'
+  pub word : TrailWordExtends p p'
+  pub refs : p'.db.refs ≡ p.db.refs
+  pub puts : PutsPart p p' o len
+
+-- the open literals of the clause at o, so many, came to its front, and its steps are put together: as it was, its hash, and what is left
+pub record NamesCut (c c' : Search) (left : List ℕ) (o len : ℕ) : Type 0 where
+  pub gathers : Gathers c.parts c'.parts o len (size_of c.parts.clauses o)
+  pub some : 2 ≤ len
+  pub within : len ≤ size_of c.parts.clauses o
+  pub clause : c'.scratch.clause.items ≡ map (with_var (global_in c)) (lits_at c.parts.clauses o)
+  pub hashes : c'.scratch.hashes.items ≡ hash_of (lits_at c.parts.clauses o) ∷ []
+  pub part : left ≡ map (with_var (global_in c)) (take len (lits_at c'.parts.clauses o))

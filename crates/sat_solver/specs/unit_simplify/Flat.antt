@@ -1,0 +1,67 @@
+-- A search at level 0 whose trail is empty.
+use Rattle.std.specs.Prelude.{ℕ, ◌≡◌, ◌≢◌, ◌<◌, ◌≤◌, [], length, Result, slice_index_or as get_or}
+use Rattle.std.specs.List.{Contains}
+use Rattle.sat_base.specs.device.Device.{Writer}
+use Rattle.sat_checker.specs.declared.processing.ProofProcessor.{Ghosts}
+use Rattle.sat_parts.specs.clause.Db.{live_refs}
+use Rattle.sat_parts.specs.declared.parts.Parts.{Parts}
+use Rattle.sat_parts.specs.parts.Frame.{SameState, Removed}
+use Rattle.sat_parts.specs.parts.Words.{TrailWordExtendsFor}
+use Rattle.sat_solver.specs.proof.ProofView.{session_of}
+use Rattle.sat_solver.specs.session.Session.{Session}
+use Rattle.sat_solver.specs.declared.proof.Proof.{Proof}
+use Rattle.sat_solver.specs.declared.error.SolverError.{SolverError}
+use Rattle.sat_parts.specs.parts.Whole.{PartsInvariant}
+use Rattle.sat_solver.specs.session.Fits.{ArePaired}
+use Rattle.sat_solver.specs.session.Listed.{LeftParts}
+use Rattle.sat_solver.specs.cdcl.Going.{EmitsSteps}
+use Rattle.sat_solver.specs.cdcl.Joint.{assumed_in, global_in, IsSearch, Moved}
+use Rattle.sat_solver.specs.declared.context.Search.{Search}
+use Rattle.sat_solver.specs.unit_simplify.Looks.{IsOpenAt}
+
+-- no level is open, and nothing is on the trail
+pub record IsFlat (p : Parts) : Type 0 where
+  pub bottom : p.trail.starts ≡ []
+  pub empty : p.trail.lits ≡ []
+
+-- clauses of two literals may go with their steps
+pub record MayRemove (c : Search) : Type 0 where
+  pub holds : PartsInvariant c.parts
+  pub flat : IsFlat c.parts
+  pub paired : ArePaired c.parts.binary.implied
+  pub names : length c.parts.assignment.current ≤ length c.globals.items
+
+-- what fitted fits, with fewer clauses of two literals: the first k ones of the list l and all of those before it were looked at
+abbrev pub LeavesPairs : Session → Search → (l k : ℕ) → Type 0
+LeavesPairs s c l k = LeftParts c.parts s (global_in c) l k
+
+-- clauses went or lost literals: values and variables are as they were, and so is the list of long clauses, with those that went
+pub record Lighter (s : Session) (c c' : Search) : Type 0 where
+  pub search : IsSearch s c'
+  pub moved : Moved c c'
+  pub word : TrailWordExtendsFor (assumed_in c) c.parts c'.parts
+  pub state : SameState c.parts c'.parts
+  pub refs : c'.parts.db.refs ≡ c.parts.db.refs
+
+-- the same by steps of clauses of two literals, of which those went that have a variable with a value
+abbrev pub RemovesPairs : {W L : Type 0} {G : Ghosts L} → (W → Writer) → Result (Unit {0}) SolverError → Proof W L G → Proof W L G → Search → Search → Type 0
+RemovesPairs seen r p p' c c' = EmitsSteps seen r p p' (λ _ _. Lighter (session_of p') c c' × Removed c.parts c'.parts)
+
+-- one long clause went or lost literals: of what is left of it no literal has a value, and other clauses are as they were, but for their order
+pub record Lightens (s : Session) (c c' : Search) (o : ℕ) : Type 0 where
+  pub lighter : Lighter s c c'
+  pub left : Contains (live_refs c'.parts.clauses c'.parts.db.refs) o → IsOpenAt c'.parts o
+  pub others : (p : ℕ) → p ≢ o → Contains (live_refs c'.parts.clauses c'.parts.db.refs) p → Contains (live_refs c.parts.clauses c.parts.db.refs) p × (IsOpenAt c.parts p → IsOpenAt c'.parts p)
+
+-- and its steps were made
+abbrev pub LightensOne : {W L : Type 0} {G : Ghosts L} → (W → Writer) → Result (Unit {0}) SolverError → Proof W L G → Proof W L G → Search → Search → (o : ℕ) → Type 0
+LightensOne seen r p p' c c' o = EmitsSteps seen r p p' (λ _ _. Lightens (session_of p') c c' o)
+
+-- of the live clauses among the first so many of the list no literal has a value
+abbrev pub AreOpenTo : Search → Search → ℕ → Type 0
+AreOpenTo c c' at = (k : ℕ) → k < at → Contains (live_refs c'.parts.clauses c'.parts.db.refs) (get_or c.parts.db.refs k 0) → IsOpenAt c'.parts (get_or c.parts.db.refs k 0)
+
+-- the same of all long clauses: of none of them a literal has a value
+pub record LightensAll (s : Session) (c c' : Search) : Type 0 where
+  pub lighter : Lighter s c c'
+  pub left : (o : ℕ) → Contains (live_refs c'.parts.clauses c'.parts.db.refs) o → IsOpenAt c'.parts o

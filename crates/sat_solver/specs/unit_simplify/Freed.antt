@@ -1,0 +1,77 @@
+-- Indices are given up.
+use Rattle.std.specs.Prelude.{ℕ, ◌≡◌, ◌≢◌, ◌<◌, ◌==◌, Bool, true, Some, None, List, length, if◌then◌else◌}
+use Rattle.sat_base.specs.values.Literals.{coded}
+use Rattle.sat_base.specs.steps.Steps.{Step}
+use Rattle.sat_checker.specs.LiteralSets.{mentions}
+use Rattle.sat_parts.specs.prop.Values.{value_of}
+use Rattle.sat_solver.specs.session.Session.{Session, session_after}
+use Rattle.sat_solver.specs.variables.Calls.{NamesInvariant, DoesNothing}
+use Rattle.sat_solver.specs.variables.Variables.{solver_of, global_at, indices_used}
+use Rattle.sat_solver.specs.declared.variables.Variables.{Variables}
+use Rattle.sat_parts.specs.declared.parts.Parts.{Parts}
+use Rattle.sat_solver.specs.session.Quiet.{ComesQuietly}
+use Rattle.sat_parts.specs.parts.Whole.{InNoClause}
+use Rattle.sat_parts.specs.parts.Frame.{SameClauses}
+use Rattle.sat_parts.specs.parts.Words.{TrailWordExtendsFor}
+use Rattle.sat_solver.specs.cdcl.Joint.{assumed_in, IsSearch, Moved}
+use Rattle.sat_solver.specs.declared.context.Search.{Search}
+use Rattle.sat_solver.specs.variables.Shared.{SharesIndices}
+use Rattle.sat_solver.specs.unit_simplify.Flat.{IsFlat}
+
+-- a variable has no index any more, and its units may be forgotten: that is all that a search sees
+pub record LosesIndex (s t : Session) (v : ℕ) : Type 0 where
+  pub live : t.live ≡ s.live
+  pub units : (w x : ℕ) (b : Bool) → w ≢ v → s.solver_names w ≡ Some x → t.units (coded w b) ≡ s.units (coded w b)
+  pub names : (w : ℕ) → t.solver_names w ≡ (if w == v then None else s.solver_names w)
+  pub unsat : t.unsat ≡ s.unsat
+  pub width : t.width ≡ s.width
+  pub assumed : t.assumed ≡ s.assumed
+
+-- the same of names, which the judge doesn't see
+pub record GivesUp (old new : Variables) (from to : List Step) (v : ℕ) : Type 0 where
+  pub does : DoesNothing old new from to
+  pub solvers : (w : ℕ) → solver_of new w ≡ (if w == v then None else solver_of old w)
+  pub users : new.global_from_user ≡ old.global_from_user
+  pub used : indices_used new ≡ indices_used old
+  pub loses : LosesIndex (session_after from) (session_after to) v
+  pub quiet : ComesQuietly from to
+
+-- indices may be given up: the search is at level 0, with nothing on the trail, and has the indices that the names say
+pub record MayFree (n : Variables) (steps : List Step) (c : Search) : Type 0 where
+  pub stands : NamesInvariant n steps
+  pub search : IsSearch (session_after steps) c
+  pub shares : SharesIndices n c
+  pub flat : IsFlat c.parts
+
+-- names stand for the variables for which they stood, and what is assumed is as it was and has its indices
+pub record KeepsAsked (old new : Variables) (s t : Session) : Type 0 where
+  pub users : new.global_from_user ≡ old.global_from_user
+  pub assumed : t.assumed ≡ s.assumed
+  pub indices : (v x : ℕ) → mentions s.assumed v ≡ true → solver_of old v ≡ Some x → solver_of new v ≡ Some x
+
+-- some indices were given up: no step is one that the judge sees, or by which something is learned, clauses and assumptions are the same,
+-- and the word of the trail goes on
+pub record FreesSome (old new : Variables) (from to : List Step) (c c' : Search) : Type 0 where
+  pub does : DoesNothing old new from to
+  pub quiet : ComesQuietly from to
+  pub search : IsSearch (session_after to) c'
+  pub shares : SharesIndices new c'
+  pub flat : IsFlat c'.parts
+  pub moved : Moved c c'
+  pub same : SameClauses c.parts c'.parts
+  pub word : TrailWordExtendsFor (assumed_in c) c.parts c'.parts
+  pub asked : KeepsAsked old new (session_after from) (session_after to)
+  pub unset : (v : ℕ) → value_of c.parts.assignment.current v ≡ None → value_of c'.parts.assignment.current v ≡ None
+  pub fewer : (x v : ℕ) → global_at new x ≡ Some v → global_at old x ≡ Some v
+
+-- a variable that still has this index is assumed
+abbrev pub IsLeft : Variables → Session → ℕ → Type 0
+IsLeft n s x = (v : ℕ) → global_at n x ≡ Some v → mentions s.assumed v ≡ true
+
+-- of the first so many indices each is of a variable that a clause has, or that is assumed
+abbrev pub AreLeft : Variables → Session → Parts → ℕ → Type 0
+AreLeft n s p at = (x : ℕ) → x < at → InNoClause p x → IsLeft n s x
+
+-- the same of all indices
+abbrev pub AllLeft : Variables → Session → Parts → Type 0
+AllLeft n s p = AreLeft n s p (length p.assignment.current)

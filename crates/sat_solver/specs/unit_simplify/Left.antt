@@ -1,0 +1,29 @@
+-- What the parts of a search are left as.
+use Rattle.std.specs.Prelude.{ℕ, ◌≡◌, [], length}
+use Rattle.sat_parts.specs.clause.Db.{live_refs}
+use Rattle.sat_parts.specs.declared.parts.Parts.{Parts}
+use Rattle.sat_parts.specs.declared.parts.assumptions.Assumptions.{Assumptions}
+use Rattle.sat_parts.specs.parts.Assumed.{ArePlaced}
+use Rattle.sat_parts.specs.parts.Whole.{state, IsDone}
+use Rattle.sat_parts.specs.parts.Words.{TrailWordExtends}
+use Rattle.sat_solver.specs.session.Session.{Session}
+use Rattle.sat_solver.specs.session.Fits.{Stands}
+use Rattle.sat_solver.specs.session.Units.{FitsAll}
+
+-- every literal of level 0 is a unit of the session
+abbrev pub AllUnits : Parts → Session → (ℕ → ℕ) → Type 0
+AllUnits p s global = FitsAll p.clauses (live_refs p.clauses p.db.refs) p.binary.implied (state p) s global
+
+-- the variables are as many
+abbrev pub SameSize : Parts → Parts → Type 0
+SameSize p p' = length p'.assignment.current ≡ length p.assignment.current
+
+-- nothing is to be propagated, and at level 0 nothing is on the trail
+pub record IsSettled (p p' : Parts) (s : Session) (global : ℕ → ℕ) : Type 0 where
+  pub stands : Stands p' s global
+  pub done : IsDone p'
+  pub starts : p'.trail.starts ≡ p.trail.starts
+  pub empty : p.trail.starts ≡ [] → p'.trail.lits ≡ []
+  pub word : TrailWordExtends p p'
+  pub size : SameSize p p'
+  pub placed : (a : Assumptions) → ArePlaced a (state p) → ArePlaced a (state p')

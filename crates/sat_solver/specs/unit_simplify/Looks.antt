@@ -1,0 +1,23 @@
+-- What a clause looks like at level 0.
+use Rattle.std.specs.Prelude.{ℕ, ◌<◌}
+use Rattle.sat_parts.specs.clause.Stored.{lit_of, size_of}
+use Rattle.sat_parts.specs.prop.Values.{IsTrueLit, IsFalseLit, IsOpenLit}
+use Rattle.sat_parts.specs.declared.parts.Parts.{Parts}
+use Rattle.sat_solver.specs.declared.unit_simplify.looks.Looks.{Looks}
+use Rattle.sat_solver.specs.declared.unit_simplify.looks.Looks.TheVariants.{Satisfied, Whole, Shorter}
+
+-- one of its literals is true
+abbrev pub HasTrue : Parts → ℕ → Type 0
+HasTrue p o = (k : ℕ) × ((k < size_of p.clauses o) × IsTrueLit p.assignment.current (lit_of p.clauses o k))
+
+abbrev pub HasFalse : Parts → ℕ → Type 0
+HasFalse p o = (k : ℕ) × ((k < size_of p.clauses o) × IsFalseLit p.assignment.current (lit_of p.clauses o k))
+
+-- none of its literals has a value
+abbrev pub IsOpenAt : Parts → ℕ → Type 0
+IsOpenAt p o = (k : ℕ) → k < size_of p.clauses o → IsOpenLit p.assignment.current (lit_of p.clauses o k)
+
+abbrev pub LooksSo : Looks → Parts → ℕ → Type 0
+LooksSo Satisfied p o = HasTrue p o
+LooksSo Whole p o = IsOpenAt p o
+LooksSo Shorter p o = (HasTrue p o → ⊥) × HasFalse p o

@@ -1,0 +1,82 @@
+-- What a call over names leaves of names, proof and judge.
+use Rattle.std.specs.Prelude.{ℕ, ◌+◌, ◌==◌, ◌≡◌, max, false, Some, List, [], ◌∷◌, map, if◌then◌else◌}
+use Rattle.sat_base.specs.script.Judge.{Judge, with_name, with_names, new_names, bring_in}
+use Rattle.sat_base.specs.steps.Steps.{Step, UserVarName}
+use Rattle.sat_solver.specs.session.Session.{MayAll, session_after}
+use Rattle.sat_checker.specs.matching.Bridge.{Live, IsBridge}
+use Rattle.sat_solver.specs.variables.Variables.{AreTidy, AreSaid, AreJudged, global_of, names_used}
+use Rattle.sat_checker.specs.matching.Checking.{variable_of}
+use Rattle.sat_checker.specs.matching.ProofChecking.{the_checking}
+use Rattle.sat_checker.specs.matching.Expected.{Expected, NewName}
+use Rattle.sat_checker.specs.matching.Traces.{HasTrace}
+use Rattle.sat_solver.specs.variables.Naming.{Extends}
+use Rattle.sat_solver.specs.variables.Search.{IsUnseen}
+use Rattle.sat_solver.specs.session.Coming.{OnlyAllowedSteps}
+use Rattle.sat_solver.specs.variables.Coming.{IsDue, IsNextVariable}
+use Rattle.sat_solver.specs.variables.Room.{live_count, LeavesRoom}
+use Rattle.sat_solver.specs.declared.variables.Variables.{Variables}
+
+-- what stands between calls, whatever the judge says: the names fit together, and are what the steps have said, each of which may be written
+pub record NamesInvariant (n : Variables) (steps : List Step) : Type 0 where
+  pub tidy : AreTidy n
+  pub said : AreSaid n (session_after steps)
+  pub may : MayAll steps
+  -- names as matching reads them from the steps
+  pub read : (u : ℕ) → variable_of steps (u + 1) ≡ global_of n u
+
+-- the names and the steps are what the judge says
+pub record Agree (n : Variables) (steps : List Step) (j : Judge) (live : Live) : Type 0 where
+  pub judged : AreJudged n j live
+  pub bridge : IsBridge the_checking j steps live
+
+-- some state of the judge
+abbrev pub HasJudge : Variables → List Step → Type 0
+HasJudge n steps = (j : Judge) × (live : Live) × Agree n steps j live
+
+-- the judge's state is this from here on, and the steps' trace is what was expected
+pub record Kept (new : Variables) (from to : List Step) (j : Judge) (es : List Expected) : Type 0 where
+  pub live : Live
+  pub agree : Agree new to j live
+  pub trace : HasTrace the_checking from to es
+
+-- a name was given to a variable that wasn't known
+pub record NamesOne (old new : Variables) (from to : List Step) (user v : ℕ) : Type 0 where
+  pub stands : NamesInvariant new to
+  pub named : (u : ℕ) → global_of new u ≡ (if u == user then Some v else global_of old u)
+  pub used : names_used new ≡ max (names_used old) (user + 1)
+  pub step : to ≡ UserVarName v (Some user) ∷ from
+  pub kept : (j : Judge) (live : Live) → Agree old from j live → Agree new to (with_name (user + 1) j) ((v, j.next_identity) ∷ live)
+  pub unknown : the_checking.knows from v ≡ false
+  pub live : live_count new ≡ live_count old + 1
+  pub next : IsNextVariable (session_after from) user v
+  pub extends : Extends old new
+  pub unseen : IsUnseen old new from to
+
+-- these names came in, in order
+pub record NamesAll (old new : Variables) (from to : List Step) (names : List ℕ) : Type 0 where
+  pub stands : NamesInvariant new to
+  pub extends : Extends old new
+  pub unseen : IsUnseen old new from to
+  pub comes : OnlyAllowedSteps IsDue from to
+  pub kept : (j : Judge) (live : Live) → Agree old from j live → Kept new from to (with_names names j) (map NewName names)
+
+-- what a call does to the judge's state, and which steps it has to write for it, whatever others come between
+pub record NamesRefineJudge (old new : Variables) (from to : List Step) (judge : Judge → Judge) (due : Judge → List Expected) : Type 0 where
+  pub stands : NamesInvariant new to
+  pub kept : (j : Judge) (live : Live) → Agree old from j live → Kept new from to (judge j) (due j)
+
+-- a name was brought in
+abbrev pub BringsIn : Variables → Variables → List Step → List Step → ℕ → Type 0
+BringsIn old new from to user = NamesRefineJudge old new from to (bring_in (user + 1)) (λ j. map NewName (new_names (user + 1) j))
+
+-- the same, and the search sees nothing of it
+pub record Brought (old new : Variables) (from to : List Step) (user : ℕ) : Type 0 where
+  pub brings : BringsIn old new from to user
+  pub extends : Extends old new
+  pub unseen : IsUnseen old new from to
+  pub comes : OnlyAllowedSteps IsDue from to
+  pub room : LeavesRoom old new user
+
+-- the judge sees nothing of it
+abbrev pub DoesNothing : Variables → Variables → List Step → List Step → Type 0
+DoesNothing old new from to = NamesRefineJudge old new from to (λ j. j) (λ j. [])

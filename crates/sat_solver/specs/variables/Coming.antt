@@ -1,0 +1,71 @@
+-- Which steps a call over names makes. Lists of steps have the newest first.
+use Rattle.std.specs.Prelude.{ℕ, ◌≡◌, ◌≢◌, ◌<◌, ◌⊎◌, Bool, true, false, Option, None, Some, List, ◌∷◌}
+use Rattle.sat_base.specs.script.Script.{Among}
+use Rattle.sat_base.specs.steps.Steps.{Step, SolverVarName, UserVarName, DeleteVar, ChangeSamplingMode, DeleteClause, ChangeHashBits}
+use Rattle.sat_checker.specs.Stored.{Mode, Sample, Witness}
+use Rattle.sat_solver.specs.session.Coming.{DeletesAdded}
+use Rattle.sat_solver.specs.session.Session.{Session, session_after}
+use Rattle.sat_checker.specs.matching.Checking.{is_ordered, variable_of}
+use Rattle.sat_solver.specs.variables.Variables.{data_at, solver_of}
+use Rattle.sat_solver.specs.declared.variables.Variables.{Variables}
+
+-- a new name's variable: the one of the name's own number where that isn't known, else the lowest one that isn't
+abbrev pub IsNextVariable : Session → ℕ → ℕ → Type 0
+IsNextVariable s user v = ((s.variables user).known ≡ false → v ≡ user) × ((s.variables user).known ≡ true → ((s.variables v).known ≡ false) × ((w : ℕ) → w < v → (s.variables w).known ≡ true))
+
+-- an index: the lowest one that no variable has
+abbrev pub IsNextSolver : Session → Option ℕ → Type 0
+IsNextSolver s None = ⊥
+IsNextSolver s (Some x) = ((v : ℕ) → s.solver_names v ≡ Some x → ⊥) × ((y : ℕ) → y < x → (v : ℕ) × (s.solver_names v ≡ Some y))
+
+-- an ordered step
+abbrev pub IsDue : List Step → Step → Type 0
+IsDue earlier (UserVarName v (Some user)) = IsNextVariable (session_after earlier) user v
+IsDue earlier step = is_ordered step ≡ true
+
+-- beside ordered steps and widths, an index for the variable of one of these names, where it has none
+abbrev pub MayTake : List ℕ → List Step → Step → Type 0
+MayTake names earlier (SolverVarName v index) = IsNextSolver (session_after earlier) index × ((session_after earlier).solver_names v ≡ None) × ((name : ℕ) × Among name names × (variable_of earlier name ≡ Some v))
+MayTake names earlier (ChangeHashBits bits) = Unit {0}
+MayTake names earlier step = IsDue earlier step
+
+-- and the clause itself is deleted, right behind its step, where a literal of it is true already
+abbrev pub MayAdd : List ℕ → List Step → Step → Type 0
+MayAdd names earlier (DeleteClause clause proof) = DeletesAdded earlier (DeleteClause clause proof)
+MayAdd names earlier step = MayTake names earlier step
+
+-- the last step took the name of this variable, which has no index
+pub record IsHiddenLast (earlier : List Step) (v : ℕ) : Type 0 where
+  pub before : List Step
+  pub last : earlier ≡ UserVarName v None ∷ before
+  pub without : (session_after earlier).solver_names v ≡ None
+
+-- beside ordered steps, the variable that has lost its name by the step before goes, where it has no index
+abbrev pub MayHide : List Step → Step → Type 0
+MayHide earlier (DeleteVar v) = IsHiddenLast earlier v
+MayHide earlier step = IsDue earlier step
+
+-- no such variable is left: it goes right behind the step that takes its name
+abbrev pub LeavesNoneIdle : List Step → Type 0
+LeavesNoneIdle steps = (v : ℕ) → IsHiddenLast steps v → ⊥
+
+-- the mode of a variable that a step says
+abbrev pub mode_said : Bool → Mode
+mode_said true = Sample
+mode_said false = Witness
+
+-- the variable has another mode
+abbrev pub TurnsMode : Session → ℕ → Bool → Type 0
+TurnsMode s v sample = (s.variables v).mode ≢ mode_said sample
+
+-- beside ordered steps, this mode for the variable of this name, where it has another: so none where it has it, and no second one
+abbrev pub MaySet : ℕ → Bool → List Step → Step → Type 0
+MaySet name sample earlier (ChangeSamplingMode v mode) = (variable_of earlier name ≡ Some v) × (mode ≡ sample) × TurnsMode (session_after earlier) v mode
+MaySet name sample earlier step = IsDue earlier step
+
+-- INSIDE
+
+-- a hidden variable without an index that isn't assumed went, and no other one
+abbrev pub ForgetsIdle : Variables → List Step → List Step → ℕ → Type 0
+ForgetsIdle n from to v =
+    ((to ≡ DeleteVar v ∷ from) × (solver_of n v ≡ None)) ⊎ ((to ≡ from) × (((data_at n v).assumed ≡ true) ⊎ (solver_of n v ≢ None)))

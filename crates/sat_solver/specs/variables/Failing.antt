@@ -1,0 +1,43 @@
+-- How calls over names end, in what takes their steps.
+use Rattle.std.specs.Prelude.{ℕ, ◌≡◌, List, Result, Ok, Err, IfErr}
+use Rattle.sat_solver.specs.declared.variables.error.NameError.{NameError}
+use Rattle.sat_solver.specs.declared.variables.error.NameError.TheVariants as errors
+use Rattle.sat_solver.specs.variables.Naming.{NoneLeft}
+use Rattle.sat_solver.specs.variables.Room.{HasRoom}
+use Rattle.sat_solver.specs.declared.variables.Variables.{Variables}
+
+-- want of memory, or a fault of what takes the steps
+abbrev pub IsFailure : NameError → Type 0
+IsFailure errors.VariableLimit = ⊥
+IsFailure errors.OutOfMemory = Unit {0}
+IsFailure (errors.Write cause) = Unit {0}
+IsFailure (errors.Check fault) = Unit {0}
+
+-- where a variable is left for each name that comes in with these, an error is want of memory or a fault of what takes the steps
+abbrev pub OnlyFails : {A : Type 0} → Result A NameError → Variables → (users : List ℕ) → Type 0
+OnlyFails r n users = HasRoom n users → IfErr r IsFailure
+
+-- It came from there to this fault, which no mode decides: where a step wasn't taken, that was the last.
+abbrev pub EmitsUpTo : {W : Type 0} → (took : W → W → Type 0) (broke : W → NameError → W → Type 0) → W → NameError → W → Type 0
+EmitsUpTo took broke w errors.VariableLimit new = took w new
+EmitsUpTo took broke w errors.OutOfMemory new = took w new
+EmitsUpTo took broke w (errors.Write cause) new = broke w (errors.Write cause) new
+EmitsUpTo took broke w (errors.Check fault) new = broke w (errors.Check fault) new
+
+-- All steps that were made were taken, but for the last one of a call that answers so.
+abbrev pub EmitsOrFails : {A W : Type 0} → (took : W → W → Type 0) (broke : W → NameError → W → Type 0) → Result A NameError → W → W → Type 0
+EmitsOrFails took broke (Ok x) old new = (w : _) → took w old → took w new
+EmitsOrFails took broke (Err e) old new = (w : _) → took w old → EmitsUpTo took broke w e new
+
+-- nothing has changed, and every variable is in use
+pub record IsFull {W : Type 0} (old new : Variables) (from to : W) : Type 0 where
+  pub names : new ≡ old
+  pub steps : to ≡ from
+  pub none : NoneLeft old
+
+-- no variable is left, exactly where it is so; else want of memory or a fault of what takes the steps
+abbrev pub Limits : {W : Type 0} → NameError → Variables → Variables → W → W → Type 0
+Limits errors.VariableLimit old new from to = IsFull old new from to
+Limits errors.OutOfMemory old new from to = NoneLeft old → ⊥
+Limits (errors.Write cause) old new from to = NoneLeft old → ⊥
+Limits (errors.Check fault) old new from to = NoneLeft old → ⊥

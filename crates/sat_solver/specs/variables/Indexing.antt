@@ -1,0 +1,33 @@
+-- A variable that has an index of the search from here on.
+use Rattle.std.specs.Prelude.{ℕ, ◌==◌, ◌≡◌, ◌⊎◌, ◌∷◌, ◌++◌, Some, None, List, if◌then◌else◌}
+use Rattle.sat_base.specs.steps.Steps.{Step, SolverVarName}
+use Rattle.sat_solver.specs.session.Session.{session_after}
+use Rattle.sat_solver.specs.variables.Variables.{solver_of, indices_used}
+use Rattle.sat_solver.specs.variables.Naming.{IsNextIndex}
+use Rattle.sat_solver.specs.variables.Calls.{DoesNothing}
+use Rattle.sat_solver.specs.variables.Search.{KeepsSearch, Gives}
+use Rattle.sat_solver.specs.declared.variables.solver_vars.Given.{Given}
+use Rattle.sat_solver.specs.declared.variables.Variables.{Variables}
+
+-- The variable has the index, and where it was given it just now, it stands at the end of the list of those given.
+pub record Indexes (old new : Variables) (from to : List Step) (before after : List Given) (v x : ℕ) : Type 0 where
+  pub does : DoesNothing old new from to
+  pub has : solver_of new v ≡ Some x
+  pub users : new.global_from_user ≡ old.global_from_user
+  pub kept : new.var_data ≡ old.var_data
+  pub search : KeepsSearch (session_after from) (session_after to)
+  pub fresh : List Given
+  pub listed : after ≡ before ++ fresh
+  pub gives : Gives old new (session_after from) fresh
+  pub step : (to ≡ from) ⊎ ((to ≡ SolverVarName v (Some x) ∷ from) × (solver_of old v ≡ None) × IsNextIndex old x)
+
+-- The variable has no index from here on.
+pub record Unindexes (old new : Variables) (from to : List Step) (v x : ℕ) : Type 0 where
+  pub does : DoesNothing old new from to
+  pub step : to ≡ SolverVarName v None ∷ from
+  pub solvers : (w : ℕ) → solver_of new w ≡ (if w == v then None else solver_of old w)
+  pub globals : new.globals ≡ old.globals
+  pub used : indices_used new ≡ indices_used old
+  pub users : new.global_from_user ≡ old.global_from_user
+  pub kept : new.var_data ≡ old.var_data
+  pub search : KeepsSearch (session_after from) (session_after to)

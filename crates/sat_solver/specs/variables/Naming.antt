@@ -1,0 +1,158 @@
+-- What calls over names change and write.
+use Rattle.std.specs.Prelude.{ℕ, ◌+◌, ◌<◌, ◌≤◌, ◌==◌, ◌≡◌, ◌≢◌, max, Bool, true, false, not, Option, None, Some, length, get_or, ◌&&◌, get_or, ◌&&◌, if◌then◌else◌}
+use Rattle.sat_base.specs.values.Literals.{largest}
+use Rattle.sat_base.specs.script.Judge.{Judge, identity_of}
+use Rattle.sat_store.specs.variables.VarData.{user_variable, unused_variable}
+use Rattle.sat_store.specs.variables.Maps.{AreInverse, Links, Unlinks}
+use Rattle.sat_store.specs.declared.data.SamplingMode.{SamplingMode}
+use Rattle.sat_store.specs.declared.data.SamplingMode.TheVariants as kept
+use Rattle.sat_solver.specs.variables.Free.{is_free, Spans}
+use Rattle.sat_solver.specs.variables.Variables.{data_at, global_of, names_used, variables_used, solver_of, global_at, indices_used}
+use Rattle.sat_solver.specs.declared.variables.Variables.{Variables}
+
+-- the variable for the name: that of its own number where no name in use or hidden one has it, else the lowest free one
+pub record IsRoom (n : Variables) (user v : ℕ) : Type 0 where
+  pub unused : (data_at n v).deleted ≡ true
+  pub within : v ≤ variables_used n
+  pub own : (data_at n user).deleted ≡ true → v ≡ user
+  pub lowest : (data_at n user).deleted ≡ false → (w : ℕ) → w < v → (data_at n w).deleted ≡ false
+
+-- every variable is in use
+abbrev pub NoneLeft : Variables → Type 0
+NoneLeft n = (v : ℕ) → v < largest → (data_at n v).deleted ≡ false
+
+-- every name is in use
+pub record NamesFull (n : Variables) : Type 0 where
+  pub used : names_used n ≡ largest
+  pub all : (u : ℕ) → u < names_used n → global_of n u ≡ None → ⊥
+
+-- a name was given to a new variable
+pub record PutsName (old new : Variables) (user v : ℕ) : Type 0 where
+  pub users : Links old.global_from_user new.global_from_user user v
+  pub inverse : AreInverse new.global_from_user
+  pub solvers : new.solver_from_global ≡ old.solver_from_global
+  pub globals : new.globals ≡ old.globals
+  pub kept : (w : ℕ) → data_at new w ≡ (if w == v then user_variable else data_at old w)
+  pub count : variables_used new ≡ max (variables_used old) (v + 1)
+  pub free_users : (u : ℕ) → is_free new.free_users u ≡ (if u == user then false else is_free old.free_users u)
+  pub free_globals : (w : ℕ) → is_free new.free_globals w ≡ (if w == v then false else is_free old.free_globals w)
+  pub free_solvers : new.free_solvers ≡ old.free_solvers
+  pub spans_users : Spans new.free_users (names_used new)
+  pub spans_globals : Spans new.free_globals (variables_used new)
+
+-- a variable got an index, or lost it
+pub record PutsIndex (old new : Variables) (v x : ℕ) (there : Bool) : Type 0 where
+  pub solvers : (w : ℕ) → solver_of new w ≡ (if w == v then (if there then Some x else None) else solver_of old w)
+  pub globals : (y : ℕ) → global_at new y ≡ (if y == x then (if there then Some v else None) else global_at old y)
+  pub used : indices_used new ≡ (if there then max (indices_used old) (x + 1) else indices_used old)
+  pub inverse : AreInverse new.solver_from_global
+  pub globals_count : length new.globals.items ≡ indices_used new
+  pub listed : (y : ℕ) → get_or new.globals.items y 0 ≡ (if there && (y == x) then v else get_or old.globals.items y 0)
+  pub users : new.global_from_user ≡ old.global_from_user
+  pub kept : new.var_data ≡ old.var_data
+  pub free_users : new.free_users ≡ old.free_users
+  pub free_globals : new.free_globals ≡ old.free_globals
+  pub free_solvers : (y : ℕ) → is_free new.free_solvers y ≡ (if y == x then not there else is_free old.free_solvers y)
+  pub spans_solvers : Spans new.free_solvers (indices_used new)
+
+-- a variable lost its name, and is hidden
+pub record PutsHidden (old new : Variables) (user v : ℕ) : Type 0 where
+  pub users : Unlinks old.global_from_user new.global_from_user user v
+  pub inverse : AreInverse new.global_from_user
+  pub solvers : new.solver_from_global ≡ old.solver_from_global
+  pub globals : new.globals ≡ old.globals
+  pub kept : (w : ℕ) → data_at new w ≡ (if w == v then record (data_at old v) { sampling_mode = kept.Hide } else data_at old w)
+  pub count : variables_used new ≡ variables_used old
+  pub free_users : (u : ℕ) → is_free new.free_users u ≡ (if u == user then true else is_free old.free_users u)
+  pub free_globals : new.free_globals ≡ old.free_globals
+  pub free_solvers : new.free_solvers ≡ old.free_solvers
+  pub spans_users : Spans new.free_users (names_used new)
+
+-- a variable has another mode
+pub record PutsMode (old new : Variables) (v : ℕ) (mode : SamplingMode) : Type 0 where
+  pub users : new.global_from_user ≡ old.global_from_user
+  pub solvers : new.solver_from_global ≡ old.solver_from_global
+  pub globals : new.globals ≡ old.globals
+  pub kept : (w : ℕ) → data_at new w ≡ (if w == v then record (data_at old v) { sampling_mode = mode } else data_at old w)
+  pub count : variables_used new ≡ variables_used old
+  pub free_users : new.free_users ≡ old.free_users
+  pub free_globals : new.free_globals ≡ old.free_globals
+  pub free_solvers : new.free_solvers ≡ old.free_solvers
+
+-- a variable is no longer in use
+pub record PutsDeleted (old new : Variables) (v : ℕ) : Type 0 where
+  pub users : new.global_from_user ≡ old.global_from_user
+  pub solvers : new.solver_from_global ≡ old.solver_from_global
+  pub globals : new.globals ≡ old.globals
+  pub kept : (w : ℕ) → data_at new w ≡ (if w == v then unused_variable else data_at old w)
+  pub count : variables_used new ≡ variables_used old
+  pub free_users : new.free_users ≡ old.free_users
+  pub free_globals : (w : ℕ) → is_free new.free_globals w ≡ (if w == v then true else is_free old.free_globals w)
+  pub free_solvers : new.free_solvers ≡ old.free_solvers
+  pub spans_globals : Spans new.free_globals (variables_used new)
+
+-- names in use keep their variables and modes, and those that came in are sampled, on variables that weren't in use
+pub record Extends (old new : Variables) : Type 0 where
+  pub stays : (u v : ℕ) → global_of old u ≡ Some v → (global_of new u ≡ Some v) × ((data_at new v).sampling_mode ≡ (data_at old v).sampling_mode)
+  pub came : (u v : ℕ) → global_of old u ≡ None → global_of new u ≡ Some v → (data_at new v).sampling_mode ≡ kept.Sample
+  pub fresh : (u v : ℕ) → global_of old u ≡ None → global_of new u ≡ Some v → (data_at old v).deleted ≡ true
+  pub lives : (v : ℕ) → (data_at old v).deleted ≡ false → (data_at new v).deleted ≡ false
+
+-- a name in use has the variable that it had, or one that wasn't in use
+pub record AreFresh (old new : Variables) : Type 0 where
+  pub same : (u v w : ℕ) → global_of old u ≡ Some v → global_of new u ≡ Some w → w ≡ v
+  pub fresh : (u v : ℕ) → global_of old u ≡ None → global_of new u ≡ Some v → (data_at old v).deleted ≡ true
+
+-- names in use keep their variables
+abbrev pub KeepsNames : Variables → Variables → Type 0
+KeepsNames old new = (u v : ℕ) → global_of old u ≡ Some v → global_of new u ≡ Some v
+
+-- names in use keep their variables, but for this one
+abbrev pub KeepsOthers : Variables → Variables → ℕ → Type 0
+KeepsOthers old new user = (u v : ℕ) → u ≢ user → global_of old u ≡ Some v → global_of new u ≡ Some v
+
+-- maps and free indices are as they were
+pub record SameMaps (old new : Variables) : Type 0 where
+  pub users : new.global_from_user ≡ old.global_from_user
+  pub solvers : new.solver_from_global ≡ old.solver_from_global
+  pub globals : new.globals ≡ old.globals
+  pub count : variables_used new ≡ variables_used old
+  pub free_users : new.free_users ≡ old.free_users
+  pub free_globals : new.free_globals ≡ old.free_globals
+  pub free_solvers : new.free_solvers ≡ old.free_solvers
+
+-- the value of a variable's unit is known
+pub record PutsUnit (old new : Variables) (v : ℕ) (value : Option Bool) : Type 0 where
+  pub maps : SameMaps old new
+  pub kept : (w : ℕ) → data_at new w ≡ (if w == v then record (data_at old v) { unit = value } else data_at old w)
+
+-- the name that comes next: the lowest one not in use
+pub record IsNextUser (n : Variables) (user : ℕ) : Type 0 where
+  pub unused : global_of n user ≡ None
+  pub reach : user ≤ names_used n
+  pub lowest : (m : ℕ) → m < user → global_of n m ≡ None → ⊥
+
+-- the same, as the judge has it: the lowest hidden name, else the first never used
+pub record IsLowestUnused (j : Judge) (name : ℕ) : Type 0 where
+  pub named : 0 < name
+  pub unused : identity_of j name ≡ None
+  pub lowest : (m : ℕ) → 0 < m → m < name → identity_of j m ≡ None → ⊥
+
+-- a hidden variable has a name again, and mode witness
+pub record PutsObserved (old new : Variables) (user v : ℕ) : Type 0 where
+  pub users : Links old.global_from_user new.global_from_user user v
+  pub inverse : AreInverse new.global_from_user
+  pub solvers : new.solver_from_global ≡ old.solver_from_global
+  pub globals : new.globals ≡ old.globals
+  pub kept : (w : ℕ) → data_at new w ≡ (if w == v then record (data_at old v) { sampling_mode = kept.Witness } else data_at old w)
+  pub count : variables_used new ≡ variables_used old
+  pub free_users : (u : ℕ) → is_free new.free_users u ≡ (if u == user then false else is_free old.free_users u)
+  pub free_globals : new.free_globals ≡ old.free_globals
+  pub free_solvers : new.free_solvers ≡ old.free_solvers
+  pub spans_users : Spans new.free_users (names_used new)
+
+-- the index that comes next: the lowest one that no variable has
+pub record IsNextIndex (n : Variables) (x : ℕ) : Type 0 where
+  pub free : global_at n x ≡ None
+  pub reach : x ≤ indices_used n
+  pub lowest : (y : ℕ) → y < x → global_at n y ≡ None → ⊥

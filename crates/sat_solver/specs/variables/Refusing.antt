@@ -1,0 +1,20 @@
+-- Which calls over literals are refused.
+use Rattle.std.specs.Prelude.{ℕ, ◌+◌, ◌≡◌, true, Option, None, Some, List, map}
+use Rattle.sat_base.specs.values.Literals.{variable}
+use Rattle.sat_solver.specs.variables.Variables.{data_at, global_of}
+use Rattle.sat_solver.specs.declared.variables.Variables.{Variables}
+use Rattle.sat_base.specs.script.Judge.{Refusal, WitnessName}
+
+-- the names of literals
+abbrev pub names_in : List ℕ → List ℕ
+names_in = map (λ l. variable l + 1)
+
+abbrev pub as_refusal : Option ℕ → Option Refusal
+as_refusal None = None
+as_refusal (Some user) = Some (WitnessName (user + 1))
+
+-- the name is in use, and an assumption has it
+pub record IsAssumed (n : Variables) (user : ℕ) : Type 0 where
+  pub variable_is : ℕ
+  pub named : global_of n user ≡ Some variable_is
+  pub marked : (data_at n variable_is).assumed ≡ true

@@ -1,0 +1,81 @@
+-- What the search sees of calls over names.
+use Rattle.std.specs.Prelude.{ℕ, ◌≤◌, ◌≡◌, ◌≢◌, ◌⊎◌, ◌&&◌, ◌==◌, not, Bool, true, Some, None, List, [], ◌∷◌}
+use Rattle.std.specs.List.{AllByRecursion}
+use Rattle.sat_base.specs.values.Literals.{coded, variable}
+use Rattle.sat_base.specs.values.Clauses.{Valuation}
+use Rattle.sat_base.specs.steps.Steps.{Step}
+use Rattle.sat_checker.specs.Fold.{Holds}
+use Rattle.sat_checker.specs.LiteralSets.{mentions}
+use Rattle.sat_solver.specs.session.Session.{Session, session_after}
+use Rattle.sat_solver.specs.variables.Variables.{global_of, global_at, solver_of, indices_used, says_unit}
+use Rattle.sat_solver.specs.declared.variables.solver_vars.Given.{Given}
+use Rattle.sat_solver.specs.declared.variables.Variables.{Variables}
+
+-- clauses, units and assumptions of the session are as they were
+pub record KeepsSearch (s t : Session) : Type 0 where
+  pub live : t.live ≡ s.live
+  pub units : t.units ≡ s.units
+  pub unsat : t.unsat ≡ s.unsat
+  pub width : t.width ≡ s.width
+  pub assumed : t.assumed ≡ s.assumed
+
+-- the same, but that a variable's units are forgotten
+pub record Forgets (s t : Session) (v : ℕ) : Type 0 where
+  pub live : t.live ≡ s.live
+  pub units : (l : ℕ) → t.units l ≡ (s.units l && not (variable l == v))
+  pub unsat : t.unsat ≡ s.unsat
+  pub width : t.width ≡ s.width
+  pub assumed : t.assumed ≡ s.assumed
+
+-- neither the session's clauses nor the search's indices have changed, and each valuation that is left was left before
+pub record IsUnseen (old new : Variables) (from to : List Step) : Type 0 where
+  pub solvers : new.solver_from_global ≡ old.solver_from_global
+  pub globals : new.globals ≡ old.globals
+  pub search : KeepsSearch (session_after from) (session_after to)
+  pub leaves : (a : Valuation) → Holds to a → Holds from a
+
+-- A variable came to have this index, which no variable had, and this is its unit.
+pub record IsGiven (old new : Variables) (s : Session) (g : Given) : Type 0 where
+  pub variable : ℕ
+  pub without : solver_of old variable ≡ None
+  pub free : global_at old g.solver ≡ None
+  pub taken : global_at new g.solver ≡ Some variable
+  pub unit : (b : Bool) → s.units (coded variable b) ≡ says_unit g.unit b
+
+-- no index is given twice
+abbrev pub GivenApart : List Given → Type 0
+GivenApart [] = Unit {0}
+GivenApart (g ∷ gs) = AllByRecursion (λ h. h.solver ≢ g.solver) gs × GivenApart gs
+
+-- the index is among those given
+abbrev pub HasGiven : List Given → ℕ → Type 0
+HasGiven [] x = ⊥
+HasGiven (g ∷ gs) x = (g.solver ≡ x) ⊎ HasGiven gs x
+
+-- Indices were given, these and no others, and none was taken away.
+pub record Gives (old new : Variables) (s : Session) (gs : List Given) : Type 0 where
+  pub stays : (v x : ℕ) → solver_of old v ≡ Some x → solver_of new v ≡ Some x
+  pub each : AllByRecursion (IsGiven old new s) gs
+  pub apart : GivenApart gs
+  pub others : (v x : ℕ) → solver_of new v ≡ Some x → (solver_of old v ≡ Some x) ⊎ HasGiven gs x
+  pub used : indices_used old ≤ indices_used new
+
+-- units of variables with names are as they were
+abbrev pub KeepsUnits : Variables → List Step → List Step → Type 0
+KeepsUnits new from to = (u v : ℕ) (b : Bool) → global_of new u ≡ Some v → (session_after to).units (coded v b) ≡ (session_after from).units (coded v b)
+
+-- some valuation that these steps leave has the same values for the variables of these literals
+abbrev pub IsLeftOn : List Step → List ℕ → Valuation → Type 0
+IsLeftOn steps ls a = (b : Valuation) × Holds steps b × ((v : ℕ) → mentions ls v ≡ true → b v ≡ a v)
+
+-- All that the search may see is as it was: units are forgotten at most of a variable that has no index. What a valuation that is left
+-- says of the assumptions was said before.
+pub record IsAlike (old new : Variables) (from to : List Step) : Type 0 where
+  pub solvers : new.solver_from_global ≡ old.solver_from_global
+  pub globals : new.globals ≡ old.globals
+  pub live : (session_after to).live ≡ (session_after from).live
+  pub units : (v x : ℕ) (b : Bool) → solver_of old v ≡ Some x → (session_after to).units (coded v b) ≡ (session_after from).units (coded v b)
+  pub unsat : (session_after to).unsat ≡ (session_after from).unsat
+  pub width : (session_after to).width ≡ (session_after from).width
+  pub assumed : (session_after to).assumed ≡ (session_after from).assumed
+  pub leaves : (a : Valuation) → Holds to a → IsLeftOn from (session_after from).assumed a

@@ -1,0 +1,39 @@
+-- Steps of the search, and what they leave of the names.
+use Rattle.std.specs.Prelude.{ℕ, ◌≡◌, ◌∷◌, Bool, false, Option, Some, List, map}
+use Rattle.std.specs.List.{AllByRecursion}
+use Rattle.sat_base.specs.values.Literals.{variable}
+use Rattle.sat_base.specs.script.Judge.{Judge}
+use Rattle.sat_base.specs.steps.Steps.{Step, AtClause, UnitClauses, DeleteClause, ChangeHashBits, Model, FailedAssumptions, End}
+use Rattle.sat_solver.specs.session.Session.{May, session_after}
+use Rattle.sat_checker.specs.matching.Bridge.{Live}
+use Rattle.sat_solver.specs.variables.Variables.{data_at, solver_of}
+use Rattle.sat_solver.specs.variables.Naming.{PutsUnit}
+use Rattle.sat_solver.specs.variables.Calls.{NamesInvariant, Agree}
+use Rattle.sat_solver.specs.declared.variables.Variables.{Variables}
+
+-- over variables that have indices
+abbrev pub AreIndexed : Variables → List ℕ → Type 0
+AreIndexed n = AllByRecursion (λ l. (x : ℕ) × (solver_of n (variable l) ≡ Some x))
+
+-- a step of the search's, over variables that have indices; a model's are in use
+abbrev pub IsOfSearch : Variables → Step → Type 0
+IsOfSearch n (AtClause redundant clause hashes) = AreIndexed n clause
+IsOfSearch n (UnitClauses us) = AreIndexed n (map (λ u. u.0) us)
+IsOfSearch n (DeleteClause clause proof) = Unit {0}
+IsOfSearch n (ChangeHashBits bits) = Unit {0}
+IsOfSearch n (Model ls) = AllByRecursion (λ l. (data_at n (variable l)).deleted ≡ false) ls
+IsOfSearch n (FailedAssumptions core hashes) = Unit {0}
+IsOfSearch n End = Unit {0}
+IsOfSearch n step = ⊥
+
+-- Names stand as they did behind such a step.
+abbrev pub SearchesStand : Type 0
+SearchesStand = (n : Variables) (steps : List Step) (step : Step) → NamesInvariant n steps → May (session_after steps) step → IsOfSearch n step → NamesInvariant n (step ∷ steps)
+
+-- The judge is the same behind it.
+abbrev pub SearchesAgree : Type 0
+SearchesAgree = (n : Variables) (steps : List Step) (step : Step) → NamesInvariant n steps → May (session_after steps) step → IsOfSearch n step → (j : Judge) (live : Live) → Agree n steps j live → Agree n (step ∷ steps) j live
+
+-- Names stand, and the judge is the same, where the value of a unit is noted of a variable that has an index.
+abbrev pub UnitsStand : Type 0
+UnitsStand = (old new : Variables) (steps : List Step) (v x : ℕ) (value : Option Bool) → NamesInvariant old steps → solver_of old v ≡ Some x → PutsUnit old new v value → NamesInvariant new steps × ((j : Judge) (live : Live) → Agree old steps j live → Agree new steps j live)

@@ -1,0 +1,12 @@
+-- What names and a search share.
+use Rattle.std.specs.Prelude.{ℕ, ◌≡◌, ◌<◌, ◌≤◌, Some, length, slice_index_or as get_or}
+use Rattle.sat_solver.specs.variables.Variables.{global_at, indices_used}
+use Rattle.sat_solver.specs.declared.variables.Variables.{Variables}
+use Rattle.sat_solver.specs.declared.context.Search.{Search}
+
+-- The search has each index that a variable has, for that variable, and no more indices than were used.
+pub record SharesIndices (n : Variables) (c : Search) : Type 0 where
+  pub size : length c.parts.assignment.current ≡ length c.globals.items
+  pub few : length c.globals.items ≤ indices_used n
+  pub below : (x v : ℕ) → global_at n x ≡ Some v → x < length c.globals.items
+  pub same : (x v : ℕ) → global_at n x ≡ Some v → get_or c.globals.items x 0 ≡ v

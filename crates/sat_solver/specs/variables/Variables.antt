@@ -1,0 +1,148 @@
+-- What a solver keeps of names, variables and indices: whether it fits together, and whether it is what the proof and the judge say.
+use Rattle.std.specs.Prelude.{ℕ, ◌+◌, ◌<◌, ◌≤◌, ◌≡◌, ◌≢◌, Bool, true, false, not, ◌&&◌, Option, None, Some, is_some, List, length, get_or, nat_lt, if◌then◌else◌}
+use Rattle.std.specs.List.{AllByRecursion}
+use Rattle.sat_base.specs.values.Literals.{largest, coded}
+use Rattle.sat_base.specs.script.Judge.{Judge, Sampled, Witnessed, identity_of}
+use Rattle.sat_base.specs.script.Judge as judged
+use Rattle.sat_base.specs.script.JudgeLaws.{NamesIncrease}
+use Rattle.sat_store.specs.declared.data.VarData.{VarData}
+use Rattle.sat_store.specs.declared.data.SamplingMode.{SamplingMode}
+use Rattle.sat_store.specs.declared.data.SamplingMode.TheVariants as kept
+use Rattle.sat_store.specs.variables.VarData.{unused_variable}
+use Rattle.sat_store.specs.variables.Maps.{target, AreInverse}
+use Rattle.sat_checker.specs.LiteralSets.{mentions}
+use Rattle.sat_checker.specs.Stored.{Mode, Sample, Witness, Hide, Variable, unknown}
+use Rattle.sat_solver.specs.session.Session.{Session}
+use Rattle.sat_solver.specs.variables.Counting.{IsEven}
+use Rattle.sat_solver.specs.variables.Free.{is_free, Spans}
+use Rattle.sat_checker.specs.matching.Bridge.{Live, Apart}
+use Rattle.sat_solver.specs.variables.Live.{given, given_of}
+use Rattle.sat_solver.specs.declared.variables.Variables.{Variables}
+
+abbrev pub data_at : Variables → ℕ → VarData
+data_at n v = get_or n.var_data.items v unused_variable
+
+-- the variable that has the name
+abbrev pub global_of : Variables → ℕ → Option ℕ
+global_of n user = target n.global_from_user.fwd user
+
+-- the name of the variable
+abbrev pub user_of : Variables → ℕ → Option ℕ
+user_of n v = target n.global_from_user.bwd v
+
+-- its index in the search
+abbrev pub solver_of : Variables → ℕ → Option ℕ
+solver_of n v = target n.solver_from_global.fwd v
+
+-- the variable that has the index
+abbrev pub global_at : Variables → ℕ → Option ℕ
+global_at n x = target n.solver_from_global.bwd x
+
+-- how many names were ever used
+abbrev pub names_used : Variables → ℕ
+names_used n = length n.global_from_user.fwd
+
+-- so many variables and so many indices were ever used
+abbrev pub variables_used : Variables → ℕ
+variables_used n = length n.var_data.items
+
+abbrev pub indices_used : Variables → ℕ
+indices_used n = length n.solver_from_global.bwd
+
+-- It fits together.
+pub record AreTidy (n : Variables) : Type 0 where
+  pub users : AreInverse n.global_from_user
+  pub solvers : AreInverse n.solver_from_global
+  -- what has a name or an index is in use
+  pub named : (v u : ℕ) → user_of n v ≡ Some u → (data_at n v).deleted ≡ false
+  pub indexed : (v x : ℕ) → solver_of n v ≡ Some x → (data_at n v).deleted ≡ false
+  -- a variable in use is hidden where it has no name
+  pub hidden : (v : ℕ) → (data_at n v).deleted ≡ false → user_of n v ≡ None → (data_at n v).sampling_mode ≡ kept.Hide
+  pub shown : (v u : ℕ) → user_of n v ≡ Some u → (data_at n v).sampling_mode ≢ kept.Hide
+  -- nothing is kept of a variable that isn't in use
+  pub gone : (v : ℕ) → (data_at n v).deleted ≡ true → data_at n v ≡ unused_variable
+  -- the list of what has each index
+  pub globals_count : length n.globals.items ≡ indices_used n
+  pub globals : (x v : ℕ) → global_at n x ≡ Some v → get_or n.globals.items x 0 ≡ v
+  -- as many variables have names, and indices, as there are of these
+  pub even_users : IsEven n.global_from_user
+  pub even_solvers : IsEven n.solver_from_global
+  pub spans_users : Spans n.free_users (names_used n)
+  pub spans_globals : Spans n.free_globals (variables_used n)
+  pub spans_solvers : Spans n.free_solvers (indices_used n)
+  pub reach : names_used n ≤ variables_used n
+  pub indices : indices_used n ≤ variables_used n
+  pub within : variables_used n ≤ largest
+  pub free_users : (u : ℕ) → is_free n.free_users u ≡ (nat_lt u (names_used n) && not (is_some (global_of n u)))
+  pub free_globals : (v : ℕ) → is_free n.free_globals v ≡ (nat_lt v (variables_used n) && (data_at n v).deleted)
+  pub free_solvers : (x : ℕ) → is_free n.free_solvers x ≡ (nat_lt x (indices_used n) && not (is_some (global_at n x)))
+
+-- the same mode, as the checker has it
+abbrev pub mode_in : SamplingMode → Mode
+mode_in kept.Sample = Sample
+mode_in kept.Witness = Witness
+mode_in kept.Hide = Hide
+
+-- what the proof says of the variable
+abbrev pub variable_at : Variables → ℕ → Variable
+variable_at n v =
+    if (data_at n v).deleted then unknown
+    else record { known = true; mode = mode_in (data_at n v).sampling_mode; name = user_of n v }
+
+-- is this the value of a variable's unit?
+abbrev pub says_unit : Option Bool → Bool → Bool
+says_unit None b = false
+says_unit (Some value) true = value
+says_unit (Some value) false = not value
+
+-- the variable's unit is the proof's
+abbrev pub IsUnitOf : Variables → Session → ℕ → Type 0
+IsUnitOf n s v = (b : Bool) → s.units (coded v b) ≡ says_unit (data_at n v).unit b
+
+-- no clause of two literals or more has the variable
+abbrev pub IsUnused : Session → ℕ → Type 0
+IsUnused s v = (r : Bool) (set : List ℕ) → 0 < s.live r set → mentions set v ≡ false
+
+-- It is what the proof has said. The unit of a variable that has an index is the search's.
+pub record AreSaid (n : Variables) (s : Session) : Type 0 where
+  pub variables : (v : ℕ) → s.variables v ≡ variable_at n v
+  pub solver_names : (v : ℕ) → s.solver_names v ≡ solver_of n v
+  pub units : (v : ℕ) → solver_of n v ≡ None → IsUnitOf n s v
+  -- clauses are over variables that have indices
+  pub unused : (v : ℕ) → solver_of n v ≡ None → IsUnused s v
+  pub marked : (v : ℕ) → mentions s.assumed v ≡ (data_at n v).assumed
+
+-- the mode of an identity whose variable has this one; a hidden one's doesn't count
+abbrev pub IsModeOf : SamplingMode → judged.Mode → Type 0
+IsModeOf kept.Sample m = m ≡ Sampled
+IsModeOf kept.Witness m = m ≡ Witnessed
+IsModeOf kept.Hide m = Unit {0}
+
+-- It is what the judge says. Name k is the one with index k - 1.
+pub record AreJudged (n : Variables) (j : Judge) (live : Live) : Type 0 where
+  pub first_unused : j.first_unused ≡ names_used n + 1
+  pub no_zero : identity_of j 0 ≡ None
+  pub names : (u : ℕ) → identity_of j (u + 1) ≡ given_of live (global_of n u)
+  pub once : Apart live
+  pub in_use : (v : ℕ) → is_some (given live v) ≡ not (data_at n v).deleted
+  pub below : AllByRecursion (λ p. p.1 < j.next_identity) live
+  pub distinct : (v w i : ℕ) → given live v ≡ Some i → given live w ≡ Some i → v ≡ w
+  -- each variable was new with an identity
+  pub identities : variables_used n ≤ j.next_identity
+  pub modes_count : length j.modes ≡ j.next_identity
+  pub increasing : NamesIncrease j.in_use
+  pub modes : (v i : ℕ) → given live v ≡ Some i → IsModeOf (data_at n v).sampling_mode (get_or j.modes i Sampled)
+
+-- the mode that a user may set, as the solver and as the judge have it
+abbrev pub mode_for : Bool → SamplingMode
+mode_for true = kept.Sample
+mode_for false = kept.Witness
+
+abbrev pub judged_mode : Bool → judged.Mode
+judged_mode true = Sampled
+judged_mode false = Witnessed
+
+abbrev pub is_witness_kept : SamplingMode → Bool
+is_witness_kept kept.Sample = false
+is_witness_kept kept.Witness = true
+is_witness_kept kept.Hide = false

@@ -1,0 +1,45 @@
+//! Learns a clause from a conflict.
+ghost use Rattle.std.specs.Prelude.{ℕ, ◌≡◌, ◌<◌, length, OnOk, IfOk};
+ghost use Rattle.sat_store.specs.clause.Buffer.{IsClause};
+ghost use Rattle.sat_parts.specs.clause.Glue.{AreClear};
+ghost use Rattle.sat_parts.specs.prop.Causes.{falsified};
+ghost use Rattle.sat_parts.specs.prop.Ready.{IsFalsified, state_of};
+ghost use Rattle.sat_solver.specs.analyze_conflict.Marks.{CanAnalyze, HasTop};
+ghost use Rattle.sat_solver.specs.analyze_conflict.Derivation.{LearnsFrom};
+ghost use Rattle.sat_solver.specs.analyze_conflict.Involved.{IsResolution};
+
+use crate::analyze_conflict::resolve::{begin_conflict, finish_conflict, resolve_conflict};
+use crate::analyze_conflict::work::Analysis;
+use crate::minimize::minimize_clause;
+use sat_parts::{Assignment, Conflict, ImplGraph, Trail};
+use sat_store::ClauseAlloc;
+use std::alloc::AllocError;
+
+/// Learns a clause from a conflict above level 0, and gives the level below which it doesn't assert its first literal.
+pub fn analyze_conflict(
+    analysis: &mut Analysis,
+    clauses: &ClauseAlloc,
+    assignment: &Assignment,
+    graph: &ImplGraph,
+    trail: &Trail,
+    conflict: &Conflict,
+) -> Result<usize, AllocError>
+    requires can { CanAnalyze clauses.now (state_of assignment.now graph.now trail.now) }
+    requires size { length analysis.old.flags ≡ length assignment.now.current }
+    requires clear { AreClear analysis.old.flags }
+    requires stands { (o : ℕ) → conflict.now ≡ Conflict.Long o → IsClause clauses.now o }
+    requires fails { IsFalsified assignment.now.current (falsified clauses.now conflict.now) }
+    requires top { HasTop (state_of assignment.now graph.now trail.now) (falsified clauses.now conflict.now) }
+    ensures learns { IfOk result (λ back. LearnsFrom clauses.now (state_of assignment.now graph.now trail.now) conflict.now analysis.new back) }
+    ensures resolution { OnOk result (IsResolution clauses.now (state_of assignment.now graph.now trail.now) conflict.now analysis.new) }
+    ensures size { OnOk result (length analysis.new.flags ≡ length assignment.now.current) }
+{
+    begin_conflict(analysis, clauses, assignment, graph, trail, conflict)?;
+    let at = resolve_conflict(analysis, clauses, assignment, graph, trail, conflict)?;
+    finish_conflict(analysis, clauses, assignment, graph, trail, conflict, at)?;
+    let resolved = analysis.used().len();
+    minimize_clause(analysis, clauses, assignment, graph, trail, conflict)?;
+    analysis.clear_flags();
+    analysis.order_used(graph, resolved);
+    Ok(analysis.put_second(graph))
+}

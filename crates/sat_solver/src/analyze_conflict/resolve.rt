@@ -1,0 +1,141 @@
+//! Resolution up to the first unique implication point.
+ghost use Rattle.std.specs.Prelude.{ℕ, ◌≡◌, ◌<◌, length, OnOk, IfOk};
+ghost use Rattle.sat_store.specs.clause.Buffer.{IsClause};
+ghost use Rattle.sat_parts.specs.clause.Glue.{AreClear, HaveNodes};
+ghost use Rattle.sat_parts.specs.prop.Causes.{falsified};
+ghost use Rattle.sat_parts.specs.prop.Ready.{state_of, IsFalsified};
+ghost use Rattle.sat_solver.specs.analyze_conflict.Work.{with_literals};
+ghost use Rattle.sat_solver.specs.analyze_conflict.Marks.{CanAnalyze, IsResolvent, IsFirstResolvent, HasTop};
+ghost use Rattle.sat_solver.specs.analyze_conflict.Derivation.{IsUipClause};
+ghost use Rattle.sat_solver.specs.analyze_conflict.Involved.{Collecting, BeginsCollecting, Collected};
+
+use crate::analyze_conflict::work::Analysis;
+use sat_base::Lit;
+use sat_parts::{Assignment, CauseLits, Conflict, ImplGraph, Trail};
+use sat_store::ClauseAlloc;
+use std::alloc::AllocError;
+
+/// Meets these false literals, one after the other. Those of a level not below the one given are still to be resolved.
+pub(crate) fn add_all(
+    analysis: &mut Analysis,
+    graph: &ImplGraph,
+    top: usize,
+    lits: &CauseLits,
+) -> Result<(), AllocError>
+    requires nodes { HaveNodes graph.now lits.now }
+    requires flags { length analysis.old.flags ≡ length graph.now }
+    ensures { OnOk result (analysis.new ≡ with_literals graph.now top lits.now analysis.old) }
+{
+    for at in 0..lits.len() {
+        analysis.add(graph, top, lits.get(at))?;
+    }
+    Ok(())
+}
+
+/// Resolves with the reason of the last literal of the resolvent on the trail.
+fn resolve_next(
+    analysis: &mut Analysis,
+    clauses: &ClauseAlloc,
+    assignment: &Assignment,
+    graph: &ImplGraph,
+    trail: &Trail,
+    conflict: &Conflict,
+    before: usize,
+) -> Result<usize, AllocError>
+    requires can { CanAnalyze clauses.now (state_of assignment.now graph.now trail.now) }
+    requires resolving { IsResolvent clauses.now (state_of assignment.now graph.now trail.now) conflict.now analysis.old before }
+    requires collecting { Collecting clauses.now (state_of assignment.now graph.now trail.now) conflict.now analysis.old before }
+    requires two { 1 < analysis.old.pending }
+    ensures next { IfOk result (λ p. (p < before)
+        × IsResolvent clauses.now (state_of assignment.now graph.now trail.now) conflict.now analysis.new p
+        × Collecting clauses.now (state_of assignment.now graph.now trail.now) conflict.now analysis.new p) }
+{
+    let lits = trail.trail();
+    let place = analysis.last_flagged(lits, before);
+    let lit = lits[place];
+    let reason = graph.reason(lit.var());
+    analysis.take_up(&reason, lit)?;
+    add_all(
+        analysis,
+        graph,
+        trail.current_level(),
+        &reason.lits(clauses),
+    )?;
+    Ok(place)
+}
+
+/// Resolves until one literal of the current level is left, and gives a place of the trail behind it.
+pub(crate) fn resolve_conflict(
+    analysis: &mut Analysis,
+    clauses: &ClauseAlloc,
+    assignment: &Assignment,
+    graph: &ImplGraph,
+    trail: &Trail,
+    conflict: &Conflict,
+) -> Result<usize, AllocError>
+    requires can { CanAnalyze clauses.now (state_of assignment.now graph.now trail.now) }
+    requires resolving { IsFirstResolvent clauses.now (state_of assignment.now graph.now trail.now) conflict.now analysis.old }
+    requires collecting { BeginsCollecting clauses.now (state_of assignment.now graph.now trail.now) conflict.now analysis.old }
+    ensures next { IfOk result (λ p. (analysis.new.pending ≡ 1)
+        × IsResolvent clauses.now (state_of assignment.now graph.now trail.now) conflict.now analysis.new p
+        × Collecting clauses.now (state_of assignment.now graph.now trail.now) conflict.now analysis.new p) }
+{
+    let mut at = trail.trail().len();
+    while analysis.pending() > 1 {
+        at = resolve_next(analysis, clauses, assignment, graph, trail, conflict, at)?;
+    }
+    Ok(at)
+}
+
+/// Begins with the literals of a clause that is false.
+pub(crate) fn begin_conflict(
+    analysis: &mut Analysis,
+    clauses: &ClauseAlloc,
+    assignment: &Assignment,
+    graph: &ImplGraph,
+    trail: &Trail,
+    conflict: &Conflict,
+) -> Result<(), AllocError>
+    requires can { CanAnalyze clauses.now (state_of assignment.now graph.now trail.now) }
+    requires size { length analysis.old.flags ≡ length assignment.now.current }
+    requires clear { AreClear analysis.old.flags }
+    requires stands { (o : ℕ) → conflict.now ≡ Conflict.Long o → IsClause clauses.now o }
+    requires fails { IsFalsified assignment.now.current (falsified clauses.now conflict.now) }
+    requires top { HasTop (state_of assignment.now graph.now trail.now) (falsified clauses.now conflict.now) }
+    ensures resolving { OnOk result (IsFirstResolvent clauses.now (state_of assignment.now graph.now trail.now) conflict.now analysis.new) }
+    ensures collecting { OnOk result (BeginsCollecting clauses.now (state_of assignment.now graph.now trail.now) conflict.now analysis.new) }
+{
+    analysis.begin(conflict)?;
+    add_all(
+        analysis,
+        graph,
+        trail.current_level(),
+        &conflict.lits(clauses),
+    )?;
+    Ok(())
+}
+
+/// Makes the last flagged literal, negated, the first of the clause.
+pub(crate) fn finish_conflict(
+    analysis: &mut Analysis,
+    clauses: &ClauseAlloc,
+    assignment: &Assignment,
+    graph: &ImplGraph,
+    trail: &Trail,
+    conflict: &Conflict,
+    before: usize,
+) -> Result<(), AllocError>
+    requires can { CanAnalyze clauses.now (state_of assignment.now graph.now trail.now) }
+    requires resolving { IsResolvent clauses.now (state_of assignment.now graph.now trail.now) conflict.now analysis.old before }
+    requires collecting { Collecting clauses.now (state_of assignment.now graph.now trail.now) conflict.now analysis.old before }
+    requires one { analysis.old.pending ≡ 1 }
+    ensures resolved { OnOk result (IsUipClause clauses.now (state_of assignment.now graph.now trail.now) conflict.now analysis.new) }
+    ensures collected { OnOk result (Collected clauses.now (state_of assignment.now graph.now trail.now) conflict.now analysis.new) }
+{
+    let lits = trail.trail();
+    let place = analysis.last_flagged(lits, before);
+    let lit = lits[place];
+    analysis.pass_by(lit);
+    analysis.put_first(!lit)?;
+    Ok(())
+}

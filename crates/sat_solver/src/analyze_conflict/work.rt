@@ -1,0 +1,335 @@
+//! What conflict analysis works on.
+ghost use Rattle.std.specs.Prelude.{ℕ, ◌≡◌, ◌-◌, replicate, ◌<◌, ◌≤◌, ◌++◌, length, slice_index, slice_index_or, true, false, [], ◌∷◌, reverse, take, slice_set, OnOk};
+ghost use Rattle.std.specs.List.Sorted.{IsPermutation, IsNonDecreasingBy};
+ghost use Rattle.sat_base.specs.values.Literals.{variable};
+ghost use Rattle.sat_parts.specs.clause.Glue.{AreClear, VariablesBelow, HaveNodes};
+ghost use Rattle.sat_solver.specs.analyze_conflict.Work.{Work, with_literal, passed_by, long_of, taken_up, with_chosen, begun, begun_core, with_first};
+ghost use Rattle.sat_solver.specs.analyze_conflict.Derivation.{FlagsAmong, PutsSecond};
+ghost use Rattle.sat_solver.specs.analyze_conflict.Minimal.{FallsBefore, depth_in, marked, used_up, Undoes};
+
+use crate::analyze_conflict::lists::{order_used, put_highest_second, unflag};
+use sat_base::{Lit, Var};
+use sat_parts::{Conflict, ImplGraph, Reason};
+use sat_store::ClauseRef;
+use std::alloc::{AllocError, Global};
+use std::marker::Model;
+
+/// The lists of an analysis, which are used again by the next one, and a flag for each variable. Contracts see a `Work`.
+#[derive(Drop)]
+pub struct Analysis {
+    clause: Vec<Lit>,
+    used: Vec<Lit>,
+    met: Vec<Var>,
+    involved: Vec<ClauseRef>,
+    core: Vec<Lit>,
+    flags: Vec<bool>,
+    pending: usize,
+}
+
+impl Model for Analysis {
+    ghost use Rattle.sat_solver.specs.analyze_conflict.Work.{Work, worked};
+
+    ghost Value = { Work };
+
+    ghost view = { λ a. worked a.clause.items a.used.items a.met.items a.involved.items a.core.items a.flags.items a.pending };
+}
+
+impl Analysis {
+    /// No variables. Takes no memory.
+    pub fn new(alloc: Global) -> Analysis
+        ensures { result.flags ≡ [] }
+    {
+        Analysis {
+            clause: Vec::new(alloc),
+            used: Vec::new(alloc),
+            met: Vec::new(alloc),
+            involved: Vec::new(alloc),
+            core: Vec::new(alloc),
+            flags: Vec::new(alloc),
+            pending: 0,
+        }
+    }
+
+    /// Makes the variables those with an index below the count.
+    pub fn set_var_count(&mut self, count: usize) -> Result<(), AllocError>
+        ensures size { OnOk result (length self.new.flags ≡ count) }
+        ensures clear { OnOk result (AreClear self.old.flags → AreClear self.new.flags) }
+    {
+        self.resize_flags(count)
+    }
+
+    fn resize_flags(&mut self, count: usize) -> Result<(), AllocError>
+        ensures size { OnOk result (length self.new.flags ≡ count) }
+        ensures flags { OnOk result (self.new.flags ≡ take count self.old.flags ++ replicate (count - length self.old.flags) false) }
+    {
+        self.flags.resize(count, false)
+    }
+
+    /// The literals of the learned clause.
+    pub fn clause(&self) -> &[Lit]
+        ensures { result.now ≡ self.now.clause }
+    {
+        &self.clause
+    }
+
+    /// The literals whose reasons were used, in the order of the trail once an analysis is done.
+    pub fn used(&self) -> &[Lit]
+        ensures { result.now ≡ self.now.used }
+    {
+        &self.used
+    }
+
+    /// The variables that resolution met, each once, as it met them.
+    pub fn met(&self) -> &[Var]
+        ensures { result.now ≡ self.now.met }
+    {
+        &self.met
+    }
+
+    /// The long clauses that resolution took: the one that was found false, and then the reasons of literals from the end of the
+    /// trail on.
+    pub fn involved(&self) -> &[ClauseRef]
+        ensures { result.now ≡ self.now.involved }
+    {
+        &self.involved
+    }
+
+    /// The assumptions that can't all be true, the one that failed first.
+    pub fn core(&self) -> &[Lit]
+        ensures { result.now ≡ self.now.core }
+    {
+        &self.core
+    }
+
+    /// How many flagged literals are still to be resolved.
+    pub fn pending(&self) -> usize
+        ensures { result ≡ self.now.pending }
+    {
+        self.pending
+    }
+
+    /// Nothing is met yet. The flags stay.
+    fn clear(&mut self)
+        ensures { self.new ≡ record self.old { clause = []; used = []; met = []; involved = []; core = []; pending = 0 } }
+    {
+        self.clause.clear();
+        self.used.clear();
+        self.met.clear();
+        self.involved.clear();
+        self.core.clear();
+        self.pending = 0;
+    }
+
+    /// Begins with a clause that was found false, none of whose literals is met yet. The flags stay.
+    pub(crate) fn begin(&mut self, conflict: &Conflict) -> Result<(), AllocError>
+        ensures { OnOk result (self.new ≡ begun conflict.now self.old) }
+    {
+        self.clear();
+        if let Conflict::Long(cref) = conflict {
+            self.involved.push(*cref)?;
+            return Ok(());
+        }
+        Ok(())
+    }
+
+    /// Begins with an assumption that failed. The flags stay.
+    pub(crate) fn begin_core(&mut self, failed: Lit) -> Result<(), AllocError>
+        ensures { OnOk result (self.new ≡ begun_core failed self.old) }
+    {
+        self.clear();
+        self.core.push(failed)?;
+        Ok(())
+    }
+
+    /// Meets a false literal.
+    pub(crate) fn add(&mut self, graph: &ImplGraph, top: usize, lit: Lit) -> Result<(), AllocError>
+        requires node { variable lit < length graph.now }
+        requires flag { variable lit < length self.old.flags }
+        ensures { OnOk result (self.new ≡ with_literal graph.now top lit self.old) }
+    {
+        let level = graph.level(lit.var());
+        if level == 0 {
+            return Ok(());
+        }
+        let index = lit.index();
+        if self.flags[index] {
+            return Ok(());
+        }
+        self.flags[index] = true;
+        self.met.push(lit.var())?;
+        if level < top {
+            self.clause.push(lit)?;
+            return Ok(());
+        }
+        self.pending = self.pending.saturating_add(1);
+        Ok(())
+    }
+
+    /// The place of the last flagged literal among those before this place.
+    pub(crate) fn last_flagged(&self, lits: &[Lit], before: usize) -> usize
+        requires within { before ≤ length lits.now }
+        requires flags { (p : ℕ) → p < before → variable (slice_index lits.now p) < length self.now.flags }
+        requires some { (p : ℕ) × ((p < before) × (slice_index_or self.now.flags (variable (slice_index lits.now p)) false ≡ true)) }
+        ensures within { result < before }
+        ensures flagged { slice_index_or self.now.flags (variable (slice_index lits.now result)) false ≡ true }
+        ensures others { (p : ℕ) → result < p → p < before → slice_index_or self.now.flags (variable (slice_index lits.now p)) false ≡ false }
+    {
+        let mut at = before;
+        loop {
+            at -= 1;
+            if self.flags[lits[at].index()] {
+                return at;
+            }
+        }
+    }
+
+    /// A true literal isn't to be resolved any more.
+    pub(crate) fn pass_by(&mut self, lit: Lit)
+        requires flag { variable lit < length self.old.flags }
+        ensures { self.new ≡ passed_by lit self.old }
+    {
+        self.flags[lit.index()] = false;
+        self.pending = self.pending.saturating_sub(1);
+    }
+
+    /// The reason's clause takes part, if it is a long one.
+    fn involve(&mut self, reason: &Reason) -> Result<(), AllocError>
+        ensures { OnOk result (self.new ≡ record self.old { involved = self.old.involved ++ long_of reason.now }) }
+    {
+        if let Reason::Long(cref) = reason {
+            self.involved.push(*cref)?;
+            return Ok(());
+        }
+        Ok(())
+    }
+
+    /// The literal's reason is resolved with.
+    pub(crate) fn take_up(&mut self, reason: &Reason, lit: Lit) -> Result<(), AllocError>
+        requires flag { variable lit < length self.old.flags }
+        ensures { OnOk result (self.new ≡ taken_up reason.now lit self.old) }
+    {
+        self.pass_by(lit);
+        self.used.push(lit)?;
+        self.involve(reason)
+    }
+
+    /// Adds a literal to the core.
+    pub(crate) fn add_core(&mut self, lit: Lit) -> Result<(), AllocError>
+        ensures { OnOk result (self.new ≡ record self.old { core = self.old.core ++ lit ∷ [] }) }
+    {
+        self.core.push(lit)?;
+        Ok(())
+    }
+
+    /// A true literal that was chosen is one of the core.
+    pub(crate) fn choose(&mut self, lit: Lit) -> Result<(), AllocError>
+        requires flag { variable lit < length self.old.flags }
+        ensures { OnOk result (self.new ≡ with_chosen lit self.old) }
+    {
+        self.pass_by(lit);
+        self.core.push(lit)?;
+        Ok(())
+    }
+
+    /// Adds a literal to the clause, which changes places with the first one.
+    pub(crate) fn put_first(&mut self, lit: Lit) -> Result<(), AllocError>
+        ensures { OnOk result (self.new ≡ with_first lit self.old) }
+    {
+        let last = self.clause.len();
+        self.clause.push(lit)?;
+        self.clause.swap(0, last);
+        Ok(())
+    }
+
+    /// Clears the flags of the clause's and the used literals.
+    pub(crate) fn clear_flags(&mut self)
+        requires clause { VariablesBelow self.old.clause (length self.old.flags) }
+        requires used { VariablesBelow self.old.used (length self.old.flags) }
+        requires only { FlagsAmong self.old }
+        ensures clear { AreClear self.new.flags }
+        ensures same { self.new ≡ record self.old { flags = self.new.flags } }
+        ensures size { length self.new.flags ≡ length self.old.flags }
+    {
+        unflag(&mut self.flags, &self.clause, 0);
+        unflag(&mut self.flags, &self.used, 0);
+    }
+
+    pub(crate) fn is_flagged(&self, lit: Lit) -> bool
+        requires flag { variable lit < length self.now.flags }
+        ensures { result ≡ slice_index_or self.now.flags (variable lit) false }
+    {
+        self.flags[lit.index()]
+    }
+
+    /// Flags a false literal, whose negation is used.
+    pub(crate) fn mark(&mut self, lit: Lit) -> Result<(), AllocError>
+        requires flag { variable lit < length self.old.flags }
+        ensures { OnOk result (self.new ≡ marked lit self.old) }
+    {
+        self.flags[lit.index()] = true;
+        self.used.push(!lit)?;
+        Ok(())
+    }
+
+    /// Uses a true literal.
+    pub(crate) fn use_up(&mut self, lit: Lit) -> Result<(), AllocError>
+        ensures { OnOk result (self.new ≡ used_up lit self.old) }
+    {
+        self.used.push(lit)?;
+        Ok(())
+    }
+
+    /// Uses the literals from this place on no more, and unflags those behind the first of them.
+    pub(crate) fn undo(&mut self, top: usize)
+        requires top { top < length self.old.used }
+        requires flags { VariablesBelow self.old.used (length self.old.flags) }
+        ensures { Undoes top self.old self.new }
+    {
+        unflag(&mut self.flags, &self.used, top + 1);
+        self.used.truncate(top);
+    }
+
+    /// Writes a literal of the clause.
+    pub(crate) fn keep(&mut self, at: usize, lit: Lit)
+        requires { at < length self.old.clause }
+        ensures { self.new ≡ record self.old { clause = slice_set self.old.clause at lit } }
+    {
+        self.clause[at] = lit;
+    }
+
+    /// Drops the literals of the clause from this place on.
+    pub(crate) fn cut(&mut self, len: usize)
+        ensures { self.new ≡ record self.old { clause = take len self.old.clause } }
+    {
+        self.clause.truncate(len);
+    }
+
+    /// Puts a literal of the highest level among those behind the first one second, and gives this level, 0 where there is none.
+    pub(crate) fn put_second(&mut self, graph: &ImplGraph) -> usize
+        requires nodes { HaveNodes graph.now self.old.clause }
+        ensures second { PutsSecond graph.now self.old.clause self.new.clause result }
+        ensures same { self.new ≡ record self.old { clause = self.new.clause } }
+    {
+        if self.clause.len() < 2 {
+            return 0;
+        }
+        put_highest_second(&mut self.clause, graph)
+    }
+
+    /// Puts the used literals in the order of the trail, of which so many were resolved.
+    pub(crate) fn order_used(&mut self, graph: &ImplGraph, resolved: usize)
+        requires { FallsBefore graph.now self.old.used resolved }
+        ensures permutation { IsPermutation self.old.used self.new.used }
+        ensures rising { IsNonDecreasingBy (depth_in graph.now) self.new.used }
+        ensures same { self.new ≡ record self.old { used = self.new.used } }
+    {
+        order_used(&mut self.used, graph, resolved);
+    }
+
+    /// Turns the used literals round.
+    pub(crate) fn reverse_used(&mut self)
+        ensures { self.new ≡ record self.old { used = reverse self.old.used } }
+    {
+        self.used.reverse();
+    }
+}

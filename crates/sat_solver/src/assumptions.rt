@@ -1,0 +1,23 @@
+//! Assumptions of a search.
+ghost use Rattle.std.specs.Prelude.{◌≡◌, OnOk, []};
+ghost use Rattle.sat_parts.specs.parts.Assumed.{AreThere};
+ghost use Rattle.sat_solver.specs.assumptions.Setting.{AreAssumed};
+
+pub mod analyze;
+pub mod failed_core;
+
+use crate::context::Search;
+use sat_base::Lit;
+use std::alloc::AllocError;
+
+/// Assumes these literals in place of the ones before, at level 0.
+pub fn set_assumptions(search: &mut Search, lits: &[Lit]) -> Result<(), AllocError>
+    requires bottom { search.old.parts.trail.starts ≡ [] }
+    requires there { AreThere lits.now search.old.parts }
+    ensures { OnOk result (AreAssumed lits.now search.old search.new) }
+{
+    search.assumptions.lits.clear();
+    search.assumptions.lits.extend_from_slice(lits)?;
+    search.assumptions.begin();
+    Ok(())
+}

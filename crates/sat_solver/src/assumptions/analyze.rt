@@ -1,0 +1,122 @@
+//! Which assumptions make an assumption false.
+ghost use Rattle.std.specs.Prelude.{◌≡◌, ◌<◌, false, length, OnOk, IfOk};
+ghost use Rattle.sat_parts.specs.clause.Glue.{AreClear};
+ghost use Rattle.sat_parts.specs.prop.Graphs.{is_unit};
+ghost use Rattle.sat_parts.specs.prop.Ready.{state_of};
+ghost use Rattle.sat_parts.specs.prop.State.{Agrees, node, level};
+ghost use Rattle.sat_parts.specs.prop.Values.{IsFalseLit};
+ghost use Rattle.sat_solver.specs.analyze_conflict.Marks.{CanAnalyze};
+ghost use Rattle.sat_solver.specs.assumptions.Failing.{Fails, Tracing, Traced};
+
+use crate::analyze_conflict::resolve::add_all;
+use crate::analyze_conflict::work::Analysis;
+use sat_base::Lit;
+use sat_parts::{Assignment, ImplGraph, Trail};
+use sat_store::ClauseAlloc;
+use std::alloc::AllocError;
+
+/// Begins with the clause by which the assumption is false, and gives the place of its negation on the trail.
+fn begin_trace(
+    analysis: &mut Analysis,
+    clauses: &ClauseAlloc,
+    assignment: &Assignment,
+    graph: &ImplGraph,
+    trail: &Trail,
+    failed: Lit,
+) -> Result<usize, AllocError>
+    requires can { CanAnalyze clauses.now (state_of assignment.now graph.now trail.now) }
+    requires size { length analysis.old.flags ≡ length assignment.now.current }
+    requires clear { AreClear analysis.old.flags }
+    requires fails { IsFalseLit assignment.now.current failed }
+    requires above { 0 < level (state_of assignment.now graph.now trail.now) failed }
+    requires caused { is_unit (node (state_of assignment.now graph.now trail.now) failed).reason ≡ false }
+    ensures { IfOk result (λ p. Tracing clauses.now (state_of assignment.now graph.now trail.now) failed analysis.new p) }
+{
+    analysis.begin_core(failed)?;
+    analysis.use_up(!failed)?;
+    let reason = graph.reason(failed.var());
+    add_all(analysis, graph, 1, &reason.lits(clauses))?;
+    Ok(graph.depth(failed.var()) - 1)
+}
+
+/// Goes on with the last flagged literal of the trail: it is one of the core if it has no clause as its reason, and its clause is used
+/// otherwise.
+fn trace_next(
+    analysis: &mut Analysis,
+    clauses: &ClauseAlloc,
+    assignment: &Assignment,
+    graph: &ImplGraph,
+    trail: &Trail,
+    failed: Lit,
+    before: usize,
+) -> Result<usize, AllocError>
+    requires can { CanAnalyze clauses.now (state_of assignment.now graph.now trail.now) }
+    requires tracing { Tracing clauses.now (state_of assignment.now graph.now trail.now) failed analysis.old before }
+    requires some { 0 < analysis.old.pending }
+    ensures { IfOk result (λ p. (p < before) × Tracing clauses.now (state_of assignment.now graph.now trail.now) failed analysis.new p) }
+{
+    let lits = trail.trail();
+    let place = analysis.last_flagged(lits, before);
+    let lit = lits[place];
+    let reason = graph.reason(lit.var());
+    if reason.is_unit() {
+        analysis.choose(lit)?;
+        return Ok(place);
+    }
+    analysis.take_up(&reason, lit)?;
+    add_all(analysis, graph, 1, &reason.lits(clauses))?;
+    Ok(place)
+}
+
+/// Goes back over the reasons until no literal is flagged.
+fn trace(
+    analysis: &mut Analysis,
+    clauses: &ClauseAlloc,
+    assignment: &Assignment,
+    graph: &ImplGraph,
+    trail: &Trail,
+    failed: Lit,
+    from: usize,
+) -> Result<(), AllocError>
+    requires can { CanAnalyze clauses.now (state_of assignment.now graph.now trail.now) }
+    requires fails { IsFalseLit assignment.now.current failed }
+    requires tracing { Tracing clauses.now (state_of assignment.now graph.now trail.now) failed analysis.old from }
+    ensures { OnOk result (Traced clauses.now (state_of assignment.now graph.now trail.now) failed analysis.new) }
+{
+    let mut at = from;
+    while analysis.pending() > 0 {
+        at = trace_next(analysis, clauses, assignment, graph, trail, failed, at)?;
+    }
+    Ok(())
+}
+
+/// Finds assumptions that can't be true together with one that is false, and the clauses by which they can't.
+pub fn analyze_assumption(
+    analysis: &mut Analysis,
+    clauses: &ClauseAlloc,
+    assignment: &Assignment,
+    graph: &ImplGraph,
+    trail: &Trail,
+    failed: Lit,
+) -> Result<(), AllocError>
+    requires agrees { Agrees (state_of assignment.now graph.now trail.now) }
+    requires can { 0 < length trail.now.starts → CanAnalyze clauses.now (state_of assignment.now graph.now trail.now) }
+    requires size { length analysis.old.flags ≡ length assignment.now.current }
+    requires clear { AreClear analysis.old.flags }
+    requires fails { IsFalseLit assignment.now.current failed }
+    ensures fails { OnOk result (Fails clauses.now (state_of assignment.now graph.now trail.now) failed analysis.new.core analysis.new.used) }
+    ensures clear { OnOk result (AreClear analysis.new.flags) }
+    ensures size { OnOk result (length analysis.new.flags ≡ length assignment.now.current) }
+{
+    if graph.level(failed.var()) == 0 {
+        return analysis.begin_core(failed);
+    }
+    if graph.reason(failed.var()).is_unit() {
+        analysis.begin_core(failed)?;
+        return analysis.add_core(!failed);
+    }
+    let from = begin_trace(analysis, clauses, assignment, graph, trail, failed)?;
+    trace(analysis, clauses, assignment, graph, trail, failed, from)?;
+    analysis.reverse_used();
+    Ok(())
+}

@@ -1,0 +1,86 @@
+//! Which assumptions can't be true together is told by a step.
+ghost use Rattle.std.specs.Prelude.{◌≡◌, ◌≤◌, map, length, OnOk};
+ghost use Rattle.sat_solver.specs.session.LiveClauses.{with_var};
+ghost use Rattle.sat_solver.specs.proof.ProofView.{Keeps, session_of};
+ghost use Rattle.sat_parts.specs.parts.Assumed.{AreThere};
+ghost use Rattle.sat_parts.specs.parts.Whole.{PartsInvariant};
+ghost use Rattle.sat_solver.specs.assumptions.Core.{causes_hashes, TellsCore, FailsBy};
+ghost use Rattle.sat_solver.specs.cdcl.Joint.{global_in, IsFree, IsSearch};
+ghost use Rattle.sat_solver.specs.cdcl.Turns.{IsFailing};
+
+use crate::analyze_conflict::analyze_assumption;
+use crate::cdcl::fault::{Fault, proof_fault};
+use crate::context::Search;
+use crate::proof::Proof;
+use crate::proof::map_step::{map_lits, name_reasons};
+use sat_base::{CountedWrite, ProofStep};
+use sat_checker::ProofProcessor;
+use std::alloc::AllocError;
+
+/// Puts the step of a core together: its literals and the hashes of the clauses that it follows from, in proof variables.
+fn name_core(search: &mut Search) -> Result<(), AllocError>
+    requires holds { PartsInvariant search.old.parts }
+    requires names { length search.old.parts.assignment.current ≤ length search.old.globals.items }
+    requires there { AreThere search.old.assumptions.lits.items search.old.parts }
+    requires failing { IsFailing search.old.assumptions.lits.items search.old.parts search.old.failed }
+    requires fails { FailsBy search.old.parts search.old.failed search.old.analysis }
+    ensures same { search.new ≡ record search.old { scratch = search.new.scratch } }
+    ensures clause { OnOk result (search.new.scratch.clause.items ≡ map (with_var (global_in search.old)) search.old.analysis.core) }
+    ensures hashes { OnOk result (search.new.scratch.hashes.items ≡ causes_hashes search.old.parts search.old.analysis.used) }
+{
+    map_lits(
+        &search.globals,
+        search.analysis.core(),
+        &mut search.scratch.clause,
+    )?;
+    name_reasons(
+        &search.parts,
+        search.analysis.used(),
+        &mut search.scratch.hashes,
+    )
+}
+
+/// Finds the assumptions that can't be true together with the failed one, and puts their step together.
+fn find_core(search: &mut Search) -> Result<(), AllocError>
+    requires holds { PartsInvariant search.old.parts }
+    requires free { IsFree search.old }
+    requires there { AreThere search.old.assumptions.lits.items search.old.parts }
+    requires failing { IsFailing search.old.assumptions.lits.items search.old.parts search.old.failed }
+    ensures same { search.new ≡ record search.old { analysis = search.new.analysis; scratch = search.new.scratch } }
+    ensures free { OnOk result (IsFree search.new) }
+    ensures fails { OnOk result (FailsBy search.old.parts search.old.failed search.new.analysis) }
+    ensures clause { OnOk result (search.new.scratch.clause.items ≡ map (with_var (global_in search.old)) search.new.analysis.core) }
+    ensures hashes { OnOk result (search.new.scratch.hashes.items ≡ causes_hashes search.old.parts search.new.analysis.used) }
+{
+    let parts = &search.parts;
+    analyze_assumption(
+        &mut search.analysis,
+        &parts.clauses,
+        &parts.assignment,
+        &parts.graph,
+        &parts.trail,
+        search.failed,
+    )?;
+    name_core(search)
+}
+
+/// Writes the step of the assumptions that can't be true together, of which one failed. They stand in the analysis behind it.
+pub fn tell_core<W: CountedWrite + Drop, P: ProofProcessor>(
+    proof: &mut Proof<W, P>,
+    search: &mut Search,
+) -> Result<(), Fault>
+    requires keeps { Keeps proof.old }
+    requires search { IsSearch (session_of proof.old) search.old }
+    requires failing { IsFailing search.old.assumptions.lits.items search.old.parts search.old.failed }
+    ensures { TellsCore W.seen result proof.old proof.new search.old search.new }
+{
+    find_core(search)?;
+    let step = ProofStep::FailedAssumptions {
+        failed_core: &search.scratch.clause,
+        propagation_hashes: &search.scratch.hashes,
+    };
+    match proof.step(&step) {
+        Ok(()) => Ok(()),
+        Err(error) => Err(proof_fault(error)),
+    }
+}

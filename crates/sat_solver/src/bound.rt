@@ -1,3 +1,0 @@
-//! A bound on the rounds of an ask.
-pub mod restarts;
-pub mod search;

@@ -1,0 +1,122 @@
+//! A conflict step: up to a conflict and what is learned from it, or an answer.
+ghost use Rattle.std.specs.Prelude.{◌≡◌, ◌<◌, ◌≤◌, length};
+ghost use Rattle.sat_solver.specs.proof.ProofView.{Keeps, steps_of, session_of};
+ghost use Rattle.sat_parts.specs.parts.Whole.{IsRefuted};
+ghost use Rattle.sat_solver.specs.session.Naming.{global_of};
+ghost use Rattle.sat_solver.specs.session.Fits.{SessionMatchesParts, HaveNames};
+ghost use Rattle.sat_solver.specs.cdcl.Going.{EmitsSteps};
+ghost use Rattle.sat_solver.specs.cdcl.Joint.{IsSearch};
+ghost use Rattle.sat_solver.specs.cdcl.Turns.{IsStopped};
+ghost use Rattle.sat_solver.specs.cdcl.Rounds.{LastRefutes, RoundGoes};
+ghost use Rattle.sat_solver.specs.cdcl.Ending.{EndsRound};
+ghost use Rattle.sat_solver.specs.unit_simplify.Passes.{StandTogether};
+
+pub mod begin;
+pub mod fault;
+pub mod find_conflict;
+pub mod learn;
+
+use crate::cdcl::begin::begin_round;
+use crate::cdcl::fault::{Fault, Kind, proof_fault};
+use crate::cdcl::find_conflict::{FoundConflict, find_conflict};
+use crate::cdcl::learn::learn_from;
+use crate::context::{Scratch, Search};
+use crate::proof::Proof;
+use crate::proof::map_step::name_clauses;
+use crate::schedule::Outcome;
+use crate::unit_simplify::prove_units::write_units;
+use crate::variables::Variables;
+use sat_base::{CountedWrite, ProofStep, Var};
+use sat_checker::ProofProcessor;
+use sat_parts::{Conflict, Parts};
+
+/// Writes the empty clause, which follows from a conflict at level 0.
+fn refute<W: CountedWrite + Drop, P: ProofProcessor>(
+    proof: &mut Proof<W, P>,
+    parts: &Parts,
+    globals: &[Var],
+    scratch: &mut Scratch,
+    conflict: &Conflict,
+) -> Result<(), Fault>
+    requires keeps { Keeps proof.old }
+    requires refuted { IsRefuted parts.now conflict.now }
+    requires bottom { length parts.now.trail.starts ≡ 0 }
+    requires fits { SessionMatchesParts parts.now (session_of proof.old) (global_of globals.now) }
+    requires named { HaveNames parts.now.assignment.current (session_of proof.old) (global_of globals.now) }
+    requires names { length parts.now.assignment.current ≤ length globals.now }
+    ensures { EmitsSteps W.seen result proof.old proof.new (λ _ steps. LastRefutes (steps_of proof.old) steps (session_of proof.new)) }
+{
+    write_units(proof, parts, globals, &mut scratch.units)?;
+    if name_clauses(parts, &[], conflict, &mut scratch.hashes).is_err() {
+        return Err(Fault::of(Kind::OutOfMemory));
+    }
+    let step = ProofStep::AtClause {
+        redundant: false,
+        clause: &[],
+        propagation_hashes: &scratch.hashes,
+    };
+    match proof.step(&step) {
+        Ok(()) => Ok(()),
+        Err(error) => Err(proof_fault(error)),
+    }
+}
+
+/// Learns from a conflict, or writes that no valuation is left.
+fn resolve<W: CountedWrite + Drop, P: ProofProcessor>(
+    proof: &mut Proof<W, P>,
+    search: &mut Search,
+    conflict: &Conflict,
+) -> Result<Outcome, Fault>
+    requires keeps { Keeps proof.old }
+    requires stopped { IsStopped (session_of proof.old) search.old conflict.now }
+    ensures { RoundGoes W.seen result proof.old proof.new search.old search.new }
+{
+    if search.parts.trail.current_level() > 0 {
+        learn_from(proof, search, conflict)?;
+        return Ok(Outcome::Learned);
+    }
+    refute(
+        proof,
+        &search.parts,
+        &search.globals,
+        &mut search.scratch,
+        conflict,
+    )?;
+    Ok(Outcome::Unsat)
+}
+
+/// Searches up to a conflict and what is learned from it, or an answer.
+fn search_on<W: CountedWrite + Drop, P: ProofProcessor>(
+    proof: &mut Proof<W, P>,
+    search: &mut Search,
+) -> Result<Outcome, Fault>
+    requires keeps { Keeps proof.old }
+    requires search { IsSearch (session_of proof.old) search.old }
+    ensures { RoundGoes W.seen result proof.old proof.new search.old search.new }
+{
+    let stop = find_conflict(proof, search)?;
+    match stop {
+        FoundConflict::Complete => Ok(Outcome::Model),
+        FoundConflict::Failed(lit) => {
+            search.failed = lit;
+            Ok(Outcome::Failed)
+        }
+        FoundConflict::Falsified(conflict) => resolve(proof, search, &conflict),
+    }
+}
+
+/// A conflict step: up to a conflict and what is learned from it, or an answer. Where literals came at level 0, it begins with a simplification.
+pub fn conflict_step<W: CountedWrite + Drop, P: ProofProcessor>(
+    proof: &mut Proof<W, P>,
+    search: &mut Search,
+    names: &mut Variables,
+) -> Result<Outcome, Fault>
+    requires together { StandTogether names.old proof.old search.old }
+    ensures { EndsRound W.seen result names.old names.new proof.old proof.new search.old search.new }
+{
+    match begin_round(proof, search, names) {
+        Err(error) => Err(error),
+        Ok(Some(conflict)) => resolve(proof, search, &conflict),
+        Ok(None) => search_on(proof, search),
+    }
+}

@@ -1,0 +1,122 @@
+//! Why a call failed, without its cause, which is kept with the proof until a solver tells it.
+ghost use Rattle.std.specs.Prelude.{◌≡◌};
+ghost use Rattle.sat_solver.specs.cdcl.Going.{check_fault_of, fault_of};
+ghost use Rattle.sat_solver.specs.cdcl.Faults.{error_of, IsKept};
+ghost use Rattle.sat_solver.specs.proof.ProofView.{told};
+
+use crate::SolverError;
+use crate::proof::kept::Kept;
+use crate::proof::made::CheckFault;
+use crate::proof::{Proof, ProofError};
+use sat_base::CountedWrite;
+use sat_checker::ProofProcessor;
+use sat_store::StoreError;
+use std::alloc::AllocError;
+use std::io;
+use std::marker::Model;
+
+/// The kinds of faults.
+#[derive(Drop)]
+pub enum Kind {
+    /// A call of the target failed.
+    Write(Kept<io::Error>),
+    /// A processor answered a fault.
+    Processor(Kept<anyhow::Error>),
+    OutOfMemory,
+    StoreFull,
+    VariableLimit,
+    CounterEnd,
+}
+
+/// Why a call failed. Contracts see the error that a solver tells.
+#[derive(Drop)]
+pub struct Fault {
+    kind: Kind,
+}
+
+impl Model for Fault {
+    ghost use Rattle.sat_solver.specs.cdcl.Faults.{error_of};
+    ghost use Rattle.sat_solver.specs.declared.error.SolverError.{SolverError};
+
+    ghost Value = { SolverError };
+
+    ghost view = { λ f. error_of f.kind };
+}
+
+impl Fault {
+    /// Of this kind.
+    pub fn of(kind: Kind) -> Fault
+        ensures { result ≡ error_of kind }
+    {
+        Fault { kind }
+    }
+}
+
+impl From<AllocError> for Fault {
+    ghost use Rattle.std.specs.Prelude.{◌≡◌};
+    ghost use Rattle.sat_solver.specs.declared.error.SolverError.TheVariants.{OutOfMemory};
+
+    ghost from_gives = { λ _ e. e ≡ OutOfMemory };
+
+    fn from(_e: AllocError) -> Fault {
+        Fault::of(Kind::OutOfMemory)
+    }
+}
+
+impl From<StoreError> for Fault {
+    ghost use Rattle.std.specs.Prelude.{◌≡◌};
+    ghost use Rattle.sat_solver.specs.Recovery.{failure_of};
+
+    ghost from_gives = { λ s e. e ≡ failure_of s };
+
+    fn from(error: StoreError) -> Fault {
+        match error {
+            StoreError::StoreFull => Fault::of(Kind::StoreFull),
+            StoreError::OutOfMemory => Fault::of(Kind::OutOfMemory),
+        }
+    }
+}
+
+/// Why a solver's own checker failed.
+pub fn check_fault(fault: CheckFault) -> Fault
+    ensures { result ≡ check_fault_of fault }
+{
+    match fault {
+        CheckFault::OutOfMemory => Fault::of(Kind::OutOfMemory),
+        CheckFault::CounterEnd => Fault::of(Kind::CounterEnd),
+        CheckFault::Processor(kept) => Fault::of(Kind::Processor(kept)),
+    }
+}
+
+/// Why a step wasn't made, or not checked.
+pub fn proof_fault(error: ProofError) -> Fault
+    ensures { result ≡ fault_of error }
+{
+    match error {
+        ProofError::Write(kept) => Fault::of(Kind::Write(kept)),
+        ProofError::OutOfMemory => Fault::of(Kind::OutOfMemory),
+        ProofError::Check(fault) => check_fault(fault),
+    }
+}
+
+/// A fault as a solver tells it, with its cause, which the proof kept.
+pub fn tell<W: CountedWrite + Drop, P: ProofProcessor>(
+    fault: Fault,
+    proof: &mut Proof<W, P>,
+) -> SolverError
+    requires kept { IsKept fault proof.old }
+    ensures error { result ≡ fault }
+    ensures proof { proof.new ≡ told proof.old }
+{
+    let complaint = proof.take_complaint();
+    match (fault.kind, complaint, proof.cause()) {
+        (Kind::OutOfMemory, _, _) => SolverError::OutOfMemory,
+        (Kind::StoreFull, _, _) => SolverError::StoreFull,
+        (Kind::VariableLimit, _, _) => SolverError::VariableLimit,
+        (Kind::CounterEnd, _, _) => SolverError::CounterEnd,
+        (Kind::Write(_), _, Some(cause)) => SolverError::ProofIoError { cause },
+        (Kind::Processor(_), Some(cause), _) => SolverError::ProofProcessorError { cause },
+        (Kind::Write(_), _, None) => unreachable!(),
+        (Kind::Processor(_), None, _) => unreachable!(),
+    }
+}

@@ -1,0 +1,168 @@
+//! A clause is learned from a conflict: its step is written, and it comes to the others.
+ghost use Rattle.std.specs.Prelude.{◌≡◌, ◌<◌, ◌≤◌, length, map, Err, false, OnOk, IfOk};
+ghost use Rattle.sat_parts.specs.clause.Glue.{levels_of, different};
+ghost use Rattle.sat_solver.specs.session.LiveClauses.{with_var};
+ghost use Rattle.sat_solver.specs.proof.ProofView.{Keeps, session_of};
+ghost use Rattle.sat_solver.specs.analyze_conflict.Derivation.{Learns, LearnsFrom};
+ghost use Rattle.sat_parts.specs.parts.Round.{AreUnits, IsBased};
+ghost use Rattle.sat_parts.specs.parts.Full.{IsFull};
+ghost use Rattle.sat_parts.specs.parts.Learned.{IsLearned};
+ghost use Rattle.sat_parts.specs.parts.Whole.{state, HoldsBelow, IsRefuted};
+ghost use Rattle.sat_solver.specs.session.Fits.{FlagFits};
+ghost use Rattle.sat_solver.specs.clause.Activity.{AreBelow};
+ghost use Rattle.sat_solver.specs.clause.Assessed.{graded, AreInvolved};
+ghost use Rattle.sat_solver.specs.cdcl.Joint.{global_in, IsFree};
+ghost use Rattle.sat_solver.specs.cdcl.Learning.{Taken, Rated, IsRated, IsRaised, LearnsClause, learned_hashes};
+ghost use Rattle.sat_solver.specs.cdcl.Turns.{IsStopped};
+ghost use Rattle.sat_store.specs.clause.Full.{OnFull};
+
+use crate::analyze_conflict::learn_from_conflict;
+use crate::cdcl::fault::{Fault, proof_fault};
+use crate::clause::activity::{bump_clauses, bump_met};
+use crate::clause::assess::assess;
+use crate::context::Search;
+use crate::proof::Proof;
+use crate::proof::map_step::{map_lits, name_clauses};
+use sat_base::{CountedWrite, Lit, ProofStep};
+use sat_checker::ProofProcessor;
+use sat_parts::Conflict;
+use sat_parts::parts::steps::{learn, undo};
+use sat_store::{ClauseHeader, StoreError};
+use std::alloc::AllocError;
+
+/// Puts the step of a learned clause together: its literals and the hashes of the clauses that it follows from, in proof variables.
+fn name_learned(search: &mut Search, _level: usize, conflict: &Conflict) -> Result<(), AllocError>
+    requires refuted { IsRefuted search.old.parts conflict.now }
+    requires names { length search.old.parts.assignment.current ≤ length search.old.globals.items }
+    requires learns { LearnsFrom search.old.parts.clauses (state search.old.parts) conflict.now search.old.analysis _level }
+    ensures same { search.new ≡ record search.old { scratch = search.new.scratch } }
+    ensures clause { OnOk result (search.new.scratch.clause.items ≡ map (with_var (global_in search.old)) search.old.analysis.clause) }
+    ensures hashes { OnOk result (search.new.scratch.hashes.items ≡ learned_hashes search.old.parts search.old.analysis conflict.now) }
+{
+    map_lits(
+        &search.globals,
+        search.analysis.clause(),
+        &mut search.scratch.clause,
+    )?;
+    name_clauses(
+        &search.parts,
+        search.analysis.used(),
+        conflict,
+        &mut search.scratch.hashes,
+    )
+}
+
+/// Goes back to a level, and takes over what was learned from a conflict. Before it comes in, the clauses that took part are raised
+/// and improved, by the levels that were.
+fn take_in(search: &mut Search, header: ClauseHeader, level: usize) -> Result<(), StoreError>
+    requires holds { HoldsBelow (length search.old.parts.trail.starts) search.old.parts }
+    requires units { AreUnits (state search.old.parts) }
+    requires base { IsBased search.old.parts.trail }
+    requires live { header.deleted ≡ false }
+    requires learned { IsLearned (state search.old.parts) search.old.analysis.clause level }
+    requires involved { AreInvolved search.old.parts search.old.flags.flags.items search.old.analysis.involved }
+    ensures same { search.new ≡ record search.old { parts = search.new.parts; activity = search.new.activity; flags = search.new.flags } }
+    ensures flags { search.new.flags.flags.items ≡ search.old.flags.flags.items }
+    ensures taken { OnOk result (Taken search.old.parts search.new.parts header search.old.analysis.clause level) }
+    ensures rated { OnOk result (Rated search.old.parts search.old.activity search.old.analysis header search.new.parts search.new.activity) }
+    ensures full { OnFull result (IsFull search.new.parts) }
+{
+    undo(&mut search.parts, level);
+    bump_clauses(
+        &mut search.parts,
+        &mut search.activity,
+        &mut search.flags,
+        search.analysis.involved(),
+    );
+    learn(&mut search.parts, header, search.analysis.clause())
+}
+
+/// Whether the step of a clause of this header says that it is redundant.
+fn says_redundant(header: &ClauseHeader, lits: &[Lit]) -> bool
+    ensures { FlagFits result header.now lits.now }
+{
+    if lits.len() < 3 {
+        return false;
+    }
+    header.redundant()
+}
+
+/// Analyses a conflict above level 0, and puts the step of what is learned together. Gives the level to go back to, and the header.
+fn analyze(search: &mut Search, conflict: &Conflict) -> Result<(usize, ClauseHeader), AllocError>
+    requires refuted { IsRefuted search.old.parts conflict.now }
+    requires above { 0 < length search.old.parts.trail.starts }
+    requires free { IsFree search.old }
+    ensures same { search.new ≡ record search.old { analysis = search.new.analysis; flags = search.new.flags; scratch = search.new.scratch } }
+    ensures free { OnOk result (IsFree search.new) }
+    ensures learns { IfOk result (λ r. LearnsFrom search.old.parts.clauses (state search.old.parts) conflict.now search.new.analysis r.0) }
+    ensures header { IfOk result (λ r. r.1 ≡ graded (different (levels_of search.old.parts.graph search.new.analysis.clause))) }
+    ensures involved { OnOk result (AreInvolved search.old.parts search.new.flags.flags.items search.new.analysis.involved) }
+    ensures met { OnOk result (AreBelow search.new.analysis.met (length search.old.parts.assignment.current)) }
+    ensures clause { OnOk result (search.new.scratch.clause.items ≡ map (with_var (global_in search.old)) search.new.analysis.clause) }
+    ensures hashes { OnOk result (search.new.scratch.hashes.items ≡ learned_hashes search.old.parts search.new.analysis conflict.now) }
+{
+    let parts = &search.parts;
+    let level = learn_from_conflict(
+        &mut search.analysis,
+        &parts.clauses,
+        &parts.db,
+        &parts.watchlists,
+        &parts.binary,
+        &parts.assignment,
+        &parts.graph,
+        &parts.trail,
+        conflict,
+    )?;
+    let header = assess(
+        &mut search.flags,
+        &search.parts.graph,
+        search.analysis.clause(),
+    );
+    name_learned(search, level, conflict)?;
+    Ok((level, header))
+}
+
+/// Learns a clause from a conflict above level 0, writes its step, and takes it over.
+fn learn_clause<W: CountedWrite + Drop, P: ProofProcessor>(
+    proof: &mut Proof<W, P>,
+    search: &mut Search,
+    conflict: &Conflict,
+) -> Result<(), Fault>
+    requires keeps { Keeps proof.old }
+    requires stopped { IsStopped (session_of proof.old) search.old conflict.now }
+    requires above { 0 < length search.old.parts.trail.starts }
+    ensures learned { LearnsClause W.seen result proof.old proof.new search.old search.new }
+    ensures met { OnOk result (AreBelow search.new.analysis.met (length search.new.parts.assignment.current)) }
+    ensures rated { OnOk result (IsRated search.old search.new) }
+{
+    let (level, header) = analyze(search, conflict)?;
+    let step = ProofStep::AtClause {
+        redundant: says_redundant(&header, search.analysis.clause()),
+        clause: &search.scratch.clause,
+        propagation_hashes: &search.scratch.hashes,
+    };
+    if let Err(error) = proof.step(&step) {
+        return Err(proof_fault(error));
+    }
+    take_in(search, header, level)?;
+    search.assumptions.cut(level);
+    Ok(())
+}
+
+/// Learns a clause from a conflict above level 0, with its step, and raises the activity of the clauses and variables that the
+/// conflict met.
+pub fn learn_from<W: CountedWrite + Drop, P: ProofProcessor>(
+    proof: &mut Proof<W, P>,
+    search: &mut Search,
+    conflict: &Conflict,
+) -> Result<(), Fault>
+    requires keeps { Keeps proof.old }
+    requires stopped { IsStopped (session_of proof.old) search.old conflict.now }
+    requires above { 0 < length search.old.parts.trail.starts }
+    ensures learned { LearnsClause W.seen result proof.old proof.new search.old search.new }
+    ensures raised { OnOk result (IsRaised search.old search.new) }
+{
+    learn_clause(proof, search, conflict)?;
+    bump_met(search);
+    Ok(())
+}

@@ -1,0 +1,94 @@
+//! What an analysis met counts for more from there on: variables are picked sooner, and clauses are kept longer.
+ghost use Rattle.std.specs.Prelude.{◌≡◌, length};
+ghost use Rattle.sat_store.specs.clause.Buffer.{lits_at};
+ghost use Rattle.sat_store.specs.heap.Vsids.{decayed};
+ghost use Rattle.sat_parts.specs.clause.Glue.{HaveFlags, AreClear};
+ghost use Rattle.sat_solver.specs.session.Session.{Session};
+ghost use Rattle.sat_parts.specs.parts.Frame.{SameClauses, SameContents};
+ghost use Rattle.sat_parts.specs.parts.Whole.{PartsInvariant, HasClause};
+ghost use Rattle.sat_parts.specs.parts.Words.{TrailWordExtends};
+ghost use Rattle.sat_solver.specs.clause.Activity.{AreBelow, AreDecays, all_bumped, Bumped};
+ghost use Rattle.sat_solver.specs.clause.Assessed.{levels_in, TakesPart, TakePart, Rates, AreInvolved};
+ghost use Rattle.sat_solver.specs.cdcl.Joint.{IsSearch};
+
+use crate::SolverConfig;
+use crate::clause::assess::improve;
+use crate::context::Search;
+use sat_base::Var;
+use sat_parts::parts::clauses::{bump_clause, bump_variable, decay_clauses, decay_variables};
+use sat_parts::{ClauseActivity, Parts, compute_clause_glue};
+use sat_store::{ClauseRef, TmpFlags};
+
+/// Raises the activity of each of these variables, and lets later bumps raise more.
+fn bump_all(parts: &mut Parts, vars: &[Var])
+    requires holds { PartsInvariant parts.old }
+    requires there { AreBelow vars.now (length parts.old.assignment.current) }
+    ensures holds { PartsInvariant parts.new }
+    ensures same { SameContents parts.old parts.new }
+    ensures word { TrailWordExtends parts.old parts.new }
+    ensures queue { parts.new.vsids ≡ decayed (all_bumped vars.now parts.old.vsids) }
+{
+    for var in vars {
+        bump_variable(parts, *var);
+    }
+    decay_variables(parts);
+}
+
+/// Raises the activity of the variables that the last analysis met.
+pub fn bump_met(search: &mut Search)
+    requires holds { PartsInvariant search.old.parts }
+    requires there { AreBelow search.old.analysis.met (length search.old.parts.assignment.current) }
+    ensures bumped { (s : Session) → IsSearch s search.old → Bumped s search.old search.new }
+    ensures rest { search.new ≡ record search.old { parts = search.new.parts } }
+    ensures clauses { SameClauses search.old.parts search.new.parts }
+    ensures queue { search.new.parts.vsids ≡ decayed (all_bumped search.old.analysis.met search.old.parts.vsids) }
+{
+    bump_all(&mut search.parts, search.analysis.met());
+}
+
+/// Lets activities decay as the parameters say.
+pub fn set_decays(search: &mut Search, config: &SolverConfig)
+    requires holds { PartsInvariant search.old.parts }
+    requires decays { AreDecays config.now }
+    ensures bumped { (s : Session) → IsSearch s search.old → Bumped s search.old search.new }
+    ensures rest { search.new ≡ record search.old { parts = search.new.parts; activity = search.new.activity } }
+    ensures parts { search.new.parts ≡ record search.old.parts { vsids = record search.old.parts.vsids { decay = config.now.vsids_decay } } }
+    ensures activity { search.new.activity ≡ record search.old.activity { decay = config.now.clause_activity_decay } }
+{
+    search.parts.vsids.set_decay(config.vsids_decay);
+    search.activity.set_decay(config.clause_activity_decay);
+}
+
+/// Raises the activity of a clause that took part in an analysis, and improves its header by the levels of its literals.
+fn bump_one(parts: &mut Parts, activity: &mut ClauseActivity, flags: &mut TmpFlags, cref: ClauseRef)
+    requires holds { PartsInvariant parts.old }
+    requires live { HasClause parts.old cref }
+    requires levels { HaveFlags parts.old.graph flags.old.flags.items (lits_at parts.old.clauses cref) }
+    requires clear { AreClear flags.old.flags.items }
+    ensures rates { Rates parts.old parts.new }
+    ensures flags { flags.new.flags.items ≡ flags.old.flags.items }
+    ensures takes { TakesPart (levels_in parts.old cref) parts.old.clauses parts.new.clauses parts.old.db.refs cref activity.old activity.new }
+{
+    bump_clause(parts, activity, cref);
+    let levels = compute_clause_glue(flags, &parts.graph, &parts.clauses, cref);
+    improve(parts, cref, levels);
+}
+
+/// Raises the activity of these clauses, which took part in an analysis, and improves their headers. Then activities decay.
+pub fn bump_clauses(
+    parts: &mut Parts,
+    activity: &mut ClauseActivity,
+    flags: &mut TmpFlags,
+    crefs: &[ClauseRef],
+)
+    requires holds { PartsInvariant parts.old }
+    requires involved { AreInvolved parts.old flags.old.flags.items crefs.now }
+    ensures rates { Rates parts.old parts.new }
+    ensures flags { flags.new.flags.items ≡ flags.old.flags.items }
+    ensures take { TakePart (levels_in parts.old) parts.old.db.refs crefs.now parts.old.clauses activity.old parts.new.clauses activity.new }
+{
+    for cref in crefs {
+        bump_one(parts, activity, flags, *cref);
+    }
+    decay_clauses(parts, activity);
+}

@@ -1,0 +1,60 @@
+//! Learned clauses are graded by the levels of their literals.
+ghost use Rattle.std.specs.Prelude.{◌≡◌, ◌<◌};
+ghost use Rattle.sat_store.specs.clause.Buffer.{header_at};
+ghost use Rattle.sat_parts.specs.clause.Db.{PutsHeader};
+ghost use Rattle.sat_parts.specs.clause.Glue.{levels_of, different, HaveNodes, HaveFlags, AreClear};
+ghost use Rattle.sat_parts.specs.parts.Whole.{PartsInvariant, HasClause};
+ghost use Rattle.sat_solver.specs.clause.Assessed.{tier_for, graded, improved, Rates};
+
+use sat_base::Lit;
+use sat_parts::parts::clauses::{put_header, set_tier};
+use sat_parts::{ImplGraph, Parts, compute_glue};
+use sat_store::{ClauseHeader, ClauseRef, Tier, TmpFlags};
+
+/// The tier of a learned clause of this glue.
+fn tier_of(glue: usize) -> Tier
+    ensures { result ≡ tier_for glue }
+{
+    if glue <= 2 {
+        return Tier::Core;
+    }
+    if glue <= 6 { Tier::Mid } else { Tier::Local }
+}
+
+/// The header of a learned clause: its glue is the number of its levels, less one.
+pub fn assess(flags: &mut TmpFlags, graph: &ImplGraph, lits: &[Lit]) -> ClauseHeader
+    requires nodes { HaveNodes graph.now lits.now }
+    requires levels { HaveFlags graph.now flags.old.flags.items lits.now }
+    requires clear { AreClear flags.old.flags.items }
+    ensures header { result ≡ graded (different (levels_of graph.now lits.now)) }
+    ensures clear { flags.new.flags.items ≡ flags.old.flags.items }
+{
+    let glue = compute_glue(flags, graph, lits).saturating_sub(1);
+    let mut header = ClauseHeader::new();
+    header.set_glue(glue);
+    header.set_tier(tier_of(glue));
+    header
+}
+
+/// Makes a clause that took part in an analysis active. A learned one whose literals are of fewer levels than its glue says takes
+/// their number as its glue, with the tier for it.
+pub fn improve(parts: &mut Parts, cref: ClauseRef, levels: usize)
+    requires holds { PartsInvariant parts.old }
+    requires live { HasClause parts.old cref }
+    ensures rates { Rates parts.old parts.new }
+    ensures put { PutsHeader parts.old.clauses parts.new.clauses parts.old.db.refs cref (improved levels (header_at parts.old.clauses cref)) }
+{
+    let mut header = parts.clauses.header(cref);
+    header.set_active(true);
+    if !header.redundant() {
+        put_header(parts, cref, header);
+        return;
+    }
+    if levels >= header.glue() {
+        put_header(parts, cref, header);
+        return;
+    }
+    header.set_glue(levels);
+    put_header(parts, cref, header);
+    set_tier(parts, cref, tier_of(levels));
+}

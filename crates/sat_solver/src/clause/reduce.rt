@@ -1,0 +1,154 @@
+//! Learned clauses that are used least are deleted, and the room of deleted clauses is taken back.
+ghost use Rattle.std.specs.Prelude.{◌≡◌, ◌-◌, ◌<◌, if◌then◌else◌, OnOk, Err, length, map};
+ghost use Rattle.sat_store.specs.clause.Buffer.{IsClause, lits_at};
+ghost use Rattle.sat_solver.specs.session.LiveClauses.{with_var};
+ghost use Rattle.sat_solver.specs.proof.ProofView.{Keeps, session_of};
+ghost use Rattle.sat_solver.specs.session.Session.{Session};
+ghost use Rattle.sat_parts.specs.parts.Whole.{PartsInvariant};
+ghost use Rattle.sat_solver.specs.session.Naming.{global_of};
+ghost use Rattle.sat_solver.specs.cdcl.Going.{EmitsSteps};
+ghost use Rattle.sat_solver.specs.cdcl.Joint.{IsSearch};
+ghost use Rattle.sat_solver.specs.clause.Reduced.{IsLearnt, Deleted, Reduced, ReducesLocals, ReducesMids, CollectsWhereDue, Reduces, ReducesBy};
+ghost use Rattle.sat_parts.specs.clause.Glue.{VariablesBelow};
+ghost use Rattle.sat_store.specs.clause.Full.{OnFull};
+
+use crate::SolverConfig;
+use crate::cdcl::fault::{Fault, proof_fault};
+use crate::context::Search;
+use crate::proof::Proof;
+use sat_base::{CountedWrite, DeleteClauseProof, Lit, ProofStep, Var};
+use sat_checker::ProofProcessor;
+use sat_parts::Parts;
+use sat_parts::parts::clauses::{collect, drop_clause, reduce_middle};
+use sat_parts::parts::reduce::list_locals;
+use sat_store::{ClauseRef, StoreError};
+use std::alloc::AllocError;
+
+/// Puts the literals of a long clause, in proof variables, into a list in place of what it had.
+pub fn map_clause(
+    parts: &Parts,
+    globals: &[Var],
+    cref: ClauseRef,
+    clause: &mut Vec<Lit>,
+) -> Result<(), AllocError>
+    requires clause { IsClause parts.now.clauses cref }
+    requires names { VariablesBelow (lits_at parts.now.clauses cref) (length globals.now) }
+    ensures { OnOk result (clause.new.items ≡ map (with_var (global_of globals.now)) (lits_at parts.now.clauses cref)) }
+{
+    let lits = parts.clauses.clause(cref).lits();
+    clause.clear();
+    for at in 0..lits.len() {
+        let lit = lits.get(at);
+        let var = globals[lit.index()];
+        clause.push(Lit::from_var(var, lit.is_positive()))?;
+    }
+    Ok(())
+}
+
+/// Deletes a learned clause that no value depends on, and writes its step. Answers whether it did.
+fn delete_learned<W: CountedWrite + Drop, P: ProofProcessor>(
+    proof: &mut Proof<W, P>,
+    search: &mut Search,
+    cref: ClauseRef,
+) -> Result<bool, Fault>
+    requires keeps { Keeps proof.old }
+    requires search { IsSearch (session_of proof.old) search.old }
+    requires learned { IsLearnt search.old.parts cref }
+    ensures { EmitsSteps W.seen result proof.old proof.new (λ deleted _. Deleted deleted cref (session_of proof.new) search.old search.new) }
+{
+    map_clause(
+        &search.parts,
+        &search.globals,
+        cref,
+        &mut search.scratch.clause,
+    )?;
+    if !drop_clause(&mut search.parts, cref) {
+        return Ok(false);
+    }
+    let step = ProofStep::DeleteClause {
+        clause: &search.scratch.clause,
+        proof: DeleteClauseProof::Redundant,
+    };
+    match proof.step(&step) {
+        Ok(()) => Ok(true),
+        Err(error) => Err(proof_fault(error)),
+    }
+}
+
+/// How many clauses are still to be deleted.
+fn left_after(left: usize, deleted: bool) -> usize
+    requires { 0 < left }
+    ensures { result ≡ (if deleted then left - 1 else left) }
+{
+    if deleted { left - 1 } else { left }
+}
+
+/// Deletes half of the clauses of tier Local where that is due: those that were used least, without those that values depend on.
+fn reduce_locals<W: CountedWrite + Drop, P: ProofProcessor>(
+    proof: &mut Proof<W, P>,
+    search: &mut Search,
+    is_due: bool,
+) -> Result<(), Fault>
+    requires keeps { Keeps proof.old }
+    requires search { IsSearch (session_of proof.old) search.old }
+    ensures { ReducesBy (ReducesLocals is_due) W.seen result proof.old proof.new search.old search.new }
+{
+    if !is_due {
+        return Ok(());
+    }
+    let mut list = Vec::new(search.alloc);
+    list_locals(search.alloc, &search.parts, &mut list)?;
+    let mut left = list.len() / 2;
+    for at in 0..list.len() {
+        if left == 0 {
+            return Ok(());
+        }
+        let deleted = delete_learned(proof, search, list[at])?;
+        left = left_after(left, deleted);
+    }
+    Ok(())
+}
+
+/// Moves unused clauses of tier Mid to Local where that is due.
+fn reduce_mids(search: &mut Search, is_due: bool)
+    requires holds { PartsInvariant search.old.parts }
+    ensures holds { PartsInvariant search.new.parts }
+    ensures reduced { (s : Session) → IsSearch s search.old → Reduced s search.old search.new }
+    ensures mids { ReducesMids is_due search.old.parts search.new.parts }
+{
+    if !is_due {
+        return;
+    }
+    reduce_middle(&mut search.parts);
+}
+
+/// Collects deleted clauses.
+fn collect_deleted(search: &mut Search) -> Result<(), StoreError>
+    requires holds { PartsInvariant search.old.parts }
+    ensures reduced { OnOk result ((s : Session) → IsSearch s search.old → Reduced s search.old search.new) }
+    ensures collects { OnOk result (CollectsWhereDue search.old.parts search.new.parts) }
+    ensures room { OnFull result ⊥ }
+{
+    collect(search.alloc, &mut search.parts)
+}
+
+/// Reduces the learned clauses where that is due before this round: first those of tier Local, then those of tier Mid. Then it
+/// collects deleted clauses.
+pub fn reduce<W: CountedWrite + Drop, P: ProofProcessor>(
+    proof: &mut Proof<W, P>,
+    search: &mut Search,
+    config: &SolverConfig,
+    round: u64,
+) -> Result<(), Fault>
+    requires keeps { Keeps proof.old }
+    requires search { IsSearch (session_of proof.old) search.old }
+    requires locals { 0 < config.now.reduce_locals_interval }
+    requires mids { 0 < config.now.reduce_mids_interval }
+    ensures { ReducesBy (Reduces config.now round) W.seen result proof.old proof.new search.old search.new }
+{
+    let are_locals_due = round % config.reduce_locals_interval == 0;
+    reduce_locals(proof, search, are_locals_due)?;
+    reduce_mids(search, round % config.reduce_mids_interval == 0);
+    collect_deleted(search)?;
+    Ok(())
+}

@@ -1,0 +1,60 @@
+//! What a search works with.
+ghost use Rattle.std.specs.Prelude.{◌≡◌, []};
+ghost use Rattle.sat_solver.specs.session.Session.{nothing};
+ghost use Rattle.sat_solver.specs.cdcl.Joint.{IsSearch};
+
+use crate::analyze_conflict::Analysis;
+use sat_base::{ClauseHash, Lit, Var};
+use sat_parts::parts::assumptions::Assumptions;
+use sat_parts::parts::no_parts;
+use sat_parts::{ClauseActivity, Parts};
+use sat_store::TmpFlags;
+use std::alloc::Global;
+
+/// Lists that steps are made of.
+#[derive(Drop)]
+pub struct Scratch {
+    pub clause: Vec<Lit>,
+    pub hashes: Vec<ClauseHash>,
+    pub units: Vec<(Lit, ClauseHash)>,
+}
+
+/// What a search works with, beside its proof.
+#[derive(Drop)]
+pub struct Search {
+    pub alloc: Global,
+    pub parts: Parts,
+    pub assumptions: Assumptions,
+    pub analysis: Analysis,
+    pub activity: ClauseActivity,
+    pub flags: TmpFlags,
+    /// The proof variable of each variable of the search.
+    pub globals: Vec<Var>,
+    pub scratch: Scratch,
+    /// The assumption that failed last.
+    pub failed: Lit,
+}
+
+/// No variables, no clauses and no assumptions. Takes no memory.
+pub fn no_search(alloc: Global) -> Search
+    ensures search { IsSearch nothing result }
+    ensures bottom { result.parts.trail.starts ≡ [] }
+    ensures values { result.parts.assignment.current ≡ [] }
+    ensures globals { result.globals.items ≡ [] }
+{
+    Search {
+        alloc,
+        parts: no_parts(alloc),
+        assumptions: Assumptions::new(alloc),
+        analysis: Analysis::new(alloc),
+        activity: ClauseActivity::default(),
+        flags: TmpFlags::new(alloc),
+        globals: Vec::new(alloc),
+        scratch: Scratch {
+            clause: Vec::new(alloc),
+            hashes: Vec::new(alloc),
+            units: Vec::new(alloc),
+        },
+        failed: Lit::from_code(0),
+    }
+}

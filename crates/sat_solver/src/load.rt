@@ -1,0 +1,101 @@
+//! A clause comes to a search.
+ghost use Rattle.std.specs.Prelude.{◌≡◌, ◌<◌, length, true, OnOk};
+ghost use Rattle.sat_base.specs.steps.Steps.{DeleteClause, Satisfied};
+ghost use Rattle.sat_solver.specs.session.Coming.{OnlyAllowedSteps, DeletesAdded};
+ghost use Rattle.sat_solver.specs.session.Session.{May};
+ghost use Rattle.sat_solver.specs.proof.ProofView.{Keeps, steps_of, session_of};
+ghost use Rattle.sat_solver.specs.session.Naming.{global_of};
+ghost use Rattle.sat_solver.specs.cdcl.Joint.{global_in};
+ghost use Rattle.sat_solver.specs.load.Loaded.{MayLoad, IsAdded, satisfied_step, DeletesSatisfied, DeletesTrue, LoadsClause};
+ghost use Rattle.sat_parts.specs.clause.Glue.{VariablesBelow};
+
+pub mod assume;
+pub mod backtrack;
+pub mod clause;
+pub mod faults;
+pub mod literals;
+
+use crate::cdcl::fault::{Fault, Kind, proof_fault};
+use crate::context::Search;
+use crate::decision::make_ready;
+use crate::load::backtrack::back_to_bottom;
+use crate::proof::Proof;
+use crate::proof::map_step::map_lits;
+use sat_base::{CountedWrite, DeleteClauseProof, Lit, ProofStep, Var};
+use sat_checker::ProofProcessor;
+use sat_parts::parts::load::{Loaded, load};
+use sat_parts::parts::sorting::Sorting;
+
+/// Deletes a clause that has a true literal.
+pub fn delete_satisfied<W: CountedWrite + Drop, P: ProofProcessor>(
+    proof: &mut Proof<W, P>,
+    globals: &[Var],
+    lits: &[Lit],
+    clause: &mut Vec<Lit>,
+) -> Result<(), Fault>
+    requires keeps { Keeps proof.old }
+    requires names { VariablesBelow lits.now (length globals.now) }
+    requires may { May (session_of proof.old) (satisfied_step (global_of globals.now) lits.now) }
+    ensures { DeletesSatisfied W.seen result proof.old proof.new (global_of globals.now) lits.now }
+{
+    if map_lits(globals, lits, clause).is_err() {
+        return Err(Fault::of(Kind::OutOfMemory));
+    }
+    let step = ProofStep::DeleteClause {
+        clause,
+        proof: DeleteClauseProof::Satisfied,
+    };
+    match proof.step(&step) {
+        Ok(()) => Ok(()),
+        Err(error) => Err(proof_fault(error)),
+    }
+}
+
+/// Deletes a clause that has a true literal, and answers that a valuation may be left.
+fn delete_true<W: CountedWrite + Drop, P: ProofProcessor>(
+    proof: &mut Proof<W, P>,
+    search: &mut Search,
+    lits: &[Lit],
+) -> Result<bool, Fault>
+    requires keeps { Keeps proof.old }
+    requires names { VariablesBelow lits.now (length search.old.globals.items) }
+    requires may { May (session_of proof.old) (satisfied_step (global_in search.old) lits.now) }
+    ensures same { search.new ≡ record search.old { scratch = search.new.scratch } }
+    ensures deletes { DeletesTrue W.seen result proof.old proof.new (global_in search.old) lits.now }
+{
+    let clause = &mut search.scratch.clause;
+    match delete_satisfied(proof, &search.globals, lits, clause) {
+        Ok(()) => Ok(true),
+        Err(error) => Err(error),
+    }
+}
+
+/// Loads a clause, at level 0, that the last step added. One with a true literal and another one is deleted at once. Answers
+/// whether a valuation may be left: for a clause without literals, or whose one literal is false, it's not, and unsat is recorded.
+pub fn load_clause<W: CountedWrite + Drop, P: ProofProcessor>(
+    proof: &mut Proof<W, P>,
+    search: &mut Search,
+    lits: &[Lit],
+    sorting: &mut Sorting,
+) -> Result<bool, Fault>
+    requires keeps { Keeps proof.old }
+    requires added { IsAdded (steps_of proof.old) search.old lits.now }
+    requires may { MayLoad search.old lits.now }
+    ensures goes { LoadsClause W.seen result proof.old proof.new search.old search.new }
+    ensures comes { OnOk result (OnlyAllowedSteps DeletesAdded (steps_of proof.old) (steps_of proof.new)) }
+{
+    make_ready(&mut search.parts, lits);
+    let loaded = load(&mut search.parts, lits, sorting)?;
+    back_to_bottom(search);
+    match loaded {
+        Loaded::Stored => Ok(true),
+        Loaded::Unit => Ok(true),
+        Loaded::Falsified => Ok(false),
+        Loaded::Satisfied => {
+            if sorting.lits.len() < 2 {
+                return Ok(true);
+            }
+            delete_true(proof, search, &sorting.lits)
+        }
+    }
+}

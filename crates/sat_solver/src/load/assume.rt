@@ -1,0 +1,80 @@
+//! Takes assumptions over names.
+ghost use Rattle.std.specs.Prelude.{ℕ, ◌≡◌, ◌<◌, OnOk, map, length, slice_index_or};
+ghost use Rattle.sat_base.specs.steps.Steps.{Assumptions};
+ghost use Rattle.sat_checker.specs.LiteralSets.{mentions};
+ghost use Rattle.sat_solver.specs.session.Session.{session_after};
+ghost use Rattle.sat_solver.specs.session.LiveClauses.{with_var};
+ghost use Rattle.sat_store.specs.variables.VarData.{unused_variable};
+ghost use Rattle.sat_solver.specs.variables.Variables.{AreTidy, data_at};
+ghost use Rattle.sat_solver.specs.load.Literals.{NoWitness, Images, global_in};
+ghost use Rattle.sat_solver.specs.load.Assumed.{Marks, PutsMarks, Assumes};
+ghost use Rattle.sat_solver.specs.variables.Calls.{NamesInvariant};
+ghost use Rattle.sat_solver.specs.variables.Failing.{EmitsOrFails, OnlyFails};
+ghost use Rattle.sat_solver.specs.variables.Room.{users_in};
+ghost use Rattle.sat_parts.specs.clause.Glue.{VariablesBelow};
+
+use crate::load::literals::{Taken, map_lits, take_names};
+use crate::variables::Variables;
+use crate::variables::error::NameError;
+use crate::variables::log::StepWriter;
+use crate::variables::maps::set_assumed;
+use sat_base::{Lit, ProofStep};
+use sat_store::VarData;
+use std::alloc::AllocError;
+
+/// Marks the variables of literals as assumed, or not.
+fn mark_all(list: &mut Vec<VarData>, lits: &[Lit], assumed: bool)
+    requires within { VariablesBelow lits.now (length list.old.items) }
+    ensures marks { Marks (λ v. slice_index_or list.old.items v unused_variable)
+        (λ v. slice_index_or list.new.items v unused_variable) lits.now assumed }
+    ensures size { length list.new.items ≡ length list.old.items }
+{
+    for lit in lits {
+        set_assumed(list, lit.var(), assumed);
+    }
+}
+
+/// The marks of the earlier assumptions go, and those that were taken are listed over the proof's variables and marked.
+fn change_marks(
+    variables: &mut Variables,
+    _user: &[Lit],
+    asked: &mut Taken,
+) -> Result<(), AllocError>
+    requires tidy { AreTidy variables.old }
+    requires marked { (v : ℕ) → mentions asked.old.globals.items v ≡ (data_at variables.old v).assumed }
+    requires images { Images variables.old _user.now asked.old.order.items }
+    ensures puts { OnOk result (PutsMarks variables.old variables.new asked.new.globals.items) }
+    ensures globals { OnOk result (asked.new.globals.items ≡ map (with_var (global_in variables.old)) asked.old.order.items) }
+    ensures order { asked.new.order ≡ asked.old.order }
+    ensures given { asked.new.given ≡ asked.old.given }
+{
+    mark_all(&mut variables.var_data, &asked.globals, false);
+    map_lits(&variables.globals, &asked.order, &mut asked.globals)?;
+    mark_all(&mut variables.var_data, &asked.globals, true);
+    Ok(())
+}
+
+/// Replaces the assumptions by others without a name of mode witness. `asked` has the assumptions so far, over the proof's
+/// variables, and afterwards those taken.
+pub fn assume<W: StepWriter>(
+    variables: &mut Variables,
+    writer: &mut W,
+    lits: &[Lit],
+    asked: &mut Taken,
+) -> Result<(), NameError>
+    requires stands { NamesInvariant variables.old (W.steps writer.old) }
+    requires keeps { W.keeps writer.old }
+    requires sampled { NoWitness variables.old lits.now }
+    requires asked { asked.old.globals.items ≡ (session_after (W.steps writer.old)).assumed }
+    ensures assumes { OnOk result (Assumes variables.old variables.new (W.steps writer.old) (W.steps writer.new) lits.now asked.new) }
+    ensures room { OnlyFails result variables.old (users_in lits.now) }
+    ensures keeps { OnOk result (W.keeps writer.new) }
+    ensures came { EmitsOrFails W.took W.broke result writer.old writer.new }
+{
+    take_names(variables, writer, lits, asked)?;
+    change_marks(variables, lits, asked)?;
+    writer.step(&ProofStep::Assumptions {
+        assumptions: &asked.globals,
+    })?;
+    Ok(())
+}

@@ -1,0 +1,100 @@
+//! Takes a clause over names.
+ghost use Rattle.std.specs.Prelude.{◌≡◌, true, ◌∷◌, [], map, OnOk, IfOk, IfErr};
+ghost use Rattle.sat_base.specs.script.Judge.{with_clause};
+ghost use Rattle.sat_base.specs.steps.Steps.{AddClause};
+ghost use Rattle.sat_solver.specs.load.Literals.{NoWitness, SameLiterals, named_literal, Images, MapsClause};
+ghost use Rattle.sat_solver.specs.load.Clauses.{AddsClause, LeavesOut};
+ghost use Rattle.sat_checker.specs.matching.Expected.{Adds};
+ghost use Rattle.sat_solver.specs.variables.Calls.{NamesInvariant, NamesRefineJudge};
+ghost use Rattle.sat_solver.specs.variables.Variables.{AreTidy};
+ghost use Rattle.sat_solver.specs.session.Session.{session_after};
+ghost use Rattle.sat_checker.specs.LiteralSets.{is_tautology};
+ghost use Rattle.sat_solver.specs.variables.Failing.{IsFailure, EmitsOrFails, OnlyFails};
+ghost use Rattle.sat_solver.specs.variables.Room.{users_in};
+
+use crate::load::literals::{Taken, map_lits, take_names};
+use crate::variables::Variables;
+use crate::variables::error::NameError;
+use crate::variables::log::StepWriter;
+use crate::variables::user_vars::global_from_user;
+use sat_base::{Lit, ProofStep};
+use sat_checker::sorted_lits::copy_canonical;
+
+/// Writes a clause over variables that names in use have, none of mode witness.
+fn write_clause<W: StepWriter>(
+    _variables: &Variables,
+    writer: &mut W,
+    _user: &[Lit],
+    clause: &[Lit],
+) -> Result<(), NameError>
+    requires stands { NamesInvariant _variables.now (W.steps writer.old) }
+    requires keeps { W.keeps writer.old }
+    requires literals { SameLiterals _variables.now _user.now clause.now }
+    ensures does { OnOk result (NamesRefineJudge _variables.now _variables.now (W.steps writer.old) (W.steps writer.new)
+        (with_clause (map named_literal _user.now)) (λ j. Adds (map named_literal _user.now) ∷ [])) }
+    ensures step { OnOk result (W.steps writer.new ≡ AddClause clause.now ∷ W.steps writer.old) }
+    ensures fails { IfErr result IsFailure }
+    ensures keeps { OnOk result (W.keeps writer.new) }
+    ensures came { EmitsOrFails W.took W.broke result writer.old writer.new }
+{
+    writer.step(&ProofStep::AddClause { clause })?;
+    Ok(())
+}
+
+/// Sorts the literals that were taken, without repeats, and lists them over the proof's variables. The answer is whether both
+/// signs of a variable are among them.
+fn map_clause(variables: &Variables, _user: &[Lit], taken: &mut Taken) -> Result<bool, NameError>
+    requires tidy { AreTidy variables.now }
+    requires images { Images variables.now _user.now taken.old.order.items }
+    ensures maps { OnOk result (MapsClause variables.now taken.new) }
+    ensures signs { IfOk result (λ both. both ≡ is_tautology taken.new.order.items) }
+    ensures order { taken.new.order ≡ taken.old.order }
+    ensures given { taken.new.given ≡ taken.old.given }
+    ensures memory { IfErr result (λ e. e ≡ NameError.OutOfMemory) }
+{
+    let both_signs = copy_canonical(&mut taken.lits, &taken.order)?;
+    map_lits(&variables.globals, &taken.lits, &mut taken.globals)?;
+    Ok(both_signs)
+}
+
+/// Adds a clause without a name of mode witness, while the clauses aren't known to be unsatisfiable. The answer is whether both
+/// signs of a variable are in the clause, which then is written and nothing more.
+pub fn add_clause<W: StepWriter>(
+    variables: &mut Variables,
+    writer: &mut W,
+    lits: &[Lit],
+    taken: &mut Taken,
+) -> Result<bool, NameError>
+    requires stands { NamesInvariant variables.old (W.steps writer.old) }
+    requires keeps { W.keeps writer.old }
+    requires sampled { NoWitness variables.old lits.now }
+    ensures adds { IfOk result (AddsClause variables.old variables.new (W.steps writer.old) (W.steps writer.new) lits.now taken.new) }
+    ensures room { OnlyFails result variables.old (users_in lits.now) }
+    ensures keeps { OnOk result (W.keeps writer.new) }
+    ensures came { EmitsOrFails W.took W.broke result writer.old writer.new }
+{
+    take_names(variables, writer, lits, taken)?;
+    let both_signs = map_clause(variables, lits, taken)?;
+    write_clause(variables, writer, lits, &taken.globals)?;
+    Ok(both_signs)
+}
+
+/// Takes a clause once the clauses are known to be unsatisfiable: its names come in, and it isn't written.
+pub fn leave_out_clause<W: StepWriter>(
+    variables: &mut Variables,
+    writer: &mut W,
+    lits: &[Lit],
+) -> Result<(), NameError>
+    requires stands { NamesInvariant variables.old (W.steps writer.old) }
+    requires keeps { W.keeps writer.old }
+    requires unsat { (session_after (W.steps writer.old)).unsat ≡ true }
+    ensures leaves { OnOk result (LeavesOut variables.old variables.new (W.steps writer.old) (W.steps writer.new) lits.now) }
+    ensures room { OnlyFails result variables.old (users_in lits.now) }
+    ensures keeps { OnOk result (W.keeps writer.new) }
+    ensures came { EmitsOrFails W.took W.broke result writer.old writer.new }
+{
+    for lit in lits {
+        global_from_user(variables, writer, lit.var())?;
+    }
+    Ok(())
+}

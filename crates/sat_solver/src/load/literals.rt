@@ -1,0 +1,85 @@
+//! Names of literals come in, and their variables get indices.
+ghost use Rattle.std.specs.Prelude.{◌≡◌, ◌<◌, [], OnOk, length, map, slice_index_or};
+ghost use Rattle.sat_solver.specs.session.LiveClauses.{with_var};
+ghost use Rattle.sat_solver.specs.load.Literals.{Takes};
+ghost use Rattle.sat_solver.specs.variables.Calls.{NamesInvariant};
+ghost use Rattle.sat_solver.specs.variables.Failing.{EmitsOrFails, OnlyFails};
+ghost use Rattle.sat_solver.specs.variables.Room.{users_in};
+ghost use Rattle.sat_parts.specs.clause.Glue.{VariablesBelow};
+
+use crate::variables::Variables;
+use crate::variables::error::NameError;
+use crate::variables::log::StepWriter;
+use crate::variables::solver_vars::{Given, solver_from_global};
+use crate::variables::user_vars::global_from_user;
+use sat_base::{Lit, Var};
+use std::alloc::{AllocError, Global};
+
+/// What a call over literals leaves for the search.
+#[derive(Drop)]
+pub struct Taken {
+    /// The literals over indices of the search, in the order of the call.
+    pub order: Vec<Lit>,
+
+    /// The same as a set, in order of their codes.
+    pub lits: Vec<Lit>,
+
+    /// What was written of them: literals over variables of the proof.
+    pub globals: Vec<Lit>,
+
+    /// The indices that the call gave, in order.
+    pub given: Vec<Given>,
+}
+
+impl Taken {
+    /// No literal. Takes no memory.
+    pub fn new(alloc: Global) -> Taken
+        ensures order { result.order.items ≡ [] }
+        ensures globals { result.globals.items ≡ [] }
+    {
+        Taken {
+            order: Vec::new(alloc),
+            lits: Vec::new(alloc),
+            globals: Vec::new(alloc),
+            given: Vec::new(alloc),
+        }
+    }
+}
+
+/// Brings in the names of literals from left to right, and gives their variables indices.
+pub fn take_names<W: StepWriter>(
+    variables: &mut Variables,
+    writer: &mut W,
+    lits: &[Lit],
+    taken: &mut Taken,
+) -> Result<(), NameError>
+    requires stands { NamesInvariant variables.old (W.steps writer.old) }
+    requires keeps { W.keeps writer.old }
+    ensures takes { OnOk result (Takes variables.old variables.new (W.steps writer.old) (W.steps writer.new) lits.now taken.new) }
+    ensures room { OnlyFails result variables.old (users_in lits.now) }
+    ensures globals { taken.new.globals ≡ taken.old.globals }
+    ensures keeps { OnOk result (W.keeps writer.new) }
+    ensures came { EmitsOrFails W.took W.broke result writer.old writer.new }
+{
+    taken.order.clear();
+    taken.given.clear();
+    for lit in lits {
+        let global = global_from_user(variables, writer, lit.var())?;
+        let solver = solver_from_global(variables, writer, global, &mut taken.given)?;
+        taken.order.push(solver.lit(lit.is_positive()))?;
+    }
+    Ok(())
+}
+
+/// Puts literals over variables of the proof into a list in place of what it had.
+pub fn map_lits(globals: &[Var], lits: &[Lit], mapped: &mut Vec<Lit>) -> Result<(), AllocError>
+    requires { VariablesBelow lits.now (length globals.now) }
+    ensures { OnOk result (mapped.new.items ≡ map (with_var (λ x. slice_index_or globals.now x 0)) lits.now) }
+{
+    mapped.clear();
+    for lit in lits {
+        let var = globals[lit.index()];
+        mapped.push(Lit::from_var(var, lit.is_positive()))?;
+    }
+    Ok(())
+}

@@ -1,0 +1,122 @@
+//! Literals that follow from the others of the clause are dropped.
+ghost use Rattle.std.specs.Prelude.{◌≡◌, length, OnOk, IfOk};
+ghost use Rattle.sat_parts.specs.clause.Glue.{HaveNodes};
+ghost use Rattle.sat_parts.specs.prop.Causes.{falsified};
+ghost use Rattle.sat_parts.specs.prop.Ready.{state_of, IsFalsified};
+ghost use Rattle.sat_solver.specs.analyze_conflict.Marks.{CanAnalyze};
+ghost use Rattle.sat_solver.specs.analyze_conflict.Derivation.{IsAsserting, HasGrounds, FlagsAmong, IsUipClause};
+ghost use Rattle.sat_solver.specs.analyze_conflict.Involved.{KeepsResolved};
+ghost use Rattle.sat_solver.specs.analyze_conflict.Minimal.{HasSearched, Searches, MayStart, followed};
+
+use crate::analyze_conflict::work::Analysis;
+use sat_base::Lit;
+use sat_parts::{Assignment, CauseLits, Conflict, ImplGraph, Trail};
+use sat_store::{ClauseAlloc, LevelAbstraction};
+use std::alloc::AllocError;
+
+/// Marks the literals of a reason that aren't marked yet, and answers whether each of them may follow from the clause. It stops at
+/// the first one that may not.
+fn follow(
+    analysis: &mut Analysis,
+    graph: &ImplGraph,
+    levels: &LevelAbstraction,
+    lits: &CauseLits,
+) -> Result<bool, AllocError>
+    requires nodes { HaveNodes graph.now lits.now }
+    requires flags { length analysis.old.flags ≡ length graph.now }
+    ensures { IfOk result (λ b. followed graph.now levels.now lits.now analysis.old ≡ record { work = analysis.new; whole = b }) }
+{
+    for at in 0..lits.len() {
+        let lit = lits.get(at);
+        let level = graph.level(lit.var());
+        if level == 0 || analysis.is_flagged(lit) {
+            continue;
+        }
+        let reason = graph.reason(lit.var());
+        if reason.is_unit() || !levels.test(level) {
+            return Ok(false);
+        }
+        analysis.mark(lit)?;
+    }
+    Ok(true)
+}
+
+/// Whether the literal follows from the others of the clause. The literals by which it does are then among the used ones.
+fn is_implied(
+    analysis: &mut Analysis,
+    clauses: &ClauseAlloc,
+    assignment: &Assignment,
+    graph: &ImplGraph,
+    trail: &Trail,
+    conflict: &Conflict,
+    levels: &LevelAbstraction,
+    low: usize,
+    lit: Lit,
+) -> Result<bool, AllocError>
+    requires can { CanAnalyze clauses.now (state_of assignment.now graph.now trail.now) }
+    requires searching { HasSearched clauses.now (state_of assignment.now graph.now trail.now) conflict.now low analysis.old }
+    requires may { MayStart (state_of assignment.now graph.now trail.now) analysis.old lit }
+    ensures { IfOk result (λ b. Searches clauses.now (state_of assignment.now graph.now trail.now) conflict.now low lit analysis.old analysis.new b) }
+{
+    let top = analysis.used().len();
+    analysis.use_up(!lit)?;
+    let mut at = top;
+    while at < analysis.used().len() {
+        let next = analysis.used()[at];
+        let reason = graph.reason(next.var());
+        if !follow(analysis, graph, levels, &reason.lits(clauses))? {
+            analysis.undo(top);
+            return Ok(false);
+        }
+        at += 1;
+    }
+    Ok(true)
+}
+
+/// The levels of the literals.
+fn levels_of(graph: &ImplGraph, lits: &[Lit]) -> LevelAbstraction
+    requires { HaveNodes graph.now lits.now }
+{
+    let mut levels = LevelAbstraction::default();
+    for lit in lits {
+        levels.add(graph.level(lit.var()));
+    }
+    levels
+}
+
+/// Drops the literals of the clause that follow from its others, but for the first one.
+pub(crate) fn minimize_clause(
+    analysis: &mut Analysis,
+    clauses: &ClauseAlloc,
+    assignment: &Assignment,
+    graph: &ImplGraph,
+    trail: &Trail,
+    conflict: &Conflict,
+) -> Result<(), AllocError>
+    requires can { CanAnalyze clauses.now (state_of assignment.now graph.now trail.now) }
+    requires fails { IsFalsified assignment.now.current (falsified clauses.now conflict.now) }
+    requires resolved { IsUipClause clauses.now (state_of assignment.now graph.now trail.now) conflict.now analysis.old }
+    ensures asserting { OnOk result (IsAsserting (state_of assignment.now graph.now trail.now) analysis.new.clause) }
+    ensures grounds { OnOk result (HasGrounds clauses.now (state_of assignment.now graph.now trail.now) conflict.now analysis.new) }
+    ensures among { OnOk result (FlagsAmong analysis.new) }
+    ensures kept { OnOk result (KeepsResolved (state_of assignment.now graph.now trail.now) analysis.old analysis.new) }
+    ensures size { OnOk result (length analysis.new.flags ≡ length analysis.old.flags) }
+{
+    let levels = levels_of(graph, analysis.clause());
+    let low = analysis.used().len();
+    let mut kept = 1;
+    for at in 1..analysis.clause().len() {
+        let lit = analysis.clause()[at];
+        let reason = graph.reason(lit.var());
+        if reason.is_unit()
+            || !is_implied(
+                analysis, clauses, assignment, graph, trail, conflict, &levels, low, lit,
+            )?
+        {
+            analysis.keep(kept, lit);
+            kept += 1;
+        }
+    }
+    analysis.cut(kept);
+    Ok(())
+}

@@ -1,0 +1,109 @@
+//! Models over the proof's variables and over names, from the values of the search.
+ghost use Rattle.std.specs.Prelude.{◌≡◌, ◌<◌, ◌++◌, OnOk, Option, None, slice_index_or};
+ghost use Rattle.sat_solver.specs.variables.Variables.{AreTidy, global_of, names_used, variables_used};
+ghost use Rattle.sat_solver.specs.Models.{is_true, value_in, literal_in, model_to, name_literal, named_to};
+
+use crate::variables::Variables;
+use sat_base::{Lit, Var};
+use std::alloc::AllocError;
+
+fn holds(value: Option<bool>) -> bool
+    ensures { result ≡ is_true value }
+{
+    match value {
+        Some(value) => value,
+        None => false,
+    }
+}
+
+/// The value of an index of the search, false where it has none.
+fn value_at(values: &[Option<bool>], solver: Var) -> bool
+    ensures { result ≡ is_true (slice_index_or values.now solver None) }
+{
+    let index = solver.index();
+    if index >= values.len() {
+        return false;
+    }
+    holds(values[index])
+}
+
+/// The value of a variable of the proof: that of its index, else its unit's, else false.
+pub fn value_of(variables: &Variables, values: &[Option<bool>], global: Var) -> bool
+    requires within { global < variables_used variables.now }
+    ensures { result ≡ value_in variables.now values.now global }
+{
+    match variables.solver_from_global.fwd().get(global) {
+        Some(solver) => value_at(values, solver),
+        None => holds(variables.unit(global)),
+    }
+}
+
+/// Puts the literal of a variable of the proof behind others, where the variable is in use.
+fn push_value(
+    variables: &Variables,
+    values: &[Option<bool>],
+    global: Var,
+    lits: &mut Vec<Lit>,
+) -> Result<(), AllocError>
+    requires within { global < variables_used variables.now }
+    ensures { OnOk result (lits.new.items ≡ lits.old.items ++ literal_in variables.now values.now global) }
+{
+    if variables.is_deleted(global) {
+        return Ok(());
+    }
+    let value = value_of(variables, values, global);
+    lits.push(global.lit(value))?;
+    Ok(())
+}
+
+/// Puts a literal for each variable of the proof in use, by increasing variable, into a list in place of what it had.
+pub fn model_lits(
+    variables: &Variables,
+    values: &[Option<bool>],
+    lits: &mut Vec<Lit>,
+) -> Result<(), AllocError>
+    requires tidy { AreTidy variables.now }
+    ensures { OnOk result (lits.new.items ≡ model_to variables.now values.now (variables_used variables.now)) }
+{
+    lits.clear();
+    let count = variables.used_count();
+    for index in 0..count {
+        push_value(variables, values, Var::from_index(index), lits)?;
+    }
+    Ok(())
+}
+
+/// Puts the literal of a name behind others, where the name is in use.
+fn push_named(
+    variables: &Variables,
+    values: &[Option<bool>],
+    user: Var,
+    lits: &mut Vec<Lit>,
+) -> Result<(), AllocError>
+    requires tidy { AreTidy variables.now }
+    ensures { OnOk result (lits.new.items ≡ lits.old.items ++ name_literal variables.now values.now user (global_of variables.now user)) }
+{
+    let Some(global) = variables.global_from_user.fwd().get(user) else {
+        return Ok(());
+    };
+    let value = value_of(variables, values, global);
+    lits.push(user.lit(value))?;
+    Ok(())
+}
+
+/// Puts a literal for each name in use, by increasing name, into a list in place of what it had.
+pub fn named_lits(
+    variables: &Variables,
+    values: &[Option<bool>],
+    lits: &mut Vec<Lit>,
+) -> Result<(), AllocError>
+    requires tidy { AreTidy variables.now }
+    ensures { OnOk result (lits.new.items ≡ named_to variables.now values.now (names_used variables.now)) }
+{
+    lits.clear();
+    let count = variables.name_count();
+    for index in 0..count {
+        push_named(variables, values, Var::from_index(index), lits)?;
+    }
+    Ok(())
+}

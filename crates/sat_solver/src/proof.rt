@@ -1,0 +1,469 @@
+//! The proof that a solver writes. Each step goes through it, and nobody else writes.
+ghost use Rattle.std.specs.Prelude.{◌≡◌, ◌∷◌, [], true, false, Some, OnOk, IfErr};
+ghost use Rattle.sat_base.specs.device.Sink.{empty_sink};
+ghost use Rattle.sat_base.specs.steps.StepViews.{step_of};
+ghost use Rattle.sat_solver.specs.proof.Counting.{start, counted};
+ghost use Rattle.sat_solver.specs.proof.Checked.{has_begun};
+ghost use Rattle.sat_solver.specs.proof.MadeView.{Makes};
+ghost use Rattle.sat_solver.specs.session.Session.{May, MayAll};
+ghost use Rattle.sat_solver.specs.proof.Widths.{narrowed, KeepsWidth};
+ghost use Rattle.sat_solver.specs.proof.ProofView.{Closed, IsAtWidth, Open, audience, is_open, is_drat, has_asked, target_of, steps_of, session_of, is_checked, is_lost, Checks, HasTold, Keeps, Adds, Records, PutsOn, FailsOfCheck, FailsOfCheckUnless, FlushesTarget, FlushesOrFails, Closes, Handed, HandedWhole, HandsBack, HasCause, Listens, told};
+
+pub mod checker;
+pub mod drat;
+pub mod format;
+pub mod hash_bits;
+pub mod kept;
+pub mod made;
+pub mod map_step;
+pub mod native;
+pub mod output;
+pub mod truncate;
+
+use crate::proof::format::ProofFormat;
+use crate::proof::hash_bits::Counting;
+use crate::proof::kept::Kept;
+use crate::proof::made::{CheckFault, Made};
+use crate::proof::output::{Output, OutputError};
+use crate::proof::truncate::{CutLists, narrow, narrow_units};
+use sat_base::{CountedWrite, ProofStep};
+use sat_checker::{Nobody, ProofProcessor};
+use std::alloc::Global;
+use std::{io, mem};
+
+/// Why a step wasn't written, or wasn't checked.
+#[derive(Drop)]
+pub enum ProofError {
+    /// A call of the target failed, whose cause is kept with the proof.
+    Write(Kept<io::Error>),
+    /// Where its hashes are cut. It wasn't made.
+    OutOfMemory,
+    /// It was made, and the solver's own checker failed at it.
+    Check(CheckFault),
+}
+
+/// All steps that a solver made, the checker that takes them, where there is one, and the target that their text goes to, where one is
+/// open. After a fault of the target it isn't used again, and steps go on as if none were open.
+#[derive(Drop)]
+pub struct Proof<W, P: ProofProcessor = Nobody> {
+    alloc: Global,
+    made: Made<P>,
+    /// What the width of hashes follows while a target is open, or a checker there.
+    counting: Counting,
+    lists: CutLists,
+    /// Where lines are put together.
+    text: Vec<u8>,
+    output: Option<Output<W>>,
+    broken: bool,
+    /// Why a call of the target failed.
+    cause: Option<io::Error>,
+}
+
+impl<W: CountedWrite + Drop, P: ProofProcessor> Proof<W, P> {
+    /// No step yet, no checker, and no target. Takes no memory.
+    pub fn new(alloc: Global) -> Proof<W, P>
+        ensures steps { steps_of result ≡ [] }
+        ensures checked { is_checked result ≡ false }
+        ensures taking { is_lost result ≡ false }
+        ensures asked { has_asked result ≡ false }
+        ensures target { target_of W.seen result ≡ Closed }
+    {
+        Proof {
+            alloc,
+            made: Made::new(),
+            counting: Counting::new(),
+            lists: CutLists::new(alloc),
+            text: Vec::new(alloc),
+            output: None,
+            broken: false,
+            cause: None,
+        }
+    }
+
+    /// Whether steps are written.
+    pub fn is_open(&self) -> bool
+        ensures { result ≡ is_open (target_of W.seen self.now) }
+    {
+        match &self.output {
+            None => false,
+            Some(_) => !self.broken,
+        }
+    }
+
+    /// Whether lines of DRAT are written.
+    pub fn is_drat(&self) -> bool
+        ensures { result ≡ is_drat (target_of W.seen self.now) }
+    {
+        match &self.output {
+            None => false,
+            Some(output) => !self.broken && output.is_drat(),
+        }
+    }
+
+    /// Whether an ask has begun.
+    pub fn has_asked(&self) -> bool
+        ensures { result ≡ has_asked self.now }
+    {
+        self.counting.solving
+    }
+
+    /// Whether a step was made that is no end of a proof.
+    pub fn has_begun(&self) -> bool
+        ensures { result ≡ has_begun (steps_of self.now) }
+    {
+        self.made.has_begun()
+    }
+
+    /// From here on a checker takes the steps. Takes no memory.
+    pub fn begin_checking(&mut self, alloc: Global)
+        requires { has_begun (steps_of self.old) ≡ false }
+        ensures checks { Checks self.old self.new }
+        ensures asked { has_asked self.new ≡ has_asked self.old }
+        ensures target { target_of W.seen self.new ≡ target_of W.seen self.old }
+    {
+        self.made.check(alloc);
+    }
+
+    /// A processor, which the checker tells what it announces from here on. Without memory it is dropped, and the checker takes no step.
+    pub fn add_processor(&mut self, processor: P) -> Result<(), ProofError>
+        requires begun { has_begun (steps_of self.old) ≡ false }
+        requires taking { is_lost self.old ≡ false }
+        requires checked { is_checked self.old ≡ true }
+        ensures { Listens W.seen result processor self.old self.new }
+    {
+        match self.made.add_processor(processor) {
+            Ok(()) => Ok(()),
+            Err(fault) => Err(ProofError::Check(fault)),
+        }
+    }
+
+    /// From here on steps are written to this target, with whole hashes at first. Takes no memory. A target that failed before is
+    /// dropped.
+    pub fn open(&mut self, format: ProofFormat, target: W)
+        requires { is_open (target_of W.seen self.old) ≡ false }
+        ensures steps { steps_of self.new ≡ steps_of self.old }
+        ensures listening { audience self.new ≡ audience self.old }
+        ensures taking { is_lost self.new ≡ is_lost self.old }
+        ensures asked { has_asked self.new ≡ false }
+        ensures target { target_of W.seen self.new ≡ Open format start (empty_sink (W.seen target)) }
+    {
+        self.counting = Counting::new();
+        self.output = Some(Output::new(format, target));
+        self.broken = false;
+    }
+
+    /// From here on hashes are shortened where the count of clauses allows it.
+    pub fn begin_ask(&mut self)
+        ensures keeps { Keeps self.old → Keeps self.new }
+        ensures adds { Adds W.seen [] self.old self.new }
+        ensures taking { is_lost self.new ≡ is_lost self.old }
+        ensures asked { has_asked self.new ≡ true }
+    {
+        self.counting.solving = true;
+    }
+
+    /// From here on the target isn't used any more. Keeps why its last call failed.
+    fn break_off(&mut self, cause: io::Error) -> ProofError
+        ensures fault { result ≡ ProofError.Write cause }
+        ensures breaks { self.new ≡ record self.old { broken = true; cause = Some cause } }
+    {
+        let kept = Kept::of(&cause);
+        self.broken = true;
+        self.cause = Some(cause);
+        ProofError::Write(kept)
+    }
+
+    /// Writes a step where a target is open, with its hashes cut to the width for the clauses behind it.
+    fn put(
+        &mut self,
+        counting: Counting,
+        step: &ProofStep<'_>,
+        cut: &ProofStep<'_>,
+    ) -> Result<(), ProofError>
+        requires width { KeepsWidth (step_of step.now) }
+        requires counted { counting ≡ counted (step_of step.now) self.old.counting }
+        requires cut { step_of cut.now ≡ narrowed counting.bits (step_of step.now) }
+        ensures made { self.new.made ≡ self.old.made }
+        ensures counting { OnOk result (self.new.counting ≡ counting) }
+        ensures stays { IfErr result (λ e. self.new.counting ≡ self.old.counting) }
+        ensures asked { has_asked self.new ≡ has_asked self.old }
+        ensures puts { PutsOn result (step_of step.now ∷ []) (target_of W.seen self.old) (target_of W.seen self.new) }
+        ensures cause { IfErr result (λ e. HasCause e self.new) }
+    {
+        if self.broken {
+            self.counting = counting;
+            return Ok(());
+        }
+        let Some(output) = &mut self.output else {
+            self.counting = counting;
+            return Ok(());
+        };
+        let widths = (self.counting.bits, counting.bits);
+        match output.write(&mut self.text, widths, cut) {
+            Ok(()) => {
+                self.counting = counting;
+                Ok(())
+            }
+            Err(OutputError::Write(cause)) => Err(self.break_off(cause)),
+            Err(OutputError::OutOfMemory) => Err(ProofError::OutOfMemory),
+        }
+    }
+
+    /// Notes a step that was written, and gives it to the checker as it was cut.
+    fn take(&mut self, step: &ProofStep<'_>, cut: &ProofStep<'_>) -> Result<(), ProofError>
+        requires may { MayAll (step_of step.now ∷ steps_of self.old) }
+        requires width { KeepsWidth (step_of step.now) }
+        requires cut { is_checked self.old ≡ true → step_of cut.now ≡ narrowed self.old.counting.bits (step_of step.now) }
+        ensures makes { Makes (step_of step.now) self.old.made self.new.made }
+        ensures taking { OnOk result (is_lost self.new ≡ is_lost self.old) }
+        ensures width { OnOk result (IsAtWidth self.new) }
+        ensures asked { has_asked self.new ≡ has_asked self.old }
+        ensures target { target_of W.seen self.new ≡ target_of W.seen self.old }
+        ensures fails { FailsOfCheck result self.new }
+    {
+        match self.made.take(self.counting.bits, step, cut) {
+            Ok(()) => Ok(()),
+            Err(fault) => Err(ProofError::Check(fault)),
+        }
+    }
+
+    /// Gives target and checker the very same step, with its hashes cut to the width for the clauses behind it. A step at whose text
+    /// the target fails isn't checked.
+    fn record(
+        &mut self,
+        counting: Counting,
+        step: &ProofStep<'_>,
+        cut: &ProofStep<'_>,
+    ) -> Result<(), ProofError>
+        requires keeps { Keeps self.old }
+        requires may { May (session_of self.old) (step_of step.now) }
+        requires width { KeepsWidth (step_of step.now) }
+        requires counted { counting ≡ counted (step_of step.now) self.old.counting }
+        requires cut { step_of cut.now ≡ narrowed counting.bits (step_of step.now) }
+        ensures keeps { Keeps self.new }
+        ensures records { Records W.seen result (step_of step.now ∷ []) self.old self.new }
+    {
+        match self.put(counting, step, cut) {
+            Ok(()) => self.take(step, cut),
+            Err(ProofError::Write(e)) => {
+                self.made.skip(step);
+                Err(ProofError::Write(e))
+            }
+            Err(ProofError::OutOfMemory) => Err(ProofError::OutOfMemory),
+            Err(ProofError::Check(fault)) => Err(ProofError::Check(fault)),
+        }
+    }
+
+    /// Cuts a step's hashes, in these lists, to the width for the clauses behind it, and records it.
+    fn record_cut(&mut self, lists: &mut CutLists, step: &ProofStep<'_>) -> Result<(), ProofError>
+        requires keeps { Keeps self.old }
+        requires may { May (session_of self.old) (step_of step.now) }
+        requires width { KeepsWidth (step_of step.now) }
+        ensures keeps { Keeps self.new }
+        ensures records { Records W.seen result (step_of step.now ∷ []) self.old self.new }
+    {
+        let counting = self.counting.with(step);
+        match *step {
+            ProofStep::AtClause {
+                redundant,
+                clause,
+                propagation_hashes,
+            } => {
+                if narrow(&mut lists.hashes, propagation_hashes, counting.bits).is_err() {
+                    return Err(ProofError::OutOfMemory);
+                }
+                let whole = ProofStep::AtClause {
+                    redundant,
+                    clause,
+                    propagation_hashes,
+                };
+                let cut = ProofStep::AtClause {
+                    redundant,
+                    clause,
+                    propagation_hashes: &lists.hashes,
+                };
+                self.record(counting, &whole, &cut)
+            }
+            ProofStep::UnitClauses { units } => {
+                if narrow_units(&mut lists.units, units, counting.bits).is_err() {
+                    return Err(ProofError::OutOfMemory);
+                }
+                let whole = ProofStep::UnitClauses { units };
+                let cut = ProofStep::UnitClauses {
+                    units: &lists.units,
+                };
+                self.record(counting, &whole, &cut)
+            }
+            ProofStep::FailedAssumptions {
+                failed_core,
+                propagation_hashes,
+            } => {
+                if narrow(&mut lists.hashes, propagation_hashes, counting.bits).is_err() {
+                    return Err(ProofError::OutOfMemory);
+                }
+                let whole = ProofStep::FailedAssumptions {
+                    failed_core,
+                    propagation_hashes,
+                };
+                let cut = ProofStep::FailedAssumptions {
+                    failed_core,
+                    propagation_hashes: &lists.hashes,
+                };
+                self.record(counting, &whole, &cut)
+            }
+            ProofStep::SolverVarName { global, solver } => {
+                let cut = ProofStep::SolverVarName { global, solver };
+                self.record(counting, step, &cut)
+            }
+            ProofStep::UserVarName { global, user } => {
+                let cut = ProofStep::UserVarName { global, user };
+                self.record(counting, step, &cut)
+            }
+            ProofStep::DeleteVar { var } => {
+                let cut = ProofStep::DeleteVar { var };
+                self.record(counting, step, &cut)
+            }
+            ProofStep::ChangeSamplingMode { var, sample } => {
+                let cut = ProofStep::ChangeSamplingMode { var, sample };
+                self.record(counting, step, &cut)
+            }
+            ProofStep::AddClause { clause } => {
+                let whole = ProofStep::AddClause { clause };
+                let cut = ProofStep::AddClause { clause };
+                self.record(counting, &whole, &cut)
+            }
+            ProofStep::DeleteClause { clause, proof } => {
+                let whole = ProofStep::DeleteClause { clause, proof };
+                let cut = ProofStep::DeleteClause { clause, proof };
+                self.record(counting, &whole, &cut)
+            }
+            ProofStep::ChangeHashBits { bits } => {
+                let cut = ProofStep::ChangeHashBits { bits };
+                self.record(counting, step, &cut)
+            }
+            ProofStep::Model { assignment } => {
+                let whole = ProofStep::Model { assignment };
+                let cut = ProofStep::Model { assignment };
+                self.record(counting, &whole, &cut)
+            }
+            ProofStep::Assumptions { assumptions } => {
+                let whole = ProofStep::Assumptions { assumptions };
+                let cut = ProofStep::Assumptions { assumptions };
+                self.record(counting, &whole, &cut)
+            }
+            ProofStep::End => self.record(counting, step, &ProofStep::End),
+        }
+    }
+
+    /// Makes a step that the session may write, writes it where a target is open, and gives it to the checker, where there is one.
+    /// Without memory for its text or its hashes nothing is made.
+    pub fn step(&mut self, step: &ProofStep<'_>) -> Result<(), ProofError>
+        requires keeps { Keeps self.old }
+        requires may { May (session_of self.old) (step_of step.now) }
+        requires width { KeepsWidth (step_of step.now) }
+        ensures keeps { Keeps self.new }
+        ensures records { Records W.seen result (step_of step.now ∷ []) self.old self.new }
+    {
+        if !self.made.is_checked() && !self.is_open() {
+            return self.take(step, &ProofStep::End);
+        }
+        let mut lists = mem::replace(&mut self.lists, CutLists::new(self.alloc));
+        let recorded = self.record_cut(&mut lists, step);
+        self.lists = lists;
+        recorded
+    }
+
+    /// Writes out what waits for an open target, and flushes it.
+    fn flush_target(&mut self) -> Result<(), ProofError>
+        ensures flushes { FlushesTarget W.seen result self.old self.new }
+        ensures taking { is_lost self.new ≡ is_lost self.old }
+        ensures width { IsAtWidth self.old → IsAtWidth self.new }
+        ensures asked { has_asked self.new ≡ has_asked self.old }
+    {
+        if self.broken {
+            return Ok(());
+        }
+        let Some(output) = &mut self.output else {
+            return Ok(());
+        };
+        match output.flush() {
+            Ok(()) => Ok(()),
+            Err(cause) => Err(self.break_off(cause)),
+        }
+    }
+
+    /// Has the checker tell what waits.
+    fn take_delayed(&mut self) -> Result<(), ProofError>
+        ensures steps { steps_of self.new ≡ steps_of self.old }
+        ensures listening { audience self.new ≡ audience self.old }
+        ensures taking { OnOk result (is_lost self.new ≡ is_lost self.old) }
+        ensures asked { has_asked self.new ≡ has_asked self.old }
+        ensures width { OnOk result (IsAtWidth self.old → IsAtWidth self.new) }
+        ensures target { target_of W.seen self.new ≡ target_of W.seen self.old }
+        ensures fails { FailsOfCheckUnless (is_lost self.old) result self.new }
+        ensures told { OnOk result (HasTold self.new) }
+    {
+        match self.made.take_delayed() {
+            Ok(()) => Ok(()),
+            Err(fault) => Err(ProofError::Check(fault)),
+        }
+    }
+
+    /// Writes out what waits for an open target, and flushes it. Then the checker tells what waits, where there is one.
+    pub fn flush(&mut self) -> Result<(), ProofError>
+        ensures keeps { Keeps self.old → Keeps self.new }
+        ensures flushes { FlushesOrFails W.seen result self.old self.new }
+    {
+        self.flush_target()?;
+        self.take_delayed()
+    }
+
+    /// Writes the last step, flushes, and hands the target back; `None` where none is open. After an error the target stays.
+    pub fn close(&mut self) -> Result<Option<W>, ProofError>
+        requires { Keeps self.old }
+        ensures keeps { Keeps self.new }
+        ensures closes { Closes W.seen result self.old self.new }
+    {
+        if !self.is_open() {
+            return Ok(None);
+        }
+        self.step(&ProofStep::End)?;
+        self.flush()?;
+        Ok(self.take_target())
+    }
+
+    /// The target as it is, where there is one; what waits for it is lost.
+    pub fn take_target(&mut self) -> Option<W>
+        ensures keeps { Keeps self.old → Keeps self.new }
+        ensures gives { HandsBack W.seen result self.old self.new }
+    {
+        self.broken = false;
+        match self.output.take() {
+            None => None,
+            Some(output) => Some(output.into_writer()),
+        }
+    }
+
+    /// Why the last call of the target failed.
+    pub fn cause(&self) -> Option<io::Error>
+        ensures { result ≡ self.now.cause }
+    {
+        self.cause
+    }
+
+    /// What a processor complained of. It is told once.
+    pub fn take_complaint(&mut self) -> Option<anyhow::Error>
+        ensures gives { result ≡ self.old.made.complaint }
+        ensures same { self.new ≡ told self.old }
+    {
+        self.made.take_complaint()
+    }
+
+    /// Those who listen to the checker, in the order in which they were added, also after a failure. There is none afterwards.
+    pub fn take_processors(&mut self, alloc: Global) -> Vec<P>
+        ensures handed { Handed self.old result.items }
+        ensures whole { HandedWhole self.old result.items }
+    {
+        self.made.take_processors(alloc)
+    }
+}

@@ -1,0 +1,134 @@
+//! A solver's own checker, which takes the steps that a file in bytes would have, but for the ends of proofs.
+ghost use Rattle.std.specs.Prelude.{◌≡◌, [], OnOk};
+ghost use Rattle.sat_base.specs.steps.StepViews.{step_of};
+ghost use Rattle.sat_checker.specs.CheckerView.{seen_of};
+ghost use Rattle.sat_checker.specs.telling.ProcessingView.{listeners_of};
+ghost use Rattle.sat_solver.specs.proof.Checked.{is_end, IsFed, TakesStep, TakesWidth, TakesDelayed, Feeds, TakesIn, BeginsAnew, who_listens};
+ghost use Rattle.sat_solver.specs.proof.Widths.{narrowed, KeepsWidth};
+
+use crate::proof::hash_bits::Counting;
+use crate::session::roll::Roll;
+use sat_base::{HashBits, ProofStep};
+use sat_checker::{Checker, CheckerError, Nobody, Processors, ProofProcessor, SelfChecker};
+use std::alloc::Global;
+use std::mem;
+
+/// Whether it's the end of a proof.
+pub fn is_end(step: &ProofStep<'_>) -> bool
+    ensures { result ≡ is_end (step_of step.now) }
+{
+    match step {
+        ProofStep::End => true,
+        ProofStep::SolverVarName { .. } => false,
+        ProofStep::UserVarName { .. } => false,
+        ProofStep::DeleteVar { .. } => false,
+        ProofStep::ChangeSamplingMode { .. } => false,
+        ProofStep::AddClause { .. } => false,
+        ProofStep::AtClause { .. } => false,
+        ProofStep::UnitClauses { .. } => false,
+        ProofStep::DeleteClause { .. } => false,
+        ProofStep::ChangeHashBits { .. } => false,
+        ProofStep::Model { .. } => false,
+        ProofStep::Assumptions { .. } => false,
+        ProofStep::FailedAssumptions { .. } => false,
+    }
+}
+
+/// Feeds a step to the checker, which tells those who listen. What may be written is never refused.
+fn feed<P: ProofProcessor>(
+    checker: &mut Checker<P, Nobody>,
+    step: &ProofStep<'_>,
+) -> Result<(), CheckerError>
+    ensures { Feeds P.takes result (seen_of checker.old) (step_of step.now) (seen_of checker.new) }
+{
+    checker.self_check_step(step)
+}
+
+/// A checker, and the width that it was told last.
+#[derive(Drop)]
+pub struct Checked<P: ProofProcessor> {
+    bits: HashBits,
+    checker: Checker<P, Nobody>,
+}
+
+impl<P: ProofProcessor> Checked<P> {
+    /// It has taken nothing yet. Takes no memory.
+    pub fn new(alloc: Global) -> Checked<P>
+        ensures { IsFed P.takes result [] [] }
+    {
+        Checked {
+            bits: Counting::new().bits,
+            checker: Checker::telling(alloc),
+        }
+    }
+
+    /// Tells a width, where it's another than the one before.
+    fn take_width(&mut self, bits: HashBits) -> Result<(), CheckerError>
+        ensures takes { TakesWidth P.takes result self.old self.new }
+        ensures bits { OnOk result (self.new.bits ≡ bits) }
+    {
+        if self.bits.get() == bits.get() {
+            return Ok(());
+        }
+        self.bits = bits;
+        feed(
+            &mut self.checker,
+            &ProofStep::ChangeHashBits { bits: self.bits },
+        )
+    }
+
+    /// Takes a step at a width, to which its hashes were cut, and of an end the width alone. What a solver may write is never refused.
+    pub fn take(
+        &mut self,
+        bits: HashBits,
+        step: &ProofStep<'_>,
+        cut: &ProofStep<'_>,
+    ) -> Result<(), CheckerError>
+        requires width { KeepsWidth (step_of step.now) }
+        requires cut { step_of cut.now ≡ narrowed bits (step_of step.now) }
+        ensures takes { TakesStep P.takes result self.old (step_of step.now) self.new }
+        ensures bits { OnOk result (self.new.bits ≡ bits) }
+    {
+        self.take_width(bits)?;
+        if is_end(step) {
+            return Ok(());
+        }
+        feed(&mut self.checker, cut)
+    }
+
+    /// Gives a unit conflict that waits for it its id.
+    pub fn take_delayed(&mut self) -> Result<(), CheckerError>
+        ensures takes { TakesDelayed P.takes result self.old self.new }
+        ensures bits { self.new.bits ≡ self.old.bits }
+    {
+        self.checker.self_check_delayed_steps()
+    }
+    /// A processor, which is told all announcements from here on. Without memory it is dropped, and the checker has failed.
+    pub fn add_processor(&mut self, processor: P) -> Result<(), CheckerError>
+        ensures { TakesIn P.takes result self.old processor self.new }
+    {
+        self.checker.add_processor(processor)
+    }
+
+    /// Begins anew, as if it had taken nothing, and tells those who listened to it. Takes no memory.
+    pub fn begin_anew(&mut self, alloc: Global) -> Roll<P>
+        ensures { BeginsAnew P.takes self.old self.new result.items }
+    {
+        let former = mem::replace(&mut self.checker, Checker::telling(alloc)).into_processors();
+        let roll = Roll::of(&former.processors);
+        self.bits = Counting::new().bits;
+        let listeners = Processors {
+            processors: former.processors,
+            transcripts: Vec::new(alloc),
+        };
+        self.checker = Checker::telling_again(alloc, listeners);
+        roll
+    }
+
+    /// Those who listen, in the order in which they were added, also after a failure.
+    pub fn into_processors(self) -> Vec<P>
+        ensures { result.items ≡ (listeners_of (who_listens self)).processors }
+    {
+        self.checker.into_processors().processors
+    }
+}

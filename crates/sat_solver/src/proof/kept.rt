@@ -1,0 +1,29 @@
+//! What contracts alone see of a cause that is kept elsewhere. It takes no memory, and its function does nothing at run time.
+ghost use Rattle.std.specs.Prelude.{◌≡◌};
+ghost use Rattle.std.specs.Borrow.{ftrue};
+
+use std::marker::{Model, PhantomData};
+
+/// A cause, which isn't in it.
+#[derive(Drop)]
+pub struct Kept<T> {
+    of: PhantomData<T>,
+    pub ghost cause: { T },
+}
+
+impl<T> Model for Kept<T> {
+    ghost Value = { T };
+
+    ghost view = { λ k. k.cause };
+
+    ghost also_owns = { λ _. ftrue };
+}
+
+impl<T> Kept<T> {
+    /// For this one.
+    pub fn of(_cause: &T) -> Kept<T>
+        ensures { result ≡ _cause.now }
+    {
+        Kept { of: PhantomData }
+    }
+}

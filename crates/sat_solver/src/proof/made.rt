@@ -1,0 +1,228 @@
+//! All steps that a solver made, and its own checker, which takes them as they are made.
+ghost use Rattle.std.specs.Prelude.{ℕ, ◌≡◌, ◌∷◌, [], true, false, OnOk};
+ghost use Rattle.sat_base.specs.steps.StepViews.{step_of};
+ghost use Rattle.sat_solver.specs.proof.Checked.{has_begun, cause_in, FedUnless, IsCause};
+ghost use Rattle.sat_solver.specs.proof.Complaints.{IsComplaint};
+ghost use Rattle.sat_solver.specs.session.Session.{MayAll};
+ghost use Rattle.sat_solver.specs.proof.Widths.{narrowed, KeepsWidth};
+
+use crate::proof::checker::{Checked, is_end};
+use crate::proof::kept::Kept;
+use crate::session::history::History;
+use crate::session::roll::Roll;
+use sat_base::{HashBits, ProofStep};
+use sat_checker::{CheckerError, Nobody, ProofProcessor};
+use std::alloc::Global;
+
+/// Why a solver's own checker failed at a step.
+#[derive(Drop)]
+pub enum CheckFault {
+    OutOfMemory,
+    /// It has no id left.
+    CounterEnd,
+    /// A processor answered a fault, which is kept with the steps.
+    Processor(Kept<anyhow::Error>),
+}
+
+/// Why a checker failed that refused nothing. What a processor complains of is kept.
+fn keep_cause(complaint: &mut Option<anyhow::Error>, error: CheckerError) -> CheckFault
+    requires { IsCause error }
+    ensures fault { result ≡ cause_in error }
+    ensures kept { IsComplaint result complaint.new }
+{
+    match error {
+        CheckerError::OutOfMemory => CheckFault::OutOfMemory,
+        CheckerError::CounterEnd => CheckFault::CounterEnd,
+        CheckerError::ProofProcessorError { cause } => {
+            let kept = Kept::of(&cause);
+            *complaint = Some(cause);
+            CheckFault::Processor(kept)
+        }
+        CheckerError::CheckFailed => unreachable!(),
+        CheckerError::HasFailed => unreachable!(),
+        CheckerError::ProofIncomplete => unreachable!(),
+        CheckerError::IoError => unreachable!(),
+        CheckerError::ParseError => unreachable!(),
+    }
+}
+
+/// All steps that were made, for contracts alone, and a checker of them, where there is one.
+#[derive(Drop)]
+pub struct Made<P: ProofProcessor = Nobody> {
+    pub history: History,
+    own: Option<Checked<P>>,
+    /// Who was added to it.
+    roll: Roll<P>,
+    /// Whether a step was made that is no end of a proof.
+    begun: bool,
+    /// Whether one was made that the checker hasn't taken.
+    lost: bool,
+    /// What a processor complained of, until it is told.
+    complaint: Option<anyhow::Error>,
+    ghost counted: { begun ≡ has_begun history.steps },
+    ghost may: { ∥ MayAll history.steps ∥₁ },
+    ghost fed: { ∥ FedUnless P.takes lost own roll.items history.steps ∥₁ },
+}
+
+impl<P: ProofProcessor> Made<P> {
+    ghost use Rattle.sat_solver.specs.proof.MadeView.{audience, is_checked, is_lost, Checks, Handed, HandedWhole, HasTold, IsTold, Makes, OrComplains, OrComplainsUnless, TakesListener, told};
+
+    /// No step yet, and no checker.
+    pub fn new() -> Made<P>
+        ensures steps { result.history.steps ≡ [] }
+        ensures checked { is_checked result ≡ false }
+        ensures taking { is_lost result ≡ false }
+    {
+        Made {
+            history: History::new(),
+            own: None,
+            roll: Roll::new(),
+            begun: false,
+            lost: false,
+            complaint: None,
+        }
+    }
+
+    /// Whether there is a checker.
+    pub fn is_checked(&self) -> bool
+        ensures { result ≡ is_checked self.now }
+    {
+        self.own.is_some()
+    }
+
+    /// Whether a step was made that is no end of a proof.
+    pub fn has_begun(&self) -> bool
+        ensures { result ≡ has_begun self.now.history.steps }
+    {
+        self.begun
+    }
+
+    /// From here on there is a checker. Takes no memory.
+    pub fn check(&mut self, alloc: Global)
+        requires { has_begun self.old.history.steps ≡ false }
+        ensures { Checks self.old self.new }
+    {
+        let Some(own) = &mut self.own else {
+            self.own = Some(Checked::new(alloc));
+            self.lost = false;
+            return;
+        };
+        if self.lost {
+            self.roll = own.begin_anew(alloc);
+            self.lost = false;
+        }
+    }
+
+    /// A processor, which the checker tells what it announces from here on. Without memory it is dropped, and the checker takes no step.
+    pub fn add_processor(&mut self, processor: P) -> Result<(), CheckFault>
+        requires begun { has_begun self.old.history.steps ≡ false }
+        requires taking { is_lost self.old ≡ false }
+        requires checked { is_checked self.old ≡ true }
+        ensures steps { self.new.history.steps ≡ self.old.history.steps }
+        ensures listens { TakesListener result processor self.old self.new }
+    {
+        let Some(own) = &mut self.own else {
+            return Ok(());
+        };
+        let roll = self.roll.and(&processor);
+        match own.add_processor(processor) {
+            Ok(()) => {
+                self.roll = roll;
+                Ok(())
+            }
+            Err(error) => {
+                self.lost = true;
+                Err(keep_cause(&mut self.complaint, error))
+            }
+        }
+    }
+
+    /// Notes a step that the checker isn't given: it takes none from here on.
+    pub fn skip(&mut self, step: &ProofStep<'_>)
+        requires { MayAll (step_of step.now ∷ self.old.history.steps) }
+        ensures { Makes (step_of step.now) self.old self.new }
+    {
+        self.history = self.history.and(step);
+        self.begun = self.begun || !is_end(step);
+        self.lost = true;
+    }
+
+    /// Notes a step, and gives it to the checker, where there is one, with its hashes cut to this width.
+    pub fn take(
+        &mut self,
+        bits: HashBits,
+        step: &ProofStep<'_>,
+        cut: &ProofStep<'_>,
+    ) -> Result<(), CheckFault>
+        requires may { MayAll (step_of step.now ∷ self.old.history.steps) }
+        requires width { KeepsWidth (step_of step.now) }
+        requires cut { is_checked self.old ≡ true → step_of cut.now ≡ narrowed bits (step_of step.now) }
+        ensures makes { Makes (step_of step.now) self.old self.new }
+        ensures taking { OnOk result (is_lost self.new ≡ is_lost self.old) }
+        ensures width { OnOk result (IsTold bits self.new) }
+        ensures fails { OrComplains result self.new }
+    {
+        self.history = self.history.and(step);
+        self.begun = self.begun || !is_end(step);
+        if self.lost {
+            return Ok(());
+        }
+        match &mut self.own {
+            None => Ok(()),
+            Some(own) => match own.take(bits, step, cut) {
+                Ok(()) => Ok(()),
+                Err(error) => {
+                    self.lost = true;
+                    Err(keep_cause(&mut self.complaint, error))
+                }
+            },
+        }
+    }
+
+    /// Has the checker tell what waits for the next step. Where a step was made that it hasn't taken, the call fails.
+    pub fn take_delayed(&mut self) -> Result<(), CheckFault>
+        ensures steps { self.new.history.steps ≡ self.old.history.steps }
+        ensures listening { audience self.new ≡ audience self.old }
+        ensures taking { OnOk result (is_lost self.new ≡ is_lost self.old) }
+        ensures width { OnOk result ((bits : ℕ) → IsTold bits self.old → IsTold bits self.new) }
+        ensures fails { OrComplainsUnless (is_lost self.old) result self.new }
+        ensures told { OnOk result (HasTold self.new) }
+    {
+        match &mut self.own {
+            None => Ok(()),
+            Some(own) => {
+                if self.lost {
+                    return Err(CheckFault::OutOfMemory);
+                }
+                match own.take_delayed() {
+                    Ok(()) => Ok(()),
+                    Err(error) => {
+                        self.lost = true;
+                        Err(keep_cause(&mut self.complaint, error))
+                    }
+                }
+            }
+        }
+    }
+
+    /// What a processor complained of. It is told once.
+    pub fn take_complaint(&mut self) -> Option<anyhow::Error>
+        ensures gives { result ≡ self.old.complaint }
+        ensures same { self.new ≡ told self.old }
+    {
+        self.complaint.take()
+    }
+
+    /// Those who listen, in the order in which they were added, also after a failure. There is no checker afterwards.
+    pub fn take_processors(&mut self, alloc: Global) -> Vec<P>
+        ensures handed { Handed self.old result.items }
+        ensures whole { HandedWhole self.old result.items }
+    {
+        let own = self.own.take();
+        self.roll = Roll::new();
+        match own {
+            None => Vec::new(alloc),
+            Some(own) => own.into_processors(),
+        }
+    }
+}

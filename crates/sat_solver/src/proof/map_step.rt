@@ -1,0 +1,129 @@
+//! Clauses in proof variables, and their hashes.
+ghost use Rattle.std.specs.Prelude.{ℕ, ◌≡◌, ◌<◌, ◌≤◌, OnOk, length, map};
+ghost use Rattle.sat_base.specs.values.Literals.{variable};
+ghost use Rattle.sat_base.specs.values.Hashes.{hash_of};
+ghost use Rattle.sat_store.specs.clause.Buffer.{IsClause, lits_at};
+ghost use Rattle.sat_parts.specs.clause.Glue.{VariablesBelow};
+ghost use Rattle.sat_parts.specs.prop.State.{node};
+ghost use Rattle.sat_solver.specs.session.LiveClauses.{with_var};
+ghost use Rattle.sat_solver.specs.analyze_conflict.Derivation.{clause_of};
+ghost use Rattle.sat_parts.specs.parts.Whole.{state};
+ghost use Rattle.sat_solver.specs.session.TrailUnits.{written_units};
+ghost use Rattle.sat_solver.specs.session.Going.{IsOrderly};
+ghost use Rattle.sat_solver.specs.session.Naming.{global_of, ReasonsAreStored, ReasonsHaveLiterals};
+ghost use Rattle.sat_solver.specs.session.FitLaws.{named_hashes};
+
+use sat_base::{ClauseHash, Lit, Var, lit_hash};
+use sat_parts::{CauseLits, Conflict, Parts, Reason};
+use std::alloc::AllocError;
+
+/// Puts the literals, in proof variables, into a list in place of what it had.
+pub fn map_lits(globals: &[Var], lits: &[Lit], clause: &mut Vec<Lit>) -> Result<(), AllocError>
+    requires { VariablesBelow lits.now (length globals.now) }
+    ensures { OnOk result (clause.new.items ≡ map (with_var (global_of globals.now)) lits.now) }
+{
+    clause.clear();
+    for lit in lits {
+        let var = globals[lit.index()];
+        clause.push(Lit::from_var(var, lit.is_positive()))?;
+    }
+    Ok(())
+}
+
+/// The hash of these literals.
+fn causes_hash(lits: &CauseLits) -> ClauseHash
+    ensures { result ≡ hash_of lits.now }
+{
+    let mut hash: ClauseHash = 0;
+    for at in 0..lits.len() {
+        hash ^= lit_hash(lits.get(at));
+    }
+    hash
+}
+
+/// The hash of the clause by which a literal is true.
+fn reason_hash(parts: &Parts, lit: Lit) -> ClauseHash
+    requires there { variable lit < length parts.now.graph }
+    requires clause { (o : ℕ) → (node (state parts.now) lit).reason ≡ Reason.Long o → IsClause parts.now.clauses o }
+    requires some { (o : ℕ) → (node (state parts.now) lit).reason ≡ Reason.Long o → 0 < length (lits_at parts.now.clauses o) }
+    ensures { result ≡ hash_of (clause_of parts.now.clauses (state parts.now) lit) }
+{
+    let reason = parts.graph.reason(lit.var());
+    lit_hash(lit) ^ causes_hash(&reason.lits(&parts.clauses))
+}
+
+/// Puts the hashes of the clauses by which these literals are true into a list in place of what it had.
+pub fn name_reasons(
+    parts: &Parts,
+    used: &[Lit],
+    hashes: &mut Vec<ClauseHash>,
+) -> Result<(), AllocError>
+    requires there { VariablesBelow used.now (length parts.now.graph) }
+    requires clause { ReasonsAreStored parts.now.clauses (state parts.now) used.now }
+    requires some { ReasonsHaveLiterals parts.now.clauses (state parts.now) used.now }
+    ensures { OnOk result (hashes.new.items ≡ map (λ l. hash_of (clause_of parts.now.clauses (state parts.now) l)) used.now) }
+{
+    hashes.clear();
+    for lit in used {
+        hashes.push(reason_hash(parts, *lit))?;
+    }
+    Ok(())
+}
+
+/// Puts the hashes of the clauses that an analysis names into a list in place of what it had.
+pub fn name_clauses(
+    parts: &Parts,
+    used: &[Lit],
+    conflict: &Conflict,
+    hashes: &mut Vec<ClauseHash>,
+) -> Result<(), AllocError>
+    requires there { VariablesBelow used.now (length parts.now.graph) }
+    requires clause { ReasonsAreStored parts.now.clauses (state parts.now) used.now }
+    requires some { ReasonsHaveLiterals parts.now.clauses (state parts.now) used.now }
+    requires conflict { (o : ℕ) → conflict.now ≡ Conflict.Long o → IsClause parts.now.clauses o }
+    ensures { OnOk result (hashes.new.items ≡ named_hashes parts.now.clauses (state parts.now) used.now conflict.now) }
+{
+    name_reasons(parts, used, hashes)?;
+    hashes.push(causes_hash(&conflict.lits(&parts.clauses)))?;
+    Ok(())
+}
+
+/// The literal in proof variables.
+fn map_lit(globals: &[Var], lit: Lit) -> Lit
+    requires { variable lit < length globals.now }
+    ensures { result ≡ with_var (global_of globals.now) lit }
+{
+    Lit::from_var(globals[lit.index()], lit.is_positive())
+}
+
+/// A unit in proof variables, with the hash of the clause that it follows from.
+fn unit_of(parts: &Parts, globals: &[Var], lit: Lit) -> (Lit, ClauseHash)
+    requires there { variable lit < length parts.now.graph }
+    requires name { variable lit < length globals.now }
+    requires clause { (o : ℕ) → (node (state parts.now) lit).reason ≡ Reason.Long o → IsClause parts.now.clauses o }
+    requires some { (o : ℕ) → (node (state parts.now) lit).reason ≡ Reason.Long o → 0 < length (lits_at parts.now.clauses o) }
+    ensures { result ≡ (with_var (global_of globals.now) lit, hash_of (clause_of parts.now.clauses (state parts.now) lit)) }
+{
+    let hash = reason_hash(parts, lit);
+    (map_lit(globals, lit), hash)
+}
+
+/// Puts the units of the trail that have a clause as their reason into a list in place of what it had.
+pub fn collect_units(
+    parts: &Parts,
+    globals: &[Var],
+    units: &mut Vec<(Lit, ClauseHash)>,
+) -> Result<(), AllocError>
+    requires orderly { IsOrderly parts.now }
+    requires names { length parts.now.assignment.current ≤ length globals.now }
+    ensures { OnOk result (units.new.items ≡ written_units parts.now.clauses (state parts.now) 64 (global_of globals.now) parts.now.trail.lits) }
+{
+    units.clear();
+    for lit in parts.trail.trail() {
+        if parts.graph.reason(lit.var()).is_unit() {
+            continue;
+        }
+        units.push(unit_of(parts, globals, *lit))?;
+    }
+    Ok(())
+}

@@ -1,0 +1,44 @@
+//! Steps are put into a target's text in bytes, each behind its width.
+ghost use Rattle.std.specs.Prelude.{◌∷◌};
+ghost use Rattle.sat_base.specs.steps.StepViews.{step_of};
+ghost use Rattle.sat_base.specs.steps.StepWriting.{steps_sink};
+ghost use Rattle.sat_solver.specs.declared.proof.format.ProofFormat.TheVariants.{Varisat};
+ghost use Rattle.sat_solver.specs.proof.Counting.{width_told};
+ghost use Rattle.sat_solver.specs.proof.OutputView.{PutsSteps};
+
+use crate::proof::output::OutputError;
+use sat_base::{CountedWrite, HashBits, ProofStep, StepWriter};
+
+/// Writes a width, where it's another than the one before.
+fn tell_width<W: CountedWrite>(
+    writer: &mut StepWriter<W>,
+    before: HashBits,
+    now: HashBits,
+) -> Result<(), OutputError>
+    ensures { PutsSteps Varisat result (width_told before now) (steps_sink W.seen writer.old) (steps_sink W.seen writer.new) }
+{
+    if before.get() == now.get() {
+        return Ok(());
+    }
+    match writer.write(&ProofStep::ChangeHashBits { bits: now }) {
+        Ok(()) => Ok(()),
+        Err(e) => Err(OutputError::Write(e)),
+    }
+}
+
+/// Writes a step, and before it its width where that is another than the one before.
+pub fn write_at<W: CountedWrite>(
+    writer: &mut StepWriter<W>,
+    widths: (HashBits, HashBits),
+    step: &ProofStep<'_>,
+) -> Result<(), OutputError>
+    ensures { PutsSteps Varisat result (step_of step.now ∷ width_told widths.0 widths.1)
+        (steps_sink W.seen writer.old) (steps_sink W.seen writer.new) }
+{
+    let (before, now) = widths;
+    tell_width(writer, before, now)?;
+    match writer.write(step) {
+        Ok(()) => Ok(()),
+        Err(e) => Err(OutputError::Write(e)),
+    }
+}

@@ -1,0 +1,65 @@
+//! Hashes lose their lower bits.
+ghost use Rattle.std.specs.Prelude.{ℕ, ◌≡◌, map, OnOk, []};
+ghost use Rattle.sat_solver.specs.proof.Widths.{kept_bits};
+
+use sat_base::{ClauseHash, HashBits, Lit};
+use std::alloc::{AllocError, Global};
+
+/// The topmost bits of a hash.
+fn top_bits(hash: ClauseHash, bits: HashBits) -> ClauseHash
+    ensures { result ≡ kept_bits bits hash }
+{
+    let width = bits.get();
+    if width == 0 { 0 } else { hash >> (64 - width) }
+}
+
+#[tactic(auto, using(crate::proofs::lemmas::session::CuttingLemmas::narrow_next))]
+/// Puts the topmost bits of hashes into a list in place of what it had.
+pub fn narrow(
+    narrowed: &mut Vec<ClauseHash>,
+    hashes: &[ClauseHash],
+    bits: HashBits,
+) -> Result<(), AllocError>
+    ensures { OnOk result (narrowed.new.items ≡ map (kept_bits bits) hashes.now) }
+{
+    narrowed.clear();
+    for hash in hashes {
+        narrowed.push(top_bits(*hash, bits))?;
+    }
+    Ok(())
+}
+
+/// Puts units with the topmost bits of their hashes into a list in place of what it had.
+pub fn narrow_units(
+    narrowed: &mut Vec<(Lit, ClauseHash)>,
+    units: &[(Lit, ClauseHash)],
+    bits: HashBits,
+) -> Result<(), AllocError>
+    ensures { OnOk result (narrowed.new.items ≡ map (λ u. (u.0, kept_bits bits u.1)) units.now) }
+{
+    narrowed.clear();
+    for unit in units {
+        narrowed.push((unit.0, top_bits(unit.1, bits)))?;
+    }
+    Ok(())
+}
+
+/// Where the hashes of a step are cut.
+#[derive(Drop)]
+pub struct CutLists {
+    pub hashes: Vec<ClauseHash>,
+    pub units: Vec<(Lit, ClauseHash)>,
+}
+
+impl CutLists {
+    /// Empty ones, which take no memory.
+    pub fn new(alloc: Global) -> CutLists
+        ensures hashes { result.hashes.items ≡ [] }
+        ensures units { result.units.items ≡ [] }
+    {
+        CutLists {
+            hashes: Vec::new(alloc),
+            units: Vec::new(alloc),
+        }
+    }
+}

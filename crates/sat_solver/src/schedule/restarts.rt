@@ -1,0 +1,28 @@
+//! When restarts are due.
+ghost use Rattle.std.specs.Prelude.{◌≡◌, ◌+◌};
+ghost use Rattle.sat_store.specs.schedule.Luby.{luby, behind};
+ghost use Rattle.sat_solver.specs.schedule.Gaps.{gap_end};
+
+use sat_store::LubySequence;
+
+/// The gaps between restarts: the Luby sequence times a scale.
+#[derive(Drop)]
+pub struct Restarts {
+    pub sequence: LubySequence,
+    pub scale: u64,
+    /// The round before which the next restart stands.
+    pub next: u64,
+    /// How many there were, held at 2^64-1.
+    pub count: u64,
+}
+
+/// Begins a gap before this round.
+pub fn begin_gap(restarts: &mut Restarts, round: u64)
+    ensures given { restarts.new.sequence ≡ behind (restarts.old.sequence + 1) }
+    ensures scale { restarts.new.scale ≡ restarts.old.scale }
+    ensures next { restarts.new.next ≡ gap_end round (luby (restarts.old.sequence + 1)) restarts.old.scale }
+{
+    let gap = restarts.sequence.advance().saturating_mul(restarts.scale);
+    restarts.next = round.saturating_add(gap);
+    restarts.count = restarts.count.saturating_add(1);
+}

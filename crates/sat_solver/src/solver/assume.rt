@@ -1,0 +1,93 @@
+//! Assumptions of the next ask.
+ghost use Rattle.std.specs.Prelude.{◌≡◌, true, false, OnOk, IfErr, IsErrOf};
+ghost use Rattle.sat_solver.specs.variables.Room.{HasRoom, users_in};
+ghost use Rattle.sat_solver.specs.cdcl.Going.{IsFault};
+ghost use Rattle.sat_base.specs.script.Judge.{bring_all};
+ghost use Rattle.sat_solver.specs.load.Literals.{NoWitness};
+ghost use Rattle.sat_solver.specs.variables.Refusing.{names_in};
+ghost use Rattle.sat_solver.specs.declared.state.State.TheVariants.{Unsat};
+ghost use Rattle.sat_solver.specs.solver.Adding.{Assumes, IsDrat, due_for_asked};
+ghost use Rattle.sat_solver.specs.solver.Asking.{Asks};
+ghost use Rattle.sat_solver.specs.solver.Whole.{IsSolver, IsWhole};
+
+use crate::SolverError;
+use crate::cdcl::fault::{Fault, Kind};
+use crate::load::assume::assume;
+use crate::load::faults::name_fault;
+use crate::solver::Solver;
+use crate::solver::load::take_assumptions;
+use crate::state::State;
+use crate::variables::refuse::leftmost_witness;
+use crate::variables::room::has_room;
+use sat_base::{CountedWrite, Lit};
+use sat_checker::ProofProcessor;
+
+impl<W: CountedWrite + Drop, P: ProofProcessor> Solver<W, P> {
+    /// Takes assumptions where the clauses alone are known to be unsatisfiable: the search isn't told.
+    fn ask_known(&mut self, lits: &[Lit]) -> Result<(), Fault>
+        requires whole { IsWhole self.old }
+        requires unsat { self.old.state ≡ Unsat }
+        requires sampled { NoWitness self.old.names lits.now }
+        ensures asks { Asks W.seen result self.old self.new lits.now }
+        ensures room { HasRoom self.old.names (users_in lits.now) → IfErr result IsFault }
+        ensures clock { self.new.clock ≡ self.old.clock }
+    {
+        match assume(&mut self.names, &mut self.core.proof, lits, &mut self.asked) {
+            Ok(()) => Ok(()),
+            Err(error) => Err(name_fault(error)),
+        }
+    }
+
+    /// Takes assumptions without a name of mode witness.
+    fn ask(&mut self, lits: &[Lit]) -> Result<(), Fault>
+        requires whole { IsWhole self.old }
+        requires sampled { NoWitness self.old.names lits.now }
+        ensures asks { Asks W.seen result self.old self.new lits.now }
+        ensures room { HasRoom self.old.names (users_in lits.now) → IfErr result IsFault }
+        ensures clock { self.new.clock ≡ self.old.clock }
+    {
+        match self.state {
+            State::Unsat => return self.ask_known(lits),
+            State::Unknown => {}
+            State::Sat => {}
+            State::UnsatUnderAssumptions => {}
+        }
+        take_assumptions(&mut self.core, &mut self.names, lits, &mut self.asked)?;
+        self.state = State::Unknown;
+        Ok(())
+    }
+
+    /// Replaces the assumptions, whose names come in from left to right. `NotInDrat` while lines of DRAT are written. `WitnessVariable`
+    /// where a literal is over a name of mode witness. `VariableLimit` where a variable is lacking for a name that
+    /// would come in.
+    pub fn assume(&mut self, lits: &[Lit]) -> Result<(), SolverError>
+        requires { IsSolver self.old }
+        ensures solver { IsSolver self.new }
+        ensures assumes { Assumes W.seen result self.old self.new lits.now }
+        ensures drat { self.old.failed ≡ false → IsDrat W.seen self.old → IsErrOf result SolverError.NotInDrat }
+    {
+        if self.failed {
+            return Err(SolverError::HasFailed);
+        }
+        if self.core.proof.is_drat() {
+            return Err(SolverError::NotInDrat);
+        }
+        if leftmost_witness(&self.names, lits).is_some() {
+            return Err(SolverError::WitnessVariable);
+        }
+        if !has_room(&self.names, lits) {
+            return Err(SolverError::VariableLimit);
+        }
+        self.used = true;
+        let asked = self.ask(lits);
+        self.assumed.clear();
+        let listed = self.assumed.extend_from_slice(lits);
+        if let Err(fault) = asked {
+            return Err(self.fail(fault));
+        }
+        match listed {
+            Ok(()) => Ok(()),
+            Err(_) => Err(self.fail(Fault::of(Kind::OutOfMemory))),
+        }
+    }
+}

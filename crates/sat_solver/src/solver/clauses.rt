@@ -1,0 +1,97 @@
+//! Clauses that a user adds.
+ghost use Rattle.std.specs.Prelude.{◌≡◌, true, false, IfErr, IsErrOf};
+ghost use Rattle.sat_solver.specs.variables.Room.{HasRoom, users_in};
+ghost use Rattle.sat_solver.specs.cdcl.Going.{IsFault, IsFaultOr};
+ghost use Rattle.sat_solver.specs.load.Literals.{NoWitness};
+ghost use Rattle.sat_solver.specs.declared.state.State.TheVariants.{Unsat};
+ghost use Rattle.sat_solver.specs.solver.Adding.{AddsClause, IsBeforeDrat, IsPastDrat, TakesIn};
+ghost use Rattle.sat_solver.specs.solver.Whole.{HasFullStore, IsSolver, IsWhole};
+
+use crate::SolverError;
+use crate::cdcl::fault::Fault;
+use crate::load::clause::leave_out_clause;
+use crate::load::faults::name_fault;
+use crate::solver::Solver;
+use crate::solver::load::take_clause;
+use crate::state::State;
+use crate::variables::refuse::leftmost_witness;
+use crate::variables::room::has_room;
+use sat_base::{CountedWrite, Lit};
+use sat_checker::ProofProcessor;
+
+impl<W: CountedWrite + Drop, P: ProofProcessor> Solver<W, P> {
+    /// Whether lines of DRAT are written, and an ask has begun.
+    fn is_past_drat(&self) -> bool
+        ensures yes { result ≡ true → IsPastDrat W.seen self.now }
+        ensures no { result ≡ false → IsBeforeDrat W.seen self.now }
+    {
+        if !self.core.proof.is_drat() {
+            return false;
+        }
+        self.core.proof.has_asked()
+    }
+
+    /// Takes the names of a clause, and nothing more: the clauses alone are known to be unsatisfiable.
+    fn leave_out(&mut self, lits: &[Lit]) -> Result<(), Fault>
+        requires whole { IsWhole self.old }
+        requires unsat { self.old.state ≡ Unsat }
+        ensures takes { TakesIn W.seen result self.old self.new lits.now }
+        ensures room { HasRoom self.old.names (users_in lits.now) → IfErr result IsFault }
+        ensures assumed { self.new.assumed ≡ self.old.assumed }
+        ensures clock { self.new.clock ≡ self.old.clock }
+    {
+        match leave_out_clause(&mut self.names, &mut self.core.proof, lits) {
+            Ok(()) => Ok(()),
+            Err(error) => Err(name_fault(error)),
+        }
+    }
+
+    /// Takes a clause without a name of mode witness.
+    fn take(&mut self, lits: &[Lit]) -> Result<(), Fault>
+        requires whole { IsWhole self.old }
+        requires sampled { NoWitness self.old.names lits.now }
+        ensures takes { TakesIn W.seen result self.old self.new lits.now }
+        ensures room { HasRoom self.old.names (users_in lits.now) → IfErr result (IsFaultOr (HasFullStore self.new)) }
+        ensures assumed { self.new.assumed ≡ self.old.assumed }
+        ensures clock { self.new.clock ≡ self.old.clock }
+    {
+        match self.state {
+            State::Unsat => return self.leave_out(lits),
+            State::Unknown => {}
+            State::Sat => {}
+            State::UnsatUnderAssumptions => {}
+        }
+        let left = take_clause(&mut self.core, &mut self.names, lits, &mut self.loading)?;
+        self.state = if left { State::Unknown } else { State::Unsat };
+        Ok(())
+    }
+
+    /// Adds a clause, whose names come in from left to right. It may stand behind asks, and ends what is known of an answer. Once the
+    /// clauses alone are known to be unsatisfiable, only its names come in. `NotInDrat` behind the first `solve` while lines of DRAT are
+    /// written. `WitnessVariable` where a literal is over a name of mode witness. `VariableLimit` where a variable
+    /// is lacking for a name that would come in.
+    pub fn add_clause(&mut self, lits: &[Lit]) -> Result<(), SolverError>
+        requires { IsSolver self.old }
+        ensures solver { IsSolver self.new }
+        ensures adds { AddsClause W.seen result self.old self.new lits.now }
+        ensures drat { self.old.failed ≡ false → IsPastDrat W.seen self.old → IsErrOf result SolverError.NotInDrat }
+    {
+        if self.failed {
+            return Err(SolverError::HasFailed);
+        }
+        if self.is_past_drat() {
+            return Err(SolverError::NotInDrat);
+        }
+        if leftmost_witness(&self.names, lits).is_some() {
+            return Err(SolverError::WitnessVariable);
+        }
+        if !has_room(&self.names, lits) {
+            return Err(SolverError::VariableLimit);
+        }
+        self.used = true;
+        match self.take(lits) {
+            Ok(()) => Ok(()),
+            Err(fault) => Err(self.fail(fault)),
+        }
+    }
+}

@@ -1,0 +1,47 @@
+//! Parameters of a solver.
+ghost use Rattle.std.specs.Prelude.{◌≡◌, false};
+ghost use Rattle.sat_parts.specs.parts.Whole.{PartsInvariant};
+ghost use Rattle.sat_solver.specs.clause.Activity.{AreDecays};
+ghost use Rattle.sat_solver.specs.declared.state.State.TheVariants.{Unsat};
+ghost use Rattle.sat_solver.specs.solver.Configuring.{Configures, HandsOn};
+ghost use Rattle.sat_solver.specs.solver.Whole.{IsSolver};
+
+use crate::clause::activity::set_decays;
+use crate::schedule::solve::Core;
+use crate::solver::Solver;
+use crate::state::State;
+use crate::{SolverConfigUpdate, SolverError};
+use sat_base::CountedWrite;
+use sat_checker::ProofProcessor;
+
+/// Hands the decays on to a search, unless it is over.
+fn hand_on<W: CountedWrite + Drop, P: ProofProcessor>(core: &mut Core<W, P>, state: State)
+    requires holds { (state ≡ Unsat → ⊥) → PartsInvariant core.old.search.parts }
+    requires decays { AreDecays core.old.config }
+    ensures { HandsOn state core.old core.new }
+{
+    match state {
+        State::Unsat => {}
+        State::Unknown => set_decays(&mut core.search, &core.config),
+        State::Sat => set_decays(&mut core.search, &core.config),
+        State::UnsatUnderAssumptions => set_decays(&mut core.search, &core.config),
+    }
+}
+
+impl<W: CountedWrite + Drop, P: ProofProcessor> Solver<W, P> {
+    /// Changes parameters: those that the update has. `OutOfRange` changes nothing, and comes exactly where one is out of its range.
+    pub fn config(&mut self, update: &SolverConfigUpdate) -> Result<(), SolverError>
+        requires { IsSolver self.old }
+        ensures solver { IsSolver self.new }
+        ensures configures { Configures result update.now self.old self.new }
+    {
+        if self.failed {
+            return Err(SolverError::HasFailed);
+        }
+        update.apply(&mut self.core.config)?;
+        let scale = update.luby_restart_interval_scale;
+        self.clock.restarts.scale = scale.unwrap_or(self.clock.restarts.scale);
+        hand_on(&mut self.core, self.state);
+        Ok(())
+    }
+}

@@ -1,0 +1,22 @@
+//! How a call of a solver fails: its fault is told with its cause.
+ghost use Rattle.std.specs.Prelude.{◌≡◌};
+ghost use Rattle.sat_solver.specs.cdcl.Faults.{IsKept};
+ghost use Rattle.sat_solver.specs.solver.Failing.{failed_with};
+
+use crate::SolverError;
+use crate::cdcl::fault::{Fault, tell};
+use crate::solver::Solver;
+use sat_base::CountedWrite;
+use sat_checker::ProofProcessor;
+
+impl<W: CountedWrite + Drop, P: ProofProcessor> Solver<W, P> {
+    /// The error of a call that failed. From here on each call fails.
+    pub fn fail(&mut self, fault: Fault) -> SolverError
+        requires kept { IsKept fault self.old.core.proof }
+        ensures error { result ≡ fault }
+        ensures fails { self.new ≡ failed_with self.old }
+    {
+        self.failed = true;
+        tell(fault, &mut self.core.proof)
+    }
+}

@@ -1,0 +1,86 @@
+//! Rounds up to an answer, which is told by its step.
+ghost use Rattle.std.specs.Prelude.{◌≡◌, ◌<◌, IfOk, IfErr};
+ghost use Rattle.sat_solver.specs.schedule.Counting.{AnswersWithin, CountsOn, SpendsRounds, TakesRound, steps_left};
+ghost use Rattle.sat_solver.specs.schedule.Solving.{values_in};
+ghost use Rattle.sat_solver.specs.solver.Joined.{IsJoined};
+ghost use Rattle.sat_solver.specs.solver.Answering.{BreaksOff};
+ghost use Rattle.sat_solver.specs.solver.Found.{FindsBy, ComesTo, Tells};
+
+use crate::cdcl::fault::Fault;
+use crate::schedule::Outcome;
+use crate::schedule::restarts::Restarts;
+use crate::schedule::solve::{Core, solve};
+use crate::solver::tell::{fail_core, show_model};
+use crate::state::State;
+use crate::variables::Variables;
+use sat_base::{CountedWrite, Lit};
+use sat_checker::ProofProcessor;
+
+/// What the last answers were: a model over the proof's variables, a failed core over names.
+#[derive(Drop)]
+pub struct Told {
+    pub model: Vec<Lit>,
+    pub failed_core: Vec<Lit>,
+}
+
+/// The rounds that were made, and when restarts are due.
+#[derive(Drop)]
+pub struct Clock {
+    pub restarts: Restarts,
+    pub steps: u64,
+}
+
+/// Tells what a search came to.
+fn tell<W: CountedWrite + Drop, P: ProofProcessor>(
+    core: &mut Core<W, P>,
+    names: &Variables,
+    told: &mut Told,
+    outcome: Outcome,
+) -> Result<Option<State>, Fault>
+    requires { ComesTo outcome names.now core.old }
+    ensures { Tells W.seen result outcome names.now core.old core.new told.new.failed_core.items }
+{
+    match outcome {
+        Outcome::Learned => Ok(None),
+        Outcome::Model => {
+            show_model(core, names, &mut told.model)?;
+            Ok(Some(State::Sat))
+        }
+        Outcome::Failed => {
+            fail_core(core, names, &mut told.failed_core)?;
+            Ok(Some(State::UnsatUnderAssumptions))
+        }
+        Outcome::Unsat => Ok(Some(State::Unsat)),
+    }
+}
+
+/// Rounds up to an answer, at most so many as the parameters say, and the answer's step. None where there is no answer by then.
+pub fn find_answer<W: CountedWrite + Drop, P: ProofProcessor>(
+    core: &mut Core<W, P>,
+    names: &mut Variables,
+    told: &mut Told,
+    clock: &mut Clock,
+) -> Result<Option<State>, Fault>
+    requires joined { IsJoined names.old core.old }
+    requires scale { 0 < clock.old.restarts.scale }
+    ensures scale { clock.new.restarts.scale ≡ clock.old.restarts.scale }
+    ensures counts { CountsOn (values_in core.old) core.old.config.max_steps clock.old.steps clock.new.steps }
+    ensures round { TakesRound result clock.old.steps clock.new.steps }
+    ensures interrupted { SpendsRounds result (steps_left core.old.config.max_steps clock.old.steps) clock.old.steps clock.new.steps }
+    ensures answered { AnswersWithin result (values_in core.old) (steps_left core.old.config.max_steps clock.old.steps) }
+    ensures finds { IfOk result (λ r. FindsBy W.seen r clock.old clock.new names.old names.new core.old core.new told.new) }
+    ensures breaks { IfErr result (λ e. BreaksOff W.seen e core.old core.new) }
+{
+    let max_steps = core.config.max_steps;
+    let found = solve(
+        core,
+        names,
+        &mut clock.restarts,
+        &mut clock.steps,
+        max_steps,
+    )?;
+    match found {
+        None => Ok(None),
+        Some(outcome) => tell(core, names, told, outcome),
+    }
+}

@@ -1,0 +1,81 @@
+//! Clauses and assumptions over names come to a search.
+ghost use Rattle.sat_solver.specs.load.Literals.{NoWitness};
+ghost use Rattle.std.specs.Prelude.{◌≡◌, IfErr};
+ghost use Rattle.sat_solver.specs.variables.Room.{HasRoom, users_in};
+ghost use Rattle.sat_parts.specs.parts.Full.{IsFull};
+ghost use Rattle.sat_solver.specs.cdcl.Going.{IsFault, IsFaultOr};
+ghost use Rattle.sat_solver.specs.proof.ProofView.{session_of};
+ghost use Rattle.sat_solver.specs.solver.Joined.{IsJoined};
+ghost use Rattle.sat_solver.specs.solver.Taking.{TakesClause, TakesAssumptions};
+
+use crate::assumptions::set_assumptions;
+use crate::cdcl::fault::Fault;
+use crate::load::assume::assume;
+use crate::load::clause::add_clause;
+use crate::load::faults::name_fault;
+use crate::load::literals::Taken;
+use crate::load::load_clause;
+use crate::schedule::solve::Core;
+use crate::variables::Variables;
+use crate::variables::initialize::new_indices;
+use sat_base::{CountedWrite, Lit};
+use sat_checker::ProofProcessor;
+use sat_parts::parts::sorting::Sorting;
+
+/// Where a clause is put together.
+#[derive(Drop)]
+pub struct Loading {
+    pub taken: Taken,
+    pub sorting: Sorting,
+}
+
+/// Takes a clause without a name of mode witness, where the clauses aren't known to be unsatisfiable. Answers whether a valuation may
+/// be left.
+pub fn take_clause<W: CountedWrite + Drop, P: ProofProcessor>(
+    core: &mut Core<W, P>,
+    names: &mut Variables,
+    lits: &[Lit],
+    loading: &mut Loading,
+) -> Result<bool, Fault>
+    requires joined { IsJoined names.old core.old }
+    requires sampled { NoWitness names.old lits.now }
+    ensures takes { TakesClause W.seen result names.old names.new core.old core.new lits.now }
+    ensures room { HasRoom names.old (users_in lits.now) → IfErr result (IsFaultOr (IsFull core.new.search.parts)) }
+{
+    let added = add_clause(names, &mut core.proof, lits, &mut loading.taken);
+    let both_signs = match added {
+        Ok(both_signs) => both_signs,
+        Err(error) => return Err(name_fault(error)),
+    };
+    new_indices(&mut core.search, &names.globals, &loading.taken.given)?;
+    if both_signs {
+        return Ok(true);
+    }
+    load_clause(
+        &mut core.proof,
+        &mut core.search,
+        &loading.taken.lits,
+        &mut loading.sorting,
+    )
+}
+
+/// Takes assumptions without a name of mode witness, in place of those before.
+pub fn take_assumptions<W: CountedWrite + Drop, P: ProofProcessor>(
+    core: &mut Core<W, P>,
+    names: &mut Variables,
+    lits: &[Lit],
+    asked: &mut Taken,
+) -> Result<(), Fault>
+    requires joined { IsJoined names.old core.old }
+    requires sampled { NoWitness names.old lits.now }
+    requires asked { asked.old.globals.items ≡ (session_of core.old.proof).assumed }
+    ensures takes { TakesAssumptions W.seen result names.old names.new core.old core.new lits.now asked.new }
+    ensures room { HasRoom names.old (users_in lits.now) → IfErr result IsFault }
+{
+    if let Err(error) = assume(names, &mut core.proof, lits, asked) {
+        return Err(name_fault(error));
+    }
+    new_indices(&mut core.search, &names.globals, &asked.given)?;
+    set_assumptions(&mut core.search, &asked.order)?;
+    Ok(())
+}

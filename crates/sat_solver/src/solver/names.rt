@@ -1,0 +1,152 @@
+//! Names that come in, that are hidden, and modes that a user sets.
+ghost use Rattle.std.specs.Prelude.{◌≡◌, ◌==◌, ◌||◌, not, length, true, false, IfOk, IfErr, OnOk};
+ghost use Rattle.sat_solver.specs.solver.Naming.{Hides, Witnesses, Samples, SetsMode, NamesNew, NamesFail, Observed};
+ghost use Rattle.sat_solver.specs.variables.Coming.{LeavesNoneIdle};
+ghost use Rattle.sat_solver.specs.solver.Whole.{IsSolver, steps_in};
+
+use crate::SolverError;
+use crate::load::faults::name_fault;
+use crate::solver::Solver;
+use crate::variables::error::NameError;
+use crate::variables::modes::{hide_var, set_sampling_mode};
+use crate::variables::observe::observe_internal_vars;
+use crate::variables::refuse::is_assumed;
+use crate::variables::room::has_room_for;
+use crate::variables::user_vars::new_user_var;
+use sat_base::{CountedWrite, Var};
+use sat_checker::ProofProcessor;
+
+/// Whether no variable was left.
+fn is_limit(error: &NameError) -> bool
+    ensures limit { result ≡ true → error.now ≡ NameError.VariableLimit }
+    ensures other { result ≡ false → error.now ≡ NameError.VariableLimit → ⊥ }
+{
+    match error {
+        NameError::VariableLimit => true,
+        NameError::OutOfMemory => false,
+        NameError::Write(_) => false,
+        NameError::Check(_) => false,
+    }
+}
+
+/// Whether a solver was used that gave these names.
+fn is_used(used: bool, users: &[Var]) -> bool
+    ensures { result ≡ (used || not (length users.now == 0)) }
+{
+    used || !users.is_empty()
+}
+
+impl<W: CountedWrite + Drop, P: ProofProcessor> Solver<W, P> {
+    /// Brings a name in, and hides it: its variable stays in the clauses, and the name may become that of a new variable. A variable
+    /// without an index, which is in no clause, is deleted at once. What is known of an answer stays. `AssumedVariable` where the name
+    /// is assumed. `VariableLimit` where a variable is lacking for a name that would come in.
+    pub fn hide_var(&mut self, user: Var) -> Result<(), SolverError>
+        requires { IsSolver self.old }
+        ensures solver { IsSolver self.new }
+        ensures hides { Hides W.seen result self.old self.new user }
+        ensures gone { OnOk result (LeavesNoneIdle (steps_in self.new)) }
+    {
+        if self.failed {
+            return Err(SolverError::HasFailed);
+        }
+        if is_assumed(&self.names, user) {
+            return Err(SolverError::AssumedVariable);
+        }
+        if !has_room_for(&self.names, user) {
+            return Err(SolverError::VariableLimit);
+        }
+        self.used = true;
+        match hide_var(&mut self.names, &mut self.core.proof, user) {
+            Ok(()) => Ok(()),
+            Err(error) => Err(self.fail(name_fault(error))),
+        }
+    }
+
+    /// Brings a name in, and sets its mode.
+    fn set_mode(&mut self, user: Var, sample: bool) -> Result<(), SolverError>
+        requires { IsSolver self.old }
+        ensures solver { IsSolver self.new }
+        ensures sets { SetsMode W.seen result self.old self.new user sample }
+    {
+        if self.failed {
+            return Err(SolverError::HasFailed);
+        }
+        if is_assumed(&self.names, user) {
+            return Err(SolverError::AssumedVariable);
+        }
+        if !has_room_for(&self.names, user) {
+            return Err(SolverError::VariableLimit);
+        }
+        self.used = true;
+        match set_sampling_mode(&mut self.names, &mut self.core.proof, user, sample) {
+            Ok(()) => Ok(()),
+            Err(error) => Err(self.fail(name_fault(error))),
+        }
+    }
+
+    /// Brings a name in, and sets its mode to witness: no clause and no assumption may have it. What is known of an answer stays.
+    /// `AssumedVariable` where the name is assumed, also where the mode would stay. `VariableLimit` as by `hide_var`.
+    pub fn witness_var(&mut self, user: Var) -> Result<(), SolverError>
+        requires { IsSolver self.old }
+        ensures solver { IsSolver self.new }
+        ensures witnesses { Witnesses W.seen result self.old self.new user }
+    {
+        self.set_mode(user, false)
+    }
+
+    /// Brings a name in, and sets its mode to sample, as new names have it. What is known of an answer stays. `AssumedVariable` where
+    /// the name is assumed, also where the mode would stay. `VariableLimit` as by `hide_var`.
+    pub fn sample_var(&mut self, user: Var) -> Result<(), SolverError>
+        requires { IsSolver self.old }
+        ensures solver { IsSolver self.new }
+        ensures samples { Samples W.seen result self.old self.new user }
+    {
+        self.set_mode(user, true)
+    }
+
+    /// Brings in the lowest hidden name, else the first never used, and gives it. What is known of an answer stays: in a model the name
+    /// is false. `VariableLimit` changes nothing, and comes only where every variable of the proof is in use.
+    pub fn new_var(&mut self) -> Result<Var, SolverError>
+        requires { IsSolver self.old }
+        ensures solver { IsSolver self.new }
+        ensures names { NamesNew W.seen result self.old self.new }
+    {
+        if self.failed {
+            return Err(SolverError::HasFailed);
+        }
+        match new_user_var(&mut self.names, &mut self.core.proof) {
+            Ok(user) => {
+                self.used = true;
+                Ok(user)
+            }
+            Err(error) => {
+                if is_limit(&error) {
+                    return Err(SolverError::VariableLimit);
+                }
+                self.used = true;
+                Err(self.fail(name_fault(error)))
+            }
+        }
+    }
+
+    /// Gives each hidden variable that is still kept the name that `new_var` would take, and mode witness, by increasing variable of the
+    /// proof; the names in this order. What is known of an answer stays. Where there is none, a proof may still be opened.
+    pub fn observe_internal_vars(&mut self) -> Result<Vec<Var>, SolverError>
+        requires { IsSolver self.old }
+        ensures solver { IsSolver self.new }
+        ensures observes { IfOk result (λ users. Observed W.seen self.old self.new users.items) }
+        ensures fails { IfErr result (λ e. NamesFail W.seen e self.old self.new) }
+    {
+        if self.failed {
+            return Err(SolverError::HasFailed);
+        }
+        let mut users = Vec::new(self.core.search.alloc);
+        match observe_internal_vars(&mut self.names, &mut self.core.proof, &mut users) {
+            Ok(()) => {
+                self.used = is_used(self.used, &users);
+                Ok(users)
+            }
+            Err(error) => Err(self.fail(name_fault(error))),
+        }
+    }
+}

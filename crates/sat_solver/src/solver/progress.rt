@@ -1,0 +1,60 @@
+//! How far a solver has come.
+ghost use Rattle.std.specs.Prelude.{◌≡◌, false, slice_index_or};
+ghost use Rattle.sat_solver.specs.variables.Variables.{AreTidy};
+ghost use Rattle.sat_solver.specs.solver.Progressing.{is_open_at, open_vars, open_in, GoesOnIn, CountsClauses};
+ghost use Rattle.sat_solver.specs.solver.Whole.{IsSolver};
+
+use crate::Progress;
+use crate::solver::Solver;
+use crate::variables::Variables;
+use sat_base::{CountedWrite, Var};
+use sat_checker::ProofProcessor;
+use sat_store::Tier;
+
+/// Whether a variable has this index, and no value.
+fn is_open(names: &Variables, global: Var, index: usize, values: &[Option<bool>]) -> bool
+    ensures { AreTidy names.now → slice_index_or names.now.globals.items index 0 ≡ global → result ≡ is_open_at names.now values.now index }
+{
+    let Some(solver) = names.solver_from_global.fwd().get(global) else {
+        return false;
+    };
+    if solver.index() != index || index >= values.len() {
+        return false;
+    }
+    values[index].is_none()
+}
+
+/// The number of variables that have an index, and no value.
+fn open_count(names: &Variables, values: &[Option<bool>]) -> u64
+    ensures { AreTidy names.now → result ≡ open_vars names.now values.now }
+{
+    let mut count: u64 = 0;
+    for index in 0..names.globals.len() {
+        if is_open(names, names.globals[index], index, values) {
+            count = count.saturating_add(1);
+        }
+    }
+    count
+}
+
+impl<W: CountedWrite + Drop, P: ProofProcessor> Solver<W, P> {
+    /// Rounds, restarts, variables without a value, and clauses by kind, at this time. Takes no memory.
+    pub fn progress(&self) -> Progress
+        ensures conflicts { result.conflicts ≡ self.now.clock.steps }
+        ensures restarts { result.restarts ≡ self.now.clock.restarts.count }
+        ensures vars { IsSolver self.now → self.now.failed ≡ false → result.vars ≡ open_in self.now }
+        ensures clauses { GoesOnIn self.now → CountsClauses result self.now.core.search.parts }
+    {
+        let parts = &self.core.search.parts;
+        Progress {
+            conflicts: self.clock.steps,
+            restarts: self.clock.restarts.count,
+            vars: open_count(&self.names, parts.assignment.assignment()),
+            binary: parts.binary.implications() as u64 / 2,
+            irred: parts.db.count_by_tier(Tier::Irred) as u64,
+            core: parts.db.count_by_tier(Tier::Core) as u64,
+            mid: parts.db.count_by_tier(Tier::Mid) as u64,
+            local: parts.db.count_by_tier(Tier::Local) as u64,
+        }
+    }
+}

@@ -1,0 +1,92 @@
+//! Clauses of two literals go that units made true.
+ghost use Rattle.std.specs.Prelude.{◌≡◌, ◌+◌, ◌<◌, length};
+ghost use Rattle.sat_base.specs.values.Literals.{variable};
+ghost use Rattle.sat_parts.specs.prop.Binaries.{implied_by};
+ghost use Rattle.sat_solver.specs.session.SolverClauses.{pair, is_open_clause};
+ghost use Rattle.sat_solver.specs.proof.ProofView.{Keeps, session_of};
+ghost use Rattle.sat_solver.specs.cdcl.Going.{EmitsSteps};
+ghost use Rattle.sat_solver.specs.cdcl.Joint.{IsSearch};
+ghost use Rattle.sat_solver.specs.unit_simplify.Flat.{IsFlat, MayRemove, LeavesPairs, RemovesPairs};
+
+use crate::cdcl::fault::Fault;
+use crate::context::Search;
+use crate::load::delete_satisfied;
+use crate::proof::Proof;
+use sat_base::{CountedWrite, Lit};
+use sat_checker::ProofProcessor;
+use sat_parts::Parts;
+use sat_parts::parts::clauses::remove_binary;
+
+/// Whether neither of two literals has a value.
+fn are_open(parts: &Parts, first: Lit, second: Lit) -> bool
+    requires first { variable first < length parts.now.assignment.current }
+    requires second { variable second < length parts.now.assignment.current }
+    ensures { result ≡ is_open_clause parts.now.assignment.current (pair first second) }
+{
+    let values = &parts.assignment;
+    values.var_value(first.var()).is_none() && values.var_value(second.var()).is_none()
+}
+
+/// Deletes the clause by which a literal implies another, in the list of its lower literal, where a variable of it has a value.
+fn delete_pair<W: CountedWrite + Drop, P: ProofProcessor>(
+    proof: &mut Proof<W, P>,
+    search: &mut Search,
+    lit: Lit,
+    at: usize,
+) -> Result<(), Fault>
+    requires keeps { Keeps proof.old }
+    requires may { MayRemove search.old }
+    requires left { LeavesPairs (session_of proof.old) search.old lit at }
+    requires there { lit < length search.old.parts.binary.implied }
+    requires within { at < length (implied_by search.old.parts.binary.implied lit) }
+    ensures same { search.new ≡ record search.old { scratch = search.new.scratch } }
+    ensures left { EmitsSteps W.seen result proof.old proof.new (λ _ _. LeavesPairs (session_of proof.new) search.old lit (at + 1)) }
+{
+    let first = !lit;
+    let second = search.parts.binary.implied(lit)[at];
+    if first.code() >= second.code() {
+        return Ok(());
+    }
+    if are_open(&search.parts, first, second) {
+        return Ok(());
+    }
+    let pair = [first, second];
+    delete_satisfied(proof, &search.globals, &pair, &mut search.scratch.clause)
+}
+
+/// Deletes such clauses of the list of a literal.
+fn delete_pairs_of<W: CountedWrite + Drop, P: ProofProcessor>(
+    proof: &mut Proof<W, P>,
+    search: &mut Search,
+    lit: Lit,
+) -> Result<(), Fault>
+    requires keeps { Keeps proof.old }
+    requires may { MayRemove search.old }
+    requires left { LeavesPairs (session_of proof.old) search.old lit 0 }
+    requires there { lit < length search.old.parts.binary.implied }
+    ensures same { search.new ≡ record search.old { scratch = search.new.scratch } }
+    ensures left { EmitsSteps W.seen result proof.old proof.new (λ _ _. LeavesPairs (session_of proof.new) search.old (lit + 1) 0) }
+{
+    for at in 0..search.parts.binary.implied(lit).len() {
+        delete_pair(proof, search, lit, at)?;
+    }
+    Ok(())
+}
+
+/// Deletes the clauses of two literals of which a variable has a value, each once, in the order of the lists.
+pub fn simplify_binary<W: CountedWrite + Drop, P: ProofProcessor>(
+    proof: &mut Proof<W, P>,
+    search: &mut Search,
+) -> Result<(), Fault>
+    requires keeps { Keeps proof.old }
+    requires search { IsSearch (session_of proof.old) search.old }
+    requires flat { IsFlat search.old.parts }
+    ensures { RemovesPairs W.seen result proof.old proof.new search.old search.new }
+{
+    let count = 2 * search.parts.assignment.assignment().len();
+    for code in 0..count {
+        delete_pairs_of(proof, search, Lit::from_code(code))?;
+    }
+    remove_binary(&mut search.parts);
+    Ok(())
+}

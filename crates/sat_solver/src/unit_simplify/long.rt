@@ -1,0 +1,91 @@
+//! Long clauses go that units made true, and others lose the literals that units made false.
+ghost use Rattle.sat_solver.specs.proof.ProofView.{Keeps, session_of};
+ghost use Rattle.sat_solver.specs.cdcl.Going.{EmitsSteps};
+ghost use Rattle.sat_solver.specs.cdcl.Joint.{IsSearch};
+ghost use Rattle.sat_solver.specs.unit_simplify.Flat.{IsFlat, LightensAll, LightensOne};
+ghost use Rattle.sat_solver.specs.unit_simplify.Looks.{HasTrue};
+ghost use Rattle.sat_parts.specs.parts.Whole.{HasClause};
+
+use crate::cdcl::fault::{Fault, proof_fault};
+use crate::clause::reduce::map_clause;
+use crate::context::Search;
+use crate::proof::Proof;
+use crate::unit_simplify::looks::{Looks, look};
+use crate::unit_simplify::steps::deletion_for;
+use crate::unit_simplify::strengthen::cut_clause;
+use sat_base::{CountedWrite, DeleteClauseProof, Lit, ProofStep};
+use sat_checker::ProofProcessor;
+use sat_parts::parts::clauses::delete_long;
+use sat_store::ClauseRef;
+
+/// Deletes a clause of which a literal is true.
+fn delete_true<W: CountedWrite + Drop, P: ProofProcessor>(
+    proof: &mut Proof<W, P>,
+    search: &mut Search,
+    cref: ClauseRef,
+) -> Result<(), Fault>
+    requires keeps { Keeps proof.old }
+    requires search { IsSearch (session_of proof.old) search.old }
+    requires flat { IsFlat search.old.parts }
+    requires live { HasClause search.old.parts cref }
+    requires satisfied { HasTrue search.old.parts cref }
+    ensures { LightensOne W.seen result proof.old proof.new search.old search.new cref }
+{
+    map_clause(
+        &search.parts,
+        &search.globals,
+        cref,
+        &mut search.scratch.clause,
+    )?;
+    let redundant = search.parts.clauses.header(cref).redundant();
+    delete_long(&mut search.parts, cref);
+    let step = ProofStep::DeleteClause {
+        clause: &search.scratch.clause,
+        proof: deletion_for(redundant, DeleteClauseProof::Satisfied),
+    };
+    match proof.step(&step) {
+        Ok(()) => Ok(()),
+        Err(error) => Err(proof_fault(error)),
+    }
+}
+
+/// Deletes a live long clause where a unit made it true, and replaces it by what is left of it where units made literals false.
+fn simplify_clause<W: CountedWrite + Drop, P: ProofProcessor>(
+    proof: &mut Proof<W, P>,
+    search: &mut Search,
+    cref: ClauseRef,
+    part: &mut Vec<Lit>,
+) -> Result<(), Fault>
+    requires keeps { Keeps proof.old }
+    requires search { IsSearch (session_of proof.old) search.old }
+    requires flat { IsFlat search.old.parts }
+    requires live { HasClause search.old.parts cref }
+    ensures { LightensOne W.seen result proof.old proof.new search.old search.new cref }
+{
+    match look(&search.parts, cref) {
+        Looks::Whole => Ok(()),
+        Looks::Satisfied => delete_true(proof, search, cref),
+        Looks::Shorter => cut_clause(proof, search, cref, part),
+    }
+}
+
+/// Looks at the long clauses in the order of their list, the redundant ones too. Behind it none of their literals has a value.
+pub fn simplify_clauses<W: CountedWrite + Drop, P: ProofProcessor>(
+    proof: &mut Proof<W, P>,
+    search: &mut Search,
+    part: &mut Vec<Lit>,
+) -> Result<(), Fault>
+    requires keeps { Keeps proof.old }
+    requires search { IsSearch (session_of proof.old) search.old }
+    requires flat { IsFlat search.old.parts }
+    ensures { EmitsSteps W.seen result proof.old proof.new (λ _ _. LightensAll (session_of proof.new) search.old search.new) }
+{
+    for at in 0..search.parts.db.len() {
+        let cref = search.parts.db.cref(at);
+        if search.parts.clauses.header(cref).deleted() {
+            continue;
+        }
+        simplify_clause(proof, search, cref, part)?;
+    }
+    Ok(())
+}

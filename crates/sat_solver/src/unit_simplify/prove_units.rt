@@ -1,0 +1,73 @@
+//! Units of level 0 are written, and taken off the trail.
+ghost use Rattle.std.specs.Prelude.{◌≡◌, ◌+◌, ◌<◌, ◌≤◌, length};
+ghost use Rattle.sat_solver.specs.proof.ProofView.{Keeps, session_of};
+ghost use Rattle.sat_parts.specs.parts.Round.{AreUnits, IsBased};
+ghost use Rattle.sat_parts.specs.parts.Whole.{state, HoldsBelow, IsDone};
+ghost use Rattle.sat_solver.specs.session.Naming.{global_of};
+ghost use Rattle.sat_solver.specs.session.Fits.{SessionMatchesParts, HaveNames};
+ghost use Rattle.sat_solver.specs.session.Going.{IsOrderly};
+ghost use Rattle.sat_solver.specs.cdcl.Going.{EmitsSteps};
+ghost use Rattle.sat_solver.specs.unit_simplify.Left.{AllUnits, IsSettled};
+
+use crate::cdcl::fault::{Fault, Kind, proof_fault};
+use crate::proof::Proof;
+use crate::proof::map_step::collect_units;
+use sat_base::{ClauseHash, CountedWrite, Lit, ProofStep, Var};
+use sat_checker::ProofProcessor;
+use sat_parts::Parts;
+use sat_parts::parts::units::clear_units;
+
+/// Writes the units of the trail that have a clause as their reason.
+pub fn write_units<W: CountedWrite + Drop, P: ProofProcessor>(
+    proof: &mut Proof<W, P>,
+    parts: &Parts,
+    globals: &[Var],
+    units: &mut Vec<(Lit, ClauseHash)>,
+) -> Result<(), Fault>
+    requires keeps { Keeps proof.old }
+    requires orderly { IsOrderly parts.now }
+    requires bottom { length parts.now.trail.starts ≡ 0 }
+    requires fits { SessionMatchesParts parts.now (session_of proof.old) (global_of globals.now) }
+    requires named { HaveNames parts.now.assignment.current (session_of proof.old) (global_of globals.now) }
+    requires names { length parts.now.assignment.current ≤ length globals.now }
+    ensures { EmitsSteps W.seen result proof.old proof.new (λ _ _. AllUnits parts.now (session_of proof.new) (global_of globals.now)) }
+{
+    if collect_units(parts, globals, units).is_err() {
+        return Err(Fault::of(Kind::OutOfMemory));
+    }
+    if units.is_empty() {
+        return Ok(());
+    }
+    match proof.step(&ProofStep::UnitClauses { units }) {
+        Ok(()) => Ok(()),
+        Err(error) => Err(proof_fault(error)),
+    }
+}
+
+/// Where all is of level 0, writes the units and takes them off the trail.
+pub fn settle<W: CountedWrite + Drop, P: ProofProcessor>(
+    proof: &mut Proof<W, P>,
+    parts: &mut Parts,
+    globals: &[Var],
+    units: &mut Vec<(Lit, ClauseHash)>,
+) -> Result<(), Fault>
+    requires keeps { Keeps proof.old }
+    requires holds { HoldsBelow (length parts.old.trail.starts + 1) parts.old }
+    requires done { IsDone parts.old }
+    requires units { 0 < length parts.old.trail.starts → AreUnits (state parts.old) × IsBased parts.old.trail }
+    requires fits { SessionMatchesParts parts.old (session_of proof.old) (global_of globals.now) }
+    requires named { HaveNames parts.old.assignment.current (session_of proof.old) (global_of globals.now) }
+    requires names { length parts.old.assignment.current ≤ length globals.now }
+    ensures { EmitsSteps W.seen result proof.old proof.new (λ _ _. IsSettled parts.old parts.new (session_of proof.new) (global_of globals.now)) }
+{
+    if parts.trail.current_level() > 0 {
+        return Ok(());
+    }
+    match write_units(proof, parts, globals, units) {
+        Err(error) => Err(error),
+        Ok(()) => {
+            clear_units(parts);
+            Ok(())
+        }
+    }
+}

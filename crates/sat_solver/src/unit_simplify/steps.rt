@@ -1,0 +1,62 @@
+//! The steps of clauses that go, or lose literals.
+ghost use Rattle.std.specs.Prelude.{◌≡◌, ◌&&◌, true, nat_lt};
+ghost use Rattle.sat_base.specs.steps.StepViews.{deletion_of};
+ghost use Rattle.sat_base.specs.steps.Steps.{Simplified};
+ghost use Rattle.sat_solver.specs.proof.ProofView.{Keeps, session_of};
+ghost use Rattle.sat_solver.specs.session.Quiet.{are_few};
+ghost use Rattle.sat_solver.specs.cdcl.Going.{AreNamed};
+ghost use Rattle.sat_solver.specs.unit_simplify.Cuts.{deletion, MayCut, WritesCut};
+
+use crate::cdcl::fault::{Fault, proof_fault};
+use crate::context::Scratch;
+use crate::proof::Proof;
+use sat_base::{CountedWrite, DeleteClauseProof, Lit, ProofStep};
+use sat_checker::ProofProcessor;
+
+/// Why a clause may be deleted: it's redundant, or what is said of others.
+pub fn deletion_for(redundant: bool, other: DeleteClauseProof) -> DeleteClauseProof
+    ensures { deletion_of result ≡ deletion redundant (deletion_of other) }
+{
+    if redundant {
+        return DeleteClauseProof::Redundant;
+    }
+    other
+}
+
+/// Whether what is left of a clause is redundant.
+fn left_redundant(redundant: bool, len: usize) -> bool
+    ensures { result ≡ (redundant && nat_lt 2 len) }
+{
+    redundant && len > 2
+}
+
+/// Derives what is left of a clause, and deletes the clause.
+pub fn write_cut<W: CountedWrite + Drop, P: ProofProcessor>(
+    proof: &mut Proof<W, P>,
+    scratch: &Scratch,
+    part: &[Lit],
+    redundant: bool,
+) -> Result<(), Fault>
+    requires keeps { Keeps proof.old }
+    requires named { AreNamed (session_of proof.old).solver_names part.now }
+    requires may { MayCut (session_of proof.old) redundant part.now scratch.now.hashes.items scratch.now.clause.items }
+    requires few { are_few scratch.now.hashes.items ≡ true }
+    ensures { WritesCut W.seen result proof.old proof.new redundant part.now scratch.now.hashes.items scratch.now.clause.items }
+{
+    let derived = ProofStep::AtClause {
+        redundant: left_redundant(redundant, part.len()),
+        clause: part,
+        propagation_hashes: &scratch.hashes,
+    };
+    if let Err(error) = proof.step(&derived) {
+        return Err(proof_fault(error));
+    }
+    let deleted = ProofStep::DeleteClause {
+        clause: &scratch.clause,
+        proof: deletion_for(redundant, DeleteClauseProof::Simplified),
+    };
+    match proof.step(&deleted) {
+        Ok(()) => Ok(()),
+        Err(error) => Err(proof_fault(error)),
+    }
+}

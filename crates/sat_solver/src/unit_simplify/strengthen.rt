@@ -1,0 +1,110 @@
+//! Long clauses lose their false literals.
+ghost use Rattle.std.specs.Prelude.{ℕ, ◌≡◌, ◌<◌, ◌≤◌, OnOk, IfOk, length};
+ghost use Rattle.sat_parts.specs.clause.Stored.{lit_of, size_of};
+ghost use Rattle.sat_parts.specs.prop.Values.{IsOpenLit};
+ghost use Rattle.sat_solver.specs.proof.ProofView.{Keeps, session_of};
+ghost use Rattle.sat_parts.specs.parts.Whole.{PartsInvariant, HasClause};
+ghost use Rattle.sat_solver.specs.cdcl.Joint.{IsSearch};
+ghost use Rattle.sat_solver.specs.unit_simplify.Cutting.{Gathers, Replaces, NamesCut};
+ghost use Rattle.sat_solver.specs.unit_simplify.Flat.{IsFlat, LightensOne};
+ghost use Rattle.sat_solver.specs.unit_simplify.Looks.{HasTrue, HasFalse};
+
+use crate::cdcl::fault::Fault;
+use crate::clause::reduce::map_clause;
+use crate::context::Search;
+use crate::proof::Proof;
+use crate::proof::map_step::name_clauses;
+use crate::unit_simplify::steps::write_cut;
+use sat_base::{CountedWrite, Lit};
+use sat_checker::ProofProcessor;
+use sat_parts::parts::clauses::{delete_long, shorten, swap_behind};
+use sat_parts::parts::load::load_binary;
+use sat_parts::{Conflict, Parts};
+use sat_store::ClauseRef;
+use std::alloc::AllocError;
+
+/// Brings the open literals of a clause to its front, in order, of which the first two are there. Answers how many they are.
+fn gather_open(parts: &mut Parts, cref: ClauseRef) -> usize
+    requires holds { PartsInvariant parts.old }
+    requires live { HasClause parts.old cref }
+    requires none { HasTrue parts.old cref → ⊥ }
+    requires front { (k : ℕ) → k < 2 → IsOpenLit parts.old.assignment.current (lit_of parts.old.clauses cref k) }
+    ensures gathers { Gathers parts.old parts.new cref result (size_of parts.old.clauses cref) }
+    ensures some { 2 ≤ result }
+    ensures within { result ≤ size_of parts.old.clauses cref }
+{
+    let mut kept = 2;
+    for at in 2..parts.clauses.len(cref) {
+        if parts.assignment.lit_is_false(parts.clauses.lit(cref, at)) {
+            continue;
+        }
+        swap_behind(parts, cref, kept, at);
+        kept += 1;
+    }
+    kept
+}
+
+/// Brings the open literals of a clause to its front, and puts its steps together. Answers how many they are.
+fn name_cut(search: &mut Search, cref: ClauseRef, part: &mut Vec<Lit>) -> Result<usize, AllocError>
+    requires holds { PartsInvariant search.old.parts }
+    requires flat { IsFlat search.old.parts }
+    requires names { length search.old.parts.assignment.current ≤ length search.old.globals.items }
+    requires live { HasClause search.old.parts cref }
+    requires none { HasTrue search.old.parts cref → ⊥ }
+    ensures same { search.new ≡ record search.old { parts = search.new.parts; scratch = search.new.scratch } }
+    ensures named { IfOk result (λ len. NamesCut search.old search.new part.new.items cref len) }
+{
+    let scratch = &mut search.scratch;
+    map_clause(&search.parts, &search.globals, cref, &mut scratch.clause)?;
+    name_clauses(
+        &search.parts,
+        &[],
+        &Conflict::Long(cref),
+        &mut scratch.hashes,
+    )?;
+    let len = gather_open(&mut search.parts, cref);
+    map_clause(&search.parts, &search.globals, cref, part)?;
+    part.truncate(len);
+    Ok(len)
+}
+
+/// Puts the first literals of a clause in its place.
+fn replace(parts: &mut Parts, cref: ClauseRef, len: usize) -> Result<(), AllocError>
+    requires holds { PartsInvariant parts.old }
+    requires flat { IsFlat parts.old }
+    requires live { HasClause parts.old cref }
+    requires some { 2 ≤ len }
+    requires within { len ≤ size_of parts.old.clauses cref }
+    requires front { (k : ℕ) → k < 2 → IsOpenLit parts.old.assignment.current (lit_of parts.old.clauses cref k) }
+    ensures { OnOk result (Replaces parts.old parts.new cref len) }
+{
+    if len > 2 {
+        shorten(parts, cref, len);
+        return Ok(());
+    }
+    let pair = [parts.clauses.lit(cref, 0), parts.clauses.lit(cref, 1)];
+    load_binary(parts, &pair)?;
+    delete_long(parts, cref);
+    Ok(())
+}
+
+/// Replaces a clause by what is left of it, where some of its literals are false and none is true.
+pub fn cut_clause<W: CountedWrite + Drop, P: ProofProcessor>(
+    proof: &mut Proof<W, P>,
+    search: &mut Search,
+    cref: ClauseRef,
+    part: &mut Vec<Lit>,
+) -> Result<(), Fault>
+    requires keeps { Keeps proof.old }
+    requires search { IsSearch (session_of proof.old) search.old }
+    requires flat { IsFlat search.old.parts }
+    requires live { HasClause search.old.parts cref }
+    requires none { HasTrue search.old.parts cref → ⊥ }
+    requires some { HasFalse search.old.parts cref }
+    ensures { LightensOne W.seen result proof.old proof.new search.old search.new cref }
+{
+    let len = name_cut(search, cref, part)?;
+    let redundant = search.parts.clauses.header(cref).redundant();
+    replace(&mut search.parts, cref, len)?;
+    write_cut(proof, &search.scratch, part, redundant)
+}

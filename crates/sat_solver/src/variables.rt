@@ -1,0 +1,277 @@
+//! Names, variables and indices of a solver.
+ghost use Rattle.std.specs.Prelude.{ℕ, ◌≡◌, ◌≤◌, ◌<◌, None, Some, OnOk, IfSome, IfNone, MatchOption, true, false};
+ghost use Rattle.sat_solver.specs.variables.Variables.{AreTidy, data_at, global_of, user_of, solver_of, names_used, variables_used};
+ghost use Rattle.sat_solver.specs.variables.Free.{is_free};
+ghost use Rattle.sat_solver.specs.variables.Naming.{IsRoom, NamesFull, NoneLeft, PutsDeleted, PutsHidden, PutsIndex, PutsMode, PutsName, PutsObserved, PutsUnit, IsNextIndex, IsNextUser};
+
+pub mod error;
+pub mod free;
+pub mod initialize;
+pub mod laws;
+pub mod log;
+pub mod maps;
+pub mod modes;
+pub mod observe;
+pub mod refuse;
+pub mod room;
+pub mod solver_vars;
+pub mod user_vars;
+
+use crate::variables::free::FreeIndices;
+use crate::variables::maps::{link, put_data, put_global, set_data, set_mode, set_unit, unlink};
+use sat_base::Var;
+use sat_store::{SamplingMode, VarBiMap, VarData};
+use std::alloc::{AllocError, Global};
+
+/// Names of the user's, variables of the proof, which are global, and indices of the search, with maps between them.
+#[derive(Drop)]
+pub struct Variables {
+    pub global_from_user: VarBiMap,
+    pub solver_from_global: VarBiMap,
+
+    /// The variable that each index of the search has, or last had.
+    pub globals: Vec<Var>,
+
+    /// What is kept of each variable, by its index.
+    pub var_data: Vec<VarData>,
+
+    /// Names that were used and aren't in use.
+    pub free_users: FreeIndices,
+
+    /// Variables that were used and aren't in use.
+    pub free_globals: FreeIndices,
+
+    /// Indices that were used and aren't in use.
+    pub free_solvers: FreeIndices,
+}
+
+impl Variables {
+    /// No name. Takes no memory.
+    pub fn new(alloc: Global) -> Variables
+        ensures tidy { AreTidy result }
+        ensures none { variables_used result ≡ 0 }
+    {
+        Variables {
+            global_from_user: VarBiMap::new(alloc),
+            solver_from_global: VarBiMap::new(alloc),
+            globals: Vec::new(alloc),
+            var_data: Vec::new(alloc),
+            free_users: FreeIndices::new(alloc),
+            free_globals: FreeIndices::new(alloc),
+            free_solvers: FreeIndices::new(alloc),
+        }
+    }
+
+    /// The variable for a name that isn't in use: its own index if that is free or new, else the lowest free one.
+    #[tactic(auto, using(crate::proofs::lemmas::variables::NextVariables::finding_room))]
+    pub(crate) fn room_for(&self, user: Var) -> Option<Var>
+        requires tidy { AreTidy self.now }
+        requires within { user ≤ names_used self.now }
+        ensures { MatchOption result (NoneLeft self.now) (IsRoom self.now user) }
+    {
+        let index = user.index();
+        if index >= self.var_data.len() || self.var_data[index].deleted {
+            return Some(user);
+        }
+        if let Some(free) = self.free_globals.lowest() {
+            return Some(free);
+        }
+        if self.var_data.len() < Var::max_count() {
+            return Some(Var::from_index(self.var_data.len()));
+        }
+        None
+    }
+
+    /// Gives a name to a new variable.
+    pub(crate) fn put_name(&mut self, user: Var, global: Var) -> Result<(), AllocError>
+        requires tidy { AreTidy self.old }
+        requires named { global_of self.old user ≡ None }
+        requires low { user ≤ names_used self.old }
+        requires room { IsRoom self.old user global }
+        ensures { OnOk result (PutsName self.old self.new user global) }
+    {
+        put_data(&mut self.var_data, global, VarData::user_default())?;
+        link(&mut self.global_from_user, user, global)?;
+        self.free_users.reserve(user)?;
+        self.free_globals.reserve(global)?;
+        self.free_users.take(user);
+        self.free_globals.take(global);
+        Ok(())
+    }
+
+    /// The first index never used, which there is where a variable in use has none.
+    fn new_index(&self, _global: Var) -> Var
+        requires tidy { AreTidy self.now }
+        requires live { (data_at self.now _global).deleted ≡ false }
+        requires without { solver_of self.now _global ≡ None }
+        requires none { (x : ℕ) → is_free self.now.free_solvers x ≡ false }
+        ensures { IsNextIndex self.now result }
+    {
+        Var::from_index(self.solver_from_global.bwd().watermark())
+    }
+
+    /// The index for a variable in use that has none: the lowest free one.
+    pub(crate) fn next_index(&self, global: Var) -> Var
+        requires tidy { AreTidy self.now }
+        requires live { (data_at self.now global).deleted ≡ false }
+        requires without { solver_of self.now global ≡ None }
+        ensures { IsNextIndex self.now result }
+    {
+        match self.free_solvers.lowest() {
+            Some(free) => free,
+            None => self.new_index(global),
+        }
+    }
+
+    /// Gives an index to a variable.
+    pub(crate) fn put_index(&mut self, global: Var, solver: Var) -> Result<(), AllocError>
+        requires without { solver_of self.old global ≡ None }
+        requires next { IsNextIndex self.old solver }
+        requires tidy { AreTidy self.old }
+        ensures { OnOk result (PutsIndex self.old self.new global solver true) }
+    {
+        put_global(&mut self.globals, solver, global)?;
+        link(&mut self.solver_from_global, global, solver)?;
+        self.free_solvers.reserve(solver)?;
+        self.free_solvers.take(solver);
+        Ok(())
+    }
+
+    /// Takes the index of a variable away. Takes no memory.
+    pub(crate) fn take_index(&mut self, global: Var, solver: Var)
+        requires tidy { AreTidy self.old }
+        requires there { solver_of self.old global ≡ Some solver }
+        ensures puts { PutsIndex self.old self.new global solver false }
+        ensures globals { self.new.globals ≡ self.old.globals }
+    {
+        self.free_solvers.put(solver);
+        unlink(&mut self.solver_from_global, global, solver);
+    }
+
+    /// Hides a variable, whose name is free from here on. Takes no memory.
+    pub(crate) fn put_hidden(&mut self, user: Var, global: Var)
+        requires tidy { AreTidy self.old }
+        requires named { global_of self.old user ≡ Some global }
+        requires within { global < variables_used self.old }
+        ensures { PutsHidden self.old self.new user global }
+    {
+        self.free_users.put(user);
+        unlink(&mut self.global_from_user, user, global);
+        set_mode(&mut self.var_data, global, SamplingMode::Hide);
+    }
+
+    /// Gives a name to a hidden variable, which is of mode witness from here on.
+    pub(crate) fn put_observed(&mut self, user: Var, global: Var) -> Result<(), AllocError>
+        requires tidy { AreTidy self.old }
+        requires free { global_of self.old user ≡ None }
+        requires nameless { user_of self.old global ≡ None }
+        requires low { user ≤ names_used self.old }
+        requires within { global < variables_used self.old }
+        ensures { OnOk result (PutsObserved self.old self.new user global) }
+    {
+        link(&mut self.global_from_user, user, global)?;
+        self.free_users.reserve(user)?;
+        self.free_users.take(user);
+        set_mode(&mut self.var_data, global, SamplingMode::Witness);
+        Ok(())
+    }
+
+    /// Gives a variable another mode.
+    pub(crate) fn put_mode(&mut self, global: Var, mode: SamplingMode)
+        requires within { global < variables_used self.old }
+        ensures { PutsMode self.old self.new global mode }
+    {
+        set_mode(&mut self.var_data, global, mode);
+    }
+
+    /// A variable is no longer in use. Takes no memory.
+    pub(crate) fn put_deleted(&mut self, global: Var)
+        requires tidy { AreTidy self.old }
+        requires within { global < variables_used self.old }
+        ensures { PutsDeleted self.old self.new global }
+    {
+        self.free_globals.put(global);
+        set_data(&mut self.var_data, global, VarData::default());
+    }
+
+    /// The mode of a variable that was used.
+    pub(crate) fn mode(&self, global: Var) -> SamplingMode
+        requires within { global < variables_used self.now }
+        ensures { result ≡ (data_at self.now global).sampling_mode }
+    {
+        self.var_data[global.index()].sampling_mode
+    }
+
+    /// How many names were ever used.
+    pub fn name_count(&self) -> usize
+        ensures { result ≡ names_used self.now }
+    {
+        self.global_from_user.fwd().watermark()
+    }
+
+    /// How many variables were ever used.
+    pub fn used_count(&self) -> usize
+        ensures { result ≡ variables_used self.now }
+    {
+        self.var_data.len()
+    }
+
+    /// Whether a variable that was used isn't in use any more.
+    pub fn is_deleted(&self, global: Var) -> bool
+        requires within { global < variables_used self.now }
+        ensures { result ≡ (data_at self.now global).deleted }
+    {
+        self.var_data[global.index()].deleted
+    }
+
+    /// Whether an assumption has a variable that was used.
+    pub fn is_marked(&self, global: Var) -> bool
+        requires within { global < variables_used self.now }
+        ensures { result ≡ (data_at self.now global).assumed }
+    {
+        self.var_data[global.index()].assumed
+    }
+
+    /// The value of the unit of a variable that was used.
+    pub(crate) fn unit(&self, global: Var) -> Option<bool>
+        requires within { global < variables_used self.now }
+        ensures { result ≡ (data_at self.now global).unit }
+    {
+        self.var_data[global.index()].unit
+    }
+
+    /// Notes the value of the unit of a variable that has an index, if there is one: the search does so before it gives the index up.
+    pub fn set_unit(&mut self, global: Var, unit: Option<bool>)
+        requires within { global < variables_used self.old }
+        ensures { PutsUnit self.old self.new global unit }
+    {
+        set_unit(&mut self.var_data, global, unit);
+    }
+
+    /// The first name never used, where none is hidden.
+    fn first_unused(&self) -> Option<Var>
+        requires tidy { AreTidy self.now }
+        requires none { (u : ℕ) → is_free self.now.free_users u ≡ false }
+        ensures next { IfSome result (IsNextUser self.now) }
+        ensures full { IfNone result (NamesFull self.now) }
+    {
+        let used = self.global_from_user.fwd().watermark();
+        if used < Var::max_count() {
+            return Some(Var::from_index(used));
+        }
+        None
+    }
+
+    /// The name that comes next: the lowest hidden one, else the first never used.
+    #[tactic(auto, using(crate::proofs::lemmas::variables::NextNames::next_hidden))]
+    pub(crate) fn next_user(&self) -> Option<Var>
+        requires tidy { AreTidy self.now }
+        ensures next { IfSome result (IsNextUser self.now) }
+        ensures full { IfNone result (NamesFull self.now) }
+    {
+        match self.free_users.lowest() {
+            Some(free) => Some(free),
+            None => self.first_unused(),
+        }
+    }
+}

@@ -1,0 +1,42 @@
+//! Why a call over names failed.
+
+use crate::proof::kept::Kept;
+use crate::proof::made::CheckFault;
+use std::alloc::{AllocError, AllocFailed};
+use std::io;
+
+/// Why a call over names failed.
+#[derive(Drop)]
+pub enum NameError {
+    /// No variable is left.
+    VariableLimit,
+    OutOfMemory,
+
+    /// A call of the proof's target failed, whose cause is kept with the proof.
+    Write(Kept<io::Error>),
+
+    /// The solver's own checker failed.
+    Check(CheckFault),
+}
+
+impl From<AllocError> for NameError {
+    ghost use Rattle.std.specs.Prelude.{◌≡◌};
+    ghost use Rattle.sat_solver.specs.declared.variables.error.NameError.TheVariants.{OutOfMemory};
+
+    ghost from_gives = { λ _ e. e ≡ OutOfMemory };
+
+    fn from(_e: AllocError) -> NameError {
+        NameError::OutOfMemory
+    }
+}
+
+impl<T: Drop> From<AllocFailed<T>> for NameError {
+    ghost use Rattle.std.specs.Prelude.{◌≡◌};
+    ghost use Rattle.sat_solver.specs.declared.variables.error.NameError.TheVariants.{OutOfMemory};
+
+    ghost from_gives = { λ _ e. e ≡ OutOfMemory };
+
+    fn from(_e: AllocFailed<T>) -> NameError {
+        NameError::OutOfMemory
+    }
+}

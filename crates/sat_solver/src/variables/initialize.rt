@@ -1,0 +1,104 @@
+//! Variables come to a search.
+ghost use Rattle.std.specs.Prelude.{ℕ, ◌≡◌, ◌<◌, ◌≤◌, None, [], ◌∷◌, OnOk, length};
+ghost use Rattle.std.specs.List.{AllByRecursion};
+ghost use Rattle.sat_base.specs.values.Literals.{largest};
+ghost use Rattle.sat_solver.specs.variables.Search.{GivenApart};
+ghost use Rattle.sat_parts.specs.parts.Whole.{PartsInvariant};
+ghost use Rattle.sat_solver.specs.variables.Initialized.{IsVacant, AreVacant, TakesIndices, Renames, AreIndexed};
+
+use crate::context::Search;
+use crate::load::backtrack::back_to_bottom;
+use crate::variables::solver_vars::Given;
+use sat_base::Var;
+use sat_parts::Parts;
+use sat_parts::parts::grow;
+use sat_parts::parts::variables::{reset_activity, restore_unit, use_variable};
+use std::alloc::AllocError;
+
+/// Takes an index at level 0: a unit gives it its value, and otherwise it may be picked, from activity 0 on. The value that it is
+/// picked with first is the one that it had last.
+fn take_index(parts: &mut Parts, given: &Given)
+    requires holds { PartsInvariant parts.old }
+    requires bottom { parts.old.trail.starts ≡ [] }
+    requires vacant { IsVacant parts.old (length parts.old.assignment.current) given.now }
+    ensures { TakesIndices (given.now ∷ []) parts.old parts.new }
+{
+    reset_activity(parts, given.solver);
+    match given.unit {
+        None => use_variable(parts, given.solver),
+        Some(value) => restore_unit(parts, given.solver.lit(value)),
+    }
+}
+
+/// Takes these indices.
+fn take_indices(parts: &mut Parts, given: &[Given])
+    requires holds { PartsInvariant parts.old }
+    requires bottom { parts.old.trail.starts ≡ [] }
+    requires vacant { AreVacant parts.old (length parts.old.assignment.current) given.now }
+    ensures { TakesIndices given.now parts.old parts.new }
+{
+    for at in 0..given.len() {
+        take_index(parts, &given[at]);
+    }
+}
+
+/// Writes down the variables that have these indices.
+fn rename(list: &mut Vec<Var>, globals: &[Var], given: &[Given])
+    requires there { AllByRecursion (λ g. g.solver < length list.old.items) given.now }
+    requires below { AllByRecursion (λ g. g.solver < length globals.now) given.now }
+    requires apart { GivenApart given.now }
+    ensures { Renames given.now globals.now list.old.items list.new.items }
+{
+    for at in 0..given.len() {
+        let index = given[at].solver.index();
+        list[index] = globals[index];
+    }
+}
+
+/// The least count that is no lower than this one and past these indices.
+fn count_with(count: usize, given: &[Given]) -> usize
+    requires few { count ≤ largest }
+    ensures few { result ≤ largest }
+    ensures more { count ≤ result }
+    ensures past { AllByRecursion (λ g. g.solver < result) given.now }
+    ensures least { (m : ℕ) → count ≤ m → AllByRecursion (λ g. g.solver < m) given.now → result ≤ m }
+{
+    let mut all = count;
+    for at in 0..given.len() {
+        all = all.max(given[at].solver.index() + 1);
+    }
+    all
+}
+
+/// Makes room for the indices that proof variables were given, goes back to level 0, and takes them.
+fn add_indices(search: &mut Search, globals: &[Var], given: &[Given]) -> Result<(), AllocError>
+    requires holds { PartsInvariant search.old.parts }
+    requires same { length search.old.globals.items ≡ length search.old.parts.assignment.current }
+    requires vacant { AreVacant search.old.parts (length globals.now) given.now }
+    ensures { OnOk result (AreIndexed globals.now given.now search.old search.new) }
+{
+    let count = count_with(search.globals.len(), given);
+    grow(search.alloc, &mut search.parts, count)?;
+    search.analysis.set_var_count(count)?;
+    search.flags.set_var_count(count)?;
+    search.globals.resize(count, Var::from_index(0))?;
+    back_to_bottom(search);
+    rename(&mut search.globals, globals, given);
+    take_indices(&mut search.parts, given);
+    Ok(())
+}
+
+/// Goes back to level 0, and takes the indices that proof variables were given: new ones, or such as others gave up. The list has the
+/// proof variable of each index, or the one that it had last.
+pub fn new_indices(search: &mut Search, globals: &[Var], given: &[Given]) -> Result<(), AllocError>
+    requires holds { PartsInvariant search.old.parts }
+    requires same { length search.old.globals.items ≡ length search.old.parts.assignment.current }
+    requires vacant { AreVacant search.old.parts (length globals.now) given.now }
+    ensures { OnOk result (AreIndexed globals.now given.now search.old search.new) }
+{
+    if given.is_empty() {
+        back_to_bottom(search);
+        return Ok(());
+    }
+    add_indices(search, globals, given)
+}

@@ -1,0 +1,61 @@
+//! What takes the steps of a proof.
+ghost use Rattle.std.specs.Prelude.{◌≡◌, ◌∷◌, List, OnOk, IfErr};
+ghost use Rattle.sat_base.specs.steps.Steps.{Step};
+ghost use Rattle.sat_base.specs.steps.StepViews.{step_of};
+ghost use Rattle.sat_solver.specs.session.Session.{May, session_after};
+ghost use Rattle.sat_solver.specs.proof.Widths.{KeepsWidth};
+ghost use Rattle.sat_solver.specs.declared.variables.error.NameError.{NameError as Fault};
+ghost use Rattle.sat_solver.specs.variables.Failing.{IsFailure, EmitsOrFails};
+
+use crate::proof::{Proof, ProofError};
+use crate::variables::error::NameError;
+use sat_base::{CountedWrite, ProofStep};
+use sat_checker::ProofProcessor;
+
+/// What takes the steps of a proof, one after another.
+pub trait StepWriter: Drop {
+    /// The steps so far, the newest first.
+    ghost steps: { Self → List Step };
+
+    /// What it keeps between steps.
+    ghost keeps: { Self → Type 0 };
+
+    /// It came from there by steps that were taken.
+    ghost took: { Self → Self → Type 0 };
+
+    /// It came from there by steps of which the last wasn't taken, for this reason.
+    ghost broke: { Self → Fault → Self → Type 0 };
+
+    /// Takes a step that may be written behind those before it.
+    fn step(&mut self, step: &ProofStep<'_>) -> Result<(), NameError>
+        requires keeps { keeps self.old }
+        requires may { May (session_after (steps self.old)) (step_of step.now) }
+        requires width { KeepsWidth (step_of step.now) }
+        ensures keeps { OnOk result (keeps self.new) }
+        ensures steps { OnOk result (steps self.new ≡ step_of step.now ∷ steps self.old) }
+        ensures fails { IfErr result IsFailure }
+        ensures came { EmitsOrFails took broke result self.old self.new };
+}
+
+impl<W: CountedWrite + Drop, P: ProofProcessor> StepWriter for Proof<W, P> {
+    ghost use Rattle.sat_solver.specs.proof.ProofView.{Keeps, steps_of};
+    ghost use Rattle.sat_solver.specs.session.Making.{Gained};
+    ghost use Rattle.sat_solver.specs.variables.Taking.{NotTaken};
+
+    ghost steps = { λ p. steps_of p };
+
+    ghost keeps = { λ p. Keeps p };
+
+    ghost took = { Gained W.seen };
+
+    ghost broke = { NotTaken W.seen };
+
+    fn step(&mut self, step: &ProofStep<'_>) -> Result<(), NameError> {
+        match self.step(step) {
+            Ok(()) => Ok(()),
+            Err(ProofError::Write(cause)) => Err(NameError::Write(cause)),
+            Err(ProofError::OutOfMemory) => Err(NameError::OutOfMemory),
+            Err(ProofError::Check(fault)) => Err(NameError::Check(fault)),
+        }
+    }
+}

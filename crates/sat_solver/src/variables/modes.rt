@@ -1,0 +1,210 @@
+//! Modes of variables, names that go, and variables that are deleted.
+ghost use Rattle.std.specs.Prelude.{ℕ, ◌≡◌, ◌⊎◌, ◌+◌, true, false, Some, None, [], ◌∷◌, ◌++◌, map, IfErr, OnOk};
+ghost use Rattle.sat_base.specs.script.Judge.{without_name, with_mode, bring_in, new_names};
+ghost use Rattle.sat_solver.specs.session.Session.{session_after};
+ghost use Rattle.sat_solver.specs.variables.Variables.{data_at, global_of, user_of, solver_of, judged_mode, mode_for};
+ghost use Rattle.sat_base.specs.steps.Steps.{UserVarName, ChangeSamplingMode, DeleteVar};
+ghost use Rattle.sat_solver.specs.session.Coming.{OnlyAllowedSteps};
+ghost use Rattle.sat_solver.specs.variables.Coming.{ForgetsIdle, LeavesNoneIdle, MayHide, MaySet, TurnsMode};
+ghost use Rattle.sat_checker.specs.matching.Expected.{NewName, NoName};
+ghost use Rattle.sat_solver.specs.variables.Naming.{AreFresh, KeepsOthers};
+ghost use Rattle.sat_solver.specs.variables.Calls.{NamesInvariant, NamesRefineJudge, DoesNothing};
+ghost use Rattle.sat_solver.specs.variables.Search.{IsUnseen, IsAlike, Forgets, KeepsUnits};
+ghost use Rattle.sat_solver.specs.variables.Refusing.{IsAssumed};
+ghost use Rattle.sat_solver.specs.variables.Failing.{IsFailure, EmitsOrFails, OnlyFails};
+
+use crate::variables::Variables;
+use crate::variables::error::NameError;
+use crate::variables::log::StepWriter;
+use crate::variables::user_vars::global_from_user;
+use sat_base::{ProofStep, Var};
+use sat_store::SamplingMode;
+
+/// A variable loses its name and is hidden.
+fn hide_global<W: StepWriter>(
+    variables: &mut Variables,
+    writer: &mut W,
+    user: Var,
+    global: Var,
+) -> Result<(), NameError>
+    requires stands { NamesInvariant variables.old (W.steps writer.old) }
+    requires keeps { W.keeps writer.old }
+    requires named { global_of variables.old user ≡ Some global }
+    ensures does { OnOk result (NamesRefineJudge variables.old variables.new (W.steps writer.old) (W.steps writer.new)
+        (without_name (user + 1)) (λ j. NoName (user + 1) ∷ [])) }
+    ensures unseen { OnOk result (IsUnseen variables.old variables.new (W.steps writer.old) (W.steps writer.new)) }
+    ensures others { OnOk result (KeepsOthers variables.old variables.new user) }
+    ensures only { OnOk result ((u v : ℕ) → global_of variables.new u ≡ Some v → global_of variables.old u ≡ Some v) }
+    ensures live { OnOk result ((data_at variables.new global).deleted ≡ false) }
+    ensures nameless { OnOk result (user_of variables.new global ≡ None) }
+    ensures step { OnOk result (W.steps writer.new ≡ UserVarName global None ∷ W.steps writer.old) }
+    ensures fails { IfErr result IsFailure }
+    ensures keeps { OnOk result (W.keeps writer.new) }
+    ensures came { EmitsOrFails W.took W.broke result writer.old writer.new }
+{
+    variables.put_hidden(user, global);
+    writer.step(&ProofStep::UserVarName { global, user: None })?;
+    Ok(())
+}
+
+/// A hidden variable without an index, in no clause and not assumed, is forgotten.
+pub fn delete_var<W: StepWriter>(
+    variables: &mut Variables,
+    writer: &mut W,
+    global: Var,
+) -> Result<(), NameError>
+    requires stands { NamesInvariant variables.old (W.steps writer.old) }
+    requires keeps { W.keeps writer.old }
+    requires live { (data_at variables.old global).deleted ≡ false }
+    requires nameless { user_of variables.old global ≡ None }
+    requires without { solver_of variables.old global ≡ None }
+    requires unmarked { (data_at variables.old global).assumed ≡ false }
+    ensures does { OnOk result (DoesNothing variables.old variables.new (W.steps writer.old) (W.steps writer.new)) }
+    ensures step { OnOk result (W.steps writer.new ≡ DeleteVar global ∷ W.steps writer.old) }
+    ensures solvers { OnOk result (variables.new.solver_from_global ≡ variables.old.solver_from_global) }
+    ensures globals { OnOk result (variables.new.globals ≡ variables.old.globals) }
+    ensures users { OnOk result (variables.new.global_from_user ≡ variables.old.global_from_user) }
+    ensures forgets { OnOk result (Forgets (session_after (W.steps writer.old)) (session_after (W.steps writer.new)) global) }
+    ensures fails { IfErr result IsFailure }
+    ensures keeps { OnOk result (W.keeps writer.new) }
+    ensures came { EmitsOrFails W.took W.broke result writer.old writer.new }
+{
+    variables.put_deleted(global);
+    writer.step(&ProofStep::DeleteVar { var: global })?;
+    Ok(())
+}
+
+/// A hidden variable without an index, which is in no clause, is forgotten, unless an assumption has it.
+pub(crate) fn forget_idle<W: StepWriter>(
+    variables: &mut Variables,
+    writer: &mut W,
+    global: Var,
+) -> Result<(), NameError>
+    requires stands { NamesInvariant variables.old (W.steps writer.old) }
+    requires keeps { W.keeps writer.old }
+    requires live { (data_at variables.old global).deleted ≡ false }
+    requires nameless { user_of variables.old global ≡ None }
+    ensures does { OnOk result (DoesNothing variables.old variables.new (W.steps writer.old) (W.steps writer.new)) }
+    ensures units { OnOk result (KeepsUnits variables.new (W.steps writer.old) (W.steps writer.new)) }
+    ensures alike { OnOk result (IsAlike variables.old variables.new (W.steps writer.old) (W.steps writer.new)) }
+    ensures goes { OnOk result (ForgetsIdle variables.old (W.steps writer.old) (W.steps writer.new) global) }
+    ensures users { OnOk result (variables.new.global_from_user ≡ variables.old.global_from_user) }
+    ensures fails { IfErr result IsFailure }
+    ensures keeps { OnOk result (W.keeps writer.new) }
+    ensures came { EmitsOrFails W.took W.broke result writer.old writer.new }
+{
+    if variables.is_marked(global) {
+        return Ok(());
+    }
+    if variables.solver_from_global.fwd().get(global).is_some() {
+        return Ok(());
+    }
+    delete_var(variables, writer, global)?;
+    Ok(())
+}
+
+/// Brings a name in and hides its variable, which is forgotten at once where it has no index. The name isn't assumed.
+pub fn hide_var<W: StepWriter>(
+    variables: &mut Variables,
+    writer: &mut W,
+    user: Var,
+) -> Result<(), NameError>
+    requires stands { NamesInvariant variables.old (W.steps writer.old) }
+    requires keeps { W.keeps writer.old }
+    requires free { IsAssumed variables.old user → ⊥ }
+    ensures does { OnOk result (NamesRefineJudge variables.old variables.new (W.steps writer.old) (W.steps writer.new)
+        (λ j. without_name (user + 1) (bring_in (user + 1) j)) (λ j. map NewName (new_names (user + 1) j) ++ (NoName (user + 1) ∷ []))) }
+    ensures others { OnOk result (KeepsOthers variables.old variables.new user) }
+    ensures fresh { OnOk result (AreFresh variables.old variables.new) }
+    ensures units { OnOk result (KeepsUnits variables.new (W.steps writer.old) (W.steps writer.new)) }
+    ensures alike { OnOk result (IsAlike variables.old variables.new (W.steps writer.old) (W.steps writer.new)) }
+    ensures comes { OnOk result (OnlyAllowedSteps MayHide (W.steps writer.old) (W.steps writer.new)) }
+    ensures gone { OnOk result (LeavesNoneIdle (W.steps writer.new)) }
+    ensures room { OnlyFails result variables.old (user ∷ []) }
+    ensures keeps { OnOk result (W.keeps writer.new) }
+    ensures came { EmitsOrFails W.took W.broke result writer.old writer.new }
+{
+    let global = global_from_user(variables, writer, user)?;
+    hide_global(variables, writer, user, global)?;
+    forget_idle(variables, writer, global)
+}
+
+fn mode_of(sample: bool) -> SamplingMode
+    ensures { result ≡ mode_for sample }
+{
+    if sample {
+        SamplingMode::Sample
+    } else {
+        SamplingMode::Witness
+    }
+}
+
+/// Whether the mode is this one.
+#[tactic(auto, using(crate::proofs::lemmas::variables::ModeChanges::other_modes))]
+fn is_mode(mode: SamplingMode, sample: bool) -> bool
+    ensures same { result ≡ true → mode ≡ mode_for sample }
+    ensures other { result ≡ false → mode ≡ mode_for sample → ⊥ }
+{
+    match mode {
+        SamplingMode::Sample => sample,
+        SamplingMode::Witness => !sample,
+        SamplingMode::Hide => false,
+    }
+}
+
+/// A variable with a name is sampled from here on, or a witness. Where it is already, nothing is written.
+fn set_global_mode<W: StepWriter>(
+    variables: &mut Variables,
+    writer: &mut W,
+    user: Var,
+    global: Var,
+    sample: bool,
+) -> Result<(), NameError>
+    requires stands { NamesInvariant variables.old (W.steps writer.old) }
+    requires keeps { W.keeps writer.old }
+    requires named { global_of variables.old user ≡ Some global }
+    ensures does { OnOk result (NamesRefineJudge variables.old variables.new (W.steps writer.old) (W.steps writer.new)
+        (with_mode (judged_mode sample) (user + 1)) (λ j. [])) }
+    ensures sets { OnOk result ((W.steps writer.new ≡ W.steps writer.old)
+        ⊎ ((W.steps writer.new ≡ ChangeSamplingMode global sample ∷ W.steps writer.old)
+        × TurnsMode (session_after (W.steps writer.old)) global sample)) }
+    ensures users { OnOk result (variables.new.global_from_user ≡ variables.old.global_from_user) }
+    ensures unseen { OnOk result (IsUnseen variables.old variables.new (W.steps writer.old) (W.steps writer.new)) }
+    ensures fails { IfErr result IsFailure }
+    ensures keeps { OnOk result (W.keeps writer.new) }
+    ensures came { EmitsOrFails W.took W.broke result writer.old writer.new }
+{
+    if is_mode(variables.mode(global), sample) {
+        return Ok(());
+    }
+    variables.put_mode(global, mode_of(sample));
+    writer.step(&ProofStep::ChangeSamplingMode {
+        var: global,
+        sample,
+    })?;
+    Ok(())
+}
+
+/// Brings a name in and sets the mode of its variable. The name isn't assumed.
+pub fn set_sampling_mode<W: StepWriter>(
+    variables: &mut Variables,
+    writer: &mut W,
+    user: Var,
+    sample: bool,
+) -> Result<(), NameError>
+    requires stands { NamesInvariant variables.old (W.steps writer.old) }
+    requires keeps { W.keeps writer.old }
+    requires free { IsAssumed variables.old user → ⊥ }
+    ensures does { OnOk result (NamesRefineJudge variables.old variables.new (W.steps writer.old) (W.steps writer.new)
+        (λ j. with_mode (judged_mode sample) (user + 1) (bring_in (user + 1) j)) (λ j. map NewName (new_names (user + 1) j) ++ [])) }
+    ensures others { OnOk result (KeepsOthers variables.old variables.new user) }
+    ensures fresh { OnOk result (AreFresh variables.old variables.new) }
+    ensures unseen { OnOk result (IsUnseen variables.old variables.new (W.steps writer.old) (W.steps writer.new)) }
+    ensures comes { OnOk result (OnlyAllowedSteps (MaySet (user + 1) sample) (W.steps writer.old) (W.steps writer.new)) }
+    ensures room { OnlyFails result variables.old (user ∷ []) }
+    ensures keeps { OnOk result (W.keeps writer.new) }
+    ensures came { EmitsOrFails W.took W.broke result writer.old writer.new }
+{
+    let global = global_from_user(variables, writer, user)?;
+    set_global_mode(variables, writer, user, global, sample)
+}

@@ -1,0 +1,60 @@
+//! Which calls are refused, before anything changes.
+ghost use Rattle.std.specs.Prelude.{◌≡◌, ◌+◌, true, false, IfNone};
+ghost use Rattle.sat_base.specs.script.Judge.{Judge, has_witness, identity_of, refused_literal};
+ghost use Rattle.sat_checker.specs.matching.Bridge.{Live};
+ghost use Rattle.sat_solver.specs.variables.Variables.{AreTidy, AreJudged, is_witness_kept};
+ghost use Rattle.sat_solver.specs.load.Literals.{IsSampled, NoWitness};
+ghost use Rattle.sat_solver.specs.variables.Refusing.{as_refusal, names_in, IsAssumed};
+
+use crate::variables::Variables;
+use sat_base::{Lit, Var};
+use sat_store::SamplingMode;
+
+fn is_witness_mode(mode: SamplingMode) -> bool
+    ensures { result ≡ is_witness_kept mode }
+{
+    match mode {
+        SamplingMode::Witness => true,
+        SamplingMode::Sample | SamplingMode::Hide => false,
+    }
+}
+
+/// Whether a name is in use and of mode witness.
+fn is_witness(variables: &Variables, user: Var) -> bool
+    requires { AreTidy variables.now }
+    ensures judged { (j : Judge) (live : Live) → AreJudged variables.now j live → result ≡ has_witness j (identity_of j (user + 1)) }
+    ensures sampled { result ≡ false → IsSampled variables.now user }
+{
+    let Some(global) = variables.global_from_user.fwd().get(user) else {
+        return false;
+    };
+    is_witness_mode(variables.mode(global))
+}
+
+/// The leftmost literal over a name of mode witness.
+pub fn leftmost_witness(variables: &Variables, lits: &[Lit]) -> Option<Var>
+    requires { AreTidy variables.now }
+    ensures judged { (j : Judge) (live : Live) → AreJudged variables.now j live → refused_literal j (names_in lits.now) ≡ as_refusal result }
+    ensures sampled { IfNone result (NoWitness variables.now lits.now) }
+{
+    for lit in lits {
+        let user = lit.var();
+        let _within = user.index();
+        if is_witness(variables, user) {
+            return Some(user);
+        }
+    }
+    None
+}
+
+/// Whether a name is in use and an assumption has it, which refuses a change of its mode.
+pub fn is_assumed(variables: &Variables, user: Var) -> bool
+    requires { AreTidy variables.now }
+    ensures assumed { result ≡ true → IsAssumed variables.now user }
+    ensures free { result ≡ false → IsAssumed variables.now user → ⊥ }
+{
+    let Some(global) = variables.global_from_user.fwd().get(user) else {
+        return false;
+    };
+    variables.is_marked(global)
+}

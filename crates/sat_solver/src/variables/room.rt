@@ -1,0 +1,110 @@
+//! Whether a variable is left for each name that comes in.
+ghost use Rattle.std.specs.Prelude.{◌≡◌, ◌+◌, ◌<◌, ◌≤◌, [], ◌∷◌, length};
+ghost use Rattle.sat_base.specs.values.Literals.{largest};
+ghost use Rattle.sat_checker.specs.LiteralSets.{mentions};
+ghost use Rattle.sat_solver.specs.variables.Room.{live_count, reach, users_in, hidden_count, SaysRoom, hidden_behind};
+ghost use Rattle.sat_solver.specs.variables.Variables.{AreTidy};
+
+use crate::variables::Variables;
+use sat_base::{Lit, Var};
+
+/// How many variables aren't in use.
+fn left_count(variables: &Variables) -> usize
+    requires { AreTidy variables.now }
+    ensures { result + live_count variables.now ≡ largest }
+{
+    let live = variables.used_count() - variables.free_globals.count();
+    Var::max_count() - live
+}
+
+/// The first name above those that were used and those of the literals.
+fn name_reach(used: usize, lits: &[Lit]) -> usize
+    requires { used ≤ largest }
+    ensures is { result ≡ reach used (users_in lits.now) }
+    ensures within { result ≤ largest }
+{
+    let mut top = used;
+    for lit in lits {
+        top = top.max(lit.index() + 1);
+    }
+    top
+}
+
+/// Whether a literal is over this name.
+#[tactic(auto, using(sat_checker::proofs::lemmas::state::Scanning::any_literal))]
+fn has_name(lits: &[Lit], user: Var) -> bool
+    ensures { result ≡ mentions lits.now user }
+{
+    for lit in lits {
+        if lit.var() == user {
+            return true;
+        }
+    }
+    false
+}
+
+/// Counts the name of the literal at this place, if it was used and isn't in use, but where a literal behind it is over the name, too.
+fn count_hidden_name(variables: &Variables, lits: &[Lit], at: usize, count: usize) -> usize
+    requires within { at < length lits.now }
+    requires count { count ≤ largest }
+    ensures { count ≡ hidden_behind variables.now lits.now (at + 1) → result ≡ hidden_behind variables.now lits.now at }
+{
+    let user = lits[at].var();
+    if user.index() >= variables.name_count() {
+        return count;
+    }
+    if variables.global_from_user.fwd().get(user).is_some() {
+        return count;
+    }
+    if has_name(&lits[at + 1..], user) {
+        return count;
+    }
+    count + 1
+}
+
+/// How many names of the literals were used and aren't in use, each counted once.
+fn count_hidden(variables: &Variables, lits: &[Lit]) -> usize
+    requires { AreTidy variables.now }
+    ensures { result ≡ hidden_count variables.now (users_in lits.now) }
+{
+    let mut count = 0;
+    for at in (0..lits.len()).rev() {
+        count = count_hidden_name(variables, lits, at, count);
+    }
+    count
+}
+
+/// Whether a variable is left for each name that comes in with these literals. Where that depends on how often a name is among them, each
+/// hidden one is looked for among the literals behind it.
+pub fn has_room(variables: &Variables, lits: &[Lit]) -> bool
+    requires { AreTidy variables.now }
+    ensures { SaysRoom result variables.now (users_in lits.now) }
+{
+    let left = left_count(variables);
+    let used = variables.name_count();
+    let never = name_reach(used, lits) - used;
+    if never > left {
+        return false;
+    }
+    if lits.len() <= left - never {
+        return true;
+    }
+    let hidden = count_hidden(variables, lits);
+    hidden <= left - never
+}
+
+/// Whether a variable is left for each name that comes in with this one.
+pub fn has_room_for(variables: &Variables, user: Var) -> bool
+    requires { AreTidy variables.now }
+    ensures { SaysRoom result variables.now (user ∷ []) }
+{
+    let left = left_count(variables);
+    let used = variables.name_count();
+    if user.index() >= used {
+        return user.index() - used < left;
+    }
+    if variables.global_from_user.fwd().get(user).is_some() {
+        return true;
+    }
+    0 < left
+}

@@ -1,0 +1,94 @@
+//! Indices of the search, and the steps that speak of them.
+ghost use Rattle.std.specs.Prelude.{◌≡◌, false, Some, None, IfOk, IfErr, OnOk};
+ghost use Rattle.sat_solver.specs.session.Session.{session_after};
+ghost use Rattle.sat_solver.specs.variables.Variables.{data_at, solver_of, IsUnitOf, IsUnused};
+ghost use Rattle.sat_solver.specs.variables.Calls.{NamesInvariant};
+ghost use Rattle.sat_solver.specs.variables.Indexing.{Indexes, Unindexes};
+ghost use Rattle.sat_solver.specs.variables.Failing.{IsFailure, EmitsOrFails};
+
+use crate::variables::Variables;
+use crate::variables::error::NameError;
+use crate::variables::log::StepWriter;
+use sat_base::{ProofStep, Var};
+
+/// An index of the search that a variable was given, and the value of the variable's unit, where it has one.
+#[derive(Clone, Copy)]
+pub struct Given {
+    pub solver: Var,
+    pub unit: Option<bool>,
+}
+
+/// Gives an index to a variable that has none.
+fn new_index<W: StepWriter>(
+    variables: &mut Variables,
+    writer: &mut W,
+    global: Var,
+    given: &mut Vec<Given>,
+) -> Result<Var, NameError>
+    requires stands { NamesInvariant variables.old (W.steps writer.old) }
+    requires keeps { W.keeps writer.old }
+    requires live { (data_at variables.old global).deleted ≡ false }
+    requires without { solver_of variables.old global ≡ None }
+    ensures indexes { IfOk result (Indexes variables.old variables.new (W.steps writer.old) (W.steps writer.new)
+        given.old.items given.new.items global) }
+    ensures fails { IfErr result IsFailure }
+    ensures keeps { OnOk result (W.keeps writer.new) }
+    ensures came { EmitsOrFails W.took W.broke result writer.old writer.new }
+{
+    let solver = variables.next_index(global);
+    variables.put_index(global, solver)?;
+    let unit = variables.unit(global);
+    given.push(Given { solver, unit })?;
+    writer.step(&ProofStep::SolverVarName {
+        global,
+        solver: Some(solver),
+    })?;
+    Ok(solver)
+}
+
+/// The index of a variable. One that has none gets the lowest free one, which is put behind those given.
+pub fn solver_from_global<W: StepWriter>(
+    variables: &mut Variables,
+    writer: &mut W,
+    global: Var,
+    given: &mut Vec<Given>,
+) -> Result<Var, NameError>
+    requires stands { NamesInvariant variables.old (W.steps writer.old) }
+    requires keeps { W.keeps writer.old }
+    requires live { (data_at variables.old global).deleted ≡ false }
+    ensures indexes { IfOk result (Indexes variables.old variables.new (W.steps writer.old) (W.steps writer.new)
+        given.old.items given.new.items global) }
+    ensures fails { IfErr result IsFailure }
+    ensures keeps { OnOk result (W.keeps writer.new) }
+    ensures came { EmitsOrFails W.took W.broke result writer.old writer.new }
+{
+    if let Some(solver) = variables.solver_from_global.fwd().get(global) {
+        return Ok(solver);
+    }
+    new_index(variables, writer, global, given)
+}
+
+/// Takes the index of a variable away, whose unit is known by then.
+pub fn remove_solver_var<W: StepWriter>(
+    variables: &mut Variables,
+    writer: &mut W,
+    global: Var,
+    solver: Var,
+) -> Result<(), NameError>
+    requires stands { NamesInvariant variables.old (W.steps writer.old) }
+    requires keeps { W.keeps writer.old }
+    requires there { solver_of variables.old global ≡ Some solver }
+    requires unit { IsUnitOf variables.old (session_after (W.steps writer.old)) global }
+    requires unused { IsUnused (session_after (W.steps writer.old)) global }
+    ensures gone { OnOk result (Unindexes variables.old variables.new (W.steps writer.old) (W.steps writer.new) global solver) }
+    ensures fails { IfErr result IsFailure }
+    ensures keeps { OnOk result (W.keeps writer.new) }
+    ensures came { EmitsOrFails W.took W.broke result writer.old writer.new }
+{
+    variables.take_index(global, solver);
+    writer.step(&ProofStep::SolverVarName {
+        global,
+        solver: None,
+    })?;
+    Ok(())
+}

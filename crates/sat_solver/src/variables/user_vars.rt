@@ -1,0 +1,108 @@
+//! Brings names in, and writes the steps.
+ghost use Rattle.std.specs.Prelude.{ℕ, ◌≡◌, ◌≤◌, ◌<◌, ◌+◌, ◌-◌, None, Some, List, ◌∷◌, IfOk, IfErr, OnOk};
+ghost use Rattle.sat_base.specs.script.Judge.{names_from};
+ghost use Rattle.sat_solver.specs.variables.Variables.{global_of, names_used};
+ghost use Rattle.sat_solver.specs.variables.Naming.{IsNextUser};
+ghost use Rattle.sat_solver.specs.variables.Calls.{NamesInvariant, NamesOne, NamesAll, Brought};
+ghost use Rattle.sat_solver.specs.variables.Failing.{EmitsOrFails, Limits, OnlyFails};
+ghost use Rattle.sat_solver.specs.variables.Room.{LeavesRoom};
+
+use crate::variables::Variables;
+use crate::variables::error::NameError;
+use crate::variables::log::StepWriter;
+use sat_base::{ProofStep, Var};
+
+/// Gives a name that isn't in use to a new variable.
+fn new_name<W: StepWriter>(
+    variables: &mut Variables,
+    writer: &mut W,
+    user: Var,
+) -> Result<Var, NameError>
+    requires stands { NamesInvariant variables.old (W.steps writer.old) }
+    requires keeps { W.keeps writer.old }
+    requires free { global_of variables.old user ≡ None }
+    requires within { user ≤ names_used variables.old }
+    ensures names { IfOk result (λ v. NamesOne variables.old variables.new (W.steps writer.old) (W.steps writer.new) user v) }
+    ensures limit { IfErr result (λ e. Limits e variables.old variables.new writer.old writer.new) }
+    ensures keeps { OnOk result (W.keeps writer.new) }
+    ensures came { EmitsOrFails W.took W.broke result writer.old writer.new }
+{
+    let Some(global) = variables.room_for(user) else {
+        return Err(NameError::VariableLimit);
+    };
+    let _within = global.index();
+    variables.put_name(user, global)?;
+    writer.step(&ProofStep::UserVarName {
+        global,
+        user: Some(user),
+    })?;
+    Ok(global)
+}
+
+#[tactic(auto, using(crate::proofs::lemmas::variables::NamingSteps::none_yet, crate::proofs::lemmas::variables::NamingSteps::last_named))]
+/// Brings in all names from the first never used up to this one.
+fn bring_new<W: StepWriter>(
+    variables: &mut Variables,
+    writer: &mut W,
+    user: Var,
+) -> Result<Var, NameError>
+    requires stands { NamesInvariant variables.old (W.steps writer.old) }
+    requires keeps { W.keeps writer.old }
+    requires new { names_used variables.old ≤ user }
+    ensures variable { IfOk result (λ v. global_of variables.new user ≡ Some v) }
+    ensures names { OnOk result (NamesAll variables.old variables.new (W.steps writer.old) (W.steps writer.new)
+        (names_from (user + 1 - names_used variables.old) (names_used variables.old + 1))) }
+    ensures leaves { OnOk result (LeavesRoom variables.old variables.new user) }
+    ensures room { (us : List ℕ) → OnlyFails result variables.old (user ∷ us) }
+    ensures keeps { OnOk result (W.keeps writer.new) }
+    ensures came { EmitsOrFails W.took W.broke result writer.old writer.new }
+{
+    for index in variables.global_from_user.fwd().watermark()..user.index() {
+        new_name(variables, writer, Var::from_index(index))?;
+    }
+    new_name(variables, writer, user)
+}
+
+/// The variable of a name, which is brought in where it isn't in use, with all names below it that were never used.
+#[tactic(auto, using(crate::proofs::lemmas::variables::NamingSteps::last_named, crate::proofs::lemmas::variables::BroughtIn::ok_new))]
+pub fn global_from_user<W: StepWriter>(
+    variables: &mut Variables,
+    writer: &mut W,
+    user: Var,
+) -> Result<Var, NameError>
+    requires stands { NamesInvariant variables.old (W.steps writer.old) }
+    requires keeps { W.keeps writer.old }
+    ensures variable { IfOk result (λ v. global_of variables.new user ≡ Some v) }
+    ensures brought { OnOk result (Brought variables.old variables.new (W.steps writer.old) (W.steps writer.new) user) }
+    ensures room { (us : List ℕ) → OnlyFails result variables.old (user ∷ us) }
+    ensures keeps { OnOk result (W.keeps writer.new) }
+    ensures came { EmitsOrFails W.took W.broke result writer.old writer.new }
+{
+    if user.index() >= variables.global_from_user.fwd().watermark() {
+        return bring_new(variables, writer, user);
+    }
+    if let Some(global) = variables.global_from_user.fwd().get(user) {
+        return Ok(global);
+    }
+    new_name(variables, writer, user)
+}
+
+/// Brings in the lowest hidden name, else the first never used. Where no variable is left nothing has changed.
+pub fn new_user_var<W: StepWriter>(
+    variables: &mut Variables,
+    writer: &mut W,
+) -> Result<Var, NameError>
+    requires stands { NamesInvariant variables.old (W.steps writer.old) }
+    requires keeps { W.keeps writer.old }
+    ensures next { IfOk result (IsNextUser variables.old) }
+    ensures brought { IfOk result (λ user. Brought variables.old variables.new (W.steps writer.old) (W.steps writer.new) user) }
+    ensures limit { IfErr result (λ e. Limits e variables.old variables.new writer.old writer.new) }
+    ensures keeps { OnOk result (W.keeps writer.new) }
+    ensures came { EmitsOrFails W.took W.broke result writer.old writer.new }
+{
+    let Some(user) = variables.next_user() else {
+        return Err(NameError::VariableLimit);
+    };
+    new_name(variables, writer, user)?;
+    Ok(user)
+}
