@@ -1,12 +1,15 @@
 #!/usr/bin/env python3
 """How the time of small texts that ask much grows with their size.
 
-scale.py PROGRAM [NAME..]: for each text below (or those that are named), at three sizes, the time of PROGRAM (certify) in seconds of its
-own processor time, the least of three, and the exponent by which that grows with the bytes read. Those above 1.15 are marked. A text whose
-exponent counts is sized so that its last time is some tenths of a second or more; what takes less than a hundredth has no exponent.
+scale.py [-i] PROGRAM [NAME..]: for each text below (or those that are named), at three sizes, the time of PROGRAM (certify) in seconds of
+its own processor time, the least of five, and the exponent by which that grows with the bytes read. Those above 1.15 are marked. A text
+whose exponent counts is sized so that its last time is some tenths of a second or more; what takes less than a hundredth has no exponent.
+With -i it counts millions of instructions, once each, in place of seconds: no other process changes these, but they know no cache. They
+need valgrind, and fifty times as long.
 """
 import math
 import os
+import re
 import resource
 import subprocess
 import sys
@@ -81,6 +84,11 @@ def falling(n):
     return line(*range(1, n + 1)) + b"a " + line(*range(-1, -n, -1))
 
 
+def listed(n):
+    """One answer that lists many names."""
+    return line(n) + b"a 0\n"
+
+
 # Certificates.
 
 def widths(n):
@@ -118,41 +126,57 @@ TEXTS = [
     # text, commands, sizes
     (chain, ["run", "confirm"], [32768, 131072, 262144]),
     (pairs, ["run", "confirm"], [32768, 131072, 262144]),
-    (hides, ["run", "confirm"], [8192, 16384, 32768]),
-    (falling, ["run", "confirm"], [8192, 16384, 32768]),
-    (widths, ["hints"], [1024, 2048, 4096]),
+    (hides, ["run", "confirm"], [65536, 131072, 262144]),
+    (falling, ["run"], [8192, 16384, 32768]),
+    (falling, ["confirm"], [32768, 65536, 131072]),
+    (listed, ["confirm"], [65536, 131072, 262144]),
+    (widths, ["hints"], [65536, 131072, 262144]),
     (widths_used, ["hints"], [1024, 2048, 4096]),
-    (renames, ["hints"], [1024, 2048, 4096]),
-    (renames_all, ["hints"], [1024, 2048, 4096]),
-    (deletions, ["hints"], [8192, 16384, 32768]),
+    (renames, ["hints"], [65536, 131072, 262144]),
+    (renames_all, ["hints"], [65536, 131072, 262144]),
+    (deletions, ["hints"], [65536, 131072, 262144]),
     (added_and_deleted, ["hints"], [65536, 131072, 262144]),
 ]
 
 
+def called(command):
+    """What a call says on standard error."""
+    answer = subprocess.run(command, stdout=subprocess.DEVNULL, stderr=subprocess.PIPE, check=False)
+    told = answer.stderr.decode(errors="replace")
+    if answer.returncode != 0:
+        sys.exit(f"{' '.join(command)}: status {answer.returncode}, {told}")
+    return told
+
+
 def seconds(command):
-    """The least processor time of three runs."""
+    """The least processor time of five runs."""
     least = math.inf
-    for _ in range(3):
+    for _ in range(5):
         before = resource.getrusage(resource.RUSAGE_CHILDREN)
-        answer = subprocess.run(command, stdout=subprocess.DEVNULL, stderr=subprocess.PIPE, check=False)
+        called(command)
         after = resource.getrusage(resource.RUSAGE_CHILDREN)
-        if answer.returncode != 0:
-            sys.exit(f"{' '.join(command)}: status {answer.returncode}, {answer.stderr.decode(errors='replace')}")
         least = min(least, after.ru_utime + after.ru_stime - before.ru_utime - before.ru_stime)
     return least
 
 
-def measured(program, make, command, size):
-    """The bytes that are read, and the time."""
+def instructions(command):
+    """Millions of them, of one run."""
+    told = called(["valgrind", "--tool=callgrind", "--callgrind-out-file=/dev/null", *command])
+    return int(re.search(r"Collected : (\d+)", told)[1]) / 1e6
+
+
+def measured(program, make, command, size, cost):
+    """The bytes that are read, and what that costs."""
     with open("in", "wb") as text:
         text.write(make(size))
     if command == "hints":
-        return os.path.getsize("in"), seconds([program, "hints", "in", "hints"])
-    run = seconds([program, "run", "in", "answers", "certificate"])
+        return os.path.getsize("in"), cost([program, "hints", "in", "hints"])
+    run = [program, "run", "in", "answers", "certificate"]
     if command == "run":
-        return os.path.getsize("in"), run
+        return os.path.getsize("in"), cost(run)
+    called(run)
     read = sum(map(os.path.getsize, ["in", "answers", "certificate"]))
-    return read, seconds([program, "confirm", "in", "answers", "certificate"])
+    return read, cost([program, "confirm", "in", "answers", "certificate"])
 
 
 def exponent(rows):
@@ -165,18 +189,20 @@ def exponent(rows):
 
 
 def main():
-    program, names = os.path.abspath(sys.argv[1]), sys.argv[2:]
+    words = sys.argv[1:]
+    cost, unit = (instructions, "M") if words[0] == "-i" else (seconds, "s")
+    program, names = os.path.abspath(words[words[0] == "-i"]), words[1 + (words[0] == "-i") :]
     with tempfile.TemporaryDirectory() as folder:
         os.chdir(folder)
         for make, commands, sizes in TEXTS:
             if names and make.__name__ not in names:
                 continue
             for command in commands:
-                rows = [measured(program, make, command, size) for size in sizes]
+                rows = [measured(program, make, command, size, cost) for size in sizes]
                 grows = exponent(rows)
                 shown = "    -" if grows is None else f"{grows:5.2f}{' above' if grows > 1.15 else ''}"
-                times = " ".join(f"{t:7.3f}" for _, t in rows)
-                print(f"{make.__name__:18} {command:8} {rows[-1][0]:10} bytes {times} s  exponent {shown}", flush=True)
+                costs = " ".join(f"{c:7.3f}" for _, c in rows)
+                print(f"{make.__name__:18} {command:8} {rows[-1][0]:10} bytes {costs} {unit}  exponent {shown}", flush=True)
         os.chdir("/")
 
 

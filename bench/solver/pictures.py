@@ -36,19 +36,39 @@ def mean(ratios):
     return math.exp(sum(map(math.log, ratios)) / len(ratios)) if ratios else float("nan")
 
 
+def over(pairs):
+    """The mean and the highest of the ratios of the second to the first, a hundredth of a second being added to both."""
+    ratios = [(b + 0.01) / (a + 0.01) for a, b in pairs]
+    return f"{mean(ratios):.2f} over {len(ratios)}, at most {max(ratios, default=0):.2f}"
+
+
+def print_means(rows):
+    both = [r for r in rows if "-" not in (r[2], r[7])]
+    long = [r for r in both if float(r[2]) >= 0.05 or float(r[7]) >= 0.05]
+    print(f"\nrun over MiniSat, formulas of at least 0.05 s: {over([(float(r[7]), float(r[2])) for r in long])}")
+    for answer in ("UNSATISFIABLE", "SATISFIABLE"):
+        print(f"    {answer.lower()}: {over([(float(r[7]), float(r[2])) for r in long if r[1] == answer])}")
+    print(f"seconds of all rows: run {sum(float(r[2]) for r in both):.0f}, MiniSat {sum(float(r[7]) for r in both):.0f}")
+    searched = [r for r in long if min(float(r[2]), float(r[7])) >= 0.05 and min(int(r[4]), int(r[9])) >= 1000]
+    print(f"a conflict, where both have 1,000 and 0.05 s: {mean([float(r[2]) / int(r[4]) / (float(r[7]) / int(r[9])) for r in searched]):.2f}")
+    memory = [float(r[3]) / float(r[8]) for r in both]
+    print(f"memory of run over MiniSat's: {mean(memory):.2f}, at most {max(memory):.2f}")
+    print(f"confirm over run: {over([(float(r[2]), float(r[5])) for r in rows if '-' not in (r[2], r[5])])}")
+
+
 def main():
     with open(sys.argv[1], encoding="utf-8") as file:
         rows = [line.split() for line in file if line.strip()]
     print("| Formula | run | confirm | MiniSat |\n|---|---|---|---|")
     for name, answer, t, m, c, ct, cm, mt, mm, mc in rows:
-        told = lambda seconds, memory, conflicts: "stopped" if seconds == "-" else f"{seconds} s, {memory} MB" + (f", {int(conflicts):,}" if conflicts != "-" else "")
-        print(f"| {name}, {answer.lower()} | {told(t, m, c)} | {told(ct, cm, '-')} | {told(mt, mm, mc)} |")
+        told = lambda seconds, memory, conflicts: (
+            "stopped" if seconds == "-" else f"{seconds} s, {float(memory):.0f} MB" + (f", {int(conflicts):,}" if conflicts != "-" else "")
+        )
+        called = f"{name}, {answer.lower()}" if answer != "-" else name
+        print(f"| {called} | {told(t, m, c)} | {told(ct, cm, '-') if ct != '-' else '-'} | {told(mt, mm, mc)} |")
+    print_means(rows)
     timed = [(r[0], r[1], float(r[7]), float(r[2])) for r in rows if "-" not in (r[2], r[7])]
     confirmed = [(r[0], r[1], float(r[2]), float(r[5])) for r in rows if "-" not in (r[2], r[5])]
-    long = [(a + 0.01, b + 0.01) for _, _, a, b in timed if a >= 0.05 or b >= 0.05]
-    print(f"\nrun over MiniSat: {mean([b / a for a, b in long]):.2f} over {len(long)} formulas of at least 0.05 s, at most {max(b / a for a, b in long):.2f};",
-          f"memory {mean([float(r[3]) / max(float(r[8]), 1) for r in rows if '-' not in (r[3], r[8])]):.2f};",
-          f"confirm over run {mean([(b + 0.01) / (a + 0.01) for _, _, a, b in confirmed]):.2f}, at most {max((b + 0.01) / (a + 0.01) for _, _, a, b in confirmed):.2f}")
     os.makedirs(sys.argv[2], exist_ok=True)
     for file, text in (("run", picture(timed, "MiniSat", "run")), ("confirm", picture(confirmed, "run", "confirm"))):
         with open(os.path.join(sys.argv[2], file + ".svg"), "w", encoding="utf-8") as out:
