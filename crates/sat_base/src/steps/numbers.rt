@@ -1,5 +1,5 @@
 //! A number's bytes.
-ghost use Rattle.std.specs.Prelude.{◌≡◌, ◌+◌, ◌<◌, ℕ, Some, None};
+ghost use Rattle.std.specs.Prelude.{◌≡◌, ◌+◌, ◌++◌, ◌<◌, ◌≤◌, ℕ, Some, None, length};
 ghost use Rattle.sat_base.specs.device.Reading.{Got};
 ghost use Rattle.sat_base.specs.device.TakenAhead.{TakesNumber};
 ghost use Rattle.sat_base.specs.device.Sink.{Sends, sink_of};
@@ -12,6 +12,9 @@ use crate::device::output::Output;
 use crate::device::room::Room;
 use crate::{CountedRead, CountedWrite, StepError};
 use std::io;
+
+/// The most bytes that a number of 64 bits has.
+const LONGEST: usize = 10;
 
 /// What the ninth group of a number counts.
 const LARGEST_PLACE: u64 = 1 << 56;
@@ -90,8 +93,37 @@ impl<R: CountedRead> Input<'_, R> {
     }
 }
 
+/// Lets a number's bytes wait, for which there is room.
+#[inline(always)] // each literal and each hash goes through it
+fn push_number<P: Room>(pending: &mut P, number: u64)
+    requires room { length (P.waiting pending.old) + 10 ≤ P.size pending.old }
+    ensures waiting { P.waiting pending.new ≡ P.waiting pending.old ++ number_bytes number }
+    ensures size { P.size pending.new ≡ P.size pending.old }
+{
+    let mut rest = number;
+    while rest >= 128 {
+        pending.push((rest % 128) as u8 + 128);
+        rest /= 128;
+    }
+    pending.push(rest as u8);
+}
+
 impl<W: CountedWrite, P: Room> Output<W, P> {
+    /// Where there is room for the longest number, no byte asks for it again.
+    #[inline(always)] // each literal and each hash goes through it
     pub(super) fn put_number(&mut self, number: u64) -> io::Result<()>
+        ensures { Sends (number_bytes number) result (sink_of W.seen P.waiting self.old) (sink_of W.seen P.waiting self.new) }
+    {
+        if self.pending.free() < LONGEST {
+            return self.put_by_bytes(number);
+        }
+        push_number(&mut self.pending, number);
+        Ok(())
+    }
+
+    /// Puts a number byte by byte: what waits may have to be written out before one of them.
+    #[inline(never)] // so that numbers for which there is room pay nothing for it
+    fn put_by_bytes(&mut self, number: u64) -> io::Result<()>
         ensures { Sends (number_bytes number) result (sink_of W.seen P.waiting self.old) (sink_of W.seen P.waiting self.new) }
     {
         let mut rest = number;

@@ -1,6 +1,7 @@
 -- The bytes of a number, as they are written.
 use Rattle.std.proofs.Common.{◌≡◌, ℕ, suc, zero, ◌+◌, ◌*◌, ◌-◌, ◌/◌, ◌%◌, ◌^◌, ◌<◌, ◌≤◌, Bool, true, false, nat_lt, List, [], ◌∷◌, ◌++◌, Result, Ok, Err, append_assoc, refl, sym, ap, subst, ◌∙◌, if◌then◌else◌, arith}
-use Rattle.std.specs.Prelude.{OnOk}
+use Rattle.std.specs.Prelude.{OnOk, length}
+use Rattle.std.proofs.lemmas.List.{length-append}
 use Rattle.std.proofs.lemmas.Grind.{common_steps}
 use Rattle.std.proofs.Math.Nat.{pow-succ'}
 use Rattle.sat_base.specs.device.Sink.{Sink, Sent, Broken, Sends, Writes}
@@ -71,6 +72,36 @@ groups_break number rest byte old mid new h e g w =
 pub groups_end : {E : Type 0} (number rest : ℕ) (old mid new : Sink) (r : Result (Unit {0}) E) → rest < 128 → GroupsPut number rest old mid → Sends (rest ∷ []) r mid new → Sends (groups 9 number) r old new
 groups_end number rest old mid new r h g w =
     sends_same old new (g.done ++ rest ∷ []) (groups 9 number) r (ap (λ (z : List ℕ). g.done ++ z) (sym (groups_last g.left rest h)) ∙ g.whole) (sends_more old mid new g.done (rest ∷ []) r g.sent w)
+
+-- THEY WAIT
+
+-- the groups of a number that wait behind what waited before, and room for the rest of it
+pub record GroupsWait (number rest : ℕ) (before now : List ℕ) (size : ℕ) : Type 0 where
+  pub left : ℕ
+  pub whole : now ++ groups left rest ≡ before ++ groups 9 number
+  pub room : length now + (left + 1) ≤ size
+  pub fits : rest < 128 ^ (left + 1)
+
+pub wait_none : (number : ℕ) (before : List ℕ) (size : ℕ) → number < 2 ^ 64 → length before + 10 ≤ size → GroupsWait number number before before size
+wait_none number before size h r = record { left = 9; whole = refl; room = r; fits = omega arith }
+
+one_longer : (xs ys : List ℕ) (byte k left size : ℕ) → ys ≡ xs ++ byte ∷ [] → left ≡ suc k → length xs + (left + 1) ≤ size → length ys + (k + 1) ≤ size
+one_longer xs ys byte k left size e f r =
+    let n : length ys ≡ length xs + 1 = ap (λ (z : List ℕ). length z) e ∙ length-append xs (byte ∷ []) in
+    omega (arith, n, f, r)
+
+pub wait_more : (number rest byte : ℕ) (before now new : List ℕ) (size : ℕ) → 128 ≤ rest → byte ≡ rest % 128 + 128 → GroupsWait number rest before now size → new ≡ now ++ byte ∷ [] → GroupsWait number (rest / 128) before new size
+wait_more number rest byte before now new size h e g w =
+    let k = one_less g.left rest h g.fits in
+    record {
+      left = k.0;
+      whole = ap (λ (z : List ℕ). z ++ groups k.0 (rest / 128)) w ∙ append_assoc now (byte ∷ []) (groups k.0 (rest / 128)) ∙ ap (λ (b : ℕ). now ++ b ∷ groups k.0 (rest / 128)) e ∙ ap (λ (z : List ℕ). now ++ z) (sym (groups_on k.0 rest h)) ∙ ap (λ (j : ℕ). now ++ groups j rest) (sym k.1) ∙ g.whole;
+      room = one_longer now new byte k.0 g.left size w k.1 g.room;
+      fits = k.2;
+    }
+
+pub wait_end : (number rest : ℕ) (before now new : List ℕ) (size : ℕ) → rest < 128 → GroupsWait number rest before now size → new ≡ now ++ rest ∷ [] → new ≡ before ++ groups 9 number
+wait_end number rest before now new size h g w = w ∙ ap (λ (z : List ℕ). now ++ z) (sym (groups_last g.left rest h)) ∙ g.whole
 
 -- WHAT THEY SPELL
 

@@ -1,0 +1,19 @@
+use Rattle.std.proofs.Common.{◌%◌, ◌+◌, ◌∙◌, refl, arith}
+use Rattle.sat_base.proofs.lemmas.steps.NumberBytes.{wait_none, wait_more, wait_end}
+use Rattle.sat_base.proofs.steps.numbers.push_number.Goals as goal
+
+pub loop-rest-init : goal.loop-rest-init
+loop-rest-init g c = (wait_none c.args.number _ _ (omega arith) c.requires.room, refl)
+
+pub loop-rest-preserved : goal.loop-rest-preserved
+loop-rest-preserved g c =
+    let i = c.loop-rest.invariant in
+    (wait_more c.args.number c.loop-rest.rest (c.loop-rest.rest % 128 + 128) _ _ _ _ c.loop-rest-test.true refl i.0 c.push.ensures.waiting, c.push.ensures.size ∙ i.1)
+
+pub returns : goal.returns
+returns g c =
+    let i = c.loop-rest.invariant in
+    record {
+      waiting = wait_end c.args.number c.loop-rest.rest _ _ _ _ c.loop-rest-test.false i.0 c.push-2.ensures.waiting;
+      size = c.push-2.ensures.size ∙ i.1;
+    }
