@@ -111,8 +111,22 @@ impl FreeIndices {
         Some(Var::from_index(at - self.room))
     }
 
-    /// Whether an index is in the set, from here on.
+    /// Whether an index is in the set, from here on. Where it is so already, no node is looked at but its leaf.
     fn set(&mut self, index: usize, free: bool)
+        requires tree { IsTree self.old }
+        requires within { index < self.old.room }
+        ensures tree { IsTree self.new }
+        ensures set { (i : ℕ) → is_free self.new i ≡ (if i == index then free else is_free self.old i) }
+        ensures room { self.new.room ≡ self.old.room }
+    {
+        if self.nodes[self.room + index] == free {
+            return;
+        }
+        self.change(index, free);
+    }
+
+    /// As `set`, up from the leaf to the root.
+    fn change(&mut self, index: usize, free: bool)
         requires tree { IsTree self.old }
         requires within { index < self.old.room }
         ensures tree { IsTree self.new }

@@ -1,7 +1,7 @@
 use Rattle.std.proofs.Common.{◌+◌, ◌≡◌, cond}
 use Rattle.sat_solver.specs.variables.Free.{is_free}
 use Rattle.sat_solver.proofs.lemmas.variables.Trees.{Mends}
-use Rattle.sat_solver.proofs.variables.free.FreeIndices.set.Given as goal
+use Rattle.sat_solver.proofs.variables.free.FreeIndices.change.Given as goal
 
 abbrev pub invariant-loop-at : goal.invariant-loop-at
 invariant-loop-at l = record {
