@@ -51,6 +51,7 @@ pub record FitsModel (f : Stored) (ls : List ℕ) : Type 0 where
   pub units : AllByRecursion (λ u. is_among ls (negated u) ≡ false) (unit_literals f)
   pub clauses : AllByRecursion (λ c. (c.irredundant ≡ 0) ⊎ (list_any (is_among ls) c.literals ≡ true)) f.clauses
 
+-- when a step is accepted, by what is stored before it
 abbrev pub Accepts : Stored → Step → Type 0
 Accepts f (SolverVarName v name) = Unit {0}
 Accepts f (UserVarName v (Some name)) = MayGetName f v name

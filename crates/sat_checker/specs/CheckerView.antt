@@ -20,6 +20,7 @@ pub record Seen (L : Type 0) : Type 0 where
   pub kernel : Kernel
   pub listeners : L
 
+-- this kernel, and these who listen
 abbrev pub seen : {L : Type 0} → Kernel → L → Seen L
 seen kernel listeners = record { kernel = kernel; listeners = listeners }
 
@@ -35,9 +36,11 @@ seen_of c = seen c.kernel c.processing
 abbrev pub seen_with : {V P T : Type 0} → V → Checker P T → Seen (Hearers V (Processing P T))
 seen_with own c = seen c.kernel (hearers own c.processing)
 
+-- whether it answers nothing but HasFailed any more
 abbrev pub has_failed : {L : Type 0} → Seen L → Bool
 has_failed c = c.kernel.failed
 
+-- how many looks at literals it has taken
 abbrev pub looks_of : {L : Type 0} → Seen L → ℕ
 looks_of c = c.kernel.looks
 
@@ -140,11 +143,14 @@ module _ {L : Type 0} (Hears : L → Told → Result Unit ProcessingError → L 
   AnswersClause (Err errors.ParseError) old clause new steps = ⊥
 
 module _ {L : Type 0} (Hears : L → Told → Result Unit ProcessingError → L → Type 0) where
+  -- the answer to a step means so, whatever was accepted and told before
   abbrev pub ChecksStep : Result Unit CheckerError → Seen L → Step → Seen L → Type 0
   ChecksStep result old step new = (before : List Told) (begun : L) (steps : List Step) → Stands Hears before begun old steps → AnswersStep Hears before begun result old step new steps
 
+  -- so does the answer where a pending unit conflict is settled
   abbrev pub ChecksDelayed : Result Unit CheckerError → Seen L → Seen L → Type 0
   ChecksDelayed result old new = (before : List Told) (begun : L) (steps : List Step) → Stands Hears before begun old steps → AnswersDelayed Hears before begun result old new steps
 
+  -- and the answer to a clause of the formula
   abbrev pub ChecksClause : Result Unit CheckerError → Seen L → List ℕ → Seen L → Type 0
   ChecksClause result old clause new = (before : List Told) (begun : L) (steps : List Step) → Stands Hears before begun old steps → AnswersClause Hears before begun result old clause new steps

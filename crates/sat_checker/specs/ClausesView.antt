@@ -48,5 +48,6 @@ module _ {L : Type 0} (Hears : L → Told → Result Unit ProcessingError → L 
   AnswersClauses (Err errors.ParseError) old new clauses earlier = ⊥
 
 module _ {L : Type 0} (Hears : L → Told → Result Unit ProcessingError → L → Type 0) where
+  -- the answer to clauses means so, whatever was accepted and told before
   abbrev pub AddsClauses : Result Unit CheckerError → Seen L → Seen L → List (List ℕ) → Type 0
   AddsClauses result old new clauses = (before : List Told) (begun : L) (steps : List Step) → Stands Hears before begun old steps → AnswersClauses Hears before begun result old new clauses steps

@@ -6,6 +6,7 @@ use Rattle.sat_checker.specs.LiteralSets.{is_among, is_tautology, canonical, sam
 use Rattle.sat_checker.specs.Stored.{Sample, Witness, Hide, Variable, unknown, StoredClause, Stored, is_unit}
 use Rattle.sat_checker.specs.Storing.{clause_with, irredundant_count, redundant_count}
 
+-- the redundant (true) or the irredundant count of a clause, 0 where it isn't stored
 abbrev pub count_in : Bool → Option StoredClause → ℕ
 count_in true c = redundant_count c
 count_in false c = irredundant_count c
@@ -14,6 +15,7 @@ count_in false c = irredundant_count c
 abbrev pub count_of : Bool → List ℕ → List StoredClause → ℕ
 count_of redundant set clauses = count_in redundant (clause_with set clauses)
 
+-- what is stored, without ids, the order of clauses and a pending unit conflict
 pub record Contents : Type 0 where
   pub counts : Bool → List ℕ → ℕ  -- of each set of literals, redundant (true) or irredundant
   pub units : ℕ → Bool
@@ -25,6 +27,7 @@ pub record Contents : Type 0 where
   pub ended : Bool
   pub var_deleted : Bool
 
+-- the contents of what is stored
 abbrev pub contents : Stored → Contents
 contents f = record {
   counts = λ redundant set. count_of redundant set f.clauses;
@@ -38,6 +41,7 @@ contents f = record {
   var_deleted = f.var_deleted;
 }
 
+-- are both redundant, or both irredundant?
 abbrev pub same_side : Bool → Bool → Bool
 same_side true redundant = redundant
 same_side false redundant = not redundant
@@ -46,12 +50,15 @@ same_side false redundant = not redundant
 abbrev pub more_if : Bool → ℕ → ℕ
 more_if b n = if b then n + 1 else n
 
+-- one less where it's this one
 abbrev pub less_if : Bool → ℕ → ℕ
 less_if b n = if b then n - 1 else n
 
+-- one count more of this set, as redundant (true) or as irredundant
 abbrev pub one_more : Bool → List ℕ → Contents → Contents
 one_more redundant set c = record c { counts = λ r other. more_if (same_side redundant r && same_literals set other) (c.counts r other) }
 
+-- one count less of this set, as redundant (true) or as irredundant
 abbrev pub one_less : Bool → List ℕ → Contents → Contents
 one_less redundant set c = record c { counts = λ r other. less_if (same_side redundant r && same_literals set other) (c.counts r other) }
 
@@ -59,6 +66,7 @@ one_less redundant set c = record c { counts = λ r other. less_if (same_side re
 abbrev pub unit_more : ℕ → Contents → Contents
 unit_more l c = if c.units l then c else (if c.units (negated l) then record c { unsat = true } else record c { units = λ m. l == m || c.units m })
 
+-- each of these units, from left to right
 abbrev pub units_more : List ℕ → Contents → Contents
 units_more [] c = c
 units_more (l ∷ ls) c = units_more ls (unit_more l c)
@@ -73,18 +81,23 @@ set_more redundant (l ∷ m ∷ ls) c = one_more redundant (l ∷ m ∷ ls) c
 abbrev pub clause_more : Bool → List ℕ → Contents → Contents
 clause_more redundant clause c = if is_tautology clause then c else set_more redundant (canonical clause) c
 
+-- a variable is like this from here on
 abbrev pub variable_set : ℕ → Variable → Contents → Contents
 variable_set v x c = record c { variables = λ w. if w == v then x else c.variables w }
 
+-- these variables become known
 abbrev pub known_more : List ℕ → Contents → Contents
 known_more vs c = record c { variables = λ v. if is_among vs v then record (c.variables v) { known = true } else c.variables v }
 
+-- the variables of these literals become known
 abbrev pub literals_known : List ℕ → Contents → Contents
 literals_known ls = known_more (map variable ls)
 
+-- a variable has this solver name or none from here on
 abbrev pub solver_name_set : ℕ → Option ℕ → Contents → Contents
 solver_name_set v name c = record c { solver_names = λ w. if w == v then name else c.solver_names w }
 
+-- a variable's unit is forgotten, and it's unknown again
 abbrev pub variable_less : ℕ → Contents → Contents
 variable_less v c = record (variable_set v unknown c) { units = λ l. c.units l && not (variable l == v); var_deleted = true }
 
@@ -107,6 +120,7 @@ contents_after (Assumptions ls) c = record (literals_known ls c) { assumed = ls 
 contents_after (FailedAssumptions core hashes) c = c
 contents_after End c = record c { ended = true }
 
+-- before the first step
 abbrev pub no_contents : Contents
 no_contents = record {
   counts = λ redundant set. 0;

@@ -62,6 +62,7 @@ module _ {L : Type 0} (Hears : L → Told → Result Unit ProcessingError → L 
       NoneFailed from to × (clauses : List (List ℕ)) × GaveEnough from to (λ text. AreRead text clauses) × AnswersClauses Hears before begun (Err error) old new clauses earlier
 
 module _ {L : Type 0} (Hears : L → Told → Result Unit ProcessingError → L → Type 0) where
+  -- the answer to a formula's text means so, whatever was accepted and told before
   abbrev pub AddsDimacs : Result Unit CheckerDimacsError → Seen L → Seen L → Reader → Reader → Type 0
   AddsDimacs result old new from to = (before : List Told) (begun : L) (steps : List Step) → Stands Hears before begun old steps → AnswersDimacs Hears before begun result old new from to steps
 
@@ -70,6 +71,7 @@ abbrev pub DimacsFaultOfSomebody : {P T : Type 0} → Processing P T → Checker
 DimacsFaultOfSomebody old (refused.Checker error) = FaultOfSomebody old error
 DimacsFaultOfSomebody old (refused.Dimacs error) = Unit {0}
 
+-- an answer names the fault of one who listens only where somebody was added
 abbrev pub DimacsFaultsOfSomebody : {P T : Type 0} → Result Unit CheckerDimacsError → Checker P T → Type 0
 DimacsFaultsOfSomebody result old = (steps : List Step) → kernels.Stands (kernel_of old) steps → IfErr result (DimacsFaultOfSomebody old.processing)
 

@@ -32,9 +32,11 @@ pub record IsProper (literals : List ℕ) : Type 0 where
   pub sorted : IsIncreasing literals
   pub apart : is_tautology literals ≡ false
 
+-- the variables of these literals are known
 abbrev pub AllKnown : Stored → List ℕ → Type 0
 AllKnown f = AllByRecursion (λ l. is_known (variable l) f ≡ true)
 
+-- what always holds of clauses, their counts and ids, and of what variables are known
 pub record IsTidy (f : Stored) : Type 0 where
   pub proper : AllByRecursion IsProper (long_clauses f)
   pub once : EachOnce f.clauses
@@ -65,9 +67,11 @@ AllClausesHold = (steps : List Step) (a : Valuation) → AcceptsAll steps → Ho
 abbrev pub ContentsFollow : Type 0
 ContentsFollow = (f : Stored) (step : Step) → EachOnce f.clauses → contents (effect step f) ≡ contents_after step (contents f)
 
+-- a unit conflict that is settled changes nothing of the contents
 abbrev pub ContentsAreSettled : Type 0
 ContentsAreSettled = (f : Stored) → contents (settled f) ≡ contents f
 
+-- the contents behind steps are what these make of them one by one
 abbrev pub ContentsOfSteps : Type 0
 ContentsOfSteps = (steps : List Step) → contents (ready_after steps) ≡ contents_of steps
 
@@ -97,9 +101,11 @@ leaves_last (FailedAssumptions core hashes) = true
 leaves_last End = true
 leaves_last step = false
 
+-- such a step leaves the last irredundant clause stored as it was
 abbrev pub LastStays : Type 0
 LastStays = (f : Stored) (step : Step) → leaves_last step ≡ true → last_literals (effect step f).last (effect step f) ≡ last_literals f.last f
 
+-- so does a unit conflict that is settled
 abbrev pub LastIsSettled : Type 0
 LastIsSettled = (f : Stored) → last_literals (settled f).last (settled f) ≡ last_literals f.last f
 
@@ -121,6 +127,7 @@ LastBelow n (Empty id) = id < n
 LastBelow n (UnitClause id) = Unit {0}
 LastBelow n (LongClause id) = id < n
 
+-- ids are in order and were given, and what is known of the last irredundant clause stored
 pub record Orderly (f : Stored) : Type 0 where
   pub increasing : IsIncreasing (map (λ c. c.id) f.clauses)
   pub below : AllByRecursion (λ i. i < f.next_id) (map (λ c. c.id) f.clauses)

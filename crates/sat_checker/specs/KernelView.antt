@@ -12,9 +12,11 @@ use Rattle.sat_checker.specs.declared.state.status.Records.{Records}
 use Rattle.sat_checker.specs.declared.error.CheckerError.{CheckerError}
 use Rattle.sat_checker.specs.declared.error.CheckerError.TheVariants as errors
 
+-- whether it answers nothing but HasFailed any more
 abbrev pub has_failed : Kernel → Bool
 has_failed k = k.failed
 
+-- how many looks at literals it has taken
 abbrev pub looks_of : Kernel → ℕ
 looks_of k = k.looks
 
@@ -28,6 +30,7 @@ pub record KeepsAfter (state : State) (steps : List Step) : Type 0 where
   pub keeps : Keeps state formula
   pub left : (formula ≡ stored_after steps) ⊎ (formula ≡ ready_after steps)
 
+-- of what is stored, what stays to be told once a later step has failed
 abbrev pub records_of : Stored → Records
 records_of f = record { unsat = f.unsat; ended = f.ended; var_deleted = f.var_deleted }
 
@@ -62,6 +65,7 @@ AnswersStep (Err errors.ParseError) old step new steps = ⊥
 -- one of those who listen answered a fault, to what waited or to the step
 AnswersStep (Err (errors.ProofProcessorError cause)) old step new steps = (has_failed old ≡ false) × (Fails new steps ⊎ (Accepts (ready_after steps) step × Fails new (step ∷ steps)))
 
+-- the answer to a step means so, whatever steps were accepted before
 abbrev pub ChecksStep : Result Unit CheckerError → Kernel → Step → Kernel → Type 0
 ChecksStep result old step new = (steps : List Step) → Stands old steps → AnswersStep result old step new steps
 
@@ -82,5 +86,6 @@ AnswersDelayed (Err errors.ProofIncomplete) old new steps = ⊥
 AnswersDelayed (Err errors.IoError) old new steps = ⊥
 AnswersDelayed (Err errors.ParseError) old new steps = ⊥
 
+-- so does the answer where a pending unit conflict is settled
 abbrev pub ChecksDelayed : Result Unit CheckerError → Kernel → Kernel → Type 0
 ChecksDelayed result old new = (steps : List Step) → Stands old steps → AnswersDelayed result old new steps

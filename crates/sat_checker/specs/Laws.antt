@@ -52,6 +52,7 @@ NamesApart = (steps : List Step) (v w name : ℕ) → AcceptsAll steps → name_
 abbrev pub UnknownIsUnknown : Type 0
 UnknownIsUnknown = (steps : List Step) (v : ℕ) → AcceptsAll steps → is_known v (ready_after steps) ≡ false → (ready_after steps).variables v ≡ unknown
 
+-- whether one of these steps deletes a variable
 abbrev pub has_delete_var : List Step → Bool
 has_delete_var [] = false
 has_delete_var (DeleteVar v ∷ earlier) = true

@@ -4,6 +4,7 @@ use Rattle.sat_base.specs.steps.Steps.{Step, AtClause, UnitClauses, FailedAssump
 use Rattle.sat_checker.specs.Stored.{Stored, long_clauses}
 use Rattle.sat_checker.specs.Accepts.{ready_after}
 
+-- the number of literals of these clauses
 abbrev pub total_length : List (List ℕ) → ℕ
 total_length [] = 0
 total_length (c ∷ cs) = length c + total_length cs

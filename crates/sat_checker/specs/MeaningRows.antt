@@ -11,9 +11,11 @@ use Rattle.sat_checker.specs.Rows.{behind, ready_by, four_clauses}
 abbrev pub only : ℕ → Valuation
 only v w = w == v
 
+-- all variables are false
 abbrev pub none_true : Valuation
 none_true v = false
 
+-- these steps, in the order of a certificate, leave the valuation
 abbrev pub HoldsBehind : List Step → Valuation → Type 0
 HoldsBehind steps = Holds (behind steps [])
 

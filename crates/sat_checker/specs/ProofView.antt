@@ -99,5 +99,6 @@ module _ {L : Type 0} (Hears : L → Told → Result Unit ProcessingError → L 
   AnswersProof (Err errors.HasFailed) old new from to earlier = (has_failed old ≡ true) × (to ≡ from) × (new ≡ old)
 
 module _ {L : Type 0} (Hears : L → Told → Result Unit ProcessingError → L → Type 0) where
+  -- the answer to a proof means so, whatever was accepted and told before
   abbrev pub ChecksProof : Result Unit CheckerError → Seen L → Seen L → Reader → Reader → Type 0
   ChecksProof result old new from to = (before : List Told) (begun : L) (steps : List Step) → Stands Hears before begun old steps → AnswersProof Hears before begun result old new from to steps

@@ -10,9 +10,11 @@ abbrev pub behind : List Step → List Step → List Step
 behind [] earlier = earlier
 behind (step ∷ steps) earlier = behind steps (step ∷ earlier)
 
+-- what steps in this order leave
 abbrev pub left_by : List Step → Stored
 left_by steps = stored_after (behind steps [])
 
+-- what the step behind them is judged by
 abbrev pub ready_by : List Step → Stored
 ready_by steps = ready_after (behind steps [])
 
@@ -24,6 +26,7 @@ AllAccepted steps = AcceptsAll (behind steps [])
 abbrev pub LastRefused : List Step → Step → Type 0
 LastRefused steps last = AllAccepted steps × (Accepts (ready_by (steps)) last → ⊥)
 
+-- no variable has a solver name
 abbrev pub no_names : ℕ → Option ℕ
 no_names v = None
 
@@ -40,6 +43,7 @@ abbrev pub named_again : List Step
 named_again =
     UserVarName 0 (Some 0) ∷ AddClause (0 ∷ []) ∷ UserVarName 0 None ∷ ChangeSamplingMode 0 true ∷ UserVarName 0 (Some 0) ∷ AddClause (1 ∷ []) ∷ End ∷ []
 
+-- all are accepted, and the second clause contradicts that unit
 abbrev pub NamedAgain : Type 0
 NamedAgain = AllAccepted named_again × ((left_by named_again).unsat ≡ true)
 
@@ -47,6 +51,7 @@ NamedAgain = AllAccepted named_again × ((left_by named_again).unsat ≡ true)
 abbrev pub four_clauses : List Step
 four_clauses = AddClause (0 ∷ 2 ∷ []) ∷ AddClause (0 ∷ 3 ∷ []) ∷ AddClause (1 ∷ 2 ∷ []) ∷ AddClause (1 ∷ 3 ∷ []) ∷ []
 
+-- they have ids 0 to 3
 abbrev pub FourClauses : Type 0
 FourClauses = AllAccepted four_clauses × (map (λ c. c.id) (left_by four_clauses).clauses ≡ 0 ∷ 1 ∷ 2 ∷ 3 ∷ [])
 
@@ -59,6 +64,7 @@ refuted =
 abbrev pub FourAndFive : List Step → Type 0
 FourAndFive steps = AllAccepted steps × ((left_by steps).units ≡ record { id = 4; literal = 0 } ∷ []) × ((left_by steps).unsat ≡ true) × ((left_by steps).next_id ≡ 6)
 
+-- the empty clause is derived, and unsat recorded
 abbrev pub Refuted : Type 0
 Refuted = FourAndFive refuted
 
@@ -77,12 +83,15 @@ StoredTwice = let steps : List Step = AddClause (0 ∷ 2 ∷ []) ∷ AddClause (
 abbrev pub three_at_zero : List Step
 three_at_zero = ChangeHashBits 0 ∷ AddClause (3 ∷ 4 ∷ 6 ∷ []) ∷ AddClause (0 ∷ 2 ∷ []) ∷ AddClause (3 ∷ 7 ∷ []) ∷ []
 
+-- named once it doesn't
 abbrev pub NamedOnce : Type 0
 NamedOnce = LastRefused three_at_zero (AtClause false (0 ∷ 4 ∷ []) (0 ∷ []))
 
+-- named twice it does
 abbrev pub named_twice : List Step
 named_twice = three_at_zero ++ AtClause false (0 ∷ 4 ∷ []) (0 ∷ 0 ∷ []) ∷ []
 
+-- [1, 3] is stored under id 3
 abbrev pub NamedTwice : Type 0
 NamedTwice = AllAccepted named_twice × (map (λ c. c.id) (left_by named_twice).clauses ≡ 0 ∷ 1 ∷ 2 ∷ 3 ∷ [])
 
@@ -92,6 +101,7 @@ colliding =
     UserVarName 0 (Some 0) ∷ SolverVarName 0 (Some 0) ∷ UserVarName 1 (Some 1) ∷ SolverVarName 1 (Some 1) ∷ four_clauses
     ++ Assumptions [] ∷ ChangeHashBits 8 ∷ AtClause false (0 ∷ []) (0x44 ∷ 0xe6 ∷ []) ∷ UnitClauses ((2, 0xe6) ∷ []) ∷ AtClause false [] (0x44 ∷ []) ∷ Assumptions [] ∷ End ∷ []
 
+-- all of it is accepted, and unsat recorded
 abbrev pub Colliding : Type 0
 Colliding = AllAccepted colliding × ((left_by colliding).unsat ≡ true) × ((left_by colliding).ended ≡ true)
 
@@ -110,6 +120,7 @@ abbrev pub conflict_and_unit : List Step
 conflict_and_unit =
     ChangeHashBits 0 ∷ AddClause (0 ∷ []) ∷ AddClause (1 ∷ 2 ∷ []) ∷ AddClause (1 ∷ 3 ∷ []) ∷ UnitClauses ((1, 0) ∷ (1, 0) ∷ (4, 0) ∷ []) ∷ []
 
+-- the conflict is of ids 0 and 3, the unit 3 has id 5, and the empty clause takes 6
 abbrev pub ConflictAndUnit : Type 0
 ConflictAndUnit = AllAccepted conflict_and_unit × ((left_by conflict_and_unit).units ≡ record { id = 0; literal = 0 } ∷ record { id = 5; literal = 4 } ∷ [])
     × ((left_by conflict_and_unit).conflict ≡ Some (0, 3)) × ((ready_by conflict_and_unit).next_id ≡ 7)
@@ -140,12 +151,15 @@ UnitForgotten = let steps : List Step = AddClause (0 ∷ []) ∷ DeleteVar 0 ∷
 abbrev pub InClause : Type 0
 InClause = LastRefused (AddClause (0 ∷ 2 ∷ []) ∷ []) (DeleteVar 0)
 
+-- one that has a name
 abbrev pub WithName : Type 0
 WithName = LastRefused (UserVarName 0 (Some 7) ∷ []) (DeleteVar 0)
 
+-- one that is assumed
 abbrev pub Assumed : Type 0
 Assumed = LastRefused (Assumptions (1 ∷ []) ∷ []) (DeleteVar 0)
 
+-- one that is unknown
 abbrev pub Unknown : Type 0
 Unknown = LastRefused [] (DeleteVar 0)
 
@@ -153,6 +167,7 @@ Unknown = LastRefused [] (DeleteVar 0)
 abbrev pub WitnessAdded : Type 0
 WitnessAdded = LastRefused (Assumptions (0 ∷ []) ∷ ChangeSamplingMode 0 false ∷ []) (AddClause (0 ∷ 2 ∷ []))
 
+-- over a hidden one
 abbrev pub HiddenAdded : Type 0
 HiddenAdded = LastRefused (UserVarName 0 (Some 0) ∷ UserVarName 0 None ∷ []) (AddClause (0 ∷ 2 ∷ []))
 
@@ -160,12 +175,15 @@ HiddenAdded = LastRefused (UserVarName 0 (Some 0) ∷ UserVarName 0 None ∷ [])
 abbrev pub NameTaken : Type 0
 NameTaken = LastRefused (UserVarName 0 (Some 7) ∷ []) (UserVarName 1 (Some 7))
 
+-- another name for a variable that has one
 abbrev pub NamedTwiceOver : Type 0
 NamedTwiceOver = LastRefused (UserVarName 0 (Some 7) ∷ []) (UserVarName 0 (Some 8))
 
+-- a name for a hidden variable
 abbrev pub HiddenNamed : Type 0
 HiddenNamed = LastRefused (UserVarName 0 (Some 7) ∷ UserVarName 0 None ∷ []) (UserVarName 0 (Some 7))
 
+-- a name taken from a variable that has none
 abbrev pub NoNameTaken : Type 0
 NoNameTaken = LastRefused (AddClause (0 ∷ []) ∷ []) (UserVarName 0 None)
 
@@ -173,15 +191,19 @@ NoNameTaken = LastRefused (AddClause (0 ∷ []) ∷ []) (UserVarName 0 None)
 abbrev pub for_a_model : List Step
 for_a_model = AddClause (0 ∷ 2 ∷ []) ∷ AddClause (4 ∷ []) ∷ AtClause true (4 ∷ 6 ∷ []) [] ∷ []
 
+-- -1 and 2: the first clause is true by 2
 abbrev pub Modelled : Type 0
 Modelled = AllAccepted (for_a_model ++ Model (1 ∷ 2 ∷ []) ∷ [])
 
+-- -3 contradicts the unit
 abbrev pub ModelAgainstUnit : Type 0
 ModelAgainstUnit = LastRefused for_a_model (Model (1 ∷ 2 ∷ 5 ∷ []))
 
+-- -1 alone makes no literal of the first clause true
 abbrev pub ModelWithoutClause : Type 0
 ModelWithoutClause = LastRefused for_a_model (Model (1 ∷ []))
 
+-- 1 and -1 are of one variable
 abbrev pub ModelTwice : Type 0
 ModelTwice = LastRefused for_a_model (Model (0 ∷ 1 ∷ []))
 
@@ -189,6 +211,7 @@ ModelTwice = LastRefused for_a_model (Model (0 ∷ 1 ∷ []))
 abbrev pub BothSigns : Type 0
 BothSigns = AllAccepted (Assumptions (0 ∷ 1 ∷ []) ∷ FailedAssumptions (0 ∷ 1 ∷ []) [] ∷ [])
 
+-- -1 isn't among the assumptions
 abbrev pub NotAssumed : Type 0
 NotAssumed = LastRefused (Assumptions (0 ∷ []) ∷ []) (FailedAssumptions (0 ∷ 1 ∷ []) [])
 
@@ -196,9 +219,11 @@ NotAssumed = LastRefused (Assumptions (0 ∷ []) ∷ []) (FailedAssumptions (0 �
 abbrev pub by_solver_name : List Step
 by_solver_name = AddClause (0 ∷ 2 ∷ []) ∷ SolverVarName 0 (Some 5) ∷ AddClause (1 ∷ []) ∷ AtClause true (2 ∷ []) (hash_of (10 ∷ 2 ∷ []) ∷ []) ∷ []
 
+-- the clause is found under solver name 5
 abbrev pub BySolverName : Type 0
 BySolverName = AllAccepted by_solver_name
 
+-- also where the variable that had that name was deleted before
 abbrev pub ByNameLeft : Type 0
 ByNameLeft = AllAccepted (AddClause (0 ∷ []) ∷ SolverVarName 0 (Some 5) ∷ DeleteVar 0 ∷ AddClause (0 ∷ 2 ∷ []) ∷ AddClause (1 ∷ []) ∷ AtClause true (2 ∷ []) (hash_of (10 ∷ 2 ∷ []) ∷ []) ∷ [])
 
@@ -206,12 +231,15 @@ ByNameLeft = AllAccepted (AddClause (0 ∷ []) ∷ SolverVarName 0 (Some 5) ∷ 
 abbrev pub for_units : List Step
 for_units = AddClause (1 ∷ 2 ∷ []) ∷ AddClause (3 ∷ 4 ∷ []) ∷ AddClause (0 ∷ []) ∷ []
 
+-- [2] by the first clause, and then [3] by the second
 abbrev pub two_units : List Step
 two_units = for_units ++ UnitClauses ((2, hash_of (1 ∷ 2 ∷ [])) ∷ (4, hash_of (3 ∷ 4 ∷ [])) ∷ []) ∷ []
 
+-- their ids are 3 and 4, and the last irredundant clause is [1]
 abbrev pub TwoUnits : Type 0
 TwoUnits = AllAccepted two_units × (map (λ u. u.id) (left_by two_units).units ≡ 2 ∷ 3 ∷ 4 ∷ []) × ((left_by two_units).last ≡ UnitClause 2)
 
+-- the other way round the first of them isn't accepted
 abbrev pub UnitsTurned : Type 0
 UnitsTurned = LastRefused for_units (UnitClauses ((4, hash_of (3 ∷ 4 ∷ [])) ∷ (2, hash_of (1 ∷ 2 ∷ [])) ∷ []))
 
@@ -223,6 +251,7 @@ ByDuplicate = AllAccepted (AddClause (0 ∷ 2 ∷ []) ∷ AddClause (0 ∷ 2 ∷
 abbrev pub twice_counted : List Step
 twice_counted = AddClause (0 ∷ []) ∷ AddClause (0 ∷ 2 ∷ []) ∷ AtClause true (0 ∷ 2 ∷ []) [] ∷ DeleteClause (0 ∷ 2 ∷ []) Satisfied ∷ []
 
+-- the redundant count is left, and without it the clause is gone
 abbrev pub TwoCounts : Type 0
 TwoCounts = AllAccepted (twice_counted ++ DeleteClause (0 ∷ 2 ∷ []) Redundant ∷ [])
     × ((left_by twice_counted).clauses ≡ record { id = 1; literals = 0 ∷ 2 ∷ []; irredundant = 0; redundant = 1 } ∷ []) × ((left_by (twice_counted ++ DeleteClause (0 ∷ 2 ∷ []) Redundant ∷ [])).clauses ≡ [])
@@ -235,6 +264,7 @@ ByOneCount = AllAccepted (AddClause (0 ∷ []) ∷ AddClause (0 ∷ 2 ∷ 4 ∷ 
 abbrev pub BehindUnsat : Type 0
 BehindUnsat = let steps : List Step = AddClause [] ∷ AddClause (0 ∷ []) ∷ [] in AllAccepted steps × ((left_by steps).next_id ≡ 1) × (is_known 0 (left_by steps) ≡ false)
 
+-- as an input clause it takes id 0, and as a derived one none; it's stored as neither
 abbrev pub Tautologies : Type 0
 Tautologies = let input : List Step = AddClause (0 ∷ 1 ∷ []) ∷ [] in let derived : List Step = AtClause false (2 ∷ 3 ∷ []) [] ∷ [] in
     AllAccepted input × ((left_by input).next_id ≡ 1) × (is_known 0 (left_by input) ≡ true) × ((left_by input).clauses ≡ [])
@@ -244,6 +274,7 @@ Tautologies = let input : List Step = AddClause (0 ∷ 1 ∷ []) ∷ [] in let d
 abbrev pub WitnessNamed : Type 0
 WitnessNamed = let steps : List Step = Assumptions (0 ∷ []) ∷ ChangeSamplingMode 0 false ∷ UserVarName 0 (Some 7) ∷ [] in AllAccepted steps × (mode_of 0 (left_by steps) ≡ Witness)
 
+-- a variable that is unknown
 abbrev pub UnknownMode : Type 0
 UnknownMode = LastRefused [] (ChangeSamplingMode 0 true)
 
@@ -251,9 +282,11 @@ UnknownMode = LastRefused [] (ChangeSamplingMode 0 true)
 abbrev pub two_clauses : List Step
 two_clauses = AddClause (0 ∷ 2 ∷ []) ∷ AddClause (0 ∷ 3 ∷ []) ∷ []
 
+-- no clause has hash 5: named last it's no bar
 abbrev pub EmptyBehind : Type 0
 EmptyBehind = AllAccepted (two_clauses ++ AtClause false (0 ∷ []) (hash_of (0 ∷ 2 ∷ []) ∷ hash_of (0 ∷ 3 ∷ []) ∷ 5 ∷ []) ∷ [])
 
+-- named first it is
 abbrev pub EmptyBefore : Type 0
 EmptyBefore = LastRefused two_clauses (AtClause false (0 ∷ []) (5 ∷ hash_of (0 ∷ 2 ∷ []) ∷ hash_of (0 ∷ 3 ∷ []) ∷ []))
 
@@ -261,5 +294,6 @@ EmptyBefore = LastRefused two_clauses (AtClause false (0 ∷ []) (5 ∷ hash_of 
 abbrev pub LastBehindConflict : Type 0
 LastBehindConflict = AllAccepted (AddClause (0 ∷ []) ∷ AddClause (2 ∷ 4 ∷ 6 ∷ []) ∷ AddClause (2 ∷ 4 ∷ []) ∷ AddClause (1 ∷ []) ∷ DeleteClause (2 ∷ 4 ∷ 6 ∷ []) Simplified ∷ [])
 
+-- [1] is the last one, which is no part of [2, 3]
 abbrev pub LastUnit : Type 0
 LastUnit = LastRefused (AddClause (2 ∷ 4 ∷ []) ∷ AddClause (0 ∷ []) ∷ AddClause (1 ∷ []) ∷ []) (DeleteClause (2 ∷ 4 ∷ []) Simplified)

@@ -13,15 +13,18 @@ pub record StoredClause : Type 0 where
   pub irredundant : ℕ
   pub redundant : ℕ
 
+-- a clause of one literal, under its id
 pub record StoredUnit : Type 0 where
   pub id : ℕ
   pub literal : ℕ
 
+-- of a variable: steps set sample and witness, and one whose name is removed is hidden
 pub data Mode : Type 0 where
   Sample : Mode
   Witness : Mode
   Hide : Mode
 
+-- what is kept of a variable: whether it is known, its mode, and a user's name that it may have
 pub record Variable : Type 0 where
   pub known : Bool
   pub mode : Mode
@@ -38,6 +41,7 @@ pub data Last : Type 0 where
   UnitClause : ℕ → Last
   LongClause : ℕ → Last
 
+-- what accepted steps leave: clauses, units and variables, and what is recorded beside them
 pub record Stored : Type 0 where
   pub clauses : List StoredClause  -- in order of their ids
   pub units : List StoredUnit
@@ -52,6 +56,7 @@ pub record Stored : Type 0 where
   pub ended : Bool
   pub var_deleted : Bool
 
+-- before the first step
 abbrev pub nothing_stored : Stored
 nothing_stored = record {
   clauses = [];
@@ -68,15 +73,19 @@ nothing_stored = record {
   var_deleted = false;
 }
 
+-- whether a step made the variable known, and none deleted it since
 abbrev pub is_known : ℕ → Stored → Bool
 is_known v f = (f.variables v).known
 
+-- a variable's mode, which is that of a sampling one at first
 abbrev pub mode_of : ℕ → Stored → Mode
 mode_of v f = (f.variables v).mode
 
+-- the user's name of a variable, where it has one
 abbrev pub name_of : ℕ → Stored → Option ℕ
 name_of v f = (f.variables v).name
 
+-- the literals that are stored as units, in order of their ids
 abbrev pub unit_literals : Stored → List ℕ
 unit_literals f = map (λ u. u.literal) f.units
 

@@ -22,10 +22,12 @@ with_clause redundant id literals (c ∷ cs) =
 abbrev pub clause_with : List ℕ → List StoredClause → Option StoredClause
 clause_with literals = find (λ c. same_literals c.literals literals)
 
+-- how often a clause stands as irredundant, 0 where it isn't stored
 abbrev pub irredundant_count : Option StoredClause → ℕ
 irredundant_count None = 0
 irredundant_count (Some c) = c.irredundant
 
+-- how often a clause stands as redundant, 0 where it isn't stored
 abbrev pub redundant_count : Option StoredClause → ℕ
 redundant_count None = 0
 redundant_count (Some c) = c.redundant
@@ -44,6 +46,7 @@ without_clause redundant literals [] = []
 without_clause redundant literals (c ∷ cs) =
     if same_literals c.literals literals then unless_gone (without_count redundant c) ++ cs else c ∷ without_clause redundant literals cs
 
+-- the id under which a literal is stored as a unit, if it is
 abbrev pub unit_id : ℕ → List StoredUnit → Option ℕ
 unit_id l [] = None
 unit_id l (u ∷ us) = if u.literal == l then Some u.id else unit_id l us
@@ -59,6 +62,7 @@ abbrev pub with_contradiction : ℕ → Stored → Stored
 with_contradiction l f =
     record f { unsat = true; conflict = first_conflict f.conflict (unit_id (negated l) f.units) f.next_id; next_id = f.next_id + 1 }
 
+-- a unit is stored under the next id, where neither it nor its negation was
 abbrev pub with_new_unit : ℕ → Stored → Stored
 with_new_unit l f = record f { units = f.units ++ (record { id = f.next_id; literal = l }) ∷ []; next_id = f.next_id + 1 }
 
@@ -71,6 +75,7 @@ abbrev pub settled_by : Option (ℕ × ℕ) → Stored → Stored
 settled_by None f = f
 settled_by (Some units) f = record f { conflict = None; next_id = f.next_id + 1 }
 
+-- with no unit conflict pending any more
 abbrev pub settled : Stored → Stored
 settled f = settled_by f.conflict f
 
@@ -87,10 +92,12 @@ with_set redundant [] f = record f { unsat = true; next_id = f.next_id + 1 }
 with_set redundant (l ∷ []) f = with_unit l f
 with_set redundant (l ∷ m ∷ ls) f = with_long redundant (l ∷ m ∷ ls) f
 
+-- the unit of this literal, by its id, or else what is given
 abbrev pub unit_at : ℕ → List StoredUnit → Last → Last
 unit_at l [] otherwise = otherwise
 unit_at l (u ∷ us) otherwise = if u.literal == l then UnitClause u.id else unit_at l us otherwise
 
+-- the clause that was found, by its id, or else what is given
 abbrev pub long_at : Option StoredClause → Last → Last
 long_at None otherwise = otherwise
 long_at (Some c) otherwise = LongClause c.id
@@ -114,6 +121,7 @@ with_stored redundant clause f = if is_tautology clause then f else with_canonic
 abbrev pub with_input : List ℕ → Stored → Stored
 with_input clause f = let g : Stored = with_stored false clause f in record g { next_id = max g.next_id (f.next_id + 1) }
 
+-- each of these units, from left to right
 abbrev pub with_units : List ℕ → Stored → Stored
 with_units [] f = f
 with_units (l ∷ ls) f = with_units ls (with_unit l f)
@@ -126,6 +134,7 @@ with_variable v x f = record f { variables = λ w. if w == v then x else f.varia
 abbrev pub with_known : List ℕ → Stored → Stored
 with_known vs f = record f { variables = λ v. if is_among vs v then record (f.variables v) { known = true } else f.variables v }
 
+-- the variables of these literals become known
 abbrev pub with_literals_known : List ℕ → Stored → Stored
 with_literals_known ls = with_known (map variable ls)
 
@@ -142,6 +151,7 @@ abbrev pub clause_numbered : ℕ → List StoredClause → Option (List ℕ)
 clause_numbered id [] = None
 clause_numbered id (c ∷ cs) = if c.id == id then Some c.literals else clause_numbered id cs
 
+-- the literal of the unit with this id, as a clause of it alone
 abbrev pub unit_numbered : ℕ → List StoredUnit → Option (List ℕ)
 unit_numbered id [] = None
 unit_numbered id (u ∷ us) = if u.id == id then Some (u.literal ∷ []) else unit_numbered id us

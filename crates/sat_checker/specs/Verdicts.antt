@@ -15,11 +15,13 @@ pub data Verdict : Type 0 where
 abbrev pub not_false : List ℕ → List ℕ → List ℕ
 not_false assumed = filter (λ l. not (is_among assumed (negated l)))
 
+-- what a clause says of whose literals just these aren't false
 abbrev pub verdict_of_open : List ℕ → List ℕ → Verdict
 verdict_of_open assumed [] = falsified
 verdict_of_open assumed (l ∷ []) = if is_among assumed l then rests else opens l
 verdict_of_open assumed (l ∷ m ∷ ls) = rests
 
+-- falsified: all its literals are false; opens: all but one, which is open; rests: anything else
 abbrev pub verdict : List ℕ → List ℕ → Verdict
 verdict assumed clause = verdict_of_open assumed (not_false assumed clause)
 

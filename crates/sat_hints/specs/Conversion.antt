@@ -30,6 +30,7 @@ line_told (told.Model assignment) = None
 line_told (told.Assumptions assumptions) = None
 line_told (told.FailedAssumptions core ids) = Some (Core core ids)
 
+-- in front of these, if there is one
 abbrev pub with_line : Option Line → List Line → List Line
 with_line None lines = lines
 with_line (Some line) lines = line ∷ lines
@@ -43,6 +44,7 @@ lines_told (t ∷ ts) earlier = lines_told ts (with_line (line_told t.announceme
 abbrev pub lines_of : List Step → List Line
 lines_of steps = lines_told (all_told_after steps) []
 
+-- the text of those lines
 abbrev pub hint_text : List Step → List ℕ
 hint_text steps = text_of (lines_of steps)
 

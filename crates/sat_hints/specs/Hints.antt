@@ -73,6 +73,7 @@ assumed_by (Fresh v) = None
 abbrev pub Conflicts : List ℕ → List (List ℕ) → Type 0
 Conflicts assumed clauses = (is_tautology assumed ≡ true) ⊎ UnitInTurn assumed clauses
 
+-- so it is where something is assumed
 abbrev pub ConflictsIf : Option (List ℕ) → List (List ℕ) → Type 0
 ConflictsIf None clauses = Unit {0}
 ConflictsIf (Some assumed) clauses = Conflicts assumed clauses
@@ -112,6 +113,7 @@ abbrev pub IsHintDerivation : List Line → Type 0
 IsHintDerivation [] = Unit {0}
 IsHintDerivation (line ∷ earlier) = IsHintDerivation earlier × Follows earlier line
 
+-- has the clause no literals?
 abbrev pub is_empty : List ℕ → Bool
 is_empty [] = true
 is_empty (l ∷ ls) = false

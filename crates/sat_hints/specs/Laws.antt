@@ -53,9 +53,11 @@ EachCoreFails (Gone id ∷ earlier) = EachCoreFails earlier
 EachCoreFails (Core core ids ∷ earlier) = EachCoreFails earlier × ((a : Valuation) → Leaves earlier a → EachTrue a core → ⊥)
 EachCoreFails (Fresh v ∷ earlier) = EachCoreFails earlier
 
+-- what a derivation derives holds in every valuation that is left by then
 abbrev pub DerivedFollow : Type 0
 DerivedFollow = (lines : List Line) → IsHintDerivation lines → EachDerivedHolds lines
 
+-- and what it names as cores is true in none
 abbrev pub CoresFail : Type 0
 CoresFail = (lines : List Line) → IsHintDerivation lines → EachCoreFails lines
 

@@ -20,6 +20,7 @@ AreIds = AllByRecursion (λ id. id < 2 ^ 64 - 1)
 abbrev pub AreVariables : List ℕ → Type 0
 AreVariables = AllByRecursion (λ v. v < largest)
 
+-- a literal is its code
 abbrev pub AreLiterals : List ℕ → Type 0
 AreLiterals = AllByRecursion (λ l. l < 2 * largest)
 
@@ -31,6 +32,7 @@ IsLine (Gone id) = AreIds (id ∷ [])
 IsLine (Core core ids) = AreLiterals core × AreIds ids
 IsLine (Fresh v) = AreVariables (v ∷ [])
 
+-- all ids, literals and variables of these lines are within their limits
 abbrev pub AreLines : List Line → Type 0
 AreLines = AllByRecursion IsLine
 
@@ -43,6 +45,7 @@ words word (x ∷ xs) = word x ++ (32 ∷ words word xs)
 abbrev pub id_text : ℕ → List ℕ
 id_text id = decimal (id + 1)
 
+-- ids, each with a space behind it
 abbrev pub id_words : List ℕ → List ℕ
 id_words = words id_text
 

@@ -4,6 +4,7 @@ use Rattle.sat_base.specs.values.Literals.{coded}
 use Rattle.sat_solver.specs.variables.Variables.{data_at, global_of, solver_of}
 use Rattle.sat_solver.specs.declared.variables.Variables.{Variables}
 
+-- is there a value, and is it true?
 abbrev pub is_true : Option Bool → Bool
 is_true None = false
 is_true (Some b) = b
@@ -17,6 +18,7 @@ value_by (Some x) values unit = is_true (get_or values x None)
 abbrev pub value_in : Variables → List (Option Bool) → ℕ → Bool
 value_in n values v = value_by (solver_of n v) values (data_at n v).unit
 
+-- a variable's literal by its value, or none where the variable isn't in use
 abbrev pub literal_in : Variables → List (Option Bool) → ℕ → List ℕ
 literal_in n values v = if (data_at n v).deleted then [] else coded v (value_in n values v) ∷ []
 
@@ -25,6 +27,7 @@ unfoldable pub model_to : Variables → List (Option Bool) → ℕ → List ℕ
 model_to n values zero = []
 model_to n values (suc v) = model_to n values v ++ literal_in n values v
 
+-- the literal over a name by the value of its variable, or none where it has no variable
 abbrev pub name_literal : Variables → List (Option Bool) → ℕ → Option ℕ → List ℕ
 name_literal n values u None = []
 name_literal n values u (Some v) = coded u (value_in n values v) ∷ []

@@ -9,6 +9,7 @@ use Rattle.sat_checker.specs.matching.Expected.{Outcome, Sat, Unsat, Unknown}
 abbrev pub named_literal : ℕ → Literal
 named_literal l = record { name = variable l + 1; positive = is_positive l }
 
+-- the same of several, in order
 abbrev pub named_literals : List ℕ → List Literal
 named_literals = map named_literal
 
@@ -16,9 +17,11 @@ named_literals = map named_literal
 abbrev pub IsName : ℕ → Type 0
 IsName n = (1 ≤ n) × (n ≤ largest)
 
+-- each literal is over a name that a script may have
 abbrev pub HaveNames : List Literal → Type 0
 HaveNames = AllByRecursion (λ l. IsName l.name)
 
+-- each name is greater than the one before it
 abbrev pub NamesRise : List ℕ → Type 0
 NamesRise [] = Unit {0}
 NamesRise (n ∷ []) = Unit {0}

@@ -65,6 +65,7 @@ NoLiteral bytes = (l : Literal) (tail : List ℕ) → IsName l.name → bytes �
 abbrev pub StartsNoName : List ℕ → Type 0
 StartsNoName bytes = (more : List ℕ) → NoName (bytes ++ more)
 
+-- whatever follows the bytes, they don't begin with a literal and a space
 abbrev pub StartsNoLiteral : List ℕ → Type 0
 StartsNoLiteral bytes = (more : List ℕ) → NoLiteral (bytes ++ more)
 
@@ -104,6 +105,7 @@ StartsNoLiterals k bytes = (ls : List Literal) (more : List ℕ) → IsInForm (o
 abbrev pub StartsNoKind : List ℕ → Type 0
 StartsNoKind bytes = (k : AnswerKind) (more : List ℕ) → first_line k ≡ bytes ++ more → ⊥
 
+-- the bytes are no front of a second line in form
 abbrev pub StartsNoLine : AnswerKind → List ℕ → Type 0
 StartsNoLine k bytes = (ls : List Literal) (more : List ℕ) → IsInForm (outcome_of k ls) → second_line (outcome_of k ls) ≡ bytes ++ more → ⊥
 

@@ -17,9 +17,11 @@ literals_text (l ∷ ls) = word_of l ++ (32 ∷ literals_text ls)
 abbrev pub s_satisfiable : List ℕ
 s_satisfiable = 115 ∷ 32 ∷ 83 ∷ 65 ∷ 84 ∷ 73 ∷ 83 ∷ 70 ∷ 73 ∷ 65 ∷ 66 ∷ 76 ∷ 69 ∷ 10 ∷ []
 
+-- the first line of an answer that has a core
 abbrev pub s_unsatisfiable : List ℕ
 s_unsatisfiable = 115 ∷ 32 ∷ 85 ∷ 78 ∷ 83 ∷ 65 ∷ 84 ∷ 73 ∷ 83 ∷ 70 ∷ 73 ∷ 65 ∷ 66 ∷ 76 ∷ 69 ∷ 10 ∷ []
 
+-- the only line of an answer where the steps were spent
 abbrev pub s_unknown : List ℕ
 s_unknown = 115 ∷ 32 ∷ 85 ∷ 78 ∷ 75 ∷ 78 ∷ 79 ∷ 87 ∷ 78 ∷ 10 ∷ []
 
@@ -27,6 +29,7 @@ s_unknown = 115 ∷ 32 ∷ 85 ∷ 78 ∷ 75 ∷ 78 ∷ 79 ∷ 87 ∷ 78 ∷ 10 �
 abbrev pub v_line : List Literal → List ℕ
 v_line line = 118 ∷ 32 ∷ literals_text line
 
+-- the second line of an answer that has a core
 abbrev pub f_line : List Literal → List ℕ
 f_line core = 102 ∷ 32 ∷ literals_text core
 

@@ -20,6 +20,7 @@ use Rattle.certify.specs.declared.verdict.Why.{Why}
 abbrev pub Due : Type 0
 Due = Outcome → List Literal → Expected
 
+-- what is expected, from variables and codes as confirming keeps them
 abbrev pub due_of : CodeExpected → Due
 due_of (code.NewName v) = λ o ask. NewName (v + 1)
 due_of (code.NoName v) = λ o ask. NoName (v + 1)

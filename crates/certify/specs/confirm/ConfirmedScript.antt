@@ -33,6 +33,7 @@ pub record Standing : Type 0 where
 abbrev pub script_in : {S : Type 0} → (S → Reader) → S → Confirmation → Source
 script_in seen script c = source_in seen script c.script.ahead
 
+-- the same, from the three readers and what confirming keeps
 abbrev pub standing : {S A C : Type 0} → (S → Reader) → (A → Reader) → (C → Reader) → S → A → StepReader C Buffers → Confirmation → Standing
 standing script_seen seen steps_seen script answers steps c = record {
   script = script_in script_seen script c;

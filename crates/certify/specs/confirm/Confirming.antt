@@ -22,6 +22,7 @@ pub record Table : Type 0 where
   pub names : Names
   pub variables : NamedVars
 
+-- the same, from what matching a certificate keeps
 abbrev pub table_of : Matching → Table
 table_of m = record { names = m.names; variables = m.certificate.names }
 
@@ -105,6 +106,7 @@ pub record IsThrough (old new : View) (j : Judge) (earlier : List Step) (n : ℕ
   pub on : ToConfirm j n earlier script.0 script.1 before old.rest → ToConfirm judge m later left.0 left.1 behind new.rest
   pub back : ToConfirm judge m later left.0 left.1 behind new.rest → ToConfirm j n earlier script.0 script.1 before old.rest
 
+-- so for each state of the judge, and steps, for which the table stands
 abbrev pub Through : ℕ → Reading → Table → ℕ → Reading → Table → List ℕ → List ℕ → View → View → Result (Unit {0}) Why → Type 0
 Through n script t m left next before behind old new r =
     (j : Judge) (earlier : List Step) → HoldsAt t old j earlier → IsThrough old new j earlier n script before m left next behind

@@ -69,6 +69,7 @@ IsWrong P bytes = StartsNone P bytes × (bytes ≡ [] → ⊥)
 abbrev pub IsNextLine : (List ℕ → Type 0) → Source → Source → List ℕ → Type 0
 IsNextLine P a b line = (Passes a b line × IsLine line) ⊎ ((PassesToEnd a b line × HasNoLf line) ⊎ ((Passes a b line × HasNoLf line) × IsWrong P line))
 
+-- so it is, or the reader failed, or memory was wanted
 abbrev pub ReadsLine : (List ℕ → Type 0) → Result (Unit {0}) ReadError → Source → Source → List ℕ → Type 0
 ReadsLine P (Ok x) a b line = IsNextLine P a b line
 ReadsLine P (Err errors.Failed) a b line = Failed a b

@@ -15,6 +15,7 @@ abbrev pub answers_stop : ReadError → Stop
 answers_stop errors.Failed = stop.AnswersRead
 answers_stop errors.OutOfMemory = stop.OutOfMemory
 
+-- and where that text is the script
 abbrev pub script_stop : ReadError → Stop
 script_stop errors.Failed = stop.ScriptRead
 script_stop errors.OutOfMemory = stop.OutOfMemory

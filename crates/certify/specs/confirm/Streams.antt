@@ -23,6 +23,7 @@ pub record Stream : Type 0 where
   pub checker : Kernel
   pub step : Step
 
+-- the same, from a reader of steps and the checker that takes them
 abbrev pub stream_of : {R : Type 0} → (R → Reader) → StepReader R Buffers → Kernel → Stream
 stream_of seen r checker = record { source = reader_source seen r; checker = checker; step = step_in r }
 

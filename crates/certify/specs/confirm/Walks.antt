@@ -48,6 +48,7 @@ abbrev pub WalksBefore : View → View → Type 0
 WalksBefore old new = (text : List ℕ) × SpellsStep new.step text
     × ((earlier : List Step) → HasTaken old.checker earlier → Walked old.checker old.rest new.checker (text ++ new.rest) earlier)
 
+-- it was fed the last one too, or not
 abbrev pub walks_if : Bool → View → View → Type 0
 walks_if true old new = Walks old new
 walks_if false old new = WalksBefore old new

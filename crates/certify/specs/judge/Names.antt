@@ -19,6 +19,7 @@ abbrev pub state_in : List NameState → ℕ → NameState
 state_in states zero = state.Hidden
 state_in states (suc index) = get_or states index state.Hidden
 
+-- of a name in use, by its mode
 abbrev pub state_of_mode : Mode → NameState
 state_of_mode Sampled = state.Sampled
 state_of_mode Witnessed = state.Witnessed
@@ -38,6 +39,7 @@ pub record NamesStand (names : Names) (j : Judge) : Type 0 where
   pub modes : length j.modes ≡ j.next_identity
   pub apart : (m n i : ℕ) → identity_of j m ≡ Some i → identity_of j n ≡ Some i → m ≡ n
 
+-- is a name of this state out of use?
 abbrev pub is_hidden : NameState → Bool
 is_hidden state.Hidden = true
 is_hidden state.Sampled = false
@@ -48,6 +50,7 @@ abbrev pub used_from : ℕ → List NameState → List ℕ
 used_from name [] = []
 used_from name (s ∷ ss) = if is_hidden s then used_from (name + 1) ss else name ∷ used_from (name + 1) ss
 
+-- the names in use, by the states from name 1 on
 abbrev pub used_in : List NameState → List ℕ
 used_in states = used_from 1 states
 
@@ -55,10 +58,12 @@ used_in states = used_from 1 states
 abbrev pub ListsUsed : Names → List ℕ → Type 0
 ListsUsed names codes = names_of (named_literals codes) ≡ used_in names.states.items
 
+-- the judge's refusal, whose names are counted from 1
 abbrev pub refusal_in : CodeRefusal → Refusal
 refusal_in code.Limit = PastLimit
 refusal_in (code.Witness v) = WitnessName (v + 1)
 
+-- the same, if there is a refusal
 abbrev pub refusal_said : Option CodeRefusal → Option Refusal
 refusal_said None = None
 refusal_said (Some refusal) = Some (refusal_in refusal)
@@ -67,20 +72,24 @@ refusal_said (Some refusal) = Some (refusal_in refusal)
 abbrev pub Judges : Option CodeRefusal → Names → Lent → Type 0
 Judges refusal names lent = (j : Judge) (c : Command) → NamesStand names j → IsLent lent c → refusal_said refusal ≡ refusal_of j c
 
+-- why a command is refused that has a name past the limit
 abbrev pub limit_refusal : Bool → Option CodeRefusal
 limit_refusal false = None
 limit_refusal true = Some code.Limit
 
+-- is a name of this state in use, with mode witness?
 abbrev pub is_witnessed : NameState → Bool
 is_witnessed state.Hidden = false
 is_witnessed state.Sampled = false
 is_witnessed state.Witnessed = true
 
+-- the judge's mode for a name in use; one that isn't counts as sampled
 abbrev pub mode_of_state : NameState → Mode
 mode_of_state state.Hidden = Sampled
 mode_of_state state.Sampled = Sampled
 mode_of_state state.Witnessed = Witnessed
 
+-- the name stands for a variable now
 abbrev pub IsInUse : Names → ℕ → Type 0
 IsInUse names name = state_in names.states.items name ≡ state.Hidden → ⊥
 

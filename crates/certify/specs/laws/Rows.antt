@@ -16,6 +16,7 @@ use Rattle.sat_checker.specs.matching.ProofChecking.{the_checking}
 abbrev pub pos : ℕ → Literal
 pos n = record { name = n; positive = true }
 
+-- `-n`, as scripts have it
 abbrev pub neg : ℕ → Literal
 neg n = record { name = n; positive = false }
 
@@ -28,17 +29,21 @@ AskAloneText = answers_text (Ask [] ∷ []) Clean (Sat [] ∷ [])
 abbrev pub clause_and_ask : List Command
 clause_and_ask = Clause (pos 1 ∷ pos 2 ∷ []) ∷ Ask [] ∷ []
 
+-- `s SATISFIABLE`, `v -1 2 0`
 abbrev pub clause_and_ask_text : List ℕ
 clause_and_ask_text = 115 ∷ 32 ∷ 83 ∷ 65 ∷ 84 ∷ 73 ∷ 83 ∷ 70 ∷ 73 ∷ 65 ∷ 66 ∷ 76 ∷ 69 ∷ 10 ∷ 118 ∷ 32 ∷ 45 ∷ 49 ∷ 32 ∷ 50 ∷ 32 ∷ 48 ∷ 10 ∷ []
 
+-- its answers, where this model is its outcome
 abbrev pub ClauseAndAskText : Type 0
 ClauseAndAskText = answers_text clause_and_ask Clean (Sat (neg 1 ∷ pos 2 ∷ []) ∷ []) ≡ clause_and_ask_text
 
+-- what its steps are to bring: both names, the clause, the ask with its model, and the end
 abbrev pub ClauseAndAskExpected : Type 0
 ClauseAndAskExpected = expected start clause_and_ask (Sat (neg 1 ∷ pos 2 ∷ []) ∷ [])
     ≡ NewName 1 ∷ NewName 2 ∷ Adds (pos 1 ∷ pos 2 ∷ []) ∷ Opens [] (Sat (neg 1 ∷ pos 2 ∷ []))
     ∷ Shows (1 ∷ 2 ∷ []) [] (neg 1 ∷ pos 2 ∷ []) ∷ Closes ∷ Finish ∷ []
 
+-- this model is a right answer
 abbrev pub ClauseAndAskRight : Type 0
 ClauseAndAskRight = AnswersAreRight clause_and_ask (Sat (neg 1 ∷ pos 2 ∷ []) ∷ [])
 
@@ -46,6 +51,7 @@ ClauseAndAskRight = AnswersAreRight clause_and_ask (Sat (neg 1 ∷ pos 2 ∷ [])
 abbrev pub two_units : List Command
 two_units = Clause (pos 1 ∷ []) ∷ Clause (neg 1 ∷ []) ∷ Ask [] ∷ []
 
+-- the empty core is a right answer
 abbrev pub TwoUnitsRight : Type 0
 TwoUnitsRight = AnswersAreRight two_units (Unsat [] ∷ [])
 
@@ -53,6 +59,7 @@ TwoUnitsRight = AnswersAreRight two_units (Unsat [] ∷ [])
 abbrev pub hidden_and_back : List Command
 hidden_and_back = Clause (pos 1 ∷ []) ∷ Hide (1 ∷ []) ∷ Clause (neg 1 ∷ []) ∷ Ask [] ∷ []
 
+-- the judge's state behind it: two clauses, each over an identity of its own
 abbrev pub HiddenAndBackState : Type 0
 HiddenAndBackState = after_script hidden_and_back start ≡ record {
   first_unused = 2;
@@ -62,6 +69,7 @@ HiddenAndBackState = after_script hidden_and_back start ≡ record {
   clauses = (3 ∷ []) ∷ (0 ∷ []) ∷ [];
 }
 
+-- what its steps are to bring: the name is new twice
 abbrev pub HiddenAndBackExpected : Type 0
 HiddenAndBackExpected = expected start hidden_and_back (Sat (neg 1 ∷ []) ∷ [])
     ≡ NewName 1 ∷ Adds (pos 1 ∷ []) ∷ NoName 1 ∷ NewName 1 ∷ Adds (neg 1 ∷ []) ∷ Opens [] (Sat (neg 1 ∷ []))
@@ -87,6 +95,7 @@ WitnessRefusedText = answers_text (Witness (1 ∷ []) ∷ Clause (pos 1 ∷ []) 
 abbrev pub LeftmostRefuses : Type 0
 LeftmostRefuses = refusal_of (after_script (Witness (1 ∷ []) ∷ []) start) (Clause (pos 268435457 ∷ pos 1 ∷ [])) ≡ Some PastLimit
 
+-- an ask with a name of mode witness is refused, as a clause is
 abbrev pub WitnessRefusesAsk : Type 0
 WitnessRefusesAsk = refusal_of (after_script (Witness (1 ∷ []) ∷ []) start) (Ask (pos 1 ∷ [])) ≡ Some (WitnessName 1)
 
@@ -113,6 +122,7 @@ ClauseAndAskMatches = (rest : List ℕ)
     → MatchesCommands the_checking clause_and_ask Clean clause_and_ask_text
     (2 ∷ 0 ∷ 1 ∷ 2 ∷ 1 ∷ 2 ∷ 5 ∷ 2 ∷ 0 ∷ 2 ∷ 11 ∷ 0 ∷ 10 ∷ 2 ∷ 1 ∷ 2 ∷ 11 ∷ 0 ∷ 13 ∷ rest)
 
+-- `s UNSATISFIABLE`, `f 0`: what stands behind the second clause is of no matter
 abbrev pub TwoUnitsMatches : Type 0
 TwoUnitsMatches = (rest : List ℕ)
     → MatchesCommands the_checking two_units Clean
@@ -158,10 +168,12 @@ ClauseAndAskCertified = Certifies the_checking
 abbrev pub units_and_ask : List Command
 units_and_ask = Clause (pos 1 ∷ []) ∷ Clause (neg 1 ∷ []) ∷ Clause (pos 2 ∷ []) ∷ Ask [] ∷ []
 
+-- its steps: the names, two clauses, the ask opened and closed, and the end
 abbrev pub units_and_ask_steps : List Step
 units_and_ask_steps = End ∷ Assumptions [] ∷ Assumptions [] ∷ UserVarName 1 (Some 1)
     ∷ AddClause (1 ∷ []) ∷ AddClause (0 ∷ []) ∷ UserVarName 0 (Some 0) ∷ []
 
+-- a run may write these, with no round for the ask
 abbrev pub LeftOutCertified : Type 0
 LeftOutCertified = Certifies the_checking units_and_ask_steps None [] (expected start units_and_ask (Unsat [] ∷ [])) (0 ∷ [])
 
@@ -175,10 +187,12 @@ KnownWithoutRounds = (o : Outcome) (n : ℕ)
 abbrev pub chain_and_ask : List Command
 chain_and_ask = Clause (pos 1 ∷ []) ∷ Clause (neg 1 ∷ pos 2 ∷ []) ∷ Clause (neg 2 ∷ []) ∷ Clause (pos 3 ∷ []) ∷ Ask [] ∷ []
 
+-- its steps up to the ask
 abbrev pub chain_steps : List Step
 chain_steps = AddClause (4 ∷ []) ∷ UserVarName 2 (Some 2) ∷ AddClause (3 ∷ []) ∷ AddClause (1 ∷ 2 ∷ [])
     ∷ UserVarName 1 (Some 1) ∷ AddClause (0 ∷ []) ∷ UserVarName 0 (Some 0) ∷ []
 
+-- the ask derives the empty clause in its one round
 abbrev pub ChainCertified : Type 0
 ChainCertified = (hashes : List ℕ) → Certifies the_checking (End ∷ Assumptions [] ∷ AtClause false [] hashes ∷ Assumptions [] ∷ chain_steps) None []
     (expected start chain_and_ask (Unsat [] ∷ [])) (1 ∷ [])

@@ -36,9 +36,11 @@ KeepsInput (Confirm s a c) = Unit {0}
 KeepsInput (Hints c h) = h ≡ c → ⊥
 KeepsInput (Check h) = Unit {0}
 
+-- the words are a call that writes over no file that it reads
 abbrev pub AsksFor : List (List ℕ) → Request → Type 0
 AsksFor words request = IsUsage words request × KeepsInput request
 
+-- they are no such call
 abbrev pub AsksNothing : List (List ℕ) → Type 0
 AsksNothing words = (request : Request) → AsksFor words request → ⊥
 
@@ -46,9 +48,11 @@ AsksNothing words = (request : Request) → AsksFor words request → ⊥
 abbrev pub IsMisuse : List (List ℕ) → Type 0
 IsMisuse words = (words ≡ [] → ⊥) × AsksNothing words
 
+-- a run over these files, with so many steps
 abbrev pub running : RunFiles → ℕ → Request
 running files budget = Run files.script.now files.answers.now files.certificate.now budget
 
+-- what a call that was read asks for
 abbrev pub request_of : Call → Request
 request_of (call.Run files budget) = running files budget
 request_of (call.Confirm files) = Confirm files.script.now files.answers.now files.certificate.now

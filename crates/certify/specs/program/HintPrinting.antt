@@ -20,6 +20,7 @@ hint_why_text why.NotUnit = codes "NotUnit"
 hint_why_text why.NotFalsified = codes "NotFalsified"
 hint_why_text why.VarInUse = codes "VarInUse"
 
+-- whether the empty clause was derived, as one digit
 abbrev pub digit_of : Bool → List ℕ
 digit_of true = codes "1"
 digit_of false = codes "0"
@@ -33,10 +34,12 @@ proved_text empty cores lines =
 abbrev pub bad_text : ℕ → HintWhy → List ℕ
 bad_text line cause = codes "bad " ++ decimal line ++ 32 ∷ [] ++ hint_why_text cause ++ 10 ∷ []
 
+-- the line for a hint text: what it derives, or its first line at fault and why
 abbrev pub hint_verdict_text : HintVerdict → List ℕ
 hint_verdict_text (Proved empty cores lines) = proved_text empty cores lines
 hint_verdict_text (Bad line cause) = bad_text line cause
 
+-- is the hint text a derivation?
 abbrev pub is_proved : HintVerdict → Bool
 is_proved (Proved empty cores lines) = true
 is_proved (Bad line cause) = false

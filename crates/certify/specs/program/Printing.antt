@@ -84,6 +84,7 @@ yes_or_no_text (No ask why) = codes "no " ++ no_text ask why
 abbrev pub SaysExactly : Verdict → List ℕ → List ℕ → List ℕ → Type 0
 SaysExactly v script answers certificate = (v ≡ Yes) ↔ Matches the_checking reading script answers certificate
 
+-- does a fault of form end the script?
 abbrev pub is_malformed : Ending → Bool
 is_malformed Clean = false
 is_malformed Malformed = true

@@ -22,6 +22,7 @@ pub data PropagatesTo (f : Stored) : List ℕ → List ℕ → Type 0 where
 abbrev pub supposed : Stored → List ℕ → List ℕ
 supposed f others = map negated others ++ unit_literals f
 
+-- what was reached neither assigns the literal nor denies it, and falsifies no stored clause
 pub record IsOpenStill (f : Stored) (literal : ℕ) (reached : List ℕ) : Type 0 where
   pub not_true : is_among reached literal ≡ false
   pub not_false : is_among reached (negated literal) ≡ false
@@ -37,6 +38,7 @@ pub record LeavesOpen (f : Stored) (others : List ℕ) (literal : ℕ) : Type 0 
 abbrev pub Advances : Stored → List ℕ → Type 0
 Advances f clause = (literal : ℕ) × (is_among clause literal ≡ true) × LeavesOpen f (others_of literal clause) literal
 
+-- the step derives a clause that advances
 abbrev pub IsAdvancing : Stored → Step → Type 0
 IsAdvancing f (AtClause redundant clause hashes) = Advances f clause
 IsAdvancing f step = ⊥

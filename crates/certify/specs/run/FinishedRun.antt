@@ -38,6 +38,7 @@ abbrev pub malformed_at : ℕ → Ending → Option ℕ
 malformed_at number Clean = None
 malformed_at number Malformed = Some number
 
+-- an outcome without its literals
 abbrev pub answer_kind : Outcome → Answer
 answer_kind (Sat line) = kind.Sat
 answer_kind (Unsat core) = kind.Unsat

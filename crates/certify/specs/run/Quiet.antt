@@ -4,8 +4,10 @@ use Rattle.sat_checker.specs.declared.processing.Nobody.{Nobody}
 use Rattle.sat_solver.specs.declared.proof.Proof as proofs
 use Rattle.sat_solver.specs.declared.solver.Solver as solvers
 
+-- the solver, which writes its certificate to a value of this type
 abbrev pub Solver : Type 0 → Type 0
 Solver C = solvers.Solver C Nobody ghosts
 
+-- what it keeps of its steps, and where their text goes
 abbrev pub Proof : Type 0 → Type 0
 Proof C = proofs.Proof C Nobody ghosts

@@ -36,6 +36,7 @@ fault_for errors.OutOfMemory = fault.OutOfMemory
 fault_for errors.StoreFull = fault.StoreFull
 fault_for e = fault.CounterEnd
 
+-- were the rounds spent?
 abbrev pub is_interrupted : SolverError → Bool
 is_interrupted errors.Interrupted = true
 is_interrupted e = false

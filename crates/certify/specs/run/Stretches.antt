@@ -18,6 +18,7 @@ pub record Stretch (May : List Step → Step → Type 0) (from to : List Step) (
 
 -- A COMMAND THAT IS NO ASK
 
+-- a clause, or a command about names
 abbrev pub IsNoAsk : Command → Type 0
 IsNoAsk (Ask ls) = ⊥
 IsNoAsk command = Unit {0}

@@ -20,6 +20,7 @@ use Rattle.certify.specs.declared.script.draft.Draft.{Draft}
 use Rattle.certify.specs.declared.script.commands.Commands.{Commands}
 use Rattle.certify.specs.declared.script.reader.ScriptReader.{ScriptReader}
 
+-- a kind of command, as the meaning of scripts has it
 abbrev pub kind_of : CommandKind → Kind
 kind_of kind.Clause = OfClause
 kind_of kind.Ask = OfAsk
@@ -32,6 +33,7 @@ abbrev pub BeginsKind : Option CommandKind → ℕ → Type 0
 BeginsKind None letter = kind_of_letter letter ≡ None
 BeginsKind (Some kind) letter = kind_of_letter letter ≡ Some (kind_of kind)
 
+-- is a command of this kind answered?
 abbrev pub is_ask_kind : Kind → Bool
 is_ask_kind OfClause = false
 is_ask_kind OfAsk = true
@@ -79,12 +81,14 @@ pub record IsNumbered (l : Literal) (name : ℕ) (positive : Bool) : Type 0 wher
   pub number : name ≡ held l.name
   pub sign : positive ≡ l.positive
 
+-- is it a line `p cnf V C`?
 abbrev pub is_header : Token → Bool
 is_header (Number negative value) = false
 is_header (Letter b) = false
 is_header (Header v c) = true
 is_header Wrong = false
 
+-- is there such a line among these?
 abbrev pub any_header : List Token → Bool
 any_header [] = false
 any_header (t ∷ ts) = is_header t || any_header ts

@@ -46,6 +46,7 @@ Brings (Ok (Some n)) a b old new = Arrives n a b old new
 Brings (Err errors.Failed) a b old new = Failed a b
 Brings (Err errors.OutOfMemory) a b old new = TakesSome true a b
 
+-- the same once something came of the bytes
 abbrev pub NextComes : Result Next ReadError → Source → Source → ScriptReader → ScriptReader → Type 0
 NextComes (Ok n) a b old new = Arrives n a b old new
 NextComes (Err errors.Failed) a b old new = Failed a b

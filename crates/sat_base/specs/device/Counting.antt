@@ -12,18 +12,23 @@ no_calls = record { calls = 0; failures = 0; given = []; taken = []; ended = fal
 abbrev pub after_call : Tally → Tally
 after_call t = record t { calls = t.calls + 1; ended = false; flushed = false; failed = false }
 
+-- a read that gave these bytes
 abbrev pub after_read : List ℕ → Tally → Tally
 after_read bytes t = record (after_call t) { given = t.given ++ bytes }
 
+-- a read that found the end
 abbrev pub after_end : Tally → Tally
 after_end t = record (after_call t) { ended = true }
 
+-- a write that took these bytes
 abbrev pub after_write : List ℕ → Tally → Tally
 after_write bytes t = record (after_call t) { taken = t.taken ++ bytes }
 
+-- a flush that didn't fail
 abbrev pub after_flush : Tally → Tally
 after_flush t = record (after_call t) { flushed = true; flushes = t.flushes + 1 }
 
+-- a call that failed
 abbrev pub after_failure : Tally → Tally
 after_failure t = record (after_call t) { failures = t.failures + 1; failed = true }
 

@@ -27,6 +27,7 @@ pub record Writer : Type 0 where
 abbrev pub lent_reader : ℕ → Reader → Reader
 lent_reader name r = record r { loans = name ∷ r.loans }
 
+-- the same of a writer
 abbrev pub lent_writer : ℕ → Writer → Writer
 lent_writer name w = record w { loans = name ∷ w.loans }
 

@@ -26,12 +26,15 @@ to_come s = prepend_known s.waiting s.reader.to_come
 abbrev pub unread : Reader → Source
 unread r = record { reader = r; waiting = []; reads = 0; names = [] }
 
+-- a reader as contracts see it, and what was read of it ahead; who holds them is left out
 abbrev pub source : {R : Type 0} → (R → Reader) → R → Ahead → Source
 source seen r a = record { reader = seen r; waiting = waiting a; reads = a.reads; names = [] }
 
+-- held by these borrows
 abbrev pub named : List ℕ → Source → Source
 named names s = record s { names = names }
 
+-- the source that an input reads, held by its two borrows
 abbrev pub source_of : {R : Type 0} → (R → Reader) → Input R → Source
 source_of seen i = named (i.reader.ghost_name ∷ i.ahead.ghost_name ∷ []) (source seen i.reader.now i.ahead.now)
 
@@ -73,6 +76,7 @@ PassesToEnd old new text = PassesBut 1 old new text × AllTaken new
 abbrev pub FailsLast : Source → Source → Type 0
 FailsLast old new = (new.reader.failures ≡ old.reader.failures + 1) × (new.reader.failed ≡ true)
 
+-- no read failed, and as many were made as may be
 abbrev pub ReadsOut : Source → Source → Type 0
 ReadsOut old new = (new.reader.failures ≡ old.reader.failures) × (most_reads ≤ new.reads)
 
@@ -140,6 +144,7 @@ abbrev pub giving : {A : Type 0} → A → Result (Unit {0}) StepError → Resul
 giving x (Ok u) = Ok x
 giving x (Err e) = Err e
 
+-- the same answer, with what f makes of the value
 abbrev pub valued : {A B : Type 0} → (A → B) → Result A StepError → Result B StepError
 valued f (Ok x) = Ok (f x)
 valued f (Err e) = Err e

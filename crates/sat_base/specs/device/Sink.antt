@@ -13,6 +13,7 @@ pub record Sink : Type 0 where
 abbrev pub empty_sink : Writer → Sink
 empty_sink w = record { writer = w; waiting = [] }
 
+-- the writer of an output, and the bytes of it that are pending
 abbrev pub sink_of : {W P : Type 0} → (W → Writer) → (P → List ℕ) → Output W P → Sink
 sink_of seen waiting o = record { writer = seen o.writer; waiting = waiting o.pending }
 
@@ -27,6 +28,7 @@ pub record Broken (old new : Sink) (text : List ℕ) : Type 0 where
   pub breaks : Breaks old.writer new.writer (old.waiting ++ text)
   pub none : new.waiting ≡ []
 
+-- a text was sent, or one call failed
 abbrev pub Sends : {E : Type 0} → List ℕ → Result (Unit {0}) E → Sink → Sink → Type 0
 Sends text r old new = MatchResult r (λ _. Sent old new text) (λ _. Broken old new text)
 
@@ -40,5 +42,6 @@ pub record Emptied (old new : Sink) : Type 0 where
   pub none : new.waiting ≡ []
   pub flushed : new.writer.flushed ≡ true
 
+-- what waited was written and flushed, or one call failed
 abbrev pub Flushes : {E : Type 0} → Result (Unit {0}) E → Sink → Sink → Type 0
 Flushes r old new = MatchResult r (λ _. Emptied old new) (λ _. Broken old new [])

@@ -65,6 +65,7 @@ dimacs_of hand s = clauses_of hand s.last s.tokens
 unfoldable pub dimacs : List ℕ → Dimacs
 dimacs text = dimacs_of None (scan text)
 
+-- whether a blank is among these bytes
 abbrev pub has_blank : List ℕ → Bool
 has_blank [] = false
 has_blank (b ∷ bs) = is_blank b || has_blank bs

@@ -9,12 +9,15 @@ use Rattle.sat_base.specs.dimacs.Parsing.{whole_lines}
 abbrev pub plus : ℕ → ℕ
 plus n = coded (n - 1) true
 
+-- the literals that have these numbers, negated
 abbrev pub minus : ℕ → ℕ
 minus n = coded (n - 1) false
 
+-- the text's header says so many variables and clauses
 abbrev pub HasHeader : List ℕ → ℕ → ℕ → Type 0
 HasHeader text v c = header_of text ≡ Some (v, c)
 
+-- texts that end cleanly, with their clauses
 pub record CleanRows : Type 0 where
   pub empty : IsDimacs [] [] Clean
   pub header_alone : IsDimacs (codes "p cnf 0 0") [] Clean
@@ -25,6 +28,7 @@ pub record CleanRows : Type 0 where
   pub percent : IsDimacs (codes "1 0\n%\n0\n") ((plus 1 ∷ []) ∷ []) Clean
   pub largest : IsDimacs (codes "-268435456 0") ((minus 268435456 ∷ []) ∷ []) Clean
 
+-- texts with a fault, with the clauses in front of it and its line
 pub record FaultRows : Type 0 where
   pub minus_zero : IsDimacs (codes "1 2\n-0 0\n") [] (Malformed 2)
   pub past_the_limit : IsDimacs (codes "1 0\n268435457 0\n") ((plus 1 ∷ []) ∷ []) (Limit 2)
@@ -37,11 +41,13 @@ pub record FaultRows : Type 0 where
   pub late_header : IsDimacs (codes "1 0\np cnf 1 1\n") ((plus 1 ∷ []) ∷ []) (Malformed 2)
   pub first_fault : IsDimacs (codes "268435457 x\n") [] (Limit 1)
 
+-- the headers of texts, where they have one
 pub record HeaderRows : Type 0 where
   pub numbers : HasHeader (codes "c x\np cnf 2 1\n1 -2 0\n") 2 1
   pub no_LF : HasHeader (codes "p cnf 07 99999999999999999999") 7 99999999999999999999
   pub none : header_of (codes "1 0\n") ≡ None
 
+-- fronts of texts: up to the last blank, and up to the last LF
 pub record PartRows : Type 0 where
   pub to_the_blank : settled (codes "1 0\n23") ≡ codes "1 0\n"
   pub to_a_blank_alone : settled (codes "1 0 2") ≡ codes "1 0 "

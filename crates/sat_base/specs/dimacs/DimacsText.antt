@@ -12,6 +12,7 @@ abbrev pub clause_line : List ℕ → List ℕ
 clause_line [] = codes "0\n"
 clause_line (l ∷ ls) = number_text l ++ (codes " " ++ clause_line ls)
 
+-- a line for each clause, in order
 abbrev pub clause_lines : List (List ℕ) → List ℕ
 clause_lines [] = []
 clause_lines (c ∷ cs) = clause_line c ++ clause_lines cs

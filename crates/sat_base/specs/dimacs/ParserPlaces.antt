@@ -12,6 +12,7 @@ use Rattle.sat_base.specs.dimacs.Dimacs.{Hand, Dimacs, clauses_of}
 use Rattle.sat_base.specs.dimacs.Collecting.{hand_in}
 use Rattle.sat_base.specs.dimacs.Parsing.{Progress, NoFault, clauses_read, lines_read, whole_lines, held_numbers, last_byte}
 
+-- what a caller knows of this parser
 abbrev pub progress_of : Parser → Progress
 progress_of p = record { fed = p.history.fed; taken = p.history.taken; stopped = p.stopped; ended = p.ended }
 

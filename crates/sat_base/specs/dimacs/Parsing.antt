@@ -21,6 +21,7 @@ pub record Progress : Type 0 where
   pub stopped : Bool  -- nothing more is taken
   pub ended : Bool  -- the text is over: it was said to be, or has a fault
 
+-- of a new parser: no byte was taken
 abbrev pub no_progress : Progress
 no_progress = record { fed = []; taken = []; stopped = false; ended = false }
 
@@ -48,6 +49,7 @@ clauses_read p = (dimacs (words_read p)).clauses
 abbrev pub all_taken : Progress → Progress
 all_taken p = record p { taken = clauses_read p }
 
+-- whether LF is among these bytes
 abbrev pub has_LF : List ℕ → Bool
 has_LF [] = false
 has_LF (b ∷ bs) = nat_eq b 10 || has_LF bs
@@ -86,6 +88,7 @@ pub record IsSoundText (text : List ℕ) : Type 0 where
   pub lines : NoFault None (tokens (whole_lines text))
   pub words : RightAhead (λ rest. scan (text ++ rest))
 
+-- no ended line of what was taken has a fault, and it can go on without a wrong word
 abbrev pub IsSound : Progress → Type 0
 IsSound p = IsSoundText p.fed
 

@@ -5,6 +5,7 @@ use Rattle.sat_base.specs.values.Literals.{coded, largest}
 use Rattle.sat_base.specs.values.Clauses.{Valuation, EachTrue, EachHolds}
 use Rattle.sat_base.specs.script.Script.{Literal, Command, Clause, Ask, Hide, Witness, Sample, names_of, Among, InOrder}
 
+-- of a variable: clauses and asks may have a sampled one, and no witness
 pub data Mode : Type 0 where
   Sampled : Mode
   Witnessed : Mode
@@ -14,6 +15,7 @@ pub record Named : Type 0 where
   pub name : ℕ
   pub identity : ℕ
 
+-- what a script's commands so far leave, of names, variables and accepted clauses
 pub record Judge : Type 0 where
   pub first_unused : ℕ  -- the first name never used
   pub in_use : List Named  -- by increasing name
@@ -30,6 +32,7 @@ abbrev pub identity_in : List Named → ℕ → Option ℕ
 identity_in [] name = None
 identity_in (n ∷ ns) name = if n.name == name then Some n.identity else identity_in ns name
 
+-- the identity of the variable that has this name now, none for a name that isn't in use
 abbrev pub identity_of : Judge → ℕ → Option ℕ
 identity_of j name = identity_in j.in_use name
 
@@ -61,10 +64,12 @@ new_names name j =
     then (if is_some (identity_of j name) then [] else name ∷ [])
     else names_from (name + 1 - j.first_unused) j.first_unused
 
+-- a new variable under each of these names, from left to right
 abbrev pub with_names : List ℕ → Judge → Judge
 with_names [] j = j
 with_names (name ∷ names) j = with_names names (with_name name j)
 
+-- the name is in use from here on: each name that it makes new gets a new variable
 abbrev pub bring_in : ℕ → Judge → Judge
 bring_in name j = with_names (new_names name j) j
 
@@ -77,6 +82,7 @@ bring_all (name ∷ names) j = bring_all names (bring_in name j)
 abbrev pub without_name : ℕ → Judge → Judge
 without_name name j = record j { in_use = filter (λ n. not (n.name == name)) j.in_use }
 
+-- the number that is there, or else 0
 abbrev pub or_zero : Option ℕ → ℕ
 or_zero None = 0
 or_zero (Some n) = n
@@ -85,16 +91,20 @@ or_zero (Some n) = n
 abbrev pub over : Judge → Literal → ℕ
 over j l = coded (or_zero (identity_of j l.name)) l.positive
 
+-- the variable of this name, which is in use, gets this mode
 abbrev pub with_mode : Mode → ℕ → Judge → Judge
 with_mode mode name j = record j { modes = set j.modes (or_zero (identity_of j name)) mode }
 
+-- a clause is accepted, all of whose names are in use
 abbrev pub with_clause : List Literal → Judge → Judge
 with_clause ls j = record j { clauses = map (over j) ls ∷ j.clauses }
 
+-- each of these names is brought in, and is then no longer in use
 abbrev pub hide_all : List ℕ → Judge → Judge
 hide_all [] j = j
 hide_all (name ∷ names) j = hide_all names (without_name name (bring_in name j))
 
+-- each of these names is brought in, and its variable gets this mode
 abbrev pub set_all : Mode → List ℕ → Judge → Judge
 set_all mode [] j = j
 set_all mode (name ∷ names) j = set_all mode names (with_mode mode name (bring_in name j))
@@ -112,6 +122,7 @@ pub data Refusal : Type 0 where
   PastLimit : Refusal
   WitnessName : ℕ → Refusal
 
+-- whether clauses and asks may not have a variable of this mode
 abbrev pub is_witness : Mode → Bool
 is_witness Sampled = false
 is_witness Witnessed = true
@@ -128,10 +139,12 @@ refused_literal j (name ∷ names) =
     if nat_lt largest name then Some PastLimit
     else (if has_witness j (identity_of j name) then Some (WitnessName name) else refused_literal j names)
 
+-- a name that is hidden or gets a mode is refused past the limit alone
 abbrev pub refused_name : List ℕ → Option Refusal
 refused_name [] = None
 refused_name (name ∷ names) = if nat_lt largest name then Some PastLimit else refused_name names
 
+-- why a command is refused, or none where it is accepted
 abbrev pub refusal_of : Judge → Command → Option Refusal
 refusal_of j (Clause ls) = refused_literal j (names_of ls)
 refusal_of j (Ask ls) = refused_literal j (names_of ls)
@@ -143,6 +156,7 @@ refusal_of j (Sample names) = refused_name names
 abbrev pub after_command : Command → Judge → Judge
 after_command command j = if is_some (refusal_of j command) then j else accepted command j
 
+-- what these commands leave, from left to right
 abbrev pub after_script : List Command → Judge → Judge
 after_script [] j = j
 after_script (command ∷ commands) j = after_script commands (after_command command j)

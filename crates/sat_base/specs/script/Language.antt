@@ -3,6 +3,7 @@ use Rattle.std.specs.Prelude.{ℕ, ◌≡◌, Bool, true, not, ◌&&◌, Option,
 use Rattle.sat_base.specs.text.Text.{Token, Number, Letter, Header, Wrong, tokens, header_of}
 use Rattle.sat_base.specs.script.Script.{Literal, Command, Clause, Ask, Hide, Witness, Sample, Ending, Clean, Malformed, names_of, has_ask, is_clean}
 
+-- the kinds of command; a clause is one, which no letter begins
 pub data Kind : Type 0 where
   OfClause : Kind
   OfAsk : Kind
@@ -55,6 +56,7 @@ kind_of_letter b =
     else (if nat_eq b 119 then Some OfWitness
     else (if nat_eq b 115 then Some OfSample else None)))
 
+-- a letter begins a command of this kind, or is none of the four
 abbrev pub beginning : Option Kind → Turn
 beginning None = Fails
 beginning (Some kind) = GoesOn (Within kind [])
@@ -64,6 +66,7 @@ abbrev pub with_letter : Hand → ℕ → Turn
 with_letter Nothing b = beginning (kind_of_letter b)
 with_letter (Within kind ls) b = Fails
 
+-- what a token makes of what is in hand, whatever its line
 abbrev pub turn : Hand → Token → Turn
 turn hand (Number negative value) =
     if nat_eq value 0 then Ends (command_in hand) else with_literal hand (record { name = value; positive = not negative })
@@ -75,6 +78,7 @@ turn hand Wrong = Fails
 abbrev pub Reading : Type 0
 Reading = List Command × Ending
 
+-- these commands, and then those of the reading, with its end
 abbrev pub onto_commands : List Command → Reading → Reading
 onto_commands commands reading = (commands ++ reading.0, reading.1)
 

@@ -6,6 +6,7 @@ pub record Literal : Type 0 where
   pub name : ℕ
   pub positive : Bool
 
+-- a clause, an ask under literals, names to hide, or names that get mode witness or sample
 pub data Command : Type 0 where
   Clause : List Literal → Command
   Ask : List Literal → Command
@@ -18,9 +19,11 @@ pub data Ending : Type 0 where
   Clean : Ending
   Malformed : Ending
 
+-- the names of literals, in order and with repeats
 abbrev pub names_of : List Literal → List ℕ
 names_of = map (λ l. l.name)
 
+-- the item stands somewhere in the list
 abbrev pub Among : {A : Type 0} → A → List A → Type 0
 Among x [] = ⊥
 Among x (y ∷ ys) = (x ≡ y) ⊎ Among x ys
@@ -35,11 +38,13 @@ InOrder [] = Unit {0}
 InOrder (l ∷ []) = Unit {0}
 InOrder (l ∷ k ∷ ls) = (place l < place k) × InOrder (k ∷ ls)
 
+-- whether an ask is among the commands
 abbrev pub has_ask : List Command → Bool
 has_ask [] = false
 has_ask (Ask ls ∷ commands) = true
 has_ask (command ∷ commands) = has_ask commands
 
+-- whether a text ended without a fault
 abbrev pub is_clean : Ending → Bool
 is_clean Clean = true
 is_clean Malformed = false

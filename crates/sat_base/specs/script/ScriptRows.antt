@@ -3,12 +3,15 @@ use Rattle.std.specs.Prelude.{ℕ, [], ◌∷◌, true, false, codes}
 use Rattle.sat_base.specs.script.Script.{Literal, Clause, Ask, Hide, Witness, Sample, Clean, Malformed}
 use Rattle.sat_base.specs.script.Language.{IsScript}
 
+-- the positive literal of this name
 abbrev pub plus : ℕ → Literal
 plus name = record { name = name; positive = true }
 
+-- and the negative one
 abbrev pub minus : ℕ → Literal
 minus name = record { name = name; positive = false }
 
+-- texts that end cleanly, with their commands
 pub record ReadRows : Type 0 where
   pub empty : IsScript [] [] Clean
   pub clause_and_ask : IsScript (codes "1 2 0\na 0\n") (Clause (plus 1 ∷ plus 2 ∷ []) ∷ Ask [] ∷ []) Clean
@@ -37,6 +40,7 @@ pub record ReadRows : Type 0 where
   pub hidden_past_the_limit : IsScript (codes "h 99999999999999999999 0") (Hide (99999999999999999999 ∷ []) ∷ []) Clean
   pub header_asks : IsScript (codes "p cnf 2 1\nw 1 0\n%\n0\n") (Witness (1 ∷ []) ∷ Ask [] ∷ []) Clean
 
+-- malformed texts, with the commands in front of the fault
 pub record MalformedRows : Type 0 where
   pub comment_behind_word : IsScript (codes "c x\n1 c\n") [] Malformed
   pub minus_zero : IsScript (codes "-0 0") [] Malformed

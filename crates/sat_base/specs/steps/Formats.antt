@@ -35,6 +35,7 @@ abbrev pub Items : {A : Type 0} → Format A → Format (List A)
 Items {A} F [] bytes = bytes ≡ []
 Items {A} F (x ∷ xs) bytes = (a : List ℕ) × (b : List ℕ) × F x a × Items F xs b × (bytes ≡ a ++ b)
 
+-- so many items, one after another, without a count
 abbrev pub Times : {A : Type 0} → Format A → ℕ → Format (List A)
 Times {A} F n xs bytes = (length xs ≡ n) × Items F xs bytes
 

@@ -10,5 +10,6 @@ IsNumber n (b ∷ []) = (b < 128) × (n ≡ b)
 IsNumber n (b ∷ c ∷ bs) = (128 ≤ b) × (b < 256)
     × (high : ℕ) × (0 < high) × (n + 128 ≡ b + 128 * high) × IsNumber high (c ∷ bs)
 
+-- the bytes spell this number, which is below the limit
 abbrev pub IsBelow : ℕ → Format ℕ
 IsBelow limit n bytes = IsNumber n bytes × (n < limit)

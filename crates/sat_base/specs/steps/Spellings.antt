@@ -8,37 +8,48 @@ use Rattle.sat_base.specs.steps.Steps.{Deletion, Step}
 use Rattle.sat_base.specs.steps.StepText.{IsVariable, IsOptionalVariable, IsLiteral, IsHash, IsFlag, IsWidth, IsDeletion, AreLiterals, AreHashes, AreUnits, SpellsFields, SpellsStep}
 use Rattle.sat_base.specs.steps.StepBytes.{number_bytes, optional_bytes, flag_bytes, deletion_bytes, list_bytes, units_bytes, fields_bytes, step_bytes}
 
+-- a format, and for each value the bytes of it that are written
 pub record Spelling (A : Type 0) : Type 1 where
   pub format : Format A
   pub bytes : A → List ℕ
 
+-- the index of a variable
 abbrev pub a_variable : Spelling ℕ
 a_variable = record { format = IsVariable; bytes = number_bytes }
 
+-- the index of a solver's variable or of a user's name, or none
 abbrev pub an_optional_variable : Spelling (Option ℕ)
 an_optional_variable = record { format = IsOptionalVariable; bytes = optional_bytes }
 
+-- whether a derived clause is redundant, or a variable sampled
 abbrev pub a_flag : Spelling Bool
 a_flag = record { format = IsFlag; bytes = flag_bytes }
 
+-- how many bits the hashes of later steps have
 abbrev pub a_width : Spelling ℕ
 a_width = record { format = IsWidth; bytes = number_bytes }
 
+-- the reason for which a clause is deleted
 abbrev pub a_deletion : Spelling Deletion
 a_deletion = record { format = IsDeletion; bytes = deletion_bytes }
 
+-- the code of a literal
 abbrev pub a_literal : Spelling ℕ
 a_literal = record { format = IsLiteral; bytes = number_bytes }
 
+-- the hash by which a clause is named
 abbrev pub a_hash : Spelling ℕ
 a_hash = record { format = IsHash; bytes = number_bytes }
 
+-- a count of literals, and then each of them
 abbrev pub literals : Spelling (List ℕ)
 literals = record { format = AreLiterals; bytes = list_bytes }
 
+-- a count of hashes, and then each of them
 abbrev pub hashes : Spelling (List ℕ)
 hashes = record { format = AreHashes; bytes = list_bytes }
 
+-- a count of units, and then each with the hash of the clause that it follows from
 abbrev pub units : Spelling (List (ℕ × ℕ))
 units = record { format = AreUnits; bytes = units_bytes }
 
@@ -66,9 +77,11 @@ a_derived = both a_flag both_lists
 abbrev pub a_deleted : Spelling (List ℕ × Deletion)
 a_deleted = both literals a_deletion
 
+-- what stands behind a step's tag
 abbrev pub fields : Spelling Step
 fields = record { format = SpellsFields; bytes = fields_bytes }
 
+-- a step's tag, and then its fields
 abbrev pub a_step : Spelling Step
 a_step = record { format = SpellsStep; bytes = step_bytes }
 

@@ -12,14 +12,17 @@ groups (suc k) n = if nat_lt n 128 then n ∷ [] else (n % 128 + 128) ∷ groups
 abbrev pub number_bytes : ℕ → List ℕ
 number_bytes n = groups 9 n
 
+-- 0 for none, else one more than the index
 abbrev pub optional_bytes : Option ℕ → List ℕ
 optional_bytes None = number_bytes 0
 optional_bytes (Some v) = number_bytes (v + 1)
 
+-- 0 for false, and 1 for true
 abbrev pub flag_bytes : Bool → List ℕ
 flag_bytes false = number_bytes 0
 flag_bytes true = number_bytes 1
 
+-- the number of the reason for which a clause is deleted
 abbrev pub deletion_bytes : Deletion → List ℕ
 deletion_bytes Redundant = number_bytes 0
 deletion_bytes Simplified = number_bytes 1
@@ -39,6 +42,7 @@ pairs_bytes (p ∷ ps) = (number_bytes p.0 ++ number_bytes p.1) ++ pairs_bytes p
 abbrev pub list_bytes : List ℕ → List ℕ
 list_bytes ns = number_bytes (length ns) ++ numbers_bytes ns
 
+-- a count, and then so many literals, each with a hash
 abbrev pub units_bytes : List (ℕ × ℕ) → List ℕ
 units_bytes ps = number_bytes (length ps) ++ pairs_bytes ps
 
@@ -58,5 +62,6 @@ fields_bytes (Assumptions assumptions) = list_bytes assumptions
 fields_bytes (FailedAssumptions core hashes) = list_bytes core ++ list_bytes hashes
 fields_bytes End = []
 
+-- a step's tag, and what stands behind it
 abbrev pub step_bytes : Step → List ℕ
 step_bytes step = tag_of step ∷ fields_bytes step

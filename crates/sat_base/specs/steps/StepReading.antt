@@ -25,6 +25,7 @@ reader_name s = s.reader.ghost_name
 abbrev pub step_in : {R : Type 0} → StepReader R Buffers → Step
 step_in s = step_with s.buffers.kind s.buffers.lists.literals.items s.buffers.lists.hashes.items s.buffers.lists.units.items
 
+-- whether the error stops a reader of steps: all do but the end of the bytes between steps
 abbrev pub is_stop : StepError → Bool
 is_stop errors.Ends = false
 is_stop errors.Cut = true
@@ -33,6 +34,7 @@ is_stop errors.Read = true
 is_stop errors.OutOfMemory = true
 is_stop errors.HasFailed = true
 
+-- whether the error says that an earlier answer stopped the reader
 abbrev pub is_repeat : StepError → Bool
 is_repeat errors.HasFailed = true
 is_repeat errors.Ends = false

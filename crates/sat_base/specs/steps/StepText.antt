@@ -5,6 +5,7 @@ use Rattle.sat_base.specs.values.Literals.{largest}
 use Rattle.sat_base.specs.steps.Numbers.{IsBelow}
 use Rattle.sat_base.specs.steps.Steps.{Deletion, Redundant, Simplified, Satisfied, Step, SolverVarName, UserVarName, DeleteVar, ChangeSamplingMode, AddClause, AtClause, UnitClauses, DeleteClause, ChangeHashBits, Model, Assumptions, FailedAssumptions, End}
 
+-- the index of a variable, within the limit
 abbrev pub IsVariable : Format ℕ
 IsVariable = IsBelow largest
 
@@ -13,12 +14,15 @@ abbrev pub IsOptionalVariable : Format (Option ℕ)
 IsOptionalVariable None bytes = IsBelow (largest + 1) 0 bytes
 IsOptionalVariable (Some v) bytes = IsBelow (largest + 1) (v + 1) bytes
 
+-- the code of a literal whose variable is within the limit
 abbrev pub IsLiteral : Format ℕ
 IsLiteral = IsBelow (2 * largest)
 
+-- a hash, of 64 bits at most
 abbrev pub IsHash : Format ℕ
 IsHash = IsBelow (2 ^ 64)
 
+-- 0 for false, and 1 for true
 abbrev pub IsFlag : Format Bool
 IsFlag false bytes = IsBelow 2 0 bytes
 IsFlag true bytes = IsBelow 2 1 bytes
@@ -27,6 +31,7 @@ IsFlag true bytes = IsBelow 2 1 bytes
 abbrev pub IsWidth : Format ℕ
 IsWidth = IsBelow 65
 
+-- the number of the reason for which a clause is deleted
 abbrev pub IsDeletion : Format Deletion
 IsDeletion Redundant bytes = IsBelow 3 0 bytes
 IsDeletion Simplified bytes = IsBelow 3 1 bytes
@@ -36,6 +41,7 @@ IsDeletion Satisfied bytes = IsBelow 3 2 bytes
 abbrev pub AreLiterals : Format (List ℕ)
 AreLiterals = ListOf (IsBelow (2 ^ 64)) IsLiteral
 
+-- so is that of hashes
 abbrev pub AreHashes : Format (List ℕ)
 AreHashes = ListOf (IsBelow (2 ^ 64)) IsHash
 
@@ -43,6 +49,7 @@ AreHashes = ListOf (IsBelow (2 ^ 64)) IsHash
 abbrev pub AreUnits : Format (List (ℕ × ℕ))
 AreUnits = ListOf (IsBelow (2 ^ 64)) (Both IsLiteral IsHash)
 
+-- the byte with which a step begins, which tells its kind
 abbrev pub tag_of : Step → ℕ
 tag_of (SolverVarName global solver) = 1
 tag_of (UserVarName global user) = 2
@@ -74,6 +81,7 @@ SpellsFields (Assumptions assumptions) bytes = AreLiterals assumptions bytes
 SpellsFields (FailedAssumptions core hashes) bytes = Both AreLiterals AreHashes (core, hashes) bytes
 SpellsFields End bytes = bytes ≡ []
 
+-- a step's tag, and then the bytes of its fields
 abbrev pub SpellsStep : Format Step
 SpellsStep step bytes = (fields : List ℕ) × (bytes ≡ tag_of step ∷ fields) × SpellsFields step fields
 

@@ -8,6 +8,7 @@ pub data Deletion : Type 0 where
   Simplified : Deletion
   Satisfied : Deletion
 
+-- one step of a proof: it tells of variables, of clauses and their hashes, or of an ask and its answer
 pub data Step : Type 0 where
   SolverVarName : ℕ → Option ℕ → Step  -- a variable, and its solver index or none
   UserVarName : ℕ → Option ℕ → Step  -- a variable, and the index of its name or none

@@ -2,10 +2,12 @@
 use Rattle.std.specs.Prelude.{◌≡◌, ℕ, ◌+◌, List, [], ◌∷◌, ◌++◌, Bool, false, Option, None, Some, if◌then◌else◌, codes}
 use Rattle.sat_base.specs.text.Text.{is_blank, lines, words, on_line, last_line, digits, same_bytes, Token, Header, Wrong, token, tokens_of, Scan}
 
+-- the first of these lines, empty where there is none
 abbrev pub first_line : List (List ℕ) → List ℕ
 first_line [] = []
 first_line (l ∷ ls) = l
 
+-- the lines behind the first
 abbrev pub later_lines : List (List ℕ) → List (List ℕ)
 later_lines [] = []
 later_lines (l ∷ ls) = ls
@@ -114,6 +116,7 @@ abbrev pub behind_LF : Spot → Spot
 behind_LF Over = Over
 behind_LF spot = Fresh (may_behind spot)
 
+-- how many lines have ended behind LF, of which n had before; none ends behind `%`
 abbrev pub lines_behind : Spot → ℕ → ℕ
 lines_behind Over n = n
 lines_behind spot n = n + 1

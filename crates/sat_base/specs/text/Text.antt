@@ -147,5 +147,6 @@ abbrev pub header_first : List (ℕ × Token) → Option (ℕ × ℕ)
 header_first [] = None
 header_first (t ∷ ts) = header_from t.1
 
+-- the two numbers of a text's header, where it has one
 abbrev pub header_of : List ℕ → Option (ℕ × ℕ)
 header_of text = header_first (scan text).tokens

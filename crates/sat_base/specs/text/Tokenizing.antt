@@ -23,6 +23,7 @@ held_token (Letter b) = code.Letter b
 held_token (Header v c) = code.Header (held v) (held c)
 held_token Wrong = code.Wrong
 
+-- the value with the digit of this byte behind it, held
 abbrev pub grown : ℕ → ℕ → ℕ
 grown value digit = held (10 * value + (digit - 48))
 
@@ -114,9 +115,11 @@ abbrev pub Given : Option CodeToken → (ℕ → List (ℕ × Token)) → Type 0
 Given None tokens = (n : ℕ) → tokens n ≡ []
 Given (Some t) tokens = (given : Token) × (t ≡ held_token given) × ((n : ℕ) → tokens n ≡ (n + 1, given) ∷ [])
 
+-- where the line ends at this place, the token in hand is this one, or there is none
 abbrev pub Says : Option CodeToken → Place → Type 0
 Says given place = (spot : Spot) → IsAt place spot → Given given (in_hand spot)
 
+-- where a blank inside a line comes at this place, it ends this token, or none
 abbrev pub SaysAtBlank : Option CodeToken → Place → Type 0
 SaysAtBlank given place = (spot : Spot) → IsAt place spot → Given given (ended_by_blank spot)
 
@@ -126,6 +129,7 @@ ended_stage (HeaderBetween s) = Some s
 ended_stage (HeaderWithin s x w) = stage_behind s (x ∷ w)
 ended_stage spot = None
 
+-- the words of a header line that have ended, as the code has them, or none in both
 abbrev pub IsStageIf : Option CodeStage → Option Stage → Type 0
 IsStageIf None given = given ≡ None
 IsStageIf (Some ended) given = (s : Stage) × IsStage ended s × (given ≡ Some s)
@@ -176,6 +180,7 @@ GivesBehind None bytes old new = (rest : List ℕ) → old (bytes ++ rest) ≡ n
 GivesBehind (Some t) bytes old new = (given : Token) × (t ≡ held_token given)
     × ((rest : List ℕ) → old (bytes ++ rest) ≡ onto (((new []).last, given) ∷ []) (new rest))
 
+-- what is still to be read behind these bytes is what the machine then stands before, as with one byte
 abbrev pub TakesFront : Tokenizer → List ℕ → Option CodeToken → Tokenizer → Type 0
 TakesFront old bytes given new = (before : List ℕ → Scan) → Stands old before
     → (after : List ℕ → Scan) × Stands new after × GivesBehind given bytes before after

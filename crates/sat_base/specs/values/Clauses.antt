@@ -7,6 +7,7 @@ use Rattle.sat_base.specs.values.Literals.{is_positive, variable}
 abbrev pub Valuation : Type 0
 Valuation = ℕ → Bool
 
+-- whether a literal is true in a valuation
 abbrev pub literal_true : Valuation → ℕ → Bool
 literal_true a l = if is_positive l then a (variable l) else not (a (variable l))
 
@@ -19,8 +20,10 @@ clause_true a (l ∷ ls) = literal_true a l || clause_true a ls
 abbrev pub flipped : ℕ → Valuation → Valuation
 flipped v a = λ x. if x == v then not (a x) else a x
 
+-- each of these literals is true in the valuation
 abbrev pub EachTrue : Valuation → List ℕ → Type 0
 EachTrue a = AllByRecursion (λ l. literal_true a l ≡ true)
 
+-- the valuation satisfies each of these clauses
 abbrev pub EachHolds : Valuation → List (List ℕ) → Type 0
 EachHolds a = AllByRecursion (λ c. clause_true a c ≡ true)

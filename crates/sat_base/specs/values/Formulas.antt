@@ -2,10 +2,12 @@
 use Rattle.std.specs.Prelude.{ℕ, ◌+◌, max, List, [], ◌∷◌, ◌++◌}
 use Rattle.sat_base.specs.values.Literals.{variable}
 
+-- clauses in the order of their adding, and the number of variables, which may be more than they have
 pub record Formula : Type 0 where
   pub var_count : ℕ
   pub clauses : List (List ℕ)
 
+-- the formula before its first clause and its first variable
 abbrev pub no_formula : Formula
 no_formula = record { var_count = 0; clauses = [] }
 

@@ -9,6 +9,7 @@ use Rattle.sat_base.specs.declared.table.Table.{Table}
 abbrev pub near_count : {T : Type 0} → Table T → ℕ
 near_count t = length t.near.items
 
+-- the value that is there, or else this one
 abbrev pub value_or : {T : Type 0} → Option T → T → T
 value_or (Some x) y = x
 value_or None y = y

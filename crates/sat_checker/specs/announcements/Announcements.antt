@@ -31,11 +31,13 @@ pub data Announcement : Type 0 where
   Assumptions : List ℕ → Announcement
   FailedAssumptions : List ℕ → List ℕ → Announcement  -- the core, propagations
 
+-- whether a variable of this mode is told as a sampling one
 abbrev pub is_sample : Mode → Bool
 is_sample Sample = true
 is_sample Witness = false
 is_sample Hide = false
 
+-- whether a variable of this mode is told as a witness
 abbrev pub is_witness : Mode → Bool
 is_witness Sample = false
 is_witness Witness = true
@@ -56,6 +58,7 @@ mode_change v sampling mode None = []
 mode_change v sampling mode (Some name) =
     if (if sampling then is_sample mode else is_witness mode) then [] else UserVar v (Some (record { name = name; sampling = sampling; is_new = false })) ∷ []
 
+-- the id of a clause that was found
 abbrev pub id_of : Option StoredClause → Option ℕ
 id_of None = None
 id_of (Some c) = Some c.id
@@ -71,6 +74,7 @@ abbrev pub input_set : ℕ → List ℕ → Option ℕ → List Announcement
 input_set id literals None = AddClause id literals ∷ []
 input_set id literals (Some same) = DuplicatedClause id same literals ∷ []
 
+-- an input clause, which may be a tautology
 abbrev pub input : List ℕ → Stored → List Announcement
 input clause f =
     let literals : List ℕ = canonical clause in if is_tautology clause then TautologicalClause f.next_id literals ∷ [] else input_set f.next_id literals (id_of_set literals f)
@@ -105,6 +109,7 @@ abbrev pub irredundant_deleted : List ℕ → Option StoredClause → List Annou
 irredundant_deleted ids None = []
 irredundant_deleted ids (Some c) = if c.irredundant == 1 then DeleteAtClause c.id (nat_lt 0 c.redundant) c.literals ids ∷ [] else []
 
+-- this id alone, or none
 abbrev pub one : Option ℕ → List ℕ
 one None = []
 one (Some id) = id ∷ []
@@ -140,6 +145,7 @@ abbrev pub delayed_by : ℕ → Option (ℕ × ℕ) → List Announcement
 delayed_by id None = []
 delayed_by id (Some units) = AtClause id false [] (units.0 ∷ units.1 ∷ []) ∷ []
 
+-- the empty clause of a unit conflict that is still pending
 abbrev pub delayed : Stored → List Announcement
 delayed f = delayed_by f.next_id f.conflict
 
@@ -148,6 +154,7 @@ pub record Told : Type 0 where
   pub announcement : Announcement
   pub variables : ℕ → Variable
 
+-- announcements, each with the variables of what is stored
 abbrev pub told_over : Stored → List Announcement → List Told
 told_over f = map (λ a. record { announcement = a; variables = f.variables })
 

@@ -40,9 +40,11 @@ named_by (hash ∷ hashes) f = filter (λ c. hash_by f.solver_names f.width c.li
 abbrev pub needed_units : List ℕ → Ground → List StoredUnit → List StoredUnit
 needed_units denied g = filter (λ u. is_among g.literals u.literal && not (is_among denied u.literal))
 
+-- the ids of the units needed, and then those of the clauses needed
 abbrev pub conflict_ids : List ℕ → Ground → List StoredUnit → List ℕ
 conflict_ids denied g units = map (λ u. u.id) (needed_units denied g units) ++ map (λ c. c.id) g.clauses
 
+-- this one, or the other where it's none
 abbrev pub or_else : {A : Type 0} → Option A → Option A → Option A
 or_else None y = y
 or_else (Some x) y = Some x
@@ -52,6 +54,7 @@ abbrev pub true_unit : List ℕ → List StoredUnit → Option ℕ
 true_unit [] units = None
 true_unit (l ∷ ls) units = or_else (unit_id l units) (true_unit ls units)
 
+-- the unit that is true in the clause alone, or these ids where there is none
 abbrev pub unit_alone : Option ℕ → List ℕ → List ℕ
 unit_alone (Some id) ids = id ∷ []
 unit_alone None ids = ids

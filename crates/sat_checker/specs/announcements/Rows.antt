@@ -9,6 +9,7 @@ use Rattle.sat_checker.specs.announcements.Announcements as tells
 use Rattle.sat_checker.specs.announcements.Transcripts.{Transcribed, transcripts}
 use Rattle.sat_checker.specs.announcements.Transcripts as transcript
 
+-- without the variables that can be looked up meanwhile
 abbrev pub announcements_of : List Told → List Announcement
 announcements_of = map (λ t. t.announcement)
 
@@ -20,6 +21,7 @@ told_by ss = announcements_of (told_after (behind ss []))
 abbrev pub all_told_by : List Step → List Announcement
 all_told_by ss = announcements_of (all_told_after (behind ss []))
 
+-- the transcript, once delayed ones were announced
 abbrev pub transcribed_by : List Step → List Transcribed
 transcribed_by ss = transcripts (all_told_after (behind ss []))
 
@@ -39,6 +41,7 @@ four_told = AddClause 0 (0 ∷ 2 ∷ []) ∷ AddClause 1 (0 ∷ 3 ∷ []) ∷ Ad
 abbrev pub RefutedTold : Type 0
 RefutedTold = told_by refuted ≡ four_told ++ AtClause 4 false (0 ∷ []) (0 ∷ 1 ∷ []) ∷ AtClause 5 false [] (4 ∷ 2 ∷ 3 ∷ []) ∷ []
 
+-- the same at width 0
 abbrev pub RefutedAtZeroTold : Type 0
 RefutedAtZeroTold = told_by (four_clauses ++ ChangeHashBits 0 ∷ steps.AtClause false (0 ∷ []) (0 ∷ []) ∷ steps.AtClause false [] (0 ∷ []) ∷ [])
     ≡ four_told ++ AtClause 4 false (0 ∷ []) (0 ∷ 1 ∷ []) ∷ AtClause 5 false [] (4 ∷ 2 ∷ 3 ∷ []) ∷ []
@@ -58,12 +61,15 @@ CollidingTold = told_by colliding
 abbrev pub contradicting : List Step
 contradicting = UserVarName 0 (Some 0) ∷ steps.AddClause (0 ∷ []) ∷ steps.AddClause (1 ∷ []) ∷ []
 
+-- the name, and the two clauses
 abbrev pub contradiction_told : List Announcement
 contradiction_told = UserVar 0 (Some (record { name = 0; sampling = true; is_new = true })) ∷ AddClause 0 (0 ∷ []) ∷ AddClause 1 (1 ∷ []) ∷ []
 
+-- the empty clause, by their two units
 abbrev pub empty_told : List Announcement
 empty_told = AtClause 2 false [] (0 ∷ 1 ∷ []) ∷ []
 
+-- it's announced before the next step, or once delayed ones are, and is read as unsat
 abbrev pub Contradiction : Type 0
 Contradiction = AllAccepted contradicting × (told_by contradicting ≡ contradiction_told) × (all_told_by contradicting ≡ contradiction_told ++ empty_told)
     × (told_by (contradicting ++ steps.Assumptions [] ∷ []) ≡ contradiction_told ++ empty_told ++ Assumptions [] ∷ [])
@@ -80,21 +86,27 @@ ConflictAndUnitTold = all_told_by conflict_and_unit
 abbrev pub InputNew : Type 0
 InputNew = LastTells [] (steps.AddClause (2 ∷ 0 ∷ 0 ∷ [])) (AddClause 0 (0 ∷ 2 ∷ []) ∷ [])
 
+-- stored before
 abbrev pub InputDuplicate : Type 0
 InputDuplicate = LastTells (steps.AddClause (0 ∷ 2 ∷ []) ∷ []) (steps.AddClause (2 ∷ 0 ∷ 0 ∷ [])) (DuplicatedClause 1 0 (0 ∷ 2 ∷ []) ∷ [])
 
+-- [1], and [1, 2] as redundant
 abbrev pub as_redundant : List Step
 as_redundant = steps.AddClause (0 ∷ []) ∷ steps.AtClause true (0 ∷ 2 ∷ []) [] ∷ []
 
+-- stored before as redundant alone
 abbrev pub InputRedundant : Type 0
 InputRedundant = LastTells as_redundant (steps.AddClause (0 ∷ 2 ∷ [])) (DuplicatedClause 2 1 (0 ∷ 2 ∷ []) ∷ [])
 
+-- a unit stored before
 abbrev pub InputUnitAgain : Type 0
 InputUnitAgain = LastTells (steps.AddClause (0 ∷ []) ∷ []) (steps.AddClause (0 ∷ 0 ∷ [])) (DuplicatedClause 1 0 (0 ∷ []) ∷ [])
 
+-- a tautology
 abbrev pub InputTautology : Type 0
 InputTautology = LastTells [] (steps.AddClause (2 ∷ 1 ∷ 0 ∷ [])) (TautologicalClause 0 (0 ∷ 1 ∷ 2 ∷ []) ∷ [])
 
+-- once unsat is recorded
 abbrev pub InputBehindUnsat : Type 0
 InputBehindUnsat = LastTells (steps.AddClause [] ∷ []) (steps.AddClause (0 ∷ 1 ∷ [])) []
 
@@ -102,18 +114,23 @@ InputBehindUnsat = LastTells (steps.AddClause [] ∷ []) (steps.AddClause (0 ∷
 abbrev pub DerivedNew : Type 0
 DerivedNew = LastTells (steps.AddClause (0 ∷ []) ∷ []) (steps.AtClause true (2 ∷ 0 ∷ []) []) (AtClause 1 true (0 ∷ 2 ∷ []) (0 ∷ []) ∷ [])
 
+-- as irredundant where it was redundant alone
 abbrev pub DerivedIrredundant : Type 0
 DerivedIrredundant = LastTells as_redundant (steps.AtClause false (2 ∷ 0 ∷ []) []) (MakeIrredundant 1 (0 ∷ 2 ∷ []) ∷ [])
 
+-- as redundant where it was redundant
 abbrev pub DerivedRedundantAgain : Type 0
 DerivedRedundantAgain = LastTells as_redundant (steps.AtClause true (2 ∷ 0 ∷ []) []) []
 
+-- as irredundant where it was irredundant
 abbrev pub DerivedIrredundantAgain : Type 0
 DerivedIrredundantAgain = LastTells (steps.AddClause (0 ∷ []) ∷ steps.AddClause (0 ∷ 2 ∷ []) ∷ []) (steps.AtClause false (0 ∷ 2 ∷ []) []) []
 
+-- a unit stored before
 abbrev pub DerivedUnitAgain : Type 0
 DerivedUnitAgain = LastTells (steps.AddClause (0 ∷ []) ∷ []) (steps.AtClause false (0 ∷ []) []) []
 
+-- a tautology
 abbrev pub DerivedTautology : Type 0
 DerivedTautology = LastTells [] (steps.AtClause false (0 ∷ 1 ∷ []) []) []
 
@@ -121,6 +138,7 @@ DerivedTautology = LastTells [] (steps.AtClause false (0 ∷ 1 ∷ []) []) []
 abbrev pub RedundantGone : Type 0
 RedundantGone = LastTells as_redundant (steps.DeleteClause (2 ∷ 0 ∷ []) Redundant) (DeleteClause 1 (0 ∷ 2 ∷ []) ∷ [])
 
+-- one beside an irredundant one
 abbrev pub RedundantStays : Type 0
 RedundantStays = LastTells (as_redundant ++ steps.AtClause false (0 ∷ 2 ∷ []) [] ∷ []) (steps.DeleteClause (0 ∷ 2 ∷ []) Redundant) []
 
@@ -128,9 +146,11 @@ RedundantStays = LastTells (as_redundant ++ steps.AtClause false (0 ∷ 2 ∷ []
 abbrev pub SatisfiedGone : Type 0
 SatisfiedGone = LastTells (steps.AddClause (2 ∷ []) ∷ steps.AddClause (0 ∷ []) ∷ steps.AddClause (2 ∷ 0 ∷ []) ∷ []) (steps.DeleteClause (2 ∷ 0 ∷ []) Satisfied) (DeleteAtClause 2 false (0 ∷ 2 ∷ []) (1 ∷ []) ∷ [])
 
+-- the last one, where a redundant one is left
 abbrev pub SatisfiedKept : Type 0
 SatisfiedKept = LastTells (as_redundant ++ steps.AtClause false (0 ∷ 2 ∷ []) [] ∷ []) (steps.DeleteClause (0 ∷ 2 ∷ []) Satisfied) (DeleteAtClause 1 true (0 ∷ 2 ∷ []) (0 ∷ []) ∷ [])
 
+-- the last one, where [1, 2] is the last irredundant clause stored
 abbrev pub SimplifiedGone : Type 0
 SimplifiedGone = LastTells (steps.AddClause (0 ∷ 2 ∷ 4 ∷ []) ∷ steps.AddClause (0 ∷ 2 ∷ []) ∷ []) (steps.DeleteClause (4 ∷ 2 ∷ 0 ∷ []) Simplified) (DeleteAtClause 0 false (0 ∷ 2 ∷ 4 ∷ []) (1 ∷ []) ∷ [])
 
@@ -139,6 +159,7 @@ abbrev pub SimplifiedByEmpty : Type 0
 SimplifiedByEmpty = LastTells (steps.AddClause (0 ∷ 2 ∷ []) ∷ steps.AddClause [] ∷ []) (steps.DeleteClause (2 ∷ 0 ∷ []) Simplified) (DeleteAtClause 0 false (0 ∷ 2 ∷ []) (1 ∷ []) ∷ [])
     × LastTells refuted (steps.DeleteClause (0 ∷ 3 ∷ []) Simplified) (DeleteAtClause 1 false (0 ∷ 3 ∷ []) (5 ∷ []) ∷ [])
 
+-- one of two
 abbrev pub SatisfiedStays : Type 0
 SatisfiedStays = LastTells (steps.AddClause (0 ∷ []) ∷ steps.AddClause (0 ∷ 2 ∷ []) ∷ steps.AddClause (0 ∷ 2 ∷ []) ∷ []) (steps.DeleteClause (0 ∷ 2 ∷ []) Satisfied) []
 
@@ -146,18 +167,23 @@ SatisfiedStays = LastTells (steps.AddClause (0 ∷ []) ∷ steps.AddClause (0 �
 abbrev pub NameNew : Type 0
 NameNew = LastTells [] (UserVarName 0 (Some 7)) (UserVar 0 (Some (record { name = 7; sampling = true; is_new = true })) ∷ [])
 
+-- 1 is known, and a witness variable without a name
 abbrev pub as_witness : List Step
 as_witness = steps.Assumptions (0 ∷ []) ∷ ChangeSamplingMode 0 false ∷ []
 
+-- 1 has a name
 abbrev pub named_seven : List Step
 named_seven = UserVarName 0 (Some 7) ∷ []
 
+-- of a known variable
 abbrev pub NameOfKnown : Type 0
 NameOfKnown = LastTells (as_witness) (UserVarName 0 (Some 7)) (UserVar 0 (Some (record { name = 7; sampling = false; is_new = false })) ∷ [])
 
+-- removed
 abbrev pub NameRemoved : Type 0
 NameRemoved = LastTells named_seven (UserVarName 0 None) (UserVar 0 None ∷ [])
 
+-- a solver's name
 abbrev pub SolverNameSet : Type 0
 SolverNameSet = LastTells [] (SolverVarName 0 (Some 7)) []
 
@@ -165,9 +191,11 @@ SolverNameSet = LastTells [] (SolverVarName 0 (Some 7)) []
 abbrev pub ModeChanged : Type 0
 ModeChanged = LastTells named_seven (ChangeSamplingMode 0 false) (UserVar 0 (Some (record { name = 7; sampling = false; is_new = false })) ∷ [])
 
+-- the same again
 abbrev pub ModeLeft : Type 0
 ModeLeft = LastTells named_seven (ChangeSamplingMode 0 true) []
 
+-- of a variable that has no name
 abbrev pub ModeOfNameless : Type 0
 ModeOfNameless = LastTells (steps.Assumptions (0 ∷ []) ∷ []) (ChangeSamplingMode 0 false) []
 
@@ -175,12 +203,15 @@ ModeOfNameless = LastTells (steps.Assumptions (0 ∷ []) ∷ []) (ChangeSampling
 abbrev pub Modelled : Type 0
 Modelled = LastTells (steps.AddClause (0 ∷ 2 ∷ []) ∷ []) (steps.Model (2 ∷ 1 ∷ [])) (Model (2 ∷ 1 ∷ []) ∷ [])
 
+-- assumptions, as the step has them
 abbrev pub Assumed : Type 0
 Assumed = LastTells [] (steps.Assumptions (2 ∷ 0 ∷ 2 ∷ [])) (Assumptions (2 ∷ 0 ∷ 2 ∷ []) ∷ [])
 
+-- a core, which rests on the clause that it falsifies
 abbrev pub CoreFailed : Type 0
 CoreFailed = LastTells (steps.AddClause (1 ∷ 3 ∷ []) ∷ steps.Assumptions (2 ∷ 0 ∷ []) ∷ []) (steps.FailedAssumptions (2 ∷ 0 ∷ 2 ∷ []) (hash_of (1 ∷ 3 ∷ []) ∷ [])) (FailedAssumptions (0 ∷ 2 ∷ []) (0 ∷ []) ∷ [])
 
+-- a core with both signs of a variable
 abbrev pub CoreOfBothSigns : Type 0
 CoreOfBothSigns = LastTells (steps.AddClause (1 ∷ []) ∷ steps.Assumptions (0 ∷ 1 ∷ []) ∷ []) (steps.FailedAssumptions (1 ∷ 0 ∷ []) []) (FailedAssumptions (0 ∷ 1 ∷ []) [] ∷ [])
 
@@ -212,12 +243,15 @@ UnitAlone = LastTells (steps.AddClause (2 ∷ []) ∷ steps.AddClause (0 ∷ [])
 abbrev pub NameNewRead : Type 0
 NameNewRead = LastReads [] (UserVarName 0 (Some 7)) []
 
+-- a known variable gets a name
 abbrev pub NameOfKnownRead : Type 0
 NameOfKnownRead = LastReads as_witness (UserVarName 0 (Some 7)) (transcript.ObserveInternalVar 7 ∷ [])
 
+-- a name is removed
 abbrev pub NameRemovedRead : Type 0
 NameRemovedRead = LastReads named_seven (UserVarName 0 None) (transcript.HideVar 7 ∷ [])
 
+-- a variable with a name becomes a witness, and then a sampling one
 abbrev pub ModesRead : Type 0
 ModesRead = LastReads named_seven (ChangeSamplingMode 0 false) (transcript.WitnessVar 7 ∷ [])
     × LastReads (named_seven ++ ChangeSamplingMode 0 false ∷ []) (ChangeSamplingMode 0 true) (transcript.SampleVar 7 ∷ [])
@@ -229,9 +263,11 @@ InputsRead = LastReads [] (steps.AddClause (2 ∷ 0 ∷ 0 ∷ [])) (transcript.A
     × LastReads [] (steps.AddClause (2 ∷ 1 ∷ 0 ∷ [])) (transcript.AddClause (0 ∷ 1 ∷ 2 ∷ []) ∷ [])
     × LastReads [] (steps.AddClause []) (transcript.AddClause [] ∷ [])
 
+-- the four clauses, and the empty one that is derived
 abbrev pub RefutedRead : Type 0
 RefutedRead = transcribed_by refuted ≡ transcript.AddClause (0 ∷ 2 ∷ []) ∷ transcript.AddClause (0 ∷ 3 ∷ []) ∷ transcript.AddClause (1 ∷ 2 ∷ []) ∷ transcript.AddClause (1 ∷ 3 ∷ []) ∷ transcript.Unsat ∷ []
 
+-- a clause that becomes irredundant, deleted ones, and a deleted variable
 abbrev pub OthersRead : Type 0
 OthersRead = LastReads as_redundant (steps.AtClause false (2 ∷ 0 ∷ []) []) [] × LastReads as_redundant (steps.DeleteClause (2 ∷ 0 ∷ []) Redundant) []
     × LastReads (as_redundant ++ steps.AtClause false (0 ∷ 2 ∷ []) [] ∷ []) (steps.DeleteClause (0 ∷ 2 ∷ []) Satisfied) []
@@ -241,6 +277,7 @@ OthersRead = LastReads as_redundant (steps.AtClause false (2 ∷ 0 ∷ []) []) [
 abbrev pub one_name : List Step
 one_name = UserVarName 0 (Some 7) ∷ steps.Assumptions (2 ∷ []) ∷ ChangeSamplingMode 1 false ∷ []
 
+-- a model, assumptions and a core in these names
 abbrev pub AnswersRead : Type 0
 AnswersRead = LastReads one_name (steps.Model (1 ∷ 3 ∷ 5 ∷ [])) (transcript.Model (15 ∷ 5 ∷ []) ∷ [])
     × LastReads one_name (steps.Assumptions (4 ∷ 2 ∷ 0 ∷ [])) (transcript.Assume (4 ∷ 14 ∷ []) ∷ [])

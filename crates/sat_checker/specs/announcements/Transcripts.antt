@@ -5,6 +5,7 @@ use Rattle.sat_checker.specs.Stored.{Mode, Variable}
 use Rattle.sat_checker.specs.announcements.Announcements.{UserVariable, Announcement, UserVar, DeleteVar, DuplicatedClause, TautologicalClause, AtClause, MakeIrredundant, DeleteClause, DeleteAtClause, DeleteRatClause, Assumptions, is_sample, Told}
 use Rattle.sat_checker.specs.announcements.Announcements as told
 
+-- a step of a transcript, over user's names
 pub data Transcribed : Type 0 where
   WitnessVar : ℕ → Transcribed
   SampleVar : ℕ → Transcribed
@@ -21,6 +22,7 @@ abbrev pub name_or_itself : ℕ → Mode → Option ℕ → Option ℕ
 name_or_itself v mode (Some name) = Some name
 name_or_itself v mode None = if is_sample mode then Some v else None
 
+-- the name by which a user knows a variable, if there is one
 abbrev pub user_from_proof_var : (ℕ → Variable) → ℕ → Option ℕ
 user_from_proof_var variables v = name_or_itself v (variables v).mode (variables v).name
 
@@ -66,6 +68,7 @@ transcript variables (told.Model ls) = Some (Model (in_user_names variables ls))
 transcript variables (Assumptions ls) = Some (Assume (in_user_names variables ls))
 transcript variables (told.FailedAssumptions core ids) = Some (FailedAssumptions (in_user_names variables core))
 
+-- in front of these, where the transcript says something
 abbrev pub with_transcript : Option Transcribed → List Transcribed → List Transcribed
 with_transcript None ts = ts
 with_transcript (Some t) ts = t ∷ ts

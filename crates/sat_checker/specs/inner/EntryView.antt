@@ -4,6 +4,7 @@ use Rattle.sat_checker.specs.inner.Marks.{IsIncreasing}
 use Rattle.sat_checker.specs.inner.SlotView.{lits_in, LitsWithin, Slot}
 use Rattle.sat_checker.specs.declared.store.slots.Entry.{Entry}
 
+-- the slot that an entry is, its literals being inline or in the buffer
 abbrev pub slot_of : List ℕ → Entry → Slot
 slot_of buffer e = record { clause = record { id = e.id; literals = lits_in buffer e.lits; irredundant = e.irredundant; redundant = e.redundant }; hash = e.hash.hash }
 

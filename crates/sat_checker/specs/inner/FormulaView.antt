@@ -25,15 +25,18 @@ pub record Standing : Type 0 where
   pub ended : Bool
   pub var_deleted : Bool
 
+-- those records of what is stored
 abbrev pub standing_of : Stored → Standing
 standing_of f = record { unsat = f.unsat; conflict = f.conflict; last = f.last; next_id = f.next_id; ended = f.ended; var_deleted = f.var_deleted }
 
+-- the last irredundant clause stored, as the code has it
 abbrev pub last_in : LastClause → Last
 last_in code.NoneYet = NoneYet
 last_in (code.Empty id) = Empty id
 last_in (code.Single id l) = UnitClause id
 last_in (code.Long id) = LongClause id
 
+-- those records as the code has them
 abbrev pub standing_in : Status → Standing
 standing_in s = record { unsat = s.unsat; conflict = s.conflict; last = last_in s.last; next_id = s.next_id; ended = s.ended; var_deleted = s.var_deleted }
 
@@ -61,6 +64,7 @@ pub record KeepsParts (formula : Formula) (kept : List StoredClause) (solver_nam
   pub status : standing_in formula.status ≡ standing
   pub numbered : AreNumbered (slot_ids formula.store.clauses) stored formula.status.last standing.next_id
 
+-- it has what is stored, but for the variables and what is assumed
 abbrev pub KeepsFormula : Formula → Stored → Type 0
 KeepsFormula formula f = KeepsParts formula f.clauses f.solver_names f.width f.units (standing_of f)
 

@@ -5,6 +5,7 @@ use Rattle.sat_checker.specs.inner.PairView.{Indexed, AreInOrder, places_in, mix
 use Rattle.sat_checker.specs.inner.SlotView.{Slot, is_gone, places_of}
 use Rattle.sat_checker.specs.declared.store.links.Pair.{Pair}
 
+-- places without this one
 abbrev pub without_place : ℕ → List ℕ → List ℕ
 without_place place = filter (λ p. not (p == place))
 
@@ -13,6 +14,7 @@ abbrev pub pairs_from : ℕ → List Slot → List Pair
 pairs_from place [] = []
 pairs_from place (s ∷ ss) = if is_gone s then pairs_from (place + 1) ss else (record { hash = mixed s.hash; place = place }) ∷ pairs_from (place + 1) ss
 
+-- the pairs of all clauses that aren't gone, from the first place on
 abbrev pub pairs_of : List Slot → List Pair
 pairs_of slots = pairs_from 0 slots
 

@@ -9,9 +9,11 @@ use Rattle.sat_checker.specs.declared.store.links.Link.{Link}
 abbrev pub nowhere : ℕ
 nowhere = 4294967295
 
+-- the hash that stands at a place, and the place behind it
 abbrev pub link_at : List Link → ℕ → Link
 link_at links at = slice_index_or links at (record { hash = 0; next = 0 })
 
+-- the pair that stands at a place
 abbrev pub pair_at : List Link → ℕ → Pair
 pair_at links at = record { hash = (link_at links at).hash; place = at }
 
@@ -29,6 +31,7 @@ pub record IsAt (links : List Link) (at : ℕ) (p : Pair) : Type 0 where
   pub inside : at < length links
   pub is : p ≡ pair_at links at
 
+-- from a place over these pairs, and then to no place
 abbrev pub Leads : List Link → ℕ → List Pair → Type 0
 Leads links at [] = at ≡ nowhere
 Leads links at (p ∷ ps) = IsAt links at p × Leads links (link_at links at).next ps
@@ -42,9 +45,11 @@ joined parts (suc n) = joined parts n ++ parts n
 abbrev pub top_of : ℕ → ℕ → ℕ → ℕ
 top_of shift count hash = min (hash / 2 ^ shift) (count - 1)
 
+-- the place of the first pair of a top
 abbrev pub head_at : List ℕ → ℕ → ℕ
 head_at heads top = slice_index_or heads top 0
 
+-- the pairs of a top, from its head on
 abbrev pub part_at : List ℕ → List Link → ℕ → List Pair
 part_at heads links top = rest links (head_at heads top)
 

@@ -16,6 +16,7 @@ abbrev pub times_stored : ℕ → List Slot → ℕ
 times_stored l [] = 0
 times_stored l (s ∷ ss) = (if is_gone s then 0 else times_in l s.clause.literals) + times_stored l ss
 
+-- the count that is kept of a literal, 0 where there is none
 abbrev pub count_at : Occurrences → ℕ → ℕ
 count_at kept l = value_at 0 kept.counts l
 

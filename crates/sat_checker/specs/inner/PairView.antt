@@ -12,10 +12,12 @@ pub record IsBefore (p q : Pair) : Type 0 where
   pub hash : p.hash ≤ q.hash
   pub place : p.hash ≡ q.hash → p.place < q.place
 
+-- each pair stands before all later ones
 abbrev pub AreInOrder : List Pair → Type 0
 AreInOrder [] = Unit {0}
 AreInOrder (p ∷ ps) = AllByRecursion (IsBefore p) ps × AreInOrder ps
 
+-- does a pair stand before another, by hashes and those of one hash by places?
 abbrev pub is_before : Pair → Pair → Bool
 is_before p q = nat_lt p.hash q.hash || (p.hash == q.hash && nat_lt p.place q.place)
 
@@ -24,6 +26,7 @@ abbrev pub inserted : Pair → List Pair → List Pair
 inserted p [] = p ∷ []
 inserted p (q ∷ qs) = if is_before p q then p ∷ q ∷ qs else q ∷ inserted p qs
 
+-- without the pair of this place
 abbrev pub without_pair : ℕ → List Pair → List Pair
 without_pair place = filter (λ p. not (p.place == place))
 
@@ -31,6 +34,7 @@ without_pair place = filter (λ p. not (p.place == place))
 abbrev pub places_in : ℕ → List Pair → List ℕ
 places_in hash pairs = map (λ p. p.place) (filter (λ p. p.hash == hash) pairs)
 
+-- the first of these places, if there is one
 abbrev pub first_of : List ℕ → Option ℕ
 first_of [] = None
 first_of (p ∷ ps) = Some p

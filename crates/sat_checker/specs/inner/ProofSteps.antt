@@ -47,6 +47,7 @@ pub record Turn (L : Type 0) : Type 0 where
   pub checker : Seen L
   pub source : Source
 
+-- this checker, and this source of its steps
 abbrev pub turn : {L : Type 0} → Seen L → Source → Turn L
 turn c s = record { checker = c; source = s }
 
@@ -98,5 +99,6 @@ module _ {L : Type 0} (Hears : L → Told → Result Unit ProcessingError → L 
     pub looks : looks_of b.checker ≤ looks_of a.checker + most_looks_behind passed earlier
 
 module _ {L : Type 0} (Hears : L → Told → Result Unit ProcessingError → L → Type 0) where
+  -- the answer to the next step means so, whatever was accepted and told before
   abbrev pub TurnsOn : Result Bool CheckerError → Turn L → Turn L → Type 0
   TurnsOn result a b = (before : List Told) (begun : L) (earlier : List Step) → Stands Hears before begun a.checker earlier → StepsOn Hears before begun result a b earlier

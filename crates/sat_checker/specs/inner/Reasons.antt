@@ -14,6 +14,7 @@ use Rattle.sat_checker.specs.declared.rup.passed.Reason as noted
 use Rattle.sat_checker.specs.declared.rup.Walked.{Walked}
 use Rattle.sat_checker.specs.declared.rup.Walked.TheVariants.{Empty, Conflict, Open}
 
+-- the clause at a place
 abbrev pub clause_at : List Slot → ℕ → StoredClause
 clause_at slots place = (slot_at slots place).clause
 
@@ -26,6 +27,7 @@ abbrev pub named : List ℕ → List Slot → List StoredClause
 named [] slots = []
 named (hash ∷ hashes) slots = filed hash slots ++ named hashes slots
 
+-- a note of a place and a literal, as the clause there that made the literal true
 abbrev pub reason_in : List Slot → noted.Reason → Reason
 reason_in slots r = record { clause = clause_at slots r.place; literal = r.lit }
 
@@ -52,6 +54,7 @@ abbrev pub conflict_length : List Slot → Option ℕ → ℕ
 conflict_length slots None = 0
 conflict_length slots (Some place) = length (literals_at slots place)
 
+-- the same with those of the clauses that made a literal true
 abbrev pub noted_length : List Slot → Passed → ℕ
 noted_length slots passed = total_length (map (λ r. literals_at slots r.place) passed.reasons.items) + conflict_length slots passed.conflict
 

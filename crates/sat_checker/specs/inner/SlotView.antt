@@ -21,30 +21,39 @@ pub record Slot : Type 0 where
   pub clause : StoredClause
   pub hash : ℕ
 
+-- the slot of a clause with these counts
 abbrev pub slot_with : ℕ → ℕ → ℕ → ℕ → List ℕ → Slot
 slot_with id irredundant redundant hash literals = record { clause = record { id = id; literals = literals; irredundant = irredundant; redundant = redundant }; hash = hash }
 
+-- the slot of a clause that is gone
 abbrev pub unstored : ℕ → ℕ → List ℕ → Slot
 unstored id hash literals = slot_with id 0 0 hash literals
 
+-- the slot at a place, one that is gone and has no literals where there is none
 abbrev pub slot_at : List Slot → ℕ → Slot
 slot_at slots place = slice_index_or slots place (unstored 0 0 [])
 
+-- the literals of the clause at a place, also where it's gone
 abbrev pub literals_at : List Slot → ℕ → List ℕ
 literals_at slots place = (slot_at slots place).clause.literals
 
+-- the literals of each clause, by place, also where it's gone
 abbrev pub all_lits : List Slot → List (List ℕ)
 all_lits = map (λ s. s.clause.literals)
 
+-- how often a clause stands as redundant (true) or as irredundant
 abbrev pub count_of : Bool → Slot → ℕ
 count_of redundant s = if redundant then s.clause.redundant else s.clause.irredundant
 
+-- one count more of the clause at a place
 abbrev pub with_count_at : Bool → ℕ → List Slot → List Slot
 with_count_at redundant place slots = slice_set slots place (record (slot_at slots place) { clause = with_count redundant (slot_at slots place).clause })
 
+-- one count less of the clause at a place, which may be gone then
 abbrev pub without_count_at : Bool → ℕ → List Slot → List Slot
 without_count_at redundant place slots = slice_set slots place (record (slot_at slots place) { clause = without_count redundant (slot_at slots place).clause })
 
+-- the clause at a place has this hash
 abbrev pub with_hash_at : ℕ → ℕ → List Slot → List Slot
 with_hash_at hash place slots = slice_set slots place (record (slot_at slots place) { hash = hash })
 
@@ -57,6 +66,7 @@ abbrev pub live : List Slot → List StoredClause
 live [] = []
 live (s ∷ ss) = unless_gone s.clause ++ live ss
 
+-- whether a clause has no count
 abbrev pub is_gone : Slot → Bool
 is_gone s = s.clause.irredundant == 0 && s.clause.redundant == 0
 
@@ -91,6 +101,7 @@ is_filed hash s = not (is_gone s) && s.hash == hash
 abbrev pub bucket_in : ℕ → List Slot → List (List ℕ)
 bucket_in hash slots = all_lits (filter (is_filed hash) slots)
 
+-- the same, as a function of the hash
 abbrev pub bucket_of : List Slot → ℕ → List (List ℕ)
 bucket_of slots hash = bucket_in hash slots
 
@@ -103,6 +114,7 @@ abbrev pub places_from : ℕ → ℕ → List Slot → List ℕ
 places_from place hash [] = []
 places_from place hash (s ∷ ss) = if is_filed hash s then place ∷ places_from (place + 1) hash ss else places_from (place + 1) hash ss
 
+-- the places of a hash
 abbrev pub places_of : ℕ → List Slot → List ℕ
 places_of hash slots = places_from 0 hash slots
 
@@ -118,6 +130,7 @@ found_among slots literals = find (is_same_at slots literals)
 abbrev pub hashed_by : (ℕ → Option ℕ) → ℕ → Slot → Slot
 hashed_by names width s = if is_gone s then s else record s { hash = hash_by names width s.clause.literals }
 
+-- each with the hash by these names and of this width, unless it's gone
 abbrev pub all_hashed_by : (ℕ → Option ℕ) → ℕ → List Slot → List Slot
 all_hashed_by names width = map (hashed_by names width)
 

@@ -22,6 +22,7 @@ pub record KeepsHashed (store : Store) (kept : List StoredClause) (solver_names 
   pub names : (v : ℕ) → solver_name_of store.hasher v ≡ solver_names v
   pub width : width_of store.hasher ≡ bits
 
+-- it has the stored clauses, under the hashes by which steps name them
 abbrev pub KeepsClauses : Store → Stored → Type 0
 KeepsClauses store f = KeepsHashed store f.clauses f.solver_names f.width
 
@@ -29,6 +30,7 @@ KeepsClauses store f = KeepsHashed store f.clauses f.solver_names f.width
 abbrev pub refiled : Store → Store
 refiled store = record store { clauses = (if store.stale then hashed_anew store.hasher store.clauses else store.clauses); stale = false }
 
+-- the redundant (true) or the irredundant count of a clause, 0 where it isn't stored
 abbrev pub count_in : Bool → Option StoredClause → ℕ
 count_in redundant c = if redundant then redundant_count c else irredundant_count c
 

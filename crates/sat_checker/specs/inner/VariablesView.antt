@@ -13,23 +13,29 @@ use Rattle.sat_checker.specs.declared.variables.SamplingMode.TheVariants as code
 use Rattle.sat_checker.specs.declared.variables.VarData.{VarData}
 use Rattle.sat_checker.specs.declared.variables.Variables.{Variables}
 
+-- a mode as the code has it
 abbrev pub mode_in : SamplingMode → Mode
 mode_in code.Sample = stored.Sample
 mode_in code.Witness = stored.Witness
 mode_in code.Hide = stored.Hide
 
+-- a variable as the code has it
 abbrev pub variable_of : VarData → Variable
 variable_of d = record { known = d.known; mode = mode_in d.mode; name = d.name }
 
+-- of a variable that no step has made known
 abbrev pub unknown_data : VarData
 unknown_data = record { known = stored.unknown.known; mode = code.Sample; name = None }
 
+-- what is kept of a variable, an unknown one where nothing is
 abbrev pub variable_at : Variables → ℕ → Variable
 variable_at vs v = variable_of (value_at unknown_data vs.data v)
 
+-- the variable that has this name, if one has
 abbrev pub holder_at : Variables → ℕ → Option ℕ
 holder_at vs name = value_at None vs.holders name
 
+-- made known where it's asked
 abbrev pub known_if : Bool → Variable → Variable
 known_if b x = if b then record x { known = true } else x
 

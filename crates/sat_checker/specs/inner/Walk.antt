@@ -10,14 +10,17 @@ walk_on falsified assumed = None
 walk_on (opens l) assumed = Some (l ∷ assumed)
 walk_on rests assumed = Some assumed
 
+-- the walk goes on where no clause was falsified
 abbrev pub and_then : Option (List ℕ) → (List ℕ → Option (List ℕ)) → Option (List ℕ)
 and_then None next = None
 and_then (Some assumed) next = next assumed
 
+-- what is assumed behind these clauses. None: one of them was falsified.
 abbrev pub walk : List ℕ → List (List ℕ) → Option (List ℕ)
 walk assumed [] = Some assumed
 walk assumed (c ∷ cs) = and_then (walk_on (verdict assumed c) assumed) (λ more. walk more cs)
 
+-- a conflict was met, or it goes on
 abbrev pub if_conflict : Option (List ℕ) → (List ℕ → Bool) → Bool
 if_conflict None next = true
 if_conflict (Some assumed) next = next assumed

@@ -13,10 +13,12 @@ use Rattle.sat_checker.specs.declared.announce.announcement.CheckedProofStep.The
 use Rattle.sat_checker.specs.declared.announce.announcement.CheckerData.{CheckerData}
 use Rattle.sat_checker.specs.declared.announce.announcement.Was.{Was}
 
+-- whether the mode that the code tells is sample; the other is witness
 abbrev pub is_sampling : CheckedSamplingMode → Bool
 is_sampling modes.Sample = true
 is_sampling modes.Witness = false
 
+-- what is told of a variable that has a name, as the code has it
 abbrev pub user_of : CheckedUserVar → UserVariable
 user_of u = record { name = u.user_var; sampling = is_sampling u.sampling_mode; is_new = u.new_var }
 

@@ -45,6 +45,7 @@ pub record Hearers (V L : Type 0) : Type 0 where
   pub own : V
   pub others : L
 
+-- this one first, and then these
 abbrev pub hearers : {V L : Type 0} → V → L → Hearers V L
 hearers own others = record { own = own; others = others }
 

@@ -10,6 +10,7 @@ use Rattle.sat_checker.specs.declared.error.CheckerError.TheVariants as errors
 use Rattle.sat_checker.specs.declared.processing.Processing.{Processing}
 use Rattle.sat_checker.specs.declared.processing.ProcessingError.{ProcessingError}
 
+-- the processors and the transcripts that were added, as the code has them
 abbrev pub listeners_of : {P T : Type 0} → Processing P T → Listeners P T
 listeners_of p = record { processors = p.processors.items; transcripts = p.transcripts.items }
 

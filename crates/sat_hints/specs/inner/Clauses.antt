@@ -13,6 +13,7 @@ listed id (i ∷ is) [] gs = None
 listed id (i ∷ is) (c ∷ cs) [] = None
 listed id (i ∷ is) (c ∷ cs) (g ∷ gs) = if id == i then (if g then None else Some c) else listed id is cs gs
 
+-- the clause that is kept under an id, none where it is gone
 abbrev pub clause_in : Present → ℕ → Option (List ℕ)
 clause_in p id = listed id p.ids.items p.clauses p.gone.items
 
@@ -30,6 +31,7 @@ times_kept l [] gs = 0
 times_kept l (c ∷ cs) [] = 0
 times_kept l (c ∷ cs) (g ∷ gs) = (if g then 0 else times_long l c) + times_kept l cs gs
 
+-- how often a literal stands in those that are kept
 abbrev pub times_at : Present → ℕ → ℕ
 times_at p l = times_kept l p.clauses p.gone.items
 

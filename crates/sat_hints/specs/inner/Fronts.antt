@@ -57,6 +57,7 @@ IsLeft (Item part) bytes = IsPart part bytes
 IsLeft (Digits part number) bytes = Numbered (limit_of part) (IsPart (next_of part)) number bytes
 IsLeft Over bytes = bytes ≡ codes "\n"
 
+-- so where there is such a place
 abbrev pub IsLeftIf : Option Place → List ℕ → Type 0
 IsLeftIf None bytes = ⊥
 IsLeftIf (Some place) bytes = IsLeft place bytes

@@ -46,6 +46,7 @@ abbrev pub GoesOn : Option HintWhy → Checking → List ℕ → Type 0
 GoesOn None c text = HasRead c text
 GoesOn (Some why) c text = HasFault c text why
 
+-- the judge can go on, unless there is a fault
 abbrev pub IsReadyIf : Option HintWhy → Judge → Type 0
 IsReadyIf None judge = IsReady judge
 IsReadyIf (Some why) judge = Unit {0}

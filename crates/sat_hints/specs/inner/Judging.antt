@@ -59,6 +59,7 @@ pub record HasTakenOne (old new : Judge) (lines : List Line) (line : Line) : Typ
   pub says_empty : new.empty ≡ derives_empty (line ∷ lines)
   pub counts_cores : new.cores ≡ held (count_of_cores (line ∷ lines))
 
+-- one line was taken, but not numbered, or is at fault for this reason
 abbrev pub TakesOne : Option HintWhy → Judge → Judge → Line → Type 0
 TakesOne None old new line = IsReady new × (new.lines ≡ old.lines) × ((lines : List Line) → HasTaken old lines → HasTakenOne old new lines line)
 TakesOne (Some why) old new line = (new.lines ≡ old.lines) × ((lines : List Line) → HasTaken old lines → IsFaultOf lines line why)

@@ -12,12 +12,15 @@ use Rattle.sat_hints.specs.declared.reading.Head.TheVariants as head
 abbrev pub IsNumber : ℕ → ℕ → Type 0
 IsNumber limit n = (1 ≤ n) × (n ≤ limit)
 
+-- an id is below 2^64-1, so that its number is below 2^64
 abbrev pub IsId : ℕ → Type 0
 IsId id = id < 2 ^ 64 - 1
 
+-- a variable is its index
 abbrev pub IsVariable : ℕ → Type 0
 IsVariable v = v < largest
 
+-- a literal is its code
 abbrev pub IsLiteral : ℕ → Type 0
 IsLiteral l = l < 2 * largest
 

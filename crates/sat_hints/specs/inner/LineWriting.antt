@@ -10,6 +10,7 @@ pub record Outlet : Type 0 where
   pub sink : Sink
   pub failed : Bool
 
+-- a writer of lines, its bytes that wait being the first of its buffer
 abbrev pub outlet : {W : Type 0} → (W → Writer) → LineWriter W → Outlet
 outlet seen w = record { sink = record { writer = seen w.writer; waiting = take w.len w.bytes }; failed = w.failed }
 
@@ -27,5 +28,6 @@ PutFrom false text old new = PutBy new.failed text old.sink new.sink
 abbrev pub both_words : List ℕ → List ℕ → List ℕ
 both_words literals ids = literal_words literals ++ (codes "0 " ++ (id_words ids ++ codes "0\n"))
 
+-- a text was put behind what waited, unless a write had failed before
 abbrev pub Put : List ℕ → Outlet → Outlet → Type 0
 Put text old new = PutFrom old.failed text old new

@@ -43,6 +43,7 @@ pub record SentFront (old new : Outlet) (text : List ℕ) : Type 0 where
 abbrev pub BrokenBehind : Outlet → Outlet → Step → List Step → Type 0
 BrokenBehind old new step steps = Broken old.sink new.sink (hint_text steps) ⊎ (Accepts (ready_after steps) step × Broken old.sink new.sink (hint_text (step ∷ steps)))
 
+-- what an answer to a certificate means, whose lines are put behind the bytes that wait
 abbrev pub WritesLines : Result (Unit {0}) HintError → Reader → Reader → Outlet → Outlet → Type 0
 WritesLines (Ok x) from to old new = (passed : List Step) × (rest : List ℕ) × IsAccepted from to passed rest
     × Judges (hint_verdict (End ∷ taken_after passed [])) (hint_text (End ∷ taken_after passed []))

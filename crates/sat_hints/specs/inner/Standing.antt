@@ -16,10 +16,12 @@ is_stale since id [] = false
 is_stale since id (l ∷ []) = nat_lt id (value_at 0 since (variable l))
 is_stale since id (l ∷ m ∷ ls) = false
 
+-- but for a unit that is stale
 abbrev pub unless_stale : Table ℕ → ℕ → Option (List ℕ) → Option (List ℕ)
 unless_stale since id None = None
 unless_stale since id (Some c) = if is_stale since id c then None else Some c
 
+-- the clause under an id: none where it is gone, or a unit that is stale
 abbrev pub clause_of : Standing → ℕ → Option (List ℕ)
 clause_of s id = unless_stale s.since id (clause_in s.present id)
 

@@ -13,6 +13,7 @@ abbrev pub text_if : Option Line → List ℕ
 text_if None = []
 text_if (Some line) = line_text line
 
+-- the text of the line that an announcement has, if any
 abbrev pub told_text : Told → List ℕ
 told_text t = text_if (line_told t.announcement)
 

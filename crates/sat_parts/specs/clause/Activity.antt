@@ -26,6 +26,7 @@ pub record Scale : Type 0 where
   pub bump : ℕ
   pub decay : ℕ
 
+-- the scale on which clauses are bumped at first
 abbrev pub first_scale : Scale
 first_scale = record { bump = 1024; decay = 999 }
 
@@ -37,6 +38,7 @@ rescaled bump = max (bump / 2 ^ 16) 1
 abbrev pub later_bump : Scale → ℕ
 later_bump s = quotient_up (s.bump * 1000) s.decay
 
+-- the header with this activity
 abbrev pub with_activity : Header → ℕ → Header
 with_activity h a = record h { activity = a }
 
@@ -52,6 +54,7 @@ raised words o bump = min ((header_at words o).activity + bump) (2 ^ 32 - 1)
 abbrev pub StaysBelow : List ℕ → ℕ → Scale → Type 0
 StaysBelow words o s = raised words o s.bump < 2 ^ 30
 
+-- a bump of the clause at o comes to 2^30 or past it
 abbrev pub ComesTo : List ℕ → ℕ → Scale → Type 0
 ComesTo words o s = 2 ^ 30 ≤ raised words o s.bump
 

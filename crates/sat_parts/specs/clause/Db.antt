@@ -16,6 +16,7 @@ pub record Db : Type 0 where
   pub counts : List ℕ
   pub garbage : ℕ
 
+-- the list before the first long clause, with a number for each of four tiers
 abbrev pub no_clauses : Db
 no_clauses = record { refs = []; counts = 0 ∷ 0 ∷ 0 ∷ 0 ∷ []; garbage = 0 }
 
@@ -58,6 +59,7 @@ pub record HoldsDb (words : List ℕ) (db : Db) : Type 0 where
 abbrev pub one_more : Tier → List ℕ → List ℕ
 one_more tier counts = set counts (index_of tier) (get_or counts (index_of tier) 0 + 1)
 
+-- the numbers by tier with one clause of this tier less
 abbrev pub one_less : Tier → List ℕ → List ℕ
 one_less tier counts = set counts (index_of tier) (get_or counts (index_of tier) 0 - 1)
 

@@ -13,6 +13,7 @@ use Rattle.sat_parts.specs.declared.parts.assumptions.Assumptions.{Assumptions}
 use Rattle.sat_parts.specs.declared.parts.assumptions.Assumed.{Assumed}
 use Rattle.sat_parts.specs.declared.parts.assumptions.Assumed.TheVariants.{All, Next, Failed}
 
+-- the variables of these literals, in order
 abbrev pub variables : List ℕ → List ℕ
 variables ls = map (λ l. variable l) ls
 
@@ -31,6 +32,7 @@ pub record IsPlaced (ls below : List ℕ) (place : ℕ) (s : State) : Type 0 whe
   pub begun : (j : ℕ) → j < length below → Contains ls (lit_at s (get_or s.trail.starts j 0))
   pub all : length below < length s.trail.starts → place ≡ length ls
 
+-- what the assumptions say of how far they were looked at is so in this state
 abbrev pub ArePlaced : Assumptions → State → Type 0
 ArePlaced a s = IsPlaced a.lits.items a.below.items a.place s
 

@@ -23,6 +23,7 @@ kept_by (Some true) l ls rest = l ∷ ls
 kept_by (Some false) l ls rest = rest
 kept_by None l ls rest = l ∷ rest
 
+-- a clause without its false literals in front of the first true one
 abbrev pub without_false : List (Option Bool) → List ℕ → List ℕ
 without_false values [] = []
 without_false values (l ∷ ls) = kept_by (lit_value values l) l ls (without_false values ls)
@@ -33,6 +34,7 @@ false_by (Some true) l rest = []
 false_by (Some false) l rest = l ∷ rest
 false_by None l rest = rest
 
+-- the false literals of a clause in front of its first true one
 abbrev pub false_front : List (Option Bool) → List ℕ → List ℕ
 false_front values [] = []
 false_front values (l ∷ ls) = false_by (lit_value values l) l (false_front values ls)
@@ -46,6 +48,7 @@ abbrev pub left_without : Bool → List (Option Bool) → List ℕ → List ℕ
 left_without true values ls = ls
 left_without false values ls = without_false values ls
 
+-- of what is left the false literals that go last; none once a true one was found
 abbrev pub left_false : Bool → List (Option Bool) → List ℕ → List ℕ
 left_false true values ls = []
 left_false false values ls = false_front values ls

@@ -16,6 +16,7 @@ pub record Marks (old new : List Bool) (P : ℕ → Type 0) : Type 0 where
 abbrev pub IsAmong : List ℕ → (n v : ℕ) → Type 0
 IsAmong ls n v = (k : ℕ) × ((k < n) × (variable (get_or ls k 0) ≡ v))
 
+-- one of the first n literals of the clause at o is of the variable
 abbrev pub HasVar : List ℕ → (o n v : ℕ) → Type 0
 HasVar words o n v = (k : ℕ) × ((k < n) × (variable (lit_of words o k) ≡ v))
 

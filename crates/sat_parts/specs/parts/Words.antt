@@ -59,6 +59,7 @@ WordRises assumed s q s' q' =
 abbrev pub Words : List ℕ → Parts → List Letter → Type 0
 Words assumed p w = IsWord assumed (state p) p.vsids w
 
+-- where these are assumed, each word of the trail goes on to one that it begins
 abbrev pub TrailWordExtendsFor : List ℕ → Parts → Parts → Type 0
 TrailWordExtendsFor assumed p p' = WordExtends assumed (state p) p.vsids (state p') p'.vsids
 
@@ -66,11 +67,14 @@ TrailWordExtendsFor assumed p p' = WordExtends assumed (state p) p.vsids (state 
 abbrev pub TrailWordStays : Parts → Parts → Type 0
 TrailWordStays p p' = (assumed : List ℕ) → GoesOn assumed (state p) p.vsids (state p') p'.vsids
 
+-- whatever is assumed, each word of the trail goes on to one that it begins
 abbrev pub TrailWordExtends : Parts → Parts → Type 0
 TrailWordExtends p p' = (assumed : List ℕ) → TrailWordExtendsFor assumed p p'
 
+-- where these are assumed, each word of the trail goes on to a higher one
 abbrev pub TrailWordRisesFor : List ℕ → Parts → Parts → Type 0
 TrailWordRisesFor assumed p p' = WordRises assumed (state p) p.vsids (state p') p'.vsids
 
+-- whatever is assumed, each word of the trail goes on to a higher one
 abbrev pub TrailWordRises : Parts → Parts → Type 0
 TrailWordRises p p' = (assumed : List ℕ) → TrailWordRisesFor assumed p p'

@@ -5,6 +5,7 @@ use Rattle.sat_parts.specs.declared.prop.graph.ImplNode.{ImplNode}
 use Rattle.sat_parts.specs.declared.prop.graph.Reason.{Reason}
 use Rattle.sat_parts.specs.declared.prop.graph.Reason.TheVariants.{Unit as NoCause, Binary, Long}
 
+-- whether no clause is the reason: that of a unit, a decision or an assumption
 abbrev pub is_unit : Reason → Bool
 is_unit NoCause = true
 is_unit (Binary _) = false
@@ -14,6 +15,7 @@ is_unit (Long _) = false
 abbrev pub new_node : ImplNode
 new_node = record { reason = NoCause; level = 0; depth = 0 }
 
+-- the node of a variable, a new one where there is none
 abbrev pub node_of : List ImplNode → ℕ → ImplNode
 node_of nodes v = get_or nodes v new_node
 
@@ -21,6 +23,7 @@ node_of nodes v = get_or nodes v new_node
 abbrev pub node_at : Trailed → Reason → ImplNode
 node_at t reason = record { reason = reason; level = length t.starts; depth = length t.lits + 1 }
 
+-- the nodes where a variable has this one
 abbrev pub with_node : ℕ → ImplNode → List ImplNode → List ImplNode
 with_node v node nodes = set nodes v node
 

@@ -21,6 +21,7 @@ node s l = node_of s.nodes (variable l)
 abbrev pub level : State → ℕ → ℕ
 level s l = (node s l).level
 
+-- how many levels have begun
 abbrev pub current_level : State → ℕ
 current_level s = length s.trail.starts
 

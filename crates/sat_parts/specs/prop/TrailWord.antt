@@ -22,6 +22,7 @@ abbrev pub begins : List ℕ → ℕ → Bool
 begins [] i = false
 begins (k ∷ ks) i = (k == i) || begins ks i
 
+-- the letter of the literal at place i of the trail
 abbrev pub letter : List ℕ → ℕ → Letter
 letter starts i = if begins starts i then D else P
 

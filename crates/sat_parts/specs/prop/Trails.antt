@@ -11,6 +11,7 @@ pub record Trailed : Type 0 where
   pub cleared : ℕ
   pub room : ℕ
 
+-- the trail of these, which the code holds apart
 abbrev pub trailed : (lits : List ℕ) (head : ℕ) (starts : List ℕ) (cleared room : ℕ) → Trailed
 trailed lits head starts cleared room = record { lits = lits; head = head; starts = starts; cleared = cleared; room = room }
 
@@ -33,6 +34,7 @@ pub record LevelIs (starts : List ℕ) (i level : ℕ) : Type 0 where
   pub begun : (k : ℕ) → k < level → get_or starts k 0 ≤ i
   pub not_begun : (k : ℕ) → level ≤ k → k < length starts → i < get_or starts k 0
 
+-- the trail of a new search, without literals, levels and room
 abbrev pub no_trail : Trailed
 no_trail = record { lits = []; head = 0; starts = []; cleared = 0; room = 0 }
 

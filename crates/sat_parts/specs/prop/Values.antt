@@ -15,9 +15,11 @@ value_of values v = get_or values v None
 abbrev pub is_unset : List (Option Bool) → ℕ → Bool
 is_unset values v = is_none (value_of values v)
 
+-- the literal's variable has the value that makes the literal true
 abbrev pub IsTrueLit : List (Option Bool) → ℕ → Type 0
 IsTrueLit values l = value_of values (variable l) ≡ Some (is_positive l)
 
+-- the literal's variable has the value that makes the literal false
 abbrev pub IsFalseLit : List (Option Bool) → ℕ → Type 0
 IsFalseLit values l = value_of values (variable l) ≡ Some (not (is_positive l))
 

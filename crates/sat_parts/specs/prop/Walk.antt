@@ -20,6 +20,7 @@ use Rattle.sat_parts.specs.prop.Ready.{IsGood, HasWatch, LongReady, IsFalsified,
 abbrev pub HasWatchOutside : List Watch → ℕ → ℕ → ℕ → Type 0
 HasWatchOutside xs kept at o = (p : ℕ) × ((p < length xs) × ((p < kept) ⊎ (at ≤ p)) × ((get_or xs p no_watch).cref ≡ o))
 
+-- a watch of those from at on is on the clause at o
 abbrev pub HasWatchFrom : List Watch → ℕ → ℕ → Type 0
 HasWatchFrom xs at o = (p : ℕ) × ((p < length xs) × (at ≤ p) × ((get_or xs p no_watch).cref ≡ o))
 

@@ -12,6 +12,7 @@ pub record Watching : Type 0 where
 abbrev pub watch_on : ℕ → ℕ → Watch
 watch_on o l = record { cref = o; blocking = l }
 
+-- what is read behind the end of a list of watches
 abbrev pub no_watch : Watch
 no_watch = watch_on 0 0
 
@@ -23,6 +24,7 @@ watches_of lists l = get_or lists l []
 abbrev pub more_at : ℕ → Watch → List (List Watch) → List (List Watch)
 more_at l watch lists = set lists l (watches_of lists l ++ watch ∷ [])
 
+-- one watch more at literal l, whether the lists are kept up or not
 abbrev pub with_watch : ℕ → Watch → Watching → Watching
 with_watch l watch w = record w { lists = more_at l watch w.lists }
 

@@ -30,6 +30,7 @@ pub data IsGrounded (s : State) (learned used : List ℕ) (r : ℕ) : Type 0 whe
   grounded_clause : Contains learned r → IsGrounded s learned used r
   grounded_reason : Contains used (negated r) → IsGrounded s learned used r
 
+-- each of these false literals is accounted for so
 abbrev pub AreGrounded : State → (learned used rs : List ℕ) → Type 0
 AreGrounded s learned used rs = (k : ℕ) → k < length rs → IsGrounded s learned used (get_or rs k 0)
 

@@ -75,6 +75,7 @@ pub record Marks (s : State) (top : ℕ) (clause : List ℕ) (flags : List Bool)
   pub distinct : AreDistinct clause
   pub counted : pending ≡ open_below s top flags at
 
+-- the same of what analysis works on
 abbrev pub MarksWork : State → ℕ → Work → ℕ → Type 0
 MarksWork s top w at = Marks s top w.clause w.flags w.pending at
 
@@ -93,6 +94,7 @@ pub data IsCovered (s : State) (top : ℕ) (w : Work) (at r : ℕ) : Type 0 wher
   covered_core : Contains w.core (negated r) → IsCovered s top w at r
   covered_open : IsWaiting s top w.flags at r → IsCovered s top w at r
 
+-- each of these false literals is accounted for so
 abbrev pub AreCovered : State → ℕ → Work → ℕ → List ℕ → Type 0
 AreCovered s top w at rs = (k : ℕ) → k < length rs → IsCovered s top w at (get_or rs k 0)
 
@@ -105,6 +107,7 @@ pub record IsReasoned (s : State) (at l : ℕ) : Type 0 where
   pub above : 0 < level s l
   pub caused : is_unit (node s l).reason ≡ false
 
+-- where the literal's variable stands on the trail, counted from 1
 abbrev pub depth : State → ℕ → ℕ
 depth s l = (node s l).depth
 

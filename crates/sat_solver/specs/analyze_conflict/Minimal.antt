@@ -19,6 +19,7 @@ pub data IsMarked (s : State) (first : ℕ) (w : Work) (r : ℕ) : Type 0 where
   marked_flag : get_or w.flags (variable r) false ≡ true → IsMarked s first w r
   marked_reason : Contains w.used (negated r) → IsMarked s first w r
 
+-- each of these false literals is accounted for so
 abbrev pub AreMarked : State → ℕ → Work → List ℕ → Type 0
 AreMarked s first w rs = (k : ℕ) → k < length rs → IsMarked s first w (get_or rs k 0)
 
@@ -63,6 +64,7 @@ pub record MarksMore (w w' : Work) : Type 0 where
 abbrev pub marked : ℕ → Work → Work
 marked r w = record w { flags = set w.flags (variable r) true; used = w.used ++ negated r ∷ [] }
 
+-- a true literal is used, and its flag stays as it is
 abbrev pub used_up : ℕ → Work → Work
 used_up l w = record w { used = w.used ++ l ∷ [] }
 
@@ -72,12 +74,15 @@ pub record Followed : Type 0 where
   pub work : Work
   pub whole : Bool
 
+-- may a false literal follow: is its reason a clause, and does the filter let its level pass?
 abbrev pub can_follow : (nodes : List ImplNode) (filter r : ℕ) → Bool
 can_follow nodes filter r = not (is_unit (node_of nodes (variable r)).reason) && passes filter (node_of nodes (variable r)).level
 
+-- is a false literal accounted for already: of level 0, or flagged?
 abbrev pub is_settled : (nodes : List ImplNode) (r : ℕ) → Work → Bool
 is_settled nodes r w = (node_of nodes (variable r)).level == 0 || get_or w.flags (variable r) false
 
+-- what is marked so, and whether no literal ended it
 abbrev pub followed : (nodes : List ImplNode) (filter : ℕ) → List ℕ → Work → Followed
 followed nodes filter [] w = record { work = w; whole = true }
 followed nodes filter (r ∷ rs) w =

@@ -21,6 +21,7 @@ pub record Work : Type 0 where
   pub flags : List Bool
   pub pending : ℕ
 
+-- what contracts see of an analysis, by its lists
 abbrev pub worked : (clause used met involved core : List ℕ) (flags : List Bool) (pending : ℕ) → Work
 worked clause used met involved core flags pending = record { clause = clause; used = used; met = met; involved = involved; core = core; flags = flags; pending = pending }
 
@@ -49,6 +50,7 @@ long_of NoCause = []
 long_of (Binary ls) = []
 long_of (Long o) = o ∷ []
 
+-- the same of the clause that was found false
 abbrev pub long_falsified : Conflict → List ℕ
 long_falsified (conflicts.Binary ls) = []
 long_falsified (conflicts.Long o) = o ∷ []

@@ -9,6 +9,7 @@ use Rattle.sat_solver.specs.declared.cdcl.fault.Kind.TheVariants as kinds
 use Rattle.sat_solver.specs.declared.error.SolverError.{SolverError}
 use Rattle.sat_solver.specs.declared.error.SolverError.TheVariants as errors
 
+-- the error that is told for a fault of this kind
 abbrev pub error_of : Kind → SolverError
 error_of (kinds.Write cause) = errors.ProofIoError cause
 error_of (kinds.Processor cause) = errors.ProofProcessorError cause

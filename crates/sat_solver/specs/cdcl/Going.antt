@@ -34,6 +34,7 @@ IsSearched names (UnitClauses units) = AreNamed names (map (λ u. u.0) units)
 IsSearched names (DeleteClause clause proof) = Unit {0}
 IsSearched names step = ⊥
 
+-- each of these is such a step
 abbrev pub AreSearched : (ℕ → Option ℕ) → List Step → Type 0
 AreSearched names = AllByRecursion (IsSearched names)
 

@@ -46,6 +46,7 @@ pub record LastRefutes (earlier steps : List Step) (s : Session) : Type 0 where
   pub now : s.unsat ≡ true
   pub quiet : AreQuiet steps
 
+-- what holds behind a round, by its outcome
 abbrev pub RoundSays : Outcome → (earlier steps : List Step) → Session → Search → Search → Type 0
 RoundSays outcomes.Learned earlier steps s c c' = RoundLearns earlier steps s c c'
 RoundSays outcomes.Model earlier steps s c c' = RoundShows s c c' × AreQuiet steps

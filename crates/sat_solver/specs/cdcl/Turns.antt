@@ -64,11 +64,13 @@ pub record IsStopped (s : Session) (c : Search) (e : Conflict) : Type 0 where
   pub fits : SessionMatchesParts c.parts s (global_in c)
   pub ready : IsReady s c
 
+-- how it stands where a search stopped: a false clause, a complete assignment, or a failed assumption
 abbrev pub StopSays : FoundConflict → Session → Search → Type 0
 StopSays (Falsified e) s c = IsStopped s c e
 StopSays Complete s c = IsSearch s c × IsComplete c.assumptions.lits.items c.parts
 StopSays (Failed l) s c = IsSearch s c × IsFailing c.assumptions.lits.items c.parts l
 
+-- how it stands behind a turn: a level deeper, or stopped
 abbrev pub TurnSays : Option FoundConflict → Session → Search → Search → Type 0
 TurnSays None s c c' = IsSearch s c' × (length c'.parts.trail.starts ≡ length c.parts.trail.starts + 1)
 TurnSays (Some stop) s c c' = StopSays stop s c'

@@ -5,6 +5,7 @@ use Rattle.sat_solver.specs.declared.error.SolverError.{SolverError}
 use Rattle.sat_solver.specs.declared.error.SolverError.TheVariants as errors
 use Rattle.sat_solver.specs.cdcl.Going.{check_fault_of}
 
+-- the solver's error for a fault of its names
 abbrev pub told_as : NameError → SolverError
 told_as names.VariableLimit = errors.VariableLimit
 told_as names.OutOfMemory = errors.OutOfMemory

@@ -60,6 +60,7 @@ pub record GlobalImages (n : Variables) (user codes : List ℕ) : Type 0 where
 abbrev pub IsSampled : Variables → ℕ → Type 0
 IsSampled n user = (v : ℕ) → global_of n user ≡ Some v → (data_at n v).sampling_mode ≡ kept.Sample
 
+-- each literal's name is of mode sample, or not in use yet
 abbrev pub NoWitness : Variables → List ℕ → Type 0
 NoWitness n = AllByRecursion (λ l. IsSampled n (variable l))
 

@@ -19,6 +19,7 @@ use Rattle.sat_solver.specs.declared.proof.checker.Checked.{Checked}
 use Rattle.sat_solver.specs.declared.proof.made.CheckFault.{CheckFault}
 use Rattle.sat_solver.specs.declared.proof.made.CheckFault.TheVariants as checks
 
+-- does it end a proof? The checker isn't given such a step
 abbrev pub is_end : Step → Bool
 is_end End = true
 is_end step = false
@@ -67,6 +68,7 @@ cause_in errors.CounterEnd = checks.CounterEnd
 cause_in (errors.ProofProcessorError cause) = checks.Processor cause
 cause_in e = checks.OutOfMemory
 
+-- the first is so, or the checker failed for a cause of which the second is so
 abbrev pub OrCause : Result (Unit {0}) CheckerError → Type 0 → (CheckFault → Type 0) → Type 0
 OrCause (Ok x) Fed Failed = Fed
 OrCause (Err e) Fed Failed = IsCause e × Failed (cause_in e)

@@ -4,6 +4,7 @@ use Rattle.sat_base.specs.steps.Steps.{Step, AddClause, AtClause, DeleteClause, 
 use Rattle.sat_solver.specs.proof.Widths.{narrowed, KeepsWidth}
 use Rattle.sat_solver.specs.declared.proof.hash_bits.Counting.{Counting}
 
+-- no clause was counted, hashes are whole, and no ask has begun
 abbrev pub start : Counting
 start = record { clauses = 0; bits = 64; solving = false }
 
@@ -13,6 +14,7 @@ one_more_if [] n = n
 one_more_if (l ∷ []) n = n
 one_more_if (l ∷ m ∷ ls) n = min (n + 1) (2 ^ 64 - 1)
 
+-- one less for such a clause
 abbrev pub one_less_if : List ℕ → ℕ → ℕ
 one_less_if [] n = n
 one_less_if (l ∷ []) n = n

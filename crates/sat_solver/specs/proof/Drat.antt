@@ -24,6 +24,7 @@ abbrev pub behind_line : Line → List (List ℕ) → List (List ℕ)
 behind_line (Derives clause) cs = canonical clause ∷ cs
 behind_line (Deletes clause) cs = without_set (canonical clause) cs
 
+-- and behind several, the first one first
 abbrev pub behind_lines : List Line → List (List ℕ) → List (List ℕ)
 behind_lines [] cs = cs
 behind_lines (x ∷ xs) cs = behind_lines xs (behind_line x cs)
@@ -33,6 +34,7 @@ abbrev pub behind_step : Step → List (List ℕ) → List (List ℕ)
 behind_step (AddClause clause) cs = canonical clause ∷ cs
 behind_step step cs = behind_lines (lines_of step) cs
 
+-- the clauses that steps leave present: added or derived, and not deleted
 abbrev pub present : List Step → List (List ℕ)
 present [] = []
 present (step ∷ earlier) = behind_step step (present earlier)
@@ -48,10 +50,12 @@ abbrev pub LineStands : Line → List (List ℕ) → Type 0
 LineStands (Derives clause) cs = Refutes cs (map negated clause)
 LineStands (Deletes clause) cs = 0 < times (canonical clause) cs
 
+-- each of them stands over the clauses that those before it leave
 abbrev pub LinesStand : List Line → List (List ℕ) → Type 0
 LinesStand [] cs = Unit {0}
 LinesStand (x ∷ xs) cs = LineStands x cs × LinesStand xs (behind_line x cs)
 
+-- each step's lines stand over the clauses that the steps before it leave
 abbrev pub IsDratDerivation : List Step → Type 0
 IsDratDerivation [] = Unit {0}
 IsDratDerivation (step ∷ earlier) = IsDratDerivation earlier × LinesStand (lines_of step) (present earlier)

@@ -28,24 +28,29 @@ abbrev pub seven_bits : ℕ → ℕ → List ℕ
 seven_bits zero n = []
 seven_bits (suc k) n = if nat_lt n 128 then n ∷ [] else (n % 128 + 128) ∷ seven_bits k (n / 128)
 
+-- a clause in bytes, with the zero at its end
 abbrev pub bytes_line : List ℕ → List ℕ
 bytes_line [] = 0 ∷ []
 bytes_line (l ∷ ls) = seven_bits 5 (l + 2) ++ bytes_line ls
 
+-- what stands before a clause; in words nothing before a derived one
 abbrev pub mark : (binary deleted : Bool) → List ℕ
 mark false false = []
 mark false true = codes "d "
 mark true false = codes "a"
 mark true true = codes "d"
 
+-- a clause's literals, and what ends them
 abbrev pub clause_text : (binary : Bool) → List ℕ → List ℕ
 clause_text false clause = clause_line clause
 clause_text true clause = bytes_line clause
 
+-- a clause behind what tells derived and deleted ones apart
 abbrev pub line_text : (binary : Bool) → Line → List ℕ
 line_text binary (Derives clause) = mark binary false ++ clause_text binary clause
 line_text binary (Deletes clause) = mark binary true ++ clause_text binary clause
 
+-- lines, one behind the other
 abbrev pub lines_text : (binary : Bool) → List Line → List ℕ
 lines_text binary [] = []
 lines_text binary (x ∷ xs) = line_text binary x ++ lines_text binary xs

@@ -37,6 +37,7 @@ module _ {L : Type 0} (takes : L → Told → Result Unit Error → L → Type 0
     abbrev pub HeardUpTo : ProcessingError → Type 0
     HeardUpTo e = HearsSinceUpTo Hears e [] (told_after written) begun now ⊎ HearsSinceUpTo Hears e [] (all_told_after written) begun now
 
+    -- all was heard, or all up to some fault
     abbrev pub HasHeard : Type 0
     HasHeard = HeardAll ⊎ ((e : ProcessingError) × HeardUpTo e)
 

@@ -16,6 +16,7 @@ use Rattle.sat_solver.specs.declared.proof.made.Made.{Made}
 use Rattle.sat_solver.specs.declared.proof.made.CheckFault.{CheckFault}
 use Rattle.sat_solver.specs.declared.proof.made.CheckFault.TheVariants as checks
 
+-- those who were added, where there is a checker to which they listen
 abbrev pub listed_in : {L : Type 0} → Option (Checked L) → List L → Option (List L)
 listed_in None added = None
 listed_in (Some own) added = Some added
@@ -32,6 +33,7 @@ is_checked m = is_some (audience m)
 abbrev pub is_lost : {L : Type 0} {G : Ghosts L} → Made L G → Bool
 is_lost m = m.lost
 
+-- a checker, where there is one, lacks no step, and no unit conflict waits in it
 abbrev pub IsUpToDate : {L : Type 0} → Bool → Option (Checked L) → Type 0
 IsUpToDate lost None = Unit {0}
 IsUpToDate lost (Some own) = (lost ≡ false) × IsSettled (kernel_of own.checker)
@@ -40,6 +42,7 @@ IsUpToDate lost (Some own) = (lost ≡ false) × IsSettled (kernel_of own.checke
 abbrev pub HasTold : {L : Type 0} {G : Ghosts L} → Made L G → Type 0
 HasTold m = IsUpToDate m.lost m.own
 
+-- a checker, where there is one, was told this width last
 abbrev pub IsToldIn : {L : Type 0} → ℕ → Option (Checked L) → Type 0
 IsToldIn bits None = Unit {0}
 IsToldIn bits (Some own) = own.bits ≡ bits
@@ -55,6 +58,7 @@ HasListeners checks.CounterEnd listening = Unit {0}
 HasListeners (checks.Processor cause) listening = listening ≡ Some [] → ⊥
 
 module _ {L : Type 0} (takes : L → Told → Result Unit Error → L → Type 0) where
+  -- there is a checker, which failed so by these steps; for a processor's fault somebody listens
   abbrev pub ComplainsIn : CheckFault → Option (Checked L) → (added : List L) → List Step → Type 0
   ComplainsIn fault None added steps = ⊥
   ComplainsIn fault (Some own) added steps = ∥ Failed takes added (listeners_of (who_listens own)) steps fault ∥₁ × HasListeners fault (Some added)
@@ -71,10 +75,12 @@ module _ {L : Type 0} (takes : L → Told → Result Unit Error → L → Type 0
     pub are : now.processors ≡ given
     pub heard : HeardWhole takes added now steps
 
+  -- these are handed back, behind all that is told; where there is no checker, nobody
   abbrev pub HandedWholeIn : Option (List L) → (given : List L) → List Step → Type 0
   HandedWholeIn None given steps = given ≡ []
   HandedWholeIn (Some added) given steps = ∥ IsHandedWhole added given steps ∥₁
 
+  -- these are handed back, behind what they have heard; where there is no checker, nobody
   abbrev pub HandedIn : Option (List L) → (given : List L) → List Step → Type 0
   HandedIn None given steps = given ≡ []
   HandedIn (Some added) given steps = ∥ IsHanded added given steps ∥₁
@@ -100,6 +106,7 @@ OrComplains (Err fault) m = Complains fault m × IsComplaint fault m.complaint
 abbrev pub ComplainsOr : {L : Type 0} {G : Ghosts L} → (lost : Bool) → CheckFault → Made L G → Type 0
 ComplainsOr lost fault m = (Complains fault m × IsComplaint fault m.complaint) ⊎ ((lost ≡ true) × (fault ≡ checks.OutOfMemory))
 
+-- what an answer says of a checker that may have failed before
 abbrev pub OrComplainsUnless : {L : Type 0} {G : Ghosts L} → (lost : Bool) → Result (Unit {0}) CheckFault → Made L G → Type 0
 OrComplainsUnless lost (Ok x) m = Unit {0}
 OrComplainsUnless lost (Err fault) m = ComplainsOr lost fault m

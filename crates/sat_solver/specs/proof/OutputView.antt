@@ -34,6 +34,7 @@ abbrev pub text_in : ProofFormat → List Step → List ℕ
 text_in f [] = []
 text_in f (step ∷ earlier) = text_in f earlier ++ step_text f step
 
+-- in bytes the text spells each of these steps
 abbrev pub AreSpelt : ProofFormat → List Step → Type 0
 AreSpelt f = AllByRecursion (SpellsIn f)
 
@@ -56,15 +57,18 @@ PutsLines binary (Err OutOfMemory) step old new = new ≡ old
 
 -- OUTPUTS
 
+-- do steps become lines of DRAT in it?
 abbrev pub is_lines : ProofFormat → Bool
 is_lines Varisat = false
 is_lines Drat = true
 is_lines BinaryDrat = true
 
+-- DRAT in words, or in bytes
 abbrev pub lines_format : Bool → ProofFormat
 lines_format false = Drat
 lines_format true = BinaryDrat
 
+-- what an output writes: steps in bytes, or lines of DRAT
 abbrev pub output_format : {W : Type 0} → Output W → ProofFormat
 output_format (Steps w) = Varisat
 output_format (Lines w) = lines_format w.binary

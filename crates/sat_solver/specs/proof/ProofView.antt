@@ -24,14 +24,17 @@ pub data Target : Type 0 where
   Open : ProofFormat → Counting → Sink → Target
   Broken : Writer → Target  -- a call of it failed, and it isn't used again
 
+-- an open target, or where a call of it failed a broken one, of which the writer is left
 abbrev pub with_fault : Bool → ProofFormat → Counting → Sink → Target
 with_fault false f c s = Open f c s
 with_fault true f c s = Broken s.writer
 
+-- the target by an output, whether a call of it failed, and the count that sets its width
 abbrev pub target_in : {W : Type 0} → (W → Writer) → Option (Output W) → Bool → Counting → Target
 target_in seen None broken c = Closed
 target_in seen (Some o) broken c = with_fault broken (output_format o) c (output_sink seen o)
 
+-- where the text of a proof's steps goes by now
 abbrev pub target_of : {W L : Type 0} {G : Ghosts L} → (W → Writer) → Proof W L G → Target
 target_of seen p = target_in seen p.output p.broken p.counting
 
@@ -237,11 +240,13 @@ pub record TookAll (f : ProofFormat) (c : Counting) (s : Sink) (steps : List Ste
   pub takes : Takes s.writer given (s.waiting ++ text_in f written)
   pub flushed : given.flushed ≡ true
 
+-- only an open target does so
 abbrev pub TakesAll : Target → List Step → Writer → Type 0
 TakesAll Closed steps given = ⊥
 TakesAll (Open f c s) steps given = TookAll f c s steps given
 TakesAll (Broken w) steps given = ⊥
 
+-- no target was open: no step was made, and nothing has changed
 pub record ClosesNone {W L : Type 0} {G : Ghosts L} (seen : W → Writer) (old new : Proof W L G) : Type 0 where
   pub history : steps_of new ≡ steps_of old
   pub listening : audience new ≡ audience old
@@ -250,6 +255,7 @@ pub record ClosesNone {W L : Type 0} {G : Ghosts L} (seen : W → Writer) (old n
   pub shut : is_open (target_of seen old) ≡ false
   pub target : target_of seen new ≡ target_of seen old
 
+-- the end was made, the open target is handed back with all of its text, and none is open
 pub record ClosesOne {W L : Type 0} {G : Ghosts L} (seen : W → Writer) (given : W) (old new : Proof W L G) : Type 0 where
   pub history : steps_of new ≡ End ∷ steps_of old
   pub listening : audience new ≡ audience old
@@ -273,6 +279,7 @@ Gives Closed given = given ≡ None
 Gives (Open f c s) given = given ≡ Some s.writer
 Gives (Broken w) given = given ≡ Some w
 
+-- what contracts see of a writer that is handed back, if one is
 abbrev pub seen_of : {W : Type 0} → (W → Writer) → Option W → Option Writer
 seen_of seen None = None
 seen_of seen (Some w) = Some (seen w)
@@ -299,6 +306,7 @@ TakesListener (Err (Write e)) processor old new = ⊥
 TakesListener (Err OutOfMemory) processor old new = ⊥
 TakesListener (Err (Check fault)) processor old new = (fault ≡ checks.OutOfMemory) × (audience new ≡ audience old)
 
+-- what adding a processor leaves: no step was made, and the target is as it was
 pub record Listens {W L : Type 0} {G : Ghosts L} (seen : W → Writer) (result : Result (Unit {0}) ProofError) (processor : L) (old new : Proof W L G) : Type 0 where
   pub history : steps_of new ≡ steps_of old
   pub asked : has_asked new ≡ has_asked old

@@ -7,6 +7,7 @@ use Rattle.sat_solver.specs.session.Session.{MayAll, session_after}
 abbrev pub kept_bits : ℕ → ℕ → ℕ
 kept_bits width hash = hash / 2 ^ (64 - width)
 
+-- a step with the top bits of its hashes
 abbrev pub narrowed : ℕ → Step → Step
 narrowed width (AtClause redundant clause hashes) = AtClause redundant clause (map (kept_bits width) hashes)
 narrowed width (UnitClauses us) = UnitClauses (map (λ u. (u.0, kept_bits width u.1)) us)
@@ -24,6 +25,7 @@ pub data IsWritten : List Step → List Step → ℕ → Type 0 where
   width_changes : {wide written : List Step} {width : ℕ} (bits : ℕ) → IsWritten wide written width → IsWritten wide (ChangeHashBits bits ∷ written) bits
   one_more : {wide written : List Step} {width : ℕ} (step : Step) → KeepsWidth step → IsWritten wide written width → IsWritten (step ∷ wide) (narrowed width step ∷ written) width
 
+-- what is written may be written, and leaves the same session but for its width
 pub record MayAt (wide written : List Step) (width : ℕ) : Type 0 where
   pub may : MayAll written
   pub session : session_after written ≡ record (session_after wide) { width = width }

@@ -18,6 +18,7 @@ abbrev pub LeadsOn : Session → (ℕ → Bool) → List (List ℕ) → (ℕ →
 LeadsOn s holds [] reached = (l : ℕ) → reached l ≡ true → holds l ≡ true
 LeadsOn s holds (c ∷ cs) reached = IsLive s c × ((o : ℕ) × AllByRecursion (λ l. (l ≡ o) ⊎ (holds (negated l) ≡ true)) c × (is_among c o ≡ true) × LeadsOn s (λ l. (o == l) || holds l) cs reached)
 
+-- what was reached neither assigns the literal nor denies it, and falsifies no live clause
 pub record StaysNew (s : Session) (l : ℕ) (reached : ℕ → Bool) : Type 0 where
   pub not_true : reached l ≡ false
   pub not_false : reached (negated l) ≡ false

@@ -6,6 +6,7 @@ use Rattle.sat_checker.specs.Contents.{count_of}
 use Rattle.sat_checker.specs.Invariants.{EachOnce, EachCounted}
 use Rattle.sat_solver.specs.session.Session.{Session}
 
+-- both have the same live clauses, as often, and the same units, variables, names and width
 pub record Agrees (s : Session) (f : Stored) : Type 0 where
   pub live : (r : Bool) (set : List ℕ) → count_of r set f.clauses ≡ s.live r set
   pub units : (l : ℕ) → is_unit f l ≡ s.units l

@@ -15,6 +15,7 @@ pub record OnlyAllowedSteps (May : List Step → Step → Type 0) (from to : Lis
   pub behind : to ≡ steps ++ from
   pub each : EachIsAllowed May from steps
 
+-- is it a change of the hashes' width?
 abbrev pub sets_width : Step → Bool
 sets_width (ChangeHashBits bits) = true
 sets_width step = false

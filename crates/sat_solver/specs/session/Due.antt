@@ -4,6 +4,7 @@ use Rattle.sat_base.specs.steps.Steps.{Step, FailedAssumptions}
 use Rattle.sat_checker.specs.matching.Checking.{is_ordered}
 use Rattle.sat_solver.specs.proof.Widths.{IsWritten}
 
+-- the steps with one more, where the test says so
 abbrev pub kept_if : Bool → Step → List Step → List Step
 kept_if true step steps = step ∷ steps
 kept_if false step steps = steps

@@ -29,6 +29,7 @@ use Rattle.sat_solver.specs.session.Fits.{SessionMatches, SessionMatchesParts, H
 abbrev pub named_clauses : List ℕ → State → List ℕ → Conflict → List (List ℕ)
 named_clauses words st used e = map (clause_of words st) used ++ falsified words e ∷ []
 
+-- their hashes, over solver variables and not cut
 abbrev pub named_hashes : List ℕ → State → List ℕ → Conflict → List ℕ
 named_hashes words st used e = map (λ l. hash_of (clause_of words st l)) used ++ hash_of (falsified words e) ∷ []
 

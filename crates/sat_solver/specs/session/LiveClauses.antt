@@ -7,6 +7,7 @@ use Rattle.sat_checker.specs.SortedSets.{NoRepeats}
 use Rattle.sat_checker.specs.Contents.{same_side, more_if}
 use Rattle.sat_solver.specs.session.Session.{Session}
 
+-- a live clause: whether it is redundant, and its literals over solver variables
 pub record LiveClause : Type 0 where
   pub redundant : Bool
   pub literals : List ℕ
@@ -16,6 +17,7 @@ abbrev pub count_of : List LiveClause → Bool → List ℕ → ℕ
 count_of [] r set = 0
 count_of (c ∷ cs) r set = more_if (same_side c.redundant r && same_literals (canonical c.literals) set) (count_of cs r set)
 
+-- the clause is one of these, with its literals in the same order
 abbrev pub IsIn : LiveClause → List LiveClause → Type 0
 IsIn c [] = ⊥
 IsIn c (d ∷ ds) = (c ≡ d) ⊎ IsIn c ds
@@ -24,6 +26,7 @@ IsIn c (d ∷ ds) = (c ≡ d) ⊎ IsIn c ds
 abbrev pub with_var : (ℕ → ℕ) → ℕ → ℕ
 with_var global l = 2 * global (l / 2) + l % 2
 
+-- a clause over solver variables as one over proof variables
 abbrev pub mapped : (ℕ → ℕ) → LiveClause → LiveClause
 mapped global c = record c { literals = map (with_var global) c.literals }
 

@@ -63,6 +63,7 @@ NamedUnsatIsRight = (j : Judge) (variable_of : ℕ → Option ℕ) (steps : List
 abbrev pub SameLits : List ℕ → List ℕ → Type 0
 SameLits c d = AllByRecursion (λ l. Among l d) c × AllByRecursion (λ l. Among l c) d
 
+-- no variable is deleted by the step
 abbrev pub KeepsVariables : Step → Type 0
 KeepsVariables (DeleteVar v) = ⊥
 KeepsVariables step = Unit {0}
@@ -79,5 +80,6 @@ pub record NoneHidden (j : Judge) (variable_of : ℕ → Option ℕ) (steps : Li
   pub added_from : AllByRecursion (λ c. (d : List ℕ) × Among d j.clauses × SameLits c (map (with_var global) d)) (added steps)
   pub all_added : ((session_after steps).unsat ≡ true) ⊎ AllByRecursion (λ d. (c : List ℕ) × Among c (added steps) × SameLits c (map (with_var global) d)) j.clauses
 
+-- then steps that may be written leave of the names what the accepted clauses leave
 abbrev pub NoneHiddenMeans : Type 0
 NoneHiddenMeans = (j : Judge) (variable_of : ℕ → Option ℕ) (steps : List Step) → MayAll steps → NoneHidden j variable_of steps → Means j variable_of steps

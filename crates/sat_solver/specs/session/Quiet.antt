@@ -36,6 +36,7 @@ is_quiet (AtClause redundant [] hashes) = true
 is_quiet (AtClause redundant (l ∷ ls) hashes) = are_few hashes
 is_quiet step = true
 
+-- nothing is learned by any of these, which their forms show
 abbrev pub AreQuiet : List Step → Type 0
 AreQuiet = AllByRecursion (λ step. is_quiet step ≡ true)
 

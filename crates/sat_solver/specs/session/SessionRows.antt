@@ -15,6 +15,7 @@ collided =
     End ∷ Assumptions [] ∷ AtClause false [] (0x44 ∷ []) ∷ UnitClauses ((2, 0xe6) ∷ [])
     ∷ AtClause false (0 ∷ []) (0x44 ∷ 0xe6 ∷ []) ∷ ChangeHashBits 8 ∷ Assumptions [] ∷ four
 
+-- so it may be written, though each hash is that of two clauses
 abbrev pub CollidingMay : Type 0
 CollidingMay = MayAll collided
 
@@ -25,5 +26,6 @@ hidden =
     ∷ AddClause (3 ∷ []) ∷ SolverVarName 1 (Some 1) ∷ UserVarName 1 (Some 0) ∷ UserVarName 0 None
     ∷ AddClause (0 ∷ []) ∷ SolverVarName 0 (Some 0) ∷ UserVarName 0 (Some 0) ∷ []
 
+-- so it may be written, though the name had another variable before
 abbrev pub HiddenMay : Type 0
 HiddenMay = MayAll hidden

@@ -16,10 +16,12 @@ abbrev pub pairs_of : ℕ → List ℕ → List LiveClause
 pairs_of a [] = []
 pairs_of a (m ∷ ms) = if nat_lt a m then pair a m ∷ pairs_of a ms else pairs_of a ms
 
+-- those of the lists of what each literal implies, from this literal on
 abbrev pub pairs_from : ℕ → List (List ℕ) → List LiveClause
 pairs_from l [] = []
 pairs_from l (ms ∷ rest) = pairs_of (negated l) ms ++ pairs_from (l + 1) rest
 
+-- all clauses of two literals
 abbrev pub binaries : List (List ℕ) → List LiveClause
 binaries = pairs_from 0
 
@@ -28,6 +30,7 @@ abbrev pub longs : (ℕ → Bool) → List ℕ → List ℕ → List LiveClause
 longs redundant words [] = []
 longs redundant words (o ∷ os) = record { redundant = redundant o; literals = lits_at words o } ∷ longs redundant words os
 
+-- all live clauses, by what the parts keep of them
 abbrev pub solver_clauses : (ℕ → Bool) → List ℕ → List ℕ → List (List ℕ) → List LiveClause
 solver_clauses redundant words live implied = binaries implied ++ longs redundant words live
 

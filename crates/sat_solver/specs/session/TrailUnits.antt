@@ -24,6 +24,7 @@ pub record IsUsable (s : Session) (global : ℕ → ℕ) (c : List ℕ) : Type 0
   pub live : IsLive s (map (with_var global) c)
   pub hash : hash_of c / 2 ^ (64 - s.width) ≡ hash_in s (map (with_var global) c)
 
+-- the literal's variable is the solver name of the proof variable that it is mapped to
 abbrev pub IsNamed : Session → (ℕ → ℕ) → ℕ → Type 0
 IsNamed s global l = s.solver_names (global (variable l)) ≡ Some (variable l)
 

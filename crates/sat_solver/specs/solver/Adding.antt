@@ -115,6 +115,7 @@ pub record Assumed {W L : Type 0} {G : Ghosts L} (seen : W → Writer) (old new 
   pub clock : new.clock ≡ old.clock
   pub state : Forgets old.state new.state
 
+-- what came of assumptions: these in place of others, or a refusal, or a fault
 abbrev pub Assumes : {W L : Type 0} {G : Ghosts L} → (W → Writer) → Result (Unit {0}) SolverError → Solver W L G → Solver W L G → List ℕ → Type 0
 Assumes seen (Ok x) old new user = Assumed seen old new user
 Assumes seen (Err errors.WitnessVariable) old new user = Refuses old new ((old.failed ≡ false) × HasWitness old user)
@@ -140,6 +141,7 @@ pub record TookIn {W L : Type 0} {G : Ghosts L} (seen : W → Writer) (old new :
   pub config : new.core.config ≡ old.core.config
   pub state : Forgets old.state new.state
 
+-- what came of a clause before that flag is set: it is in, or a call failed
 abbrev pub TakesIn : {W L : Type 0} {G : Ghosts L} → (W → Writer) → Result (Unit {0}) SolverError → Solver W L G → Solver W L G → List ℕ → Type 0
 TakesIn seen (Ok x) old new user = TookIn seen old new user
 TakesIn seen (Err e) old new user = BreaksNamesOff (HasFullStore new) seen e old.core new.core

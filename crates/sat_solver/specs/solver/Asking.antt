@@ -29,6 +29,7 @@ pub record AskedIn {W L : Type 0} {G : Ghosts L} (seen : W → Writer) (old new 
   pub config : new.core.config ≡ old.core.config
   pub state : Forgets old.state new.state
 
+-- what came of assumptions, before the list over names is kept: they were taken, or a call failed
 abbrev pub Asks : {W L : Type 0} {G : Ghosts L} → (W → Writer) → Result (Unit {0}) SolverError → Solver W L G → Solver W L G → List ℕ → Type 0
 Asks seen (Ok x) old new user = AskedIn seen old new user
 Asks seen (Err e) old new user = BreaksNamesOff ⊥ seen e old.core new.core

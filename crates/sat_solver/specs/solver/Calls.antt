@@ -47,6 +47,7 @@ pub record RoundsOn (n : Variables) (steps : List Step) (budget before now : ℕ
   pub within : now ≤ before + steps_left budget before
   pub few : (j : Judge) (live : Live) → Agree n steps j live → now < before + 2 ^ (2 * j.next_identity + 3)
 
+-- the same of the rounds of a call
 abbrev pub CountsRounds : {W L : Type 0} {G : Ghosts L} → Solver W L G → Solver W L G → Type 0
 CountsRounds old new = RoundsOn old.names (steps_in old) old.core.config.max_steps old.clock.steps new.clock.steps
 
@@ -72,6 +73,7 @@ told_as states.Unknown states.Sat line asked core = Shows (names_of (map named_l
 told_as states.Unknown states.UnsatUnderAssumptions line asked core = Fails (map named_literal asked) (map named_literal core) ∷ []
 told_as before now line asked core = []
 
+-- the same by the solver that has answered now
 abbrev pub told_by : {W L : Type 0} {G : Ghosts L} → State → Solver W L G → List Expected
 told_by before s = told_as before s.state (line_in s) s.assumed.items s.told.failed_core.items
 
@@ -120,12 +122,14 @@ pub record Answered {W L : Type 0} {G : Ghosts L} (seen : W → Writer) (old new
   pub asked : NotesAsk seen new.core.proof
   pub known : (old.state ≡ states.Unknown → ⊥) → AnswersAgain old new
 
+-- the answer of an ask by the state that it leaves; an unknown one is no answer
 abbrev pub is_answer : State → Bool → Type 0
 is_answer states.Unknown sat = ⊥
 is_answer states.Sat sat = sat ≡ true
 is_answer states.UnsatUnderAssumptions sat = sat ≡ false
 is_answer states.Unsat sat = sat ≡ false
 
+-- what came of an ask: an answer, or rounds that are spent, or a refusal, or a fault
 abbrev pub Solves : {W L : Type 0} {G : Ghosts L} → (W → Writer) → Result Bool SolverError → Solver W L G → Solver W L G → Type 0
 Solves seen (Ok sat) old new = Answered seen old new × is_answer new.state sat
 Solves seen (Err errors.Interrupted) old new = Answered seen old new × (new.state ≡ states.Unknown)

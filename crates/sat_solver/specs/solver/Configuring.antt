@@ -42,6 +42,7 @@ pub record Configured {W L : Type 0} {G : Ghosts L} (u : SolverConfigUpdate) (ol
   pub failed : new.failed ≡ false
   pub used : new.used ≡ old.used
 
+-- what came of an update of parameters: one out of range changes none
 abbrev pub Configures : {W L : Type 0} {G : Ghosts L} → Result (Unit {0}) SolverError → SolverConfigUpdate → Solver W L G → Solver W L G → Type 0
 Configures (Ok x) u old new = Configured u old new
 Configures (Err errors.HasFailed) u old new = Refuses old new (old.failed ≡ true)

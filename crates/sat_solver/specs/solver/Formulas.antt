@@ -30,6 +30,7 @@ pub record StopsAt {W L : Type 0} {G : Ghosts L} (seen : W → Writer) (e : Solv
   pub added : AddsAll seen old before mid
   pub stops : AddsClause seen (Err e) mid new clause
 
+-- what came of a formula: all of its clauses were added, or those before the one that stopped it
 abbrev pub AddsFormula : {W L : Type 0} {G : Ghosts L} → (W → Writer) → Result (Unit {0}) SolverError → Solver W L G → Solver W L G → List (List ℕ) → Type 0
 AddsFormula seen (Ok x) old new clauses = (old.failed ≡ false) × AddsAll seen old clauses new
 AddsFormula seen (Err errors.HasFailed) old new clauses = Refuses old new (old.failed ≡ true)
@@ -53,6 +54,7 @@ is_want texts.Read = false
 is_want texts.OutOfMemory = true
 is_want texts.HasFailed = false
 
+-- a solver that has failed by now, or hasn't
 abbrev pub with_failed : {W L : Type 0} {G : Ghosts L} → Bool → Solver W L G → Solver W L G
 with_failed b s = record s { failed = b }
 
@@ -82,6 +84,7 @@ pub record TextAdded {W L : Type 0} {G : Ghosts L} (seen : W → Writer) (old ne
   pub read : GaveEnough from to (λ text. IsDimacs text clauses Clean)
   pub added : AddsAll seen old clauses new
 
+-- what came of a text: all of its clauses were added, or those before a fault of it or of one of them
 abbrev pub AddsText : {W L : Type 0} {G : Ghosts L} → (W → Writer) → Result (Unit {0}) SolverError → Solver W L G → Solver W L G → Reader → Reader → Type 0
 AddsText seen (Ok x) old new from to = TextAdded seen old new from to
 AddsText seen (Err errors.HasFailed) old new from to = Refuses old new (old.failed ≡ true) × (to ≡ from)
@@ -98,9 +101,11 @@ pub record ReadStops {W L : Type 0} {G : Ghosts L} (seen : W → Writer) (e : So
   pub added : AddsAll seen old clauses mid
   pub new_is : new ≡ with_failed (is_want fault) mid
 
+-- what came of clauses that waited: all were added and the parser told no fault, or something stopped it
 abbrev pub AnswersRead : {W L : Type 0} {G : Ghosts L} → (W → Writer) → Result (Unit {0}) SolverError → Result (Unit {0}) DimacsError → Solver W L G → Solver W L G → List (List ℕ) → Type 0
 AnswersRead seen (Ok x) answer old new clauses = (answer ≡ Ok tt) × AddsAll seen old clauses new
 AnswersRead seen (Err e) answer old new clauses = ReadStops seen e answer old new clauses ⊎ StopsAt seen e old new clauses
 
+-- the same of the clauses that the parser has read and not handed over
 abbrev pub AddsRead : {W L : Type 0} {G : Ghosts L} → (W → Writer) → Result (Unit {0}) SolverError → Result (Unit {0}) DimacsError → Progress → Solver W L G → Solver W L G → Type 0
 AddsRead seen result answer parser old new = (clauses : List (List ℕ)) × (clauses_read parser ≡ parser.taken ++ clauses) × AnswersRead seen result answer old new clauses

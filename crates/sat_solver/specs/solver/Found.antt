@@ -28,6 +28,7 @@ pub record FoundCore {W L : Type 0} {G : Ghosts L} (seen : W → Writer) (rounds
   pub ended : Ended seen a n (rounds - 1) outcomes.Failed mid m
   pub failed : Failed seen m mid b core
 
+-- what was found in so many rounds, by the state that tells it
 abbrev pub FoundSays : {W L : Type 0} {G : Ghosts L} → (W → Writer) → State → (rounds : ℕ) → Variables → Variables → Core W L G → Core W L G → List ℕ → Type 0
 FoundSays seen states.Unknown rounds n m a b core = ⊥
 FoundSays seen states.Sat rounds n m a b core = FoundModel seen rounds n m a b
@@ -39,6 +40,7 @@ pub record FoundNone {W L : Type 0} {G : Ghosts L} (seen : W → Writer) (rounds
   pub joined : IsJoined m b
   pub gone : Gone seen a n rounds b m
 
+-- an answer was found in so many rounds, or none by now
 abbrev pub Finds : {W L : Type 0} {G : Ghosts L} → (W → Writer) → Option State → (rounds : ℕ) → Variables → Variables → Core W L G → Core W L G → List ℕ → Type 0
 Finds seen None rounds n m a b core = FoundNone seen rounds n m a b
 Finds seen (Some state) rounds n m a b core = FoundSays seen state rounds n m a b core
@@ -54,11 +56,13 @@ ComesTo outcomes.Model n c = IsJoined n c × IsComplete c.search.assumptions.lit
 ComesTo outcomes.Failed n c = IsJoined n c × IsFailing c.search.assumptions.lits.items c.search.parts c.search.failed
 ComesTo outcomes.Unsat n c = Unit {0}
 
+-- what telling an outcome leaves, with the state that fits it: of unsat no step is made
 abbrev pub ToldSays : {W L : Type 0} {G : Ghosts L} → (W → Writer) → Option State → Outcome → Variables → Core W L G → Core W L G → List ℕ → Type 0
 ToldSays seen (Some states.Sat) outcomes.Model n a b core = Shown seen n a b
 ToldSays seen (Some states.UnsatUnderAssumptions) outcomes.Failed n a b core = Failed seen n a b core
 ToldSays seen (Some states.Unsat) outcomes.Unsat n a b core = b ≡ a
 ToldSays seen o outcome n a b core = ⊥
 
+-- so an outcome was told, or a call failed
 abbrev pub Tells : {W L : Type 0} {G : Ghosts L} → (W → Writer) → Result (Option State) SolverError → Outcome → Variables → Core W L G → Core W L G → List ℕ → Type 0
 Tells seen r outcome n a b core = MatchResult r (λ o. ToldSays seen o outcome n a b core) (λ e. BreaksOff seen e a b)

@@ -25,6 +25,7 @@ pub record AreAsked {W L : Type 0} {G : Ghosts L} (n : Variables) (c : Core W L 
   pub spelt : GlobalImages n user t.globals.items
   pub globals : t.globals.items ≡ (session_of c.proof).assumed
 
+-- a literal over this name, with the sign of that one; without a name it stays as it is
 abbrev pub named_by : Option ℕ → ℕ → ℕ
 named_by None l = l
 named_by (Some u) l = coded u (is_positive l)

@@ -29,6 +29,7 @@ use Rattle.sat_solver.specs.solver.Whole.{IsWhole, steps_in}
 abbrev pub IsAsked : {W L : Type 0} {G : Ghosts L} → Solver W L G → ℕ → Type 0
 IsAsked s user = (l : ℕ) × Among l s.assumed.items × (variable l ≡ user)
 
+-- the value of a variable of the proof by the values of the search, if there is one
 abbrev pub variable_value : {W L : Type 0} {G : Ghosts L} → Solver W L G → Option ℕ → Option Bool
 variable_value s None = None
 variable_value s (Some v) = Some (value_in s.names s.core.search.parts.assignment.current v)
@@ -64,12 +65,15 @@ ChangesMode seen (Err errors.VariableLimit) old new user judge due May = Refuses
 ChangesMode seen (Err errors.HasFailed) old new user judge due May = Refuses old new (old.failed ≡ true)
 ChangesMode seen (Err e) old new user judge due May = (IsAsked old user → ⊥) × HasRoom old.names (user ∷ []) × EndsNames seen e old new
 
+-- what came of hiding a name
 abbrev pub Hides : {W L : Type 0} {G : Ghosts L} → (W → Writer) → Result (Unit {0}) SolverError → Solver W L G → Solver W L G → ℕ → Type 0
 Hides seen r old new user = ChangesMode seen r old new user (accepted (Hide ((user + 1) ∷ []))) (hiding ((user + 1) ∷ [])) MayHide
 
+-- what came of setting a name to mode witness
 abbrev pub Witnesses : {W L : Type 0} {G : Ghosts L} → (W → Writer) → Result (Unit {0}) SolverError → Solver W L G → Solver W L G → ℕ → Type 0
 Witnesses seen r old new user = ChangesMode seen r old new user (accepted (Witness ((user + 1) ∷ []))) (setting Witnessed ((user + 1) ∷ [])) (MaySet (user + 1) false)
 
+-- what came of setting a name to mode sample
 abbrev pub Samples : {W L : Type 0} {G : Ghosts L} → (W → Writer) → Result (Unit {0}) SolverError → Solver W L G → Solver W L G → ℕ → Type 0
 Samples seen r old new user = ChangesMode seen r old new user (accepted (Sample ((user + 1) ∷ []))) (setting Sampled ((user + 1) ∷ [])) (MaySet (user + 1) true)
 

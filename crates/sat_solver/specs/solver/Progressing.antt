@@ -23,6 +23,7 @@ is_open_at n values x = is_some (global_at n x) && (nat_lt x (length values) && 
 abbrev pub open_vars : Variables → List (Option Bool) → ℕ
 open_vars n values = count_to (indices_used n) (is_open_at n values)
 
+-- the same of a solver
 abbrev pub open_in : {W L : Type 0} {G : Ghosts L} → Solver W L G → ℕ
 open_in s = open_vars s.names s.core.search.parts.assignment.current
 

@@ -35,6 +35,7 @@ pub record Opened {W L : Type 0} {G : Ghosts L} (seen : W → Writer) (format : 
   pub target_is : target_of seen new.core.proof ≡ Open format start (empty_sink (seen target))
   pub same : new ≡ record old { core = record old.core { proof = new.core.proof } }
 
+-- what came of opening a proof: only a solver that wasn't used, with no proof open, takes a target
 abbrev pub Opens : {W L : Type 0} {G : Ghosts L} → (W → Writer) → Result (Unit {0}) SolverError → ProofFormat → W → Solver W L G → Solver W L G → Type 0
 Opens seen (Ok x) format target old new = Opened seen format target old new
 Opens seen (Err errors.HasFailed) format target old new = Refuses old new (old.failed ≡ true)
@@ -51,6 +52,7 @@ pub record Checks {W L : Type 0} {G : Ghosts L} (seen : W → Writer) (old new :
   pub asked : has_asked new.core.proof ≡ has_asked old.core.proof
   pub same : new ≡ record old { core = record old.core { proof = new.core.proof } }
 
+-- what came of asking for a checker of the solver's own: it begins, or it's too late for one
 abbrev pub Enables : {W L : Type 0} {G : Ghosts L} → (W → Writer) → Result (Unit {0}) SolverError → Solver W L G → Solver W L G → Type 0
 Enables seen (Ok x) old new = Checks seen old new
 Enables seen (Err errors.HasFailed) old new = Refuses old new (old.failed ≡ true)
@@ -84,6 +86,7 @@ pub record Unheard {W L : Type 0} {G : Ghosts L} (seen : W → Writer) (old new 
   pub listening : audience new.core.proof ≡ Some before
   pub clock : new.clock ≡ old.clock
 
+-- what came of adding a processor: it listens, or came too late, or no memory was left for it
 abbrev pub AddsProcessor : {W L : Type 0} {G : Ghosts L} → (W → Writer) → Result (Unit {0}) SolverError → L → Solver W L G → Solver W L G → Type 0
 AddsProcessor seen (Ok x) processor old new = Listens seen processor old new
 AddsProcessor seen (Err errors.HasFailed) processor old new = Refuses old new (old.failed ≡ true)
@@ -132,6 +135,7 @@ pub record ClosedUnchecked {W L : Type 0} {G : Ghosts L} (seen : W → Writer) (
   pub fails : FailsCheck seen fault (End ∷ []) old.core.proof new.core.proof
   pub clock : new.clock ≡ old.clock
 
+-- what came of closing a proof: the target came back, or none was open, or something failed
 abbrev pub ClosesProof : {W L : Type 0} {G : Ghosts L} → (W → Writer) → Result (Option W) SolverError → Solver W L G → Solver W L G → Type 0
 ClosesProof seen (Ok None) old new = ClosedNone seen old new
 ClosesProof seen (Ok (Some given)) old new = ClosedOne seen given old new

@@ -25,6 +25,7 @@ SolverIsJudged s = IsSolver s → s.failed ≡ false → IsJudged s
 abbrev pub IsRightLine : {W L : Type 0} {G : Ghosts L} → Solver W L G → List ℕ → Type 0
 IsRightLine s line = (j : Judge) (live : Live) → Agree s.names (steps_in s) j live → IsRightModel j (asked_in s) (map named_literal line)
 
+-- the same of a failed core, in whatever order
 abbrev pub IsRightCoreOf : {W L : Type 0} {G : Ghosts L} → Solver W L G → List ℕ → Type 0
 IsRightCoreOf s core = (j : Judge) (live : Live) → Agree s.names (steps_in s) j live → IsCoreOf j (asked_in s) (map named_literal core)
 
@@ -45,12 +46,14 @@ ModelFails errors.HasFailed s = s.failed ≡ true
 ModelFails errors.OutOfMemory s = (s.failed ≡ false) × (s.state ≡ states.Sat)
 ModelFails e s = ⊥
 
+-- nothing satisfies the clauses, or the clauses and the assumptions
 abbrev pub is_unsat : State → Type 0
 is_unsat states.Unknown = ⊥
 is_unsat states.Sat = ⊥
 is_unsat states.UnsatUnderAssumptions = Unit {0}
 is_unsat states.Unsat = Unit {0}
 
+-- the failed core of a state: the one told, or none of the assumptions
 abbrev pub core_for : {W L : Type 0} {G : Ghosts L} → State → Solver W L G → List ℕ
 core_for states.UnsatUnderAssumptions s = s.told.failed_core.items
 core_for st s = []

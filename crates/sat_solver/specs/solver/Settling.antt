@@ -28,6 +28,7 @@ pub record Settled {W L : Type 0} {G : Ghosts L} (seen : W → Writer) (old new 
   pub times : AdvancesIn (steps_in old) (steps_in new) (learned_of new.state (new.clock.steps - old.clock.steps))
   pub known : (old.state ≡ states.Unknown → ⊥) → Adds seen [] old.core.proof new.core.proof × (new ≡ record old { core = record old.core { proof = new.core.proof } })
 
+-- so it was settled, or a call failed: where an answer was known, a flush or the solver's own checker
 abbrev pub Settles : {W L : Type 0} {G : Ghosts L} → (W → Writer) → Result (Unit {0}) SolverError → Solver W L G → Solver W L G → Type 0
 Settles seen (Ok x) old new = Settled seen old new
 Settles seen (Err e) old new = BreaksOff seen e old.core new.core × CountsRounds old new × ((old.state ≡ states.Unknown → ⊥) → FlushFails seen e old.core.proof new.core.proof)

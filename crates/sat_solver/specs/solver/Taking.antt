@@ -50,6 +50,7 @@ pub record TookClause {W L : Type 0} {G : Ghosts L} (seen : W → Writer) (n n' 
 abbrev pub IsNameFaultOr : (full : Type 0) → SolverError → Type 0
 IsNameFaultOr full e = IsFaultOr full e ⊎ (e ≡ errors.VariableLimit)
 
+-- a call over names failed behind these steps, for a full clause buffer only where it is full
 pub record BreaksNamesOr {W L : Type 0} {G : Ghosts L} (full : Type 0) (seen : W → Writer) (e : SolverError) (a b : Core W L G) : Type 0 where
   pub fault : IsNameFaultOr full e
   pub steps : List Step
@@ -64,6 +65,7 @@ BreaksNames seen e a b = BreaksNamesOr ⊥ seen e a b
 abbrev pub BreaksNamesOff : {W L : Type 0} {G : Ghosts L} → (full : Type 0) → (W → Writer) → SolverError → Core W L G → Core W L G → Type 0
 BreaksNamesOff full seen e a b = BreaksNamesOr full seen e a b × IsKept e b.proof
 
+-- what came of taking a clause: whether a valuation may be left, or a fault
 abbrev pub TakesClause : {W L : Type 0} {G : Ghosts L} → (W → Writer) → Result Bool SolverError → Variables → Variables → Core W L G → Core W L G → List ℕ → Type 0
 TakesClause seen r n n' a b user = MatchResult r (TookClause seen n n' a b user) (λ e. BreaksNamesOff (IsFull b.search.parts) seen e a b)
 
@@ -76,5 +78,6 @@ pub record TookAssumptions {W L : Type 0} {G : Ghosts L} (seen : W → Writer) (
   pub config : b.config ≡ a.config
   pub asked : AreAsked n' b user t
 
+-- what came of taking assumptions: these in place of others, or a fault
 abbrev pub TakesAssumptions : {W L : Type 0} {G : Ghosts L} → (W → Writer) → Result (Unit {0}) SolverError → Variables → Variables → Core W L G → Core W L G → List ℕ → Taken → Type 0
 TakesAssumptions seen r n n' a b user t = MatchResult r (λ _. TookAssumptions seen n n' a b user t) (λ e. BreaksNamesOff ⊥ seen e a b)

@@ -28,6 +28,7 @@ use Rattle.sat_solver.specs.solver.Answering.{line_of}
 abbrev pub steps_in : {W L : Type 0} {G : Ghosts L} → Solver W L G → List Step
 steps_in s = steps_of s.core.proof
 
+-- what these steps leave, as a session
 abbrev pub session_in : {W L : Type 0} {G : Ghosts L} → Solver W L G → Session
 session_in s = session_of s.core.proof
 
@@ -56,6 +57,7 @@ pub record AskGoesOn {W L : Type 0} {G : Ghosts L} (c : Core W L G) (n : Variabl
   pub joined : IsJoined n c
   pub lits : c.search.assumptions.lits.items ≡ asked.order.items
 
+-- what a state says: the search goes on, with a model or a failed core, or unsat is recorded
 abbrev pub StateSays : {W L : Type 0} {G : Ghosts L} → State → Core W L G → Variables → Taken → (assumed core : List ℕ) → Type 0
 StateSays states.Unknown c n asked assumed core = AskGoesOn c n asked
 StateSays states.Sat c n asked assumed core = AskGoesOn c n asked × HasModel c

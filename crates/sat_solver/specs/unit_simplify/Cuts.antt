@@ -13,6 +13,7 @@ use Rattle.sat_solver.specs.cdcl.Going.{EmitsSteps}
 abbrev pub deletion : Bool → Deletion → Deletion
 deletion redundant other = if redundant then Redundant else other
 
+-- the step by which a long clause goes
 abbrev pub deleted_step : Bool → Deletion → List ℕ → Step
 deleted_step redundant other clause = DeleteClause clause (deletion redundant other)
 

@@ -10,6 +10,7 @@ use Rattle.sat_solver.specs.declared.unit_simplify.looks.Looks.TheVariants.{Sati
 abbrev pub HasTrue : Parts → ℕ → Type 0
 HasTrue p o = (k : ℕ) × ((k < size_of p.clauses o) × IsTrueLit p.assignment.current (lit_of p.clauses o k))
 
+-- one of its literals is false
 abbrev pub HasFalse : Parts → ℕ → Type 0
 HasFalse p o = (k : ℕ) × ((k < size_of p.clauses o) × IsFalseLit p.assignment.current (lit_of p.clauses o k))
 
@@ -17,6 +18,7 @@ HasFalse p o = (k : ℕ) × ((k < size_of p.clauses o) × IsFalseLit p.assignmen
 abbrev pub IsOpenAt : Parts → ℕ → Type 0
 IsOpenAt p o = (k : ℕ) → k < size_of p.clauses o → IsOpenLit p.assignment.current (lit_of p.clauses o k)
 
+-- the clause at this place looks so under the values of level 0
 abbrev pub LooksSo : Looks → Parts → ℕ → Type 0
 LooksSo Satisfied p o = HasTrue p o
 LooksSo Whole p o = IsOpenAt p o

@@ -70,6 +70,7 @@ pub record Simplified {W L : Type 0} {G : Ghosts L} (seen : W → Writer) (n n' 
   pub left : (o : ℕ) → Contains (live_refs c'.parts.clauses c'.parts.db.refs) o → IsOpenAt c'.parts o
   pub indices : AllLeft n' (session_of p') c'.parts
 
+-- what came of a simplification, or what it failed of
 abbrev pub Simplifies : {W L : Type 0} {G : Ghosts L} → (W → Writer) → Result (Unit {0}) SolverError → Variables → Variables → Proof W L G → Proof W L G → Search → Search → Type 0
 Simplifies seen r n n' p p' c c' = MatchResult r (λ _. Simplified seen n n' p p' c c') (λ e. Falls seen e p p')
 
@@ -82,6 +83,7 @@ pub record Refutes {W L : Type 0} {G : Ghosts L} (n n' : Variables) (p p' : Proo
   pub moved : Moved c c'
   pub word : TrailWordExtendsFor (assumed_in c) c.parts c'.parts
 
+-- a round may go on from here, or a clause is false already
 abbrev pub BeginSays : {W L : Type 0} {G : Ghosts L} → (W → Writer) → Option Conflict → Variables → Variables → Proof W L G → Proof W L G → Search → Search → Type 0
 BeginSays seen None n n' p p' c c' = Passes seen n n' p p' c c'
 BeginSays seen (Some e) n n' p p' c c' = Refutes n n' p p' c c' e

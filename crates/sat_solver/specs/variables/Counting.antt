@@ -2,6 +2,7 @@
 use Rattle.std.specs.Prelude.{ℕ, zero, suc, ◌+◌, ◌≡◌, Bool, is_some, List, Option, length, if◌then◌else◌}
 use Rattle.sat_store.specs.variables.Maps.{Both, target}
 
+-- of the numbers below a bound, how many pass
 unfoldable pub count_to : ℕ → (ℕ → Bool) → ℕ
 count_to zero f = 0
 count_to (suc n) f = count_to n f + (if f n then 1 else 0)

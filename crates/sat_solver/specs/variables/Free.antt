@@ -4,6 +4,7 @@ use Rattle.sat_base.specs.values.Literals.{largest}
 use Rattle.sat_solver.specs.variables.Counting.{count_to}
 use Rattle.sat_solver.specs.declared.variables.free.FreeIndices.{FreeIndices}
 
+-- whether the node says that an index at or below it is free; past the list none does
 abbrev pub node_at : List Bool → ℕ → Bool
 node_at nodes q = get_or nodes q false
 
@@ -11,10 +12,12 @@ node_at nodes q = get_or nodes q false
 abbrev pub is_free : FreeIndices → ℕ → Bool
 is_free f i = node_at f.nodes.items (f.room + i)
 
+-- the leaves of a tree with this many levels above them: a power of two
 unfoldable pub doubled : ℕ → ℕ
 doubled zero = 1
 doubled (suc h) = 2 * doubled h
 
+-- there is no leaf, or a power of two of them, within the limit of variables
 pub data Powers (f : FreeIndices) : Type 0 where
   empty : f.room ≡ 0 → Powers f
   power : f.room ≡ doubled f.height → f.room ≤ largest → Powers f
@@ -23,6 +26,7 @@ pub data Powers (f : FreeIndices) : Type 0 where
 abbrev pub IsCounted : FreeIndices → Type 0
 IsCounted f = f.count ≡ count_to f.room (is_free f)
 
+-- a complete tree over so many leaves, and the count of the free ones
 pub record IsTree (f : FreeIndices) : Type 0 where
   pub size : length f.nodes.items ≡ 2 * f.room
   pub powers : Powers f
@@ -45,6 +49,7 @@ pub record IsChild (nodes : List Bool) (at child : ℕ) : Type 0 where
   pub holds : node_at nodes child ≡ true
   pub is : (child ≡ 2 * at) ⊎ ((child ≡ 2 * at + 1) × (node_at nodes (2 * at) ≡ false))
 
+-- the index is free, and none below it is
 pub record IsLowest (f : FreeIndices) (i : ℕ) : Type 0 where
   pub free : is_free f i ≡ true
   pub lowest : (k : ℕ) → k < i → is_free f k ≡ false

@@ -43,6 +43,7 @@ coming n users = reach (names_used n) users - names_used n + hidden_count n user
 abbrev pub HasRoom : Variables → List ℕ → Type 0
 HasRoom n users = live_count n + coming n users ≤ largest
 
+-- whether there's room, as a test tells it
 abbrev pub SaysRoom : Bool → Variables → List ℕ → Type 0
 SaysRoom true n users = HasRoom n users
 SaysRoom false n users = HasRoom n users → ⊥

@@ -19,6 +19,7 @@ use Rattle.sat_checker.specs.matching.Bridge.{Live, Apart}
 use Rattle.sat_solver.specs.variables.Live.{given, given_of}
 use Rattle.sat_solver.specs.declared.variables.Variables.{Variables}
 
+-- what the solver keeps of a variable of the proof; past its list the variable isn't in use
 abbrev pub data_at : Variables → ℕ → VarData
 data_at n v = get_or n.var_data.items v unused_variable
 
@@ -46,6 +47,7 @@ names_used n = length n.global_from_user.fwd
 abbrev pub variables_used : Variables → ℕ
 variables_used n = length n.var_data.items
 
+-- how many indices of the search were ever used, also such as are free again
 abbrev pub indices_used : Variables → ℕ
 indices_used n = length n.solver_from_global.bwd
 
@@ -138,10 +140,12 @@ abbrev pub mode_for : Bool → SamplingMode
 mode_for true = kept.Sample
 mode_for false = kept.Witness
 
+-- the same mode in the judge's words
 abbrev pub judged_mode : Bool → judged.Mode
 judged_mode true = Sampled
 judged_mode false = Witnessed
 
+-- is a variable kept as one of mode witness?
 abbrev pub is_witness_kept : SamplingMode → Bool
 is_witness_kept kept.Sample = false
 is_witness_kept kept.Witness = true

@@ -3,6 +3,7 @@ use Rattle.std.specs.Prelude.{◌≡◌, ◌≢◌, ℕ, ◌+◌, ◌-◌, ◌*�
 use Rattle.sat_base.specs.values.Literals.{largest}
 use Rattle.sat_store.specs.declared.vsids.heap.Entry.{Entry}
 
+-- what is read behind the end of the list
 abbrev pub no_entry : Entry
 no_entry = record { key = 0; var = 0 }
 
@@ -30,9 +31,11 @@ pub record Placed (heap : List Entry) (positions : List ℕ) : Type 0 where
 abbrev pub rank : Entry → ℕ
 rank e = e.key * largest + (largest - 1 - e.var)
 
+-- the rank of the variable at this place
 abbrev pub rank_at : List Entry → ℕ → ℕ
 rank_at heap k = rank (get_or heap k no_entry)
 
+-- the place in the heap above this one; each is above four
 abbrev pub parent : ℕ → ℕ
 parent k = (k - 1) / 4
 

@@ -11,6 +11,7 @@ four_bumped = iterate (bumped 3) 3 (iterate (bumped 2) 2 (bumped 1 (record (with
 abbrev pub Has : List ℕ → ℕ → Queue → Type 0
 Has activities bump q = (q.activities ≡ activities) × (q.bump ≡ bump)
 
+-- sixty doublings of the bump, of which the fortieth brings it to 2 ^ 60: activities fall to 0
 abbrev pub SixtyDecays : Type 0
 SixtyDecays = Has (0 ∷ 0 ∷ 0 ∷ 0 ∷ []) (2 ^ 40) (iterate decayed 60 four_bumped)
 

@@ -12,6 +12,7 @@ pub record Queue : Type 0 where
 abbrev pub may_pick : Queue → ℕ → Bool
 may_pick q v = get_or q.available v false
 
+-- a variable's activity, 0 for one that isn't there; the highest is picked first
 abbrev pub activity_of : Queue → ℕ → ℕ
 activity_of q v = get_or q.activities v 0
 
