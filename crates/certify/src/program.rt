@@ -121,6 +121,7 @@ fn serve<R: AllocGlobal + Files, O: CountedWrite, E: CountedWrite>(
     }
 }
 
+/// Tells the usage. A fault of telling it is ignored.
 fn misused<E: CountedWrite>(errors: &mut E) -> u8
     ensures { result ≡ 2 }
 {
@@ -129,6 +130,7 @@ fn misused<E: CountedWrite>(errors: &mut E) -> u8
     MISUSED
 }
 
+/// Tells a fault by its name. The status is the same for each of them.
 fn failed<E: CountedWrite>(errors: &mut E, fault: Fault) -> u8
     ensures { result ≡ 3 }
 {

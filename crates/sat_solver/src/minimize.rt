@@ -73,7 +73,7 @@ fn is_implied(
     Ok(true)
 }
 
-/// The levels of the literals.
+/// A filter for the levels of the literals: it lets each of them pass, and perhaps some others.
 fn levels_of(graph: &ImplGraph, lits: &[Lit]) -> LevelAbstraction
     requires { HaveNodes graph.now lits.now }
 {

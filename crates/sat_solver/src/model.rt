@@ -7,6 +7,7 @@ use crate::variables::Variables;
 use sat_base::{Lit, Var};
 use std::alloc::AllocError;
 
+/// What has no value counts as false in a model.
 fn holds(value: Option<bool>) -> bool
     ensures { result ≡ is_true value }
 {

@@ -36,12 +36,14 @@ pub(crate) struct Answers {
     due: Vec<u8>,
 }
 
+/// Whether the line that was read is the one that is due.
 fn is_same(line: &[u8], due: &[u8]) -> bool
     ensures { MatchBool result (line.now ≡ due.now) (line.now ≡ due.now → ⊥) }
 {
     line == due
 }
 
+/// Whether the answers were over where a line was read.
 fn is_none(line: &[u8]) -> bool
     ensures { MatchBool result (line.now ≡ []) (line.now ≡ [] → ⊥) }
 {
@@ -112,7 +114,7 @@ impl Answers {
         }
     }
 
-    /// Takes the line that is due.
+    /// Reads a line, which has to be the one that is due.
     fn take_due<A: CountedRead>(&mut self, answers: &mut A) -> Result<(), Stop>
         requires open_yet { IsNotAtEnd (answers_source A.seen answers.old self.old) }
         requires line { IsLine self.old.due.items }
@@ -156,7 +158,7 @@ impl Answers {
         self.take_due(answers)
     }
 
-    /// Reads the first line of an answer.
+    /// Reads the first line of an answer, which tells its kind.
     fn read_first<A: CountedRead>(&mut self, answers: &mut A) -> Result<AnswerKind, Stop>
         requires open_yet { IsNotAtEnd (answers_source A.seen answers.old self.old) }
         ensures { Replies true result (answers_source A.seen answers.old self.old) (answers_source A.seen answers.new self.new)

@@ -231,6 +231,7 @@ impl Session {
         self.confirm_over(answers, steps)
     }
 
+    /// Confirms that the answers' last line tells of the malformed command, and the end.
     fn confirm_malformed<A: CountedRead, C: CountedRead>(
         &mut self,
         answers: &mut A,

@@ -25,7 +25,7 @@ pub(crate) struct Confirmation {
 }
 
 impl Confirmation {
-    /// Confirms the command that came.
+    /// Counts the command that came, and confirms it.
     fn confirm_next<A: CountedRead, C: CountedRead>(
         &mut self,
         answers: &mut A,

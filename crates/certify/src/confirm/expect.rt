@@ -57,6 +57,7 @@ fn unless(holds: bool, why: Why) -> Option<Why>
     Some(why)
 }
 
+/// The name is put on a variable that the checker doesn't know yet.
 fn compare_new_name(known: Known<'_>, step: &ProofStep<'_>, name: Var) -> Option<Why>
     ensures { Compares (λ o ask. NewName (name + 1)) known.entry (step_of step.now) result }
 {
@@ -76,6 +77,7 @@ fn compare_new_name(known: Known<'_>, step: &ProofStep<'_>, name: Var) -> Option
     None
 }
 
+/// The variable that the name stands for loses it, and no other one.
 fn compare_no_name(known: Known<'_>, step: &ProofStep<'_>, name: Var) -> Option<Why>
     ensures { Compares (λ o ask. NoName (name + 1)) known.entry (step_of step.now) result }
 {
@@ -94,6 +96,7 @@ fn compare_no_name(known: Known<'_>, step: &ProofStep<'_>, name: Var) -> Option<
     None
 }
 
+/// A clause is added with the literals of the script's, in whatever order and however often.
 fn compare_clause(
     known: Known<'_>,
     step: &ProofStep<'_>,
@@ -109,6 +112,7 @@ fn compare_clause(
     Ok(unless(same, Why::ClauseDiffers))
 }
 
+/// Assumptions are set with the literals of the ask, in whatever order and however often.
 fn compare_ask(
     known: Known<'_>,
     step: &ProofStep<'_>,
@@ -124,6 +128,7 @@ fn compare_ask(
     Ok(unless(same, Why::AskDiffers))
 }
 
+/// The core of the answer fails. Its hashes are the checker's concern.
 fn compare_core(
     known: Known<'_>,
     step: &ProofStep<'_>,
@@ -169,6 +174,7 @@ fn compare_line(
     Ok(unless(shown, Why::AnswerDiffers))
 }
 
+/// Assumptions are set that are none.
 fn compare_close(known: Known<'_>, step: &ProofStep<'_>) -> Option<Why>
     ensures { Compares (λ o ask. Closes) known.entry (step_of step.now) result }
 {
@@ -181,6 +187,7 @@ fn compare_close(known: Known<'_>, step: &ProofStep<'_>) -> Option<Why>
     Some(Why::AskDiffers)
 }
 
+/// The certificate ends here; what stands behind is of no matter.
 fn compare_end(known: Known<'_>, step: &ProofStep<'_>) -> Option<Why>
     ensures { Compares (λ o ask. Finish) known.entry (step_of step.now) result }
 {

@@ -20,7 +20,7 @@ pub(crate) fn is_ordered(tag: u8) -> bool
     tag == 2 || tag == 5 || tag == 10 || tag == 11 || tag == 12 || tag == 13
 }
 
-/// Reads the next step.
+/// Reads the next step, which is still to be fed.
 pub(crate) fn read_next<R: CountedRead>(steps: &mut StepReader<'_, R>) -> Result<(), Stop>
     requires { StepsGoOn R.seen steps.old }
     ensures same { SameLoan steps.old steps.new }
@@ -36,7 +36,7 @@ pub(crate) fn read_next<R: CountedRead>(steps: &mut StepReader<'_, R>) -> Result
     }
 }
 
-/// Feeds a step to the checker.
+/// Feeds a step. One that isn't accepted makes a no, whatever is expected.
 pub(crate) fn feed(checker: &mut Checker, step: &ProofStep<'_>) -> Result<(), Stop>
     ensures feeds { Feeds result (kernel_of checker.old) (step_of step.now) (kernel_of checker.new) }
     ensures looks { LooksAtMost (kernel_of checker.old) (step_of step.now) (kernel_of checker.new) }

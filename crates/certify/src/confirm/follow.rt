@@ -10,6 +10,7 @@ use crate::confirm::variables::NamedVars;
 use sat_base::{ProofStep, Var};
 use std::alloc::AllocError;
 
+/// The name stands for the variable that the step puts it on.
 fn follow_new_name(
     variables: &mut NamedVars,
     name: Var,
@@ -27,6 +28,7 @@ fn follow_new_name(
     variables.put(name, global)
 }
 
+/// The name stands for no variable any more.
 fn follow_no_name(variables: &mut NamedVars, name: Var, step: &ProofStep<'_>)
     ensures { NamesFollow (λ o ask. NoName (name + 1)) variables.old (step_of step.now) variables.new }
 {

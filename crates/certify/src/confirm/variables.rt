@@ -13,6 +13,7 @@ pub(crate) struct NamedVars {
 }
 
 impl NamedVars {
+    /// No name stands for a variable. Takes no memory.
     pub fn new(alloc: Global) -> NamedVars
         ensures { (name : ℕ) → variable_in result name ≡ None }
     {

@@ -46,6 +46,7 @@ impl Names {
         }
     }
 
+    /// The state of a name. One that was never used counts as hidden.
     fn state(&self, var: Var) -> NameState
         ensures { result ≡ state_in self.now.states.items (var + 1) }
     {
@@ -160,7 +161,7 @@ impl Names {
         Ok(())
     }
 
-    /// Brings the name in.
+    /// Brings the name in, and with one that was never used all those below it that weren't.
     pub fn bring_in(&mut self, var: Var) -> Result<(), AllocError>
         ensures changes { OnOk result (Changes self.old self.new (bring_in (var + 1))) }
         ensures in_use { OnOk result (IsInUse self.new (var + 1)) }

@@ -39,6 +39,7 @@ impl Fault {
     }
 }
 
+/// The variant's name.
 fn run_fault_name(fault: RunFault) -> &'static str
     ensures { result.now ≡ run_fault_text fault }
 {
@@ -52,6 +53,7 @@ fn run_fault_name(fault: RunFault) -> &'static str
     }
 }
 
+/// The variant's name.
 fn confirm_fault_name(fault: ConfirmFault) -> &'static str
     ensures { result.now ≡ confirm_fault_text fault }
 {
@@ -64,6 +66,7 @@ fn confirm_fault_name(fault: ConfirmFault) -> &'static str
     }
 }
 
+/// The variant's name.
 fn hints_fault_name(fault: HintsFault) -> &'static str
     ensures { result.now ≡ hints_fault_text fault }
 {

@@ -19,6 +19,7 @@ pub(super) fn tell<E: CountedWrite>(errors: &mut E, name: &str) {
     let _ = errors.flush_counted();
 }
 
+/// Writes to standard output. A fault there is told as one of writing answers, whatever is written.
 pub(super) fn write_out<O: CountedWrite>(output: &mut O, bytes: &[u8]) -> Result<(), Fault>
     ensures { OnOk result (Takes (O.seen output.old) (O.seen output.new) bytes.now) }
 {
@@ -28,6 +29,7 @@ pub(super) fn write_out<O: CountedWrite>(output: &mut O, bytes: &[u8]) -> Result
     }
 }
 
+/// Flushes standard output, so that no fault there is missed.
 pub(super) fn flush_out<O: CountedWrite>(output: &mut O) -> Result<(), Fault>
     ensures took { OnOk result (Takes (O.seen output.old) (O.seen output.new) []) }
     ensures flushed { OnOk result ((O.seen output.new).flushed ≡ true) }

@@ -48,6 +48,7 @@ pub(super) fn run_text<S: CountedRead, A: CountedWrite, C: CountedWrite>(
     Ok((run_status(&summary), summary.progress))
 }
 
+/// Prints the line of a verdict.
 fn print_yes_or_no<O: CountedWrite>(
     alloc: Global,
     verdict: Verdict,
@@ -119,6 +120,7 @@ fn finish_hints<H: CountedWrite>(hints: &mut H) -> Result<u8, Fault>
     }
 }
 
+/// Prints the line that says what a hint text is.
 fn print_hint_verdict<O: CountedWrite>(
     alloc: Global,
     verdict: HintVerdict,

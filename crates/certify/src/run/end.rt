@@ -41,6 +41,7 @@ fn close_certificate<C: CountedWrite + Drop>(solver: Solver<C>) -> (C, Result<()
     }
 }
 
+/// Flushes the answers, so that no fault of their writer is missed.
 fn flush_answers<A: CountedWrite>(answers: &mut A) -> Result<(), RunFault>
     ensures took { OnOk result (Takes (A.seen answers.old) (A.seen answers.new) []) }
     ensures flushed { OnOk result ((A.seen answers.new).flushed ≡ true) }

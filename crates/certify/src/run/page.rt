@@ -62,6 +62,7 @@ pub struct Page {
 }
 
 impl Page {
+    /// No answer. Takes no memory.
     pub fn new(alloc: Global) -> Page
         ensures core { result.core.items ≡ [] }
         ensures text { result.text.items ≡ [] }

@@ -15,7 +15,7 @@ use crate::fault::RunFault;
 use crate::judge::Refusal;
 use sat_base::CountedWrite;
 
-/// Refuses the last command that came.
+/// Counts a refusal of the last command, and writes its line. The solver isn't called.
 pub fn refuse<A: CountedWrite, C: CountedWrite + Drop>(
     session: &mut Session<C>,
     answers: &mut A,

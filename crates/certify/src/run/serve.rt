@@ -32,7 +32,7 @@ fn unread_script(error: ReadError) -> RunFault
     }
 }
 
-/// Serves the command that came.
+/// Serves the command that came, if it can still be counted.
 fn serve_next<A: CountedWrite, C: CountedWrite + Drop>(
     session: &mut Session<C>,
     answers: &mut A,

@@ -56,7 +56,7 @@ fn limit_rounds<C: CountedWrite + Drop>(solver: &mut Solver<C>, budget: u64)
     solver.config(&update).unwrap();
 }
 
-/// Searches for an answer.
+/// Searches for an answer, which is unknown where the rounds are spent.
 fn solve<C: CountedWrite + Drop>(solver: &mut Solver<C>) -> Result<Answer, RunFault>
     requires { IsReady solver.old }
     ensures solved { IfOk result (λ answer. Solved C.seen answer solver.old solver.new) }

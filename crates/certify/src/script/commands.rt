@@ -47,6 +47,7 @@ fn may_stand(kind: CommandKind, positive: bool) -> bool
     }
 }
 
+/// Whether commands of this kind are answered.
 fn is_ask(kind: CommandKind) -> bool
     ensures { result ≡ is_ask_kind (kind_of kind) }
 {
@@ -54,6 +55,7 @@ fn is_ask(kind: CommandKind) -> bool
 }
 
 impl Commands {
+    /// Before the first token.
     pub fn new(alloc: Global) -> Commands
         ensures draft { HoldsHand result.draft Nothing }
         ensures headed { result.headed ≡ false }
@@ -73,7 +75,7 @@ impl Commands {
         self.asked || is_ask(self.draft.kind)
     }
 
-    /// A zero.
+    /// A zero: the command in hand is whole.
     #[inline(always)]
     fn end_command(&mut self)
         ensures { (negative : Bool) → TakesToken Reached.Command self.old (Number negative 0) self.new }
@@ -96,7 +98,7 @@ impl Commands {
         Ok(Reached::More)
     }
 
-    /// A letter.
+    /// A letter, with which a command begins if none is in hand.
     fn begin(&mut self, letter: u8) -> Reached
         ensures { TakesToken result self.old (Letter letter) self.new }
     {

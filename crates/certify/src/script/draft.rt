@@ -20,6 +20,7 @@ pub(crate) struct Draft {
 }
 
 impl Draft {
+    /// No command is in hand. Takes no memory.
     pub fn new(alloc: Global) -> Draft
         ensures { HoldsHand result Nothing }
     {

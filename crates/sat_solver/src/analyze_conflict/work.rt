@@ -58,6 +58,7 @@ impl Analysis {
         self.resize_flags(count)
     }
 
+    /// Drops flags from the end, or adds some that aren't set.
     fn resize_flags(&mut self, count: usize) -> Result<(), AllocError>
         ensures size { OnOk result (length self.new.flags ≡ count) }
         ensures flags { OnOk result (self.new.flags ≡ take count self.old.flags ++ replicate (count - length self.old.flags) false) }
@@ -254,6 +255,7 @@ impl Analysis {
         unflag(&mut self.flags, &self.used, 0);
     }
 
+    /// Whether a false literal is accounted for already: it is of the clause, or its negation is used.
     pub(crate) fn is_flagged(&self, lit: Lit) -> bool
         requires flag { variable lit < length self.now.flags }
         ensures { result ≡ slice_index_or self.now.flags (variable lit) false }
@@ -289,7 +291,7 @@ impl Analysis {
         self.used.truncate(top);
     }
 
-    /// Writes a literal of the clause.
+    /// A literal that stays comes to this place of the clause.
     pub(crate) fn keep(&mut self, at: usize, lit: Lit)
         requires { at < length self.old.clause }
         ensures { self.new ≡ record self.old { clause = slice_set self.old.clause at lit } }

@@ -122,7 +122,7 @@ fn reduce_mids(search: &mut Search, is_due: bool)
     reduce_middle(&mut search.parts);
 }
 
-/// Collects deleted clauses.
+/// Where deleted clauses take more than half of the buffer, the others move together.
 fn collect_deleted(search: &mut Search) -> Result<(), StoreError>
     requires holds { PartsInvariant search.old.parts }
     ensures reduced { OnOk result ((s : Session) → IsSearch s search.old → Reduced s search.old search.new) }

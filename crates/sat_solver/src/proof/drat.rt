@@ -10,6 +10,7 @@ use std::alloc::AllocError;
 /// So many groups of seven bits hold the code of each literal.
 const GROUPS: u32 = 5;
 
+/// A number without leading zeros.
 fn put_decimal(text: &mut Vec<u8>, number: u64) -> Result<(), AllocError>
     ensures { OnOk result (text.new.items ≡ text.old.items ++ decimal number) }
 {
@@ -22,6 +23,7 @@ fn put_decimal(text: &mut Vec<u8>, number: u64) -> Result<(), AllocError>
     Ok(())
 }
 
+/// The number of a literal: a negative one has a minus sign before it.
 fn put_sign(text: &mut Vec<u8>, number: u64, positive: bool) -> Result<(), AllocError>
     ensures { OnOk result (text.new.items ≡ text.old.items ++ ((if positive then [] else codes "-") ++ decimal number)) }
 {
@@ -43,6 +45,7 @@ fn put_words(text: &mut Vec<u8>, lits: &[Lit]) -> Result<(), AllocError>
     text.extend_from_slice(b"0\n")
 }
 
+/// A number in groups of seven bits, the low one first: each but the last has its top bit set.
 fn put_groups(text: &mut Vec<u8>, groups: u32, number: u32) -> Result<(), AllocError>
     ensures { OnOk result (text.new.items ≡ text.old.items ++ seven_bits groups number) }
 {
@@ -80,6 +83,7 @@ fn put_mark(text: &mut Vec<u8>, binary: bool, deleted: bool) -> Result<(), Alloc
     }
 }
 
+/// One line: what tells whether its clause is derived or deleted, and the clause with its end.
 fn put_line(text: &mut Vec<u8>, binary: bool, deleted: bool, lits: &[Lit]) -> Result<(), AllocError>
     ensures { OnOk result (text.new.items ≡ text.old.items ++ (mark binary deleted ++ clause_text binary lits.now)) }
 {

@@ -19,6 +19,7 @@ pub struct Counting {
     pub solving: bool,
 }
 
+/// A width that was computed: it is never past 64.
 fn of_bits(bits: u32) -> HashBits
     requires { bits ≤ 64 }
     ensures { result ≡ bits }
@@ -29,6 +30,7 @@ fn of_bits(bits: u32) -> HashBits
     }
 }
 
+/// The count where a clause comes: it is that of clauses of two literals or more.
 fn with_clause(clauses: u64, clause: &[Lit]) -> u64
     ensures { result ≡ one_more_if clause.now clauses }
 {
@@ -38,6 +40,7 @@ fn with_clause(clauses: u64, clause: &[Lit]) -> u64
     clauses.saturating_add(1)
 }
 
+/// The same where a clause goes.
 fn without_clause(clauses: u64, clause: &[Lit]) -> u64
     ensures { result ≡ one_less_if clause.now clauses }
 {

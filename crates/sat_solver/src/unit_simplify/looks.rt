@@ -36,7 +36,7 @@ fn look_on(parts: &Parts, cref: ClauseRef, from: usize) -> Looks
     Looks::Shorter
 }
 
-/// Looks at the literals of a clause.
+/// What the values make of a clause. Its literals are looked at up to the first that is true.
 pub fn look(parts: &Parts, cref: ClauseRef) -> Looks
     requires holds { PartsInvariant parts.now }
     requires live { HasClause parts.now cref }

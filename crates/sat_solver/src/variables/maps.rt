@@ -94,7 +94,7 @@ pub(crate) fn set_assumed(list: &mut Vec<VarData>, var: Var, assumed: bool)
     list[var.index()].assumed = assumed;
 }
 
-/// Sets a variable's unit.
+/// Notes the unit of a variable, or that it has none.
 pub(crate) fn set_unit(list: &mut Vec<VarData>, var: Var, unit: Option<bool>)
     requires within { var < length list.old.items }
     ensures put { (v : ℕ) → slice_index_or list.new.items v unused_variable ≡

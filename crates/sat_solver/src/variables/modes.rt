@@ -129,6 +129,7 @@ pub fn hide_var<W: StepWriter>(
     forget_idle(variables, writer, global)
 }
 
+/// The mode that a user sets: sample, or else witness. Mode hide comes only with the loss of a name.
 fn mode_of(sample: bool) -> SamplingMode
     ensures { result ≡ mode_for sample }
 {
@@ -139,7 +140,7 @@ fn mode_of(sample: bool) -> SamplingMode
     }
 }
 
-/// Whether the mode is this one.
+/// Whether a variable has the mode already that is to be set.
 #[tactic(auto, using(crate::proofs::lemmas::variables::ModeChanges::other_modes))]
 fn is_mode(mode: SamplingMode, sample: bool) -> bool
     ensures same { result ≡ true → mode ≡ mode_for sample }

@@ -10,6 +10,7 @@ use crate::variables::Variables;
 use sat_base::{Lit, Var};
 use sat_store::SamplingMode;
 
+/// Whether clauses and assumptions over a name of this mode are refused.
 fn is_witness_mode(mode: SamplingMode) -> bool
     ensures { result ≡ is_witness_kept mode }
 {

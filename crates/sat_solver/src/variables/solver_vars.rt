@@ -18,7 +18,7 @@ pub struct Given {
     pub unit: Option<bool>,
 }
 
-/// Gives an index to a variable that has none.
+/// A variable that has no index gets the lowest free one, and its unit is handed on with it.
 fn new_index<W: StepWriter>(
     variables: &mut Variables,
     writer: &mut W,

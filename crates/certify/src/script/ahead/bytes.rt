@@ -9,6 +9,7 @@ use sat_base::{CountedRead, ReadError};
 const MAX_READS: u64 = 1 << 48;
 
 impl Ahead {
+    /// Before the first read.
     pub fn new() -> Ahead
         ensures waiting { waiting result ≡ [] }
         ensures reads { result.reads ≡ 0 }
