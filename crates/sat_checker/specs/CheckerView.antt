@@ -53,8 +53,8 @@ abbrev pub FaultsOfSomebody : {P T : Type 0} → Result Unit CheckerError → Ch
 FaultsOfSomebody result old = (steps : List Step) → kernels.Stands (kernel_of old) steps → IfErr result (FaultOfSomebody old.processing)
 
 -- once it has failed it answers just that, whatever it keeps, and is as it was
-abbrev pub OnlyFails : {E P T : Type 0} → E → Result Unit E → Checker P T → Checker P T → Type 0
-OnlyFails fault result old new = kernels.has_failed (kernel_of old) ≡ true → (result ≡ Err fault) × (new ≡ old)
+abbrev pub FailsAgain : {E P T : Type 0} → E → Result Unit E → Checker P T → Checker P T → Type 0
+FailsAgain fault result old new = kernels.has_failed (kernel_of old) ≡ true → (result ≡ Err fault) × (new ≡ old)
 
 -- What an answer to one who would listen from here on means: these listen then, who are those before and that one.
 abbrev pub AddsListener : {L : Type 0} → Result Unit CheckerError → Kernel → Kernel → L → L → L → Type 0

@@ -6,7 +6,7 @@ ghost use Rattle.sat_checker.specs.Stored.{is_known, name_of};
 ghost use Rattle.sat_checker.specs.Accepts.{ready_after};
 ghost use Rattle.sat_checker.specs.KernelView as kernels;
 ghost use Rattle.sat_checker.specs.KernelView.{has_failed, looks_of, LooksAtMost, Stands};
-ghost use Rattle.sat_checker.specs.CheckerView.{kernel_of, seen_of, AddsListener, ChecksStep, ChecksDelayed, ChecksClause, FaultsOfSomebody, OnlyFails};
+ghost use Rattle.sat_checker.specs.CheckerView.{kernel_of, seen_of, AddsListener, ChecksStep, ChecksDelayed, ChecksClause, FaultsOfSomebody, FailsAgain};
 ghost use Rattle.sat_checker.specs.declared.error.CheckerError.TheVariants.{HasFailed};
 ghost use Rattle.sat_checker.specs.telling.ProcessingView.{listeners_of, HearsEach};
 
@@ -128,7 +128,7 @@ impl<P: ProofProcessor, T: ProofTranscriptProcessor> Checker<P, T> {
         ensures looks { LooksAtMost (kernel_of self.old) (AddClause clause.now) (kernel_of self.new) }
         ensures rise { looks_of (kernel_of self.old) ≤ looks_of (kernel_of self.new) }
         ensures faults { FaultsOfSomebody result self.old }
-        ensures failed { OnlyFails HasFailed result self.old self.new }
+        ensures failed { FailsAgain HasFailed result self.old self.new }
     {
         if self.kernel.failed {
             return Err(CheckerError::HasFailed);
@@ -147,7 +147,7 @@ impl<P: ProofProcessor, T: ProofTranscriptProcessor> Checker<P, T> {
         ensures looks { LooksAtMost (kernel_of self.old) (step_of step.now) (kernel_of self.new) }
         ensures rise { looks_of (kernel_of self.old) ≤ looks_of (kernel_of self.new) }
         ensures faults { FaultsOfSomebody result self.old }
-        ensures failed { OnlyFails HasFailed result self.old self.new }
+        ensures failed { FailsAgain HasFailed result self.old self.new }
     {
         let mut nobody = Nobody {};
         self.kernel
@@ -220,7 +220,7 @@ impl<P: ProofProcessor, T: ProofTranscriptProcessor> SelfChecker for Checker<P, 
         ensures tells { ChecksStep (HearsEach P.takes T.reads)
             result (seen_of self.old) (step_of step.now) (seen_of self.new) }
         ensures faults { FaultsOfSomebody result self.old }
-        ensures failed { OnlyFails HasFailed result self.old self.new }
+        ensures failed { FailsAgain HasFailed result self.old self.new }
     {
         self.check_step(step)
     }
@@ -230,7 +230,7 @@ impl<P: ProofProcessor, T: ProofTranscriptProcessor> SelfChecker for Checker<P, 
         ensures tells { ChecksDelayed (HearsEach P.takes T.reads)
             result (seen_of self.old) (seen_of self.new) }
         ensures faults { FaultsOfSomebody result self.old }
-        ensures failed { OnlyFails HasFailed result self.old self.new }
+        ensures failed { FailsAgain HasFailed result self.old self.new }
     {
         if self.kernel.failed {
             return Err(CheckerError::HasFailed);

@@ -1,7 +1,7 @@
 //! Formulas' texts, clause by clause.
 ghost use Rattle.std.specs.Prelude.{◌≡◌, false};
 ghost use Rattle.sat_base.specs.dimacs.Parsing.{all_taken, no_progress};
-ghost use Rattle.sat_checker.specs.CheckerView.{has_failed, seen_of, OnlyFails};
+ghost use Rattle.sat_checker.specs.CheckerView.{has_failed, seen_of, FailsAgain};
 ghost use Rattle.sat_checker.specs.declared.error.CheckerDimacsError.TheVariants as errors;
 ghost use Rattle.sat_checker.specs.declared.error.CheckerError.TheVariants.{HasFailed};
 ghost use Rattle.sat_checker.specs.DimacsView.{AddsDimacs, DimacsFaultsOfSomebody};
@@ -43,7 +43,7 @@ impl<P: ProofProcessor, T: ProofTranscriptProcessor> Checker<P, T> {
         ensures adds { AddsDimacs (HearsEach P.takes T.reads)
             result (seen_of self.old) (seen_of self.new) (R.seen reader.old) (R.seen reader.new) }
         ensures faults { DimacsFaultsOfSomebody result self.old }
-        ensures failed { OnlyFails (errors.Checker HasFailed) result self.old self.new }
+        ensures failed { FailsAgain (errors.Checker HasFailed) result self.old self.new }
     {
         if self.kernel.failed {
             return Err(CheckerDimacsError::Checker(CheckerError::HasFailed));

@@ -1,5 +1,5 @@
 //! Formulas, clause by clause.
-ghost use Rattle.sat_checker.specs.CheckerView.{seen_of, FaultsOfSomebody, OnlyFails};
+ghost use Rattle.sat_checker.specs.CheckerView.{seen_of, FaultsOfSomebody, FailsAgain};
 ghost use Rattle.sat_checker.specs.declared.error.CheckerError.TheVariants.{HasFailed};
 ghost use Rattle.sat_checker.specs.telling.ProcessingView.{HearsEach};
 ghost use Rattle.sat_checker.specs.ClausesView.{AddsClauses};
@@ -16,7 +16,7 @@ impl<P: ProofProcessor, T: ProofTranscriptProcessor> Checker<P, T> {
         ensures adds { AddsClauses (HearsEach P.takes T.reads)
             result (seen_of self.old) (seen_of self.new) formula.now.clauses }
         ensures faults { FaultsOfSomebody result self.old }
-        ensures failed { OnlyFails HasFailed result self.old self.new }
+        ensures failed { FailsAgain HasFailed result self.old self.new }
     {
         if self.kernel.failed {
             return Err(CheckerError::HasFailed);

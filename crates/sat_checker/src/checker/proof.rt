@@ -6,7 +6,7 @@ ghost use Rattle.sat_base.specs.steps.Steps.{End};
 ghost use Rattle.sat_base.specs.steps.StepReading.{reader_source, reader_name, has_failed as is_stopped};
 ghost use Rattle.sat_base.specs.steps.StepViews.{step_of};
 ghost use Rattle.sat_checker.specs.KernelView.{has_failed};
-ghost use Rattle.sat_checker.specs.CheckerView.{kernel_of, seen_of, seen_with, FaultsOfSomebody, OnlyFails};
+ghost use Rattle.sat_checker.specs.CheckerView.{kernel_of, seen_of, seen_with, FaultsOfSomebody, FailsAgain};
 ghost use Rattle.sat_checker.specs.declared.error.CheckerError.TheVariants.{HasFailed};
 ghost use Rattle.sat_checker.specs.announcements.Announcements.{Told};
 ghost use Rattle.sat_checker.specs.ProofView.{ChecksProof};
@@ -61,7 +61,7 @@ impl<P: ProofProcessor, T: ProofTranscriptProcessor> Checker<P, T> {
         ensures proof { ChecksProof (HearsEach P.takes T.reads)
             result (seen_of self.old) (seen_of self.new) (R.seen reader.old) (R.seen reader.new) }
         ensures faults { FaultsOfSomebody result self.old }
-        ensures failed { OnlyFails HasFailed result self.old self.new }
+        ensures failed { FailsAgain HasFailed result self.old self.new }
     {
         let mut nobody = Nobody {};
         self.check_proof_by(reader, &mut nobody, false)
@@ -75,7 +75,7 @@ impl<P: ProofProcessor, T: ProofTranscriptProcessor> Checker<P, T> {
     ) -> Result<(), CheckerError>
         ensures proof { ChecksProof (HearsFirst O.takes (HearsEach P.takes T.reads))
             result (seen_with own.old self.old) (seen_with own.new self.new) (R.seen reader.old) (R.seen reader.new) }
-        ensures failed { OnlyFails HasFailed result self.old self.new }
+        ensures failed { FailsAgain HasFailed result self.old self.new }
     {
         self.check_proof_by(reader, own, true)
     }
@@ -89,7 +89,7 @@ impl<P: ProofProcessor, T: ProofTranscriptProcessor> Checker<P, T> {
         requires { has_own ≡ false → (v : _) (t : Told) → O.takes v t (Ok tt) v }
         ensures proof { ChecksProof (HearsFirst O.takes (HearsEach P.takes T.reads))
             result (seen_with own.old self.old) (seen_with own.new self.new) (R.seen reader.old) (R.seen reader.new) }
-        ensures failed { OnlyFails HasFailed result self.old self.new }
+        ensures failed { FailsAgain HasFailed result self.old self.new }
     {
         if self.kernel.failed {
             return Err(CheckerError::HasFailed);
