@@ -3,6 +3,7 @@ use Rattle.std.specs.Prelude.{ℕ, ◌≡◌, ◌⊎◌, Bool, true, false, List
 use Rattle.sat_base.specs.steps.Steps.{Step, AddClause}
 use Rattle.sat_checker.specs.Spent.{IsSpent, SpentBy}
 use Rattle.sat_checker.specs.Accepts.{Accepts, stored_after, ready_after}
+use Rattle.sat_checker.specs.Judging.{JudgedBefore}
 use Rattle.sat_checker.specs.KernelView as kernels
 use Rattle.sat_checker.specs.announcements.Announcements.{Told, told_after, all_told_after}
 use Rattle.sat_checker.specs.telling.Hearing.{Hearers, hearers, HearsSince, HearsSinceUpTo, told_by}
@@ -99,6 +100,10 @@ module _ {L : Type 0} (Hears : L → Told → Result Unit ProcessingError → L 
   abbrev pub BreaksAt : ProcessingError → Seen L → Step → List Step → Type 0
   BreaksAt e new step steps = Breaks e (all_told_after steps) new steps ⊎ (Accepts (ready_after steps) step × Breaks e (told_after (step ∷ steps)) new (step ∷ steps))
 
+  -- There was no memory for the step, behind what is judged of it before, or as something was told.
+  abbrev pub StarvesAt : Seen L → Step → List Step → Type 0
+  StarvesAt new step steps = (JudgedBefore (ready_after steps) step × Stops new steps) ⊎ BreaksAt faults.OutOfMemory new step steps
+
   -- the step was accepted, as the definition has it
   pub record Takes (new : Seen L) (step : Step) (steps : List Step) : Type 0 where
     pub accepts : Accepts (ready_after steps) step
@@ -110,7 +115,7 @@ module _ {L : Type 0} (Hears : L → Told → Result Unit ProcessingError → L 
   AnswersStep (Ok x) old step new steps = (has_failed old ≡ false) × Takes new step steps
   AnswersStep (Err errors.CheckFailed) old step new steps = (has_failed old ≡ false) × (Accepts (ready_after steps) step → ⊥) × Refuses new steps
   AnswersStep (Err errors.CounterEnd) old step new steps = (has_failed old ≡ false) × SpentBy step (stored_after steps) × Stops new steps
-  AnswersStep (Err errors.OutOfMemory) old step new steps = (has_failed old ≡ false) × (Stops new steps ⊎ BreaksAt faults.OutOfMemory new step steps)
+  AnswersStep (Err errors.OutOfMemory) old step new steps = (has_failed old ≡ false) × StarvesAt new step steps
   AnswersStep (Err (errors.ProofProcessorError cause)) old step new steps = (has_failed old ≡ false) × BreaksAt (faults.ProofProcessorError cause) new step steps
   AnswersStep (Err errors.HasFailed) old step new steps = (has_failed old ≡ true) × (new ≡ old)
   AnswersStep (Err errors.ProofIncomplete) old step new steps = ⊥

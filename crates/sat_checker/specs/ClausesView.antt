@@ -1,8 +1,8 @@
 -- What contracts see of clauses that are added one after another.
-use Rattle.std.specs.Prelude.{ℕ, ◌≡◌, ◌+◌, ◌≤◌, ◌⊎◌, true, false, List, [], ◌∷◌, ◌++◌, map, Result, Ok, Err}
+use Rattle.std.specs.Prelude.{ℕ, ◌≡◌, ◌+◌, ◌≤◌, true, false, List, [], ◌∷◌, ◌++◌, map, Result, Ok, Err}
 use Rattle.sat_base.specs.steps.Steps.{Step, AddClause}
 use Rattle.sat_checker.specs.Accepts.{Accepts, stored_after, ready_after}
-use Rattle.sat_checker.specs.CheckerView.{Seen, has_failed, looks_of, Stands, Stops, BreaksAt}
+use Rattle.sat_checker.specs.CheckerView.{Seen, has_failed, looks_of, Stands, Stops, BreaksAt, StarvesAt}
 use Rattle.sat_checker.specs.announcements.Announcements.{Told}
 use Rattle.sat_checker.specs.ProofView.{taken_after, most_looks_behind, GoesOn}
 use Rattle.sat_checker.specs.Spent.{SpentBy}
@@ -38,7 +38,7 @@ module _ {L : Type 0} (Hears : L → Told → Result Unit ProcessingError → L 
       × SpentBy (AddClause clause) (stored_after (behind added earlier)) × Stops Hears before begun new (behind added earlier)
   AnswersClauses (Err errors.OutOfMemory) old new clauses earlier =
       (added : List (List ℕ)) × (clause : List ℕ) × Adds old new clauses added (clause ∷ []) earlier
-      × (Stops Hears before begun new (behind added earlier) ⊎ BreaksAt Hears before begun faults.OutOfMemory new (AddClause clause) (behind added earlier))
+      × StarvesAt Hears before begun new (AddClause clause) (behind added earlier)
   AnswersClauses (Err (errors.ProofProcessorError cause)) old new clauses earlier =
       (added : List (List ℕ)) × (clause : List ℕ) × Adds old new clauses added (clause ∷ []) earlier
       × BreaksAt Hears before begun (faults.ProofProcessorError cause) new (AddClause clause) (behind added earlier)

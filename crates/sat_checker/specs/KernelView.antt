@@ -1,9 +1,10 @@
 -- What contracts see of the part of a checker that judges steps: those that it accepted, input clauses among them, and whether it has failed. Who listens is left out.
-use Rattle.std.specs.Prelude.{ℕ, ◌≡◌, ◌⊎◌, ◌+◌, ◌≤◌, Bool, true, false, None, List, ◌∷◌, Result, Ok, Err}
+use Rattle.std.specs.Prelude.{ℕ, ◌≡◌, ◌≢◌, ◌⊎◌, ◌+◌, ◌≤◌, Bool, true, false, None, List, ◌∷◌, Result, Ok, Err}
 use Rattle.sat_base.specs.steps.Steps.{Step}
 use Rattle.sat_checker.specs.Stored.{Stored}
 use Rattle.sat_checker.specs.Spent.{IsSpent, SpentBy}
 use Rattle.sat_checker.specs.Accepts.{Accepts, AcceptsAll, stored_after, ready_after}
+use Rattle.sat_checker.specs.Judging.{JudgedBefore}
 use Rattle.sat_checker.specs.Looks.{most_looks}
 use Rattle.sat_checker.specs.inner.StateView.{Keeps}
 use Rattle.sat_checker.specs.declared.kernel.Kernel.{Kernel}
@@ -45,6 +46,10 @@ pub record Fails (new : Kernel) (steps : List Step) : Type 0 where
   pub stands : Stands new steps
   pub failed : has_failed new ≡ true
 
+-- a unit conflict that these steps left is pending, and is told before the next step is judged
+abbrev pub LeavesConflict : List Step → Type 0
+LeavesConflict steps = (stored_after steps).conflict ≢ None
+
 -- the step was accepted, as the definition has it
 pub record Takes (new : Kernel) (step : Step) (steps : List Step) : Type 0 where
   pub accepts : Accepts (ready_after steps) step
@@ -56,8 +61,12 @@ abbrev pub AnswersStep : Result Unit CheckerError → Kernel → Step → Kernel
 AnswersStep (Ok x) old step new steps = (has_failed old ≡ false) × Takes new step steps
 AnswersStep (Err errors.CheckFailed) old step new steps = (has_failed old ≡ false) × (Accepts (ready_after steps) step → ⊥) × Fails new steps
 AnswersStep (Err errors.CounterEnd) old step new steps = (has_failed old ≡ false) × SpentBy step (stored_after steps) × Fails new steps
--- before the step was taken, or as it was told: then it's among the accepted ones
-AnswersStep (Err errors.OutOfMemory) old step new steps = (has_failed old ≡ false) × (Fails new steps ⊎ (Accepts (ready_after steps) step × Fails new (step ∷ steps)))
+-- for the step, behind what is judged of it before; as a pending conflict was told; or as the step was: then it's among the accepted ones
+AnswersStep (Err errors.OutOfMemory) old step new steps =
+    (has_failed old ≡ false)
+    × ((JudgedBefore (ready_after steps) step × Fails new steps)
+    ⊎ ((LeavesConflict steps × Fails new steps)
+    ⊎ (Accepts (ready_after steps) step × Fails new (step ∷ steps))))
 AnswersStep (Err errors.HasFailed) old step new steps = (has_failed old ≡ true) × Fails new steps
 AnswersStep (Err errors.ProofIncomplete) old step new steps = ⊥
 AnswersStep (Err errors.IoError) old step new steps = ⊥
@@ -80,7 +89,7 @@ AnswersDelayed (Err errors.CounterEnd) old new steps = (has_failed old ≡ false
 AnswersDelayed (Err errors.HasFailed) old new steps = (has_failed old ≡ true) × Fails new steps
 AnswersDelayed (Err errors.CheckFailed) old new steps = ⊥
 -- as it is told
-AnswersDelayed (Err errors.OutOfMemory) old new steps = (has_failed old ≡ false) × (looks_of new ≡ looks_of old) × Fails new steps
+AnswersDelayed (Err errors.OutOfMemory) old new steps = (has_failed old ≡ false) × (looks_of new ≡ looks_of old) × LeavesConflict steps × Fails new steps
 AnswersDelayed (Err (errors.ProofProcessorError cause)) old new steps = (has_failed old ≡ false) × (looks_of new ≡ looks_of old) × Fails new steps
 AnswersDelayed (Err errors.ProofIncomplete) old new steps = ⊥
 AnswersDelayed (Err errors.IoError) old new steps = ⊥

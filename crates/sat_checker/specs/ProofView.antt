@@ -7,7 +7,7 @@ use Rattle.sat_base.specs.steps.Steps.{Step, End}
 use Rattle.sat_base.specs.steps.StepText.{SpellsStep, SpellsSteps}
 use Rattle.sat_checker.specs.Accepts.{Accepts, stored_after, ready_after}
 use Rattle.sat_checker.specs.Looks.{most_looks}
-use Rattle.sat_checker.specs.CheckerView.{Seen, has_failed, looks_of, IsSettled, Stands, Refuses, Stops, BreaksAt}
+use Rattle.sat_checker.specs.CheckerView.{Seen, has_failed, looks_of, IsSettled, Stands, Refuses, Stops, BreaksAt, StarvesAt}
 use Rattle.sat_checker.specs.announcements.Announcements.{Told}
 use Rattle.sat_checker.specs.Spent.{SpentBy}
 use Rattle.sat_checker.specs.declared.error.CheckerError.{CheckerError}
@@ -86,8 +86,7 @@ module _ {L : Type 0} (Hears : L → Told → Result Unit ProcessingError → L 
   AnswersProof (Err errors.OutOfMemory) old new from to earlier =
       (passed : List Step) × (rest : List ℕ) × NoneFailed from to
       × ((Went old new from to earlier passed [] rest × BeginsWithStep rest × Stops Hears before begun new (taken_after passed earlier))
-      ⊎ ((step : Step) × Went old new from to earlier passed (step ∷ []) rest
-      × (Stops Hears before begun new (taken_after passed earlier) ⊎ BreaksAt Hears before begun faults.OutOfMemory new step (taken_after passed earlier))))
+      ⊎ ((step : Step) × Went old new from to earlier passed (step ∷ []) rest × StarvesAt Hears before begun new step (taken_after passed earlier)))
   -- the last id or count was given before
   AnswersProof (Err errors.CounterEnd) old new from to earlier =
       (passed : List Step) × (step : Step) × (rest : List ℕ) × Went old new from to earlier passed (step ∷ []) rest × NoneFailed from to

@@ -1,9 +1,8 @@
 //! The checker's state, and what each step makes of it.
-ghost use Rattle.std.specs.Prelude.{None, Some, true, ◌≡◌, ◌≤◌, ◌+◌, OnErr, MatchBool};
+ghost use Rattle.std.specs.Prelude.{None, Some, ◌≡◌, ◌≤◌, ◌+◌, MatchBool};
 ghost use Rattle.sat_checker.specs.Stored.{Stored, nothing_stored};
 ghost use Rattle.sat_checker.specs.Looks.{literal_count};
-ghost use Rattle.sat_checker.specs.Accepts.{MayBeDeleted, MayBeAdded, VariablesApart};
-ghost use Rattle.sat_checker.specs.LiteralSets.{is_part};
+ghost use Rattle.sat_checker.specs.Accepts.{MayBeDeleted, MayBeAdded};
 ghost use Rattle.sat_base.specs.steps.Steps.{SolverVarName, UserVarName, ChangeSamplingMode, AddClause, AtClause, ChangeHashBits, Assumptions, End, UnitClauses, DeleteClause, Model, FailedAssumptions, DeleteVar};
 ghost use Rattle.sat_base.specs.steps.StepViews.{deletion_of, step_of};
 ghost use Rattle.sat_checker.specs.inner.StateView.{Keeps, KeepsFiled, Leaves, with_added, with_derived, Decides, LooksWithin};
@@ -228,8 +227,6 @@ impl State {
         ensures looks { LooksWithin self.old (Model assignment.now) looks.old looks.new }
         ensures rise { looks.old ≤ looks.new }
         ensures noted { Announces result self.old (Model assignment.now) notes.old notes.new }
-        // Want of memory comes behind a variable that stands twice.
-        ensures apart { OnErr result ((f : Stored) → Keeps self.old f → VariablesApart assignment.now) }
     {
         if !self.formula.fits(self.alloc, assignment, looks)? {
             return Ok(false);
@@ -250,8 +247,6 @@ impl State {
         ensures looks { LooksWithin self.old (FailedAssumptions core.now hashes.now) looks.old looks.new }
         ensures rise { looks.old ≤ looks.new }
         ensures noted { Announces result self.old (FailedAssumptions core.now hashes.now) notes.old notes.new }
-        // No memory is wanted before it is known that the core is among the assumptions.
-        ensures among { OnErr result ((f : Stored) → Keeps self.old f → is_part core.now f.assumed ≡ true) }
     {
         if !self.assumed.has_all(core) {
             return Ok(false);

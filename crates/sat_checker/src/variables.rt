@@ -1,9 +1,9 @@
 //! Which variables are known, their modes, and the user's names for them.
-ghost use Rattle.std.specs.Prelude.{ℕ, true, false, ◌≡◌, ◌==◌, None, Some, OnOk, IfOk, MatchBool, map, [], ◌∷◌, if◌then◌else◌};
+ghost use Rattle.std.specs.Prelude.{ℕ, true, false, ◌≡◌, ◌==◌, None, Some, OnErr, OnOk, IfOk, MatchBool, map, [], ◌∷◌, if◌then◌else◌};
 ghost use Rattle.sat_base.specs.values.Literals.{variable};
 ghost use Rattle.sat_checker.specs.LiteralSets.{is_among};
 ghost use Rattle.sat_checker.specs.Stored.{Hide, Sample, Variable, Witness, unknown};
-ghost use Rattle.sat_checker.specs.inner.VariablesView.{mode_in, variable_of, variable_at, holder_at, known_if, unknown_data, AreSampling, KeepsVariables, VariablesAnswer};
+ghost use Rattle.sat_checker.specs.inner.VariablesView.{mode_in, variable_of, variable_at, holder_at, known_if, unknown_data, AreSampling, KeepsVariables, VariablesAllow, VariablesAnswer};
 ghost use Rattle.sat_base.specs.steps.Steps.{UserVarName, ChangeSamplingMode};
 
 use sat_base::{ClauseHash, Lit, Table, Var};
@@ -168,6 +168,7 @@ impl Variables {
     /// Gives a variable a name. The answer is whether it may have it: the name is free, the variable has none and isn't hidden.
     pub fn add_user_mapping(&mut self, var: Var, name: Var) -> Result<bool, AllocError>
         ensures answers { IfOk result (VariablesAnswer self.old (UserVarName var (Some name)) self.new) }
+        ensures judged { OnErr result (VariablesAllow self.old (UserVarName var (Some name))) }
         ensures refused { IfOk result (λ given. given ≡ false → self.new ≡ self.old) }
     {
         if self.holder(name).is_some() {
@@ -195,6 +196,7 @@ impl Variables {
     /// Takes a variable's name away and hides it. The answer is whether it has one.
     pub fn remove_user_mapping(&mut self, var: Var) -> Result<bool, AllocError>
         ensures answers { IfOk result (VariablesAnswer self.old (UserVarName var None) self.new) }
+        ensures judged { OnErr result (VariablesAllow self.old (UserVarName var None)) }
         ensures refused { IfOk result (λ taken. taken ≡ false → self.new ≡ self.old) }
     {
         let old = self.data(var);
@@ -215,7 +217,8 @@ impl Variables {
 
     /// Gives a name to a variable, or takes it from it. The answer is whether it may be so.
     pub(crate) fn rename(&mut self, var: Var, user: Option<Var>) -> Result<bool, AllocError>
-        ensures { IfOk result (VariablesAnswer self.old (UserVarName var user) self.new) }
+        ensures answers { IfOk result (VariablesAnswer self.old (UserVarName var user) self.new) }
+        ensures judged { OnErr result (VariablesAllow self.old (UserVarName var user)) }
     {
         match user {
             Some(name) => self.add_user_mapping(var, name),
@@ -226,6 +229,7 @@ impl Variables {
     /// Sets the mode of a known variable. The answer is whether it is known.
     pub fn set_mode(&mut self, var: Var, sample: bool) -> Result<bool, AllocError>
         ensures answers { IfOk result (VariablesAnswer self.old (ChangeSamplingMode var sample) self.new) }
+        ensures judged { OnErr result (VariablesAllow self.old (ChangeSamplingMode var sample)) }
         ensures refused { IfOk result (λ set. set ≡ false → self.new ≡ self.old) }
     {
         let old = self.data(var);

@@ -82,11 +82,15 @@ Turns (Err CounterEnd) kept g = IsSpent g
 abbrev pub Becomes : {T : Type 0} → Result T StoreError → Formula → (Stored → Stored) → Formula → Type 0
 Becomes result old change new = (f : Stored) → KeepsFormula old f → Turns result (KeepsFormula new (change f)) (change f)
 
--- it is accepted, and changed so, or it isn't; where a number is spent, it would be
+-- It is accepted, and changed so, or it isn't. Where memory is wanted, so much was judged before; where a number is spent, it would be accepted.
+abbrev pub TurnsBehind : Result Bool StoreError → Type 0 → Type 0 → Type 0 → Stored → Type 0
+TurnsBehind (Ok accepted) judged accepts kept g = MatchBool accepted (accepts × kept) (accepts → ⊥)
+TurnsBehind (Err OutOfMemory) judged accepts kept g = judged
+TurnsBehind (Err CounterEnd) judged accepts kept g = accepts × IsSpent g
+
+-- nothing is judged before memory is wanted
 abbrev pub TurnsIf : Result Bool StoreError → Type 0 → Type 0 → Stored → Type 0
-TurnsIf (Ok accepted) accepts kept g = MatchBool accepted (accepts × kept) (accepts → ⊥)
-TurnsIf (Err OutOfMemory) accepts kept g = Unit {0}
-TurnsIf (Err CounterEnd) accepts kept g = accepts × IsSpent g
+TurnsIf result accepts kept g = TurnsBehind result (Unit {0}) accepts kept g
 
 -- It has these clauses and units, whatever their ids: all that a propagation check looks at.
 pub record ChecksAs (formula : Formula) (f : Stored) : Type 0 where

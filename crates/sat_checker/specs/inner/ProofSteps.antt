@@ -11,7 +11,7 @@ use Rattle.sat_base.specs.steps.Steps.{Step, End}
 use Rattle.sat_base.specs.steps.StepText.{SpellsStep, SpellsSteps}
 use Rattle.sat_checker.specs.Accepts.{Accepts, stored_after, ready_after}
 use Rattle.sat_checker.specs.Looks.{most_looks}
-use Rattle.sat_checker.specs.CheckerView.{Seen, looks_of, Stands, Refuses, Stops, BreaksAt}
+use Rattle.sat_checker.specs.CheckerView.{Seen, looks_of, Stands, Refuses, Stops, BreaksAt, StarvesAt}
 use Rattle.sat_checker.specs.announcements.Announcements.{Told}
 use Rattle.sat_checker.specs.ProofView.{taken_after, most_looks_behind, GoesOn}
 use Rattle.sat_checker.specs.Spent.{SpentBy}
@@ -79,7 +79,7 @@ module _ {L : Type 0} (Hears : L → Told → Result Unit ProcessingError → L 
   StepsOn (Err errors.CounterEnd) a b earlier = (step : Step) × Tries a b earlier step × SpentBy step (stored_after earlier) × Stops Hears before begun b.checker earlier
   StepsOn (Err errors.OutOfMemory) a b earlier =
       (Starves a b × Stops Hears before begun b.checker earlier)
-      ⊎ ((step : Step) × Tries a b earlier step × (Stops Hears before begun b.checker earlier ⊎ BreaksAt Hears before begun faults.OutOfMemory b.checker step earlier))
+      ⊎ ((step : Step) × Tries a b earlier step × StarvesAt Hears before begun b.checker step earlier)
   StepsOn (Err (errors.ProofProcessorError cause)) a b earlier = (step : Step) × Tries a b earlier step × BreaksAt Hears before begun (faults.ProofProcessorError cause) b.checker step earlier
   StepsOn (Err errors.ProofIncomplete) a b earlier =
       (text : List ℕ) × PassesToEnd a.source b.source text × Live SpellsStep text × Waits a b earlier

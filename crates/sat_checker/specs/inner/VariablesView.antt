@@ -49,6 +49,10 @@ abbrev pub VariablesAnswer : Variables → Step → Variables → Bool → Type 
 VariablesAnswer old step new accepted =
     (f : Stored) → KeepsVariables old f.variables → MatchBool accepted (Accepts f step × KeepsVariables new (effect step f).variables) (Accepts f step → ⊥)
 
+-- the step is accepted
+abbrev pub VariablesAllow : Variables → Step → Type 0
+VariablesAllow vs step = (f : Stored) → KeepsVariables vs f.variables → Accepts f step
+
 -- no variable of the literals is hidden or a witness
 abbrev pub AreSampling : Variables → List ℕ → Type 0
 AreSampling vs = AllByRecursion (λ l. (variable_at vs (variable l)).mode ≡ stored.Sample)

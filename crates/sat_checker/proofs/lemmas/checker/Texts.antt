@@ -1,5 +1,5 @@
 -- Clauses of a text that are added, piece by piece.
-use Rattle.std.proofs.Common.{ℕ, ◌+◌, ◌≤◌, ◌≡◌, true, false, List, [], ◌∷◌, ◌++◌, append_assoc, length, Result, Ok, Err, OnOk, ◌⊎◌, inl, inr, refl, sym, ap, subst, ◌∙◌, arith}
+use Rattle.std.proofs.Common.{ℕ, ◌+◌, ◌≤◌, ◌≡◌, true, false, List, [], ◌∷◌, ◌++◌, append_assoc, length, Result, Ok, Err, OnOk, inl, inr, refl, sym, ap, subst, ◌∙◌, arith}
 use Rattle.std.proofs.lemmas.Bool.{true≢false}
 use Rattle.std.proofs.lemmas.List.{append-nil, map-append}
 use Rattle.sat_base.specs.device.Device.{Reader, GaveAll, GaveEnough, GaveFront, ReadFails}
@@ -12,7 +12,7 @@ use Rattle.sat_base.proofs.lemmas.device.Given.{enough_all, enough_front}
 use Rattle.sat_base.proofs.lemmas.dimacs.Parsed.{Stands as HasFed, stops_on, ends_by}
 use Rattle.sat_base.specs.steps.Steps.{Step, AddClause}
 use Rattle.sat_checker.specs.Accepts.{Accepts, stored_after, ready_after}
-use Rattle.sat_checker.specs.CheckerView.{Seen, has_failed, looks_of, Stands, Stops, BreaksAt}
+use Rattle.sat_checker.specs.CheckerView.{Seen, has_failed, looks_of, Stands, Stops, BreaksAt, StarvesAt}
 use Rattle.sat_checker.specs.announcements.Announcements.{Told}
 use Rattle.sat_checker.specs.ProofView.{taken_after, most_looks_behind, NoneFailed, GoesOn}
 use Rattle.sat_checker.specs.ClausesView.{additions, Adds, behind, AnswersClauses}
@@ -188,7 +188,7 @@ module _ {L : Type 0} (Hears : L → Told → Result Unit ProcessingError → L 
     cs ++ q.0,
     q.1,
     adds_joined a b d cs ds q.0 (q.1 ∷ []) earlier p.0 q.2,
-    subst (λ (z : List Step). Stops Hears before begun d z ⊎ BreaksAt Hears before begun faults.OutOfMemory d (AddClause q.1) z) (sym (behind_joined cs q.0 earlier)) q.3,
+    subst (StarvesAt Hears before begun d (AddClause q.1)) (sym (behind_joined cs q.0 earlier)) q.3,
   )
   joined (Err (errors.ProofProcessorError cause)) a b d cs ds earlier p q = (
     cs ++ q.0,

@@ -3,7 +3,7 @@ use Rattle.std.proofs.Common.{ℕ, ◌≡◌, List, [], ◌∷◌, Result, Ok, E
 use Rattle.anyhow.specs.declared.error.Error.{Error}
 use Rattle.sat_base.specs.device.Device.{Reader}
 use Rattle.sat_base.specs.steps.Steps.{Step}
-use Rattle.sat_checker.specs.CheckerView.{Seen, seen, Stands, Fails, Refuses, Stops, Breaks, BreaksAt, AnswersStep, AnswersDelayed}
+use Rattle.sat_checker.specs.CheckerView.{Seen, seen, Stands, Fails, Refuses, Stops, Breaks, BreaksAt, StarvesAt, AnswersStep, AnswersDelayed}
 use Rattle.sat_checker.specs.ProofView.{Went, GoesOn, AnswersProof}
 use Rattle.sat_checker.specs.announcements.Announcements.{Told}
 use Rattle.sat_checker.specs.telling.Hearing.{Hearers, hearers, takes_all, HearsAll, HearsUpTo, HearsSince, HearsSinceUpTo, HearsFirst}
@@ -72,6 +72,9 @@ module _ {V L : Type 0} (Hears : L → Told → Result Unit ProcessingError → 
     breaks_at_down : (e : ProcessingError) (c : Seen (Hearers V L)) (step : Step) (steps : List Step) → BreaksAt (HearsFirst takes_all Hears) before (hearers nobody begun) e c step steps → BreaksAt Hears before begun e (others_of c) step steps
     breaks_at_down e c step steps f = elim f [ inl b ↦ inl (breaks_down e _ c steps b) | inr b ↦ inr (b.0, breaks_down e _ c (step ∷ steps) b.1) ]
 
+    starves_down : (c : Seen (Hearers V L)) (step : Step) (steps : List Step) → StarvesAt (HearsFirst takes_all Hears) before (hearers nobody begun) c step steps → StarvesAt Hears before begun (others_of c) step steps
+    starves_down c step steps f = elim f [ inl h ↦ inl (h.0, stops_down c steps h.1) | inr h ↦ inr (breaks_at_down _ c step steps h) ]
+
     same_down : (c d : Seen (Hearers V L)) → d ≡ c → others_of d ≡ others_of c
     same_down c d e = ap (λ (x : Seen (Hearers V L)). others_of x) e
 
@@ -80,7 +83,7 @@ module _ {V L : Type 0} (Hears : L → Told → Result Unit ProcessingError → 
     step_down (Ok x) c step d steps a = (a.0, record { accepts = a.1.accepts; stands = stands_down d (step ∷ steps) a.1.stands; goes_on = a.1.goes_on })
     step_down (Err errors.CheckFailed) c step d steps a = (a.0, a.1, refuses_down d steps a.2)
     step_down (Err errors.CounterEnd) c step d steps a = (a.0, a.1, stops_down d steps a.2)
-    step_down (Err errors.OutOfMemory) c step d steps a = (a.0, elim a.1 [ inl h ↦ inl (stops_down d steps h) | inr h ↦ inr (breaks_at_down _ d step steps h) ])
+    step_down (Err errors.OutOfMemory) c step d steps a = (a.0, starves_down d step steps a.1)
     step_down (Err (errors.ProofProcessorError cause)) c step d steps a = (a.0, breaks_at_down _ d step steps a.1)
     step_down (Err errors.HasFailed) c step d steps a = (a.0, same_down c d a.1)
     step_down (Err errors.ProofIncomplete) c step d steps a = absurd a
@@ -116,7 +119,7 @@ module _ {V L : Type 0} (Hears : L → Told → Result Unit ProcessingError → 
       a.2,
       elim a.3 [
         | inl h ↦ inl (went_down c d from to steps a.0 _ a.1 h.0, h.1, stops_down d _ h.2)
-        | inr h ↦ inr (h.0, went_down c d from to steps a.0 _ a.1 h.1, elim h.2 [ inl s ↦ inl (stops_down d _ s) | inr b ↦ inr (breaks_at_down _ d h.0 _ b) ])
+        | inr h ↦ inr (h.0, went_down c d from to steps a.0 _ a.1 h.1, starves_down d h.0 _ h.2)
       ],
     )
     proof_down (Err errors.CounterEnd) c d from to steps a = (a.0, a.1, a.2, went_down c d from to steps a.0 _ a.2 a.3, a.4, a.5, stops_down d _ a.6)

@@ -6,14 +6,15 @@ use Rattle.std.proofs.lemmas.List.{append-nil}
 use Rattle.sat_base.specs.steps.Steps.{Step, SolverVarName, UserVarName, DeleteVar, ChangeSamplingMode, AddClause, UnitClauses, DeleteClause, ChangeHashBits, Model, Assumptions, FailedAssumptions, End}
 use Rattle.sat_base.specs.steps.Steps as kinds
 use Rattle.sat_checker.specs.Stored.{Stored, Variable}
+use Rattle.sat_checker.specs.Judging.{JudgedBefore}
 use Rattle.sat_checker.specs.Spent.{IsSpent}
 use Rattle.sat_checker.specs.Storing.{settled}
 use Rattle.sat_checker.specs.Accepts.{Accepts, effect, stored_after, ready_after}
 use Rattle.sat_checker.specs.KernelView as kernels
-use Rattle.sat_checker.specs.KernelView.{KeepsAfter, records_of}
+use Rattle.sat_checker.specs.KernelView.{KeepsAfter, LeavesConflict, records_of}
 use Rattle.sat_checker.specs.CheckerView.{Seen, seen, has_failed, Fails, AnswersStep, AnswersDelayed}
 use Rattle.sat_checker.specs.announcements.Announcements.{Announcement, AtClause, Told, announced, delayed, delayed_by, told_over, told_after, all_told_after}
-use Rattle.sat_checker.specs.inner.FormulaView.{KeepsFormula, refiled_in, Standing, Turns, TurnsIf}
+use Rattle.sat_checker.specs.inner.FormulaView.{KeepsFormula, refiled_in, TurnsBehind, Standing, Turns}
 use Rattle.sat_checker.specs.inner.StateView.{Keeps}
 use Rattle.sat_checker.specs.inner.TellingSteps.{announced_by, changed_by, put_back, failure_of, fault_of, records_in, TakesIn}
 use Rattle.sat_checker.specs.inner.VariablesView.{variable_at}
@@ -87,13 +88,19 @@ module _ (old : Kernel) (steps : List Step) (s : kernels.Stands old steps) (well
   settled_fails : (new : Kernel) → new.records ≡ old.records → kernels.has_failed new ≡ true → kernels.Fails new steps
   settled_fails new r f = record { stands = record { accepted = s.accepted; records = r ∙ s.records; kept = λ e. absurd (true≢false (sym f ∙ e)) }; failed = f }
 
+  left : (stored_after steps).conflict ≡ Some (one, other)
+  left = ap (λ (f : Stored). f.conflict) (sym is_stored) ∙ sym (conflict_of old steps kept) ∙ waits
+
+  leaves_conflict : LeavesConflict steps
+  leaves_conflict e = absurd (let g : ◌≡◌ {A = Option (ℕ × ℕ)} None (Some (one, other)) = sym e ∙ left in cc)
+
   -- it wasn't settled, or not told
   module _ (new : Kernel) (looks : kernels.looks_of new ≡ kernels.looks_of old) (same : new.records ≡ old.records) (failed : kernels.has_failed new ≡ true) where
     pub unsettled_judges : IsSpent (settled kept.formula) → kernels.AnswersDelayed (Err errors.CounterEnd) old new steps
     unsettled_judges h = (well, looks, settled_spent h, settled_fails new same failed)
 
     pub untold_judges : (f : ProcessingError) → kernels.AnswersDelayed (Err (fault_of f)) old new steps
-    untold_judges faults.OutOfMemory = (well, looks, settled_fails new same failed)
+    untold_judges faults.OutOfMemory = (well, looks, leaves_conflict, settled_fails new same failed)
     untold_judges (faults.ProofProcessorError cause) = (well, looks, settled_fails new same failed)
 
     pub unsettled_tells : {L : Type 0} (Hears : L → Told → Result Unit ProcessingError → L → Type 0) (before : List Told) (begun l : L) → HearsSince Hears before (told_by old.state.formula.status.conflict steps) begun l → IsSpent (settled kept.formula)
@@ -227,9 +234,9 @@ noted_told begun noted hears step f old new was same none put adds h =
 
 module _ (old : Kernel) (steps : List Step) (s : kernels.Stands old steps) (well : kernels.has_failed old ≡ false) (none : old.state.formula.status.conflict ≡ None) (step : Step) where
   -- it couldn't be stored
-  pub short_judges : (new : Kernel) (error : StoreError) → TurnsIf (Err error) (Accepts (ready_after steps) step) (Keeps new.state (effect step (ready_after steps))) (effect step (ready_after steps)) → new.records ≡ old.records → kernels.has_failed new ≡ true
+  pub short_judges : (new : Kernel) (error : StoreError) → TurnsBehind (Err error) (JudgedBefore (ready_after steps) step) (Accepts (ready_after steps) step) (Keeps new.state (effect step (ready_after steps))) (effect step (ready_after steps)) → new.records ≡ old.records → kernels.has_failed new ≡ true
       → kernels.AnswersStep (Err (failure_of error)) old step new steps
-  short_judges new stores.OutOfMemory h r f = (well, inl (step_fails old steps s well none step new r f))
+  short_judges new stores.OutOfMemory h r f = (well, inl (h, step_fails old steps s well none step new r f))
   short_judges new stores.CounterEnd h r f = (well, inr h, step_fails old steps s well none step new r f)
 
   -- it was refused
@@ -248,7 +255,7 @@ module _ (old : Kernel) (steps : List Step) (s : kernels.Stands old steps) (well
         fails = record { stands = step_stands old steps s well none step new accepts (subst (λ z. Keeps z (effect step (ready_after steps))) (sym t.0.state) k) t.1.1; failed = t.1.0 }
 
         go : (f : ProcessingError) → kernels.AnswersStep (Err (fault_of f)) old step new steps
-        go faults.OutOfMemory = (well, inr (accepts, fails))
+        go faults.OutOfMemory = (well, inr (inr (accepts, fails)))
         go (faults.ProofProcessorError cause) = (well, inr (accepts, fails))
 
   module _ {L : Type 0} (Hears : L → Told → Result Unit ProcessingError → L → Type 0) (before : List Told) (begun l : L) (heard : HearsSince Hears before (told_by old.state.formula.status.conflict steps) begun l) where
@@ -258,9 +265,9 @@ module _ (old : Kernel) (steps : List Step) (s : kernels.Stands old steps) (well
     failed_with : (new : Kernel) (m : L) → new.records ≡ old.records → kernels.has_failed new ≡ true → Fails Hears before begun (seen new m) steps
     failed_with new m r f = failing Hears before begun (seen new m) steps (step_fails old steps s well none step new r f)
 
-    pub short_tells : (new : Kernel) (error : StoreError) → TurnsIf (Err error) (Accepts (ready_after steps) step) (Keeps new.state (effect step (ready_after steps))) (effect step (ready_after steps)) → new.records ≡ old.records → kernels.has_failed new ≡ true
+    pub short_tells : (new : Kernel) (error : StoreError) → TurnsBehind (Err error) (JudgedBefore (ready_after steps) step) (Accepts (ready_after steps) step) (Keeps new.state (effect step (ready_after steps))) (effect step (ready_after steps)) → new.records ≡ old.records → kernels.has_failed new ≡ true
         → AnswersStep Hears before begun (Err (failure_of error)) (seen old l) step (seen new l) steps
-    short_tells new stores.OutOfMemory h r f = (well, inl (record { fails = failed_with new l r f; heard = inr before_it }))
+    short_tells new stores.OutOfMemory h r f = (well, inl (h, record { fails = failed_with new l r f; heard = inr before_it }))
     short_tells new stores.CounterEnd h r f = (well, inr h, record { fails = failed_with new l r f; heard = inr before_it })
 
     pub refused_tells : (new : Kernel) → (Accepts (ready_after steps) step → ⊥) → new.records ≡ old.records → kernels.has_failed new ≡ true → AnswersStep Hears before begun (Err errors.CheckFailed) (seen old l) step (seen new l) steps
@@ -344,7 +351,7 @@ module _ {L : Type 0} (Hears : L → Told → Result Unit ProcessingError → L 
 module _ (steps : List Step) (step : Step) where
   pub stops_judges : (old new : Kernel) (e : CheckerError) → kernels.AnswersDelayed (Err e) old new steps → kernels.AnswersStep (Err e) old step new steps
   stops_judges old new errors.CounterEnd a = (a.0, inl a.2, a.3)
-  stops_judges old new errors.OutOfMemory a = (a.0, inl a.2)
+  stops_judges old new errors.OutOfMemory a = (a.0, inr (inl (a.2, a.3)))
   stops_judges old new (errors.ProofProcessorError cause) a = (a.0, inl a.2)
   stops_judges old new errors.HasFailed a = a
   stops_judges old new errors.CheckFailed a = absurd a

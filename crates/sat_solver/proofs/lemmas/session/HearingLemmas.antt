@@ -4,7 +4,7 @@ use Rattle.std.proofs.lemmas.Bool.{true≢false}
 use Rattle.anyhow.specs.declared.error.Error.{Error}
 use Rattle.sat_base.specs.steps.Steps.{Step, ChangeHashBits}
 use Rattle.sat_checker.specs.Accepts.{stored_after}
-use Rattle.sat_checker.specs.CheckerView.{Seen, Stands, Stops, BreaksAt, AnswersStep, AnswersDelayed, has_failed}
+use Rattle.sat_checker.specs.CheckerView.{Seen, Stands, BreaksAt, StarvesAt, AnswersStep, AnswersDelayed, has_failed}
 use Rattle.sat_checker.specs.KernelView.{IsSettled}
 use Rattle.sat_checker.specs.Stored.{Stored}
 use Rattle.sat_checker.specs.Storing.{settled, settled_by}
@@ -76,8 +76,8 @@ module _ {L : Type 0} (takes : L → Told → Result Unit Error → L → Type 0
     starved step (inl h) = inl (inr h)
     starved step (inr h) = inr (inr h)
 
-    starved_at : (step : Step) → Stops (Hears takes) [] begun new written ⊎ BreaksAt (Hears takes) [] begun faults.OutOfMemory new step written → Broke step checks.OutOfMemory
-    starved_at step (inl s) = inl (inl s.heard)
+    starved_at : (step : Step) → StarvesAt (Hears takes) [] begun new step written → Broke step checks.OutOfMemory
+    starved_at step (inl s) = inl (inl s.1.heard)
     starved_at step (inr b) = starved step (up_to step faults.OutOfMemory b)
 
     -- an answer to a step that may be written

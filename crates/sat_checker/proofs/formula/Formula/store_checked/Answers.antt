@@ -28,7 +28,7 @@ returns-in_err-note_unit-clause-decides c = let p = err_from_is_err_and c.from_r
 pub returns-in_err-store_unit-clause-decides : goal.returns-in_err-store_unit-clause-decides
 returns-in_err-store_unit-clause-decides c = λ f k.
     let p = err_from_is_err_and c.from_residual-in_err-store_unit.result c.from_residual-in_err-store_unit.ensures.1 in
-    decides_err c.store_unit.result _ p.0 _ c.in_err-store_unit.was p.1 p.2 _ _ _ _ _ ((c.in_ok-check.ensures.exact f (checks_as c.args.self.now f k)).0 c.if-not-branch.false) (λ s. s) (c.store_unit.ensures.stored f (kept_beside c.args.self.now c.check.new.self f c.check.ensures.rest k))
+    decides_err c.store_unit.result _ p.0 _ c.in_err-store_unit.was p.1 p.2 _ _ _ _ _ _ tt ((c.in_ok-check.ensures.exact f (checks_as c.args.self.now f k)).0 c.if-not-branch.false) (λ s. s) (c.store_unit.ensures.stored f (kept_beside c.args.self.now c.check.new.self f c.check.ensures.rest k))
 
 pub returns-clause-decides : goal.returns-clause-decides
 returns-clause-decides c = λ f k. ((c.in_ok-check.ensures.exact f (checks_as c.args.self.now f k)).0 c.if-not-branch.false, c.in_ok-store_unit.ensures.stored f (kept_beside c.args.self.now c.check.new.self f c.check.ensures.rest k))

@@ -41,12 +41,12 @@ returns-clause-decides c = λ f k. (
 )
 
 pub returns-in_err-note_input-clause-decides : goal.returns-in_err-note_input-clause-decides
-returns-in_err-note_input-clause-decides c = let p = err_from_is_err_and c.from_residual-in_err-note_input.result c.from_residual-in_err-note_input.ensures.1 in rw (p.1, p.2) (λ f k. tt)
+returns-in_err-note_input-clause-decides c = let p = err_from_is_err_and c.from_residual-in_err-note_input.result c.from_residual-in_err-note_input.ensures.1 in rw (p.1, p.2) (λ f k. inr (sampling_kept c.args.self.now.variables f c.args.clause.now k.variables c.if-not-are_sampling.ensures))
 
 pub returns-in_err-store_input-clause-decides : goal.returns-in_err-store_input-clause-decides
 returns-in_err-store_input-clause-decides c = λ f k.
     let p = err_from_is_err_and c.from_residual-in_err-store_input.result c.from_residual-in_err-store_input.ensures.1 in
-    decides_err c.store_input.result _ p.0 _ c.in_err-store_input.was p.1 p.2 _ _ _ _ _ (inr (sampling_kept c.args.self.now.variables f c.args.clause.now k.variables c.if-not-are_sampling.ensures))
+    decides_err c.store_input.result _ p.0 _ c.in_err-store_input.was p.1 p.2 _ _ _ _ _ _ (inr (sampling_kept c.args.self.now.variables f c.args.clause.now k.variables c.if-not-are_sampling.ensures)) (inr (sampling_kept c.args.self.now.variables f c.args.clause.now k.variables c.if-not-are_sampling.ensures))
     (added_spent f c.args.clause.now (sym (ap (λ (s : Standing). s.unsat) k.formula.status) ∙ c.if-self.false)) (c.store_input.ensures.stored f (record { formula = c.in_ok-file.ensures.kept f k.formula; variables = k.variables; assumed = k.assumed }))
 
 pub returns-then-self-clause-noted : goal.returns-then-self-clause-noted
@@ -65,7 +65,7 @@ pub returns-clause-noted : goal.returns-clause-noted
 returns-clause-noted c = λ t f k long. input_noted f c.args.clause.now c.args.notes.now c.note_input.new.notes (sym (ap (λ (s : Standing). s.unsat) k.formula.status) ∙ c.if-self.false) (c.in_ok-note_input.ensures.noted f (c.in_ok-file.ensures.kept f k.formula))
 
 pub returns-in_err-file-clause-decides : goal.returns-in_err-file-clause-decides
-returns-in_err-file-clause-decides c = let p = err_from_is_err_and c.from_residual.result c.from_residual.ensures.1 in rw (p.1, p.2) (λ f k. tt)
+returns-in_err-file-clause-decides c = let p = err_from_is_err_and c.from_residual.result c.from_residual.ensures.1 in rw (p.1, p.2) (λ f k. inr (sampling_kept c.args.self.now.variables f c.args.clause.now k.variables c.if-not-are_sampling.ensures))
 
 pub returns-in_err-file-clause-looks : goal.returns-in_err-file-clause-looks
 returns-in_err-file-clause-looks c = λ f k. let filed = c.file.ensures.looks f k.formula in omega arith

@@ -29,7 +29,7 @@ returns-in_err-note_derived-clause-decides c = let p = err_from_is_err_and c.fro
 pub returns-in_err-store_derived-clause-decides : goal.returns-in_err-store_derived-clause-decides
 returns-in_err-store_derived-clause-decides c = λ f k.
     let p = err_from_is_err_and c.from_residual-in_err-store_derived.result c.from_residual-in_err-store_derived.ensures.1 in
-    decides_err c.store_derived.result _ p.0 _ c.in_err-store_derived.was p.1 p.2 _ _ _ _ _ ((c.in_ok-check.ensures.exact f (checks_as c.file.new.self f (c.in_ok-file.ensures.kept f k.formula))).0 c.if-not-branch.false) (λ s. s) (c.store_derived.ensures.stored f (record { formula = kept_beside c.file.new.self c.check.new.self f c.check.ensures.rest (c.in_ok-file.ensures.kept f k.formula); variables = k.variables; assumed = k.assumed }))
+    decides_err c.store_derived.result _ p.0 _ c.in_err-store_derived.was p.1 p.2 _ _ _ _ _ _ tt ((c.in_ok-check.ensures.exact f (checks_as c.file.new.self f (c.in_ok-file.ensures.kept f k.formula))).0 c.if-not-branch.false) (λ s. s) (c.store_derived.ensures.stored f (record { formula = kept_beside c.file.new.self c.check.new.self f c.check.ensures.rest (c.in_ok-file.ensures.kept f k.formula); variables = k.variables; assumed = k.assumed }))
 
 pub returns-in_err-check-clause-looks : goal.returns-in_err-check-clause-looks
 returns-in_err-check-clause-looks c = λ f k. looks_judged c.args.looks.now c.file.new.looks c.check.new.looks (length c.args.hashes.now) (literal_count f) (c.file.ensures.looks f k.formula) (c.check.ensures.looks f (checks_as c.file.new.self f (c.in_ok-file.ensures.kept f k.formula)))

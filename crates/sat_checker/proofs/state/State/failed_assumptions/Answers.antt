@@ -2,15 +2,11 @@ use Rattle.std.proofs.Common.{◌≡◌, true, sym, subst, ◌∙◌, ◌↔◌,
 use Rattle.std.proofs.lemmas.Bool.{true≢false}
 use Rattle.std.proofs.lemmas.Result.{err_from_is_err_and, IfOk-from_err}
 use Rattle.sat_checker.specs.Accepts.{Passes}
-use Rattle.sat_checker.specs.LiteralSets.{is_part}
 use Rattle.sat_checker.specs.Looks.{literal_count}
-use Rattle.sat_checker.specs.Stored.{Stored}
 use Rattle.sat_checker.specs.inner.Reasons.{noted_length}
-use Rattle.sat_checker.specs.inner.StateView.{Keeps}
 use Rattle.sat_checker.proofs.lemmas.state.Refiled.{loosened}
 use Rattle.sat_checker.proofs.lemmas.state.Unnumbered.{checks_as, kept_beside}
 use Rattle.sat_checker.proofs.lemmas.state.Keeping.{within_assumed}
-use Rattle.sat_checker.proofs.lemmas.store.Entries.{on_err}
 use Rattle.sat_checker.proofs.lemmas.telling.Noting.{looks_filed, looks_judged, looks_followed}
 use Rattle.sat_checker.proofs.state.State.failed_assumptions.Goals as goal
 
@@ -37,13 +33,13 @@ returns-clause-decides c = λ f k.
     )
 
 pub returns-in_err-copy_negated-clause-decides : goal.returns-in_err-copy_negated-clause-decides
-returns-in_err-copy_negated-clause-decides c = let p = err_from_is_err_and c.from_residual-in_err-copy_negated.result c.from_residual-in_err-copy_negated.ensures.1 in rw (p.1, p.2) (λ f k. tt)
+returns-in_err-copy_negated-clause-decides c = let p = err_from_is_err_and c.from_residual-in_err-copy_negated.result c.from_residual-in_err-copy_negated.ensures.1 in rw (p.1, p.2) (λ f k. sym (within_assumed c.has_all.result c.args.core.now f.assumed c.args.self.now.assumed k.assumed c.has_all.ensures) ∙ c.if-not-has_all.false)
 
 pub returns-in_err-check-clause-decides : goal.returns-in_err-check-clause-decides
-returns-in_err-check-clause-decides c = let p = err_from_is_err_and c.from_residual-in_err-check.result c.from_residual-in_err-check.ensures.1 in rw (p.1, p.2) (λ f k. tt)
+returns-in_err-check-clause-decides c = let p = err_from_is_err_and c.from_residual-in_err-check.result c.from_residual-in_err-check.ensures.1 in rw (p.1, p.2) (λ f k. sym (within_assumed c.has_all.result c.args.core.now f.assumed c.args.self.now.assumed k.assumed c.has_all.ensures) ∙ c.if-not-has_all.false)
 
 pub returns-in_err-note_core-clause-decides : goal.returns-in_err-note_core-clause-decides
-returns-in_err-note_core-clause-decides c = let p = err_from_is_err_and c.from_residual-in_err-note_core.result c.from_residual-in_err-note_core.ensures.1 in rw (p.1, p.2) (λ f k. tt)
+returns-in_err-note_core-clause-decides c = let p = err_from_is_err_and c.from_residual-in_err-note_core.result c.from_residual-in_err-note_core.ensures.1 in rw (p.1, p.2) (λ f k. sym (within_assumed c.has_all.result c.args.core.now f.assumed c.args.self.now.assumed k.assumed c.has_all.ensures) ∙ c.if-not-has_all.false)
 
 pub returns-then-not-has_all-clause-looks : goal.returns-then-not-has_all-clause-looks
 returns-then-not-has_all-clause-looks c = λ f k. omega arith
@@ -81,31 +77,11 @@ returns-then-not-branch-clause-noted c = λ t. absurd (true≢false (sym t))
 pub returns-clause-noted : goal.returns-clause-noted
 returns-clause-noted c = λ t f k long. c.in_ok-note_core.ensures.noted f c.args.hashes.now (kept_beside c.file.new.self c.check.new.self f c.check.ensures.rest (c.in_ok-file.ensures.kept f k.formula)) (c.in_ok-check.ensures.explained c.if-not-branch.false)
 
-pub returns-in_err-copy_negated-clause-among : goal.returns-in_err-copy_negated-clause-among
-returns-in_err-copy_negated-clause-among c =
-    let among : (f : Stored) → Keeps c.args.self.now f → is_part c.args.core.now f.assumed ≡ true = λ f k. sym (within_assumed c.has_all.result c.args.core.now f.assumed c.args.self.now.assumed k.assumed c.has_all.ensures) ∙ c.if-not-has_all.false in
-    on_err _ _ among
-
-pub returns-in_err-check-clause-among : goal.returns-in_err-check-clause-among
-returns-in_err-check-clause-among c =
-    let among : (f : Stored) → Keeps c.args.self.now f → is_part c.args.core.now f.assumed ≡ true = λ f k. sym (within_assumed c.has_all.result c.args.core.now f.assumed c.args.self.now.assumed k.assumed c.has_all.ensures) ∙ c.if-not-has_all.false in
-    on_err _ _ among
-
-pub returns-in_err-note_core-clause-among : goal.returns-in_err-note_core-clause-among
-returns-in_err-note_core-clause-among c =
-    let among : (f : Stored) → Keeps c.args.self.now f → is_part c.args.core.now f.assumed ≡ true = λ f k. sym (within_assumed c.has_all.result c.args.core.now f.assumed c.args.self.now.assumed k.assumed c.has_all.ensures) ∙ c.if-not-has_all.false in
-    on_err _ _ among
-
 pub returns-in_err-file-clause-decides : goal.returns-in_err-file-clause-decides
-returns-in_err-file-clause-decides c = let p = err_from_is_err_and c.from_residual.result c.from_residual.ensures.1 in rw (p.1, p.2) (λ f k. tt)
+returns-in_err-file-clause-decides c = let p = err_from_is_err_and c.from_residual.result c.from_residual.ensures.1 in rw (p.1, p.2) (λ f k. sym (within_assumed c.has_all.result c.args.core.now f.assumed c.args.self.now.assumed k.assumed c.has_all.ensures) ∙ c.if-not-has_all.false)
 
 pub returns-in_err-file-clause-looks : goal.returns-in_err-file-clause-looks
 returns-in_err-file-clause-looks c = λ f k. looks_filed c.args.looks.now c.file.new.looks (length c.args.hashes.now) (literal_count f) (c.file.ensures.looks f k.formula)
 
 pub returns-in_err-file-clause-noted : goal.returns-in_err-file-clause-noted
 returns-in_err-file-clause-noted c = IfOk-from_err c.from_residual.result _ c.from_residual.ensures.0
-
-pub returns-in_err-file-clause-among : goal.returns-in_err-file-clause-among
-returns-in_err-file-clause-among c =
-    let among : (f : Stored) → Keeps c.args.self.now f → is_part c.args.core.now f.assumed ≡ true = λ f k. sym (within_assumed c.has_all.result c.args.core.now f.assumed c.args.self.now.assumed k.assumed c.has_all.ensures) ∙ c.if-not-has_all.false in
-    on_err _ _ among

@@ -1,10 +1,6 @@
 use Rattle.std.proofs.lemmas.Result.{err_from_is_err_and, IfOk-from_err}
 use Rattle.std.proofs.Common.{arith}
 use Rattle.sat_checker.proofs.state.State.model.Goals as goal
-use Rattle.sat_checker.specs.Stored.{Stored}
-use Rattle.sat_checker.specs.Accepts.{VariablesApart}
-use Rattle.sat_checker.specs.inner.StateView.{Keeps}
-use Rattle.sat_checker.proofs.lemmas.store.Entries.{on_err}
 
 pub returns-clause-decides : goal.returns-clause-decides
 returns-clause-decides c = λ f k. (
@@ -13,13 +9,13 @@ returns-clause-decides c = λ f k. (
 )
 
 pub returns-in_err-fits-clause-decides : goal.returns-in_err-fits-clause-decides
-returns-in_err-fits-clause-decides c = let p = err_from_is_err_and c.from_residual.result c.from_residual.ensures.1 in rw (p.1, p.2) (λ f k. tt)
+returns-in_err-fits-clause-decides c = let p = err_from_is_err_and c.from_residual.result c.from_residual.ensures.1 in rw (p.1, p.2) (λ f k. c.in_err-fits.ensures.apart)
 
 pub returns-in_err-learn-clause-decides : goal.returns-in_err-learn-clause-decides
-returns-in_err-learn-clause-decides c = let p = err_from_is_err_and c.from_residual-in_err-learn.result c.from_residual-in_err-learn.ensures.1 in rw (p.1, p.2) (λ f k. tt)
+returns-in_err-learn-clause-decides c = let p = err_from_is_err_and c.from_residual-in_err-learn.result c.from_residual-in_err-learn.ensures.1 in rw (p.1, p.2) (λ f k. ((c.in_ok-fits.ensures.exact f k.formula).0 c.if-not-branch.false).apart)
 
 pub returns-in_err-model-clause-decides : goal.returns-in_err-model-clause-decides
-returns-in_err-model-clause-decides c = let p = err_from_is_err_and c.from_residual-in_err-model.result c.from_residual-in_err-model.ensures.1 in rw (p.1, p.2) (λ f k. tt)
+returns-in_err-model-clause-decides c = let p = err_from_is_err_and c.from_residual-in_err-model.result c.from_residual-in_err-model.ensures.1 in rw (p.1, p.2) (λ f k. ((c.in_ok-fits.ensures.exact f k.formula).0 c.if-not-branch.false).apart)
 
 pub returns-in_err-fits-clause-noted : goal.returns-in_err-fits-clause-noted
 returns-in_err-fits-clause-noted c = IfOk-from_err c.from_residual.result _ c.from_residual.ensures.0
@@ -44,18 +40,3 @@ returns-in_err-model-clause-looks c = λ f k. let h = c.fits.ensures.looks f k.f
 
 pub returns-clause-looks : goal.returns-clause-looks
 returns-clause-looks c = λ f k. let h = c.fits.ensures.looks f k.formula in omega arith
-
-pub returns-in_err-fits-clause-apart : goal.returns-in_err-fits-clause-apart
-returns-in_err-fits-clause-apart c =
-    let apart : (f : Stored) → Keeps c.args.self.now f → VariablesApart c.args.assignment.now = λ f k. c.in_err-fits.ensures.apart in
-    on_err _ _ apart
-
-pub returns-in_err-learn-clause-apart : goal.returns-in_err-learn-clause-apart
-returns-in_err-learn-clause-apart c =
-    let apart : (f : Stored) → Keeps c.args.self.now f → VariablesApart c.args.assignment.now = λ f k. ((c.in_ok-fits.ensures.exact f k.formula).0 c.if-not-branch.false).apart in
-    on_err _ _ apart
-
-pub returns-in_err-model-clause-apart : goal.returns-in_err-model-clause-apart
-returns-in_err-model-clause-apart c =
-    let apart : (f : Stored) → Keeps c.args.self.now f → VariablesApart c.args.assignment.now = λ f k. ((c.in_ok-fits.ensures.exact f k.formula).0 c.if-not-branch.false).apart in
-    on_err _ _ apart

@@ -1,7 +1,9 @@
 use Rattle.std.proofs.Common.{◌≡◌, ◌∙◌, ap, sym, refl, true, cond, eqb, Some}
+use Rattle.sat_base.specs.steps.Steps.{UserVarName}
 use Rattle.sat_checker.specs.Stored.{Variable, Mode}
 use Rattle.sat_checker.specs.Accepts.{MayGetName}
-use Rattle.sat_checker.specs.inner.VariablesView.{mode_in, variable_at}
+use Rattle.sat_checker.specs.inner.VariablesView.{mode_in, variable_at, VariablesAllow}
+use Rattle.sat_checker.proofs.lemmas.store.Entries.{on_err}
 use Rattle.sat_checker.proofs.lemmas.variables.Keeping.{refused_taken, refused_named, refused_hidden, may_get, named_kept, match_true, match_false}
 use Rattle.std.proofs.lemmas.Bool.{true≢false}
 use Rattle.std.proofs.lemmas.Result.{IfOk-from_err}
@@ -51,3 +53,15 @@ returns-in_err-set-clause-refused c = IfOk-from_err c.from_residual.result _ c.f
 
 pub returns-in_err-set_holder-clause-refused : goal.returns-in_err-set_holder-clause-refused
 returns-in_err-set_holder-clause-refused c = IfOk-from_err c.from_residual-in_err-set_holder.result _ c.from_residual-in_err-set_holder.ensures.0
+
+pub returns-in_err-set-clause-judged : goal.returns-in_err-set-clause-judged
+returns-in_err-set-clause-judged c =
+    let may : VariablesAllow c.args.self.now (UserVarName c.args.var (Some c.args.name)) = λ f k. may_get c.args.self.now f k c.args.var c.args.name c.holder.result c.data-old.result c.holder.ensures (sym c.is_some.ensures ∙ c.if-is_some.false) c.data-old.ensures (sym c.is_some-2.ensures ∙ c.if-is_some-2.false)
+    (match_false _ _ _ c.is_hidden.ensures c.if-is_hidden.false) in
+    on_err _ _ may
+
+pub returns-in_err-set_holder-clause-judged : goal.returns-in_err-set_holder-clause-judged
+returns-in_err-set_holder-clause-judged c =
+    let may : VariablesAllow c.args.self.now (UserVarName c.args.var (Some c.args.name)) = λ f k. may_get c.args.self.now f k c.args.var c.args.name c.holder.result c.data-old.result c.holder.ensures (sym c.is_some.ensures ∙ c.if-is_some.false) c.data-old.ensures (sym c.is_some-2.ensures ∙ c.if-is_some-2.false)
+    (match_false _ _ _ c.is_hidden.ensures c.if-is_hidden.false) in
+    on_err _ _ may

@@ -1,6 +1,8 @@
 use Rattle.std.proofs.Common.{◌≡◌, ◌∙◌, ap, sym, refl, cond, eqb, Some, None}
+use Rattle.sat_base.specs.steps.Steps.{UserVarName}
 use Rattle.sat_checker.specs.Stored.{Variable, Hide}
-use Rattle.sat_checker.specs.inner.VariablesView.{variable_at}
+use Rattle.sat_checker.specs.inner.VariablesView.{variable_at, VariablesAllow}
+use Rattle.sat_checker.proofs.lemmas.store.Entries.{on_err}
 use Rattle.sat_checker.proofs.lemmas.variables.Keeping.{unnamed_kept, some_none}
 use Rattle.std.proofs.lemmas.Bool.{true≢false}
 use Rattle.std.proofs.lemmas.Result.{IfOk-from_err}
@@ -36,3 +38,13 @@ returns-in_err-set-clause-refused c = IfOk-from_err c.from_residual.result _ c.f
 
 pub returns-in_err-set_holder-clause-refused : goal.returns-in_err-set_holder-clause-refused
 returns-in_err-set_holder-clause-refused c = IfOk-from_err c.from_residual-in_err-set_holder.result _ c.from_residual-in_err-set_holder.ensures.0
+
+pub returns-in_err-set-clause-judged : goal.returns-in_err-set-clause-judged
+returns-in_err-set-clause-judged c =
+    let may : VariablesAllow c.args.self.now (UserVarName c.args.var None) = λ f k e. some_none c.in-Some.name (sym (sym (ap (λ (x : Variable). x.name) (c.data-old.ensures ∙ k.each c.args.var)) ∙ c.in-Some.is) ∙ e) in
+    on_err _ _ may
+
+pub returns-in_err-set_holder-clause-judged : goal.returns-in_err-set_holder-clause-judged
+returns-in_err-set_holder-clause-judged c =
+    let may : VariablesAllow c.args.self.now (UserVarName c.args.var None) = λ f k e. some_none c.in-Some.name (sym (sym (ap (λ (x : Variable). x.name) (c.data-old.ensures ∙ k.each c.args.var)) ∙ c.in-Some.is) ∙ e) in
+    on_err _ _ may

@@ -1,6 +1,8 @@
 use Rattle.std.proofs.Common.{◌∙◌, ap, sym, refl, cond, eqb}
+use Rattle.sat_base.specs.steps.Steps.{ChangeSamplingMode}
 use Rattle.sat_checker.specs.Stored.{Variable, Mode, Sample, Witness}
-use Rattle.sat_checker.specs.inner.VariablesView.{mode_in, variable_at}
+use Rattle.sat_checker.specs.inner.VariablesView.{mode_in, variable_at, VariablesAllow}
+use Rattle.sat_checker.proofs.lemmas.store.Entries.{on_err}
 use Rattle.sat_checker.proofs.lemmas.variables.Keeping.{set_kept, was_true}
 use Rattle.std.proofs.lemmas.Bool.{true≢false}
 use Rattle.std.proofs.lemmas.Result.{IfOk-from_err}
@@ -24,3 +26,8 @@ returns-clause-refused c = λ e. absurd (true≢false e)
 
 pub returns-in_err-set-clause-refused : goal.returns-in_err-set-clause-refused
 returns-in_err-set-clause-refused c = IfOk-from_err c.from_residual.result _ c.from_residual.ensures.0
+
+pub returns-in_err-set-clause-judged : goal.returns-in_err-set-clause-judged
+returns-in_err-set-clause-judged c =
+    let may : VariablesAllow c.args.self.now (ChangeSamplingMode c.args.var c.args.sample) = λ f k. sym (ap (λ (x : Variable). x.known) (c.data-old.ensures ∙ k.each c.args.var)) ∙ was_true c.data-old.result.known c.if-not-old.false in
+    on_err _ _ may
