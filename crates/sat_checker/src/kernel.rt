@@ -177,7 +177,7 @@ impl Kernel {
         self.settle_conflict(own, others)
     }
 
-    /// As `settle`. Steps that follow no unit conflict don't come here.
+    /// The empty clause of a pending unit conflict takes the next id, and is told. Steps that follow none don't come here.
     #[inline(never)]
     fn settle_conflict<O: ProofProcessor, P: ProofProcessor, T: ProofTranscriptProcessor>(
         &mut self,

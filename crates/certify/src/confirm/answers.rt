@@ -101,7 +101,7 @@ impl Answers {
         }
     }
 
-    /// Reads the next line, of those that are wanted.
+    /// Reads the next line of the answers, of those that are wanted.
     fn next_line<A: CountedRead>(&mut self, answers: &mut A, wanted: Wanted) -> Result<(), Stop>
         ensures line { NextLine (IsWantedLine wanted self.old.due.items) result
             (answers_source A.seen answers.old self.old) (answers_source A.seen answers.new self.new)

@@ -14,20 +14,24 @@ pub(crate) trait Room: Drop {
         ensures room { result + length (waiting self.now) ≡ size self.now }
         ensures some { 0 < size self.now };
 
+    /// Lets a byte wait, for which there is room.
     fn push(&mut self, byte: u8)
         requires { length (waiting self.old) < size self.old }
         ensures waiting { waiting self.new ≡ waiting self.old ++ (byte ∷ []) }
         ensures size { size self.new ≡ size self.old };
 
+    /// Lets these bytes wait behind the others. There is room for them.
     fn push_all(&mut self, piece: &[u8])
         requires { length (waiting self.old) + length piece.now ≤ size self.old }
         ensures waiting { waiting self.new ≡ waiting self.old ++ piece.now }
         ensures size { size self.new ≡ size self.old };
 
+    /// Nothing waits any more.
     fn clear(&mut self)
         ensures waiting { waiting self.new ≡ [] }
         ensures size { size self.new ≡ size self.old };
 
+    /// What waits, the oldest first.
     fn as_slice(&self) -> &[u8]
         ensures { result.now ≡ waiting self.now };
 }

@@ -1,4 +1,4 @@
-//! Taking bytes that were read ahead.
+//! Reading bytes ahead, and taking them. It stands apart from `Ahead`, since its contracts speak of readers.
 ghost use Rattle.std.specs.Prelude.{◌≡◌, ◌+◌, ◌<◌, ◌≤◌, ◌∷◌, take, drop, OnOk};
 ghost use Rattle.sat_base.specs.device.Reading.{RefillsAlone};
 ghost use Rattle.sat_base.specs.device.Waiting.{waiting};

@@ -178,7 +178,7 @@ impl Formula {
         self.deletion_heard(literals, proof, looks)
     }
 
-    /// As `deletion`, where somebody listens.
+    /// What a deletion will announce: the id of its clause, and of the one that it was simplified from. Somebody listens.
     #[inline(never)]
     fn deletion_heard(
         &self,
@@ -253,7 +253,7 @@ impl Formula {
         self.note_heard(redundant, clause, notes, looks)
     }
 
-    /// As `note_derived`, where somebody listens.
+    /// Notes what a derived clause announces, with the ids of the clauses that it rests on. Somebody listens.
     #[inline(never)]
     fn note_heard(
         &self,

@@ -8,7 +8,7 @@
 --   put_back: SameClauses, Carries
 --   grow: Grown
 --   use_variable: SameContents, and what may be picked
---   free_variable: Freed; restore_unit: SameClauses, GainsUnit
+--   free_variable: Freed; use_with_unit: SameClauses, GainsUnit
 --   load_unit: SameClauses, GainsUnit
 --   load_binary, load_long: Stores
 --   load: LoadSays (Loading), which says by the answer which of these it is

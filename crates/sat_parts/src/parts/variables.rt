@@ -52,7 +52,7 @@ pub fn reset_activity(parts: &mut Parts, var: Var)
 }
 
 /// Gives a variable that was given up the value that makes a unit true, as it had when the unit was taken off the trail.
-pub fn restore_unit(parts: &mut Parts, lit: Lit)
+pub fn use_with_unit(parts: &mut Parts, lit: Lit)
     requires holds { PartsInvariant parts.old }
     requires bottom { parts.old.trail.starts ≡ [] }
     requires there { variable lit < length parts.old.assignment.current }

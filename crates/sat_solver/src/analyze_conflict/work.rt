@@ -95,7 +95,7 @@ impl Analysis {
         &self.involved
     }
 
-    /// The assumptions that can't all be true, the one that failed first.
+    /// Of an analysis of assumptions: those that can't all be true, the one that failed first.
     pub fn core(&self) -> &[Lit]
         ensures { result.now ≡ self.now.core }
     {

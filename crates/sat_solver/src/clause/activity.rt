@@ -20,7 +20,7 @@ use sat_parts::{ClauseActivity, Parts, compute_clause_glue};
 use sat_store::{ClauseRef, TmpFlags};
 
 /// Raises the activity of each of these variables, and lets later bumps raise more.
-fn bump_all(parts: &mut Parts, vars: &[Var])
+fn bump_variables(parts: &mut Parts, vars: &[Var])
     requires holds { PartsInvariant parts.old }
     requires there { AreBelow vars.now (length parts.old.assignment.current) }
     ensures holds { PartsInvariant parts.new }
@@ -43,7 +43,7 @@ pub fn bump_met(search: &mut Search)
     ensures clauses { SameClauses search.old.parts search.new.parts }
     ensures queue { search.new.parts.vsids ≡ decayed (all_bumped search.old.analysis.met search.old.parts.vsids) }
 {
-    bump_all(&mut search.parts, search.analysis.met());
+    bump_variables(&mut search.parts, search.analysis.met());
 }
 
 /// Lets activities decay as the parameters say.

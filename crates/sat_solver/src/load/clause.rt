@@ -41,7 +41,7 @@ fn write_clause<W: StepWriter>(
     Ok(())
 }
 
-/// Sorts the literals that were taken, without repeats, and lists them over the proof's variables. The answer is whether both
+/// Sorts the literals of a clause that were taken, without repeats, and lists them over the proof's variables. The answer is whether both
 /// signs of a variable are among them.
 fn map_clause(variables: &Variables, _user: &[Lit], taken: &mut Taken) -> Result<bool, NameError>
     requires tidy { AreTidy variables.now }

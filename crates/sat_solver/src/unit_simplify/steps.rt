@@ -23,7 +23,7 @@ pub fn deletion_for(redundant: bool, other: DeleteClauseProof) -> DeleteClausePr
     other
 }
 
-/// Whether what is left of a clause is redundant.
+/// The flag of the step by which a clause loses literals: redundant only where it was and three literals are left.
 fn left_redundant(redundant: bool, len: usize) -> bool
     ensures { result ≡ (redundant && nat_lt 2 len) }
 {

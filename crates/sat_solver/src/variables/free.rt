@@ -22,8 +22,8 @@ pub struct FreeIndices {
     count: usize,
 }
 
-/// A count of what passes a test, where one test changes.
-fn recounted(count: usize, before: bool, after: bool) -> usize
+/// How many indices are free once the test of one of them has changed.
+fn recount_free(count: usize, before: bool, after: bool) -> usize
     requires some { before ≡ true → 0 < count }
     requires small { count ≤ largest }
     ensures { result + (if before then 1 else 0) ≡ count + (if after then 1 else 0) }
@@ -125,7 +125,7 @@ impl FreeIndices {
         self.change(index, free);
     }
 
-    /// As `set`, up from the leaf to the root.
+    /// Puts an index in or takes it out, and mends the nodes from its leaf up to the root.
     fn change(&mut self, index: usize, free: bool)
         requires tree { IsTree self.old }
         requires within { index < self.old.room }
@@ -135,7 +135,7 @@ impl FreeIndices {
     {
         let mut at = self.room + index;
         let before = self.nodes[at];
-        self.count = recounted(self.count, before, free);
+        self.count = recount_free(self.count, before, free);
         self.nodes[at] = free;
         while at > 1 {
             at /= 2;

@@ -12,7 +12,7 @@ use crate::variables::solver_vars::Given;
 use sat_base::Var;
 use sat_parts::Parts;
 use sat_parts::parts::grow;
-use sat_parts::parts::variables::{reset_activity, restore_unit, use_variable};
+use sat_parts::parts::variables::{reset_activity, use_variable, use_with_unit};
 use std::alloc::AllocError;
 
 /// Takes an index at level 0: a unit gives it its value, and otherwise it may be picked, from activity 0 on. The value that it is
@@ -26,7 +26,7 @@ fn take_index(parts: &mut Parts, given: &Given)
     reset_activity(parts, given.solver);
     match given.unit {
         None => use_variable(parts, given.solver),
-        Some(value) => restore_unit(parts, given.solver.lit(value)),
+        Some(value) => use_with_unit(parts, given.solver.lit(value)),
     }
 }
 

@@ -74,7 +74,7 @@ impl ClauseHeader {
         self.flags
     }
 
-    /// The number of literals.
+    /// The number of literals of the clause that it heads.
     pub fn len(&self) -> usize
         ensures value { result ≡ self.now.len }
         ensures bound { result < 2 ^ 32 }

@@ -2,11 +2,11 @@ use Rattle.std.proofs.Common.{◌∙◌, arith}
 use Rattle.sat_solver.proofs.lemmas.variables.Trees.{leaf_is, some_counted, counted_small, mended}
 use Rattle.sat_solver.proofs.variables.free.FreeIndices.change.Goals as goal
 
-pub recounted-self-requires-clause-some : goal.recounted-self-requires-clause-some
-recounted-self-requires-clause-some c = λ e. some_counted c.args.self.now c.args.index c.requires.tree c.requires.within (leaf_is c.args.self.now c.args.index c.index-before.result.now c.requires.tree c.requires.within c.index-before.ensures ∙ e)
+pub recount_free-self-requires-clause-some : goal.recount_free-self-requires-clause-some
+recount_free-self-requires-clause-some c = λ e. some_counted c.args.self.now c.args.index c.requires.tree c.requires.within (leaf_is c.args.self.now c.args.index c.index-before.result.now c.requires.tree c.requires.within c.index-before.ensures ∙ e)
 
-pub recounted-self-requires-clause-small : goal.recounted-self-requires-clause-small
-recounted-self-requires-clause-small c = counted_small c.args.self.now c.requires.tree
+pub recount_free-self-requires-clause-small : goal.recount_free-self-requires-clause-small
+recount_free-self-requires-clause-small c = counted_small c.args.self.now c.requires.tree
 
 pub returns-clause-tree : goal.returns-clause-tree
 returns-clause-tree c =

@@ -3,7 +3,7 @@ use Rattle.sat_parts.specs.parts.Frame.{SameClauses, SameState}
 use Rattle.sat_parts.specs.parts.Whole.{PartsInvariant}
 use Rattle.sat_parts.specs.parts.Words.{TrailWordExtends}
 use Rattle.sat_solver.specs.clause.Activity.{all_bumped}
-use Rattle.sat_solver.proofs.clause.activity.bump_all.Given as goal
+use Rattle.sat_solver.proofs.clause.activity.bump_variables.Given as goal
 
 abbrev pub invariant-loop-var : goal.invariant-loop-var
 invariant-loop-var l = record {

@@ -1,6 +1,6 @@
 use Rattle.sat_parts.specs.prop.Ready.{state_of}
 use Rattle.sat_parts.proofs.lemmas.parts.RestoreLemmas.{sound_restored, gains_restored, is_restored}
-use Rattle.sat_parts.proofs.parts.variables.restore_unit.Goals as goal
+use Rattle.sat_parts.proofs.parts.variables.use_with_unit.Goals as goal
 
 pub returns-clause-holds : goal.returns-clause-holds
 returns-clause-holds c =

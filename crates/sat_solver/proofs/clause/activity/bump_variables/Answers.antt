@@ -4,7 +4,7 @@ use Rattle.sat_store.specs.heap.Vsids.{Queue, decayed}
 use Rattle.sat_parts.proofs.lemmas.clause.ListLemmas.{place_in}
 use Rattle.sat_parts.proofs.lemmas.parts.WordSteps.{extends_refl, extends_trans}
 use Rattle.sat_solver.proofs.lemmas.clause.BumpingLemmas.{bumped_next, bumped_last}
-use Rattle.sat_solver.proofs.clause.activity.bump_all.Goals as goal
+use Rattle.sat_solver.proofs.clause.activity.bump_variables.Goals as goal
 
 pub loop-var-init : goal.loop-var-init
 loop-var-init c = record { holds = c.requires.holds; clauses = (refl, refl, refl); states = (refl, refl, refl); word = extends_refl c.args.parts.now; queue = refl }
