@@ -1,6 +1,7 @@
 pub mod Marks
 pub mod Walk
 pub mod Look
+pub mod Looking
 pub mod PairView
 pub mod LinkView
 pub mod SlotView

@@ -4,6 +4,7 @@ ghost use Rattle.sat_base.specs.steps.Steps.{DeleteClause, Redundant, Satisfied,
 ghost use Rattle.sat_base.specs.steps.StepViews.{deletion_of};
 ghost use Rattle.std.specs.List.{list_any};
 ghost use Rattle.sat_base.specs.values.Literals.{negated};
+ghost use Rattle.sat_checker.specs.inner.Looking.{LooksOver};
 ghost use Rattle.sat_checker.specs.inner.ModelTests.{are_all_true};
 ghost use Rattle.sat_checker.specs.LiteralSets.{canonical, is_among};
 ghost use Rattle.sat_checker.specs.Accepts.{Passes, PassInTurn, IsStrictSubset, FitsModel, VariablesApart};
@@ -60,8 +61,7 @@ impl Formula {
     #[inline(always)]
     pub fn file(&mut self, looks: &mut Looks) -> Result<(), AllocError>
         ensures kept { OnOk result ((f : Stored) → KeepsFormula (refiled_in self.old) f → KeepsFormula self.new f) }
-        ensures looks { (f : Stored) → KeepsFormula (refiled_in self.old) f → looks.new ≤ looks.old + literal_count f }
-        ensures rise { looks.old ≤ looks.new }
+        ensures looks { LooksOver (KeepsFormula (refiled_in self.old)) literal_count looks.old looks.new }
     {
         self.store.file(looks)
     }
@@ -75,8 +75,7 @@ impl Formula {
     ) -> Result<bool, AllocError>
         ensures exact { IfOk result (λ passes. (f : Stored) → ChecksAs self.old f → IsTrue passes ↔ Passes f clause.now hashes.now) }
         ensures rest { self.new ≡ record self.old { passed = self.new.passed } }
-        ensures looks { (f : Stored) → ChecksAs self.old f → looks.new ≤ looks.old + length hashes.now * literal_count f }
-        ensures rise { looks.old ≤ looks.new }
+        ensures looks { LooksOver (ChecksAs self.old) (λ f. length hashes.now * literal_count f) looks.old looks.new }
         ensures explained { IfOk result (λ passes. IsTrue passes → Explained self.new clause.now hashes.now) }
         ensures read { IfOk result (λ _. noted_length self.new.store.clauses self.new.passed + looks.old ≤ looks.new) }
     {
@@ -159,8 +158,7 @@ impl Formula {
         requires increasing { IsIncreasing literals.now }
         requires long { 2 ≤ length literals.now }
         ensures stored { Becomes result self.old (with_canonical redundant literals.now) self.new }
-        ensures looks { (f : Stored) → KeepsFormula self.old f → looks.new ≤ looks.old + literal_count f }
-        ensures rise { looks.old ≤ looks.new }
+        ensures looks { LooksOver (KeepsFormula self.old) literal_count looks.old looks.new }
     {
         let id = self.status.next_id;
         let placed = self.store.store_clause(id, redundant, literals, looks)?;
@@ -178,8 +176,7 @@ impl Formula {
     ) -> Result<(), StoreError>
         requires { IsIncreasing literals.now }
         ensures stored { Becomes result self.old (with_canonical redundant literals.now) self.new }
-        ensures looks { (f : Stored) → KeepsFormula self.old f → looks.new ≤ looks.old + literal_count f }
-        ensures rise { looks.old ≤ looks.new }
+        ensures looks { LooksOver (KeepsFormula self.old) literal_count looks.old looks.new }
     {
         if literals.is_empty() {
             return self.store_empty(redundant);
@@ -200,8 +197,7 @@ impl Formula {
         looks: &mut Looks,
     ) -> Result<(), StoreError>
         ensures stored { Becomes result self.old (with_stored redundant clause.now) self.new }
-        ensures looks { (f : Stored) → KeepsFormula self.old f → looks.new ≤ looks.old + literal_count f }
-        ensures rise { looks.old ≤ looks.new }
+        ensures looks { LooksOver (KeepsFormula self.old) literal_count looks.old looks.new }
     {
         let literals = sorted_set(buffer, clause)?;
         if has_both_signs(literals) {
@@ -218,8 +214,7 @@ impl Formula {
         looks: &mut Looks,
     ) -> Result<(), StoreError>
         ensures stored { Becomes result self.old (with_input clause.now) self.new }
-        ensures looks { (f : Stored) → KeepsFormula self.old f → looks.new ≤ looks.old + literal_count f }
-        ensures rise { looks.old ≤ looks.new }
+        ensures looks { LooksOver (KeepsFormula self.old) literal_count looks.old looks.new }
     {
         let id = self.status.next_id;
         self.store_clause(false, clause, buffer, looks)?;
@@ -241,8 +236,7 @@ impl Formula {
         ensures noted { IfOk result (λ passes. IsTrue passes → (f : Stored) → KeepsFormula self.old f → AreLong f
             → Adds notes.old (derived false (lit ∷ []) (hash ∷ []) f) notes.new) }
         ensures hears { notes.new.hears ≡ notes.old.hears }
-        ensures looks { (f : Stored) → KeepsFormula self.old f → looks.new ≤ looks.old + 2 * literal_count f }
-        ensures rise { looks.old ≤ looks.new }
+        ensures looks { LooksOver (KeepsFormula self.old) (λ f. 2 * literal_count f) looks.old looks.new }
     {
         if !self.check(&[lit], &[hash], looks)? {
             return Ok(false);
@@ -264,9 +258,8 @@ impl Formula {
             (KeepsFormula self.new (with_units (map (λ u. u.0) units.now) f)) (with_units (map (λ u. u.0) units.now) f) }
         ensures noted { IfOk result (λ passes. IsTrue passes → (f : Stored) → KeepsFormula self.old f → AreLong f
             → Adds notes.old (derived_units units.now f) notes.new) }
-        ensures looks { (f : Stored) → KeepsFormula self.old f
-            → looks.new ≤ looks.old + length units.now * (2 * literal_count f) }
-        ensures rise { looks.old ≤ looks.new }
+        ensures looks { LooksOver (KeepsFormula self.old)
+            (λ f. length units.now * (2 * literal_count f)) looks.old looks.new }
     {
         for place in 0..units.len() {
             let unit = units[place];
@@ -287,8 +280,7 @@ impl Formula {
     fn take_count(&mut self, redundant: bool, literals: &[Lit], looks: &mut Looks) -> bool
         ensures decides { (f : Stored) → KeepsFormula self.old f
             → TakesCount result redundant literals.now f (KeepsFormula self.new (with_less redundant literals.now f)) }
-        ensures looks { (f : Stored) → KeepsFormula self.old f → looks.new ≤ looks.old + literal_count f }
-        ensures rise { looks.old ≤ looks.new }
+        ensures looks { LooksOver (KeepsFormula self.old) literal_count looks.old looks.new }
     {
         self.store.delete_clause(redundant, literals, looks)
     }
@@ -310,8 +302,7 @@ impl Formula {
     ) -> bool
         requires { literals.now ≡ canonical clause.now }
         ensures decides { Deletes result self.old (DeleteClause clause.now (deletion_of proof)) self.new }
-        ensures looks { (f : Stored) → KeepsFormula self.old f → looks.new ≤ looks.old + 2 * literal_count f }
-        ensures rise { looks.old ≤ looks.new }
+        ensures looks { LooksOver (KeepsFormula self.old) (λ f. 2 * literal_count f) looks.old looks.new }
     {
         match proof {
             DeleteClauseProof::Redundant => self.delete_redundant(clause, literals, looks),
@@ -324,8 +315,7 @@ impl Formula {
     fn delete_redundant(&mut self, clause: &[Lit], literals: &[Lit], looks: &mut Looks) -> bool
         requires { literals.now ≡ canonical clause.now }
         ensures decides { Deletes result self.old (DeleteClause clause.now Redundant) self.new }
-        ensures looks { (f : Stored) → KeepsFormula self.old f → looks.new ≤ looks.old + literal_count f }
-        ensures rise { looks.old ≤ looks.new }
+        ensures looks { LooksOver (KeepsFormula self.old) literal_count looks.old looks.new }
     {
         self.take_count(true, literals, looks)
     }
@@ -334,8 +324,7 @@ impl Formula {
     fn delete_satisfied(&mut self, clause: &[Lit], literals: &[Lit], looks: &mut Looks) -> bool
         requires { literals.now ≡ canonical clause.now }
         ensures decides { Deletes result self.old (DeleteClause clause.now Satisfied) self.new }
-        ensures looks { (f : Stored) → KeepsFormula self.old f → looks.new ≤ looks.old + literal_count f }
-        ensures rise { looks.old ≤ looks.new }
+        ensures looks { LooksOver (KeepsFormula self.old) literal_count looks.old looks.new }
     {
         if !self.units.has_any(clause) {
             return false;
@@ -348,8 +337,7 @@ impl Formula {
         requires { IsIncreasing literals.now }
         ensures part { (f : Stored) → KeepsFormula self.now f → MatchBool result
             (IsStrictSubset (last_literals f.last f) literals.now) (IsStrictSubset (last_literals f.last f) literals.now → ⊥) }
-        ensures looks { (f : Stored) → KeepsFormula self.now f → looks.new ≤ looks.old + literal_count f }
-        ensures rise { looks.old ≤ looks.new }
+        ensures looks { LooksOver (KeepsFormula self.now) literal_count looks.old looks.new }
     {
         match self.status.last {
             LastClause::NoneYet => false,
@@ -368,8 +356,7 @@ impl Formula {
     fn delete_simplified(&mut self, clause: &[Lit], literals: &[Lit], looks: &mut Looks) -> bool
         requires { literals.now ≡ canonical clause.now }
         ensures decides { Deletes result self.old (DeleteClause clause.now Simplified) self.new }
-        ensures looks { (f : Stored) → KeepsFormula self.old f → looks.new ≤ looks.old + 2 * literal_count f }
-        ensures rise { looks.old ≤ looks.new }
+        ensures looks { LooksOver (KeepsFormula self.old) (λ f. 2 * literal_count f) looks.old looks.new }
     {
         if !self.has_last_within(literals, looks) {
             return false;
@@ -395,8 +382,7 @@ impl Formula {
         ensures exact { IfOk result (λ fits. (f : Stored) → KeepsFormula (refiled_in self.now) f
             → IsTrue fits ↔ FitsModel f literals.now) }
         ensures apart { OnErr result (VariablesApart literals.now) }
-        ensures looks { (f : Stored) → KeepsFormula (refiled_in self.now) f → looks.new ≤ looks.old + literal_count f }
-        ensures rise { looks.old ≤ looks.new }
+        ensures looks { LooksOver (KeepsFormula (refiled_in self.now)) literal_count looks.old looks.new }
     {
         if self.status.unsat {
             return Ok(false);
@@ -414,8 +400,7 @@ impl Formula {
         ensures met { (f : Stored) → KeepsFormula (refiled_in self.now) f
             → result
             ≡ (not (list_any (λ u. is_among assigned.now (negated u.literal)) f.units) && are_all_true assigned.now f.clauses) }
-        ensures looks { (f : Stored) → KeepsFormula (refiled_in self.now) f → looks.new ≤ looks.old + literal_count f }
-        ensures rise { looks.old ≤ looks.new }
+        ensures looks { LooksOver (KeepsFormula (refiled_in self.now)) literal_count looks.old looks.new }
     {
         !self.units.are_contradicted(assigned) && self.store.are_satisfied(assigned, looks)
     }

@@ -3,6 +3,7 @@ ghost use Rattle.std.specs.Prelude.{◌≡◌, ◌+◌, ◌*◌, ◌<◌, ◌≤
 ghost use Rattle.sat_checker.specs.Looks.{total_length};
 ghost use Rattle.sat_checker.specs.Propagation.{PassesCheck};
 ghost use Rattle.sat_checker.specs.inner.Look.{Extends, Says};
+ghost use Rattle.sat_checker.specs.inner.Looking.{LooksUpTo};
 ghost use Rattle.sat_checker.specs.inner.Reasons.{clause_at, filed, named, noted_length, Records, RecordsWalk, Ends, ExplainsCheck};
 ghost use Rattle.sat_checker.specs.inner.SlotView.{literals_at, bucket_in, bucket_of, live_length};
 ghost use Rattle.sat_checker.specs.inner.Walk.{verdict, walk_on, walk_buckets, denied};
@@ -69,8 +70,7 @@ fn walk_bucket(
 ) -> Result<Walked, AllocError>
     ensures says { IfOk result (λ b. Says b (bucket_in hash clauses.now) assigned.old assigned.new) }
     ensures extends { Extends assigned.old assigned.new }
-    ensures looks { looks.new ≤ looks.old + total_length (bucket_in hash clauses.now) }
-    ensures rise { looks.old ≤ looks.new }
+    ensures looks { LooksUpTo (total_length (bucket_in hash clauses.now)) looks.old looks.new }
     ensures noted { IfOk result
         (λ b. RecordsWalk clauses.now b passed.old assigned.old (filed hash clauses.now) passed.new assigned.new) }
     ensures read { IfOk result
@@ -100,8 +100,7 @@ fn walk_hashes(
 ) -> Result<bool, AllocError>
     ensures found { IfOk result (λ yes. yes ≡ walk_buckets assigned.old (map (bucket_of clauses.now) hashes.now)) }
     ensures extends { Extends assigned.old assigned.new }
-    ensures looks { looks.new ≤ looks.old + length hashes.now * live_length clauses.now }
-    ensures rise { looks.old ≤ looks.new }
+    ensures looks { LooksUpTo (length hashes.now * live_length clauses.now) looks.old looks.new }
     ensures noted { IfOk result
         (λ yes. IsTrue yes → Ends clauses.now passed.old assigned.old (named hashes.now clauses.now) passed.new) }
     ensures read { IfOk result
@@ -148,8 +147,7 @@ pub(crate) fn check_clause_with_hashes(
 ) -> Result<bool, AllocError>
     ensures exact { IfOk result (λ yes. IsTrue yes ↔ PassesCheck assigned.old clause.now (map (bucket_of clauses.now) hashes.now)) }
     ensures extends { Extends assigned.old assigned.new }
-    ensures looks { looks.new ≤ looks.old + length hashes.now * live_length clauses.now }
-    ensures rise { looks.old ≤ looks.new }
+    ensures looks { LooksUpTo (length hashes.now * live_length clauses.now) looks.old looks.new }
     ensures explained { IfOk result (λ yes. IsTrue yes → ExplainsCheck clauses.now passed.new assigned.old clause.now hashes.now) }
     ensures read { IfOk result (λ _. noted_length clauses.now passed.new + looks.old ≤ looks.new) }
 {

@@ -1,10 +1,11 @@
 //! The checker's state, and what each step makes of it.
-ghost use Rattle.std.specs.Prelude.{None, Some, ◌≡◌, ◌≤◌, ◌+◌, MatchBool};
+ghost use Rattle.std.specs.Prelude.{None, Some, MatchBool};
 ghost use Rattle.sat_checker.specs.Stored.{Stored, nothing_stored};
 ghost use Rattle.sat_checker.specs.Looks.{literal_count};
 ghost use Rattle.sat_checker.specs.Accepts.{MayBeDeleted, MayBeAdded};
 ghost use Rattle.sat_base.specs.steps.Steps.{SolverVarName, UserVarName, ChangeSamplingMode, AddClause, AtClause, ChangeHashBits, Assumptions, End, UnitClauses, DeleteClause, Model, FailedAssumptions, DeleteVar};
 ghost use Rattle.sat_base.specs.steps.StepViews.{deletion_of, step_of};
+ghost use Rattle.sat_checker.specs.inner.Looking.{LooksOver};
 ghost use Rattle.sat_checker.specs.inner.StateView.{Keeps, KeepsFiled, Leaves, with_added, with_derived, Decides, LooksWithin};
 ghost use Rattle.sat_checker.specs.telling.NotedView.{Announces};
 
@@ -87,7 +88,6 @@ impl State {
     ) -> Result<bool, StoreError>
         ensures decides { Decides result self.old (AddClause clause.now) self.new }
         ensures looks { LooksWithin self.old (AddClause clause.now) looks.old looks.new }
-        ensures rise { looks.old ≤ looks.new }
         ensures noted { Announces result self.old (AddClause clause.now) notes.old notes.new }
     {
         if self.formula.status.unsat {
@@ -105,8 +105,7 @@ impl State {
     /// Stores a clause of the formula, which may be added.
     fn store_input(&mut self, clause: &[Lit], looks: &mut Looks) -> Result<(), StoreError>
         ensures stored { Leaves result self.old (with_added clause.now) self.new }
-        ensures looks { (f : Stored) → KeepsFiled self.old f → looks.new ≤ looks.old + literal_count f }
-        ensures rise { looks.old ≤ looks.new }
+        ensures looks { LooksOver (KeepsFiled self.old) literal_count looks.old looks.new }
     {
         self.variables.learn(clause)?;
         self.formula.store_input(clause, &mut self.buffer, looks)
@@ -122,7 +121,6 @@ impl State {
     ) -> Result<bool, StoreError>
         ensures decides { Decides result self.old (AtClause redundant clause.now hashes.now) self.new }
         ensures looks { LooksWithin self.old (AtClause redundant clause.now hashes.now) looks.old looks.new }
-        ensures rise { looks.old ≤ looks.new }
         ensures noted { Announces result self.old (AtClause redundant clause.now hashes.now) notes.old notes.new }
     {
         self.formula.file(looks)?;
@@ -142,8 +140,7 @@ impl State {
         looks: &mut Looks,
     ) -> Result<(), StoreError>
         ensures stored { Leaves result self.old (with_derived redundant clause.now) self.new }
-        ensures looks { (f : Stored) → KeepsFiled self.old f → looks.new ≤ looks.old + literal_count f }
-        ensures rise { looks.old ≤ looks.new }
+        ensures looks { LooksOver (KeepsFiled self.old) literal_count looks.old looks.new }
     {
         self.variables.learn(clause)?;
         self.formula
@@ -182,7 +179,6 @@ impl State {
     ) -> Result<bool, StoreError>
         ensures decides { Decides result self.old (UnitClauses units.now) self.new }
         ensures looks { LooksWithin self.old (UnitClauses units.now) looks.old looks.new }
-        ensures rise { looks.old ≤ looks.new }
         ensures noted { Announces result self.old (UnitClauses units.now) notes.old notes.new }
     {
         self.formula.file(looks)?;
@@ -203,7 +199,6 @@ impl State {
     ) -> Result<bool, StoreError>
         ensures decides { Decides result self.old (DeleteClause clause.now (deletion_of proof)) self.new }
         ensures looks { LooksWithin self.old (DeleteClause clause.now (deletion_of proof)) looks.old looks.new }
-        ensures rise { looks.old ≤ looks.new }
         ensures noted { Announces result self.old (DeleteClause clause.now (deletion_of proof)) notes.old notes.new }
     {
         self.formula.file(looks)?;
@@ -225,7 +220,6 @@ impl State {
     ) -> Result<bool, StoreError>
         ensures decides { Decides result self.old (Model assignment.now) self.new }
         ensures looks { LooksWithin self.old (Model assignment.now) looks.old looks.new }
-        ensures rise { looks.old ≤ looks.new }
         ensures noted { Announces result self.old (Model assignment.now) notes.old notes.new }
     {
         if !self.formula.fits(self.alloc, assignment, looks)? {
@@ -245,7 +239,6 @@ impl State {
     ) -> Result<bool, StoreError>
         ensures decides { Decides result self.old (FailedAssumptions core.now hashes.now) self.new }
         ensures looks { LooksWithin self.old (FailedAssumptions core.now hashes.now) looks.old looks.new }
-        ensures rise { looks.old ≤ looks.new }
         ensures noted { Announces result self.old (FailedAssumptions core.now hashes.now) notes.old notes.new }
     {
         if !self.assumed.has_all(core) {
@@ -314,7 +307,6 @@ impl State {
     ) -> Result<bool, StoreError>
         ensures decides { Decides result self.old (step_of step.now) self.new }
         ensures looks { LooksWithin self.old (step_of step.now) looks.old looks.new }
-        ensures rise { looks.old ≤ looks.new }
         ensures noted { Announces result self.old (step_of step.now) notes.old notes.new }
     {
         match *step {

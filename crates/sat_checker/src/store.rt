@@ -1,5 +1,6 @@
 //! The stored clauses of two literals or more, with the hashes by which steps name them.
 ghost use Rattle.std.specs.Prelude.{ℕ, List, true, false, length, ◌≡◌, [], ◌+◌, ◌*◌, ◌≤◌, ◌^◌, Some, IfOk, OnOk, Err, MatchBool};
+ghost use Rattle.sat_checker.specs.inner.Looking.{LooksOver, LooksUpTo};
 ghost use Rattle.sat_checker.specs.inner.Marks.{IsIncreasing};
 ghost use Rattle.sat_checker.specs.Stored.{Stored, nothing_stored};
 ghost use Rattle.sat_checker.specs.Looks.{literal_count};
@@ -85,8 +86,7 @@ impl Store {
     #[inline(always)]
     pub fn file(&mut self, looks: &mut Looks) -> Result<(), AllocError>
         ensures filed { OnOk result (self.new ≡ refiled self.old) }
-        ensures looks { (f : Stored) → KeepsClauses (refiled self.old) f → looks.new ≤ looks.old + literal_count f }
-        ensures rise { looks.old ≤ looks.new }
+        ensures looks { LooksOver (KeepsClauses (refiled self.old)) literal_count looks.old looks.new }
     {
         if !self.stale {
             return Ok(());
@@ -99,8 +99,7 @@ impl Store {
     fn file_anew(&mut self, looks: &mut Looks) -> Result<(), AllocError>
         requires { self.old.stale ≡ true }
         ensures filed { OnOk result (self.new ≡ refiled self.old) }
-        ensures looks { looks.new ≤ looks.old + live_length self.old.clauses }
-        ensures rise { looks.old ≤ looks.new }
+        ensures looks { LooksUpTo (live_length self.old.clauses) looks.old looks.new }
     {
         self.clauses.rehash(&self.hasher, looks)?;
         self.stale = false;
@@ -122,8 +121,7 @@ impl Store {
         // A count is at its end.
         ensures full { result ≡ Err StoreError.CounterEnd → (f : Stored) → KeepsClauses self.old f
             → 2 ^ 64 ≤ count_in redundant (clause_with literals.now f.clauses) + 1 }
-        ensures looks { (f : Stored) → KeepsClauses self.old f → looks.new ≤ looks.old + literal_count f }
-        ensures rise { looks.old ≤ looks.new }
+        ensures looks { LooksOver (KeepsClauses self.old) literal_count looks.old looks.new }
     {
         let hash = self.hasher.clause_hash(literals);
         let Some(place) = self.clauses.find(hash, literals, looks) else {
@@ -144,8 +142,7 @@ impl Store {
     #[inline(never)]
     pub fn stored(&self, literals: &[Lit], looks: &mut Looks) -> Option<Found>
         ensures found { (f : Stored) → KeepsClauses self.now f → clause_with literals.now f.clauses ≡ found_in literals.now result }
-        ensures looks { (f : Stored) → KeepsClauses self.now f → looks.new ≤ looks.old + literal_count f }
-        ensures rise { looks.old ≤ looks.new }
+        ensures looks { LooksOver (KeepsClauses self.now) literal_count looks.old looks.new }
     {
         let hash = self.hasher.clause_hash(literals);
         let Some(place) = self.clauses.find(hash, literals, looks) else {
@@ -163,8 +160,7 @@ impl Store {
         ensures deleted { (f : Stored) → KeepsClauses self.old f
             → TakesCount result redundant literals.now f (KeepsClauses self.new (with_less redundant literals.now f)) }
         ensures ids { slot_ids self.new.clauses ≡ slot_ids self.old.clauses }
-        ensures looks { (f : Stored) → KeepsClauses self.old f → looks.new ≤ looks.old + literal_count f }
-        ensures rise { looks.old ≤ looks.new }
+        ensures looks { LooksOver (KeepsClauses self.old) literal_count looks.old looks.new }
     {
         let hash = self.hasher.clause_hash(literals);
         let Some(place) = self.clauses.find(hash, literals, looks) else {
@@ -222,11 +218,10 @@ impl Store {
         ensures part { IsIncreasing (slot_ids self.now.clauses) → MatchBool result
             (IsStrictSubset (clause_numbered id (live self.now.clauses)) literals.now)
             (IsStrictSubset (clause_numbered id (live self.now.clauses)) literals.now → ⊥) }
-        ensures looks { (f : Stored) → KeepsClauses self.now f → looks.new ≤ looks.old + literal_count f }
+        ensures looks { LooksOver (KeepsClauses self.now) literal_count looks.old looks.new }
         // The clause is looked at where it stands.
         ensures lent { (c : List ℕ) → IsIncreasing (slot_ids self.now.clauses)
             → clause_numbered id (live self.now.clauses) ≡ Some c → looks.new ≡ looks.old + length c }
-        ensures rise { looks.old ≤ looks.new }
     {
         let _count = self.clauses.len();
         let Some(place) = self.clauses.place_of(id) else {
@@ -245,11 +240,10 @@ impl Store {
     /// Whether each clause that stands as irredundant has an assumed literal.
     pub fn are_satisfied(&self, assigned: &Assigned, looks: &mut Looks) -> bool
         ensures found { (f : Stored) → KeepsClauses (refiled self.now) f → result ≡ are_all_true assigned.now f.clauses }
-        ensures looks { (f : Stored) → KeepsClauses (refiled self.now) f → looks.new ≤ looks.old + literal_count f }
+        ensures looks { LooksOver (KeepsClauses (refiled self.now)) literal_count looks.old looks.new }
         // All irredundant ones were looked at where they are.
         ensures all { (f : Stored) → KeepsClauses (refiled self.now) f → result ≡ true
             → looks.new ≡ looks.old + irredundant_length f.clauses }
-        ensures rise { looks.old ≤ looks.new }
     {
         self.clauses.are_satisfied(assigned, looks)
     }

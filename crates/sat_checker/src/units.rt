@@ -4,6 +4,7 @@ ghost use Rattle.sat_base.specs.values.Literals.{negated, variable};
 ghost use Rattle.std.specs.List.{list_any};
 ghost use Rattle.sat_checker.specs.LiteralSets.{is_among};
 ghost use Rattle.sat_checker.specs.announcements.Needed.{true_unit};
+ghost use Rattle.sat_checker.specs.inner.Looking.{LooksOver};
 ghost use Rattle.sat_checker.specs.inner.Marks.{NoRepeats};
 ghost use Rattle.sat_checker.specs.inner.LitNumbers.{ArePlaced};
 ghost use Rattle.sat_checker.specs.inner.Reasons.{noted_length, ExplainsCheck};
@@ -193,8 +194,8 @@ impl Units {
         ensures exact { IfOk result (λ passes. (f : Stored) → KeepsClauses store.now f → self.old ≡ f.units
             → IsTrue passes ↔ Passes f clause.now hashes.now) }
         ensures units { self.new ≡ self.old }
-        ensures looks { (f : Stored) → KeepsClauses store.now f → looks.new ≤ looks.old + length hashes.now * literal_count f }
-        ensures rise { looks.old ≤ looks.new }
+        ensures looks { LooksOver (KeepsClauses store.now)
+            (λ f. length hashes.now * literal_count f) looks.old looks.new }
         ensures explained { IfOk result (λ passes. IsTrue passes
             → ExplainsCheck store.now.clauses passed.new (map (λ u. u.literal) self.old) clause.now hashes.now) }
         ensures read { IfOk result (λ _. noted_length store.now.clauses passed.new + looks.old ≤ looks.new) }

@@ -1,5 +1,5 @@
 -- What the checker's state keeps of the definition's, and when its answer to a step is right.
-use Rattle.std.specs.Prelude.{ℕ, ◌≡◌, ◌+◌, ◌≤◌, Bool, List, Result}
+use Rattle.std.specs.Prelude.{ℕ, ◌≡◌, Bool, List, Result}
 use Rattle.sat_checker.specs.Storing.{with_stored, with_input, with_literals_known}
 use Rattle.sat_base.specs.steps.Steps.{Step}
 use Rattle.sat_checker.specs.LiteralSets.{canonical}
@@ -8,6 +8,7 @@ use Rattle.sat_checker.specs.Accepts.{Accepts, effect}
 use Rattle.sat_checker.specs.Judging.{JudgedBefore}
 use Rattle.sat_checker.specs.Looks.{most_looks}
 use Rattle.sat_checker.specs.inner.FormulaView.{KeepsFormula, refiled_in, TurnsBehind, Turns}
+use Rattle.sat_checker.specs.inner.Looking.{LooksOver}
 use Rattle.sat_checker.specs.inner.VariablesView.{KeepsVariables}
 use Rattle.sat_checker.specs.declared.state.State.{State}
 use Rattle.sat_checker.specs.declared.store.StoreError.{StoreError}
@@ -40,6 +41,6 @@ with_derived redundant clause f = with_stored redundant clause (with_literals_kn
 abbrev pub with_added : List ℕ → Stored → Stored
 with_added clause f = with_input clause (with_literals_known clause f)
 
--- no more looks than the step may take
+-- no more looks than the step may take, and none are lost
 abbrev pub LooksWithin : State → Step → ℕ → ℕ → Type 0
-LooksWithin state step old new = (f : Stored) → Keeps state f → new ≤ old + most_looks f step
+LooksWithin state step old new = LooksOver (Keeps state) (λ f. most_looks f step) old new

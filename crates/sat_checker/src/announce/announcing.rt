@@ -1,10 +1,11 @@
 //! What a step announces, by what is stored and known before it.
-ghost use Rattle.std.specs.Prelude.{ℕ, List, ◌≡◌, ◌+◌, ◌≤◌, ◌++◌, ◌∷◌, [], OnOk, OnErr, if◌then◌else◌};
+ghost use Rattle.std.specs.Prelude.{ℕ, List, ◌≡◌, ◌+◌, ◌++◌, ◌∷◌, [], OnOk, OnErr, if◌then◌else◌};
 ghost use Rattle.sat_checker.specs.Looks.{literal_count};
 ghost use Rattle.sat_checker.specs.Stored.{Stored};
 ghost use Rattle.sat_checker.specs.announcements.Announcements as told;
 ghost use Rattle.sat_checker.specs.announcements.Announcements.{derived_set, id_of_set, input_set, irredundant_deleted, is_sample, is_witness, last_id, mode_change, naming, one, redundant_deleted, renaming};
 ghost use Rattle.sat_checker.specs.inner.FormulaView.{last_in, KeepsFormula};
+ghost use Rattle.sat_checker.specs.inner.Looking.{LooksOver};
 ghost use Rattle.sat_checker.specs.inner.StoreView.{found_in};
 ghost use Rattle.sat_checker.specs.inner.VariablesView.{mode_in, variable_of};
 ghost use Rattle.sat_checker.specs.telling.AnnouncementView.{is_sampling};
@@ -40,8 +41,7 @@ impl Formula {
     /// The id under which sorted literals are stored.
     pub fn id_of_set(&self, literals: &[Lit], looks: &mut Looks) -> Option<u64>
         ensures id { (f : Stored) → KeepsFormula self.now f → result ≡ id_of_set literals.now f }
-        ensures looks { (f : Stored) → KeepsFormula self.now f → looks.new ≤ looks.old + literal_count f }
-        ensures rise { looks.old ≤ looks.new }
+        ensures looks { LooksOver (KeepsFormula self.now) literal_count looks.old looks.new }
     {
         if literals.is_empty() {
             return None;
@@ -60,8 +60,7 @@ impl Formula {
         ensures change { (f : Stored) → KeepsFormula self.now f → AreLong f → (ids : List ℕ) →
             stored_as result f.next_id redundant literals.now ids
             ≡ derived_set redundant literals.now ids f (id_of_set literals.now f) }
-        ensures looks { (f : Stored) → KeepsFormula self.now f → looks.new ≤ looks.old + literal_count f }
-        ensures rise { looks.old ≤ looks.new }
+        ensures looks { LooksOver (KeepsFormula self.now) literal_count looks.old looks.new }
     {
         if literals.len() < 2 {
             return match self.id_of_set(literals, looks) {

@@ -1,6 +1,6 @@
 //! What a step announces, noted where somebody listens: of clauses while all is stored as it was before them, of names, modes and
 //! models once they are accepted. What is noted of a step that is refused is of no use.
-ghost use Rattle.std.specs.Prelude.{ℕ, false, ◌≡◌, ◌+◌, ◌≤◌, ◌∷◌, [], List, OnOk, IsTrue, map, if◌then◌else◌};
+ghost use Rattle.std.specs.Prelude.{ℕ, false, ◌≡◌, ◌+◌, ◌∷◌, [], List, OnOk, IsTrue, map, if◌then◌else◌};
 ghost use Rattle.sat_base.specs.steps.Steps.{DeleteClause, FailedAssumptions};
 ghost use Rattle.sat_base.specs.steps.StepViews.{deletion_of};
 ghost use Rattle.sat_base.specs.values.Literals.{negated};
@@ -10,6 +10,7 @@ ghost use Rattle.sat_checker.specs.Stored.{Stored};
 ghost use Rattle.sat_checker.specs.announcements.Announcements as told;
 ghost use Rattle.sat_checker.specs.announcements.Announcements.{announced, derived, derived_set, id_of_set, input, mode_change, renaming};
 ghost use Rattle.sat_checker.specs.inner.FormulaView.{Explained, KeepsFormula};
+ghost use Rattle.sat_checker.specs.inner.Looking.{LooksOver, LooksUpTo};
 ghost use Rattle.sat_checker.specs.inner.Reasons.{noted_length};
 ghost use Rattle.sat_checker.specs.inner.VariablesView.{mode_in, variable_of};
 ghost use Rattle.sat_checker.specs.telling.AnnouncingView.{stored_as, deletion_told, AreLong};
@@ -139,8 +140,7 @@ impl Formula {
         looks: &mut Looks,
     ) -> Result<(), AllocError>
         ensures noted { OnOk result ((f : Stored) → KeepsFormula self.now f → Adds notes.old (input clause.now f) notes.new) }
-        ensures looks { (f : Stored) → KeepsFormula self.now f → looks.new ≤ looks.old + literal_count f }
-        ensures rise { looks.old ≤ looks.new }
+        ensures looks { LooksOver (KeepsFormula self.now) literal_count looks.old looks.new }
     {
         if !notes.hears {
             return Ok(());
@@ -165,8 +165,7 @@ impl Formula {
         ensures told { IsTrue notes.now.hears → (f : Stored) → KeepsFormula self.now f
             → (clause : List ℕ) → literals.now ≡ canonical clause
             → deletion_told literals.now result ≡ announced f (DeleteClause clause (deletion_of proof)) }
-        ensures looks { (f : Stored) → KeepsFormula self.now f → looks.new ≤ looks.old + literal_count f }
-        ensures rise { looks.old ≤ looks.new }
+        ensures looks { LooksOver (KeepsFormula self.now) literal_count looks.old looks.new }
     {
         if !notes.hears {
             return Deletion {
@@ -188,8 +187,7 @@ impl Formula {
     ) -> Deletion
         ensures told { (f : Stored) → KeepsFormula self.now f → (clause : List ℕ) → literals.now ≡ canonical clause
             → deletion_told literals.now result ≡ announced f (DeleteClause clause (deletion_of proof)) }
-        ensures looks { (f : Stored) → KeepsFormula self.now f → looks.new ≤ looks.old + literal_count f }
-        ensures rise { looks.old ≤ looks.new }
+        ensures looks { LooksOver (KeepsFormula self.now) literal_count looks.old looks.new }
     {
         let stored = self.store.stored(literals, looks);
         match proof {
@@ -222,8 +220,7 @@ impl Formula {
         ensures change { (f : Stored) → KeepsFormula self.now f → AreLong f → (ids : List ℕ) →
             stored_as result f.next_id redundant literals.now ids
             ≡ (if both_signs then [] else derived_set redundant literals.now ids f (id_of_set literals.now f)) }
-        ensures looks { (f : Stored) → KeepsFormula self.now f → looks.new ≤ looks.old + literal_count f }
-        ensures rise { looks.old ≤ looks.new }
+        ensures looks { LooksOver (KeepsFormula self.now) literal_count looks.old looks.new }
     {
         if both_signs {
             return Change::Neither;
@@ -243,9 +240,8 @@ impl Formula {
         requires explained { (hashes : List ℕ) × Explained self.now clause.now hashes }
         ensures noted { OnOk result ((f : Stored) (hashes : List ℕ) → KeepsFormula self.now f → AreLong f
             → Explained self.now clause.now hashes → Adds notes.old (derived redundant clause.now hashes f) notes.new) }
-        ensures looks { (f : Stored) → KeepsFormula self.now f
-            → looks.new ≤ looks.old + noted_length self.now.store.clauses self.now.passed + literal_count f }
-        ensures rise { looks.old ≤ looks.new }
+        ensures looks { LooksOver (KeepsFormula self.now)
+            (λ f. noted_length self.now.store.clauses self.now.passed + literal_count f) looks.old looks.new }
     {
         if !notes.hears {
             return Ok(());
@@ -265,9 +261,8 @@ impl Formula {
         requires explained { (hashes : List ℕ) × Explained self.now clause.now hashes }
         ensures noted { OnOk result ((f : Stored) (hashes : List ℕ) → KeepsFormula self.now f → AreLong f
             → Explained self.now clause.now hashes → Adds notes.old (derived redundant clause.now hashes f) notes.new) }
-        ensures looks { (f : Stored) → KeepsFormula self.now f
-            → looks.new ≤ looks.old + noted_length self.now.store.clauses self.now.passed + literal_count f }
-        ensures rise { looks.old ≤ looks.new }
+        ensures looks { LooksOver (KeepsFormula self.now)
+            (λ f. noted_length self.now.store.clauses self.now.passed + literal_count f) looks.old looks.new }
     {
         let both_signs = copy_canonical(&mut notes.literals, clause)?;
         let literals = notes.literals.as_slice();
@@ -309,8 +304,7 @@ impl Formula {
         ensures noted { OnOk result ((f : Stored) (hashes : List ℕ) → KeepsFormula self.now f → AreLong f
             → Explained self.now (lit ∷ []) hashes → Adds notes.old (derived false (lit ∷ []) hashes f) notes.new) }
         ensures hears { notes.new.hears ≡ notes.old.hears }
-        ensures looks { looks.new ≤ looks.old + noted_length self.now.store.clauses self.now.passed }
-        ensures rise { looks.old ≤ looks.new }
+        ensures looks { LooksUpTo (noted_length self.now.store.clauses self.now.passed) looks.old looks.new }
     {
         if !notes.hears {
             return Ok(());
@@ -342,8 +336,7 @@ impl Formula {
         requires explained { (hashes : List ℕ) × Explained self.now denied.now hashes }
         ensures noted { OnOk result ((f : Stored) (hashes : List ℕ) → KeepsFormula self.now f
             → Explained self.now denied.now hashes → Adds notes.old (announced f (FailedAssumptions core.now hashes)) notes.new) }
-        ensures looks { looks.new ≤ looks.old + noted_length self.now.store.clauses self.now.passed }
-        ensures rise { looks.old ≤ looks.new }
+        ensures looks { LooksUpTo (noted_length self.now.store.clauses self.now.passed) looks.old looks.new }
     {
         if !notes.hears {
             return Ok(());

@@ -1,11 +1,12 @@
 //! Units that are judged where no id is left for one before them: a step is refused first, and only then are the ids over.
-ghost use Rattle.std.specs.Prelude.{◌≡◌, ◌+◌, ◌*◌, ◌≤◌, ◌↔◌, length, false, IfOk, IsTrue, OnOk, MatchResult};
+ghost use Rattle.std.specs.Prelude.{◌≡◌, ◌*◌, ◌↔◌, length, false, IfOk, IsTrue, OnOk, MatchResult};
 ghost use Rattle.sat_checker.specs.Accepts.{PassInTurn};
 ghost use Rattle.sat_checker.specs.Looks.{literal_count};
 ghost use Rattle.sat_checker.specs.Stored.{Stored};
 ghost use Rattle.sat_checker.specs.Storing.{with_unit};
 ghost use Rattle.sat_checker.specs.inner.FormulaView.{ChecksAs};
 ghost use Rattle.sat_checker.specs.declared.store.StoreError.TheVariants.{CounterEnd};
+ghost use Rattle.sat_checker.specs.inner.Looking.{LooksOver};
 
 use crate::formula::Formula;
 use crate::looks::Looks;
@@ -37,8 +38,7 @@ impl Formula {
         looks: &mut Looks,
     ) -> Result<bool, AllocError>
         ensures exact { IfOk result (λ passes. (f : Stored) → ChecksAs self.old f → IsTrue passes ↔ PassInTurn f units.now) }
-        ensures looks { (f : Stored) → ChecksAs self.old f → looks.new ≤ looks.old + length units.now * literal_count f }
-        ensures rise { looks.old ≤ looks.new }
+        ensures looks { LooksOver (ChecksAs self.old) (λ f. length units.now * literal_count f) looks.old looks.new }
     {
         for unit in units {
             if !self.check(&[unit.0], &[unit.1], looks)? {
@@ -60,8 +60,7 @@ impl Formula {
             (λ passes. (passes ≡ false) × (PassInTurn (with_unit lit f) behind.now → ⊥))
             (λ e. e ≡ CounterEnd → PassInTurn (with_unit lit f) behind.now) }
         ensures never { IfOk result (λ passes. passes ≡ false) }
-        ensures looks { (f : Stored) → ChecksAs self.old f → looks.new ≤ looks.old + length behind.now * literal_count f }
-        ensures rise { looks.old ≤ looks.new }
+        ensures looks { LooksOver (ChecksAs self.old) (λ f. length behind.now * literal_count f) looks.old looks.new }
     {
         self.suppose(lit)?;
         if !self.pass_in_turn(behind, looks)? {

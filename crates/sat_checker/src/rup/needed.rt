@@ -1,8 +1,9 @@
 //! What a conflict rests on, followed backwards over the notes of a walk.
-ghost use Rattle.std.specs.Prelude.{ℕ, ◌≡◌, ◌+◌, ◌<◌, ◌≤◌, ◌==◌, ◌||◌, [], map, length, OnOk, Some};
+ghost use Rattle.std.specs.Prelude.{ℕ, ◌≡◌, ◌+◌, ◌<◌, ◌==◌, ◌||◌, [], map, length, OnOk, Some};
 ghost use Rattle.sat_base.specs.values.Literals.{negated};
 ghost use Rattle.sat_checker.specs.LiteralSets.{is_among};
 ghost use Rattle.sat_checker.specs.announcements.Needed.{Ground, others_denied, with_reason, needed_units, conflict_ids};
+ghost use Rattle.sat_checker.specs.inner.Looking.{LooksUpTo};
 ghost use Rattle.sat_checker.specs.inner.Marks.{IsIncreasing};
 ghost use Rattle.sat_checker.specs.inner.NeededView.{IsFollowed};
 ghost use Rattle.sat_checker.specs.inner.Reasons.{clause_at, conflict_at, noted_length, AreThere, IsThere, Explains};
@@ -126,8 +127,7 @@ impl Needed {
         requires { reason.place < length clauses.now }
         ensures followed { OnOk result ((g : Ground) → IsFollowed self.old g
             → IsFollowed self.new (with_reason reason.lit (clause_at clauses.now reason.place) g)) }
-        ensures looks { looks.new ≤ looks.old + length (literals_at clauses.now reason.place) }
-        ensures rise { looks.old ≤ looks.new }
+        ensures looks { LooksUpTo (length (literals_at clauses.now reason.place)) looks.old looks.new }
     {
         if !self.marked.is_true(reason.lit) {
             return Ok(());
@@ -151,8 +151,7 @@ impl Needed {
         requires there { AreThere clauses.now passed.now }
         requires met { IsThere clauses.now passed.now.conflict }
         ensures followed { OnOk result ((whole : Ground) → Explains clauses.now passed.now whole → IsFollowed self.new whole) }
-        ensures looks { looks.new ≤ looks.old + noted_length clauses.now passed.now }
-        ensures rise { looks.old ≤ looks.new }
+        ensures looks { LooksUpTo (noted_length clauses.now passed.now) looks.old looks.new }
     {
         let Some(place) = passed.conflict else {
             return Ok(());

@@ -1,9 +1,10 @@
 //! The ids that a clause rests on which passed the propagation check. They are listed where somebody listens.
-ghost use Rattle.std.specs.Prelude.{ℕ, List, ◌≡◌, ◌+◌, ◌≤◌, ◌++◌, [], map, OnOk};
+ghost use Rattle.std.specs.Prelude.{ℕ, List, ◌≡◌, ◌+◌, ◌++◌, [], map, OnOk};
 ghost use Rattle.sat_base.specs.values.Literals.{negated};
 ghost use Rattle.sat_checker.specs.LiteralSets.{canonical};
 ghost use Rattle.sat_checker.specs.Stored.{Stored};
 ghost use Rattle.sat_checker.specs.announcements.Needed.{Ground, ground, conflict_ids, propagations};
+ghost use Rattle.sat_checker.specs.inner.Looking.{LooksUpTo};
 ghost use Rattle.sat_checker.specs.inner.Marks.{IsIncreasing};
 ghost use Rattle.sat_checker.specs.inner.Reasons.{named, noted_length, AreThere, IsThere, Explains, ExplainsUnless};
 ghost use Rattle.sat_checker.specs.inner.StoreView.{KeepsClauses};
@@ -61,8 +62,7 @@ impl Propagations {
             → ExplainsUnless store.now.clauses passed.now (map (λ u. u.literal) units.now) clause.now
             (ground (map negated clause.now ++ map (λ u. u.literal) units.now) (named hashes store.now.clauses))
             → IsIncreasing (map (λ u. u.id) f.units) → self.new.ids.items ≡ propagations f clause.now hashes) }
-        ensures looks { looks.new ≤ looks.old + noted_length store.now.clauses passed.now }
-        ensures rise { looks.old ≤ looks.new }
+        ensures looks { LooksUpTo (noted_length store.now.clauses passed.now) looks.old looks.new }
     {
         self.ids.clear();
         if has_both_signs(literals) {
@@ -90,8 +90,7 @@ impl Propagations {
         ensures listed { OnOk result ((whole : Ground) → Explains store.now.clauses passed.now whole
             → IsIncreasing (map (λ u. u.id) units.now)
             → self.new.ids.items ≡ conflict_ids (map negated clause.now) whole units.now) }
-        ensures looks { looks.new ≤ looks.old + noted_length store.now.clauses passed.now }
-        ensures rise { looks.old ≤ looks.new }
+        ensures looks { LooksUpTo (noted_length store.now.clauses passed.now) looks.old looks.new }
     {
         self.needed.follow_all(&store.clauses, passed, looks)?;
         self.denied.allow(store.clauses.near_count());

@@ -1,6 +1,7 @@
 //! The stored clauses of two literals or more.
 ghost use Rattle.std.specs.Prelude.{◌≡◌, ◌+◌, ◌*◌, ◌<◌, ◌≤◌, ◌^◌, [], ◌∷◌, ◌++◌, length, true, false, None, OnOk, OnErr, IfSome};
 ghost use Rattle.std.specs.List.{AllByRecursion, list_any};
+ghost use Rattle.sat_checker.specs.inner.Looking.{LooksUpTo};
 ghost use Rattle.sat_checker.specs.inner.ModelTests.{are_all_true, irredundant_length};
 ghost use Rattle.sat_checker.specs.Looks.{total_length};
 ghost use Rattle.sat_checker.specs.inner.Marks.{IsIncreasing};
@@ -131,8 +132,7 @@ impl Clauses {
     #[tactic(auto, using(crate::proofs::lemmas::store::Finding::finding))]
     pub fn find(&self, hash: ClauseHash, literals: &[Lit], looks: &mut Looks) -> Option<usize>
         ensures found { result ≡ found_among self.now literals.now (places_of hash self.now) }
-        ensures looks { looks.new ≤ looks.old + total_length (bucket_in hash self.now) }
-        ensures rise { looks.old ≤ looks.new }
+        ensures looks { LooksUpTo (total_length (bucket_in hash self.now)) looks.old looks.new }
     {
         let mut next = self.first(hash);
         while let Some(place) = next {
@@ -171,10 +171,9 @@ impl Clauses {
     /// Whether each clause that stands as irredundant has an assumed literal.
     pub fn are_satisfied(&self, assigned: &Assigned, looks: &mut Looks) -> bool
         ensures found { result ≡ are_all_true assigned.now (live self.now) }
-        ensures looks { looks.new ≤ looks.old + live_length self.now }
+        ensures looks { LooksUpTo (live_length self.now) looks.old looks.new }
         // All irredundant ones were looked at where they are.
         ensures all { result ≡ true → looks.new ≡ looks.old + irredundant_length (live self.now) }
-        ensures rise { looks.old ≤ looks.new }
     {
         for place in 0..self.slots.len() {
             if self.slots.count(place, false) == 0 {
@@ -218,8 +217,7 @@ impl Clauses {
     /// Files all clauses anew, by the hashes of this hasher. Where memory is wanted none is left.
     pub fn rehash(&mut self, hasher: &ClauseHasher, looks: &mut Looks) -> Result<(), AllocError>
         ensures hashed { OnOk result (self.new ≡ hashed_anew hasher.now self.old) }
-        ensures looks { looks.new ≤ looks.old + live_length self.old }
-        ensures rise { looks.old ≤ looks.new }
+        ensures looks { LooksUpTo (live_length self.old) looks.old looks.new }
     {
         let alloc = self.alloc;
         if file_all(alloc, &mut self.slots, hasher, &mut self.index, looks).is_err() {
@@ -314,8 +312,7 @@ fn hash_all(
     requires { pairs.old.items ≡ [] }
     ensures hashed { OnOk result (slots.new ≡ hashed_anew hasher.now slots.old) }
     ensures pairs { OnOk result (pairs.new.items ≡ pairs_of (hashed_anew hasher.now slots.old)) }
-    ensures looks { looks.new ≤ looks.old + live_length slots.old }
-    ensures rise { looks.old ≤ looks.new }
+    ensures looks { LooksUpTo (live_length slots.old) looks.old looks.new }
 {
     for place in 0..slots.len() {
         if slots.is_gone(place) {
@@ -379,8 +376,7 @@ fn file_all(
 ) -> Result<(), AllocError>
     ensures hashed { OnOk result (slots.new ≡ hashed_anew hasher.now slots.old) }
     ensures filed { OnOk result (Files index.new (hashed_anew hasher.now slots.old)) }
-    ensures looks { looks.new ≤ looks.old + live_length slots.old }
-    ensures rise { looks.old ≤ looks.new }
+    ensures looks { LooksUpTo (live_length slots.old) looks.old looks.new }
 {
     let mut pairs = Vec::new(alloc);
     hash_all(slots, hasher, &mut pairs, looks)?;

@@ -59,10 +59,10 @@ looks_filed before old n l b = let e = once_more n l in omega arith
 pub looks_judged : (before old mid n l : ℕ) → old ≤ before + l → mid ≤ old + n * l → mid ≤ before + (5 + 2 * n) * l
 looks_judged before old mid n l b h = let e = once_more n l in omega arith
 
-pub looks_noted : (before old mid noted len n l : ℕ) → old ≤ before + l → mid ≤ old + n * l → len + old ≤ mid → noted ≤ mid + len + l → noted ≤ before + (5 + 2 * n) * l
+pub looks_noted : (before old mid noted len n l : ℕ) → old ≤ before + l → mid ≤ old + n * l → len + old ≤ mid → noted ≤ mid + (len + l) → noted ≤ before + (5 + 2 * n) * l
 looks_noted before old mid noted len n l b h r k = let e = once_more n l in omega arith
 
-pub looks_stored : (before old mid noted new len n l : ℕ) → old ≤ before + l → mid ≤ old + n * l → len + old ≤ mid → noted ≤ mid + len + l → new ≤ noted + l → new ≤ before + (5 + 2 * n) * l
+pub looks_stored : (before old mid noted new len n l : ℕ) → old ≤ before + l → mid ≤ old + n * l → len + old ≤ mid → noted ≤ mid + (len + l) → new ≤ noted + l → new ≤ before + (5 + 2 * n) * l
 looks_stored before old mid noted new len n l b h r k j = let e = once_more n l in omega arith
 
 pub looks_followed : (before old mid noted len n l : ℕ) → old ≤ before + l → mid ≤ old + n * l → len + old ≤ mid → noted ≤ mid + len → noted ≤ before + (5 + 2 * n) * l

@@ -6,6 +6,7 @@ use Rattle.sat_checker.proofs.lemmas.store.Buckets.{buckets_once}
 use Rattle.sat_checker.proofs.lemmas.announcements.Noting.{nothing_noted, explained, never_met}
 use Rattle.sat_checker.proofs.lemmas.propagation.Walking.{Extends-further}
 use Rattle.std.proofs.lemmas.Result.{IfOk-from_err}
+use Rattle.std.proofs.lemmas.Grind.{common_steps}
 use Rattle.sat_checker.proofs.rup.check_clause_with_hashes.Goals as goal
 
 if_ok : {A E : Type 0} (r : Result A E) (P Q : A → Type 0) → ((x : A) → P x → Q x) → IfOk r P → IfOk r Q
@@ -51,13 +52,13 @@ pub returns-in_err-deny-clause-extends : goal.returns-in_err-deny-clause-extends
 returns-in_err-deny-clause-extends c = c.deny.ensures.extends
 
 pub returns-in_err-deny-clause-looks : goal.returns-in_err-deny-clause-looks
-returns-in_err-deny-clause-looks c = omega arith
+returns-in_err-deny-clause-looks c = record { rise = grind (arith, common_steps); most = omega arith }
 
 pub returns-then-branch-clause-extends : goal.returns-then-branch-clause-extends
 returns-then-branch-clause-extends c = c.deny.ensures.extends
 
 pub returns-then-branch-clause-looks : goal.returns-then-branch-clause-looks
-returns-then-branch-clause-looks c = omega arith
+returns-then-branch-clause-looks c = record { rise = grind (arith, common_steps); most = omega arith }
 
 pub returns-then-branch-clause-read : goal.returns-then-branch-clause-read
 returns-then-branch-clause-read c = let n = nothing_noted c.args.clauses.now c.clear.new.self c.clear.ensures.reasons c.clear.ensures.conflict in omega (arith, n)

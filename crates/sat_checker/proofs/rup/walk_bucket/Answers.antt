@@ -11,6 +11,7 @@ use Rattle.sat_checker.proofs.lemmas.propagation.Walking.{Extends-itself, Extend
 use Rattle.sat_checker.proofs.lemmas.store.Filing.{first_ok, from_first, increasing_places, left_step, next_among}
 use Rattle.sat_checker.proofs.lemmas.store.Finding.{bucket_literals, place_inside, is_full, is_empty}
 use Rattle.sat_checker.proofs.lemmas.announcements.Noting.{leads_itself, filed_at, leads_next, ends_next, read_further}
+use Rattle.std.proofs.lemmas.Grind.{common_steps}
 use Rattle.sat_checker.proofs.rup.walk_bucket.Goals as goal
 
 no_less : (a b : ℕ) → a ≤ a + b
@@ -20,7 +21,7 @@ as_much : (a : ℕ) → a ≤ a
 as_much a = omega arith
 
 pub returns-in_default-clause-looks : goal.returns-in_default-clause-looks
-returns-in_default-clause-looks c = no_less c.args.looks.now _
+returns-in_default-clause-looks c = record { rise = grind (arith, common_steps); most = no_less c.args.looks.now _ }
 
 pub returns-in_default-clause-noted : goal.returns-in_default-clause-noted
 returns-in_default-clause-noted c = tt
@@ -67,20 +68,26 @@ pub returns-in_err-meet-clause-extends : goal.returns-in_err-meet-clause-extends
 returns-in_err-meet-clause-extends c = Extends-further c.args.assigned.now c.loop-next.assigned c.meet.new.assigned c.loop-next.invariant.extends c.meet.ensures.extends
 
 pub returns-in_err-meet-clause-looks : goal.returns-in_err-meet-clause-looks
-returns-in_err-meet-clause-looks c =
-    let ps = places_of c.args.hash c.args.clauses.now in
-    let more = from_on (first_of (behind c.in-Some-next.place ps)) ps in
-    let left = left_step c.args.hash c.args.clauses.now c.loop-next.next c.in-Some-next.place c.in-Some-next.is c.loop-next.invariant.among (first_of (behind c.in-Some-next.place ps)) refl in
-    looks_ended (literals_at c.args.clauses.now) (c.in-Some-next.place ∷ more) 0 (omega arith) _ c.loop-next.looks c.meet.new.looks
-    (ap (λ qs. c.loop-next.looks + total_length (map (literals_at c.args.clauses.now) qs)) (sym left) ∙ c.loop-next.invariant.looks) c.meet.ensures.looks
+returns-in_err-meet-clause-looks c = record {
+  rise = grind (arith, common_steps);
+  most =
+      let ps = places_of c.args.hash c.args.clauses.now in
+      let more = from_on (first_of (behind c.in-Some-next.place ps)) ps in
+      let left = left_step c.args.hash c.args.clauses.now c.loop-next.next c.in-Some-next.place c.in-Some-next.is c.loop-next.invariant.among (first_of (behind c.in-Some-next.place ps)) refl in
+      looks_ended (literals_at c.args.clauses.now) (c.in-Some-next.place ∷ more) 0 (omega arith) _ c.loop-next.looks c.meet.new.looks
+      (ap (λ qs. c.loop-next.looks + total_length (map (literals_at c.args.clauses.now) qs)) (sym left) ∙ c.loop-next.invariant.looks) c.meet.ensures.looks;
+}
 
 pub returns-then-branch-clause-looks : goal.returns-then-branch-clause-looks
-returns-then-branch-clause-looks c =
-    let ps = places_of c.args.hash c.args.clauses.now in
-    let more = from_on (first_of (behind c.in-Some-next.place ps)) ps in
-    let left = left_step c.args.hash c.args.clauses.now c.loop-next.next c.in-Some-next.place c.in-Some-next.is c.loop-next.invariant.among (first_of (behind c.in-Some-next.place ps)) refl in
-    looks_ended (literals_at c.args.clauses.now) (c.in-Some-next.place ∷ more) 0 (omega arith) _ c.loop-next.looks c.meet.new.looks
-    (ap (λ qs. c.loop-next.looks + total_length (map (literals_at c.args.clauses.now) qs)) (sym left) ∙ c.loop-next.invariant.looks) c.meet.ensures.looks
+returns-then-branch-clause-looks c = record {
+  rise = grind (arith, common_steps);
+  most =
+      let ps = places_of c.args.hash c.args.clauses.now in
+      let more = from_on (first_of (behind c.in-Some-next.place ps)) ps in
+      let left = left_step c.args.hash c.args.clauses.now c.loop-next.next c.in-Some-next.place c.in-Some-next.is c.loop-next.invariant.among (first_of (behind c.in-Some-next.place ps)) refl in
+      looks_ended (literals_at c.args.clauses.now) (c.in-Some-next.place ∷ more) 0 (omega arith) _ c.loop-next.looks c.meet.new.looks
+      (ap (λ qs. c.loop-next.looks + total_length (map (literals_at c.args.clauses.now) qs)) (sym left) ∙ c.loop-next.invariant.looks) c.meet.ensures.looks;
+}
 
 pub returns-then-branch-clause-extends : goal.returns-then-branch-clause-extends
 returns-then-branch-clause-extends c = Extends-further c.args.assigned.now c.loop-next.assigned c.meet.new.assigned c.loop-next.invariant.extends c.meet.ensures.extends

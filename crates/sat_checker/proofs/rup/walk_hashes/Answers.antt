@@ -6,17 +6,24 @@ use Rattle.sat_checker.specs.inner.Reasons.{named}
 use Rattle.sat_checker.proofs.lemmas.propagation.Walking.{Extends-further, buckets-open, buckets-conflict, buckets-empty}
 use Rattle.sat_checker.proofs.lemmas.store.Buckets.{walked_more, walked_within, walked_all}
 use Rattle.sat_checker.proofs.lemmas.announcements.Noting.{leads_hash, ends_hash}
+use Rattle.std.proofs.lemmas.Grind.{common_steps}
 use Rattle.sat_checker.proofs.rup.walk_hashes.Goals as goal
 
 pub returns-in_err-walk_bucket-clause-looks : goal.returns-in_err-walk_bucket-clause-looks
-returns-in_err-walk_bucket-clause-looks c =
-    walked_within c.args.looks.now c.loop-hash.looks c.walk_bucket.new.looks c.loop-hash.hash-index (length c.args.hashes.now) (get_or c.args.hashes.now c.loop-hash.hash-index 0) c.args.clauses.now
-    c.loop-hash.invariant.looks c.walk_bucket.ensures.looks c.loop-hash-test.true
+returns-in_err-walk_bucket-clause-looks c = record {
+  rise = grind (arith, common_steps);
+  most =
+      walked_within c.args.looks.now c.loop-hash.looks c.walk_bucket.new.looks c.loop-hash.hash-index (length c.args.hashes.now) (get_or c.args.hashes.now c.loop-hash.hash-index 0) c.args.clauses.now
+      c.loop-hash.invariant.looks c.walk_bucket.ensures.looks.most c.loop-hash-test.true;
+}
 
 pub returns-in-Conflict-clause-looks : goal.returns-in-Conflict-clause-looks
-returns-in-Conflict-clause-looks c =
-    walked_within c.args.looks.now c.loop-hash.looks c.walk_bucket.new.looks c.loop-hash.hash-index (length c.args.hashes.now) (get_or c.args.hashes.now c.loop-hash.hash-index 0) c.args.clauses.now
-    c.loop-hash.invariant.looks c.walk_bucket.ensures.looks c.loop-hash-test.true
+returns-in-Conflict-clause-looks c = record {
+  rise = grind (arith, common_steps);
+  most =
+      walked_within c.args.looks.now c.loop-hash.looks c.walk_bucket.new.looks c.loop-hash.hash-index (length c.args.hashes.now) (get_or c.args.hashes.now c.loop-hash.hash-index 0) c.args.clauses.now
+      c.loop-hash.invariant.looks c.walk_bucket.ensures.looks.most c.loop-hash-test.true;
+}
 
 pub returns-in-Conflict-clause-noted : goal.returns-in-Conflict-clause-noted
 returns-in-Conflict-clause-noted c = λ _.
@@ -30,11 +37,11 @@ loop-hash-preserved c =
       walked = c.loop-hash.invariant.walked ∙ buckets-open (bucket_of c.args.clauses.now) c.args.hashes.now c.loop-hash.hash-index c.loop-hash-test.true c.loop-hash.assigned c.walk_bucket.new.assigned says.0 says.1;
       extends = Extends-further c.args.assigned.now c.loop-hash.assigned c.walk_bucket.new.assigned c.loop-hash.invariant.extends c.walk_bucket.ensures.extends;
       looks = walked_more c.args.looks.now c.loop-hash.looks c.walk_bucket.new.looks c.loop-hash.hash-index (get_or c.args.hashes.now c.loop-hash.hash-index 0) c.args.clauses.now
-          c.loop-hash.invariant.looks c.walk_bucket.ensures.looks;
+          c.loop-hash.invariant.looks c.walk_bucket.ensures.looks.most;
       leads = leads_hash c.args.clauses.now c.args.passed.now c.loop-hash.passed c.walk_bucket.new.passed c.args.assigned.now c.loop-hash.assigned c.walk_bucket.new.assigned c.args.hashes.now c.loop-hash.hash-index c.loop-hash-test.true
           (named c.args.hashes.now c.args.clauses.now) c.loop-hash.invariant.leads (rw c.in-Open.is at c.in_ok-walk_bucket.ensures.noted);
       read = omega (arith, c.loop-hash.invariant.read, c.in_ok-walk_bucket.ensures.read);
-      rise = omega (arith, c.loop-hash.invariant.rise, c.walk_bucket.ensures.rise);
+      rise = omega (arith, c.loop-hash.invariant.rise, c.walk_bucket.ensures.looks.rise);
     }
 
 pub returns-in_err-walk_bucket-clause-extends : goal.returns-in_err-walk_bucket-clause-extends
@@ -49,9 +56,12 @@ pub returns-in-Empty-clause-extends : goal.returns-in-Empty-clause-extends
 returns-in-Empty-clause-extends c = Extends-further c.args.assigned.now c.loop-hash.assigned c.walk_bucket.new.assigned c.loop-hash.invariant.extends c.walk_bucket.ensures.extends
 
 pub returns-in-Empty-clause-looks : goal.returns-in-Empty-clause-looks
-returns-in-Empty-clause-looks c =
-    walked_within c.args.looks.now c.loop-hash.looks c.walk_bucket.new.looks c.loop-hash.hash-index (length c.args.hashes.now) (get_or c.args.hashes.now c.loop-hash.hash-index 0) c.args.clauses.now
-    c.loop-hash.invariant.looks c.walk_bucket.ensures.looks c.loop-hash-test.true
+returns-in-Empty-clause-looks c = record {
+  rise = grind (arith, common_steps);
+  most =
+      walked_within c.args.looks.now c.loop-hash.looks c.walk_bucket.new.looks c.loop-hash.hash-index (length c.args.hashes.now) (get_or c.args.hashes.now c.loop-hash.hash-index 0) c.args.clauses.now
+      c.loop-hash.invariant.looks c.walk_bucket.ensures.looks.most c.loop-hash-test.true;
+}
 
 pub returns-in-Conflict-clause-found : goal.returns-in-Conflict-clause-found
 returns-in-Conflict-clause-found c =
@@ -65,4 +75,7 @@ pub returns-clause-found : goal.returns-clause-found
 returns-clause-found c = sym (c.loop-hash.invariant.walked ∙ ap (λ hs. walk_buckets c.loop-hash.assigned (map (bucket_of c.args.clauses.now) hs)) (drop_all c.loop-hash.hash-index c.args.hashes.now c.loop-hash-test.false))
 
 pub returns-clause-looks : goal.returns-clause-looks
-returns-clause-looks c = walked_all c.args.looks.now c.loop-hash.looks c.loop-hash.hash-index (length c.args.hashes.now) c.args.clauses.now c.loop-hash.invariant.looks c.loop-hash.auto.hash-index-end
+returns-clause-looks c = record {
+  rise = grind (arith, common_steps);
+  most = walked_all c.args.looks.now c.loop-hash.looks c.loop-hash.hash-index (length c.args.hashes.now) c.args.clauses.now c.loop-hash.invariant.looks c.loop-hash.auto.hash-index-end;
+}

@@ -1,8 +1,9 @@
-use Rattle.std.proofs.Common.{List, map, ap, sym, subst}
+use Rattle.std.proofs.Common.{List, map, ap, sym, subst, arith}
 use Rattle.std.proofs.lemmas.Result.{IfOk-weaker}
 use Rattle.sat_checker.specs.Stored.{StoredUnit}
 use Rattle.sat_checker.specs.inner.Reasons.{ExplainsCheck}
 use Rattle.sat_checker.proofs.lemmas.state.Unnumbered.{checked_as}
+use Rattle.std.proofs.lemmas.Grind.{common_steps}
 use Rattle.sat_checker.proofs.formula.Formula.check.Goals as goal
 
 pub returns-clause-exact : goal.returns-clause-exact
@@ -20,4 +21,4 @@ pub returns-clause-read : goal.returns-clause-read
 returns-clause-read c = c.check.ensures.read
 
 pub returns-clause-looks : goal.returns-clause-looks
-returns-clause-looks c = λ f a. c.check.ensures.looks f a.clauses
+returns-clause-looks c = record { rise = grind (arith, common_steps); most = λ f a. c.check.ensures.looks.most f a.clauses }

@@ -3,6 +3,7 @@ use Rattle.sat_checker.specs.inner.FormulaView.{Standing}
 use Rattle.sat_checker.proofs.lemmas.state.Models.{met_fits}
 use Rattle.sat_checker.proofs.lemmas.variables.Keeping.{match_true}
 use Rattle.std.proofs.lemmas.Result.{IfOk-from_err}
+use Rattle.std.proofs.lemmas.Grind.{common_steps}
 use Rattle.sat_checker.proofs.formula.Formula.fits.Goals as goal
 use Rattle.sat_checker.proofs.lemmas.store.Entries.{on_err}
 
@@ -15,13 +16,13 @@ pub returns-in_err-assume_apart-clause-exact : goal.returns-in_err-assume_apart-
 returns-in_err-assume_apart-clause-exact c = IfOk-from_err c.from_residual.result _ c.from_residual.ensures.0
 
 pub returns-in_err-assume_apart-clause-looks : goal.returns-in_err-assume_apart-clause-looks
-returns-in_err-assume_apart-clause-looks c = λ f k. omega arith
+returns-in_err-assume_apart-clause-looks c = record { rise = grind (arith, common_steps); most = λ f k. omega arith }
 
 pub returns-then-self-clause-looks : goal.returns-then-self-clause-looks
-returns-then-self-clause-looks c = λ f k. omega arith
+returns-then-self-clause-looks c = record { rise = grind (arith, common_steps); most = λ f k. omega arith }
 
 pub returns-then-not-branch-clause-looks : goal.returns-then-not-branch-clause-looks
-returns-then-not-branch-clause-looks c = λ f k. omega arith
+returns-then-not-branch-clause-looks c = record { rise = grind (arith, common_steps); most = λ f k. omega arith }
 
 pub returns-clause-looks : goal.returns-clause-looks
 returns-clause-looks c = c.are_met.ensures.looks

@@ -6,6 +6,7 @@ use Rattle.sat_checker.specs.announcements.Announcements.{FailedAssumptions}
 use Rattle.sat_checker.specs.announcements.Needed.{ground, propagations}
 use Rattle.sat_checker.specs.inner.Reasons.{named}
 use Rattle.sat_checker.proofs.lemmas.telling.Noting.{on_ok}
+use Rattle.std.proofs.lemmas.Grind.{common_steps}
 use Rattle.sat_checker.proofs.formula.Formula.note_core.Goals as goal
 
 no_less : (a b : ℕ) → a ≤ a + b
@@ -36,7 +37,7 @@ returns-clause-noted c = on_ok c.failed_assumptions.result _ _
     c.failed_assumptions.ensures.ok
 
 pub returns-then-not-notes-clause-looks : goal.returns-then-not-notes-clause-looks
-returns-then-not-notes-clause-looks c = no_less c.args.looks.now _
+returns-then-not-notes-clause-looks c = record { rise = grind (arith, common_steps); most = no_less c.args.looks.now _ }
 
 pub returns-in_err-copy_canonical-clause-looks : goal.returns-in_err-copy_canonical-clause-looks
-returns-in_err-copy_canonical-clause-looks c = no_less c.args.looks.now _
+returns-in_err-copy_canonical-clause-looks c = record { rise = grind (arith, common_steps); most = no_less c.args.looks.now _ }

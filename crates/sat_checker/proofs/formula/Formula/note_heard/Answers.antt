@@ -5,15 +5,16 @@ use Rattle.sat_checker.specs.announcements.Needed.{ground}
 use Rattle.sat_checker.specs.inner.FormulaView.{Standing}
 use Rattle.sat_checker.specs.inner.Reasons.{named}
 use Rattle.sat_checker.proofs.lemmas.telling.Noting.{derived_noted, on_ok}
+use Rattle.std.proofs.lemmas.Grind.{common_steps}
 use Rattle.sat_checker.proofs.formula.Formula.note_heard.Goals as goal
 
-no_less : (a b c : ℕ) → a ≤ a + b + c
+no_less : (a b c : ℕ) → a ≤ a + (b + c)
 no_less a b c = omega arith
 
-listed_looks : (a new len l : ℕ) → new ≤ a + len → new ≤ a + len + l
+listed_looks : (a new len l : ℕ) → new ≤ a + len → new ≤ a + (len + l)
 listed_looks a new len l h = omega arith
 
-changed_looks : (a mid new len l : ℕ) → mid ≤ a + len → new ≤ mid + l → new ≤ a + len + l
+changed_looks : (a mid new len l : ℕ) → mid ≤ a + len → new ≤ mid + l → new ≤ a + (len + l)
 changed_looks a mid new len l h k = omega arith
 
 pub list-requires-clause-canonical : goal.list-requires-clause-canonical
@@ -37,10 +38,13 @@ returns-clause-noted c = on_ok c.derived.result _ _
     c.derived.ensures.ok
 
 pub returns-in_err-both_signs-clause-looks : goal.returns-in_err-both_signs-clause-looks
-returns-in_err-both_signs-clause-looks c = λ f k. no_less c.args.looks.now _ _
+returns-in_err-both_signs-clause-looks c = record { rise = grind (arith, common_steps); most = λ f k. no_less c.args.looks.now _ _ }
 
 pub returns-in_err-list-clause-looks : goal.returns-in_err-list-clause-looks
-returns-in_err-list-clause-looks c = λ f k. listed_looks c.args.looks.now c.list.new.looks _ _ c.list.ensures.looks
+returns-in_err-list-clause-looks c = record { rise = grind (arith, common_steps); most = λ f k. listed_looks c.args.looks.now c.list.new.looks _ _ c.list.ensures.looks.most }
 
 pub returns-clause-looks : goal.returns-clause-looks
-returns-clause-looks c = λ f k. changed_looks c.args.looks.now c.list.new.looks c.clause_change-change.new.looks _ _ c.list.ensures.looks (c.clause_change-change.ensures.looks f k)
+returns-clause-looks c = record {
+  rise = grind (arith, common_steps);
+  most = λ f k. changed_looks c.args.looks.now c.list.new.looks c.clause_change-change.new.looks _ _ c.list.ensures.looks.most (c.clause_change-change.ensures.looks.most f k);
+}

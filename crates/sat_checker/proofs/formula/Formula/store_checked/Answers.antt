@@ -5,6 +5,7 @@ use Rattle.sat_checker.specs.Looks.{literal_count}
 use Rattle.sat_checker.specs.inner.Reasons.{noted_length}
 use Rattle.sat_checker.proofs.lemmas.state.Unnumbered.{checks_as, kept_beside}
 use Rattle.sat_checker.proofs.lemmas.state.Keeping.{decides_err}
+use Rattle.std.proofs.lemmas.Grind.{common_steps}
 use Rattle.sat_checker.proofs.formula.Formula.store_checked.Goals as goal
 
 once : (old mid l : ℕ) → mid ≤ old + 1 * l → mid ≤ old + 2 * l
@@ -49,16 +50,31 @@ pub returns-clause-noted : goal.returns-clause-noted
 returns-clause-noted c = λ t f k long. c.in_ok-note_unit.ensures.noted f (c.args.hash ∷ []) (kept_beside c.args.self.now c.check.new.self f c.check.ensures.rest k) long (c.in_ok-check.ensures.explained c.if-not-branch.false)
 
 pub returns-in_err-check-clause-looks : goal.returns-in_err-check-clause-looks
-returns-in_err-check-clause-looks c = λ f k. once c.args.looks.now c.check.new.looks (literal_count f) (c.check.ensures.looks f (checks_as c.args.self.now f k))
+returns-in_err-check-clause-looks c = record {
+  rise = grind (arith, common_steps);
+  most = λ f k. once c.args.looks.now c.check.new.looks (literal_count f) (c.check.ensures.looks.most f (checks_as c.args.self.now f k));
+}
 
 pub returns-then-not-branch-clause-looks : goal.returns-then-not-branch-clause-looks
-returns-then-not-branch-clause-looks c = λ f k. once c.args.looks.now c.check.new.looks (literal_count f) (c.check.ensures.looks f (checks_as c.args.self.now f k))
+returns-then-not-branch-clause-looks c = record {
+  rise = grind (arith, common_steps);
+  most = λ f k. once c.args.looks.now c.check.new.looks (literal_count f) (c.check.ensures.looks.most f (checks_as c.args.self.now f k));
+}
 
 pub returns-in_err-note_unit-clause-looks : goal.returns-in_err-note_unit-clause-looks
-returns-in_err-note_unit-clause-looks c = λ f k. twice c.args.looks.now c.check.new.looks c.note_unit.new.looks (noted_length c.check.new.self.store.clauses c.check.new.self.passed) (literal_count f) (c.check.ensures.looks f (checks_as c.args.self.now f k)) c.in_ok-check.ensures.read c.note_unit.ensures.looks
+returns-in_err-note_unit-clause-looks c = record {
+  rise = grind (arith, common_steps);
+  most = λ f k. twice c.args.looks.now c.check.new.looks c.note_unit.new.looks (noted_length c.check.new.self.store.clauses c.check.new.self.passed) (literal_count f) (c.check.ensures.looks.most f (checks_as c.args.self.now f k)) c.in_ok-check.ensures.read c.note_unit.ensures.looks.most;
+}
 
 pub returns-in_err-store_unit-clause-looks : goal.returns-in_err-store_unit-clause-looks
-returns-in_err-store_unit-clause-looks c = λ f k. twice c.args.looks.now c.check.new.looks c.note_unit.new.looks (noted_length c.check.new.self.store.clauses c.check.new.self.passed) (literal_count f) (c.check.ensures.looks f (checks_as c.args.self.now f k)) c.in_ok-check.ensures.read c.note_unit.ensures.looks
+returns-in_err-store_unit-clause-looks c = record {
+  rise = grind (arith, common_steps);
+  most = λ f k. twice c.args.looks.now c.check.new.looks c.note_unit.new.looks (noted_length c.check.new.self.store.clauses c.check.new.self.passed) (literal_count f) (c.check.ensures.looks.most f (checks_as c.args.self.now f k)) c.in_ok-check.ensures.read c.note_unit.ensures.looks.most;
+}
 
 pub returns-clause-looks : goal.returns-clause-looks
-returns-clause-looks c = λ f k. twice c.args.looks.now c.check.new.looks c.note_unit.new.looks (noted_length c.check.new.self.store.clauses c.check.new.self.passed) (literal_count f) (c.check.ensures.looks f (checks_as c.args.self.now f k)) c.in_ok-check.ensures.read c.note_unit.ensures.looks
+returns-clause-looks c = record {
+  rise = grind (arith, common_steps);
+  most = λ f k. twice c.args.looks.now c.check.new.looks c.note_unit.new.looks (noted_length c.check.new.self.store.clauses c.check.new.self.passed) (literal_count f) (c.check.ensures.looks.most f (checks_as c.args.self.now f k)) c.in_ok-check.ensures.read c.note_unit.ensures.looks.most;
+}

@@ -6,6 +6,7 @@ use Rattle.sat_checker.specs.inner.FormulaView.{KeepsFormula, Turns}
 use Rattle.sat_checker.specs.inner.Marks.{IsIncreasing}
 use Rattle.sat_checker.proofs.lemmas.sets.Canonical.{canonical_increasing, canonical_tautology}
 use Rattle.sat_checker.proofs.lemmas.formula.Storing.{stored_signs, stored_apart}
+use Rattle.std.proofs.lemmas.Grind.{common_steps}
 use Rattle.sat_checker.proofs.formula.Formula.store_clause.Goals as goal
 
 pub has_both_signs-requires : goal.has_both_signs-requires
@@ -15,7 +16,7 @@ pub returns-in_err-literals-clause-stored : goal.returns-in_err-literals-clause-
 returns-in_err-literals-clause-stored c = let p = err_from_is_err_and c.from_residual.result c.from_residual.ensures.1 in rw (p.1, p.2) (λ f k. tt)
 
 pub returns-in_err-literals-clause-looks : goal.returns-in_err-literals-clause-looks
-returns-in_err-literals-clause-looks c = λ f k. omega arith
+returns-in_err-literals-clause-looks c = record { rise = grind (arith, common_steps); most = λ f k. omega arith }
 
 pub returns-then-has_both_signs-clause-stored : goal.returns-then-has_both_signs-clause-stored
 returns-then-has_both_signs-clause-stored c = λ f k.
@@ -23,7 +24,7 @@ returns-then-has_both_signs-clause-stored c = λ f k.
     subst (KeepsFormula c.args.self.now) (sym (stored_signs c.args.redundant c.args.clause.now f both)) k
 
 pub returns-then-has_both_signs-clause-looks : goal.returns-then-has_both_signs-clause-looks
-returns-then-has_both_signs-clause-looks c = λ f k. omega arith
+returns-then-has_both_signs-clause-looks c = record { rise = grind (arith, common_steps); most = λ f k. omega arith }
 
 pub returns-clause-stored : goal.returns-clause-stored
 returns-clause-stored c = λ f k.

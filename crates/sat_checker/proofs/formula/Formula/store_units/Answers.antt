@@ -6,6 +6,7 @@ use Rattle.sat_checker.proofs.lemmas.variables.Keeping.{match_true, match_false}
 use Rattle.sat_checker.proofs.lemmas.state.Units.{passed, stopped, spent_then, finished, unnumbered, spent_passes, behind_it, back_behind}
 use Rattle.sat_checker.proofs.lemmas.state.Unnumbered.{checks_as}
 use Rattle.sat_checker.proofs.lemmas.telling.NotedUnits.{noted_more, noted_all, none_noted, twice_then, twice_end, twice_rest}
+use Rattle.std.proofs.lemmas.Grind.{common_steps}
 use Rattle.sat_checker.proofs.formula.Formula.store_units.Goals as goal
 
 pub returns-in-Err-CounterEnd-clause-decides : goal.returns-in-Err-CounterEnd-clause-decides
@@ -23,11 +24,14 @@ returns-in-Err-CounterEnd-clause-decides c = λ f k.
     (c.pass_unnumbered.ensures.exact left.now kept)
 
 pub returns-in-Err-CounterEnd-clause-looks : goal.returns-in-Err-CounterEnd-clause-looks
-returns-in-Err-CounterEnd-clause-looks c = λ f k.
-    let left = c.loop-place.invariant.left f k in
-    let kept = checks_as c.store_checked.new.self left.now (c.in-Err-CounterEnd.ensures.kept (ap Err c.in-Err-CounterEnd.field-0-is) left.now left.kept) in
-    twice_rest c.args.looks.now c.loop-place.looks c.store_checked.new.looks c.pass_unnumbered.new.looks c.loop-place.place (length c.split_at.result.1.now) (length c.args.units.now) (literal_count f) (literal_count left.now) left.count c.split_at.ensures.back_len
-    (c.loop-place.invariant.looks f k) (c.store_checked.ensures.looks left.now left.kept) (c.pass_unnumbered.ensures.looks left.now kept)
+returns-in-Err-CounterEnd-clause-looks c = record {
+  rise = grind (arith, common_steps);
+  most = λ f k.
+      let left = c.loop-place.invariant.left f k in
+      let kept = checks_as c.store_checked.new.self left.now (c.in-Err-CounterEnd.ensures.kept (ap Err c.in-Err-CounterEnd.field-0-is) left.now left.kept) in
+      twice_rest c.args.looks.now c.loop-place.looks c.store_checked.new.looks c.pass_unnumbered.new.looks c.loop-place.place (length c.split_at.result.1.now) (length c.args.units.now) (literal_count f) (literal_count left.now) left.count c.split_at.ensures.back_len
+      (c.loop-place.invariant.looks f k) (c.store_checked.ensures.looks.most left.now left.kept) (c.pass_unnumbered.ensures.looks.most left.now kept);
+}
 
 pub returns-in-Err-CounterEnd-clause-noted : goal.returns-in-Err-CounterEnd-clause-noted
 returns-in-Err-CounterEnd-clause-noted c = none_noted c.pass_unnumbered.result _ c.pass_unnumbered.ensures.never
@@ -39,14 +43,20 @@ returns-in-Ok-false-clause-decides c = λ f k.
     (match_false _ _ _ (c.in-Ok-false.ensures.decides left.now left.kept) c.in-Ok-false.field-0-test)
 
 pub returns-in-Ok-false-clause-looks : goal.returns-in-Ok-false-clause-looks
-returns-in-Ok-false-clause-looks c = λ f k.
-    let left = c.loop-place.invariant.left f k in
-    twice_end c.args.looks.now c.loop-place.looks c.store_checked.new.looks c.args.units.now c.loop-place.place c.loop-place-test.true (literal_count f) (literal_count left.now) left.count (c.loop-place.invariant.looks f k) (c.store_checked.ensures.looks left.now left.kept)
+returns-in-Ok-false-clause-looks c = record {
+  rise = grind (arith, common_steps);
+  most = λ f k.
+      let left = c.loop-place.invariant.left f k in
+      twice_end c.args.looks.now c.loop-place.looks c.store_checked.new.looks c.args.units.now c.loop-place.place c.loop-place-test.true (literal_count f) (literal_count left.now) left.count (c.loop-place.invariant.looks f k) (c.store_checked.ensures.looks.most left.now left.kept);
+}
 
 pub returns-in-Err-OutOfMemory-clause-looks : goal.returns-in-Err-OutOfMemory-clause-looks
-returns-in-Err-OutOfMemory-clause-looks c = λ f k.
-    let left = c.loop-place.invariant.left f k in
-    twice_end c.args.looks.now c.loop-place.looks c.store_checked.new.looks c.args.units.now c.loop-place.place c.loop-place-test.true (literal_count f) (literal_count left.now) left.count (c.loop-place.invariant.looks f k) (c.store_checked.ensures.looks left.now left.kept)
+returns-in-Err-OutOfMemory-clause-looks c = record {
+  rise = grind (arith, common_steps);
+  most = λ f k.
+      let left = c.loop-place.invariant.left f k in
+      twice_end c.args.looks.now c.loop-place.looks c.store_checked.new.looks c.args.units.now c.loop-place.place c.loop-place-test.true (literal_count f) (literal_count left.now) left.count (c.loop-place.invariant.looks f k) (c.store_checked.ensures.looks.most left.now left.kept);
+}
 
 pub loop-place-preserved : goal.loop-place-preserved
 loop-place-preserved c = record {
@@ -61,8 +71,8 @@ loop-place-preserved c = record {
       (c.in-Ok-true.ensures.noted c.in-Ok-true.field-0-test noted.now noted.kept noted.long) m.1;
   looks = λ f k.
       let left = c.loop-place.invariant.left f k in
-      twice_then c.args.looks.now c.loop-place.looks c.store_checked.new.looks c.loop-place.place (literal_count f) (literal_count left.now) left.count (c.loop-place.invariant.looks f k) (c.store_checked.ensures.looks left.now left.kept);
-  rise = omega (arith, c.loop-place.invariant.rise, c.store_checked.ensures.rise);
+      twice_then c.args.looks.now c.loop-place.looks c.store_checked.new.looks c.loop-place.place (literal_count f) (literal_count left.now) left.count (c.loop-place.invariant.looks f k) (c.store_checked.ensures.looks.most left.now left.kept);
+  rise = omega (arith, c.loop-place.invariant.rise, c.store_checked.ensures.looks.rise);
 }
 
 pub returns-clause-decides : goal.returns-clause-decides

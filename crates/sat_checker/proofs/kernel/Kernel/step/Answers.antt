@@ -63,20 +63,20 @@ returns-in-Ok-false-clause-tells g c = λ before begun steps s.
     _ (match_false c.in-Ok-false.field-0 _ _ (c.in-Ok-false.ensures.decides (ready_after steps) k) (search rules)) refl refl
 
 pub returns-in-Ok-false-clause-looks : goal.returns-in-Ok-false-clause-looks
-returns-in-Ok-false-clause-looks g c = λ steps s. c.step.ensures.looks (ready_after steps) (ready_kept c.args.self.now steps s c.requires.well c.requires.settled)
+returns-in-Ok-false-clause-looks g c = λ steps s. c.step.ensures.looks.most (ready_after steps) (ready_kept c.args.self.now steps s c.requires.well c.requires.settled)
 
 pub returns-in-Err-clause-looks : goal.returns-in-Err-clause-looks
-returns-in-Err-clause-looks g c = λ steps s. c.step.ensures.looks (ready_after steps) (ready_kept c.args.self.now steps s c.requires.well c.requires.settled)
+returns-in-Err-clause-looks g c = λ steps s. c.step.ensures.looks.most (ready_after steps) (ready_kept c.args.self.now steps s c.requires.well c.requires.settled)
 
 pub returns-in-Ok-true-clause-looks : goal.returns-in-Ok-true-clause-looks
 returns-in-Ok-true-clause-looks g c = λ steps s.
-    subst (λ n. n ≤ looks_of c.args.self.now + most_looks (ready_after steps) (step_of c.args.step.now)) (sym (c.take_in.ensures _ (λ h. refl)).0.looks) (c.step.ensures.looks (ready_after steps) (ready_kept c.args.self.now steps s c.requires.well c.requires.settled))
+    subst (λ n. n ≤ looks_of c.args.self.now + most_looks (ready_after steps) (step_of c.args.step.now)) (sym (c.take_in.ensures _ (λ h. refl)).0.looks) (c.step.ensures.looks.most (ready_after steps) (ready_kept c.args.self.now steps s c.requires.well c.requires.settled))
 
 pub returns-in-Ok-true-clause-rise : goal.returns-in-Ok-true-clause-rise
-returns-in-Ok-true-clause-rise g c = subst (λ n. looks_of c.args.self.now ≤ n) (sym (c.take_in.ensures _ (λ h. refl)).0.looks) c.step.ensures.rise
+returns-in-Ok-true-clause-rise g c = subst (λ n. looks_of c.args.self.now ≤ n) (sym (c.take_in.ensures _ (λ h. refl)).0.looks) c.step.ensures.looks.rise
 
 pub returns-in-Ok-false-clause-rise : goal.returns-in-Ok-false-clause-rise
-returns-in-Ok-false-clause-rise g c = c.step.ensures.rise
+returns-in-Ok-false-clause-rise g c = c.step.ensures.looks.rise
 
 pub returns-in-Err-clause-rise : goal.returns-in-Err-clause-rise
-returns-in-Err-clause-rise g c = c.step.ensures.rise
+returns-in-Err-clause-rise g c = c.step.ensures.looks.rise

@@ -4,35 +4,45 @@ use Rattle.std.proofs.lemmas.Result.{err_from_is_err_and, IfOk-from_err}
 use Rattle.sat_checker.specs.inner.FormulaView.{Standing}
 use Rattle.sat_checker.proofs.lemmas.state.Keeping.{sampling_kept, added, added_spent, decides_err}
 use Rattle.sat_checker.proofs.lemmas.telling.Noting.{input_noted, unsat_noted}
+use Rattle.std.proofs.lemmas.Grind.{common_steps}
 use Rattle.sat_checker.proofs.state.State.add_clause.Goals as goal
 
 no_less : (a b : ℕ) → a ≤ a + b
 no_less a b = omega arith
 
 pub returns-then-self-clause-looks : goal.returns-then-self-clause-looks
-returns-then-self-clause-looks c = λ f k. no_less c.args.looks.now _
+returns-then-self-clause-looks c = record { rise = grind (arith, common_steps); most = λ f k. no_less c.args.looks.now _ }
 
 pub returns-then-not-are_sampling-clause-looks : goal.returns-then-not-are_sampling-clause-looks
-returns-then-not-are_sampling-clause-looks c = λ f k. no_less c.args.looks.now _
+returns-then-not-are_sampling-clause-looks c = record { rise = grind (arith, common_steps); most = λ f k. no_less c.args.looks.now _ }
 
 pub returns-in_err-note_input-clause-looks : goal.returns-in_err-note_input-clause-looks
-returns-in_err-note_input-clause-looks c = λ f k.
-    let filed = c.file.ensures.looks f k.formula in
-    let h = c.note_input.ensures.looks f (c.in_ok-file.ensures.kept f k.formula) in omega arith
+returns-in_err-note_input-clause-looks c = record {
+  rise = grind (arith, common_steps);
+  most = λ f k.
+      let filed = c.file.ensures.looks.most f k.formula in
+      let h = c.note_input.ensures.looks.most f (c.in_ok-file.ensures.kept f k.formula) in omega arith;
+}
 
 pub returns-in_err-store_input-clause-looks : goal.returns-in_err-store_input-clause-looks
-returns-in_err-store_input-clause-looks c = λ f k.
-    let filed = c.file.ensures.looks f k.formula in
-    let h = c.note_input.ensures.looks f (c.in_ok-file.ensures.kept f k.formula) in
-    let stored = c.store_input.ensures.looks f (record { formula = c.in_ok-file.ensures.kept f k.formula; variables = k.variables; assumed = k.assumed }) in
-    omega arith
+returns-in_err-store_input-clause-looks c = record {
+  rise = grind (arith, common_steps);
+  most = λ f k.
+      let filed = c.file.ensures.looks.most f k.formula in
+      let h = c.note_input.ensures.looks.most f (c.in_ok-file.ensures.kept f k.formula) in
+      let stored = c.store_input.ensures.looks.most f (record { formula = c.in_ok-file.ensures.kept f k.formula; variables = k.variables; assumed = k.assumed }) in
+      omega arith;
+}
 
 pub returns-clause-looks : goal.returns-clause-looks
-returns-clause-looks c = λ f k.
-    let filed = c.file.ensures.looks f k.formula in
-    let h = c.note_input.ensures.looks f (c.in_ok-file.ensures.kept f k.formula) in
-    let stored = c.store_input.ensures.looks f (record { formula = c.in_ok-file.ensures.kept f k.formula; variables = k.variables; assumed = k.assumed }) in
-    omega arith
+returns-clause-looks c = record {
+  rise = grind (arith, common_steps);
+  most = λ f k.
+      let filed = c.file.ensures.looks.most f k.formula in
+      let h = c.note_input.ensures.looks.most f (c.in_ok-file.ensures.kept f k.formula) in
+      let stored = c.store_input.ensures.looks.most f (record { formula = c.in_ok-file.ensures.kept f k.formula; variables = k.variables; assumed = k.assumed }) in
+      omega arith;
+}
 
 pub returns-clause-decides : goal.returns-clause-decides
 returns-clause-decides c = λ f k. (
@@ -68,7 +78,7 @@ pub returns-in_err-file-clause-decides : goal.returns-in_err-file-clause-decides
 returns-in_err-file-clause-decides c = let p = err_from_is_err_and c.from_residual.result c.from_residual.ensures.1 in rw (p.1, p.2) (λ f k. inr (sampling_kept c.args.self.now.variables f c.args.clause.now k.variables c.if-not-are_sampling.ensures))
 
 pub returns-in_err-file-clause-looks : goal.returns-in_err-file-clause-looks
-returns-in_err-file-clause-looks c = λ f k. let filed = c.file.ensures.looks f k.formula in omega arith
+returns-in_err-file-clause-looks c = record { rise = grind (arith, common_steps); most = λ f k. let filed = c.file.ensures.looks.most f k.formula in omega arith }
 
 pub returns-in_err-file-clause-noted : goal.returns-in_err-file-clause-noted
 returns-in_err-file-clause-noted c = IfOk-from_err c.from_residual.result _ c.from_residual.ensures.0

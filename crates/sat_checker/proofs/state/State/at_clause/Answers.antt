@@ -1,4 +1,4 @@
-use Rattle.std.proofs.Common.{sym, ◌∙◌, length}
+use Rattle.std.proofs.Common.{sym, ◌∙◌, length, arith}
 use Rattle.std.proofs.lemmas.Bool.{true≢false}
 use Rattle.std.proofs.lemmas.Result.{err_from_is_err_and, IfOk-from_err}
 use Rattle.sat_checker.specs.Looks.{literal_count}
@@ -6,6 +6,7 @@ use Rattle.sat_checker.specs.inner.Reasons.{noted_length}
 use Rattle.sat_checker.proofs.lemmas.state.Unnumbered.{checks_as, kept_beside}
 use Rattle.sat_checker.proofs.lemmas.state.Keeping.{decides_err}
 use Rattle.sat_checker.proofs.lemmas.telling.Noting.{looks_filed, looks_judged, looks_noted, looks_stored}
+use Rattle.std.proofs.lemmas.Grind.{common_steps}
 use Rattle.sat_checker.proofs.state.State.at_clause.Goals as goal
 
 pub note_derived-requires : goal.note_derived-requires
@@ -32,24 +33,39 @@ returns-in_err-store_derived-clause-decides c = λ f k.
     decides_err c.store_derived.result _ p.0 _ c.in_err-store_derived.was p.1 p.2 _ _ _ _ _ _ tt ((c.in_ok-check.ensures.exact f (checks_as c.file.new.self f (c.in_ok-file.ensures.kept f k.formula))).0 c.if-not-branch.false) (λ s. s) (c.store_derived.ensures.stored f (record { formula = kept_beside c.file.new.self c.check.new.self f c.check.ensures.rest (c.in_ok-file.ensures.kept f k.formula); variables = k.variables; assumed = k.assumed }))
 
 pub returns-in_err-check-clause-looks : goal.returns-in_err-check-clause-looks
-returns-in_err-check-clause-looks c = λ f k. looks_judged c.args.looks.now c.file.new.looks c.check.new.looks (length c.args.hashes.now) (literal_count f) (c.file.ensures.looks f k.formula) (c.check.ensures.looks f (checks_as c.file.new.self f (c.in_ok-file.ensures.kept f k.formula)))
+returns-in_err-check-clause-looks c = record {
+  rise = grind (arith, common_steps);
+  most = λ f k. looks_judged c.args.looks.now c.file.new.looks c.check.new.looks (length c.args.hashes.now) (literal_count f) (c.file.ensures.looks.most f k.formula) (c.check.ensures.looks.most f (checks_as c.file.new.self f (c.in_ok-file.ensures.kept f k.formula)));
+}
 
 pub returns-then-not-branch-clause-looks : goal.returns-then-not-branch-clause-looks
-returns-then-not-branch-clause-looks c = λ f k. looks_judged c.args.looks.now c.file.new.looks c.check.new.looks (length c.args.hashes.now) (literal_count f) (c.file.ensures.looks f k.formula) (c.check.ensures.looks f (checks_as c.file.new.self f (c.in_ok-file.ensures.kept f k.formula)))
+returns-then-not-branch-clause-looks c = record {
+  rise = grind (arith, common_steps);
+  most = λ f k. looks_judged c.args.looks.now c.file.new.looks c.check.new.looks (length c.args.hashes.now) (literal_count f) (c.file.ensures.looks.most f k.formula) (c.check.ensures.looks.most f (checks_as c.file.new.self f (c.in_ok-file.ensures.kept f k.formula)));
+}
 
 pub returns-in_err-note_derived-clause-looks : goal.returns-in_err-note_derived-clause-looks
-returns-in_err-note_derived-clause-looks c = λ f k.
-    looks_noted c.args.looks.now c.file.new.looks c.check.new.looks c.note_derived.new.looks (noted_length c.check.new.self.store.clauses c.check.new.self.passed) (length c.args.hashes.now) (literal_count f) (c.file.ensures.looks f k.formula) (c.check.ensures.looks f (checks_as c.file.new.self f (c.in_ok-file.ensures.kept f k.formula))) c.in_ok-check.ensures.read (c.note_derived.ensures.looks f (kept_beside c.file.new.self c.check.new.self f c.check.ensures.rest (c.in_ok-file.ensures.kept f k.formula)))
+returns-in_err-note_derived-clause-looks c = record {
+  rise = grind (arith, common_steps);
+  most = λ f k.
+      looks_noted c.args.looks.now c.file.new.looks c.check.new.looks c.note_derived.new.looks (noted_length c.check.new.self.store.clauses c.check.new.self.passed) (length c.args.hashes.now) (literal_count f) (c.file.ensures.looks.most f k.formula) (c.check.ensures.looks.most f (checks_as c.file.new.self f (c.in_ok-file.ensures.kept f k.formula))) c.in_ok-check.ensures.read (c.note_derived.ensures.looks.most f (kept_beside c.file.new.self c.check.new.self f c.check.ensures.rest (c.in_ok-file.ensures.kept f k.formula)));
+}
 
 pub returns-in_err-store_derived-clause-looks : goal.returns-in_err-store_derived-clause-looks
-returns-in_err-store_derived-clause-looks c = λ f k.
-    looks_stored c.args.looks.now c.file.new.looks c.check.new.looks c.note_derived.new.looks c.store_derived.new.looks (noted_length c.check.new.self.store.clauses c.check.new.self.passed) (length c.args.hashes.now) (literal_count f) (c.file.ensures.looks f k.formula) (c.check.ensures.looks f (checks_as c.file.new.self f (c.in_ok-file.ensures.kept f k.formula))) c.in_ok-check.ensures.read (c.note_derived.ensures.looks f (kept_beside c.file.new.self c.check.new.self f c.check.ensures.rest (c.in_ok-file.ensures.kept f k.formula)))
-    (c.store_derived.ensures.looks f (record { formula = kept_beside c.file.new.self c.check.new.self f c.check.ensures.rest (c.in_ok-file.ensures.kept f k.formula); variables = k.variables; assumed = k.assumed }))
+returns-in_err-store_derived-clause-looks c = record {
+  rise = grind (arith, common_steps);
+  most = λ f k.
+      looks_stored c.args.looks.now c.file.new.looks c.check.new.looks c.note_derived.new.looks c.store_derived.new.looks (noted_length c.check.new.self.store.clauses c.check.new.self.passed) (length c.args.hashes.now) (literal_count f) (c.file.ensures.looks.most f k.formula) (c.check.ensures.looks.most f (checks_as c.file.new.self f (c.in_ok-file.ensures.kept f k.formula))) c.in_ok-check.ensures.read (c.note_derived.ensures.looks.most f (kept_beside c.file.new.self c.check.new.self f c.check.ensures.rest (c.in_ok-file.ensures.kept f k.formula)))
+      (c.store_derived.ensures.looks.most f (record { formula = kept_beside c.file.new.self c.check.new.self f c.check.ensures.rest (c.in_ok-file.ensures.kept f k.formula); variables = k.variables; assumed = k.assumed }));
+}
 
 pub returns-clause-looks : goal.returns-clause-looks
-returns-clause-looks c = λ f k.
-    looks_stored c.args.looks.now c.file.new.looks c.check.new.looks c.note_derived.new.looks c.store_derived.new.looks (noted_length c.check.new.self.store.clauses c.check.new.self.passed) (length c.args.hashes.now) (literal_count f) (c.file.ensures.looks f k.formula) (c.check.ensures.looks f (checks_as c.file.new.self f (c.in_ok-file.ensures.kept f k.formula))) c.in_ok-check.ensures.read (c.note_derived.ensures.looks f (kept_beside c.file.new.self c.check.new.self f c.check.ensures.rest (c.in_ok-file.ensures.kept f k.formula)))
-    (c.store_derived.ensures.looks f (record { formula = kept_beside c.file.new.self c.check.new.self f c.check.ensures.rest (c.in_ok-file.ensures.kept f k.formula); variables = k.variables; assumed = k.assumed }))
+returns-clause-looks c = record {
+  rise = grind (arith, common_steps);
+  most = λ f k.
+      looks_stored c.args.looks.now c.file.new.looks c.check.new.looks c.note_derived.new.looks c.store_derived.new.looks (noted_length c.check.new.self.store.clauses c.check.new.self.passed) (length c.args.hashes.now) (literal_count f) (c.file.ensures.looks.most f k.formula) (c.check.ensures.looks.most f (checks_as c.file.new.self f (c.in_ok-file.ensures.kept f k.formula))) c.in_ok-check.ensures.read (c.note_derived.ensures.looks.most f (kept_beside c.file.new.self c.check.new.self f c.check.ensures.rest (c.in_ok-file.ensures.kept f k.formula)))
+      (c.store_derived.ensures.looks.most f (record { formula = kept_beside c.file.new.self c.check.new.self f c.check.ensures.rest (c.in_ok-file.ensures.kept f k.formula); variables = k.variables; assumed = k.assumed }));
+}
 
 pub returns-in_err-check-clause-noted : goal.returns-in_err-check-clause-noted
 returns-in_err-check-clause-noted c = IfOk-from_err c.from_residual-in_err-check.result _ c.from_residual-in_err-check.ensures.0
@@ -70,7 +86,10 @@ pub returns-in_err-file-clause-decides : goal.returns-in_err-file-clause-decides
 returns-in_err-file-clause-decides c = let p = err_from_is_err_and c.from_residual.result c.from_residual.ensures.1 in rw (p.1, p.2) (λ f k. tt)
 
 pub returns-in_err-file-clause-looks : goal.returns-in_err-file-clause-looks
-returns-in_err-file-clause-looks c = λ f k. looks_filed c.args.looks.now c.file.new.looks (length c.args.hashes.now) (literal_count f) (c.file.ensures.looks f k.formula)
+returns-in_err-file-clause-looks c = record {
+  rise = grind (arith, common_steps);
+  most = λ f k. looks_filed c.args.looks.now c.file.new.looks (length c.args.hashes.now) (literal_count f) (c.file.ensures.looks.most f k.formula);
+}
 
 pub returns-in_err-file-clause-noted : goal.returns-in_err-file-clause-noted
 returns-in_err-file-clause-noted c = IfOk-from_err c.from_residual.result _ c.from_residual.ensures.0

@@ -7,6 +7,7 @@ use Rattle.sat_checker.specs.Accepts.{effect}
 use Rattle.sat_checker.proofs.lemmas.state.Keeping.{deleted_kept}
 use Rattle.sat_checker.proofs.lemmas.telling.Noting.{deletion_noted}
 use Rattle.sat_checker.proofs.lemmas.variables.Keeping.{match_true, match_false}
+use Rattle.std.proofs.lemmas.Grind.{common_steps}
 use Rattle.sat_checker.proofs.state.State.delete_clause.Goals as goal
 
 pub delete-requires : goal.delete-requires
@@ -32,7 +33,7 @@ returns-clause-decides c = λ f k.
     )
 
 pub returns-in_err-literals-clause-looks : goal.returns-in_err-literals-clause-looks
-returns-in_err-literals-clause-looks c = λ f k. let filed = c.file.ensures.looks f k.formula in omega arith
+returns-in_err-literals-clause-looks c = record { rise = grind (arith, common_steps); most = λ f k. let filed = c.file.ensures.looks.most f k.formula in omega arith }
 
 pub returns-in_err-literals-clause-noted : goal.returns-in_err-literals-clause-noted
 returns-in_err-literals-clause-noted c = IfOk-from_err c.from_residual-in_err-literals.result _ c.from_residual-in_err-literals.ensures.0
@@ -47,32 +48,44 @@ pub returns-then-not-delete-clause-noted : goal.returns-then-not-delete-clause-n
 returns-then-not-delete-clause-noted c = λ t. absurd (true≢false (sym t))
 
 pub returns-then-not-delete-clause-looks : goal.returns-then-not-delete-clause-looks
-returns-then-not-delete-clause-looks c = λ f k.
-    let filed = c.file.ensures.looks f k.formula in
-    let told = c.deletion-deletion.ensures.looks f (c.in_ok-file.ensures.kept f k.formula) in
-    let gone = c.delete.ensures.looks f (c.in_ok-file.ensures.kept f k.formula) in
-    omega arith
+returns-then-not-delete-clause-looks c = record {
+  rise = grind (arith, common_steps);
+  most = λ f k.
+      let filed = c.file.ensures.looks.most f k.formula in
+      let told = c.deletion-deletion.ensures.looks.most f (c.in_ok-file.ensures.kept f k.formula) in
+      let gone = c.delete.ensures.looks.most f (c.in_ok-file.ensures.kept f k.formula) in
+      omega arith;
+}
 
 pub returns-in_err-deleted-clause-looks : goal.returns-in_err-deleted-clause-looks
-returns-in_err-deleted-clause-looks c = λ f k.
-    let filed = c.file.ensures.looks f k.formula in
-    let told = c.deletion-deletion.ensures.looks f (c.in_ok-file.ensures.kept f k.formula) in
-    let gone = c.delete.ensures.looks f (c.in_ok-file.ensures.kept f k.formula) in
-    omega arith
+returns-in_err-deleted-clause-looks c = record {
+  rise = grind (arith, common_steps);
+  most = λ f k.
+      let filed = c.file.ensures.looks.most f k.formula in
+      let told = c.deletion-deletion.ensures.looks.most f (c.in_ok-file.ensures.kept f k.formula) in
+      let gone = c.delete.ensures.looks.most f (c.in_ok-file.ensures.kept f k.formula) in
+      omega arith;
+}
 
 pub returns-in_err-compact-clause-looks : goal.returns-in_err-compact-clause-looks
-returns-in_err-compact-clause-looks c = λ f k.
-    let filed = c.file.ensures.looks f k.formula in
-    let told = c.deletion-deletion.ensures.looks f (c.in_ok-file.ensures.kept f k.formula) in
-    let gone = c.delete.ensures.looks f (c.in_ok-file.ensures.kept f k.formula) in
-    omega arith
+returns-in_err-compact-clause-looks c = record {
+  rise = grind (arith, common_steps);
+  most = λ f k.
+      let filed = c.file.ensures.looks.most f k.formula in
+      let told = c.deletion-deletion.ensures.looks.most f (c.in_ok-file.ensures.kept f k.formula) in
+      let gone = c.delete.ensures.looks.most f (c.in_ok-file.ensures.kept f k.formula) in
+      omega arith;
+}
 
 pub returns-clause-looks : goal.returns-clause-looks
-returns-clause-looks c = λ f k.
-    let filed = c.file.ensures.looks f k.formula in
-    let told = c.deletion-deletion.ensures.looks f (c.in_ok-file.ensures.kept f k.formula) in
-    let gone = c.delete.ensures.looks f (c.in_ok-file.ensures.kept f k.formula) in
-    omega arith
+returns-clause-looks c = record {
+  rise = grind (arith, common_steps);
+  most = λ f k.
+      let filed = c.file.ensures.looks.most f k.formula in
+      let told = c.deletion-deletion.ensures.looks.most f (c.in_ok-file.ensures.kept f k.formula) in
+      let gone = c.delete.ensures.looks.most f (c.in_ok-file.ensures.kept f k.formula) in
+      omega arith;
+}
 
 pub returns-clause-noted : goal.returns-clause-noted
 returns-clause-noted c = λ t f k long.
@@ -82,7 +95,7 @@ pub returns-in_err-file-clause-decides : goal.returns-in_err-file-clause-decides
 returns-in_err-file-clause-decides c = let p = err_from_is_err_and c.from_residual.result c.from_residual.ensures.1 in rw (p.1, p.2) (λ f k. tt)
 
 pub returns-in_err-file-clause-looks : goal.returns-in_err-file-clause-looks
-returns-in_err-file-clause-looks c = λ f k. let filed = c.file.ensures.looks f k.formula in omega arith
+returns-in_err-file-clause-looks c = record { rise = grind (arith, common_steps); most = λ f k. let filed = c.file.ensures.looks.most f k.formula in omega arith }
 
 pub returns-in_err-file-clause-noted : goal.returns-in_err-file-clause-noted
 returns-in_err-file-clause-noted c = IfOk-from_err c.from_residual.result _ c.from_residual.ensures.0

@@ -8,6 +8,7 @@ use Rattle.sat_checker.proofs.lemmas.state.Refiled.{loosened}
 use Rattle.sat_checker.proofs.lemmas.state.Unnumbered.{checks_as, kept_beside}
 use Rattle.sat_checker.proofs.lemmas.state.Keeping.{within_assumed}
 use Rattle.sat_checker.proofs.lemmas.telling.Noting.{looks_filed, looks_judged, looks_followed}
+use Rattle.std.proofs.lemmas.Grind.{common_steps}
 use Rattle.sat_checker.proofs.state.State.failed_assumptions.Goals as goal
 
 pub note_core-requires-clause-denied : goal.note_core-requires-clause-denied
@@ -42,22 +43,37 @@ pub returns-in_err-note_core-clause-decides : goal.returns-in_err-note_core-clau
 returns-in_err-note_core-clause-decides c = let p = err_from_is_err_and c.from_residual-in_err-note_core.result c.from_residual-in_err-note_core.ensures.1 in rw (p.1, p.2) (λ f k. sym (within_assumed c.has_all.result c.args.core.now f.assumed c.args.self.now.assumed k.assumed c.has_all.ensures) ∙ c.if-not-has_all.false)
 
 pub returns-then-not-has_all-clause-looks : goal.returns-then-not-has_all-clause-looks
-returns-then-not-has_all-clause-looks c = λ f k. omega arith
+returns-then-not-has_all-clause-looks c = record { rise = grind (arith, common_steps); most = λ f k. omega arith }
 
 pub returns-in_err-copy_negated-clause-looks : goal.returns-in_err-copy_negated-clause-looks
-returns-in_err-copy_negated-clause-looks c = λ f k. looks_filed c.args.looks.now c.file.new.looks (length c.args.hashes.now) (literal_count f) (c.file.ensures.looks f k.formula)
+returns-in_err-copy_negated-clause-looks c = record {
+  rise = grind (arith, common_steps);
+  most = λ f k. looks_filed c.args.looks.now c.file.new.looks (length c.args.hashes.now) (literal_count f) (c.file.ensures.looks.most f k.formula);
+}
 
 pub returns-in_err-check-clause-looks : goal.returns-in_err-check-clause-looks
-returns-in_err-check-clause-looks c = λ f k. looks_judged c.args.looks.now c.file.new.looks c.check.new.looks (length c.args.hashes.now) (literal_count f) (c.file.ensures.looks f k.formula) (c.check.ensures.looks f (checks_as c.file.new.self f (c.in_ok-file.ensures.kept f k.formula)))
+returns-in_err-check-clause-looks c = record {
+  rise = grind (arith, common_steps);
+  most = λ f k. looks_judged c.args.looks.now c.file.new.looks c.check.new.looks (length c.args.hashes.now) (literal_count f) (c.file.ensures.looks.most f k.formula) (c.check.ensures.looks.most f (checks_as c.file.new.self f (c.in_ok-file.ensures.kept f k.formula)));
+}
 
 pub returns-then-not-branch-clause-looks : goal.returns-then-not-branch-clause-looks
-returns-then-not-branch-clause-looks c = λ f k. looks_judged c.args.looks.now c.file.new.looks c.check.new.looks (length c.args.hashes.now) (literal_count f) (c.file.ensures.looks f k.formula) (c.check.ensures.looks f (checks_as c.file.new.self f (c.in_ok-file.ensures.kept f k.formula)))
+returns-then-not-branch-clause-looks c = record {
+  rise = grind (arith, common_steps);
+  most = λ f k. looks_judged c.args.looks.now c.file.new.looks c.check.new.looks (length c.args.hashes.now) (literal_count f) (c.file.ensures.looks.most f k.formula) (c.check.ensures.looks.most f (checks_as c.file.new.self f (c.in_ok-file.ensures.kept f k.formula)));
+}
 
 pub returns-in_err-note_core-clause-looks : goal.returns-in_err-note_core-clause-looks
-returns-in_err-note_core-clause-looks c = λ f k. looks_followed c.args.looks.now c.file.new.looks c.check.new.looks c.note_core.new.looks (noted_length c.check.new.self.store.clauses c.check.new.self.passed) (length c.args.hashes.now) (literal_count f) (c.file.ensures.looks f k.formula) (c.check.ensures.looks f (checks_as c.file.new.self f (c.in_ok-file.ensures.kept f k.formula))) c.in_ok-check.ensures.read c.note_core.ensures.looks
+returns-in_err-note_core-clause-looks c = record {
+  rise = grind (arith, common_steps);
+  most = λ f k. looks_followed c.args.looks.now c.file.new.looks c.check.new.looks c.note_core.new.looks (noted_length c.check.new.self.store.clauses c.check.new.self.passed) (length c.args.hashes.now) (literal_count f) (c.file.ensures.looks.most f k.formula) (c.check.ensures.looks.most f (checks_as c.file.new.self f (c.in_ok-file.ensures.kept f k.formula))) c.in_ok-check.ensures.read c.note_core.ensures.looks.most;
+}
 
 pub returns-clause-looks : goal.returns-clause-looks
-returns-clause-looks c = λ f k. looks_followed c.args.looks.now c.file.new.looks c.check.new.looks c.note_core.new.looks (noted_length c.check.new.self.store.clauses c.check.new.self.passed) (length c.args.hashes.now) (literal_count f) (c.file.ensures.looks f k.formula) (c.check.ensures.looks f (checks_as c.file.new.self f (c.in_ok-file.ensures.kept f k.formula))) c.in_ok-check.ensures.read c.note_core.ensures.looks
+returns-clause-looks c = record {
+  rise = grind (arith, common_steps);
+  most = λ f k. looks_followed c.args.looks.now c.file.new.looks c.check.new.looks c.note_core.new.looks (noted_length c.check.new.self.store.clauses c.check.new.self.passed) (length c.args.hashes.now) (literal_count f) (c.file.ensures.looks.most f k.formula) (c.check.ensures.looks.most f (checks_as c.file.new.self f (c.in_ok-file.ensures.kept f k.formula))) c.in_ok-check.ensures.read c.note_core.ensures.looks.most;
+}
 
 pub returns-in_err-copy_negated-clause-noted : goal.returns-in_err-copy_negated-clause-noted
 returns-in_err-copy_negated-clause-noted c = IfOk-from_err c.from_residual-in_err-copy_negated.result _ c.from_residual-in_err-copy_negated.ensures.0
@@ -81,7 +97,10 @@ pub returns-in_err-file-clause-decides : goal.returns-in_err-file-clause-decides
 returns-in_err-file-clause-decides c = let p = err_from_is_err_and c.from_residual.result c.from_residual.ensures.1 in rw (p.1, p.2) (λ f k. sym (within_assumed c.has_all.result c.args.core.now f.assumed c.args.self.now.assumed k.assumed c.has_all.ensures) ∙ c.if-not-has_all.false)
 
 pub returns-in_err-file-clause-looks : goal.returns-in_err-file-clause-looks
-returns-in_err-file-clause-looks c = λ f k. looks_filed c.args.looks.now c.file.new.looks (length c.args.hashes.now) (literal_count f) (c.file.ensures.looks f k.formula)
+returns-in_err-file-clause-looks c = record {
+  rise = grind (arith, common_steps);
+  most = λ f k. looks_filed c.args.looks.now c.file.new.looks (length c.args.hashes.now) (literal_count f) (c.file.ensures.looks.most f k.formula);
+}
 
 pub returns-in_err-file-clause-noted : goal.returns-in_err-file-clause-noted
 returns-in_err-file-clause-noted c = IfOk-from_err c.from_residual.result _ c.from_residual.ensures.0

@@ -1,5 +1,6 @@
 use Rattle.std.proofs.lemmas.Result.{err_from_is_err_and, IfOk-from_err}
 use Rattle.std.proofs.Common.{arith}
+use Rattle.std.proofs.lemmas.Grind.{common_steps}
 use Rattle.sat_checker.proofs.state.State.model.Goals as goal
 
 pub returns-clause-decides : goal.returns-clause-decides
@@ -27,16 +28,16 @@ pub returns-in_err-model-clause-noted : goal.returns-in_err-model-clause-noted
 returns-in_err-model-clause-noted c = IfOk-from_err c.from_residual-in_err-model.result _ c.from_residual-in_err-model.ensures.0
 
 pub returns-in_err-fits-clause-looks : goal.returns-in_err-fits-clause-looks
-returns-in_err-fits-clause-looks c = λ f k. let h = c.fits.ensures.looks f k.formula in omega arith
+returns-in_err-fits-clause-looks c = record { rise = grind (arith, common_steps); most = λ f k. let h = c.fits.ensures.looks.most f k.formula in omega arith }
 
 pub returns-then-not-branch-clause-looks : goal.returns-then-not-branch-clause-looks
-returns-then-not-branch-clause-looks c = λ f k. let h = c.fits.ensures.looks f k.formula in omega arith
+returns-then-not-branch-clause-looks c = record { rise = grind (arith, common_steps); most = λ f k. let h = c.fits.ensures.looks.most f k.formula in omega arith }
 
 pub returns-in_err-learn-clause-looks : goal.returns-in_err-learn-clause-looks
-returns-in_err-learn-clause-looks c = λ f k. let h = c.fits.ensures.looks f k.formula in omega arith
+returns-in_err-learn-clause-looks c = record { rise = grind (arith, common_steps); most = λ f k. let h = c.fits.ensures.looks.most f k.formula in omega arith }
 
 pub returns-in_err-model-clause-looks : goal.returns-in_err-model-clause-looks
-returns-in_err-model-clause-looks c = λ f k. let h = c.fits.ensures.looks f k.formula in omega arith
+returns-in_err-model-clause-looks c = record { rise = grind (arith, common_steps); most = λ f k. let h = c.fits.ensures.looks.most f k.formula in omega arith }
 
 pub returns-clause-looks : goal.returns-clause-looks
-returns-clause-looks c = λ f k. let h = c.fits.ensures.looks f k.formula in omega arith
+returns-clause-looks c = record { rise = grind (arith, common_steps); most = λ f k. let h = c.fits.ensures.looks.most f k.formula in omega arith }

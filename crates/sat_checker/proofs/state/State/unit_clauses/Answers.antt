@@ -3,6 +3,7 @@ use Rattle.sat_checker.proofs.lemmas.variables.Keeping.{match_true}
 use Rattle.std.proofs.lemmas.Result.{err_from_is_err_and, IfOk-from_err}
 use Rattle.std.proofs.lemmas.Bool.{true≢false}
 use Rattle.std.proofs.Common.{sym, arith}
+use Rattle.std.proofs.lemmas.Grind.{common_steps}
 use Rattle.sat_checker.proofs.state.State.unit_clauses.Goals as goal
 
 pub returns-clause-decides : goal.returns-clause-decides
@@ -26,34 +27,46 @@ pub returns-clause-noted : goal.returns-clause-noted
 returns-clause-noted c = λ _ f k long. c.in_ok-store_units.ensures.noted c.if-not-branch.false f (c.in_ok-file.ensures.kept f k.formula) long
 
 pub returns-in_err-store_units-clause-looks : goal.returns-in_err-store_units-clause-looks
-returns-in_err-store_units-clause-looks c = λ f k.
-    let filed = c.file.ensures.looks f k.formula in
-    let h = c.store_units.ensures.looks f (c.in_ok-file.ensures.kept f k.formula) in
-    omega arith
+returns-in_err-store_units-clause-looks c = record {
+  rise = grind (arith, common_steps);
+  most = λ f k.
+      let filed = c.file.ensures.looks.most f k.formula in
+      let h = c.store_units.ensures.looks.most f (c.in_ok-file.ensures.kept f k.formula) in
+      omega arith;
+}
 
 pub returns-then-not-branch-clause-looks : goal.returns-then-not-branch-clause-looks
-returns-then-not-branch-clause-looks c = λ f k.
-    let filed = c.file.ensures.looks f k.formula in
-    let h = c.store_units.ensures.looks f (c.in_ok-file.ensures.kept f k.formula) in
-    omega arith
+returns-then-not-branch-clause-looks c = record {
+  rise = grind (arith, common_steps);
+  most = λ f k.
+      let filed = c.file.ensures.looks.most f k.formula in
+      let h = c.store_units.ensures.looks.most f (c.in_ok-file.ensures.kept f k.formula) in
+      omega arith;
+}
 
 pub returns-in_err-learn_units-clause-looks : goal.returns-in_err-learn_units-clause-looks
-returns-in_err-learn_units-clause-looks c = λ f k.
-    let filed = c.file.ensures.looks f k.formula in
-    let h = c.store_units.ensures.looks f (c.in_ok-file.ensures.kept f k.formula) in
-    omega arith
+returns-in_err-learn_units-clause-looks c = record {
+  rise = grind (arith, common_steps);
+  most = λ f k.
+      let filed = c.file.ensures.looks.most f k.formula in
+      let h = c.store_units.ensures.looks.most f (c.in_ok-file.ensures.kept f k.formula) in
+      omega arith;
+}
 
 pub returns-clause-looks : goal.returns-clause-looks
-returns-clause-looks c = λ f k.
-    let filed = c.file.ensures.looks f k.formula in
-    let h = c.store_units.ensures.looks f (c.in_ok-file.ensures.kept f k.formula) in
-    omega arith
+returns-clause-looks c = record {
+  rise = grind (arith, common_steps);
+  most = λ f k.
+      let filed = c.file.ensures.looks.most f k.formula in
+      let h = c.store_units.ensures.looks.most f (c.in_ok-file.ensures.kept f k.formula) in
+      omega arith;
+}
 
 pub returns-in_err-file-clause-decides : goal.returns-in_err-file-clause-decides
 returns-in_err-file-clause-decides c = let p = err_from_is_err_and c.from_residual.result c.from_residual.ensures.1 in rw (p.1, p.2) (λ f k. tt)
 
 pub returns-in_err-file-clause-looks : goal.returns-in_err-file-clause-looks
-returns-in_err-file-clause-looks c = λ f k. let filed = c.file.ensures.looks f k.formula in omega arith
+returns-in_err-file-clause-looks c = record { rise = grind (arith, common_steps); most = λ f k. let filed = c.file.ensures.looks.most f k.formula in omega arith }
 
 pub returns-in_err-file-clause-noted : goal.returns-in_err-file-clause-noted
 returns-in_err-file-clause-noted c = IfOk-from_err c.from_residual.result _ c.from_residual.ensures.0

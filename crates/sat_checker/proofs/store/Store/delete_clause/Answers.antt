@@ -3,6 +3,7 @@ use Rattle.sat_checker.proofs.lemmas.store.Storing.{is_there, looks_one, count_t
 use Rattle.sat_checker.specs.inner.SlotView.{slot_ids, places_of}
 use Rattle.sat_checker.proofs.lemmas.store.Looking.{literals_there}
 use Rattle.sat_checker.proofs.lemmas.store.Ids.{ids_taken}
+use Rattle.std.proofs.lemmas.Grind.{common_steps}
 use Rattle.sat_checker.proofs.store.Store.delete_clause.Goals as goal
 
 pub returns-in_default-clause-deleted : goal.returns-in_default-clause-deleted
@@ -11,7 +12,10 @@ returns-in_default-clause-deleted c = λ f k n.
     omega (arith, z, n)
 
 pub returns-in_default-clause-looks : goal.returns-in_default-clause-looks
-returns-in_default-clause-looks c = looks_one c.args.self.now c.clause_hash-hash.result c.args.looks.now c.find.new.looks c.find.ensures.looks
+returns-in_default-clause-looks c = record {
+  rise = grind (arith, common_steps);
+  most = looks_one c.args.self.now c.clause_hash-hash.result c.args.looks.now c.find.new.looks c.find.ensures.looks.most;
+}
 
 pub count-requires : goal.count-requires
 count-requires c = (is_there c.args.self.now.clauses c.args.literals.now c.clause_hash-hash.result c.in-Some.place c.in-Some.ensures.found).inside
@@ -22,7 +26,10 @@ returns-then-count-eq0-clause-deleted c = λ f k n.
     omega (arith, z, n, c.count.ensures, c.if-count-eq0.true)
 
 pub returns-then-count-eq0-clause-looks : goal.returns-then-count-eq0-clause-looks
-returns-then-count-eq0-clause-looks c = looks_one c.args.self.now c.clause_hash-hash.result c.args.looks.now c.find.new.looks c.find.ensures.looks
+returns-then-count-eq0-clause-looks c = record {
+  rise = grind (arith, common_steps);
+  most = looks_one c.args.self.now c.clause_hash-hash.result c.args.looks.now c.find.new.looks c.find.ensures.looks.most;
+}
 
 pub returns-clause-deleted : goal.returns-clause-deleted
 returns-clause-deleted c = λ f k.
@@ -33,7 +40,10 @@ pub returns-clause-ids : goal.returns-clause-ids
 returns-clause-ids c = ap slot_ids c.take_count.ensures ∙ ids_taken c.args.redundant c.in-Some.place c.args.self.now.clauses
 
 pub returns-clause-looks : goal.returns-clause-looks
-returns-clause-looks c = looks_one c.args.self.now c.clause_hash-hash.result c.args.looks.now c.find.new.looks c.find.ensures.looks
+returns-clause-looks c = record {
+  rise = grind (arith, common_steps);
+  most = looks_one c.args.self.now c.clause_hash-hash.result c.args.looks.now c.find.new.looks c.find.ensures.looks.most;
+}
 
 pub returns-in_default-clause-ids : goal.returns-in_default-clause-ids
 returns-in_default-clause-ids c = refl

@@ -6,6 +6,7 @@ use Rattle.sat_checker.proofs.lemmas.formula.Numbering.{strict_same, strict_part
 use Rattle.sat_checker.proofs.lemmas.store.Ids.{numbered_standing, standing_length}
 use Rattle.sat_checker.proofs.lemmas.store.Keeping.{length_same}
 use Rattle.sat_checker.proofs.lemmas.state.Living.{at_place}
+use Rattle.std.proofs.lemmas.Grind.{common_steps}
 use Rattle.sat_checker.proofs.store.Store.has_strict_part.Goals as goal
 
 pub is_subset-requires-clause-subset : goal.is_subset-requires-clause-subset
@@ -17,10 +18,13 @@ returns-clause-part c = λ rising.
     (strict_part _ (literals_at c.args.self.now.clauses c.in-Some.place) c.args.literals.now (subst (λ (ls : List ℕ). c.is_subset.result ≡ (is_part ls c.args.literals.now && (not true || not (is_part c.args.literals.now ls)))) c.literals.ensures.lent c.is_subset.ensures))
 
 pub returns-clause-looks : goal.returns-clause-looks
-returns-clause-looks c = λ f k.
-    let a = standing_length c.args.self.now.clauses c.in-Some.place c.in-Some.ensures.found.inside c.in-Some.ensures.found.there in
-    let b = length_same c.args.self.now f k in
-    omega (arith, a, b, c.literals.ensures.looks)
+returns-clause-looks c = record {
+  rise = grind (arith, common_steps);
+  most = λ f k.
+      let a = standing_length c.args.self.now.clauses c.in-Some.place c.in-Some.ensures.found.inside c.in-Some.ensures.found.there in
+      let b = length_same c.args.self.now f k in
+      omega (arith, a, b, c.literals.ensures.looks);
+}
 
 pub returns-clause-lent : goal.returns-clause-lent
 returns-clause-lent c = λ ls rising is.

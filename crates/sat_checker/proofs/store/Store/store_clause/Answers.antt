@@ -1,10 +1,14 @@
 use Rattle.std.proofs.Common.{arith}
 use Rattle.sat_checker.proofs.lemmas.store.Storing.{is_there, inside_more, looks_one, count_there, stored_again, stored_new}
 use Rattle.sat_checker.proofs.lemmas.store.Ids.{placed_new, placed_again}
+use Rattle.std.proofs.lemmas.Grind.{common_steps}
 use Rattle.sat_checker.proofs.store.Store.store_clause.Goals as goal
 
 pub returns-in_err-push-clause-looks : goal.returns-in_err-push-clause-looks
-returns-in_err-push-clause-looks c = looks_one c.args.self.now c.clause_hash-hash.result c.args.looks.now c.find.new.looks c.find.ensures.looks
+returns-in_err-push-clause-looks c = record {
+  rise = grind (arith, common_steps);
+  most = looks_one c.args.self.now c.clause_hash-hash.result c.args.looks.now c.find.new.looks c.find.ensures.looks.most;
+}
 
 pub returns-in_default-clause-ok : goal.returns-in_default-clause-ok
 returns-in_default-clause-ok c = λ f k.
@@ -15,7 +19,10 @@ returns-in_default-clause-placed c =
     placed_new c.args.self.now.clauses c.push.new.self c.args.redundant c.args.id c.clause_hash-hash.result c.args.literals.now c.in_ok-push.ensures
 
 pub returns-in_default-clause-looks : goal.returns-in_default-clause-looks
-returns-in_default-clause-looks c = looks_one c.args.self.now c.clause_hash-hash.result c.args.looks.now c.find.new.looks c.find.ensures.looks
+returns-in_default-clause-looks c = record {
+  rise = grind (arith, common_steps);
+  most = looks_one c.args.self.now c.clause_hash-hash.result c.args.looks.now c.find.new.looks c.find.ensures.looks.most;
+}
 
 pub count-requires : goal.count-requires
 count-requires c = (is_there c.args.self.now.clauses c.args.literals.now c.clause_hash-hash.result c.in-Some.place c.in-Some.ensures.found).inside
@@ -26,7 +33,10 @@ returns-then-count-clause-full c = λ e f k.
     omega (arith, z, c.count.ensures, c.if-count.true)
 
 pub returns-then-count-clause-looks : goal.returns-then-count-clause-looks
-returns-then-count-clause-looks c = looks_one c.args.self.now c.clause_hash-hash.result c.args.looks.now c.find.new.looks c.find.ensures.looks
+returns-then-count-clause-looks c = record {
+  rise = grind (arith, common_steps);
+  most = looks_one c.args.self.now c.clause_hash-hash.result c.args.looks.now c.find.new.looks c.find.ensures.looks.most;
+}
 
 pub add_count-requires-clause-inside : goal.add_count-requires-clause-inside
 add_count-requires-clause-inside c = (is_there c.args.self.now.clauses c.args.literals.now c.clause_hash-hash.result c.in-Some.place c.in-Some.ensures.found).inside
@@ -48,4 +58,7 @@ returns-clause-placed c =
     placed_again c.args.self.now.clauses c.add_count.new.self c.args.redundant c.in-Some.place c.args.id c.add_count.ensures
 
 pub returns-clause-looks : goal.returns-clause-looks
-returns-clause-looks c = looks_one c.args.self.now c.clause_hash-hash.result c.args.looks.now c.find.new.looks c.find.ensures.looks
+returns-clause-looks c = record {
+  rise = grind (arith, common_steps);
+  most = looks_one c.args.self.now c.clause_hash-hash.result c.args.looks.now c.find.new.looks c.find.ensures.looks.most;
+}

@@ -6,6 +6,7 @@ use Rattle.sat_checker.specs.inner.SlotView.{Slot, slot_at, literals_at}
 use Rattle.sat_checker.proofs.lemmas.propagation.Walking.{looks_over}
 use Rattle.sat_checker.proofs.lemmas.store.Rehashing.{hashed_all, pairs_all, hashed_next, hashed_skip, gone_same, slot_left, pairs_gone, pairs_there, left_gone, left_there, length_left}
 use Rattle.std.proofs.lemmas.Result.{IfOk-from_err}
+use Rattle.std.proofs.lemmas.Grind.{common_steps}
 use Rattle.sat_checker.proofs.store.clauses.hash_all.Goals as goal
 
 pub loop-place-preserved-then-is_gone : goal.loop-place-preserved-then-is_gone
@@ -47,16 +48,19 @@ pub loop-place-init : goal.loop-place-init
 loop-place-init c = record { hashed = refl; listed = c.requires; looks = refl; rise = omega arith }
 
 pub returns-in_err-push-clause-looks : goal.returns-in_err-push-clause-looks
-returns-in_err-push-clause-looks c =
-    let inside : c.loop-place.place < length c.args.slots.now = omega (arith, c.len-place-end.ensures.count) in
-    let names = solver_name_of c.args.hasher.now in
-    let width = width_of c.args.hasher.now in
-    let there = gone_same names width c.args.slots.now c.loop-place.slots c.loop-place.place _ inside c.loop-place.invariant.hashed (sym c.is_gone.ensures ∙ c.if-is_gone.false) in
-    let same : literals_at c.loop-place.slots c.loop-place.place ≡ literals_at c.args.slots.now c.loop-place.place =
-    ap (λ (s : Slot). s.clause.literals) (ap (λ x. slot_at x c.loop-place.place) c.loop-place.invariant.hashed ∙ slot_left names width c.args.slots.now c.loop-place.place inside) in
-    let left = left_there c.args.slots.now c.loop-place.place inside there in
-    let count = ap length same in
-    omega (arith, left, count, c.literals.ensures.looks, c.loop-place.invariant.looks)
+returns-in_err-push-clause-looks c = record {
+  rise = grind (arith, common_steps);
+  most =
+      let inside : c.loop-place.place < length c.args.slots.now = omega (arith, c.len-place-end.ensures.count) in
+      let names = solver_name_of c.args.hasher.now in
+      let width = width_of c.args.hasher.now in
+      let there = gone_same names width c.args.slots.now c.loop-place.slots c.loop-place.place _ inside c.loop-place.invariant.hashed (sym c.is_gone.ensures ∙ c.if-is_gone.false) in
+      let same : literals_at c.loop-place.slots c.loop-place.place ≡ literals_at c.args.slots.now c.loop-place.place =
+      ap (λ (s : Slot). s.clause.literals) (ap (λ x. slot_at x c.loop-place.place) c.loop-place.invariant.hashed ∙ slot_left names width c.args.slots.now c.loop-place.place inside) in
+      let left = left_there c.args.slots.now c.loop-place.place inside there in
+      let count = ap length same in
+      omega (arith, left, count, c.literals.ensures.looks, c.loop-place.invariant.looks);
+}
 
 pub returns-clause-hashed : goal.returns-clause-hashed
 returns-clause-hashed c =
@@ -69,7 +73,7 @@ returns-clause-pairs c =
     c.loop-place.invariant.listed ∙ pairs_all (solver_name_of c.args.hasher.now) (width_of c.args.hasher.now) c.args.slots.now c.loop-place.place over
 
 pub returns-clause-looks : goal.returns-clause-looks
-returns-clause-looks c = looks_over _ c.loop-place.looks _ c.loop-place.invariant.looks
+returns-clause-looks c = record { rise = grind (arith, common_steps); most = looks_over _ c.loop-place.looks _ c.loop-place.invariant.looks }
 
 pub returns-in_err-push-clause-hashed : goal.returns-in_err-push-clause-hashed
 returns-in_err-push-clause-hashed c = IfOk-from_err c.from_residual.result _ c.from_residual.ensures.0

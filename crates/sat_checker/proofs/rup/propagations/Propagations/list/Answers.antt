@@ -8,6 +8,7 @@ use Rattle.sat_checker.specs.inner.Reasons.{named}
 use Rattle.sat_checker.proofs.lemmas.sets.Canonical.{canonical_increasing}
 use Rattle.sat_checker.proofs.lemmas.store.Keeping.{named_same}
 use Rattle.sat_checker.proofs.lemmas.announcements.Cases.{met_conflict, none_of_signs, unit_of_literals, ids_of_conflict}
+use Rattle.std.proofs.lemmas.Grind.{common_steps}
 use Rattle.sat_checker.proofs.rup.propagations.Propagations.list.Goals as goal
 
 no_less : (a b : ℕ) → a ≤ a + b
@@ -21,13 +22,13 @@ pub has_both_signs-requires : goal.has_both_signs-requires
 has_both_signs-requires c = subst IsIncreasing (sym c.requires.canonical) (canonical_increasing c.args.clause.now)
 
 pub returns-then-has_both_signs-clause-looks : goal.returns-then-has_both_signs-clause-looks
-returns-then-has_both_signs-clause-looks c = no_less c.args.looks.now _
+returns-then-has_both_signs-clause-looks c = record { rise = grind (arith, common_steps); most = no_less c.args.looks.now _ }
 
 pub returns-in-Some-clause-looks : goal.returns-in-Some-clause-looks
-returns-in-Some-clause-looks c = no_less c.args.looks.now _
+returns-in-Some-clause-looks c = record { rise = grind (arith, common_steps); most = no_less c.args.looks.now _ }
 
 pub returns-in_err-push-clause-looks : goal.returns-in_err-push-clause-looks
-returns-in_err-push-clause-looks c = no_less c.args.looks.now _
+returns-in_err-push-clause-looks c = record { rise = grind (arith, common_steps); most = no_less c.args.looks.now _ }
 
 -- both signs of a variable
 pub returns-then-has_both_signs-clause-listed : goal.returns-then-has_both_signs-clause-listed

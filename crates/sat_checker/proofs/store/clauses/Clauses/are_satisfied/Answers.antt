@@ -6,6 +6,7 @@ use Rattle.sat_checker.specs.LiteralSets.{is_among}
 use Rattle.sat_checker.specs.inner.ModelTests.{are_all_true, irredundant_length}
 use Rattle.sat_checker.specs.inner.SlotView.{slot_at, literals_at, live}
 use Rattle.sat_checker.proofs.lemmas.store.Rehashing.{all_skip, all_met, all_failed, lengths_skip, lengths_there, left_fewer, left_there, not_gone}
+use Rattle.std.proofs.lemmas.Grind.{common_steps}
 use Rattle.sat_checker.proofs.store.clauses.Clauses.are_satisfied.Goals as goal
 
 pub loop-place-init : goal.loop-place-init
@@ -51,12 +52,15 @@ returns-then-not-makes_true-clause-found c =
     sym (c.loop-place.invariant.found ∙ all_failed c.args.assigned.now c.args.self.now c.loop-place.place inside some met)
 
 pub returns-then-not-makes_true-clause-looks : goal.returns-then-not-makes_true-clause-looks
-returns-then-not-makes_true-clause-looks c =
-    let inside : c.loop-place.place < length c.args.self.now = subst (λ ss. c.loop-place.place < length ss) c.self.view_is (omega (arith, c.len-place-end.ensures.count)) in
-    let some = ne_eqb (slot_at c.args.self.now c.loop-place.place).clause.irredundant 0 (λ z. c.if-count-eq0.false (c.count.ensures ∙ ap (λ ss. (slot_at ss c.loop-place.place).clause.irredundant) c.self.view_is ∙ z)) in
-    let left = left_there c.args.self.now c.loop-place.place inside (not_gone (slot_at c.args.self.now c.loop-place.place) some) in
-    let count : length (literals_at c.self.inside.slots c.loop-place.place) ≡ length (literals_at c.args.self.now c.loop-place.place) = ap (λ ss. length (literals_at ss c.loop-place.place)) c.self.view_is in
-    omega (arith, left, count, c.literals.ensures.looks, c.loop-place.invariant.looks)
+returns-then-not-makes_true-clause-looks c = record {
+  rise = grind (arith, common_steps);
+  most =
+      let inside : c.loop-place.place < length c.args.self.now = subst (λ ss. c.loop-place.place < length ss) c.self.view_is (omega (arith, c.len-place-end.ensures.count)) in
+      let some = ne_eqb (slot_at c.args.self.now c.loop-place.place).clause.irredundant 0 (λ z. c.if-count-eq0.false (c.count.ensures ∙ ap (λ ss. (slot_at ss c.loop-place.place).clause.irredundant) c.self.view_is ∙ z)) in
+      let left = left_there c.args.self.now c.loop-place.place inside (not_gone (slot_at c.args.self.now c.loop-place.place) some) in
+      let count : length (literals_at c.self.inside.slots c.loop-place.place) ≡ length (literals_at c.args.self.now c.loop-place.place) = ap (λ ss. length (literals_at ss c.loop-place.place)) c.self.view_is in
+      omega (arith, left, count, c.literals.ensures.looks, c.loop-place.invariant.looks);
+}
 
 pub returns-clause-found : goal.returns-clause-found
 returns-clause-found c =
@@ -64,7 +68,7 @@ returns-clause-found c =
     sym (c.loop-place.invariant.found ∙ ap (λ ss. are_all_true c.args.assigned.now (live ss)) (drop_all c.loop-place.place c.args.self.now over))
 
 pub returns-clause-looks : goal.returns-clause-looks
-returns-clause-looks c = omega (arith, c.loop-place.invariant.looks)
+returns-clause-looks c = record { rise = grind (arith, common_steps); most = omega (arith, c.loop-place.invariant.looks) }
 
 pub returns-then-not-makes_true-clause-all : goal.returns-then-not-makes_true-clause-all
 returns-then-not-makes_true-clause-all c = λ e. absurd (true≢false (sym e))

@@ -7,6 +7,7 @@ use Rattle.sat_checker.specs.inner.SlotView.{literals_at, places_of, found_among
 use Rattle.sat_checker.proofs.lemmas.propagation.Walking.{looks_more, looks_ended}
 use Rattle.sat_checker.proofs.lemmas.store.Filing.{first_ok, from_first, increasing_places, left_step, next_among}
 use Rattle.sat_checker.proofs.lemmas.store.Finding.{bucket_literals, place_inside, found_here, found_later}
+use Rattle.std.proofs.lemmas.Grind.{common_steps}
 use Rattle.sat_checker.proofs.store.clauses.Clauses.find.Goals as goal
 
 pub loop-next-init : goal.loop-next-init
@@ -33,12 +34,15 @@ returns-then-is_same-clause-found c =
     ∙ found_here c.args.self.now c.args.literals.now (c.in-Some.place ∷ more) 0 (omega arith) (sym c.is_same.ensures.same ∙ c.if-is_same.true))
 
 pub returns-then-is_same-clause-looks : goal.returns-then-is_same-clause-looks
-returns-then-is_same-clause-looks c =
-    let ps = places_of c.args.hash c.args.self.now in
-    let more = from_on (first_of (behind c.in-Some.place ps)) ps in
-    let left = left_step c.args.hash c.args.self.now c.loop-next.next c.in-Some.place c.in-Some.is c.loop-next.invariant.among (first_of (behind c.in-Some.place ps)) refl in
-    looks_ended (literals_at c.args.self.now) (c.in-Some.place ∷ more) 0 (omega arith) _ c.loop-next.looks c.is_same.new.looks
-    (ap (λ qs. c.loop-next.looks + total_length (map (literals_at c.args.self.now) qs)) (sym left) ∙ c.loop-next.invariant.looks) c.is_same.ensures.looks
+returns-then-is_same-clause-looks c = record {
+  rise = grind (arith, common_steps);
+  most =
+      let ps = places_of c.args.hash c.args.self.now in
+      let more = from_on (first_of (behind c.in-Some.place ps)) ps in
+      let left = left_step c.args.hash c.args.self.now c.loop-next.next c.in-Some.place c.in-Some.is c.loop-next.invariant.among (first_of (behind c.in-Some.place ps)) refl in
+      looks_ended (literals_at c.args.self.now) (c.in-Some.place ∷ more) 0 (omega arith) _ c.loop-next.looks c.is_same.new.looks
+      (ap (λ qs. c.loop-next.looks + total_length (map (literals_at c.args.self.now) qs)) (sym left) ∙ c.loop-next.invariant.looks) c.is_same.ensures.looks;
+}
 
 pub loop-next-smaller : goal.loop-next-smaller
 loop-next-smaller c =

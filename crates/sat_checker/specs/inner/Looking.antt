@@ -1,0 +1,13 @@
+-- How many looks a function takes: none are lost, and there is a bound.
+use Rattle.std.specs.Prelude.{ℕ, ◌+◌, ◌≤◌}
+use Rattle.sat_checker.specs.Stored.{Stored}
+
+-- so many at most
+pub record LooksUpTo (count old new : ℕ) : Type 0 where
+  pub rise : old ≤ new
+  pub most : new ≤ old + count
+
+-- as many at most as are counted over what is kept
+pub record LooksOver (Kept : Stored → Type 0) (count : Stored → ℕ) (old new : ℕ) : Type 0 where
+  pub rise : old ≤ new
+  pub most : (f : Stored) → Kept f → new ≤ old + count f
