@@ -5,7 +5,6 @@ ghost use Rattle.sat_parts.specs.parts.Whole.{IsRefuted};
 ghost use Rattle.sat_solver.specs.session.Naming.{global_of};
 ghost use Rattle.sat_solver.specs.session.Fits.{SessionMatchesParts, HaveNames};
 ghost use Rattle.sat_solver.specs.cdcl.Going.{EmitsSteps};
-ghost use Rattle.sat_solver.specs.cdcl.Joint.{IsSearch};
 ghost use Rattle.sat_solver.specs.cdcl.Turns.{IsStopped};
 ghost use Rattle.sat_solver.specs.cdcl.Rounds.{LastRefutes, RoundGoes};
 ghost use Rattle.sat_solver.specs.cdcl.Ending.{EndsRound};
@@ -85,26 +84,6 @@ fn resolve<W: CountedWrite + Drop, P: ProofProcessor>(
     Ok(Outcome::Unsat)
 }
 
-/// Searches up to a conflict and what is learned from it, or an answer.
-fn search_on<W: CountedWrite + Drop, P: ProofProcessor>(
-    proof: &mut Proof<W, P>,
-    search: &mut Search,
-) -> Result<Outcome, Fault>
-    requires keeps { Keeps proof.old }
-    requires search { IsSearch (session_of proof.old) search.old }
-    ensures { RoundGoes W.seen result proof.old proof.new search.old search.new }
-{
-    let stop = find_conflict(proof, search)?;
-    match stop {
-        FoundConflict::Complete => Ok(Outcome::Model),
-        FoundConflict::Failed(lit) => {
-            search.failed = lit;
-            Ok(Outcome::Failed)
-        }
-        FoundConflict::Falsified(conflict) => resolve(proof, search, &conflict),
-    }
-}
-
 /// A conflict step: up to a conflict and what is learned from it, or an answer. Where literals came at level 0, it begins with a simplification.
 pub fn conflict_step<W: CountedWrite + Drop, P: ProofProcessor>(
     proof: &mut Proof<W, P>,
@@ -115,8 +94,17 @@ pub fn conflict_step<W: CountedWrite + Drop, P: ProofProcessor>(
     ensures { EndsRound W.seen result names.old names.new proof.old proof.new search.old search.new }
 {
     match begin_round(proof, search, names) {
-        Err(error) => Err(error),
-        Ok(Some(conflict)) => resolve(proof, search, &conflict),
-        Ok(None) => search_on(proof, search),
+        Err(error) => return Err(error),
+        Ok(Some(conflict)) => return resolve(proof, search, &conflict),
+        Ok(None) => {}
+    }
+    let stop = find_conflict(proof, search)?;
+    match stop {
+        FoundConflict::Complete => Ok(Outcome::Model),
+        FoundConflict::Failed(lit) => {
+            search.failed = lit;
+            Ok(Outcome::Failed)
+        }
+        FoundConflict::Falsified(conflict) => resolve(proof, search, &conflict),
     }
 }

@@ -5,9 +5,9 @@ ghost use Rattle.sat_parts.specs.parts.Assumed.{AreThere, ArePlaced};
 ghost use Rattle.sat_parts.specs.parts.Whole.{state, PartsInvariant, IsDone};
 ghost use Rattle.sat_solver.specs.cdcl.Going.{EmitsSteps};
 ghost use Rattle.sat_solver.specs.cdcl.Joint.{IsSearch};
-ghost use Rattle.sat_solver.specs.cdcl.Turns.{GoesDeeper, IsPropagated, Turned, Stopped};
+ghost use Rattle.sat_solver.specs.cdcl.Turns.{GoesDeeper, Stopped};
 
-use crate::cdcl::fault::{Fault, Kind};
+use crate::cdcl::fault::Fault;
 use crate::context::Search;
 use crate::proof::Proof;
 use crate::unit_simplify::prove_units::settle;
@@ -29,8 +29,8 @@ pub enum FoundConflict {
     Failed(Lit),
 }
 
-/// Assumes what is to be assumed, or decides an open variable. None where a level began.
-fn go_on(
+/// Begins a level by the next assumption, or where there is none by the variable of highest activity. None where it did.
+fn make_decision(
     parts: &mut Parts,
     assumptions: &mut Assumptions,
 ) -> Result<Option<FoundConflict>, AllocError>
@@ -51,48 +51,8 @@ fn go_on(
     Ok(Some(FoundConflict::Complete))
 }
 
-/// Writes units, and begins a level.
-fn settle_and_go_on<W: CountedWrite + Drop, P: ProofProcessor>(
-    proof: &mut Proof<W, P>,
-    search: &mut Search,
-) -> Result<Option<FoundConflict>, Fault>
-    requires keeps { Keeps proof.old }
-    requires propagated { IsPropagated (session_of proof.old) search.old }
-    ensures { EmitsSteps W.seen result proof.old proof.new (λ found _. Turned found (session_of proof.new) search.old search.new) }
-{
-    let settled = settle(
-        proof,
-        &mut search.parts,
-        &search.globals,
-        &mut search.scratch.units,
-    );
-    if let Err(error) = settled {
-        return Err(error);
-    }
-    match go_on(&mut search.parts, &mut search.assumptions) {
-        Err(_) => Err(Fault::of(Kind::OutOfMemory)),
-        Ok(found) => Ok(found),
-    }
-}
-
-/// Propagates, and begins a level where no clause is false. None where it did.
-fn turn<W: CountedWrite + Drop, P: ProofProcessor>(
-    proof: &mut Proof<W, P>,
-    search: &mut Search,
-) -> Result<Option<FoundConflict>, Fault>
-    requires keeps { Keeps proof.old }
-    requires search { IsSearch (session_of proof.old) search.old }
-    ensures { EmitsSteps W.seen result proof.old proof.new (λ found _. Turned found (session_of proof.new) search.old search.new) }
-{
-    let propagated = propagate_all(search.alloc, &mut search.parts);
-    match propagated {
-        Err(_) => Err(Fault::of(Kind::OutOfMemory)),
-        Ok(Err(conflict)) => Ok(Some(FoundConflict::Falsified(conflict))),
-        Ok(Ok(())) => settle_and_go_on(proof, search),
-    }
-}
-
-/// Propagates, assumes and decides until a clause is false, an assumption is, or no variable of a clause is open.
+/// Propagates, assumes and decides until a clause is false, an assumption is, or no variable of a clause is open. What comes
+/// at level 0 is written, and taken off the trail.
 pub fn find_conflict<W: CountedWrite + Drop, P: ProofProcessor>(
     proof: &mut Proof<W, P>,
     search: &mut Search,
@@ -102,10 +62,21 @@ pub fn find_conflict<W: CountedWrite + Drop, P: ProofProcessor>(
     ensures { EmitsSteps W.seen result proof.old proof.new (λ stop _. Stopped stop (session_of proof.new) search.old search.new) }
 {
     'turns: loop {
-        match turn(proof, search) {
-            Err(error) => return Err(error),
-            Ok(Some(stop)) => return Ok(stop),
-            Ok(None) => {}
+        let propagated = propagate_all(search.alloc, &mut search.parts)?;
+        match propagated {
+            Err(conflict) => return Ok(FoundConflict::Falsified(conflict)),
+            Ok(()) => {}
+        }
+        settle(
+            proof,
+            &mut search.parts,
+            &search.globals,
+            &mut search.scratch.units,
+        )?;
+        let found = make_decision(&mut search.parts, &mut search.assumptions)?;
+        match found {
+            Some(stop) => return Ok(stop),
+            None => {}
         }
     }
 }

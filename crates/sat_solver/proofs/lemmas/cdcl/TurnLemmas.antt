@@ -1,5 +1,7 @@
 -- The turns of a search.
-use Rattle.std.proofs.Common.{ℕ, ◌+◌, ◌<◌, ◌≡◌, ◌∙◌, Option, None, Some, length, refl, ap, arith, inl, inr, sym, subst}
+use Rattle.std.proofs.Common.{ℕ, ◌+◌, ◌<◌, ◌≡◌, ◌∙◌, Ok, Option, None, Some, length, refl, ap, arith, inl, inr, sym, subst}
+use Rattle.sat_base.specs.device.Device.{Writer}
+use Rattle.sat_checker.specs.declared.processing.ProofProcessor.{Ghosts}
 use Rattle.sat_parts.specs.declared.prop.graph.Conflict.{Conflict}
 use Rattle.sat_parts.specs.clause.Db.{live_refs}
 use Rattle.sat_parts.specs.prop.Ready.{IsConflict}
@@ -11,13 +13,17 @@ use Rattle.sat_parts.specs.parts.Whole.{state, HoldsBelow, IsDone}
 use Rattle.sat_parts.specs.parts.Words.{TrailWordExtends, TrailWordExtendsFor, GoesOn}
 use Rattle.sat_parts.proofs.lemmas.parts.AssumeLemmas.{placed_kept}
 use Rattle.sat_parts.proofs.lemmas.parts.WordSteps.{extends_after}
-use Rattle.sat_solver.specs.session.Session.{Session}
+use Rattle.sat_solver.specs.proof.ProofView.{steps_of, session_of}
+use Rattle.sat_solver.specs.declared.proof.Proof.{Proof}
+use Rattle.sat_solver.specs.session.Session.{Session, session_after}
 use Rattle.sat_solver.specs.session.Fits.{SessionMatchesParts, HaveNames}
 use Rattle.sat_solver.proofs.lemmas.fits.LearnedLemmas.{fits_undone}
 use Rattle.sat_solver.proofs.lemmas.fits.StepLemmas.{fits_propagated}
 use Rattle.sat_solver.specs.declared.cdcl.find_conflict.FoundConflict.{FoundConflict}
 use Rattle.sat_solver.specs.declared.cdcl.find_conflict.FoundConflict.TheVariants.{Falsified, Complete, Failed}
 use Rattle.sat_solver.specs.declared.context.Search.{Search}
+use Rattle.sat_solver.specs.cdcl.Going.{EmitsSteps}
+use Rattle.sat_solver.proofs.lemmas.cdcl.AskedLemmas.{leaves_after, kinds_of}
 use Rattle.sat_solver.specs.cdcl.Joint.{global_in, assumed_in, IsFree, IsReady, IsSearch, Moved, Leaves}
 use Rattle.sat_solver.specs.unit_simplify.Left.{IsSettled}
 use Rattle.sat_solver.specs.cdcl.Turns.{GoesDeeper, IsPropagated, StopsAt, TurnSays, Turned, Stopped}
@@ -156,3 +162,13 @@ module _ (s s' : Session) (c c' : Search) (mid : Parts) (propagated : IsPropagat
       says (Some (Falsified e)) x = absurd x
       says (Some Complete) x = (search, rw d.lits x)
       says (Some (Failed l)) x = (search, rw d.lits x)
+
+-- A TURN
+
+-- what was propagated, units that were written, and a level that began, or none
+module _ {W L : Type 0} {G : Ghosts L} (seen : W → Writer) (p q : Proof W L G) (c d e : Search) (mid : Parts) (moved : Moved c d) (word : TrailWordExtendsFor (assumed_in c) c.parts d.parts) (starts : d.parts.trail.starts ≡ c.parts.trail.starts)
+    (propagated : IsPropagated (session_of p) d) (settles : EmitsSteps {A = Unit {0}} seen (Ok tt) p q (λ _ _. IsSettled d.parts mid (session_of q) (global_in d))) (globals : e.globals ≡ d.globals) (analysis : e.analysis ≡ d.analysis) (flags : e.flags ≡ d.flags) where
+  pub turned : (found : Option FoundConflict) → GoesDeeper found d.assumptions e.assumptions mid e.parts → Turned found (session_of q) c e
+  turned found deeper =
+      let leaves : Leaves (session_of p) (session_of q) = subst (λ ss. Leaves (session_of p) (session_after ss)) (sym settles.went.history) (leaves_after settles.steps (steps_of p) (kinds_of (session_of p).solver_names settles.steps settles.searched)) in
+      turned_from found (session_of q) c d e moved word (ap (λ ss. length ss) starts) (gone_on (session_of p) (session_of q) d e mid propagated leaves settles.ends globals analysis flags found deeper)

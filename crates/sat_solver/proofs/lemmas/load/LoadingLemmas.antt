@@ -1,5 +1,5 @@
 -- A clause is loaded.
-use Rattle.std.proofs.Common.{ℕ, ◌≡◌, ◌<◌, ◌≤◌, ◌*◌, ◌^◌, ◌∙◌, Err, Bool, true, false, cond, List, [], ◌∷◌, map, length, get_or, refl, sym, ap, subst, arith, ◌⊎◌, inl, inr, None, Some, zero, suc, eqb}
+use Rattle.std.proofs.Common.{ℕ, ◌≡◌, ◌<◌, ◌≤◌, ◌*◌, ◌^◌, ◌∙◌, Err, Bool, true, false, cond, List, [], ◌∷◌, map, length, get_or, refl, sym, ap, subst, arith, inl, inr, None, Some, zero, suc, eqb}
 use Rattle.sat_base.specs.values.Literals.{variable}
 use Rattle.sat_base.specs.steps.Steps.{Step, AddClause, AtClause, DeleteClause, Satisfied as True}
 use Rattle.sat_base.specs.device.Device.{Writer}

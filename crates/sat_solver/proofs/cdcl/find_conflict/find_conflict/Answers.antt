@@ -1,11 +1,21 @@
-use Rattle.std.proofs.Common.{None, Some, subst, arith, Ok}
-use Rattle.sat_solver.specs.proof.ProofView.{session_of}
-use Rattle.sat_solver.specs.cdcl.Joint.{assumed_in}
-use Rattle.sat_solver.specs.cdcl.Turns.{Turned, Stopped}
+use Rattle.std.proofs.Common.{◌+◌, length, None, Some, Ok, refl, subst, arith}
+use Rattle.std.proofs.lemmas.Result.{err_from_is_err_and}
+use Rattle.sat_parts.specs.clause.Db.{live_refs}
+use Rattle.sat_parts.specs.prop.Ready.{IsConflict}
+use Rattle.sat_parts.specs.parts.Whole.{HoldsBelow}
 use Rattle.sat_parts.proofs.lemmas.parts.WordSteps.{extends_refl, extends_after}
+use Rattle.sat_solver.specs.proof.ProofView.{session_of}
+use Rattle.sat_solver.specs.session.Naming.{global_of}
+use Rattle.sat_solver.specs.cdcl.Going.{EmitsSteps}
+use Rattle.sat_solver.specs.cdcl.Joint.{assumed_in, Moved}
+use Rattle.sat_solver.specs.cdcl.Turns.{IsPropagated, Turned}
+use Rattle.sat_solver.specs.unit_simplify.Left.{IsSettled}
+use Rattle.sat_solver.specs.declared.context.Search.{Search}
+use Rattle.sat_solver.specs.declared.cdcl.find_conflict.FoundConflict.TheVariants.{Falsified}
+use Rattle.sat_solver.specs.declared.error.SolverError.TheVariants as errors
 use Rattle.sat_solver.proofs.lemmas.clause.GlueLemmas.{starts_few}
-use Rattle.sat_solver.proofs.lemmas.cdcl.GoingLemmas.{goes_none, goes_then, goes_then_fails, goes_on}
-use Rattle.sat_solver.proofs.lemmas.cdcl.TurnLemmas.{moved_refl, moved_trans, stopped_from}
+use Rattle.sat_solver.proofs.lemmas.cdcl.GoingLemmas.{goes_none, goes_starved, goes_then, goes_then_fails, goes_on}
+use Rattle.sat_solver.proofs.lemmas.cdcl.TurnLemmas.{moved_refl, moved_trans, ready_names, propagated_moved, propagated_whole, falsified_whole, stopped_from, turned}
 use Rattle.sat_solver.proofs.cdcl.find_conflict.find_conflict.Goals as goal
 
 pub turns-init : goal.turns-init
@@ -16,30 +26,118 @@ turns-init g c = record {
   word = extends_refl c.args.search.now.parts (assumed_in c.args.search.now);
 }
 
+pub settle-requires : goal.settle-requires
+settle-requires g c =
+    let x = c.in_ok-propagated.ensures in
+    let d : Search = record c.turns.search { parts = c.propagate_all.new.parts } in
+    let holds : HoldsBelow (length d.parts.trail.starts + 1) d.parts = rw c.in-Ok.is at x.holds in
+    let p : IsPropagated (session_of c.turns.proof) d = propagated_whole (session_of c.turns.proof) c.turns.search d c.turns.invariant.search refl refl refl refl x.starts x.moved x.carries x.word x.keeps holds (rw c.in-Ok.is at x.done) x.units x.base in
+    record {
+      keeps = c.turns.invariant.came.keeps;
+      holds = p.holds;
+      done = p.done;
+      units = p.units;
+      fits = rw c.deref.ensures.value p.fits;
+      named = rw c.deref.ensures.value (ready_names (session_of c.turns.proof) d p.ready);
+      names = rw c.deref.ensures.value p.ready.free.names;
+    }
+
+pub make_decision-requires : goal.make_decision-requires
+make_decision-requires g c =
+    let x = c.in_ok-propagated.ensures in
+    let s = session_of c.turns.proof in
+    let d : Search = record c.turns.search { parts = c.propagate_all.new.parts } in
+    let holds : HoldsBelow (length d.parts.trail.starts + 1) d.parts = rw c.in-Ok.is at x.holds in
+    let p : IsPropagated s d = propagated_whole s c.turns.search d c.turns.invariant.search refl refl refl refl x.starts x.moved x.carries x.word x.keeps holds (rw c.in-Ok.is at x.done) x.units x.base in
+    let e = c.in_ok-settle.ensures.ends in
+    record {
+      holds = e.stands.holds;
+      done = e.done;
+      there = rw e.size p.ready.there;
+      placed = e.placed c.turns.search.assumptions p.ready.placed;
+    }
+
+pub returns-in_err-propagated : goal.returns-in_err-propagated
+returns-in_err-propagated g c =
+    let p = err_from_is_err_and c.from_residual.result c.from_residual.ensures.1 in
+    rw (p.1, p.2) (goes_then_fails g.W.CountedWrite.seen tt errors.OutOfMemory c.args.proof.now c.turns.proof c.turns.proof _ _ _ c.turns.invariant.came (goes_starved g.W.CountedWrite.seen c.turns.proof (λ (_ : Unit {0}) _. Unit {0}) c.turns.invariant.came.keeps))
+
+pub returns-in-Err : goal.returns-in-Err
+returns-in-Err g c =
+    let i = c.turns.invariant in
+    let x = c.in_ok-propagated.ensures in
+    let n = c.propagate_all.new.parts in
+    let s = session_of c.turns.proof in
+    let d : Search = record c.turns.search { parts = n } in
+    let both : HoldsBelow (length n.trail.starts) n × IsConflict n.clauses (live_refs n.clauses n.db.refs) n.binary.implied n.assignment.current c.in-Err.conflict = rw c.in-Err.is at x.holds in
+    goes_on g.W.CountedWrite.seen tt (Falsified c.in-Err.conflict) c.args.proof.now c.turns.proof _ _
+    (λ steps _. stopped_from (Falsified c.in-Err.conflict) s c.args.search.now c.turns.search d i.moved i.word
+    (falsified_whole s c.turns.search d i.search refl refl refl refl x.starts x.moved x.carries x.word x.keeps c.in-Err.conflict both.0 both.1 x.units x.base))
+    i.came
+
+pub returns-in_err-settle : goal.returns-in_err-settle
+returns-in_err-settle g c =
+    let p = err_from_is_err_and c.from_residual-in_err-settle.result c.from_residual-in_err-settle.ensures.1 in
+    rw (p.1, p.2) (goes_then_fails g.W.CountedWrite.seen tt _ c.args.proof.now c.turns.proof c.settle.new.proof _ _ _ c.turns.invariant.came c.in_err-settle.ensures)
+
+pub returns-in_err-found : goal.returns-in_err-found
+returns-in_err-found g c =
+    let seen = g.W.CountedWrite.seen in
+    let came : EmitsSteps {A = Unit {0}} seen (Ok tt) c.args.proof.now c.settle.new.proof (λ _ _. Unit {0}) = goes_then seen tt (Ok tt) c.args.proof.now c.turns.proof c.settle.new.proof _ _ _ c.turns.invariant.came c.in_ok-settle.ensures (λ xs ys y a b. tt) in
+    let p = err_from_is_err_and c.from_residual-in_err-found.result c.from_residual-in_err-found.ensures.1 in
+    rw (p.1, p.2) (goes_then_fails seen tt errors.OutOfMemory c.args.proof.now c.settle.new.proof c.settle.new.proof _ _ _ came (goes_starved seen c.settle.new.proof (λ (_ : Unit {0}) _. Unit {0}) came.keeps))
+
 pub turns-preserved : goal.turns-preserved
 turns-preserved g c =
+    let seen = g.W.CountedWrite.seen in
     let i = c.turns.invariant in
-    let t : Turned None (session_of c.turn.new.proof) c.turns.search c.turn.new.search = subst (λ f. Turned f (session_of c.turn.new.proof) c.turns.search c.turn.new.search) c.in-Ok-None.field-0-is c.in-Ok-None.ensures.ends in
+    let x = c.in_ok-propagated.ensures in
+    let s = session_of c.turns.proof in
+    let d : Search = record c.turns.search { parts = c.propagate_all.new.parts } in
+    let e : Search = record d { parts = c.make_decision.new.parts; assumptions = c.make_decision.new.assumptions; scratch = record d.scratch { units = c.settle.new.units } } in
+    let holds : HoldsBelow (length d.parts.trail.starts + 1) d.parts = rw c.in-Ok.is at x.holds in
+    let propagated : IsPropagated s d = propagated_whole s c.turns.search d i.search refl refl refl refl x.starts x.moved x.carries x.word x.keeps holds (rw c.in-Ok.is at x.done) x.units x.base in
+    let moved : Moved c.turns.search d = propagated_moved s c.turns.search d i.search refl refl refl refl x.starts x.moved x.carries x.word x.keeps in
+    let settles : EmitsSteps {A = Unit {0}} seen (Ok tt) c.turns.proof c.settle.new.proof (λ _ _. IsSettled d.parts c.settle.new.parts (session_of c.settle.new.proof) (global_of d.globals.items)) =
+    subst (λ gs. EmitsSteps {A = Unit {0}} seen (Ok tt) c.turns.proof c.settle.new.proof (λ _ _. IsSettled d.parts c.settle.new.parts (session_of c.settle.new.proof) (global_of gs))) c.deref.ensures.value c.in_ok-settle.ensures in
+    let t : Turned None (session_of c.settle.new.proof) c.turns.search e = turned seen c.turns.proof c.settle.new.proof c.turns.search d e c.settle.new.parts moved (x.word (assumed_in c.turns.search)) x.starts propagated settles refl refl refl None (rw c.in-None.is at c.in_ok-found.ensures) in
     record {
-      came = goes_then g.W.CountedWrite.seen tt (Ok tt) c.args.proof.now c.turns.proof c.turn.new.proof _ _ _ i.came (goes_on g.W.CountedWrite.seen c.in-Ok-None.field-0 tt c.turns.proof c.turn.new.proof _ (λ _ _. Unit {0}) (λ steps x. tt) c.in-Ok-None.ensures) (λ xs ys y a b. tt);
+      came = goes_then seen tt (Ok tt) c.args.proof.now c.turns.proof c.settle.new.proof _ _ _ i.came settles (λ xs ys y a b. tt);
       search = t.says.0;
-      moved = moved_trans c.args.search.now c.turns.search c.turn.new.search i.moved t.moved;
-      word = extends_after (assumed_in c.args.search.now) c.args.search.now.parts c.turns.search.parts c.turn.new.search.parts i.word (rw i.moved.lits at t.word);
+      moved = moved_trans c.args.search.now c.turns.search e i.moved t.moved;
+      word = extends_after (assumed_in c.args.search.now) c.args.search.now.parts c.turns.search.parts e.parts i.word (rw i.moved.lits at t.word);
     }
 
 pub turns-smaller : goal.turns-smaller
 turns-smaller g c =
-    let t : Turned None (session_of c.turn.new.proof) c.turns.search c.turn.new.search = subst (λ f. Turned f (session_of c.turn.new.proof) c.turns.search c.turn.new.search) c.in-Ok-None.field-0-is c.in-Ok-None.ensures.ends in
-    omega (arith, t.says.1, t.moved.size, starts_few c.turn.new.search.parts t.says.0.stands.holds)
-
-pub returns-in-Err : goal.returns-in-Err
-returns-in-Err g c = goes_then_fails g.W.CountedWrite.seen tt c.in-Err.error c.args.proof.now c.turns.proof c.turn.new.proof _ _ _ c.turns.invariant.came c.in-Err.ensures
-
-pub returns-in-Ok-Some : goal.returns-in-Ok-Some
-returns-in-Ok-Some g c =
+    let seen = g.W.CountedWrite.seen in
     let i = c.turns.invariant in
-    let t : Turned (Some c.in-Ok-Some.stop) (session_of c.turn.new.proof) c.turns.search c.turn.new.search = subst (λ f. Turned f (session_of c.turn.new.proof) c.turns.search c.turn.new.search) c.in-Ok-Some.field-0-is c.in-Ok-Some.ensures.ends in
-    goes_then g.W.CountedWrite.seen tt (Ok c.in-Ok-Some.stop) c.args.proof.now c.turns.proof c.turn.new.proof _ _ _ i.came
-    (goes_on g.W.CountedWrite.seen c.in-Ok-Some.field-0 c.in-Ok-Some.stop c.turns.proof c.turn.new.proof _ (λ stop _. Stopped stop (session_of c.turn.new.proof) c.args.search.now c.turn.new.search)
-    (λ steps x. stopped_from c.in-Ok-Some.stop (session_of c.turn.new.proof) c.args.search.now c.turns.search c.turn.new.search i.moved i.word t) c.in-Ok-Some.ensures)
-    (λ xs ys stop a b. b)
+    let x = c.in_ok-propagated.ensures in
+    let s = session_of c.turns.proof in
+    let d : Search = record c.turns.search { parts = c.propagate_all.new.parts } in
+    let e : Search = record d { parts = c.make_decision.new.parts; assumptions = c.make_decision.new.assumptions; scratch = record d.scratch { units = c.settle.new.units } } in
+    let holds : HoldsBelow (length d.parts.trail.starts + 1) d.parts = rw c.in-Ok.is at x.holds in
+    let propagated : IsPropagated s d = propagated_whole s c.turns.search d i.search refl refl refl refl x.starts x.moved x.carries x.word x.keeps holds (rw c.in-Ok.is at x.done) x.units x.base in
+    let moved : Moved c.turns.search d = propagated_moved s c.turns.search d i.search refl refl refl refl x.starts x.moved x.carries x.word x.keeps in
+    let settles : EmitsSteps {A = Unit {0}} seen (Ok tt) c.turns.proof c.settle.new.proof (λ _ _. IsSettled d.parts c.settle.new.parts (session_of c.settle.new.proof) (global_of d.globals.items)) =
+    subst (λ gs. EmitsSteps {A = Unit {0}} seen (Ok tt) c.turns.proof c.settle.new.proof (λ _ _. IsSettled d.parts c.settle.new.parts (session_of c.settle.new.proof) (global_of gs))) c.deref.ensures.value c.in_ok-settle.ensures in
+    let t : Turned None (session_of c.settle.new.proof) c.turns.search e = turned seen c.turns.proof c.settle.new.proof c.turns.search d e c.settle.new.parts moved (x.word (assumed_in c.turns.search)) x.starts propagated settles refl refl refl None (rw c.in-None.is at c.in_ok-found.ensures) in
+    omega (arith, t.says.1, t.moved.size, starts_few e.parts t.says.0.stands.holds)
+
+pub returns-in-Some : goal.returns-in-Some
+returns-in-Some g c =
+    let seen = g.W.CountedWrite.seen in
+    let i = c.turns.invariant in
+    let x = c.in_ok-propagated.ensures in
+    let s = session_of c.turns.proof in
+    let d : Search = record c.turns.search { parts = c.propagate_all.new.parts } in
+    let e : Search = record d { parts = c.make_decision.new.parts; assumptions = c.make_decision.new.assumptions; scratch = record d.scratch { units = c.settle.new.units } } in
+    let holds : HoldsBelow (length d.parts.trail.starts + 1) d.parts = rw c.in-Ok.is at x.holds in
+    let propagated : IsPropagated s d = propagated_whole s c.turns.search d i.search refl refl refl refl x.starts x.moved x.carries x.word x.keeps holds (rw c.in-Ok.is at x.done) x.units x.base in
+    let moved : Moved c.turns.search d = propagated_moved s c.turns.search d i.search refl refl refl refl x.starts x.moved x.carries x.word x.keeps in
+    let settles : EmitsSteps {A = Unit {0}} seen (Ok tt) c.turns.proof c.settle.new.proof (λ _ _. IsSettled d.parts c.settle.new.parts (session_of c.settle.new.proof) (global_of d.globals.items)) =
+    subst (λ gs. EmitsSteps {A = Unit {0}} seen (Ok tt) c.turns.proof c.settle.new.proof (λ _ _. IsSettled d.parts c.settle.new.parts (session_of c.settle.new.proof) (global_of gs))) c.deref.ensures.value c.in_ok-settle.ensures in
+    let t : Turned (Some c.in-Some.stop) (session_of c.settle.new.proof) c.turns.search e = turned seen c.turns.proof c.settle.new.proof c.turns.search d e c.settle.new.parts moved (x.word (assumed_in c.turns.search)) x.starts propagated settles refl refl refl (Some c.in-Some.stop) (rw c.in-Some.is at c.in_ok-found.ensures) in
+    let came : EmitsSteps {A = Unit {0}} seen (Ok tt) c.args.proof.now c.settle.new.proof (λ _ _. Unit {0}) = goes_then seen tt (Ok tt) c.args.proof.now c.turns.proof c.settle.new.proof _ _ _ i.came settles (λ xs ys y a b. tt) in
+    goes_on seen tt c.in-Some.stop c.args.proof.now c.settle.new.proof _ _
+    (λ steps _. stopped_from c.in-Some.stop (session_of c.settle.new.proof) c.args.search.now c.turns.search e i.moved i.word t) came

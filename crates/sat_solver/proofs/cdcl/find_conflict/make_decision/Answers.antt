@@ -6,7 +6,7 @@ use Rattle.sat_parts.specs.parts.Whole.{state}
 use Rattle.sat_parts.proofs.lemmas.parts.AssumeLemmas.{placed_kept}
 use Rattle.sat_parts.proofs.lemmas.parts.WordSteps.{extends_after}
 use Rattle.sat_solver.specs.cdcl.Turns.{AllTrue}
-use Rattle.sat_solver.proofs.cdcl.find_conflict.go_on.Goals as goal
+use Rattle.sat_solver.proofs.cdcl.find_conflict.make_decision.Goals as goal
 
 pub returns-then-branch : goal.returns-then-branch
 returns-then-branch c =
