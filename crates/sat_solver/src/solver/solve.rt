@@ -1,9 +1,6 @@
 //! Answers under assumptions.
-ghost use Rattle.std.specs.Prelude.{ℕ, ◌≡◌, ◌+◌, ◌-◌, ◌*◌, ◌^◌, ◌<◌, ◌≤◌, min, true, false, IsErrOf, OnOk};
-ghost use Rattle.sat_solver.specs.schedule.Solving.{values_in};
 ghost use Rattle.sat_solver.specs.solver.Whole.{IsSolver, IsWhole};
-ghost use Rattle.sat_solver.specs.proof.ProofView.{HasTold, target_of};
-ghost use Rattle.sat_solver.specs.solver.Calls.{Solves, IsFlushed, NotesAsk};
+ghost use Rattle.sat_solver.specs.solver.Calls.{Solves};
 ghost use Rattle.sat_solver.specs.solver.Settling.{Settles};
 
 use crate::SolverError;
@@ -16,7 +13,7 @@ use sat_checker::ProofProcessor;
 
 impl<W: CountedWrite + Drop, P: ProofProcessor> Solver<W, P> {
     /// Looks for an answer, where none is known.
-    fn settle(&mut self) -> Result<(), Fault>
+    fn find_where_unknown(&mut self) -> Result<(), Fault>
         requires whole { IsWhole self.old }
         ensures { Settles W.seen result self.old self.new }
     {
@@ -41,22 +38,6 @@ impl<W: CountedWrite + Drop, P: ProofProcessor> Solver<W, P> {
         }
     }
 
-    /// The same, from which on hashes are shortened, and flushes an open target.
-    fn settle_and_flush(&mut self) -> Result<(), Fault>
-        requires whole { IsWhole self.old }
-        ensures settles { Settles W.seen result self.old self.new }
-        ensures flushed { OnOk result (IsFlushed (target_of W.seen self.new.core.proof)) }
-        ensures told { OnOk result (HasTold self.new.core.proof) }
-        ensures asked { OnOk result (NotesAsk W.seen self.new.core.proof) }
-    {
-        self.core.proof.begin_ask();
-        self.settle()?;
-        match self.core.proof.flush() {
-            Ok(()) => Ok(()),
-            Err(error) => Err(proof_fault(error)),
-        }
-    }
-
     /// Whether the clauses and the assumptions can be satisfied. `Interrupted` where the rounds of this call are spent, as many as the
     /// parameters allow, or the count of all rounds is. With no clause and no assumptions accepted since an answer, this one is given
     /// again, without a round or a step. Before it answers, an open target is flushed, and the
@@ -70,8 +51,12 @@ impl<W: CountedWrite + Drop, P: ProofProcessor> Solver<W, P> {
             return Err(SolverError::HasFailed);
         }
         self.used = true;
-        if let Err(fault) = self.settle_and_flush() {
+        self.core.proof.begin_ask();
+        if let Err(fault) = self.find_where_unknown() {
             return Err(self.fail(fault));
+        }
+        if let Err(error) = self.core.proof.flush() {
+            return Err(self.fail(proof_fault(error)));
         }
         match self.state {
             State::Unknown => Err(SolverError::Interrupted),

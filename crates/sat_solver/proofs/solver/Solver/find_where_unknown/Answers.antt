@@ -5,7 +5,7 @@ use Rattle.sat_solver.specs.declared.state.State.{State}
 use Rattle.sat_solver.specs.declared.state.State.TheVariants as states
 use Rattle.sat_solver.specs.solver.Found.{Finds}
 use Rattle.sat_solver.proofs.lemmas.solver.SettlingLemmas.{rounds_on, settled_known, settled_some, settled_without}
-use Rattle.sat_solver.proofs.solver.Solver.settle.Goals as goal
+use Rattle.sat_solver.proofs.solver.Solver.find_where_unknown.Goals as goal
 
 pub returns-in-Sat : goal.returns-in-Sat
 returns-in-Sat g c = settled_known g.W.CountedWrite.seen c.args.self.now c.requires.whole (apart c.args.self.now.state c.in-Sat.is)
