@@ -1,7 +1,6 @@
 pub mod Climbing
 pub mod Counting
 pub mod Gaps
-pub mod Going
 pub mod Progress
 pub mod Ranks
 pub mod Rounds

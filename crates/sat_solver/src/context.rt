@@ -1,10 +1,13 @@
-//! What a search works with.
+//! What a search works with, and a solver.
 ghost use Rattle.std.specs.Prelude.{◌≡◌, []};
 ghost use Rattle.sat_solver.specs.session.Session.{nothing};
 ghost use Rattle.sat_solver.specs.cdcl.Joint.{IsSearch};
 
+use crate::SolverConfig;
 use crate::analyze_conflict::Analysis;
-use sat_base::{ClauseHash, Lit, Var};
+use crate::proof::Proof;
+use sat_base::{ClauseHash, CountedWrite, Lit, Var};
+use sat_checker::{Nobody, ProofProcessor};
 use sat_parts::parts::assumptions::Assumptions;
 use sat_parts::parts::no_parts;
 use sat_parts::{ClauseActivity, Parts};
@@ -33,6 +36,14 @@ pub struct Search {
     pub scratch: Scratch,
     /// The assumption that failed last.
     pub failed: Lit,
+}
+
+/// What a solver works with, beside its names.
+#[derive(Drop)]
+pub struct Core<W: CountedWrite + Drop, P: ProofProcessor = Nobody> {
+    pub proof: Proof<W, P>,
+    pub search: Search,
+    pub config: SolverConfig,
 }
 
 /// No variables, no clauses and no assumptions. Takes no memory.

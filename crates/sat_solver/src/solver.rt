@@ -26,11 +26,10 @@ pub mod solve;
 pub mod tell;
 
 use crate::SolverConfig;
-use crate::context::no_search;
+use crate::context::{Core, no_search};
 use crate::load::literals::Taken;
 use crate::proof::Proof;
 use crate::schedule::restarts::Restarts;
-use crate::schedule::solve::Core;
 use crate::solver::find::{Clock, Told};
 use crate::solver::load::Loading;
 use crate::state::State;

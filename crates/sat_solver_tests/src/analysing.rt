@@ -3,9 +3,8 @@
 use crate::searcher::{no_room, search};
 use sat_base::{Counted, Lit};
 use sat_solver::SolverConfig;
-use sat_solver::context::{Search, no_search};
+use sat_solver::context::{Core, Search, no_search};
 use sat_solver::proof::Proof;
-use sat_solver::schedule::solve::Core;
 use sat_solver::variables::Variables;
 use std::alloc::Global;
 

@@ -5,9 +5,10 @@ ghost use Rattle.sat_solver.specs.solver.Taking.{GoesOnOr};
 
 use sat_base::{CountedWrite, Lit};
 use sat_parts::parts::sorting::no_sorting;
+use sat_solver::context::Core;
 use sat_solver::load::literals::Taken;
+use sat_solver::schedule;
 use sat_solver::schedule::restarts::Restarts;
-use sat_solver::schedule::solve::{Core, solve};
 use sat_solver::solver::load::{Loading, take_clause};
 use sat_solver::variables::Variables;
 use sat_solver::variables::refuse::leftmost_witness;
@@ -98,7 +99,7 @@ fn answer<W: CountedWrite + Drop>(core: &mut Core<W>, names: &mut Variables) -> 
         count: 0,
     };
     let mut steps = 0;
-    match solve(core, names, &mut restarts, &mut steps, u64::MAX) {
+    match schedule::search(core, names, &mut restarts, &mut steps, u64::MAX) {
         Ok(found) => found.is_some(),
         Err(_) => false,
     }

@@ -14,7 +14,7 @@ use Rattle.sat_solver.specs.session.Quiet.{NeverAdvances, is_quiet}
 use Rattle.sat_solver.specs.declared.schedule.Outcome.{Outcome}
 use Rattle.sat_solver.specs.declared.schedule.Outcome.TheVariants as outcomes
 use Rattle.sat_solver.specs.declared.error.SolverError.{SolverError}
-use Rattle.sat_solver.specs.declared.schedule.solve.Core.{Core}
+use Rattle.sat_solver.specs.declared.context.Core.{Core}
 use Rattle.sat_solver.specs.declared.context.Search.{Search}
 use Rattle.sat_solver.specs.cdcl.Joint.{assumed_in, IsSearch, Moved}
 use Rattle.sat_solver.specs.cdcl.Ending.{RoundEnds}
@@ -74,6 +74,10 @@ pub record Gone {W L : Type 0} {G : Ghosts L} (seen : W → Writer) (a : Core W 
   pub moved : Moved a.search b.search
   pub config : b.config ≡ a.config
   pub times : AdvanceTimes (steps_of a.proof) steps k
+
+-- what had come there by so many rounds has come here by as many, with the same names
+abbrev pub GoesAlong : {W L : Type 0} {G : Ghosts L} → (W → Writer) → Core W L G → Core W L G → Type 0
+GoesAlong {W} {L} {G} seen b c = (a : Core W L G) (n m : Variables) (k : ℕ) → Gone seen a n k b m → Gone seen a n k c m
 
 abbrev pub EndSays : Outcome → Session → Variables → Search → Search → Type 0
 EndSays outcomes.Learned s m c c' = ⊥

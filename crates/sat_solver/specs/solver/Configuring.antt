@@ -6,7 +6,7 @@ use Rattle.sat_solver.specs.session.Session.{Session}
 use Rattle.sat_solver.specs.declared.config.SolverConfigUpdate.{SolverConfigUpdate}
 use Rattle.sat_solver.specs.declared.error.SolverError.{SolverError}
 use Rattle.sat_solver.specs.declared.error.SolverError.TheVariants as errors
-use Rattle.sat_solver.specs.declared.schedule.solve.Core.{Core}
+use Rattle.sat_solver.specs.declared.context.Core.{Core}
 use Rattle.sat_solver.specs.clause.Activity.{Bumped}
 use Rattle.sat_solver.specs.cdcl.Joint.{IsSearch}
 use Rattle.sat_solver.specs.declared.solver.Solver.{Solver}

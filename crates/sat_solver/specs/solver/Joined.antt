@@ -10,13 +10,17 @@ use Rattle.sat_solver.specs.variables.Calls.{NamesInvariant}
 use Rattle.sat_solver.specs.variables.Variables.{global_at, user_of}
 use Rattle.sat_solver.specs.declared.variables.Variables.{Variables}
 use Rattle.sat_solver.specs.declared.load.literals.Taken.{Taken}
-use Rattle.sat_solver.specs.declared.schedule.solve.Core.{Core}
+use Rattle.sat_solver.specs.declared.context.Core.{Core}
 
 -- names and search stand, over the same indices
 pub record IsJoined {W L : Type 0} {G : Ghosts L} (n : Variables) (c : Core W L G) : Type 0 where
   pub sound : IsCore c
   pub stands : NamesInvariant n (steps_of c.proof)
   pub shares : SharesIndices n c.search
+
+-- names that stand with the one stand with the other
+abbrev pub KeepsJoined : {W L : Type 0} {G : Ghosts L} → Core W L G → Core W L G → Type 0
+KeepsJoined b c = (n : Variables) → IsJoined n b → IsJoined n c
 
 -- these literals over names are the assumptions of the search and of the proof
 pub record AreAsked {W L : Type 0} {G : Ghosts L} (n : Variables) (c : Core W L G) (user : List ℕ) (t : Taken) : Type 0 where

@@ -21,7 +21,7 @@ use Rattle.sat_solver.specs.variables.Naming.{KeepsNames}
 use Rattle.sat_solver.specs.variables.Refusing.{names_in}
 use Rattle.sat_solver.specs.declared.variables.Variables.{Variables}
 use Rattle.sat_solver.specs.declared.load.literals.Taken.{Taken}
-use Rattle.sat_solver.specs.declared.schedule.solve.Core.{Core}
+use Rattle.sat_solver.specs.declared.context.Core.{Core}
 use Rattle.sat_solver.specs.solver.Joined.{IsJoined, AreAsked}
 
 -- names keep their literals of the search

@@ -17,7 +17,7 @@ use Rattle.sat_checker.specs.matching.Checking.{variable_of}
 use Rattle.sat_checker.specs.matching.Expected.{SameSet}
 use Rattle.sat_solver.specs.declared.variables.Variables.{Variables}
 use Rattle.sat_solver.specs.declared.load.literals.Taken.{Taken}
-use Rattle.sat_solver.specs.declared.schedule.solve.Core.{Core}
+use Rattle.sat_solver.specs.declared.context.Core.{Core}
 use Rattle.sat_solver.specs.declared.solver.Solver.{Solver}
 use Rattle.sat_solver.specs.declared.state.State.{State}
 use Rattle.sat_solver.specs.declared.state.State.TheVariants as states

@@ -7,7 +7,7 @@ ghost use Rattle.sat_solver.specs.solver.Configuring.{Configures, HandsOn};
 ghost use Rattle.sat_solver.specs.solver.Whole.{IsSolver};
 
 use crate::clause::activity::set_decays;
-use crate::schedule::solve::Core;
+use crate::context::Core;
 use crate::solver::Solver;
 use crate::state::State;
 use crate::{SolverConfigUpdate, SolverError};

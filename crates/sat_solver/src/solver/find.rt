@@ -7,9 +7,9 @@ ghost use Rattle.sat_solver.specs.solver.Answering.{BreaksOff};
 ghost use Rattle.sat_solver.specs.solver.Found.{FindsBy, ComesTo, Tells};
 
 use crate::cdcl::fault::Fault;
-use crate::schedule::Outcome;
+use crate::context::Core;
 use crate::schedule::restarts::Restarts;
-use crate::schedule::solve::{Core, solve};
+use crate::schedule::{Outcome, search};
 use crate::solver::tell::{fail_core, show_model};
 use crate::state::State;
 use crate::variables::Variables;
@@ -72,7 +72,7 @@ pub fn find_answer<W: CountedWrite + Drop, P: ProofProcessor>(
     ensures breaks { IfErr result (λ e. BreaksOff W.seen e core.old core.new) }
 {
     let max_steps = core.config.max_steps;
-    let found = solve(
+    let found = search(
         core,
         names,
         &mut clock.restarts,

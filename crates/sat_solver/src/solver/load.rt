@@ -10,12 +10,12 @@ ghost use Rattle.sat_solver.specs.solver.Taking.{TakesClause, TakesAssumptions};
 
 use crate::assumptions::set_assumptions;
 use crate::cdcl::fault::Fault;
+use crate::context::Core;
 use crate::load::assume::assume;
 use crate::load::clause::add_clause;
 use crate::load::faults::name_fault;
 use crate::load::literals::Taken;
 use crate::load::load_clause;
-use crate::schedule::solve::Core;
 use crate::variables::Variables;
 use crate::variables::initialize::new_indices;
 use sat_base::{CountedWrite, Lit};

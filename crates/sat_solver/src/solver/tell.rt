@@ -7,8 +7,8 @@ ghost use Rattle.sat_solver.specs.solver.Answering.{ShowsModel, FailsCore};
 
 use crate::assumptions::failed_core::tell_core;
 use crate::cdcl::fault::{Fault, proof_fault};
+use crate::context::Core;
 use crate::model::model_lits;
-use crate::schedule::solve::Core;
 use crate::variables::Variables;
 use sat_base::{CountedWrite, Lit, ProofStep, Var};
 use sat_checker::ProofProcessor;

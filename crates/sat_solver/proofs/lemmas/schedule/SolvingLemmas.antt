@@ -1,6 +1,5 @@
 -- Rounds, one after another.
 use Rattle.std.proofs.Common.{ℕ, ◌+◌, ◌<◌, ◌≤◌, ◌≡◌, ◌≢◌, ◌∙◌, Result, Ok, Err, List, [], ◌∷◌, ◌++◌, length, refl, sym, ap, subst, arith, append_assoc, inl, inr}
-use Rattle.std.specs.Prelude.{OnOk, IfOk, IfErr, MatchOption, Option, None, Some}
 use Rattle.sat_base.specs.device.Device.{Writer}
 use Rattle.sat_base.specs.steps.Steps.{Step}
 use Rattle.sat_checker.specs.declared.processing.ProofProcessor.{Ghosts}
@@ -23,25 +22,25 @@ use Rattle.sat_solver.specs.declared.schedule.Outcome.{Outcome}
 use Rattle.sat_solver.specs.declared.schedule.Outcome.TheVariants as outcomes
 use Rattle.sat_solver.specs.declared.error.SolverError.{SolverError}
 use Rattle.sat_solver.specs.declared.config.SolverConfig.{SolverConfig}
-use Rattle.sat_solver.specs.declared.schedule.solve.Core.{Core}
+use Rattle.sat_solver.specs.declared.context.Core.{Core}
 use Rattle.sat_solver.specs.variables.Calls.{NamesInvariant, DoesNothing}
 use Rattle.sat_solver.specs.declared.variables.Variables.{Variables}
 use Rattle.sat_solver.proofs.lemmas.variables.Doing.{does_none, does_both}
 use Rattle.sat_solver.specs.cdcl.Ending.{RoundShares, EndsRound}
-use Rattle.sat_solver.specs.solver.Joined.{IsJoined}
+use Rattle.sat_solver.specs.solver.Joined.{IsJoined, KeepsJoined}
 use Rattle.sat_solver.proofs.lemmas.solver.AnsweredLemmas.{joined_at}
+use Rattle.sat_solver.proofs.lemmas.solver.TellingLemmas.{shares_moved}
 use Rattle.sat_solver.specs.unit_simplify.Freed.{KeepsAsked}
 use Rattle.sat_solver.specs.unit_simplify.Passes.{Passes, FallsOr}
 use Rattle.sat_solver.proofs.lemmas.unit_simplify.FreedLemmas.{asked_refl, asked_trans}
 use Rattle.sat_solver.proofs.lemmas.unit_simplify.PassesLemmas.{passes_goes, falls_goes, falls_later, falls_or}
 use Rattle.sat_solver.specs.declared.context.Search.{Search}
 use Rattle.sat_parts.specs.parts.Full.{IsFull}
-use Rattle.sat_solver.specs.cdcl.Going.{EmitsSteps}
 use Rattle.sat_solver.specs.cdcl.Joint.{assumed_in, Moved, global_in, IsSearch}
 use Rattle.sat_solver.specs.cdcl.Learning.{LastAdvances}
-use Rattle.sat_solver.specs.clause.Reduced.{Reduced, Reduces}
+use Rattle.sat_solver.specs.clause.Reduced.{Reduced, Reduces, ReducesBy}
 use Rattle.sat_solver.specs.cdcl.Rounds.{RoundLearns, RoundSays}
-use Rattle.sat_solver.specs.schedule.Solving.{AdvanceTimes, StandsStill, words_in, values_in, Gone, EndSays, Ended, Broke, ReducedAt, RoundOf}
+use Rattle.sat_solver.specs.schedule.Solving.{AdvanceTimes, StandsStill, words_in, values_in, Gone, GoesAlong, EndSays, Ended, Broke}
 use Rattle.sat_solver.proofs.lemmas.cdcl.TurnLemmas.{moved_refl, moved_trans, ready_moved, free_moved, leaves_refl}
 use Rattle.sat_parts.specs.parts.Frame.{SameClauses, Carries}
 use Rattle.sat_solver.proofs.lemmas.fits.LearnedLemmas.{fits_undone}
@@ -92,19 +91,7 @@ search_undone s c p h holds same carries stay placed =
       ready = ready_moved s s c (record c { parts = p }) h.ready (leaves_refl s) moved (stay (assumed_in c)) placed (free_moved c (record c { parts = p }) h.ready.free moved refl refl);
     }
 
--- ANSWERS
-
-pub ok_map : {T E : Type 0} (r : Result T E) (P Q : T → Type 0) → ((x : T) → P x → Q x) → IfOk r P → IfOk r Q
-ok_map (Ok x) P Q f h = f x h
-ok_map (Err e) P Q f h = tt
-
-pub err_map : {T E : Type 0} (r : Result T E) (P Q : E → Type 0) → ((e : E) → P e → Q e) → IfErr r P → IfErr r Q
-err_map (Ok x) P Q f h = tt
-err_map (Err e) P Q f h = f e h
-
-pub some_map : {T : Type 0} (r : Option T) (P Q : T → Type 0) → ((x : T) → P x → Q x) → MatchOption r (Unit {0}) P → MatchOption r (Unit {0}) Q
-some_map None P Q f h = tt
-some_map (Some x) P Q f h = f x h
+-- ROUNDS, ONE AFTER ANOTHER
 
 module _ {W L : Type 0} {G : Ghosts L} (seen : W → Writer) where
   pub gone_none : (a : Core W L G) (n : Variables) → NamesInvariant n (steps_of a.proof) → Gone seen a n 0 a n
@@ -135,40 +122,60 @@ module _ {W L : Type 0} {G : Ghosts L} (seen : W → Writer) where
     falls : (e : SolverError) → FallsOr (IsFull b.search.parts) seen e a.proof b.proof → (s : Core W L G) (n : Variables) (k : ℕ) → Gone seen s n k a na → Broke seen s e b
     falls e f s n k gone = falls_later seen e s.proof a.proof b.proof (gone.steps, gone.adds) f
 
+  -- RESTARTS
+
+  -- decisions were undone, down to the levels of assumptions
+  module _ (a : Core W L G) (p : Parts) (holds : PartsInvariant p) (same : SameClauses a.search.parts p) (carries : Carries (state a.search.parts) (state p)) (stay : TrailWordStays a.search.parts p) (placed : ArePlaced a.search.assumptions (state p)) where
+    abbrev pub undone : Core W L G
+    undone = record a { search = record a.search { parts = p } }
+
+    pub undone_joined : KeepsJoined a undone
+    undone_joined n h = record {
+      sound = record {
+        keeps = h.sound.keeps;
+        search = search_undone (session_of a.proof) a.search p h.sound.search holds same carries stay placed;
+        locals = h.sound.locals;
+        mids = h.sound.mids;
+      };
+      stands = h.stands;
+      shares = shares_moved n a.search undone.search h.shares (record { globals = refl; lits = refl; size = carries.size });
+    }
+
+    pub undone_goes : GoesAlong seen a undone
+    undone_goes s n m k g = record {
+      steps = g.steps;
+      adds = g.adds;
+      does = g.does;
+      asked = g.asked;
+      moved = moved_trans s.search a.search undone.search g.moved (record { globals = refl; lits = refl; size = carries.size });
+      config = g.config;
+      times = g.times;
+    }
+
   -- REDUCTIONS
 
-  -- a reduction does what is due
-  pub reduced_at : (a b : Core W L G) (round : ℕ) (r : Result (Unit {0}) SolverError) → EmitsSteps seen r a.proof b.proof (λ _ _. Reduced (session_of b.proof) a.search b.search × Reduces a.config round a.search.parts b.search.parts) → OnOk r (ReducedAt a round b)
-  reduced_at a b round (Ok x) g = g.ends.1
-  reduced_at a b round (Err e) g = tt
-
-  module _ (a b : Core W L G) (n : Variables) (config : b.config ≡ a.config) (joined : IsJoined n a) where
+  module _ (a b : Core W L G) (n : Variables) (round : ℕ) (config : b.config ≡ a.config) (joined : IsJoined n a) where
     abbrev Reduction : Result (Unit {0}) SolverError → Type 0
-    Reduction r = EmitsSteps seen r a.proof b.proof (λ _ _. Reduced (session_of b.proof) a.search b.search)
+    Reduction r = ReducesBy (Reduces a.config round) seen r a.proof b.proof a.search b.search
 
-    pub reduced_sound : (r : Result (Unit {0}) SolverError) → Reduction r → OnOk r (IsJoined n b)
-    reduced_sound (Ok x) g = joined_at seen n a joined b g.steps g.went g.searched g.keeps g.ends.moved g.ends.search config
-    reduced_sound (Err e) g = tt
+    pub reduced_sound : (x : Unit {0}) → Reduction (Ok x) → IsJoined n b
+    reduced_sound x g = joined_at seen n a joined b g.steps g.went g.searched g.keeps g.ends.0.moved g.ends.0.search config
 
-    pub reduced_words : (r : Result (Unit {0}) SolverError) → Reduction r → OnOk r (Goes_up words_in a b)
-    reduced_words (Ok x) g = λ w h. (let y = g.ends.word.1 w h in (y.0, (rw g.ends.moved.lits y.1.0, y.1.1)))
-    reduced_words (Err e) g = tt
+    pub reduced_words : (x : Unit {0}) → Reduction (Ok x) → Goes_up words_in a b
+    reduced_words x g = λ w h. (let y = g.ends.0.word.1 w h in (y.0, (rw g.ends.0.moved.lits y.1.0, y.1.1)))
 
-    pub reduced_goes : (r : Result (Unit {0}) SolverError) → Reduction r → OnOk r ((s : Core W L G) (m : Variables) (k : ℕ) → Gone seen s m k a n → Gone seen s m k b n)
-    reduced_goes (Ok x) g = λ s m k gone.
-        (let p : Passes seen n n a.proof b.proof a.search b.search = passes_goes seen x n a.proof b.proof a.search b.search (λ _ _. Reduced (session_of b.proof) a.search b.search) joined.stands joined.shares g g.ends.search g.ends.moved g.ends.word in
-        gone_on a b n n config g.steps g.went p.does p.asked g.ends.moved s m k k gone (times_quiet (steps_of s.proof) gone.steps g.steps k (allowed s a b gone.steps g.steps gone.adds.history g.went.history g.keeps) g.quiet gone.times))
-    reduced_goes (Err e) g = tt
+    pub reduced_goes : (x : Unit {0}) → Reduction (Ok x) → (s : Core W L G) (m : Variables) (k : ℕ) → Gone seen s m k a n → Gone seen s m k b n
+    reduced_goes x g = λ s m k gone.
+        (let P : Unit {0} → List Step → Type 0 = λ _ _. Reduced (session_of b.proof) a.search b.search × Reduces a.config round a.search.parts b.search.parts in
+        let p : Passes seen n n a.proof b.proof a.search b.search = passes_goes seen x n a.proof b.proof a.search b.search P joined.stands joined.shares g g.ends.0.search g.ends.0.moved g.ends.0.word in
+        gone_on a b n n config g.steps g.went p.does p.asked g.ends.0.moved s m k k gone (times_quiet (steps_of s.proof) gone.steps g.steps k (allowed s a b gone.steps g.steps gone.adds.history g.went.history g.keeps) g.quiet gone.times))
 
-    pub reduced_fails : (r : Result (Unit {0}) SolverError) → Reduction r → IfErr r (λ e. (s : Core W L G) (m : Variables) (k : ℕ) → Gone seen s m k a n → Broke seen s e b)
-    reduced_fails (Ok x) g = tt
-    reduced_fails (Err e) g = λ s m k gone. falls a b n n config e (falls_or seen (IsFull b.search.parts) e a.proof b.proof (falls_goes seen e a.proof b.proof (λ _ _. Reduced (session_of b.proof) a.search b.search) g)) s m k gone
+    pub reduced_fails : (e : SolverError) → Reduction (Err e) → (s : Core W L G) (m : Variables) (k : ℕ) → Gone seen s m k a n → Broke seen s e b
+    reduced_fails e g = λ s m k gone.
+        (let P : Unit {0} → List Step → Type 0 = λ _ _. Reduced (session_of b.proof) a.search b.search × Reduces a.config round a.search.parts b.search.parts in
+        falls a b n n config e (falls_or seen (IsFull b.search.parts) e a.proof b.proof (falls_goes seen e a.proof b.proof P g)) s m k gone)
 
   -- ROUNDS
-
-  pub round_is : (a b : Core W L G) (na nb : Variables) (r : Result Outcome SolverError) → EndsRound seen r na nb a.proof b.proof a.search b.search → IfOk r (λ o. RoundOf seen a na o b nb)
-  round_is a b na nb (Ok o) g = g
-  round_is a b na nb (Err e) g = tt
 
   module _ (a b : Core W L G) (na nb : Variables) (config : b.config ≡ a.config) (joined : IsJoined na a) where
     abbrev Round : Result Outcome SolverError → Type 0
@@ -177,8 +184,8 @@ module _ {W L : Type 0} {G : Ghosts L} (seen : W → Writer) where
     learns : (o : Outcome) (steps : List Step) → o ≡ outcomes.Learned → RoundSays o (steps_of a.proof) steps (session_of b.proof) a.search b.search → RoundLearns (steps_of a.proof) steps (session_of b.proof) a.search b.search
     learns o steps e x = subst (λ z. RoundSays z (steps_of a.proof) steps (session_of b.proof) a.search b.search) e x
 
-    pub round_sound : (r : Result Outcome SolverError) → Round r → IfOk r (λ o. o ≡ outcomes.Learned → IsJoined nb b)
-    round_sound (Ok o) g = λ e. record {
+    pub round_sound : (o : Outcome) → Round (Ok o) → o ≡ outcomes.Learned → IsJoined nb b
+    round_sound o g = λ e. record {
       sound = record {
         keeps = g.keeps;
         search = (learns o g.steps e g.says).search;
@@ -188,26 +195,22 @@ module _ {W L : Type 0} {G : Ghosts L} (seen : W → Writer) where
       stands = g.does.stands;
       shares = subst (λ z. RoundShares z nb b.search) e g.shares;
     }
-    round_sound (Err e) g = tt
 
-    pub round_most : (r : Result Outcome SolverError) → Round r → IfOk r (λ o. o ≡ outcomes.Learned → values_in b ≡ values_in a)
-    round_most (Ok o) g = λ e. (learns o g.steps e g.says).moved.size
-    round_most (Err e) g = tt
+    pub round_most : (o : Outcome) → Round (Ok o) → o ≡ outcomes.Learned → values_in b ≡ values_in a
+    round_most o g = λ e. (learns o g.steps e g.says).moved.size
 
-    pub round_words : (r : Result Outcome SolverError) → Round r → IfOk r (λ o. o ≡ outcomes.Learned → Climbs words_in (values_in a) a b)
-    round_words (Ok o) g = λ e w h.
+    pub round_words : (o : Outcome) → Round (Ok o) → o ≡ outcomes.Learned → Climbs words_in (values_in a) a b
+    round_words o g = λ e w h.
         (let l : RoundLearns (steps_of a.proof) g.steps (session_of b.proof) a.search b.search = learns o g.steps e g.says in
         let y = l.rises.1 w h in
         let fits : length y.0 ≤ length b.search.parts.assignment.current = word_fits (assumed_in a.search) (state b.search.parts) b.search.parts.vsids y.0 l.search.stands.holds.below.asks.agrees y.1.0 in
         (y.0, (words_moved b.search.parts a.search b.search l.moved y.0 y.1.0, y.1.1, omega (arith, fits, l.moved.size))))
-    round_words (Err e) g = tt
 
-    pub round_goes : (r : Result Outcome SolverError) → Round r → IfOk r (λ o. o ≡ outcomes.Learned → (s : Core W L G) (n : Variables) (k : ℕ) → Gone seen s n k a na → Gone seen s n (k + 1) b nb)
-    round_goes (Ok o) g = λ e s n k gone.
+    pub round_goes : (o : Outcome) → Round (Ok o) → o ≡ outcomes.Learned → (s : Core W L G) (n : Variables) (k : ℕ) → Gone seen s n k a na → Gone seen s n (k + 1) b nb
+    round_goes o g = λ e s n k gone.
         (let l : RoundLearns (steps_of a.proof) g.steps (session_of b.proof) a.search b.search = learns o g.steps e g.says in
         gone_on a b na nb config g.steps g.adds g.does g.asked l.moved s n (k + 1) k gone
         (times_more (steps_of s.proof) gone.steps g.steps k (allowed s a b gone.steps g.steps gone.adds.history g.adds.history g.keeps) (subst (λ zs. LastAdvances zs g.steps) gone.adds.history l.last) gone.times))
-    round_goes (Err e) g = tt
 
     behind : (s : Core W L G) (steps before : List Step) → steps_of b.proof ≡ steps ++ steps_of a.proof → steps_of a.proof ≡ before ++ steps_of s.proof → steps_of b.proof ≡ (steps ++ before) ++ steps_of s.proof
     behind s steps before e f = e ∙ ap (λ ss. steps ++ ss) f ∙ sym (append_assoc steps before (steps_of s.proof))
@@ -233,8 +236,8 @@ module _ {W L : Type 0} {G : Ghosts L} (seen : W → Writer) where
     end_quiet outcomes.Unsat earlier steps n x = x.quiet
     end_quiet outcomes.Failed earlier steps n x = x.1
 
-    pub round_ends : (r : Result Outcome SolverError) → Round r → IfOk r (λ o. o ≢ outcomes.Learned → (s : Core W L G) (n : Variables) (k : ℕ) → Gone seen s n k a na → Ended seen s n k o b nb)
-    round_ends (Ok o) g = λ not s n k gone. record {
+    pub round_ends : (o : Outcome) → Round (Ok o) → o ≢ outcomes.Learned → (s : Core W L G) (n : Variables) (k : ℕ) → Gone seen s n k a na → Ended seen s n k o b nb
+    round_ends o g = λ not s n k gone. record {
       steps = g.steps ++ gone.steps;
       adds = gains_more seen gone.steps g.steps s.proof a.proof b.proof gone.adds g.adds;
       does = does_both n na nb (steps_of s.proof) (steps_of a.proof) (steps_of b.proof) (λ j. j) (λ j. j) (λ j. []) (λ j. []) gone.does g.does;
@@ -245,8 +248,6 @@ module _ {W L : Type 0} {G : Ghosts L} (seen : W → Writer) where
       says = end_says o (steps_of a.proof) g.steps (session_of b.proof) s.search not gone.moved g.says g.shares;
       times = times_quiet (steps_of s.proof) gone.steps g.steps k (allowed s a b gone.steps g.steps gone.adds.history g.adds.history g.keeps) (end_quiet o (steps_of a.proof) g.steps not g.says) gone.times;
     }
-    round_ends (Err e) g = tt
 
-    pub round_fails : (r : Result Outcome SolverError) → Round r → IfErr r (λ e. (s : Core W L G) (n : Variables) (k : ℕ) → Gone seen s n k a na → Broke seen s e b)
-    round_fails (Ok o) g = tt
-    round_fails (Err e) g = λ s n k gone. falls a b na nb config e g s n k gone
+    pub round_fails : (e : SolverError) → Round (Err e) → (s : Core W L G) (n : Variables) (k : ℕ) → Gone seen s n k a na → Broke seen s e b
+    round_fails e g = λ s n k gone. falls a b na nb config e g s n k gone

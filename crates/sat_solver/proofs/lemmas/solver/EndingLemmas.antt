@@ -12,7 +12,7 @@ use Rattle.sat_solver.specs.session.Session.{MayAll, session_after}
 use Rattle.sat_solver.specs.declared.proof.Proof.{Proof}
 use Rattle.sat_solver.specs.declared.variables.Variables.{Variables}
 use Rattle.sat_solver.specs.declared.load.literals.Taken.{Taken}
-use Rattle.sat_solver.specs.declared.schedule.solve.Core.{Core}
+use Rattle.sat_solver.specs.declared.context.Core.{Core}
 use Rattle.sat_solver.specs.cdcl.Joint.{IsSearch}
 use Rattle.sat_checker.specs.matching.Traces.{no_step, visible}
 use Rattle.sat_solver.specs.variables.Calls.{NamesInvariant, Agree, NamesRefineJudge}

@@ -44,7 +44,7 @@ use Rattle.sat_solver.specs.declared.state.State.TheVariants as states
 use Rattle.sat_solver.specs.solver.Naming.{IsAsked, IsKeptOrFalse, variable_value, name_value, IsNextName, Renamed, Observed, ChangesMode, NewFails, NamesFail}
 use Rattle.sat_solver.specs.solver.Taking.{IsNameFaultOr, BreaksNames}
 use Rattle.sat_solver.specs.cdcl.Going.{IsFault}
-use Rattle.sat_solver.specs.declared.schedule.solve.Core.{Core}
+use Rattle.sat_solver.specs.declared.context.Core.{Core}
 use Rattle.sat_solver.specs.solver.Whole.{IsWhole, IsWholeOf, StateSays, AskGoesOn, HasCore, steps_in, session_in}
 use Rattle.sat_solver.proofs.lemmas.variables.Giving.{alike_unseen}
 use Rattle.sat_solver.proofs.lemmas.variables.NextUnused.{lowest_unused}

@@ -26,7 +26,7 @@ use Rattle.sat_base.specs.script.Judge.{Judge}
 use Rattle.sat_solver.specs.schedule.Counting.{CountsOn, steps_left}
 use Rattle.sat_solver.proofs.lemmas.schedule.GapLemmas.{pow_pos, pow_mono}
 use Rattle.sat_solver.specs.declared.schedule.Outcome.TheVariants as outcomes
-use Rattle.sat_solver.specs.declared.schedule.solve.Core.{Core}
+use Rattle.sat_solver.specs.declared.context.Core.{Core}
 use Rattle.sat_solver.specs.declared.config.SolverConfig.{SolverConfig}
 use Rattle.sat_solver.specs.declared.context.Search.{Search}
 use Rattle.sat_solver.specs.assumptions.Core.{causes_hashes}

@@ -1,5 +1,5 @@
 -- A failed call tells its cause, which the proof no longer keeps then.
-use Rattle.std.proofs.Common.{◌≡◌, false, true, inl, inr, refl, Option, Result, Err, List, [], ◌∷◌}
+use Rattle.std.proofs.Common.{◌≡◌, false, true, inl, inr, refl, Err, List, [], ◌∷◌}
 use Rattle.sat_base.specs.device.Device.{Writer}
 use Rattle.sat_base.specs.steps.Steps.{Step, End}
 use Rattle.sat_checker.specs.declared.processing.ProofProcessor.{Ghosts}
@@ -15,9 +15,9 @@ use Rattle.sat_solver.specs.cdcl.Faults.{IsKept, NamesLoss}
 use Rattle.sat_solver.specs.cdcl.Going.{Went, fault_of}
 use Rattle.sat_solver.proofs.lemmas.cdcl.GoingLemmas.{complaint_kept}
 use Rattle.sat_solver.proofs.lemmas.session.ProofLemmas.{complains_now, gains_adds}
-use Rattle.sat_solver.specs.declared.schedule.solve.Core.{Core}
+use Rattle.sat_solver.specs.declared.context.Core.{Core}
 use Rattle.sat_solver.specs.declared.solver.Solver.{Solver}
-use Rattle.sat_solver.specs.solver.Answering.{Breaks, FlushFails}
+use Rattle.sat_solver.specs.solver.Answering.{FlushFails}
 use Rattle.sat_solver.specs.solver.Calls.{Ends, Solves}
 use Rattle.sat_solver.specs.solver.Failing.{failed_with}
 use Rattle.sat_solver.specs.solver.Proving.{ClosesProof}

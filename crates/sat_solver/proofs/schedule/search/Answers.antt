@@ -1,8 +1,13 @@
 use Rattle.std.proofs.Common.{ℕ, ◌+◌, ◌-◌, ◌≤◌, ◌≡◌, ◌∙◌, subst, refl, sym, arith}
 use Rattle.std.proofs.lemmas.Bool.{true≢false}
+use Rattle.std.proofs.lemmas.Result.{err_from_is_err_and}
+use Rattle.sat_parts.specs.parts.Words.{standing}
+use Rattle.sat_solver.specs.declared.context.Core.{Core}
 use Rattle.sat_solver.specs.schedule.Climbing.{Climbs}
 use Rattle.sat_solver.specs.schedule.Rounds.{no_round, one_more as one_more_round}
+use Rattle.sat_solver.specs.schedule.Solving.{words_in, values_in, Gone, Ended, RoundOf}
 use Rattle.sat_solver.proofs.lemmas.schedule.ProgressLemmas.{come_begins, come_climbs, come_keeps, few_rounds, none_left}
+use Rattle.sat_solver.proofs.lemmas.schedule.SolvingLemmas.{core_word, gone_none, reduced_sound, reduced_words, reduced_goes, reduced_fails, round_sound, round_most, round_words, round_goes, round_ends, round_fails}
 use Rattle.sat_solver.proofs.schedule.search.Goals as goal
 
 -- no count has gone on by itself
@@ -16,47 +21,79 @@ one_less : (A : ℕ → Type 0) (m n : ℕ) → n ≤ m → A (m - n) → A (m +
 one_less A m n le h = subst A (let e : m - n ≡ m + 1 - n - 1 = omega arith in e) h
 
 pub loop-steps-init : goal.loop-steps-init
-loop-steps-init g c = record {
-  sound = c.requires.1.1.1.0;
-  scale = c.requires.1.1.1.1.1;
-  same = refl;
-  most = refl;
-  before = omega arith;
-  within = omega (arith, c.saturating_add-end.ensures);
-  come = λ few. come_begins g.R.Rounds.words c.args.rounds.now (g.R.Rounds.most c.args.rounds.now) c.args.steps.now c.args.restarts.now.next c.args.restarts.now.sequence g.word c.requires.1.1.1.1.0 few;
-  goes = λ s m h. from_start (λ k. g.R.Rounds.goes s m k c.args.rounds.now c.args.names.now) c.args.steps.now h;
-  rounds = no_round;
+loop-steps-init g c =
+    let core = c.args.core.now in
+    record {
+      joined = c.requires.joined;
+      scale = c.requires.scale;
+      same = refl;
+      most = refl;
+      before = omega arith;
+      within = omega (arith, c.saturating_add-end.ensures);
+      come = λ few. come_begins words_in core (values_in core) c.args.steps.now c.args.restarts.now.next c.args.restarts.now.sequence (standing core.search.parts.trail) (core_word core) few;
+      goes = from_start (λ k. Gone g.W.CountedWrite.seen core c.args.names.now k core c.args.names.now) c.args.steps.now (gone_none g.W.CountedWrite.seen core c.args.names.now c.requires.joined.stands);
+      rounds = no_round;
+    }
+
+pub restart_where_due-requires : goal.restart_where_due-requires
+restart_where_due-requires g c = record {
+  core = c.loop-steps.invariant.joined.sound;
+  scale = c.loop-steps.invariant.scale;
+  counts = omega (arith, c.loop-steps-test.true, c.saturating_add-end.ensures);
 }
+
+pub reduce-requires : goal.reduce-requires
+reduce-requires g c =
+    let b = c.restart_where_due.ensures.joined c.loop-steps.names c.loop-steps.invariant.joined in
+    record { keeps = b.sound.keeps; search = b.sound.search; locals = b.sound.locals; mids = b.sound.mids }
+
+pub conflict_step-requires : goal.conflict_step-requires
+conflict_step-requires g c =
+    let b = c.restart_where_due.new.core in
+    let r : Core g.row.W.Denot g.row.P.Denot g.P.ProofProcessor = record b { proof = c.reduce.new.proof; search = c.reduce.new.search } in
+    let restarted = c.restart_where_due.ensures.joined c.loop-steps.names c.loop-steps.invariant.joined in
+    let reduced = reduced_sound g.W.CountedWrite.seen b r c.loop-steps.names c.loop-steps.steps refl restarted tt c.in_ok-reduce.ensures in
+    record { together = record { keeps = reduced.sound.keeps; stands = reduced.stands; search = reduced.sound.search; shares = reduced.shares } }
 
 pub loop-steps-preserved : goal.loop-steps-preserved
 loop-steps-preserved g c =
-    let n : ℕ = g.R.Rounds.most c.args.rounds.now in
+    let seen = g.W.CountedWrite.seen in
+    let i = c.loop-steps.invariant in
+    let n : ℕ = values_in c.args.core.now in
+    let b = c.restart_where_due.new.core in
+    let r : Core g.row.W.Denot g.row.P.Denot g.P.ProofProcessor = record b { proof = c.reduce.new.proof; search = c.reduce.new.search } in
+    let d : Core g.row.W.Denot g.row.P.Denot g.P.ProofProcessor = record b { proof = c.conflict_step.new.proof; search = c.conflict_step.new.search } in
     let learned = c.if-not-is_learned.ensures.0 refl in
-    let due = c.restart_where_due.ensures.most ∙ c.loop-steps.invariant.most in
-    let reduced = c.in_ok-reduce.ensures.most ∙ due in
-    let most = c.in_ok-outcome.ensures.most learned ∙ reduced in
+    let restarted = c.restart_where_due.ensures.joined c.loop-steps.names i.joined in
+    let sound = reduced_sound seen b r c.loop-steps.names c.loop-steps.steps refl restarted tt c.in_ok-reduce.ensures in
+    let most : values_in r ≡ n = c.in_ok-reduce.ensures.ends.0.moved.size ∙ c.restart_where_due.ensures.most ∙ i.most in
+    let rounded = c.in_ok-outcome.ensures in
+    let out = c.in_ok-outcome.outcome in
+    let names = c.conflict_step.new.names in
     record {
-      sound = c.in_ok-outcome.ensures.sound learned;
-      scale = omega (arith, c.restart_where_due.ensures.scale, c.loop-steps.invariant.scale);
-      same = c.restart_where_due.ensures.scale ∙ c.loop-steps.invariant.same;
-      most = most;
-      before = omega (arith, c.loop-steps.invariant.before);
+      joined = round_sound seen r d c.loop-steps.names names refl sound out rounded learned;
+      scale = omega (arith, c.restart_where_due.ensures.scale, i.scale);
+      same = c.restart_where_due.ensures.scale ∙ i.same;
+      most = round_most seen r d c.loop-steps.names names refl sound out rounded learned ∙ most;
+      before = omega (arith, i.before);
       within = omega (arith, c.loop-steps-test.true);
       come = λ few.
-          come_climbs g.R.Rounds.words c.reduce.new.self c.round.new.self n c.args.steps.now c.loop-steps.steps c.restart_where_due.new.restarts.next c.restart_where_due.new.restarts.sequence
-          (subst (λ m. Climbs g.R.Rounds.words m c.reduce.new.self c.round.new.self) reduced (c.in_ok-outcome.ensures.words learned))
-          (come_keeps g.R.Rounds.words c.restart_where_due.new.rounds c.reduce.new.self n c.args.steps.now c.loop-steps.steps c.restart_where_due.new.restarts.next c.restart_where_due.new.restarts.sequence
-          c.in_ok-reduce.ensures.words (c.restart_where_due.ensures.come n c.args.steps.now (c.loop-steps.invariant.come few)));
-      goes = λ s m h.
-          one_more (λ k. g.R.Rounds.goes s m k c.round.new.self c.round.new.names) c.loop-steps.steps c.args.steps.now c.loop-steps.invariant.before
-          (c.in_ok-outcome.ensures.goes learned s m (c.loop-steps.steps - c.args.steps.now)
-          (c.in_ok-reduce.ensures.goes s m (c.loop-steps.steps - c.args.steps.now) (c.restart_where_due.ensures.goes s m (c.loop-steps.steps - c.args.steps.now) (c.loop-steps.invariant.goes s m h))));
-      rounds = one_more_round c.loop-steps.invariant.rounds (record {
-        behind_restart = c.restart_where_due.new.rounds;
+          come_climbs words_in r d n c.args.steps.now c.loop-steps.steps c.restart_where_due.new.restarts.next c.restart_where_due.new.restarts.sequence
+          (subst (λ m. Climbs words_in m r d) most (round_words seen r d c.loop-steps.names names refl sound out rounded learned))
+          (come_keeps words_in b r n c.args.steps.now c.loop-steps.steps c.restart_where_due.new.restarts.next c.restart_where_due.new.restarts.sequence
+          (reduced_words seen b r c.loop-steps.names c.loop-steps.steps refl restarted tt c.in_ok-reduce.ensures)
+          (c.restart_where_due.ensures.come n c.args.steps.now (i.come few)));
+      goes =
+          one_more (λ k. Gone seen c.args.core.now c.args.names.now k d names) c.loop-steps.steps c.args.steps.now i.before
+          (round_goes seen r d c.loop-steps.names names refl sound out rounded learned c.args.core.now c.args.names.now (c.loop-steps.steps - c.args.steps.now)
+          (reduced_goes seen b r c.loop-steps.names c.loop-steps.steps refl restarted tt c.in_ok-reduce.ensures c.args.core.now c.args.names.now (c.loop-steps.steps - c.args.steps.now)
+          (c.restart_where_due.ensures.goes c.args.core.now c.args.names.now c.loop-steps.names (c.loop-steps.steps - c.args.steps.now) i.goes)));
+      rounds = one_more_round i.rounds (record {
+        behind_restart = b;
         due = c.restart_where_due.ensures.due;
-        behind_reduction = c.reduce.new.self;
-        reduction = c.in_ok-reduce.ensures.reduces;
-        ends = subst (λ o. g.R.Rounds.rounded c.reduce.new.self c.loop-steps.names o c.round.new.self c.round.new.names) learned c.in_ok-outcome.ensures.rounded;
+        behind_reduction = r;
+        reduction = c.in_ok-reduce.ensures.ends.1;
+        ends = subst (λ o. RoundOf seen r c.loop-steps.names o d names) learned rounded;
       });
     }
 
@@ -64,7 +101,7 @@ pub returns-then-not-is_learned-clause-counts : goal.returns-then-not-is_learned
 returns-then-not-is_learned-clause-counts g c = record {
   more = omega (arith, c.loop-steps.invariant.before);
   within = omega (arith, c.loop-steps-test.true, c.saturating_add-end.ensures);
-  few = few_rounds g.R.Rounds.words c.loop-steps.rounds (g.R.Rounds.most c.args.rounds.now) c.args.steps.now c.loop-steps.steps c.loop-steps.restarts.next c.loop-steps.restarts.sequence
+  few = few_rounds words_in c.loop-steps.core (values_in c.args.core.now) c.args.steps.now c.loop-steps.steps c.loop-steps.restarts.next c.loop-steps.restarts.sequence
       (omega (arith, c.loop-steps-test.true, c.saturating_add-end.ensures)) c.loop-steps.invariant.come;
 }
 
@@ -72,32 +109,41 @@ pub returns-then-not-is_learned-clause-round : goal.returns-then-not-is_learned-
 returns-then-not-is_learned-clause-round g c = λ k. omega (arith, c.loop-steps.invariant.before)
 
 pub returns-then-not-is_learned-clause-ends : goal.returns-then-not-is_learned-clause-ends
-returns-then-not-is_learned-clause-ends g c = λ s m h.
-    (let n : ℕ = c.loop-steps.steps - c.args.steps.now in
-    one_less (λ k. g.R.Rounds.ends s m k c.in_ok-outcome.outcome c.round.new.self c.round.new.names) c.loop-steps.steps c.args.steps.now c.loop-steps.invariant.before
-    (c.in_ok-outcome.ensures.ends (λ e. true≢false (sym (c.if-not-is_learned.ensures.1 e))) s m n
-    (c.in_ok-reduce.ensures.goes s m n (c.restart_where_due.ensures.goes s m n (c.loop-steps.invariant.goes s m h)))))
+returns-then-not-is_learned-clause-ends g c =
+    let seen = g.W.CountedWrite.seen in
+    let i = c.loop-steps.invariant in
+    let k : ℕ = c.loop-steps.steps - c.args.steps.now in
+    let b = c.restart_where_due.new.core in
+    let r : Core g.row.W.Denot g.row.P.Denot g.P.ProofProcessor = record b { proof = c.reduce.new.proof; search = c.reduce.new.search } in
+    let d : Core g.row.W.Denot g.row.P.Denot g.P.ProofProcessor = record b { proof = c.conflict_step.new.proof; search = c.conflict_step.new.search } in
+    let restarted = c.restart_where_due.ensures.joined c.loop-steps.names i.joined in
+    let sound = reduced_sound seen b r c.loop-steps.names c.loop-steps.steps refl restarted tt c.in_ok-reduce.ensures in
+    one_less (λ k. Ended seen c.args.core.now c.args.names.now k c.in_ok-outcome.outcome d c.conflict_step.new.names) c.loop-steps.steps c.args.steps.now i.before
+    (round_ends seen r d c.loop-steps.names c.conflict_step.new.names refl sound c.in_ok-outcome.outcome c.in_ok-outcome.ensures (λ e. true≢false (sym (c.if-not-is_learned.ensures.1 e))) c.args.core.now c.args.names.now k
+    (reduced_goes seen b r c.loop-steps.names c.loop-steps.steps refl restarted tt c.in_ok-reduce.ensures c.args.core.now c.args.names.now k
+    (c.restart_where_due.ensures.goes c.args.core.now c.args.names.now c.loop-steps.names k i.goes)))
 
 pub returns-then-not-is_learned-clause-rounds : goal.returns-then-not-is_learned-clause-rounds
-returns-then-not-is_learned-clause-rounds g c = (
-  c.loop-steps.rounds,
-  c.loop-steps.names,
-  c.loop-steps.restarts,
-  c.loop-steps.steps,
-  refl,
-  c.loop-steps.invariant.rounds,
-  record {
-    behind_restart = c.restart_where_due.new.rounds;
-    due = c.restart_where_due.ensures.due;
-    behind_reduction = c.reduce.new.self;
-    reduction = c.in_ok-reduce.ensures.reduces;
-    ends = c.in_ok-outcome.ensures.rounded;
-  },
-)
+returns-then-not-is_learned-clause-rounds g c =
+    let b = c.restart_where_due.new.core in (
+      c.loop-steps.core,
+      c.loop-steps.names,
+      c.loop-steps.restarts,
+      c.loop-steps.steps,
+      refl,
+      c.loop-steps.invariant.rounds,
+      record {
+        behind_restart = b;
+        due = c.restart_where_due.ensures.due;
+        behind_reduction = record b { proof = c.reduce.new.proof; search = c.reduce.new.search };
+        reduction = c.in_ok-reduce.ensures.ends.1;
+        ends = c.in_ok-outcome.ensures;
+      },
+    )
 
 pub returns : goal.returns
 returns g c =
-    let few = few_rounds g.R.Rounds.words c.loop-steps.rounds (g.R.Rounds.most c.args.rounds.now) c.args.steps.now c.loop-steps.steps c.loop-steps.restarts.next c.loop-steps.restarts.sequence
+    let few = few_rounds words_in c.loop-steps.core (values_in c.args.core.now) c.args.steps.now c.loop-steps.steps c.loop-steps.restarts.next c.loop-steps.restarts.sequence
     (omega (arith, c.loop-steps.invariant.within, c.saturating_add-end.ensures)) c.loop-steps.invariant.come in
     record {
       scale = c.loop-steps.invariant.same;
@@ -108,9 +154,9 @@ returns g c =
       };
       round = λ k. absurd (k refl);
       interrupted = λ e. omega (arith, c.loop-steps-test.false, c.saturating_add-end.ensures, c.loop-steps.invariant.within);
-      answered = λ n le left e. none_left n (g.R.Rounds.most c.args.rounds.now) c.args.steps.now c.loop-steps.steps c.args.max_steps le (omega (arith, few)) c.loop-steps.invariant.before left
+      answered = λ n le left e. none_left n (values_in c.args.core.now) c.args.steps.now c.loop-steps.steps c.args.max_steps le (omega (arith, few)) c.loop-steps.invariant.before left
           (omega (arith, c.loop-steps-test.false, c.saturating_add-end.ensures));
-      goes = λ e. (c.loop-steps.invariant.sound, c.loop-steps.invariant.most, λ s m h. c.loop-steps.invariant.goes s m h);
+      goes = λ e. record { joined = c.loop-steps.invariant.joined; gone = c.loop-steps.invariant.goes };
       ends = tt;
       rounds = c.loop-steps.invariant.rounds;
       fails = tt;
@@ -118,7 +164,7 @@ returns g c =
 
 pub returns-in_err-reduce-clause-counts : goal.returns-in_err-reduce-clause-counts
 returns-in_err-reduce-clause-counts g c =
-    let few = few_rounds g.R.Rounds.words c.loop-steps.rounds (g.R.Rounds.most c.args.rounds.now) c.args.steps.now c.loop-steps.steps c.loop-steps.restarts.next c.loop-steps.restarts.sequence
+    let few = few_rounds words_in c.loop-steps.core (values_in c.args.core.now) c.args.steps.now c.loop-steps.steps c.loop-steps.restarts.next c.loop-steps.restarts.sequence
     (omega (arith, c.loop-steps-test.true, c.saturating_add-end.ensures)) c.loop-steps.invariant.come in
     record {
       more = c.loop-steps.invariant.before;
@@ -126,12 +172,38 @@ returns-in_err-reduce-clause-counts g c =
       few = omega (arith, few);
     }
 
+pub returns-in_err-reduce-clause-fails : goal.returns-in_err-reduce-clause-fails
+returns-in_err-reduce-clause-fails g c =
+    let seen = g.W.CountedWrite.seen in
+    let i = c.loop-steps.invariant in
+    let k : ℕ = c.loop-steps.steps - c.args.steps.now in
+    let b = c.restart_where_due.new.core in
+    let r : Core g.row.W.Denot g.row.P.Denot g.P.ProofProcessor = record b { proof = c.reduce.new.proof; search = c.reduce.new.search } in
+    let p = err_from_is_err_and c.from_residual.result c.from_residual.ensures.1 in
+    rw (p.1, p.2) (reduced_fails seen b r c.loop-steps.names c.loop-steps.steps refl (c.restart_where_due.ensures.joined c.loop-steps.names i.joined) _ c.in_err-reduce.ensures c.args.core.now c.args.names.now k
+    (c.restart_where_due.ensures.goes c.args.core.now c.args.names.now c.loop-steps.names k i.goes))
+
 pub returns-in_err-outcome-clause-counts : goal.returns-in_err-outcome-clause-counts
 returns-in_err-outcome-clause-counts g c =
-    let few = few_rounds g.R.Rounds.words c.loop-steps.rounds (g.R.Rounds.most c.args.rounds.now) c.args.steps.now c.loop-steps.steps c.loop-steps.restarts.next c.loop-steps.restarts.sequence
+    let few = few_rounds words_in c.loop-steps.core (values_in c.args.core.now) c.args.steps.now c.loop-steps.steps c.loop-steps.restarts.next c.loop-steps.restarts.sequence
     (omega (arith, c.loop-steps-test.true, c.saturating_add-end.ensures)) c.loop-steps.invariant.come in
     record {
       more = c.loop-steps.invariant.before;
       within = omega (arith, c.loop-steps-test.true, c.saturating_add-end.ensures);
       few = omega (arith, few);
     }
+
+pub returns-in_err-outcome-clause-fails : goal.returns-in_err-outcome-clause-fails
+returns-in_err-outcome-clause-fails g c =
+    let seen = g.W.CountedWrite.seen in
+    let i = c.loop-steps.invariant in
+    let k : ℕ = c.loop-steps.steps - c.args.steps.now in
+    let b = c.restart_where_due.new.core in
+    let r : Core g.row.W.Denot g.row.P.Denot g.P.ProofProcessor = record b { proof = c.reduce.new.proof; search = c.reduce.new.search } in
+    let d : Core g.row.W.Denot g.row.P.Denot g.P.ProofProcessor = record b { proof = c.conflict_step.new.proof; search = c.conflict_step.new.search } in
+    let restarted = c.restart_where_due.ensures.joined c.loop-steps.names i.joined in
+    let sound = reduced_sound seen b r c.loop-steps.names c.loop-steps.steps refl restarted tt c.in_ok-reduce.ensures in
+    let p = err_from_is_err_and c.from_residual-in_err-outcome.result c.from_residual-in_err-outcome.ensures.1 in
+    rw (p.1, p.2) (round_fails seen r d c.loop-steps.names c.conflict_step.new.names refl sound _ c.in_err-outcome.ensures c.args.core.now c.args.names.now k
+    (reduced_goes seen b r c.loop-steps.names c.loop-steps.steps refl restarted tt c.in_ok-reduce.ensures c.args.core.now c.args.names.now k
+    (c.restart_where_due.ensures.goes c.args.core.now c.args.names.now c.loop-steps.names k i.goes)))
