@@ -26,12 +26,12 @@ chain links (suc n) at = if at == nowhere then [] else pair_at links at ∷ chai
 abbrev pub rest : List Link → ℕ → List Pair
 rest links at = chain links (length links) at
 
--- the links lead from a place over these pairs to the end
+-- this pair stands at the place
 pub record IsAt (links : List Link) (at : ℕ) (p : Pair) : Type 0 where
   pub inside : at < length links
   pub is : p ≡ pair_at links at
 
--- from a place over these pairs, and then to no place
+-- the links lead from a place over these pairs, and then to no place
 abbrev pub Leads : List Link → ℕ → List Pair → Type 0
 Leads links at [] = at ≡ nowhere
 Leads links at (p ∷ ps) = IsAt links at p × Leads links (link_at links at).next ps

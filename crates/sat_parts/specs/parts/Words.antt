@@ -63,7 +63,7 @@ Words assumed p w = IsWord assumed (state p) p.vsids w
 abbrev pub TrailWordExtendsFor : List ℕ → Parts → Parts → Type 0
 TrailWordExtendsFor assumed p p' = WordExtends assumed (state p) p.vsids (state p') p'.vsids
 
--- the same whatever is assumed
+-- whatever is assumed, what is gone or idle stays so
 abbrev pub TrailWordStays : Parts → Parts → Type 0
 TrailWordStays p p' = (assumed : List ℕ) → GoesOn assumed (state p) p.vsids (state p') p'.vsids
 
