@@ -96,9 +96,11 @@ module _ {L : Type 0} (Hears : L → Told → Result Unit ProcessingError → L 
     pub fails : Fails new steps
     pub heard : HearsSinceUpTo Hears e before told begun new.listeners
 
-  -- to what waited, or to what an accepted step tells, which is among the accepted ones then
+  -- to a pending unit conflict, or to what an accepted step tells, which is among the accepted ones then
   abbrev pub BreaksAt : ProcessingError → Seen L → Step → List Step → Type 0
-  BreaksAt e new step steps = Breaks e (all_told_after steps) new steps ⊎ (Accepts (ready_after steps) step × Breaks e (told_after (step ∷ steps)) new (step ∷ steps))
+  BreaksAt e new step steps =
+      (kernels.LeavesConflict steps × Breaks e (all_told_after steps) new steps)
+      ⊎ (Accepts (ready_after steps) step × Breaks e (told_after (step ∷ steps)) new (step ∷ steps))
 
   -- There was no memory for the step, behind what is judged of it before, or as something was told.
   abbrev pub StarvesAt : Seen L → Step → List Step → Type 0
@@ -126,9 +128,10 @@ module _ {L : Type 0} (Hears : L → Told → Result Unit ProcessingError → L 
   abbrev pub AnswersDelayed : Result Unit CheckerError → Seen L → Seen L → List Step → Type 0
   AnswersDelayed (Ok x) old new steps = (has_failed old ≡ false) × (looks_of new ≡ looks_of old) × Stands new steps × (has_failed new ≡ false) × IsSettled new
   AnswersDelayed (Err errors.CounterEnd) old new steps = (has_failed old ≡ false) × (looks_of new ≡ looks_of old) × IsSpent (ready_after steps) × Stops new steps
-  AnswersDelayed (Err errors.OutOfMemory) old new steps = (has_failed old ≡ false) × (looks_of new ≡ looks_of old) × Breaks faults.OutOfMemory (all_told_after steps) new steps
+  AnswersDelayed (Err errors.OutOfMemory) old new steps =
+      (has_failed old ≡ false) × (looks_of new ≡ looks_of old) × kernels.LeavesConflict steps × Breaks faults.OutOfMemory (all_told_after steps) new steps
   AnswersDelayed (Err (errors.ProofProcessorError cause)) old new steps =
-      (has_failed old ≡ false) × (looks_of new ≡ looks_of old) × Breaks (faults.ProofProcessorError cause) (all_told_after steps) new steps
+      (has_failed old ≡ false) × (looks_of new ≡ looks_of old) × kernels.LeavesConflict steps × Breaks (faults.ProofProcessorError cause) (all_told_after steps) new steps
   AnswersDelayed (Err errors.HasFailed) old new steps = (has_failed old ≡ true) × (new ≡ old)
   AnswersDelayed (Err errors.CheckFailed) old new steps = ⊥
   AnswersDelayed (Err errors.ProofIncomplete) old new steps = ⊥

@@ -71,8 +71,9 @@ AnswersStep (Err errors.HasFailed) old step new steps = (has_failed old ≡ true
 AnswersStep (Err errors.ProofIncomplete) old step new steps = ⊥
 AnswersStep (Err errors.IoError) old step new steps = ⊥
 AnswersStep (Err errors.ParseError) old step new steps = ⊥
--- one of those who listen answered a fault, to what waited or to the step
-AnswersStep (Err (errors.ProofProcessorError cause)) old step new steps = (has_failed old ≡ false) × (Fails new steps ⊎ (Accepts (ready_after steps) step × Fails new (step ∷ steps)))
+-- one of those who listen answered a fault, to a pending conflict or to the step
+AnswersStep (Err (errors.ProofProcessorError cause)) old step new steps =
+    (has_failed old ≡ false) × ((LeavesConflict steps × Fails new steps) ⊎ (Accepts (ready_after steps) step × Fails new (step ∷ steps)))
 
 -- the answer to a step means so, whatever steps were accepted before
 abbrev pub ChecksStep : Result Unit CheckerError → Kernel → Step → Kernel → Type 0
@@ -90,7 +91,7 @@ AnswersDelayed (Err errors.HasFailed) old new steps = (has_failed old ≡ true) 
 AnswersDelayed (Err errors.CheckFailed) old new steps = ⊥
 -- as it is told
 AnswersDelayed (Err errors.OutOfMemory) old new steps = (has_failed old ≡ false) × (looks_of new ≡ looks_of old) × LeavesConflict steps × Fails new steps
-AnswersDelayed (Err (errors.ProofProcessorError cause)) old new steps = (has_failed old ≡ false) × (looks_of new ≡ looks_of old) × Fails new steps
+AnswersDelayed (Err (errors.ProofProcessorError cause)) old new steps = (has_failed old ≡ false) × (looks_of new ≡ looks_of old) × LeavesConflict steps × Fails new steps
 AnswersDelayed (Err errors.ProofIncomplete) old new steps = ⊥
 AnswersDelayed (Err errors.IoError) old new steps = ⊥
 AnswersDelayed (Err errors.ParseError) old new steps = ⊥

@@ -62,8 +62,8 @@ module _ {W P T : Type 0} (seen : W → Writer) (Takes : P → Told → Result U
   broken_at : (f : ProcessingError) (new : Checker) (step : Step) (steps : List Step) → BreaksAt Hears [] begun f new step steps → BrokenBy f new step steps
   broken_at f new step steps b = elim b [
     | inl h ↦
-        let k = since_broken seen Takes Reads f _ begun new.listeners well none h.heard in
-        (k.0, k.1, h.fails.stands.kernel.accepted, inl (broken_all (outlet seen begun.own).sink (outlet seen new.listeners.own).sink steps k.2))
+        let k = since_broken seen Takes Reads f _ begun new.listeners well none h.1.heard in
+        (k.0, k.1, h.1.fails.stands.kernel.accepted, inl (broken_all (outlet seen begun.own).sink (outlet seen new.listeners.own).sink steps k.2))
     | inr h ↦
         let k = since_broken seen Takes Reads f _ begun new.listeners well none h.1.heard in
         (k.0, k.1, h.1.fails.stands.kernel.accepted.0, inr (h.0, broken_told (outlet seen begun.own).sink (outlet seen new.listeners.own).sink (step ∷ steps) k.2))

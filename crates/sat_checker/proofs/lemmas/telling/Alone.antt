@@ -70,7 +70,7 @@ module _ {V L : Type 0} (Hears : L → Told → Result Unit ProcessingError → 
     breaks_down e ts c steps f = record { fails = fails_down c steps f.fails; heard = since_down_to e before ts (hearers nobody begun) c.listeners f.heard }
 
     breaks_at_down : (e : ProcessingError) (c : Seen (Hearers V L)) (step : Step) (steps : List Step) → BreaksAt (HearsFirst takes_all Hears) before (hearers nobody begun) e c step steps → BreaksAt Hears before begun e (others_of c) step steps
-    breaks_at_down e c step steps f = elim f [ inl b ↦ inl (breaks_down e _ c steps b) | inr b ↦ inr (b.0, breaks_down e _ c (step ∷ steps) b.1) ]
+    breaks_at_down e c step steps f = elim f [ inl b ↦ inl (b.0, breaks_down e _ c steps b.1) | inr b ↦ inr (b.0, breaks_down e _ c (step ∷ steps) b.1) ]
 
     starves_down : (c : Seen (Hearers V L)) (step : Step) (steps : List Step) → StarvesAt (HearsFirst takes_all Hears) before (hearers nobody begun) c step steps → StarvesAt Hears before begun (others_of c) step steps
     starves_down c step steps f = elim f [ inl h ↦ inl (h.0, stops_down c steps h.1) | inr h ↦ inr (breaks_at_down _ c step steps h) ]
@@ -93,8 +93,8 @@ module _ {V L : Type 0} (Hears : L → Told → Result Unit ProcessingError → 
     pub delayed_down : (r : Result Unit CheckerError) (c d : Seen (Hearers V L)) (steps : List Step) → AnswersDelayed (HearsFirst takes_all Hears) before (hearers nobody begun) r c d steps → AnswersDelayed Hears before begun r (others_of c) (others_of d) steps
     delayed_down (Ok x) c d steps a = (a.0, a.1, stands_down d steps a.2, a.3, a.4)
     delayed_down (Err errors.CounterEnd) c d steps a = (a.0, a.1, a.2, stops_down d steps a.3)
-    delayed_down (Err errors.OutOfMemory) c d steps a = (a.0, a.1, breaks_down _ _ d steps a.2)
-    delayed_down (Err (errors.ProofProcessorError cause)) c d steps a = (a.0, a.1, breaks_down _ _ d steps a.2)
+    delayed_down (Err errors.OutOfMemory) c d steps a = (a.0, a.1, a.2, breaks_down _ _ d steps a.3)
+    delayed_down (Err (errors.ProofProcessorError cause)) c d steps a = (a.0, a.1, a.2, breaks_down _ _ d steps a.3)
     delayed_down (Err errors.HasFailed) c d steps a = (a.0, same_down c d a.1)
     delayed_down (Err errors.CheckFailed) c d steps a = absurd a
     delayed_down (Err errors.ProofIncomplete) c d steps a = absurd a

@@ -35,7 +35,7 @@ module _ {P T : Type 0} (Takes : P → Told → Result Unit Error → P → Type
 
     broken_at : (new : Seen (Processing P T)) (step : Step) (steps : List Step) → BreaksAt (HearsEach Takes Reads) earlier begun e new step steps → listeners_of begun ≡ record { processors = []; transcripts = [] } → ⊥
     broken_at new step steps h none = elim h [
-      | inl b ↦ broken _ new steps b none
+      | inl b ↦ broken _ new steps b.1 none
       | inr b ↦ broken _ new _ b.1 none
     ]
 
@@ -62,7 +62,7 @@ module _ {P T : Type 0} (Takes : P → Told → Result Unit Error → P → Type
         go (Err errors.CheckFailed) a = tt
         go (Err errors.CounterEnd) a = tt
         go (Err errors.OutOfMemory) a = tt
-        go (Err (errors.ProofProcessorError cause)) a = broken _ _ _ _ new steps a.2
+        go (Err (errors.ProofProcessorError cause)) a = broken _ _ _ _ new steps a.3
         go (Err errors.HasFailed) a = tt
         go (Err errors.ProofIncomplete) a = tt
         go (Err errors.IoError) a = tt

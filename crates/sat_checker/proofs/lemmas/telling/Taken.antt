@@ -91,7 +91,7 @@ module _ (old : Kernel) (steps : List Step) (s : kernels.Stands old steps) (well
   left : (stored_after steps).conflict ≡ Some (one, other)
   left = ap (λ (f : Stored). f.conflict) (sym is_stored) ∙ sym (conflict_of old steps kept) ∙ waits
 
-  leaves_conflict : LeavesConflict steps
+  pub leaves_conflict : LeavesConflict steps
   leaves_conflict e = absurd (let g : ◌≡◌ {A = Option (ℕ × ℕ)} None (Some (one, other)) = sym e ∙ left in cc)
 
   -- it wasn't settled, or not told
@@ -101,7 +101,7 @@ module _ (old : Kernel) (steps : List Step) (s : kernels.Stands old steps) (well
 
     pub untold_judges : (f : ProcessingError) → kernels.AnswersDelayed (Err (fault_of f)) old new steps
     untold_judges faults.OutOfMemory = (well, looks, leaves_conflict, settled_fails new same failed)
-    untold_judges (faults.ProofProcessorError cause) = (well, looks, settled_fails new same failed)
+    untold_judges (faults.ProofProcessorError cause) = (well, looks, leaves_conflict, settled_fails new same failed)
 
     pub unsettled_tells : {L : Type 0} (Hears : L → Told → Result Unit ProcessingError → L → Type 0) (before : List Told) (begun l : L) → HearsSince Hears before (told_by old.state.formula.status.conflict steps) begun l → IsSpent (settled kept.formula)
         → AnswersDelayed Hears before begun (Err errors.CounterEnd) (seen old l) (seen new l) steps
@@ -317,9 +317,9 @@ module _ {L : Type 0} (Hears : L → Told → Result Unit ProcessingError → L 
   pub delayed_ok : kernels.Stands new steps → kernels.has_failed new ≡ false → new.state.formula.status.conflict ≡ None → HearsSince Hears before (all_told_after steps) begun m → AnswersDelayed Hears before begun (Ok tt) (seen old l) (seen new m) steps
   delayed_ok k f n h = (well, looks, record { kernel = k; heard = λ e. subst (λ c. HearsSince Hears before (told_by c steps) begun m) (sym n) h }, f, n)
 
-  pub delayed_err : kernels.Fails new steps → (f : ProcessingError) → HearsSinceUpTo Hears f before (all_told_after steps) begun m → AnswersDelayed Hears before begun (Err (fault_of f)) (seen old l) (seen new m) steps
-  delayed_err k faults.OutOfMemory h = (well, looks, record { fails = failing Hears before begun (seen new m) steps k; heard = h })
-  delayed_err k (faults.ProofProcessorError cause) h = (well, looks, record { fails = failing Hears before begun (seen new m) steps k; heard = h })
+  pub delayed_err : LeavesConflict steps → kernels.Fails new steps → (f : ProcessingError) → HearsSinceUpTo Hears f before (all_told_after steps) begun m → AnswersDelayed Hears before begun (Err (fault_of f)) (seen old l) (seen new m) steps
+  delayed_err c k faults.OutOfMemory h = (well, looks, c, record { fails = failing Hears before begun (seen new m) steps k; heard = h })
+  delayed_err c k (faults.ProofProcessorError cause) h = (well, looks, c, record { fails = failing Hears before begun (seen new m) steps k; heard = h })
 
 -- A UNIT CONFLICT BEFORE A STEP
 
@@ -327,8 +327,8 @@ module _ {L : Type 0} (Hears : L → Told → Result Unit ProcessingError → L 
   -- it couldn't be settled, or not be told
   pub delayed_stops : (old new : Seen L) (e : CheckerError) → AnswersDelayed Hears before begun (Err e) old new steps → AnswersStep Hears before begun (Err e) old step new steps
   delayed_stops old new errors.CounterEnd a = (a.0, inl a.2, a.3)
-  delayed_stops old new errors.OutOfMemory a = (a.0, inr (inl a.2))
-  delayed_stops old new (errors.ProofProcessorError cause) a = (a.0, inl a.2)
+  delayed_stops old new errors.OutOfMemory a = (a.0, inr (inl (a.2, a.3)))
+  delayed_stops old new (errors.ProofProcessorError cause) a = (a.0, inl (a.2, a.3))
   delayed_stops old new errors.HasFailed a = a
   delayed_stops old new errors.CheckFailed a = absurd a
   delayed_stops old new errors.ProofIncomplete a = absurd a
@@ -352,7 +352,7 @@ module _ (steps : List Step) (step : Step) where
   pub stops_judges : (old new : Kernel) (e : CheckerError) → kernels.AnswersDelayed (Err e) old new steps → kernels.AnswersStep (Err e) old step new steps
   stops_judges old new errors.CounterEnd a = (a.0, inl a.2, a.3)
   stops_judges old new errors.OutOfMemory a = (a.0, inr (inl (a.2, a.3)))
-  stops_judges old new (errors.ProofProcessorError cause) a = (a.0, inl a.2)
+  stops_judges old new (errors.ProofProcessorError cause) a = (a.0, inl (a.2, a.3))
   stops_judges old new errors.HasFailed a = a
   stops_judges old new errors.CheckFailed a = absurd a
   stops_judges old new errors.ProofIncomplete a = absurd a

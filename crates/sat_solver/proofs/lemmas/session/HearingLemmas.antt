@@ -69,7 +69,7 @@ module _ {L : Type 0} (takes : L → Told → Result Unit Error → L → Type 0
     Broke step fault = FailedOf takes begun new.listeners written fault ⊎ FailedOf takes begun new.listeners (step ∷ written) fault
 
     up_to : (step : Step) (e : ProcessingError) → BreaksAt (Hears takes) [] begun e new step written → HeardUpTo takes begun new.listeners written e ⊎ HeardUpTo takes begun new.listeners (step ∷ written) e
-    up_to step e (inl b) = inl (inr b.heard)
+    up_to step e (inl b) = inl (inr b.1.heard)
     up_to step e (inr b) = inr (inl b.1.heard)
 
     starved : (step : Step) → HeardUpTo takes begun new.listeners written faults.OutOfMemory ⊎ HeardUpTo takes begun new.listeners (step ∷ written) faults.OutOfMemory → Broke step checks.OutOfMemory
@@ -97,9 +97,9 @@ module _ {L : Type 0} (takes : L → Told → Result Unit Error → L → Type 0
     pub answered_delayed : (r : Result (Unit {0}) CheckerError) → AnswersDelayed (Hears takes) [] begun r old new written
         → OrCause r (Stands (Hears takes) [] begun new written × (has_failed new ≡ false) × IsSettled new.kernel) (FailedOf takes begun new.listeners written)
     answered_delayed (Ok x) a = (a.2, a.3, a.4)
-    answered_delayed (Err errors.OutOfMemory) a = (tt, inr (inr a.2.heard))
+    answered_delayed (Err errors.OutOfMemory) a = (tt, inr (inr a.3.heard))
     answered_delayed (Err errors.CounterEnd) a = (tt, (inr a.2, a.3.heard))
-    answered_delayed (Err (errors.ProofProcessorError cause)) a = (tt, inr a.2.heard)
+    answered_delayed (Err (errors.ProofProcessorError cause)) a = (tt, inr a.3.heard)
     answered_delayed (Err errors.HasFailed) a = absurd (true≢false (sym a.0 ∙ going))
     answered_delayed (Err errors.CheckFailed) a = absurd a
     answered_delayed (Err errors.ProofIncomplete) a = absurd a

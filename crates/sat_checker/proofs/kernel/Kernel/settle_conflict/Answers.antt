@@ -4,7 +4,7 @@ use Rattle.sat_checker.specs.telling.AnnouncementView.{variables_of}
 use Rattle.sat_checker.specs.telling.Hearing.{hearers, HearsFirst}
 use Rattle.sat_checker.specs.telling.ProcessingView.{HearsEach}
 use Rattle.sat_checker.proofs.lemmas.telling.Heard.{same_itself}
-use Rattle.sat_checker.proofs.lemmas.telling.Taken.{settled_stands, turned, turned_none, turned_spent, unsettled_judges, unsettled_tells, untold_judges, conflict_heard, conflict_broken, delayed_ok, delayed_err}
+use Rattle.sat_checker.proofs.lemmas.telling.Taken.{leaves_conflict, settled_stands, turned, turned_none, turned_spent, unsettled_judges, unsettled_tells, untold_judges, conflict_heard, conflict_broken, delayed_ok, delayed_err}
 use Rattle.sat_checker.proofs.kernel.Kernel.settle_conflict.Goals as goal
 
 pub returns-in-Ok-clause-tells : goal.returns-in-Ok-clause-tells
@@ -21,7 +21,7 @@ returns-in-Err-clause-tells g c = λ before begun steps s.
     let stands = settled_stands c.args.self.now steps s.kernel c.requires c.in-Some.stored c.in-Some.contradicting c.in-Some.is _ (λ f. turned c.settle.result _ (settled k.formula) (sym c.if-is_err.ensures.value) (c.settle.ensures.settles k.formula f)) refl refl refl in
     let heard = conflict_broken c.args.self.now steps s.kernel c.requires c.in-Some.stored c.in-Some.contradicting c.in-Some.is (HearsFirst g.O.ProofProcessor.takes (HearsEach g.P.ProofProcessor.takes g.T.ProofTranscriptProcessor.reads)) before begun (hearers c.args.own.now c.args.others.now) (s.heard c.requires) (variables_of c.new.result)
     (λ v. ap (λ z. z v) c.new.ensures) c.in-Err.error (hearers c.step_with.new.own c.step_with.new.self) (inl (_, same_itself _, c.in-Err.ensures)) in
-    rw c.fault.ensures (delayed_err (HearsFirst g.O.ProofProcessor.takes (HearsEach g.P.ProofProcessor.takes g.T.ProofTranscriptProcessor.reads)) before begun c.args.self.now _ (hearers c.args.own.now c.args.others.now) (hearers c.step_with.new.own c.step_with.new.self) steps c.requires refl (record { stands = stands; failed = refl }) c.in-Err.error heard)
+    rw c.fault.ensures (delayed_err (HearsFirst g.O.ProofProcessor.takes (HearsEach g.P.ProofProcessor.takes g.T.ProofTranscriptProcessor.reads)) before begun c.args.self.now _ (hearers c.args.own.now c.args.others.now) (hearers c.step_with.new.own c.step_with.new.self) steps c.requires refl (leaves_conflict c.args.self.now steps s.kernel c.requires c.in-Some.stored c.in-Some.contradicting c.in-Some.is) (record { stands = stands; failed = refl }) c.in-Err.error heard)
 
 pub returns-in_default-clause-judges : goal.returns-in_default-clause-judges
 returns-in_default-clause-judges g c = λ steps s. (c.requires, refl, s, c.requires, c.in_default.is)
