@@ -16,7 +16,7 @@ pub mod find_conflict;
 pub mod learn;
 
 use crate::cdcl::begin::begin_round;
-use crate::cdcl::fault::{Fault, Kind, proof_fault};
+use crate::cdcl::fault::Fault;
 use crate::cdcl::find_conflict::{FoundConflict, find_conflict};
 use crate::cdcl::learn::learn_from;
 use crate::context::{Scratch, Search};
@@ -46,18 +46,14 @@ fn refute<W: CountedWrite + Drop, P: ProofProcessor>(
     ensures { EmitsSteps W.seen result proof.old proof.new (λ _ steps. LastRefutes (steps_of proof.old) steps (session_of proof.new)) }
 {
     write_units(proof, parts, globals, &mut scratch.units)?;
-    if name_clauses(parts, &[], conflict, &mut scratch.hashes).is_err() {
-        return Err(Fault::of(Kind::OutOfMemory));
-    }
+    name_clauses(parts, &[], conflict, &mut scratch.hashes)?;
     let step = ProofStep::AtClause {
         redundant: false,
         clause: &[],
         propagation_hashes: &scratch.hashes,
     };
-    match proof.step(&step) {
-        Ok(()) => Ok(()),
-        Err(error) => Err(proof_fault(error)),
-    }
+    proof.step(&step)?;
+    Ok(())
 }
 
 /// Learns from a conflict, or writes that no valuation is left.
@@ -84,7 +80,8 @@ fn resolve<W: CountedWrite + Drop, P: ProofProcessor>(
     Ok(Outcome::Unsat)
 }
 
-/// A conflict step: up to a conflict and what is learned from it, or an answer. Where literals came at level 0, it begins with a simplification.
+/// A conflict step: up to a conflict and what is learned from it, or an answer. Where literals came at level 0, it begins
+/// with a simplification.
 pub fn conflict_step<W: CountedWrite + Drop, P: ProofProcessor>(
     proof: &mut Proof<W, P>,
     search: &mut Search,
@@ -93,10 +90,10 @@ pub fn conflict_step<W: CountedWrite + Drop, P: ProofProcessor>(
     requires together { StandTogether names.old proof.old search.old }
     ensures { EndsRound W.seen result names.old names.new proof.old proof.new search.old search.new }
 {
-    match begin_round(proof, search, names) {
-        Err(error) => return Err(error),
-        Ok(Some(conflict)) => return resolve(proof, search, &conflict),
-        Ok(None) => {}
+    let begun = begin_round(proof, search, names)?;
+    match begun {
+        Some(conflict) => return resolve(proof, search, &conflict),
+        None => {}
     }
     let stop = find_conflict(proof, search)?;
     match stop {

@@ -15,7 +15,7 @@ pub mod clause;
 pub mod faults;
 pub mod literals;
 
-use crate::cdcl::fault::{Fault, Kind, proof_fault};
+use crate::cdcl::fault::Fault;
 use crate::context::Search;
 use crate::decision::make_ready;
 use crate::load::backtrack::back_to_bottom;
@@ -38,17 +38,13 @@ pub fn delete_satisfied<W: CountedWrite + Drop, P: ProofProcessor>(
     requires may { May (session_of proof.old) (satisfied_step (global_of globals.now) lits.now) }
     ensures { DeletesSatisfied W.seen result proof.old proof.new (global_of globals.now) lits.now }
 {
-    if map_lits(globals, lits, clause).is_err() {
-        return Err(Fault::of(Kind::OutOfMemory));
-    }
+    map_lits(globals, lits, clause)?;
     let step = ProofStep::DeleteClause {
         clause,
         proof: DeleteClauseProof::Satisfied,
     };
-    match proof.step(&step) {
-        Ok(()) => Ok(()),
-        Err(error) => Err(proof_fault(error)),
-    }
+    proof.step(&step)?;
+    Ok(())
 }
 
 /// Deletes a clause that has a true literal, and answers that a valuation may be left.
@@ -64,10 +60,8 @@ fn delete_true<W: CountedWrite + Drop, P: ProofProcessor>(
     ensures deletes { DeletesTrue W.seen result proof.old proof.new (global_in search.old) lits.now }
 {
     let clause = &mut search.scratch.clause;
-    match delete_satisfied(proof, &search.globals, lits, clause) {
-        Ok(()) => Ok(true),
-        Err(error) => Err(error),
-    }
+    delete_satisfied(proof, &search.globals, lits, clause)?;
+    Ok(true)
 }
 
 /// Loads a clause, at level 0, that the last step added. One with a true literal and another one is deleted at once. Answers

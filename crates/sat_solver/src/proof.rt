@@ -42,6 +42,17 @@ pub enum ProofError {
     Check(CheckFault),
 }
 
+impl From<CheckFault> for ProofError {
+    ghost use Rattle.std.specs.Prelude.{◌≡◌};
+    ghost use Rattle.sat_solver.specs.declared.proof.ProofError.TheVariants.{Check};
+
+    ghost from_gives = { λ f e. e ≡ Check f };
+
+    fn from(fault: CheckFault) -> ProofError {
+        ProofError::Check(fault)
+    }
+}
+
 /// All steps that a solver made, the checker that takes them, where there is one, and the target that their text goes to, where one is
 /// open. After a fault of the target it isn't used again, and steps go on as if none were open.
 #[derive(Drop)]
@@ -131,10 +142,8 @@ impl<W: CountedWrite + Drop, P: ProofProcessor> Proof<W, P> {
         requires checked { is_checked self.old ≡ true }
         ensures { Listens W.seen result processor self.old self.new }
     {
-        match self.made.add_processor(processor) {
-            Ok(()) => Ok(()),
-            Err(fault) => Err(ProofError::Check(fault)),
-        }
+        self.made.add_processor(processor)?;
+        Ok(())
     }
 
     /// From here on steps are written to this target, with whole hashes at first. Takes no memory. A target that failed before is
@@ -221,10 +230,8 @@ impl<W: CountedWrite + Drop, P: ProofProcessor> Proof<W, P> {
         ensures target { target_of W.seen self.new ≡ target_of W.seen self.old }
         ensures fails { FailsOfCheck result self.new }
     {
-        match self.made.take(self.counting.bits, step, cut) {
-            Ok(()) => Ok(()),
-            Err(fault) => Err(ProofError::Check(fault)),
-        }
+        self.made.take(self.counting.bits, step, cut)?;
+        Ok(())
     }
 
     /// Gives target and checker the very same step, with its hashes cut to the width for the clauses behind it. A step at whose text
@@ -403,10 +410,8 @@ impl<W: CountedWrite + Drop, P: ProofProcessor> Proof<W, P> {
         ensures fails { FailsOfCheckUnless (is_lost self.old) result self.new }
         ensures told { OnOk result (HasTold self.new) }
     {
-        match self.made.take_delayed() {
-            Ok(()) => Ok(()),
-            Err(fault) => Err(ProofError::Check(fault)),
-        }
+        self.made.take_delayed()?;
+        Ok(())
     }
 
     /// Writes out what waits for an open target, and flushes it. Then the checker tells what waits, where there is one.

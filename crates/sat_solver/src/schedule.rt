@@ -47,7 +47,7 @@ impl Outcome {
     }
 }
 
-/// Undoes all decisions where a restart is due before this round.
+/// Restarts where a restart is due before this round.
 fn restart_where_due<W: CountedWrite + Drop, P: ProofProcessor>(
     core: &mut Core<W, P>,
     restarts: &mut Restarts,

@@ -15,7 +15,6 @@ pub mod strengthen;
 
 use crate::cdcl::fault::Fault;
 use crate::context::Search;
-use crate::load::faults::name_fault;
 use crate::proof::Proof;
 use crate::unit_simplify::binary::simplify_binary;
 use crate::unit_simplify::free_vars::free_indices;
@@ -53,8 +52,6 @@ pub fn unit_simplify<W: CountedWrite + Drop, P: ProofProcessor>(
 {
     lighten(proof, search)?;
     let mut used = Vec::new(search.alloc);
-    match free_indices(names, proof, search, &mut used) {
-        Ok(()) => Ok(()),
-        Err(error) => Err(name_fault(error)),
-    }
+    free_indices(names, proof, search, &mut used)?;
+    Ok(())
 }

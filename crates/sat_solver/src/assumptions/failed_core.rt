@@ -9,7 +9,7 @@ ghost use Rattle.sat_solver.specs.cdcl.Joint.{global_in, IsFree, IsSearch};
 ghost use Rattle.sat_solver.specs.cdcl.Turns.{IsFailing};
 
 use crate::analyze_conflict::analyze_assumption;
-use crate::cdcl::fault::{Fault, proof_fault};
+use crate::cdcl::fault::Fault;
 use crate::context::Search;
 use crate::proof::Proof;
 use crate::proof::map_step::{map_lits, name_reasons};
@@ -79,8 +79,6 @@ pub fn tell_core<W: CountedWrite + Drop, P: ProofProcessor>(
         failed_core: &search.scratch.clause,
         propagation_hashes: &search.scratch.hashes,
     };
-    match proof.step(&step) {
-        Ok(()) => Ok(()),
-        Err(error) => Err(proof_fault(error)),
-    }
+    proof.step(&step)?;
+    Ok(())
 }

@@ -1,6 +1,5 @@
 //! Why a call failed, without its cause, which is kept with the proof until a solver tells it.
 ghost use Rattle.std.specs.Prelude.{◌≡◌};
-ghost use Rattle.sat_solver.specs.cdcl.Going.{check_fault_of, fault_of};
 ghost use Rattle.sat_solver.specs.cdcl.Faults.{error_of, IsKept};
 ghost use Rattle.sat_solver.specs.proof.ProofView.{told};
 
@@ -77,25 +76,33 @@ impl From<StoreError> for Fault {
     }
 }
 
-/// Why a solver's own checker failed.
-pub fn check_fault(fault: CheckFault) -> Fault
-    ensures { result ≡ check_fault_of fault }
-{
-    match fault {
-        CheckFault::OutOfMemory => Fault::of(Kind::OutOfMemory),
-        CheckFault::CounterEnd => Fault::of(Kind::CounterEnd),
-        CheckFault::Processor(kept) => Fault::of(Kind::Processor(kept)),
+impl From<CheckFault> for Fault {
+    ghost use Rattle.std.specs.Prelude.{◌≡◌};
+    ghost use Rattle.sat_solver.specs.cdcl.Going.{check_fault_of};
+
+    ghost from_gives = { λ f e. e ≡ check_fault_of f };
+
+    fn from(fault: CheckFault) -> Fault {
+        match fault {
+            CheckFault::OutOfMemory => Fault::of(Kind::OutOfMemory),
+            CheckFault::CounterEnd => Fault::of(Kind::CounterEnd),
+            CheckFault::Processor(kept) => Fault::of(Kind::Processor(kept)),
+        }
     }
 }
 
-/// Why a step wasn't made, or not checked.
-pub fn proof_fault(error: ProofError) -> Fault
-    ensures { result ≡ fault_of error }
-{
-    match error {
-        ProofError::Write(kept) => Fault::of(Kind::Write(kept)),
-        ProofError::OutOfMemory => Fault::of(Kind::OutOfMemory),
-        ProofError::Check(fault) => check_fault(fault),
+impl From<ProofError> for Fault {
+    ghost use Rattle.std.specs.Prelude.{◌≡◌};
+    ghost use Rattle.sat_solver.specs.cdcl.Going.{fault_of};
+
+    ghost from_gives = { λ p e. e ≡ fault_of p };
+
+    fn from(error: ProofError) -> Fault {
+        match error {
+            ProofError::Write(kept) => Fault::of(Kind::Write(kept)),
+            ProofError::OutOfMemory => Fault::of(Kind::OutOfMemory),
+            ProofError::Check(fault) => Fault::from(fault),
+        }
     }
 }
 

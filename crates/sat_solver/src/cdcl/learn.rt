@@ -17,7 +17,7 @@ ghost use Rattle.sat_solver.specs.cdcl.Turns.{IsStopped};
 ghost use Rattle.sat_store.specs.clause.Full.{OnFull};
 
 use crate::analyze_conflict::learn_from_conflict;
-use crate::cdcl::fault::{Fault, proof_fault};
+use crate::cdcl::fault::Fault;
 use crate::clause::activity::{bump_clauses, bump_met};
 use crate::clause::assess::assess;
 use crate::context::Search;
@@ -141,9 +141,7 @@ fn learn_clause<W: CountedWrite + Drop, P: ProofProcessor>(
         clause: &search.scratch.clause,
         propagation_hashes: &search.scratch.hashes,
     };
-    if let Err(error) = proof.step(&step) {
-        return Err(proof_fault(error));
-    }
+    proof.step(&step)?;
     take_in(search, header, level)?;
     search.assumptions.cut(level);
     Ok(())

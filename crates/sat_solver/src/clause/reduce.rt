@@ -13,7 +13,7 @@ ghost use Rattle.sat_parts.specs.clause.Glue.{VariablesBelow};
 ghost use Rattle.sat_store.specs.clause.Full.{OnFull};
 
 use crate::SolverConfig;
-use crate::cdcl::fault::{Fault, proof_fault};
+use crate::cdcl::fault::Fault;
 use crate::context::Search;
 use crate::proof::Proof;
 use sat_base::{CountedWrite, DeleteClauseProof, Lit, ProofStep, Var};
@@ -69,10 +69,8 @@ fn delete_learned<W: CountedWrite + Drop, P: ProofProcessor>(
         clause: &search.scratch.clause,
         proof: DeleteClauseProof::Redundant,
     };
-    match proof.step(&step) {
-        Ok(()) => Ok(true),
-        Err(error) => Err(proof_fault(error)),
-    }
+    proof.step(&step)?;
+    Ok(true)
 }
 
 /// How many clauses are still to be deleted.

@@ -20,10 +20,8 @@ fn tell_width<W: CountedWrite>(
     if before.get() == now.get() {
         return Ok(());
     }
-    match writer.write(&ProofStep::ChangeHashBits { bits: now }) {
-        Ok(()) => Ok(()),
-        Err(e) => Err(OutputError::Write(e)),
-    }
+    writer.write(&ProofStep::ChangeHashBits { bits: now })?;
+    Ok(())
 }
 
 /// Writes a step, and before it its width where that is another than the one before.
@@ -37,8 +35,6 @@ pub fn write_at<W: CountedWrite>(
 {
     let (before, now) = widths;
     tell_width(writer, before, now)?;
-    match writer.write(step) {
-        Ok(()) => Ok(()),
-        Err(e) => Err(OutputError::Write(e)),
-    }
+    writer.write(step)?;
+    Ok(())
 }

@@ -9,6 +9,7 @@ use crate::proof::drat::put_step;
 use crate::proof::format::ProofFormat;
 use crate::proof::native::write_at;
 use sat_base::{CountedWrite, HashBits, ProofStep, StepWriter};
+use std::alloc::AllocError;
 use std::io;
 
 /// Why a step's text wasn't written.
@@ -18,6 +19,28 @@ pub enum OutputError {
     Write(io::Error),
     /// Nothing was written of it.
     OutOfMemory,
+}
+
+impl From<io::Error> for OutputError {
+    ghost use Rattle.std.specs.Prelude.{◌≡◌};
+    ghost use Rattle.sat_solver.specs.declared.proof.output.OutputError.TheVariants.{Write};
+
+    ghost from_gives = { λ c e. e ≡ Write c };
+
+    fn from(cause: io::Error) -> OutputError {
+        OutputError::Write(cause)
+    }
+}
+
+impl From<AllocError> for OutputError {
+    ghost use Rattle.std.specs.Prelude.{◌≡◌};
+    ghost use Rattle.sat_solver.specs.declared.proof.output.OutputError.TheVariants.{OutOfMemory};
+
+    ghost from_gives = { λ _ e. e ≡ OutOfMemory };
+
+    fn from(_e: AllocError) -> OutputError {
+        OutputError::OutOfMemory
+    }
 }
 
 /// A writer of DRAT lines. Those of a step are one write.
@@ -34,13 +57,9 @@ impl<W: CountedWrite> LineWriter<W> {
         ensures puts { PutsLines self.old.binary result (step_of step.now) (W.seen self.old.writer) (W.seen self.new.writer) }
     {
         text.clear();
-        if put_step(text, self.binary, step).is_err() {
-            return Err(OutputError::OutOfMemory);
-        }
-        match self.writer.write_all_counted(text) {
-            Ok(()) => Ok(()),
-            Err(e) => Err(OutputError::Write(e)),
-        }
+        put_step(text, self.binary, step)?;
+        self.writer.write_all_counted(text)?;
+        Ok(())
     }
 }
 

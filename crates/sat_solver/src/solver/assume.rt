@@ -13,7 +13,6 @@ ghost use Rattle.sat_solver.specs.solver.Whole.{IsSolver, IsWhole};
 use crate::SolverError;
 use crate::cdcl::fault::{Fault, Kind};
 use crate::load::assume::assume;
-use crate::load::faults::name_fault;
 use crate::solver::Solver;
 use crate::solver::load::take_assumptions;
 use crate::state::State;
@@ -32,10 +31,8 @@ impl<W: CountedWrite + Drop, P: ProofProcessor> Solver<W, P> {
         ensures room { HasRoom self.old.names (users_in lits.now) → IfErr result IsFault }
         ensures clock { self.new.clock ≡ self.old.clock }
     {
-        match assume(&mut self.names, &mut self.core.proof, lits, &mut self.asked) {
-            Ok(()) => Ok(()),
-            Err(error) => Err(name_fault(error)),
-        }
+        assume(&mut self.names, &mut self.core.proof, lits, &mut self.asked)?;
+        Ok(())
     }
 
     /// Takes assumptions without a name of mode witness.

@@ -10,7 +10,6 @@ ghost use Rattle.sat_solver.specs.solver.Whole.{HasFullStore, IsSolver, IsWhole}
 use crate::SolverError;
 use crate::cdcl::fault::Fault;
 use crate::load::clause::leave_out_clause;
-use crate::load::faults::name_fault;
 use crate::solver::Solver;
 use crate::solver::load::take_clause;
 use crate::state::State;
@@ -40,10 +39,8 @@ impl<W: CountedWrite + Drop, P: ProofProcessor> Solver<W, P> {
         ensures assumed { self.new.assumed ≡ self.old.assumed }
         ensures clock { self.new.clock ≡ self.old.clock }
     {
-        match leave_out_clause(&mut self.names, &mut self.core.proof, lits) {
-            Ok(()) => Ok(()),
-            Err(error) => Err(name_fault(error)),
-        }
+        leave_out_clause(&mut self.names, &mut self.core.proof, lits)?;
+        Ok(())
     }
 
     /// Takes a clause without a name of mode witness.

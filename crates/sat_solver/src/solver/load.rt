@@ -13,7 +13,6 @@ use crate::cdcl::fault::Fault;
 use crate::context::Core;
 use crate::load::assume::assume;
 use crate::load::clause::add_clause;
-use crate::load::faults::name_fault;
 use crate::load::literals::Taken;
 use crate::load::load_clause;
 use crate::variables::Variables;
@@ -42,11 +41,7 @@ pub fn take_clause<W: CountedWrite + Drop, P: ProofProcessor>(
     ensures takes { TakesClause W.seen result names.old names.new core.old core.new lits.now }
     ensures room { HasRoom names.old (users_in lits.now) → IfErr result (IsFaultOr (IsFull core.new.search.parts)) }
 {
-    let added = add_clause(names, &mut core.proof, lits, &mut loading.taken);
-    let both_signs = match added {
-        Ok(both_signs) => both_signs,
-        Err(error) => return Err(name_fault(error)),
-    };
+    let both_signs = add_clause(names, &mut core.proof, lits, &mut loading.taken)?;
     new_indices(&mut core.search, &names.globals, &loading.taken.given)?;
     if both_signs {
         return Ok(true);
@@ -72,9 +67,7 @@ pub fn take_assumptions<W: CountedWrite + Drop, P: ProofProcessor>(
     ensures takes { TakesAssumptions W.seen result names.old names.new core.old core.new lits.now asked.new }
     ensures room { HasRoom names.old (users_in lits.now) → IfErr result IsFault }
 {
-    if let Err(error) = assume(names, &mut core.proof, lits, asked) {
-        return Err(name_fault(error));
-    }
+    assume(names, &mut core.proof, lits, asked)?;
     new_indices(&mut core.search, &names.globals, &asked.given)?;
     set_assumptions(&mut core.search, &asked.order)?;
     Ok(())

@@ -5,7 +5,7 @@ ghost use Rattle.sat_solver.specs.variables.Coming.{LeavesNoneIdle};
 ghost use Rattle.sat_solver.specs.solver.Whole.{IsSolver, steps_in};
 
 use crate::SolverError;
-use crate::load::faults::name_fault;
+use crate::cdcl::fault::Fault;
 use crate::solver::Solver;
 use crate::variables::error::NameError;
 use crate::variables::modes::{hide_var, set_sampling_mode};
@@ -58,7 +58,7 @@ impl<W: CountedWrite + Drop, P: ProofProcessor> Solver<W, P> {
         self.used = true;
         match hide_var(&mut self.names, &mut self.core.proof, user) {
             Ok(()) => Ok(()),
-            Err(error) => Err(self.fail(name_fault(error))),
+            Err(error) => Err(self.fail(Fault::from(error))),
         }
     }
 
@@ -80,7 +80,7 @@ impl<W: CountedWrite + Drop, P: ProofProcessor> Solver<W, P> {
         self.used = true;
         match set_sampling_mode(&mut self.names, &mut self.core.proof, user, sample) {
             Ok(()) => Ok(()),
-            Err(error) => Err(self.fail(name_fault(error))),
+            Err(error) => Err(self.fail(Fault::from(error))),
         }
     }
 
@@ -124,7 +124,7 @@ impl<W: CountedWrite + Drop, P: ProofProcessor> Solver<W, P> {
                     return Err(SolverError::VariableLimit);
                 }
                 self.used = true;
-                Err(self.fail(name_fault(error)))
+                Err(self.fail(Fault::from(error)))
             }
         }
     }
@@ -146,7 +146,7 @@ impl<W: CountedWrite + Drop, P: ProofProcessor> Solver<W, P> {
                 self.used = is_used(self.used, &users);
                 Ok(users)
             }
-            Err(error) => Err(self.fail(name_fault(error))),
+            Err(error) => Err(self.fail(Fault::from(error))),
         }
     }
 }

@@ -5,7 +5,7 @@ ghost use Rattle.sat_solver.specs.solver.Proving.{AddsProcessor, Enables, Opens,
 ghost use Rattle.sat_solver.specs.solver.Whole.{IsSolver};
 
 use crate::SolverError;
-use crate::cdcl::fault::proof_fault;
+use crate::cdcl::fault::Fault;
 use crate::proof::format::ProofFormat;
 use crate::solver::Solver;
 use sat_base::CountedWrite;
@@ -71,7 +71,7 @@ impl<W: CountedWrite + Drop, P: ProofProcessor> Solver<W, P> {
         self.core.proof.begin_checking(alloc);
         match self.core.proof.add_processor(processor) {
             Ok(()) => Ok(()),
-            Err(error) => Err(self.fail(proof_fault(error))),
+            Err(error) => Err(self.fail(Fault::from(error))),
         }
     }
 
@@ -86,7 +86,7 @@ impl<W: CountedWrite + Drop, P: ProofProcessor> Solver<W, P> {
         }
         match self.core.proof.close() {
             Ok(target) => Ok(target),
-            Err(error) => Err(self.fail(proof_fault(error))),
+            Err(error) => Err(self.fail(Fault::from(error))),
         }
     }
 

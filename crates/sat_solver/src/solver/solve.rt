@@ -4,7 +4,7 @@ ghost use Rattle.sat_solver.specs.solver.Calls.{Solves};
 ghost use Rattle.sat_solver.specs.solver.Settling.{Settles};
 
 use crate::SolverError;
-use crate::cdcl::fault::{Fault, proof_fault};
+use crate::cdcl::fault::Fault;
 use crate::solver::Solver;
 use crate::solver::find::find_answer;
 use crate::state::State;
@@ -56,7 +56,7 @@ impl<W: CountedWrite + Drop, P: ProofProcessor> Solver<W, P> {
             return Err(self.fail(fault));
         }
         if let Err(error) = self.core.proof.flush() {
-            return Err(self.fail(proof_fault(error)));
+            return Err(self.fail(Fault::from(error)));
         }
         match self.state {
             State::Unknown => Err(SolverError::Interrupted),

@@ -6,7 +6,7 @@ ghost use Rattle.sat_solver.specs.solver.Joined.{IsJoined, name_of, user_by};
 ghost use Rattle.sat_solver.specs.solver.Answering.{ShowsModel, FailsCore};
 
 use crate::assumptions::failed_core::tell_core;
-use crate::cdcl::fault::{Fault, proof_fault};
+use crate::cdcl::fault::Fault;
 use crate::context::Core;
 use crate::model::model_lits;
 use crate::variables::Variables;
@@ -58,10 +58,8 @@ pub fn show_model<W: CountedWrite + Drop, P: ProofProcessor>(
     let values = core.search.parts.assignment.assignment();
     model_lits(names, values, model)?;
     let step = ProofStep::Model { assignment: model };
-    match core.proof.step(&step) {
-        Ok(()) => Ok(()),
-        Err(error) => Err(proof_fault(error)),
-    }
+    core.proof.step(&step)?;
+    Ok(())
 }
 
 /// Writes the assumptions that can't be true together, and lists them over names.

@@ -6,7 +6,7 @@ ghost use Rattle.sat_solver.specs.unit_simplify.Flat.{IsFlat, LightensAll, Light
 ghost use Rattle.sat_solver.specs.unit_simplify.Looks.{HasTrue};
 ghost use Rattle.sat_parts.specs.parts.Whole.{HasClause};
 
-use crate::cdcl::fault::{Fault, proof_fault};
+use crate::cdcl::fault::Fault;
 use crate::clause::reduce::map_clause;
 use crate::context::Search;
 use crate::proof::Proof;
@@ -43,10 +43,8 @@ fn delete_true<W: CountedWrite + Drop, P: ProofProcessor>(
         clause: &search.scratch.clause,
         proof: deletion_for(redundant, DeleteClauseProof::Satisfied),
     };
-    match proof.step(&step) {
-        Ok(()) => Ok(()),
-        Err(error) => Err(proof_fault(error)),
-    }
+    proof.step(&step)?;
+    Ok(())
 }
 
 /// Deletes a live long clause where a unit made it true, and replaces it by what is left of it where units made literals false.

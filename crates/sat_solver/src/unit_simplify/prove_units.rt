@@ -9,7 +9,7 @@ ghost use Rattle.sat_solver.specs.session.Going.{IsOrderly};
 ghost use Rattle.sat_solver.specs.cdcl.Going.{EmitsSteps};
 ghost use Rattle.sat_solver.specs.unit_simplify.Left.{AllUnits, IsSettled};
 
-use crate::cdcl::fault::{Fault, Kind, proof_fault};
+use crate::cdcl::fault::Fault;
 use crate::proof::Proof;
 use crate::proof::map_step::collect_units;
 use sat_base::{ClauseHash, CountedWrite, Lit, ProofStep, Var};
@@ -32,16 +32,12 @@ pub fn write_units<W: CountedWrite + Drop, P: ProofProcessor>(
     requires names { length parts.now.assignment.current ≤ length globals.now }
     ensures { EmitsSteps W.seen result proof.old proof.new (λ _ _. AllUnits parts.now (session_of proof.new) (global_of globals.now)) }
 {
-    if collect_units(parts, globals, units).is_err() {
-        return Err(Fault::of(Kind::OutOfMemory));
-    }
+    collect_units(parts, globals, units)?;
     if units.is_empty() {
         return Ok(());
     }
-    match proof.step(&ProofStep::UnitClauses { units }) {
-        Ok(()) => Ok(()),
-        Err(error) => Err(proof_fault(error)),
-    }
+    proof.step(&ProofStep::UnitClauses { units })?;
+    Ok(())
 }
 
 /// Where all is of level 0, writes the units and takes them off the trail.
@@ -63,11 +59,7 @@ pub fn settle<W: CountedWrite + Drop, P: ProofProcessor>(
     if parts.trail.current_level() > 0 {
         return Ok(());
     }
-    match write_units(proof, parts, globals, units) {
-        Err(error) => Err(error),
-        Ok(()) => {
-            clear_units(parts);
-            Ok(())
-        }
-    }
+    write_units(proof, parts, globals, units)?;
+    clear_units(parts);
+    Ok(())
 }

@@ -7,7 +7,7 @@ ghost use Rattle.sat_solver.specs.session.Quiet.{are_few};
 ghost use Rattle.sat_solver.specs.cdcl.Going.{AreNamed};
 ghost use Rattle.sat_solver.specs.unit_simplify.Cuts.{deletion, MayCut, WritesCut};
 
-use crate::cdcl::fault::{Fault, proof_fault};
+use crate::cdcl::fault::Fault;
 use crate::context::Scratch;
 use crate::proof::Proof;
 use sat_base::{CountedWrite, DeleteClauseProof, Lit, ProofStep};
@@ -48,15 +48,11 @@ pub fn write_cut<W: CountedWrite + Drop, P: ProofProcessor>(
         clause: part,
         propagation_hashes: &scratch.hashes,
     };
-    if let Err(error) = proof.step(&derived) {
-        return Err(proof_fault(error));
-    }
+    proof.step(&derived)?;
     let deleted = ProofStep::DeleteClause {
         clause: &scratch.clause,
         proof: deletion_for(redundant, DeleteClauseProof::Simplified),
     };
-    match proof.step(&deleted) {
-        Ok(()) => Ok(()),
-        Err(error) => Err(proof_fault(error)),
-    }
+    proof.step(&deleted)?;
+    Ok(())
 }

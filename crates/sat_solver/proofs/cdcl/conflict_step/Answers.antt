@@ -13,12 +13,14 @@ use Rattle.sat_solver.proofs.lemmas.cdcl.RoundLemmas.{round_from, search_failed}
 use Rattle.sat_solver.proofs.lemmas.unit_simplify.PassesLemmas.{falls_or}
 use Rattle.sat_solver.proofs.cdcl.conflict_step.Goals as goal
 
-pub returns-in-Err : goal.returns-in-Err
-returns-in-Err g c = falls_or g.W.CountedWrite.seen (IsFull c.begin_round.new.search.parts) c.in-Err.error c.args.proof.now c.begin_round.new.proof c.in-Err.ensures
+pub returns-in_err-begun : goal.returns-in_err-begun
+returns-in_err-begun g c =
+    let r = err_from_is_err_and c.from_residual.result c.from_residual.ensures.1 in
+    rw (r.1, r.2) (falls_or g.W.CountedWrite.seen (IsFull c.begin_round.new.search.parts) c.in_err-begun.field-0.0 c.args.proof.now c.begin_round.new.proof c.in_err-begun.ensures)
 
-pub returns-in-Ok-Some : goal.returns-in-Ok-Some
-returns-in-Ok-Some g c =
-    ends_refuted g.W.CountedWrite.seen c.args.names.now c.begin_round.new.names c.args.proof.now c.begin_round.new.proof c.args.search.now c.begin_round.new.search c.requires.together c.in-Ok-Some.conflict (rw c.in-Ok-Some.field-0-is at c.in-Ok-Some.ensures)
+pub returns-in-Some : goal.returns-in-Some
+returns-in-Some g c =
+    ends_refuted g.W.CountedWrite.seen c.args.names.now c.begin_round.new.names c.args.proof.now c.begin_round.new.proof c.args.search.now c.begin_round.new.search c.requires.together c.in-Some.conflict (rw c.in-Some.is at c.in_ok-begun.ensures)
     c.resolve.result c.resolve.new.proof c.resolve.new.search c.resolve.ensures
 
 pub returns-in_err-stop : goal.returns-in_err-stop
@@ -27,8 +29,8 @@ returns-in_err-stop g c =
     let z = c.find_conflict.new.proof in
     let d = c.begin_round.new.search in
     let e = c.find_conflict.new.search in
-    let r = err_from_is_err_and c.from_residual.result c.from_residual.ensures.1 in
-    rw (r.1, r.2) (ends_on g.W.CountedWrite.seen c.args.names.now c.begin_round.new.names c.args.proof.now p c.args.search.now d (rw c.in-Ok-None.field-0-is at c.in-Ok-None.ensures)
+    let r = err_from_is_err_and c.from_residual-in_err-stop.result c.from_residual-in_err-stop.ensures.1 in
+    rw (r.1, r.2) (ends_on g.W.CountedWrite.seen c.args.names.now c.begin_round.new.names c.args.proof.now p c.args.search.now d (rw c.in-None.is at c.in_ok-begun.ensures)
     (Err c.in_err-stop.field-0.0) z e
     (goes_or g.W.CountedWrite.seen (Err c.in_err-stop.field-0.0) p z _
     (goes_failing g.W.CountedWrite.seen c.in_err-stop.field-0.0 p z _ (λ outcome steps. RoundSays outcome (steps_of p) steps (session_of z) d e) c.in_err-stop.ensures)))
@@ -39,7 +41,7 @@ returns-in-Complete g c =
     let z = c.find_conflict.new.proof in
     let d = c.begin_round.new.search in
     let e = c.find_conflict.new.search in
-    ends_on g.W.CountedWrite.seen c.args.names.now c.begin_round.new.names c.args.proof.now p c.args.search.now d (rw c.in-Ok-None.field-0-is at c.in-Ok-None.ensures)
+    ends_on g.W.CountedWrite.seen c.args.names.now c.begin_round.new.names c.args.proof.now p c.args.search.now d (rw c.in-None.is at c.in_ok-begun.ensures)
     (Ok outcomes.Model) z e
     (goes_quietly g.W.CountedWrite.seen _ outcomes.Model p z _ (λ outcome steps. RoundSays outcome (steps_of p) steps (session_of z) d e)
     (λ steps quiet stopped.
@@ -53,7 +55,7 @@ returns-in-Failed g c =
     let d = c.begin_round.new.search in
     let f = c.find_conflict.new.search in
     let e : Search = record f { failed = c.in-Failed.lit } in
-    ends_on g.W.CountedWrite.seen c.args.names.now c.begin_round.new.names c.args.proof.now p c.args.search.now d (rw c.in-Ok-None.field-0-is at c.in-Ok-None.ensures)
+    ends_on g.W.CountedWrite.seen c.args.names.now c.begin_round.new.names c.args.proof.now p c.args.search.now d (rw c.in-None.is at c.in_ok-begun.ensures)
     (Ok outcomes.Failed) z e
     (goes_quietly g.W.CountedWrite.seen _ outcomes.Failed p z _ (λ outcome steps. RoundSays outcome (steps_of p) steps (session_of z) d e)
     (λ steps quiet stopped.
@@ -68,7 +70,7 @@ returns-in-Falsified g c =
     let d = c.begin_round.new.search in
     let f = c.find_conflict.new.search in
     let e = c.resolve-in-Falsified.new.search in
-    ends_on g.W.CountedWrite.seen c.args.names.now c.begin_round.new.names c.args.proof.now p c.args.search.now d (rw c.in-Ok-None.field-0-is at c.in-Ok-None.ensures)
+    ends_on g.W.CountedWrite.seen c.args.names.now c.begin_round.new.names c.args.proof.now p c.args.search.now d (rw c.in-None.is at c.in_ok-begun.ensures)
     c.resolve-in-Falsified.result z e
     (goes_behind g.W.CountedWrite.seen _ c.resolve-in-Falsified.result p q z _ _ _ c.in_ok-stop.ensures c.resolve-in-Falsified.ensures
     (λ xs ys outcome added quiet stopped says.

@@ -28,15 +28,16 @@ step-requires-clause-may g c =
     subst (λ (ls : List ℕ). May (session_of c.args.proof.now) (FailedAssumptions ls c.deref-2.result.now)) (sym core)
     (subst (λ (hs : List ℕ). May (session_of c.args.proof.now) (FailedAssumptions (map (with_var (global_in c.args.search.now)) c.find_core.new.search.analysis.core) hs)) (sym hashes) may)
 
-pub returns-in-Ok : goal.returns-in-Ok
-returns-in-Ok g c =
+pub returns : goal.returns
+returns g c =
     let x = c.in_ok-find_core.ensures in
-    tells_core g.W.CountedWrite.seen c.args.proof.now c.step.new.self c.args.search.now c.find_core.new.search c.in-Ok.ensures.keeps
-    c.deref.result.now (c.deref.ensures.value ∙ x.clause) c.deref-2.result.now (c.deref-2.ensures.value ∙ x.hashes) c.in-Ok.ensures.records
+    tells_core g.W.CountedWrite.seen c.args.proof.now c.step.new.self c.args.search.now c.find_core.new.search c.in_ok-step.ensures.keeps
+    c.deref.result.now (c.deref.ensures.value ∙ x.clause) c.deref-2.result.now (c.deref-2.ensures.value ∙ x.hashes) c.in_ok-step.ensures.records
     c.requires.search c.requires.failing x.fails x.free
     (ap (λ (s : Search). s.parts) x.same) (ap (λ (s : Search). s.globals) x.same) (ap (λ (s : Search). s.assumptions) x.same)
 
-pub returns-in-Err : goal.returns-in-Err
-returns-in-Err g c =
-    rw c.proof_fault.ensures
-    (tells_broken g.W.CountedWrite.seen c.args.proof.now c.step.new.self c.args.search.now c.find_core.new.search c.in-Err.error c.deref.result.now c.deref-2.result.now c.in-Err.ensures.keeps c.in-Err.ensures.records)
+pub returns-in_err-step : goal.returns-in_err-step
+returns-in_err-step g c =
+    let p = err_from_is_err_and c.from_residual-in_err-step.result c.from_residual-in_err-step.ensures.1 in
+    rw (p.1, p.2)
+    (tells_broken g.W.CountedWrite.seen c.args.proof.now c.step.new.self c.args.search.now c.find_core.new.search c.in_err-step.field-0.0 c.deref.result.now c.deref-2.result.now c.in_err-step.ensures.keeps c.in_err-step.ensures.records)

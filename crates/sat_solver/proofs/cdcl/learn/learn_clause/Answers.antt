@@ -30,13 +30,14 @@ step-requires-clause-may g c =
     learned_allowed c.args.search.now.parts c.args.conflict.now c.analyze.new.search.analysis c.in_ok-level.level (steps_of c.args.proof.now) (global_in c.args.search.now) c.requires.stopped.refuted c.requires.above c.requires.stopped.fits (ready_names (session_of c.args.proof.now) c.args.search.now c.requires.stopped.ready) x.learns
     c.deref.result.now c.deref-2.result.now (c.deref.ensures.value ∙ x.clause) (c.deref-2.ensures.value ∙ x.hashes)
 
-pub returns-in-Err : goal.returns-in-Err
-returns-in-Err g c =
+pub returns-in_err-step : goal.returns-in_err-step
+returns-in_err-step g c =
     let x = c.in_ok-level.ensures in
-    rw c.proof_fault.ensures
+    let p = err_from_is_err_and c.from_residual-in_err-step.result c.from_residual-in_err-step.ensures.1 in
+    rw (p.1, p.2)
     (record {
-      learned = goes_broken g.W.CountedWrite.seen c.in-Err.error c.args.proof.now c.step.new.self (AtClause c.says_redundant.result c.deref.result.now c.deref-2.result.now) _
-          (learned_named c.args.search.now.parts c.args.conflict.now c.analyze.new.search.analysis c.in_ok-level.level (session_of c.args.proof.now) (global_in c.args.search.now) (ready_names (session_of c.args.proof.now) c.args.search.now c.requires.stopped.ready) x.learns c.deref.result.now (c.deref.ensures.value ∙ x.clause)) c.in-Err.ensures.keeps c.in-Err.ensures.records;
+      learned = goes_broken g.W.CountedWrite.seen c.in_err-step.field-0.0 c.args.proof.now c.step.new.self (AtClause c.says_redundant.result c.deref.result.now c.deref-2.result.now) _
+          (learned_named c.args.search.now.parts c.args.conflict.now c.analyze.new.search.analysis c.in_ok-level.level (session_of c.args.proof.now) (global_in c.args.search.now) (ready_names (session_of c.args.proof.now) c.args.search.now c.requires.stopped.ready) x.learns c.deref.result.now (c.deref.ensures.value ∙ x.clause)) c.in_err-step.ensures.keeps c.in_err-step.ensures.records;
       met = tt;
       rated = tt;
     })
@@ -59,7 +60,7 @@ returns-in_err-take_in g c =
     let x = c.in_ok-level.ensures in
     rw (p.1, p.2) (record {
       learned = goes_refused g.W.CountedWrite.seen c.in_err-take_in.field-0.0 c.args.proof.now c.step.new.self (AtClause c.says_redundant.result c.deref.result.now c.deref-2.result.now) _
-          (learned_named c.args.search.now.parts c.args.conflict.now c.analyze.new.search.analysis c.in_ok-level.level (session_of c.args.proof.now) (global_in c.args.search.now) (ready_names (session_of c.args.proof.now) c.args.search.now c.requires.stopped.ready) x.learns c.deref.result.now (c.deref.ensures.value ∙ x.clause)) c.in_default.ensures.keeps c.in_default.ensures.records
+          (learned_named c.args.search.now.parts c.args.conflict.now c.analyze.new.search.analysis c.in_ok-level.level (session_of c.args.proof.now) (global_in c.args.search.now) (ready_names (session_of c.args.proof.now) c.args.search.now c.requires.stopped.ready) x.learns c.deref.result.now (c.deref.ensures.value ∙ x.clause)) c.in_ok-step.ensures.keeps c.in_ok-step.ensures.records
           (λ e. c.take_in.ensures.full (c.in_err-take_in.was ∙ ap Err e));
       met = tt;
       rated = tt;
@@ -82,10 +83,10 @@ returns-clause-learned g c =
     let moved : Moved c.analyze.new.search (record c.take_in.new.search { assumptions = c.cut.new.self }) =
     record { globals = ap (λ (s : Search). s.globals) y.same; lits = c.cut.ensures.lits ∙ ap (λ (s : Search). s.assumptions.lits) y.same; size = y.taken.size } in
     goes_learned g.W.CountedWrite.seen tt c.args.proof.now c.step.new.self (AtClause c.says_redundant.result c.deref.result.now c.deref-2.result.now) _
-    (learned_named c.args.search.now.parts c.args.conflict.now c.analyze.new.search.analysis c.in_ok-level.level (session_of c.args.proof.now) (global_in c.args.search.now) (ready_names (session_of c.args.proof.now) c.args.search.now c.requires.stopped.ready) x.learns c.deref.result.now (c.deref.ensures.value ∙ x.clause)) c.in_default.ensures.keeps c.in_default.ensures.records
-    (learned_whole (steps_of c.args.proof.now) (steps_of c.step.new.self) (AtClause c.says_redundant.result c.deref.result.now c.deref-2.result.now) c.args.search.now _ r.ready refl c.in_default.ensures.records.history
+    (learned_named c.args.search.now.parts c.args.conflict.now c.analyze.new.search.analysis c.in_ok-level.level (session_of c.args.proof.now) (global_in c.args.search.now) (ready_names (session_of c.args.proof.now) c.args.search.now c.requires.stopped.ready) x.learns c.deref.result.now (c.deref.ensures.value ∙ x.clause)) c.in_ok-step.ensures.keeps c.in_ok-step.ensures.records
+    (learned_whole (steps_of c.args.proof.now) (steps_of c.step.new.self) (AtClause c.says_redundant.result c.deref.result.now c.deref-2.result.now) c.args.search.now _ r.ready refl c.in_ok-step.ensures.records.history
     (learned_stands c.args.search.now.parts c.args.conflict.now c.analyze.new.search.analysis c.in_ok-level.level (steps_of c.args.proof.now) (global_in c.args.search.now) r.refuted c.requires.above r.fits (ready_names (session_of c.args.proof.now) c.args.search.now r.ready) x.learns
-    c.take_in.new.search.parts c.in_ok-level.header c.deref.result.now c.deref-2.result.now c.says_redundant.result (steps_of c.step.new.self) (c.deref.ensures.value ∙ x.clause) flags c.in_default.ensures.records.history taken.holds taken.fits)
+    c.take_in.new.search.parts c.in_ok-level.header c.deref.result.now c.deref-2.result.now c.says_redundant.result (steps_of c.step.new.self) (c.deref.ensures.value ∙ x.clause) flags c.in_ok-step.ensures.records.history taken.holds taken.fits)
     taken.rises taken.size
     (learned_last c.args.search.now.parts c.args.conflict.now c.analyze.new.search.analysis c.in_ok-level.level (steps_of c.args.proof.now) (global_in c.args.search.now) r.refuted c.requires.above r.fits (ready_names (session_of c.args.proof.now) c.args.search.now r.ready) x.learns
     c.deref.result.now c.deref-2.result.now c.says_redundant.result (c.deref.ensures.value ∙ x.clause))

@@ -22,13 +22,14 @@ step-requires-clause-may g c =
     deleted_may (session_of c.args.proof.now) c.args.search.now (record c.args.search.now { parts = c.drop_clause.new.parts }) c.requires.search refl refl refl refl c.args.cref c.requires.learned (c.drop_clause.ensures.dropped c.if-not-drop_clause.false)
     c.deref-2.result.now (c.deref-2.ensures.value ∙ rw c.deref.ensures.value at c.in_ok-map_clause.ensures)
 
-pub returns-in-Ok : goal.returns-in-Ok
-returns-in-Ok g c =
-    goes_step g.W.CountedWrite.seen true c.args.proof.now c.step.new.self (DeleteClause c.deref-2.result.now Redundant) _ tt refl c.in-Ok.ensures.keeps c.in-Ok.ensures.records
+pub returns : goal.returns
+returns g c =
+    goes_step g.W.CountedWrite.seen true c.args.proof.now c.step.new.self (DeleteClause c.deref-2.result.now Redundant) _ tt refl c.in_ok-step.ensures.keeps c.in_ok-step.ensures.records
     (deleted_one (session_of c.args.proof.now) c.args.search.now _ c.requires.search refl refl refl refl c.args.cref c.requires.learned (c.drop_clause.ensures.dropped c.if-not-drop_clause.false)
-    (session_of c.step.new.self) c.deref-2.result.now (c.deref-2.ensures.value ∙ rw c.deref.ensures.value at c.in_ok-map_clause.ensures) (ap (λ ss. session_after ss) c.in-Ok.ensures.records.history) c.drop_clause.ensures.holds c.drop_clause.ensures.word c.drop_clause.ensures.others (c.drop_clause.ensures.free c.if-not-drop_clause.false))
+    (session_of c.step.new.self) c.deref-2.result.now (c.deref-2.ensures.value ∙ rw c.deref.ensures.value at c.in_ok-map_clause.ensures) (ap (λ ss. session_after ss) c.in_ok-step.ensures.records.history) c.drop_clause.ensures.holds c.drop_clause.ensures.word c.drop_clause.ensures.others (c.drop_clause.ensures.free c.if-not-drop_clause.false))
 
-pub returns-in-Err : goal.returns-in-Err
-returns-in-Err g c =
-    rw c.proof_fault.ensures
-    (goes_broken g.W.CountedWrite.seen c.in-Err.error c.args.proof.now c.step.new.self (DeleteClause c.deref-2.result.now Redundant) _ tt c.in-Err.ensures.keeps c.in-Err.ensures.records)
+pub returns-in_err-step : goal.returns-in_err-step
+returns-in_err-step g c =
+    let p = err_from_is_err_and c.from_residual-in_err-step.result c.from_residual-in_err-step.ensures.1 in
+    rw (p.1, p.2)
+    (goes_broken g.W.CountedWrite.seen c.in_err-step.field-0.0 c.args.proof.now c.step.new.self (DeleteClause c.deref-2.result.now Redundant) _ tt c.in_err-step.ensures.keeps c.in_err-step.ensures.records)

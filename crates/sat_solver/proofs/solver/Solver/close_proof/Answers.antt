@@ -10,8 +10,8 @@ returns-in-Ok-clause-closes g c = closed_by g.W.CountedWrite.seen c.args.self.no
 
 pub fail-requires : goal.fail-requires
 fail-requires g c = record {
-  kept = rw c.proof_fault.ensures (close_kept g.W.CountedWrite.seen c.args.self.now c.if-self.false (c.requires c.if-self.false).taking c.close.new.self c.in-Err.error c.in-Err.ensures.closes);
+  kept = rw c.from.ensures (close_kept g.W.CountedWrite.seen c.args.self.now c.if-self.false (c.requires c.if-self.false).taking c.close.new.self c.in-Err.error c.in-Err.ensures.closes);
 }
 
 pub returns-in-Err-clause-closes : goal.returns-in-Err-clause-closes
-returns-in-Err-clause-closes g c = rw (c.fail.ensures.error, c.fail.ensures.fails, c.proof_fault.ensures) (close_ends g.W.CountedWrite.seen c.args.self.now c.if-self.false (c.requires c.if-self.false).taking c.close.new.self c.in-Err.error c.in-Err.ensures.closes)
+returns-in-Err-clause-closes g c = rw (c.fail.ensures.error, c.fail.ensures.fails, c.from.ensures) (close_ends g.W.CountedWrite.seen c.args.self.now c.if-self.false (c.requires c.if-self.false).taking c.close.new.self c.in-Err.error c.in-Err.ensures.closes)

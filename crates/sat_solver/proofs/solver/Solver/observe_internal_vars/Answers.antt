@@ -22,9 +22,9 @@ returns-in-Err-clause-fails g c =
     let s = c.args.self.now in
     let broke = names_broke g.W.CountedWrite.seen s.core (record s.core { proof = c.observe_internal_vars.new.writer }) c.in-Err.error (c.in-Err.ensures.came s.core.proof (none_took g.W.CountedWrite.seen s.core.proof)) in
     let failing = record s { names = c.observe_internal_vars.new.variables; core = record s.core { proof = c.observe_internal_vars.new.writer } } in
-    rw (c.fail.ensures.error, c.fail.ensures.fails, c.name_fault.ensures) (new_ends g.W.CountedWrite.seen _ s (failed_with failing) c.if-self.false (fault_left _ broke.0.fault (λ e. c.in-Err.ensures.left (told_limit c.in-Err.error e))) (names_told g.W.CountedWrite.seen _ s.core failing broke.0) refl refl)
+    rw (c.fail.ensures.error, c.fail.ensures.fails, c.from.ensures) (new_ends g.W.CountedWrite.seen _ s (failed_with failing) c.if-self.false (fault_left _ broke.0.fault (λ e. c.in-Err.ensures.left (told_limit c.in-Err.error e))) (names_told g.W.CountedWrite.seen _ s.core failing broke.0) refl refl)
 
 pub fail-requires : goal.fail-requires
 fail-requires g c =
     let s = c.args.self.now in
-    record { kept = rw c.name_fault.ensures (names_broke g.W.CountedWrite.seen s.core (record s.core { proof = c.observe_internal_vars.new.writer }) {full = ⊥} c.in-Err.error (c.in-Err.ensures.came s.core.proof (none_took g.W.CountedWrite.seen s.core.proof))).1 }
+    record { kept = rw c.from.ensures (names_broke g.W.CountedWrite.seen s.core (record s.core { proof = c.observe_internal_vars.new.writer }) {full = ⊥} c.in-Err.error (c.in-Err.ensures.came s.core.proof (none_took g.W.CountedWrite.seen s.core.proof))).1 }

@@ -39,7 +39,7 @@ fail-requires-in-Err-flush g c =
     let mid : Solver g.row.W.Denot g.row.P.Denot g.P.ProofProcessor = c.find_where_unknown.new.self in
     let settled : Settled seen s mid = settled_begun seen s c.begin_ask.new.self c.begin_ask.ensures.adds c.begin_ask.ensures.taking mid c.in_default.ensures in
     let h = settled_broken seen s mid settled c.flush.new.self c.in-Err-flush.error c.in-Err-flush.ensures.flushes in
-    record { kept = rw c.proof_fault.ensures h.0.1 }
+    record { kept = rw c.from.ensures h.0.1 }
 
 pub returns-in-Err-flush-clause-solves : goal.returns-in-Err-flush-clause-solves
 returns-in-Err-flush-clause-solves g c =
@@ -48,7 +48,7 @@ returns-in-Err-flush-clause-solves g c =
     let mid : Solver g.row.W.Denot g.row.P.Denot g.P.ProofProcessor = c.find_where_unknown.new.self in
     let settled : Settled seen s mid = settled_begun seen s c.begin_ask.new.self c.begin_ask.ensures.adds c.begin_ask.ensures.taking mid c.in_default.ensures in
     let end : Solver g.row.W.Denot g.row.P.Denot g.P.ProofProcessor = record mid { core = record mid.core { proof = c.flush.new.self } } in
-    rw (c.fail-in-Err-flush.ensures.error, c.fail-in-Err-flush.ensures.fails, c.proof_fault.ensures) (solve_ends seen c.args.self.now end c.if-self.false (fault_of c.in-Err-flush.error) (settled_broken seen s mid settled c.flush.new.self c.in-Err-flush.error c.in-Err-flush.ensures.flushes))
+    rw (c.fail-in-Err-flush.ensures.error, c.fail-in-Err-flush.ensures.fails, c.from.ensures) (solve_ends seen c.args.self.now end c.if-self.false (fault_of c.in-Err-flush.error) (settled_broken seen s mid settled c.flush.new.self c.in-Err-flush.error c.in-Err-flush.ensures.flushes))
 
 -- it was flushed
 

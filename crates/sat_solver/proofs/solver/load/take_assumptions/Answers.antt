@@ -7,39 +7,43 @@ use Rattle.sat_solver.proofs.lemmas.solver.TakingLemmas.{told_fails, fault_on, a
 use Rattle.sat_solver.specs.declared.error.SolverError.TheVariants as errors
 use Rattle.sat_solver.proofs.solver.load.take_assumptions.Goals as goal
 
-pub returns-in-Err-clause-takes : goal.returns-in-Err-clause-takes
-returns-in-Err-clause-takes g c = rw c.name_fault.ensures (names_broke g.W.CountedWrite.seen c.args.core.now (record c.args.core.now { proof = c.assume.new.writer }) c.in-Err.error (c.in-Err.ensures.came c.args.core.now.proof (none_took g.W.CountedWrite.seen c.args.core.now.proof)))
+pub returns-in_err-assume-clause-takes : goal.returns-in_err-assume-clause-takes
+returns-in_err-assume-clause-takes g c =
+    let p = err_from_is_err_and c.from_residual.result c.from_residual.ensures.1 in
+    rw (p.1, p.2) (names_broke g.W.CountedWrite.seen c.args.core.now (record c.args.core.now { proof = c.assume.new.writer }) c.in_err-assume.field-0.0 (c.in_err-assume.ensures.came c.args.core.now.proof (none_took g.W.CountedWrite.seen c.args.core.now.proof)))
 
 pub new_indices-requires-clause-vacant : goal.new_indices-requires-clause-vacant
 new_indices-requires-clause-vacant g c = rw (c.deref.ensures.value, c.deref-2.ensures.value)
-    (asked_vacant g.W.CountedWrite.seen c.args.names.now c.assume.new.variables c.args.core.now c.requires.joined c.args.lits.now c.assume.new.asked c.assume.new.writer c.in_default.ensures.assumes (c.in_default.ensures.came c.args.core.now.proof (none_took g.W.CountedWrite.seen c.args.core.now.proof)) c.in_default.ensures.keeps)
+    (asked_vacant g.W.CountedWrite.seen c.args.names.now c.assume.new.variables c.args.core.now c.requires.joined c.args.lits.now c.assume.new.asked c.assume.new.writer c.in_ok-assume.ensures.assumes (c.in_ok-assume.ensures.came c.args.core.now.proof (none_took g.W.CountedWrite.seen c.args.core.now.proof)) c.in_ok-assume.ensures.keeps)
 
 pub returns-in_err-new_indices-clause-takes : goal.returns-in_err-new_indices-clause-takes
 returns-in_err-new_indices-clause-takes g c =
-    let p = err_from_is_err_and c.from_residual.result c.from_residual.ensures.1 in
-    rw (p.1, p.2) (names_starved g.W.CountedWrite.seen c.args.core.now (record c.args.core.now { proof = c.assume.new.writer; search = c.new_indices.new.search }) (c.in_default.ensures.came c.args.core.now.proof (none_took g.W.CountedWrite.seen c.args.core.now.proof)))
+    let p = err_from_is_err_and c.from_residual-in_err-new_indices.result c.from_residual-in_err-new_indices.ensures.1 in
+    rw (p.1, p.2) (names_starved g.W.CountedWrite.seen c.args.core.now (record c.args.core.now { proof = c.assume.new.writer; search = c.new_indices.new.search }) (c.in_ok-assume.ensures.came c.args.core.now.proof (none_took g.W.CountedWrite.seen c.args.core.now.proof)))
 
 pub set_assumptions-requires-clause-there : goal.set_assumptions-requires-clause-there
-set_assumptions-requires-clause-there g c = rw c.deref-3.ensures.value (asked_there g.W.CountedWrite.seen c.args.names.now c.assume.new.variables c.args.core.now c.requires.joined c.args.lits.now c.assume.new.asked c.assume.new.writer c.in_default.ensures.assumes (c.in_default.ensures.came c.args.core.now.proof (none_took g.W.CountedWrite.seen c.args.core.now.proof)) c.in_default.ensures.keeps c.new_indices.new.search
+set_assumptions-requires-clause-there g c = rw c.deref-3.ensures.value (asked_there g.W.CountedWrite.seen c.args.names.now c.assume.new.variables c.args.core.now c.requires.joined c.args.lits.now c.assume.new.asked c.assume.new.writer c.in_ok-assume.ensures.assumes (c.in_ok-assume.ensures.came c.args.core.now.proof (none_took g.W.CountedWrite.seen c.args.core.now.proof)) c.in_ok-assume.ensures.keeps c.new_indices.new.search
     (subst (λ (gs : List ℕ). AreIndexed gs c.assume.new.asked.given.items c.args.core.now.search c.new_indices.new.search) c.deref.ensures.value
     (subst (λ (hs : List Given). AreIndexed c.deref.result.now hs c.args.core.now.search c.new_indices.new.search) c.deref-2.ensures.value c.in_ok-new_indices.ensures)))
 
 pub returns-in_err-set_assumptions-clause-takes : goal.returns-in_err-set_assumptions-clause-takes
 returns-in_err-set_assumptions-clause-takes g c =
     let p = err_from_is_err_and c.from_residual-in_err-set_assumptions.result c.from_residual-in_err-set_assumptions.ensures.1 in
-    rw (p.1, p.2) (names_starved g.W.CountedWrite.seen c.args.core.now (record c.args.core.now { proof = c.assume.new.writer; search = c.set_assumptions.new.search }) (c.in_default.ensures.came c.args.core.now.proof (none_took g.W.CountedWrite.seen c.args.core.now.proof)))
+    rw (p.1, p.2) (names_starved g.W.CountedWrite.seen c.args.core.now (record c.args.core.now { proof = c.assume.new.writer; search = c.set_assumptions.new.search }) (c.in_ok-assume.ensures.came c.args.core.now.proof (none_took g.W.CountedWrite.seen c.args.core.now.proof)))
 
 pub returns-clause-takes : goal.returns-clause-takes
-returns-clause-takes g c = asked_taken g.W.CountedWrite.seen c.args.names.now c.assume.new.variables c.args.core.now c.requires.joined c.args.lits.now c.assume.new.asked c.assume.new.writer c.in_default.ensures.assumes (c.in_default.ensures.came c.args.core.now.proof (none_took g.W.CountedWrite.seen c.args.core.now.proof)) c.in_default.ensures.keeps c.new_indices.new.search
+returns-clause-takes g c = asked_taken g.W.CountedWrite.seen c.args.names.now c.assume.new.variables c.args.core.now c.requires.joined c.args.lits.now c.assume.new.asked c.assume.new.writer c.in_ok-assume.ensures.assumes (c.in_ok-assume.ensures.came c.args.core.now.proof (none_took g.W.CountedWrite.seen c.args.core.now.proof)) c.in_ok-assume.ensures.keeps c.new_indices.new.search
     (subst (λ (gs : List ℕ). AreIndexed gs c.assume.new.asked.given.items c.args.core.now.search c.new_indices.new.search) c.deref.ensures.value
     (subst (λ (hs : List Given). AreIndexed c.deref.result.now hs c.args.core.now.search c.new_indices.new.search) c.deref-2.ensures.value c.in_ok-new_indices.ensures))
     c.set_assumptions.new.search (subst (λ (ls : List ℕ). AreAssumed ls c.new_indices.new.search c.set_assumptions.new.search) c.deref-3.ensures.value c.in_ok-set_assumptions.ensures)
 
-pub returns-in-Err-clause-room : goal.returns-in-Err-clause-room
-returns-in-Err-clause-room g c = λ h. rw c.name_fault.ensures (told_fails c.in-Err.error (c.in-Err.ensures.room h))
+pub returns-in_err-assume-clause-room : goal.returns-in_err-assume-clause-room
+returns-in_err-assume-clause-room g c = λ h.
+    let p = err_from_is_err_and c.from_residual.result c.from_residual.ensures.1 in
+    rw (p.1, p.2) (told_fails c.in_err-assume.field-0.0 (c.in_err-assume.ensures.room h))
 
 pub returns-in_err-new_indices-clause-room : goal.returns-in_err-new_indices-clause-room
-returns-in_err-new_indices-clause-room g c = λ h. fault_on _ c.from_residual.result errors.OutOfMemory c.from_residual.ensures.1 tt
+returns-in_err-new_indices-clause-room g c = λ h. fault_on _ c.from_residual-in_err-new_indices.result errors.OutOfMemory c.from_residual-in_err-new_indices.ensures.1 tt
 
 pub returns-in_err-set_assumptions-clause-room : goal.returns-in_err-set_assumptions-clause-room
 returns-in_err-set_assumptions-clause-room g c = λ h. fault_on _ c.from_residual-in_err-set_assumptions.result errors.OutOfMemory c.from_residual-in_err-set_assumptions.ensures.1 tt

@@ -8,45 +8,49 @@ use Rattle.sat_solver.specs.load.Faults.{told_as}
 use Rattle.sat_solver.proofs.lemmas.cdcl.GoingLemmas.{fault_or}
 use Rattle.sat_solver.proofs.solver.load.take_clause.Goals as goal
 
-pub returns-in-Err-clause-takes : goal.returns-in-Err-clause-takes
-returns-in-Err-clause-takes g c = rw c.name_fault.ensures (names_broke g.W.CountedWrite.seen c.args.core.now (record c.args.core.now { proof = c.add_clause-added.new.writer }) c.in-Err.error (c.in-Err.ensures.came c.args.core.now.proof (none_took g.W.CountedWrite.seen c.args.core.now.proof)))
+pub returns-in_err-both_signs-clause-takes : goal.returns-in_err-both_signs-clause-takes
+returns-in_err-both_signs-clause-takes g c =
+    let p = err_from_is_err_and c.from_residual.result c.from_residual.ensures.1 in
+    rw (p.1, p.2) (names_broke g.W.CountedWrite.seen c.args.core.now (record c.args.core.now { proof = c.add_clause.new.writer }) c.in_err-both_signs.field-0.0 (c.in_err-both_signs.ensures.came c.args.core.now.proof (none_took g.W.CountedWrite.seen c.args.core.now.proof)))
 
 pub new_indices-requires-clause-vacant : goal.new_indices-requires-clause-vacant
-new_indices-requires-clause-vacant g c = rw (c.deref.ensures.value, c.deref-2.ensures.value) (clause_vacant g.W.CountedWrite.seen c.args.names.now c.add_clause-added.new.variables c.args.core.now c.requires.joined c.args.lits.now c.add_clause-added.new.taken c.in-Ok.both_signs c.add_clause-added.new.writer c.in-Ok.ensures.adds (c.in-Ok.ensures.came c.args.core.now.proof (none_took g.W.CountedWrite.seen c.args.core.now.proof)) c.in-Ok.ensures.keeps)
+new_indices-requires-clause-vacant g c = rw (c.deref.ensures.value, c.deref-2.ensures.value) (clause_vacant g.W.CountedWrite.seen c.args.names.now c.add_clause.new.variables c.args.core.now c.requires.joined c.args.lits.now c.add_clause.new.taken c.in_ok-both_signs.both_signs c.add_clause.new.writer c.in_ok-both_signs.ensures.adds (c.in_ok-both_signs.ensures.came c.args.core.now.proof (none_took g.W.CountedWrite.seen c.args.core.now.proof)) c.in_ok-both_signs.ensures.keeps)
 
 pub returns-in_err-new_indices-clause-takes : goal.returns-in_err-new_indices-clause-takes
 returns-in_err-new_indices-clause-takes g c =
-    let p = err_from_is_err_and c.from_residual.result c.from_residual.ensures.1 in
-    rw (p.1, p.2) (names_starved g.W.CountedWrite.seen c.args.core.now (record c.args.core.now { proof = c.add_clause-added.new.writer; search = c.new_indices.new.search }) (c.in-Ok.ensures.came c.args.core.now.proof (none_took g.W.CountedWrite.seen c.args.core.now.proof)))
+    let p = err_from_is_err_and c.from_residual-in_err-new_indices.result c.from_residual-in_err-new_indices.ensures.1 in
+    rw (p.1, p.2) (names_starved g.W.CountedWrite.seen c.args.core.now (record c.args.core.now { proof = c.add_clause.new.writer; search = c.new_indices.new.search }) (c.in_ok-both_signs.ensures.came c.args.core.now.proof (none_took g.W.CountedWrite.seen c.args.core.now.proof)))
 
 pub returns-then-both_signs-clause-takes : goal.returns-then-both_signs-clause-takes
-returns-then-both_signs-clause-takes g c = clause_both g.W.CountedWrite.seen c.args.names.now c.add_clause-added.new.variables c.args.core.now c.requires.joined c.args.lits.now c.add_clause-added.new.taken c.in-Ok.both_signs c.add_clause-added.new.writer c.in-Ok.ensures.adds (c.in-Ok.ensures.came c.args.core.now.proof (none_took g.W.CountedWrite.seen c.args.core.now.proof)) c.in-Ok.ensures.keeps c.new_indices.new.search
-    (subst (λ (gs : List ℕ). AreIndexed gs c.add_clause-added.new.taken.given.items c.args.core.now.search c.new_indices.new.search) c.deref.ensures.value
+returns-then-both_signs-clause-takes g c = clause_both g.W.CountedWrite.seen c.args.names.now c.add_clause.new.variables c.args.core.now c.requires.joined c.args.lits.now c.add_clause.new.taken c.in_ok-both_signs.both_signs c.add_clause.new.writer c.in_ok-both_signs.ensures.adds (c.in_ok-both_signs.ensures.came c.args.core.now.proof (none_took g.W.CountedWrite.seen c.args.core.now.proof)) c.in_ok-both_signs.ensures.keeps c.new_indices.new.search
+    (subst (λ (gs : List ℕ). AreIndexed gs c.add_clause.new.taken.given.items c.args.core.now.search c.new_indices.new.search) c.deref.ensures.value
     (subst (λ (hs : List Given). AreIndexed c.deref.result.now hs c.args.core.now.search c.new_indices.new.search) c.deref-2.ensures.value c.in_ok-new_indices.ensures))
     c.if-both_signs.true
 
 pub load_clause-requires-clause-added : goal.load_clause-requires-clause-added
-load_clause-requires-clause-added g c = rw c.deref-3.ensures.value (clause_added g.W.CountedWrite.seen c.args.names.now c.add_clause-added.new.variables c.args.core.now c.requires.joined c.args.lits.now c.add_clause-added.new.taken c.in-Ok.both_signs c.add_clause-added.new.writer c.in-Ok.ensures.adds (c.in-Ok.ensures.came c.args.core.now.proof (none_took g.W.CountedWrite.seen c.args.core.now.proof)) c.in-Ok.ensures.keeps c.new_indices.new.search
-    (subst (λ (gs : List ℕ). AreIndexed gs c.add_clause-added.new.taken.given.items c.args.core.now.search c.new_indices.new.search) c.deref.ensures.value
+load_clause-requires-clause-added g c = rw c.deref-3.ensures.value (clause_added g.W.CountedWrite.seen c.args.names.now c.add_clause.new.variables c.args.core.now c.requires.joined c.args.lits.now c.add_clause.new.taken c.in_ok-both_signs.both_signs c.add_clause.new.writer c.in_ok-both_signs.ensures.adds (c.in_ok-both_signs.ensures.came c.args.core.now.proof (none_took g.W.CountedWrite.seen c.args.core.now.proof)) c.in_ok-both_signs.ensures.keeps c.new_indices.new.search
+    (subst (λ (gs : List ℕ). AreIndexed gs c.add_clause.new.taken.given.items c.args.core.now.search c.new_indices.new.search) c.deref.ensures.value
     (subst (λ (hs : List Given). AreIndexed c.deref.result.now hs c.args.core.now.search c.new_indices.new.search) c.deref-2.ensures.value c.in_ok-new_indices.ensures)))
 
 pub load_clause-requires-clause-may : goal.load_clause-requires-clause-may
-load_clause-requires-clause-may g c = rw c.deref-3.ensures.value (clause_may g.W.CountedWrite.seen c.args.names.now c.add_clause-added.new.variables c.args.core.now c.requires.joined c.args.lits.now c.add_clause-added.new.taken c.in-Ok.both_signs c.add_clause-added.new.writer c.in-Ok.ensures.adds (c.in-Ok.ensures.came c.args.core.now.proof (none_took g.W.CountedWrite.seen c.args.core.now.proof)) c.in-Ok.ensures.keeps c.new_indices.new.search
-    (subst (λ (gs : List ℕ). AreIndexed gs c.add_clause-added.new.taken.given.items c.args.core.now.search c.new_indices.new.search) c.deref.ensures.value
+load_clause-requires-clause-may g c = rw c.deref-3.ensures.value (clause_may g.W.CountedWrite.seen c.args.names.now c.add_clause.new.variables c.args.core.now c.requires.joined c.args.lits.now c.add_clause.new.taken c.in_ok-both_signs.both_signs c.add_clause.new.writer c.in_ok-both_signs.ensures.adds (c.in_ok-both_signs.ensures.came c.args.core.now.proof (none_took g.W.CountedWrite.seen c.args.core.now.proof)) c.in_ok-both_signs.ensures.keeps c.new_indices.new.search
+    (subst (λ (gs : List ℕ). AreIndexed gs c.add_clause.new.taken.given.items c.args.core.now.search c.new_indices.new.search) c.deref.ensures.value
     (subst (λ (hs : List Given). AreIndexed c.deref.result.now hs c.args.core.now.search c.new_indices.new.search) c.deref-2.ensures.value c.in_ok-new_indices.ensures))
     c.if-both_signs.false)
 
 pub returns-clause-takes : goal.returns-clause-takes
-returns-clause-takes g c = clause_told g.W.CountedWrite.seen c.args.names.now c.add_clause-added.new.variables c.args.core.now c.requires.joined c.args.lits.now c.add_clause-added.new.taken c.in-Ok.both_signs c.add_clause-added.new.writer c.in-Ok.ensures.adds (c.in-Ok.ensures.came c.args.core.now.proof (none_took g.W.CountedWrite.seen c.args.core.now.proof)) c.in-Ok.ensures.keeps c.new_indices.new.search
-    (subst (λ (gs : List ℕ). AreIndexed gs c.add_clause-added.new.taken.given.items c.args.core.now.search c.new_indices.new.search) c.deref.ensures.value
+returns-clause-takes g c = clause_told g.W.CountedWrite.seen c.args.names.now c.add_clause.new.variables c.args.core.now c.requires.joined c.args.lits.now c.add_clause.new.taken c.in_ok-both_signs.both_signs c.add_clause.new.writer c.in_ok-both_signs.ensures.adds (c.in_ok-both_signs.ensures.came c.args.core.now.proof (none_took g.W.CountedWrite.seen c.args.core.now.proof)) c.in_ok-both_signs.ensures.keeps c.new_indices.new.search
+    (subst (λ (gs : List ℕ). AreIndexed gs c.add_clause.new.taken.given.items c.args.core.now.search c.new_indices.new.search) c.deref.ensures.value
     (subst (λ (hs : List Given). AreIndexed c.deref.result.now hs c.args.core.now.search c.new_indices.new.search) c.deref-2.ensures.value c.in_ok-new_indices.ensures))
     c.load_clause.result c.load_clause.new.proof c.load_clause.new.search c.load_clause.ensures.goes c.load_clause.ensures.comes
 
-pub returns-in-Err-clause-room : goal.returns-in-Err-clause-room
-returns-in-Err-clause-room g c = λ h. rw c.name_fault.ensures (fault_or _ (told_as c.in-Err.error) (told_fails c.in-Err.error (c.in-Err.ensures.room h)))
+pub returns-in_err-both_signs-clause-room : goal.returns-in_err-both_signs-clause-room
+returns-in_err-both_signs-clause-room g c = λ h.
+    let p = err_from_is_err_and c.from_residual.result c.from_residual.ensures.1 in
+    rw (p.1, p.2) (fault_or _ (told_as c.in_err-both_signs.field-0.0) (told_fails c.in_err-both_signs.field-0.0 (c.in_err-both_signs.ensures.room h)))
 
 pub returns-in_err-new_indices-clause-room : goal.returns-in_err-new_indices-clause-room
-returns-in_err-new_indices-clause-room g c = λ h. fault_on _ c.from_residual.result errors.OutOfMemory c.from_residual.ensures.1 tt
+returns-in_err-new_indices-clause-room g c = λ h. fault_on _ c.from_residual-in_err-new_indices.result errors.OutOfMemory c.from_residual-in_err-new_indices.ensures.1 tt
 
 pub returns-clause-room : goal.returns-clause-room
 returns-clause-room g c = λ h. fault_ends g.W.CountedWrite.seen c.load_clause.result _ _ _ c.load_clause.ensures.goes

@@ -20,12 +20,14 @@ step-requires-clause-may g c =
     let ls : c.deref.result.now ≡ model_of n a = c.deref.ensures.value ∙ c.in_ok-model_lits.ensures ∙ ap (λ (vs : List (Option Bool)). model_to n vs (variables_used n)) c.assignment-values.ensures.values in
     subst (λ (ls : List _). May (session_of a.proof) (Model ls)) (sym ls) (shown_may n (session_of a.proof) a.search c.requires.joined.stands.tidy c.requires.joined.stands.said c.requires.joined.sound.search c.requires.joined.shares c.requires.complete)
 
-pub returns-in-Ok : goal.returns-in-Ok
-returns-in-Ok g c =
+pub returns : goal.returns
+returns g c =
     let a = c.args.core.now in
     let n = c.args.names.now in
     let ls : c.deref.result.now ≡ model_of n a = c.deref.ensures.value ∙ c.in_ok-model_lits.ensures ∙ ap (λ (vs : List (Option Bool)). model_to n vs (variables_used n)) c.assignment-values.ensures.values in
-    model_shown g.W.CountedWrite.seen n a c.requires.joined c.step.new.self c.deref.result.now ls c.in-Ok.ensures.records c.in-Ok.ensures.keeps
+    model_shown g.W.CountedWrite.seen n a c.requires.joined c.step.new.self c.deref.result.now ls c.in_ok-step.ensures.records c.in_ok-step.ensures.keeps
 
-pub returns-in-Err : goal.returns-in-Err
-returns-in-Err g c = rw c.proof_fault.ensures (broken g.W.CountedWrite.seen c.args.names.now c.args.core.now c.requires.joined c.in-Err.error (Model c.deref.result.now) c.step.new.self c.in-Err.ensures.records)
+pub returns-in_err-step : goal.returns-in_err-step
+returns-in_err-step g c =
+    let p = err_from_is_err_and c.from_residual-in_err-step.result c.from_residual-in_err-step.ensures.1 in
+    rw (p.1, p.2) (broken g.W.CountedWrite.seen c.args.names.now c.args.core.now c.requires.joined c.in_err-step.field-0.0 (Model c.deref.result.now) c.step.new.self c.in_err-step.ensures.records)

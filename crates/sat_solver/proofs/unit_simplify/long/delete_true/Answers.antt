@@ -31,8 +31,8 @@ step-requires-clause-may g c =
     (subst (λ (ls : List ℕ). May (session_of c.args.proof.now) (deleted_step c.redundant-redundant.result Satisfied ls)) (sym clause)
     (true_goes (session_of c.args.proof.now) c.args.search.now c.delete_long.new.parts c.args.cref c.requires.search c.requires.flat c.requires.live c.requires.satisfied c.delete_long.ensures.dropped c.redundant-redundant.result flag).0)
 
-pub returns-in-Ok : goal.returns-in-Ok
-returns-in-Ok g c =
+pub returns : goal.returns
+returns g c =
     let clause : c.deref-2.result.now ≡ map (with_var (global_in c.args.search.now)) (lits_at c.args.search.now.parts.clauses c.args.cref) = c.deref-2.ensures.value ∙ rw c.deref.ensures.value at c.in_ok-map_clause.ensures in
     let flag : is_redundant c.args.search.now.parts.clauses c.args.cref ≡ c.redundant-redundant.result = ap (λ (h : Header). is_learned h.tier) (sym c.header.ensures.value) ∙ sym c.redundant-redundant.ensures in
     let scratch : Scratch = record c.args.search.now.scratch { clause = c.map_clause.new.clause } in
@@ -40,10 +40,11 @@ returns-in-Ok g c =
     (subst (λ (ls : List ℕ). Lighter (after (deleted_step c.redundant-redundant.result Satisfied ls) (session_of c.args.proof.now)) c.args.search.now (record c.args.search.now { parts = c.delete_long.new.parts; scratch = scratch })) (sym clause)
     (true_lighter (session_of c.args.proof.now) c.args.search.now c.delete_long.new.parts c.args.cref c.requires.search c.requires.flat c.requires.live c.requires.satisfied c.delete_long.ensures.dropped c.redundant-redundant.result flag scratch c.delete_long.ensures.holds c.delete_long.ensures.word)) in
     let d : Search = record c.args.search.now { parts = c.delete_long.new.parts; scratch = scratch } in
-    goes_step g.W.CountedWrite.seen tt c.args.proof.now c.step.new.self (DeleteClause c.deref-2.result.now (deletion_of c.deletion_for.result)) (λ _ _. Lightens (session_of c.step.new.self) c.args.search.now d c.args.cref) tt refl c.in-Ok.ensures.keeps c.in-Ok.ensures.records
-    (lightens_dropped (session_of c.step.new.self) c.args.search.now d c.args.cref (subst (λ ss. Lighter (session_after ss) c.args.search.now d) (sym c.in-Ok.ensures.records.history) after_step) c.delete_long.ensures.dropped)
+    goes_step g.W.CountedWrite.seen tt c.args.proof.now c.step.new.self (DeleteClause c.deref-2.result.now (deletion_of c.deletion_for.result)) (λ _ _. Lightens (session_of c.step.new.self) c.args.search.now d c.args.cref) tt refl c.in_ok-step.ensures.keeps c.in_ok-step.ensures.records
+    (lightens_dropped (session_of c.step.new.self) c.args.search.now d c.args.cref (subst (λ ss. Lighter (session_after ss) c.args.search.now d) (sym c.in_ok-step.ensures.records.history) after_step) c.delete_long.ensures.dropped)
 
-pub returns-in-Err : goal.returns-in-Err
-returns-in-Err g c =
-    rw c.proof_fault.ensures
-    (goes_broken g.W.CountedWrite.seen c.in-Err.error c.args.proof.now c.step.new.self (DeleteClause c.deref-2.result.now (deletion_of c.deletion_for.result)) _ tt c.in-Err.ensures.keeps c.in-Err.ensures.records)
+pub returns-in_err-step : goal.returns-in_err-step
+returns-in_err-step g c =
+    let p = err_from_is_err_and c.from_residual-in_err-step.result c.from_residual-in_err-step.ensures.1 in
+    rw (p.1, p.2)
+    (goes_broken g.W.CountedWrite.seen c.in_err-step.field-0.0 c.args.proof.now c.step.new.self (DeleteClause c.deref-2.result.now (deletion_of c.deletion_for.result)) _ tt c.in_err-step.ensures.keeps c.in_err-step.ensures.records)

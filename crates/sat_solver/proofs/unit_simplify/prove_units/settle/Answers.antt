@@ -18,10 +18,10 @@ returns-then-current_level-gt0 g c =
     goes_none g.W.CountedWrite.seen tt c.args.proof.now (λ _ _. IsSettled c.args.parts.now c.args.parts.now (session_of c.args.proof.now) (global_of c.args.globals.now)) c.requires.keeps
     (settled_above c.args.parts.now (session_of c.args.proof.now) (global_of c.args.globals.now) (omega (arith, c.current_level.ensures)) c.requires.holds c.requires.done (c.requires.units (omega (arith, c.current_level.ensures))) c.requires.fits)
 
-pub returns-in-Ok : goal.returns-in-Ok
-returns-in-Ok g c =
+pub returns : goal.returns
+returns g c =
     goes_on g.W.CountedWrite.seen tt tt c.args.proof.now c.write_units.new.proof (λ _ _. AllUnits c.args.parts.now (session_of c.write_units.new.proof) (global_of c.args.globals.now))
     (λ _ _. IsSettled c.args.parts.now c.clear_units.new.parts (session_of c.write_units.new.proof) (global_of c.args.globals.now))
     (λ steps all. settled_bottom c.args.parts.now c.clear_units.new.parts (session_of c.write_units.new.proof) (global_of c.args.globals.now) all (omega (arith, c.current_level.ensures))
     c.clear_units.ensures.holds c.clear_units.ensures.done c.clear_units.ensures.bottom c.clear_units.ensures.empty c.clear_units.ensures.same c.clear_units.ensures.clears c.clear_units.ensures.word)
-    c.in-Ok.ensures
+    c.in_ok-write_units.ensures

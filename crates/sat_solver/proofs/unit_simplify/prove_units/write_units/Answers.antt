@@ -1,10 +1,10 @@
 use Rattle.std.proofs.Common.{ℕ, ◌≡◌, ◌∙◌, sym, subst, refl, List, [], arith}
 use Rattle.std.proofs.lemmas.Grind.{common_steps}
+use Rattle.std.proofs.lemmas.Result.{err_from_is_err_and}
 use Rattle.sat_base.specs.steps.Steps.{UnitClauses}
 use Rattle.sat_parts.specs.clause.Db.{live_refs}
 use Rattle.sat_solver.specs.session.Session.{MayProve, session_after}
 use Rattle.sat_solver.specs.proof.ProofView.{session_of}
-use Rattle.sat_solver.proofs.lemmas.session.CuttingLemmas.{ok_part}
 use Rattle.sat_solver.specs.session.TrailUnits.{written_units}
 use Rattle.sat_parts.specs.parts.Whole.{state}
 use Rattle.sat_solver.specs.session.Naming.{global_of}
@@ -15,13 +15,15 @@ use Rattle.sat_solver.proofs.lemmas.cdcl.LeftLemmas.{units_step, units_none, non
 use Rattle.sat_solver.proofs.lemmas.cdcl.NamedLemmas.{units_named}
 use Rattle.sat_solver.proofs.unit_simplify.prove_units.write_units.Goals as goal
 
-pub returns-then-is_err : goal.returns-then-is_err
-returns-then-is_err g c = rw c.of.ensures (goes_starved g.W.CountedWrite.seen c.args.proof.now (λ _ _. AllUnits c.args.parts.now (session_of c.args.proof.now) (global_of c.args.globals.now)) c.requires.keeps)
+pub returns-in_err-collect_units : goal.returns-in_err-collect_units
+returns-in_err-collect_units g c =
+    let p = err_from_is_err_and c.from_residual.result c.from_residual.ensures.1 in
+    rw (p.1, p.2) (goes_starved g.W.CountedWrite.seen c.args.proof.now (λ _ _. AllUnits c.args.parts.now (session_of c.args.proof.now) (global_of c.args.globals.now)) c.requires.keeps)
 
 pub returns-then-is_empty : goal.returns-then-is_empty
 returns-then-is_empty g c =
     let none : written_units c.args.parts.now.clauses (state c.args.parts.now) 64 (global_of c.args.globals.now) c.args.parts.now.trail.lits ≡ [] =
-    sym (ok_part c.collect_units.result _ (sym c.is_err.ensures.value ∙ c.if-is_err.false) c.collect_units.ensures) ∙ none_left c.collect_units.new.units.items (grind (arith, common_steps, c.is_empty.ensures, c.if-is_empty.true)) in
+    sym c.in_ok-collect_units.ensures ∙ none_left c.collect_units.new.units.items (grind (arith, common_steps, c.is_empty.ensures, c.if-is_empty.true)) in
     goes_none g.W.CountedWrite.seen tt c.args.proof.now (λ _ _. AllUnits c.args.parts.now (session_of c.args.proof.now) (global_of c.args.globals.now)) c.requires.keeps
     (units_none c.args.parts.now (session_of c.args.proof.now) (global_of c.args.globals.now) c.requires.orderly c.requires.bottom c.requires.fits c.requires.named none)
 
@@ -29,23 +31,24 @@ pub step-requires-clause-may : goal.step-requires-clause-may
 step-requires-clause-may g c =
     let p = c.args.parts.now in
     let same : c.deref.result.now ≡ written_units c.args.parts.now.clauses (state c.args.parts.now) 64 (global_of c.args.globals.now) c.args.parts.now.trail.lits =
-    c.deref.ensures.value ∙ ok_part c.collect_units.result _ (sym c.is_err.ensures.value ∙ c.if-is_err.false) c.collect_units.ensures in
+    c.deref.ensures.value ∙ c.in_ok-collect_units.ensures in
     subst (λ (us : List (ℕ × ℕ)). MayProve (session_of c.args.proof.now) us) (sym same)
     (units_may p.clauses (live_refs p.clauses p.db.refs) p.binary.implied (state p) (session_of c.args.proof.now) (global_of c.args.globals.now) c.requires.fits c.requires.named c.requires.orderly.agrees c.requires.orderly.clauses c.requires.orderly.turns c.requires.bottom)
 
-pub returns-in-Ok : goal.returns-in-Ok
-returns-in-Ok g c =
+pub returns : goal.returns
+returns g c =
     let same : c.deref.result.now ≡ written_units c.args.parts.now.clauses (state c.args.parts.now) 64 (global_of c.args.globals.now) c.args.parts.now.trail.lits =
-    c.deref.ensures.value ∙ ok_part c.collect_units.result _ (sym c.is_err.ensures.value ∙ c.if-is_err.false) c.collect_units.ensures in
+    c.deref.ensures.value ∙ c.in_ok-collect_units.ensures in
     goes_step g.W.CountedWrite.seen tt c.args.proof.now c.step.new.self (UnitClauses c.deref.result.now) (λ _ _. AllUnits c.args.parts.now (session_of c.step.new.self) (global_of c.args.globals.now))
-    (units_named c.args.parts.now (session_of c.args.proof.now) (global_of c.args.globals.now) c.requires.named c.requires.orderly c.deref.result.now same) refl c.in-Ok.ensures.keeps c.in-Ok.ensures.records
-    (subst (λ ss. AllUnits c.args.parts.now (session_after ss) (global_of c.args.globals.now)) (sym c.in-Ok.ensures.records.history ∙ refl)
+    (units_named c.args.parts.now (session_of c.args.proof.now) (global_of c.args.globals.now) c.requires.named c.requires.orderly c.deref.result.now same) refl c.in_ok-step.ensures.keeps c.in_ok-step.ensures.records
+    (subst (λ ss. AllUnits c.args.parts.now (session_after ss) (global_of c.args.globals.now)) (sym c.in_ok-step.ensures.records.history ∙ refl)
     (rw same (units_step c.args.parts.now (session_of c.args.proof.now) (global_of c.args.globals.now) c.requires.orderly c.requires.bottom c.requires.fits c.requires.named)))
 
-pub returns-in-Err : goal.returns-in-Err
-returns-in-Err g c =
+pub returns-in_err-step : goal.returns-in_err-step
+returns-in_err-step g c =
     let same : c.deref.result.now ≡ written_units c.args.parts.now.clauses (state c.args.parts.now) 64 (global_of c.args.globals.now) c.args.parts.now.trail.lits =
-    c.deref.ensures.value ∙ ok_part c.collect_units.result _ (sym c.is_err.ensures.value ∙ c.if-is_err.false) c.collect_units.ensures in
-    rw c.proof_fault.ensures
-    (goes_broken g.W.CountedWrite.seen c.in-Err.error c.args.proof.now c.step.new.self (UnitClauses c.deref.result.now) (λ _ _. AllUnits c.args.parts.now (session_of c.step.new.self) (global_of c.args.globals.now))
-    (units_named c.args.parts.now (session_of c.args.proof.now) (global_of c.args.globals.now) c.requires.named c.requires.orderly c.deref.result.now same) c.in-Err.ensures.keeps c.in-Err.ensures.records)
+    c.deref.ensures.value ∙ c.in_ok-collect_units.ensures in
+    let p = err_from_is_err_and c.from_residual-in_err-step.result c.from_residual-in_err-step.ensures.1 in
+    rw (p.1, p.2)
+    (goes_broken g.W.CountedWrite.seen c.in_err-step.field-0.0 c.args.proof.now c.step.new.self (UnitClauses c.deref.result.now) (λ _ _. AllUnits c.args.parts.now (session_of c.step.new.self) (global_of c.args.globals.now))
+    (units_named c.args.parts.now (session_of c.args.proof.now) (global_of c.args.globals.now) c.requires.named c.requires.orderly c.deref.result.now same) c.in_err-step.ensures.keeps c.in_err-step.ensures.records)

@@ -1,5 +1,6 @@
 use Rattle.std.proofs.Common.{◌≡◌, ◌∙◌, ◌∷◌, ◌&&◌, Ok, refl, ap, length}
 use Rattle.std.specs.Prelude.{nat_lt}
+use Rattle.std.proofs.lemmas.Result.{err_from_is_err_and}
 use Rattle.sat_base.specs.steps.Steps.{Step, AtClause, DeleteClause, Simplified}
 use Rattle.sat_base.specs.steps.StepViews.{deletion_of}
 use Rattle.sat_solver.specs.proof.ProofView.{steps_of}
@@ -13,13 +14,14 @@ use Rattle.sat_solver.proofs.unit_simplify.steps.write_cut.Goals as goal
 pub step-requires-clause-may : goal.step-requires-clause-may
 step-requires-clause-may g c = rw c.deref.ensures.value c.requires.may.derive
 
-pub returns-in-Err : goal.returns-in-Err
-returns-in-Err g c =
-    rw c.proof_fault.ensures
-    (goes_broken g.W.CountedWrite.seen c.in-Err.error c.args.proof.now c.step.new.self (AtClause c.left_redundant.result c.args.part.now c.deref.result.now) _ c.requires.named c.in-Err.ensures.keeps c.in-Err.ensures.records)
+pub returns-in_err-step : goal.returns-in_err-step
+returns-in_err-step g c =
+    let p = err_from_is_err_and c.from_residual.result c.from_residual.ensures.1 in
+    rw (p.1, p.2)
+    (goes_broken g.W.CountedWrite.seen c.in_err-step.field-0.0 c.args.proof.now c.step.new.self (AtClause c.left_redundant.result c.args.part.now c.deref.result.now) _ c.requires.named c.in_err-step.ensures.keeps c.in_err-step.ensures.records)
 
-pub returns-in-Ok : goal.returns-in-Ok
-returns-in-Ok g c =
+pub returns : goal.returns
+returns g c =
     let p = c.args.proof.now in
     let q = c.step.new.self in
     let z = c.step-2.new.self in
@@ -31,18 +33,19 @@ returns-in-Ok g c =
     let two_is : DeleteClause c.deref-2.result.now (deletion_of c.deletion_for.result) ≡ deleted_step c.args.redundant Simplified c.args.scratch.now.clause.items =
     ap (λ ls. DeleteClause ls (deletion_of c.deletion_for.result)) c.deref-2.ensures.value ∙ ap (λ x. DeleteClause c.args.scratch.now.clause.items x) c.deletion_for.ensures in
     goes_then g.W.CountedWrite.seen tt (Ok tt) p q z (λ (_ : Unit {0}) _. steps_of q ≡ one ∷ steps_of p) (λ (_ : Unit {0}) _. steps_of z ≡ two ∷ steps_of q) _
-    (goes_step g.W.CountedWrite.seen tt p q (AtClause c.left_redundant.result c.args.part.now c.deref.result.now) (λ _ _. steps_of q ≡ one ∷ steps_of p) c.requires.named (few_quiet c.left_redundant.result c.args.part.now c.deref.result.now (ap are_few c.deref.ensures.value ∙ c.requires.few)) c.in_default.ensures.keeps c.in_default.ensures.records
-    (c.in_default.ensures.records.history ∙ ap (λ x. x ∷ steps_of p) one_is))
-    (goes_step g.W.CountedWrite.seen tt q z (DeleteClause c.deref-2.result.now (deletion_of c.deletion_for.result)) (λ _ _. steps_of z ≡ two ∷ steps_of q) tt refl c.in-Ok.ensures.keeps c.in-Ok.ensures.records
-    (c.in-Ok.ensures.records.history ∙ ap (λ x. x ∷ steps_of q) two_is))
+    (goes_step g.W.CountedWrite.seen tt p q (AtClause c.left_redundant.result c.args.part.now c.deref.result.now) (λ _ _. steps_of q ≡ one ∷ steps_of p) c.requires.named (few_quiet c.left_redundant.result c.args.part.now c.deref.result.now (ap are_few c.deref.ensures.value ∙ c.requires.few)) c.in_ok-step.ensures.keeps c.in_ok-step.ensures.records
+    (c.in_ok-step.ensures.records.history ∙ ap (λ x. x ∷ steps_of p) one_is))
+    (goes_step g.W.CountedWrite.seen tt q z (DeleteClause c.deref-2.result.now (deletion_of c.deletion_for.result)) (λ _ _. steps_of z ≡ two ∷ steps_of q) tt refl c.in_ok-step-2.ensures.keeps c.in_ok-step-2.ensures.records
+    (c.in_ok-step-2.ensures.records.history ∙ ap (λ x. x ∷ steps_of q) two_is))
     (λ xs ys y a b. b ∙ ap (λ ss. two ∷ ss) a)
 
-pub returns-in-Err-step : goal.returns-in-Err-step
-returns-in-Err-step g c =
+pub returns-in_err-step-2 : goal.returns-in_err-step-2
+returns-in_err-step-2 g c =
     let p = c.args.proof.now in
     let q = c.step.new.self in
     let z = c.step-2.new.self in
-    rw c.proof_fault-in-Err-step.ensures
-    (goes_then_fails g.W.CountedWrite.seen tt (fault_of c.in-Err-step.error) p q z (λ (_ : Unit {0}) _. Unit {0}) (λ (_ : Unit {0}) _. Unit {0}) _
-    (goes_step g.W.CountedWrite.seen tt p q (AtClause c.left_redundant.result c.args.part.now c.deref.result.now) (λ _ _. Unit {0}) c.requires.named (few_quiet c.left_redundant.result c.args.part.now c.deref.result.now (ap are_few c.deref.ensures.value ∙ c.requires.few)) c.in_default.ensures.keeps c.in_default.ensures.records tt)
-    (goes_broken g.W.CountedWrite.seen c.in-Err-step.error q z (DeleteClause c.deref-2.result.now (deletion_of c.deletion_for.result)) _ tt c.in-Err-step.ensures.keeps c.in-Err-step.ensures.records))
+    let r = err_from_is_err_and c.from_residual-in_err-step-2.result c.from_residual-in_err-step-2.ensures.1 in
+    rw (r.1, r.2)
+    (goes_then_fails g.W.CountedWrite.seen tt (fault_of c.in_err-step-2.field-0.0) p q z (λ (_ : Unit {0}) _. Unit {0}) (λ (_ : Unit {0}) _. Unit {0}) _
+    (goes_step g.W.CountedWrite.seen tt p q (AtClause c.left_redundant.result c.args.part.now c.deref.result.now) (λ _ _. Unit {0}) c.requires.named (few_quiet c.left_redundant.result c.args.part.now c.deref.result.now (ap are_few c.deref.ensures.value ∙ c.requires.few)) c.in_ok-step.ensures.keeps c.in_ok-step.ensures.records tt)
+    (goes_broken g.W.CountedWrite.seen c.in_err-step-2.field-0.0 q z (DeleteClause c.deref-2.result.now (deletion_of c.deletion_for.result)) _ tt c.in_err-step-2.ensures.keeps c.in_err-step-2.ensures.records))
