@@ -10,8 +10,8 @@ use Rattle.sat_parts.specs.declared.parts.Parts.{Parts}
 use Rattle.sat_parts.specs.parts.Whole.{state}
 use Rattle.sat_parts.specs.parts.Frame.{Deepens, KeepsTo}
 use Rattle.sat_parts.specs.declared.parts.assumptions.Assumptions.{Assumptions}
-use Rattle.sat_parts.specs.declared.parts.assumptions.Assumed.{Assumed}
-use Rattle.sat_parts.specs.declared.parts.assumptions.Assumed.TheVariants.{All, Next, Failed}
+use Rattle.sat_parts.specs.declared.parts.assumptions.EnqueueAssumption.{EnqueueAssumption}
+use Rattle.sat_parts.specs.declared.parts.assumptions.EnqueueAssumption.TheVariants.{Done, Enqueued, Conflict}
 
 -- the variables of these literals, in order
 abbrev pub variables : List ℕ → List ℕ
@@ -53,7 +53,7 @@ abbrev pub AreDecided : List ℕ → State → Type 0
 AreDecided ls s = (i : ℕ) → i < length s.trail.lits → 0 < level s (lit_at s i) → is_unit (node s (lit_at s i)).reason ≡ true → Contains ls (lit_at s i)
 
 -- what was found of the assumptions, and done
-abbrev pub AssumedSays : Assumed → Assumptions → Parts → Parts → Type 0
-AssumedSays All a p p' = (p' ≡ p) × (a.place ≡ length a.lits.items) × ((k : ℕ) → k < length a.lits.items → IsTrueLit p.assignment.current (get_or a.lits.items k 0))
-AssumedSays Next a p p' = Deepens p p'
-AssumedSays (Failed l) a p p' = (p' ≡ p) × Contains a.lits.items l × IsFalseLit p.assignment.current l × (length a.below.items ≡ length p.trail.starts) × AreDecided a.lits.items (state p)
+abbrev pub AssumedSays : EnqueueAssumption → Assumptions → Parts → Parts → Type 0
+AssumedSays Done a p p' = (p' ≡ p) × (a.place ≡ length a.lits.items) × ((k : ℕ) → k < length a.lits.items → IsTrueLit p.assignment.current (get_or a.lits.items k 0))
+AssumedSays Enqueued a p p' = Deepens p p'
+AssumedSays (Conflict l) a p p' = (p' ≡ p) × Contains a.lits.items l × IsFalseLit p.assignment.current l × (length a.below.items ≡ length p.trail.starts) × AreDecided a.lits.items (state p)

@@ -1,6 +1,6 @@
 -- What the rest of a solver sees of a step: which clauses there are, and which literals of level 0. A step's contract has these words:
 --   propagate_all: Reordered, Carries, KeepsLevels
---   decide, assume, assume_next: AddsNothing, KeepsLevels
+--   make_decision, assume, enqueue_assumption: AddsNothing, KeepsLevels
 --   undo: SameClauses, Carries, KeepsTo (to the level that is gone back to)
 --   restart, full_restart: SameClauses, Carries
 --   learn: Learnt

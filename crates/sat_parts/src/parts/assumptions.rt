@@ -25,15 +25,15 @@ pub struct Assumptions {
     pub place: usize,
 }
 
-/// How a list of assumptions stands.
+/// What became of a list of assumptions.
 #[derive(Clone, Copy)]
-pub enum Assumed {
+pub enum EnqueueAssumption {
     /// Each is true.
-    All,
+    Done,
     /// One became true, on a level of its own.
-    Next,
+    Enqueued,
     /// This one is false.
-    Failed(Lit),
+    Conflict(Lit),
 }
 
 impl Assumptions {
@@ -123,7 +123,7 @@ fn begin_level(parts: &mut Parts, assumptions: &mut Assumptions, lit: Lit) -> Re
 }
 
 /// Makes the first assumption true that isn't true yet, of those that weren't looked at.
-pub fn assume_next(parts: &mut Parts, assumptions: &mut Assumptions) -> Result<Assumed, AllocError>
+pub fn enqueue_assumption(parts: &mut Parts, assumptions: &mut Assumptions) -> Result<EnqueueAssumption, AllocError>
     requires holds { PartsInvariant parts.old }
     requires done { IsDone parts.old }
     requires there { AreThere assumptions.old.lits.items parts.old }
@@ -138,13 +138,13 @@ pub fn assume_next(parts: &mut Parts, assumptions: &mut Assumptions) -> Result<A
 {
     let next = next_untrue(parts, assumptions);
     match next {
-        None => Ok(Assumed::All),
+        None => Ok(EnqueueAssumption::Done),
         Some(lit) => {
             if parts.assignment.lit_is_false(lit) {
-                return Ok(Assumed::Failed(lit));
+                return Ok(EnqueueAssumption::Conflict(lit));
             }
             begin_level(parts, assumptions, lit)?;
-            Ok(Assumed::Next)
+            Ok(EnqueueAssumption::Enqueued)
         }
     }
 }

@@ -228,7 +228,7 @@ pub fn full_restart(parts: &mut Parts)
 }
 
 /// Decides an open variable, if there is one. Answers whether it did.
-pub fn decide(parts: &mut Parts) -> Result<bool, AllocError>
+pub fn make_decision(parts: &mut Parts) -> Result<bool, AllocError>
     requires holds { PartsInvariant parts.old }
     requires done { IsDone parts.old }
     ensures holds { OnOk result (PartsInvariant parts.new) }

@@ -13,8 +13,8 @@ use crate::proof::Proof;
 use crate::unit_simplify::prove_units::settle;
 use sat_base::{CountedWrite, Lit};
 use sat_checker::ProofProcessor;
-use sat_parts::parts::assumptions::{Assumed, Assumptions, assume_next};
-use sat_parts::parts::steps::{decide, propagate_all};
+use sat_parts::parts::assumptions::{Assumptions, EnqueueAssumption, enqueue_assumption};
+use sat_parts::parts::steps::{make_decision, propagate_all};
 use sat_parts::{Conflict, Parts};
 use std::alloc::AllocError;
 
@@ -30,7 +30,7 @@ pub enum FoundConflict {
 }
 
 /// Begins a level by the next assumption, or where there is none by the variable of highest activity. None where it did.
-fn make_decision(
+fn assume_or_decide(
     parts: &mut Parts,
     assumptions: &mut Assumptions,
 ) -> Result<Option<FoundConflict>, AllocError>
@@ -40,12 +40,12 @@ fn make_decision(
     requires placed { ArePlaced assumptions.old (state parts.old) }
     ensures { IfOk result (λ found. GoesDeeper found assumptions.old assumptions.new parts.old parts.new) }
 {
-    match assume_next(parts, assumptions)? {
-        Assumed::Failed(lit) => return Ok(Some(FoundConflict::Failed(lit))),
-        Assumed::Next => return Ok(None),
-        Assumed::All => {}
+    match enqueue_assumption(parts, assumptions)? {
+        EnqueueAssumption::Conflict(lit) => return Ok(Some(FoundConflict::Failed(lit))),
+        EnqueueAssumption::Enqueued => return Ok(None),
+        EnqueueAssumption::Done => {}
     }
-    if decide(parts)? {
+    if make_decision(parts)? {
         return Ok(None);
     }
     Ok(Some(FoundConflict::Complete))
@@ -73,7 +73,7 @@ pub fn find_conflict<W: CountedWrite + Drop, P: ProofProcessor>(
             &search.globals,
             &mut search.scratch.units,
         )?;
-        let found = make_decision(&mut search.parts, &mut search.assumptions)?;
+        let found = assume_or_decide(&mut search.parts, &mut search.assumptions)?;
         match found {
             Some(stop) => return Ok(stop),
             None => {}

@@ -42,8 +42,8 @@ settle-requires g c =
       names = rw c.deref.ensures.value p.ready.free.names;
     }
 
-pub make_decision-requires : goal.make_decision-requires
-make_decision-requires g c =
+pub assume_or_decide-requires : goal.assume_or_decide-requires
+assume_or_decide-requires g c =
     let x = c.in_ok-propagated.ensures in
     let s = session_of c.turns.proof in
     let d : Search = record c.turns.search { parts = c.propagate_all.new.parts } in
@@ -94,7 +94,7 @@ turns-preserved g c =
     let x = c.in_ok-propagated.ensures in
     let s = session_of c.turns.proof in
     let d : Search = record c.turns.search { parts = c.propagate_all.new.parts } in
-    let e : Search = record d { parts = c.make_decision.new.parts; assumptions = c.make_decision.new.assumptions; scratch = record d.scratch { units = c.settle.new.units } } in
+    let e : Search = record d { parts = c.assume_or_decide.new.parts; assumptions = c.assume_or_decide.new.assumptions; scratch = record d.scratch { units = c.settle.new.units } } in
     let holds : HoldsBelow (length d.parts.trail.starts + 1) d.parts = rw c.in-Ok.is at x.holds in
     let propagated : IsPropagated s d = propagated_whole s c.turns.search d i.search refl refl refl refl x.starts x.moved x.carries x.word x.keeps holds (rw c.in-Ok.is at x.done) x.units x.base in
     let moved : Moved c.turns.search d = propagated_moved s c.turns.search d i.search refl refl refl refl x.starts x.moved x.carries x.word x.keeps in
@@ -115,7 +115,7 @@ turns-smaller g c =
     let x = c.in_ok-propagated.ensures in
     let s = session_of c.turns.proof in
     let d : Search = record c.turns.search { parts = c.propagate_all.new.parts } in
-    let e : Search = record d { parts = c.make_decision.new.parts; assumptions = c.make_decision.new.assumptions; scratch = record d.scratch { units = c.settle.new.units } } in
+    let e : Search = record d { parts = c.assume_or_decide.new.parts; assumptions = c.assume_or_decide.new.assumptions; scratch = record d.scratch { units = c.settle.new.units } } in
     let holds : HoldsBelow (length d.parts.trail.starts + 1) d.parts = rw c.in-Ok.is at x.holds in
     let propagated : IsPropagated s d = propagated_whole s c.turns.search d i.search refl refl refl refl x.starts x.moved x.carries x.word x.keeps holds (rw c.in-Ok.is at x.done) x.units x.base in
     let moved : Moved c.turns.search d = propagated_moved s c.turns.search d i.search refl refl refl refl x.starts x.moved x.carries x.word x.keeps in
@@ -131,7 +131,7 @@ returns-in-Some g c =
     let x = c.in_ok-propagated.ensures in
     let s = session_of c.turns.proof in
     let d : Search = record c.turns.search { parts = c.propagate_all.new.parts } in
-    let e : Search = record d { parts = c.make_decision.new.parts; assumptions = c.make_decision.new.assumptions; scratch = record d.scratch { units = c.settle.new.units } } in
+    let e : Search = record d { parts = c.assume_or_decide.new.parts; assumptions = c.assume_or_decide.new.assumptions; scratch = record d.scratch { units = c.settle.new.units } } in
     let holds : HoldsBelow (length d.parts.trail.starts + 1) d.parts = rw c.in-Ok.is at x.holds in
     let propagated : IsPropagated s d = propagated_whole s c.turns.search d i.search refl refl refl refl x.starts x.moved x.carries x.word x.keeps holds (rw c.in-Ok.is at x.done) x.units x.base in
     let moved : Moved c.turns.search d = propagated_moved s c.turns.search d i.search refl refl refl refl x.starts x.moved x.carries x.word x.keeps in

@@ -4,7 +4,7 @@ use Rattle.sat_parts.specs.parts.Assumed.{IsPlaced}
 use Rattle.sat_parts.specs.parts.Whole.{state}
 use Rattle.sat_parts.proofs.lemmas.clause.ListLemmas.{place_in}
 use Rattle.sat_parts.proofs.lemmas.parts.AssumeLemmas.{placed_passed, decided_assumed, levels_assumed}
-use Rattle.sat_parts.proofs.parts.assumptions.assume_next.Goals as goal
+use Rattle.sat_parts.proofs.parts.assumptions.enqueue_assumption.Goals as goal
 
 pub returns-then-lit_is_false-clause-placed : goal.returns-then-lit_is_false-clause-placed
 returns-then-lit_is_false-clause-placed c =

@@ -1,7 +1,7 @@
 use Rattle.sat_parts.specs.parts.Whole.{state}
 use Rattle.sat_parts.proofs.lemmas.parts.WordSteps.{extends_fewer}
 use Rattle.sat_parts.proofs.lemmas.parts.KeepLemmas.{keeps_refl}
-use Rattle.sat_parts.proofs.parts.steps.decide.Goals as goal
+use Rattle.sat_parts.proofs.parts.steps.make_decision.Goals as goal
 
 pub returns-in-None-clause-word : goal.returns-in-None-clause-word
 returns-in-None-clause-word c = λ am.
