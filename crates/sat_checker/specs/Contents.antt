@@ -15,7 +15,7 @@ count_in false c = irredundant_count c
 abbrev pub count_of : Bool → List ℕ → List StoredClause → ℕ
 count_of redundant set clauses = count_in redundant (clause_with set clauses)
 
--- what is stored, without ids, the order of clauses and a pending unit conflict
+-- what is stored, without ids, the order of clauses and units, a pending unit conflict and which irredundant clause is the last
 pub record Contents : Type 0 where
   pub counts : Bool → List ℕ → ℕ  -- of each set of literals, redundant (true) or irredundant
   pub units : ℕ → Bool
@@ -27,7 +27,7 @@ pub record Contents : Type 0 where
   pub ended : Bool
   pub var_deleted : Bool
 
--- the contents of what is stored
+-- what is stored, by its contents: counts by sets of literals, units by literals, the rest as it is
 abbrev pub contents : Stored → Contents
 contents f = record {
   counts = λ redundant set. count_of redundant set f.clauses;

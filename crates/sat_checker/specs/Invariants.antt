@@ -36,7 +36,7 @@ pub record IsProper (literals : List ℕ) : Type 0 where
 abbrev pub AllKnown : Stored → List ℕ → Type 0
 AllKnown f = AllByRecursion (λ l. is_known (variable l) f ≡ true)
 
--- what always holds of clauses, their counts and ids, and of what variables are known
+-- what always holds of clauses, their counts and ids, and of units; their variables and those of what is assumed are known
 pub record IsTidy (f : Stored) : Type 0 where
   pub proper : AllByRecursion IsProper (long_clauses f)
   pub once : EachOnce f.clauses
@@ -63,7 +63,7 @@ PendingChangesNothing = (f : Stored) (step : Step) → Accepts f step ↔ Accept
 abbrev pub AllClausesHold : Type 0
 AllClausesHold = (steps : List Step) (a : Valuation) → AcceptsAll steps → Holds steps a → EachHolds a (long_clauses (ready_after steps))
 
--- each step makes of the contents what it says, and a settled unit conflict changes nothing of them
+-- each step makes of the contents what contents_after says
 abbrev pub ContentsFollow : Type 0
 ContentsFollow = (f : Stored) (step : Step) → EachOnce f.clauses → contents (effect step f) ≡ contents_after step (contents f)
 
@@ -71,7 +71,7 @@ ContentsFollow = (f : Stored) (step : Step) → EachOnce f.clauses → contents 
 abbrev pub ContentsAreSettled : Type 0
 ContentsAreSettled = (f : Stored) → contents (settled f) ≡ contents f
 
--- the contents behind steps are what these make of them one by one
+-- the contents of what steps leave are what the steps make, one by one, of the contents before the first
 abbrev pub ContentsOfSteps : Type 0
 ContentsOfSteps = (steps : List Step) → contents (ready_after steps) ≡ contents_of steps
 
@@ -127,7 +127,7 @@ LastBelow n (Empty id) = id < n
 LastBelow n (UnitClause id) = Unit {0}
 LastBelow n (LongClause id) = id < n
 
--- ids are in order and were given, and what is known of the last irredundant clause stored
+-- clauses are in order of ids, which were given, and what is known of the last irredundant clause stored holds
 pub record Orderly (f : Stored) : Type 0 where
   pub increasing : IsIncreasing (map (λ c. c.id) f.clauses)
   pub below : AllByRecursion (λ i. i < f.next_id) (map (λ c. c.id) f.clauses)

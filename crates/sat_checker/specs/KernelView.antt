@@ -96,6 +96,6 @@ AnswersDelayed (Err errors.ProofIncomplete) old new steps = ⊥
 AnswersDelayed (Err errors.IoError) old new steps = ⊥
 AnswersDelayed (Err errors.ParseError) old new steps = ⊥
 
--- so does the answer where a pending unit conflict is settled
+-- the answer where a pending unit conflict is settled means so, whatever steps were accepted before
 abbrev pub ChecksDelayed : Result Unit CheckerError → Kernel → Kernel → Type 0
 ChecksDelayed result old new = (steps : List Step) → Stands old steps → AnswersDelayed result old new steps

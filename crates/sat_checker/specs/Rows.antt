@@ -83,11 +83,11 @@ StoredTwice = let steps : List Step = AddClause (0 ∷ 2 ∷ []) ∷ AddClause (
 abbrev pub three_at_zero : List Step
 three_at_zero = ChangeHashBits 0 ∷ AddClause (3 ∷ 4 ∷ 6 ∷ []) ∷ AddClause (0 ∷ 2 ∷ []) ∷ AddClause (3 ∷ 7 ∷ []) ∷ []
 
--- named once it doesn't
+-- where the bucket is named once, [1, 3] doesn't follow
 abbrev pub NamedOnce : Type 0
 NamedOnce = LastRefused three_at_zero (AtClause false (0 ∷ 4 ∷ []) (0 ∷ []))
 
--- named twice it does
+-- the bucket is named twice, for [1, 3]
 abbrev pub named_twice : List Step
 named_twice = three_at_zero ++ AtClause false (0 ∷ 4 ∷ []) (0 ∷ 0 ∷ []) ∷ []
 
@@ -151,15 +151,15 @@ UnitForgotten = let steps : List Step = AddClause (0 ∷ []) ∷ DeleteVar 0 ∷
 abbrev pub InClause : Type 0
 InClause = LastRefused (AddClause (0 ∷ 2 ∷ []) ∷ []) (DeleteVar 0)
 
--- one that has a name
+-- a variable that has a name isn't deleted
 abbrev pub WithName : Type 0
 WithName = LastRefused (UserVarName 0 (Some 7) ∷ []) (DeleteVar 0)
 
--- one that is assumed
+-- nor is one that the last assumptions mention
 abbrev pub Assumed : Type 0
 Assumed = LastRefused (Assumptions (1 ∷ []) ∷ []) (DeleteVar 0)
 
--- one that is unknown
+-- nor one that no step has made known
 abbrev pub Unknown : Type 0
 Unknown = LastRefused [] (DeleteVar 0)
 
@@ -167,7 +167,7 @@ Unknown = LastRefused [] (DeleteVar 0)
 abbrev pub WitnessAdded : Type 0
 WitnessAdded = LastRefused (Assumptions (0 ∷ []) ∷ ChangeSamplingMode 0 false ∷ []) (AddClause (0 ∷ 2 ∷ []))
 
--- over a hidden one
+-- no clause is added over a hidden variable
 abbrev pub HiddenAdded : Type 0
 HiddenAdded = LastRefused (UserVarName 0 (Some 0) ∷ UserVarName 0 None ∷ []) (AddClause (0 ∷ 2 ∷ []))
 
@@ -175,15 +175,15 @@ HiddenAdded = LastRefused (UserVarName 0 (Some 0) ∷ UserVarName 0 None ∷ [])
 abbrev pub NameTaken : Type 0
 NameTaken = LastRefused (UserVarName 0 (Some 7) ∷ []) (UserVarName 1 (Some 7))
 
--- another name for a variable that has one
+-- a variable that has a name gets no other
 abbrev pub NamedTwiceOver : Type 0
 NamedTwiceOver = LastRefused (UserVarName 0 (Some 7) ∷ []) (UserVarName 0 (Some 8))
 
--- a name for a hidden variable
+-- a hidden variable gets no name
 abbrev pub HiddenNamed : Type 0
 HiddenNamed = LastRefused (UserVarName 0 (Some 7) ∷ UserVarName 0 None ∷ []) (UserVarName 0 (Some 7))
 
--- a name taken from a variable that has none
+-- no name is taken from a variable that has none
 abbrev pub NoNameTaken : Type 0
 NoNameTaken = LastRefused (AddClause (0 ∷ []) ∷ []) (UserVarName 0 None)
 
@@ -264,7 +264,7 @@ ByOneCount = AllAccepted (AddClause (0 ∷ []) ∷ AddClause (0 ∷ 2 ∷ 4 ∷ 
 abbrev pub BehindUnsat : Type 0
 BehindUnsat = let steps : List Step = AddClause [] ∷ AddClause (0 ∷ []) ∷ [] in AllAccepted steps × ((left_by steps).next_id ≡ 1) × (is_known 0 (left_by steps) ≡ false)
 
--- as an input clause it takes id 0, and as a derived one none; it's stored as neither
+-- a tautology takes id 0 as an input clause and none as a derived one; its variable becomes known, and it isn't stored
 abbrev pub Tautologies : Type 0
 Tautologies = let input : List Step = AddClause (0 ∷ 1 ∷ []) ∷ [] in let derived : List Step = AtClause false (2 ∷ 3 ∷ []) [] ∷ [] in
     AllAccepted input × ((left_by input).next_id ≡ 1) × (is_known 0 (left_by input) ≡ true) × ((left_by input).clauses ≡ [])
@@ -274,7 +274,7 @@ Tautologies = let input : List Step = AddClause (0 ∷ 1 ∷ []) ∷ [] in let d
 abbrev pub WitnessNamed : Type 0
 WitnessNamed = let steps : List Step = Assumptions (0 ∷ []) ∷ ChangeSamplingMode 0 false ∷ UserVarName 0 (Some 7) ∷ [] in AllAccepted steps × (mode_of 0 (left_by steps) ≡ Witness)
 
--- a variable that is unknown
+-- an unknown variable gets no mode
 abbrev pub UnknownMode : Type 0
 UnknownMode = LastRefused [] (ChangeSamplingMode 0 true)
 
@@ -286,7 +286,7 @@ two_clauses = AddClause (0 ∷ 2 ∷ []) ∷ AddClause (0 ∷ 3 ∷ []) ∷ []
 abbrev pub EmptyBehind : Type 0
 EmptyBehind = AllAccepted (two_clauses ++ AtClause false (0 ∷ []) (hash_of (0 ∷ 2 ∷ []) ∷ hash_of (0 ∷ 3 ∷ []) ∷ 5 ∷ []) ∷ [])
 
--- named first it is
+-- named first, a hash that no clause has is a bar
 abbrev pub EmptyBefore : Type 0
 EmptyBefore = LastRefused two_clauses (AtClause false (0 ∷ []) (5 ∷ hash_of (0 ∷ 2 ∷ []) ∷ hash_of (0 ∷ 3 ∷ []) ∷ []))
 

@@ -146,7 +146,7 @@ with_solver_name v name f = record f { solver_names = λ w. if w == v then name 
 abbrev pub without_variable : ℕ → Stored → Stored
 without_variable v f = record (with_variable v unknown f) { units = filter (λ u. not (variable u.literal == v)) f.units; var_deleted = true }
 
--- the literals of the clause or unit with this id
+-- the literals of the clause with this id
 abbrev pub clause_numbered : ℕ → List StoredClause → Option (List ℕ)
 clause_numbered id [] = None
 clause_numbered id (c ∷ cs) = if c.id == id then Some c.literals else clause_numbered id cs

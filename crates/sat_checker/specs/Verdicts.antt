@@ -15,7 +15,7 @@ pub data Verdict : Type 0 where
 abbrev pub not_false : List ℕ → List ℕ → List ℕ
 not_false assumed = filter (λ l. not (is_among assumed (negated l)))
 
--- what a clause says of whose literals just these aren't false
+-- what a clause says, by those of its literals that aren't false
 abbrev pub verdict_of_open : List ℕ → List ℕ → Verdict
 verdict_of_open assumed [] = falsified
 verdict_of_open assumed (l ∷ []) = if is_among assumed l then rests else opens l

@@ -30,7 +30,7 @@ line_told (told.Model assignment) = None
 line_told (told.Assumptions assumptions) = None
 line_told (told.FailedAssumptions core ids) = Some (Core core ids)
 
--- in front of these, if there is one
+-- a line in front of these, if there is one
 abbrev pub with_line : Option Line → List Line → List Line
 with_line None lines = lines
 with_line (Some line) lines = line ∷ lines

@@ -57,7 +57,7 @@ EachCoreFails (Fresh v ∷ earlier) = EachCoreFails earlier
 abbrev pub DerivedFollow : Type 0
 DerivedFollow = (lines : List Line) → IsHintDerivation lines → EachDerivedHolds lines
 
--- and what it names as cores is true in none
+-- and no core of it is true as a whole in such a valuation
 abbrev pub CoresFail : Type 0
 CoresFail = (lines : List Line) → IsHintDerivation lines → EachCoreFails lines
 

@@ -5,7 +5,7 @@ use Rattle.sat_base.specs.values.Literals.{largest}
 use Rattle.sat_base.specs.steps.Steps.{Step, DeleteVar, AddClause, AtClause, UnitClauses, FailedAssumptions}
 use Rattle.sat_hints.specs.Lines.{AreLiterals}
 
--- the deleted variable, or the literals of the clause, the units or the core, are within their limits
+-- the deleted variable, or the literals of the clause added or derived, the units or the core, are within their limits; of other steps nothing is asked
 abbrev pub FitsStep : Step → Type 0
 FitsStep (DeleteVar v) = v < largest
 FitsStep (AddClause clause) = AreLiterals clause

@@ -16,11 +16,11 @@ pub data Line : Type 0 where
 abbrev pub AreIds : List ℕ → Type 0
 AreIds = AllByRecursion (λ id. id < 2 ^ 64 - 1)
 
--- a variable is its index
+-- variables are indices, within the limit
 abbrev pub AreVariables : List ℕ → Type 0
 AreVariables = AllByRecursion (λ v. v < largest)
 
--- a literal is its code
+-- literals are codes, of variables within the limit
 abbrev pub AreLiterals : List ℕ → Type 0
 AreLiterals = AllByRecursion (λ l. l < 2 * largest)
 

@@ -9,7 +9,7 @@ use Rattle.sat_base.specs.dimacs.Parsing.{whole_lines}
 abbrev pub plus : ℕ → ℕ
 plus n = coded (n - 1) true
 
--- the literals that have these numbers, negated
+-- the negation of the literal that has this number
 abbrev pub minus : ℕ → ℕ
 minus n = coded (n - 1) false
 

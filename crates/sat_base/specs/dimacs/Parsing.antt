@@ -88,7 +88,7 @@ pub record IsSoundText (text : List ℕ) : Type 0 where
   pub lines : NoFault None (tokens (whole_lines text))
   pub words : RightAhead (λ rest. scan (text ++ rest))
 
--- no ended line of what was taken has a fault, and it can go on without a wrong word
+-- no ended line of the bytes taken has a fault, and they can go on without a wrong word
 abbrev pub IsSound : Progress → Type 0
 IsSound p = IsSoundText p.fed
 

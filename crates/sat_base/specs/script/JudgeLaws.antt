@@ -11,7 +11,7 @@ abbrev pub NamesIncrease : List Named → Type 0
 NamesIncrease [] = Unit {0}
 NamesIncrease (n ∷ ns) = AllByRecursion (λ m. n.name < m.name) ns × NamesIncrease ns
 
--- what is so of the judge's state behind every script: names are in order, and identities were given out
+-- names in use rise below the first never used, at most one past the limit; just the identities given have modes, and no others occur
 pub record IsKept (j : Judge) : Type 0 where
   pub limit : j.first_unused ≤ largest + 1
   pub order : NamesIncrease j.in_use

@@ -8,7 +8,7 @@ use Rattle.sat_base.specs.steps.Steps.{Deletion, Step}
 use Rattle.sat_base.specs.steps.StepText.{IsVariable, IsOptionalVariable, IsLiteral, IsHash, IsFlag, IsWidth, IsDeletion, AreLiterals, AreHashes, AreUnits, SpellsFields, SpellsStep}
 use Rattle.sat_base.specs.steps.StepBytes.{number_bytes, optional_bytes, flag_bytes, deletion_bytes, list_bytes, units_bytes, fields_bytes, step_bytes}
 
--- a format, and for each value the bytes of it that are written
+-- a format, and the bytes that are written for each value
 pub record Spelling (A : Type 0) : Type 1 where
   pub format : Format A
   pub bytes : A → List ℕ

@@ -41,7 +41,7 @@ IsDeletion Satisfied bytes = IsBelow 3 2 bytes
 abbrev pub AreLiterals : Format (List ℕ)
 AreLiterals = ListOf (IsBelow (2 ^ 64)) IsLiteral
 
--- so is that of hashes
+-- a list of hashes, whose count is below 2^64
 abbrev pub AreHashes : Format (List ℕ)
 AreHashes = ListOf (IsBelow (2 ^ 64)) IsHash
 

@@ -111,12 +111,12 @@ may_behind (Leading may) = may
 may_behind (Comment may) = may
 may_behind spot = false
 
--- the spot behind LF, and the lines that have then ended; nothing goes on behind `%`
+-- the spot behind LF; nothing goes on behind `%`
 abbrev pub behind_LF : Spot → Spot
 behind_LF Over = Over
 behind_LF spot = Fresh (may_behind spot)
 
--- how many lines have ended behind LF, of which n had before; none ends behind `%`
+-- how many lines have ended behind LF, where n had ended before it; behind `%` LF ends none
 abbrev pub lines_behind : Spot → ℕ → ℕ
 lines_behind Over n = n
 lines_behind spot n = n + 1

@@ -1,7 +1,7 @@
 -- The hashes by which a proof step names clauses.
 use Rattle.std.specs.Prelude.{ℕ, ◌+◌, ◌*◌, ◌%◌, ◌^◌, List, [], ◌∷◌, bit_xor}
 
--- the hash of one literal: its code and one, multiplied and cut to 64 bits
+-- the hash of one literal: one more than its code, times a constant, modulo 2^64
 abbrev pub literal_hash : ℕ → ℕ
 literal_hash l = (l + 1) * 0x9E3779B97F4A7C15 % 2 ^ 64
 

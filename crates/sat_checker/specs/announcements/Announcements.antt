@@ -37,7 +37,7 @@ is_sample Sample = true
 is_sample Witness = false
 is_sample Hide = false
 
--- whether a variable of this mode is told as a witness
+-- whether a variable of this mode is a witness; a hidden one isn't
 abbrev pub is_witness : Mode → Bool
 is_witness Sample = false
 is_witness Witness = true

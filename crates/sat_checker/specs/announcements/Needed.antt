@@ -54,7 +54,7 @@ abbrev pub true_unit : List ℕ → List StoredUnit → Option ℕ
 true_unit [] units = None
 true_unit (l ∷ ls) units = or_else (unit_id l units) (true_unit ls units)
 
--- the unit that is true in the clause alone, or these ids where there is none
+-- the id of the unit that is true in the clause, and no other; these ids where there is none
 abbrev pub unit_alone : Option ℕ → List ℕ → List ℕ
 unit_alone (Some id) ids = id ∷ []
 unit_alone None ids = ids

@@ -86,7 +86,7 @@ ConflictAndUnitTold = all_told_by conflict_and_unit
 abbrev pub InputNew : Type 0
 InputNew = LastTells [] (steps.AddClause (2 ∷ 0 ∷ 0 ∷ [])) (AddClause 0 (0 ∷ 2 ∷ []) ∷ [])
 
--- stored before
+-- [1, 2] was stored before, under id 0
 abbrev pub InputDuplicate : Type 0
 InputDuplicate = LastTells (steps.AddClause (0 ∷ 2 ∷ []) ∷ []) (steps.AddClause (2 ∷ 0 ∷ 0 ∷ [])) (DuplicatedClause 1 0 (0 ∷ 2 ∷ []) ∷ [])
 
@@ -94,19 +94,19 @@ InputDuplicate = LastTells (steps.AddClause (0 ∷ 2 ∷ []) ∷ []) (steps.AddC
 abbrev pub as_redundant : List Step
 as_redundant = steps.AddClause (0 ∷ []) ∷ steps.AtClause true (0 ∷ 2 ∷ []) [] ∷ []
 
--- stored before as redundant alone
+-- stored before as redundant alone, which is told as a duplicate, too
 abbrev pub InputRedundant : Type 0
 InputRedundant = LastTells as_redundant (steps.AddClause (0 ∷ 2 ∷ [])) (DuplicatedClause 2 1 (0 ∷ 2 ∷ []) ∷ [])
 
--- a unit stored before
+-- a unit stored before is told as a duplicate
 abbrev pub InputUnitAgain : Type 0
 InputUnitAgain = LastTells (steps.AddClause (0 ∷ []) ∷ []) (steps.AddClause (0 ∷ 0 ∷ [])) (DuplicatedClause 1 0 (0 ∷ []) ∷ [])
 
--- a tautology
+-- a tautology, which is told as one
 abbrev pub InputTautology : Type 0
 InputTautology = LastTells [] (steps.AddClause (2 ∷ 1 ∷ 0 ∷ [])) (TautologicalClause 0 (0 ∷ 1 ∷ 2 ∷ []) ∷ [])
 
--- once unsat is recorded
+-- once unsat is recorded, nothing is told of an input clause
 abbrev pub InputBehindUnsat : Type 0
 InputBehindUnsat = LastTells (steps.AddClause [] ∷ []) (steps.AddClause (0 ∷ 1 ∷ [])) []
 
@@ -118,19 +118,19 @@ DerivedNew = LastTells (steps.AddClause (0 ∷ []) ∷ []) (steps.AtClause true 
 abbrev pub DerivedIrredundant : Type 0
 DerivedIrredundant = LastTells as_redundant (steps.AtClause false (2 ∷ 0 ∷ []) []) (MakeIrredundant 1 (0 ∷ 2 ∷ []) ∷ [])
 
--- as redundant where it was redundant
+-- as redundant where it was redundant: nothing is told
 abbrev pub DerivedRedundantAgain : Type 0
 DerivedRedundantAgain = LastTells as_redundant (steps.AtClause true (2 ∷ 0 ∷ []) []) []
 
--- as irredundant where it was irredundant
+-- as irredundant where it was irredundant: nothing is told
 abbrev pub DerivedIrredundantAgain : Type 0
 DerivedIrredundantAgain = LastTells (steps.AddClause (0 ∷ []) ∷ steps.AddClause (0 ∷ 2 ∷ []) ∷ []) (steps.AtClause false (0 ∷ 2 ∷ []) []) []
 
--- a unit stored before
+-- of a derived unit that was stored before nothing is told
 abbrev pub DerivedUnitAgain : Type 0
 DerivedUnitAgain = LastTells (steps.AddClause (0 ∷ []) ∷ []) (steps.AtClause false (0 ∷ []) []) []
 
--- a tautology
+-- of a derived tautology nothing is told
 abbrev pub DerivedTautology : Type 0
 DerivedTautology = LastTells [] (steps.AtClause false (0 ∷ 1 ∷ []) []) []
 
@@ -138,7 +138,7 @@ DerivedTautology = LastTells [] (steps.AtClause false (0 ∷ 1 ∷ []) []) []
 abbrev pub RedundantGone : Type 0
 RedundantGone = LastTells as_redundant (steps.DeleteClause (2 ∷ 0 ∷ []) Redundant) (DeleteClause 1 (0 ∷ 2 ∷ []) ∷ [])
 
--- one beside an irredundant one
+-- one beside an irredundant one: nothing is told
 abbrev pub RedundantStays : Type 0
 RedundantStays = LastTells (as_redundant ++ steps.AtClause false (0 ∷ 2 ∷ []) [] ∷ []) (steps.DeleteClause (0 ∷ 2 ∷ []) Redundant) []
 
@@ -146,11 +146,11 @@ RedundantStays = LastTells (as_redundant ++ steps.AtClause false (0 ∷ 2 ∷ []
 abbrev pub SatisfiedGone : Type 0
 SatisfiedGone = LastTells (steps.AddClause (2 ∷ []) ∷ steps.AddClause (0 ∷ []) ∷ steps.AddClause (2 ∷ 0 ∷ []) ∷ []) (steps.DeleteClause (2 ∷ 0 ∷ []) Satisfied) (DeleteAtClause 2 false (0 ∷ 2 ∷ []) (1 ∷ []) ∷ [])
 
--- the last one, where a redundant one is left
+-- the last one, where a redundant one is left: the clause is kept as redundant
 abbrev pub SatisfiedKept : Type 0
 SatisfiedKept = LastTells (as_redundant ++ steps.AtClause false (0 ∷ 2 ∷ []) [] ∷ []) (steps.DeleteClause (0 ∷ 2 ∷ []) Satisfied) (DeleteAtClause 1 true (0 ∷ 2 ∷ []) (0 ∷ []) ∷ [])
 
--- the last one, where [1, 2] is the last irredundant clause stored
+-- [1, 2, 3] goes by [1, 2], the last irredundant clause stored
 abbrev pub SimplifiedGone : Type 0
 SimplifiedGone = LastTells (steps.AddClause (0 ∷ 2 ∷ 4 ∷ []) ∷ steps.AddClause (0 ∷ 2 ∷ []) ∷ []) (steps.DeleteClause (4 ∷ 2 ∷ 0 ∷ []) Simplified) (DeleteAtClause 0 false (0 ∷ 2 ∷ 4 ∷ []) (1 ∷ []) ∷ [])
 
@@ -159,7 +159,7 @@ abbrev pub SimplifiedByEmpty : Type 0
 SimplifiedByEmpty = LastTells (steps.AddClause (0 ∷ 2 ∷ []) ∷ steps.AddClause [] ∷ []) (steps.DeleteClause (2 ∷ 0 ∷ []) Simplified) (DeleteAtClause 0 false (0 ∷ 2 ∷ []) (1 ∷ []) ∷ [])
     × LastTells refuted (steps.DeleteClause (0 ∷ 3 ∷ []) Simplified) (DeleteAtClause 1 false (0 ∷ 3 ∷ []) (5 ∷ []) ∷ [])
 
--- one of two
+-- one of two: nothing is told
 abbrev pub SatisfiedStays : Type 0
 SatisfiedStays = LastTells (steps.AddClause (0 ∷ []) ∷ steps.AddClause (0 ∷ 2 ∷ []) ∷ steps.AddClause (0 ∷ 2 ∷ []) ∷ []) (steps.DeleteClause (0 ∷ 2 ∷ []) Satisfied) []
 
@@ -171,19 +171,19 @@ NameNew = LastTells [] (UserVarName 0 (Some 7)) (UserVar 0 (Some (record { name 
 abbrev pub as_witness : List Step
 as_witness = steps.Assumptions (0 ∷ []) ∷ ChangeSamplingMode 0 false ∷ []
 
--- 1 has a name
+-- 1 has the name with index 7
 abbrev pub named_seven : List Step
 named_seven = UserVarName 0 (Some 7) ∷ []
 
--- of a known variable
+-- a name for 1, a known witness variable: it isn't new
 abbrev pub NameOfKnown : Type 0
 NameOfKnown = LastTells (as_witness) (UserVarName 0 (Some 7)) (UserVar 0 (Some (record { name = 7; sampling = false; is_new = false })) ∷ [])
 
--- removed
+-- the name of 1 is removed
 abbrev pub NameRemoved : Type 0
 NameRemoved = LastTells named_seven (UserVarName 0 None) (UserVar 0 None ∷ [])
 
--- a solver's name
+-- of a solver's name nothing is told
 abbrev pub SolverNameSet : Type 0
 SolverNameSet = LastTells [] (SolverVarName 0 (Some 7)) []
 
@@ -191,11 +191,11 @@ SolverNameSet = LastTells [] (SolverVarName 0 (Some 7)) []
 abbrev pub ModeChanged : Type 0
 ModeChanged = LastTells named_seven (ChangeSamplingMode 0 false) (UserVar 0 (Some (record { name = 7; sampling = false; is_new = false })) ∷ [])
 
--- the same again
+-- the mode that it has already: nothing is told
 abbrev pub ModeLeft : Type 0
 ModeLeft = LastTells named_seven (ChangeSamplingMode 0 true) []
 
--- of a variable that has no name
+-- of a variable that has no name: nothing is told
 abbrev pub ModeOfNameless : Type 0
 ModeOfNameless = LastTells (steps.Assumptions (0 ∷ []) ∷ []) (ChangeSamplingMode 0 false) []
 
@@ -211,7 +211,7 @@ Assumed = LastTells [] (steps.Assumptions (2 ∷ 0 ∷ 2 ∷ [])) (Assumptions (
 abbrev pub CoreFailed : Type 0
 CoreFailed = LastTells (steps.AddClause (1 ∷ 3 ∷ []) ∷ steps.Assumptions (2 ∷ 0 ∷ []) ∷ []) (steps.FailedAssumptions (2 ∷ 0 ∷ 2 ∷ []) (hash_of (1 ∷ 3 ∷ []) ∷ [])) (FailedAssumptions (0 ∷ 2 ∷ []) (0 ∷ []) ∷ [])
 
--- a core with both signs of a variable
+-- a core with both signs of a variable rests on nothing
 abbrev pub CoreOfBothSigns : Type 0
 CoreOfBothSigns = LastTells (steps.AddClause (1 ∷ []) ∷ steps.Assumptions (0 ∷ 1 ∷ []) ∷ []) (steps.FailedAssumptions (1 ∷ 0 ∷ []) []) (FailedAssumptions (0 ∷ 1 ∷ []) [] ∷ [])
 
@@ -267,7 +267,7 @@ InputsRead = LastReads [] (steps.AddClause (2 ∷ 0 ∷ 0 ∷ [])) (transcript.A
 abbrev pub RefutedRead : Type 0
 RefutedRead = transcribed_by refuted ≡ transcript.AddClause (0 ∷ 2 ∷ []) ∷ transcript.AddClause (0 ∷ 3 ∷ []) ∷ transcript.AddClause (1 ∷ 2 ∷ []) ∷ transcript.AddClause (1 ∷ 3 ∷ []) ∷ transcript.Unsat ∷ []
 
--- a clause that becomes irredundant, deleted ones, and a deleted variable
+-- nothing is said of a clause that becomes irredundant, of a deleted one, or of a deleted variable
 abbrev pub OthersRead : Type 0
 OthersRead = LastReads as_redundant (steps.AtClause false (2 ∷ 0 ∷ []) []) [] × LastReads as_redundant (steps.DeleteClause (2 ∷ 0 ∷ []) Redundant) []
     × LastReads (as_redundant ++ steps.AtClause false (0 ∷ 2 ∷ []) [] ∷ []) (steps.DeleteClause (0 ∷ 2 ∷ []) Satisfied) []

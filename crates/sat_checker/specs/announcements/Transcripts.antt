@@ -68,7 +68,7 @@ transcript variables (told.Model ls) = Some (Model (in_user_names variables ls))
 transcript variables (Assumptions ls) = Some (Assume (in_user_names variables ls))
 transcript variables (told.FailedAssumptions core ids) = Some (FailedAssumptions (in_user_names variables core))
 
--- in front of these, where the transcript says something
+-- one step of a transcript in front of these, if there is one
 abbrev pub with_transcript : Option Transcribed → List Transcribed → List Transcribed
 with_transcript None ts = ts
 with_transcript (Some t) ts = t ∷ ts

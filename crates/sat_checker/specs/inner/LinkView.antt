@@ -9,7 +9,7 @@ use Rattle.sat_checker.specs.declared.store.links.Link.{Link}
 abbrev pub nowhere : ℕ
 nowhere = 4294967295
 
--- the hash that stands at a place, and the place behind it
+-- the link at a place: a hash, and the place that it leads to
 abbrev pub link_at : List Link → ℕ → Link
 link_at links at = slice_index_or links at (record { hash = 0; next = 0 })
 

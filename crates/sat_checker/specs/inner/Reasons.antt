@@ -49,12 +49,12 @@ abbrev pub IsThere : List Slot → Option ℕ → Type 0
 IsThere slots None = ⊥
 IsThere slots (Some place) = place < length slots
 
--- the number of literals of the clauses that were noted
+-- the number of literals of the falsified clause, 0 where none was noted
 abbrev pub conflict_length : List Slot → Option ℕ → ℕ
 conflict_length slots None = 0
 conflict_length slots (Some place) = length (literals_at slots place)
 
--- the same with those of the clauses that made a literal true
+-- the number of literals of the clauses that were noted: those that made a literal true, and the falsified one
 abbrev pub noted_length : List Slot → Passed → ℕ
 noted_length slots passed = total_length (map (λ r. literals_at slots r.place) passed.reasons.items) + conflict_length slots passed.conflict
 

@@ -66,6 +66,6 @@ module _ {L : Type 0} (Hears : L → Told → Result Unit ProcessingError → L 
   TakenIn (Ok x) old new = (has_failed new ≡ false) × (new.kernel.records ≡ records_in new.kernel.state.formula.status) × HearsAll Hears told old.listeners new.listeners
   TakenIn (Err e) old new = (has_failed new ≡ true) × (new.kernel.records ≡ records_in new.kernel.state.formula.status) × (f : ProcessingError) × (e ≡ fault_of f) × HearsUpTo Hears f told old.listeners new.listeners
 
-  -- so it was, with the state and the looks as they were
+  -- the same, and the state and the looks are as they were
   abbrev pub TakesIn : Result Unit CheckerError → Seen L → Seen L → Type 0
   TakesIn result old new = SameState old new × TakenIn result old new

@@ -23,7 +23,7 @@ mode_in code.Hide = stored.Hide
 abbrev pub variable_of : VarData → Variable
 variable_of d = record { known = d.known; mode = mode_in d.mode; name = d.name }
 
--- of a variable that no step has made known
+-- what the code has of a variable that no step has made known
 abbrev pub unknown_data : VarData
 unknown_data = record { known = stored.unknown.known; mode = code.Sample; name = None }
 

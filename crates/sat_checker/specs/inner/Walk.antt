@@ -20,7 +20,7 @@ abbrev pub walk : List ℕ → List (List ℕ) → Option (List ℕ)
 walk assumed [] = Some assumed
 walk assumed (c ∷ cs) = and_then (walk_on (verdict assumed c) assumed) (λ more. walk more cs)
 
--- a conflict was met, or it goes on
+-- true where a conflict was met, else what follows under what is assumed by then
 abbrev pub if_conflict : Option (List ℕ) → (List ℕ → Bool) → Bool
 if_conflict None next = true
 if_conflict (Some assumed) next = next assumed

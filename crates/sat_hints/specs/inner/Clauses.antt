@@ -31,7 +31,7 @@ times_kept l [] gs = 0
 times_kept l (c ∷ cs) [] = 0
 times_kept l (c ∷ cs) (g ∷ gs) = (if g then 0 else times_long l c) + times_kept l cs gs
 
--- how often a literal stands in those that are kept
+-- how often a literal stands in the clauses of two or more that are kept
 abbrev pub times_at : Present → ℕ → ℕ
 times_at p l = times_kept l p.clauses p.gone.items
 

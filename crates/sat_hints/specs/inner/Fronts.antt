@@ -57,7 +57,7 @@ IsLeft (Item part) bytes = IsPart part bytes
 IsLeft (Digits part number) bytes = Numbered (limit_of part) (IsPart (next_of part)) number bytes
 IsLeft Over bytes = bytes ≡ codes "\n"
 
--- so where there is such a place
+-- there is such a place, and the bytes are what comes of a line from it on
 abbrev pub IsLeftIf : Option Place → List ℕ → Type 0
 IsLeftIf None bytes = ⊥
 IsLeftIf (Some place) bytes = IsLeft place bytes

@@ -16,11 +16,11 @@ IsNumber limit n = (1 ≤ n) × (n ≤ limit)
 abbrev pub IsId : ℕ → Type 0
 IsId id = id < 2 ^ 64 - 1
 
--- a variable is its index
+-- a variable is its index, which is below the limit
 abbrev pub IsVariable : ℕ → Type 0
 IsVariable v = v < largest
 
--- a literal is its code
+-- a literal is its code, and its variable is within the limit
 abbrev pub IsLiteral : ℕ → Type 0
 IsLiteral l = l < 2 * largest
 

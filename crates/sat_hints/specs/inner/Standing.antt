@@ -16,7 +16,7 @@ is_stale since id [] = false
 is_stale since id (l ∷ []) = nat_lt id (value_at 0 since (variable l))
 is_stale since id (l ∷ m ∷ ls) = false
 
--- but for a unit that is stale
+-- the clause, unless it is a stale unit
 abbrev pub unless_stale : Table ℕ → ℕ → Option (List ℕ) → Option (List ℕ)
 unless_stale since id None = None
 unless_stale since id (Some c) = if is_stale since id c then None else Some c

@@ -50,7 +50,7 @@ shifted words p = with_activity (header_at words p) ((header_at words p).activit
 abbrev pub raised : List ℕ → (o bump : ℕ) → ℕ
 raised words o bump = min ((header_at words o).activity + bump) (2 ^ 32 - 1)
 
--- a bump of the clause at o stays below 2^30, and comes to it or past it
+-- a bump of the clause at o stays below 2^30
 abbrev pub StaysBelow : List ℕ → ℕ → Scale → Type 0
 StaysBelow words o s = raised words o s.bump < 2 ^ 30
 

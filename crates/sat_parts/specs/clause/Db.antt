@@ -55,7 +55,7 @@ pub record HoldsDb (words : List ℕ) (db : Db) : Type 0 where
   pub few : length db.refs < 2 ^ 64
   pub long : (o : ℕ) → Contains db.refs o → 3 ≤ length (lits_at words o)
 
--- the numbers by tier with one clause of this tier more, or less
+-- the numbers by tier with one clause of this tier more
 abbrev pub one_more : Tier → List ℕ → List ℕ
 one_more tier counts = set counts (index_of tier) (get_or counts (index_of tier) 0 + 1)
 

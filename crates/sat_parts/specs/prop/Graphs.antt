@@ -5,7 +5,7 @@ use Rattle.sat_parts.specs.declared.prop.graph.ImplNode.{ImplNode}
 use Rattle.sat_parts.specs.declared.prop.graph.Reason.{Reason}
 use Rattle.sat_parts.specs.declared.prop.graph.Reason.TheVariants.{Unit as NoCause, Binary, Long}
 
--- whether no clause is the reason: that of a unit, a decision or an assumption
+-- whether no clause is the reason, as of a unit, a decision or an assumption
 abbrev pub is_unit : Reason → Bool
 is_unit NoCause = true
 is_unit (Binary _) = false

@@ -15,7 +15,7 @@ use Rattle.sat_parts.specs.prop.WatchLists.{no_watch, watches_of}
 use Rattle.sat_parts.specs.prop.State.{State, level, current_level, HasLeft, Agrees, IsQueueCurrent, IsSatisfied}
 use Rattle.sat_parts.specs.prop.Reasons.{HaveFirsts, Moves}
 
--- the state that these values, nodes and this trail are
+-- the state of these values, these nodes and this trail
 abbrev pub state_of : Values → List ImplNode → Trailed → State
 state_of a g t = record { values = a.current; nodes = g; trail = t }
 
