@@ -65,7 +65,7 @@ NoLiteral bytes = (l : Literal) (tail : List ℕ) → IsName l.name → bytes �
 abbrev pub StartsNoName : List ℕ → Type 0
 StartsNoName bytes = (more : List ℕ) → NoName (bytes ++ more)
 
--- whatever follows the bytes, they don't begin with a literal and a space
+-- the bytes and whatever would follow never begin with a literal and a space
 abbrev pub StartsNoLiteral : List ℕ → Type 0
 StartsNoLiteral bytes = (more : List ℕ) → NoLiteral (bytes ++ more)
 

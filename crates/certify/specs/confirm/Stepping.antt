@@ -15,7 +15,7 @@ abbrev pub is_fed : Awaited → Bool
 is_fed awaited.Step = false
 is_fed awaited.Cut = true
 
--- the same; a step that isn't ordered is fed at once
+-- the same while an ordered step is still looked for, which is None: one that isn't ordered is fed at once
 abbrev pub is_fed_so_far : Option Awaited → Bool
 is_fed_so_far None = true
 is_fed_so_far (Some a) = is_fed a

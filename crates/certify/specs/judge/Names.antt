@@ -72,7 +72,7 @@ refusal_said (Some refusal) = Some (refusal_in refusal)
 abbrev pub Judges : Option CodeRefusal → Names → Lent → Type 0
 Judges refusal names lent = (j : Judge) (c : Command) → NamesStand names j → IsLent lent c → refusal_said refusal ≡ refusal_of j c
 
--- why a command is refused that has a name past the limit
+-- a command is refused for the limit if a name of it is past that
 abbrev pub limit_refusal : Bool → Option CodeRefusal
 limit_refusal false = None
 limit_refusal true = Some code.Limit

@@ -122,7 +122,7 @@ ClauseAndAskMatches = (rest : List ℕ)
     → MatchesCommands the_checking clause_and_ask Clean clause_and_ask_text
     (2 ∷ 0 ∷ 1 ∷ 2 ∷ 1 ∷ 2 ∷ 5 ∷ 2 ∷ 0 ∷ 2 ∷ 11 ∷ 0 ∷ 10 ∷ 2 ∷ 1 ∷ 2 ∷ 11 ∷ 0 ∷ 13 ∷ rest)
 
--- `s UNSATISFIABLE`, `f 0`: what stands behind the second clause is of no matter
+-- the same as bytes, with the answers `s UNSATISFIABLE`, `f 0`: what the certificate has behind the second clause is of no matter
 abbrev pub TwoUnitsMatches : Type 0
 TwoUnitsMatches = (rest : List ℕ)
     → MatchesCommands the_checking two_units Clean

@@ -48,7 +48,7 @@ AsksNothing words = (request : Request) → AsksFor words request → ⊥
 abbrev pub IsMisuse : List (List ℕ) → Type 0
 IsMisuse words = (words ≡ [] → ⊥) × AsksNothing words
 
--- a run over these files, with so many steps
+-- a run over these files, with so many steps for each ask
 abbrev pub running : RunFiles → ℕ → Request
 running files budget = Run files.script.now files.answers.now files.certificate.now budget
 

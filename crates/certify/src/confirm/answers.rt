@@ -43,7 +43,7 @@ fn is_same(line: &[u8], due: &[u8]) -> bool
     line == due
 }
 
-/// Whether the answers were over where a line was read.
+/// Whether the line that was read is empty, as it is where the answers are over.
 fn is_none(line: &[u8]) -> bool
     ensures { MatchBool result (line.now ≡ []) (line.now ≡ [] → ⊥) }
 {

@@ -57,7 +57,7 @@ fn unless(holds: bool, why: Why) -> Option<Why>
     Some(why)
 }
 
-/// The name is put on a variable that the checker doesn't know yet.
+/// Whether the step puts the name on a variable that the checker doesn't know yet: nothing, or why not.
 fn compare_new_name(known: Known<'_>, step: &ProofStep<'_>, name: Var) -> Option<Why>
     ensures { Compares (λ o ask. NewName (name + 1)) known.entry (step_of step.now) result }
 {
@@ -77,7 +77,7 @@ fn compare_new_name(known: Known<'_>, step: &ProofStep<'_>, name: Var) -> Option
     None
 }
 
-/// The variable that the name stands for loses it, and no other one.
+/// Whether the step takes the name off the variable that it stands for: nothing, or why not.
 fn compare_no_name(known: Known<'_>, step: &ProofStep<'_>, name: Var) -> Option<Why>
     ensures { Compares (λ o ask. NoName (name + 1)) known.entry (step_of step.now) result }
 {
@@ -96,7 +96,7 @@ fn compare_no_name(known: Known<'_>, step: &ProofStep<'_>, name: Var) -> Option<
     None
 }
 
-/// A clause is added with the literals of the script's, in whatever order and however often.
+/// Whether the step adds a clause with the literals of the script's, in whatever order and however often: nothing, or why not.
 fn compare_clause(
     known: Known<'_>,
     step: &ProofStep<'_>,
@@ -112,7 +112,7 @@ fn compare_clause(
     Ok(unless(same, Why::ClauseDiffers))
 }
 
-/// Assumptions are set with the literals of the ask, in whatever order and however often.
+/// Whether the step sets the literals of the ask as assumptions, in whatever order and however often: nothing, or why not.
 fn compare_ask(
     known: Known<'_>,
     step: &ProofStep<'_>,
@@ -128,7 +128,7 @@ fn compare_ask(
     Ok(unless(same, Why::AskDiffers))
 }
 
-/// The core of the answer fails. Its hashes are the checker's concern.
+/// Whether the step says that the core of the answer fails: nothing, or why not. Its hashes are the checker's concern.
 fn compare_core(
     known: Known<'_>,
     step: &ProofStep<'_>,
@@ -174,7 +174,7 @@ fn compare_line(
     Ok(unless(shown, Why::AnswerDiffers))
 }
 
-/// Assumptions are set that are none.
+/// Whether the step sets no literal as assumptions, which ends an ask: nothing, or why not.
 fn compare_close(known: Known<'_>, step: &ProofStep<'_>) -> Option<Why>
     ensures { Compares (λ o ask. Closes) known.entry (step_of step.now) result }
 {
@@ -187,7 +187,7 @@ fn compare_close(known: Known<'_>, step: &ProofStep<'_>) -> Option<Why>
     Some(Why::AskDiffers)
 }
 
-/// The certificate ends here; what stands behind is of no matter.
+/// Whether the step is the end of the certificate, behind which nothing matters: nothing, or why not.
 fn compare_end(known: Known<'_>, step: &ProofStep<'_>) -> Option<Why>
     ensures { Compares (λ o ask. Finish) known.entry (step_of step.now) result }
 {

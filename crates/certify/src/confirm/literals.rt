@@ -25,7 +25,7 @@ pub(crate) struct Sets {
 }
 
 impl Room {
-    /// Takes no memory.
+    /// Lists without literals. Takes no memory.
     pub fn new(alloc: Global) -> Room
         ensures spelt { result.spelt.items ≡ [] }
         ensures first { result.sets.first.items ≡ [] }

@@ -64,7 +64,7 @@ pub record MarksMore (w w' : Work) : Type 0 where
 abbrev pub marked : ℕ → Work → Work
 marked r w = record w { flags = set w.flags (variable r) true; used = w.used ++ negated r ∷ [] }
 
--- a true literal is used, and its flag stays as it is
+-- a true literal is put behind the used ones; no flag is set
 abbrev pub used_up : ℕ → Work → Work
 used_up l w = record w { used = w.used ++ l ∷ [] }
 
@@ -82,7 +82,7 @@ can_follow nodes filter r = not (is_unit (node_of nodes (variable r)).reason) &&
 abbrev pub is_settled : (nodes : List ImplNode) (r : ℕ) → Work → Bool
 is_settled nodes r w = (node_of nodes (variable r)).level == 0 || get_or w.flags (variable r) false
 
--- what is marked so, and whether no literal ended it
+-- these literals, one after the other: one that isn't settled is marked if it can follow, and else ends it; `whole` says that none did
 abbrev pub followed : (nodes : List ImplNode) (filter : ℕ) → List ℕ → Work → Followed
 followed nodes filter [] w = record { work = w; whole = true }
 followed nodes filter (r ∷ rs) w =

@@ -68,7 +68,7 @@ cause_in errors.CounterEnd = checks.CounterEnd
 cause_in (errors.ProofProcessorError cause) = checks.Processor cause
 cause_in e = checks.OutOfMemory
 
--- the first is so, or the checker failed for a cause of which the second is so
+-- what an answer of the checker says: `Ok` that the first holds, an error that it is such a cause, of which the second holds
 abbrev pub OrCause : Result (Unit {0}) CheckerError → Type 0 → (CheckFault → Type 0) → Type 0
 OrCause (Ok x) Fed Failed = Fed
 OrCause (Err e) Fed Failed = IsCause e × Failed (cause_in e)

@@ -240,7 +240,7 @@ pub record TookAll (f : ProofFormat) (c : Counting) (s : Sink) (steps : List Ste
   pub takes : Takes s.writer given (s.waiting ++ text_in f written)
   pub flushed : given.flushed ≡ true
 
--- only an open target does so
+-- the same of a target, which has to be open
 abbrev pub TakesAll : Target → List Step → Writer → Type 0
 TakesAll Closed steps given = ⊥
 TakesAll (Open f c s) steps given = TookAll f c s steps given

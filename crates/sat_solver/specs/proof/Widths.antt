@@ -7,7 +7,7 @@ use Rattle.sat_solver.specs.session.Session.{MayAll, session_after}
 abbrev pub kept_bits : ℕ → ℕ → ℕ
 kept_bits width hash = hash / 2 ^ (64 - width)
 
--- a step with the top bits of its hashes
+-- a step with so many of the top bits of its hashes
 abbrev pub narrowed : ℕ → Step → Step
 narrowed width (AtClause redundant clause hashes) = AtClause redundant clause (map (kept_bits width) hashes)
 narrowed width (UnitClauses us) = UnitClauses (map (λ u. (u.0, kept_bits width u.1)) us)

@@ -52,7 +52,7 @@ pub record Shown {W L : Type 0} {G : Ghosts L} (seen : W → Writer) (n : Variab
   pub search : b.search ≡ a.search
   pub config : b.config ≡ a.config
 
--- what came of writing the model
+-- the model was written, or a call failed
 abbrev pub ShowsModel : {W L : Type 0} {G : Ghosts L} → (W → Writer) → Result (Unit {0}) SolverError → Variables → Core W L G → Core W L G → Type 0
 ShowsModel seen r n a b = MatchResult r (λ _. Shown seen n a b) (λ e. BreaksOff seen e a b)
 
@@ -65,6 +65,6 @@ pub record Failed {W L : Type 0} {G : Ghosts L} (seen : W → Writer) (n : Varia
   pub config : b.config ≡ a.config
   pub named : core ≡ map (name_of n) b.search.analysis.core
 
--- what came of writing a failed core
+-- a failed core was written, or a call failed
 abbrev pub FailsCore : {W L : Type 0} {G : Ghosts L} → (W → Writer) → Result (Unit {0}) SolverError → Variables → Core W L G → Core W L G → List ℕ → Type 0
 FailsCore seen r n a b core = MatchResult r (λ _. Failed seen n a b core) (λ e. BreaksOff seen e a b)

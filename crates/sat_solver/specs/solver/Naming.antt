@@ -65,15 +65,15 @@ ChangesMode seen (Err errors.VariableLimit) old new user judge due May = Refuses
 ChangesMode seen (Err errors.HasFailed) old new user judge due May = Refuses old new (old.failed ≡ true)
 ChangesMode seen (Err e) old new user judge due May = (IsAsked old user → ⊥) × HasRoom old.names (user ∷ []) × EndsNames seen e old new
 
--- what came of hiding a name
+-- so of hiding a name, which the judge counts from 1
 abbrev pub Hides : {W L : Type 0} {G : Ghosts L} → (W → Writer) → Result (Unit {0}) SolverError → Solver W L G → Solver W L G → ℕ → Type 0
 Hides seen r old new user = ChangesMode seen r old new user (accepted (Hide ((user + 1) ∷ []))) (hiding ((user + 1) ∷ [])) MayHide
 
--- what came of setting a name to mode witness
+-- so of setting it to mode witness
 abbrev pub Witnesses : {W L : Type 0} {G : Ghosts L} → (W → Writer) → Result (Unit {0}) SolverError → Solver W L G → Solver W L G → ℕ → Type 0
 Witnesses seen r old new user = ChangesMode seen r old new user (accepted (Witness ((user + 1) ∷ []))) (setting Witnessed ((user + 1) ∷ [])) (MaySet (user + 1) false)
 
--- what came of setting a name to mode sample
+-- so of setting it to mode sample
 abbrev pub Samples : {W L : Type 0} {G : Ghosts L} → (W → Writer) → Result (Unit {0}) SolverError → Solver W L G → Solver W L G → ℕ → Type 0
 Samples seen r old new user = ChangesMode seen r old new user (accepted (Sample ((user + 1) ∷ []))) (setting Sampled ((user + 1) ∷ [])) (MaySet (user + 1) true)
 

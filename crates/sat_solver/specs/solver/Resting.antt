@@ -46,14 +46,14 @@ ModelFails errors.HasFailed s = s.failed ≡ true
 ModelFails errors.OutOfMemory s = (s.failed ≡ false) × (s.state ≡ states.Sat)
 ModelFails e s = ⊥
 
--- nothing satisfies the clauses, or the clauses and the assumptions
+-- the state is that nothing satisfies the clauses, or the clauses and the assumptions
 abbrev pub is_unsat : State → Type 0
 is_unsat states.Unknown = ⊥
 is_unsat states.Sat = ⊥
 is_unsat states.UnsatUnderAssumptions = Unit {0}
 is_unsat states.Unsat = Unit {0}
 
--- the failed core of a state: the one told, or none of the assumptions
+-- the failed core where the state is this one: what was told for an ask that failed under its assumptions, else the empty list
 abbrev pub core_for : {W L : Type 0} {G : Ghosts L} → State → Solver W L G → List ℕ
 core_for states.UnsatUnderAssumptions s = s.told.failed_core.items
 core_for st s = []

@@ -18,7 +18,7 @@ HasFalse p o = (k : ℕ) × ((k < size_of p.clauses o) × IsFalseLit p.assignmen
 abbrev pub IsOpenAt : Parts → ℕ → Type 0
 IsOpenAt p o = (k : ℕ) → k < size_of p.clauses o → IsOpenLit p.assignment.current (lit_of p.clauses o k)
 
--- the clause at this place looks so under the values of level 0
+-- the clause at this place looks so under the values of now, which are those of level 0 where it is asked
 abbrev pub LooksSo : Looks → Parts → ℕ → Type 0
 LooksSo Satisfied p o = HasTrue p o
 LooksSo Whole p o = IsOpenAt p o

@@ -12,7 +12,7 @@ node_at nodes q = get_or nodes q false
 abbrev pub is_free : FreeIndices → ℕ → Bool
 is_free f i = node_at f.nodes.items (f.room + i)
 
--- the leaves of a tree with this many levels above them: a power of two
+-- how many leaves a tree has with so many levels above them: a power of two
 unfoldable pub doubled : ℕ → ℕ
 doubled zero = 1
 doubled (suc h) = 2 * doubled h

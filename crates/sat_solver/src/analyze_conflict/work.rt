@@ -255,7 +255,8 @@ impl Analysis {
         unflag(&mut self.flags, &self.used, 0);
     }
 
-    /// Whether a false literal is accounted for already: it is of the clause, or its negation is used.
+    /// Whether the literal's variable is flagged. While a clause is minimised, each flagged variable is one of the clause or of a
+    /// used literal.
     pub(crate) fn is_flagged(&self, lit: Lit) -> bool
         requires flag { variable lit < length self.now.flags }
         ensures { result ≡ slice_index_or self.now.flags (variable lit) false }
