@@ -19,3 +19,4 @@ pub mod KeptLemmas
 pub mod ProgressLemmas
 pub mod FrontLemmas
 pub mod ToldLemmas
+pub mod AskLemmas

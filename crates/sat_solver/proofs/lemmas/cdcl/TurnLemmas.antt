@@ -1,5 +1,5 @@
 -- The turns of a search.
-use Rattle.std.proofs.Common.{ℕ, ◌+◌, ◌<◌, ◌≡◌, ◌∙◌, Ok, Option, None, Some, length, refl, ap, arith, inl, inr, sym, subst}
+use Rattle.std.proofs.Common.{ℕ, ◌+◌, ◌<◌, ◌≡◌, ◌∙◌, Ok, Option, None, Some, List, length, refl, ap, arith, inl, inr, sym, subst}
 use Rattle.sat_base.specs.device.Device.{Writer}
 use Rattle.sat_checker.specs.declared.processing.ProofProcessor.{Ghosts}
 use Rattle.sat_parts.specs.declared.prop.graph.Conflict.{Conflict}
@@ -16,6 +16,7 @@ use Rattle.sat_parts.proofs.lemmas.parts.WordSteps.{extends_after}
 use Rattle.sat_solver.specs.proof.ProofView.{steps_of, session_of}
 use Rattle.sat_solver.specs.declared.proof.Proof.{Proof}
 use Rattle.sat_solver.specs.session.Session.{Session, session_after}
+use Rattle.sat_solver.specs.session.Naming.{global_of}
 use Rattle.sat_solver.specs.session.Fits.{SessionMatchesParts, HaveNames}
 use Rattle.sat_solver.proofs.lemmas.fits.LearnedLemmas.{fits_undone}
 use Rattle.sat_solver.proofs.lemmas.fits.StepLemmas.{fits_propagated}
@@ -74,6 +75,13 @@ free_moved c c' f moved analysis flags = record {
 
 -- PROPAGATION
 
+-- all was propagated, and no clause is false
+pub record Propagation (s : Session) (c d : Search) : Type 0 where
+  pub whole : IsPropagated s d
+  pub moved : Moved c d
+  pub word : TrailWordExtendsFor (assumed_in c) c.parts d.parts
+  pub starts : d.parts.trail.starts ≡ c.parts.trail.starts
+
 module _ (s : Session) (c c' : Search) (search : IsSearch s c) (globals : c'.globals ≡ c.globals) (assumptions : c'.assumptions ≡ c.assumptions) (analysis : c'.analysis ≡ c.analysis) (flags : c'.flags ≡ c.flags)
     (starts : c'.parts.trail.starts ≡ c.parts.trail.starts) (moved : Reordered c.parts c'.parts) (carries : Carries (state c.parts) (state c'.parts)) (word : TrailWordExtends c.parts c'.parts) (keeps : (top : ℕ) → KeepsTo top (state c.parts) (state c'.parts)) where
   pub propagated_moved : Moved c c'
@@ -93,14 +101,19 @@ module _ (s : Session) (c c' : Search) (search : IsSearch s c) (globals : c'.glo
   propagated_fits_all : HoldsBelow (length c'.parts.trail.starts + 1) c'.parts → SessionMatchesParts c'.parts s (global_in c')
   propagated_fits_all holds = rw globals (fits_propagated c.parts c'.parts s (global_in c) moved carries holds.asks.clauses search.stands.fits)
 
-  pub propagated_whole : HoldsBelow (length c'.parts.trail.starts + 1) c'.parts → IsDone c'.parts → (0 < length c.parts.trail.starts → AreUnits (state c.parts) → AreUnits (state c'.parts)) →
-      (0 < length c.parts.trail.starts → IsBased c.parts.trail → IsBased c'.parts.trail) → IsPropagated s c'
-  propagated_whole holds done units base = record {
-    holds = holds;
-    done = done;
-    units = λ some. (let old : 0 < length c.parts.trail.starts = rw starts at some in (units old search.stands.holds.units, base old search.stands.holds.base));
-    fits = propagated_fits_all holds;
-    ready = propagated_ready;
+  pub propagation : HoldsBelow (length c'.parts.trail.starts + 1) c'.parts → IsDone c'.parts → (0 < length c.parts.trail.starts → AreUnits (state c.parts) → AreUnits (state c'.parts)) →
+      (0 < length c.parts.trail.starts → IsBased c.parts.trail → IsBased c'.parts.trail) → Propagation s c c'
+  propagation holds done units base = record {
+    whole = record {
+      holds = holds;
+      done = done;
+      units = λ some. (let old : 0 < length c.parts.trail.starts = rw starts at some in (units old search.stands.holds.units, base old search.stands.holds.base));
+      fits = propagated_fits_all holds;
+      ready = propagated_ready;
+    };
+    moved = propagated_moved;
+    word = word (assumed_in c);
+    starts = starts;
   }
 
   pub falsified_whole : (e : Conflict) → HoldsBelow (length c'.parts.trail.starts) c'.parts → IsConflict c'.parts.clauses (live_refs c'.parts.clauses c'.parts.db.refs) c'.parts.binary.implied c'.parts.assignment.current e →
@@ -166,9 +179,10 @@ module _ (s s' : Session) (c c' : Search) (mid : Parts) (propagated : IsPropagat
 -- A TURN
 
 -- what was propagated, units that were written, and a level that began, or none
-module _ {W L : Type 0} {G : Ghosts L} (seen : W → Writer) (p q : Proof W L G) (c d e : Search) (mid : Parts) (moved : Moved c d) (word : TrailWordExtendsFor (assumed_in c) c.parts d.parts) (starts : d.parts.trail.starts ≡ c.parts.trail.starts)
-    (propagated : IsPropagated (session_of p) d) (settles : EmitsSteps {A = Unit {0}} seen (Ok tt) p q (λ _ _. IsSettled d.parts mid (session_of q) (global_in d))) (globals : e.globals ≡ d.globals) (analysis : e.analysis ≡ d.analysis) (flags : e.flags ≡ d.flags) where
+module _ {W L : Type 0} {G : Ghosts L} (seen : W → Writer) (p q : Proof W L G) (c d e : Search) (mid : Parts) (went : Propagation (session_of p) c d) (gs : List ℕ) (same : gs ≡ d.globals.items)
+    (settles : EmitsSteps {A = Unit {0}} seen (Ok tt) p q (λ _ _. IsSettled d.parts mid (session_of q) (global_of gs))) (globals : e.globals ≡ d.globals) (analysis : e.analysis ≡ d.analysis) (flags : e.flags ≡ d.flags) where
   pub turned : (found : Option FoundConflict) → GoesDeeper found d.assumptions e.assumptions mid e.parts → Turned found (session_of q) c e
   turned found deeper =
       let leaves : Leaves (session_of p) (session_of q) = subst (λ ss. Leaves (session_of p) (session_after ss)) (sym settles.went.history) (leaves_after settles.steps (steps_of p) (kinds_of (session_of p).solver_names settles.steps settles.searched)) in
-      turned_from found (session_of q) c d e moved word (ap (λ ss. length ss) starts) (gone_on (session_of p) (session_of q) d e mid propagated leaves settles.ends globals analysis flags found deeper)
+      let settled : IsSettled d.parts mid (session_of q) (global_in d) = subst (λ hs. IsSettled d.parts mid (session_of q) (global_of hs)) same settles.ends in
+      turned_from found (session_of q) c d e went.moved went.word (ap (λ ss. length ss) went.starts) (gone_on (session_of p) (session_of q) d e mid went.whole leaves settled globals analysis flags found deeper)

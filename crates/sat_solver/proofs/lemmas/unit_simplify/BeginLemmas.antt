@@ -1,5 +1,5 @@
 -- How a round begins.
-use Rattle.std.proofs.Common.{◌≡◌, ◌∙◌, Result, Ok, Err, ap}
+use Rattle.std.proofs.Common.{◌≡◌, ◌∙◌, Result, Ok, Err, [], ap}
 use Rattle.sat_base.specs.device.Device.{Writer}
 use Rattle.sat_checker.specs.declared.processing.ProofProcessor.{Ghosts}
 use Rattle.sat_solver.specs.proof.ProofView.{session_of}
@@ -12,11 +12,16 @@ use Rattle.sat_solver.specs.cdcl.Joint.{assumed_in, global_in, IsSearch, Moved, 
 use Rattle.sat_solver.specs.unit_simplify.Left.{IsSettled}
 use Rattle.sat_solver.specs.cdcl.Turns.{IsPropagated}
 use Rattle.sat_solver.specs.declared.context.Search.{Search}
-use Rattle.sat_solver.proofs.lemmas.cdcl.TurnLemmas.{ready_moved, free_moved}
+use Rattle.sat_solver.proofs.lemmas.cdcl.TurnLemmas.{Propagation, ready_moved, free_moved}
+use Rattle.sat_solver.proofs.lemmas.solver.TellingLemmas.{shares_moved}
 use Rattle.sat_solver.specs.unit_simplify.Flat.{IsFlat}
-use Rattle.sat_solver.specs.unit_simplify.Passes.{MaySettle, Passes, Simplifies}
+use Rattle.sat_solver.specs.unit_simplify.Passes.{StandTogether, MaySettle, Passes, Simplifies}
 use Rattle.sat_solver.proofs.lemmas.unit_simplify.LighterLemmas.{goes_leaves}
 use Rattle.sat_solver.proofs.lemmas.unit_simplify.PassesLemmas.{passes_goes, passes_trans, falls_later}
+
+-- all was propagated at level 0
+pub may_settle : {W L : Type 0} {G : Ghosts L} (n : Variables) (p : Proof W L G) (c d : Search) → StandTogether n p c → c.parts.trail.starts ≡ [] → Propagation (session_of p) c d → MaySettle n p d
+may_settle n p c d h bottom went = record { keeps = h.keeps; stands = h.stands; shares = shares_moved n c d h.shares went.moved; propagated = went.whole; bottom = went.starts ∙ bottom }
 
 -- units were taken off the trail at level 0
 module _ (s t : Session) (c d : Search) (propagated : IsPropagated s c) (leaves : Leaves s t) (settled : IsSettled c.parts d.parts t (global_in c)) (globals : d.globals ≡ c.globals) (assumptions : d.assumptions ≡ c.assumptions) (analysis : d.analysis ≡ c.analysis) (flags : d.flags ≡ c.flags) where

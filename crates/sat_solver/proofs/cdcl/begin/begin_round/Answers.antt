@@ -1,4 +1,4 @@
-use Rattle.std.proofs.Common.{ℕ, ◌+◌, ◌≡◌, ◌≤◌, ◌∙◌, List, [], ◌∷◌, length, Ok, Err, refl, subst, arith}
+use Rattle.std.proofs.Common.{ℕ, ◌+◌, ◌≡◌, ◌≤◌, List, [], ◌∷◌, length, Ok, Err, refl, subst, arith}
 use Rattle.std.proofs.lemmas.Result.{err_from_is_err_and}
 use Rattle.sat_parts.specs.clause.Db.{live_refs}
 use Rattle.sat_parts.specs.prop.Ready.{IsConflict}
@@ -6,14 +6,12 @@ use Rattle.sat_parts.specs.parts.Whole.{HoldsBelow}
 use Rattle.sat_solver.specs.proof.ProofView.{session_of}
 use Rattle.sat_solver.specs.session.Naming.{global_of}
 use Rattle.sat_solver.specs.cdcl.Going.{EmitsSteps}
-use Rattle.sat_solver.specs.cdcl.Joint.{assumed_in, Moved}
-use Rattle.sat_solver.specs.cdcl.Turns.{IsPropagated}
+use Rattle.sat_solver.specs.cdcl.Joint.{assumed_in}
 use Rattle.sat_solver.specs.unit_simplify.Left.{IsSettled}
 use Rattle.sat_solver.specs.unit_simplify.Passes.{MaySettle, Simplified}
 use Rattle.sat_solver.specs.declared.context.Search.{Search}
-use Rattle.sat_solver.proofs.lemmas.cdcl.TurnLemmas.{propagated_moved, propagated_whole, falsified_whole, ready_names}
-use Rattle.sat_solver.proofs.lemmas.solver.TellingLemmas.{shares_moved}
-use Rattle.sat_solver.proofs.lemmas.unit_simplify.BeginLemmas.{settled_passes, settled_flat, settled_simplified}
+use Rattle.sat_solver.proofs.lemmas.cdcl.TurnLemmas.{Propagation, propagation, propagated_moved, falsified_whole, ready_names}
+use Rattle.sat_solver.proofs.lemmas.unit_simplify.BeginLemmas.{may_settle, settled_passes, settled_flat, settled_simplified}
 use Rattle.sat_solver.proofs.lemmas.unit_simplify.PassesLemmas.{passes_behind, passes_refl, falls_goes, falls_starved}
 use Rattle.sat_solver.proofs.cdcl.begin.begin_round.Goals as goal
 
@@ -31,15 +29,15 @@ settle-requires g c =
     let search = c.requires.together.search in
     let d : Search = record c.args.search.now { parts = c.propagate_all.new.parts } in
     let holds : HoldsBelow (length d.parts.trail.starts + 1) d.parts = rw c.in-Ok.is at x.holds in
-    let propagated : IsPropagated s d = propagated_whole s c.args.search.now d search refl refl refl refl x.starts x.moved x.carries x.word x.keeps holds (rw c.in-Ok.is at x.done) x.units x.base in
+    let went : Propagation s c.args.search.now d = propagation s c.args.search.now d search refl refl refl refl x.starts x.moved x.carries x.word x.keeps holds (rw c.in-Ok.is at x.done) x.units x.base in
     record {
       keeps = c.requires.together.keeps;
-      holds = propagated.holds;
-      done = propagated.done;
-      units = propagated.units;
-      fits = rw c.deref.ensures.value propagated.fits;
-      named = rw c.deref.ensures.value (ready_names s d propagated.ready);
-      names = rw c.deref.ensures.value propagated.ready.free.names;
+      holds = went.whole.holds;
+      done = went.whole.done;
+      units = went.whole.units;
+      fits = rw c.deref.ensures.value went.whole.fits;
+      named = rw c.deref.ensures.value (ready_names s d went.whole.ready);
+      names = rw c.deref.ensures.value went.whole.ready.free.names;
     }
 
 pub unit_simplify-requires : goal.unit_simplify-requires
@@ -49,21 +47,14 @@ unit_simplify-requires g c =
     let search = c.requires.together.search in
     let d : Search = record c.args.search.now { parts = c.propagate_all.new.parts } in
     let holds : HoldsBelow (length d.parts.trail.starts + 1) d.parts = rw c.in-Ok.is at x.holds in
-    let propagated : IsPropagated s d = propagated_whole s c.args.search.now d search refl refl refl refl x.starts x.moved x.carries x.word x.keeps holds (rw c.in-Ok.is at x.done) x.units x.base in
-    let moved : Moved c.args.search.now d = propagated_moved s c.args.search.now d search refl refl refl refl x.starts x.moved x.carries x.word x.keeps in
-    let may : MaySettle c.args.names.now c.args.proof.now d = record {
-      keeps = c.requires.together.keeps;
-      stands = c.requires.together.stands;
-      shares = shares_moved c.args.names.now c.args.search.now d c.requires.together.shares moved;
-      propagated = propagated;
-      bottom = x.starts ∙ none_open c.args.search.now.parts.trail.starts (omega (arith, c.if-current_level-gt0.false, c.current_level.ensures.level));
-    } in
-    let went : EmitsSteps {A = Unit {0}} g.W.CountedWrite.seen (Ok tt) c.args.proof.now c.settle.new.proof (λ _ _. IsSettled d.parts c.settle.new.parts (session_of c.settle.new.proof) (global_of d.globals.items)) =
+    let went : Propagation s c.args.search.now d = propagation s c.args.search.now d search refl refl refl refl x.starts x.moved x.carries x.word x.keeps holds (rw c.in-Ok.is at x.done) x.units x.base in
+    let may : MaySettle c.args.names.now c.args.proof.now d = may_settle c.args.names.now c.args.proof.now c.args.search.now d c.requires.together (none_open c.args.search.now.parts.trail.starts (omega (arith, c.if-current_level-gt0.false, c.current_level.ensures.level))) went in
+    let settles : EmitsSteps {A = Unit {0}} g.W.CountedWrite.seen (Ok tt) c.args.proof.now c.settle.new.proof (λ _ _. IsSettled d.parts c.settle.new.parts (session_of c.settle.new.proof) (global_of d.globals.items)) =
     subst (λ gs. EmitsSteps {A = Unit {0}} g.W.CountedWrite.seen (Ok tt) c.args.proof.now c.settle.new.proof (λ _ _. IsSettled d.parts c.settle.new.parts (session_of c.settle.new.proof) (global_of gs))) c.deref.ensures.value c.in_ok-settle.ensures in
     let e : Search = record d { parts = c.settle.new.parts; scratch = record d.scratch { units = c.settle.new.units } } in
     record {
-      together = (settled_passes g.W.CountedWrite.seen c.args.names.now c.args.proof.now c.settle.new.proof d e may went refl refl refl refl).together;
-      flat = settled_flat g.W.CountedWrite.seen c.args.names.now c.args.proof.now c.settle.new.proof d e may went refl refl refl refl;
+      together = (settled_passes g.W.CountedWrite.seen c.args.names.now c.args.proof.now c.settle.new.proof d e may settles refl refl refl refl).together;
+      flat = settled_flat g.W.CountedWrite.seen c.args.names.now c.args.proof.now c.settle.new.proof d e may settles refl refl refl refl;
     }
 
 pub returns-in_err-propagated : goal.returns-in_err-propagated
@@ -98,20 +89,13 @@ returns-in_err-unit_simplify g c =
     let search = c.requires.together.search in
     let d : Search = record c.args.search.now { parts = c.propagate_all.new.parts } in
     let holds : HoldsBelow (length d.parts.trail.starts + 1) d.parts = rw c.in-Ok.is at x.holds in
-    let propagated : IsPropagated s d = propagated_whole s c.args.search.now d search refl refl refl refl x.starts x.moved x.carries x.word x.keeps holds (rw c.in-Ok.is at x.done) x.units x.base in
-    let moved : Moved c.args.search.now d = propagated_moved s c.args.search.now d search refl refl refl refl x.starts x.moved x.carries x.word x.keeps in
-    let may : MaySettle c.args.names.now c.args.proof.now d = record {
-      keeps = c.requires.together.keeps;
-      stands = c.requires.together.stands;
-      shares = shares_moved c.args.names.now c.args.search.now d c.requires.together.shares moved;
-      propagated = propagated;
-      bottom = x.starts ∙ none_open c.args.search.now.parts.trail.starts (omega (arith, c.if-current_level-gt0.false, c.current_level.ensures.level));
-    } in
-    let went : EmitsSteps {A = Unit {0}} g.W.CountedWrite.seen (Ok tt) c.args.proof.now c.settle.new.proof (λ _ _. IsSettled d.parts c.settle.new.parts (session_of c.settle.new.proof) (global_of d.globals.items)) =
+    let went : Propagation s c.args.search.now d = propagation s c.args.search.now d search refl refl refl refl x.starts x.moved x.carries x.word x.keeps holds (rw c.in-Ok.is at x.done) x.units x.base in
+    let may : MaySettle c.args.names.now c.args.proof.now d = may_settle c.args.names.now c.args.proof.now c.args.search.now d c.requires.together (none_open c.args.search.now.parts.trail.starts (omega (arith, c.if-current_level-gt0.false, c.current_level.ensures.level))) went in
+    let settles : EmitsSteps {A = Unit {0}} g.W.CountedWrite.seen (Ok tt) c.args.proof.now c.settle.new.proof (λ _ _. IsSettled d.parts c.settle.new.parts (session_of c.settle.new.proof) (global_of d.globals.items)) =
     subst (λ gs. EmitsSteps {A = Unit {0}} g.W.CountedWrite.seen (Ok tt) c.args.proof.now c.settle.new.proof (λ _ _. IsSettled d.parts c.settle.new.parts (session_of c.settle.new.proof) (global_of gs))) c.deref.ensures.value c.in_ok-settle.ensures in
     let e : Search = record d { parts = c.settle.new.parts; scratch = record d.scratch { units = c.settle.new.units } } in
     let p = err_from_is_err_and c.from_residual-in_err-unit_simplify.result c.from_residual-in_err-unit_simplify.ensures.1 in
-    rw (p.1, p.2) (settled_simplified g.W.CountedWrite.seen c.args.names.now c.args.proof.now c.settle.new.proof d e may went refl refl refl refl
+    rw (p.1, p.2) (settled_simplified g.W.CountedWrite.seen c.args.names.now c.args.proof.now c.settle.new.proof d e may settles refl refl refl refl
     (Err _) c.unit_simplify.new.names c.unit_simplify.new.proof c.unit_simplify.new.search c.in_err-unit_simplify.ensures)
 
 pub returns : goal.returns
@@ -121,19 +105,12 @@ returns g c =
     let search = c.requires.together.search in
     let d : Search = record c.args.search.now { parts = c.propagate_all.new.parts } in
     let holds : HoldsBelow (length d.parts.trail.starts + 1) d.parts = rw c.in-Ok.is at x.holds in
-    let propagated : IsPropagated s d = propagated_whole s c.args.search.now d search refl refl refl refl x.starts x.moved x.carries x.word x.keeps holds (rw c.in-Ok.is at x.done) x.units x.base in
-    let moved : Moved c.args.search.now d = propagated_moved s c.args.search.now d search refl refl refl refl x.starts x.moved x.carries x.word x.keeps in
-    let may : MaySettle c.args.names.now c.args.proof.now d = record {
-      keeps = c.requires.together.keeps;
-      stands = c.requires.together.stands;
-      shares = shares_moved c.args.names.now c.args.search.now d c.requires.together.shares moved;
-      propagated = propagated;
-      bottom = x.starts ∙ none_open c.args.search.now.parts.trail.starts (omega (arith, c.if-current_level-gt0.false, c.current_level.ensures.level));
-    } in
-    let went : EmitsSteps {A = Unit {0}} g.W.CountedWrite.seen (Ok tt) c.args.proof.now c.settle.new.proof (λ _ _. IsSettled d.parts c.settle.new.parts (session_of c.settle.new.proof) (global_of d.globals.items)) =
+    let went : Propagation s c.args.search.now d = propagation s c.args.search.now d search refl refl refl refl x.starts x.moved x.carries x.word x.keeps holds (rw c.in-Ok.is at x.done) x.units x.base in
+    let may : MaySettle c.args.names.now c.args.proof.now d = may_settle c.args.names.now c.args.proof.now c.args.search.now d c.requires.together (none_open c.args.search.now.parts.trail.starts (omega (arith, c.if-current_level-gt0.false, c.current_level.ensures.level))) went in
+    let settles : EmitsSteps {A = Unit {0}} g.W.CountedWrite.seen (Ok tt) c.args.proof.now c.settle.new.proof (λ _ _. IsSettled d.parts c.settle.new.parts (session_of c.settle.new.proof) (global_of d.globals.items)) =
     subst (λ gs. EmitsSteps {A = Unit {0}} g.W.CountedWrite.seen (Ok tt) c.args.proof.now c.settle.new.proof (λ _ _. IsSettled d.parts c.settle.new.parts (session_of c.settle.new.proof) (global_of gs))) c.deref.ensures.value c.in_ok-settle.ensures in
     let e : Search = record d { parts = c.settle.new.parts; scratch = record d.scratch { units = c.settle.new.units } } in
     let simplified : Simplified g.W.CountedWrite.seen c.args.names.now c.unit_simplify.new.names c.args.proof.now c.unit_simplify.new.proof d c.unit_simplify.new.search =
-    settled_simplified g.W.CountedWrite.seen c.args.names.now c.args.proof.now c.settle.new.proof d e may went refl refl refl refl
+    settled_simplified g.W.CountedWrite.seen c.args.names.now c.args.proof.now c.settle.new.proof d e may settles refl refl refl refl
     (Ok tt) c.unit_simplify.new.names c.unit_simplify.new.proof c.unit_simplify.new.search c.in_ok-unit_simplify.ensures in
-    passes_behind g.W.CountedWrite.seen c.args.names.now c.unit_simplify.new.names c.args.proof.now c.unit_simplify.new.proof c.args.search.now d c.unit_simplify.new.search moved (x.word (assumed_in c.args.search.now)) simplified.passes
+    passes_behind g.W.CountedWrite.seen c.args.names.now c.unit_simplify.new.names c.args.proof.now c.unit_simplify.new.proof c.args.search.now d c.unit_simplify.new.search went.moved went.word simplified.passes

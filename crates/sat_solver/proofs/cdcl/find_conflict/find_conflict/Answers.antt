@@ -1,21 +1,19 @@
-use Rattle.std.proofs.Common.{◌+◌, length, None, Some, Ok, refl, subst, arith}
+use Rattle.std.proofs.Common.{◌+◌, length, None, Some, Ok, refl, arith}
 use Rattle.std.proofs.lemmas.Result.{err_from_is_err_and}
 use Rattle.sat_parts.specs.clause.Db.{live_refs}
 use Rattle.sat_parts.specs.prop.Ready.{IsConflict}
 use Rattle.sat_parts.specs.parts.Whole.{HoldsBelow}
 use Rattle.sat_parts.proofs.lemmas.parts.WordSteps.{extends_refl, extends_after}
 use Rattle.sat_solver.specs.proof.ProofView.{session_of}
-use Rattle.sat_solver.specs.session.Naming.{global_of}
 use Rattle.sat_solver.specs.cdcl.Going.{EmitsSteps}
-use Rattle.sat_solver.specs.cdcl.Joint.{assumed_in, Moved}
-use Rattle.sat_solver.specs.cdcl.Turns.{IsPropagated, Turned}
-use Rattle.sat_solver.specs.unit_simplify.Left.{IsSettled}
+use Rattle.sat_solver.specs.cdcl.Joint.{assumed_in}
+use Rattle.sat_solver.specs.cdcl.Turns.{Turned, Stopped}
 use Rattle.sat_solver.specs.declared.context.Search.{Search}
 use Rattle.sat_solver.specs.declared.cdcl.find_conflict.FoundConflict.TheVariants.{Falsified}
 use Rattle.sat_solver.specs.declared.error.SolverError.TheVariants as errors
 use Rattle.sat_solver.proofs.lemmas.clause.GlueLemmas.{starts_few}
 use Rattle.sat_solver.proofs.lemmas.cdcl.GoingLemmas.{goes_none, goes_starved, goes_then, goes_then_fails, goes_on}
-use Rattle.sat_solver.proofs.lemmas.cdcl.TurnLemmas.{moved_refl, moved_trans, ready_names, propagated_moved, propagated_whole, falsified_whole, stopped_from, turned}
+use Rattle.sat_solver.proofs.lemmas.cdcl.TurnLemmas.{moved_refl, moved_trans, ready_names, Propagation, propagation, falsified_whole, stopped_from, turned}
 use Rattle.sat_solver.proofs.cdcl.find_conflict.find_conflict.Goals as goal
 
 pub turns-init : goal.turns-init
@@ -29,16 +27,18 @@ turns-init g c = record {
 pub settle-requires : goal.settle-requires
 settle-requires g c =
     let x = c.in_ok-propagated.ensures in
+    let s = session_of c.turns.proof in
     let d : Search = record c.turns.search { parts = c.propagate_all.new.parts } in
     let holds : HoldsBelow (length d.parts.trail.starts + 1) d.parts = rw c.in-Ok.is at x.holds in
-    let p : IsPropagated (session_of c.turns.proof) d = propagated_whole (session_of c.turns.proof) c.turns.search d c.turns.invariant.search refl refl refl refl x.starts x.moved x.carries x.word x.keeps holds (rw c.in-Ok.is at x.done) x.units x.base in
+    let went : Propagation s c.turns.search d = propagation s c.turns.search d c.turns.invariant.search refl refl refl refl x.starts x.moved x.carries x.word x.keeps holds (rw c.in-Ok.is at x.done) x.units x.base in
+    let p = went.whole in
     record {
       keeps = c.turns.invariant.came.keeps;
       holds = p.holds;
       done = p.done;
       units = p.units;
       fits = rw c.deref.ensures.value p.fits;
-      named = rw c.deref.ensures.value (ready_names (session_of c.turns.proof) d p.ready);
+      named = rw c.deref.ensures.value (ready_names s d p.ready);
       names = rw c.deref.ensures.value p.ready.free.names;
     }
 
@@ -48,13 +48,13 @@ assume_or_decide-requires g c =
     let s = session_of c.turns.proof in
     let d : Search = record c.turns.search { parts = c.propagate_all.new.parts } in
     let holds : HoldsBelow (length d.parts.trail.starts + 1) d.parts = rw c.in-Ok.is at x.holds in
-    let p : IsPropagated s d = propagated_whole s c.turns.search d c.turns.invariant.search refl refl refl refl x.starts x.moved x.carries x.word x.keeps holds (rw c.in-Ok.is at x.done) x.units x.base in
-    let e = c.in_ok-settle.ensures.ends in
+    let went : Propagation s c.turns.search d = propagation s c.turns.search d c.turns.invariant.search refl refl refl refl x.starts x.moved x.carries x.word x.keeps holds (rw c.in-Ok.is at x.done) x.units x.base in
+    let settled = c.in_ok-settle.ensures.ends in
     record {
-      holds = e.stands.holds;
-      done = e.done;
-      there = rw e.size p.ready.there;
-      placed = e.placed c.turns.search.assumptions p.ready.placed;
+      holds = settled.stands.holds;
+      done = settled.done;
+      there = rw settled.size went.whole.ready.there;
+      placed = settled.placed c.turns.search.assumptions went.whole.ready.placed;
     }
 
 pub returns-in_err-propagated : goal.returns-in_err-propagated
@@ -89,20 +89,16 @@ returns-in_err-found g c =
 
 pub turns-preserved : goal.turns-preserved
 turns-preserved g c =
-    let seen = g.W.CountedWrite.seen in
     let i = c.turns.invariant in
     let x = c.in_ok-propagated.ensures in
     let s = session_of c.turns.proof in
     let d : Search = record c.turns.search { parts = c.propagate_all.new.parts } in
-    let e : Search = record d { parts = c.assume_or_decide.new.parts; assumptions = c.assume_or_decide.new.assumptions; scratch = record d.scratch { units = c.settle.new.units } } in
     let holds : HoldsBelow (length d.parts.trail.starts + 1) d.parts = rw c.in-Ok.is at x.holds in
-    let propagated : IsPropagated s d = propagated_whole s c.turns.search d i.search refl refl refl refl x.starts x.moved x.carries x.word x.keeps holds (rw c.in-Ok.is at x.done) x.units x.base in
-    let moved : Moved c.turns.search d = propagated_moved s c.turns.search d i.search refl refl refl refl x.starts x.moved x.carries x.word x.keeps in
-    let settles : EmitsSteps {A = Unit {0}} seen (Ok tt) c.turns.proof c.settle.new.proof (λ _ _. IsSettled d.parts c.settle.new.parts (session_of c.settle.new.proof) (global_of d.globals.items)) =
-    subst (λ gs. EmitsSteps {A = Unit {0}} seen (Ok tt) c.turns.proof c.settle.new.proof (λ _ _. IsSettled d.parts c.settle.new.parts (session_of c.settle.new.proof) (global_of gs))) c.deref.ensures.value c.in_ok-settle.ensures in
-    let t : Turned None (session_of c.settle.new.proof) c.turns.search e = turned seen c.turns.proof c.settle.new.proof c.turns.search d e c.settle.new.parts moved (x.word (assumed_in c.turns.search)) x.starts propagated settles refl refl refl None (rw c.in-None.is at c.in_ok-found.ensures) in
+    let went : Propagation s c.turns.search d = propagation s c.turns.search d c.turns.invariant.search refl refl refl refl x.starts x.moved x.carries x.word x.keeps holds (rw c.in-Ok.is at x.done) x.units x.base in
+    let e : Search = record d { parts = c.assume_or_decide.new.parts; assumptions = c.assume_or_decide.new.assumptions; scratch = record d.scratch { units = c.settle.new.units } } in
+    let t : Turned None (session_of c.settle.new.proof) c.turns.search e = turned g.W.CountedWrite.seen c.turns.proof c.settle.new.proof c.turns.search d e c.settle.new.parts went c.deref.result.now c.deref.ensures.value c.in_ok-settle.ensures refl refl refl None (rw c.in-None.is at c.in_ok-found.ensures) in
     record {
-      came = goes_then seen tt (Ok tt) c.args.proof.now c.turns.proof c.settle.new.proof _ _ _ i.came settles (λ xs ys y a b. tt);
+      came = goes_then g.W.CountedWrite.seen tt (Ok tt) c.args.proof.now c.turns.proof c.settle.new.proof _ _ _ i.came c.in_ok-settle.ensures (λ xs ys y a b. tt);
       search = t.says.0;
       moved = moved_trans c.args.search.now c.turns.search e i.moved t.moved;
       word = extends_after (assumed_in c.args.search.now) c.args.search.now.parts c.turns.search.parts e.parts i.word (rw i.moved.lits at t.word);
@@ -110,34 +106,26 @@ turns-preserved g c =
 
 pub turns-smaller : goal.turns-smaller
 turns-smaller g c =
-    let seen = g.W.CountedWrite.seen in
-    let i = c.turns.invariant in
     let x = c.in_ok-propagated.ensures in
     let s = session_of c.turns.proof in
     let d : Search = record c.turns.search { parts = c.propagate_all.new.parts } in
-    let e : Search = record d { parts = c.assume_or_decide.new.parts; assumptions = c.assume_or_decide.new.assumptions; scratch = record d.scratch { units = c.settle.new.units } } in
     let holds : HoldsBelow (length d.parts.trail.starts + 1) d.parts = rw c.in-Ok.is at x.holds in
-    let propagated : IsPropagated s d = propagated_whole s c.turns.search d i.search refl refl refl refl x.starts x.moved x.carries x.word x.keeps holds (rw c.in-Ok.is at x.done) x.units x.base in
-    let moved : Moved c.turns.search d = propagated_moved s c.turns.search d i.search refl refl refl refl x.starts x.moved x.carries x.word x.keeps in
-    let settles : EmitsSteps {A = Unit {0}} seen (Ok tt) c.turns.proof c.settle.new.proof (λ _ _. IsSettled d.parts c.settle.new.parts (session_of c.settle.new.proof) (global_of d.globals.items)) =
-    subst (λ gs. EmitsSteps {A = Unit {0}} seen (Ok tt) c.turns.proof c.settle.new.proof (λ _ _. IsSettled d.parts c.settle.new.parts (session_of c.settle.new.proof) (global_of gs))) c.deref.ensures.value c.in_ok-settle.ensures in
-    let t : Turned None (session_of c.settle.new.proof) c.turns.search e = turned seen c.turns.proof c.settle.new.proof c.turns.search d e c.settle.new.parts moved (x.word (assumed_in c.turns.search)) x.starts propagated settles refl refl refl None (rw c.in-None.is at c.in_ok-found.ensures) in
+    let went : Propagation s c.turns.search d = propagation s c.turns.search d c.turns.invariant.search refl refl refl refl x.starts x.moved x.carries x.word x.keeps holds (rw c.in-Ok.is at x.done) x.units x.base in
+    let e : Search = record d { parts = c.assume_or_decide.new.parts; assumptions = c.assume_or_decide.new.assumptions; scratch = record d.scratch { units = c.settle.new.units } } in
+    let t : Turned None (session_of c.settle.new.proof) c.turns.search e = turned g.W.CountedWrite.seen c.turns.proof c.settle.new.proof c.turns.search d e c.settle.new.parts went c.deref.result.now c.deref.ensures.value c.in_ok-settle.ensures refl refl refl None (rw c.in-None.is at c.in_ok-found.ensures) in
     omega (arith, t.says.1, t.moved.size, starts_few e.parts t.says.0.stands.holds)
 
 pub returns-in-Some : goal.returns-in-Some
 returns-in-Some g c =
-    let seen = g.W.CountedWrite.seen in
     let i = c.turns.invariant in
     let x = c.in_ok-propagated.ensures in
     let s = session_of c.turns.proof in
     let d : Search = record c.turns.search { parts = c.propagate_all.new.parts } in
-    let e : Search = record d { parts = c.assume_or_decide.new.parts; assumptions = c.assume_or_decide.new.assumptions; scratch = record d.scratch { units = c.settle.new.units } } in
     let holds : HoldsBelow (length d.parts.trail.starts + 1) d.parts = rw c.in-Ok.is at x.holds in
-    let propagated : IsPropagated s d = propagated_whole s c.turns.search d i.search refl refl refl refl x.starts x.moved x.carries x.word x.keeps holds (rw c.in-Ok.is at x.done) x.units x.base in
-    let moved : Moved c.turns.search d = propagated_moved s c.turns.search d i.search refl refl refl refl x.starts x.moved x.carries x.word x.keeps in
-    let settles : EmitsSteps {A = Unit {0}} seen (Ok tt) c.turns.proof c.settle.new.proof (λ _ _. IsSettled d.parts c.settle.new.parts (session_of c.settle.new.proof) (global_of d.globals.items)) =
-    subst (λ gs. EmitsSteps {A = Unit {0}} seen (Ok tt) c.turns.proof c.settle.new.proof (λ _ _. IsSettled d.parts c.settle.new.parts (session_of c.settle.new.proof) (global_of gs))) c.deref.ensures.value c.in_ok-settle.ensures in
-    let t : Turned (Some c.in-Some.stop) (session_of c.settle.new.proof) c.turns.search e = turned seen c.turns.proof c.settle.new.proof c.turns.search d e c.settle.new.parts moved (x.word (assumed_in c.turns.search)) x.starts propagated settles refl refl refl (Some c.in-Some.stop) (rw c.in-Some.is at c.in_ok-found.ensures) in
-    let came : EmitsSteps {A = Unit {0}} seen (Ok tt) c.args.proof.now c.settle.new.proof (λ _ _. Unit {0}) = goes_then seen tt (Ok tt) c.args.proof.now c.turns.proof c.settle.new.proof _ _ _ i.came settles (λ xs ys y a b. tt) in
-    goes_on seen tt c.in-Some.stop c.args.proof.now c.settle.new.proof _ _
-    (λ steps _. stopped_from c.in-Some.stop (session_of c.settle.new.proof) c.args.search.now c.turns.search e i.moved i.word t) came
+    let went : Propagation s c.turns.search d = propagation s c.turns.search d c.turns.invariant.search refl refl refl refl x.starts x.moved x.carries x.word x.keeps holds (rw c.in-Ok.is at x.done) x.units x.base in
+    let e : Search = record d { parts = c.assume_or_decide.new.parts; assumptions = c.assume_or_decide.new.assumptions; scratch = record d.scratch { units = c.settle.new.units } } in
+    let t : Turned (Some c.in-Some.stop) (session_of c.settle.new.proof) c.turns.search e = turned g.W.CountedWrite.seen c.turns.proof c.settle.new.proof c.turns.search d e c.settle.new.parts went c.deref.result.now c.deref.ensures.value c.in_ok-settle.ensures refl refl refl (Some c.in-Some.stop) (rw c.in-Some.is at c.in_ok-found.ensures) in
+    goes_then g.W.CountedWrite.seen tt (Ok c.in-Some.stop) c.args.proof.now c.turns.proof c.settle.new.proof _ _ _ i.came
+    (goes_on g.W.CountedWrite.seen tt c.in-Some.stop c.turns.proof c.settle.new.proof _ (λ stop _. Stopped stop (session_of c.settle.new.proof) c.args.search.now e)
+    (λ steps _. stopped_from c.in-Some.stop (session_of c.settle.new.proof) c.args.search.now c.turns.search e i.moved i.word t) c.in_ok-settle.ensures)
+    (λ xs ys stop a b. b)
