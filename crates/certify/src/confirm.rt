@@ -2,7 +2,7 @@
 ghost use Rattle.std.specs.Prelude.{◌≡◌, ◌+◌, ◌≤◌, ◌⊎◌, IfOk, IsErrOf};
 ghost use Rattle.sat_base.specs.device.Device.{most_reads, ReadFails};
 ghost use Rattle.certify.specs.Devices.{gave};
-ghost use Rattle.certify.specs.confirm.VerdictPromises.{IsExact, IsSound, Promised, ReadsKept, TakesLooks};
+ghost use Rattle.certify.specs.confirm.VerdictPromises.{IsExact, IsSoundVerdict, Promised, ReadsKept, TakesLooks};
 ghost use Rattle.certify.specs.confirm.ConfirmedScript.{said_by};
 
 pub(crate) mod answers;
@@ -83,7 +83,7 @@ pub fn confirm<S: CountedRead, A: CountedRead, C: CountedRead>(
     // Yes means that the texts that the three readers gave match, whatever would follow, and that these match means yes.
     ensures exact { IsExact result S.seen A.seen C.seen (script.old, answers.old, certificate.old) (script.new, answers.new, certificate.new) }
     // A yes means right answers, whatever answers and certificate are.
-    ensures sound { IfOk result (IsSound (gave S.seen script.old script.new) (gave A.seen answers.old answers.new)) }
+    ensures sound { IfOk result (IsSoundVerdict (gave S.seen script.old script.new) (gave A.seen answers.old answers.new)) }
 
     // A fault is answered only where it happened: exactly one read failed, or there were 2^48 of which none did.
     ensures script_read { IsErrOf result ConfirmFault.ScriptRead → ReadFails (S.seen script.old) (S.seen script.new) }

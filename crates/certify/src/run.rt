@@ -2,8 +2,8 @@
 ghost use Rattle.std.specs.Prelude.{◌≡◌, ◌+◌, ◌≤◌, ◌⊎◌, true, IfOk, OnErr, OnOk, IsErrOf};
 ghost use Rattle.sat_base.specs.device.Device.{most_reads, ReadFails};
 ghost use Rattle.certify.specs.Devices.{gave, took};
-ghost use Rattle.certify.specs.run.FinishedRun.{Answered, Backed, WriteFails, WritesKept};
-ghost use Rattle.certify.specs.run.Running.{ReadsFew, Runs};
+ghost use Rattle.certify.specs.run.FinishedRun.{WritesAnswers, Backed, WriteFails, WritesKept};
+ghost use Rattle.certify.specs.run.Running.{ReadsFew, FinishesOrFaults};
 ghost use Rattle.certify.specs.run.Unfinished.{CounterEnds, TookSteps, Unfinished};
 
 pub mod ask;
@@ -35,7 +35,7 @@ fn answer<S: CountedRead, A: CountedWrite, C: CountedWrite + Drop>(
     certificate: C,
     budget: u64,
 ) -> (C, Result<Summary, RunFault>)
-    ensures runs { Runs result.1 budget (gave S.seen script.old script.new) (took A.seen answers.old answers.new)
+    ensures runs { FinishesOrFaults result.1 budget (gave S.seen script.old script.new) (took A.seen answers.old answers.new)
         (C.seen certificate, C.seen result.0) }
     ensures unfinished { OnErr result.1 (Unfinished (gave S.seen script.old script.new) (took A.seen answers.old answers.new)) }
     ensures steps { TookSteps (C.seen certificate, C.seen result.0) }
@@ -56,7 +56,7 @@ fn answer_into<S: CountedRead, A: CountedWrite, C: CountedWrite>(
     certificate: &mut C,
     budget: u64,
 ) -> Result<Summary, RunFault>
-    ensures runs { Runs result budget (gave S.seen script.old script.new) (took A.seen answers.old answers.new)
+    ensures runs { FinishesOrFaults result budget (gave S.seen script.old script.new) (took A.seen answers.old answers.new)
         (took C.seen certificate.old certificate.new) }
     ensures unfinished { OnErr result (Unfinished (gave S.seen script.old script.new) (took A.seen answers.old answers.new)) }
     ensures steps { TookSteps (took C.seen certificate.old certificate.new) }
@@ -81,7 +81,7 @@ pub fn run<S: CountedRead, A: CountedWrite, C: CountedWrite>(
     budget: u64,
 ) -> Result<Summary, RunFault>
     // The answers' writer took the answers to the text that was given, whatever would follow, and each of them is right.
-    ensures answered { IfOk result (λ s. Answered budget s (gave S.seen script.old script.new) (took A.seen answers.old answers.new)) }
+    ensures answered { IfOk result (λ s. WritesAnswers budget s (gave S.seen script.old script.new) (took A.seen answers.old answers.new)) }
     // The certificate's writer took the steps of the accepted commands and of these answers, each accepted in its turn. Once it has
     // recorded that the clauses are unsatisfiable, an ask is answered so without a round of search; each round of another ask has derived
     // a clause that advances, but for the one that answered, and no other clause of it does. Where no command hides a name, no variable

@@ -1,7 +1,7 @@
 //! Callers with contracts of their own.
 ghost use Rattle.std.specs.Prelude.{◌≡◌, ◌≤◌, ◌+◌, true, IfOk};
 ghost use Rattle.certify.specs.Devices.{gave};
-ghost use Rattle.certify.specs.confirm.VerdictPromises.{AreRightAnswers, Given};
+ghost use Rattle.certify.specs.confirm.VerdictPromises.{AreRightAnswers, GaveTextWith};
 ghost use Rattle.certify.specs.laws.EndToEnd.{Certified, VerdictSays, most_looks_over};
 ghost use Rattle.certify.specs.run.FinishedRun.{Backs};
 
@@ -111,8 +111,8 @@ fn are_right<S: CountedRead, A: CountedRead, C: CountedRead>(
     answers: &mut A,
     certificate: &mut C,
 ) -> bool
-    ensures { result ≡ true → Given (gave S.seen script.old script.new)
-        (λ s. Given (gave A.seen answers.old answers.new) (AreRightAnswers s)) }
+    ensures { result ≡ true → GaveTextWith (gave S.seen script.old script.new)
+        (λ s. GaveTextWith (gave A.seen answers.old answers.new) (AreRightAnswers s)) }
 {
     let mut looks = Looks::new();
     match confirm(alloc, script, answers, certificate, &mut looks) {

@@ -2,11 +2,11 @@
 ghost use Rattle.std.specs.Prelude.{◌≡◌, ◌≤◌, ◌+◌, ◌++◌, ◌⊎◌, length, Ok, Err, IfOk, IfErr, OnOk, IsErrOf};
 ghost use Rattle.sat_base.specs.device.Device.{most_reads, ReadFails, GaveEnough};
 ghost use Rattle.sat_base.specs.values.Literals.{largest};
-ghost use Rattle.sat_base.specs.text.Text.{header_of};
+ghost use Rattle.sat_base.specs.text.Text.{dimacs_header};
 ghost use Rattle.sat_base.specs.text.Tokenizing.{held};
 ghost use Rattle.sat_base.specs.values.Formulas.{vars_of};
 ghost use Rattle.sat_base.specs.dimacs.ParserPlaces.{with_parser};
-ghost use Rattle.sat_base.specs.dimacs.Parsing.{no_progress, clauses_read, lines_read, held_numbers, all_taken, Feeds, IsSound, GaveSound, Finishes, Parses, KeepsText, ParsesInParts, VisitsAll};
+ghost use Rattle.sat_base.specs.dimacs.Parsing.{no_progress, clauses_read, lines_read, held_numbers, all_taken, FeedsPiece, IsSoundSoFar, GaveSound, Finishes, Parses, KeepsText, ParsesInParts, VisitsAll};
 
 mod clauses;
 pub mod error;
@@ -74,9 +74,9 @@ impl DimacsParser {
     /// Takes the next bytes of the text. An `Err` says that it stopped: at a fault, whose line is then that of the wrong word or
     /// of the number past 2^28, or for want of memory. A wrong word is told at the first byte behind which no right one goes on.
     pub fn feed(&mut self, piece: &[u8]) -> Result<(), DimacsError>
-        ensures answer { Feeds result piece.now self.old self.new }
+        ensures answer { FeedsPiece result piece.now self.old self.new }
         // No fault is held back at the end of its line, nor a word that is wrong whatever follows.
-        ensures sound { OnOk result (IsSound self.new) }
+        ensures sound { OnOk result (IsSoundSoFar self.new) }
     {
         self.parser.feed(piece)
     }
@@ -116,7 +116,7 @@ impl DimacsParser {
     /// The numbers of the header, if there is one: of variables and of clauses, each held at 2^64-1. Nothing is compared with
     /// them.
     pub fn header(&self) -> Option<(u64, u64)>
-        ensures { result ≡ held_numbers (header_of (lines_read self.now)) }
+        ensures { result ≡ held_numbers (dimacs_header (lines_read self.now)) }
     {
         self.parser.clauses.header
     }

@@ -2,7 +2,7 @@
 ghost use Rattle.std.specs.Prelude.{◌≡◌, ◌≤◌, ◌<◌, [], length, ℕ, List, IsTrue, ◌↔◌};
 ghost use Rattle.std.specs.Map.Iter.{ShowsInOrder, deref};
 ghost use Rattle.sat_base.specs.values.Literals.{largest};
-ghost use Rattle.sat_base.specs.values.Formulas.{no_formula, vars_in, vars_of, with_count, with_clause, with_variable};
+ghost use Rattle.sat_base.specs.values.Formulas.{no_formula, vars_in, vars_of, with_count, with_clause, with_next_variable};
 ghost use Rattle.sat_base.specs.declared.formula.error.FormulaError.TheVariants.{OutOfMemory, VariableLimit};
 
 pub(crate) mod error;
@@ -109,7 +109,7 @@ impl ExtendFormula for CnfFormula {
 
     ghost refuses_clause = { λ f clause e g. (e ≡ OutOfMemory) × (g ≡ f) };
 
-    ghost makes = { λ f v g. (v ≡ f.var_count) × (v < largest) × (g ≡ with_variable f) };
+    ghost makes = { λ f v g. (v ≡ f.var_count) × (v < largest) × (g ≡ with_next_variable f) };
 
     ghost refuses_variable = { λ f e g. (e ≡ VariableLimit) × (f.var_count ≡ largest) × (g ≡ f) };
 

@@ -1,6 +1,6 @@
 //! A value for each place.
 ghost use Rattle.std.specs.Prelude.{ℕ, ◌≡◌, ◌≤◌, ◌<◌, ◌+◌, length, OnOk, OnErr};
-ghost use Rattle.sat_base.specs.values.Tables.{near_count, value_at, HasRoom, KeepsRoom, KeepsValues, SetsValue};
+ghost use Rattle.sat_base.specs.values.Tables.{near_count, value_at, HasPlaceFor, KeepsRoom, KeepsValues, SetsValue};
 
 use std::alloc::{AllocError, Global};
 use std::collections::BTreeMap;
@@ -87,7 +87,7 @@ impl<T: Copy> Table<T> {
     /// Makes room for the value at a place, which is this one where it was missing. So no value changes, whether there was memory or not.
     #[inline(always)]
     pub fn make_room(&mut self, place: usize, missing: T) -> Result<(), AllocError>
-        ensures room { OnOk result (HasRoom self.new place) }
+        ensures room { OnOk result (HasPlaceFor self.new place) }
         ensures same { KeepsValues missing self.old self.new }
         ensures others { KeepsRoom self.old self.new }
     {
@@ -100,7 +100,7 @@ impl<T: Copy> Table<T> {
     #[inline(never)]
     fn make_room_behind(&mut self, place: usize, missing: T) -> Result<(), AllocError>
         requires { length self.old.near.items ≤ place }
-        ensures room { OnOk result (HasRoom self.new place) }
+        ensures room { OnOk result (HasPlaceFor self.new place) }
         ensures same { KeepsValues missing self.old self.new }
         ensures others { KeepsRoom self.old self.new }
     {
@@ -113,7 +113,7 @@ impl<T: Copy> Table<T> {
     /// Puts all up to a place among the near ones.
     fn draw_near(&mut self, place: usize, missing: T) -> Result<(), AllocError>
         requires { length self.old.near.items ≤ place }
-        ensures room { OnOk result (HasRoom self.new place) }
+        ensures room { OnOk result (HasPlaceFor self.new place) }
         ensures same { KeepsValues missing self.old self.new }
         ensures others { KeepsRoom self.old self.new }
     {
@@ -140,7 +140,7 @@ impl<T: Copy> Table<T> {
     /// Makes room for a place that isn't near.
     fn make_far(&mut self, place: usize, missing: T) -> Result<(), AllocError>
         requires { length self.old.near.items ≤ place }
-        ensures room { OnOk result (HasRoom self.new place) }
+        ensures room { OnOk result (HasPlaceFor self.new place) }
         ensures same { KeepsValues missing self.old self.new }
         ensures others { KeepsRoom self.old self.new }
     {
@@ -155,7 +155,7 @@ impl<T: Copy> Table<T> {
     /// Sets the value at a place that there is room for. Takes no memory.
     #[inline(always)]
     pub fn put(&mut self, place: usize, value: T)
-        requires { HasRoom self.old place }
+        requires { HasPlaceFor self.old place }
         ensures set { (missing : T) → SetsValue missing self.old self.new place value }
         ensures room { KeepsRoom self.old self.new }
     {
@@ -168,7 +168,7 @@ impl<T: Copy> Table<T> {
 
     #[inline(never)]
     fn put_far(&mut self, place: usize, value: T)
-        requires room { HasRoom self.old place }
+        requires room { HasPlaceFor self.old place }
         requires far { length self.old.near.items ≤ place }
         ensures set { (missing : T) → SetsValue missing self.old self.new place value }
         ensures room { KeepsRoom self.old self.new }

@@ -3,7 +3,7 @@ ghost use Rattle.std.specs.Prelude.{◌≡◌, ◌+◌, ◌*◌, ◌-◌, ◌<�
 ghost use Rattle.sat_base.specs.text.Text.{is_blank, is_digit, is_letter, Scan, scan};
 ghost use Rattle.sat_base.specs.text.Chunks.{Follows};
 ghost use Rattle.sat_base.specs.text.WrongWords.{RightAhead, WrongAhead};
-ghost use Rattle.sat_base.specs.text.Tokenizing.{grown, held, may_come, Began, Moves, MovesBy, BeginsWord, Says, SaysAtBlank, LeadsBehind, IsQuiet, Stands, Takes, TakesFront, Quiet, GivesLast};
+ghost use Rattle.sat_base.specs.text.Tokenizing.{grown, held, may_come, Began, MovesPlace, MovesBy, BeginsWord, SaysInHand, SaysAtBlank, LeadsBehind, IsQuiet, StandsBefore, TakesByte, TakesFront, HoldsNoWord, GivesLast};
 
 mod header;
 
@@ -118,7 +118,7 @@ fn word_begun(byte: u8) -> Place
 #[inline(always)]
 fn line_begun(may: bool, byte: u8) -> Place
     requires { is_blank byte ≡ false }
-    ensures { Moves (Place.Leading may) byte result }
+    ensures { MovesPlace (Place.Leading may) byte result }
 {
     if byte == b'c' {
         return Place::Comment(may);
@@ -140,7 +140,7 @@ fn line_begun(may: bool, byte: u8) -> Place
 #[inline(always)]
 fn number_goes_on(negative: bool, value: u64, byte: u8) -> Place
     requires { is_blank byte ≡ false }
-    ensures { Moves (Place.Digits negative value) byte result }
+    ensures { MovesPlace (Place.Digits negative value) byte result }
 {
     if is_digit(byte) {
         Place::Digits {
@@ -217,7 +217,7 @@ fn begins_word(place: Place) -> bool
 #[inline(always)]
 fn number_begun(byte: u8) -> Place
     requires { is_blank byte ≡ false }
-    ensures { Moves Place.Minus byte result }
+    ensures { MovesPlace Place.Minus byte result }
 {
     if is_digit(byte) {
         Place::Digits {
@@ -233,7 +233,7 @@ fn number_begun(byte: u8) -> Place
 #[inline(always)]
 fn next(place: Place, byte: u8) -> Place
     requires { is_blank byte ≡ false }
-    ensures { Moves place byte result }
+    ensures { MovesPlace place byte result }
 {
     match place {
         Place::Digits { negative, value } => number_goes_on(negative, value, byte),
@@ -255,7 +255,7 @@ fn next(place: Place, byte: u8) -> Place
 
 /// What a header line says that ends here.
 fn header_token(place: HeaderPlace) -> Token
-    ensures { Says (Some result) (Place.Header place) }
+    ensures { SaysInHand (Some result) (Place.Header place) }
 {
     match ended_in(place) {
         Some(Stage::Both { vars, clauses }) => Token::Header { vars, clauses },
@@ -266,7 +266,7 @@ fn header_token(place: HeaderPlace) -> Token
 /// What the word or the header line in hand says where the line ends, if there is one.
 #[inline(always)]
 fn token_in(place: Place) -> Option<Token>
-    ensures { Says result place }
+    ensures { SaysInHand result place }
 {
     match place {
         Place::Digits { negative, value } => {
@@ -342,7 +342,7 @@ fn may_come(place: Place) -> bool
 impl Tokenizer {
     /// A tokenizer before the first byte of a text.
     pub fn new() -> Tokenizer
-        ensures { Stands result scan }
+        ensures { StandsBefore result scan }
     {
         Tokenizer {
             place: Place::Fresh(true),
@@ -353,9 +353,9 @@ impl Tokenizer {
     /// LF.
     #[inline(always)]
     fn end_line(&mut self) -> Option<Token>
-        ensures takes { Takes self.old 10 result self.new }
-        ensures ended { (after : List ℕ → Scan) → Stands self.new after → (after []).tokens ≡ [] }
-        ensures right { (after : List ℕ → Scan) → Stands self.new after → RightAhead after }
+        ensures takes { TakesByte self.old 10 result self.new }
+        ensures ended { (after : List ℕ → Scan) → StandsBefore self.new after → (after []).tokens ≡ [] }
+        ensures right { (after : List ℕ → Scan) → StandsBefore self.new after → RightAhead after }
     {
         if let Place::Over = self.place {
             return None;
@@ -370,14 +370,14 @@ impl Tokenizer {
     /// header line by the blank behind it. Behind the `%` that ends the text no byte gives a token.
     #[inline(always)]
     pub fn push(&mut self, byte: u8) -> Option<Token>
-        ensures takes { Takes self.old byte result self.new }
+        ensures takes { TakesByte self.old byte result self.new }
         // Only a blank ends a word,
         ensures inside { is_blank byte ≡ false → result ≡ None }
         // and behind it none is in hand, nor a header line behind LF,
-        ensures quiet { is_blank byte ≡ true → (after : List ℕ → Scan) → Stands self.new after → Quiet (after []) }
-        ensures ended { byte ≡ 10 → (after : List ℕ → Scan) → Stands self.new after → (after []).tokens ≡ [] }
+        ensures quiet { is_blank byte ≡ true → (after : List ℕ → Scan) → StandsBefore self.new after → HoldsNoWord (after []) }
+        ensures ended { byte ≡ 10 → (after : List ℕ → Scan) → StandsBefore self.new after → (after []).tokens ≡ [] }
         // and what comes may be right.
-        ensures right { is_blank byte ≡ true → (after : List ℕ → Scan) → Stands self.new after → RightAhead after }
+        ensures right { is_blank byte ≡ true → (after : List ℕ → Scan) → StandsBefore self.new after → RightAhead after }
     {
         // Most bytes are a further digit, for which no other place is looked at.
         if let Place::Digits { negative, value } = self.place {
@@ -403,7 +403,7 @@ impl Tokenizer {
     fn push_number(&mut self, bytes: &[u8]) -> Option<usize>
         ensures none { result ≡ None → self.new ≡ self.old }
         ensures within { IfSome result (λ n. (0 < n) × (n ≤ length bytes.now)) }
-        ensures takes { IfSome result (λ n. Follows Stands self.old (take n bytes.now) self.new) }
+        ensures takes { IfSome result (λ n. Follows StandsBefore self.old (take n bytes.now) self.new) }
     {
         if !begins_word(self.place) {
             return None;
@@ -421,7 +421,7 @@ impl Tokenizer {
         ensures some { 0 < result.0 }
         ensures within { result.0 ≤ length bytes.now }
         ensures takes { TakesFront self.old (take result.0 bytes.now) result.1 self.new }
-        ensures right { (result.1 ≡ None → ⊥) → (after : List ℕ → Scan) → Stands self.new after → RightAhead after }
+        ensures right { (result.1 ≡ None → ⊥) → (after : List ℕ → Scan) → StandsBefore self.new after → RightAhead after }
     {
         let Some(count) = self.push_number(bytes) else {
             return (1, self.push(bytes[0]));
@@ -437,8 +437,8 @@ impl Tokenizer {
     /// on. So `1x` is wrong at `x` and `--` at the second `-`, but `-0`, which may go on as `-01`, only where it ends.
     #[inline(always)]
     pub fn is_wrong(&self) -> bool
-        ensures wrong { result ≡ true → (before : List ℕ → Scan) → Stands self.now before → WrongAhead before }
-        ensures right { result ≡ false → (before : List ℕ → Scan) → Stands self.now before → RightAhead before }
+        ensures wrong { result ≡ true → (before : List ℕ → Scan) → StandsBefore self.now before → WrongAhead before }
+        ensures right { result ≡ false → (before : List ℕ → Scan) → StandsBefore self.now before → RightAhead before }
     {
         match self.place {
             Place::Bad => true,
@@ -449,7 +449,7 @@ impl Tokenizer {
 
     /// The token in hand where the text ends here, if there is one.
     pub fn finish(&self) -> Option<Token>
-        ensures { (before : List ℕ → Scan) → Stands self.now before → GivesLast result (before []) }
+        ensures { (before : List ℕ → Scan) → StandsBefore self.now before → GivesLast result (before []) }
     {
         token_in(self.place)
     }
@@ -457,7 +457,7 @@ impl Tokenizer {
     /// The line of the last byte, from 1, held at 2^64-1; 0 before the first byte. Where a `%` has ended the text it is the line of
     /// that. It is the line of the token that this byte ended, and where the text ends here, of the one in hand.
     pub fn line(&self) -> u64
-        ensures { (before : List ℕ → Scan) → Stands self.now before → result ≡ held (before []).last }
+        ensures { (before : List ℕ → Scan) → StandsBefore self.now before → result ≡ held (before []).last }
     {
         match self.place {
             Place::Fresh(_) => self.lines,

@@ -3,7 +3,7 @@
 //! The tests see a parser and a formula through functions that ensure nothing, and keep few values: that is cheap to prove.
 ghost use Rattle.std.specs.Prelude.{◌≡◌, ◌<◌, ℕ, List, IfOk, length};
 ghost use Rattle.sat_base.specs.device.Device.{GaveEnough, GaveFront};
-ghost use Rattle.sat_base.specs.dimacs.Parsing.{IsWhole};
+ghost use Rattle.sat_base.specs.dimacs.Parsing.{IsWholeText};
 ghost use Rattle.sat_base.specs.text.Tokenizing.{held};
 ghost use Rattle.sat_base.specs.dimacs.Dimacs.{dimacs};
 
@@ -466,7 +466,7 @@ fn count_in_parts<R: CountedRead>(
     reader: &mut R,
 ) -> Result<u64, IncrementalError<DimacsError>>
     ensures { IfOk result (λ count. (text : List ℕ) × GaveFront (R.seen reader.old) (R.seen reader.new) text
-        × (count ≡ held (length (dimacs text).clauses)) × IsWhole (R.seen reader.old) (R.seen reader.new) text) }
+        × (count ≡ held (length (dimacs text).clauses)) × IsWholeText (R.seen reader.old) (R.seen reader.new) text) }
 {
     let parser = DimacsParser::parse_incremental(alloc, reader, |parser| {
         parser.take_formula();

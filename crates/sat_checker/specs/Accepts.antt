@@ -9,8 +9,8 @@ use Rattle.sat_checker.specs.Stored.{Sample, Witness, Hide, Stored, nothing_stor
 use Rattle.sat_checker.specs.Storing.{clause_with, irredundant_count, redundant_count, last_literals, with_stored, with_input, with_unit, with_units, settled, with_variable, with_known, with_literals_known, with_solver_name, without_variable, without_clause}
 
 -- the propagation check of a clause under the hashes that a step names
-abbrev pub Passes : Stored → List ℕ → List ℕ → Type 0
-Passes f clause hashes = PassesCheck (unit_literals f) clause (map (bucket f) hashes)
+abbrev pub PassesByHashes : Stored → List ℕ → List ℕ → Type 0
+PassesByHashes f clause hashes = PassesCheck (unit_literals f) clause (map (bucket f) hashes)
 
 -- no variable has the name, and this one has none and isn't hidden
 pub record MayGetName (f : Stored) (v name : ℕ) : Type 0 where
@@ -32,7 +32,7 @@ MayBeAdded f clause = (f.unsat ≡ true) ⊎ AllByRecursion (λ l. mode_of (vari
 -- each literal in turn passes the check as a clause under its one hash, those before it being units by then
 abbrev pub PassInTurn : Stored → List (ℕ × ℕ) → Type 0
 PassInTurn f [] = Unit {0}
-PassInTurn f (u ∷ us) = Passes f (u.0 ∷ []) (u.1 ∷ []) × PassInTurn (with_unit u.0 f) us
+PassInTurn f (u ∷ us) = PassesByHashes f (u.0 ∷ []) (u.1 ∷ []) × PassInTurn (with_unit u.0 f) us
 
 -- it was last_literals, and is a part of the clause but not all of it
 abbrev pub IsStrictSubset : Option (List ℕ) → List ℕ → Type 0
@@ -59,7 +59,7 @@ Accepts f (UserVarName v None) = name_of v f ≢ None
 Accepts f (DeleteVar v) = MayBeDeleted f v
 Accepts f (ChangeSamplingMode v sample) = is_known v f ≡ true
 Accepts f (AddClause clause) = MayBeAdded f clause
-Accepts f (AtClause redundant clause hashes) = Passes f clause hashes
+Accepts f (AtClause redundant clause hashes) = PassesByHashes f clause hashes
 Accepts f (UnitClauses us) = PassInTurn f us
 Accepts f (DeleteClause clause Redundant) = 0 < redundant_count (clause_with (canonical clause) f.clauses)
 Accepts f (DeleteClause clause Satisfied) =
@@ -70,7 +70,7 @@ Accepts f (ChangeHashBits bits) = Unit {0}
 Accepts f (Model ls) = FitsModel f ls
 Accepts f (Assumptions ls) = Unit {0}
 -- the core is among the assumptions and its negation passes the check, which it does where it has both signs of a variable
-Accepts f (FailedAssumptions core hashes) = (is_part core f.assumed ≡ true) × Passes f (map negated core) hashes
+Accepts f (FailedAssumptions core hashes) = (is_part core f.assumed ≡ true) × PassesByHashes f (map negated core) hashes
 Accepts f End = Unit {0}
 
 -- what an accepted step leaves, where no unit conflict was pending

@@ -82,29 +82,29 @@ module _ {L : Type 0} (Hears : L → Told → Result Unit ProcessingError → L 
     pub failed : has_failed new ≡ true
 
   -- what waited was told, and no more
-  pub record Refuses (new : Seen L) (steps : List Step) : Type 0 where
+  pub record FailsRefusing (new : Seen L) (steps : List Step) : Type 0 where
     pub fails : Fails new steps
     pub heard : HearsSince Hears before (all_told_after steps) begun new.listeners
 
   -- nothing more was told, or what waited
-  pub record Stops (new : Seen L) (steps : List Step) : Type 0 where
+  pub record FailsBeforeStep (new : Seen L) (steps : List Step) : Type 0 where
     pub fails : Fails new steps
     pub heard : HearsSince Hears before (told_after steps) begun new.listeners ⊎ HearsSince Hears before (all_told_after steps) begun new.listeners
 
   -- one of those who listen answered a fault to something among this
-  pub record Breaks (e : ProcessingError) (told : List Told) (new : Seen L) (steps : List Step) : Type 0 where
+  pub record FailsAtListener (e : ProcessingError) (told : List Told) (new : Seen L) (steps : List Step) : Type 0 where
     pub fails : Fails new steps
     pub heard : HearsSinceUpTo Hears e before told begun new.listeners
 
   -- to a pending unit conflict, or to what an accepted step tells, which is among the accepted ones then
   abbrev pub BreaksAt : ProcessingError → Seen L → Step → List Step → Type 0
   BreaksAt e new step steps =
-      (kernels.LeavesConflict steps × Breaks e (all_told_after steps) new steps)
-      ⊎ (Accepts (ready_after steps) step × Breaks e (told_after (step ∷ steps)) new (step ∷ steps))
+      (kernels.LeavesConflict steps × FailsAtListener e (all_told_after steps) new steps)
+      ⊎ (Accepts (ready_after steps) step × FailsAtListener e (told_after (step ∷ steps)) new (step ∷ steps))
 
   -- There was no memory for the step, behind what is judged of it before, or as something was told.
   abbrev pub StarvesAt : Seen L → Step → List Step → Type 0
-  StarvesAt new step steps = (JudgedBefore (ready_after steps) step × Stops new steps) ⊎ BreaksAt faults.OutOfMemory new step steps
+  StarvesAt new step steps = (JudgedBefore (ready_after steps) step × FailsBeforeStep new steps) ⊎ BreaksAt faults.OutOfMemory new step steps
 
   -- the step was accepted, as the definition has it
   pub record Takes (new : Seen L) (step : Step) (steps : List Step) : Type 0 where
@@ -115,8 +115,8 @@ module _ {L : Type 0} (Hears : L → Told → Result Unit ProcessingError → L 
   -- What an answer to a step means, where these steps were accepted before. A refused step is one that the definition refuses; `CounterEnd` is answered only where the last id or count was given.
   abbrev pub AnswersStep : Result Unit CheckerError → Seen L → Step → Seen L → List Step → Type 0
   AnswersStep (Ok x) old step new steps = (has_failed old ≡ false) × Takes new step steps
-  AnswersStep (Err errors.CheckFailed) old step new steps = (has_failed old ≡ false) × (Accepts (ready_after steps) step → ⊥) × Refuses new steps
-  AnswersStep (Err errors.CounterEnd) old step new steps = (has_failed old ≡ false) × SpentBy step (stored_after steps) × Stops new steps
+  AnswersStep (Err errors.CheckFailed) old step new steps = (has_failed old ≡ false) × (Accepts (ready_after steps) step → ⊥) × FailsRefusing new steps
+  AnswersStep (Err errors.CounterEnd) old step new steps = (has_failed old ≡ false) × SpentBy step (stored_after steps) × FailsBeforeStep new steps
   AnswersStep (Err errors.OutOfMemory) old step new steps = (has_failed old ≡ false) × StarvesAt new step steps
   AnswersStep (Err (errors.ProofProcessorError cause)) old step new steps = (has_failed old ≡ false) × BreaksAt (faults.ProofProcessorError cause) new step steps
   AnswersStep (Err errors.HasFailed) old step new steps = (has_failed old ≡ true) × (new ≡ old)
@@ -127,11 +127,11 @@ module _ {L : Type 0} (Hears : L → Told → Result Unit ProcessingError → L 
   -- What an answer means where a pending unit conflict is settled, behind these steps. The empty clause has no id only where the last one was given.
   abbrev pub AnswersDelayed : Result Unit CheckerError → Seen L → Seen L → List Step → Type 0
   AnswersDelayed (Ok x) old new steps = (has_failed old ≡ false) × (looks_of new ≡ looks_of old) × Stands new steps × (has_failed new ≡ false) × IsSettled new
-  AnswersDelayed (Err errors.CounterEnd) old new steps = (has_failed old ≡ false) × (looks_of new ≡ looks_of old) × IsSpent (ready_after steps) × Stops new steps
+  AnswersDelayed (Err errors.CounterEnd) old new steps = (has_failed old ≡ false) × (looks_of new ≡ looks_of old) × IsSpent (ready_after steps) × FailsBeforeStep new steps
   AnswersDelayed (Err errors.OutOfMemory) old new steps =
-      (has_failed old ≡ false) × (looks_of new ≡ looks_of old) × kernels.LeavesConflict steps × Breaks faults.OutOfMemory (all_told_after steps) new steps
+      (has_failed old ≡ false) × (looks_of new ≡ looks_of old) × kernels.LeavesConflict steps × FailsAtListener faults.OutOfMemory (all_told_after steps) new steps
   AnswersDelayed (Err (errors.ProofProcessorError cause)) old new steps =
-      (has_failed old ≡ false) × (looks_of new ≡ looks_of old) × kernels.LeavesConflict steps × Breaks (faults.ProofProcessorError cause) (all_told_after steps) new steps
+      (has_failed old ≡ false) × (looks_of new ≡ looks_of old) × kernels.LeavesConflict steps × FailsAtListener (faults.ProofProcessorError cause) (all_told_after steps) new steps
   AnswersDelayed (Err errors.HasFailed) old new steps = (has_failed old ≡ true) × (new ≡ old)
   AnswersDelayed (Err errors.CheckFailed) old new steps = ⊥
   AnswersDelayed (Err errors.ProofIncomplete) old new steps = ⊥

@@ -2,9 +2,9 @@
 use Rattle.std.specs.Prelude.{ℕ, ◌≡◌, ◌+◌, ◌≤◌, true, false, List, [], ◌∷◌, ◌++◌, map, Result, Ok, Err}
 use Rattle.sat_base.specs.steps.Steps.{Step, AddClause}
 use Rattle.sat_checker.specs.Accepts.{Accepts, stored_after, ready_after}
-use Rattle.sat_checker.specs.CheckerView.{Seen, has_failed, looks_of, Stands, Stops, BreaksAt, StarvesAt}
+use Rattle.sat_checker.specs.CheckerView.{Seen, has_failed, looks_of, Stands, FailsBeforeStep, BreaksAt, StarvesAt}
 use Rattle.sat_checker.specs.announcements.Announcements.{Told}
-use Rattle.sat_checker.specs.ProofView.{taken_after, most_looks_behind, GoesOn}
+use Rattle.sat_checker.specs.ProofView.{taken_after, most_looks_behind, StandsUnfailed}
 use Rattle.sat_checker.specs.Spent.{SpentBy}
 use Rattle.sat_checker.specs.declared.error.CheckerError.{CheckerError}
 use Rattle.sat_checker.specs.declared.error.CheckerError.TheVariants as errors
@@ -16,32 +16,32 @@ abbrev pub additions : List (List ℕ) → List Step
 additions = map AddClause
 
 -- The first of the clauses were added, and these were tried.
-pub record Adds {L : Type 0} (old new : Seen L) (clauses added tried : List (List ℕ)) (earlier : List Step) : Type 0 where
+pub record AddsFirstClauses {L : Type 0} (old new : Seen L) (clauses added tried : List (List ℕ)) (earlier : List Step) : Type 0 where
   pub well : has_failed old ≡ false
   pub left : List (List ℕ)
   pub split : clauses ≡ (added ++ tried) ++ left
   pub looks : looks_of new ≤ looks_of old + most_looks_behind (additions (added ++ tried)) earlier
 
 -- what stands where clauses were added behind these steps
-abbrev pub behind : List (List ℕ) → List Step → List Step
-behind clauses earlier = taken_after (additions clauses) earlier
+abbrev pub after_additions : List (List ℕ) → List Step → List Step
+after_additions clauses earlier = taken_after (additions clauses) earlier
 
 module _ {L : Type 0} (Hears : L → Told → Result Unit ProcessingError → L → Type 0) (before : List Told) (begun : L) where
   -- What an answer to clauses means: each is added as by a call of its own, up to the first that isn't accepted. A refused one leaves the checker as it was.
   abbrev pub AnswersClauses : Result Unit CheckerError → Seen L → Seen L → List (List ℕ) → List Step → Type 0
-  AnswersClauses (Ok x) old new clauses earlier = Adds old new clauses clauses [] earlier × GoesOn Hears before begun new (behind clauses earlier)
+  AnswersClauses (Ok x) old new clauses earlier = AddsFirstClauses old new clauses clauses [] earlier × StandsUnfailed Hears before begun new (after_additions clauses earlier)
   AnswersClauses (Err errors.CheckFailed) old new clauses earlier =
-      (added : List (List ℕ)) × (clause : List ℕ) × Adds old new clauses added (clause ∷ []) earlier
-      × (Accepts (ready_after (behind added earlier)) (AddClause clause) → ⊥) × GoesOn Hears before begun new (behind added earlier)
+      (added : List (List ℕ)) × (clause : List ℕ) × AddsFirstClauses old new clauses added (clause ∷ []) earlier
+      × (Accepts (ready_after (after_additions added earlier)) (AddClause clause) → ⊥) × StandsUnfailed Hears before begun new (after_additions added earlier)
   AnswersClauses (Err errors.CounterEnd) old new clauses earlier =
-      (added : List (List ℕ)) × (clause : List ℕ) × Adds old new clauses added (clause ∷ []) earlier
-      × SpentBy (AddClause clause) (stored_after (behind added earlier)) × Stops Hears before begun new (behind added earlier)
+      (added : List (List ℕ)) × (clause : List ℕ) × AddsFirstClauses old new clauses added (clause ∷ []) earlier
+      × SpentBy (AddClause clause) (stored_after (after_additions added earlier)) × FailsBeforeStep Hears before begun new (after_additions added earlier)
   AnswersClauses (Err errors.OutOfMemory) old new clauses earlier =
-      (added : List (List ℕ)) × (clause : List ℕ) × Adds old new clauses added (clause ∷ []) earlier
-      × StarvesAt Hears before begun new (AddClause clause) (behind added earlier)
+      (added : List (List ℕ)) × (clause : List ℕ) × AddsFirstClauses old new clauses added (clause ∷ []) earlier
+      × StarvesAt Hears before begun new (AddClause clause) (after_additions added earlier)
   AnswersClauses (Err (errors.ProofProcessorError cause)) old new clauses earlier =
-      (added : List (List ℕ)) × (clause : List ℕ) × Adds old new clauses added (clause ∷ []) earlier
-      × BreaksAt Hears before begun (faults.ProofProcessorError cause) new (AddClause clause) (behind added earlier)
+      (added : List (List ℕ)) × (clause : List ℕ) × AddsFirstClauses old new clauses added (clause ∷ []) earlier
+      × BreaksAt Hears before begun (faults.ProofProcessorError cause) new (AddClause clause) (after_additions added earlier)
   AnswersClauses (Err errors.HasFailed) old new clauses earlier = (has_failed old ≡ true) × (new ≡ old)
   AnswersClauses (Err errors.ProofIncomplete) old new clauses earlier = ⊥
   AnswersClauses (Err errors.IoError) old new clauses earlier = ⊥

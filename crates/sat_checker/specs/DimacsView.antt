@@ -8,10 +8,10 @@ use Rattle.sat_base.specs.declared.dimacs.error.DimacsError.{DimacsError}
 use Rattle.sat_base.specs.declared.dimacs.error.DimacsError.TheVariants as texts
 use Rattle.sat_base.specs.steps.Steps.{Step}
 use Rattle.sat_checker.specs.KernelView as kernels
-use Rattle.sat_checker.specs.CheckerView.{Seen, kernel_of, has_failed, Stands, Stops}
+use Rattle.sat_checker.specs.CheckerView.{Seen, kernel_of, has_failed, Stands, FailsBeforeStep}
 use Rattle.sat_checker.specs.announcements.Announcements.{Told}
-use Rattle.sat_checker.specs.ProofView.{NoneFailed, GoesOn}
-use Rattle.sat_checker.specs.ClausesView.{Adds, behind, AnswersClauses}
+use Rattle.sat_checker.specs.ProofView.{NoReadFailed, StandsUnfailed}
+use Rattle.sat_checker.specs.ClausesView.{AddsFirstClauses, after_additions, AnswersClauses}
 use Rattle.sat_checker.specs.telling.ProcessingView.{FaultOfSomebody}
 use Rattle.sat_checker.specs.declared.checker.Checker.{Checker}
 use Rattle.sat_checker.specs.declared.processing.Processing.{Processing}
@@ -30,7 +30,7 @@ AreRead text clauses = AreOfFront text clauses ⊎ (clauses ≡ (dimacs text).cl
 
 -- the text has these clauses first
 abbrev pub AreFirst : List (List ℕ) → List ℕ → Type 0
-AreFirst clauses text = (behind : List (List ℕ)) × ((dimacs text).clauses ≡ clauses ++ behind)
+AreFirst clauses text = (after_additions : List (List ℕ)) × ((dimacs text).clauses ≡ clauses ++ after_additions)
 
 -- the text has these clauses before a fault, or there was no memory behind them
 abbrev pub FaultBehind : DimacsError → List ℕ → List (List ℕ) → Type 0
@@ -43,23 +43,23 @@ FaultBehind texts.HasFailed text clauses = ⊥
 -- A text was read up to its fault, or to a read that failed. It is so whatever would follow.
 abbrev pub FailsBehind : DimacsError → Reader → Reader → List (List ℕ) → Type 0
 FailsBehind texts.Read from to clauses = ReadFails from to × (text : List ℕ) × GaveFront from to text × IsSoundText text × (clauses ≡ (dimacs (settled text)).clauses)
-FailsBehind error from to clauses = NoneFailed from to × GaveEnough from to (λ text. FaultBehind error text clauses)
+FailsBehind error from to clauses = NoReadFailed from to × GaveEnough from to (λ text. FaultBehind error text clauses)
 
 module _ {L : Type 0} (Hears : L → Told → Result Unit ProcessingError → L → Type 0) (before : List Told) (begun : L) where
   -- the checker goes on, but not for want of memory
   abbrev pub StandsBehind : DimacsError → Seen L → List Step → Type 0
-  StandsBehind texts.OutOfMemory new steps = Stops Hears before begun new steps
-  StandsBehind error new steps = GoesOn Hears before begun new steps
+  StandsBehind texts.OutOfMemory new steps = FailsBeforeStep Hears before begun new steps
+  StandsBehind error new steps = StandsUnfailed Hears before begun new steps
 
   -- What an answer to a text means, where these steps were accepted before. `Ok` comes where all clauses of the text were added. Where the text is at fault, those before the fault were; where a clause isn't accepted, those before it.
   abbrev pub AnswersDimacs : Result Unit CheckerDimacsError → Seen L → Seen L → Reader → Reader → List Step → Type 0
   AnswersDimacs (Ok x) old new from to earlier =
-      NoneFailed from to × (clauses : List (List ℕ)) × GaveEnough from to (λ text. IsDimacs text clauses Clean) × AnswersClauses Hears before begun (Ok tt) old new clauses earlier
+      NoReadFailed from to × (clauses : List (List ℕ)) × GaveEnough from to (λ text. IsDimacs text clauses Clean) × AnswersClauses Hears before begun (Ok tt) old new clauses earlier
   AnswersDimacs (Err (refused.Dimacs error)) old new from to earlier =
-      (clauses : List (List ℕ)) × FailsBehind error from to clauses × Adds old new clauses clauses [] earlier × StandsBehind error new (behind clauses earlier)
+      (clauses : List (List ℕ)) × FailsBehind error from to clauses × AddsFirstClauses old new clauses clauses [] earlier × StandsBehind error new (after_additions clauses earlier)
   AnswersDimacs (Err (refused.Checker errors.HasFailed)) old new from to earlier = (has_failed old ≡ true) × (to ≡ from) × (new ≡ old)
   AnswersDimacs (Err (refused.Checker error)) old new from to earlier =
-      NoneFailed from to × (clauses : List (List ℕ)) × GaveEnough from to (λ text. AreRead text clauses) × AnswersClauses Hears before begun (Err error) old new clauses earlier
+      NoReadFailed from to × (clauses : List (List ℕ)) × GaveEnough from to (λ text. AreRead text clauses) × AnswersClauses Hears before begun (Err error) old new clauses earlier
 
 module _ {L : Type 0} (Hears : L → Told → Result Unit ProcessingError → L → Type 0) where
   -- the answer to a formula's text means so, whatever was accepted and told before

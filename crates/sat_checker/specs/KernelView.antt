@@ -6,7 +6,7 @@ use Rattle.sat_checker.specs.Spent.{IsSpent, SpentBy}
 use Rattle.sat_checker.specs.Accepts.{Accepts, AcceptsAll, stored_after, ready_after}
 use Rattle.sat_checker.specs.Judging.{JudgedBefore}
 use Rattle.sat_checker.specs.Looks.{most_looks}
-use Rattle.sat_checker.specs.inner.StateView.{Keeps}
+use Rattle.sat_checker.specs.inner.StateView.{KeepsStored}
 use Rattle.sat_checker.specs.declared.kernel.Kernel.{Kernel}
 use Rattle.sat_checker.specs.declared.state.State.{State}
 use Rattle.sat_checker.specs.declared.state.status.Records.{Records}
@@ -28,7 +28,7 @@ IsSettled k = k.state.formula.status.conflict ≡ None
 -- What these steps leave is kept. A unit conflict that they left pending may be settled by now.
 pub record KeepsAfter (state : State) (steps : List Step) : Type 0 where
   pub formula : Stored
-  pub keeps : Keeps state formula
+  pub keeps : KeepsStored state formula
   pub left : (formula ≡ stored_after steps) ⊎ (formula ≡ ready_after steps)
 
 -- of what is stored, what stays to be told once a later step has failed

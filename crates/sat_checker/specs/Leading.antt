@@ -8,27 +8,27 @@ use Rattle.sat_checker.specs.SortedSets.{NoRepeats}
 use Rattle.sat_checker.specs.Propagation.{UnitInTurn}
 use Rattle.sat_checker.specs.Stored.{Stored, is_unit, hash_by}
 use Rattle.sat_checker.specs.Storing.{clause_with}
-use Rattle.sat_checker.specs.Accepts.{Passes}
+use Rattle.sat_checker.specs.Accepts.{PassesByHashes}
 
 -- Each clause in turn has no literal but one that isn't false by then, and that one is true from there on; of the last all are false. Nothing is asked of the one literal: it may be true or false already.
-abbrev pub Leads : (ℕ → Bool) → List (List ℕ) → Type 0
-Leads holds [] = ⊥
-Leads holds (c ∷ []) = AllByRecursion (λ l. holds (negated l) ≡ true) c
-Leads holds (c ∷ d ∷ cs) =
-    (open_literal : ℕ) × AllByRecursion (λ l. (l ≡ open_literal) ⊎ (holds (negated l) ≡ true)) c × (is_among c open_literal ≡ true) × Leads (λ l. open_literal == l || holds l) (d ∷ cs)
+abbrev pub LeadsToConflict : (ℕ → Bool) → List (List ℕ) → Type 0
+LeadsToConflict holds [] = ⊥
+LeadsToConflict holds (c ∷ []) = AllByRecursion (λ l. holds (negated l) ≡ true) c
+LeadsToConflict holds (c ∷ d ∷ cs) =
+    (open_literal : ℕ) × AllByRecursion (λ l. (l ≡ open_literal) ⊎ (holds (negated l) ≡ true)) c × (is_among c open_literal ≡ true) × LeadsToConflict (λ l. open_literal == l || holds l) (d ∷ cs)
 
 -- a stored clause, its literals in any order, and its hash
-pub record IsNamed (f : Stored) (clause : List ℕ) (name : ℕ) : Type 0 where
+pub record IsStoredByHash (f : Stored) (clause : List ℕ) (name : ℕ) : Type 0 where
   pub once : NoRepeats clause
   pub stored : is_some (clause_with (canonical clause) f.clauses) ≡ true
   pub hash : name ≡ hash_by f.solver_names f.width clause
 
 -- stored clauses, and the hash of each
-abbrev pub AreNamed : Stored → List (List ℕ) → List ℕ → Type 0
-AreNamed f [] [] = Unit {0}
-AreNamed f [] (h ∷ hs) = ⊥
-AreNamed f (c ∷ cs) [] = ⊥
-AreNamed f (c ∷ cs) (h ∷ hs) = IsNamed f c h × AreNamed f cs hs
+abbrev pub AreStoredByHash : Stored → List (List ℕ) → List ℕ → Type 0
+AreStoredByHash f [] [] = Unit {0}
+AreStoredByHash f [] (h ∷ hs) = ⊥
+AreStoredByHash f (c ∷ cs) [] = ⊥
+AreStoredByHash f (c ∷ cs) (h ∷ hs) = IsStoredByHash f c h × AreStoredByHash f cs hs
 
 -- what the check of a clause begins with: its literals are false, and the units are true
 abbrev pub denied : Stored → List ℕ → ℕ → Bool
@@ -36,11 +36,11 @@ denied f clause l = is_among (map negated clause) l || is_unit f l
 
 -- stored clauses that are named and lead to a conflict make a clause pass
 abbrev pub LeadingPasses : Type 0
-LeadingPasses = (f : Stored) (clause hashes : List ℕ) (named : List (List ℕ)) → AreNamed f named hashes → Leads (denied f clause) named → Passes f clause hashes
+LeadingPasses = (f : Stored) (clause hashes : List ℕ) (named : List (List ℕ)) → AreStoredByHash f named hashes → LeadsToConflict (denied f clause) named → PassesByHashes f clause hashes
 
 -- clauses that are unit in turn lead to a conflict
 abbrev pub TurnsLead : Type 0
-TurnsLead = (assumed : List ℕ) (clauses : List (List ℕ)) → UnitInTurn assumed clauses → Leads (is_among assumed) clauses
+TurnsLead = (assumed : List ℕ) (clauses : List (List ℕ)) → UnitInTurn assumed clauses → LeadsToConflict (is_among assumed) clauses
 
 -- and can't all be true where the assumed literals are
 abbrev pub TurnsConflict : Type 0
@@ -48,7 +48,7 @@ TurnsConflict = (a : Valuation) (assumed : List ℕ) (clauses : List (List ℕ))
 
 -- what leads to a conflict does so where more holds
 abbrev pub LeadsOnMore : Type 0
-LeadsOnMore = (clauses : List (List ℕ)) (p q : ℕ → Bool) → ((l : ℕ) → p l ≡ true → q l ≡ true) → Leads p clauses → Leads q clauses
+LeadsOnMore = (clauses : List (List ℕ)) (p q : ℕ → Bool) → ((l : ℕ) → p l ≡ true → q l ≡ true) → LeadsToConflict p clauses → LeadsToConflict q clauses
 
 -- the hash of literals without repeats is that of their sorted set
 abbrev pub HashOfAnyOrder : Type 0

@@ -2,12 +2,12 @@
 use Rattle.std.specs.Prelude.{ℕ, ◌≡◌, ◌≢◌, ◌+◌, ◌*◌, ◌≤◌, ◌⊎◌, false, true, List, [], ◌∷◌, ◌++◌, length, Result, Ok, Err}
 use Rattle.std.specs.List.{AllByRecursion}
 use Rattle.sat_base.specs.device.Device.{Reader, GaveFront, FewReads, IsOver, ReadFails, most_reads, piece_size}
-use Rattle.sat_base.specs.steps.Formats.{Live, Open, Spoilt}
+use Rattle.sat_base.specs.steps.Formats.{IsProperFront, Open, Spoilt}
 use Rattle.sat_base.specs.steps.Steps.{Step, End}
 use Rattle.sat_base.specs.steps.StepText.{SpellsStep, SpellsSteps}
 use Rattle.sat_checker.specs.Accepts.{Accepts, stored_after, ready_after}
 use Rattle.sat_checker.specs.Looks.{most_looks}
-use Rattle.sat_checker.specs.CheckerView.{Seen, has_failed, looks_of, IsSettled, Stands, Refuses, Stops, BreaksAt, StarvesAt}
+use Rattle.sat_checker.specs.CheckerView.{Seen, has_failed, looks_of, IsSettled, Stands, FailsRefusing, FailsBeforeStep, BreaksAt, StarvesAt}
 use Rattle.sat_checker.specs.announcements.Announcements.{Told}
 use Rattle.sat_checker.specs.Spent.{SpentBy}
 use Rattle.sat_checker.specs.declared.error.CheckerError.{CheckerError}
@@ -47,53 +47,53 @@ pub record BeginsWithStep (bytes : List ℕ) : Type 0 where
   pub begins : Open SpellsStep (tag ∷ more)
 
 -- A proof was read so far: steps that were accepted, none of them an end, then the last step read or none, and bytes behind them.
-pub record Went {L : Type 0} (old new : Seen L) (from to : Reader) (earlier passed last : List Step) (rest : List ℕ) : Type 0 where
+pub record ReadsProofPart {L : Type 0} (old new : Seen L) (from to : Reader) (earlier passed last : List Step) (rest : List ℕ) : Type 0 where
   pub well : has_failed old ≡ false
   pub steps : GaveSteps from to (passed ++ last) rest
   pub unended : AllByRecursion (λ step. step ≢ End) passed
   pub looks : looks_of new ≤ looks_of old + most_looks_behind (passed ++ last) earlier
 
 -- no read failed
-abbrev pub NoneFailed : Reader → Reader → Type 0
-NoneFailed from to = to.failures ≡ from.failures
+abbrev pub NoReadFailed : Reader → Reader → Type 0
+NoReadFailed from to = to.failures ≡ from.failures
 
 module _ {L : Type 0} (Hears : L → Told → Result Unit ProcessingError → L → Type 0) (before : List Told) (begun : L) where
   -- these steps stand, and it goes on
-  abbrev pub GoesOn : Seen L → List Step → Type 0
-  GoesOn new steps = Stands Hears before begun new steps × (has_failed new ≡ false)
+  abbrev pub StandsUnfailed : Seen L → List Step → Type 0
+  StandsUnfailed new steps = Stands Hears before begun new steps × (has_failed new ≡ false)
 
   -- What an answer to a proof means, where these steps were accepted before. `Ok` comes exactly where what was read are accepted steps up to the first end, of which nothing behind is looked at.
   abbrev pub AnswersProof : Result Unit CheckerError → Seen L → Seen L → Reader → Reader → List Step → Type 0
   AnswersProof (Ok x) old new from to earlier =
-      (passed : List Step) × (rest : List ℕ) × Went old new from to earlier passed (End ∷ []) rest × NoneFailed from to × GoesOn new (End ∷ taken_after passed earlier) × IsSettled new
+      (passed : List Step) × (rest : List ℕ) × ReadsProofPart old new from to earlier passed (End ∷ []) rest × NoReadFailed from to × StandsUnfailed new (End ∷ taken_after passed earlier) × IsSettled new
   -- the last step read is refused
   AnswersProof (Err errors.CheckFailed) old new from to earlier =
-      (passed : List Step) × (step : Step) × (rest : List ℕ) × Went old new from to earlier passed (step ∷ []) rest × NoneFailed from to
-      × (Accepts (ready_after (taken_after passed earlier)) step → ⊥) × Refuses Hears before begun new (taken_after passed earlier)
+      (passed : List Step) × (step : Step) × (rest : List ℕ) × ReadsProofPart old new from to earlier passed (step ∷ []) rest × NoReadFailed from to
+      × (Accepts (ready_after (taken_after passed earlier)) step → ⊥) × FailsRefusing Hears before begun new (taken_after passed earlier)
   -- the text is over before an end, between steps or within one
   AnswersProof (Err errors.ProofIncomplete) old new from to earlier =
-      (passed : List Step) × (rest : List ℕ) × Went old new from to earlier passed [] rest × NoneFailed from to
-      × IsOver to × Live SpellsStep rest × GoesOn new (taken_after passed earlier)
+      (passed : List Step) × (rest : List ℕ) × ReadsProofPart old new from to earlier passed [] rest × NoReadFailed from to
+      × IsOver to × IsProperFront SpellsStep rest × StandsUnfailed new (taken_after passed earlier)
   -- no step can follow a byte
   AnswersProof (Err errors.ParseError) old new from to earlier =
-      (passed : List Step) × (rest : List ℕ) × Went old new from to earlier passed [] rest × NoneFailed from to
-      × Spoilt SpellsStep rest × GoesOn new (taken_after passed earlier)
+      (passed : List Step) × (rest : List ℕ) × ReadsProofPart old new from to earlier passed [] rest × NoReadFailed from to
+      × Spoilt SpellsStep rest × StandsUnfailed new (taken_after passed earlier)
   -- exactly one read failed, the last, or so many were made and none did
   AnswersProof (Err errors.IoError) old new from to earlier =
-      (passed : List Step) × (rest : List ℕ) × Went old new from to earlier passed [] rest × ReadFails from to
-      × Live SpellsStep rest × GoesOn new (taken_after passed earlier)
+      (passed : List Step) × (rest : List ℕ) × ReadsProofPart old new from to earlier passed [] rest × ReadFails from to
+      × IsProperFront SpellsStep rest × StandsUnfailed new (taken_after passed earlier)
   -- as a step is read, of which a byte was, or as it is checked or told
   AnswersProof (Err errors.OutOfMemory) old new from to earlier =
-      (passed : List Step) × (rest : List ℕ) × NoneFailed from to
-      × ((Went old new from to earlier passed [] rest × BeginsWithStep rest × Stops Hears before begun new (taken_after passed earlier))
-      ⊎ ((step : Step) × Went old new from to earlier passed (step ∷ []) rest × StarvesAt Hears before begun new step (taken_after passed earlier)))
+      (passed : List Step) × (rest : List ℕ) × NoReadFailed from to
+      × ((ReadsProofPart old new from to earlier passed [] rest × BeginsWithStep rest × FailsBeforeStep Hears before begun new (taken_after passed earlier))
+      ⊎ ((step : Step) × ReadsProofPart old new from to earlier passed (step ∷ []) rest × StarvesAt Hears before begun new step (taken_after passed earlier)))
   -- the last id or count was given before
   AnswersProof (Err errors.CounterEnd) old new from to earlier =
-      (passed : List Step) × (step : Step) × (rest : List ℕ) × Went old new from to earlier passed (step ∷ []) rest × NoneFailed from to
-      × SpentBy step (stored_after (taken_after passed earlier)) × Stops Hears before begun new (taken_after passed earlier)
+      (passed : List Step) × (step : Step) × (rest : List ℕ) × ReadsProofPart old new from to earlier passed (step ∷ []) rest × NoReadFailed from to
+      × SpentBy step (stored_after (taken_after passed earlier)) × FailsBeforeStep Hears before begun new (taken_after passed earlier)
   -- one of those who listen answered a fault
   AnswersProof (Err (errors.ProofProcessorError cause)) old new from to earlier =
-      (passed : List Step) × (step : Step) × (rest : List ℕ) × Went old new from to earlier passed (step ∷ []) rest × NoneFailed from to
+      (passed : List Step) × (step : Step) × (rest : List ℕ) × ReadsProofPart old new from to earlier passed (step ∷ []) rest × NoReadFailed from to
       × BreaksAt Hears before begun (faults.ProofProcessorError cause) new step (taken_after passed earlier)
   AnswersProof (Err errors.HasFailed) old new from to earlier = (has_failed old ≡ true) × (to ≡ from) × (new ≡ old)
 

@@ -13,10 +13,10 @@ abbrev pub new_clause : Bool → ℕ → List ℕ → StoredClause
 new_clause redundant id literals = with_count redundant (record { id = id; literals = literals; irredundant = 0; redundant = 0 })
 
 -- one count more of the clause with these literals, which comes in behind the others where it isn't there
-abbrev pub with_clause : Bool → ℕ → List ℕ → List StoredClause → List StoredClause
-with_clause redundant id literals [] = new_clause redundant id literals ∷ []
-with_clause redundant id literals (c ∷ cs) =
-    if same_literals c.literals literals then with_count redundant c ∷ cs else c ∷ with_clause redundant id literals cs
+abbrev pub with_stored_clause : Bool → ℕ → List ℕ → List StoredClause → List StoredClause
+with_stored_clause redundant id literals [] = new_clause redundant id literals ∷ []
+with_stored_clause redundant id literals (c ∷ cs) =
+    if same_literals c.literals literals then with_count redundant c ∷ cs else c ∷ with_stored_clause redundant id literals cs
 
 -- the clause with these literals
 abbrev pub clause_with : List ℕ → List StoredClause → Option StoredClause
@@ -82,7 +82,7 @@ settled f = settled_by f.conflict f
 -- a clause of two literals or more
 abbrev pub with_long : Bool → List ℕ → Stored → Stored
 with_long redundant literals f = record f {
-  clauses = with_clause redundant f.next_id literals f.clauses;
+  clauses = with_stored_clause redundant f.next_id literals f.clauses;
   next_id = (if is_some (clause_with literals f.clauses) then f.next_id else f.next_id + 1);
 }
 

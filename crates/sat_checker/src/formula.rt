@@ -7,7 +7,7 @@ ghost use Rattle.sat_base.specs.values.Literals.{negated};
 ghost use Rattle.sat_checker.specs.inner.Looking.{LooksOver};
 ghost use Rattle.sat_checker.specs.inner.ModelTests.{are_all_true};
 ghost use Rattle.sat_checker.specs.LiteralSets.{canonical, is_among};
-ghost use Rattle.sat_checker.specs.Accepts.{Passes, PassInTurn, IsStrictSubset, FitsModel, VariablesApart};
+ghost use Rattle.sat_checker.specs.Accepts.{PassesByHashes, PassInTurn, IsStrictSubset, FitsModel, VariablesApart};
 ghost use Rattle.sat_checker.specs.Stored.{Stored, nothing_stored};
 ghost use Rattle.sat_checker.specs.Looks.{literal_count};
 ghost use Rattle.sat_checker.specs.Storing.{settled, with_unit, with_contradiction, with_canonical, with_stored, with_input, with_units, last_literals, without_variable};
@@ -18,7 +18,7 @@ ghost use Rattle.sat_checker.specs.inner.Marks.{IsIncreasing};
 ghost use Rattle.sat_checker.specs.declared.store.StoreError.TheVariants.{CounterEnd};
 ghost use Rattle.sat_checker.specs.inner.FormulaView.{KeepsFormula, refiled_in, ChecksAs, Becomes, TurnsIf, Deletes, Explained};
 ghost use Rattle.sat_checker.specs.telling.AnnouncingView.{AreLong};
-ghost use Rattle.sat_checker.specs.telling.NotedView.{Adds};
+ghost use Rattle.sat_checker.specs.telling.NotedView.{AppendsNews};
 
 pub(crate) mod unnumbered;
 
@@ -73,7 +73,7 @@ impl Formula {
         hashes: &[ClauseHash],
         looks: &mut Looks,
     ) -> Result<bool, AllocError>
-        ensures exact { IfOk result (λ passes. (f : Stored) → ChecksAs self.old f → IsTrue passes ↔ Passes f clause.now hashes.now) }
+        ensures exact { IfOk result (λ passes. (f : Stored) → ChecksAs self.old f → IsTrue passes ↔ PassesByHashes f clause.now hashes.now) }
         ensures rest { self.new ≡ record self.old { passed = self.new.passed } }
         ensures looks { LooksOver (ChecksAs self.old) (λ f. length hashes.now * literal_count f) looks.old looks.new }
         ensures explained { IfOk result (λ passes. IsTrue passes → Explained self.new clause.now hashes.now) }
@@ -231,10 +231,10 @@ impl Formula {
         looks: &mut Looks,
     ) -> Result<bool, StoreError>
         ensures decides { (f : Stored) → KeepsFormula self.old f
-            → TurnsIf result (Passes f (lit ∷ []) (hash ∷ [])) (KeepsFormula self.new (with_unit lit f)) (with_unit lit f) }
+            → TurnsIf result (PassesByHashes f (lit ∷ []) (hash ∷ [])) (KeepsFormula self.new (with_unit lit f)) (with_unit lit f) }
         ensures kept { IsErrOf result CounterEnd → (f : Stored) → KeepsFormula self.old f → KeepsFormula self.new f }
         ensures noted { IfOk result (λ passes. IsTrue passes → (f : Stored) → KeepsFormula self.old f → AreLong f
-            → Adds notes.old (derived false (lit ∷ []) (hash ∷ []) f) notes.new) }
+            → AppendsNews notes.old (derived false (lit ∷ []) (hash ∷ []) f) notes.new) }
         ensures hears { notes.new.hears ≡ notes.old.hears }
         ensures looks { LooksOver (KeepsFormula self.old) (λ f. 2 * literal_count f) looks.old looks.new }
     {
@@ -257,7 +257,7 @@ impl Formula {
             → TurnsIf result (PassInTurn f units.now)
             (KeepsFormula self.new (with_units (map (λ u. u.0) units.now) f)) (with_units (map (λ u. u.0) units.now) f) }
         ensures noted { IfOk result (λ passes. IsTrue passes → (f : Stored) → KeepsFormula self.old f → AreLong f
-            → Adds notes.old (derived_units units.now f) notes.new) }
+            → AppendsNews notes.old (derived_units units.now f) notes.new) }
         ensures looks { LooksOver (KeepsFormula self.old)
             (λ f. length units.now * (2 * literal_count f)) looks.old looks.new }
     {

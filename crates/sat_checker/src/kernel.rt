@@ -5,7 +5,7 @@ ghost use Rattle.sat_checker.specs.KernelView as kernels;
 ghost use Rattle.sat_checker.specs.KernelView.{has_failed, looks_of, Stands};
 ghost use Rattle.sat_checker.specs.CheckerView.{seen, ChecksStep, ChecksDelayed};
 ghost use Rattle.sat_checker.specs.announcements.Announcements.{Told};
-ghost use Rattle.sat_checker.specs.inner.TellingSteps.{announced_by, changed_by, put_back, was_of, fault_of, records_in, Quiet, TakesIn};
+ghost use Rattle.sat_checker.specs.inner.TellingSteps.{announced_by, changed_by, put_back, was_of, fault_of, records_in, IsUnmovedByTold, TellsAndKeepsState};
 ghost use Rattle.sat_checker.specs.inner.VariablesView.{variable_at};
 ghost use Rattle.sat_checker.specs.telling.AnnouncementView.{variables_of};
 ghost use Rattle.sat_checker.specs.telling.Hearing.{hearers, HearsAll, HearsFirst, HearsUpTo};
@@ -224,7 +224,7 @@ impl Kernel {
     ) -> Result<(), CheckerError>
         requires well { has_failed self.old ≡ false }
         requires settled { self.old.state.formula.status.conflict ≡ None }
-        requires quiet { hears ≡ false → Quiet (HearsFirst O.takes (HearsEach P.takes T.reads)) (hearers own.old others.old) }
+        requires quiet { hears ≡ false → IsUnmovedByTold (HearsFirst O.takes (HearsEach P.takes T.reads)) (hearers own.old others.old) }
         ensures judges { kernels.ChecksStep result self.old (step_of step.now) self.new }
         ensures goes_on { OnOk result (has_failed self.new ≡ false) }
         ensures tells { ChecksStep (HearsFirst O.takes (HearsEach P.takes T.reads))
@@ -257,10 +257,10 @@ impl Kernel {
         others: &mut Processing<P, T>,
     ) -> Result<(), CheckerError>
         requires well { has_failed self.old ≡ false }
-        requires quiet { hears ≡ false → Quiet (HearsFirst O.takes (HearsEach P.takes T.reads)) (hearers own.old others.old) }
+        requires quiet { hears ≡ false → IsUnmovedByTold (HearsFirst O.takes (HearsEach P.takes T.reads)) (hearers own.old others.old) }
         ensures { (told : List Told)
             → (IsTrue hears → told ≡ announced_by (put_back (was_of was.now) (variable_at self.old.state.variables)) self.old.notes.news)
-            → TakesIn (HearsFirst O.takes (HearsEach P.takes T.reads))
+            → TellsAndKeepsState (HearsFirst O.takes (HearsEach P.takes T.reads))
             told result (seen self.old (hearers own.old others.old)) (seen self.new (hearers own.new others.new)) }
     {
         self.records = self.state.formula.status.records();
@@ -280,7 +280,7 @@ impl Kernel {
     ) -> Result<(), CheckerError>
         requires well { has_failed self.old ≡ false }
         requires recorded { self.old.records ≡ records_in self.old.state.formula.status }
-        ensures { TakesIn (HearsFirst O.takes (HearsEach P.takes T.reads))
+        ensures { TellsAndKeepsState (HearsFirst O.takes (HearsEach P.takes T.reads))
             (announced_by (put_back (was_of was.now) (variable_at self.old.state.variables)) self.old.notes.news)
             result (seen self.old (hearers own.old others.old)) (seen self.new (hearers own.new others.new)) }
     {

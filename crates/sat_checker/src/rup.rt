@@ -2,11 +2,11 @@
 ghost use Rattle.std.specs.Prelude.{◌≡◌, ◌+◌, ◌*◌, ◌<◌, ◌≤◌, [], ◌∷◌, length, IfOk, if◌then◌else◌, None, Some, map, false, IsTrue, ◌↔◌};
 ghost use Rattle.sat_checker.specs.Looks.{total_length};
 ghost use Rattle.sat_checker.specs.Propagation.{PassesCheck};
-ghost use Rattle.sat_checker.specs.inner.Look.{Extends, Says};
+ghost use Rattle.sat_checker.specs.inner.Look.{AssumesMore, WalksBucket};
 ghost use Rattle.sat_checker.specs.inner.Looking.{LooksUpTo};
-ghost use Rattle.sat_checker.specs.inner.Reasons.{clause_at, filed, named, noted_length, Records, RecordsWalk, Ends, ExplainsCheck};
+ghost use Rattle.sat_checker.specs.inner.Reasons.{clause_at, filed, named, noted_length, NotesReasons, RecordsWalk, MeetsConflict, ExplainsCheck};
 ghost use Rattle.sat_checker.specs.inner.SlotView.{literals_at, bucket_in, bucket_of, live_length};
-ghost use Rattle.sat_checker.specs.inner.Walk.{verdict, walk_on, walk_buckets, denied};
+ghost use Rattle.sat_checker.specs.inner.Walk.{verdict, walk_on, walk_buckets, denied_in_turn};
 
 pub(crate) mod needed;
 pub(crate) mod passed;
@@ -31,10 +31,10 @@ fn meet(
     requires { place < length clauses.now }
     ensures met { IfOk result (λ conflict. walk_on (verdict assigned.old (literals_at clauses.now place)) assigned.old
         ≡ (if conflict then None else Some assigned.new)) }
-    ensures extends { Extends assigned.old assigned.new }
+    ensures extends { AssumesMore assigned.old assigned.new }
     ensures looks { looks.new ≡ looks.old + length (literals_at clauses.now place) }
     ensures noted { IfOk result (λ conflict.
-        Records clauses.now conflict passed.old assigned.old (clause_at clauses.now place ∷ []) passed.new assigned.new) }
+        NotesReasons clauses.now conflict passed.old assigned.old (clause_at clauses.now place ∷ []) passed.new assigned.new) }
     ensures read { IfOk result
         (λ _. noted_length clauses.now passed.new ≤ noted_length clauses.now passed.old + length (literals_at clauses.now place)) }
 {
@@ -68,8 +68,8 @@ fn walk_bucket(
     passed: &mut Passed,
     looks: &mut Looks,
 ) -> Result<Walked, AllocError>
-    ensures says { IfOk result (λ b. Says b (bucket_in hash clauses.now) assigned.old assigned.new) }
-    ensures extends { Extends assigned.old assigned.new }
+    ensures says { IfOk result (λ b. WalksBucket b (bucket_in hash clauses.now) assigned.old assigned.new) }
+    ensures extends { AssumesMore assigned.old assigned.new }
     ensures looks { LooksUpTo (total_length (bucket_in hash clauses.now)) looks.old looks.new }
     ensures noted { IfOk result
         (λ b. RecordsWalk clauses.now b passed.old assigned.old (filed hash clauses.now) passed.new assigned.new) }
@@ -99,10 +99,10 @@ fn walk_hashes(
     looks: &mut Looks,
 ) -> Result<bool, AllocError>
     ensures found { IfOk result (λ yes. yes ≡ walk_buckets assigned.old (map (bucket_of clauses.now) hashes.now)) }
-    ensures extends { Extends assigned.old assigned.new }
+    ensures extends { AssumesMore assigned.old assigned.new }
     ensures looks { LooksUpTo (length hashes.now * live_length clauses.now) looks.old looks.new }
     ensures noted { IfOk result
-        (λ yes. IsTrue yes → Ends clauses.now passed.old assigned.old (named hashes.now clauses.now) passed.new) }
+        (λ yes. IsTrue yes → MeetsConflict clauses.now passed.old assigned.old (named hashes.now clauses.now) passed.new) }
     ensures read { IfOk result
         (λ _. noted_length clauses.now passed.new + looks.old ≤ noted_length clauses.now passed.old + looks.new) }
 {
@@ -119,8 +119,8 @@ fn walk_hashes(
 /// Assumes the negations of a clause's literals. The answer is whether a literal was true already.
 #[tactic(auto, using(crate::proofs::lemmas::propagation::Denied::denying))]
 fn deny(assigned: &mut Assigned, clause: &[Lit]) -> Result<bool, AllocError>
-    ensures denied { IfOk result (λ met. denied assigned.old clause.now ≡ (if met then None else Some assigned.new)) }
-    ensures extends { Extends assigned.old assigned.new }
+    ensures denied { IfOk result (λ met. denied_in_turn assigned.old clause.now ≡ (if met then None else Some assigned.new)) }
+    ensures extends { AssumesMore assigned.old assigned.new }
 {
     for lit in clause {
         if assigned.is_true(*lit) {
@@ -146,7 +146,7 @@ pub(crate) fn check_clause_with_hashes(
     looks: &mut Looks,
 ) -> Result<bool, AllocError>
     ensures exact { IfOk result (λ yes. IsTrue yes ↔ PassesCheck assigned.old clause.now (map (bucket_of clauses.now) hashes.now)) }
-    ensures extends { Extends assigned.old assigned.new }
+    ensures extends { AssumesMore assigned.old assigned.new }
     ensures looks { LooksUpTo (length hashes.now * live_length clauses.now) looks.old looks.new }
     ensures explained { IfOk result (λ yes. IsTrue yes → ExplainsCheck clauses.now passed.new assigned.old clause.now hashes.now) }
     ensures read { IfOk result (λ _. noted_length clauses.now passed.new + looks.old ≤ looks.new) }

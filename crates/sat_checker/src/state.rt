@@ -6,7 +6,7 @@ ghost use Rattle.sat_checker.specs.Accepts.{MayBeDeleted, MayBeAdded};
 ghost use Rattle.sat_base.specs.steps.Steps.{SolverVarName, UserVarName, ChangeSamplingMode, AddClause, AtClause, ChangeHashBits, Assumptions, End, UnitClauses, DeleteClause, Model, FailedAssumptions, DeleteVar};
 ghost use Rattle.sat_base.specs.steps.StepViews.{deletion_of, step_of};
 ghost use Rattle.sat_checker.specs.inner.Looking.{LooksOver};
-ghost use Rattle.sat_checker.specs.inner.StateView.{Keeps, KeepsFiled, Leaves, with_added, with_derived, Decides, LooksWithin};
+ghost use Rattle.sat_checker.specs.inner.StateView.{KeepsStored, KeepsFiled, ChangesStored, with_added, with_derived, Decides, LooksWithin};
 ghost use Rattle.sat_checker.specs.telling.NotedView.{Announces};
 
 pub(crate) mod lit_set;
@@ -104,7 +104,7 @@ impl State {
 
     /// Stores a clause of the formula, which may be added.
     fn store_input(&mut self, clause: &[Lit], looks: &mut Looks) -> Result<(), StoreError>
-        ensures stored { Leaves result self.old (with_added clause.now) self.new }
+        ensures stored { ChangesStored result self.old (with_added clause.now) self.new }
         ensures looks { LooksOver (KeepsFiled self.old) literal_count looks.old looks.new }
     {
         self.variables.learn(clause)?;
@@ -139,7 +139,7 @@ impl State {
         clause: &[Lit],
         looks: &mut Looks,
     ) -> Result<(), StoreError>
-        ensures stored { Leaves result self.old (with_derived redundant clause.now) self.new }
+        ensures stored { ChangesStored result self.old (with_derived redundant clause.now) self.new }
         ensures looks { LooksOver (KeepsFiled self.old) literal_count looks.old looks.new }
     {
         self.variables.learn(clause)?;
@@ -270,7 +270,7 @@ impl State {
 
     /// Whether the variable is known, has no name, and is neither in a stored clause nor assumed.
     fn may_delete(&self, var: Var) -> bool
-        ensures { (f : Stored) → Keeps self.now f → MatchBool result (MayBeDeleted f var) (MayBeDeleted f var → ⊥) }
+        ensures { (f : Stored) → KeepsStored self.now f → MatchBool result (MayBeDeleted f var) (MayBeDeleted f var → ⊥) }
     {
         let data = self.variables.data(var);
         if !data.known {
@@ -287,7 +287,7 @@ impl State {
 
     /// Nothing is stored yet.
     pub fn new(alloc: Global) -> State
-        ensures { Keeps result nothing_stored }
+        ensures { KeepsStored result nothing_stored }
     {
         State {
             alloc,
@@ -339,7 +339,7 @@ impl State {
 
     /// Whether a clause of the formula is accepted: unsat is recorded, or its variables are all sampling or unknown.
     pub fn may_add(&self, clause: &[Lit]) -> bool
-        ensures { (f : Stored) → Keeps self.now f → MatchBool result (MayBeAdded f clause.now) (MayBeAdded f clause.now → ⊥) }
+        ensures { (f : Stored) → KeepsStored self.now f → MatchBool result (MayBeAdded f clause.now) (MayBeAdded f clause.now → ⊥) }
     {
         self.formula.status.unsat || self.variables.are_sampling(clause)
     }

@@ -6,11 +6,11 @@ ghost use Rattle.sat_checker.specs.LiteralSets.{is_among};
 ghost use Rattle.sat_checker.specs.announcements.Needed.{true_unit};
 ghost use Rattle.sat_checker.specs.inner.Looking.{LooksOver};
 ghost use Rattle.sat_checker.specs.inner.Marks.{NoRepeats};
-ghost use Rattle.sat_checker.specs.inner.LitNumbers.{ArePlaced};
+ghost use Rattle.sat_checker.specs.inner.LitNumbers.{AreTrailPlaces};
 ghost use Rattle.sat_checker.specs.inner.Reasons.{noted_length, ExplainsCheck};
 ghost use Rattle.sat_checker.specs.Storing.{unit_id};
 ghost use Rattle.sat_checker.specs.Stored.{Stored};
-ghost use Rattle.sat_checker.specs.Accepts.{Passes};
+ghost use Rattle.sat_checker.specs.Accepts.{PassesByHashes};
 ghost use Rattle.sat_checker.specs.Looks.{literal_count};
 ghost use Rattle.sat_checker.specs.inner.StoreView.{KeepsClauses};
 
@@ -43,21 +43,21 @@ pub(crate) struct Units {
 impl Model for Units {
     ghost use Rattle.std.specs.Prelude.{List};
     ghost use Rattle.sat_checker.specs.Stored.{StoredUnit};
-    ghost use Rattle.sat_checker.specs.inner.UnitView.{AreUnits};
+    ghost use Rattle.sat_checker.specs.inner.UnitView.{UnitsInvariant};
 
     ghost Value = { List StoredUnit };
 
     ghost view = { λ s. s.order.units };
 
-    ghost invariant = { λ s. AreUnits s.order.units s.ids s.places s.assigned };
+    ghost invariant = { λ s. UnitsInvariant s.order.units s.ids s.places s.assigned };
 }
 
 /// Forgets an assumed literal, by its place on the trail. The newest takes its place.
 fn take_out(assigned: &mut Assigned, places: &mut LitNumbers, lit: Lit)
     requires assumed { is_among assigned.old lit ≡ true }
-    requires placed { ArePlaced places.old (reverse assigned.old) }
+    requires placed { AreTrailPlaces places.old (reverse assigned.old) }
     ensures assumed { (l : ℕ) → is_among assigned.new l ≡ (if l == lit then false else is_among assigned.old l) }
-    ensures placed { ArePlaced places.new (reverse assigned.new) }
+    ensures placed { AreTrailPlaces places.new (reverse assigned.new) }
 {
     let Some(place) = places.get(lit) else {
         return;
@@ -192,7 +192,7 @@ impl Units {
         looks: &mut Looks,
     ) -> Result<bool, AllocError>
         ensures exact { IfOk result (λ passes. (f : Stored) → KeepsClauses store.now f → self.old ≡ f.units
-            → IsTrue passes ↔ Passes f clause.now hashes.now) }
+            → IsTrue passes ↔ PassesByHashes f clause.now hashes.now) }
         ensures units { self.new ≡ self.old }
         ensures looks { LooksOver (KeepsClauses store.now)
             (λ f. length hashes.now * literal_count f) looks.old looks.new }

@@ -6,7 +6,7 @@ ghost use Rattle.sat_checker.specs.Fold.{Holds};
 ghost use Rattle.sat_checker.specs.CheckerView.{kernel_of};
 ghost use Rattle.sat_checker.specs.KernelView.{Stands, IsSettled};
 ghost use Rattle.sat_checker.specs.ProofView.{GaveSteps, taken_after};
-ghost use Rattle.sat_checker.specs.ClausesView.{behind};
+ghost use Rattle.sat_checker.specs.ClausesView.{after_additions};
 
 use sat_base::{CnfFormula, Counted, CountedRead};
 use sat_checker::{Checker, CheckerError};
@@ -20,7 +20,7 @@ fn is_refuted<R: CountedRead>(
 ) -> Result<bool, CheckerError>
     ensures { IfOk result (λ refuted. (passed : List Step) × (rest : List ℕ)
         × GaveSteps (R.seen proof.old) (R.seen proof.new) (passed ++ End ∷ []) rest
-        × (refuted ≡ true → (a : Valuation) → Holds (taken_after passed (behind formula.now.clauses [])) a → ⊥)) }
+        × (refuted ≡ true → (a : Valuation) → Holds (taken_after passed (after_additions formula.now.clauses [])) a → ⊥)) }
 {
     let mut checker = Checker::new(alloc);
     let answer = is_refuted_by(&mut checker, formula, proof);
@@ -38,7 +38,7 @@ fn is_refuted_by<R: CountedRead>(
     requires settled { IsSettled (kernel_of checker.old) }
     ensures { IfOk result (λ refuted. (passed : List Step) × (rest : List ℕ)
         × GaveSteps (R.seen proof.old) (R.seen proof.new) (passed ++ End ∷ []) rest
-        × (refuted ≡ true → (a : Valuation) → Holds (taken_after passed (behind formula.now.clauses [])) a → ⊥)) }
+        × (refuted ≡ true → (a : Valuation) → Holds (taken_after passed (after_additions formula.now.clauses [])) a → ⊥)) }
 {
     checker.add_formula(formula)?;
     checker.check_proof(proof)?;

@@ -3,9 +3,9 @@ ghost use Rattle.std.specs.Prelude.{ℕ, ◌≡◌, ◌<◌, ◌≤◌, ◌++◌
 ghost use Rattle.std.specs.List.{AllByRecursion};
 ghost use Rattle.sat_base.specs.steps.Steps.{AddClause, AtClause, DeleteClause, Redundant, Step};
 ghost use Rattle.sat_base.specs.steps.StepText.{SpellsSteps};
-ghost use Rattle.sat_checker.specs.Accepts.{AcceptsAll, IsStrictSubset, Passes, ready_after, stored_after};
+ghost use Rattle.sat_checker.specs.Accepts.{AcceptsAll, IsStrictSubset, PassesByHashes, ready_after, stored_after};
 ghost use Rattle.sat_checker.specs.Contents.{contents};
-ghost use Rattle.sat_checker.specs.Leading.{IsNamed};
+ghost use Rattle.sat_checker.specs.Leading.{IsStoredByHash};
 ghost use Rattle.sat_checker.specs.ProofView.{most_bytes, taken_after};
 ghost use Rattle.sat_checker.specs.Spent.{SpentBy};
 ghost use Rattle.sat_checker.specs.Stored.{Stored};
@@ -17,7 +17,7 @@ use sat_checker::law_stored::{
 
 /// [1] passes under the hashes of [1,2] and [1,-2], whatever else has these hashes.
 fn resolvent_passes()
-    ensures { (f : Stored) (g h : ℕ) → IsNamed f (0 ∷ 2 ∷ []) g → IsNamed f (0 ∷ 3 ∷ []) h → Passes f (0 ∷ []) (g ∷ h ∷ []) }
+    ensures { (f : Stored) (g h : ℕ) → IsStoredByHash f (0 ∷ 2 ∷ []) g → IsStoredByHash f (0 ∷ 3 ∷ []) h → PassesByHashes f (0 ∷ []) (g ∷ h ∷ []) }
 {
     named_clauses_pass();
 }

@@ -3,7 +3,7 @@ use Rattle.std.specs.Prelude.{ℕ, ◌+◌, ◌≡◌, ◌⊎◌, Bool, false, N
 use Rattle.sat_base.specs.text.Tokenizing.{held}
 use Rattle.sat_checker.specs.LiteralSets.{is_tautology}
 use Rattle.sat_checker.specs.Propagation.{IsFalsified, IsUnit}
-use Rattle.sat_hints.specs.Lines.{Line, AreLines, text_of, Spells, BeginsWithLine}
+use Rattle.sat_hints.specs.Lines.{Line, AreLines, text_of, SpellsLine, BeginsWithLine}
 use Rattle.sat_hints.specs.Hints.{clauses_under, IsInOrder, named_ids, assumed_by, UsesVariable, IsHintDerivation, derives_empty, count_of_cores}
 use Rattle.sat_hints.specs.declared.answer.HintWhy.{HintWhy}
 use Rattle.sat_hints.specs.declared.answer.HintWhy.TheVariants.{Syntax, IdOrder, UnknownId, NotUnit, NotFalsified, VarInUse}
@@ -24,7 +24,7 @@ LastIsNotFalsified assumed (clause ∷ []) = IsFalsified assumed clause → ⊥
 LastIsNotFalsified assumed (clause ∷ next ∷ rest) = (l : ℕ) × IsUnit assumed clause l × LastIsNotFalsified (l ∷ assumed) (next ∷ rest)
 
 -- a line that is in order, whose clauses are all present, and which assumes no two signs of a variable
-pub record Tries (earlier : List Line) (line : Line) (Fails : List ℕ → List (List ℕ) → Type 0) : Type 0 where
+pub record TriesLine (earlier : List Line) (line : Line) (Fails : List ℕ → List (List ℕ) → Type 0) : Type 0 where
   pub in_order : IsInOrder earlier line
   pub clauses : List (List ℕ)
   pub present : clauses_under (named_ids line) earlier ≡ Some clauses
@@ -39,16 +39,16 @@ IsFaultOf earlier line IdOrder = IsInOrder earlier line → ⊥
 -- a clause that it names isn't present,
 IsFaultOf earlier line UnknownId = IsInOrder earlier line × (clauses_under (named_ids line) earlier ≡ None)
 -- these don't run into a conflict,
-IsFaultOf earlier line NotUnit = Tries earlier line SomeIsNotUnit
-IsFaultOf earlier line NotFalsified = Tries earlier line LastIsNotFalsified
+IsFaultOf earlier line NotUnit = TriesLine earlier line SomeIsNotUnit
+IsFaultOf earlier line NotFalsified = TriesLine earlier line LastIsNotFalsified
 -- or the variable that it makes new is in use.
 IsFaultOf earlier line VarInUse = UsesVariable earlier line
 IsFaultOf earlier line Syntax = ⊥
 
 -- why bytes are: before all these, they are no line
 abbrev pub IsAtFault : List Line → List ℕ → HintWhy → Type 0
-IsAtFault earlier bytes Syntax = (line : Line) → Spells bytes line → ⊥
-IsAtFault earlier bytes why = (line : Line) × Spells bytes line × IsFaultOf earlier line why
+IsAtFault earlier bytes Syntax = (line : Line) → SpellsLine bytes line → ⊥
+IsAtFault earlier bytes why = (line : Line) × SpellsLine bytes line × IsFaultOf earlier line why
 
 -- a line at fault, behind a derivation
 pub record IsBadAt (text : List ℕ) (line : ℕ) (why : HintWhy) : Type 0 where

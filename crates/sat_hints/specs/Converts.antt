@@ -1,12 +1,12 @@
 -- What an answer to a certificate means that is turned into a hint text.
 use Rattle.std.specs.Prelude.{ℕ, ◌≡◌, ◌≢◌, ◌⊎◌, List, [], ◌∷◌, ◌++◌, Result, Ok, Err}
 use Rattle.std.specs.List.{AllByRecursion}
-use Rattle.sat_base.specs.device.Device.{Reader, Writer, IsOver, ReadFails, Takes, Breaks}
-use Rattle.sat_base.specs.steps.Formats.{Live, Spoilt}
+use Rattle.sat_base.specs.device.Device.{Reader, Writer, IsOver, ReadFails, WriterTakes, WriterBreaks}
+use Rattle.sat_base.specs.steps.Formats.{IsProperFront, Spoilt}
 use Rattle.sat_base.specs.steps.Steps.{Step, End}
 use Rattle.sat_base.specs.steps.StepText.{SpellsStep}
 use Rattle.sat_checker.specs.Accepts.{Accepts, AcceptsAll, ready_after}
-use Rattle.sat_checker.specs.ProofView.{GaveSteps, BeginsWithStep, taken_after, NoneFailed}
+use Rattle.sat_checker.specs.ProofView.{GaveSteps, BeginsWithStep, taken_after, NoReadFailed}
 use Rattle.sat_checker.specs.declared.error.CheckerError.{CheckerError}
 use Rattle.sat_checker.specs.declared.error.CheckerError.TheVariants as errors
 use Rattle.sat_hints.specs.Conversion.{hint_text, hint_verdict}
@@ -21,15 +21,15 @@ pub record Gave (from to : Reader) (passed last : List Step) (rest : List ℕ) :
   pub accepted : AcceptsAll (taken_after passed [])
 
 -- a writer took a front of a text, and no write failed
-pub record TookFront (old new : Writer) (text : List ℕ) : Type 0 where
+pub record WritesFrontOf (old new : Writer) (text : List ℕ) : Type 0 where
   pub front : List ℕ
   pub behind : List ℕ
   pub whole : text ≡ front ++ behind
-  pub takes : Takes old new front
+  pub takes : WriterTakes old new front
 
 -- a write failed, the last, of the lines of accepted steps, or of theirs and those of the step behind them, which is accepted, too
 abbrev pub BreaksBehind : Writer → Writer → Step → List Step → Type 0
-BreaksBehind old new step steps = Breaks old new (hint_text steps) ⊎ (Accepts (ready_after steps) step × Breaks old new (hint_text (step ∷ steps)))
+BreaksBehind old new step steps = WriterBreaks old new (hint_text steps) ⊎ (Accepts (ready_after steps) step × WriterBreaks old new (hint_text (step ∷ steps)))
 
 -- behind the steps that passed one was begun, of which a byte was given, or it was read
 abbrev pub GaveUpTo : Reader → Reader → List Step → List ℕ → Type 0
@@ -38,7 +38,7 @@ GaveUpTo from to passed rest = (Gave from to passed [] rest × BeginsWithStep re
 -- the certificate was read and accepted to its end
 pub record IsAccepted (from to : Reader) (passed : List Step) (rest : List ℕ) : Type 0 where
   pub gave : Gave from to passed (End ∷ []) rest
-  pub none_failed : NoneFailed from to
+  pub none_failed : NoReadFailed from to
   pub ends : Accepts (ready_after (taken_after passed [])) End
 
 -- why the checker refuses it
@@ -46,7 +46,7 @@ abbrev pub RefusesBy : CheckerError → Reader → Reader → List Step → Type
 -- a step isn't accepted,
 RefusesBy errors.CheckFailed from to passed = (step : Step) × (rest : List ℕ) × Gave from to passed (step ∷ []) rest × (Accepts (ready_after (taken_after passed [])) step → ⊥)
 -- the text is over before an end,
-RefusesBy errors.ProofIncomplete from to passed = (rest : List ℕ) × Gave from to passed [] rest × IsOver to × Live SpellsStep rest
+RefusesBy errors.ProofIncomplete from to passed = (rest : List ℕ) × Gave from to passed [] rest × IsOver to × IsProperFront SpellsStep rest
 -- or no step can follow a byte
 RefusesBy errors.ParseError from to passed = (rest : List ℕ) × Gave from to passed [] rest × Spoilt SpellsStep rest
 -- ids and counts don't come to their end within the bytes that a reader gives
@@ -61,18 +61,18 @@ abbrev pub Converts : Result (Unit {0}) HintError → Reader → Reader → Writ
 -- the text is that of the lines of all steps, and is proved,
 Converts (Ok x) from to old new = (passed : List Step) × (rest : List ℕ) × IsAccepted from to passed rest
     × Judges (hint_verdict (End ∷ taken_after passed [])) (hint_text (End ∷ taken_after passed []))
-    × Takes old new (hint_text (End ∷ taken_after passed []))
+    × WriterTakes old new (hint_text (End ∷ taken_after passed []))
 -- this never comes,
 Converts (Err HasDeleteVar) from to old new = ⊥
 -- the checker refuses a step, a byte or the end,
-Converts (Err (Refused e)) from to old new = (passed : List Step) × NoneFailed from to × RefusesBy e from to passed
-    × TookFront old new (hint_text (taken_after passed []))
+Converts (Err (Refused e)) from to old new = (passed : List Step) × NoReadFailed from to × RefusesBy e from to passed
+    × WritesFrontOf old new (hint_text (taken_after passed []))
 -- exactly one read failed, the last, or so many were made and none did,
-Converts (Err Read) from to old new = (passed : List Step) × (rest : List ℕ) × ReadFails from to × Gave from to passed [] rest × Live SpellsStep rest
-    × TookFront old new (hint_text (taken_after passed []))
+Converts (Err Read) from to old new = (passed : List Step) × (rest : List ℕ) × ReadFails from to × Gave from to passed [] rest × IsProperFront SpellsStep rest
+    × WritesFrontOf old new (hint_text (taken_after passed []))
 -- a write of the lines failed, the last, as the last step read was checked or told,
-Converts (Err Write) from to old new = (passed : List Step) × (step : Step) × (rest : List ℕ) × NoneFailed from to × Gave from to passed (step ∷ []) rest
+Converts (Err Write) from to old new = (passed : List Step) × (step : Step) × (rest : List ℕ) × NoReadFailed from to × Gave from to passed (step ∷ []) rest
     × BreaksBehind old new step (taken_after passed [])
 -- or memory was refused, as a step was read, checked or told
-Converts (Err OutOfMemory) from to old new = (passed : List Step) × (rest : List ℕ) × NoneFailed from to × GaveUpTo from to passed rest
-    × TookFront old new (hint_text (taken_after passed []))
+Converts (Err OutOfMemory) from to old new = (passed : List Step) × (rest : List ℕ) × NoReadFailed from to × GaveUpTo from to passed rest
+    × WritesFrontOf old new (hint_text (taken_after passed []))

@@ -85,7 +85,7 @@ is_long (l ∷ []) = false
 is_long (l ∷ m ∷ ls) = true
 
 -- the variable is in a clause of two literals or more that is present
-pub record IsInUse (v : ℕ) (earlier : List Line) : Type 0 where
+pub record IsInNonUnitClause (v : ℕ) (earlier : List Line) : Type 0 where
   pub id : ℕ
   pub clause : List ℕ
   pub present : clause_under id earlier ≡ Some clause
@@ -98,10 +98,10 @@ UsesVariable earlier (Input id clause) = ⊥
 UsesVariable earlier (Derived id clause ids) = ⊥
 UsesVariable earlier (Gone id) = ⊥
 UsesVariable earlier (Core core ids) = ⊥
-UsesVariable earlier (Fresh v) = IsInUse v earlier
+UsesVariable earlier (Fresh v) = IsInNonUnitClause v earlier
 
 -- A line may follow earlier ones: its id is in order, each clause that it names is present, these conflict with what it assumes, and the variable that it makes new is in no clause but units.
-pub record Follows (earlier : List Line) (line : Line) : Type 0 where
+pub record FollowsLines (earlier : List Line) (line : Line) : Type 0 where
   pub in_order : IsInOrder earlier line
   pub clauses : List (List ℕ)
   pub present : clauses_under (named_ids line) earlier ≡ Some clauses
@@ -111,7 +111,7 @@ pub record Follows (earlier : List Line) (line : Line) : Type 0 where
 -- each line follows those before it
 abbrev pub IsHintDerivation : List Line → Type 0
 IsHintDerivation [] = Unit {0}
-IsHintDerivation (line ∷ earlier) = IsHintDerivation earlier × Follows earlier line
+IsHintDerivation (line ∷ earlier) = IsHintDerivation earlier × FollowsLines earlier line
 
 -- has the clause no literals?
 abbrev pub is_empty : List ℕ → Bool

@@ -2,7 +2,7 @@
 use Rattle.std.specs.Prelude.{◌≡◌, ◌≢◌, ◌↔◌, ◌<◌, ◌^◌, Bool, true, ℕ, Some, List, [], ◌∷◌, ◌++◌, Result, Ok, Err, IfOk}
 use Rattle.std.specs.List.{AllByRecursion}
 use Rattle.sat_base.specs.values.Clauses.{Valuation, clause_true, EachTrue, EachHolds}
-use Rattle.sat_base.specs.device.Device.{Reader, Writer, Takes, GaveEnough}
+use Rattle.sat_base.specs.device.Device.{Reader, Writer, WriterTakes, GaveEnough}
 use Rattle.sat_base.specs.steps.Steps.{Step, AddClause, DeleteVar, End}
 use Rattle.sat_base.specs.steps.StepText.{SpellsSteps}
 use Rattle.sat_checker.specs.Accepts.{AcceptsAll, ready_after}
@@ -14,7 +14,7 @@ use Rattle.sat_hints.specs.Conversion.{lines_of, hint_text, hint_verdict}
 use Rattle.sat_hints.specs.Limits.{FitsStep}
 use Rattle.sat_hints.specs.Checks.{IsBadAt, IsProof, Judges}
 use Rattle.sat_hints.specs.Converts.{Converts}
-use Rattle.sat_hints.specs.inner.Holding.{Says}
+use Rattle.sat_hints.specs.inner.Holding.{IsRightIfVerdict}
 use Rattle.sat_hints.specs.declared.answer.HintFault.{HintFault}
 use Rattle.sat_hints.specs.declared.answer.HintVerdict.{HintVerdict}
 use Rattle.sat_hints.specs.declared.answer.HintVerdict.TheVariants.{Proved}
@@ -23,23 +23,23 @@ use Rattle.sat_hints.specs.declared.error.HintError.{HintError}
 use Rattle.sat_hints.specs.declared.error.HintError.TheVariants.{Refused, HasDeleteVar, Read, Write, OutOfMemory}
 
 -- the lines as steps: a clause of the formula is added, a variable that is new was deleted, and all others change no valuation
-abbrev pub steps_of : List Line → List Step
-steps_of [] = []
-steps_of (Input id clause ∷ earlier) = AddClause clause ∷ steps_of earlier
-steps_of (Derived id clause ids ∷ earlier) = steps_of earlier
-steps_of (Gone id ∷ earlier) = steps_of earlier
-steps_of (Core core ids ∷ earlier) = steps_of earlier
-steps_of (Fresh v ∷ earlier) = DeleteVar v ∷ steps_of earlier
+abbrev pub steps_of_lines : List Line → List Step
+steps_of_lines [] = []
+steps_of_lines (Input id clause ∷ earlier) = AddClause clause ∷ steps_of_lines earlier
+steps_of_lines (Derived id clause ids ∷ earlier) = steps_of_lines earlier
+steps_of_lines (Gone id ∷ earlier) = steps_of_lines earlier
+steps_of_lines (Core core ids ∷ earlier) = steps_of_lines earlier
+steps_of_lines (Fresh v ∷ earlier) = DeleteVar v ∷ steps_of_lines earlier
 
 -- the valuations that the lines leave
-abbrev pub Leaves : List Line → Valuation → Type 0
-Leaves lines = Holds (steps_of lines)
+abbrev pub IsLeftByLines : List Line → Valuation → Type 0
+IsLeftByLines lines = Holds (steps_of_lines lines)
 
 -- each derived clause holds in every valuation that the lines before it leave
 abbrev pub EachDerivedHolds : List Line → Type 0
 EachDerivedHolds [] = Unit {0}
 EachDerivedHolds (Input id clause ∷ earlier) = EachDerivedHolds earlier
-EachDerivedHolds (Derived id clause ids ∷ earlier) = EachDerivedHolds earlier × ((a : Valuation) → Leaves earlier a → clause_true a clause ≡ true)
+EachDerivedHolds (Derived id clause ids ∷ earlier) = EachDerivedHolds earlier × ((a : Valuation) → IsLeftByLines earlier a → clause_true a clause ≡ true)
 EachDerivedHolds (Gone id ∷ earlier) = EachDerivedHolds earlier
 EachDerivedHolds (Core core ids ∷ earlier) = EachDerivedHolds earlier
 EachDerivedHolds (Fresh v ∷ earlier) = EachDerivedHolds earlier
@@ -50,7 +50,7 @@ EachCoreFails [] = Unit {0}
 EachCoreFails (Input id clause ∷ earlier) = EachCoreFails earlier
 EachCoreFails (Derived id clause ids ∷ earlier) = EachCoreFails earlier
 EachCoreFails (Gone id ∷ earlier) = EachCoreFails earlier
-EachCoreFails (Core core ids ∷ earlier) = EachCoreFails earlier × ((a : Valuation) → Leaves earlier a → EachTrue a core → ⊥)
+EachCoreFails (Core core ids ∷ earlier) = EachCoreFails earlier × ((a : Valuation) → IsLeftByLines earlier a → EachTrue a core → ⊥)
 EachCoreFails (Fresh v ∷ earlier) = EachCoreFails earlier
 
 -- what a derivation derives holds in every valuation that is left by then
@@ -58,24 +58,24 @@ abbrev pub DerivedFollow : Type 0
 DerivedFollow = (lines : List Line) → IsHintDerivation lines → EachDerivedHolds lines
 
 -- and no core of it is true as a whole in such a valuation
-abbrev pub CoresFail : Type 0
-CoresFail = (lines : List Line) → IsHintDerivation lines → EachCoreFails lines
+abbrev pub HintCoresFail : Type 0
+HintCoresFail = (lines : List Line) → IsHintDerivation lines → EachCoreFails lines
 
 -- each clause that is present holds in every valuation that the lines leave, though a variable may have become new since it came
 abbrev pub PresentHold : Type 0
-PresentHold = (lines : List Line) (a : Valuation) (id : ℕ) (clause : List ℕ) → IsHintDerivation lines → Leaves lines a → clause_under id lines ≡ Some clause → clause_true a clause ≡ true
+PresentHold = (lines : List Line) (a : Valuation) (id : ℕ) (clause : List ℕ) → IsHintDerivation lines → IsLeftByLines lines a → clause_under id lines ≡ Some clause → clause_true a clause ≡ true
 
 -- a derivation of the empty clause says that its lines leave no valuation
 abbrev pub EmptyMeansNone : Type 0
-EmptyMeansNone = (lines : List Line) (a : Valuation) → IsHintDerivation lines → derives_empty lines ≡ true → Leaves lines a → ⊥
+EmptyMeansNone = (lines : List Line) (a : Valuation) → IsHintDerivation lines → derives_empty lines ≡ true → IsLeftByLines lines a → ⊥
 
 -- a line that makes no variable new
-abbrev pub KeepsVariables : Line → Type 0
-KeepsVariables (Input id clause) = Unit {0}
-KeepsVariables (Derived id clause ids) = Unit {0}
-KeepsVariables (Gone id) = Unit {0}
-KeepsVariables (Core core ids) = Unit {0}
-KeepsVariables (Fresh v) = ⊥
+abbrev pub MakesNoVarNew : Line → Type 0
+MakesNoVarNew (Input id clause) = Unit {0}
+MakesNoVarNew (Derived id clause ids) = Unit {0}
+MakesNoVarNew (Gone id) = Unit {0}
+MakesNoVarNew (Core core ids) = Unit {0}
+MakesNoVarNew (Fresh v) = ⊥
 
 -- the clauses of the formula
 abbrev pub inputs_of : List Line → List (List ℕ)
@@ -88,11 +88,11 @@ inputs_of (Fresh v ∷ earlier) = inputs_of earlier
 
 -- a valuation in which the clauses of the formula hold is left, whatever becomes new
 abbrev pub FormulaIsLeft : Type 0
-FormulaIsLeft = (lines : List Line) (a : Valuation) → EachHolds a (inputs_of lines) → Leaves lines a
+FormulaIsLeft = (lines : List Line) (a : Valuation) → EachHolds a (inputs_of lines) → IsLeftByLines lines a
 
 -- where no variable becomes new, lines leave the valuations in which the clauses of the formula hold
 abbrev pub FormulaLeaves : Type 0
-FormulaLeaves = (lines : List Line) (a : Valuation) → AllByRecursion KeepsVariables lines → Leaves lines a ↔ EachHolds a (inputs_of lines)
+FormulaLeaves = (lines : List Line) (a : Valuation) → AllByRecursion MakesNoVarNew lines → IsLeftByLines lines a ↔ EachHolds a (inputs_of lines)
 
 -- the lines of what accepted steps announce are a derivation
 abbrev pub AnnouncedDerive : Type 0
@@ -115,7 +115,7 @@ pub record IsCertificate (steps : List Step) (text : List ℕ) : Type 0 where
 
 -- what is answered to accepted steps, the oldest first: their hint text was written, or there was a fault
 abbrev pub IsTextOrFault : Result (Unit {0}) HintError → List Step → Writer → Writer → Type 0
-IsTextOrFault (Ok x) steps old new = Takes old new (hint_text (End ∷ taken_after steps []))
+IsTextOrFault (Ok x) steps old new = WriterTakes old new (hint_text (End ∷ taken_after steps []))
 IsTextOrFault (Err HasDeleteVar) steps old new = ⊥
 IsTextOrFault (Err (Refused e)) steps old new = ⊥
 IsTextOrFault (Err Read) steps old new = Unit {0}
@@ -138,4 +138,4 @@ OneVerdict = (text : List ℕ) (v w : HintVerdict) → Judges v text → Judges 
 -- `check` answers just that to a text that is proved, where its reader tells the bytes, or there is a fault
 abbrev pub ProofIsProved : Type 0
 ProofIsProved = (text : List ℕ) (empty : Bool) (cores lines : ℕ) (result : Result HintVerdict HintFault) (from to : Reader) → IsProof text empty cores lines → from.to_come ≡ Some text
-    → GaveEnough from to (Says result) → IfOk result (λ verdict. verdict ≡ Proved empty cores lines)
+    → GaveEnough from to (IsRightIfVerdict result) → IfOk result (λ verdict. verdict ≡ Proved empty cores lines)

@@ -21,15 +21,15 @@ abbrev pub AreVariables : List ℕ → Type 0
 AreVariables = AllByRecursion (λ v. v < largest)
 
 -- literals are codes, of variables within the limit
-abbrev pub AreLiterals : List ℕ → Type 0
-AreLiterals = AllByRecursion (λ l. l < 2 * largest)
+abbrev pub AreLiteralCodes : List ℕ → Type 0
+AreLiteralCodes = AllByRecursion (λ l. l < 2 * largest)
 
 -- its ids, literals and variable are within their limits
 abbrev pub IsLine : Line → Type 0
-IsLine (Input id clause) = AreIds (id ∷ []) × AreLiterals clause
-IsLine (Derived id clause ids) = AreIds (id ∷ []) × AreLiterals clause × AreIds ids
+IsLine (Input id clause) = AreIds (id ∷ []) × AreLiteralCodes clause
+IsLine (Derived id clause ids) = AreIds (id ∷ []) × AreLiteralCodes clause × AreIds ids
 IsLine (Gone id) = AreIds (id ∷ [])
-IsLine (Core core ids) = AreLiterals core × AreIds ids
+IsLine (Core core ids) = AreLiteralCodes core × AreIds ids
 IsLine (Fresh v) = AreVariables (v ∷ [])
 
 -- all ids, literals and variables of these lines are within their limits
@@ -71,8 +71,8 @@ text_of [] = []
 text_of (line ∷ earlier) = text_of earlier ++ line_text line
 
 -- the bytes are those of this line
-abbrev pub Spells : List ℕ → Line → Type 0
-Spells bytes line = IsLine line × (bytes ≡ line_text line)
+abbrev pub SpellsLine : List ℕ → Line → Type 0
+SpellsLine bytes line = IsLine line × (bytes ≡ line_text line)
 
 -- no LF is among them
 abbrev pub HasNoEnd : List ℕ → Type 0

@@ -3,8 +3,8 @@ ghost use Rattle.std.specs.Prelude.{◌≡◌, ◌<◌, ◌≤◌, ◌+◌, ◌�
 ghost use Rattle.sat_base.specs.device.Device.{GaveEnough, ReadFails, most_reads};
 ghost use Rattle.sat_hints.specs.Lines.{Line, HasNoEnd};
 ghost use Rattle.sat_hints.specs.Checks.{Judges};
-ghost use Rattle.sat_hints.specs.inner.Judging.{HasTaken, IsReady};
-ghost use Rattle.sat_hints.specs.inner.Holding.{HasRead, IsReadyIf, IsWholeLine, Reads, Says, TakesBytes, TakesPiece};
+ghost use Rattle.sat_hints.specs.inner.Judging.{HasTakenLines, IsReadyJudge};
+ghost use Rattle.sat_hints.specs.inner.Holding.{HasRead, IsReadyIf, IsWholeLine, ReadsFurther, IsRightIfVerdict, JudgesLineBytes, TakesPiece};
 
 use crate::answer::{HintFault, HintVerdict, HintWhy};
 use crate::fronts::{Place, behind};
@@ -49,9 +49,9 @@ fn take_line(
     judge: &mut Judge,
     bytes: &[u8],
 ) -> Result<Option<HintWhy>, AllocError>
-    requires { IsReady judge.old }
+    requires { IsReadyJudge judge.old }
     ensures ready { IfOk result (λ why. IsReadyIf why judge.new) }
-    ensures takes { IfOk result (λ why. (lines : List Line) → HasTaken judge.old lines → TakesBytes why judge.old judge.new lines bytes.now) }
+    ensures takes { IfOk result (λ why. (lines : List Line) → HasTakenLines judge.old lines → JudgesLineBytes why judge.old judge.new lines bytes.now) }
 {
     match lists.read_line(bytes)? {
         Some(head) => judge.take(&lists.line(head)),
@@ -61,7 +61,7 @@ fn take_line(
 
 impl Checking {
     fn new(alloc: Global) -> Checking
-        ensures ready { IsReady result.judge }
+        ensures ready { IsReadyJudge result.judge }
         ensures read { HasRead result [] }
     {
         Checking {
@@ -74,10 +74,10 @@ impl Checking {
 
     /// Judges the line whose last bytes are these.
     fn end_line(&mut self, bytes: &[u8]) -> Result<Option<HintWhy>, AllocError>
-        requires ready { IsReady self.old.judge }
+        requires ready { IsReadyJudge self.old.judge }
         requires ends { IsWholeLine bytes.now }
         ensures ready { IfOk result (λ why. IsReadyIf why self.new.judge) }
-        ensures reads { IfOk result (λ why. Reads why self.old bytes.now self.new) }
+        ensures reads { IfOk result (λ why. ReadsFurther why self.old bytes.now self.new) }
     {
         self.held.extend_from_slice(bytes)?;
         let why = take_line(&mut self.lists, &mut self.judge, &self.held)?;
@@ -88,10 +88,10 @@ impl Checking {
 
     /// Holds bytes of a line that goes on. The answer is that it is at fault, where no line goes on with them.
     fn hold(&mut self, bytes: &[u8]) -> Result<Option<HintWhy>, AllocError>
-        requires ready { IsReady self.old.judge }
+        requires ready { IsReadyJudge self.old.judge }
         requires inside { HasNoEnd bytes.now }
         ensures ready { IfOk result (λ why. IsReadyIf why self.new.judge) }
-        ensures reads { IfOk result (λ why. Reads why self.old bytes.now self.new) }
+        ensures reads { IfOk result (λ why. ReadsFurther why self.old bytes.now self.new) }
     {
         let Some(place) = behind(self.place, bytes) else {
             return Ok(Some(HintWhy::Syntax));
@@ -103,9 +103,9 @@ impl Checking {
 
     /// Takes the next bytes of the text. The answer is why the first line at fault is, if there is one.
     fn feed(&mut self, piece: &[u8]) -> Result<Option<HintWhy>, AllocError>
-        requires { IsReady self.old.judge }
+        requires { IsReadyJudge self.old.judge }
         ensures ready { IfOk result (λ why. IsReadyIf why self.new.judge) }
-        ensures reads { IfOk result (λ why. Reads why self.old piece.now self.new) }
+        ensures reads { IfOk result (λ why. ReadsFurther why self.old piece.now self.new) }
     {
         let mut rest = piece;
         while let Some(end) = line_end(rest) {
@@ -121,7 +121,7 @@ impl Checking {
 
     /// As `feed`, with the verdict on the first line at fault.
     fn take_piece(&mut self, piece: &[u8]) -> Result<Option<HintVerdict>, HintFault>
-        requires { IsReady self.old.judge }
+        requires { IsReadyJudge self.old.judge }
         ensures memory { IfErr result (λ e. e ≡ HintFault.OutOfMemory) }
         ensures takes { IfOk result (λ verdict. TakesPiece verdict self.old piece.now self.new) }
     {
@@ -142,9 +142,9 @@ impl Checking {
     }
 
     fn check_text<R: CountedRead>(&mut self, text: &mut R) -> Result<HintVerdict, HintFault>
-        requires ready { IsReady self.old.judge }
+        requires ready { IsReadyJudge self.old.judge }
         requires fresh { HasRead self.old [] }
-        ensures given { GaveEnough (R.seen text.old) (R.seen text.new) (Says result) }
+        ensures given { GaveEnough (R.seen text.old) (R.seen text.new) (IsRightIfVerdict result) }
         ensures kept { IsErrOf result HintFault.Read ⊎ ((R.seen text.new).failures ≡ (R.seen text.old).failures) }
         ensures read { IsErrOf result HintFault.Read → ReadFails (R.seen text.old) (R.seen text.new) }
         ensures some { IsErrOf result HintFault.OutOfMemory → length (R.seen text.old).given < length (R.seen text.new).given }
@@ -168,7 +168,7 @@ impl Checking {
 /// Checks a hint text, which is read in pieces of 4,096 bytes up to the first line at fault.
 pub fn check<R: CountedRead>(alloc: Global, text: &mut R) -> Result<HintVerdict, HintFault>
     // The verdict is that on the text that was given, whatever would follow.
-    ensures given { GaveEnough (R.seen text.old) (R.seen text.new) (Says result) }
+    ensures given { GaveEnough (R.seen text.old) (R.seen text.new) (IsRightIfVerdict result) }
     // A read has failed only where the answer is that, and none is tried again.
     ensures kept { IsErrOf result HintFault.Read ⊎ ((R.seen text.new).failures ≡ (R.seen text.old).failures) }
     ensures read { IsErrOf result HintFault.Read → ReadFails (R.seen text.old) (R.seen text.new) }

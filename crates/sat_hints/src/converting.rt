@@ -8,7 +8,7 @@ ghost use Rattle.sat_checker.specs.telling.ProcessingView.{listeners_of};
 ghost use Rattle.sat_hints.specs.Conversion.{line_told};
 ghost use Rattle.sat_hints.specs.Converts.{Converts};
 ghost use Rattle.sat_hints.specs.inner.LineReading.{line_of};
-ghost use Rattle.sat_hints.specs.inner.LineWriting.{outlet, Put};
+ghost use Rattle.sat_hints.specs.inner.LineWriting.{outlet, PutsText};
 ghost use Rattle.sat_hints.specs.inner.LinesWritten.{hint_of, WritesLines};
 ghost use Rattle.sat_hints.specs.inner.Telling.{text_if, TakesTold};
 
@@ -70,7 +70,7 @@ fn line_told<'a>(step: &CheckedProofStep<'a>) -> Option<HintLine<'a>>
 impl<W: CountedWrite> LineWriter<W> {
     /// Lets the line of an announcement wait, if it has one.
     fn put_told(&mut self, step: &CheckedProofStep<'_>)
-        ensures { Put (text_if (line_told (announcement_of step.now))) (outlet W.seen self.old) (outlet W.seen self.new) }
+        ensures { PutsText (text_if (line_told (announcement_of step.now))) (outlet W.seen self.old) (outlet W.seen self.new) }
     {
         match line_told(step) {
             Some(line) => self.put_line(&line),

@@ -1,7 +1,7 @@
 //! Whether bytes can begin a line, byte by byte.
 ghost use Rattle.std.specs.Prelude.{◌≡◌, ◌≤◌, ◌∷◌, []};
 ghost use Rattle.sat_hints.specs.Lines.{HasNoEnd};
-ghost use Rattle.sat_hints.specs.inner.Fronts.{letter_place, limit_of, next_of, sign_place, zero_place, Leads};
+ghost use Rattle.sat_hints.specs.inner.Fronts.{letter_place, limit_of, next_of, sign_place, zero_place, LeadsToPlace};
 ghost use Rattle.sat_hints.specs.declared.fronts.Place.TheVariants.{Digits, Item};
 
 use crate::numbers::with_digit;
@@ -111,7 +111,7 @@ fn behind_sign(part: Part) -> Option<Place>
 
 /// The place behind one more byte of a number.
 fn in_number(part: Part, number: u64, byte: u8) -> Option<Place>
-    ensures { Leads (Digits part number) (byte ∷ []) result }
+    ensures { LeadsToPlace (Digits part number) (byte ∷ []) result }
 {
     if byte == b' ' && number > 0 {
         return Some(Place::Item(next(part)));
@@ -121,7 +121,7 @@ fn in_number(part: Part, number: u64, byte: u8) -> Option<Place>
 }
 
 fn at_item(part: Part, byte: u8) -> Option<Place>
-    ensures { Leads (Item part) (byte ∷ []) result }
+    ensures { LeadsToPlace (Item part) (byte ∷ []) result }
 {
     if byte == b'0' {
         return behind_zero(part);
@@ -136,7 +136,7 @@ fn at_item(part: Part, byte: u8) -> Option<Place>
 }
 
 fn behind_byte(place: Place, byte: u8) -> Option<Place>
-    ensures { (byte ≡ 10 → ⊥) → Leads place (byte ∷ []) result }
+    ensures { (byte ≡ 10 → ⊥) → LeadsToPlace place (byte ∷ []) result }
 {
     match place {
         Place::Letter => behind_letter(byte),
@@ -155,7 +155,7 @@ fn behind_byte(place: Place, byte: u8) -> Option<Place>
 /// The place behind more bytes of a line. `None` where no line goes on with them.
 pub(crate) fn behind(place: Place, bytes: &[u8]) -> Option<Place>
     requires { HasNoEnd bytes.now }
-    ensures { Leads place bytes.now result }
+    ensures { LeadsToPlace place bytes.now result }
 {
     let mut here = place;
     for i in 0..bytes.len() {

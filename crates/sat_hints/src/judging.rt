@@ -5,7 +5,7 @@ ghost use Rattle.sat_checker.specs.LiteralSets.{canonical};
 ghost use Rattle.sat_hints.specs.Lines.{Input, Derived, Gone, Core, Fresh, IsLine};
 ghost use Rattle.sat_hints.specs.inner.LineReading.{line_of, IsId};
 ghost use Rattle.sat_hints.specs.inner.Course.{signed};
-ghost use Rattle.sat_hints.specs.inner.Judging.{HasTaken, IsReady, IsSame, Refutes, StoresClause, TakesNext, TakesOne};
+ghost use Rattle.sat_hints.specs.inner.Judging.{HasTakenLines, IsReadyJudge, IsSame, WhyNotRefuted, StoresClause, TakesNext, TakesOne};
 
 use crate::answer::{HintVerdict, HintWhy};
 use crate::line::HintLine;
@@ -34,8 +34,8 @@ pub(crate) struct Judge {
 
 impl Judge {
     pub(crate) fn new(alloc: Global) -> Judge
-        ensures ready { IsReady result }
-        ensures taken { HasTaken result [] }
+        ensures ready { IsReadyJudge result }
+        ensures taken { HasTakenLines result [] }
     {
         Judge {
             standing: Standing::new(alloc),
@@ -51,7 +51,7 @@ impl Judge {
 
     /// Stores a clause under an id that is above all before.
     fn store(&mut self, id: u64, clause: &[Lit]) -> Result<(), AllocError>
-        requires ready { IsReady self.old }
+        requires ready { IsReadyJudge self.old }
         requires in_order { self.old.least_id ≤ id }
         requires within { IsId id }
         ensures { OnOk result (StoresClause self.old self.new id clause.now) }
@@ -69,9 +69,9 @@ impl Judge {
         negate: bool,
         ids: &[u64],
     ) -> Result<Option<HintWhy>, AllocError>
-        requires { IsReady self.old }
+        requires { IsReadyJudge self.old }
         ensures same { OnOk result (IsSame self.old self.new) }
-        ensures refutes { IfOk result (λ why. Refutes self.old.standing (signed negate literals.now) ids.now why) }
+        ensures refutes { IfOk result (λ why. WhyNotRefuted self.old.standing (signed negate literals.now) ids.now why) }
     {
         if !find_all(&self.standing, ids, &mut self.places)? {
             return Ok(Some(HintWhy::UnknownId));
@@ -87,7 +87,7 @@ impl Judge {
     }
 
     fn input(&mut self, id: u64, clause: &[Lit]) -> Result<Option<HintWhy>, AllocError>
-        requires ready { IsReady self.old }
+        requires ready { IsReadyJudge self.old }
         requires within { IsId id }
         ensures { IfOk result (λ why. TakesOne why self.old self.new (Input id clause.now)) }
     {
@@ -104,7 +104,7 @@ impl Judge {
         clause: &[Lit],
         ids: &[u64],
     ) -> Result<Option<HintWhy>, AllocError>
-        requires ready { IsReady self.old }
+        requires ready { IsReadyJudge self.old }
         requires within { IsId id }
         ensures { IfOk result (λ why. TakesOne why self.old self.new (Derived id clause.now ids.now)) }
     {
@@ -121,7 +121,7 @@ impl Judge {
     }
 
     fn gone(&mut self, id: u64) -> Result<Option<HintWhy>, AllocError>
-        requires { IsReady self.old }
+        requires { IsReadyJudge self.old }
         ensures { IfOk result (λ why. TakesOne why self.old self.new (Gone id)) }
     {
         if self.standing.remove(id)? {
@@ -131,7 +131,7 @@ impl Judge {
     }
 
     fn core(&mut self, core: &[Lit], ids: &[u64]) -> Result<Option<HintWhy>, AllocError>
-        requires { IsReady self.old }
+        requires { IsReadyJudge self.old }
         ensures { IfOk result (λ why. TakesOne why self.old self.new (Core core.now ids.now)) }
     {
         match self.refute(core, false, ids)? {
@@ -143,7 +143,7 @@ impl Judge {
     }
 
     fn fresh(&mut self, var: Var) -> Result<Option<HintWhy>, AllocError>
-        requires { IsReady self.old }
+        requires { IsReadyJudge self.old }
         ensures { IfOk result (λ why. TakesOne why self.old self.new (Fresh var)) }
     {
         if self.standing.is_used(var)? {
@@ -155,7 +155,7 @@ impl Judge {
 
     /// Takes the next line, but for its number.
     fn take_unnumbered(&mut self, line: &HintLine<'_>) -> Result<Option<HintWhy>, AllocError>
-        requires ready { IsReady self.old }
+        requires ready { IsReadyJudge self.old }
         requires within { IsLine (line_of line.now) }
         ensures { IfOk result (λ why. TakesOne why self.old self.new (line_of line.now)) }
     {
@@ -170,9 +170,9 @@ impl Judge {
 
     /// Takes the next line. The answer is why it is at fault, if it is.
     pub(crate) fn take(&mut self, line: &HintLine<'_>) -> Result<Option<HintWhy>, AllocError>
-        requires ready { IsReady self.old }
+        requires ready { IsReadyJudge self.old }
         requires within { IsLine (line_of line.now) }
-        ensures ready { IfOk result (λ why. why ≡ None → IsReady self.new) }
+        ensures ready { IfOk result (λ why. why ≡ None → IsReadyJudge self.new) }
         ensures takes { IfOk result (λ why. TakesNext why self.old self.new (line_of line.now)) }
     {
         let why = self.take_unnumbered(line)?;

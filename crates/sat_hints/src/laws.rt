@@ -1,12 +1,12 @@
 //! What holds of the definitions: each law is the contract of a function that does nothing.
-ghost use Rattle.sat_hints.specs.Laws.{AcceptedConverts, AnnouncedAreProved, AnnouncedDerive, CoresFail, DerivedFollow, EmptyMeansNone, FormulaIsLeft, FormulaLeaves, OneVerdict, PresentHold, ProofIsProved, ProvedIsNotBad, ReadStepsFit};
+ghost use Rattle.sat_hints.specs.Laws.{AcceptedConverts, AnnouncedAreProved, AnnouncedDerive, HintCoresFail, DerivedFollow, EmptyMeansNone, FormulaIsLeft, FormulaLeaves, OneVerdict, PresentHold, ProofIsProved, ProvedIsNotBad, ReadStepsFit};
 
 /// What a derivation shows: each derived clause holds in every valuation that the lines before it leave, and no core is true there as
 /// a whole. Lines leave the valuations in which the clauses of the formula hold, but a variable that becomes new may have another
 /// value than before. What is present holds in all of them. One that derives the empty clause leaves none.
 pub fn derivations_are_sound()
     ensures derived { DerivedFollow }
-    ensures cores { CoresFail }
+    ensures cores { HintCoresFail }
     ensures present { PresentHold }
     ensures empty { EmptyMeansNone }
     ensures formula { FormulaLeaves }

@@ -3,7 +3,7 @@ ghost use Rattle.std.specs.Prelude.{◌≡◌, ◌+◌, ◌<◌, ◌∷◌, [], 
 ghost use Rattle.sat_base.specs.dimacs.DimacsText.{number_text};
 ghost use Rattle.sat_hints.specs.Lines.{Input, Derived, Gone, Core, Fresh, id_text, id_words, line_text, literal_words};
 ghost use Rattle.sat_hints.specs.inner.LineReading.{line_of};
-ghost use Rattle.sat_hints.specs.inner.LineWriting.{outlet, both_words, Put};
+ghost use Rattle.sat_hints.specs.inner.LineWriting.{outlet, both_words, PutsText};
 
 use crate::digits::write_digits;
 use crate::line::HintLine;
@@ -65,7 +65,7 @@ impl<W: CountedWrite> LineWriter<W> {
     /// Writes out what waits.
     pub(crate) fn write_out(&mut self)
         requires { self.old.failed ≡ false }
-        ensures puts { Put [] (outlet W.seen self.old) (outlet W.seen self.new) }
+        ensures puts { PutsText [] (outlet W.seen self.old) (outlet W.seen self.new) }
         ensures none { self.new.len ≡ 0 }
     {
         let count = self.len.min(PIECE);
@@ -77,7 +77,7 @@ impl<W: CountedWrite> LineWriter<W> {
     /// Lets a byte wait. What waits is written out first where there is no room.
     #[inline(always)]
     fn put(&mut self, byte: u8)
-        ensures { Put (byte ∷ []) (outlet W.seen self.old) (outlet W.seen self.new) }
+        ensures { PutsText (byte ∷ []) (outlet W.seen self.old) (outlet W.seen self.new) }
     {
         if self.failed {
             return;
@@ -93,7 +93,7 @@ impl<W: CountedWrite> LineWriter<W> {
     /// Writes out what waits, and lets a byte wait.
     fn put_behind(&mut self, byte: u8)
         requires { self.old.failed ≡ false }
-        ensures { Put (byte ∷ []) (outlet W.seen self.old) (outlet W.seen self.new) }
+        ensures { PutsText (byte ∷ []) (outlet W.seen self.old) (outlet W.seen self.new) }
     {
         self.write_out();
         if self.failed {
@@ -104,7 +104,7 @@ impl<W: CountedWrite> LineWriter<W> {
     }
 
     fn put_all(&mut self, bytes: &[u8])
-        ensures { Put bytes.now (outlet W.seen self.old) (outlet W.seen self.new) }
+        ensures { PutsText bytes.now (outlet W.seen self.old) (outlet W.seen self.new) }
     {
         for byte in bytes {
             self.put(*byte);
@@ -112,7 +112,7 @@ impl<W: CountedWrite> LineWriter<W> {
     }
 
     fn put_decimal(&mut self, number: u64)
-        ensures { Put (decimal number) (outlet W.seen self.old) (outlet W.seen self.new) }
+        ensures { PutsText (decimal number) (outlet W.seen self.old) (outlet W.seen self.new) }
     {
         if self.failed {
             return;
@@ -127,7 +127,7 @@ impl<W: CountedWrite> LineWriter<W> {
     /// Writes out what waits, and lets the digits of a number wait.
     fn put_decimal_behind(&mut self, number: u64)
         requires { self.old.failed ≡ false }
-        ensures { Put (decimal number) (outlet W.seen self.old) (outlet W.seen self.new) }
+        ensures { PutsText (decimal number) (outlet W.seen self.old) (outlet W.seen self.new) }
     {
         self.write_out();
         if self.failed {
@@ -138,7 +138,7 @@ impl<W: CountedWrite> LineWriter<W> {
 
     /// The ID of this id.
     fn put_number(&mut self, id: u64)
-        ensures { Put (id_text id) (outlet W.seen self.old) (outlet W.seen self.new) }
+        ensures { PutsText (id_text id) (outlet W.seen self.old) (outlet W.seen self.new) }
     {
         match id.checked_add(1) {
             Some(number) => self.put_decimal(number),
@@ -147,7 +147,7 @@ impl<W: CountedWrite> LineWriter<W> {
     }
 
     fn put_ids(&mut self, ids: &[u64])
-        ensures { Put (id_words ids.now) (outlet W.seen self.old) (outlet W.seen self.new) }
+        ensures { PutsText (id_words ids.now) (outlet W.seen self.old) (outlet W.seen self.new) }
     {
         for id in ids {
             self.put_number(*id);
@@ -156,7 +156,7 @@ impl<W: CountedWrite> LineWriter<W> {
     }
 
     fn put_id(&mut self, id: u64)
-        ensures { Put (id_words (id ∷ [])) (outlet W.seen self.old) (outlet W.seen self.new) }
+        ensures { PutsText (id_words (id ∷ [])) (outlet W.seen self.old) (outlet W.seen self.new) }
     {
         self.put_number(id);
         self.put(b' ');
@@ -164,7 +164,7 @@ impl<W: CountedWrite> LineWriter<W> {
 
     /// The number of this literal.
     fn put_literal(&mut self, literal: Lit)
-        ensures { Put (number_text literal) (outlet W.seen self.old) (outlet W.seen self.new) }
+        ensures { PutsText (number_text literal) (outlet W.seen self.old) (outlet W.seen self.new) }
     {
         let number = literal.index() as u64 + 1;
         if literal.is_positive() {
@@ -176,7 +176,7 @@ impl<W: CountedWrite> LineWriter<W> {
     }
 
     fn put_literals(&mut self, literals: &[Lit])
-        ensures { Put (literal_words literals.now) (outlet W.seen self.old) (outlet W.seen self.new) }
+        ensures { PutsText (literal_words literals.now) (outlet W.seen self.old) (outlet W.seen self.new) }
     {
         for literal in literals {
             self.put_literal(*literal);
@@ -186,7 +186,7 @@ impl<W: CountedWrite> LineWriter<W> {
 
     /// `LITS 0 IDS 0` and LF.
     fn put_both(&mut self, literals: &[Lit], ids: &[u64])
-        ensures { Put (both_words literals.now ids.now) (outlet W.seen self.old) (outlet W.seen self.new) }
+        ensures { PutsText (both_words literals.now ids.now) (outlet W.seen self.old) (outlet W.seen self.new) }
     {
         self.put_literals(literals);
         self.put_all(b"0 ");
@@ -195,7 +195,7 @@ impl<W: CountedWrite> LineWriter<W> {
     }
 
     fn put_input(&mut self, id: u64, clause: &[Lit])
-        ensures { Put (line_text (Input id clause.now)) (outlet W.seen self.old) (outlet W.seen self.new) }
+        ensures { PutsText (line_text (Input id clause.now)) (outlet W.seen self.old) (outlet W.seen self.new) }
     {
         self.put_all(b"i ");
         self.put_id(id);
@@ -204,7 +204,7 @@ impl<W: CountedWrite> LineWriter<W> {
     }
 
     fn put_derived(&mut self, id: u64, clause: &[Lit], ids: &[u64])
-        ensures { Put (line_text (Derived id clause.now ids.now)) (outlet W.seen self.old) (outlet W.seen self.new) }
+        ensures { PutsText (line_text (Derived id clause.now ids.now)) (outlet W.seen self.old) (outlet W.seen self.new) }
     {
         self.put_all(b"d ");
         self.put_id(id);
@@ -212,7 +212,7 @@ impl<W: CountedWrite> LineWriter<W> {
     }
 
     fn put_gone(&mut self, id: u64)
-        ensures { Put (line_text (Gone id)) (outlet W.seen self.old) (outlet W.seen self.new) }
+        ensures { PutsText (line_text (Gone id)) (outlet W.seen self.old) (outlet W.seen self.new) }
     {
         self.put_all(b"x ");
         self.put_id(id);
@@ -220,14 +220,14 @@ impl<W: CountedWrite> LineWriter<W> {
     }
 
     fn put_core(&mut self, core: &[Lit], ids: &[u64])
-        ensures { Put (line_text (Core core.now ids.now)) (outlet W.seen self.old) (outlet W.seen self.new) }
+        ensures { PutsText (line_text (Core core.now ids.now)) (outlet W.seen self.old) (outlet W.seen self.new) }
     {
         self.put_all(b"f ");
         self.put_both(core, ids);
     }
 
     fn put_fresh(&mut self, var: Var)
-        ensures { Put (line_text (Fresh var)) (outlet W.seen self.old) (outlet W.seen self.new) }
+        ensures { PutsText (line_text (Fresh var)) (outlet W.seen self.old) (outlet W.seen self.new) }
     {
         self.put_all(b"e ");
         self.put_id(var.index() as u64);
@@ -236,7 +236,7 @@ impl<W: CountedWrite> LineWriter<W> {
 
     /// Lets a line wait.
     pub(crate) fn put_line(&mut self, line: &HintLine<'_>)
-        ensures { Put (line_text (line_of line.now)) (outlet W.seen self.old) (outlet W.seen self.new) }
+        ensures { PutsText (line_text (line_of line.now)) (outlet W.seen self.old) (outlet W.seen self.new) }
     {
         match line {
             HintLine::Input { id, clause } => self.put_input(*id, clause),

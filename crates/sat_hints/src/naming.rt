@@ -1,6 +1,6 @@
 //! Looking up the clauses that a line names.
 ghost use Rattle.std.specs.Prelude.{◌≡◌, None, IfOk, MatchBool};
-ghost use Rattle.sat_hints.specs.inner.Standing.{clauses_of, Finds, IsStanding};
+ghost use Rattle.sat_hints.specs.inner.Standing.{clauses_of, FindsPlaces, StandingInvariant};
 
 use crate::standing::Standing;
 use std::alloc::AllocError;
@@ -11,8 +11,8 @@ pub(crate) fn find_all(
     ids: &[u64],
     places: &mut Vec<usize>,
 ) -> Result<bool, AllocError>
-    requires { IsStanding standing.now }
-    ensures { IfOk result (λ all. MatchBool all (Finds standing.now ids.now places.new.items) (clauses_of standing.now ids.now ≡ None)) }
+    requires { StandingInvariant standing.now }
+    ensures { IfOk result (λ all. MatchBool all (FindsPlaces standing.now ids.now places.new.items) (clauses_of standing.now ids.now ≡ None)) }
 {
     places.clear();
     for id in ids {

@@ -2,7 +2,7 @@
 ghost use Rattle.std.specs.Prelude.{◌≡◌, ◌++◌, ◌∷◌, [], ◌<◌, ◌≤◌, ◌^◌, decimal, List, ℕ, MatchOption};
 ghost use Rattle.sat_base.specs.dimacs.DimacsText.{number_text};
 ghost use Rattle.sat_hints.specs.Lines.{id_text};
-ghost use Rattle.sat_hints.specs.inner.LineReading.{BeginsWithWord, IsId, IsLiteral, IsNumber, IsVariable, NoDigit, NoWord, digits_so_far};
+ghost use Rattle.sat_hints.specs.inner.LineReading.{BeginsWithWord, IsId, IsLiteralCode, IsNumberUpTo, IsVariableIndex, NoDigit, NoWord, digits_so_far};
 
 use sat_base::{Lit, Var};
 
@@ -19,7 +19,7 @@ pub(crate) fn take_text<'a>(bytes: &'a [u8], text: &[u8]) -> Option<&'a [u8]>
 #[inline(always)]
 pub(crate) fn with_digit(number: u64, byte: u8, limit: u64) -> Option<u64>
     requires { 9 ≤ limit }
-    ensures { MatchOption result (NoDigit limit number byte) (λ more. IsNumber limit more × (decimal more ≡ digits_so_far number ++ byte ∷ [])) }
+    ensures { MatchOption result (NoDigit limit number byte) (λ more. IsNumberUpTo limit more × (decimal more ≡ digits_so_far number ++ byte ∷ [])) }
 {
     if byte < b'0' || byte > b'9' {
         return None;
@@ -39,7 +39,7 @@ pub(crate) fn with_digit(number: u64, byte: u8, limit: u64) -> Option<u64>
 #[inline(always)]
 pub(crate) fn read_number(bytes: &[u8], limit: u64) -> Option<(u64, &[u8])>
     requires { 9 ≤ limit }
-    ensures { MatchOption result (NoWord decimal (IsNumber limit) bytes.now) (λ x. BeginsWithWord decimal (IsNumber limit) bytes.now x.0 x.1.now) }
+    ensures { MatchOption result (NoWord decimal (IsNumberUpTo limit) bytes.now) (λ x. BeginsWithWord decimal (IsNumberUpTo limit) bytes.now x.0 x.1.now) }
 {
     let mut number = 0;
     for i in 0..bytes.len() {
@@ -64,7 +64,7 @@ pub(crate) fn read_id(bytes: &[u8]) -> Option<(u64, &[u8])>
 /// The index of the variable whose number stands in front of a space, and what is behind the space.
 #[inline(always)]
 pub(crate) fn read_variable(bytes: &[u8]) -> Option<(usize, &[u8])>
-    ensures { MatchOption result (NoWord id_text IsVariable bytes.now) (λ x. BeginsWithWord id_text IsVariable bytes.now x.0 x.1.now) }
+    ensures { MatchOption result (NoWord id_text IsVariableIndex bytes.now) (λ x. BeginsWithWord id_text IsVariableIndex bytes.now x.0 x.1.now) }
 {
     let (number, rest) = read_number(bytes, Var::max_count() as u64)?;
     Some((number as usize - 1, rest))
@@ -73,7 +73,7 @@ pub(crate) fn read_variable(bytes: &[u8]) -> Option<(usize, &[u8])>
 /// The literal in front of a space, and what is behind the space.
 #[inline(always)]
 pub(crate) fn read_literal(bytes: &[u8]) -> Option<(Lit, &[u8])>
-    ensures { MatchOption result (NoWord number_text IsLiteral bytes.now) (λ x. BeginsWithWord number_text IsLiteral bytes.now x.0 x.1.now) }
+    ensures { MatchOption result (NoWord number_text IsLiteralCode bytes.now) (λ x. BeginsWithWord number_text IsLiteralCode bytes.now x.0 x.1.now) }
 {
     match take_text(bytes, b"-") {
         Some(behind) => {

@@ -1,7 +1,7 @@
 //! The clauses that are present, by their ids.
 ghost use Rattle.std.specs.Prelude.{◌≡◌, ◌<◌, ℕ, [], None, length, slice_index, slice_index_or, OnOk, MatchOption, false};
 ghost use Rattle.sat_checker.specs.SortedSets.{IsIncreasing};
-ghost use Rattle.sat_hints.specs.inner.Clauses.{clause_at, clause_in, times_at, Adds, AllBelow, FindsOne, IsStore, Keeps, Loses};
+ghost use Rattle.sat_hints.specs.inner.Clauses.{clause_at, clause_in, times_at, AddsPresentClause, AllBelow, FindsOne, IsStore, SamePresentClauses, Loses};
 
 use crate::guesses::Guesses;
 use sat_base::{FlatLists, Lit};
@@ -86,7 +86,7 @@ impl Present {
         requires store { IsStore self.old }
         requires above { AllBelow self.old.ids.items id }
         requires increasing { IsIncreasing clause.now }
-        ensures { OnOk result (Adds self.old self.new id clause.now) }
+        ensures { OnOk result (AddsPresentClause self.old self.new id clause.now) }
     {
         self.guesses.note(id, self.ids.len())?;
         self.ids.push(id)?;
@@ -120,7 +120,7 @@ impl Present {
     /// Lets go of the clauses that are gone, where they take more than half of the room.
     fn compact_if_sparse(&mut self) -> Result<(), AllocError>
         requires { IsStore self.old }
-        ensures { OnOk result (Keeps self.old self.new) }
+        ensures { OnOk result (SamePresentClauses self.old self.new) }
     {
         if self.unused <= self.total / 2 {
             return Ok(());
@@ -131,7 +131,7 @@ impl Present {
     /// Lets go of the clauses that are gone.
     fn compact(&mut self) -> Result<(), AllocError>
         requires { IsStore self.old }
-        ensures { OnOk result (Keeps self.old self.new) }
+        ensures { OnOk result (SamePresentClauses self.old self.new) }
     {
         let mut kept = Present::new(self.alloc);
         std::mem::swap(&mut kept.guesses, &mut self.guesses);
@@ -147,7 +147,7 @@ impl Present {
         requires empty { IsStore kept.old }
         requires clauses { (id : ℕ) → clause_in kept.old id ≡ None }
         requires times { (l : ℕ) → times_at kept.old l ≡ 0 }
-        ensures { OnOk result (Keeps self.now kept.new) }
+        ensures { OnOk result (SamePresentClauses self.now kept.new) }
     {
         for place in 0..self.ids.len() {
             if self.gone[place] {

@@ -3,7 +3,7 @@ ghost use Rattle.std.specs.Prelude.{◌≡◌, ◌<◌, [], true, false, map, le
 ghost use Rattle.std.specs.List.{AllByRecursion};
 ghost use Rattle.sat_checker.specs.LiteralSets.{is_tautology};
 ghost use Rattle.sat_hints.specs.inner.Clauses.{clause_at};
-ghost use Rattle.sat_hints.specs.inner.Course.{course, signed, Assumes, Runs};
+ghost use Rattle.sat_hints.specs.inner.Course.{course, signed, AreJustAssumed, WhyNoConflict};
 
 use crate::answer::HintWhy;
 use crate::present::Present;
@@ -15,7 +15,7 @@ use std::alloc::AllocError;
 fn assume_all(assumed: &mut Assigned, literals: &[Lit], negate: bool) -> Result<bool, AllocError>
     requires { assumed.old ≡ [] }
     ensures { IfOk result (λ both. MatchBool both (is_tautology (signed negate literals.now) ≡ true)
-        ((is_tautology (signed negate literals.now) ≡ false) × Assumes (signed negate literals.now) assumed.new)) }
+        ((is_tautology (signed negate literals.now) ≡ false) × AreJustAssumed (signed negate literals.now) assumed.new)) }
 {
     for literal in literals {
         let lit = *literal ^ negate;
@@ -65,7 +65,7 @@ fn conflict_under(
 ) -> Result<Option<HintWhy>, AllocError>
     requires within { AllByRecursion (λ place. place < length present.now.clauses) places.now }
     requires nothing { assumed.old ≡ [] }
-    ensures { IfOk result (λ why. Runs (signed negate literals.now) (map (clause_at present.now) places.now) why) }
+    ensures { IfOk result (λ why. WhyNoConflict (signed negate literals.now) (map (clause_at present.now) places.now) why) }
 {
     if assume_all(assumed, literals, negate)? {
         return Ok(None);
@@ -83,7 +83,7 @@ pub(crate) fn conflict(
 ) -> Result<Option<HintWhy>, AllocError>
     requires within { AllByRecursion (λ place. place < length present.now.clauses) places.now }
     requires nothing { assumed.old ≡ [] }
-    ensures runs { IfOk result (λ why. Runs (signed negate literals.now) (map (clause_at present.now) places.now) why) }
+    ensures runs { IfOk result (λ why. WhyNoConflict (signed negate literals.now) (map (clause_at present.now) places.now) why) }
     ensures nothing { assumed.new ≡ [] }
 {
     let answer = conflict_under(present, places, literals, negate, assumed);

@@ -1,8 +1,8 @@
 //! Reading a line from its bytes.
 ghost use Rattle.std.specs.Prelude.{◌≡◌, ◌++◌, List, ℕ, codes, IfOk, MatchBool, MatchOption, []};
 ghost use Rattle.sat_base.specs.dimacs.DimacsText.{number_text};
-ghost use Rattle.sat_hints.specs.Lines.{Spells, id_text};
-ghost use Rattle.sat_hints.specs.inner.LineReading.{BeginsWithWords, IsBoth, IsId, IsLiteral, IsNoLine, IsOne, line_of, line_with};
+ghost use Rattle.sat_hints.specs.Lines.{SpellsLine, id_text};
+ghost use Rattle.sat_hints.specs.inner.LineReading.{BeginsWithWords, IsBoth, IsId, IsLiteralCode, IsNoLine, IsOne, line_of, line_with};
 
 use crate::line::HintLine;
 use crate::numbers::{read_id, read_literal, read_variable, take_text};
@@ -28,7 +28,7 @@ pub(crate) enum Head {
 
 /// Reads literals, as many as there are, and gives what is behind them.
 fn read_literals<'a>(bytes: &'a [u8], literals: &mut Vec<Lit>) -> Result<&'a [u8], AllocError>
-    ensures { IfOk result (λ rest. BeginsWithWords number_text IsLiteral bytes.now literals.new.items rest.now) }
+    ensures { IfOk result (λ rest. BeginsWithWords number_text IsLiteralCode bytes.now literals.new.items rest.now) }
 {
     literals.clear();
     let mut rest = bytes;
@@ -121,7 +121,7 @@ impl Lists {
 
     fn read_input(&mut self, bytes: &[u8]) -> Result<Option<Head>, AllocError>
         ensures { IfOk result (λ head. MatchOption head (IsNoLine (codes "i " ++ bytes.now))
-            (λ h. Spells (codes "i " ++ bytes.now) (line_with h self.new.literals.items self.new.ids.items))) }
+            (λ h. SpellsLine (codes "i " ++ bytes.now) (line_with h self.new.literals.items self.new.ids.items))) }
     {
         let Some(found) = read_id(bytes) else {
             return Ok(None);
@@ -135,7 +135,7 @@ impl Lists {
 
     fn read_derived(&mut self, bytes: &[u8]) -> Result<Option<Head>, AllocError>
         ensures { IfOk result (λ head. MatchOption head (IsNoLine (codes "d " ++ bytes.now))
-            (λ h. Spells (codes "d " ++ bytes.now) (line_with h self.new.literals.items self.new.ids.items))) }
+            (λ h. SpellsLine (codes "d " ++ bytes.now) (line_with h self.new.literals.items self.new.ids.items))) }
     {
         let Some(found) = read_id(bytes) else {
             return Ok(None);
@@ -149,7 +149,7 @@ impl Lists {
 
     fn read_core(&mut self, bytes: &[u8]) -> Result<Option<Head>, AllocError>
         ensures { IfOk result (λ head. MatchOption head (IsNoLine (codes "f " ++ bytes.now))
-            (λ h. Spells (codes "f " ++ bytes.now) (line_with h self.new.literals.items self.new.ids.items))) }
+            (λ h. SpellsLine (codes "f " ++ bytes.now) (line_with h self.new.literals.items self.new.ids.items))) }
     {
         if self.read_both(bytes)? {
             return Ok(Some(Head::Core));
@@ -160,7 +160,7 @@ impl Lists {
     /// Reads a line, with its LF, and keeps its lists. `None` where the bytes are no line.
     pub(crate) fn read_line(&mut self, bytes: &[u8]) -> Result<Option<Head>, AllocError>
         ensures { IfOk result (λ head. MatchOption head (IsNoLine bytes.now)
-            (λ h. Spells bytes.now (line_with h self.new.literals.items self.new.ids.items))) }
+            (λ h. SpellsLine bytes.now (line_with h self.new.literals.items self.new.ids.items))) }
     {
         if let Some(rest) = take_text(bytes, b"d ") {
             return self.read_derived(rest);
@@ -183,7 +183,7 @@ impl Lists {
 
 fn read_gone(bytes: &[u8]) -> Option<Head>
     ensures { MatchOption result (IsNoLine (codes "x " ++ bytes.now))
-        (λ h. (ls : List ℕ) (ids : List ℕ) → Spells (codes "x " ++ bytes.now) (line_with h ls ids)) }
+        (λ h. (ls : List ℕ) (ids : List ℕ) → SpellsLine (codes "x " ++ bytes.now) (line_with h ls ids)) }
 {
     let (id, rest) = read_id(bytes)?;
     if is_end(rest) {
@@ -194,7 +194,7 @@ fn read_gone(bytes: &[u8]) -> Option<Head>
 
 fn read_fresh(bytes: &[u8]) -> Option<Head>
     ensures { MatchOption result (IsNoLine (codes "e " ++ bytes.now))
-        (λ h. (ls : List ℕ) (ids : List ℕ) → Spells (codes "e " ++ bytes.now) (line_with h ls ids)) }
+        (λ h. (ls : List ℕ) (ids : List ℕ) → SpellsLine (codes "e " ++ bytes.now) (line_with h ls ids)) }
 {
     let (index, rest) = read_variable(bytes)?;
     if is_end(rest) {

@@ -2,7 +2,7 @@
 ghost use Rattle.std.specs.Prelude.{◌≡◌, ◌≢◌, ◌⊎◌, ℕ, [], None, IfOk, OnOk, MatchBool, MatchOption};
 ghost use Rattle.sat_checker.specs.SortedSets.{IsIncreasing};
 ghost use Rattle.sat_hints.specs.inner.Clauses.{AllBelow};
-ghost use Rattle.sat_hints.specs.inner.Standing.{clause_of, is_stale, Drops, FindsOne, Forgets, Gains, IsStanding, IsUsed, Keeps, SinceWithin};
+ghost use Rattle.sat_hints.specs.inner.Standing.{clause_of, is_stale, Drops, FindsOne, RenewsVariable, AddsStandingClause, StandingInvariant, IsUsed, StandingUnchanged, SinceWithin};
 
 use crate::present::Present;
 use crate::uses::Uses;
@@ -20,7 +20,7 @@ pub(crate) struct Standing {
 
 impl Standing {
     pub(crate) fn new(alloc: Global) -> Standing
-        ensures standing { IsStanding result }
+        ensures standing { StandingInvariant result }
         ensures none { result.present.ids.items ≡ [] }
         ensures clauses { (id : ℕ) → clause_of result id ≡ None }
         ensures since { SinceWithin result 0 }
@@ -44,7 +44,7 @@ impl Standing {
 
     /// The place of the clause under this id, if it is present.
     pub(crate) fn find(&self, id: u64) -> Option<usize>
-        requires { IsStanding self.now }
+        requires { StandingInvariant self.now }
         ensures { MatchOption result (clause_of self.now id ≡ None) (FindsOne self.now id) }
     {
         let place = self.present.find(id)?;
@@ -56,11 +56,11 @@ impl Standing {
 
     /// Adds a clause, a sorted set, whose id is above all before.
     pub(crate) fn push(&mut self, id: u64, clause: &[Lit]) -> Result<(), AllocError>
-        requires standing { IsStanding self.old }
+        requires standing { StandingInvariant self.old }
         requires above { AllBelow self.old.present.ids.items id }
         requires since { SinceWithin self.old id }
         requires increasing { IsIncreasing clause.now }
-        ensures { OnOk result (Gains self.old self.new id clause.now) }
+        ensures { OnOk result (AddsStandingClause self.old self.new id clause.now) }
     {
         self.present.push(id, clause)?;
         let _count = self.present.len();
@@ -70,7 +70,7 @@ impl Standing {
 
     /// Takes away the clause under this id. The answer is whether it was present.
     pub(crate) fn remove(&mut self, id: u64) -> Result<bool, AllocError>
-        requires { IsStanding self.old }
+        requires { StandingInvariant self.old }
         ensures { IfOk result (λ was. MatchBool was ((clause_of self.old id ≢ None) × Drops self.old self.new id)
             ((clause_of self.old id ≡ None) × (self.new ≡ self.old))) }
     {
@@ -84,8 +84,8 @@ impl Standing {
 
     /// Whether the variable is in a clause of two literals or more. The first time all clauses are looked at, later none.
     pub(crate) fn is_used(&mut self, var: Var) -> Result<bool, AllocError>
-        requires { IsStanding self.old }
-        ensures keeps { OnOk result (Keeps self.old self.new) }
+        requires { StandingInvariant self.old }
+        ensures keeps { OnOk result (StandingUnchanged self.old self.new) }
         ensures used { IfOk result (λ used. MatchBool used (IsUsed self.old var) (IsUsed self.old var → ⊥)) }
     {
         self.uses.begin(&self.present)?;
@@ -94,10 +94,10 @@ impl Standing {
 
     /// The variable becomes new: its units under ids below this are forgotten.
     pub(crate) fn forget_units(&mut self, var: Var, bound: u64) -> Result<(), AllocError>
-        requires standing { IsStanding self.old }
+        requires standing { StandingInvariant self.old }
         requires above { AllBelow self.old.present.ids.items bound }
         requires since { SinceWithin self.old bound }
-        ensures { OnOk result (Forgets self.old self.new var bound) }
+        ensures { OnOk result (RenewsVariable self.old self.new var bound) }
     {
         self.since.set(var.index(), bound, 0)
     }

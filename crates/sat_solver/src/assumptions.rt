@@ -1,6 +1,6 @@
 //! Assumptions of a search.
 ghost use Rattle.std.specs.Prelude.{◌≡◌, OnOk, []};
-ghost use Rattle.sat_parts.specs.parts.Assumed.{AreThere};
+ghost use Rattle.sat_parts.specs.parts.Assumed.{HaveVariablesIn};
 ghost use Rattle.sat_solver.specs.assumptions.Setting.{AreAssumed};
 
 pub mod analyze;
@@ -13,7 +13,7 @@ use std::alloc::AllocError;
 /// Assumes these literals in place of the ones before, at level 0.
 pub fn set_assumptions(search: &mut Search, lits: &[Lit]) -> Result<(), AllocError>
     requires bottom { search.old.parts.trail.starts ≡ [] }
-    requires there { AreThere lits.now search.old.parts }
+    requires there { HaveVariablesIn lits.now search.old.parts }
     ensures { OnOk result (AreAssumed lits.now search.old search.new) }
 {
     search.assumptions.lits.clear();

@@ -1,9 +1,9 @@
 //! A conflict step: up to a conflict and what is learned from it, or an answer.
 ghost use Rattle.std.specs.Prelude.{◌≡◌, ◌<◌, ◌≤◌, length};
-ghost use Rattle.sat_solver.specs.proof.ProofView.{Keeps, steps_of, session_of};
+ghost use Rattle.sat_solver.specs.proof.ProofView.{HasAllowedSteps, steps_of, session_of};
 ghost use Rattle.sat_parts.specs.parts.Whole.{IsRefuted};
 ghost use Rattle.sat_solver.specs.session.Naming.{global_of};
-ghost use Rattle.sat_solver.specs.session.Fits.{SessionMatchesParts, HaveNames};
+ghost use Rattle.sat_solver.specs.session.Fits.{SessionMatchesParts, TrueLitsHaveNames};
 ghost use Rattle.sat_solver.specs.cdcl.Going.{EmitsSteps};
 ghost use Rattle.sat_solver.specs.cdcl.Turns.{IsStopped};
 ghost use Rattle.sat_solver.specs.cdcl.Rounds.{LastRefutes, RoundGoes};
@@ -37,11 +37,11 @@ fn refute<W: CountedWrite + Drop, P: ProofProcessor>(
     scratch: &mut Scratch,
     conflict: &Conflict,
 ) -> Result<(), Fault>
-    requires keeps { Keeps proof.old }
+    requires keeps { HasAllowedSteps proof.old }
     requires refuted { IsRefuted parts.now conflict.now }
     requires bottom { length parts.now.trail.starts ≡ 0 }
     requires fits { SessionMatchesParts parts.now (session_of proof.old) (global_of globals.now) }
-    requires named { HaveNames parts.now.assignment.current (session_of proof.old) (global_of globals.now) }
+    requires named { TrueLitsHaveNames parts.now.assignment.current (session_of proof.old) (global_of globals.now) }
     requires names { length parts.now.assignment.current ≤ length globals.now }
     ensures { EmitsSteps W.seen result proof.old proof.new (λ _ steps. LastRefutes (steps_of proof.old) steps (session_of proof.new)) }
 {
@@ -62,7 +62,7 @@ fn resolve<W: CountedWrite + Drop, P: ProofProcessor>(
     search: &mut Search,
     conflict: &Conflict,
 ) -> Result<Outcome, Fault>
-    requires keeps { Keeps proof.old }
+    requires keeps { HasAllowedSteps proof.old }
     requires stopped { IsStopped (session_of proof.old) search.old conflict.now }
     ensures { RoundGoes W.seen result proof.old proof.new search.old search.new }
 {

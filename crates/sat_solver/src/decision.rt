@@ -6,7 +6,7 @@ ghost use Rattle.sat_checker.specs.LiteralSets.{mentions};
 ghost use Rattle.sat_parts.specs.prop.Values.{value_of};
 ghost use Rattle.sat_parts.specs.parts.Whole.{PartsInvariant};
 ghost use Rattle.sat_parts.specs.parts.Frame.{SameContents};
-ghost use Rattle.sat_parts.specs.parts.Assumed.{AreThere};
+ghost use Rattle.sat_parts.specs.parts.Assumed.{HaveVariablesIn};
 
 use sat_base::Lit;
 use sat_parts::Parts;
@@ -15,7 +15,7 @@ use sat_parts::parts::variables::use_variable;
 /// Lets the variables of these literals be picked, where they have no value.
 pub fn make_ready(parts: &mut Parts, lits: &[Lit])
     requires holds { PartsInvariant parts.old }
-    requires there { AreThere lits.now parts.old }
+    requires there { HaveVariablesIn lits.now parts.old }
     ensures holds { PartsInvariant parts.new }
     ensures same { SameContents parts.old parts.new }
     ensures ready { (k : ℕ) → k < length lits.now → value_of parts.old.assignment.current (variable (slice_index_or lits.now k 0)) ≡ None →

@@ -3,7 +3,7 @@ ghost use Rattle.std.specs.Prelude.{◌≡◌, ◌<◌, length, true, OnOk};
 ghost use Rattle.sat_base.specs.steps.Steps.{DeleteClause, Satisfied};
 ghost use Rattle.sat_solver.specs.session.Coming.{OnlyAllowedSteps, DeletesAdded};
 ghost use Rattle.sat_solver.specs.session.Session.{May};
-ghost use Rattle.sat_solver.specs.proof.ProofView.{Keeps, steps_of, session_of};
+ghost use Rattle.sat_solver.specs.proof.ProofView.{HasAllowedSteps, steps_of, session_of};
 ghost use Rattle.sat_solver.specs.session.Naming.{global_of};
 ghost use Rattle.sat_solver.specs.cdcl.Joint.{global_in};
 ghost use Rattle.sat_solver.specs.load.Loaded.{MayLoad, IsAdded, satisfied_step, DeletesSatisfied, DeletesTrue, LoadsClause};
@@ -33,7 +33,7 @@ pub fn delete_satisfied<W: CountedWrite + Drop, P: ProofProcessor>(
     lits: &[Lit],
     clause: &mut Vec<Lit>,
 ) -> Result<(), Fault>
-    requires keeps { Keeps proof.old }
+    requires keeps { HasAllowedSteps proof.old }
     requires names { VariablesBelow lits.now (length globals.now) }
     requires may { May (session_of proof.old) (satisfied_step (global_of globals.now) lits.now) }
     ensures { DeletesSatisfied W.seen result proof.old proof.new (global_of globals.now) lits.now }
@@ -53,7 +53,7 @@ fn delete_true<W: CountedWrite + Drop, P: ProofProcessor>(
     search: &mut Search,
     lits: &[Lit],
 ) -> Result<bool, Fault>
-    requires keeps { Keeps proof.old }
+    requires keeps { HasAllowedSteps proof.old }
     requires names { VariablesBelow lits.now (length search.old.globals.items) }
     requires may { May (session_of proof.old) (satisfied_step (global_in search.old) lits.now) }
     ensures same { search.new ≡ record search.old { scratch = search.new.scratch } }
@@ -72,7 +72,7 @@ pub fn load_clause<W: CountedWrite + Drop, P: ProofProcessor>(
     lits: &[Lit],
     sorting: &mut Sorting,
 ) -> Result<bool, Fault>
-    requires keeps { Keeps proof.old }
+    requires keeps { HasAllowedSteps proof.old }
     requires added { IsAdded (steps_of proof.old) search.old lits.now }
     requires may { MayLoad search.old lits.now }
     ensures goes { LoadsClause W.seen result proof.old proof.new search.old search.new }

@@ -7,7 +7,7 @@ ghost use Rattle.sat_solver.specs.proof.Checked.{has_begun};
 ghost use Rattle.sat_solver.specs.proof.MadeView.{Makes};
 ghost use Rattle.sat_solver.specs.session.Session.{May, MayAll};
 ghost use Rattle.sat_solver.specs.proof.Widths.{narrowed, KeepsWidth};
-ghost use Rattle.sat_solver.specs.proof.ProofView.{Closed, IsAtWidth, Open, audience, is_open, is_drat, has_asked, target_of, steps_of, session_of, is_checked, is_lost, Checks, HasTold, Keeps, Adds, Records, PutsOn, FailsOfCheck, FailsOfCheckUnless, FlushesTarget, FlushesOrFails, Closes, Handed, HandedWhole, HandsBack, HasCause, Listens, told};
+ghost use Rattle.sat_solver.specs.proof.ProofView.{Closed, IsAtWidth, Open, audience, is_open, is_drat, has_asked, target_of, steps_of, session_of, is_checked, is_lost, Checks, HasTold, HasAllowedSteps, EmitsExactly, EmitsAsAnswered, PutsOn, FailsOfCheck, FailsOfCheckUnless, FlushesTarget, FlushesOrFails, ClosesTarget, Handed, HandedWhole, HandsBack, HasCause, Listens, without_complaint};
 
 pub mod checker;
 pub mod drat;
@@ -163,8 +163,8 @@ impl<W: CountedWrite + Drop, P: ProofProcessor> Proof<W, P> {
 
     /// From here on hashes are shortened where the count of clauses allows it.
     pub fn begin_ask(&mut self)
-        ensures keeps { Keeps self.old → Keeps self.new }
-        ensures adds { Adds W.seen [] self.old self.new }
+        ensures keeps { HasAllowedSteps self.old → HasAllowedSteps self.new }
+        ensures adds { EmitsExactly W.seen [] self.old self.new }
         ensures taking { is_lost self.new ≡ is_lost self.old }
         ensures asked { has_asked self.new ≡ true }
     {
@@ -242,13 +242,13 @@ impl<W: CountedWrite + Drop, P: ProofProcessor> Proof<W, P> {
         step: &ProofStep<'_>,
         cut: &ProofStep<'_>,
     ) -> Result<(), ProofError>
-        requires keeps { Keeps self.old }
+        requires keeps { HasAllowedSteps self.old }
         requires may { May (session_of self.old) (step_of step.now) }
         requires width { KeepsWidth (step_of step.now) }
         requires counted { counting ≡ counted (step_of step.now) self.old.counting }
         requires cut { step_of cut.now ≡ narrowed counting.bits (step_of step.now) }
-        ensures keeps { Keeps self.new }
-        ensures records { Records W.seen result (step_of step.now ∷ []) self.old self.new }
+        ensures keeps { HasAllowedSteps self.new }
+        ensures records { EmitsAsAnswered W.seen result (step_of step.now ∷ []) self.old self.new }
     {
         match self.put(counting, step, cut) {
             Ok(()) => self.take(step, cut),
@@ -263,11 +263,11 @@ impl<W: CountedWrite + Drop, P: ProofProcessor> Proof<W, P> {
 
     /// Cuts a step's hashes, in these lists, to the width for the clauses behind it, and records it.
     fn record_cut(&mut self, lists: &mut CutLists, step: &ProofStep<'_>) -> Result<(), ProofError>
-        requires keeps { Keeps self.old }
+        requires keeps { HasAllowedSteps self.old }
         requires may { May (session_of self.old) (step_of step.now) }
         requires width { KeepsWidth (step_of step.now) }
-        ensures keeps { Keeps self.new }
-        ensures records { Records W.seen result (step_of step.now ∷ []) self.old self.new }
+        ensures keeps { HasAllowedSteps self.new }
+        ensures records { EmitsAsAnswered W.seen result (step_of step.now ∷ []) self.old self.new }
     {
         let counting = self.counting.with(step);
         match *step {
@@ -365,11 +365,11 @@ impl<W: CountedWrite + Drop, P: ProofProcessor> Proof<W, P> {
     /// Makes a step that the session may write, writes it where a target is open, and gives it to the checker, where there is one.
     /// Without memory for its text or its hashes nothing is made.
     pub fn step(&mut self, step: &ProofStep<'_>) -> Result<(), ProofError>
-        requires keeps { Keeps self.old }
+        requires keeps { HasAllowedSteps self.old }
         requires may { May (session_of self.old) (step_of step.now) }
         requires width { KeepsWidth (step_of step.now) }
-        ensures keeps { Keeps self.new }
-        ensures records { Records W.seen result (step_of step.now ∷ []) self.old self.new }
+        ensures keeps { HasAllowedSteps self.new }
+        ensures records { EmitsAsAnswered W.seen result (step_of step.now ∷ []) self.old self.new }
     {
         if !self.made.is_checked() && !self.is_open() {
             return self.take(step, &ProofStep::End);
@@ -416,7 +416,7 @@ impl<W: CountedWrite + Drop, P: ProofProcessor> Proof<W, P> {
 
     /// Writes out what waits for an open target, and flushes it. Then the checker tells what waits, where there is one.
     pub fn flush(&mut self) -> Result<(), ProofError>
-        ensures keeps { Keeps self.old → Keeps self.new }
+        ensures keeps { HasAllowedSteps self.old → HasAllowedSteps self.new }
         ensures flushes { FlushesOrFails W.seen result self.old self.new }
     {
         self.flush_target()?;
@@ -425,9 +425,9 @@ impl<W: CountedWrite + Drop, P: ProofProcessor> Proof<W, P> {
 
     /// Writes the last step, flushes, and hands the target back; `None` where none is open. After an error the target stays.
     pub fn close(&mut self) -> Result<Option<W>, ProofError>
-        requires { Keeps self.old }
-        ensures keeps { Keeps self.new }
-        ensures closes { Closes W.seen result self.old self.new }
+        requires { HasAllowedSteps self.old }
+        ensures keeps { HasAllowedSteps self.new }
+        ensures closes { ClosesTarget W.seen result self.old self.new }
     {
         if !self.is_open() {
             return Ok(None);
@@ -439,7 +439,7 @@ impl<W: CountedWrite + Drop, P: ProofProcessor> Proof<W, P> {
 
     /// The target as it is, where there is one; what waits for it is lost.
     pub fn take_target(&mut self) -> Option<W>
-        ensures keeps { Keeps self.old → Keeps self.new }
+        ensures keeps { HasAllowedSteps self.old → HasAllowedSteps self.new }
         ensures gives { HandsBack W.seen result self.old self.new }
     {
         self.broken = false;
@@ -459,7 +459,7 @@ impl<W: CountedWrite + Drop, P: ProofProcessor> Proof<W, P> {
     /// What a processor complained of. It is told once.
     pub fn take_complaint(&mut self) -> Option<anyhow::Error>
         ensures gives { result ≡ self.old.made.complaint }
-        ensures same { self.new ≡ told self.old }
+        ensures same { self.new ≡ without_complaint self.old }
     {
         self.made.take_complaint()
     }

@@ -3,7 +3,7 @@ ghost use Rattle.std.specs.Prelude.{◌≡◌, ◌+◌, ◌-◌, ◌^◌, ◌<�
 ghost use Rattle.sat_solver.specs.schedule.Climbing.{KeepsProgress};
 ghost use Rattle.sat_solver.specs.schedule.Counting.{AnswersWithin, CountsOn, SpendsRounds, TakesRound, steps_left};
 ghost use Rattle.sat_solver.specs.schedule.Rounds.{ComesBy, RestartsWhereDue};
-ghost use Rattle.sat_solver.specs.schedule.Solving.{words_in, values_in, IsCore, GoesAlong, EndedBy, Broke};
+ghost use Rattle.sat_solver.specs.schedule.Solving.{words_in, values_in, CoreInvariant, GoesAlong, EndedBy, BreaksRounds};
 ghost use Rattle.sat_solver.specs.schedule.Solving.{Restarted, ReducedAt, RoundOf};
 ghost use Rattle.sat_solver.specs.solver.Found.{FoundNone};
 ghost use Rattle.sat_solver.specs.solver.Joined.{IsJoined, KeepsJoined};
@@ -53,7 +53,7 @@ fn restart_where_due<W: CountedWrite + Drop, P: ProofProcessor>(
     restarts: &mut Restarts,
     round: u64,
 )
-    requires core { IsCore core.old }
+    requires core { CoreInvariant core.old }
     requires scale { 0 < restarts.old.scale }
     requires counts { round + 1 < 2 ^ 64 }
     ensures joined { KeepsJoined core.old core.new }
@@ -91,7 +91,7 @@ pub fn search<W: CountedWrite + Drop, P: ProofProcessor>(
     ensures ends { IfOk result (λ r. EndedBy W.seen (steps.new - steps.old) r core.old names.old core.new names.new) }
     ensures rounds { IfOk result (λ o. ComesBy Restarted ReducedAt (RoundOf W.seen) o core.old names.old restarts.old steps.old
         core.new names.new restarts.new steps.new) }
-    ensures fails { IfErr result (λ e. Broke W.seen core.old e core.new) }
+    ensures fails { IfErr result (λ e. BreaksRounds W.seen core.old e core.new) }
 {
     let end = steps.saturating_add(max_steps);
     while *steps < end {

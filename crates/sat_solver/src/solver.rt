@@ -7,7 +7,7 @@ ghost use Rattle.sat_base.specs.script.Judge.{start};
 ghost use Rattle.sat_solver.specs.proof.ProofView.{Closed, has_asked, is_checked, is_lost, target_of};
 ghost use Rattle.sat_solver.specs.variables.Calls.{Agree};
 ghost use Rattle.sat_solver.specs.Configs.{defaults};
-ghost use Rattle.sat_solver.specs.solver.Whole.{IsWhole, steps_in};
+ghost use Rattle.sat_solver.specs.solver.Whole.{SolverInvariant, steps_in};
 
 pub mod answers;
 pub mod assume;
@@ -63,7 +63,7 @@ pub struct Solver<W: CountedWrite + Drop, P: ProofProcessor = Nobody> {
 impl<W: CountedWrite + Drop> Solver<W, Nobody> {
     /// No clauses and no names, and nobody will listen to a checker of its own. Takes no memory.
     pub fn new(alloc: Global) -> Solver<W, Nobody>
-        ensures whole { IsWhole result }
+        ensures whole { SolverInvariant result }
         ensures going { result.failed ≡ false }
         ensures unused { result.used ≡ false }
         ensures steps { steps_in result ≡ [] }
@@ -84,7 +84,7 @@ impl<W: CountedWrite + Drop> Solver<W, Nobody> {
 impl<W: CountedWrite + Drop, P: ProofProcessor> Solver<W, P> {
     /// As `new`, for processors of this type. Nobody listens yet.
     pub fn telling(alloc: Global) -> Solver<W, P>
-        ensures whole { IsWhole result }
+        ensures whole { SolverInvariant result }
         ensures going { result.failed ≡ false }
         ensures unused { result.used ≡ false }
         ensures steps { steps_in result ≡ [] }

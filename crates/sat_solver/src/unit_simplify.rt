@@ -1,5 +1,5 @@
 //! What units of level 0 decide goes: clauses, literals of clauses, and variables that no clause has any more.
-ghost use Rattle.sat_solver.specs.proof.ProofView.{Keeps, session_of};
+ghost use Rattle.sat_solver.specs.proof.ProofView.{HasAllowedSteps, session_of};
 ghost use Rattle.sat_solver.specs.cdcl.Going.{EmitsSteps};
 ghost use Rattle.sat_solver.specs.cdcl.Joint.{IsSearch};
 ghost use Rattle.sat_solver.specs.unit_simplify.Flat.{IsFlat, LightensAll};
@@ -29,7 +29,7 @@ fn lighten<W: CountedWrite + Drop, P: ProofProcessor>(
     proof: &mut Proof<W, P>,
     search: &mut Search,
 ) -> Result<(), Fault>
-    requires keeps { Keeps proof.old }
+    requires keeps { HasAllowedSteps proof.old }
     requires search { IsSearch (session_of proof.old) search.old }
     requires flat { IsFlat search.old.parts }
     ensures { EmitsSteps W.seen result proof.old proof.new (λ _ _. LightensAll (session_of proof.new) search.old search.new) }

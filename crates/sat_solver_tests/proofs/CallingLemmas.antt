@@ -2,7 +2,7 @@
 use Rattle.std.proofs.Common.{ℕ, ◌≡◌, ◌∙◌, true, false, Bool, List, [], ◌∷◌, ◌++◌, Option, None, Some, Result, Ok, Err, refl, sym, ap, subst}
 use Rattle.std.proofs.lemmas.Bool.{true≢false}
 use Rattle.std.specs.Prelude.{is_some}
-use Rattle.sat_base.specs.device.Device.{Writer, Breaks, lent_writer}
+use Rattle.sat_base.specs.device.Device.{Writer, WriterBreaks, lent_writer}
 use Rattle.sat_base.specs.device.Sink.{empty_sink}
 use Rattle.sat_base.specs.steps.Steps.{Step, Assumptions, End}
 use Rattle.sat_base.proofs.lemmas.device.Writes.{breaks_within, lent_puts}
@@ -10,7 +10,7 @@ use Rattle.sat_checker.specs.declared.processing.ProofProcessor.{Ghosts}
 use Rattle.sat_solver.specs.proof.Counting.{start, counted, one_made, written_for}
 use Rattle.sat_solver.specs.proof.OutputView.{text_in}
 use Rattle.sat_solver.specs.proof.ProofTexts.{BrokeText}
-use Rattle.sat_solver.specs.proof.ProofView.{Target, Open, Carries, Stops, Gives, seen_of, is_open, target_of, is_checked, is_lost, Gains, Records, Closes, HandsBack}
+use Rattle.sat_solver.specs.proof.ProofView.{Target, Open, TargetTakes, TargetFails, GivesWriter, seen_of, is_open, target_of, is_checked, is_lost, EmitsChecked, EmitsAsAnswered, ClosesTarget, HandsBack}
 use Rattle.sat_solver.specs.declared.proof.format.ProofFormat.{ProofFormat}
 use Rattle.sat_solver.specs.declared.proof.format.ProofFormat.TheVariants.{Varisat}
 use Rattle.sat_solver.specs.declared.proof.Proof.{Proof}
@@ -23,13 +23,13 @@ abbrev opened_as : Writer → Target
 opened_as from = Open Varisat start (empty_sink from)
 
 -- a target that failed at the text of steps, handed back
-faulty : {W : Type 0} (seen : W → Writer) (from : Writer) (steps : List Step) (t : Target) (given : Option W) → Stops (opened_as from) steps t → Gives t (seen_of seen given) → (w : W) × (given ≡ Some w) × BrokeText Varisat from (seen w) steps
-faulty seen from steps t None p g = let q = subst (λ z. Gives z None) p.1 g in absurd (let e = q in cc)
+faulty : {W : Type 0} (seen : W → Writer) (from : Writer) (steps : List Step) (t : Target) (given : Option W) → TargetFails (opened_as from) steps t → GivesWriter t (seen_of seen given) → (w : W) × (given ≡ Some w) × BrokeText Varisat from (seen w) steps
+faulty seen from steps t None p g = let q = subst (λ z. GivesWriter z None) p.1 g in absurd (let e = q in cc)
 faulty seen from steps t (Some w) p g = (w, refl, broken_is_front Varisat from (seen w) steps t p g)
 
 -- one that is still open, handed back
-still : {W : Type 0} (seen : W → Writer) (from : Writer) (steps : List Step) (t : Target) (given : Option W) → Carries (opened_as from) steps t → Gives t (seen_of seen given) → (w : W) × (given ≡ Some w)
-still seen from steps t None p g = let q = subst (λ z. Gives z None) p.2 g in absurd (let e = q in cc)
+still : {W : Type 0} (seen : W → Writer) (from : Writer) (steps : List Step) (t : Target) (given : Option W) → TargetTakes (opened_as from) steps t → GivesWriter t (seen_of seen given) → (w : W) × (given ≡ Some w)
+still seen from steps t None p g = let q = subst (λ z. GivesWriter z None) p.2 g in absurd (let e = q in cc)
 still seen from steps t (Some w) p g = (w, refl)
 
 -- a fault at the first step's text is one at the text of all
@@ -38,27 +38,27 @@ all_broke e from given b = record {
   written = written_for b.counting.bits (counted End b.counting).bits End ++ b.written;
   counting = counted End b.counting;
   cuts = one_made End tt b.cuts;
-  puts = subst (Breaks from given) (sym (text_append Varisat (written_for b.counting.bits (counted End b.counting).bits End) b.written))
+  puts = subst (WriterBreaks from given) (sym (text_append Varisat (written_for b.counting.bits (counted End b.counting).bits End) b.written))
       (breaks_within from given (text_in Varisat b.written) (text_in Varisat (written_for b.counting.bits (counted End b.counting).bits End)) b.breaks);
 }
 
 module _ {W L : Type 0} {G : Ghosts L} (seen : W → Writer) (w : W) (p q : Proof W L G) (opened : target_of seen p ≡ opened_as (seen w)) (unchecked : is_checked p ≡ false) where
   -- the first step failed
-  pub step_failed : (e : ProofError) (r : Proof W L G) (given : Option W) → Records {T = Unit {0}} seen (Err e) (Assumptions [] ∷ []) p q → HandsBack seen given q r → PutsOwned seen (Err e) w given
+  pub step_failed : (e : ProofError) (r : Proof W L G) (given : Option W) → EmitsAsAnswered {T = Unit {0}} seen (Err e) (Assumptions [] ∷ []) p q → HandsBack seen given q r → PutsOwned seen (Err e) w given
   step_failed (Write e) r given f h =
-      let x = faulty seen (seen w) (Assumptions [] ∷ []) (target_of seen q) given (subst (λ z. Stops z (Assumptions [] ∷ []) (target_of seen q)) opened f.0.target) h.gives in
+      let x = faulty seen (seen w) (Assumptions [] ∷ []) (target_of seen q) given (subst (λ z. TargetFails z (Assumptions [] ∷ []) (target_of seen q)) opened f.0.target) h.gives in
       subst (PutsOwned seen (Err (Write e)) w) (sym x.1) (all_broke e (seen w) (seen x.0) x.2)
   step_failed OutOfMemory r given a h =
-      let x = still seen (seen w) [] (target_of seen q) given (subst (λ z. Carries z [] (target_of seen q)) opened a.target) h.gives in
+      let x = still seen (seen w) [] (target_of seen q) given (subst (λ z. TargetTakes z [] (target_of seen q)) opened a.target) h.gives in
       subst (PutsOwned seen (Err OutOfMemory) w) (sym x.1) tt
   step_failed (Check fault) r given f h = absurd (true≢false (sym (complains_checked fault q f.0.why) ∙ ap (λ o. is_some o) f.0.adds.listening ∙ unchecked))
 
-  module _ (a : Gains seen (Assumptions [] ∷ []) p q) where
-    carried : Carries (opened_as (seen w)) (Assumptions [] ∷ []) (target_of seen q)
-    carried = subst (λ z. Carries z (Assumptions [] ∷ []) (target_of seen q)) opened a.target
+  module _ (a : EmitsChecked seen (Assumptions [] ∷ []) p q) where
+    carried : TargetTakes (opened_as (seen w)) (Assumptions [] ∷ []) (target_of seen q)
+    carried = subst (λ z. TargetTakes z (Assumptions [] ∷ []) (target_of seen q)) opened a.target
 
     -- closing failed
-    pub close_failed : is_lost p ≡ false → (e : ProofError) (r s : Proof W L G) (given : Option W) → Closes seen (Err e) q r → HandsBack seen given r s → PutsOwned seen (Err e) w given
+    pub close_failed : is_lost p ≡ false → (e : ProofError) (r s : Proof W L G) (given : Option W) → ClosesTarget seen (Err e) q r → HandsBack seen given r s → PutsOwned seen (Err e) w given
     close_failed taking (Write e) r s given c h =
         let x = faulty seen (seen w) made (target_of seen r) given (stops_later (opened_as (seen w)) (target_of seen q) (target_of seen r) (Assumptions [] ∷ []) (End ∷ []) carried c.0.target) h.gives in
         subst (PutsOwned seen (Err (Write e)) w) (sym x.1) (record { written = x.2.written; counting = x.2.counting; cuts = x.2.cuts; puts = x.2.breaks })
@@ -70,7 +70,7 @@ module _ {W L : Type 0} {G : Ghosts L} (seen : W → Writer) (w : W) (p q : Proo
         absurd (true≢false (sym (complains_checked fault r k.0) ∙ ap (λ o. is_some o) (c.0.listening ∙ a.listening) ∙ unchecked))
 
     -- it was closed
-    pub closed : (o : Option W) (r : Proof W L G) → Closes seen (Ok o) q r → PutsOwned seen (Ok tt) w o
+    pub closed : (o : Option W) (r : Proof W L G) → ClosesTarget seen (Ok o) q r → PutsOwned seen (Ok tt) w o
     closed None r c = absurd (true≢false (sym (ap is_open carried.2) ∙ c.shut))
     closed (Some given) r c =
         let t = closed_is_text Varisat (seen w) (seen given) (Assumptions [] ∷ []) End (target_of seen q) carried c.takes in

@@ -1,5 +1,5 @@
 //! Proofs that are written, and targets that fail.
-ghost use Rattle.sat_solver.specs.proof.ProofView.{Keeps};
+ghost use Rattle.sat_solver.specs.proof.ProofView.{HasAllowedSteps};
 
 use crate::caller::write_lent;
 use crate::devices::{ByFew, by_few};
@@ -21,8 +21,8 @@ const TEXT: &[u8] = &[1, 3, 1, 11, 0, 1, 3, 1, 11, 0, 13];
 
 /// Makes two steps. Gives whether both were taken.
 fn make_two<W: CountedWrite + Drop>(proof: &mut Proof<W>) -> bool
-    requires { Keeps proof.old }
-    ensures { Keeps proof.new }
+    requires { HasAllowedSteps proof.old }
+    ensures { HasAllowedSteps proof.new }
 {
     let name = ProofStep::SolverVarName {
         global: Var::from_index(3),
@@ -47,7 +47,7 @@ fn seen(target: Option<Counted<ByFew>>, text: &[u8]) -> Seen {
 
 /// Closes a proof. Gives whether its target came back by that, or else the fault; and what the target saw.
 fn closed(mut proof: Proof<Counted<ByFew>>, text: &[u8]) -> (Option<bool>, Seen)
-    requires { Keeps proof }
+    requires { HasAllowedSteps proof }
 {
     match proof.close() {
         Ok(Some(target)) => (Some(true), seen(Some(target), text)),

@@ -1,6 +1,6 @@
 //! The lengths of the gaps between restarts.
 ghost use Rattle.std.specs.Prelude.{◌≡◌, ◌+◌, ◌<◌, ◌≤◌, ◌^◌};
-ghost use Rattle.sat_store.specs.schedule.Luby.{luby, behind};
+ghost use Rattle.sat_store.specs.schedule.Luby.{luby, wrapped_number};
 
 use std::marker::Model;
 
@@ -35,7 +35,7 @@ impl LubySequence {
     /// The next term.
     pub fn advance(&mut self) -> u64
         ensures term { result ≡ luby (self.old + 1) }
-        ensures next { self.new ≡ behind (self.old + 1) }
+        ensures next { self.new ≡ wrapped_number (self.old + 1) }
     {
         let term = self.given + 1;
         self.given = if term == u64::MAX { 0 } else { term };

@@ -119,9 +119,9 @@ pub struct VarBiMap {
 }
 
 impl Model for VarBiMap {
-    ghost use Rattle.sat_store.specs.variables.Maps.{Both, AreInverse};
+    ghost use Rattle.sat_store.specs.variables.Maps.{MapAndInverse, AreInverse};
 
-    ghost Value = { Both };
+    ghost Value = { MapAndInverse };
 
     ghost view = { λ m. record { fwd = m.fwd; bwd = m.bwd } };
 

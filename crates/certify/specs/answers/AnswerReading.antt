@@ -50,8 +50,8 @@ digits_so_far zero = []
 digits_so_far (suc n) = decimal (suc n)
 
 -- no name goes on with this byte
-abbrev pub NoDigit : ℕ → ℕ → Type 0
-NoDigit name byte = (n : ℕ) (more : List ℕ) → IsName n → decimal n ≡ digits_so_far name ++ (byte ∷ more) → ⊥
+abbrev pub NoNameDigit : ℕ → ℕ → Type 0
+NoNameDigit name byte = (n : ℕ) (more : List ℕ) → IsName n → decimal n ≡ digits_so_far name ++ (byte ∷ more) → ⊥
 
 -- the bytes don't begin with a name and a space
 abbrev pub NoName : List ℕ → Type 0
@@ -132,8 +132,8 @@ abbrev pub BeginsWithLiterals : AnswerKind → List ℕ → List ℕ → List �
 BeginsWithLiterals k bytes line rest = IsInForm (outcome_of k (named_literals line)) × (bytes ≡ literals_text (named_literals line) ++ rest)
 
 -- the second line of an answer of this kind, where there is one
-abbrev pub BeginsWithLine : AnswerKind → List ℕ → List ℕ → List ℕ → Type 0
-BeginsWithLine k bytes line rest = IsInForm (outcome_of k (named_literals line))
+abbrev pub BeginsWithSecondLine : AnswerKind → List ℕ → List ℕ → List ℕ → Type 0
+BeginsWithSecondLine k bytes line rest = IsInForm (outcome_of k (named_literals line))
     × (bytes ≡ second_line (outcome_of k (named_literals line)) ++ rest)
 
 -- an answer

@@ -1,6 +1,6 @@
 -- What is answered, and the answers' text.
 use Rattle.std.specs.Prelude.{ℕ, ◌+◌, Option, Some, None, List, [], ◌∷◌, ◌++◌, decimal, if◌then◌else◌}
-use Rattle.sat_base.specs.script.Script.{Literal, Command, Ask, Ending, Clean, Malformed}
+use Rattle.sat_base.specs.script.Script.{Literal, Command, Ask, ScriptEnding, Clean, Malformed}
 use Rattle.sat_checker.specs.matching.Expected.{Outcome, Sat, Unsat, Unknown}
 use Rattle.sat_base.specs.script.Judge.{Judge, Refusal, PastLimit, WitnessName, refusal_of, after_command, start}
 
@@ -53,7 +53,7 @@ abbrev pub malformed_line : ℕ → List ℕ
 malformed_line k = 99 ∷ 32 ∷ 109 ∷ 97 ∷ 108 ∷ 102 ∷ 111 ∷ 114 ∷ 109 ∷ 101 ∷ 100 ∷ 32 ∷ decimal k ++ 10 ∷ []
 
 -- the last line, where the script's text is malformed at command k
-abbrev pub ending_text : ℕ → Ending → List ℕ
+abbrev pub ending_text : ℕ → ScriptEnding → List ℕ
 ending_text k Clean = []
 ending_text k Malformed = malformed_line k
 
@@ -69,12 +69,12 @@ outcomes_left None (Ask ls) (o ∷ os) = os
 outcomes_left refusal command outcomes = outcomes
 
 -- the answers to commands from number k on
-abbrev pub answers_from : ℕ → Judge → List Command → Ending → List Outcome → List ℕ
+abbrev pub answers_from : ℕ → Judge → List Command → ScriptEnding → List Outcome → List ℕ
 answers_from k j [] ending outcomes = ending_text k ending
 answers_from k j (command ∷ commands) ending outcomes =
     piece k (refusal_of j command) command outcomes
     ++ answers_from (k + 1) (after_command command j) commands ending (outcomes_left (refusal_of j command) command outcomes)
 
 -- the answers to a script
-abbrev pub answers_text : List Command → Ending → List Outcome → List ℕ
+abbrev pub answers_text : List Command → ScriptEnding → List Outcome → List ℕ
 answers_text = answers_from 1 start

@@ -6,7 +6,7 @@ use Rattle.sat_base.specs.steps.Steps.{Step}
 use Rattle.sat_checker.specs.Accepts.{ready_after}
 use Rattle.sat_checker.specs.declared.kernel.Kernel.{Kernel}
 use Rattle.sat_checker.specs.matching.Expected.{Outcome, Expected}
-use Rattle.certify.specs.confirm.CertificatePlaces.{CanMeet, Leads, Bars, Skips, Stops, Offers}
+use Rattle.certify.specs.confirm.CertificatePlaces.{CanMeet, MeetsExactly, Bars, Skips, MeetsNothing, Offers}
 use Rattle.certify.specs.confirm.Feeding.{HasTaken}
 use Rattle.certify.specs.confirm.Views.{View}
 use Rattle.certify.specs.confirm.Comparing.{MayStayUnmet, Due, Excuses}
@@ -47,7 +47,7 @@ pub record StepWasPassed (names : NamedVars) (old : View) (earlier : List Step) 
 abbrev pub AwaitsNext : NamedVars → View → View → Result Awaited Why → Type 0
 AwaitsNext names old new (Ok awaited.Step) = (earlier : List Step) → CheckerIsAt old.checker names earlier → StepIsReady names old earlier new
 AwaitsNext names old new (Ok awaited.Cut) = (earlier : List Step) → CheckerIsAt old.checker names earlier → UnsatIsRecorded names old earlier new
-AwaitsNext names old new (Err why) = (earlier : List Step) → CheckerIsAt old.checker names earlier → Stops earlier old.rest
+AwaitsNext names old new (Err why) = (earlier : List Step) → CheckerIsAt old.checker names earlier → MeetsNothing earlier old.rest
 
 -- what one more step brought
 abbrev pub StepsOnce : NamedVars → View → View → Result (Option Awaited) Why → Type 0
@@ -60,17 +60,17 @@ abbrev pub PassesUnordered : NamedVars → View → View → Result (Unit {0}) W
 PassesUnordered names old new r = (earlier : List Step) → CheckerIsAt old.checker names earlier → StepWasPassed names old earlier new
 
 -- just what is expected is met
-pub record IsMet (due : Due) (after : NamedVars) (old : View) (earlier : List Step) (new : View) : Type 0 where
+pub record IsDueMet (due : Due) (after : NamedVars) (old : View) (earlier : List Step) (new : View) : Type 0 where
   pub later : List Step
   pub stands : CheckerIsAt new.checker after later
   pub leads : (o : Outcome) (ask : List Literal)
-      → ((ready_after later).unsat ≡ true → MayStayUnmet (due o ask)) → Leads earlier old.rest (due o ask ∷ []) later new.rest
+      → ((ready_after later).unsat ≡ true → MayStayUnmet (due o ask)) → MeetsExactly earlier old.rest (due o ask ∷ []) later new.rest
   pub alone : (o : Outcome) (ask : List Literal) (es : List Expected)
       → CanMeet earlier (due o ask ∷ es) old.rest → (ready_after later).unsat ≡ true → MayStayUnmet (due o ask)
 
 -- what is expected is met, or can't be
 abbrev pub MeetsDue : Due → NamedVars → NamedVars → View → View → Result (Unit {0}) Why → Type 0
-MeetsDue due before after old new (Ok x) = (earlier : List Step) → CheckerIsAt old.checker before earlier → IsMet due after old earlier new
+MeetsDue due before after old new (Ok x) = (earlier : List Step) → CheckerIsAt old.checker before earlier → IsDueMet due after old earlier new
 MeetsDue due before after old new (Err why) = (earlier : List Step) → CheckerIsAt old.checker before earlier
     → (o : Outcome) (ask : List Literal) → Bars earlier old.rest (due o ask ∷ [])
 

@@ -12,7 +12,7 @@ CanMeet earlier es certificate = CertificateMeets the_checking earlier es certif
 
 -- Between two places of the certificate just these are met: whatever is expected behind them, all is met from the one exactly if the rest
 -- is met from the other.
-pub record Leads (earlier : List Step) (certificate : List ℕ) (pending : List Expected) (later : List Step) (rest : List ℕ) : Type 0 where
+pub record MeetsExactly (earlier : List Step) (certificate : List ℕ) (pending : List Expected) (later : List Step) (rest : List ℕ) : Type 0 where
   pub on : (es : List Expected) → CanMeet earlier (pending ++ es) certificate → CanMeet later es rest
   pub back : (es : List Expected) → CanMeet later es rest → CanMeet earlier (pending ++ es) certificate
 
@@ -26,7 +26,7 @@ pub record Skips (earlier : List Step) (certificate : List ℕ) (later : List St
   pub back : (e : Expected) (es : List Expected) → CanMeet later (e ∷ es) rest → CanMeet earlier (e ∷ es) certificate
 
 -- whatever is expected isn't met
-pub record Stops (earlier : List Step) (certificate : List ℕ) : Type 0 where
+pub record MeetsNothing (earlier : List Step) (certificate : List ℕ) : Type 0 where
   pub none : (e : Expected) (es : List Expected) → CanMeet earlier (e ∷ es) certificate → ⊥
 
 -- the next ordered step is this one: what is expected next is met exactly if the step is that and is accepted

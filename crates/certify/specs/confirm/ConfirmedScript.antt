@@ -10,8 +10,8 @@ use Rattle.certify.specs.confirm.VerdictPromises.{numbers}
 use Rattle.certify.specs.confirm.Confirming.{ConfirmsLast, Table, Through, table_of}
 use Rattle.certify.specs.confirm.Stopping.{Any, Joins}
 use Rattle.certify.specs.confirm.Sessions.{answers_in, stream_in}
-use Rattle.certify.specs.script.Ahead.{Failed, Kept, TakesSome, source_in}
-use Rattle.certify.specs.script.Commands.{Means}
+use Rattle.certify.specs.script.Ahead.{FaultsAhead, NoReadFailedAhead, TakesSome, source_in}
+use Rattle.certify.specs.script.Commands.{ReaderMeans}
 use Rattle.certify.specs.declared.confirm.stop.Stop.TheVariants as stop
 use Rattle.certify.specs.declared.confirm.stop.Stop.{Stop}
 use Rattle.certify.specs.declared.confirm.confirmation.Confirmation.{Confirmation}
@@ -22,7 +22,7 @@ use Rattle.certify.specs.declared.verdict.Verdict.{Verdict}
 use Rattle.certify.specs.declared.verdict.Verdict.TheVariants.{Yes, No}
 
 -- Where confirming stands: script, answers and certificate as they are read, the number of the next command, and the names.
-pub record Standing : Type 0 where
+pub record ConfirmPlace : Type 0 where
   pub script : Source
   pub answers : Source
   pub certificate : Stream
@@ -34,8 +34,8 @@ abbrev pub script_in : {S : Type 0} → (S → Reader) → S → Confirmation �
 script_in seen script c = source_in seen script c.script.ahead
 
 -- the same, from the three readers and what confirming keeps
-abbrev pub standing : {S A C : Type 0} → (S → Reader) → (A → Reader) → (C → Reader) → S → A → StepReader C Buffers → Confirmation → Standing
-standing script_seen seen steps_seen script answers steps c = record {
+abbrev pub confirm_place : {S A C : Type 0} → (S → Reader) → (A → Reader) → (C → Reader) → S → A → StepReader C Buffers → Confirmation → ConfirmPlace
+confirm_place script_seen seen steps_seen script answers steps c = record {
   script = script_in script_seen script c;
   answers = answers_in seen answers c.session;
   certificate = stream_in steps_seen steps c.session.matching;
@@ -44,9 +44,9 @@ standing script_seen seen steps_seen script answers steps c = record {
 }
 
 -- Between two of these commands were confirmed; behind them the reader of scripts stands where `left` says what is left.
-pub record ConfirmsThrough (text : List ℕ → Reading) (old new : Standing) (reader : ScriptReader) : Type 0 where
+pub record ConfirmsThrough (text : List ℕ → Reading) (old new : ConfirmPlace) (reader : ScriptReader) : Type 0 where
   pub left : List ℕ → Reading
-  pub means : Means reader left
+  pub means : ReaderMeans reader left
   pub took : TakesSome true old.script new.script
   pub counted : (total : List ℕ) → Covers new.script total
       → old.number + numbers (text (rest_in total old.script)) ≡ new.number + numbers (left (rest_in total new.script))
@@ -54,28 +54,28 @@ pub record ConfirmsThrough (text : List ℕ → Reading) (old new : Standing) (r
       (Through old.number (text (rest_in total old.script)) old.table new.number (left (rest_in total new.script)) new.table)
 
 -- what is said of the whole script, which is this
-abbrev pub JoinsWhole : Result (Unit {0}) Stop → Reading → Standing → Standing → Type 0
+abbrev pub JoinsWhole : Result (Unit {0}) Stop → Reading → ConfirmPlace → ConfirmPlace → Type 0
 JoinsWhole r script old new = Joins ⊥ false r old.answers new.answers old.certificate new.certificate
     (λ before behind u v. ConfirmsLast old.number script old.table before u)
 
 -- nothing is said of it
-abbrev pub Unsaid : Standing → Standing → Type 0
-Unsaid old new = Kept old.answers new.answers × Confirms {A = Unit {0}} (Err stop.OutOfMemory) old.certificate new.certificate Any
+abbrev pub Unsaid : ConfirmPlace → ConfirmPlace → Type 0
+Unsaid old new = NoReadFailedAhead old.answers new.answers × Confirms {A = Unit {0}} (Err stop.OutOfMemory) old.certificate new.certificate Any
 
 -- The script is confirmed to its end, or isn't; or a text can't be read, or the commands are too many.
-abbrev pub ConfirmsScript : (List ℕ → Reading) → Result (Unit {0}) Stop → Standing → Standing → Type 0
+abbrev pub ConfirmsScript : (List ℕ → Reading) → Result (Unit {0}) Stop → ConfirmPlace → ConfirmPlace → Type 0
 ConfirmsScript text (Ok x) old new = TakesSome false old.script new.script
     × ((total : List ℕ) → Covers new.script total → JoinsWhole (Ok x) (text (rest_in total old.script)) old new)
 ConfirmsScript text (Err (stop.No why)) old new = TakesSome false old.script new.script
     × ((total : List ℕ) → Covers new.script total → JoinsWhole (Err (stop.No why)) (text (rest_in total old.script)) old new)
-ConfirmsScript text (Err stop.OutOfMemory) old new = Kept old.script new.script × Unsaid old new
-ConfirmsScript text (Err stop.CertificateRead) old new = Kept old.script new.script
-    × (Kept old.answers new.answers × Confirms {A = Unit {0}} (Err stop.CertificateRead) old.certificate new.certificate Any)
-ConfirmsScript text (Err stop.CounterEnd) old new = Kept old.script new.script
-    × (Kept old.answers new.answers × Confirms {A = Unit {0}} (Err stop.CounterEnd) old.certificate new.certificate Any)
-ConfirmsScript text (Err stop.AnswersRead) old new = Kept old.script new.script
-    × (Failed old.answers new.answers × Confirms {A = Unit {0}} (Err stop.OutOfMemory) old.certificate new.certificate Any)
-ConfirmsScript text (Err stop.ScriptRead) old new = Failed old.script new.script × Unsaid old new
+ConfirmsScript text (Err stop.OutOfMemory) old new = NoReadFailedAhead old.script new.script × Unsaid old new
+ConfirmsScript text (Err stop.CertificateRead) old new = NoReadFailedAhead old.script new.script
+    × (NoReadFailedAhead old.answers new.answers × Confirms {A = Unit {0}} (Err stop.CertificateRead) old.certificate new.certificate Any)
+ConfirmsScript text (Err stop.CounterEnd) old new = NoReadFailedAhead old.script new.script
+    × (NoReadFailedAhead old.answers new.answers × Confirms {A = Unit {0}} (Err stop.CounterEnd) old.certificate new.certificate Any)
+ConfirmsScript text (Err stop.AnswersRead) old new = NoReadFailedAhead old.script new.script
+    × (FaultsAhead old.answers new.answers × Confirms {A = Unit {0}} (Err stop.OutOfMemory) old.certificate new.certificate Any)
+ConfirmsScript text (Err stop.ScriptRead) old new = FaultsAhead old.script new.script × Unsaid old new
 ConfirmsScript text (Err stop.TooMany) old new = TakesSome false old.script new.script
     × ((total : List ℕ) → Covers new.script total → 2 ^ 64 < old.number + numbers (text (rest_in total old.script)))
     × Unsaid old new

@@ -1,6 +1,6 @@
 -- What a command makes of the answers and the certificate that are left.
 use Rattle.std.specs.Prelude.{ℕ, ◌+◌, ◌≡◌, None, Result, Ok, Err, List, [], ◌∷◌, ◌++◌}
-use Rattle.sat_base.specs.script.Script.{Literal, Command, Ask, Ending, names_of}
+use Rattle.sat_base.specs.script.Script.{Literal, Command, Ask, ScriptEnding, names_of}
 use Rattle.sat_base.specs.script.Judge.{Judge, after_command, refusal_of}
 use Rattle.sat_base.specs.steps.Steps.{Step}
 use Rattle.sat_checker.specs.matching.Expected.{Outcome, Adds, Opens, Closes, showing}
@@ -8,7 +8,7 @@ use Rattle.sat_checker.specs.matching.ProofChecking.{the_checking}
 use Rattle.certify.specs.confirm.LeftToMatch.{Left}
 use Rattle.certify.specs.confirm.Views.{View}
 use Rattle.certify.specs.judge.Names.{Changes, NamesStand}
-use Rattle.sat_base.specs.script.JudgeLaws.{IsKept, NamesIncrease}
+use Rattle.sat_base.specs.script.JudgeLaws.{JudgeInvariant, NamesIncrease}
 use Rattle.certify.specs.confirm.Awaiting.{CheckerIsAt, MeetsDue}
 use Rattle.certify.specs.confirm.Naming.{MeetsAll, naming_all, taken_by}
 use Rattle.sat_base.specs.script.Language.{Reading, Kind, OfClause, OfAsk, OfHide, OfWitness, OfSample, command_of}
@@ -29,11 +29,11 @@ table_of m = record { names = m.names; variables = m.certificate.names }
 -- names and modes are the judge's, and the checker took these steps, behind which the names stand for their variables
 pub record HoldsAt (t : Table) (u : View) (j : Judge) (earlier : List Step) : Type 0 where
   pub judged : NamesStand t.names j
-  pub kept : IsKept j
+  pub kept : JudgeInvariant j
   pub at : CheckerIsAt u.checker t.variables earlier
 
 -- what is still to be confirmed, from command n on
-abbrev pub ToConfirm : Judge → ℕ → List Step → List Command → Ending → List ℕ → List ℕ → Type 0
+abbrev pub ToConfirm : Judge → ℕ → List Step → List Command → ScriptEnding → List ℕ → List ℕ → Type 0
 ToConfirm j n earlier commands ending answers certificate = Left the_checking j n earlier [] commands ending answers certificate
 
 -- Command n is confirmed: what was to be confirmed is so exactly if the rest is.
@@ -41,9 +41,9 @@ pub record Confirmed (before behind : List ℕ) (old new : View) (j : Judge) (ea
     (command : Command) (t : Table) : Type 0 where
   pub later : List Step
   pub stands : HoldsAt t new (after_command command j) later
-  pub on : (commands : List Command) (ending : Ending) → ToConfirm j n earlier (command ∷ commands) ending before old.rest
+  pub on : (commands : List Command) (ending : ScriptEnding) → ToConfirm j n earlier (command ∷ commands) ending before old.rest
       → ToConfirm (after_command command j) (n + 1) later commands ending behind new.rest
-  pub back : (commands : List Command) (ending : Ending) → ToConfirm (after_command command j) (n + 1) later commands ending behind new.rest
+  pub back : (commands : List Command) (ending : ScriptEnding) → ToConfirm (after_command command j) (n + 1) later commands ending behind new.rest
       → ToConfirm j n earlier (command ∷ commands) ending before old.rest
 
 -- it is, or can't be
@@ -52,10 +52,10 @@ ConfirmsNext n command t next before behind old new (Ok x) =
     (j : Judge) (earlier : List Step) → HoldsAt t old j earlier → Confirmed before behind old new j earlier n command next
 ConfirmsNext n command t next before behind old new (Err why) =
     (j : Judge) (earlier : List Step) → HoldsAt t old j earlier
-    → (commands : List Command) (ending : Ending) → ToConfirm j n earlier (command ∷ commands) ending before old.rest → ⊥
+    → (commands : List Command) (ending : ScriptEnding) → ToConfirm j n earlier (command ∷ commands) ending before old.rest → ⊥
 
 -- a command of this kind isn't refused, and what it expects for its names is met
-pub record IsNamed (kind : Kind) (ls : List Literal) (t next : Table) (old new : View) : Type 0 where
+pub record MeetsCommandNames (kind : Kind) (ls : List Literal) (t next : Table) (old new : View) : Type 0 where
   pub allowed : (j : Judge) → NamesStand t.names j → refusal_of j (command_of kind ls) ≡ None
   pub met : (j : Judge) → NamesStand t.names j → MeetsAll (naming_all kind (names_of ls) j) t.variables next.variables old new (Ok tt)
   pub changes : Changes t.names next.names (taken_by kind (names_of ls))
@@ -71,12 +71,12 @@ MeetsContent OfSample ls before after old new r = MeetsAll [] before after old n
 -- behind its names a command is confirmed, or can't be
 abbrev pub ConfirmsContent : ℕ → Kind → List Literal → Table → Table → List ℕ → List ℕ → View → View → Result (Unit {0}) Why → Type 0
 ConfirmsContent n kind ls named next before behind old new r =
-    (t : Table) (u : View) → IsNamed kind ls t named u old → ConfirmsNext n (command_of kind ls) t next before behind u new r
+    (t : Table) (u : View) → MeetsCommandNames kind ls t named u old → ConfirmsNext n (command_of kind ls) t next before behind u new r
 
 -- behind its assumptions an ask is confirmed by its answer, or can't be
 abbrev pub ConfirmsAnswer : ℕ → List Literal → Table → Table → List ℕ → List ℕ → View → View → Result (Unit {0}) Why → Type 0
 ConfirmsAnswer n ask asked next before behind old new r =
-    (t named : Table) (u v : View) → IsNamed OfAsk ask t named u v → named.names ≡ asked.names
+    (t named : Table) (u v : View) → MeetsCommandNames OfAsk ask t named u v → named.names ≡ asked.names
     → MeetsDue (λ o under. Opens ask o) named.variables asked.variables v old (Ok tt)
     → ConfirmsNext n (Ask ask) t next before behind u new r
 

@@ -30,23 +30,23 @@ stop_by errors.ParseError = stop.No StepRefused
 stop_by (errors.ProofProcessorError cause) = stop.OutOfMemory
 
 -- The step is accepted behind those taken before, or isn't, or a number is past 64 bits.
-abbrev pub Feeds : Result (Unit {0}) Stop → Kernel → Step → Kernel → Type 0
-Feeds (Ok x) old step new = (steps : List Step) → HasTaken old steps → Accepts (ready_after steps) step × HasTaken new (step ∷ steps)
-Feeds (Err (stop.No why)) old step new = (steps : List Step) → HasTaken old steps → Accepts (ready_after steps) step → ⊥
-Feeds (Err stop.CertificateRead) old step new = ⊥
-Feeds (Err stop.OutOfMemory) old step new = Unit {0}
-Feeds (Err stop.CounterEnd) old step new = (steps : List Step) → HasTaken old steps → SpentBy step (stored_after steps)
-Feeds (Err stop.ScriptRead) old step new = ⊥
-Feeds (Err stop.AnswersRead) old step new = ⊥
-Feeds (Err stop.TooMany) old step new = ⊥
+abbrev pub FeedsStep : Result (Unit {0}) Stop → Kernel → Step → Kernel → Type 0
+FeedsStep (Ok x) old step new = (steps : List Step) → HasTaken old steps → Accepts (ready_after steps) step × HasTaken new (step ∷ steps)
+FeedsStep (Err (stop.No why)) old step new = (steps : List Step) → HasTaken old steps → Accepts (ready_after steps) step → ⊥
+FeedsStep (Err stop.CertificateRead) old step new = ⊥
+FeedsStep (Err stop.OutOfMemory) old step new = Unit {0}
+FeedsStep (Err stop.CounterEnd) old step new = (steps : List Step) → HasTaken old steps → SpentBy step (stored_after steps)
+FeedsStep (Err stop.ScriptRead) old step new = ⊥
+FeedsStep (Err stop.AnswersRead) old step new = ⊥
+FeedsStep (Err stop.TooMany) old step new = ⊥
 
 -- A pending unit conflict is settled, or there is no id for it: no step and no look more.
-abbrev pub Settles : Result (Unit {0}) Stop → Kernel → Kernel → Type 0
-Settles (Ok x) old new = (steps : List Step) → HasTaken old steps → HasTaken new steps × (looks_of new ≡ looks_of old)
-Settles (Err (stop.No why)) old new = (steps : List Step) → HasTaken old steps → ⊥
-Settles (Err stop.CertificateRead) old new = ⊥
-Settles (Err stop.OutOfMemory) old new = (steps : List Step) → HasTaken old steps → looks_of new ≡ looks_of old
-Settles (Err stop.CounterEnd) old new = (steps : List Step) → HasTaken old steps → IsSpent (ready_after steps) × (looks_of new ≡ looks_of old)
-Settles (Err stop.ScriptRead) old new = ⊥
-Settles (Err stop.AnswersRead) old new = ⊥
-Settles (Err stop.TooMany) old new = ⊥
+abbrev pub SettlesConflict : Result (Unit {0}) Stop → Kernel → Kernel → Type 0
+SettlesConflict (Ok x) old new = (steps : List Step) → HasTaken old steps → HasTaken new steps × (looks_of new ≡ looks_of old)
+SettlesConflict (Err (stop.No why)) old new = (steps : List Step) → HasTaken old steps → ⊥
+SettlesConflict (Err stop.CertificateRead) old new = ⊥
+SettlesConflict (Err stop.OutOfMemory) old new = (steps : List Step) → HasTaken old steps → looks_of new ≡ looks_of old
+SettlesConflict (Err stop.CounterEnd) old new = (steps : List Step) → HasTaken old steps → IsSpent (ready_after steps) × (looks_of new ≡ looks_of old)
+SettlesConflict (Err stop.ScriptRead) old new = ⊥
+SettlesConflict (Err stop.AnswersRead) old new = ⊥
+SettlesConflict (Err stop.TooMany) old new = ⊥

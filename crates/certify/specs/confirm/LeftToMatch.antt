@@ -1,7 +1,7 @@
 -- What is still to be matched from some place on: what a loop that confirms keeps true.
 use Rattle.std.specs.Prelude.{ℕ, ◌≡◌, List, [], ◌∷◌, ◌++◌}
 use Rattle.std.specs.List.{AllByRecursion}
-use Rattle.sat_base.specs.script.Script.{Literal, Command, Ending}
+use Rattle.sat_base.specs.script.Script.{Literal, Command, ScriptEnding}
 use Rattle.sat_base.specs.script.Judge.{Judge, accepted_of}
 use Rattle.sat_base.specs.steps.Steps.{Step}
 use Rattle.sat_base.specs.steps.StepText.{SpellsSteps}
@@ -21,7 +21,7 @@ pub record CertificateMeets (k : Checking) (earlier : List Step) (es : List Expe
 
 -- Command n comes next, in this state of the judge; what is pending belongs to the commands before it.
 pub record Left (k : Checking) (j : Judge) (n : ℕ) (earlier : List Step) (pending : List Expected)
-    (commands : List Command) (ending : Ending) (answers certificate : List ℕ) : Type 0 where
+    (commands : List Command) (ending : ScriptEnding) (answers certificate : List ℕ) : Type 0 where
   pub outcomes : List Outcome
   pub answered : answers ≡ answers_from n j commands ending outcomes
   pub one_each : OneEach (accepted_of j commands) outcomes
@@ -30,7 +30,7 @@ pub record Left (k : Checking) (j : Judge) (n : ℕ) (earlier : List Step) (pend
 
 -- The answer to an ask is still to be read, j being the state after its names came in. Of its names these are pending, and then its assumptions.
 pub record LeftOfAsk (k : Checking) (j : Judge) (n : ℕ) (earlier : List Step) (pending : List Expected) (ask : List Literal)
-    (commands : List Command) (ending : Ending) (answers certificate : List ℕ) : Type 0 where
+    (commands : List Command) (ending : ScriptEnding) (answers certificate : List ℕ) : Type 0 where
   pub outcome : Outcome
   pub tail : List ℕ
   pub answered : answers ≡ outcome_text outcome ++ tail

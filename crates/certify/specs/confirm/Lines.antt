@@ -10,7 +10,7 @@ use Rattle.sat_checker.specs.matching.Expected.{Outcome, Unsat}
 use Rattle.certify.specs.answers.Answers.{outcome_text}
 use Rattle.certify.specs.answers.AnswerForms.{IsInForm, named_literals}
 use Rattle.certify.specs.answers.AnswerReading.{first_line, second_line, outcome_of}
-use Rattle.certify.specs.script.Ahead.{Failed, Kept, source_in, waiting}
+use Rattle.certify.specs.script.Ahead.{FaultsAhead, NoReadFailedAhead, source_in, waiting}
 use Rattle.certify.specs.declared.script.ahead.Ahead.{Ahead}
 use Rattle.certify.specs.declared.answers.read.AnswerFault.{AnswerFault}
 use Rattle.certify.specs.declared.answers.read.AnswerFault.TheVariants as unread
@@ -29,19 +29,19 @@ abbrev pub HasNoLf : List ℕ → Type 0
 HasNoLf = AllByRecursion (λ byte. byte ≡ 10 → ⊥)
 
 -- one is the last
-pub record IsLine (text : List ℕ) : Type 0 where
+pub record IsOneLine (text : List ℕ) : Type 0 where
   pub front : List ℕ
   pub none : HasNoLf front
   pub whole : text ≡ front ++ 10 ∷ []
 
 -- so many bytes are a line, or all are and have no LF
 abbrev pub GoesUpToLine : Bool → List ℕ → ℕ → Type 0
-GoesUpToLine true bytes count = (count ≤ length bytes) × IsLine (take count bytes)
+GoesUpToLine true bytes count = (count ≤ length bytes) × IsOneLine (take count bytes)
 GoesUpToLine false bytes count = (count ≡ length bytes) × HasNoLf bytes
 
 -- up to the end of a line, or all
 abbrev pub EndsPart : Bool → List ℕ → List ℕ → Type 0
-EndsPart true text left = IsLine text
+EndsPart true text left = IsOneLine text
 EndsPart false text left = HasNoLf text × (left ≡ [])
 
 -- bytes that waited were moved to the line in hand
@@ -67,19 +67,19 @@ IsWrong P bytes = StartsNone P bytes × (bytes ≡ [] → ⊥)
 
 -- a line was read, or what is left without one, or bytes without LF with which none of these lines begins
 abbrev pub IsNextLine : (List ℕ → Type 0) → Source → Source → List ℕ → Type 0
-IsNextLine P a b line = (Passes a b line × IsLine line) ⊎ ((PassesToEnd a b line × HasNoLf line) ⊎ ((Passes a b line × HasNoLf line) × IsWrong P line))
+IsNextLine P a b line = (Passes a b line × IsOneLine line) ⊎ ((PassesToEnd a b line × HasNoLf line) ⊎ ((Passes a b line × HasNoLf line) × IsWrong P line))
 
 -- so it is, or the reader failed, or memory was wanted
 abbrev pub ReadsLine : (List ℕ → Type 0) → Result (Unit {0}) ReadError → Source → Source → List ℕ → Type 0
 ReadsLine P (Ok x) a b line = IsNextLine P a b line
-ReadsLine P (Err errors.Failed) a b line = Failed a b
-ReadsLine P (Err errors.OutOfMemory) a b line = Kept a b
+ReadsLine P (Err errors.Failed) a b line = FaultsAhead a b
+ReadsLine P (Err errors.OutOfMemory) a b line = NoReadFailedAhead a b
 
 -- the same of answers
 abbrev pub NextLine : (List ℕ → Type 0) → Result (Unit {0}) Stop → Source → Source → List ℕ → Type 0
 NextLine P (Ok x) a b line = IsNextLine P a b line
-NextLine P (Err stop.AnswersRead) a b line = Failed a b
-NextLine P (Err stop.OutOfMemory) a b line = Kept a b
+NextLine P (Err stop.AnswersRead) a b line = FaultsAhead a b
+NextLine P (Err stop.OutOfMemory) a b line = NoReadFailedAhead a b
 NextLine P (Err (stop.No why)) a b line = ⊥
 NextLine P (Err stop.CertificateRead) a b line = ⊥
 NextLine P (Err stop.CounterEnd) a b line = ⊥
@@ -91,9 +91,9 @@ abbrev pub answers_source : {A : Type 0} → (A → Reader) → A → Answers �
 answers_source seen answers s = source_in seen answers s.lines.ahead
 
 -- the line was taken, or isn't there
-abbrev pub TakesLine : List ℕ → List ℕ → List ℕ → Result (Unit {0}) Why → Type 0
-TakesLine old new line (Ok x) = old ≡ line ++ new
-TakesLine old new line (Err why) = (tail : List ℕ) → old ≡ line ++ tail → ⊥
+abbrev pub TakesDueLine : List ℕ → List ℕ → List ℕ → Result (Unit {0}) Why → Type 0
+TakesDueLine old new line (Ok x) = old ≡ line ++ new
+TakesDueLine old new line (Err why) = (tail : List ℕ) → old ≡ line ++ tail → ⊥
 
 -- what a call answers where no answer was read
 abbrev pub stop_after : AnswerFault → Stop

@@ -1,7 +1,7 @@
 -- When script, answers and certificate belong together.
 use Rattle.std.specs.Prelude.{◌≡◌, ℕ, true, false, List, [], ◌∷◌, ◌++◌}
 use Rattle.std.specs.List.{AllByRecursion}
-use Rattle.sat_base.specs.script.Script.{Command, Ask, Ending, InOrder}
+use Rattle.sat_base.specs.script.Script.{Command, Ask, ScriptEnding, InOrder}
 use Rattle.sat_base.specs.script.Judge.{start, accepted_of}
 use Rattle.sat_base.specs.steps.Steps.{Step}
 use Rattle.sat_base.specs.steps.StepText.{SpellsSteps}
@@ -49,7 +49,7 @@ pub record StepsMatch (k : Checking) (commands : List Command) (outcomes : List 
 
 -- How a script is read is a definition of its own: here are its commands and how it ends. Nothing is said of what stands in the
 -- certificate behind the steps.
-pub record MatchesCommands (k : Checking) (commands : List Command) (ending : Ending) (answers certificate : List ℕ) : Type 0 where
+pub record MatchesCommands (k : Checking) (commands : List Command) (ending : ScriptEnding) (answers certificate : List ℕ) : Type 0 where
   pub outcomes : List Outcome
   pub steps : List Step
   pub text : List ℕ
@@ -60,5 +60,5 @@ pub record MatchesCommands (k : Checking) (commands : List Command) (ending : En
   pub match : StepsMatch k commands outcomes steps
 
 -- the three texts
-abbrev pub Matches : Checking → (List ℕ → List Command × Ending) → List ℕ → List ℕ → List ℕ → Type 0
+abbrev pub Matches : Checking → (List ℕ → List Command × ScriptEnding) → List ℕ → List ℕ → List ℕ → Type 0
 Matches k reading script answers certificate = MatchesCommands k (reading script).0 (reading script).1 answers certificate

@@ -4,7 +4,7 @@ use Rattle.sat_base.specs.script.Script.{Hide, Witness, Sample}
 use Rattle.sat_base.specs.script.Judge.{Judge, Sampled, Witnessed, new_names, bring_all, accepted}
 use Rattle.sat_base.specs.steps.Steps.{Step}
 use Rattle.sat_checker.specs.matching.Expected.{Expected, NewName, NoName, bringing, hiding, setting}
-use Rattle.certify.specs.confirm.CertificatePlaces.{Leads, Bars}
+use Rattle.certify.specs.confirm.CertificatePlaces.{MeetsExactly, Bars}
 use Rattle.certify.specs.confirm.Views.{View}
 use Rattle.certify.specs.judge.Names.{NamesStand, taken}
 use Rattle.certify.specs.confirm.Awaiting.{CheckerIsAt}
@@ -17,7 +17,7 @@ use Rattle.certify.specs.declared.verdict.Why.{Why}
 pub record GoesOnTo (pending : List Expected) (after : NamedVars) (old : View) (earlier : List Step) (new : View) : Type 0 where
   pub later : List Step
   pub stands : CheckerIsAt new.checker after later
-  pub leads : Leads earlier old.rest pending later new.rest
+  pub leads : MeetsExactly earlier old.rest pending later new.rest
 
 -- what is pending is met, or can't be
 abbrev pub MeetsAll : List Expected → NamedVars → NamedVars → View → View → Result (Unit {0}) Why → Type 0
@@ -33,17 +33,17 @@ hidden_by OfWitness name = []
 hidden_by OfSample name = []
 
 -- what a command of this kind expects for one of its names
-abbrev pub naming : Kind → ℕ → Judge → List Expected
-naming kind name j = map NewName (new_names name j) ++ hidden_by kind name
+abbrev pub expected_naming : Kind → ℕ → Judge → List Expected
+expected_naming kind name j = map NewName (new_names name j) ++ hidden_by kind name
 
 -- it is met, or can't be
 abbrev pub MeetsName : Kind → ℕ → Names → NamedVars → NamedVars → View → View → Result (Unit {0}) Why → Type 0
-MeetsName kind name names before after old new r = (j : Judge) → NamesStand names j → MeetsAll (naming kind name j) before after old new r
+MeetsName kind name names before after old new r = (j : Judge) → NamesStand names j → MeetsAll (expected_naming kind name j) before after old new r
 
 -- what a command of this kind expects for names, from left to right
 abbrev pub naming_all : Kind → List ℕ → Judge → List Expected
 naming_all kind [] j = []
-naming_all kind (name ∷ names) j = naming kind name j ++ naming_all kind names (taken kind name j)
+naming_all kind (name ∷ names) j = expected_naming kind name j ++ naming_all kind names (taken kind name j)
 
 -- it is met, or can't be
 abbrev pub MeetsNames : Kind → List ℕ → Names → NamedVars → NamedVars → View → View → Result (Unit {0}) Why → Type 0

@@ -17,8 +17,8 @@ AreSpelt names (l ∷ ls) [] = ⊥
 AreSpelt names (l ∷ ls) (c ∷ cs) = Spells names l c × AreSpelt names ls cs
 
 -- the answer is whether it is so
-abbrev pub Tells : Bool → Type 0 → Type 0
-Tells answer IsSo = MatchBool answer IsSo (IsSo → ⊥)
+abbrev pub AnswersWhether : Bool → Type 0 → Type 0
+AnswersWhether answer IsSo = MatchBool answer IsSo (IsSo → ⊥)
 
 -- each literal of the ask stands in the line
 abbrev pub HasEach : List Literal → List Literal → Type 0

@@ -5,7 +5,7 @@ use Rattle.sat_base.specs.declared.device.whole.ReadError.{ReadError}
 use Rattle.sat_base.specs.declared.device.whole.ReadError.TheVariants as errors
 use Rattle.certify.specs.confirm.Streams.{Stream, Confirms, Covers, rest_in}
 use Rattle.certify.specs.confirm.Views.{View}
-use Rattle.certify.specs.script.Ahead.{Failed, Kept, TakesSome}
+use Rattle.certify.specs.script.Ahead.{FaultsAhead, NoReadFailedAhead, TakesSome}
 use Rattle.certify.specs.declared.confirm.stop.Stop.TheVariants as stop
 use Rattle.certify.specs.declared.confirm.stop.Stop.{Stop}
 use Rattle.certify.specs.declared.verdict.Why.{Why}
@@ -25,8 +25,8 @@ abbrev pub Replies : {A : Type 0} → Bool → Result A Stop → Source → Sour
 Replies goes (Ok x) a b P = TakesSome goes a b × ((total : List ℕ) → Covers b total → P (rest_in total a) (rest_in total b) (Ok x))
 Replies goes (Err (stop.No why)) a b P =
     TakesSome false a b × ((total : List ℕ) → Covers b total → P (rest_in total a) (rest_in total b) (Err why))
-Replies goes (Err stop.OutOfMemory) a b P = Kept a b
-Replies goes (Err stop.AnswersRead) a b P = Failed a b
+Replies goes (Err stop.OutOfMemory) a b P = NoReadFailedAhead a b
+Replies goes (Err stop.AnswersRead) a b P = FaultsAhead a b
 Replies goes (Err stop.CertificateRead) a b P = ⊥
 Replies goes (Err stop.CounterEnd) a b P = ⊥
 Replies goes (Err stop.ScriptRead) a b P = ⊥
@@ -43,11 +43,11 @@ Joins M goes (Ok x) a b s t P = TakesSome goes a b
     × ((total : List ℕ) → Covers b total → Confirms (Ok x) s t (P (rest_in total a) (rest_in total b)))
 Joins {A} M goes (Err (stop.No why)) a b s t P = TakesSome false a b
     × ((total : List ℕ) → Covers b total → Confirms {A = A} (Err (stop.No why)) s t (P (rest_in total a) (rest_in total b)))
-Joins {A} M goes (Err stop.OutOfMemory) a b s t P = Kept a b × Confirms {A = A} (Err stop.OutOfMemory) s t Any
-Joins {A} M goes (Err stop.CertificateRead) a b s t P = Kept a b × Confirms {A = A} (Err stop.CertificateRead) s t Any
-Joins {A} M goes (Err stop.CounterEnd) a b s t P = Kept a b × Confirms {A = A} (Err stop.CounterEnd) s t Any
-Joins {A} M goes (Err stop.AnswersRead) a b s t P = Failed a b × Confirms {A = A} (Err stop.OutOfMemory) s t Any
-Joins {A} M goes (Err stop.TooMany) a b s t P = Kept a b × Confirms {A = A} (Err stop.OutOfMemory) s t Any × M
+Joins {A} M goes (Err stop.OutOfMemory) a b s t P = NoReadFailedAhead a b × Confirms {A = A} (Err stop.OutOfMemory) s t Any
+Joins {A} M goes (Err stop.CertificateRead) a b s t P = NoReadFailedAhead a b × Confirms {A = A} (Err stop.CertificateRead) s t Any
+Joins {A} M goes (Err stop.CounterEnd) a b s t P = NoReadFailedAhead a b × Confirms {A = A} (Err stop.CounterEnd) s t Any
+Joins {A} M goes (Err stop.AnswersRead) a b s t P = FaultsAhead a b × Confirms {A = A} (Err stop.OutOfMemory) s t Any
+Joins {A} M goes (Err stop.TooMany) a b s t P = NoReadFailedAhead a b × Confirms {A = A} (Err stop.OutOfMemory) s t Any × M
 Joins M goes (Err stop.ScriptRead) a b s t P = ⊥
 
 -- it is so, or isn't

@@ -7,10 +7,10 @@ use Rattle.sat_base.specs.device.Reading.{Source, AtEnd, PassesBut, Passes, Faul
 use Rattle.sat_base.specs.declared.steps.reader.Buffers.{Buffers}
 use Rattle.sat_base.specs.declared.steps.reader.StepReader.{StepReader}
 use Rattle.sat_base.specs.device.Device.{Reader, most_reads, piece_size}
-use Rattle.sat_base.specs.steps.StepReading.{reader_name, reader_source, has_failed, step_in}
+use Rattle.sat_base.specs.steps.StepReading.{reader_name, reader_source, has_reader_failed, step_in}
 use Rattle.sat_base.specs.steps.Steps.{Step}
 use Rattle.certify.specs.confirm.Views.{View}
-use Rattle.certify.specs.confirm.Walks.{walks_if, Tries, RunsOut}
+use Rattle.certify.specs.confirm.Walks.{walks_if, FeedsSomeSteps, RunsOut}
 use Rattle.sat_checker.specs.declared.kernel.Kernel.{Kernel}
 use Rattle.certify.specs.declared.confirm.stop.Stop.{Stop}
 use Rattle.certify.specs.declared.confirm.stop.Stop.TheVariants as stop
@@ -29,7 +29,7 @@ stream_of seen r checker = record { source = reader_source seen r; checker = che
 
 -- a reader of steps that goes on: it hasn't failed, and isn't at its end
 pub record StepsGoOn {R : Type 0} (seen : R → Reader) (r : StepReader R Buffers) : Type 0 where
-  pub well : has_failed r ≡ false
+  pub well : has_reader_failed r ≡ false
   pub open_yet : AtEnd (reader_source seen r) → ⊥
   pub bound : (reader_source seen r).reads ≤ most_reads
 
@@ -64,28 +64,28 @@ pub record Covers (s : Source) (total : List ℕ) : Type 0 where
   pub none : AtEnd s → later ≡ []
 
 -- whatever would follow, this is so of what confirming saw and sees
-abbrev pub Over : Stream → Stream → (View → View → Type 0) → Type 0
-Over old new P = (total : List ℕ) → Covers new.source total → P (seen_in total old) (seen_in total new)
+abbrev pub HoldsWhateverFollows : Stream → Stream → (View → View → Type 0) → Type 0
+HoldsWhateverFollows old new P = (total : List ℕ) → Covers new.source total → P (seen_in total old) (seen_in total new)
 
 -- some bytes were taken
-abbrev pub Moves : Stream → Stream → Type 0
-Moves old new = (text : List ℕ) × Passes old.source new.source text
+abbrev pub TakesStreamBytes : Stream → Stream → Type 0
+TakesStreamBytes old new = (text : List ℕ) × Passes old.source new.source text
 
 -- some bytes were taken, and then perhaps the end was found
-abbrev pub Halts : Stream → Stream → Type 0
-Halts old new = ((text : List ℕ) × PassesBut 1 old.source new.source text) × (AtEnd new.source → IsAtEnd new.source.reader.to_come)
+abbrev pub TakesBytesOrEnds : Stream → Stream → Type 0
+TakesBytesOrEnds old new = ((text : List ℕ) × PassesBut 1 old.source new.source text) × (AtEnd new.source → IsAtEnd new.source.reader.to_come)
 
 -- A call goes on: this is so of what confirming saw and sees, and the checker was fed the steps between them, but for the last one
 -- where that is still to be fed.
 abbrev pub Going : Bool → Stream → Stream → (View → View → Type 0) → Type 0
-Going fed old new P = Moves old new × Over old new P × Over old new (walks_if fed)
+Going fed old new P = TakesStreamBytes old new × HoldsWhateverFollows old new P × HoldsWhateverFollows old new (walks_if fed)
 
 -- It stops, by no other text; P says what a no makes of what confirming saw and sees. Whatever stopped it, the checker took the looks of what it was fed.
 abbrev pub Failing : Stop → Stream → Stream → (View → View → Why → Type 0) → Type 0
-Failing (stop.No why) old new P = Halts old new × Over old new (λ a b. P a b why) × Over old new Tries
-Failing stop.CertificateRead old new P = ((text : List ℕ) × Faults old.source new.source text) × Over old new Tries
-Failing stop.OutOfMemory old new P = Halts old new × Over old new Tries
-Failing stop.CounterEnd old new P = Halts old new × Over old new RunsOut × Over old new Tries
+Failing (stop.No why) old new P = TakesBytesOrEnds old new × HoldsWhateverFollows old new (λ a b. P a b why) × HoldsWhateverFollows old new FeedsSomeSteps
+Failing stop.CertificateRead old new P = ((text : List ℕ) × Faults old.source new.source text) × HoldsWhateverFollows old new FeedsSomeSteps
+Failing stop.OutOfMemory old new P = TakesBytesOrEnds old new × HoldsWhateverFollows old new FeedsSomeSteps
+Failing stop.CounterEnd old new P = TakesBytesOrEnds old new × HoldsWhateverFollows old new RunsOut × HoldsWhateverFollows old new FeedsSomeSteps
 Failing stop.ScriptRead old new P = ⊥
 Failing stop.AnswersRead old new P = ⊥
 Failing stop.TooMany old new P = ⊥

@@ -9,5 +9,5 @@ variable_in names zero = None
 variable_in names (suc index) = value_at None names.variables index
 
 -- the name has this variable, or none, and every other name has what it had
-pub record IsPut (old new : NamedVars) (name : ℕ) (value : Option ℕ) : Type 0 where
+pub record PutsVariable (old new : NamedVars) (name : ℕ) (value : Option ℕ) : Type 0 where
   pub each : (m : ℕ) → variable_in new m ≡ (if name == m then value else variable_in old m)

@@ -16,13 +16,13 @@ use Rattle.certify.specs.declared.verdict.Verdict.{Verdict}
 use Rattle.certify.specs.declared.verdict.Verdict.TheVariants.{Yes}
 
 -- the reader gave a text of which this is so, whatever would follow
-abbrev pub Given : Reader × Reader → (List ℕ → Type 0) → Type 0
-Given r IsSo = GaveEnough r.0 r.1 IsSo
+abbrev pub GaveTextWith : Reader × Reader → (List ℕ → Type 0) → Type 0
+GaveTextWith r IsSo = GaveEnough r.0 r.1 IsSo
 
 -- yes says exactly that the texts that were given match
 abbrev pub Exact : Reader × Reader → Reader × Reader → Reader × Reader → Verdict → Type 0
 Exact script answers certificate v =
-    Given script (λ s. Given answers (λ a. Given certificate (λ c. (v ≡ Yes) ↔ Matches the_checking reading s a c)))
+    GaveTextWith script (λ s. GaveTextWith answers (λ a. GaveTextWith certificate (λ c. (v ≡ Yes) ↔ Matches the_checking reading s a c)))
 
 -- the same of what three readers were and are
 abbrev pub IsExact : {S A C E : Type 0} → Result Verdict E → (S → Reader) → (A → Reader) → (C → Reader)
@@ -41,8 +41,8 @@ pub record AreRightAnswers (script answers : List ℕ) : Type 0 where
   pub right : AnswersAreRight (reading script).0 outcomes
 
 -- a yes says that the answers that were given are right
-abbrev pub IsSound : Reader × Reader → Reader × Reader → Verdict → Type 0
-IsSound script answers v = v ≡ Yes → Given script (λ s. Given answers (AreRightAnswers s))
+abbrev pub IsSoundVerdict : Reader × Reader → Reader × Reader → Verdict → Type 0
+IsSoundVerdict script answers v = v ≡ Yes → GaveTextWith script (λ s. GaveTextWith answers (AreRightAnswers s))
 
 -- The reader gave a text of n bytes, and steps from its front lead from one count of looks up to the other, whatever would follow: with
 -- at most 16 (n + 1)^2 looks.
@@ -61,7 +61,7 @@ numbers (commands, Malformed) = length commands + 1
 -- what `confirm` promises of its answer, but for the looks
 pub record Promised (r : Result Verdict ConfirmFault) (script answers certificate : Reader × Reader) : Type 0 where
   pub exact : IfOk r (Exact script answers certificate)
-  pub sound : IfOk r (IsSound script answers)
+  pub sound : IfOk r (IsSoundVerdict script answers)
   pub script_read : r ≡ Err fault.ScriptRead → ReadFails script.0 script.1
   pub answers_read : r ≡ Err fault.AnswersRead → ReadFails answers.0 answers.1
   pub certificate_read : r ≡ Err fault.CertificateRead → ReadFails certificate.0 certificate.1

@@ -33,29 +33,29 @@ pub data Spends : List Step → List ℕ → Type 0 where
       → Spends earlier bytes
 
 -- The checker was fed steps from the front of the bytes, and these are left: what can be reached from there can be from the beginning.
-pub record Walked (old : Kernel) (bytes : List ℕ) (new : Kernel) (rest : List ℕ) (earlier : List Step) : Type 0 where
+pub record IsFedFront (old : Kernel) (bytes : List ℕ) (new : Kernel) (rest : List ℕ) (earlier : List Step) : Type 0 where
   pub later : List Step
   pub taken : HasTaken new later
   pub reaches : (looks : ℕ) → LooksReach later rest (looks_of new) looks → LooksReach earlier bytes (looks_of old) looks
   pub spends : Spends later rest → Spends earlier bytes
 
 -- it was fed all steps between two views
-abbrev pub Walks : View → View → Type 0
-Walks old new = (earlier : List Step) → HasTaken old.checker earlier → Walked old.checker old.rest new.checker new.rest earlier
+abbrev pub FeedsAllSteps : View → View → Type 0
+FeedsAllSteps old new = (earlier : List Step) → HasTaken old.checker earlier → IsFedFront old.checker old.rest new.checker new.rest earlier
 
 -- it was fed all but the last one
 abbrev pub WalksBefore : View → View → Type 0
 WalksBefore old new = (text : List ℕ) × SpellsStep new.step text
-    × ((earlier : List Step) → HasTaken old.checker earlier → Walked old.checker old.rest new.checker (text ++ new.rest) earlier)
+    × ((earlier : List Step) → HasTaken old.checker earlier → IsFedFront old.checker old.rest new.checker (text ++ new.rest) earlier)
 
 -- it was fed the last one too, or not
 abbrev pub walks_if : Bool → View → View → Type 0
-walks_if true old new = Walks old new
+walks_if true old new = FeedsAllSteps old new
 walks_if false old new = WalksBefore old new
 
 -- it was fed some steps, the last of which it perhaps didn't take
-abbrev pub Tries : View → View → Type 0
-Tries old new = (earlier : List Step) → HasTaken old.checker earlier → LooksReach earlier old.rest (looks_of old.checker) (looks_of new.checker)
+abbrev pub FeedsSomeSteps : View → View → Type 0
+FeedsSomeSteps old new = (earlier : List Step) → HasTaken old.checker earlier → LooksReach earlier old.rest (looks_of old.checker) (looks_of new.checker)
 
 -- a number was at its end
 abbrev pub RunsOut : View → View → Type 0

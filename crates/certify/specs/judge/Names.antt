@@ -69,8 +69,8 @@ refusal_said None = None
 refusal_said (Some refusal) = Some (refusal_in refusal)
 
 -- why a command is refused, if it is
-abbrev pub Judges : Option CodeRefusal → Names → Lent → Type 0
-Judges refusal names lent = (j : Judge) (c : Command) → NamesStand names j → IsLent lent c → refusal_said refusal ≡ refusal_of j c
+abbrev pub TellsRefusal : Option CodeRefusal → Names → Lent → Type 0
+TellsRefusal refusal names lent = (j : Judge) (c : Command) → NamesStand names j → IsLent lent c → refusal_said refusal ≡ refusal_of j c
 
 -- a command is refused for the limit if a name of it is past that
 abbrev pub limit_refusal : Bool → Option CodeRefusal

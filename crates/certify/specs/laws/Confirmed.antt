@@ -1,6 +1,6 @@
 -- What was certified is confirmed.
 use Rattle.std.specs.Prelude.{ℕ, None, List, [], reverse}
-use Rattle.sat_base.specs.script.Script.{Command, Ending}
+use Rattle.sat_base.specs.script.Script.{Command, ScriptEnding}
 use Rattle.sat_base.specs.script.Judge.{start, accepted_of}
 use Rattle.sat_base.specs.steps.Steps.{Step}
 use Rattle.sat_base.specs.steps.StepText.{SpellsSteps}
@@ -16,7 +16,7 @@ use Rattle.certify.specs.run.Certifies.{Certifies}
 -- newest stands first; the certificate is their text.
 abbrev pub CertifiedMatches : Type 0
 CertifiedMatches =
-    (reading : List ℕ → List Command × Ending) (script certificate : List ℕ) (outcomes : List Outcome) (steps : List Step) (counts : List ℕ)
+    (reading : List ℕ → List Command × ScriptEnding) (script certificate : List ℕ) (outcomes : List Outcome) (steps : List Step) (counts : List ℕ)
     → AnswersAreRight (reading script).0 outcomes
     → AcceptsAll steps
     → Certifies the_checking steps None [] (expected start (accepted_of start (reading script).0) outcomes) counts

@@ -3,7 +3,7 @@ use Rattle.std.specs.Prelude.{ℕ, ◌≤◌, ◌≡◌, ◌↔◌, true, false,
 use Rattle.std.specs.List.{AllByRecursion}
 use Rattle.sat_base.specs.values.Literals.{largest}
 use Rattle.sat_base.specs.values.Clauses.{Valuation, EachHolds}
-use Rattle.sat_base.specs.script.Script.{Literal, Command, Ask, Ending, Among, names_of}
+use Rattle.sat_base.specs.script.Script.{Literal, Command, Ask, ScriptEnding, Among, names_of}
 use Rattle.sat_base.specs.script.Judge.{Judge, IsRightModel, IsRightCore, with_clause, accepted, accepted_of, start}
 use Rattle.sat_base.specs.steps.Steps.{Step}
 use Rattle.certify.specs.answers.Answers.{answers_text}
@@ -47,7 +47,7 @@ HasPrintableNames Unknown = Unit {0}
 -- different outcomes give different texts
 abbrev pub TextsTellOutcomes : Type 0
 TextsTellOutcomes =
-    (commands : List Command) (ending : Ending) (vs ws : List Outcome)
+    (commands : List Command) (ending : ScriptEnding) (vs ws : List Outcome)
     → OneEach (accepted_of start commands) vs → OneEach (accepted_of start commands) ws
     → AllByRecursion HasPrintableNames vs → AllByRecursion HasPrintableNames ws
     → answers_text commands ending vs ≡ answers_text commands ending ws
@@ -61,7 +61,7 @@ MatchingIsRight = (commands : List Command) (outcomes : List Outcome) (steps : L
 -- the same of three texts, however a script is read: the answers are the text of right outcomes
 abbrev pub TextsThatMatchAreRight : Type 0
 TextsThatMatchAreRight =
-    (reading : List ℕ → List Command × Ending) (script answers certificate : List ℕ)
+    (reading : List ℕ → List Command × ScriptEnding) (script answers certificate : List ℕ)
     → Matches the_checking reading script answers certificate
     → (outcomes : List Outcome) × (answers ≡ answers_text (reading script).0 (reading script).1 outcomes)
     × AnswersAreRight (reading script).0 outcomes

@@ -1,12 +1,12 @@
 -- What the program prints.
 use Rattle.std.specs.Prelude.{ℕ, ◌≡◌, ◌↔◌, true, Bool, false, None, List, [], ◌∷◌, ◌++◌, codes, decimal}
-use Rattle.sat_base.specs.device.Device.{Reader, Writer, GaveEnough, Takes}
-use Rattle.sat_base.specs.script.Script.{Ending, Clean, Malformed}
+use Rattle.sat_base.specs.device.Device.{Reader, Writer, GaveEnough, WriterTakes}
+use Rattle.sat_base.specs.script.Script.{ScriptEnding, Clean, Malformed}
 use Rattle.sat_checker.specs.matching.ProofChecking.{the_checking}
 use Rattle.certify.specs.confirm.Matches.{Matches}
 use Rattle.certify.specs.confirm.VerdictPromises.{Exact}
 use Rattle.sat_base.specs.script.Language.{reading}
-use Rattle.certify.specs.run.FinishedRun.{Answers, TookCertificate}
+use Rattle.certify.specs.run.FinishedRun.{AnswersRightly, TookCertificate}
 use Rattle.certify.specs.run.StepsLeft.{largest_count}
 use Rattle.certify.specs.declared.summary.Summary.{Summary}
 use Rattle.certify.specs.declared.verdict.Verdict.{Verdict}
@@ -85,13 +85,13 @@ abbrev pub SaysExactly : Verdict → List ℕ → List ℕ → List ℕ → Type
 SaysExactly v script answers certificate = (v ≡ Yes) ↔ Matches the_checking reading script answers certificate
 
 -- does a fault of form end the script?
-abbrev pub is_malformed : Ending → Bool
+abbrev pub is_malformed : ScriptEnding → Bool
 is_malformed Clean = false
 is_malformed Malformed = true
 
 -- a run with all steps allowed answers a text so: each answer is right, and none is unknown but where all steps were spent
 abbrev pub IsAnswered : List ℕ → List ℕ → Type 0
-IsAnswered text answers = (summary : Summary) × Answers text largest_count summary answers
+IsAnswered text answers = (summary : Summary) × AnswersRightly text largest_count summary answers
 
 -- what a run wrote for a text in memory: right answers, and a certificate that matches
 pub record IsWritten (text : List ℕ) (w : Written) : Type 0 where
@@ -103,7 +103,7 @@ pub record IsWritten (text : List ℕ) (w : Written) : Type 0 where
 pub record Prints (status : ℕ) (text : List ℕ) (old new : Writer) : Type 0 where
   pub answers : List ℕ
   pub answered : IsAnswered text answers
-  pub printed : Takes old new (answers ++ verdict_text Yes)
+  pub printed : WriterTakes old new (answers ++ verdict_text Yes)
   pub flushed : new.flushed ≡ true
   pub done : (status ≡ 0) ↔ (is_malformed (reading text).1 ≡ false)
 
@@ -113,7 +113,7 @@ PrintsVerdict status input output = GaveEnough input.0 input.1 (λ text. Prints 
 
 -- A line was printed. The status is 0 exactly where this is so.
 pub record PrintsLine (status : ℕ) (line : List ℕ) (IsSo : Type 0) (old new : Writer) : Type 0 where
-  pub printed : Takes old new line
+  pub printed : WriterTakes old new line
   pub flushed : new.flushed ≡ true
   pub done : (status ≡ 0) ↔ IsSo
 

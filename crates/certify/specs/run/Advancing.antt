@@ -35,12 +35,12 @@ pub record LeavesOpen (f : Stored) (others : List ℕ) (literal : ℕ) : Type 0 
   pub open_still : (reached : List ℕ) → PropagatesTo f (supposed f others) reached → IsOpenStill f literal reached
 
 -- the others of some literal of the clause leave that one open
-abbrev pub Advances : Stored → List ℕ → Type 0
-Advances f clause = (literal : ℕ) × (is_among clause literal ≡ true) × LeavesOpen f (others_of literal clause) literal
+abbrev pub AdvancesStored : Stored → List ℕ → Type 0
+AdvancesStored f clause = (literal : ℕ) × (is_among clause literal ≡ true) × LeavesOpen f (others_of literal clause) literal
 
 -- the step derives a clause that advances
 abbrev pub IsAdvancing : Stored → Step → Type 0
-IsAdvancing f (AtClause redundant clause hashes) = Advances f clause
+IsAdvancing f (AtClause redundant clause hashes) = AdvancesStored f clause
 IsAdvancing f step = ⊥
 
 -- exactly so many of these steps are derived clauses that advance, each behind the steps before it

@@ -1,7 +1,7 @@
 -- How an ask is looked into, before its answer is written.
 use Rattle.std.specs.Prelude.{ℕ, ◌≡◌, List}
 use Rattle.sat_base.specs.device.Device.{Writer}
-use Rattle.sat_solver.specs.solver.Adding.{Assumed}
+use Rattle.sat_solver.specs.solver.Adding.{ReplacesAssumptions}
 use Rattle.certify.specs.answers.Answers.{outcome_text}
 use Rattle.certify.specs.declared.summary.AskReport.{AskReport}
 use Rattle.certify.specs.run.SolverCalls.{Searched}
@@ -11,7 +11,7 @@ use Rattle.certify.specs.run.Quiet.{Solver}
 -- its literals were assumed, an answer was searched, which is right, and this is its text
 pub record Sought {C : Type 0} (seen : C → Writer) (budget : ℕ) (report : AskReport) (user text : List ℕ) (old new : Solver C) : Type 0 where
   pub mid : Solver C
-  pub opened : Assumed seen old mid user
+  pub opened : ReplacesAssumptions seen old mid user
   pub searched : Searched seen budget report mid new
   pub right : IsToldRight report.answer new
   pub text_is : text ≡ outcome_text (outcome_for report.answer new)

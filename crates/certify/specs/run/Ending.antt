@@ -1,14 +1,14 @@
 -- How a run ends.
 use Rattle.std.specs.Prelude.{◌≡◌, ℕ, true, Option, Some, [], ◌∷◌, Result, Ok, Err}
-use Rattle.sat_base.specs.device.Device.{Writer, Takes}
+use Rattle.sat_base.specs.device.Device.{Writer, WriterTakes}
 use Rattle.sat_base.specs.steps.Steps.{End}
 use Rattle.sat_base.specs.device.Sink.{empty_sink}
 use Rattle.sat_solver.specs.declared.proof.format.ProofFormat.TheVariants.{Varisat}
 use Rattle.sat_solver.specs.proof.Counting.{start as uncounted}
-use Rattle.sat_solver.specs.session.Making.{Took, Broke}
-use Rattle.sat_solver.specs.proof.ProofView.{Closed, Open, Gives, TakesAll, is_open, target_of}
+use Rattle.sat_solver.specs.session.Making.{ComesBySteps, BreaksEmitting}
+use Rattle.sat_solver.specs.proof.ProofView.{Closed, Open, GivesWriter, TakesAll, is_open, target_of}
 use Rattle.sat_solver.specs.session.Session.{MayAll}
-use Rattle.sat_solver.specs.solver.Fronts.{Went}
+use Rattle.sat_solver.specs.solver.Fronts.{ReachesBySteps}
 use Rattle.sat_solver.specs.solver.Whole.{steps_in}
 use Rattle.certify.specs.Devices.{NoneFailed, OneFailed}
 use Rattle.certify.specs.declared.fault.RunFault.{RunFault}
@@ -35,26 +35,26 @@ pub record ClosedBy {C : Type 0} (seen : C → Writer) (s : Solver C) (given : C
 pub record GivenBack {C : Type 0} (seen : C → Writer) (Goes : (C → Writer) → Proof C → Proof C → Type 0) (s : Solver C) (given : C) : Type 0 where
   pub proof : Proof C
   pub goes : Goes seen (proof_in s) proof
-  pub gives : Gives (target_of seen proof) (Some (seen given))
+  pub gives : GivesWriter (target_of seen proof) (Some (seen given))
 
 -- Where its certificate was opened before any step, and it has come from there, also to a fault: the writer that is given back took a front
 -- of the text of accepted steps.
 pub record GivesFront {C : Type 0} (seen : C → Writer) (s : Solver C) (given : C) : Type 0 where
   pub front : (opened : Solver C) (from : Writer) → target_of seen (proof_in opened) ≡ Open Varisat uncounted (empty_sink from)
-      → steps_in opened ≡ [] → Went seen opened s → TookSteps (from, seen given)
+      → steps_in opened ≡ [] → ReachesBySteps seen opened s → TookSteps (from, seen given)
 
 -- the certificate was ended, or not, for which no store is to blame and no counter
-abbrev pub Closes : {C : Type 0} → (C → Writer) → Result (Unit {0}) RunFault → Solver C → C → Type 0
-Closes seen (Ok x) s given = ClosedBy seen s given
-Closes seen (Err e) s given = FaultSays e ⊥ (GivenBack seen Broke s given) (GivenBack seen Took s given) × IsCaused e ⊥ ⊥
+abbrev pub EndsCertificate : {C : Type 0} → (C → Writer) → Result (Unit {0}) RunFault → Solver C → C → Type 0
+EndsCertificate seen (Ok x) s given = ClosedBy seen s given
+EndsCertificate seen (Err e) s given = FaultSays e ⊥ (GivenBack seen BreaksEmitting s given) (GivenBack seen ComesBySteps s given) × IsCaused e ⊥ ⊥
 
 -- and then the answers, whose writer was flushed, and took nothing
 abbrev pub FinishesRun : {C : Type 0} → (C → Writer) → Result (Unit {0}) RunFault → Solver C → C → Writer → Writer → Type 0
-FinishesRun seen (Ok x) s given before after = ClosedBy seen s given × Takes before after [] × (after.flushed ≡ true)
+FinishesRun seen (Ok x) s given before after = ClosedBy seen s given × WriterTakes before after [] × (after.flushed ≡ true)
 FinishesRun seen (Err e) s given before after = FaultSays e
     (OneFailed before after × ClosedBy seen s given)
-    (NoneFailed before after × GivenBack seen Broke s given)
-    (NoneFailed before after × GivenBack seen Took s given)
+    (NoneFailed before after × GivenBack seen BreaksEmitting s given)
+    (NoneFailed before after × GivenBack seen ComesBySteps s given)
     × TookBytes before after []
     × IsCaused e ⊥ ⊥
 
@@ -70,4 +70,4 @@ abbrev pub EndsRun : {C : Type 0} → (C → Writer) → Result (Option ℕ) Run
 EndsRun seen (Ok at) (Ok summary) s given before after = FinishesRun seen (Ok tt) s.solver given before after × SumsUp at s summary
 EndsRun seen (Ok at) (Err e) s given before after = FinishesRun seen (Err e) s.solver given before after
 EndsRun seen (Err e) r s given before after =
-    (r ≡ Err e) × (after ≡ before) × Gives (target_of seen (proof_in s.solver)) (Some (seen given))
+    (r ≡ Err e) × (after ≡ before) × GivesWriter (target_of seen (proof_in s.solver)) (Some (seen given))

@@ -1,8 +1,8 @@
 -- What a finished run has done, and why one wasn't finished.
 use Rattle.std.specs.Prelude.{ℕ, ◌+◌, ◌*◌, ◌^◌, ◌<◌, ◌≡◌, ◌≤◌, true, false, Option, Some, None, is_some, List, [], ◌∷◌, map, length, reverse, Result, IfOk, if◌then◌else◌}
 use Rattle.std.specs.List.{AllByRecursion}
-use Rattle.sat_base.specs.device.Device.{Reader, Writer, GaveEnough, Takes}
-use Rattle.sat_base.specs.script.Script.{Command, Clause, Ask, Hide, Witness, Sample, Ending, Clean, Malformed}
+use Rattle.sat_base.specs.device.Device.{Reader, Writer, GaveEnough, WriterTakes}
+use Rattle.sat_base.specs.script.Script.{Command, Clause, Ask, Hide, Witness, Sample, ScriptEnding, Clean, Malformed}
 use Rattle.sat_base.specs.script.Judge.{Judge, refusal_of, after_command, accepted, accepted_of, start}
 use Rattle.sat_base.specs.steps.Steps.{Step, End}
 use Rattle.sat_base.specs.steps.StepText.{SpellsSteps}
@@ -34,7 +34,7 @@ refused_count j (command ∷ commands) =
     (if is_some (refusal_of j command) then 1 else 0) + refused_count (after_command command j) commands
 
 -- the number of the command at which the text is malformed
-abbrev pub malformed_at : ℕ → Ending → Option ℕ
+abbrev pub malformed_at : ℕ → ScriptEnding → Option ℕ
 malformed_at number Clean = None
 malformed_at number Malformed = Some number
 
@@ -45,7 +45,7 @@ answer_kind (Unsat core) = kind.Unsat
 answer_kind Unknown = kind.Unknown
 
 -- An ask takes no more steps than are left, and has no answer only where it took all of them.
-pub record IsSpent (budget before : ℕ) (report : AskReport) : Type 0 where
+pub record SpendsWithinBudget (budget before : ℕ) (report : AskReport) : Type 0 where
   pub within : report.steps ≤ steps_left budget before
   pub unknown : report.answer ≡ kind.Unknown → report.steps ≡ steps_left budget before
 
@@ -73,10 +73,10 @@ AreSpent budget before [] [] = Unit {0}
 AreSpent budget before [] (report ∷ reports) = ⊥
 AreSpent budget before (n ∷ ns) [] = ⊥
 AreSpent budget before (n ∷ ns) (report ∷ reports) =
-    IsSpent budget before report × IsBounded n budget before report × AreSpent budget (before + report.steps) ns reports
+    SpendsWithinBudget budget before report × IsBounded n budget before report × AreSpent budget (before + report.steps) ns reports
 
 -- What a finished run says of a text, and answered to it: one outcome for each accepted ask, each right, and their text.
-pub record Answers (text : List ℕ) (budget : ℕ) (summary : Summary) (answered : List ℕ) : Type 0 where
+pub record AnswersRightly (text : List ℕ) (budget : ℕ) (summary : Summary) (answered : List ℕ) : Type 0 where
   pub outcomes : List Outcome
   pub right : AnswersAreRight (reading text).0 outcomes
   pub answers : answered ≡ answers_text (reading text).0 (reading text).1 outcomes
@@ -91,7 +91,7 @@ pub record Answers (text : List ℕ) (budget : ℕ) (summary : Summary) (answere
 -- these outcomes, which took the steps that the summary reports. Each is accepted in its turn. The list has the newest first.
 -- Beside them it has such as the solver makes for commands and asks, in their places, and widths for their hashes.
 pub record Backs (text : List ℕ) (budget : ℕ) (summary : Summary) (answered certified : List ℕ) : Type 0 where
-  pub is_answered : Answers text budget summary answered
+  pub is_answered : AnswersRightly text budget summary answered
   pub steps : List Step
   pub certificate : SpellsSteps (reverse steps) certified
   pub accepted : AcceptsAll steps
@@ -110,15 +110,15 @@ pub record Backs (text : List ℕ) (budget : ℕ) (summary : Summary) (answered 
 -- WHAT THREE DEVICES SHOW OF IT
 
 -- the answers' writer took the answers to the text that was given, whatever would follow
-abbrev pub Answered : ℕ → Summary → Reader × Reader → Writer × Writer → Type 0
-Answered budget summary script answers =
+abbrev pub WritesAnswers : ℕ → Summary → Reader × Reader → Writer × Writer → Type 0
+WritesAnswers budget summary script answers =
     GaveEnough script.0 script.1 (λ text. (answered : List ℕ)
-    × Takes answers.0 answers.1 answered × Answers text budget summary answered)
+    × WriterTakes answers.0 answers.1 answered × AnswersRightly text budget summary answered)
 
 -- and the certificate's writer took the certificate
 abbrev pub TookCertificate : ℕ → Summary → Reader × Reader → Writer × Writer → Writer × Writer → Type 0
 TookCertificate budget summary script answers certificate = GaveEnough script.0 script.1 (λ text. (answered : List ℕ) × (certified : List ℕ)
-    × Takes answers.0 answers.1 answered × Takes certificate.0 certificate.1 certified × Backs text budget summary answered certified)
+    × WriterTakes answers.0 answers.1 answered × WriterTakes certificate.0 certificate.1 certified × Backs text budget summary answered certified)
 
 -- the same of what three devices were and are
 abbrev pub Backed : {S A C : Type 0} → Result Summary RunFault → ℕ → (S → Reader) → (A → Writer) → (C → Writer)

@@ -4,7 +4,7 @@ use Rattle.sat_base.specs.steps.Steps.{Step, Assumptions}
 use Rattle.sat_checker.specs.matching.Expected.{Outcome, Unknown}
 use Rattle.sat_checker.specs.matching.ProofChecking.{the_checking}
 use Rattle.certify.specs.run.Advancing.{AdvanceTimes, AreUnordered}
-use Rattle.certify.specs.run.Stretches.{Learns}
+use Rattle.certify.specs.run.Stretches.{LearnsEachRound}
 
 -- how often something is assumed: twice for each ask, its literals and, at its end, none
 abbrev pub assumed_times : List Step → ℕ
@@ -24,7 +24,7 @@ pub record LearnsIn (steps : List Step) (asks : ℕ) (o : Outcome) (rounds : ℕ
   pub only : assumed_times middle ≡ 0
   pub learned : ℕ
   pub times : AdvanceTimes (Assumptions ask ∷ before) middle learned
-  pub counts : Learns (the_checking.unsat (Assumptions ask ∷ before)) o rounds learned
+  pub counts : LearnsEachRound (the_checking.unsat (Assumptions ask ∷ before)) o rounds learned
   pub unordered : o ≡ Unknown → AreUnordered middle
 
 -- the same of each ask, which took so many rounds; so many stand before all of these

@@ -10,7 +10,7 @@ use Rattle.sat_solver.specs.variables.Calls.{Agree}
 use Rattle.sat_solver.specs.variables.Coming.{MayHide, MaySet}
 use Rattle.sat_checker.specs.matching.Expected.{Expected, hiding, setting}
 use Rattle.sat_checker.specs.matching.Bridge.{Live}
-use Rattle.sat_solver.specs.session.Making.{Took}
+use Rattle.sat_solver.specs.session.Making.{ComesBySteps}
 use Rattle.sat_solver.specs.solver.Naming.{ChangesMode}
 use Rattle.sat_solver.specs.solver.Whole.{steps_in}
 use Rattle.certify.specs.declared.judge.NameState.{NameState}
@@ -45,7 +45,7 @@ ChangesName seen r old new user st =
 -- a command that is no ask was carried out
 pub record Obeyed {C : Type 0} (seen : C → Writer) (c : Command) (old new : Solver C) : Type 0 where
   pub ready : IsReady new
-  pub took : Took seen (proof_in old) (proof_in new)
+  pub took : ComesBySteps seen (proof_in old) (proof_in new)
   pub assumed : new.assumed ≡ old.assumed
   pub clock : new.clock ≡ old.clock
   pub keeps : (j : Judge) (live : Live) → Agree old.names (steps_in old) j live

@@ -1,6 +1,6 @@
 -- What a run does to its three devices.
 use Rattle.std.specs.Prelude.{ℕ, ◌+◌, ◌≡◌, ◌≤◌, true, List, Result, Ok, Err}
-use Rattle.sat_base.specs.device.Device.{Reader, Writer, GaveEnough, ReadFails, Takes, most_reads}
+use Rattle.sat_base.specs.device.Device.{Reader, Writer, GaveEnough, ReadFails, WriterTakes, most_reads}
 use Rattle.certify.specs.Devices.{NoneFailed, OneFailed}
 use Rattle.certify.specs.declared.fault.RunFault.{RunFault}
 use Rattle.certify.specs.declared.summary.Summary.{Summary}
@@ -8,11 +8,11 @@ use Rattle.certify.specs.run.FinishedRun.{Backs}
 use Rattle.certify.specs.run.ServedScript.{RunFaultSays}
 
 -- what was written to a text, with its certificate
-pub record Wrote (text : List ℕ) (budget : ℕ) (summary : Summary) (answers certificate : Writer × Writer) : Type 0 where
+pub record WritesRun (text : List ℕ) (budget : ℕ) (summary : Summary) (answers certificate : Writer × Writer) : Type 0 where
   pub answered : List ℕ
   pub certified : List ℕ
-  pub tells : Takes answers.0 answers.1 answered
-  pub certifies : Takes certificate.0 certificate.1 certified
+  pub tells : WriterTakes answers.0 answers.1 answered
+  pub certifies : WriterTakes certificate.0 certificate.1 certified
   pub is_backed : Backs text budget summary answered certified
 
 -- no read failed
@@ -21,7 +21,7 @@ NoneUnread script = script.1.failures ≡ script.0.failures
 
 -- A run was finished, and its writers were flushed.
 pub record Finished (budget : ℕ) (summary : Summary) (script : Reader × Reader) (answers certificate : Writer × Writer) : Type 0 where
-  pub wrote : GaveEnough script.0 script.1 (λ text. Wrote text budget summary answers certificate)
+  pub wrote : GaveEnough script.0 script.1 (λ text. WritesRun text budget summary answers certificate)
   pub read : NoneUnread script
   pub told : NoneFailed answers.0 answers.1
   pub certified : NoneFailed certificate.0 certificate.1
@@ -29,9 +29,9 @@ pub record Finished (budget : ℕ) (summary : Summary) (script : Reader × Reade
   pub certificate_flushed : certificate.1.flushed ≡ true
 
 -- so, or one call of one device failed, perhaps, which the fault names
-abbrev pub Runs : Result Summary RunFault → ℕ → Reader × Reader → Writer × Writer → Writer × Writer → Type 0
-Runs (Ok summary) budget script answers certificate = Finished budget summary script answers certificate
-Runs (Err e) budget script answers certificate = RunFaultSays e
+abbrev pub FinishesOrFaults : Result Summary RunFault → ℕ → Reader × Reader → Writer × Writer → Writer × Writer → Type 0
+FinishesOrFaults (Ok summary) budget script answers certificate = Finished budget summary script answers certificate
+FinishesOrFaults (Err e) budget script answers certificate = RunFaultSays e
     (ReadFails script.0 script.1 × NoneFailed answers.0 answers.1 × NoneFailed certificate.0 certificate.1)
     (NoneUnread script × OneFailed answers.0 answers.1 × NoneFailed certificate.0 certificate.1)
     (NoneUnread script × NoneFailed answers.0 answers.1 × OneFailed certificate.0 certificate.1)

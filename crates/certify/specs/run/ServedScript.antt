@@ -2,14 +2,14 @@
 use Rattle.std.specs.Prelude.{ℕ, ◌+◌, ◌≡◌, true, false, Option, List, ◌++◌, map, length, Result, Ok, Err}
 use Rattle.sat_base.specs.declared.device.whole.ReadError.{ReadError}
 use Rattle.sat_base.specs.declared.device.whole.ReadError.TheVariants as errors
-use Rattle.sat_base.specs.device.Device.{Writer, Takes}
+use Rattle.sat_base.specs.device.Device.{Writer, WriterTakes}
 use Rattle.sat_base.specs.device.Reading.{Source}
 use Rattle.sat_base.specs.script.Script.{Command}
 use Rattle.sat_base.specs.script.Language.{Reading, onto_commands}
 use Rattle.sat_base.specs.script.Judge.{Judge, accepted_of, after_script}
 use Rattle.sat_base.specs.steps.Steps.{Step}
 use Rattle.sat_checker.specs.matching.Expected.{Outcome}
-use Rattle.sat_solver.specs.session.Making.{Took, Broke}
+use Rattle.sat_solver.specs.session.Making.{ComesBySteps, BreaksEmitting}
 use Rattle.sat_solver.specs.solver.Whole.{HasFullStore, steps_in}
 use Rattle.certify.specs.Devices.{NoneFailed, OneFailed}
 use Rattle.certify.specs.answers.Answers.{answers_from}
@@ -20,10 +20,10 @@ use Rattle.certify.specs.declared.fault.RunFault.TheVariants as fault
 use Rattle.certify.specs.declared.script.reader.ScriptReader.{ScriptReader}
 use Rattle.certify.specs.declared.run.session.Session.{Session}
 use Rattle.certify.specs.declared.summary.AskReport.{AskReport}
-use Rattle.certify.specs.script.Ahead.{Failed, Passed, TakesSome as TookOf}
-use Rattle.certify.specs.script.Commands.{Means, MeansIf}
+use Rattle.certify.specs.script.Ahead.{FaultsAhead, TakesSomeOrEnds, TakesSome as TookOf}
+use Rattle.certify.specs.script.Commands.{ReaderMeans, MeansIf}
 use Rattle.certify.specs.run.FinishedRun.{refused_count, malformed_at, answer_kind, AreSpent, asked_steps, identities_given}
-use Rattle.certify.specs.run.Unfinished.{Exceeds, TookFront}
+use Rattle.certify.specs.run.Unfinished.{Exceeds, TookAnswersFront}
 use Rattle.certify.specs.run.SolverCalls.{IsCaused, IsReady, proof_in}
 use Rattle.certify.specs.run.Serving.{RunPlace, Serves}
 use Rattle.certify.specs.run.Standing.{RunGoesOn, JudgeIsAt, place_in}
@@ -36,11 +36,11 @@ pub record ServedAll {C : Type 0} (seen : C → Writer) (j : Judge) (commands : 
   pub judge : Judge
   pub at : JudgeIsAt new judge
   pub judges : judge ≡ after_script commands j
-  pub took : Took seen (proof_in old.solver) (proof_in new.solver)
+  pub took : ComesBySteps seen (proof_in old.solver) (proof_in new.solver)
   pub counted : new.commands ≡ old.commands + length commands
   pub budget : new.budget ≡ old.budget
   pub text : List ℕ
-  pub told : Takes before after text
+  pub told : WriterTakes before after text
   pub reports : List AskReport
   pub asks : new.asks.items ≡ old.asks.items ++ reports
   pub refused : ℕ
@@ -62,11 +62,11 @@ pub record ServesTo (budget : ℕ) (a : RunPlace) (script : Reading) (to : List 
 -- The whole script was served, in which so many commands stand. It is malformed at this command, if it is.
 pub record ServesWhole {C : Type 0} (seen : C → Writer) (j : Judge) (script : Reading) (count : ℕ) (at : Option ℕ)
     (old new : Session C) (before after : Writer) : Type 0 where
-  pub took : Took seen (proof_in old.solver) (proof_in new.solver)
+  pub took : ComesBySteps seen (proof_in old.solver) (proof_in new.solver)
   pub counted : new.commands ≡ old.commands + count
   pub ends : at ≡ malformed_at (old.commands + length script.0 + 1) script.1
   pub text : List ℕ
-  pub told : Takes before after text
+  pub told : WriterTakes before after text
   pub reports : List AskReport
   pub asks : new.asks.items ≡ old.asks.items ++ reports
   pub refused : ℕ
@@ -79,7 +79,7 @@ pub record ServesThrough {C : Type 0} (seen : C → Writer) (j : Judge) (text co
     (reader : ScriptReader) (old new : Session C) (before after : Writer) : Type 0 where
   pub commands : List Command
   pub left : List ℕ → Reading
-  pub means : Means reader left
+  pub means : ReaderMeans reader left
   pub plain : List ℕ → Reading
   pub counts : MeansIf false reader plain
   pub took : TookOf true a b
@@ -106,10 +106,10 @@ RunFaultSays fault.CounterEnd script answers certificate rest = rest
 -- one call of one device failed, perhaps, which the fault names
 abbrev pub FailsWhole : {C : Type 0} → (C → Writer) → RunFault → Source → Source → Solver C → Solver C → Writer → Writer → Type 0
 FailsWhole seen e a b old new before after = RunFaultSays e
-    (Failed a b × NoneFailed before after × Took seen (proof_in old) (proof_in new))
-    (Passed a b × OneFailed before after × Took seen (proof_in old) (proof_in new))
-    (Passed a b × NoneFailed before after × Broke seen (proof_in old) (proof_in new))
-    (Passed a b × NoneFailed before after × Took seen (proof_in old) (proof_in new))
+    (FaultsAhead a b × NoneFailed before after × ComesBySteps seen (proof_in old) (proof_in new))
+    (TakesSomeOrEnds a b × OneFailed before after × ComesBySteps seen (proof_in old) (proof_in new))
+    (TakesSomeOrEnds a b × NoneFailed before after × BreaksEmitting seen (proof_in old) (proof_in new))
+    (TakesSomeOrEnds a b × NoneFailed before after × ComesBySteps seen (proof_in old) (proof_in new))
 
 -- The script is served to its end; or there's a fault, and a front of right answers was written. It is none of store or counter without
 -- a cause.
@@ -118,5 +118,5 @@ abbrev pub ServesScript : {C : Type 0} → (C → Writer) → Judge → (List �
 ServesScript seen j text counted (Ok at) a b old new before after = TookOf false a b × IsReady new.solver × ((total : List ℕ) → Covers b total
     → ServesWhole seen j (text (rest_in total a)) (length (counted (rest_in total a)).0) at old new before after)
 ServesScript seen j text counted (Err e) a b old new before after = FailsWhole seen e a b old.solver new.solver before after
-    × ((total : List ℕ) → Covers b total → TookFront (old.commands + 1) j (text (rest_in total a)) before after)
+    × ((total : List ℕ) → Covers b total → TookAnswersFront (old.commands + 1) j (text (rest_in total a)) before after)
     × IsCaused e (HasFullStore new.solver) ((total : List ℕ) → Covers b total → Exceeds old.commands j (text (rest_in total a)))

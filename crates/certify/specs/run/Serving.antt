@@ -1,6 +1,6 @@
 -- What a run makes of commands, one after another. Lists of steps have the newest first.
 use Rattle.std.specs.Prelude.{ℕ, ◌+◌, ◌≡◌, List, ◌++◌, map}
-use Rattle.sat_base.specs.script.Script.{Command, Ending}
+use Rattle.sat_base.specs.script.Script.{Command, ScriptEnding}
 use Rattle.sat_base.specs.script.Judge.{Judge, accepted, accepted_of}
 use Rattle.sat_base.specs.steps.Steps.{Step}
 use Rattle.sat_checker.specs.matching.Expected.{Outcome}
@@ -24,7 +24,7 @@ pub record Serves (budget : ℕ) (a b : RunPlace) (commands : List Command)
   pub outcomes : List Outcome
   pub right : (left : List Command) (rest : List Outcome) → AreRight b.judge (accepted_of b.judge left) rest
       → AreRight a.judge (accepted_of a.judge (commands ++ left)) (outcomes ++ rest)
-  pub says : (left : List Command) (ending : Ending) (rest : List Outcome)
+  pub says : (left : List Command) (ending : ScriptEnding) (rest : List Outcome)
       → answers_from a.number a.judge (commands ++ left) ending (outcomes ++ rest)
       ≡ answered ++ answers_from b.number b.judge left ending rest
   pub refuses : (left : List Command) → refused_count a.judge (commands ++ left) ≡ refused + refused_count b.judge left
@@ -37,5 +37,5 @@ pub record Serves (budget : ℕ) (a b : RunPlace) (commands : List Command)
       → MadeFor a.judge a.steps to (accepted_of a.judge (commands ++ left)) (outcomes ++ rest) (asked_steps reports ++ counts)
 
 -- behind a command that isn't refused
-abbrev pub behind : RunPlace → Command → List Step → ℕ → RunPlace
-behind a c steps rounds = record { judge = accepted c a.judge; number = a.number + 1; steps = steps; rounds = rounds }
+abbrev pub place_after : RunPlace → Command → List Step → ℕ → RunPlace
+place_after a c steps rounds = record { judge = accepted c a.judge; number = a.number + 1; steps = steps; rounds = rounds }

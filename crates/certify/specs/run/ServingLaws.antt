@@ -11,8 +11,8 @@ use Rattle.sat_checker.specs.matching.ProofChecking.{the_checking}
 use Rattle.certify.specs.answers.AnswerForms.{named_literals}
 use Rattle.certify.specs.answers.Answers.{refused_line, outcome_text}
 use Rattle.certify.specs.answers.RightAnswers.{IsRight}
-use Rattle.certify.specs.run.FinishedRun.{IsBounded, IsSpent, answer_kind}
-use Rattle.certify.specs.run.Serving.{RunPlace, Serves, behind}
+use Rattle.certify.specs.run.FinishedRun.{IsBounded, SpendsWithinBudget, answer_kind}
+use Rattle.certify.specs.run.Serving.{RunPlace, Serves, place_after}
 use Rattle.certify.specs.run.Stretches.{AskStretches, IsNoAsk, MayFor, Stretch, due_for}
 use Rattle.certify.specs.declared.summary.AskReport.{AskReport}
 
@@ -30,15 +30,15 @@ RefusalServes = (budget : ℕ) (a : RunPlace) (c : Command) (r : Refusal) → re
 abbrev pub PlainServes : Type 0
 PlainServes = (budget : ℕ) (a : RunPlace) (c : Command) (steps : List Step) → IsNoAsk c → refusal_of a.judge c ≡ None
     → Stretch (MayFor c) a.steps steps (due_for (the_checking.unsat a.steps) c a.judge)
-    → Serves budget a (behind a c steps a.rounds) (c ∷ []) [] [] 0
+    → Serves budget a (place_after a c steps a.rounds) (c ∷ []) [] [] 0
 
 -- an ask is answered by its outcome, where that is right and took no more rounds than there might be
 abbrev pub AskServes : Type 0
 AskServes = (budget : ℕ) (a : RunPlace) (ls : List Literal) (o : Outcome) (report : AskReport) (steps : List Step) → refusal_of a.judge (Ask ls) ≡ None
-    → IsRight (accepted (Ask ls) a.judge) ls o → report.answer ≡ answer_kind o → IsSpent budget a.rounds report
+    → IsRight (accepted (Ask ls) a.judge) ls o → report.answer ≡ answer_kind o → SpendsWithinBudget budget a.rounds report
     → IsBounded (accepted (Ask ls) a.judge).next_identity budget a.rounds report
     → AskStretches a.judge ls o report.steps a.steps steps
-    → Serves budget a (behind a (Ask ls) steps (a.rounds + report.steps)) (Ask ls ∷ []) (outcome_text o) (report ∷ []) 0
+    → Serves budget a (place_after a (Ask ls) steps (a.rounds + report.steps)) (Ask ls ∷ []) (outcome_text o) (report ∷ []) 0
 
 -- a core of an ask, whatever its order, is a right core once its literals are sorted
 abbrev pub CoresAreSorted : Type 0

@@ -12,7 +12,7 @@ use Rattle.sat_solver.specs.variables.Calls.{Agree}
 use Rattle.sat_checker.specs.matching.Bridge.{Live}
 use Rattle.sat_solver.specs.variables.Refusing.{names_in}
 use Rattle.sat_solver.specs.variables.Room.{HasRoom}
-use Rattle.sat_solver.specs.session.Making.{Took, Broke}
+use Rattle.sat_solver.specs.session.Making.{ComesBySteps, BreaksEmitting}
 use Rattle.sat_solver.specs.proof.ProofView.{is_checked, is_drat, target_of}
 use Rattle.sat_solver.specs.solver.Calls.{Answered}
 use Rattle.sat_solver.specs.solver.Taking.{IsNameFaultOr}
@@ -22,7 +22,7 @@ use Rattle.certify.specs.declared.fault.RunFault.TheVariants as fault
 use Rattle.certify.specs.declared.summary.Answer.{Answer}
 use Rattle.certify.specs.declared.summary.Answer.TheVariants as kind
 use Rattle.certify.specs.declared.summary.AskReport.{AskReport}
-use Rattle.certify.specs.run.FinishedRun.{IsSpent}
+use Rattle.certify.specs.run.FinishedRun.{SpendsWithinBudget}
 use Rattle.certify.specs.run.Quiet.{Proof, Solver}
 
 -- what a solver that goes on, and isn't refused, may fail of
@@ -65,7 +65,7 @@ proof_in s = s.core.proof
 
 -- a call of the solver failed, perhaps since one of the certificate's writer did, the last
 abbrev pub FailsSolver : {C : Type 0} → (C → Writer) → RunFault → Solver C → Solver C → Type 0
-FailsSolver seen e old new = FaultSays e ⊥ (Broke seen (proof_in old) (proof_in new)) (Took seen (proof_in old) (proof_in new))
+FailsSolver seen e old new = FaultSays e ⊥ (BreaksEmitting seen (proof_in old) (proof_in new)) (ComesBySteps seen (proof_in old) (proof_in new))
 
 -- so, where there was a fault
 abbrev pub FailsIf : {T C : Type 0} → Result T RunFault → (C → Writer) → Solver C → Solver C → Type 0
@@ -121,5 +121,5 @@ pub record Searched {C : Type 0} (seen : C → Writer) (budget : ℕ) (report : 
   pub mid : Solver C
   pub limited : Limited budget old mid
   pub solved : Solved seen report.answer mid new
-  pub spent : IsSpent budget old.clock.steps report
+  pub spent : SpendsWithinBudget budget old.clock.steps report
   pub rounds : new.clock.steps ≡ old.clock.steps + report.steps

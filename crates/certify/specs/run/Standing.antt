@@ -1,11 +1,11 @@
 -- How a run stands between commands, and what one of them leaves.
 use Rattle.std.specs.Prelude.{ℕ, ◌+◌, ◌≤◌, ◌≡◌, None, List, [], ◌∷◌, ◌++◌, IfErr, OnErr, Result, MatchResult}
-use Rattle.sat_base.specs.device.Device.{Writer, Takes}
+use Rattle.sat_base.specs.device.Device.{Writer, WriterTakes}
 use Rattle.sat_base.specs.script.Script.{Command}
 use Rattle.sat_base.specs.script.Judge.{Judge, Refusal, accepted, after_command, refusal_of}
 use Rattle.sat_solver.specs.variables.Calls.{Agree}
 use Rattle.sat_checker.specs.matching.Bridge.{Live}
-use Rattle.sat_solver.specs.session.Making.{Took, Broke}
+use Rattle.sat_solver.specs.session.Making.{ComesBySteps, BreaksEmitting}
 use Rattle.sat_solver.specs.solver.Whole.{HasFullStore, steps_in}
 use Rattle.certify.specs.Devices.{NoneFailed, OneFailed}
 use Rattle.certify.specs.answers.AnswerForms.{named_literals}
@@ -16,10 +16,10 @@ use Rattle.certify.specs.declared.script.Command.{Command as Lent}
 use Rattle.certify.specs.declared.run.session.Session.{Session}
 use Rattle.certify.specs.declared.summary.AskReport.{AskReport}
 use Rattle.certify.specs.judge.Names.{NamesStand}
-use Rattle.sat_base.specs.script.JudgeLaws.{IsKept}
+use Rattle.sat_base.specs.script.JudgeLaws.{JudgeInvariant}
 use Rattle.certify.specs.script.Commands.{kind_of}
 use Rattle.sat_base.specs.script.Language.{Reading, command_of, onto_commands}
-use Rattle.certify.specs.run.Unfinished.{Exceeds, TookFront}
+use Rattle.certify.specs.run.Unfinished.{Exceeds, TookAnswersFront}
 use Rattle.certify.specs.run.SolverCalls.{FaultSays, IsCaused, IsReady, NeedsMore, proof_in}
 use Rattle.certify.specs.run.Serving.{RunPlace, Serves}
 use Rattle.certify.specs.run.Quiet.{Solver}
@@ -27,7 +27,7 @@ use Rattle.certify.specs.run.Quiet.{Solver}
 -- the judge's state is this, whatever names say of it
 pub record AgreesWithJudge {C : Type 0} (s : Solver C) (j : Judge) (live : Live) : Type 0 where
   pub agree : Agree s.names (steps_in s) j live
-  pub kept : IsKept j
+  pub kept : JudgeInvariant j
 
 -- a run between commands, where the judge's state is this
 pub record JudgeIsAt {C : Type 0} (s : Session C) (j : Judge) : Type 0 where
@@ -63,12 +63,12 @@ NamesAllow names c = (j : Judge) → NamesStand names j → refusal_of j c ≡ N
 pub record CarriedOut {C : Type 0} (seen : C → Writer) (old new : Session C) (c : Command) (before after : Writer) : Type 0 where
   pub ready : IsReady new.solver
   pub free : new.solver.assumed.items ≡ []
-  pub took : Took seen (proof_in old.solver) (proof_in new.solver)
+  pub took : ComesBySteps seen (proof_in old.solver) (proof_in new.solver)
   pub commands : new.commands ≡ old.commands
   pub refused : new.refused ≡ old.refused
   pub budget : new.budget ≡ old.budget
   pub text : List ℕ
-  pub told : Takes before after text
+  pub told : WriterTakes before after text
   pub reports : List AskReport
   pub asks : new.asks.items ≡ old.asks.items ++ reports
   pub serves : (j : Judge) (live : Live) → AgreesWithJudge old.solver j live → refusal_of j c ≡ None
@@ -77,7 +77,7 @@ pub record CarriedOut {C : Type 0} (seen : C → Writer) (old new : Session C) (
 
 -- a command was refused, the last that came
 pub record Refused {C : Type 0} (old new : Session C) (why : Refusal) (before after : Writer) : Type 0 where
-  pub told : Takes before after (refused_line old.commands why)
+  pub told : WriterTakes before after (refused_line old.commands why)
   pub solver : new.solver ≡ old.solver
   pub names : new.names ≡ old.names
   pub commands : new.commands ≡ old.commands
@@ -88,11 +88,11 @@ pub record Refused {C : Type 0} (old new : Session C) (why : Refusal) (before af
 -- the next command was served: refused, or taken
 pub record ServedNext {C : Type 0} (seen : C → Writer) (old new : Session C) (c : Command) (before after : Writer) : Type 0 where
   pub goes_on : RunGoesOn new
-  pub took : Took seen (proof_in old.solver) (proof_in new.solver)
+  pub took : ComesBySteps seen (proof_in old.solver) (proof_in new.solver)
   pub commands : new.commands ≡ old.commands + 1
   pub budget : new.budget ≡ old.budget
   pub text : List ℕ
-  pub told : Takes before after text
+  pub told : WriterTakes before after text
   pub reports : List AskReport
   pub asks : new.asks.items ≡ old.asks.items ++ reports
   pub refused : ℕ
@@ -103,11 +103,11 @@ pub record ServedNext {C : Type 0} (seen : C → Writer) (old new : Session C) (
 -- Where the last command, which isn't refused, wasn't carried out, a front of right answers to it and what is left was written.
 abbrev pub StopsCarrying : {T C : Type 0} → Result T RunFault → Session C → Command → Reading → Writer → Writer → Type 0
 StopsCarrying r old c left before after =
-    OnErr r ((j : Judge) (live : Live) → AgreesWithJudge old.solver j live → refusal_of j c ≡ None → TookFront old.commands j (onto_commands (c ∷ []) left) before after)
+    OnErr r ((j : Judge) (live : Live) → AgreesWithJudge old.solver j live → refusal_of j c ≡ None → TookAnswersFront old.commands j (onto_commands (c ∷ []) left) before after)
 
 -- the same of a script that wasn't served from here on
 abbrev pub StopsOver : {T C : Type 0} → Result T RunFault → Session C → Reading → Writer → Writer → Type 0
-StopsOver r old script before after = OnErr r ((j : Judge) → JudgeIsAt old j → TookFront (old.commands + 1) j script before after)
+StopsOver r old script before after = OnErr r ((j : Judge) → JudgeIsAt old j → TookAnswersFront (old.commands + 1) j script before after)
 
 -- why the last command, which isn't refused, wasn't carried out, but for devices and memory
 abbrev pub CausedBy : {T C : Type 0} → Result T RunFault → Session C → Session C → Command → Type 0
@@ -120,7 +120,7 @@ CausedOver r old new script = IfErr r (λ e. IsCaused e (HasFullStore new.solver
 -- what a part of a run did to the answers' writer and to the certificate: one call of one of them may have failed
 abbrev pub WritesBoth : {T C : Type 0} → Result T RunFault → (C → Writer) → Writer → Writer → Solver C → Solver C → Type 0
 WritesBoth r seen before after old new = MatchResult r
-    (λ _. NoneFailed before after × Took seen (proof_in old) (proof_in new))
-    (λ e. FaultSays e (OneFailed before after × Took seen (proof_in old) (proof_in new))
-    (NoneFailed before after × Broke seen (proof_in old) (proof_in new))
-    (NoneFailed before after × Took seen (proof_in old) (proof_in new)))
+    (λ _. NoneFailed before after × ComesBySteps seen (proof_in old) (proof_in new))
+    (λ e. FaultSays e (OneFailed before after × ComesBySteps seen (proof_in old) (proof_in new))
+    (NoneFailed before after × BreaksEmitting seen (proof_in old) (proof_in new))
+    (NoneFailed before after × ComesBySteps seen (proof_in old) (proof_in new)))

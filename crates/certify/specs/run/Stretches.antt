@@ -51,17 +51,17 @@ abbrev pub showing_if : Bool → Judge → List Literal → Outcome → List Exp
 showing_if unsat j ask o = if unsat then [] else showing j ask o
 
 -- Each round of an ask derives a clause that advances, but for the one that answers. There is none once unsat is recorded.
-abbrev pub Learns : (unsat : Bool) → Outcome → (rounds learned : ℕ) → Type 0
-Learns true o rounds learned = (rounds ≡ 0) × (learned ≡ 0)
-Learns false Unknown rounds learned = rounds ≡ learned
-Learns false (Sat line) rounds learned = rounds ≡ learned + 1
-Learns false (Unsat core) rounds learned = rounds ≡ learned + 1
+abbrev pub LearnsEachRound : (unsat : Bool) → Outcome → (rounds learned : ℕ) → Type 0
+LearnsEachRound true o rounds learned = (rounds ≡ 0) × (learned ≡ 0)
+LearnsEachRound false Unknown rounds learned = rounds ≡ learned
+LearnsEachRound false (Sat line) rounds learned = rounds ≡ learned + 1
+LearnsEachRound false (Unsat core) rounds learned = rounds ≡ learned + 1
 
 -- exactly so many of the steps between these do
 pub record LearnsBetween (unsat : Bool) (o : Outcome) (rounds : ℕ) (opened shown : List Step) : Type 0 where
   pub learned : ℕ
   pub times : AdvancesIn opened shown learned
-  pub counts : Learns unsat o rounds learned
+  pub counts : LearnsEachRound unsat o rounds learned
 
 -- Its names come in, with indices, and it is opened; the search makes whatever other steps, but none behind recorded unsat, and
 -- its outcome is shown; it is closed.

@@ -28,7 +28,7 @@ pub record BeginAnswers (number : ℕ) (j : Judge) (script : Reading) (bytes : L
   pub whole : answers_from number j script.0 script.1 outcomes ≡ bytes ++ behind
 
 -- the writer took a front of them, and nothing else
-pub record TookFront (number : ℕ) (j : Judge) (script : Reading) (old new : Writer) : Type 0 where
+pub record TookAnswersFront (number : ℕ) (j : Judge) (script : Reading) (old new : Writer) : Type 0 where
   pub bytes : List ℕ
   pub took : TookBytes old new bytes
   pub front : BeginAnswers number j script bytes
@@ -41,7 +41,7 @@ pub record GaveFrontOf (old new : Reader) (P : List ℕ → Type 0) : Type 0 whe
 
 -- the writer took a front of right answers to the text that the reader gave, whatever follows in it
 abbrev pub Unfinished : Reader × Reader → Writer × Writer → Type 0
-Unfinished script answers = GaveFrontOf script.0 script.1 (λ text. TookFront 1 start (reading text) answers.0 answers.1)
+Unfinished script answers = GaveFrontOf script.0 script.1 (λ text. TookAnswersFront 1 start (reading text) answers.0 answers.1)
 
 -- Behind so many commands, these are more than are counted, or the judge gives out more identities than there are variables.
 abbrev pub Exceeds : (count : ℕ) → Judge → Reading → Type 0

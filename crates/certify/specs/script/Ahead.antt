@@ -31,13 +31,13 @@ TakesSome true old new = (text : List ℕ) × Passes old new text
 TakesSome false old new = ((text : List ℕ) × PassesBut 1 old new text) × (AtEnd new → IsAtEnd new.reader.to_come)
 
 -- some bytes were taken, and then perhaps the end was found, or looked for
-abbrev pub Passed : Source → Source → Type 0
-Passed old new = (text : List ℕ) × PassesBut 1 old new text
+abbrev pub TakesSomeOrEnds : Source → Source → Type 0
+TakesSomeOrEnds old new = (text : List ℕ) × PassesBut 1 old new text
 
 -- no read failed, and there were no more than it counts
-abbrev pub Kept : Source → Source → Type 0
-Kept old new = (new.reader.failures ≡ old.reader.failures) × (new.reader.calls + old.reads ≡ old.reader.calls + new.reads)
+abbrev pub NoReadFailedAhead : Source → Source → Type 0
+NoReadFailedAhead old new = (new.reader.failures ≡ old.reader.failures) × (new.reader.calls + old.reads ≡ old.reader.calls + new.reads)
 
 -- one did, or there were 2^48
-abbrev pub Failed : Source → Source → Type 0
-Failed old new = (text : List ℕ) × Faults old new text
+abbrev pub FaultsAhead : Source → Source → Type 0
+FaultsAhead old new = (text : List ℕ) × Faults old new text

@@ -5,10 +5,10 @@ use Rattle.sat_base.specs.values.Literals.{largest}
 use Rattle.sat_base.specs.text.Text.{Token, Number, Letter, Header, Wrong, Scan}
 use Rattle.sat_base.specs.text.Chunks.{Follows}
 use Rattle.sat_base.specs.text.WrongWords.{RightAhead}
-use Rattle.sat_base.specs.text.Tokenizing.{Stands, held}
+use Rattle.sat_base.specs.text.Tokenizing.{StandsBefore, held}
 use Rattle.sat_base.specs.script.Script.{Literal, Command, Ask, Clean, Malformed}
 use Rattle.certify.specs.answers.AnswerForms.{named_literals}
-use Rattle.sat_base.specs.script.Language.{Reading, onto_commands, spoken, Kind, OfClause, OfAsk, OfHide, OfWitness, OfSample, command_of, kind_of_letter, Hand, Nothing, Within, commands_of, with_ask}
+use Rattle.sat_base.specs.script.Language.{Reading, onto_commands, spoken, Kind, OfClause, OfAsk, OfHide, OfWitness, OfSample, command_of, kind_of_letter, CommandHand, Nothing, Within, commands_of, with_ask}
 use Rattle.certify.specs.declared.script.CommandKind.{CommandKind}
 use Rattle.certify.specs.declared.script.CommandKind.TheVariants as kind
 use Rattle.certify.specs.declared.script.Command.{Command as Lent}
@@ -63,16 +63,16 @@ abbrev pub IsSomeLent : Lent → Type 0
 IsSomeLent lent = (c : Command) × IsLent lent c
 
 -- so in its reader
-abbrev pub IsWhole : Draft → Command → Type 0
-IsWhole draft c = (ls : List Literal) × IsFront draft.literals.items draft.past_limit ls × (c ≡ command_of (kind_of draft.kind) ls)
+abbrev pub IsWholeCommand : Draft → Command → Type 0
+IsWholeCommand draft c = (ls : List Literal) × IsFront draft.literals.items draft.past_limit ls × (c ≡ command_of (kind_of draft.kind) ls)
 
 -- it is what is in hand
-abbrev pub HoldsHand : Draft → Hand → Type 0
+abbrev pub HoldsHand : Draft → CommandHand → Type 0
 HoldsHand draft Nothing = draft.is_open ≡ false
 HoldsHand draft (Within k ls) = (draft.is_open ≡ true) × (k ≡ kind_of draft.kind) × IsFront draft.literals.items draft.past_limit ls
 
 -- with a command in hand, which a literal begins
-abbrev pub opened : Hand → Hand
+abbrev pub opened : CommandHand → CommandHand
 opened Nothing = Within OfClause []
 opened (Within kind ls) = Within kind ls
 
@@ -94,38 +94,38 @@ any_header [] = false
 any_header (t ∷ ts) = is_header t || any_header ts
 
 -- What is still to be read behind what is in hand, where these tokens are to come: with the ask that a header may make due, or without.
-abbrev pub meaning : Bool → Commands → Hand → List Token → Reading
+abbrev pub meaning : Bool → Commands → CommandHand → List Token → Reading
 meaning asks commands hand ts = with_ask (asks && ((commands.headed || any_header ts) && not commands.asked)) (commands_of hand ts)
 
 -- what a token leaves, behind any others: less to read, a whole command and then less, or a malformed text
 abbrev pub TakesToken : Reached → Commands → Token → Commands → Type 0
-TakesToken reached.More old t new = (hand : Hand) → HoldsHand old.draft hand
-    → (next : Hand) × HoldsHand new.draft next × ((asks : Bool) (ts : List Token) → meaning asks old hand (t ∷ ts) ≡ meaning asks new next ts)
-TakesToken reached.Command old t new = (hand : Hand) → HoldsHand old.draft hand
-    → (c : Command) × IsWhole new.draft c × HoldsHand new.draft Nothing
+TakesToken reached.More old t new = (hand : CommandHand) → HoldsHand old.draft hand
+    → (next : CommandHand) × HoldsHand new.draft next × ((asks : Bool) (ts : List Token) → meaning asks old hand (t ∷ ts) ≡ meaning asks new next ts)
+TakesToken reached.Command old t new = (hand : CommandHand) → HoldsHand old.draft hand
+    → (c : Command) × IsWholeCommand new.draft c × HoldsHand new.draft Nothing
     × ((asks : Bool) (ts : List Token) → meaning asks old hand (t ∷ ts) ≡ onto_commands (c ∷ []) (meaning asks new Nothing ts))
-TakesToken reached.Malformed old t new = (hand : Hand) → HoldsHand old.draft hand
+TakesToken reached.Malformed old t new = (hand : CommandHand) → HoldsHand old.draft hand
     → (asks : Bool) (ts : List Token) → meaning asks old hand (t ∷ ts) ≡ ([], Malformed)
 
 -- the reader stands at a place of a text: `left_of` says what is still to be read, whatever bytes come
 pub record MeansIf (asks : Bool) (reader : ScriptReader) (left_of : List ℕ → Reading) : Type 0 where
-  pub hand : Hand
+  pub hand : CommandHand
   pub holds : HoldsHand reader.commands.draft hand
   pub scan_of : List ℕ → Scan
-  pub stands : Stands reader.tokenizer scan_of
+  pub stands : StandsBefore reader.tokenizer scan_of
   pub reads : (rest : List ℕ) → left_of rest ≡ meaning asks reader.commands hand (spoken (scan_of rest).tokens)
 
 -- with the ask that a header may make due
-abbrev pub Means : ScriptReader → (List ℕ → Reading) → Type 0
-Means = MeansIf true
+abbrev pub ReaderMeans : ScriptReader → (List ℕ → Reading) → Type 0
+ReaderMeans = MeansIf true
 
 -- no word is in hand that is wrong whatever follows: some text may follow without one
 abbrev pub MayGoOn : ScriptReader → Type 0
-MayGoOn reader = (scan_of : List ℕ → Scan) → Stands reader.tokenizer scan_of → RightAhead scan_of
+MayGoOn reader = (scan_of : List ℕ → Scan) → StandsBefore reader.tokenizer scan_of → RightAhead scan_of
 
 -- a command was read, and is to be lent
 pub record HasWhole (reader : ScriptReader) (c : Command) : Type 0 where
-  pub whole : IsWhole reader.commands.draft c
+  pub whole : IsWholeCommand reader.commands.draft c
 
 -- bytes lead to a command, whatever follows
 pub record ReachesCommand (asks : Bool) (before : List ℕ → Reading) (bytes : List ℕ) (new : ScriptReader) : Type 0 where
@@ -159,7 +159,7 @@ end_if false ends.Malformed = ([], Malformed)
 -- what is left where the text ends: perhaps a command, and the end
 abbrev pub EndsSo : Bool → Bool → ScriptEnd → Commands → Reading → Type 0
 EndsSo asks false e new r = r ≡ end_if asks e
-EndsSo asks true e new r = (c : Command) × IsWhole new.draft c × (r ≡ onto_commands (c ∷ []) (end_if asks e))
+EndsSo asks true e new r = (c : Command) × IsWholeCommand new.draft c × (r ≡ onto_commands (c ∷ []) (end_if asks e))
 
 -- so of a reader
 abbrev pub EndsLast : Bool → Bool → ScriptEnd → ScriptReader → Reading → Type 0

@@ -7,7 +7,7 @@ use Rattle.sat_base.specs.text.Chunks.{Follows}
 use Rattle.sat_base.specs.declared.device.whole.ReadError.{ReadError}
 use Rattle.sat_base.specs.declared.device.whole.ReadError.TheVariants as errors
 use Rattle.certify.specs.confirm.Streams.{Covers, rest_in}
-use Rattle.certify.specs.script.Ahead.{Failed, TakesSome, waiting}
+use Rattle.certify.specs.script.Ahead.{FaultsAhead, TakesSome, waiting}
 use Rattle.certify.specs.script.Commands.{EndsLast, MeansIf, TakesBytes, end_if}
 use Rattle.certify.specs.declared.script.ahead.Ahead.{Ahead}
 use Rattle.certify.specs.declared.script.Reached.{Reached}
@@ -43,13 +43,13 @@ Arrives (next.End e) a b old new =
 abbrev pub Brings : Result (Option Next) ReadError → Source → Source → ScriptReader → ScriptReader → Type 0
 Brings (Ok None) a b old new = (text : List ℕ) × Passes a b text × ((asks : Bool) → Follows (MeansIf asks) old text new)
 Brings (Ok (Some n)) a b old new = Arrives n a b old new
-Brings (Err errors.Failed) a b old new = Failed a b
+Brings (Err errors.Failed) a b old new = FaultsAhead a b
 Brings (Err errors.OutOfMemory) a b old new = TakesSome true a b
 
 -- the same once something came of the bytes
 abbrev pub NextComes : Result Next ReadError → Source → Source → ScriptReader → ScriptReader → Type 0
 NextComes (Ok n) a b old new = Arrives n a b old new
-NextComes (Err errors.Failed) a b old new = Failed a b
+NextComes (Err errors.Failed) a b old new = FaultsAhead a b
 NextComes (Err errors.OutOfMemory) a b old new = TakesSome true a b
 
 -- how many more times something can come of its bytes at most
@@ -57,7 +57,7 @@ abbrev pub rounds_left : Ahead → ℕ
 rounds_left a = (piece_size + 1) * (most_reads - a.reads) + length (waiting a)
 
 -- where nothing came of them, fewer are left
-abbrev pub Falls : {A E : Type 0} → Result (Option A) E → Ahead → Ahead → Type 0
-Falls (Ok None) old new = rounds_left new < rounds_left old
-Falls (Ok (Some x)) old new = Unit {0}
-Falls (Err e) old new = Unit {0}
+abbrev pub LeavesFewerRounds : {A E : Type 0} → Result (Option A) E → Ahead → Ahead → Type 0
+LeavesFewerRounds (Ok None) old new = rounds_left new < rounds_left old
+LeavesFewerRounds (Ok (Some x)) old new = Unit {0}
+LeavesFewerRounds (Err e) old new = Unit {0}

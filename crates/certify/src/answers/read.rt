@@ -2,7 +2,7 @@
 //! single spaces, no leading zeros, each line ended by LF, names from 1 to 2^28 in their order.
 ghost use Rattle.std.specs.Prelude.{◌≡◌, ◌++◌, ◌∷◌, [], false, ◌*◌, ◌<◌, ◌≤◌, decimal, MatchOption, MatchResult, List, ℕ};
 ghost use Rattle.certify.specs.answers.AnswerForms.{IsName};
-ghost use Rattle.certify.specs.answers.AnswerReading.{NoDigit, NoName, NoLiteral, NoLiterals, NoKind, NoLine, NoOutcome, StartsNoName, StartsNoLiteral, StartsNoLiterals, StartsNoKind, StartsNoLine, HasLine, IsHead, digits_so_far, first_line, literal_place, BeginsWithLiteral, BeginsWithLiterals, BeginsWithLine, BeginsWithAnswer};
+ghost use Rattle.certify.specs.answers.AnswerReading.{NoNameDigit, NoName, NoLiteral, NoLiterals, NoKind, NoLine, NoOutcome, StartsNoName, StartsNoLiteral, StartsNoLiterals, StartsNoKind, StartsNoLine, HasLine, IsHead, digits_so_far, first_line, literal_place, BeginsWithLiteral, BeginsWithLiterals, BeginsWithSecondLine, BeginsWithAnswer};
 ghost use Rattle.sat_base.specs.values.Literals.{largest};
 
 use sat_base::{Lit, Var};
@@ -64,7 +64,7 @@ pub fn is_front(bytes: &[u8], text: &[u8]) -> bool
 /// `None` for another byte, a leading zero, and a name past the limit.
 fn with_digit(name: usize, byte: u8) -> Option<usize>
     requires { name ≤ largest }
-    ensures { MatchOption result (NoDigit name byte) (λ more. IsName more × (decimal more ≡ digits_so_far name ++ byte ∷ [])) }
+    ensures { MatchOption result (NoNameDigit name byte) (λ more. IsName more × (decimal more ≡ digits_so_far name ++ byte ∷ [])) }
 {
     if byte < b'0' || byte > b'9' {
         return None;
@@ -234,7 +234,7 @@ fn read_list<'a>(
     line: &mut Vec<Lit>,
 ) -> Result<&'a [u8], AnswerFault>
     requires { IsHead kind head.now }
-    ensures { MatchResult result (λ rest. BeginsWithLine kind bytes.now line.new.items rest.now) (NoLine kind bytes.now) }
+    ensures { MatchResult result (λ rest. BeginsWithSecondLine kind bytes.now line.new.items rest.now) (NoLine kind bytes.now) }
 {
     if bytes.is_empty() {
         return Err(AnswerFault::Missing);
@@ -275,7 +275,7 @@ pub fn read_line<'a>(
     bytes: &'a [u8],
     line: &mut Vec<Lit>,
 ) -> Result<&'a [u8], AnswerFault>
-    ensures { MatchResult result (λ rest. BeginsWithLine kind bytes.now line.new.items rest.now) (NoLine kind bytes.now) }
+    ensures { MatchResult result (λ rest. BeginsWithSecondLine kind bytes.now line.new.items rest.now) (NoLine kind bytes.now) }
 {
     match kind {
         AnswerKind::Sat => read_list(kind, b"v ", bytes, line),

@@ -3,7 +3,7 @@ ghost use Rattle.std.specs.Prelude.{◌≡◌, ◌+◌, ◌++◌, OnOk};
 ghost use Rattle.sat_base.specs.script.Judge.{WitnessName};
 ghost use Rattle.certify.specs.answers.Answers.{refused_line};
 ghost use Rattle.certify.specs.judge.Names.{refusal_in};
-ghost use Rattle.certify.specs.confirm.Lines.{IsLine};
+ghost use Rattle.certify.specs.confirm.Lines.{IsOneLine};
 
 use super::write::{push_number, push_refused_limit};
 use crate::judge::Refusal;
@@ -13,7 +13,7 @@ use std::alloc::AllocError;
 /// Appends the line that refuses the command of this number for a name in use of mode witness.
 fn push_refused_witness(out: &mut Vec<u8>, command: u64, name: Var) -> Result<(), AllocError>
     ensures text { OnOk result (out.new.items ≡ out.old.items ++ refused_line command (WitnessName (name + 1))) }
-    ensures line { OnOk result (IsLine (refused_line command (WitnessName (name + 1)))) }
+    ensures line { OnOk result (IsOneLine (refused_line command (WitnessName (name + 1)))) }
 {
     let number = name.index() as u64 + 1;
     out.extend_from_slice(b"c refused ")?;
@@ -31,7 +31,7 @@ pub(crate) fn push_refused(
     refusal: Refusal,
 ) -> Result<(), AllocError>
     ensures text { OnOk result (out.new.items ≡ out.old.items ++ refused_line command (refusal_in refusal)) }
-    ensures line { OnOk result (IsLine (refused_line command (refusal_in refusal))) }
+    ensures line { OnOk result (IsOneLine (refused_line command (refusal_in refusal))) }
 {
     match refusal {
         Refusal::Limit => push_refused_limit(out, command),

@@ -4,9 +4,9 @@ ghost use Rattle.std.specs.Bool.{MatchBool};
 ghost use Rattle.certify.specs.answers.Answers.{malformed_line, refused_line};
 ghost use Rattle.certify.specs.answers.AnswerForms.{named_literals};
 ghost use Rattle.certify.specs.answers.AnswerReading.{outcome_of};
-ghost use Rattle.certify.specs.confirm.Lines.{TakesLine, stop_after};
+ghost use Rattle.certify.specs.confirm.Lines.{TakesDueLine, stop_after};
 ghost use Rattle.certify.specs.confirm.Stopping.{Replies, SaysSo};
-ghost use Rattle.certify.specs.confirm.Lines.{IsLine, IsReply, IsWantedLine, NextLine, ReadsFirst, ReadsSecond, answers_source};
+ghost use Rattle.certify.specs.confirm.Lines.{IsOneLine, IsReply, IsWantedLine, NextLine, ReadsFirst, ReadsSecond, answers_source};
 ghost use Rattle.certify.specs.judge.Names.{refusal_in};
 ghost use Rattle.certify.specs.script.Ahead.{IsNotAtEnd, waiting};
 
@@ -117,9 +117,9 @@ impl Answers {
     /// Reads a line, which has to be the one that is due.
     fn take_due<A: CountedRead>(&mut self, answers: &mut A) -> Result<(), Stop>
         requires open_yet { IsNotAtEnd (answers_source A.seen answers.old self.old) }
-        requires line { IsLine self.old.due.items }
+        requires line { IsOneLine self.old.due.items }
         ensures { Replies true result (answers_source A.seen answers.old self.old) (answers_source A.seen answers.new self.new)
-            (λ before behind. TakesLine before behind self.old.due.items) }
+            (λ before behind. TakesDueLine before behind self.old.due.items) }
     {
         self.next_line(answers, Wanted::Due)?;
         if is_same(&self.lines.line, &self.due) {
@@ -140,7 +140,7 @@ impl Answers {
     ) -> Result<(), Stop>
         requires open_yet { IsNotAtEnd (answers_source A.seen answers.old self.old) }
         ensures { Replies true result (answers_source A.seen answers.old self.old) (answers_source A.seen answers.new self.new)
-            (λ before behind. TakesLine before behind (refused_line number (refusal_in refusal))) }
+            (λ before behind. TakesDueLine before behind (refused_line number (refusal_in refusal))) }
     {
         self.due.clear();
         push_refused(&mut self.due, number, refusal)?;
@@ -151,7 +151,7 @@ impl Answers {
     pub fn refuse_rest<A: CountedRead>(&mut self, answers: &mut A, number: u64) -> Result<(), Stop>
         requires open_yet { IsNotAtEnd (answers_source A.seen answers.old self.old) }
         ensures { Replies true result (answers_source A.seen answers.old self.old) (answers_source A.seen answers.new self.new)
-            (λ before behind. TakesLine before behind (malformed_line number)) }
+            (λ before behind. TakesDueLine before behind (malformed_line number)) }
     {
         self.due.clear();
         push_malformed(&mut self.due, number)?;

@@ -5,9 +5,9 @@ ghost use Rattle.certify.specs.confirm.Streams.{StepsGoOn, IsReadFew, SameLoan};
 ghost use Rattle.certify.specs.confirm.VerdictPromises.{numbers};
 ghost use Rattle.certify.specs.confirm.Confirming.{ConfirmsLast, ConfirmsNext, table_of};
 ghost use Rattle.certify.specs.confirm.Sessions.{ConfirmsBoth, answers_in};
-ghost use Rattle.certify.specs.confirm.ConfirmedScript.{ConfirmsScript, script_in, standing};
+ghost use Rattle.certify.specs.confirm.ConfirmedScript.{ConfirmsScript, script_in, confirm_place};
 ghost use Rattle.certify.specs.script.Ahead.{IsNotAtEnd};
-ghost use Rattle.certify.specs.script.Commands.{HasWhole, Means, end_reading};
+ghost use Rattle.certify.specs.script.Commands.{HasWhole, ReaderMeans, end_reading};
 ghost use Rattle.sat_base.specs.script.Language.{onto_commands, reading};
 
 use crate::confirm::commands::Session;
@@ -80,11 +80,11 @@ impl Confirmation {
         requires goes_on { StepsGoOn C.seen steps.old }
         requires open_yet { IsNotAtEnd (answers_in A.seen answers.old self.old.session) }
         requires script_open { IsNotAtEnd (script_in S.seen script.old self.old) }
-        requires reads { Means self.old.script.reader reading }
+        requires reads { ReaderMeans self.old.script.reader reading }
         ensures same { SameLoan steps.old steps.new }
         ensures bound { IsReadFew C.seen steps.new }
-        ensures ends { ConfirmsScript reading result (standing S.seen A.seen C.seen script.old answers.old steps.old self.old)
-            (standing S.seen A.seen C.seen script.new answers.new steps.new self.new) }
+        ensures ends { ConfirmsScript reading result (confirm_place S.seen A.seen C.seen script.old answers.old steps.old self.old)
+            (confirm_place S.seen A.seen C.seen script.new answers.new steps.new self.new) }
     {
         loop {
             let next = match self.script.next(script) {

@@ -3,7 +3,7 @@ ghost use Rattle.std.specs.Prelude.{◌≡◌, ◌+◌, Some, None, IfOk, if◌t
 ghost use Rattle.sat_base.specs.steps.StepViews.{step_of};
 ghost use Rattle.sat_checker.specs.matching.Expected.{NewName, NoName, Adds, Opens, Fails, Closes, Finish};
 ghost use Rattle.certify.specs.answers.AnswerForms.{named_literals};
-ghost use Rattle.certify.specs.confirm.SpeltLiterals.{AllAmong, Tells};
+ghost use Rattle.certify.specs.confirm.SpeltLiterals.{AllAmong, AnswersWhether};
 ghost use Rattle.certify.specs.judge.Names.{ListsUsed};
 ghost use Rattle.certify.specs.confirm.Comparing.{Compares, ComparesLine, Excuses, due_of};
 
@@ -150,7 +150,7 @@ fn compare_core(
 
 /// Whether a line lists the names in use, in order, and has the ask's literals.
 fn is_line(names: &Names, ask: &[Lit], line: &[Lit], room: &mut Room) -> Result<bool, AllocError>
-    ensures { IfOk result (λ yes. Tells yes (ListsUsed names.now line.now × AllAmong ask.now line.now)) }
+    ensures { IfOk result (λ yes. AnswersWhether yes (ListsUsed names.now line.now × AllAmong ask.now line.now)) }
 {
     if names.are_listed(line) {
         return has_all(line, ask, room);

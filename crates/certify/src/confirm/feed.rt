@@ -3,7 +3,7 @@ ghost use Rattle.std.specs.Prelude.{◌≡◌, ◌<◌, OnOk, false};
 ghost use Rattle.sat_base.specs.steps.StepReading.{reader_source};
 ghost use Rattle.sat_base.specs.steps.StepViews.{step_of};
 ghost use Rattle.sat_checker.specs.KernelView.{LooksAtMost};
-ghost use Rattle.certify.specs.confirm.Feeding.{Feeds, Settles};
+ghost use Rattle.certify.specs.confirm.Feeding.{FeedsStep, SettlesConflict};
 ghost use Rattle.certify.specs.confirm.Stepping.{ReadsOne, is_ordered_tag};
 ghost use Rattle.certify.specs.confirm.Streams.{StepsGoOn, StepsGoOnIf, IsReadFew, GoesOrStops, SameLoan, bytes_left, stream_of};
 ghost use Rattle.sat_checker.specs.CheckerView.{kernel_of};
@@ -38,7 +38,7 @@ pub(crate) fn read_next<R: CountedRead>(steps: &mut StepReader<'_, R>) -> Result
 
 /// Feeds a step. One that isn't accepted makes a no, whatever is expected.
 pub(crate) fn feed(checker: &mut Checker, step: &ProofStep<'_>) -> Result<(), Stop>
-    ensures feeds { Feeds result (kernel_of checker.old) (step_of step.now) (kernel_of checker.new) }
+    ensures feeds { FeedsStep result (kernel_of checker.old) (step_of step.now) (kernel_of checker.new) }
     ensures looks { LooksAtMost (kernel_of checker.old) (step_of step.now) (kernel_of checker.new) }
 {
     match checker.self_check_step(step) {
@@ -49,7 +49,7 @@ pub(crate) fn feed(checker: &mut Checker, step: &ProofStep<'_>) -> Result<(), St
 
 /// Settles a unit conflict that is pending.
 pub(crate) fn settle(checker: &mut Checker) -> Result<(), Stop>
-    ensures { Settles result (kernel_of checker.old) (kernel_of checker.new) }
+    ensures { SettlesConflict result (kernel_of checker.old) (kernel_of checker.new) }
 {
     // Mostly none is pending, and then nothing is cleared for what the call may answer, which is large.
     if checker.is_settled() {

@@ -2,7 +2,7 @@
 ghost use Rattle.std.specs.Prelude.{IfOk, ◌≡◌, []};
 ghost use Rattle.sat_checker.specs.matching.Expected.{EachSpelt, SameSet};
 ghost use Rattle.certify.specs.answers.AnswerForms.{named_literals};
-ghost use Rattle.certify.specs.confirm.SpeltLiterals.{AllAmong, SpellsAll, Tells};
+ghost use Rattle.certify.specs.confirm.SpeltLiterals.{AllAmong, SpellsAll, AnswersWhether};
 ghost use Rattle.certify.specs.confirm.Variables.{variable_in};
 
 use crate::confirm::variables::NamedVars;
@@ -43,7 +43,7 @@ impl Room {
 
 /// Whether each of the literals is one of the others.
 fn are_among(literals: &[Lit], others: &[Lit], sets: &mut Sets) -> Result<bool, AllocError>
-    ensures { IfOk result (λ yes. Tells yes (AllAmong literals.now others.now)) }
+    ensures { IfOk result (λ yes. AnswersWhether yes (AllAmong literals.now others.now)) }
 {
     copy_canonical(&mut sets.first, literals)?;
     copy_canonical(&mut sets.second, others)?;
@@ -52,7 +52,7 @@ fn are_among(literals: &[Lit], others: &[Lit], sets: &mut Sets) -> Result<bool, 
 
 /// Whether both lists have the same literals.
 fn are_same(xs: &[Lit], ys: &[Lit], sets: &mut Sets) -> Result<bool, AllocError>
-    ensures { IfOk result (λ yes. Tells yes (AllAmong xs.now ys.now × AllAmong ys.now xs.now)) }
+    ensures { IfOk result (λ yes. AnswersWhether yes (AllAmong xs.now ys.now × AllAmong ys.now xs.now)) }
 {
     copy_canonical(&mut sets.first, xs)?;
     copy_canonical(&mut sets.second, ys)?;
@@ -64,7 +64,7 @@ fn are_same(xs: &[Lit], ys: &[Lit], sets: &mut Sets) -> Result<bool, AllocError>
 
 /// Whether all of the literals stand in the line.
 pub(crate) fn has_all(line: &[Lit], literals: &[Lit], room: &mut Room) -> Result<bool, AllocError>
-    ensures { IfOk result (λ yes. Tells yes (AllAmong literals.now line.now)) }
+    ensures { IfOk result (λ yes. AnswersWhether yes (AllAmong literals.now line.now)) }
 {
     are_among(literals, line, &mut room.sets)
 }
@@ -92,7 +92,7 @@ pub(crate) fn are_spelt_in(
     room: &mut Room,
 ) -> Result<bool, AllocError>
     ensures { IfOk result
-        (λ yes. Tells yes (EachSpelt (variable_in variables.now) (named_literals literals.now) codes.now)) }
+        (λ yes. AnswersWhether yes (EachSpelt (variable_in variables.now) (named_literals literals.now) codes.now)) }
 {
     if spell(variables, literals, &mut room.spelt)? {
         are_among(&room.spelt, codes, &mut room.sets)
@@ -109,7 +109,7 @@ pub(crate) fn are_spelt_by(
     room: &mut Room,
 ) -> Result<bool, AllocError>
     ensures { IfOk result
-        (λ yes. Tells yes (SameSet (variable_in variables.now) (named_literals literals.now) codes.now)) }
+        (λ yes. AnswersWhether yes (SameSet (variable_in variables.now) (named_literals literals.now) codes.now)) }
 {
     if spell(variables, literals, &mut room.spelt)? {
         are_same(&room.spelt, codes, &mut room.sets)

@@ -1,7 +1,7 @@
 //! The variables that names stand for.
 ghost use Rattle.std.specs.Prelude.{ℕ, ◌≡◌, ◌+◌, ◌<◌, None, Some, OnOk};
 ghost use Rattle.sat_base.specs.values.Literals.{largest};
-ghost use Rattle.certify.specs.confirm.Variables.{IsPut, variable_in};
+ghost use Rattle.certify.specs.confirm.Variables.{PutsVariable, variable_in};
 
 use sat_base::{Table, Var};
 use std::alloc::{AllocError, Global};
@@ -32,7 +32,7 @@ impl NamedVars {
 
     /// Puts a name on a variable.
     pub fn put(&mut self, name: Var, variable: Var) -> Result<(), AllocError>
-        ensures put { OnOk result (IsPut self.old self.new (name + 1) (Some variable)) }
+        ensures put { OnOk result (PutsVariable self.old self.new (name + 1) (Some variable)) }
         ensures within { name < largest }
     {
         self.variables.set(name.index(), Some(variable), None)
@@ -40,7 +40,7 @@ impl NamedVars {
 
     /// Takes the variable from a name.
     pub fn remove(&mut self, name: Var)
-        ensures { IsPut self.old self.new (name + 1) None }
+        ensures { PutsVariable self.old self.new (name + 1) None }
     {
         self.variables.reset(name.index(), None);
     }

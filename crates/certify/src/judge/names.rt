@@ -5,7 +5,7 @@ ghost use Rattle.sat_base.specs.values.Literals.{largest};
 ghost use Rattle.sat_base.specs.script.Script.{Command as Spelled, Literal, names_of};
 ghost use Rattle.sat_base.specs.script.Judge.{Judge, accepted, bring_in, names_from, new_names, refused_literal, start, with_mode, without_name};
 ghost use Rattle.certify.specs.script.Commands.{IsFront, IsLent, kind_of};
-ghost use Rattle.certify.specs.judge.Names.{Changes, IsInUse, ListsUsed, changed, Judges, NamesStand, is_witnessed, limit_refusal, mode_of_state, refusal_said, state_in, taken};
+ghost use Rattle.certify.specs.judge.Names.{Changes, IsInUse, ListsUsed, changed, TellsRefusal, NamesStand, is_witnessed, limit_refusal, mode_of_state, refusal_said, state_in, taken};
 
 use super::{NameState, Refusal};
 use crate::script::{Command, CommandKind};
@@ -86,7 +86,7 @@ impl Names {
 
     /// Why the command is refused, if it is.
     pub fn refusal(&self, command: Command<'_>) -> Option<Refusal>
-        ensures judges { Judges result self.now command.entry }
+        ensures judges { TellsRefusal result self.now command.entry }
         ensures within { result ≡ None → command.entry.past_limit ≡ false }
     {
         match command.kind {

@@ -1,6 +1,6 @@
 //! Writing to the standard streams, and the statuses behind what was done.
 ghost use Rattle.std.specs.Prelude.{◌≡◌, [], OnOk, true};
-ghost use Rattle.sat_base.specs.device.Device.{Takes};
+ghost use Rattle.sat_base.specs.device.Device.{WriterTakes};
 
 use crate::fault::RunFault;
 use crate::program::fault::Fault;
@@ -21,7 +21,7 @@ pub(super) fn tell<E: CountedWrite>(errors: &mut E, name: &str) {
 
 /// Writes to standard output. A fault there is told as one of writing answers, whatever is written.
 pub(super) fn write_out<O: CountedWrite>(output: &mut O, bytes: &[u8]) -> Result<(), Fault>
-    ensures { OnOk result (Takes (O.seen output.old) (O.seen output.new) bytes.now) }
+    ensures { OnOk result (WriterTakes (O.seen output.old) (O.seen output.new) bytes.now) }
 {
     match output.write_all_counted(bytes) {
         Ok(()) => Ok(()),
@@ -31,7 +31,7 @@ pub(super) fn write_out<O: CountedWrite>(output: &mut O, bytes: &[u8]) -> Result
 
 /// Flushes standard output, so that no fault there is missed.
 pub(super) fn flush_out<O: CountedWrite>(output: &mut O) -> Result<(), Fault>
-    ensures took { OnOk result (Takes (O.seen output.old) (O.seen output.new) []) }
+    ensures took { OnOk result (WriterTakes (O.seen output.old) (O.seen output.new) []) }
     ensures flushed { OnOk result ((O.seen output.new).flushed ≡ true) }
 {
     match output.flush_counted() {
@@ -42,7 +42,7 @@ pub(super) fn flush_out<O: CountedWrite>(output: &mut O) -> Result<(), Fault>
 
 /// Writes a last line.
 pub(super) fn print_line<O: CountedWrite>(output: &mut O, line: &[u8]) -> Result<(), Fault>
-    ensures took { OnOk result (Takes (O.seen output.old) (O.seen output.new) line.now) }
+    ensures took { OnOk result (WriterTakes (O.seen output.old) (O.seen output.new) line.now) }
     ensures flushed { OnOk result ((O.seen output.new).flushed ≡ true) }
 {
     write_out(output, line)?;

@@ -1,6 +1,6 @@
 //! What the calls with files do, over any readers and writers. The answer of each is the status.
 ghost use Rattle.std.specs.Prelude.{◌≡◌, ◌≤◌, ◌↔◌, None, [], IfOk, OnOk, true};
-ghost use Rattle.sat_base.specs.device.Device.{Takes};
+ghost use Rattle.sat_base.specs.device.Device.{WriterTakes};
 ghost use Rattle.certify.specs.Devices.{gave, took};
 ghost use Rattle.certify.specs.declared.verdict.Verdict.TheVariants.{Yes};
 ghost use Rattle.certify.specs.program.Calls.{HasStatus};
@@ -111,7 +111,7 @@ pub(super) fn write_hints<C: CountedRead, H: CountedWrite, E: CountedWrite>(
 /// Flushes a hint text.
 fn finish_hints<H: CountedWrite>(hints: &mut H) -> Result<u8, Fault>
     ensures done { IfOk result (λ status. status ≡ 0) }
-    ensures took { OnOk result (Takes (H.seen hints.old) (H.seen hints.new) []) }
+    ensures took { OnOk result (WriterTakes (H.seen hints.old) (H.seen hints.new) []) }
     ensures flushed { OnOk result ((H.seen hints.new).flushed ≡ true) }
 {
     match hints.flush_counted() {

@@ -1,11 +1,11 @@
 //! Ends a run.
 ghost use Rattle.std.specs.Prelude.{◌≡◌, [], true, Err, OnErr, OnOk, Some};
-ghost use Rattle.sat_base.specs.device.Device.{Takes};
-ghost use Rattle.sat_solver.specs.proof.ProofView.{Gives, target_of};
+ghost use Rattle.sat_base.specs.device.Device.{WriterTakes};
+ghost use Rattle.sat_solver.specs.proof.ProofView.{GivesWriter, target_of};
 ghost use Rattle.certify.specs.Devices.{OneFailed};
 ghost use Rattle.certify.specs.run.Unfinished.{TookBytes};
 ghost use Rattle.certify.specs.run.SolverCalls.{IsReady, proof_in};
-ghost use Rattle.certify.specs.run.Ending.{Closes, EndsRun, FinishesRun, GivesFront, HasTarget, HasOpenTarget};
+ghost use Rattle.certify.specs.run.Ending.{EndsCertificate, EndsRun, FinishesRun, GivesFront, HasTarget, HasOpenTarget};
 
 use super::faults::fault_of;
 use super::session::Session;
@@ -17,7 +17,7 @@ use sat_solver::Solver;
 /// The certificate's writer, behind a fault. What waits for it is lost.
 fn give_back<C: CountedWrite + Drop>(solver: Solver<C>) -> C
     requires { HasTarget C.seen solver }
-    ensures gives { Gives (target_of C.seen (proof_in solver)) (Some (C.seen result)) }
+    ensures gives { GivesWriter (target_of C.seen (proof_in solver)) (Some (C.seen result)) }
     ensures front { GivesFront C.seen solver result }
 {
     match solver.into_target() {
@@ -30,7 +30,7 @@ fn give_back<C: CountedWrite + Drop>(solver: Solver<C>) -> C
 fn close_certificate<C: CountedWrite + Drop>(solver: Solver<C>) -> (C, Result<(), RunFault>)
     requires ready { IsReady solver }
     requires target { HasOpenTarget C.seen solver }
-    ensures closes { Closes C.seen result.1 solver result.0 }
+    ensures closes { EndsCertificate C.seen result.1 solver result.0 }
     ensures front { GivesFront C.seen solver result.0 }
 {
     let mut solver = solver;
@@ -43,7 +43,7 @@ fn close_certificate<C: CountedWrite + Drop>(solver: Solver<C>) -> (C, Result<()
 
 /// Flushes the answers, so that no fault of their writer is missed.
 fn flush_answers<A: CountedWrite>(answers: &mut A) -> Result<(), RunFault>
-    ensures took { OnOk result (Takes (A.seen answers.old) (A.seen answers.new) []) }
+    ensures took { OnOk result (WriterTakes (A.seen answers.old) (A.seen answers.new) []) }
     ensures flushed { OnOk result ((A.seen answers.new).flushed ≡ true) }
     ensures fails { OnErr result (OneFailed (A.seen answers.old) (A.seen answers.new)) }
     ensures fault { OnErr result (result ≡ Err RunFault.AnswersWrite) }

@@ -3,7 +3,7 @@ ghost use Rattle.std.specs.Prelude.{◌+◌, ◌<◌, ◌≡◌, ◌∷◌, [], 
 ghost use Rattle.sat_base.specs.script.Judge.{Judge, refusal_of};
 ghost use Rattle.sat_base.specs.script.Language.{Reading, onto_commands};
 ghost use Rattle.sat_base.specs.script.Script.{Command as Spelled};
-ghost use Rattle.certify.specs.run.Unfinished.{TookFront};
+ghost use Rattle.certify.specs.run.Unfinished.{TookAnswersFront};
 ghost use Rattle.certify.specs.judge.Names.{refusal_in};
 ghost use Rattle.certify.specs.run.SolverCalls.{IsCaused};
 ghost use Rattle.certify.specs.run.Standing.{Refused, WritesBoth};
@@ -24,7 +24,7 @@ pub fn refuse<A: CountedWrite, C: CountedWrite + Drop>(
     requires { session.old.refused < session.old.commands }
     ensures refused { OnOk result (Refused session.old session.new (refusal_in refusal) (A.seen answers.old) (A.seen answers.new)) }
     ensures stops { (j : Judge) (c : Spelled) (left : Reading) → refusal_of j c ≡ Some (refusal_in refusal)
-        → OnErr result (TookFront session.old.commands j (onto_commands (c ∷ []) left) (A.seen answers.old) (A.seen answers.new)) }
+        → OnErr result (TookAnswersFront session.old.commands j (onto_commands (c ∷ []) left) (A.seen answers.old) (A.seen answers.new)) }
     // No clause is stored, and no name comes in.
     ensures cause { IfErr result (λ e. IsCaused e ⊥ ⊥) }
     ensures written { WritesBoth result C.seen (A.seen answers.old) (A.seen answers.new) session.old.solver session.new.solver }

@@ -1,13 +1,13 @@
 //! Serves the commands of a script as they come, and then its end.
 ghost use Rattle.std.specs.Prelude.{◌≡◌, ◌+◌, ◌∷◌, [], false, IfErr, IfOk, OnErr, OnOk};
-ghost use Rattle.sat_base.specs.device.Device.{Takes};
+ghost use Rattle.sat_base.specs.device.Device.{WriterTakes};
 ghost use Rattle.sat_base.specs.script.Judge.{Judge, start};
 ghost use Rattle.sat_base.specs.script.Script.{Command as Spelled, Malformed};
 ghost use Rattle.certify.specs.answers.Answers.{malformed_line};
 ghost use Rattle.certify.specs.script.Ahead.{IsNotAtEnd, source_in};
-ghost use Rattle.certify.specs.script.Commands.{IsLent, IsSomeLent, Means, MeansIf, end_reading};
+ghost use Rattle.certify.specs.script.Commands.{IsLent, IsSomeLent, ReaderMeans, MeansIf, end_reading};
 ghost use Rattle.sat_base.specs.script.Language.{Reading, onto_commands, reading, written};
-ghost use Rattle.certify.specs.run.Unfinished.{TookFront};
+ghost use Rattle.certify.specs.run.Unfinished.{TookAnswersFront};
 ghost use Rattle.certify.specs.run.SolverCalls.{IsCaused, IsReady};
 ghost use Rattle.certify.specs.run.Standing.{CausedOver, RunGoesOn, JudgeIsAt, ServedNext, StopsOver, WritesBoth};
 ghost use Rattle.certify.specs.run.ServedScript.{ServesScript, ServesWhole, run_fault};
@@ -60,9 +60,9 @@ fn tell_malformed<A: CountedWrite, C: CountedWrite + Drop>(
     answers: &mut A,
     number: u64,
 ) -> Result<(), RunFault>
-    ensures told { OnOk result (Takes (A.seen answers.old) (A.seen answers.new) (malformed_line number)) }
+    ensures told { OnOk result (WriterTakes (A.seen answers.old) (A.seen answers.new) (malformed_line number)) }
     ensures same { session.new ≡ record session.old { page = session.new.page } }
-    ensures stops { (j : Judge) → OnErr result (TookFront number j ([], Malformed) (A.seen answers.old) (A.seen answers.new)) }
+    ensures stops { (j : Judge) → OnErr result (TookAnswersFront number j ([], Malformed) (A.seen answers.old) (A.seen answers.new)) }
     ensures cause { IfErr result (λ e. IsCaused e ⊥ ⊥) }
     ensures written { WritesBoth result C.seen (A.seen answers.old) (A.seen answers.new) session.old.solver session.new.solver }
 {
@@ -134,7 +134,7 @@ pub(crate) fn serve_all<S: CountedRead, A: CountedWrite, C: CountedWrite + Drop>
     requires goes_on { RunGoesOn session.old }
     requires at { JudgeIsAt session.old start }
     requires open_yet { IsNotAtEnd (source_in S.seen script.old stream.old.ahead) }
-    requires means { Means stream.old.reader reading }
+    requires means { ReaderMeans stream.old.reader reading }
     requires counts { MeansIf false stream.old.reader written }
     ensures { ServesScript C.seen start reading written result (source_in S.seen script.old stream.old.ahead)
         (source_in S.seen script.new stream.new.ahead) session.old session.new (A.seen answers.old) (A.seen answers.new) }

@@ -1,7 +1,7 @@
 //! Calls of a run's solver.
 ghost use Rattle.std.specs.Prelude.{IfOk, IfErr, OnOk};
 ghost use Rattle.sat_solver.specs.variables.Room.{users_in};
-ghost use Rattle.sat_solver.specs.solver.Adding.{Added, Assumed};
+ghost use Rattle.sat_solver.specs.solver.Adding.{Added, ReplacesAssumptions};
 ghost use Rattle.sat_solver.specs.solver.Whole.{HasFullStore};
 ghost use Rattle.certify.specs.run.SolverCalls.{FailsIf, IsAllowed, IsCaused, IsReady, LacksRoom, Limited, Searched, Solved};
 
@@ -35,7 +35,7 @@ pub fn assume<C: CountedWrite + Drop>(
 ) -> Result<(), RunFault>
     requires ready { IsReady solver.old }
     requires allowed { IsAllowed solver.old literals.now }
-    ensures assumed { OnOk result (Assumed C.seen solver.old solver.new literals.now) }
+    ensures assumed { OnOk result (ReplacesAssumptions C.seen solver.old solver.new literals.now) }
     ensures fails { FailsIf result C.seen solver.old solver.new }
     // No clause is stored.
     ensures cause { IfErr result (λ e. IsCaused e ⊥ (LacksRoom solver.old (users_in literals.now))) }

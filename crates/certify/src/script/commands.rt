@@ -2,7 +2,7 @@
 ghost use Rattle.std.specs.Prelude.{◌≡◌, ◌<◌, ◌&&◌, ◌||◌, ℕ, [], ◌∷◌, Bool, false, not, IfOk};
 ghost use Rattle.sat_base.specs.text.Text.{Token as Spelled, Letter, Number};
 ghost use Rattle.sat_base.specs.text.Tokenizing.{held, held_token};
-ghost use Rattle.sat_base.specs.script.Language.{Hand, Nothing, may_stand};
+ghost use Rattle.sat_base.specs.script.Language.{CommandHand, Nothing, may_stand};
 ghost use Rattle.certify.specs.script.Commands.{BeginsKind, EndsSo, HoldsHand, TakesToken, end_if, is_ask_kind, kind_of, meaning};
 
 use super::draft::Draft;
@@ -143,7 +143,7 @@ impl Commands {
 
     /// How a script ends behind a whole command, or with one in hand.
     pub fn ending(&self) -> ScriptEnd
-        ensures { (asks : Bool) (hand : Hand) → HoldsHand self.now.draft hand → end_if asks result ≡ meaning asks self.now hand [] }
+        ensures { (asks : Bool) (hand : CommandHand) → HoldsHand self.now.draft hand → end_if asks result ≡ meaning asks self.now hand [] }
     {
         if self.draft.is_open {
             return ScriptEnd::Malformed;
@@ -156,7 +156,7 @@ impl Commands {
 
     /// The last token, which the end of the text ended. It may be a zero, which completes a command.
     pub fn finish_with(&mut self, token: Token) -> (bool, ScriptEnd)
-        ensures { (t : Spelled) → token ≡ held_token t → (asks : Bool) (hand : Hand) → HoldsHand self.old.draft hand
+        ensures { (t : Spelled) → token ≡ held_token t → (asks : Bool) (hand : CommandHand) → HoldsHand self.old.draft hand
             → EndsSo asks result.0 result.1 self.new (meaning asks self.old hand (t ∷ [])) }
     {
         match token {

@@ -1,8 +1,8 @@
 //! The command in hand.
 ghost use Rattle.std.specs.Prelude.{◌<◌, ◌++◌, ◌∷◌, [], List, true, false, OnOk};
 ghost use Rattle.sat_base.specs.script.Script.{Literal};
-ghost use Rattle.sat_base.specs.script.Language.{Hand, Kind, Nothing, Within, command_in};
-ghost use Rattle.certify.specs.script.Commands.{HoldsHand, IsNumbered, IsWhole, kind_of, opened};
+ghost use Rattle.sat_base.specs.script.Language.{CommandHand, Kind, Nothing, Within, command_in};
+ghost use Rattle.certify.specs.script.Commands.{HoldsHand, IsNumbered, IsWholeCommand, kind_of, opened};
 
 use super::CommandKind;
 use sat_base::{Lit, Var};
@@ -65,7 +65,7 @@ impl Draft {
     /// Where nothing is in hand, a clause begins.
     #[inline(always)]
     pub fn open(&mut self)
-        ensures { (hand : Hand) → HoldsHand self.old hand → HoldsHand self.new (opened hand) }
+        ensures { (hand : CommandHand) → HoldsHand self.old hand → HoldsHand self.new (opened hand) }
     {
         if !self.is_open {
             self.begin(CommandKind::Clause);
@@ -76,7 +76,7 @@ impl Draft {
     #[inline(always)]
     pub fn end(&mut self)
         ensures none { HoldsHand self.new Nothing }
-        ensures whole { (hand : Hand) → HoldsHand self.old hand → IsWhole self.new (command_in hand) }
+        ensures whole { (hand : CommandHand) → HoldsHand self.old hand → IsWholeCommand self.new (command_in hand) }
     {
         self.open();
         self.is_open = false;

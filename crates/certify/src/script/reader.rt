@@ -2,7 +2,7 @@
 ghost use Rattle.std.specs.Prelude.{◌≡◌, ◌<◌, ◌≤◌, ℕ, Bool, false, List, [], length, take, IfOk};
 ghost use Rattle.sat_base.specs.script.Script.{Command as SpelledCommand};
 ghost use Rattle.sat_base.specs.script.Language.{Reading, reading, written};
-ghost use Rattle.certify.specs.script.Commands.{EndsLast, HasWhole, IsLent, MayGoOn, Means, MeansIf, TakesBytes};
+ghost use Rattle.certify.specs.script.Commands.{EndsLast, HasWhole, IsLent, MayGoOn, ReaderMeans, MeansIf, TakesBytes};
 
 use super::commands::Commands;
 use super::{Command, Reached, ScriptEnd};
@@ -20,7 +20,7 @@ pub struct ScriptReader {
 impl ScriptReader {
     /// A reader before the first byte of a script.
     pub fn new(alloc: Global) -> ScriptReader
-        ensures means { Means result reading }
+        ensures means { ReaderMeans result reading }
         ensures counts { MeansIf false result written }
     {
         ScriptReader {

@@ -2,9 +2,9 @@
 ghost use Rattle.std.specs.Prelude.{◌≡◌, [], false};
 ghost use Rattle.sat_base.specs.script.Script.{Command as SpelledCommand};
 ghost use Rattle.certify.specs.script.Ahead.{IsNotAtEnd, source_in, waiting};
-ghost use Rattle.certify.specs.script.Commands.{HasWhole, IsLent, Means, MeansIf};
+ghost use Rattle.certify.specs.script.Commands.{HasWhole, IsLent, ReaderMeans, MeansIf};
 ghost use Rattle.sat_base.specs.script.Language.{reading, written};
-ghost use Rattle.certify.specs.script.Streaming.{Brings, NextComes, Falls, FinishesText, TakesWaiting};
+ghost use Rattle.certify.specs.script.Streaming.{Brings, NextComes, LeavesFewerRounds, FinishesText, TakesWaiting};
 
 use super::reader::ScriptReader;
 use super::{Command, Reached, ScriptEnd};
@@ -33,7 +33,7 @@ pub(crate) struct CommandStream {
 impl CommandStream {
     /// Before the first byte.
     pub fn new(alloc: Global) -> CommandStream
-        ensures means { Means result.reader reading }
+        ensures means { ReaderMeans result.reader reading }
         ensures counts { MeansIf false result.reader written }
         ensures waiting { waiting result.ahead ≡ [] }
         ensures reads { result.ahead.reads ≡ 0 }
@@ -77,7 +77,7 @@ impl CommandStream {
         requires { waiting self.old.ahead ≡ [] }
         ensures brings { Brings result (source_in S.seen script.old self.old.ahead) (source_in S.seen script.new self.new.ahead)
             self.old.reader self.new.reader }
-        ensures falls { Falls result self.old.ahead self.new.ahead }
+        ensures falls { LeavesFewerRounds result self.old.ahead self.new.ahead }
     {
         if self.ahead.refill(script)? == 0 {
             return Ok(Some(self.finish()));
@@ -90,7 +90,7 @@ impl CommandStream {
         requires { IsNotAtEnd (source_in S.seen script.old self.old.ahead) }
         ensures brings { Brings result (source_in S.seen script.old self.old.ahead) (source_in S.seen script.new self.new.ahead)
             self.old.reader self.new.reader }
-        ensures falls { Falls result self.old.ahead self.new.ahead }
+        ensures falls { LeavesFewerRounds result self.old.ahead self.new.ahead }
     {
         if self.ahead.waiting().is_empty() {
             return self.refill(script);

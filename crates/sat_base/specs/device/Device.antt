@@ -48,8 +48,8 @@ CountsWrite r piece old new failed = MatchResult r
     (λ _. (new ≡ old + 1) × (failed ≡ true))
 
 -- a call adds the first bytes of the piece to those before, and a failed one adds none
-abbrev pub Adds : {E : Type 0} → Result ℕ E → List ℕ → List ℕ → List ℕ → Type 0
-Adds r piece old new = MatchResult r (λ n. new ≡ old ++ take n piece) (λ _. new ≡ old)
+abbrev pub AppendsFront : {E : Type 0} → Result ℕ E → List ℕ → List ℕ → List ℕ → Type 0
+AppendsFront r piece old new = MatchResult r (λ n. new ≡ old ++ take n piece) (λ _. new ≡ old)
 
 -- a reader is at its end where the last read gave nothing though there was room
 abbrev pub EndsIfNone : {E : Type 0} → Result ℕ E → List ℕ → Bool → Type 0
@@ -58,7 +58,7 @@ EndsIfNone r piece ended = MatchResult r (λ n. ended ≡ (nat_eq n 0 && nat_lt 
 -- one read, of which this is the room
 pub record ReadsOnce {E : Type 0} (r : Result ℕ E) (room : List ℕ) (old new : Reader) : Type 0 where
   pub told : ReadConsumes old.to_come new.to_come r room
-  pub given : Adds r room old.given new.given
+  pub given : AppendsFront r room old.given new.given
   pub ended : EndsIfNone r room new.ended
   pub failures : CountsErr r old.failures new.failures new.failed
   pub calls : new.calls ≡ old.calls + 1
@@ -67,7 +67,7 @@ pub record ReadsOnce {E : Type 0} (r : Result ℕ E) (room : List ℕ) (old new 
 -- one write of a piece
 pub record WritesOnce {E : Type 0} (r : Result ℕ E) (piece : List ℕ) (old new : Writer) : Type 0 where
   pub told : WriteAppends old.contents new.contents r piece
-  pub taken : Adds r piece old.taken new.taken
+  pub taken : AppendsFront r piece old.taken new.taken
   pub flushed : new.flushed ≡ false
   pub flushes : new.flushes ≡ old.flushes
   pub failures : CountsWrite r piece old.failures new.failures new.failed
@@ -154,7 +154,7 @@ ReadFails old new = (FailsLast old new ⊎ ReadsOut old new) × FewReads old new
 -- WHAT A WRITER TOOK
 
 -- it took this text, and no call failed; each but the flushes took some of it
-pub record Takes (old new : Writer) (text : List ℕ) : Type 0 where
+pub record WriterTakes (old new : Writer) (text : List ℕ) : Type 0 where
   pub taken : new.taken ≡ old.taken ++ text
   pub told : Appends old.contents new.contents text
   pub failures : new.failures ≡ old.failures
@@ -163,7 +163,7 @@ pub record Takes (old new : Writer) (text : List ℕ) : Type 0 where
   pub loans : new.loans ≡ old.loans
 
 -- it took a front of this text, and then one call failed, the last; each but this one and the flushes took some of it
-pub record Breaks (old new : Writer) (text : List ℕ) : Type 0 where
+pub record WriterBreaks (old new : Writer) (text : List ℕ) : Type 0 where
   pub front : List ℕ
   pub behind : List ℕ
   pub whole : text ≡ front ++ behind
@@ -177,4 +177,4 @@ pub record Breaks (old new : Writer) (text : List ℕ) : Type 0 where
 
 -- a text was written, or a front of it
 abbrev pub Puts : {E : Type 0} → List ℕ → Result (Unit {0}) E → Writer → Writer → Type 0
-Puts text r old new = MatchResult r (λ _. Takes old new text) (λ _. Breaks old new text)
+Puts text r old new = MatchResult r (λ _. WriterTakes old new text) (λ _. WriterBreaks old new text)

@@ -3,7 +3,7 @@ use Rattle.std.specs.Prelude.{◌≡◌, ℕ, ◌+◌, ◌≤◌, List, length}
 use Rattle.sat_base.specs.device.Device.{Reader, GaveFront}
 
 -- it was read so often, gave some bytes each time, and these were fed
-pub record HasRead (old new : Reader) (times : ℕ) (WasFed : List ℕ → Type 0) : Type 0 where
+pub record FeedsReads (old new : Reader) (times : ℕ) (WasFed : List ℕ → Type 0) : Type 0 where
   pub text : List ℕ
   pub front : GaveFront old new text
   pub fed : WasFed text

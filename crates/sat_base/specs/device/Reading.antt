@@ -7,7 +7,7 @@ use Rattle.sat_base.specs.device.Waiting.{waiting}
 use Rattle.sat_base.specs.declared.steps.error.StepError.{StepError}
 use Rattle.sat_base.specs.declared.steps.error.StepError.TheVariants as errors
 use Rattle.sat_base.specs.device.Device.{Reader, most_reads, piece_size}
-use Rattle.sat_base.specs.steps.Formats.{Format, Open, Live}
+use Rattle.sat_base.specs.steps.Formats.{Format, Open, IsProperFront}
 use Rattle.sat_base.specs.steps.Steps.{Step}
 use Rattle.sat_base.specs.steps.StepText.{tag_of, SpellsFields, SpellsStep}
 
@@ -125,19 +125,19 @@ ByteWithin (Err e) old new = ⊥
 
 -- A value's text was taken; or the front of one, and the bytes are over or can't be read; or such a front and a byte after which no text
 -- can follow. Want of memory comes where the bytes so far are the front of a text, or all of it.
-abbrev pub Reads : {A : Type 0} → Format A → Result A StepError → Source → Source → Type 0
-Reads F (Ok x) old new = (text : List ℕ) × Passes old new text × F x text
-Reads F (Err errors.Cut) old new = (text : List ℕ) × PassesToEnd old new text × Live F text
-Reads F (Err errors.BadByte) old new =
-    (front : List ℕ) × (byte : ℕ) × Passes old new (front ++ byte ∷ []) × Live F front × (Open F (front ++ byte ∷ []) → ⊥)
-Reads F (Err errors.Read) old new = (text : List ℕ) × Faults old new text × Live F text
-Reads F (Err errors.OutOfMemory) old new = (text : List ℕ) × Passes old new text × Open F text
-Reads F (Err errors.Ends) old new = ⊥
-Reads F (Err errors.HasFailed) old new = ⊥
+abbrev pub ReadsValue : {A : Type 0} → Format A → Result A StepError → Source → Source → Type 0
+ReadsValue F (Ok x) old new = (text : List ℕ) × Passes old new text × F x text
+ReadsValue F (Err errors.Cut) old new = (text : List ℕ) × PassesToEnd old new text × IsProperFront F text
+ReadsValue F (Err errors.BadByte) old new =
+    (front : List ℕ) × (byte : ℕ) × Passes old new (front ++ byte ∷ []) × IsProperFront F front × (Open F (front ++ byte ∷ []) → ⊥)
+ReadsValue F (Err errors.Read) old new = (text : List ℕ) × Faults old new text × IsProperFront F text
+ReadsValue F (Err errors.OutOfMemory) old new = (text : List ℕ) × Passes old new text × Open F text
+ReadsValue F (Err errors.Ends) old new = ⊥
+ReadsValue F (Err errors.HasFailed) old new = ⊥
 
 -- a value was read through an input
-abbrev pub Got : {A R : Type 0} → Format A → Result A StepError → (R → Reader) → Input R → Input R → Type 0
-Got F r seen old new = Reads F r (source_of seen old) (source_of seen new)
+abbrev pub ReadsFromInput : {A R : Type 0} → Format A → Result A StepError → (R → Reader) → Input R → Input R → Type 0
+ReadsFromInput F r seen old new = ReadsValue F r (source_of seen old) (source_of seen new)
 
 -- what was read, where the value was put elsewhere
 abbrev pub giving : {A : Type 0} → A → Result (Unit {0}) StepError → Result A StepError
@@ -155,14 +155,14 @@ Behind tag step bytes = (tag_of step ≡ tag) × SpellsFields step bytes
 
 -- The answers of a reader of steps: as for any format, and `Ends` where the bytes are over between steps, so that `Cut` is one within a
 -- step. Want of memory comes within a step or at its end: the bytes so far are the front of its text, or all of it.
-abbrev pub Answers : Result Step StepError → Source → Source → Type 0
-Answers (Ok step) old new = (text : List ℕ) × Passes old new text × SpellsStep step text
-Answers (Err errors.Ends) old new = PassesToEnd old new []
-Answers (Err errors.Cut) old new = (tag : ℕ) × (more : List ℕ) × PassesToEnd old new (tag ∷ more) × Live SpellsStep (tag ∷ more)
-Answers (Err errors.BadByte) old new =
-    (front : List ℕ) × (byte : ℕ) × Passes old new (front ++ byte ∷ []) × Live SpellsStep front
+abbrev pub AnswersStepRead : Result Step StepError → Source → Source → Type 0
+AnswersStepRead (Ok step) old new = (text : List ℕ) × Passes old new text × SpellsStep step text
+AnswersStepRead (Err errors.Ends) old new = PassesToEnd old new []
+AnswersStepRead (Err errors.Cut) old new = (tag : ℕ) × (more : List ℕ) × PassesToEnd old new (tag ∷ more) × IsProperFront SpellsStep (tag ∷ more)
+AnswersStepRead (Err errors.BadByte) old new =
+    (front : List ℕ) × (byte : ℕ) × Passes old new (front ++ byte ∷ []) × IsProperFront SpellsStep front
     × (Open SpellsStep (front ++ byte ∷ []) → ⊥)
-Answers (Err errors.Read) old new = (text : List ℕ) × Faults old new text × Live SpellsStep text
-Answers (Err errors.OutOfMemory) old new =
+AnswersStepRead (Err errors.Read) old new = (text : List ℕ) × Faults old new text × IsProperFront SpellsStep text
+AnswersStepRead (Err errors.OutOfMemory) old new =
     (tag : ℕ) × (more : List ℕ) × Passes old new (tag ∷ more) × Open SpellsStep (tag ∷ more)
-Answers (Err errors.HasFailed) old new = ⊥
+AnswersStepRead (Err errors.HasFailed) old new = ⊥

@@ -1,6 +1,6 @@
 -- Bytes that wait for a writer.
 use Rattle.std.specs.Prelude.{◌≡◌, ℕ, true, List, [], ◌++◌, Result, MatchResult}
-use Rattle.sat_base.specs.device.Device.{Writer, Takes, Breaks}
+use Rattle.sat_base.specs.device.Device.{Writer, WriterTakes, WriterBreaks}
 use Rattle.sat_base.specs.steps.Formats.{Format}
 use Rattle.sat_base.specs.declared.device.output.Output.{Output}
 
@@ -21,11 +21,11 @@ sink_of seen waiting o = record { writer = seen o.writer; waiting = waiting o.pe
 pub record Sent (old new : Sink) (text : List ℕ) : Type 0 where
   pub fresh : List ℕ
   pub flows : old.waiting ++ text ≡ fresh ++ new.waiting
-  pub takes : Takes old.writer new.writer fresh
+  pub takes : WriterTakes old.writer new.writer fresh
 
 -- Or one call failed, the last. The writer took a front of both, and the rest is lost.
 pub record Broken (old new : Sink) (text : List ℕ) : Type 0 where
-  pub breaks : Breaks old.writer new.writer (old.waiting ++ text)
+  pub breaks : WriterBreaks old.writer new.writer (old.waiting ++ text)
   pub none : new.waiting ≡ []
 
 -- a text was sent, or one call failed

@@ -43,10 +43,10 @@ abbrev pub AllStay : Clauses → Clauses → Type 0
 AllStay old new = Stay old new × (new.header ≡ old.header)
 
 -- a turn that is no fault was taken
-abbrev pub Turns : Turn → Clauses → Clauses → Type 0
-Turns (GoesOn hand) old new = Stay old new × (hand_in new ≡ hand)
-Turns (Ends clause) old new = (new.formula ≡ with_clause clause old.formula) × (new.count ≡ held (old.count + 1)) × (hand_in new ≡ None)
-Turns (Fails ending) old new = ⊥
+abbrev pub TakesTokenTurn : Turn → Clauses → Clauses → Type 0
+TakesTokenTurn (GoesOn hand) old new = Stay old new × (hand_in new ≡ hand)
+TakesTokenTurn (Ends clause) old new = (new.formula ≡ with_clause clause old.formula) × (new.count ≡ held (old.count + 1)) × (hand_in new ≡ None)
+TakesTokenTurn (Fails ending) old new = ⊥
 
 -- a number that is a literal
 abbrev pub is_literal : Token → Bool
@@ -60,11 +60,11 @@ abbrev pub NeedsRoom : Token → Type 0
 NeedsRoom t = (is_literal t ≡ true) ⊎ ((hand : Hand) (n : ℕ) → turn hand n t ≡ Ends (literals_in hand))
 
 -- what a token is answered by, on whichever line it stands
-abbrev pub Collects : Result (Unit {0}) Refusal → Clauses → Token → Clauses → Type 0
-Collects (Ok u) old t new = ((n : ℕ) → Turns (turn (hand_in old) n t) old new) × (new.header ≡ header_behind t old.header)
-Collects (Err refusal.Malformed) old t new = AllStay old new × ((n : ℕ) → turn (hand_in old) n t ≡ Fails (Malformed n))
-Collects (Err refusal.Limit) old t new = AllStay old new × ((n : ℕ) → turn (hand_in old) n t ≡ Fails (Limit n))
-Collects (Err refusal.OutOfMemory) old t new = AllStay old new × NeedsRoom t
+abbrev pub CollectsToken : Result (Unit {0}) Refusal → Clauses → Token → Clauses → Type 0
+CollectsToken (Ok u) old t new = ((n : ℕ) → TakesTokenTurn (turn (hand_in old) n t) old new) × (new.header ≡ header_behind t old.header)
+CollectsToken (Err refusal.Malformed) old t new = AllStay old new × ((n : ℕ) → turn (hand_in old) n t ≡ Fails (Malformed n))
+CollectsToken (Err refusal.Limit) old t new = AllStay old new × ((n : ℕ) → turn (hand_in old) n t ≡ Fails (Limit n))
+CollectsToken (Err refusal.OutOfMemory) old t new = AllStay old new × NeedsRoom t
 
 -- whether a clause has begun
 abbrev pub IsInside : Bool → Hand → Type 0

@@ -1,7 +1,7 @@
 -- Formulas' texts, and what they say.
 use Rattle.std.specs.Prelude.{◌≡◌, ℕ, ◌-◌, List, [], ◌∷◌, true, false, None, Some, codes}
 use Rattle.sat_base.specs.values.Literals.{coded}
-use Rattle.sat_base.specs.text.Text.{header_of}
+use Rattle.sat_base.specs.text.Text.{dimacs_header}
 use Rattle.sat_base.specs.dimacs.Dimacs.{Clean, Malformed, Limit, settled, IsDimacs}
 use Rattle.sat_base.specs.dimacs.Parsing.{whole_lines}
 
@@ -15,7 +15,7 @@ minus n = coded (n - 1) false
 
 -- the text's header says so many variables and clauses
 abbrev pub HasHeader : List ℕ → ℕ → ℕ → Type 0
-HasHeader text v c = header_of text ≡ Some (v, c)
+HasHeader text v c = dimacs_header text ≡ Some (v, c)
 
 -- texts that end cleanly, with their clauses
 pub record CleanRows : Type 0 where
@@ -45,7 +45,7 @@ pub record FaultRows : Type 0 where
 pub record HeaderRows : Type 0 where
   pub numbers : HasHeader (codes "c x\np cnf 2 1\n1 -2 0\n") 2 1
   pub no_LF : HasHeader (codes "p cnf 07 99999999999999999999") 7 99999999999999999999
-  pub none : header_of (codes "1 0\n") ≡ None
+  pub none : dimacs_header (codes "1 0\n") ≡ None
 
 -- fronts of texts: up to the last blank, and up to the last LF
 pub record PartRows : Type 0 where

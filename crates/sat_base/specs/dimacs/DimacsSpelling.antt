@@ -8,8 +8,8 @@ use Rattle.sat_base.specs.script.Language.{spoken}
 use Rattle.sat_base.specs.script.ScriptSpelling.{IsZero}
 
 -- the number of a literal's variable, from 1, negative if the literal is
-abbrev pub number_of : ℕ → Token
-number_of l = Number (not (is_positive l)) (variable l + 1)
+abbrev pub signed_number : ℕ → Token
+signed_number l = Number (not (is_positive l)) (variable l + 1)
 
 -- their numbers are at most 2^28
 abbrev pub AreWithin : List ℕ → Type 0
@@ -17,7 +17,7 @@ AreWithin ls = AllByRecursion (λ l. variable l < largest) ls
 
 -- a clause is the numbers of its literals and a zero
 abbrev pub SpellsClause : List ℕ → List Token → Type 0
-SpellsClause ls ts = (last : Token) × IsZero last × AreWithin ls × (ts ≡ map number_of ls ++ last ∷ [])
+SpellsClause ls ts = (last : Token) × IsZero last × AreWithin ls × (ts ≡ map signed_number ls ++ last ∷ [])
 
 -- clauses are spelled one after another
 abbrev pub SpellsClauses : List (List ℕ) → List Token → Type 0

@@ -3,10 +3,10 @@ use Rattle.std.specs.Prelude.{◌≡◌, ℕ, length, List, [], ◌++◌, true, 
 use Rattle.sat_base.specs.declared.dimacs.parser.Parser.{Parser}
 use Rattle.sat_base.specs.declared.dimacs.error.DimacsError.{DimacsError}
 use Rattle.sat_base.specs.declared.dimacs.error.DimacsError.TheVariants as errors
-use Rattle.sat_base.specs.text.Text.{is_blank, Token, Scan, scan, header_first, header_of}
+use Rattle.sat_base.specs.text.Text.{is_blank, Token, Scan, scan, header_first, dimacs_header}
 use Rattle.sat_base.specs.text.Spot.{onto}
 use Rattle.sat_base.specs.text.WrongWords.{RightAhead}
-use Rattle.sat_base.specs.text.Tokenizing.{held, Stands, Quiet}
+use Rattle.sat_base.specs.text.Tokenizing.{held, StandsBefore, HoldsNoWord}
 use Rattle.sat_base.specs.values.Formulas.{vars_of}
 use Rattle.sat_base.specs.dimacs.Dimacs.{Hand, Dimacs, clauses_of}
 use Rattle.sat_base.specs.dimacs.Collecting.{hand_in}
@@ -30,21 +30,21 @@ abbrev pub onto_clauses : List (List ℕ) → Dimacs → Dimacs
 onto_clauses cs d = record { clauses = cs ++ d.clauses; ending = d.ending }
 
 -- Tokens have been taken: what they and any others say is these clauses, and then what the others say behind what is in hand.
-pub record Turned (before : List (ℕ × Token)) (all : List (List ℕ)) (hand : Hand) : Type 0 where
+pub record HaveTakenTokens (before : List (ℕ × Token)) (all : List (List ℕ)) (hand : Hand) : Type 0 where
   pub says : (last : ℕ) (ts : List (ℕ × Token)) → clauses_of None last (before ++ ts) ≡ onto_clauses all (clauses_of hand last ts)
   pub sound : (ts : List (ℕ × Token)) → NoFault hand ts → NoFault None (before ++ ts)
 
 -- a parser that may go on
-pub record Goes (p : Parser) : Type 0 where
+pub record IsGoingParser (p : Parser) : Type 0 where
   pub ended : p.ended ≡ false
   pub before : List (ℕ × Token)  -- the tokens taken
   pub left_of : List ℕ → Scan  -- what is still to be read, whatever bytes come
-  pub stands : Stands p.tokenizer left_of
+  pub stands : StandsBefore p.tokenizer left_of
   pub scans : (rest : List ℕ) → scan (p.history.fed ++ rest) ≡ onto before (left_of rest)
-  pub turned : Turned before (all_in p) (hand_in p.clauses)
-  pub heads : header_of (whole_lines p.history.fed) ≡ header_first before
+  pub turned : HaveTakenTokens before (all_in p) (hand_in p.clauses)
+  pub heads : dimacs_header (whole_lines p.history.fed) ≡ header_first before
   pub sound : NoFault None (scan (whole_lines p.history.fed)).tokens
-  pub quiet : is_blank (last_byte p.history.fed) ≡ true → Quiet (left_of [])
+  pub quiet : is_blank (last_byte p.history.fed) ≡ true → HoldsNoWord (left_of [])
   pub right : RightAhead left_of
 
 -- what is so of every parser
@@ -52,13 +52,13 @@ pub record IsParser (p : Parser) : Type 0 where
   pub clauses : clauses_read (progress_of p) ≡ all_in p
   pub count : p.clauses.count ≡ held (length (all_in p))
   pub vars : p.clauses.formula.var_count ≡ vars_of (all_in p)
-  pub header : p.clauses.header ≡ held_numbers (header_of (lines_read (progress_of p)))
-  pub goes : p.stopped ≡ false → Goes p
+  pub header : p.clauses.header ≡ held_numbers (dimacs_header (lines_read (progress_of p)))
+  pub goes : p.stopped ≡ false → IsGoingParser p
 
 -- the end of the text behind its last word: within a clause it is malformed
 abbrev pub EndsClean : Result (Unit {0}) DimacsError → Parser → Type 0
 EndsClean (Ok u) p = hand_in p.clauses ≡ None
 EndsClean (Err (errors.Malformed line)) p =
     ((ls : List ℕ) × (hand_in p.clauses ≡ Some ls))
-    × ((before : List ℕ → Scan) → Stands p.tokenizer before → line ≡ held (before []).last)
+    × ((before : List ℕ → Scan) → StandsBefore p.tokenizer before → line ≡ held (before []).last)
 EndsClean (Err e) p = ⊥

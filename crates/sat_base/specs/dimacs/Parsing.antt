@@ -4,7 +4,7 @@ use Rattle.std.specs.Io.KnownBytes.{IsAtEnd}
 use Rattle.std.specs.List.{FoldsTo, concat}
 use Rattle.std.specs.Prelude.{◌≡◌, ◌<◌, ◌≤◌, ◌+◌, ◌⊎◌, ◌-◌, ℕ, length, get_or, nat_eq, List, [], ◌∷◌, ◌++◌, Bool, true, false, ◌||◌, Option, None, Some, Result, Ok, Err, if◌then◌else◌}
 use Rattle.sat_base.specs.device.Device.{Reader, CanFollow, GaveFront, GaveEnough}
-use Rattle.sat_base.specs.text.Text.{is_blank, Token, Number, scan, tokens, header_of}
+use Rattle.sat_base.specs.text.Text.{is_blank, Token, Number, scan, tokens, dimacs_header}
 use Rattle.sat_base.specs.text.WrongWords.{RightAhead}
 use Rattle.sat_base.specs.text.Tokenizing.{held}
 use Rattle.sat_base.specs.values.Formulas.{Formula, vars_of}
@@ -89,15 +89,15 @@ pub record IsSoundText (text : List ℕ) : Type 0 where
   pub words : RightAhead (λ rest. scan (text ++ rest))
 
 -- no ended line of the bytes taken has a fault, and they can go on without a wrong word
-abbrev pub IsSound : Progress → Type 0
-IsSound p = IsSoundText p.fed
+abbrev pub IsSoundSoFar : Progress → Type 0
+IsSoundSoFar p = IsSoundText p.fed
 
 -- none of what was given
 abbrev pub GaveSound : Reader → Reader → Type 0
 GaveSound old new = (text : List ℕ) × GaveFront old new text × IsSoundText text
 
 -- a front of the piece was taken, up to and with a fault
-pub record Faults (ending : Ending) (piece : List ℕ) (old new : Progress) : Type 0 where
+pub record EndsAtFault (ending : Ending) (piece : List ℕ) (old new : Progress) : Type 0 where
   pub front : List ℕ
   pub behind : List ℕ
   pub whole : piece ≡ front ++ behind
@@ -137,14 +137,14 @@ pub record FallsShort (piece : List ℕ) (old new : Progress) : Type 0 where
   pub well : GoesWell (old.fed ++ front) byte
 
 -- what a piece is answered by
-abbrev pub Feeds : Result (Unit {0}) DimacsError → List ℕ → Progress → Progress → Type 0
-Feeds (Ok u) piece old new = (old.stopped ≡ false) × (new ≡ with_fed piece old)
-Feeds (Err (errors.Malformed line)) piece old new =
-    (old.stopped ≡ false) × (n : ℕ) × (line ≡ held n) × Faults (Malformed n) piece old new
-Feeds (Err (errors.Limit line)) piece old new = (old.stopped ≡ false) × (n : ℕ) × (line ≡ held n) × Faults (Limit n) piece old new
-Feeds (Err errors.OutOfMemory) piece old new = (old.stopped ≡ false) × FallsShort piece old new
-Feeds (Err errors.HasFailed) piece old new = (old.stopped ≡ true) × (new ≡ old)
-Feeds (Err errors.Read) piece old new = ⊥
+abbrev pub FeedsPiece : Result (Unit {0}) DimacsError → List ℕ → Progress → Progress → Type 0
+FeedsPiece (Ok u) piece old new = (old.stopped ≡ false) × (new ≡ with_fed piece old)
+FeedsPiece (Err (errors.Malformed line)) piece old new =
+    (old.stopped ≡ false) × (n : ℕ) × (line ≡ held n) × EndsAtFault (Malformed n) piece old new
+FeedsPiece (Err (errors.Limit line)) piece old new = (old.stopped ≡ false) × (n : ℕ) × (line ≡ held n) × EndsAtFault (Limit n) piece old new
+FeedsPiece (Err errors.OutOfMemory) piece old new = (old.stopped ≡ false) × FallsShort piece old new
+FeedsPiece (Err errors.HasFailed) piece old new = (old.stopped ≡ true) × (new ≡ old)
+FeedsPiece (Err errors.Read) piece old new = ⊥
 
 -- what the end of the text is answered by
 abbrev pub Finishes : Result (Unit {0}) DimacsError → Progress → Progress → Type 0
@@ -187,17 +187,17 @@ abbrev pub KeepsText : {F E : Type 0} → Calls F E → F → Type 0
 KeepsText calls f = (ps : List (MutBor Progress)) → KeepsEach calls f ps
 
 -- the parser has read a text that ends cleanly
-abbrev pub HasRead : Progress → List ℕ → Type 0
-HasRead p text = (p.fed ≡ text) × (p.stopped ≡ true) × (p.ended ≡ true) × ((dimacs text).ending ≡ Clean)
+abbrev pub HasReadCleanly : Progress → List ℕ → Type 0
+HasReadCleanly p text = (p.fed ≡ text) × (p.stopped ≡ true) × (p.ended ≡ true) × ((dimacs text).ending ≡ Clean)
 
 -- A text is all that is looked at, whatever would follow: it ends where its reader does, or at a line that ends formulas.
-abbrev pub IsWhole : Reader → Reader → List ℕ → Type 0
-IsWhole old new text = (rest : List ℕ) → CanFollow old new rest
-    → (dimacs (text ++ rest) ≡ dimacs text) × (header_of (text ++ rest) ≡ header_of text)
+abbrev pub IsWholeText : Reader → Reader → List ℕ → Type 0
+IsWholeText old new text = (rest : List ℕ) → CanFollow old new rest
+    → (dimacs (text ++ rest) ≡ dimacs text) × (dimacs_header (text ++ rest) ≡ dimacs_header text)
 
 -- what was given is answered by, where a caller sees each piece's clauses
 abbrev pub ParsesInParts : {E : Type 0} → Reader → Reader → Result Progress (IncrementalError E) → Type 0
-ParsesInParts old new (Ok p) = (text : List ℕ) × GaveFront old new text × HasRead p text × IsWhole old new text
+ParsesInParts old new (Ok p) = (text : List ℕ) × GaveFront old new text × HasReadCleanly p text × IsWholeText old new text
 ParsesInParts old new (Err (parts.Dimacs e)) = GaveEnough old new (Parses (Err e))
 ParsesInParts old new (Err (parts.Caller e)) = Unit {0}
 
@@ -207,23 +207,23 @@ Visits calls s answer t = (p : MutBor Progress) × (q : MutBor Progress) × (p.n
 
 -- a piece is taken, and then the closure has the parser
 abbrev pub FeedsAndVisits : {F E : Type 0} → Calls F E → F × Progress → List ℕ → F × Progress → Type 0
-FeedsAndVisits calls s piece t = (0 < length piece) × (fed : Progress) × Feeds (Ok tt) piece s.1 fed × IsSound fed
+FeedsAndVisits calls s piece t = (0 < length piece) × (fed : Progress) × FeedsPiece (Ok tt) piece s.1 fed × IsSoundSoFar fed
     × Visits calls (s.0, fed) (Ok tt) t
 
 -- an answer to a last piece, or to the end of the text
-abbrev pub Answers : Result (Unit {0}) DimacsError → List ℕ → Reader × Reader → Progress → Progress → Type 0
-Answers answer piece reader old new =
-    ((0 < length piece) × Feeds answer piece old new) ⊎ ((piece ≡ []) × IsWhole reader.0 reader.1 old.fed × Finishes answer old new)
+abbrev pub AnswersLastPiece : Result (Unit {0}) DimacsError → List ℕ → Reader × Reader → Progress → Progress → Type 0
+AnswersLastPiece answer piece reader old new =
+    ((0 < length piece) × FeedsPiece answer piece old new) ⊎ ((piece ≡ []) × IsWholeText reader.0 reader.1 old.fed × Finishes answer old new)
 
 -- what comes behind the pieces that were taken and seen: the closure has the parser once more, unless a read has failed
 abbrev pub LastVisit : {F E : Type 0} → Calls F E → List ℕ → Reader × Reader → Result Progress (IncrementalError E) → F × Progress
     → Type 0
-LastVisit {F} calls piece reader (Ok p) s = (piece ≡ []) × IsWhole reader.0 reader.1 s.1.fed × (mid : Progress) × (f : F)
+LastVisit {F} calls piece reader (Ok p) s = (piece ≡ []) × IsWholeText reader.0 reader.1 s.1.fed × (mid : Progress) × (f : F)
     × Finishes (Ok tt) s.1 mid × Visits calls (s.0, mid) (Ok tt) (f, p)
 LastVisit {F} calls piece reader (Err (parts.Dimacs e)) s = ((e ≡ errors.Read) × (piece ≡ []))
-    ⊎ ((mid : Progress) × (t : F × Progress) × Answers (Err e) piece reader s.1 mid × Visits calls (s.0, mid) (Ok tt) t)
+    ⊎ ((mid : Progress) × (t : F × Progress) × AnswersLastPiece (Err e) piece reader s.1 mid × Visits calls (s.0, mid) (Ok tt) t)
 LastVisit {F} calls piece reader (Err (parts.Caller e)) s = (answer : Result (Unit {0}) DimacsError) × (mid : Progress)
-    × (t : F × Progress) × Answers answer piece reader s.1 mid × Visits calls (s.0, mid) (Err e) t
+    × (t : F × Progress) × AnswersLastPiece answer piece reader s.1 mid × Visits calls (s.0, mid) (Err e) t
 
 -- The closure had the parser after each piece that the reader gave, and after the end of the text. Each read gave one of them, but one.
 pub record VisitsAll {F E : Type 0} (calls : Calls F E) (f : F) (old new : Reader) (result : Result Progress (IncrementalError E)) : Type 0 where

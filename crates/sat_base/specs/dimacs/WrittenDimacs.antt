@@ -2,7 +2,7 @@
 use Rattle.std.specs.Prelude.{◌≡◌, ◌≤◌, ◌<◌, ◌^◌, length, Some}
 use Rattle.sat_base.specs.values.Literals.{largest}
 use Rattle.sat_base.specs.values.Formulas.{Formula, vars_of}
-use Rattle.sat_base.specs.text.Text.{header_of}
+use Rattle.sat_base.specs.text.Text.{dimacs_header}
 use Rattle.sat_base.specs.dimacs.Dimacs.{IsDimacs, Clean}
 use Rattle.sat_base.specs.dimacs.DimacsText.{dimacs_text}
 
@@ -10,4 +10,4 @@ use Rattle.sat_base.specs.dimacs.DimacsText.{dimacs_text}
 -- and its clauses are no more than a count can tell.
 abbrev pub WrittenIsRead : Type 0
 WrittenIsRead = (f : Formula) → vars_of f.clauses ≤ largest → f.var_count ≤ largest → length f.clauses < 2 ^ 64
-    → IsDimacs (dimacs_text f) f.clauses Clean × (header_of (dimacs_text f) ≡ Some (f.var_count, length f.clauses))
+    → IsDimacs (dimacs_text f) f.clauses Clean × (dimacs_header (dimacs_text f) ≡ Some (f.var_count, length f.clauses))

@@ -12,7 +12,7 @@ NamesIncrease [] = Unit {0}
 NamesIncrease (n ∷ ns) = AllByRecursion (λ m. n.name < m.name) ns × NamesIncrease ns
 
 -- names in use rise below the first never used, at most one past the limit; just the identities given have modes, and no others occur
-pub record IsKept (j : Judge) : Type 0 where
+pub record JudgeInvariant (j : Judge) : Type 0 where
   pub limit : j.first_unused ≤ largest + 1
   pub order : NamesIncrease j.in_use
   pub used : AllByRecursion (λ n. n.name < j.first_unused) j.in_use
@@ -23,7 +23,7 @@ pub record IsKept (j : Judge) : Type 0 where
 -- After every script names increase, are below the first never used and within the limit; each identity has a mode; names in use and
 -- clauses speak of identities given out.
 abbrev pub JudgeIsKept : Type 0
-JudgeIsKept = (commands : List Command) → IsKept (after_script commands start)
+JudgeIsKept = (commands : List Command) → JudgeInvariant (after_script commands start)
 
 -- the valuation, false from this variable on
 abbrev pub only_below : ℕ → Valuation → Valuation

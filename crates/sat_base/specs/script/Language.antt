@@ -1,7 +1,7 @@
 -- The language of scripts: what a text reads as, token by token.
 use Rattle.std.specs.Prelude.{ℕ, ◌≡◌, Bool, true, not, ◌&&◌, Option, Some, None, List, [], ◌∷◌, ◌++◌, map, nat_eq, is_some, if◌then◌else◌}
-use Rattle.sat_base.specs.text.Text.{Token, Number, Letter, Header, Wrong, tokens, header_of}
-use Rattle.sat_base.specs.script.Script.{Literal, Command, Clause, Ask, Hide, Witness, Sample, Ending, Clean, Malformed, names_of, has_ask, is_clean}
+use Rattle.sat_base.specs.text.Text.{Token, Number, Letter, Header, Wrong, tokens, dimacs_header}
+use Rattle.sat_base.specs.script.Script.{Literal, Command, Clause, Ask, Hide, Witness, Sample, ScriptEnding, Clean, Malformed, names_of, has_ask, is_clean}
 
 -- the kinds of command; a clause is one, which no letter begins
 pub data Kind : Type 0 where
@@ -20,18 +20,18 @@ command_of OfWitness ls = Witness (names_of ls)
 command_of OfSample ls = Sample (names_of ls)
 
 -- what is in hand between two tokens: nothing, or the literals or names so far of a command
-pub data Hand : Type 0 where
-  Nothing : Hand
-  Within : Kind → List Literal → Hand
+pub data CommandHand : Type 0 where
+  Nothing : CommandHand
+  Within : Kind → List Literal → CommandHand
 
 -- what a token makes of it: it goes on, it ends as a command, or the text is malformed
-pub data Turn : Type 0 where
-  GoesOn : Hand → Turn
-  Ends : Command → Turn
-  Fails : Turn
+pub data CommandTurn : Type 0 where
+  GoesOn : CommandHand → CommandTurn
+  Ends : Command → CommandTurn
+  Fails : CommandTurn
 
 -- the command that a zero ends; a zero alone is the clause of no literals
-abbrev pub command_in : Hand → Command
+abbrev pub command_in : CommandHand → Command
 command_in Nothing = Clause []
 command_in (Within kind ls) = command_of kind ls
 
@@ -44,9 +44,9 @@ may_stand OfWitness positive = positive
 may_stand OfSample positive = positive
 
 -- a literal begins a clause or stands in a command
-abbrev pub with_literal : Hand → Literal → Turn
-with_literal Nothing l = GoesOn (Within OfClause (l ∷ []))
-with_literal (Within kind ls) l = if may_stand kind l.positive then GoesOn (Within kind (ls ++ l ∷ [])) else Fails
+abbrev pub turn_with_literal : CommandHand → Literal → CommandTurn
+turn_with_literal Nothing l = GoesOn (Within OfClause (l ∷ []))
+turn_with_literal (Within kind ls) l = if may_stand kind l.positive then GoesOn (Within kind (ls ++ l ∷ [])) else Fails
 
 -- `a`, `h`, `w` and `s` begin a command
 abbrev pub kind_of_letter : ℕ → Option Kind
@@ -57,46 +57,46 @@ kind_of_letter b =
     else (if nat_eq b 115 then Some OfSample else None)))
 
 -- a letter begins a command of this kind, or is none of the four
-abbrev pub beginning : Option Kind → Turn
+abbrev pub beginning : Option Kind → CommandTurn
 beginning None = Fails
 beginning (Some kind) = GoesOn (Within kind [])
 
 -- other letters, and letters at another place, are malformed
-abbrev pub with_letter : Hand → ℕ → Turn
+abbrev pub with_letter : CommandHand → ℕ → CommandTurn
 with_letter Nothing b = beginning (kind_of_letter b)
 with_letter (Within kind ls) b = Fails
 
 -- what a token makes of what is in hand, whatever its line
-abbrev pub turn : Hand → Token → Turn
-turn hand (Number negative value) =
-    if nat_eq value 0 then Ends (command_in hand) else with_literal hand (record { name = value; positive = not negative })
-turn hand (Letter b) = with_letter hand b
-turn hand (Header v c) = GoesOn hand
-turn hand Wrong = Fails
+abbrev pub command_turn : CommandHand → Token → CommandTurn
+command_turn hand (Number negative value) =
+    if nat_eq value 0 then Ends (command_in hand) else turn_with_literal hand (record { name = value; positive = not negative })
+command_turn hand (Letter b) = with_letter hand b
+command_turn hand (Header v c) = GoesOn hand
+command_turn hand Wrong = Fails
 
 -- the commands of a text, and its end
 abbrev pub Reading : Type 0
-Reading = List Command × Ending
+Reading = List Command × ScriptEnding
 
 -- these commands, and then those of the reading, with its end
 abbrev pub onto_commands : List Command → Reading → Reading
 onto_commands commands reading = (commands ++ reading.0, reading.1)
 
 -- an end inside a command is malformed
-abbrev pub at_end : Hand → Ending
+abbrev pub at_end : CommandHand → ScriptEnding
 at_end Nothing = Clean
 at_end (Within kind ls) = Malformed
 
 -- a turn, and then what more says; malformed text ends the reading
-abbrev pub behind_turn : Turn → (Hand → Reading) → Reading
+abbrev pub behind_turn : CommandTurn → (CommandHand → Reading) → Reading
 behind_turn (GoesOn hand) more = more hand
 behind_turn (Ends command) more = onto_commands (command ∷ []) (more Nothing)
 behind_turn Fails more = ([], Malformed)
 
 -- the commands that the tokens spell, behind what is in hand
-unfoldable pub commands_of : Hand → List Token → Reading
+unfoldable pub commands_of : CommandHand → List Token → Reading
 commands_of hand [] = ([], at_end hand)
-commands_of hand (t ∷ ts) = behind_turn (turn hand t) (λ h. commands_of h ts)
+commands_of hand (t ∷ ts) = behind_turn (command_turn hand t) (λ h. commands_of h ts)
 
 -- the tokens without their lines
 abbrev pub spoken : List (ℕ × Token) → List Token
@@ -112,8 +112,8 @@ with_ask due r = if due && (is_clean r.1 && not (has_ask r.0)) then (r.0 ++ Ask 
 
 -- what a text means: its commands, and behind a header that ask
 unfoldable pub reading : List ℕ → Reading
-reading text = with_ask (is_some (header_of text)) (written text)
+reading text = with_ask (is_some (dimacs_header text)) (written text)
 
 -- the text has these commands, and ends so
-abbrev pub IsScript : List ℕ → List Command → Ending → Type 0
+abbrev pub IsScript : List ℕ → List Command → ScriptEnding → Type 0
 IsScript text commands end = reading text ≡ (commands, end)

@@ -2,7 +2,7 @@
 use Rattle.std.specs.Prelude.{◌≡◌, ℕ, ◌<◌, ◌↔◌, ◌⊎◌, true, List, [], ◌∷◌, ◌++◌, map, not, if◌then◌else◌}
 use Rattle.std.specs.List.{AllByRecursion}
 use Rattle.sat_base.specs.text.Text.{Token, Number, Letter, Header, Wrong, tokens}
-use Rattle.sat_base.specs.script.Script.{Literal, Command, Ask, Ending, Clean, Malformed, has_ask}
+use Rattle.sat_base.specs.script.Script.{Literal, Command, Ask, ScriptEnding, Clean, Malformed, has_ask}
 use Rattle.sat_base.specs.script.Language.{Kind, OfClause, OfAsk, OfHide, OfWitness, OfSample, command_of, may_stand, spoken, IsScript}
 
 -- the number of a literal, negative if the literal is
@@ -10,8 +10,8 @@ abbrev pub number_of : Literal → Token
 number_of l = Number (not l.positive) l.name
 
 -- names count from 1, and those of names that are hidden or get a mode have no sign
-abbrev pub AreNamed : Kind → List Literal → Type 0
-AreNamed kind ls = AllByRecursion (λ l. (0 < l.name) × (may_stand kind l.positive ≡ true)) ls
+abbrev pub AreNamesOfKind : Kind → List Literal → Type 0
+AreNamesOfKind kind ls = AllByRecursion (λ l. (0 < l.name) × (may_stand kind l.positive ≡ true)) ls
 
 -- a zero ends a clause or command (no text has the token of a negative one)
 abbrev pub IsZero : Token → Type 0
@@ -34,7 +34,7 @@ pub record SpellsCommand (c : Command) (ts : List Token) : Type 0 where
   pub literals : List Literal
   pub last : Token
   pub is_last : IsZero last
-  pub named : AreNamed kind literals
+  pub named : AreNamesOfKind kind literals
   pub is : c ≡ command_of kind literals
   pub whole : ts ≡ letter_of kind ++ (map number_of literals ++ last ∷ [])
 
@@ -50,27 +50,27 @@ pub record BeginsNone (ts : List Token) : Type 0 where
   pub none : (c : Command) (front rest : List Token) → SpellsCommand c front → ts ≡ front ++ rest → ⊥
 
 -- commands, and then the end or what is no command
-abbrev pub SpellsTo : List Command → Ending → List Token → Type 0
+abbrev pub SpellsTo : List Command → ScriptEnding → List Token → Type 0
 SpellsTo cs Clean ts = SpellsCommands cs ts
 SpellsTo cs Malformed ts = (front : List Token) × (rest : List Token) × SpellsCommands cs front × BeginsNone rest × (ts ≡ front ++ rest)
 
 -- one ask more, under no literals, where the end is clean and there is none
-abbrev pub asked : List Command → Ending → List Command
+abbrev pub asked : List Command → ScriptEnding → List Command
 asked cs Clean = if has_ask cs then cs else cs ++ Ask [] ∷ []
 asked cs Malformed = cs
 
 -- A script is commands and an end. A header may stand before them, and is asked then where they don't ask.
-abbrev pub SpellsScript : List Command → Ending → List Token → Type 0
+abbrev pub SpellsScript : List Command → ScriptEnding → List Token → Type 0
 SpellsScript cs end ts = (((vars : ℕ) (clauses : ℕ) (rest : List Token) → ts ≡ Header vars clauses ∷ rest → ⊥) × SpellsTo cs end ts)
     ⊎ ((vars : ℕ) × (clauses : ℕ) × (rest : List Token) × (spelled : List Command)
     × (ts ≡ Header vars clauses ∷ rest) × SpellsTo spelled end rest × (cs ≡ asked spelled end))
 
 -- each text has one list of commands, and one end
 pub record OneReading : Type 0 where
-  pub some : (text : List ℕ) → (cs : List Command) × (end : Ending) × IsScript text cs end
-  pub one : (text : List ℕ) (cs ds : List Command) (d e : Ending)
+  pub some : (text : List ℕ) → (cs : List Command) × (end : ScriptEnding) × IsScript text cs end
+  pub one : (text : List ℕ) (cs ds : List Command) (d e : ScriptEnding)
       → IsScript text cs d → IsScript text ds e → (cs ≡ ds) × (d ≡ e)
 
 -- a text reads as these commands and this end exactly if its tokens spell them
 abbrev pub ReadIfSpelled : Type 0
-ReadIfSpelled = (text : List ℕ) (cs : List Command) (end : Ending) → IsScript text cs end ↔ SpellsScript cs end (spoken (tokens text))
+ReadIfSpelled = (text : List ℕ) (cs : List Command) (end : ScriptEnding) → IsScript text cs end ↔ SpellsScript cs end (spoken (tokens text))

@@ -10,8 +10,8 @@ abbrev pub Open : {A : Type 0} → Format A → List ℕ → Type 0
 Open {A} F bytes = (x : A) × (more : List ℕ) × F x (bytes ++ more)
 
 -- the bytes begin a text that goes on
-abbrev pub Live : {A : Type 0} → Format A → List ℕ → Type 0
-Live {A} F bytes = (x : A) × (b : ℕ) × (more : List ℕ) × F x (bytes ++ b ∷ more)
+abbrev pub IsProperFront : {A : Type 0} → Format A → List ℕ → Type 0
+IsProperFront {A} F bytes = (x : A) × (b : ℕ) × (more : List ℕ) × F x (bytes ++ b ∷ more)
 
 -- the first byte after which no text can follow
 pub record Spoilt {A : Type 0} (F : Format A) (bytes : List ℕ) : Type 0 where
@@ -19,7 +19,7 @@ pub record Spoilt {A : Type 0} (F : Format A) (bytes : List ℕ) : Type 0 where
   pub byte : ℕ
   pub behind : List ℕ
   pub whole : bytes ≡ front ++ byte ∷ behind
-  pub live : Live F front
+  pub live : IsProperFront F front
   pub shut : Open F (front ++ byte ∷ []) → ⊥
 
 -- one format, and then another that may depend on the first value

@@ -5,7 +5,7 @@ use Rattle.sat_base.specs.device.Device.{Writer}
 use Rattle.sat_base.specs.device.Sink.{Writes, sink_of}
 use Rattle.sat_base.specs.steps.Formats.{Format, Both}
 use Rattle.sat_base.specs.steps.Steps.{Deletion, Step}
-use Rattle.sat_base.specs.steps.StepText.{IsVariable, IsOptionalVariable, IsLiteral, IsHash, IsFlag, IsWidth, IsDeletion, AreLiterals, AreHashes, AreUnits, SpellsFields, SpellsStep}
+use Rattle.sat_base.specs.steps.StepText.{IsVariable, IsOptionalVariable, IsLiteral, IsHash, IsFlag, IsWidth, IsDeletion, AreLiterals, AreHashes, AreHashedLiterals, SpellsFields, SpellsStep}
 use Rattle.sat_base.specs.steps.StepBytes.{number_bytes, optional_bytes, flag_bytes, deletion_bytes, list_bytes, units_bytes, fields_bytes, step_bytes}
 
 -- a format, and the bytes that are written for each value
@@ -51,7 +51,7 @@ hashes = record { format = AreHashes; bytes = list_bytes }
 
 -- a count of units, and then each with the hash of the clause that it follows from
 abbrev pub units : Spelling (List (ℕ × ℕ))
-units = record { format = AreUnits; bytes = units_bytes }
+units = record { format = AreHashedLiterals; bytes = units_bytes }
 
 -- one and then another
 abbrev pub both : {A B : Type 0} → Spelling A → Spelling B → Spelling (A × B)
@@ -86,6 +86,6 @@ abbrev pub a_step : Spelling Step
 a_step = record { format = SpellsStep; bytes = step_bytes }
 
 -- a value's spelling was sent through an output
-abbrev pub Wrote : {A E W P : Type 0} → Spelling A → A → Result (Unit {0}) E → (W → Writer) → (P → List ℕ)
+abbrev pub SendsSpelling : {A E W P : Type 0} → Spelling A → A → Result (Unit {0}) E → (W → Writer) → (P → List ℕ)
     → Output W P → Output W P → Type 0
-Wrote s x r seen waiting old new = Writes s.format x (s.bytes x) r (sink_of seen waiting old) (sink_of seen waiting new)
+SendsSpelling s x r seen waiting old new = Writes s.format x (s.bytes x) r (sink_of seen waiting old) (sink_of seen waiting new)

@@ -5,7 +5,7 @@ use Rattle.sat_base.specs.declared.steps.reader.Buffers.{Buffers}
 use Rattle.sat_base.specs.declared.steps.error.StepError.{StepError}
 use Rattle.sat_base.specs.declared.steps.error.StepError.TheVariants as errors
 use Rattle.sat_base.specs.device.Device.{Reader, most_reads}
-use Rattle.sat_base.specs.device.Reading.{Source, Answers, source}
+use Rattle.sat_base.specs.device.Reading.{Source, AnswersStepRead, source}
 use Rattle.sat_base.specs.steps.Steps.{Step}
 use Rattle.sat_base.specs.steps.Kinds.{step_with}
 
@@ -14,8 +14,8 @@ abbrev pub reader_source : {R : Type 0} → (R → Reader) → StepReader R Buff
 reader_source seen s = source seen s.reader.now s.buffers.ahead
 
 -- whether it answers nothing else any more
-abbrev pub has_failed : {R : Type 0} → StepReader R Buffers → Bool
-has_failed s = s.buffers.failed
+abbrev pub has_reader_failed : {R : Type 0} → StepReader R Buffers → Bool
+has_reader_failed s = s.buffers.failed
 
 -- by which borrow it holds its reader
 abbrev pub reader_name : {R : Type 0} → StepReader R Buffers → ℕ
@@ -54,19 +54,19 @@ repeated (Ok step) = false
 repeated (Err e) = is_repeat e
 
 -- once stopped it does nothing
-abbrev pub Answered : Result Step StepError → Source → Source → Type 0
-Answered (Ok step) old new = Answers (Ok step) old new
-Answered (Err errors.Ends) old new = Answers (Err errors.Ends) old new
-Answered (Err errors.Cut) old new = Answers (Err errors.Cut) old new
-Answered (Err errors.BadByte) old new = Answers (Err errors.BadByte) old new
-Answered (Err errors.Read) old new = Answers (Err errors.Read) old new
-Answered (Err errors.OutOfMemory) old new = Answers (Err errors.OutOfMemory) old new
-Answered (Err errors.HasFailed) old new = new ≡ old
+abbrev pub AnswersUnlessFailed : Result Step StepError → Source → Source → Type 0
+AnswersUnlessFailed (Ok step) old new = AnswersStepRead (Ok step) old new
+AnswersUnlessFailed (Err errors.Ends) old new = AnswersStepRead (Err errors.Ends) old new
+AnswersUnlessFailed (Err errors.Cut) old new = AnswersStepRead (Err errors.Cut) old new
+AnswersUnlessFailed (Err errors.BadByte) old new = AnswersStepRead (Err errors.BadByte) old new
+AnswersUnlessFailed (Err errors.Read) old new = AnswersStepRead (Err errors.Read) old new
+AnswersUnlessFailed (Err errors.OutOfMemory) old new = AnswersStepRead (Err errors.OutOfMemory) old new
+AnswersUnlessFailed (Err errors.HasFailed) old new = new ≡ old
 
 -- A call of `advance`. `HasFailed` comes exactly where an earlier answer stopped it.
 pub record Next {R : Type 0} (seen : R → Reader) (old new : StepReader R Buffers) (result : Result Step StepError) : Type 0 where
   pub same : reader_name new ≡ reader_name old
-  pub answer : Answered result (reader_source seen old) (reader_source seen new)
-  pub was : has_failed old ≡ repeated result
-  pub is : has_failed new ≡ stopped result
+  pub answer : AnswersUnlessFailed result (reader_source seen old) (reader_source seen new)
+  pub was : has_reader_failed old ≡ repeated result
+  pub is : has_reader_failed new ≡ stopped result
   pub bound : (reader_source seen new).reads ≤ most_reads

@@ -46,8 +46,8 @@ abbrev pub AreHashes : Format (List ℕ)
 AreHashes = ListOf (IsBelow (2 ^ 64)) IsHash
 
 -- literals, each with a hash
-abbrev pub AreUnits : Format (List (ℕ × ℕ))
-AreUnits = ListOf (IsBelow (2 ^ 64)) (Both IsLiteral IsHash)
+abbrev pub AreHashedLiterals : Format (List (ℕ × ℕ))
+AreHashedLiterals = ListOf (IsBelow (2 ^ 64)) (Both IsLiteral IsHash)
 
 -- the byte with which a step begins, which tells its kind
 abbrev pub tag_of : Step → ℕ
@@ -73,7 +73,7 @@ SpellsFields (DeleteVar v) bytes = IsVariable v bytes
 SpellsFields (ChangeSamplingMode v sample) bytes = Both IsVariable IsFlag (v, sample) bytes
 SpellsFields (AddClause clause) bytes = AreLiterals clause bytes
 SpellsFields (AtClause redundant clause hashes) bytes = Both IsFlag (Both AreLiterals AreHashes) (redundant, (clause, hashes)) bytes
-SpellsFields (UnitClauses units) bytes = AreUnits units bytes
+SpellsFields (UnitClauses units) bytes = AreHashedLiterals units bytes
 SpellsFields (DeleteClause clause proof) bytes = Both AreLiterals IsDeletion (clause, proof) bytes
 SpellsFields (ChangeHashBits bits) bytes = IsWidth bits bytes
 SpellsFields (Model assignment) bytes = AreLiterals assignment bytes

@@ -77,12 +77,12 @@ IsAt at.Spoilt spot = spot ≡ Spoilt
 IsAt at.Over spot = spot ≡ Over
 
 -- a byte leads from a spot to a spot
-abbrev pub Leads : Spot → ℕ → Spot → Type 0
-Leads old byte new = (n : ℕ) (rest : List ℕ) → left old n (byte ∷ rest) ≡ left new n rest
+abbrev pub MovesSpot : Spot → ℕ → Spot → Type 0
+MovesSpot old byte new = (n : ℕ) (rest : List ℕ) → left old n (byte ∷ rest) ≡ left new n rest
 
 -- a byte that is no blank leads from a place to a place
-abbrev pub Moves : Place → ℕ → Place → Type 0
-Moves old byte new = (spot : Spot) → IsAt old spot → (next : Spot) × IsAt new next × Leads spot byte next
+abbrev pub MovesPlace : Place → ℕ → Place → Type 0
+MovesPlace old byte new = (spot : Spot) → IsAt old spot → (next : Spot) × IsAt new next × MovesSpot spot byte next
 
 -- bytes lead from a place to a place
 abbrev pub MovesBy : Place → List ℕ → Place → Type 0
@@ -98,8 +98,8 @@ BeginsWord place = ⊥
 
 -- so in a header line, unless the word in hand may then not stand there
 abbrev pub MovesHeader : HeaderPlace → ℕ → Option HeaderPlace → Type 0
-MovesHeader old byte None = (spot : Spot) → IsAtHeader old spot → Leads spot byte Spoilt
-MovesHeader old byte (Some new) = (spot : Spot) → IsAtHeader old spot → (next : Spot) × IsAtHeader new next × Leads spot byte next
+MovesHeader old byte None = (spot : Spot) → IsAtHeader old spot → MovesSpot spot byte Spoilt
+MovesHeader old byte (Some new) = (spot : Spot) → IsAtHeader old spot → (next : Spot) × IsAtHeader new next × MovesSpot spot byte next
 
 -- a place in a word of this byte alone
 abbrev pub Began : ℕ → Place → Type 0
@@ -111,17 +111,17 @@ BeganHeader ended byte None = (s : Stage) → IsStage ended s → BeginsSpoilt s
 BeganHeader ended byte (Some place) = (s : Stage) → IsStage ended s → IsAtHeader place (HeaderWithin s byte [])
 
 -- what is in hand where the line ends, or where a blank ends the word
-abbrev pub Given : Option CodeToken → (ℕ → List (ℕ × Token)) → Type 0
-Given None tokens = (n : ℕ) → tokens n ≡ []
-Given (Some t) tokens = (given : Token) × (t ≡ held_token given) × ((n : ℕ) → tokens n ≡ (n + 1, given) ∷ [])
+abbrev pub IsHeldToken : Option CodeToken → (ℕ → List (ℕ × Token)) → Type 0
+IsHeldToken None tokens = (n : ℕ) → tokens n ≡ []
+IsHeldToken (Some t) tokens = (given : Token) × (t ≡ held_token given) × ((n : ℕ) → tokens n ≡ (n + 1, given) ∷ [])
 
 -- where the line ends at this place, the token in hand is this one, or there is none
-abbrev pub Says : Option CodeToken → Place → Type 0
-Says given place = (spot : Spot) → IsAt place spot → Given given (in_hand spot)
+abbrev pub SaysInHand : Option CodeToken → Place → Type 0
+SaysInHand given place = (spot : Spot) → IsAt place spot → IsHeldToken given (in_hand spot)
 
 -- where a blank inside a line comes at this place, it ends this token, or none
 abbrev pub SaysAtBlank : Option CodeToken → Place → Type 0
-SaysAtBlank given place = (spot : Spot) → IsAt place spot → Given given (ended_by_blank spot)
+SaysAtBlank given place = (spot : Spot) → IsAt place spot → IsHeldToken given (ended_by_blank spot)
 
 -- the words of a header line that have ended where the one in hand does
 abbrev pub ended_stage : Spot → Option Stage
@@ -159,20 +159,20 @@ abbrev pub LeadsBelow : Place → Place → Type 0
 LeadsBelow old new = (spot : Spot) → IsAt old spot → IsAt new (behind_LF spot)
 
 -- the machine stands at a place of a text: `left_of` says what is still to be read, whatever bytes come
-unfoldable pub Stands : Tokenizer → (List ℕ → Scan) → Type 0
-Stands machine left_of = (spot : Spot) × (n : ℕ) × IsAt machine.place spot × (machine.lines ≡ held n)
+unfoldable pub StandsBefore : Tokenizer → (List ℕ → Scan) → Type 0
+StandsBefore machine left_of = (spot : Spot) × (n : ℕ) × IsAt machine.place spot × (machine.lines ≡ held n)
     × ((rest : List ℕ) → left_of rest ≡ left spot n rest)
 
 -- what a byte gives: the token that it ended, on the line of this byte, or none
-abbrev pub Gives : Option CodeToken → ℕ → (List ℕ → Scan) → (List ℕ → Scan) → Type 0
-Gives None byte old new = (rest : List ℕ) → old (byte ∷ rest) ≡ new rest
-Gives (Some t) byte old new = (given : Token) × (t ≡ held_token given)
+abbrev pub GivesToken : Option CodeToken → ℕ → (List ℕ → Scan) → (List ℕ → Scan) → Type 0
+GivesToken None byte old new = (rest : List ℕ) → old (byte ∷ rest) ≡ new rest
+GivesToken (Some t) byte old new = (given : Token) × (t ≡ held_token given)
     × ((rest : List ℕ) → old (byte ∷ rest) ≡ onto (((new []).last, given) ∷ []) (new rest))
 
 -- what is still to be read behind this byte is what the machine then stands before, behind the token that the byte gives
-abbrev pub Takes : Tokenizer → ℕ → Option CodeToken → Tokenizer → Type 0
-Takes old byte given new = (before : List ℕ → Scan) → Stands old before
-    → (after : List ℕ → Scan) × Stands new after × Gives given byte before after
+abbrev pub TakesByte : Tokenizer → ℕ → Option CodeToken → Tokenizer → Type 0
+TakesByte old byte given new = (before : List ℕ → Scan) → StandsBefore old before
+    → (after : List ℕ → Scan) × StandsBefore new after × GivesToken given byte before after
 
 -- so it is with several bytes, of which only the last may end a token
 abbrev pub GivesBehind : Option CodeToken → List ℕ → (List ℕ → Scan) → (List ℕ → Scan) → Type 0
@@ -182,8 +182,8 @@ GivesBehind (Some t) bytes old new = (given : Token) × (t ≡ held_token given)
 
 -- what is still to be read behind these bytes is what the machine then stands before, as with one byte
 abbrev pub TakesFront : Tokenizer → List ℕ → Option CodeToken → Tokenizer → Type 0
-TakesFront old bytes given new = (before : List ℕ → Scan) → Stands old before
-    → (after : List ℕ → Scan) × Stands new after × GivesBehind given bytes before after
+TakesFront old bytes given new = (before : List ℕ → Scan) → StandsBefore old before
+    → (after : List ℕ → Scan) × StandsBefore new after × GivesBehind given bytes before after
 
 -- a header, or a word that is wrong
 abbrev pub IsOfHeader : Token → Type 0
@@ -193,8 +193,8 @@ IsOfHeader (Header v c) = Unit {0}
 IsOfHeader Wrong = Unit {0}
 
 -- no word is in hand, though a header line may be
-abbrev pub Quiet : Scan → Type 0
-Quiet s = (s.tokens ≡ []) ⊎ ((line : ℕ) × (t : Token) × IsOfHeader t × (s.tokens ≡ (line, t) ∷ []))
+abbrev pub HoldsNoWord : Scan → Type 0
+HoldsNoWord s = (s.tokens ≡ []) ⊎ ((line : ℕ) × (t : Token) × IsOfHeader t × (s.tokens ≡ (line, t) ∷ []))
 
 -- what is left where the text ends: the token in hand, on the last line, or none
 abbrev pub GivesLast : Option CodeToken → Scan → Type 0

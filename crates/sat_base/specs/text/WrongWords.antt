@@ -4,8 +4,8 @@ use Rattle.std.specs.List.{AllByRecursion}
 use Rattle.sat_base.specs.text.Text.{Token, Wrong, Scan}
 
 -- no word of these is wrong, and no header line
-abbrev pub AreRight : List (ℕ × Token) → Type 0
-AreRight ts = AllByRecursion (λ t. t.1 ≡ Wrong → ⊥) ts
+abbrev pub HaveNoWrongWord : List (ℕ × Token) → Type 0
+HaveNoWrongWord ts = AllByRecursion (λ t. t.1 ≡ Wrong → ⊥) ts
 
 -- Whatever follows, the next word or header line is wrong, on the line of the last byte.
 abbrev pub WrongAhead : (List ℕ → Scan) → Type 0
@@ -13,4 +13,4 @@ WrongAhead left_of = (rest : List ℕ) → (more : List (ℕ × Token)) × ((lef
 
 -- some bytes may follow, and then the end, so that nothing more is wrong
 abbrev pub RightAhead : (List ℕ → Scan) → Type 0
-RightAhead left_of = (rest : List ℕ) × AreRight (left_of rest).tokens
+RightAhead left_of = (rest : List ℕ) × HaveNoWrongWord (left_of rest).tokens

@@ -30,5 +30,5 @@ abbrev pub with_count : ℕ → Formula → Formula
 with_count count f = record f { var_count = max f.var_count count }
 
 -- with one variable more, which has the index that was the count
-abbrev pub with_variable : Formula → Formula
-with_variable f = record f { var_count = f.var_count + 1 }
+abbrev pub with_next_variable : Formula → Formula
+with_next_variable f = record f { var_count = f.var_count + 1 }

@@ -19,12 +19,12 @@ abbrev pub value_at : {T : Type 0} → T → Table T → ℕ → T
 value_at missing t v = if nat_lt v (near_count t) then slice_index_or t.near.items v missing else value_or (get nat_cmp t.far v) missing
 
 -- the value there can be set without memory
-abbrev pub HasRoom : {T : Type 0} → Table T → ℕ → Type 0
-HasRoom t v = (v < near_count t) ⊎ IsSome (get nat_cmp t.far v)
+abbrev pub HasPlaceFor : {T : Type 0} → Table T → ℕ → Type 0
+HasPlaceFor t v = (v < near_count t) ⊎ IsSome (get nat_cmp t.far v)
 
 -- what had room has it still
 abbrev pub KeepsRoom : {T : Type 0} → (old new : Table T) → Type 0
-KeepsRoom old new = (v : ℕ) → HasRoom old v → HasRoom new v
+KeepsRoom old new = (v : ℕ) → HasPlaceFor old v → HasPlaceFor new v
 
 -- each place has the value that it had
 abbrev pub KeepsValues : {T : Type 0} → T → (old new : Table T) → Type 0

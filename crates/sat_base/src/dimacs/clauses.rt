@@ -3,7 +3,7 @@ ghost use Rattle.std.specs.Prelude.{◌≡◌, None, MatchResult};
 ghost use Rattle.sat_base.specs.values.Formulas.{no_formula, with_count};
 ghost use Rattle.sat_base.specs.dimacs.Dimacs.{Ends, literals_in};
 ghost use Rattle.sat_base.specs.declared.dimacs.clauses.Refusal.TheVariants.{OutOfMemory};
-ghost use Rattle.sat_base.specs.dimacs.Collecting.{token_of, hand_in, is_literal, AllStay, Turns, Collects, IsInside};
+ghost use Rattle.sat_base.specs.dimacs.Collecting.{token_of, hand_in, is_literal, AllStay, TakesTokenTurn, CollectsToken, IsInside};
 
 use crate::var::MAX_COUNT;
 use crate::{CnfFormula, ExtendFormula, FormulaError, Lit, Token};
@@ -83,7 +83,7 @@ impl Clauses {
     /// A zero.
     fn end_clause(&mut self) -> Result<(), Refusal>
         ensures { MatchResult result
-            (λ _. Turns (Ends (literals_in (hand_in self.old))) self.old self.new × (self.new.header ≡ self.old.header))
+            (λ _. TakesTokenTurn (Ends (literals_in (hand_in self.old))) self.old self.new × (self.new.header ≡ self.old.header))
             (λ e. (e ≡ OutOfMemory) × AllStay self.old self.new) }
     {
         self.formula.add_clause(&self.hand)?;
@@ -96,7 +96,7 @@ impl Clauses {
     /// The next token.
     #[inline(always)]
     pub(crate) fn take(&mut self, token: Token) -> Result<(), Refusal>
-        ensures { Collects result self.old (token_of token) self.new }
+        ensures { CollectsToken result self.old (token_of token) self.new }
     {
         match token {
             Token::Number { negative, value } => {

@@ -1,9 +1,9 @@
 //! A parser that says whether it stopped.
 ghost use Rattle.std.specs.Prelude.{◌≡◌, ◌++◌, ◌∷◌, [], ℕ, List, true, false, OnOk};
 ghost use Rattle.sat_base.specs.text.Text.{Scan};
-ghost use Rattle.sat_base.specs.text.Tokenizing.{held, Stands};
+ghost use Rattle.sat_base.specs.text.Tokenizing.{held, StandsBefore};
 ghost use Rattle.sat_base.specs.values.Formulas.{vars_of};
-ghost use Rattle.sat_base.specs.dimacs.Parsing.{Feeds, Finishes, IsSound, no_progress, all_taken, clauses_read};
+ghost use Rattle.sat_base.specs.dimacs.Parsing.{FeedsPiece, Finishes, IsSoundSoFar, no_progress, all_taken, clauses_read};
 ghost use Rattle.sat_base.specs.dimacs.ParserPlaces.{IsParser, progress_of, EndsClean};
 
 use super::clauses::{Clauses, Refusal, is_literal};
@@ -41,7 +41,7 @@ impl Parser {
 
     /// The line of the last byte.
     fn line(&self) -> u64
-        ensures { (before : List ℕ → Scan) → Stands self.now.tokenizer before → result ≡ held (before []).last }
+        ensures { (before : List ℕ → Scan) → StandsBefore self.now.tokenizer before → result ≡ held (before []).last }
     {
         self.tokenizer.line()
     }
@@ -51,7 +51,7 @@ impl Parser {
         requires parser { IsParser self.old }
         requires open { self.old.stopped ≡ false }
         ensures parser { IsParser self.new }
-        ensures answer { Feeds result (byte ∷ []) (progress_of self.old) (progress_of self.new) }
+        ensures answer { FeedsPiece result (byte ∷ []) (progress_of self.old) (progress_of self.new) }
     {
         let Some(token) = self.tokenizer.push(byte) else {
             self.history = self.history.and_byte(byte);
@@ -90,8 +90,8 @@ impl Parser {
     pub(crate) fn feed(&mut self, piece: &[u8]) -> Result<(), DimacsError>
         requires { IsParser self.old }
         ensures parser { IsParser self.new }
-        ensures answer { Feeds result piece.now (progress_of self.old) (progress_of self.new) }
-        ensures sound { OnOk result (IsSound (progress_of self.new)) }
+        ensures answer { FeedsPiece result piece.now (progress_of self.old) (progress_of self.new) }
+        ensures sound { OnOk result (IsSoundSoFar (progress_of self.new)) }
     {
         if self.stopped {
             return Err(DimacsError::HasFailed);

@@ -2,9 +2,9 @@
 #![tactic(auto, using(crate::proofs::lemmas::device::Sending::sending))]
 
 ghost use Rattle.std.specs.Prelude.{◌≡◌, OnOk, [], ℕ, List, IsTrue, false};
-ghost use Rattle.sat_base.specs.device.Reading.{Got, source_of, valued, Answers, Behind};
+ghost use Rattle.sat_base.specs.device.Reading.{ReadsFromInput, source_of, valued, AnswersStepRead, Behind};
 ghost use Rattle.sat_base.specs.steps.Kinds.{step_with, step_held, is_tag, has_lists};
-ghost use Rattle.sat_base.specs.steps.Spellings.{Wrote, fields, a_step};
+ghost use Rattle.sat_base.specs.steps.Spellings.{SendsSpelling, fields, a_step};
 ghost use Rattle.sat_base.specs.steps.StepText.{tag_of};
 ghost use Rattle.sat_base.specs.steps.StepViews.{step_of};
 
@@ -56,7 +56,7 @@ impl<R: CountedRead> Input<'_, R> {
         requires known { IsTrue (is_tag tag) }
         requires plain { has_lists tag ≡ false }
         ensures { (literals hashes : List ℕ) (units : List (ℕ × ℕ))
-            → Got (Behind tag) (valued (λ k. step_with k literals hashes units) result) R.seen self.old self.new }
+            → ReadsFromInput (Behind tag) (valued (λ k. step_with k literals hashes units) result) R.seen self.old self.new }
     {
         if tag < 5 {
             let var = self.variable()?;
@@ -90,7 +90,7 @@ impl<R: CountedRead> Input<'_, R> {
     /// Reads what stands behind the tag of a step with lists.
     fn list_fields(&mut self, lists: &mut Lists, tag: u8) -> Result<Kind, StepError>
         requires { IsTrue (has_lists tag) }
-        ensures { Got (Behind tag) (valued (step_held lists.new) result) R.seen self.old self.new }
+        ensures { ReadsFromInput (Behind tag) (valued (step_held lists.new) result) R.seen self.old self.new }
     {
         if tag == 6 {
             let redundant = self.flag_and_lists(lists)?;
@@ -119,7 +119,7 @@ impl<R: CountedRead> Input<'_, R> {
     /// Reads what stands behind a tag.
     fn fields(&mut self, lists: &mut Lists, tag: u8) -> Result<Kind, StepError>
         requires { IsTrue (is_tag tag) }
-        ensures { Got (Behind tag) (valued (step_held lists.new) result) R.seen self.old self.new }
+        ensures { ReadsFromInput (Behind tag) (valued (step_held lists.new) result) R.seen self.old self.new }
     {
         if has_lists(tag) {
             self.list_fields(lists, tag)
@@ -130,7 +130,7 @@ impl<R: CountedRead> Input<'_, R> {
 
     /// Reads the next step, and its lists into those that are there.
     pub(super) fn read_step(&mut self, lists: &mut Lists) -> Result<Kind, StepError>
-        ensures { Answers (valued (step_held lists.new) result) (source_of R.seen self.old) (source_of R.seen self.new) }
+        ensures { AnswersStepRead (valued (step_held lists.new) result) (source_of R.seen self.old) (source_of R.seen self.new) }
     {
         match self.next_byte()? {
             None => Err(StepError::Ends),
@@ -147,7 +147,7 @@ impl<R: CountedRead> Input<'_, R> {
 impl<W: CountedWrite, P: Room> Output<W, P> {
     /// Lets what stands behind the tag wait.
     fn put_fields(&mut self, step: &ProofStep<'_>) -> io::Result<()>
-        ensures { Wrote fields (step_of step.now) result W.seen P.waiting self.old self.new }
+        ensures { SendsSpelling fields (step_of step.now) result W.seen P.waiting self.old self.new }
     {
         match *step {
             ProofStep::SolverVarName { global, solver } => self.put_variables(global, solver),
@@ -175,7 +175,7 @@ impl<W: CountedWrite, P: Room> Output<W, P> {
 
     /// Lets a step's bytes wait.
     pub(super) fn put_step(&mut self, step: &ProofStep<'_>) -> io::Result<()>
-        ensures { Wrote a_step (step_of step.now) result W.seen P.waiting self.old self.new }
+        ensures { SendsSpelling a_step (step_of step.now) result W.seen P.waiting self.old self.new }
     {
         self.put(tag(step))?;
         self.put_fields(step)
@@ -183,7 +183,7 @@ impl<W: CountedWrite, P: Room> Output<W, P> {
 
     /// Writes a step's bytes out, behind those that wait.
     pub(super) fn write_step(&mut self, step: &ProofStep<'_>) -> io::Result<()>
-        ensures writes { Wrote a_step (step_of step.now) result W.seen P.waiting self.old self.new }
+        ensures writes { SendsSpelling a_step (step_of step.now) result W.seen P.waiting self.old self.new }
         ensures none { OnOk result (P.waiting self.new.pending ≡ []) }
     {
         self.put_step(step)?;

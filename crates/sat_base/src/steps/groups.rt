@@ -1,7 +1,7 @@
 //! The fields of steps that have several.
 #![tactic(auto, using(crate::proofs::lemmas::device::Sending::sending))]
 
-ghost use Rattle.sat_base.specs.device.Reading.{Got, valued};
+ghost use Rattle.sat_base.specs.device.Reading.{ReadsFromInput, valued};
 ghost use Rattle.sat_base.specs.steps.Kinds.{both_held};
 ghost use Rattle.sat_base.specs.steps.Formats.{Both};
 ghost use Rattle.sat_base.specs.steps.StepText.{IsFlag, IsDeletion, AreLiterals, AreHashes};
@@ -17,7 +17,7 @@ use std::io;
 
 impl<R: CountedRead> Input<'_, R> {
     pub(super) fn flag_and_lists(&mut self, lists: &mut Lists) -> Result<bool, StepError>
-        ensures { Got (Both IsFlag (Both AreLiterals AreHashes)) (valued (λ f. (f, both_held lists.new)) result) R.seen self.old self.new }
+        ensures { ReadsFromInput (Both IsFlag (Both AreLiterals AreHashes)) (valued (λ f. (f, both_held lists.new)) result) R.seen self.old self.new }
     {
         let flag = self.flag()?;
         self.both_lists(lists)?;
@@ -28,7 +28,7 @@ impl<R: CountedRead> Input<'_, R> {
         &mut self,
         lists: &mut Lists,
     ) -> Result<DeleteClauseProof, StepError>
-        ensures { Got (Both AreLiterals IsDeletion) (valued (λ p. (lists.new.literals.items, deletion_of p)) result)
+        ensures { ReadsFromInput (Both AreLiterals IsDeletion) (valued (λ p. (lists.new.literals.items, deletion_of p)) result)
             R.seen self.old self.new }
     {
         self.literals(&mut lists.literals)?;
@@ -39,14 +39,14 @@ impl<R: CountedRead> Input<'_, R> {
 impl<W: CountedWrite, P: Room> Output<W, P> {
     /// Lets a variable wait, and one that may be none.
     pub(super) fn put_variables(&mut self, first: Var, second: Option<Var>) -> io::Result<()>
-        ensures { spelling.Wrote spelling.variables (first, second) result W.seen P.waiting self.old self.new }
+        ensures { spelling.SendsSpelling spelling.variables (first, second) result W.seen P.waiting self.old self.new }
     {
         self.put_variable(first)?;
         self.put_optional(second)
     }
 
     pub(super) fn put_mode(&mut self, var: Var, sample: bool) -> io::Result<()>
-        ensures { spelling.Wrote spelling.a_mode (var, sample) result W.seen P.waiting self.old self.new }
+        ensures { spelling.SendsSpelling spelling.a_mode (var, sample) result W.seen P.waiting self.old self.new }
     {
         self.put_variable(var)?;
         self.put_flag(sample)
@@ -58,14 +58,14 @@ impl<W: CountedWrite, P: Room> Output<W, P> {
         clause: &[Lit],
         hashes: &[ClauseHash],
     ) -> io::Result<()>
-        ensures { spelling.Wrote spelling.a_derived (redundant, (clause.now, hashes.now)) result W.seen P.waiting self.old self.new }
+        ensures { spelling.SendsSpelling spelling.a_derived (redundant, (clause.now, hashes.now)) result W.seen P.waiting self.old self.new }
     {
         self.put_flag(redundant)?;
         self.put_both_lists(clause, hashes)
     }
 
     pub(super) fn put_deleted(&mut self, clause: &[Lit], proof: DeleteClauseProof) -> io::Result<()>
-        ensures { spelling.Wrote spelling.a_deleted (clause.now, deletion_of proof) result W.seen P.waiting self.old self.new }
+        ensures { spelling.SendsSpelling spelling.a_deleted (clause.now, deletion_of proof) result W.seen P.waiting self.old self.new }
     {
         self.put_literals(clause)?;
         self.put_deletion(proof)

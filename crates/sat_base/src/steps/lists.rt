@@ -2,10 +2,10 @@
 #![tactic(auto, using(crate::proofs::lemmas::device::Sending::sending))]
 
 ghost use Rattle.std.specs.Prelude.{[], ◌≡◌};
-ghost use Rattle.sat_base.specs.device.Reading.{Got, giving};
+ghost use Rattle.sat_base.specs.device.Reading.{ReadsFromInput, giving};
 ghost use Rattle.sat_base.specs.steps.Kinds.{both_held};
 ghost use Rattle.sat_base.specs.steps.Formats.{Both, Times};
-ghost use Rattle.sat_base.specs.steps.StepText.{IsLiteral, IsHash, AreLiterals, AreHashes, AreUnits};
+ghost use Rattle.sat_base.specs.steps.StepText.{IsLiteral, IsHash, AreLiterals, AreHashes, AreHashedLiterals};
 ghost use Rattle.sat_base.specs.steps.Spellings as spelling;
 
 use crate::device::input::Input;
@@ -22,7 +22,7 @@ const LARGEST_CODE: u64 = 2 * MAX_COUNT as u64 - 1;
 impl<R: CountedRead> Input<'_, R> {
     #[inline(always)] // called for each literal of a list
     fn literal(&mut self) -> Result<Lit, StepError>
-        ensures { Got IsLiteral result R.seen self.old self.new }
+        ensures { ReadsFromInput IsLiteral result R.seen self.old self.new }
     {
         let code = self.number(LARGEST_CODE)?;
         Ok(Lit::from_code(code as usize))
@@ -30,7 +30,7 @@ impl<R: CountedRead> Input<'_, R> {
 
     fn literal_items(&mut self, count: u64, lits: &mut Vec<Lit>) -> Result<(), StepError>
         requires { lits.old.items ≡ [] }
-        ensures { Got (Times IsLiteral count) (giving lits.new.items result) R.seen self.old self.new }
+        ensures { ReadsFromInput (Times IsLiteral count) (giving lits.new.items result) R.seen self.old self.new }
     {
         for _ in 0..count {
             let lit = self.literal()?;
@@ -41,7 +41,7 @@ impl<R: CountedRead> Input<'_, R> {
 
     fn hash_items(&mut self, count: u64, hashes: &mut Vec<ClauseHash>) -> Result<(), StepError>
         requires { hashes.old.items ≡ [] }
-        ensures { Got (Times IsHash count) (giving hashes.new.items result) R.seen self.old self.new }
+        ensures { ReadsFromInput (Times IsHash count) (giving hashes.new.items result) R.seen self.old self.new }
     {
         for _ in 0..count {
             let hash = self.number(u64::MAX)?;
@@ -51,7 +51,7 @@ impl<R: CountedRead> Input<'_, R> {
     }
 
     fn unit(&mut self) -> Result<(Lit, ClauseHash), StepError>
-        ensures { Got (Both IsLiteral IsHash) result R.seen self.old self.new }
+        ensures { ReadsFromInput (Both IsLiteral IsHash) result R.seen self.old self.new }
     {
         let lit = self.literal()?;
         let hash = self.number(u64::MAX)?;
@@ -64,7 +64,7 @@ impl<R: CountedRead> Input<'_, R> {
         units: &mut Vec<(Lit, ClauseHash)>,
     ) -> Result<(), StepError>
         requires { units.old.items ≡ [] }
-        ensures { Got (Times (Both IsLiteral IsHash) count) (giving units.new.items result) R.seen self.old self.new }
+        ensures { ReadsFromInput (Times (Both IsLiteral IsHash) count) (giving units.new.items result) R.seen self.old self.new }
     {
         for _ in 0..count {
             let unit = self.unit()?;
@@ -75,7 +75,7 @@ impl<R: CountedRead> Input<'_, R> {
 
     /// Reads a list of literals in place of those that are there.
     pub(super) fn literals(&mut self, lits: &mut Vec<Lit>) -> Result<(), StepError>
-        ensures { Got AreLiterals (giving lits.new.items result) R.seen self.old self.new }
+        ensures { ReadsFromInput AreLiterals (giving lits.new.items result) R.seen self.old self.new }
     {
         lits.clear();
         let count = self.number(u64::MAX)?;
@@ -84,7 +84,7 @@ impl<R: CountedRead> Input<'_, R> {
 
     /// Reads a list of hashes in place of those that are there.
     pub(super) fn hashes(&mut self, hashes: &mut Vec<ClauseHash>) -> Result<(), StepError>
-        ensures { Got AreHashes (giving hashes.new.items result) R.seen self.old self.new }
+        ensures { ReadsFromInput AreHashes (giving hashes.new.items result) R.seen self.old self.new }
     {
         hashes.clear();
         let count = self.number(u64::MAX)?;
@@ -93,7 +93,7 @@ impl<R: CountedRead> Input<'_, R> {
 
     /// Reads a list of units in place of those that are there.
     pub(super) fn units(&mut self, units: &mut Vec<(Lit, ClauseHash)>) -> Result<(), StepError>
-        ensures { Got AreUnits (giving units.new.items result) R.seen self.old self.new }
+        ensures { ReadsFromInput AreHashedLiterals (giving units.new.items result) R.seen self.old self.new }
     {
         units.clear();
         let count = self.number(u64::MAX)?;
@@ -102,7 +102,7 @@ impl<R: CountedRead> Input<'_, R> {
 
     /// Reads a list of literals, and then one of hashes.
     pub(super) fn both_lists(&mut self, lists: &mut Lists) -> Result<(), StepError>
-        ensures { Got (Both AreLiterals AreHashes) (giving (both_held lists.new) result) R.seen self.old self.new }
+        ensures { ReadsFromInput (Both AreLiterals AreHashes) (giving (both_held lists.new) result) R.seen self.old self.new }
     {
         self.literals(&mut lists.literals)?;
         self.hashes(&mut lists.hashes)
@@ -111,7 +111,7 @@ impl<R: CountedRead> Input<'_, R> {
 
 impl<W: CountedWrite, P: Room> Output<W, P> {
     pub(super) fn put_literals(&mut self, lits: &[Lit]) -> io::Result<()>
-        ensures { spelling.Wrote spelling.literals lits.now result W.seen P.waiting self.old self.new }
+        ensures { spelling.SendsSpelling spelling.literals lits.now result W.seen P.waiting self.old self.new }
     {
         self.put_number(lits.len() as u64)?;
         for lit in lits {
@@ -121,7 +121,7 @@ impl<W: CountedWrite, P: Room> Output<W, P> {
     }
 
     pub(super) fn put_hashes(&mut self, hashes: &[ClauseHash]) -> io::Result<()>
-        ensures { spelling.Wrote spelling.hashes hashes.now result W.seen P.waiting self.old self.new }
+        ensures { spelling.SendsSpelling spelling.hashes hashes.now result W.seen P.waiting self.old self.new }
     {
         self.put_number(hashes.len() as u64)?;
         for hash in hashes {
@@ -131,7 +131,7 @@ impl<W: CountedWrite, P: Room> Output<W, P> {
     }
 
     fn put_unit(&mut self, unit: (Lit, ClauseHash)) -> io::Result<()>
-        ensures { spelling.Wrote (spelling.both spelling.a_literal spelling.a_hash) unit result W.seen P.waiting self.old self.new }
+        ensures { spelling.SendsSpelling (spelling.both spelling.a_literal spelling.a_hash) unit result W.seen P.waiting self.old self.new }
     {
         let (lit, hash) = unit;
         self.put_number(lit.code() as u64)?;
@@ -139,7 +139,7 @@ impl<W: CountedWrite, P: Room> Output<W, P> {
     }
 
     pub(super) fn put_units(&mut self, units: &[(Lit, ClauseHash)]) -> io::Result<()>
-        ensures { spelling.Wrote spelling.units units.now result W.seen P.waiting self.old self.new }
+        ensures { spelling.SendsSpelling spelling.units units.now result W.seen P.waiting self.old self.new }
     {
         self.put_number(units.len() as u64)?;
         for unit in units {
@@ -149,7 +149,7 @@ impl<W: CountedWrite, P: Room> Output<W, P> {
     }
 
     pub(super) fn put_both_lists(&mut self, lits: &[Lit], hashes: &[ClauseHash]) -> io::Result<()>
-        ensures { spelling.Wrote spelling.both_lists (lits.now, hashes.now) result W.seen P.waiting self.old self.new }
+        ensures { spelling.SendsSpelling spelling.both_lists (lits.now, hashes.now) result W.seen P.waiting self.old self.new }
     {
         self.put_literals(lits)?;
         self.put_hashes(hashes)

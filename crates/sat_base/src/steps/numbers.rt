@@ -1,6 +1,6 @@
 //! A number's bytes.
 ghost use Rattle.std.specs.Prelude.{◌≡◌, ◌+◌, ◌++◌, ◌<◌, ◌≤◌, ℕ, Some, None, length};
-ghost use Rattle.sat_base.specs.device.Reading.{Got};
+ghost use Rattle.sat_base.specs.device.Reading.{ReadsFromInput};
 ghost use Rattle.sat_base.specs.device.TakenAhead.{TakesNumber};
 ghost use Rattle.sat_base.specs.device.Sink.{Sends, sink_of};
 ghost use Rattle.sat_base.specs.steps.StepBytes.{number_bytes};
@@ -52,7 +52,7 @@ impl<R: CountedRead> Input<'_, R> {
     #[inline(always)] // each literal and each hash goes through it
     pub(super) fn number(&mut self, largest: u64) -> Result<u64, StepError>
         requires { 0 < largest }
-        ensures { Got (IsBelow (largest + 1)) result R.seen self.old self.new }
+        ensures { ReadsFromInput (IsBelow (largest + 1)) result R.seen self.old self.new }
     {
         if let Some(number) = self.ahead.take_number(largest) {
             return Ok(number);
@@ -64,7 +64,7 @@ impl<R: CountedRead> Input<'_, R> {
     #[inline(never)] // so that numbers that stand whole pay nothing for it
     fn number_by_bytes(&mut self, largest: u64) -> Result<u64, StepError>
         requires { 0 < largest }
-        ensures { Got (IsBelow (largest + 1)) result R.seen self.old self.new }
+        ensures { ReadsFromInput (IsBelow (largest + 1)) result R.seen self.old self.new }
     {
         let mut value = 0;
         let mut place = 1;

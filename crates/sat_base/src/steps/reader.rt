@@ -2,9 +2,9 @@
 ghost use Rattle.std.specs.Prelude.{◌≡◌, ℕ, List, false};
 ghost use Rattle.sat_base.specs.steps.StepText.{tag_of};
 ghost use Rattle.sat_base.specs.steps.StepViews.{step_of};
-ghost use Rattle.sat_base.specs.device.Reading.{Answers, giving, source, unread, valued};
+ghost use Rattle.sat_base.specs.device.Reading.{AnswersStepRead, giving, source, unread, valued};
 ghost use Rattle.sat_base.specs.steps.Kinds.{step_held, step_with};
-ghost use Rattle.sat_base.specs.steps.StepReading.{reader_source, has_failed, reader_name, step_in, is_stop, Next};
+ghost use Rattle.sat_base.specs.steps.StepReading.{reader_source, has_reader_failed, reader_name, step_in, is_stop, Next};
 
 use crate::device::ahead::Ahead;
 use crate::device::input::Input;
@@ -83,7 +83,7 @@ fn read_from<R: CountedRead>(
     ahead: &mut Ahead,
     lists: &mut Lists,
 ) -> Result<Kind, StepError>
-    ensures { Answers (valued (step_held lists.new) result) (source R.seen reader.old ahead.old) (source R.seen reader.new ahead.new) }
+    ensures { AnswersStepRead (valued (step_held lists.new) result) (source R.seen reader.old ahead.old) (source R.seen reader.new ahead.new) }
 {
     let mut input = Input::new(reader, ahead);
     input.read_step(lists)
@@ -94,7 +94,7 @@ impl<'r, R: CountedRead> StepReader<'r, R, Buffers> {
     pub fn new(alloc: Global, reader: &'r mut R) -> StepReader<'r, R, Buffers>
         ensures same { reader_name result ≡ reader.entry.ghost_name }
         ensures source { reader_source R.seen result ≡ unread (R.seen reader.old) }
-        ensures fresh { has_failed result ≡ false }
+        ensures fresh { has_reader_failed result ≡ false }
     {
         let buffers = Buffers {
             ahead: Ahead::new(),

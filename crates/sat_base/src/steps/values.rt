@@ -1,6 +1,6 @@
 //! The fields of steps that are one number.
-ghost use Rattle.sat_base.specs.device.Reading.{Got, valued};
-ghost use Rattle.sat_base.specs.steps.Spellings.{Wrote, a_variable, an_optional_variable, a_flag, a_width, a_deletion};
+ghost use Rattle.sat_base.specs.device.Reading.{ReadsFromInput, valued};
+ghost use Rattle.sat_base.specs.steps.Spellings.{SendsSpelling, a_variable, an_optional_variable, a_flag, a_width, a_deletion};
 ghost use Rattle.sat_base.specs.steps.StepText.{IsVariable, IsOptionalVariable, IsFlag, IsWidth, IsDeletion};
 ghost use Rattle.sat_base.specs.steps.StepViews.{deletion_of};
 
@@ -16,14 +16,14 @@ const LARGEST_INDEX: u64 = MAX_COUNT as u64 - 1;
 
 impl<R: CountedRead> Input<'_, R> {
     pub(super) fn variable(&mut self) -> Result<Var, StepError>
-        ensures { Got IsVariable result R.seen self.old self.new }
+        ensures { ReadsFromInput IsVariable result R.seen self.old self.new }
     {
         let index = self.number(LARGEST_INDEX)?;
         Ok(Var::from_index(index as usize))
     }
 
     pub(super) fn optional(&mut self) -> Result<Option<Var>, StepError>
-        ensures { Got IsOptionalVariable result R.seen self.old self.new }
+        ensures { ReadsFromInput IsOptionalVariable result R.seen self.old self.new }
     {
         let above = self.number(LARGEST_INDEX + 1)?;
         if above == 0 {
@@ -33,7 +33,7 @@ impl<R: CountedRead> Input<'_, R> {
     }
 
     pub(super) fn flag(&mut self) -> Result<bool, StepError>
-        ensures { Got IsFlag result R.seen self.old self.new }
+        ensures { ReadsFromInput IsFlag result R.seen self.old self.new }
     {
         let bit = self.number(1)?;
         if bit == 0 {
@@ -43,14 +43,14 @@ impl<R: CountedRead> Input<'_, R> {
     }
 
     pub(super) fn width(&mut self) -> Result<HashBits, StepError>
-        ensures { Got IsWidth result R.seen self.old self.new }
+        ensures { ReadsFromInput IsWidth result R.seen self.old self.new }
     {
         let bits = self.number(64)?;
         Ok(HashBits::of_width(bits as u32))
     }
 
     pub(super) fn deletion(&mut self) -> Result<DeleteClauseProof, StepError>
-        ensures { Got IsDeletion (valued deletion_of result) R.seen self.old self.new }
+        ensures { ReadsFromInput IsDeletion (valued deletion_of result) R.seen self.old self.new }
     {
         let code = self.number(2)?;
         if code == 0 {
@@ -65,13 +65,13 @@ impl<R: CountedRead> Input<'_, R> {
 
 impl<W: CountedWrite, P: Room> Output<W, P> {
     pub(super) fn put_variable(&mut self, var: Var) -> io::Result<()>
-        ensures { Wrote a_variable var result W.seen P.waiting self.old self.new }
+        ensures { SendsSpelling a_variable var result W.seen P.waiting self.old self.new }
     {
         self.put_number(var.index() as u64)
     }
 
     pub(super) fn put_optional(&mut self, var: Option<Var>) -> io::Result<()>
-        ensures { Wrote an_optional_variable var result W.seen P.waiting self.old self.new }
+        ensures { SendsSpelling an_optional_variable var result W.seen P.waiting self.old self.new }
     {
         match var {
             None => self.put_number(0),
@@ -80,7 +80,7 @@ impl<W: CountedWrite, P: Room> Output<W, P> {
     }
 
     pub(super) fn put_flag(&mut self, flag: bool) -> io::Result<()>
-        ensures { Wrote a_flag flag result W.seen P.waiting self.old self.new }
+        ensures { SendsSpelling a_flag flag result W.seen P.waiting self.old self.new }
     {
         if flag {
             self.put_number(1)
@@ -90,13 +90,13 @@ impl<W: CountedWrite, P: Room> Output<W, P> {
     }
 
     pub(super) fn put_width(&mut self, bits: HashBits) -> io::Result<()>
-        ensures { Wrote a_width bits result W.seen P.waiting self.old self.new }
+        ensures { SendsSpelling a_width bits result W.seen P.waiting self.old self.new }
     {
         self.put_number(bits.get() as u64)
     }
 
     pub(super) fn put_deletion(&mut self, proof: DeleteClauseProof) -> io::Result<()>
-        ensures { Wrote a_deletion (deletion_of proof) result W.seen P.waiting self.old self.new }
+        ensures { SendsSpelling a_deletion (deletion_of proof) result W.seen P.waiting self.old self.new }
     {
         match proof {
             DeleteClauseProof::Redundant => self.put_number(0),

@@ -32,9 +32,9 @@ ground assumed [] = record { literals = []; clauses = [] }
 ground assumed (c ∷ cs) = ground_by (verdict assumed c.literals) c assumed (λ more. ground more cs)
 
 -- the stored clauses of the named buckets, in the order named and by id in each
-abbrev pub named_by : List ℕ → Stored → List StoredClause
-named_by [] f = []
-named_by (hash ∷ hashes) f = filter (λ c. hash_by f.solver_names f.width c.literals == hash) f.clauses ++ named_by hashes f
+abbrev pub clauses_named : List ℕ → Stored → List StoredClause
+clauses_named [] f = []
+clauses_named (hash ∷ hashes) f = filter (λ c. hash_by f.solver_names f.width c.literals == hash) f.clauses ++ clauses_named hashes f
 
 -- the units needed, by increasing id: not those that the negated clause holds
 abbrev pub needed_units : List ℕ → Ground → List StoredUnit → List StoredUnit
@@ -63,4 +63,4 @@ unit_alone None ids = ids
 abbrev pub propagations : Stored → List ℕ → List ℕ → List ℕ
 propagations f clause hashes =
     let denied : List ℕ = map negated clause in
-    if is_tautology clause then [] else unit_alone (true_unit (canonical clause) f.units) (conflict_ids denied (ground (denied ++ unit_literals f) (named_by hashes f)) f.units)
+    if is_tautology clause then [] else unit_alone (true_unit (canonical clause) f.units) (conflict_ids denied (ground (denied ++ unit_literals f) (clauses_named hashes f)) f.units)

@@ -8,8 +8,8 @@ use Rattle.sat_checker.specs.inner.Marks.{IsIncreasing}
 use Rattle.sat_checker.specs.Propagation.{IsFalsified, IsUnit, UnitInTurn}
 use Rattle.sat_checker.specs.Stored.{StoredClause, StoredUnit, Last, Empty, Stored, unit_literals}
 use Rattle.sat_checker.specs.Storing.{with_units}
-use Rattle.sat_checker.specs.Accepts.{Passes, Accepts, AcceptsAll, stored_after, ready_after}
-use Rattle.sat_checker.specs.announcements.Needed.{Ground, ground, named_by, conflict_ids, true_unit, propagations}
+use Rattle.sat_checker.specs.Accepts.{PassesByHashes, Accepts, AcceptsAll, stored_after, ready_after}
+use Rattle.sat_checker.specs.announcements.Needed.{Ground, ground, clauses_named, conflict_ids, true_unit, propagations}
 use Rattle.sat_checker.specs.announcements.Announcements.{Announcement, AddClause, AtClause, one, last_id, announced, delayed, Told, told_over, told_after, all_told_after}
 
 -- it's in the list
@@ -29,7 +29,7 @@ pub record RestsOn (f : Stored) (clause ids : List ℕ) : Type 0 where
 
 -- a clause that passes after accepted steps, and after the first units of one more, rests on its propagations
 abbrev pub PropagationsInTurn : Type 0
-PropagationsInTurn = (steps : List Step) (front clause hashes : List ℕ) → AcceptsAll steps → Passes (with_units front (ready_after steps)) clause hashes → is_tautology clause ≡ false →
+PropagationsInTurn = (steps : List Step) (front clause hashes : List ℕ) → AcceptsAll steps → PassesByHashes (with_units front (ready_after steps)) clause hashes → is_tautology clause ≡ false →
     RestsOn (with_units front (ready_after steps)) clause (propagations (with_units front (ready_after steps)) clause hashes)
 
 -- a clause that was unit, and the literal that it made true
@@ -46,25 +46,25 @@ pub data Passing : List ℕ → List StoredClause → List Reason → StoredClau
       (IsFalsified assumed c.literals → ⊥) → ((l : ℕ) → IsUnit assumed c.literals l → ⊥) → Passing assumed cs reasons last → Passing assumed (c ∷ cs) reasons last
 
 -- The literals that a conflict rests on, followed backwards: the negations of the falsified clause's literals, and where a clause made one of them true, those of its other literals.
-pub data Needs (reasons : List Reason) (last : StoredClause) : ℕ → Type 0 where
-  of_last : (l : ℕ) → is_among last.literals l ≡ true → Needs reasons last (negated l)
-  of_reason : (r : Reason) (l : ℕ) → IsOneOf r reasons → Needs reasons last r.literal → is_among r.clause.literals l ≡ true → l ≢ r.literal → Needs reasons last (negated l)
+pub data IsNeededLiteral (reasons : List Reason) (last : StoredClause) : ℕ → Type 0 where
+  of_last : (l : ℕ) → is_among last.literals l ≡ true → IsNeededLiteral reasons last (negated l)
+  of_reason : (r : Reason) (l : ℕ) → IsOneOf r reasons → IsNeededLiteral reasons last r.literal → is_among r.clause.literals l ≡ true → l ≢ r.literal → IsNeededLiteral reasons last (negated l)
 
 -- just those literals, and just the clauses that made one of them true, in the order passed, the falsified one last
 pub record IsGround (assumed : List ℕ) (cs : List StoredClause) (g : Ground) : Type 0 where
   pub reasons : List Reason
   pub last : StoredClause
   pub passing : Passing assumed cs reasons last
-  pub literals : (m : ℕ) → (is_among g.literals m ≡ true) ↔ Needs reasons last m
+  pub literals : (m : ℕ) → (is_among g.literals m ≡ true) ↔ IsNeededLiteral reasons last m
   pub clauses : g.clauses ≡ map (λ r. r.clause) (filter (λ r. is_among g.literals r.literal) reasons) ++ last ∷ []
 
 -- what a clause rests on that passes by a conflict: no unit is true in it, and it has no variable with both signs
 abbrev pub ConflictIsFollowedBackwards : Type 0
-ConflictIsFollowedBackwards = (steps : List Step) (front clause hashes : List ℕ) → AcceptsAll steps → Passes (with_units front (ready_after steps)) clause hashes →
+ConflictIsFollowedBackwards = (steps : List Step) (front clause hashes : List ℕ) → AcceptsAll steps → PassesByHashes (with_units front (ready_after steps)) clause hashes →
     is_tautology clause ≡ false → list_any (is_among (unit_literals (with_units front (ready_after steps)))) clause ≡ false →
     (let f : Stored = with_units front (ready_after steps) in
     let assumed : List ℕ = map negated clause ++ unit_literals f in
-    (propagations f clause hashes ≡ conflict_ids (map negated clause) (ground assumed (named_by hashes f)) f.units) × IsGround assumed (named_by hashes f) (ground assumed (named_by hashes f)))
+    (propagations f clause hashes ≡ conflict_ids (map negated clause) (ground assumed (clauses_named hashes f)) f.units) × IsGround assumed (clauses_named hashes f) (ground assumed (clauses_named hashes f)))
 
 -- one with both signs of a variable rests on nothing
 abbrev pub TautologiesRestOnNothing : Type 0
@@ -86,14 +86,14 @@ ToldInOrder = (steps : List Step) (step : Step) →
     (told_after (step ∷ steps) ≡ all_told_after steps ++ told_over (ready_after steps) (announced (ready_after steps) step)) × (delayed (ready_after steps) ≡ [])
 
 -- the clause was announced under this id: as one of the formula, or as a derived one
-abbrev pub Announces : ℕ → List ℕ → Announcement → Type 0
-Announces id clause (AddClause i ls) = (i ≡ id) × (ls ≡ clause)
-Announces id clause (AtClause i redundant ls ids) = (i ≡ id) × (ls ≡ clause)
-Announces id clause other = ⊥
+abbrev pub IsAnnouncedAs : ℕ → List ℕ → Announcement → Type 0
+IsAnnouncedAs id clause (AddClause i ls) = (i ≡ id) × (ls ≡ clause)
+IsAnnouncedAs id clause (AtClause i redundant ls ids) = (i ≡ id) × (ls ≡ clause)
+IsAnnouncedAs id clause other = ⊥
 
 -- one of these announcements is of the clause, under this id
 abbrev pub IsAnnounced : ℕ → List ℕ → List Told → Type 0
-IsAnnounced id clause told = (t : Told) × IsOneOf t told × Announces id clause t.announcement
+IsAnnounced id clause told = (t : Told) × IsOneOf t told × IsAnnouncedAs id clause t.announcement
 
 -- What is stored was announced under its id, an empty clause too that is the last irredundant one. A unit conflict is one of a stored unit and of one that was announced as its negation.
 pub record AreAnnounced (f : Stored) (told : List Told) : Type 0 where

@@ -27,14 +27,14 @@ abbrev pub user_from_proof_var : (ℕ → Variable) → ℕ → Option ℕ
 user_from_proof_var variables v = name_or_itself v (variables v).mode (variables v).name
 
 -- the literal of a name, with the sign of this one
-abbrev pub named_literal : ℕ → Option ℕ → List ℕ → List ℕ
-named_literal l None ls = ls
-named_literal l (Some name) ls = (2 * name + l % 2) ∷ ls
+abbrev pub onto_named : ℕ → Option ℕ → List ℕ → List ℕ
+onto_named l None ls = ls
+onto_named l (Some name) ls = (2 * name + l % 2) ∷ ls
 
 -- literals in user's names; those of variables without one are dropped
 abbrev pub in_user_names : (ℕ → Variable) → List ℕ → List ℕ
 in_user_names variables [] = []
-in_user_names variables (l ∷ ls) = named_literal l (user_from_proof_var variables (variable l)) (in_user_names variables ls)
+in_user_names variables (l ∷ ls) = onto_named l (user_from_proof_var variables (variable l)) (in_user_names variables ls)
 
 -- a name was removed, which the variable had till then
 abbrev pub hiding : Option ℕ → Option Transcribed
@@ -42,9 +42,9 @@ hiding None = None
 hiding (Some name) = Some (HideVar name)
 
 -- A name was set where the variable had none till then; else its mode was changed.
-abbrev pub naming : UserVariable → Option ℕ → Option Transcribed
-naming u None = if u.is_new then None else Some (ObserveInternalVar u.name)
-naming u (Some name) = Some (if u.sampling then SampleVar u.name else WitnessVar u.name)
+abbrev pub naming_transcript : UserVariable → Option ℕ → Option Transcribed
+naming_transcript u None = if u.is_new then None else Some (ObserveInternalVar u.name)
+naming_transcript u (Some name) = Some (if u.sampling then SampleVar u.name else WitnessVar u.name)
 
 -- the empty clause was derived
 abbrev pub deriving_of : List ℕ → Option Transcribed
@@ -54,7 +54,7 @@ deriving_of (l ∷ ls) = None
 -- the transcript of an announcement, by the variables from before the step
 abbrev pub transcript : (ℕ → Variable) → Announcement → Option Transcribed
 transcript variables (UserVar v None) = hiding (variables v).name
-transcript variables (UserVar v (Some u)) = naming u (variables v).name
+transcript variables (UserVar v (Some u)) = naming_transcript u (variables v).name
 transcript variables (DeleteVar v) = None
 transcript variables (told.AddClause id clause) = Some (AddClause (in_user_names variables clause))
 transcript variables (DuplicatedClause id same clause) = Some (AddClause (in_user_names variables clause))

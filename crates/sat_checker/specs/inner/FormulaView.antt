@@ -8,7 +8,7 @@ use Rattle.sat_checker.specs.Accepts.{Accepts, effect}
 use Rattle.sat_checker.specs.Spent.{IsSpent}
 use Rattle.sat_checker.specs.inner.Reasons.{ExplainsCheck}
 use Rattle.sat_checker.specs.inner.SlotView.{slot_ids}
-use Rattle.sat_checker.specs.inner.StoreView.{KeepsClauses, KeepsHashed, AreIds, refiled}
+use Rattle.sat_checker.specs.inner.StoreView.{KeepsClauses, KeepsHashed, AreIdsInOrder, refiled}
 use Rattle.sat_checker.specs.declared.store.StoreError.{StoreError}
 use Rattle.sat_checker.specs.declared.store.StoreError.TheVariants.{OutOfMemory, CounterEnd}
 use Rattle.sat_checker.specs.declared.state.status.LastClause.{LastClause}
@@ -17,7 +17,7 @@ use Rattle.sat_checker.specs.declared.state.status.Status.{Status}
 use Rattle.sat_checker.specs.declared.formula.Formula.{Formula}
 
 -- what is recorded beside clauses, units and variables
-pub record Standing : Type 0 where
+pub record RestOfStored : Type 0 where
   pub unsat : Bool
   pub conflict : Option (ℕ × ℕ)
   pub last : Last
@@ -26,7 +26,7 @@ pub record Standing : Type 0 where
   pub var_deleted : Bool
 
 -- those records of what is stored
-abbrev pub standing_of : Stored → Standing
+abbrev pub standing_of : Stored → RestOfStored
 standing_of f = record { unsat = f.unsat; conflict = f.conflict; last = f.last; next_id = f.next_id; ended = f.ended; var_deleted = f.var_deleted }
 
 -- the last irredundant clause stored, as the code has it
@@ -37,28 +37,28 @@ last_in (code.Single id l) = UnitClause id
 last_in (code.Long id) = LongClause id
 
 -- those records as the code has them
-abbrev pub standing_in : Status → Standing
+abbrev pub standing_in : Status → RestOfStored
 standing_in s = record { unsat = s.unsat; conflict = s.conflict; last = last_in s.last; next_id = s.next_id; ended = s.ended; var_deleted = s.var_deleted }
 
 -- No other literal's unit has this id, and a unit of this literal that came in later has a later one.
-abbrev pub IsUnitOf : ℕ → ℕ → StoredUnit → Type 0
-IsUnitOf id l u = (u.id ≡ id → u.literal ≡ l) × (u.literal ≡ l → id ≤ u.id)
+abbrev pub IsIdOfUnit : ℕ → ℕ → StoredUnit → Type 0
+IsIdOfUnit id l u = (u.id ≡ id → u.literal ≡ l) × (u.literal ≡ l → id ≤ u.id)
 
 -- where the last irredundant clause stored is a unit, its literal was put under its id, though it may be gone by now
-abbrev pub IsPut : LastClause → List StoredUnit → ℕ → Type 0
-IsPut code.NoneYet units next_id = Unit {0}
-IsPut (code.Empty id) units next_id = Unit {0}
-IsPut (code.Single id l) units next_id = (id < next_id) × AllByRecursion (IsUnitOf id l) units
-IsPut (code.Long id) units next_id = Unit {0}
+abbrev pub LastUnitIsPut : LastClause → List StoredUnit → ℕ → Type 0
+LastUnitIsPut code.NoneYet units next_id = Unit {0}
+LastUnitIsPut (code.Empty id) units next_id = Unit {0}
+LastUnitIsPut (code.Single id l) units next_id = (id < next_id) × AllByRecursion (IsIdOfUnit id l) units
+LastUnitIsPut (code.Long id) units next_id = Unit {0}
 
 -- what is known of ids: those of the clauses by place, those of the units, and the last irredundant clause's
 pub record AreNumbered (ids : List ℕ) (units : List StoredUnit) (last : LastClause) (next_id : ℕ) : Type 0 where
-  pub of_clauses : AreIds ids next_id
-  pub of_units : AreIds (map (λ u. u.id) units) next_id
-  pub put : IsPut last units next_id
+  pub of_clauses : AreIdsInOrder ids next_id
+  pub of_units : AreIdsInOrder (map (λ u. u.id) units) next_id
+  pub put : LastUnitIsPut last units next_id
 
 -- it has these clauses, hashed by these names and of this width, these units, and this is recorded
-pub record KeepsParts (formula : Formula) (kept : List StoredClause) (solver_names : ℕ → Option ℕ) (bits : ℕ) (stored : List StoredUnit) (standing : Standing) : Type 0 where
+pub record KeepsParts (formula : Formula) (kept : List StoredClause) (solver_names : ℕ → Option ℕ) (bits : ℕ) (stored : List StoredUnit) (standing : RestOfStored) : Type 0 where
   pub clauses : KeepsHashed formula.store kept solver_names bits
   pub units : formula.units ≡ stored
   pub status : standing_in formula.status ≡ standing
@@ -73,14 +73,14 @@ abbrev pub refiled_in : Formula → Formula
 refiled_in formula = record formula { store = refiled formula.store }
 
 -- what an answer says where this is stored then, and this is what would be
-abbrev pub Turns : {T : Type 0} → Result T StoreError → Type 0 → Stored → Type 0
-Turns (Ok x) kept g = kept
-Turns (Err OutOfMemory) kept g = Unit {0}
-Turns (Err CounterEnd) kept g = IsSpent g
+abbrev pub KeepsOrSpends : {T : Type 0} → Result T StoreError → Type 0 → Stored → Type 0
+KeepsOrSpends (Ok x) kept g = kept
+KeepsOrSpends (Err OutOfMemory) kept g = Unit {0}
+KeepsOrSpends (Err CounterEnd) kept g = IsSpent g
 
 -- the formula is changed so
 abbrev pub Becomes : {T : Type 0} → Result T StoreError → Formula → (Stored → Stored) → Formula → Type 0
-Becomes result old change new = (f : Stored) → KeepsFormula old f → Turns result (KeepsFormula new (change f)) (change f)
+Becomes result old change new = (f : Stored) → KeepsFormula old f → KeepsOrSpends result (KeepsFormula new (change f)) (change f)
 
 -- It is accepted, and changed so, or it isn't. Where memory is wanted, so much was judged before; where a number is spent, it would be accepted.
 abbrev pub TurnsBehind : Result Bool StoreError → Type 0 → Type 0 → Type 0 → Stored → Type 0

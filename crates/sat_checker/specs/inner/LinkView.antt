@@ -27,14 +27,14 @@ abbrev pub rest : List Link → ℕ → List Pair
 rest links at = chain links (length links) at
 
 -- this pair stands at the place
-pub record IsAt (links : List Link) (at : ℕ) (p : Pair) : Type 0 where
+pub record IsPairAt (links : List Link) (at : ℕ) (p : Pair) : Type 0 where
   pub inside : at < length links
   pub is : p ≡ pair_at links at
 
 -- the links lead from a place over these pairs, and then to no place
-abbrev pub Leads : List Link → ℕ → List Pair → Type 0
-Leads links at [] = at ≡ nowhere
-Leads links at (p ∷ ps) = IsAt links at p × Leads links (link_at links at).next ps
+abbrev pub LinksPairs : List Link → ℕ → List Pair → Type 0
+LinksPairs links at [] = at ≡ nowhere
+LinksPairs links at (p ∷ ps) = IsPairAt links at p × LinksPairs links (link_at links at).next ps
 
 -- so many lists, one behind the other
 abbrev pub joined : (ℕ → List Pair) → ℕ → List Pair
@@ -60,12 +60,12 @@ listed heads links = joined (part_at heads links) (length heads)
 -- the links from a place lead to the end, and over pairs in order
 pub record IsWalk (links : List Link) (at : ℕ) : Type 0 where
   pub few : length links ≤ nowhere
-  pub leads : Leads links at (rest links at)
+  pub leads : LinksPairs links at (rest links at)
   pub in_order : AreInOrder (rest links at)
 
 -- from a place on these pairs are linked; each has this top
-pub record IsPart (links : List Link) (shift count top at : ℕ) (ps : List Pair) : Type 0 where
-  pub leads : Leads links at ps
+pub record IsPairChain (links : List Link) (shift count top at : ℕ) (ps : List Pair) : Type 0 where
+  pub leads : LinksPairs links at ps
   pub short : length ps ≤ length links
   pub in_order : AreInOrder ps
   pub tops : AllByRecursion (λ p. top_of shift count p.hash ≡ top) ps
@@ -74,7 +74,7 @@ pub record IsPart (links : List Link) (shift count top at : ℕ) (ps : List Pair
 pub record AreLinked (heads : List ℕ) (links : List Link) (shift : ℕ) : Type 0 where
   pub few : length links ≤ nowhere
   pub count : length (listed heads links) ≤ length links
-  pub parts : (top : ℕ) → top < length heads → IsPart links shift (length heads) top (head_at heads top) (part_at heads links top)
+  pub parts : (top : ℕ) → top < length heads → IsPairChain links shift (length heads) top (head_at heads top) (part_at heads links top)
 
 -- this is linked, and lists these pairs
 pub record Lists (heads : List ℕ) (links : List Link) (shift : ℕ) (pairs : List Pair) : Type 0 where

@@ -4,13 +4,13 @@ use Rattle.sat_base.specs.values.Tables.{value_at}
 use Rattle.sat_checker.specs.declared.units.lit_numbers.LitNumbers.{LitNumbers}
 
 -- the largest number of 64 bits is none
-abbrev pub number_of : ℕ → Option ℕ
-number_of n = if n == 2 ^ 64 - 1 then None else Some n
+abbrev pub unless_largest : ℕ → Option ℕ
+unless_largest n = if n == 2 ^ 64 - 1 then None else Some n
 
 -- the number that stands by a literal
 abbrev pub number_at : LitNumbers → ℕ → Option ℕ
-number_at numbers l = number_of (value_at (2 ^ 64 - 1) numbers.numbers l)
+number_at numbers l = unless_largest (value_at (2 ^ 64 - 1) numbers.numbers l)
 
 -- each literal of a trail has its place there for a number
-abbrev pub ArePlaced : LitNumbers → List ℕ → Type 0
-ArePlaced places trail = (i : ℕ) → i < length trail → number_at places (get_or trail i 0) ≡ Some i
+abbrev pub AreTrailPlaces : LitNumbers → List ℕ → Type 0
+AreTrailPlaces places trail = (i : ℕ) → i < length trail → number_at places (get_or trail i 0) ≡ Some i

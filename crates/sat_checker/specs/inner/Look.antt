@@ -6,12 +6,12 @@ use Rattle.sat_checker.specs.declared.rup.Walked.{Walked}
 use Rattle.sat_checker.specs.declared.rup.Walked.TheVariants.{Empty, Conflict, Open}
 
 -- literals were assumed on top of the old ones
-pub record Extends (old new : List ℕ) : Type 0 where
+pub record AssumesMore (old new : List ℕ) : Type 0 where
   pub longer : length old ≤ length new
   pub below : drop (length new - length old) new ≡ old
 
 -- what is said of the walk over a bucket, from the old assumed literals to the new ones
-abbrev pub Says : Walked → List (List ℕ) → List ℕ → List ℕ → Type 0
-Says Empty clauses old new = (clauses ≡ []) × (new ≡ old)
-Says Conflict clauses old new = (clauses ≢ []) × (walk old clauses ≡ None)
-Says Open clauses old new = (clauses ≢ []) × (walk old clauses ≡ Some new)
+abbrev pub WalksBucket : Walked → List (List ℕ) → List ℕ → List ℕ → Type 0
+WalksBucket Empty clauses old new = (clauses ≡ []) × (new ≡ old)
+WalksBucket Conflict clauses old new = (clauses ≢ []) × (walk old clauses ≡ None)
+WalksBucket Open clauses old new = (clauses ≢ []) × (walk old clauses ≡ Some new)

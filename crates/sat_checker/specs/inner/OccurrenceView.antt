@@ -21,6 +21,6 @@ abbrev pub count_at : Occurrences → ℕ → ℕ
 count_at kept l = value_at 0 kept.counts l
 
 -- the clauses that aren't gone are found by their hashes, and their literals are counted
-pub record AreKept (slots : List Slot) (index : Indexed) (kept : Occurrences) : Type 0 where
+pub record SlotsInvariant (slots : List Slot) (index : Indexed) (kept : Occurrences) : Type 0 where
   pub files : Files index slots
   pub counted : (l : ℕ) → count_at kept l ≡ times_stored l slots

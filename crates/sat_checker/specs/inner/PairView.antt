@@ -8,14 +8,14 @@ unfoldable pub mixed : ℕ → ℕ
 mixed hash = hash * 0xBF58476D1CE4E5B9 % 2 ^ 64 + hash / 2 ^ 64 * 2 ^ 64
 
 -- by hashes, those of one hash by places
-pub record IsBefore (p q : Pair) : Type 0 where
+pub record IsPairBefore (p q : Pair) : Type 0 where
   pub hash : p.hash ≤ q.hash
   pub place : p.hash ≡ q.hash → p.place < q.place
 
 -- each pair stands before all later ones
 abbrev pub AreInOrder : List Pair → Type 0
 AreInOrder [] = Unit {0}
-AreInOrder (p ∷ ps) = AllByRecursion (IsBefore p) ps × AreInOrder ps
+AreInOrder (p ∷ ps) = AllByRecursion (IsPairBefore p) ps × AreInOrder ps
 
 -- does a pair stand before another, by hashes and those of one hash by places?
 abbrev pub is_before : Pair → Pair → Bool
@@ -40,8 +40,8 @@ first_of [] = None
 first_of (p ∷ ps) = Some p
 
 -- those behind a place
-abbrev pub behind : ℕ → List ℕ → List ℕ
-behind place = filter (nat_lt place)
+abbrev pub places_behind : ℕ → List ℕ → List ℕ
+places_behind place = filter (nat_lt place)
 
 -- those from a place on
 abbrev pub from_on : Option ℕ → List ℕ → List ℕ

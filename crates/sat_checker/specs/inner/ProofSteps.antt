@@ -6,14 +6,14 @@ use Rattle.sat_base.specs.declared.steps.error.StepError.{StepError}
 use Rattle.sat_base.specs.declared.steps.error.StepError.TheVariants as unread
 use Rattle.sat_base.specs.device.Device.{most_reads, piece_size}
 use Rattle.sat_base.specs.device.Reading.{Source, Passes, PassesToEnd, Faults}
-use Rattle.sat_base.specs.steps.Formats.{Live, Open}
+use Rattle.sat_base.specs.steps.Formats.{IsProperFront, Open}
 use Rattle.sat_base.specs.steps.Steps.{Step, End}
 use Rattle.sat_base.specs.steps.StepText.{SpellsStep, SpellsSteps}
 use Rattle.sat_checker.specs.Accepts.{Accepts, stored_after, ready_after}
 use Rattle.sat_checker.specs.Looks.{most_looks}
-use Rattle.sat_checker.specs.CheckerView.{Seen, looks_of, Stands, Refuses, Stops, BreaksAt, StarvesAt}
+use Rattle.sat_checker.specs.CheckerView.{Seen, looks_of, Stands, FailsRefusing, FailsBeforeStep, BreaksAt, StarvesAt}
 use Rattle.sat_checker.specs.announcements.Announcements.{Told}
-use Rattle.sat_checker.specs.ProofView.{taken_after, most_looks_behind, GoesOn}
+use Rattle.sat_checker.specs.ProofView.{taken_after, most_looks_behind, StandsUnfailed}
 use Rattle.sat_checker.specs.Spent.{SpentBy}
 use Rattle.sat_checker.specs.declared.error.CheckerError.{CheckerError}
 use Rattle.sat_checker.specs.declared.error.CheckerError.TheVariants as errors
@@ -43,23 +43,23 @@ abbrev pub bytes_left : Source → ℕ
 bytes_left s = piece_size * (most_reads - s.reads) + length s.waiting
 
 -- a checker, and the source of its steps
-pub record Turn (L : Type 0) : Type 0 where
+pub record CheckerAtSource (L : Type 0) : Type 0 where
   pub checker : Seen L
   pub source : Source
 
 -- this checker, and this source of its steps
-abbrev pub turn : {L : Type 0} → Seen L → Source → Turn L
-turn c s = record { checker = c; source = s }
+abbrev pub at_source : {L : Type 0} → Seen L → Source → CheckerAtSource L
+at_source c s = record { checker = c; source = s }
 
 -- this step was read and checked
-pub record Tries {L : Type 0} (a b : Turn L) (earlier : List Step) (step : Step) : Type 0 where
+pub record TriesStep {L : Type 0} (a b : CheckerAtSource L) (earlier : List Step) (step : Step) : Type 0 where
   pub text : List ℕ
   pub passes : Passes a.source b.source text
   pub spelt : SpellsStep step text
   pub looks : looks_of b.checker ≤ looks_of a.checker + most_looks (ready_after earlier) step
 
 -- none was, for want of memory
-pub record Starves {L : Type 0} (a b : Turn L) : Type 0 where
+pub record Starves {L : Type 0} (a b : CheckerAtSource L) : Type 0 where
   pub tag : ℕ
   pub more : List ℕ
   pub passes : Passes a.source b.source (tag ∷ more)
@@ -68,37 +68,37 @@ pub record Starves {L : Type 0} (a b : Turn L) : Type 0 where
 
 module _ {L : Type 0} (Hears : L → Told → Result Unit ProcessingError → L → Type 0) (before : List Told) (begun : L) where
   -- no step was read, and nothing is changed
-  pub record Waits (a b : Turn L) (earlier : List Step) : Type 0 where
-    pub goes_on : GoesOn Hears before begun b.checker earlier
+  pub record Waits (a b : CheckerAtSource L) (earlier : List Step) : Type 0 where
+    pub goes_on : StandsUnfailed Hears before begun b.checker earlier
     pub looks : looks_of b.checker ≡ looks_of a.checker
 
   -- The next step is taken, and the answer is whether it is the end.
-  abbrev pub StepsOn : Result Bool CheckerError → Turn L → Turn L → List Step → Type 0
-  StepsOn (Ok ended) a b earlier = (step : Step) × Tries a b earlier step × MatchBool ended (step ≡ End) (step ≢ End) × GoesOn Hears before begun b.checker (step ∷ earlier)
-  StepsOn (Err errors.CheckFailed) a b earlier = (step : Step) × Tries a b earlier step × (Accepts (ready_after earlier) step → ⊥) × Refuses Hears before begun b.checker earlier
-  StepsOn (Err errors.CounterEnd) a b earlier = (step : Step) × Tries a b earlier step × SpentBy step (stored_after earlier) × Stops Hears before begun b.checker earlier
+  abbrev pub StepsOn : Result Bool CheckerError → CheckerAtSource L → CheckerAtSource L → List Step → Type 0
+  StepsOn (Ok ended) a b earlier = (step : Step) × TriesStep a b earlier step × MatchBool ended (step ≡ End) (step ≢ End) × StandsUnfailed Hears before begun b.checker (step ∷ earlier)
+  StepsOn (Err errors.CheckFailed) a b earlier = (step : Step) × TriesStep a b earlier step × (Accepts (ready_after earlier) step → ⊥) × FailsRefusing Hears before begun b.checker earlier
+  StepsOn (Err errors.CounterEnd) a b earlier = (step : Step) × TriesStep a b earlier step × SpentBy step (stored_after earlier) × FailsBeforeStep Hears before begun b.checker earlier
   StepsOn (Err errors.OutOfMemory) a b earlier =
-      (Starves a b × Stops Hears before begun b.checker earlier)
-      ⊎ ((step : Step) × Tries a b earlier step × StarvesAt Hears before begun b.checker step earlier)
-  StepsOn (Err (errors.ProofProcessorError cause)) a b earlier = (step : Step) × Tries a b earlier step × BreaksAt Hears before begun (faults.ProofProcessorError cause) b.checker step earlier
+      (Starves a b × FailsBeforeStep Hears before begun b.checker earlier)
+      ⊎ ((step : Step) × TriesStep a b earlier step × StarvesAt Hears before begun b.checker step earlier)
+  StepsOn (Err (errors.ProofProcessorError cause)) a b earlier = (step : Step) × TriesStep a b earlier step × BreaksAt Hears before begun (faults.ProofProcessorError cause) b.checker step earlier
   StepsOn (Err errors.ProofIncomplete) a b earlier =
-      (text : List ℕ) × PassesToEnd a.source b.source text × Live SpellsStep text × Waits a b earlier
+      (text : List ℕ) × PassesToEnd a.source b.source text × IsProperFront SpellsStep text × Waits a b earlier
   StepsOn (Err errors.ParseError) a b earlier =
-      (front : List ℕ) × (byte : ℕ) × Passes a.source b.source (front ++ byte ∷ []) × Live SpellsStep front
+      (front : List ℕ) × (byte : ℕ) × Passes a.source b.source (front ++ byte ∷ []) × IsProperFront SpellsStep front
       × (Open SpellsStep (front ++ byte ∷ []) → ⊥) × Waits a b earlier
-  StepsOn (Err errors.IoError) a b earlier = (text : List ℕ) × Faults a.source b.source text × Live SpellsStep text × Waits a b earlier
+  StepsOn (Err errors.IoError) a b earlier = (text : List ℕ) × Faults a.source b.source text × IsProperFront SpellsStep text × Waits a b earlier
   StepsOn (Err errors.HasFailed) a b earlier = ⊥
 
   -- These steps were taken, none of them the end.
-  pub record Passed (a b : Turn L) (earlier passed : List Step) : Type 0 where
+  pub record TakesStepsBeforeEnd (a b : CheckerAtSource L) (earlier passed : List Step) : Type 0 where
     pub text : List ℕ
     pub passes : Passes a.source b.source text
     pub spelt : SpellsSteps passed text
     pub unended : AllByRecursion (λ step. step ≢ End) passed
-    pub goes_on : GoesOn Hears before begun b.checker (taken_after passed earlier)
+    pub goes_on : StandsUnfailed Hears before begun b.checker (taken_after passed earlier)
     pub looks : looks_of b.checker ≤ looks_of a.checker + most_looks_behind passed earlier
 
 module _ {L : Type 0} (Hears : L → Told → Result Unit ProcessingError → L → Type 0) where
   -- the answer to the next step means so, whatever was accepted and told before
-  abbrev pub TurnsOn : Result Bool CheckerError → Turn L → Turn L → Type 0
+  abbrev pub TurnsOn : Result Bool CheckerError → CheckerAtSource L → CheckerAtSource L → Type 0
   TurnsOn result a b = (before : List Told) (begun : L) (earlier : List Step) → Stands Hears before begun a.checker earlier → StepsOn Hears before begun result a b earlier

@@ -41,13 +41,13 @@ conflict_at slots None = record { literals = []; clauses = [] }
 conflict_at slots (Some place) = record { literals = map negated (clause_at slots place).literals; clauses = clause_at slots place ∷ [] }
 
 -- each place that was noted is there
-abbrev pub AreThere : List Slot → Passed → Type 0
-AreThere slots passed = AllByRecursion (λ r. r.place < length slots) passed.reasons.items
+abbrev pub AreNotedPlaces : List Slot → Passed → Type 0
+AreNotedPlaces slots passed = AllByRecursion (λ r. r.place < length slots) passed.reasons.items
 
 -- the falsified clause was noted, and is there
-abbrev pub IsThere : List Slot → Option ℕ → Type 0
-IsThere slots None = ⊥
-IsThere slots (Some place) = place < length slots
+abbrev pub IsConflictPlace : List Slot → Option ℕ → Type 0
+IsConflictPlace slots None = ⊥
+IsConflictPlace slots (Some place) = place < length slots
 
 -- the number of literals of the falsified clause, 0 where none was noted
 abbrev pub conflict_length : List Slot → Option ℕ → ℕ
@@ -59,34 +59,34 @@ abbrev pub noted_length : List Slot → Passed → ℕ
 noted_length slots passed = total_length (map (λ r. literals_at slots r.place) passed.reasons.items) + conflict_length slots passed.conflict
 
 -- From the old notes, under the assumed literals and before these clauses, the walk came to the new notes, under more literals and before those that are left: what the conflict rests on is the same.
-pub record Leads (slots : List Slot) (old : Passed) (assumed : List ℕ) (clauses : List StoredClause) (new : Passed) (more : List ℕ) (left : List StoredClause) : Type 0 where
+pub record KeepsGround (slots : List Slot) (old : Passed) (assumed : List ℕ) (clauses : List StoredClause) (new : Passed) (more : List ℕ) (left : List StoredClause) : Type 0 where
   pub same : (rest : List StoredClause) →
       followed_back (reasons_in slots old) (ground assumed (clauses ++ rest)) ≡ followed_back (reasons_in slots new) (ground more (left ++ rest))
-  pub there : AreThere slots old → AreThere slots new
+  pub there : AreNotedPlaces slots old → AreNotedPlaces slots new
 
 -- The walk met its conflict in these clauses, and the notes explain it.
-pub record Ends (slots : List Slot) (old : Passed) (assumed : List ℕ) (clauses : List StoredClause) (new : Passed) : Type 0 where
+pub record MeetsConflict (slots : List Slot) (old : Passed) (assumed : List ℕ) (clauses : List StoredClause) (new : Passed) : Type 0 where
   pub same : (rest : List StoredClause) →
       followed_back (reasons_in slots old) (ground assumed (clauses ++ rest)) ≡ followed_back (reasons_in slots new) (conflict_at slots new.conflict)
-  pub there : AreThere slots old → AreThere slots new
-  pub met : IsThere slots new.conflict
+  pub there : AreNotedPlaces slots old → AreNotedPlaces slots new
+  pub met : IsConflictPlace slots new.conflict
 
 -- by whether it met its conflict
-abbrev pub Records : List Slot → Bool → Passed → List ℕ → List StoredClause → Passed → List ℕ → Type 0
-Records slots true old assumed clauses new more = Ends slots old assumed clauses new
-Records slots false old assumed clauses new more = Leads slots old assumed clauses new more []
+abbrev pub NotesReasons : List Slot → Bool → Passed → List ℕ → List StoredClause → Passed → List ℕ → Type 0
+NotesReasons slots true old assumed clauses new more = MeetsConflict slots old assumed clauses new
+NotesReasons slots false old assumed clauses new more = KeepsGround slots old assumed clauses new more []
 
 -- by how it ended over a bucket
 abbrev pub RecordsWalk : List Slot → Walked → Passed → List ℕ → List StoredClause → Passed → List ℕ → Type 0
 RecordsWalk slots Empty old assumed clauses new more = Unit {0}
-RecordsWalk slots Conflict old assumed clauses new more = Ends slots old assumed clauses new
-RecordsWalk slots Open old assumed clauses new more = Leads slots old assumed clauses new more []
+RecordsWalk slots Conflict old assumed clauses new more = MeetsConflict slots old assumed clauses new
+RecordsWalk slots Open old assumed clauses new more = KeepsGround slots old assumed clauses new more []
 
 -- The notes explain what the conflict of these clauses rests on, under the assumed literals.
 pub record Explains (slots : List Slot) (passed : Passed) (whole : Ground) : Type 0 where
   pub same : whole ≡ followed_back (reasons_in slots passed) (conflict_at slots passed.conflict)
-  pub there : AreThere slots passed
-  pub met : IsThere slots passed.conflict
+  pub there : AreNotedPlaces slots passed
+  pub met : IsConflictPlace slots passed.conflict
 
 -- They do so unless the clause has both signs of a variable or a unit in it.
 abbrev pub ExplainsUnless : List Slot → Passed → List ℕ → List ℕ → Ground → Type 0

@@ -42,8 +42,8 @@ abbrev pub all_lits : List Slot → List (List ℕ)
 all_lits = map (λ s. s.clause.literals)
 
 -- how often a clause stands as redundant (true) or as irredundant
-abbrev pub count_of : Bool → Slot → ℕ
-count_of redundant s = if redundant then s.clause.redundant else s.clause.irredundant
+abbrev pub slot_count : Bool → Slot → ℕ
+slot_count redundant s = if redundant then s.clause.redundant else s.clause.irredundant
 
 -- one count more of the clause at a place
 abbrev pub with_count_at : Bool → ℕ → List Slot → List Slot
@@ -76,15 +76,15 @@ gone_count [] = 0
 gone_count (s ∷ ss) = (if is_gone s then 1 else 0) + gone_count ss
 
 -- without those that are gone
-abbrev pub standing : List Slot → List Slot
-standing = filter (λ s. not (is_gone s))
+abbrev pub slots_present : List Slot → List Slot
+slots_present = filter (λ s. not (is_gone s))
 
 -- those that are gone were dropped, or none was
 abbrev pub MayDrop : List Slot → List Slot → Type 0
-MayDrop old new = (new ≡ old) ⊎ (new ≡ standing old)
+MayDrop old new = (new ≡ old) ⊎ (new ≡ slots_present old)
 
 -- a clause with this id at this place, which isn't gone
-pub record IsStanding (slots : List Slot) (id place : ℕ) : Type 0 where
+pub record IsPresentAt (slots : List Slot) (id place : ℕ) : Type 0 where
   pub inside : place < length slots
   pub id_is : (slot_at slots place).clause.id ≡ id
   pub there : is_gone (slot_at slots place) ≡ false

@@ -7,14 +7,14 @@ use Rattle.sat_checker.specs.Stored.{Stored}
 use Rattle.sat_checker.specs.Accepts.{Accepts, effect}
 use Rattle.sat_checker.specs.Judging.{JudgedBefore}
 use Rattle.sat_checker.specs.Looks.{most_looks}
-use Rattle.sat_checker.specs.inner.FormulaView.{KeepsFormula, refiled_in, TurnsBehind, Turns}
+use Rattle.sat_checker.specs.inner.FormulaView.{KeepsFormula, refiled_in, TurnsBehind, KeepsOrSpends}
 use Rattle.sat_checker.specs.inner.Looking.{LooksOver}
 use Rattle.sat_checker.specs.inner.VariablesView.{KeepsVariables}
 use Rattle.sat_checker.specs.declared.state.State.{State}
 use Rattle.sat_checker.specs.declared.store.StoreError.{StoreError}
 
 -- it has this once all clauses are filed by the hashes of now
-pub record Keeps (state : State) (f : Stored) : Type 0 where
+pub record KeepsStored (state : State) (f : Stored) : Type 0 where
   pub formula : KeepsFormula (refiled_in state.formula) f
   pub variables : KeepsVariables state.variables f.variables
   pub assumed : state.assumed ≡ canonical f.assumed
@@ -27,11 +27,11 @@ pub record KeepsFiled (state : State) (f : Stored) : Type 0 where
 
 -- Whatever state was kept, a step that it accepts is one that the definition accepts, and what the step leaves is kept then. One that it refuses is one that the definition refuses, and where memory is wanted, what is judged before was found right.
 abbrev pub Decides : Result Bool StoreError → State → Step → State → Type 0
-Decides result old step new = (f : Stored) → Keeps old f → TurnsBehind result (JudgedBefore f step) (Accepts f step) (Keeps new (effect step f)) (effect step f)
+Decides result old step new = (f : Stored) → KeepsStored old f → TurnsBehind result (JudgedBefore f step) (Accepts f step) (KeepsStored new (effect step f)) (effect step f)
 
 -- what an answer says where the state, of which all clauses are filed, is changed so
-abbrev pub Leaves : {T : Type 0} → Result T StoreError → State → (Stored → Stored) → State → Type 0
-Leaves result old change new = (f : Stored) → KeepsFiled old f → Turns result (Keeps new (change f)) (change f)
+abbrev pub ChangesStored : {T : Type 0} → Result T StoreError → State → (Stored → Stored) → State → Type 0
+ChangesStored result old change new = (f : Stored) → KeepsFiled old f → KeepsOrSpends result (KeepsStored new (change f)) (change f)
 
 -- a derived clause is stored, and its variables are known
 abbrev pub with_derived : Bool → List ℕ → Stored → Stored
@@ -43,4 +43,4 @@ with_added clause f = with_input clause (with_literals_known clause f)
 
 -- no more looks than the step may take, and none are lost
 abbrev pub LooksWithin : State → Step → ℕ → ℕ → Type 0
-LooksWithin state step old new = LooksOver (Keeps state) (λ f. most_looks f step) old new
+LooksWithin state step old new = LooksOver (KeepsStored state) (λ f. most_looks f step) old new

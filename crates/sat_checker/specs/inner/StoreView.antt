@@ -3,7 +3,7 @@ use Rattle.std.specs.Prelude.{ℕ, ◌<◌, ◌≡◌, Bool, false, not, List, [
 use Rattle.std.specs.List.{AllByRecursion}
 use Rattle.sat_checker.specs.Stored.{Stored, StoredClause, hash_by}
 use Rattle.std.specs.Bool.{MatchBool}
-use Rattle.sat_checker.specs.Storing.{clause_with, with_clause, without_clause, redundant_count, irredundant_count}
+use Rattle.sat_checker.specs.Storing.{clause_with, with_stored_clause, without_clause, redundant_count, irredundant_count}
 use Rattle.sat_checker.specs.HasherView.{solver_name_of, width_of}
 use Rattle.sat_checker.specs.inner.Marks.{IsIncreasing}
 use Rattle.sat_checker.specs.inner.SlotView.{Slot, is_gone, live, slot_ids, hashed_anew}
@@ -54,7 +54,7 @@ id_in (Some c) id = c.id
 
 -- what storing a clause leaves, and what it tells
 pub record Stores (store : Store) (f : Stored) (id : ℕ) (redundant : Bool) (literals : List ℕ) (stored_id : ℕ) (is_new : Bool) : Type 0 where
-  pub stored : KeepsClauses store (record f { clauses = with_clause redundant id literals f.clauses })
+  pub stored : KeepsClauses store (record f { clauses = with_stored_clause redundant id literals f.clauses })
   pub id_is : stored_id ≡ id_in (clause_with literals f.clauses) id
   pub new_is : is_new ≡ not (is_some (clause_with literals f.clauses))
 
@@ -63,10 +63,10 @@ abbrev pub PlacesIds : List Slot → List Slot → ℕ → Bool → Type 0
 PlacesIds old new next_id is_new = slot_ids new ≡ (if is_new then slot_ids old ++ next_id ∷ [] else slot_ids old)
 
 -- ids are in order, and below the next one
-pub record AreIds (ids : List ℕ) (next_id : ℕ) : Type 0 where
+pub record AreIdsInOrder (ids : List ℕ) (next_id : ℕ) : Type 0 where
   pub increasing : IsIncreasing ids
   pub below : AllByRecursion (λ i. i < next_id) ids
 
 -- they stay in order, and below the next one
 abbrev pub KeepsIds : List Slot → List Slot → Type 0
-KeepsIds old new = (next_id : ℕ) → AreIds (slot_ids old) next_id → AreIds (slot_ids new) next_id
+KeepsIds old new = (next_id : ℕ) → AreIdsInOrder (slot_ids old) next_id → AreIdsInOrder (slot_ids new) next_id

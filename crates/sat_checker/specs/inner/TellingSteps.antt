@@ -52,13 +52,13 @@ abbrev pub records_in : Status → Records
 records_in s = record { unsat = s.unsat; ended = s.ended; var_deleted = s.var_deleted }
 
 -- the state and the looks are as they were
-pub record SameState {L : Type 0} (old new : Seen L) : Type 0 where
+pub record SameStateAndLooks {L : Type 0} (old new : Seen L) : Type 0 where
   pub state : new.kernel.state ≡ old.kernel.state
   pub looks : looks_of new ≡ looks_of old
 
 -- who is told takes everything without a fault, and stays as it was
-abbrev pub Quiet : {L : Type 0} → (L → Told → Result Unit ProcessingError → L → Type 0) → L → Type 0
-Quiet Hears l = (t : Told) → Hears l t (Ok tt) l
+abbrev pub IsUnmovedByTold : {L : Type 0} → (L → Told → Result Unit ProcessingError → L → Type 0) → L → Type 0
+IsUnmovedByTold Hears l = (t : Told) → Hears l t (Ok tt) l
 
 module _ {L : Type 0} (Hears : L → Told → Result Unit ProcessingError → L → Type 0) (told : List Told) where
   -- all was told, or up to a fault, and what is recorded is so
@@ -67,5 +67,5 @@ module _ {L : Type 0} (Hears : L → Told → Result Unit ProcessingError → L 
   TakenIn (Err e) old new = (has_failed new ≡ true) × (new.kernel.records ≡ records_in new.kernel.state.formula.status) × (f : ProcessingError) × (e ≡ fault_of f) × HearsUpTo Hears f told old.listeners new.listeners
 
   -- the same, and the state and the looks are as they were
-  abbrev pub TakesIn : Result Unit CheckerError → Seen L → Seen L → Type 0
-  TakesIn result old new = SameState old new × TakenIn result old new
+  abbrev pub TellsAndKeepsState : Result Unit CheckerError → Seen L → Seen L → Type 0
+  TellsAndKeepsState result old new = SameStateAndLooks old new × TakenIn result old new

@@ -4,12 +4,12 @@ use Rattle.sat_checker.specs.LiteralSets.{is_among}
 use Rattle.sat_checker.specs.SortedSets.{NoRepeats}
 use Rattle.sat_checker.specs.Stored.{StoredUnit}
 use Rattle.sat_checker.specs.Storing.{unit_id}
-use Rattle.sat_checker.specs.inner.LitNumbers.{number_at, ArePlaced}
+use Rattle.sat_checker.specs.inner.LitNumbers.{number_at, AreTrailPlaces}
 use Rattle.sat_checker.specs.declared.units.lit_numbers.LitNumbers.{LitNumbers}
 
 -- just the units are assumed, in any order; by each literal stand its unit's id and, where it's assumed, its place on the trail
-pub record AreUnits (units : List StoredUnit) (ids places : LitNumbers) (assigned : List ℕ) : Type 0 where
+pub record UnitsInvariant (units : List StoredUnit) (ids places : LitNumbers) (assigned : List ℕ) : Type 0 where
   pub assumed : (l : ℕ) → is_among assigned l ≡ is_among (map (λ u. u.literal) units) l
   pub once : NoRepeats (map (λ u. u.literal) units)
   pub numbered : (l : ℕ) → number_at ids l ≡ unit_id l units
-  pub placed : ArePlaced places (reverse assigned)
+  pub placed : AreTrailPlaces places (reverse assigned)

@@ -32,7 +32,7 @@ walk_buckets assumed ([] ∷ bs) = false
 walk_buckets assumed ((c ∷ cs) ∷ bs) = if_conflict (walk assumed (c ∷ cs)) (λ more. walk_buckets more bs)
 
 -- The negations of the clause's literals are assumed in turn. None: a literal was true.
-abbrev pub denied : List ℕ → List ℕ → Option (List ℕ)
-denied assumed [] = Some assumed
-denied assumed (l ∷ ls) =
-    if is_among assumed l then None else denied (if is_among assumed (negated l) then assumed else negated l ∷ assumed) ls
+abbrev pub denied_in_turn : List ℕ → List ℕ → Option (List ℕ)
+denied_in_turn assumed [] = Some assumed
+denied_in_turn assumed (l ∷ ls) =
+    if is_among assumed l then None else denied_in_turn (if is_among assumed (negated l) then assumed else negated l ∷ assumed) ls

@@ -14,8 +14,8 @@ abbrev pub Live : Type 0
 Live = List (ℕ × ℕ)
 
 -- the valuations of variables and of identities agree on the live ones
-abbrev pub Agrees : Live → Valuation → Valuation → Type 0
-Agrees live a b = AllByRecursion (λ p. a p.0 ≡ b p.1) live
+abbrev pub AgreesOnLive : Live → Valuation → Valuation → Type 0
+AgreesOnLive live a b = AllByRecursion (λ p. a p.0 ≡ b p.1) live
 
 -- each proof variable once
 abbrev pub Apart : Live → Type 0
@@ -24,7 +24,7 @@ Apart (p ∷ ps) = AllByRecursion (λ q. q.0 ≡ p.0 → ⊥) ps × Apart ps
 
 -- some valuation of identities agrees with it and satisfies the accepted clauses
 abbrev pub Meant : Judge → Live → Valuation → Type 0
-Meant j live a = (b : Valuation) × Agrees live a b × EachHolds b j.clauses
+Meant j live a = (b : Valuation) × AgreesOnLive live a b × EachHolds b j.clauses
 
 -- of the names in use, and of what the steps mean
 pub record IsBridge (k : Checking) (j : Judge) (earlier : List Step) (live : Live) : Type 0 where

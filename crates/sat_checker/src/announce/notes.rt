@@ -14,7 +14,7 @@ ghost use Rattle.sat_checker.specs.inner.Looking.{LooksOver, LooksUpTo};
 ghost use Rattle.sat_checker.specs.inner.Reasons.{noted_length};
 ghost use Rattle.sat_checker.specs.inner.VariablesView.{mode_in, variable_of};
 ghost use Rattle.sat_checker.specs.telling.AnnouncingView.{stored_as, deletion_told, AreLong};
-ghost use Rattle.sat_checker.specs.telling.NotedView.{Adds};
+ghost use Rattle.sat_checker.specs.telling.NotedView.{AppendsNews};
 
 use crate::announce::announcing::{Change, Deletion};
 use crate::announce::news::News;
@@ -69,7 +69,7 @@ impl Notes {
         user: Option<Var>,
         before: VarData,
     ) -> Result<(), AllocError>
-        ensures { OnOk result (Adds self.old (renaming var user (variable_of before)) self.new) }
+        ensures { OnOk result (AppendsNews self.old (renaming var user (variable_of before)) self.new) }
     {
         if !self.hears {
             return Ok(());
@@ -84,7 +84,7 @@ impl Notes {
         sampling: bool,
         before: VarData,
     ) -> Result<(), AllocError>
-        ensures { OnOk result (Adds self.old (mode_change var sampling (mode_in before.mode) before.name) self.new) }
+        ensures { OnOk result (AppendsNews self.old (mode_change var sampling (mode_in before.mode) before.name) self.new) }
     {
         if !self.hears {
             return Ok(());
@@ -94,7 +94,7 @@ impl Notes {
 
     /// A variable was deleted.
     pub fn var_deleted(&mut self, var: Var) -> Result<(), AllocError>
-        ensures { OnOk result (Adds self.old (told.DeleteVar var ∷ []) self.new) }
+        ensures { OnOk result (AppendsNews self.old (told.DeleteVar var ∷ []) self.new) }
     {
         if !self.hears {
             return Ok(());
@@ -104,7 +104,7 @@ impl Notes {
 
     /// A clause with these literals was deleted.
     pub fn deleted(&mut self, literals: &[Lit], deletion: Deletion) -> Result<(), AllocError>
-        ensures { OnOk result (Adds self.old (deletion_told literals.now deletion) self.new) }
+        ensures { OnOk result (AppendsNews self.old (deletion_told literals.now deletion) self.new) }
     {
         if !self.hears {
             return Ok(());
@@ -113,7 +113,7 @@ impl Notes {
     }
 
     pub fn model(&mut self, assignment: &[Lit]) -> Result<(), AllocError>
-        ensures { OnOk result (Adds self.old (told.Model assignment.now ∷ []) self.new) }
+        ensures { OnOk result (AppendsNews self.old (told.Model assignment.now ∷ []) self.new) }
     {
         if !self.hears {
             return Ok(());
@@ -122,7 +122,7 @@ impl Notes {
     }
 
     pub fn assumptions(&mut self, assumptions: &[Lit]) -> Result<(), AllocError>
-        ensures { OnOk result (Adds self.old (told.Assumptions assumptions.now ∷ []) self.new) }
+        ensures { OnOk result (AppendsNews self.old (told.Assumptions assumptions.now ∷ []) self.new) }
     {
         if !self.hears {
             return Ok(());
@@ -139,7 +139,7 @@ impl Formula {
         notes: &mut Notes,
         looks: &mut Looks,
     ) -> Result<(), AllocError>
-        ensures noted { OnOk result ((f : Stored) → KeepsFormula self.now f → Adds notes.old (input clause.now f) notes.new) }
+        ensures noted { OnOk result ((f : Stored) → KeepsFormula self.now f → AppendsNews notes.old (input clause.now f) notes.new) }
         ensures looks { LooksOver (KeepsFormula self.now) literal_count looks.old looks.new }
     {
         if !notes.hears {
@@ -239,7 +239,7 @@ impl Formula {
     ) -> Result<(), AllocError>
         requires explained { (hashes : List ℕ) × Explained self.now clause.now hashes }
         ensures noted { OnOk result ((f : Stored) (hashes : List ℕ) → KeepsFormula self.now f → AreLong f
-            → Explained self.now clause.now hashes → Adds notes.old (derived redundant clause.now hashes f) notes.new) }
+            → Explained self.now clause.now hashes → AppendsNews notes.old (derived redundant clause.now hashes f) notes.new) }
         ensures looks { LooksOver (KeepsFormula self.now)
             (λ f. noted_length self.now.store.clauses self.now.passed + literal_count f) looks.old looks.new }
     {
@@ -260,7 +260,7 @@ impl Formula {
     ) -> Result<(), AllocError>
         requires explained { (hashes : List ℕ) × Explained self.now clause.now hashes }
         ensures noted { OnOk result ((f : Stored) (hashes : List ℕ) → KeepsFormula self.now f → AreLong f
-            → Explained self.now clause.now hashes → Adds notes.old (derived redundant clause.now hashes f) notes.new) }
+            → Explained self.now clause.now hashes → AppendsNews notes.old (derived redundant clause.now hashes f) notes.new) }
         ensures looks { LooksOver (KeepsFormula self.now)
             (λ f. noted_length self.now.store.clauses self.now.passed + literal_count f) looks.old looks.new }
     {
@@ -302,7 +302,7 @@ impl Formula {
     ) -> Result<(), AllocError>
         requires explained { (hashes : List ℕ) × Explained self.now (lit ∷ []) hashes }
         ensures noted { OnOk result ((f : Stored) (hashes : List ℕ) → KeepsFormula self.now f → AreLong f
-            → Explained self.now (lit ∷ []) hashes → Adds notes.old (derived false (lit ∷ []) hashes f) notes.new) }
+            → Explained self.now (lit ∷ []) hashes → AppendsNews notes.old (derived false (lit ∷ []) hashes f) notes.new) }
         ensures hears { notes.new.hears ≡ notes.old.hears }
         ensures looks { LooksUpTo (noted_length self.now.store.clauses self.now.passed) looks.old looks.new }
     {
@@ -335,7 +335,7 @@ impl Formula {
         requires denied { denied.now ≡ map negated core.now }
         requires explained { (hashes : List ℕ) × Explained self.now denied.now hashes }
         ensures noted { OnOk result ((f : Stored) (hashes : List ℕ) → KeepsFormula self.now f
-            → Explained self.now denied.now hashes → Adds notes.old (announced f (FailedAssumptions core.now hashes)) notes.new) }
+            → Explained self.now denied.now hashes → AppendsNews notes.old (announced f (FailedAssumptions core.now hashes)) notes.new) }
         ensures looks { LooksUpTo (noted_length self.now.store.clauses self.now.passed) looks.old looks.new }
     {
         if !notes.hears {

@@ -3,14 +3,14 @@ ghost use Rattle.std.specs.Prelude.{◌≡◌, ◌≢◌, ◌≤◌, ◌<◌, fa
 ghost use Rattle.sat_base.specs.device.Device.{most_reads};
 ghost use Rattle.sat_base.specs.device.Reading.{unread};
 ghost use Rattle.sat_base.specs.steps.Steps.{End};
-ghost use Rattle.sat_base.specs.steps.StepReading.{reader_source, reader_name, has_failed as is_stopped};
+ghost use Rattle.sat_base.specs.steps.StepReading.{reader_source, reader_name, has_reader_failed as is_stopped};
 ghost use Rattle.sat_base.specs.steps.StepViews.{step_of};
 ghost use Rattle.sat_checker.specs.KernelView.{has_failed};
 ghost use Rattle.sat_checker.specs.CheckerView.{kernel_of, seen_of, seen_with, FaultsOfSomebody, FailsAgain};
 ghost use Rattle.sat_checker.specs.declared.error.CheckerError.TheVariants.{HasFailed};
 ghost use Rattle.sat_checker.specs.announcements.Announcements.{Told};
 ghost use Rattle.sat_checker.specs.ProofView.{ChecksProof};
-ghost use Rattle.sat_checker.specs.inner.ProofSteps.{TurnsOn, error_of, is_final, turn, bytes_left};
+ghost use Rattle.sat_checker.specs.inner.ProofSteps.{TurnsOn, error_of, is_final, at_source, bytes_left};
 ghost use Rattle.sat_checker.specs.telling.Hearing.{HearsFirst};
 ghost use Rattle.sat_checker.specs.telling.ProcessingView.{HearsEach};
 
@@ -136,8 +136,8 @@ impl<P: ProofProcessor, T: ProofTranscriptProcessor> Checker<P, T> {
         ensures goes_on { OnOk result ((has_failed (kernel_of self.new) ≡ false) × (is_stopped steps.new ≡ false)) }
         ensures takes { OnOk result (bytes_left (reader_source R.seen steps.new) < bytes_left (reader_source R.seen steps.old)) }
         ensures steps_on { TurnsOn (HearsFirst O.takes (HearsEach P.takes T.reads))
-            result (turn (seen_with own.old self.old) (reader_source R.seen steps.old))
-            (turn (seen_with own.new self.new) (reader_source R.seen steps.new)) }
+            result (at_source (seen_with own.old self.old) (reader_source R.seen steps.old))
+            (at_source (seen_with own.new self.new) (reader_source R.seen steps.new)) }
     {
         if let Err(error) = steps.advance() {
             self.kernel.failed = is_final(error);

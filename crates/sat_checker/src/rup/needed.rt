@@ -6,7 +6,7 @@ ghost use Rattle.sat_checker.specs.announcements.Needed.{Ground, others_denied, 
 ghost use Rattle.sat_checker.specs.inner.Looking.{LooksUpTo};
 ghost use Rattle.sat_checker.specs.inner.Marks.{IsIncreasing};
 ghost use Rattle.sat_checker.specs.inner.NeededView.{IsFollowed};
-ghost use Rattle.sat_checker.specs.inner.Reasons.{clause_at, conflict_at, noted_length, AreThere, IsThere, Explains};
+ghost use Rattle.sat_checker.specs.inner.Reasons.{clause_at, conflict_at, noted_length, AreNotedPlaces, IsConflictPlace, Explains};
 ghost use Rattle.sat_checker.specs.inner.SlotView.{literals_at};
 
 use crate::looks::Looks;
@@ -148,8 +148,8 @@ impl Needed {
         passed: &Passed,
         looks: &mut Looks,
     ) -> Result<(), AllocError>
-        requires there { AreThere clauses.now passed.now }
-        requires met { IsThere clauses.now passed.now.conflict }
+        requires there { AreNotedPlaces clauses.now passed.now }
+        requires met { IsConflictPlace clauses.now passed.now.conflict }
         ensures followed { OnOk result ((whole : Ground) → Explains clauses.now passed.now whole → IsFollowed self.new whole) }
         ensures looks { LooksUpTo (noted_length clauses.now passed.now) looks.old looks.new }
     {

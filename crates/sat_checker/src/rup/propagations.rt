@@ -6,7 +6,7 @@ ghost use Rattle.sat_checker.specs.Stored.{Stored};
 ghost use Rattle.sat_checker.specs.announcements.Needed.{Ground, ground, conflict_ids, propagations};
 ghost use Rattle.sat_checker.specs.inner.Looking.{LooksUpTo};
 ghost use Rattle.sat_checker.specs.inner.Marks.{IsIncreasing};
-ghost use Rattle.sat_checker.specs.inner.Reasons.{named, noted_length, AreThere, IsThere, Explains, ExplainsUnless};
+ghost use Rattle.sat_checker.specs.inner.Reasons.{named, noted_length, AreNotedPlaces, IsConflictPlace, Explains, ExplainsUnless};
 ghost use Rattle.sat_checker.specs.inner.StoreView.{KeepsClauses};
 
 use crate::looks::Looks;
@@ -85,8 +85,8 @@ impl Propagations {
         looks: &mut Looks,
     ) -> Result<(), AllocError>
         requires empty { self.old.ids.items ≡ [] }
-        requires there { AreThere store.now.clauses passed.now }
-        requires met { IsThere store.now.clauses passed.now.conflict }
+        requires there { AreNotedPlaces store.now.clauses passed.now }
+        requires met { IsConflictPlace store.now.clauses passed.now.conflict }
         ensures listed { OnOk result ((whole : Ground) → Explains store.now.clauses passed.now whole
             → IsIncreasing (map (λ u. u.id) units.now)
             → self.new.ids.items ≡ conflict_ids (map negated clause.now) whole units.now) }

@@ -5,12 +5,12 @@ ghost use Rattle.sat_checker.specs.inner.Looking.{LooksUpTo};
 ghost use Rattle.sat_checker.specs.inner.ModelTests.{are_all_true, irredundant_length};
 ghost use Rattle.sat_checker.specs.Looks.{total_length};
 ghost use Rattle.sat_checker.specs.inner.Marks.{IsIncreasing};
-ghost use Rattle.sat_checker.specs.inner.SlotView.{slot_at, literals_at, all_lits, stored_slot, with_count_at, without_count_at, count_of, is_gone, gone_count, standing, MayDrop, IsStanding, slot_ids, places_of, bucket_in, is_same_at, found_among, hashed_anew, live, live_length};
+ghost use Rattle.sat_checker.specs.inner.SlotView.{slot_at, literals_at, all_lits, stored_slot, with_count_at, without_count_at, slot_count, is_gone, gone_count, slots_present, MayDrop, IsPresentAt, slot_ids, places_of, bucket_in, is_same_at, found_among, hashed_anew, live, live_length};
 ghost use Rattle.sat_checker.specs.Storing.{clause_numbered};
 ghost use Rattle.sat_checker.specs.LiteralSets.{mentions, is_among};
-ghost use Rattle.sat_checker.specs.inner.PairView.{first_of, behind};
+ghost use Rattle.sat_checker.specs.inner.PairView.{first_of, places_behind};
 ghost use Rattle.sat_checker.specs.inner.IndexView.{Files, pairs_of};
-ghost use Rattle.sat_checker.specs.inner.OccurrenceView.{AreKept};
+ghost use Rattle.sat_checker.specs.inner.OccurrenceView.{SlotsInvariant};
 
 use crate::hash::{ClauseHasher, mixed};
 use crate::looks::Looks;
@@ -41,13 +41,13 @@ pub struct Clauses {
 impl Model for Clauses {
     ghost use Rattle.std.specs.Prelude.{List, ◌≡◌};
     ghost use Rattle.sat_checker.specs.inner.SlotView.{Slot, gone_count};
-    ghost use Rattle.sat_checker.specs.inner.OccurrenceView.{AreKept};
+    ghost use Rattle.sat_checker.specs.inner.OccurrenceView.{SlotsInvariant};
 
     ghost Value = { List Slot };
 
     ghost view = { λ s. s.slots };
 
-    ghost invariant = { λ s. AreKept s.slots s.index s.occurrences × (s.gone ≡ gone_count s.slots) };
+    ghost invariant = { λ s. SlotsInvariant s.slots s.index s.occurrences × (s.gone ≡ gone_count s.slots) };
 }
 
 impl Clauses {
@@ -98,7 +98,7 @@ impl Clauses {
     /// How often the clause stands as redundant, or as irredundant.
     pub fn count(&self, place: usize, redundant: bool) -> u64
         requires { place < length self.now }
-        ensures { result ≡ count_of redundant (slot_at self.now place) }
+        ensures { result ≡ slot_count redundant (slot_at self.now place) }
     {
         self.slots.count(place, redundant)
     }
@@ -115,7 +115,7 @@ impl Clauses {
     #[inline(always)]
     pub fn next(&self, hash: ClauseHash, place: usize) -> Option<usize>
         requires { is_among (places_of hash self.now) place ≡ true }
-        ensures { result ≡ first_of (behind place (places_of hash self.now)) }
+        ensures { result ≡ first_of (places_behind place (places_of hash self.now)) }
     {
         self.index.next(mixed(hash), place)
     }
@@ -146,7 +146,7 @@ impl Clauses {
 
     /// The place of the clause with this id, unless it is gone. Ids rise by place.
     pub fn place_of(&self, id: u64) -> Option<usize>
-        ensures found { IfSome result (IsStanding self.now id) }
+        ensures found { IfSome result (IsPresentAt self.now id) }
         ensures absent { result ≡ None → IsIncreasing (slot_ids self.now) → clause_numbered id (live self.now) ≡ None }
     {
         let place = self.slots.place_of(id)?;
@@ -231,7 +231,7 @@ impl Clauses {
     pub fn add_count(&mut self, place: usize, redundant: bool)
         requires inside { place < length self.old }
         requires there { is_gone (slot_at self.old place) ≡ false }
-        requires room { count_of redundant (slot_at self.old place) + 1 < 2 ^ 64 }
+        requires room { slot_count redundant (slot_at self.old place) + 1 < 2 ^ 64 }
         ensures { self.new ≡ with_count_at redundant place self.old }
     {
         self.slots.add_count(place, redundant);
@@ -241,7 +241,7 @@ impl Clauses {
     pub fn take_count(&mut self, place: usize, redundant: bool, literals: &[Lit])
         requires inside { place < length self.old }
         requires literals { literals.now ≡ literals_at self.old place }
-        requires some { 0 < count_of redundant (slot_at self.old place) }
+        requires some { 0 < slot_count redundant (slot_at self.old place) }
         ensures { self.new ≡ without_count_at redundant place self.old }
     {
         let _count = self.slots.len();
@@ -287,9 +287,9 @@ fn add(
     hash: ClauseHash,
     literals: &[Lit],
 ) -> Result<(), AllocError>
-    requires kept { AreKept slots.old index.old occurrences.old }
+    requires kept { SlotsInvariant slots.old index.old occurrences.old }
     requires increasing { IsIncreasing literals.now }
-    ensures kept { OnOk result (AreKept slots.new index.new occurrences.new) }
+    ensures kept { OnOk result (SlotsInvariant slots.new index.new occurrences.new) }
     ensures slots { OnOk result (slots.new ≡ slots.old ++ stored_slot redundant id hash literals.now ∷ []) }
 {
     occurrences.make_room(literals)?;
@@ -336,7 +336,7 @@ fn list_standing(
 ) -> Result<(), AllocError>
     requires filed { Files index.now slots.now }
     requires none { pairs.old.items ≡ [] }
-    ensures { OnOk result (pairs.new.items ≡ pairs_of (standing slots.now)) }
+    ensures { OnOk result (pairs.new.items ≡ pairs_of (slots_present slots.now)) }
 {
     for place in 0..slots.len() {
         if slots.is_gone(place) {
@@ -352,8 +352,8 @@ fn list_standing(
 /// Drops the clauses that are gone, and files the others by their new places. Where memory is wanted all stay.
 fn drop_gone(alloc: Global, slots: &mut Slots, index: &mut SortedPairs) -> Result<(), AllocError>
     requires { Files index.old slots.old }
-    ensures left { OnOk result (slots.new ≡ standing slots.old) }
-    ensures filed { OnOk result (Files index.new (standing slots.old)) }
+    ensures left { OnOk result (slots.new ≡ slots_present slots.old) }
+    ensures filed { OnOk result (Files index.new (slots_present slots.old)) }
     ensures err { OnErr result ((slots.new ≡ slots.old) × (index.new ≡ index.old)) }
 {
     let mut pairs = Vec::new(alloc);

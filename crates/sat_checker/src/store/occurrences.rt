@@ -1,6 +1,6 @@
 //! How often literals stand in the stored clauses.
 ghost use Rattle.std.specs.Prelude.{ℕ, ◌≡◌, ◌+◌, ◌*◌, ◌^◌, ◌<◌, ◌≤◌, ◌==◌, if◌then◌else◌, All, OnOk, MatchBool};
-ghost use Rattle.sat_base.specs.values.Tables.{near_count, HasRoom};
+ghost use Rattle.sat_base.specs.values.Tables.{near_count, HasPlaceFor};
 ghost use Rattle.sat_checker.specs.inner.OccurrenceView.{count_at, times_in};
 
 use sat_base::{Lit, Table, Var};
@@ -32,8 +32,8 @@ impl Occurrences {
     /// Makes room for the count of a literal.
     #[inline(always)]
     fn make_room_for(&mut self, lit: Lit) -> Result<(), AllocError>
-        ensures room { OnOk result (HasRoom self.new.counts lit) }
-        ensures others { (l : ℕ) → HasRoom self.old.counts l → HasRoom self.new.counts l }
+        ensures room { OnOk result (HasPlaceFor self.new.counts lit) }
+        ensures others { (l : ℕ) → HasPlaceFor self.old.counts l → HasPlaceFor self.new.counts l }
         ensures same { (l : ℕ) → count_at self.new l ≡ count_at self.old l }
     {
         self.counts.make_room(lit.code(), 0)
@@ -41,7 +41,7 @@ impl Occurrences {
 
     /// Makes room for the counts of literals.
     pub fn make_room(&mut self, literals: &[Lit]) -> Result<(), AllocError>
-        ensures room { OnOk result (All (HasRoom self.new.counts) literals.now) }
+        ensures room { OnOk result (All (HasPlaceFor self.new.counts) literals.now) }
         ensures same { (l : ℕ) → count_at self.new l ≡ count_at self.old l }
     {
         for lit in literals {
@@ -53,9 +53,9 @@ impl Occurrences {
     /// Counts a literal.
     #[inline(always)]
     fn add_one(&mut self, lit: Lit)
-        requires room { HasRoom self.old.counts lit }
+        requires room { HasPlaceFor self.old.counts lit }
         requires few { count_at self.old lit + 1 < 2 ^ 64 }
-        ensures room { (l : ℕ) → HasRoom self.old.counts l → HasRoom self.new.counts l }
+        ensures room { (l : ℕ) → HasPlaceFor self.old.counts l → HasPlaceFor self.new.counts l }
         ensures counted { (l : ℕ) → count_at self.new l ≡ (if l == lit then 1 else 0) + count_at self.old l }
     {
         let had = self.count(lit);
@@ -74,7 +74,7 @@ impl Occurrences {
 
     /// Counts literals.
     pub fn add(&mut self, literals: &[Lit])
-        requires room { All (HasRoom self.old.counts) literals.now }
+        requires room { All (HasPlaceFor self.old.counts) literals.now }
         requires few { (l : ℕ) → count_at self.old l + times_in l literals.now < 2 ^ 64 }
         ensures { (l : ℕ) → count_at self.new l ≡ count_at self.old l + times_in l literals.now }
     {

@@ -3,7 +3,7 @@ ghost use Rattle.std.specs.Prelude.{◌≡◌, ◌+◌, ◌<◌, ◌^◌, ℕ, L
 ghost use Rattle.std.specs.List.{AllByRecursion};
 ghost use Rattle.sat_checker.specs.LiteralSets.{is_among};
 ghost use Rattle.sat_checker.specs.inner.Marks.{IsIncreasing};
-ghost use Rattle.sat_checker.specs.inner.SlotView.{lits_in, LitsWithin, slot_at, literals_at, all_lits, slot_ids, slot_with, with_count_at, without_count_at, with_hash_at, count_of, is_gone, standing};
+ghost use Rattle.sat_checker.specs.inner.SlotView.{lits_in, LitsWithin, slot_at, literals_at, all_lits, slot_ids, slot_with, with_count_at, without_count_at, with_hash_at, slot_count, is_gone, slots_present};
 
 use crate::looks::Looks;
 use crate::store::filed_hash::FiledHash;
@@ -154,7 +154,7 @@ impl Slots {
     /// How often the clause stands as redundant, or as irredundant.
     pub fn count(&self, place: usize, redundant: bool) -> u64
         requires { place < length self.now }
-        ensures { result ≡ count_of redundant (slot_at self.now place) }
+        ensures { result ≡ slot_count redundant (slot_at self.now place) }
     {
         let entry = &self.entries[place];
         if redundant {
@@ -198,7 +198,7 @@ impl Slots {
 
     /// Puts the clauses of other slots behind these, but for those that are gone. Nobody looks at their literals.
     pub fn push_standing(&mut self, others: &Slots) -> Result<(), AllocError>
-        ensures { OnOk result (self.new ≡ self.old ++ standing others.now) }
+        ensures { OnOk result (self.new ≡ self.old ++ slots_present others.now) }
     {
         for place in 0..others.len() {
             if others.is_gone(place) {
@@ -219,7 +219,7 @@ impl Slots {
     /// One count more.
     pub fn add_count(&mut self, place: usize, redundant: bool)
         requires inside { place < length self.old }
-        requires room { count_of redundant (slot_at self.old place) + 1 < 2 ^ 64 }
+        requires room { slot_count redundant (slot_at self.old place) + 1 < 2 ^ 64 }
         ensures { self.new ≡ with_count_at redundant place self.old }
     {
         let entry = &mut self.entries[place];
@@ -233,7 +233,7 @@ impl Slots {
     /// One count less.
     pub fn take_count(&mut self, place: usize, redundant: bool)
         requires inside { place < length self.old }
-        requires some { 0 < count_of redundant (slot_at self.old place) }
+        requires some { 0 < slot_count redundant (slot_at self.old place) }
         ensures { self.new ≡ without_count_at redundant place self.old }
     {
         let entry = &mut self.entries[place];

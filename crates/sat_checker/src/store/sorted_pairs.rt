@@ -3,7 +3,7 @@ ghost use Rattle.std.specs.Prelude.{All, ℕ, true, ◌≡◌, ◌+◌, ◌++◌
 ghost use Rattle.std.specs.List.{IsDistinct};
 ghost use Rattle.std.specs.List.Sorted.{IsPermutation};
 ghost use Rattle.sat_checker.specs.LiteralSets.{is_among};
-ghost use Rattle.sat_checker.specs.inner.PairView.{AreInOrder, inserted, without_pair, places_in, first_of, behind, same_place};
+ghost use Rattle.sat_checker.specs.inner.PairView.{AreInOrder, inserted, without_pair, places_in, first_of, places_behind, same_place};
 ghost use Rattle.sat_checker.specs.inner.LinkView.{listed, AreKeptPairs, Lists, nowhere};
 
 use crate::store::links::{Link, NOWHERE, Pair, first_from, link_all, list_all, put, take, top};
@@ -139,7 +139,7 @@ impl SortedPairs {
     #[inline(always)]
     pub fn next(&self, hash: ClauseHash, place: usize) -> Option<usize>
         requires { is_among (places_in hash self.now.pairs) place ≡ true }
-        ensures { result ≡ first_of (behind place (places_in hash self.now.pairs)) }
+        ensures { result ≡ first_of (places_behind place (places_in hash self.now.pairs)) }
     {
         first_from(&self.links, self.links[place].next, hash)
     }

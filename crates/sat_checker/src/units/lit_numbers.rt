@@ -1,6 +1,6 @@
 //! Numbers of literals, by their code.
 ghost use Rattle.std.specs.Prelude.{ℕ, ◌≡◌, ◌==◌, ◌+◌, ◌^◌, ◌<◌, OnOk, Some, None, if◌then◌else◌};
-ghost use Rattle.sat_base.specs.values.Tables.{HasRoom};
+ghost use Rattle.sat_base.specs.values.Tables.{HasPlaceFor};
 ghost use Rattle.sat_checker.specs.inner.LitNumbers.{number_at};
 
 use sat_base::{Lit, Table};
@@ -33,14 +33,14 @@ impl LitNumbers {
 
     /// Makes room for the number of a literal.
     pub fn make_room(&mut self, lit: Lit) -> Result<(), AllocError>
-        ensures room { OnOk result (HasRoom self.new.numbers lit) }
+        ensures room { OnOk result (HasPlaceFor self.new.numbers lit) }
         ensures same { (l : ℕ) → number_at self.new l ≡ number_at self.old l }
     {
         self.numbers.make_room(lit.code(), u64::MAX)
     }
 
     pub fn put(&mut self, lit: Lit, number: u64)
-        requires room { HasRoom self.old.numbers lit }
+        requires room { HasPlaceFor self.old.numbers lit }
         requires number { number + 1 < 2 ^ 64 }
         ensures { (l : ℕ) → number_at self.new l ≡ (if l == lit then Some number else number_at self.old l) }
     {

@@ -19,7 +19,7 @@ use Rattle.sat_checker.proofs.lemmas.sets.Canonical.{canonical_among, canonical_
 use Rattle.sat_checker.proofs.lemmas.sets.Rising.{canonical_stays}
 use Rattle.sat_checker.proofs.lemmas.meaning.Clauses.{same, same_from}
 use Rattle.sat_hints.specs.Lines.{Line, Input, Derived, Gone, Core, Fresh}
-use Rattle.sat_hints.specs.Hints.{and_clauses, is_unit_over, unless_unit_over, clause_under, clauses_under, is_long, Follows}
+use Rattle.sat_hints.specs.Hints.{and_clauses, is_unit_over, unless_unit_over, clause_under, clauses_under, is_long, FollowsLines}
 use Rattle.sat_hints.specs.Conversion.{gone_unless, with_line, lines_told, lines_of}
 use Rattle.sat_hints.proofs.lemmas.Sound.{still}
 use Rattle.sat_hints.proofs.lemmas.Mirrored.{lines_by, told_lines, lines-append, by-append, each_more, one_each, IsUnder, Stands, Mirrors, aside, NewLine, new_input, empty_new, set_same, set_new}
@@ -471,7 +471,7 @@ core_mirrors f lines core hs nothing rests m = record {
     ids : List ℕ
     ids = propagations f (map negated core) hs
 
-    go : (b : Bool) → is_tautology (map negated core) ≡ b → Follows lines (Core (canonical core) ids)
+    go : (b : Bool) → is_tautology (map negated core) ≡ b → FollowsLines lines (Core (canonical core) ids)
     go true t = record { in_order = tt; clauses = []; present = ap (λ is. clauses_under is lines) (nothing t); conflict = inl (denied_core core t); unused = λ u. u }
     go false t =
         let r = rests t in

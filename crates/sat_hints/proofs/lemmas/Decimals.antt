@@ -6,7 +6,7 @@ use Rattle.std.proofs.Math.Seq.{take-suc-set}
 use Rattle.sat_base.specs.device.Device.{Writer}
 use Rattle.sat_base.specs.device.Sink.{Sent}
 use Rattle.sat_base.proofs.lemmas.device.Sending.{sent_none, piece_waits}
-use Rattle.sat_hints.specs.inner.LineWriting.{Outlet, Put}
+use Rattle.sat_hints.specs.inner.LineWriting.{Outlet, PutsText}
 
 pub two_digits : (n : ℕ) → 10 ≤ n → n < 100 → decimal n ≡ (48 + n / 10) ∷ (48 + n % 10) ∷ []
 two_digits n h l = decimal_step n h (omega arith) ∙ ap (λ ds. ds ++ (48 + n % 10) ∷ []) (decimal_digit (n / 10) (omega arith))
@@ -42,7 +42,7 @@ pub few_digits : (n : ℕ) → n < 2 ^ 64 → length (decimal n) ≤ 20
 few_digits n h = length-decimal-le 20 n (omega arith) (omega arith) h
 
 -- a text within the room
-pub text_waits : (w : Writer) (bytes later : List ℕ) (len more : ℕ) (text : List ℕ) (a b : Outlet) → a.failed ≡ false → a.sink ≡ record { writer = w; waiting = take len bytes } → b.failed ≡ false → b.sink ≡ record { writer = w; waiting = take more later } → take more later ≡ take len bytes ++ text → Put text a b
+pub text_waits : (w : Writer) (bytes later : List ℕ) (len more : ℕ) (text : List ℕ) (a b : Outlet) → a.failed ≡ false → a.sink ≡ record { writer = w; waiting = take len bytes } → b.failed ≡ false → b.sink ≡ record { writer = w; waiting = take more later } → take more later ≡ take len bytes ++ text → PutsText text a b
 text_waits w bytes later len more text a b e f g k t =
     let sent : Sent (record { writer = w; waiting = take len bytes }) (record { writer = w; waiting = take more later }) text
     = piece_waits w (take len bytes) (take more later) text (record { writer = w; waiting = take len bytes }) (sent_none (record { writer = w; waiting = take len bytes })) t in

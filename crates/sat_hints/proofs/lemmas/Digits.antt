@@ -7,7 +7,7 @@ use Rattle.std.specs.List.{AllByRecursion}
 use Rattle.std.specs.Str.Parse.{AllDigits, digits_value}
 use Rattle.std.proofs.lemmas.Int.Digits.{digits_value_push}
 use Rattle.std.proofs.lemmas.Str.{digit_value_digit}
-use Rattle.sat_hints.specs.inner.LineReading.{IsNumber, digits_so_far, NoDigit, NoWord}
+use Rattle.sat_hints.specs.inner.LineReading.{IsNumberUpTo, digits_so_far, NoDigit, NoWord}
 
 -- no space
 abbrev pub Plain : List ℕ → Type 0
@@ -114,18 +114,18 @@ first_byte (c ∷ cs) b x y h e = (cs, let r : c ≡ b = cc in ap (λ c. c ∷ c
 
 module _ (limit : ℕ) (fits : limit < 2 ^ 64) where
   -- a number goes on behind the digits so far
-  pub number_goes_on : (number b : ℕ) (x : List ℕ) (n : ℕ) (tail : List ℕ) → number < 2 ^ 64 → (b ≡ 32 → number ≡ 0) → IsNumber limit n → digits_so_far number ++ (b ∷ x) ≡ decimal n ++ (32 ∷ tail) → (more : List ℕ) × (decimal n ≡ digits_so_far number ++ (b ∷ more))
+  pub number_goes_on : (number b : ℕ) (x : List ℕ) (n : ℕ) (tail : List ℕ) → number < 2 ^ 64 → (b ≡ 32 → number ≡ 0) → IsNumberUpTo limit n → digits_so_far number ++ (b ∷ x) ≡ decimal n ++ (32 ∷ tail) → (more : List ℕ) × (decimal n ≡ digits_so_far number ++ (b ∷ more))
   number_goes_on zero b x n tail small space k e = first_byte (decimal n) b x tail (decimal_nonempty n (omega arith)) e
   number_goes_on (suc number) b x n tail small space k e = goes_on (decimal (suc number)) (decimal n) b x tail (plain_so_far (suc number) small) (λ s. let z : suc number ≡ 0 = space s in omega arith) e
 
   -- where no digit of a number comes next
-  pub no_number_so : (number b : ℕ) (bytes x : List ℕ) → number ≤ limit → (b ≡ 32 → number ≡ 0) → NoDigit limit number b → bytes ≡ digits_so_far number ++ (b ∷ x) → NoWord decimal (IsNumber limit) bytes
+  pub no_number_so : (number b : ℕ) (bytes x : List ℕ) → number ≤ limit → (b ≡ 32 → number ≡ 0) → NoDigit limit number b → bytes ≡ digits_so_far number ++ (b ∷ x) → NoWord decimal (IsNumberUpTo limit) bytes
   no_number_so number b bytes x h space none e n tail k f =
       let r = number_goes_on number b x n tail (omega arith) space k (sym e ∙ f) in
       none n r.0 k r.1
 
   -- where the bytes are over
-  pub no_number_end : (number : ℕ) (bytes : List ℕ) → number ≤ limit → bytes ≡ digits_so_far number ++ [] → NoWord decimal (IsNumber limit) bytes
+  pub no_number_end : (number : ℕ) (bytes : List ℕ) → number ≤ limit → bytes ≡ digits_so_far number ++ [] → NoWord decimal (IsNumberUpTo limit) bytes
   no_number_end number bytes h e n tail k f =
       let small : number < 2 ^ 64 = omega arith in
       no_space (digits_so_far number) (decimal n) tail (plain_so_far number small) (sym (append-nil (digits_so_far number)) ∙ sym e ∙ f)

@@ -1,22 +1,22 @@
 -- Where nothing waited before, and what waits is written out at the end.
 use Rattle.std.proofs.Common.{ℕ, ◌≡◌, Bool, true, false, List, [], ◌∷◌, ◌++◌, Result, Ok, Err, sym, ◌∙◌, ap, subst, append_assoc, append-nil, inl, inr}
 use Rattle.std.specs.Borrow.{MutBor}
-use Rattle.sat_base.specs.device.Device.{Reader, Writer, Breaks, lent_writer}
+use Rattle.sat_base.specs.device.Device.{Reader, Writer, WriterBreaks, lent_writer}
 use Rattle.sat_base.specs.device.Sink.{Sent, Broken}
 use Rattle.sat_base.specs.steps.Steps.{Step, End}
 use Rattle.sat_base.proofs.lemmas.device.Sending.{sent_more, sends_breaks, all_out}
 use Rattle.sat_base.proofs.lemmas.device.Writes.{lent_puts}
 use Rattle.sat_checker.specs.ProofView.{taken_after}
 use Rattle.sat_hints.specs.Conversion.{hint_text}
-use Rattle.sat_hints.specs.Converts.{BreaksBehind, TookFront, Converts}
+use Rattle.sat_hints.specs.Converts.{BreaksBehind, WritesFrontOf, Converts}
 use Rattle.sat_hints.specs.declared.error.HintError.{HintError}
 use Rattle.sat_hints.specs.declared.error.HintError.TheVariants.{Refused, HasDeleteVar, Read, Write, OutOfMemory}
 use Rattle.sat_hints.specs.declared.line_writer.LineWriter.{LineWriter}
-use Rattle.sat_hints.specs.inner.LineWriting.{Outlet, outlet, Put, PutFrom, PutBy}
+use Rattle.sat_hints.specs.inner.LineWriting.{Outlet, outlet, PutsText, PutFrom, PutBy}
 use Rattle.sat_hints.specs.inner.LinesWritten.{BrokenBehind, SentFront, WritesLines}
 
 -- a front was put, so a front was taken
-front_took : (a b : Outlet) (text : List ℕ) → a.sink.waiting ≡ [] → SentFront a b text → TookFront a.sink.writer b.sink.writer text
+front_took : (a b : Outlet) (text : List ℕ) → a.sink.waiting ≡ [] → SentFront a b text → WritesFrontOf a.sink.writer b.sink.writer text
 front_took a b text e s =
     let w = s.sent.sent in
     let f : s.front ≡ w.fresh ++ b.sink.waiting = ap (λ x. x ++ s.front) (sym e) ∙ w.flows in
@@ -27,8 +27,8 @@ front_took a b text e s =
       takes = w.takes;
     }
 
-breaks_of : (a b : Outlet) (text : List ℕ) → a.sink.waiting ≡ [] → Broken a.sink b.sink text → Breaks a.sink.writer b.sink.writer text
-breaks_of a b text e k = subst (λ x. Breaks a.sink.writer b.sink.writer (x ++ text)) e k.breaks
+breaks_of : (a b : Outlet) (text : List ℕ) → a.sink.waiting ≡ [] → Broken a.sink b.sink text → WriterBreaks a.sink.writer b.sink.writer text
+breaks_of a b text e k = subst (λ x. WriterBreaks a.sink.writer b.sink.writer (x ++ text)) e k.breaks
 
 breaks_behind : (a b : Outlet) (step : Step) (steps : List Step) → a.sink.waiting ≡ [] → BrokenBehind a b step steps → BreaksBehind a.sink.writer b.sink.writer step steps
 breaks_behind a b step steps e k = elim k [
@@ -43,25 +43,25 @@ errs_convert Read from to a b e w = (w.0, w.1, w.2, w.3, w.4, front_took a b _ e
 errs_convert Write from to a b e w = (w.0, w.1, w.2, w.3, w.4, breaks_behind a b w.1 (taken_after w.0 []) e w.5)
 errs_convert OutOfMemory from to a b e w = (w.0, w.1, w.2, w.3, front_took a b _ e w.4)
 
-put_by : (text : List ℕ) (a b : Outlet) (f : Bool) → a.failed ≡ false → b.failed ≡ f → Put text a b → PutBy f text a.sink b.sink
+put_by : (text : List ℕ) (a b : Outlet) (f : Bool) → a.failed ≡ false → b.failed ≡ f → PutsText text a b → PutBy f text a.sink b.sink
 put_by text a b f e d h = subst (λ x. PutBy x text a.sink b.sink) d (subst (λ x. PutFrom x text a b) e h)
 
 -- what waits is written out
-pub ok_converts : (from to : Reader) (a b c : Outlet) → a.sink.waiting ≡ [] → WritesLines (Ok tt) from to a b → Put [] b c → c.failed ≡ false → c.sink.waiting ≡ [] → Converts (Ok tt) from to a.sink.writer c.sink.writer
+pub ok_converts : (from to : Reader) (a b c : Outlet) → a.sink.waiting ≡ [] → WritesLines (Ok tt) from to a b → PutsText [] b c → c.failed ≡ false → c.sink.waiting ≡ [] → Converts (Ok tt) from to a.sink.writer c.sink.writer
 ok_converts from to a b c e w p f none =
     let text : List ℕ = hint_text (End ∷ taken_after w.0 []) in
     let s : Sent a.sink c.sink (text ++ []) = sent_more a.sink b.sink c.sink text [] w.4.sent (put_by [] b c false w.4.well f p) in
     (w.0, w.1, w.2, w.3, all_out {E = HintError} a.sink c.sink text (Ok tt) e none (subst (Sent a.sink c.sink) (append-nil text) s))
 
-pub write_converts : (from to : Reader) (a b c : Outlet) → a.sink.waiting ≡ [] → WritesLines (Ok tt) from to a b → Put [] b c → c.failed ≡ true → Converts (Err Write) from to a.sink.writer c.sink.writer
+pub write_converts : (from to : Reader) (a b c : Outlet) → a.sink.waiting ≡ [] → WritesLines (Ok tt) from to a b → PutsText [] b c → c.failed ≡ true → Converts (Err Write) from to a.sink.writer c.sink.writer
 write_converts from to a b c e w p f =
     let text : List ℕ = hint_text (End ∷ taken_after w.0 []) in
     let k : Broken a.sink c.sink (text ++ []) = sends_breaks a.sink b.sink c.sink text [] w.4.sent (put_by [] b c true w.4.well f p) in
-    (w.0, End, w.1, w.2.none_failed, w.2.gave, inr (w.2.ends, subst (Breaks a.sink.writer c.sink.writer) (ap (λ x. x ++ (text ++ [])) e ∙ append-nil text) k.breaks))
+    (w.0, End, w.1, w.2.none_failed, w.2.gave, inr (w.2.ends, subst (WriterBreaks a.sink.writer c.sink.writer) (ap (λ x. x ++ (text ++ [])) e ∙ append-nil text) k.breaks))
 
 -- A LENT WRITER
 module _ {W : Type 0} (seen : W → Writer) (a z v : W) (given back : ℕ) (same : given ≡ back → z ≡ v) where
-  lent_took : (text : List ℕ) → TookFront (lent_writer given (seen a)) (lent_writer back (seen v)) text → TookFront (seen a) (seen z) text
+  lent_took : (text : List ℕ) → WritesFrontOf (lent_writer given (seen a)) (lent_writer back (seen v)) text → WritesFrontOf (seen a) (seen z) text
   lent_took text t = record { front = t.front; behind = t.behind; whole = t.whole; takes = lent_puts {E = HintError} seen a z v given back t.front (Ok tt) same t.takes }
 
   lent_breaks : (step : Step) (steps : List Step) → BreaksBehind (lent_writer given (seen a)) (lent_writer back (seen v)) step steps → BreaksBehind (seen a) (seen z) step steps

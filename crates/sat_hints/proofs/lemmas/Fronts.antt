@@ -4,8 +4,8 @@ use Rattle.std.proofs.lemmas.Fmt.{decimal_nonempty, first_decimal}
 use Rattle.sat_base.specs.values.Literals.{largest, is_positive}
 use Rattle.sat_base.specs.dimacs.DimacsText.{number_text}
 use Rattle.sat_hints.specs.Lines.{HasNoEnd, id_text, id_words, literal_words}
-use Rattle.sat_hints.specs.inner.LineReading.{IsNumber, IsLiteral, NoDigit, digits_so_far}
-use Rattle.sat_hints.specs.inner.Fronts.{limit_of, next_of, zero_place, sign_place, Numbered, IsPart, IsLeft, IsLeftIf, Leads}
+use Rattle.sat_hints.specs.inner.LineReading.{IsNumberUpTo, IsLiteralCode, NoDigit, digits_so_far}
+use Rattle.sat_hints.specs.inner.Fronts.{limit_of, next_of, zero_place, sign_place, Numbered, IsPartOfLine, IsRestOfLine, IsLeftIf, LeadsToPlace}
 use Rattle.sat_hints.specs.declared.fronts.Part.{Part}
 use Rattle.sat_hints.specs.declared.fronts.Part.TheVariants.{InputId, DerivedId, GoneId, FreshVar, Clause, Lists, Ids, End}
 use Rattle.sat_hints.specs.declared.fronts.Place.{Place}
@@ -28,7 +28,7 @@ limit_fits End = omega arith
 
 -- a part begins with a number, with `-` and a number, or with `0`
 data Turn (part : Part) (bytes : List ℕ) : Type 0 where
-  begun : Numbered (limit_of part) (IsPart (next_of part)) 0 bytes → Turn part bytes
+  begun : Numbered (limit_of part) (IsPartOfLine (next_of part)) 0 bytes → Turn part bytes
   negative : (rest : List ℕ) → bytes ≡ 45 ∷ rest → IsLeftIf (sign_place part) rest → Turn part bytes
   last : (rest : List ℕ) → bytes ≡ 48 ∷ rest → IsLeftIf (zero_place part) rest → Turn part bytes
 
@@ -37,32 +37,32 @@ data Signed (Rest : List ℕ → Type 0) (bytes : List ℕ) : Type 0 where
   plain : Numbered largest Rest 0 bytes → Signed Rest bytes
   minus : (rest : List ℕ) → bytes ≡ 45 ∷ rest → Numbered largest Rest 0 rest → Signed Rest bytes
 
-signed : (Rest : List ℕ → Type 0) (l : ℕ) (rest bytes : List ℕ) → IsLiteral l → bytes ≡ number_text l ++ (32 ∷ rest) → Rest rest → Signed Rest bytes
+signed : (Rest : List ℕ → Type 0) (l : ℕ) (rest bytes : List ℕ) → IsLiteralCode l → bytes ≡ number_text l ++ (32 ∷ rest) → Rest rest → Signed Rest bytes
 signed Rest l rest bytes p e r = go (is_positive l) e
   where
     go : (s : Bool) → bytes ≡ (cond s [] (45 ∷ []) ++ decimal (l / 2 + 1)) ++ (32 ∷ rest) → Signed Rest bytes
     go true e = plain (record { value = l / 2 + 1; rest = rest; within = (omega arith, omega arith); whole = e; behind = r })
     go false e = minus (decimal (l / 2 + 1) ++ (32 ∷ rest)) e (record { value = l / 2 + 1; rest = rest; within = (omega arith, omega arith); whole = refl; behind = r })
 
-clause_turn : (bytes : List ℕ) → Signed (IsPart Clause) bytes → Turn Clause bytes
+clause_turn : (bytes : List ℕ) → Signed (IsPartOfLine Clause) bytes → Turn Clause bytes
 clause_turn bytes (plain w) = begun w
 clause_turn bytes (minus rest e w) = negative rest e w
 
-lists_turn : (bytes : List ℕ) → Signed (IsPart Lists) bytes → Turn Lists bytes
+lists_turn : (bytes : List ℕ) → Signed (IsPartOfLine Lists) bytes → Turn Lists bytes
 lists_turn bytes (plain w) = begun w
 lists_turn bytes (minus rest e w) = negative rest e w
 
-turn : (part : Part) (bytes : List ℕ) → IsPart part bytes → Turn part bytes
+turn : (part : Part) (bytes : List ℕ) → IsPartOfLine part bytes → Turn part bytes
 turn InputId bytes h = begun h
 turn DerivedId bytes h = begun h
 turn GoneId bytes h = begun h
 turn FreshVar bytes h = begun h
 turn Clause bytes ([], o) = last (10 ∷ []) o.1 refl
-turn Clause bytes (l ∷ ls, o) = clause_turn bytes (signed (IsPart Clause) l (literal_words ls ++ end) bytes o.0.0 (o.1 ∙ append_assoc (number_text l) (32 ∷ literal_words ls) end) (ls, (o.0.1, refl)))
+turn Clause bytes (l ∷ ls, o) = clause_turn bytes (signed (IsPartOfLine Clause) l (literal_words ls ++ end) bytes o.0.0 (o.1 ∙ append_assoc (number_text l) (32 ∷ literal_words ls) end) (ls, (o.0.1, refl)))
 turn Lists bytes ([], ids, o) = last (32 ∷ (id_words ids ++ end)) o.2 (id_words ids ++ end, refl, (ids, o.1, refl))
 turn Lists bytes (l ∷ ls, ids, o) =
     let tail : List ℕ = 48 ∷ 32 ∷ (id_words ids ++ end) in
-    lists_turn bytes (signed (IsPart Lists) l (literal_words ls ++ tail) bytes o.0.0 (o.2 ∙ append_assoc (number_text l) (32 ∷ literal_words ls) tail) (ls, ids, (o.0.1, o.1, refl)))
+    lists_turn bytes (signed (IsPartOfLine Lists) l (literal_words ls ++ tail) bytes o.0.0 (o.2 ∙ append_assoc (number_text l) (32 ∷ literal_words ls) tail) (ls, ids, (o.0.1, o.1, refl)))
 turn Ids bytes ([], are, e) = last (10 ∷ []) e refl
 turn Ids bytes (i ∷ is, are, e) = begun (record { value = i + 1; rest = id_words is ++ end; within = (omega arith, let k = are.0 in omega arith); whole = e ∙ append_assoc (id_text i) (32 ∷ id_words is) end; behind = (is, are.1, refl) })
 turn End bytes e = last (10 ∷ []) e refl
@@ -75,15 +75,15 @@ not_zero part Rest more w =
     let small : w.value < 2 ^ 64 = omega arith in
     id_first (decimal w.value) more w.rest (decimal_nonempty w.value small) (first_decimal w.value k.0 small) w.whole
 
-pub leads_zero : (part : Part) → Leads (Item part) (48 ∷ []) (zero_place part)
+pub leads_zero : (part : Part) → LeadsToPlace (Item part) (48 ∷ []) (zero_place part)
 leads_zero part more h = go (turn part (48 ∷ more) h)
   where
     go : Turn part (48 ∷ more) → IsLeftIf (zero_place part) more
-    go (begun w) = absurd (not_zero part (IsPart (next_of part)) more w)
+    go (begun w) = absurd (not_zero part (IsPartOfLine (next_of part)) more w)
     go (negative rest e w) = absurd (let r : ◌≡◌ {A = ℕ} 48 45 = cc in omega arith)
     go (last rest e w) = let r : rest ≡ more = cc in subst (IsLeftIf (zero_place part)) r w
 
-pub leads_sign : (part : Part) → Leads (Item part) (45 ∷ []) (sign_place part)
+pub leads_sign : (part : Part) → LeadsToPlace (Item part) (45 ∷ []) (sign_place part)
 leads_sign part more h = go (turn part (45 ∷ more) h)
   where
     go : Turn part (45 ∷ more) → IsLeftIf (sign_place part) more
@@ -92,7 +92,7 @@ leads_sign part more h = go (turn part (45 ∷ more) h)
     go (last rest e w) = absurd (let r : ◌≡◌ {A = ℕ} 45 48 = cc in omega arith)
 
 -- with another byte a number begins
-pub leads_digit : (part : Part) (b : ℕ) (to : Option Place) → (b ≡ 48 → ⊥) → (b ≡ 45 → ⊥) → Leads (Digits part 0) (b ∷ []) to → Leads (Item part) (b ∷ []) to
+pub leads_digit : (part : Part) (b : ℕ) (to : Option Place) → (b ≡ 48 → ⊥) → (b ≡ 45 → ⊥) → LeadsToPlace (Digits part 0) (b ∷ []) to → LeadsToPlace (Item part) (b ∷ []) to
 leads_digit part b to no_zero no_minus leads more h = go (turn part (b ∷ more) h)
   where
     go : Turn part (b ∷ more) → IsLeftIf to more
@@ -101,19 +101,19 @@ leads_digit part b to no_zero no_minus leads more h = go (turn part (b ∷ more)
     go (last rest e w) = absurd (no_zero (let r : b ≡ 48 = cc in r))
 
 -- a space ends a number
-pub number_ends : (part : Part) (number : ℕ) → number < 2 ^ 64 → 0 < number → Leads (Digits part number) (32 ∷ []) (Some (Item (next_of part)))
+pub number_ends : (part : Part) (number : ℕ) → number < 2 ^ 64 → 0 < number → LeadsToPlace (Digits part number) (32 ∷ []) (Some (Item (next_of part)))
 number_ends part number small more_than more w =
     let f = limit_fits part in
     let k = w.within in
     let e = at_space (digits_so_far number) (decimal w.value) more w.rest (plain_so_far number small) (plain_number w.value (omega arith)) w.whole in
-    subst (IsPart (next_of part)) (sym e.1) w.behind
+    subst (IsPartOfLine (next_of part)) (sym e.1) w.behind
 
 -- a digit comes
 so_far : (m : ℕ) → 1 ≤ m → digits_so_far m ≡ decimal m
 so_far zero h = absurd (omega arith)
 so_far (suc m) h = refl
 
-pub number_goes : (part : Part) (number b m : ℕ) → IsNumber (limit_of part) m → decimal m ≡ digits_so_far number ++ (b ∷ []) → Leads (Digits part number) (b ∷ []) (Some (Digits part m))
+pub number_goes : (part : Part) (number b m : ℕ) → IsNumberUpTo (limit_of part) m → decimal m ≡ digits_so_far number ++ (b ∷ []) → LeadsToPlace (Digits part number) (b ∷ []) (Some (Digits part m))
 number_goes part number b m within e more w = record {
   value = w.value;
   rest = w.rest;
@@ -122,7 +122,7 @@ number_goes part number b m within e more w = record {
   behind = w.behind;
 }
 
-pub number_stops : (part : Part) (number b : ℕ) → number < 2 ^ 64 → (b ≡ 32 → number ≡ 0) → NoDigit (limit_of part) number b → Leads (Digits part number) (b ∷ []) None
+pub number_stops : (part : Part) (number b : ℕ) → number < 2 ^ 64 → (b ≡ 32 → number ≡ 0) → NoDigit (limit_of part) number b → LeadsToPlace (Digits part number) (b ∷ []) None
 number_stops part number b small space none more w =
     let r = number_goes_on (limit_of part) (limit_fits part) number b more w.value w.rest small space w.within w.whole in
     none w.value r.0 w.within r.1
@@ -130,4 +130,4 @@ number_stops part number b small space none more w =
 -- so far bytes lead from one place to another
 pub record LeadsSoFar (from : Place) (bytes : List ℕ) (here : Place) (rest : List ℕ) : Type 0 where
   pub inside : HasNoEnd rest
-  pub leads : (more : List ℕ) → IsLeft from (bytes ++ more) → IsLeft here (rest ++ more)
+  pub leads : (more : List ℕ) → IsRestOfLine from (bytes ++ more) → IsRestOfLine here (rest ++ more)

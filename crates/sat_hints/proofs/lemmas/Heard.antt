@@ -16,7 +16,7 @@ use Rattle.sat_checker.proofs.lemmas.telling.Heard.{nobody_fails}
 use Rattle.sat_hints.specs.Lines.{Line, text_of, line_text}
 use Rattle.sat_hints.specs.Conversion.{line_told, with_line, lines_told, hint_text}
 use Rattle.sat_hints.specs.declared.line_writer.LineWriter.{LineWriter}
-use Rattle.sat_hints.specs.inner.LineWriting.{Outlet, outlet, Put, PutFrom, PutBy}
+use Rattle.sat_hints.specs.inner.LineWriting.{Outlet, outlet, PutsText, PutFrom, PutBy}
 use Rattle.sat_hints.specs.inner.LinesWritten.{SentAll, SentFront}
 use Rattle.sat_hints.specs.inner.Telling.{text_if, told_text, AnswersIf, TakesTold}
 
@@ -52,10 +52,10 @@ err_failed : (b : Bool) (e : Error) → AnswersIf b (Err e) → b ≡ true
 err_failed false e h = absurd cc
 err_failed true e h = refl
 
-put_sent : (text : List ℕ) (a b : Outlet) → a.failed ≡ false → b.failed ≡ false → Put text a b → Sent a.sink b.sink text
+put_sent : (text : List ℕ) (a b : Outlet) → a.failed ≡ false → b.failed ≡ false → PutsText text a b → Sent a.sink b.sink text
 put_sent text a b e d h = subst (λ f. PutBy f text a.sink b.sink) d (subst (λ f. PutFrom f text a b) e h)
 
-put_broken : (text : List ℕ) (a b : Outlet) → a.failed ≡ false → b.failed ≡ true → Put text a b → Broken a.sink b.sink text
+put_broken : (text : List ℕ) (a b : Outlet) → a.failed ≡ false → b.failed ≡ true → PutsText text a b → Broken a.sink b.sink text
 put_broken text a b e d h = subst (λ f. PutBy f text a.sink b.sink) d (subst (λ f. PutFrom f text a b) e h)
 
 module _ {W P T : Type 0} (seen : W → Writer) (Takes : P → Told → Result Unit Error → P → Type 0) (Reads : T → Transcribed → Result Unit Error → T → Type 0) where

@@ -3,14 +3,14 @@ use Rattle.std.proofs.Common.{ℕ, ◌+◌, ◌<◌, ◌≤◌, ◌≡◌, ◌�
 use Rattle.std.proofs.lemmas.Bool.{both_ways, eqb-true, eq-eqb}
 use Rattle.std.proofs.lemmas.List.{take-append-drop, take_more, take_all}
 use Rattle.sat_base.specs.text.Tokenizing.{held}
-use Rattle.sat_hints.specs.Lines.{Line, AreLines, Input, Derived, Gone, Core, Fresh, text_of, line_text, id_words, literal_words, Spells, HasNoEnd, BeginsWithLine, ended, cut_off}
-use Rattle.sat_hints.specs.Hints.{Follows, IsHintDerivation}
+use Rattle.sat_hints.specs.Lines.{Line, AreLines, Input, Derived, Gone, Core, Fresh, text_of, line_text, id_words, literal_words, SpellsLine, HasNoEnd, BeginsWithLine, ended, cut_off}
+use Rattle.sat_hints.specs.Hints.{FollowsLines, IsHintDerivation}
 use Rattle.sat_hints.specs.Checks.{IsAtFault, IsBadAt, Judges}
-use Rattle.sat_hints.specs.inner.Fronts.{IsLeft, Leads}
+use Rattle.sat_hints.specs.inner.Fronts.{IsRestOfLine, LeadsToPlace}
 use Rattle.sat_hints.specs.declared.fronts.Place.{Place}
 use Rattle.sat_hints.specs.declared.fronts.Place.TheVariants.{Letter}
-use Rattle.sat_hints.specs.inner.Judging.{HasTaken}
-use Rattle.sat_hints.specs.inner.Holding.{IsWholeLine, TakesBytes, HasRead, HasFault, GoesOn, Reads}
+use Rattle.sat_hints.specs.inner.Judging.{HasTakenLines}
+use Rattle.sat_hints.specs.inner.Holding.{IsWholeLine, JudgesLineBytes, HasRead, HasFault, HasReadOrFault, ReadsFurther}
 use Rattle.sat_hints.specs.declared.answer.HintWhy.{HintWhy}
 use Rattle.sat_hints.specs.declared.answer.HintWhy.TheVariants.{Syntax}
 use Rattle.sat_hints.specs.declared.answer.HintVerdict.{HintVerdict}
@@ -28,7 +28,7 @@ whole_with held bytes h w = record { front = held ++ w.front; inside = no_end_bo
 
 -- a line's end comes
 module _ (old new : Checking) (bytes : List ℕ) (w : IsWholeLine bytes) where
-  line_follows : (text : List ℕ) (r : HasRead old text) (line : Line) → Spells (old.held.items ++ bytes) line → Follows r.lines line → HasTaken new.judge (line ∷ r.lines) → new.held.items ≡ [] → new.place ≡ Letter → HasRead new (text ++ bytes)
+  line_follows : (text : List ℕ) (r : HasRead old text) (line : Line) → SpellsLine (old.held.items ++ bytes) line → FollowsLines r.lines line → HasTakenLines new.judge (line ∷ r.lines) → new.held.items ≡ [] → new.place ≡ Letter → HasRead new (text ++ bytes)
   line_follows text r line s f t e at = record {
     lines = line ∷ r.lines;
     whole = ap (λ x. x ++ bytes) r.whole ∙ append_assoc (text_of r.lines) old.held.items bytes ∙ ap (λ x. text_of r.lines ++ x) s.1 ∙ sym (append-nil (text_of (line ∷ r.lines))) ∙ ap (λ x. text_of (line ∷ r.lines) ++ x) (sym e);
@@ -56,23 +56,23 @@ module _ (old new : Checking) (bytes : List ℕ) (w : IsWholeLine bytes) where
     };
   }
 
-  pub line_ends : (why : Option HintWhy) (all : List ℕ) → all ≡ old.held.items ++ bytes → ((lines : List Line) → HasTaken old.judge lines → TakesBytes why old.judge new.judge lines all) → new.held.items ≡ [] → new.place ≡ Letter → Reads why old bytes new
-  line_ends None all a h e at text r = let t = subst (TakesBytes None old.judge new.judge r.lines) a (h r.lines r.taken) in line_follows text r t.0 t.1 t.2 t.3 e at
-  line_ends (Some why) all a h e at text r = let t = subst (TakesBytes (Some why) old.judge new.judge r.lines) a (h r.lines r.taken) in line_faulty text r why t.0 t.1
+  pub line_ends : (why : Option HintWhy) (all : List ℕ) → all ≡ old.held.items ++ bytes → ((lines : List Line) → HasTakenLines old.judge lines → JudgesLineBytes why old.judge new.judge lines all) → new.held.items ≡ [] → new.place ≡ Letter → ReadsFurther why old bytes new
+  line_ends None all a h e at text r = let t = subst (JudgesLineBytes None old.judge new.judge r.lines) a (h r.lines r.taken) in line_follows text r t.0 t.1 t.2 t.3 e at
+  line_ends (Some why) all a h e at text r = let t = subst (JudgesLineBytes (Some why) old.judge new.judge r.lines) a (h r.lines r.taken) in line_faulty text r why t.0 t.1
 
-leads_on : (held bytes : List ℕ) (here : Place) (to : Option Place) → Leads Letter held (Some here) → Leads here bytes to → Leads Letter (held ++ bytes) to
-leads_on held bytes here to h k more l = k more (h (bytes ++ more) (subst (IsLeft Letter) (append_assoc held bytes more) l))
+leads_on : (held bytes : List ℕ) (here : Place) (to : Option Place) → LeadsToPlace Letter held (Some here) → LeadsToPlace here bytes to → LeadsToPlace Letter (held ++ bytes) to
+leads_on held bytes here to h k more l = k more (h (bytes ++ more) (subst (IsRestOfLine Letter) (append_assoc held bytes more) l))
 
 -- bytes of a line that goes on
-pub held_more : (old new : Checking) (bytes : List ℕ) → HasNoEnd bytes → new.judge ≡ old.judge → new.held.items ≡ old.held.items ++ bytes → Leads old.place bytes (Some new.place) → Reads None old bytes new
+pub held_more : (old new : Checking) (bytes : List ℕ) → HasNoEnd bytes → new.judge ≡ old.judge → new.held.items ≡ old.held.items ++ bytes → LeadsToPlace old.place bytes (Some new.place) → ReadsFurther None old bytes new
 held_more old new bytes h e f leads text r = record {
   lines = r.lines;
   whole = ap (λ x. x ++ bytes) r.whole ∙ append_assoc (text_of r.lines) old.held.items bytes ∙ ap (λ x. text_of r.lines ++ x) (sym f);
   inside = subst HasNoEnd (sym f) (no_end_both old.held.items bytes r.inside h);
-  fits = subst (λ b. Leads Letter b (Some new.place)) (sym f) (leads_on old.held.items bytes old.place (Some new.place) r.fits leads);
+  fits = subst (λ b. LeadsToPlace Letter b (Some new.place)) (sym f) (leads_on old.held.items bytes old.place (Some new.place) r.fits leads);
   are = r.are;
   derivation = r.derivation;
-  taken = subst (λ j. HasTaken j r.lines) (sym e) r.taken;
+  taken = subst (λ j. HasTakenLines j r.lines) (sym e) r.taken;
 }
 
 -- what comes up to the next LF, if there is one
@@ -95,7 +95,7 @@ cut (b ∷ all) = go (eqb b 10) refl (cut all)
     go false e c = record { bytes = b ∷ c.bytes; rest = c.rest; whole = ap (λ x. b ∷ x) c.whole; ends = longer c.bytes c.rest (λ f. both_ways (eqb b 10) e (eq-eqb b 10 f)) c.ends }
 
 -- a front that no line has is at fault, whatever follows
-module _ (front : List ℕ) (inside : HasNoEnd front) (never : Leads Letter front None) where
+module _ (front : List ℕ) (inside : HasNoEnd front) (never : LeadsToPlace Letter front None) where
   some_front : front ≡ [] → ⊥
   some_front e = never (line_text (Gone 0)) (rw e (Gone 0, ((omega arith, tt), refl)))
 
@@ -122,7 +122,7 @@ module _ (front : List ℕ) (inside : HasNoEnd front) (never : Leads Letter fron
         number = refl;
       }
 
-pub held_faulty : (old : Checking) (bytes : List ℕ) → HasNoEnd bytes → Leads old.place bytes None → Reads (Some Syntax) old bytes old
+pub held_faulty : (old : Checking) (bytes : List ℕ) → HasNoEnd bytes → LeadsToPlace old.place bytes None → ReadsFurther (Some Syntax) old bytes old
 held_faulty old bytes h leads text r = record {
   count = length r.lines;
   number = r.taken.counts_lines;
@@ -132,11 +132,11 @@ held_faulty old bytes h leads text r = record {
 }
 
 -- bytes, and then more
-pub reads_more : (why : Option HintWhy) (a b c : Checking) (xs ys : List ℕ) → Reads None a xs b → Reads why b ys c → Reads why a (xs ++ ys) c
-reads_more why a b c xs ys h k text r = subst (GoesOn why c) (append_assoc text xs ys) (k (text ++ xs) (h text r))
+pub reads_more : (why : Option HintWhy) (a b c : Checking) (xs ys : List ℕ) → ReadsFurther None a xs b → ReadsFurther why b ys c → ReadsFurther why a (xs ++ ys) c
+reads_more why a b c xs ys h k text r = subst (HasReadOrFault why c) (append_assoc text xs ys) (k (text ++ xs) (h text r))
 
 -- and bytes that aren't looked at any more
-pub reads_behind : (why : HintWhy) (a b : Checking) (xs ys : List ℕ) → Reads (Some why) a xs b → Reads (Some why) a (xs ++ ys) b
+pub reads_behind : (why : HintWhy) (a b : Checking) (xs ys : List ℕ) → ReadsFurther (Some why) a xs b → ReadsFurther (Some why) a (xs ++ ys) b
 reads_behind why a b xs ys h text r =
     let f = h text r in
     record {
@@ -145,7 +145,7 @@ reads_behind why a b xs ys h text r =
       bad = λ rest. subst (Judges (Bad (held (f.count + 1)) why)) (append_assoc text xs (ys ++ rest) ∙ ap (λ x. text ++ x) (sym (append_assoc xs ys rest)) ∙ sym (append_assoc text (xs ++ ys) rest)) (f.bad (ys ++ rest));
     }
 
-pub reads_none : (c : Checking) → Reads None c [] c
+pub reads_none : (c : Checking) → ReadsFurther None c [] c
 reads_none c text r = subst (HasRead c) (sym (append-nil text)) r
 
 -- each line has its LF

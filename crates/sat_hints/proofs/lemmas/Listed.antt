@@ -7,7 +7,7 @@ use Rattle.std.proofs.lemmas.List.Sorted.{searched}
 use Rattle.std.specs.List.Sorted.{IsBinarySearchResult}
 use Rattle.std.specs.Ordering.{nat_cmp}
 use Rattle.sat_checker.specs.SortedSets.{IsIncreasing}
-use Rattle.sat_hints.specs.inner.Clauses.{FindsOne, listed, clause_in, clause_at, times_long, times_kept, times_at, AllBelow, IsStore, Adds, Loses, Keeps}
+use Rattle.sat_hints.specs.inner.Clauses.{FindsOne, listed, clause_in, clause_at, times_long, times_kept, times_at, AllBelow, IsStore, AddsPresentClause, Loses, SamePresentClauses}
 use Rattle.sat_hints.proofs.lemmas.Counting.{times-snoc, times-gone, times-more, times_whole, set_at, sets-snoc}
 
 -- two numbers that differ
@@ -121,7 +121,7 @@ length-snoc [] x = refl
 length-snoc (y ∷ ys) x = let e = length-snoc ys x in omega arith
 
 -- a clause is added
-pub adds : (old new : Present) (id : ℕ) (clause : List ℕ) → IsStore old → AllBelow old.ids.items id → IsIncreasing clause → new.ids.items ≡ old.ids.items ++ (id ∷ []) → new.gone.items ≡ old.gone.items ++ (false ∷ []) → new.clauses ≡ old.clauses ++ (clause ∷ []) → Adds old new id clause
+pub adds : (old new : Present) (id : ℕ) (clause : List ℕ) → IsStore old → AllBelow old.ids.items id → IsIncreasing clause → new.ids.items ≡ old.ids.items ++ (id ∷ []) → new.gone.items ≡ old.gone.items ++ (false ∷ []) → new.clauses ≡ old.clauses ++ (clause ∷ []) → AddsPresentClause old new id clause
 adds old new id clause s h k i g c = record {
   store = record {
     clauses = rw (c, i) (length-snoc old.clauses clause ∙ ap (λ n. n + 1) s.clauses ∙ sym (length-snoc old.ids.items id));
@@ -198,7 +198,7 @@ loses old new place s l i g c =
         let is : get_or old.clauses place [] ≡ d = cc in
         subst (λ x. times_kept m old.clauses (set old.gone.items place true) + times_long m x ≡ times_kept m old.clauses old.gone.items) is (times-gone m old.clauses old.gone.items place (s.gone ∙ sym s.clauses) l f)
 
-pub loses_further : (old mid new : Present) (id : ℕ) → Loses old mid id → Keeps mid new → Loses old new id
+pub loses_further : (old mid new : Present) (id : ℕ) → Loses old mid id → SamePresentClauses mid new → Loses old new id
 loses_further old mid new id l k = record { store = k.store; below = λ b h. k.below b (l.below b h); clauses = λ j. k.clauses j ∙ l.clauses j; times = λ c e m. ap (λ n. n + times_long m c) (k.times m) ∙ l.times c e m }
 
 -- the first clauses are kept, but for those that are gone
@@ -253,7 +253,7 @@ module _ (p : Present) (s : IsStore p) (i : ℕ) (inside : i < length p.ids.item
   mark : {b : Bool} → b ≡ get_or p.gone.items i b → get_or p.gone.items i false ≡ b
   mark {b} m = same_default p.gone.items i false b (subst (λ n. i < n) (sym s.gone) inside) ∙ sym m
 
-  pub keeps_one : (kept new : Present) (id : ℕ) (clause : List ℕ) (b : Bool) → KeepsFirst p i kept → Adds kept new id clause → b ≡ get_or p.gone.items i b → b ≡ false → id ≡ get_or p.ids.items i 0 → clause ≡ get_or p.clauses i [] → KeepsFirst p (i + 1) new
+  pub keeps_one : (kept new : Present) (id : ℕ) (clause : List ℕ) (b : Bool) → KeepsFirst p i kept → AddsPresentClause kept new id clause → b ≡ get_or p.gone.items i b → b ≡ false → id ≡ get_or p.ids.items i 0 → clause ≡ get_or p.clauses i [] → KeepsFirst p (i + 1) new
   keeps_one kept new id clause t k a m f d c = let g = mark m ∙ f in record {
     store = a.store;
     below = λ b h. let f = below_fewer b h in a.below b (subst (λ x. x < b) (sym d) f.0);
@@ -278,7 +278,7 @@ module _ (p : Present) (s : IsStore p) (i : ℕ) (inside : i < length p.ids.item
           none ∙ sym (ap (λ b. cond b None (listed j (take i p.ids.items) (take i p.clauses) (take i p.gone.items))) e)
       gone j false e = sym (ap (λ b. cond b None (listed j (take i p.ids.items) (take i p.clauses) (take i p.gone.items))) e)
 
-pub keeps_all : (p kept : Present) (i : ℕ) → IsStore p → length p.ids.items ≤ i → KeepsFirst p i kept → Keeps p kept
+pub keeps_all : (p kept : Present) (i : ℕ) → IsStore p → length p.ids.items ≤ i → KeepsFirst p i kept → SamePresentClauses p kept
 keeps_all p kept i s h k =
     let a : take i p.ids.items ≡ p.ids.items = take_all i p.ids.items h in
     let b : take i p.clauses ≡ p.clauses = take_all i p.clauses (subst (λ n. n ≤ i) (sym s.clauses) h) in

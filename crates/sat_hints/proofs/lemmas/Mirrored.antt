@@ -5,12 +5,12 @@ use Rattle.std.specs.List.{AllByRecursion}
 use Rattle.sat_base.specs.values.Literals.{negated}
 use Rattle.sat_checker.specs.LiteralSets.{is_among, canonical, same_literals}
 use Rattle.sat_checker.specs.Stored.{StoredClause, StoredUnit, Stored, is_unit}
-use Rattle.sat_checker.specs.Storing.{with_count, with_clause, clause_with, unit_id, first_conflict, with_contradiction, with_new_unit, with_long, with_set, new_clause}
+use Rattle.sat_checker.specs.Storing.{with_count, with_stored_clause, clause_with, unit_id, first_conflict, with_contradiction, with_new_unit, with_long, with_set, new_clause}
 use Rattle.sat_checker.specs.announcements.Announcements.{Announcement, id_of, id_of_set, Told, told_over}
 use Rattle.sat_checker.specs.announcements.Promises.{IsOneOf}
 use Rattle.sat_checker.proofs.lemmas.propagation.Soundness.{negated-negated}
 use Rattle.sat_hints.specs.Lines.{Line, Input, Derived, Gone, Core, Fresh}
-use Rattle.sat_hints.specs.Hints.{clause_under, least_id, is_long, Follows, IsHintDerivation}
+use Rattle.sat_hints.specs.Hints.{clause_under, least_id, is_long, FollowsLines, IsHintDerivation}
 use Rattle.sat_hints.specs.Conversion.{line_told, with_line, lines_told}
 use Rattle.sat_hints.proofs.lemmas.Sound.{still}
 
@@ -99,7 +99,7 @@ under_below (Fresh v ∷ lines) d id c e = under_below lines d.0 id c (still v (
 
 -- A CLAUSE COMES
 pub record NewLine (line : Line) (n : ℕ) (set : List ℕ) (lines : List Line) : Type 0 where
-  pub follows : Follows lines line
+  pub follows : FollowsLines lines line
   pub before : least_id lines ≤ n
   pub under : (id : ℕ) → clause_under id (line ∷ lines) ≡ cond (eqb id n) (Some set) (clause_under id lines)
   pub least : least_id (line ∷ lines) ≡ n + 1
@@ -145,29 +145,29 @@ clause_absent None e = refl
 clause_absent (Some c) e = absurd cc
 
 -- a clause of two literals or more comes in behind the others, or one count more
-stands_more : (r : Bool) (n : ℕ) (ls : List ℕ) (id : ℕ) (d : List ℕ) (cs : List StoredClause) → (s : StoredClause) → IsOneOf s cs → s.id ≡ id → s.literals ≡ d → Stands id d (with_clause r n ls cs)
+stands_more : (r : Bool) (n : ℕ) (ls : List ℕ) (id : ℕ) (d : List ℕ) (cs : List StoredClause) → (s : StoredClause) → IsOneOf s cs → s.id ≡ id → s.literals ≡ d → Stands id d (with_stored_clause r n ls cs)
 stands_more r n ls id d [] s h i e = absurd h
 stands_more r n ls id d (c ∷ cs) s h i e = elim h [
   | inl k ↦ here (same_literals c.literals ls) r k
   | inr k ↦ later (stands_more r n ls id d cs s k i e) (same_literals c.literals ls) k
 ]
   where
-    here : (b r : Bool) → s ≡ c → Stands id d (cond b (with_count r c ∷ cs) (c ∷ with_clause r n ls cs))
+    here : (b r : Bool) → s ≡ c → Stands id d (cond b (with_count r c ∷ cs) (c ∷ with_stored_clause r n ls cs))
     here true true k = record { clause = with_count true c; stored = inl refl; id_is = ap (λ x. x.id) (sym k) ∙ i; literals_are = ap (λ x. x.literals) (sym k) ∙ e }
     here true false k = record { clause = with_count false c; stored = inl refl; id_is = ap (λ x. x.id) (sym k) ∙ i; literals_are = ap (λ x. x.literals) (sym k) ∙ e }
     here false true k = record { clause = c; stored = inl refl; id_is = ap (λ x. x.id) (sym k) ∙ i; literals_are = ap (λ x. x.literals) (sym k) ∙ e }
     here false false k = record { clause = c; stored = inl refl; id_is = ap (λ x. x.id) (sym k) ∙ i; literals_are = ap (λ x. x.literals) (sym k) ∙ e }
 
-    later : Stands id d (with_clause r n ls cs) → (b : Bool) → IsOneOf s cs → Stands id d (cond b (with_count r c ∷ cs) (c ∷ with_clause r n ls cs))
+    later : Stands id d (with_stored_clause r n ls cs) → (b : Bool) → IsOneOf s cs → Stands id d (cond b (with_count r c ∷ cs) (c ∷ with_stored_clause r n ls cs))
     later ih true k = record { clause = s; stored = inr k; id_is = i; literals_are = e }
     later ih false k = record { clause = ih.clause; stored = inr ih.stored; id_is = ih.id_is; literals_are = ih.literals_are }
 
-stands_new : (r : Bool) (n : ℕ) (ls : List ℕ) (cs : List StoredClause) → clause_with ls cs ≡ None → Stands n ls (with_clause r n ls cs)
+stands_new : (r : Bool) (n : ℕ) (ls : List ℕ) (cs : List StoredClause) → clause_with ls cs ≡ None → Stands n ls (with_stored_clause r n ls cs)
 stands_new true n ls [] e = record { clause = new_clause true n ls; stored = inl refl; id_is = refl; literals_are = refl }
 stands_new false n ls [] e = record { clause = new_clause false n ls; stored = inl refl; id_is = refl; literals_are = refl }
 stands_new r n ls (c ∷ cs) e = go (stands_new r n ls cs) (same_literals c.literals ls) e
   where
-    go : (clause_with ls cs ≡ None → Stands n ls (with_clause r n ls cs)) → (b : Bool) → cond b (Some c) (clause_with ls cs) ≡ None → Stands n ls (cond b (with_count r c ∷ cs) (c ∷ with_clause r n ls cs))
+    go : (clause_with ls cs ≡ None → Stands n ls (with_stored_clause r n ls cs)) → (b : Bool) → cond b (Some c) (clause_with ls cs) ≡ None → Stands n ls (cond b (with_count r c ∷ cs) (c ∷ with_stored_clause r n ls cs))
     go ih true k = absurd cc
     go ih false k = let s = ih k in record { clause = s.clause; stored = inr s.stored; id_is = s.id_is; literals_are = s.literals_are }
 
@@ -180,12 +180,12 @@ module _ (lines : List Line) where
   counted_under false c h = h
 
   -- with one more, which is under its id if it's new
-  under_with : (r : Bool) (n : ℕ) (ls : List ℕ) (cs : List StoredClause) → (clause_with ls cs ≡ None → IsUnder lines n ls) → AreUnder cs → AreUnder (with_clause r n ls cs)
+  under_with : (r : Bool) (n : ℕ) (ls : List ℕ) (cs : List StoredClause) → (clause_with ls cs ≡ None → IsUnder lines n ls) → AreUnder cs → AreUnder (with_stored_clause r n ls cs)
   under_with true n ls [] new h = (new refl, tt)
   under_with false n ls [] new h = (new refl, tt)
   under_with r n ls (c ∷ cs) new h = go (λ k. under_with r n ls cs k h.1) (same_literals c.literals ls) new
     where
-      go : ((clause_with ls cs ≡ None → IsUnder lines n ls) → AreUnder (with_clause r n ls cs)) → (b : Bool) → (cond b (Some c) (clause_with ls cs) ≡ None → IsUnder lines n ls) → AreUnder (cond b (with_count r c ∷ cs) (c ∷ with_clause r n ls cs))
+      go : ((clause_with ls cs ≡ None → IsUnder lines n ls) → AreUnder (with_stored_clause r n ls cs)) → (b : Bool) → (cond b (Some c) (clause_with ls cs) ≡ None → IsUnder lines n ls) → AreUnder (cond b (with_count r c ∷ cs) (c ∷ with_stored_clause r n ls cs))
       go ih true k = (counted_under r c h.0, h.1)
       go ih false k = (h.0, ih k)
 
@@ -290,7 +290,7 @@ module _ (line : Line) (set : List ℕ) (f : Stored) (lines : List Line) (new : 
     clauses = under_with (line ∷ lines) r f.next_id set f.clauses (λ n. here) clauses_kept;
     units = units_kept;
     long = λ id c u l. elim (split id c u) [
-      | inl k ↦ subst (λ i. Stands i c (with_clause r f.next_id set f.clauses)) (sym k.0) (subst (λ d. Stands f.next_id d (with_clause r f.next_id set f.clauses)) k.1 (stands_new r f.next_id set f.clauses e))
+      | inl k ↦ subst (λ i. Stands i c (with_stored_clause r f.next_id set f.clauses)) (sym k.0) (subst (λ d. Stands f.next_id d (with_stored_clause r f.next_id set f.clauses)) k.1 (stands_new r f.next_id set f.clauses e))
       | inr k ↦ let s = m.long id c k l in stands_more r f.next_id set id c f.clauses s.clause s.stored s.id_is s.literals_are
     ];
     least = let l = least_kept in subst (λ b. least_id (line ∷ lines) ≤ cond b f.next_id (f.next_id + 1)) (sym (ap is_some e)) l;

@@ -2,9 +2,9 @@
 use Rattle.std.proofs.Common.{ℕ, ◌+◌, ◌≡◌, Bool, List, [], ◌∷◌, ◌++◌, length, Option, None, Some, refl, sym, ◌∙◌, ap, subst, inl, inr, append-nil}
 use Rattle.sat_base.specs.text.Text.{lines}
 use Rattle.sat_base.specs.text.Tokenizing.{held}
-use Rattle.sat_hints.specs.Lines.{Line, AreLines, Spells, text_of}
+use Rattle.sat_hints.specs.Lines.{Line, AreLines, SpellsLine, text_of}
 use Rattle.sat_hints.specs.Hints.{clauses_under, IsInOrder, named_ids, UsesVariable, derives_empty, count_of_cores}
-use Rattle.sat_hints.specs.Checks.{SomeIsNotUnit, LastIsNotFalsified, Tries, IsFaultOf, IsAtFault, IsBadAt, IsProof}
+use Rattle.sat_hints.specs.Checks.{SomeIsNotUnit, LastIsNotFalsified, TriesLine, IsFaultOf, IsAtFault, IsBadAt, IsProof}
 use Rattle.sat_hints.specs.Laws.{OneVerdict}
 use Rattle.sat_hints.specs.declared.answer.HintVerdict.TheVariants.{Proved, Bad}
 use Rattle.sat_hints.specs.declared.answer.HintWhy.{HintWhy}
@@ -22,10 +22,10 @@ fails_once (c ∷ d ∷ ds) assumed s t = elim s [
 ]
 
 module _ (earlier : List Line) (line : Line) where
-  present_or_not : {F : List ℕ → List (List ℕ) → Type 0} → clauses_under (named_ids line) earlier ≡ None → Tries earlier line F → ⊥
+  present_or_not : {F : List ℕ → List (List ℕ) → Type 0} → clauses_under (named_ids line) earlier ≡ None → TriesLine earlier line F → ⊥
   present_or_not e t = let f : ◌≡◌ {A = Option (List (List ℕ))} None (Some t.clauses) = sym e ∙ t.present in cc
 
-  not_both : Tries earlier line SomeIsNotUnit → Tries earlier line LastIsNotFalsified → ⊥
+  not_both : TriesLine earlier line SomeIsNotUnit → TriesLine earlier line LastIsNotFalsified → ⊥
   not_both s t =
       let f : Some s.clauses ≡ Some t.clauses = sym s.present ∙ t.present in
       let g : Some s.assumed ≡ Some t.assumed = sym s.assumes ∙ t.assumes in
@@ -39,7 +39,7 @@ module _ (earlier : List Line) (line : Line) where
   unused_present : UsesVariable earlier line → clauses_under (named_ids line) earlier ≡ None → ⊥
   unused_present u e = let f : ◌≡◌ {A = Option (List (List ℕ))} None (Some []) = sym e ∙ uses_none earlier line u in cc
 
-  unused_tries : {F : List ℕ → List (List ℕ) → Type 0} → UsesVariable earlier line → Tries earlier line F → ⊥
+  unused_tries : {F : List ℕ → List (List ℕ) → Type 0} → UsesVariable earlier line → TriesLine earlier line F → ⊥
   unused_tries u t = let f : ◌≡◌ {A = Option (List ℕ)} None (Some t.assumed) = sym (uses_nothing earlier line u) ∙ t.assumes in cc
 
   one_reason : (w v : HintWhy) → IsFaultOf earlier line w → IsFaultOf earlier line v → w ≡ v
@@ -73,8 +73,8 @@ module _ (earlier : List Line) (line : Line) where
 
 -- the reason of bytes: they are no line, or they are one and it is at fault
 data Reason (earlier : List Line) (bytes : List ℕ) (w : HintWhy) : Type 0 where
-  no_line : w ≡ Syntax → ((line : Line) → Spells bytes line → ⊥) → Reason earlier bytes w
-  a_line : (line : Line) → Spells bytes line → IsFaultOf earlier line w → Reason earlier bytes w
+  no_line : w ≡ Syntax → ((line : Line) → SpellsLine bytes line → ⊥) → Reason earlier bytes w
+  a_line : (line : Line) → SpellsLine bytes line → IsFaultOf earlier line w → Reason earlier bytes w
 
 reason : (earlier : List Line) (bytes : List ℕ) (w : HintWhy) → IsAtFault earlier bytes w → Reason earlier bytes w
 reason earlier bytes Syntax h = no_line refl h

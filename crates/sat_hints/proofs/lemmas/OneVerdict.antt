@@ -9,11 +9,11 @@ use Rattle.sat_base.specs.text.Text.{lines, onto_first}
 use Rattle.sat_base.specs.dimacs.DimacsText.{number_text}
 use Rattle.sat_checker.specs.LiteralSets.{is_among, is_tautology}
 use Rattle.sat_checker.specs.Propagation.{IsUnit, UnitInTurn}
-use Rattle.sat_hints.specs.Lines.{Line, Input, Derived, Gone, Core, Fresh, AreIds, AreLiterals, IsLine, AreLines, words, id_text, id_words, literal_words, line_text, text_of, HasNoEnd, BeginsWithLine, ended, cut_off}
-use Rattle.sat_hints.specs.Hints.{named_ids, clauses_under, assumed_by, Conflicts, ConflictsIf, Follows, IsHintDerivation}
+use Rattle.sat_hints.specs.Lines.{Line, Input, Derived, Gone, Core, Fresh, AreIds, AreLiteralCodes, IsLine, AreLines, words, id_text, id_words, literal_words, line_text, text_of, HasNoEnd, BeginsWithLine, ended, cut_off}
+use Rattle.sat_hints.specs.Hints.{named_ids, clauses_under, assumed_by, Conflicts, ConflictsIf, FollowsLines, IsHintDerivation}
 use Rattle.sat_hints.specs.Checks.{SomeIsNotUnit, LastIsNotFalsified, IsFaultOf, IsAtFault}
 use Rattle.sat_hints.specs.Laws.{ProvedIsNotBad}
-use Rattle.sat_hints.specs.inner.LineReading.{IsId, IsLiteral, NoWord}
+use Rattle.sat_hints.specs.inner.LineReading.{IsId, IsLiteralCode, NoWord}
 use Rattle.sat_hints.specs.declared.answer.HintWhy.{HintWhy}
 use Rattle.sat_hints.specs.declared.answer.HintWhy.TheVariants.{Syntax, IdOrder, UnknownId, NotUnit, NotFalsified, VarInUse}
 use Rattle.sat_hints.proofs.lemmas.Digits.{are_digits}
@@ -45,7 +45,7 @@ turn_not_last (c ∷ []) assumed t s = s t
 turn_not_last (c ∷ d ∷ ds) assumed t s = turn_not_last (d ∷ ds) (t.0 ∷ assumed) t.2 (subst (λ l. LastIsNotFalsified (l ∷ assumed) (d ∷ ds)) (same_unit assumed c t.0 s.0 t.1 s.1) s.2)
 
 -- the conflict of a line that follows, and one that fails
-module _ (earlier : List Line) (line : Line) (f : Follows earlier line) where
+module _ (earlier : List Line) (line : Line) (f : FollowsLines earlier line) where
   conflict_at : (assumed : List ℕ) (clauses : List (List ℕ)) → assumed_by line ≡ Some assumed → clauses_under (named_ids line) earlier ≡ Some clauses → is_tautology assumed ≡ false → UnitInTurn assumed clauses
   conflict_at assumed clauses a p t = go (assumed_by line) a f.conflict
     where
@@ -67,7 +67,7 @@ module _ (earlier : List Line) (line : Line) (f : Follows earlier line) where
   never_at_fault NotFalsified h = turn_not_last h.clauses h.assumed (conflict_at h.assumed h.clauses h.assumes h.present h.consistent) h.fails
   never_at_fault VarInUse h = f.unused h
 
-no_literal : (rest : List ℕ) → NoWord number_text IsLiteral (48 ∷ rest)
+no_literal : (rest : List ℕ) → NoWord number_text IsLiteralCode (48 ∷ rest)
 no_literal rest x t p f = literals_are_words.no_zero x rest t p f
 
 no_id : (rest : List ℕ) → NoWord id_text IsId (48 ∷ rest)
@@ -83,9 +83,9 @@ record SameBoth (ls ks is js : List ℕ) : Type 0 where
   literals : ls ≡ ks
   ids : is ≡ js
 
-same_both : (ls ks is js : List ℕ) → AreLiterals ls → AreLiterals ks → AreIds is → AreIds js → literal_words ls ++ (48 ∷ 32 ∷ (id_words is ++ (48 ∷ 10 ∷ []))) ≡ literal_words ks ++ (48 ∷ 32 ∷ (id_words js ++ (48 ∷ 10 ∷ []))) → SameBoth ls ks is js
+same_both : (ls ks is js : List ℕ) → AreLiteralCodes ls → AreLiteralCodes ks → AreIds is → AreIds js → literal_words ls ++ (48 ∷ 32 ∷ (id_words is ++ (48 ∷ 10 ∷ []))) ≡ literal_words ks ++ (48 ∷ 32 ∷ (id_words js ++ (48 ∷ 10 ∷ []))) → SameBoth ls ks is js
 same_both ls ks is js a b c d e =
-    let w = same_words number_text IsLiteral literals_are_words ls ks (48 ∷ 32 ∷ (id_words is ++ (48 ∷ 10 ∷ []))) (48 ∷ 32 ∷ (id_words js ++ (48 ∷ 10 ∷ []))) a b (no_literal (32 ∷ (id_words is ++ (48 ∷ 10 ∷ [])))) (no_literal (32 ∷ (id_words js ++ (48 ∷ 10 ∷ [])))) e in
+    let w = same_words number_text IsLiteralCode literals_are_words ls ks (48 ∷ 32 ∷ (id_words is ++ (48 ∷ 10 ∷ []))) (48 ∷ 32 ∷ (id_words js ++ (48 ∷ 10 ∷ []))) a b (no_literal (32 ∷ (id_words is ++ (48 ∷ 10 ∷ [])))) (no_literal (32 ∷ (id_words js ++ (48 ∷ 10 ∷ [])))) e in
     let f : 48 ∷ 32 ∷ (id_words is ++ (48 ∷ 10 ∷ [])) ≡ 48 ∷ 32 ∷ (id_words js ++ (48 ∷ 10 ∷ [])) = w.rests in
     let g : id_words is ++ (48 ∷ 10 ∷ []) ≡ id_words js ++ (48 ∷ 10 ∷ []) = cc in
     let v = same_words id_text IsId ids_are_words is js (48 ∷ 10 ∷ []) (48 ∷ 10 ∷ []) c d (no_id (10 ∷ [])) (no_id (10 ∷ [])) g in
@@ -98,7 +98,7 @@ pub one_line : (k l : Line) → IsLine k → IsLine l → line_text k ≡ line_t
 one_line (Input i ls) (Input j ks) p q e =
     let f : id_words (i ∷ []) ++ (literal_words ls ++ (48 ∷ 10 ∷ [])) ≡ id_words (j ∷ []) ++ (literal_words ks ++ (48 ∷ 10 ∷ [])) = cc in
     let g = same_first i j _ _ p.0.0 q.0.0 f in
-    let w = same_words number_text IsLiteral literals_are_words ls ks (48 ∷ 10 ∷ []) (48 ∷ 10 ∷ []) p.1 q.1 (no_literal (10 ∷ [])) (no_literal (10 ∷ [])) g.1 in
+    let w = same_words number_text IsLiteralCode literals_are_words ls ks (48 ∷ 10 ∷ []) (48 ∷ 10 ∷ []) p.1 q.1 (no_literal (10 ∷ [])) (no_literal (10 ∷ [])) g.1 in
     ap (λ x. Input x ls) g.0 ∙ ap (Input j) w.items
 one_line (Derived i ls is) (Derived j ks js) p q e =
     let f : id_words (i ∷ []) ++ (literal_words ls ++ (48 ∷ 32 ∷ (id_words is ++ (48 ∷ 10 ∷ [])))) ≡ id_words (j ∷ []) ++ (literal_words ks ++ (48 ∷ 32 ∷ (id_words js ++ (48 ∷ 10 ∷ [])))) = cc in
@@ -152,8 +152,8 @@ signed_no_end : (s : Bool) (n : ℕ) → n < 2 ^ 64 → HasNoEnd (cond s [] (45 
 signed_no_end true n h = digits_no_end (decimal n) (are_digits n h)
 signed_no_end false n h = ((λ e. omega arith), digits_no_end (decimal n) (are_digits n h))
 
-literals_no_end : (ls : List ℕ) → AreLiterals ls → HasNoEnd (literal_words ls)
-literals_no_end = words_no_end number_text IsLiteral (λ l p. signed_no_end (is_positive l) (variable l + 1) (omega arith))
+literals_no_end : (ls : List ℕ) → AreLiteralCodes ls → HasNoEnd (literal_words ls)
+literals_no_end = words_no_end number_text IsLiteralCode (λ l p. signed_no_end (is_positive l) (variable l + 1) (omega arith))
 
 zero_no_end : HasNoEnd (48 ∷ [])
 zero_no_end = ((λ e. omega arith), tt)
@@ -173,7 +173,7 @@ ended_end = record { front = 48 ∷ []; inside = zero_no_end; ended = refl }
 ended_behind : (xs ys : List ℕ) → HasNoEnd xs → Ended ys → Ended (xs ++ ys)
 ended_behind xs ys h w = record { front = xs ++ w.front; inside = no_end_both xs w.front h w.inside; ended = ap (λ t. xs ++ t) w.ended ∙ sym (append_assoc xs w.front (10 ∷ [])) }
 
-ended_both : (ls ids : List ℕ) → AreLiterals ls → AreIds ids → Ended (literal_words ls ++ (48 ∷ 32 ∷ (id_words ids ++ (48 ∷ 10 ∷ []))))
+ended_both : (ls ids : List ℕ) → AreLiteralCodes ls → AreIds ids → Ended (literal_words ls ++ (48 ∷ 32 ∷ (id_words ids ++ (48 ∷ 10 ∷ []))))
 ended_both ls ids p q =
     ended_behind (literal_words ls) (48 ∷ 32 ∷ (id_words ids ++ (48 ∷ 10 ∷ []))) (literals_no_end ls p)
     (ended_behind (48 ∷ 32 ∷ []) (id_words ids ++ (48 ∷ 10 ∷ [])) space_no_end (ended_behind (id_words ids) (48 ∷ 10 ∷ []) (ids_no_end ids q) ended_end))
@@ -292,7 +292,7 @@ bad_lines earlier bytes rest p (ended front inside e) = (lines rest, lines_of_te
 bad_lines earlier bytes rest p (cut_off inside some e) = ([], lines_of_text earlier (bytes ++ rest) p ∙ ap (λ x. texts_in earlier ++ x) (ap lines (ap (λ x. bytes ++ x) e ∙ append-nil bytes) ∙ split_last bytes inside some))
 
 -- a line that follows is at no fault
-at_no_fault : (earlier : List Line) (bytes : List ℕ) (why : HintWhy) (l : Line) → bytes ≡ line_text l → IsLine l → Follows earlier l → IsAtFault earlier bytes why → ⊥
+at_no_fault : (earlier : List Line) (bytes : List ℕ) (why : HintWhy) (l : Line) → bytes ≡ line_text l → IsLine l → FollowsLines earlier l → IsAtFault earlier bytes why → ⊥
 at_no_fault earlier bytes Syntax l e p f h = h l (p, e)
 at_no_fault earlier bytes IdOrder l e p f h = never_at_fault earlier l f IdOrder (subst (λ x. IsFaultOf earlier x IdOrder) (one_line h.0 l h.1.0 p (sym h.1.1 ∙ e)) h.2)
 at_no_fault earlier bytes UnknownId l e p f h = never_at_fault earlier l f UnknownId (subst (λ x. IsFaultOf earlier x UnknownId) (one_line h.0 l h.1.0 p (sym h.1.1 ∙ e)) h.2)

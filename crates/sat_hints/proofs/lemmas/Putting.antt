@@ -7,13 +7,13 @@ use Rattle.sat_base.specs.device.Device.{Writer}
 use Rattle.sat_base.specs.device.Sink.{Sink, Sent}
 use Rattle.sat_base.proofs.lemmas.device.Sending.{sent_none, sent_more, sends_stops, sends_breaks, piece_waits}
 use Rattle.sat_hints.specs.Lines.{words}
-use Rattle.sat_hints.specs.inner.LineWriting.{Outlet, PutBy, PutFrom, Put}
+use Rattle.sat_hints.specs.inner.LineWriting.{Outlet, PutBy, PutFrom, PutsText}
 
 put_none_from : (b : Bool) (a : Outlet) → a.failed ≡ b → PutFrom b [] a a
 put_none_from true a e = refl
 put_none_from false a e = subst (λ f. PutBy f [] a.sink a.sink) (sym e) (sent_none a.sink)
 
-pub put_none : (a : Outlet) → Put [] a a
+pub put_none : (a : Outlet) → PutsText [] a a
 put_none a = put_none_from a.failed a refl
 
 -- one text, and then another
@@ -21,7 +21,7 @@ put_behind_sent : (b c : Bool) (xs ys : List ℕ) (s t u : Sink) → Sent s t xs
 put_behind_sent b false xs ys s t u h k = sent_more s t u xs ys h k
 put_behind_sent b true xs ys s t u h k = sends_breaks s t u xs ys h k
 
-pub put_more : (xs ys : List ℕ) (a b c : Outlet) → Put xs a b → Put ys b c → Put (xs ++ ys) a c
+pub put_more : (xs ys : List ℕ) (a b c : Outlet) → PutsText xs a b → PutsText ys b c → PutsText (xs ++ ys) a c
 put_more xs ys a b c h k = go a.failed b.failed refl refl h k
   where
     go : (f g : Bool) → a.failed ≡ f → b.failed ≡ g → PutFrom f xs a b → PutFrom g ys b c → PutFrom f (xs ++ ys) a c
@@ -32,33 +32,33 @@ put_more xs ys a b c h k = go a.failed b.failed refl refl h k
         subst (λ z. PutBy z.failed (xs ++ ys) a.sink z.sink) (sym k) (subst (λ f. PutBy f (xs ++ ys) a.sink b.sink) (sym d) (sends_stops a.sink b.sink xs ys broken))
     go false false e d h k = put_behind_sent false c.failed xs ys a.sink b.sink c.sink (subst (λ f. PutBy f xs a.sink b.sink) d h) k
 
-pub put_same : (xs ys : List ℕ) (a b : Outlet) → xs ≡ ys → Put xs a b → Put ys a b
-put_same xs ys a b e h = subst (λ t. Put t a b) e h
+pub put_same : (xs ys : List ℕ) (a b : Outlet) → xs ≡ ys → PutsText xs a b → PutsText ys a b
+put_same xs ys a b e h = subst (λ t. PutsText t a b) e h
 
 -- several in turn
-pub put_three : (xs ys zs : List ℕ) (a b c d : Outlet) → Put xs a b → Put ys b c → Put zs c d → Put (xs ++ (ys ++ zs)) a d
+pub put_three : (xs ys zs : List ℕ) (a b c d : Outlet) → PutsText xs a b → PutsText ys b c → PutsText zs c d → PutsText (xs ++ (ys ++ zs)) a d
 put_three xs ys zs a b c d h k l = put_more xs (ys ++ zs) a b d h (put_more ys zs b c d k l)
 
-pub put_four : (xs ys zs ws : List ℕ) (a b c d e : Outlet) → Put xs a b → Put ys b c → Put zs c d → Put ws d e → Put (xs ++ (ys ++ (zs ++ ws))) a e
+pub put_four : (xs ys zs ws : List ℕ) (a b c d e : Outlet) → PutsText xs a b → PutsText ys b c → PutsText zs c d → PutsText ws d e → PutsText (xs ++ (ys ++ (zs ++ ws))) a e
 put_four xs ys zs ws a b c d e h k l m = put_more xs (ys ++ (zs ++ ws)) a b e h (put_three ys zs ws b c d e k l m)
 
 -- so far
 pub record PutSoFar (whole left : List ℕ) (old new : Outlet) : Type 0 where
   pub front : List ℕ
   pub rest : whole ≡ front ++ left
-  pub puts : Put front old new
+  pub puts : PutsText front old new
 
 pub so_far_none : (whole : List ℕ) (a : Outlet) → PutSoFar whole whole a a
 so_far_none whole a = record { front = []; rest = refl; puts = put_none a }
 
-pub so_far_more : (whole left part more : List ℕ) (a b c : Outlet) → PutSoFar whole left a b → left ≡ part ++ more → Put part b c → PutSoFar whole more a c
+pub so_far_more : (whole left part more : List ℕ) (a b c : Outlet) → PutSoFar whole left a b → left ≡ part ++ more → PutsText part b c → PutSoFar whole more a c
 so_far_more whole left part more a b c s e h = record {
   front = s.front ++ part;
   rest = s.rest ∙ ap (λ t. s.front ++ t) e ∙ sym (append_assoc s.front part more);
   puts = put_more s.front part a b c s.puts h;
 }
 
-pub so_far_all : (whole left : List ℕ) (a b : Outlet) → PutSoFar whole left a b → left ≡ [] → Put whole a b
+pub so_far_all : (whole left : List ℕ) (a b : Outlet) → PutSoFar whole left a b → left ≡ [] → PutsText whole a b
 so_far_all whole left a b s e = put_same s.front whole a b (sym (s.rest ∙ ap (λ t. s.front ++ t) e ∙ append-nil s.front)) s.puts
 
 -- words, each with a space
@@ -74,7 +74,7 @@ no_word word xs i h = ap (words word) (drop_all i xs h)
 
 -- A BYTE
 -- within the room
-pub byte_waits : (w : Writer) (bytes : List ℕ) (len byte : ℕ) (a b : Outlet) → len < length bytes → a.failed ≡ false → a.sink ≡ record { writer = w; waiting = take len bytes } → b.failed ≡ false → b.sink ≡ record { writer = w; waiting = take (len + 1) (set bytes len byte) } → Put (byte ∷ []) a b
+pub byte_waits : (w : Writer) (bytes : List ℕ) (len byte : ℕ) (a b : Outlet) → len < length bytes → a.failed ≡ false → a.sink ≡ record { writer = w; waiting = take len bytes } → b.failed ≡ false → b.sink ≡ record { writer = w; waiting = take (len + 1) (set bytes len byte) } → PutsText (byte ∷ []) a b
 byte_waits w bytes len byte a b h e f g k =
     let sent : Sent (record { writer = w; waiting = take len bytes }) (record { writer = w; waiting = take (len + 1) (set bytes len byte) }) (byte ∷ [])
     = piece_waits w (take len bytes) (take (len + 1) (set bytes len byte)) (byte ∷ []) (record { writer = w; waiting = take len bytes }) (sent_none (record { writer = w; waiting = take len bytes })) (one_more bytes len byte h) in
@@ -84,7 +84,7 @@ byte_waits w bytes len byte a b h e f g k =
     one_more bytes len byte h = let e : len + 1 ≡ suc len = omega arith in ap (λ n. take n (set bytes len byte)) e ∙ take-suc-set bytes len byte h
 
 -- behind what was written out
-pub first_byte_waits : (w : Writer) (bytes : List ℕ) (len byte : ℕ) (a b c : Outlet) → len ≡ 0 → 0 < length bytes → Put [] a b → b.failed ≡ false → b.sink ≡ record { writer = w; waiting = take len bytes } → c.failed ≡ false → c.sink ≡ record { writer = w; waiting = take 1 (set bytes 0 byte) } → Put (byte ∷ []) a c
+pub first_byte_waits : (w : Writer) (bytes : List ℕ) (len byte : ℕ) (a b c : Outlet) → len ≡ 0 → 0 < length bytes → PutsText [] a b → b.failed ≡ false → b.sink ≡ record { writer = w; waiting = take len bytes } → c.failed ≡ false → c.sink ≡ record { writer = w; waiting = take 1 (set bytes 0 byte) } → PutsText (byte ∷ []) a c
 first_byte_waits w bytes len byte a b c z h p e f g k =
     let f' : b.sink ≡ record { writer = w; waiting = take 0 bytes } = f ∙ ap (λ (n : ℕ). let s : Sink = record { writer = w; waiting = take n bytes } in s) z in
     put_more [] (byte ∷ []) a b c p (byte_waits w bytes 0 byte b c h e f' g k)

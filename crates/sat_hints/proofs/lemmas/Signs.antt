@@ -6,11 +6,11 @@ use Rattle.sat_base.specs.values.Literals.{negated, negated_if}
 use Rattle.sat_checker.specs.LiteralSets.{is_among, is_tautology}
 use Rattle.sat_checker.proofs.lemmas.sets.Canonical.{tautology_from, both_signs}
 use Rattle.sat_checker.proofs.lemmas.sets.Order.{among-append}
-use Rattle.sat_hints.specs.inner.Course.{signed, Assumes}
+use Rattle.sat_hints.specs.inner.Course.{signed, AreJustAssumed}
 
 -- the first so many literals are assumed, of each variable one sign
 pub record AssumesFirst (ls : List ℕ) (count : ℕ) (assumed : List ℕ) : Type 0 where
-  pub are : Assumes (take count ls) assumed
+  pub are : AreJustAssumed (take count ls) assumed
   pub one_sign : (l : ℕ) → is_among (take count ls) l ≡ true → is_among (take count ls) (negated l) ≡ true → ⊥
 
 pub assumes_none : (ls assumed : List ℕ) → assumed ≡ [] → AssumesFirst ls 0 assumed
@@ -107,12 +107,12 @@ module _ (ls assumed : List ℕ) (i : ℕ) (inside : i < length ls) (so_far : As
 -- all are assumed
 pub record AssumesAll (ls assumed : List ℕ) : Type 0 where
   pub consistent : is_tautology ls ≡ false
-  pub are : Assumes ls assumed
+  pub are : AreJustAssumed ls assumed
 
 pub assumes_all : (ls assumed : List ℕ) (i : ℕ) → length ls ≤ i → AssumesFirst ls i assumed → AssumesAll ls assumed
 assumes_all ls assumed i h so_far =
     let e : take i ls ≡ ls = take_all i ls h in
-    record { consistent = go (is_tautology ls) refl (subst (λ xs. (l : ℕ) → is_among xs l ≡ true → is_among xs (negated l) ≡ true → ⊥) e so_far.one_sign); are = subst (λ xs. Assumes xs assumed) e so_far.are }
+    record { consistent = go (is_tautology ls) refl (subst (λ xs. (l : ℕ) → is_among xs l ≡ true → is_among xs (negated l) ≡ true → ⊥) e so_far.one_sign); are = subst (λ xs. AreJustAssumed xs assumed) e so_far.are }
   where
     go : (b : Bool) → is_tautology ls ≡ b → ((l : ℕ) → is_among ls l ≡ true → is_among ls (negated l) ≡ true → ⊥) → b ≡ false
     go true t one = let s = both_signs ls t in absurd (one s.literal s.within s.negation)

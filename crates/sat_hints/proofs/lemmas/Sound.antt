@@ -9,8 +9,8 @@ use Rattle.sat_checker.proofs.lemmas.propagation.Soundness.{negated_value, true_
 use Rattle.sat_checker.proofs.lemmas.sets.Canonical.{both_signs}
 use Rattle.sat_checker.proofs.lemmas.sets.Subsets.{subset_canonical, superset_true}
 use Rattle.sat_hints.specs.Lines.{Line, Input, Derived, Gone, Core, Fresh}
-use Rattle.sat_hints.specs.Hints.{and_clauses, is_unit_over, unless_unit_over, clause_under, clauses_under, Conflicts, IsInUse, IsHintDerivation}
-use Rattle.sat_hints.specs.Laws.{Leaves, DerivedFollow, CoresFail, PresentHold, EmptyMeansNone, FormulaIsLeft, FormulaLeaves}
+use Rattle.sat_hints.specs.Hints.{and_clauses, is_unit_over, unless_unit_over, clause_under, clauses_under, Conflicts, IsInNonUnitClause, IsHintDerivation}
+use Rattle.sat_hints.specs.Laws.{IsLeftByLines, DerivedFollow, HintCoresFail, PresentHold, EmptyMeansNone, FormulaIsLeft, FormulaLeaves}
 
 -- where a clause is false, the negations of its literals are true
 negations_true : (a : Valuation) (clause : List ℕ) → clause_true a clause ≡ false → EachTrue a (map negated clause)
@@ -63,7 +63,7 @@ still v (Some d) c e = go (is_unit_over v d) refl e
     go false u f = let g : d ≡ c = cc in (f, subst (λ x. is_unit_over v x ≡ false) g u)
 
 -- so it hasn't the variable, where that is not in use
-pub not_mentioned : (v : ℕ) (earlier : List Line) → (IsInUse v earlier → ⊥) → (id : ℕ) (c : List ℕ) → clause_under id earlier ≡ Some c → is_unit_over v c ≡ false → mentions c v ≡ false
+pub not_mentioned : (v : ℕ) (earlier : List Line) → (IsInNonUnitClause v earlier → ⊥) → (id : ℕ) (c : List ℕ) → clause_under id earlier ≡ Some c → is_unit_over v c ≡ false → mentions c v ≡ false
 not_mentioned v earlier none id [] e u = refl
 not_mentioned v earlier none id (l ∷ []) e u = ap (λ b. b || false) u
 not_mentioned v earlier none id (l ∷ m ∷ ls) e u = go (mentions (l ∷ m ∷ ls) v) refl
@@ -101,7 +101,7 @@ present_hold (Fresh v ∷ lines) a id c d h e =
       | inr y ↦ sym (other_clause a v c n) ∙ present_hold lines (flipped v a) id c d.0 y s.0
     ]
 
-present_all : (lines : List Line) (a : Valuation) → IsHintDerivation lines → Leaves lines a → Present lines a
+present_all : (lines : List Line) (a : Valuation) → IsHintDerivation lines → IsLeftByLines lines a → Present lines a
 present_all lines a d h = λ id c e. present_hold lines a id c d h e
 
 -- WHAT IT SHOWS
@@ -116,7 +116,7 @@ derived_follow (Gone id ∷ lines) d = derived_follow lines d.0
 derived_follow (Core core ids ∷ lines) d = derived_follow lines d.0
 derived_follow (Fresh v ∷ lines) d = derived_follow lines d.0
 
-pub cores_fail : CoresFail
+pub cores_fail : HintCoresFail
 cores_fail [] d = tt
 cores_fail (Input id clause ∷ lines) d = cores_fail lines d.0
 cores_fail (Derived id clause ids ∷ lines) d = cores_fail lines d.0

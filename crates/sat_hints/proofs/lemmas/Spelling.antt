@@ -2,42 +2,42 @@
 use Rattle.std.proofs.Common.{ℕ, ◌≡◌, Bool, true, false, MatchBool, List, [], ◌∷◌, ◌++◌, refl, sym, ◌∙◌, ap, subst, arith, append_assoc}
 use Rattle.sat_base.specs.dimacs.DimacsText.{number_text}
 use Rattle.sat_hints.specs.Lines.{Input, Derived, Gone, Core, Fresh, id_text, id_words, literal_words}
-use Rattle.sat_hints.specs.inner.LineReading.{IsId, IsVariable, IsLiteral, BeginsWithWord, BeginsWithWords, IsOne, IsBoth, IsNoLine}
+use Rattle.sat_hints.specs.inner.LineReading.{IsId, IsVariableIndex, IsLiteralCode, BeginsWithWord, BeginsWithWords, IsOne, IsBoth, IsNoLine}
 use Rattle.sat_hints.proofs.lemmas.Words.{ended_words, same_word, ids_are_words, literals_are_words}
 
 abbrev end : List ℕ
 end = 48 ∷ 10 ∷ []
 
 -- `LITS 0` and LF
-pub one_read : (bytes ls rest : List ℕ) → BeginsWithWords number_text IsLiteral bytes ls rest → rest ≡ end → IsOne bytes ls
+pub one_read : (bytes ls rest : List ℕ) → BeginsWithWords number_text IsLiteralCode bytes ls rest → rest ≡ end → IsOne bytes ls
 one_read bytes ls rest r e = (r.are, r.whole ∙ ap (λ t. literal_words ls ++ t) e)
 
-pub one_refused : (bytes ls rest : List ℕ) → BeginsWithWords number_text IsLiteral bytes ls rest → (rest ≡ end → ⊥) → (ks : List ℕ) → IsOne bytes ks → ⊥
-one_refused bytes ls rest r never ks o = never (ended_words number_text IsLiteral literals_are_words bytes ls rest r ks (10 ∷ []) o.0 o.1).rests
+pub one_refused : (bytes ls rest : List ℕ) → BeginsWithWords number_text IsLiteralCode bytes ls rest → (rest ≡ end → ⊥) → (ks : List ℕ) → IsOne bytes ks → ⊥
+one_refused bytes ls rest r never ks o = never (ended_words number_text IsLiteralCode literals_are_words bytes ls rest r ks (10 ∷ []) o.0 o.1).rests
 
 -- `LITS 0 IDS 0` and LF
-pub both_read : (bytes ls rest behind ids last : List ℕ) → BeginsWithWords number_text IsLiteral bytes ls rest → rest ≡ 48 ∷ 32 ∷ behind → BeginsWithWords id_text IsId behind ids last → last ≡ end → IsBoth bytes ls ids
+pub both_read : (bytes ls rest behind ids last : List ℕ) → BeginsWithWords number_text IsLiteralCode bytes ls rest → rest ≡ 48 ∷ 32 ∷ behind → BeginsWithWords id_text IsId behind ids last → last ≡ end → IsBoth bytes ls ids
 both_read bytes ls rest behind ids last r e s f = (
   r.are,
   s.are,
   r.whole ∙ ap (λ t. literal_words ls ++ t) (e ∙ ap (λ t. 48 ∷ 32 ∷ t) (s.whole ∙ ap (λ t. id_words ids ++ t) f)),
 )
 
-pub both_no_middle : (bytes ls rest : List ℕ) → BeginsWithWords number_text IsLiteral bytes ls rest → ((tail : List ℕ) → rest ≡ 48 ∷ 32 ∷ tail → ⊥) → (ks is : List ℕ) → IsBoth bytes ks is → ⊥
-both_no_middle bytes ls rest r never ks is o = never (id_words is ++ end) (ended_words number_text IsLiteral literals_are_words bytes ls rest r ks (32 ∷ (id_words is ++ end)) o.0 o.2).rests
+pub both_no_middle : (bytes ls rest : List ℕ) → BeginsWithWords number_text IsLiteralCode bytes ls rest → ((tail : List ℕ) → rest ≡ 48 ∷ 32 ∷ tail → ⊥) → (ks is : List ℕ) → IsBoth bytes ks is → ⊥
+both_no_middle bytes ls rest r never ks is o = never (id_words is ++ end) (ended_words number_text IsLiteralCode literals_are_words bytes ls rest r ks (32 ∷ (id_words is ++ end)) o.0 o.2).rests
 
-pub both_no_end : (bytes ls rest behind ids last : List ℕ) → BeginsWithWords number_text IsLiteral bytes ls rest → rest ≡ 48 ∷ 32 ∷ behind → BeginsWithWords id_text IsId behind ids last → (last ≡ end → ⊥) → (ks is : List ℕ) → IsBoth bytes ks is → ⊥
+pub both_no_end : (bytes ls rest behind ids last : List ℕ) → BeginsWithWords number_text IsLiteralCode bytes ls rest → rest ≡ 48 ∷ 32 ∷ behind → BeginsWithWords id_text IsId behind ids last → (last ≡ end → ⊥) → (ks is : List ℕ) → IsBoth bytes ks is → ⊥
 both_no_end bytes ls rest behind ids last r e s never ks is o =
-    let m = (ended_words number_text IsLiteral literals_are_words bytes ls rest r ks (32 ∷ (id_words is ++ end)) o.0 o.2).rests in
+    let m = (ended_words number_text IsLiteralCode literals_are_words bytes ls rest r ks (32 ∷ (id_words is ++ end)) o.0 o.2).rests in
     let f : 48 ∷ 32 ∷ behind ≡ 48 ∷ 32 ∷ (id_words is ++ end) = sym e ∙ m in
     let g : behind ≡ id_words is ++ end = cc in
     never (ended_words id_text IsId ids_are_words behind ids last s is (10 ∷ []) o.1 g).rests
 
-pub one_answer : (b : Bool) (bytes ls rest : List ℕ) → BeginsWithWords number_text IsLiteral bytes ls rest → MatchBool b (rest ≡ end) (rest ≡ end → ⊥) → MatchBool b (IsOne bytes ls) ((ks : List ℕ) → IsOne bytes ks → ⊥)
+pub one_answer : (b : Bool) (bytes ls rest : List ℕ) → BeginsWithWords number_text IsLiteralCode bytes ls rest → MatchBool b (rest ≡ end) (rest ≡ end → ⊥) → MatchBool b (IsOne bytes ls) ((ks : List ℕ) → IsOne bytes ks → ⊥)
 one_answer true bytes ls rest r e = one_read bytes ls rest r e
 one_answer false bytes ls rest r e = one_refused bytes ls rest r e
 
-pub both_answer : (b : Bool) (bytes ls rest behind ids last : List ℕ) → BeginsWithWords number_text IsLiteral bytes ls rest → rest ≡ 48 ∷ 32 ∷ behind → BeginsWithWords id_text IsId behind ids last → MatchBool b (last ≡ end) (last ≡ end → ⊥)
+pub both_answer : (b : Bool) (bytes ls rest behind ids last : List ℕ) → BeginsWithWords number_text IsLiteralCode bytes ls rest → rest ≡ 48 ∷ 32 ∷ behind → BeginsWithWords id_text IsId behind ids last → MatchBool b (last ≡ end) (last ≡ end → ⊥)
     → MatchBool b (IsBoth bytes ls ids) ((ks is : List ℕ) → IsBoth bytes ks is → ⊥)
 both_answer true bytes ls rest behind ids last r e s f = both_read bytes ls rest behind ids last r e s f
 both_answer false bytes ls rest behind ids last r e s f = both_no_end bytes ls rest behind ids last r e s f
@@ -60,7 +60,7 @@ abbrev IsCore : List ℕ → Type 0
 IsCore bytes = (ls : List ℕ) × (ids : List ℕ) × IsBoth bytes ls ids
 
 abbrev IsFresh : List ℕ → Type 0
-IsFresh bytes = (v : ℕ) × BeginsWithWord id_text IsVariable bytes v end
+IsFresh bytes = (v : ℕ) × BeginsWithWord id_text IsVariableIndex bytes v end
 
 pub not_input : (bytes : List ℕ) → (IsInput bytes → ⊥) → IsNoLine (105 ∷ 32 ∷ bytes)
 not_input bytes never (Input id ls) s =
@@ -120,10 +120,10 @@ pub gone_refused : (bytes rest : List ℕ) (id : ℕ) → BeginsWithWord id_text
 gone_refused bytes rest id b never = not_gone bytes (λ i. never (sym (same_id bytes id i.0 rest end b i.1)))
 
 -- a variable is a smaller id
-as_id : (bytes : List ℕ) (v : ℕ) (rest : List ℕ) → BeginsWithWord id_text IsVariable bytes v rest → BeginsWithWord id_text IsId bytes v rest
+as_id : (bytes : List ℕ) (v : ℕ) (rest : List ℕ) → BeginsWithWord id_text IsVariableIndex bytes v rest → BeginsWithWord id_text IsId bytes v rest
 as_id bytes v rest b = ((let k = b.0 in omega arith), b.1)
 
-pub fresh_refused : (bytes rest : List ℕ) (v : ℕ) → BeginsWithWord id_text IsVariable bytes v rest → (rest ≡ end → ⊥) → IsNoLine (101 ∷ 32 ∷ bytes)
+pub fresh_refused : (bytes rest : List ℕ) (v : ℕ) → BeginsWithWord id_text IsVariableIndex bytes v rest → (rest ≡ end → ⊥) → IsNoLine (101 ∷ 32 ∷ bytes)
 fresh_refused bytes rest v b never = not_fresh bytes (λ i. never (sym (same_id bytes v i.0 rest end (as_id bytes v rest b) (as_id bytes i.0 end i.1))))
 
 pub core_refused : (bytes : List ℕ) → ((ls ids : List ℕ) → IsBoth bytes ls ids → ⊥) → IsNoLine (102 ∷ 32 ∷ bytes)

@@ -7,9 +7,9 @@ use Rattle.sat_base.specs.values.Tables.{value_at}
 use Rattle.sat_checker.specs.LiteralSets.{mentions}
 use Rattle.sat_checker.specs.SortedSets.{IsIncreasing}
 use Rattle.sat_hints.specs.Hints.{is_long, unless_unit_over}
-use Rattle.sat_hints.specs.inner.Clauses.{clause_in, clause_at, times_long, times_at, AllBelow, IsStore, Adds, Loses}
+use Rattle.sat_hints.specs.inner.Clauses.{clause_in, clause_at, times_long, times_at, AllBelow, IsStore, AddsPresentClause, Loses}
 use Rattle.sat_hints.specs.inner.UsesView.{if_counting, uses_at}
-use Rattle.sat_hints.specs.inner.Standing.{is_stale, unless_stale, clause_of, SinceWithin, IsStanding, FindsOne, Gains, Drops, IsUsed, Forgets}
+use Rattle.sat_hints.specs.inner.Standing.{is_stale, unless_stale, clause_of, SinceWithin, StandingInvariant, FindsOne, AddsStandingClause, Drops, IsUsed, RenewsVariable}
 use Rattle.sat_hints.specs.declared.present.Present.{Present}
 use Rattle.sat_hints.specs.declared.standing.Standing.{Standing}
 use Rattle.sat_hints.specs.declared.uses.Uses.{Uses}
@@ -42,8 +42,8 @@ if_more : (b : Bool) (m n k : ℕ) → m ≡ n + k → if_counting b n + if_coun
 if_more true m n k e = sym e
 if_more false m n k e = refl
 
-pub gains : (old new : Standing) (id : ℕ) (clause : List ℕ) → IsStanding old → SinceWithin old id → Adds old.present new.present id clause → new.since ≡ old.since → new.uses.counting ≡ old.uses.counting
-    → ((l : ℕ) → uses_at new.uses l ≡ uses_at old.uses l + if_counting old.uses.counting (times_long l clause)) → Gains old new id clause
+pub gains : (old new : Standing) (id : ℕ) (clause : List ℕ) → StandingInvariant old → SinceWithin old id → AddsPresentClause old.present new.present id clause → new.since ≡ old.since → new.uses.counting ≡ old.uses.counting
+    → ((l : ℕ) → uses_at new.uses l ≡ uses_at old.uses l + if_counting old.uses.counting (times_long l clause)) → AddsStandingClause old new id clause
 gains old new id clause s w a e c u = record {
   standing = record {
     store = a.store;
@@ -65,7 +65,7 @@ if_few : (b : Bool) (n : ℕ) → if_counting b n ≤ n
 if_few true n = omega arith
 if_few false n = omega arith
 
-pub few_uses : (old new : Present) (u : Uses) (id n : ℕ) (clause : List ℕ) → IsStore old → ((l : ℕ) → uses_at u l ≡ if_counting u.counting (times_at old l)) → IsIncreasing clause → Adds old new id clause → n ≡ length new.ids.items → n < 2 ^ 64 → (l : ℕ) → uses_at u l + times_long l clause < 2 ^ 64
+pub few_uses : (old new : Present) (u : Uses) (id n : ℕ) (clause : List ℕ) → IsStore old → ((l : ℕ) → uses_at u l ≡ if_counting u.counting (times_at old l)) → IsIncreasing clause → AddsPresentClause old new id clause → n ≡ length new.ids.items → n < 2 ^ 64 → (l : ℕ) → uses_at u l + times_long l clause < 2 ^ 64
 few_uses old new u id n clause s c i a e f l =
     let x : uses_at u l ≡ if_counting u.counting (times_at old l) = c l in
     let y : if_counting u.counting (times_at old l) ≤ times_at old l = if_few u.counting (times_at old l) in
@@ -80,7 +80,7 @@ if_less : (b : Bool) (m n k : ℕ) → m + k ≡ n → if_counting b m + if_coun
 if_less true m n k e = e
 if_less false m n k e = refl
 
-module _ (old : Standing) (id place : ℕ) (s : IsStanding old) (f : FindsOne old id place) where
+module _ (old : Standing) (id place : ℕ) (s : StandingInvariant old) (f : FindsOne old id place) where
   -- its place isn't gone
   not_gone : (c : List ℕ) → clause_in old.present id ≡ Some c → (get_or old.present.gone.items place false ≡ false) × (clause_at old.present place ≡ c)
   not_gone c e =
@@ -181,7 +181,7 @@ below_bound p bound s h id c e =
     let t = stands_at id c p.ids.items p.clauses p.gone.items e in
     subst (λ i. i < bound) t.named (h t.place (subst (λ n. t.place < n) s.clauses t.within))
 
-module _ (old new : Standing) (v bound : ℕ) (s : IsStanding old) (above : AllBelow old.present.ids.items bound) (w : SinceWithin old bound)
+module _ (old new : Standing) (v bound : ℕ) (s : StandingInvariant old) (above : AllBelow old.present.ids.items bound) (w : SinceWithin old bound)
     (p : new.present ≡ old.present) (u : new.uses ≡ old.uses) (at : (x : ℕ) → value_at 0 new.since x ≡ cond (eqb x v) bound (value_at 0 old.since x)) where
   unit_gone : (l : ℕ) (b : Bool) → eqb (variable l) v ≡ true → unless_unit_over v (cond b None (Some (l ∷ []))) ≡ None
   unit_gone l true e = refl
@@ -209,7 +209,7 @@ module _ (old new : Standing) (v bound : ℕ) (s : IsStanding old) (above : AllB
   within x true e = let a = at x ∙ ap (λ b. cond b bound (value_at 0 old.since x)) e in omega (arith, a)
   within x false e = let a = at x ∙ ap (λ b. cond b bound (value_at 0 old.since x)) e in let k = w x in omega (arith, a, k)
 
-  pub forgets : Forgets old new v bound
+  pub forgets : RenewsVariable old new v bound
   forgets = record {
     standing = record {
       store = subst IsStore (sym p) s.store;

@@ -10,12 +10,12 @@ use Rattle.sat_checker.specs.SortedSets.{NoRepeats}
 use Rattle.sat_checker.proofs.lemmas.sets.Canonical.{canonical_increasing}
 use Rattle.sat_checker.proofs.lemmas.sets.Marks.{once}
 use Rattle.sat_hints.specs.Lines.{Line, Input, Derived, Gone, Core, Fresh}
-use Rattle.sat_hints.specs.Hints.{and_clauses, unless_unit_over, clause_under, clauses_under, IsInOrder, named_ids, assumed_by, ConflictsIf, Conflicts, IsInUse, Follows, is_empty, derives_empty, count_of_cores}
+use Rattle.sat_hints.specs.Hints.{and_clauses, unless_unit_over, clause_under, clauses_under, IsInOrder, named_ids, assumed_by, ConflictsIf, Conflicts, IsInNonUnitClause, FollowsLines, is_empty, derives_empty, count_of_cores}
 use Rattle.sat_hints.specs.Checks.{IsFaultOf}
 use Rattle.sat_hints.specs.inner.Clauses.{clause_in, AllBelow}
-use Rattle.sat_hints.specs.inner.Standing.{unless_stale, clause_of, clauses_of, Drops, Forgets, IsStanding, IsUsed, Keeps, SinceWithin}
-use Rattle.sat_hints.specs.inner.Course.{course, signed, Runs}
-use Rattle.sat_hints.specs.inner.Judging.{IsReady, HasTaken, IsSame, Refutes, StoresClause, TakesOne}
+use Rattle.sat_hints.specs.inner.Standing.{unless_stale, clause_of, clauses_of, Drops, RenewsVariable, StandingInvariant, IsUsed, StandingUnchanged, SinceWithin}
+use Rattle.sat_hints.specs.inner.Course.{course, signed, WhyNoConflict}
+use Rattle.sat_hints.specs.inner.Judging.{IsReadyJudge, HasTakenLines, IsSame, WhyNotRefuted, StoresClause, TakesOne}
 use Rattle.sat_hints.specs.declared.answer.HintWhy.{HintWhy}
 use Rattle.sat_hints.specs.declared.answer.HintWhy.TheVariants.{Syntax, IdOrder, UnknownId, NotUnit, NotFalsified, VarInUse}
 use Rattle.sat_hints.specs.declared.judging.Judge.{Judge}
@@ -64,7 +64,7 @@ sets_once (id ∷ ids) lines cs e = go (λ ds. sets_once ids lines ds) (clause_u
 
 -- what a line that has to run into a conflict is
 abbrev Says_of : Option HintWhy → List Line → Line → Type 0
-Says_of None lines line = Follows lines line
+Says_of None lines line = FollowsLines lines line
 Says_of (Some why) lines line = IsFaultOf lines line why
 
 conflict_of : (a : Option (List ℕ)) (assumed : List ℕ) (clauses : List (List ℕ)) → a ≡ Some assumed → Conflicts assumed clauses → ConflictsIf a clauses
@@ -81,14 +81,14 @@ module _ (lines : List Line) (line : Line) (assumed : List ℕ) (in_order : IsIn
   by_course clauses present t (Some UnknownId) s = absurd s
   by_course clauses present t (Some VarInUse) s = absurd s
 
-  refuted : (p : Standing) (why : Option HintWhy) → ((id : ℕ) → clause_of p id ≡ clause_under id lines) → Refutes p assumed (named_ids line) why → Says_of why lines line
+  refuted : (p : Standing) (why : Option HintWhy) → ((id : ℕ) → clause_of p id ≡ clause_under id lines) → WhyNotRefuted p assumed (named_ids line) why → Says_of why lines line
   refuted p why same (inl h) = subst (λ w. Says_of w lines line) (sym h.1) (in_order, sym (clauses_same p lines same (named_ids line)) ∙ h.0)
   refuted p why same (inr h) = go h.2
     where
       present : clauses_under (named_ids line) lines ≡ Some h.0
       present = sym (clauses_same p lines same (named_ids line)) ∙ h.1
 
-      go : Runs assumed h.0 why → Says_of why lines line
+      go : WhyNoConflict assumed h.0 why → Says_of why lines line
       go (inl r) = subst (λ w. Says_of w lines line) (sym r.1) (record { in_order = in_order; clauses = h.0; present = present; conflict = conflict_of (assumed_by line) assumed h.0 assumes (inl r.0); unused = unused_assuming lines line assumed assumes })
       go (inr r) = subst (λ w. Says_of w lines line) (sym r.1) (by_course h.0 present r.0 (course assumed h.0) (course_says h.0 assumed (sets_once (named_ids line) lines h.0 present)))
 
@@ -100,7 +100,7 @@ signed_false : (ls : List ℕ) → signed false ls ≡ ls
 signed_false [] = refl
 signed_false (l ∷ ls) = ap (λ ms. l ∷ ms) (signed_false ls)
 
-stored_ready : (old new : Judge) (id : ℕ) (clause : List ℕ) → SinceWithin old.standing id → StoresClause old new id clause → IsReady new
+stored_ready : (old new : Judge) (id : ℕ) (clause : List ℕ) → SinceWithin old.standing id → StoresClause old new id clause → IsReadyJudge new
 stored_ready old new id clause w s = record {
   standing = s.adds.standing;
   below = subst (AllBelow new.standing.present.ids.items) (sym s.least) (s.adds.below (id + 1) (omega arith));
@@ -108,14 +108,14 @@ stored_ready old new id clause w s = record {
   nothing = s.nothing;
 }
 
-since_later : (old : Judge) (id : ℕ) → IsReady old → old.least_id ≤ id → SinceWithin old.standing id
+since_later : (old : Judge) (id : ℕ) → IsReadyJudge old → old.least_id ≤ id → SinceWithin old.standing id
 since_later old id r l = λ v. let k = r.since v in omega (arith, k, l)
 
-derived_refuted : (old : Judge) (id : ℕ) (clause ids : List ℕ) (why : Option HintWhy) → old.least_id ≤ id → Refutes old.standing (signed true clause) ids why → (lines : List Line) → HasTaken old lines → Says_of why lines (Derived id clause ids)
+derived_refuted : (old : Judge) (id : ℕ) (clause ids : List ℕ) (why : Option HintWhy) → old.least_id ≤ id → WhyNotRefuted old.standing (signed true clause) ids why → (lines : List Line) → HasTakenLines old lines → Says_of why lines (Derived id clause ids)
 derived_refuted old id clause ids why l r lines t =
-    refuted lines (Derived id clause ids) (map negated clause) (subst (λ n. n ≤ id) t.least l) refl old.standing why t.clauses (subst (λ a. Refutes old.standing a ids why) (signed_true clause) r)
+    refuted lines (Derived id clause ids) (map negated clause) (subst (λ n. n ≤ id) t.least l) refl old.standing why t.clauses (subst (λ a. WhyNotRefuted old.standing a ids why) (signed_true clause) r)
 
-pub derived_faulty : (old new : Judge) (id : ℕ) (clause ids : List ℕ) (why : HintWhy) → old.least_id ≤ id → Refutes old.standing (signed true clause) ids (Some why) → IsSame old new → TakesOne (Some why) old new (Derived id clause ids)
+pub derived_faulty : (old new : Judge) (id : ℕ) (clause ids : List ℕ) (why : HintWhy) → old.least_id ≤ id → WhyNotRefuted old.standing (signed true clause) ids (Some why) → IsSame old new → TakesOne (Some why) old new (Derived id clause ids)
 derived_faulty old new id clause ids why l r s = (s.lines, derived_refuted old id clause ids (Some why) l r)
 
 empty_length : (ls : List ℕ) → is_empty ls ≡ eqb (length ls) 0
@@ -126,9 +126,9 @@ empty_length (l ∷ ls) = sym (never (eqb (length (l ∷ ls)) 0) refl)
     never true e = absurd (let f : length (l ∷ ls) ≡ 0 = eqb-true (length (l ∷ ls)) 0 e in omega arith)
     never false e = e
 
-pub derived_taken : (old mid last new : Judge) (id : ℕ) (clause ids : List ℕ) (e : Bool) → IsReady old → old.least_id ≤ id → Refutes old.standing (signed true clause) ids None → IsSame old mid → StoresClause mid last id clause → e ≡ (eqb (length clause) 0 || last.empty) → new ≡ record last { empty = e } → TakesOne None old new (Derived id clause ids)
+pub derived_taken : (old mid last new : Judge) (id : ℕ) (clause ids : List ℕ) (e : Bool) → IsReadyJudge old → old.least_id ≤ id → WhyNotRefuted old.standing (signed true clause) ids None → IsSame old mid → StoresClause mid last id clause → e ≡ (eqb (length clause) 0 || last.empty) → new ≡ record last { empty = e } → TakesOne None old new (Derived id clause ids)
 derived_taken old mid last new id clause ids e y l r m s f n = (
-  subst IsReady (sym n) (let k = stored_ready mid last id clause (subst (λ x. SinceWithin x id) (sym m.standing) (since_later old id y l)) s in record { standing = k.standing; below = k.below; since = k.since; nothing = k.nothing }),
+  subst IsReadyJudge (sym n) (let k = stored_ready mid last id clause (subst (λ x. SinceWithin x id) (sym m.standing) (since_later old id y l)) s in record { standing = k.standing; below = k.below; since = k.since; nothing = k.nothing }),
   ap (λ j. j.lines) n ∙ s.lines ∙ m.lines,
   λ lines t. record {
     follows = derived_refuted old id clause ids None l r lines t;
@@ -144,9 +144,9 @@ some_clause : (o : Option (List ℕ)) → o ≢ None → (c : List ℕ) × (o �
 some_clause None h = absurd (h refl)
 some_clause (Some c) h = (c, refl)
 
-pub gone_taken : (old new : Judge) (id : ℕ) (p : Standing) → IsReady old → clause_of old.standing id ≢ None → Drops old.standing p id → new ≡ record old { standing = p } → TakesOne None old new (Gone id)
+pub gone_taken : (old new : Judge) (id : ℕ) (p : Standing) → IsReadyJudge old → clause_of old.standing id ≢ None → Drops old.standing p id → new ≡ record old { standing = p } → TakesOne None old new (Gone id)
 gone_taken old new id p r h l n = (
-  subst IsReady (sym n) (record { standing = l.standing; below = l.below old.least_id r.below; since = λ v. subst (λ x. value_at 0 x v ≤ old.least_id) (sym l.since) (r.since v); nothing = r.nothing }),
+  subst IsReadyJudge (sym n) (record { standing = l.standing; below = l.below old.least_id r.below; since = λ v. subst (λ x. value_at 0 x v ≤ old.least_id) (sym l.since) (r.since v); nothing = r.nothing }),
   ap (λ j. j.lines) n,
   λ lines t.
       let c = some_clause (clause_of old.standing id) h in
@@ -160,19 +160,19 @@ gone_taken old new id p r h l n = (
 )
 
 -- A CORE
-core_refuted : (old : Judge) (core ids : List ℕ) (why : Option HintWhy) → Refutes old.standing (signed false core) ids why → (lines : List Line) → HasTaken old lines → Says_of why lines (Core core ids)
-core_refuted old core ids why r lines t = refuted lines (Core core ids) core tt refl old.standing why t.clauses (subst (λ a. Refutes old.standing a ids why) (signed_false core) r)
+core_refuted : (old : Judge) (core ids : List ℕ) (why : Option HintWhy) → WhyNotRefuted old.standing (signed false core) ids why → (lines : List Line) → HasTakenLines old lines → Says_of why lines (Core core ids)
+core_refuted old core ids why r lines t = refuted lines (Core core ids) core tt refl old.standing why t.clauses (subst (λ a. WhyNotRefuted old.standing a ids why) (signed_false core) r)
 
-pub core_faulty : (old new : Judge) (core ids : List ℕ) (why : HintWhy) → Refutes old.standing (signed false core) ids (Some why) → IsSame old new → TakesOne (Some why) old new (Core core ids)
+pub core_faulty : (old new : Judge) (core ids : List ℕ) (why : HintWhy) → WhyNotRefuted old.standing (signed false core) ids (Some why) → IsSame old new → TakesOne (Some why) old new (Core core ids)
 core_faulty old new core ids why r s = (s.lines, core_refuted old core ids (Some why) r)
 
 one_more : (n count m : ℕ) → n ≡ held count → m ≡ min (n + 1) (2 ^ 64 - 1) → m ≡ held (1 + count)
 one_more n count m e f = omega arith
 
-pub core_taken : (old mid new : Judge) (core ids : List ℕ) (n : ℕ) → IsReady old → Refutes old.standing (signed false core) ids None → IsSame old mid → n ≡ min (mid.cores + 1) (2 ^ 64 - 1) → new ≡ record mid { cores = n } → TakesOne None old new (Core core ids)
+pub core_taken : (old mid new : Judge) (core ids : List ℕ) (n : ℕ) → IsReadyJudge old → WhyNotRefuted old.standing (signed false core) ids None → IsSame old mid → n ≡ min (mid.cores + 1) (2 ^ 64 - 1) → new ≡ record mid { cores = n } → TakesOne None old new (Core core ids)
 core_taken old mid new core ids n r h m f e = (
-  subst IsReady (sym e) (record {
-    standing = subst IsStanding (sym m.standing) r.standing;
+  subst IsReadyJudge (sym e) (record {
+    standing = subst StandingInvariant (sym m.standing) r.standing;
     below = subst (λ p. AllBelow p.present.ids.items mid.least_id) (sym m.standing) (subst (AllBelow old.standing.present.ids.items) (sym m.least) r.below);
     since = subst (λ p. SinceWithin p mid.least_id) (sym m.standing) (subst (SinceWithin old.standing) (sym m.least) r.since);
     nothing = m.nothing;
@@ -188,18 +188,18 @@ core_taken old mid new core ids n r h m f e = (
 )
 
 -- A NEW VARIABLE
-fresh_unused : (old : Judge) (v : ℕ) (lines : List Line) → HasTaken old lines → (IsUsed old.standing v → ⊥) → IsInUse v lines → ⊥
+fresh_unused : (old : Judge) (v : ℕ) (lines : List Line) → HasTakenLines old lines → (IsUsed old.standing v → ⊥) → IsInNonUnitClause v lines → ⊥
 fresh_unused old v lines t none u = none (record { id = u.id; clause = u.clause; present = t.clauses u.id ∙ u.present; long = u.long; within = u.within })
 
 pub fresh_faulty : (old new : Judge) (v : ℕ) → IsUsed old.standing v → new.lines ≡ old.lines → TakesOne (Some VarInUse) old new (Fresh v)
 fresh_faulty old new v u n = (n, λ lines t. record { id = u.id; clause = u.clause; present = sym (t.clauses u.id) ∙ u.present; long = u.long; within = u.within })
 
-same_of : (old mid : Standing) → Keeps old mid → (j : ℕ) → clause_of mid j ≡ clause_of old j
+same_of : (old mid : Standing) → StandingUnchanged old mid → (j : ℕ) → clause_of mid j ≡ clause_of old j
 same_of old mid k j = ap (λ x. unless_stale x j (clause_in mid.present j)) k.since ∙ ap (λ x. unless_stale old.since j (clause_in x j)) k.present
 
-pub fresh_taken : (old new : Judge) (v : ℕ) (mid last : Standing) → IsReady old → (IsUsed old.standing v → ⊥) → Keeps old.standing mid → Forgets mid last v old.least_id → new ≡ record old { standing = last } → TakesOne None old new (Fresh v)
+pub fresh_taken : (old new : Judge) (v : ℕ) (mid last : Standing) → IsReadyJudge old → (IsUsed old.standing v → ⊥) → StandingUnchanged old.standing mid → RenewsVariable mid last v old.least_id → new ≡ record old { standing = last } → TakesOne None old new (Fresh v)
 fresh_taken old new v mid last r none k f n = (
-  subst IsReady (sym n) (record {
+  subst IsReadyJudge (sym n) (record {
     standing = f.standing;
     below = subst (λ p. AllBelow p.ids.items old.least_id) (sym (f.present ∙ k.present)) r.below;
     since = f.since;

@@ -14,7 +14,7 @@ use Rattle.sat_checker.specs.announcements.Needed.{true_unit, propagations}
 use Rattle.sat_checker.specs.announcements.Announcements as told
 use Rattle.sat_checker.specs.announcements.Announcements.{Announcement, is_sample, is_witness, mode_change, renaming, naming, id_of_set, input_set, input, redundant_alone, derived_set, derived, derived_units, redundant_deleted, irredundant_deleted, one, last_id, announced, delayed_by, delayed, Told, told_over, told_after, all_told_after}
 use Rattle.sat_checker.proofs.lemmas.sets.Members.{canonical_each}
-use Rattle.sat_hints.specs.Lines.{Line, Input, Derived, Gone, Core, Fresh, AreLiterals, AreVariables, AreLines}
+use Rattle.sat_hints.specs.Lines.{Line, Input, Derived, Gone, Core, Fresh, AreLiteralCodes, AreVariables, AreLines}
 use Rattle.sat_hints.specs.Hints.{and_clauses, clause_under, clauses_under, least_id, IsHintDerivation}
 use Rattle.sat_hints.specs.Conversion.{line_told, with_line, lines_told, lines_of}
 use Rattle.sat_hints.specs.Limits.{FitsStep}
@@ -22,10 +22,10 @@ use Rattle.sat_hints.proofs.lemmas.Mirrored.{lines_by, told_lines, lines-append,
 
 -- LITERALS
 abbrev FitsLine : Line → Type 0
-FitsLine (Input id clause) = AreLiterals clause
-FitsLine (Derived id clause ids) = AreLiterals clause
+FitsLine (Input id clause) = AreLiteralCodes clause
+FitsLine (Derived id clause ids) = AreLiteralCodes clause
 FitsLine (Gone id) = Unit {0}
-FitsLine (Core core ids) = AreLiterals core
+FitsLine (Core core ids) = AreLiteralCodes core
 FitsLine (Fresh v) = AreVariables (v ∷ [])
 
 abbrev FitsIf : Option Line → Type 0
@@ -47,10 +47,10 @@ both_fit : (xs ys : List Announcement) → FitTold xs → FitTold ys → FitTold
 both_fit [] ys h k = k
 both_fit (x ∷ xs) ys h k = (h.0, both_fit xs ys h.1 k)
 
-set_fits : (clause : List ℕ) → AreLiterals clause → AreLiterals (canonical clause)
+set_fits : (clause : List ℕ) → AreLiteralCodes clause → AreLiteralCodes (canonical clause)
 set_fits clause h = canonical_each (λ l. l < 2 * largest) clause h
 
-derived_fit : (r : Bool) (c hs : List ℕ) (f : Stored) → AreLiterals c → FitTold (derived r c hs f)
+derived_fit : (r : Bool) (c hs : List ℕ) (f : Stored) → AreLiteralCodes c → FitTold (derived r c hs f)
 derived_fit r c hs f h = go (is_tautology c) (id_of_set (canonical c) f)
   where
     more : (b : Bool) (id : ℕ) → FitTold (cond b (told.MakeIrredundant id (canonical c) ∷ []) [])
@@ -66,7 +66,7 @@ units_fit : (us : List (ℕ × ℕ)) (f : Stored) → AllByRecursion (λ u. u.0 
 units_fit [] f h = tt
 units_fit (u ∷ us) f h = both_fit (derived false (u.0 ∷ []) (u.1 ∷ []) f) (derived_units us (with_unit u.0 f)) (derived_fit false (u.0 ∷ []) (u.1 ∷ []) f (h.0, tt)) (units_fit us (with_unit u.0 f) h.1)
 
-input_fit : (c : List ℕ) (f : Stored) → AreLiterals c → FitTold (input c f)
+input_fit : (c : List ℕ) (f : Stored) → AreLiteralCodes c → FitTold (input c f)
 input_fit c f h = go (is_tautology c) (id_of_set (canonical c) f)
   where
     go : (b : Bool) (x : Option ℕ) → FitTold (cond b (told.TautologicalClause f.next_id (canonical c) ∷ []) (input_set f.next_id (canonical c) x))
@@ -172,10 +172,10 @@ items_each : {A : Type 0} (F : A → List ℕ → Type 0) (P : A → Type 0) →
 items_each F P w [] bytes h = tt
 items_each F P w (x ∷ xs) bytes h = (w x h.0 h.2, items_each F P w xs h.1 h.3)
 
-literals_read : (ls : List ℕ) (bytes : List ℕ) → text.AreLiterals ls bytes → AreLiterals ls
+literals_read : (ls : List ℕ) (bytes : List ℕ) → text.AreLiterals ls bytes → AreLiteralCodes ls
 literals_read ls bytes h = items_each text.IsLiteral (λ l. l < 2 * largest) (λ l b k. k.1) ls h.1 h.3
 
-units_read : (us : List (ℕ × ℕ)) (bytes : List ℕ) → text.AreUnits us bytes → AllByRecursion (λ u. u.0 < 2 * largest) us
+units_read : (us : List (ℕ × ℕ)) (bytes : List ℕ) → text.AreHashedLiterals us bytes → AllByRecursion (λ u. u.0 < 2 * largest) us
 units_read us bytes h = items_each (Both text.IsLiteral text.IsHash) (λ u. u.0 < 2 * largest) (λ u b k. k.2.1) us h.1 h.3
 
 fields_fit : (step : Step) (bytes : List ℕ) → SpellsFields step bytes → FitsStep step

@@ -7,7 +7,7 @@ use Rattle.std.specs.Str.Parse.{AllDigits}
 use Rattle.sat_base.specs.values.Literals.{variable, is_positive}
 use Rattle.sat_base.specs.dimacs.DimacsText.{number_text}
 use Rattle.sat_hints.specs.Lines.{words, id_text}
-use Rattle.sat_hints.specs.inner.LineReading.{IsId, IsVariable, IsLiteral, NoWord, BeginsWithWord, BeginsWithWords}
+use Rattle.sat_hints.specs.inner.LineReading.{IsId, IsVariableIndex, IsLiteralCode, NoWord, BeginsWithWord, BeginsWithWords}
 use Rattle.sat_hints.proofs.lemmas.Digits.{Plain, plain_number, are_digits}
 
 -- words that a space ends, each of one value, and none that begins with `0`
@@ -111,7 +111,7 @@ signed_first false n rest tail p h e = let r : ◌≡◌ {A = ℕ} 48 45 = cc in
 same_literal : (x y : ℕ) → eqb (x % 2) 0 ≡ eqb (y % 2) 0 → x / 2 ≡ y / 2 → x ≡ y
 same_literal x y s v = grind arith
 
-pub literals_are_words : AreWords number_text IsLiteral
+pub literals_are_words : AreWords number_text IsLiteralCode
 literals_are_words = record {
   plain = λ l p. plain_signed (is_positive l) (variable l + 1) (omega arith);
   one = λ x y p q e. let r = same_signed (is_positive x) (is_positive y) (variable x + 1) (variable y + 1) (omega arith) (omega arith) e in
@@ -127,7 +127,7 @@ no_sign n x y h e = go (decimal n) (are_digits n h) (decimal_nonempty n h) e
     go [] d k e = omega arith
     go (c ∷ cs) d k e = let r = digit_from_value c d.0 in let s : c ≡ 45 = cc in omega arith
 
-pub no_negative_word : (bytes behind : List ℕ) → bytes ≡ 45 ∷ behind → NoWord id_text IsVariable behind → NoWord number_text IsLiteral bytes
+pub no_negative_word : (bytes behind : List ℕ) → bytes ≡ 45 ∷ behind → NoWord id_text IsVariableIndex behind → NoWord number_text IsLiteralCode bytes
 no_negative_word bytes behind e none l tail p f = go (is_positive l) f
   where
     go : (s : Bool) → bytes ≡ (cond s [] (45 ∷ []) ++ decimal (l / 2 + 1)) ++ (32 ∷ tail) → ⊥

@@ -6,8 +6,8 @@ use Rattle.sat_base.specs.device.Device.{Reader, Writer}
 use Rattle.sat_base.specs.steps.Steps.{Step, End}
 use Rattle.sat_base.specs.steps.StepText.{SpellsSteps}
 use Rattle.sat_checker.specs.Accepts.{AcceptsAll, ready_after}
-use Rattle.sat_checker.specs.CheckerView.{Seen, has_failed, Stops, BreaksAt}
-use Rattle.sat_checker.specs.ProofView.{Went, most_bytes, taken_after, AnswersProof}
+use Rattle.sat_checker.specs.CheckerView.{Seen, has_failed, FailsBeforeStep, BreaksAt}
+use Rattle.sat_checker.specs.ProofView.{ReadsProofPart, most_bytes, taken_after, AnswersProof}
 use Rattle.sat_checker.specs.announcements.Announcements.{Told}
 use Rattle.sat_checker.specs.announcements.Transcripts.{Transcribed}
 use Rattle.sat_checker.specs.telling.Hearing.{Hearers, HearsFirst}
@@ -47,10 +47,10 @@ module _ {W P T : Type 0} (seen : W → Writer) (Takes : P → Told → Result U
   abbrev Checker : Type 0
   Checker = Seen (Hearers (LineWriter W) (Processing P T))
 
-  gave_of : {old new : Checker} {from to : Reader} {passed last : List Step} {rest : List ℕ} → Went old new from to [] passed last rest → AcceptsAll (taken_after passed []) → Gave from to passed last rest
+  gave_of : {old new : Checker} {from to : Reader} {passed last : List Step} {rest : List ℕ} → ReadsProofPart old new from to [] passed last rest → AcceptsAll (taken_after passed []) → Gave from to passed last rest
   gave_of w a = record { steps = w.steps; unended = w.unended; accepted = a }
 
-  stopped : (new : Checker) (steps : List Step) → Stops Hears [] begun new steps → SentFront (outlet seen begun.own) (outlet seen new.listeners.own) (hint_text steps)
+  stopped : (new : Checker) (steps : List Step) → FailsBeforeStep Hears [] begun new steps → SentFront (outlet seen begun.own) (outlet seen new.listeners.own) (hint_text steps)
   stopped new steps s = elim s.heard [
     | inl h ↦ front_told (outlet seen begun.own) (outlet seen new.listeners.own) steps (since_sent seen Takes Reads _ begun new.listeners well h)
     | inr h ↦ front_all (outlet seen begun.own) (outlet seen new.listeners.own) steps (since_sent seen Takes Reads _ begun new.listeners well h)

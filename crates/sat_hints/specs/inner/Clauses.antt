@@ -53,7 +53,7 @@ pub record FindsOne (p : Present) (id place : ℕ) : Type 0 where
   pub clause : clause_in p id ≡ Some (clause_at p place)
 
 -- one more clause, with an id above all others
-pub record Adds (old new : Present) (id : ℕ) (clause : List ℕ) : Type 0 where
+pub record AddsPresentClause (old new : Present) (id : ℕ) (clause : List ℕ) : Type 0 where
   pub store : IsStore new
   pub below : (k : ℕ) → id < k → AllBelow new.ids.items k
   pub clauses : (j : ℕ) → clause_in new j ≡ (if j == id then Some clause else clause_in old j)
@@ -68,7 +68,7 @@ pub record Loses (old new : Present) (id : ℕ) : Type 0 where
   pub times : (c : List ℕ) → clause_in old id ≡ Some c → (l : ℕ) → times_at new l + times_long l c ≡ times_at old l
 
 -- the same clauses
-pub record Keeps (old new : Present) : Type 0 where
+pub record SamePresentClauses (old new : Present) : Type 0 where
   pub store : IsStore new
   pub below : (k : ℕ) → AllBelow old.ids.items k → AllBelow new.ids.items k
   pub clauses : (j : ℕ) → clause_in new j ≡ clause_in old j

@@ -29,10 +29,10 @@ abbrev pub signed : Bool → List ℕ → List ℕ
 signed negate ls = map (negated_if negate) ls
 
 -- just these are assumed
-abbrev pub Assumes : List ℕ → List ℕ → Type 0
-Assumes ls assumed = (l : ℕ) → is_among assumed l ≡ is_among ls l
+abbrev pub AreJustAssumed : List ℕ → List ℕ → Type 0
+AreJustAssumed ls assumed = (l : ℕ) → is_among assumed l ≡ is_among ls l
 
 -- why literals, or their negations, and clauses don't run into a conflict, if they don't
-abbrev pub Runs : List ℕ → List (List ℕ) → Option HintWhy → Type 0
-Runs assumed clauses why =
+abbrev pub WhyNoConflict : List ℕ → List (List ℕ) → Option HintWhy → Type 0
+WhyNoConflict assumed clauses why =
     ((is_tautology assumed ≡ true) × (why ≡ None)) ⊎ ((is_tautology assumed ≡ false) × (why ≡ course assumed clauses))

@@ -1,8 +1,8 @@
 -- What may still come of a line whose front was read.
 use Rattle.std.specs.Prelude.{ℕ, ◌-◌, ◌^◌, ◌==◌, ◌≡◌, Option, None, Some, List, ◌∷◌, ◌++◌, decimal, codes, if◌then◌else◌}
 use Rattle.sat_base.specs.values.Literals.{largest}
-use Rattle.sat_hints.specs.Lines.{Line, AreIds, id_words, Spells}
-use Rattle.sat_hints.specs.inner.LineReading.{IsNumber, IsOne, IsBoth, digits_so_far}
+use Rattle.sat_hints.specs.Lines.{Line, AreIds, id_words, SpellsLine}
+use Rattle.sat_hints.specs.inner.LineReading.{IsNumberUpTo, IsOne, IsBoth, digits_so_far}
 use Rattle.sat_hints.specs.declared.fronts.Part.{Part}
 use Rattle.sat_hints.specs.declared.fronts.Part.TheVariants.{InputId, DerivedId, GoneId, FreshVar, Clause, Lists, Ids, End}
 use Rattle.sat_hints.specs.declared.fronts.Place.{Place}
@@ -34,33 +34,33 @@ next_of End = End
 pub record Numbered (limit : ℕ) (Rest : List ℕ → Type 0) (number : ℕ) (bytes : List ℕ) : Type 0 where
   pub value : ℕ
   pub rest : List ℕ
-  pub within : IsNumber limit value
+  pub within : IsNumberUpTo limit value
   pub whole : digits_so_far number ++ bytes ≡ decimal value ++ (32 ∷ rest)
   pub behind : Rest rest
 
 -- the bytes are this part of a line
-abbrev pub IsPart : Part → List ℕ → Type 0
-IsPart InputId bytes = Numbered (2 ^ 64 - 1) (λ rest. (ls : List ℕ) × IsOne rest ls) 0 bytes
-IsPart DerivedId bytes = Numbered (2 ^ 64 - 1) (λ rest. (ls : List ℕ) × (ids : List ℕ) × IsBoth rest ls ids) 0 bytes
-IsPart GoneId bytes = Numbered (2 ^ 64 - 1) (λ rest. rest ≡ codes "0\n") 0 bytes
-IsPart FreshVar bytes = Numbered largest (λ rest. rest ≡ codes "0\n") 0 bytes
-IsPart Clause bytes = (ls : List ℕ) × IsOne bytes ls
-IsPart Lists bytes = (ls : List ℕ) × (ids : List ℕ) × IsBoth bytes ls ids
-IsPart Ids bytes = (ids : List ℕ) × AreIds ids × (bytes ≡ id_words ids ++ codes "0\n")
-IsPart End bytes = bytes ≡ codes "0\n"
+abbrev pub IsPartOfLine : Part → List ℕ → Type 0
+IsPartOfLine InputId bytes = Numbered (2 ^ 64 - 1) (λ rest. (ls : List ℕ) × IsOne rest ls) 0 bytes
+IsPartOfLine DerivedId bytes = Numbered (2 ^ 64 - 1) (λ rest. (ls : List ℕ) × (ids : List ℕ) × IsBoth rest ls ids) 0 bytes
+IsPartOfLine GoneId bytes = Numbered (2 ^ 64 - 1) (λ rest. rest ≡ codes "0\n") 0 bytes
+IsPartOfLine FreshVar bytes = Numbered largest (λ rest. rest ≡ codes "0\n") 0 bytes
+IsPartOfLine Clause bytes = (ls : List ℕ) × IsOne bytes ls
+IsPartOfLine Lists bytes = (ls : List ℕ) × (ids : List ℕ) × IsBoth bytes ls ids
+IsPartOfLine Ids bytes = (ids : List ℕ) × AreIds ids × (bytes ≡ id_words ids ++ codes "0\n")
+IsPartOfLine End bytes = bytes ≡ codes "0\n"
 
 -- the bytes are what comes of a line from this place on
-abbrev pub IsLeft : Place → List ℕ → Type 0
-IsLeft Letter bytes = (line : Line) × Spells bytes line
-IsLeft (Space part) bytes = (rest : List ℕ) × (bytes ≡ 32 ∷ rest) × IsPart part rest
-IsLeft (Item part) bytes = IsPart part bytes
-IsLeft (Digits part number) bytes = Numbered (limit_of part) (IsPart (next_of part)) number bytes
-IsLeft Over bytes = bytes ≡ codes "\n"
+abbrev pub IsRestOfLine : Place → List ℕ → Type 0
+IsRestOfLine Letter bytes = (line : Line) × SpellsLine bytes line
+IsRestOfLine (Space part) bytes = (rest : List ℕ) × (bytes ≡ 32 ∷ rest) × IsPartOfLine part rest
+IsRestOfLine (Item part) bytes = IsPartOfLine part bytes
+IsRestOfLine (Digits part number) bytes = Numbered (limit_of part) (IsPartOfLine (next_of part)) number bytes
+IsRestOfLine Over bytes = bytes ≡ codes "\n"
 
 -- there is such a place, and the bytes are what comes of a line from it on
 abbrev pub IsLeftIf : Option Place → List ℕ → Type 0
 IsLeftIf None bytes = ⊥
-IsLeftIf (Some place) bytes = IsLeft place bytes
+IsLeftIf (Some place) bytes = IsRestOfLine place bytes
 
 -- the place behind a line's letter
 abbrev pub letter_place : ℕ → Option Place
@@ -90,5 +90,5 @@ sign_place Ids = None
 sign_place End = None
 
 -- bytes lead from one place to another; to none where no line goes on with them
-abbrev pub Leads : Place → List ℕ → Option Place → Type 0
-Leads from bytes to = (more : List ℕ) → IsLeft from (bytes ++ more) → IsLeftIf to more
+abbrev pub LeadsToPlace : Place → List ℕ → Option Place → Type 0
+LeadsToPlace from bytes to = (more : List ℕ) → IsRestOfLine from (bytes ++ more) → IsLeftIf to more

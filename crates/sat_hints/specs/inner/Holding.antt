@@ -1,12 +1,12 @@
 -- How far a hint text was read, and what its lines say so far.
 use Rattle.std.specs.Prelude.{ℕ, ◌≡◌, ◌+◌, Option, None, Some, Result, Ok, Err, List, [], ◌∷◌, ◌++◌}
 use Rattle.sat_base.specs.text.Tokenizing.{held}
-use Rattle.sat_hints.specs.Lines.{Line, AreLines, text_of, Spells, HasNoEnd}
-use Rattle.sat_hints.specs.Hints.{IsHintDerivation, Follows}
+use Rattle.sat_hints.specs.Lines.{Line, AreLines, text_of, SpellsLine, HasNoEnd}
+use Rattle.sat_hints.specs.Hints.{IsHintDerivation, FollowsLines}
 use Rattle.sat_hints.specs.Checks.{IsAtFault, Judges}
-use Rattle.sat_hints.specs.inner.Fronts.{Leads}
+use Rattle.sat_hints.specs.inner.Fronts.{LeadsToPlace}
 use Rattle.sat_hints.specs.declared.fronts.Place.TheVariants.{Letter}
-use Rattle.sat_hints.specs.inner.Judging.{HasTaken, IsReady}
+use Rattle.sat_hints.specs.inner.Judging.{HasTakenLines, IsReadyJudge}
 use Rattle.sat_hints.specs.declared.answer.HintWhy.{HintWhy}
 use Rattle.sat_hints.specs.declared.answer.HintVerdict.{HintVerdict}
 use Rattle.sat_hints.specs.declared.answer.HintVerdict.TheVariants.{Bad}
@@ -21,19 +21,19 @@ pub record IsWholeLine (bytes : List ℕ) : Type 0 where
   pub ended : bytes ≡ front ++ (10 ∷ [])
 
 -- What an answer to a line's bytes means, where the judge was behind these lines.
-abbrev pub TakesBytes : Option HintWhy → Judge → Judge → List Line → List ℕ → Type 0
-TakesBytes None old new lines bytes = (line : Line) × Spells bytes line × Follows lines line × HasTaken new (line ∷ lines)
-TakesBytes (Some why) old new lines bytes = IsAtFault lines bytes why × (new.lines ≡ old.lines)
+abbrev pub JudgesLineBytes : Option HintWhy → Judge → Judge → List Line → List ℕ → Type 0
+JudgesLineBytes None old new lines bytes = (line : Line) × SpellsLine bytes line × FollowsLines lines line × HasTakenLines new (line ∷ lines)
+JudgesLineBytes (Some why) old new lines bytes = IsAtFault lines bytes why × (new.lines ≡ old.lines)
 
 -- The text so far: lines that are a derivation, and the front of one more, up to the place where it ends.
 pub record HasRead (c : Checking) (text : List ℕ) : Type 0 where
   pub lines : List Line
   pub whole : text ≡ text_of lines ++ c.held.items
   pub inside : HasNoEnd c.held.items
-  pub fits : Leads Letter c.held.items (Some c.place)
+  pub fits : LeadsToPlace Letter c.held.items (Some c.place)
   pub are : AreLines lines
   pub derivation : IsHintDerivation lines
-  pub taken : HasTaken c.judge lines
+  pub taken : HasTakenLines c.judge lines
 
 -- A line at fault is in the text, and whatever comes the verdict is this one.
 pub record HasFault (c : Checking) (text : List ℕ) (why : HintWhy) : Type 0 where
@@ -42,25 +42,25 @@ pub record HasFault (c : Checking) (text : List ℕ) (why : HintWhy) : Type 0 wh
   pub bad : (rest : List ℕ) → Judges (Bad (held (count + 1)) why) (text ++ rest)
 
 -- it goes on behind a text, or has met a fault
-abbrev pub GoesOn : Option HintWhy → Checking → List ℕ → Type 0
-GoesOn None c text = HasRead c text
-GoesOn (Some why) c text = HasFault c text why
+abbrev pub HasReadOrFault : Option HintWhy → Checking → List ℕ → Type 0
+HasReadOrFault None c text = HasRead c text
+HasReadOrFault (Some why) c text = HasFault c text why
 
 -- the judge can go on, unless there is a fault
 abbrev pub IsReadyIf : Option HintWhy → Judge → Type 0
-IsReadyIf None judge = IsReady judge
+IsReadyIf None judge = IsReadyJudge judge
 IsReadyIf (Some why) judge = Unit {0}
 
 -- what was read leads from one state to another
-abbrev pub Reads : Option HintWhy → Checking → List ℕ → Checking → Type 0
-Reads why old bytes new = (text : List ℕ) → HasRead old text → GoesOn why new (text ++ bytes)
+abbrev pub ReadsFurther : Option HintWhy → Checking → List ℕ → Checking → Type 0
+ReadsFurther why old bytes new = (text : List ℕ) → HasRead old text → HasReadOrFault why new (text ++ bytes)
 
 -- the next bytes of a text were taken, or decide the verdict
 abbrev pub TakesPiece : Option HintVerdict → Checking → List ℕ → Checking → Type 0
-TakesPiece None old bytes new = IsReady new.judge × ((text : List ℕ) → HasRead old text → HasRead new (text ++ bytes))
+TakesPiece None old bytes new = IsReadyJudge new.judge × ((text : List ℕ) → HasRead old text → HasRead new (text ++ bytes))
 TakesPiece (Some verdict) old bytes new = (text : List ℕ) → HasRead old text → (rest : List ℕ) → Judges verdict ((text ++ bytes) ++ rest)
 
 -- a verdict is right about a text; a fault says nothing of it
-abbrev pub Says : Result HintVerdict HintFault → List ℕ → Type 0
-Says (Ok verdict) text = Judges verdict text
-Says (Err fault) text = Unit {0}
+abbrev pub IsRightIfVerdict : Result HintVerdict HintFault → List ℕ → Type 0
+IsRightIfVerdict (Ok verdict) text = Judges verdict text
+IsRightIfVerdict (Err fault) text = Unit {0}

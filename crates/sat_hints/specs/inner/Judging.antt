@@ -3,25 +3,25 @@ use Rattle.std.specs.Prelude.{ℕ, ◌≡◌, ◌⊎◌, ◌+◌, Option, None, 
 use Rattle.sat_base.specs.text.Tokenizing.{held}
 use Rattle.sat_checker.specs.LiteralSets.{canonical}
 use Rattle.sat_hints.specs.Lines.{Line}
-use Rattle.sat_hints.specs.Hints.{clause_under, least_id, derives_empty, count_of_cores, Follows}
+use Rattle.sat_hints.specs.Hints.{clause_under, least_id, derives_empty, count_of_cores, FollowsLines}
 use Rattle.sat_hints.specs.Checks.{IsFaultOf}
 use Rattle.sat_hints.specs.inner.Clauses.{AllBelow}
-use Rattle.sat_hints.specs.inner.Standing.{clause_of, clauses_of, Gains, IsStanding, SinceWithin}
-use Rattle.sat_hints.specs.inner.Course.{Runs}
+use Rattle.sat_hints.specs.inner.Standing.{clause_of, clauses_of, AddsStandingClause, StandingInvariant, SinceWithin}
+use Rattle.sat_hints.specs.inner.Course.{WhyNoConflict}
 use Rattle.sat_hints.specs.declared.answer.HintWhy.{HintWhy}
 use Rattle.sat_hints.specs.declared.answer.HintWhy.TheVariants.{UnknownId}
 use Rattle.sat_hints.specs.declared.standing.Standing.{Standing}
 use Rattle.sat_hints.specs.declared.judging.Judge.{Judge}
 
 -- it can go on
-pub record IsReady (j : Judge) : Type 0 where
-  pub standing : IsStanding j.standing
+pub record IsReadyJudge (j : Judge) : Type 0 where
+  pub standing : StandingInvariant j.standing
   pub below : AllBelow j.standing.present.ids.items j.least_id
   pub since : SinceWithin j.standing j.least_id
   pub nothing : j.assumed ≡ []
 
 -- it has taken these lines
-pub record HasTaken (j : Judge) (lines : List Line) : Type 0 where
+pub record HasTakenLines (j : Judge) (lines : List Line) : Type 0 where
   pub clauses : (id : ℕ) → clause_of j.standing id ≡ clause_under id lines
   pub least : j.least_id ≡ least_id lines
   pub says_empty : j.empty ≡ derives_empty lines
@@ -38,13 +38,13 @@ pub record IsSame (old new : Judge) : Type 0 where
   pub lines : new.lines ≡ old.lines
 
 -- why assumed literals and the clauses under these ids don't run into a conflict, if they don't
-abbrev pub Refutes : Standing → List ℕ → List ℕ → Option HintWhy → Type 0
-Refutes s assumed ids why =
-    ((clauses_of s ids ≡ None) × (why ≡ Some UnknownId)) ⊎ ((clauses : List (List ℕ)) × (clauses_of s ids ≡ Some clauses) × Runs assumed clauses why)
+abbrev pub WhyNotRefuted : Standing → List ℕ → List ℕ → Option HintWhy → Type 0
+WhyNotRefuted s assumed ids why =
+    ((clauses_of s ids ≡ None) × (why ≡ Some UnknownId)) ⊎ ((clauses : List (List ℕ)) × (clauses_of s ids ≡ Some clauses) × WhyNoConflict assumed clauses why)
 
 -- a clause is stored under an id
 pub record StoresClause (old new : Judge) (id : ℕ) (clause : List ℕ) : Type 0 where
-  pub adds : Gains old.standing new.standing id (canonical clause)
+  pub adds : AddsStandingClause old.standing new.standing id (canonical clause)
   pub nothing : new.assumed ≡ []
   pub least : new.least_id ≡ id + 1
   pub empty : new.empty ≡ old.empty
@@ -53,7 +53,7 @@ pub record StoresClause (old new : Judge) (id : ℕ) (clause : List ℕ) : Type 
 
 -- the line was taken, but not numbered
 pub record HasTakenOne (old new : Judge) (lines : List Line) (line : Line) : Type 0 where
-  pub follows : Follows lines line
+  pub follows : FollowsLines lines line
   pub clauses : (id : ℕ) → clause_of new.standing id ≡ clause_under id (line ∷ lines)
   pub least : new.least_id ≡ least_id (line ∷ lines)
   pub says_empty : new.empty ≡ derives_empty (line ∷ lines)
@@ -61,14 +61,14 @@ pub record HasTakenOne (old new : Judge) (lines : List Line) (line : Line) : Typ
 
 -- one line was taken, but not numbered, or is at fault for this reason
 abbrev pub TakesOne : Option HintWhy → Judge → Judge → Line → Type 0
-TakesOne None old new line = IsReady new × (new.lines ≡ old.lines) × ((lines : List Line) → HasTaken old lines → HasTakenOne old new lines line)
-TakesOne (Some why) old new line = (new.lines ≡ old.lines) × ((lines : List Line) → HasTaken old lines → IsFaultOf lines line why)
+TakesOne None old new line = IsReadyJudge new × (new.lines ≡ old.lines) × ((lines : List Line) → HasTakenLines old lines → HasTakenOne old new lines line)
+TakesOne (Some why) old new line = (new.lines ≡ old.lines) × ((lines : List Line) → HasTakenLines old lines → IsFaultOf lines line why)
 
 -- What an answer to a line means, where it was behind these: none is that it follows them.
 abbrev pub TakesLine : Option HintWhy → Judge → Judge → List Line → Line → Type 0
-TakesLine None old new lines line = Follows lines line × HasTaken new (line ∷ lines)
+TakesLine None old new lines line = FollowsLines lines line × HasTakenLines new (line ∷ lines)
 TakesLine (Some why) old new lines line = IsFaultOf lines line why × (new.lines ≡ old.lines)
 
 -- whatever lines it was behind
 abbrev pub TakesNext : Option HintWhy → Judge → Judge → Line → Type 0
-TakesNext why old new line = (lines : List Line) → HasTaken old lines → TakesLine why old new lines line
+TakesNext why old new line = (lines : List Line) → HasTakenLines old lines → TakesLine why old new lines line

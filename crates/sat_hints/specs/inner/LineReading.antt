@@ -2,27 +2,27 @@
 use Rattle.std.specs.Prelude.{ℕ, zero, suc, ◌*◌, ◌-◌, ◌^◌, ◌<◌, ◌≤◌, ◌≡◌, List, [], ◌∷◌, ◌++◌, decimal, codes}
 use Rattle.std.specs.List.{AllByRecursion}
 use Rattle.sat_base.specs.values.Literals.{largest}
-use Rattle.sat_hints.specs.Lines.{Line, Input, Derived, Gone, Core, Fresh, AreIds, AreLiterals, words, id_words, literal_words, Spells}
+use Rattle.sat_hints.specs.Lines.{Line, Input, Derived, Gone, Core, Fresh, AreIds, AreLiteralCodes, words, id_words, literal_words, SpellsLine}
 use Rattle.sat_hints.specs.declared.line.HintLine.{HintLine}
 use Rattle.sat_hints.specs.declared.line.HintLine.TheVariants as code
 use Rattle.sat_hints.specs.declared.reading.Head.{Head}
 use Rattle.sat_hints.specs.declared.reading.Head.TheVariants as head
 
 -- numbers are counted from 1 up to a limit
-abbrev pub IsNumber : ℕ → ℕ → Type 0
-IsNumber limit n = (1 ≤ n) × (n ≤ limit)
+abbrev pub IsNumberUpTo : ℕ → ℕ → Type 0
+IsNumberUpTo limit n = (1 ≤ n) × (n ≤ limit)
 
 -- an id is below 2^64-1, so that its number is below 2^64
 abbrev pub IsId : ℕ → Type 0
 IsId id = id < 2 ^ 64 - 1
 
 -- a variable is its index, which is below the limit
-abbrev pub IsVariable : ℕ → Type 0
-IsVariable v = v < largest
+abbrev pub IsVariableIndex : ℕ → Type 0
+IsVariableIndex v = v < largest
 
 -- a literal is its code, and its variable is within the limit
-abbrev pub IsLiteral : ℕ → Type 0
-IsLiteral l = l < 2 * largest
+abbrev pub IsLiteralCode : ℕ → Type 0
+IsLiteralCode l = l < 2 * largest
 
 -- the digits of a number that has begun; 0 where none has been read
 abbrev pub digits_so_far : ℕ → List ℕ
@@ -31,7 +31,7 @@ digits_so_far (suc n) = decimal (suc n)
 
 -- no number goes on with this byte
 abbrev pub NoDigit : ℕ → ℕ → ℕ → Type 0
-NoDigit limit number byte = (n : ℕ) (more : List ℕ) → IsNumber limit n → decimal n ≡ digits_so_far number ++ (byte ∷ more) → ⊥
+NoDigit limit number byte = (n : ℕ) (more : List ℕ) → IsNumberUpTo limit n → decimal n ≡ digits_so_far number ++ (byte ∷ more) → ⊥
 
 -- the bytes begin with no word and a space
 abbrev pub NoWord : (ℕ → List ℕ) → (ℕ → Type 0) → List ℕ → Type 0
@@ -49,11 +49,11 @@ pub record BeginsWithWords (word : ℕ → List ℕ) (P : ℕ → Type 0) (bytes
 
 -- `LITS 0` and LF
 abbrev pub IsOne : List ℕ → List ℕ → Type 0
-IsOne bytes ls = AreLiterals ls × (bytes ≡ literal_words ls ++ codes "0\n")
+IsOne bytes ls = AreLiteralCodes ls × (bytes ≡ literal_words ls ++ codes "0\n")
 
 -- `LITS 0 IDS 0` and LF
 abbrev pub IsBoth : List ℕ → List ℕ → List ℕ → Type 0
-IsBoth bytes ls ids = AreLiterals ls × AreIds ids × (bytes ≡ literal_words ls ++ (codes "0 " ++ (id_words ids ++ codes "0\n")))
+IsBoth bytes ls ids = AreLiteralCodes ls × AreIds ids × (bytes ≡ literal_words ls ++ (codes "0 " ++ (id_words ids ++ codes "0\n")))
 
 -- a line without where its lists lie in memory
 abbrev pub line_of : HintLine → Line
@@ -73,4 +73,4 @@ line_with (head.Fresh var) ls ids = Fresh var
 
 -- the bytes are no line
 abbrev pub IsNoLine : List ℕ → Type 0
-IsNoLine bytes = (line : Line) → Spells bytes line → ⊥
+IsNoLine bytes = (line : Line) → SpellsLine bytes line → ⊥

@@ -29,5 +29,5 @@ abbrev pub both_words : List ℕ → List ℕ → List ℕ
 both_words literals ids = literal_words literals ++ (codes "0 " ++ (id_words ids ++ codes "0\n"))
 
 -- a text was put behind what waited, unless a write had failed before
-abbrev pub Put : List ℕ → Outlet → Outlet → Type 0
-Put text old new = PutFrom old.failed text old new
+abbrev pub PutsText : List ℕ → Outlet → Outlet → Type 0
+PutsText text old new = PutFrom old.failed text old new

@@ -2,11 +2,11 @@
 use Rattle.std.specs.Prelude.{ℕ, ◌≡◌, ◌⊎◌, false, List, [], ◌∷◌, ◌++◌, Result, Ok, Err}
 use Rattle.sat_base.specs.device.Device.{Reader, ReadFails}
 use Rattle.sat_base.specs.device.Sink.{Sent, Broken}
-use Rattle.sat_base.specs.steps.Formats.{Live}
+use Rattle.sat_base.specs.steps.Formats.{IsProperFront}
 use Rattle.sat_base.specs.steps.Steps.{Step, End}
 use Rattle.sat_base.specs.steps.StepText.{SpellsStep}
 use Rattle.sat_checker.specs.Accepts.{Accepts, ready_after}
-use Rattle.sat_checker.specs.ProofView.{taken_after, NoneFailed}
+use Rattle.sat_checker.specs.ProofView.{taken_after, NoReadFailed}
 use Rattle.sat_checker.specs.declared.error.CheckerError.{CheckerError}
 use Rattle.sat_checker.specs.declared.error.CheckerError.TheVariants as errors
 use Rattle.sat_hints.specs.Conversion.{hint_text, hint_verdict}
@@ -49,11 +49,11 @@ WritesLines (Ok x) from to old new = (passed : List Step) × (rest : List ℕ) �
     × Judges (hint_verdict (End ∷ taken_after passed [])) (hint_text (End ∷ taken_after passed []))
     × SentAll old new (hint_text (End ∷ taken_after passed []))
 WritesLines (Err HasDeleteVar) from to old new = ⊥
-WritesLines (Err (Refused e)) from to old new = (passed : List Step) × NoneFailed from to × RefusesBy e from to passed
+WritesLines (Err (Refused e)) from to old new = (passed : List Step) × NoReadFailed from to × RefusesBy e from to passed
     × SentFront old new (hint_text (taken_after passed []))
-WritesLines (Err Read) from to old new = (passed : List Step) × (rest : List ℕ) × ReadFails from to × Gave from to passed [] rest × Live SpellsStep rest
+WritesLines (Err Read) from to old new = (passed : List Step) × (rest : List ℕ) × ReadFails from to × Gave from to passed [] rest × IsProperFront SpellsStep rest
     × SentFront old new (hint_text (taken_after passed []))
-WritesLines (Err Write) from to old new = (passed : List Step) × (step : Step) × (rest : List ℕ) × NoneFailed from to × Gave from to passed (step ∷ []) rest
+WritesLines (Err Write) from to old new = (passed : List Step) × (step : Step) × (rest : List ℕ) × NoReadFailed from to × Gave from to passed (step ∷ []) rest
     × BrokenBehind old new step (taken_after passed [])
-WritesLines (Err OutOfMemory) from to old new = (passed : List Step) × (rest : List ℕ) × NoneFailed from to × GaveUpTo from to passed rest
+WritesLines (Err OutOfMemory) from to old new = (passed : List Step) × (rest : List ℕ) × NoReadFailed from to × GaveUpTo from to passed rest
     × SentFront old new (hint_text (taken_after passed []))

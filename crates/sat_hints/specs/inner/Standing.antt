@@ -35,7 +35,7 @@ abbrev pub SinceWithin : Standing → ℕ → Type 0
 SinceWithin s bound = (v : ℕ) → value_at 0 s.since v ≤ bound
 
 -- once counting has begun, the counts are those of the clauses of two literals or more
-pub record IsStanding (s : Standing) : Type 0 where
+pub record StandingInvariant (s : Standing) : Type 0 where
   pub store : IsStore s.present
   pub counted : (l : ℕ) → uses_at s.uses l ≡ if_counting s.uses.counting (times_at s.present l)
 
@@ -47,22 +47,22 @@ pub record FindsOne (s : Standing) (id place : ℕ) : Type 0 where
   pub clause : clause_of s id ≡ Some (clause_at s.present place)
 
 -- one more clause
-pub record Gains (old new : Standing) (id : ℕ) (clause : List ℕ) : Type 0 where
-  pub standing : IsStanding new
+pub record AddsStandingClause (old new : Standing) (id : ℕ) (clause : List ℕ) : Type 0 where
+  pub standing : StandingInvariant new
   pub below : (k : ℕ) → id < k → AllBelow new.present.ids.items k
   pub since : new.since ≡ old.since
   pub clauses : (j : ℕ) → clause_of new j ≡ (if j == id then Some clause else clause_of old j)
 
 -- one less
 pub record Drops (old new : Standing) (id : ℕ) : Type 0 where
-  pub standing : IsStanding new
+  pub standing : StandingInvariant new
   pub below : (k : ℕ) → AllBelow old.present.ids.items k → AllBelow new.present.ids.items k
   pub since : new.since ≡ old.since
   pub clauses : (j : ℕ) → clause_of new j ≡ (if j == id then None else clause_of old j)
 
 -- the same clauses
-pub record Keeps (old new : Standing) : Type 0 where
-  pub standing : IsStanding new
+pub record StandingUnchanged (old new : Standing) : Type 0 where
+  pub standing : StandingInvariant new
   pub present : new.present ≡ old.present
   pub since : new.since ≡ old.since
 
@@ -75,13 +75,13 @@ pub record IsUsed (s : Standing) (v : ℕ) : Type 0 where
   pub within : mentions clause v ≡ true
 
 -- a variable becomes new, and its units are forgotten
-pub record Forgets (old new : Standing) (v bound : ℕ) : Type 0 where
-  pub standing : IsStanding new
+pub record RenewsVariable (old new : Standing) (v bound : ℕ) : Type 0 where
+  pub standing : StandingInvariant new
   pub present : new.present ≡ old.present
   pub since : SinceWithin new bound
   pub clauses : (j : ℕ) → clause_of new j ≡ unless_unit_over v (clause_of old j)
 
 -- the clauses under these ids are those at these places
-pub record Finds (s : Standing) (ids places : List ℕ) : Type 0 where
+pub record FindsPlaces (s : Standing) (ids places : List ℕ) : Type 0 where
   pub within : AllByRecursion (λ place. place < length s.present.clauses) places
   pub clauses : clauses_of s ids ≡ Some (map (clause_at s.present) places)

@@ -6,7 +6,7 @@ use Rattle.sat_checker.specs.announcements.Announcements.{Told}
 use Rattle.sat_hints.specs.Lines.{Line, line_text}
 use Rattle.sat_hints.specs.Conversion.{line_told}
 use Rattle.sat_hints.specs.declared.line_writer.LineWriter.{LineWriter}
-use Rattle.sat_hints.specs.inner.LineWriting.{outlet, Put}
+use Rattle.sat_hints.specs.inner.LineWriting.{outlet, PutsText}
 
 -- a line's text, where there is one
 abbrev pub text_if : Option Line → List ℕ
@@ -25,5 +25,5 @@ AnswersIf true (Err e) = Unit {0}
 
 -- the line was put, or a write has failed
 pub record TakesTold {W : Type 0} (seen : W → Writer) (old : LineWriter W) (t : Told) (result : Result (Unit {0}) Error) (new : LineWriter W) : Type 0 where
-  pub puts : Put (told_text t) (outlet seen old) (outlet seen new)
+  pub puts : PutsText (told_text t) (outlet seen old) (outlet seen new)
   pub answers : AnswersIf new.failed result

@@ -55,8 +55,8 @@ abbrev pub StaysBelow : List ℕ → ℕ → Scale → Type 0
 StaysBelow words o s = raised words o s.bump < 2 ^ 30
 
 -- a bump of the clause at o comes to 2^30 or past it
-abbrev pub ComesTo : List ℕ → ℕ → Scale → Type 0
-ComesTo words o s = 2 ^ 30 ≤ raised words o s.bump
+abbrev pub ReachesRescale : List ℕ → ℕ → Scale → Type 0
+ReachesRescale words o s = 2 ^ 30 ≤ raised words o s.bump
 
 -- the headers where the clause at o was bumped, and then all on a smaller scale
 abbrev pub bumped_shifted : List ℕ → (o bump : ℕ) → ℕ → Header
@@ -76,7 +76,7 @@ BumpsBelow words words' refs o s s' = StaysBelow words o s → BumpsOne words wo
 
 -- a bump that comes to 2^30 puts all activities on a smaller scale
 abbrev pub BumpsPast : (words words' refs : List ℕ) (o : ℕ) (s s' : Scale) → Type 0
-BumpsPast words words' refs o s s' = ComesTo words o s → BumpsAll words words' refs o s s'
+BumpsPast words words' refs o s s' = ReachesRescale words o s → BumpsAll words words' refs o s s'
 
 -- the scale after a decay
 abbrev pub later_scale : Scale → Scale

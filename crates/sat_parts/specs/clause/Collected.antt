@@ -2,7 +2,7 @@
 use Rattle.std.specs.Prelude.{ℕ, ◌≡◌, ◌≢◌, ◌+◌, ◌<◌, ◌≤◌, ◌⊎◌, List, [], ◌∷◌, ◌++◌, length, drop, take, slice_index_or as get_or}
 use Rattle.std.specs.List.{Contains, sum_by}
 use Rattle.sat_base.specs.values.Literals.{variable}
-use Rattle.sat_store.specs.clause.Buffer.{Laid, Adds, header_at, lits_at}
+use Rattle.sat_store.specs.clause.Buffer.{Laid, AppendsClause, header_at, lits_at}
 use Rattle.sat_parts.specs.declared.prop.graph.ImplNode.{ImplNode}
 use Rattle.sat_parts.specs.declared.prop.graph.Reason.{Reason}
 use Rattle.sat_parts.specs.declared.prop.graph.Reason.TheVariants.{Unit as NoCause, Binary, Long}
@@ -32,7 +32,7 @@ pub record Copying (words refs words' refs' : List ℕ) (i : ℕ) : Type 0 where
 
 -- a copy of the clause at o came to stand behind the words and the list
 abbrev pub CopiesOne : (words : List ℕ) (o : ℕ) (to refs to' refs' : List ℕ) → Type 0
-CopiesOne words o to refs to' refs' = (c : ℕ) × ((Adds to to' c (header_at words o) (lits_at words o)) × (refs' ≡ refs ++ c ∷ []))
+CopiesOne words o to refs to' refs' = (c : ℕ) × ((AppendsClause to to' c (header_at words o) (lits_at words o)) × (refs' ≡ refs ++ c ∷ []))
 
 -- a reason once the clauses of a list are those of another
 abbrev pub FollowsClause : (live refs' : List ℕ) → Reason → Reason → Type 0
@@ -86,5 +86,5 @@ abbrev pub after_collection : List ℕ → Db → Db
 after_collection refs' db = record { refs = refs'; counts = db.counts; garbage = 0 }
 
 -- a buffer, its list, nodes and watch lists stay as they were
-abbrev pub AllStay : (words : List ℕ) (db : Db) (nodes : List ImplNode) (w : Watching) (words' : List ℕ) (db' : Db) (nodes' : List ImplNode) (w' : Watching) → Type 0
-AllStay words db nodes w words' db' nodes' w' = (words' ≡ words) × (db' ≡ db) × (nodes' ≡ nodes) × (w' ≡ w)
+abbrev pub CollectsNothing : (words : List ℕ) (db : Db) (nodes : List ImplNode) (w : Watching) (words' : List ℕ) (db' : Db) (nodes' : List ImplNode) (w' : Watching) → Type 0
+CollectsNothing words db nodes w words' db' nodes' w' = (words' ≡ words) × (db' ≡ db) × (nodes' ≡ nodes) × (w' ≡ w)

@@ -1,7 +1,7 @@
 -- The list of long clauses.
 use Rattle.std.specs.Prelude.{ℕ, ◌≡◌, ◌≢◌, ◌+◌, ◌-◌, ◌^◌, ◌<◌, ◌≤◌, ◌==◌, min, true, Bool, not, ◌&&◌, List, [], ◌∷◌, ◌++◌, length, slice_index_or as get_or, slice_set as set, take, Option, if◌then◌else◌, count_by}
 use Rattle.std.specs.List.{Contains, filter, sum_by}
-use Rattle.sat_store.specs.clause.Buffer.{IsClause, Laid, Keeps, Adds, header_at, lits_at}
+use Rattle.sat_store.specs.clause.Buffer.{IsClause, Laid, SameClauseAt, AppendsClause, header_at, lits_at}
 use Rattle.sat_store.specs.clause.Header.{Header, index_of}
 use Rattle.sat_store.specs.declared.clause.tier.Tier.{Tier}
 use Rattle.sat_base.specs.values.Literals.{variable}
@@ -33,8 +33,8 @@ abbrev pub is_live_of : List ℕ → Tier → ℕ → Bool
 is_live_of words tier o = is_live words o && (index_of (header_at words o).tier == index_of tier)
 
 -- a clause stands at each of these places
-abbrev pub AreThere : List ℕ → List ℕ → Type 0
-AreThere words refs = (o : ℕ) → Contains refs o → IsClause words o
+abbrev pub AreClausePlaces : List ℕ → List ℕ → Type 0
+AreClausePlaces words refs = (o : ℕ) → Contains refs o → IsClause words o
 
 -- the words that a deleted clause takes
 abbrev pub garbage_of : List ℕ → ℕ → ℕ
@@ -68,8 +68,8 @@ abbrev pub without : ℕ → List ℕ → List ℕ
 without o refs = filter (λ p. not (p == o)) refs
 
 -- a clause of this header, but for its length, and of these literals came to stand behind all others
-pub record AddsClause (words : List ℕ) (db : Db) (words' : List ℕ) (db' : Db) (o : ℕ) (header : Header) (lits : List ℕ) : Type 0 where
-  pub added : Adds words words' o header lits
+pub record AddsLongClause (words : List ℕ) (db : Db) (words' : List ℕ) (db' : Db) (o : ℕ) (header : Header) (lits : List ℕ) : Type 0 where
+  pub added : AppendsClause words words' o header lits
   pub holds : HoldsDb words' db'
   pub refs : db'.refs ≡ db.refs ++ o ∷ []
   pub live : live_refs words' db'.refs ≡ live_refs words db.refs ++ o ∷ []
@@ -80,7 +80,7 @@ pub record PutsHeader (words words' refs : List ℕ) (o : ℕ) (header : Header)
   pub laid : Laid words' refs
   pub header_there : header_at words' o ≡ header
   pub lits_there : lits_at words' o ≡ lits_at words o
-  pub others : (p : ℕ) → Contains refs p → p ≢ o → Keeps words words' p
+  pub others : (p : ℕ) → Contains refs p → p ≢ o → SameClauseAt words words' p
 
 -- the clause at o isn't live any more, and no other clause changed
 pub record DeletesClause (words : List ℕ) (db : Db) (words' : List ℕ) (db' : Db) (o : ℕ) : Type 0 where
@@ -101,10 +101,10 @@ pub record ShortensClause (words : List ℕ) (db : Db) (words' : List ℕ) (o le
   pub size : length words' ≡ length words
   pub header_there : header_at words' o ≡ record (header_at words o) { len = len }
   pub lits_there : lits_at words' o ≡ take len (lits_at words o)
-  pub others : (p : ℕ) → Contains db.refs p → p ≢ o → Keeps words words' p
+  pub others : (p : ℕ) → Contains db.refs p → p ≢ o → SameClauseAt words words' p
   pub holds : HoldsDb words' db
   pub live : live_refs words' db.refs ≡ live_refs words db.refs
 
 -- the clause at o has a true first literal, of which it is the reason
-abbrev pub IsAsserting : (words : List ℕ) (values : List (Option Bool)) (nodes : List ImplNode) (o : ℕ) → Type 0
-IsAsserting words values nodes o = IsTrueLit values (get_or (lits_at words o) 0 0) × ((node_of nodes (variable (get_or (lits_at words o) 0 0))).reason ≡ Long o)
+abbrev pub IsLockedClause : (words : List ℕ) (values : List (Option Bool)) (nodes : List ImplNode) (o : ℕ) → Type 0
+IsLockedClause words values nodes o = IsTrueLit values (get_or (lits_at words o) 0 0) × ((node_of nodes (variable (get_or (lits_at words o) 0 0))).reason ≡ Long o)

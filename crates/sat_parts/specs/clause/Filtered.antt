@@ -4,22 +4,22 @@ use Rattle.std.specs.Borrow.{Bor}
 use Rattle.std.specs.Fn.{Called, Mut, Takes}
 use Rattle.std.specs.List.{Contains, items_where_true}
 use Rattle.std.specs.List.Retain.{ReturnsInTurn}
-use Rattle.sat_store.specs.clause.Buffer.{Keeps}
+use Rattle.sat_store.specs.clause.Buffer.{SameClauseAt}
 use Rattle.sat_parts.specs.clause.Db.{is_live, live_refs}
 
 -- the test may be called at each of these clauses, shown with the header and the literals that it has in these words
 abbrev pub TakesEach : {F : Type 0} → Mut F (Bor (List ℕ) × (ℕ × Unit {0})) Bool → (words live : List ℕ) → Type 0
-TakesEach {F} g words live = (f : F) (shown : Bor (List ℕ)) (o : ℕ) → Contains live o → Keeps words shown.now o → Takes g f (shown, (o, tt))
+TakesEach {F} g words live = (f : F) (shown : Bor (List ℕ)) (o : ℕ) → Contains live o → SameClauseAt words shown.now o → Takes g f (shown, (o, tt))
 
 -- a call of the test at the clause at o, shown with the header and the literals that it has in these words, may answer r
 pub record AnswersAt {F : Type 0} (g : Mut F (Bor (List ℕ) × (ℕ × Unit {0})) Bool) (words : List ℕ) (f : F) (o : ℕ) (r : Bool) (f' : F) : Type 0 where
   pub shown : Bor (List ℕ)
-  pub same : Keeps words shown.now o
+  pub same : SameClauseAt words shown.now o
   pub called : Called g f (shown, (o, tt)) r f'
 
 -- each of these clauses has the header and the literals that it had
-abbrev pub AreKept : (old new live : List ℕ) → Type 0
-AreKept old new live = (o : ℕ) → Contains live o → Keeps old new o
+abbrev pub SameClausesAt : (old new live : List ℕ) → Type 0
+SameClausesAt old new live = (o : ℕ) → Contains live o → SameClauseAt old new o
 
 -- in the middle of the pass: the test R, which was f, has been asked for the live ones of the first clauses of the list, and those
 -- for which it answered false are deleted. The others are as they were
@@ -28,5 +28,5 @@ pub record Filtering {F : Type 0} (R : F → ℕ → Bool → F → Type 0) (f :
   pub size : length answers ≡ length (live_refs old (take at refs))
   pub asked : ReturnsInTurn R f answers (live_refs old (take at refs)) f'
   pub live : live_refs new (take at refs) ≡ items_where_true answers (live_refs old (take at refs))
-  pub front : (k : ℕ) → k < at → k < length refs → is_live new (get_or refs k 0) ≡ true → Keeps old new (get_or refs k 0)
-  pub rest : (k : ℕ) → at ≤ k → k < length refs → Keeps old new (get_or refs k 0)
+  pub front : (k : ℕ) → k < at → k < length refs → is_live new (get_or refs k 0) ≡ true → SameClauseAt old new (get_or refs k 0)
+  pub rest : (k : ℕ) → at ≤ k → k < length refs → SameClauseAt old new (get_or refs k 0)

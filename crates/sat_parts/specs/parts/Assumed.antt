@@ -18,8 +18,8 @@ abbrev pub variables : List ℕ → List ℕ
 variables ls = map (λ l. variable l) ls
 
 -- the variables of the literals are there
-abbrev pub AreThere : List ℕ → Parts → Type 0
-AreThere ls p = VariablesBelow ls (length p.assignment.current)
+abbrev pub HaveVariablesIn : List ℕ → Parts → Type 0
+HaveVariablesIn ls p = VariablesBelow ls (length p.assignment.current)
 
 -- how far these assumptions were looked at: on each level that one of them began, and on level 0, those in front of its place are
 -- true at that level or below it. Levels that something else began come only once all were looked at

@@ -25,8 +25,8 @@ use Rattle.sat_store.specs.clause.Header.{Header, no_header, is_learned}
 use Rattle.sat_store.specs.heap.Vsids.{may_pick, with_available}
 use Rattle.sat_parts.specs.declared.prop.graph.Reason.{Reason}
 use Rattle.sat_parts.specs.clause.Collected.{Copies}
-use Rattle.sat_parts.specs.clause.Db.{live_refs, AddsClause, DeletesClause, ShortensClause}
-use Rattle.sat_parts.specs.clause.Orders.{Kept}
+use Rattle.sat_parts.specs.clause.Db.{live_refs, AddsLongClause, DeletesClause, ShortensClause}
+use Rattle.sat_parts.specs.clause.Orders.{SameUpToOrder}
 use Rattle.sat_parts.specs.prop.Graphs.{is_unit}
 use Rattle.sat_parts.specs.prop.Binaries.{with_binary, with_literals, RemovesAssigned}
 use Rattle.sat_parts.specs.prop.Values.{IsTrueLit, value_of, assigned}
@@ -48,7 +48,7 @@ abbrev pub IsUnitLit : State → ℕ → Type 0
 IsUnitLit s l = IsRemoved s l ⊎ IsBare s l
 
 -- no unit is new, and literals of level 0 stay so
-pub record Carries (s s' : State) : Type 0 where
+pub record AddsNoUnit (s s' : State) : Type 0 where
   pub size : length s'.values ≡ length s.values
   pub units : (l : ℕ) → IsUnitLit s' l → IsUnitLit s l
   pub bottom : (l : ℕ) → IsTrueLit s.values l → level s l ≡ 0 → IsTrueLit s'.values l × (level s' l ≡ 0)
@@ -66,7 +66,7 @@ SameClauses p p' = (p'.clauses ≡ p.clauses) × (p'.db ≡ p.db) × (p'.binary 
 -- the clauses are the same but for the order of their literals
 pub record Reordered (p p' : Parts) : Type 0 where
   pub live : live_refs p'.clauses p'.db.refs ≡ live_refs p.clauses p.db.refs
-  pub kept : Kept p.clauses p'.clauses (live_refs p.clauses p.db.refs)
+  pub kept : SameUpToOrder p.clauses p'.clauses (live_refs p.clauses p.db.refs)
   pub binary : p'.binary ≡ p.binary
 
 -- how a clause came in: as a unit, a clause of two literals, or a long one; its first literal is enqueued
@@ -74,7 +74,7 @@ pub data Learnt (p p' : Parts) (header : Header) (ls : List ℕ) : Type 0 where
   learnt_unit : length ls ≡ 1 → SameClauses p p' → (r : Reason) → is_unit r ≡ true → state p' ≡ enqueued (get_or ls 0 0) r (state p) → Learnt p p' header ls
   learnt_binary : length ls ≡ 2 → p'.clauses ≡ p.clauses → p'.db ≡ p.db → p'.binary ≡ with_binary (get_or ls 0 0) (get_or ls 1 0) p.binary →
       (r : Reason) → is_unit r ≡ false → state p' ≡ enqueued (get_or ls 0 0) r (state p) → Learnt p p' header ls
-  learnt_long : 3 ≤ length ls → (o : ℕ) → AddsClause p.clauses p.db p'.clauses p'.db o header ls → p'.binary ≡ p.binary →
+  learnt_long : 3 ≤ length ls → (o : ℕ) → AddsLongClause p.clauses p.db p'.clauses p'.db o header ls → p'.binary ≡ p.binary →
       (r : Reason) → is_unit r ≡ false → state p' ≡ enqueued (get_or ls 0 0) r (state p) → Learnt p p' header ls
 
 -- what is true at a level up to this one stays so at that level, and the literals with which these levels begin stay there
@@ -96,7 +96,7 @@ SameQueues p p' = (p'.vsids ≡ p.vsids) × (p'.trail ≡ p.trail)
 
 -- no clause and no unit is new, and literals of level 0 stay so
 abbrev pub AddsNothing : Parts → Parts → Type 0
-AddsNothing p p' = SameClauses p p' × Carries (state p) (state p')
+AddsNothing p p' = SameClauses p p' × AddsNoUnit (state p) (state p')
 
 -- what is true stays so, each at its level
 abbrev pub KeepsLevels : Parts → Parts → Type 0
@@ -145,7 +145,7 @@ pub record Copied (p p' : Parts) : Type 0 where
   pub values : p'.assignment ≡ p.assignment
   pub trail : p'.trail ≡ p.trail
   pub queue : p'.vsids ≡ p.vsids
-  pub carries : Carries (state p) (state p')
+  pub carries : AddsNoUnit (state p) (state p')
   pub keeps : KeepsLevels p p'
 
 -- the clauses of two literals of which a variable has a value are gone
@@ -185,6 +185,6 @@ pub record GainsUnit (l : ℕ) (s s' : State) : Type 0 where
   pub holds : IsTrueLit s'.values l × (level s' l ≡ 0)
 
 -- how a clause that is not a learned one came in, of two literals or a long one; no unit is new
-pub data Stores (p p' : Parts) (ls : List ℕ) : Type 0 where
-  stores_binary : length ls ≡ 2 → p'.clauses ≡ p.clauses → p'.db ≡ p.db → p'.binary ≡ with_binary (get_or ls 0 0) (get_or ls 1 0) p.binary → Carries (state p) (state p') → Stores p p' ls
-  stores_long : 3 ≤ length ls → (o : ℕ) → AddsClause p.clauses p.db p'.clauses p'.db o no_header ls → p'.binary ≡ p.binary → Carries (state p) (state p') → Stores p p' ls
+pub data AddsOriginalClause (p p' : Parts) (ls : List ℕ) : Type 0 where
+  stores_binary : length ls ≡ 2 → p'.clauses ≡ p.clauses → p'.db ≡ p.db → p'.binary ≡ with_binary (get_or ls 0 0) (get_or ls 1 0) p.binary → AddsNoUnit (state p) (state p') → AddsOriginalClause p p' ls
+  stores_long : 3 ≤ length ls → (o : ℕ) → AddsLongClause p.clauses p.db p'.clauses p'.db o no_header ls → p'.binary ≡ p.binary → AddsNoUnit (state p) (state p') → AddsOriginalClause p p' ls

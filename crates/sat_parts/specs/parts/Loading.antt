@@ -5,11 +5,11 @@ use Rattle.sat_parts.specs.declared.parts.Parts.{Parts}
 use Rattle.sat_parts.specs.declared.parts.load.Loaded.{Loaded}
 use Rattle.sat_parts.specs.declared.parts.load.Loaded.TheVariants.{Stored, Unit as One, Satisfied, Falsified}
 use Rattle.sat_parts.specs.parts.Whole.{state}
-use Rattle.sat_parts.specs.parts.Frame.{Carries, SameClauses, GainsUnit, Stores}
+use Rattle.sat_parts.specs.parts.Frame.{AddsNoUnit, SameClauses, GainsUnit, AddsOriginalClause}
 
 -- what became of the parts and of a clause of these literals
 abbrev pub LoadSays : Loaded → Parts → Parts → List ℕ → Type 0
-LoadSays Stored p p' ls = Stores p p' ls
+LoadSays Stored p p' ls = AddsOriginalClause p p' ls
 LoadSays One p p' ls = (length ls ≡ 1) × IsOpenLit p.assignment.current (get_or ls 0 0) × SameClauses p p' × GainsUnit (get_or ls 0 0) (state p) (state p')
-LoadSays Satisfied p p' ls = SameClauses p p' × Carries (state p) (state p') × ((k : ℕ) × ((k < length ls) × IsTrueLit p.assignment.current (get_or ls k 0)))
-LoadSays Falsified p p' ls = (length ls ≤ 1) × ((k : ℕ) → k < length ls → IsFalseLit p.assignment.current (get_or ls k 0)) × SameClauses p p' × Carries (state p) (state p')
+LoadSays Satisfied p p' ls = SameClauses p p' × AddsNoUnit (state p) (state p') × ((k : ℕ) × ((k < length ls) × IsTrueLit p.assignment.current (get_or ls k 0)))
+LoadSays Falsified p p' ls = (length ls ≤ 1) × ((k : ℕ) → k < length ls → IsFalseLit p.assignment.current (get_or ls k 0)) × SameClauses p p' × AddsNoUnit (state p) (state p')

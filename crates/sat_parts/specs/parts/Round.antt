@@ -31,8 +31,8 @@ abbrev pub KeepsPicks : (values : List (Option Bool)) (q q' : Queue) (v : ℕ) �
 KeepsPicks values q q' v = (u : ℕ) → u ≢ v → value_of values u ≡ None → may_pick q u ≡ true → may_pick q' u ≡ true
 
 -- the literals of level 0 that stand on the trail have no clause as their reason
-abbrev pub AreUnits : State → Type 0
-AreUnits s = (i : ℕ) → i < length s.trail.lits → level s (lit_at s i) ≡ 0 → (node s (lit_at s i)).reason ≡ NoCause
+abbrev pub UnitsAreUncaused : State → Type 0
+UnitsAreUncaused s = (i : ℕ) → i < length s.trail.lits → level s (lit_at s i) ≡ 0 → (node s (lit_at s i)).reason ≡ NoCause
 
 -- what holds of all parts, where what propagation asks is said of the literals of levels below the top
 pub record IsSoundBelow (words : List ℕ) (db : Db) (w : Watching) (b : Binaries) (a : Values) (g : List ImplNode) (t : Trailed) (q : Queue) (top : ℕ) : Type 0 where
@@ -49,7 +49,7 @@ pub record IsBased (t : Trailed) : Type 0 where
   pub bottom : length t.starts ≡ 0 → t.head ≡ 0
 
 -- what holds between rounds
-pub record IsSound (words : List ℕ) (db : Db) (w : Watching) (b : Binaries) (a : Values) (g : List ImplNode) (t : Trailed) (q : Queue) : Type 0 where
+pub record RoundInvariant (words : List ℕ) (db : Db) (w : Watching) (b : Binaries) (a : Values) (g : List ImplNode) (t : Trailed) (q : Queue) : Type 0 where
   pub below : IsSoundBelow words db w b a g t q (length t.starts + 1)
-  pub units : AreUnits (state_of a g t)
+  pub units : UnitsAreUncaused (state_of a g t)
   pub base : IsBased t

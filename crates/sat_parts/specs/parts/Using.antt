@@ -6,7 +6,7 @@ use Rattle.sat_parts.specs.clause.Stored.{lit_of, size_of}
 use Rattle.sat_parts.specs.prop.Binaries.{implied_by}
 
 -- those that P says were marked as well, and no others
-pub record Marks (old new : List Bool) (P : ℕ → Type 0) : Type 0 where
+pub record MarksJustWhere (old new : List Bool) (P : ℕ → Type 0) : Type 0 where
   pub size : length new ≡ length old
   pub kept : (v : ℕ) → get_or old v false ≡ true → get_or new v false ≡ true
   pub all : (v : ℕ) → P v → get_or new v false ≡ true

@@ -7,7 +7,7 @@ use Rattle.sat_store.specs.heap.Vsids.{Queue}
 use Rattle.sat_parts.specs.prop.State.{State}
 use Rattle.sat_parts.specs.prop.Ready.{state_of}
 use Rattle.sat_parts.specs.declared.parts.Parts.{Parts}
-use Rattle.sat_parts.specs.parts.Round.{IsUnused, AreUnits, IsBased, KeepsPicks, IsSoundBelow, IsSound}
+use Rattle.sat_parts.specs.parts.Round.{IsUnused, UnitsAreUncaused, IsBased, KeepsPicks, IsSoundBelow, RoundInvariant}
 use Rattle.sat_parts.specs.declared.prop.graph.Conflict.{Conflict}
 use Rattle.sat_parts.specs.clause.Db.{live_refs}
 use Rattle.sat_parts.specs.prop.Values.{value_of, IsTrueLit}
@@ -31,11 +31,11 @@ InNoClause p v = IsUnused p.clauses (live_refs p.clauses p.db.refs) p.binary.imp
 
 -- between rounds
 abbrev pub PartsInvariant : Parts → Type 0
-PartsInvariant p = IsSound p.clauses p.db p.watchlists p.binary p.assignment p.graph p.trail p.vsids
+PartsInvariant p = RoundInvariant p.clauses p.db p.watchlists p.binary p.assignment p.graph p.trail p.vsids
 
 -- the same with another queue of variables
 abbrev pub PartsInvariantWith : Queue → Parts → Type 0
-PartsInvariantWith q p = IsSound p.clauses p.db p.watchlists p.binary p.assignment p.graph p.trail q
+PartsInvariantWith q p = RoundInvariant p.clauses p.db p.watchlists p.binary p.assignment p.graph p.trail q
 
 -- the same but for a variable without a value, which was picked
 pub record IsPicked (p : Parts) (v : ℕ) : Type 0 where
@@ -63,7 +63,7 @@ abbrev pub IsRefuted : Parts → Conflict → Type 0
 IsRefuted p e =
     HoldsBelow (length p.trail.starts) p
     × IsConflict p.clauses (live_refs p.clauses p.db.refs) p.binary.implied p.assignment.current e
-    × (0 < length p.trail.starts → AreUnits (state p) × IsBased p.trail)
+    × (0 < length p.trail.starts → UnitsAreUncaused (state p) × IsBased p.trail)
 
 -- each live clause has a true literal, and each literal that is implied by a true one is true
 pub record IsModelled (p : Parts) : Type 0 where

@@ -7,7 +7,7 @@ use Rattle.sat_parts.specs.clause.Orders.{AreDistinct}
 use Rattle.sat_parts.specs.prop.Values.{value_of}
 use Rattle.sat_parts.specs.prop.Trails.{Trailed}
 use Rattle.sat_parts.specs.prop.State.{State, IsRemoved}
-use Rattle.sat_parts.specs.prop.TrailWord.{Letter, P, letters, IsBelow}
+use Rattle.sat_parts.specs.prop.TrailWord.{Letter, P, letters, IsLowerWord}
 use Rattle.sat_parts.specs.declared.parts.Parts.{Parts}
 use Rattle.sat_parts.specs.parts.Whole.{state}
 
@@ -16,8 +16,8 @@ abbrev pub Begins : List Letter → List Letter → Type 0
 Begins u v = (w : List Letter) × (v ≡ u ++ w)
 
 -- the letters of the literals that stand on the trail
-abbrev pub standing : Trailed → List Letter
-standing t = letters t.starts t.lits 0
+abbrev pub trail_letters : Trailed → List Letter
+trail_letters t = letters t.starts t.lits 0
 
 -- the variable has no value, isn't to be picked, and isn't assumed
 abbrev pub IsIdle : List ℕ → State → Queue → ℕ → Type 0
@@ -32,7 +32,7 @@ abbrev pub IsGone : List ℕ → State → Queue → ℕ → Type 0
 IsGone assumed s q v = (v < length s.values) × (((l : ℕ) × ((variable l ≡ v) × IsRemoved s l)) ⊎ IsIdle assumed s q v)
 
 -- what is gone stays so, and so does what is idle, and the variables are as many
-pub record GoesOn (assumed : List ℕ) (s : State) (q : Queue) (s' : State) (q' : Queue) : Type 0 where
+pub record GoneAndIdleStay (assumed : List ℕ) (s : State) (q : Queue) (s' : State) (q' : Queue) : Type 0 where
   pub size : length s'.values ≡ length s.values
   pub gone : (v : ℕ) → IsGone assumed s q v → IsGone assumed s' q' v
   pub idle : (v : ℕ) → IsIdle assumed s q v → IsIdle assumed s' q' v
@@ -43,17 +43,17 @@ pub record IsWord (assumed : List ℕ) (s : State) (q : Queue) (w : List Letter)
   pub gone : List ℕ
   pub distinct : AreDistinct gone
   pub each : (k : ℕ) → k < length gone → IsGone assumed s q (get_or gone k 0)
-  pub is : w ≡ replicate (length gone) P ++ standing s.trail
+  pub is : w ≡ replicate (length gone) P ++ trail_letters s.trail
 
 -- each word goes on to one that it begins
 abbrev pub WordExtends : (assumed : List ℕ) (s : State) (q : Queue) (s' : State) (q' : Queue) → Type 0
 WordExtends assumed s q s' q' =
-    GoesOn assumed s q s' q' × ((w : List Letter) → IsWord assumed s q w → (v : List Letter) × (IsWord assumed s' q' v × Begins w v))
+    GoneAndIdleStay assumed s q s' q' × ((w : List Letter) → IsWord assumed s q w → (v : List Letter) × (IsWord assumed s' q' v × Begins w v))
 
 -- each word goes on to a higher one
 abbrev pub WordRises : (assumed : List ℕ) (s : State) (q : Queue) (s' : State) (q' : Queue) → Type 0
 WordRises assumed s q s' q' =
-    GoesOn assumed s q s' q' × ((w : List Letter) → IsWord assumed s q w → (v : List Letter) × (IsWord assumed s' q' v × IsBelow w v))
+    GoneAndIdleStay assumed s q s' q' × ((w : List Letter) → IsWord assumed s q w → (v : List Letter) × (IsWord assumed s' q' v × IsLowerWord w v))
 
 -- the same of parts
 abbrev pub Words : List ℕ → Parts → List Letter → Type 0
@@ -65,7 +65,7 @@ TrailWordExtendsFor assumed p p' = WordExtends assumed (state p) p.vsids (state 
 
 -- whatever is assumed, what is gone or idle stays so
 abbrev pub TrailWordStays : Parts → Parts → Type 0
-TrailWordStays p p' = (assumed : List ℕ) → GoesOn assumed (state p) p.vsids (state p') p'.vsids
+TrailWordStays p p' = (assumed : List ℕ) → GoneAndIdleStay assumed (state p) p.vsids (state p') p'.vsids
 
 -- whatever is assumed, each word of the trail goes on to one that it begins
 abbrev pub TrailWordExtends : Parts → Parts → Type 0

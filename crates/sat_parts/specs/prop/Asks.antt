@@ -12,8 +12,8 @@ use Rattle.sat_parts.specs.prop.WatchLists.{Watching}
 use Rattle.sat_parts.specs.prop.Binaries.{implied_by}
 use Rattle.sat_parts.specs.prop.Values.{IsTrueLit}
 use Rattle.sat_parts.specs.prop.State.{State, level, current_level, HasLeft, Agrees, IsQueueCurrent, IsSatisfied}
-use Rattle.sat_parts.specs.prop.Reasons.{HaveFirsts, Moves}
-use Rattle.sat_parts.specs.prop.Ready.{AreWatched, AreSettled, AreImplied, AreLists, IsComplete, IsConflict}
+use Rattle.sat_parts.specs.prop.Reasons.{HaveFirsts, PropagatesOn}
+use Rattle.sat_parts.specs.prop.Ready.{AreWatched, AreSettled, AreImplied, AreLists, IsUnitFixpoint, IsConflict}
 
 -- the clauses of the list have words of their own, and the live ones are clauses over the variables; watch lists that are kept
 -- up watch them by their first two literals; values, nodes and trail agree; literals in the queue are of the current level;
@@ -68,8 +68,8 @@ AsksAll words refs w implied s = PropagationInvariant words refs w implied s (cu
 -- what propagation gives: the pieces in between, and either what it asked, with nothing in the queue and no clause left to do,
 -- or a falsified clause, and what it asks once the current level is undone
 pub record PropagationResult (refs : List ℕ) (implied : List (List ℕ)) (words : List ℕ) (s : State) (words' : List ℕ) (s' : State) (w : Watching) (r : Result (Unit {0}) Conflict) : Type 0 where
-  pub moves : Moves (live_refs words refs) implied words s words' s'
+  pub moves : PropagatesOn (live_refs words refs) implied words s words' s'
   pub live : live_refs words' refs ≡ live_refs words refs
   pub outcome : MatchResult r
-      (λ _. AsksAll words' refs w implied s' × (s'.trail.head ≡ length s'.trail.lits) × IsComplete words' (live_refs words' refs) implied s'.values)
+      (λ _. AsksAll words' refs w implied s' × (s'.trail.head ≡ length s'.trail.lits) × IsUnitFixpoint words' (live_refs words' refs) implied s'.values)
       (λ e. PropagationInvariant words' refs w implied s' (current_level s') × IsConflict words' (live_refs words' refs) implied s'.values e)

@@ -16,8 +16,8 @@ use Rattle.sat_parts.specs.prop.Asks.{PropagationInvariant, AsksForReason, AsksA
 
 -- where what propagation asks held for the literals of levels below a top, and this level is below it, it holds for all that is
 -- left: after a propagation that found nothing false, and after one that did once its level is undone
-abbrev pub KeepsAsked : (level : ℕ) (a : Values) (t : Trailed) (a' : Values) (t' : Trailed) → Type 0
-KeepsAsked level a t a' t' =
+abbrev pub KeepsAllAsked : (level : ℕ) (a : Values) (t : Trailed) (a' : Values) (t' : Trailed) → Type 0
+KeepsAllAsked level a t a' t' =
     (words refs : List ℕ) (w : Watching) (implied : List (List ℕ)) (nodes : List ImplNode) (top : ℕ) → level < top →
     PropagationInvariant words refs w implied (state_of a nodes t) top → AsksAll words refs w implied (state_of a' nodes t')
 

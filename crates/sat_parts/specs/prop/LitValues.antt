@@ -6,19 +6,19 @@ use Rattle.sat_parts.specs.declared.prop.lit_values.LitValue.{LitValue}
 use Rattle.sat_parts.specs.declared.prop.lit_values.LitValue.TheVariants.{Open, True, False}
 
 -- the literal of this sign, where its variable has this value or none
-abbrev pub told : Option Bool → Bool → LitValue
-told None positive = Open
-told (Some true) positive = if positive then True else False
-told (Some false) positive = if positive then False else True
+abbrev pub signed_value : Option Bool → Bool → LitValue
+signed_value None positive = Open
+signed_value (Some true) positive = if positive then True else False
+signed_value (Some false) positive = if positive then False else True
 
 -- of each literal stands there what its variable's value says
-pub record Agrees (values : List (Option Bool)) (codes : List LitValue) : Type 0 where
+pub record MirrorsValues (values : List (Option Bool)) (codes : List LitValue) : Type 0 where
   pub count : length codes ≡ 2 * length values
-  pub each : (l : ℕ) → l < 2 * length values → get_or codes l Open ≡ told (value_of values (variable l)) (is_positive l)
+  pub each : (l : ℕ) → l < 2 * length values → get_or codes l Open ≡ signed_value (value_of values (variable l)) (is_positive l)
 
 -- with both literals of a variable set
 abbrev pub with_value : ℕ → Option Bool → List LitValue → List LitValue
-with_value v value codes = set (set codes (2 * v) (told value true)) (2 * v + 1) (told value false)
+with_value v value codes = set (set codes (2 * v) (signed_value value true)) (2 * v + 1) (signed_value value false)
 
 -- so many literals, of which those that are new are open
 abbrev pub with_lit_count : ℕ → List LitValue → List LitValue

@@ -13,7 +13,7 @@ use Rattle.sat_parts.specs.prop.Trails.{Trailed}
 use Rattle.sat_parts.specs.prop.Binaries.{implied_by}
 use Rattle.sat_parts.specs.prop.WatchLists.{no_watch, watches_of}
 use Rattle.sat_parts.specs.prop.State.{State, level, current_level, HasLeft, Agrees, IsQueueCurrent, IsSatisfied}
-use Rattle.sat_parts.specs.prop.Reasons.{HaveFirsts, Moves}
+use Rattle.sat_parts.specs.prop.Reasons.{HaveFirsts, PropagatesOn}
 
 -- the state of these values, these nodes and this trail
 abbrev pub state_of : Values → List ImplNode → Trailed → State
@@ -72,8 +72,8 @@ pub record ReadyBelow (words live : List ℕ) (lists : List (List Watch)) (impli
   pub firsts : HaveFirsts words live s
 
 -- what propagation asks
-abbrev pub IsReady : (words live : List ℕ) (lists : List (List Watch)) (implied : List (List ℕ)) (s : State) → Type 0
-IsReady words live lists implied s = ReadyBelow words live lists implied s (current_level s + 1)
+abbrev pub IsReadyToPropagate : (words live : List ℕ) (lists : List (List Watch)) (implied : List (List ℕ)) (s : State) → Type 0
+IsReadyToPropagate words live lists implied s = ReadyBelow words live lists implied s (current_level s + 1)
 
 -- each of these literals is false
 abbrev pub IsFalsified : List (Option Bool) → List ℕ → Type 0
@@ -84,7 +84,7 @@ abbrev pub IsUnitAt : List (Option Bool) → List ℕ → ℕ → Type 0
 IsUnitAt values ls k = IsOpenLit values (get_or ls k 0) × ((j : ℕ) → j < length ls → j ≢ k → IsFalseLit values (get_or ls j 0))
 
 -- no clause is falsified, or unit with its literal open
-pub record IsComplete (words live : List ℕ) (implied : List (List ℕ)) (values : List (Option Bool)) : Type 0 where
+pub record IsUnitFixpoint (words live : List ℕ) (implied : List (List ℕ)) (values : List (Option Bool)) : Type 0 where
   pub not_falsified : (o : ℕ) → Contains live o → IsFalsified values (lits_at words o) → ⊥
   pub not_unit : (o k : ℕ) → Contains live o → k < size_of words o → IsUnitAt values (lits_at words o) k → ⊥
   pub binary : (l k : ℕ) → k < length (implied_by implied l) → IsTrueLit values l → IsTrueLit values (get_or (implied_by implied l) k 0)
@@ -100,7 +100,7 @@ IsConflict words live implied values (Long o) = Contains live o × IsFalsified v
 -- what propagation makes of a state that is ready for it: the pieces in between, and either a state that is ready again, with
 -- nothing in the queue and no clause left to do, or a falsified clause and a state that is ready once its level is undone
 pub record Propagated (live : List ℕ) (implied : List (List ℕ)) (words : List ℕ) (s : State) (words' : List ℕ) (s' : State) (lists : List (List Watch)) (r : Result (Unit {0}) Conflict) : Type 0 where
-  pub moves : Moves live implied words s words' s'
+  pub moves : PropagatesOn live implied words s words' s'
   pub outcome : MatchResult r
-      (λ _. IsReady words' live lists implied s' × (s'.trail.head ≡ length s'.trail.lits) × IsComplete words' live implied s'.values)
+      (λ _. IsReadyToPropagate words' live lists implied s' × (s'.trail.head ≡ length s'.trail.lits) × IsUnitFixpoint words' live implied s'.values)
       (λ e. ReadyBelow words' live lists implied s' (current_level s') × IsConflict words' live implied s'.values e)

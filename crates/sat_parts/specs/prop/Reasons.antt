@@ -33,14 +33,14 @@ abbrev pub HaveFirsts : (words live : List ℕ) (s : State) → Type 0
 HaveFirsts words live s = (i o : ℕ) → i < length s.trail.lits → (node s (lit_at s i)).reason ≡ Long o → Contains live o × (lit_of words o 0 ≡ lit_at s i)
 
 -- the literal at place i of the trail is true by a clause: its reason isn't that of a unit or decision
-abbrev pub IsCaused : State → ℕ → Type 0
-IsCaused s i = IsTrueLit s.values (lit_at s i) × (is_unit (node s (lit_at s i)).reason ≡ false)
+abbrev pub HasClauseReason : State → ℕ → Type 0
+HasClauseReason s i = IsTrueLit s.values (lit_at s i) × (is_unit (node s (lit_at s i)).reason ≡ false)
 
 -- a piece of propagation: each literal that became true has a clause as its reason, reasons are unit in turn, and clauses
 -- changed only in the order of their literals, none in its first literal where that was true
-pub record Moves (live : List ℕ) (implied : List (List ℕ)) (words : List ℕ) (s : State) (words' : List ℕ) (s' : State) : Type 0 where
+pub record PropagatesOn (live : List ℕ) (implied : List (List ℕ)) (words : List ℕ) (s : State) (words' : List ℕ) (s' : State) : Type 0 where
   pub grows : Grows s s'
   pub reorders : Reorders words words' live
   pub firsts : (o : ℕ) → Contains live o → IsTrueLit s.values (lit_of words o 0) → lit_of words' o 0 ≡ lit_of words o 0
-  pub caused : (i : ℕ) → length s.trail.lits ≤ i → i < length s'.trail.lits → IsCaused s' i
+  pub caused : (i : ℕ) → length s.trail.lits ≤ i → i < length s'.trail.lits → HasClauseReason s' i
   pub turns : (from : ℕ) → from ≤ length s.trail.lits → AreInTurn words live implied s from → AreInTurn words' live implied s' from

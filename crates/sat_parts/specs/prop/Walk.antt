@@ -13,7 +13,7 @@ use Rattle.sat_parts.specs.prop.Values.{Values, IsTrueLit, IsFalseLit, IsOpenLit
 use Rattle.sat_parts.specs.prop.Binaries.{implied_by}
 use Rattle.sat_parts.specs.prop.WatchLists.{Watching, no_watch, watch_on, watches_of, more_at}
 use Rattle.sat_parts.specs.prop.State.{State, level, current_level, HasLeft, Agrees, IsQueueCurrent, IsSatisfied}
-use Rattle.sat_parts.specs.prop.Reasons.{Moves}
+use Rattle.sat_parts.specs.prop.Reasons.{PropagatesOn}
 use Rattle.sat_parts.specs.prop.Ready.{IsGood, HasWatch, LongReady, IsFalsified, IsConflict}
 
 -- among the first kept watches or those from at on
@@ -87,7 +87,7 @@ due_after found s l = MatchOption found (Unit {0}) (λ _. level s l < current_le
 
 -- what a walk makes of words and state, and of the lists once the walked one is back
 pub record Walks (live : List ℕ) (words : List ℕ) (s : State) (words' : List ℕ) (s' : State) (lists : List (List Watch)) (found : Option ℕ) : Type 0 where
-  pub moves : (implied : List (List ℕ)) → Moves live implied words s words' s'
+  pub moves : (implied : List (List ℕ)) → PropagatesOn live implied words s words' s'
   pub head : s'.trail.head ≡ s.trail.head
   pub ready : LongReady words' live lists s' (due_after found s')
   pub conflict : MatchOption found (Unit {0}) (λ o. Contains live o × IsFalsified s'.values (lits_at words' o))
@@ -103,7 +103,7 @@ pub record BinaryWalk (implied : List (List ℕ)) (lit : ℕ) (s s' : State) (at
   pub queue : IsQueueCurrent s'
   pub left : HasLeft s' lit
   pub top : level s' lit ≡ current_level s'
-  pub moves : (words live : List ℕ) → Moves live implied words s words s'
+  pub moves : (words live : List ℕ) → PropagatesOn live implied words s words s'
   pub head : s'.trail.head ≡ s.trail.head
   pub done : (k : ℕ) → k < at → k < length (implied_by implied lit) →
       IsTrueLit s'.values (get_or (implied_by implied lit) k 0) × (level s' (get_or (implied_by implied lit) k 0) ≤ level s' lit)

@@ -33,12 +33,12 @@ abbrev pub without_last : ℕ → List (List Watch) → List (List Watch)
 without_last l lists = set lists l (take (length (watches_of lists l) - 1) (watches_of lists l))
 
 -- a clause watched by two of its literals, where the lists are kept up: each is the blocking literal of the other's watch
-abbrev pub with_clause : ℕ → ℕ → ℕ → Watching → Watching
-with_clause o a b w = if w.enabled then with_watch (negated b) (watch_on o a) (with_watch (negated a) (watch_on o b) w) else w
+abbrev pub with_clause_watches : ℕ → ℕ → ℕ → Watching → Watching
+with_clause_watches o a b w = if w.enabled then with_watch (negated b) (watch_on o a) (with_watch (negated a) (watch_on o b) w) else w
 
 -- the same for a clause of these literals, of which the first two are watched
 abbrev pub with_firsts : ℕ → List ℕ → Watching → Watching
-with_firsts o ls w = with_clause o (get_or ls 0 0) (get_or ls 1 0) w
+with_firsts o ls w = with_clause_watches o (get_or ls 0 0) (get_or ls 1 0) w
 
 -- the lists of so many literals
 abbrev pub with_lists : ℕ → Watching → Watching

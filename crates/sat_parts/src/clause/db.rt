@@ -2,10 +2,10 @@
 ghost use Rattle.std.specs.Prelude.{◌≡◌, ◌+◌, ◌-◌, ◌^◌, ◌<◌, ◌≤◌, ◌↔◌, ℕ, List, Err, [], false, true, length, min, slice_index, slice_index_or, IsTrue, IfOk, OnErr};
 ghost use Rattle.std.specs.List.{Contains};
 ghost use Rattle.sat_base.specs.values.Literals.{negated, variable};
-ghost use Rattle.sat_store.specs.clause.Buffer.{IsClause, Laid, Adds, header_at, lits_at};
+ghost use Rattle.sat_store.specs.clause.Buffer.{IsClause, Laid, AppendsClause, header_at, lits_at};
 ghost use Rattle.sat_store.specs.clause.Full.{OnFull};
 ghost use Rattle.sat_store.specs.clause.Header.{index_of};
-ghost use Rattle.sat_parts.specs.clause.Db.{no_clauses, HoldsDb, live_refs, one_more, one_less, PutsHeader, AddsClause, DeletesClause, MovesClause, ShortensClause, IsAsserting};
+ghost use Rattle.sat_parts.specs.clause.Db.{no_clauses, HoldsDb, live_refs, one_more, one_less, PutsHeader, AddsLongClause, DeletesClause, MovesClause, ShortensClause, IsLockedClause};
 ghost use Rattle.sat_parts.specs.clause.Stored.{lit_of};
 ghost use Rattle.sat_parts.specs.prop.WatchLists.{with_firsts};
 
@@ -132,7 +132,7 @@ fn store_clause(
     requires fits { length lits.now < 2 ^ 32 }
     requires first { negated (slice_index_or lits.now 0 0) < length watchlists.old.lists }
     requires second { negated (slice_index_or lits.now 1 0) < length watchlists.old.lists }
-    ensures added { IfOk result (λ cref. Adds clauses.old clauses.new cref header lits.now) }
+    ensures added { IfOk result (λ cref. AppendsClause clauses.old clauses.new cref header lits.now) }
     ensures watched { IfOk result (λ cref. watchlists.new ≡ with_firsts cref lits.now watchlists.old) }
     ensures full { OnFull result (2 ^ 32 - 1 < length clauses.old) }
     ensures kept { OnErr result (clauses.new ≡ clauses.old) }
@@ -163,7 +163,7 @@ pub fn add_clause(
     requires fits { length lits.now < 2 ^ 32 }
     requires first { negated (slice_index_or lits.now 0 0) < length watchlists.old.lists }
     requires second { negated (slice_index_or lits.now 1 0) < length watchlists.old.lists }
-    ensures added { IfOk result (λ cref. AddsClause clauses.old db.old clauses.new db.new cref header lits.now) }
+    ensures added { IfOk result (λ cref. AddsLongClause clauses.old db.old clauses.new db.new cref header lits.now) }
     ensures watched { IfOk result (λ cref. watchlists.new ≡ with_firsts cref lits.now watchlists.old) }
     ensures full { (result ≡ Err StoreError.StoreFull) ↔ (2 ^ 32 - 1 < length clauses.old) }
     ensures same_words { OnErr result (clauses.new ≡ clauses.old) }
@@ -228,7 +228,7 @@ fn is_asserting(
     requires some { 0 < length (lits_at clauses.now cref) }
     requires value { variable (lit_of clauses.now cref 0) < length assignment.now.current }
     requires node { variable (lit_of clauses.now cref 0) < length graph.now }
-    ensures { IsTrue result ↔ IsAsserting clauses.now assignment.now.current graph.now cref }
+    ensures { IsTrue result ↔ IsLockedClause clauses.now assignment.now.current graph.now cref }
 {
     let first = clauses.lit(cref, 0);
     if !assignment.lit_is_true(first) {
@@ -255,8 +255,8 @@ pub fn try_delete_clause(
     requires live { Contains (live_refs clauses.old db.old.refs) cref }
     requires value { variable (lit_of clauses.old cref 0) < length assignment.now.current }
     requires node { variable (lit_of clauses.old cref 0) < length graph.now }
-    ensures kept { result ≡ false → IsAsserting clauses.old assignment.now.current graph.now cref }
-    ensures free { result ≡ true → IsAsserting clauses.old assignment.now.current graph.now cref → ⊥ }
+    ensures kept { result ≡ false → IsLockedClause clauses.old assignment.now.current graph.now cref }
+    ensures free { result ≡ true → IsLockedClause clauses.old assignment.now.current graph.now cref → ⊥ }
     ensures deleted { result ≡ true → DeletesClause clauses.old db.old clauses.new db.new cref }
     ensures watches { result ≡ true → watchlists.new ≡ record watchlists.old { enabled = false } }
     ensures same { result ≡ false → (clauses.new ≡ clauses.old) × (db.new ≡ db.old) × (watchlists.new ≡ watchlists.old) }

@@ -4,7 +4,7 @@ ghost use Rattle.sat_base.specs.values.Literals.{variable};
 ghost use Rattle.sat_store.specs.clause.Buffer.{IsClause};
 ghost use Rattle.sat_store.specs.clause.Full.{OnFull};
 ghost use Rattle.sat_parts.specs.clause.Db.{HoldsDb, live_refs};
-ghost use Rattle.sat_parts.specs.clause.Collected.{CopiesOne, Copying, AreFirsts, FollowsAll, Collects, AllStay, after_collection};
+ghost use Rattle.sat_parts.specs.clause.Collected.{CopiesOne, Copying, AreFirsts, FollowsAll, Collects, CollectsNothing, after_collection};
 ghost use Rattle.sat_parts.specs.prop.Graphs.{HasReason, with_reason};
 
 use crate::clause::db::ClauseDb;
@@ -155,9 +155,9 @@ pub fn collect_garbage(
         OnOk result (Collects clauses.old db.old graph.old trail.now.lits clauses.new db.new graph.new) }
     ensures watches { length clauses.old / 2 < db.old.garbage → OnOk result (watchlists.new ≡ record watchlists.old { enabled = false }) }
     ensures not_due { db.old.garbage ≤ length clauses.old / 2 →
-        AllStay clauses.old db.old graph.old watchlists.old clauses.new db.new graph.new watchlists.new }
+        CollectsNothing clauses.old db.old graph.old watchlists.old clauses.new db.new graph.new watchlists.new }
     ensures room { OnFull result ⊥ }
-    ensures same { OnErr result (AllStay clauses.old db.old graph.old watchlists.old clauses.new db.new graph.new watchlists.new) }
+    ensures same { OnErr result (CollectsNothing clauses.old db.old graph.old watchlists.old clauses.new db.new graph.new watchlists.new) }
 {
     if db.garbage_size() <= clauses.buffer_size() / 2 {
         return Ok(());

@@ -5,8 +5,8 @@ ghost use Rattle.sat_parts.specs.prop.Values.{IsOpenLit};
 ghost use Rattle.sat_parts.specs.prop.State.{State};
 ghost use Rattle.sat_parts.specs.parts.Whole.{state, PartsInvariant, IsDone};
 ghost use Rattle.sat_parts.specs.parts.Words.{TrailWordStays, TrailWordExtendsFor};
-ghost use Rattle.sat_parts.specs.parts.Assumed.{AreThere, variables, ArePlaced, AssumedSays, AreCutTo, AreTrueFromTo, IsUntrueAt};
-ghost use Rattle.sat_parts.specs.parts.Frame.{Carries, SameClauses, AddsNothing, KeepsLevels, Deepens};
+ghost use Rattle.sat_parts.specs.parts.Assumed.{HaveVariablesIn, variables, ArePlaced, AssumedSays, AreCutTo, AreTrueFromTo, IsUntrueAt};
+ghost use Rattle.sat_parts.specs.parts.Frame.{AddsNoUnit, SameClauses, AddsNothing, KeepsLevels, Deepens};
 
 use crate::parts::Parts;
 use crate::parts::steps::{assume, undo};
@@ -80,7 +80,7 @@ impl Assumptions {
 
 /// Goes over assumptions that are true, and answers the first that isn't.
 fn next_untrue(parts: &Parts, assumptions: &mut Assumptions) -> Option<Lit>
-    requires there { AreThere assumptions.old.lits.items parts.now }
+    requires there { HaveVariablesIn assumptions.old.lits.items parts.now }
     requires within { assumptions.old.place ≤ length assumptions.old.lits.items }
     ensures lits { assumptions.new.lits ≡ assumptions.old.lits }
     ensures below { assumptions.new.below ≡ assumptions.old.below }
@@ -123,10 +123,13 @@ fn begin_level(parts: &mut Parts, assumptions: &mut Assumptions, lit: Lit) -> Re
 }
 
 /// Makes the first assumption true that isn't true yet, of those that weren't looked at.
-pub fn enqueue_assumption(parts: &mut Parts, assumptions: &mut Assumptions) -> Result<EnqueueAssumption, AllocError>
+pub fn enqueue_assumption(
+    parts: &mut Parts,
+    assumptions: &mut Assumptions,
+) -> Result<EnqueueAssumption, AllocError>
     requires holds { PartsInvariant parts.old }
     requires done { IsDone parts.old }
-    requires there { AreThere assumptions.old.lits.items parts.old }
+    requires there { HaveVariablesIn assumptions.old.lits.items parts.old }
     requires placed { ArePlaced assumptions.old (state parts.old) }
     ensures holds { OnOk result (PartsInvariant parts.new) }
     ensures lits { assumptions.new.lits ≡ assumptions.old.lits }
@@ -157,7 +160,7 @@ pub fn restart(parts: &mut Parts, assumptions: &Assumptions)
     ensures levels { length parts.new.trail.starts ≡ length assumptions.now.below.items }
     ensures placed { ArePlaced assumptions.now (state parts.new) }
     ensures same { SameClauses parts.old parts.new }
-    ensures carries { Carries (state parts.old) (state parts.new) }
+    ensures carries { AddsNoUnit (state parts.old) (state parts.new) }
     ensures stay { TrailWordStays parts.old parts.new }
 {
     let levels = assumptions.levels();

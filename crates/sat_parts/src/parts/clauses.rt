@@ -8,7 +8,7 @@ ghost use Rattle.sat_parts.specs.clause.Activity.{PutsHeaders, DecaysAll, later_
 ghost use Rattle.sat_parts.specs.clause.Reduced.{reduced};
 ghost use Rattle.sat_parts.specs.clause.Stored.{lit_of, size_of};
 ghost use Rattle.sat_parts.specs.prop.State.{HasLeft};
-ghost use Rattle.sat_parts.specs.clause.Db.{PutsHeader, MovesClause, IsAsserting};
+ghost use Rattle.sat_parts.specs.clause.Db.{PutsHeader, MovesClause, IsLockedClause};
 ghost use Rattle.sat_parts.specs.parts.Whole.{state, PartsInvariant, HasClause};
 ghost use Rattle.sat_parts.specs.parts.Words.{TrailWordExtends};
 ghost use Rattle.sat_parts.specs.parts.Frame.{Headed, Dropped, Copied, Swapped, Shortened, Removed, SameContents};
@@ -29,8 +29,8 @@ pub fn drop_clause(parts: &mut Parts, cref: ClauseRef) -> bool
     requires live { HasClause parts.old cref }
     ensures holds { PartsInvariant parts.new }
     ensures dropped { result ≡ true → Dropped parts.old parts.new cref }
-    ensures free { result ≡ true → IsAsserting parts.old.clauses parts.old.assignment.current parts.old.graph cref → ⊥ }
-    ensures kept { result ≡ false → IsAsserting parts.old.clauses parts.old.assignment.current parts.old.graph cref × (parts.new ≡ parts.old) }
+    ensures free { result ≡ true → IsLockedClause parts.old.clauses parts.old.assignment.current parts.old.graph cref → ⊥ }
+    ensures kept { result ≡ false → IsLockedClause parts.old.clauses parts.old.assignment.current parts.old.graph cref × (parts.new ≡ parts.old) }
     ensures others { (p : ℕ) → p ≢ cref → HasClause parts.old p → HasClause parts.new p }
     ensures word { TrailWordExtends parts.old parts.new }
 {

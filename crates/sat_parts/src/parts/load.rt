@@ -8,7 +8,7 @@ ghost use Rattle.sat_parts.specs.prop.State.{HasLeft, enqueued};
 ghost use Rattle.sat_parts.specs.prop.Values.{IsOpenLit, IsFalseLit, value_of};
 ghost use Rattle.sat_parts.specs.parts.Loadable.{IsLoadable, false_last, IsSorted};
 ghost use Rattle.sat_parts.specs.parts.Whole.{state, PartsInvariant};
-ghost use Rattle.sat_parts.specs.parts.Frame.{Carries, SameClauses, SameState, GainsUnit, Stores, SameQueues};
+ghost use Rattle.sat_parts.specs.parts.Frame.{AddsNoUnit, SameClauses, SameState, GainsUnit, AddsOriginalClause, SameQueues};
 ghost use Rattle.sat_parts.specs.parts.Full.{IsFull};
 ghost use Rattle.sat_parts.specs.parts.Loading.{LoadSays};
 ghost use Rattle.sat_parts.specs.parts.Words.{TrailWordExtends};
@@ -42,7 +42,7 @@ pub fn load_long(parts: &mut Parts, lits: &[Lit]) -> Result<(), StoreError>
     requires fits { length lits.now < 2 ^ 32 }
     requires loadable { IsLoadable (state parts.old) parts.old.vsids lits.now }
     ensures holds { OnOk result (PartsInvariant parts.new) }
-    ensures stores { OnOk result (Stores parts.old parts.new lits.now) }
+    ensures stores { OnOk result (AddsOriginalClause parts.old parts.new lits.now) }
     ensures kept { OnOk result (SameQueues parts.old parts.new) }
     ensures full { OnFull result (IsFull parts.new) }
 {
@@ -64,7 +64,7 @@ pub fn load_binary(parts: &mut Parts, lits: &[Lit]) -> Result<(), AllocError>
     requires two { length lits.now ≡ 2 }
     requires loadable { IsLoadable (state parts.old) parts.old.vsids lits.now }
     ensures holds { OnOk result (PartsInvariant parts.new) }
-    ensures stores { OnOk result (Stores parts.old parts.new lits.now) }
+    ensures stores { OnOk result (AddsOriginalClause parts.old parts.new lits.now) }
     ensures kept { OnOk result (SameQueues parts.old parts.new) }
     ensures state { OnOk result (SameState parts.old parts.new) }
     ensures word { OnOk result (TrailWordExtends parts.old parts.new) }
@@ -107,7 +107,7 @@ fn put_all_back(parts: &mut Parts, lits: &[Lit], kept: usize)
     ensures queue { parts.new.vsids ≡ parts.old.vsids }
     ensures fresh { (k : ℕ) → kept ≤ k → k < length lits.now → HasLeft (state parts.new) (negated (slice_index_or lits.now k 0)) → ⊥ }
     ensures same { SameClauses parts.old parts.new }
-    ensures carries { Carries (state parts.old) (state parts.new) }
+    ensures carries { AddsNoUnit (state parts.old) (state parts.new) }
 {
     for at in kept..lits.len() {
         put_back(parts, !lits[at]);
@@ -121,7 +121,7 @@ fn load_some(parts: &mut Parts, lits: &[Lit]) -> Result<(), StoreError>
     requires fits { length lits.now < 2 ^ 32 }
     requires loadable { IsLoadable (state parts.old) parts.old.vsids lits.now }
     ensures holds { OnOk result (PartsInvariant parts.new) }
-    ensures stores { OnOk result (Stores parts.old parts.new lits.now) }
+    ensures stores { OnOk result (AddsOriginalClause parts.old parts.new lits.now) }
     ensures kept { OnOk result (SameQueues parts.old parts.new) }
     ensures full { OnFull result (IsFull parts.new) }
 {

@@ -6,7 +6,7 @@ ghost use Rattle.sat_store.specs.clause.Buffer.{IsClause};
 ghost use Rattle.sat_parts.specs.clause.Db.{is_live_of};
 ghost use Rattle.sat_parts.specs.clause.Orders.{AreDistinct};
 ghost use Rattle.sat_parts.specs.parts.Whole.{PartsInvariant, HasClauses};
-ghost use Rattle.sat_parts.specs.parts.Reducing.{rank, ranked};
+ghost use Rattle.sat_parts.specs.parts.Reducing.{clause_rank, ranked};
 
 use crate::parts::Parts;
 use sat_store::{ClauseAlloc, ClauseRef, Tier};
@@ -42,7 +42,7 @@ fn find_locals(parts: &Parts, list: &mut Vec<ClauseRef>) -> Result<(), AllocErro
 /// The activity of a clause, and then its place.
 fn rank_of(clauses: &ClauseAlloc, cref: ClauseRef) -> u128
     requires { IsClause clauses.now cref }
-    ensures { result ≡ rank clauses.now cref }
+    ensures { result ≡ clause_rank clauses.now cref }
 {
     u128::from(clauses.header(cref).activity()) * 18446744073709551616 + cref.offset() as u128
 }
@@ -82,7 +82,7 @@ pub fn list_locals(
 ) -> Result<(), AllocError>
     requires holds { PartsInvariant parts.now }
     ensures locals { OnOk result (IsPermutation (filter (is_live_of parts.now.clauses Tier.Local) parts.now.db.refs) list.new.items) }
-    ensures rising { OnOk result (IsNonDecreasingBy (rank parts.now.clauses) list.new.items) }
+    ensures rising { OnOk result (IsNonDecreasingBy (clause_rank parts.now.clauses) list.new.items) }
     ensures once { OnOk result (AreDistinct list.new.items) }
     ensures live { OnOk result (HasClauses parts.now list.new.items) }
 {

@@ -7,12 +7,12 @@ ghost use Rattle.sat_parts.specs.prop.State.{current_level};
 ghost use Rattle.sat_parts.specs.prop.Ready.{IsConflict};
 ghost use Rattle.sat_parts.specs.clause.Db.{live_refs};
 ghost use Rattle.sat_parts.specs.parts.Whole.{state, PartsInvariant, HoldsBelow, IsDone, IsPicked, AllAssigned};
-ghost use Rattle.sat_parts.specs.parts.Round.{AreUnits, IsBased};
+ghost use Rattle.sat_parts.specs.parts.Round.{UnitsAreUncaused, IsBased};
 ghost use Rattle.sat_parts.specs.prop.Trails.{cut_to};
 ghost use Rattle.sat_parts.specs.prop.TrailWord.{decided_on};
 ghost use Rattle.sat_parts.specs.parts.Words.{WordExtends, TrailWordExtendsFor, TrailWordStays, TrailWordExtends, IsAwaited};
 ghost use Rattle.sat_parts.specs.parts.Learned.{IsLearned, IsPending};
-ghost use Rattle.sat_parts.specs.parts.Frame.{Carries, SameClauses, Reordered, Learnt, KeepsTo, AddsNothing, KeepsLevels, Deepens, EnqueuesFirst};
+ghost use Rattle.sat_parts.specs.parts.Frame.{AddsNoUnit, SameClauses, Reordered, Learnt, KeepsTo, AddsNothing, KeepsLevels, Deepens, EnqueuesFirst};
 ghost use Rattle.sat_parts.specs.parts.Full.{IsFull};
 ghost use Rattle.sat_store.specs.clause.Full.{OnFull};
 
@@ -30,11 +30,11 @@ pub fn propagate_all(alloc: Global, parts: &mut Parts) -> Result<Result<(), Conf
         (λ e. HoldsBelow (length parts.new.trail.starts) parts.new
         × IsConflict parts.new.clauses (live_refs parts.new.clauses parts.new.db.refs) parts.new.binary.implied parts.new.assignment.current e)) }
     ensures done { IfOk result (λ r. OnOk r (IsDone parts.new)) }
-    ensures units { 0 < length parts.old.trail.starts → AreUnits (state parts.old) → OnOk result (AreUnits (state parts.new)) }
+    ensures units { 0 < length parts.old.trail.starts → UnitsAreUncaused (state parts.old) → OnOk result (UnitsAreUncaused (state parts.new)) }
     ensures base { 0 < length parts.old.trail.starts → IsBased parts.old.trail → OnOk result (IsBased parts.new.trail) }
     ensures starts { OnOk result (parts.new.trail.starts ≡ parts.old.trail.starts) }
     ensures moved { OnOk result (Reordered parts.old parts.new) }
-    ensures carries { OnOk result (Carries (state parts.old) (state parts.new)) }
+    ensures carries { OnOk result (AddsNoUnit (state parts.old) (state parts.new)) }
     ensures keeps { OnOk result (KeepsLevels parts.old parts.new) }
     ensures word { OnOk result (TrailWordExtends parts.old parts.new) }
 {
@@ -190,7 +190,7 @@ pub fn learn(parts: &mut Parts, header: ClauseHeader, lits: &[Lit]) -> Result<()
 pub fn undo(parts: &mut Parts, level: usize)
     ghost top: { ℕ }
     requires holds { HoldsBelow top parts.old }
-    requires units { AreUnits (state parts.old) }
+    requires units { UnitsAreUncaused (state parts.old) }
     requires base { IsBased parts.old.trail }
     requires below { level < length parts.old.trail.starts }
     requires due { level < top }
@@ -200,7 +200,7 @@ pub fn undo(parts: &mut Parts, level: usize)
     ensures trail { parts.new.trail ≡ cut_to level parts.old.trail }
     ensures graph { parts.new.graph ≡ parts.old.graph }
     ensures same { SameClauses parts.old parts.new }
-    ensures carries { Carries (state parts.old) (state parts.new) }
+    ensures carries { AddsNoUnit (state parts.old) (state parts.new) }
     ensures keeps { KeepsTo level (state parts.old) (state parts.new) }
     ensures stay { TrailWordStays parts.old parts.new }
 {
@@ -218,7 +218,7 @@ pub fn full_restart(parts: &mut Parts)
     ensures holds { PartsInvariant parts.new }
     ensures bottom { parts.new.trail.starts ≡ [] }
     ensures same { SameClauses parts.old parts.new }
-    ensures carries { Carries (state parts.old) (state parts.new) }
+    ensures carries { AddsNoUnit (state parts.old) (state parts.new) }
     ensures stay { TrailWordStays parts.old parts.new }
 {
     if parts.trail.current_level() == 0 {

@@ -5,7 +5,7 @@ ghost use Rattle.sat_parts.specs.prop.State.{HasLeft};
 ghost use Rattle.sat_parts.specs.parts.Whole.{state, PartsInvariant, HoldsBelow, IsDone};
 ghost use Rattle.sat_parts.specs.parts.Words.{TrailWordExtends};
 ghost use Rattle.sat_parts.specs.parts.Units.{removed};
-ghost use Rattle.sat_parts.specs.parts.Frame.{Carries, Clears, SameClauses};
+ghost use Rattle.sat_parts.specs.parts.Frame.{AddsNoUnit, Clears, SameClauses};
 ghost use Rattle.sat_parts.specs.clause.Glue.{HaveNodes};
 
 use crate::parts::Parts;
@@ -52,7 +52,7 @@ pub fn put_back(parts: &mut Parts, lit: Lit)
     ensures fresh { HasLeft (state parts.new) lit → ⊥ }
     ensures left { (l : ℕ) → HasLeft (state parts.new) l → HasLeft (state parts.old) l }
     ensures same { SameClauses parts.old parts.new }
-    ensures carries { Carries (state parts.old) (state parts.new) }
+    ensures carries { AddsNoUnit (state parts.old) (state parts.new) }
 {
     if parts.graph.is_removed_unit(lit.var()) {
         parts.assignment.unassign_var(lit.var());

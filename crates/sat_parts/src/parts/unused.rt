@@ -4,7 +4,7 @@ ghost use Rattle.sat_base.specs.values.Literals.{variable};
 ghost use Rattle.sat_store.specs.clause.Buffer.{IsClause};
 ghost use Rattle.sat_parts.specs.clause.Stored.{lit_of, size_of};
 ghost use Rattle.sat_parts.specs.parts.Whole.{PartsInvariant, InNoClause};
-ghost use Rattle.sat_parts.specs.parts.Using.{Marks, IsAmong, HasVar, InLong, InBinary};
+ghost use Rattle.sat_parts.specs.parts.Using.{MarksJustWhere, IsAmong, HasVar, InLong, InBinary};
 ghost use Rattle.sat_parts.specs.clause.Glue.{VariablesBelow};
 
 use crate::parts::Parts;
@@ -15,7 +15,7 @@ use std::alloc::AllocError;
 /// Marks the variable of a literal.
 fn mark_lit(used: &mut Vec<bool>, lit: Lit)
     requires { variable lit < length used.old.items }
-    ensures { Marks used.old.items used.new.items (λ v. variable lit ≡ v) }
+    ensures { MarksJustWhere used.old.items used.new.items (λ v. variable lit ≡ v) }
 {
     used[lit.index()] = true;
 }
@@ -23,7 +23,7 @@ fn mark_lit(used: &mut Vec<bool>, lit: Lit)
 /// Marks the variables of literals.
 fn mark_lits(used: &mut Vec<bool>, lits: &[Lit])
     requires { VariablesBelow lits.now (length used.old.items) }
-    ensures { Marks used.old.items used.new.items (IsAmong lits.now (length lits.now)) }
+    ensures { MarksJustWhere used.old.items used.new.items (IsAmong lits.now (length lits.now)) }
 {
     for at in 0..lits.len() {
         mark_lit(used, lits[at]);
@@ -34,7 +34,7 @@ fn mark_lits(used: &mut Vec<bool>, lits: &[Lit])
 fn mark_clause(used: &mut Vec<bool>, clauses: &ClauseAlloc, cref: ClauseRef)
     requires clause { IsClause clauses.now cref }
     requires below { (k : ℕ) → k < size_of clauses.now cref → variable (lit_of clauses.now cref k) < length used.old.items }
-    ensures { Marks used.old.items used.new.items (HasVar clauses.now cref (size_of clauses.now cref)) }
+    ensures { MarksJustWhere used.old.items used.new.items (HasVar clauses.now cref (size_of clauses.now cref)) }
 {
     for at in 0..clauses.len(cref) {
         mark_lit(used, clauses.lit(cref, at));
@@ -45,7 +45,7 @@ fn mark_clause(used: &mut Vec<bool>, clauses: &ClauseAlloc, cref: ClauseRef)
 fn mark_long(used: &mut Vec<bool>, parts: &Parts)
     requires holds { PartsInvariant parts.now }
     requires size { length used.old.items ≡ length parts.now.assignment.current }
-    ensures { Marks used.old.items used.new.items (InLong parts.now.clauses parts.now.db.refs (length parts.now.db.refs)) }
+    ensures { MarksJustWhere used.old.items used.new.items (InLong parts.now.clauses parts.now.db.refs (length parts.now.db.refs)) }
 {
     for at in 0..parts.db.len() {
         let cref = parts.db.cref(at);
@@ -60,7 +60,7 @@ fn mark_long(used: &mut Vec<bool>, parts: &Parts)
 fn mark_binary(used: &mut Vec<bool>, parts: &Parts)
     requires holds { PartsInvariant parts.now }
     requires size { length used.old.items ≡ length parts.now.assignment.current }
-    ensures { Marks used.old.items used.new.items (InBinary parts.now.binary.implied (length parts.now.binary.implied)) }
+    ensures { MarksJustWhere used.old.items used.new.items (InBinary parts.now.binary.implied (length parts.now.binary.implied)) }
 {
     for code in 0..2 * used.len() {
         let lit = Lit::from_code(code);

@@ -23,14 +23,14 @@ impl Model for Assignment {
     ghost use Rattle.std.specs.Prelude.{◌≡◌, ◌≤◌, length};
     ghost use Rattle.sat_base.specs.values.Literals.{largest};
     ghost use Rattle.sat_parts.specs.prop.Values.{Values};
-    ghost use Rattle.sat_parts.specs.prop.LitValues.{Agrees};
+    ghost use Rattle.sat_parts.specs.prop.LitValues.{MirrorsValues};
 
     ghost Value = { Values };
 
     ghost view = { λ a. record { current = a.values.items; last = a.last_values.items } };
 
     ghost invariant = { λ a. (length a.last_values.items ≡ length a.values.items) × (length a.values.items ≤ largest)
-        × Agrees a.values.items a.lit_values.codes.items };
+        × MirrorsValues a.values.items a.lit_values.codes.items };
 }
 
 /// Whether both are the same value, or both none.

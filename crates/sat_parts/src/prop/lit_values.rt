@@ -1,7 +1,7 @@
 //! Values by literal.
 ghost use Rattle.std.specs.Prelude.{◌≡◌, ◌+◌, ◌*◌, ◌<◌, ◌≤◌, ◌↔◌, [], length, IsTrue, OnOk, OnErr, slice_index_or};
 ghost use Rattle.sat_base.specs.values.Literals.{largest};
-ghost use Rattle.sat_parts.specs.prop.LitValues.{told, with_value, with_lit_count};
+ghost use Rattle.sat_parts.specs.prop.LitValues.{signed_value, with_value, with_lit_count};
 
 use sat_base::{Lit, Var};
 use std::alloc::{AllocError, Global};
@@ -23,7 +23,7 @@ pub(crate) struct LitValues {
 /// What the positive or the negative literal of a variable with this value is.
 #[inline(always)]
 fn lit_value(value: Option<bool>, positive: bool) -> LitValue
-    ensures { result ≡ told value positive }
+    ensures { result ≡ signed_value value positive }
 {
     match value {
         None => LitValue::Open,

@@ -1,6 +1,6 @@
 //! Propagation of the literals of the queue.
 ghost use Rattle.std.specs.Prelude.{ℕ, List, ◌≡◌, IfOk};
-ghost use Rattle.sat_parts.specs.prop.Ready.{state_of, IsReady, Propagated};
+ghost use Rattle.sat_parts.specs.prop.Ready.{state_of, IsReadyToPropagate, Propagated};
 
 use crate::binary::BinaryClauses;
 use crate::clause::db::ClauseDb;
@@ -26,7 +26,7 @@ pub(crate) fn propagate_queue(
     binary: &BinaryClauses,
 ) -> Result<Result<(), Conflict>, AllocError>
     ghost live: { List ℕ }
-    requires { IsReady clauses.old live watchlists.old.lists binary.now.implied (state_of assignment.old graph.old trail.old) }
+    requires { IsReadyToPropagate clauses.old live watchlists.old.lists binary.now.implied (state_of assignment.old graph.old trail.old) }
     ensures propagated { IfOk result (λ r. Propagated live binary.now.implied
         clauses.old (state_of assignment.old graph.old trail.old)
         clauses.new (state_of assignment.new graph.new trail.new) watchlists.new.lists r) }

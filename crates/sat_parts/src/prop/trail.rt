@@ -9,7 +9,7 @@ ghost use Rattle.sat_parts.specs.prop.Trails.{cut_to};
 ghost use Rattle.sat_parts.specs.prop.Undone.{undone, undone_to, all_available, undone_lits};
 ghost use Rattle.sat_parts.specs.prop.State.{Agrees};
 ghost use Rattle.sat_parts.specs.prop.Ready.{state_of};
-ghost use Rattle.sat_parts.specs.prop.Backtracked.{KeepsBelow, KeepsAsked, KeepsAskedBy, KeepsAskedAbove, KeepsTurns};
+ghost use Rattle.sat_parts.specs.prop.Backtracked.{KeepsBelow, KeepsAllAsked, KeepsAskedBy, KeepsAskedAbove, KeepsTurns};
 
 use crate::prop::assignment::Assignment;
 use crate::prop::graph::{ImplGraph, ImplNode, Reason};
@@ -234,7 +234,7 @@ pub fn backtrack(assignment: &mut Assignment, trail: &mut Trail, vsids: &mut Vsi
     ensures trail { level < length trail.old.starts → trail.new ≡ cut_to level trail.old }
     ensures available { level < length trail.old.starts → vsids.new ≡ all_available (undone_lits level trail.old) vsids.old }
     ensures kept { KeepsBelow level assignment.old trail.old assignment.new trail.new }
-    ensures asked { level < length trail.old.starts → KeepsAsked level assignment.old trail.old assignment.new trail.new }
+    ensures asked { level < length trail.old.starts → KeepsAllAsked level assignment.old trail.old assignment.new trail.new }
     ensures turns { level < length trail.old.starts → KeepsTurns assignment.old trail.old assignment.new trail.new }
 {
     if level >= trail.current_level() {

@@ -5,7 +5,7 @@ ghost use Rattle.sat_store.specs.clause.Buffer.{Laid};
 ghost use Rattle.sat_parts.specs.clause.Db.{live_refs};
 ghost use Rattle.sat_parts.specs.clause.Stored.{AreClauses};
 ghost use Rattle.sat_parts.specs.prop.Building.{WatchesLive};
-ghost use Rattle.sat_parts.specs.prop.WatchLists.{watches_of, no_watch, watch_on, with_watch, without_last, with_clause, with_lists};
+ghost use Rattle.sat_parts.specs.prop.WatchLists.{watches_of, no_watch, watch_on, with_watch, without_last, with_clause_watches, with_lists};
 
 use crate::clause::db::ClauseDb;
 use sat_base::Lit;
@@ -229,7 +229,7 @@ impl Watchlists {
     pub fn watch_clause(&mut self, cref: ClauseRef, lits: [Lit; 2]) -> Result<(), AllocError>
         requires first { negated (slice_index_or lits 0 0) < length self.old.lists }
         requires second { negated (slice_index_or lits 1 0) < length self.old.lists }
-        ensures done { OnOk result (self.new ≡ with_clause cref (slice_index_or lits 0 0) (slice_index_or lits 1 0) self.old) }
+        ensures done { OnOk result (self.new ≡ with_clause_watches cref (slice_index_or lits 0 0) (slice_index_or lits 1 0) self.old) }
         ensures same { OnErr result (self.new ≡ self.old) }
     {
         if !self.enabled {

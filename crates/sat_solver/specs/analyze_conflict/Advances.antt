@@ -10,7 +10,7 @@ use Rattle.sat_parts.specs.prop.WatchLists.{Watching}
 use Rattle.sat_parts.specs.prop.Binaries.{implied_by}
 use Rattle.sat_parts.specs.prop.State.{State}
 use Rattle.sat_solver.specs.analyze_conflict.Work.{Work}
-use Rattle.sat_solver.specs.analyze_conflict.Derivation.{AreUnits, Learns}
+use Rattle.sat_solver.specs.analyze_conflict.Derivation.{AreLevelZeroLits, Learns}
 use Rattle.sat_solver.specs.analyze_conflict.Marks.{AsksBelow}
 
 -- a clause of two different literals, each implied by the other's negation
@@ -38,5 +38,5 @@ pub record StaysOpen (words live : List ℕ) (implied : List (List ℕ)) (l : �
 abbrev pub LearnedAdvances : Type 0
 LearnedAdvances =
     (words refs : List ℕ) (watching : Watching) (implied : List (List ℕ)) (s : State) (conflict : List ℕ) (w : Work) (back : ℕ) (units : List ℕ) (picked : List (List ℕ)) (reached : List ℕ) →
-    AsksBelow words refs watching implied s → Learns words s conflict w back → AreUnits s units → AllByRecursion (IsStored words (live_refs words refs) implied) picked →
+    AsksBelow words refs watching implied s → Learns words s conflict w back → AreLevelZeroLits s units → AllByRecursion (IsStored words (live_refs words refs) implied) picked →
     LeadTo (map negated (drop 1 w.clause) ++ units) picked reached → StaysOpen words (live_refs words refs) implied (get_or w.clause 0 0) reached

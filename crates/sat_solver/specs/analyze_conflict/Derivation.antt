@@ -20,7 +20,7 @@ abbrev pub clause_of : List ℕ → State → ℕ → List ℕ
 clause_of words s l = l ∷ causes_at words s l
 
 -- these are exactly the true literals of level 0
-pub record AreUnits (s : State) (units : List ℕ) : Type 0 where
+pub record AreLevelZeroLits (s : State) (units : List ℕ) : Type 0 where
   pub all : (l : ℕ) → IsTrueLit s.values l → level s l ≡ 0 → is_among units l ≡ true
   pub only : (l : ℕ) → is_among units l ≡ true → IsTrueLit s.values l × (level s l ≡ 0)
 
@@ -55,7 +55,7 @@ pub record IsDerivation (words : List ℕ) (s : State) (conflict learned used : 
 -- the checker accepts: under the negated clause and the units the used clauses are unit in turn, and the one that was found false is falsified
 abbrev pub IsAcceptable : (words : List ℕ) (s : State) (conflict learned used : List ℕ) → Type 0
 IsAcceptable words s conflict learned used =
-    (units : List ℕ) → AreUnits s units → UnitInTurn (map negated learned ++ units) (map (clause_of words s) used ++ conflict ∷ [])
+    (units : List ℕ) → AreLevelZeroLits s units → UnitInTurn (map negated learned ++ units) (map (clause_of words s) used ++ conflict ∷ [])
 
 -- what is learned: the first literal alone is of the current level, the others are of lower ones above 0, all are false, none twice
 pub record IsAsserting (s : State) (learned : List ℕ) : Type 0 where

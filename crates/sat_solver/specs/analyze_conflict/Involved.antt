@@ -14,9 +14,9 @@ abbrev pub HasAbove : State → List ℕ → ℕ → Type 0
 HasAbove s ls v = (k : ℕ) × ((k < length ls) × (0 < level s (get_or ls k 0)) × (variable (get_or ls k 0) ≡ v))
 
 -- a variable that resolution meets: above level 0, of the clause that was found false, or of a cause of a literal that is resolved
-pub data IsMet (words : List ℕ) (s : State) (conflict resolved : List ℕ) (v : ℕ) : Type 0 where
-  met_first : HasAbove s conflict v → IsMet words s conflict resolved v
-  met_cause : (l : ℕ) → Contains resolved l → HasAbove s (causes_at words s l) v → IsMet words s conflict resolved v
+pub data IsMetVariable (words : List ℕ) (s : State) (conflict resolved : List ℕ) (v : ℕ) : Type 0 where
+  met_first : HasAbove s conflict v → IsMetVariable words s conflict resolved v
+  met_cause : (l : ℕ) → Contains resolved l → HasAbove s (causes_at words s l) v → IsMetVariable words s conflict resolved v
 
 -- the long clauses that are the reasons of these literals
 abbrev pub longs_of : State → List ℕ → List ℕ
@@ -25,14 +25,14 @@ longs_of s (l ∷ ls) = long_of (node s l).reason ++ longs_of s ls
 
 -- what is listed is what was met while the used literals were resolved
 pub record AreMet (words : List ℕ) (s : State) (conflict used met : List ℕ) : Type 0 where
-  pub only : (v : ℕ) → Contains met v → IsMet words s conflict used v
-  pub all : (v : ℕ) → IsMet words s conflict used v → Contains met v
+  pub only : (v : ℕ) → Contains met v → IsMetVariable words s conflict used v
+  pub all : (v : ℕ) → IsMetVariable words s conflict used v → Contains met v
 
 -- another literal of the current level was met by then, which stands before this one on the trail: it has to be resolved, since the
 -- conflict doesn't follow from it and literals of lower levels alone
 pub record HasOther (words : List ℕ) (s : State) (conflict resolved : List ℕ) (l : ℕ) : Type 0 where
   pub other : ℕ
-  pub met : IsMet words s conflict resolved (variable other)
+  pub met : IsMetVariable words s conflict resolved (variable other)
   pub top : level s other ≡ current_level s
   pub before : depth s other < depth s l
 

@@ -40,13 +40,13 @@ abbrev pub AreInTurnAbove : (words refs : List ℕ) (implied : List (List ℕ)) 
 AreInTurnAbove words refs implied s = AreInTurn words (live_refs words refs) implied s (get_or s.trail.starts 0 0)
 
 -- whether a true literal is flagged and of a level not below the one from which literals are resolved
-abbrev pub is_open : State → ℕ → List Bool → ℕ → Bool
-is_open s top flags l = get_or flags (variable l) false && not (nat_lt (level s l) top)
+abbrev pub is_open_flagged : State → ℕ → List Bool → ℕ → Bool
+is_open_flagged s top flags l = get_or flags (variable l) false && not (nat_lt (level s l) top)
 
 -- how many such literals the trail has before a place
 abbrev pub open_below : State → ℕ → List Bool → ℕ → ℕ
 open_below s top flags zero = 0
-open_below s top flags (suc i) = (if is_open s top flags (lit_at s i) then 1 else 0) + open_below s top flags i
+open_below s top flags (suc i) = (if is_open_flagged s top flags (lit_at s i) then 1 else 0) + open_below s top flags i
 
 -- a literal of this variable is of the clause
 abbrev pub HasVariable : List ℕ → ℕ → Type 0
@@ -67,7 +67,7 @@ pub record IsLower (s : State) (top : ℕ) (flags : List Bool) (r : ℕ) : Type 
   pub flagged : get_or flags (variable r) false ≡ true
 
 -- the flags are those of the clause's literals and of literals of this level or above, before the place, and these are counted
-pub record Marks (s : State) (top : ℕ) (clause : List ℕ) (flags : List Bool) (pending at : ℕ) : Type 0 where
+pub record AreFlagsAt (s : State) (top : ℕ) (clause : List ℕ) (flags : List Bool) (pending at : ℕ) : Type 0 where
   pub size : length flags ≡ length s.values
   pub within : at ≤ length s.trail.lits
   pub flagged : (v : ℕ) → get_or flags v false ≡ true → HasVariable clause v ⊎ IsOpenAt s top at v
@@ -77,7 +77,7 @@ pub record Marks (s : State) (top : ℕ) (clause : List ℕ) (flags : List Bool)
 
 -- the same of what analysis works on
 abbrev pub MarksWork : State → ℕ → Work → ℕ → Type 0
-MarksWork s top w at = Marks s top w.clause w.flags w.pending at
+MarksWork s top w at = AreFlagsAt s top w.clause w.flags w.pending at
 
 -- a flagged false literal of this level or above, whose negation stands before the place
 pub record IsWaiting (s : State) (top : ℕ) (flags : List Bool) (at r : ℕ) : Type 0 where

@@ -27,8 +27,8 @@ worked clause used met involved core flags pending = record { clause = clause; u
 
 -- a false literal is met: one of level 0, or of a flagged variable, changes nothing; one of a level not below the one from which literals
 -- are resolved is counted, one of a lower level becomes a literal of the clause
-abbrev pub with_literal : (nodes : List ImplNode) (top r : ℕ) → Work → Work
-with_literal nodes top r w =
+abbrev pub with_met_literal : (nodes : List ImplNode) (top r : ℕ) → Work → Work
+with_met_literal nodes top r w =
     if (node_of nodes (variable r)).level == 0 then w
     else (if get_or w.flags (variable r) false then w
     else (if nat_lt (node_of nodes (variable r)).level top
@@ -38,7 +38,7 @@ with_literal nodes top r w =
 -- one after the other
 abbrev pub with_literals : (nodes : List ImplNode) (top : ℕ) → List ℕ → Work → Work
 with_literals nodes top [] w = w
-with_literals nodes top (r ∷ rs) w = with_literals nodes top rs (with_literal nodes top r w)
+with_literals nodes top (r ∷ rs) w = with_literals nodes top rs (with_met_literal nodes top r w)
 
 -- a true literal isn't to be resolved any more
 abbrev pub passed_by : ℕ → Work → Work

@@ -6,7 +6,7 @@ use Rattle.sat_base.specs.values.Hashes.{hash_of}
 use Rattle.sat_base.specs.steps.Steps.{Step, FailedAssumptions}
 use Rattle.sat_checker.specs.declared.processing.ProofProcessor.{Ghosts}
 use Rattle.sat_solver.specs.session.LiveClauses.{with_var}
-use Rattle.sat_solver.specs.proof.ProofView.{Keeps, session_of}
+use Rattle.sat_solver.specs.proof.ProofView.{HasAllowedSteps, session_of}
 use Rattle.sat_solver.specs.session.Session.{Session}
 use Rattle.sat_solver.specs.declared.proof.Proof.{Proof}
 use Rattle.sat_solver.specs.analyze_conflict.Derivation.{clause_of}
@@ -15,14 +15,14 @@ use Rattle.sat_parts.specs.parts.Whole.{state}
 use Rattle.sat_solver.specs.declared.error.SolverError.{SolverError}
 use Rattle.sat_solver.specs.declared.context.Search.{Search}
 use Rattle.sat_solver.specs.cdcl.Faults.{IsKept, NamesLoss}
-use Rattle.sat_solver.specs.cdcl.Going.{IsFault, Went}
-use Rattle.sat_solver.specs.cdcl.Joint.{global_in, IsSearch, Moved}
+use Rattle.sat_solver.specs.cdcl.Going.{IsFault, EmitsUpToFault}
+use Rattle.sat_solver.specs.cdcl.Joint.{global_in, IsSearch, SameVarsAndAssumptions}
 use Rattle.sat_solver.specs.analyze_conflict.Work.{Work}
-use Rattle.sat_solver.specs.assumptions.Failing.{Fails}
+use Rattle.sat_solver.specs.assumptions.Failing.{IsFailedAssumption}
 
 -- why the assumption fails, by the clauses of the parts
 abbrev pub FailsBy : Parts → (failed : ℕ) → Work → Type 0
-FailsBy p failed w = Fails p.clauses (state p) failed w.core w.used
+FailsBy p failed w = IsFailedAssumption p.clauses (state p) failed w.core w.used
 
 -- the hashes of the clauses by which these literals are true
 abbrev pub causes_hashes : Parts → List ℕ → List ℕ
@@ -44,15 +44,15 @@ pub record ToldCore (steps : List Step) (s : Session) (c c' : Search) : Type 0 w
   pub is : steps ≡ FailedAssumptions (map (with_var (global_in c)) c'.analysis.core) (causes_hashes c.parts c'.analysis.used) ∷ []
   pub failed : AreFailed c.assumptions.lits.items c.failed c'.analysis.core
   pub search : IsSearch s c'
-  pub moved : Moved c c'
+  pub moved : SameVarsAndAssumptions c c'
   pub same : c'.parts ≡ c.parts
 
 -- It made the step of a core, or failed.
 pub record TellsCore {W L : Type 0} {G : Ghosts L} (seen : W → Writer) (result : Result (Unit {0}) SolverError) (old new : Proof W L G) (c c' : Search) : Type 0 where
   pub steps : List Step
-  pub went : Went seen result steps old new
+  pub went : EmitsUpToFault seen result steps old new
   pub core : AllByRecursion (λ step. is_core step ≡ true) steps
-  pub keeps : Keeps new
+  pub keeps : HasAllowedSteps new
   pub kept : IfErr result (λ e. IsKept e new)
   pub loss : IfErr result (λ e. NamesLoss e old new)
   pub ends : MatchResult result (λ _. ToldCore steps (session_of new) c c') IsFault

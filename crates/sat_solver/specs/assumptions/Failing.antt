@@ -8,7 +8,7 @@ use Rattle.sat_parts.specs.prop.Graphs.{is_unit}
 use Rattle.sat_parts.specs.prop.State.{State, node, level, lit_at}
 use Rattle.sat_solver.specs.analyze_conflict.Work.{Work}
 use Rattle.sat_solver.specs.analyze_conflict.Marks.{depth, MarksWork, AreUsed}
-use Rattle.sat_solver.specs.analyze_conflict.Derivation.{clause_of, AreUnits, AreGrounds, IsDerivation}
+use Rattle.sat_solver.specs.analyze_conflict.Derivation.{clause_of, AreLevelZeroLits, AreGrounds, IsDerivation}
 
 -- a true literal of the trail, above level 0 and from a place on, that has no clause as its reason: a decision or an assumption
 pub record IsChosen (s : State) (at l : ℕ) : Type 0 where
@@ -27,24 +27,24 @@ pub record IsCoreFrom (s : State) (failed : ℕ) (core : List ℕ) (at : ℕ) : 
   pub falling : (j k : ℕ) → 0 < j → j < k → k < length core → depth s (get_or core k 0) < depth s (get_or core j 0)
 
 -- the same from its begin on, none twice
-pub record IsCoreOf (s : State) (failed : ℕ) (core : List ℕ) : Type 0 where
+pub record IsDistinctCore (s : State) (failed : ℕ) (core : List ℕ) : Type 0 where
   pub lits : IsCoreFrom s failed core 0
   pub distinct : AreDistinct core
 
 -- the clauses of the used literals, in the order of the trail, derive the clause of the core's negations: the last one is the clause by
 -- which the assumption is false. The checker accepts: under the core and the units they are unit in turn, and the last one is falsified
 pub record IsRefutation (words : List ℕ) (s : State) (failed : ℕ) (core used : List ℕ) : Type 0 where
-  pub lits : IsCoreOf s failed core
+  pub lits : IsDistinctCore s failed core
   pub derivation : IsDerivation words s (clause_of words s (negated failed)) (map negated core) used
   pub some : 0 < length used
   pub last : get_or used (length used - 1) 0 ≡ negated failed
-  pub acceptable : (units : List ℕ) → AreUnits s units → UnitInTurn (core ++ units) (map (clause_of words s) used)
+  pub acceptable : (units : List ℕ) → AreLevelZeroLits s units → UnitInTurn (core ++ units) (map (clause_of words s) used)
 
 -- a false assumption fails: it is false at level 0, or its negation was chosen before it, or it is refuted by clauses
-pub data Fails (words : List ℕ) (s : State) (failed : ℕ) (core used : List ℕ) : Type 0 where
-  fails_bottom : level s failed ≡ 0 → core ≡ failed ∷ [] → used ≡ [] → Fails words s failed core used
-  fails_signs : IsChosen s 0 (negated failed) → core ≡ failed ∷ negated failed ∷ [] → used ≡ [] → Fails words s failed core used
-  fails_clauses : IsRefutation words s failed core used → Fails words s failed core used
+pub data IsFailedAssumption (words : List ℕ) (s : State) (failed : ℕ) (core used : List ℕ) : Type 0 where
+  fails_bottom : level s failed ≡ 0 → core ≡ failed ∷ [] → used ≡ [] → IsFailedAssumption words s failed core used
+  fails_signs : IsChosen s 0 (negated failed) → core ≡ failed ∷ negated failed ∷ [] → used ≡ [] → IsFailedAssumption words s failed core used
+  fails_clauses : IsRefutation words s failed core used → IsFailedAssumption words s failed core used
 
 -- while the reasons are gone back over: flagged literals of all levels above 0 are still to be looked at, those before the place
 pub record Tracing (words : List ℕ) (s : State) (failed : ℕ) (w : Work) (at : ℕ) : Type 0 where
@@ -58,7 +58,7 @@ pub record Tracing (words : List ℕ) (s : State) (failed : ℕ) (w : Work) (at 
 pub record Traced (words : List ℕ) (s : State) (failed : ℕ) (w : Work) : Type 0 where
   pub size : length w.flags ≡ length s.values
   pub clear : AreClear w.flags
-  pub core : IsCoreOf s failed w.core
+  pub core : IsDistinctCore s failed w.core
   pub grounds : AreGrounds words s (clause_of words s (negated failed)) (map negated w.core) w.used
   pub falling : (j k : ℕ) → j < k → k < length w.used → depth s (get_or w.used k 0) < depth s (get_or w.used j 0)
   pub some : 0 < length w.used

@@ -3,7 +3,7 @@ use Rattle.std.specs.Prelude.{List, MatchResult, Result}
 use Rattle.sat_base.specs.device.Device.{Writer}
 use Rattle.sat_base.specs.steps.Steps.{Step}
 use Rattle.sat_checker.specs.declared.processing.ProofProcessor.{Ghosts}
-use Rattle.sat_solver.specs.proof.ProofView.{Gains, Keeps, steps_of, session_of}
+use Rattle.sat_solver.specs.proof.ProofView.{EmitsChecked, HasAllowedSteps, steps_of, session_of}
 use Rattle.sat_solver.specs.declared.proof.Proof.{Proof}
 use Rattle.sat_solver.specs.declared.schedule.Outcome.{Outcome}
 use Rattle.sat_solver.specs.declared.schedule.Outcome.TheVariants as outcomes
@@ -27,8 +27,8 @@ RoundShares outcomes.Failed n c = SharesIndices n c
 -- how it ended, and what it leaves of names and proof: the judge sees nothing of it
 pub record RoundEnds {W L : Type 0} {G : Ghosts L} (seen : W → Writer) (outcome : Outcome) (n n' : Variables) (p p' : Proof W L G) (c c' : Search) : Type 0 where
   pub steps : List Step
-  pub adds : Gains seen steps p p'
-  pub keeps : Keeps p'
+  pub adds : EmitsChecked seen steps p p'
+  pub keeps : HasAllowedSteps p'
   pub does : DoesNothing n n' (steps_of p) (steps_of p')
   pub asked : KeepsAsked n n' (session_of p) (session_of p')
   pub says : RoundSays outcome (steps_of p) steps (session_of p') c c'

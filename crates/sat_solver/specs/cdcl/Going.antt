@@ -7,7 +7,7 @@ use Rattle.sat_base.specs.steps.Steps.{Step, AtClause, UnitClauses, DeleteClause
 use Rattle.sat_checker.specs.declared.processing.ProofProcessor.{Ghosts}
 use Rattle.sat_solver.specs.session.Quiet.{AreQuiet}
 use Rattle.sat_solver.specs.cdcl.Faults.{IsKept, NamesLoss}
-use Rattle.sat_solver.specs.proof.ProofView.{Adds, Fails, FailsCheck, Gains, Keeps, session_of}
+use Rattle.sat_solver.specs.proof.ProofView.{EmitsExactly, FailsToEmit, FailsCheck, EmitsChecked, HasAllowedSteps, session_of}
 use Rattle.sat_solver.specs.declared.proof.made.CheckFault.{CheckFault}
 use Rattle.sat_solver.specs.declared.proof.made.CheckFault.TheVariants as checks
 use Rattle.sat_solver.specs.declared.proof.Proof.{Proof}
@@ -24,13 +24,13 @@ is_searched (DeleteClause clause proof) = true
 is_searched step = false
 
 -- each literal is over a variable that has a solver name
-abbrev pub AreNamed : (ℕ → Option ℕ) → List ℕ → Type 0
-AreNamed names = AllByRecursion (λ l. (x : ℕ) × (names (variable l) ≡ Some x))
+abbrev pub HaveSolverNames : (ℕ → Option ℕ) → List ℕ → Type 0
+HaveSolverNames names = AllByRecursion (λ l. (x : ℕ) × (names (variable l) ≡ Some x))
 
 -- a step that a search makes by itself, over variables that have solver names
 abbrev pub IsSearched : (ℕ → Option ℕ) → Step → Type 0
-IsSearched names (AtClause redundant clause hashes) = AreNamed names clause
-IsSearched names (UnitClauses units) = AreNamed names (map (λ u. u.0) units)
+IsSearched names (AtClause redundant clause hashes) = HaveSolverNames names clause
+IsSearched names (UnitClauses units) = HaveSolverNames names (map (λ u. u.0) units)
 IsSearched names (DeleteClause clause proof) = Unit {0}
 IsSearched names step = ⊥
 
@@ -64,12 +64,12 @@ abbrev pub IsFault : SolverError → Type 0
 IsFault = IsFaultOr ⊥
 
 -- These steps were made; where a call of the target failed, that was at their text. A count is at its end, or a processor answers a fault, only in the solver's own checker.
-abbrev pub Went : {A W L : Type 0} {G : Ghosts L} → (W → Writer) → Result A SolverError → List Step → Proof W L G → Proof W L G → Type 0
-Went seen (Ok x) steps old new = Gains seen steps old new
-Went seen (Err (errors.ProofIoError cause)) steps old new = Fails seen steps old new
-Went seen (Err (errors.ProofProcessorError cause)) steps old new = FailsCheck seen (checks.Processor cause) steps old new
-Went seen (Err errors.CounterEnd) steps old new = FailsCheck seen checks.CounterEnd steps old new
-Went seen (Err e) steps old new = Adds seen steps old new
+abbrev pub EmitsUpToFault : {A W L : Type 0} {G : Ghosts L} → (W → Writer) → Result A SolverError → List Step → Proof W L G → Proof W L G → Type 0
+EmitsUpToFault seen (Ok x) steps old new = EmitsChecked seen steps old new
+EmitsUpToFault seen (Err (errors.ProofIoError cause)) steps old new = FailsToEmit seen steps old new
+EmitsUpToFault seen (Err (errors.ProofProcessorError cause)) steps old new = FailsCheck seen (checks.Processor cause) steps old new
+EmitsUpToFault seen (Err errors.CounterEnd) steps old new = FailsCheck seen checks.CounterEnd steps old new
+EmitsUpToFault seen (Err e) steps old new = EmitsExactly seen steps old new
 
 -- nothing was learned, unless something may be
 abbrev pub AreQuietUnless : Bool → List Step → Type 0
@@ -79,10 +79,10 @@ AreQuietUnless false steps = AreQuiet steps
 -- It made steps of a search, and came to an answer of which this holds, or failed, for a full clause buffer only where it is full.
 pub record EmitsStepsWith {A W L : Type 0} {G : Ghosts L} (full : Type 0) (learns : Bool) (seen : W → Writer) (result : Result A SolverError) (old new : Proof W L G) (Answers : A → List Step → Type 0) : Type 0 where
   pub steps : List Step
-  pub went : Went seen result steps old new
+  pub went : EmitsUpToFault seen result steps old new
   pub searched : AreSearched (session_of old).solver_names steps
   pub quiet : MatchResult result (λ _. AreQuietUnless learns steps) (λ _. Unit {0})
-  pub keeps : Keeps new
+  pub keeps : HasAllowedSteps new
   pub kept : IfErr result (λ e. IsKept e new)
   pub loss : IfErr result (λ e. NamesLoss e old new)
   pub ends : MatchResult result (λ x. Answers x steps) (IsFaultOr full)

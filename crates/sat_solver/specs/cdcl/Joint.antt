@@ -1,13 +1,13 @@
 -- What holds of a search and the session behind its proof.
 use Rattle.std.specs.Prelude.{ℕ, ◌≡◌, ◌≤◌, ◌<◌, ◌*◌, ◌⊎◌, Some, List, map, length}
 use Rattle.sat_parts.specs.clause.Glue.{AreClear}
-use Rattle.sat_parts.specs.parts.Assumed.{AreThere, ArePlaced, variables}
+use Rattle.sat_parts.specs.parts.Assumed.{HaveVariablesIn, ArePlaced, variables}
 use Rattle.sat_parts.specs.parts.Whole.{state}
 use Rattle.sat_parts.specs.parts.Words.{IsIdle}
 use Rattle.sat_solver.specs.session.Session.{Session}
 use Rattle.sat_solver.specs.session.LiveClauses.{with_var}
 use Rattle.sat_solver.specs.session.Naming.{global_of}
-use Rattle.sat_solver.specs.session.Fits.{Stands}
+use Rattle.sat_solver.specs.session.Fits.{PartsSessionInvariant}
 use Rattle.sat_solver.specs.unit_simplify.Left.{SameSize}
 use Rattle.sat_solver.specs.declared.context.Search.{Search}
 
@@ -32,29 +32,29 @@ abbrev pub AreAsked : Session → Search → Type 0
 AreAsked s c = s.assumed ≡ map (with_var (global_in c)) c.assumptions.lits.items
 
 -- what is assumed, and the solver names, are as they were
-pub record Leaves (s t : Session) : Type 0 where
+pub record SameAssumedAndNames (s t : Session) : Type 0 where
   pub assumed : t.assumed ≡ s.assumed
   pub names : (v : ℕ) → t.solver_names v ≡ s.solver_names v
 
 -- each variable has its solver name, or is idle
-abbrev pub AreUsed : Session → Search → Type 0
-AreUsed s c = (v : ℕ) → v < length c.parts.assignment.current → (s.solver_names (global_in c v) ≡ Some v) ⊎ IsIdle (assumed_in c) (state c.parts) c.parts.vsids v
+abbrev pub AreNamedOrIdle : Session → Search → Type 0
+AreNamedOrIdle s c = (v : ℕ) → v < length c.parts.assignment.current → (s.solver_names (global_in c v) ≡ Some v) ⊎ IsIdle (assumed_in c) (state c.parts) c.parts.vsids v
 
 -- all but parts and clauses
-pub record IsReady (s : Session) (c : Search) : Type 0 where
+pub record IsReadySearch (s : Session) (c : Search) : Type 0 where
   pub free : IsFree c
   pub placed : ArePlaced c.assumptions (state c.parts)
-  pub there : AreThere c.assumptions.lits.items c.parts
+  pub there : HaveVariablesIn c.assumptions.lits.items c.parts
   pub asked : AreAsked s c
-  pub used : AreUsed s c
+  pub used : AreNamedOrIdle s c
 
 -- what holds between the turns of a search
 pub record IsSearch (s : Session) (c : Search) : Type 0 where
-  pub stands : Stands c.parts s (global_in c)
-  pub ready : IsReady s c
+  pub stands : PartsSessionInvariant c.parts s (global_in c)
+  pub ready : IsReadySearch s c
 
 -- variables and assumptions are the same
-pub record Moved (c c' : Search) : Type 0 where
+pub record SameVarsAndAssumptions (c c' : Search) : Type 0 where
   pub globals : c'.globals ≡ c.globals
   pub lits : c'.assumptions.lits ≡ c.assumptions.lits
   pub size : SameSize c.parts c'.parts

@@ -20,13 +20,13 @@ use Rattle.sat_solver.specs.declared.proof.Proof.{Proof}
 use Rattle.sat_solver.specs.declared.error.SolverError.{SolverError}
 use Rattle.sat_solver.specs.session.Advancing.{Advances}
 use Rattle.sat_solver.specs.session.FitLaws.{named_hashes}
-use Rattle.sat_solver.specs.session.Learning.{TakesIn}
+use Rattle.sat_solver.specs.session.Learning.{FitsAfterLearning}
 use Rattle.sat_solver.specs.session.Quiet.{AreQuiet}
 use Rattle.sat_solver.specs.declared.context.Search.{Search}
 use Rattle.sat_solver.specs.clause.Activity.{all_bumped}
 use Rattle.sat_solver.specs.cdcl.Going.{EmitsStepsOr}
 use Rattle.sat_solver.specs.clause.Assessed.{graded, levels_in, TakePart}
-use Rattle.sat_solver.specs.cdcl.Joint.{IsSearch, Moved}
+use Rattle.sat_solver.specs.cdcl.Joint.{IsSearch, SameVarsAndAssumptions}
 use Rattle.sat_solver.specs.unit_simplify.Left.{SameSize}
 
 -- the newest of these steps is a derived clause that advances behind the others, by which nothing is learned, and the earlier ones
@@ -40,24 +40,24 @@ pub record LastAdvances (earlier steps : List Step) : Type 0 where
   pub quiet : AreQuiet rest
 
 -- a clause was learned and came in, and the word of the trail rose
-pub record Learned (earlier steps : List Step) (s : Session) (c c' : Search) : Type 0 where
+pub record LearnsAndRises (earlier steps : List Step) (s : Session) (c c' : Search) : Type 0 where
   pub search : IsSearch s c'
-  pub moved : Moved c c'
+  pub moved : SameVarsAndAssumptions c c'
   pub rises : TrailWordRises c.parts c'.parts
   pub last : LastAdvances earlier steps
 
 -- it made these steps, or failed, for a full clause buffer only where it is full
 abbrev pub LearnsClause : {W L : Type 0} {G : Ghosts L} → (W → Writer) → Result (Unit {0}) SolverError → Proof W L G → Proof W L G → Search → Search → Type 0
-LearnsClause seen r p p' c c' = EmitsStepsOr (IsFull c'.parts) seen r p p' (λ _ steps. Learned (steps_of p) steps (session_of p') c c')
+LearnsClause seen r p p' c c' = EmitsStepsOr (IsFull c'.parts) seen r p p' (λ _ steps. LearnsAndRises (steps_of p) steps (session_of p') c c')
 
 -- the hashes of the clauses from which it follows, the one that was found false last
 abbrev pub learned_hashes : Parts → Work → Conflict → List ℕ
 learned_hashes p w e = named_hashes p.clauses (state p) w.used e
 
 -- the levels above this one were undone, and what was learned came in
-pub record Taken (p p' : Parts) (header : Header) (ls : List ℕ) (level : ℕ) : Type 0 where
+pub record UndoesAndLearns (p p' : Parts) (header : Header) (ls : List ℕ) (level : ℕ) : Type 0 where
   pub holds : PartsInvariant p'
-  pub fits : TakesIn p p' header ls
+  pub fits : FitsAfterLearning p p' header ls
   pub rises : TrailWordRises p p'
   pub size : SameSize p p'
   pub keeps : KeepsTo level (state p) (state p')

@@ -14,27 +14,27 @@ use Rattle.sat_solver.specs.declared.schedule.Outcome.{Outcome}
 use Rattle.sat_solver.specs.declared.schedule.Outcome.TheVariants as outcomes
 use Rattle.sat_solver.specs.declared.context.Search.{Search}
 use Rattle.sat_solver.specs.cdcl.Going.{EmitsStepsOr}
-use Rattle.sat_solver.specs.cdcl.Joint.{assumed_in, IsSearch, Moved}
+use Rattle.sat_solver.specs.cdcl.Joint.{assumed_in, IsSearch, SameVarsAndAssumptions}
 use Rattle.sat_solver.specs.cdcl.Learning.{LastAdvances}
 use Rattle.sat_solver.specs.cdcl.Turns.{IsComplete, IsFailing}
 
 -- a clause was learned, by a step that advances, and the word of the trail rose
 pub record RoundLearns (earlier steps : List Step) (s : Session) (c c' : Search) : Type 0 where
   pub search : IsSearch s c'
-  pub moved : Moved c c'
+  pub moved : SameVarsAndAssumptions c c'
   pub rises : TrailWordRisesFor (assumed_in c) c.parts c'.parts
   pub last : LastAdvances earlier steps
 
 -- an assumption failed
 pub record RoundFails (s : Session) (c c' : Search) : Type 0 where
   pub search : IsSearch s c'
-  pub moved : Moved c c'
+  pub moved : SameVarsAndAssumptions c c'
   pub failing : IsFailing c'.assumptions.lits.items c'.parts c'.failed
 
 -- no variable of a clause is open
 pub record RoundShows (s : Session) (c c' : Search) : Type 0 where
   pub search : IsSearch s c'
-  pub moved : Moved c c'
+  pub moved : SameVarsAndAssumptions c c'
   pub complete : IsComplete c'.assumptions.lits.items c'.parts
 
 -- the newest of these steps recorded unsat, which wasn't recorded before it, and nothing was learned

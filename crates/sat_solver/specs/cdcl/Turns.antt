@@ -6,8 +6,8 @@ use Rattle.sat_parts.specs.prop.Values.{IsTrueLit, IsFalseLit}
 use Rattle.sat_parts.specs.declared.parts.assumptions.Assumptions.{Assumptions}
 use Rattle.sat_parts.specs.declared.parts.Parts.{Parts}
 use Rattle.sat_parts.specs.parts.Assumed.{AreDecided, ArePlaced, variables}
-use Rattle.sat_parts.specs.parts.Frame.{SameClauses, Carries}
-use Rattle.sat_parts.specs.parts.Round.{AreUnits, IsBased}
+use Rattle.sat_parts.specs.parts.Frame.{SameClauses, AddsNoUnit}
+use Rattle.sat_parts.specs.parts.Round.{UnitsAreUncaused, IsBased}
 use Rattle.sat_parts.specs.parts.Whole.{state, PartsInvariant, HoldsBelow, IsDone, AllAssigned, IsRefuted}
 use Rattle.sat_parts.specs.parts.Words.{TrailWordExtendsFor}
 use Rattle.sat_solver.specs.session.Session.{Session}
@@ -15,7 +15,7 @@ use Rattle.sat_solver.specs.session.Fits.{SessionMatchesParts}
 use Rattle.sat_solver.specs.declared.cdcl.find_conflict.FoundConflict.{FoundConflict}
 use Rattle.sat_solver.specs.declared.cdcl.find_conflict.FoundConflict.TheVariants.{Falsified, Complete, Failed}
 use Rattle.sat_solver.specs.declared.context.Search.{Search}
-use Rattle.sat_solver.specs.cdcl.Joint.{global_in, assumed_in, IsReady, IsSearch, Moved}
+use Rattle.sat_solver.specs.cdcl.Joint.{global_in, assumed_in, IsReadySearch, IsSearch, SameVarsAndAssumptions}
 
 -- all assumptions are true
 abbrev pub AllTrue : List ℕ → Parts → Type 0
@@ -34,11 +34,11 @@ pub record IsFailing (ls : List ℕ) (p : Parts) (l : ℕ) : Type 0 where
   pub decided : AreDecided ls (state p)
 
 -- how it stands where nothing was propagated any more
-abbrev pub StopsAt : Option FoundConflict → List ℕ → Parts → Parts → Type 0
-StopsAt None ls p p' = length p'.trail.starts ≡ length p.trail.starts + 1
-StopsAt (Some (Falsified e)) ls p p' = ⊥
-StopsAt (Some Complete) ls p p' = IsComplete ls p'
-StopsAt (Some (Failed l)) ls p p' = IsFailing ls p' l
+abbrev pub OpensLevelOrStops : Option FoundConflict → List ℕ → Parts → Parts → Type 0
+OpensLevelOrStops None ls p p' = length p'.trail.starts ≡ length p.trail.starts + 1
+OpensLevelOrStops (Some (Falsified e)) ls p p' = ⊥
+OpensLevelOrStops (Some Complete) ls p p' = IsComplete ls p'
+OpensLevelOrStops (Some (Failed l)) ls p p' = IsFailing ls p' l
 
 -- an assumption or an open variable began a level, or there was none
 pub record GoesDeeper (found : Option FoundConflict) (a a' : Assumptions) (p p' : Parts) : Type 0 where
@@ -47,22 +47,22 @@ pub record GoesDeeper (found : Option FoundConflict) (a a' : Assumptions) (p p' 
   pub placed : ArePlaced a' (state p')
   pub word : TrailWordExtendsFor (variables a.lits.items) p p'
   pub same : SameClauses p p'
-  pub carries : Carries (state p) (state p')
-  pub stops : StopsAt found a.lits.items p p'
+  pub carries : AddsNoUnit (state p) (state p')
+  pub stops : OpensLevelOrStops found a.lits.items p p'
 
 -- all was propagated, and no clause is false
 pub record IsPropagated (s : Session) (c : Search) : Type 0 where
   pub holds : HoldsBelow (length c.parts.trail.starts + 1) c.parts
   pub done : IsDone c.parts
-  pub units : 0 < length c.parts.trail.starts → AreUnits (state c.parts) × IsBased c.parts.trail
+  pub units : 0 < length c.parts.trail.starts → UnitsAreUncaused (state c.parts) × IsBased c.parts.trail
   pub fits : SessionMatchesParts c.parts s (global_in c)
-  pub ready : IsReady s c
+  pub ready : IsReadySearch s c
 
 -- a clause is false
 pub record IsStopped (s : Session) (c : Search) (e : Conflict) : Type 0 where
   pub refuted : IsRefuted c.parts e
   pub fits : SessionMatchesParts c.parts s (global_in c)
-  pub ready : IsReady s c
+  pub ready : IsReadySearch s c
 
 -- how it stands where a search stopped: a false clause, a complete assignment, or a failed assumption
 abbrev pub StopSays : FoundConflict → Session → Search → Type 0
@@ -76,13 +76,13 @@ TurnSays None s c c' = IsSearch s c' × (length c'.parts.trail.starts ≡ length
 TurnSays (Some stop) s c c' = StopSays stop s c'
 
 -- what a turn leaves
-pub record Turned (found : Option FoundConflict) (s : Session) (c c' : Search) : Type 0 where
+pub record TakesTurn (found : Option FoundConflict) (s : Session) (c c' : Search) : Type 0 where
   pub says : TurnSays found s c c'
-  pub moved : Moved c c'
+  pub moved : SameVarsAndAssumptions c c'
   pub word : TrailWordExtendsFor (assumed_in c) c.parts c'.parts
 
 -- where a search stopped
-pub record Stopped (stop : FoundConflict) (s : Session) (c c' : Search) : Type 0 where
+pub record StopsSearch (stop : FoundConflict) (s : Session) (c c' : Search) : Type 0 where
   pub says : StopSays stop s c'
-  pub moved : Moved c c'
+  pub moved : SameVarsAndAssumptions c c'
   pub word : TrailWordExtendsFor (assumed_in c) c.parts c'.parts

@@ -6,7 +6,7 @@ use Rattle.sat_solver.specs.declared.config.SolverConfig.{SolverConfig}
 use Rattle.sat_parts.specs.parts.Words.{TrailWordExtends}
 use Rattle.sat_solver.specs.session.Session.{Session}
 use Rattle.sat_solver.specs.declared.context.Search.{Search}
-use Rattle.sat_solver.specs.cdcl.Joint.{IsSearch, Moved}
+use Rattle.sat_solver.specs.cdcl.Joint.{IsSearch, SameVarsAndAssumptions}
 
 -- these are variables below a number
 abbrev pub AreBelow : List ℕ → ℕ → Type 0
@@ -24,5 +24,5 @@ all_bumped (v ∷ vs) q = all_bumped vs (bumped v q)
 -- what is searched is the same, and the trail's words go on
 pub record Bumped (s : Session) (c c' : Search) : Type 0 where
   pub search : IsSearch s c'
-  pub moved : Moved c c'
+  pub moved : SameVarsAndAssumptions c c'
   pub word : TrailWordExtends c.parts c'.parts

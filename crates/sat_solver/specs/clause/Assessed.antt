@@ -42,13 +42,13 @@ pub record TakesPart (levels : ℕ) (words words' refs : List ℕ) (o : ℕ) (s 
   pub improves : PutsHeader raised words' refs o (improved levels (header_at raised o))
 
 -- activities decayed
-pub record Decays (words words' refs : List ℕ) (s s' : Scale) : Type 0 where
+pub record DecaysActivities (words words' refs : List ℕ) (s s' : Scale) : Type 0 where
   pub later : later_bump s < 2 ^ 30 → (s' ≡ later_scale s) × (words' ≡ words)
   pub rescaled : 2 ^ 30 ≤ later_bump s → DecaysAll words words' refs s s'
 
 -- each of these clauses in turn took part, and then activities decayed
 abbrev pub TakePart : (levels : ℕ → ℕ) (refs os words : List ℕ) (s : Scale) (words' : List ℕ) (s' : Scale) → Type 0
-TakePart levels refs [] words s words' s' = Decays words words' refs s s'
+TakePart levels refs [] words s words' s' = DecaysActivities words words' refs s s'
 TakePart levels refs (o ∷ os) words s words' s' = (mid : List ℕ) × (t : Scale) × TakesPart (levels o) words mid refs o s t × TakePart levels refs os mid t words' s'
 
 -- headers of long clauses changed, and nothing else did

@@ -4,15 +4,15 @@ use Rattle.std.specs.List.{Contains, filter}
 use Rattle.std.specs.List.Sorted.{IsPermutation, IsNonDecreasingBy}
 use Rattle.sat_base.specs.device.Device.{Writer}
 use Rattle.sat_checker.specs.declared.processing.ProofProcessor.{Ghosts}
-use Rattle.sat_store.specs.clause.Buffer.{Keeps, header_at}
+use Rattle.sat_store.specs.clause.Buffer.{SameClauseAt, header_at}
 use Rattle.sat_store.specs.declared.clause.tier.Tier.TheVariants.{Local}
 use Rattle.sat_parts.specs.clause.Activity.{PutsHeaders}
-use Rattle.sat_parts.specs.clause.Db.{live_refs, is_live_of, IsAsserting}
+use Rattle.sat_parts.specs.clause.Db.{live_refs, is_live_of, IsLockedClause}
 use Rattle.sat_parts.specs.clause.Reduced.{reduced}
 use Rattle.sat_solver.specs.declared.config.SolverConfig.{SolverConfig}
 use Rattle.sat_parts.specs.declared.parts.Parts.{Parts}
 use Rattle.sat_parts.specs.parts.Frame.{SameSearch, Headed, Dropped, Copied}
-use Rattle.sat_parts.specs.parts.Reducing.{rank}
+use Rattle.sat_parts.specs.parts.Reducing.{clause_rank}
 use Rattle.sat_parts.specs.parts.Words.{TrailWordExtends, TrailWordExtendsFor}
 use Rattle.sat_solver.specs.proof.ProofView.{session_of}
 use Rattle.sat_solver.specs.session.Session.{Session}
@@ -21,7 +21,7 @@ use Rattle.sat_solver.specs.declared.error.SolverError.{SolverError}
 use Rattle.sat_solver.specs.session.Fits.{is_redundant}
 use Rattle.sat_solver.specs.declared.context.Search.{Search}
 use Rattle.sat_solver.specs.cdcl.Going.{EmitsSteps}
-use Rattle.sat_solver.specs.cdcl.Joint.{assumed_in, IsSearch, Moved}
+use Rattle.sat_solver.specs.cdcl.Joint.{assumed_in, IsSearch, SameVarsAndAssumptions}
 
 -- a live long clause that was learned
 pub record IsLearnt (p : Parts) (o : ℕ) : Type 0 where
@@ -30,7 +30,7 @@ pub record IsLearnt (p : Parts) (o : ℕ) : Type 0 where
 
 -- the clause at o is the reason of its first literal
 abbrev pub IsReason : Parts → ℕ → Type 0
-IsReason p o = IsAsserting p.clauses p.assignment.current p.graph o
+IsReason p o = IsLockedClause p.clauses p.assignment.current p.graph o
 
 -- the clause at o was deleted where it is no reason, and else nothing changed
 abbrev pub Tried : (deleted : Bool) (o : ℕ) → Parts → Parts → Type 0
@@ -40,7 +40,7 @@ Tried false o p p' = IsReason p o × (p' ≡ p)
 -- the clause at o was deleted, or it stands
 pub record Deleted (deleted : Bool) (o : ℕ) (s : Session) (c c' : Search) : Type 0 where
   pub search : IsSearch s c'
-  pub moved : Moved c c'
+  pub moved : SameVarsAndAssumptions c c'
   pub word : TrailWordExtends c.parts c'.parts
   pub others : (p : ℕ) → p ≢ o → IsLearnt c.parts p → IsLearnt c'.parts p
   pub tried : Tried deleted o c.parts c'.parts
@@ -48,7 +48,7 @@ pub record Deleted (deleted : Bool) (o : ℕ) (s : Session) (c c' : Search) : Ty
 -- what is searched is the same, and the trail's words go on
 pub record Reduced (s : Session) (c c' : Search) : Type 0 where
   pub search : IsSearch s c'
-  pub moved : Moved c c'
+  pub moved : SameVarsAndAssumptions c c'
   pub word : TrailWordExtendsFor (assumed_in c) c.parts c'.parts
 
 -- the same by steps, where the parts changed in this way
@@ -65,10 +65,10 @@ AreFirstFree p (o ∷ os) (suc n) free =
     (IsReason p o × AreFirstFree p os (suc n) free) ⊎ ((IsReason p o → ⊥) × (rest : List ℕ) × (free ≡ o ∷ rest) × AreFirstFree p os n rest)
 
 -- these live clauses were deleted, and the others are live and as they were
-pub record Deletes (p p' : Parts) (gone : List ℕ) : Type 0 where
+pub record DeletesJustThese (p p' : Parts) (gone : List ℕ) : Type 0 where
   pub deleted : (o : ℕ) → Contains gone o → Contains (live_refs p.clauses p.db.refs) o × (Contains (live_refs p'.clauses p'.db.refs) o → ⊥)
   pub others : (o : ℕ) → Contains (live_refs p.clauses p.db.refs) o → Contains gone o ⊎ Contains (live_refs p'.clauses p'.db.refs) o
-  pub stay : (o : ℕ) → Contains (live_refs p'.clauses p'.db.refs) o → Contains (live_refs p.clauses p.db.refs) o × Keeps p.clauses p'.clauses o
+  pub stay : (o : ℕ) → Contains (live_refs p'.clauses p'.db.refs) o → Contains (live_refs p.clauses p.db.refs) o × SameClauseAt p.clauses p'.clauses o
   pub same : SameSearch p p'
 
 -- half of the live clauses of tier Local, rounded down, were deleted: those of lowest activity, of equals the one that came first, but
@@ -76,10 +76,10 @@ pub record Deletes (p p' : Parts) (gone : List ℕ) : Type 0 where
 pub record HalvesLocals (p p' : Parts) : Type 0 where
   pub locals : List ℕ
   pub all : IsPermutation (filter (is_live_of p.clauses Local) p.db.refs) locals
-  pub rising : IsNonDecreasingBy (rank p.clauses) locals
+  pub rising : IsNonDecreasingBy (clause_rank p.clauses) locals
   pub gone : List ℕ
   pub first : AreFirstFree p locals (length locals / 2) gone
-  pub deletes : Deletes p p' gone
+  pub deletes : DeletesJustThese p p' gone
 
 -- where that is due
 abbrev pub ReducesLocals : Bool → Parts → Parts → Type 0

@@ -7,11 +7,11 @@ use Rattle.sat_solver.specs.session.Session.{session_after}
 use Rattle.sat_solver.specs.session.LiveClauses.{with_var}
 use Rattle.sat_store.specs.declared.data.VarData.{VarData}
 use Rattle.sat_solver.specs.variables.Variables.{data_at, variables_used}
-use Rattle.sat_solver.specs.variables.Naming.{Extends}
+use Rattle.sat_solver.specs.variables.Naming.{ExtendsNames}
 use Rattle.sat_solver.specs.variables.Refusing.{names_in}
 use Rattle.sat_checker.specs.matching.Expected.{Outcome, Opens, bringing}
 use Rattle.sat_solver.specs.load.Literals.{named_literal, Images, global_in}
-use Rattle.sat_solver.specs.variables.Search.{KeepsSearch, Gives}
+use Rattle.sat_solver.specs.variables.Search.{KeepsSearch, GivesIndices}
 use Rattle.sat_solver.specs.variables.Calls.{NamesRefineJudge}
 use Rattle.sat_solver.specs.session.Coming.{OnlyAllowedSteps}
 use Rattle.sat_solver.specs.variables.Coming.{MayTake}
@@ -24,7 +24,7 @@ marked_if true assumed d = record d { assumed = assumed }
 marked_if false assumed d = d
 
 -- the variables of these literals are marked so
-pub record Marks (old new : ℕ → VarData) (ls : List ℕ) (assumed : Bool) : Type 0 where
+pub record MarksAssumed (old new : ℕ → VarData) (ls : List ℕ) (assumed : Bool) : Type 0 where
   pub each : (v : ℕ) → new v ≡ marked_if (mentions ls v) assumed (old v)
 
 -- exactly the variables of these literals are marked
@@ -39,12 +39,12 @@ pub record PutsMarks (old new : Variables) (ls : List ℕ) : Type 0 where
   pub free_solvers : new.free_solvers ≡ old.free_solvers
 
 -- The names of the literals came in, their variables have indices, and they are the assumptions from here on, whatever will be answered.
-pub record Assumes (old new : Variables) (from to : List Step) (user : List ℕ) (t : Taken) : Type 0 where
+pub record BringsAssumptions (old new : Variables) (from to : List Step) (user : List ℕ) (t : Taken) : Type 0 where
   pub does : (o : Outcome) → NamesRefineJudge old new from to (bring_all (names_in user)) (λ j. bringing (names_in user) j ++ (Opens (map named_literal user) o ∷ []))
-  pub extends : Extends old new
+  pub extends : ExtendsNames old new
   pub images : Images new user t.order.items
   pub globals : t.globals.items ≡ map (with_var (global_in new)) t.order.items
-  pub gives : Gives old new (session_after from) t.given.items
+  pub gives : GivesIndices old new (session_after from) t.given.items
   -- the steps before theirs, which the search doesn't see
   pub between : List Step
   pub written : to ≡ Assumptions t.globals.items ∷ between

@@ -1,11 +1,11 @@
 -- A search at level 0.
 use Rattle.std.specs.Prelude.{◌≡◌, []}
 use Rattle.sat_parts.specs.parts.Assumed.{ArePlaced}
-use Rattle.sat_parts.specs.parts.Frame.{SameClauses, Carries}
+use Rattle.sat_parts.specs.parts.Frame.{SameClauses, AddsNoUnit}
 use Rattle.sat_parts.specs.parts.Whole.{state, PartsInvariant}
 use Rattle.sat_parts.specs.parts.Words.{TrailWordStays}
 use Rattle.sat_solver.specs.session.Session.{Session}
-use Rattle.sat_solver.specs.cdcl.Joint.{IsFree, IsSearch, Moved}
+use Rattle.sat_solver.specs.cdcl.Joint.{IsFree, IsSearch, SameVarsAndAssumptions}
 use Rattle.sat_solver.specs.declared.context.Search.{Search}
 
 -- all levels were undone: clauses, units, variables and assumptions are as they were, and what held of the search holds
@@ -13,10 +13,10 @@ pub record AtBottom (c c' : Search) : Type 0 where
   pub bottom : c'.parts.trail.starts ≡ []
   pub holds : PartsInvariant c'.parts
   pub same : SameClauses c.parts c'.parts
-  pub carries : Carries (state c.parts) (state c'.parts)
+  pub carries : AddsNoUnit (state c.parts) (state c'.parts)
   pub stay : TrailWordStays c.parts c'.parts
   pub placed : ArePlaced c'.assumptions (state c'.parts)
-  pub moved : Moved c c'
+  pub moved : SameVarsAndAssumptions c c'
   pub rest : c' ≡ record c { parts = c'.parts; assumptions = c'.assumptions }
   pub free : IsFree c → IsFree c'
   pub search : (s : Session) → IsSearch s c → IsSearch s c'

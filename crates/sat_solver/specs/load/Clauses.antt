@@ -4,11 +4,11 @@ use Rattle.sat_base.specs.script.Judge.{bring_all, with_clause}
 use Rattle.sat_base.specs.steps.Steps.{Step, AddClause}
 use Rattle.sat_checker.specs.LiteralSets.{is_tautology}
 use Rattle.sat_solver.specs.session.Session.{session_after}
-use Rattle.sat_solver.specs.variables.Naming.{Extends}
+use Rattle.sat_solver.specs.variables.Naming.{ExtendsNames}
 use Rattle.sat_solver.specs.variables.Refusing.{names_in}
 use Rattle.sat_checker.specs.matching.Expected.{Adds, bringing}
 use Rattle.sat_solver.specs.load.Literals.{named_literal, Images, MapsClause}
-use Rattle.sat_solver.specs.variables.Search.{KeepsSearch, IsUnseen, Gives}
+use Rattle.sat_solver.specs.variables.Search.{KeepsSearch, IsUnseen, GivesIndices}
 use Rattle.sat_solver.specs.variables.Calls.{NamesRefineJudge}
 use Rattle.sat_solver.specs.session.Coming.{OnlyAllowedSteps}
 use Rattle.sat_solver.specs.variables.Coming.{IsDue, MayTake}
@@ -16,13 +16,13 @@ use Rattle.sat_solver.specs.declared.variables.Variables.{Variables}
 use Rattle.sat_solver.specs.declared.load.literals.Taken.{Taken}
 
 -- Its names came in, their variables have indices, and it was written.
-pub record AddsClause (old new : Variables) (from to : List Step) (user : List ℕ) (t : Taken) (both_signs : Bool) : Type 0 where
+pub record BringsClause (old new : Variables) (from to : List Step) (user : List ℕ) (t : Taken) (both_signs : Bool) : Type 0 where
   pub does : NamesRefineJudge old new from to (λ j. with_clause (map named_literal user) (bring_all (names_in user) j)) (λ j. bringing (names_in user) j ++ (Adds (map named_literal user) ∷ []))
   pub signs : both_signs ≡ is_tautology t.order.items
-  pub extends : Extends old new
+  pub extends : ExtendsNames old new
   pub images : Images new user t.order.items
   pub clause : MapsClause new t
-  pub gives : Gives old new (session_after from) t.given.items
+  pub gives : GivesIndices old new (session_after from) t.given.items
   -- the steps before the clause's, which the search doesn't see
   pub between : List Step
   pub since : OnlyAllowedSteps (MayTake (names_in user)) from between
@@ -33,6 +33,6 @@ pub record AddsClause (old new : Variables) (from to : List Step) (user : List �
 -- Its names came in, and it was not written, which the clauses' being unsatisfiable allows.
 pub record LeavesOut (old new : Variables) (from to : List Step) (user : List ℕ) : Type 0 where
   pub does : NamesRefineJudge old new from to (λ j. with_clause (map named_literal user) (bring_all (names_in user) j)) (bringing (names_in user))
-  pub extends : Extends old new
+  pub extends : ExtendsNames old new
   pub unseen : IsUnseen old new from to
   pub comes : OnlyAllowedSteps IsDue from to

@@ -10,10 +10,10 @@ use Rattle.sat_solver.specs.session.Session.{session_after}
 use Rattle.sat_solver.specs.session.LiveClauses.{with_var}
 use Rattle.sat_store.specs.declared.data.SamplingMode.TheVariants as kept
 use Rattle.sat_solver.specs.variables.Variables.{data_at, global_of, solver_of}
-use Rattle.sat_solver.specs.variables.Naming.{Extends}
+use Rattle.sat_solver.specs.variables.Naming.{ExtendsNames}
 use Rattle.sat_solver.specs.variables.Refusing.{names_in}
 use Rattle.sat_checker.specs.matching.Expected.{bringing}
-use Rattle.sat_solver.specs.variables.Search.{KeepsSearch, Gives}
+use Rattle.sat_solver.specs.variables.Search.{KeepsSearch, GivesIndices}
 use Rattle.sat_solver.specs.variables.Calls.{NamesRefineJudge}
 use Rattle.sat_solver.specs.session.Coming.{OnlyAllowedSteps}
 use Rattle.sat_solver.specs.variables.Coming.{MayTake}
@@ -69,11 +69,11 @@ abbrev pub global_in : Variables → ℕ → ℕ
 global_in n x = get_or n.globals.items x 0
 
 -- The names of the literals came in, and their variables have indices.
-pub record Takes (old new : Variables) (from to : List Step) (user : List ℕ) (t : Taken) : Type 0 where
+pub record BringsLiterals (old new : Variables) (from to : List Step) (user : List ℕ) (t : Taken) : Type 0 where
   pub does : NamesRefineJudge old new from to (bring_all (names_in user)) (bringing (names_in user))
-  pub extends : Extends old new
+  pub extends : ExtendsNames old new
   pub images : Images new user t.order.items
-  pub gives : Gives old new (session_after from) t.given.items
+  pub gives : GivesIndices old new (session_after from) t.given.items
   pub search : KeepsSearch (session_after from) (session_after to)
   pub comes : OnlyAllowedSteps (MayTake (names_in user)) from to
 

@@ -12,7 +12,7 @@ use Rattle.sat_solver.specs.declared.proof.Proof.{Proof}
 use Rattle.sat_solver.specs.declared.error.SolverError.{SolverError}
 use Rattle.sat_parts.specs.parts.Full.{IsFull}
 use Rattle.sat_solver.specs.cdcl.Going.{EmitsSteps, EmitsStepsOr}
-use Rattle.sat_solver.specs.cdcl.Joint.{global_in, IsSearch, Moved}
+use Rattle.sat_solver.specs.cdcl.Joint.{global_in, IsSearch, SameVarsAndAssumptions}
 use Rattle.sat_solver.specs.declared.context.Search.{Search}
 
 -- literals of a clause that may be loaded at level 0: different ones of variables that are there
@@ -37,7 +37,7 @@ SearchGoesOn false s c = s.unsat ≡ true
 -- a clause was loaded: variables and assumptions are as they were
 pub record IsLoaded (left : Bool) (s : Session) (c c' : Search) : Type 0 where
   pub goes_on : SearchGoesOn left s c'
-  pub moved : Moved c c'
+  pub moved : SameVarsAndAssumptions c c'
   pub bottom : c'.parts.trail.starts ≡ []
 
 -- the step of a clause that goes since one of its literals is true

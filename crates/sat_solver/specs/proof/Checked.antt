@@ -12,9 +12,9 @@ use Rattle.sat_checker.specs.declared.error.CheckerError.TheVariants as errors
 use Rattle.sat_checker.specs.declared.processing.Nobody.{Nobody}
 use Rattle.sat_checker.specs.declared.processing.Processing.{Processing}
 use Rattle.sat_solver.specs.session.Due.{kept_if}
-use Rattle.sat_solver.specs.proof.Listening.{AreListed, Hears, HeardAll, HasHeard, FailedOf}
+use Rattle.sat_solver.specs.proof.Listening.{AreJustListeners, Hears, HeardAll, HasHeard, FailedOf}
 use Rattle.sat_solver.specs.session.Session.{MayAll}
-use Rattle.sat_solver.specs.proof.Widths.{IsWritten}
+use Rattle.sat_solver.specs.proof.Widths.{IsNarrowedTo}
 use Rattle.sat_solver.specs.declared.proof.checker.Checked.{Checked}
 use Rattle.sat_solver.specs.declared.proof.made.CheckFault.{CheckFault}
 use Rattle.sat_solver.specs.declared.proof.made.CheckFault.TheVariants as checks
@@ -46,9 +46,9 @@ pub record Listened {L : Type 0} (added : List L) (steps : List Step) (Heard : P
   pub all : steps ≡ later ++ taken
   pub written : List Step
   pub bits : ℕ
-  pub cut : IsWritten (unended taken) written bits
+  pub cut : IsNarrowedTo (unended taken) written bits
   pub begun : Processing L Nobody
-  pub were : AreListed added begun
+  pub were : AreJustListeners added begun
   pub heard : Heard begun written
 
 -- why it may fail of a step that it doesn't refuse
@@ -70,16 +70,16 @@ cause_in e = checks.OutOfMemory
 
 -- what an answer of the checker says: `Ok` that the first holds, an error that it is such a cause, of which the second holds
 abbrev pub OrCause : Result (Unit {0}) CheckerError → Type 0 → (CheckFault → Type 0) → Type 0
-OrCause (Ok x) Fed Failed = Fed
-OrCause (Err e) Fed Failed = IsCause e × Failed (cause_in e)
+OrCause (Ok x) Fed FailsWhileHeard = Fed
+OrCause (Err e) Fed FailsWhileHeard = IsCause e × FailsWhileHeard (cause_in e)
 
 module _ {L : Type 0} (takes : L → Told → Result Unit Error → L → Type 0) where
   -- it has accepted what is written for these steps, but for ends, goes on, and has told it to these, since they were added
   pub record IsFed (own : Checked L) (added : List L) (steps : List Step) : Type 0 where
     pub written : List Step
-    pub cut : IsWritten (unended steps) written own.bits
+    pub cut : IsNarrowedTo (unended steps) written own.bits
     pub begun : Processing L Nobody
-    pub were : AreListed added begun
+    pub were : AreJustListeners added begun
     pub stands : Stands (Hears takes) [] begun (seen_of own.checker) written
     pub going : has_failed (kernel_of own.checker) ≡ false
 
@@ -92,26 +92,26 @@ module _ {L : Type 0} (takes : L → Told → Result Unit Error → L → Type 0
   HeardWhole added now steps = (h : Listened added steps (λ begun written. (end : Processing L Nobody) × (listeners_of end ≡ now) × HeardAll takes begun end written)) × (h.later ≡ [])
 
   -- it failed so
-  abbrev pub Failed : (added : List L) (now : Listeners L Nobody) → List Step → CheckFault → Type 0
-  Failed added now steps fault = Listened added steps (λ begun written. (end : Processing L Nobody) × (listeners_of end ≡ now) × FailedOf takes begun end written fault)
+  abbrev pub FailsWhileHeard : (added : List L) (now : Listeners L Nobody) → List Step → CheckFault → Type 0
+  FailsWhileHeard added now steps fault = Listened added steps (λ begun written. (end : Processing L Nobody) × (listeners_of end ≡ now) × FailedOf takes begun end written fault)
 
   -- a step that may be made is taken, or something failed that isn't the step
   abbrev pub TakesStep : Result (Unit {0}) CheckerError → Checked L → Step → Checked L → Type 0
   TakesStep result old step new = (added : List L) (steps : List Step) → MayAll (step ∷ steps) → IsFed old added steps
-      → OrCause result (IsFed new added (step ∷ steps)) (Failed added (listeners_of (who_listens new)) (step ∷ steps))
+      → OrCause result (IsFed new added (step ∷ steps)) (FailsWhileHeard added (listeners_of (who_listens new)) (step ∷ steps))
 
   -- it's told a width
   abbrev pub TakesWidth : Result (Unit {0}) CheckerError → Checked L → Checked L → Type 0
-  TakesWidth result old new = (added : List L) (steps : List Step) → MayAll steps → IsFed old added steps → OrCause result (IsFed new added steps) (Failed added (listeners_of (who_listens new)) steps)
+  TakesWidth result old new = (added : List L) (steps : List Step) → MayAll steps → IsFed old added steps → OrCause result (IsFed new added steps) (FailsWhileHeard added (listeners_of (who_listens new)) steps)
 
   -- no unit conflict waits for its id any more
   abbrev pub TakesDelayed : Result (Unit {0}) CheckerError → Checked L → Checked L → Type 0
   TakesDelayed result old new = (added : List L) (steps : List Step) → IsFed old added steps
-      → OrCause result (IsFed new added steps × IsSettled (kernel_of new.checker)) (Failed added (listeners_of (who_listens new)) steps)
+      → OrCause result (IsFed new added steps × IsSettled (kernel_of new.checker)) (FailsWhileHeard added (listeners_of (who_listens new)) steps)
 
   -- what may be written is never refused
-  abbrev pub Feeds : Result (Unit {0}) CheckerError → Seen (Processing L Nobody) → Step → Seen (Processing L Nobody) → Type 0
-  Feeds result old step new =
+  abbrev pub FeedsOwnChecker : Result (Unit {0}) CheckerError → Seen (Processing L Nobody) → Step → Seen (Processing L Nobody) → Type 0
+  FeedsOwnChecker result old step new =
       (begun : Processing L Nobody) (written : List Step) → Stands (Hears takes) [] begun old written → has_failed old.kernel ≡ false → MayAll (step ∷ written)
       → OrCause result (Stands (Hears takes) [] begun new (step ∷ written) × (has_failed new.kernel ≡ false)) (λ fault. FailedOf takes begun new.listeners written fault ⊎ FailedOf takes begun new.listeners (step ∷ written) fault)
 
@@ -122,11 +122,11 @@ module _ {L : Type 0} (takes : L → Told → Result Unit Error → L → Type 0
 
   -- where nobody was added no processor answers a fault
   abbrev pub NobodyComplains : Type 0
-  NobodyComplains = (now : Listeners L Nobody) (steps : List Step) (cause : Error) → Failed [] now steps (checks.Processor cause) → ⊥
+  NobodyComplains = (now : Listeners L Nobody) (steps : List Step) (cause : Error) → FailsWhileHeard [] now steps (checks.Processor cause) → ⊥
 
   -- another one listens too, or no memory was left for it
-  abbrev pub TakesIn : Result (Unit {0}) CheckerError → Checked L → L → Checked L → Type 0
-  TakesIn result old processor new = (added : List L) (steps : List Step) → has_begun steps ≡ false → IsFed old added steps
+  abbrev pub AddsOwnListener : Result (Unit {0}) CheckerError → Checked L → L → Checked L → Type 0
+  AddsOwnListener result old processor new = (added : List L) (steps : List Step) → has_begun steps ≡ false → IsFed old added steps
       → OrCause result (IsFed new (added ++ processor ∷ []) steps) (λ fault. (fault ≡ checks.OutOfMemory) × Heard added (listeners_of (who_listens new)) steps)
 
   -- it begins anew, and those who listened to it are those who were added to it

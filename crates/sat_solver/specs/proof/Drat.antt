@@ -5,7 +5,7 @@ use Rattle.sat_base.specs.values.Literals.{negated}
 use Rattle.sat_base.specs.steps.Steps.{Step, AddClause}
 use Rattle.sat_checker.specs.LiteralSets.{canonical, same_literals}
 use Rattle.sat_checker.specs.Propagation.{UnitInTurn}
-use Rattle.sat_solver.specs.proof.DratText.{Line, Derives, Deletes, lines_of}
+use Rattle.sat_solver.specs.proof.DratText.{DratLine, Derives, Deletes, drat_lines}
 use Rattle.sat_checker.specs.Contents.{more_if}
 use Rattle.sat_solver.specs.session.Session.{MayAll, session_after}
 
@@ -20,19 +20,19 @@ without_set set [] = []
 without_set set (c ∷ cs) = if same_literals c set then cs else c ∷ without_set set cs
 
 -- the clauses that are present behind a line
-abbrev pub behind_line : Line → List (List ℕ) → List (List ℕ)
+abbrev pub behind_line : DratLine → List (List ℕ) → List (List ℕ)
 behind_line (Derives clause) cs = canonical clause ∷ cs
 behind_line (Deletes clause) cs = without_set (canonical clause) cs
 
 -- and behind several, the first one first
-abbrev pub behind_lines : List Line → List (List ℕ) → List (List ℕ)
+abbrev pub behind_lines : List DratLine → List (List ℕ) → List (List ℕ)
 behind_lines [] cs = cs
 behind_lines (x ∷ xs) cs = behind_lines xs (behind_line x cs)
 
 -- a clause of the formula comes in by itself
 abbrev pub behind_step : Step → List (List ℕ) → List (List ℕ)
 behind_step (AddClause clause) cs = canonical clause ∷ cs
-behind_step step cs = behind_lines (lines_of step) cs
+behind_step step cs = behind_lines (drat_lines step) cs
 
 -- the clauses that steps leave present: added or derived, and not deleted
 abbrev pub present : List Step → List (List ℕ)
@@ -40,26 +40,26 @@ present [] = []
 present (step ∷ earlier) = behind_step step (present earlier)
 
 -- some present clauses are unit in turn under the assumed literals, the last one falsified
-pub record Refutes (cs : List (List ℕ)) (assumed : List ℕ) : Type 0 where
+pub record RefutesByUnits (cs : List (List ℕ)) (assumed : List ℕ) : Type 0 where
   pub named : List (List ℕ)
   pub are_present : AllByRecursion (λ c. 0 < times c cs) named
   pub turns : UnitInTurn assumed named
 
 -- An added line follows by them under its negated literals, and a deleted one is present.
-abbrev pub LineStands : Line → List (List ℕ) → Type 0
-LineStands (Derives clause) cs = Refutes cs (map negated clause)
+abbrev pub LineStands : DratLine → List (List ℕ) → Type 0
+LineStands (Derives clause) cs = RefutesByUnits cs (map negated clause)
 LineStands (Deletes clause) cs = 0 < times (canonical clause) cs
 
 -- each of them stands over the clauses that those before it leave
-abbrev pub LinesStand : List Line → List (List ℕ) → Type 0
+abbrev pub LinesStand : List DratLine → List (List ℕ) → Type 0
 LinesStand [] cs = Unit {0}
 LinesStand (x ∷ xs) cs = LineStands x cs × LinesStand xs (behind_line x cs)
 
 -- each step's lines stand over the clauses that the steps before it leave
 abbrev pub IsDratDerivation : List Step → Type 0
 IsDratDerivation [] = Unit {0}
-IsDratDerivation (step ∷ earlier) = IsDratDerivation earlier × LinesStand (lines_of step) (present earlier)
+IsDratDerivation (step ∷ earlier) = IsDratDerivation earlier × LinesStand (drat_lines step) (present earlier)
 
 -- Steps that may be made give a DRAT derivation, and where they have recorded unsat the clauses that are left are refuted under no literals.
 abbrev pub DratStands : Type 0
-DratStands = (steps : List Step) → MayAll steps → IsDratDerivation steps × ((session_after steps).unsat ≡ true → Refutes (present steps) [])
+DratStands = (steps : List Step) → MayAll steps → IsDratDerivation steps × ((session_after steps).unsat ≡ true → RefutesByUnits (present steps) [])

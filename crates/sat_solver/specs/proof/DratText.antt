@@ -4,21 +4,21 @@ use Rattle.sat_base.specs.dimacs.DimacsText.{clause_line}
 use Rattle.sat_base.specs.steps.Steps.{Step, AtClause, UnitClauses, DeleteClause}
 
 -- A line: a clause that is derived, or one that is deleted.
-pub data Line : Type 0 where
-  Derives : List ℕ → Line
-  Deletes : List ℕ → Line
+pub data DratLine : Type 0 where
+  Derives : List ℕ → DratLine
+  Deletes : List ℕ → DratLine
 
 -- a line for each derived unit
-abbrev pub unit_lines : List (ℕ × ℕ) → List Line
+abbrev pub unit_lines : List (ℕ × ℕ) → List DratLine
 unit_lines [] = []
 unit_lines (u ∷ us) = Derives (u.0 ∷ []) ∷ unit_lines us
 
 -- the lines of a step, the first one first
-abbrev pub lines_of : Step → List Line
-lines_of (AtClause redundant clause hashes) = Derives clause ∷ []
-lines_of (UnitClauses us) = unit_lines us
-lines_of (DeleteClause clause proof) = Deletes clause ∷ []
-lines_of step = []
+abbrev pub drat_lines : Step → List DratLine
+drat_lines (AtClause redundant clause hashes) = Derives clause ∷ []
+drat_lines (UnitClauses us) = unit_lines us
+drat_lines (DeleteClause clause proof) = Deletes clause ∷ []
+drat_lines step = []
 
 -- IN WORDS: `d ` before a deleted clause; each literal's number and a space; `0` and LF.
 -- IN BYTES: `a` or `d`; each literal's code and two, in groups of seven bits, low group first; a byte of zero.
@@ -46,15 +46,15 @@ clause_text false clause = clause_line clause
 clause_text true clause = bytes_line clause
 
 -- a clause behind what tells derived and deleted ones apart
-abbrev pub line_text : (binary : Bool) → Line → List ℕ
-line_text binary (Derives clause) = mark binary false ++ clause_text binary clause
-line_text binary (Deletes clause) = mark binary true ++ clause_text binary clause
+abbrev pub drat_line_text : (binary : Bool) → DratLine → List ℕ
+drat_line_text binary (Derives clause) = mark binary false ++ clause_text binary clause
+drat_line_text binary (Deletes clause) = mark binary true ++ clause_text binary clause
 
 -- lines, one behind the other
-abbrev pub lines_text : (binary : Bool) → List Line → List ℕ
+abbrev pub lines_text : (binary : Bool) → List DratLine → List ℕ
 lines_text binary [] = []
-lines_text binary (x ∷ xs) = line_text binary x ++ lines_text binary xs
+lines_text binary (x ∷ xs) = drat_line_text binary x ++ lines_text binary xs
 
 -- what a step gives
 abbrev pub drat_text : (binary : Bool) → Step → List ℕ
-drat_text binary step = lines_text binary (lines_of step)
+drat_text binary step = lines_text binary (drat_lines step)

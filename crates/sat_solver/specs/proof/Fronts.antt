@@ -9,7 +9,7 @@ use Rattle.sat_checker.specs.declared.processing.ProofProcessor.{Ghosts}
 use Rattle.sat_solver.specs.proof.Checked.{has_begun}
 use Rattle.sat_solver.specs.proof.Counting.{start, TruncatesHashes}
 use Rattle.sat_solver.specs.proof.OutputView.{text_in}
-use Rattle.sat_solver.specs.proof.ProofView.{Target, Open, Carries, Stops, Gives, target_of, steps_of}
+use Rattle.sat_solver.specs.proof.ProofView.{Target, Open, TargetTakes, TargetFails, GivesWriter, target_of, steps_of}
 use Rattle.sat_solver.specs.session.Session.{MayAll}
 use Rattle.sat_solver.specs.declared.proof.hash_bits.Counting.{Counting}
 use Rattle.sat_solver.specs.declared.proof.format.ProofFormat.{ProofFormat}
@@ -36,17 +36,17 @@ pub record FrontSince (f : ProofFormat) (from given : Writer) (before now : List
   pub front : FrontText f from given steps
 
 -- These steps were made, and the target was given their text; or a call of it failed at the text of the first of them.
-abbrev pub Follows : Target → List Step → Target → Type 0
-Follows old steps new = Carries old steps new ⊎ ((later : List Step) × (first : List Step) × (steps ≡ later ++ first) × Stops old first new)
+abbrev pub TargetTakesFront : Target → List Step → Target → Type 0
+TargetTakesFront old steps new = TargetTakes old steps new ⊎ ((later : List Step) × (first : List Step) × (steps ≡ later ++ first) × TargetFails old first new)
 
 -- it came from there by steps, whether or not a call failed
 pub record WentOn {W L : Type 0} {G : Ghosts L} (seen : W → Writer) (old new : Proof W L G) : Type 0 where
   pub steps : List Step
   pub history : steps_of new ≡ steps ++ steps_of old
-  pub target : Follows (target_of seen old) steps (target_of seen new)
+  pub target : TargetTakesFront (target_of seen old) steps (target_of seen new)
 
 -- Where a target was opened before anything else, its writer being this one then, and these steps were made since, it is handed back
 -- having taken a front of the text of accepted steps.
 abbrev pub FrontsAreAccepted : Type 0
 FrontsAreAccepted = (f : ProofFormat) (from given : Writer) (before steps : List Step) (now : Target) → has_begun before ≡ false → MayAll (steps ++ before)
-    → Follows (Open f start (empty_sink from)) steps now → Gives now (Some given) → FrontSince f from given before (steps ++ before)
+    → TargetTakesFront (Open f start (empty_sink from)) steps now → GivesWriter now (Some given) → FrontSince f from given before (steps ++ before)

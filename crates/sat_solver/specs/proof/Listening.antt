@@ -20,8 +20,8 @@ abbrev pub reads_nothing : Nobody → Transcribed → Result Unit Error → Nobo
 reads_nothing old said result new = (result ≡ Ok tt) × (new ≡ old)
 
 -- these listen, and nobody else
-abbrev pub AreListed : {L : Type 0} → List L → Processing L Nobody → Type 0
-AreListed listed who = listeners_of who ≡ record { processors = listed; transcripts = [] }
+abbrev pub AreJustListeners : {L : Type 0} → List L → Processing L Nobody → Type 0
+AreJustListeners listed who = listeners_of who ≡ record { processors = listed; transcripts = [] }
 
 module _ {L : Type 0} (takes : L → Told → Result Unit Error → L → Type 0) where
   -- each processor hears what is told, as its relation has it

@@ -10,7 +10,7 @@ use Rattle.sat_checker.specs.telling.Telling.{Listeners}
 use Rattle.sat_checker.specs.declared.processing.Nobody.{Nobody}
 use Rattle.sat_checker.specs.declared.processing.ProofProcessor.{Ghosts}
 use Rattle.sat_solver.specs.proof.Complaints.{IsComplaint}
-use Rattle.sat_solver.specs.proof.Checked.{Failed, Heard, HeardWhole, who_listens}
+use Rattle.sat_solver.specs.proof.Checked.{FailsWhileHeard, Heard, HeardWhole, who_listens}
 use Rattle.sat_solver.specs.declared.proof.checker.Checked.{Checked}
 use Rattle.sat_solver.specs.declared.proof.made.Made.{Made}
 use Rattle.sat_solver.specs.declared.proof.made.CheckFault.{CheckFault}
@@ -61,7 +61,7 @@ module _ {L : Type 0} (takes : L → Told → Result Unit Error → L → Type 0
   -- there is a checker, which failed so by these steps; for a processor's fault somebody listens
   abbrev pub ComplainsIn : CheckFault → Option (Checked L) → (added : List L) → List Step → Type 0
   ComplainsIn fault None added steps = ⊥
-  ComplainsIn fault (Some own) added steps = ∥ Failed takes added (listeners_of (who_listens own)) steps fault ∥₁ × HasListeners fault (Some added)
+  ComplainsIn fault (Some own) added steps = ∥ FailsWhileHeard takes added (listeners_of (who_listens own)) steps fault ∥₁ × HasListeners fault (Some added)
 
   -- These were handed back: those who were added, behind what they have heard. Who has no checker has nobody to hand back.
   pub record IsHanded (added given : List L) (steps : List Step) : Type 0 where
@@ -112,8 +112,8 @@ OrComplainsUnless lost (Ok x) m = Unit {0}
 OrComplainsUnless lost (Err fault) m = ComplainsOr lost fault m
 
 -- its processor's complaint was told
-abbrev pub told : {L : Type 0} {G : Ghosts L} → Made L G → Made L G
-told m = record m { complaint = None }
+abbrev pub without_complaint : {L : Type 0} {G : Ghosts L} → Made L G → Made L G
+without_complaint m = record m { complaint = None }
 
 -- the step was made
 pub record Makes {L : Type 0} {G : Ghosts L} (step : Step) (old new : Made L G) : Type 0 where

@@ -1,7 +1,7 @@
 -- Where a proof's text goes, and what it is in each format. Lists of steps have the newest first.
 use Rattle.std.specs.Prelude.{◌≡◌, ℕ, Bool, true, false, List, [], ◌∷◌, ◌++◌, Result, Ok, Err}
 use Rattle.std.specs.List.{AllByRecursion}
-use Rattle.sat_base.specs.device.Device.{Writer, Takes, Breaks}
+use Rattle.sat_base.specs.device.Device.{Writer, WriterTakes, WriterBreaks}
 use Rattle.sat_base.specs.device.Sink.{Sink, Sent, empty_sink}
 use Rattle.sat_base.specs.steps.Steps.{Step}
 use Rattle.sat_base.specs.steps.StepBytes.{step_bytes}
@@ -35,24 +35,24 @@ text_in f [] = []
 text_in f (step ∷ earlier) = text_in f earlier ++ step_text f step
 
 -- in bytes the text spells each of these steps
-abbrev pub AreSpelt : ProofFormat → List Step → Type 0
-AreSpelt f = AllByRecursion (SpellsIn f)
+abbrev pub AreSpeltInFormat : ProofFormat → List Step → Type 0
+AreSpeltInFormat f = AllByRecursion (SpellsIn f)
 
 -- these steps' text was written to a sink, or waits in it
-pub record Wrote (f : ProofFormat) (steps : List Step) (old new : Sink) : Type 0 where
-  pub spelt : AreSpelt f steps
+pub record SendsSteps (f : ProofFormat) (steps : List Step) (old new : Sink) : Type 0 where
+  pub spelt : AreSpeltInFormat f steps
   pub sent : Sent old new (text_in f steps)
 
 -- what came of writing steps
 abbrev pub PutsSteps : ProofFormat → Result (Unit {0}) OutputError → List Step → Sink → Sink → Type 0
-PutsSteps f (Ok x) steps old new = Wrote f steps old new
-PutsSteps f (Err (Write e)) steps old new = Breaks old.writer new.writer (old.waiting ++ text_in f steps)
+PutsSteps f (Ok x) steps old new = SendsSteps f steps old new
+PutsSteps f (Err (Write e)) steps old new = WriterBreaks old.writer new.writer (old.waiting ++ text_in f steps)
 PutsSteps f (Err OutOfMemory) steps old new = new ≡ old
 
 -- what came of writing the lines of a step
 abbrev pub PutsLines : Bool → Result (Unit {0}) OutputError → Step → Writer → Writer → Type 0
-PutsLines binary (Ok x) step old new = Takes old new (drat_text binary step)
-PutsLines binary (Err (Write e)) step old new = Breaks old new (drat_text binary step)
+PutsLines binary (Ok x) step old new = WriterTakes old new (drat_text binary step)
+PutsLines binary (Err (Write e)) step old new = WriterBreaks old new (drat_text binary step)
 PutsLines binary (Err OutOfMemory) step old new = new ≡ old
 
 -- OUTPUTS

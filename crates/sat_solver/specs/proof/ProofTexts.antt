@@ -1,6 +1,6 @@
 -- What the target of a proof took from its opening to its end.
 use Rattle.std.specs.Prelude.{◌≡◌, true, reverse, Some, List, [], ◌∷◌, ◌++◌}
-use Rattle.sat_base.specs.device.Device.{Writer, Takes, Breaks}
+use Rattle.sat_base.specs.device.Device.{Writer, WriterTakes, WriterBreaks}
 use Rattle.sat_base.specs.device.Sink.{empty_sink}
 use Rattle.sat_base.specs.steps.Steps.{Step}
 use Rattle.sat_base.specs.steps.StepText.{SpellsSteps}
@@ -8,7 +8,7 @@ use Rattle.sat_checker.specs.Accepts.{AcceptsAll}
 use Rattle.sat_checker.specs.declared.processing.ProofProcessor.{Ghosts}
 use Rattle.sat_solver.specs.proof.Counting.{start, TruncatesHashes}
 use Rattle.sat_solver.specs.proof.OutputView.{text_in}
-use Rattle.sat_solver.specs.proof.ProofView.{Target, Open, Carries, Stops, TakesAll, Gives, target_of, steps_of}
+use Rattle.sat_solver.specs.proof.ProofView.{Target, Open, TargetTakes, TargetFails, TakesAll, GivesWriter, target_of, steps_of}
 use Rattle.sat_solver.specs.session.Session.{MayAll}
 use Rattle.sat_solver.specs.proof.Widths.{MayAt}
 use Rattle.sat_solver.specs.declared.proof.hash_bits.Counting.{Counting}
@@ -22,7 +22,7 @@ pub record TookText (f : ProofFormat) (from given : Writer) (steps : List Step) 
   pub counting : Counting
   pub cuts : TruncatesHashes start steps written counting
   pub spells : f ≡ Varisat → SpellsSteps (reverse written) (text_in f written)
-  pub takes : Takes from given (text_in f written)
+  pub takes : WriterTakes from given (text_in f written)
   pub flushed : given.flushed ≡ true
 
 -- it took a front of that text, and its last call failed
@@ -30,15 +30,15 @@ pub record BrokeText (f : ProofFormat) (from given : Writer) (steps : List Step)
   pub written : List Step
   pub counting : Counting
   pub cuts : TruncatesHashes start steps written counting
-  pub breaks : Breaks from given (text_in f written)
+  pub breaks : WriterBreaks from given (text_in f written)
 
 -- Where a target was opened when its writer was this one, then these steps were made, and the last one as it was closed.
 abbrev pub ClosedIsText : Type 0
-ClosedIsText = (f : ProofFormat) (from given : Writer) (steps : List Step) (last : Step) (t : Target) → Carries (Open f start (empty_sink from)) steps t → TakesAll t (last ∷ []) given → TookText f from given (last ∷ steps)
+ClosedIsText = (f : ProofFormat) (from given : Writer) (steps : List Step) (last : Step) (t : Target) → TargetTakes (Open f start (empty_sink from)) steps t → TakesAll t (last ∷ []) given → TookText f from given (last ∷ steps)
 
 -- Where a call of it failed at the text of these steps, and it was handed back, it took a front of their text, and that call was the last.
 abbrev pub BrokenIsFront : Type 0
-BrokenIsFront = (f : ProofFormat) (from given : Writer) (steps : List Step) (t : Target) → Stops (Open f start (empty_sink from)) steps t → Gives t (Some given) → BrokeText f from given steps
+BrokenIsFront = (f : ProofFormat) (from given : Writer) (steps : List Step) (t : Target) → TargetFails (Open f start (empty_sink from)) steps t → GivesWriter t (Some given) → BrokeText f from given steps
 
 -- what is written for steps that may be made may be made, whatever widths it has
 abbrev pub CutsAreFree : Type 0
@@ -48,7 +48,7 @@ CutsAreFree = (made written : List Step) (c : Counting) → TruncatesHashes star
 pub record WroteSince {W L : Type 0} {G : Ghosts L} (seen : W → Writer) (f : ProofFormat) (from : Writer) (before : List Step) (p : Proof W L G) : Type 0 where
   pub steps : List Step
   pub behind : steps_of p ≡ steps ++ before
-  pub target : Carries (Open f start (empty_sink from)) steps (target_of seen p)
+  pub target : TargetTakes (Open f start (empty_sink from)) steps (target_of seen p)
 
 -- all steps since an opening, of which a target that is handed back took the text
 pub record TookSince (f : ProofFormat) (from given : Writer) (before now : List Step) : Type 0 where
@@ -57,6 +57,6 @@ pub record TookSince (f : ProofFormat) (from given : Writer) (before now : List 
   pub took : TookText f from given steps
 
 -- the same, and a checker accepts what was written for them, each step in its turn
-pub record IsCertificate (f : ProofFormat) (from given : Writer) (before now : List Step) : Type 0 where
+pub record TookAcceptedSteps (f : ProofFormat) (from given : Writer) (before now : List Step) : Type 0 where
   pub since : TookSince f from given before now
   pub accepted : AcceptsAll since.took.written

@@ -1,13 +1,13 @@
 -- What contracts see of the proof that a solver writes: its steps, and where their text goes. Lists of steps have the newest first.
 use Rattle.std.specs.Prelude.{◌≡◌, ◌⊎◌, Bool, true, false, Option, None, Some, List, [], ◌∷◌, ◌++◌, Result, Ok, Err}
-use Rattle.sat_base.specs.device.Device.{Writer, Takes, Breaks}
+use Rattle.sat_base.specs.device.Device.{Writer, WriterTakes, WriterBreaks}
 use Rattle.sat_base.specs.device.Sink.{Sink, Emptied}
 use Rattle.sat_base.specs.steps.Steps.{Step, End}
 use Rattle.sat_checker.specs.declared.processing.ProofProcessor.{Ghosts}
 use Rattle.sat_solver.specs.proof.Counting.{TruncatesHashes}
 use Rattle.sat_solver.specs.proof.Complaints.{IsComplaint}
 use Rattle.sat_solver.specs.proof.MadeView as mades
-use Rattle.sat_solver.specs.proof.OutputView.{is_lines, text_in, AreSpelt, Wrote, output_format, output_sink}
+use Rattle.sat_solver.specs.proof.OutputView.{is_lines, text_in, AreSpeltInFormat, SendsSteps, output_format, output_sink}
 use Rattle.sat_solver.specs.session.Session.{Session, MayAll, session_after}
 use Rattle.sat_solver.specs.declared.proof.made.CheckFault.{CheckFault}
 use Rattle.sat_solver.specs.declared.proof.made.CheckFault.TheVariants as checks
@@ -89,8 +89,8 @@ HasCause OutOfMemory p = Unit {0}
 HasCause (Check fault) p = Unit {0}
 
 -- its processor's complaint was told
-abbrev pub told : {W L : Type 0} {G : Ghosts L} → Proof W L G → Proof W L G
-told p = record p { made = mades.told p.made }
+abbrev pub without_complaint : {W L : Type 0} {G : Ghosts L} → Proof W L G → Proof W L G
+without_complaint p = record p { made = mades.without_complaint p.made }
 
 -- those who listen are handed back, behind what they have heard of all steps, each once and in order
 abbrev pub Handed : {W L : Type 0} {G : Ghosts L} → Proof W L G → (given : List L) → Type 0
@@ -113,65 +113,65 @@ abbrev pub session_of : {W L : Type 0} {G : Ghosts L} → Proof W L G → Sessio
 session_of p = session_after (steps_of p)
 
 -- each of its steps was allowed in its turn
-abbrev pub Keeps : {W L : Type 0} {G : Ghosts L} → Proof W L G → Type 0
-Keeps p = MayAll (steps_of p)
+abbrev pub HasAllowedSteps : {W L : Type 0} {G : Ghosts L} → Proof W L G → Type 0
+HasAllowedSteps p = MayAll (steps_of p)
 
 -- an open target was given the text of steps that were written for those that were made
 pub record Carried (f : ProofFormat) (c : Counting) (s : Sink) (steps : List Step) (d : Counting) (t : Sink) : Type 0 where
   pub written : List Step
   pub cuts : TruncatesHashes c steps written d
-  pub wrote : Wrote f written s t
+  pub wrote : SendsSteps f written s t
 
 -- an open target was given the text of these steps, and another one nothing
-abbrev pub Carries : Target → List Step → Target → Type 0
-Carries Closed steps new = new ≡ Closed
-Carries (Open f c s) steps new = (d : Counting) × (t : Sink) × (new ≡ Open f d t) × Carried f c s steps d t
-Carries (Broken w) steps new = new ≡ Broken w
+abbrev pub TargetTakes : Target → List Step → Target → Type 0
+TargetTakes Closed steps new = new ≡ Closed
+TargetTakes (Open f c s) steps new = (d : Counting) × (t : Sink) × (new ≡ Open f d t) × Carried f c s steps d t
+TargetTakes (Broken w) steps new = new ≡ Broken w
 
 -- One call of it failed, the last, as it was given that text. It has taken a front of what waited and of the text.
-pub record Stopped (f : ProofFormat) (c : Counting) (s : Sink) (steps : List Step) (w : Writer) : Type 0 where
+pub record SinkFailsAt (f : ProofFormat) (c : Counting) (s : Sink) (steps : List Step) (w : Writer) : Type 0 where
   pub written : List Step
   pub counting : Counting
   pub cuts : TruncatesHashes c steps written counting
-  pub breaks : Breaks s.writer w (s.waiting ++ text_in f written)
+  pub breaks : WriterBreaks s.writer w (s.waiting ++ text_in f written)
 
 -- one call of an open target failed at the text of these steps
-abbrev pub Stops : Target → List Step → Target → Type 0
-Stops Closed steps new = ⊥
-Stops (Open f c s) steps new = (w : Writer) × (new ≡ Broken w) × Stopped f c s steps w
-Stops (Broken w) steps new = ⊥
+abbrev pub TargetFails : Target → List Step → Target → Type 0
+TargetFails Closed steps new = ⊥
+TargetFails (Open f c s) steps new = (w : Writer) × (new ≡ Broken w) × SinkFailsAt f c s steps w
+TargetFails (Broken w) steps new = ⊥
 
 -- these steps were made, and went where steps go
-pub record Adds {W L : Type 0} {G : Ghosts L} (seen : W → Writer) (steps : List Step) (old new : Proof W L G) : Type 0 where
+pub record EmitsExactly {W L : Type 0} {G : Ghosts L} (seen : W → Writer) (steps : List Step) (old new : Proof W L G) : Type 0 where
   pub history : steps_of new ≡ steps ++ steps_of old
   pub listening : audience new ≡ audience old
-  pub target : Carries (target_of seen old) steps (target_of seen new)
+  pub target : TargetTakes (target_of seen old) steps (target_of seen new)
 
 -- these steps were made, and a call of the target failed at their text
-pub record Fails {W L : Type 0} {G : Ghosts L} (seen : W → Writer) (steps : List Step) (old new : Proof W L G) : Type 0 where
+pub record FailsToEmit {W L : Type 0} {G : Ghosts L} (seen : W → Writer) (steps : List Step) (old new : Proof W L G) : Type 0 where
   pub history : steps_of new ≡ steps ++ steps_of old
   pub listening : audience new ≡ audience old
-  pub target : Stops (target_of seen old) steps (target_of seen new)
+  pub target : TargetFails (target_of seen old) steps (target_of seen new)
 
 -- these steps were made, and went where steps go, and then the checker failed for this reason
 pub record FailsCheck {W L : Type 0} {G : Ghosts L} (seen : W → Writer) (fault : CheckFault) (steps : List Step) (old new : Proof W L G) : Type 0 where
-  pub adds : Adds seen steps old new
+  pub adds : EmitsExactly seen steps old new
   pub why : Complains fault new
 
 -- The same, and the checker, where there is one, took them too, at the widths of the target's text, and no ask began.
-pub record Gains {W L : Type 0} {G : Ghosts L} (seen : W → Writer) (steps : List Step) (old new : Proof W L G) : Type 0 where
+pub record EmitsChecked {W L : Type 0} {G : Ghosts L} (seen : W → Writer) (steps : List Step) (old new : Proof W L G) : Type 0 where
   pub history : steps_of new ≡ steps ++ steps_of old
   pub listening : audience new ≡ audience old
   pub taking : is_lost new ≡ is_lost old
   pub asked : has_asked new ≡ has_asked old
   pub width : IsAtWidth old ⊎ (steps ≡ [] → ⊥) → IsAtWidth new
-  pub target : Carries (target_of seen old) steps (target_of seen new)
+  pub target : TargetTakes (target_of seen old) steps (target_of seen new)
 
 -- what came of giving a step to the target
 abbrev pub PutsOn : Result (Unit {0}) ProofError → List Step → Target → Target → Type 0
-PutsOn (Ok x) steps old new = Carries old steps new
-PutsOn (Err (Write e)) steps old new = Stops old steps new
-PutsOn (Err OutOfMemory) steps old new = Carries old [] new
+PutsOn (Ok x) steps old new = TargetTakes old steps new
+PutsOn (Err (Write e)) steps old new = TargetFails old steps new
+PutsOn (Err OutOfMemory) steps old new = TargetTakes old [] new
 PutsOn (Err (Check fault)) steps old new = ⊥
 
 -- nothing but the checker failed
@@ -189,11 +189,11 @@ FailsOfCheckUnless lost (Err OutOfMemory) new = ⊥
 FailsOfCheckUnless lost (Err (Check fault)) new = mades.ComplainsOr lost fault new.made
 
 -- what came of making these steps: none is made where memory for one's hashes is wanting
-abbrev pub Records : {T W L : Type 0} {G : Ghosts L} → (W → Writer) → Result T ProofError → List Step → Proof W L G → Proof W L G → Type 0
-Records seen (Ok x) steps old new = Gains seen steps old new
-Records seen (Err (Write e)) steps old new = Fails seen steps old new × (new.cause ≡ Some e)
-Records seen (Err OutOfMemory) steps old new = Gains seen [] old new
-Records seen (Err (Check fault)) steps old new = FailsCheck seen fault steps old new × IsComplaint fault new.made.complaint
+abbrev pub EmitsAsAnswered : {T W L : Type 0} {G : Ghosts L} → (W → Writer) → Result T ProofError → List Step → Proof W L G → Proof W L G → Type 0
+EmitsAsAnswered seen (Ok x) steps old new = EmitsChecked seen steps old new
+EmitsAsAnswered seen (Err (Write e)) steps old new = FailsToEmit seen steps old new × (new.cause ≡ Some e)
+EmitsAsAnswered seen (Err OutOfMemory) steps old new = EmitsChecked seen [] old new
+EmitsAsAnswered seen (Err (Check fault)) steps old new = FailsCheck seen fault steps old new × IsComplaint fault new.made.complaint
 
 -- nothing waits for an open target any more, which was flushed
 abbrev pub Flushed : Target → Target → Type 0
@@ -208,7 +208,7 @@ pub record Drains {W L : Type 0} {G : Ghosts L} (seen : W → Writer) (old new :
   pub target : Flushed (target_of seen old) (target_of seen new)
 
 -- and the checker has told what waited
-pub record Flushes {W L : Type 0} {G : Ghosts L} (seen : W → Writer) (old new : Proof W L G) : Type 0 where
+pub record FlushesAndTells {W L : Type 0} {G : Ghosts L} (seen : W → Writer) (old new : Proof W L G) : Type 0 where
   pub history : steps_of new ≡ steps_of old
   pub listening : audience new ≡ audience old
   pub taking : is_lost new ≡ is_lost old
@@ -220,14 +220,14 @@ pub record Flushes {W L : Type 0} {G : Ghosts L} (seen : W → Writer) (old new 
 -- what came of a flush of the target alone
 abbrev pub FlushesTarget : {W L : Type 0} {G : Ghosts L} → (W → Writer) → Result (Unit {0}) ProofError → Proof W L G → Proof W L G → Type 0
 FlushesTarget seen (Ok x) old new = Drains seen old new
-FlushesTarget seen (Err (Write e)) old new = Fails seen [] old new × (new.cause ≡ Some e)
+FlushesTarget seen (Err (Write e)) old new = FailsToEmit seen [] old new × (new.cause ≡ Some e)
 FlushesTarget seen (Err OutOfMemory) old new = ⊥
 FlushesTarget seen (Err (Check fault)) old new = ⊥
 
 -- what came of a flush, behind which the checker tells what waited
 abbrev pub FlushesOrFails : {W L : Type 0} {G : Ghosts L} → (W → Writer) → Result (Unit {0}) ProofError → Proof W L G → Proof W L G → Type 0
-FlushesOrFails seen (Ok x) old new = Flushes seen old new
-FlushesOrFails seen (Err (Write e)) old new = Fails seen [] old new × (new.cause ≡ Some e)
+FlushesOrFails seen (Ok x) old new = FlushesAndTells seen old new
+FlushesOrFails seen (Err (Write e)) old new = FailsToEmit seen [] old new × (new.cause ≡ Some e)
 FlushesOrFails seen (Err OutOfMemory) old new = ⊥
 FlushesOrFails seen (Err (Check fault)) old new = Drains seen old new × mades.ComplainsOr (is_lost old) fault new.made
 
@@ -236,8 +236,8 @@ pub record TookAll (f : ProofFormat) (c : Counting) (s : Sink) (steps : List Ste
   pub written : List Step
   pub counting : Counting
   pub cuts : TruncatesHashes c steps written counting
-  pub spelt : AreSpelt f written
-  pub takes : Takes s.writer given (s.waiting ++ text_in f written)
+  pub spelt : AreSpeltInFormat f written
+  pub takes : WriterTakes s.writer given (s.waiting ++ text_in f written)
   pub flushed : given.flushed ≡ true
 
 -- the same of a target, which has to be open
@@ -266,18 +266,18 @@ pub record ClosesOne {W L : Type 0} {G : Ghosts L} (seen : W → Writer) (given 
   pub told : HasTold new
 
 -- What came of closing a proof. A fault was at the text of the last step, or at what waited then.
-abbrev pub Closes : {W L : Type 0} {G : Ghosts L} → (W → Writer) → Result (Option W) ProofError → Proof W L G → Proof W L G → Type 0
-Closes seen (Ok None) old new = ClosesNone seen old new
-Closes seen (Ok (Some given)) old new = ClosesOne seen given old new
-Closes seen (Err (Write e)) old new = Fails seen (End ∷ []) old new × (new.cause ≡ Some e)
-Closes seen (Err OutOfMemory) old new = Gains seen [] old new
-Closes seen (Err (Check fault)) old new = Adds seen (End ∷ []) old new × mades.ComplainsOr (is_lost old) fault new.made
+abbrev pub ClosesTarget : {W L : Type 0} {G : Ghosts L} → (W → Writer) → Result (Option W) ProofError → Proof W L G → Proof W L G → Type 0
+ClosesTarget seen (Ok None) old new = ClosesNone seen old new
+ClosesTarget seen (Ok (Some given)) old new = ClosesOne seen given old new
+ClosesTarget seen (Err (Write e)) old new = FailsToEmit seen (End ∷ []) old new × (new.cause ≡ Some e)
+ClosesTarget seen (Err OutOfMemory) old new = EmitsChecked seen [] old new
+ClosesTarget seen (Err (Check fault)) old new = EmitsExactly seen (End ∷ []) old new × mades.ComplainsOr (is_lost old) fault new.made
 
 -- the writer of a target, of which what waits is lost
-abbrev pub Gives : Target → Option Writer → Type 0
-Gives Closed given = given ≡ None
-Gives (Open f c s) given = given ≡ Some s.writer
-Gives (Broken w) given = given ≡ Some w
+abbrev pub GivesWriter : Target → Option Writer → Type 0
+GivesWriter Closed given = given ≡ None
+GivesWriter (Open f c s) given = given ≡ Some s.writer
+GivesWriter (Broken w) given = given ≡ Some w
 
 -- what contracts see of a writer that is handed back, if one is
 abbrev pub seen_of : {W : Type 0} → (W → Writer) → Option W → Option Writer
@@ -289,7 +289,7 @@ pub record HandsBack {W L : Type 0} {G : Ghosts L} (seen : W → Writer) (given 
   pub history : steps_of new ≡ steps_of old
   pub made : new.made ≡ old.made
   pub asked : has_asked new ≡ has_asked old
-  pub gives : Gives (target_of seen old) (seen_of seen given)
+  pub gives : GivesWriter (target_of seen old) (seen_of seen given)
   pub target : target_of seen new ≡ Closed
 
 -- another processor listens to the checker too

@@ -20,10 +20,10 @@ KeepsWidth (ChangeHashBits bits) = ⊥
 KeepsWidth step = Unit {0}
 
 -- steps with whole hashes, what is written for them, and the width at its end: the width may change before any step. Lists have the newest step first.
-pub data IsWritten : List Step → List Step → ℕ → Type 0 where
-  none_yet : IsWritten [] [] 64
-  width_changes : {wide written : List Step} {width : ℕ} (bits : ℕ) → IsWritten wide written width → IsWritten wide (ChangeHashBits bits ∷ written) bits
-  one_more : {wide written : List Step} {width : ℕ} (step : Step) → KeepsWidth step → IsWritten wide written width → IsWritten (step ∷ wide) (narrowed width step ∷ written) width
+pub data IsNarrowedTo : List Step → List Step → ℕ → Type 0 where
+  none_yet : IsNarrowedTo [] [] 64
+  width_changes : {wide written : List Step} {width : ℕ} (bits : ℕ) → IsNarrowedTo wide written width → IsNarrowedTo wide (ChangeHashBits bits ∷ written) bits
+  one_more : {wide written : List Step} {width : ℕ} (step : Step) → KeepsWidth step → IsNarrowedTo wide written width → IsNarrowedTo (step ∷ wide) (narrowed width step ∷ written) width
 
 -- what is written may be written, and leaves the same session but for its width
 pub record MayAt (wide written : List Step) (width : ℕ) : Type 0 where
@@ -32,4 +32,4 @@ pub record MayAt (wide written : List Step) (width : ℕ) : Type 0 where
 
 -- whatever widths are chosen
 abbrev pub WidthsAreFree : Type 0
-WidthsAreFree = (wide written : List Step) (width : ℕ) → IsWritten wide written width → MayAll wide → MayAt wide written width
+WidthsAreFree = (wide written : List Step) (width : ℕ) → IsNarrowedTo wide written width → MayAll wide → MayAt wide written width

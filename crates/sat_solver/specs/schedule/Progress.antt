@@ -2,7 +2,7 @@
 use Rattle.std.specs.Prelude.{ℕ, ◌≡◌, ◌+◌, ◌-◌, ◌*◌, ◌^◌, ◌≤◌, ◌⊎◌, List}
 use Rattle.sat_parts.specs.prop.TrailWord.{Letter}
 use Rattle.sat_store.specs.schedule.Luby.{luby}
-use Rattle.sat_solver.specs.schedule.Ranks.{rank}
+use Rattle.sat_solver.specs.schedule.Ranks.{word_rank}
 use Rattle.sat_solver.specs.schedule.Gaps.{given_after}
 
 -- a long gap is still to come, this many terms on
@@ -18,9 +18,9 @@ pub record IsLong (n gaps base next : ℕ) : Type 0 where
 
 -- an ask over n variables that began before round start has come to this round, with this word: it restarted a few times
 -- (gaps), each time after fewer rounds than there are words, and the word rose with each round since (base)
-pub record Progress (n start round next given : ℕ) (w : List Letter) : Type 0 where
+pub record AskProgress (n start round next given : ℕ) (w : List Letter) : Type 0 where
   pub gaps : ℕ
   pub base : ℕ
   pub spent : base + 2 * gaps ≤ start + gaps * 2 ^ (n + 1)
-  pub risen : round ≤ base + rank n w
+  pub risen : round ≤ base + word_rank n w
   pub due : IsComing n gaps given ⊎ IsLong n gaps base next

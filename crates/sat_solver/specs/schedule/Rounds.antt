@@ -1,6 +1,6 @@
 -- Rounds one after another, each behind a restart, where one is due, and a reduction.
 use Rattle.std.specs.Prelude.{ℕ, ◌+◌, ◌<◌, ◌≤◌, ◌≡◌, ◌⊎◌, Option, None, Some}
-use Rattle.sat_store.specs.schedule.Luby.{luby, behind}
+use Rattle.sat_store.specs.schedule.Luby.{luby, wrapped_number}
 use Rattle.sat_solver.specs.schedule.Gaps.{gap_end}
 use Rattle.sat_solver.specs.declared.schedule.restarts.Restarts.{Restarts}
 use Rattle.sat_solver.specs.declared.schedule.Outcome.{Outcome}
@@ -8,7 +8,7 @@ use Rattle.sat_solver.specs.declared.schedule.Outcome.TheVariants as outcomes
 
 -- a gap begins before this round, as long as the sequence's next term times the scale
 pub record BeginsGap (round : ℕ) (old new : Restarts) : Type 0 where
-  pub given : new.sequence ≡ behind (old.sequence + 1)
+  pub given : new.sequence ≡ wrapped_number (old.sequence + 1)
   pub scale : new.scale ≡ old.scale
   pub next : new.next ≡ gap_end round (luby (old.sequence + 1)) old.scale
 

@@ -4,7 +4,7 @@ use Rattle.sat_base.specs.device.Device.{Writer}
 use Rattle.sat_base.specs.steps.Steps.{Step, AtClause}
 use Rattle.sat_checker.specs.declared.processing.ProofProcessor.{Ghosts}
 use Rattle.sat_parts.specs.prop.TrailWord.{Letter}
-use Rattle.sat_solver.specs.proof.ProofView.{Gains, Keeps, steps_of, session_of}
+use Rattle.sat_solver.specs.proof.ProofView.{EmitsChecked, HasAllowedSteps, steps_of, session_of}
 use Rattle.sat_solver.specs.session.Coming.{OnlyAllowedSteps, EndsAtUnsat}
 use Rattle.sat_solver.specs.session.Session.{Session, session_after}
 use Rattle.sat_parts.specs.parts.Frame.{SameClauses}
@@ -16,7 +16,7 @@ use Rattle.sat_solver.specs.declared.schedule.Outcome.TheVariants as outcomes
 use Rattle.sat_solver.specs.declared.error.SolverError.{SolverError}
 use Rattle.sat_solver.specs.declared.context.Core.{Core}
 use Rattle.sat_solver.specs.declared.context.Search.{Search}
-use Rattle.sat_solver.specs.cdcl.Joint.{assumed_in, IsSearch, Moved}
+use Rattle.sat_solver.specs.cdcl.Joint.{assumed_in, IsSearch, SameVarsAndAssumptions}
 use Rattle.sat_solver.specs.cdcl.Ending.{RoundEnds}
 use Rattle.sat_solver.specs.clause.Reduced.{Reduces}
 use Rattle.sat_solver.specs.cdcl.Rounds.{RoundFails, RoundShows}
@@ -50,8 +50,8 @@ pub record AdvancesIn (from to : List Step) (k : ℕ) : Type 0 where
   pub times : AdvanceTimes from steps k
 
 -- what holds between rounds
-pub record IsCore {W L : Type 0} {G : Ghosts L} (c : Core W L G) : Type 0 where
-  pub keeps : Keeps c.proof
+pub record CoreInvariant {W L : Type 0} {G : Ghosts L} (c : Core W L G) : Type 0 where
+  pub keeps : HasAllowedSteps c.proof
   pub search : IsSearch (session_of c.proof) c.search
   pub locals : 0 < c.config.reduce_locals_interval
   pub mids : 0 < c.config.reduce_mids_interval
@@ -66,18 +66,18 @@ values_in c = length c.search.parts.assignment.current
 
 -- It came there by so many rounds that ended in a conflict: from each of them comes a step that advances, and no other does. The judge
 -- sees nothing of it.
-pub record Gone {W L : Type 0} {G : Ghosts L} (seen : W → Writer) (a : Core W L G) (n : Variables) (k : ℕ) (b : Core W L G) (m : Variables) : Type 0 where
+pub record ComesByRounds {W L : Type 0} {G : Ghosts L} (seen : W → Writer) (a : Core W L G) (n : Variables) (k : ℕ) (b : Core W L G) (m : Variables) : Type 0 where
   pub steps : List Step
-  pub adds : Gains seen steps a.proof b.proof
+  pub adds : EmitsChecked seen steps a.proof b.proof
   pub does : DoesNothing n m (steps_of a.proof) (steps_of b.proof)
   pub asked : KeepsAsked n m (session_of a.proof) (session_of b.proof)
-  pub moved : Moved a.search b.search
+  pub moved : SameVarsAndAssumptions a.search b.search
   pub config : b.config ≡ a.config
   pub times : AdvanceTimes (steps_of a.proof) steps k
 
 -- what had come there by so many rounds has come here by as many, with the same names
 abbrev pub GoesAlong : {W L : Type 0} {G : Ghosts L} → (W → Writer) → Core W L G → Core W L G → Type 0
-GoesAlong {W} {L} {G} seen b c = (a : Core W L G) (n m : Variables) (k : ℕ) → Gone seen a n k b m → Gone seen a n k c m
+GoesAlong {W} {L} {G} seen b c = (a : Core W L G) (n m : Variables) (k : ℕ) → ComesByRounds seen a n k b m → ComesByRounds seen a n k c m
 
 abbrev pub EndSays : Outcome → Session → Variables → Search → Search → Type 0
 EndSays outcomes.Learned s m c c' = ⊥
@@ -88,10 +88,10 @@ EndSays outcomes.Failed s m c c' = RoundFails s c c' × SharesIndices m c'
 -- it came to this answer, behind so many rounds that ended in a conflict
 pub record Ended {W L : Type 0} {G : Ghosts L} (seen : W → Writer) (a : Core W L G) (n : Variables) (k : ℕ) (outcome : Outcome) (b : Core W L G) (m : Variables) : Type 0 where
   pub steps : List Step
-  pub adds : Gains seen steps a.proof b.proof
+  pub adds : EmitsChecked seen steps a.proof b.proof
   pub does : DoesNothing n m (steps_of a.proof) (steps_of b.proof)
   pub asked : KeepsAsked n m (session_of a.proof) (session_of b.proof)
-  pub keeps : Keeps b.proof
+  pub keeps : HasAllowedSteps b.proof
   pub config : b.config ≡ a.config
   pub comes : OnlyAllowedSteps EndsAtUnsat (steps_of a.proof) (steps_of b.proof)
   pub says : EndSays outcome (session_of b.proof) m a.search b.search
@@ -102,8 +102,8 @@ abbrev pub EndedBy : {W L : Type 0} {G : Ghosts L} → (W → Writer) → (round
 EndedBy seen rounds answer a n b m = MatchOption answer (Unit {0}) (λ o. Ended seen a n (rounds - 1) o b m)
 
 -- it came to this fault
-abbrev pub Broke : {W L : Type 0} {G : Ghosts L} → (W → Writer) → Core W L G → SolverError → Core W L G → Type 0
-Broke seen a e b = FallsOr (IsFull b.search.parts) seen e a.proof b.proof
+abbrev pub BreaksRounds : {W L : Type 0} {G : Ghosts L} → (W → Writer) → Core W L G → SolverError → Core W L G → Type 0
+BreaksRounds seen a e b = FallsOr (IsFull b.search.parts) seen e a.proof b.proof
 
 -- decisions were undone, down to the levels of assumptions, and nothing else changed
 pub record Restarted {W L : Type 0} {G : Ghosts L} (a b : Core W L G) : Type 0 where

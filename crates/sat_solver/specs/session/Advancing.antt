@@ -11,7 +11,7 @@ use Rattle.sat_solver.specs.analyze_conflict.Work.{Work}
 use Rattle.sat_solver.specs.analyze_conflict.Derivation.{Learns}
 use Rattle.sat_parts.specs.declared.parts.Parts.{Parts}
 use Rattle.sat_parts.specs.parts.Whole.{state, IsRefuted}
-use Rattle.sat_solver.specs.session.Fits.{SessionMatchesParts, HaveNames}
+use Rattle.sat_solver.specs.session.Fits.{SessionMatchesParts, TrueLitsHaveNames}
 
 -- live clauses, each of which has no literal but one that isn't false by then, and what holds behind them
 abbrev pub LeadsOn : Session → (ℕ → Bool) → List (List ℕ) → (ℕ → Bool) → Type 0
@@ -38,5 +38,5 @@ pub record Advances (s : Session) (clause : List ℕ) : Type 0 where
 -- what is learned advances in the session
 abbrev pub LearnedAdvancesIn : Type 0
 LearnedAdvancesIn =
-    (p : Parts) (e : Conflict) (w : Work) (back : ℕ) (s : Session) (global : ℕ → ℕ) (picked : List (List ℕ)) (reached : ℕ → Bool) → IsRefuted p e → SessionMatchesParts p s global → HaveNames p.assignment.current s global → Learns p.clauses (state p) (falsified p.clauses e) w back →
+    (p : Parts) (e : Conflict) (w : Work) (back : ℕ) (s : Session) (global : ℕ → ℕ) (picked : List (List ℕ)) (reached : ℕ → Bool) → IsRefuted p e → SessionMatchesParts p s global → TrueLitsHaveNames p.assignment.current s global → Learns p.clauses (state p) (falsified p.clauses e) w back →
     LeadsOn s (denied s (map (with_var global) (drop 1 w.clause))) picked reached → StaysNew s (with_var global (get_or w.clause 0 0)) reached

@@ -8,7 +8,7 @@ use Rattle.sat_solver.specs.session.Session.{Session}
 
 -- both have the same live clauses, as often, and the same units, unsat, variables, names, width and assumptions; what the session
 -- has as derived last is that of the checker, too
-pub record Agrees (s : Session) (f : Stored) : Type 0 where
+pub record MatchesStored (s : Session) (f : Stored) : Type 0 where
   pub live : (r : Bool) (set : List ℕ) → count_of r set f.clauses ≡ s.live r set
   pub units : (l : ℕ) → is_unit f l ≡ s.units l
   pub unsat : f.unsat ≡ s.unsat

@@ -2,7 +2,7 @@
 use Rattle.std.specs.Prelude.{◌≡◌, Bool, true, false, List, [], ◌∷◌, map, ℕ}
 use Rattle.sat_base.specs.steps.Steps.{Step, FailedAssumptions}
 use Rattle.sat_checker.specs.matching.Checking.{is_ordered}
-use Rattle.sat_solver.specs.proof.Widths.{IsWritten}
+use Rattle.sat_solver.specs.proof.Widths.{IsNarrowedTo}
 
 -- the steps with one more, where the test says so
 abbrev pub kept_if : Bool → Step → List Step → List Step
@@ -21,4 +21,4 @@ without_hashes step = step
 
 -- whatever widths are chosen, what is written for steps has the same ordered ones, but for the hashes of cores
 abbrev pub WidthsKeepOrder : Type 0
-WidthsKeepOrder = (wide written : List Step) (width : ℕ) → IsWritten wide written width → map without_hashes (ordered_of written) ≡ map without_hashes (ordered_of wide)
+WidthsKeepOrder = (wide written : List Step) (width : ℕ) → IsNarrowedTo wide written width → map without_hashes (ordered_of written) ≡ map without_hashes (ordered_of wide)

@@ -6,7 +6,7 @@ use Rattle.sat_parts.specs.clause.Stored.{AreClauses}
 use Rattle.sat_parts.specs.prop.Causes.{falsified}
 use Rattle.sat_parts.specs.prop.State.{State, Agrees}
 use Rattle.sat_parts.specs.prop.Ready.{IsConflict}
-use Rattle.sat_parts.specs.parts.Round.{AreUnits as AreBare}
+use Rattle.sat_parts.specs.parts.Round.{UnitsAreUncaused as AreBare}
 use Rattle.sat_parts.specs.prop.Reasons.{AreInTurn}
 use Rattle.sat_solver.specs.session.Session.{Session, MayDerive}
 use Rattle.sat_solver.specs.session.LiveClauses.{with_var}
@@ -18,12 +18,12 @@ use Rattle.sat_base.specs.values.Literals.{negated}
 use Rattle.sat_base.specs.steps.Steps.{Model}
 use Rattle.sat_parts.specs.clause.Db.{live_refs}
 use Rattle.sat_solver.specs.session.Session.{nothing, May}
-use Rattle.sat_solver.specs.analyze_conflict.Derivation.{AreUnits}
+use Rattle.sat_solver.specs.analyze_conflict.Derivation.{AreLevelZeroLits}
 use Rattle.sat_solver.specs.analyze_conflict.Advances.{IsStored, LeadTo, StaysOpen}
 use Rattle.sat_parts.specs.declared.parts.Parts.{Parts}
 use Rattle.sat_parts.specs.parts.Whole.{state, PartsInvariant, AllAssigned, IsModelled, IsRefuted}
 use Rattle.sat_solver.specs.session.Units.{AreTrueLits}
-use Rattle.sat_solver.specs.session.Fits.{SessionMatches, SessionMatchesParts, HaveNames}
+use Rattle.sat_solver.specs.session.Fits.{SessionMatches, SessionMatchesParts, TrueLitsHaveNames}
 
 -- the clauses that an analysis names: those that were used, in order, and the one that was found false
 abbrev pub named_clauses : List ℕ → State → List ℕ → Conflict → List (List ℕ)
@@ -44,13 +44,13 @@ LearnedMay =
 -- all of its clauses are in the session, and all is assigned: its true literals may be shown as a model, in whatever order
 abbrev pub ModelMay : Type 0
 ModelMay =
-    (p : Parts) (s : Session) (global : ℕ → ℕ) (ls : List ℕ) → SessionMatchesParts p s global → HaveNames p.assignment.current s global → PartsInvariant p → AreTrueLits p.assignment.current ls → AllAssigned p → IsModelled p → May s (Model (map (with_var global) ls))
+    (p : Parts) (s : Session) (global : ℕ → ℕ) (ls : List ℕ) → SessionMatchesParts p s global → TrueLitsHaveNames p.assignment.current s global → PartsInvariant p → AreTrueLits p.assignment.current ls → AllAssigned p → IsModelled p → May s (Model (map (with_var global) ls))
 
 -- after a conflict above level 0 no stored clauses that are unit in turn, under the units and the negations of the learned clause's other
 -- literals, assign its first literal, and none of them is falsified
 abbrev pub LearnedIsNew : Type 0
 LearnedIsNew =
-    (p : Parts) (e : Conflict) (w : Work) (back : ℕ) (units : List ℕ) (picked : List (List ℕ)) (reached : List ℕ) → IsRefuted p e → Learns p.clauses (state p) (falsified p.clauses e) w back → AreUnits (state p) units →
+    (p : Parts) (e : Conflict) (w : Work) (back : ℕ) (units : List ℕ) (picked : List (List ℕ)) (reached : List ℕ) → IsRefuted p e → Learns p.clauses (state p) (falsified p.clauses e) w back → AreLevelZeroLits (state p) units →
     AllByRecursion (IsStored p.clauses (live_refs p.clauses p.db.refs) p.binary.implied) picked → LeadTo (map negated (drop 1 w.clause) ++ units) picked reached →
     StaysOpen p.clauses (live_refs p.clauses p.db.refs) p.binary.implied (get_or w.clause 0 0) reached
 

@@ -35,15 +35,15 @@ pub record SessionMatches (words live : List ℕ) (implied : List (List ℕ)) (s
   pub width : s.width ≡ 64
 
 -- each literal that is true is of a variable that has its solver name
-abbrev pub HaveNames : List (Option Bool) → Session → (ℕ → ℕ) → Type 0
-HaveNames values s global = (l : ℕ) → IsTrueLit values l → s.solver_names (global (variable l)) ≡ Some (variable l)
+abbrev pub TrueLitsHaveNames : List (Option Bool) → Session → (ℕ → ℕ) → Type 0
+TrueLitsHaveNames values s global = (l : ℕ) → IsTrueLit values l → s.solver_names (global (variable l)) ≡ Some (variable l)
 
 -- the same of the struct of parts
 abbrev pub SessionMatchesParts : Parts → Session → (ℕ → ℕ) → Type 0
 SessionMatchesParts p s global = SessionMatches p.clauses (live_refs p.clauses p.db.refs) p.binary.implied (state p) s global
 
 -- what holds between rounds
-pub record Stands (p : Parts) (s : Session) (global : ℕ → ℕ) : Type 0 where
+pub record PartsSessionInvariant (p : Parts) (s : Session) (global : ℕ → ℕ) : Type 0 where
   pub holds : PartsInvariant p
   pub fits : SessionMatchesParts p s global
 

@@ -8,6 +8,6 @@ use Rattle.sat_parts.specs.declared.parts.Parts.{Parts}
 use Rattle.sat_solver.specs.session.Fits.{SessionMatchesParts, FlagFits}
 
 -- whatever session fitted the parts, behind the step of the clause it fits what they became
-abbrev pub TakesIn : Parts → Parts → Header → List ℕ → Type 0
-TakesIn p p' header ls =
+abbrev pub FitsAfterLearning : Parts → Parts → Header → List ℕ → Type 0
+FitsAfterLearning p p' header ls =
     (s : Session) (global : ℕ → ℕ) (hashes : List ℕ) (flag : Bool) → FlagFits flag header ls → AreMapped global s.solver_names ls → SessionMatchesParts p s global → SessionMatchesParts p' (after (AtClause flag (map (with_var global) ls) hashes) s) global

@@ -35,14 +35,14 @@ abbrev pub ArePlain : Session → Type 0
 ArePlain s = (r : Bool) (set : List ℕ) → 0 < s.live r set → is_tautology set ≡ false
 
 -- a step that leaves clauses, units, solver names and width as they are: names of users, modes, assumptions and answers
-abbrev pub Rests : Step → Type 0
-Rests (UserVarName v name) = Unit {0}
-Rests (ChangeSamplingMode v sample) = Unit {0}
-Rests (Model ls) = Unit {0}
-Rests (Assumptions ls) = Unit {0}
-Rests (FailedAssumptions core hashes) = Unit {0}
-Rests End = Unit {0}
-Rests step = ⊥
+abbrev pub ChangesNoClause : Step → Type 0
+ChangesNoClause (UserVarName v name) = Unit {0}
+ChangesNoClause (ChangeSamplingMode v sample) = Unit {0}
+ChangesNoClause (Model ls) = Unit {0}
+ChangesNoClause (Assumptions ls) = Unit {0}
+ChangesNoClause (FailedAssumptions core hashes) = Unit {0}
+ChangesNoClause End = Unit {0}
+ChangesNoClause step = ⊥
 
 -- the struct of parts fits, but for clauses of two literals with a variable that has a value: these are gone from the session, as
 -- far as the first k literals of the list l and all lists before it were looked at

@@ -13,9 +13,9 @@ pub record LiveClause : Type 0 where
   pub literals : List ℕ
 
 -- how many of them have this set
-abbrev pub count_of : List LiveClause → Bool → List ℕ → ℕ
-count_of [] r set = 0
-count_of (c ∷ cs) r set = more_if (same_side c.redundant r && same_literals (canonical c.literals) set) (count_of cs r set)
+abbrev pub live_count_of : List LiveClause → Bool → List ℕ → ℕ
+live_count_of [] r set = 0
+live_count_of (c ∷ cs) r set = more_if (same_side c.redundant r && same_literals (canonical c.literals) set) (live_count_of cs r set)
 
 -- the clause is one of these, with its literals in the same order
 abbrev pub IsIn : LiveClause → List LiveClause → Type 0
@@ -38,4 +38,4 @@ AreMapped global names = AllByRecursion (λ l. names (global (variable l)) ≡ S
 pub record AreOf (s : Session) (global : ℕ → ℕ) (cs : List LiveClause) : Type 0 where
   pub named : (c : LiveClause) → IsIn c cs → AreMapped global s.solver_names c.literals
   pub once : (c : LiveClause) → IsIn c cs → NoRepeats c.literals
-  pub counts : (r : Bool) (set : List ℕ) → s.live r set ≡ count_of (map (mapped global) cs) r set
+  pub counts : (r : Bool) (set : List ℕ) → s.live r set ≡ live_count_of (map (mapped global) cs) r set

@@ -3,17 +3,17 @@ use Rattle.std.specs.Prelude.{List}
 use Rattle.sat_base.specs.device.Device.{Writer}
 use Rattle.sat_base.specs.steps.Steps.{Step}
 use Rattle.sat_checker.specs.declared.processing.ProofProcessor.{Ghosts}
-use Rattle.sat_solver.specs.proof.ProofView.{Adds, Fails, Gains}
+use Rattle.sat_solver.specs.proof.ProofView.{EmitsExactly, FailsToEmit, EmitsChecked}
 use Rattle.sat_solver.specs.declared.proof.Proof.{Proof}
 
 -- it came from there by steps that were taken
-abbrev pub Took : {W L : Type 0} {G : Ghosts L} → (W → Writer) → Proof W L G → Proof W L G → Type 0
-Took seen old new = (steps : List Step) × Adds seen steps old new
+abbrev pub ComesBySteps : {W L : Type 0} {G : Ghosts L} → (W → Writer) → Proof W L G → Proof W L G → Type 0
+ComesBySteps seen old new = (steps : List Step) × EmitsExactly seen steps old new
 
 -- the same, and the checker took them, and no ask began
-abbrev pub Gained : {W L : Type 0} {G : Ghosts L} → (W → Writer) → Proof W L G → Proof W L G → Type 0
-Gained seen old new = (steps : List Step) × Gains seen steps old new
+abbrev pub ComesByCheckedSteps : {W L : Type 0} {G : Ghosts L} → (W → Writer) → Proof W L G → Proof W L G → Type 0
+ComesByCheckedSteps seen old new = (steps : List Step) × EmitsChecked seen steps old new
 
 -- it came from there by steps, at whose text a call of the target failed
-abbrev pub Broke : {W L : Type 0} {G : Ghosts L} → (W → Writer) → Proof W L G → Proof W L G → Type 0
-Broke seen old new = (steps : List Step) × Fails seen steps old new
+abbrev pub BreaksEmitting : {W L : Type 0} {G : Ghosts L} → (W → Writer) → Proof W L G → Proof W L G → Type 0
+BreaksEmitting seen old new = (steps : List Step) × FailsToEmit seen steps old new

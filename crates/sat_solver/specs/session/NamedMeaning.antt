@@ -16,12 +16,12 @@ abbrev pub AgreeOn : Judge → (ℕ → Option ℕ) → Valuation → Valuation 
 AgreeOn j variable_of a b = (name i v : ℕ) → identity_of j name ≡ Some i → variable_of name ≡ Some v → a v ≡ b i
 
 -- What the steps leave of the names in use is what the accepted clauses leave.
-pub record Means (j : Judge) (variable_of : ℕ → Option ℕ) (steps : List Step) : Type 0 where
+pub record MeansAcceptedClauses (j : Judge) (variable_of : ℕ → Option ℕ) (steps : List Step) : Type 0 where
   pub to : (a : Valuation) → Holds steps a → (b : Valuation) × AgreeOn j variable_of a b × EachHolds b j.clauses
   pub back : (b : Valuation) → EachHolds b j.clauses → (a : Valuation) × AgreeOn j variable_of a b × Holds steps a
 
 -- a literal over a name in use, and the one over its proof variable
-pub record Reads (j : Judge) (variable_of : ℕ → Option ℕ) (l : Literal) (code : ℕ) : Type 0 where
+pub record IsReadAs (j : Judge) (variable_of : ℕ → Option ℕ) (l : Literal) (code : ℕ) : Type 0 where
   pub identity : ℕ
   pub in_use : identity_of j l.name ≡ Some identity
   pub var : ℕ
@@ -29,33 +29,33 @@ pub record Reads (j : Judge) (variable_of : ℕ → Option ℕ) (l : Literal) (c
   pub is : code ≡ coded var l.positive
 
 -- each literal is one of those over proof variables
-abbrev pub AllRead : Judge → (ℕ → Option ℕ) → List Literal → List ℕ → Type 0
-AllRead j variable_of ls codes = AllByRecursion (λ l. (code : ℕ) × Reads j variable_of l code × Among code codes) ls
+abbrev pub AllReadAmong : Judge → (ℕ → Option ℕ) → List Literal → List ℕ → Type 0
+AllReadAmong j variable_of ls codes = AllByRecursion (λ l. (code : ℕ) × IsReadAs j variable_of l code × Among code codes) ls
 
 -- each of those over proof variables is one of the literals
 abbrev pub AllFrom : Judge → (ℕ → Option ℕ) → List ℕ → List Literal → Type 0
-AllFrom j variable_of codes ls = AllByRecursion (λ code. (l : Literal) × Reads j variable_of l code × Among l ls) codes
+AllFrom j variable_of codes ls = AllByRecursion (λ code. (l : Literal) × IsReadAs j variable_of l code × Among l ls) codes
 
 -- RIGHT ANSWERS
 
 -- a model that may be written gives a right line, one literal for each name in use
 abbrev pub NamedModelsAreRight : Type 0
 NamedModelsAreRight = (j : Judge) (variable_of : ℕ → Option ℕ) (steps : List Step) (codes : List ℕ) (ask line : List Literal)
-    → Means j variable_of steps → MayAll (Model codes ∷ steps)
-    → names_of line ≡ map (λ n. n.name) j.in_use → AllRead j variable_of line codes → AllByRecursion (λ l. Among l line) ask
+    → MeansAcceptedClauses j variable_of steps → MayAll (Model codes ∷ steps)
+    → names_of line ≡ map (λ n. n.name) j.in_use → AllReadAmong j variable_of line codes → AllByRecursion (λ l. Among l line) ask
     → IsRightModel j ask line
 
 -- a failed core that may be written gives a right core, of literals of the ask
 abbrev pub NamedCoresAreRight : Type 0
 NamedCoresAreRight = (j : Judge) (variable_of : ℕ → Option ℕ) (steps : List Step) (codes hashes : List ℕ) (ask core : List Literal)
-    → Means j variable_of steps → MayAll (FailedAssumptions codes hashes ∷ steps)
+    → MeansAcceptedClauses j variable_of steps → MayAll (FailedAssumptions codes hashes ∷ steps)
     → InOrder core → AllByRecursion (λ l. Among l ask) core → AllFrom j variable_of codes core
     → IsRightCore j ask core
 
 -- once unsat is recorded the empty core is right, whatever is asked
 abbrev pub NamedUnsatIsRight : Type 0
 NamedUnsatIsRight = (j : Judge) (variable_of : ℕ → Option ℕ) (steps : List Step) (ask : List Literal)
-    → Means j variable_of steps → MayAll steps → (session_after steps).unsat ≡ true → IsRightCore j ask []
+    → MeansAcceptedClauses j variable_of steps → MayAll steps → (session_after steps).unsat ≡ true → IsRightCore j ask []
 
 -- WHERE NO NAME WAS EVER HIDDEN
 
@@ -64,9 +64,9 @@ abbrev pub SameLits : List ℕ → List ℕ → Type 0
 SameLits c d = AllByRecursion (λ l. Among l d) c × AllByRecursion (λ l. Among l c) d
 
 -- no variable is deleted by the step
-abbrev pub KeepsVariables : Step → Type 0
-KeepsVariables (DeleteVar v) = ⊥
-KeepsVariables step = Unit {0}
+abbrev pub DeletesNoVar : Step → Type 0
+DeletesNoVar (DeleteVar v) = ⊥
+DeletesNoVar step = Unit {0}
 
 -- Each identity has a proof variable of its own, none was deleted, and the added clauses are the accepted ones, over proof variables. Once unsat is recorded, accepted clauses may be left out.
 pub record NoneHidden (j : Judge) (variable_of : ℕ → Option ℕ) (steps : List Step) : Type 0 where
@@ -76,10 +76,10 @@ pub record NoneHidden (j : Judge) (variable_of : ℕ → Option ℕ) (steps : Li
   pub named : (name i : ℕ) → identity_of j name ≡ Some i → variable_of name ≡ Some (global i)
   pub below : (name i : ℕ) → identity_of j name ≡ Some i → i < j.next_identity
   pub clauses_below : AllByRecursion (AllByRecursion (λ l. variable l < j.next_identity)) j.clauses
-  pub kept : AllByRecursion KeepsVariables steps
+  pub kept : AllByRecursion DeletesNoVar steps
   pub added_from : AllByRecursion (λ c. (d : List ℕ) × Among d j.clauses × SameLits c (map (with_var global) d)) (added steps)
   pub all_added : ((session_after steps).unsat ≡ true) ⊎ AllByRecursion (λ d. (c : List ℕ) × Among c (added steps) × SameLits c (map (with_var global) d)) j.clauses
 
 -- then steps that may be written leave of the names what the accepted clauses leave
 abbrev pub NoneHiddenMeans : Type 0
-NoneHiddenMeans = (j : Judge) (variable_of : ℕ → Option ℕ) (steps : List Step) → MayAll steps → NoneHidden j variable_of steps → Means j variable_of steps
+NoneHiddenMeans = (j : Judge) (variable_of : ℕ → Option ℕ) (steps : List Step) → MayAll steps → NoneHidden j variable_of steps → MeansAcceptedClauses j variable_of steps

@@ -6,15 +6,15 @@ use Rattle.sat_checker.specs.Fold.{Holds}
 use Rattle.sat_checker.specs.Stored.{Stored}
 use Rattle.sat_checker.specs.Accepts.{Accepts, AcceptsAll, ready_after}
 use Rattle.sat_solver.specs.session.Session.{Session, May, MayAll, session_after}
-use Rattle.sat_solver.specs.session.Agrees.{Agrees}
+use Rattle.sat_solver.specs.session.Agrees.{MatchesStored}
 
 -- what a session may write, the checker accepts
 abbrev pub MayIsAccepted : Type 0
-MayIsAccepted = (s : Session) (f : Stored) (step : Step) → Agrees s f → May s step → Accepts f step
+MayIsAccepted = (s : Session) (f : Stored) (step : Step) → MatchesStored s f → May s step → Accepts f step
 
 -- steps that may be written in their turn are accepted in their turn, and session and checker agree behind them
 abbrev pub SessionsAreAccepted : Type 0
-SessionsAreAccepted = (steps : List Step) → MayAll steps → AcceptsAll steps × Agrees (session_after steps) (ready_after steps)
+SessionsAreAccepted = (steps : List Step) → MayAll steps → AcceptsAll steps × MatchesStored (session_after steps) (ready_after steps)
 
 -- the clauses that were added, the newest first
 abbrev pub added : List Step → List (List ℕ)

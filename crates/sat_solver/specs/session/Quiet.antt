@@ -14,14 +14,14 @@ others_of l (m ∷ ms) = if m == l then others_of l ms else m ∷ others_of l ms
 
 -- The units and the negations of a clause's other literals agree and leave this one open, and no live clauses that are unit in turn under
 -- them assign it or are falsified.
-pub record Opens (s : Session) (clause : List ℕ) (l : ℕ) : Type 0 where
+pub record LeavesLiteralOpen (s : Session) (clause : List ℕ) (l : ℕ) : Type 0 where
   pub among : is_among clause l ≡ true
   pub agree : AreConsistent (denied s (others_of l clause))
   pub stays : (picked : List (List ℕ)) (reached : ℕ → Bool) → LeadsOn s (denied s (others_of l clause)) picked reached → StaysNew s l reached
 
 -- the step isn't a derived clause that advances, by any of its literals
 abbrev pub NeverAdvances : Session → Step → Type 0
-NeverAdvances s (AtClause redundant clause hashes) = (l : ℕ) → Opens s clause l → ⊥
+NeverAdvances s (AtClause redundant clause hashes) = (l : ℕ) → LeavesLiteralOpen s clause l → ⊥
 NeverAdvances s step = Unit {0}
 
 -- at most one

@@ -25,16 +25,16 @@ pub record IsUsable (s : Session) (global : ℕ → ℕ) (c : List ℕ) : Type 0
   pub hash : hash_of c / 2 ^ (64 - s.width) ≡ hash_in s (map (with_var global) c)
 
 -- the literal's variable is the solver name of the proof variable that it is mapped to
-abbrev pub IsNamed : Session → (ℕ → ℕ) → ℕ → Type 0
-IsNamed s global l = s.solver_names (global (variable l)) ≡ Some (variable l)
+abbrev pub HasOwnSolverName : Session → (ℕ → ℕ) → ℕ → Type 0
+HasOwnSolverName s global l = s.solver_names (global (variable l)) ≡ Some (variable l)
 
 -- what a session and a trail of level 0 have to do with each other
 pub record UnitsFit (words : List ℕ) (st : State) (s : Session) (global : ℕ → ℕ) : Type 0 where
-  pub named : (i : ℕ) → i < length st.trail.lits → IsNamed s global (lit_at st i)
+  pub named : (i : ℕ) → i < length st.trail.lits → HasOwnSolverName s global (lit_at st i)
   pub usable : (i : ℕ) → i < length st.trail.lits → is_unit (node st (lit_at st i)).reason ≡ false → IsUsable s global (reason_clause words (lit_at st i) (node st (lit_at st i)).reason)
   pub given : (i : ℕ) → i < length st.trail.lits → is_unit (node st (lit_at st i)).reason ≡ true → s.units (with_var global (lit_at st i)) ≡ true
   pub removed : (l : ℕ) → IsRemoved st l → s.units (with_var global l) ≡ true
-  pub sound : (l : ℕ) → IsNamed s global l → s.units (with_var global l) ≡ true → IsTrueLit st.values l
+  pub sound : (l : ℕ) → HasOwnSolverName s global l → s.units (with_var global l) ≡ true → IsTrueLit st.values l
 
 -- they may be written in the order of the trail
 abbrev pub TrailUnitsMay : Type 0

@@ -10,7 +10,7 @@ use Rattle.sat_solver.specs.variables.Calls.{Agree, NamesRefineJudge}
 use Rattle.sat_solver.specs.variables.Coming.{IsDue, MayAdd, MayTake}
 use Rattle.sat_solver.specs.variables.Ordering.{AddsInOrder}
 use Rattle.sat_solver.specs.session.Coming.{OnlyAllowedSteps}
-use Rattle.sat_solver.specs.session.Making.{Took}
+use Rattle.sat_solver.specs.session.Making.{ComesBySteps}
 use Rattle.sat_solver.specs.proof.ProofView.{IsAtWidth, is_drat, has_asked, target_of}
 use Rattle.sat_checker.specs.matching.Expected.{Outcome, Expected, Adds, Opens, bringing}
 use Rattle.sat_checker.specs.matching.Bridge.{Live}
@@ -22,7 +22,7 @@ use Rattle.sat_solver.specs.declared.state.State.{State}
 use Rattle.sat_solver.specs.declared.state.State.TheVariants as states
 use Rattle.sat_solver.specs.solver.Calls.{RefinesJudge, Refuses}
 use Rattle.sat_solver.specs.solver.Taking.{BreaksNamesOff, BreaksNamesOr}
-use Rattle.sat_solver.specs.solver.Whole.{HasFullStore, IsWhole, steps_in}
+use Rattle.sat_solver.specs.solver.Whole.{HasFullStore, SolverInvariant, steps_in}
 
 -- the literals come in, and then the clause
 abbrev pub with_added : List ℕ → Judge → Judge
@@ -38,12 +38,12 @@ abbrev pub due_for_asked : Outcome → List ℕ → Judge → List Expected
 due_for_asked o user j = bringing (names_in user) j ++ (Opens (map named_literal user) o ∷ [])
 
 -- nothing is known behind it, but that the clauses alone are unsatisfiable
-abbrev pub Forgets : State → State → Type 0
-Forgets states.Unsat now = now ≡ states.Unsat
-Forgets before states.Unknown = Unit {0}
-Forgets before states.Unsat = Unit {0}
-Forgets before states.Sat = ⊥
-Forgets before states.UnsatUnderAssumptions = ⊥
+abbrev pub ForgetsAnswer : State → State → Type 0
+ForgetsAnswer states.Unsat now = now ≡ states.Unsat
+ForgetsAnswer before states.Unknown = Unit {0}
+ForgetsAnswer before states.Unsat = Unit {0}
+ForgetsAnswer before states.Sat = ⊥
+ForgetsAnswer before states.UnsatUnderAssumptions = ⊥
 
 -- the leftmost name of mode witness
 abbrev pub HasWitness : {W L : Type 0} {G : Ghosts L} → Solver W L G → List ℕ → Type 0
@@ -78,8 +78,8 @@ abbrev pub IsBeforeDrat : {W L : Type 0} {G : Ghosts L} → (W → Writer) → S
 IsBeforeDrat seen s = IsPastDrat seen s → ⊥
 
 -- no name is of mode witness, but for one that comes in there's no variable left
-abbrev pub LacksRoom : {W L : Type 0} {G : Ghosts L} → Solver W L G → List ℕ → Type 0
-LacksRoom s user = (s.failed ≡ false) × AreSampled s user × (HasRoom s.names (users_in user) → ⊥)
+abbrev pub LacksRoomForNames : {W L : Type 0} {G : Ghosts L} → Solver W L G → List ℕ → Type 0
+LacksRoomForNames s user = (s.failed ≡ false) × AreSampled s user × (HasRoom s.names (users_in user) → ⊥)
 
 -- a clause was added
 pub record Added {W L : Type 0} {G : Ghosts L} (seen : W → Writer) (old new : Solver W L G) (user : List ℕ) : Type 0 where
@@ -93,19 +93,19 @@ pub record Added {W L : Type 0} {G : Ghosts L} (seen : W → Writer) (old new : 
   pub asked : has_asked new.core.proof ≡ has_asked old.core.proof
   pub assumed : new.assumed ≡ old.assumed
   pub clock : new.clock ≡ old.clock
-  pub state : Forgets old.state new.state
+  pub state : ForgetsAnswer old.state new.state
 
 -- Refusals come in this order: an earlier failure, lines of DRAT, a name of mode witness, no variable left.
 abbrev pub AddsClause : {W L : Type 0} {G : Ghosts L} → (W → Writer) → Result (Unit {0}) SolverError → Solver W L G → Solver W L G → List ℕ → Type 0
 AddsClause seen (Ok x) old new user = Added seen old new user
 AddsClause seen (Err errors.WitnessVariable) old new user = Refuses old new (((old.failed ≡ false) × IsBeforeDrat seen old) × HasWitness old user)
 AddsClause seen (Err errors.NotInDrat) old new user = Refuses old new ((old.failed ≡ false) × IsPastDrat seen old)
-AddsClause seen (Err errors.VariableLimit) old new user = Refuses old new (IsBeforeDrat seen old × LacksRoom old user)
+AddsClause seen (Err errors.VariableLimit) old new user = Refuses old new (IsBeforeDrat seen old × LacksRoomForNames old user)
 AddsClause seen (Err errors.HasFailed) old new user = Refuses old new (old.failed ≡ true)
 AddsClause seen (Err e) old new user = (IsBeforeDrat seen old × AreSampled old user) × HasRoom old.names (users_in user) × EndsNamesOr (HasFullStore new) seen e old new
 
 -- other assumptions were taken, whatever will be answered
-pub record Assumed {W L : Type 0} {G : Ghosts L} (seen : W → Writer) (old new : Solver W L G) (user : List ℕ) : Type 0 where
+pub record ReplacesAssumptions {W L : Type 0} {G : Ghosts L} (seen : W → Writer) (old new : Solver W L G) (user : List ℕ) : Type 0 where
   pub sampled : AreSampled old user
   pub room : HasRoom old.names (users_in user)
   pub did : (o : Outcome) → RefinesJudge seen old new (bring_all (names_in user)) (due_for_asked o user)
@@ -113,35 +113,35 @@ pub record Assumed {W L : Type 0} {G : Ghosts L} (seen : W → Writer) (old new 
   pub asked : has_asked new.core.proof ≡ has_asked old.core.proof
   pub assumed : new.assumed.items ≡ user
   pub clock : new.clock ≡ old.clock
-  pub state : Forgets old.state new.state
+  pub state : ForgetsAnswer old.state new.state
 
 -- what came of assumptions: these in place of others, or a refusal, or a fault
-abbrev pub Assumes : {W L : Type 0} {G : Ghosts L} → (W → Writer) → Result (Unit {0}) SolverError → Solver W L G → Solver W L G → List ℕ → Type 0
-Assumes seen (Ok x) old new user = Assumed seen old new user
-Assumes seen (Err errors.WitnessVariable) old new user = Refuses old new ((old.failed ≡ false) × HasWitness old user)
-Assumes seen (Err errors.NotInDrat) old new user = Refuses old new ((old.failed ≡ false) × IsDrat seen old)
-Assumes seen (Err errors.VariableLimit) old new user = Refuses old new (LacksRoom old user)
-Assumes seen (Err errors.HasFailed) old new user = Refuses old new (old.failed ≡ true)
-Assumes seen (Err e) old new user = AreSampled old user × HasRoom old.names (users_in user) × EndsNames seen e old new
+abbrev pub AssumesOrRefuses : {W L : Type 0} {G : Ghosts L} → (W → Writer) → Result (Unit {0}) SolverError → Solver W L G → Solver W L G → List ℕ → Type 0
+AssumesOrRefuses seen (Ok x) old new user = ReplacesAssumptions seen old new user
+AssumesOrRefuses seen (Err errors.WitnessVariable) old new user = Refuses old new ((old.failed ≡ false) × HasWitness old user)
+AssumesOrRefuses seen (Err errors.NotInDrat) old new user = Refuses old new ((old.failed ≡ false) × IsDrat seen old)
+AssumesOrRefuses seen (Err errors.VariableLimit) old new user = Refuses old new (LacksRoomForNames old user)
+AssumesOrRefuses seen (Err errors.HasFailed) old new user = Refuses old new (old.failed ≡ true)
+AssumesOrRefuses seen (Err e) old new user = AreSampled old user × HasRoom old.names (users_in user) × EndsNames seen e old new
 
 -- INSIDE
 
 -- the same without the flag of failure: what a clause leaves
 pub record TookIn {W L : Type 0} {G : Ghosts L} (seen : W → Writer) (old new : Solver W L G) (user : List ℕ) : Type 0 where
-  pub whole : IsWhole new
+  pub whole : SolverInvariant new
   pub does : NamesRefineJudge old.names new.names (steps_in old) (steps_in new) (with_added user) (due_for_clause old.state user)
   pub comes : OnlyAllowedSteps (MayAdd (names_in user)) (steps_in old) (steps_in new)
   pub order : (old.state ≡ states.Unsat → ⊥) → AddsInOrder (steps_in old) (steps_in new)
   pub left_out : old.state ≡ states.Unsat → OnlyAllowedSteps IsDue (steps_in old) (steps_in new)
-  pub took : Took seen old.core.proof new.core.proof
+  pub took : ComesBySteps seen old.core.proof new.core.proof
   pub asked : has_asked new.core.proof ≡ has_asked old.core.proof
   pub width : (steps_in new ≡ steps_in old → ⊥) → IsAtWidth new.core.proof
   pub failed : new.failed ≡ old.failed
   pub used : new.used ≡ old.used
   pub config : new.core.config ≡ old.core.config
-  pub state : Forgets old.state new.state
+  pub state : ForgetsAnswer old.state new.state
 
 -- what came of a clause before that flag is set: it is in, or a call failed
-abbrev pub TakesIn : {W L : Type 0} {G : Ghosts L} → (W → Writer) → Result (Unit {0}) SolverError → Solver W L G → Solver W L G → List ℕ → Type 0
-TakesIn seen (Ok x) old new user = TookIn seen old new user
-TakesIn seen (Err e) old new user = BreaksNamesOff (HasFullStore new) seen e old.core new.core
+abbrev pub TakesInOrBreaks : {W L : Type 0} {G : Ghosts L} → (W → Writer) → Result (Unit {0}) SolverError → Solver W L G → Solver W L G → List ℕ → Type 0
+TakesInOrBreaks seen (Ok x) old new user = TookIn seen old new user
+TakesInOrBreaks seen (Err e) old new user = BreaksNamesOff (HasFullStore new) seen e old.core new.core

@@ -3,11 +3,11 @@ use Rattle.std.specs.Prelude.{ℕ, ◌≡◌, List, [], ◌∷◌, map, MatchRes
 use Rattle.sat_base.specs.device.Device.{Writer}
 use Rattle.sat_base.specs.steps.Steps.{Step, Model}
 use Rattle.sat_checker.specs.declared.processing.ProofProcessor.{Ghosts}
-use Rattle.sat_solver.specs.proof.ProofView.{Fails, FailsCheck, Gains, session_of}
+use Rattle.sat_solver.specs.proof.ProofView.{FailsToEmit, FailsCheck, EmitsChecked, session_of}
 use Rattle.sat_solver.specs.assumptions.Core.{ToldCore}
 use Rattle.sat_parts.specs.parts.Full.{IsFull}
 use Rattle.sat_solver.specs.cdcl.Faults.{IsKept, NamesLoss}
-use Rattle.sat_solver.specs.cdcl.Going.{IsFaultOr, Went}
+use Rattle.sat_solver.specs.cdcl.Going.{IsFaultOr, EmitsUpToFault}
 use Rattle.sat_solver.specs.Models.{model_to, named_to}
 use Rattle.sat_solver.specs.variables.Variables.{names_used, variables_used}
 use Rattle.sat_solver.specs.declared.error.SolverError.{SolverError}
@@ -27,19 +27,19 @@ abbrev pub line_of : {W L : Type 0} {G : Ghosts L} → Variables → Core W L G 
 line_of n c = named_to n c.search.parts.assignment.current (names_used n)
 
 -- a call failed by what no input decides, for a full clause buffer only where it is full
-pub record Breaks {W L : Type 0} {G : Ghosts L} (seen : W → Writer) (e : SolverError) (a b : Core W L G) : Type 0 where
+pub record BreaksCall {W L : Type 0} {G : Ghosts L} (seen : W → Writer) (e : SolverError) (a b : Core W L G) : Type 0 where
   pub fault : IsFaultOr (IsFull b.search.parts) e
   pub steps : List Step
-  pub went : Went {A = Unit {0}} seen (Err e) steps a.proof b.proof
+  pub went : EmitsUpToFault {A = Unit {0}} seen (Err e) steps a.proof b.proof
   pub loss : NamesLoss e a.proof b.proof
 
 -- the same, and the proof keeps the cause until it is told
 abbrev pub BreaksOff : {W L : Type 0} {G : Ghosts L} → (W → Writer) → SolverError → Core W L G → Core W L G → Type 0
-BreaksOff seen e a b = Breaks seen e a b × IsKept e b.proof
+BreaksOff seen e a b = BreaksCall seen e a b × IsKept e b.proof
 
 -- no step was made: a call of the target failed at what waited for it, or the solver's own checker at what waited for its id
 abbrev pub FlushFails : {W L : Type 0} {G : Ghosts L} → (W → Writer) → SolverError → Proof W L G → Proof W L G → Type 0
-FlushFails seen (errors.ProofIoError cause) old new = Fails seen [] old new
+FlushFails seen (errors.ProofIoError cause) old new = FailsToEmit seen [] old new
 FlushFails seen errors.OutOfMemory old new = FailsCheck seen checks.OutOfMemory [] old new
 FlushFails seen errors.CounterEnd old new = FailsCheck seen checks.CounterEnd [] old new
 FlushFails seen (errors.ProofProcessorError cause) old new = FailsCheck seen (checks.Processor cause) [] old new
@@ -47,7 +47,7 @@ FlushFails seen e old new = ⊥
 
 -- the model of all variables was written
 pub record Shown {W L : Type 0} {G : Ghosts L} (seen : W → Writer) (n : Variables) (a b : Core W L G) : Type 0 where
-  pub adds : Gains seen (Model (model_of n a) ∷ []) a.proof b.proof
+  pub adds : EmitsChecked seen (Model (model_of n a) ∷ []) a.proof b.proof
   pub joined : IsJoined n b
   pub search : b.search ≡ a.search
   pub config : b.config ≡ a.config
@@ -57,9 +57,9 @@ abbrev pub ShowsModel : {W L : Type 0} {G : Ghosts L} → (W → Writer) → Res
 ShowsModel seen r n a b = MatchResult r (λ _. Shown seen n a b) (λ e. BreaksOff seen e a b)
 
 -- a failed core was written, and these are its literals over names
-pub record Failed {W L : Type 0} {G : Ghosts L} (seen : W → Writer) (n : Variables) (a b : Core W L G) (core : List ℕ) : Type 0 where
+pub record WritesFailedCore {W L : Type 0} {G : Ghosts L} (seen : W → Writer) (n : Variables) (a b : Core W L G) (core : List ℕ) : Type 0 where
   pub steps : List Step
-  pub adds : Gains seen steps a.proof b.proof
+  pub adds : EmitsChecked seen steps a.proof b.proof
   pub told : ToldCore steps (session_of b.proof) a.search b.search
   pub joined : IsJoined n b
   pub config : b.config ≡ a.config
@@ -67,4 +67,4 @@ pub record Failed {W L : Type 0} {G : Ghosts L} (seen : W → Writer) (n : Varia
 
 -- a failed core was written, or a call failed
 abbrev pub FailsCore : {W L : Type 0} {G : Ghosts L} → (W → Writer) → Result (Unit {0}) SolverError → Variables → Core W L G → Core W L G → List ℕ → Type 0
-FailsCore seen r n a b core = MatchResult r (λ _. Failed seen n a b core) (λ e. BreaksOff seen e a b)
+FailsCore seen r n a b core = MatchResult r (λ _. WritesFailedCore seen n a b core) (λ e. BreaksOff seen e a b)

@@ -9,10 +9,10 @@ use Rattle.sat_solver.specs.variables.Calls.{NamesRefineJudge}
 use Rattle.sat_solver.specs.variables.Coming.{MayTake}
 use Rattle.sat_solver.specs.session.Coming.{OnlyAllowedSteps}
 use Rattle.sat_solver.specs.variables.Refusing.{names_in}
-use Rattle.sat_solver.specs.session.Making.{Took}
+use Rattle.sat_solver.specs.session.Making.{ComesBySteps}
 use Rattle.sat_solver.specs.proof.ProofView.{IsAtWidth, has_asked}
 use Rattle.sat_solver.specs.declared.solver.Solver.{Solver}
-use Rattle.sat_solver.specs.solver.Adding.{Forgets, due_for_asked}
+use Rattle.sat_solver.specs.solver.Adding.{ForgetsAnswer, due_for_asked}
 use Rattle.sat_solver.specs.solver.Taking.{BreaksNamesOff}
 use Rattle.sat_solver.specs.solver.Whole.{IsWholeOf, steps_in}
 
@@ -21,13 +21,13 @@ pub record AskedIn {W L : Type 0} {G : Ghosts L} (seen : W → Writer) (old new 
   pub whole : IsWholeOf new.core new.names new.asked user new.told.failed_core.items new.clock.restarts.scale new.state
   pub does : (o : Outcome) → NamesRefineJudge old.names new.names (steps_in old) (steps_in new) (bring_all (names_in user)) (due_for_asked o user)
   pub comes : OnlyAllowedSteps (MayTake (names_in user)) (steps_in old) (steps_in new)
-  pub took : Took seen old.core.proof new.core.proof
+  pub took : ComesBySteps seen old.core.proof new.core.proof
   pub asked : has_asked new.core.proof ≡ has_asked old.core.proof
   pub width : (steps_in new ≡ steps_in old → ⊥) → IsAtWidth new.core.proof
   pub failed : new.failed ≡ old.failed
   pub used : new.used ≡ old.used
   pub config : new.core.config ≡ old.core.config
-  pub state : Forgets old.state new.state
+  pub state : ForgetsAnswer old.state new.state
 
 -- what came of assumptions, before the list over names is kept: they were taken, or a call failed
 abbrev pub Asks : {W L : Type 0} {G : Ghosts L} → (W → Writer) → Result (Unit {0}) SolverError → Solver W L G → Solver W L G → List ℕ → Type 0

@@ -15,24 +15,24 @@ use Rattle.sat_checker.specs.matching.Expected.{Expected, Shows, Fails}
 use Rattle.sat_checker.specs.matching.Bridge.{Live}
 use Rattle.sat_solver.specs.schedule.Solving.{AdvancesIn}
 use Rattle.sat_solver.specs.session.Coming.{OnlyAllowedSteps, EndsAtUnsat}
-use Rattle.sat_solver.specs.session.Making.{Took}
+use Rattle.sat_solver.specs.session.Making.{ComesBySteps}
 use Rattle.sat_solver.specs.proof.ProofView.{Target, Closed, Open, Broken, HasTold, IsAtWidth, has_asked, is_open, target_of}
 use Rattle.sat_solver.specs.declared.proof.Proof.{Proof}
 use Rattle.sat_solver.specs.declared.solver.Solver.{Solver}
 use Rattle.sat_solver.specs.declared.state.State.{State}
 use Rattle.sat_solver.specs.declared.state.State.TheVariants as states
-use Rattle.sat_solver.specs.solver.Answering.{Breaks, FlushFails}
-use Rattle.sat_solver.specs.solver.Whole.{IsWhole, steps_in, line_in}
+use Rattle.sat_solver.specs.solver.Answering.{BreaksCall, FlushFails}
+use Rattle.sat_solver.specs.solver.Whole.{SolverInvariant, steps_in, line_in}
 
 -- a call was carried out: what it does to the judge's state, and which steps it has made for it, whatever others come between
 pub record RefinesJudge {W L : Type 0} {G : Ghosts L} (seen : W → Writer) (old new : Solver W L G) (judge : Judge → Judge) (due : Judge → List Expected) : Type 0 where
-  pub whole : IsWhole new
+  pub whole : SolverInvariant new
   pub going : old.failed ≡ false
   pub failed : new.failed ≡ false
   pub used : new.used ≡ true
   pub config : new.core.config ≡ old.core.config
   pub does : NamesRefineJudge old.names new.names (steps_in old) (steps_in new) judge due
-  pub took : Took seen old.core.proof new.core.proof
+  pub took : ComesBySteps seen old.core.proof new.core.proof
   -- behind a step the solver's own checker, where there is one, is at the width of the target's text
   pub width : (steps_in new ≡ steps_in old → ⊥) → IsAtWidth new.core.proof
 
@@ -53,10 +53,10 @@ CountsRounds old new = RoundsOn old.names (steps_in old) old.core.config.max_ste
 
 -- a call failed by what no input decides, and so does each one behind it; where an answer was known, only a flush or the solver's own
 -- checker did
-pub record Ends {W L : Type 0} {G : Ghosts L} (seen : W → Writer) (e : SolverError) (old new : Solver W L G) : Type 0 where
+pub record EndsInFailure {W L : Type 0} {G : Ghosts L} (seen : W → Writer) (e : SolverError) (old new : Solver W L G) : Type 0 where
   pub going : old.failed ≡ false
   pub failed : new.failed ≡ true
-  pub breaks : Breaks seen e old.core new.core
+  pub breaks : BreaksCall seen e old.core new.core
   pub counts : CountsRounds old new
   pub known : (old.state ≡ states.Unknown → ⊥) → FlushFails seen e old.core.proof new.core.proof
 
@@ -68,14 +68,14 @@ pub record Refuses {W L : Type 0} {G : Ghosts L} (old new : Solver W L G) (why :
 -- ANSWERS
 
 -- what an answer has made due: one that was known makes no step
-abbrev pub told_as : (before now : State) → (line asked core : List ℕ) → List Expected
-told_as states.Unknown states.Sat line asked core = Shows (names_of (map named_literal line)) (map named_literal asked) (map named_literal line) ∷ []
-told_as states.Unknown states.UnsatUnderAssumptions line asked core = Fails (map named_literal asked) (map named_literal core) ∷ []
-told_as before now line asked core = []
+abbrev pub due_between_states : (before now : State) → (line asked core : List ℕ) → List Expected
+due_between_states states.Unknown states.Sat line asked core = Shows (names_of (map named_literal line)) (map named_literal asked) (map named_literal line) ∷ []
+due_between_states states.Unknown states.UnsatUnderAssumptions line asked core = Fails (map named_literal asked) (map named_literal core) ∷ []
+due_between_states before now line asked core = []
 
 -- the same by the solver that has answered now
-abbrev pub told_by : {W L : Type 0} {G : Ghosts L} → State → Solver W L G → List Expected
-told_by before s = told_as before s.state (line_in s) s.assumed.items s.told.failed_core.items
+abbrev pub due_for_answer : {W L : Type 0} {G : Ghosts L} → State → Solver W L G → List Expected
+due_for_answer before s = due_between_states before s.state (line_in s) s.assumed.items s.told.failed_core.items
 
 -- how many rounds were made: at least one for an answer that wasn't known, as many as there may be where there's no answer, and an
 -- answer wherever 2^(2n+3) of them might be made
@@ -111,7 +111,7 @@ pub record AnswersAgain {W L : Type 0} {G : Ghosts L} (old new : Solver W L G) :
 -- An ask was looked at: assumptions are as they were, names stand for the variables for which they stood, and each round derived a clause
 -- that advances, but for the one that answered; nothing else did. The solver's own checker was given all steps, and has told what waited.
 pub record Answered {W L : Type 0} {G : Ghosts L} (seen : W → Writer) (old new : Solver W L G) : Type 0 where
-  pub did : RefinesJudge seen old new (λ j. j) (λ j. told_by old.state new)
+  pub did : RefinesJudge seen old new (λ j. j) (λ j. due_for_answer old.state new)
   pub comes : OnlyAllowedSteps EndsAtUnsat (steps_in old) (steps_in new)
   pub assumed : new.assumed ≡ old.assumed
   pub users : new.names.global_from_user ≡ old.names.global_from_user
@@ -134,4 +134,4 @@ abbrev pub Solves : {W L : Type 0} {G : Ghosts L} → (W → Writer) → Result 
 Solves seen (Ok sat) old new = Answered seen old new × is_answer new.state sat
 Solves seen (Err errors.Interrupted) old new = Answered seen old new × (new.state ≡ states.Unknown)
 Solves seen (Err errors.HasFailed) old new = Refuses old new (old.failed ≡ true)
-Solves seen (Err e) old new = Ends seen e old new
+Solves seen (Err e) old new = EndsInFailure seen e old new

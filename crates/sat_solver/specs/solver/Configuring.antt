@@ -15,7 +15,7 @@ use Rattle.sat_solver.specs.declared.state.State.TheVariants as states
 use Rattle.sat_solver.specs.solver.Calls.{Refuses}
 
 -- the search has the decays of the parameters, and nothing else changed
-pub record Decays {W L : Type 0} {G : Ghosts L} (a b : Core W L G) : Type 0 where
+pub record SetsDecays {W L : Type 0} {G : Ghosts L} (a b : Core W L G) : Type 0 where
   pub bumped : (s : Session) → IsSearch s a.search → Bumped s a.search b.search
   pub parts : b.search.parts ≡ record a.search.parts { vsids = record a.search.parts.vsids { decay = a.config.vsids_decay } }
   pub search : b.search ≡ record a.search { parts = b.search.parts; activity = b.search.activity }
@@ -24,7 +24,7 @@ pub record Decays {W L : Type 0} {G : Ghosts L} (a b : Core W L G) : Type 0 wher
 -- unless the search is over
 abbrev pub HandsOn : {W L : Type 0} {G : Ghosts L} → State → Core W L G → Core W L G → Type 0
 HandsOn states.Unsat a b = b ≡ a
-HandsOn st a b = Decays a b
+HandsOn st a b = SetsDecays a b
 
 -- the parameters were changed, and nothing else that can be asked for
 pub record Configured {W L : Type 0} {G : Ghosts L} (u : SolverConfigUpdate) (old new : Solver W L G) : Type 0 where

@@ -6,7 +6,7 @@ use Rattle.sat_base.specs.dimacs.Parsing.{Progress, clauses_read}
 use Rattle.sat_base.specs.declared.dimacs.error.DimacsError.{DimacsError}
 use Rattle.sat_base.specs.declared.dimacs.error.DimacsError.TheVariants as texts
 use Rattle.sat_checker.specs.DimacsView.{AreRead, FailsBehind}
-use Rattle.sat_checker.specs.ProofView.{NoneFailed}
+use Rattle.sat_checker.specs.ProofView.{NoReadFailed}
 use Rattle.sat_checker.specs.declared.processing.ProofProcessor.{Ghosts}
 use Rattle.sat_solver.specs.declared.error.SolverError.{SolverError}
 use Rattle.sat_solver.specs.declared.error.SolverError.TheVariants as errors
@@ -20,7 +20,7 @@ AddsAll seen old [] new = new ≡ old
 AddsAll {W} {L} {G} seen old (c ∷ cs) new = (mid : Solver W L G) × Added seen old mid c × AddsAll seen mid cs new
 
 -- the clauses before one were added, and this one was refused, or failed
-pub record StopsAt {W L : Type 0} {G : Ghosts L} (seen : W → Writer) (e : SolverError) (old new : Solver W L G) (clauses : List (List ℕ)) : Type 0 where
+pub record StopsAtClause {W L : Type 0} {G : Ghosts L} (seen : W → Writer) (e : SolverError) (old new : Solver W L G) (clauses : List (List ℕ)) : Type 0 where
   pub going : old.failed ≡ false
   pub before : List (List ℕ)
   pub clause : List ℕ
@@ -34,7 +34,7 @@ pub record StopsAt {W L : Type 0} {G : Ghosts L} (seen : W → Writer) (e : Solv
 abbrev pub AddsFormula : {W L : Type 0} {G : Ghosts L} → (W → Writer) → Result (Unit {0}) SolverError → Solver W L G → Solver W L G → List (List ℕ) → Type 0
 AddsFormula seen (Ok x) old new clauses = (old.failed ≡ false) × AddsAll seen old clauses new
 AddsFormula seen (Err errors.HasFailed) old new clauses = Refuses old new (old.failed ≡ true)
-AddsFormula seen (Err e) old new clauses = StopsAt seen e old new clauses
+AddsFormula seen (Err e) old new clauses = StopsAtClause seen e old new clauses
 
 -- TEXTS
 
@@ -71,15 +71,15 @@ pub record TextFails {W L : Type 0} {G : Ghosts L} (seen : W → Writer) (e : So
 
 -- one of the clauses that were read by then was refused, or failed
 pub record ClauseFails {W L : Type 0} {G : Ghosts L} (seen : W → Writer) (e : SolverError) (old new : Solver W L G) (from to : Reader) : Type 0 where
-  pub quiet : NoneFailed from to
+  pub quiet : NoReadFailed from to
   pub clauses : List (List ℕ)
   pub read : GaveEnough from to (λ text. AreRead text clauses)
-  pub stops : StopsAt seen e old new clauses
+  pub stops : StopsAtClause seen e old new clauses
 
 -- all clauses of a text without a fault were added
 pub record TextAdded {W L : Type 0} {G : Ghosts L} (seen : W → Writer) (old new : Solver W L G) (from to : Reader) : Type 0 where
   pub going : old.failed ≡ false
-  pub quiet : NoneFailed from to
+  pub quiet : NoReadFailed from to
   pub clauses : List (List ℕ)
   pub read : GaveEnough from to (λ text. IsDimacs text clauses Clean)
   pub added : AddsAll seen old clauses new
@@ -102,10 +102,10 @@ pub record ReadStops {W L : Type 0} {G : Ghosts L} (seen : W → Writer) (e : So
   pub new_is : new ≡ with_failed (is_want fault) mid
 
 -- what came of clauses that waited: all were added and the parser told no fault, or something stopped it
-abbrev pub AnswersRead : {W L : Type 0} {G : Ghosts L} → (W → Writer) → Result (Unit {0}) SolverError → Result (Unit {0}) DimacsError → Solver W L G → Solver W L G → List (List ℕ) → Type 0
-AnswersRead seen (Ok x) answer old new clauses = (answer ≡ Ok tt) × AddsAll seen old clauses new
-AnswersRead seen (Err e) answer old new clauses = ReadStops seen e answer old new clauses ⊎ StopsAt seen e old new clauses
+abbrev pub AnswersFormulaRead : {W L : Type 0} {G : Ghosts L} → (W → Writer) → Result (Unit {0}) SolverError → Result (Unit {0}) DimacsError → Solver W L G → Solver W L G → List (List ℕ) → Type 0
+AnswersFormulaRead seen (Ok x) answer old new clauses = (answer ≡ Ok tt) × AddsAll seen old clauses new
+AnswersFormulaRead seen (Err e) answer old new clauses = ReadStops seen e answer old new clauses ⊎ StopsAtClause seen e old new clauses
 
 -- the same of the clauses that the parser has read and not handed over
-abbrev pub AddsRead : {W L : Type 0} {G : Ghosts L} → (W → Writer) → Result (Unit {0}) SolverError → Result (Unit {0}) DimacsError → Progress → Solver W L G → Solver W L G → Type 0
-AddsRead seen result answer parser old new = (clauses : List (List ℕ)) × (clauses_read parser ≡ parser.taken ++ clauses) × AnswersRead seen result answer old new clauses
+abbrev pub AddsFormulaRead : {W L : Type 0} {G : Ghosts L} → (W → Writer) → Result (Unit {0}) SolverError → Result (Unit {0}) DimacsError → Progress → Solver W L G → Solver W L G → Type 0
+AddsFormulaRead seen result answer parser old new = (clauses : List (List ℕ)) × (clauses_read parser ≡ parser.taken ++ clauses) × AnswersFormulaRead seen result answer old new clauses

@@ -6,13 +6,13 @@ use Rattle.sat_solver.specs.declared.schedule.Outcome.{Outcome}
 use Rattle.sat_solver.specs.declared.schedule.Outcome.TheVariants as outcomes
 use Rattle.sat_solver.specs.declared.error.SolverError.{SolverError}
 use Rattle.sat_solver.specs.cdcl.Turns.{IsComplete, IsFailing}
-use Rattle.sat_solver.specs.schedule.Solving.{Ended, Gone}
+use Rattle.sat_solver.specs.schedule.Solving.{Ended, ComesByRounds}
 use Rattle.sat_solver.specs.declared.variables.Variables.{Variables}
 use Rattle.sat_solver.specs.declared.context.Core.{Core}
 use Rattle.sat_solver.specs.declared.state.State.{State}
 use Rattle.sat_solver.specs.declared.state.State.TheVariants as states
 use Rattle.sat_solver.specs.solver.Joined.{IsJoined}
-use Rattle.sat_solver.specs.solver.Answering.{BreaksOff, Shown, Failed}
+use Rattle.sat_solver.specs.solver.Answering.{BreaksOff, Shown, WritesFailedCore}
 use Rattle.sat_solver.specs.declared.solver.find.Clock.{Clock}
 use Rattle.sat_solver.specs.declared.solver.find.Told.{Told}
 
@@ -26,7 +26,7 @@ pub record FoundModel {W L : Type 0} {G : Ghosts L} (seen : W → Writer) (round
 pub record FoundCore {W L : Type 0} {G : Ghosts L} (seen : W → Writer) (rounds : ℕ) (n m : Variables) (a b : Core W L G) (core : List ℕ) : Type 0 where
   pub mid : Core W L G
   pub ended : Ended seen a n (rounds - 1) outcomes.Failed mid m
-  pub failed : Failed seen m mid b core
+  pub failed : WritesFailedCore seen m mid b core
 
 -- what was found in so many rounds, by the state that tells it
 abbrev pub FoundSays : {W L : Type 0} {G : Ghosts L} → (W → Writer) → State → (rounds : ℕ) → Variables → Variables → Core W L G → Core W L G → List ℕ → Type 0
@@ -38,31 +38,31 @@ FoundSays seen states.Unsat rounds n m a b core = Ended seen a n (rounds - 1) ou
 -- no answer by now
 pub record FoundNone {W L : Type 0} {G : Ghosts L} (seen : W → Writer) (rounds : ℕ) (n m : Variables) (a b : Core W L G) : Type 0 where
   pub joined : IsJoined m b
-  pub gone : Gone seen a n rounds b m
+  pub gone : ComesByRounds seen a n rounds b m
 
 -- an answer was found in so many rounds, or none by now
-abbrev pub Finds : {W L : Type 0} {G : Ghosts L} → (W → Writer) → Option State → (rounds : ℕ) → Variables → Variables → Core W L G → Core W L G → List ℕ → Type 0
-Finds seen None rounds n m a b core = FoundNone seen rounds n m a b
-Finds seen (Some state) rounds n m a b core = FoundSays seen state rounds n m a b core
+abbrev pub FindsAnswer : {W L : Type 0} {G : Ghosts L} → (W → Writer) → Option State → (rounds : ℕ) → Variables → Variables → Core W L G → Core W L G → List ℕ → Type 0
+FindsAnswer seen None rounds n m a b core = FoundNone seen rounds n m a b
+FindsAnswer seen (Some state) rounds n m a b core = FoundSays seen state rounds n m a b core
 
 -- the same by the counts of rounds before and now, and by what was told
 abbrev pub FindsBy : {W L : Type 0} {G : Ghosts L} → (W → Writer) → Option State → Clock → Clock → Variables → Variables → Core W L G → Core W L G → Told → Type 0
-FindsBy seen o before now n m a b told = Finds seen o (now.steps - before.steps) n m a b told.failed_core.items
+FindsBy seen o before now n m a b told = FindsAnswer seen o (now.steps - before.steps) n m a b told.failed_core.items
 
 -- what a search came to, before it's told
-abbrev pub ComesTo : {W L : Type 0} {G : Ghosts L} → Outcome → Variables → Core W L G → Type 0
-ComesTo outcomes.Learned n c = ⊥
-ComesTo outcomes.Model n c = IsJoined n c × IsComplete c.search.assumptions.lits.items c.search.parts
-ComesTo outcomes.Failed n c = IsJoined n c × IsFailing c.search.assumptions.lits.items c.search.parts c.search.failed
-ComesTo outcomes.Unsat n c = Unit {0}
+abbrev pub OutcomeHolds : {W L : Type 0} {G : Ghosts L} → Outcome → Variables → Core W L G → Type 0
+OutcomeHolds outcomes.Learned n c = ⊥
+OutcomeHolds outcomes.Model n c = IsJoined n c × IsComplete c.search.assumptions.lits.items c.search.parts
+OutcomeHolds outcomes.Failed n c = IsJoined n c × IsFailing c.search.assumptions.lits.items c.search.parts c.search.failed
+OutcomeHolds outcomes.Unsat n c = Unit {0}
 
 -- what telling an outcome leaves, with the state that fits it: of unsat no step is made
 abbrev pub ToldSays : {W L : Type 0} {G : Ghosts L} → (W → Writer) → Option State → Outcome → Variables → Core W L G → Core W L G → List ℕ → Type 0
 ToldSays seen (Some states.Sat) outcomes.Model n a b core = Shown seen n a b
-ToldSays seen (Some states.UnsatUnderAssumptions) outcomes.Failed n a b core = Failed seen n a b core
+ToldSays seen (Some states.UnsatUnderAssumptions) outcomes.Failed n a b core = WritesFailedCore seen n a b core
 ToldSays seen (Some states.Unsat) outcomes.Unsat n a b core = b ≡ a
 ToldSays seen o outcome n a b core = ⊥
 
 -- so an outcome was told, or a call failed
-abbrev pub Tells : {W L : Type 0} {G : Ghosts L} → (W → Writer) → Result (Option State) SolverError → Outcome → Variables → Core W L G → Core W L G → List ℕ → Type 0
-Tells seen r outcome n a b core = MatchResult r (λ o. ToldSays seen o outcome n a b core) (λ e. BreaksOff seen e a b)
+abbrev pub TellsOutcome : {W L : Type 0} {G : Ghosts L} → (W → Writer) → Result (Option State) SolverError → Outcome → Variables → Core W L G → Core W L G → List ℕ → Type 0
+TellsOutcome seen r outcome n a b core = MatchResult r (λ o. ToldSays seen o outcome n a b core) (λ e. BreaksOff seen e a b)

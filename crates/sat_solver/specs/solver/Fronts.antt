@@ -8,8 +8,8 @@ use Rattle.sat_solver.specs.proof.Checked.{has_begun}
 use Rattle.sat_solver.specs.proof.Counting.{start}
 use Rattle.sat_solver.specs.proof.Fronts.{FrontSince, WentOn}
 use Rattle.sat_solver.specs.proof.ProofTexts.{TookText}
-use Rattle.sat_solver.specs.proof.ProofView.{Target, Open, Carries, Gives, target_of}
-use Rattle.sat_solver.specs.solver.Adding.{AddsClause, Assumes}
+use Rattle.sat_solver.specs.proof.ProofView.{Target, Open, TargetTakes, GivesWriter, target_of}
+use Rattle.sat_solver.specs.solver.Adding.{AddsClause, AssumesOrRefuses}
 use Rattle.sat_solver.specs.solver.Calls.{Solves, IsFlushed}
 use Rattle.sat_solver.specs.solver.Configuring.{Configures}
 use Rattle.sat_solver.specs.solver.Formulas.{AddsFormula, AddsText}
@@ -22,35 +22,35 @@ use Rattle.sat_solver.specs.declared.proof.format.ProofFormat.{ProofFormat}
 use Rattle.sat_solver.specs.declared.solver.Solver.{Solver}
 
 -- the solver came from there by steps, whether or not a call failed
-abbrev pub Went : {W L : Type 0} {G : Ghosts L} → (W → Writer) → Solver W L G → Solver W L G → Type 0
-Went seen old new = WentOn seen old.core.proof new.core.proof
+abbrev pub ReachesBySteps : {W L : Type 0} {G : Ghosts L} → (W → Writer) → Solver W L G → Solver W L G → Type 0
+ReachesBySteps seen old new = WentOn seen old.core.proof new.core.proof
 
 -- Each call goes on so, whatever it answers, but for one that opens a proof, or hands the target back.
 pub record CallsGoOn {W L : Type 0} {G : Ghosts L} (seen : W → Writer) (old new : Solver W L G) : Type 0 where
-  pub adds : (r : Result (Unit {0}) SolverError) (user : List ℕ) → AddsClause seen r old new user → Went seen old new
-  pub assumes : (r : Result (Unit {0}) SolverError) (user : List ℕ) → Assumes seen r old new user → Went seen old new
-  pub formulas : (r : Result (Unit {0}) SolverError) (clauses : List (List ℕ)) → AddsFormula seen r old new clauses → Went seen old new
-  pub texts : (r : Result (Unit {0}) SolverError) (from to : Reader) → AddsText seen r old new from to → Went seen old new
-  pub hides : (r : Result (Unit {0}) SolverError) (user : ℕ) → Hides seen r old new user → Went seen old new
-  pub witnesses : (r : Result (Unit {0}) SolverError) (user : ℕ) → Witnesses seen r old new user → Went seen old new
-  pub samples : (r : Result (Unit {0}) SolverError) (user : ℕ) → Samples seen r old new user → Went seen old new
-  pub names : (r : Result ℕ SolverError) → NamesNew seen r old new → Went seen old new
-  pub observes : (users : List ℕ) → Observed seen old new users → Went seen old new
-  pub observing_fails : (e : SolverError) → NamesFail seen e old new → Went seen old new
-  pub solves : (r : Result Bool SolverError) → Solves seen r old new → Went seen old new
-  pub configures : (r : Result (Unit {0}) SolverError) (u : SolverConfigUpdate) → Configures r u old new → Went seen old new
-  pub enables : (r : Result (Unit {0}) SolverError) → Enables seen r old new → Went seen old new
-  pub listens : (r : Result (Unit {0}) SolverError) (processor : L) → AddsProcessor seen r processor old new → Went seen old new
-  pub closes_none : ClosesProof seen (Ok None) old new → Went seen old new
-  pub closing_fails : (e : SolverError) → ClosesProof seen (Err e) old new → Went seen old new
+  pub adds : (r : Result (Unit {0}) SolverError) (user : List ℕ) → AddsClause seen r old new user → ReachesBySteps seen old new
+  pub assumes : (r : Result (Unit {0}) SolverError) (user : List ℕ) → AssumesOrRefuses seen r old new user → ReachesBySteps seen old new
+  pub formulas : (r : Result (Unit {0}) SolverError) (clauses : List (List ℕ)) → AddsFormula seen r old new clauses → ReachesBySteps seen old new
+  pub texts : (r : Result (Unit {0}) SolverError) (from to : Reader) → AddsText seen r old new from to → ReachesBySteps seen old new
+  pub hides : (r : Result (Unit {0}) SolverError) (user : ℕ) → Hides seen r old new user → ReachesBySteps seen old new
+  pub witnesses : (r : Result (Unit {0}) SolverError) (user : ℕ) → Witnesses seen r old new user → ReachesBySteps seen old new
+  pub samples : (r : Result (Unit {0}) SolverError) (user : ℕ) → Samples seen r old new user → ReachesBySteps seen old new
+  pub names : (r : Result ℕ SolverError) → NamesNew seen r old new → ReachesBySteps seen old new
+  pub observes : (users : List ℕ) → Observed seen old new users → ReachesBySteps seen old new
+  pub observing_fails : (e : SolverError) → NamesFail seen e old new → ReachesBySteps seen old new
+  pub solves : (r : Result Bool SolverError) → Solves seen r old new → ReachesBySteps seen old new
+  pub configures : (r : Result (Unit {0}) SolverError) (u : SolverConfigUpdate) → Configures r u old new → ReachesBySteps seen old new
+  pub enables : (r : Result (Unit {0}) SolverError) → Enables seen r old new → ReachesBySteps seen old new
+  pub listens : (r : Result (Unit {0}) SolverError) (processor : L) → AddsProcessor seen r processor old new → ReachesBySteps seen old new
+  pub closes_none : ClosesProof seen (Ok None) old new → ReachesBySteps seen old new
+  pub closing_fails : (e : SolverError) → ClosesProof seen (Err e) old new → ReachesBySteps seen old new
 
 -- What it hands back, where a proof was opened before any step but ends of proofs and it has come from there, also to a fault: it has taken a
 -- front of the text of accepted steps.
 abbrev pub HandsFront : {W L : Type 0} {G : Ghosts L} → (W → Writer) → Option W → Solver W L G → Type 0
 HandsFront {W} {L} {G} seen handed s = (opened : Solver W L G) (f : ProofFormat) (from : Writer) (given : W) → handed ≡ Some given
-    → target_of seen opened.core.proof ≡ Open f start (empty_sink from) → has_begun (steps_in opened) ≡ false → Went seen opened s
+    → target_of seen opened.core.proof ≡ Open f start (empty_sink from) → has_begun (steps_in opened) ≡ false → ReachesBySteps seen opened s
     → ∥ FrontSince f from (seen given) (steps_in opened) (steps_in s) ∥₁
 
 -- Where no call of it failed, and the last was a flush, it has taken the whole text.
 abbrev pub FlushedIsText : Type 0
-FlushedIsText = (f : ProofFormat) (from given : Writer) (steps : List Step) (now : Target) → Carries (Open f start (empty_sink from)) steps now → IsFlushed now → Gives now (Some given) → TookText f from given steps
+FlushedIsText = (f : ProofFormat) (from given : Writer) (steps : List Step) (now : Target) → TargetTakes (Open f start (empty_sink from)) steps now → IsFlushed now → GivesWriter now (Some given) → TookText f from given steps

@@ -3,7 +3,7 @@ use Rattle.std.specs.Prelude.{ℕ, ◌≡◌, Option, None, Some, List}
 use Rattle.sat_base.specs.values.Literals.{variable, is_positive, coded}
 use Rattle.sat_checker.specs.declared.processing.ProofProcessor.{Ghosts}
 use Rattle.sat_solver.specs.proof.ProofView.{steps_of, session_of}
-use Rattle.sat_solver.specs.schedule.Solving.{IsCore}
+use Rattle.sat_solver.specs.schedule.Solving.{CoreInvariant}
 use Rattle.sat_solver.specs.variables.Shared.{SharesIndices}
 use Rattle.sat_solver.specs.load.Literals.{Images, GlobalImages}
 use Rattle.sat_solver.specs.variables.Calls.{NamesInvariant}
@@ -14,7 +14,7 @@ use Rattle.sat_solver.specs.declared.context.Core.{Core}
 
 -- names and search stand, over the same indices
 pub record IsJoined {W L : Type 0} {G : Ghosts L} (n : Variables) (c : Core W L G) : Type 0 where
-  pub sound : IsCore c
+  pub sound : CoreInvariant c
   pub stands : NamesInvariant n (steps_of c.proof)
   pub shares : SharesIndices n c.search
 
@@ -23,7 +23,7 @@ abbrev pub KeepsJoined : {W L : Type 0} {G : Ghosts L} → Core W L G → Core W
 KeepsJoined b c = (n : Variables) → IsJoined n b → IsJoined n c
 
 -- these literals over names are the assumptions of the search and of the proof
-pub record AreAsked {W L : Type 0} {G : Ghosts L} (n : Variables) (c : Core W L G) (user : List ℕ) (t : Taken) : Type 0 where
+pub record AreNamedAssumptions {W L : Type 0} {G : Ghosts L} (n : Variables) (c : Core W L G) (user : List ℕ) (t : Taken) : Type 0 where
   pub images : Images n user t.order.items
   pub lits : c.search.assumptions.lits.items ≡ t.order.items
   pub spelt : GlobalImages n user t.globals.items

@@ -18,12 +18,12 @@ use Rattle.sat_solver.specs.variables.Variables.{global_of, judged_mode}
 use Rattle.sat_base.specs.steps.Steps.{Step}
 use Rattle.sat_solver.specs.session.Coming.{OnlyAllowedSteps}
 use Rattle.sat_solver.specs.variables.Coming.{IsDue, MayHide, MaySet}
-use Rattle.sat_solver.specs.session.Making.{Took}
+use Rattle.sat_solver.specs.session.Making.{ComesBySteps}
 use Rattle.sat_solver.specs.proof.ProofView.{IsAtWidth, has_asked}
 use Rattle.sat_solver.specs.declared.solver.Solver.{Solver}
 use Rattle.sat_solver.specs.solver.Adding.{EndsNames}
 use Rattle.sat_solver.specs.solver.Calls.{RefinesJudge, Refuses}
-use Rattle.sat_solver.specs.solver.Whole.{IsWhole, steps_in}
+use Rattle.sat_solver.specs.solver.Whole.{SolverInvariant, steps_in}
 
 -- the name is one of those assumed
 abbrev pub IsAsked : {W L : Type 0} {G : Ghosts L} → Solver W L G → ℕ → Type 0
@@ -101,7 +101,7 @@ NamesNew seen (Err e) old new = NewFails seen e old new
 -- Each hidden variable that is kept got the next name and mode witness, by increasing variable, and what is known of an answer stands.
 -- Where there is none, a proof may still be opened.
 pub record Observed {W L : Type 0} {G : Ghosts L} (seen : W → Writer) (old new : Solver W L G) (users : List ℕ) : Type 0 where
-  pub whole : IsWhole new
+  pub whole : SolverInvariant new
   pub going : old.failed ≡ false
   pub failed : new.failed ≡ false
   pub used : new.used ≡ (old.used || not (length users == 0))
@@ -109,7 +109,7 @@ pub record Observed {W L : Type 0} {G : Ghosts L} (seen : W → Writer) (old new
   pub observes : (j : Judge) (live : Live) → Agree old.names (steps_in old) j live → (k : Judge) × Observes 0 (steps_in old) j live (steps_in new) k users × Agree new.names (steps_in new) k live
   pub all : (v : ℕ) → IsHidden new.names v → ⊥
   pub values : (v : ℕ) → variable_value new (Some v) ≡ variable_value old (Some v)
-  pub took : Took seen old.core.proof new.core.proof
+  pub took : ComesBySteps seen old.core.proof new.core.proof
   pub width : (steps_in new ≡ steps_in old → ⊥) → IsAtWidth new.core.proof
   pub asked : has_asked new.core.proof ≡ has_asked old.core.proof
   pub assumed : new.assumed ≡ old.assumed

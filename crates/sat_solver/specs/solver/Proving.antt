@@ -6,10 +6,10 @@ use Rattle.sat_base.specs.steps.Steps.{Step, End}
 use Rattle.sat_checker.specs.declared.processing.ProofProcessor.{Ghosts}
 use Rattle.sat_solver.specs.proof.Checked.{has_begun}
 use Rattle.sat_solver.specs.proof.Counting.{start}
-use Rattle.sat_solver.specs.proof.Drat.{IsDratDerivation, Refutes, present}
-use Rattle.sat_solver.specs.proof.ProofTexts.{IsCertificate, WroteSince}
+use Rattle.sat_solver.specs.proof.Drat.{IsDratDerivation, RefutesByUnits, present}
+use Rattle.sat_solver.specs.proof.ProofTexts.{TookAcceptedSteps, WroteSince}
 use Rattle.sat_solver.specs.proof.ProofView as proofs
-use Rattle.sat_solver.specs.proof.ProofView.{Open, Adds, ClosesNone, ClosesOne, Fails, FailsCheck, ListedAnew, audience, has_asked, is_open, is_lost, target_of}
+use Rattle.sat_solver.specs.proof.ProofView.{Open, EmitsExactly, ClosesNone, ClosesOne, FailsToEmit, FailsCheck, ListedAnew, audience, has_asked, is_open, is_lost, target_of}
 use Rattle.sat_solver.specs.declared.proof.format.ProofFormat.{ProofFormat}
 use Rattle.sat_solver.specs.declared.error.SolverError.{SolverError}
 use Rattle.sat_solver.specs.declared.proof.made.CheckFault.{CheckFault}
@@ -21,7 +21,7 @@ use Rattle.sat_checker.specs.matching.Expected.{Finish}
 use Rattle.sat_solver.specs.declared.solver.Solver.{Solver}
 use Rattle.sat_solver.specs.declared.state.State.TheVariants as states
 use Rattle.sat_solver.specs.solver.Calls.{Refuses}
-use Rattle.sat_solver.specs.solver.Whole.{IsWhole, steps_in}
+use Rattle.sat_solver.specs.solver.Whole.{SolverInvariant, steps_in}
 
 -- a target was opened, before anything else
 pub record Opened {W L : Type 0} {G : Ghosts L} (seen : W → Writer) (format : ProofFormat) (target : W) (old new : Solver W L G) : Type 0 where
@@ -36,14 +36,14 @@ pub record Opened {W L : Type 0} {G : Ghosts L} (seen : W → Writer) (format : 
   pub same : new ≡ record old { core = record old.core { proof = new.core.proof } }
 
 -- what came of opening a proof: only a solver that wasn't used, with no proof open, takes a target
-abbrev pub Opens : {W L : Type 0} {G : Ghosts L} → (W → Writer) → Result (Unit {0}) SolverError → ProofFormat → W → Solver W L G → Solver W L G → Type 0
-Opens seen (Ok x) format target old new = Opened seen format target old new
-Opens seen (Err errors.HasFailed) format target old new = Refuses old new (old.failed ≡ true)
-Opens seen (Err errors.TooLate) format target old new = Refuses old new ((old.failed ≡ false) × ((old.used ≡ true) ⊎ (is_open (target_of seen old.core.proof) ≡ true)))
-Opens seen (Err e) format target old new = ⊥
+abbrev pub OpensProof : {W L : Type 0} {G : Ghosts L} → (W → Writer) → Result (Unit {0}) SolverError → ProofFormat → W → Solver W L G → Solver W L G → Type 0
+OpensProof seen (Ok x) format target old new = Opened seen format target old new
+OpensProof seen (Err errors.HasFailed) format target old new = Refuses old new (old.failed ≡ true)
+OpensProof seen (Err errors.TooLate) format target old new = Refuses old new ((old.failed ≡ false) × ((old.used ≡ true) ⊎ (is_open (target_of seen old.core.proof) ≡ true)))
+OpensProof seen (Err e) format target old new = ⊥
 
 -- the solver has a checker of its own, before any step but ends of proofs
-pub record Checks {W L : Type 0} {G : Ghosts L} (seen : W → Writer) (old new : Solver W L G) : Type 0 where
+pub record StartsChecking {W L : Type 0} {G : Ghosts L} (seen : W → Writer) (old new : Solver W L G) : Type 0 where
   pub going : old.failed ≡ false
   pub first : old.used ≡ false
   pub begun : has_begun (steps_in old) ≡ false
@@ -54,13 +54,13 @@ pub record Checks {W L : Type 0} {G : Ghosts L} (seen : W → Writer) (old new :
 
 -- what came of asking for a checker of the solver's own: it begins, or it's too late for one
 abbrev pub Enables : {W L : Type 0} {G : Ghosts L} → (W → Writer) → Result (Unit {0}) SolverError → Solver W L G → Solver W L G → Type 0
-Enables seen (Ok x) old new = Checks seen old new
+Enables seen (Ok x) old new = StartsChecking seen old new
 Enables seen (Err errors.HasFailed) old new = Refuses old new (old.failed ≡ true)
 Enables seen (Err errors.TooLate) old new = Refuses old new ((old.failed ≡ false) × ((old.used ≡ true) ⊎ (has_begun (steps_in old) ≡ true)))
 Enables seen (Err e) old new = ⊥
 
 -- a processor listens to the solver's own checker, behind those who did, before any step but ends of proofs
-pub record Listens {W L : Type 0} {G : Ghosts L} (seen : W → Writer) (processor : L) (old new : Solver W L G) : Type 0 where
+pub record GainsListener {W L : Type 0} {G : Ghosts L} (seen : W → Writer) (processor : L) (old new : Solver W L G) : Type 0 where
   pub going : old.failed ≡ false
   pub first : old.used ≡ false
   pub begun : has_begun (steps_in old) ≡ false
@@ -88,7 +88,7 @@ pub record Unheard {W L : Type 0} {G : Ghosts L} (seen : W → Writer) (old new 
 
 -- what came of adding a processor: it listens, or came too late, or no memory was left for it
 abbrev pub AddsProcessor : {W L : Type 0} {G : Ghosts L} → (W → Writer) → Result (Unit {0}) SolverError → L → Solver W L G → Solver W L G → Type 0
-AddsProcessor seen (Ok x) processor old new = Listens seen processor old new
+AddsProcessor seen (Ok x) processor old new = GainsListener seen processor old new
 AddsProcessor seen (Err errors.HasFailed) processor old new = Refuses old new (old.failed ≡ true)
 AddsProcessor seen (Err errors.TooLate) processor old new = Refuses old new ((old.failed ≡ false) × ((old.used ≡ true) ⊎ (has_begun (steps_in old) ≡ true)))
 AddsProcessor seen (Err errors.OutOfMemory) processor old new = Unheard seen old new
@@ -97,14 +97,14 @@ AddsProcessor seen (Err e) processor old new = ⊥
 -- the target came back, with the last step; the solver's own checker was given all steps, and has told what waited
 pub record ClosedOne {W L : Type 0} {G : Ghosts L} (seen : W → Writer) (given : W) (old new : Solver W L G) : Type 0 where
   pub going : old.failed ≡ false
-  pub whole : IsWhole new
+  pub whole : SolverInvariant new
   pub does : NamesRefineJudge old.names new.names (steps_in old) (steps_in new) (λ j. j) (λ j. Finish ∷ [])
   pub closes : ClosesOne seen given old.core.proof new.core.proof
   -- since it was opened, before any step but ends of proofs, it took the text of steps that a checker accepts
-  pub certificate : (f : ProofFormat) (from : Writer) (before : List Step) → has_begun before ≡ false → WroteSince seen f from before old.core.proof → IsCertificate f from (seen given) before (steps_in new)
+  pub certificate : (f : ProofFormat) (from : Writer) (before : List Step) → has_begun before ≡ false → WroteSince seen f from before old.core.proof → TookAcceptedSteps f from (seen given) before (steps_in new)
   -- the lines of DRAT that the steps give are a derivation, and refute the added clauses where these are known to be unsatisfiable
   pub derives : IsDratDerivation (steps_in new)
-  pub refutes : old.state ≡ states.Unsat → Refutes (present (steps_in new)) []
+  pub refutes : old.state ≡ states.Unsat → RefutesByUnits (present (steps_in new)) []
   pub same : new ≡ record old { core = record old.core { proof = new.core.proof } }
 
 -- none was open
@@ -117,14 +117,14 @@ pub record ClosedNone {W L : Type 0} {G : Ghosts L} (seen : W → Writer) (old n
 pub record ClosedBroken {W L : Type 0} {G : Ghosts L} (seen : W → Writer) (old new : Solver W L G) : Type 0 where
   pub going : old.failed ≡ false
   pub failed : new.failed ≡ true
-  pub fails : Fails seen (End ∷ []) old.core.proof new.core.proof
+  pub fails : FailsToEmit seen (End ∷ []) old.core.proof new.core.proof
   pub clock : new.clock ≡ old.clock
 
 -- no memory was left, and nothing was made; or it was wanted by the solver's own checker behind the last step
 pub record ClosedStarved {W L : Type 0} {G : Ghosts L} (seen : W → Writer) (old new : Solver W L G) : Type 0 where
   pub going : old.failed ≡ false
   pub failed : new.failed ≡ true
-  pub adds : Adds seen [] old.core.proof new.core.proof ⊎ FailsCheck seen checks.OutOfMemory (End ∷ []) old.core.proof new.core.proof
+  pub adds : EmitsExactly seen [] old.core.proof new.core.proof ⊎ FailsCheck seen checks.OutOfMemory (End ∷ []) old.core.proof new.core.proof
   pub loss : NamesLoss errors.OutOfMemory old.core.proof new.core.proof
   pub clock : new.clock ≡ old.clock
 

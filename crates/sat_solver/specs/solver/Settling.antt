@@ -6,29 +6,29 @@ use Rattle.sat_solver.specs.declared.error.SolverError.{SolverError}
 use Rattle.sat_solver.specs.variables.Calls.{NamesRefineJudge}
 use Rattle.sat_solver.specs.schedule.Solving.{AdvancesIn}
 use Rattle.sat_solver.specs.session.Coming.{OnlyAllowedSteps, EndsAtUnsat}
-use Rattle.sat_solver.specs.session.Making.{Took}
-use Rattle.sat_solver.specs.proof.ProofView.{Adds, IsAtWidth}
+use Rattle.sat_solver.specs.session.Making.{ComesBySteps}
+use Rattle.sat_solver.specs.proof.ProofView.{EmitsExactly, IsAtWidth}
 use Rattle.sat_solver.specs.declared.solver.Solver.{Solver}
 use Rattle.sat_solver.specs.declared.state.State.TheVariants as states
 use Rattle.sat_solver.specs.solver.Answering.{BreaksOff, FlushFails}
-use Rattle.sat_solver.specs.solver.Calls.{Counts, CountsRounds, learned_of, told_by}
-use Rattle.sat_solver.specs.solver.Whole.{IsWhole, steps_in}
+use Rattle.sat_solver.specs.solver.Calls.{Counts, CountsRounds, learned_of, due_for_answer}
+use Rattle.sat_solver.specs.solver.Whole.{SolverInvariant, steps_in}
 
 -- an answer is known, or the rounds are spent
 pub record Settled {W L : Type 0} {G : Ghosts L} (seen : W → Writer) (old new : Solver W L G) : Type 0 where
-  pub whole : IsWhole new
-  pub does : NamesRefineJudge old.names new.names (steps_in old) (steps_in new) (λ j. j) (λ j. told_by old.state new)
+  pub whole : SolverInvariant new
+  pub does : NamesRefineJudge old.names new.names (steps_in old) (steps_in new) (λ j. j) (λ j. due_for_answer old.state new)
   pub comes : OnlyAllowedSteps EndsAtUnsat (steps_in old) (steps_in new)
-  pub took : Took seen old.core.proof new.core.proof
+  pub took : ComesBySteps seen old.core.proof new.core.proof
   pub width : (steps_in new ≡ steps_in old → ⊥) → IsAtWidth new.core.proof
   pub same : new ≡ record old { core = new.core; names = new.names; told = new.told; clock = new.clock; state = new.state }
   pub users : new.names.global_from_user ≡ old.names.global_from_user
   pub config : new.core.config ≡ old.core.config
   pub counts : Counts old new
   pub times : AdvancesIn (steps_in old) (steps_in new) (learned_of new.state (new.clock.steps - old.clock.steps))
-  pub known : (old.state ≡ states.Unknown → ⊥) → Adds seen [] old.core.proof new.core.proof × (new ≡ record old { core = record old.core { proof = new.core.proof } })
+  pub known : (old.state ≡ states.Unknown → ⊥) → EmitsExactly seen [] old.core.proof new.core.proof × (new ≡ record old { core = record old.core { proof = new.core.proof } })
 
 -- so it was settled, or a call failed: where an answer was known, a flush or the solver's own checker
-abbrev pub Settles : {W L : Type 0} {G : Ghosts L} → (W → Writer) → Result (Unit {0}) SolverError → Solver W L G → Solver W L G → Type 0
-Settles seen (Ok x) old new = Settled seen old new
-Settles seen (Err e) old new = BreaksOff seen e old.core new.core × CountsRounds old new × ((old.state ≡ states.Unknown → ⊥) → FlushFails seen e old.core.proof new.core.proof)
+abbrev pub AnswersOrBreaks : {W L : Type 0} {G : Ghosts L} → (W → Writer) → Result (Unit {0}) SolverError → Solver W L G → Solver W L G → Type 0
+AnswersOrBreaks seen (Ok x) old new = Settled seen old new
+AnswersOrBreaks seen (Err e) old new = BreaksOff seen e old.core new.core × CountsRounds old new × ((old.state ≡ states.Unknown → ⊥) → FlushFails seen e old.core.proof new.core.proof)

@@ -4,13 +4,13 @@ use Rattle.sat_base.specs.device.Device.{Writer}
 use Rattle.sat_base.specs.script.Judge.{bring_all, with_clause}
 use Rattle.sat_base.specs.steps.Steps.{Step}
 use Rattle.sat_checker.specs.declared.processing.ProofProcessor.{Ghosts}
-use Rattle.sat_solver.specs.session.Making.{Gained}
+use Rattle.sat_solver.specs.session.Making.{ComesByCheckedSteps}
 use Rattle.sat_solver.specs.proof.ProofView.{steps_of, session_of}
 use Rattle.sat_solver.specs.declared.error.SolverError.{SolverError}
 use Rattle.sat_solver.specs.declared.error.SolverError.TheVariants as errors
 use Rattle.sat_parts.specs.parts.Full.{IsFull}
 use Rattle.sat_solver.specs.cdcl.Faults.{IsKept, NamesLoss}
-use Rattle.sat_solver.specs.cdcl.Going.{IsFaultOr, Went}
+use Rattle.sat_solver.specs.cdcl.Going.{IsFaultOr, EmitsUpToFault}
 use Rattle.sat_solver.specs.load.Literals.{named_literal, Images}
 use Rattle.sat_solver.specs.variables.Calls.{NamesRefineJudge}
 use Rattle.sat_solver.specs.variables.Coming.{MayAdd, MayTake}
@@ -22,7 +22,7 @@ use Rattle.sat_solver.specs.variables.Refusing.{names_in}
 use Rattle.sat_solver.specs.declared.variables.Variables.{Variables}
 use Rattle.sat_solver.specs.declared.load.literals.Taken.{Taken}
 use Rattle.sat_solver.specs.declared.context.Core.{Core}
-use Rattle.sat_solver.specs.solver.Joined.{IsJoined, AreAsked}
+use Rattle.sat_solver.specs.solver.Joined.{IsJoined, AreNamedAssumptions}
 
 -- names keep their literals of the search
 abbrev pub KeepImages : Variables → Variables → Type 0
@@ -36,7 +36,7 @@ GoesOnOr false n c = (session_of c.proof).unsat ≡ true
 -- a clause came in; whether a valuation may be left
 pub record TookClause {W L : Type 0} {G : Ghosts L} (seen : W → Writer) (n n' : Variables) (a b : Core W L G) (user : List ℕ) (left : Bool) : Type 0 where
   pub does : NamesRefineJudge n n' (steps_of a.proof) (steps_of b.proof) (λ j. with_clause (map named_literal user) (bring_all (names_in user) j)) (λ j. bringing (names_in user) j ++ (Adds (map named_literal user) ∷ []))
-  pub took : Gained seen a.proof b.proof
+  pub took : ComesByCheckedSteps seen a.proof b.proof
   pub comes : OnlyAllowedSteps (MayAdd (names_in user)) (steps_of a.proof) (steps_of b.proof)
   pub order : AddsInOrder (steps_of a.proof) (steps_of b.proof)
   pub goes_on : GoesOnOr left n' b
@@ -54,7 +54,7 @@ IsNameFaultOr full e = IsFaultOr full e ⊎ (e ≡ errors.VariableLimit)
 pub record BreaksNamesOr {W L : Type 0} {G : Ghosts L} (full : Type 0) (seen : W → Writer) (e : SolverError) (a b : Core W L G) : Type 0 where
   pub fault : IsNameFaultOr full e
   pub steps : List Step
-  pub went : Went {A = Unit {0}} seen (Err e) steps a.proof b.proof
+  pub went : EmitsUpToFault {A = Unit {0}} seen (Err e) steps a.proof b.proof
   pub loss : NamesLoss e a.proof b.proof
 
 -- the same where no clause is stored
@@ -73,10 +73,10 @@ TakesClause seen r n n' a b user = MatchResult r (TookClause seen n n' a b user)
 pub record TookAssumptions {W L : Type 0} {G : Ghosts L} (seen : W → Writer) (n n' : Variables) (a b : Core W L G) (user : List ℕ) (t : Taken) : Type 0 where
   pub does : (o : Outcome) → NamesRefineJudge n n' (steps_of a.proof) (steps_of b.proof) (bring_all (names_in user)) (λ j. bringing (names_in user) j ++ (Opens (map named_literal user) o ∷ []))
   pub comes : OnlyAllowedSteps (MayTake (names_in user)) (steps_of a.proof) (steps_of b.proof)
-  pub took : Gained seen a.proof b.proof
+  pub took : ComesByCheckedSteps seen a.proof b.proof
   pub joined : IsJoined n' b
   pub config : b.config ≡ a.config
-  pub asked : AreAsked n' b user t
+  pub asked : AreNamedAssumptions n' b user t
 
 -- what came of taking assumptions: these in place of others, or a fault
 abbrev pub TakesAssumptions : {W L : Type 0} {G : Ghosts L} → (W → Writer) → Result (Unit {0}) SolverError → Variables → Variables → Core W L G → Core W L G → List ℕ → Taken → Type 0

@@ -80,8 +80,8 @@ pub record IsWholeOf {W L : Type 0} {G : Ghosts L} (c : Core W L G) (n : Variabl
   pub says : StateSays state c n asked assumed core
 
 -- what holds unless a call failed
-abbrev pub IsWhole : {W L : Type 0} {G : Ghosts L} → Solver W L G → Type 0
-IsWhole s = IsWholeOf s.core s.names s.asked s.assumed.items s.told.failed_core.items s.clock.restarts.scale s.state
+abbrev pub SolverInvariant : {W L : Type 0} {G : Ghosts L} → Solver W L G → Type 0
+SolverInvariant s = IsWholeOf s.core s.names s.asked s.assumed.items s.told.failed_core.items s.clock.restarts.scale s.state
 
 -- the clause buffer holds more than 2^32-1 words, so that it takes no clause more
 abbrev pub HasFullStore : {W L : Type 0} {G : Ghosts L} → Solver W L G → Type 0
@@ -89,4 +89,4 @@ HasFullStore s = IsFull s.core.search.parts
 
 -- a solver that a call may be made of
 abbrev pub IsSolver : {W L : Type 0} {G : Ghosts L} → Solver W L G → Type 0
-IsSolver s = s.failed ≡ false → IsWhole s
+IsSolver s = s.failed ≡ false → SolverInvariant s

@@ -15,9 +15,9 @@ use Rattle.sat_parts.specs.parts.Whole.{PartsInvariant}
 use Rattle.sat_solver.specs.session.Fits.{ArePaired}
 use Rattle.sat_solver.specs.session.Listed.{LeftParts}
 use Rattle.sat_solver.specs.cdcl.Going.{EmitsSteps}
-use Rattle.sat_solver.specs.cdcl.Joint.{assumed_in, global_in, IsSearch, Moved}
+use Rattle.sat_solver.specs.cdcl.Joint.{assumed_in, global_in, IsSearch, SameVarsAndAssumptions}
 use Rattle.sat_solver.specs.declared.context.Search.{Search}
-use Rattle.sat_solver.specs.unit_simplify.Looks.{IsOpenAt}
+use Rattle.sat_solver.specs.unit_simplify.Looks.{IsOpenClause}
 
 -- no level is open, and nothing is on the trail
 pub record IsFlat (p : Parts) : Type 0 where
@@ -38,7 +38,7 @@ LeavesPairs s c l k = LeftParts c.parts s (global_in c) l k
 -- clauses went or lost literals: values and variables are as they were, and so is the list of long clauses, with those that went
 pub record Lighter (s : Session) (c c' : Search) : Type 0 where
   pub search : IsSearch s c'
-  pub moved : Moved c c'
+  pub moved : SameVarsAndAssumptions c c'
   pub word : TrailWordExtendsFor (assumed_in c) c.parts c'.parts
   pub state : SameState c.parts c'.parts
   pub refs : c'.parts.db.refs ≡ c.parts.db.refs
@@ -50,8 +50,8 @@ RemovesPairs seen r p p' c c' = EmitsSteps seen r p p' (λ _ _. Lighter (session
 -- one long clause went or lost literals: of what is left of it no literal has a value, and other clauses are as they were, but for their order
 pub record Lightens (s : Session) (c c' : Search) (o : ℕ) : Type 0 where
   pub lighter : Lighter s c c'
-  pub left : Contains (live_refs c'.parts.clauses c'.parts.db.refs) o → IsOpenAt c'.parts o
-  pub others : (p : ℕ) → p ≢ o → Contains (live_refs c'.parts.clauses c'.parts.db.refs) p → Contains (live_refs c.parts.clauses c.parts.db.refs) p × (IsOpenAt c.parts p → IsOpenAt c'.parts p)
+  pub left : Contains (live_refs c'.parts.clauses c'.parts.db.refs) o → IsOpenClause c'.parts o
+  pub others : (p : ℕ) → p ≢ o → Contains (live_refs c'.parts.clauses c'.parts.db.refs) p → Contains (live_refs c.parts.clauses c.parts.db.refs) p × (IsOpenClause c.parts p → IsOpenClause c'.parts p)
 
 -- and its steps were made
 abbrev pub LightensOne : {W L : Type 0} {G : Ghosts L} → (W → Writer) → Result (Unit {0}) SolverError → Proof W L G → Proof W L G → Search → Search → (o : ℕ) → Type 0
@@ -59,9 +59,9 @@ LightensOne seen r p p' c c' o = EmitsSteps seen r p p' (λ _ _. Lightens (sessi
 
 -- of the live clauses among the first so many of the list no literal has a value
 abbrev pub AreOpenTo : Search → Search → ℕ → Type 0
-AreOpenTo c c' at = (k : ℕ) → k < at → Contains (live_refs c'.parts.clauses c'.parts.db.refs) (get_or c.parts.db.refs k 0) → IsOpenAt c'.parts (get_or c.parts.db.refs k 0)
+AreOpenTo c c' at = (k : ℕ) → k < at → Contains (live_refs c'.parts.clauses c'.parts.db.refs) (get_or c.parts.db.refs k 0) → IsOpenClause c'.parts (get_or c.parts.db.refs k 0)
 
 -- the same of all long clauses: of none of them a literal has a value
 pub record LightensAll (s : Session) (c c' : Search) : Type 0 where
   pub lighter : Lighter s c c'
-  pub left : (o : ℕ) → Contains (live_refs c'.parts.clauses c'.parts.db.refs) o → IsOpenAt c'.parts o
+  pub left : (o : ℕ) → Contains (live_refs c'.parts.clauses c'.parts.db.refs) o → IsOpenClause c'.parts o

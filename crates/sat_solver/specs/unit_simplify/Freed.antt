@@ -13,7 +13,7 @@ use Rattle.sat_solver.specs.session.Quiet.{ComesQuietly}
 use Rattle.sat_parts.specs.parts.Whole.{InNoClause}
 use Rattle.sat_parts.specs.parts.Frame.{SameClauses}
 use Rattle.sat_parts.specs.parts.Words.{TrailWordExtendsFor}
-use Rattle.sat_solver.specs.cdcl.Joint.{assumed_in, IsSearch, Moved}
+use Rattle.sat_solver.specs.cdcl.Joint.{assumed_in, IsSearch, SameVarsAndAssumptions}
 use Rattle.sat_solver.specs.declared.context.Search.{Search}
 use Rattle.sat_solver.specs.variables.Shared.{SharesIndices}
 use Rattle.sat_solver.specs.unit_simplify.Flat.{IsFlat}
@@ -57,7 +57,7 @@ pub record FreesSome (old new : Variables) (from to : List Step) (c c' : Search)
   pub search : IsSearch (session_after to) c'
   pub shares : SharesIndices new c'
   pub flat : IsFlat c'.parts
-  pub moved : Moved c c'
+  pub moved : SameVarsAndAssumptions c c'
   pub same : SameClauses c.parts c'.parts
   pub word : TrailWordExtendsFor (assumed_in c) c.parts c'.parts
   pub asked : KeepsAsked old new (session_after from) (session_after to)
@@ -65,12 +65,12 @@ pub record FreesSome (old new : Variables) (from to : List Step) (c c' : Search)
   pub fewer : (x v : ℕ) → global_at new x ≡ Some v → global_at old x ≡ Some v
 
 -- a variable that still has this index is assumed
-abbrev pub IsLeft : Variables → Session → ℕ → Type 0
-IsLeft n s x = (v : ℕ) → global_at n x ≡ Some v → mentions s.assumed v ≡ true
+abbrev pub IsIndexOfAssumed : Variables → Session → ℕ → Type 0
+IsIndexOfAssumed n s x = (v : ℕ) → global_at n x ≡ Some v → mentions s.assumed v ≡ true
 
 -- of the first so many indices each is of a variable that a clause has, or that is assumed
 abbrev pub AreLeft : Variables → Session → Parts → ℕ → Type 0
-AreLeft n s p at = (x : ℕ) → x < at → InNoClause p x → IsLeft n s x
+AreLeft n s p at = (x : ℕ) → x < at → InNoClause p x → IsIndexOfAssumed n s x
 
 -- the same of all indices
 abbrev pub AllLeft : Variables → Session → Parts → Type 0

@@ -7,7 +7,7 @@ use Rattle.sat_parts.specs.parts.Assumed.{ArePlaced}
 use Rattle.sat_parts.specs.parts.Whole.{state, IsDone}
 use Rattle.sat_parts.specs.parts.Words.{TrailWordExtends}
 use Rattle.sat_solver.specs.session.Session.{Session}
-use Rattle.sat_solver.specs.session.Fits.{Stands}
+use Rattle.sat_solver.specs.session.Fits.{PartsSessionInvariant}
 use Rattle.sat_solver.specs.session.Units.{FitsAll}
 
 -- every literal of level 0 is a unit of the session
@@ -19,8 +19,8 @@ abbrev pub SameSize : Parts → Parts → Type 0
 SameSize p p' = length p'.assignment.current ≡ length p.assignment.current
 
 -- nothing is to be propagated, and at level 0 nothing is on the trail
-pub record IsSettled (p p' : Parts) (s : Session) (global : ℕ → ℕ) : Type 0 where
-  pub stands : Stands p' s global
+pub record TakesUnitsOff (p p' : Parts) (s : Session) (global : ℕ → ℕ) : Type 0 where
+  pub stands : PartsSessionInvariant p' s global
   pub done : IsDone p'
   pub starts : p'.trail.starts ≡ p.trail.starts
   pub empty : p.trail.starts ≡ [] → p'.trail.lits ≡ []

@@ -15,11 +15,11 @@ abbrev pub HasFalse : Parts → ℕ → Type 0
 HasFalse p o = (k : ℕ) × ((k < size_of p.clauses o) × IsFalseLit p.assignment.current (lit_of p.clauses o k))
 
 -- none of its literals has a value
-abbrev pub IsOpenAt : Parts → ℕ → Type 0
-IsOpenAt p o = (k : ℕ) → k < size_of p.clauses o → IsOpenLit p.assignment.current (lit_of p.clauses o k)
+abbrev pub IsOpenClause : Parts → ℕ → Type 0
+IsOpenClause p o = (k : ℕ) → k < size_of p.clauses o → IsOpenLit p.assignment.current (lit_of p.clauses o k)
 
 -- the clause at this place looks so under the values of now, which are those of level 0 where it is asked
 abbrev pub LooksSo : Looks → Parts → ℕ → Type 0
 LooksSo Satisfied p o = HasTrue p o
-LooksSo Whole p o = IsOpenAt p o
+LooksSo Whole p o = IsOpenClause p o
 LooksSo Shorter p o = (HasTrue p o → ⊥) × HasFalse p o

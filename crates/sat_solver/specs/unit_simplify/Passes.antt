@@ -6,8 +6,8 @@ use Rattle.sat_base.specs.steps.Steps.{Step}
 use Rattle.sat_checker.specs.declared.processing.ProofProcessor.{Ghosts}
 use Rattle.sat_parts.specs.declared.prop.graph.Conflict.{Conflict}
 use Rattle.sat_parts.specs.clause.Db.{live_refs}
-use Rattle.sat_solver.specs.session.Making.{Gained}
-use Rattle.sat_solver.specs.proof.ProofView.{Keeps, steps_of, session_of}
+use Rattle.sat_solver.specs.session.Making.{ComesByCheckedSteps}
+use Rattle.sat_solver.specs.proof.ProofView.{HasAllowedSteps, steps_of, session_of}
 use Rattle.sat_solver.specs.declared.proof.Proof.{Proof}
 use Rattle.sat_solver.specs.declared.error.SolverError.{SolverError}
 use Rattle.sat_solver.specs.variables.Calls.{NamesInvariant, DoesNothing}
@@ -15,25 +15,25 @@ use Rattle.sat_solver.specs.declared.variables.Variables.{Variables}
 use Rattle.sat_solver.specs.session.Quiet.{ComesQuietly}
 use Rattle.sat_parts.specs.parts.Words.{TrailWordExtendsFor}
 use Rattle.sat_solver.specs.cdcl.Faults.{IsKept, NamesLoss}
-use Rattle.sat_solver.specs.cdcl.Going.{IsFaultOr, Went}
-use Rattle.sat_solver.specs.cdcl.Joint.{assumed_in, IsSearch, Moved}
+use Rattle.sat_solver.specs.cdcl.Going.{IsFaultOr, EmitsUpToFault}
+use Rattle.sat_solver.specs.cdcl.Joint.{assumed_in, IsSearch, SameVarsAndAssumptions}
 use Rattle.sat_solver.specs.cdcl.Turns.{IsStopped, IsPropagated}
 use Rattle.sat_solver.specs.declared.context.Search.{Search}
 use Rattle.sat_solver.specs.variables.Shared.{SharesIndices}
 use Rattle.sat_solver.specs.unit_simplify.Flat.{IsFlat}
 use Rattle.sat_solver.specs.unit_simplify.Freed.{KeepsAsked, AllLeft}
-use Rattle.sat_solver.specs.unit_simplify.Looks.{IsOpenAt}
+use Rattle.sat_solver.specs.unit_simplify.Looks.{IsOpenClause}
 
 -- names, proof and search stand together
 pub record StandTogether {W L : Type 0} {G : Ghosts L} (n : Variables) (p : Proof W L G) (c : Search) : Type 0 where
-  pub keeps : Keeps p
+  pub keeps : HasAllowedSteps p
   pub stands : NamesInvariant n (steps_of p)
   pub search : IsSearch (session_of p) c
   pub shares : SharesIndices n c
 
 -- the same at level 0 where all was propagated, and no clause is false
 pub record MaySettle {W L : Type 0} {G : Ghosts L} (n : Variables) (p : Proof W L G) (c : Search) : Type 0 where
-  pub keeps : Keeps p
+  pub keeps : HasAllowedSteps p
   pub stands : NamesInvariant n (steps_of p)
   pub shares : SharesIndices n c
   pub propagated : IsPropagated (session_of p) c
@@ -41,53 +41,53 @@ pub record MaySettle {W L : Type 0} {G : Ghosts L} (n : Variables) (p : Proof W 
 
 -- They stand together again: steps were made of which the judge sees nothing, and by which nothing is learned, assumptions are as they
 -- were, and the word of the trail goes on.
-pub record Passes {W L : Type 0} {G : Ghosts L} (seen : W → Writer) (n n' : Variables) (p p' : Proof W L G) (c c' : Search) : Type 0 where
+pub record PassesQuietly {W L : Type 0} {G : Ghosts L} (seen : W → Writer) (n n' : Variables) (p p' : Proof W L G) (c c' : Search) : Type 0 where
   pub together : StandTogether n' p' c'
-  pub took : Gained seen p p'
+  pub took : ComesByCheckedSteps seen p p'
   pub quiet : ComesQuietly (steps_of p) (steps_of p')
   pub does : DoesNothing n n' (steps_of p) (steps_of p')
   pub asked : KeepsAsked n n' (session_of p) (session_of p')
-  pub moved : Moved c c'
+  pub moved : SameVarsAndAssumptions c c'
   pub word : TrailWordExtendsFor (assumed_in c) c.parts c'.parts
 
 -- what no input decides went wrong, a full clause buffer only where it is full
 pub record FallsOr {W L : Type 0} {G : Ghosts L} (full : Type 0) (seen : W → Writer) (e : SolverError) (p p' : Proof W L G) : Type 0 where
   pub fault : IsFaultOr full e
   pub steps : List Step
-  pub went : Went {A = Unit {0}} seen (Err e) steps p p'
+  pub went : EmitsUpToFault {A = Unit {0}} seen (Err e) steps p p'
   -- whose cause the proof keeps until it is told
   pub kept : IsKept e p'
   pub loss : NamesLoss e p p'
 
 -- the same where no clause is stored
-abbrev pub Falls : {W L : Type 0} {G : Ghosts L} → (W → Writer) → SolverError → Proof W L G → Proof W L G → Type 0
-Falls seen e p p' = FallsOr ⊥ seen e p p'
+abbrev pub FallsWithoutStore : {W L : Type 0} {G : Ghosts L} → (W → Writer) → SolverError → Proof W L G → Proof W L G → Type 0
+FallsWithoutStore seen e p p' = FallsOr ⊥ seen e p p'
 
 -- nothing is on the trail, no literal of a long clause has a value, and each variable that has an index is in a clause or assumed
-pub record Simplified {W L : Type 0} {G : Ghosts L} (seen : W → Writer) (n n' : Variables) (p p' : Proof W L G) (c c' : Search) : Type 0 where
-  pub passes : Passes seen n n' p p' c c'
+pub record IsSimplifiedPass {W L : Type 0} {G : Ghosts L} (seen : W → Writer) (n n' : Variables) (p p' : Proof W L G) (c c' : Search) : Type 0 where
+  pub passes : PassesQuietly seen n n' p p' c c'
   pub flat : IsFlat c'.parts
-  pub left : (o : ℕ) → Contains (live_refs c'.parts.clauses c'.parts.db.refs) o → IsOpenAt c'.parts o
+  pub left : (o : ℕ) → Contains (live_refs c'.parts.clauses c'.parts.db.refs) o → IsOpenClause c'.parts o
   pub indices : AllLeft n' (session_of p') c'.parts
 
 -- what came of a simplification, or what it failed of
 abbrev pub Simplifies : {W L : Type 0} {G : Ghosts L} → (W → Writer) → Result (Unit {0}) SolverError → Variables → Variables → Proof W L G → Proof W L G → Search → Search → Type 0
-Simplifies seen r n n' p p' c c' = MatchResult r (λ _. Simplified seen n n' p p' c c') (λ e. Falls seen e p p')
+Simplifies seen r n n' p p' c c' = MatchResult r (λ _. IsSimplifiedPass seen n n' p p' c c') (λ e. FallsWithoutStore seen e p p')
 
 -- a clause is false, and nothing was written
-pub record Refutes {W L : Type 0} {G : Ghosts L} (n n' : Variables) (p p' : Proof W L G) (c c' : Search) (e : Conflict) : Type 0 where
+pub record FindsFalseClause {W L : Type 0} {G : Ghosts L} (n n' : Variables) (p p' : Proof W L G) (c c' : Search) (e : Conflict) : Type 0 where
   pub names : n' ≡ n
   pub proof : p' ≡ p
-  pub keeps : Keeps p'
+  pub keeps : HasAllowedSteps p'
   pub stopped : IsStopped (session_of p') c' e
-  pub moved : Moved c c'
+  pub moved : SameVarsAndAssumptions c c'
   pub word : TrailWordExtendsFor (assumed_in c) c.parts c'.parts
 
 -- a round may go on from here, or a clause is false already
 abbrev pub BeginSays : {W L : Type 0} {G : Ghosts L} → (W → Writer) → Option Conflict → Variables → Variables → Proof W L G → Proof W L G → Search → Search → Type 0
-BeginSays seen None n n' p p' c c' = Passes seen n n' p p' c c'
-BeginSays seen (Some e) n n' p p' c c' = Refutes n n' p p' c c' e
+BeginSays seen None n n' p p' c c' = PassesQuietly seen n n' p p' c c'
+BeginSays seen (Some e) n n' p p' c c' = FindsFalseClause n n' p p' c c' e
 
 -- how a round begins
-abbrev pub Begins : {W L : Type 0} {G : Ghosts L} → (W → Writer) → Result (Option Conflict) SolverError → Variables → Variables → Proof W L G → Proof W L G → Search → Search → Type 0
-Begins seen r n n' p p' c c' = MatchResult r (λ o. BeginSays seen o n n' p p' c c') (λ e. Falls seen e p p')
+abbrev pub BeginsRound : {W L : Type 0} {G : Ghosts L} → (W → Writer) → Result (Option Conflict) SolverError → Variables → Variables → Proof W L G → Proof W L G → Search → Search → Type 0
+BeginsRound seen r n n' p p' c c' = MatchResult r (λ o. BeginSays seen o n n' p p' c c') (λ e. FallsWithoutStore seen e p p')

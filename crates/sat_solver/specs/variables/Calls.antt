@@ -9,7 +9,7 @@ use Rattle.sat_checker.specs.matching.Checking.{variable_of}
 use Rattle.sat_checker.specs.matching.ProofChecking.{the_checking}
 use Rattle.sat_checker.specs.matching.Expected.{Expected, NewName}
 use Rattle.sat_checker.specs.matching.Traces.{HasTrace}
-use Rattle.sat_solver.specs.variables.Naming.{Extends}
+use Rattle.sat_solver.specs.variables.Naming.{ExtendsNames}
 use Rattle.sat_solver.specs.variables.Search.{IsUnseen}
 use Rattle.sat_solver.specs.session.Coming.{OnlyAllowedSteps}
 use Rattle.sat_solver.specs.variables.Coming.{IsDue, IsNextVariable}
@@ -34,7 +34,7 @@ abbrev pub HasJudge : Variables → List Step → Type 0
 HasJudge n steps = (j : Judge) × (live : Live) × Agree n steps j live
 
 -- the judge's state is this from here on, and the steps' trace is what was expected
-pub record Kept (new : Variables) (from to : List Step) (j : Judge) (es : List Expected) : Type 0 where
+pub record ReachesJudge (new : Variables) (from to : List Step) (j : Judge) (es : List Expected) : Type 0 where
   pub live : Live
   pub agree : Agree new to j live
   pub trace : HasTrace the_checking from to es
@@ -49,21 +49,21 @@ pub record NamesOne (old new : Variables) (from to : List Step) (user v : ℕ) :
   pub unknown : the_checking.knows from v ≡ false
   pub live : live_count new ≡ live_count old + 1
   pub next : IsNextVariable (session_after from) user v
-  pub extends : Extends old new
+  pub extends : ExtendsNames old new
   pub unseen : IsUnseen old new from to
 
 -- these names came in, in order
 pub record NamesAll (old new : Variables) (from to : List Step) (names : List ℕ) : Type 0 where
   pub stands : NamesInvariant new to
-  pub extends : Extends old new
+  pub extends : ExtendsNames old new
   pub unseen : IsUnseen old new from to
   pub comes : OnlyAllowedSteps IsDue from to
-  pub kept : (j : Judge) (live : Live) → Agree old from j live → Kept new from to (with_names names j) (map NewName names)
+  pub kept : (j : Judge) (live : Live) → Agree old from j live → ReachesJudge new from to (with_names names j) (map NewName names)
 
 -- what a call does to the judge's state, and which steps it has to write for it, whatever others come between
 pub record NamesRefineJudge (old new : Variables) (from to : List Step) (judge : Judge → Judge) (due : Judge → List Expected) : Type 0 where
   pub stands : NamesInvariant new to
-  pub kept : (j : Judge) (live : Live) → Agree old from j live → Kept new from to (judge j) (due j)
+  pub kept : (j : Judge) (live : Live) → Agree old from j live → ReachesJudge new from to (judge j) (due j)
 
 -- a name was brought in
 abbrev pub BringsIn : Variables → Variables → List Step → List Step → ℕ → Type 0
@@ -72,7 +72,7 @@ BringsIn old new from to user = NamesRefineJudge old new from to (bring_in (user
 -- the same, and the search sees nothing of it
 pub record Brought (old new : Variables) (from to : List Step) (user : ℕ) : Type 0 where
   pub brings : BringsIn old new from to user
-  pub extends : Extends old new
+  pub extends : ExtendsNames old new
   pub unseen : IsUnseen old new from to
   pub comes : OnlyAllowedSteps IsDue from to
   pub room : LeavesRoom old new user

@@ -1,6 +1,6 @@
 -- How many of the first numbers pass a test.
 use Rattle.std.specs.Prelude.{ℕ, zero, suc, ◌+◌, ◌≡◌, Bool, is_some, List, Option, length, if◌then◌else◌}
-use Rattle.sat_store.specs.variables.Maps.{Both, target}
+use Rattle.sat_store.specs.variables.Maps.{MapAndInverse, target}
 
 -- of the numbers below a bound, how many pass
 unfoldable pub count_to : ℕ → (ℕ → Bool) → ℕ
@@ -12,5 +12,5 @@ abbrev pub mapped_count : List (Option ℕ) → ℕ
 mapped_count map = count_to (length map) (λ v. is_some (target map v))
 
 -- as many as have a target are a target
-abbrev pub IsEven : Both → Type 0
+abbrev pub IsEven : MapAndInverse → Type 0
 IsEven maps = mapped_count maps.fwd ≡ mapped_count maps.bwd

@@ -14,8 +14,8 @@ IsFailure (errors.Write cause) = Unit {0}
 IsFailure (errors.Check fault) = Unit {0}
 
 -- where a variable is left for each name that comes in with these, an error is want of memory or a fault of what takes the steps
-abbrev pub OnlyFails : {A : Type 0} → Result A NameError → Variables → (users : List ℕ) → Type 0
-OnlyFails r n users = HasRoom n users → IfErr r IsFailure
+abbrev pub FailsOnlyByFault : {A : Type 0} → Result A NameError → Variables → (users : List ℕ) → Type 0
+FailsOnlyByFault r n users = HasRoom n users → IfErr r IsFailure
 
 -- It came from there to this fault, which no mode decides: where a step wasn't taken, that was the last.
 abbrev pub EmitsUpTo : {W : Type 0} → (took : W → W → Type 0) (broke : W → NameError → W → Type 0) → W → NameError → W → Type 0
@@ -30,14 +30,14 @@ EmitsOrFails took broke (Ok x) old new = (w : _) → took w old → took w new
 EmitsOrFails took broke (Err e) old new = (w : _) → took w old → EmitsUpTo took broke w e new
 
 -- nothing has changed, and every variable is in use
-pub record IsFull {W : Type 0} (old new : Variables) (from to : W) : Type 0 where
+pub record FailsForNoVariable {W : Type 0} (old new : Variables) (from to : W) : Type 0 where
   pub names : new ≡ old
   pub steps : to ≡ from
   pub none : NoneLeft old
 
 -- no variable is left, exactly where it is so; else want of memory or a fault of what takes the steps
 abbrev pub Limits : {W : Type 0} → NameError → Variables → Variables → W → W → Type 0
-Limits errors.VariableLimit old new from to = IsFull old new from to
+Limits errors.VariableLimit old new from to = FailsForNoVariable old new from to
 Limits errors.OutOfMemory old new from to = NoneLeft old → ⊥
 Limits (errors.Write cause) old new from to = NoneLeft old → ⊥
 Limits (errors.Check fault) old new from to = NoneLeft old → ⊥

@@ -5,7 +5,7 @@ use Rattle.sat_solver.specs.session.Session.{session_after}
 use Rattle.sat_solver.specs.variables.Variables.{solver_of, indices_used}
 use Rattle.sat_solver.specs.variables.Naming.{IsNextIndex}
 use Rattle.sat_solver.specs.variables.Calls.{DoesNothing}
-use Rattle.sat_solver.specs.variables.Search.{KeepsSearch, Gives}
+use Rattle.sat_solver.specs.variables.Search.{KeepsSearch, GivesIndices}
 use Rattle.sat_solver.specs.declared.variables.solver_vars.Given.{Given}
 use Rattle.sat_solver.specs.declared.variables.Variables.{Variables}
 
@@ -18,7 +18,7 @@ pub record Indexes (old new : Variables) (from to : List Step) (before after : L
   pub search : KeepsSearch (session_after from) (session_after to)
   pub fresh : List Given
   pub listed : after ≡ before ++ fresh
-  pub gives : Gives old new (session_after from) fresh
+  pub gives : GivesIndices old new (session_after from) fresh
   pub step : (to ≡ from) ⊎ ((to ≡ SolverVarName v (Some x) ∷ from) × (solver_of old v ≡ None) × IsNextIndex old x)
 
 -- The variable has no index from here on.

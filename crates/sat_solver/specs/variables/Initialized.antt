@@ -67,7 +67,7 @@ pub record GivesNames (globals : List ℕ) (gs : List Given) (count : ℕ) (s t 
   pub below : (v x : ℕ) → s.solver_names v ≡ Some x → x < count
 
 -- these indices are those of these proof variables, the other ones are as they were, and so are the assumptions, at level 0
-pub record AreIndexed (globals : List ℕ) (gs : List Given) (c c' : Search) : Type 0 where
+pub record GivesSearchIndices (globals : List ℕ) (gs : List Given) (c c' : Search) : Type 0 where
   pub named : (v : ℕ) → HasGiven gs v → get_or c'.globals.items v 0 ≡ get_or globals v 0
   pub others : (v : ℕ) → v < length c.globals.items → (HasGiven gs v → ⊥) → get_or c'.globals.items v 0 ≡ get_or c.globals.items v 0
   pub more : length c.globals.items ≤ length c'.globals.items

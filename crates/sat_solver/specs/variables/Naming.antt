@@ -92,7 +92,7 @@ pub record PutsDeleted (old new : Variables) (v : ℕ) : Type 0 where
   pub spans_globals : Spans new.free_globals (variables_used new)
 
 -- names in use keep their variables and modes, and those that came in are sampled, on variables that weren't in use
-pub record Extends (old new : Variables) : Type 0 where
+pub record ExtendsNames (old new : Variables) : Type 0 where
   pub stays : (u v : ℕ) → global_of old u ≡ Some v → (global_of new u ≡ Some v) × ((data_at new v).sampling_mode ≡ (data_at old v).sampling_mode)
   pub came : (u v : ℕ) → global_of old u ≡ None → global_of new u ≡ Some v → (data_at new v).sampling_mode ≡ kept.Sample
   pub fresh : (u v : ℕ) → global_of old u ≡ None → global_of new u ≡ Some v → (data_at old v).deleted ≡ true

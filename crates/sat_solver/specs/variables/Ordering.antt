@@ -6,7 +6,7 @@ use Rattle.sat_solver.specs.session.LiveClauses.{AreMapped, with_var}
 use Rattle.sat_solver.specs.session.Session.{session_after}
 
 -- literals by increasing index of their variables, a positive one before its negation, and none twice
-pub record IsInOrder (earlier : List Step) (clause : List ℕ) : Type 0 where
+pub record IsInIndexOrder (earlier : List Step) (clause : List ℕ) : Type 0 where
   pub variable_at : ℕ → ℕ
   pub lits : List ℕ
   pub is : clause ≡ map (with_var variable_at) lits
@@ -19,4 +19,4 @@ pub record AddsInOrder (from to : List Step) : Type 0 where
   pub clause : List ℕ
   pub behind : List Step
   pub steps : to ≡ behind ++ (AddClause clause ∷ (front ++ from))
-  pub order : IsInOrder (front ++ from) clause
+  pub order : IsInIndexOrder (front ++ from) clause

@@ -20,7 +20,7 @@ pub record KeepsSearch (s t : Session) : Type 0 where
   pub assumed : t.assumed ≡ s.assumed
 
 -- the same, but that a variable's units are forgotten
-pub record Forgets (s t : Session) (v : ℕ) : Type 0 where
+pub record ForgetsUnits (s t : Session) (v : ℕ) : Type 0 where
   pub live : t.live ≡ s.live
   pub units : (l : ℕ) → t.units l ≡ (s.units l && not (variable l == v))
   pub unsat : t.unsat ≡ s.unsat
@@ -53,7 +53,7 @@ HasGiven [] x = ⊥
 HasGiven (g ∷ gs) x = (g.solver ≡ x) ⊎ HasGiven gs x
 
 -- Indices were given, these and no others, and none was taken away.
-pub record Gives (old new : Variables) (s : Session) (gs : List Given) : Type 0 where
+pub record GivesIndices (old new : Variables) (s : Session) (gs : List Given) : Type 0 where
   pub stays : (v x : ℕ) → solver_of old v ≡ Some x → solver_of new v ≡ Some x
   pub each : AllByRecursion (IsGiven old new s) gs
   pub apart : GivenApart gs

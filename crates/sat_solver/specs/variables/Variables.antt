@@ -102,8 +102,8 @@ abbrev pub IsUnitOf : Variables → Session → ℕ → Type 0
 IsUnitOf n s v = (b : Bool) → s.units (coded v b) ≡ says_unit (data_at n v).unit b
 
 -- no clause of two literals or more has the variable
-abbrev pub IsUnused : Session → ℕ → Type 0
-IsUnused s v = (r : Bool) (set : List ℕ) → 0 < s.live r set → mentions set v ≡ false
+abbrev pub IsInNoNonUnitClause : Session → ℕ → Type 0
+IsInNoNonUnitClause s v = (r : Bool) (set : List ℕ) → 0 < s.live r set → mentions set v ≡ false
 
 -- It is what the proof has said. The unit of a variable that has an index is the search's.
 pub record AreSaid (n : Variables) (s : Session) : Type 0 where
@@ -111,7 +111,7 @@ pub record AreSaid (n : Variables) (s : Session) : Type 0 where
   pub solver_names : (v : ℕ) → s.solver_names v ≡ solver_of n v
   pub units : (v : ℕ) → solver_of n v ≡ None → IsUnitOf n s v
   -- clauses are over variables that have indices
-  pub unused : (v : ℕ) → solver_of n v ≡ None → IsUnused s v
+  pub unused : (v : ℕ) → solver_of n v ≡ None → IsInNoNonUnitClause s v
   pub marked : (v : ℕ) → mentions s.assumed v ≡ (data_at n v).assumed
 
 -- the mode of an identity whose variable has this one; a hidden one's doesn't count

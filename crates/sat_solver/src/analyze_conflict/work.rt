@@ -3,7 +3,7 @@ ghost use Rattle.std.specs.Prelude.{ℕ, ◌≡◌, ◌-◌, replicate, ◌<◌,
 ghost use Rattle.std.specs.List.Sorted.{IsPermutation, IsNonDecreasingBy};
 ghost use Rattle.sat_base.specs.values.Literals.{variable};
 ghost use Rattle.sat_parts.specs.clause.Glue.{AreClear, VariablesBelow, HaveNodes};
-ghost use Rattle.sat_solver.specs.analyze_conflict.Work.{Work, with_literal, passed_by, long_of, taken_up, with_chosen, begun, begun_core, with_first};
+ghost use Rattle.sat_solver.specs.analyze_conflict.Work.{Work, with_met_literal, passed_by, long_of, taken_up, with_chosen, begun, begun_core, with_first};
 ghost use Rattle.sat_solver.specs.analyze_conflict.Derivation.{FlagsAmong, PutsSecond};
 ghost use Rattle.sat_solver.specs.analyze_conflict.Minimal.{FallsBefore, depth_in, marked, used_up, Undoes};
 
@@ -146,7 +146,7 @@ impl Analysis {
     pub(crate) fn add(&mut self, graph: &ImplGraph, top: usize, lit: Lit) -> Result<(), AllocError>
         requires node { variable lit < length graph.now }
         requires flag { variable lit < length self.old.flags }
-        ensures { OnOk result (self.new ≡ with_literal graph.now top lit self.old) }
+        ensures { OnOk result (self.new ≡ with_met_literal graph.now top lit self.old) }
     {
         let level = graph.level(lit.var());
         if level == 0 {

@@ -6,7 +6,7 @@ ghost use Rattle.sat_parts.specs.prop.Ready.{state_of};
 ghost use Rattle.sat_parts.specs.prop.State.{Agrees, node, level};
 ghost use Rattle.sat_parts.specs.prop.Values.{IsFalseLit};
 ghost use Rattle.sat_solver.specs.analyze_conflict.Marks.{CanAnalyze};
-ghost use Rattle.sat_solver.specs.assumptions.Failing.{Fails, Tracing, Traced};
+ghost use Rattle.sat_solver.specs.assumptions.Failing.{IsFailedAssumption, Tracing, Traced};
 
 use crate::analyze_conflict::resolve::add_all;
 use crate::analyze_conflict::work::Analysis;
@@ -104,7 +104,7 @@ pub fn analyze_assumption(
     requires size { length analysis.old.flags ≡ length assignment.now.current }
     requires clear { AreClear analysis.old.flags }
     requires fails { IsFalseLit assignment.now.current failed }
-    ensures fails { OnOk result (Fails clauses.now (state_of assignment.now graph.now trail.now) failed analysis.new.core analysis.new.used) }
+    ensures fails { OnOk result (IsFailedAssumption clauses.now (state_of assignment.now graph.now trail.now) failed analysis.new.core analysis.new.used) }
     ensures clear { OnOk result (AreClear analysis.new.flags) }
     ensures size { OnOk result (length analysis.new.flags ≡ length assignment.now.current) }
 {

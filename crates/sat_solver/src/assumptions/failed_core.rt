@@ -1,8 +1,8 @@
 //! Which assumptions can't be true together is told by a step.
 ghost use Rattle.std.specs.Prelude.{◌≡◌, ◌≤◌, map, length, OnOk};
 ghost use Rattle.sat_solver.specs.session.LiveClauses.{with_var};
-ghost use Rattle.sat_solver.specs.proof.ProofView.{Keeps, session_of};
-ghost use Rattle.sat_parts.specs.parts.Assumed.{AreThere};
+ghost use Rattle.sat_solver.specs.proof.ProofView.{HasAllowedSteps, session_of};
+ghost use Rattle.sat_parts.specs.parts.Assumed.{HaveVariablesIn};
 ghost use Rattle.sat_parts.specs.parts.Whole.{PartsInvariant};
 ghost use Rattle.sat_solver.specs.assumptions.Core.{causes_hashes, TellsCore, FailsBy};
 ghost use Rattle.sat_solver.specs.cdcl.Joint.{global_in, IsFree, IsSearch};
@@ -21,7 +21,7 @@ use std::alloc::AllocError;
 fn name_core(search: &mut Search) -> Result<(), AllocError>
     requires holds { PartsInvariant search.old.parts }
     requires names { length search.old.parts.assignment.current ≤ length search.old.globals.items }
-    requires there { AreThere search.old.assumptions.lits.items search.old.parts }
+    requires there { HaveVariablesIn search.old.assumptions.lits.items search.old.parts }
     requires failing { IsFailing search.old.assumptions.lits.items search.old.parts search.old.failed }
     requires fails { FailsBy search.old.parts search.old.failed search.old.analysis }
     ensures same { search.new ≡ record search.old { scratch = search.new.scratch } }
@@ -44,7 +44,7 @@ fn name_core(search: &mut Search) -> Result<(), AllocError>
 fn find_core(search: &mut Search) -> Result<(), AllocError>
     requires holds { PartsInvariant search.old.parts }
     requires free { IsFree search.old }
-    requires there { AreThere search.old.assumptions.lits.items search.old.parts }
+    requires there { HaveVariablesIn search.old.assumptions.lits.items search.old.parts }
     requires failing { IsFailing search.old.assumptions.lits.items search.old.parts search.old.failed }
     ensures same { search.new ≡ record search.old { analysis = search.new.analysis; scratch = search.new.scratch } }
     ensures free { OnOk result (IsFree search.new) }
@@ -69,7 +69,7 @@ pub fn tell_core<W: CountedWrite + Drop, P: ProofProcessor>(
     proof: &mut Proof<W, P>,
     search: &mut Search,
 ) -> Result<(), Fault>
-    requires keeps { Keeps proof.old }
+    requires keeps { HasAllowedSteps proof.old }
     requires search { IsSearch (session_of proof.old) search.old }
     requires failing { IsFailing search.old.assumptions.lits.items search.old.parts search.old.failed }
     ensures { TellsCore W.seen result proof.old proof.new search.old search.new }

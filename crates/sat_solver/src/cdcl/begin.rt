@@ -1,5 +1,5 @@
 //! How a round begins: at level 0 what came there is propagated, and simplified by.
-ghost use Rattle.sat_solver.specs.unit_simplify.Passes.{StandTogether, Begins};
+ghost use Rattle.sat_solver.specs.unit_simplify.Passes.{StandTogether, BeginsRound};
 
 use crate::cdcl::fault::Fault;
 use crate::context::Search;
@@ -21,7 +21,7 @@ pub fn begin_round<W: CountedWrite + Drop, P: ProofProcessor>(
     names: &mut Variables,
 ) -> Result<Option<Conflict>, Fault>
     requires together { StandTogether names.old proof.old search.old }
-    ensures { Begins W.seen result names.old names.new proof.old proof.new search.old search.new }
+    ensures { BeginsRound W.seen result names.old names.new proof.old proof.new search.old search.new }
 {
     if search.parts.trail.current_level() > 0 || search.parts.trail.trail().is_empty() {
         return Ok(None);

@@ -1,7 +1,7 @@
 //! Why a call failed, without its cause, which is kept with the proof until a solver tells it.
 ghost use Rattle.std.specs.Prelude.{◌≡◌};
 ghost use Rattle.sat_solver.specs.cdcl.Faults.{error_of, IsKept};
-ghost use Rattle.sat_solver.specs.proof.ProofView.{told};
+ghost use Rattle.sat_solver.specs.proof.ProofView.{without_complaint};
 
 use crate::SolverError;
 use crate::proof::kept::Kept;
@@ -113,7 +113,7 @@ pub fn tell<W: CountedWrite + Drop, P: ProofProcessor>(
 ) -> SolverError
     requires kept { IsKept fault proof.old }
     ensures error { result ≡ fault }
-    ensures proof { proof.new ≡ told proof.old }
+    ensures proof { proof.new ≡ without_complaint proof.old }
 {
     let complaint = proof.take_complaint();
     match (fault.kind, complaint, proof.cause()) {

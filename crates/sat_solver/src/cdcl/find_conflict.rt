@@ -1,11 +1,11 @@
 //! The turns of a search: it propagates, and then assumes or decides.
 ghost use Rattle.std.specs.Prelude.{IfOk};
-ghost use Rattle.sat_solver.specs.proof.ProofView.{Keeps, session_of};
-ghost use Rattle.sat_parts.specs.parts.Assumed.{AreThere, ArePlaced};
+ghost use Rattle.sat_solver.specs.proof.ProofView.{HasAllowedSteps, session_of};
+ghost use Rattle.sat_parts.specs.parts.Assumed.{HaveVariablesIn, ArePlaced};
 ghost use Rattle.sat_parts.specs.parts.Whole.{state, PartsInvariant, IsDone};
 ghost use Rattle.sat_solver.specs.cdcl.Going.{EmitsSteps};
 ghost use Rattle.sat_solver.specs.cdcl.Joint.{IsSearch};
-ghost use Rattle.sat_solver.specs.cdcl.Turns.{GoesDeeper, Stopped};
+ghost use Rattle.sat_solver.specs.cdcl.Turns.{GoesDeeper, StopsSearch};
 
 use crate::cdcl::fault::Fault;
 use crate::context::Search;
@@ -36,7 +36,7 @@ fn assume_or_decide(
 ) -> Result<Option<FoundConflict>, AllocError>
     requires holds { PartsInvariant parts.old }
     requires done { IsDone parts.old }
-    requires there { AreThere assumptions.old.lits.items parts.old }
+    requires there { HaveVariablesIn assumptions.old.lits.items parts.old }
     requires placed { ArePlaced assumptions.old (state parts.old) }
     ensures { IfOk result (λ found. GoesDeeper found assumptions.old assumptions.new parts.old parts.new) }
 {
@@ -57,9 +57,9 @@ pub fn find_conflict<W: CountedWrite + Drop, P: ProofProcessor>(
     proof: &mut Proof<W, P>,
     search: &mut Search,
 ) -> Result<FoundConflict, Fault>
-    requires keeps { Keeps proof.old }
+    requires keeps { HasAllowedSteps proof.old }
     requires search { IsSearch (session_of proof.old) search.old }
-    ensures { EmitsSteps W.seen result proof.old proof.new (λ stop _. Stopped stop (session_of proof.new) search.old search.new) }
+    ensures { EmitsSteps W.seen result proof.old proof.new (λ stop _. StopsSearch stop (session_of proof.new) search.old search.new) }
 {
     'turns: loop {
         let propagated = propagate_all(search.alloc, &mut search.parts)?;

@@ -2,9 +2,9 @@
 ghost use Rattle.std.specs.Prelude.{◌≡◌, ◌<◌, ◌≤◌, length, map, Err, false, OnOk, IfOk};
 ghost use Rattle.sat_parts.specs.clause.Glue.{levels_of, different};
 ghost use Rattle.sat_solver.specs.session.LiveClauses.{with_var};
-ghost use Rattle.sat_solver.specs.proof.ProofView.{Keeps, session_of};
+ghost use Rattle.sat_solver.specs.proof.ProofView.{HasAllowedSteps, session_of};
 ghost use Rattle.sat_solver.specs.analyze_conflict.Derivation.{Learns, LearnsFrom};
-ghost use Rattle.sat_parts.specs.parts.Round.{AreUnits, IsBased};
+ghost use Rattle.sat_parts.specs.parts.Round.{UnitsAreUncaused, IsBased};
 ghost use Rattle.sat_parts.specs.parts.Full.{IsFull};
 ghost use Rattle.sat_parts.specs.parts.Learned.{IsLearned};
 ghost use Rattle.sat_parts.specs.parts.Whole.{state, HoldsBelow, IsRefuted};
@@ -12,7 +12,7 @@ ghost use Rattle.sat_solver.specs.session.Fits.{FlagFits};
 ghost use Rattle.sat_solver.specs.clause.Activity.{AreBelow};
 ghost use Rattle.sat_solver.specs.clause.Assessed.{graded, AreInvolved};
 ghost use Rattle.sat_solver.specs.cdcl.Joint.{global_in, IsFree};
-ghost use Rattle.sat_solver.specs.cdcl.Learning.{Taken, Rated, IsRated, IsRaised, LearnsClause, learned_hashes};
+ghost use Rattle.sat_solver.specs.cdcl.Learning.{UndoesAndLearns, Rated, IsRated, IsRaised, LearnsClause, learned_hashes};
 ghost use Rattle.sat_solver.specs.cdcl.Turns.{IsStopped};
 ghost use Rattle.sat_store.specs.clause.Full.{OnFull};
 
@@ -56,14 +56,14 @@ fn name_learned(search: &mut Search, _level: usize, conflict: &Conflict) -> Resu
 /// and improved, by the levels that were.
 fn take_in(search: &mut Search, header: ClauseHeader, level: usize) -> Result<(), StoreError>
     requires holds { HoldsBelow (length search.old.parts.trail.starts) search.old.parts }
-    requires units { AreUnits (state search.old.parts) }
+    requires units { UnitsAreUncaused (state search.old.parts) }
     requires base { IsBased search.old.parts.trail }
     requires live { header.deleted ≡ false }
     requires learned { IsLearned (state search.old.parts) search.old.analysis.clause level }
     requires involved { AreInvolved search.old.parts search.old.flags.flags.items search.old.analysis.involved }
     ensures same { search.new ≡ record search.old { parts = search.new.parts; activity = search.new.activity; flags = search.new.flags } }
     ensures flags { search.new.flags.flags.items ≡ search.old.flags.flags.items }
-    ensures taken { OnOk result (Taken search.old.parts search.new.parts header search.old.analysis.clause level) }
+    ensures taken { OnOk result (UndoesAndLearns search.old.parts search.new.parts header search.old.analysis.clause level) }
     ensures rated { OnOk result (Rated search.old.parts search.old.activity search.old.analysis header search.new.parts search.new.activity) }
     ensures full { OnFull result (IsFull search.new.parts) }
 {
@@ -128,7 +128,7 @@ fn learn_clause<W: CountedWrite + Drop, P: ProofProcessor>(
     search: &mut Search,
     conflict: &Conflict,
 ) -> Result<(), Fault>
-    requires keeps { Keeps proof.old }
+    requires keeps { HasAllowedSteps proof.old }
     requires stopped { IsStopped (session_of proof.old) search.old conflict.now }
     requires above { 0 < length search.old.parts.trail.starts }
     ensures learned { LearnsClause W.seen result proof.old proof.new search.old search.new }
@@ -154,7 +154,7 @@ pub fn learn_from<W: CountedWrite + Drop, P: ProofProcessor>(
     search: &mut Search,
     conflict: &Conflict,
 ) -> Result<(), Fault>
-    requires keeps { Keeps proof.old }
+    requires keeps { HasAllowedSteps proof.old }
     requires stopped { IsStopped (session_of proof.old) search.old conflict.now }
     requires above { 0 < length search.old.parts.trail.starts }
     ensures learned { LearnsClause W.seen result proof.old proof.new search.old search.new }

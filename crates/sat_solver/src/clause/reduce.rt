@@ -2,7 +2,7 @@
 ghost use Rattle.std.specs.Prelude.{◌≡◌, ◌-◌, ◌<◌, if◌then◌else◌, OnOk, Err, length, map};
 ghost use Rattle.sat_store.specs.clause.Buffer.{IsClause, lits_at};
 ghost use Rattle.sat_solver.specs.session.LiveClauses.{with_var};
-ghost use Rattle.sat_solver.specs.proof.ProofView.{Keeps, session_of};
+ghost use Rattle.sat_solver.specs.proof.ProofView.{HasAllowedSteps, session_of};
 ghost use Rattle.sat_solver.specs.session.Session.{Session};
 ghost use Rattle.sat_parts.specs.parts.Whole.{PartsInvariant};
 ghost use Rattle.sat_solver.specs.session.Naming.{global_of};
@@ -51,7 +51,7 @@ fn delete_learned<W: CountedWrite + Drop, P: ProofProcessor>(
     search: &mut Search,
     cref: ClauseRef,
 ) -> Result<bool, Fault>
-    requires keeps { Keeps proof.old }
+    requires keeps { HasAllowedSteps proof.old }
     requires search { IsSearch (session_of proof.old) search.old }
     requires learned { IsLearnt search.old.parts cref }
     ensures { EmitsSteps W.seen result proof.old proof.new (λ deleted _. Deleted deleted cref (session_of proof.new) search.old search.new) }
@@ -87,7 +87,7 @@ fn reduce_locals<W: CountedWrite + Drop, P: ProofProcessor>(
     search: &mut Search,
     is_due: bool,
 ) -> Result<(), Fault>
-    requires keeps { Keeps proof.old }
+    requires keeps { HasAllowedSteps proof.old }
     requires search { IsSearch (session_of proof.old) search.old }
     ensures { ReducesBy (ReducesLocals is_due) W.seen result proof.old proof.new search.old search.new }
 {
@@ -138,7 +138,7 @@ pub fn reduce<W: CountedWrite + Drop, P: ProofProcessor>(
     config: &SolverConfig,
     round: u64,
 ) -> Result<(), Fault>
-    requires keeps { Keeps proof.old }
+    requires keeps { HasAllowedSteps proof.old }
     requires search { IsSearch (session_of proof.old) search.old }
     requires locals { 0 < config.now.reduce_locals_interval }
     requires mids { 0 < config.now.reduce_mids_interval }

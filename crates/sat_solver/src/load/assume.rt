@@ -7,9 +7,9 @@ ghost use Rattle.sat_solver.specs.session.LiveClauses.{with_var};
 ghost use Rattle.sat_store.specs.variables.VarData.{unused_variable};
 ghost use Rattle.sat_solver.specs.variables.Variables.{AreTidy, data_at};
 ghost use Rattle.sat_solver.specs.load.Literals.{NoWitness, Images, global_in};
-ghost use Rattle.sat_solver.specs.load.Assumed.{Marks, PutsMarks, Assumes};
+ghost use Rattle.sat_solver.specs.load.Assumed.{MarksAssumed, PutsMarks, BringsAssumptions};
 ghost use Rattle.sat_solver.specs.variables.Calls.{NamesInvariant};
-ghost use Rattle.sat_solver.specs.variables.Failing.{EmitsOrFails, OnlyFails};
+ghost use Rattle.sat_solver.specs.variables.Failing.{EmitsOrFails, FailsOnlyByFault};
 ghost use Rattle.sat_solver.specs.variables.Room.{users_in};
 ghost use Rattle.sat_parts.specs.clause.Glue.{VariablesBelow};
 
@@ -25,7 +25,7 @@ use std::alloc::AllocError;
 /// Marks the variables of literals as assumed, or not.
 fn mark_all(list: &mut Vec<VarData>, lits: &[Lit], assumed: bool)
     requires within { VariablesBelow lits.now (length list.old.items) }
-    ensures marks { Marks (λ v. slice_index_or list.old.items v unused_variable)
+    ensures marks { MarksAssumed (λ v. slice_index_or list.old.items v unused_variable)
         (λ v. slice_index_or list.new.items v unused_variable) lits.now assumed }
     ensures size { length list.new.items ≡ length list.old.items }
 {
@@ -66,8 +66,8 @@ pub fn assume<W: StepWriter>(
     requires keeps { W.keeps writer.old }
     requires sampled { NoWitness variables.old lits.now }
     requires asked { asked.old.globals.items ≡ (session_after (W.steps writer.old)).assumed }
-    ensures assumes { OnOk result (Assumes variables.old variables.new (W.steps writer.old) (W.steps writer.new) lits.now asked.new) }
-    ensures room { OnlyFails result variables.old (users_in lits.now) }
+    ensures assumes { OnOk result (BringsAssumptions variables.old variables.new (W.steps writer.old) (W.steps writer.new) lits.now asked.new) }
+    ensures room { FailsOnlyByFault result variables.old (users_in lits.now) }
     ensures keeps { OnOk result (W.keeps writer.new) }
     ensures came { EmitsOrFails W.took W.broke result writer.old writer.new }
 {

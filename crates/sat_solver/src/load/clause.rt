@@ -3,13 +3,13 @@ ghost use Rattle.std.specs.Prelude.{◌≡◌, true, ◌∷◌, [], map, OnOk, I
 ghost use Rattle.sat_base.specs.script.Judge.{with_clause};
 ghost use Rattle.sat_base.specs.steps.Steps.{AddClause};
 ghost use Rattle.sat_solver.specs.load.Literals.{NoWitness, SameLiterals, named_literal, Images, MapsClause};
-ghost use Rattle.sat_solver.specs.load.Clauses.{AddsClause, LeavesOut};
+ghost use Rattle.sat_solver.specs.load.Clauses.{BringsClause, LeavesOut};
 ghost use Rattle.sat_checker.specs.matching.Expected.{Adds};
 ghost use Rattle.sat_solver.specs.variables.Calls.{NamesInvariant, NamesRefineJudge};
 ghost use Rattle.sat_solver.specs.variables.Variables.{AreTidy};
 ghost use Rattle.sat_solver.specs.session.Session.{session_after};
 ghost use Rattle.sat_checker.specs.LiteralSets.{is_tautology};
-ghost use Rattle.sat_solver.specs.variables.Failing.{IsFailure, EmitsOrFails, OnlyFails};
+ghost use Rattle.sat_solver.specs.variables.Failing.{IsFailure, EmitsOrFails, FailsOnlyByFault};
 ghost use Rattle.sat_solver.specs.variables.Room.{users_in};
 
 use crate::load::literals::{Taken, map_lits, take_names};
@@ -68,8 +68,8 @@ pub fn add_clause<W: StepWriter>(
     requires stands { NamesInvariant variables.old (W.steps writer.old) }
     requires keeps { W.keeps writer.old }
     requires sampled { NoWitness variables.old lits.now }
-    ensures adds { IfOk result (AddsClause variables.old variables.new (W.steps writer.old) (W.steps writer.new) lits.now taken.new) }
-    ensures room { OnlyFails result variables.old (users_in lits.now) }
+    ensures adds { IfOk result (BringsClause variables.old variables.new (W.steps writer.old) (W.steps writer.new) lits.now taken.new) }
+    ensures room { FailsOnlyByFault result variables.old (users_in lits.now) }
     ensures keeps { OnOk result (W.keeps writer.new) }
     ensures came { EmitsOrFails W.took W.broke result writer.old writer.new }
 {
@@ -89,7 +89,7 @@ pub fn leave_out_clause<W: StepWriter>(
     requires keeps { W.keeps writer.old }
     requires unsat { (session_after (W.steps writer.old)).unsat ≡ true }
     ensures leaves { OnOk result (LeavesOut variables.old variables.new (W.steps writer.old) (W.steps writer.new) lits.now) }
-    ensures room { OnlyFails result variables.old (users_in lits.now) }
+    ensures room { FailsOnlyByFault result variables.old (users_in lits.now) }
     ensures keeps { OnOk result (W.keeps writer.new) }
     ensures came { EmitsOrFails W.took W.broke result writer.old writer.new }
 {

@@ -1,9 +1,9 @@
 //! Names of literals come in, and their variables get indices.
 ghost use Rattle.std.specs.Prelude.{◌≡◌, ◌<◌, [], OnOk, length, map, slice_index_or};
 ghost use Rattle.sat_solver.specs.session.LiveClauses.{with_var};
-ghost use Rattle.sat_solver.specs.load.Literals.{Takes};
+ghost use Rattle.sat_solver.specs.load.Literals.{BringsLiterals};
 ghost use Rattle.sat_solver.specs.variables.Calls.{NamesInvariant};
-ghost use Rattle.sat_solver.specs.variables.Failing.{EmitsOrFails, OnlyFails};
+ghost use Rattle.sat_solver.specs.variables.Failing.{EmitsOrFails, FailsOnlyByFault};
 ghost use Rattle.sat_solver.specs.variables.Room.{users_in};
 ghost use Rattle.sat_parts.specs.clause.Glue.{VariablesBelow};
 
@@ -55,8 +55,8 @@ pub fn take_names<W: StepWriter>(
 ) -> Result<(), NameError>
     requires stands { NamesInvariant variables.old (W.steps writer.old) }
     requires keeps { W.keeps writer.old }
-    ensures takes { OnOk result (Takes variables.old variables.new (W.steps writer.old) (W.steps writer.new) lits.now taken.new) }
-    ensures room { OnlyFails result variables.old (users_in lits.now) }
+    ensures takes { OnOk result (BringsLiterals variables.old variables.new (W.steps writer.old) (W.steps writer.new) lits.now taken.new) }
+    ensures room { FailsOnlyByFault result variables.old (users_in lits.now) }
     ensures globals { taken.new.globals ≡ taken.old.globals }
     ensures keeps { OnOk result (W.keeps writer.new) }
     ensures came { EmitsOrFails W.took W.broke result writer.old writer.new }

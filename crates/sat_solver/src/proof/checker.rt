@@ -3,7 +3,7 @@ ghost use Rattle.std.specs.Prelude.{◌≡◌, [], OnOk};
 ghost use Rattle.sat_base.specs.steps.StepViews.{step_of};
 ghost use Rattle.sat_checker.specs.CheckerView.{seen_of};
 ghost use Rattle.sat_checker.specs.telling.ProcessingView.{listeners_of};
-ghost use Rattle.sat_solver.specs.proof.Checked.{is_end, IsFed, TakesStep, TakesWidth, TakesDelayed, Feeds, TakesIn, BeginsAnew, who_listens};
+ghost use Rattle.sat_solver.specs.proof.Checked.{is_end, IsFed, TakesStep, TakesWidth, TakesDelayed, FeedsOwnChecker, AddsOwnListener, BeginsAnew, who_listens};
 ghost use Rattle.sat_solver.specs.proof.Widths.{narrowed, KeepsWidth};
 
 use crate::proof::hash_bits::Counting;
@@ -39,7 +39,7 @@ fn feed<P: ProofProcessor>(
     checker: &mut Checker<P, Nobody>,
     step: &ProofStep<'_>,
 ) -> Result<(), CheckerError>
-    ensures { Feeds P.takes result (seen_of checker.old) (step_of step.now) (seen_of checker.new) }
+    ensures { FeedsOwnChecker P.takes result (seen_of checker.old) (step_of step.now) (seen_of checker.new) }
 {
     checker.self_check_step(step)
 }
@@ -105,7 +105,7 @@ impl<P: ProofProcessor> Checked<P> {
     }
     /// A processor, which is told all announcements from here on. Without memory it is dropped, and the checker has failed.
     pub fn add_processor(&mut self, processor: P) -> Result<(), CheckerError>
-        ensures { TakesIn P.takes result self.old processor self.new }
+        ensures { AddsOwnListener P.takes result self.old processor self.new }
     {
         self.checker.add_processor(processor)
     }

@@ -65,7 +65,7 @@ pub struct Made<P: ProofProcessor = Nobody> {
 }
 
 impl<P: ProofProcessor> Made<P> {
-    ghost use Rattle.sat_solver.specs.proof.MadeView.{audience, is_checked, is_lost, Checks, Handed, HandedWhole, HasTold, IsTold, Makes, OrComplains, OrComplainsUnless, TakesListener, told};
+    ghost use Rattle.sat_solver.specs.proof.MadeView.{audience, is_checked, is_lost, Checks, Handed, HandedWhole, HasTold, IsTold, Makes, OrComplains, OrComplainsUnless, TakesListener, without_complaint};
 
     /// No step yet, and no checker.
     pub fn new() -> Made<P>
@@ -208,7 +208,7 @@ impl<P: ProofProcessor> Made<P> {
     /// What a processor complained of. It is told once.
     pub fn take_complaint(&mut self) -> Option<anyhow::Error>
         ensures gives { result ≡ self.old.complaint }
-        ensures same { self.new ≡ told self.old }
+        ensures same { self.new ≡ without_complaint self.old }
     {
         self.complaint.take()
     }

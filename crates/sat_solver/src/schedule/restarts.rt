@@ -1,6 +1,6 @@
 //! When restarts are due.
 ghost use Rattle.std.specs.Prelude.{◌≡◌, ◌+◌};
-ghost use Rattle.sat_store.specs.schedule.Luby.{luby, behind};
+ghost use Rattle.sat_store.specs.schedule.Luby.{luby, wrapped_number};
 ghost use Rattle.sat_solver.specs.schedule.Gaps.{gap_end};
 
 use sat_store::LubySequence;
@@ -18,7 +18,7 @@ pub struct Restarts {
 
 /// Begins a gap before this round.
 pub fn begin_gap(restarts: &mut Restarts, round: u64)
-    ensures given { restarts.new.sequence ≡ behind (restarts.old.sequence + 1) }
+    ensures given { restarts.new.sequence ≡ wrapped_number (restarts.old.sequence + 1) }
     ensures scale { restarts.new.scale ≡ restarts.old.scale }
     ensures next { restarts.new.next ≡ gap_end round (luby (restarts.old.sequence + 1)) restarts.old.scale }
 {

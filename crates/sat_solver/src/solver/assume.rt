@@ -6,9 +6,9 @@ ghost use Rattle.sat_base.specs.script.Judge.{bring_all};
 ghost use Rattle.sat_solver.specs.load.Literals.{NoWitness};
 ghost use Rattle.sat_solver.specs.variables.Refusing.{names_in};
 ghost use Rattle.sat_solver.specs.declared.state.State.TheVariants.{Unsat};
-ghost use Rattle.sat_solver.specs.solver.Adding.{Assumes, IsDrat, due_for_asked};
+ghost use Rattle.sat_solver.specs.solver.Adding.{AssumesOrRefuses, IsDrat, due_for_asked};
 ghost use Rattle.sat_solver.specs.solver.Asking.{Asks};
-ghost use Rattle.sat_solver.specs.solver.Whole.{IsSolver, IsWhole};
+ghost use Rattle.sat_solver.specs.solver.Whole.{IsSolver, SolverInvariant};
 
 use crate::SolverError;
 use crate::cdcl::fault::{Fault, Kind};
@@ -24,7 +24,7 @@ use sat_checker::ProofProcessor;
 impl<W: CountedWrite + Drop, P: ProofProcessor> Solver<W, P> {
     /// Takes assumptions where the clauses alone are known to be unsatisfiable: the search isn't told.
     fn ask_known(&mut self, lits: &[Lit]) -> Result<(), Fault>
-        requires whole { IsWhole self.old }
+        requires whole { SolverInvariant self.old }
         requires unsat { self.old.state ≡ Unsat }
         requires sampled { NoWitness self.old.names lits.now }
         ensures asks { Asks W.seen result self.old self.new lits.now }
@@ -37,7 +37,7 @@ impl<W: CountedWrite + Drop, P: ProofProcessor> Solver<W, P> {
 
     /// Takes assumptions without a name of mode witness.
     fn ask(&mut self, lits: &[Lit]) -> Result<(), Fault>
-        requires whole { IsWhole self.old }
+        requires whole { SolverInvariant self.old }
         requires sampled { NoWitness self.old.names lits.now }
         ensures asks { Asks W.seen result self.old self.new lits.now }
         ensures room { HasRoom self.old.names (users_in lits.now) → IfErr result IsFault }
@@ -60,7 +60,7 @@ impl<W: CountedWrite + Drop, P: ProofProcessor> Solver<W, P> {
     pub fn assume(&mut self, lits: &[Lit]) -> Result<(), SolverError>
         requires { IsSolver self.old }
         ensures solver { IsSolver self.new }
-        ensures assumes { Assumes W.seen result self.old self.new lits.now }
+        ensures assumes { AssumesOrRefuses W.seen result self.old self.new lits.now }
         ensures drat { self.old.failed ≡ false → IsDrat W.seen self.old → IsErrOf result SolverError.NotInDrat }
     {
         if self.failed {

@@ -4,8 +4,8 @@ ghost use Rattle.sat_solver.specs.variables.Room.{HasRoom, users_in};
 ghost use Rattle.sat_solver.specs.cdcl.Going.{IsFault, IsFaultOr};
 ghost use Rattle.sat_solver.specs.load.Literals.{NoWitness};
 ghost use Rattle.sat_solver.specs.declared.state.State.TheVariants.{Unsat};
-ghost use Rattle.sat_solver.specs.solver.Adding.{AddsClause, IsBeforeDrat, IsPastDrat, TakesIn};
-ghost use Rattle.sat_solver.specs.solver.Whole.{HasFullStore, IsSolver, IsWhole};
+ghost use Rattle.sat_solver.specs.solver.Adding.{AddsClause, IsBeforeDrat, IsPastDrat, TakesInOrBreaks};
+ghost use Rattle.sat_solver.specs.solver.Whole.{HasFullStore, IsSolver, SolverInvariant};
 
 use crate::SolverError;
 use crate::cdcl::fault::Fault;
@@ -32,9 +32,9 @@ impl<W: CountedWrite + Drop, P: ProofProcessor> Solver<W, P> {
 
     /// Takes the names of a clause, and nothing more: the clauses alone are known to be unsatisfiable.
     fn leave_out(&mut self, lits: &[Lit]) -> Result<(), Fault>
-        requires whole { IsWhole self.old }
+        requires whole { SolverInvariant self.old }
         requires unsat { self.old.state ≡ Unsat }
-        ensures takes { TakesIn W.seen result self.old self.new lits.now }
+        ensures takes { TakesInOrBreaks W.seen result self.old self.new lits.now }
         ensures room { HasRoom self.old.names (users_in lits.now) → IfErr result IsFault }
         ensures assumed { self.new.assumed ≡ self.old.assumed }
         ensures clock { self.new.clock ≡ self.old.clock }
@@ -45,9 +45,9 @@ impl<W: CountedWrite + Drop, P: ProofProcessor> Solver<W, P> {
 
     /// Takes a clause without a name of mode witness.
     fn take(&mut self, lits: &[Lit]) -> Result<(), Fault>
-        requires whole { IsWhole self.old }
+        requires whole { SolverInvariant self.old }
         requires sampled { NoWitness self.old.names lits.now }
-        ensures takes { TakesIn W.seen result self.old self.new lits.now }
+        ensures takes { TakesInOrBreaks W.seen result self.old self.new lits.now }
         ensures room { HasRoom self.old.names (users_in lits.now) → IfErr result (IsFaultOr (HasFullStore self.new)) }
         ensures assumed { self.new.assumed ≡ self.old.assumed }
         ensures clock { self.new.clock ≡ self.old.clock }

@@ -4,7 +4,7 @@ ghost use Rattle.sat_solver.specs.schedule.Counting.{AnswersWithin, CountsOn, Sp
 ghost use Rattle.sat_solver.specs.schedule.Solving.{values_in};
 ghost use Rattle.sat_solver.specs.solver.Joined.{IsJoined};
 ghost use Rattle.sat_solver.specs.solver.Answering.{BreaksOff};
-ghost use Rattle.sat_solver.specs.solver.Found.{FindsBy, ComesTo, Tells};
+ghost use Rattle.sat_solver.specs.solver.Found.{FindsBy, OutcomeHolds, TellsOutcome};
 
 use crate::cdcl::fault::Fault;
 use crate::context::Core;
@@ -37,8 +37,8 @@ fn tell<W: CountedWrite + Drop, P: ProofProcessor>(
     told: &mut Told,
     outcome: Outcome,
 ) -> Result<Option<State>, Fault>
-    requires { ComesTo outcome names.now core.old }
-    ensures { Tells W.seen result outcome names.now core.old core.new told.new.failed_core.items }
+    requires { OutcomeHolds outcome names.now core.old }
+    ensures { TellsOutcome W.seen result outcome names.now core.old core.new told.new.failed_core.items }
 {
     match outcome {
         Outcome::Learned => Ok(None),

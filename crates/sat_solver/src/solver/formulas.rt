@@ -1,7 +1,7 @@
 //! Formulas, clause by clause, and their texts.
 ghost use Rattle.std.specs.Prelude.{◌≡◌, false};
 ghost use Rattle.sat_base.specs.dimacs.Parsing.{all_taken, no_progress};
-ghost use Rattle.sat_solver.specs.solver.Formulas.{AddsFormula, AddsText, AddsRead, text_fault, is_want};
+ghost use Rattle.sat_solver.specs.solver.Formulas.{AddsFormula, AddsText, AddsFormulaRead, text_fault, is_want};
 ghost use Rattle.sat_solver.specs.solver.Whole.{IsSolver};
 
 use crate::SolverError;
@@ -68,7 +68,7 @@ impl<W: CountedWrite + Drop, P: ProofProcessor> Solver<W, P> {
         requires going { self.old.failed ≡ false }
         ensures solver { IsSolver self.new }
         ensures taken { parser.new ≡ all_taken parser.old }
-        ensures adds { AddsRead W.seen result answer parser.old self.old self.new }
+        ensures adds { AddsFormulaRead W.seen result answer parser.old self.old self.new }
     {
         let formula = parser.take_formula();
         self.add_formula(&formula)?;

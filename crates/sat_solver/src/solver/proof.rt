@@ -1,7 +1,7 @@
 //! The proof of a solver, where its text goes.
-ghost use Rattle.sat_solver.specs.proof.ProofView.{Gives, Handed, HandedWhole, seen_of, target_of};
+ghost use Rattle.sat_solver.specs.proof.ProofView.{GivesWriter, Handed, HandedWhole, seen_of, target_of};
 ghost use Rattle.sat_solver.specs.solver.Fronts.{HandsFront};
-ghost use Rattle.sat_solver.specs.solver.Proving.{AddsProcessor, Enables, Opens, ClosesProof};
+ghost use Rattle.sat_solver.specs.solver.Proving.{AddsProcessor, Enables, OpensProof, ClosesProof};
 ghost use Rattle.sat_solver.specs.solver.Whole.{IsSolver};
 
 use crate::SolverError;
@@ -24,7 +24,7 @@ impl<W: CountedWrite + Drop, P: ProofProcessor> Solver<W, P> {
     pub fn write_proof(&mut self, target: W, format: ProofFormat) -> Result<(), SolverError>
         requires { IsSolver self.old }
         ensures solver { IsSolver self.new }
-        ensures opens { Opens W.seen result format target self.old self.new }
+        ensures opens { OpensProof W.seen result format target self.old self.new }
     {
         if self.failed {
             return Err(SolverError::HasFailed);
@@ -93,7 +93,7 @@ impl<W: CountedWrite + Drop, P: ProofProcessor> Solver<W, P> {
     /// The target as it is, where a proof is open or its target failed; what waits for it is lost. So who lent a target to a solver
     /// that failed learns what it took: a front of the text of steps that a checker accepts.
     pub fn into_target(self) -> Option<W>
-        ensures gives { Gives (target_of W.seen self.core.proof) (seen_of W.seen result) }
+        ensures gives { GivesWriter (target_of W.seen self.core.proof) (seen_of W.seen result) }
         ensures front { HandsFront W.seen result self }
     {
         let mut solver = self;
@@ -103,7 +103,7 @@ impl<W: CountedWrite + Drop, P: ProofProcessor> Solver<W, P> {
     /// The processors that were added, in their order, and the target as it is, where a proof is open or its target failed, also after
     /// a failure; what waits for the target is lost.
     pub fn into_processors(self) -> HandedBack<W, P>
-        ensures target { Gives (target_of W.seen self.core.proof) (seen_of W.seen result.target) }
+        ensures target { GivesWriter (target_of W.seen self.core.proof) (seen_of W.seen result.target) }
         ensures front { HandsFront W.seen result.target self }
         ensures processors { Handed self.core.proof result.processors.items }
         ensures whole { HandedWhole self.core.proof result.processors.items }

@@ -1,7 +1,7 @@
 //! Answers under assumptions.
-ghost use Rattle.sat_solver.specs.solver.Whole.{IsSolver, IsWhole};
+ghost use Rattle.sat_solver.specs.solver.Whole.{IsSolver, SolverInvariant};
 ghost use Rattle.sat_solver.specs.solver.Calls.{Solves};
-ghost use Rattle.sat_solver.specs.solver.Settling.{Settles};
+ghost use Rattle.sat_solver.specs.solver.Settling.{AnswersOrBreaks};
 
 use crate::SolverError;
 use crate::cdcl::fault::Fault;
@@ -14,8 +14,8 @@ use sat_checker::ProofProcessor;
 impl<W: CountedWrite + Drop, P: ProofProcessor> Solver<W, P> {
     /// Looks for an answer, where none is known.
     fn find_where_unknown(&mut self) -> Result<(), Fault>
-        requires whole { IsWhole self.old }
-        ensures { Settles W.seen result self.old self.new }
+        requires whole { SolverInvariant self.old }
+        ensures { AnswersOrBreaks W.seen result self.old self.new }
     {
         match self.state {
             State::Unknown => {}

@@ -3,7 +3,7 @@ ghost use Rattle.std.specs.Prelude.{◌≡◌, ◌+◌, ◌<◌, length};
 ghost use Rattle.sat_base.specs.values.Literals.{variable};
 ghost use Rattle.sat_parts.specs.prop.Binaries.{implied_by};
 ghost use Rattle.sat_solver.specs.session.SolverClauses.{pair, is_open_clause};
-ghost use Rattle.sat_solver.specs.proof.ProofView.{Keeps, session_of};
+ghost use Rattle.sat_solver.specs.proof.ProofView.{HasAllowedSteps, session_of};
 ghost use Rattle.sat_solver.specs.cdcl.Going.{EmitsSteps};
 ghost use Rattle.sat_solver.specs.cdcl.Joint.{IsSearch};
 ghost use Rattle.sat_solver.specs.unit_simplify.Flat.{IsFlat, MayRemove, LeavesPairs, RemovesPairs};
@@ -34,7 +34,7 @@ fn delete_pair<W: CountedWrite + Drop, P: ProofProcessor>(
     lit: Lit,
     at: usize,
 ) -> Result<(), Fault>
-    requires keeps { Keeps proof.old }
+    requires keeps { HasAllowedSteps proof.old }
     requires may { MayRemove search.old }
     requires left { LeavesPairs (session_of proof.old) search.old lit at }
     requires there { lit < length search.old.parts.binary.implied }
@@ -60,7 +60,7 @@ fn delete_pairs_of<W: CountedWrite + Drop, P: ProofProcessor>(
     search: &mut Search,
     lit: Lit,
 ) -> Result<(), Fault>
-    requires keeps { Keeps proof.old }
+    requires keeps { HasAllowedSteps proof.old }
     requires may { MayRemove search.old }
     requires left { LeavesPairs (session_of proof.old) search.old lit 0 }
     requires there { lit < length search.old.parts.binary.implied }
@@ -78,7 +78,7 @@ pub fn simplify_binary<W: CountedWrite + Drop, P: ProofProcessor>(
     proof: &mut Proof<W, P>,
     search: &mut Search,
 ) -> Result<(), Fault>
-    requires keeps { Keeps proof.old }
+    requires keeps { HasAllowedSteps proof.old }
     requires search { IsSearch (session_of proof.old) search.old }
     requires flat { IsFlat search.old.parts }
     ensures { RemovesPairs W.seen result proof.old proof.new search.old search.new }

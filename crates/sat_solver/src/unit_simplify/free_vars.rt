@@ -1,11 +1,11 @@
 //! Variables that are in no clause lose their indices.
 ghost use Rattle.std.specs.Prelude.{◌≡◌, ◌<◌, IfErr, OnOk, Some, length};
 ghost use Rattle.sat_solver.specs.session.Session.{session_after};
-ghost use Rattle.sat_solver.specs.variables.Variables.{solver_of, IsUnitOf, IsUnused};
+ghost use Rattle.sat_solver.specs.variables.Variables.{solver_of, IsUnitOf, IsInNoNonUnitClause};
 ghost use Rattle.sat_solver.specs.variables.Calls.{NamesInvariant};
 ghost use Rattle.sat_solver.specs.variables.Failing.{IsFailure, EmitsOrFails};
 ghost use Rattle.sat_parts.specs.parts.Whole.{InNoClause};
-ghost use Rattle.sat_solver.specs.unit_simplify.Freed.{GivesUp, MayFree, FreesSome, IsLeft, AllLeft};
+ghost use Rattle.sat_solver.specs.unit_simplify.Freed.{GivesUp, MayFree, FreesSome, IsIndexOfAssumed, AllLeft};
 
 use crate::context::Search;
 use crate::variables::Variables;
@@ -28,7 +28,7 @@ fn give_up<S: StepWriter>(
     requires keeps { S.keeps writer.old }
     requires there { solver_of variables.old global ≡ Some index }
     requires unit { IsUnitOf variables.old (session_after (S.steps writer.old)) global }
-    requires unused { IsUnused (session_after (S.steps writer.old)) global }
+    requires unused { IsInNoNonUnitClause (session_after (S.steps writer.old)) global }
     ensures gone { OnOk result (GivesUp variables.old variables.new (S.steps writer.old) (S.steps writer.new) global) }
     ensures keeps { OnOk result (S.keeps writer.new) }
     ensures fails { IfErr result IsFailure }
@@ -53,7 +53,7 @@ fn free_unused<S: StepWriter>(
     requires there { index < length search.old.parts.assignment.current }
     requires unused { InNoClause search.old.parts index }
     ensures frees { OnOk result (FreesSome variables.old variables.new (S.steps writer.old) (S.steps writer.new) search.old search.new) }
-    ensures left { OnOk result (IsLeft variables.new (session_after (S.steps writer.old)) index) }
+    ensures left { OnOk result (IsIndexOfAssumed variables.new (session_after (S.steps writer.old)) index) }
     ensures keeps { OnOk result (S.keeps writer.new) }
     ensures fails { IfErr result IsFailure }
     ensures came { EmitsOrFails S.took S.broke result writer.old writer.new }

@@ -1,5 +1,5 @@
 //! Long clauses go that units made true, and others lose the literals that units made false.
-ghost use Rattle.sat_solver.specs.proof.ProofView.{Keeps, session_of};
+ghost use Rattle.sat_solver.specs.proof.ProofView.{HasAllowedSteps, session_of};
 ghost use Rattle.sat_solver.specs.cdcl.Going.{EmitsSteps};
 ghost use Rattle.sat_solver.specs.cdcl.Joint.{IsSearch};
 ghost use Rattle.sat_solver.specs.unit_simplify.Flat.{IsFlat, LightensAll, LightensOne};
@@ -24,7 +24,7 @@ fn delete_true<W: CountedWrite + Drop, P: ProofProcessor>(
     search: &mut Search,
     cref: ClauseRef,
 ) -> Result<(), Fault>
-    requires keeps { Keeps proof.old }
+    requires keeps { HasAllowedSteps proof.old }
     requires search { IsSearch (session_of proof.old) search.old }
     requires flat { IsFlat search.old.parts }
     requires live { HasClause search.old.parts cref }
@@ -54,7 +54,7 @@ fn simplify_clause<W: CountedWrite + Drop, P: ProofProcessor>(
     cref: ClauseRef,
     part: &mut Vec<Lit>,
 ) -> Result<(), Fault>
-    requires keeps { Keeps proof.old }
+    requires keeps { HasAllowedSteps proof.old }
     requires search { IsSearch (session_of proof.old) search.old }
     requires flat { IsFlat search.old.parts }
     requires live { HasClause search.old.parts cref }
@@ -73,7 +73,7 @@ pub fn simplify_clauses<W: CountedWrite + Drop, P: ProofProcessor>(
     search: &mut Search,
     part: &mut Vec<Lit>,
 ) -> Result<(), Fault>
-    requires keeps { Keeps proof.old }
+    requires keeps { HasAllowedSteps proof.old }
     requires search { IsSearch (session_of proof.old) search.old }
     requires flat { IsFlat search.old.parts }
     ensures { EmitsSteps W.seen result proof.old proof.new (λ _ _. LightensAll (session_of proof.new) search.old search.new) }

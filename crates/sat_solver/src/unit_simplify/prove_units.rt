@@ -1,13 +1,13 @@
 //! Units of level 0 are written, and taken off the trail.
 ghost use Rattle.std.specs.Prelude.{◌≡◌, ◌+◌, ◌<◌, ◌≤◌, length};
-ghost use Rattle.sat_solver.specs.proof.ProofView.{Keeps, session_of};
-ghost use Rattle.sat_parts.specs.parts.Round.{AreUnits, IsBased};
+ghost use Rattle.sat_solver.specs.proof.ProofView.{HasAllowedSteps, session_of};
+ghost use Rattle.sat_parts.specs.parts.Round.{UnitsAreUncaused, IsBased};
 ghost use Rattle.sat_parts.specs.parts.Whole.{state, HoldsBelow, IsDone};
 ghost use Rattle.sat_solver.specs.session.Naming.{global_of};
-ghost use Rattle.sat_solver.specs.session.Fits.{SessionMatchesParts, HaveNames};
+ghost use Rattle.sat_solver.specs.session.Fits.{SessionMatchesParts, TrueLitsHaveNames};
 ghost use Rattle.sat_solver.specs.session.Going.{IsOrderly};
 ghost use Rattle.sat_solver.specs.cdcl.Going.{EmitsSteps};
-ghost use Rattle.sat_solver.specs.unit_simplify.Left.{AllUnits, IsSettled};
+ghost use Rattle.sat_solver.specs.unit_simplify.Left.{AllUnits, TakesUnitsOff};
 
 use crate::cdcl::fault::Fault;
 use crate::proof::Proof;
@@ -24,11 +24,11 @@ pub fn write_units<W: CountedWrite + Drop, P: ProofProcessor>(
     globals: &[Var],
     units: &mut Vec<(Lit, ClauseHash)>,
 ) -> Result<(), Fault>
-    requires keeps { Keeps proof.old }
+    requires keeps { HasAllowedSteps proof.old }
     requires orderly { IsOrderly parts.now }
     requires bottom { length parts.now.trail.starts ≡ 0 }
     requires fits { SessionMatchesParts parts.now (session_of proof.old) (global_of globals.now) }
-    requires named { HaveNames parts.now.assignment.current (session_of proof.old) (global_of globals.now) }
+    requires named { TrueLitsHaveNames parts.now.assignment.current (session_of proof.old) (global_of globals.now) }
     requires names { length parts.now.assignment.current ≤ length globals.now }
     ensures { EmitsSteps W.seen result proof.old proof.new (λ _ _. AllUnits parts.now (session_of proof.new) (global_of globals.now)) }
 {
@@ -47,14 +47,14 @@ pub fn settle<W: CountedWrite + Drop, P: ProofProcessor>(
     globals: &[Var],
     units: &mut Vec<(Lit, ClauseHash)>,
 ) -> Result<(), Fault>
-    requires keeps { Keeps proof.old }
+    requires keeps { HasAllowedSteps proof.old }
     requires holds { HoldsBelow (length parts.old.trail.starts + 1) parts.old }
     requires done { IsDone parts.old }
-    requires units { 0 < length parts.old.trail.starts → AreUnits (state parts.old) × IsBased parts.old.trail }
+    requires units { 0 < length parts.old.trail.starts → UnitsAreUncaused (state parts.old) × IsBased parts.old.trail }
     requires fits { SessionMatchesParts parts.old (session_of proof.old) (global_of globals.now) }
-    requires named { HaveNames parts.old.assignment.current (session_of proof.old) (global_of globals.now) }
+    requires named { TrueLitsHaveNames parts.old.assignment.current (session_of proof.old) (global_of globals.now) }
     requires names { length parts.old.assignment.current ≤ length globals.now }
-    ensures { EmitsSteps W.seen result proof.old proof.new (λ _ _. IsSettled parts.old parts.new (session_of proof.new) (global_of globals.now)) }
+    ensures { EmitsSteps W.seen result proof.old proof.new (λ _ _. TakesUnitsOff parts.old parts.new (session_of proof.new) (global_of globals.now)) }
 {
     if parts.trail.current_level() > 0 {
         return Ok(());

@@ -2,7 +2,7 @@
 ghost use Rattle.std.specs.Prelude.{ℕ, ◌≡◌, ◌<◌, ◌≤◌, OnOk, IfOk, length};
 ghost use Rattle.sat_parts.specs.clause.Stored.{lit_of, size_of};
 ghost use Rattle.sat_parts.specs.prop.Values.{IsOpenLit};
-ghost use Rattle.sat_solver.specs.proof.ProofView.{Keeps, session_of};
+ghost use Rattle.sat_solver.specs.proof.ProofView.{HasAllowedSteps, session_of};
 ghost use Rattle.sat_parts.specs.parts.Whole.{PartsInvariant, HasClause};
 ghost use Rattle.sat_solver.specs.cdcl.Joint.{IsSearch};
 ghost use Rattle.sat_solver.specs.unit_simplify.Cutting.{Gathers, Replaces, NamesCut};
@@ -95,7 +95,7 @@ pub fn cut_clause<W: CountedWrite + Drop, P: ProofProcessor>(
     cref: ClauseRef,
     part: &mut Vec<Lit>,
 ) -> Result<(), Fault>
-    requires keeps { Keeps proof.old }
+    requires keeps { HasAllowedSteps proof.old }
     requires search { IsSearch (session_of proof.old) search.old }
     requires flat { IsFlat search.old.parts }
     requires live { HasClause search.old.parts cref }

@@ -4,7 +4,7 @@ ghost use Rattle.std.specs.List.{AllByRecursion};
 ghost use Rattle.sat_base.specs.values.Literals.{largest};
 ghost use Rattle.sat_solver.specs.variables.Search.{GivenApart};
 ghost use Rattle.sat_parts.specs.parts.Whole.{PartsInvariant};
-ghost use Rattle.sat_solver.specs.variables.Initialized.{IsVacant, AreVacant, TakesIndices, Renames, AreIndexed};
+ghost use Rattle.sat_solver.specs.variables.Initialized.{IsVacant, AreVacant, TakesIndices, Renames, GivesSearchIndices};
 
 use crate::context::Search;
 use crate::load::backtrack::back_to_bottom;
@@ -75,7 +75,7 @@ fn add_indices(search: &mut Search, globals: &[Var], given: &[Given]) -> Result<
     requires holds { PartsInvariant search.old.parts }
     requires same { length search.old.globals.items ≡ length search.old.parts.assignment.current }
     requires vacant { AreVacant search.old.parts (length globals.now) given.now }
-    ensures { OnOk result (AreIndexed globals.now given.now search.old search.new) }
+    ensures { OnOk result (GivesSearchIndices globals.now given.now search.old search.new) }
 {
     let count = count_with(search.globals.len(), given);
     grow(search.alloc, &mut search.parts, count)?;
@@ -94,7 +94,7 @@ pub fn new_indices(search: &mut Search, globals: &[Var], given: &[Given]) -> Res
     requires holds { PartsInvariant search.old.parts }
     requires same { length search.old.globals.items ≡ length search.old.parts.assignment.current }
     requires vacant { AreVacant search.old.parts (length globals.now) given.now }
-    ensures { OnOk result (AreIndexed globals.now given.now search.old search.new) }
+    ensures { OnOk result (GivesSearchIndices globals.now given.now search.old search.new) }
 {
     if given.is_empty() {
         back_to_bottom(search);

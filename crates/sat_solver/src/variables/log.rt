@@ -38,15 +38,15 @@ pub trait StepWriter: Drop {
 }
 
 impl<W: CountedWrite + Drop, P: ProofProcessor> StepWriter for Proof<W, P> {
-    ghost use Rattle.sat_solver.specs.proof.ProofView.{Keeps, steps_of};
-    ghost use Rattle.sat_solver.specs.session.Making.{Gained};
+    ghost use Rattle.sat_solver.specs.proof.ProofView.{HasAllowedSteps, steps_of};
+    ghost use Rattle.sat_solver.specs.session.Making.{ComesByCheckedSteps};
     ghost use Rattle.sat_solver.specs.variables.Taking.{NotTaken};
 
     ghost steps = { λ p. steps_of p };
 
-    ghost keeps = { λ p. Keeps p };
+    ghost keeps = { λ p. HasAllowedSteps p };
 
-    ghost took = { Gained W.seen };
+    ghost took = { ComesByCheckedSteps W.seen };
 
     ghost broke = { NotTaken W.seen };
 

@@ -9,9 +9,9 @@ ghost use Rattle.sat_solver.specs.variables.Coming.{ForgetsIdle, LeavesNoneIdle,
 ghost use Rattle.sat_checker.specs.matching.Expected.{NewName, NoName};
 ghost use Rattle.sat_solver.specs.variables.Naming.{AreFresh, KeepsOthers};
 ghost use Rattle.sat_solver.specs.variables.Calls.{NamesInvariant, NamesRefineJudge, DoesNothing};
-ghost use Rattle.sat_solver.specs.variables.Search.{IsUnseen, IsAlike, Forgets, KeepsUnits};
+ghost use Rattle.sat_solver.specs.variables.Search.{IsUnseen, IsAlike, ForgetsUnits, KeepsUnits};
 ghost use Rattle.sat_solver.specs.variables.Refusing.{IsAssumed};
-ghost use Rattle.sat_solver.specs.variables.Failing.{IsFailure, EmitsOrFails, OnlyFails};
+ghost use Rattle.sat_solver.specs.variables.Failing.{IsFailure, EmitsOrFails, FailsOnlyByFault};
 
 use crate::variables::Variables;
 use crate::variables::error::NameError;
@@ -64,7 +64,7 @@ pub fn delete_var<W: StepWriter>(
     ensures solvers { OnOk result (variables.new.solver_from_global ≡ variables.old.solver_from_global) }
     ensures globals { OnOk result (variables.new.globals ≡ variables.old.globals) }
     ensures users { OnOk result (variables.new.global_from_user ≡ variables.old.global_from_user) }
-    ensures forgets { OnOk result (Forgets (session_after (W.steps writer.old)) (session_after (W.steps writer.new)) global) }
+    ensures forgets { OnOk result (ForgetsUnits (session_after (W.steps writer.old)) (session_after (W.steps writer.new)) global) }
     ensures fails { IfErr result IsFailure }
     ensures keeps { OnOk result (W.keeps writer.new) }
     ensures came { EmitsOrFails W.took W.broke result writer.old writer.new }
@@ -120,7 +120,7 @@ pub fn hide_var<W: StepWriter>(
     ensures alike { OnOk result (IsAlike variables.old variables.new (W.steps writer.old) (W.steps writer.new)) }
     ensures comes { OnOk result (OnlyAllowedSteps MayHide (W.steps writer.old) (W.steps writer.new)) }
     ensures gone { OnOk result (LeavesNoneIdle (W.steps writer.new)) }
-    ensures room { OnlyFails result variables.old (user ∷ []) }
+    ensures room { FailsOnlyByFault result variables.old (user ∷ []) }
     ensures keeps { OnOk result (W.keeps writer.new) }
     ensures came { EmitsOrFails W.took W.broke result writer.old writer.new }
 {
@@ -202,7 +202,7 @@ pub fn set_sampling_mode<W: StepWriter>(
     ensures fresh { OnOk result (AreFresh variables.old variables.new) }
     ensures unseen { OnOk result (IsUnseen variables.old variables.new (W.steps writer.old) (W.steps writer.new)) }
     ensures comes { OnOk result (OnlyAllowedSteps (MaySet (user + 1) sample) (W.steps writer.old) (W.steps writer.new)) }
-    ensures room { OnlyFails result variables.old (user ∷ []) }
+    ensures room { FailsOnlyByFault result variables.old (user ∷ []) }
     ensures keeps { OnOk result (W.keeps writer.new) }
     ensures came { EmitsOrFails W.took W.broke result writer.old writer.new }
 {

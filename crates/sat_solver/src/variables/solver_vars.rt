@@ -1,7 +1,7 @@
 //! Indices of the search, and the steps that speak of them.
 ghost use Rattle.std.specs.Prelude.{◌≡◌, false, Some, None, IfOk, IfErr, OnOk};
 ghost use Rattle.sat_solver.specs.session.Session.{session_after};
-ghost use Rattle.sat_solver.specs.variables.Variables.{data_at, solver_of, IsUnitOf, IsUnused};
+ghost use Rattle.sat_solver.specs.variables.Variables.{data_at, solver_of, IsUnitOf, IsInNoNonUnitClause};
 ghost use Rattle.sat_solver.specs.variables.Calls.{NamesInvariant};
 ghost use Rattle.sat_solver.specs.variables.Indexing.{Indexes, Unindexes};
 ghost use Rattle.sat_solver.specs.variables.Failing.{IsFailure, EmitsOrFails};
@@ -79,7 +79,7 @@ pub fn remove_solver_var<W: StepWriter>(
     requires keeps { W.keeps writer.old }
     requires there { solver_of variables.old global ≡ Some solver }
     requires unit { IsUnitOf variables.old (session_after (W.steps writer.old)) global }
-    requires unused { IsUnused (session_after (W.steps writer.old)) global }
+    requires unused { IsInNoNonUnitClause (session_after (W.steps writer.old)) global }
     ensures gone { OnOk result (Unindexes variables.old variables.new (W.steps writer.old) (W.steps writer.new) global solver) }
     ensures fails { IfErr result IsFailure }
     ensures keeps { OnOk result (W.keeps writer.new) }

@@ -4,7 +4,7 @@ ghost use Rattle.sat_base.specs.script.Judge.{names_from};
 ghost use Rattle.sat_solver.specs.variables.Variables.{global_of, names_used};
 ghost use Rattle.sat_solver.specs.variables.Naming.{IsNextUser};
 ghost use Rattle.sat_solver.specs.variables.Calls.{NamesInvariant, NamesOne, NamesAll, Brought};
-ghost use Rattle.sat_solver.specs.variables.Failing.{EmitsOrFails, Limits, OnlyFails};
+ghost use Rattle.sat_solver.specs.variables.Failing.{EmitsOrFails, Limits, FailsOnlyByFault};
 ghost use Rattle.sat_solver.specs.variables.Room.{LeavesRoom};
 
 use crate::variables::Variables;
@@ -53,7 +53,7 @@ fn bring_new<W: StepWriter>(
     ensures names { OnOk result (NamesAll variables.old variables.new (W.steps writer.old) (W.steps writer.new)
         (names_from (user + 1 - names_used variables.old) (names_used variables.old + 1))) }
     ensures leaves { OnOk result (LeavesRoom variables.old variables.new user) }
-    ensures room { (us : List ℕ) → OnlyFails result variables.old (user ∷ us) }
+    ensures room { (us : List ℕ) → FailsOnlyByFault result variables.old (user ∷ us) }
     ensures keeps { OnOk result (W.keeps writer.new) }
     ensures came { EmitsOrFails W.took W.broke result writer.old writer.new }
 {
@@ -74,7 +74,7 @@ pub fn global_from_user<W: StepWriter>(
     requires keeps { W.keeps writer.old }
     ensures variable { IfOk result (λ v. global_of variables.new user ≡ Some v) }
     ensures brought { OnOk result (Brought variables.old variables.new (W.steps writer.old) (W.steps writer.new) user) }
-    ensures room { (us : List ℕ) → OnlyFails result variables.old (user ∷ us) }
+    ensures room { (us : List ℕ) → FailsOnlyByFault result variables.old (user ∷ us) }
     ensures keeps { OnOk result (W.keeps writer.new) }
     ensures came { EmitsOrFails W.took W.broke result writer.old writer.new }
 {

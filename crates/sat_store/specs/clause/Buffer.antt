@@ -32,13 +32,13 @@ pub record Laid (words : List ℕ) (live : List ℕ) : Type 0 where
   pub apart : (o p : ℕ) → Contains live o → Contains live p → o ≢ p → Apart words o p
 
 -- the clause at p is the same in both
-pub record Keeps (old new : List ℕ) (p : ℕ) : Type 0 where
+pub record SameClauseAt (old new : List ℕ) (p : ℕ) : Type 0 where
   pub clause : IsClause new p
   pub header : header_at new p ≡ header_at old p
   pub lits : lits_at new p ≡ lits_at old p
 
 -- a clause alone
-pub record Stored : Type 0 where
+pub record HeadedClause : Type 0 where
   pub header : Header
   pub lits : List ℕ
 
@@ -46,17 +46,17 @@ pub record Stored : Type 0 where
 pub record ChangesAt (old new : List ℕ) (o : ℕ) : Type 0 where
   pub clause : IsClause new o
   pub size : length new ≡ length old
-  pub others : (p : ℕ) → IsClause old p → Apart old o p → Keeps old new p
+  pub others : (p : ℕ) → IsClause old p → Apart old o p → SameClauseAt old new p
   pub laid : (live : List ℕ) → Contains live o → Laid old live → Laid new live
 
 -- a clause of this header, but for its length, and of these literals came to stand at c, behind all others
-pub record Adds (old new : List ℕ) (c : ℕ) (header : Header) (lits : List ℕ) : Type 0 where
+pub record AppendsClause (old new : List ℕ) (c : ℕ) (header : Header) (lits : List ℕ) : Type 0 where
   pub place : c ≡ length old
   pub clause : IsClause new c
   pub header_there : header_at new c ≡ record header { len = length lits }
   pub lits_there : lits_at new c ≡ lits
   pub size : length new ≡ length old + 3 + length lits
   pub front : take (length old) new ≡ old
-  pub others : (p : ℕ) → IsClause old p → Keeps old new p
+  pub others : (p : ℕ) → IsClause old p → SameClauseAt old new p
   pub fresh : (live : List ℕ) → Laid old live → Contains live c → ⊥
   pub laid : (live : List ℕ) → Laid old live → Laid new (live ++ c ∷ [])

@@ -5,8 +5,8 @@ use Rattle.sat_store.specs.clause.Header.{Header}
 use Rattle.sat_store.specs.clause.Buffer.{IsClause, header_at, lits_at, ChangesAt}
 
 -- the view's clause stands in its buffer
-abbrev pub IsThere : ClauseMut → Type 0
-IsThere view = IsClause view.buffer.now view.cref
+abbrev pub IsViewOfClause : ClauseMut → Type 0
+IsViewOfClause view = IsClause view.buffer.now view.cref
 
 -- the header of the view's clause
 abbrev pub header_there : ClauseMut → Header
@@ -19,7 +19,7 @@ lits_there view = lits_at view.buffer.now view.cref
 -- the view's clause came to have this header and these literals, and no other clause changed
 pub record Edits (old new : ClauseMut) (header : Header) (lits : List ℕ) : Type 0 where
   pub cref : new.cref ≡ old.cref
-  pub stands : IsThere new
+  pub stands : IsViewOfClause new
   pub has_header : header_there new ≡ header
   pub has_lits : lits_there new ≡ lits
   pub change : ChangesAt old.buffer.now new.buffer.now old.cref

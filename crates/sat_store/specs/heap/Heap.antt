@@ -114,7 +114,7 @@ abbrev pub SetsFlag : (m m' : ℕ) (positions positions' : List ℕ) (v : ℕ) (
 SetsFlag m m' positions positions' v flag = flags m' positions' ≡ set (flags m positions) v flag
 
 -- new variables up to this count, which stand behind all others and have activity 0
-pub record Adds (count : ℕ) (heap : List Entry) (positions : List ℕ) (heap' : List Entry) (positions' : List ℕ) : Type 0 where
+pub record AddsHeapVars (count : ℕ) (heap : List Entry) (positions : List ℕ) (heap' : List Entry) (positions' : List ℕ) : Type 0 where
   pub flags : (m : ℕ) → m ≤ length heap → flags m positions' ≡ flags m positions ++ replicate (count - length heap) false
   pub keys : keys heap' positions' ≡ keys heap positions ++ replicate (count - length heap) 0
 
@@ -131,5 +131,5 @@ pub record IsHeap (heap : List Entry) (positions : List ℕ) (m : ℕ) : Type 0 
   pub ordered : Ordered (rank_at heap) m 0
 
 -- a heap stays one, whatever number of its variables may be picked
-abbrev pub IsKept : (heap : List Entry) (positions : List ℕ) (heap' : List Entry) (positions' : List ℕ) → Type 0
-IsKept heap positions heap' positions' = (m : ℕ) → IsHeap heap positions m → IsHeap heap' positions' m
+abbrev pub StaysHeap : (heap : List Entry) (positions : List ℕ) (heap' : List Entry) (positions' : List ℕ) → Type 0
+StaysHeap heap positions heap' positions' = (m : ℕ) → IsHeap heap positions m → IsHeap heap' positions' m

@@ -67,9 +67,9 @@ pub record IsFirst (q : Queue) (v : ℕ) : Type 0 where
   pub first : (u : ℕ) → may_pick q u ≡ true → (activity_of q u < activity_of q v) ⊎ ((activity_of q u ≡ activity_of q v) × (v ≤ u))
 
 -- none is to be picked
-abbrev pub NoneLeft : Queue → Type 0
-NoneLeft q = (v : ℕ) → may_pick q v ≡ false
+abbrev pub NonePickable : Queue → Type 0
+NonePickable q = (v : ℕ) → may_pick q v ≡ false
 
 -- a call of next: the variable that goes before all others, which isn't to be picked from then on, or none where none is left
 abbrev pub Picks : Queue → Option ℕ → Queue → Type 0
-Picks q result after = MatchOption result (NoneLeft q × (after ≡ q)) (λ v. IsFirst q v × (after ≡ with_available v false q))
+Picks q result after = MatchOption result (NonePickable q × (after ≡ q)) (λ v. IsFirst q v × (after ≡ with_available v false q))

@@ -12,8 +12,8 @@ unfoldable pub luby : ℕ → ℕ
 luby t = luby_below t t
 
 -- the number of the term behind this one: behind term 2 ^ 64 - 1 the terms begin again
-abbrev pub behind : ℕ → ℕ
-behind t = if t == 2 ^ 64 - 1 then 0 else t
+abbrev pub wrapped_number : ℕ → ℕ
+wrapped_number t = if t == 2 ^ 64 - 1 then 0 else t
 
 first_fifteen : luby 1 ∷ luby 2 ∷ luby 3 ∷ luby 4 ∷ luby 5 ∷ luby 6 ∷ luby 7 ∷ luby 8 ∷ luby 9 ∷ luby 10 ∷ luby 11 ∷ luby 12 ∷ luby 13 ∷ luby 14 ∷ luby 15 ∷ [] ≡ 1 ∷ 1 ∷ 2 ∷ 1 ∷ 1 ∷ 2 ∷ 4 ∷ 1 ∷ 1 ∷ 2 ∷ 1 ∷ 1 ∷ 2 ∷ 4 ∷ 8 ∷ []
 unfolding luby luby_below

@@ -18,34 +18,34 @@ pub record GrowsMap (old new : List (Option ℕ)) (from into : ℕ) : Type 0 whe
   pub watermark : length new ≡ max (length old) (from + 1)
 
 -- a map and its inverse
-pub record Both : Type 0 where
+pub record MapAndInverse : Type 0 where
   pub fwd : List (Option ℕ)
   pub bwd : List (Option ℕ)
 
 -- each is the inverse of the other
-pub record AreInverse (maps : Both) : Type 0 where
+pub record AreInverse (maps : MapAndInverse) : Type 0 where
   pub back : (v u : ℕ) → target maps.fwd v ≡ Some u → target maps.bwd u ≡ Some v
   pub forth : (v u : ℕ) → target maps.bwd u ≡ Some v → target maps.fwd v ≡ Some u
 
 -- the maps in the other direction
-abbrev pub turned : Both → Both
+abbrev pub turned : MapAndInverse → MapAndInverse
 turned maps = record { fwd = maps.bwd; bwd = maps.fwd }
 
 -- one variable was mapped to another, and back
-pub record Links (old new : Both) (from into : ℕ) : Type 0 where
+pub record Links (old new : MapAndInverse) (from into : ℕ) : Type 0 where
   pub fwd : PutsTarget old.fwd new.fwd from (Some into)
   pub bwd : PutsTarget old.bwd new.bwd into (Some from)
   pub fwd_watermark : length new.fwd ≡ max (length old.fwd) (from + 1)
   pub bwd_watermark : length new.bwd ≡ max (length old.bwd) (into + 1)
 
 -- one variable was mapped to another, and is no more
-pub record Unlinks (old new : Both) (from into : ℕ) : Type 0 where
+pub record Unlinks (old new : MapAndInverse) (from into : ℕ) : Type 0 where
   pub fwd : PutsTarget old.fwd new.fwd from None
   pub bwd : PutsTarget old.bwd new.bwd into None
   pub fwd_watermark : length new.fwd ≡ length old.fwd
   pub bwd_watermark : length new.bwd ≡ length old.bwd
 
 -- the same of a map and its inverse
-pub record GrowsBoth (old new : Both) (from into : ℕ) : Type 0 where
+pub record GrowsBoth (old new : MapAndInverse) (from into : ℕ) : Type 0 where
   pub fwd : GrowsMap old.fwd new.fwd from into
   pub bwd : GrowsMap old.bwd new.bwd into from

@@ -2,7 +2,7 @@
 ghost use Rattle.std.specs.Prelude.{◌≡◌, ◌<◌, ◌≤◌, ◌^◌, ◌+◌, ◌-◌, ◌*◌, ◌↔◌, ◌++◌, [], length, slice_index, slice_set, take, IfOk, OnErr, vec_len, vec_capacity};
 ghost use Rattle.std.specs.List.{All};
 ghost use Rattle.sat_base.specs.values.Literals.{largest};
-ghost use Rattle.sat_store.specs.clause.Buffer.{IsClause, header_at, lits_at, ChangesAt, Adds, swapped};
+ghost use Rattle.sat_store.specs.clause.Buffer.{IsClause, header_at, lits_at, ChangesAt, AppendsClause, swapped};
 ghost use Rattle.sat_store.specs.clause.Full.{OnFull};
 
 use crate::clause::edit::ClauseMut;
@@ -121,7 +121,7 @@ impl ClauseAlloc {
     ) -> Result<ClauseRef, StoreError>
         requires long { 3 ≤ length lits.now }
         requires fits { length lits.now < 2 ^ 32 }
-        ensures added { IfOk result (λ cref. Adds self.old self.new cref header lits.now) }
+        ensures added { IfOk result (λ cref. AppendsClause self.old self.new cref header lits.now) }
         ensures full { (result ≡ Err StoreError.StoreFull) ↔ (2 ^ 32 - 1 < length self.old) }
         ensures kept { OnErr result (self.new ≡ self.old) }
     {
@@ -146,7 +146,7 @@ impl ClauseAlloc {
         cref: ClauseRef,
     ) -> Result<ClauseRef, StoreError>
         requires { IsClause from.now cref }
-        ensures added { IfOk result (λ c. Adds self.old self.new c (header_at from.now cref) (lits_at from.now cref)) }
+        ensures added { IfOk result (λ c. AppendsClause self.old self.new c (header_at from.now cref) (lits_at from.now cref)) }
         ensures full { (result ≡ Err StoreError.StoreFull) ↔ (2 ^ 32 - 1 < length self.old) }
         ensures room { length self.old ≤ cref → OnFull result ⊥ }
         ensures kept { OnErr result (self.new ≡ self.old) }

@@ -18,7 +18,7 @@ pub struct ClauseMut<'a> {
 }
 
 impl<'a> ClauseMut<'a> {
-    ghost use Rattle.sat_store.specs.clause.Edits.{Edits, IsThere, header_there, lits_there};
+    ghost use Rattle.sat_store.specs.clause.Edits.{Edits, IsViewOfClause, header_there, lits_there};
 
     /// The view, to set fields of the clause's header.
     pub fn header_mut(&mut self) -> &mut ClauseMut<'a>
@@ -37,21 +37,21 @@ impl<'a> ClauseMut<'a> {
     }
 
     pub fn header(&self) -> ClauseHeader
-        requires { IsThere self.now }
+        requires { IsViewOfClause self.now }
         ensures { result ≡ header_there self.now }
     {
         self.buffer.header(self.cref)
     }
 
     pub fn deleted(&self) -> bool
-        requires { IsThere self.now }
+        requires { IsViewOfClause self.now }
         ensures { result ≡ (header_there self.now).deleted }
     {
         self.header().deleted()
     }
 
     pub fn tier(&self) -> Tier
-        requires { IsThere self.now }
+        requires { IsViewOfClause self.now }
         ensures { result ≡ (header_there self.now).tier }
     {
         self.header().tier()
@@ -59,35 +59,35 @@ impl<'a> ClauseMut<'a> {
 
     /// Whether the clause is a learned one.
     pub fn redundant(&self) -> bool
-        requires { IsThere self.now }
+        requires { IsViewOfClause self.now }
         ensures { result ≡ is_learned (header_there self.now).tier }
     {
         self.header().redundant()
     }
 
     pub fn mark(&self) -> bool
-        requires { IsThere self.now }
+        requires { IsViewOfClause self.now }
         ensures { result ≡ (header_there self.now).mark }
     {
         self.header().mark()
     }
 
     pub fn active(&self) -> bool
-        requires { IsThere self.now }
+        requires { IsViewOfClause self.now }
         ensures { result ≡ (header_there self.now).active }
     {
         self.header().active()
     }
 
     pub fn glue(&self) -> usize
-        requires { IsThere self.now }
+        requires { IsViewOfClause self.now }
         ensures { result ≡ (header_there self.now).glue }
     {
         self.header().glue()
     }
 
     pub fn activity(&self) -> u32
-        requires { IsThere self.now }
+        requires { IsViewOfClause self.now }
         ensures { result ≡ (header_there self.now).activity }
     {
         self.header().activity()
@@ -95,14 +95,14 @@ impl<'a> ClauseMut<'a> {
 
     /// The number of literals.
     pub fn len(&self) -> usize
-        requires { IsThere self.now }
+        requires { IsViewOfClause self.now }
         ensures { result ≡ length (lits_there self.now) }
     {
         self.buffer.len(self.cref)
     }
 
     pub fn get(&self, at: usize) -> Lit
-        requires clause { IsThere self.now }
+        requires clause { IsViewOfClause self.now }
         requires within { at < length (lits_there self.now) }
         ensures { result ≡ slice_index (lits_there self.now) at }
     {
@@ -111,7 +111,7 @@ impl<'a> ClauseMut<'a> {
 
     /// The literals, in order.
     pub fn iter(&self) -> LitsIter<'_>
-        requires { IsThere self.now }
+        requires { IsViewOfClause self.now }
         ensures rest { result ≡ lits_there self.now }
         ensures runs { ShowsInOrder (λ (x : ℕ). x) }
     {
@@ -119,7 +119,7 @@ impl<'a> ClauseMut<'a> {
     }
 
     pub fn set(&mut self, at: usize, lit: Lit)
-        requires clause { IsThere self.old }
+        requires clause { IsViewOfClause self.old }
         requires within { at < length (lits_there self.old) }
         ensures buffer { self.new.buffer.ghost_name ≡ self.old.buffer.ghost_name }
         ensures edit { Edits self.old self.new (header_there self.old) (slice_set (lits_there self.old) at lit) }
@@ -129,7 +129,7 @@ impl<'a> ClauseMut<'a> {
 
     /// Exchanges two literals.
     pub fn swap(&mut self, i: usize, j: usize)
-        requires clause { IsThere self.old }
+        requires clause { IsViewOfClause self.old }
         requires first_within { i < length (lits_there self.old) }
         requires second_within { j < length (lits_there self.old) }
         ensures buffer { self.new.buffer.ghost_name ≡ self.old.buffer.ghost_name }
@@ -139,7 +139,7 @@ impl<'a> ClauseMut<'a> {
     }
 
     fn set_header(&mut self, header: ClauseHeader)
-        requires clause { IsThere self.old }
+        requires clause { IsViewOfClause self.old }
         requires same_len { header.len ≡ (header_there self.old).len }
         ensures buffer { self.new.buffer.ghost_name ≡ self.old.buffer.ghost_name }
         ensures edit { Edits self.old self.new header (lits_there self.old) }
@@ -149,7 +149,7 @@ impl<'a> ClauseMut<'a> {
 
     /// Drops the literals from this place on.
     pub fn set_len(&mut self, len: usize)
-        requires clause { IsThere self.old }
+        requires clause { IsViewOfClause self.old }
         requires no_longer { len ≤ length (lits_there self.old) }
         ensures buffer { self.new.buffer.ghost_name ≡ self.old.buffer.ghost_name }
         ensures edit { Edits self.old self.new (record (header_there self.old) { len = len }) (take len (lits_there self.old)) }
@@ -160,7 +160,7 @@ impl<'a> ClauseMut<'a> {
     }
 
     pub fn set_deleted(&mut self, deleted: bool)
-        requires { IsThere self.old }
+        requires { IsViewOfClause self.old }
         ensures buffer { self.new.buffer.ghost_name ≡ self.old.buffer.ghost_name }
         ensures edit { Edits self.old self.new (record (header_there self.old) { deleted = deleted }) (lits_there self.old) }
     {
@@ -170,7 +170,7 @@ impl<'a> ClauseMut<'a> {
     }
 
     pub fn set_tier(&mut self, tier: Tier)
-        requires { IsThere self.old }
+        requires { IsViewOfClause self.old }
         ensures buffer { self.new.buffer.ghost_name ≡ self.old.buffer.ghost_name }
         ensures edit { Edits self.old self.new (record (header_there self.old) { tier = tier }) (lits_there self.old) }
     {
@@ -180,7 +180,7 @@ impl<'a> ClauseMut<'a> {
     }
 
     pub fn set_mark(&mut self, mark: bool)
-        requires { IsThere self.old }
+        requires { IsViewOfClause self.old }
         ensures buffer { self.new.buffer.ghost_name ≡ self.old.buffer.ghost_name }
         ensures edit { Edits self.old self.new (record (header_there self.old) { mark = mark }) (lits_there self.old) }
     {
@@ -190,7 +190,7 @@ impl<'a> ClauseMut<'a> {
     }
 
     pub fn set_active(&mut self, active: bool)
-        requires { IsThere self.old }
+        requires { IsViewOfClause self.old }
         ensures buffer { self.new.buffer.ghost_name ≡ self.old.buffer.ghost_name }
         ensures edit { Edits self.old self.new (record (header_there self.old) { active = active }) (lits_there self.old) }
     {
@@ -201,7 +201,7 @@ impl<'a> ClauseMut<'a> {
 
     /// Keeps 63 in place of a larger glue.
     pub fn set_glue(&mut self, glue: usize)
-        requires { IsThere self.old }
+        requires { IsViewOfClause self.old }
         ensures buffer { self.new.buffer.ghost_name ≡ self.old.buffer.ghost_name }
         ensures edit { Edits self.old self.new (record (header_there self.old) { glue = min glue 63 }) (lits_there self.old) }
     {
@@ -211,7 +211,7 @@ impl<'a> ClauseMut<'a> {
     }
 
     pub fn set_activity(&mut self, activity: u32)
-        requires { IsThere self.old }
+        requires { IsViewOfClause self.old }
         ensures buffer { self.new.buffer.ghost_name ≡ self.old.buffer.ghost_name }
         ensures edit { Edits self.old self.new (record (header_there self.old) { activity = activity }) (lits_there self.old) }
     {

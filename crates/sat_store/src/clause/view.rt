@@ -21,9 +21,9 @@ pub struct Clause<'a> {
 }
 
 impl<'a> Model for Clause<'a> {
-    ghost use Rattle.sat_store.specs.clause.Buffer.{Stored, IsClause, header_at, lits_at};
+    ghost use Rattle.sat_store.specs.clause.Buffer.{HeadedClause, IsClause, header_at, lits_at};
 
-    ghost Value = { Stored };
+    ghost Value = { HeadedClause };
 
     ghost view = { λ c. record { header = header_at c.words.now 0; lits = lits_at c.words.now 0 } };
 

@@ -1,7 +1,7 @@
 //! A heap of variables with their activities, in a list of all of them: each place is parent of four.
 ghost use Rattle.std.specs.Prelude.{◌≡◌, ◌+◌, ◌*◌, ◌<◌, ◌≤◌, ◌↔◌, IsTrue, length, MatchOption, slice_set, ◌-◌, true, false, vec_capacity};
 ghost use Rattle.sat_base.specs.values.Literals.{largest};
-ghost use Rattle.sat_store.specs.heap.Heap.{var_at, HoldsVariables, Placed, IsHeap, IsKept, rank, rank_at, parent, Ordered, UpFrom, IsFirstChild, FirstAbove, NoneAbove, SettlesDown, Exchanged, Rearranged, SetsFlag, Adds, keys};
+ghost use Rattle.sat_store.specs.heap.Heap.{var_at, HoldsVariables, Placed, IsHeap, StaysHeap, rank, rank_at, parent, Ordered, UpFrom, IsFirstChild, FirstAbove, NoneAbove, SettlesDown, Exchanged, Rearranged, SetsFlag, AddsHeapVars, keys};
 
 /// A variable, and its activity.
 #[derive(Clone, Copy)]
@@ -204,8 +204,8 @@ pub(super) fn add_variables(heap: &mut Vec<Entry>, positions: &mut Vec<u32>, cou
     requires placed { Placed heap.old.items positions.old.items }
     requires more { length heap.old.items ≤ count }
     requires few { count ≤ largest }
-    ensures heap { IsKept heap.old.items positions.old.items heap.new.items positions.new.items }
-    ensures adds { Adds count heap.old.items positions.old.items heap.new.items positions.new.items }
+    ensures heap { StaysHeap heap.old.items positions.old.items heap.new.items positions.new.items }
+    ensures adds { AddsHeapVars count heap.old.items positions.old.items heap.new.items positions.new.items }
 {
     for index in heap.len()..count {
         heap.push_reserved(Entry {

@@ -2,7 +2,7 @@ use Rattle.std.proofs.Common.{ℕ, ◌+◌, ◌≡◌, ◌∙◌, ap}
 use Rattle.sat_base.specs.steps.StepReading.{reader_source, step_in}
 use Rattle.sat_checker.specs.CheckerView.{kernel_of}
 use Rattle.certify.specs.confirm.Confirming.{table_of}
-use Rattle.certify.specs.confirm.ConfirmedScript.{standing}
+use Rattle.certify.specs.confirm.ConfirmedScript.{confirm_place}
 use Rattle.certify.proofs.lemmas.confirm.Decided.{IsBegun, begins, keeps_promises, looks_added}
 use Rattle.certify.proofs.confirm.compare.Goals as goal
 
@@ -20,7 +20,7 @@ returns g c =
     let step = step_in c.new-steps.result in
     let table = table_of c.new-2.result.matching in
     let ended = c.confirm_all-ended in
-    let new = standing S A C ended.new.script ended.new.answers ended.new.steps ended.new.self in
+    let new = confirm_place S A C ended.new.script ended.new.answers ended.new.steps ended.new.self in
     let fresh : IsBegun checker step table = λ rest. c.new-2.ensures.stands rest step in
     let ends = begins ended.result x a d script answers (reader_source C c.new-steps.result) checker step (c.new-2.result.number + 1) table new
     c.new.ensures.waiting c.new.ensures.reads c.new-2.ensures.waiting c.new-2.ensures.reads c.new-steps.ensures.source (ap (λ (n : ℕ). n + 1) c.new-2.ensures.number) ended.ensures.ends in

@@ -6,7 +6,7 @@ use Rattle.std.proofs.Math.Seq.{take-append_seam}
 use Rattle.std.specs.Str.Parse.{AllDigits, digits_value}
 use Rattle.sat_base.specs.values.Literals.{largest}
 use Rattle.certify.specs.answers.AnswerForms.{IsName}
-use Rattle.certify.specs.answers.AnswerReading.{digits_so_far, NoDigit, NoName, NoLiteral, StartsNoLiteral, StartsNoName}
+use Rattle.certify.specs.answers.AnswerReading.{digits_so_far, NoNameDigit, NoName, NoLiteral, StartsNoLiteral, StartsNoName}
 use Rattle.certify.proofs.lemmas.laws.TellingTexts.{Plain, plain_digits, small, numeral}
 
 -- the last digit, behind nothing or behind the others
@@ -24,11 +24,11 @@ digit_behind [] b more d = digit_from_value b d.0
 digit_behind (c ∷ ds) b more d = digit_behind ds b more d.1
 
 -- a byte that is no digit
-pub no_digit : (name b : ℕ) → ((48 ≤ b) × (b ≤ 57) → ⊥) → NoDigit name b
+pub no_digit : (name b : ℕ) → ((48 ≤ b) × (b ≤ 57) → ⊥) → NoNameDigit name b
 no_digit name b wrong n more h e = wrong (digit_behind (digits_so_far name) b more (subst (AllDigits 10) e (digits n h.1)))
 
 -- a leading zero
-pub no_zero : (name b : ℕ) → 48 ≤ b → 10 * name + (b - 48) ≡ 0 → NoDigit name b
+pub no_zero : (name b : ℕ) → 48 ≤ b → 10 * name + (b - 48) ≡ 0 → NoNameDigit name b
 no_zero zero b low z n more h e =
     let f : 48 < get_or (decimal n) 0 0 = first_decimal n h.0 (small n h.1) in
     let g : get_or (decimal n) 0 0 ≡ b = ap (λ ds. get_or ds 0 0) e in
@@ -58,7 +58,7 @@ begun_below m n more h k e =
     omega arith
 
 -- a number past the limit
-pub past_limit : (name b : ℕ) → name ≤ largest → 48 ≤ b → b ≤ 57 → largest < 10 * name + (b - 48) → NoDigit name b
+pub past_limit : (name b : ℕ) → name ≤ largest → 48 ≤ b → b ≤ 57 → largest < 10 * name + (b - 48) → NoNameDigit name b
 past_limit name b h low high past n more k e =
     let d = next_digit name b h low high (omega arith) in
     let f : decimal n ≡ decimal (10 * name + (b - 48)) ++ more = e ∙ sym (append_assoc (digits_so_far name) (b ∷ []) more) ∙ ap (λ ds. ds ++ more) (sym d) in
@@ -102,7 +102,7 @@ at_zero b name (inl h) e = omega arith
 at_zero b name (inr h) e = absurd (h e)
 
 -- where no digit of a name comes next
-pub no_name_so : (name b : ℕ) (bytes x : List ℕ) → name ≤ largest → (b ≡ 32 → name ≡ 0) → NoDigit name b → bytes ≡ digits_so_far name ++ (b ∷ x) → NoName bytes
+pub no_name_so : (name b : ℕ) (bytes x : List ℕ) → name ≤ largest → (b ≡ 32 → name ≡ 0) → NoNameDigit name b → bytes ≡ digits_so_far name ++ (b ∷ x) → NoName bytes
 no_name_so zero b bytes x h space none e n tail k f =
     let r = first_byte (decimal n) b x tail (decimal_nonempty n (small n k.1)) (sym e ∙ f) in
     none n r.0 k r.1
@@ -131,7 +131,7 @@ no_negative bytes behind e none l tail h f = go l.positive l.name h f
 
 -- BYTES WITH WHICH NONE BEGINS
 
-pub starts_no_name : (name b : ℕ) (bytes x : List ℕ) → name ≤ largest → (b ≡ 32 → name ≡ 0) → NoDigit name b → bytes ≡ digits_so_far name ++ (b ∷ x) → StartsNoName bytes
+pub starts_no_name : (name b : ℕ) (bytes x : List ℕ) → name ≤ largest → (b ≡ 32 → name ≡ 0) → NoNameDigit name b → bytes ≡ digits_so_far name ++ (b ∷ x) → StartsNoName bytes
 starts_no_name name b bytes x h space none e more = no_name_so name b (bytes ++ more) (x ++ more) h space none (ap (λ t. t ++ more) e ∙ append_assoc (digits_so_far name) (b ∷ x) more)
 
 pub starts_no_negative : (bytes behind : List ℕ) → bytes ≡ 45 ∷ behind → StartsNoName behind → StartsNoLiteral bytes

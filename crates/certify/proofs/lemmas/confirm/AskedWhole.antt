@@ -1,7 +1,7 @@
 -- An ask, from its names to its end.
 use Rattle.std.proofs.Common.{ℕ, append_assoc, ◌+◌, ◌≤◌, ◌≡◌, inl, inr, true, List, [], ◌∷◌, ◌++◌, map, Option, Some, None, sym, ◌∙◌, ap, subst, zero, suc, arith}
 use Rattle.sat_base.specs.values.Literals.{largest}
-use Rattle.sat_base.specs.script.Script.{Literal, Command, Ask, Ending, names_of}
+use Rattle.sat_base.specs.script.Script.{Literal, Command, Ask, ScriptEnding, names_of}
 use Rattle.sat_base.specs.script.Judge.{Judge, accepted, accepted_of, refusal_of}
 use Rattle.sat_base.specs.steps.Steps.{Step}
 use Rattle.sat_checker.specs.Accepts.{ready_after}
@@ -9,7 +9,7 @@ use Rattle.sat_checker.specs.matching.Checking.{variable_of}
 use Rattle.sat_checker.specs.matching.Expected.{Outcome, Sat, Unsat, Unknown, Expected, Fails, Opens, Closes, bringing, showing, expected}
 use Rattle.certify.specs.answers.AnswerForms.{IsName, HaveNames, NamesRise, IsInForm}
 use Rattle.certify.specs.answers.Answers.{outcome_text}
-use Rattle.certify.specs.confirm.CertificatePlaces.{CanMeet, Leads, Bars}
+use Rattle.certify.specs.confirm.CertificatePlaces.{CanMeet, MeetsExactly, Bars}
 use Rattle.certify.specs.confirm.Matches.{InForm}
 use Rattle.certify.specs.judge.Names.{NamesStand}
 use Rattle.sat_base.specs.script.JudgeLaws.{NamesIncrease}
@@ -62,7 +62,7 @@ form_of (Unsat core) h = h.1
 form_of Unknown h = tt
 
 -- the answer is still to be read, behind the ask's assumptions
-pub record Answerable (j : Judge) (n : ℕ) (earlier : List Step) (ask : List Literal) (cs : List Command) (ending : Ending) (answers certificate : List ℕ) : Type 0 where
+pub record Answerable (j : Judge) (n : ℕ) (earlier : List Step) (ask : List Literal) (cs : List Command) (ending : ScriptEnding) (answers certificate : List ℕ) : Type 0 where
   pub outcome : Outcome
   pub tail : List ℕ
   pub answered : answers ≡ outcome_text outcome ++ tail
@@ -70,14 +70,14 @@ pub record Answerable (j : Judge) (n : ℕ) (earlier : List Step) (ask : List Li
   pub alone : (ready_after earlier).unsat ≡ true → outcome ≡ Unsat []
   pub left : Rest j n earlier (showing j ask outcome ++ (Closes ∷ [])) cs ending tail certificate
 
-module _ (j : Judge) (n : ℕ) (ask : List Literal) (cs : List Command) (ending : Ending) (answers : List ℕ) (e : refusal_of j (Ask ask) ≡ None) where
+module _ (j : Judge) (n : ℕ) (ask : List Literal) (cs : List Command) (ending : ScriptEnding) (answers : List ℕ) (e : refusal_of j (Ask ask) ≡ None) where
   -- its names can't be met
   pub ask_unnamed : (first : List Step) (c : List ℕ) → Bars first c (bringing (names_of ask) j) → Rest j n first [] (Ask ask ∷ cs) ending answers c → ⊥
   ask_unnamed first c b l =
       let a = ask_on j n first ask cs ending answers c e l in
       left_barred (Opens ask a.outcome ∷ (showing (accepted (Ask ask) j) ask a.outcome ++ (Closes ∷ []))) (accepted (Ask ask) j) (n + 1) cs ending a.tail b a.left
 
-  module _ (first second : List Step) (c d : List ℕ) (named : Leads first c (bringing (names_of ask) j) second d) where
+  module _ (first second : List Step) (c d : List ℕ) (named : MeetsExactly first c (bringing (names_of ask) j) second d) where
     -- its assumptions can't be met
     pub ask_unopened : ((o : Outcome) → Bars second d (Opens ask o ∷ [])) → Rest j n first [] (Ask ask ∷ cs) ending answers c → ⊥
     ask_unopened b l =
@@ -87,7 +87,7 @@ module _ (j : Judge) (n : ℕ) (ask : List Literal) (cs : List Command) (ending 
         left_barred more next (n + 1) cs ending a.tail (b a.outcome) (left_on (Opens ask a.outcome ∷ more) next (n + 1) cs ending a.tail named a.left)
 
     module _ (third : List Step) (f : List ℕ)
-        (opened : (o : Outcome) → ((ready_after third).unsat ≡ true → o ≡ Unsat []) → Leads second d (Opens ask o ∷ []) third f)
+        (opened : (o : Outcome) → ((ready_after third).unsat ≡ true → o ≡ Unsat []) → MeetsExactly second d (Opens ask o ∷ []) third f)
         (alone : (o : Outcome) (es : List Expected) → CanMeet second (Opens ask o ∷ es) d → (ready_after third).unsat ≡ true → o ≡ Unsat [])
         (listed : Listed (accepted (Ask ask) j)) (within : Within third) where
       answerable : Rest j n first [] (Ask ask ∷ cs) ending answers c → Answerable (accepted (Ask ask) j) (n + 1) third ask cs ending answers f

@@ -6,8 +6,8 @@ use Rattle.sat_checker.specs.Accepts.{Accepts, ready_after}
 use Rattle.sat_checker.specs.KernelView.{Stands, LooksAtMost}
 use Rattle.sat_checker.specs.declared.kernel.Kernel.{Kernel}
 use Rattle.sat_checker.specs.matching.Checking.{is_ordered}
-use Rattle.certify.specs.confirm.CertificatePlaces.{Stops}
-use Rattle.certify.specs.confirm.Feeding.{HasTaken, Feeds, Settles}
+use Rattle.certify.specs.confirm.CertificatePlaces.{MeetsNothing}
+use Rattle.certify.specs.confirm.Feeding.{HasTaken, FeedsStep, SettlesConflict}
 use Rattle.certify.specs.confirm.ReadSteps.{ReadsStep}
 use Rattle.certify.specs.confirm.Stepping.{ReadsOne, is_fed, is_fed_so_far}
 use Rattle.certify.specs.confirm.Streams.{Stream, seen_in, rest_in, GoesOrStops, Confirms}
@@ -42,7 +42,7 @@ module _ (names : NamedVars) (old : View) (new : View) (unsat : Bool) (told : (s
         }
 
     -- another one stands there
-    is_passed : ReadsStep (certificate_place old) (certificate_place new) → is_ordered new.step ≡ false → Feeds (Ok tt) old.checker new.step new.checker → (earlier : List Step) → CheckerIsAt old.checker names earlier → StepWasPassed names old earlier new
+    is_passed : ReadsStep (certificate_place old) (certificate_place new) → is_ordered new.step ≡ false → FeedsStep (Ok tt) old.checker new.step new.checker → (earlier : List Step) → CheckerIsAt old.checker names earlier → StepWasPassed names old earlier new
     is_passed r o a earlier s =
         let open_yet = sym (told earlier s.taken.stands) ∙ is in
         let fed = a earlier s.taken in
@@ -54,7 +54,7 @@ module _ (names : NamedVars) (old : View) (new : View) (unsat : Bool) (told : (s
 
     -- it is refused
     is_refused : (mid : View) → ReadsStep (certificate_place old) (certificate_place mid) → is_ordered mid.step ≡ false → ((steps : List Step) → HasTaken old.checker steps → Accepts (ready_after steps) mid.step → ⊥)
-        → (earlier : List Step) → CheckerIsAt old.checker names earlier → Stops earlier old.rest
+        → (earlier : List Step) → CheckerIsAt old.checker names earlier → MeetsNothing earlier old.rest
     is_refused mid r o a earlier s =
         let open_yet = sym (told earlier s.taken.stands) ∙ is in
         stops_at_step one_step earlier mid.step old.rest r.text mid.rest open_yet r.front r.spelt o (a earlier s.taken)
@@ -73,11 +73,11 @@ module _ (names : NamedVars) (a : Stream) (unsat : Bool) (told : (steps : List S
       pub steps_step : is_ordered b.step ≡ true → GoesOrStops is_fed_so_far (Ok (Some awaited.Step)) a b (StepsOnce names)
       steps_step o = (p.0, (λ total k. is_step names (seen_in total a) (seen_in total b) unsat told is (p.1 total k) o c), p.2)
 
-      pub steps_passed : (next : Kernel) → is_ordered b.step ≡ false → Feeds (Ok tt) b.checker b.step next → LooksAtMost b.checker b.step next → GoesOrStops is_fed_so_far (Ok None) a (record b { checker = next }) (StepsOnce names)
+      pub steps_passed : (next : Kernel) → is_ordered b.step ≡ false → FeedsStep (Ok tt) b.checker b.step next → LooksAtMost b.checker b.step next → GoesOrStops is_fed_so_far (Ok None) a (record b { checker = next }) (StepsOnce names)
       steps_passed next o d l = feeds_on a b next (λ x y. ReadsOne x y (Ok tt)) (λ x y. StepsOnce names x y (Ok None)) d l
-          (λ total r. is_passed names (seen_in total a) (seen_in total (record b { checker = next })) unsat told is r o (subst (λ (x : Kernel). Feeds (Ok tt) x b.step next) c d)) p
+          (λ total r. is_passed names (seen_in total a) (seen_in total (record b { checker = next })) unsat told is r o (subst (λ (x : Kernel). FeedsStep (Ok tt) x b.step next) c d)) p
 
-      pub steps_refused : (e : Stop) (next : Kernel) → is_ordered b.step ≡ false → Feeds (Err e) b.checker b.step next → LooksAtMost b.checker b.step next → Confirms {A = Option Awaited} (Err e) a (record b { checker = next }) (StepsOnce names)
+      pub steps_refused : (e : Stop) (next : Kernel) → is_ordered b.step ≡ false → FeedsStep (Err e) b.checker b.step next → LooksAtMost b.checker b.step next → Confirms {A = Option Awaited} (Err e) a (record b { checker = next }) (StepsOnce names)
       steps_refused e next o d l = feeds_stop e a b next (λ x y. ReadsOne x y (Ok tt)) (StepsOnce names) open_yet d l
           (λ total why r h. is_refused names (seen_in total a) (seen_in total (record b { checker = next })) unsat told is (seen_in total b) r o
           (subst (λ (x : Kernel). (steps : List Step) → HasTaken x steps → Accepts (ready_after steps) b.step → ⊥) c h)) p
@@ -112,7 +112,7 @@ module _ (names : NamedVars) where
   -- A UNIT CONFLICT IS SETTLED
 
   -- what waits is so of a checker that settled one, too
-  awaits_settled : (x : Awaited) (u v : View) (next : Kernel) → Settles (Ok tt) v.checker next → AwaitsNext names u v (Ok x) → AwaitsNext names u (record v { checker = next }) (Ok x)
+  awaits_settled : (x : Awaited) (u v : View) (next : Kernel) → SettlesConflict (Ok tt) v.checker next → AwaitsNext names u v (Ok x) → AwaitsNext names u (record v { checker = next }) (Ok x)
   awaits_settled awaited.Step u v next settled h = λ earlier s.
       let y = h earlier s in
       record { later = y.later; stands = record { taken = (settled y.later y.stands.taken).0; stand = y.stands.stand }; open_yet = y.open_yet; offers = y.offers }
@@ -126,9 +126,9 @@ module _ (names : NamedVars) where
   awaits_never awaited.Cut u v w why h none = λ earlier s. let y = h earlier s in absurd (none y.later y.stands.taken)
 
   module _ (a b : Stream) (x : Awaited) (p : GoesOrStops is_fed (Ok x) a b (AwaitsNext names)) (next : Kernel) where
-    pub settled_goes : Settles (Ok tt) b.checker next → GoesOrStops is_fed (Ok x) a (record b { checker = next }) (AwaitsNext names)
+    pub settled_goes : SettlesConflict (Ok tt) b.checker next → GoesOrStops is_fed (Ok x) a (record b { checker = next }) (AwaitsNext names)
     settled_goes settled = settles_on (is_fed x) a b next (λ u v. AwaitsNext names u v (Ok x)) (λ u v. AwaitsNext names u v (Ok x)) settled (λ total h. awaits_settled x (seen_in total a) (seen_in total b) next settled h) p
 
-    pub settled_stops : (e : Stop) → (AtEnd a.source → ⊥) → Settles (Err e) b.checker next → Confirms {A = Awaited} (Err e) a (record b { checker = next }) (AwaitsNext names)
+    pub settled_stops : (e : Stop) → (AtEnd a.source → ⊥) → SettlesConflict (Err e) b.checker next → Confirms {A = Awaited} (Err e) a (record b { checker = next }) (AwaitsNext names)
     settled_stops e open_yet settled = settles_stop e (is_fed x) a b next (λ u v. AwaitsNext names u v (Ok x)) (AwaitsNext names) open_yet settled
         (λ total why h none. awaits_never x (seen_in total a) (seen_in total b) (seen_in total (record b { checker = next })) why h none) p

@@ -11,19 +11,19 @@ use Rattle.sat_checker.specs.matching.Checking.{is_ordered}
 use Rattle.certify.specs.confirm.Matches.{Meets, Excused, met, cut, other, ordered}
 use Rattle.sat_checker.specs.matching.Expected.{Expected, Fits}
 use Rattle.sat_checker.specs.matching.ProofChecking.{the_checking}
-use Rattle.certify.specs.confirm.CertificatePlaces.{CanMeet, Leads, Bars, Skips, Stops, Offers}
+use Rattle.certify.specs.confirm.CertificatePlaces.{CanMeet, MeetsExactly, Bars, Skips, MeetsNothing, Offers}
 use Rattle.certify.proofs.lemmas.confirm.NextStep.{taken, skipped}
 
-pub leads_nowhere : (earlier : List Step) (certificate : List ℕ) → Leads earlier certificate [] earlier certificate
+pub leads_nowhere : (earlier : List Step) (certificate : List ℕ) → MeetsExactly earlier certificate [] earlier certificate
 leads_nowhere earlier certificate = record { on = λ es m. m; back = λ es m. m }
 
-pub leads_on : {earlier mid later : List Step} {bytes between rest : List ℕ} {p q : List Expected} → Leads earlier bytes p mid between → Leads mid between q later rest → Leads earlier bytes (p ++ q) later rest
+pub leads_on : {earlier mid later : List Step} {bytes between rest : List ℕ} {p q : List Expected} → MeetsExactly earlier bytes p mid between → MeetsExactly mid between q later rest → MeetsExactly earlier bytes (p ++ q) later rest
 leads_on {earlier} {mid} {later} {bytes} {between} {rest} {p} {q} l m = record {
   on = λ es h. m.on es (l.on (q ++ es) (subst (λ xs. CanMeet earlier xs bytes) (append_assoc p q es) h));
   back = λ es h. subst (λ xs. CanMeet earlier xs bytes) (sym (append_assoc p q es)) (l.back (q ++ es) (m.back es h));
 }
 
-pub bars_behind : {earlier mid : List Step} {bytes between : List ℕ} {p q : List Expected} → Leads earlier bytes p mid between → Bars mid between q → Bars earlier bytes (p ++ q)
+pub bars_behind : {earlier mid : List Step} {bytes between : List ℕ} {p q : List Expected} → MeetsExactly earlier bytes p mid between → Bars mid between q → Bars earlier bytes (p ++ q)
 bars_behind {earlier} {mid} {bytes} {between} {p} {q} l b = record { none = λ es h. b.none es (l.on (q ++ es) (subst (λ xs. CanMeet earlier xs bytes) (append_assoc p q es) h)) }
 
 pub bars_more : {earlier : List Step} {bytes : List ℕ} {p : List Expected} (q : List Expected) → Bars earlier bytes p → Bars earlier bytes (p ++ q)
@@ -54,7 +54,7 @@ all_before : (p es : List Expected) → AllByRecursion Excused (p ++ es) → All
 all_before [] es x = tt
 all_before (e ∷ p) es x = (x.0, all_before p es x.1)
 
-pub leads_cut : (earlier : List Step) (bytes : List ℕ) (p : List Expected) → (ready_after earlier).unsat ≡ true → AllByRecursion Excused p → Leads earlier bytes p earlier bytes
+pub leads_cut : (earlier : List Step) (bytes : List ℕ) (p : List Expected) → (ready_after earlier).unsat ≡ true → AllByRecursion Excused p → MeetsExactly earlier bytes p earlier bytes
 leads_cut earlier bytes p u x = record {
   on = λ es h. cut_met earlier es bytes u (all_behind p es (when_cut earlier (p ++ es) bytes u h));
   back = λ es h. cut_met earlier (p ++ es) bytes u (all_back p es x (when_cut earlier es bytes u h));
@@ -68,7 +68,7 @@ not_over : (earlier : List Step) (e : Expected) (es : List Expected) → (ready_
 not_over earlier e es u (cut v x) = true≢false (sym v ∙ u)
 
 -- no step's text begins the bytes
-pub no_step : (earlier : List Step) (bytes : List ℕ) → (ready_after earlier).unsat ≡ false → ((step : Step) (text rest : List ℕ) → bytes ≡ text ++ rest → SpellsStep step text → ⊥) → Stops earlier bytes
+pub no_step : (earlier : List Step) (bytes : List ℕ) → (ready_after earlier).unsat ≡ false → ((step : Step) (text rest : List ℕ) → bytes ≡ text ++ rest → SpellsStep step text → ⊥) → MeetsNothing earlier bytes
 no_step earlier bytes u none = record { none = λ e es m. go e es m.rest m.steps m.text m.begins m.spelt m.meets }
   where
     go : (e : Expected) (es : List Expected) (behind : List ℕ) (steps : List Step) (text : List ℕ) → bytes ≡ text ++ behind → SpellsSteps steps text → Meets the_checking earlier steps (e ∷ es) → ⊥
@@ -118,7 +118,7 @@ skips_step one earlier step bytes text more u b s o a = record {
 
 -- a step that the checker refuses
 pub stops_at_step : OneForm SpellsStep → (earlier : List Step) (step : Step) (bytes text more : List ℕ) → (ready_after earlier).unsat ≡ false → bytes ≡ text ++ more → SpellsStep step text → is_ordered step ≡ false
-    → (Accepts (ready_after earlier) step → ⊥) → Stops earlier bytes
+    → (Accepts (ready_after earlier) step → ⊥) → MeetsNothing earlier bytes
 stops_at_step one earlier step bytes text more u b s o a = record { none = λ e es m. let g = begun one earlier step bytes text more e es u b s m in a (skipped the_checking o g.meets).0 }
 
 pub offers_step : OneForm SpellsStep → (earlier : List Step) (step : Step) (bytes text more : List ℕ) → (ready_after earlier).unsat ≡ false → bytes ≡ text ++ more → SpellsStep step text → is_ordered step ≡ true
@@ -144,14 +144,14 @@ skips_none earlier bytes = record { on = λ e es m. m; back = λ e es m. m }
 pub skips_on : {earlier mid later : List Step} {bytes between rest : List ℕ} → Skips earlier bytes mid between → Skips mid between later rest → Skips earlier bytes later rest
 skips_on s t = record { on = λ e es m. t.on e es (s.on e es m); back = λ e es m. s.back e es (t.back e es m) }
 
-pub skips_stop : {earlier mid : List Step} {bytes between : List ℕ} → Skips earlier bytes mid between → Stops mid between → Stops earlier bytes
+pub skips_stop : {earlier mid : List Step} {bytes between : List ℕ} → Skips earlier bytes mid between → MeetsNothing mid between → MeetsNothing earlier bytes
 skips_stop s t = record { none = λ e es m. t.none e es (s.on e es m) }
 
 pub skips_offer : {earlier mid later : List Step} {bytes between rest : List ℕ} {step : Step} → Skips earlier bytes mid between → Offers mid between later step rest → Offers earlier bytes later step rest
 skips_offer s o = record { on = λ e es m. o.on e es (s.on e es m); back = λ e es f a m. s.back e es (o.back e es f a m) }
 
 -- the step that was expected
-pub leads_step : {earlier later : List Step} {bytes rest : List ℕ} {step : Step} (e : Expected) → Offers earlier bytes later step rest → Fits (the_checking.knows later) later e step → Accepts (ready_after later) step → Leads earlier bytes (e ∷ []) (step ∷ later) rest
+pub leads_step : {earlier later : List Step} {bytes rest : List ℕ} {step : Step} (e : Expected) → Offers earlier bytes later step rest → Fits (the_checking.knows later) later e step → Accepts (ready_after later) step → MeetsExactly earlier bytes (e ∷ []) (step ∷ later) rest
 leads_step e o f a = record { on = λ es m. (o.on e es m).2; back = λ es m. o.back e es f a m }
 
 pub bars_unfit : {earlier later : List Step} {bytes rest : List ℕ} {step : Step} (e : Expected) → Offers earlier bytes later step rest → (Fits (the_checking.knows later) later e step → ⊥) → Bars earlier bytes (e ∷ [])
@@ -160,11 +160,11 @@ bars_unfit e o n = record { none = λ es m. n (o.on e es m).0 }
 pub bars_refused : {earlier later : List Step} {bytes rest : List ℕ} {step : Step} (e : Expected) → Offers earlier bytes later step rest → (Accepts (ready_after later) step → ⊥) → Bars earlier bytes (e ∷ [])
 bars_refused e o n = record { none = λ es m. n (o.on e es m).1 }
 
-pub bars_stop : {earlier : List Step} {bytes : List ℕ} (e : Expected) → Stops earlier bytes → Bars earlier bytes (e ∷ [])
+pub bars_stop : {earlier : List Step} {bytes : List ℕ} (e : Expected) → MeetsNothing earlier bytes → Bars earlier bytes (e ∷ [])
 bars_stop e s = record { none = λ es m. s.none e es m }
 
 -- unsat was recorded before the step came
-pub leads_skip : {earlier later : List Step} {bytes rest : List ℕ} (e : Expected) → Skips earlier bytes later rest → (ready_after later).unsat ≡ true → Excused e → Leads earlier bytes (e ∷ []) later rest
+pub leads_skip : {earlier later : List Step} {bytes rest : List ℕ} (e : Expected) → Skips earlier bytes later rest → (ready_after later).unsat ≡ true → Excused e → MeetsExactly earlier bytes (e ∷ []) later rest
 leads_skip {earlier} {later} {bytes} {rest} e s u x =
     let l = leads_cut later rest (e ∷ []) u (x, tt) in record { on = λ es m. l.on es (s.on e es m); back = λ es m. s.back e es (l.back es m) }
 

@@ -1,7 +1,7 @@
 -- Commands, confirmed one after another.
 use Rattle.std.proofs.Common.{ℕ, ◌+◌, ◌≡◌, ◌↔◌, true, List, [], ◌∷◌, ◌++◌, Some, None, Result, Ok, Err, refl, sym, ◌∙◌, ap, subst, append_assoc}
 use Rattle.std.proofs.lemmas.List.{append_cancel_left, append-nil}
-use Rattle.sat_base.specs.script.Script.{Literal, Command, Clause, Ask, Hide, Witness, Sample, Ending, Clean, Malformed, names_of}
+use Rattle.sat_base.specs.script.Script.{Literal, Command, Clause, Ask, Hide, Witness, Sample, ScriptEnding, Clean, Malformed, names_of}
 use Rattle.sat_base.specs.script.Judge.{Judge, Sampled, Witnessed, Refusal, refusal_of, accepted, accepted_of, after_command, bring_all, with_clause}
 use Rattle.sat_base.specs.steps.Steps.{Step}
 use Rattle.sat_checker.specs.Accepts.{ready_after}
@@ -10,12 +10,12 @@ use Rattle.sat_checker.specs.matching.Expected.{Outcome, Unsat, Expected, Adds, 
 use Rattle.certify.specs.answers.AnswerForms.{IsInForm}
 use Rattle.certify.specs.answers.Answers.{outcome_text, refused_line, malformed_line, answers_from, outcomes_left, piece}
 use Rattle.certify.specs.confirm.CertificatePlaces.{CanMeet, Bars}
-use Rattle.certify.specs.confirm.Lines.{TakesLine}
+use Rattle.certify.specs.confirm.Lines.{TakesDueLine}
 use Rattle.certify.specs.confirm.Matches.{OneEach}
 use Rattle.certify.specs.confirm.Views.{View}
 use Rattle.certify.specs.judge.Names.{NamesStand}
-use Rattle.certify.specs.confirm.Awaiting.{IsMet, MeetsDue}
-use Rattle.certify.specs.confirm.Confirming.{Table, HoldsAt, ToConfirm, Confirmed, ConfirmsNext, ConfirmsLast, IsNamed, MeetsOutcome}
+use Rattle.certify.specs.confirm.Awaiting.{IsDueMet, MeetsDue}
+use Rattle.certify.specs.confirm.Confirming.{Table, HoldsAt, ToConfirm, Confirmed, ConfirmsNext, ConfirmsLast, MeetsCommandNames, MeetsOutcome}
 use Rattle.certify.specs.confirm.Naming.{MeetsAll, GoesOnTo, naming_all, taken_by}
 use Rattle.sat_base.specs.script.Language.{Kind, OfClause, OfAsk, OfHide, OfWitness, OfSample, command_of}
 use Rattle.certify.specs.declared.judge.names.Names.{Names}
@@ -80,7 +80,7 @@ all_left (Hide names) a os = refl
 all_left (Witness names) a os = refl
 all_left (Sample names) a os = refl
 
-command_pending : (c : Command) → NoAsk c → (j : Judge) (n : ℕ) (earlier : List Step) (cs : List Command) (ending : Ending) (answers certificate : List ℕ) → refusal_of j c ≡ None
+command_pending : (c : Command) → NoAsk c → (j : Judge) (n : ℕ) (earlier : List Step) (cs : List Command) (ending : ScriptEnding) (answers certificate : List ℕ) → refusal_of j c ≡ None
     → Rest j n earlier [] (c ∷ cs) ending answers certificate ↔ Rest (accepted c j) (n + 1) earlier (for_names c j ++ behind_names c) cs ending answers certificate
 command_pending c a j n earlier cs ending answers certificate e =
     let next = accepted c j in
@@ -112,8 +112,8 @@ after_accepted j c e = rw e refl
 
 -- behind a command that leaves this state
 confirmed : (before behind : List ℕ) (old new : View) (j next : Judge) (earlier later : List Step) (n : ℕ) (c : Command) (t : Table) → after_command c j ≡ next → HoldsAt t new next later
-    → ((cs : List Command) (ending : Ending) → ToConfirm j n earlier (c ∷ cs) ending before old.rest → ToConfirm next (n + 1) later cs ending behind new.rest)
-    → ((cs : List Command) (ending : Ending) → ToConfirm next (n + 1) later cs ending behind new.rest → ToConfirm j n earlier (c ∷ cs) ending before old.rest)
+    → ((cs : List Command) (ending : ScriptEnding) → ToConfirm j n earlier (c ∷ cs) ending before old.rest → ToConfirm next (n + 1) later cs ending behind new.rest)
+    → ((cs : List Command) (ending : ScriptEnding) → ToConfirm next (n + 1) later cs ending behind new.rest → ToConfirm j n earlier (c ∷ cs) ending before old.rest)
     → Confirmed before behind old new j earlier n c t
 confirmed before behind old new j next earlier later n c t e s on back = record {
   later = later;
@@ -123,7 +123,7 @@ confirmed before behind old new j next earlier later n c t e s on back = record 
 }
 
 pub command_refused : (before behind : List ℕ) (u : View) (n : ℕ) (c : Command) (t : Table) (r : Refusal) (y : Result (Unit {0}) Why) → ((j : Judge) → NamesStand t.names j → refusal_of j c ≡ Some r)
-    → TakesLine before behind (refused_line n r) y → ConfirmsNext n c t t before behind u u y
+    → TakesDueLine before behind (refused_line n r) y → ConfirmsNext n c t t before behind u u y
 command_refused before behind u n c t r (Ok x) refused line = λ j earlier s.
     let e = refused j s.judged in
     confirmed before behind u u j j earlier earlier n c t (after_refused j c r e) s
@@ -159,7 +159,7 @@ left_is OfWitness ls j names h = subst (NamesStand names) (names_are_expected.le
 left_is OfSample ls j names h = subst (NamesStand names) (names_are_expected.left_by_sample (names_of ls) j) h
 
 -- they can't be met
-unnamed_barred : (c : Command) (j : Judge) (n : ℕ) (earlier : List Step) (cs : List Command) (ending : Ending) (answers certificate : List ℕ) → refusal_of j c ≡ None → Bars earlier certificate (for_names c j) → Rest j n earlier [] (c ∷ cs) ending answers certificate → ⊥
+unnamed_barred : (c : Command) (j : Judge) (n : ℕ) (earlier : List Step) (cs : List Command) (ending : ScriptEnding) (answers certificate : List ℕ) → refusal_of j c ≡ None → Bars earlier certificate (for_names c j) → Rest j n earlier [] (c ∷ cs) ending answers certificate → ⊥
 unnamed_barred (Clause ls) j n earlier cs ending answers certificate e b h = left_barred (Adds ls ∷ []) (accepted (Clause ls) j) (n + 1) cs ending answers b ((command_pending (Clause ls) tt j n earlier cs ending answers certificate e).0 h)
 unnamed_barred (Ask ls) j n earlier cs ending answers certificate e b h = ask_unnamed j n ls cs ending answers e earlier certificate b h
 unnamed_barred (Hide names) j n earlier cs ending answers certificate e b h = left_barred [] (accepted (Hide names) j) (n + 1) cs ending answers b ((command_pending (Hide names) tt j n earlier cs ending answers certificate e).0 h)
@@ -171,11 +171,11 @@ pub command_unnamed : (kind : Kind) (ls : List Literal) (t next : Table) (before
 command_unnamed kind ls t next before behind u v n after why allowed met j earlier s cs ending h =
     unnamed_barred (command_of kind ls) j n earlier cs ending before u.rest (allowed j s.judged) (subst (Bars earlier u.rest) (naming_is kind ls j) (met j s.judged earlier s.at)) h
 
-named_on : (kind : Kind) (ls : List Literal) (t next : Table) (u v : View) → IsNamed kind ls t next u v → (j : Judge) (earlier : List Step) → HoldsAt t u j earlier → GoesOnTo (for_names (command_of kind ls) j) next.variables u earlier v
+named_on : (kind : Kind) (ls : List Literal) (t next : Table) (u v : View) → MeetsCommandNames kind ls t next u v → (j : Judge) (earlier : List Step) → HoldsAt t u j earlier → GoesOnTo (for_names (command_of kind ls) j) next.variables u earlier v
 named_on kind ls t next u v named j earlier s = subst (λ (es : List Expected). GoesOnTo es next.variables u earlier v) (naming_is kind ls j) (named.met j s.judged earlier s.at)
 
 -- a command that is no ask
-module _ (kind : Kind) (ls : List Literal) (a : NoAsk (command_of kind ls)) (t named : Table) (u v : View) (n : ℕ) (is : IsNamed kind ls t named u v) (before : List ℕ) where
+module _ (kind : Kind) (ls : List Literal) (a : NoAsk (command_of kind ls)) (t named : Table) (u v : View) (n : ℕ) (is : MeetsCommandNames kind ls t named u v) (before : List ℕ) where
   c : Command
   c = command_of kind ls
 
@@ -205,7 +205,7 @@ module _ (kind : Kind) (ls : List Literal) (a : NoAsk (command_of kind ls)) (t n
 
 -- AN ASK
 
-module _ (ls : List Literal) (t named : Table) (u v : View) (n : ℕ) (is : IsNamed OfAsk ls t named u v) where
+module _ (ls : List Literal) (t named : Table) (u v : View) (n : ℕ) (is : MeetsCommandNames OfAsk ls t named u v) where
   first : (j : Judge) (earlier : List Step) → HoldsAt t u j earlier → GoesOnTo (bringing (names_of ls) j) named.variables u earlier v
   first j earlier s = named_on OfAsk ls t named u v is j earlier s
 
@@ -215,7 +215,7 @@ module _ (ls : List Literal) (t named : Table) (u v : View) (n : ℕ) (is : IsNa
       ask_unopened j n ls cs ending before (is.allowed j s.judged) earlier f.later u.rest v.rest f.leads (λ o. bars f.later f.stands o []) h
 
   module _ (asked : Table) (w : View) (same : named.names ≡ asked.names) (opens : MeetsDue (λ o ask. Opens ls o) named.variables asked.variables v w (Ok tt)) (before : List ℕ) where
-    second : (j : Judge) (earlier : List Step) (s : HoldsAt t u j earlier) → IsMet (λ o ask. Opens ls o) asked.variables v (first j earlier s).later w
+    second : (j : Judge) (earlier : List Step) (s : HoldsAt t u j earlier) → IsDueMet (λ o ask. Opens ls o) asked.variables v (first j earlier s).later w
     second j earlier s = let f = first j earlier s in opens f.later f.stands
 
     holds : (j : Judge) (earlier : List Step) (s : HoldsAt t u j earlier) → HoldsAt asked w (accepted (Ask ls) j) (second j earlier s).later
@@ -286,10 +286,10 @@ pub over_extra : (n : ℕ) (t : Table) (before : List ℕ) (u : View) (why : Why
 over_extra n t before u why x j earlier s h = x (end_on j n earlier Clean before u.rest h).0
 
 -- behind the last line of the answers to a malformed text
-pub malformed_barred : (n : ℕ) (t : Table) (before behind : List ℕ) (u : View) (why : Why) → TakesLine before behind (malformed_line n) (Err why) → ConfirmsLast n ([], Malformed) t before u (Err why)
+pub malformed_barred : (n : ℕ) (t : Table) (before behind : List ℕ) (u : View) (why : Why) → TakesDueLine before behind (malformed_line n) (Err why) → ConfirmsLast n ([], Malformed) t before u (Err why)
 malformed_barred n t before behind u why line j earlier s h = line [] ((end_on j n earlier Malformed before u.rest h).0 ∙ sym (append-nil (malformed_line n)))
 
-pub malformed_then : (n : ℕ) (t : Table) (before behind : List ℕ) (u : View) (y : Result (Unit {0}) Why) → TakesLine before behind (malformed_line n) (Ok tt) → ConfirmsLast n ([], Clean) t behind u y → ConfirmsLast n ([], Malformed) t before u y
+pub malformed_then : (n : ℕ) (t : Table) (before behind : List ℕ) (u : View) (y : Result (Unit {0}) Why) → TakesDueLine before behind (malformed_line n) (Ok tt) → ConfirmsLast n ([], Clean) t behind u y → ConfirmsLast n ([], Malformed) t before u y
 malformed_then n t before behind u (Ok x) line k = λ j earlier s.
     let p = end_on j n earlier Clean behind u.rest (k j earlier s) in
     end_back j n earlier Malformed before u.rest (line ∙ ap (λ x. malformed_line n ++ x) p.0 ∙ append-nil (malformed_line n)) p.1

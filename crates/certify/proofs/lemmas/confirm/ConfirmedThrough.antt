@@ -18,16 +18,16 @@ use Rattle.certify.specs.confirm.Confirming.{ConfirmsLast, ConfirmsNext, HoldsAt
 use Rattle.certify.specs.confirm.Stopping.{Any, Joins, script_stop}
 use Rattle.sat_base.specs.declared.device.whole.ReadError.{ReadError}
 use Rattle.sat_base.specs.declared.device.whole.ReadError.TheVariants as errors
-use Rattle.certify.specs.confirm.ConfirmedScript.{ConfirmsScript, ConfirmsThrough, Standing}
-use Rattle.certify.specs.script.Ahead.{Failed, Kept, TakesSome}
-use Rattle.certify.specs.script.Commands.{HasWhole, Means, ReachesCommand, end_reading}
+use Rattle.certify.specs.confirm.ConfirmedScript.{ConfirmsScript, ConfirmsThrough, ConfirmPlace}
+use Rattle.certify.specs.script.Ahead.{FaultsAhead, NoReadFailedAhead, TakesSome}
+use Rattle.certify.specs.script.Commands.{HasWhole, ReaderMeans, ReachesCommand, end_reading}
 use Rattle.certify.specs.script.Streaming.{Arrives, NextComes}
 use Rattle.certify.proofs.lemmas.confirm.Streams.{all_over, confirms_none, nothing_behind, says_stop, taken_front}
 use Rattle.certify.proofs.lemmas.confirm.Joining.{covers_given, covers_took, failed_then, joins_stop, joins_then, kept_then, took_halted, took_kept, took_none, took_open, took_then}
 
 -- BEFORE THE FIRST COMMAND
 
-pub through_none : (text : List ℕ → Reading) (s : Standing) (reader : ScriptReader) → Means reader text → ConfirmsThrough text s s reader
+pub through_none : (text : List ℕ → Reading) (s : ConfirmPlace) (reader : ScriptReader) → ReaderMeans reader text → ConfirmsThrough text s s reader
 through_none text s reader m = record {
   left = text;
   means = m;
@@ -71,13 +71,13 @@ through_nothing : (n m : ℕ) (script left : Reading) (t between : Table) (p q z
 through_nothing n m script left t between p q z u v w y f g j earlier s k = let h = f j earlier s in g h.judge h.later h.stands (h.on k)
 
 -- what a call leaves that went on
-pub quits : (a b : Source) (s t : Stream) (P : List ℕ → List ℕ → View → View → Result (Unit {0}) Why → Type 0) → (AtEnd s.source → ⊥) → Joins ⊥ true (Ok tt) a b s t P → Kept a b × Confirms {A = Unit {0}} (Err stop.OutOfMemory) s t Any
+pub quits : (a b : Source) (s t : Stream) (P : List ℕ → List ℕ → View → View → Result (Unit {0}) Why → Type 0) → (AtEnd s.source → ⊥) → Joins ⊥ true (Ok tt) a b s t P → NoReadFailedAhead a b × Confirms {A = Unit {0}} (Err stop.OutOfMemory) s t Any
 quits a b s t P open_yet h =
     let total = b.reader.given in
     (took_kept true a b h.0, says_stop {B = ℕ} {C = Unit {0}} true stop.OutOfMemory s t (λ u v. P (rest_in total a) (rest_in total b) u v (Ok tt)) (λ y. ⊥) Any open_yet (λ more why f n. tt) (h.1 total (covers_given b)) tt)
 
 -- by what is said of the whole script
-ends_by : (M : Type 0) (text : List ℕ → Reading) (r : Result (Unit {0}) Stop) (old new : Standing) → TakesSome false old.script new.script → (M → (total : List ℕ) → Covers new.script total → 2 ^ 64 < old.number + numbers (text (rest_in total old.script)))
+ends_by : (M : Type 0) (text : List ℕ → Reading) (r : Result (Unit {0}) Stop) (old new : ConfirmPlace) → TakesSome false old.script new.script → (M → (total : List ℕ) → Covers new.script total → 2 ^ 64 < old.number + numbers (text (rest_in total old.script)))
     → ((total : List ℕ) → Covers new.script total → Joins M false r old.answers new.answers old.certificate new.certificate (λ before behind u v. ConfirmsLast old.number (text (rest_in total old.script)) old.table before u)) → ConfirmsScript text r old new
 ends_by M text (Ok x) old new took many joins = (took, joins)
 ends_by M text (Err (stop.No why)) old new took many joins = (took, joins)
@@ -90,15 +90,15 @@ ends_by M text (Err stop.TooMany) old new took many joins =
     let j = joins new.script.reader.given (covers_given new.script) in
     (took, (λ total k. many (joins total k).2 total k), (j.0, j.1))
 
-module _ (text : List ℕ → Reading) (old mid : Standing) (reader after_reader : ScriptReader) (through : ConfirmsThrough text old mid reader) (script_open : AtEnd old.script → ⊥) (answers_open : AtEnd old.answers → ⊥) (open_yet : AtEnd old.certificate.source → ⊥) where
+module _ (text : List ℕ → Reading) (old mid : ConfirmPlace) (reader after_reader : ScriptReader) (through : ConfirmsThrough text old mid reader) (script_open : AtEnd old.script → ⊥) (answers_open : AtEnd old.answers → ⊥) (open_yet : AtEnd old.certificate.source → ⊥) where
   mid_open : AtEnd mid.script → ⊥
   mid_open = took_open old.script mid.script script_open through.took
 
   -- a text can't be read any more
-  pub unread_script : (new : Source) → Failed mid.script new → ConfirmsScript text (Err stop.ScriptRead) old (record mid { script = new })
+  pub unread_script : (new : Source) → FaultsAhead mid.script new → ConfirmsScript text (Err stop.ScriptRead) old (record mid { script = new })
   unread_script new f = (failed_then old.script mid.script new through.took f, quits old.answers mid.answers old.certificate mid.certificate (Through old.number (text (rest_in mid.script.reader.given old.script)) old.table mid.number (through.left (rest_in mid.script.reader.given mid.script)) mid.table) open_yet (through.joins mid.script.reader.given (covers_given mid.script)))
 
-  pub short_script : (new : Source) → Kept mid.script new → ConfirmsScript text (Err stop.OutOfMemory) old (record mid { script = new })
+  pub short_script : (new : Source) → NoReadFailedAhead mid.script new → ConfirmsScript text (Err stop.OutOfMemory) old (record mid { script = new })
   short_script new f = (kept_then old.script mid.script new (took_kept true old.script mid.script through.took) f, quits old.answers mid.answers old.certificate mid.certificate (Through old.number (text (rest_in mid.script.reader.given old.script)) old.table mid.number (through.left (rest_in mid.script.reader.given mid.script)) mid.table) open_yet (through.joins mid.script.reader.given (covers_given mid.script)))
 
   pub unread : (e : ReadError) (new : Source) → NextComes (Err e) mid.script new reader after_reader → ConfirmsScript text (Err (script_stop e)) old (record mid { script = new })
@@ -106,7 +106,7 @@ module _ (text : List ℕ → Reading) (old mid : Standing) (reader after_reader
   unread errors.OutOfMemory new f = short_script new (took_kept true mid.script new f)
 
   -- the end
-  module _ (new : Standing) (M : Type 0) (took : TakesSome false mid.script new.script) (left : Reading) (is : (total : List ℕ) → Covers new.script total → through.left (rest_in total mid.script) ≡ left) where
+  module _ (new : ConfirmPlace) (M : Type 0) (took : TakesSome false mid.script new.script) (left : Reading) (is : (total : List ℕ) → Covers new.script total → through.left (rest_in total mid.script) ≡ left) where
     whole : (r : Result (Unit {0}) Stop) → (M → 2 ^ 64 < mid.number + numbers left)
         → Joins M false r mid.answers new.answers mid.certificate new.certificate (λ before behind u v. ConfirmsLast mid.number left mid.table before u) → ConfirmsScript text r old new
     whole r many joins = ends_by M text r old new (took_then false old.script mid.script new.script through.took took)
@@ -123,11 +123,11 @@ module _ (text : List ℕ → Reading) (old mid : Standing) (reader after_reader
         answers_open open_yet (λ p q z u v w y f g. through_last old.number mid.number (text (rest_in total old.script)) left old.table mid.table p q z u v w y f g)
         (subst (λ (x : Reading). Joins M true (Ok tt) old.answers mid.answers old.certificate mid.certificate (Through old.number (text (rest_in total old.script)) old.table mid.number x mid.table)) (is total k) (through.joins total before)) joins)
 
-  pub ends_so : (new : Standing) (e : ScriptEnd) (r : Result (Unit {0}) Stop) → Arrives (next.End e) mid.script new.script reader after_reader
+  pub ends_so : (new : ConfirmPlace) (e : ScriptEnd) (r : Result (Unit {0}) Stop) → Arrives (next.End e) mid.script new.script reader after_reader
       → Joins (2 ^ 64 < mid.number + numbers (end_reading e)) false r mid.answers new.answers mid.certificate new.certificate (λ before behind u v. ConfirmsLast mid.number (end_reading e) mid.table before u) → ConfirmsScript text r old new
   ends_so new e r a joins = whole new (2 ^ 64 < mid.number + numbers (end_reading e)) a.0 (end_reading e) (a.1 true through.left through.means) r (λ x. x) joins
 
-  pub ends_last : (new : Standing) (e : ScriptEnd) (r : Result (Unit {0}) Stop) → Arrives (next.Last e) mid.script new.script reader after_reader
+  pub ends_last : (new : ConfirmPlace) (e : ScriptEnd) (r : Result (Unit {0}) Stop) → Arrives (next.Last e) mid.script new.script reader after_reader
       → ((c : Command) → HasWhole after_reader c → Joins (2 ^ 64 < mid.number + numbers (onto_commands (c ∷ []) (end_reading e))) false r mid.answers new.answers mid.certificate new.certificate (λ before behind u v. ConfirmsLast mid.number (onto_commands (c ∷ []) (end_reading e)) mid.table before u)) → ConfirmsScript text r old new
   ends_last new e r a joins =
       let k = a.2 true through.left through.means in
@@ -135,7 +135,7 @@ module _ (text : List ℕ → Reading) (old mid : Standing) (reader after_reader
       (λ total c. ap through.left (nothing_behind mid.script new.script a.0 total a.1 c) ∙ k.2) r (λ x. x) (joins k.0 k.1)
 
   -- a command
-  module _ (new : Standing) (a : Arrives next.Command mid.script new.script reader after_reader) where
+  module _ (new : ConfirmPlace) (a : Arrives next.Command mid.script new.script reader after_reader) where
     reaches : ReachesCommand true through.left a.0 after_reader
     reaches = a.3 true through.left through.means
 

@@ -13,13 +13,13 @@ use Rattle.sat_checker.specs.matching.ProofChecking.{the_checking}
 use Rattle.sat_checker.proofs.lemmas.matching.CheckerIsSound.{the_checking_sound}
 use Rattle.certify.specs.confirm.Matches.{Matches}
 use Rattle.certify.specs.confirm.Streams.{Confirms, Covers, rest_in, seen_in}
-use Rattle.certify.specs.confirm.VerdictPromises.{AreRightAnswers, Exact, Given, IsSound, Promised, TakesLooks, numbers}
+use Rattle.certify.specs.confirm.VerdictPromises.{AreRightAnswers, Exact, GaveTextWith, IsSoundVerdict, Promised, TakesLooks, numbers}
 use Rattle.certify.specs.confirm.Views.{View}
-use Rattle.certify.specs.confirm.Walks.{LooksReach, Tries}
+use Rattle.certify.specs.confirm.Walks.{LooksReach, FeedsSomeSteps}
 use Rattle.certify.specs.confirm.Confirming.{ConfirmsLast, HoldsAt, Table}
 use Rattle.certify.specs.confirm.Stopping.{Any}
-use Rattle.certify.specs.confirm.ConfirmedScript.{ConfirmsScript, Standing, said_by}
-use Rattle.certify.specs.script.Ahead.{Failed, Kept, TakesSome, waiting}
+use Rattle.certify.specs.confirm.ConfirmedScript.{ConfirmsScript, ConfirmPlace, said_by}
+use Rattle.certify.specs.script.Ahead.{FaultsAhead, NoReadFailedAhead, TakesSome, waiting}
 use Rattle.sat_base.specs.script.Language.{reading}
 use Rattle.certify.specs.declared.script.ahead.Ahead.{Ahead}
 use Rattle.certify.specs.declared.confirm.stop.Stop.{Stop}
@@ -41,12 +41,12 @@ use Rattle.certify.proofs.lemmas.script.FewCommands.{few_read}
 -- RIGHT ANSWERS
 
 -- a yes that is exact is sound
-pub sound_as : {E : Type 0} (r : Result Verdict E) (script answers certificate : Reader × Reader) → IfOk r (Exact script answers certificate) → IfOk r (IsSound script answers)
+pub sound_as : {E : Type 0} (r : Result Verdict E) (script answers certificate : Reader × Reader) → IfOk r (Exact script answers certificate) → IfOk r (IsSoundVerdict script answers)
 sound_as (Err e) script answers certificate h = tt
 sound_as (Ok v) script answers certificate h = λ said.
-    enough_as script.0 script.1 (λ s. Given answers (λ a. Given certificate (λ c. (v ≡ Yes) ↔ Matches the_checking reading s a c))) (λ s. Given answers (AreRightAnswers s))
+    enough_as script.0 script.1 (λ s. GaveTextWith answers (λ a. GaveTextWith certificate (λ c. (v ≡ Yes) ↔ Matches the_checking reading s a c))) (λ s. GaveTextWith answers (AreRightAnswers s))
     (λ s g.
-    enough_as answers.0 answers.1 (λ a. Given certificate (λ c. (v ≡ Yes) ↔ Matches the_checking reading s a c)) (AreRightAnswers s)
+    enough_as answers.0 answers.1 (λ a. GaveTextWith certificate (λ c. (v ≡ Yes) ↔ Matches the_checking reading s a c)) (AreRightAnswers s)
     (λ a k.
     let m : Matches the_checking reading s a (k.text ++ []) = (k.holds [] (λ called ended. refl)).0 said in
     record { outcomes = m.outcomes; answered = m.answered; right = matching_right the_checking the_checking_sound (reading s).0 m.outcomes m.steps m.match })
@@ -56,16 +56,16 @@ sound_as (Ok v) script answers certificate h = λ said.
 
 -- what an answer says of three readers, of which the last reads are counted: a read of one text failed at most, that of its fault
 abbrev pub Tells : Reader → Reader → Reader → Source → Source → Source → Result Verdict ConfirmFault → Type 0
-Tells x a c y b d (Ok v) = Kept (unread x) y × Kept (unread a) b × Kept (unread c) d × Exact (x, y.reader) (a, b.reader) (c, d.reader) v
-Tells x a c y b d (Err fault.ScriptRead) = Failed (unread x) y × Kept (unread a) b × Kept (unread c) d
-Tells x a c y b d (Err fault.AnswersRead) = Kept (unread x) y × Failed (unread a) b × Kept (unread c) d
-Tells x a c y b d (Err fault.CertificateRead) = Kept (unread x) y × Kept (unread a) b × Failed (unread c) d
-Tells x a c y b d (Err fault.OutOfMemory) = Kept (unread x) y × Kept (unread a) b × Kept (unread c) d
+Tells x a c y b d (Ok v) = NoReadFailedAhead (unread x) y × NoReadFailedAhead (unread a) b × NoReadFailedAhead (unread c) d × Exact (x, y.reader) (a, b.reader) (c, d.reader) v
+Tells x a c y b d (Err fault.ScriptRead) = FaultsAhead (unread x) y × NoReadFailedAhead (unread a) b × NoReadFailedAhead (unread c) d
+Tells x a c y b d (Err fault.AnswersRead) = NoReadFailedAhead (unread x) y × FaultsAhead (unread a) b × NoReadFailedAhead (unread c) d
+Tells x a c y b d (Err fault.CertificateRead) = NoReadFailedAhead (unread x) y × NoReadFailedAhead (unread a) b × FaultsAhead (unread c) d
+Tells x a c y b d (Err fault.OutOfMemory) = NoReadFailedAhead (unread x) y × NoReadFailedAhead (unread a) b × NoReadFailedAhead (unread c) d
 Tells x a c y b d (Err fault.CounterEnd) = ⊥
 
 -- no read failed, or one did and this is so
 abbrev Leaves : Type 0 → Reader → Source → Type 0
-Leaves P x y = Kept (unread x) y ⊎ (P × Failed (unread x) y)
+Leaves P x y = NoReadFailedAhead (unread x) y ⊎ (P × FaultsAhead (unread x) y)
 
 kept_or : (P : Type 0) (x : Reader) (y : Source) → Leaves P x y → P ⊎ (y.reader.failures ≡ x.failures)
 kept_or P x y h = elim h [ inl k ↦ inr k.0 | inr f ↦ inl f.0 ]
@@ -129,7 +129,7 @@ promised x a c y b d r m n k h =
 -- FROM THE BEGINNING
 
 -- before the first command
-abbrev pub begun : Reader → Reader → Reader → Kernel → Step → Table → Standing
+abbrev pub begun : Reader → Reader → Reader → Kernel → Step → Table → ConfirmPlace
 begun x a c checker step table = record {
   script = unread x;
   answers = unread a;
@@ -152,8 +152,8 @@ unread_open r h = none h.0
 given : (r : Reader) (t : Source) (P : List ℕ → Type 0) → TakesSome false (unread r) t → ((total : List ℕ) → Covers t total → P (rest_in total (unread r))) → GaveEnough r t.reader P
 given r t P h f = gave_enough r t h.0.0 P h.0.1 h.1 f
 
-module _ (x a c : Reader) (checker : Kernel) (step : Step) (table : Table) (fresh : IsBegun checker step table) (new : Standing) where
-  abbrev old : Standing
+module _ (x a c : Reader) (checker : Kernel) (step : Step) (table : Table) (fresh : IsBegun checker step table) (new : ConfirmPlace) where
+  abbrev old : ConfirmPlace
   old = begun x a c checker step table
 
   abbrev last : List ℕ
@@ -170,11 +170,11 @@ module _ (x a c : Reader) (checker : Kernel) (step : Step) (table : Table) (fres
 
   yes_exact : ConfirmsScript reading (Ok tt) old new → Sure Yes
   yes_exact e =
-      given x new.script (λ s. Given (a, new.answers.reader) (λ t. Given (c, new.certificate.source.reader) (λ u. (Yes ≡ Yes) ↔ Matches the_checking reading s t u))) e.0
+      given x new.script (λ s. GaveTextWith (a, new.answers.reader) (λ t. GaveTextWith (c, new.certificate.source.reader) (λ u. (Yes ≡ Yes) ↔ Matches the_checking reading s t u))) e.0
       (λ total k.
       let s = rest_in total (unread x) in
       let j = e.1 total k in
-      given a new.answers (λ t. Given (c, new.certificate.source.reader) (λ u. (Yes ≡ Yes) ↔ Matches the_checking reading s t u)) j.0
+      given a new.answers (λ t. GaveTextWith (c, new.certificate.source.reader) (λ u. (Yes ≡ Yes) ↔ Matches the_checking reading s t u)) j.0
       (λ all l.
       let t = rest_in all (unread a) in
       let p = j.1 all l in
@@ -184,11 +184,11 @@ module _ (x a c : Reader) (checker : Kernel) (step : Step) (table : Table) (fres
 
   no_exact : (ask : ℕ) (why : Why) → ConfirmsScript reading (Err (stop.No why)) old new → Sure (No ask why)
   no_exact ask why e =
-      given x new.script (λ s. Given (a, new.answers.reader) (λ t. Given (c, new.certificate.source.reader) (λ u. (No ask why ≡ Yes) ↔ Matches the_checking reading s t u))) e.0
+      given x new.script (λ s. GaveTextWith (a, new.answers.reader) (λ t. GaveTextWith (c, new.certificate.source.reader) (λ u. (No ask why ≡ Yes) ↔ Matches the_checking reading s t u))) e.0
       (λ total k.
       let s = rest_in total (unread x) in
       let j = e.1 total k in
-      given a new.answers (λ t. Given (c, new.certificate.source.reader) (λ u. (No ask why ≡ Yes) ↔ Matches the_checking reading s t u)) j.0
+      given a new.answers (λ t. GaveTextWith (c, new.certificate.source.reader) (λ u. (No ask why ≡ Yes) ↔ Matches the_checking reading s t u)) j.0
       (λ all l.
       let t = rest_in all (unread a) in
       let p = j.1 all l in
@@ -240,7 +240,7 @@ module _ (x a c : Reader) (checker : Kernel) (step : Step) (table : Table) (fres
   certified (Err stop.TooMany) e = (Err stop.OutOfMemory, e.2.1)
 
   module _ (none : looks_of checker ≡ 0) where
-    reached_by : (bytes : List ℕ) → Tries (record { checker = checker; step = step; rest = bytes }) (record { checker = new.certificate.checker; step = new.certificate.step; rest = bytes }) → LooksReach [] bytes 0 (looks_of new.certificate.checker)
+    reached_by : (bytes : List ℕ) → FeedsSomeSteps (record { checker = checker; step = step; rest = bytes }) (record { checker = new.certificate.checker; step = new.certificate.step; rest = bytes }) → LooksReach [] bytes 0 (looks_of new.certificate.checker)
     reached_by bytes h = subst (λ k. LooksReach [] bytes k (looks_of new.certificate.checker)) none (h [] (fresh bytes).at.taken)
 
     took : (q : Result (Unit {0}) Stop) → Confirms q old.certificate new.certificate Any → TakesLooks c new.certificate.source.reader 0 (looks_of new.certificate.checker)
@@ -266,13 +266,13 @@ module _ (x a c : Reader) (checker : Kernel) (step : Step) (table : Table) (fres
         (subst (λ from. LooksReach [] (t.text ++ rest) from (looks_of new.certificate.checker + before)) zero (looks_from before [] (t.text ++ rest) 0 (looks_of new.certificate.checker) (t.reached rest k))))
 
 -- a confirmation of what three readers give keeps its promises
-pub keeps_promises : (x a c : Reader) (checker : Kernel) (step : Step) (table : Table) (new : Standing) → IsBegun checker step table → (r : Result (Unit {0}) Stop) (asks : ℕ) → new.script.reads ≤ most_reads → new.answers.reads ≤ most_reads → new.certificate.source.reads ≤ most_reads
+pub keeps_promises : (x a c : Reader) (checker : Kernel) (step : Step) (table : Table) (new : ConfirmPlace) → IsBegun checker step table → (r : Result (Unit {0}) Stop) (asks : ℕ) → new.script.reads ≤ most_reads → new.answers.reads ≤ most_reads → new.certificate.source.reads ≤ most_reads
     → ConfirmsScript reading r (begun x a c checker step table) new → Promised (said_by r asks) (x, new.script.reader) (a, new.answers.reader) (c, new.certificate.source.reader)
 keeps_promises x a c checker step table new fresh r asks m n k h =
     promised x a c new.script new.answers new.certificate.source (said_by r asks) m n k (tells x a c checker step table fresh new r asks m k h)
 
 -- by how the three are read as it begins
-pub begins : (r : Result (Unit {0}) Stop) (x a c : Reader) (script answers : Ahead) (certificate : Source) (checker : Kernel) (step : Step) (number : ℕ) (table : Table) (new : Standing)
+pub begins : (r : Result (Unit {0}) Stop) (x a c : Reader) (script answers : Ahead) (certificate : Source) (checker : Kernel) (step : Step) (number : ℕ) (table : Table) (new : ConfirmPlace)
     → waiting script ≡ [] → script.reads ≡ 0 → waiting answers ≡ [] → answers.reads ≡ 0 → certificate ≡ unread c → number ≡ 1
     → ConfirmsScript reading r (record {
       script = record { reader = x; waiting = waiting script; reads = script.reads; names = [] };
@@ -283,7 +283,7 @@ pub begins : (r : Result (Unit {0}) Stop) (x a c : Reader) (script answers : Ahe
     }) new
     → ConfirmsScript reading r (begun x a c checker step table) new
 begins r x a c script answers certificate checker step number table new e f g h i n ends =
-    let at : List ℕ → ℕ → List ℕ → ℕ → Source → ℕ → Standing = λ w p v q s m. record {
+    let at : List ℕ → ℕ → List ℕ → ℕ → Source → ℕ → ConfirmPlace = λ w p v q s m. record {
       script = record { reader = x; waiting = w; reads = p; names = [] };
       answers = record { reader = a; waiting = v; reads = q; names = [] };
       certificate = record { source = s; checker = checker; step = step };

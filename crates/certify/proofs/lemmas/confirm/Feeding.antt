@@ -6,12 +6,12 @@ use Rattle.sat_checker.specs.KernelView.{ChecksStep, ChecksDelayed}
 use Rattle.sat_checker.specs.declared.kernel.Kernel.{Kernel}
 use Rattle.sat_checker.specs.declared.error.CheckerError.{CheckerError}
 use Rattle.sat_checker.specs.declared.error.CheckerError.TheVariants as errors
-use Rattle.certify.specs.confirm.Feeding.{stop_by, Feeds, Settles}
+use Rattle.certify.specs.confirm.Feeding.{stop_by, FeedsStep, SettlesConflict}
 
-pub fed : (old : Kernel) (step : Step) (new : Kernel) → ChecksStep (Ok tt) old step new → Feeds (Ok tt) old step new
+pub fed : (old : Kernel) (step : Step) (new : Kernel) → ChecksStep (Ok tt) old step new → FeedsStep (Ok tt) old step new
 fed old step new h = λ steps t. let x = h steps t.stands in (x.1.accepts, record { stands = x.1.stands; goes_on = x.1.goes_on })
 
-pub unfed : (e : CheckerError) (old : Kernel) (step : Step) (new : Kernel) → ChecksStep (Err e) old step new → Feeds (Err (stop_by e)) old step new
+pub unfed : (e : CheckerError) (old : Kernel) (step : Step) (new : Kernel) → ChecksStep (Err e) old step new → FeedsStep (Err (stop_by e)) old step new
 unfed errors.CheckFailed old step new h = λ steps t. (h steps t.stands).1
 unfed errors.OutOfMemory old step new h = tt
 unfed errors.CounterEnd old step new h = λ steps t. (h steps t.stands).1
@@ -23,10 +23,10 @@ unfed (errors.ProofProcessorError cause) old step new h = tt
 
 -- A UNIT CONFLICT THAT WAS PENDING
 
-pub settles : (old new : Kernel) → ChecksDelayed (Ok tt) old new → Settles (Ok tt) old new
+pub settles : (old new : Kernel) → ChecksDelayed (Ok tt) old new → SettlesConflict (Ok tt) old new
 settles old new h = λ steps t. let x = h steps t.stands in (record { stands = x.2; goes_on = x.3 }, x.1)
 
-pub unsettled : (e : CheckerError) (old new : Kernel) → ChecksDelayed (Err e) old new → Settles (Err (stop_by e)) old new
+pub unsettled : (e : CheckerError) (old new : Kernel) → ChecksDelayed (Err e) old new → SettlesConflict (Err (stop_by e)) old new
 unsettled errors.CounterEnd old new h = λ steps t. let x = h steps t.stands in (x.2, x.1)
 unsettled errors.HasFailed old new h = λ steps t. true≢false (sym (h steps t.stands).0 ∙ t.goes_on)
 unsettled errors.CheckFailed old new h = λ steps t. h steps t.stands

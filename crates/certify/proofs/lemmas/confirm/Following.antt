@@ -11,7 +11,7 @@ use Rattle.sat_checker.specs.matching.Checking.{Accepted, is_ordered, is_variabl
 use Rattle.sat_checker.specs.matching.Expected.{Outcome, Expected, NewName, NoName, Adds, Opens, Shows, Fails, Closes, Finish, Fits, new_name, no_name, adds, opens, shows, fails, closes, finish}
 use Rattle.sat_checker.specs.matching.ProofChecking.{the_checking}
 use Rattle.sat_checker.proofs.lemmas.matching.CheckerIsSound.{the_checking_sound}
-use Rattle.certify.specs.confirm.Variables.{IsPut}
+use Rattle.certify.specs.confirm.Variables.{PutsVariable}
 use Rattle.certify.specs.confirm.Following.{StandFor, NamesFollow, OthersPass}
 use Rattle.certify.specs.confirm.Comparing.{Due}
 use Rattle.certify.specs.declared.confirm.variables.NamedVars.{NamedVars}
@@ -62,7 +62,7 @@ others variables earlier step s o a = stays variables earlier step s a (unnamed 
 
 -- A NEW NAME
 module _ (old new : NamedVars) (earlier : List Step) (s : StandFor old earlier) where
-  names_a : (v index : ℕ) → the_checking.knows earlier v ≡ false → Accepts (ready_after earlier) (UserVarName v (Some index)) → index + 1 ≤ largest → IsPut old new (index + 1) (Some v) → StandFor new (UserVarName v (Some index) ∷ earlier)
+  names_a : (v index : ℕ) → the_checking.knows earlier v ≡ false → Accepts (ready_after earlier) (UserVarName v (Some index)) → index + 1 ≤ largest → PutsVariable old new (index + 1) (Some v) → StandFor new (UserVarName v (Some index) ∷ earlier)
   names_a v index unknown a low p = record {
     accepted = (s.accepted, a);
     named = fun_ext (λ m. ap (λ (o : Option ℕ). cond (eqb (index + 1) m) (Some v) o) (ap (λ (f : ℕ → Option ℕ). f m) s.named) ∙ sym (p.each m));
@@ -89,7 +89,7 @@ module _ (old new : NamedVars) (earlier : List Step) (s : StandFor old earlier) 
       is_few m w false e x = s.few m w x
 
   -- A NAME TAKEN
-  takes_a : (name v : ℕ) → variable_of earlier name ≡ Some v → Accepts (ready_after earlier) (UserVarName v None) → IsPut old new name None → StandFor new (UserVarName v None ∷ earlier)
+  takes_a : (name v : ℕ) → variable_of earlier name ≡ Some v → Accepts (ready_after earlier) (UserVarName v None) → PutsVariable old new name None → StandFor new (UserVarName v None ∷ earlier)
   takes_a name v at a p = record {
     accepted = (s.accepted, a);
     named = fun_ext (λ m. taken m (eqb name m) refl (variable_of earlier m) refl ∙ ap (λ (o : Option ℕ). cond (eqb name m) None o) (ap (λ (f : ℕ → Option ℕ). f m) s.named) ∙ sym (p.each m));
@@ -119,7 +119,7 @@ module _ (old new : NamedVars) (earlier : List Step) (s : StandFor old earlier) 
           go true x = absurd (none_some x)
           go false x = x
 
-  pub puts_new : (name v : ℕ) (step : Step) → Fits (the_checking.knows earlier) earlier (NewName (name + 1)) step → (u : Option ℕ) → step ≡ UserVarName v u → Accepts (ready_after earlier) step → name < largest → IsPut old new (name + 1) (Some v) → StandFor new (step ∷ earlier)
+  pub puts_new : (name v : ℕ) (step : Step) → Fits (the_checking.knows earlier) earlier (NewName (name + 1)) step → (u : Option ℕ) → step ≡ UserVarName v u → Accepts (ready_after earlier) step → name < largest → PutsVariable old new (name + 1) (Some v) → StandFor new (step ∷ earlier)
   puts_new name v step f u e a low p =
       let q = (fits_new_name the_checking earlier (name + 1) step).0 f in
       let index : q.1 ≡ name = let at = q.3 in omega arith in
@@ -129,7 +129,7 @@ module _ (old new : NamedVars) (earlier : List Step) (s : StandFor old earlier) 
       subst (λ (z : Step). StandFor new (z ∷ earlier)) (sym whole)
       (names_a v name (subst (λ (x : ℕ). the_checking.knows earlier x ≡ false) v_is q.4) (subst (λ (z : Step). Accepts (ready_after earlier) z) whole a) (omega arith) p)
 
-  pub takes_name : (name : ℕ) (step : Step) → Fits (the_checking.knows earlier) earlier (NoName name) step → Accepts (ready_after earlier) step → IsPut old new name None → StandFor new (step ∷ earlier)
+  pub takes_name : (name : ℕ) (step : Step) → Fits (the_checking.knows earlier) earlier (NoName name) step → Accepts (ready_after earlier) step → PutsVariable old new name None → StandFor new (step ∷ earlier)
   takes_name name step f a p =
       let q = (fits_no_name the_checking earlier name step).0 f in
       subst (λ (z : Step). StandFor new (z ∷ earlier)) (sym q.1) (takes_a name q.0 q.2 (subst (λ (z : Step). Accepts (ready_after earlier) z) q.1 a) p)

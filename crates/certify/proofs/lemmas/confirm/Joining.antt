@@ -9,7 +9,7 @@ use Rattle.certify.specs.declared.confirm.stop.Stop.{Stop}
 use Rattle.certify.specs.declared.confirm.stop.Stop.TheVariants as stop
 use Rattle.certify.specs.declared.verdict.Why.{Why}
 use Rattle.certify.specs.confirm.Stopping.{Any, Joins, Replies}
-use Rattle.certify.specs.script.Ahead.{Failed, Kept, Passed, TakesSome}
+use Rattle.certify.specs.script.Ahead.{FaultsAhead, NoReadFailedAhead, TakesSomeOrEnds, TakesSome}
 use Rattle.certify.proofs.lemmas.confirm.Streams.{confirms_none, confirms_so, confirms_stop, confirms_then, covers_back, moves_halt, stays_open, then_stop}
 use Rattle.certify.proofs.lemmas.confirm.Walks.{tries_none}
 
@@ -43,12 +43,12 @@ pub took_then : (goes : Bool) (s t u : Source) → TakesSome true s t → TakesS
 took_then true s t u p q = (p.0 ++ q.0, passes_more s t u p.0 q.0 p.1 q.1)
 took_then false s t u p q = ((p.0 ++ q.0.0, passes_more s t u p.0 q.0.0 p.1 q.0.1), q.1)
 
-pub took_kept : (goes : Bool) (s t : Source) → TakesSome goes s t → Kept s t
+pub took_kept : (goes : Bool) (s t : Source) → TakesSome goes s t → NoReadFailedAhead s t
 took_kept true s t p = (p.1.failures, p.1.calls)
 took_kept false s t p = (p.0.1.failures, p.0.1.calls)
 
 -- whether or not it goes on
-pub took_passed : (goes : Bool) (s t : Source) → TakesSome goes s t → Passed s t
+pub took_passed : (goes : Bool) (s t : Source) → TakesSome goes s t → TakesSomeOrEnds s t
 took_passed true s t p = (p.0, weaker s t p.0 p.1)
 took_passed false s t p = p.0
 
@@ -56,10 +56,10 @@ pub covers_took : (goes : Bool) (s t : Source) (total : List ℕ) → (AtEnd s �
 covers_took true s t total open_yet p c = covers_back 0 s t p.0 total open_yet p.1 c
 covers_took false s t total open_yet p c = covers_back 1 s t p.0.0 total open_yet p.0.1 c
 
-pub kept_then : (s t u : Source) → Kept s t → Kept t u → Kept s u
+pub kept_then : (s t u : Source) → NoReadFailedAhead s t → NoReadFailedAhead t u → NoReadFailedAhead s u
 kept_then s t u p q = (q.0 ∙ p.0, omega (arith, p.1, q.1))
 
-pub failed_then : (s t u : Source) → TakesSome true s t → Failed t u → Failed s u
+pub failed_then : (s t u : Source) → TakesSome true s t → FaultsAhead t u → FaultsAhead s u
 failed_then s t u p q = (p.0 ++ q.0, faults_later s t u p.0 q.0 p.1 q.1)
 
 -- nothing more may come

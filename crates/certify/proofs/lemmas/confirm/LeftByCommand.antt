@@ -1,7 +1,7 @@
 -- What is left, command by command.
 use Rattle.std.proofs.Common.{ℕ, ◌+◌, ◌≡◌, ◌↔◌, ◌⊎◌, inl, inr, List, [], ◌∷◌, ◌++◌, Option, Some, None, refl, sym, ◌∙◌, ap, subst, append_assoc}
 use Rattle.std.specs.List.{AllByRecursion}
-use Rattle.sat_base.specs.script.Script.{Literal, Command, Ask, Ending, names_of}
+use Rattle.sat_base.specs.script.Script.{Literal, Command, Ask, ScriptEnding, names_of}
 use Rattle.sat_base.specs.script.Judge.{Judge, Refusal, accepted, accepted_of, refusal_of, start}
 use Rattle.sat_base.specs.steps.Steps.{Step}
 use Rattle.certify.specs.answers.Answers.{answers_from, refused_line, outcome_text, outcomes_left, piece, ending_text}
@@ -10,32 +10,32 @@ use Rattle.sat_checker.specs.matching.Checking.{variable_of}
 use Rattle.certify.specs.confirm.Matches.{OneEach, InForm, Meets, cut, other, ordered, MatchesCommands}
 use Rattle.certify.specs.confirm.LeftToMatch.{Left, LeftOfAsk}
 use Rattle.sat_checker.specs.matching.ProofChecking.{the_checking}
-use Rattle.certify.specs.confirm.CertificatePlaces.{CanMeet, Leads, Bars}
+use Rattle.certify.specs.confirm.CertificatePlaces.{CanMeet, MeetsExactly, Bars}
 use Rattle.certify.proofs.lemmas.confirm.StepTags.{unordered_names}
 
 -- what is left of the commands from number n on
-abbrev pub Rest : Judge → ℕ → List Step → List Expected → List Command → Ending → List ℕ → List ℕ → Type 0
+abbrev pub Rest : Judge → ℕ → List Step → List Expected → List Command → ScriptEnding → List ℕ → List ℕ → Type 0
 Rest j n earlier pending commands ending answers certificate = Left the_checking j n earlier pending commands ending answers certificate
 
-pub left_begins : (commands : List Command) (ending : Ending) (answers certificate : List ℕ) → MatchesCommands the_checking commands ending answers certificate ↔ Rest start 1 [] [] commands ending answers certificate
+pub left_begins : (commands : List Command) (ending : ScriptEnding) (answers certificate : List ℕ) → MatchesCommands the_checking commands ending answers certificate ↔ Rest start 1 [] [] commands ending answers certificate
 left_begins commands ending answers certificate = (
   (λ m. record { outcomes = m.outcomes; answered = m.answered; one_each = m.match.one_each; in_form = m.match.in_form; certified = record { steps = m.steps; text = m.text; rest = m.rest; begins = m.begins; spelt = m.spelt; meets = m.match.meets } }),
   (λ l. let c = l.certified in record { outcomes = l.outcomes; steps = c.steps; text = c.text; rest = c.rest; answered = l.answered; begins = c.begins; spelt = c.spelt; match = record { one_each = l.one_each; in_form = l.in_form; meets = c.meets } }),
 )
 
 -- a refused command takes its line
-pub refused_on : (j : Judge) (n : ℕ) (earlier : List Step) (c : Command) (cs : List Command) (ending : Ending) (answers certificate : List ℕ) (refusal : Refusal) → refusal_of j c ≡ Some refusal
+pub refused_on : (j : Judge) (n : ℕ) (earlier : List Step) (c : Command) (cs : List Command) (ending : ScriptEnding) (answers certificate : List ℕ) (refusal : Refusal) → refusal_of j c ≡ Some refusal
     → Rest j n earlier [] (c ∷ cs) ending answers certificate → (tail : List ℕ) × (answers ≡ refused_line n refusal ++ tail) × Rest j (n + 1) earlier [] cs ending tail certificate
 refused_on j n earlier c cs ending answers certificate refusal e l =
     (answers_from (n + 1) j cs ending l.outcomes, rw e at l.answered, record { outcomes = l.outcomes; answered = refl; one_each = rw e at l.one_each; in_form = l.in_form; certified = rw e at l.certified })
 
-pub refused_back : (j : Judge) (n : ℕ) (earlier : List Step) (c : Command) (cs : List Command) (ending : Ending) (answers tail certificate : List ℕ) (refusal : Refusal) → refusal_of j c ≡ Some refusal
+pub refused_back : (j : Judge) (n : ℕ) (earlier : List Step) (c : Command) (cs : List Command) (ending : ScriptEnding) (answers tail certificate : List ℕ) (refusal : Refusal) → refusal_of j c ≡ Some refusal
     → answers ≡ refused_line n refusal ++ tail → Rest j (n + 1) earlier [] cs ending tail certificate → Rest j n earlier [] (c ∷ cs) ending answers certificate
 refused_back j n earlier c cs ending answers tail certificate refusal e a l =
     record { outcomes = l.outcomes; answered = rw e (a ∙ ap (λ t. refused_line n refusal ++ t) l.answered); one_each = rw e l.one_each; in_form = l.in_form; certified = rw e l.certified }
 
 -- an ask that isn't refused takes an outcome
-module _ (j : Judge) (n : ℕ) (earlier : List Step) (ls : List Literal) (cs : List Command) (ending : Ending) (answers certificate : List ℕ) where
+module _ (j : Judge) (n : ℕ) (earlier : List Step) (ls : List Literal) (cs : List Command) (ending : ScriptEnding) (answers certificate : List ℕ) where
   same : (v : Outcome) (vs : List Outcome) → (bringing (names_of ls) j ++ (Opens ls v ∷ (showing (accepted (Ask ls) j) ls v ++ (Closes ∷ [])))) ++ expected (accepted (Ask ls) j) (accepted_of (accepted (Ask ls) j) cs) vs
       ≡ bringing (names_of ls) j ++ (Opens ls v ∷ (showing (accepted (Ask ls) j) ls v ++ (Closes ∷ expected (accepted (Ask ls) j) (accepted_of (accepted (Ask ls) j) cs) vs)))
   same v vs = append_assoc (bringing (names_of ls) j) (Opens ls v ∷ (showing (accepted (Ask ls) j) ls v ++ (Closes ∷ []))) (expected (accepted (Ask ls) j) (accepted_of (accepted (Ask ls) j) cs) vs)
@@ -69,33 +69,33 @@ module _ (j : Judge) (n : ℕ) (earlier : List Step) (ls : List Literal) (cs : L
       }
 
 -- what is pending is met on the way
-pub left_on : {earlier later : List Step} {certificate rest : List ℕ} {p : List Expected} (q : List Expected) (j : Judge) (n : ℕ) (cs : List Command) (ending : Ending) (answers : List ℕ)
-    → Leads earlier certificate p later rest → Rest j n earlier (p ++ q) cs ending answers certificate → Rest j n later q cs ending answers rest
+pub left_on : {earlier later : List Step} {certificate rest : List ℕ} {p : List Expected} (q : List Expected) (j : Judge) (n : ℕ) (cs : List Command) (ending : ScriptEnding) (answers : List ℕ)
+    → MeetsExactly earlier certificate p later rest → Rest j n earlier (p ++ q) cs ending answers certificate → Rest j n later q cs ending answers rest
 left_on {earlier} {later} {certificate} {rest} {p} q j n cs ending answers l m =
     let more = expected j (accepted_of j cs) m.outcomes in
     record { outcomes = m.outcomes; answered = m.answered; one_each = m.one_each; in_form = m.in_form; certified = l.on (q ++ more) (subst (λ es. CanMeet earlier es certificate) (append_assoc p q more) m.certified) }
 
-pub left_back : {earlier later : List Step} {certificate rest : List ℕ} {p : List Expected} (q : List Expected) (j : Judge) (n : ℕ) (cs : List Command) (ending : Ending) (answers : List ℕ)
-    → Leads earlier certificate p later rest → Rest j n later q cs ending answers rest → Rest j n earlier (p ++ q) cs ending answers certificate
+pub left_back : {earlier later : List Step} {certificate rest : List ℕ} {p : List Expected} (q : List Expected) (j : Judge) (n : ℕ) (cs : List Command) (ending : ScriptEnding) (answers : List ℕ)
+    → MeetsExactly earlier certificate p later rest → Rest j n later q cs ending answers rest → Rest j n earlier (p ++ q) cs ending answers certificate
 left_back {earlier} {later} {certificate} {rest} {p} q j n cs ending answers l m =
     let more = expected j (accepted_of j cs) m.outcomes in
     record { outcomes = m.outcomes; answered = m.answered; one_each = m.one_each; in_form = m.in_form; certified = subst (λ es. CanMeet earlier es certificate) (sym (append_assoc p q more)) (l.back (q ++ more) m.certified) }
 
-pub left_barred : {earlier : List Step} {certificate : List ℕ} {p : List Expected} (q : List Expected) (j : Judge) (n : ℕ) (cs : List Command) (ending : Ending) (answers : List ℕ)
+pub left_barred : {earlier : List Step} {certificate : List ℕ} {p : List Expected} (q : List Expected) (j : Judge) (n : ℕ) (cs : List Command) (ending : ScriptEnding) (answers : List ℕ)
     → Bars earlier certificate p → Rest j n earlier (p ++ q) cs ending answers certificate → ⊥
 left_barred {earlier} {certificate} {p} q j n cs ending answers b m =
     let more = expected j (accepted_of j cs) m.outcomes in
     b.none (q ++ more) (subst (λ es. CanMeet earlier es certificate) (append_assoc p q more) m.certified)
 
 -- no command is left
-pub end_on : (j : Judge) (n : ℕ) (earlier : List Step) (ending : Ending) (answers certificate : List ℕ) → Rest j n earlier [] [] ending answers certificate → (answers ≡ ending_text n ending) × CanMeet earlier (Finish ∷ []) certificate
+pub end_on : (j : Judge) (n : ℕ) (earlier : List Step) (ending : ScriptEnding) (answers certificate : List ℕ) → Rest j n earlier [] [] ending answers certificate → (answers ≡ ending_text n ending) × CanMeet earlier (Finish ∷ []) certificate
 end_on j n earlier ending answers certificate l = go l.outcomes l.one_each l.answered l.certified
   where
     go : (vs : List Outcome) → OneEach [] vs → answers ≡ answers_from n j [] ending vs → CanMeet earlier (expected j [] vs) certificate → (answers ≡ ending_text n ending) × CanMeet earlier (Finish ∷ []) certificate
     go [] o a m = (a, m)
     go (v ∷ vs) o a m = absurd o
 
-pub end_back : (j : Judge) (n : ℕ) (earlier : List Step) (ending : Ending) (answers certificate : List ℕ) → answers ≡ ending_text n ending → CanMeet earlier (Finish ∷ []) certificate → Rest j n earlier [] [] ending answers certificate
+pub end_back : (j : Judge) (n : ℕ) (earlier : List Step) (ending : ScriptEnding) (answers certificate : List ℕ) → answers ≡ ending_text n ending → CanMeet earlier (Finish ∷ []) certificate → Rest j n earlier [] [] ending answers certificate
 end_back j n earlier ending answers certificate a m = record { outcomes = []; answered = a; one_each = tt; in_form = tt; certified = m }
 
 -- what a line of a model lists where it is met

@@ -13,11 +13,11 @@ use Rattle.sat_checker.specs.matching.Expected.{Outcome, Sat, Unsat}
 use Rattle.certify.specs.answers.Answers.{outcome_text, refused_line, refusal_text, malformed_line, literals_text, word_of}
 use Rattle.certify.specs.answers.AnswerForms.{HaveNames, IsInForm, named_literals}
 use Rattle.certify.specs.answers.AnswerReading.{HasLine, NoKind, NoLine, StartsNoKind, StartsNoLine, first_line, second_line, outcome_of}
-use Rattle.certify.specs.confirm.Lines.{TakesLine, stop_after}
+use Rattle.certify.specs.confirm.Lines.{TakesDueLine, stop_after}
 use Rattle.certify.specs.confirm.Streams.{Covers, rest_in}
 use Rattle.certify.specs.confirm.Stopping.{Replies, SaysSo, answers_stop}
-use Rattle.certify.specs.confirm.Lines.{EndsPart, GoesUpToLine, HasNoLf, IsLine, IsNextLine, IsReply, IsWantedLine, IsWrong, NextLine, ReadsFirst, ReadsLine, ReadsSecond, StartsNone}
-use Rattle.certify.specs.script.Ahead.{Kept, Refills, TakesSome}
+use Rattle.certify.specs.confirm.Lines.{EndsPart, GoesUpToLine, HasNoLf, IsOneLine, IsNextLine, IsReply, IsWantedLine, IsWrong, NextLine, ReadsFirst, ReadsLine, ReadsSecond, StartsNone}
+use Rattle.certify.specs.script.Ahead.{NoReadFailedAhead, Refills, TakesSome}
 use Rattle.certify.specs.declared.answers.read.AnswerFault.{AnswerFault}
 use Rattle.certify.specs.declared.answers.read.AnswerFault.TheVariants as fault
 use Rattle.certify.specs.declared.answers.read.AnswerKind.{AnswerKind}
@@ -66,13 +66,13 @@ in_front (x ∷ xs) (y ∷ ys) more tail h e =
 
 -- TEXTS THAT ARE LINES
 
-pub line_on : (xs ys : List ℕ) → HasNoLf xs → IsLine ys → IsLine (xs ++ ys)
+pub line_on : (xs ys : List ℕ) → HasNoLf xs → IsOneLine ys → IsOneLine (xs ++ ys)
 line_on xs ys h l = record { front = xs ++ l.front; none = no_lf_append xs l.front h l.none; whole = ap (λ (z : List ℕ). xs ++ z) l.whole ∙ sym (append_assoc xs l.front (10 ∷ [])) }
 
-line_more : (x : ℕ) (ys : List ℕ) → (x ≡ 10 → ⊥) → IsLine ys → IsLine (x ∷ ys)
+line_more : (x : ℕ) (ys : List ℕ) → (x ≡ 10 → ⊥) → IsOneLine ys → IsOneLine (x ∷ ys)
 line_more x ys h l = line_on (x ∷ []) ys (h, tt) l
 
-line_end : IsLine (10 ∷ [])
+line_end : IsOneLine (10 ∷ [])
 line_end = record { front = []; none = tt; whole = refl }
 
 above : (x : ℕ) → 10 < x → x ≡ 10 → ⊥
@@ -81,28 +81,28 @@ above x h e = absurd (omega arith)
 digits_no_lf : (n : ℕ) → n < 2 ^ 64 → HasNoLf (decimal n)
 digits_no_lf n h = decimal_by_steps (λ m ds. HasNoLf ds) (λ m k. ((λ e. omega arith), tt)) (λ m ds k ih. no_lf_append ds ((48 + m % 10) ∷ []) ih ((λ e. omega arith), tt)) n h
 
-number_line : (n : ℕ) (ys : List ℕ) → n < 2 ^ 64 → IsLine ys → IsLine (decimal n ++ ys)
+number_line : (n : ℕ) (ys : List ℕ) → n < 2 ^ 64 → IsOneLine ys → IsOneLine (decimal n ++ ys)
 number_line n ys h l = line_on (decimal n) ys (digits_no_lf n h) l
 
-refusal_line : (r : Refusal) → ((name : ℕ) → r ≡ WitnessName name → name < 2 ^ 64) → IsLine (refusal_text r)
+refusal_line : (r : Refusal) → ((name : ℕ) → r ≡ WitnessName name → name < 2 ^ 64) → IsOneLine (refusal_text r)
 refusal_line PastLimit h = line_more 108 _ (above 108 (omega arith)) (line_more 105 _ (above 105 (omega arith)) (line_more 109 _ (above 109 (omega arith)) (line_more 105 _ (above 105 (omega arith)) (line_more 116 _ (above 116 (omega arith)) line_end))))
 refusal_line (WitnessName name) h =
     line_more 119 _ (above 119 (omega arith)) (line_more 105 _ (above 105 (omega arith)) (line_more 116 _ (above 116 (omega arith)) (line_more 110 _ (above 110 (omega arith)) (line_more 101 _ (above 101 (omega arith))
     (line_more 115 _ (above 115 (omega arith)) (line_more 115 _ (above 115 (omega arith)) (line_more 32 _ (above 32 (omega arith)) (number_line name (10 ∷ []) (h name refl) line_end))))))))
 
-pub refused_is_line : (k : ℕ) (r : Refusal) → k < 2 ^ 64 → ((name : ℕ) → r ≡ WitnessName name → name < 2 ^ 64) → IsLine (refused_line k r)
+pub refused_is_line : (k : ℕ) (r : Refusal) → k < 2 ^ 64 → ((name : ℕ) → r ≡ WitnessName name → name < 2 ^ 64) → IsOneLine (refused_line k r)
 refused_is_line k r low h =
     line_more 99 _ (above 99 (omega arith)) (line_more 32 _ (above 32 (omega arith)) (line_more 114 _ (above 114 (omega arith)) (line_more 101 _ (above 101 (omega arith)) (line_more 102 _ (above 102 (omega arith))
     (line_more 117 _ (above 117 (omega arith)) (line_more 115 _ (above 115 (omega arith)) (line_more 101 _ (above 101 (omega arith)) (line_more 100 _ (above 100 (omega arith)) (line_more 32 _ (above 32 (omega arith))
     (number_line k (32 ∷ refusal_text r) low (line_more 32 _ (above 32 (omega arith)) (refusal_line r h))))))))))))
 
-pub malformed_is_line : (k : ℕ) → k < 2 ^ 64 → IsLine (malformed_line k)
+pub malformed_is_line : (k : ℕ) → k < 2 ^ 64 → IsOneLine (malformed_line k)
 malformed_is_line k low =
     line_more 99 _ (above 99 (omega arith)) (line_more 32 _ (above 32 (omega arith)) (line_more 109 _ (above 109 (omega arith)) (line_more 97 _ (above 97 (omega arith)) (line_more 108 _ (above 108 (omega arith))
     (line_more 102 _ (above 102 (omega arith)) (line_more 111 _ (above 111 (omega arith)) (line_more 114 _ (above 114 (omega arith)) (line_more 109 _ (above 109 (omega arith)) (line_more 101 _ (above 101 (omega arith))
     (line_more 100 _ (above 100 (omega arith)) (line_more 32 _ (above 32 (omega arith)) (number_line k (10 ∷ []) low line_end))))))))))))
 
-first_is_line : (k : AnswerKind) → IsLine (first_line k)
+first_is_line : (k : AnswerKind) → IsOneLine (first_line k)
 first_is_line kind.Sat = line_more 115 _ (above 115 (omega arith)) (line_more 32 _ (above 32 (omega arith)) (line_more 83 _ (above 83 (omega arith)) (line_more 65 _ (above 65 (omega arith)) (line_more 84 _ (above 84 (omega arith)) (line_more 73 _ (above 73 (omega arith)) (line_more 83 _ (above 83 (omega arith)) (line_more 70 _ (above 70 (omega arith)) (line_more 73 _ (above 73 (omega arith)) (line_more 65 _ (above 65 (omega arith)) (line_more 66 _ (above 66 (omega arith)) (line_more 76 _ (above 76 (omega arith)) (line_more 69 _ (above 69 (omega arith)) line_end))))))))))))
 first_is_line kind.Unsat = line_more 115 _ (above 115 (omega arith)) (line_more 32 _ (above 32 (omega arith)) (line_more 85 _ (above 85 (omega arith)) (line_more 78 _ (above 78 (omega arith)) (line_more 83 _ (above 83 (omega arith)) (line_more 65 _ (above 65 (omega arith)) (line_more 84 _ (above 84 (omega arith)) (line_more 73 _ (above 73 (omega arith)) (line_more 83 _ (above 83 (omega arith)) (line_more 70 _ (above 70 (omega arith)) (line_more 73 _ (above 73 (omega arith)) (line_more 65 _ (above 65 (omega arith)) (line_more 66 _ (above 66 (omega arith)) (line_more 76 _ (above 76 (omega arith)) (line_more 69 _ (above 69 (omega arith)) line_end))))))))))))))
 first_is_line kind.Unknown = line_more 115 _ (above 115 (omega arith)) (line_more 32 _ (above 32 (omega arith)) (line_more 85 _ (above 85 (omega arith)) (line_more 78 _ (above 78 (omega arith)) (line_more 75 _ (above 75 (omega arith)) (line_more 78 _ (above 78 (omega arith)) (line_more 79 _ (above 79 (omega arith)) (line_more 87 _ (above 87 (omega arith)) (line_more 78 _ (above 78 (omega arith)) line_end))))))))
@@ -110,18 +110,18 @@ first_is_line kind.Unknown = line_more 115 _ (above 115 (omega arith)) (line_mor
 low_name : (n : ℕ) → n ≤ largest → n < 2 ^ 64
 low_name n h = omega arith
 
-word_line : (l : Literal) (ys : List ℕ) → l.name ≤ largest → IsLine ys → IsLine (word_of l ++ ys)
+word_line : (l : Literal) (ys : List ℕ) → l.name ≤ largest → IsOneLine ys → IsOneLine (word_of l ++ ys)
 word_line l ys low h = line_on (word_of l) ys (go l.positive) h
   where
     go : (b : Bool) → HasNoLf (cond b [] (45 ∷ []) ++ decimal l.name)
     go true = digits_no_lf l.name (low_name l.name low)
     go false = (above 45 (omega arith), digits_no_lf l.name (low_name l.name low))
 
-literals_line : (ls : List Literal) → HaveNames ls → IsLine (literals_text ls)
+literals_line : (ls : List Literal) → HaveNames ls → IsOneLine (literals_text ls)
 literals_line [] h = line_more 48 _ (above 48 (omega arith)) line_end
 literals_line (l ∷ ls) h = word_line l (32 ∷ literals_text ls) h.0.1 (line_more 32 _ (above 32 (omega arith)) (literals_line ls h.1))
 
-second_is_line : (k : AnswerKind) → HasLine k → (ls : List Literal) → IsInForm (outcome_of k ls) → IsLine (second_line (outcome_of k ls))
+second_is_line : (k : AnswerKind) → HasLine k → (ls : List Literal) → IsInForm (outcome_of k ls) → IsOneLine (second_line (outcome_of k ls))
 second_is_line kind.Sat u ls h = line_more 118 _ (above 118 (omega arith)) (line_more 32 _ (above 32 (omega arith)) (literals_line ls h.0))
 second_is_line kind.Unsat u ls h = line_more 102 _ (above 102 (omega arith)) (line_more 32 _ (above 32 (omega arith)) (literals_line ls h.0))
 second_is_line kind.Unknown u ls h = absurd u
@@ -130,7 +130,7 @@ second_is_line kind.Unknown u ls h = absurd u
 
 -- it stands in front of what is left, or is all of it, or is wrong
 abbrev FirstLine : (List ℕ → Type 0) → List ℕ → List ℕ → List ℕ → Type 0
-FirstLine P line bytes more = (IsLine line × (bytes ≡ line ++ more)) ⊎ ((HasNoLf line × (bytes ≡ line)) ⊎ ((HasNoLf line × (bytes ≡ line ++ more)) × IsWrong P line))
+FirstLine P line bytes more = (IsOneLine line × (bytes ≡ line ++ more)) ⊎ ((HasNoLf line × (bytes ≡ line)) ⊎ ((HasNoLf line × (bytes ≡ line ++ more)) × IsWrong P line))
 
 module _ (P : List ℕ → Type 0) (a b : Source) (line total : List ℕ) (c : Covers b total) where
   first_of : IsNextLine P a b line → FirstLine P line (rest_in total a) (rest_in total b)
@@ -139,7 +139,7 @@ module _ (P : List ℕ → Type 0) (a b : Source) (line total : List ℕ) (c : C
   first_of (inr (inr h)) = inr (inr ((h.0.1, taken_front 0 a b line total h.0.0 c), h.1))
 
 -- a line that may stand there, and does, is the one
-the_line : (P : List ℕ → Type 0) (line bytes more text tail : List ℕ) → P text → IsLine text → FirstLine P line bytes more → bytes ≡ text ++ tail → (line ≡ text) × (more ≡ tail)
+the_line : (P : List ℕ → Type 0) (line bytes more text tail : List ℕ) → P text → IsOneLine text → FirstLine P line bytes more → bytes ≡ text ++ tail → (line ≡ text) × (more ≡ tail)
 the_line P line bytes more text tail right t (inl h) e =
     let l = h.0 in
     let whole : l.front ++ 10 ∷ more ≡ t.front ++ 10 ∷ tail =
@@ -153,7 +153,7 @@ the_line P line bytes more text tail right t (inr (inr h)) e =
     absurd (h.1.0 f.0 (subst P (t.whole ∙ f.1) right))
 
 -- a text in front of the line is all of it
-front_is_line : (line text behind : List ℕ) → IsLine text → IsLine line → line ≡ text ++ behind → line ≡ text
+front_is_line : (line text behind : List ℕ) → IsOneLine text → IsOneLine line → line ≡ text ++ behind → line ≡ text
 front_is_line line text behind t l e =
     let r = first_lf l.front t.front [] behind l.none t.none (sym l.whole ∙ e ∙ ap (λ (z : List ℕ). z ++ behind) t.whole ∙ append_assoc t.front (10 ∷ []) behind) in
     l.whole ∙ ap (λ (z : List ℕ). z ++ 10 ∷ []) r.0 ∙ sym t.whole
@@ -165,7 +165,7 @@ module _ (P : List ℕ → Type 0) (a b : Source) (line : List ℕ) (open_yet : 
   line_halts (inr (inr h)) = took_halted a b open_yet (line, h.0.0)
 
   -- a line that is the text, or begins with it
-  line_taken : (text behind : List ℕ) → IsLine text → line ≡ text ++ behind → IsNextLine P a b line → TakesSome true a b × ((total : List ℕ) → Covers b total → rest_in total a ≡ text ++ rest_in total b)
+  line_taken : (text behind : List ℕ) → IsOneLine text → line ≡ text ++ behind → IsNextLine P a b line → TakesSome true a b × ((total : List ℕ) → Covers b total → rest_in total a ≡ text ++ rest_in total b)
   line_taken text behind t e (inl h) =
       let same = front_is_line line text behind t h.1 e in
       ((line, h.0), λ total c. taken_front 0 a b line total h.0 c ∙ ap (λ (z : List ℕ). z ++ rest_in total b) same)
@@ -173,10 +173,10 @@ module _ (P : List ℕ → Type 0) (a b : Source) (line : List ℕ) (open_yet : 
   line_taken text behind t e (inr (inr h)) = absurd (no_lf_in line t.front behind h.0.1 (e ∙ ap (λ (z : List ℕ). z ++ behind) t.whole ∙ append_assoc t.front (10 ∷ []) behind))
 
   -- THE LINE THAT IS DUE
-  pub due_taken : (due : List ℕ) → IsLine due → line ≡ due → IsNextLine P a b line → Replies {A = Unit {0}} true (Ok tt) a b (λ before behind. TakesLine before behind due)
+  pub due_taken : (due : List ℕ) → IsOneLine due → line ≡ due → IsNextLine P a b line → Replies {A = Unit {0}} true (Ok tt) a b (λ before behind. TakesDueLine before behind due)
   due_taken due d e h = let r = line_taken due [] d (e ∙ sym (append-nil due)) h in (r.0, r.1)
 
-  pub due_differs : (due : List ℕ) (why : Why) → P due → IsLine due → (line ≡ due → ⊥) → IsNextLine P a b line → Replies {A = Unit {0}} true (Err (stop.No why)) a b (λ before behind. TakesLine before behind due)
+  pub due_differs : (due : List ℕ) (why : Why) → P due → IsOneLine due → (line ≡ due → ⊥) → IsNextLine P a b line → Replies {A = Unit {0}} true (Err (stop.No why)) a b (λ before behind. TakesDueLine before behind due)
   due_differs due why right d differ h = (line_halts h, λ total c tail e. differ (the_line P line (rest_in total a) (rest_in total b) due tail right d (first_of P a b line total c h) e).0)
 
   -- AN ANSWER'S FIRST LINE
@@ -221,7 +221,7 @@ module _ (P : List ℕ → Type 0) (a b : Source) (line : List ℕ) (open_yet : 
           n.1 ks [] f (same ∙ sym (append-nil (second_line (outcome_of k ks))))
   second_differs k ls right fault.OutOfMemory u n h = line_kept h
     where
-      line_kept : IsNextLine P a b line → Kept a b
+      line_kept : IsNextLine P a b line → NoReadFailedAhead a b
       line_kept h = took_kept false a b (line_halts h)
 
   -- THE END OF THE ANSWERS
@@ -289,7 +289,7 @@ not_empty k ls p q s some e f o tail is g =
 
 -- WHERE THE FIRST LF IS
 
-pub line_here : (bytes : List ℕ) (i : ℕ) → i < length bytes → get_or bytes i 0 ≡ 10 → HasNoLf (take i bytes) → IsLine (take (i + 1) bytes)
+pub line_here : (bytes : List ℕ) (i : ℕ) → i < length bytes → get_or bytes i 0 ≡ 10 → HasNoLf (take i bytes) → IsOneLine (take (i + 1) bytes)
 line_here bytes i low is h = record { front = take i bytes; none = h; whole = take_more bytes i 0 low ∙ ap (λ (b : ℕ). take i bytes ++ b ∷ []) is }
 
 pub no_lf_more : (bytes : List ℕ) (i : ℕ) → i < length bytes → (get_or bytes i 0 ≡ 10 → ⊥) → HasNoLf (take i bytes) → HasNoLf (take (i + 1) bytes)
@@ -339,8 +339,8 @@ line_part false bytes w v count e d h =
     (parts bytes w v count e d, (subst HasNoLf (sym all) h.1, d ∙ drop_all count w over))
 
 module _ (a b c : Source) (before text line : List ℕ) (p : Passes a b before) (none : HasNoLf before) (is : line ≡ before ++ text) where
-  pub line_came : (F : List ℕ → Type 0) → Passes b c text → IsLine text → IsNextLine F a c line
-  line_came F q l = inl (subst (Passes a c) (sym is) (passes_more a b c before text p q), subst IsLine (sym is) (line_on before text none l))
+  pub line_came : (F : List ℕ → Type 0) → Passes b c text → IsOneLine text → IsNextLine F a c line
+  line_came F q l = inl (subst (Passes a c) (sym is) (passes_more a b c before text p q), subst IsOneLine (sym is) (line_on before text none l))
 
   pub part_came : Passes b c text → HasNoLf text → Passes a c line × HasNoLf line
   part_came q n = (subst (Passes a c) (sym is) (passes_more a b c before text p q), subst HasNoLf (sym is) (no_lf_append before text none n))
@@ -366,13 +366,13 @@ has_line kind.Sat u = tt
 has_line kind.Unsat u = tt
 has_line kind.Unknown u = absurd (u refl)
 
-pub line_kept : (a b : Source) (line : List ℕ) → Passes a b line → Kept a b
+pub line_kept : (a b : Source) (line : List ℕ) → Passes a b line → NoReadFailedAhead a b
 line_kept a b line p = took_kept true a b (line, p)
 
-pub witness_is_line : (k name : ℕ) → k < 2 ^ 64 → name < largest → IsLine (refused_line k (WitnessName (name + 1)))
+pub witness_is_line : (k name : ℕ) → k < 2 ^ 64 → name < largest → IsOneLine (refused_line k (WitnessName (name + 1)))
 witness_is_line k name low within = refused_is_line k (WitnessName (name + 1)) low (λ n e. let same : name + 1 ≡ n = cc in omega arith)
 
-pub limit_is_line : (k : ℕ) → k < 2 ^ 64 → IsLine (refused_line k PastLimit)
+pub limit_is_line : (k : ℕ) → k < 2 ^ 64 → IsOneLine (refused_line k PastLimit)
 limit_is_line k low = refused_is_line k PastLimit low (λ n e. absurd (cc))
 
 -- AN ANSWER IN TWO LINES

@@ -8,12 +8,12 @@ use Rattle.sat_base.specs.values.Literals.{negated}
 use Rattle.sat_base.specs.steps.Formats.{Format, Items, ListOf, Both}
 use Rattle.sat_base.specs.steps.Numbers.{IsNumber, IsBelow}
 use Rattle.sat_base.specs.steps.Steps.{Redundant, Simplified, Satisfied, Step, SolverVarName, UserVarName, DeleteVar, ChangeSamplingMode, AddClause, AtClause, UnitClauses, DeleteClause, ChangeHashBits, Model, Assumptions, FailedAssumptions, End}
-use Rattle.sat_base.specs.steps.StepText.{tag_of, IsLiteral, IsHash, AreLiterals, AreHashes, AreUnits, SpellsFields, SpellsStep}
+use Rattle.sat_base.specs.steps.StepText.{tag_of, IsLiteral, IsHash, AreLiterals, AreHashes, AreHashedLiterals, SpellsFields, SpellsStep}
 use Rattle.sat_checker.specs.Accepts.{effect, ready_after}
 use Rattle.sat_checker.specs.LiteralSets.{with_literal, canonical, same_literals, is_tautology}
 use Rattle.sat_checker.specs.Looks.{total_length, literal_count, hashes_named}
 use Rattle.sat_checker.specs.Stored.{StoredClause, Stored, is_unit}
-use Rattle.sat_checker.specs.Storing.{with_count, new_clause, with_clause, without_count, unless_gone, without_clause, with_unit, with_contradiction, with_new_unit, with_units, settled_by, settled, with_set, with_canonical, with_stored, with_input, with_literals_known}
+use Rattle.sat_checker.specs.Storing.{with_count, new_clause, with_stored_clause, without_count, unless_gone, without_clause, with_unit, with_contradiction, with_new_unit, with_units, settled_by, settled, with_set, with_canonical, with_stored, with_input, with_literals_known}
 use Rattle.certify.specs.confirm.VerdictPromises.{TakesLooks}
 use Rattle.certify.specs.confirm.Walks.{LooksReach, same_looks, looks_tried, looks_taken}
 
@@ -56,7 +56,7 @@ literals_fit ls bytes p = list_fits (IsBelow (2 ^ 64)) IsLiteral (below_has _) l
 hashes_fit : (hs bytes : List ℕ) → AreHashes hs bytes → length hs ≤ length bytes
 hashes_fit hs bytes p = list_fits (IsBelow (2 ^ 64)) IsHash (below_has _) hs bytes p
 
-units_fit : (us : List (ℕ × ℕ)) (bytes : List ℕ) → AreUnits us bytes → length us ≤ length bytes
+units_fit : (us : List (ℕ × ℕ)) (bytes : List ℕ) → AreHashedLiterals us bytes → length us ≤ length bytes
 units_fit us bytes p = list_fits (IsBelow (2 ^ 64)) (Both IsLiteral IsHash) (pair_has IsLiteral IsHash (below_has _)) us bytes p
 
 both_fit : (ls hs bytes : List ℕ) → Both AreLiterals AreHashes (ls, hs) bytes → length ls + length hs ≤ length bytes
@@ -109,13 +109,13 @@ uncounted_kept : (redundant : Bool) (c : StoredClause) → (without_count redund
 uncounted_kept true c = refl
 uncounted_kept false c = refl
 
-clause_grows : (redundant : Bool) (id : ℕ) (ls : List ℕ) (cs : List StoredClause) → literals_in (with_clause redundant id ls cs) ≤ literals_in cs + length ls
+clause_grows : (redundant : Bool) (id : ℕ) (ls : List ℕ) (cs : List StoredClause) → literals_in (with_stored_clause redundant id ls cs) ≤ literals_in cs + length ls
 clause_grows redundant id ls [] =
     let e : length (new_clause redundant id ls).literals ≡ length ls = ap length (counted_kept redundant (record { id = id; literals = ls; irredundant = 0; redundant = 0 })) in
     omega (arith, e)
 clause_grows redundant id ls (c ∷ cs) = by_same (clause_grows redundant id ls cs) (same_literals c.literals ls)
   where
-    by_same : literals_in (with_clause redundant id ls cs) ≤ literals_in cs + length ls → (same : Bool) → literals_in (if same then with_count redundant c ∷ cs else c ∷ with_clause redundant id ls cs) ≤ literals_in (c ∷ cs) + length ls
+    by_same : literals_in (with_stored_clause redundant id ls cs) ≤ literals_in cs + length ls → (same : Bool) → literals_in (if same then with_count redundant c ∷ cs else c ∷ with_stored_clause redundant id ls cs) ≤ literals_in (c ∷ cs) + length ls
     by_same rest true = let e : length (with_count redundant c).literals ≡ length c.literals = ap length (counted_kept redundant c) in omega (arith, e)
     by_same rest false = omega (arith, rest)
 

@@ -10,7 +10,7 @@ use Rattle.sat_checker.specs.KernelView.{LooksAtMost}
 use Rattle.sat_checker.specs.declared.kernel.Kernel.{Kernel}
 use Rattle.sat_checker.specs.matching.Expected.{Outcome, Unknown, Expected, NewName, NoName, Adds, Opens, Shows, Fails, Closes, Finish, Fits, new_name, no_name, adds, opens, shows, fails, closes, finish}
 use Rattle.sat_checker.specs.matching.ProofChecking.{the_checking}
-use Rattle.certify.specs.confirm.Feeding.{HasTaken, Feeds}
+use Rattle.certify.specs.confirm.Feeding.{HasTaken, FeedsStep}
 use Rattle.certify.specs.confirm.Matches.{Excused}
 use Rattle.certify.specs.confirm.Stepping.{is_fed}
 use Rattle.certify.specs.confirm.Streams.{Stream, seen_in, GoesOrStops, Confirms}
@@ -62,7 +62,7 @@ module _ (due : Due) (before after : NamedVars) (old mid : View) where
     met_unfit : (why : Why) → Compares due known mid.step (Some why) → MeetsDue due before after old mid (Err why)
     met_unfit why x earlier s o ask = let k = h earlier s in bars_unfit (due o ask) k.offers (x k.later (at k.later k.stands) o ask)
 
-    met_fed : (next : Kernel) → Compares due known mid.step None → Feeds (Ok tt) mid.checker mid.step next → NamesFollow due before mid.step after → MeetsDue due before after old (record mid { checker = next }) (Ok tt)
+    met_fed : (next : Kernel) → Compares due known mid.step None → FeedsStep (Ok tt) mid.checker mid.step next → NamesFollow due before mid.step after → MeetsDue due before after old (record mid { checker = next }) (Ok tt)
     met_fed next x d follows = λ earlier s.
         let k = h earlier s in
         let fit = λ (o : Outcome) (ask : List Literal). x k.later (at k.later k.stands) o ask in
@@ -101,19 +101,19 @@ module _ (due : Due) (before after : NamedVars) (a b : Stream) (open_yet : AtEnd
     expects_unfit known at why s = says_stop {B = ℕ} false (stop.No why) a b (λ u v. AwaitsNext before u v (Ok awaited.Step)) (λ y. Compares due known b.step (Some why)) (MeetsDue due before after) open_yet
         (λ total w h n earlier t o ask. met_unfit due before after (seen_in total a) (seen_in total b) h known at why n earlier t o ask) p (subst (λ z. Compares due known z (Some why)) held s)
 
-    pub expects_refused : (e : Stop) (next : Kernel) → Feeds (Err e) b.checker x next → LooksAtMost b.checker x next → Confirms {A = Unit {0}} (Err e) a (record b { checker = next }) (MeetsDue due before after)
-    expects_refused e next s l = feeds_stop e a b next (λ u v. AwaitsNext before u v (Ok awaited.Step)) (MeetsDue due before after) open_yet (subst (λ z. Feeds (Err e) b.checker z next) held s) (subst (λ z. LooksAtMost b.checker z next) held l)
+    pub expects_refused : (e : Stop) (next : Kernel) → FeedsStep (Err e) b.checker x next → LooksAtMost b.checker x next → Confirms {A = Unit {0}} (Err e) a (record b { checker = next }) (MeetsDue due before after)
+    expects_refused e next s l = feeds_stop e a b next (λ u v. AwaitsNext before u v (Ok awaited.Step)) (MeetsDue due before after) open_yet (subst (λ z. FeedsStep (Err e) b.checker z next) held s) (subst (λ z. LooksAtMost b.checker z next) held l)
         (λ total why h d. met_refused due before after (seen_in total a) (seen_in total b) next why h d) p
 
     -- there is no room for a name
-    pub expects_crowded : (next : Kernel) → Feeds (Ok tt) b.checker x next → LooksAtMost b.checker x next → Confirms {A = Unit {0}} (Err stop.OutOfMemory) a (record b { checker = next }) (MeetsDue due before after)
+    pub expects_crowded : (next : Kernel) → FeedsStep (Ok tt) b.checker x next → LooksAtMost b.checker x next → Confirms {A = Unit {0}} (Err stop.OutOfMemory) a (record b { checker = next }) (MeetsDue due before after)
     expects_crowded next fed most = says_stop {B = ℕ} true stop.OutOfMemory a (record b { checker = next }) (λ u v. Unit {0}) (λ y. ⊥) (MeetsDue due before after) open_yet (λ total why h n. absurd n)
-        (feeds_on a b next (λ u v. AwaitsNext before u v (Ok awaited.Step)) (λ u v. Unit {0}) (subst (λ z. Feeds (Ok tt) b.checker z next) held fed) (subst (λ z. LooksAtMost b.checker z next) held most) (λ total h. tt) p) tt
+        (feeds_on a b next (λ u v. AwaitsNext before u v (Ok awaited.Step)) (λ u v. Unit {0}) (subst (λ z. FeedsStep (Ok tt) b.checker z next) held fed) (subst (λ z. LooksAtMost b.checker z next) held most) (λ total h. tt) p) tt
 
-    pub expects_fed : (known : Known) → ((earlier : List Step) → CheckerIsAt b.checker before earlier → AreKnown known earlier) → (next : Kernel) → Feeds (Ok tt) b.checker x next → LooksAtMost b.checker x next
+    pub expects_fed : (known : Known) → ((earlier : List Step) → CheckerIsAt b.checker before earlier → AreKnown known earlier) → (next : Kernel) → FeedsStep (Ok tt) b.checker x next → LooksAtMost b.checker x next
         → Compares due known x None → NamesFollow due before x after → Confirms (Ok tt) a (record b { checker = next }) (MeetsDue due before after)
-    expects_fed known at next fed most k f = feeds_on a b next (λ u v. AwaitsNext before u v (Ok awaited.Step)) (λ u v. MeetsDue due before after u v (Ok tt)) (subst (λ z. Feeds (Ok tt) b.checker z next) held fed) (subst (λ z. LooksAtMost b.checker z next) held most)
-        (λ total h. met_fed due before after (seen_in total a) (seen_in total b) h known at next (subst (λ z. Compares due known z None) held k) (subst (λ z. Feeds (Ok tt) b.checker z next) held fed) (subst (λ z. NamesFollow due before z after) held f)) p
+    expects_fed known at next fed most k f = feeds_on a b next (λ u v. AwaitsNext before u v (Ok awaited.Step)) (λ u v. MeetsDue due before after u v (Ok tt)) (subst (λ z. FeedsStep (Ok tt) b.checker z next) held fed) (subst (λ z. LooksAtMost b.checker z next) held most)
+        (λ total h. met_fed due before after (seen_in total a) (seen_in total b) h known at next (subst (λ z. Compares due known z None) held k) (subst (λ z. FeedsStep (Ok tt) b.checker z next) held fed) (subst (λ z. NamesFollow due before z after) held f)) p
 
 pub expects_cut : (due : Due) (names : NamedVars) (a b : Stream) → (AtEnd a.source → ⊥) → (r : Result (Unit {0}) Stop) → GoesOrStops is_fed (Ok awaited.Cut) a b (AwaitsNext names) → SaysUnmet due r → Confirms r a b (MeetsDue due names names)
 expects_cut due names a b open_yet (Ok u) p s = (p.0, (λ total k. unmet_met due names (seen_in total a) (seen_in total b) (p.1 total k) s), p.2)

@@ -8,7 +8,7 @@ use Rattle.sat_base.specs.values.Literals.{variable, is_positive}
 use Rattle.sat_base.specs.script.Script.{Literal, Among}
 use Rattle.certify.specs.answers.AnswerForms.{named_literal, named_literals}
 use Rattle.certify.specs.confirm.SpeltLiterals.{AllAmong, HasEach}
-use Rattle.certify.specs.confirm.Variables.{variable_in, IsPut}
+use Rattle.certify.specs.confirm.Variables.{variable_in, PutsVariable}
 use Rattle.certify.specs.declared.confirm.variables.NamedVars.{NamedVars}
 
 same_place : (i place name : ℕ) → place + 1 ≡ name → eqb i place ≡ eqb name (suc i)
@@ -19,7 +19,7 @@ same_place i place name n = go (eqb i place) refl
     go false e = sym (ne_eqb name (suc i) (λ x. eqb-false i place e (omega arith)))
 
 -- a name is put at the place before its number
-pub put_at : (old new : NamedVars) (place name : ℕ) (value : Option ℕ) → place + 1 ≡ name → ((v : ℕ) → value_at None new.variables v ≡ cond (eqb v place) value (value_at None old.variables v)) → IsPut old new name value
+pub put_at : (old new : NamedVars) (place name : ℕ) (value : Option ℕ) → place + 1 ≡ name → ((v : ℕ) → value_at None new.variables v ≡ cond (eqb v place) value (value_at None old.variables v)) → PutsVariable old new name value
 put_at old new place name value n h = record { each = at }
   where
     at : (m : ℕ) → variable_in new m ≡ cond (eqb name m) value (variable_in old m)

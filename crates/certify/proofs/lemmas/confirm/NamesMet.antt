@@ -9,7 +9,7 @@ use Rattle.sat_checker.specs.matching.Expected.{Expected}
 use Rattle.certify.specs.answers.AnswerForms.{named_literals}
 use Rattle.certify.specs.confirm.Streams.{Stream, seen_in, Confirms}
 use Rattle.certify.specs.judge.Names.{NamesStand, Changes, taken}
-use Rattle.certify.specs.confirm.Naming.{MeetsAll, MeetsName, MeetsNames, naming, naming_all, taken_by}
+use Rattle.certify.specs.confirm.Naming.{MeetsAll, MeetsName, MeetsNames, expected_naming, naming_all, taken_by}
 use Rattle.sat_base.specs.script.Language.{Kind}
 use Rattle.certify.specs.declared.confirm.stop.Stop.{Stop}
 use Rattle.certify.specs.declared.judge.names.Names.{Names}
@@ -19,7 +19,7 @@ use Rattle.certify.proofs.lemmas.confirm.Naming.{both, first_barred, nothing}
 
 naming_append : (kind : Kind) (xs ys : List ℕ) (j : Judge) → naming_all kind (xs ++ ys) j ≡ naming_all kind xs j ++ naming_all kind ys (taken_by kind xs j)
 naming_append kind [] ys j = refl
-naming_append kind (x ∷ xs) ys j = ap (λ (es : List Expected). naming kind x j ++ es) (naming_append kind xs ys (taken kind x j)) ∙ sym (append_assoc (naming kind x j) (naming_all kind xs (taken kind x j)) (naming_all kind ys (taken_by kind xs (taken kind x j))))
+naming_append kind (x ∷ xs) ys j = ap (λ (es : List Expected). expected_naming kind x j ++ es) (naming_append kind xs ys (taken kind x j)) ∙ sym (append_assoc (expected_naming kind x j) (naming_all kind xs (taken kind x j)) (naming_all kind ys (taken_by kind xs (taken kind x j))))
 
 taken_append : (kind : Kind) (xs ys : List ℕ) (j : Judge) → taken_by kind (xs ++ ys) j ≡ taken_by kind ys (taken_by kind xs j)
 taken_append kind [] ys j = refl
@@ -58,19 +58,19 @@ none_met kind codes names vars a = confirms_none tt a (MeetsNames kind (listed (
 
 module _ (kind : Kind) (codes : List ℕ) (i code v : ℕ) (first now : Names) (before mid after : NamedVars) (low : i < length codes) (at : code ≡ get_or codes i code) (is : v ≡ variable code) (so_far : SoFar kind codes i first now)
     (a b c : Stream) (open_yet : AtEnd a.source → ⊥) (p : Confirms (Ok tt) a b (MeetsNames kind (listed (take i codes)) first before mid)) where
-  next_pending : (j : Judge) → naming_all kind (listed (take i codes)) j ++ naming kind (v + 1) (taken_by kind (listed (take i codes)) j) ≡ naming_all kind (listed (take (i + 1) codes)) j
+  next_pending : (j : Judge) → naming_all kind (listed (take i codes)) j ++ expected_naming kind (v + 1) (taken_by kind (listed (take i codes)) j) ≡ naming_all kind (listed (take (i + 1) codes)) j
   next_pending j =
       let before = listed (take i codes) in
       let now = taken_by kind before j in
-      ap (λ (n : ℕ). naming_all kind before j ++ naming kind (n + 1) now) is
-      ∙ ap (λ (es : List Expected). naming_all kind before j ++ es) (sym (append-nil (naming kind (variable code + 1) now)))
+      ap (λ (n : ℕ). naming_all kind before j ++ expected_naming kind (n + 1) now) is
+      ∙ ap (λ (es : List Expected). naming_all kind before j ++ es) (sym (append-nil (expected_naming kind (variable code + 1) now)))
       ∙ sym (naming_append kind before ((variable code + 1) ∷ []) j)
       ∙ ap (λ (ns : List ℕ). naming_all kind ns j) (sym (listed_more codes i code low at))
 
   pub next_met : Confirms (Ok tt) b c (MeetsName kind (v + 1) now mid after) → Confirms (Ok tt) a c (MeetsNames kind (listed (take (i + 1) codes)) first before after)
   next_met q = confirms_then tt (Ok tt) a b c (MeetsNames kind (listed (take i codes)) first before mid) (MeetsName kind (v + 1) now mid after) (MeetsNames kind (listed (take (i + 1) codes)) first before after) open_yet
       (λ total y f g j h. subst (λ (es : List Expected). MeetsAll es before after (seen_in total a) (seen_in total c) y) (next_pending j)
-      (both (naming_all kind (listed (take i codes)) j) (naming kind (v + 1) (taken_by kind (listed (take i codes)) j)) before mid after (seen_in total a) (seen_in total b) (seen_in total c) y (f j h) (g (taken_by kind (listed (take i codes)) j) (so_far j h)))) p q
+      (both (naming_all kind (listed (take i codes)) j) (expected_naming kind (v + 1) (taken_by kind (listed (take i codes)) j)) before mid after (seen_in total a) (seen_in total b) (seen_in total c) y (f j h) (g (taken_by kind (listed (take i codes)) j) (so_far j h)))) p q
 
   pub next_stop : (e : Stop) → Confirms {A = Unit {0}} (Err e) b c (MeetsName kind (v + 1) now mid after) → Confirms {A = Unit {0}} (Err e) a c (MeetsNames kind (listed codes) first before after)
   next_stop e q = then_stop tt e a b c (MeetsNames kind (listed (take i codes)) first before mid) (MeetsName kind (v + 1) now mid after) (MeetsNames kind (listed codes) first before after) open_yet
@@ -81,7 +81,7 @@ module _ (kind : Kind) (codes : List ℕ) (i code v : ℕ) (first now : Names) (
       subst (λ (es : List Expected). MeetsAll es before after (seen_in total a) (seen_in total c) (Err why)) whole
       (first_barred (naming_all kind (listed (take (i + 1) codes)) j) rest before after after (seen_in total a) (seen_in total c) why
       (subst (λ (es : List Expected). MeetsAll es before after (seen_in total a) (seen_in total c) (Err why)) (next_pending j)
-      (both (naming_all kind (listed (take i codes)) j) (naming kind (v + 1) (taken_by kind (listed (take i codes)) j)) before mid after (seen_in total a) (seen_in total b) (seen_in total c) (Err why) (f j h) (g (taken_by kind (listed (take i codes)) j) (so_far j h)))))) p q
+      (both (naming_all kind (listed (take i codes)) j) (expected_naming kind (v + 1) (taken_by kind (listed (take i codes)) j)) before mid after (seen_in total a) (seen_in total b) (seen_in total c) (Err why) (f j h) (g (taken_by kind (listed (take i codes)) j) (so_far j h)))))) p q
 
 pub all_met : (kind : Kind) (codes : List ℕ) (i : ℕ) (names : Names) (before after : NamedVars) (a b : Stream) → length codes ≤ i → Confirms (Ok tt) a b (MeetsNames kind (listed (take i codes)) names before after) → Confirms (Ok tt) a b (MeetsNames kind (listed codes) names before after)
 all_met kind codes i names before after a b over p = subst (λ (xs : List ℕ). Confirms (Ok tt) a b (MeetsNames kind (listed xs) names before after)) (take_all i codes over) p

@@ -5,7 +5,7 @@ use Rattle.sat_base.specs.device.Reading.{AtEnd}
 use Rattle.sat_base.specs.script.Script.{Literal}
 use Rattle.sat_base.specs.script.Judge.{Judge, names_from, new_names}
 use Rattle.sat_checker.specs.matching.Expected.{Outcome, Unknown, Expected, NewName}
-use Rattle.certify.specs.confirm.CertificatePlaces.{Leads, Bars}
+use Rattle.certify.specs.confirm.CertificatePlaces.{MeetsExactly, Bars}
 use Rattle.certify.specs.confirm.Streams.{Stream, seen_in, Confirms}
 use Rattle.certify.specs.confirm.Views.{View}
 use Rattle.certify.specs.judge.Names.{NamesStand}
@@ -35,7 +35,7 @@ one due e is free before after u v (Ok x) m = λ earlier s.
     record {
       later = k.later;
       stands = k.stands;
-      leads = subst (λ (d : Expected). Leads earlier u.rest (d ∷ []) k.later v.rest) (is Unknown []) (k.leads Unknown [] (λ closed. subst MayStayUnmet (sym (is Unknown [])) free));
+      leads = subst (λ (d : Expected). MeetsExactly earlier u.rest (d ∷ []) k.later v.rest) (is Unknown []) (k.leads Unknown [] (λ closed. subst MayStayUnmet (sym (is Unknown [])) free));
     }
 one due e is free before after u v (Err why) m = λ earlier s. subst (λ (d : Expected). Bars earlier u.rest (d ∷ [])) (is Unknown []) (m earlier s Unknown [])
 

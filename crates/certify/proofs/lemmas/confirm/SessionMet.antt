@@ -10,13 +10,13 @@ use Rattle.sat_checker.specs.KernelView.{Stands as HasTakenSteps}
 use Rattle.sat_checker.specs.matching.Expected.{Outcome, Sat, Unsat, Unknown, Opens, Shows, Fails, Closes, Finish, showing}
 use Rattle.certify.specs.answers.Answers.{outcome_text, refused_line, malformed_line}
 use Rattle.certify.specs.answers.AnswerForms.{IsInForm, named_literals}
-use Rattle.certify.specs.confirm.Lines.{TakesLine}
+use Rattle.certify.specs.confirm.Lines.{TakesDueLine}
 use Rattle.certify.specs.confirm.Streams.{Stream, Confirms, seen_in}
 use Rattle.certify.specs.confirm.Views.{View}
-use Rattle.certify.specs.judge.Names.{Changes, Judges, NamesStand, refusal_in, used_in}
+use Rattle.certify.specs.judge.Names.{Changes, TellsRefusal, NamesStand, refusal_in, used_in}
 use Rattle.certify.specs.confirm.Awaiting.{MeetsDue}
 use Rattle.certify.specs.confirm.Comparing.{MayStayUnmet, Due}
-use Rattle.certify.specs.confirm.Confirming.{ConfirmsAnswer, ConfirmsContent, ConfirmsLast, ConfirmsNext, IsNamed, MeetsContent, MeetsOutcome, MeetsShown, Table, ToConfirm}
+use Rattle.certify.specs.confirm.Confirming.{ConfirmsAnswer, ConfirmsContent, ConfirmsLast, ConfirmsNext, MeetsCommandNames, MeetsContent, MeetsOutcome, MeetsShown, Table, ToConfirm}
 use Rattle.certify.specs.confirm.Stopping.{Joins, Replies, SaysSo}
 use Rattle.certify.specs.confirm.Lines.{IsReply}
 use Rattle.certify.specs.confirm.Naming.{MeetsAll, MeetsNames, taken_by}
@@ -132,7 +132,7 @@ lent_whole lent c none (ls, f, e) = e ∙ ap (command_of (kind_of lent.kind)) (f
     go true x bs h = absurd (cc)
 
 -- nothing refuses it
-pub allowed_by : (names : Names) (lent : Lent) (c whole : Command) → c ≡ whole → IsLent lent c → Judges None names lent → (j : Judge) → NamesStand names j → refusal_of j whole ≡ None
+pub allowed_by : (names : Names) (lent : Lent) (c whole : Command) → c ≡ whole → IsLent lent c → TellsRefusal None names lent → (j : Judge) → NamesStand names j → refusal_of j whole ≡ None
 allowed_by names lent c whole e is judges j h = sym (subst (λ (w : Command). None ≡ refusal_of j w) e (judges j c h is))
 
 pub not_ask : (k : CommandKind) → (k ≡ kinds.Ask → ⊥) → kind_of k ≡ OfAsk → ⊥
@@ -147,10 +147,10 @@ if_ok (Ok x) h = h
 if_ok (Err e) h = tt
 
 module _ (n : ℕ) (lent : Lent) (c : Command) (is : IsLent lent c) (t next : Table) (a b : Source) (s : Stream) where
-  pub refused : (refusal : CodeRefusal) (r : Result (Unit {0}) Stop) → (AtEnd s.source → ⊥) → Judges (Some refusal) t.names lent → next ≡ t → Replies {A = Unit {0}} true r a b (λ before behind. TakesLine before behind (refused_line n (refusal_in refusal)))
+  pub refused : (refusal : CodeRefusal) (r : Result (Unit {0}) Stop) → (AtEnd s.source → ⊥) → TellsRefusal (Some refusal) t.names lent → next ≡ t → Replies {A = Unit {0}} true r a b (λ before behind. TakesDueLine before behind (refused_line n (refusal_in refusal)))
       → Joins {A = Unit {0}} ⊥ true r a b s s (ConfirmsNext n c t next)
   refused refusal r open_yet judges same h = subst (λ (x : Table). Joins {A = Unit {0}} ⊥ true r a b s s (ConfirmsNext n c t x)) (sym same)
-      (replies_join ⊥ true r a b s (λ before behind. TakesLine before behind (refused_line n (refusal_in refusal))) (ConfirmsNext n c t t) open_yet
+      (replies_join ⊥ true r a b s (λ before behind. TakesDueLine before behind (refused_line n (refusal_in refusal))) (ConfirmsNext n c t t) open_yet
       (λ p q more y line. command_refused p q (seen_in more s) n c t (refusal_in refusal) y (λ j h. sym (judges j c h is)) line) h)
 
 module _ (n : ℕ) (kind : Kind) (ls : List Literal) (t next : Table) (a : Source) (s u : Stream) (here : AtEnd a → ⊥) (allowed : (j : Judge) → NamesStand t.names j → refusal_of j (command_of kind ls) ≡ None) where
@@ -160,9 +160,9 @@ module _ (n : ℕ) (kind : Kind) (ls : List Literal) (t next : Table) (a : Sourc
 
   pub names_go : (named : Table) (b : Source) (v : Stream) (r : Result (Unit {0}) Stop) → (AtEnd s.source → ⊥) → Changes t.names named.names (taken_by kind (names_of ls)) → Confirms (Ok tt) s u (MeetsNames kind (names_of ls) t.names t.variables named.variables)
       → Joins ⊥ true r a b u v (ConfirmsContent n kind ls named next) → Joins ⊥ true r a b s v (ConfirmsNext n (command_of kind ls) t next)
-  names_go named b v r open_yet changes p h = joins_then ⊥ true tt r a a b s u v (λ p q x y (m : Result (Unit {0}) Why). (p ≡ q) × IsNamed kind ls t named x y) (ConfirmsContent n kind ls named next) (ConfirmsNext n (command_of kind ls) t next) here open_yet
+  names_go named b v r open_yet changes p h = joins_then ⊥ true tt r a a b s u v (λ p q x y (m : Result (Unit {0}) Why). (p ≡ q) × MeetsCommandNames kind ls t named x y) (ConfirmsContent n kind ls named next) (ConfirmsNext n (command_of kind ls) t next) here open_yet
       (λ p q z x y w m f g. subst (λ (k : List ℕ). ConfirmsNext n (command_of kind ls) t next k z x w m) (sym f.0) (g t x f.1))
-      (certificate_goes ⊥ tt a s u (MeetsNames kind (names_of ls) t.names t.variables named.variables) (λ p q x y (m : Result (Unit {0}) Why). (p ≡ q) × IsNamed kind ls t named x y) (λ p x y m. (refl, record { allowed = allowed; met = m; changes = changes })) p) h
+      (certificate_goes ⊥ tt a s u (MeetsNames kind (names_of ls) t.names t.variables named.variables) (λ p q x y (m : Result (Unit {0}) Why). (p ≡ q) × MeetsCommandNames kind ls t named x y) (λ p x y m. (refl, record { allowed = allowed; met = m; changes = changes })) p) h
 
 -- THE END
 
@@ -182,15 +182,15 @@ module _ (n : ℕ) (t : Table) (after : NamedVars) (a : Source) (s u : Stream) (
       said p q z v w y (Err why) f g = over_extra n t p v why (λ e. g (sym f.0 ∙ e))
 
 module _ (n : ℕ) (t : Table) (a b : Source) (s : Stream) (here : AtEnd a → ⊥) (open_yet : AtEnd s.source → ⊥) where
-  pub malformed_stops : (e : Stop) → Replies {A = Unit {0}} true (Err e) a b (λ before behind. TakesLine before behind (malformed_line n)) → Joins {A = Unit {0}} ⊥ false (Err e) a b s s (λ before behind x y. ConfirmsLast n ([], Malformed) t before x)
-  malformed_stops e h = replies_end ⊥ false e a b s (λ before behind. TakesLine before behind (malformed_line n)) (λ before behind x y. ConfirmsLast n ([], Malformed) t before x) open_yet
+  pub malformed_stops : (e : Stop) → Replies {A = Unit {0}} true (Err e) a b (λ before behind. TakesDueLine before behind (malformed_line n)) → Joins {A = Unit {0}} ⊥ false (Err e) a b s s (λ before behind x y. ConfirmsLast n ([], Malformed) t before x)
+  malformed_stops e h = replies_end ⊥ false e a b s (λ before behind. TakesDueLine before behind (malformed_line n)) (λ before behind x y. ConfirmsLast n ([], Malformed) t before x) open_yet
       (λ p q more why line. malformed_barred n t p q (seen_in more s) why line) h
 
-  pub malformed_goes : (c : Source) (u : Stream) (r : Result (Unit {0}) Stop) → Replies {A = Unit {0}} true (Ok tt) a b (λ before behind. TakesLine before behind (malformed_line n)) → Joins {A = Unit {0}} ⊥ false r b c s u (λ before behind x y. ConfirmsLast n ([], Clean) t before x)
+  pub malformed_goes : (c : Source) (u : Stream) (r : Result (Unit {0}) Stop) → Replies {A = Unit {0}} true (Ok tt) a b (λ before behind. TakesDueLine before behind (malformed_line n)) → Joins {A = Unit {0}} ⊥ false r b c s u (λ before behind x y. ConfirmsLast n ([], Clean) t before x)
       → Joins {A = Unit {0}} ⊥ false r a c s u (λ before behind x y. ConfirmsLast n ([], Malformed) t before x)
-  malformed_goes c u r h k = joins_then ⊥ false tt r a b c s s u (λ p q x y (m : Result (Unit {0}) Why). (x ≡ y) × TakesLine p q (malformed_line n) (Ok tt)) (λ before behind x y. ConfirmsLast n ([], Clean) t before x) (λ before behind x y. ConfirmsLast n ([], Malformed) t before x) here open_yet
+  malformed_goes c u r h k = joins_then ⊥ false tt r a b c s s u (λ p q x y (m : Result (Unit {0}) Why). (x ≡ y) × TakesDueLine p q (malformed_line n) (Ok tt)) (λ before behind x y. ConfirmsLast n ([], Clean) t before x) (λ before behind x y. ConfirmsLast n ([], Malformed) t before x) here open_yet
       (λ p q z v w y m f g. malformed_then n t p q v m f.1 (subst (λ (x : View). ConfirmsLast n ([], Clean) t q x m) (sym f.0) g))
-      (replies_go ⊥ tt tt a b s (λ before behind. TakesLine before behind (malformed_line n)) (λ p q x y (m : Result (Unit {0}) Why). (x ≡ y) × TakesLine p q (malformed_line n) (Ok tt)) (λ p q more line. (refl, line)) h) k
+      (replies_go ⊥ tt tt a b s (λ before behind. TakesDueLine before behind (malformed_line n)) (λ p q x y (m : Result (Unit {0}) Why). (x ≡ y) × TakesDueLine p q (malformed_line n) (Ok tt)) (λ p q more line. (refl, line)) h) k
 
 -- an ask under no literals, and the end
 module _ (n m : ℕ) (t mid : Table) (a b c : Source) (s u v : Stream) (here : AtEnd a → ⊥) (open_yet : AtEnd s.source → ⊥) where

@@ -6,17 +6,17 @@ use Rattle.std.specs.Io.KnownBytes.{Consumes, IsAtEnd, prepend_known}
 use Rattle.sat_base.specs.declared.steps.error.StepError.{StepError}
 use Rattle.sat_base.specs.declared.steps.error.StepError.TheVariants as errors
 use Rattle.sat_base.specs.device.Device.{Reader, GaveEnough, ReadFails, most_reads}
-use Rattle.sat_base.specs.device.Reading.{Source, AtEnd, PassesBut, Passes, PassesToEnd, AllTaken, Faults, Answers, unread}
-use Rattle.sat_base.specs.steps.StepReading.{Answered, repeated}
-use Rattle.sat_base.specs.steps.Formats.{Open, Live}
+use Rattle.sat_base.specs.device.Reading.{Source, AtEnd, PassesBut, Passes, PassesToEnd, AllTaken, Faults, AnswersStepRead, unread}
+use Rattle.sat_base.specs.steps.StepReading.{AnswersUnlessFailed, repeated}
+use Rattle.sat_base.specs.steps.Formats.{Open, IsProperFront}
 use Rattle.sat_base.specs.steps.Steps.{Step}
 use Rattle.sat_base.specs.steps.StepText.{SpellsStep, tag_of}
 use Rattle.sat_base.proofs.lemmas.device.ReadLemmas.{passes_more, faults_later, passes_none}
 use Rattle.certify.specs.confirm.ReadSteps.{BeginsNoStep, ReadsStep}
-use Rattle.certify.specs.confirm.Feeding.{HasTaken, Feeds, Settles}
-use Rattle.certify.specs.confirm.Streams.{Stream, rest_in, seen_in, Covers, Over, Moves, Halts, Going, Confirms, SaysAlone, stop_of, bytes_left}
+use Rattle.certify.specs.confirm.Feeding.{HasTaken, FeedsStep, SettlesConflict}
+use Rattle.certify.specs.confirm.Streams.{Stream, rest_in, seen_in, Covers, HoldsWhateverFollows, TakesStreamBytes, TakesBytesOrEnds, Going, Confirms, SaysAlone, stop_of, bytes_left}
 use Rattle.certify.specs.confirm.VerdictPromises.{TakesLooks}
-use Rattle.certify.specs.confirm.Walks.{LooksReach, Walks, walks_if, Tries, RunsOut}
+use Rattle.certify.specs.confirm.Walks.{LooksReach, FeedsAllSteps, walks_if, FeedsSomeSteps, RunsOut}
 use Rattle.certify.specs.confirm.Views.{View, certificate_place}
 use Rattle.sat_checker.specs.Accepts.{Accepts, ready_after}
 use Rattle.sat_checker.specs.ProofView.{most_bytes}
@@ -73,13 +73,13 @@ nothing_behind s t text total p c =
 
 -- WHERE NO STEP STANDS
 
-pub no_step_at_byte : (s t : Source) (front : List ℕ) (byte : ℕ) (total : List ℕ) → Passes s t (front ++ byte ∷ []) → Live SpellsStep front → (Open SpellsStep (front ++ byte ∷ []) → ⊥) → Covers t total
+pub no_step_at_byte : (s t : Source) (front : List ℕ) (byte : ℕ) (total : List ℕ) → Passes s t (front ++ byte ∷ []) → IsProperFront SpellsStep front → (Open SpellsStep (front ++ byte ∷ []) → ⊥) → Covers t total
     → BeginsNoStep (rest_in total s)
 no_step_at_byte s t front byte total p live shut c =
     no_way SpellsStep one_step (rest_in total s) front (rest_in total t) byte (taken_front 0 s t (front ++ byte ∷ []) total p c ∙ append_assoc front (byte ∷ []) (rest_in total t)) live shut
 
-pub no_step_cut : (s t : Source) (text total : List ℕ) → PassesToEnd s t text → Live SpellsStep text → Covers t total → BeginsNoStep (rest_in total s)
-no_step_cut s t text total p live c = no_whole SpellsStep one_step (rest_in total s) (subst (Live SpellsStep) (sym (nothing_behind s t text total p c)) live)
+pub no_step_cut : (s t : Source) (text total : List ℕ) → PassesToEnd s t text → IsProperFront SpellsStep text → Covers t total → BeginsNoStep (rest_in total s)
+no_step_cut s t text total p live c = no_whole SpellsStep one_step (rest_in total s) (subst (IsProperFront SpellsStep) (sym (nothing_behind s t text total p c)) live)
 
 pub no_step_over : (s t : Source) (total : List ℕ) → PassesToEnd s t [] → Covers t total → BeginsNoStep (rest_in total s)
 no_step_over s t total p c step text rest e h = let u : [] ≡ tag_of step ∷ (h.0 ++ rest) = sym (nothing_behind s t [] total p c) ∙ e ∙ ap (λ (z : List ℕ). z ++ rest) h.1 in cc
@@ -102,19 +102,19 @@ weaker s t text p = record {
 }
 
 -- one that went on before one that stops
-halts_later : (a b c : Stream) → Moves a b → Halts b c → Halts a c
+halts_later : (a b c : Stream) → TakesStreamBytes a b → TakesBytesOrEnds b c → TakesBytesOrEnds a c
 halts_later a b c m h = ((m.0 ++ h.0.0, passes_more a.source b.source c.source m.0 h.0.0 m.1 h.0.1), h.1)
 
-pub moves_halt : (a b : Stream) → (AtEnd a.source → ⊥) → Moves a b → Halts a b
+pub moves_halt : (a b : Stream) → (AtEnd a.source → ⊥) → TakesStreamBytes a b → TakesBytesOrEnds a b
 moves_halt a b open_yet m = ((m.0, weaker a.source b.source m.0 m.1), λ h. absurd (stays_open a.source b.source m.0 open_yet m.1 h))
 
 -- what is so between two views, and then two more
 over_then : (n : ℕ) (a b c : Stream) (text : List ℕ) (P Q R : View → View → Type 0) → (AtEnd b.source → ⊥) → PassesBut n b.source c.source text
-    → ((total : List ℕ) → P (seen_in total a) (seen_in total b) → Q (seen_in total b) (seen_in total c) → R (seen_in total a) (seen_in total c)) → Over a b P → Over b c Q → Over a c R
+    → ((total : List ℕ) → P (seen_in total a) (seen_in total b) → Q (seen_in total b) (seen_in total c) → R (seen_in total a) (seen_in total c)) → HoldsWhateverFollows a b P → HoldsWhateverFollows b c Q → HoldsWhateverFollows a c R
 over_then n a b c text P Q R open_yet p f g h total k = f total (g total (covers_back n b.source c.source text total open_yet p k)) (h total k)
 
 over_fault : (a b c : Stream) (text : List ℕ) (P Q R : View → View → Type 0) → (AtEnd b.source → ⊥) → Faults b.source c.source text
-    → ((total : List ℕ) → P (seen_in total a) (seen_in total b) → Q (seen_in total b) (seen_in total c) → R (seen_in total a) (seen_in total c)) → Over a b P → Over b c Q → Over a c R
+    → ((total : List ℕ) → P (seen_in total a) (seen_in total b) → Q (seen_in total b) (seen_in total c) → R (seen_in total a) (seen_in total c)) → HoldsWhateverFollows a b P → HoldsWhateverFollows b c Q → HoldsWhateverFollows a c R
 over_fault a b c text P Q R open_yet p f g h total k = f total (g total (covers_fault b.source c.source text total open_yet p k)) (h total k)
 
 -- a call that goes on behind one that went on
@@ -124,7 +124,7 @@ going_then fed a b c P Q R open_yet f p q =
     let here = stays_open a.source b.source p.0.0 open_yet p.0.1 in (
       (p.0.0 ++ q.0.0, passes_more a.source b.source c.source p.0.0 q.0.0 p.0.1 q.0.1),
       over_then 0 a b c q.0.0 P Q R here q.0.1 f p.1 q.1,
-      over_then 0 a b c q.0.0 Walks (walks_if fed) (walks_if fed) here q.0.1 (λ total. walks_on fed (seen_in total a) (seen_in total b) (seen_in total c)) p.2 q.2,
+      over_then 0 a b c q.0.0 FeedsAllSteps (walks_if fed) (walks_if fed) here q.0.1 (λ total. walks_on fed (seen_in total a) (seen_in total b) (seen_in total c)) p.2 q.2,
     )
 
 -- an error behind a call that went on
@@ -135,23 +135,23 @@ then_stop x (stop.No why) a b c P Q R open_yet f p q =
     let here = stays_open a.source b.source p.0.0 open_yet p.0.1 in (
       halts_later a b c p.0 q.0,
       over_then 1 a b c q.0.0.0 (λ u v. P u v (Ok x)) (λ u v. Q u v (Err why)) (λ u v. R u v (Err why)) here q.0.0.1 (λ total. f total why) p.1 q.1,
-      over_then 1 a b c q.0.0.0 Walks Tries Tries here q.0.0.1 (λ total. tries_on (seen_in total a) (seen_in total b) (seen_in total c)) p.2 q.2,
+      over_then 1 a b c q.0.0.0 FeedsAllSteps FeedsSomeSteps FeedsSomeSteps here q.0.0.1 (λ total. tries_on (seen_in total a) (seen_in total b) (seen_in total c)) p.2 q.2,
     )
 then_stop x stop.CertificateRead a b c P Q R open_yet f p q =
     let here = stays_open a.source b.source p.0.0 open_yet p.0.1 in (
       (p.0.0 ++ q.0.0, faults_later a.source b.source c.source p.0.0 q.0.0 p.0.1 q.0.1),
-      over_fault a b c q.0.0 Walks Tries Tries here q.0.1 (λ total. tries_on (seen_in total a) (seen_in total b) (seen_in total c)) p.2 q.1,
+      over_fault a b c q.0.0 FeedsAllSteps FeedsSomeSteps FeedsSomeSteps here q.0.1 (λ total. tries_on (seen_in total a) (seen_in total b) (seen_in total c)) p.2 q.1,
     )
 then_stop x stop.OutOfMemory a b c P Q R open_yet f p q =
     let here = stays_open a.source b.source p.0.0 open_yet p.0.1 in (
       halts_later a b c p.0 q.0,
-      over_then 1 a b c q.0.0.0 Walks Tries Tries here q.0.0.1 (λ total. tries_on (seen_in total a) (seen_in total b) (seen_in total c)) p.2 q.1,
+      over_then 1 a b c q.0.0.0 FeedsAllSteps FeedsSomeSteps FeedsSomeSteps here q.0.0.1 (λ total. tries_on (seen_in total a) (seen_in total b) (seen_in total c)) p.2 q.1,
     )
 then_stop x stop.CounterEnd a b c P Q R open_yet f p q =
     let here = stays_open a.source b.source p.0.0 open_yet p.0.1 in (
       halts_later a b c p.0 q.0,
-      over_then 1 a b c q.0.0.0 Walks RunsOut RunsOut here q.0.0.1 (λ total. runs_on (seen_in total a) (seen_in total b) (seen_in total c)) p.2 q.1,
-      over_then 1 a b c q.0.0.0 Walks Tries Tries here q.0.0.1 (λ total. tries_on (seen_in total a) (seen_in total b) (seen_in total c)) p.2 q.2,
+      over_then 1 a b c q.0.0.0 FeedsAllSteps RunsOut RunsOut here q.0.0.1 (λ total. runs_on (seen_in total a) (seen_in total b) (seen_in total c)) p.2 q.1,
+      over_then 1 a b c q.0.0.0 FeedsAllSteps FeedsSomeSteps FeedsSomeSteps here q.0.0.1 (λ total. tries_on (seen_in total a) (seen_in total b) (seen_in total c)) p.2 q.2,
     )
 then_stop x stop.ScriptRead a b c P Q R open_yet f p q = absurd q
 then_stop x stop.AnswersRead a b c P Q R open_yet f p q = absurd q
@@ -199,14 +199,14 @@ says_stop fed stop.TooMany a b P S R open_yet f p s = absurd s
 -- WHAT A CHECKER IS FED
 
 -- the step that was read last is accepted
-pub feeds_on : (a b : Stream) (next : Kernel) (P Q : View → View → Type 0) → Feeds (Ok tt) b.checker b.step next → LooksAtMost b.checker b.step next
+pub feeds_on : (a b : Stream) (next : Kernel) (P Q : View → View → Type 0) → FeedsStep (Ok tt) b.checker b.step next → LooksAtMost b.checker b.step next
     → ((total : List ℕ) → P (seen_in total a) (seen_in total b) → Q (seen_in total a) (seen_in total (record b { checker = next })))
     → Going false a b P → Going true a (record b { checker = next }) Q
 feeds_on a b next P Q fed looks f p =
     (p.0, (λ total k. f total (p.1 total k)), (λ total k. walks_fed (seen_in total a) (seen_in total b) (seen_in total (record b { checker = next })) refl fed looks (p.2 total k)))
 
 -- or isn't
-pub feeds_stop : {C : Type 0} (e : Stop) (a b : Stream) (next : Kernel) (P : View → View → Type 0) (R : View → View → Result C Why → Type 0) → (AtEnd a.source → ⊥) → Feeds (Err e) b.checker b.step next → LooksAtMost b.checker b.step next
+pub feeds_stop : {C : Type 0} (e : Stop) (a b : Stream) (next : Kernel) (P : View → View → Type 0) (R : View → View → Result C Why → Type 0) → (AtEnd a.source → ⊥) → FeedsStep (Err e) b.checker b.step next → LooksAtMost b.checker b.step next
     → ((total : List ℕ) (why : Why) → P (seen_in total a) (seen_in total b) → ((steps : List Step) → HasTaken b.checker steps → Accepts (ready_after steps) b.step → ⊥) → R (seen_in total a) (seen_in total (record b { checker = next })) (Err why))
     → Going false a b P → Confirms {A = C} (Err e) a (record b { checker = next }) R
 feeds_stop (stop.No why) a b next P R open_yet fed looks f p =
@@ -223,14 +223,14 @@ feeds_stop stop.AnswersRead a b next P R open_yet fed looks f p = absurd fed
 feeds_stop stop.TooMany a b next P R open_yet fed looks f p = absurd fed
 
 -- a pending unit conflict is settled
-pub settles_on : (fed : Bool) (a b : Stream) (next : Kernel) (P Q : View → View → Type 0) → Settles (Ok tt) b.checker next
+pub settles_on : (fed : Bool) (a b : Stream) (next : Kernel) (P Q : View → View → Type 0) → SettlesConflict (Ok tt) b.checker next
     → ((total : List ℕ) → P (seen_in total a) (seen_in total b) → Q (seen_in total a) (seen_in total (record b { checker = next })))
     → Going fed a b P → Going fed a (record b { checker = next }) Q
 settles_on fed a b next P Q settled f p =
     (p.0, (λ total k. f total (p.1 total k)), (λ total k. walks_settled fed (seen_in total a) (seen_in total b) (seen_in total (record b { checker = next })) refl refl settled (p.2 total k)))
 
 -- or there is no id for it
-pub settles_stop : {C : Type 0} (e : Stop) (fed : Bool) (a b : Stream) (next : Kernel) (P : View → View → Type 0) (R : View → View → Result C Why → Type 0) → (AtEnd a.source → ⊥) → Settles (Err e) b.checker next
+pub settles_stop : {C : Type 0} (e : Stop) (fed : Bool) (a b : Stream) (next : Kernel) (P : View → View → Type 0) (R : View → View → Result C Why → Type 0) → (AtEnd a.source → ⊥) → SettlesConflict (Err e) b.checker next
     → ((total : List ℕ) (why : Why) → P (seen_in total a) (seen_in total b) → ((steps : List Step) → HasTaken b.checker steps → ⊥) → R (seen_in total a) (seen_in total (record b { checker = next })) (Err why))
     → Going fed a b P → Confirms {A = C} (Err e) a (record b { checker = next }) R
 settles_stop (stop.No why) fed a b next P R open_yet settled f p = (
@@ -255,7 +255,7 @@ settles_stop stop.TooMany fed a b next P R open_yet settled f p = absurd settled
 -- THE NEXT STEP
 
 -- a reader of steps that goes on doesn't say that it has failed
-pub answered : (r : Result Step StepError) (s t : Source) → repeated r ≡ false → Answered r s t → Answers r s t
+pub answered : (r : Result Step StepError) (s t : Source) → repeated r ≡ false → AnswersUnlessFailed r s t → AnswersStepRead r s t
 answered (Ok step) s t e h = h
 answered (Err errors.Ends) s t e h = h
 answered (Err errors.Cut) s t e h = h
@@ -264,7 +264,7 @@ answered (Err errors.Read) s t e h = h
 answered (Err errors.OutOfMemory) s t e h = h
 answered (Err errors.HasFailed) s t e h = absurd (let k : true ≡ false = e in cc)
 
-pub step_came : (step : Step) (a b : Stream) → b.step ≡ step → b.checker ≡ a.checker → Answers (Ok step) a.source b.source → Going false a b (λ u v. ReadsStep (certificate_place u) (certificate_place v))
+pub step_came : (step : Step) (a b : Stream) → b.step ≡ step → b.checker ≡ a.checker → AnswersStepRead (Ok step) a.source b.source → Going false a b (λ u v. ReadsStep (certificate_place u) (certificate_place v))
 step_came step a b e c h =
     let spelt : SpellsStep b.step h.0 = subst (λ (z : Step). SpellsStep z h.0) (sym e) h.2 in (
       (h.0, h.1),
@@ -290,7 +290,7 @@ pub all_over : (s : Source) → AllTaken s → IsAtEnd s.reader.to_come
 all_over s t = none_waits s.reader.to_come s.waiting t.waiting t.over
 
 -- no step stands there
-pub none_came : {A : Type 0} (e : StepError) (a b : Stream) (P : View → View → Result A Why → Type 0) → (AtEnd a.source → ⊥) → b.checker ≡ a.checker → Answers (Err e) a.source b.source
+pub none_came : {A : Type 0} (e : StepError) (a b : Stream) (P : View → View → Result A Why → Type 0) → (AtEnd a.source → ⊥) → b.checker ≡ a.checker → AnswersStepRead (Err e) a.source b.source
     → ((total : List ℕ) (why : Why) → BeginsNoStep (rest_in total a.source) → P (seen_in total a) (seen_in total b) (Err why)) → Confirms {A = A} (Err (stop_of e)) a b P
 none_came errors.Ends a b P o c h f = ((([], h.0), λ _. all_over b.source h.1), (λ total k. f total CertificateEnds (no_step_over a.source b.source total h k)), (λ total k. tries_none (seen_in total a) (seen_in total b) c))
 none_came errors.Cut a b P o c h f =

@@ -12,7 +12,7 @@ use Rattle.certify.specs.script.Commands.{kind_of, BeginsPast, IsFront}
 use Rattle.certify.specs.declared.script.Command.{Command as Lent}
 use Rattle.certify.specs.declared.judge.Refusal.{Refusal as CodeRefusal}
 use Rattle.certify.specs.declared.judge.names.Names.{Names}
-use Rattle.certify.specs.judge.Names.{state_in, state_of_mode, state_of_identity, NamesStand, is_witnessed, limit_refusal, refusal_said, Judges}
+use Rattle.certify.specs.judge.Names.{state_in, state_of_mode, state_of_identity, NamesStand, is_witnessed, limit_refusal, refusal_said, TellsRefusal}
 
 witness_at : (j : Judge) (o : Option ℕ) → has_witness j o ≡ is_witnessed (state_of_identity j.modes o)
 witness_at j None = refl
@@ -72,7 +72,7 @@ names_refused codes past ls f = ap (λ (ks : List Literal). refused_name (names_
 
 -- WHOLE COMMANDS
 pub says_literals : (names : Names) (lent : Lent) (r : Option CodeRefusal) → (kind_of lent.kind ≡ OfClause) ⊎ (kind_of lent.kind ≡ OfAsk)
-    → ((j : Judge) (ls : List Literal) → NamesStand names j → IsFront lent.literals.now lent.past_limit ls → refusal_said r ≡ refused_literal j (names_of ls)) → Judges r names lent
+    → ((j : Judge) (ls : List Literal) → NamesStand names j → IsFront lent.literals.now lent.past_limit ls → refusal_said r ≡ refused_literal j (names_of ls)) → TellsRefusal r names lent
 says_literals names lent r (inl k) said j c h (ls, f, e) = said j ls h f ∙ sym (ap (refusal_of j) (e ∙ ap (λ (kind : Kind). command_of kind ls) k))
 says_literals names lent r (inr k) said j c h (ls, f, e) = said j ls h f ∙ sym (ap (refusal_of j) (e ∙ ap (λ (kind : Kind). command_of kind ls) k))
 
@@ -83,6 +83,6 @@ name_refusal OfHide j ls n m = refl
 name_refusal OfWitness j ls n m = refl
 name_refusal OfSample j ls n m = refl
 
-pub says_names : (names : Names) (lent : Lent) (r : Option CodeRefusal) → (kind_of lent.kind ≡ OfClause → ⊥) → (kind_of lent.kind ≡ OfAsk → ⊥) → r ≡ limit_refusal lent.past_limit → Judges r names lent
+pub says_names : (names : Names) (lent : Lent) (r : Option CodeRefusal) → (kind_of lent.kind ≡ OfClause → ⊥) → (kind_of lent.kind ≡ OfAsk → ⊥) → r ≡ limit_refusal lent.past_limit → TellsRefusal r names lent
 says_names names lent r n m said j c h (ls, f, e) =
     ap refusal_said said ∙ sym (names_refused lent.literals.now lent.past_limit ls f) ∙ sym (name_refusal (kind_of lent.kind) j ls n m) ∙ sym (ap (refusal_of j) e)

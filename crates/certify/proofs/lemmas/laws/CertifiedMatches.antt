@@ -4,7 +4,7 @@ use Rattle.std.proofs.lemmas.Bool.{both_ways}
 use Rattle.std.proofs.lemmas.List.{append-nil, reverse-append}
 use Rattle.std.specs.Prelude.{reverse}
 use Rattle.std.specs.List.{AllByRecursion}
-use Rattle.sat_base.specs.script.Script.{Command, Clause, Ask, Hide, Witness, Sample, Ending}
+use Rattle.sat_base.specs.script.Script.{Command, Clause, Ask, Hide, Witness, Sample, ScriptEnding}
 use Rattle.sat_base.specs.script.Judge.{Judge, accepted, accepted_of, start}
 use Rattle.sat_base.specs.steps.Steps.{Step}
 use Rattle.sat_base.specs.steps.StepText.{SpellsSteps}
@@ -165,7 +165,7 @@ text_front (step ∷ front) rest text h =
       spelt = (h.0, more.begins, h.2, more.spelt, refl);
     }
 
-pub certified_matches : (reading : List ℕ → List Command × Ending) (script certificate : List ℕ) (outcomes : List Outcome) (steps : List Step) (counts : List ℕ)
+pub certified_matches : (reading : List ℕ → List Command × ScriptEnding) (script certificate : List ℕ) (outcomes : List Outcome) (steps : List Step) (counts : List ℕ)
     → AnswersAreRight (reading script).0 outcomes
     → AcceptsAll steps
     → Certifies the_checking steps None [] (expected start (accepted_of start (reading script).0) outcomes) counts

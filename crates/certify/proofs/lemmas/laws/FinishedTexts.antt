@@ -4,12 +4,12 @@ use Rattle.std.specs.Prelude.{IfSome, ◌↔◌}
 use Rattle.std.specs.Io.KnownBytes.{Appends, Consumes}
 use Rattle.std.proofs.lemmas.List.{append_cancel_left}
 use Rattle.std.proofs.Math.Nat.{mul-le-mul, mul-one, pow-succ', pow-zero}
-use Rattle.sat_base.specs.device.Device.{Reader, Writer, GaveEnough, Takes}
+use Rattle.sat_base.specs.device.Device.{Reader, Writer, GaveEnough, WriterTakes}
 use Rattle.sat_base.specs.script.Language.{reading}
 use Rattle.sat_base.proofs.lemmas.device.Given.{enough_told}
 use Rattle.sat_checker.specs.matching.ProofChecking.{the_checking}
 use Rattle.certify.specs.confirm.Matches.{Matches}
-use Rattle.certify.specs.confirm.VerdictPromises.{AreRightAnswers, Exact, Given, IsSound, TakesLooks}
+use Rattle.certify.specs.confirm.VerdictPromises.{AreRightAnswers, Exact, GaveTextWith, IsSoundVerdict, TakesLooks}
 use Rattle.certify.specs.laws.EndToEnd.{CanBe, FinishedIsConfirmed, VerdictSays, most_looks_over}
 use Rattle.certify.specs.run.FinishedRun.{Backs, TookCertificate, asked_steps}
 use Rattle.certify.specs.declared.summary.Summary.{Summary}
@@ -40,12 +40,12 @@ pub told : (a b : Reader) (P : List ℕ → Type 0) (text : List ℕ) → a.to_c
 told a b P text e g = subst (λ o. IfSome o P) e (enough_told a b P g)
 
 pub says : (r : Result Verdict ConfirmFault) (a x b y c z : Reader) (s t u : List ℕ) → a.to_come ≡ Some s → b.to_come ≡ Some t → c.to_come ≡ Some u
-    → IfOk r (Exact (a, x) (b, y) (c, z)) → IfOk r (IsSound (a, x) (b, y)) → IfOk r (VerdictSays s t u)
+    → IfOk r (Exact (a, x) (b, y) (c, z)) → IfOk r (IsSoundVerdict (a, x) (b, y)) → IfOk r (VerdictSays s t u)
 says (Ok v) a x b y c z s t u d e f h k = record {
   exact = told c z (λ n. (v ≡ Yes) ↔ Matches the_checking reading s t n) u f
-      (told b y (λ m. Given (c, z) (λ n. (v ≡ Yes) ↔ Matches the_checking reading s m n)) t e
-      (told a x (λ l. Given (b, y) (λ m. Given (c, z) (λ n. (v ≡ Yes) ↔ Matches the_checking reading l m n))) s d h));
-  sound = λ yes. told b y (AreRightAnswers s) t e (told a x (λ l. Given (b, y) (AreRightAnswers l)) s d (k yes));
+      (told b y (λ m. GaveTextWith (c, z) (λ n. (v ≡ Yes) ↔ Matches the_checking reading s m n)) t e
+      (told a x (λ l. GaveTextWith (b, y) (λ m. GaveTextWith (c, z) (λ n. (v ≡ Yes) ↔ Matches the_checking reading l m n))) s d h));
+  sound = λ yes. told b y (AreRightAnswers s) t e (told a x (λ l. GaveTextWith (b, y) (AreRightAnswers l)) s d (k yes));
 }
 says (Err e) a x b y c z s t u d f g h k = tt
 
@@ -85,7 +85,7 @@ pub run_finished : (budget : ℕ) (summary : Summary) (x y : Reader) (a b c d : 
     → a.contents ≡ Some [] → b.contents ≡ Some answers → c.contents ≡ Some [] → d.contents ≡ Some certificate
     → TookCertificate budget summary (x, y) (a, b) (c, d) → Backs text budget summary answers certificate
 run_finished budget summary x y a b c d text answers certificate e f g h i took =
-    let p = told x y (λ t. (answered : List ℕ) × (certified : List ℕ) × Takes a b answered × Takes c d certified × Backs t budget summary answered certified) text e took in
+    let p = told x y (λ t. (answered : List ℕ) × (certified : List ℕ) × WriterTakes a b answered × WriterTakes c d certified × Backs t budget summary answered certified) text e took in
     let is_answered : answers ≡ p.0 = appended a.contents b.contents p.0 answers p.2.told f g in
     let is_certified : certificate ≡ p.1 = appended c.contents d.contents p.1 certificate p.3.told h i in
     subst (λ s. Backs text budget summary answers s) (sym is_certified) (subst (λ s. Backs text budget summary s p.1) (sym is_answered) p.4)

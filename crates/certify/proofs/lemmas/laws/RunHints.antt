@@ -3,7 +3,7 @@ use Rattle.std.proofs.Common.{ℕ, ◌≡◌, ◌≢◌, List, [], ◌∷◌, �
 use Rattle.std.proofs.lemmas.Grind.{reverse_onto}
 use Rattle.std.proofs.lemmas.List.{append-nil, append_cancel_left, reverse-reverse}
 use Rattle.std.specs.List.{AllByRecursion}
-use Rattle.sat_base.specs.device.Device.{Reader, Writer, Takes}
+use Rattle.sat_base.specs.device.Device.{Reader, Writer, WriterTakes}
 use Rattle.sat_base.specs.steps.Steps.{Step, End}
 use Rattle.sat_base.specs.steps.StepText.{SpellsSteps}
 use Rattle.sat_checker.specs.Accepts.{AcceptsAll}
@@ -47,7 +47,7 @@ certificate_of before text s ok u = record {
 }
 
 -- a writer took one text
-one_text : (old new : Writer) (s t : List ℕ) → Takes old new s → Takes old new t → s ≡ t
+one_text : (old new : Writer) (s t : List ℕ) → WriterTakes old new s → WriterTakes old new t → s ≡ t
 one_text old new s t a b = append_cancel_left old.taken s t (sym a.taken ∙ b.taken)
 
 -- WHAT IS ANSWERED
@@ -55,7 +55,7 @@ is_hinted : (steps written : List Step) (result : Result (Unit {0}) HintError) (
     → HasHints result steps old new
 is_hinted steps written (Ok x) from to old new e c t =
     let all : List Step = End ∷ taken_after c.0 [] in
-    let took : Takes old new (hint_text steps) = subst (λ s. Takes old new (hint_text s)) e t in
+    let took : WriterTakes old new (hint_text steps) = subst (λ s. WriterTakes old new (hint_text s)) e t in
     let proof : IsProof (hint_text all) (derives_empty (lines_of all)) (held (count_of_cores (lines_of all))) (held (length (lines_of all))) = c.3 in (
       took,
       record {

@@ -6,7 +6,7 @@ use Rattle.std.specs.Str.Parse.{AllDigits, digits_value}
 use Rattle.std.specs.Char.{digit_value}
 use Rattle.std.specs.List.{AllByRecursion}
 use Rattle.sat_base.specs.values.Literals.{largest}
-use Rattle.sat_base.specs.script.Script.{Literal, Command, Clause, Ask, Hide, Witness, Sample, Ending, names_of}
+use Rattle.sat_base.specs.script.Script.{Literal, Command, Clause, Ask, Hide, Witness, Sample, ScriptEnding, names_of}
 use Rattle.sat_base.specs.script.Judge.{Judge, Refusal, refusal_of, accepted, accepted_of, start, with_names, new_names, bring_in, bring_all, with_name}
 use Rattle.certify.specs.answers.Answers.{word_of, literals_text, outcome_text, answers_from, piece, outcomes_left}
 use Rattle.sat_checker.specs.matching.Expected.{Outcome, Sat, Unsat, Unknown}
@@ -102,7 +102,7 @@ same_outcome Unknown (Sat b) x y h k e = let r : ◌≡◌ {A = ℕ} 85 83 = cc 
 same_outcome (Unsat a) Unknown x y h k e = let r : ◌≡◌ {A = ℕ} 83 75 = cc in absurd (omega arith)
 same_outcome Unknown (Unsat b) x y h k e = let r : ◌≡◌ {A = ℕ} 75 83 = cc in absurd (omega arith)
 
-same_outcomes : (commands : List Command) (n : ℕ) (j : Judge) (ending : Ending) (vs ws : List Outcome) → OneEach (accepted_of j commands) vs → OneEach (accepted_of j commands) ws → AllByRecursion HasPrintableNames vs → AllByRecursion HasPrintableNames ws → answers_from n j commands ending vs ≡ answers_from n j commands ending ws → vs ≡ ws
+same_outcomes : (commands : List Command) (n : ℕ) (j : Judge) (ending : ScriptEnding) (vs ws : List Outcome) → OneEach (accepted_of j commands) vs → OneEach (accepted_of j commands) ws → AllByRecursion HasPrintableNames vs → AllByRecursion HasPrintableNames ws → answers_from n j commands ending vs ≡ answers_from n j commands ending ws → vs ≡ ws
 same_outcomes [] n j ending [] [] o u p q e = refl
 same_outcomes [] n j ending [] (w ∷ ws) o u p q e = absurd u
 same_outcomes [] n j ending (v ∷ vs) ws o u p q e = absurd o

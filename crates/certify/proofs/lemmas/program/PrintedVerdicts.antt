@@ -3,10 +3,10 @@ use Rattle.std.proofs.Common.{ℕ, ◌≡◌, List, [], ◌++◌, Some, Result, 
 use Rattle.std.specs.Prelude.{◌+◌, is_ok, is_some, length, if◌then◌else◌}
 use Rattle.sat_base.specs.device.Device.{Reader, Writer, GaveAll, GaveEnough}
 use Rattle.sat_base.proofs.lemmas.device.Given.{enough_all}
-use Rattle.sat_base.specs.script.Script.{Ending, Clean, Malformed}
+use Rattle.sat_base.specs.script.Script.{ScriptEnding, Clean, Malformed}
 use Rattle.sat_checker.specs.matching.ProofChecking.{the_checking}
 use Rattle.certify.specs.confirm.Matches.{Matches}
-use Rattle.certify.specs.confirm.VerdictPromises.{Exact, Given}
+use Rattle.certify.specs.confirm.VerdictPromises.{Exact, GaveTextWith}
 use Rattle.certify.specs.program.Printing.{IsAnswered, Prints, PrintsVerdict, SaysExactly, is_malformed}
 use Rattle.sat_base.specs.script.Language.{reading}
 use Rattle.certify.specs.run.StepsLeft.{largest_count}
@@ -32,14 +32,14 @@ seven_pieces r zero one two three four five six seven a b c d e f g h i k l m n 
 
 pub exactly_told : {E : Type 0} (r : Result Verdict E) (a x b y c z : Reader) (s t u : List ℕ) → a.to_come ≡ Some s → b.to_come ≡ Some t → c.to_come ≡ Some u → IfOk r (Exact (a, x) (b, y) (c, z)) → IfOk r (λ v. SaysExactly v s t u)
 exactly_told (Ok v) a x b y c z s t u d e f h =
-    told c z (λ k. SaysExactly v s t k) u f (told b y (λ k. Given (c, z) (λ l. SaysExactly v s k l)) t e (told a x (λ k. Given (b, y) (λ m. Given (c, z) (λ l. SaysExactly v k m l))) s d h))
+    told c z (λ k. SaysExactly v s t k) u f (told b y (λ k. GaveTextWith (c, z) (λ l. SaysExactly v s k l)) t e (told a x (λ k. GaveTextWith (b, y) (λ m. GaveTextWith (c, z) (λ l. SaysExactly v k m l))) s d h))
 exactly_told (Err e) a x b y c z s t u d f g h = tt
 
 pub prints_given : {E : Type 0} (r : Result ℕ E) (x y : Reader) (a b : Writer) (text : List ℕ) → GaveAll x y text → IfOk r (λ s. Prints s text a b) → IfOk r (λ s. PrintsVerdict s (x, y) (a, b))
 prints_given (Ok s) x y a b text g p = enough_all x y (λ k. Prints s k a b) text g p
 prints_given (Err e) x y a b text g p = tt
 
-malformed_is : (n : ℕ) (ending : Ending) → is_some (malformed_at n ending) ≡ is_malformed ending
+malformed_is : (n : ℕ) (ending : ScriptEnding) → is_some (malformed_at n ending) ≡ is_malformed ending
 malformed_is n Clean = refl
 malformed_is n Malformed = refl
 

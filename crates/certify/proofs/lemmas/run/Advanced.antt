@@ -23,7 +23,7 @@ use Rattle.sat_checker.proofs.lemmas.sets.Marks.{once}
 use Rattle.sat_checker.proofs.lemmas.sets.Members.{canonical_each}
 use Rattle.sat_checker.proofs.lemmas.sets.Order.{among-append}
 use Rattle.sat_checker.proofs.lemmas.sets.Rising.{canonical_stays}
-use Rattle.sat_solver.specs.session.Session.{Session, changed, after, last_after, session_after, with_clause, with_sorted, with_fact, with_facts, with_live, IsLive, denied}
+use Rattle.sat_solver.specs.session.Session.{Session, changed, after, last_after, session_after, with_live_clause, with_sorted, with_fact, with_facts, with_live, IsLive, denied}
 use Rattle.sat_solver.specs.proof.Widths.{narrowed, KeepsWidth, kept_bits}
 use Rattle.sat_solver.specs.proof.Counting.{TruncatesHashes, none_made, ask_begun, one_made, counted}
 use Rattle.sat_solver.specs.session.Advancing as made
@@ -31,7 +31,7 @@ use Rattle.sat_solver.specs.session.Quiet.{NeverAdvances, others_of}
 use Rattle.sat_solver.specs.schedule.Solving as made_steps
 use Rattle.sat_solver.specs.declared.proof.hash_bits.Counting.{Counting}
 use Rattle.sat_solver.proofs.lemmas.session.Mapped.{among_mapped}
-use Rattle.certify.specs.run.Advancing.{PropagatesTo, leads_none, leads_one, supposed, IsOpenStill, LeavesOpen, Advances, IsAdvancing}
+use Rattle.certify.specs.run.Advancing.{PropagatesTo, leads_none, leads_one, supposed, IsOpenStill, LeavesOpen, AdvancesStored, IsAdvancing}
 
 -- A SESSION IS WHAT STEPS MAKE OF THE CONTENTS
 abbrev session_of : Contents → Option (List ℕ) → Session
@@ -66,7 +66,7 @@ sorted_more r [] c last = refl
 sorted_more r (l ∷ []) c last = fact l c last
 sorted_more r (l ∷ m ∷ ls) c last = live_more r (l ∷ m ∷ ls) c last
 
-stored_more : (r : Bool) (clause : List ℕ) (c : Contents) (last : Option (List ℕ)) → with_clause r clause (session_of c last) ≡ session_of (clause_more r clause c) last
+stored_more : (r : Bool) (clause : List ℕ) (c : Contents) (last : Option (List ℕ)) → with_live_clause r clause (session_of c last) ≡ session_of (clause_more r clause c) last
 stored_more r clause c last = either (is_tautology clause) _ _ c _ last refl (sorted_more r (canonical clause) c last)
 
 changed_is : (step : Step) (c : Contents) (last : Option (List ℕ)) → changed step (session_of c last) ≡ session_of (contents_after step c) last
@@ -257,7 +257,7 @@ others_first l ls e = go (eqb l l) (eq-eqb l l refl)
     go true f = others_none l ls e
     go false f = absurd (true≢false (sym f))
 
-advances_as : (steps : List Step) (s : Session) → IsSame (ready_after steps) s → (clause : List ℕ) → made.Advances s clause → Advances (ready_after steps) clause
+advances_as : (steps : List Step) (s : Session) → IsSame (ready_after steps) s → (clause : List ℕ) → made.Advances s clause → AdvancesStored (ready_after steps) clause
 advances_as steps s same [] a = absurd (let h = a.some in omega (arith, h))
 advances_as steps s same (l ∷ ls) a =
     let f = ready_after steps in

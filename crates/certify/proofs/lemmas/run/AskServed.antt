@@ -18,22 +18,22 @@ use Rattle.sat_solver.specs.variables.Refusing.{names_in}
 use Rattle.sat_solver.specs.schedule.Solving.{AdvancesIn}
 use Rattle.sat_solver.specs.session.Coming.{OnlyAllowedSteps, EndsAtUnsat}
 use Rattle.sat_solver.specs.proof.ProofView.{steps_of}
-use Rattle.sat_solver.specs.solver.Adding.{Assumed, Forgets}
-use Rattle.sat_solver.specs.solver.Calls.{learned_of, told_as}
+use Rattle.sat_solver.specs.solver.Adding.{ReplacesAssumptions, ForgetsAnswer}
+use Rattle.sat_solver.specs.solver.Calls.{learned_of, due_between_states}
 use Rattle.sat_solver.specs.solver.Resting.{core_for}
-use Rattle.sat_solver.specs.solver.Whole.{IsWhole, steps_in, line_in}
+use Rattle.sat_solver.specs.solver.Whole.{SolverInvariant, steps_in, line_in}
 use Rattle.certify.specs.answers.AnswerForms.{named_literals}
 use Rattle.certify.specs.answers.RightAnswers.{IsRight}
 use Rattle.certify.specs.declared.summary.Answer.{Answer}
 use Rattle.certify.specs.declared.summary.Answer.TheVariants as kind
 use Rattle.certify.specs.declared.summary.AskReport.{AskReport}
-use Rattle.certify.specs.run.FinishedRun.{IsBounded, IsSpent, answer_kind}
+use Rattle.certify.specs.run.FinishedRun.{IsBounded, SpendsWithinBudget, answer_kind}
 use Rattle.certify.specs.run.SolverCalls.{AnswerIs, Searched}
 use Rattle.certify.specs.run.Certifies.{IsKnown}
 use Rattle.certify.specs.run.Standing.{AgreesWithJudge}
 use Rattle.sat_checker.proofs.lemmas.matching.Traces.{closed_by_none}
 use Rattle.sat_checker.specs.matching.Traces.{HasTrace, no_step, silent, visible}
-use Rattle.certify.specs.run.Stretches.{AskStretches, LearnsBetween, Learns, showing_if}
+use Rattle.certify.specs.run.Stretches.{AskStretches, LearnsBetween, LearnsEachRound, showing_if}
 use Rattle.certify.specs.run.Telling.{outcome_for, IsToldRight}
 use Rattle.certify.proofs.lemmas.run.NamesIn.{names_same}
 use Rattle.certify.proofs.lemmas.run.Cores.{right_in_order, spelt_in_order}
@@ -106,9 +106,9 @@ unsat_outcome now kind.Unsat e h = ap (λ st. Unsat (named_literals (canonical (
 unsat_outcome now kind.Unknown e h = absurd (unknown_apart now.state (unknown_state now.state h) e)
 
 -- what shows an answer
-module _ {C : Type 0} (now : Solver C) (whole : IsWhole now) (ask : List Literal) (asked : named_literals now.assumed.items ≡ ask) (j : Judge) (before : State) (s : List Step) where
+module _ {C : Type 0} (now : Solver C) (whole : SolverInvariant now) (ask : List Literal) (asked : named_literals now.assumed.items ≡ ask) (j : Judge) (before : State) (s : List Step) where
   abbrev Told : State → State → Type 0
-  Told b st = HasTrace the_checking s (steps_in now) (told_as b st (line_in now) now.assumed.items now.told.failed_core.items)
+  Told b st = HasTrace the_checking s (steps_in now) (due_between_states b st (line_in now) now.assumed.items now.told.failed_core.items)
 
   abbrev Shown : Bool → Outcome → Type 0
   Shown unsat o = HasTrace the_checking s (steps_in now) (showing_if unsat j ask o)
@@ -152,7 +152,7 @@ module _ {C : Type 0} (now : Solver C) (whole : IsWhole now) (ask : List Literal
   answer_shown kind.Unknown h b names w = let e = unknown_state now.state h in unknown_shown e (b (unknown_apart now.state e)) w
 
 -- what assumptions leave
-forgets_either : (a b : State) → Forgets a b → (b ≡ states.Unknown) ⊎ (b ≡ states.Unsat)
+forgets_either : (a b : State) → ForgetsAnswer a b → (b ≡ states.Unknown) ⊎ (b ≡ states.Unsat)
 forgets_either a states.Unknown h = inl refl
 forgets_either a states.Unsat h = inr refl
 forgets_either states.Unsat states.Sat h = absurd (cc)
@@ -174,7 +174,7 @@ none_learned states.Unsat = refl
 less_one : (n : ℕ) → 0 < n → n ≡ n - 1 + 1
 less_one n h = omega arith
 
-answer_learns : {C : Type 0} (now : Solver C) (st : State) (a : Answer) (n : ℕ) → AnswerIs st a → ((st ≡ states.Unknown → ⊥) → 0 < n) → Learns false (outcome_for a now) n (learned_of st n)
+answer_learns : {C : Type 0} (now : Solver C) (st : State) (a : Answer) (n : ℕ) → AnswerIs st a → ((st ≡ states.Unknown → ⊥) → 0 < n) → LearnsEachRound false (outcome_for a now) n (learned_of st n)
 answer_learns now states.Unknown kind.Unknown n h f = refl
 answer_learns now states.Sat kind.Sat n h f = less_one n (f (λ e. cc))
 answer_learns now states.UnsatUnderAssumptions kind.Unsat n h f = less_one n (f (λ e. cc))
@@ -189,7 +189,7 @@ answer_learns now states.Unsat kind.Sat n h f = absurd (cc)
 answer_learns now states.Unsat kind.Unknown n h f = absurd (cc)
 
 -- an ask: its literals were assumed, and the solver searched; nothing is assumed from there on
-module _ {C : Type 0} (seen : C → Writer) (old mid now : Solver C) (user : List ℕ) (budget : ℕ) (report : AskReport) (opened : Assumed seen old mid user) (searched : Searched seen budget report mid now) (right : IsToldRight report.answer now) where
+module _ {C : Type 0} (seen : C → Writer) (old mid now : Solver C) (user : List ℕ) (budget : ℕ) (report : AskReport) (opened : ReplacesAssumptions seen old mid user) (searched : Searched seen budget report mid now) (right : IsToldRight report.answer now) where
   o : Outcome
   o = outcome_for report.answer now
 
@@ -238,15 +238,15 @@ module _ {C : Type 0} (seen : C → Writer) (old mid now : Solver C) (user : Lis
     counts = counted (the_checking.unsat (steps_in mid)) refl;
   }
     where
-      counted : (b : Bool) → the_checking.unsat (steps_in mid) ≡ b → Learns b (outcome_for report.answer now) report.steps (learned_of now.state report.steps)
+      counted : (b : Bool) → the_checking.unsat (steps_in mid) ≡ b → LearnsEachRound b (outcome_for report.answer now) report.steps (learned_of now.state report.steps)
       counted true u = let k = (known u).rounds in (k, ap (learned_of now.state) k ∙ none_learned now.state)
       counted false g = answer_learns now now.state report.answer report.steps searched.solved.answer_is (sought g)
 
-  pub ask_spent : IsSpent budget old.clock.steps report
-  ask_spent = subst (λ (n : ℕ). IsSpent budget n report) (ap (λ (x : _). x.steps) opened.clock) searched.spent
+  pub ask_spent : SpendsWithinBudget budget old.clock.steps report
+  ask_spent = subst (λ (n : ℕ). SpendsWithinBudget budget n report) (ap (λ (x : _). x.steps) opened.clock) searched.spent
 
   module _ (j : Judge) (live : Live) (means : AgreesWithJudge old j live) (free : refusal_of j (Ask (named_literals user)) ≡ None) where
-    first : solver.Kept mid.names (steps_in old) (steps_in mid) (bring_all (names_in user) j) (bringing (names_in user) j ++ (Opens (named_literals user) (outcome_for report.answer now) ∷ []))
+    first : solver.ReachesJudge mid.names (steps_in old) (steps_in mid) (bring_all (names_in user) j) (bringing (names_in user) j ++ (Opens (named_literals user) (outcome_for report.answer now) ∷ []))
     first = (opened.did (outcome_for report.answer now)).does.kept j live means.agree
 
     agree_mid : solver.Agree mid.names (steps_in mid) (accepted (Ask (named_literals user)) j) first.live
@@ -255,7 +255,7 @@ module _ {C : Type 0} (seen : C → Writer) (old mid now : Solver C) (user : Lis
     agree_at : solver.Agree searched.mid.names (steps_in searched.mid) (accepted (Ask (named_literals user)) j) first.live
     agree_at = subst (λ ns. solver.Agree ns (steps_in searched.mid) (accepted (Ask (named_literals user)) j) first.live) (sym searched.limited.names) (subst (λ ss. solver.Agree mid.names ss (accepted (Ask (named_literals user)) j) first.live) (sym same_steps) agree_mid)
 
-    second : solver.Kept now.names (steps_in searched.mid) (steps_in now) (accepted (Ask (named_literals user)) j) (told_as searched.mid.state now.state (line_in now) now.assumed.items now.told.failed_core.items)
+    second : solver.ReachesJudge now.names (steps_in searched.mid) (steps_in now) (accepted (Ask (named_literals user)) j) (due_between_states searched.mid.state now.state (line_in now) now.assumed.items now.told.failed_core.items)
     second = searched.solved.answered.did.does.kept (accepted (Ask (named_literals user)) j) first.live agree_at
 
     named : HasTrace the_checking (steps_in old) (steps_in mid) (bringing (names_of (named_literals user)) j ++ (Opens (named_literals user) (outcome_for report.answer now) ∷ []))
@@ -266,7 +266,7 @@ module _ {C : Type 0} (seen : C → Writer) (old mid now : Solver C) (user : Lis
 
     shown : HasTrace the_checking (steps_in mid) (steps_in now) (showing_if (the_checking.unsat (steps_in now)) (accepted (Ask (named_literals user)) j) (named_literals user) (outcome_for report.answer now))
     shown = answer_shown now searched.solved.answered.did.whole (named_literals user) assumed_is (accepted (Ask (named_literals user)) j) searched.mid.state (steps_in mid) report.answer searched.solved.answer_is was_unknown listed
-        (subst (λ ss. HasTrace the_checking ss (steps_in now) (told_as searched.mid.state now.state (line_in now) now.assumed.items now.told.failed_core.items)) same_steps second.trace)
+        (subst (λ ss. HasTrace the_checking ss (steps_in now) (due_between_states searched.mid.state now.state (line_in now) now.assumed.items now.told.failed_core.items)) same_steps second.trace)
 
     pub ask_right : IsRight (accepted (Ask (named_literals user)) j) (named_literals user) (outcome_for report.answer now)
     ask_right = told_right now (named_literals user) assumed_is (accepted (Ask (named_literals user)) j) second.live second.agree report.answer right
@@ -280,8 +280,8 @@ module _ {C : Type 0} (seen : C → Writer) (old mid now : Solver C) (user : Lis
         let few : report.steps < most = omega arith in
         record { few = few; answered = λ left unknown. let all = ask_spent.unknown unknown in omega arith }
 
-    module _ (new : Solver C) (closed : Assumed seen now new []) where
-      third : solver.Kept new.names (steps_in now) (steps_in new) (accepted (Ask (named_literals user)) j) (Opens [] Unknown ∷ [])
+    module _ (new : Solver C) (closed : ReplacesAssumptions seen now new []) where
+      third : solver.ReachesJudge new.names (steps_in now) (steps_in new) (accepted (Ask (named_literals user)) j) (Opens [] Unknown ∷ [])
       third = (closed.did Unknown).does.kept (accepted (Ask (named_literals user)) j) second.live second.agree
 
       shut : HasTrace the_checking (steps_in now) (steps_in new) (Closes ∷ [])
@@ -302,7 +302,7 @@ module _ {C : Type 0} (seen : C → Writer) (old mid now : Solver C) (user : Lis
       pub ask_then : (then : Live) × solver.Agree new.names (steps_in new) (accepted (Ask (named_literals user)) j) then
       ask_then = (third.live, third.agree)
 
-  pub ask_rounds : (new : Solver C) → Assumed seen now new [] → old.clock.steps + report.steps ≡ new.clock.steps
+  pub ask_rounds : (new : Solver C) → ReplacesAssumptions seen now new [] → old.clock.steps + report.steps ≡ new.clock.steps
   ask_rounds new closed =
       let a : mid.clock.steps ≡ old.clock.steps = ap (λ (x : _). x.steps) opened.clock in
       let b : new.clock.steps ≡ now.clock.steps = ap (λ (x : _). x.steps) closed.clock in

@@ -8,8 +8,8 @@ use Rattle.sat_base.specs.steps.Steps.{Step}
 use Rattle.sat_solver.specs.declared.error.SolverError.{SolverError}
 use Rattle.sat_solver.specs.declared.error.SolverError.TheVariants as errors
 use Rattle.sat_checker.specs.matching.Expected.{Expected}
-use Rattle.sat_solver.specs.session.Making.{Took}
-use Rattle.sat_solver.specs.solver.Adding.{AddsClause, Assumes, EndsNamesOr, HasWitness}
+use Rattle.sat_solver.specs.session.Making.{ComesBySteps}
+use Rattle.sat_solver.specs.solver.Adding.{AddsClause, AssumesOrRefuses, EndsNamesOr, HasWitness}
 use Rattle.sat_solver.specs.solver.Naming.{ChangesMode, IsAsked}
 use Rattle.sat_checker.specs.contracts.processing.NobodyProofProcessor.TheImpl.{ghosts}
 use Rattle.sat_checker.specs.declared.processing.Nobody.{Nobody}
@@ -17,7 +17,7 @@ use Rattle.sat_solver.specs.declared.proof.checker.Checked.{Checked}
 use Rattle.sat_solver.specs.declared.proof.made.CheckFault.{CheckFault}
 use Rattle.sat_solver.specs.declared.proof.made.CheckFault.TheVariants as checks
 use Rattle.sat_solver.specs.variables.Room.{users_in}
-use Rattle.sat_solver.specs.cdcl.Going.{IsFaultOr, Went}
+use Rattle.sat_solver.specs.cdcl.Going.{IsFaultOr, EmitsUpToFault}
 use Rattle.sat_solver.specs.proof.MadeView.{ComplainsIn, listed_in}
 use Rattle.sat_solver.specs.proof.ProofView.{FailsCheck, is_checked}
 use Rattle.sat_solver.specs.solver.Whole.{HasFullStore}
@@ -68,7 +68,7 @@ module _ {C : Type 0} (seen : C → Writer) (a b : Solver C) where
       go None e c = c
       go (Some own) e c = absurd (apart e)
 
-  caused : (full : Type 0) (e : SolverError) → is_checked (proof_in a) ≡ false → IsFaultOr full e → (steps : List Step) → Went {A = Unit {0}} seen (Err e) steps (proof_in a) (proof_in b) → IsCaused (fault_for e) full ⊥
+  caused : (full : Type 0) (e : SolverError) → is_checked (proof_in a) ≡ false → IsFaultOr full e → (steps : List Step) → EmitsUpToFault {A = Unit {0}} seen (Err e) steps (proof_in a) (proof_in b) → IsCaused (fault_for e) full ⊥
   caused full errors.OutOfMemory alone f steps w = tt
   caused full errors.StoreFull alone f steps w = f
   caused full (errors.ProofIoError cause) alone f steps w = tt
@@ -88,8 +88,8 @@ module _ {C : Type 0} (seen : C → Writer) (a b : Solver C) where
   ends_caused : (full lacks : Type 0) (e : SolverError) → IsReady a → EndsNamesOr full seen e a b → IsCaused (fault_for e) full lacks
   ends_caused full lacks e ready h = caused_map (fault_for e) full ⊥ full lacks (λ x. x) (λ x. absurd x) (caused full e ready.unchecked h.fault h.breaks.steps h.breaks.went)
 
-  stays : b ≡ a → Took seen (proof_in a) (proof_in b)
-  stays e = subst (λ (s : Solver C). Took seen (proof_in a) (proof_in s)) (sym e) (took_none seen (proof_in a))
+  stays : b ≡ a → ComesBySteps seen (proof_in a) (proof_in b)
+  stays e = subst (λ (s : Solver C). ComesBySteps seen (proof_in a) (proof_in s)) (sym e) (took_none seen (proof_in a))
 
   module _ (user : List ℕ) (ready : IsReady a) (allowed : IsAllowed a user) where
     named : HasWitness a user → ⊥
@@ -112,7 +112,7 @@ module _ {C : Type 0} (seen : C → Writer) (a b : Solver C) where
     clause_fails errors.Malformed h = ends errors.Malformed h.2
     clause_fails errors.OutOfRange h = ends errors.OutOfRange h.2
 
-    pub assume_fails : (e : SolverError) → Assumes seen (Err e) a b user → FailsSolver seen (fault_for e) a b
+    pub assume_fails : (e : SolverError) → AssumesOrRefuses seen (Err e) a b user → FailsSolver seen (fault_for e) a b
     assume_fails errors.WitnessVariable h = absurd (named h.cause.1)
     assume_fails errors.NotInDrat h = absurd (apart (sym h.cause.1 ∙ ready.no_lines seen))
     assume_fails errors.HasFailed h = absurd (apart (sym h.cause ∙ ready.going))
@@ -146,7 +146,7 @@ module _ {C : Type 0} (seen : C → Writer) (a b : Solver C) where
     clause_fault errors.Malformed h = h.2.breaks.fault
     clause_fault errors.OutOfRange h = h.2.breaks.fault
 
-    pub assume_fault : (e : SolverError) → Assumes seen (Err e) a b user → IsSolverFault e
+    pub assume_fault : (e : SolverError) → AssumesOrRefuses seen (Err e) a b user → IsSolverFault e
     assume_fault errors.WitnessVariable h = absurd (named h.cause.1)
     assume_fault errors.NotInDrat h = absurd (apart (sym h.cause.1 ∙ ready.no_lines seen))
     assume_fault errors.HasFailed h = absurd (apart (sym h.cause ∙ ready.going))
@@ -180,7 +180,7 @@ module _ {C : Type 0} (seen : C → Writer) (a b : Solver C) where
     clause_caused errors.Malformed h = ends_caused (HasFullStore b) (LacksRoom a (users_in user)) errors.Malformed ready h.2
     clause_caused errors.OutOfRange h = ends_caused (HasFullStore b) (LacksRoom a (users_in user)) errors.OutOfRange ready h.2
 
-    pub assume_caused : (e : SolverError) → Assumes seen (Err e) a b user → IsCaused (fault_for e) ⊥ (LacksRoom a (users_in user))
+    pub assume_caused : (e : SolverError) → AssumesOrRefuses seen (Err e) a b user → IsCaused (fault_for e) ⊥ (LacksRoom a (users_in user))
     assume_caused errors.WitnessVariable h = absurd (named h.cause.1)
     assume_caused errors.NotInDrat h = absurd (apart (sym h.cause.1 ∙ ready.no_lines seen))
     assume_caused errors.HasFailed h = absurd (apart (sym h.cause ∙ ready.going))

@@ -8,7 +8,7 @@ use Rattle.sat_base.proofs.lemmas.device.Writes.{took_none}
 use Rattle.sat_solver.specs.solver.Whole.{steps_in}
 use Rattle.certify.specs.declared.run.session.Session.{Session}
 use Rattle.certify.specs.run.Obeying.{Obeyed}
-use Rattle.certify.specs.run.Serving.{RunPlace, Serves, behind}
+use Rattle.certify.specs.run.Serving.{RunPlace, Serves, place_after}
 use Rattle.certify.specs.run.Standing.{CarriedOut, last_place, place_in}
 use Rattle.certify.specs.run.Stretches.{IsNoAsk}
 use Rattle.certify.proofs.lemmas.run.ServedOnce.{serves_plain}
@@ -16,7 +16,7 @@ use Rattle.certify.specs.run.Quiet.{Solver}
 
 -- where a run stands behind the last command that came
 pub place_behind : {C : Type 0} (old new : Session C) (c : Command) (j : Judge) (rounds : ℕ) → new.commands ≡ old.commands → rounds ≡ new.solver.clock.steps
-    → behind (last_place old j) c (steps_in new.solver) rounds ≡ place_in new (accepted c j)
+    → place_after (last_place old j) c (steps_in new.solver) rounds ≡ place_in new (accepted c j)
 place_behind old new c j rounds e f = ap (λ (k : ℕ). at (k + 1) rounds) (sym e) ∙ ap (at (new.commands + 1)) f
   where
     at : ℕ → ℕ → RunPlace

@@ -16,7 +16,7 @@ use Rattle.certify.specs.declared.judge.NameState.{NameState}
 use Rattle.certify.specs.declared.script.Command.{Command as Lent}
 use Rattle.certify.specs.declared.script.CommandKind.TheVariants as kind
 use Rattle.certify.specs.declared.run.session.Session.{Session}
-use Rattle.certify.specs.judge.Names.{Judges}
+use Rattle.certify.specs.judge.Names.{TellsRefusal}
 use Rattle.certify.specs.script.Commands.{IsLent}
 use Rattle.certify.specs.run.Unfinished.{Exceeds}
 use Rattle.certify.specs.run.SolverCalls.{IsCaused, LacksRoom, NeedsMore}
@@ -92,7 +92,7 @@ needs_exceed old c left j at free needs =
     inr (subst (λ i. largest < (after_script left.0 i).next_identity) (sym (after_accepted j c free)) (omega arith))
 
 module _ {C : Type 0} (old mid new : Session C) (lent : Lent) (r : Result (Unit {0}) RunFault) where
-  pub taken_caused : lent.past_limit ≡ false → Judges None old.names lent → mid.solver ≡ old.solver → CausedBy r mid new (spelled_by lent) → (c : Command) → IsLent lent c → (left : Reading) → CausedOver r old new (onto_commands (c ∷ []) left)
+  pub taken_caused : lent.past_limit ≡ false → TellsRefusal None old.names lent → mid.solver ≡ old.solver → CausedBy r mid new (spelled_by lent) → (c : Command) → IsLent lent c → (left : Reading) → CausedOver r old new (onto_commands (c ∷ []) left)
   taken_caused within judges same h c l left =
       caused_if r (HasFullStore new.solver) (NeedsMore mid.solver (spelled_by lent)) (HasFullStore new.solver) ((j : Judge) → JudgeIsAt old j → Exceeds old.commands j (onto_commands (c ∷ []) left)) (λ x. x)
       (λ needs j at. needs_exceed old c left j at (sym (judges j c at.names l)) (subst (λ s. NeedsMore s c) same (subst (NeedsMore mid.solver) (sym (lent_is lent c l within)) needs))) h

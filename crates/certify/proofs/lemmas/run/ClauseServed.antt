@@ -13,7 +13,7 @@ use Rattle.sat_checker.specs.matching.Bridge.{Live}
 use Rattle.sat_solver.specs.variables.Refusing.{names_in}
 use Rattle.sat_solver.specs.session.Coming.{OnlyAllowedSteps}
 use Rattle.sat_solver.specs.solver.Adding.{Added, due_for_clause, with_added}
-use Rattle.sat_solver.specs.solver.Whole.{IsWhole, steps_in}
+use Rattle.sat_solver.specs.solver.Whole.{SolverInvariant, steps_in}
 use Rattle.certify.specs.answers.AnswerForms.{named_literals}
 use Rattle.sat_checker.specs.matching.Traces.{HasTrace}
 use Rattle.certify.specs.run.Stretches.{MayFor, Stretch, due_for}
@@ -21,8 +21,8 @@ use Rattle.certify.proofs.lemmas.run.NamesIn.{names_same}
 use Rattle.certify.proofs.lemmas.run.Recorded.{going_on, known_unsat}
 use Rattle.certify.specs.run.Quiet.{Solver}
 
-module _ {C : Type 0} (seen : C → Writer) (old new : Solver C) (user : List ℕ) (whole : IsWhole old) (added : Added seen old new user) (j : Judge) (live : Live) (agree : solver.Agree old.names (steps_in old) j live) where
-  kept : solver.Kept new.names (steps_in old) (steps_in new) (with_added user j) (due_for_clause old.state user j)
+module _ {C : Type 0} (seen : C → Writer) (old new : Solver C) (user : List ℕ) (whole : SolverInvariant old) (added : Added seen old new user) (j : Judge) (live : Live) (agree : solver.Agree old.names (steps_in old) j live) where
+  kept : solver.ReachesJudge new.names (steps_in old) (steps_in new) (with_added user j) (due_for_clause old.state user j)
   kept = added.did.does.kept j live agree
 
   pub clause_agrees : (then : Live) × solver.Agree new.names (steps_in new) (accepted (Clause (named_literals user)) j) then

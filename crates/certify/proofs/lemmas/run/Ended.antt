@@ -6,25 +6,25 @@ use Rattle.sat_base.specs.steps.Steps.{End}
 use Rattle.sat_solver.specs.declared.error.SolverError.{SolverError}
 use Rattle.sat_solver.specs.declared.error.SolverError.TheVariants as errors
 use Rattle.sat_solver.specs.declared.proof.made.CheckFault.TheVariants as checks
-use Rattle.sat_solver.specs.session.Making.{Took, Broke}
-use Rattle.sat_solver.specs.proof.ProofView.{Adds, FailsCheck, Gives, target_of}
+use Rattle.sat_solver.specs.session.Making.{ComesBySteps, BreaksEmitting}
+use Rattle.sat_solver.specs.proof.ProofView.{EmitsExactly, FailsCheck, GivesWriter, target_of}
 use Rattle.sat_solver.specs.solver.Proving.{ClosesProof}
 use Rattle.certify.specs.run.SolverCalls.{FaultSays, IsCaused, IsReady, fault_for, proof_in}
 use Rattle.certify.specs.declared.fault.RunFault.{RunFault}
 use Rattle.certify.specs.declared.fault.RunFault.TheVariants as fault
-use Rattle.certify.specs.run.Ending.{Closes, FinishesRun, GivenBack}
+use Rattle.certify.specs.run.Ending.{EndsCertificate, FinishesRun, GivenBack}
 use Rattle.certify.proofs.lemmas.run.CallFaults.{complains_never}
 use Rattle.certify.proofs.lemmas.run.Stopping.{bytes_none}
 use Rattle.certify.specs.run.Quiet.{Solver}
 
 -- closing it failed, and its writer was given back
-pub closing_fails : {C : Type 0} (seen : C → Writer) (e : SolverError) (old new : Solver C) (given : C) → IsReady old → ClosesProof seen (Err e) old new → Gives (target_of seen (proof_in new)) (Some (seen given))
-    → FaultSays (fault_for e) ⊥ (GivenBack seen Broke old given) (GivenBack seen Took old given)
+pub closing_fails : {C : Type 0} (seen : C → Writer) (e : SolverError) (old new : Solver C) (given : C) → IsReady old → ClosesProof seen (Err e) old new → GivesWriter (target_of seen (proof_in new)) (Some (seen given))
+    → FaultSays (fault_for e) ⊥ (GivenBack seen BreaksEmitting old given) (GivenBack seen ComesBySteps old given)
 closing_fails seen errors.HasFailed old new given ready h g = absurd (true≢false (sym h.cause ∙ ready.going))
 closing_fails seen (errors.ProofIoError cause) old new given ready h g = record { proof = proof_in new; goes = (End ∷ [], h.fails); gives = g }
 closing_fails {C} seen errors.OutOfMemory old new given ready h g = at h.adds
   where
-    at : Adds seen [] (proof_in old) (proof_in new) ⊎ FailsCheck seen checks.OutOfMemory (End ∷ []) (proof_in old) (proof_in new) → GivenBack seen Took old given
+    at : EmitsExactly seen [] (proof_in old) (proof_in new) ⊎ FailsCheck seen checks.OutOfMemory (End ∷ []) (proof_in old) (proof_in new) → GivenBack seen ComesBySteps old given
     at (inl a) = record { proof = proof_in new; goes = ([], a); gives = g }
     at (inr f) = record { proof = proof_in new; goes = (End ∷ [], f.adds); gives = g }
 closing_fails seen errors.Interrupted old new given ready h g = absurd h
@@ -59,7 +59,7 @@ closing_caused seen errors.Malformed old new ready h = absurd h
 closing_caused seen errors.OutOfRange old new ready h = absurd h
 
 -- and the answers' writer was left alone
-pub closing_keeps : {C : Type 0} (seen : C → Writer) (e : RunFault) (s : Solver C) (given : C) (w : Writer) → Closes seen (Err e) s given → FinishesRun seen (Err e) s given w w
+pub closing_keeps : {C : Type 0} (seen : C → Writer) (e : RunFault) (s : Solver C) (given : C) (w : Writer) → EndsCertificate seen (Err e) s given → FinishesRun seen (Err e) s given w w
 closing_keeps seen fault.ScriptRead s given w f = absurd f.0
 closing_keeps seen fault.AnswersWrite s given w f = absurd f.0
 closing_keeps seen fault.CertificateWrite s given w f = (((refl, refl), f.0), bytes_none w, f.1)

@@ -20,7 +20,7 @@ use Rattle.sat_solver.specs.schedule.Solving as made
 use Rattle.sat_solver.specs.session.Coming.{EachIsAllowed}
 use Rattle.certify.specs.run.Advancing.{AdvanceTimes, AreUnordered}
 use Rattle.certify.specs.run.Learning.{assumed_times, LearnsIn, EachLearns}
-use Rattle.certify.specs.run.Stretches.{IsNoAsk, Stretch, AskStretches, Learns, MadeFor, due_for, made_none, made_one, made_ask, showing_if}
+use Rattle.certify.specs.run.Stretches.{IsNoAsk, Stretch, AskStretches, LearnsEachRound, MadeFor, due_for, made_none, made_one, made_ask, showing_if}
 use Rattle.certify.proofs.lemmas.run.Between.{IsAside, index_aside, width_aside, AreAside, Head, Split, Timed, append_unordered, asides_never, asides_still, asides_unordered, asides_unsat, behind_asides, cut_unsat, head_cut, split, timed}
 
 -- STEPS BEHIND STEPS
@@ -321,7 +321,7 @@ record MadeAsk (from to : List Step) (o : Outcome) (rounds : ℕ) : Type 0 where
   closed_at : assumed_times to ≡ assumed_times (middle ++ (Assumptions ask ∷ before)) + 1
   learned : ℕ
   times : made.AdvanceTimes (Assumptions ask ∷ before) middle learned
-  counts : Learns (the_checking.unsat (Assumptions ask ∷ before)) o rounds learned
+  counts : LearnsEachRound (the_checking.unsat (Assumptions ask ∷ before)) o rounds learned
   unordered : o ≡ Unknown → AreUnordered middle
 
 module _ (j : Judge) (ls : List Literal) (o : Outcome) (n : ℕ) (from to : List Step) (a : AskStretches j ls o n from to) where
@@ -389,7 +389,7 @@ module _ (j : Judge) (ls : List Literal) (o : Outcome) (n : ℕ) (from to : List
     learned = a.learns.learned;
     times = asides_still start last.front (found ++ first.behind) a.learns.learned last_front
         (behind_asides start first.behind found a.learns.learned first_aside (subst (λ (v : List Step). made.AdvanceTimes v found a.learns.learned) opened_is a.learns.times.times));
-    counts = subst (λ (b : Bool). Learns b o n a.learns.learned) (ap (λ (v : List Step). the_checking.unsat v) opened_is ∙ asides_unsat first.behind start first_aside) a.learns.counts;
+    counts = subst (λ (b : Bool). LearnsEachRound b o n a.learns.learned) (ap (λ (v : List Step). the_checking.unsat v) opened_is ∙ asides_unsat first.behind start first_aside) a.learns.counts;
     unordered = λ e. append_unordered last.front (found ++ first.behind) (asides_unordered last.front last_front)
         (append_unordered found first.behind (found_unordered e) (asides_unordered first.behind first_aside));
   }
@@ -464,7 +464,7 @@ module _ {c d : Counting} {whole steps : List Step} (p : TruncatesHashes c whole
     learned = m.learned;
     times = asides_never (Assumptions m.ask ∷ before_is) closed_head.told between.middle m.learned closed_head.aside
         (subst (λ (v : List Step). AdvanceTimes v between.middle m.learned) opened_head.whole between.times);
-    counts = subst (λ (b : Bool). Learns b o n m.learned) (sym (ap (λ (v : List Step). the_checking.unsat v) (sym opened_head.whole) ∙ cut_unsat between.cuts)) m.counts;
+    counts = subst (λ (b : Bool). LearnsEachRound b o n m.learned) (sym (ap (λ (v : List Step). the_checking.unsat v) (sym opened_head.whole) ∙ cut_unsat between.cuts)) m.counts;
     unordered = λ e. append_unordered closed_head.told between.middle (asides_unordered closed_head.told closed_head.aside) (between.unordered (m.unordered e));
   }
 

@@ -15,7 +15,7 @@ use Rattle.certify.specs.declared.script.Command.{Command as Lent}
 use Rattle.certify.specs.declared.script.CommandKind.{CommandKind}
 use Rattle.certify.specs.declared.script.CommandKind.TheVariants as kind
 use Rattle.certify.specs.declared.run.session.Session.{Session}
-use Rattle.certify.specs.judge.Names.{Judges}
+use Rattle.certify.specs.judge.Names.{TellsRefusal}
 use Rattle.certify.specs.script.Commands.{BeginsPast, IsLent, kind_of}
 use Rattle.sat_base.specs.script.Language.{Reading, command_of}
 use Rattle.certify.specs.run.SolverCalls.{FailsSolver, IsAllowed}
@@ -39,7 +39,7 @@ lent_is lent c (ls, f, e) within =
     e ∙ ap (command_of (kind_of lent.kind)) whole
 
 -- names that refuse nothing of what is lent
-pub lent_allowed : (names : Names) (lent : Lent) → (c : Command) × IsLent lent c → lent.past_limit ≡ false → Judges None names lent → NamesAllow names (spelled_by lent)
+pub lent_allowed : (names : Names) (lent : Lent) → (c : Command) × IsLent lent c → lent.past_limit ≡ false → TellsRefusal None names lent → NamesAllow names (spelled_by lent)
 lent_allowed names lent h within judges j stands =
     sym (judges j (spelled_by lent) stands (subst (IsLent lent) (lent_is lent h.0 h.1 within) h.1))
 

@@ -15,7 +15,7 @@ use Rattle.sat_solver.specs.variables.Live.{given_of}
 use Rattle.sat_solver.specs.variables.Refusing.{names_in}
 use Rattle.sat_solver.specs.variables.Room.{HasRoom, coming, is_hidden_name, is_listed, live_count, reach, users_in}
 use Rattle.sat_solver.specs.variables.Variables.{global_of, names_used, variables_used}
-use Rattle.sat_solver.specs.solver.Adding.{Assumed}
+use Rattle.sat_solver.specs.solver.Adding.{ReplacesAssumptions}
 use Rattle.sat_solver.specs.solver.Whole.{steps_in}
 use Rattle.sat_solver.proofs.lemmas.variables.Counts.{count_le, count_longer, count_more, count_part, count_same}
 use Rattle.sat_solver.proofs.lemmas.variables.RoomLemmas.{is_live, reach_low}
@@ -224,7 +224,7 @@ names_need_more seen st xs ys zs a b done needs j live agree =
     subst (λ i. largest < i.next_identity) (sym (accepted_both st xs (ys ++ zs) j ∙ accepted_both st ys zs mid)) (omega arith)
 
 -- behind an ask nothing is assumed, which brings no name in
-pub none_needs : {C : Type 0} (seen : C → Writer) (a b c : Solver C) (user : List ℕ) (budget : ℕ) (report : AskReport) → Assumed seen a b user → Searched seen budget report b c → LacksRoom c [] → NeedsMore a (Ask (named_literals user))
+pub none_needs : {C : Type 0} (seen : C → Writer) (a b c : Solver C) (user : List ℕ) (budget : ℕ) (report : AskReport) → ReplacesAssumptions seen a b user → Searched seen budget report b c → LacksRoom c [] → NeedsMore a (Ask (named_literals user))
 none_needs seen a b c user budget report opened s lacks j live agree =
     let n = agree_still seen a b c user budget report opened s j live agree in
     subst (λ names. largest < (bring_all names j).next_identity) (sym (names_same user)) (all_need c.names (steps_in c) (bring_all (names_in user) j) n.0 [] n.1 lacks)

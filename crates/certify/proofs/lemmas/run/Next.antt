@@ -5,7 +5,7 @@ use Rattle.sat_base.specs.device.Device.{Writer}
 use Rattle.sat_base.specs.script.Script.{Command}
 use Rattle.sat_base.specs.script.Judge.{Judge, Refusal, accepted, after_command, refusal_of, start}
 use Rattle.sat_solver.specs.variables.Calls.{Agree}
-use Rattle.sat_solver.specs.session.Making.{Took}
+use Rattle.sat_solver.specs.session.Making.{ComesBySteps}
 use Rattle.sat_solver.specs.solver.Whole.{steps_in}
 use Rattle.certify.specs.declared.run.session.Session.{Session}
 use Rattle.certify.specs.answers.Answers.{refused_line}
@@ -89,7 +89,7 @@ module _ {C : Type 0} (seen : C → Writer) (old new : Session C) (c : Command) 
         judge = on.judge;
         at = (refused_at on.judge on.at).0;
       };
-      took = subst (λ s. Took seen (proof_in old.solver) (proof_in s)) (sym refused.solver) (took_none seen (proof_in old.solver));
+      took = subst (λ s. ComesBySteps seen (proof_in old.solver) (proof_in s)) (sym refused.solver) (took_none seen (proof_in old.solver));
       commands = refused.commands;
       budget = refused.budget;
       text = refused_line (old.commands + 1) why;

@@ -4,8 +4,8 @@ use Rattle.sat_base.specs.device.Device.{Writer}
 use Rattle.sat_base.specs.steps.Steps.{Step}
 use Rattle.sat_solver.specs.declared.proof.hash_bits.Counting.{Counting}
 use Rattle.sat_solver.specs.declared.proof.output.Output.{Output}
-use Rattle.sat_solver.specs.session.Making.{Took}
-use Rattle.sat_solver.specs.proof.ProofView.{Target, Closed, Open, Broken, Carries, is_drat, target_in, target_of}
+use Rattle.sat_solver.specs.session.Making.{ComesBySteps}
+use Rattle.sat_solver.specs.proof.ProofView.{Target, Closed, Open, Broken, TargetTakes, is_drat, target_in, target_of}
 use Rattle.certify.specs.run.SolverCalls.{HasNoLines}
 use Rattle.certify.specs.run.Quiet.{Proof}
 
@@ -15,7 +15,7 @@ alike a b None broken c = refl
 alike a b (Some o) false c = refl
 alike a b (Some o) true c = refl
 
-carried : (t : Target) (steps : List Step) (u : Target) → Carries t steps u → is_drat u ≡ is_drat t
+carried : (t : Target) (steps : List Step) (u : Target) → TargetTakes t steps u → is_drat u ≡ is_drat t
 carried Closed steps u e = ap is_drat e
 carried (Open f c s) steps u h = ap is_drat h.2
 carried (Broken w) steps u e = ap is_drat e
@@ -23,5 +23,5 @@ carried (Broken w) steps u e = ap is_drat e
 pub none_yet : {C : Type 0} (seen : C → Writer) (p : Proof C) → is_drat (target_of seen p) ≡ false → HasNoLines p
 none_yet seen p e = λ other. alike other seen p.output p.broken p.counting ∙ e
 
-pub none_still : {C : Type 0} (seen : C → Writer) (p q : Proof C) → Took seen p q → HasNoLines p → HasNoLines q
+pub none_still : {C : Type 0} (seen : C → Writer) (p q : Proof C) → ComesBySteps seen p q → HasNoLines p → HasNoLines q
 none_still seen p q took none = none_yet seen q (carried (target_of seen p) took.0 (target_of seen q) took.1.target ∙ none seen)

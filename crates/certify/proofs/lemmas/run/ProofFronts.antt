@@ -6,12 +6,12 @@ use Rattle.sat_base.specs.steps.Steps.{Step, End}
 use Rattle.sat_solver.specs.declared.error.SolverError.{SolverError}
 use Rattle.sat_solver.specs.declared.proof.format.ProofFormat.TheVariants.{Varisat}
 use Rattle.sat_solver.specs.proof.Checked.{has_begun}
-use Rattle.sat_solver.specs.proof.Fronts.{FrontText, Follows}
-use Rattle.sat_solver.specs.session.Making.{Took, Broke}
+use Rattle.sat_solver.specs.proof.Fronts.{FrontText, TargetTakesFront}
+use Rattle.sat_solver.specs.session.Making.{ComesBySteps, BreaksEmitting}
 use Rattle.sat_solver.specs.proof.OutputView.{text_in}
-use Rattle.sat_solver.specs.proof.ProofTexts.{IsCertificate}
+use Rattle.sat_solver.specs.proof.ProofTexts.{TookAcceptedSteps}
 use Rattle.sat_solver.specs.proof.ProofView.{Target, TakesAll, target_of}
-use Rattle.sat_solver.specs.solver.Fronts.{Went, HandsFront}
+use Rattle.sat_solver.specs.solver.Fronts.{ReachesBySteps, HandsFront}
 use Rattle.sat_solver.specs.solver.Proving.{ClosesProof}
 use Rattle.sat_solver.specs.solver.Whole.{steps_in}
 use Rattle.sat_solver.proofs.lemmas.session.FrontLemmas.{went_added, went_failed, went_more}
@@ -37,7 +37,7 @@ front_of from given made h = record {
 }
 
 -- all of the text is a front of it
-whole_of : (from given : Writer) (now : List Step) → IsCertificate Varisat from given [] now → StepsFront from given
+whole_of : (from given : Writer) (now : List Step) → TookAcceptedSteps Varisat from given [] now → StepsFront from given
 whole_of from given now h = record {
   made = h.since.steps;
   steps = h.since.took.written;
@@ -53,10 +53,10 @@ whole_of from given now h = record {
 module _ {C : Type 0} (seen : C → Writer) where
   -- WHERE A SOLVER WENT
 
-  pub went_took : (a b : Solver C) → Took seen (proof_in a) (proof_in b) → Went seen a b
+  pub went_took : (a b : Solver C) → ComesBySteps seen (proof_in a) (proof_in b) → ReachesBySteps seen a b
   went_took a b t = went_added seen t.0 (proof_in a) (proof_in b) t.1
 
-  pub went_broke : (a b : Solver C) → Broke seen (proof_in a) (proof_in b) → Went seen a b
+  pub went_broke : (a b : Solver C) → BreaksEmitting seen (proof_in a) (proof_in b) → ReachesBySteps seen a b
   went_broke a b t = went_failed seen t.0 (proof_in a) (proof_in b) t.1
 
   -- WHAT IS GIVEN BACK
@@ -80,7 +80,7 @@ module _ {C : Type 0} (seen : C → Writer) where
   front_closed s new given h = record {
     front = λ opened from open_then none went.
         let now = target_of seen (proof_in s) in
-        let follows = subst (λ (t : Target). Follows t went.steps now) open_then went.target in
+        let follows = subst (λ (t : Target). TargetTakesFront t went.steps now) open_then went.target in
         elim follows [
           | inl k ↦ ∣ whole_of from (seen given) (steps_in new) (h.certificate Varisat from [] refl (record { steps = went.steps; behind = went.history ∙ ap (λ (xs : List Step). went.steps ++ xs) none; target = k })) ∣₁
           | inr k ↦ absurd (subst (λ (t : Target). TakesAll t (End ∷ []) (seen given)) k.3.1 h.closes.takes)

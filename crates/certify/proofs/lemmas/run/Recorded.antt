@@ -7,7 +7,7 @@ use Rattle.sat_checker.proofs.lemmas.meaning.Answers.{unsat_means_none}
 use Rattle.sat_solver.specs.session.Session.{MayAll, session_after}
 use Rattle.sat_solver.specs.declared.state.State.{State}
 use Rattle.sat_solver.specs.declared.state.State.TheVariants as states
-use Rattle.sat_solver.specs.solver.Whole.{IsWhole, StateSays, steps_in, session_in}
+use Rattle.sat_solver.specs.solver.Whole.{SolverInvariant, StateSays, steps_in, session_in}
 use Rattle.sat_solver.proofs.lemmas.session.StepLemmas.{sessions_are_accepted}
 use Rattle.certify.specs.run.Certifies.{IsRecorded}
 use Rattle.certify.specs.run.Quiet.{Solver}
@@ -18,7 +18,7 @@ unsat_as steps may = (sessions_are_accepted steps may).1.unsat
 pub recorded_at : (steps : List Step) → MayAll steps → the_checking.unsat steps ≡ true → IsRecorded the_checking steps
 recorded_at steps may u = record { recorded = u; none = λ a h. unsat_means_none steps a (sessions_are_accepted steps may).0 u h }
 
-module _ {C : Type 0} (s : Solver C) (whole : IsWhole s) where
+module _ {C : Type 0} (s : Solver C) (whole : SolverInvariant s) where
   -- it is where the clauses alone are known to be unsatisfiable
   pub known_unsat : s.state ≡ states.Unsat → the_checking.unsat (steps_in s) ≡ true
   known_unsat e = unsat_as (steps_in s) whole.stands.may ∙ subst (λ st. StateSays st s.core s.names s.asked s.assumed.items s.told.failed_core.items) e whole.says

@@ -2,7 +2,7 @@
 use Rattle.std.proofs.Common.{ℕ, ◌+◌, ◌≤◌, ◌≡◌, ◌∙◌, true, false, Option, Some, None, List, [], ◌∷◌, ◌++◌, map, length, Result, Ok, Err, OnErr, OnOk, IfOk, refl, sym, ap, subst, arith, append-nil}
 use Rattle.std.specs.Prelude.{IsErrOf}
 use Rattle.std.proofs.Math.Logic.{∥∥₁_elim, ∥∥₁_prop}
-use Rattle.sat_base.specs.device.Device.{Reader, Writer, GaveEnough, Takes, lent_writer, most_reads}
+use Rattle.sat_base.specs.device.Device.{Reader, Writer, GaveEnough, WriterTakes, lent_writer, most_reads}
 use Rattle.sat_base.specs.device.Reading.{Source, unread}
 use Rattle.sat_base.specs.device.Sink.{empty_sink}
 use Rattle.sat_base.specs.script.Judge.{accepted_of, start}
@@ -12,12 +12,12 @@ use Rattle.sat_checker.specs.matching.Expected.{Finish, expected, finish}
 use Rattle.sat_checker.specs.matching.ProofChecking.{the_checking}
 use Rattle.sat_solver.specs.declared.proof.format.ProofFormat.TheVariants.{Varisat}
 use Rattle.sat_solver.specs.proof.Counting.{start as uncounted}
-use Rattle.sat_solver.specs.session.Making.{Took, Broke}
+use Rattle.sat_solver.specs.session.Making.{ComesBySteps, BreaksEmitting}
 use Rattle.sat_solver.specs.proof.OutputView.{text_in}
 use Rattle.sat_solver.specs.proof.ProofTexts.{TookText}
-use Rattle.sat_solver.specs.proof.ProofView.{Closed, Open, Broken, Carries, Stops, Gives, TakesAll, is_open, target_of}
+use Rattle.sat_solver.specs.proof.ProofView.{Closed, Open, Broken, TargetTakes, TargetFails, GivesWriter, TakesAll, is_open, target_of}
 use Rattle.sat_solver.specs.session.Session.{MayAll}
-use Rattle.sat_solver.specs.solver.Fronts.{Went}
+use Rattle.sat_solver.specs.solver.Fronts.{ReachesBySteps}
 use Rattle.sat_solver.specs.solver.Whole.{HasFullStore, steps_in}
 use Rattle.sat_solver.proofs.lemmas.session.CutsLemmas.{cuts_are_free}
 use Rattle.sat_solver.proofs.lemmas.session.ProofLemmas.{closed_is_text}
@@ -33,9 +33,9 @@ use Rattle.certify.specs.declared.summary.Summary.{Summary}
 use Rattle.certify.specs.declared.script.ahead.Ahead.{Ahead}
 use Rattle.certify.specs.script.Ahead.{source_in, waiting}
 use Rattle.sat_base.specs.script.Language.{reading, written}
-use Rattle.certify.specs.run.FinishedRun.{Answered, Answers, Backs, TookCertificate, asked_steps, identities_given, malformed_at, AreSpent}
-use Rattle.certify.specs.run.Running.{ReadsFew, Runs, Wrote}
-use Rattle.certify.specs.run.Unfinished.{CounterEnds, Exceeds, StepsFront, TookFront, TookSteps, Unfinished}
+use Rattle.certify.specs.run.FinishedRun.{WritesAnswers, AnswersRightly, Backs, TookCertificate, asked_steps, identities_given, malformed_at, AreSpent}
+use Rattle.certify.specs.run.Running.{ReadsFew, FinishesOrFaults, WritesRun}
+use Rattle.certify.specs.run.Unfinished.{CounterEnds, Exceeds, StepsFront, TookAnswersFront, TookSteps, Unfinished}
 use Rattle.certify.specs.run.SolverCalls.{IsCaused, FaultSays, IsReady, proof_in}
 use Rattle.certify.specs.run.Certifies.{Certifies, complete, ordered}
 use Rattle.certify.specs.run.Ending.{ClosedBy, EndsRun, GivenBack, GivesFront, HasTarget, HasOpenTarget, SumsUp}
@@ -77,45 +77,45 @@ some_same a b e = cc
 
 module _ {C : Type 0} (seen : C → Writer) (w : Writer) (p q : Proof C) (opened_at : target_of seen p ≡ Open Varisat uncounted (empty_sink w)) where
   -- it carried what was made since
-  carried : (t : Took seen p q) → Carries (Open Varisat uncounted (empty_sink w)) t.0 (target_of seen q)
-  carried t = subst (λ x. Carries x t.0 (target_of seen q)) opened_at t.1.target
+  carried : (t : ComesBySteps seen p q) → TargetTakes (Open Varisat uncounted (empty_sink w)) t.0 (target_of seen q)
+  carried t = subst (λ x. TargetTakes x t.0 (target_of seen q)) opened_at t.1.target
 
-  stopped : (t : Broke seen p q) → Stops (Open Varisat uncounted (empty_sink w)) t.0 (target_of seen q)
-  stopped t = subst (λ x. Stops x t.0 (target_of seen q)) opened_at t.1.target
+  stopped : (t : BreaksEmitting seen p q) → TargetFails (Open Varisat uncounted (empty_sink w)) t.0 (target_of seen q)
+  stopped t = subst (λ x. TargetFails x t.0 (target_of seen q)) opened_at t.1.target
 
-  pub took_open_target : Took seen p q → is_open (target_of seen q) ≡ true
+  pub took_open_target : ComesBySteps seen p q → is_open (target_of seen q) ≡ true
   took_open_target t = ap is_open (carried t).2
 
-  pub took_target : Took seen p q → target_of seen q ≡ Closed → ⊥
+  pub took_target : ComesBySteps seen p q → target_of seen q ≡ Closed → ⊥
   took_target t e = let x : is_open (target_of seen q) ≡ true = took_open_target t in let y : is_open Closed ≡ true = subst (λ z. is_open z ≡ true) e x in absurd (cc)
 
-  pub broke_target : Broke seen p q → target_of seen q ≡ Closed → ⊥
+  pub broke_target : BreaksEmitting seen p q → target_of seen q ≡ Closed → ⊥
   broke_target t e = let x : Broken (stopped t).0 ≡ Closed = sym (stopped t).1 ∙ e in absurd (cc)
 
   -- given back where no call failed
-  pub given_none : (given : Writer) → Took seen p q → Gives (target_of seen q) (Some given) → NoneFailed w given
+  pub given_none : (given : Writer) → ComesBySteps seen p q → GivesWriter (target_of seen q) (Some given) → NoneFailed w given
   given_none given t g =
       let c = carried t in
-      let e : given ≡ c.1.writer = some_same given c.1.writer (subst (λ x. Gives x (Some given)) c.2 g) in
+      let e : given ≡ c.1.writer = some_same given c.1.writer (subst (λ x. GivesWriter x (Some given)) c.2 g) in
       let k = c.3.wrote.sent.takes in
       (ap (λ x. x.failures) e ∙ k.failures, ap (λ x. x.loans) e ∙ k.loans)
 
   -- or where one did
-  pub given_one : (given : Writer) → Broke seen p q → Gives (target_of seen q) (Some given) → OneFailed w given
+  pub given_one : (given : Writer) → BreaksEmitting seen p q → GivesWriter (target_of seen q) (Some given) → OneFailed w given
   given_one given t g =
       let c = stopped t in
-      let e : given ≡ c.0 = some_same given c.0 (subst (λ x. Gives x (Some given)) c.1 g) in
+      let e : given ≡ c.0 = some_same given c.0 (subst (λ x. GivesWriter x (Some given)) c.1 g) in
       let k = c.2.breaks in
       (ap (λ x. x.failures) e ∙ k.failures, ap (λ x. x.failed) e ∙ k.failed, ap (λ x. x.loans) e ∙ k.loans)
 
   -- or at the end
-  pub closed_text : (given : Writer) (t : Took seen p q) → TakesAll (target_of seen q) (End ∷ []) given → TookText Varisat w given (End ∷ t.0)
+  pub closed_text : (given : Writer) (t : ComesBySteps seen p q) → TakesAll (target_of seen q) (End ∷ []) given → TookText Varisat w given (End ∷ t.0)
   closed_text given t g = closed_is_text Varisat w given t.0 End (target_of seen q) (carried t) g
 
 -- A RUN THAT WAS FINISHED
 
 module _ {C : Type 0} (seen : C → Writer) (budget : ℕ) (w : Writer) (s t : Session C) (fresh : IsNew seen budget w s) (text : List ℕ) (at : Option ℕ) (summary : Summary) (given : C) (u v z : Writer)
-    (serves : ServesWhole seen start (reading text) (length (written text).0) at s t u v) (closed : ClosedBy seen t.solver given) (took : Takes v z []) (sums : SumsUp at t summary) where
+    (serves : ServesWhole seen start (reading text) (length (written text).0) at s t u v) (closed : ClosedBy seen t.solver given) (took : WriterTakes v z []) (sums : SumsUp at t summary) where
   made_all : steps_in t.solver ≡ serves.took.0
   made_all = serves.took.1.history ∙ ap (λ xs. serves.took.0 ++ xs) fresh.steps ∙ append-nil serves.took.0
 
@@ -131,7 +131,7 @@ module _ {C : Type 0} (seen : C → Writer) (budget : ℕ) (w : Writer) (s t : S
   says : serves.text ≡ answers_text (reading text).0 (reading text).1 serves.serves.outcomes
   says = sym (ap (λ (n : ℕ). answers_from (n + 1) start (reading text).0 (reading text).1 serves.serves.outcomes) (sym fresh.commands) ∙ serves.serves.says)
 
-  abbrev is_answered : Answers text budget summary serves.text
+  abbrev is_answered : AnswersRightly text budget summary serves.text
   is_answered = record {
     outcomes = serves.serves.outcomes;
     right = serves.serves.right;
@@ -175,11 +175,11 @@ module _ {C : Type 0} (seen : C → Writer) (budget : ℕ) (w : Writer) (s t : S
     keeps = λ hides. none_deletes follows text_of.cuts hides may.0;
   }
 
-  pub wrote_text : Wrote text budget summary (u, z) (w, seen given)
+  pub wrote_text : WritesRun text budget summary (u, z) (w, seen given)
   wrote_text = record {
     answered = serves.text;
     certified = text_in Varisat text_of.written;
-    tells = subst (Takes u z) (append-nil serves.text) (writes.took_more u v z serves.text [] serves.told took);
+    tells = subst (WriterTakes u z) (append-nil serves.text) (writes.took_more u v z serves.text [] serves.told took);
     certifies = text_of.takes;
     is_backed = is_backed;
   }
@@ -200,8 +200,8 @@ one_both u v w n m = (let a = n.0 in let b = m.0 in omega arith, m.1, m.2 ∙ n.
 
 module _ {C : Type 0} (seen : C → Writer) (budget : ℕ) (w : Writer) (s t : Session C) (fresh : IsNew seen budget w s) (x : Reader) (b : Source) (bounded : b.reads ≤ most_reads) (given : C) (u v z : Writer) where
   -- all was served, and the end isn't finished
-  ended_fault : (e : RunFault) (at : Option ℕ) → ServesScript seen start reading written (Ok at) (unread x) b s t u v → FaultSays e (OneFailed v z × ClosedBy seen t.solver given) (NoneFailed v z × GivenBack seen Broke t.solver given) (NoneFailed v z × GivenBack seen Took t.solver given)
-      → Runs (Err e) budget (x, b.reader) (u, z) (w, seen given)
+  ended_fault : (e : RunFault) (at : Option ℕ) → ServesScript seen start reading written (Ok at) (unread x) b s t u v → FaultSays e (OneFailed v z × ClosedBy seen t.solver given) (NoneFailed v z × GivenBack seen BreaksEmitting t.solver given) (NoneFailed v z × GivenBack seen ComesBySteps t.solver given)
+      → FinishesOrFaults (Err e) budget (x, b.reader) (u, z) (w, seen given)
   ended_fault fault.ScriptRead at h f = absurd f
   ended_fault fault.AnswersWrite at h f =
       let k = h.2 b.reader.given (covers_given b) in
@@ -221,7 +221,7 @@ module _ {C : Type 0} (seen : C → Writer) (budget : ℕ) (w : Writer) (s t : S
       ((took_kept false (unread x) b h.0).0, none_both u v z (k.told.failures, k.told.loans) f.0, given_none seen w (proof_in s.solver) f.1.proof fresh.target (seen given) (took_both seen (proof_in s.solver) (proof_in t.solver) f.1.proof k.took f.1.goes) f.1.gives)
 
   -- not all was served
-  served_fault : (e : RunFault) → FailsWhole seen e (unread x) b s.solver t.solver u v → z ≡ v → Gives (target_of seen (proof_in t.solver)) (Some (seen given)) → Runs (Err e) budget (x, b.reader) (u, z) (w, seen given)
+  served_fault : (e : RunFault) → FailsWhole seen e (unread x) b s.solver t.solver u v → z ≡ v → GivesWriter (target_of seen (proof_in t.solver)) (Some (seen given)) → FinishesOrFaults (Err e) budget (x, b.reader) (u, z) (w, seen given)
   served_fault fault.ScriptRead h same g = (read_fails x b h.0.0 bounded h.0.1, subst (NoneFailed u) (sym same) h.1, given_none seen w (proof_in s.solver) (proof_in t.solver) fresh.target (seen given) h.2 g)
   served_fault fault.AnswersWrite h same g = (h.0.1.failures, subst (OneFailed u) (sym same) h.1, given_none seen w (proof_in s.solver) (proof_in t.solver) fresh.target (seen given) h.2 g)
   served_fault fault.CertificateWrite h same g = (h.0.1.failures, subst (NoneFailed u) (sym same) h.1, given_one seen w (proof_in s.solver) (proof_in t.solver) fresh.target (seen given) h.2 g)
@@ -229,13 +229,13 @@ module _ {C : Type 0} (seen : C → Writer) (budget : ℕ) (w : Writer) (s t : S
   served_fault fault.StoreFull h same g = (h.0.1.failures, subst (NoneFailed u) (sym same) h.1, given_none seen w (proof_in s.solver) (proof_in t.solver) fresh.target (seen given) h.2 g)
   served_fault fault.CounterEnd h same g = (h.0.1.failures, subst (NoneFailed u) (sym same) h.1, given_none seen w (proof_in s.solver) (proof_in t.solver) fresh.target (seen given) h.2 g)
 
-  pub runs_so : (served : Result (Option ℕ) RunFault) (r : Result Summary RunFault) → ServesScript seen start reading written served (unread x) b s t u v → EndsRun seen served r t given v z → Runs r budget (x, b.reader) (u, z) (w, seen given)
+  pub runs_so : (served : Result (Option ℕ) RunFault) (r : Result Summary RunFault) → ServesScript seen start reading written served (unread x) b s t u v → EndsRun seen served r t given v z → FinishesOrFaults r budget (x, b.reader) (u, z) (w, seen given)
   runs_so (Ok at) (Ok summary) h f =
       let k = h.2 b.reader.given (covers_given b) in
       let all = rest_in b.reader.given (unread x) in
       let n = none_certified seen budget w s t fresh all at summary given u v z k f.0.0 f.0.1 f.1 in
       record {
-        wrote = gave_enough x b h.0.0.0 (λ text. Wrote text budget summary (u, z) (w, seen given)) h.0.0.1 h.0.1
+        wrote = gave_enough x b h.0.0.0 (λ text. WritesRun text budget summary (u, z) (w, seen given)) h.0.0.1 h.0.1
             (λ total c. wrote_text seen budget w s t fresh (rest_in total (unread x)) at summary given u v z (h.2 total c) f.0.0 f.0.1 f.1);
         read = (took_kept false (unread x) b h.0).0;
         told = none_both u v z (k.told.failures, k.told.loans) (f.0.1.failures, f.0.1.loans);
@@ -244,14 +244,14 @@ module _ {C : Type 0} (seen : C → Writer) (budget : ℕ) (w : Writer) (s t : S
         certificate_flushed = flushed_text seen budget w s t fresh all at summary given u v z k f.0.0 f.0.1 f.1;
       }
   runs_so (Ok at) (Err e) h f = ended_fault e at h f.0
-  runs_so (Err e) r h f = subst (λ (q : Result Summary RunFault). Runs q budget (x, b.reader) (u, z) (w, seen given)) (sym f.0) (served_fault e h.0 f.1 f.2)
+  runs_so (Err e) r h f = subst (λ (q : Result Summary RunFault). FinishesOrFaults q budget (x, b.reader) (u, z) (w, seen given)) (sym f.0) (served_fault e h.0 f.1 f.2)
 
   -- what it has written of the answers
   abbrev Front : List ℕ → Writer → Type 0
-  Front text w = TookFront 1 start (reading text) u w
+  Front text w = TookAnswersFront 1 start (reading text) u w
 
-  first_command : (text : List ℕ) (w : Writer) → TookFront (s.commands + 1) start (reading text) u w → Front text w
-  first_command text w k = subst (λ (n : ℕ). TookFront (n + 1) start (reading text) u w) fresh.commands k
+  first_command : (text : List ℕ) (w : Writer) → TookAnswersFront (s.commands + 1) start (reading text) u w → Front text w
+  first_command text w k = subst (λ (n : ℕ). TookAnswersFront (n + 1) start (reading text) u w) fresh.commands k
 
   served_front : (e : RunFault) → FailsWhole seen e (unread x) b s.solver t.solver u v → ((total : List ℕ) → Covers b total → Front (rest_in total (unread x)) z) → Unfinished (x, b.reader) (u, z)
   served_front fault.ScriptRead h f = faulted_front x b h.0.0 (λ text. Front text z) h.0.1 f
@@ -288,7 +288,7 @@ module _ {C : Type 0} (seen : C → Writer) (budget : ℕ) (w : Writer) (s t : S
   counter_so (Err e) r h f q = let k : ◌≡◌ {A = Result Summary RunFault} (Err e) (Err fault.CounterEnd) = sym f.0 ∙ q in served_end e (cc) h.0 h.2
 
   -- what it has written of the certificate
-  fails_went : (e : RunFault) → FailsWhole seen e (unread x) b s.solver t.solver u v → Went seen s.solver t.solver
+  fails_went : (e : RunFault) → FailsWhole seen e (unread x) b s.solver t.solver u v → ReachesBySteps seen s.solver t.solver
   fails_went fault.ScriptRead h = went_took seen s.solver t.solver h.2
   fails_went fault.AnswersWrite h = went_took seen s.solver t.solver h.2
   fails_went fault.CertificateWrite h = went_broke seen s.solver t.solver h.2
@@ -344,7 +344,7 @@ unlent_names a b given back loans = let h : ◌≡◌ {A = List ℕ} (back ∷ b
 unlent_loans : (a b : Writer) (given back : ℕ) → (lent_writer back b).loans ≡ (lent_writer given a).loans → b.loans ≡ a.loans
 unlent_loans a b given back loans = let h : ◌≡◌ {A = List ℕ} (back ∷ b.loans) (given ∷ a.loans) = loans in cc
 
-unlent_takes : (a b : Writer) (given back : ℕ) (text : List ℕ) → Takes (lent_writer given a) (lent_writer back b) text → Takes a b text
+unlent_takes : (a b : Writer) (given back : ℕ) (text : List ℕ) → WriterTakes (lent_writer given a) (lent_writer back b) text → WriterTakes a b text
 unlent_takes a b given back text p = record { taken = p.taken; told = p.told; failures = p.failures; calls = p.calls; few = p.few; loans = unlent_loans a b given back p.loans }
 
 module _ (budget : ℕ) (x y : Reader) (u z a b : Writer) (given back : ℕ) where
@@ -354,7 +354,7 @@ module _ (budget : ℕ) (x y : Reader) (u z a b : Writer) (given back : ℕ) whe
   unlent_one : OneFailed (lent_writer given a) (lent_writer back b) → OneFailed a b
   unlent_one p = (p.0, p.1, unlent_loans a b given back p.2)
 
-  loans_fault : (e : RunFault) → Runs (Err e) budget (x, y) (u, z) (lent_writer given a, lent_writer back b) → (lent_writer back b).loans ≡ (lent_writer given a).loans
+  loans_fault : (e : RunFault) → FinishesOrFaults (Err e) budget (x, y) (u, z) (lent_writer given a, lent_writer back b) → (lent_writer back b).loans ≡ (lent_writer given a).loans
   loans_fault fault.ScriptRead h = h.2.1
   loans_fault fault.AnswersWrite h = h.2.1
   loans_fault fault.CertificateWrite h = h.2.2
@@ -362,11 +362,11 @@ module _ (budget : ℕ) (x y : Reader) (u z a b : Writer) (given back : ℕ) whe
   loans_fault fault.StoreFull h = h.2.1
   loans_fault fault.CounterEnd h = h.2.1
 
-  loans_kept : (r : Result Summary RunFault) → Runs r budget (x, y) (u, z) (lent_writer given a, lent_writer back b) → (lent_writer back b).loans ≡ (lent_writer given a).loans
+  loans_kept : (r : Result Summary RunFault) → FinishesOrFaults r budget (x, y) (u, z) (lent_writer given a, lent_writer back b) → (lent_writer back b).loans ≡ (lent_writer given a).loans
   loans_kept (Ok s) h = h.certified.1
   loans_kept (Err e) h = loans_fault e h
 
-  unlent_wrote : (text : List ℕ) (s : Summary) → Wrote text budget s (u, z) (lent_writer given a, lent_writer back b) → Wrote text budget s (u, z) (a, b)
+  unlent_wrote : (text : List ℕ) (s : Summary) → WritesRun text budget s (u, z) (lent_writer given a, lent_writer back b) → WritesRun text budget s (u, z) (a, b)
   unlent_wrote text s h = record {
     answered = h.answered;
     certified = h.certified;
@@ -375,7 +375,7 @@ module _ (budget : ℕ) (x y : Reader) (u z a b : Writer) (given back : ℕ) whe
     is_backed = h.is_backed;
   }
 
-  unlent_fault : (e : RunFault) → Runs (Err e) budget (x, y) (u, z) (lent_writer given a, lent_writer back b) → Runs (Err e) budget (x, y) (u, z) (a, b)
+  unlent_fault : (e : RunFault) → FinishesOrFaults (Err e) budget (x, y) (u, z) (lent_writer given a, lent_writer back b) → FinishesOrFaults (Err e) budget (x, y) (u, z) (a, b)
   unlent_fault fault.ScriptRead h = (h.0, h.1, unlent_none h.2)
   unlent_fault fault.AnswersWrite h = (h.0, h.1, unlent_none h.2)
   unlent_fault fault.CertificateWrite h = (h.0, h.1, unlent_one h.2)
@@ -383,9 +383,9 @@ module _ (budget : ℕ) (x y : Reader) (u z a b : Writer) (given back : ℕ) whe
   unlent_fault fault.StoreFull h = (h.0, h.1, unlent_none h.2)
   unlent_fault fault.CounterEnd h = (h.0, h.1, unlent_none h.2)
 
-  unlent : (r : Result Summary RunFault) → Runs r budget (x, y) (u, z) (lent_writer given a, lent_writer back b) → Runs r budget (x, y) (u, z) (a, b)
+  unlent : (r : Result Summary RunFault) → FinishesOrFaults r budget (x, y) (u, z) (lent_writer given a, lent_writer back b) → FinishesOrFaults r budget (x, y) (u, z) (a, b)
   unlent (Ok s) h = record {
-    wrote = enough_so x y (λ text. Wrote text budget s (u, z) (lent_writer given a, lent_writer back b)) (λ text. Wrote text budget s (u, z) (a, b)) (λ text. unlent_wrote text s) h.wrote;
+    wrote = enough_so x y (λ text. WritesRun text budget s (u, z) (lent_writer given a, lent_writer back b)) (λ text. WritesRun text budget s (u, z) (a, b)) (λ text. unlent_wrote text s) h.wrote;
     read = h.read;
     told = h.told;
     certified = unlent_none h.certified;
@@ -396,10 +396,10 @@ module _ (budget : ℕ) (x y : Reader) (u z a b : Writer) (given back : ℕ) whe
 
 -- given back, it is what it was at the end of the loan
 pub runs_lent : {C : Type 0} (seen : C → Writer) (budget : ℕ) (x y : Reader) (u z : Writer) (a c v : C) (given back : ℕ) → (given ≡ back → c ≡ v) → (r : Result Summary RunFault)
-    → Runs r budget (x, y) (u, z) (lent_writer given (seen a), lent_writer back (seen v)) → Runs r budget (x, y) (u, z) (seen a, seen c)
+    → FinishesOrFaults r budget (x, y) (u, z) (lent_writer given (seen a), lent_writer back (seen v)) → FinishesOrFaults r budget (x, y) (u, z) (seen a, seen c)
 runs_lent seen budget x y u z a c v given back same r h =
     let is_back : c ≡ v = same (unlent_names (seen a) (seen v) given back (loans_kept budget x y u z (seen a) (seen v) given back r h)) in
-    subst (λ (k : _). Runs r budget (x, y) (u, z) (seen a, seen k)) (sym is_back) (unlent budget x y u z (seen a) (seen v) given back r h)
+    subst (λ (k : _). FinishesOrFaults r budget (x, y) (u, z) (seen a, seen k)) (sym is_back) (unlent budget x y u z (seen a) (seen v) given back r h)
 
 unlent_steps : (a b : Writer) (given back : ℕ) → TookSteps (lent_writer given a, lent_writer back b) → TookSteps (a, b)
 unlent_steps a b given back h = ∥∥₁_elim h ∥∥₁_prop (λ (k : StepsFront (lent_writer given a) (lent_writer back b)). ∣ record {
@@ -416,7 +416,7 @@ unlent_steps a b given back h = ∥∥₁_elim h ∥∥₁_prop (λ (k : StepsFr
 
 -- the same of what it took of the certificate
 pub steps_lent : {C : Type 0} (seen : C → Writer) (budget : ℕ) (x y : Reader) (u z : Writer) (a c v : C) (given back : ℕ) → (given ≡ back → c ≡ v) → (r : Result Summary RunFault)
-    → Runs r budget (x, y) (u, z) (lent_writer given (seen a), lent_writer back (seen v)) → TookSteps (lent_writer given (seen a), lent_writer back (seen v)) → TookSteps (seen a, seen c)
+    → FinishesOrFaults r budget (x, y) (u, z) (lent_writer given (seen a), lent_writer back (seen v)) → TookSteps (lent_writer given (seen a), lent_writer back (seen v)) → TookSteps (seen a, seen c)
 steps_lent seen budget x y u z a c v given back same r h k =
     let is_back : c ≡ v = same (unlent_names (seen a) (seen v) given back (loans_kept budget x y u z (seen a) (seen v) given back r h)) in
     subst (λ (q : _). TookSteps (seen a, seen q)) (sym is_back) (unlent_steps (seen a) (seen v) given back k)
@@ -424,10 +424,10 @@ steps_lent seen budget x y u z a c v given back same r h k =
 -- WHAT A RUN PROMISES
 
 module _ (budget : ℕ) (x y : Reader) (u z a b : Writer) where
-  pub answered_if : (r : Result Summary RunFault) → Runs r budget (x, y) (u, z) (a, b) → IfOk r (λ s. Answered budget s (x, y) (u, z))
-  answered_if (Ok s) h = enough_so x y (λ text. Wrote text budget s (u, z) (a, b)) (λ text. (answered : List ℕ) × Takes u z answered × Answers text budget s answered) (λ text k. (k.answered, k.tells, k.is_backed.is_answered)) h.wrote
+  pub answered_if : (r : Result Summary RunFault) → FinishesOrFaults r budget (x, y) (u, z) (a, b) → IfOk r (λ s. WritesAnswers budget s (x, y) (u, z))
+  answered_if (Ok s) h = enough_so x y (λ text. WritesRun text budget s (u, z) (a, b)) (λ text. (answered : List ℕ) × WriterTakes u z answered × AnswersRightly text budget s answered) (λ text k. (k.answered, k.tells, k.is_backed.is_answered)) h.wrote
   answered_if (Err e) h = tt
 
-  pub backed_if : (r : Result Summary RunFault) → Runs r budget (x, y) (u, z) (a, b) → IfOk r (λ s. TookCertificate budget s (x, y) (u, z) (a, b))
-  backed_if (Ok s) h = enough_so x y (λ text. Wrote text budget s (u, z) (a, b)) (λ text. (answered : List ℕ) × (certified : List ℕ) × Takes u z answered × Takes a b certified × Backs text budget s answered certified) (λ text k. (k.answered, k.certified, k.tells, k.certifies, k.is_backed)) h.wrote
+  pub backed_if : (r : Result Summary RunFault) → FinishesOrFaults r budget (x, y) (u, z) (a, b) → IfOk r (λ s. TookCertificate budget s (x, y) (u, z) (a, b))
+  backed_if (Ok s) h = enough_so x y (λ text. WritesRun text budget s (u, z) (a, b)) (λ text. (answered : List ℕ) × (certified : List ℕ) × WriterTakes u z answered × WriterTakes a b certified × Backs text budget s answered certified) (λ text k. (k.answered, k.certified, k.tells, k.certifies, k.is_backed)) h.wrote
   backed_if (Err e) h = tt

@@ -1,14 +1,14 @@
 -- One command that is served.
 use Rattle.std.proofs.Common.{ℕ, ◌+◌, ◌≡◌, Some, None, List, [], ◌∷◌, refl, sym, ap, subst}
-use Rattle.sat_base.specs.script.Script.{Literal, Command, Clause, Ask, Hide, Witness, Sample, Ending}
+use Rattle.sat_base.specs.script.Script.{Literal, Command, Clause, Ask, Hide, Witness, Sample, ScriptEnding}
 use Rattle.sat_base.specs.script.Judge.{Judge, Refusal, accepted, accepted_of, refusal_of}
 use Rattle.sat_base.specs.steps.Steps.{Step}
 use Rattle.sat_checker.specs.matching.Expected.{Outcome}
 use Rattle.sat_checker.specs.matching.ProofChecking.{the_checking}
 use Rattle.certify.specs.answers.Answers.{answers_from, refused_line, outcome_text}
 use Rattle.certify.specs.answers.RightAnswers.{IsRight, AreRight}
-use Rattle.certify.specs.run.FinishedRun.{answer_kind, AreSpent, IsBounded, IsSpent, identities_given}
-use Rattle.certify.specs.run.Serving.{RunPlace, Serves, behind}
+use Rattle.certify.specs.run.FinishedRun.{answer_kind, AreSpent, IsBounded, SpendsWithinBudget, identities_given}
+use Rattle.certify.specs.run.Serving.{RunPlace, Serves, place_after}
 use Rattle.certify.specs.run.Stretches.{AskStretches, IsNoAsk, MadeFor, MayFor, Stretch, due_for, made_ask, made_one}
 use Rattle.certify.specs.declared.summary.AskReport.{AskReport}
 
@@ -33,7 +33,7 @@ serves_refused budget a c r e = record {
 pub accepted_next : (j : Judge) (c : Command) (cs : List Command) → refusal_of j c ≡ None → accepted_of j (c ∷ cs) ≡ c ∷ accepted_of (accepted c j) cs
 accepted_next j c cs e = rw e refl
 
-says_none : (k : ℕ) (j : Judge) (c : Command) (cs : List Command) (ending : Ending) (os : List Outcome) → IsNoAsk c → refusal_of j c ≡ None → answers_from k j (c ∷ cs) ending os ≡ answers_from (k + 1) (accepted c j) cs ending os
+says_none : (k : ℕ) (j : Judge) (c : Command) (cs : List Command) (ending : ScriptEnding) (os : List Outcome) → IsNoAsk c → refusal_of j c ≡ None → answers_from k j (c ∷ cs) ending os ≡ answers_from (k + 1) (accepted c j) cs ending os
 says_none k j (Clause ls) cs ending os h e = rw e refl
 says_none k j (Ask ls) cs ending os h e = absurd h
 says_none k j (Hide names) cs ending os h e = rw e refl
@@ -55,7 +55,7 @@ given_next j (Witness names) cs h = refl
 given_next j (Sample names) cs h = refl
 
 pub serves_plain : (budget : ℕ) (a : RunPlace) (c : Command) (steps : List Step) → IsNoAsk c → refusal_of a.judge c ≡ None → Stretch (MayFor c) a.steps steps (due_for (the_checking.unsat a.steps) c a.judge)
-    → Serves budget a (behind a c steps a.rounds) (c ∷ []) [] [] 0
+    → Serves budget a (place_after a c steps a.rounds) (c ∷ []) [] [] 0
 serves_plain budget a c steps h e stretch = record {
   outcomes = [];
   right = λ left rest x. subst (λ cs. AreRight a.judge cs rest) (sym (accepted_next a.judge c left e)) (right_next a.judge c (accepted_of (accepted c a.judge) left) rest h x);
@@ -72,9 +72,9 @@ serves_plain budget a c steps h e stretch = record {
 -- AN ASK
 
 pub serves_ask : (budget : ℕ) (a : RunPlace) (ls : List Literal) (o : Outcome) (report : AskReport) (steps : List Step) → refusal_of a.judge (Ask ls) ≡ None
-    → IsRight (accepted (Ask ls) a.judge) ls o → report.answer ≡ answer_kind o → IsSpent budget a.rounds report
+    → IsRight (accepted (Ask ls) a.judge) ls o → report.answer ≡ answer_kind o → SpendsWithinBudget budget a.rounds report
     → IsBounded (accepted (Ask ls) a.judge).next_identity budget a.rounds report → AskStretches a.judge ls o report.steps a.steps steps
-    → Serves budget a (behind a (Ask ls) steps (a.rounds + report.steps)) (Ask ls ∷ []) (outcome_text o) (report ∷ []) 0
+    → Serves budget a (place_after a (Ask ls) steps (a.rounds + report.steps)) (Ask ls ∷ []) (outcome_text o) (report ∷ []) 0
 serves_ask budget a ls o report steps e right kind spent bounded made = record {
   outcomes = o ∷ [];
   right = λ left rest x. subst (λ cs. AreRight a.judge cs (o ∷ rest)) (sym (accepted_next a.judge (Ask ls) left e)) (right, x);

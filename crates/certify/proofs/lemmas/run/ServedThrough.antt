@@ -3,15 +3,15 @@ use Rattle.std.proofs.Common.{ℕ, ◌+◌, ◌≡◌, ◌∙◌, true, false, O
 use Rattle.std.proofs.lemmas.List.{map-append}
 use Rattle.sat_base.specs.declared.device.whole.ReadError.{ReadError}
 use Rattle.sat_base.specs.declared.device.whole.ReadError.TheVariants as errors
-use Rattle.sat_base.specs.device.Device.{Writer, Takes}
+use Rattle.sat_base.specs.device.Device.{Writer, WriterTakes}
 use Rattle.sat_base.specs.device.Reading.{Source, AtEnd}
-use Rattle.sat_base.specs.script.Script.{Command, Ask, Ending, Clean, Malformed}
+use Rattle.sat_base.specs.script.Script.{Command, Ask, ScriptEnding, Clean, Malformed}
 use Rattle.sat_base.specs.script.Language.{Reading, onto_commands}
 use Rattle.sat_base.specs.script.Judge.{Judge, accepted, accepted_of, after_command}
 use Rattle.sat_base.specs.steps.Steps.{Step}
 use Rattle.sat_base.proofs.lemmas.device.Writes as writes
 use Rattle.sat_checker.specs.matching.Expected.{Outcome}
-use Rattle.sat_solver.specs.session.Making.{Took, Broke}
+use Rattle.sat_solver.specs.session.Making.{ComesBySteps, BreaksEmitting}
 use Rattle.sat_solver.specs.solver.Whole.{HasFullStore, steps_in}
 use Rattle.certify.specs.Devices.{NoneFailed, OneFailed}
 use Rattle.certify.specs.answers.Answers.{answers_from, ending_text, malformed_line}
@@ -24,11 +24,11 @@ use Rattle.certify.specs.declared.script.reader.ScriptReader.{ScriptReader}
 use Rattle.certify.specs.declared.script.stream.Next.TheVariants as next
 use Rattle.certify.specs.declared.run.session.Session.{Session}
 use Rattle.certify.specs.declared.summary.AskReport.{AskReport}
-use Rattle.certify.specs.script.Ahead.{Passed, TakesSome as TookOf}
-use Rattle.certify.specs.script.Commands.{HasWhole, Means, MeansIf, ReachesCommand, end_reading, end_if}
+use Rattle.certify.specs.script.Ahead.{TakesSomeOrEnds, TakesSome as TookOf}
+use Rattle.certify.specs.script.Commands.{HasWhole, ReaderMeans, MeansIf, ReachesCommand, end_reading, end_if}
 use Rattle.certify.specs.script.Streaming.{Arrives, NextComes}
 use Rattle.certify.specs.run.FinishedRun.{malformed_at, answer_kind, asked_steps}
-use Rattle.certify.specs.run.Unfinished.{Exceeds, TookFront}
+use Rattle.certify.specs.run.Unfinished.{Exceeds, TookAnswersFront}
 use Rattle.certify.specs.run.SolverCalls.{FaultSays, IsCaused, IsReady, proof_in}
 use Rattle.certify.specs.run.Serving.{RunPlace, Serves}
 use Rattle.certify.specs.run.Standing.{CarriedOut, CausedOver, RunGoesOn, JudgeIsAt, ServedNext, StopsCarrying, StopsOver, WritesBoth, last_place, place_in}
@@ -45,7 +45,7 @@ use Rattle.certify.specs.run.Quiet.{Solver}
 
 -- PLACES
 
-pub to_end : (budget : ℕ) (a : RunPlace) (ending : Ending) → ServesTo budget a ([], ending) a.steps (ending_text a.number ending) [] 0
+pub to_end : (budget : ℕ) (a : RunPlace) (ending : ScriptEnding) → ServesTo budget a ([], ending) a.steps (ending_text a.number ending) [] 0
 to_end budget a ending = record {
   outcomes = [];
   right = tt;
@@ -163,13 +163,13 @@ module _ {C : Type 0} (seen : C → Writer) where
   }
 
   -- its last line
-  pub ends_malformed : (j : Judge) (a b : Session C) (u v : Writer) (number : ℕ) → number ≡ a.commands + 1 → b.solver ≡ a.solver → b.commands ≡ a.commands → b.refused ≡ a.refused → b.asks ≡ a.asks → Takes u v (malformed_line number) → ServesWhole seen j ([], Malformed) 0 (Some number) a b u v
+  pub ends_malformed : (j : Judge) (a b : Session C) (u v : Writer) (number : ℕ) → number ≡ a.commands + 1 → b.solver ≡ a.solver → b.commands ≡ a.commands → b.refused ≡ a.refused → b.asks ≡ a.asks → WriterTakes u v (malformed_line number) → ServesWhole seen j ([], Malformed) 0 (Some number) a b u v
   ends_malformed j a b u v number e solver commands refused asks told = record {
-    took = subst (λ x. Took seen (proof_in a.solver) (proof_in x)) (sym solver) (took_none seen (proof_in a.solver));
+    took = subst (λ x. ComesBySteps seen (proof_in a.solver) (proof_in x)) (sym solver) (took_none seen (proof_in a.solver));
     counted = omega (arith, commands);
     ends = ap Some (let x : number ≡ a.commands + 0 + 1 = omega (arith, e) in x);
     text = malformed_line (a.commands + 1);
-    told = subst (λ n. Takes u v (malformed_line n)) e told;
+    told = subst (λ n. WriterTakes u v (malformed_line n)) e told;
     reports = [];
     asks = ap (λ (rs : _). rs.items) asks ∙ sym (append-nil a.asks.items);
     refused = 0;
@@ -233,8 +233,8 @@ module _ {C : Type 0} (seen : C → Writer) where
       front_later a.budget (place_in a j) (place_in b (after_command c j)) (c ∷ []) script f.text f.reports f.refused u v w h.1 f.told (g (after_command c j) h.0)
 
   -- what a part behind others says of its devices
-  pub fails_then : (e : RunFault) (a b : Source) (p q r : Solver C) (u v w : Writer) → Passed a b → NoneFailed u v → Took seen (proof_in p) (proof_in q)
-      → FaultSays e (OneFailed v w × Took seen (proof_in q) (proof_in r)) (NoneFailed v w × Broke seen (proof_in q) (proof_in r)) (NoneFailed v w × Took seen (proof_in q) (proof_in r)) → FailsWhole seen e a b p r u w
+  pub fails_then : (e : RunFault) (a b : Source) (p q r : Solver C) (u v w : Writer) → TakesSomeOrEnds a b → NoneFailed u v → ComesBySteps seen (proof_in p) (proof_in q)
+      → FaultSays e (OneFailed v w × ComesBySteps seen (proof_in q) (proof_in r)) (NoneFailed v w × BreaksEmitting seen (proof_in q) (proof_in r)) (NoneFailed v w × ComesBySteps seen (proof_in q) (proof_in r)) → FailsWhole seen e a b p r u w
   fails_then fault.ScriptRead a b p q r u v w k n t h = absurd h
   fails_then fault.AnswersWrite a b p q r u v w k n t h = (k, one_later u v w n h.0, took_both seen (proof_in p) (proof_in q) (proof_in r) t h.1)
     where
@@ -246,7 +246,7 @@ module _ {C : Type 0} (seen : C → Writer) where
   fails_then fault.CounterEnd a b p q r u v w k n t h = (k, (h.0.0 ∙ n.0, h.0.1 ∙ n.1), took_both seen (proof_in p) (proof_in q) (proof_in r) t h.1)
 
   -- one behind another
-  pub both_then : {B : Type 0} (r : Result B RunFault) (p q s : Solver C) (u v w : Writer) → NoneFailed u v × Took seen (proof_in p) (proof_in q) → WritesBoth r seen v w q s → WritesBoth r seen u w p s
+  pub both_then : {B : Type 0} (r : Result B RunFault) (p q s : Solver C) (u v w : Writer) → NoneFailed u v × ComesBySteps seen (proof_in p) (proof_in q) → WritesBoth r seen v w q s → WritesBoth r seen u w p s
   both_then (Ok y) p q s u v w f g = ((g.0.0 ∙ f.0.0, g.0.1 ∙ f.0.1), took_both seen (proof_in p) (proof_in q) (proof_in s) f.1 g.1)
   both_then (Err fault.ScriptRead) p q s u v w f g = absurd g
   both_then (Err fault.AnswersWrite) p q s u v w f g = ((let n = f.0.0 in let m = g.0.0 in omega arith, g.0.1, g.0.2 ∙ f.0.1), took_both seen (proof_in p) (proof_in q) (proof_in s) f.1 g.1)
@@ -257,7 +257,7 @@ module _ {C : Type 0} (seen : C → Writer) where
 
 -- READING ON
 
-pub through_none : {C : Type 0} (seen : C → Writer) (j : Judge) (text counted : List ℕ → Reading) (a : Source) (reader : ScriptReader) (s : Session C) (w : Writer) → Means reader text → MeansIf false reader counted → RunGoesOn s → JudgeIsAt s j
+pub through_none : {C : Type 0} (seen : C → Writer) (j : Judge) (text counted : List ℕ → Reading) (a : Source) (reader : ScriptReader) (s : Session C) (w : Writer) → ReaderMeans reader text → MeansIf false reader counted → RunGoesOn s → JudgeIsAt s j
     → ServesThrough seen j text counted a a reader s s w w
 through_none seen j text counted a reader s w m n g at = record {
   commands = [];
@@ -281,13 +281,13 @@ module _ {C : Type 0} (seen : C → Writer) (j : Judge) (text counted : List ℕ
 
   -- a front of right answers behind those to the commands that were served
   behind : (c : Source) (script : List ℕ → Reading) (w : Writer) → ((total : List ℕ) → Covers c total → Covers b total) → ((total : List ℕ) → Covers c total → through.left (rest_in total b) ≡ script total)
-      → ((total : List ℕ) → Covers c total → TookFront (mid.commands + 1) through.served.judge (script total) v w) → (total : List ℕ) → Covers c total → TookFront (old.commands + 1) j (text (rest_in total a)) u w
+      → ((total : List ℕ) → Covers c total → TookAnswersFront (mid.commands + 1) through.served.judge (script total) v w) → (total : List ℕ) → Covers c total → TookAnswersFront (old.commands + 1) j (text (rest_in total a)) u w
   behind c script w back is front total k =
       let f = through.served in
-      subst (λ s. TookFront (old.commands + 1) j s u w) (sym (through.reads total (back total k) ∙ ap (onto_commands through.commands) (is total k)))
+      subst (λ s. TookAnswersFront (old.commands + 1) j s u w) (sym (through.reads total (back total k) ∙ ap (onto_commands through.commands) (is total k)))
       (front_later old.budget (place_in old j) (place_in mid f.judge) through.commands (script total) f.text f.reports f.refused u v w f.serves f.told (front total k))
 
-  served_so_far : (c : Source) → ((total : List ℕ) → Covers c total → Covers b total) → (total : List ℕ) → Covers c total → TookFront (old.commands + 1) j (text (rest_in total a)) u v
+  served_so_far : (c : Source) → ((total : List ℕ) → Covers c total → Covers b total) → (total : List ℕ) → Covers c total → TookAnswersFront (old.commands + 1) j (text (rest_in total a)) u v
   served_so_far c back = behind c (λ total. through.left (rest_in total b)) v back (λ total k. refl) (λ total k. front_none (mid.commands + 1) through.served.judge (through.left (rest_in total b)) v)
 
   -- why no more was served, but for devices and memory

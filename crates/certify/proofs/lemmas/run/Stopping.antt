@@ -2,7 +2,7 @@
 use Rattle.std.proofs.Common.{ℕ, ◌+◌, ◌≡◌, ◌∙◌, Option, Some, None, List, [], ◌∷◌, ◌++◌, Err, append_assoc, refl, sym, ap, subst}
 use Rattle.std.proofs.lemmas.List.{append-nil}
 use Rattle.std.specs.Io.KnownBytes.{Appends, Keeps}
-use Rattle.sat_base.specs.device.Device.{Writer, FlushesOnce, Takes, Breaks}
+use Rattle.sat_base.specs.device.Device.{Writer, FlushesOnce, WriterTakes, WriterBreaks}
 use Rattle.sat_base.specs.script.Script.{Literal, Command, Clause, Ask, Hide, Witness, Sample, Malformed}
 use Rattle.sat_base.specs.script.Language.{Reading, onto_commands}
 use Rattle.sat_base.specs.script.Judge.{Judge, Refusal, accepted, accepted_of, refusal_of}
@@ -12,7 +12,7 @@ use Rattle.sat_checker.specs.matching.Expected.{Outcome, Unknown}
 use Rattle.certify.specs.answers.Answers.{answers_from, malformed_line, outcome_text, refused_line}
 use Rattle.certify.specs.answers.RightAnswers.{AreRight, IsRight}
 use Rattle.certify.specs.declared.summary.AskReport.{AskReport}
-use Rattle.certify.specs.run.Unfinished.{BeginAnswers, TookBytes, TookFront}
+use Rattle.certify.specs.run.Unfinished.{BeginAnswers, TookBytes, TookAnswersFront}
 use Rattle.certify.specs.run.Serving.{RunPlace, Serves}
 use Rattle.certify.specs.run.ServedScript.{ServesTo}
 use Rattle.certify.proofs.lemmas.run.ServedOnce.{accepted_next, accepted_refused}
@@ -88,13 +88,13 @@ begins_later budget a b cs script text bytes rs k f g = record {
 pub bytes_none : (w : Writer) → TookBytes w w []
 bytes_none w = record { taken = sym (append-nil w.taken); told = appends_none w.contents }
 
-bytes_taken : (u v : Writer) (text : List ℕ) → Takes u v text → TookBytes u v text
+bytes_taken : (u v : Writer) (text : List ℕ) → WriterTakes u v text → TookBytes u v text
 bytes_taken u v text t = record { taken = t.taken; told = t.told }
 
-bytes_broken : (u v : Writer) (text : List ℕ) → (b : Breaks u v text) → TookBytes u v b.front
+bytes_broken : (u v : Writer) (text : List ℕ) → (b : WriterBreaks u v text) → TookBytes u v b.front
 bytes_broken u v text b = record { taken = b.taken; told = b.told }
 
-bytes_later : (u v w : Writer) (text bytes : List ℕ) → Takes u v text → TookBytes v w bytes → TookBytes u w (text ++ bytes)
+bytes_later : (u v w : Writer) (text bytes : List ℕ) → WriterTakes u v text → TookBytes v w bytes → TookBytes u w (text ++ bytes)
 bytes_later u v w text bytes t b = record {
   taken = b.taken ∙ ap (λ (z : List ℕ). z ++ bytes) t.taken ∙ append_assoc u.taken text bytes;
   told = appends_more u.contents v.contents w.contents text bytes t.told b.told;
@@ -104,34 +104,34 @@ bytes_later u v w text bytes t b = record {
 
 module _ (n : ℕ) (j : Judge) where
   -- nothing was written
-  pub front_none : (script : Reading) (w : Writer) → TookFront n j script w w
+  pub front_none : (script : Reading) (w : Writer) → TookAnswersFront n j script w w
   front_none script w = record { bytes = []; took = bytes_none w; front = begins_none n j script }
 
-  front_all : (script : Reading) (u v : Writer) (text : List ℕ) → BeginAnswers n j script text → Takes u v text → TookFront n j script u v
+  front_all : (script : Reading) (u v : Writer) (text : List ℕ) → BeginAnswers n j script text → WriterTakes u v text → TookAnswersFront n j script u v
   front_all script u v text h t = record { bytes = text; took = bytes_taken u v text t; front = h }
 
-  front_broken : (script : Reading) (u v : Writer) (text : List ℕ) → BeginAnswers n j script text → Breaks u v text → TookFront n j script u v
+  front_broken : (script : Reading) (u v : Writer) (text : List ℕ) → BeginAnswers n j script text → WriterBreaks u v text → TookAnswersFront n j script u v
   front_broken script u v text h b = record { bytes = b.front; took = bytes_broken u v text b; front = begins_less n j script b.front b.behind (subst (BeginAnswers n j script) b.whole h) }
 
   -- the line of a refusal
-  pub front_refused : (c : Command) (r : Refusal) (left : Reading) (u v : Writer) → refusal_of j c ≡ Some r → Breaks u v (refused_line n r) → TookFront n j (onto_commands (c ∷ []) left) u v
+  pub front_refused : (c : Command) (r : Refusal) (left : Reading) (u v : Writer) → refusal_of j c ≡ Some r → WriterBreaks u v (refused_line n r) → TookAnswersFront n j (onto_commands (c ∷ []) left) u v
   front_refused c r left u v e b = front_broken (onto_commands (c ∷ []) left) u v (refused_line n r) (begins_refused n j c r left e) b
 
   -- that of a text that is malformed
-  pub front_malformed : (u v : Writer) → Breaks u v (malformed_line n) → TookFront n j ([], Malformed) u v
+  pub front_malformed : (u v : Writer) → WriterBreaks u v (malformed_line n) → TookAnswersFront n j ([], Malformed) u v
   front_malformed u v b = front_broken ([], Malformed) u v (malformed_line n) (begins_malformed n j) b
 
   -- the answer to an ask, or a front of it
   module _ (ls : List Literal) (o : Outcome) (left : Reading) (u v : Writer) (e : refusal_of j (Ask ls) ≡ None) (right : IsRight (accepted (Ask ls) j) ls o) where
-    pub front_answered : Takes u v (outcome_text o) → TookFront n j (onto_commands (Ask ls ∷ []) left) u v
+    pub front_answered : WriterTakes u v (outcome_text o) → TookAnswersFront n j (onto_commands (Ask ls ∷ []) left) u v
     front_answered t = front_all (onto_commands (Ask ls ∷ []) left) u v (outcome_text o) (begins_ask n j ls o left e right) t
 
-    pub front_cut : Breaks u v (outcome_text o) → TookFront n j (onto_commands (Ask ls ∷ []) left) u v
+    pub front_cut : WriterBreaks u v (outcome_text o) → TookAnswersFront n j (onto_commands (Ask ls ∷ []) left) u v
     front_cut b = front_broken (onto_commands (Ask ls ∷ []) left) u v (outcome_text o) (begins_ask n j ls o left e right) b
 
 -- behind commands that were served
 pub front_later : (budget : ℕ) (a b : RunPlace) (cs : List Command) (script : Reading) (text : List ℕ) (rs : List AskReport) (k : ℕ) (u v w : Writer)
-    → Serves budget a b cs text rs k → Takes u v text → TookFront b.number b.judge script v w → TookFront a.number a.judge (onto_commands cs script) u w
+    → Serves budget a b cs text rs k → WriterTakes u v text → TookAnswersFront b.number b.judge script v w → TookAnswersFront a.number a.judge (onto_commands cs script) u w
 front_later budget a b cs script text rs k u v w f t g = record {
   bytes = text ++ g.bytes;
   took = bytes_later u v w text g.bytes t g.took;
@@ -140,12 +140,12 @@ front_later budget a b cs script text rs k u v w f t g = record {
 
 -- all that was answered to commands that were served
 pub front_served : (budget : ℕ) (a b : RunPlace) (cs : List Command) (script : Reading) (text : List ℕ) (rs : List AskReport) (k : ℕ) (u v : Writer)
-    → Serves budget a b cs text rs k → Takes u v text → TookFront a.number a.judge (onto_commands cs script) u v
+    → Serves budget a b cs text rs k → WriterTakes u v text → TookAnswersFront a.number a.judge (onto_commands cs script) u v
 front_served budget a b cs script text rs k u v f t = front_later budget a b cs script text rs k u v v f t (front_none b.number b.judge script v)
 
 -- to the whole script, behind which nothing more was written
 pub front_whole : (budget : ℕ) (a : RunPlace) (script : Reading) (to : List Step) (text : List ℕ) (rs : List AskReport) (k : ℕ) (u v w : Writer)
-    → ServesTo budget a script to text rs k → Takes u v text → TookBytes v w [] → TookFront a.number a.judge script u w
+    → ServesTo budget a script to text rs k → WriterTakes u v text → TookBytes v w [] → TookAnswersFront a.number a.judge script u w
 front_whole budget a script to text rs k u v w f t b = record {
   bytes = text ++ [];
   took = bytes_later u v w text [] t b;

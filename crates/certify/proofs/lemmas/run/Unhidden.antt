@@ -13,7 +13,7 @@ use Rattle.sat_checker.specs.matching.Checking.{Checking, is_ordered}
 use Rattle.sat_checker.specs.matching.Expected.{Outcome, Sat, Unsat, Unknown, Expected, NewName, NoName, Adds, Opens, Finish, Fits, new_name, no_name, adds, opens, shows, fails, closes, finish, bringing, hiding, setting}
 use Rattle.sat_checker.specs.matching.ProofChecking.{the_checking}
 use Rattle.sat_checker.specs.matching.Traces.{HasTrace, no_step, silent, visible}
-use Rattle.sat_solver.specs.session.Session.{Session, with_fact, with_facts, with_sorted, with_clause, knowing, changed, session_after, MayAll}
+use Rattle.sat_solver.specs.session.Session.{Session, with_fact, with_facts, with_sorted, with_live_clause, knowing, changed, session_after, MayAll}
 use Rattle.sat_solver.specs.proof.Widths.{narrowed}
 use Rattle.sat_solver.specs.proof.Counting.{TruncatesHashes, none_made, ask_begun, one_made, width_told, counted}
 use Rattle.sat_solver.specs.declared.proof.hash_bits.Counting.{Counting}
@@ -158,7 +158,7 @@ sorted_variables r [] s = refl
 sorted_variables r (l ∷ []) s = fact_variables l s
 sorted_variables r (l ∷ m ∷ ls) s = refl
 
-clause_variables : (r : Bool) (c : List ℕ) (s : Session) → (with_clause r c s).variables ≡ s.variables
+clause_variables : (r : Bool) (c : List ℕ) (s : Session) → (with_live_clause r c s).variables ≡ s.variables
 clause_variables r c s = go (is_tautology c)
   where
     go : (b : Bool) → (cond b s (with_sorted r (canonical c) s)).variables ≡ s.variables
@@ -195,10 +195,10 @@ changed_none (AddClause c) s p h = go s.unsat
     k : Session
     k = knowing (map variable c) s
 
-    go : (b : Bool) → NoneHidden (cond b s (with_clause false c (knowing (map variable c) s)))
+    go : (b : Bool) → NoneHidden (cond b s (with_live_clause false c (knowing (map variable c) s)))
     go true = h
-    go false = same_none (knowing (map variable c) s) (with_clause false c (knowing (map variable c) s)) (clause_variables false c (knowing (map variable c) s)) (knowing_none (map variable c) s h)
-changed_none (AtClause r c hs) s p h = same_none (knowing (map variable c) s) (with_clause r c (knowing (map variable c) s)) (clause_variables r c (knowing (map variable c) s)) (knowing_none (map variable c) s h)
+    go false = same_none (knowing (map variable c) s) (with_live_clause false c (knowing (map variable c) s)) (clause_variables false c (knowing (map variable c) s)) (knowing_none (map variable c) s h)
+changed_none (AtClause r c hs) s p h = same_none (knowing (map variable c) s) (with_live_clause r c (knowing (map variable c) s)) (clause_variables r c (knowing (map variable c) s)) (knowing_none (map variable c) s h)
 changed_none (UnitClauses us) s p h =
     let ls : List ℕ = map (λ u. u.0) us in
     same_none (knowing (map variable ls) s) (with_facts ls (knowing (map variable ls) s)) (facts_variables ls (knowing (map variable ls) s)) (knowing_none (map variable ls) s h)

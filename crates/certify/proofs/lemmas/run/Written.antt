@@ -8,7 +8,7 @@ use Rattle.sat_checker.specs.matching.Expected.{Outcome, Expected, Opens, Closes
 use Rattle.sat_checker.specs.matching.ProofChecking.{the_checking}
 use Rattle.sat_solver.specs.proof.Counting.{start, counted, width_told, written_for, TruncatesHashes, none_made, ask_begun, one_made}
 use Rattle.sat_solver.specs.session.Session.{MayAll}
-use Rattle.sat_solver.specs.proof.Widths.{IsWritten, none_yet, width_changes, one_more, KeepsWidth, MayAt, narrowed}
+use Rattle.sat_solver.specs.proof.Widths.{IsNarrowedTo, none_yet, width_changes, one_more, KeepsWidth, MayAt, narrowed}
 use Rattle.sat_solver.proofs.lemmas.session.Narrowing.{widths_are_free}
 use Rattle.sat_solver.proofs.lemmas.session.StepLemmas.{sessions_are_accepted}
 use Rattle.certify.specs.run.Certifies.{Certifies, complete, left_out, other, ordered, asked, answered, IsRecorded, MayStand}
@@ -103,13 +103,13 @@ variable_narrowed bits (Assumptions ls) w e name h = h
 variable_narrowed bits (FailedAssumptions c hs) w e name h = h
 variable_narrowed bits End w e name h = h
 
-variable_written : {e w : List Step} {width : ℕ} → IsWritten e w width → (name : ℕ) → variable_of w name ≡ variable_of e name
+variable_written : {e w : List Step} {width : ℕ} → IsNarrowedTo e w width → (name : ℕ) → variable_of w name ≡ variable_of e name
 variable_written none_yet name = refl
 variable_written (width_changes bits p) name = variable_written p name
 variable_written (one_more {wide = e} {written = w} {width = width} step k p) name = variable_narrowed width step w e name (variable_written p name)
 
 -- it sees the same behind what is written
-module _ (e w : List Step) (width : ℕ) (p : IsWritten e w width) (may : MayAll e) where
+module _ (e w : List Step) (width : ℕ) (p : IsNarrowedTo e w width) (may : MayAll e) where
   at : MayAt e w width
   at = widths_are_free e w width p may
 
@@ -157,11 +157,11 @@ record Turned (e w made written : List Step) (width : ℕ) (step : Step) : Type 
   now : ℕ
   told : List Step
   is_told : (es : List Expected) (x : Expected) (current : Option Outcome) (counts : List ℕ) → Certifies the_checking written current (told ++ w) (x ∷ es) counts → Certifies the_checking written current w (x ∷ es) counts
-  before : IsWritten e (told ++ w) now
+  before : IsNarrowedTo e (told ++ w) now
   next : Narrows (step ∷ e) (narrowed now step ∷ (told ++ w)) now made written
-  behind : IsWritten (step ∷ e) (narrowed now step ∷ (told ++ w)) now
+  behind : IsNarrowedTo (step ∷ e) (narrowed now step ∷ (told ++ w)) now
 
-turned_to : {e w made written : List Step} {width : ℕ} (step : Step) (later : List Step) → made ≡ later ++ step ∷ e → IsWritten e w width → Narrows e w width made written → Turned e w made written width step
+turned_to : {e w made written : List Step} {width : ℕ} (step : Step) (later : List Step) → made ≡ later ++ step ∷ e → IsNarrowedTo e w width → Narrows e w width made written → Turned e w made written width step
 turned_to {e} {w} {made} {written} {width} step later h p all_narrowed = absurd (too_long later step e h)
 turned_to {e} {w} {made} {written} {width} step later h p (same_width other_step k n) =
     let f = narrowed_front n in
@@ -191,7 +191,7 @@ at_end same all_narrowed = refl
 at_end {e} same (same_width step k n) = let f = narrowed_front n in absurd (too_long f.0 step e (same ∙ f.1))
 at_end {e} same (new_width bits step k n) = let f = narrowed_front n in absurd (too_long f.0 step e (same ∙ f.1))
 
-transferred : {made written : List Step} (may : MayAll made) {current : Option Outcome} {e w : List Step} {width : ℕ} {es : List Expected} {counts : List ℕ} → IsWritten e w width → Narrows e w width made written → Certifies the_checking made current e es counts → Certifies the_checking written current w es counts
+transferred : {made written : List Step} (may : MayAll made) {current : Option Outcome} {e w : List Step} {width : ℕ} {es : List Expected} {counts : List ℕ} → IsNarrowedTo e w width → Narrows e w width made written → Certifies the_checking made current e es counts → Certifies the_checking written current w es counts
 transferred {made} {written} may p n complete = subst (λ w. Certifies the_checking written None w [] []) (sym (at_end refl n)) complete
 transferred may {e = e} {w = w} {width = width} p n (left_out m r c) = left_out m (recorded_same e w width p (may_front n may) r) (transferred may p n c)
 transferred may {current = current} {e = e} {w = w} {width = width} {counts = counts} p n (other {step = step} {e = x} {es = es} q c) =

@@ -5,13 +5,13 @@ use Rattle.std.proofs.Math.Seq.{take-add}
 use Rattle.std.proofs.lemmas.List.{length-take, take-take}
 use Rattle.sat_base.specs.declared.text.Token.{Token as CodeToken}
 use Rattle.sat_base.specs.declared.text.Tokenizer.{Tokenizer}
-use Rattle.sat_base.specs.text.Text.{Token, Number, Letter, Header, Wrong, Scan, scan, tokens, header_first, header_from, header_of}
-use Rattle.sat_base.specs.text.Tokenizing.{TakesFront, Stands, GivesLast, held_token}
+use Rattle.sat_base.specs.text.Text.{Token, Number, Letter, Header, Wrong, Scan, scan, tokens, header_first, header_from, dimacs_header}
+use Rattle.sat_base.specs.text.Tokenizing.{TakesFront, StandsBefore, GivesLast, held_token}
 use Rattle.sat_base.specs.text.WrongWords.{WrongAhead}
 use Rattle.sat_base.specs.text.Chunks.{Follows}
 use Rattle.sat_base.proofs.lemmas.text.HeaderFirst.{IsWord, AreWords, AreScript, text_is}
-use Rattle.sat_base.specs.script.Language.{Reading, spoken, Hand, Nothing, commands_of, with_ask, written, reading}
-use Rattle.certify.specs.script.Commands.{HoldsHand, any_header, meaning, TakesToken, Means, MeansIf, TakesBytes, EndsSo, EndsLast}
+use Rattle.sat_base.specs.script.Language.{Reading, spoken, CommandHand, Nothing, commands_of, with_ask, written, reading}
+use Rattle.certify.specs.script.Commands.{HoldsHand, any_header, meaning, TakesToken, ReaderMeans, MeansIf, TakesBytes, EndsSo, EndsLast}
 use Rattle.certify.specs.declared.script.Reached.{Reached}
 use Rattle.certify.specs.declared.script.Reached.TheVariants as reached
 use Rattle.certify.specs.declared.script.ScriptEnd.{ScriptEnd}
@@ -56,7 +56,7 @@ bytes_take reached.Malformed old bytes t next new k r = λ asks before m rest.
     m.reads (bytes ++ rest) ∙ ap (λ (s : Scan). meaning asks old.commands m.hand (spoken s.tokens)) (h.2.2 rest) ∙ r h.2.0 h.2.1 m.hand m.holds asks (spoken (h.0 rest).tokens)
 
 -- behind them a word is wrong, whatever follows
-pub bytes_wrong : (old : ScriptReader) (bytes : List ℕ) (next : Tokenizer) → TakesFront old.tokenizer bytes None next → ((after : List ℕ → Scan) → Stands next after → WrongAhead after)
+pub bytes_wrong : (old : ScriptReader) (bytes : List ℕ) (next : Tokenizer) → TakesFront old.tokenizer bytes None next → ((after : List ℕ → Scan) → StandsBefore next after → WrongAhead after)
     → TakesBytes reached.Malformed old bytes (reader next old.commands)
 bytes_wrong old bytes next t w = λ asks before m rest.
     let h = t m.scan_of m.stands in
@@ -100,16 +100,16 @@ followed_front r a b c xs n k h i f t =
     subst (λ (bs : List ℕ). TakesBytes r a bs c) (sym (front_and n k xs h i)) (followed r a b c (take n xs) (take k (take (length xs - n) (drop n xs))) f t)
 
 -- THE END
-pub ends_none : (asks : Bool) (old : ScriptReader) (before : List ℕ → Reading) (r : Reading) → ((scan_of : List ℕ → Scan) → Stands old.tokenizer scan_of → GivesLast None (scan_of [])) → MeansIf asks old before
-    → ((hand : Hand) → HoldsHand old.commands.draft hand → r ≡ meaning asks old.commands hand []) → before [] ≡ r
+pub ends_none : (asks : Bool) (old : ScriptReader) (before : List ℕ → Reading) (r : Reading) → ((scan_of : List ℕ → Scan) → StandsBefore old.tokenizer scan_of → GivesLast None (scan_of [])) → MeansIf asks old before
+    → ((hand : CommandHand) → HoldsHand old.commands.draft hand → r ≡ meaning asks old.commands hand []) → before [] ≡ r
 ends_none asks old before r k m e = m.reads [] ∙ ap (λ (ts : List (ℕ × Token)). meaning asks old.commands m.hand (spoken ts)) (k m.scan_of m.stands) ∙ sym (e m.hand m.holds)
 
 lasts : (asks completes : Bool) (e : ScriptEnd) (new : ScriptReader) (r : Reading) → EndsSo asks completes e new.commands r → EndsLast asks completes e new r
 lasts asks true e new r h = (h.0, record { whole = h.1 }, h.2)
 lasts asks false e new r h = h
 
-pub ends_some : (asks : Bool) (old new : ScriptReader) (t : CodeToken) (completes : Bool) (e : ScriptEnd) (before : List ℕ → Reading) → ((scan_of : List ℕ → Scan) → Stands old.tokenizer scan_of → GivesLast (Some t) (scan_of [])) → MeansIf asks old before
-    → ((given : Token) → t ≡ held_token given → (hand : Hand) → HoldsHand old.commands.draft hand → EndsSo asks completes e new.commands (meaning asks old.commands hand (given ∷ [])))
+pub ends_some : (asks : Bool) (old new : ScriptReader) (t : CodeToken) (completes : Bool) (e : ScriptEnd) (before : List ℕ → Reading) → ((scan_of : List ℕ → Scan) → StandsBefore old.tokenizer scan_of → GivesLast (Some t) (scan_of [])) → MeansIf asks old before
+    → ((given : Token) → t ≡ held_token given → (hand : CommandHand) → HoldsHand old.commands.draft hand → EndsSo asks completes e new.commands (meaning asks old.commands hand (given ∷ [])))
     → EndsLast asks completes e new (before [])
 ends_some asks old new t completes e before k m r =
     let h = k m.scan_of m.stands in
@@ -147,7 +147,7 @@ headed_by : (ts : List (ℕ × Token)) → AreScript (spoken ts) → any_header 
 headed_by ts (inl w) = words_none (spoken ts) w ∙ sym (first_none ts w)
 headed_by ts (inr (v, c, rest, w, e)) = ap any_header e ∙ sym (first_header ts v c rest e)
 
-reading_is : (text : List ℕ) → reading text ≡ with_ask (is_some (header_of text)) (commands_of Nothing (spoken (tokens text)))
+reading_is : (text : List ℕ) → reading text ≡ with_ask (is_some (dimacs_header text)) (commands_of Nothing (spoken (tokens text)))
 unfolding reading written
 reading_is text = refl
 
@@ -161,12 +161,12 @@ read_from_start c text h a =
     ∙ ap (λ (b : Bool). with_ask b (commands_of Nothing (spoken (tokens text)))) (sym (headed_by (tokens text) (text_is text)) ∙ sym (and_true (any_header (spoken (tokens text)))))
     ∙ sym (rw (h, a) refl)
 
-pub means_first : (tokenizer : Tokenizer) (commands : Commands) → Stands tokenizer scan → HoldsHand commands.draft Nothing → commands.headed ≡ false → commands.asked ≡ false → Means (reader tokenizer commands) reading
+pub means_first : (tokenizer : Tokenizer) (commands : Commands) → StandsBefore tokenizer scan → HoldsHand commands.draft Nothing → commands.headed ≡ false → commands.asked ≡ false → ReaderMeans (reader tokenizer commands) reading
 means_first tokenizer commands s n h a = record { hand = Nothing; holds = n; scan_of = scan; stands = s; reads = λ text. read_from_start commands text h a }
 
 written_is : (text : List ℕ) → written text ≡ commands_of Nothing (spoken (tokens text))
 unfolding written
 written_is text = refl
 
-pub counts_first : (tokenizer : Tokenizer) (commands : Commands) → Stands tokenizer scan → HoldsHand commands.draft Nothing → MeansIf false (reader tokenizer commands) written
+pub counts_first : (tokenizer : Tokenizer) (commands : Commands) → StandsBefore tokenizer scan → HoldsHand commands.draft Nothing → MeansIf false (reader tokenizer commands) written
 counts_first tokenizer commands s n = record { hand = Nothing; holds = n; scan_of = scan; stands = s; reads = λ text. written_is text }

@@ -1,9 +1,9 @@
 -- A text has no more commands than bytes, but for two.
 use Rattle.std.proofs.Common.{ℕ, ◌+◌, ◌≤◌, ◌<◌, ◌≡◌, ◌∙◌, Bool, true, false, not, ◌&&◌, cond, nat_eq, is_some, List, [], ◌∷◌, ◌++◌, length, length-append, refl, sym, subst, arith}
 use Rattle.std.proofs.lemmas.List.{length-map}
-use Rattle.sat_base.specs.text.Text.{Token, is_blank, goes_on, begins_with, header_if, header_of, is_none, lines, onto_first, on_line, words, token, tokens, tokens_of, scan}
+use Rattle.sat_base.specs.text.Text.{Token, is_blank, goes_on, begins_with, header_if, dimacs_header, is_none, lines, onto_first, on_line, words, token, tokens, tokens_of, scan}
 use Rattle.sat_base.specs.script.Script.{Command, Ask, Clean, Malformed, has_ask, is_clean}
-use Rattle.sat_base.specs.script.Language.{Reading, Hand, Nothing, Within, Turn, GoesOn, Ends, Fails, at_end, behind_turn, commands_of, onto_commands, reading, spoken, turn, with_ask, written}
+use Rattle.sat_base.specs.script.Language.{Reading, CommandHand, Nothing, Within, CommandTurn, GoesOn, Ends, Fails, at_end, behind_turn, commands_of, onto_commands, reading, spoken, command_turn, with_ask, written}
 use Rattle.certify.specs.confirm.VerdictPromises.{numbers}
 
 -- WORDS AND LINES
@@ -105,27 +105,27 @@ one_more : (c : Command) (r : Reading) → numbers (onto_commands (c ∷ []) r) 
 one_more c (cs, Clean) = omega arith
 one_more c (cs, Malformed) = omega arith
 
-commands_none : (hand : Hand) → commands_of hand [] ≡ ([], at_end hand)
+commands_none : (hand : CommandHand) → commands_of hand [] ≡ ([], at_end hand)
 unfolding commands_of
 commands_none hand = refl
 
-commands_next : (hand : Hand) (t : Token) (ts : List Token) → commands_of hand (t ∷ ts) ≡ behind_turn (turn hand t) (λ h. commands_of h ts)
+commands_next : (hand : CommandHand) (t : Token) (ts : List Token) → commands_of hand (t ∷ ts) ≡ behind_turn (command_turn hand t) (λ h. commands_of h ts)
 unfolding commands_of
 commands_next hand t ts = refl
 
-few_none : (hand : Hand) → numbers ([], at_end hand) ≤ 1
+few_none : (hand : CommandHand) → numbers ([], at_end hand) ≤ 1
 few_none Nothing = omega arith
 few_none (Within k ls) = omega arith
 
-few_turn : (u : Turn) (more : Hand → Reading) (n : ℕ) → ((h : Hand) → numbers (more h) ≤ n + 1) → numbers (behind_turn u more) ≤ n + 1 + 1
+few_turn : (u : CommandTurn) (more : CommandHand → Reading) (n : ℕ) → ((h : CommandHand) → numbers (more h) ≤ n + 1) → numbers (behind_turn u more) ≤ n + 1 + 1
 few_turn (GoesOn hand) more n f = let h = f hand in omega arith
 few_turn (Ends c) more n f = let h = f Nothing in let e = one_more c (more Nothing) in omega arith
 few_turn Fails more n f = omega arith
 
-few_commands : (hand : Hand) (ts : List Token) → numbers (commands_of hand ts) ≤ length ts + 1
+few_commands : (hand : CommandHand) (ts : List Token) → numbers (commands_of hand ts) ≤ length ts + 1
 few_commands hand [] = subst (λ (r : Reading). numbers r ≤ 1) (sym (commands_none hand)) (few_none hand)
 few_commands hand (t ∷ ts) =
-    let h : numbers (commands_of hand (t ∷ ts)) ≤ length ts + 1 + 1 = subst (λ (r : Reading). numbers r ≤ length ts + 1 + 1) (sym (commands_next hand t ts)) (few_turn (turn hand t) (λ k. commands_of k ts) (length ts) (λ k. few_commands k ts)) in
+    let h : numbers (commands_of hand (t ∷ ts)) ≤ length ts + 1 + 1 = subst (λ (r : Reading). numbers r ≤ length ts + 1 + 1) (sym (commands_next hand t ts)) (few_turn (command_turn hand t) (λ k. commands_of k ts) (length ts) (λ k. few_commands k ts)) in
     omega arith
 
 few_asked : (due : Bool) (r : Reading) → numbers (with_ask due r) ≤ numbers r + 1
@@ -150,4 +150,4 @@ two_past a b c h k = omega arith
 
 pub few_read : (text : List ℕ) → numbers (reading text) ≤ length text + 2
 unfolding reading
-few_read text = two_past (numbers (reading text)) (numbers (written text)) (length text) (few_asked (is_some (header_of text)) (written text)) (few_written text)
+few_read text = two_past (numbers (reading text)) (numbers (written text)) (length text) (few_asked (is_some (dimacs_header text)) (written text)) (few_written text)

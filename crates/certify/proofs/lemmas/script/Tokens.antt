@@ -5,10 +5,10 @@ use Rattle.std.proofs.lemmas.Bool.Decides.{nat_tests}
 use Rattle.sat_base.specs.declared.text.Token.TheVariants as code
 use Rattle.sat_base.specs.text.Text.{Token, Number, Letter, Header, Wrong}
 use Rattle.sat_base.specs.text.Tokenizing.{held, held_token}
-use Rattle.sat_base.specs.script.Script.{Literal, Command, Clause, Ask, Hide, Witness, Sample, Ending, Clean, Malformed, has_ask, is_clean}
-use Rattle.sat_base.specs.script.Language.{Reading, onto_commands, Kind, OfClause, OfAsk, OfHide, OfWitness, OfSample, command_of, Hand, Nothing, Within, Turn, GoesOn, Ends, Fails, command_in, may_stand, with_literal, kind_of_letter, beginning, with_letter, turn, at_end, behind_turn, commands_of, with_ask}
+use Rattle.sat_base.specs.script.Script.{Literal, Command, Clause, Ask, Hide, Witness, Sample, ScriptEnding, Clean, Malformed, has_ask, is_clean}
+use Rattle.sat_base.specs.script.Language.{Reading, onto_commands, Kind, OfClause, OfAsk, OfHide, OfWitness, OfSample, command_of, CommandHand, Nothing, Within, CommandTurn, GoesOn, Ends, Fails, command_in, may_stand, turn_with_literal, kind_of_letter, beginning, with_letter, command_turn, at_end, behind_turn, commands_of, with_ask}
 use Rattle.sat_base.proofs.lemmas.script.ScriptSpellings.{commands_of_nil, commands_of_cons}
-use Rattle.certify.specs.script.Commands.{kind_of, is_ask_kind, IsWhole, HoldsHand, opened, is_header, any_header, meaning, TakesToken, end_if}
+use Rattle.certify.specs.script.Commands.{kind_of, is_ask_kind, IsWholeCommand, HoldsHand, opened, is_header, any_header, meaning, TakesToken, end_if}
 use Rattle.certify.specs.declared.script.Reached.TheVariants as reached
 use Rattle.certify.specs.declared.script.ScriptEnd.TheVariants as ends
 use Rattle.certify.specs.declared.script.draft.Draft.{Draft}
@@ -43,7 +43,7 @@ asked_no_more true true = refl
 asked_no_more true false = refl
 asked_no_more false a = refl
 
-has_one : (due : Bool) (cs : List Command) (e : Ending) (ls : List Literal) → with_ask due (Ask ls ∷ cs, e) ≡ (Ask ls ∷ cs, e)
+has_one : (due : Bool) (cs : List Command) (e : ScriptEnding) (ls : List Literal) → with_ask due (Ask ls ∷ cs, e) ≡ (Ask ls ∷ cs, e)
 has_one true cs Clean ls = refl
 has_one true cs Malformed ls = refl
 has_one false cs e ls = refl
@@ -76,17 +76,17 @@ is_asked OfWitness ls = refl
 is_asked OfSample ls = refl
 
 -- TOKENS
-behind : (asks : Bool) (old : Commands) (hand : Hand) (t : Token) (k : Turn) (ts : List Token) → turn hand t ≡ k
+behind : (asks : Bool) (old : Commands) (hand : CommandHand) (t : Token) (k : CommandTurn) (ts : List Token) → command_turn hand t ≡ k
     → meaning asks old hand (t ∷ ts) ≡ with_ask (asks && ((old.headed || (is_header t || any_header ts)) && not old.asked)) (behind_turn k (λ d. commands_of d ts))
 behind asks old hand t k ts e =
-    ap (with_ask (asks && ((old.headed || (is_header t || any_header ts)) && not old.asked))) (commands_of_cons hand t ts ∙ ap (λ (j : Turn). behind_turn j (λ d. commands_of d ts)) e)
+    ap (with_ask (asks && ((old.headed || (is_header t || any_header ts)) && not old.asked))) (commands_of_cons hand t ts ∙ ap (λ (j : CommandTurn). behind_turn j (λ d. commands_of d ts)) e)
 
 -- a token that is no header, behind which the command goes on
-pub goes_on : (old new : Commands) (hand next : Hand) (t : Token) → is_header t ≡ false → new.headed ≡ old.headed → new.asked ≡ old.asked → turn hand t ≡ GoesOn next
+pub goes_on : (old new : Commands) (hand next : CommandHand) (t : Token) → is_header t ≡ false → new.headed ≡ old.headed → new.asked ≡ old.asked → command_turn hand t ≡ GoesOn next
     → (asks : Bool) (ts : List Token) → meaning asks old hand (t ∷ ts) ≡ meaning asks new next ts
 goes_on old new hand next t w h a e asks ts = behind asks old hand t (GoesOn next) ts e ∙ rw (w, h, a) refl
 
-pub fails : (old : Commands) (hand : Hand) (t : Token) → turn hand t ≡ Fails → (asks : Bool) (ts : List Token) → meaning asks old hand (t ∷ ts) ≡ ([], Malformed)
+pub fails : (old : Commands) (hand : CommandHand) (t : Token) → command_turn hand t ≡ Fails → (asks : Bool) (ts : List Token) → meaning asks old hand (t ∷ ts) ≡ ([], Malformed)
 fails old hand t e asks ts = behind asks old hand t Fails ts e ∙ malformed_if (asks && ((old.headed || (is_header t || any_header ts)) && not old.asked))
 
 -- a header
@@ -97,7 +97,7 @@ header_taken old new v c e hand h =
 
 -- a zero
 pub zero_taken : (old new : Commands) (negative : Bool) → new.headed ≡ old.headed → new.asked ≡ (old.asked || is_ask_kind (kind_of new.draft.kind)) → HoldsHand new.draft Nothing
-    → ((hand : Hand) → HoldsHand old.draft hand → IsWhole new.draft (command_in hand)) → TakesToken reached.Command old (Number negative 0) new
+    → ((hand : CommandHand) → HoldsHand old.draft hand → IsWholeCommand new.draft (command_in hand)) → TakesToken reached.Command old (Number negative 0) new
 zero_taken old new negative h a none whole hand holds =
     let c = command_in hand in
     let w = whole hand holds in
@@ -111,30 +111,30 @@ zero_taken old new negative h a none whole hand holds =
     (c, w, none, read)
 
 -- a literal
-pub turn_number : (hand : Hand) (negative : Bool) (value : ℕ) → 0 < value → turn hand (Number negative value) ≡ with_literal hand (record { name = value; positive = not negative })
+pub turn_number : (hand : CommandHand) (negative : Bool) (value : ℕ) → 0 < value → command_turn hand (Number negative value) ≡ turn_with_literal hand (record { name = value; positive = not negative })
 turn_number hand negative value some = let e : nat_eq value 0 ≡ false = grind (arith, nat_tests) in rw e refl
 
 -- a literal where it may stand
-pub stands : (d : Draft) (hand : Hand) (l : Literal) → HoldsHand d (opened hand) → may_stand (kind_of d.kind) l.positive ≡ true
-    → (kind : Kind) × (ls : List Literal) × HoldsHand d (Within kind ls) × (with_literal hand l ≡ GoesOn (Within kind (ls ++ l ∷ [])))
+pub stands : (d : Draft) (hand : CommandHand) (l : Literal) → HoldsHand d (opened hand) → may_stand (kind_of d.kind) l.positive ≡ true
+    → (kind : Kind) × (ls : List Literal) × HoldsHand d (Within kind ls) × (turn_with_literal hand l ≡ GoesOn (Within kind (ls ++ l ∷ [])))
 stands d Nothing l h m = (OfClause, [], h, refl)
 stands d (Within kind ls) l h m = (kind, ls, h, let e : may_stand kind l.positive ≡ true = ap (λ (k : Kind). may_stand k l.positive) h.1 ∙ m in rw e refl)
 
-pub misplaced : (d : Draft) (hand : Hand) (l : Literal) → HoldsHand d (opened hand) → may_stand (kind_of d.kind) l.positive ≡ false → with_literal hand l ≡ Fails
+pub misplaced : (d : Draft) (hand : CommandHand) (l : Literal) → HoldsHand d (opened hand) → may_stand (kind_of d.kind) l.positive ≡ false → turn_with_literal hand l ≡ Fails
 misplaced d Nothing l h m = absurd (let e : may_stand OfClause l.positive ≡ may_stand (kind_of d.kind) l.positive = ap (λ (k : Kind). may_stand k l.positive) h.1 in cc)
 misplaced d (Within kind ls) l h m = let e : may_stand kind l.positive ≡ false = ap (λ (k : Kind). may_stand k l.positive) h.1 ∙ m in rw e refl
 
 -- a letter inside a command
-pub letter_inside : (d : Draft) (hand : Hand) (b : ℕ) → d.is_open ≡ true → HoldsHand d hand → with_letter hand b ≡ Fails
+pub letter_inside : (d : Draft) (hand : CommandHand) (b : ℕ) → d.is_open ≡ true → HoldsHand d hand → with_letter hand b ≡ Fails
 letter_inside d Nothing b o h = absurd (cc)
 letter_inside d (Within kind ls) b o h = refl
 
 -- one that begins no command
-pub letter_unknown : (hand : Hand) (b : ℕ) → kind_of_letter b ≡ None → with_letter hand b ≡ Fails
+pub letter_unknown : (hand : CommandHand) (b : ℕ) → kind_of_letter b ≡ None → with_letter hand b ≡ Fails
 letter_unknown Nothing b e = ap beginning e
 letter_unknown (Within kind ls) b e = refl
 
-pub letter_begins : (d : Draft) (hand : Hand) (b : ℕ) (k : Kind) → d.is_open ≡ false → HoldsHand d hand → kind_of_letter b ≡ Some k → with_letter hand b ≡ GoesOn (Within k [])
+pub letter_begins : (d : Draft) (hand : CommandHand) (b : ℕ) (k : Kind) → d.is_open ≡ false → HoldsHand d hand → kind_of_letter b ≡ Some k → with_letter hand b ≡ GoesOn (Within k [])
 letter_begins d Nothing b k o h e = ap beginning e
 letter_begins d (Within kind ls) b k o h e = absurd (cc (h.0))
 
@@ -170,7 +170,7 @@ pub held_some : (v name : ℕ) → name ≡ held v → 0 < name → 0 < v
 held_some v name e h = omega arith
 
 -- THE END
-ends_at : (asks : Bool) (commands : Commands) (hand : Hand) → meaning asks commands hand [] ≡ with_ask (asks && (commands.headed && not commands.asked)) ([], at_end hand)
+ends_at : (asks : Bool) (commands : Commands) (hand : CommandHand) → meaning asks commands hand [] ≡ with_ask (asks && (commands.headed && not commands.asked)) ([], at_end hand)
 ends_at asks commands hand = ap (λ (b : Bool). with_ask (asks && (b && not commands.asked)) (commands_of hand [])) (or_false commands.headed) ∙ ap (with_ask (asks && (commands.headed && not commands.asked))) (commands_of_nil hand)
 
 -- malformed text ends so, whatever is asked for
@@ -178,33 +178,33 @@ pub end_malformed : (asks : Bool) → end_if asks ends.Malformed ≡ ([], Malfor
 end_malformed true = refl
 end_malformed false = refl
 
-pub ends_inside : (asks : Bool) (commands : Commands) (hand : Hand) → commands.draft.is_open ≡ true → HoldsHand commands.draft hand → end_if asks ends.Malformed ≡ meaning asks commands hand []
+pub ends_inside : (asks : Bool) (commands : Commands) (hand : CommandHand) → commands.draft.is_open ≡ true → HoldsHand commands.draft hand → end_if asks ends.Malformed ≡ meaning asks commands hand []
 ends_inside asks commands Nothing o h = absurd (cc)
 ends_inside asks commands (Within kind ls) o h = end_malformed asks ∙ sym (ends_at asks commands (Within kind ls) ∙ malformed_if (asks && (commands.headed && not commands.asked)))
 
-pub ends_due : (asks : Bool) (commands : Commands) (hand : Hand) → commands.draft.is_open ≡ false → HoldsHand commands.draft hand → (commands.headed && not commands.asked) ≡ true → end_if asks ends.Asked ≡ meaning asks commands hand []
+pub ends_due : (asks : Bool) (commands : Commands) (hand : CommandHand) → commands.draft.is_open ≡ false → HoldsHand commands.draft hand → (commands.headed && not commands.asked) ≡ true → end_if asks ends.Asked ≡ meaning asks commands hand []
 ends_due true commands Nothing o h e = sym (ends_at true commands Nothing ∙ rw e refl)
 ends_due false commands Nothing o h e = sym (ends_at false commands Nothing)
 ends_due asks commands (Within kind ls) o h e = absurd (cc (h.0))
 
-pub ends_clean : (asks : Bool) (commands : Commands) (hand : Hand) → commands.draft.is_open ≡ false → HoldsHand commands.draft hand → (commands.headed && not commands.asked) ≡ false → end_if asks ends.Clean ≡ meaning asks commands hand []
+pub ends_clean : (asks : Bool) (commands : Commands) (hand : CommandHand) → commands.draft.is_open ≡ false → HoldsHand commands.draft hand → (commands.headed && not commands.asked) ≡ false → end_if asks ends.Clean ≡ meaning asks commands hand []
 ends_clean true commands Nothing o h e = sym (ends_at true commands Nothing ∙ rw e refl)
 ends_clean false commands Nothing o h e = sym (ends_at false commands Nothing)
 ends_clean asks commands (Within kind ls) o h e = absurd (cc (h.0))
 
 -- a last word that goes on in a command, or fails
-pub ends_with : (asks : Bool) (commands : Commands) (hand : Hand) (t : Token) → ((kind : Kind) × (ls : List Literal) × (turn hand t ≡ GoesOn (Within kind ls))) → end_if asks ends.Malformed ≡ meaning asks commands hand (t ∷ [])
+pub ends_with : (asks : Bool) (commands : Commands) (hand : CommandHand) (t : Token) → ((kind : Kind) × (ls : List Literal) × (command_turn hand t ≡ GoesOn (Within kind ls))) → end_if asks ends.Malformed ≡ meaning asks commands hand (t ∷ [])
 ends_with asks commands hand t x =
     end_malformed asks ∙ sym (behind asks commands hand t (GoesOn (Within x.0 x.1)) [] x.2 ∙ ap (with_ask (asks && ((commands.headed || (is_header t || false)) && not commands.asked))) (commands_of_nil (Within x.0 x.1)) ∙ malformed_if (asks && ((commands.headed || (is_header t || false)) && not commands.asked)))
 
-pub ends_wrong : (asks : Bool) (commands : Commands) (hand : Hand) (t : Token) → turn hand t ≡ Fails → end_if asks ends.Malformed ≡ meaning asks commands hand (t ∷ [])
+pub ends_wrong : (asks : Bool) (commands : Commands) (hand : CommandHand) (t : Token) → command_turn hand t ≡ Fails → end_if asks ends.Malformed ≡ meaning asks commands hand (t ∷ [])
 ends_wrong asks commands hand t e = end_malformed asks ∙ sym (fails commands hand t e asks [])
 
-number_at : (asks : Bool) (commands : Commands) (kind : Kind) (ls : List Literal) (l : Literal) (t : Token) (hand : Hand) (b : Bool) → may_stand kind l.positive ≡ b → turn hand t ≡ cond b (GoesOn (Within kind (ls ++ l ∷ []))) Fails → end_if asks ends.Malformed ≡ meaning asks commands hand (t ∷ [])
+number_at : (asks : Bool) (commands : Commands) (kind : Kind) (ls : List Literal) (l : Literal) (t : Token) (hand : CommandHand) (b : Bool) → may_stand kind l.positive ≡ b → command_turn hand t ≡ cond b (GoesOn (Within kind (ls ++ l ∷ []))) Fails → end_if asks ends.Malformed ≡ meaning asks commands hand (t ∷ [])
 number_at asks commands kind ls l t hand true m e = ends_with asks commands hand t (kind, ls ++ l ∷ [], e)
 number_at asks commands kind ls l t hand false m e = ends_wrong asks commands hand t e
 
-pub number_ends : (asks : Bool) (commands : Commands) (hand : Hand) (negative : Bool) (value : ℕ) → 0 < value → end_if asks ends.Malformed ≡ meaning asks commands hand (Number negative value ∷ [])
+pub number_ends : (asks : Bool) (commands : Commands) (hand : CommandHand) (negative : Bool) (value : ℕ) → 0 < value → end_if asks ends.Malformed ≡ meaning asks commands hand (Number negative value ∷ [])
 number_ends asks commands Nothing negative value some =
     ends_with asks commands Nothing (Number negative value) (OfClause, record { name = value; positive = not negative } ∷ [], turn_number Nothing negative value some)
 number_ends asks commands (Within kind ls) negative value some =
@@ -215,12 +215,12 @@ letter_at : (asks : Bool) (commands : Commands) (b : ℕ) (o : Option Kind) → 
 letter_at asks commands b None e = ends_wrong asks commands Nothing (Letter b) e
 letter_at asks commands b (Some kind) e = ends_with asks commands Nothing (Letter b) (kind, [], e)
 
-pub letter_ends : (asks : Bool) (commands : Commands) (hand : Hand) (b : ℕ) → end_if asks ends.Malformed ≡ meaning asks commands hand (Letter b ∷ [])
+pub letter_ends : (asks : Bool) (commands : Commands) (hand : CommandHand) (b : ℕ) → end_if asks ends.Malformed ≡ meaning asks commands hand (Letter b ∷ [])
 letter_ends asks commands Nothing b = letter_at asks commands b (kind_of_letter b) refl
 letter_ends asks commands (Within kind ls) b = ends_wrong asks commands (Within kind ls) (Letter b) refl
 
 -- behind a last header
-pub header_ends : (asks : Bool) (old new : Commands) (hand : Hand) (v c : ℕ) → new ≡ record old { headed = true } → meaning asks old hand (Header v c ∷ []) ≡ meaning asks new hand []
+pub header_ends : (asks : Bool) (old new : Commands) (hand : CommandHand) (v c : ℕ) → new ≡ record old { headed = true } → meaning asks old hand (Header v c ∷ []) ≡ meaning asks new hand []
 header_ends asks old new hand v c e =
     let whole = behind asks old hand (Header v c) (GoesOn hand) [] refl ∙ ap (λ (b : Bool). with_ask (asks && (b && not old.asked)) (commands_of hand [])) (or_true old.headed) in
     rw e whole

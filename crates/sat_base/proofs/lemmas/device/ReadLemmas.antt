@@ -9,7 +9,7 @@ use Rattle.sat_base.specs.declared.steps.error.StepError.{StepError}
 use Rattle.sat_base.specs.declared.steps.error.StepError.TheVariants as errors
 use Rattle.sat_base.specs.steps.Formats.{Open}
 use Rattle.sat_base.specs.steps.Numbers.{IsBelow}
-use Rattle.sat_base.specs.device.Reading.{Source, to_come, PassesBut, Passes, PassesToEnd, none_given, Faults, Refills, NextByte, ByteWithin, Reads}
+use Rattle.sat_base.specs.device.Reading.{Source, to_come, PassesBut, Passes, PassesToEnd, none_given, Faults, Refills, NextByte, ByteWithin, ReadsValue}
 use Rattle.sat_base.proofs.lemmas.device.Known.{consumes_none, consumes_more}
 use Rattle.sat_base.proofs.lemmas.steps.Numbers.{Front, front_none, front_more, live, last_read, shut_zero, shut_large, shut_on}
 
@@ -176,10 +176,10 @@ groups_none limit s h = record { text = []; passes = passes_none s; front = fron
 pub place_some : (limit value place : ℕ) (old new : Source) → Groups limit value place old new → 0 < place
 place_some limit value place old new g = elim g.begun [ inl h ↦ omega (arith, h.2) | inr h ↦ omega (arith, h.1) ]
 
-groups_cut : (limit value place : ℕ) (old mid new : Source) → Groups limit value place old mid → PassesToEnd mid new [] → Reads (IsBelow limit) (Err errors.Cut) old new
+groups_cut : (limit value place : ℕ) (old mid new : Source) → Groups limit value place old mid → PassesToEnd mid new [] → ReadsValue (IsBelow limit) (Err errors.Cut) old new
 groups_cut limit value place old mid new g h = (g.text, ends_there old mid new g.text g.passes h, live limit g.text value place g.front g.small)
 
-pub groups_stop : (limit value place : ℕ) (old mid new : Source) (e : StepError) → Groups limit value place old mid → ByteWithin (Err e) mid new → Reads (IsBelow limit) (Err e) old new
+pub groups_stop : (limit value place : ℕ) (old mid new : Source) (e : StepError) → Groups limit value place old mid → ByteWithin (Err e) mid new → ReadsValue (IsBelow limit) (Err e) old new
 groups_stop limit value place old mid new errors.Read g h = (g.text, faults_there old mid new g.text g.passes h, live limit g.text value place g.front g.small)
 groups_stop limit value place old mid new errors.Ends g h = absurd h
 groups_stop limit value place old mid new errors.Cut g h = groups_cut limit value place old mid new g h
@@ -187,29 +187,29 @@ groups_stop limit value place old mid new errors.BadByte g h = absurd h
 groups_stop limit value place old mid new errors.OutOfMemory g h = absurd h
 groups_stop limit value place old mid new errors.HasFailed g h = absurd h
 
-pub groups_bad : (limit value place b : ℕ) (old mid new : Source) → (g : Groups limit value place old mid) → Passes mid new (b ∷ []) → (Open (IsBelow limit) (g.text ++ b ∷ []) → ⊥) → Reads (IsBelow limit) (Err errors.BadByte) old new
+pub groups_bad : (limit value place b : ℕ) (old mid new : Source) → (g : Groups limit value place old mid) → Passes mid new (b ∷ []) → (Open (IsBelow limit) (g.text ++ b ∷ []) → ⊥) → ReadsValue (IsBelow limit) (Err errors.BadByte) old new
 groups_bad limit value place b old mid new g h k = (g.text, b, passes_more old mid new g.text (b ∷ []) g.passes h, live limit g.text value place g.front g.small, k)
 
 -- a last group of 0 is the whole number
-pub groups_zero : (limit value place b : ℕ) (old mid new : Source) → Groups limit value place old mid → Passes mid new (b ∷ []) → b ≡ 0 → place ≡ 1 → 1 < limit → Reads (IsBelow limit) (Ok 0) old new
+pub groups_zero : (limit value place b : ℕ) (old mid new : Source) → Groups limit value place old mid → Passes mid new (b ∷ []) → b ≡ 0 → place ≡ 1 → 1 < limit → ReadsValue (IsBelow limit) (Ok 0) old new
 groups_zero limit value place b old mid new g h e f l = elim g.begun [
   | inl k ↦ (b ∷ [], subst (λ (z : List ℕ). Passes old new (z ++ b ∷ [])) k.0 (passes_more old mid new g.text (b ∷ []) g.passes h), ((omega arith, sym e), omega arith))
   | inr k ↦ absurd (omega (arith, k.1))
 ]
 
-pub groups_zero_bad : (limit value place b : ℕ) (old mid new : Source) → Groups limit value place old mid → Passes mid new (b ∷ []) → b ≡ 0 → (place ≡ 1 → ⊥) → Reads (IsBelow limit) (Err errors.BadByte) old new
+pub groups_zero_bad : (limit value place b : ℕ) (old mid new : Source) → Groups limit value place old mid → Passes mid new (b ∷ []) → b ≡ 0 → (place ≡ 1 → ⊥) → ReadsValue (IsBelow limit) (Err errors.BadByte) old new
 groups_zero_bad limit value place b old mid new g h e f = elim g.begun [
   | inl k ↦ absurd (f k.2)
   | inr k ↦ groups_bad limit value place b old mid new g h (shut_zero limit g.text value place b g.front k.0 e)
 ]
 
-pub groups_last : (limit value place b : ℕ) (old mid new : Source) → Groups limit value place old mid → Passes mid new (b ∷ []) → (b ≡ 0 → ⊥) → b < 128 → value + place * b < limit → Reads (IsBelow limit) (Ok (value + place * b)) old new
+pub groups_last : (limit value place b : ℕ) (old mid new : Source) → Groups limit value place old mid → Passes mid new (b ∷ []) → (b ≡ 0 → ⊥) → b < 128 → value + place * b < limit → ReadsValue (IsBelow limit) (Ok (value + place * b)) old new
 groups_last limit value place b old mid new g h z l m = (g.text ++ b ∷ [], passes_more old mid new g.text (b ∷ []) g.passes h, last_read limit g.text value place b g.front l (inr (omega arith)) m)
 
-pub groups_large : (limit value place b : ℕ) (old mid new : Source) → Groups limit value place old mid → Passes mid new (b ∷ []) → b < 128 → limit ≤ value + place * b → Reads (IsBelow limit) (Err errors.BadByte) old new
+pub groups_large : (limit value place b : ℕ) (old mid new : Source) → Groups limit value place old mid → Passes mid new (b ∷ []) → b < 128 → limit ≤ value + place * b → ReadsValue (IsBelow limit) (Err errors.BadByte) old new
 groups_large limit value place b old mid new g h l m = groups_bad limit value place b old mid new g h (shut_large limit g.text value place b g.front l m)
 
-pub groups_on : (limit value place b : ℕ) (old mid new : Source) → Groups limit value place old mid → Passes mid new (b ∷ []) → 128 ≤ b → limit ≤ (value + place * (b - 128)) + place * 128 → Reads (IsBelow limit) (Err errors.BadByte) old new
+pub groups_on : (limit value place b : ℕ) (old mid new : Source) → Groups limit value place old mid → Passes mid new (b ∷ []) → 128 ≤ b → limit ≤ (value + place * (b - 128)) + place * 128 → ReadsValue (IsBelow limit) (Err errors.BadByte) old new
 groups_on limit value place b old mid new g h l m = groups_bad limit value place b old mid new g h (shut_on limit g.text value place b g.front l m)
 
 -- THE ROOM THAT IS LEFT for the groups to come: so many times the place fit into what the number may still grow by
@@ -235,12 +235,12 @@ small_group b h = grind (arith, common_steps)
 large_group : (b : ℕ) → nat_lt b 128 ≡ false → 128 ≤ b
 large_group b h = grind (arith, common_steps)
 
-by_kind : (largest value place b : ℕ) (old mid new : Source) → Groups (largest + 1) value place old mid → Passes mid new (b ∷ []) → largest + 1 ≤ value + place * b → (t : Bool) → nat_lt b 128 ≡ t → Reads (IsBelow (largest + 1)) (Err errors.BadByte) old new
+by_kind : (largest value place b : ℕ) (old mid new : Source) → Groups (largest + 1) value place old mid → Passes mid new (b ∷ []) → largest + 1 ≤ value + place * b → (t : Bool) → nat_lt b 128 ≡ t → ReadsValue (IsBelow (largest + 1)) (Err errors.BadByte) old new
 by_kind largest value place b old mid new g h k true e = groups_large (largest + 1) value place b old mid new g h (small_group b e) k
 by_kind largest value place b old mid new g h k false e = groups_on (largest + 1) value place b old mid new g h (large_group b e) (let s = split_group place b (large_group b e) in omega arith)
 
 -- a group that has no room
-pub groups_past : (largest value place room b : ℕ) (old mid new : Source) → Groups (largest + 1) value place old mid → Passes mid new (b ∷ []) → largest < value + place * (room + 1) → room < b → Reads (IsBelow (largest + 1)) (Err errors.BadByte) old new
+pub groups_past : (largest value place room b : ℕ) (old mid new : Source) → Groups (largest + 1) value place old mid → Passes mid new (b ∷ []) → largest < value + place * (room + 1) → room < b → ReadsValue (IsBelow (largest + 1)) (Err errors.BadByte) old new
 groups_past largest value place room b old mid new g h k l = by_kind largest value place b old mid new g h (past_room largest value place room b k l) (nat_lt b 128) refl
 
 low_of : (largest value place room g q : ℕ) → value + place * room ≤ largest → g + 128 * q ≤ room → (value + place * g) + (place * 128) * q ≤ largest

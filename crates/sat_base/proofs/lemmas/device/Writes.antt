@@ -4,13 +4,13 @@ use Rattle.std.proofs.lemmas.List.{append-nil, take-append-drop, length-take-le}
 use Rattle.std.proofs.lemmas.Grind.{common_steps}
 use Rattle.std.proofs.Math.Seq.{take-add}
 use Rattle.std.specs.Io.KnownBytes.{Appends, Keeps}
-use Rattle.sat_base.specs.device.Device.{Writer, WritesOnce, FlushesOnce, Takes, Breaks, Puts, takes_none, lent_writer}
+use Rattle.sat_base.specs.device.Device.{Writer, WritesOnce, FlushesOnce, WriterTakes, WriterBreaks, Puts, takes_none, lent_writer}
 use Rattle.sat_base.proofs.lemmas.device.Known.{appends_none, appends_more, rest_is}
 
-pub took_none : (w : Writer) → Takes w w []
+pub took_none : (w : Writer) → WriterTakes w w []
 took_none w = record { taken = sym (append-nil w.taken); told = appends_none w.contents; failures = refl; calls = omega arith; few = omega arith; loans = refl }
 
-pub took_more : (a b c : Writer) (xs ys : List ℕ) → Takes a b xs → Takes b c ys → Takes a c (xs ++ ys)
+pub took_more : (a b c : Writer) (xs ys : List ℕ) → WriterTakes a b xs → WriterTakes b c ys → WriterTakes a c (xs ++ ys)
 took_more a b c xs ys p q = record {
   taken = q.taken ∙ ap (λ (z : List ℕ). z ++ ys) p.taken ∙ append_assoc a.taken xs ys;
   told = appends_more a.contents b.contents c.contents xs ys p.told q.told;
@@ -21,7 +21,7 @@ took_more a b c xs ys p q = record {
 }
 
 -- a failure behind what was taken
-pub breaks_later : (a b c : Writer) (xs ys : List ℕ) → Takes a b xs → Breaks b c ys → Breaks a c (xs ++ ys)
+pub breaks_later : (a b c : Writer) (xs ys : List ℕ) → WriterTakes a b xs → WriterBreaks b c ys → WriterBreaks a c (xs ++ ys)
 breaks_later a b c xs ys p q = record {
   front = xs ++ q.front;
   behind = q.behind;
@@ -36,7 +36,7 @@ breaks_later a b c xs ys p q = record {
 }
 
 -- a failure within a longer text
-pub breaks_within : (a b : Writer) (xs ys : List ℕ) → Breaks a b xs → Breaks a b (xs ++ ys)
+pub breaks_within : (a b : Writer) (xs ys : List ℕ) → WriterBreaks a b xs → WriterBreaks a b (xs ++ ys)
 breaks_within a b xs ys q = record {
   front = q.front;
   behind = q.behind ++ ys;
@@ -66,7 +66,7 @@ counted_one : (t : Bool) (old new : ℕ) → new ≡ (if t then old + 1 else old
 counted_one true old new h e = h
 counted_one false old new h e = absurd (let k : ◌≡◌ {A = Bool} false true = e in cc)
 
-pub wrote_some : {E : Type 0} (a b : Writer) (rest : List ℕ) (n : ℕ) → WritesOnce {E = E} (Ok n) rest a b → n ≤ length rest → (n ≡ 0 → ⊥) → Takes a b (take n rest)
+pub wrote_some : {E : Type 0} (a b : Writer) (rest : List ℕ) (n : ℕ) → WritesOnce {E = E} (Ok n) rest a b → n ≤ length rest → (n ≡ 0 → ⊥) → WriterTakes a b (take n rest)
 wrote_some a b rest n w k h = record {
   taken = w.taken;
   told = w.told;
@@ -84,7 +84,7 @@ keeps_appends (Some x) (Some y) h = h ∙ sym (append-nil x)
 none_at : (n : ℕ) (rest : List ℕ) → n ≡ 0 → take n rest ≡ []
 none_at n rest h = ap (λ (k : ℕ). take k rest) h
 
-pub wrote_none : {E : Type 0} (a b : Writer) (rest : List ℕ) (n : ℕ) → WritesOnce {E = E} (Ok n) rest a b → n ≡ 0 → 0 < length rest → Breaks a b rest
+pub wrote_none : {E : Type 0} (a b : Writer) (rest : List ℕ) (n : ℕ) → WritesOnce {E = E} (Ok n) rest a b → n ≡ 0 → 0 < length rest → WriterBreaks a b rest
 wrote_none a b rest n w h k = record {
   front = [];
   behind = rest;
@@ -98,7 +98,7 @@ wrote_none a b rest n w h k = record {
   loans = w.loans;
 }
 
-pub write_fails : {E : Type 0} (e : E) (a b : Writer) (rest : List ℕ) → WritesOnce {E = E} (Err e) rest a b → Breaks a b rest
+pub write_fails : {E : Type 0} (e : E) (a b : Writer) (rest : List ℕ) → WritesOnce {E = E} (Err e) rest a b → WriterBreaks a b rest
 write_fails e a b rest w = record {
   front = [];
   behind = rest;
@@ -114,7 +114,7 @@ write_fails e a b rest w = record {
 
 -- ONE FLUSH
 
-pub flush_takes : {E : Type 0} {u : Unit {0}} (a b : Writer) → FlushesOnce {E = E} (Ok u) a b → Takes a b []
+pub flush_takes : {E : Type 0} {u : Unit {0}} (a b : Writer) → FlushesOnce {E = E} (Ok u) a b → WriterTakes a b []
 flush_takes a b f = record {
   taken = f.taken ∙ sym (append-nil a.taken);
   told = keeps_appends a.contents b.contents f.told;
@@ -124,7 +124,7 @@ flush_takes a b f = record {
   loans = f.loans;
 }
 
-pub flush_fails : {E : Type 0} (e : E) (a b : Writer) → FlushesOnce {E = E} (Err e) a b → Breaks a b []
+pub flush_fails : {E : Type 0} (e : E) (a b : Writer) → FlushesOnce {E = E} (Err e) a b → WriterBreaks a b []
 flush_fails e a b f = record {
   front = [];
   behind = [];
@@ -140,16 +140,16 @@ flush_fails e a b f = record {
 
 -- THE NEXT PART OF A PIECE
 
-pub took_next : {E : Type 0} (a b c : Writer) (piece : List ℕ) (i n : ℕ) → Takes a b (take i piece) → WritesOnce {E = E} (Ok n) (take (length piece - i) (drop i piece)) b c
-    → n ≤ length (take (length piece - i) (drop i piece)) → (n ≡ 0 → ⊥) → Takes a c (take (i + n) piece)
+pub took_next : {E : Type 0} (a b c : Writer) (piece : List ℕ) (i n : ℕ) → WriterTakes a b (take i piece) → WritesOnce {E = E} (Ok n) (take (length piece - i) (drop i piece)) b c
+    → n ≤ length (take (length piece - i) (drop i piece)) → (n ≡ 0 → ⊥) → WriterTakes a c (take (i + n) piece)
 took_next a b c piece i n p w k h =
     let e : take i piece ++ take n (take (length piece - i) (drop i piece)) ≡ take (i + n) piece = ap (λ (z : List ℕ). take i piece ++ take n z) (rest_is piece i) ∙ sym (take-add i n piece) in
-    subst (Takes a c) e (took_more a b c (take i piece) (take n (take (length piece - i) (drop i piece))) p (wrote_some b c (take (length piece - i) (drop i piece)) n w k h))
+    subst (WriterTakes a c) e (took_more a b c (take i piece) (take n (take (length piece - i) (drop i piece))) p (wrote_some b c (take (length piece - i) (drop i piece)) n w k h))
 
-pub breaks_next : (a b c : Writer) (piece : List ℕ) (i : ℕ) → Takes a b (take i piece) → Breaks b c (take (length piece - i) (drop i piece)) → Breaks a c piece
+pub breaks_next : (a b c : Writer) (piece : List ℕ) (i : ℕ) → WriterTakes a b (take i piece) → WriterBreaks b c (take (length piece - i) (drop i piece)) → WriterBreaks a c piece
 breaks_next a b c piece i p q =
     let e : take i piece ++ take (length piece - i) (drop i piece) ≡ piece = ap (λ (z : List ℕ). take i piece ++ z) (rest_is piece i) ∙ take-append-drop i piece in
-    subst (Breaks a c) e (breaks_later a b c (take i piece) (take (length piece - i) (drop i piece)) p q)
+    subst (WriterBreaks a c) e (breaks_later a b c (take i piece) (take (length piece - i) (drop i piece)) p q)
 
 pub rest_some : (piece : List ℕ) (i : ℕ) → i < length piece → 0 < length (take (length piece - i) (drop i piece))
 rest_some piece i h = let e = ap length (rest_is piece i) in omega (arith, length-drop i piece)
@@ -159,7 +159,7 @@ rest_some piece i h = let e = ap length (rest_is piece i) in omega (arith, lengt
 loans_end : (W : Type 0) (z v : W) (given back : ℕ) (xs ys : List ℕ) → (given ≡ back → z ≡ v) → ◌≡◌ {A = List ℕ} (back ∷ ys) (given ∷ xs) → z ≡ v
 loans_end W z v given back xs ys h e = h (let k : given ≡ back = cc in k)
 
-lent_takes : (a b : Writer) (given back : ℕ) (text : List ℕ) → Takes (lent_writer given a) (lent_writer back b) text → Takes a b text
+lent_takes : (a b : Writer) (given back : ℕ) (text : List ℕ) → WriterTakes (lent_writer given a) (lent_writer back b) text → WriterTakes a b text
 lent_takes a b given back text p = record {
   taken = p.taken;
   told = p.told;
@@ -169,7 +169,7 @@ lent_takes a b given back text p = record {
   loans = let k = p.loans in cc;
 }
 
-lent_breaks : (a b : Writer) (given back : ℕ) (text : List ℕ) → Breaks (lent_writer given a) (lent_writer back b) text → Breaks a b text
+lent_breaks : (a b : Writer) (given back : ℕ) (text : List ℕ) → WriterBreaks (lent_writer given a) (lent_writer back b) text → WriterBreaks a b text
 lent_breaks a b given back text p = record {
   front = p.front;
   behind = p.behind;
@@ -186,6 +186,6 @@ lent_breaks a b given back text p = record {
 -- a writer that was lent and given back holds what it held at the end of the loan
 pub lent_puts : {E W : Type 0} (seen : W → Writer) (a z v : W) (given back : ℕ) (text : List ℕ) (r : Result (Unit {0}) E) → (given ≡ back → z ≡ v) → Puts text r (lent_writer given (seen a)) (lent_writer back (seen v)) → Puts text r (seen a) (seen z)
 lent_puts {E} {W} seen a z v given back text (Ok u) h p =
-    subst (λ (x : W). Takes (seen a) (seen x) text) (sym (loans_end W z v given back (seen a).loans (seen v).loans h p.loans)) (lent_takes (seen a) (seen v) given back text p)
+    subst (λ (x : W). WriterTakes (seen a) (seen x) text) (sym (loans_end W z v given back (seen a).loans (seen v).loans h p.loans)) (lent_takes (seen a) (seen v) given back text p)
 lent_puts {E} {W} seen a z v given back text (Err e) h p =
-    subst (λ (x : W). Breaks (seen a) (seen x) text) (sym (loans_end W z v given back (seen a).loans (seen v).loans h p.loans)) (lent_breaks (seen a) (seen v) given back text p)
+    subst (λ (x : W). WriterBreaks (seen a) (seen x) text) (sym (loans_end W z v given back (seen a).loans (seen v).loans h p.loans)) (lent_breaks (seen a) (seen v) given back text p)

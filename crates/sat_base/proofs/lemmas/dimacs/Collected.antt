@@ -6,11 +6,11 @@ use Rattle.std.specs.Prelude.{nat_eq, nat_lt, not, ◌||◌, if◌then◌else◌
 use Rattle.sat_base.specs.values.Literals.{coded, largest}
 use Rattle.sat_base.specs.text.Text.{is_blank, Token, Number, Letter, Header, Wrong, Scan, scan}
 use Rattle.sat_base.specs.text.Spot.{onto}
-use Rattle.sat_base.specs.text.Tokenizing.{held, held_token, IsOfHeader, Quiet}
+use Rattle.sat_base.specs.text.Tokenizing.{held, held_token, IsOfHeader, HoldsNoWord}
 use Rattle.sat_base.specs.dimacs.Dimacs.{Hand, Turn, GoesOn, Ends, Fails, Ending, Limit, Dimacs, literals_in, turn, at_end, behind_turn, clauses_of, dimacs_of, dimacs, has_blank, settled}
 use Rattle.sat_base.specs.dimacs.Collecting.{token_of}
 use Rattle.sat_base.specs.dimacs.Parsing.{has_LF, whole_lines, NoFault, unless_fault}
-use Rattle.sat_base.specs.dimacs.ParserPlaces.{onto_clauses, Turned}
+use Rattle.sat_base.specs.dimacs.ParserPlaces.{onto_clauses, HaveTakenTokens}
 
 -- TEXTS
 has_blank-behind : (text : List ℕ) (b : ℕ) → is_blank b ≡ true → has_blank (text ++ b ∷ []) ≡ true
@@ -82,11 +82,11 @@ turn-held h line Wrong = refl
 onto-onto : (a b : List (List ℕ)) (d : Dimacs) → onto_clauses a (onto_clauses b d) ≡ onto_clauses (a ++ b) d
 onto-onto a b d = ap (λ (cs : List (List ℕ)). record { clauses = cs; ending = d.ending }) (sym (append_assoc a b d.clauses))
 
-pub turned_first : Turned [] [] None
+pub turned_first : HaveTakenTokens [] [] None
 turned_first = record { says = λ last ts. refl; sound = λ ts h. h }
 
 -- one token more
-module _ (before : List (ℕ × Token)) (all : List (List ℕ)) (hand : Hand) (n : ℕ) (t : Token) (m : Turned before all hand) where
+module _ (before : List (ℕ × Token)) (all : List (List ℕ)) (hand : Hand) (n : ℕ) (t : Token) (m : HaveTakenTokens before all hand) where
   pub says_next : (k : Turn) → turn hand n t ≡ k → (last : ℕ) (ts : List (ℕ × Token))
       → clauses_of None last ((before ++ (n, t) ∷ []) ++ ts) ≡ onto_clauses all (behind_turn k (λ h. clauses_of h last ts))
   says_next k e last ts =
@@ -98,10 +98,10 @@ module _ (before : List (ℕ × Token)) (all : List (List ℕ)) (hand : Hand) (n
       let here : NoFault hand ((n, t) ∷ ts) = subst (λ (j : Turn). unless_fault j (λ g. NoFault g ts)) (sym e) h in
       subst (NoFault None) (sym (append_assoc before ((n, t) ∷ []) ts)) (m.sound ((n, t) ∷ ts) here)
 
-  pub turned_goes : (h : Hand) → turn hand n t ≡ GoesOn h → Turned (before ++ (n, t) ∷ []) all h
+  pub turned_goes : (h : Hand) → turn hand n t ≡ GoesOn h → HaveTakenTokens (before ++ (n, t) ∷ []) all h
   turned_goes h e = record { says = says_next (GoesOn h) e; sound = sound_next (GoesOn h) e }
 
-  pub turned_ends : (c : List ℕ) → turn hand n t ≡ Ends c → Turned (before ++ (n, t) ∷ []) (all ++ c ∷ []) None
+  pub turned_ends : (c : List ℕ) → turn hand n t ≡ Ends c → HaveTakenTokens (before ++ (n, t) ∷ []) (all ++ c ∷ []) None
   turned_ends c e = record {
     says = λ last ts. says_next (Ends c) e last ts ∙ onto-onto all (c ∷ []) (clauses_of None last ts);
     sound = sound_next (Ends c) e;
@@ -123,7 +123,7 @@ pub dimacs_is : (text : List ℕ) (before : List (ℕ × Token)) (s : Scan) → 
 unfolding dimacs
 dimacs_is text before s e = ap (dimacs_of None) e
 
-pub dimacs_says : (text : List ℕ) (before : List (ℕ × Token)) (all : List (List ℕ)) (hand : Hand) (s : Scan) → scan text ≡ onto before s → Turned before all hand
+pub dimacs_says : (text : List ℕ) (before : List (ℕ × Token)) (all : List (List ℕ)) (hand : Hand) (s : Scan) → scan text ≡ onto before s → HaveTakenTokens before all hand
     → dimacs text ≡ onto_clauses all (dimacs_of hand s)
 dimacs_says text before all hand s e m = dimacs_is text before s e ∙ m.says s.last s.tokens
 
@@ -134,11 +134,11 @@ header_clauses hand last line (Header v c) h = ap (λ (d : Dimacs). d.clauses) (
 header_clauses hand last line Wrong h = ap (λ (d : Dimacs). d.clauses) (clauses_of_cons hand last (line, Wrong) [])
 
 -- where no more than an unread header is to come, so are no clauses
-pub quiet_clauses : (hand : Hand) (s : Scan) → Quiet s → (dimacs_of hand s).clauses ≡ []
+pub quiet_clauses : (hand : Hand) (s : Scan) → HoldsNoWord s → (dimacs_of hand s).clauses ≡ []
 quiet_clauses hand s (inl e) = ap (λ (ts : List (ℕ × Token)). (clauses_of hand s.last ts).clauses) e ∙ ap (λ (d : Dimacs). d.clauses) (clauses_of_nil hand s.last)
 quiet_clauses hand s (inr q) = ap (λ (ts : List (ℕ × Token)). (clauses_of hand s.last ts).clauses) q.3 ∙ header_clauses hand s.last q.0 q.1 q.2
 
-pub settled_clauses : (text : List ℕ) (before : List (ℕ × Token)) (all : List (List ℕ)) (hand : Hand) (s : Scan) → scan text ≡ onto before s → Turned before all hand → Quiet s
+pub settled_clauses : (text : List ℕ) (before : List (ℕ × Token)) (all : List (List ℕ)) (hand : Hand) (s : Scan) → scan text ≡ onto before s → HaveTakenTokens before all hand → HoldsNoWord s
     → (dimacs text).clauses ≡ all
 settled_clauses text before all hand s e m q =
     ap (λ (d : Dimacs). d.clauses) (dimacs_says text before all hand s e m) ∙ ap (λ (cs : List (List ℕ)). all ++ cs) (quiet_clauses hand s q) ∙ append-nil all

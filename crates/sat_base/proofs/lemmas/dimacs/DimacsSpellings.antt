@@ -8,7 +8,7 @@ use Rattle.sat_base.specs.text.Text.{Token, Number, Letter, Header, Wrong, token
 use Rattle.sat_base.specs.script.Language.{spoken}
 use Rattle.sat_base.specs.dimacs.Dimacs.{Ending, Clean, Malformed, Limit, Dimacs, Hand, Turn, GoesOn, Ends, literals_in, with_number, turn, at_end, behind_turn, clauses_of, dimacs}
 use Rattle.sat_base.specs.script.ScriptSpelling.{IsZero}
-use Rattle.sat_base.specs.dimacs.DimacsSpelling.{number_of, AreWithin, SpellsClauses, SpellsFormula, OneFormula, CleanIfSpelled}
+use Rattle.sat_base.specs.dimacs.DimacsSpelling.{signed_number, AreWithin, SpellsClauses, SpellsFormula, OneFormula, CleanIfSpelled}
 use Rattle.sat_base.proofs.lemmas.dimacs.WrittenIsRead.{clauses_nil, clauses_cons, coded_back}
 use Rattle.sat_base.proofs.lemmas.text.HeaderFirst.{IsWord, AreWords, AreScript, text_is}
 
@@ -25,7 +25,7 @@ pub record SpellsRest (done : List ℕ) (cs : List (List ℕ)) (ts : List Token)
   pub is_last : IsZero last
   pub within : AreWithin literals
   pub first : cs ≡ (done ++ literals) ∷ clauses
-  pub whole : ts ≡ (map number_of literals ++ last ∷ []) ++ later
+  pub whole : ts ≡ (map signed_number literals ++ last ∷ []) ++ later
   pub rest : SpellsClauses clauses later
 
 abbrev SpellsFrom : Hand → List (List ℕ) → List Token → Type 0
@@ -41,7 +41,7 @@ pub record ByZero (h : Hand) (cs : List (List ℕ)) (t : Token) (ts : List Token
 
 pub record ByLiteral (h : Hand) (cs : List (List ℕ)) (t : Token) (ts : List Token) : Type 0 where
   pub literal : ℕ
-  pub is_literal : t ≡ number_of literal
+  pub is_literal : t ≡ signed_number literal
   pub within : variable literal < largest
   pub rest : SpellsRest (literals_in h ++ literal ∷ []) cs ts
 
@@ -58,7 +58,7 @@ rest_of (t ∷ ts) = ts
 
 -- TAKEN APART
 rest_next : (h : Hand) (literals : List ℕ) (last : Token) (later : List Token) (clauses cs : List (List ℕ)) (t : Token) (ts : List Token)
-    → IsZero last → AreWithin literals → cs ≡ (literals_in h ++ literals) ∷ clauses → t ∷ ts ≡ (map number_of literals ++ last ∷ []) ++ later → SpellsClauses clauses later → Next h cs t ts
+    → IsZero last → AreWithin literals → cs ≡ (literals_in h ++ literals) ∷ clauses → t ∷ ts ≡ (map signed_number literals ++ last ∷ []) ++ later → SpellsClauses clauses later → Next h cs t ts
 rest_next h [] last later clauses cs t ts z w f e s =
     let same : t ≡ last = ap first_of e in
     let behind : ts ≡ later = ap rest_of e in
@@ -105,7 +105,7 @@ by_literal : (h : Hand) (cs : List (List ℕ)) (t : Token) (ts : List Token) →
 by_literal None cs t ts n =
     let s = n.rest in
     subst (λ (ds : List (List ℕ)). SpellsClauses ds (t ∷ ts)) (sym s.first)
-    (map number_of (n.literal ∷ s.literals) ++ s.last ∷ [], s.later, (s.last, s.is_last, (n.within, s.within), refl), s.rest, ap₂ (λ (u : Token) (us : List Token). u ∷ us) n.is_literal s.whole)
+    (map signed_number (n.literal ∷ s.literals) ++ s.last ∷ [], s.later, (s.last, s.is_last, (n.within, s.within), refl), s.rest, ap₂ (λ (u : Token) (us : List Token). u ∷ us) n.is_literal s.whole)
 by_literal (Some done) cs t ts n = let s = n.rest in record {
   literals = n.literal ∷ s.literals;
   last = s.last;
@@ -132,7 +132,7 @@ twice_not true = refl
 twice_not false = refl
 
 -- the literal that a number is
-number_is : (negative : Bool) (value : ℕ) → 0 < value → Number negative value ≡ number_of (coded (value - 1) (not negative))
+number_is : (negative : Bool) (value : ℕ) → 0 < value → Number negative value ≡ signed_number (coded (value - 1) (not negative))
 number_is negative value some =
     let v : variable (coded (value - 1) (not negative)) ≡ value - 1 = variable_coded (value - 1) (not negative) in
     let p : not (is_positive (coded (value - 1) (not negative))) ≡ negative = ap not (positive_coded (value - 1) (not negative)) ∙ twice_not negative in
@@ -145,7 +145,7 @@ turn_zero h line (Letter b) z = absurd z
 turn_zero h line (Header v c) z = absurd z
 turn_zero h line Wrong z = absurd z
 
-turn_literal : (h : Hand) (line l : ℕ) → variable l < largest → turn h line (number_of l) ≡ GoesOn (Some (literals_in h ++ l ∷ []))
+turn_literal : (h : Hand) (line l : ℕ) → variable l < largest → turn h line (signed_number l) ≡ GoesOn (Some (literals_in h ++ l ∷ []))
 turn_literal h line l w =
     let v = variable l + 1 in
     let some : nat_eq v 0 ≡ false = grind (arith, nat_tests) in
@@ -158,13 +158,13 @@ abbrev AllRead : ℕ → List (ℕ × Token) → Type 0
 AllRead last ts = (h : Hand) (cs : List (List ℕ)) → SpellsFrom h cs (spoken ts) → clauses_of h last ts ≡ clean cs
 
 -- a clause has at least its zero
-none_whole : (ls : List ℕ) (last : Token) (later : List Token) → [] ≡ (map number_of ls ++ last ∷ []) ++ later → ⊥
+none_whole : (ls : List ℕ) (last : Token) (later : List Token) → [] ≡ (map signed_number ls ++ last ∷ []) ++ later → ⊥
 none_whole [] last later e = cc
 none_whole (l ∷ ls) last later e = cc
 
 none_read : (h : Hand) (last : ℕ) (cs : List (List ℕ)) → SpellsFrom h cs [] → record { clauses = []; ending = at_end h last } ≡ clean cs
 none_read None last [] s = refl
-none_read None last (c ∷ cs) s = let e : [] ≡ (map number_of c ++ s.2.0 ∷ []) ++ s.1 = s.4 ∙ ap (λ (us : List Token). us ++ s.1) s.2.3 in absurd (none_whole c s.2.0 s.1 e)
+none_read None last (c ∷ cs) s = let e : [] ≡ (map signed_number c ++ s.2.0 ∷ []) ++ s.1 = s.4 ∙ ap (λ (us : List Token). us ++ s.1) s.2.3 in absurd (none_whole c s.2.0 s.1 e)
 none_read (Some done) last cs s = absurd (none_whole s.literals s.last s.later s.whole)
 
 next_read : (h : Hand) (last : ℕ) (cs : List (List ℕ)) (t : ℕ × Token) (ts : List (ℕ × Token)) → AllRead last ts → Next h cs t.1 (spoken ts) → behind_turn (turn h t.0 t.1) (λ k. clauses_of k last ts) ≡ clean cs
@@ -243,7 +243,7 @@ all_spelled last (t ∷ ts) w h cs e =
 
 -- WITH A HEADER
 -- clauses are spelled without one
-number_no_header : {A : Type 0} (v c l : ℕ) → Header v c ≡ number_of l → A
+number_no_header : {A : Type 0} (v c l : ℕ) → Header v c ≡ signed_number l → A
 number_no_header v c l e = absurd (cc)
 
 none_headed : {A : Type 0} (cs : List (List ℕ)) (v c : ℕ) (ts : List Token) → SpellsClauses cs (Header v c ∷ ts) → A

@@ -13,15 +13,15 @@ use Rattle.sat_base.specs.declared.dimacs.history.History.{History}
 use Rattle.sat_base.specs.declared.text.Token.{Token as CodeToken}
 use Rattle.sat_base.specs.declared.text.Token.TheVariants as code
 use Rattle.sat_base.specs.declared.text.Tokenizer.{Tokenizer}
-use Rattle.sat_base.specs.text.Text.{is_blank, Token, Number, Letter, Header, Wrong, Scan, lines, tokens_of, last_line, scan, header_from, header_first, header_of}
+use Rattle.sat_base.specs.text.Text.{is_blank, Token, Number, Letter, Header, Wrong, Scan, lines, tokens_of, last_line, scan, header_from, header_first, dimacs_header}
 use Rattle.sat_base.specs.text.Spot.{onto}
-use Rattle.sat_base.specs.text.WrongWords.{AreRight, RightAhead, WrongAhead}
-use Rattle.sat_base.specs.text.Tokenizing.{held, held_token, Stands, Takes, GivesLast, IsOfHeader, Quiet}
+use Rattle.sat_base.specs.text.WrongWords.{HaveNoWrongWord, RightAhead, WrongAhead}
+use Rattle.sat_base.specs.text.Tokenizing.{held, held_token, StandsBefore, TakesByte, GivesLast, IsOfHeader, HoldsNoWord}
 use Rattle.sat_base.specs.values.Formulas.{Formula, no_formula, vars_in, vars_of}
 use Rattle.sat_base.specs.dimacs.Dimacs.{Hand, Turn, GoesOn, Ends, Fails, Ending, Clean, Malformed, Limit, Dimacs, literals_in, turn, at_end, clauses_of, dimacs, settled}
-use Rattle.sat_base.specs.dimacs.Collecting.{token_of, hand_in, header_behind, is_literal, NeedsRoom, Stay, AllStay, Turns}
-use Rattle.sat_base.specs.dimacs.Parsing.{Progress, NoFault, unless_fault, IsSoundText, GoesWell, EndsWell, Faults, Feeds, Finishes, with_fed, cut_short, at_its_end, clauses_read, lines_read, whole_lines, held_numbers, last_byte}
-use Rattle.sat_base.specs.dimacs.ParserPlaces.{progress_of, all_in, onto_clauses, Turned, Goes, IsParser, EndsClean}
+use Rattle.sat_base.specs.dimacs.Collecting.{token_of, hand_in, header_behind, is_literal, NeedsRoom, Stay, AllStay, TakesTokenTurn}
+use Rattle.sat_base.specs.dimacs.Parsing.{Progress, NoFault, unless_fault, IsSoundText, GoesWell, EndsWell, EndsAtFault, FeedsPiece, Finishes, with_fed, cut_short, at_its_end, clauses_read, lines_read, whole_lines, held_numbers, last_byte}
+use Rattle.sat_base.specs.dimacs.ParserPlaces.{progress_of, all_in, onto_clauses, HaveTakenTokens, IsGoingParser, IsParser, EndsClean}
 use Rattle.sat_base.proofs.lemmas.values.FlatLemmas.{vars_of_more}
 use Rattle.sat_base.specs.script.Language.{spoken}
 use Rattle.sat_base.proofs.lemmas.text.HeaderFirst.{AreWords, AreScript, text_is}
@@ -32,16 +32,16 @@ use Rattle.sat_base.proofs.lemmas.dimacs.Collected.{settled_blank, settled_insid
 one_more : (taken cs ds : List (List ℕ)) (c : List ℕ) → ds ≡ cs ++ c ∷ [] → (taken ++ cs) ++ c ∷ [] ≡ taken ++ ds
 one_more taken cs ds c e = append_assoc taken cs (c ∷ []) ∙ ap (λ (es : List (List ℕ)). taken ++ es) (sym e)
 
-pub turned_by : (before : List (ℕ × Token)) (taken : List (List ℕ)) (old new : Clauses) (n : ℕ) (t : Token) (k : Turn) → turn (hand_in old) n t ≡ k → Turned before (taken ++ old.formula.clauses) (hand_in old)
-    → Turns k old new → Turned (before ++ (n, t) ∷ []) (taken ++ new.formula.clauses) (hand_in new)
+pub turned_by : (before : List (ℕ × Token)) (taken : List (List ℕ)) (old new : Clauses) (n : ℕ) (t : Token) (k : Turn) → turn (hand_in old) n t ≡ k → HaveTakenTokens before (taken ++ old.formula.clauses) (hand_in old)
+    → TakesTokenTurn k old new → HaveTakenTokens (before ++ (n, t) ∷ []) (taken ++ new.formula.clauses) (hand_in new)
 turned_by before taken old new n t (GoesOn h) e m s =
     let same : taken ++ old.formula.clauses ≡ taken ++ new.formula.clauses = ap (λ (f : Formula). taken ++ f.clauses) (sym s.0.0) in
-    subst (λ (cs : List (List ℕ)). Turned (before ++ (n, t) ∷ []) cs (hand_in new)) same
-    (subst (λ (g : Hand). Turned (before ++ (n, t) ∷ []) (taken ++ old.formula.clauses) g) (sym s.1) (turned_goes before (taken ++ old.formula.clauses) (hand_in old) n t m h e))
+    subst (λ (cs : List (List ℕ)). HaveTakenTokens (before ++ (n, t) ∷ []) cs (hand_in new)) same
+    (subst (λ (g : Hand). HaveTakenTokens (before ++ (n, t) ∷ []) (taken ++ old.formula.clauses) g) (sym s.1) (turned_goes before (taken ++ old.formula.clauses) (hand_in old) n t m h e))
 turned_by before taken old new n t (Ends c) e m s =
     let same : (taken ++ old.formula.clauses) ++ c ∷ [] ≡ taken ++ new.formula.clauses = one_more taken old.formula.clauses new.formula.clauses c (ap (λ (f : Formula). f.clauses) s.0) in
-    subst (λ (cs : List (List ℕ)). Turned (before ++ (n, t) ∷ []) cs (hand_in new)) same
-    (subst (λ (g : Hand). Turned (before ++ (n, t) ∷ []) ((taken ++ old.formula.clauses) ++ c ∷ []) g) (sym s.2) (turned_ends before (taken ++ old.formula.clauses) (hand_in old) n t m c e))
+    subst (λ (cs : List (List ℕ)). HaveTakenTokens (before ++ (n, t) ∷ []) cs (hand_in new)) same
+    (subst (λ (g : Hand). HaveTakenTokens (before ++ (n, t) ∷ []) ((taken ++ old.formula.clauses) ++ c ∷ []) g) (sym s.2) (turned_ends before (taken ++ old.formula.clauses) (hand_in old) n t m c e))
 turned_by before taken old new n t (Fails ending) e m s = absurd s
 
 -- the counts are those of all clauses
@@ -51,7 +51,7 @@ Counted taken c = (c.count ≡ held (length (taken ++ c.formula.clauses))) × (c
 pub counted_stay : (taken : List (List ℕ)) (old new : Clauses) → Stay old new → Counted taken old → Counted taken new
 counted_stay taken old new s c = rw (s.0, s.1) c
 
-pub counted_by : (taken : List (List ℕ)) (old new : Clauses) (k : Turn) → Turns k old new → Counted taken old → Counted taken new
+pub counted_by : (taken : List (List ℕ)) (old new : Clauses) (k : Turn) → TakesTokenTurn k old new → Counted taken old → Counted taken new
 counted_by taken old new (GoesOn h) s c = counted_stay taken old new s.0 c
 counted_by taken old new (Ends d) s c =
     let all = taken ++ old.formula.clauses in
@@ -64,14 +64,14 @@ counted_by taken old new (Ends d) s c =
 counted_by taken old new (Fails ending) s c = absurd s
 
 -- BYTES
-pub record Stepped (old new : Parser) (g : Goes old) (b : ℕ) (xs : List (ℕ × Token)) (after : List ℕ → Scan) : Type 0 where
+pub record Stepped (old new : Parser) (g : IsGoingParser old) (b : ℕ) (xs : List (ℕ × Token)) (after : List ℕ → Scan) : Type 0 where
   pub fed : new.history.fed ≡ old.history.fed ++ b ∷ []
   pub gives : (rest : List ℕ) → g.left_of (b ∷ rest) ≡ onto xs (after rest)
-  pub quiet : is_blank b ≡ true → Quiet (after [])
+  pub quiet : is_blank b ≡ true → HoldsNoWord (after [])
   pub ended : b ≡ 10 → (after []).tokens ≡ []
   pub heads : nat_eq b 10 ≡ false → header_first (g.before ++ xs) ≡ header_first g.before
 
-module _ (old new : Parser) (g : Goes old) (b : ℕ) (xs : List (ℕ × Token)) (after : List ℕ → Scan) (s : Stepped old new g b xs after) where
+module _ (old new : Parser) (g : IsGoingParser old) (b : ℕ) (xs : List (ℕ × Token)) (after : List ℕ → Scan) (s : Stepped old new g b xs after) where
   pub step_scans : (rest : List ℕ) → scan (new.history.fed ++ rest) ≡ onto (g.before ++ xs) (after rest)
   step_scans rest = ap (λ (text : List ℕ). scan (text ++ rest)) s.fed ∙ scans_next old.history.fed b g.before xs g.left_of after g.scans s.gives rest
 
@@ -89,13 +89,13 @@ module _ (old new : Parser) (g : Goes old) (b : ℕ) (xs : List (ℕ × Token)) 
   whole_still : nat_eq b 10 ≡ false → whole_lines new.history.fed ≡ whole_lines old.history.fed
   whole_still e = ap whole_lines s.fed ∙ whole_inside old.history.fed b e
 
-  pub step_heads : (is_LF : Bool) → nat_eq b 10 ≡ is_LF → header_of (whole_lines new.history.fed) ≡ header_first (g.before ++ xs)
+  pub step_heads : (is_LF : Bool) → nat_eq b 10 ≡ is_LF → dimacs_header (whole_lines new.history.fed) ≡ header_first (g.before ++ xs)
   step_heads true e =
       let n : b ≡ 10 = grind (arith, nat_tests) in
-      ap header_of (whole_now n) ∙ ap header_first (whole_tokens n)
-  step_heads false e = ap header_of (whole_still e) ∙ g.heads ∙ sym (s.heads e)
+      ap dimacs_header (whole_now n) ∙ ap header_first (whole_tokens n)
+  step_heads false e = ap dimacs_header (whole_still e) ∙ g.heads ∙ sym (s.heads e)
 
-  pub step_sound : Turned (g.before ++ xs) (all_in new) (hand_in new.clauses) → (is_LF : Bool) → nat_eq b 10 ≡ is_LF → NoFault None (scan (whole_lines new.history.fed)).tokens
+  pub step_sound : HaveTakenTokens (g.before ++ xs) (all_in new) (hand_in new.clauses) → (is_LF : Bool) → nat_eq b 10 ≡ is_LF → NoFault None (scan (whole_lines new.history.fed)).tokens
   step_sound m true e =
       let n : b ≡ 10 = grind (arith, nat_tests) in
       let here : NoFault None (g.before ++ xs) = subst (NoFault None) (append-nil (g.before ++ xs)) (m.sound [] tt) in
@@ -106,7 +106,7 @@ module _ (old new : Parser) (g : Goes old) (b : ℕ) (xs : List (ℕ × Token)) 
   step_last =
       ap last_byte s.fed ∙ get_or_push old.history.fed b 10 (length (old.history.fed ++ b ∷ []) - 1) (omega (arith, length_push old.history.fed b))
 
-  pub step_goes : new.ended ≡ false → Stands new.tokenizer after → RightAhead after → Turned (g.before ++ xs) (all_in new) (hand_in new.clauses) → Goes new
+  pub step_goes : new.ended ≡ false → StandsBefore new.tokenizer after → RightAhead after → HaveTakenTokens (g.before ++ xs) (all_in new) (hand_in new.clauses) → IsGoingParser new
   step_goes e st r m = record {
     ended = e;
     before = g.before ++ xs;
@@ -120,7 +120,7 @@ module _ (old new : Parser) (g : Goes old) (b : ℕ) (xs : List (ℕ × Token)) 
     right = r;
   }
 
-  pub step_settled : (old_clauses : (dimacs (settled old.history.fed)).clauses ≡ all_in old) → (is_blank b ≡ false → all_in new ≡ all_in old) → Turned (g.before ++ xs) (all_in new) (hand_in new.clauses)
+  pub step_settled : (old_clauses : (dimacs (settled old.history.fed)).clauses ≡ all_in old) → (is_blank b ≡ false → all_in new ≡ all_in old) → HaveTakenTokens (g.before ++ xs) (all_in new) (hand_in new.clauses)
       → (blank : Bool) → is_blank b ≡ blank → (dimacs (settled new.history.fed)).clauses ≡ all_in new
   step_settled o i m true e =
       ap (λ (text : List ℕ). (dimacs text).clauses) (ap settled s.fed ∙ settled_blank old.history.fed b e ∙ sym s.fed)
@@ -134,14 +134,14 @@ clauses_open p e h = rw e h
 settled_open : (p : Parser) → p.ended ≡ false → clauses_read (progress_of p) ≡ all_in p → (dimacs (settled p.history.fed)).clauses ≡ all_in p
 settled_open p e h = rw e at h
 
-header_open : (p : Parser) → p.ended ≡ false → p.clauses.header ≡ held_numbers (header_of (whole_lines p.history.fed)) → p.clauses.header ≡ held_numbers (header_of (lines_read (progress_of p)))
+header_open : (p : Parser) → p.ended ≡ false → p.clauses.header ≡ held_numbers (dimacs_header (whole_lines p.history.fed)) → p.clauses.header ≡ held_numbers (dimacs_header (lines_read (progress_of p)))
 header_open p e h = rw e h
 
-pub header_before : (p : Parser) → IsParser p → (g : Goes p) → p.clauses.header ≡ held_numbers (header_first g.before)
+pub header_before : (p : Parser) → IsParser p → (g : IsGoingParser p) → p.clauses.header ≡ held_numbers (header_first g.before)
 header_before p i g = let h = rw g.ended at i.header in h ∙ ap held_numbers g.heads
 
-pub step_parser : (old new : Parser) (g : Goes old) (b : ℕ) (xs : List (ℕ × Token)) (after : List ℕ → Scan) → Stepped old new g b xs after → IsParser old → new.ended ≡ false → Stands new.tokenizer after → RightAhead after
-    → (is_blank b ≡ false → all_in new ≡ all_in old) → Turned (g.before ++ xs) (all_in new) (hand_in new.clauses) → Counted new.history.taken new.clauses → new.clauses.header ≡ held_numbers (header_first (g.before ++ xs))
+pub step_parser : (old new : Parser) (g : IsGoingParser old) (b : ℕ) (xs : List (ℕ × Token)) (after : List ℕ → Scan) → Stepped old new g b xs after → IsParser old → new.ended ≡ false → StandsBefore new.tokenizer after → RightAhead after
+    → (is_blank b ≡ false → all_in new ≡ all_in old) → HaveTakenTokens (g.before ++ xs) (all_in new) (hand_in new.clauses) → Counted new.history.taken new.clauses → new.clauses.header ≡ held_numbers (header_first (g.before ++ xs))
     → IsParser new
 step_parser old new g b xs after s i e st r inside m c h =
     let now = step_goes old new g b xs after s e st r m in
@@ -155,15 +155,15 @@ step_parser old new g b xs after s i e st r inside m c h =
 
 -- what a tokenizer promises of a byte
 pub record Pushed (old new : Tokenizer) (b : ℕ) (given : Option CodeToken) : Type 0 where
-  pub takes : Takes old b given new
+  pub takes : TakesByte old b given new
   pub inside : is_blank b ≡ false → given ≡ None
-  pub quiet : is_blank b ≡ true → (after : List ℕ → Scan) → Stands new after → Quiet (after [])
-  pub ended : b ≡ 10 → (after : List ℕ → Scan) → Stands new after → (after []).tokens ≡ []
-  pub right : is_blank b ≡ true → (after : List ℕ → Scan) → Stands new after → RightAhead after
+  pub quiet : is_blank b ≡ true → (after : List ℕ → Scan) → StandsBefore new after → HoldsNoWord (after [])
+  pub ended : b ≡ 10 → (after : List ℕ → Scan) → StandsBefore new after → (after []).tokens ≡ []
+  pub right : is_blank b ≡ true → (after : List ℕ → Scan) → StandsBefore new after → RightAhead after
 
-pub pushed : (old new : Tokenizer) (b : ℕ) (given : Option CodeToken) → Takes old b given new → (is_blank b ≡ false → given ≡ None)
-    → (is_blank b ≡ true → (after : List ℕ → Scan) → Stands new after → Quiet (after [])) → (b ≡ 10 → (after : List ℕ → Scan) → Stands new after → (after []).tokens ≡ [])
-    → (is_blank b ≡ true → (after : List ℕ → Scan) → Stands new after → RightAhead after) → Pushed old new b given
+pub pushed : (old new : Tokenizer) (b : ℕ) (given : Option CodeToken) → TakesByte old b given new → (is_blank b ≡ false → given ≡ None)
+    → (is_blank b ≡ true → (after : List ℕ → Scan) → StandsBefore new after → HoldsNoWord (after [])) → (b ≡ 10 → (after : List ℕ → Scan) → StandsBefore new after → (after []).tokens ≡ [])
+    → (is_blank b ≡ true → (after : List ℕ → Scan) → StandsBefore new after → RightAhead after) → Pushed old new b given
 pushed old new b given t i q e r = record { takes = t; inside = i; quiet = q; ended = e; right = r }
 
 -- the bytes taken and the clauses handed over grow by a byte
@@ -175,7 +175,7 @@ same_all : (old new : Parser) → new.history.taken ≡ old.history.taken → ne
 same_all old new t f = rw (t, f) refl
 
 -- a byte that ends no token
-stepped_none : (old new : Parser) (g : Goes old) (b : ℕ) (p : Pushed old.tokenizer new.tokenizer b None) → ByteTaken old new b → Stepped old new g b [] (p.takes g.left_of g.stands).0
+stepped_none : (old new : Parser) (g : IsGoingParser old) (b : ℕ) (p : Pushed old.tokenizer new.tokenizer b None) → ByteTaken old new b → Stepped old new g b [] (p.takes g.left_of g.stands).0
 stepped_none old new g b p t =
     let q = p.takes g.left_of g.stands in
     record {
@@ -187,14 +187,14 @@ stepped_none old new g b p t =
     }
 
 pub push_none : (old new : Parser) (b : ℕ) → IsParser old → old.stopped ≡ false → Pushed old.tokenizer new.tokenizer b None → ByteTaken old new b → new.clauses ≡ old.clauses → new.ended ≡ old.ended
-    → ((after : List ℕ → Scan) → Stands new.tokenizer after → RightAhead after) → IsParser new
+    → ((after : List ℕ → Scan) → StandsBefore new.tokenizer after → RightAhead after) → IsParser new
 push_none old new b i o p t c e r =
     let g = i.goes o in
     let q = p.takes g.left_of g.stands in
     let same : all_in new ≡ all_in old = same_all old new t.taken (ap (λ (x : Clauses). x.formula) c) in
     let none : g.before ++ [] ≡ g.before = append-nil g.before in
     let s = stepped_none old new g b p t in
-    let m : Turned (g.before ++ []) (all_in new) (hand_in new.clauses) = rw (none, same, c) g.turned in
+    let m : HaveTakenTokens (g.before ++ []) (all_in new) (hand_in new.clauses) = rw (none, same, c) g.turned in
     let counts : Counted new.history.taken new.clauses = rw (t.taken, c) (i.count, i.vars) in
     step_parser old new g b [] q.0 s i (e ∙ g.ended) q.1 (r q.0 q.1) (λ _. same) m counts (ap (λ (x : Clauses). x.header) c ∙ header_before old i g ∙ ap (λ (ts : List (ℕ × Token)). held_numbers (header_first ts)) (sym none))
 
@@ -234,16 +234,16 @@ not_false true h = refl
 not_false false h = absurd (h refl)
 
 -- A token was given, behind this byte: what the token is, and what is then still to be read.
-pub record Gave (old new : Parser) (g : Goes old) (b : ℕ) (t : CodeToken) : Type 0 where
+pub record Gave (old new : Parser) (g : IsGoingParser old) (b : ℕ) (t : CodeToken) : Type 0 where
   pub given : Token
   pub held : t ≡ held_token given
   pub after : List ℕ → Scan
-  pub stands : Stands new.tokenizer after
+  pub stands : StandsBefore new.tokenizer after
   pub stepped : Stepped old new g b (((after []).last, given) ∷ []) after
   pub blank : is_blank b ≡ false → ⊥
   pub first : First g.before given
 
-pub gave : (old new : Parser) (g : Goes old) (b : ℕ) (t : CodeToken) → Pushed old.tokenizer new.tokenizer b (Some t) → ByteTaken old new b → Gave old new g b t
+pub gave : (old new : Parser) (g : IsGoingParser old) (b : ℕ) (t : CodeToken) → Pushed old.tokenizer new.tokenizer b (Some t) → ByteTaken old new b → Gave old new g b t
 gave old new g b t p y =
     let q = p.takes g.left_of g.stands in
     let n = (q.0 []).last in
@@ -272,7 +272,7 @@ gave old new g b t p y =
 turn_of : (c : Clauses) (n : ℕ) (t : CodeToken) (given : Token) → t ≡ held_token given → turn (hand_in c) n (token_of t) ≡ turn (hand_in c) n given
 turn_of c n t given e = ap (λ (k : CodeToken). turn (hand_in c) n (token_of k)) e ∙ turn-held (hand_in c) n given
 
-header_given : (old new : Parser) (g : Goes old) (b : ℕ) (t : CodeToken) (v : Gave old new g b t) → IsParser old → new.clauses.header ≡ header_behind (token_of t) old.clauses.header
+header_given : (old new : Parser) (g : IsGoingParser old) (b : ℕ) (t : CodeToken) (v : Gave old new g b t) → IsParser old → new.clauses.header ≡ header_behind (token_of t) old.clauses.header
     → new.clauses.header ≡ held_numbers (header_first (g.before ++ ((v.after []).last, v.given) ∷ []))
 header_given old new g b t v i h =
     h ∙ ap (λ (k : CodeToken). header_behind (token_of k) old.clauses.header) v.held
@@ -280,18 +280,18 @@ header_given old new g b t v i h =
 
 -- a byte that ends a token, which is taken
 pub push_some : (old new : Parser) (b : ℕ) (t : CodeToken) → IsParser old → old.stopped ≡ false → Pushed old.tokenizer new.tokenizer b (Some t) → ByteTaken old new b → new.ended ≡ old.ended
-    → ((n : ℕ) → Turns (turn (hand_in old.clauses) n (token_of t)) old.clauses new.clauses) → new.clauses.header ≡ header_behind (token_of t) old.clauses.header
+    → ((n : ℕ) → TakesTokenTurn (turn (hand_in old.clauses) n (token_of t)) old.clauses new.clauses) → new.clauses.header ≡ header_behind (token_of t) old.clauses.header
     → IsParser new
 push_some old new b t i o p y e c h =
     let g = i.goes o in
     let v = gave old new g b t p y in
     let n = (v.after []).last in
     let k = turn (hand_in old.clauses) n v.given in
-    let turns : Turns k old.clauses new.clauses = subst (λ (j : Turn). Turns j old.clauses new.clauses) (turn_of old.clauses n t v.given v.held) (c n) in
+    let turns : TakesTokenTurn k old.clauses new.clauses = subst (λ (j : Turn). TakesTokenTurn j old.clauses new.clauses) (turn_of old.clauses n t v.given v.held) (c n) in
     let m = turned_by g.before old.history.taken old.clauses new.clauses n v.given k refl g.turned turns in
     let counts = counted_by old.history.taken old.clauses new.clauses k turns (i.count, i.vars) in
     step_parser old new g b ((n, v.given) ∷ []) v.after v.stepped i (e ∙ g.ended) v.stands (p.right (not_false (is_blank b) v.blank) v.after v.stands) (λ k. absurd (v.blank k))
-    (subst (λ (cs : List (List ℕ)). Turned (g.before ++ (n, v.given) ∷ []) (cs ++ new.clauses.formula.clauses) (hand_in new.clauses)) (sym y.taken) m)
+    (subst (λ (cs : List (List ℕ)). HaveTakenTokens (g.before ++ (n, v.given) ∷ []) (cs ++ new.clauses.formula.clauses) (hand_in new.clauses)) (sym y.taken) m)
     (subst (λ (cs : List (List ℕ)). Counted cs new.clauses) (sym y.taken) counts)
     (header_given old new g b t v i h)
 
@@ -315,13 +315,13 @@ not_open p A a b = absurd (let e : ◌≡◌ {A = Bool} true false = sym a ∙ b
 
 -- a parser whose text is over
 pub over_parser : (p : Parser) (ending : Ending) (h : Option (ℕ × ℕ)) → p.stopped ≡ true → p.ended ≡ true → dimacs p.history.fed ≡ record { clauses = all_in p; ending = ending } → Counted p.history.taken p.clauses
-    → p.clauses.header ≡ held_numbers h → header_of p.history.fed ≡ h → IsParser p
+    → p.clauses.header ≡ held_numbers h → dimacs_header p.history.fed ≡ h → IsParser p
 over_parser p ending h s e d c k l = record {
   clauses = let is : (dimacs p.history.fed).clauses ≡ all_in p = ap (λ (x : Dimacs). x.clauses) d in rw e is;
   count = c.0;
   vars = c.1;
-  header = let is : p.clauses.header ≡ held_numbers (header_of p.history.fed) = k ∙ ap held_numbers (sym l) in rw e is;
-  goes = not_open p (Goes p) s;
+  header = let is : p.clauses.header ≡ held_numbers (dimacs_header p.history.fed) = k ∙ ap held_numbers (sym l) in rw e is;
+  goes = not_open p (IsGoingParser p) s;
 }
 
 -- a byte that ends a token, at which the text has a fault
@@ -329,11 +329,11 @@ pub record FaultAt (ending : ℕ → Ending) (line b : ℕ) (old new : Parser) :
   pub n : ℕ
   pub shown : line ≡ held n
   pub parser : IsParser new
-  pub faults : Faults (ending n) (b ∷ []) (progress_of old) (progress_of new)
+  pub faults : EndsAtFault (ending n) (b ∷ []) (progress_of old) (progress_of new)
 
 pub push_fails : (old new : Parser) (b : ℕ) (t : CodeToken) (ending : ℕ → Ending) (line : ℕ) → IsParser old → old.stopped ≡ false → Pushed old.tokenizer new.tokenizer b (Some t) → ByteTaken old new b
     → new.stopped ≡ true → new.ended ≡ true → AllStay old.clauses new.clauses → ((n : ℕ) → turn (hand_in old.clauses) n (token_of t) ≡ Fails (ending n))
-    → ((before : List ℕ → Scan) → Stands new.tokenizer before → line ≡ held (before []).last) → FaultAt ending line b old new
+    → ((before : List ℕ → Scan) → StandsBefore new.tokenizer before → line ≡ held (before []).last) → FaultAt ending line b old new
 push_fails old new b t ending line i o p y st en stay f l =
     let g = i.goes o in
     let v = gave old new g b t p y in
@@ -346,7 +346,7 @@ push_fails old new b t ending line i o p y st en stay f l =
     ∙ fails_there g.before (all_in old) (hand_in old.clauses) n v.given g.turned (ending n) e (v.after rest).last (v.after rest).tokens
     ∙ ap (λ (cs : List (List ℕ)). record { clauses = cs; ending = ending n }) (sym same) in
     let whole : dimacs new.history.fed ≡ record { clauses = all_in new; ending = ending n } = ap dimacs (sym (append-nil new.history.fed)) ∙ says [] in
-    let heads : header_of new.history.fed ≡ header_first g.before =
+    let heads : dimacs_header new.history.fed ≡ header_first g.before =
     ap (λ (k : Scan). header_first k.tokens) (step_scan old new g b (x ∷ []) v.after v.stepped)
     ∙ header_within g.before (v.after []).tokens x (fails_no_header (hand_in old.clauses) n v.given (ending n) e) in
     let counts : Counted new.history.taken new.clauses = subst (λ (cs : List (List ℕ)). Counted cs new.clauses) (sym y.taken) (counted_stay old.history.taken old.clauses new.clauses stay.0 (i.count, i.vars)) in
@@ -366,8 +366,8 @@ push_fails old new b t ending line i o p y st en stay f l =
 
 -- a byte behind which a wrong word is in hand, whatever follows
 pub push_wrong : (old new : Parser) (b line : ℕ) → IsParser old → old.stopped ≡ false → Pushed old.tokenizer new.tokenizer b None → ByteTaken old new b
-    → new.stopped ≡ true → new.ended ≡ true → new.clauses ≡ old.clauses → ((before : List ℕ → Scan) → Stands new.tokenizer before → WrongAhead before)
-    → ((before : List ℕ → Scan) → Stands new.tokenizer before → line ≡ held (before []).last) → FaultAt Malformed line b old new
+    → new.stopped ≡ true → new.ended ≡ true → new.clauses ≡ old.clauses → ((before : List ℕ → Scan) → StandsBefore new.tokenizer before → WrongAhead before)
+    → ((before : List ℕ → Scan) → StandsBefore new.tokenizer before → line ≡ held (before []).last) → FaultAt Malformed line b old new
 push_wrong old new b line i o p y st en c w l =
     let g = i.goes o in
     let q = p.takes g.left_of g.stands in
@@ -385,7 +385,7 @@ push_wrong old new b line i o p y st en c w l =
     ∙ fails_there g.before (all_in old) (hand_in old.clauses) n Wrong g.turned (Malformed n) refl (q.0 rest).last (wrong rest).0
     ∙ ap (λ (cs : List (List ℕ)). record { clauses = cs; ending = Malformed n }) (sym same) in
     let whole : dimacs new.history.fed ≡ record { clauses = all_in new; ending = Malformed n } = ap dimacs (sym (append-nil new.history.fed)) ∙ says [] in
-    let heads : header_of new.history.fed ≡ header_first g.before =
+    let heads : dimacs_header new.history.fed ≡ header_first g.before =
     ap (λ (k : Scan). header_first k.tokens) (step_scan old new g b [] q.0 s) ∙ ap header_first (tokens []) ∙ header_within g.before (wrong []).0 x refl in
     let counts : Counted new.history.taken new.clauses = rw (y.taken, c) (i.count, i.vars) in
     let good = over_parser new (Malformed n) (header_first g.before) st en whole counts (ap (λ (k : Clauses). k.header) c ∙ header_before old i g) heads in
@@ -412,22 +412,22 @@ sound_next (Ends c) ts u = (None, u)
 sound_next (Fails ending) ts u = absurd u
 
 -- what is no fault is no wrong word
-sound_right : (h : Hand) (ts : List (ℕ × Token)) → NoFault h ts → AreRight ts
+sound_right : (h : Hand) (ts : List (ℕ × Token)) → NoFault h ts → HaveNoWrongWord ts
 sound_right h [] s = tt
 sound_right h (t ∷ ts) s =
     let k = sound_next (turn h t.0 t.1) ts s in
     (right_first h t.0 t.1 (λ g. NoFault g ts) s, sound_right k.0 ts k.1)
 
-right_append : (xs ys : List (ℕ × Token)) → AreRight xs → AreRight ys → AreRight (xs ++ ys)
+right_append : (xs ys : List (ℕ × Token)) → HaveNoWrongWord xs → HaveNoWrongWord ys → HaveNoWrongWord (xs ++ ys)
 right_append [] ys f g = g
 right_append (x ∷ xs) ys f g = (f.0, right_append xs ys f.1 g)
 
-pub sound_text : (p : Parser) → Goes p → IsSoundText p.history.fed
+pub sound_text : (p : Parser) → IsGoingParser p → IsSoundText p.history.fed
 sound_text p g =
-    let before : AreRight g.before = sound_right None g.before (subst (NoFault None) (append-nil g.before) (g.turned.sound [] tt)) in
+    let before : HaveNoWrongWord g.before = sound_right None g.before (subst (NoFault None) (append-nil g.before) (g.turned.sound [] tt)) in
     record {
       lines = g.sound;
-      words = (g.right.0, subst (λ (s : Scan). AreRight s.tokens) (sym (g.scans g.right.0)) (right_append g.before (g.left_of g.right.0).tokens before g.right.1));
+      words = (g.right.0, subst (λ (s : Scan). HaveNoWrongWord s.tokens) (sym (g.scans g.right.0)) (right_append g.before (g.left_of g.right.0).tokens before g.right.1));
     }
 
 -- PIECES
@@ -448,7 +448,7 @@ stops_more xs ys zs all front behind a w =
 still_open : (xs : List ℕ) (p q : Progress) → q ≡ with_fed xs p → q.stopped ≡ p.stopped
 still_open xs p q e = ap (λ (k : Progress). k.stopped) e
 
-faults_more : (ending : Ending) (xs ys zs all : List ℕ) (p q r : Progress) → all ≡ xs ++ (ys ++ zs) → q ≡ with_fed xs p → Faults ending ys q r → Faults ending all p r
+faults_more : (ending : Ending) (xs ys zs all : List ℕ) (p q r : Progress) → all ≡ xs ++ (ys ++ zs) → q ≡ with_fed xs p → EndsAtFault ending ys q r → EndsAtFault ending all p r
 faults_more ending xs ys zs all p q r a e f = record {
   front = xs ++ f.front;
   behind = f.behind ++ zs;
@@ -457,7 +457,7 @@ faults_more ending xs ys zs all p q r a e f = record {
   ends = f.ends;
 }
 
-pub feeds_err : (e : DimacsError) (xs ys zs all : List ℕ) (p q r : Progress) → all ≡ xs ++ (ys ++ zs) → p.stopped ≡ false → q ≡ with_fed xs p → Feeds (Err e) ys q r → Feeds (Err e) all p r
+pub feeds_err : (e : DimacsError) (xs ys zs all : List ℕ) (p q r : Progress) → all ≡ xs ++ (ys ++ zs) → p.stopped ≡ false → q ≡ with_fed xs p → FeedsPiece (Err e) ys q r → FeedsPiece (Err e) all p r
 feeds_err (errors.Malformed line) xs ys zs all p q r a o e f = (o, f.1, f.2, faults_more (Malformed f.1) xs ys zs all p q r a e f.3)
 feeds_err (errors.Limit line) xs ys zs all p q r a o e f = (o, f.1, f.2, faults_more (Limit f.1) xs ys zs all p q r a e f.3)
 feeds_err errors.Read xs ys zs all p q r a o e f = f
@@ -482,19 +482,19 @@ abbrev pub at_end_of : Parser → Parser
 at_end_of p = record p { stopped = true; ended = true }
 
 -- so much is read as the text ends: the tokens that are left, and what they make of the clauses
-pub record Read (old p : Parser) (g : Goes old) : Type 0 where
+pub record Read (old p : Parser) (g : IsGoingParser old) : Type 0 where
   pub history : p.history ≡ old.history
   pub tokenizer : p.tokenizer ≡ old.tokenizer
   pub last : List (ℕ × Token)
   pub tokens : (g.left_of []).tokens ≡ last
-  pub turned : Turned (g.before ++ last) (all_in p) (hand_in p.clauses)
+  pub turned : HaveTakenTokens (g.before ++ last) (all_in p) (hand_in p.clauses)
   pub counted : Counted p.history.taken p.clauses
   pub header : p.clauses.header ≡ held_numbers (header_first (g.before ++ last))
 
-scan_whole : (p : Parser) (g : Goes p) → scan p.history.fed ≡ onto g.before (g.left_of [])
+scan_whole : (p : Parser) (g : IsGoingParser p) → scan p.history.fed ≡ onto g.before (g.left_of [])
 scan_whole p g = ap scan (sym (append-nil p.history.fed)) ∙ g.scans []
 
-pub whole_dimacs : (old p : Parser) (g : Goes old) (r : Read old p g) → dimacs old.history.fed ≡ record { clauses = all_in p; ending = at_end (hand_in p.clauses) (g.left_of []).last }
+pub whole_dimacs : (old p : Parser) (g : IsGoingParser old) (r : Read old p g) → dimacs old.history.fed ≡ record { clauses = all_in p; ending = at_end (hand_in p.clauses) (g.left_of []).last }
 whole_dimacs old p g r =
     let last = (g.left_of []).last in
     dimacs_is old.history.fed g.before (g.left_of []) (scan_whole old g)
@@ -504,11 +504,11 @@ whole_dimacs old p g r =
     ∙ ap (onto_clauses (all_in p)) (clauses_of_nil (hand_in p.clauses) last)
     ∙ ap (λ (cs : List (List ℕ)). record { clauses = cs; ending = at_end (hand_in p.clauses) last }) (append-nil (all_in p))
 
-pub finish_parser : (old p : Parser) (g : Goes old) → Read old p g → IsParser (at_end_of p)
+pub finish_parser : (old p : Parser) (g : IsGoingParser old) → Read old p g → IsParser (at_end_of p)
 finish_parser old p g r =
     let fed : p.history.fed ≡ old.history.fed = ap (λ (h : History). h.fed) r.history in
-    let heads : header_of p.history.fed ≡ header_first (g.before ++ r.last) =
-    ap header_of fed ∙ ap (λ (k : Scan). header_first k.tokens) (scan_whole old g) ∙ ap (λ (ts : List (ℕ × Token)). header_first (g.before ++ ts)) r.tokens in
+    let heads : dimacs_header p.history.fed ≡ header_first (g.before ++ r.last) =
+    ap dimacs_header fed ∙ ap (λ (k : Scan). header_first k.tokens) (scan_whole old g) ∙ ap (λ (ts : List (ℕ × Token)). header_first (g.before ++ ts)) r.tokens in
     over_parser (at_end_of p) (at_end (hand_in p.clauses) (g.left_of []).last) (header_first (g.before ++ r.last)) refl refl (ap dimacs fed ∙ whole_dimacs old p g r) r.counted r.header heads
 
 clean_of : (h : Hand) (last : ℕ) → h ≡ None → at_end h last ≡ Clean
@@ -520,11 +520,11 @@ cut_of h last ls e = rw e refl
 ended_progress : (old p : Parser) → p.history ≡ old.history → progress_of (at_end_of p) ≡ at_its_end (progress_of old)
 ended_progress old p h = ap (λ (k : History). record { fed = k.fed; taken = k.taken; stopped = true; ended = true }) h
 
-pub finish_answer : (a : Result (Unit {0}) DimacsError) (old p : Parser) (g : Goes old) → old.stopped ≡ false → Read old p g → EndsClean a p → Finishes a (progress_of old) (progress_of (at_end_of p))
+pub finish_answer : (a : Result (Unit {0}) DimacsError) (old p : Parser) (g : IsGoingParser old) → old.stopped ≡ false → Read old p g → EndsClean a p → Finishes a (progress_of old) (progress_of (at_end_of p))
 finish_answer (Ok u) old p g o r e =
     (o, ended_progress old p r.history, ap (λ (d : Dimacs). d.ending) (whole_dimacs old p g r) ∙ clean_of (hand_in p.clauses) (g.left_of []).last e)
 finish_answer (Err (errors.Malformed line)) old p g o r e =
-    let st : Stands p.tokenizer g.left_of = subst (λ (t : Tokenizer). Stands t g.left_of) (sym r.tokenizer) g.stands in
+    let st : StandsBefore p.tokenizer g.left_of = subst (λ (t : Tokenizer). StandsBefore t g.left_of) (sym r.tokenizer) g.stands in
     (o, ended_progress old p r.history, (g.left_of []).last, e.1 g.left_of st, ap (λ (d : Dimacs). d.ending) (whole_dimacs old p g r) ∙ cut_of (hand_in p.clauses) (g.left_of []).last e.0.0 e.0.1)
 finish_answer (Err (errors.Limit line)) old p g o r e = absurd e
 finish_answer (Err errors.Read) old p g o r e = absurd e
@@ -532,7 +532,7 @@ finish_answer (Err errors.OutOfMemory) old p g o r e = absurd e
 finish_answer (Err errors.HasFailed) old p g o r e = absurd e
 
 -- no word is in hand
-pub read_none : (old : Parser) (i : IsParser old) (g : Goes old) → GivesLast None (g.left_of []) → Read old old g
+pub read_none : (old : Parser) (i : IsParser old) (g : IsGoingParser old) → GivesLast None (g.left_of []) → Read old old g
 read_none old i g l =
     let none : g.before ++ [] ≡ g.before = append-nil g.before in
     record {
@@ -545,25 +545,25 @@ read_none old i g l =
       header = header_before old i g ∙ ap (λ (ts : List (ℕ × Token)). held_numbers (header_first ts)) (sym none);
     }
 
-last_first : (old : Parser) (g : Goes old) (t : Token) (n : ℕ) → (g.left_of []).tokens ≡ (n, t) ∷ [] → First g.before t
+last_first : (old : Parser) (g : IsGoingParser old) (t : Token) (n : ℕ) → (g.left_of []).tokens ≡ (n, t) ∷ [] → First g.before t
 last_first old g t n e =
     first_stands old.history.fed g.before [] n t (ap (λ (k : Scan). k.tokens) (scan_whole old g) ∙ ap (λ (ts : List (ℕ × Token)). g.before ++ ts) e)
 
 -- a word is, and is taken
-pub read_some : (old p : Parser) (i : IsParser old) (g : Goes old) (t : CodeToken) → p.history ≡ old.history → p.tokenizer ≡ old.tokenizer → GivesLast (Some t) (g.left_of [])
-    → ((n : ℕ) → Turns (turn (hand_in old.clauses) n (token_of t)) old.clauses p.clauses) → p.clauses.header ≡ header_behind (token_of t) old.clauses.header → Read old p g
+pub read_some : (old p : Parser) (i : IsParser old) (g : IsGoingParser old) (t : CodeToken) → p.history ≡ old.history → p.tokenizer ≡ old.tokenizer → GivesLast (Some t) (g.left_of [])
+    → ((n : ℕ) → TakesTokenTurn (turn (hand_in old.clauses) n (token_of t)) old.clauses p.clauses) → p.clauses.header ≡ header_behind (token_of t) old.clauses.header → Read old p g
 read_some old p i g t h k l c e =
     let n = (g.left_of []).last in
     let given = l.0 in
     let j = turn (hand_in old.clauses) n given in
-    let turns : Turns j old.clauses p.clauses = subst (λ (u : Turn). Turns u old.clauses p.clauses) (turn_of old.clauses n t given l.1) (c n) in
+    let turns : TakesTokenTurn j old.clauses p.clauses = subst (λ (u : Turn). TakesTokenTurn u old.clauses p.clauses) (turn_of old.clauses n t given l.1) (c n) in
     let taken : p.history.taken ≡ old.history.taken = ap (λ (x : History). x.taken) h in
     record {
       history = h;
       tokenizer = k;
       last = (n, given) ∷ [];
       tokens = l.2;
-      turned = subst (λ (cs : List (List ℕ)). Turned (g.before ++ (n, given) ∷ []) (cs ++ p.clauses.formula.clauses) (hand_in p.clauses)) (sym taken) (turned_by g.before old.history.taken old.clauses p.clauses n given j refl g.turned turns);
+      turned = subst (λ (cs : List (List ℕ)). HaveTakenTokens (g.before ++ (n, given) ∷ []) (cs ++ p.clauses.formula.clauses) (hand_in p.clauses)) (sym taken) (turned_by g.before old.history.taken old.clauses p.clauses n given j refl g.turned turns);
       counted = subst (λ (cs : List (List ℕ)). Counted cs p.clauses) (sym taken) (counted_by old.history.taken old.clauses p.clauses j turns (i.count, i.vars));
       header = e ∙ ap (λ (u : CodeToken). header_behind (token_of u) old.clauses.header) l.1
           ∙ header_next g.before n given old.clauses.header (last_first old g given n l.2) (header_before old i g);
@@ -574,8 +574,8 @@ pub record FaultAtEnd (ending : ℕ → Ending) (line : ℕ) (old new : Parser) 
   pub parser : IsParser new
   pub answer : (old.stopped ≡ false) × (progress_of new ≡ at_its_end (progress_of old)) × (n : ℕ) × (line ≡ held n) × ((dimacs old.history.fed).ending ≡ ending n)
 
-pub finish_fails : (old p : Parser) (i : IsParser old) (o : old.stopped ≡ false) (t : CodeToken) (ending : ℕ → Ending) (line : ℕ) → p.history ≡ old.history → ((left_of : List ℕ → Scan) → Stands old.tokenizer left_of → GivesLast (Some t) (left_of []))
-    → AllStay old.clauses p.clauses → ((n : ℕ) → turn (hand_in old.clauses) n (token_of t) ≡ Fails (ending n)) → ((before : List ℕ → Scan) → Stands old.tokenizer before → line ≡ held (before []).last)
+pub finish_fails : (old p : Parser) (i : IsParser old) (o : old.stopped ≡ false) (t : CodeToken) (ending : ℕ → Ending) (line : ℕ) → p.history ≡ old.history → ((left_of : List ℕ → Scan) → StandsBefore old.tokenizer left_of → GivesLast (Some t) (left_of []))
+    → AllStay old.clauses p.clauses → ((n : ℕ) → turn (hand_in old.clauses) n (token_of t) ≡ Fails (ending n)) → ((before : List ℕ → Scan) → StandsBefore old.tokenizer before → line ≡ held (before []).last)
     → FaultAtEnd ending line old (at_end_of p)
 finish_fails old p i o t ending line h gives stay f l =
     let g = i.goes o in
@@ -592,8 +592,8 @@ finish_fails old p i o t ending line h gives stay f l =
     ∙ ap (clauses_of None n) (sym (append-nil (g.before ++ x ∷ [])))
     ∙ fails_there g.before (all_in old) (hand_in old.clauses) n q.0 g.turned (ending n) e n []
     ∙ ap (λ (cs : List (List ℕ)). record { clauses = cs; ending = ending n }) (sym same) in
-    let heads : header_of p.history.fed ≡ header_first g.before =
-    ap header_of fed ∙ ap (λ (k : Scan). header_first k.tokens) (scan_whole old g) ∙ ap (λ (ts : List (ℕ × Token)). header_first (g.before ++ ts)) q.2
+    let heads : dimacs_header p.history.fed ≡ header_first g.before =
+    ap dimacs_header fed ∙ ap (λ (k : Scan). header_first k.tokens) (scan_whole old g) ∙ ap (λ (ts : List (ℕ × Token)). header_first (g.before ++ ts)) q.2
     ∙ header_aside g.before x (fails_no_header (hand_in old.clauses) n q.0 (ending n) e) in
     let counts : Counted p.history.taken p.clauses = subst (λ (cs : List (List ℕ)). Counted cs p.clauses) (sym taken) (counted_stay old.history.taken old.clauses p.clauses stay.0 (i.count, i.vars)) in
     record {
@@ -614,8 +614,8 @@ literal_goes (code.Header v c) e = absurd (let g : ◌≡◌ {A = Bool} false tr
 literal_goes code.Wrong e = absurd (let g : ◌≡◌ {A = Bool} false true = e in cc)
 
 -- the text is over behind a literal
-pub finish_inside : (old : Parser) (i : IsParser old) (o : old.stopped ≡ false) (t : CodeToken) (line : ℕ) → ((left_of : List ℕ → Scan) → Stands old.tokenizer left_of → GivesLast (Some t) (left_of [])) → is_literal (token_of t) ≡ true
-    → ((before : List ℕ → Scan) → Stands old.tokenizer before → line ≡ held (before []).last) → FaultAtEnd Malformed line old (at_end_of old)
+pub finish_inside : (old : Parser) (i : IsParser old) (o : old.stopped ≡ false) (t : CodeToken) (line : ℕ) → ((left_of : List ℕ → Scan) → StandsBefore old.tokenizer left_of → GivesLast (Some t) (left_of [])) → is_literal (token_of t) ≡ true
+    → ((before : List ℕ → Scan) → StandsBefore old.tokenizer before → line ≡ held (before []).last) → FaultAtEnd Malformed line old (at_end_of old)
 finish_inside old i o t line gives lit l =
     let g = i.goes o in
     let q = gives g.left_of g.stands in
@@ -624,7 +624,7 @@ finish_inside old i o t line gives lit l =
     let goes = literal_goes t lit in
     let s = goes.0 (hand_in old.clauses) n in
     let e : turn (hand_in old.clauses) n q.0 ≡ GoesOn (Some s.0) = sym (turn_of old.clauses n t q.0 q.1) ∙ s.1 in
-    let m : Turned (g.before ++ x ∷ []) (all_in old) (Some s.0) = turned_goes g.before (all_in old) (hand_in old.clauses) n q.0 g.turned (Some s.0) e in
+    let m : HaveTakenTokens (g.before ++ x ∷ []) (all_in old) (Some s.0) = turned_goes g.before (all_in old) (hand_in old.clauses) n q.0 g.turned (Some s.0) e in
     let says : dimacs old.history.fed ≡ record { clauses = all_in old; ending = Malformed n } =
     dimacs_is old.history.fed g.before (g.left_of []) (scan_whole old g)
     ∙ ap (λ (ts : List (ℕ × Token)). clauses_of None n (g.before ++ ts)) q.2
@@ -632,7 +632,7 @@ finish_inside old i o t line gives lit l =
     ∙ m.says n []
     ∙ ap (onto_clauses (all_in old)) (clauses_of_nil (Some s.0) n)
     ∙ ap (λ (cs : List (List ℕ)). record { clauses = cs; ending = Malformed n }) (append-nil (all_in old)) in
-    let heads : header_of old.history.fed ≡ header_first (g.before ++ x ∷ []) =
+    let heads : dimacs_header old.history.fed ≡ header_first (g.before ++ x ∷ []) =
     ap (λ (k : Scan). header_first k.tokens) (scan_whole old g) ∙ ap (λ (ts : List (ℕ × Token)). header_first (g.before ++ ts)) q.2 in
     let header : old.clauses.header ≡ held_numbers (header_first (g.before ++ x ∷ [])) =
     goes.1 old.clauses.header ∙ ap (λ (u : CodeToken). header_behind (token_of u) old.clauses.header) q.1
@@ -657,7 +657,7 @@ true_not true h = absurd (h refl)
 true_not false h = refl
 
 -- there was no memory for the clause that the text's end ends
-pub finish_short : (old : Parser) (i : IsParser old) (o : old.stopped ≡ false) (t : CodeToken) → ((left_of : List ℕ → Scan) → Stands old.tokenizer left_of → GivesLast (Some t) (left_of [])) → is_literal (token_of t) ≡ false → NeedsRoom (token_of t)
+pub finish_short : (old : Parser) (i : IsParser old) (o : old.stopped ≡ false) (t : CodeToken) → ((left_of : List ℕ → Scan) → StandsBefore old.tokenizer left_of → GivesLast (Some t) (left_of [])) → is_literal (token_of t) ≡ false → NeedsRoom (token_of t)
     → EndsWell old.history.fed
 finish_short old i o t gives lit (inl is) = absurd (let g : ◌≡◌ {A = Bool} true false = sym is ∙ lit in cc)
 finish_short old i o t gives lit (inr ends) =
@@ -667,9 +667,9 @@ finish_short old i o t gives lit (inr ends) =
     let x : ℕ × Token = (n, q.0) in
     let c = literals_in (hand_in old.clauses) in
     let e : turn (hand_in old.clauses) n q.0 ≡ Ends c = sym (turn_of old.clauses n t q.0 q.1) ∙ ends (hand_in old.clauses) n in
-    let m : Turned (g.before ++ x ∷ []) (all_in old ++ c ∷ []) None = turned_ends g.before (all_in old) (hand_in old.clauses) n q.0 g.turned c e in
+    let m : HaveTakenTokens (g.before ++ x ∷ []) (all_in old ++ c ∷ []) None = turned_ends g.before (all_in old) (hand_in old.clauses) n q.0 g.turned c e in
     let k = number_of q.0 (subst (λ (u : CodeToken). NeedsRoom (token_of u)) q.1 (inr ends)) in
-    let word : Quiet (g.left_of []) → ⊥ = λ h. elim h [
+    let word : HoldsNoWord (g.left_of []) → ⊥ = λ h. elim h [
       | inl none ↦ (let z : ◌≡◌ {A = List (ℕ × Token)} [] (x ∷ []) = sym none ∙ q.2 in cc)
       | inr other ↦ (let z : x ∷ [] ≡ (other.0, other.1) ∷ [] = sym q.2 ∙ other.3 in subst IsOfHeader (sym (first_token n other.0 q.0 other.1 [] [] z) ∙ k.2) other.2)
     ] in
@@ -732,7 +732,7 @@ push_short old new b t i o p y r =
     }
 
 -- THE START
-pub first_parser : (p : Parser) → p.history.fed ≡ [] → p.history.taken ≡ [] → p.clauses.formula ≡ no_formula → hand_in p.clauses ≡ None → p.clauses.count ≡ 0 → p.clauses.header ≡ None → p.ended ≡ false → Stands p.tokenizer scan
+pub first_parser : (p : Parser) → p.history.fed ≡ [] → p.history.taken ≡ [] → p.clauses.formula ≡ no_formula → hand_in p.clauses ≡ None → p.clauses.count ≡ 0 → p.clauses.header ≡ None → p.ended ≡ false → StandsBefore p.tokenizer scan
     → IsParser p
 unfolding dimacs clauses_of scan lines tokens_of last_line
 first_parser p f t m h c e o s =

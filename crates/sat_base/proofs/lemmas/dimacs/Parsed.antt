@@ -9,12 +9,12 @@ use Rattle.sat_base.specs.declared.dimacs.error.DimacsError.TheVariants as error
 use Rattle.sat_base.specs.declared.dimacs.error.IncrementalError.{IncrementalError}
 use Rattle.sat_base.specs.declared.dimacs.error.IncrementalError.TheVariants as parts
 use Rattle.sat_base.specs.dimacs.Dimacs.{Clean, Dimacs, Ending, Limit, Malformed, dimacs}
-use Rattle.sat_base.specs.dimacs.Parsing.{Calls, EndsWell, FallsShort, Faults, Feeds, Finishes, GoesWell, HasRead, IsSoundText, IsWhole, KeepsText, Parses, Progress, at_its_end, no_progress, with_fed}
+use Rattle.sat_base.specs.dimacs.Parsing.{Calls, EndsWell, FallsShort, EndsAtFault, FeedsPiece, Finishes, GoesWell, HasReadCleanly, IsSoundText, IsWholeText, KeepsText, Parses, Progress, at_its_end, no_progress, with_fed}
 use Rattle.sat_base.specs.device.Device.{Reader, GaveAll, GaveFront}
-use Rattle.sat_base.specs.text.Text.{header_of, scan, tokens_of, lines}
+use Rattle.sat_base.specs.text.Text.{dimacs_header, scan, tokens_of, lines}
 
 -- the text has the ending of its fault
-fault_ends : (ending : Ending) (fed piece : List ℕ) (p q : Progress) → p.fed ≡ fed → Faults ending piece p q → (rest : List ℕ) → (dimacs ((fed ++ piece) ++ rest)).ending ≡ ending
+fault_ends : (ending : Ending) (fed piece : List ℕ) (p q : Progress) → p.fed ≡ fed → EndsAtFault ending piece p q → (rest : List ℕ) → (dimacs ((fed ++ piece) ++ rest)).ending ≡ ending
 fault_ends ending fed piece p q e f rest =
     let is : q.fed ≡ fed ++ f.front = ap (λ (k : Progress). k.fed) f.progress ∙ ap (λ (k : List ℕ). k ++ f.front) e in
     let text : (fed ++ piece) ++ rest ≡ q.fed ++ (f.behind ++ rest) =
@@ -34,7 +34,7 @@ short_on fed piece p q e f rest = (
   subst (λ (xs : List ℕ). GoesWell (xs ++ f.front) f.byte) e f.well,
 )
 
-pub stops_on : (e : DimacsError) (fed piece : List ℕ) (p q : Progress) → p.fed ≡ fed → p.stopped ≡ false → Feeds (Err e) piece p q → (rest : List ℕ) → Parses (Err e) ((fed ++ piece) ++ rest)
+pub stops_on : (e : DimacsError) (fed piece : List ℕ) (p q : Progress) → p.fed ≡ fed → p.stopped ≡ false → FeedsPiece (Err e) piece p q → (rest : List ℕ) → Parses (Err e) ((fed ++ piece) ++ rest)
 stops_on (errors.Malformed line) fed piece p q e s f rest = (f.1, f.2, fault_ends (Malformed f.1) fed piece p q e f.3 rest)
 stops_on (errors.Limit line) fed piece p q e s f rest = (f.1, f.2, fault_ends (Limit f.1) fed piece p q e f.3 rest)
 stops_on errors.Read fed piece p q e s f rest = tt
@@ -55,7 +55,7 @@ ends_by errors.Read fed p q is f = tt
 ends_by errors.OutOfMemory fed p q is f = inr (subst EndsWell (ap (λ (k : Progress). k.fed) is) f.2)
 ends_by errors.HasFailed fed p q is f = absurd (let g : ◌≡◌ {A = Bool} true false = sym f.0 ∙ ap (λ (k : Progress). k.stopped) is in cc)
 
-pub parts_clean : (fed : List ℕ) (p q r : Progress) → Stands fed p → r ≡ record q { taken = r.taken } → (q ≡ at_its_end p) × ((dimacs p.fed).ending ≡ Clean) → HasRead r fed
+pub parts_clean : (fed : List ℕ) (p q r : Progress) → Stands fed p → r ≡ record q { taken = r.taken } → (q ≡ at_its_end p) × ((dimacs p.fed).ending ≡ Clean) → HasReadCleanly r fed
 parts_clean fed p q r is kept f =
     let e : r ≡ record (at_its_end p) { taken = r.taken } = kept ∙ ap (λ (z : Progress). record z { taken = r.taken }) f.0 in
     let fed_is : p.fed ≡ fed = ap (λ (z : Progress). z.fed) is in
@@ -91,10 +91,10 @@ pub front_all : (old new : Reader) (pieces : List (List ℕ)) → GaveAll old ne
 front_all old new pieces g = front_alone old new pieces (record { gave = g.gave; told = g.told; loans = g.loans })
 
 -- a text is whole where its reader is at its end
-pub whole_at_end : (a c : Reader) (text : List ℕ) → a.calls < c.calls → c.ended ≡ true → IsWhole a c text
+pub whole_at_end : (a c : Reader) (text : List ℕ) → a.calls < c.calls → c.ended ≡ true → IsWholeText a c text
 whole_at_end a c text called e rest f =
     let k : text ++ rest ≡ text = ap (λ (z : List ℕ). text ++ z) (f called e) ∙ append-nil text in
-    (ap dimacs k, ap header_of k)
+    (ap dimacs k, ap dimacs_header k)
 
 pub piece_given : (n : ℕ) (buf : List ℕ) → n ≤ length buf → 0 < n → 0 < length (take n buf)
 piece_given n buf h k = let e = length-take-le n buf h in omega arith
@@ -124,5 +124,5 @@ no_read_called r e k h = absurd cc
 pub no_read_ended : {T E X : Type 0} (r : Result T (IncrementalError E)) (e : DimacsError) (p q : Progress) → Finishes (Err e) p q → r ≡ Err (parts.Dimacs e) → r ≡ Err (parts.Dimacs errors.Read) → X
 no_read_ended r e p q f k h = absurd (let i : e ≡ errors.Read = cc in subst (λ (z : DimacsError). Finishes (Err z) p q) i f)
 
-pub no_read_fed : {T E X : Type 0} (r : Result T (IncrementalError E)) (e : DimacsError) (piece : List ℕ) (p q : Progress) → Feeds (Err e) piece p q → r ≡ Err (parts.Dimacs e) → r ≡ Err (parts.Dimacs errors.Read) → X
-no_read_fed r e piece p q f k h = absurd (let i : e ≡ errors.Read = cc in subst (λ (z : DimacsError). Feeds (Err z) piece p q) i f)
+pub no_read_fed : {T E X : Type 0} (r : Result T (IncrementalError E)) (e : DimacsError) (piece : List ℕ) (p q : Progress) → FeedsPiece (Err e) piece p q → r ≡ Err (parts.Dimacs e) → r ≡ Err (parts.Dimacs errors.Read) → X
+no_read_fed r e piece p q f k h = absurd (let i : e ≡ errors.Read = cc in subst (λ (z : DimacsError). FeedsPiece (Err z) piece p q) i f)

@@ -6,7 +6,7 @@ use Rattle.sat_base.specs.declared.dimacs.error.DimacsError.TheVariants as error
 use Rattle.sat_base.specs.declared.dimacs.error.IncrementalError.{IncrementalError}
 use Rattle.sat_base.specs.declared.dimacs.error.IncrementalError.TheVariants as parts
 use Rattle.sat_base.specs.device.Device.{Reader, GaveAll, GaveFront}
-use Rattle.sat_base.specs.dimacs.Parsing.{Calls, Feeds, Finishes, IsSound, IsWhole, LastVisit, Parses, ParsesInParts, Progress, Visits}
+use Rattle.sat_base.specs.dimacs.Parsing.{Calls, FeedsPiece, Finishes, IsSoundSoFar, IsWholeText, LastVisit, Parses, ParsesInParts, Progress, Visits}
 use Rattle.sat_base.specs.dimacs.ParserPlaces.{with_parser}
 use Rattle.sat_base.proofs.lemmas.device.Given.{enough_all, enough_front}
 use Rattle.sat_base.proofs.lemmas.dimacs.Parsed.{Stands, ends_by, stops_on, parts_clean, whole_at_end, no_read, no_read_called, no_read_ended, no_read_fed}
@@ -26,7 +26,7 @@ refusal_is (Ok u) (Ok v) r h k l = l
 -- AT THE END
 
 pub last_at_end : {F E : Type 0} (calls : Calls F E) (seen : Result (Unit {0}) E) (answer : Result (Unit {0}) DimacsError) (r : Result (Unit {0}) (IncrementalError E)) (reader : Reader × Reader) (f h : F) (p q s : Progress)
-    → r ≡ refusal_or seen answer → IsWhole reader.0 reader.1 p.fed → Finishes answer p q → Visits calls (f, q) seen (h, s) → LastVisit calls [] reader (with_parser s r) (f, p)
+    → r ≡ refusal_or seen answer → IsWholeText reader.0 reader.1 p.fed → Finishes answer p q → Visits calls (f, q) seen (h, s) → LastVisit calls [] reader (with_parser s r) (f, p)
 last_at_end calls (Err e) answer r reader f h p q s is whole ends seen = rw is (answer, q, (h, s), inr (refl, whole, ends), seen)
 last_at_end calls (Ok u) (Err e) r reader f h p q s is whole ends seen = rw is (inr (q, (h, s), inr (refl, whole, ends), seen))
 last_at_end calls (Ok u) (Ok v) r reader f h p q s is whole ends seen = rw is (refl, whole, q, h, ends, seen)
@@ -48,13 +48,13 @@ no_read_at_end (Ok u) (Ok v) r p q s is ends h = no_read (with_parser s r) s (ap
 
 pub last_at_piece : {F E : Type 0} (calls : Calls F E) (seen : Result (Unit {0}) E) (answer : Result (Unit {0}) DimacsError) (r : Result (Unit {0}) (IncrementalError E)) (e : IncrementalError E) (reader : Reader × Reader)
     (piece : List ℕ) (f h : F) (p q s : Progress)
-    → r ≡ refusal_or seen answer → r ≡ Err e → 0 < length piece → Feeds answer piece p q → Visits calls (f, q) seen (h, s) → LastVisit calls piece reader (with_parser s r) (f, p)
+    → r ≡ refusal_or seen answer → r ≡ Err e → 0 < length piece → FeedsPiece answer piece p q → Visits calls (f, q) seen (h, s) → LastVisit calls piece reader (with_parser s r) (f, p)
 last_at_piece calls (Err d) answer r e reader piece f h p q s is err some feeds seen = rw is (answer, q, (h, s), inl (some, feeds), seen)
 last_at_piece calls (Ok u) (Err d) r e reader piece f h p q s is err some feeds seen = rw is (inr (q, (h, s), inl (some, feeds), seen))
 last_at_piece calls (Ok u) (Ok v) r e reader piece f h p q s is err some feeds seen = absurd cc
 
 pub parsed_at_piece : {E : Type 0} (seen : Result (Unit {0}) E) (answer : Result (Unit {0}) DimacsError) (r : Result (Unit {0}) (IncrementalError E)) (e : IncrementalError E) (a c : Reader) (fed piece : List ℕ) (p q s : Progress)
-    → r ≡ refusal_or seen answer → r ≡ Err e → GaveFront a c (fed ++ piece) → c.ended ≡ false → c.calls ≤ a.calls + length (fed ++ piece) + 1 → Stands fed p → Feeds answer piece p q
+    → r ≡ refusal_or seen answer → r ≡ Err e → GaveFront a c (fed ++ piece) → c.ended ≡ false → c.calls ≤ a.calls + length (fed ++ piece) + 1 → Stands fed p → FeedsPiece answer piece p q
     → ParsesInParts a c (with_parser s r)
 parsed_at_piece (Err d) answer r e a c fed piece p q s is err front going few stands feeds = rw is tt
 parsed_at_piece (Ok u) (Err d) r e a c fed piece p q s is err front going few stands feeds =
@@ -62,14 +62,14 @@ parsed_at_piece (Ok u) (Err d) r e a c fed piece p q s is err front going few st
 parsed_at_piece (Ok u) (Ok v) r e a c fed piece p q s is err front going few stands feeds = absurd cc
 
 pub no_read_at_piece : {E X : Type 0} (seen : Result (Unit {0}) E) (answer : Result (Unit {0}) DimacsError) (r : Result (Unit {0}) (IncrementalError E)) (piece : List ℕ) (p q s : Progress)
-    → r ≡ refusal_or seen answer → Feeds answer piece p q → with_parser s r ≡ Err (parts.Dimacs errors.Read) → X
+    → r ≡ refusal_or seen answer → FeedsPiece answer piece p q → with_parser s r ≡ Err (parts.Dimacs errors.Read) → X
 no_read_at_piece (Err e) answer r piece p q s is feeds h = no_read_called (with_parser s r) e (ap (with_parser s) is) h
 no_read_at_piece (Ok u) (Err e) r piece p q s is feeds h = no_read_fed (with_parser s r) e piece p q feeds (ap (with_parser s) is) h
 no_read_at_piece (Ok u) (Ok v) r piece p q s is feeds h = no_read (with_parser s r) s (ap (with_parser s) is) h
 
 -- where it goes on, the piece was taken and seen
 pub seen_piece : {F E : Type 0} (calls : Calls F E) (seen : Result (Unit {0}) E) (answer : Result (Unit {0}) DimacsError) (r : Result (Unit {0}) (IncrementalError E)) (x : Unit {0}) (piece : List ℕ) (f h : F) (p q s : Progress)
-    → r ≡ refusal_or seen answer → r ≡ Ok x → Feeds answer piece p q → OnOk answer (IsSound q) → Visits calls (f, q) seen (h, s) → Feeds (Ok tt) piece p q × IsSound q × Visits calls (f, q) (Ok tt) (h, s)
+    → r ≡ refusal_or seen answer → r ≡ Ok x → FeedsPiece answer piece p q → OnOk answer (IsSoundSoFar q) → Visits calls (f, q) seen (h, s) → FeedsPiece (Ok tt) piece p q × IsSoundSoFar q × Visits calls (f, q) (Ok tt) (h, s)
 seen_piece calls (Err d) answer r x piece f h p q s is ok feeds sound seen = absurd cc
 seen_piece calls (Ok u) (Err d) r x piece f h p q s is ok feeds sound seen = absurd cc
 seen_piece calls (Ok u) (Ok v) r x piece f h p q s is ok feeds sound seen = (feeds, sound, seen)

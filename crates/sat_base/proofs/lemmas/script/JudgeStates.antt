@@ -7,7 +7,7 @@ use Rattle.sat_base.specs.values.Literals.{largest, variable, coded}
 use Rattle.sat_base.specs.values.Clauses.{Valuation, literal_true, clause_true, EachHolds}
 use Rattle.sat_base.specs.script.Script.{Literal, Command, Clause, Ask, Hide, Witness, Sample, names_of}
 use Rattle.sat_base.specs.script.Judge.{Judge, Named, Mode, Sampled, Witnessed, identity_in, identity_of, placed, or_zero, with_name, with_names, names_from, new_names, over, bring_in, bring_all, without_name, with_mode, hide_all, set_all, accepted, Refusal, PastLimit, WitnessName, refused_literal, refused_name, has_witness, refusal_of, after_command, after_script, start}
-use Rattle.sat_base.specs.script.JudgeLaws.{NamesIncrease, IsKept, JudgeIsKept, only_below, GivenIdentitiesSuffice}
+use Rattle.sat_base.specs.script.JudgeLaws.{NamesIncrease, JudgeInvariant, JudgeIsKept, only_below, GivenIdentitiesSuffice}
 use Rattle.sat_base.proofs.lemmas.script.LiteralValues.{all_map, coded_half}
 
 pub placed_all : (P : Named → Type 0) (new : Named) (ns : List Named) → P new → AllByRecursion P ns → AllByRecursion P (placed new ns)
@@ -51,7 +51,7 @@ filtered_order test (n ∷ ns) h = go (test n) (filtered_order test ns h.1)
     go true ih = (filtered_all (λ m. n.name < m.name) test ns h.0, ih)
     go false ih = ih
 
-name_kept : (name : ℕ) (j : Judge) → name ≤ largest → identity_of j name ≡ None → IsKept j → IsKept (with_name name j)
+name_kept : (name : ℕ) (j : Judge) → name ≤ largest → identity_of j name ≡ None → JudgeInvariant j → JudgeInvariant (with_name name j)
 name_kept name j low e h = record {
   limit = let l = h.limit in omega arith;
   order = placed_order (record { name = name; identity = j.next_identity }) j.in_use e h.order;
@@ -61,22 +61,22 @@ name_kept name j low e h = record {
   clauses = all_map (AllByRecursion (λ l. variable l < j.next_identity)) (AllByRecursion (λ l. variable l < j.next_identity + 1)) j.clauses (λ c x. all_map (λ l. variable l < j.next_identity) (λ l. variable l < j.next_identity + 1) c (λ l y. omega arith) x) h.clauses;
 }
 
-fresh_kept : (count name : ℕ) (j : Judge) → name + count ≤ largest + 1 → j.first_unused ≡ name → IsKept j → IsKept (with_names (names_from count name) j)
+fresh_kept : (count name : ℕ) (j : Judge) → name + count ≤ largest + 1 → j.first_unused ≡ name → JudgeInvariant j → JudgeInvariant (with_names (names_from count name) j)
 fresh_kept zero name j low e h = h
 fresh_kept (suc count) name j low e h =
     let none : identity_of j name ≡ None = none_below name j.in_use (all_map (λ n. n.name < j.first_unused) (λ n. n.name < name) j.in_use (λ n x. omega arith) h.used) in
     let at : max j.first_unused (name + 1) ≡ name + 1 = omega arith in
     fresh_kept count (name + 1) (with_name name j) (omega arith) at (name_kept name j (omega arith) none h)
 
-bring_kept : (name : ℕ) (j : Judge) → name ≤ largest → IsKept j → IsKept (bring_in name j)
+bring_kept : (name : ℕ) (j : Judge) → name ≤ largest → JudgeInvariant j → JudgeInvariant (bring_in name j)
 bring_kept name j low h = go (ltb name j.first_unused) refl (identity_of j name) refl
   where
-    go : (b : Bool) → ltb name j.first_unused ≡ b → (o : Option ℕ) → identity_of j name ≡ o → IsKept (with_names (cond b (cond (is_some o) [] (name ∷ [])) (names_from (name + 1 - j.first_unused) j.first_unused)) j)
+    go : (b : Bool) → ltb name j.first_unused ≡ b → (o : Option ℕ) → identity_of j name ≡ o → JudgeInvariant (with_names (cond b (cond (is_some o) [] (name ∷ [])) (names_from (name + 1 - j.first_unused) j.first_unused)) j)
     go true x (Some i) e = h
     go true x None e = name_kept name j low e h
     go false x o e = let past = ltb-false name j.first_unused x in fresh_kept (name + 1 - j.first_unused) j.first_unused j (omega arith) refl h
 
-hide_kept : (name : ℕ) (j : Judge) → IsKept j → IsKept (without_name name j)
+hide_kept : (name : ℕ) (j : Judge) → JudgeInvariant j → JudgeInvariant (without_name name j)
 hide_kept name j h = record {
   limit = h.limit;
   order = filtered_order (λ n. not (eqb n.name name)) j.in_use h.order;
@@ -86,21 +86,21 @@ hide_kept name j h = record {
   clauses = h.clauses;
 }
 
-mode_kept : (mode : Mode) (name : ℕ) (j : Judge) → IsKept j → IsKept (with_mode mode name j)
+mode_kept : (mode : Mode) (name : ℕ) (j : Judge) → JudgeInvariant j → JudgeInvariant (with_mode mode name j)
 mode_kept mode name j h = record { limit = h.limit; order = h.order; used = h.used; given = h.given; modes = length-set j.modes (or_zero (identity_of j name)) mode ∙ h.modes; clauses = h.clauses }
 
 abbrev Within : List ℕ → Type 0
 Within = AllByRecursion (λ n. n ≤ largest)
 
-bring_all_kept : (names : List ℕ) (j : Judge) → Within names → IsKept j → IsKept (bring_all names j)
+bring_all_kept : (names : List ℕ) (j : Judge) → Within names → JudgeInvariant j → JudgeInvariant (bring_all names j)
 bring_all_kept [] j w h = h
 bring_all_kept (n ∷ ns) j w h = bring_all_kept ns (bring_in n j) w.1 (bring_kept n j w.0 h)
 
-hide_all_kept : (names : List ℕ) (j : Judge) → Within names → IsKept j → IsKept (hide_all names j)
+hide_all_kept : (names : List ℕ) (j : Judge) → Within names → JudgeInvariant j → JudgeInvariant (hide_all names j)
 hide_all_kept [] j w h = h
 hide_all_kept (n ∷ ns) j w h = hide_all_kept ns (without_name n (bring_in n j)) w.1 (hide_kept n (bring_in n j) (bring_kept n j w.0 h))
 
-set_all_kept : (mode : Mode) (names : List ℕ) (j : Judge) → Within names → IsKept j → IsKept (set_all mode names j)
+set_all_kept : (mode : Mode) (names : List ℕ) (j : Judge) → Within names → JudgeInvariant j → JudgeInvariant (set_all mode names j)
 set_all_kept mode [] j w h = h
 set_all_kept mode (n ∷ ns) j w h = set_all_kept mode ns (with_mode mode n (bring_in n j)) w.1 (mode_kept mode n (bring_in n j) (bring_kept n j w.0 h))
 
@@ -141,7 +141,7 @@ grows_all [] j = omega arith
 grows_all (n ∷ ns) j = let r = grows_all ns (bring_in n j) in let q = grows (new_names n j) j in omega arith
 
 -- a name that came in has one
-some_given : (name : ℕ) (j : Judge) → IsKept j → 0 < (bring_in name j).next_identity
+some_given : (name : ℕ) (j : Judge) → JudgeInvariant j → 0 < (bring_in name j).next_identity
 some_given name j h = go (ltb name j.first_unused) refl (identity_of j name) refl
   where
     from : (count start : ℕ) → 0 < count → 0 < (with_names (names_from count start) j).next_identity
@@ -153,25 +153,25 @@ some_given name j h = go (ltb name j.first_unused) refl (identity_of j name) ref
     go true x None e = omega arith
     go false x o e = let past = ltb-false name j.first_unused x in from (name + 1 - j.first_unused) j.first_unused (omega arith)
 
-literal_given : (j : Judge) (l : Literal) → IsKept j → 0 < j.next_identity → variable (over j l) < j.next_identity
+literal_given : (j : Judge) (l : Literal) → JudgeInvariant j → 0 < j.next_identity → variable (over j l) < j.next_identity
 literal_given j l h some = go (identity_of j l.name) refl
   where
     go : (o : Option ℕ) → identity_of j l.name ≡ o → variable (coded (or_zero o) l.positive) < j.next_identity
     go None e = let x = coded_half 0 l.positive in omega arith
     go (Some i) e = let x = coded_half i l.positive in let y = given_at j.in_use l.name i j.next_identity h.given e in omega arith
 
-clause_given : (ls : List Literal) (j : Judge) → IsKept j → 0 < j.next_identity → AllByRecursion (λ l. variable l < j.next_identity) (map (over j) ls)
+clause_given : (ls : List Literal) (j : Judge) → JudgeInvariant j → 0 < j.next_identity → AllByRecursion (λ l. variable l < j.next_identity) (map (over j) ls)
 clause_given [] j h some = tt
 clause_given (l ∷ ls) j h some = (literal_given j l h some, clause_given ls j h some)
 
-new_clause_given : (ls : List Literal) (j : Judge) → Within (names_of ls) → IsKept j → AllByRecursion (λ l. variable l < (bring_all (names_of ls) j).next_identity) (map (over (bring_all (names_of ls) j)) ls)
+new_clause_given : (ls : List Literal) (j : Judge) → Within (names_of ls) → JudgeInvariant j → AllByRecursion (λ l. variable l < (bring_all (names_of ls) j).next_identity) (map (over (bring_all (names_of ls) j)) ls)
 new_clause_given [] j w h = tt
 new_clause_given (l ∷ ls) j w h =
     let a = some_given l.name j h in
     let b = grows_all (names_of ls) (bring_in l.name j) in
     clause_given (l ∷ ls) (bring_all (names_of (l ∷ ls)) j) (bring_all_kept (names_of (l ∷ ls)) j w h) (omega arith)
 
-pub accepted_kept : (command : Command) (j : Judge) → refusal_of j command ≡ None → IsKept j → IsKept (accepted command j)
+pub accepted_kept : (command : Command) (j : Judge) → refusal_of j command ≡ None → JudgeInvariant j → JudgeInvariant (accepted command j)
 accepted_kept (Clause ls) j e h =
     let w = within_literals (names_of ls) j e in
     let b = bring_all_kept (names_of ls) j w h in
@@ -181,18 +181,18 @@ accepted_kept (Hide names) j e h = hide_all_kept names j (within_names names e) 
 accepted_kept (Witness names) j e h = set_all_kept Witnessed names j (within_names names e) h
 accepted_kept (Sample names) j e h = set_all_kept Sampled names j (within_names names e) h
 
-command_kept : (command : Command) (j : Judge) → IsKept j → IsKept (after_command command j)
+command_kept : (command : Command) (j : Judge) → JudgeInvariant j → JudgeInvariant (after_command command j)
 command_kept command j h = go (refusal_of j command) refl
   where
-    go : (r : Option Refusal) → refusal_of j command ≡ r → IsKept (cond (is_some r) j (accepted command j))
+    go : (r : Option Refusal) → refusal_of j command ≡ r → JudgeInvariant (cond (is_some r) j (accepted command j))
     go (Some r) e = h
     go None e = accepted_kept command j e h
 
-script_kept : (commands : List Command) (j : Judge) → IsKept j → IsKept (after_script commands j)
+script_kept : (commands : List Command) (j : Judge) → JudgeInvariant j → JudgeInvariant (after_script commands j)
 script_kept [] j h = h
 script_kept (c ∷ cs) j h = script_kept cs (after_command c j) (command_kept c j h)
 
-pub start_kept : IsKept start
+pub start_kept : JudgeInvariant start
 start_kept = record { limit = omega arith; order = tt; used = tt; given = tt; modes = refl; clauses = tt }
 
 pub judge_kept : JudgeIsKept

@@ -3,22 +3,22 @@ use Rattle.std.proofs.Common.{◌≡◌, ℕ, ◌<◌, List, [], ◌∷◌, ◌+
 use Rattle.std.specs.Prelude.{nat_eq, not, ◌↔◌, Option, Some, None, is_some, drop}
 use Rattle.std.proofs.lemmas.List.{append-nil}
 use Rattle.std.proofs.lemmas.Bool.Decides.{nat_tests}
-use Rattle.sat_base.specs.text.Text.{Token, Number, Letter, Header, Wrong, tokens, header_from, header_first, header_of}
-use Rattle.sat_base.specs.script.Script.{Literal, Command, Ending, Clean, Malformed, has_ask}
-use Rattle.sat_base.specs.script.Language.{Reading, onto_commands, spoken, Kind, OfClause, OfAsk, OfHide, OfWitness, OfSample, command_of, Hand, Nothing, Within, Turn, GoesOn, Ends, command_in, may_stand, with_literal, kind_of_letter, beginning, with_letter, turn, at_end, behind_turn, commands_of, with_ask, written, reading}
-use Rattle.sat_base.specs.script.ScriptSpelling.{OneReading, number_of, AreNamed, IsZero, letter_of, SpellsCommand, SpellsCommands, BeginsNone, SpellsTo, asked, SpellsScript, ReadIfSpelled}
+use Rattle.sat_base.specs.text.Text.{Token, Number, Letter, Header, Wrong, tokens, header_from, header_first, dimacs_header}
+use Rattle.sat_base.specs.script.Script.{Literal, Command, ScriptEnding, Clean, Malformed, has_ask}
+use Rattle.sat_base.specs.script.Language.{Reading, onto_commands, spoken, Kind, OfClause, OfAsk, OfHide, OfWitness, OfSample, command_of, CommandHand, Nothing, Within, CommandTurn, GoesOn, Ends, command_in, may_stand, turn_with_literal, kind_of_letter, beginning, with_letter, command_turn, at_end, behind_turn, commands_of, with_ask, written, reading}
+use Rattle.sat_base.specs.script.ScriptSpelling.{OneReading, number_of, AreNamesOfKind, IsZero, letter_of, SpellsCommand, SpellsCommands, BeginsNone, SpellsTo, asked, SpellsScript, ReadIfSpelled}
 use Rattle.sat_base.proofs.lemmas.text.HeaderFirst.{IsWord, AreWords, AreScript, text_is}
 
-pub commands_of_nil : (h : Hand) → commands_of h [] ≡ ([], at_end h)
+pub commands_of_nil : (h : CommandHand) → commands_of h [] ≡ ([], at_end h)
 unfolding commands_of
 commands_of_nil h = refl
 
-pub commands_of_cons : (h : Hand) (t : Token) (ts : List Token) → commands_of h (t ∷ ts) ≡ behind_turn (turn h t) (λ k. commands_of k ts)
+pub commands_of_cons : (h : CommandHand) (t : Token) (ts : List Token) → commands_of h (t ∷ ts) ≡ behind_turn (command_turn h t) (λ k. commands_of k ts)
 unfolding commands_of
 commands_of_cons h t ts = refl
 
 -- a command of these literals so far
-abbrev hand_of : Kind → List Literal → Hand
+abbrev hand_of : Kind → List Literal → CommandHand
 hand_of OfClause [] = Nothing
 hand_of OfClause (l ∷ ls) = Within OfClause (l ∷ ls)
 hand_of OfAsk ls = Within OfAsk ls
@@ -34,7 +34,7 @@ hand_ends OfHide ds = refl
 hand_ends OfWitness ds = refl
 hand_ends OfSample ds = refl
 
-hand_more : (k : Kind) (done : List Literal) (l : Literal) → may_stand k l.positive ≡ true → with_literal (hand_of k done) l ≡ GoesOn (hand_of k (done ++ l ∷ []))
+hand_more : (k : Kind) (done : List Literal) (l : Literal) → may_stand k l.positive ≡ true → turn_with_literal (hand_of k done) l ≡ GoesOn (hand_of k (done ++ l ∷ []))
 hand_more OfClause [] l m = refl
 hand_more OfClause (d ∷ ds) l m = refl
 hand_more OfAsk ds l m = refl
@@ -45,26 +45,26 @@ hand_more OfSample ds l m = rw m refl
 same_literal : (l : Literal) → record { name = l.name; positive = not (not l.positive) } ≡ l
 same_literal l = elim l.positive as (λ (b : Bool). record { name = l.name; positive = not (not b) } ≡ record { name = l.name; positive = b }) [ true ↦ refl | false ↦ refl ]
 
-turn_number : (h : Hand) (l : Literal) → 0 < l.name → turn h (number_of l) ≡ with_literal h l
-turn_number h l n = let e : nat_eq l.name 0 ≡ false = grind (arith, nat_tests) in rw e (ap (with_literal h) (same_literal l))
+turn_number : (h : CommandHand) (l : Literal) → 0 < l.name → command_turn h (number_of l) ≡ turn_with_literal h l
+turn_number h l n = let e : nat_eq l.name 0 ≡ false = grind (arith, nat_tests) in rw e (ap (turn_with_literal h) (same_literal l))
 
-turn_zero : (h : Hand) (t : Token) → IsZero t → turn h t ≡ Ends (command_in h)
+turn_zero : (h : CommandHand) (t : Token) → IsZero t → command_turn h t ≡ Ends (command_in h)
 turn_zero h (Number negative value) z = rw z refl
 turn_zero h (Letter b) z = absurd z
 turn_zero h (Header v c) z = absurd z
 turn_zero h Wrong z = absurd z
 
 -- SPELLED, AND SO READ
-reads_zero : (h : Hand) (t : Token) (ts : List Token) → IsZero t → commands_of h (t ∷ ts) ≡ onto_commands (command_in h ∷ []) (commands_of Nothing ts)
-reads_zero h t ts z = commands_of_cons h t ts ∙ ap (λ (k : Turn). behind_turn k (λ k. commands_of k ts)) (turn_zero h t z)
+reads_zero : (h : CommandHand) (t : Token) (ts : List Token) → IsZero t → commands_of h (t ∷ ts) ≡ onto_commands (command_in h ∷ []) (commands_of Nothing ts)
+reads_zero h t ts z = commands_of_cons h t ts ∙ ap (λ (k : CommandTurn). behind_turn k (λ k. commands_of k ts)) (turn_zero h t z)
 
-reads_literals : (k : Kind) (done ls : List Literal) (t : Token) (ts : List Token) → AreNamed k ls → IsZero t
+reads_literals : (k : Kind) (done ls : List Literal) (t : Token) (ts : List Token) → AreNamesOfKind k ls → IsZero t
     → commands_of (hand_of k done) ((map number_of ls ++ t ∷ []) ++ ts) ≡ onto_commands (command_of k (done ++ ls) ∷ []) (commands_of Nothing ts)
 reads_literals k done [] t ts n z =
     reads_zero (hand_of k done) t ts z ∙ ap (λ (c : Command). onto_commands (c ∷ []) (commands_of Nothing ts)) (hand_ends k done ∙ ap (command_of k) (sym (append-nil done)))
 reads_literals k done (l ∷ ls) t ts n z =
     commands_of_cons (hand_of k done) (number_of l) ((map number_of ls ++ t ∷ []) ++ ts)
-    ∙ ap (λ (j : Turn). behind_turn j (λ d. commands_of d ((map number_of ls ++ t ∷ []) ++ ts))) (turn_number (hand_of k done) l n.0.0 ∙ hand_more k done l n.0.1)
+    ∙ ap (λ (j : CommandTurn). behind_turn j (λ d. commands_of d ((map number_of ls ++ t ∷ []) ++ ts))) (turn_number (hand_of k done) l n.0.0 ∙ hand_more k done l n.0.1)
     ∙ reads_literals k (done ++ l ∷ []) ls t ts n.1 z
     ∙ ap (λ (ks : List Literal). onto_commands (command_of k ks ∷ []) (commands_of Nothing ts)) (append_assoc done (l ∷ []) ls)
 
@@ -93,31 +93,31 @@ reads_spelled (c ∷ cs) front ts s =
 
 -- READ, AND SO SPELLED
 -- the first command, behind what is in hand
-pub record Firstly (k : Kind) (done : List Literal) (c : Command) (cs : List Command) (end : Ending) (ts : List Token) : Type 0 where
+pub record Firstly (k : Kind) (done : List Literal) (c : Command) (cs : List Command) (end : ScriptEnding) (ts : List Token) : Type 0 where
   pub literals : List Literal
   pub last : Token
   pub later : List Token
   pub is_last : IsZero last
-  pub named : AreNamed k literals
+  pub named : AreNamesOfKind k literals
   pub is : c ≡ command_of k (done ++ literals)
   pub whole : ts ≡ (map number_of literals ++ last ∷ []) ++ later
   pub left : commands_of Nothing later ≡ (cs, end)
 
-pub record First (c : Command) (cs : List Command) (end : Ending) (ts : List Token) : Type 0 where
+pub record First (c : Command) (cs : List Command) (end : ScriptEnding) (ts : List Token) : Type 0 where
   pub front : List Token
   pub later : List Token
   pub spelled : SpellsCommand c front
   pub whole : ts ≡ front ++ later
   pub left : commands_of Nothing later ≡ (cs, end)
 
-abbrev From : Hand → Command → List Command → Ending → List Token → Type 0
+abbrev From : CommandHand → Command → List Command → ScriptEnding → List Token → Type 0
 From Nothing c cs end ts = First c cs end ts
 From (Within k done) c cs end ts = Firstly k done c cs end ts
 
 abbrev AllFirst : List Token → Type 0
-AllFirst ts = (h : Hand) (c : Command) (cs : List Command) (end : Ending) → commands_of h ts ≡ (c ∷ cs, end) → From h c cs end ts
+AllFirst ts = (h : CommandHand) (c : Command) (cs : List Command) (end : ScriptEnding) → commands_of h ts ≡ (c ∷ cs, end) → From h c cs end ts
 
-none_read : {A : Type 0} (d end : Ending) (c : Command) (cs : List Command) → ◌≡◌ {A = Reading} ([], d) (c ∷ cs, end) → A
+none_read : {A : Type 0} (d end : ScriptEnding) (c : Command) (cs : List Command) → ◌≡◌ {A = Reading} ([], d) (c ∷ cs, end) → A
 none_read d end c cs e = let f : [] ≡ c ∷ cs = ap (λ (r : Reading). r.0) e in absurd (cc)
 
 same_head : (b c : Command) (bs cs : List Command) → ◌≡◌ {A = List Command} (b ∷ bs) (c ∷ cs) → b ≡ c
@@ -127,7 +127,7 @@ same_tail : (b c : Command) (bs cs : List Command) → ◌≡◌ {A = List Comma
 same_tail b c bs cs e = cc
 
 -- behind a zero
-zero_first : (h : Hand) (t : Token) (ts : List Token) (cs : List Command) (end : Ending) → IsZero t → commands_of Nothing ts ≡ (cs, end) → From h (command_in h) cs end (t ∷ ts)
+zero_first : (h : CommandHand) (t : Token) (ts : List Token) (cs : List Command) (end : ScriptEnding) → IsZero t → commands_of Nothing ts ≡ (cs, end) → From h (command_in h) cs end (t ∷ ts)
 zero_first Nothing t ts cs end z e = record {
   front = t ∷ [];
   later = ts;
@@ -137,10 +137,10 @@ zero_first Nothing t ts cs end z e = record {
 }
 zero_first (Within k done) t ts cs end z e = record { literals = []; last = t; later = ts; is_last = z; named = tt; is = ap (command_of k) (sym (append-nil done)); whole = refl; left = e }
 
-pair : (r : Reading) (cs : List Command) (end : Ending) → r.0 ≡ cs → r.1 ≡ end → r ≡ (cs, end)
-pair r cs end a b = ap (λ (xs : List Command). (xs, r.1)) a ∙ ap (λ (d : Ending). (cs, d)) b
+pair : (r : Reading) (cs : List Command) (end : ScriptEnding) → r.0 ≡ cs → r.1 ≡ end → r ≡ (cs, end)
+pair r cs end a b = ap (λ (xs : List Command). (xs, r.1)) a ∙ ap (λ (d : ScriptEnding). (cs, d)) b
 
-ends_first : (h : Hand) (t : Token) (ts : List Token) (c : Command) (cs : List Command) (end : Ending) → IsZero t
+ends_first : (h : CommandHand) (t : Token) (ts : List Token) (c : Command) (cs : List Command) (end : ScriptEnding) → IsZero t
     → onto_commands (command_in h ∷ []) (commands_of Nothing ts) ≡ (c ∷ cs, end) → From h c cs end (t ∷ ts)
 ends_first h t ts c cs end z e =
     let r = commands_of Nothing ts in
@@ -154,7 +154,7 @@ same_number true value = refl
 same_number false value = refl
 
 -- behind a literal
-clause_first : (t : Token) (l : Literal) (ts : List Token) (c : Command) (cs : List Command) (end : Ending) → t ≡ number_of l → 0 < l.name → Firstly OfClause (l ∷ []) c cs end ts → First c cs end (t ∷ ts)
+clause_first : (t : Token) (l : Literal) (ts : List Token) (c : Command) (cs : List Command) (end : ScriptEnding) → t ≡ number_of l → 0 < l.name → Firstly OfClause (l ∷ []) c cs end ts → First c cs end (t ∷ ts)
 clause_first t l ts c cs end e n s = record {
   front = map number_of (l ∷ s.literals) ++ s.last ∷ [];
   later = s.later;
@@ -163,7 +163,7 @@ clause_first t l ts c cs end e n s = record {
   left = s.left;
 }
 
-literal_first : (k : Kind) (t : Token) (l : Literal) (done : List Literal) (ts : List Token) (c : Command) (cs : List Command) (end : Ending) → t ≡ number_of l → 0 < l.name → may_stand k l.positive ≡ true
+literal_first : (k : Kind) (t : Token) (l : Literal) (done : List Literal) (ts : List Token) (c : Command) (cs : List Command) (end : ScriptEnding) → t ≡ number_of l → 0 < l.name → may_stand k l.positive ≡ true
     → Firstly k (done ++ l ∷ []) c cs end ts → Firstly k done c cs end (t ∷ ts)
 literal_first k t l done ts c cs end e n m s = record {
   literals = l ∷ s.literals;
@@ -176,18 +176,18 @@ literal_first k t l done ts c cs end e n m s = record {
   left = s.left;
 }
 
-within_left : (k : Kind) (done : List Literal) (t : Token) (l : Literal) (ts : List Token) (c : Command) (cs : List Command) (end : Ending) (stands : Bool) → may_stand k l.positive ≡ stands
-    → t ≡ number_of l → 0 < l.name → AllFirst ts → behind_turn (with_literal (Within k done) l) (λ j. commands_of j ts) ≡ (c ∷ cs, end) → Firstly k done c cs end (t ∷ ts)
+within_left : (k : Kind) (done : List Literal) (t : Token) (l : Literal) (ts : List Token) (c : Command) (cs : List Command) (end : ScriptEnding) (stands : Bool) → may_stand k l.positive ≡ stands
+    → t ≡ number_of l → 0 < l.name → AllFirst ts → behind_turn (turn_with_literal (Within k done) l) (λ j. commands_of j ts) ≡ (c ∷ cs, end) → Firstly k done c cs end (t ∷ ts)
 within_left k done t l ts c cs end true m e n ih f = literal_first k t l done ts c cs end e n m (ih (Within k (done ++ l ∷ [])) c cs end (rw m at f))
 within_left k done t l ts c cs end false m e n ih f = none_read Malformed end c cs (rw m at f)
 
-literal_left : (h : Hand) (t : Token) (l : Literal) (ts : List Token) (c : Command) (cs : List Command) (end : Ending) → t ≡ number_of l → 0 < l.name → AllFirst ts
-    → behind_turn (with_literal h l) (λ j. commands_of j ts) ≡ (c ∷ cs, end) → From h c cs end (t ∷ ts)
+literal_left : (h : CommandHand) (t : Token) (l : Literal) (ts : List Token) (c : Command) (cs : List Command) (end : ScriptEnding) → t ≡ number_of l → 0 < l.name → AllFirst ts
+    → behind_turn (turn_with_literal h l) (λ j. commands_of j ts) ≡ (c ∷ cs, end) → From h c cs end (t ∷ ts)
 literal_left Nothing t l ts c cs end e n ih f = clause_first t l ts c cs end e n (ih (Within OfClause (l ∷ [])) c cs end f)
 literal_left (Within k done) t l ts c cs end e n ih f = within_left k done t l ts c cs end (may_stand k l.positive) refl e n ih f
 
-number_left : (h : Hand) (negative : Bool) (value : ℕ) (ts : List Token) (c : Command) (cs : List Command) (end : Ending) (zero : Bool) → nat_eq value 0 ≡ zero → AllFirst ts
-    → behind_turn (turn h (Number negative value)) (λ j. commands_of j ts) ≡ (c ∷ cs, end) → From h c cs end (Number negative value ∷ ts)
+number_left : (h : CommandHand) (negative : Bool) (value : ℕ) (ts : List Token) (c : Command) (cs : List Command) (end : ScriptEnding) (zero : Bool) → nat_eq value 0 ≡ zero → AllFirst ts
+    → behind_turn (command_turn h (Number negative value)) (λ j. commands_of j ts) ≡ (c ∷ cs, end) → From h c cs end (Number negative value ∷ ts)
 number_left h negative value ts c cs end true z ih f =
     let same : value ≡ 0 = grind (arith, nat_tests) in
     ends_first h (Number negative value) ts c cs end same (rw z at f)
@@ -196,7 +196,7 @@ number_left h negative value ts c cs end false z ih f =
     literal_left h (Number negative value) (record { name = value; positive = not negative }) ts c cs end (same_number negative value) some ih (rw z at f)
 
 -- behind a letter
-begun : (k : Kind) (b : ℕ) (ts : List Token) (c : Command) (cs : List Command) (end : Ending) → Letter b ∷ [] ≡ letter_of k → Firstly k [] c cs end ts → First c cs end (Letter b ∷ ts)
+begun : (k : Kind) (b : ℕ) (ts : List Token) (c : Command) (cs : List Command) (end : ScriptEnding) → Letter b ∷ [] ≡ letter_of k → Firstly k [] c cs end ts → First c cs end (Letter b ∷ ts)
 begun k b ts c cs end e s = record {
   front = letter_of k ++ (map number_of s.literals ++ s.last ∷ []);
   later = s.later;
@@ -208,7 +208,7 @@ begun k b ts c cs end e s = record {
 letter_is : (b n : ℕ) → nat_eq b n ≡ true → ◌≡◌ {A = List Token} (Letter b ∷ []) (Letter n ∷ [])
 letter_is b n e = let same : b ≡ n = grind (arith, nat_tests) in ap (λ (m : ℕ). Letter m ∷ []) same
 
-letter_left : (b : ℕ) (ts : List Token) (c : Command) (cs : List Command) (end : Ending) (is_a is_h is_w is_s : Bool) → nat_eq b 97 ≡ is_a → nat_eq b 104 ≡ is_h → nat_eq b 119 ≡ is_w → nat_eq b 115 ≡ is_s → AllFirst ts
+letter_left : (b : ℕ) (ts : List Token) (c : Command) (cs : List Command) (end : ScriptEnding) (is_a is_h is_w is_s : Bool) → nat_eq b 97 ≡ is_a → nat_eq b 104 ≡ is_h → nat_eq b 119 ≡ is_w → nat_eq b 115 ≡ is_s → AllFirst ts
     → behind_turn (with_letter Nothing b) (λ j. commands_of j ts) ≡ (c ∷ cs, end) → First c cs end (Letter b ∷ ts)
 letter_left b ts c cs end true is_h is_w is_s p q u v ih f = begun OfAsk b ts c cs end (letter_is b 97 p) (ih (Within OfAsk []) c cs end (rw p at f))
 letter_left b ts c cs end false true is_w is_s p q u v ih f = begun OfHide b ts c cs end (letter_is b 104 q) (ih (Within OfHide []) c cs end (rw (p, q) at f))
@@ -216,11 +216,11 @@ letter_left b ts c cs end false false true is_s p q u v ih f = begun OfWitness b
 letter_left b ts c cs end false false false true p q u v ih f = begun OfSample b ts c cs end (letter_is b 115 v) (ih (Within OfSample []) c cs end (rw (p, q, u, v) at f))
 letter_left b ts c cs end false false false false p q u v ih f = none_read Malformed end c cs (rw (p, q, u, v) at f)
 
-in_hand_left : (h : Hand) (b : ℕ) (ts : List Token) (c : Command) (cs : List Command) (end : Ending) → AllFirst ts → behind_turn (with_letter h b) (λ j. commands_of j ts) ≡ (c ∷ cs, end) → From h c cs end (Letter b ∷ ts)
+in_hand_left : (h : CommandHand) (b : ℕ) (ts : List Token) (c : Command) (cs : List Command) (end : ScriptEnding) → AllFirst ts → behind_turn (with_letter h b) (λ j. commands_of j ts) ≡ (c ∷ cs, end) → From h c cs end (Letter b ∷ ts)
 in_hand_left Nothing b ts c cs end ih f = letter_left b ts c cs end (nat_eq b 97) (nat_eq b 104) (nat_eq b 119) (nat_eq b 115) refl refl refl refl ih f
 in_hand_left (Within k done) b ts c cs end ih f = none_read Malformed end c cs f
 
-token_left : (h : Hand) (t : Token) (ts : List Token) (c : Command) (cs : List Command) (end : Ending) → IsWord t → AllFirst ts → behind_turn (turn h t) (λ j. commands_of j ts) ≡ (c ∷ cs, end) → From h c cs end (t ∷ ts)
+token_left : (h : CommandHand) (t : Token) (ts : List Token) (c : Command) (cs : List Command) (end : ScriptEnding) → IsWord t → AllFirst ts → behind_turn (command_turn h t) (λ j. commands_of j ts) ≡ (c ∷ cs, end) → From h c cs end (t ∷ ts)
 token_left h (Number negative value) ts c cs end w ih f = number_left h negative value ts c cs end (nat_eq value 0) refl ih f
 token_left h (Letter b) ts c cs end w ih f = in_hand_left h b ts c cs end ih f
 token_left h (Header v x) ts c cs end w ih f = absurd w
@@ -236,7 +236,7 @@ words_behind [] rest w = w
 words_behind (t ∷ front) rest w = words_behind front rest w.1
 
 -- all commands that are read
-pub record Spelled (cs : List Command) (end : Ending) (ts : List Token) : Type 0 where
+pub record Spelled (cs : List Command) (end : ScriptEnding) (ts : List Token) : Type 0 where
   pub front : List Token
   pub rest : List Token
   pub spelled : SpellsCommands cs front
@@ -244,7 +244,7 @@ pub record Spelled (cs : List Command) (end : Ending) (ts : List Token) : Type 0
   pub left : commands_of Nothing rest ≡ ([], end)
   pub words : AreWords rest
 
-all_spelled : (cs : List Command) (end : Ending) (ts : List Token) → AreWords ts → commands_of Nothing ts ≡ (cs, end) → Spelled cs end ts
+all_spelled : (cs : List Command) (end : ScriptEnding) (ts : List Token) → AreWords ts → commands_of Nothing ts ≡ (cs, end) → Spelled cs end ts
 all_spelled [] end ts w e = record { front = []; rest = ts; spelled = refl; whole = refl; left = e; words = w }
 all_spelled (c ∷ cs) end ts w e =
     let f = all_first ts w Nothing c cs end e in
@@ -264,56 +264,56 @@ clean_or_malformed : {A : Type 0} (cs ds : List Command) → ◌≡◌ {A = Read
 clean_or_malformed cs ds e = let f : Clean ≡ Malformed = ap (λ (r : Reading). r.1) e in absurd (cc)
 
 -- a first token leaves something to read, or a wrong end
-abbrev NoneClean : Hand → List Token → Type 0
+abbrev NoneClean : CommandHand → List Token → Type 0
 NoneClean h ts = commands_of h ts ≡ ([], Clean) → (h ≡ Nothing) × (ts ≡ [])
 
-onto_some : {A : Type 0} (c : Command) (r : Reading) (end : Ending) → onto_commands (c ∷ []) r ≡ ([], end) → A
+onto_some : {A : Type 0} (c : Command) (r : Reading) (end : ScriptEnding) → onto_commands (c ∷ []) r ≡ ([], end) → A
 onto_some c r end e = let f : ◌≡◌ {A = List Command} (c ∷ r.0) [] = ap (λ (x : Reading). x.0) e in absurd (cc)
 
 malformed : {A : Type 0} → ◌≡◌ {A = Reading} ([], Malformed) ([], Clean) → A
 malformed e = let f : Malformed ≡ Clean = ap (λ (r : Reading). r.1) e in absurd (cc)
 
-within_none : {A : Type 0} (k : Kind) (ls : List Literal) → ◌≡◌ {A = Hand} (Within k ls) Nothing → A
+within_none : {A : Type 0} (k : Kind) (ls : List Literal) → ◌≡◌ {A = CommandHand} (Within k ls) Nothing → A
 within_none k ls e = absurd (cc)
 
-none_within : (k : Kind) (done : List Literal) (l : Literal) (ts : List Token) (stands : Bool) → may_stand k l.positive ≡ stands → ((h : Hand) → NoneClean h ts)
-    → behind_turn (with_literal (Within k done) l) (λ j. commands_of j ts) ≡ ([], Clean) → ⊥
+none_within : (k : Kind) (done : List Literal) (l : Literal) (ts : List Token) (stands : Bool) → may_stand k l.positive ≡ stands → ((h : CommandHand) → NoneClean h ts)
+    → behind_turn (turn_with_literal (Within k done) l) (λ j. commands_of j ts) ≡ ([], Clean) → ⊥
 none_within k done l ts true m ih f = within_none k (done ++ l ∷ []) (ih (Within k (done ++ l ∷ [])) (rw m at f)).0
 none_within k done l ts false m ih f = malformed (rw m at f)
 
-none_literal : (h : Hand) (l : Literal) (ts : List Token) → ((h : Hand) → NoneClean h ts) → behind_turn (with_literal h l) (λ j. commands_of j ts) ≡ ([], Clean) → ⊥
+none_literal : (h : CommandHand) (l : Literal) (ts : List Token) → ((h : CommandHand) → NoneClean h ts) → behind_turn (turn_with_literal h l) (λ j. commands_of j ts) ≡ ([], Clean) → ⊥
 none_literal Nothing l ts ih f = within_none OfClause (l ∷ []) (ih (Within OfClause (l ∷ [])) f).0
 none_literal (Within k done) l ts ih f = none_within k done l ts (may_stand k l.positive) refl ih f
 
-none_number : (h : Hand) (negative : Bool) (value : ℕ) (ts : List Token) (zero : Bool) → nat_eq value 0 ≡ zero → ((h : Hand) → NoneClean h ts)
-    → behind_turn (turn h (Number negative value)) (λ j. commands_of j ts) ≡ ([], Clean) → ⊥
+none_number : (h : CommandHand) (negative : Bool) (value : ℕ) (ts : List Token) (zero : Bool) → nat_eq value 0 ≡ zero → ((h : CommandHand) → NoneClean h ts)
+    → behind_turn (command_turn h (Number negative value)) (λ j. commands_of j ts) ≡ ([], Clean) → ⊥
 none_number h negative value ts true z ih f = onto_some (command_in h) (commands_of Nothing ts) Clean (rw z at f)
 none_number h negative value ts false z ih f = none_literal h (record { name = value; positive = not negative }) ts ih (rw z at f)
 
-none_begun : (o : Option Kind) (ts : List Token) → ((h : Hand) → NoneClean h ts) → behind_turn (beginning o) (λ j. commands_of j ts) ≡ ([], Clean) → ⊥
+none_begun : (o : Option Kind) (ts : List Token) → ((h : CommandHand) → NoneClean h ts) → behind_turn (beginning o) (λ j. commands_of j ts) ≡ ([], Clean) → ⊥
 none_begun None ts ih f = malformed f
 none_begun (Some k) ts ih f = within_none k [] (ih (Within k []) f).0
 
-none_letter : (h : Hand) (b : ℕ) (ts : List Token) → ((h : Hand) → NoneClean h ts) → behind_turn (with_letter h b) (λ j. commands_of j ts) ≡ ([], Clean) → ⊥
+none_letter : (h : CommandHand) (b : ℕ) (ts : List Token) → ((h : CommandHand) → NoneClean h ts) → behind_turn (with_letter h b) (λ j. commands_of j ts) ≡ ([], Clean) → ⊥
 none_letter Nothing b ts ih f = none_begun (kind_of_letter b) ts ih f
 none_letter (Within k done) b ts ih f = malformed f
 
-none_token : (h : Hand) (t : Token) (ts : List Token) → IsWord t → ((h : Hand) → NoneClean h ts) → behind_turn (turn h t) (λ j. commands_of j ts) ≡ ([], Clean) → ⊥
+none_token : (h : CommandHand) (t : Token) (ts : List Token) → IsWord t → ((h : CommandHand) → NoneClean h ts) → behind_turn (command_turn h t) (λ j. commands_of j ts) ≡ ([], Clean) → ⊥
 none_token h (Number negative value) ts w ih f = none_number h negative value ts (nat_eq value 0) refl ih f
 none_token h (Letter b) ts w ih f = none_letter h b ts ih f
 none_token h (Header v c) ts w ih f = absurd w
 none_token h Wrong ts w ih f = malformed f
 
-none_nil : (h : Hand) → ◌≡◌ {A = Reading} ([], at_end h) ([], Clean) → (h ≡ Nothing) × (◌≡◌ {A = List Token} [] [])
+none_nil : (h : CommandHand) → ◌≡◌ {A = Reading} ([], at_end h) ([], Clean) → (h ≡ Nothing) × (◌≡◌ {A = List Token} [] [])
 none_nil Nothing e = (refl, refl)
 none_nil (Within k done) e = malformed e
 
-none_left : (ts : List Token) → AreWords ts → (h : Hand) → NoneClean h ts
+none_left : (ts : List Token) → AreWords ts → (h : CommandHand) → NoneClean h ts
 none_left [] w h e = none_nil h (sym (commands_of_nil h) ∙ e)
 none_left (t ∷ ts) w h e = absurd (none_token h t ts w.0 (none_left ts w.1) (sym (commands_of_cons h t ts) ∙ e))
 
 -- BOTH ENDS
-onto_is : (c : Command) (r : Reading) (end : Ending) {A : Type 0} → ◌≡◌ {A = Reading} ([], end) (onto_commands (c ∷ []) r) → A
+onto_is : (c : Command) (r : Reading) (end : ScriptEnding) {A : Type 0} → ◌≡◌ {A = Reading} ([], end) (onto_commands (c ∷ []) r) → A
 onto_is c r end e = onto_some c r end (sym e)
 
 begins_none : (rest : List Token) → commands_of Nothing rest ≡ ([], Malformed) → BeginsNone rest
@@ -322,7 +322,7 @@ begins_none rest e = record {
   none = λ c front later s f. onto_is c (commands_of Nothing later) Malformed (sym e ∙ ap (commands_of Nothing) f ∙ reads_command c front later s);
 }
 
-broken_reads_as : (rest : List Token) (cs : List Command) (end : Ending) → AreWords rest → BeginsNone rest → commands_of Nothing rest ≡ (cs, end) → commands_of Nothing rest ≡ ([], Malformed)
+broken_reads_as : (rest : List Token) (cs : List Command) (end : ScriptEnding) → AreWords rest → BeginsNone rest → commands_of Nothing rest ≡ (cs, end) → commands_of Nothing rest ≡ ([], Malformed)
 broken_reads_as rest [] Malformed w b e = e
 broken_reads_as rest [] Clean w b e = absurd (b.some (none_left rest w Nothing e).1)
 broken_reads_as rest (c ∷ cs) end w b e = let f = all_first rest w Nothing c cs end e in absurd (b.none c f.front f.later f.spelled f.whole)
@@ -330,16 +330,16 @@ broken_reads_as rest (c ∷ cs) end w b e = let f = all_first rest w Nothing c c
 broken_reads : (rest : List Token) → AreWords rest → BeginsNone rest → commands_of Nothing rest ≡ ([], Malformed)
 broken_reads rest w b = broken_reads_as rest (commands_of Nothing rest).0 (commands_of Nothing rest).1 w b refl
 
-to_spelled : (cs : List Command) (end : Ending) (ts : List Token) → Spelled cs end ts → SpellsTo cs end ts
+to_spelled : (cs : List Command) (end : ScriptEnding) (ts : List Token) → Spelled cs end ts → SpellsTo cs end ts
 to_spelled cs Clean ts s =
     let none : s.rest ≡ [] = (none_left s.rest s.words Nothing s.left).1 in
     subst (SpellsCommands cs) (sym (s.whole ∙ ap (λ (us : List Token). s.front ++ us) none ∙ append-nil s.front)) s.spelled
 to_spelled cs Malformed ts s = (s.front, s.rest, s.spelled, begins_none s.rest s.left, s.whole)
 
-onto_none : (cs : List Command) (end : Ending) → onto_commands cs ([], end) ≡ (cs, end)
+onto_none : (cs : List Command) (end : ScriptEnding) → onto_commands cs ([], end) ≡ (cs, end)
 onto_none cs end = ap (λ (xs : List Command). (xs, end)) (append-nil cs)
 
-to_read : (cs : List Command) (end : Ending) (ts : List Token) → AreWords ts → SpellsTo cs end ts → commands_of Nothing ts ≡ (cs, end)
+to_read : (cs : List Command) (end : ScriptEnding) (ts : List Token) → AreWords ts → SpellsTo cs end ts → commands_of Nothing ts ≡ (cs, end)
 to_read cs Clean ts w s =
     ap (commands_of Nothing) (sym (append-nil ts)) ∙ reads_spelled cs ts [] s ∙ ap (onto_commands cs) (commands_of_nil Nothing) ∙ onto_none cs Clean
 to_read cs Malformed ts w s =
@@ -351,7 +351,7 @@ written_is : (text : List ℕ) → written text ≡ commands_of Nothing (spoken 
 unfolding written
 written_is text = refl
 
-reading_is : (text : List ℕ) → reading text ≡ with_ask (is_some (header_of text)) (written text)
+reading_is : (text : List ℕ) → reading text ≡ with_ask (is_some (dimacs_header text)) (written text)
 unfolding reading
 reading_is text = refl
 
@@ -373,11 +373,11 @@ no_header (Letter b ∷ ts) w = refl
 no_header (Header v c ∷ ts) w = absurd w.0
 no_header (Wrong ∷ ts) w = refl
 
-headless_read : (ts : List Token) (cs : List Command) (end : Ending) → AreWords ts → SpellsScript cs end ts → commands_of Nothing ts ≡ (cs, end)
+headless_read : (ts : List Token) (cs : List Command) (end : ScriptEnding) → AreWords ts → SpellsScript cs end ts → commands_of Nothing ts ≡ (cs, end)
 headless_read ts cs end w (inl s) = to_read cs end ts w s.1
 headless_read ts cs end w (inr (v, c, rest, spelled, e, s, f)) = absurd (let h : AreWords (Header v c ∷ rest) = subst AreWords e w in h.0)
 
-headless : (ts : List Token) (cs : List Command) (end : Ending) → AreWords ts → with_ask (headed ts) (commands_of Nothing ts) ≡ (cs, end) ↔ SpellsScript cs end ts
+headless : (ts : List Token) (cs : List Command) (end : ScriptEnding) → AreWords ts → with_ask (headed ts) (commands_of Nothing ts) ≡ (cs, end) ↔ SpellsScript cs end ts
 headless ts cs end w =
     let none = no_header ts w in (
       λ e. inl (
@@ -392,18 +392,18 @@ asked_clean : (w : List Command) (ask : Bool) → has_ask w ≡ ask → with_ask
 asked_clean w true a = rw a refl
 asked_clean w false a = rw a refl
 
-asked_is : (w : List Command) (end : Ending) → with_ask true (w, end) ≡ (asked w end, end)
+asked_is : (w : List Command) (end : ScriptEnding) → with_ask true (w, end) ≡ (asked w end, end)
 asked_is w Clean = asked_clean w (has_ask w) refl
 asked_is w Malformed = refl
 
-headed_read : (v c : ℕ) (ts : List Token) (cs : List Command) (end : Ending) → AreWords ts → SpellsScript cs end (Header v c ∷ ts) → with_ask true (commands_of Nothing ts) ≡ (cs, end)
+headed_read : (v c : ℕ) (ts : List Token) (cs : List Command) (end : ScriptEnding) → AreWords ts → SpellsScript cs end (Header v c ∷ ts) → with_ask true (commands_of Nothing ts) ≡ (cs, end)
 headed_read v c ts cs end w (inl s) = absurd (s.0 v c ts refl)
 headed_read v c ts cs end w (inr (u, d, rest, spelled, e, s, f)) =
     let same : ts ≡ rest = ap (drop 1) e in
     let k : AreWords rest = subst AreWords same w in
     ap (λ (us : List Token). with_ask true (commands_of Nothing us)) same ∙ ap (with_ask true) (to_read spelled end rest k s) ∙ asked_is spelled end ∙ ap (λ (ds : List Command). (ds, end)) (sym f)
 
-headed_script : (v c : ℕ) (ts : List Token) (cs : List Command) (end : Ending) → AreWords ts → with_ask true (commands_of Nothing (Header v c ∷ ts)) ≡ (cs, end) ↔ SpellsScript cs end (Header v c ∷ ts)
+headed_script : (v c : ℕ) (ts : List Token) (cs : List Command) (end : ScriptEnding) → AreWords ts → with_ask true (commands_of Nothing (Header v c ∷ ts)) ≡ (cs, end) ↔ SpellsScript cs end (Header v c ∷ ts)
 headed_script v c ts cs end w =
     let goes_on : commands_of Nothing (Header v c ∷ ts) ≡ commands_of Nothing ts = commands_of_cons Nothing (Header v c) ts in
     let r = commands_of Nothing ts in (
@@ -416,13 +416,13 @@ headed_script v c ts cs end w =
             ts,
             r.0,
             refl,
-            subst (λ (d : Ending). SpellsTo r.0 d ts) last (to_spelled r.0 r.1 ts (all_spelled r.0 r.1 ts w refl)),
+            subst (λ (d : ScriptEnding). SpellsTo r.0 d ts) last (to_spelled r.0 r.1 ts (all_spelled r.0 r.1 ts w refl)),
             sym (ap (λ (x : Reading). x.0) h) ∙ ap (asked r.0) last,
           ),
       λ s. ap (with_ask true) goes_on ∙ headed_read v c ts cs end w s,
     )
 
-script_if : (ts : List Token) (cs : List Command) (end : Ending) → AreScript ts → with_ask (headed ts) (commands_of Nothing ts) ≡ (cs, end) ↔ SpellsScript cs end ts
+script_if : (ts : List Token) (cs : List Command) (end : ScriptEnding) → AreScript ts → with_ask (headed ts) (commands_of Nothing ts) ≡ (cs, end) ↔ SpellsScript cs end ts
 script_if ts cs end (inl w) = headless ts cs end w
 script_if ts cs end (inr (v, c, rest, w, e)) = rw e (headed_script v c rest cs end w)
 

@@ -4,7 +4,7 @@ use Rattle.std.proofs.lemmas.List.{append-nil}
 use Rattle.sat_base.specs.declared.steps.error.StepError.{StepError}
 use Rattle.sat_base.specs.declared.steps.error.StepError.TheVariants as errors
 use Rattle.sat_base.specs.steps.Formats.{Format, Open, Then, Times, ListOf, OneForm}
-use Rattle.sat_base.specs.device.Reading.{Source, Passes, Reads, giving, valued}
+use Rattle.sat_base.specs.device.Reading.{Source, Passes, ReadsValue, giving, valued}
 use Rattle.sat_base.proofs.lemmas.steps.Formats.{HasText, live_first, shut_first, live_second, shut_second, Times_text, to_items, from_items}
 use Rattle.sat_base.proofs.lemmas.device.ReadLemmas.{passes_none, passes_more, faults_later}
 
@@ -16,7 +16,7 @@ open_first F G front some o =
 open_second : {A B : Type 0} (F : Format A) (G : A → Format B) (x : A) (a front : List ℕ) → F x a → Open (G x) front → Open (Then F G) (a ++ front)
 open_second F G x a front f o = ((x, o.0), o.1, (a, front ++ o.1, f, o.2, append_assoc a front o.1))
 
-pub first_fails : {A B : Type 0} (F : Format A) (G : A → Format B) → OneForm F → ((x : A) → HasText (G x)) → (e : StepError) (old new : Source) → Reads F (Err e) old new → Reads (Then F G) (Err e) old new
+pub first_fails : {A B : Type 0} (F : Format A) (G : A → Format B) → OneForm F → ((x : A) → HasText (G x)) → (e : StepError) (old new : Source) → ReadsValue F (Err e) old new → ReadsValue (Then F G) (Err e) old new
 first_fails F G one some errors.Cut old new r = (r.0, r.1, live_first F G r.0 some r.2)
 first_fails F G one some errors.BadByte old new r = (r.0, r.1, r.2, live_first F G r.0 some r.3, shut_first F G one r.0 r.1 r.3 r.4)
 first_fails F G one some errors.Read old new r = (r.0, r.1, live_first F G r.0 some r.2)
@@ -24,7 +24,7 @@ first_fails F G one some errors.OutOfMemory old new r = (r.0, r.1, open_first F 
 first_fails F G one some errors.Ends old new r = absurd r
 first_fails F G one some errors.HasFailed old new r = absurd r
 
-pub second_gives : {A B : Type 0} (F : Format A) (G : A → Format B) → OneForm F → (x : A) (a : List ℕ) (old mid new : Source) → F x a → Passes old mid a → (r : Result B StepError) → Reads (G x) r mid new → Reads (Then F G) (valued (λ y. (x, y)) r) old new
+pub second_gives : {A B : Type 0} (F : Format A) (G : A → Format B) → OneForm F → (x : A) (a : List ℕ) (old mid new : Source) → F x a → Passes old mid a → (r : Result B StepError) → ReadsValue (G x) r mid new → ReadsValue (Then F G) (valued (λ y. (x, y)) r) old new
 second_gives F G one x a old mid new f p (Ok y) r = (a ++ r.0, passes_more old mid new a r.0 p r.1, (a, r.0, f, r.2, refl))
 second_gives F G one x a old mid new f p (Err errors.Cut) r = (a ++ r.0, (passes_more old mid new a r.0 p r.1.0, r.1.1), live_second F G x a r.0 f r.2)
 second_gives F G one x a old mid new f p (Err errors.BadByte) r = (a ++ r.0, r.1, subst (Passes old new) (sym (append_assoc a r.0 (r.1 ∷ []))) (passes_more old mid new a (r.0 ++ r.1 ∷ []) p r.2), live_second F G x a r.0 f r.3, shut_second F G one x a r.0 r.1 f r.4)
@@ -34,7 +34,7 @@ second_gives F G one x a old mid new f p (Err errors.Ends) r = absurd r
 second_gives F G one x a old mid new f p (Err errors.HasFailed) r = absurd r
 
 -- a reader of a format is one of another whose texts are the same, under values that are made of the first's
-pub reads_as : {A B : Type 0} (H : Format A) (K : Format B) (f : A → B) → ((x : A) (t : List ℕ) → H x t → K (f x) t) → ((y : B) (t : List ℕ) → K y t → (x : A) × H x t) → (r : Result A StepError) (old new : Source) → Reads H r old new → Reads K (valued f r) old new
+pub reads_as : {A B : Type 0} (H : Format A) (K : Format B) (f : A → B) → ((x : A) (t : List ℕ) → H x t → K (f x) t) → ((y : B) (t : List ℕ) → K y t → (x : A) × H x t) → (r : Result A StepError) (old new : Source) → ReadsValue H r old new → ReadsValue K (valued f r) old new
 reads_as H K f to back (Ok x) old new r = (r.0, r.1, to x r.0 r.2)
 reads_as H K f to back (Err errors.Cut) old new r = (r.0, r.1, (f r.2.0, r.2.1, r.2.2, to r.2.0 (r.0 ++ r.2.1 ∷ r.2.2) r.2.3))
 reads_as H K f to back (Err errors.BadByte) old new r = (r.0, r.1, r.2, (f r.3.0, r.3.1, r.3.2, to r.3.0 (r.0 ++ r.3.1 ∷ r.3.2) r.3.3), λ o. let h = back o.0 ((r.0 ++ r.1 ∷ []) ++ o.1) o.2 in r.4 (h.0, o.1, h.1))
@@ -48,7 +48,7 @@ abbrev pub with_front : {A : Type 0} → List A → Result (List A) StepError �
 with_front xs (Ok ys) = Ok (xs ++ ys)
 with_front xs (Err e) = Err e
 
-item_fails : {A : Type 0} (F : Format A) → OneForm F → HasText F → (n : ℕ) (e : StepError) (old new : Source) → Reads F (Err e) old new → Reads (Times F (suc n)) (Err e) old new
+item_fails : {A : Type 0} (F : Format A) → OneForm F → HasText F → (n : ℕ) (e : StepError) (old new : Source) → ReadsValue F (Err e) old new → ReadsValue (Times F (suc n)) (Err e) old new
 item_fails F one some n e old new r =
     reads_as (Then F (λ _. Times F n)) (Times F (suc n)) (λ x. x.0 ∷ x.1) (to_items F n) (from_items F n) (Err e) old new (first_fails F (λ _. Times F n) one (λ x. Times_text F some n) e old new r)
 
@@ -56,14 +56,14 @@ consed : {A : Type 0} (x : A) (r : Result (List A) StepError) → valued {A = A 
 consed x (Ok y) = refl
 consed x (Err e) = refl
 
-item_read : {A : Type 0} (F : Format A) → OneForm F → (n : ℕ) (x : A) (old mid new : Source) → Reads F (Ok x) old mid → (r : Result (List A) StepError) → Reads (Times F n) r mid new → Reads (Times F (suc n)) (with_front (x ∷ []) r) old new
+item_read : {A : Type 0} (F : Format A) → OneForm F → (n : ℕ) (x : A) (old mid new : Source) → ReadsValue F (Ok x) old mid → (r : Result (List A) StepError) → ReadsValue (Times F n) r mid new → ReadsValue (Times F (suc n)) (with_front (x ∷ []) r) old new
 item_read {A} F one n x old mid new i r h =
-    subst (λ (z : Result (List A) StepError). Reads (Times F (suc n)) z old new) (consed x r)
+    subst (λ (z : Result (List A) StepError). ReadsValue (Times F (suc n)) z old new) (consed x r)
     (reads_as (Then F (λ _. Times F n)) (Times F (suc n)) (λ y. y.0 ∷ y.1) (to_items F n) (from_items F n) (valued (λ y. (x, y)) r) old new (second_gives F (λ _. Times F n) one x i.0 old mid new i.2 i.1 r h))
 
 -- A LOOP OVER A COUNT: whatever is read of the rest, behind what is read already, is read of all
 pub record Counted {A : Type 0} (F : Format A) (count left : ℕ) (xs : List A) (old mid : Source) : Type 0 where
-  pub rests : (r : Result (List A) StepError) (new : Source) → Reads (Times F left) r mid new → Reads (Times F count) (with_front xs r) old new
+  pub rests : (r : Result (List A) StepError) (new : Source) → ReadsValue (Times F left) r mid new → ReadsValue (Times F count) (with_front xs r) old new
 
 front_none : {A : Type 0} (r : Result (List A) StepError) → r ≡ with_front [] r
 front_none (Ok x) = refl
@@ -71,28 +71,28 @@ front_none (Err e) = refl
 
 pub counted_start : {A : Type 0} (F : Format A) (count left : ℕ) (xs : List A) (old : Source) → left ≡ count → xs ≡ [] → Counted F count left xs old old
 counted_start {A} F count left xs old e d = record {
-  rests = λ r new h. subst (λ (z : List A). Reads (Times F count) (with_front z r) old new) (sym d) (subst (λ (z : Result (List A) StepError). Reads (Times F count) z old new) (front_none r) (subst (λ (n : ℕ). Reads (Times F n) r old new) e h));
+  rests = λ r new h. subst (λ (z : List A). ReadsValue (Times F count) (with_front z r) old new) (sym d) (subst (λ (z : Result (List A) StepError). ReadsValue (Times F count) z old new) (front_none r) (subst (λ (n : ℕ). ReadsValue (Times F n) r old new) e h));
 }
 
 front_cons : {A : Type 0} (xs : List A) (x : A) (r : Result (List A) StepError) → with_front xs (with_front (x ∷ []) r) ≡ with_front (xs ++ x ∷ []) r
 front_cons xs x (Ok y) = ap (λ zs. Ok zs) (sym (append_assoc xs (x ∷ []) y))
 front_cons xs x (Err e) = refl
 
-pub counted_more : {A : Type 0} (F : Format A) → OneForm F → (count left more : ℕ) (xs : List A) (x : A) (old mid later : Source) → left ≡ suc more → Reads F (Ok x) mid later → Counted F count left xs old mid → Counted F count more (xs ++ x ∷ []) old later
+pub counted_more : {A : Type 0} (F : Format A) → OneForm F → (count left more : ℕ) (xs : List A) (x : A) (old mid later : Source) → left ≡ suc more → ReadsValue F (Ok x) mid later → Counted F count left xs old mid → Counted F count more (xs ++ x ∷ []) old later
 counted_more {A} F one count left more xs x old mid later e i c = record {
-  rests = λ r new h. subst (λ (z : Result (List A) StepError). Reads (Times F count) z old new) (front_cons xs x r) (c.rests (with_front (x ∷ []) r) new (subst (λ (n : ℕ). Reads (Times F n) (with_front (x ∷ []) r) mid new) (sym e) (item_read F one more x mid later new i r h)));
+  rests = λ r new h. subst (λ (z : Result (List A) StepError). ReadsValue (Times F count) z old new) (front_cons xs x r) (c.rests (with_front (x ∷ []) r) new (subst (λ (n : ℕ). ReadsValue (Times F n) (with_front (x ∷ []) r) mid new) (sym e) (item_read F one more x mid later new i r h)));
 }
 
-pub counted_fails : {A : Type 0} (F : Format A) → OneForm F → HasText F → (count left more : ℕ) (xs : List A) (old mid new : Source) (e : StepError) → left ≡ suc more → Reads F (Err e) mid new → Counted F count left xs old mid → Reads (Times F count) (Err e) old new
-counted_fails F one some count left more xs old mid new e is i c = c.rests (Err e) new (subst (λ (n : ℕ). Reads (Times F n) (Err e) mid new) (sym is) (item_fails F one some more e mid new i))
+pub counted_fails : {A : Type 0} (F : Format A) → OneForm F → HasText F → (count left more : ℕ) (xs : List A) (old mid new : Source) (e : StepError) → left ≡ suc more → ReadsValue F (Err e) mid new → Counted F count left xs old mid → ReadsValue (Times F count) (Err e) old new
+counted_fails F one some count left more xs old mid new e is i c = c.rests (Err e) new (subst (λ (n : ℕ). ReadsValue (Times F n) (Err e) mid new) (sym is) (item_fails F one some more e mid new i))
 
 -- an item that was read, and then no room for it: some text has it there, and so many more behind it
-pub counted_no_room : {A : Type 0} (F : Format A) → OneForm F → HasText F → (count left more : ℕ) (xs : List A) (x : A) (old mid new : Source) → left ≡ suc more → Reads F (Ok x) mid new → Counted F count left xs old mid → Reads (Times F count) (Err errors.OutOfMemory) old new
+pub counted_no_room : {A : Type 0} (F : Format A) → OneForm F → HasText F → (count left more : ℕ) (xs : List A) (x : A) (old mid new : Source) → left ≡ suc more → ReadsValue F (Ok x) mid new → Counted F count left xs old mid → ReadsValue (Times F count) (Err errors.OutOfMemory) old new
 counted_no_room F one some count left more xs x old mid new is i c = (counted_more F one count left more xs x old mid new is i c).rests (Err errors.OutOfMemory) new ([], passes_none new, Times_text F some more)
 
-pub counted_all : {A : Type 0} (F : Format A) (count left : ℕ) (xs : List A) (old mid : Source) → left ≡ 0 → Counted F count left xs old mid → Reads (Times F count) (Ok xs) old mid
+pub counted_all : {A : Type 0} (F : Format A) (count left : ℕ) (xs : List A) (old mid : Source) → left ≡ 0 → Counted F count left xs old mid → ReadsValue (Times F count) (Ok xs) old mid
 counted_all {A} F count left xs old mid e c =
-    subst (λ (zs : List A). Reads (Times F count) (Ok zs) old mid) (append-nil xs) (c.rests (Ok []) mid (subst (λ (n : ℕ). Reads (Times F n) (Ok []) mid mid) (sym e) ([], passes_none mid, (refl, refl))))
+    subst (λ (zs : List A). ReadsValue (Times F count) (Ok zs) old mid) (append-nil xs) (c.rests (Ok []) mid (subst (λ (n : ℕ). ReadsValue (Times F n) (Ok []) mid mid) (sym e) ([], passes_none mid, (refl, refl))))
 
 -- A LIST: a count, and then so many items
 to_list : {A : Type 0} (C : Format ℕ) (F : Format A) (x : ℕ × List A) (t : List ℕ) → Then C (Times F) x t → ListOf C F x.1 t
@@ -108,13 +108,13 @@ twice : {A : Type 0} (n : ℕ) (r : Result (List A) StepError) → valued second
 twice n (Ok x) = refl
 twice n (Err e) = refl
 
-pub list_fails : {A : Type 0} (C : Format ℕ) (F : Format A) → OneForm C → HasText F → (e : StepError) (old new : Source) → Reads C (Err e) old new → Reads (ListOf C F) (Err e) old new
+pub list_fails : {A : Type 0} (C : Format ℕ) (F : Format A) → OneForm C → HasText F → (e : StepError) (old new : Source) → ReadsValue C (Err e) old new → ReadsValue (ListOf C F) (Err e) old new
 list_fails C F one some e old new r =
     reads_as (Then C (Times F)) (ListOf C F) (λ x. x.1) (to_list C F) (from_list C F) (Err e) old new (first_fails C (Times F) one (λ n. Times_text F some n) e old new r)
 
-pub list_gives : {A : Type 0} (C : Format ℕ) (F : Format A) → OneForm C → (n : ℕ) (old mid new : Source) → Reads C (Ok n) old mid → (r : Result (List A) StepError) → Reads (Times F n) r mid new → Reads (ListOf C F) r old new
+pub list_gives : {A : Type 0} (C : Format ℕ) (F : Format A) → OneForm C → (n : ℕ) (old mid new : Source) → ReadsValue C (Ok n) old mid → (r : Result (List A) StepError) → ReadsValue (Times F n) r mid new → ReadsValue (ListOf C F) r old new
 list_gives {A} C F one n old mid new c r h =
-    subst (λ (z : Result (List A) StepError). Reads (ListOf C F) z old new) (twice n r)
+    subst (λ (z : Result (List A) StepError). ReadsValue (ListOf C F) z old new) (twice n r)
     (reads_as (Then C (Times F)) (ListOf C F) second (to_list C F) (from_list C F) (valued (λ y. (n, y)) r) old new (second_gives C (Times F) one n c.0 old mid new c.2 c.1 r h))
 
 -- a second value that was put elsewhere
@@ -127,7 +127,7 @@ pair_valued x f (Ok z) = refl
 pair_valued x f (Err e) = refl
 
 -- an error of a part, at a tag that a test has told
-pub stops_at : {X B : Type 0} (F : ℕ → Format B) (t tag : ℕ) (f : X → B) (r : Result X StepError) (d e : StepError) (old new : Source) → r ≡ Err d → d ≡ e → tag ≡ t → Reads (F t) (Err e) old new → Reads (F tag) (valued f r) old new
+pub stops_at : {X B : Type 0} (F : ℕ → Format B) (t tag : ℕ) (f : X → B) (r : Result X StepError) (d e : StepError) (old new : Source) → r ≡ Err d → d ≡ e → tag ≡ t → ReadsValue (F t) (Err e) old new → ReadsValue (F tag) (valued f r) old new
 stops_at {X} {B} F t tag f r d e old new p q k h =
-    subst (λ (z : Result X StepError). Reads (F tag) (valued f z) old new) (sym p)
-    (subst (λ (z : StepError). Reads (F tag) (Err z) old new) (sym q) (subst (λ (n : ℕ). Reads (F n) (Err e) old new) (sym k) h))
+    subst (λ (z : Result X StepError). ReadsValue (F tag) (valued f z) old new) (sym p)
+    (subst (λ (z : StepError). ReadsValue (F tag) (Err z) old new) (sym q) (subst (λ (n : ℕ). ReadsValue (F n) (Err e) old new) (sym k) h))

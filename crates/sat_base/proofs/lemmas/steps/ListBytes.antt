@@ -5,7 +5,7 @@ use Rattle.std.proofs.Math.Seq.{drop-cons}
 use Rattle.sat_base.specs.values.Literals.{largest}
 use Rattle.sat_base.specs.steps.Formats.{Items, Both, ListOf}
 use Rattle.sat_base.specs.steps.Numbers.{IsBelow}
-use Rattle.sat_base.specs.steps.StepText.{IsOptionalVariable, IsLiteral, IsHash, IsFlag, IsDeletion, AreUnits, tag_of, SpellsFields, SpellsStep}
+use Rattle.sat_base.specs.steps.StepText.{IsOptionalVariable, IsLiteral, IsHash, IsFlag, IsDeletion, AreHashedLiterals, tag_of, SpellsFields, SpellsStep}
 use Rattle.sat_base.specs.steps.StepBytes.{number_bytes, optional_bytes, flag_bytes, deletion_bytes, numbers_bytes, pairs_bytes, list_bytes, units_bytes, fields_bytes, step_bytes}
 use Rattle.sat_base.specs.steps.Steps.{Step, Deletion}
 use Rattle.sat_base.specs.device.Sink.{Sink, Sent, Broken, Sends, Writes}
@@ -45,7 +45,7 @@ pairs_of : (ps : List (ℕ × ℕ)) → ((k : ℕ) → k < length ps → ((get_o
 pairs_of [] f = refl
 pairs_of (p ∷ ps) f = let h = f 0 (omega arith) in (number_bytes p.0 ++ number_bytes p.1, pairs_bytes ps, spells_pair p h.0 h.1, pairs_of ps (λ k i. f (suc k) (omega arith)), refl)
 
-pub spells_units : (ps : List (ℕ × ℕ)) → length ps < 2 ^ 64 → ((k : ℕ) → k < length ps → ((get_or ps k (0, 0)).0 < 2 * largest) × ((get_or ps k (0, 0)).1 < 2 ^ 64)) → AreUnits ps (units_bytes ps)
+pub spells_units : (ps : List (ℕ × ℕ)) → length ps < 2 ^ 64 → ((k : ℕ) → k < length ps → ((get_or ps k (0, 0)).0 < 2 * largest) × ((get_or ps k (0, 0)).1 < 2 ^ 64)) → AreHashedLiterals ps (units_bytes ps)
 spells_units ps l f = (number_bytes (length ps), pairs_bytes ps, spells_number (2 ^ 64) (length ps) l (omega arith), pairs_of ps f, refl)
 
 -- A STEP: its tag, and its fields

@@ -1,7 +1,7 @@
 -- Numbers, read from their low end.
 use Rattle.std.proofs.Common.{◌≡◌, ℕ, ◌+◌, ◌*◌, ◌-◌, ◌<◌, ◌≤◌, List, [], ◌∷◌, ◌++◌, ◌⊎◌, inl, inr, append_assoc, refl, sym, ap, subst, ◌∙◌, arith}
 use Rattle.std.proofs.Math.Nat.{mul-le-mul_left}
-use Rattle.sat_base.specs.steps.Formats.{Live, Open, OneForm}
+use Rattle.sat_base.specs.steps.Formats.{IsProperFront, Open, OneForm}
 use Rattle.sat_base.proofs.lemmas.steps.Formats.{HasText}
 use Rattle.sat_base.specs.steps.Numbers.{IsNumber, IsBelow}
 
@@ -50,7 +50,7 @@ front_more front value place b p q f = record {
 }
 
 -- THE READER'S EXITS, behind a front
-pub live : (limit : ℕ) (front : List ℕ) (value place : ℕ) → Front front value place → value + place < limit → Live (IsBelow limit) front
+pub live : (limit : ℕ) (front : List ℕ) (value place : ℕ) → Front front value place → value + place < limit → IsProperFront (IsBelow limit) front
 live limit front value place f h =
     (value + place * 1, 1, [], (f.completes 1 (1 ∷ []) (omega arith, refl) (inr (omega arith)), omega arith))
 

@@ -5,7 +5,7 @@ use Rattle.sat_base.specs.values.Literals.{largest}
 use Rattle.sat_base.specs.steps.Formats.{Format, Both, Items, ListOf}
 use Rattle.sat_base.specs.steps.Numbers.{IsNumber, IsBelow}
 use Rattle.sat_base.specs.steps.Steps.{Deletion, Redundant, Simplified, Satisfied, Step, SolverVarName, UserVarName, DeleteVar, ChangeSamplingMode, AddClause, AtClause, UnitClauses, DeleteClause, ChangeHashBits, Model, Assumptions, FailedAssumptions, End}
-use Rattle.sat_base.specs.steps.StepText.{tag_of, IsVariable, IsOptionalVariable, IsLiteral, IsHash, IsFlag, IsDeletion, AreLiterals, AreHashes, AreUnits, SpellsFields, SpellsStep}
+use Rattle.sat_base.specs.steps.StepText.{tag_of, IsVariable, IsOptionalVariable, IsLiteral, IsHash, IsFlag, IsDeletion, AreLiterals, AreHashes, AreHashedLiterals, SpellsFields, SpellsStep}
 use Rattle.sat_base.specs.steps.StepBytes.{groups, number_bytes, optional_bytes, flag_bytes, deletion_bytes, numbers_bytes, pairs_bytes, list_bytes, units_bytes, fields_bytes, step_bytes}
 use Rattle.sat_base.proofs.lemmas.steps.NumberBytes.{groups_last, groups_on}
 
@@ -59,7 +59,7 @@ pairs_are : (ps : List (ℕ × ℕ)) (text : List ℕ) → Items (Both IsLiteral
 pairs_are [] text h = h
 pairs_are (p ∷ ps) text h = h.4 ∙ ap₂ ◌++◌ (pair_is p h.0 h.2) (pairs_are ps h.1 h.3)
 
-units_are : (ps : List (ℕ × ℕ)) (text : List ℕ) → AreUnits ps text → text ≡ units_bytes ps
+units_are : (ps : List (ℕ × ℕ)) (text : List ℕ) → AreHashedLiterals ps text → text ≡ units_bytes ps
 units_are ps text h = h.4 ∙ ap₂ ◌++◌ (below_is (2 ^ 64) (length ps) h.0 (omega arith) h.2) (pairs_are ps h.1 h.3)
 
 literals_are : (ls text : List ℕ) → AreLiterals ls text → text ≡ list_bytes ls

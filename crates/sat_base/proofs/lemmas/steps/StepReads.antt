@@ -6,9 +6,9 @@ use Rattle.sat_base.specs.steps.Formats.{Format, Both, Items, ListOf, OneForm}
 use Rattle.sat_base.specs.values.Literals.{largest}
 use Rattle.sat_base.specs.steps.Numbers.{IsBelow}
 use Rattle.sat_base.specs.steps.Steps.{Deletion, Redundant, Simplified, Satisfied, Step, SolverVarName, UserVarName, DeleteVar, ChangeSamplingMode, AddClause, AtClause, UnitClauses, DeleteClause, ChangeHashBits, Model, Assumptions, FailedAssumptions, End}
-use Rattle.sat_base.specs.steps.StepText.{IsVariable, IsOptionalVariable, IsLiteral, IsHash, IsFlag, IsWidth, IsDeletion, AreLiterals, AreHashes, AreUnits, tag_of, SpellsFields, SpellsStep, SpellsSteps}
+use Rattle.sat_base.specs.steps.StepText.{IsVariable, IsOptionalVariable, IsLiteral, IsHash, IsFlag, IsWidth, IsDeletion, AreLiterals, AreHashes, AreHashedLiterals, tag_of, SpellsFields, SpellsStep, SpellsSteps}
 use Rattle.sat_base.specs.steps.Kinds.{is_tag}
-use Rattle.sat_base.specs.device.Reading.{Source, Passes, Reads, Answers, Behind, NextByte}
+use Rattle.sat_base.specs.device.Reading.{Source, Passes, ReadsValue, AnswersStepRead, Behind, NextByte}
 use Rattle.sat_base.proofs.lemmas.steps.Formats.{HasText, cancel, one_then}
 use Rattle.sat_base.proofs.lemmas.steps.Numbers.{one_below, some_below}
 use Rattle.sat_base.proofs.lemmas.device.ReadLemmas.{passes_more, faults_later}
@@ -47,7 +47,7 @@ one_both F G one two = one_then F (λ _. G) one (λ _. two)
 pub one_unit : OneForm (Both IsLiteral IsHash)
 one_unit = one_both IsLiteral IsHash (one_below (2 * largest)) (one_below (2 ^ 64))
 
-pub one_units : OneForm AreUnits
+pub one_units : OneForm AreHashedLiterals
 one_units = one_list (IsBelow (2 ^ 64)) (Both IsLiteral IsHash) (one_below (2 ^ 64)) one_unit
 
 pub one_optional : OneForm IsOptionalVariable
@@ -121,13 +121,13 @@ optional_back : (o : Option ℕ) (t : List ℕ) → IsOptionalVariable o t → (
 optional_back None t h = (0, h)
 optional_back (Some v) t h = (v + 1, h)
 
-pub optional_fails : (e : StepError) (old new : Source) → Reads (IsBelow (largest + 1)) (Err e) old new → Reads IsOptionalVariable (Err e) old new
+pub optional_fails : (e : StepError) (old new : Source) → ReadsValue (IsBelow (largest + 1)) (Err e) old new → ReadsValue IsOptionalVariable (Err e) old new
 optional_fails e old new h = reads_as (IsBelow (largest + 1)) IsOptionalVariable optional_at optional_to optional_back (Err e) old new h
 
-pub optional_none : (n : ℕ) (old new : Source) → n ≡ 0 → Reads (IsBelow (largest + 1)) (Ok n) old new → Reads IsOptionalVariable (Ok None) old new
+pub optional_none : (n : ℕ) (old new : Source) → n ≡ 0 → ReadsValue (IsBelow (largest + 1)) (Ok n) old new → ReadsValue IsOptionalVariable (Ok None) old new
 optional_none n old new e h = (h.0, h.1, subst (λ (k : ℕ). IsBelow (largest + 1) k h.0) e h.2)
 
-pub optional_some : (n v : ℕ) (old new : Source) → n ≡ v + 1 → Reads (IsBelow (largest + 1)) (Ok n) old new → Reads IsOptionalVariable (Ok (Some v)) old new
+pub optional_some : (n v : ℕ) (old new : Source) → n ≡ v + 1 → ReadsValue (IsBelow (largest + 1)) (Ok n) old new → ReadsValue IsOptionalVariable (Ok (Some v)) old new
 optional_some n v old new e h = (h.0, h.1, subst (λ (k : ℕ). IsBelow (largest + 1) k h.0) e h.2)
 
 abbrev flag_at : ℕ → Bool
@@ -142,13 +142,13 @@ flag_back : (f : Bool) (t : List ℕ) → IsFlag f t → (n : ℕ) × IsBelow 2 
 flag_back false t h = (0, h)
 flag_back true t h = (1, h)
 
-pub flag_fails : (e : StepError) (old new : Source) → Reads (IsBelow 2) (Err e) old new → Reads IsFlag (Err e) old new
+pub flag_fails : (e : StepError) (old new : Source) → ReadsValue (IsBelow 2) (Err e) old new → ReadsValue IsFlag (Err e) old new
 flag_fails e old new h = reads_as (IsBelow 2) IsFlag flag_at flag_to flag_back (Err e) old new h
 
-pub flag_false : (n : ℕ) (old new : Source) → n ≡ 0 → Reads (IsBelow 2) (Ok n) old new → Reads IsFlag (Ok false) old new
+pub flag_false : (n : ℕ) (old new : Source) → n ≡ 0 → ReadsValue (IsBelow 2) (Ok n) old new → ReadsValue IsFlag (Ok false) old new
 flag_false n old new e h = (h.0, h.1, subst (λ (k : ℕ). IsBelow 2 k h.0) e h.2)
 
-pub flag_true : (n : ℕ) (old new : Source) → (n ≡ 0 → ⊥) → Reads (IsBelow 2) (Ok n) old new → Reads IsFlag (Ok true) old new
+pub flag_true : (n : ℕ) (old new : Source) → (n ≡ 0 → ⊥) → ReadsValue (IsBelow 2) (Ok n) old new → ReadsValue IsFlag (Ok true) old new
 flag_true n old new e h = let d : n ≡ 1 = omega (arith, h.2.1) in (h.0, h.1, subst (λ (k : ℕ). IsBelow 2 k h.0) d h.2)
 
 deletion_to : (n : ℕ) (t : List ℕ) → IsBelow 3 n t → IsDeletion (deletion_at n) t
@@ -159,16 +159,16 @@ deletion_to (suc (suc n)) t h = let e : suc (suc n) ≡ 2 = omega (arith, h.1) i
 deletion_back : (d : Deletion) (t : List ℕ) → IsDeletion d t → (n : ℕ) × IsBelow 3 n t
 deletion_back d t h = (deletion_code d, deletion_below d t h)
 
-pub deletion_fails : (e : StepError) (old new : Source) → Reads (IsBelow 3) (Err e) old new → Reads IsDeletion (Err e) old new
+pub deletion_fails : (e : StepError) (old new : Source) → ReadsValue (IsBelow 3) (Err e) old new → ReadsValue IsDeletion (Err e) old new
 deletion_fails e old new h = reads_as (IsBelow 3) IsDeletion deletion_at deletion_to deletion_back (Err e) old new h
 
-pub deletion_redundant : (n : ℕ) (old new : Source) → n ≡ 0 → Reads (IsBelow 3) (Ok n) old new → Reads IsDeletion (Ok Redundant) old new
+pub deletion_redundant : (n : ℕ) (old new : Source) → n ≡ 0 → ReadsValue (IsBelow 3) (Ok n) old new → ReadsValue IsDeletion (Ok Redundant) old new
 deletion_redundant n old new e h = (h.0, h.1, subst (λ (k : ℕ). IsBelow 3 k h.0) e h.2)
 
-pub deletion_simplified : (n : ℕ) (old new : Source) → n ≡ 1 → Reads (IsBelow 3) (Ok n) old new → Reads IsDeletion (Ok Simplified) old new
+pub deletion_simplified : (n : ℕ) (old new : Source) → n ≡ 1 → ReadsValue (IsBelow 3) (Ok n) old new → ReadsValue IsDeletion (Ok Simplified) old new
 deletion_simplified n old new e h = (h.0, h.1, subst (λ (k : ℕ). IsBelow 3 k h.0) e h.2)
 
-pub deletion_satisfied : (n : ℕ) (old new : Source) → (n ≡ 0 → ⊥) → (n ≡ 1 → ⊥) → Reads (IsBelow 3) (Ok n) old new → Reads IsDeletion (Ok Satisfied) old new
+pub deletion_satisfied : (n : ℕ) (old new : Source) → (n ≡ 0 → ⊥) → (n ≡ 1 → ⊥) → ReadsValue (IsBelow 3) (Ok n) old new → ReadsValue IsDeletion (Ok Satisfied) old new
 deletion_satisfied n old new d e h = let f : n ≡ 2 = omega (arith, h.2.1) in (h.0, h.1, subst (λ (k : ℕ). IsBelow 3 k h.0) f h.2)
 
 -- THE TAG AND THE FIELDS
@@ -178,7 +178,7 @@ spelled tag step b h = (b, ap (λ (n : ℕ). n ∷ b) (sym h.0), h.1)
 behind : (tag : ℕ) (step : Step) (b : List ℕ) → SpellsStep step (tag ∷ b) → Behind tag step b
 behind tag step b h = let e : tag ≡ tag_of step = let d = h.1 in cc in let f : h.0 ≡ b = let d = h.1 in cc in (sym e, subst (SpellsFields step) f h.2)
 
-pub answers_behind : (tag : ℕ) (old mid new : Source) (r : Result Step StepError) → Passes old mid (tag ∷ []) → Reads (Behind tag) r mid new → Answers r old new
+pub answers_behind : (tag : ℕ) (old mid new : Source) (r : Result Step StepError) → Passes old mid (tag ∷ []) → ReadsValue (Behind tag) r mid new → AnswersStepRead r old new
 answers_behind tag old mid new (Ok step) p r = (tag ∷ r.0, passes_more old mid new (tag ∷ []) r.0 p r.1, spelled tag step r.0 r.2)
 answers_behind tag old mid new (Err errors.Cut) p r = (tag, r.0, (passes_more old mid new (tag ∷ []) r.0 p r.1.0, r.1.1), (r.2.0, r.2.1, r.2.2, spelled tag r.2.0 (r.0 ++ r.2.1 ∷ r.2.2) r.2.3))
 answers_behind tag old mid new (Err errors.BadByte) p r = (tag ∷ r.0, r.1, passes_more old mid new (tag ∷ []) (r.0 ++ r.1 ∷ []) p r.2, (r.3.0, r.3.1, r.3.2, spelled tag r.3.0 (r.0 ++ r.3.1 ∷ r.3.2) r.3.3), λ o. r.4 (o.0, o.1, behind tag o.0 ((r.0 ++ r.1 ∷ []) ++ o.1) o.2))
@@ -210,7 +210,7 @@ known End = refl
 no_step : (step : Step) (tag : ℕ) (b : List ℕ) → is_tag tag ≡ false → Behind tag step b → ⊥
 no_step step tag b n h = let e : is_tag tag ≡ true = ap is_tag (sym h.0) ∙ known step in cc
 
-pub unknown_tag : (tag : ℕ) (old new : Source) → is_tag tag ≡ false → Passes old new (tag ∷ []) → Answers (Err errors.BadByte) old new
+pub unknown_tag : (tag : ℕ) (old new : Source) → is_tag tag ≡ false → Passes old new (tag ∷ []) → AnswersStepRead (Err errors.BadByte) old new
 unknown_tag tag old new n p = ([], tag, p, (End, 13, [], ([], refl, refl)), λ o. no_step o.0 tag o.1 n (behind tag o.0 o.1 o.2))
 
 -- no step's text begins another's, and no text has two steps
@@ -232,7 +232,7 @@ behind_one (DeleteVar v) = form_one 3 IsVariable DeleteVar variable_form (one_be
 behind_one (ChangeSamplingMode v f) = form_one 4 (Both IsVariable IsFlag) (λ x. ChangeSamplingMode x.0 x.1) mode_form (one_both IsVariable IsFlag (one_below largest) one_flag)
 behind_one (AddClause c) = form_one 5 AreLiterals AddClause clause_form one_literals
 behind_one (AtClause f c hs) = form_one 6 (Both IsFlag (Both AreLiterals AreHashes)) (λ x. AtClause x.0 x.1.0 x.1.1) at_form (one_both IsFlag (Both AreLiterals AreHashes) one_flag one_lists)
-behind_one (UnitClauses us) = form_one 7 AreUnits UnitClauses units_form one_units
+behind_one (UnitClauses us) = form_one 7 AreHashedLiterals UnitClauses units_form one_units
 behind_one (DeleteClause c d) = form_one 8 (Both AreLiterals IsDeletion) (λ x. DeleteClause x.0 x.1) deletion_form (one_both AreLiterals IsDeletion one_literals one_deletion)
 behind_one (ChangeHashBits n) = form_one 9 IsWidth ChangeHashBits width_form (one_below 65)
 behind_one (Model c) = form_one 10 AreLiterals Model model_form one_literals
@@ -263,7 +263,7 @@ one_reading (x ∷ xs) (y ∷ ys) text h k =
     ap (λ (z : Step). z ∷ xs) p.1 ∙ ap (λ (z : List Step). y ∷ z) q
 
 -- no first byte
-pub answers_at_once : (e : StepError) (old new : Source) → NextByte (Err e) old new → Answers (Err e) old new
+pub answers_at_once : (e : StepError) (old new : Source) → NextByte (Err e) old new → AnswersStepRead (Err e) old new
 answers_at_once errors.Read old new f = ([], f, (End, 13, [], ([], refl, refl)))
 answers_at_once errors.Ends old new f = absurd f
 answers_at_once errors.Cut old new f = absurd f

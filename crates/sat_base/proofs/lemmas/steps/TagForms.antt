@@ -3,8 +3,8 @@ use Rattle.std.proofs.Common.{◌≡◌, ℕ, Bool, Option, List, [], Result, Ok
 use Rattle.sat_base.specs.declared.steps.error.StepError.{StepError}
 use Rattle.sat_base.specs.steps.Formats.{Format, Both, OneForm}
 use Rattle.sat_base.specs.steps.Steps.{Deletion, Step, SolverVarName, UserVarName, DeleteVar, ChangeSamplingMode, AddClause, AtClause, UnitClauses, DeleteClause, ChangeHashBits, Model, Assumptions, FailedAssumptions, End}
-use Rattle.sat_base.specs.steps.StepText.{IsVariable, IsOptionalVariable, IsFlag, IsWidth, IsDeletion, AreLiterals, AreHashes, AreUnits}
-use Rattle.sat_base.specs.device.Reading.{Source, Reads, Behind, valued}
+use Rattle.sat_base.specs.steps.StepText.{IsVariable, IsOptionalVariable, IsFlag, IsWidth, IsDeletion, AreLiterals, AreHashes, AreHashedLiterals}
+use Rattle.sat_base.specs.device.Reading.{Source, ReadsValue, Behind, valued}
 use Rattle.sat_base.proofs.lemmas.device.ReadLemmas.{passes_none}
 use Rattle.sat_base.proofs.lemmas.steps.FormatReads.{reads_as, stops_at}
 
@@ -13,7 +13,7 @@ pub record TagForm {A : Type 0} (tag : ℕ) (H : Format A) (f : A → Step) : Ty
   pub to : (x : A) (t : List ℕ) → H x t → Behind tag (f x) t
   pub back : (s : Step) (t : List ℕ) → Behind tag s t → (x : A) × H x t × (f x ≡ s)
 
-pub form_read : {A : Type 0} (tag : ℕ) (H : Format A) (f : A → Step) → TagForm tag H f → (r : Result A StepError) (old new : Source) → Reads H r old new → Reads (Behind tag) (valued f r) old new
+pub form_read : {A : Type 0} (tag : ℕ) (H : Format A) (f : A → Step) → TagForm tag H f → (r : Result A StepError) (old new : Source) → ReadsValue H r old new → ReadsValue (Behind tag) (valued f r) old new
 form_read tag H f k r old new h = reads_as H (Behind tag) f k.to (λ s t b. let p = k.back s t b in (p.0, p.1)) r old new h
 
 pub form_one : {A : Type 0} (tag : ℕ) (H : Format A) (f : A → Step) → TagForm tag H f → OneForm H → OneForm (Behind tag)
@@ -24,7 +24,7 @@ form_one tag H f k one x y a b s t h i e =
     (r.0, sym p.2 ∙ ap f r.1 ∙ q.2)
 
 -- an error of the fields, at a tag that a test has told
-pub stops_behind : {A X : Type 0} (t tag : ℕ) (H : Format A) (f : A → Step) → TagForm t H f → (g : X → Step) (r : Result X StepError) (d e : StepError) (old new : Source) → r ≡ Err d → d ≡ e → tag ≡ t → Reads H (Err e) old new → Reads (Behind tag) (valued g r) old new
+pub stops_behind : {A X : Type 0} (t tag : ℕ) (H : Format A) (f : A → Step) → TagForm t H f → (g : X → Step) (r : Result X StepError) (d e : StepError) (old new : Source) → r ≡ Err d → d ≡ e → tag ≡ t → ReadsValue H (Err e) old new → ReadsValue (Behind tag) (valued g r) old new
 stops_behind t tag H f k g r d e old new p q i h = stops_at Behind t tag g r d e old new p q i (form_read t H f k (Err e) old new h)
 
 solver_back : (s : Step) (t : List ℕ) → Behind 1 s t → (x : ℕ × Option ℕ) × Both IsVariable IsOptionalVariable x t × (SolverVarName x.0 x.1 ≡ s)
@@ -69,11 +69,11 @@ at_back _ t h = absurd (omega (arith, h.0))
 pub at_form : TagForm 6 (Both IsFlag (Both AreLiterals AreHashes)) (λ x. AtClause x.0 x.1.0 x.1.1)
 at_form = record { to = λ x t h. (refl, h); back = at_back }
 
-units_back : (s : Step) (t : List ℕ) → Behind 7 s t → (x : List (ℕ × ℕ)) × AreUnits x t × (UnitClauses x ≡ s)
+units_back : (s : Step) (t : List ℕ) → Behind 7 s t → (x : List (ℕ × ℕ)) × AreHashedLiterals x t × (UnitClauses x ≡ s)
 units_back (UnitClauses us) t h = (us, h.1, refl)
 units_back _ t h = absurd (omega (arith, h.0))
 
-pub units_form : TagForm 7 AreUnits UnitClauses
+pub units_form : TagForm 7 AreHashedLiterals UnitClauses
 units_form = record { to = λ x t h. (refl, h); back = units_back }
 
 deletion_back : (s : Step) (t : List ℕ) → Behind 8 s t → (x : List ℕ × Deletion) × Both AreLiterals IsDeletion x t × (DeleteClause x.0 x.1 ≡ s)
@@ -111,5 +111,5 @@ failed_back _ t h = absurd (omega (arith, h.0))
 pub failed_form : TagForm 12 (Both AreLiterals AreHashes) (λ x. FailedAssumptions x.0 x.1)
 failed_form = record { to = λ x t h. (refl, h); back = failed_back }
 
-pub end_read : (tag : ℕ) (s : Source) → 13 ≡ tag → Reads (Behind tag) (Ok End) s s
+pub end_read : (tag : ℕ) (s : Source) → 13 ≡ tag → ReadsValue (Behind tag) (Ok End) s s
 end_read tag s e = ([], passes_none s, (e, refl))

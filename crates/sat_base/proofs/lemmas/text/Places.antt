@@ -10,7 +10,7 @@ use Rattle.sat_base.specs.declared.text.Token.{Token as CodeToken}
 use Rattle.sat_base.specs.declared.text.Token.TheVariants as code
 use Rattle.sat_base.specs.text.Text.{is_blank, is_digit, minus, token, Token, Number, Letter, Wrong}
 use Rattle.sat_base.specs.text.Spot.{Stage, Spot, Fresh, Leading, Comment, Between, Within, HeaderBetween, HeaderWithin, Spoilt, Over, IsSpot, in_hand, behind_header_word, behind_blank, line_at}
-use Rattle.sat_base.specs.text.Tokenizing.{held, held_token, IsAtHeader, IsAt, Leads, Moves, Began, grown, Given, Says, ended_stage, LeadsBehind, LeadsBelow, may_come}
+use Rattle.sat_base.specs.text.Tokenizing.{held, held_token, IsAtHeader, IsAt, MovesSpot, MovesPlace, Began, grown, IsHeldToken, SaysInHand, ended_stage, LeadsBehind, LeadsBelow, may_come}
 use Rattle.sat_base.proofs.lemmas.text.Spots.{Solid-more, fresh_leads, leading_comment, leading_end, leading_header, leading_late_header, leading_word, comment_more, between_word, within_more, spoilt_more, over_more}
 use Rattle.sat_base.proofs.lemmas.text.Words.{SpellsHeld_one, SpellsHeld_more, BeginsWrong_more, BeginsWrong_letter, BeginsWrong_plain, BeginsWrong_minus, BeginsWrong_negative, word_plain, word_minus, word_bare, word_letter, word_wrong}
 
@@ -22,62 +22,62 @@ some [] b e = cc
 some (x ∷ w) b e = cc
 
 -- at the start of a line
-pub moves_comment : (may : Bool) → Moves (at.Leading may) 99 (at.Comment may)
+pub moves_comment : (may : Bool) → MovesPlace (at.Leading may) 99 (at.Comment may)
 moves_comment may spot e = rw e (Comment may, refl, leading_comment may)
 
-pub moves_end : (may : Bool) → Moves (at.Leading may) 37 at.Over
+pub moves_end : (may : Bool) → MovesPlace (at.Leading may) 37 at.Over
 moves_end may spot e = rw e (Over, refl, leading_end may)
 
-pub moves_header : (may : Bool) → may ≡ true → Moves (at.Leading may) 112 (at.Header header.P)
+pub moves_header : (may : Bool) → may ≡ true → MovesPlace (at.Leading may) 112 (at.Header header.P)
 moves_header may m spot e = rw (e, m) (HeaderWithin _ 112 [], refl, leading_header)
 
-pub moves_late_header : (may : Bool) → may ≡ false → Moves (at.Leading may) 112 at.Spoilt
+pub moves_late_header : (may : Bool) → may ≡ false → MovesPlace (at.Leading may) 112 at.Spoilt
 moves_late_header may m spot e = rw (e, m) (Spoilt, refl, leading_late_header)
 
-pub moves_word : (may : Bool) (new : Place) (b : ℕ) → is_blank b ≡ false → nat_eq b 37 ≡ false → nat_eq b 99 ≡ false → nat_eq b 112 ≡ false → Began b new → Moves (at.Leading may) b new
+pub moves_word : (may : Bool) (new : Place) (b : ℕ) → is_blank b ≡ false → nat_eq b 37 ≡ false → nat_eq b 99 ≡ false → nat_eq b 112 ≡ false → Began b new → MovesPlace (at.Leading may) b new
 moves_word may new b f g h k began spot e = rw e (Within b [], began, λ n rest. leading_word may n b rest (no_LF b f) f g h k)
 
-pub moves_fresh : (may : Bool) (new : Place) (b : ℕ) → is_blank b ≡ false → Moves (at.Leading may) b new → Moves (at.Fresh may) b new
+pub moves_fresh : (may : Bool) (new : Place) (b : ℕ) → is_blank b ≡ false → MovesPlace (at.Leading may) b new → MovesPlace (at.Fresh may) b new
 moves_fresh may new b f m spot e = let h = m (Leading may) refl in rw e (h.0, h.1, λ n rest. fresh_leads may n b rest (no_LF b f) ∙ h.2 n rest)
 
-pub moves_between : (new : Place) (b : ℕ) → is_blank b ≡ false → Began b new → Moves at.Between b new
+pub moves_between : (new : Place) (b : ℕ) → is_blank b ≡ false → Began b new → MovesPlace at.Between b new
 moves_between new b f began spot e = rw e (Within b [], began, λ n rest. between_word n b rest (no_LF b f))
 
-pub moves_in_comment : (may : Bool) (b : ℕ) → is_blank b ≡ false → Moves (at.Comment may) b (at.Comment may)
+pub moves_in_comment : (may : Bool) (b : ℕ) → is_blank b ≡ false → MovesPlace (at.Comment may) b (at.Comment may)
 moves_in_comment may b f spot e = rw e (Comment may, refl, λ n rest. comment_more may n b rest (no_LF b f))
 
-pub moves_spoilt : (b : ℕ) → is_blank b ≡ false → Moves at.Spoilt b at.Spoilt
+pub moves_spoilt : (b : ℕ) → is_blank b ≡ false → MovesPlace at.Spoilt b at.Spoilt
 moves_spoilt b f spot e = rw e (Spoilt, refl, λ n rest. spoilt_more n b rest (no_LF b f))
 
-pub moves_over : (b : ℕ) → Moves at.Over b at.Over
+pub moves_over : (b : ℕ) → MovesPlace at.Over b at.Over
 moves_over b spot e = rw e (Over, refl, λ n rest. over_more n b rest)
 
 -- in a word
-goes_on_within : (x : ℕ) (w : List ℕ) (b : ℕ) → is_blank b ≡ false → Leads (Within x w) b (Within x (w ++ b ∷ []))
+goes_on_within : (x : ℕ) (w : List ℕ) (b : ℕ) → is_blank b ≡ false → MovesSpot (Within x w) b (Within x (w ++ b ∷ []))
 goes_on_within x w b f n rest = within_more x w n b rest (no_LF b f)
 
-pub moves_minus_digit : (b : ℕ) → is_blank b ≡ false → is_digit b ≡ true → b < 256 → Moves at.Minus b (at.Digits true (b - 48))
+pub moves_minus_digit : (b : ℕ) → is_blank b ≡ false → is_digit b ≡ true → b < 256 → MovesPlace at.Minus b (at.Digits true (b - 48))
 moves_minus_digit b f d small spot e = rw e (Within 45 (b ∷ []), (b ∷ [], (f, tt), some [] b, SpellsHeld_one b d small, refl), goes_on_within 45 [] b f)
 
-pub moves_minus_bad : (b : ℕ) → is_blank b ≡ false → is_digit b ≡ false → Moves at.Minus b at.Bad
+pub moves_minus_bad : (b : ℕ) → is_blank b ≡ false → is_digit b ≡ false → MovesPlace at.Minus b at.Bad
 moves_minus_bad b f d spot e = rw e (Within 45 (b ∷ []), (45, b ∷ [], (refl, (f, tt)), BeginsWrong_minus b d, refl), goes_on_within 45 [] b f)
 
-pub moves_digit : (negative : Bool) (v b : ℕ) → is_blank b ≡ false → is_digit b ≡ true → Moves (at.Digits negative v) b (at.Digits negative (grown v b))
+pub moves_digit : (negative : Bool) (v b : ℕ) → is_blank b ≡ false → is_digit b ≡ true → MovesPlace (at.Digits negative v) b (at.Digits negative (grown v b))
 moves_digit false v b f d spot (x, w, s, h, n, l, e) =
     rw e (Within x (w ++ b ∷ []), (x, w ++ b ∷ [], Solid-more (x ∷ w) b s f, SpellsHeld_more (x ∷ w) v b h d, n, l, refl), goes_on_within x w b f)
 moves_digit true v b f d spot (w, s, some_w, h, e) =
     rw e (Within 45 (w ++ b ∷ []), (w ++ b ∷ [], Solid-more w b s f, some w b, SpellsHeld_more w v b h d, refl), goes_on_within 45 w b f)
 
-pub moves_digits_bad : (negative : Bool) (v b : ℕ) → is_blank b ≡ false → is_digit b ≡ false → Moves (at.Digits negative v) b at.Bad
+pub moves_digits_bad : (negative : Bool) (v b : ℕ) → is_blank b ≡ false → is_digit b ≡ false → MovesPlace (at.Digits negative v) b at.Bad
 moves_digits_bad false v b f d spot (x, w, s, h, n, l, e) =
     rw e (Within x (w ++ b ∷ []), (x, w ++ b ∷ [], Solid-more (x ∷ w) b s f, BeginsWrong_plain x w v b h n l d, refl), goes_on_within x w b f)
 moves_digits_bad true v b f d spot (w, s, some_w, h, e) =
     rw e (Within 45 (w ++ b ∷ []), (45, w ++ b ∷ [], Solid-more (45 ∷ w) b (refl, s) f, BeginsWrong_negative w v b h d, refl), goes_on_within 45 w b f)
 
-pub moves_letter : (l b : ℕ) → is_blank b ≡ false → Moves (at.Letter l) b at.Bad
+pub moves_letter : (l b : ℕ) → is_blank b ≡ false → MovesPlace (at.Letter l) b at.Bad
 moves_letter l b f spot ((s, k), e) = rw e (Within l (b ∷ []), (l, b ∷ [], (s.0, (f, tt)), BeginsWrong_letter l b k, refl), goes_on_within l [] b f)
 
-pub moves_bad : (b : ℕ) → is_blank b ≡ false → Moves at.Bad b at.Bad
+pub moves_bad : (b : ℕ) → is_blank b ≡ false → MovesPlace at.Bad b at.Bad
 moves_bad b f spot (x, w, s, h, e) = rw e (Within x (w ++ b ∷ []), (x, w ++ b ∷ [], Solid-more (x ∷ w) b s f, BeginsWrong_more (x ∷ w) b h, refl), goes_on_within x w b f)
 
 -- PLACES AND SPOTS
@@ -196,16 +196,16 @@ abbrev one : Token → ℕ → List (ℕ × Token)
 one t n = (n + 1, t) ∷ []
 
 -- a word in hand is given
-given_word : (x : ℕ) (w : List ℕ) (t : Token) (given : CodeToken) (spot : Spot) → token (x ∷ w) ≡ t → given ≡ held_token t → spot ≡ Within x w → Given (Some given) (in_hand spot)
+given_word : (x : ℕ) (w : List ℕ) (t : Token) (given : CodeToken) (spot : Spot) → token (x ∷ w) ≡ t → given ≡ held_token t → spot ≡ Within x w → IsHeldToken (Some given) (in_hand spot)
 given_word x w t given spot e h s = rw s (t, h, λ n. ap (λ (u : Token). one u n) e)
 
-pub says_minus : Says (Some code.Wrong) at.Minus
+pub says_minus : SaysInHand (Some code.Wrong) at.Minus
 says_minus spot e = given_word 45 [] Wrong code.Wrong spot word_bare refl e
 
-pub says_bad : Says (Some code.Wrong) at.Bad
+pub says_bad : SaysInHand (Some code.Wrong) at.Bad
 says_bad spot (x, w, s, h, e) = given_word x w Wrong code.Wrong spot (word_wrong (x ∷ w) h) refl e
 
-pub says_letter : (b : ℕ) → Says (Some (code.Letter b)) (at.Letter b)
+pub says_letter : (b : ℕ) → SaysInHand (Some (code.Letter b)) (at.Letter b)
 says_letter b spot ((s, l), e) = given_word b [] (Letter b) (code.Letter b) spot (word_letter b l) refl e
 
 minus_zero : (m : ℕ) → m ≡ 0 → minus (Some m) ≡ Wrong
@@ -214,11 +214,11 @@ minus_zero m e = rw e refl
 minus_some : (m : ℕ) → 0 < m → minus (Some m) ≡ Number true m
 minus_some m h = let e : nat_eq m 0 ≡ false = grind (arith, nat_tests) in rw e refl
 
-pub says_zero : (v : ℕ) → v ≡ 0 → Says (Some code.Wrong) (at.Digits true v)
+pub says_zero : (v : ℕ) → v ≡ 0 → SaysInHand (Some code.Wrong) (at.Digits true v)
 says_zero v z spot (w, s, some_w, (m, d, h), e) =
     given_word 45 w Wrong code.Wrong spot (word_minus w m d some_w ∙ minus_zero m (omega (arith, h, z))) refl e
 
-pub says_number : (negative : Bool) (v : ℕ) → (negative ≡ true → 0 < v) → Says (Some (code.Number negative v)) (at.Digits negative v)
+pub says_number : (negative : Bool) (v : ℕ) → (negative ≡ true → 0 < v) → SaysInHand (Some (code.Number negative v)) (at.Digits negative v)
 says_number true v z spot (w, s, some_w, (m, d, h), e) =
     given_word 45 w (Number true m) (code.Number true v) spot (word_minus w m d some_w ∙ minus_some m (omega (arith, h, z refl))) (ap (code.Number true) h) e
 says_number false v z spot (x, w, s, (m, d, h), n, l, e) =

@@ -5,7 +5,7 @@ use Rattle.std.specs.Prelude.{nat_eq}
 use Rattle.sat_base.specs.declared.text.Tokenizer.{Tokenizer}
 use Rattle.sat_base.specs.text.Text.{is_blank, digits, Token, Number, Letter, Header, Wrong, token, Scan, header_from}
 use Rattle.sat_base.specs.text.Spot.{Stage, Begun, Named, Format, Vars, Both, stage_behind, stage_end, Spot, Fresh, Leading, Comment, Between, Within, HeaderBetween, HeaderWithin, Spoilt, Over, IsSpot, left, in_hand, spoils, behind_header_word, ended_by_blank, behind_blank, behind_LF, lines_behind, onto}
-use Rattle.sat_base.specs.text.Tokenizing.{BeginsSpoilt, Stands, IsOfHeader, Quiet}
+use Rattle.sat_base.specs.text.Tokenizing.{BeginsSpoilt, StandsBefore, IsOfHeader, HoldsNoWord}
 use Rattle.sat_base.proofs.lemmas.text.HeaderFirst.{IsWord, word_token}
 use Rattle.sat_base.proofs.lemmas.text.Spots.{LF_left, blank_left, end_left, header_between_word, header_spoilt}
 use Rattle.sat_base.proofs.lemmas.text.Places.{IsSpot_of}
@@ -70,9 +70,9 @@ blank_gives (HeaderWithin s x w) n l t after h = word_given (stage_behind s (x �
 blank_gives Spoilt n l t after h = wrong_given (n + 1) l t (left (Comment false) n []).tokens (after []).tokens (h [])
 blank_gives Over n l t after h = none_left Over n l t after tt refl (h [])
 
-pub plain_given : (machine : Tokenizer) (b l : ℕ) (t : Token) (left_of after : List ℕ → Scan) → Stands machine left_of → nat_eq b 10 ≡ false → is_blank b ≡ true
+pub plain_given : (machine : Tokenizer) (b l : ℕ) (t : Token) (left_of after : List ℕ → Scan) → StandsBefore machine left_of → nat_eq b 10 ≡ false → is_blank b ≡ true
     → ((rest : List ℕ) → left_of (b ∷ rest) ≡ onto ((l, t) ∷ []) (after rest)) → header_from t ≡ None
-unfolding Stands
+unfolding StandsBefore
 plain_given machine b l t left_of after s e f h =
     blank_gives s.0 s.1 l t after (λ rest. ap (λ (k : Scan). k.tokens) (sym (blank_left s.0 s.1 b rest (IsSpot_of machine.place s.0 s.2) e f) ∙ sym (s.4 (b ∷ rest)) ∙ h rest))
 
@@ -103,9 +103,9 @@ blank_then (HeaderWithin s x w) n l t ts e = word_then (stage_behind s (x ∷ w)
 blank_then Spoilt n l t ts e = sym (ap tail_of e) ∙ left_at (Comment false) n tt
 blank_then Over n l t ts e = none_then Over n l t ts tt refl e
 
-pub alone_given : (machine : Tokenizer) (b l : ℕ) (t : Token) (left_of after : List ℕ → Scan) → Stands machine left_of → nat_eq b 10 ≡ false → is_blank b ≡ true
+pub alone_given : (machine : Tokenizer) (b l : ℕ) (t : Token) (left_of after : List ℕ → Scan) → StandsBefore machine left_of → nat_eq b 10 ≡ false → is_blank b ≡ true
     → ((rest : List ℕ) → left_of (b ∷ rest) ≡ onto ((l, t) ∷ []) (after rest)) → (after []).tokens ≡ []
-unfolding Stands
+unfolding StandsBefore
 alone_given machine b l t left_of after s e f h =
     blank_then s.0 s.1 l t (after []).tokens (ap (λ (k : Scan). k.tokens) (sym (blank_left s.0 s.1 b [] (IsSpot_of machine.place s.0 s.2) e f) ∙ sym (s.4 (b ∷ [])) ∙ h []))
 
@@ -169,9 +169,9 @@ quiet_blank spot n b l t ts i q k false m e =
     (ap (λ (us : List (ℕ × Token)). ended_by_blank spot n ++ us) (sym (left_at (behind_blank spot) n (IsSpot_behind spot)))
     ∙ sym (ap (λ (s : Scan). s.tokens) (blank_left spot n b [] i m k)) ∙ e)
 
-pub quiet_given : (machine : Tokenizer) (b l : ℕ) (t : Token) (left_of after : List ℕ → Scan) → Stands machine left_of → Quiet (left_of []) → is_blank b ≡ true
+pub quiet_given : (machine : Tokenizer) (b l : ℕ) (t : Token) (left_of after : List ℕ → Scan) → StandsBefore machine left_of → HoldsNoWord (left_of []) → is_blank b ≡ true
     → ((rest : List ℕ) → left_of (b ∷ rest) ≡ onto ((l, t) ∷ []) (after rest)) → IsOfHeader t
-unfolding Stands
+unfolding StandsBefore
 quiet_given machine b l t left_of after s q k h =
     let i = IsSpot_of machine.place s.0 s.2 in
     let none : (left_of []).tokens ≡ in_hand s.0 s.1 = ap (λ (r : Scan). r.tokens) (s.4 []) ∙ left_at s.0 s.1 i in

@@ -11,8 +11,8 @@ use Rattle.sat_base.specs.declared.text.Token.TheVariants as code
 use Rattle.sat_base.specs.declared.text.Tokenizer.{Tokenizer}
 use Rattle.sat_base.specs.text.Text.{is_blank, lines, on_line, tokens_of, Token, Wrong, Scan}
 use Rattle.sat_base.specs.text.Spot.{first_line, later_lines, Stage, Named, Format, Spot, Within, Spoilt, Solid, left, in_hand, spoils, ended_by_blank, behind_blank}
-use Rattle.sat_base.specs.text.WrongWords.{AreRight, RightAhead, WrongAhead}
-use Rattle.sat_base.specs.text.Tokenizing.{held_token, BeginsWrong, IsAtHeader, IsAt, Moves, BeganHeader, grown, Given, Says, SaysAtBlank, ended_stage, LeadsBehind, IsQuiet, Stands}
+use Rattle.sat_base.specs.text.WrongWords.{HaveNoWrongWord, RightAhead, WrongAhead}
+use Rattle.sat_base.specs.text.Tokenizing.{held_token, BeginsWrong, IsAtHeader, IsAt, MovesPlace, BeganHeader, grown, IsHeldToken, SaysInHand, SaysAtBlank, ended_stage, LeadsBehind, IsQuiet, StandsBefore}
 use Rattle.sat_base.proofs.lemmas.text.Spots.{first_word, blank_left, end_left, last_left_end}
 use Rattle.sat_base.proofs.lemmas.text.Places.{IsSpot_of, moves_minus_digit, moves_digit, says_letter, says_number}
 use Rattle.sat_base.proofs.lemmas.text.HeaderPlaces.{EndsAs, begun_c, begun_vars, begun_clauses, between_moves, c_n, cn_f, ended_vars, ended_clauses, says_header, behind_ended}
@@ -26,27 +26,27 @@ abbrev IsRight : Option CodeToken → Type 0
 IsRight None = Unit {0}
 IsRight (Some t) = t ≡ code.Wrong → ⊥
 
-right_in_hand : (given : Option CodeToken) (tokens : ℕ → List (ℕ × Token)) (n : ℕ) → Given given tokens → IsRight given → AreRight (tokens n)
+right_in_hand : (given : Option CodeToken) (tokens : ℕ → List (ℕ × Token)) (n : ℕ) → IsHeldToken given tokens → IsRight given → HaveNoWrongWord (tokens n)
 right_in_hand None tokens n e r = rw (e n) tt
 right_in_hand (Some t) tokens n g r = rw (g.2 n) ((λ e. r (g.1 ∙ ap held_token e)), tt)
 
 -- the text may end here
-right_at_end : (p : Place) (given : Option CodeToken) → Says given p → IsRight given → MayBeRight p
+right_at_end : (p : Place) (given : Option CodeToken) → SaysInHand given p → IsRight given → MayBeRight p
 right_at_end p given says r spot i n =
-    ([], subst AreRight (sym (ap (λ (s : Scan). s.tokens) (end_left spot n (IsSpot_of p spot i)))) (right_in_hand given (in_hand spot) n (says spot i) r))
+    ([], subst HaveNoWrongWord (sym (ap (λ (s : Scan). s.tokens) (end_left spot n (IsSpot_of p spot i)))) (right_in_hand given (in_hand spot) n (says spot i) r))
 
 -- a byte may follow
-right_before : (p q : Place) (b : ℕ) → Moves p b q → MayBeRight q → MayBeRight p
+right_before : (p q : Place) (b : ℕ) → MovesPlace p b q → MayBeRight q → MayBeRight p
 right_before p q b m r spot i n =
     let k = m spot i in
     let h = r k.0 k.1 n in
-    (b ∷ h.0, subst (λ (s : Scan). AreRight s.tokens) (sym (k.2 n h.0)) h.1)
+    (b ∷ h.0, subst (λ (s : Scan). HaveNoWrongWord s.tokens) (sym (k.2 n h.0)) h.1)
 
 -- a space may follow
 right_before_blank : (p q : Place) → LeadsBehind p q → SaysAtBlank None p → MayBeRight q → MayBeRight p
 right_before_blank p q leads says r spot i n =
     let h = r (behind_blank spot) (leads spot i) n in
-    (32 ∷ h.0, subst (λ (s : Scan). AreRight s.tokens) (sym (blank_left spot n 32 h.0 (IsSpot_of p spot i) refl refl)) (rw (says spot i n) h.1))
+    (32 ∷ h.0, subst (λ (s : Scan). HaveNoWrongWord s.tokens) (sym (blank_left spot n 32 h.0 (IsSpot_of p spot i) refl refl)) (rw (says spot i n) h.1))
 
 -- WORDS
 letter_right : (b : ℕ) → MayBeRight (at.Letter b)
@@ -140,7 +140,7 @@ IsWrongPlace at.Bad = Unit {0}
 IsWrongPlace at.Spoilt = Unit {0}
 IsWrongPlace place = ⊥
 
-none_right : (p : Place) → Says None p → MayBeRight p
+none_right : (p : Place) → SaysInHand None p → MayBeRight p
 none_right p says = right_at_end p None says tt
 
 place_right : (p : Place) → (IsWrongPlace p → ⊥) → MayBeRight p
@@ -156,11 +156,11 @@ place_right (at.Header p) w = in_header_right p
 place_right at.Spoilt w = absurd (w tt)
 place_right at.Over w = none_right at.Over (λ spot e. rw e (λ n. refl))
 
-pub right_ahead : (machine : Tokenizer) → (machine.place ≡ at.Bad → ⊥) → (machine.place ≡ at.Spoilt → ⊥) → (before : List ℕ → Scan) → Stands machine before → RightAhead before
-unfolding Stands
+pub right_ahead : (machine : Tokenizer) → (machine.place ≡ at.Bad → ⊥) → (machine.place ≡ at.Spoilt → ⊥) → (before : List ℕ → Scan) → StandsBefore machine before → RightAhead before
+unfolding StandsBefore
 right_ahead machine b s before (spot, n, i, l, e) =
     let h = place_right machine.place (apart machine.place b s) spot i n in
-    (h.0, subst (λ (k : Scan). AreRight k.tokens) (sym (e h.0)) h.1)
+    (h.0, subst (λ (k : Scan). HaveNoWrongWord k.tokens) (sym (e h.0)) h.1)
   where
     apart : (p : Place) → (p ≡ at.Bad → ⊥) → (p ≡ at.Spoilt → ⊥) → IsWrongPlace p → ⊥
     apart at.Bad b s w = b refl
@@ -168,7 +168,7 @@ right_ahead machine b s before (spot, n, i, l, e) =
     apart p b s w = w
 
 -- behind a blank
-pub right_behind : (machine : Tokenizer) → IsQuiet machine.place → (before : List ℕ → Scan) → Stands machine before → RightAhead before
+pub right_behind : (machine : Tokenizer) → IsQuiet machine.place → (before : List ℕ → Scan) → StandsBefore machine before → RightAhead before
 right_behind machine q = right_ahead machine (λ e. subst IsQuiet e q) (λ e. subst IsQuiet e q)
 
 -- WRONG WORDS
@@ -193,8 +193,8 @@ on_last before spot n e l h rest =
     let last : n + 1 ≡ (before []).last = sym (ap (λ (s : Scan). s.last) (e []) ∙ l) in
     (k.0, ap (λ (s : Scan). s.tokens) (e rest) ∙ k.1 ∙ ap (λ (m : ℕ). (m, Wrong) ∷ k.0) last)
 
-pub wrong_word : (machine : Tokenizer) → machine.place ≡ at.Bad → (before : List ℕ → Scan) → Stands machine before → WrongAhead before
-unfolding Stands
+pub wrong_word : (machine : Tokenizer) → machine.place ≡ at.Bad → (before : List ℕ → Scan) → StandsBefore machine before → WrongAhead before
+unfolding StandsBefore
 wrong_word machine p before (spot, n, i, l, e) = let j : IsAt at.Bad spot = rw p at i in of_word spot n e j
   where
     of_word : (spot : Spot) (n : ℕ) → ((rest : List ℕ) → before rest ≡ left spot n rest) → IsAt at.Bad spot → WrongAhead before
@@ -202,8 +202,8 @@ wrong_word machine p before (spot, n, i, l, e) = let j : IsAt at.Bad spot = rw p
         let g : (rest : List ℕ) → before rest ≡ left (Within x w) n rest = λ rest. e rest ∙ ap (λ (k : Spot). left k n rest) f in
         on_last before (Within x w) n g (last_left_end (Within x w) n s) (λ rest. word_wrong x w n rest s h)
 
-pub wrong_line : (machine : Tokenizer) → machine.place ≡ at.Spoilt → (before : List ℕ → Scan) → Stands machine before → WrongAhead before
-unfolding Stands
+pub wrong_line : (machine : Tokenizer) → machine.place ≡ at.Spoilt → (before : List ℕ → Scan) → StandsBefore machine before → WrongAhead before
+unfolding StandsBefore
 wrong_line machine p before (spot, n, i, l, e) =
     let j : spot ≡ Spoilt = rw p at i in
     let g : (rest : List ℕ) → before rest ≡ left Spoilt n rest = λ rest. e rest ∙ ap (λ (k : Spot). left k n rest) j in

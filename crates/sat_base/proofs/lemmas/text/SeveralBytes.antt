@@ -11,26 +11,26 @@ use Rattle.sat_base.specs.declared.text.Tokenizer.{Tokenizer}
 use Rattle.sat_base.specs.text.Text.{is_blank, is_digit}
 use Rattle.sat_base.specs.text.Spot.{left}
 use Rattle.sat_base.specs.text.Chunks.{Follows}
-use Rattle.sat_base.specs.text.Tokenizing.{Moves, MovesBy, BeginsWord, Began, grown, Stands, Takes, TakesFront}
+use Rattle.sat_base.specs.text.Tokenizing.{MovesPlace, MovesBy, BeginsWord, Began, grown, StandsBefore, TakesByte, TakesFront}
 use Rattle.sat_base.proofs.lemmas.text.Words.{SpellsHeld_one, no_minus_digit, no_letter_digit}
 use Rattle.sat_base.proofs.lemmas.text.Places.{moves_word, moves_fresh, moves_between, moves_minus_digit, moves_digit}
 
 -- one byte more
-pub moves_more : (a b c : Place) (xs : List ℕ) (y : ℕ) → MovesBy a xs b → Moves b y c → MovesBy a (xs ++ y ∷ []) c
+pub moves_more : (a b c : Place) (xs : List ℕ) (y : ℕ) → MovesBy a xs b → MovesPlace b y c → MovesBy a (xs ++ y ∷ []) c
 moves_more a b c xs y f g spot i =
     let h = f spot i in
     let k = g h.0 h.1 in
     (k.0, k.1, λ n rest. ap (λ (bs : List ℕ). left spot n bs) (append_assoc xs (y ∷ []) rest) ∙ h.2 n (y ∷ rest) ∙ k.2 n rest)
 
 -- one byte before
-pub moves_first : (a b c : Place) (x : ℕ) (ys : List ℕ) → Moves a x b → MovesBy b ys c → MovesBy a (x ∷ ys) c
+pub moves_first : (a b c : Place) (x : ℕ) (ys : List ℕ) → MovesPlace a x b → MovesBy b ys c → MovesBy a (x ∷ ys) c
 moves_first a b c x ys f g spot i =
     let h = f spot i in
     let k = g h.0 h.1 in
     (k.0, k.1, λ n rest. h.2 n (ys ++ rest) ∙ k.2 n rest)
 
 -- a word begins
-pub moves_begun : (old new : Place) (b : ℕ) → BeginsWord old → is_blank b ≡ false → nat_eq b 37 ≡ false → nat_eq b 99 ≡ false → nat_eq b 112 ≡ false → Began b new → Moves old b new
+pub moves_begun : (old new : Place) (b : ℕ) → BeginsWord old → is_blank b ≡ false → nat_eq b 37 ≡ false → nat_eq b 99 ≡ false → nat_eq b 112 ≡ false → Began b new → MovesPlace old b new
 moves_begun (at.Fresh may) new b w f g h k began = moves_fresh may new b f (moves_word may new b f g h k began)
 moves_begun (at.Leading may) new b w f g h k began = moves_word may new b f g h k began
 moves_begun at.Between new b w f g h k began = moves_between new b f began
@@ -43,17 +43,17 @@ moves_begun (at.Header place) new b w f g h k began = absurd w
 moves_begun at.Spoilt new b w f g h k began = absurd w
 moves_begun at.Over new b w f g h k began = absurd w
 
-pub moves_minus : (old : Place) → BeginsWord old → Moves old 45 at.Minus
+pub moves_minus : (old : Place) → BeginsWord old → MovesPlace old 45 at.Minus
 moves_minus old w = moves_begun old at.Minus 45 w refl refl refl refl refl
 
-pub moves_first_digit : (old : Place) (b : ℕ) → BeginsWord old → is_digit b ≡ true → Moves old b (at.Digits false (b - 48))
+pub moves_first_digit : (old : Place) (b : ℕ) → BeginsWord old → is_digit b ≡ true → MovesPlace old b (at.Digits false (b - 48))
 moves_first_digit old b w d =
     let f : is_blank b ≡ false = grind (arith, nat_tests) in
     let small : b < 256 = grind (arith, nat_tests) in
     moves_begun old (at.Digits false (b - 48)) b w f (grind (arith, nat_tests)) (grind (arith, nat_tests)) (grind (arith, nat_tests))
     (b, [], (f, tt), SpellsHeld_one b d small, no_minus_digit b d, no_letter_digit b d, refl)
 
-pub moves_digit_behind_minus : (b : ℕ) → is_digit b ≡ true → Moves at.Minus b (at.Digits true (b - 48))
+pub moves_digit_behind_minus : (b : ℕ) → is_digit b ≡ true → MovesPlace at.Minus b (at.Digits true (b - 48))
 moves_digit_behind_minus b d = moves_minus_digit b (grind (arith, nat_tests)) d (grind (arith, nat_tests))
 
 -- a digit more
@@ -70,23 +70,23 @@ all_behind_first : (xs : List ℕ) → take (length xs - 1) (drop 1 xs) ≡ drop
 all_behind_first xs = grind (arith, common_steps)
 
 -- a byte before those at the front of the others
-pub moves_from_first : (a b c : Place) (xs : List ℕ) (k : ℕ) → 0 < length xs → Moves a (get_or xs 0 0) b → MovesBy b (take k (take (length xs - 1) (drop 1 xs))) c → MovesBy a (take (k + 1) xs) c
+pub moves_from_first : (a b c : Place) (xs : List ℕ) (k : ℕ) → 0 < length xs → MovesPlace a (get_or xs 0 0) b → MovesBy b (take k (take (length xs - 1) (drop 1 xs))) c → MovesBy a (take (k + 1) xs) c
 moves_from_first a b c xs k h f g =
     let behind : MovesBy b (take k (drop 1 xs)) c = subst (λ (ys : List ℕ). MovesBy b (take k ys) c) (all_behind_first xs) g in
     subst (λ (bs : List ℕ). MovesBy a bs c) (sym (first_of_some xs k h)) (moves_first a b c (get_or xs 0 0) (take k (drop 1 xs)) f behind)
 
 -- the machine
-pub follows_by : (old : Tokenizer) (bytes : List ℕ) (place : Place) → MovesBy old.place bytes place → Follows Stands old bytes (record { place = place; lines = old.lines })
-unfolding Stands
+pub follows_by : (old : Tokenizer) (bytes : List ℕ) (place : Place) → MovesBy old.place bytes place → Follows StandsBefore old bytes (record { place = place; lines = old.lines })
+unfolding StandsBefore
 follows_by old bytes place m before (spot, n, i, l, e) =
     let k = m spot i in
     (left k.0 n, (k.0, n, k.1, l, λ rest. refl), λ rest. e (bytes ++ rest) ∙ k.2 n rest)
 
 -- behind some bytes that end no token a further one
-pub takes_front : (a b c : Tokenizer) (xs : List ℕ) (i : ℕ) (given : Option CodeToken) → i < length xs → Follows Stands a (take i xs) b → Takes b (get_or xs i 0) given c → TakesFront a (take (i + 1) xs) given c
+pub takes_front : (a b c : Tokenizer) (xs : List ℕ) (i : ℕ) (given : Option CodeToken) → i < length xs → Follows StandsBefore a (take i xs) b → TakesByte b (get_or xs i 0) given c → TakesFront a (take (i + 1) xs) given c
 takes_front a b c xs i given small f t = subst (λ (bs : List ℕ). TakesFront a bs given c) (sym (take_more xs i 0 small)) (behind given t)
   where
-    behind : (g : Option CodeToken) → Takes b (get_or xs i 0) g c → TakesFront a (take i xs ++ get_or xs i 0 ∷ []) g c
+    behind : (g : Option CodeToken) → TakesByte b (get_or xs i 0) g c → TakesFront a (take i xs ++ get_or xs i 0 ∷ []) g c
     behind None k before m =
         let h = f before m in
         let j = k h.0 h.1 in
@@ -97,5 +97,5 @@ takes_front a b c xs i given small f t = subst (λ (bs : List ℕ). TakesFront a
         (j.0, j.1, (j.2.0, j.2.1, λ rest. ap before (append_assoc (take i xs) (get_or xs i 0 ∷ []) rest) ∙ h.2 (get_or xs i 0 ∷ rest) ∙ j.2.2 rest))
 
 -- the first byte
-pub takes_first : (a c : Tokenizer) (xs : List ℕ) (given : Option CodeToken) → 0 < length xs → Takes a (get_or xs 0 0) given c → TakesFront a (take 1 xs) given c
+pub takes_first : (a c : Tokenizer) (xs : List ℕ) (given : Option CodeToken) → 0 < length xs → TakesByte a (get_or xs 0 0) given c → TakesFront a (take 1 xs) given c
 takes_first a c xs given some t = takes_front a a c xs 0 given some (λ before m. (before, m, λ rest. refl)) t

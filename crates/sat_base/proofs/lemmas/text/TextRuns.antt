@@ -8,26 +8,26 @@ use Rattle.sat_base.specs.declared.text.Token.{Token as CodeToken}
 use Rattle.sat_base.specs.declared.text.Tokenizer.{Tokenizer}
 use Rattle.sat_base.specs.text.Text.{is_blank, Token, Scan, scan}
 use Rattle.sat_base.specs.text.Spot.{Stage, Begun, Named, Format, Vars, Both, stage_end, Spot, Fresh, Leading, Comment, Between, Within, HeaderBetween, HeaderWithin, Spoilt, Over, left, in_hand, behind_LF, lines_behind, behind_blank, ended_by_blank, line_at, onto}
-use Rattle.sat_base.specs.text.Tokenizing.{held, IsAt, Moves, may_come, Given, Says, SaysAtBlank, LeadsBehind, Stands, Gives, Takes, IsQuiet, IsOfHeader, Quiet, GivesLast}
+use Rattle.sat_base.specs.text.Tokenizing.{held, IsAt, MovesPlace, may_come, IsHeldToken, SaysInHand, SaysAtBlank, LeadsBehind, StandsBefore, GivesToken, TakesByte, IsQuiet, IsOfHeader, HoldsNoWord, GivesLast}
 use Rattle.sat_base.proofs.lemmas.text.Spots.{start, LF_left, blank_left, end_left, last_left_end, over_more}
 use Rattle.sat_base.proofs.lemmas.text.Places.{IsSpot_of, line-Fresh, line-other, line-in_hand, line-behind_blank, below, held_next}
 
 abbrev standing : Place → ℕ → Tokenizer
 standing place lines = record { place = place; lines = lines }
 
-pub stands_first : Stands (standing (at.Fresh true) 0) scan
-unfolding Stands
+pub stands_first : StandsBefore (standing (at.Fresh true) 0) scan
+unfolding StandsBefore
 stands_first = (Fresh true, 0, refl, refl, start)
 
 -- what is given goes before what is left
-gives : (given : Option CodeToken) (tokens : ℕ → List (ℕ × Token)) (n b : ℕ) (before after : List ℕ → Scan) → Given given tokens → (after []).last ≡ n + 1
-    → ((rest : List ℕ) → before (b ∷ rest) ≡ onto (tokens n) (after rest)) → Gives given b before after
+gives : (given : Option CodeToken) (tokens : ℕ → List (ℕ × Token)) (n b : ℕ) (before after : List ℕ → Scan) → IsHeldToken given tokens → (after []).last ≡ n + 1
+    → ((rest : List ℕ) → before (b ∷ rest) ≡ onto (tokens n) (after rest)) → GivesToken given b before after
 gives None tokens n b before after s l h = λ rest. h rest ∙ ap (λ (ts : List (ℕ × Token)). onto ts (after rest)) (s n)
 gives (Some t) tokens n b before after s l h =
     (s.0, s.1, λ rest. h rest ∙ ap (λ (ts : List (ℕ × Token)). onto ts (after rest)) (s.2 n) ∙ ap (λ (k : ℕ). onto ((k, s.0) ∷ []) (after rest)) (sym l))
 
-pub takes_byte : (old : Tokenizer) (b : ℕ) (place : Place) → Moves old.place b place → Takes old b None (standing place old.lines)
-unfolding Stands
+pub takes_byte : (old : Tokenizer) (b : ℕ) (place : Place) → MovesPlace old.place b place → TakesByte old b None (standing place old.lines)
+unfolding StandsBefore
 takes_byte old b place m before (spot, n, i, h, e) =
     let k = m spot i in
     (left k.0 n, (k.0, n, k.1, h, λ rest. refl), λ rest. e (b ∷ rest) ∙ k.2 n rest)
@@ -47,9 +47,9 @@ lines_below (HeaderWithin s x w) n may e = refl
 lines_below Spoilt n may e = refl
 lines_below Over n may e = absurd (cc)
 
-pub takes_LF : (old : Tokenizer) (given : Option CodeToken) (k : ℕ) → (old.place ≡ at.Over → ⊥) → Says given old.place → k ≡ min (old.lines + 1) (2 ^ 64 - 1)
-    → Takes old 10 given (standing (at.Fresh (may_come old.place)) k)
-unfolding Stands
+pub takes_LF : (old : Tokenizer) (given : Option CodeToken) (k : ℕ) → (old.place ≡ at.Over → ⊥) → SaysInHand given old.place → k ≡ min (old.lines + 1) (2 ^ 64 - 1)
+    → TakesByte old 10 given (standing (at.Fresh (may_come old.place)) k)
+unfolding StandsBefore
 takes_LF old given k h says e before (spot, n, i, l, f) =
     let may = may_come old.place in
     let fresh = fresh_below old.place spot h i in
@@ -62,15 +62,15 @@ takes_LF old given k h says e before (spot, n, i, l, f) =
     )
 
 -- nothing goes on behind `%`
-pub over_LF : (old : Tokenizer) → old.place ≡ at.Over → Takes old 10 None old
-unfolding Stands
+pub over_LF : (old : Tokenizer) → old.place ≡ at.Over → TakesByte old 10 None old
+unfolding StandsBefore
 over_LF old e before (spot, n, i, l, f) =
     let j : spot ≡ Over = rw e at i in
     (left spot n, (spot, n, i, l, λ rest. refl), λ rest. f (10 ∷ rest) ∙ ap (λ (s : Spot). left s n (10 ∷ rest)) j ∙ over_more n 10 rest ∙ ap (λ (s : Spot). left s n rest) (sym j))
 
 pub takes_blank : (old : Tokenizer) (b : ℕ) (given : Option CodeToken) (place : Place) → SaysAtBlank given old.place → LeadsBehind old.place place → nat_eq b 10 ≡ false → is_blank b ≡ true
-    → Takes old b given (standing place old.lines)
-unfolding Stands
+    → TakesByte old b given (standing place old.lines)
+unfolding StandsBefore
 takes_blank old b given place says leads e f before (spot, n, i, l, h) =
     let next = behind_blank spot in
     let good = IsSpot_of old.place spot i in
@@ -86,14 +86,14 @@ left_in_hand : (machine : Tokenizer) (spot : Spot) (n : ℕ) (before : List ℕ 
     → (before []).tokens ≡ in_hand spot n
 left_in_hand machine spot n before i e = ap (λ (s : Scan). s.tokens) (e [] ∙ end_left spot n (IsSpot_of machine.place spot i))
 
-pub none_fresh : (machine : Tokenizer) (may : Bool) → machine.place ≡ at.Fresh may → (before : List ℕ → Scan) → Stands machine before → (before []).tokens ≡ []
-unfolding Stands
+pub none_fresh : (machine : Tokenizer) (may : Bool) → machine.place ≡ at.Fresh may → (before : List ℕ → Scan) → StandsBefore machine before → (before []).tokens ≡ []
+unfolding StandsBefore
 none_fresh machine may e before (spot, n, i, l, f) =
     let j : spot ≡ Fresh may = rw e at i in
     left_in_hand machine spot n before i f ∙ ap (λ (s : Spot). in_hand s n) j
 
-pub none_over : (machine : Tokenizer) → machine.place ≡ at.Over → (before : List ℕ → Scan) → Stands machine before → (before []).tokens ≡ []
-unfolding Stands
+pub none_over : (machine : Tokenizer) → machine.place ≡ at.Over → (before : List ℕ → Scan) → StandsBefore machine before → (before []).tokens ≡ []
+unfolding StandsBefore
 none_over machine e before (spot, n, i, l, f) =
     let j : spot ≡ Over = rw e at i in
     left_in_hand machine spot n before i f ∙ ap (λ (s : Spot). in_hand s n) j
@@ -127,27 +127,27 @@ quiet_at (at.Header (header.Vars value)) spot n q e = absurd q
 quiet_at (at.Header (header.Clauses vars value)) spot n q e = absurd q
 quiet_at at.Spoilt spot n q e = absurd q
 
-pub quiet_behind : (machine : Tokenizer) → IsQuiet machine.place → (before : List ℕ → Scan) → Stands machine before → Quiet (before [])
-unfolding Stands
+pub quiet_behind : (machine : Tokenizer) → IsQuiet machine.place → (before : List ℕ → Scan) → StandsBefore machine before → HoldsNoWord (before [])
+unfolding StandsBefore
 quiet_behind machine q before (spot, n, i, l, f) = rw (left_in_hand machine spot n before i f) (quiet_at machine.place spot n q i)
 
-gives_last : (given : Option CodeToken) (spot : Spot) (n : ℕ) (rest : Scan) → Given given (in_hand spot) → rest ≡ record { tokens = in_hand spot n; last = line_at spot n } → GivesLast given rest
+gives_last : (given : Option CodeToken) (spot : Spot) (n : ℕ) (rest : Scan) → IsHeldToken given (in_hand spot) → rest ≡ record { tokens = in_hand spot n; last = line_at spot n } → GivesLast given rest
 gives_last None spot n rest s h = ap (λ (r : Scan). r.tokens) h ∙ s n
 gives_last (Some t) spot n rest s h =
     let last : rest.last ≡ n + 1 = ap (λ (r : Scan). r.last) h ∙ line-in_hand spot n (n + 1, s.0) (s.2 n) in
     (s.0, s.1, ap (λ (r : Scan). r.tokens) h ∙ s.2 n ∙ ap (λ (k : ℕ). (k, s.0) ∷ []) (sym last))
 
-pub ended : (machine : Tokenizer) (given : Option CodeToken) → Says given machine.place → (before : List ℕ → Scan) → Stands machine before → GivesLast given (before [])
-unfolding Stands
+pub ended : (machine : Tokenizer) (given : Option CodeToken) → SaysInHand given machine.place → (before : List ℕ → Scan) → StandsBefore machine before → GivesLast given (before [])
+unfolding StandsBefore
 ended machine given says before (spot, n, i, l, f) = gives_last given spot n (before []) (says spot i) (f [] ∙ end_left spot n (IsSpot_of machine.place spot i))
 
 line_is : (machine : Tokenizer) (before : List ℕ → Scan) (spot : Spot) (n : ℕ) → IsAt machine.place spot → ((rest : List ℕ) → before rest ≡ left spot n rest) → (before []).last ≡ line_at spot n
 line_is machine before spot n i h = ap (λ (r : Scan). r.last) (h []) ∙ last_left_end spot n (IsSpot_of machine.place spot i)
 
-pub line_fresh : (machine : Tokenizer) (may : Bool) → machine.place ≡ at.Fresh may → (before : List ℕ → Scan) → Stands machine before → machine.lines ≡ held (before []).last
-unfolding Stands
+pub line_fresh : (machine : Tokenizer) (may : Bool) → machine.place ≡ at.Fresh may → (before : List ℕ → Scan) → StandsBefore machine before → machine.lines ≡ held (before []).last
+unfolding StandsBefore
 line_fresh machine may e before (spot, n, i, l, f) = l ∙ ap held (sym (line_is machine before spot n i f ∙ line-Fresh machine.place may spot n e i))
 
-pub line_other : (machine : Tokenizer) (k : ℕ) → ((may : Bool) → machine.place ≡ at.Fresh may → ⊥) → k ≡ min (machine.lines + 1) (2 ^ 64 - 1) → (before : List ℕ → Scan) → Stands machine before → k ≡ held (before []).last
-unfolding Stands
+pub line_other : (machine : Tokenizer) (k : ℕ) → ((may : Bool) → machine.place ≡ at.Fresh may → ⊥) → k ≡ min (machine.lines + 1) (2 ^ 64 - 1) → (before : List ℕ → Scan) → StandsBefore machine before → k ≡ held (before []).last
+unfolding StandsBefore
 line_other machine k o e before (spot, n, i, l, f) = held_next machine.lines n k l e ∙ ap held (sym (line_is machine before spot n i f ∙ line-other machine.place spot n o i))

@@ -8,16 +8,16 @@ use Rattle.std.specs.Prelude.{slice_index_or}
 use Rattle.std.proofs.lemmas.Bool.{ltb-true, le-ltb}
 use Rattle.std.proofs.lemmas.List.{nil_from_length}
 use Rattle.sat_base.specs.declared.table.Table.{Table}
-use Rattle.sat_base.specs.values.Tables.{near_count, value_or, value_at, HasRoom}
+use Rattle.sat_base.specs.values.Tables.{near_count, value_or, value_at, HasPlaceFor}
 
-pub has_room : {T : Type 0} (missing : T) (t : Table T) (v : ℕ) → value_at missing t v ≢ missing → HasRoom t v
+pub has_room : {T : Type 0} (missing : T) (t : Table T) (v : ℕ) → value_at missing t v ≢ missing → HasPlaceFor t v
 has_room {T} missing t v h = near (ltb v (near_count t)) refl h
   where
     there : (o : Option T) → value_or o missing ≢ missing → IsSome o
     there (Some x) h = refl
     there None h = absurd (h refl)
 
-    near : (b : Bool) → ltb v (near_count t) ≡ b → cond b (slice_index_or t.near.items v missing) (value_or (get nat_cmp t.far v) missing) ≢ missing → HasRoom t v
+    near : (b : Bool) → ltb v (near_count t) ≡ b → cond b (slice_index_or t.near.items v missing) (value_or (get nat_cmp t.far v) missing) ≢ missing → HasPlaceFor t v
     near true e h = inl (ltb-true v (near_count t) e)
     near false e h = inr (there (get nat_cmp t.far v) h)
 

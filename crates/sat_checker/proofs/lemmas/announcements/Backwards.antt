@@ -9,7 +9,7 @@ use Rattle.sat_checker.specs.Propagation.{IsFalsified, IsUnit}
 use Rattle.sat_checker.specs.Stored.{StoredClause}
 use Rattle.sat_checker.specs.inner.Walk.{Verdict, falsified, opens, rests, verdict, verdict_of_open, not_false, walk, walk_on, and_then}
 use Rattle.sat_checker.specs.announcements.Needed.{Ground, others_denied, ground_by, ground}
-use Rattle.sat_checker.specs.announcements.Promises.{IsOneOf, Reason, is_conflict, is_unit, is_neither, Needs, of_last, of_reason, IsGround}
+use Rattle.sat_checker.specs.announcements.Promises.{IsOneOf, Reason, is_conflict, is_unit, is_neither, IsNeededLiteral, of_last, of_reason, IsGround}
 use Rattle.sat_checker.proofs.lemmas.meaning.Clauses.{literals_of}
 use Rattle.sat_checker.proofs.lemmas.announcements.Grounds.{each_at, among_negated, Says, verdict_says}
 
@@ -100,7 +100,7 @@ never_unit assumed clause n e o u =
     absurd cc
 
 -- with one more reason, what was needed is
-still_needed : (r : Reason) (rs : List Reason) (last : StoredClause) (m : ℕ) → Needs rs last m → Needs (r ∷ rs) last m
+still_needed : (r : Reason) (rs : List Reason) (last : StoredClause) (m : ℕ) → IsNeededLiteral rs last m → IsNeededLiteral (r ∷ rs) last m
 still_needed r rs last m (of_last l h) = of_last l h
 still_needed r rs last m (of_reason s l k n h d) = of_reason s l (inr k) (still_needed r rs last s.literal n) h d
 
@@ -131,13 +131,13 @@ module _ (assumed : List ℕ) (c : StoredClause) (cs : List StoredClause) where
       reasons = [];
       last = c;
       passing = is_conflict assumed c cs h;
-      literals = λ m. ((λ e. let n = from_negated c.literals m e in subst (Needs [] c) n.is_it (of_last n.literal n.within)), back m);
+      literals = λ m. ((λ e. let n = from_negated c.literals m e in subst (IsNeededLiteral [] c) n.is_it (of_last n.literal n.within)), back m);
       clauses = refl;
     };
     fresh = tt;
   }
     where
-      back : (m : ℕ) → Needs [] c m → is_among (map negated c.literals) m ≡ true
+      back : (m : ℕ) → IsNeededLiteral [] c m → is_among (map negated c.literals) m ≡ true
       back m (of_last l k) = among_negated c.literals l k
       back m (of_reason r l k n w d) = absurd k
 
@@ -183,7 +183,7 @@ module _ (assumed : List ℕ) (c : StoredClause) (cs : List StoredClause) where
       fresh = (u.not_true, fresh_still);
     }
       where
-        back : (m : ℕ) → Needs (this ∷ d.is_ground.reasons) d.is_ground.last m → is_among g.literals m ≡ true
+        back : (m : ℕ) → IsNeededLiteral (this ∷ d.is_ground.reasons) d.is_ground.last m → is_among g.literals m ≡ true
         back m (of_last l k) = (d.is_ground.literals (negated l)).1 (of_last l k)
         back m (of_reason r l k w h e) = go (back r.literal w) k
           where
@@ -216,17 +216,17 @@ module _ (assumed : List ℕ) (c : StoredClause) (cs : List StoredClause) where
               | inr b ↦ both_ways (is_among g.literals m) t b
             ]))
 
-        forth : (m : ℕ) → is_among (others_denied o c.literals ++ g.literals) m ≡ true → Needs (this ∷ d.is_ground.reasons) d.is_ground.last m
+        forth : (m : ℕ) → is_among (others_denied o c.literals ++ g.literals) m ≡ true → IsNeededLiteral (this ∷ d.is_ground.reasons) d.is_ground.last m
         forth m e = elim (among_either (others_denied o c.literals) g.literals m e) [
           | inl a ↦
               let k = from_negated (filter (λ x. not (eqb x o)) c.literals) m a in
               let b = from_but o c.literals k.literal k.within in
-              subst (Needs (this ∷ d.is_ground.reasons) d.is_ground.last) k.is_it
+              subst (IsNeededLiteral (this ∷ d.is_ground.reasons) d.is_ground.last) k.is_it
               (of_reason this k.literal (inl refl) (still_needed this d.is_ground.reasons d.is_ground.last o ((d.is_ground.literals o).0 n)) b.within (eqb-false k.literal o b.differs))
           | inr b ↦ still_needed this d.is_ground.reasons d.is_ground.last m ((d.is_ground.literals m).0 b)
         ]
 
-        back : (m : ℕ) → Needs (this ∷ d.is_ground.reasons) d.is_ground.last m → is_among (others_denied o c.literals ++ g.literals) m ≡ true
+        back : (m : ℕ) → IsNeededLiteral (this ∷ d.is_ground.reasons) d.is_ground.last m → is_among (others_denied o c.literals ++ g.literals) m ≡ true
         back m (of_last l k) = among_behind (others_denied o c.literals) g.literals (negated l) ((d.is_ground.literals (negated l)).1 (of_last l k))
         back m (of_reason r l k w h e) = go (back r.literal w) k
           where

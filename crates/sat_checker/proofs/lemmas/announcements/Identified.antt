@@ -6,12 +6,12 @@ use Rattle.sat_base.specs.values.Literals.{variable, negated}
 use Rattle.sat_base.specs.steps.Steps.{Redundant, Simplified, Satisfied, Step, SolverVarName, UserVarName, DeleteVar, ChangeSamplingMode, AddClause, AtClause, UnitClauses, DeleteClause, ChangeHashBits, Model, Assumptions, FailedAssumptions, End}
 use Rattle.sat_checker.specs.LiteralSets.{is_among, is_part, is_tautology, canonical, same_literals}
 use Rattle.sat_checker.specs.Stored.{StoredClause, StoredUnit, Last, NoneYet, Empty, UnitClause, LongClause, Stored, is_unit}
-use Rattle.sat_checker.specs.Storing.{with_count, with_clause, clause_with, without_count, unless_gone, without_clause, unit_id, first_conflict, with_unit, with_contradiction, with_new_unit, settled, settled_by, with_set, unit_at, long_at, place_of, with_canonical, with_stored, with_input, with_units, with_known, with_literals_known, clause_numbered, unit_numbered, last_literals}
+use Rattle.sat_checker.specs.Storing.{with_count, with_stored_clause, clause_with, without_count, unless_gone, without_clause, unit_id, first_conflict, with_unit, with_contradiction, with_new_unit, settled, settled_by, with_set, unit_at, long_at, place_of, with_canonical, with_stored, with_input, with_units, with_known, with_literals_known, clause_numbered, unit_numbered, last_literals}
 use Rattle.sat_checker.specs.Accepts.{IsStrictSubset, effect, stored_after, ready_after}
 use Rattle.sat_checker.specs.announcements.Needed.{propagations}
 use Rattle.sat_checker.specs.announcements.Announcements.{Announcement, id_of, id_of_set, input_set, input, derived_set, derived, derived_units, one, last_id, announced, delayed_by, delayed, Told, told_over, told_after, all_told_after}
 use Rattle.sat_checker.specs.announcements.Announcements as announcements
-use Rattle.sat_checker.specs.announcements.Promises.{IsOneOf, Announces, IsAnnounced, AreAnnounced, IdsAreAnnounced, ConflictIsAnnounced, SimplifiedIsAnnounced}
+use Rattle.sat_checker.specs.announcements.Promises.{IsOneOf, IsAnnouncedAs, IsAnnounced, AreAnnounced, IdsAreAnnounced, ConflictIsAnnounced, SimplifiedIsAnnounced}
 use Rattle.sat_checker.proofs.lemmas.propagation.Soundness.{negated-negated}
 use Rattle.sat_checker.proofs.lemmas.state.Units.{known_units}
 use Rattle.sat_checker.proofs.lemmas.telling.Settling.{settled_none}
@@ -41,7 +41,7 @@ one_each P x (y ∷ ys) h k = elim k [ inl e ↦ subst P (sym e) h.0 | inr m ↦
 
 -- the same, before it's told
 abbrev IsNews : ℕ → List ℕ → List Announcement → Type 0
-IsNews id clause news = (a : Announcement) × IsOneOf a news × Announces id clause a
+IsNews id clause news = (a : Announcement) × IsOneOf a news × IsAnnouncedAs id clause a
 
 news_front : (id : ℕ) (ls : List ℕ) (xs ys : List Announcement) → IsNews id ls xs → IsNews id ls (xs ++ ys)
 news_front id ls xs ys n = (n.0, one_front n.0 xs ys n.1, n.2)
@@ -125,13 +125,13 @@ module _ (told : List Told) where
   }
 
   -- a clause that comes in was announced, if it's new
-  clauses_with : (r : Bool) (n : ℕ) (ls : List ℕ) (cs : List StoredClause) → (clause_with ls cs ≡ None → IsAnnounced n ls told) → AreClauses cs → AreClauses (with_clause r n ls cs)
+  clauses_with : (r : Bool) (n : ℕ) (ls : List ℕ) (cs : List StoredClause) → (clause_with ls cs ≡ None → IsAnnounced n ls told) → AreClauses cs → AreClauses (with_stored_clause r n ls cs)
   clauses_with true n ls [] new h = (new refl, tt)
   clauses_with false n ls [] new h = (new refl, tt)
   clauses_with r n ls (c ∷ cs) new h = go r (λ k. clauses_with r n ls cs k h.1) (same_literals c.literals ls) new
     where
-      go : (r : Bool) → ((clause_with ls cs ≡ None → IsAnnounced n ls told) → AreClauses (with_clause r n ls cs)) → (b : Bool) → (cond b (Some c) (clause_with ls cs) ≡ None → IsAnnounced n ls told)
-          → AreClauses (cond b (with_count r c ∷ cs) (c ∷ with_clause r n ls cs))
+      go : (r : Bool) → ((clause_with ls cs ≡ None → IsAnnounced n ls told) → AreClauses (with_stored_clause r n ls cs)) → (b : Bool) → (cond b (Some c) (clause_with ls cs) ≡ None → IsAnnounced n ls told)
+          → AreClauses (cond b (with_count r c ∷ cs) (c ∷ with_stored_clause r n ls cs))
       go true ih true k = h
       go false ih true k = h
       go r ih false k = (h.0, ih k)

@@ -5,7 +5,7 @@ use Rattle.sat_base.specs.values.Literals.{negated}
 use Rattle.sat_base.specs.steps.Steps.{Redundant, Simplified, Satisfied, Step, SolverVarName, UserVarName, DeleteVar, ChangeSamplingMode, AddClause, AtClause, UnitClauses, DeleteClause, ChangeHashBits, Model, Assumptions, FailedAssumptions, End}
 use Rattle.sat_checker.specs.LiteralSets.{is_tautology, canonical, same_literals}
 use Rattle.sat_checker.specs.Stored.{StoredClause, Stored, is_unit}
-use Rattle.sat_checker.specs.Storing.{with_count, with_clause, clause_with, without_count, unless_gone, without_clause, with_unit, with_contradiction, with_new_unit, settled, settled_by, with_set, with_canonical, with_stored, with_input, with_units, with_literals_known}
+use Rattle.sat_checker.specs.Storing.{with_count, with_stored_clause, clause_with, without_count, unless_gone, without_clause, with_unit, with_contradiction, with_new_unit, settled, settled_by, with_set, with_canonical, with_stored, with_input, with_units, with_literals_known}
 use Rattle.sat_checker.specs.Accepts.{effect, stored_after, ready_after}
 use Rattle.sat_checker.specs.telling.AnnouncingView as announcing
 use Rattle.sat_checker.proofs.lemmas.meaning.Clauses.{same}
@@ -14,12 +14,12 @@ use Rattle.sat_checker.proofs.lemmas.meaning.Clauses.{same}
 abbrev EachLong : List StoredClause → Type 0
 EachLong = AllByRecursion (λ c. 2 ≤ length c.literals)
 
-long_with : (r : Bool) (n : ℕ) (ls : List ℕ) (cs : List StoredClause) → 2 ≤ length ls → EachLong cs → EachLong (with_clause r n ls cs)
+long_with : (r : Bool) (n : ℕ) (ls : List ℕ) (cs : List StoredClause) → 2 ≤ length ls → EachLong cs → EachLong (with_stored_clause r n ls cs)
 long_with true n ls [] i h = (i, tt)
 long_with false n ls [] i h = (i, tt)
 long_with r n ls (c ∷ cs) i h = go r (long_with r n ls cs i h.1) (same_literals c.literals ls)
   where
-    go : (r : Bool) → EachLong (with_clause r n ls cs) → (b : Bool) → EachLong (cond b (with_count r c ∷ cs) (c ∷ with_clause r n ls cs))
+    go : (r : Bool) → EachLong (with_stored_clause r n ls cs) → (b : Bool) → EachLong (cond b (with_count r c ∷ cs) (c ∷ with_stored_clause r n ls cs))
     go true ih true = h
     go false ih true = h
     go r ih false = (h.0, ih)

@@ -7,11 +7,11 @@ use Rattle.sat_checker.specs.Looks.{total_length}
 use Rattle.sat_checker.specs.Stored.{StoredClause}
 use Rattle.sat_base.specs.values.Literals.{negated}
 use Rattle.sat_checker.specs.LiteralSets.{is_among, is_tautology}
-use Rattle.sat_checker.specs.inner.Walk.{Verdict, falsified, opens, rests, verdict, verdict_of_open, not_false, denied}
+use Rattle.sat_checker.specs.inner.Walk.{Verdict, falsified, opens, rests, verdict, verdict_of_open, not_false, denied_in_turn}
 use Rattle.sat_checker.specs.announcements.Needed.{with_reason, ground_by, ground}
 use Rattle.sat_checker.specs.announcements.Following.{followed_back}
 use Rattle.sat_checker.specs.inner.SlotView.{Slot, slot_at, literals_at, is_filed, places_from, places_of}
-use Rattle.sat_checker.specs.inner.Reasons.{clause_at, filed, named, reason_in, reasons_in, conflict_at, conflict_length, noted_length, IsThere, Leads, Ends, Explains}
+use Rattle.sat_checker.specs.inner.Reasons.{clause_at, filed, named, reason_in, reasons_in, conflict_at, conflict_length, noted_length, IsConflictPlace, KeepsGround, MeetsConflict, Explains}
 use Rattle.sat_checker.specs.declared.rup.passed.Passed.{Passed}
 use Rattle.sat_checker.specs.declared.rup.passed.Reason as noted
 use Rattle.sat_checker.proofs.lemmas.propagation.Walking.{walking}
@@ -28,7 +28,7 @@ length_push ss (x ∷ xs) r = let e : total_length (map (λ y. literals_at ss y.
 
 -- one clause, by what it says
 module _ (ss : List Slot) (old new : Passed) (assumed : List ℕ) (place : ℕ) (inside : place < length ss) where
-  pub leads_open : (l : ℕ) → verdict assumed (literals_at ss place) ≡ opens l → new.reasons.items ≡ old.reasons.items ++ (record { place = place; lit = l }) ∷ [] → Leads ss old assumed (clause_at ss place ∷ []) new (l ∷ assumed) []
+  pub leads_open : (l : ℕ) → verdict assumed (literals_at ss place) ≡ opens l → new.reasons.items ≡ old.reasons.items ++ (record { place = place; lit = l }) ∷ [] → KeepsGround ss old assumed (clause_at ss place ∷ []) new (l ∷ assumed) []
   leads_open l v e =
       let r : noted.Reason = record { place = place; lit = l } in
       let notes : reasons_in ss new ≡ reasons_in ss old ++ reason_in ss r ∷ [] = ap (map (reason_in ss)) e ∙ map-append (reason_in ss) old.reasons.items (r ∷ []) in
@@ -38,18 +38,18 @@ module _ (ss : List Slot) (old new : Passed) (assumed : List ℕ) (place : ℕ) 
         there = λ h. subst (AllByRecursion (λ x. x.place < length ss)) (sym e) (all_push (λ x. x.place < length ss) old.reasons.items r h inside);
       }
 
-  pub leads_over : verdict assumed (literals_at ss place) ≡ rests → Leads ss old assumed (clause_at ss place ∷ []) old assumed []
+  pub leads_over : verdict assumed (literals_at ss place) ≡ rests → KeepsGround ss old assumed (clause_at ss place ∷ []) old assumed []
   leads_over v = record {
     same = λ rest. passed_over (followed_back (reasons_in ss old) (ground assumed (clause_at ss place ∷ rest))) (reasons_in ss old) assumed (clause_at ss place) rest refl v;
     there = λ h. h;
   }
 
-  pub ends_there : verdict assumed (literals_at ss place) ≡ falsified → new.reasons.items ≡ old.reasons.items → new.conflict ≡ Some place → Ends ss old assumed (clause_at ss place ∷ []) new
+  pub ends_there : verdict assumed (literals_at ss place) ≡ falsified → new.reasons.items ≡ old.reasons.items → new.conflict ≡ Some place → MeetsConflict ss old assumed (clause_at ss place ∷ []) new
   ends_there v e k = record {
     same = λ rest. passed_conflict (followed_back (reasons_in ss old) (ground assumed (clause_at ss place ∷ rest))) (reasons_in ss old) assumed (clause_at ss place) rest refl v
         ∙ ap (λ rs. followed_back (map (reason_in ss) rs) (conflict_at ss (Some place))) (sym e) ∙ ap (λ c. followed_back (reasons_in ss new) (conflict_at ss c)) (sym k);
     there = λ h. subst (AllByRecursion (λ x. x.place < length ss)) (sym e) h;
-    met = subst (IsThere ss) (sym k) inside;
+    met = subst (IsConflictPlace ss) (sym k) inside;
   }
 
   pub read_open : (l : ℕ) → new.reasons.items ≡ old.reasons.items ++ (record { place = place; lit = l }) ∷ [] → new.conflict ≡ old.conflict → noted_length ss new ≤ noted_length ss old + length (literals_at ss place)
@@ -68,21 +68,21 @@ module _ (ss : List Slot) (old new : Passed) (assumed : List ℕ) (place : ℕ) 
       omega arith
 
 -- a walk, and a walk over what it left
-module _ (ss : List Slot) (old mid new : Passed) (assumed more most : List ℕ) (cs front left : List StoredClause) (first : Leads ss old assumed cs mid more (front ++ left)) where
-  pub leads_further : Leads ss mid more front new most [] → Leads ss old assumed cs new most left
+module _ (ss : List Slot) (old mid new : Passed) (assumed more most : List ℕ) (cs front left : List StoredClause) (first : KeepsGround ss old assumed cs mid more (front ++ left)) where
+  pub leads_further : KeepsGround ss mid more front new most [] → KeepsGround ss old assumed cs new most left
   leads_further then = record {
     same = λ rest. first.same rest ∙ ap (λ xs. followed_back (reasons_in ss mid) (ground more xs)) (append_assoc front left rest) ∙ then.same (left ++ rest);
     there = λ h. then.there (first.there h);
   }
 
-  pub ends_further : Ends ss mid more front new → Ends ss old assumed cs new
+  pub ends_further : MeetsConflict ss mid more front new → MeetsConflict ss old assumed cs new
   ends_further then = record {
     same = λ rest. first.same rest ∙ ap (λ xs. followed_back (reasons_in ss mid) (ground more xs)) (append_assoc front left rest) ∙ then.same (left ++ rest);
     there = λ h. then.there (first.there h);
     met = then.met;
   }
 
-pub leads_itself : (ss : List Slot) (passed : Passed) (assumed : List ℕ) (cs : List StoredClause) → Leads ss passed assumed cs passed assumed cs
+pub leads_itself : (ss : List Slot) (passed : Passed) (assumed : List ℕ) (cs : List StoredClause) → KeepsGround ss passed assumed cs passed assumed cs
 leads_itself ss passed assumed cs = record { same = λ rest. refl; there = λ h. h }
 
 -- the clauses of a hash are those at its places
@@ -111,37 +111,37 @@ module _ (ss : List Slot) (places : List ℕ) (i : ℕ) (inside : i < length pla
 module _ (ss : List Slot) (old mid new : Passed) (assumed more most : List ℕ) where
   -- the first place of a hash, and those behind it
   module _ (hash place : ℕ) (places : List ℕ) (all : places_of hash ss ≡ place ∷ places) where
-    pub leads_first : Leads ss old assumed (clause_at ss place ∷ []) new most [] → Leads ss old assumed (filed hash ss) new most (map (clause_at ss) places)
+    pub leads_first : KeepsGround ss old assumed (clause_at ss place ∷ []) new most [] → KeepsGround ss old assumed (filed hash ss) new most (map (clause_at ss) places)
     leads_first h =
-        subst (λ cs. Leads ss old assumed cs new most (map (clause_at ss) places)) (sym (filed_at hash ss (place ∷ places) all))
+        subst (λ cs. KeepsGround ss old assumed cs new most (map (clause_at ss) places)) (sym (filed_at hash ss (place ∷ places) all))
         (leads_further ss old old new assumed assumed most (map (clause_at ss) (place ∷ places)) (clause_at ss place ∷ []) (map (clause_at ss) places) (leads_itself ss old assumed (map (clause_at ss) (place ∷ places))) h)
 
-    pub ends_first : Ends ss old assumed (clause_at ss place ∷ []) new → Ends ss old assumed (filed hash ss) new
+    pub ends_first : MeetsConflict ss old assumed (clause_at ss place ∷ []) new → MeetsConflict ss old assumed (filed hash ss) new
     ends_first h =
-        subst (λ cs. Ends ss old assumed cs new) (sym (filed_at hash ss (place ∷ places) all))
+        subst (λ cs. MeetsConflict ss old assumed cs new) (sym (filed_at hash ss (place ∷ places) all))
         (ends_further ss old old new assumed assumed most (map (clause_at ss) (place ∷ places)) (clause_at ss place ∷ []) (map (clause_at ss) places) (leads_itself ss old assumed (map (clause_at ss) (place ∷ places))) h)
 
   -- the place, or the hash, at i is passed next
   module _ (numbers : List ℕ) (i : ℕ) (inside : i < length numbers) (cs : List StoredClause) where
-    pub leads_next : Leads ss old assumed cs mid more (map (clause_at ss) (drop i numbers)) → Leads ss mid more (clause_at ss (get_or numbers i 0) ∷ []) new most [] → Leads ss old assumed cs new most (map (clause_at ss) (drop (i + 1) numbers))
+    pub leads_next : KeepsGround ss old assumed cs mid more (map (clause_at ss) (drop i numbers)) → KeepsGround ss mid more (clause_at ss (get_or numbers i 0) ∷ []) new most [] → KeepsGround ss old assumed cs new most (map (clause_at ss) (drop (i + 1) numbers))
     leads_next h k =
         leads_further ss old mid new assumed more most cs (clause_at ss (get_or numbers i 0) ∷ []) (map (clause_at ss) (drop (i + 1) numbers))
-        (subst (λ xs. Leads ss old assumed cs mid more xs) (next_clause ss numbers i inside) h) k
+        (subst (λ xs. KeepsGround ss old assumed cs mid more xs) (next_clause ss numbers i inside) h) k
 
-    pub ends_next : Leads ss old assumed cs mid more (map (clause_at ss) (drop i numbers)) → Ends ss mid more (clause_at ss (get_or numbers i 0) ∷ []) new → Ends ss old assumed cs new
+    pub ends_next : KeepsGround ss old assumed cs mid more (map (clause_at ss) (drop i numbers)) → MeetsConflict ss mid more (clause_at ss (get_or numbers i 0) ∷ []) new → MeetsConflict ss old assumed cs new
     ends_next h k =
         ends_further ss old mid new assumed more most cs (clause_at ss (get_or numbers i 0) ∷ []) (map (clause_at ss) (drop (i + 1) numbers))
-        (subst (λ xs. Leads ss old assumed cs mid more xs) (next_clause ss numbers i inside) h) k
+        (subst (λ xs. KeepsGround ss old assumed cs mid more xs) (next_clause ss numbers i inside) h) k
 
-    pub leads_hash : Leads ss old assumed cs mid more (named (drop i numbers) ss) → Leads ss mid more (filed (get_or numbers i 0) ss) new most [] → Leads ss old assumed cs new most (named (drop (i + 1) numbers) ss)
+    pub leads_hash : KeepsGround ss old assumed cs mid more (named (drop i numbers) ss) → KeepsGround ss mid more (filed (get_or numbers i 0) ss) new most [] → KeepsGround ss old assumed cs new most (named (drop (i + 1) numbers) ss)
     leads_hash h k =
         leads_further ss old mid new assumed more most cs (filed (get_or numbers i 0) ss) (named (drop (i + 1) numbers) ss)
-        (subst (λ xs. Leads ss old assumed cs mid more xs) (next_named ss numbers i inside) h) k
+        (subst (λ xs. KeepsGround ss old assumed cs mid more xs) (next_named ss numbers i inside) h) k
 
-    pub ends_hash : Leads ss old assumed cs mid more (named (drop i numbers) ss) → Ends ss mid more (filed (get_or numbers i 0) ss) new → Ends ss old assumed cs new
+    pub ends_hash : KeepsGround ss old assumed cs mid more (named (drop i numbers) ss) → MeetsConflict ss mid more (filed (get_or numbers i 0) ss) new → MeetsConflict ss old assumed cs new
     ends_hash h k =
         ends_further ss old mid new assumed more most cs (filed (get_or numbers i 0) ss) (named (drop (i + 1) numbers) ss)
-        (subst (λ xs. Leads ss old assumed cs mid more xs) (next_named ss numbers i inside) h) k
+        (subst (λ xs. KeepsGround ss old assumed cs mid more xs) (next_named ss numbers i inside) h) k
 
 pub read_further : (noted mid more before between after n : ℕ) → mid + before ≤ noted + between → after ≡ between + n → more ≤ mid + n → more + before ≤ noted + after
 read_further noted mid more before between after n k e h = omega arith
@@ -186,7 +186,7 @@ nothing_noted ss passed e k =
     omega arith
 
 -- A walk that starts with no notes, under the negated clause, ends with notes that explain the ground of its conflict.
-pub explained : (ss : List Slot) (old new : Passed) (units clause more hashes : List ℕ) → old.reasons.items ≡ [] → denied units clause ≡ Some more → Ends ss old more (named hashes ss) new
+pub explained : (ss : List Slot) (old new : Passed) (units clause more hashes : List ℕ) → old.reasons.items ≡ [] → denied_in_turn units clause ≡ Some more → MeetsConflict ss old more (named hashes ss) new
     → Explains ss new (ground (map negated clause ++ units) (named hashes ss))
 explained ss old new units clause more hashes e d h =
     let k = denied_some clause units more d in
@@ -199,5 +199,5 @@ explained ss old new units clause more hashes e d h =
     }
 
 -- all negations can be assumed where no unit is true in the clause and it has no variable with both signs
-pub never_met : (clause units : List ℕ) → denied units clause ≡ None → list_any (is_among units) clause ≡ false → is_tautology clause ≡ false → ⊥
+pub never_met : (clause units : List ℕ) → denied_in_turn units clause ≡ None → list_any (is_among units) clause ≡ false → is_tautology clause ≡ false → ⊥
 never_met clause units e u t = elim (denied_none clause units e) [ inl a ↦ both_ways (list_any (is_among units) clause) u a | inr b ↦ both_ways (is_tautology clause) t b ]

@@ -4,7 +4,7 @@ use Rattle.std.proofs.lemmas.List.{append-nil, map-append}
 use Rattle.sat_base.specs.values.Literals.{negated}
 use Rattle.sat_base.specs.values.Hashes.{hash_of}
 use Rattle.sat_base.specs.steps.Steps.{Step, AddClause, AtClause, Assumptions}
-use Rattle.sat_checker.specs.Accepts.{Passes, MayGetName, stored_after, ready_after}
+use Rattle.sat_checker.specs.Accepts.{PassesByHashes, MayGetName, stored_after, ready_after}
 use Rattle.sat_checker.specs.Stored.{Sample, Witness, Stored, StoredClause, bucket, unit_literals, unknown}
 use Rattle.sat_checker.specs.Propagation.{unit_true, tautology}
 use Rattle.sat_checker.specs.Rows.{AllAccepted, behind, ready_by}
@@ -94,8 +94,8 @@ all_taken = (((((((tt, inr (refl, tt)), inr (refl, tt)), inr (refl, (refl, (refl
 behind_them : (last : Step) (told : List Announcement) → announced held last ≡ told → announcements_of (told_after (last ∷ behind units_and_clauses [])) ≡ announcements_of (told_after (behind units_and_clauses [])) ++ told
 behind_them last told a = tells_last (behind units_and_clauses []) last told refl (ap (λ f. announced f last) held_is ∙ a)
 
-passes_there : (clause : List ℕ) → walk_buckets (map negated clause ++ unit_literals held) (map (bucket held) (0 ∷ [])) ≡ true → Passes (ready_by units_and_clauses) clause (0 ∷ [])
-passes_there clause e = subst (λ f. Passes f clause (0 ∷ [])) (sym held_is) (walked held clause (0 ∷ []) e)
+passes_there : (clause : List ℕ) → walk_buckets (map negated clause ++ unit_literals held) (map (bucket held) (0 ∷ [])) ≡ true → PassesByHashes (ready_by units_and_clauses) clause (0 ∷ [])
+passes_there clause e = subst (λ f. PassesByHashes f clause (0 ∷ [])) (sym held_is) (walked held clause (0 ∷ []) e)
 
 pub units_first : UnitsFirst
 units_first = ((all_taken, passes_there (8 ∷ 14 ∷ []) refl), behind_them (AtClause true (8 ∷ 14 ∷ []) (0 ∷ [])) (tells.AtClause 6 true (8 ∷ 14 ∷ []) (0 ∷ 1 ∷ 2 ∷ 3 ∷ 5 ∷ []) ∷ []) refl)

@@ -8,9 +8,9 @@ use Rattle.sat_checker.specs.inner.Marks.{IsIncreasing, NoRepeats}
 use Rattle.sat_checker.specs.Propagation.{UnitInTurn, tautology, unit_true, conflict, clauses_in}
 use Rattle.sat_checker.specs.Stored.{StoredClause, StoredUnit, Stored, unit_literals, hash_by, bucket}
 use Rattle.sat_checker.specs.Storing.{unit_id}
-use Rattle.sat_checker.specs.Accepts.{VariablesApart, Passes}
+use Rattle.sat_checker.specs.Accepts.{VariablesApart, PassesByHashes}
 use Rattle.sat_checker.specs.inner.Walk.{Verdict, falsified, opens, rests, verdict, walk, walk_on, and_then, walk_buckets, if_conflict}
-use Rattle.sat_checker.specs.announcements.Needed.{Ground, ground_by, ground, named_by, needed_units, conflict_ids, or_else, true_unit, unit_alone, propagations}
+use Rattle.sat_checker.specs.announcements.Needed.{Ground, ground_by, ground, clauses_named, needed_units, conflict_ids, or_else, true_unit, unit_alone, propagations}
 use Rattle.sat_checker.specs.announcements.Promises.{IsOneOf, RestsOn, TautologiesRestOnNothing}
 use Rattle.sat_checker.proofs.lemmas.sets.Order.{among-append}
 use Rattle.sat_checker.proofs.lemmas.sets.Canonical.{canonical_among}
@@ -190,13 +190,13 @@ literals_both : (xs ys : List StoredClause) → literals_of (xs ++ ys) ≡ liter
 literals_both [] ys = refl
 literals_both (x ∷ xs) ys = ap (λ zs. x.literals ∷ zs) (literals_both xs ys)
 
-named_clauses : (hashes : List ℕ) (f : Stored) → clauses_in (map (bucket f) hashes) ≡ literals_of (named_by hashes f)
+named_clauses : (hashes : List ℕ) (f : Stored) → clauses_in (map (bucket f) hashes) ≡ literals_of (clauses_named hashes f)
 named_clauses [] f = refl
 named_clauses (h ∷ hs) f =
     let p : List ℕ → Bool = λ c. eqb (hash_by f.solver_names f.width c) h in
     ap (λ xs. xs ++ clauses_in (map (bucket f) hs)) (filter_literals p f.clauses)
     ∙ ap (λ ys. literals_of (filter (λ c. p c.literals) f.clauses) ++ ys) (named_clauses hs f)
-    ∙ sym (literals_both (filter (λ c. p c.literals) f.clauses) (named_by hs f))
+    ∙ sym (literals_both (filter (λ c. p c.literals) f.clauses) (clauses_named hs f))
 
 walk_both : (xs ys : List (List ℕ)) (assumed : List ℕ) → walk assumed (xs ++ ys) ≡ and_then (walk assumed xs) (λ more. walk more ys)
 walk_both [] ys assumed = refl
@@ -241,10 +241,10 @@ one_of_both : (c : StoredClause) (xs ys : List StoredClause) → IsOneOf c (xs +
 one_of_both c [] ys h = inr h
 one_of_both c (x ∷ xs) ys h = elim h [ inl e ↦ inl (inl e) | inr k ↦ elim (one_of_both c xs ys k) [ inl m ↦ inl (inr m) | inr n ↦ inr n ] ]
 
-pub named_stored : (hashes : List ℕ) (f : Stored) (c : StoredClause) → IsOneOf c (named_by hashes f) → IsOneOf c f.clauses
+pub named_stored : (hashes : List ℕ) (f : Stored) (c : StoredClause) → IsOneOf c (clauses_named hashes f) → IsOneOf c f.clauses
 named_stored [] f c h = absurd h
 named_stored (k ∷ ks) f c h =
-    elim (one_of_both c (filter (λ d. eqb (hash_by f.solver_names f.width d.literals) k) f.clauses) (named_by ks f) h) [
+    elim (one_of_both c (filter (λ d. eqb (hash_by f.solver_names f.width d.literals) k) f.clauses) (clauses_named ks f) h) [
       | inl m ↦ one_of_few (λ d. eqb (hash_by f.solver_names f.width d.literals) k) c f.clauses m
       | inr m ↦ named_stored ks f c m
     ]
@@ -294,12 +294,12 @@ each_imp P Q (u ∷ us) w h = (w u h.0, each_imp P Q us w h.1)
 
 -- where no unit is true in the clause, and the clauses named run to a conflict
 module _ (f : Stored) (clause hashes : List ℕ) (sorted : Sorted f) (apart : VariablesApart (unit_literals f)) where
-  rests_on_conflict : ((m : ℕ) → is_among clause m ≡ true → is_among (unit_literals f) m ≡ false) → walk (map negated clause ++ unit_literals f) (literals_of (named_by hashes f)) ≡ None
-      → RestsOn f clause (conflict_ids (map negated clause) (ground (map negated clause ++ unit_literals f) (named_by hashes f)) f.units)
+  rests_on_conflict : ((m : ℕ) → is_among clause m ≡ true → is_among (unit_literals f) m ≡ false) → walk (map negated clause ++ unit_literals f) (literals_of (clauses_named hashes f)) ≡ None
+      → RestsOn f clause (conflict_ids (map negated clause) (ground (map negated clause ++ unit_literals f) (clauses_named hashes f)) f.units)
   rests_on_conflict none e =
       let denied : List ℕ = map negated clause in
       let assumed : List ℕ = denied ++ unit_literals f in
-      let g : Ground = ground assumed (named_by hashes f) in
+      let g : Ground = ground assumed (clauses_named hashes f) in
       let p : StoredUnit → Bool = λ u. is_among g.literals u.literal && not (is_among denied u.literal) in
       let needed : List StoredUnit = needed_units denied g f.units in
       let open_units : AreOpen denied needed = few_each p (λ u. (is_among denied u.literal ≡ false) × (is_among denied (negated u.literal) ≡ false)) f.units
@@ -324,9 +324,9 @@ module _ (f : Stored) (clause hashes : List ℕ) (sorted : Sorted f) (apart : Va
         clauses = g.clauses;
         are = refl;
         units_stored = few_each p (λ u. IsOneOf u f.units) f.units (one_of_itself p f.units);
-        clauses_stored = grounds_among (λ c. IsOneOf c f.clauses) (named_by hashes f) assumed (named_stored hashes f);
+        clauses_stored = grounds_among (λ c. IsOneOf c f.clauses) (clauses_named hashes f) assumed (named_stored hashes f);
         increasing = few_increasing p f.units sorted.increasing;
-        conflict = units_run needed denied (literals_of g.clauses) open_units (few_apart p f.units apart) (grounds_run (named_by hashes f) assumed (pushed needed denied) e (record { within = within; enough = enough }));
+        conflict = units_run needed denied (literals_of g.clauses) open_units (few_apart p f.units apart) (grounds_run (clauses_named hashes f) assumed (pushed needed denied) e (record { within = within; enough = enough }));
       }
 
   pub rests_on_unit : (id : ℕ) → true_unit (canonical clause) f.units ≡ Some id → RestsOn f clause (id ∷ [])
@@ -344,7 +344,7 @@ module _ (f : Stored) (clause hashes : List ℕ) (sorted : Sorted f) (apart : Va
       }
 
   -- where it passes by a conflict, the clauses named run to one
-  pub met : ((m : ℕ) → is_among clause m ≡ true → is_among (unit_literals f) m ≡ false) → is_tautology clause ≡ false → Passes f clause hashes → walk (map negated clause ++ unit_literals f) (literals_of (named_by hashes f)) ≡ None
+  pub met : ((m : ℕ) → is_among clause m ≡ true → is_among (unit_literals f) m ≡ false) → is_tautology clause ≡ false → PassesByHashes f clause hashes → walk (map negated clause ++ unit_literals f) (literals_of (clauses_named hashes f)) ≡ None
   met none n (tautology t) = absurd (both_ways (is_tautology clause) n t)
   met none n (unit_true t) = absurd (both_ways (list_any (is_among (unit_literals f)) clause) (any_none (is_among (unit_literals f)) clause none) t)
   met none n (conflict k) =
@@ -352,11 +352,11 @@ module _ (f : Stored) (clause hashes : List ℕ) (sorted : Sorted f) (apart : Va
       subst (λ cs. walk assumed cs ≡ None) (named_clauses hashes f)
       (walk_joined (map (bucket f) hashes) assumed (walk_from_rule assumed assumed (map (bucket f) hashes) (record { each = λ l h. h }) (buckets_sets hashes f sorted) k))
 
-  pub rests_on : Passes f clause hashes → is_tautology clause ≡ false → RestsOn f clause (propagations f clause hashes)
+  pub rests_on : PassesByHashes f clause hashes → is_tautology clause ≡ false → RestsOn f clause (propagations f clause hashes)
   rests_on passes n = subst (λ b. RestsOn f clause (cond b [] (unit_alone (true_unit (canonical clause) f.units) ids))) (sym n) (go (true_unit (canonical clause) f.units) refl)
     where
       ids : List ℕ
-      ids = conflict_ids (map negated clause) (ground (map negated clause ++ unit_literals f) (named_by hashes f)) f.units
+      ids = conflict_ids (map negated clause) (ground (map negated clause ++ unit_literals f) (clauses_named hashes f)) f.units
 
       go : (x : Option ℕ) → true_unit (canonical clause) f.units ≡ x → RestsOn f clause (unit_alone x ids)
       go (Some id) e = rests_on_unit id e

@@ -6,7 +6,7 @@ use Rattle.sat_base.specs.steps.Steps.{Redundant, Simplified, Satisfied, Step, S
 use Rattle.sat_checker.specs.LiteralSets.{is_tautology, canonical, same_literals}
 use Rattle.sat_checker.specs.inner.Marks.{IsIncreasing}
 use Rattle.sat_checker.specs.Stored.{StoredClause, StoredUnit, Stored, is_unit}
-use Rattle.sat_checker.specs.Storing.{with_count, with_clause, clause_with, without_count, unless_gone, without_clause, with_unit, with_contradiction, with_new_unit, settled, settled_by, with_long, with_set, with_canonical, with_stored, with_input, with_units, with_literals_known}
+use Rattle.sat_checker.specs.Storing.{with_count, with_stored_clause, clause_with, without_count, unless_gone, without_clause, with_unit, with_contradiction, with_new_unit, settled, settled_by, with_long, with_set, with_canonical, with_stored, with_input, with_units, with_literals_known}
 use Rattle.sat_checker.specs.Accepts.{effect, stored_after, ready_after}
 use Rattle.sat_checker.proofs.lemmas.sets.Canonical.{canonical_increasing}
 use Rattle.sat_checker.proofs.lemmas.meaning.Orderly.{below_more, increasing_push}
@@ -30,12 +30,12 @@ aside f g c u n s = record {
   below = subst (λ us. AllByRecursion (λ i. i < g.next_id) (unit_ids us)) (sym u) (below_more f.next_id g.next_id n (unit_ids f.units) s.below);
 }
 
-sets_with : (r : Bool) (n : ℕ) (ls : List ℕ) (cs : List StoredClause) → IsIncreasing ls → AreSets cs → AreSets (with_clause r n ls cs)
+sets_with : (r : Bool) (n : ℕ) (ls : List ℕ) (cs : List StoredClause) → IsIncreasing ls → AreSets cs → AreSets (with_stored_clause r n ls cs)
 sets_with true n ls [] i h = (i, tt)
 sets_with false n ls [] i h = (i, tt)
 sets_with r n ls (c ∷ cs) i h = go r (sets_with r n ls cs i h.1) (same_literals c.literals ls)
   where
-    go : (r : Bool) → AreSets (with_clause r n ls cs) → (b : Bool) → AreSets (cond b (with_count r c ∷ cs) (c ∷ with_clause r n ls cs))
+    go : (r : Bool) → AreSets (with_stored_clause r n ls cs) → (b : Bool) → AreSets (cond b (with_count r c ∷ cs) (c ∷ with_stored_clause r n ls cs))
     go true ih true = h
     go false ih true = h
     go r ih false = (h.0, ih)

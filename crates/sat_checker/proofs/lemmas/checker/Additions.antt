@@ -8,8 +8,8 @@ use Rattle.sat_checker.specs.Accepts.{MayBeAdded, ready_after}
 use Rattle.sat_checker.specs.Looks.{most_looks}
 use Rattle.sat_checker.specs.KernelView.{LooksAtMost, KeepsAfter}
 use Rattle.sat_checker.specs.CheckerView.{Seen, has_failed, looks_of, AnswersStep, AnswersClause}
-use Rattle.sat_checker.specs.ProofView.{taken_after, most_looks_behind, GoesOn}
-use Rattle.sat_checker.specs.ClausesView.{additions, Adds, behind, AnswersClauses}
+use Rattle.sat_checker.specs.ProofView.{taken_after, most_looks_behind, StandsUnfailed}
+use Rattle.sat_checker.specs.ClausesView.{additions, AddsFirstClauses, after_additions, AnswersClauses}
 use Rattle.sat_checker.specs.announcements.Announcements.{Told}
 use Rattle.sat_checker.specs.declared.processing.ProcessingError.{ProcessingError}
 use Rattle.sat_checker.specs.declared.error.CheckerError.{CheckerError}
@@ -22,10 +22,10 @@ additions_one : (cs : List (List ℕ)) (c : List ℕ) → additions (cs ++ c ∷
 additions_one [] c = refl
 additions_one (d ∷ ds) c = ap (λ (z : List Step). AddClause d ∷ z) (additions_one ds c)
 
-behind_one : (cs : List (List ℕ)) (c : List ℕ) (earlier : List Step) → behind (cs ++ c ∷ []) earlier ≡ AddClause c ∷ behind cs earlier
+behind_one : (cs : List (List ℕ)) (c : List ℕ) (earlier : List Step) → after_additions (cs ++ c ∷ []) earlier ≡ AddClause c ∷ after_additions cs earlier
 behind_one cs c earlier = ap (λ (z : List Step). taken_after z earlier) (additions_one cs c) ∙ taken_one (additions cs) (AddClause c) earlier
 
-cost_one : (cs : List (List ℕ)) (c : List ℕ) (earlier : List Step) → most_looks_behind (additions (cs ++ c ∷ [])) earlier ≡ most_looks_behind (additions cs) earlier + most_looks (ready_after (behind cs earlier)) (AddClause c)
+cost_one : (cs : List (List ℕ)) (c : List ℕ) (earlier : List Step) → most_looks_behind (additions (cs ++ c ∷ [])) earlier ≡ most_looks_behind (additions cs) earlier + most_looks (ready_after (after_additions cs earlier)) (AddClause c)
 cost_one cs c earlier = ap (λ (z : List Step). most_looks_behind z earlier) (additions_one cs c) ∙ looks_one (additions cs) (AddClause c) earlier
 
 -- a unit conflict that is settled is no bar
@@ -44,32 +44,32 @@ module _ {L : Type 0} (Hears : L → Told → Result Unit ProcessingError → L 
   pub record Added (old new : Seen L) (clauses rest : List (List ℕ)) (earlier : List Step) : Type 0 where
     pub added : List (List ℕ)
     pub split : clauses ≡ added ++ rest
-    pub goes_on : GoesOn Hears before begun new (behind added earlier)
+    pub goes_on : StandsUnfailed Hears before begun new (after_additions added earlier)
     pub looks : looks_of new ≤ looks_of old + most_looks_behind (additions added) earlier
 
   tried_cost : (a b d : Seen L) (clauses rest : List (List ℕ)) (c : List ℕ) (earlier : List Step) → (p : Added a b clauses rest earlier) → LooksAtMost b.kernel (AddClause c) d.kernel
       → looks_of d ≤ looks_of a + most_looks_behind (additions (p.added ++ c ∷ [])) earlier
-  tried_cost a b d clauses rest c earlier p l = looks_more (looks_of a) (looks_of b) (looks_of d) _ _ _ p.looks (l (behind p.added earlier) p.goes_on.0.kernel) (cost_one p.added c earlier)
+  tried_cost a b d clauses rest c earlier p l = looks_more (looks_of a) (looks_of b) (looks_of d) _ _ _ p.looks (l (after_additions p.added earlier) p.goes_on.0.kernel) (cost_one p.added c earlier)
 
   split_one : (clauses added rest more : List (List ℕ)) (c : List ℕ) → clauses ≡ added ++ rest → rest ≡ c ∷ more → clauses ≡ (added ++ c ∷ []) ++ more
   split_one clauses added rest more c e f = e ∙ ap (λ (z : List (List ℕ)). added ++ z) f ∙ sym (append_assoc added (c ∷ []) more)
 
   pub added_one : (a b d : Seen L) (clauses rest more : List (List ℕ)) (c : List ℕ) (earlier : List Step) → rest ≡ c ∷ more → (p : Added a b clauses rest earlier) → LooksAtMost b.kernel (AddClause c) d.kernel
-      → AnswersClause Hears before begun (Ok tt) b c d (behind p.added earlier) → Added a d clauses more earlier
+      → AnswersClause Hears before begun (Ok tt) b c d (after_additions p.added earlier) → Added a d clauses more earlier
   added_one a b d clauses rest more c earlier e p l k = record {
     added = p.added ++ c ∷ [];
     split = split_one clauses p.added rest more c p.split e;
-    goes_on = subst (GoesOn Hears before begun d) (sym (behind_one p.added c earlier)) (k.1.stands, k.1.goes_on);
+    goes_on = subst (StandsUnfailed Hears before begun d) (sym (behind_one p.added c earlier)) (k.1.stands, k.1.goes_on);
     looks = tried_cost a b d clauses rest c earlier p l;
   }
 
   adds_tried : (a b d : Seen L) (clauses rest more : List (List ℕ)) (c : List ℕ) (earlier : List Step) → has_failed a ≡ false → rest ≡ c ∷ more → (p : Added a b clauses rest earlier) → LooksAtMost b.kernel (AddClause c) d.kernel
-      → Adds a d clauses p.added (c ∷ []) earlier
+      → AddsFirstClauses a d clauses p.added (c ∷ []) earlier
   adds_tried a b d clauses rest more c earlier h e p l = record { well = h; left = more; split = split_one clauses p.added rest more c p.split e; looks = tried_cost a b d clauses rest c earlier p l }
 
   pub added_stops : (a b d : Seen L) (g : CheckerError) (clauses rest more : List (List ℕ)) (c : List ℕ) (earlier : List Step) → has_failed a ≡ false → rest ≡ c ∷ more → (p : Added a b clauses rest earlier) → LooksAtMost b.kernel (AddClause c) d.kernel
-      → AnswersClause Hears before begun (Err g) b c d (behind p.added earlier) → AnswersClauses Hears before begun (Err g) a d clauses earlier
-  added_stops a b d errors.CheckFailed clauses rest more c earlier h e p l k = (p.added, c, adds_tried a b d clauses rest more c earlier h e p l, k.1, subst (λ z. GoesOn Hears before begun z (behind p.added earlier)) (sym k.2) p.goes_on)
+      → AnswersClause Hears before begun (Err g) b c d (after_additions p.added earlier) → AnswersClauses Hears before begun (Err g) a d clauses earlier
+  added_stops a b d errors.CheckFailed clauses rest more c earlier h e p l k = (p.added, c, adds_tried a b d clauses rest more c earlier h e p l, k.1, subst (λ z. StandsUnfailed Hears before begun z (after_additions p.added earlier)) (sym k.2) p.goes_on)
   added_stops a b d errors.CounterEnd clauses rest more c earlier h e p l k = (p.added, c, adds_tried a b d clauses rest more c earlier h e p l, k.1, k.2)
   added_stops a b d errors.OutOfMemory clauses rest more c earlier h e p l k = (p.added, c, adds_tried a b d clauses rest more c earlier h e p l, k.1)
   added_stops a b d (errors.ProofProcessorError cause) clauses rest more c earlier h e p l k = (p.added, c, adds_tried a b d clauses rest more c earlier h e p l, k.1)
@@ -88,7 +88,7 @@ module _ {L : Type 0} (Hears : L → Told → Result Unit ProcessingError → L 
           split = sym (append-nil clauses) ∙ sym (append-nil (clauses ++ []));
           looks = subst (λ (z : List Step). looks_of b ≤ looks_of a + most_looks_behind z earlier) cost p.looks;
         },
-        subst (λ (z : List (List ℕ)). GoesOn Hears before begun b (behind z earlier)) (sym all) p.goes_on,
+        subst (λ (z : List (List ℕ)). StandsUnfailed Hears before begun b (after_additions z earlier)) (sym all) p.goes_on,
       )
 
   -- a clause that may be added is accepted

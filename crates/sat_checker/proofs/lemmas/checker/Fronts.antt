@@ -5,7 +5,7 @@ use Rattle.std.proofs.lemmas.List.{append-nil}
 use Rattle.std.proofs.lemmas.Bool.Decides.{nat_tests}
 use Rattle.sat_base.specs.text.Text.{is_blank, Token, Scan, scan}
 use Rattle.sat_base.specs.text.Spot.{Stage, Begun, stage_end, stage_behind, Spot, Fresh, Leading, Comment, Between, Within, HeaderBetween, HeaderWithin, Spoilt, Over, IsSpot, left, in_hand, behind_LF, lines_behind, behind_header_word, behind_blank, ended_by_blank, onto}
-use Rattle.sat_base.specs.text.Tokenizing.{Quiet}
+use Rattle.sat_base.specs.text.Tokenizing.{HoldsNoWord}
 use Rattle.sat_base.specs.dimacs.Dimacs.{Hand, Turn, GoesOn, Ends, Fails, Dimacs, turn, behind_turn, clauses_of, dimacs, has_blank, settled}
 use Rattle.sat_base.proofs.lemmas.text.Spots.{Solid-more, start, LF_left, fresh_leads, blank_left, leading_comment, leading_end, leading_header, leading_late_header, leading_word, comment_more, between_word, within_more, header_between_word, header_within_more, spoilt_more, over_more, end_left}
 use Rattle.sat_base.proofs.lemmas.text.TextRuns.{QuietTokens, of_header}
@@ -175,9 +175,9 @@ record Rests (text : List ℕ) : Type 0 where
   gives : List (ℕ × Token)
   left_of : List ℕ → Scan
   scans : (rest : List ℕ) → scan (text ++ rest) ≡ onto gives (left_of rest)
-  quiet : Quiet (left_of [])
+  quiet : HoldsNoWord (left_of [])
 
-quiet_at : (spot : Spot) (n : ℕ) → IsSpot spot → QuietTokens (in_hand spot n) → Quiet (left spot n [])
+quiet_at : (spot : Spot) (n : ℕ) → IsSpot spot → QuietTokens (in_hand spot n) → HoldsNoWord (left spot n [])
 quiet_at spot n g q = subst QuietTokens (sym (ap (λ (s : Scan). s.tokens) (end_left spot n g))) q
 
 rests : (front : List ℕ) (b : ℕ) → is_blank b ≡ true → Rests (front ++ b ∷ [])
@@ -198,7 +198,7 @@ rests front b e =
 record Keeps (hand : Hand) (before : List (ℕ × Token)) : Type 0 where
   clauses : List (List ℕ)
   more : (last : ℕ) (ts : List (ℕ × Token)) → (left : List (List ℕ)) × ((clauses_of hand last (before ++ ts)).clauses ≡ clauses ++ left)
-  quiet : (s : Scan) → Quiet s → (clauses_of hand s.last (before ++ s.tokens)).clauses ≡ clauses
+  quiet : (s : Scan) → HoldsNoWord s → (clauses_of hand s.last (before ++ s.tokens)).clauses ≡ clauses
 
 turned : (hand : Hand) (t : ℕ × Token) (ts : List (ℕ × Token)) (k : Turn) → turn hand t.0 t.1 ≡ k → (last : ℕ) → (clauses_of hand last (t ∷ ts)).clauses ≡ (behind_turn k (λ h. clauses_of h last ts)).clauses
 turned hand t ts k e last = ap (λ (d : Dimacs). d.clauses) (clauses_of_cons hand last t ts ∙ ap (λ (j : Turn). behind_turn j (λ h. clauses_of h last ts)) e)

@@ -12,7 +12,7 @@ use Rattle.sat_base.specs.declared.steps.reader.StepReader.{StepReader}
 use Rattle.sat_base.specs.declared.steps.reader.Buffers.{Buffers}
 use Rattle.sat_base.specs.device.Device.{Reader, IsOver, ReadFails, most_reads, piece_size}
 use Rattle.sat_base.specs.device.Reading.{Source, PassesBut, Passes, Faults, AllTaken, giving, unread}
-use Rattle.sat_base.specs.steps.Formats.{Format, Items, Live}
+use Rattle.sat_base.specs.steps.Formats.{Format, Items, IsProperFront}
 use Rattle.sat_base.specs.steps.StepReading.{reader_source, Next}
 use Rattle.sat_base.specs.steps.StepReading as reading
 use Rattle.sat_base.specs.steps.Steps.{Step, End}
@@ -20,10 +20,10 @@ use Rattle.sat_base.specs.steps.StepText.{tag_of, SpellsStep, SpellsSteps}
 use Rattle.sat_base.proofs.lemmas.device.ReadLemmas.{passes_none, passes_more, faults_later}
 use Rattle.sat_checker.specs.Accepts.{ready_after}
 use Rattle.sat_checker.specs.Looks.{most_looks}
-use Rattle.sat_checker.specs.CheckerView.{Seen, has_failed, looks_of, IsSettled, Stands, Stops, AnswersStep}
+use Rattle.sat_checker.specs.CheckerView.{Seen, has_failed, looks_of, IsSettled, Stands, FailsBeforeStep, AnswersStep}
 use Rattle.sat_checker.specs.inner.DimacsPieces.{with_flag}
-use Rattle.sat_checker.specs.ProofView.{taken_after, most_bytes, most_looks_behind, GaveSteps, Went, GoesOn, AnswersProof}
-use Rattle.sat_checker.specs.inner.ProofSteps.{Turn, turn, Tries, StepsOn, Passed, error_of, is_final, bytes_left}
+use Rattle.sat_checker.specs.ProofView.{taken_after, most_bytes, most_looks_behind, GaveSteps, ReadsProofPart, StandsUnfailed, AnswersProof}
+use Rattle.sat_checker.specs.inner.ProofSteps.{CheckerAtSource, at_source, TriesStep, StepsOn, TakesStepsBeforeEnd, error_of, is_final, bytes_left}
 use Rattle.sat_checker.specs.announcements.Announcements.{Told}
 use Rattle.sat_checker.specs.declared.processing.ProcessingError.{ProcessingError}
 use Rattle.sat_checker.proofs.lemmas.telling.Heard.{heard_some}
@@ -33,7 +33,7 @@ use Rattle.sat_checker.specs.declared.error.CheckerError.TheVariants as errors
 
 -- NO STEP IS READ
 
-live_none : Live SpellsStep []
+live_none : IsProperFront SpellsStep []
 live_none = (End, 13, [], ([], refl, refl))
 
 -- STEPS ONE AFTER ANOTHER
@@ -157,8 +157,8 @@ looks_still a b c m n h e f = omega arith
 none_behind : (xs earlier : List Step) → most_looks_behind (xs ++ []) earlier ≡ most_looks_behind xs earlier
 none_behind xs earlier = ap (λ (z : List Step). most_looks_behind z earlier) (append-nil xs)
 
-live_still : (more waiting : List ℕ) → waiting ≡ [] → Live SpellsStep more → Live SpellsStep (more ++ waiting)
-live_still more waiting e h = subst (Live SpellsStep) (sym (ap (λ (z : List ℕ). more ++ z) e ∙ append-nil more)) h
+live_still : (more waiting : List ℕ) → waiting ≡ [] → IsProperFront SpellsStep more → IsProperFront SpellsStep (more ++ waiting)
+live_still more waiting e h = subst (IsProperFront SpellsStep) (sym (ap (λ (z : List ℕ). more ++ z) e ∙ append-nil more)) h
 
 none_waits : (known : Option (List ℕ)) (ws : List ℕ) → ws ≡ [] → IsAtEnd (prepend_known ws known) → IsAtEnd known
 none_waits None ws e h = tt
@@ -166,10 +166,10 @@ none_waits (Some xs) ws e h = sym (ap (λ (z : List ℕ). z ++ xs) e) ∙ h
 
 module _ {L : Type 0} (Hears : L → Told → Result Unit ProcessingError → L → Type 0) (before : List Told) (begun : L) where
   -- the checker with its flag as it was
-  unfailed : (c : Seen L) (steps : List Step) → has_failed c ≡ false → Stands Hears before begun c steps → GoesOn Hears before begun (with_flag false c) steps
+  unfailed : (c : Seen L) (steps : List Step) → has_failed c ≡ false → Stands Hears before begun c steps → StandsUnfailed Hears before begun (with_flag false c) steps
   unfailed c steps h s = (record { kernel = record { accepted = s.kernel.accepted; records = s.kernel.records; kept = λ e. s.kernel.kept h }; heard = λ e. s.heard h }, refl)
 
-  pub failed_now : (c : Seen L) (steps : List Step) → has_failed c ≡ false → Stands Hears before begun c steps → Stops Hears before begun (with_flag true c) steps
+  pub failed_now : (c : Seen L) (steps : List Step) → has_failed c ≡ false → Stands Hears before begun c steps → FailsBeforeStep Hears before begun (with_flag true c) steps
   failed_now c steps h s = record {
     fails = record {
       stands = record { kernel = record { accepted = s.kernel.accepted; records = s.kernel.records; kept = λ e. absurd (true≢false e) }; heard = λ e. absurd (true≢false e) };
@@ -179,8 +179,8 @@ module _ {L : Type 0} (Hears : L → Told → Result Unit ProcessingError → L 
   }
 
   pub unread_answer : {R : Type 0} (seen : R → Reader) (c : Seen L) (s t : StepReader R Buffers) (e : StepError) (step : Step) (earlier : List Step)
-      → has_failed c ≡ false → reading.has_failed s ≡ false → Next seen s t (giving step (Err e)) → Stands Hears before begun c earlier
-      → StepsOn Hears before begun (Err (error_of e)) (turn c (reader_source seen s)) (turn (with_flag (is_final e) c) (reader_source seen t)) earlier
+      → has_failed c ≡ false → reading.has_reader_failed s ≡ false → Next seen s t (giving step (Err e)) → Stands Hears before begun c earlier
+      → StepsOn Hears before begun (Err (error_of e)) (at_source c (reader_source seen s)) (at_source (with_flag (is_final e) c) (reader_source seen t)) earlier
   unread_answer seen c s t unread_by.Ends step earlier h k n stands = ([], n.answer, live_none, record { goes_on = unfailed c earlier h stands; looks = refl })
   unread_answer seen c s t unread_by.Cut step earlier h k n stands = let a = n.answer in (a.0 ∷ a.1, a.2, a.3, record { goes_on = unfailed c earlier h stands; looks = refl })
   unread_answer seen c s t unread_by.BadByte step earlier h k n stands = let a = n.answer in (a.0, a.1, a.2, a.3, a.4, record { goes_on = unfailed c earlier h stands; looks = refl })
@@ -189,25 +189,25 @@ module _ {L : Type 0} (Hears : L → Told → Result Unit ProcessingError → L 
       let a = n.answer in inl (record { tag = a.0; more = a.1; passes = a.2; begins = a.3; looks = refl }, failed_now c earlier h stands)
   unread_answer seen c s t unread_by.HasFailed step earlier h k n stands = absurd (true≢false (sym n.was ∙ k))
 
-  tried_looks : (a b c : Turn L) (earlier xs : List Step) (x : Step) → Passed Hears before begun a b earlier xs → Tries b c (taken_after xs earlier) x → looks_of c.checker ≤ looks_of a.checker + most_looks_behind (xs ++ x ∷ []) earlier
+  tried_looks : (a b c : CheckerAtSource L) (earlier xs : List Step) (x : Step) → TakesStepsBeforeEnd Hears before begun a b earlier xs → TriesStep b c (taken_after xs earlier) x → looks_of c.checker ≤ looks_of a.checker + most_looks_behind (xs ++ x ∷ []) earlier
   tried_looks a b c earlier xs x p t = looks_more (looks_of a.checker) (looks_of b.checker) (looks_of c.checker) _ _ _ p.looks t.looks (looks_one xs x earlier)
 
-  pub passed_none : (a : Turn L) (earlier : List Step) → has_failed a.checker ≡ false → Stands Hears before begun a.checker earlier → Passed Hears before begun a a earlier []
+  pub passed_none : (a : CheckerAtSource L) (earlier : List Step) → has_failed a.checker ≡ false → Stands Hears before begun a.checker earlier → TakesStepsBeforeEnd Hears before begun a a earlier []
   passed_none a earlier h s = record { text = []; passes = passes_none a.source; spelt = refl; unended = tt; goes_on = (s, h); looks = omega arith }
 
-  pub passed_one : (a b c : Turn L) (earlier xs : List Step) (x : Step) → Passed Hears before begun a b earlier xs → Tries b c (taken_after xs earlier) x → (x ≢ End) → GoesOn Hears before begun c.checker (x ∷ taken_after xs earlier) → Passed Hears before begun a c earlier (xs ++ x ∷ [])
+  pub passed_one : (a b c : CheckerAtSource L) (earlier xs : List Step) (x : Step) → TakesStepsBeforeEnd Hears before begun a b earlier xs → TriesStep b c (taken_after xs earlier) x → (x ≢ End) → StandsUnfailed Hears before begun c.checker (x ∷ taken_after xs earlier) → TakesStepsBeforeEnd Hears before begun a c earlier (xs ++ x ∷ [])
   passed_one a b c earlier xs x p t n g = record {
     text = p.text ++ t.text;
     passes = passes_more a.source b.source c.source p.text t.text p.passes t.passes;
     spelt = items_one SpellsStep xs x p.text t.text p.spelt t.spelt;
     unended = all_one (λ step. step ≢ End) xs x p.unended n;
-    goes_on = subst (GoesOn Hears before begun c.checker) (sym (taken_one xs x earlier)) g;
+    goes_on = subst (StandsUnfailed Hears before begun c.checker) (sym (taken_one xs x earlier)) g;
     looks = tried_looks a b c earlier xs x p t;
   }
 
   -- steps that were taken, and then the last one, behind which bytes may wait
-  went_tried : (a b c : Turn L) (earlier xs : List Step) (x : Step) → a.source ≡ unread a.source.reader → has_failed a.checker ≡ false → c.source.reads ≤ most_reads
-      → Passed Hears before begun a b earlier xs → Tries b c (taken_after xs earlier) x → Went a.checker c.checker a.source.reader c.source.reader earlier xs (x ∷ []) ([] ++ c.source.waiting)
+  went_tried : (a b c : CheckerAtSource L) (earlier xs : List Step) (x : Step) → a.source ≡ unread a.source.reader → has_failed a.checker ≡ false → c.source.reads ≤ most_reads
+      → TakesStepsBeforeEnd Hears before begun a b earlier xs → TriesStep b c (taken_after xs earlier) x → ReadsProofPart a.checker c.checker a.source.reader c.source.reader earlier xs (x ∷ []) ([] ++ c.source.waiting)
   went_tried a b c earlier xs x e h k p t =
       let both : Passes a.source c.source (p.text ++ t.text) = passes_more a.source b.source c.source p.text t.text p.passes t.passes in
       record {
@@ -220,8 +220,8 @@ module _ {L : Type 0} (Hears : L → Told → Result Unit ProcessingError → L 
       }
 
   -- and then bytes of which no step was read
-  went_waiting : (n : ℕ) (a b c : Turn L) (earlier xs : List Step) (more : List ℕ) → n ≤ 1 → a.source ≡ unread a.source.reader → has_failed a.checker ≡ false → c.source.reads ≤ most_reads
-      → looks_of c.checker ≡ looks_of b.checker → Passed Hears before begun a b earlier xs → PassesBut n b.source c.source more → Went a.checker c.checker a.source.reader c.source.reader earlier xs [] (more ++ c.source.waiting)
+  went_waiting : (n : ℕ) (a b c : CheckerAtSource L) (earlier xs : List Step) (more : List ℕ) → n ≤ 1 → a.source ≡ unread a.source.reader → has_failed a.checker ≡ false → c.source.reads ≤ most_reads
+      → looks_of c.checker ≡ looks_of b.checker → TakesStepsBeforeEnd Hears before begun a b earlier xs → PassesBut n b.source c.source more → ReadsProofPart a.checker c.checker a.source.reader c.source.reader earlier xs [] (more ++ c.source.waiting)
   went_waiting n a b c earlier xs more m e h k l p w = record {
     well = h;
     steps = gave_steps n a.source.reader c.source (xs ++ []) p.text more m k
@@ -231,8 +231,8 @@ module _ {L : Type 0} (Hears : L → Told → Result Unit ProcessingError → L 
     looks = looks_still (looks_of a.checker) (looks_of b.checker) (looks_of c.checker) _ _ p.looks l (none_behind xs earlier);
   }
 
-  went_faulted : (a b c : Turn L) (earlier xs : List Step) (more : List ℕ) → a.source ≡ unread a.source.reader → has_failed a.checker ≡ false → c.source.reads ≤ most_reads
-      → looks_of c.checker ≡ looks_of b.checker → Passed Hears before begun a b earlier xs → Faults b.source c.source more → Went a.checker c.checker a.source.reader c.source.reader earlier xs [] more
+  went_faulted : (a b c : CheckerAtSource L) (earlier xs : List Step) (more : List ℕ) → a.source ≡ unread a.source.reader → has_failed a.checker ≡ false → c.source.reads ≤ most_reads
+      → looks_of c.checker ≡ looks_of b.checker → TakesStepsBeforeEnd Hears before begun a b earlier xs → Faults b.source c.source more → ReadsProofPart a.checker c.checker a.source.reader c.source.reader earlier xs [] more
   went_faulted a b c earlier xs more e h k l p w = record {
     well = h;
     steps = faulted_steps a.source.reader c.source (xs ++ []) p.text more k
@@ -243,12 +243,12 @@ module _ {L : Type 0} (Hears : L → Told → Result Unit ProcessingError → L 
   }
 
   -- no read failed
-  kept_by : (n : ℕ) (a b c : Turn L) (earlier xs : List Step) (more : List ℕ) → Passed Hears before begun a b earlier xs → PassesBut n b.source c.source more → c.source.reader.failures ≡ a.source.reader.failures
+  kept_by : (n : ℕ) (a b c : CheckerAtSource L) (earlier xs : List Step) (more : List ℕ) → TakesStepsBeforeEnd Hears before begun a b earlier xs → PassesBut n b.source c.source more → c.source.reader.failures ≡ a.source.reader.failures
   kept_by n a b c earlier xs more p w = w.failures ∙ p.passes.failures
 
   -- an error behind steps that were taken
-  pub stops : (a b c : Turn L) (e : CheckerError) (earlier xs : List Step) → a.source ≡ unread a.source.reader → has_failed a.checker ≡ false → c.source.reads ≤ most_reads
-      → Passed Hears before begun a b earlier xs → StepsOn Hears before begun (Err e) b c (taken_after xs earlier) → AnswersProof Hears before begun (Err e) a.checker c.checker a.source.reader c.source.reader earlier
+  pub stops : (a b c : CheckerAtSource L) (e : CheckerError) (earlier xs : List Step) → a.source ≡ unread a.source.reader → has_failed a.checker ≡ false → c.source.reads ≤ most_reads
+      → TakesStepsBeforeEnd Hears before begun a b earlier xs → StepsOn Hears before begun (Err e) b c (taken_after xs earlier) → AnswersProof Hears before begun (Err e) a.checker c.checker a.source.reader c.source.reader earlier
   stops a b c errors.CheckFailed earlier xs e h k p s =
       (xs, s.0, [] ++ c.source.waiting, went_tried a b c earlier xs s.0 e h k p s.1, kept_by 0 a b c earlier xs _ p s.1.passes, s.2, s.3)
   stops a b c errors.CounterEnd earlier xs e h k p s =
@@ -304,20 +304,20 @@ module _ {L : Type 0} (Hears : L → Told → Result Unit ProcessingError → L 
   settled_end steps c h s = let k = s.kernel.kept h in none_pending c.kernel (End ∷ steps) k (end_settled steps)
 
   -- the end behind steps that were taken
-  pub finishes : (a b c : Turn L) (earlier xs : List Step) (x : Step) → a.source ≡ unread a.source.reader → has_failed a.checker ≡ false → c.source.reads ≤ most_reads
-      → Passed Hears before begun a b earlier xs → Tries b c (taken_after xs earlier) x → x ≡ End → GoesOn Hears before begun c.checker (x ∷ taken_after xs earlier) → AnswersProof Hears before begun (Ok tt) a.checker c.checker a.source.reader c.source.reader earlier
+  pub finishes : (a b c : CheckerAtSource L) (earlier xs : List Step) (x : Step) → a.source ≡ unread a.source.reader → has_failed a.checker ≡ false → c.source.reads ≤ most_reads
+      → TakesStepsBeforeEnd Hears before begun a b earlier xs → TriesStep b c (taken_after xs earlier) x → x ≡ End → StandsUnfailed Hears before begun c.checker (x ∷ taken_after xs earlier) → AnswersProof Hears before begun (Ok tt) a.checker c.checker a.source.reader c.source.reader earlier
   finishes a b c earlier xs x e h k p t is g =
-      let on : GoesOn Hears before begun c.checker (End ∷ taken_after xs earlier) = subst (λ (z : Step). GoesOn Hears before begun c.checker (z ∷ taken_after xs earlier)) is g in (
+      let on : StandsUnfailed Hears before begun c.checker (End ∷ taken_after xs earlier) = subst (λ (z : Step). StandsUnfailed Hears before begun c.checker (z ∷ taken_after xs earlier)) is g in (
         xs,
         [] ++ c.source.waiting,
-        subst (λ (z : Step). Went a.checker c.checker a.source.reader c.source.reader earlier xs (z ∷ []) ([] ++ c.source.waiting)) is (went_tried a b c earlier xs x e h k p t),
+        subst (λ (z : Step). ReadsProofPart a.checker c.checker a.source.reader c.source.reader earlier xs (z ∷ []) ([] ++ c.source.waiting)) is (went_tried a b c earlier xs x e h k p t),
         kept_by 0 a b c earlier xs _ p t.passes,
         on,
         settled_end (taken_after xs earlier) c.checker on.1 on.0,
       )
 
   -- a step that was read and isn't accepted
-  pub step_stops : (a b : Turn L) (e : CheckerError) (earlier : List Step) (x : Step) → has_failed a.checker ≡ false → Tries a b earlier x → AnswersStep Hears before begun (Err e) a.checker x b.checker earlier → StepsOn Hears before begun (Err e) a b earlier
+  pub step_stops : (a b : CheckerAtSource L) (e : CheckerError) (earlier : List Step) (x : Step) → has_failed a.checker ≡ false → TriesStep a b earlier x → AnswersStep Hears before begun (Err e) a.checker x b.checker earlier → StepsOn Hears before begun (Err e) a b earlier
   step_stops a b errors.CheckFailed earlier x h t k = (x, t, k.1, k.2)
   step_stops a b errors.CounterEnd earlier x h t k = (x, t, k.1, k.2)
   step_stops a b errors.OutOfMemory earlier x h t k = inr (x, t, k.1)

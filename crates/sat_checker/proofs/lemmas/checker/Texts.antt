@@ -5,17 +5,17 @@ use Rattle.std.proofs.lemmas.List.{append-nil, map-append}
 use Rattle.sat_base.specs.device.Device.{Reader, GaveAll, GaveEnough, GaveFront, ReadFails}
 use Rattle.sat_base.specs.text.Text.{scan, tokens_of, lines}
 use Rattle.sat_base.specs.dimacs.Dimacs.{Dimacs, Ending, Clean, Malformed, Limit, clauses_of, dimacs, settled, IsDimacs}
-use Rattle.sat_base.specs.dimacs.Parsing.{Progress, no_progress, with_fed, cut_short, at_its_end, clauses_read, all_taken, Faults, FallsShort, Feeds, Finishes, IsSound, IsSoundText}
+use Rattle.sat_base.specs.dimacs.Parsing.{Progress, no_progress, with_fed, cut_short, at_its_end, clauses_read, all_taken, EndsAtFault, FallsShort, FeedsPiece, Finishes, IsSoundSoFar, IsSoundText}
 use Rattle.sat_base.specs.declared.dimacs.error.DimacsError.{DimacsError}
 use Rattle.sat_base.specs.declared.dimacs.error.DimacsError.TheVariants as texts
 use Rattle.sat_base.proofs.lemmas.device.Given.{enough_all, enough_front}
 use Rattle.sat_base.proofs.lemmas.dimacs.Parsed.{Stands as HasFed, stops_on, ends_by}
 use Rattle.sat_base.specs.steps.Steps.{Step, AddClause}
 use Rattle.sat_checker.specs.Accepts.{Accepts, stored_after, ready_after}
-use Rattle.sat_checker.specs.CheckerView.{Seen, has_failed, looks_of, Stands, Stops, BreaksAt, StarvesAt}
+use Rattle.sat_checker.specs.CheckerView.{Seen, has_failed, looks_of, Stands, FailsBeforeStep, BreaksAt, StarvesAt}
 use Rattle.sat_checker.specs.announcements.Announcements.{Told}
-use Rattle.sat_checker.specs.ProofView.{taken_after, most_looks_behind, NoneFailed, GoesOn}
-use Rattle.sat_checker.specs.ClausesView.{additions, Adds, behind, AnswersClauses}
+use Rattle.sat_checker.specs.ProofView.{taken_after, most_looks_behind, NoReadFailed, StandsUnfailed}
+use Rattle.sat_checker.specs.ClausesView.{additions, AddsFirstClauses, after_additions, AnswersClauses}
 use Rattle.sat_checker.specs.DimacsView.{AreOfFront, AreRead, FailsBehind, StandsBehind, AnswersDimacs, AddsDimacs}
 use Rattle.sat_checker.specs.inner.DimacsPieces.{is_want, with_flag, AddsRead}
 use Rattle.sat_checker.specs.Spent.{SpentBy}
@@ -43,10 +43,10 @@ looks_joined (x ∷ xs) ys earlier = apart _ _ _ _ (looks_joined xs ys (x ∷ ea
     apart : (a b c d : ℕ) → b ≡ c + d → a + b ≡ (a + c) + d
     apart a b c d e = omega arith
 
-behind_joined : (cs ds : List (List ℕ)) (earlier : List Step) → behind (cs ++ ds) earlier ≡ behind ds (behind cs earlier)
+behind_joined : (cs ds : List (List ℕ)) (earlier : List Step) → after_additions (cs ++ ds) earlier ≡ after_additions ds (after_additions cs earlier)
 behind_joined cs ds earlier = ap (λ (z : List Step). taken_after z earlier) (map-append AddClause cs ds) ∙ taken_joined (additions cs) (additions ds) earlier
 
-cost_joined : (cs ds : List (List ℕ)) (earlier : List Step) → most_looks_behind (additions (cs ++ ds)) earlier ≡ most_looks_behind (additions cs) earlier + most_looks_behind (additions ds) (behind cs earlier)
+cost_joined : (cs ds : List (List ℕ)) (earlier : List Step) → most_looks_behind (additions (cs ++ ds)) earlier ≡ most_looks_behind (additions cs) earlier + most_looks_behind (additions ds) (after_additions cs earlier)
 cost_joined cs ds earlier = ap (λ (z : List Step). most_looks_behind z earlier) (map-append AddClause cs ds) ∙ looks_joined (additions cs) (additions ds) earlier
 
 none_more : (n : ℕ) → n ≤ n + 0
@@ -77,7 +77,7 @@ has_ending : (d : Dimacs) (clauses : List (List ℕ)) (ending : Ending) → clau
 has_ending d clauses ending c e = subst (λ (z : Ending). d ≡ record { clauses = clauses; ending = z }) e (subst (λ (z : List (List ℕ)). d ≡ record { clauses = z; ending = d.ending }) (sym c) refl)
 
 -- where a piece is at fault, the text has the clauses read, whatever would follow
-fault_says : (ending : Ending) (text piece : List ℕ) (p q : Progress) → HasFed text p → Faults ending piece p q → (rest : List ℕ) → IsDimacs ((text ++ piece) ++ rest) (clauses_read q) ending
+fault_says : (ending : Ending) (text piece : List ℕ) (p q : Progress) → HasFed text p → EndsAtFault ending piece p q → (rest : List ℕ) → IsDimacs ((text ++ piece) ++ rest) (clauses_read q) ending
 fault_says ending text piece p q is f rest =
     let fed : q.fed ≡ text ++ f.front = ap (λ (z : Progress). z.fed) f.progress ∙ ap (λ (z : List ℕ). z ++ f.front) (fed_of text p is) in
     let all : (text ++ piece) ++ rest ≡ q.fed ++ (f.behind ++ rest) =
@@ -97,7 +97,7 @@ short_says text piece p q is f rest = (
 stopped_not : (T : Type 0) (text : List ℕ) (p : Progress) → HasFed text p → p.stopped ≡ true → T
 stopped_not T text p is s = absurd (true≢false (sym s ∙ ap (λ (z : Progress). z.stopped) is))
 
-pub read_by_piece : (answer : Result Unit DimacsError) (text piece : List ℕ) (p q : Progress) → HasFed text p → Feeds answer piece p q → (rest : List ℕ) → AreRead ((text ++ piece) ++ rest) (clauses_read q)
+pub read_by_piece : (answer : Result Unit DimacsError) (text piece : List ℕ) (p q : Progress) → HasFed text p → FeedsPiece answer piece p q → (rest : List ℕ) → AreRead ((text ++ piece) ++ rest) (clauses_read q)
 read_by_piece (Ok x) text piece p q is f rest = inl (text ++ piece, rest, refl, open_read text piece p q is f.1)
 read_by_piece (Err (texts.Malformed line)) text piece p q is f rest = inr (sym (ap (λ (z : Dimacs). z.clauses) (fault_says (Malformed f.1) text piece p q is f.3 rest)))
 read_by_piece (Err (texts.Limit line)) text piece p q is f rest = inr (sym (ap (λ (z : Dimacs). z.clauses) (fault_says (Limit f.1) text piece p q is f.3 rest)))
@@ -117,7 +117,7 @@ pub clean_by_end : (text : List ℕ) (p q : Progress) → HasFed text p → Fini
 clean_by_end text p q is f = has_ending (dimacs text) (clauses_read q) Clean (over_read text p q is f.1) (ap (λ (z : List ℕ). (dimacs z).ending) (sym (fed_of text p is)) ∙ f.2)
 
 -- what a fault says
-pub fails_by_piece : (e : DimacsError) (from to : Reader) (text piece : List ℕ) (p q : Progress) → HasFed text p → Feeds (Err e) piece p q → NoneFailed from to → GaveFront from to (text ++ piece) → to.ended ≡ false
+pub fails_by_piece : (e : DimacsError) (from to : Reader) (text piece : List ℕ) (p q : Progress) → HasFed text p → FeedsPiece (Err e) piece p q → NoReadFailed from to → GaveFront from to (text ++ piece) → to.ended ≡ false
     → to.calls ≤ from.calls + length (text ++ piece) + 1 → FailsBehind e from to (clauses_read q)
 fails_by_piece (texts.Malformed line) from to text piece p q is f n g o few = (n, enough_front from to _ (text ++ piece) g o few (λ rest. (f.1, f.2, fault_says (Malformed f.1) text piece p q is f.3 rest)))
 fails_by_piece (texts.Limit line) from to text piece p q is f n g o few = (n, enough_front from to _ (text ++ piece) g o few (λ rest. (f.1, f.2, fault_says (Limit f.1) text piece p q is f.3 rest)))
@@ -126,7 +126,7 @@ fails_by_piece texts.OutOfMemory from to text piece p q is f n g o few =
 fails_by_piece texts.Read from to text piece p q is f n g o few = absurd f
 fails_by_piece texts.HasFailed from to text piece p q is f n g o few = stopped_not _ text p is f.0
 
-pub fails_by_end : (e : DimacsError) (from to : Reader) (text : List ℕ) (p q : Progress) → HasFed text p → Finishes (Err e) p q → NoneFailed from to → GaveAll from to text → FailsBehind e from to (clauses_read q)
+pub fails_by_end : (e : DimacsError) (from to : Reader) (text : List ℕ) (p q : Progress) → HasFed text p → Finishes (Err e) p q → NoReadFailed from to → GaveAll from to text → FailsBehind e from to (clauses_read q)
 fails_by_end (texts.Malformed line) from to text p q is f n g =
     (n, enough_all from to _ text g (f.2, f.3, has_ending (dimacs text) (clauses_read q) (Malformed f.2) (over_read text p q is f.1) (ap (λ (z : List ℕ). (dimacs z).ending) (sym (fed_of text p is)) ∙ f.4)))
 fails_by_end (texts.Limit line) from to text p q is f n g =
@@ -139,7 +139,7 @@ fails_by_end texts.HasFailed from to text p q is f n g = stopped_not _ text p is
 
 -- WHAT IS ANSWERED OF A READER
 
-taken_by_piece : (answer : Result Unit DimacsError) (text piece : List ℕ) (p q : Progress) → HasFed text p → Feeds answer piece p q → q.taken ≡ p.taken
+taken_by_piece : (answer : Result Unit DimacsError) (text piece : List ℕ) (p q : Progress) → HasFed text p → FeedsPiece answer piece p q → q.taken ≡ p.taken
 taken_by_piece (Ok x) text piece p q is f = ap (λ (z : Progress). z.taken) f.1
 taken_by_piece (Err (texts.Malformed line)) text piece p q is f = ap (λ (z : Progress). z.taken) f.3.progress
 taken_by_piece (Err (texts.Limit line)) text piece p q is f = ap (λ (z : Progress). z.taken) f.3.progress
@@ -155,11 +155,11 @@ taken_by_end (Err texts.OutOfMemory) p q f = ap (λ (z : Progress). z.taken) f.1
 taken_by_end (Err texts.Read) p q f = absurd f
 taken_by_end (Err texts.HasFailed) p q f = ap (λ (z : Progress). z.taken) f.1
 
-pub sound_after : (answer : Result Unit DimacsError) (q r : Progress) → answer ≡ Ok tt → OnOk answer (IsSound q) → r ≡ all_taken q → IsSound r
-sound_after answer q r e s t = subst IsSound (sym t) (subst (λ (z : Result Unit DimacsError). OnOk z (IsSound q)) e s)
+pub sound_after : (answer : Result Unit DimacsError) (q r : Progress) → answer ≡ Ok tt → OnOk answer (IsSoundSoFar q) → r ≡ all_taken q → IsSoundSoFar r
+sound_after answer q r e s t = subst IsSoundSoFar (sym t) (subst (λ (z : Result Unit DimacsError). OnOk z (IsSoundSoFar q)) e s)
 
 module _ {L : Type 0} (Hears : L → Told → Result Unit ProcessingError → L → Type 0) (before : List Told) (begun : L) where
-  adds_joined : (a b d : Seen L) (cs ds added tried : List (List ℕ)) (earlier : List Step) → Adds a b cs cs [] earlier → Adds b d ds added tried (behind cs earlier) → Adds a d (cs ++ ds) (cs ++ added) tried earlier
+  adds_joined : (a b d : Seen L) (cs ds added tried : List (List ℕ)) (earlier : List Step) → AddsFirstClauses a b cs cs [] earlier → AddsFirstClauses b d ds added tried (after_additions cs earlier) → AddsFirstClauses a d (cs ++ ds) (cs ++ added) tried earlier
   adds_joined a b d cs ds added tried earlier p q = record {
     well = p.well;
     left = q.left;
@@ -168,21 +168,21 @@ module _ {L : Type 0} (Hears : L → Told → Result Unit ProcessingError → L 
         (ap (λ (z : List (List ℕ)). most_looks_behind (additions z) earlier) (append_assoc cs added tried) ∙ cost_joined cs (added ++ tried) earlier);
   }
 
-  joined : (r : Result Unit CheckerError) (a b d : Seen L) (cs ds : List (List ℕ)) (earlier : List Step) → AnswersClauses Hears before begun (Ok tt) a b cs earlier → AnswersClauses Hears before begun r b d ds (behind cs earlier) → AnswersClauses Hears before begun r a d (cs ++ ds) earlier
-  joined (Ok x) a b d cs ds earlier p q = (adds_joined a b d cs ds ds [] earlier p.0 q.0, subst (GoesOn Hears before begun d) (sym (behind_joined cs ds earlier)) q.1)
+  joined : (r : Result Unit CheckerError) (a b d : Seen L) (cs ds : List (List ℕ)) (earlier : List Step) → AnswersClauses Hears before begun (Ok tt) a b cs earlier → AnswersClauses Hears before begun r b d ds (after_additions cs earlier) → AnswersClauses Hears before begun r a d (cs ++ ds) earlier
+  joined (Ok x) a b d cs ds earlier p q = (adds_joined a b d cs ds ds [] earlier p.0 q.0, subst (StandsUnfailed Hears before begun d) (sym (behind_joined cs ds earlier)) q.1)
   joined (Err errors.CheckFailed) a b d cs ds earlier p q = (
     cs ++ q.0,
     q.1,
     adds_joined a b d cs ds q.0 (q.1 ∷ []) earlier p.0 q.2,
     subst (λ (z : List Step). Accepts (ready_after z) (AddClause q.1) → ⊥) (sym (behind_joined cs q.0 earlier)) q.3,
-    subst (GoesOn Hears before begun d) (sym (behind_joined cs q.0 earlier)) q.4,
+    subst (StandsUnfailed Hears before begun d) (sym (behind_joined cs q.0 earlier)) q.4,
   )
   joined (Err errors.CounterEnd) a b d cs ds earlier p q = (
     cs ++ q.0,
     q.1,
     adds_joined a b d cs ds q.0 (q.1 ∷ []) earlier p.0 q.2,
     subst (λ (z : List Step). SpentBy (AddClause q.1) (stored_after z)) (sym (behind_joined cs q.0 earlier)) q.3,
-    subst (Stops Hears before begun d) (sym (behind_joined cs q.0 earlier)) q.4,
+    subst (FailsBeforeStep Hears before begun d) (sym (behind_joined cs q.0 earlier)) q.4,
   )
   joined (Err errors.OutOfMemory) a b d cs ds earlier p q = (
     cs ++ q.0,
@@ -204,10 +204,10 @@ module _ {L : Type 0} (Hears : L → Told → Result Unit ProcessingError → L 
   pub none_added : (c : Seen L) (earlier : List Step) → has_failed c ≡ false → Stands Hears before begun c earlier → AnswersClauses Hears before begun (Ok tt) c c [] earlier
   none_added c earlier h s = (record { well = h; left = []; split = refl; looks = none_more (looks_of c) }, (s, h))
 
-  unflagged : (mid : Seen L) (steps : List Step) → GoesOn Hears before begun mid steps → GoesOn Hears before begun (with_flag false mid) steps
+  unflagged : (mid : Seen L) (steps : List Step) → StandsUnfailed Hears before begun mid steps → StandsUnfailed Hears before begun (with_flag false mid) steps
   unflagged mid steps g = (record { kernel = record { accepted = g.0.kernel.accepted; records = g.0.kernel.records; kept = λ h. g.0.kernel.kept g.1 }; heard = λ h. g.0.heard g.1 }, refl)
 
-  set_failed : (e : DimacsError) (mid : Seen L) (steps : List Step) → GoesOn Hears before begun mid steps → StandsBehind Hears before begun e (with_flag (is_want e) mid) steps
+  set_failed : (e : DimacsError) (mid : Seen L) (steps : List Step) → StandsUnfailed Hears before begun mid steps → StandsBehind Hears before begun e (with_flag (is_want e) mid) steps
   set_failed (texts.Malformed line) mid steps g = unflagged mid steps g
   set_failed (texts.Limit line) mid steps g = unflagged mid steps g
   set_failed texts.Read mid steps g = unflagged mid steps g
@@ -217,9 +217,9 @@ module _ {L : Type 0} (Hears : L → Told → Result Unit ProcessingError → L 
   -- those that were read before were added, and these are tried
   module _ (old cur new : Seen L) (q : Progress) (earlier : List Step) (clauses : List (List ℕ)) (first : AnswersClauses Hears before begun (Ok tt) old cur q.taken earlier) (split : clauses_read q ≡ q.taken ++ clauses) where
     pub behind_first : (r : Result Unit CheckerError) (last : Seen L) → ((steps : List Step) → Stands Hears before begun cur steps → AnswersClauses Hears before begun r cur last clauses steps) → AnswersClauses Hears before begun r old last (clauses_read q) earlier
-    behind_first r last a = subst (λ (z : List (List ℕ)). AnswersClauses Hears before begun r old last z earlier) (sym split) (joined r old cur last q.taken clauses earlier first (a (behind q.taken earlier) first.1.0))
+    behind_first r last a = subst (λ (z : List (List ℕ)). AnswersClauses Hears before begun r old last z earlier) (sym split) (joined r old cur last q.taken clauses earlier first (a (after_additions q.taken earlier) first.1.0))
 
-  pub answers_dimacs : (result : Result Unit CheckerDimacsError) (answer : Result Unit DimacsError) (old cur new : Seen L) (from to : Reader) (q : Progress) (earlier : List Step) → NoneFailed from to
+  pub answers_dimacs : (result : Result Unit CheckerDimacsError) (answer : Result Unit DimacsError) (old cur new : Seen L) (from to : Reader) (q : Progress) (earlier : List Step) → NoReadFailed from to
       → AnswersClauses Hears before begun (Ok tt) old cur q.taken earlier → (result ≡ Ok tt → answer ≡ Ok tt → GaveEnough from to (λ text. IsDimacs text (clauses_read q) Clean))
       → ((e : DimacsError) → answer ≡ Err e → FailsBehind e from to (clauses_read q)) → GaveEnough from to (λ text. AreRead text (clauses_read q)) → AddsRead Hears result answer q cur new → AnswersDimacs Hears before begun result old new from to earlier
   answers_dimacs (Ok x) answer old cur new from to q earlier n first clean fails read a = (n, clauses_read q, clean refl a.2.0, behind_first old cur new q earlier a.0 first a.1 (Ok tt) new (a.2.1 before begun))
@@ -228,17 +228,17 @@ module _ {L : Type 0} (Hears : L → Told → Result Unit ProcessingError → L 
       let all = behind_first old cur new q earlier a.0 first a.1 (Ok tt) mid (a.2.2 before begun) in (
         clauses_read q,
         fails e a.2.0,
-        subst (λ (z : Seen L). Adds old z (clauses_read q) (clauses_read q) [] earlier) (sym a.2.3) (record { well = all.0.well; left = all.0.left; split = all.0.split; looks = all.0.looks }),
-        subst (λ (z : Seen L). StandsBehind Hears before begun e z (behind (clauses_read q) earlier)) (sym a.2.3) (set_failed e mid (behind (clauses_read q) earlier) all.1),
+        subst (λ (z : Seen L). AddsFirstClauses old z (clauses_read q) (clauses_read q) [] earlier) (sym a.2.3) (record { well = all.0.well; left = all.0.left; split = all.0.split; looks = all.0.looks }),
+        subst (λ (z : Seen L). StandsBehind Hears before begun e z (after_additions (clauses_read q) earlier)) (sym a.2.3) (set_failed e mid (after_additions (clauses_read q) earlier) all.1),
       )
-  answers_dimacs (Err (refused.Checker errors.HasFailed)) answer old cur new from to q earlier n first clean fails read a = absurd (true≢false (sym (a.2 before begun (behind q.taken earlier) first.1.0).0 ∙ first.1.1))
+  answers_dimacs (Err (refused.Checker errors.HasFailed)) answer old cur new from to q earlier n first clean fails read a = absurd (true≢false (sym (a.2 before begun (after_additions q.taken earlier) first.1.0).0 ∙ first.1.1))
   answers_dimacs (Err (refused.Checker errors.CheckFailed)) answer old cur new from to q earlier n first clean fails read a = (n, clauses_read q, read, behind_first old cur new q earlier a.0 first a.1 (Err errors.CheckFailed) new (a.2 before begun))
   answers_dimacs (Err (refused.Checker errors.CounterEnd)) answer old cur new from to q earlier n first clean fails read a = (n, clauses_read q, read, behind_first old cur new q earlier a.0 first a.1 (Err errors.CounterEnd) new (a.2 before begun))
   answers_dimacs (Err (refused.Checker errors.OutOfMemory)) answer old cur new from to q earlier n first clean fails read a = (n, clauses_read q, read, behind_first old cur new q earlier a.0 first a.1 (Err errors.OutOfMemory) new (a.2 before begun))
   answers_dimacs (Err (refused.Checker (errors.ProofProcessorError cause))) answer old cur new from to q earlier n first clean fails read a = (n, clauses_read q, read, behind_first old cur new q earlier a.0 first a.1 (Err (errors.ProofProcessorError cause)) new (a.2 before begun))
-  answers_dimacs (Err (refused.Checker errors.ProofIncomplete)) answer old cur new from to q earlier n first clean fails read a = absurd (a.2 before begun (behind q.taken earlier) first.1.0)
-  answers_dimacs (Err (refused.Checker errors.IoError)) answer old cur new from to q earlier n first clean fails read a = absurd (a.2 before begun (behind q.taken earlier) first.1.0)
-  answers_dimacs (Err (refused.Checker errors.ParseError)) answer old cur new from to q earlier n first clean fails read a = absurd (a.2 before begun (behind q.taken earlier) first.1.0)
+  answers_dimacs (Err (refused.Checker errors.ProofIncomplete)) answer old cur new from to q earlier n first clean fails read a = absurd (a.2 before begun (after_additions q.taken earlier) first.1.0)
+  answers_dimacs (Err (refused.Checker errors.IoError)) answer old cur new from to q earlier n first clean fails read a = absurd (a.2 before begun (after_additions q.taken earlier) first.1.0)
+  answers_dimacs (Err (refused.Checker errors.ParseError)) answer old cur new from to q earlier n first clean fails read a = absurd (a.2 before begun (after_additions q.taken earlier) first.1.0)
 
 module _ {L : Type 0} (Hears : L → Told → Result Unit ProcessingError → L → Type 0) where
   -- the clauses of what was given before were added
@@ -252,10 +252,10 @@ module _ {L : Type 0} (Hears : L → Told → Result Unit ProcessingError → L 
   first_of old cur p q added e before begun earlier stands = subst (λ (z : List (List ℕ)). AnswersClauses Hears before begun (Ok tt) old cur z earlier) (sym e) (added before begun earlier stands)
 
   -- a piece without a fault
-  pub piece_added : (old cur new : Seen L) (text piece : List ℕ) (p q r : Progress) (answer : Result Unit DimacsError) → HasFed text p → Feeds answer piece p q → r ≡ all_taken q → AddsRead Hears (Ok tt) answer q cur new → AddedBefore old cur p
+  pub piece_added : (old cur new : Seen L) (text piece : List ℕ) (p q r : Progress) (answer : Result Unit DimacsError) → HasFed text p → FeedsPiece answer piece p q → r ≡ all_taken q → AddsRead Hears (Ok tt) answer q cur new → AddedBefore old cur p
       → HasFed (text ++ piece) r × (r.taken ≡ (dimacs (settled (text ++ piece))).clauses) × AddedBefore old new r
   piece_added old cur new text piece p q r answer is f t a added =
-      let fed : q ≡ with_fed piece p = (subst (λ (z : Result Unit DimacsError). Feeds z piece p q) a.2.0 f).1 in (
+      let fed : q ≡ with_fed piece p = (subst (λ (z : Result Unit DimacsError). FeedsPiece z piece p q) a.2.0 f).1 in (
         fed_more text piece p q r is fed t,
         ap (λ (z : Progress). z.taken) t ∙ open_read text piece p q is fed,
         λ before begun earlier stands. subst (λ (z : List (List ℕ)). AnswersClauses Hears before begun (Ok tt) old new z earlier) (sym (ap (λ (z : Progress). z.taken) t))
@@ -263,16 +263,16 @@ module _ {L : Type 0} (Hears : L → Told → Result Unit ProcessingError → L 
       )
 
   -- one at which reading stops
-  pub piece_answers : (e : CheckerDimacsError) (answer : Result Unit DimacsError) (old cur new : Seen L) (from to : Reader) (text piece : List ℕ) (p q : Progress) → HasFed text p → Feeds answer piece p q → NoneFailed from to
+  pub piece_answers : (e : CheckerDimacsError) (answer : Result Unit DimacsError) (old cur new : Seen L) (from to : Reader) (text piece : List ℕ) (p q : Progress) → HasFed text p → FeedsPiece answer piece p q → NoReadFailed from to
       → GaveFront from to (text ++ piece) → to.ended ≡ false → to.calls ≤ from.calls + length (text ++ piece) + 1 → AddedBefore old cur p → AddsRead Hears (Err e) answer q cur new → AddsDimacs Hears (Err e) old new from to
   piece_answers e answer old cur new from to text piece p q is f n g o few added a = λ before begun earlier stands. answers_dimacs Hears before begun (Err e) answer old cur new from to q earlier n (first_of old cur p q added (taken_by_piece answer text piece p q is f) before begun earlier stands)
       (λ no. let k : ◌≡◌ {A = Result Unit CheckerDimacsError} (Err e) (Ok tt) = no in absurd cc)
-      (λ d s. fails_by_piece d from to text piece p q is (subst (λ (z : Result Unit DimacsError). Feeds z piece p q) s f) n g o few)
+      (λ d s. fails_by_piece d from to text piece p q is (subst (λ (z : Result Unit DimacsError). FeedsPiece z piece p q) s f) n g o few)
       (enough_front from to _ (text ++ piece) g o few (λ rest. read_by_piece answer text piece p q is f rest))
       a
 
   -- the end of the text
-  pub end_answers : (result : Result Unit CheckerDimacsError) (answer : Result Unit DimacsError) (old cur new : Seen L) (from to : Reader) (text : List ℕ) (p q : Progress) → HasFed text p → Finishes answer p q → NoneFailed from to
+  pub end_answers : (result : Result Unit CheckerDimacsError) (answer : Result Unit DimacsError) (old cur new : Seen L) (from to : Reader) (text : List ℕ) (p q : Progress) → HasFed text p → Finishes answer p q → NoReadFailed from to
       → GaveAll from to text → AddedBefore old cur p → AddsRead Hears result answer q cur new → AddsDimacs Hears result old new from to
   end_answers result answer old cur new from to text p q is f n g added a = λ before begun earlier stands. answers_dimacs Hears before begun result answer old cur new from to q earlier n (first_of old cur p q added (taken_by_end answer p q f) before begun earlier stands)
       (λ ok s. enough_all from to _ text g (clean_by_end text p q is (subst (λ (z : Result Unit DimacsError). Finishes z p q) s f)))
@@ -281,6 +281,6 @@ module _ {L : Type 0} (Hears : L → Told → Result Unit ProcessingError → L 
       a
 
   -- a read that failed
-  pub read_answers : (old cur : Seen L) (from to : Reader) (text : List ℕ) (p : Progress) → HasFed text p → ReadFails from to → GaveFront from to text → IsSound p → p.taken ≡ (dimacs (settled text)).clauses → AddedBefore old cur p
+  pub read_answers : (old cur : Seen L) (from to : Reader) (text : List ℕ) (p : Progress) → HasFed text p → ReadFails from to → GaveFront from to text → IsSoundSoFar p → p.taken ≡ (dimacs (settled text)).clauses → AddedBefore old cur p
       → AddsDimacs Hears (Err (refused.Dimacs texts.Read)) old cur from to
   read_answers old cur from to text p is r g s t added = λ before begun earlier stands. let all = added before begun earlier stands in (p.taken, (r, text, g, subst IsSoundText (fed_of text p is) s, t), all.0, all.1)

@@ -4,7 +4,7 @@ use Rattle.std.proofs.lemmas.Bool.{and_parts, both_ways, eqb-true, eqb-false}
 use Rattle.std.specs.List.{AllByRecursion}
 use Rattle.sat_checker.specs.LiteralSets.{same_literals}
 use Rattle.sat_checker.specs.Stored.{StoredClause}
-use Rattle.sat_checker.specs.Storing.{with_count, new_clause, with_clause, clause_with, without_count, unless_gone, without_clause}
+use Rattle.sat_checker.specs.Storing.{with_count, new_clause, with_stored_clause, clause_with, without_count, unless_gone, without_clause}
 use Rattle.sat_checker.proofs.lemmas.meaning.Clauses.{same, same_from, others_stay}
 use Rattle.sat_checker.specs.Contents.{count_in, same_side, more_if, less_if}
 use Rattle.sat_checker.specs.Invariants.{EachOnce, EachCounted}
@@ -42,7 +42,7 @@ less_none false true false n e = refl
 less_none false false false n e = refl
 
 -- one count more, of one set and one side
-pub count_more : (r q : Bool) (id : ℕ) (ls ms : List ℕ) (cs : List StoredClause) → count_in q (clause_with ms (with_clause r id ls cs)) ≡ more_if (same_side r q && same_literals ls ms) (count_in q (clause_with ms cs))
+pub count_more : (r q : Bool) (id : ℕ) (ls ms : List ℕ) (cs : List StoredClause) → count_in q (clause_with ms (with_stored_clause r id ls cs)) ≡ more_if (same_side r q && same_literals ls ms) (count_in q (clause_with ms cs))
 count_more true q id ls ms [] = go q (same_literals ls ms)
   where
     go : (q b : Bool) → count_in q (cond b (Some (new_clause true id ls)) None) ≡ more_if (same_side true q && b) (count_in q None)
@@ -69,16 +69,16 @@ count_more r q id ls ms (c ∷ cs) = go r (count_more r q id ls ms cs) (same_lit
     hit false false true o = refl
     hit false false false o = refl
 
-    miss : (r : Bool) → count_in q (clause_with ms (with_clause r id ls cs)) ≡ more_if (same_side r q && same_literals ls ms) (count_in q (clause_with ms cs)) → same_literals c.literals ls ≡ false → (b : Bool) → same_literals c.literals ms ≡ b
-        → count_in q (cond b (Some c) (clause_with ms (with_clause r id ls cs))) ≡ more_if (same_side r q && same_literals ls ms) (count_in q (cond b (Some c) (clause_with ms cs)))
+    miss : (r : Bool) → count_in q (clause_with ms (with_stored_clause r id ls cs)) ≡ more_if (same_side r q && same_literals ls ms) (count_in q (clause_with ms cs)) → same_literals c.literals ls ≡ false → (b : Bool) → same_literals c.literals ms ≡ b
+        → count_in q (cond b (Some c) (clause_with ms (with_stored_clause r id ls cs))) ≡ more_if (same_side r q && same_literals ls ms) (count_in q (cond b (Some c) (clause_with ms cs)))
     miss r ih e true s = more_none r q (same_literals ls ms) (count_in q (Some c)) (differ c.literals ls ms e s)
     miss r ih e false s = ih
 
     as_its : same_literals c.literals ls ≡ true → same_literals c.literals ms ≡ same_literals ls ms
     as_its e = ap (λ l. same_literals l ms) (same c.literals ls e)
 
-    go : (r : Bool) → count_in q (clause_with ms (with_clause r id ls cs)) ≡ more_if (same_side r q && same_literals ls ms) (count_in q (clause_with ms cs)) → (b : Bool) → same_literals c.literals ls ≡ b
-        → count_in q (clause_with ms (cond b (with_count r c ∷ cs) (c ∷ with_clause r id ls cs))) ≡ more_if (same_side r q && same_literals ls ms) (count_in q (clause_with ms (c ∷ cs)))
+    go : (r : Bool) → count_in q (clause_with ms (with_stored_clause r id ls cs)) ≡ more_if (same_side r q && same_literals ls ms) (count_in q (clause_with ms cs)) → (b : Bool) → same_literals c.literals ls ≡ b
+        → count_in q (clause_with ms (cond b (with_count r c ∷ cs) (c ∷ with_stored_clause r id ls cs))) ≡ more_if (same_side r q && same_literals ls ms) (count_in q (clause_with ms (c ∷ cs)))
     go true ih true e = hit true q (same_literals c.literals ms) (clause_with ms cs) ∙ ap (λ b. more_if (same_side true q && b) (count_in q (clause_with ms (c ∷ cs)))) (as_its e)
     go false ih true e = hit false q (same_literals c.literals ms) (clause_with ms cs) ∙ ap (λ b. more_if (same_side false q && b) (count_in q (clause_with ms (c ∷ cs)))) (as_its e)
     go r ih false e = miss r ih e (same_literals c.literals ms) refl
@@ -136,7 +136,7 @@ count_less r q ls ms (c ∷ cs) h = go r (count_less r q ls ms cs h.1) (same_lit
     go r ih false e = miss r ih e (same_literals c.literals ms) refl
 
 -- other sets are as they were
-others_more : (r : Bool) (id : ℕ) (ls ms : List ℕ) (cs : List StoredClause) → same_literals ls ms ≡ false → clause_with ms (with_clause r id ls cs) ≡ clause_with ms cs
+others_more : (r : Bool) (id : ℕ) (ls ms : List ℕ) (cs : List StoredClause) → same_literals ls ms ≡ false → clause_with ms (with_stored_clause r id ls cs) ≡ clause_with ms cs
 others_more true id ls ms [] n = ap (λ b. cond b (Some (new_clause true id ls)) None) n
 others_more false id ls ms [] n = ap (λ b. cond b (Some (new_clause false id ls)) None) n
 others_more r id ls ms (c ∷ cs) n = go r (others_more r id ls ms cs n) (same_literals c.literals ls) refl
@@ -144,16 +144,16 @@ others_more r id ls ms (c ∷ cs) n = go r (others_more r id ls ms cs n) (same_l
     not_it : same_literals c.literals ls ≡ true → same_literals c.literals ms ≡ false
     not_it e = ap (λ l. same_literals l ms) (same c.literals ls e) ∙ n
 
-    go : (r : Bool) → clause_with ms (with_clause r id ls cs) ≡ clause_with ms cs → (b : Bool) → same_literals c.literals ls ≡ b → clause_with ms (cond b (with_count r c ∷ cs) (c ∷ with_clause r id ls cs)) ≡ clause_with ms (c ∷ cs)
+    go : (r : Bool) → clause_with ms (with_stored_clause r id ls cs) ≡ clause_with ms cs → (b : Bool) → same_literals c.literals ls ≡ b → clause_with ms (cond b (with_count r c ∷ cs) (c ∷ with_stored_clause r id ls cs)) ≡ clause_with ms (c ∷ cs)
     go true ih true e = ap (λ b. cond b (Some (with_count true c)) (clause_with ms cs)) (not_it e) ∙ sym (ap (λ b. cond b (Some c) (clause_with ms cs)) (not_it e))
     go false ih true e = ap (λ b. cond b (Some (with_count false c)) (clause_with ms cs)) (not_it e) ∙ sym (ap (λ b. cond b (Some c) (clause_with ms cs)) (not_it e))
     go r ih false e = ap (λ o. cond (same_literals c.literals ms) (Some c) o) ih
 
-pub once_more : (r : Bool) (id : ℕ) (ls : List ℕ) (cs : List StoredClause) → EachOnce cs → EachOnce (with_clause r id ls cs)
+pub once_more : (r : Bool) (id : ℕ) (ls : List ℕ) (cs : List StoredClause) → EachOnce cs → EachOnce (with_stored_clause r id ls cs)
 once_more r id ls [] h = (refl, tt)
 once_more r id ls (c ∷ cs) h = go r (once_more r id ls cs h.1) (same_literals c.literals ls) refl
   where
-    go : (r : Bool) → EachOnce (with_clause r id ls cs) → (b : Bool) → same_literals c.literals ls ≡ b → EachOnce (cond b (with_count r c ∷ cs) (c ∷ with_clause r id ls cs))
+    go : (r : Bool) → EachOnce (with_stored_clause r id ls cs) → (b : Bool) → same_literals c.literals ls ≡ b → EachOnce (cond b (with_count r c ∷ cs) (c ∷ with_stored_clause r id ls cs))
     go true ih true e = (h.0, h.1)
     go false ih true e = (h.0, h.1)
     go r ih false e = (others_more r id ls c.literals cs (differ_back c.literals ls e) ∙ h.0, ih)
@@ -171,12 +171,12 @@ once_less r ls (c ∷ cs) h = go r (once_less r ls cs h.1) (same_literals c.lite
     go r ih true e = left_over r (eqb (without_count r c).irredundant 0 && eqb (without_count r c).redundant 0)
     go r ih false e = (others_stay r c.literals ls cs e ∙ h.0, ih)
 
-pub counted_more : (r : Bool) (id : ℕ) (ls : List ℕ) (cs : List StoredClause) → EachCounted cs → EachCounted (with_clause r id ls cs)
+pub counted_more : (r : Bool) (id : ℕ) (ls : List ℕ) (cs : List StoredClause) → EachCounted cs → EachCounted (with_stored_clause r id ls cs)
 counted_more true id ls [] h = (omega arith, tt)
 counted_more false id ls [] h = (omega arith, tt)
 counted_more r id ls (c ∷ cs) h = go r (counted_more r id ls cs h.1) (same_literals c.literals ls)
   where
-    go : (r : Bool) → EachCounted (with_clause r id ls cs) → (b : Bool) → EachCounted (cond b (with_count r c ∷ cs) (c ∷ with_clause r id ls cs))
+    go : (r : Bool) → EachCounted (with_stored_clause r id ls cs) → (b : Bool) → EachCounted (cond b (with_count r c ∷ cs) (c ∷ with_stored_clause r id ls cs))
     go true ih true = (omega arith, h.1)
     go false ih true = (omega arith, h.1)
     go r ih false = (h.0, ih)

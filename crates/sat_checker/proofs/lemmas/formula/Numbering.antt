@@ -11,8 +11,8 @@ use Rattle.sat_checker.specs.Storing.{unit_id, unit_numbered, clause_numbered, l
 use Rattle.sat_checker.specs.Accepts.{IsStrictSubset}
 use Rattle.sat_checker.specs.inner.Marks.{IsIncreasing}
 use Rattle.sat_checker.specs.inner.SlotView.{Slot, slot_ids, live}
-use Rattle.sat_checker.specs.inner.StoreView.{PlacesIds, AreIds, KeepsIds}
-use Rattle.sat_checker.specs.inner.FormulaView.{Standing, IsUnitOf, IsPut, AreNumbered, KeepsFormula, last_in}
+use Rattle.sat_checker.specs.inner.StoreView.{PlacesIds, AreIdsInOrder, KeepsIds}
+use Rattle.sat_checker.specs.inner.FormulaView.{RestOfStored, IsIdOfUnit, LastUnitIsPut, AreNumbered, KeepsFormula, last_in}
 use Rattle.sat_checker.specs.declared.state.status.LastClause.{LastClause}
 use Rattle.sat_checker.specs.declared.state.status.LastClause.TheVariants as code
 use Rattle.sat_checker.specs.declared.formula.Formula.{Formula}
@@ -25,20 +25,20 @@ unit_ids = map (λ u. u.id)
 pub numbered_none : (is : List ℕ) (last : LastClause) → is ≡ [] → last_in last ≡ NoneYet → AreNumbered is [] last 0
 numbered_none is last e n = subst (λ js. AreNumbered js [] last 0) (sym e) (record { of_clauses = record { increasing = tt; below = tt }; of_units = record { increasing = tt; below = tt }; put = none last n })
   where
-    none : (last : LastClause) → last_in last ≡ NoneYet → IsPut last [] 0
+    none : (last : LastClause) → last_in last ≡ NoneYet → LastUnitIsPut last [] 0
     none code.NoneYet n = tt
     none (code.Empty id) n = tt
     none (code.Single id l) n = absurd cc
     none (code.Long id) n = tt
 
 -- an id is taken
-ids_more : (is : List ℕ) (n m : ℕ) → n ≤ m → AreIds is n → AreIds is m
+ids_more : (is : List ℕ) (n m : ℕ) → n ≤ m → AreIdsInOrder is n → AreIdsInOrder is m
 ids_more is n m l h = record { increasing = h.increasing; below = below_more n m (λ i k. omega (arith, l, k)) is h.below }
 
-ids_push : (is : List ℕ) (n : ℕ) → AreIds is n → AreIds (is ++ n ∷ []) (n + 1)
+ids_push : (is : List ℕ) (n : ℕ) → AreIdsInOrder is n → AreIdsInOrder (is ++ n ∷ []) (n + 1)
 ids_push is n h = record { increasing = increasing_push is n h.increasing h.below; below = below_push is n h.below }
 
-put_more : (last : LastClause) (us : List StoredUnit) (n m : ℕ) → n ≤ m → IsPut last us n → IsPut last us m
+put_more : (last : LastClause) (us : List StoredUnit) (n m : ℕ) → n ≤ m → LastUnitIsPut last us n → LastUnitIsPut last us m
 put_more code.NoneYet us n m l h = tt
 put_more (code.Empty id) us n m l h = tt
 put_more (code.Single id k) us n m l h = (let b : id < n = h.0 in omega (arith, l, b), h.1)
@@ -70,7 +70,7 @@ numbered_kept old new us last n k h = record { of_clauses = k n h.of_clauses; of
 abbrev unit_of : ℕ → ℕ → StoredUnit
 unit_of id l = record { id = id; literal = l }
 
-put_unit : (last : LastClause) (us : List StoredUnit) (n l : ℕ) → IsPut last us n → IsPut last (us ++ unit_of n l ∷ []) (n + 1)
+put_unit : (last : LastClause) (us : List StoredUnit) (n l : ℕ) → LastUnitIsPut last us n → LastUnitIsPut last (us ++ unit_of n l ∷ []) (n + 1)
 put_unit code.NoneYet us n l h = tt
 put_unit (code.Empty id) us n l h = tt
 put_unit (code.Single id k) us n l h = (omega (arith, below), behind us h.1)
@@ -78,7 +78,7 @@ put_unit (code.Single id k) us n l h = (omega (arith, below), behind us h.1)
     below : id < n
     below = h.0
 
-    behind : (vs : List StoredUnit) → AllByRecursion (IsUnitOf id k) vs → AllByRecursion (IsUnitOf id k) (vs ++ unit_of n l ∷ [])
+    behind : (vs : List StoredUnit) → AllByRecursion (IsIdOfUnit id k) vs → AllByRecursion (IsIdOfUnit id k) (vs ++ unit_of n l ∷ [])
     behind [] a = (((λ e. absurd (omega (arith, e, below))), (λ e. omega (arith, below))), tt)
     behind (v ∷ vs) a = (a.0, behind vs a.1)
 put_unit (code.Long id) us n l h = tt
@@ -86,7 +86,7 @@ put_unit (code.Long id) us n l h = tt
 pub numbered_unit : (is : List ℕ) (us : List StoredUnit) (last : LastClause) (n l : ℕ) → AreNumbered is us last n → AreNumbered is (us ++ (record { id = n; literal = l }) ∷ []) last (n + 1)
 numbered_unit is us last n l h = record {
   of_clauses = ids_more is n (n + 1) (omega arith) h.of_clauses;
-  of_units = subst (λ js. AreIds js (n + 1)) (sym (map-append (λ (u : StoredUnit). u.id) us (unit_of n l ∷ []))) (ids_push (unit_ids us) n h.of_units);
+  of_units = subst (λ js. AreIdsInOrder js (n + 1)) (sym (map-append (λ (u : StoredUnit). u.id) us (unit_of n l ∷ []))) (ids_push (unit_ids us) n h.of_units);
   put = put_unit last us n l h.put;
 }
 
@@ -116,10 +116,10 @@ module _ (test : StoredUnit → Bool) where
       go true ih = (id_left (λ m. u.id < m) us h.0, ih)
       go false ih = ih
 
-  put_left : (last : LastClause) (us : List StoredUnit) (n : ℕ) → IsPut last us n → IsPut last (filter test us) n
+  put_left : (last : LastClause) (us : List StoredUnit) (n : ℕ) → LastUnitIsPut last us n → LastUnitIsPut last (filter test us) n
   put_left code.NoneYet us n h = tt
   put_left (code.Empty id) us n h = tt
-  put_left (code.Single id l) us n h = (h.0, each_left (IsUnitOf id l) us h.1)
+  put_left (code.Single id l) us n h = (h.0, each_left (IsIdOfUnit id l) us h.1)
   put_left (code.Long id) us n h = tt
 
   pub numbered_left : (is : List ℕ) (us : List StoredUnit) (last : LastClause) (n : ℕ) → AreNumbered is us last n → AreNumbered is (filter test us) last n
@@ -138,15 +138,15 @@ unit_has P l id (u ∷ us) h e = go (eqb u.literal l) (unit_has P l id us h.1) e
     go true ih e = let k : u.id ≡ id = cc in subst P k h.0
     go false ih e = ih e
 
-later_units : (id l : ℕ) (us : List StoredUnit) → AllByRecursion (λ m. id < m) (unit_ids us) → AllByRecursion (IsUnitOf id l) us
+later_units : (id l : ℕ) (us : List StoredUnit) → AllByRecursion (λ m. id < m) (unit_ids us) → AllByRecursion (IsIdOfUnit id l) us
 later_units id l [] h = tt
 later_units id l (u ∷ us) h = (((λ e. absurd (let k : id < u.id = h.0 in omega (arith, e, k))), (λ e. let k : id < u.id = h.0 in omega (arith, k))), later_units id l us h.1)
 
-is_unit_of : (l id : ℕ) (us : List StoredUnit) → IsIncreasing (unit_ids us) → unit_id l us ≡ Some id → AllByRecursion (IsUnitOf id l) us
+is_unit_of : (l id : ℕ) (us : List StoredUnit) → IsIncreasing (unit_ids us) → unit_id l us ≡ Some id → AllByRecursion (IsIdOfUnit id l) us
 is_unit_of l id [] h e = tt
 is_unit_of l id (u ∷ us) h e = go (eqb u.literal l) refl (is_unit_of l id us h.1) e
   where
-    go : (b : Bool) → eqb u.literal l ≡ b → (unit_id l us ≡ Some id → AllByRecursion (IsUnitOf id l) us) → cond b (Some u.id) (unit_id l us) ≡ Some id → AllByRecursion (IsUnitOf id l) (u ∷ us)
+    go : (b : Bool) → eqb u.literal l ≡ b → (unit_id l us ≡ Some id → AllByRecursion (IsIdOfUnit id l) us) → cond b (Some u.id) (unit_id l us) ≡ Some id → AllByRecursion (IsIdOfUnit id l) (u ∷ us)
     go true s ih e =
         let k : u.id ≡ id = cc in
         (((λ q. eqb-true u.literal l s), (λ q. omega (arith, k))), later_units id l us (subst (λ x. AllByRecursion (λ m. x < m) (unit_ids us)) k h.0))
@@ -162,7 +162,7 @@ unit_noted is us last n l id e h = record {
 }
 
 -- the unit with its id
-unit_there : (id l : ℕ) (us : List StoredUnit) → AllByRecursion (IsUnitOf id l) us → unit_id l us ≡ Some id → unit_numbered id us ≡ Some (l ∷ [])
+unit_there : (id l : ℕ) (us : List StoredUnit) → AllByRecursion (IsIdOfUnit id l) us → unit_id l us ≡ Some id → unit_numbered id us ≡ Some (l ∷ [])
 unit_there id l [] h e = absurd cc
 unit_there id l (u ∷ us) h e = go (eqb u.literal l) refl (unit_there id l us h.1) e
   where
@@ -174,7 +174,7 @@ unit_past : (b id : ℕ) (us : List StoredUnit) → id ≤ b → AllByRecursion 
 unit_past b id [] l h = refl
 unit_past b id (u ∷ us) l h = ap (λ d. cond d (Some (u.literal ∷ [])) (unit_numbered id us)) (ne_eqb u.id id (λ q. let k : b < u.id = h.0 in omega (arith, k, l, q))) ∙ unit_past b id us l h.1
 
-unit_gone : (id l : ℕ) (us : List StoredUnit) → IsIncreasing (unit_ids us) → AllByRecursion (IsUnitOf id l) us → (unit_id l us ≡ Some id → ⊥) → unit_numbered id us ≡ None
+unit_gone : (id l : ℕ) (us : List StoredUnit) → IsIncreasing (unit_ids us) → AllByRecursion (IsIdOfUnit id l) us → (unit_id l us ≡ Some id → ⊥) → unit_numbered id us ≡ None
 unit_gone id l [] i h n = refl
 unit_gone id l (u ∷ us) i h n = go (eqb u.literal l) refl (unit_gone id l us i.1 h.1) n
   where
@@ -197,10 +197,10 @@ id_missed (Some x) id e q = let k : x ≡ id = cc in true≢false (e ∙ ap not 
 -- the last irredundant clause stored stands where it was put, or nowhere
 module _ (F : Formula) (f : Stored) (k : KeepsFormula F f) where
   last_is : (last : LastClause) → F.status.last ≡ last → last_literals f.last f ≡ last_literals (last_in last) f
-  last_is last e = ap (λ (s : Standing). last_literals s.last f) (sym k.status) ∙ ap (λ x. last_literals (last_in x) f) e
+  last_is last e = ap (λ (s : RestOfStored). last_literals s.last f) (sym k.status) ∙ ap (λ x. last_literals (last_in x) f) e
 
-  put_is : (last : LastClause) → F.status.last ≡ last → IsPut last f.units f.next_id
-  put_is last e = subst (λ x. IsPut x f.units f.next_id) e k.numbered.put
+  put_is : (last : LastClause) → F.status.last ≡ last → LastUnitIsPut last f.units f.next_id
+  put_is last e = subst (λ x. LastUnitIsPut x f.units f.next_id) e k.numbered.put
 
   pub single_is : (id l : ℕ) → F.status.last ≡ code.Single id l → unit_id l F.units ≡ Some id → last_literals f.last f ≡ Some (l ∷ [])
   single_is id l e u = last_is (code.Single id l) e ∙ unit_there id l f.units (put_is (code.Single id l) e).1 (ap (unit_id l) (sym k.units) ∙ u)

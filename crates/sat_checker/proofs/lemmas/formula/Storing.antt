@@ -6,10 +6,10 @@ use Rattle.sat_base.specs.values.Literals.{negated}
 use Rattle.sat_checker.specs.LiteralSets.{is_among, same_literals, is_tautology, canonical}
 use Rattle.sat_checker.specs.Spent.{CountSpent, IsSpent}
 use Rattle.sat_checker.specs.Stored.{Stored, StoredClause, StoredUnit, Last, UnitClause, LongClause, is_unit}
-use Rattle.sat_checker.specs.Storing.{with_count, new_clause, with_clause, clause_with, irredundant_count, redundant_count, unit_id, unit_at, long_at, with_unit, with_contradiction, with_new_unit, with_set, with_canonical, with_stored, with_input}
+use Rattle.sat_checker.specs.Storing.{with_count, new_clause, with_stored_clause, clause_with, irredundant_count, redundant_count, unit_id, unit_at, long_at, with_unit, with_contradiction, with_new_unit, with_set, with_canonical, with_stored, with_input}
 use Rattle.sat_checker.specs.inner.SlotView.{slot_ids}
 use Rattle.sat_checker.specs.inner.StoreView.{KeepsClauses, Stores, PlacesIds, count_in, id_in}
-use Rattle.sat_checker.specs.inner.FormulaView.{Standing, standing_of, standing_in, AreNumbered, KeepsFormula, Turns}
+use Rattle.sat_checker.specs.inner.FormulaView.{RestOfStored, standing_of, standing_in, AreNumbered, KeepsFormula, KeepsOrSpends}
 use Rattle.sat_checker.specs.declared.store.Placed.{Placed}
 use Rattle.sat_checker.specs.declared.store.Store.{Store}
 use Rattle.sat_checker.specs.declared.store.StoreError.{StoreError}
@@ -51,7 +51,7 @@ single_noted F false l id f e k u = record {
   clauses = k.clauses;
   units = k.units;
   status =
-      ap (λ (s : Standing). record s { last = UnitClause id }) k.status
+      ap (λ (s : RestOfStored). record s { last = UnitClause id }) k.status
       ∙ ap (λ o. record (standing_of (with_unit l f)) { last = o }) (sym (unit_there l id (with_unit l f).units f.last (ap (unit_id l) (sym k.units) ∙ u)));
   numbered = unit_noted (slot_ids F.store.clauses) (with_unit l f).units F.status.last (with_unit l f).next_id l id (ap (unit_id l) (sym k.units) ∙ u) k.numbered;
 }
@@ -72,28 +72,28 @@ itself : (ls : List ℕ) → same_literals ls ls ≡ true
 itself [] = refl
 itself (x ∷ xs) = let e : eqb x x ≡ true = eq-eqb x x refl in rw e (itself xs)
 
-long_there : (r : Bool) (n : ℕ) (ls : List ℕ) (cs : List StoredClause) (otherwise : Last) → long_at (clause_with ls (with_clause r n ls cs)) otherwise ≡ LongClause (id_in (clause_with ls cs) n)
+long_there : (r : Bool) (n : ℕ) (ls : List ℕ) (cs : List StoredClause) (otherwise : Last) → long_at (clause_with ls (with_stored_clause r n ls cs)) otherwise ≡ LongClause (id_in (clause_with ls cs) n)
 long_there true n ls [] otherwise = ap (λ b. long_at (cond b (Some (new_clause true n ls)) None) otherwise) (itself ls)
 long_there false n ls [] otherwise = ap (λ b. long_at (cond b (Some (new_clause false n ls)) None) otherwise) (itself ls)
 long_there r n ls (c ∷ cs) otherwise = go r (same_literals c.literals ls) refl (long_there r n ls cs otherwise)
   where
-    go : (r : Bool) (b : Bool) → same_literals c.literals ls ≡ b → long_at (clause_with ls (with_clause r n ls cs)) otherwise ≡ LongClause (id_in (clause_with ls cs) n)
-        → long_at (clause_with ls (cond b (with_count r c ∷ cs) (c ∷ with_clause r n ls cs))) otherwise ≡ LongClause (id_in (cond b (Some c) (clause_with ls cs)) n)
+    go : (r : Bool) (b : Bool) → same_literals c.literals ls ≡ b → long_at (clause_with ls (with_stored_clause r n ls cs)) otherwise ≡ LongClause (id_in (clause_with ls cs) n)
+        → long_at (clause_with ls (cond b (with_count r c ∷ cs) (c ∷ with_stored_clause r n ls cs))) otherwise ≡ LongClause (id_in (cond b (Some c) (clause_with ls cs)) n)
     go true true e ih = ap (λ b. long_at (cond b (Some (with_count true c)) (clause_with ls cs)) otherwise) e
     go false true e ih = ap (λ b. long_at (cond b (Some (with_count false c)) (clause_with ls cs)) otherwise) e
-    go r false e ih = ap (λ b. long_at (cond b (Some c) (clause_with ls (with_clause r n ls cs))) otherwise) e ∙ ih
+    go r false e ih = ap (λ b. long_at (cond b (Some c) (clause_with ls (with_stored_clause r n ls cs))) otherwise) e ∙ ih
 
 -- one count more
-count_more : (r : Bool) (n : ℕ) (ls : List ℕ) (cs : List StoredClause) → count_in r (clause_with ls (with_clause r n ls cs)) ≡ count_in r (clause_with ls cs) + 1
+count_more : (r : Bool) (n : ℕ) (ls : List ℕ) (cs : List StoredClause) → count_in r (clause_with ls (with_stored_clause r n ls cs)) ≡ count_in r (clause_with ls cs) + 1
 count_more true n ls [] = ap (λ b. redundant_count (cond b (Some (new_clause true n ls)) None)) (itself ls)
 count_more false n ls [] = ap (λ b. irredundant_count (cond b (Some (new_clause false n ls)) None)) (itself ls)
 count_more r n ls (c ∷ cs) = go r (same_literals c.literals ls) refl (count_more r n ls cs)
   where
-    go : (r : Bool) (b : Bool) → same_literals c.literals ls ≡ b → count_in r (clause_with ls (with_clause r n ls cs)) ≡ count_in r (clause_with ls cs) + 1
-        → count_in r (clause_with ls (cond b (with_count r c ∷ cs) (c ∷ with_clause r n ls cs))) ≡ count_in r (cond b (Some c) (clause_with ls cs)) + 1
+    go : (r : Bool) (b : Bool) → same_literals c.literals ls ≡ b → count_in r (clause_with ls (with_stored_clause r n ls cs)) ≡ count_in r (clause_with ls cs) + 1
+        → count_in r (clause_with ls (cond b (with_count r c ∷ cs) (c ∷ with_stored_clause r n ls cs))) ≡ count_in r (cond b (Some c) (clause_with ls cs)) + 1
     go true true e ih = ap (λ b. redundant_count (cond b (Some (with_count true c)) (clause_with ls cs))) e
     go false true e ih = ap (λ b. irredundant_count (cond b (Some (with_count false c)) (clause_with ls cs))) e
-    go r false e ih = ap (λ b. count_in r (cond b (Some c) (clause_with ls (with_clause r n ls cs)))) e ∙ ih
+    go r false e ih = ap (λ b. count_in r (cond b (Some c) (clause_with ls (with_stored_clause r n ls cs)))) e ∙ ih
 
 counts_spent : (f : Stored) (r : Bool) (ls : List ℕ) → 2 ^ 64 ≤ count_in r (clause_with ls f.clauses) → CountSpent f
 counts_spent f true ls h = record { literals = ls; past = inr h }
@@ -103,7 +103,7 @@ abbrev noted : Bool → Placed → Status → Status
 noted r p s = cond r s (record s { last = code.Long p.id })
 
 next_of : (F : Formula) (f : Stored) → KeepsFormula F f → F.status.next_id ≡ f.next_id
-next_of F f k = ap (λ (s : Standing). s.next_id) k.status
+next_of F f k = ap (λ (s : RestOfStored). s.next_id) k.status
 
 -- a new unit
 pub unit_stored : (F : Formula) (f : Stored) (l id : ℕ) (units : List StoredUnit) (status : Status) → KeepsFormula F f → is_among (map (λ u. u.literal) F.units) l ≡ false → is_among (map (λ u. u.literal) F.units) (negated l) ≡ false → units ≡ F.units ++ (record { id = id; literal = l }) ∷ []
@@ -115,7 +115,7 @@ unit_stored F f l id units status k a b u s =
     subst (KeepsFormula (record F { units = units; status = status })) (sym e) (record {
       clauses = k.clauses;
       units = u ∙ ap (λ us. us ++ (record { id = id; literal = l }) ∷ []) k.units ∙ ap (λ n. f.units ++ (record { id = n; literal = l }) ∷ []) (s.0 ∙ next_of F f k);
-      status = ap standing_in s.1 ∙ ap (λ (t : Standing). record t { next_id = t.next_id + 1 }) k.status;
+      status = ap standing_in s.1 ∙ ap (λ (t : RestOfStored). record t { next_id = t.next_id + 1 }) k.status;
       numbered = subst (λ x. AreNumbered (slot_ids F.store.clauses) (with_new_unit l f).units x (f.next_id + 1)) (sym (ap (λ (t : Status). t.last) s.1)) (numbered_unit (slot_ids F.store.clauses) f.units F.status.last f.next_id l k.numbered);
     })
 
@@ -133,8 +133,8 @@ module _ (F : Formula) (store : Store) (f : Stored) (x y : ℕ) (ls : List ℕ) 
   abbrev there : Option StoredClause
   there = clause_with all f.clauses
 
-  kept_so : (r : Bool) → KeepsClauses store (record f { clauses = with_clause r F.status.next_id all f.clauses }) → KeepsClauses store (record f { clauses = with_clause r f.next_id all f.clauses })
-  kept_so r h = subst (λ n. KeepsClauses store (record f { clauses = with_clause r n all f.clauses })) (next_of F f k) h
+  kept_so : (r : Bool) → KeepsClauses store (record f { clauses = with_stored_clause r F.status.next_id all f.clauses }) → KeepsClauses store (record f { clauses = with_stored_clause r f.next_id all f.clauses })
+  kept_so r h = subst (λ n. KeepsClauses store (record f { clauses = with_stored_clause r n all f.clauses })) (next_of F f k) h
 
   numbered_so : PlacesIds F.store.clauses store.clauses F.status.next_id p.is_new → p.is_new ≡ not (is_some there) → AreNumbered (slot_ids store.clauses) f.units F.status.last (cond (is_some there) f.next_id (f.next_id + 1))
   numbered_so h e =
@@ -147,7 +147,7 @@ module _ (F : Formula) (store : Store) (f : Stored) (x y : ℕ) (ls : List ℕ) 
     clauses = kept_so true s.stored;
     units = k.units;
     status =
-        ap standing_in e ∙ ap (λ (t : Standing). record t { next_id = cond p.is_new (t.next_id + 1) t.next_id }) k.status
+        ap standing_in e ∙ ap (λ (t : RestOfStored). record t { next_id = cond p.is_new (t.next_id + 1) t.next_id }) k.status
         ∙ ap (λ n. record (standing_of f) { next_id = n }) (next_swap (is_some there) p.is_new f.next_id s.new_is);
     numbered = subst (λ l. AreNumbered (slot_ids store.clauses) f.units l (cond (is_some there) f.next_id (f.next_id + 1))) (sym (ap (λ (t : Status). t.last) e)) (numbered_so h s.new_is);
   }
@@ -155,7 +155,7 @@ module _ (F : Formula) (store : Store) (f : Stored) (x y : ℕ) (ls : List ℕ) 
     clauses = kept_so false s.stored;
     units = k.units;
     status =
-        ap standing_in e ∙ ap (λ (t : Standing). record t { last = LongClause p.id; next_id = cond p.is_new (t.next_id + 1) t.next_id }) k.status
+        ap standing_in e ∙ ap (λ (t : RestOfStored). record t { last = LongClause p.id; next_id = cond p.is_new (t.next_id + 1) t.next_id }) k.status
         ∙ ap (λ n. record (standing_of f) { last = LongClause p.id; next_id = n }) (next_swap (is_some there) p.is_new f.next_id s.new_is)
         ∙ ap (λ l. record (standing_of f) { last = l; next_id = cond (is_some there) f.next_id (f.next_id + 1) }) (
         ap LongClause (s.id_is ∙ ap (id_in there) (next_of F f k)) ∙ sym (long_there false f.next_id all f.clauses f.last)
@@ -183,26 +183,26 @@ Takes result old needed new =
     MatchResult result (λ x. new ≡ record old { next_id = cond needed (old.next_id + 1) old.next_id }) (λ e. (e ≡ CounterEnd) × (needed ≡ true) × (2 ^ 64 ≤ old.next_id + 1))
 
 pub long_stored : {T : Type 0} (result : Result T StoreError) (F : Formula) (store : Store) (was status : Status) (f : Stored) (r : Bool) (ls : List ℕ) (p : Placed) → 2 ≤ length ls → KeepsFormula F f → Stores store f F.status.next_id r ls p.id p.is_new → PlacesIds F.store.clauses store.clauses F.status.next_id p.is_new
-    → was ≡ noted r p F.status → Takes result was p.is_new status → Turns result (KeepsFormula (record F { store = store; status = status }) (with_canonical r ls f)) (with_canonical r ls f)
+    → was ≡ noted r p F.status → Takes result was p.is_new status → KeepsOrSpends result (KeepsFormula (record F { store = store; status = status }) (with_canonical r ls f)) (with_canonical r ls f)
 long_stored result F store was status f r [] p l k s h w m = absurd (omega arith)
 long_stored result F store was status f r (x ∷ []) p l k s h w m = absurd (omega arith)
 long_stored {T = T} result F store was status f r (x ∷ y ∷ ls) p l k s h w m = go result (subst (λ t. Takes result t p.is_new status) w m)
   where
-    go : (result : Result T StoreError) → Takes result (noted r p F.status) p.is_new status → Turns result (KeepsFormula (record F { store = store; status = status }) (with_canonical r (x ∷ y ∷ ls) f)) (with_canonical r (x ∷ y ∷ ls) f)
+    go : (result : Result T StoreError) → Takes result (noted r p F.status) p.is_new status → KeepsOrSpends result (KeepsFormula (record F { store = store; status = status }) (with_canonical r (x ∷ y ∷ ls) f)) (with_canonical r (x ∷ y ∷ ls) f)
     go (Ok v) m = long_done F store f x y ls p k r status s h m
     go (Err e) m =
-        subst (λ d. Turns {T = T} (Err d) (KeepsFormula (record F { store = store; status = status }) (with_canonical r (x ∷ y ∷ ls) f)) (with_canonical r (x ∷ y ∷ ls) f)) (sym m.0) (long_spent F store f x y ls p k r s.new_is m.1 m.2)
+        subst (λ d. KeepsOrSpends {T = T} (Err d) (KeepsFormula (record F { store = store; status = status }) (with_canonical r (x ∷ y ∷ ls) f)) (with_canonical r (x ∷ y ∷ ls) f)) (sym m.0) (long_spent F store f x y ls p k r s.new_is m.1 m.2)
 
 long_fails : (e : StoreError) (T K : Type 0) (F : Formula) (f : Stored) (r : Bool) (ls : List ℕ) → 2 ≤ length ls → KeepsFormula F f
-    → (e ≡ CounterEnd → 2 ^ 64 ≤ count_in r (clause_with ls f.clauses) + 1) → Turns {T = T} (Err e) K (with_canonical r ls f)
+    → (e ≡ CounterEnd → 2 ^ 64 ≤ count_in r (clause_with ls f.clauses) + 1) → KeepsOrSpends {T = T} (Err e) K (with_canonical r ls f)
 long_fails e T K F f r [] l k h = absurd (omega arith)
 long_fails e T K F f r (x ∷ []) l k h = absurd (omega arith)
 long_fails OutOfMemory T K F f r (x ∷ y ∷ ls) l k h = tt
 long_fails CounterEnd T K F f r (x ∷ y ∷ ls) l k h = count_spent F F.store f x y ls (record { id = 0; is_new = true }) k r (h refl)
 
 pub long_refused : {T : Type 0} (result : Result T StoreError) (d e : StoreError) → result ≡ Err d → d ≡ e → (K : Type 0) (F : Formula) (f : Stored) (r : Bool) (ls : List ℕ) → 2 ≤ length ls → KeepsFormula F f
-    → (e ≡ CounterEnd → 2 ^ 64 ≤ count_in r (clause_with ls f.clauses) + 1) → Turns result K (with_canonical r ls f)
-long_refused {T = T} result d e i s K F f r ls l k h = subst (λ x. Turns x K (with_canonical r ls f)) (sym (i ∙ ap Err s)) (long_fails e T K F f r ls l k h)
+    → (e ≡ CounterEnd → 2 ^ 64 ≤ count_in r (clause_with ls f.clauses) + 1) → KeepsOrSpends result K (with_canonical r ls f)
+long_refused {T = T} result d e i s K F f r ls l k h = subst (λ x. KeepsOrSpends x K (with_canonical r ls f)) (sym (i ∙ ap Err s)) (long_fails e T K F f r ls l k h)
 
 -- ids don't fall
 next_unit : (l : ℕ) (f : Stored) → f.next_id ≤ (with_unit l f).next_id
@@ -239,23 +239,23 @@ next_input n m true l e = let h : m ≡ n = eqb-true m n (sym e) in omega arith
 next_input n m false l e = let h : (m ≡ n → ⊥) = eqb-false m n (sym e) in omega arith
 
 pub input_stored : {T : Type 0} (result : Result T StoreError) (F G : Formula) (status : Status) (f : Stored) (c : List ℕ) (b : Bool) → KeepsFormula F f → KeepsFormula G (with_stored false c f) → b ≡ eqb G.status.next_id F.status.next_id
-    → Takes result G.status b status → Turns result (KeepsFormula (record G { status = status }) (with_input c f)) (with_input c f)
+    → Takes result G.status b status → KeepsOrSpends result (KeepsFormula (record G { status = status }) (with_input c f)) (with_input c f)
 input_stored {T = T} result F G status f c b k g e m = go result m
   where
     same : cond b ((with_stored false c f).next_id + 1) (with_stored false c f).next_id ≡ max (with_stored false c f).next_id (f.next_id + 1)
     same = next_input f.next_id (with_stored false c f).next_id b (next_stored false c f) (e ∙ ap (λ n. eqb n F.status.next_id) (next_of G (with_stored false c f) g) ∙ ap (eqb (with_stored false c f).next_id) (next_of F f k))
 
-    go : (result : Result T StoreError) → Takes result G.status b status → Turns result (KeepsFormula (record G { status = status }) (with_input c f)) (with_input c f)
+    go : (result : Result T StoreError) → Takes result G.status b status → KeepsOrSpends result (KeepsFormula (record G { status = status }) (with_input c f)) (with_input c f)
     go (Ok v) m = record {
       clauses = g.clauses;
       units = g.units;
-      status = ap standing_in m ∙ ap (λ (t : Standing). record t { next_id = cond b (t.next_id + 1) t.next_id }) g.status ∙ ap (λ n. record (standing_of (with_stored false c f)) { next_id = n }) same;
+      status = ap standing_in m ∙ ap (λ (t : RestOfStored). record t { next_id = cond b (t.next_id + 1) t.next_id }) g.status ∙ ap (λ n. record (standing_of (with_stored false c f)) { next_id = n }) same;
       numbered =
           subst (λ l. AreNumbered (slot_ids G.store.clauses) (with_stored false c f).units l (with_input c f).next_id) (sym (ap (λ (t : Status). t.last) m))
           (numbered_more (slot_ids G.store.clauses) (with_stored false c f).units G.status.last (with_stored false c f).next_id (with_input c f).next_id (omega arith) g.numbered);
     }
     go (Err e) m =
-        subst (λ d. Turns {T = T} (Err d) (KeepsFormula (record G { status = status }) (with_input c f)) (with_input c f)) (sym m.0)
+        subst (λ d. KeepsOrSpends {T = T} (Err d) (KeepsFormula (record G { status = status }) (with_input c f)) (with_input c f)) (sym m.0)
         (inl (let a = next_of G (with_stored false c f) g in let t = ap (λ x. cond x ((with_stored false c f).next_id + 1) (with_stored false c f).next_id) m.1 in omega (arith, a, t, same, m.2)))
 
 -- by their number

@@ -4,16 +4,16 @@ use Rattle.std.specs.List.{AllByRecursion}
 use Rattle.sat_base.specs.values.Literals.{negated}
 use Rattle.sat_checker.specs.LiteralSets.{is_tautology, canonical, same_literals}
 use Rattle.sat_checker.specs.Stored.{StoredClause, StoredUnit, Stored, is_unit, unit_literals, long_clauses}
-use Rattle.sat_checker.specs.Storing.{with_count, with_clause, without_count, unless_gone, without_clause, with_unit, with_contradiction, with_new_unit, with_units, with_set, with_canonical, with_stored}
+use Rattle.sat_checker.specs.Storing.{with_count, with_stored_clause, without_count, unless_gone, without_clause, with_unit, with_contradiction, with_new_unit, with_units, with_set, with_canonical, with_stored}
 use Rattle.sat_checker.proofs.lemmas.meaning.Clauses.{literals_of}
 
 module _ (P : List ℕ → Type 0) where
-  each_with : (r : Bool) (id : ℕ) (ls : List ℕ) (cs : List StoredClause) → AllByRecursion P (literals_of cs) → P ls → AllByRecursion P (literals_of (with_clause r id ls cs))
+  each_with : (r : Bool) (id : ℕ) (ls : List ℕ) (cs : List StoredClause) → AllByRecursion P (literals_of cs) → P ls → AllByRecursion P (literals_of (with_stored_clause r id ls cs))
   each_with true id ls [] h p = (p, tt)
   each_with false id ls [] h p = (p, tt)
   each_with r id ls (c ∷ cs) h p = go r (each_with r id ls cs h.1 p) (same_literals c.literals ls)
     where
-      go : (r : Bool) → AllByRecursion P (literals_of (with_clause r id ls cs)) → (b : Bool) → AllByRecursion P (literals_of (cond b (with_count r c ∷ cs) (c ∷ with_clause r id ls cs)))
+      go : (r : Bool) → AllByRecursion P (literals_of (with_stored_clause r id ls cs)) → (b : Bool) → AllByRecursion P (literals_of (cond b (with_count r c ∷ cs) (c ∷ with_stored_clause r id ls cs)))
       go true ih true = (h.0, h.1)
       go false ih true = (h.0, h.1)
       go r ih false = (h.0, ih)

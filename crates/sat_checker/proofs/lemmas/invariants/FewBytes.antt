@@ -8,7 +8,7 @@ use Rattle.sat_base.specs.steps.Steps.{Redundant, Simplified, Satisfied, Step, S
 use Rattle.sat_base.specs.steps.StepText.{IsLiteral, IsHash, AreLiterals, SpellsFields, SpellsStep, SpellsSteps, tag_of}
 use Rattle.sat_checker.specs.LiteralSets.{is_tautology, canonical, same_literals}
 use Rattle.sat_checker.specs.Stored.{StoredClause, Stored, is_unit}
-use Rattle.sat_checker.specs.Storing.{with_count, with_clause, clause_with, irredundant_count, redundant_count, without_count, unless_gone, without_clause, with_unit, with_units, with_contradiction, with_new_unit, settled_by, settled, with_set, with_canonical, with_stored, with_input, with_literals_known}
+use Rattle.sat_checker.specs.Storing.{with_count, with_stored_clause, clause_with, irredundant_count, redundant_count, without_count, unless_gone, without_clause, with_unit, with_units, with_contradiction, with_new_unit, settled_by, settled, with_set, with_canonical, with_stored, with_input, with_literals_known}
 use Rattle.sat_checker.specs.Accepts.{effect, stored_after}
 use Rattle.sat_checker.specs.ProofView.{most_bytes, taken_after}
 use Rattle.sat_checker.specs.Spent.{IsSpent}
@@ -134,12 +134,12 @@ within_more : (n m : ℕ) (cs : List StoredClause) → n ≤ m → CountsWithin 
 within_more n m [] l h = tt
 within_more n m (c ∷ cs) l h = ((let a = h.0.0 in omega arith, let a = h.0.1 in omega arith), within_more n m cs l h.1)
 
-within_with : (r : Bool) (id : ℕ) (ls : List ℕ) (cs : List StoredClause) (n : ℕ) → CountsWithin n cs → CountsWithin (n + 1) (with_clause r id ls cs)
+within_with : (r : Bool) (id : ℕ) (ls : List ℕ) (cs : List StoredClause) (n : ℕ) → CountsWithin n cs → CountsWithin (n + 1) (with_stored_clause r id ls cs)
 within_with true id ls [] n h = ((omega arith, omega arith), tt)
 within_with false id ls [] n h = ((omega arith, omega arith), tt)
 within_with r id ls (c ∷ cs) n h = go r (within_with r id ls cs n h.1) (same_literals c.literals ls)
   where
-    go : (r : Bool) → CountsWithin (n + 1) (with_clause r id ls cs) → (b : Bool) → CountsWithin (n + 1) (cond b (with_count r c ∷ cs) (c ∷ with_clause r id ls cs))
+    go : (r : Bool) → CountsWithin (n + 1) (with_stored_clause r id ls cs) → (b : Bool) → CountsWithin (n + 1) (cond b (with_count r c ∷ cs) (c ∷ with_stored_clause r id ls cs))
     go true ih true = ((let a = h.0.0 in omega arith, let a = h.0.1 in omega arith), within_more n (n + 1) cs (omega arith) h.1)
     go false ih true = ((let a = h.0.0 in omega arith, let a = h.0.1 in omega arith), within_more n (n + 1) cs (omega arith) h.1)
     go r ih false = ((let a = h.0.0 in omega arith, let a = h.0.1 in omega arith), ih)

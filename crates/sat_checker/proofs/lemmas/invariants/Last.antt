@@ -3,7 +3,7 @@ use Rattle.std.proofs.Common.{ℕ, ◌+◌, ◌<◌, ◌≤◌, ◌≡◌, Bool,
 use Rattle.sat_base.specs.steps.Steps.{SolverVarName, UserVarName, DeleteVar, ChangeSamplingMode, AddClause, AtClause, UnitClauses, DeleteClause, ChangeHashBits, Model, Assumptions, FailedAssumptions, End}
 use Rattle.sat_checker.specs.LiteralSets.{is_tautology, canonical}
 use Rattle.sat_checker.specs.Stored.{StoredClause, Last, NoneYet, Empty, UnitClause, LongClause, Stored}
-use Rattle.sat_checker.specs.Storing.{clause_with, irredundant_count, settled_by, with_canonical, with_clause, with_literals_known, last_literals, long_at, clause_numbered, unit_numbered}
+use Rattle.sat_checker.specs.Storing.{clause_with, irredundant_count, settled_by, with_canonical, with_stored_clause, with_literals_known, last_literals, long_at, clause_numbered, unit_numbered}
 use Rattle.sat_checker.specs.Accepts.{effect, stored_after, ready_after}
 use Rattle.sat_checker.specs.Invariants.{DerivedIsLast, LastStays, LastIsSettled}
 use Rattle.sat_checker.proofs.lemmas.meaning.Orderly.{Orderly, numbered_itself, stored_count}
@@ -42,11 +42,11 @@ last_stays f (DeleteClause clause proof) e = absurd cc
 pub derived_last : (set : List ℕ) (g : Stored) → 2 ≤ length set → Orderly (with_canonical false set g) → last_literals (with_canonical false set g).last (with_canonical false set g) ≡ Some set
 derived_last [] g n o = absurd (omega arith)
 derived_last (l ∷ []) g n o = absurd (omega arith)
-derived_last (l ∷ m ∷ ls) g n o = go (clause_with (l ∷ m ∷ ls) (with_clause false g.next_id (l ∷ m ∷ ls) g.clauses)) refl (stored_count g.next_id (l ∷ m ∷ ls) g.clauses)
+derived_last (l ∷ m ∷ ls) g n o = go (clause_with (l ∷ m ∷ ls) (with_stored_clause false g.next_id (l ∷ m ∷ ls) g.clauses)) refl (stored_count g.next_id (l ∷ m ∷ ls) g.clauses)
   where
-    go : (d : Option StoredClause) → clause_with (l ∷ m ∷ ls) (with_clause false g.next_id (l ∷ m ∷ ls) g.clauses) ≡ d → 0 < irredundant_count d → last_literals (long_at d g.last) (with_canonical false (l ∷ m ∷ ls) g) ≡ Some (l ∷ m ∷ ls)
+    go : (d : Option StoredClause) → clause_with (l ∷ m ∷ ls) (with_stored_clause false g.next_id (l ∷ m ∷ ls) g.clauses) ≡ d → 0 < irredundant_count d → last_literals (long_at d g.last) (with_canonical false (l ∷ m ∷ ls) g) ≡ Some (l ∷ m ∷ ls)
     go None k n = absurd (omega arith)
-    go (Some d) k n = numbered_itself (l ∷ m ∷ ls) d (with_clause false g.next_id (l ∷ m ∷ ls) g.clauses) o.increasing k
+    go (Some d) k n = numbered_itself (l ∷ m ∷ ls) d (with_stored_clause false g.next_id (l ∷ m ∷ ls) g.clauses) o.increasing k
 
 pub derived_is_last : DerivedIsLast
 derived_is_last steps clause hashes ok e n =

@@ -6,7 +6,7 @@ use Rattle.sat_checker.specs.LiteralSets.{is_among}
 use Rattle.sat_checker.specs.Propagation.{PassesCheck}
 use Rattle.sat_checker.specs.Stored.{StoredUnit, Stored, Last, NoneYet, Empty, UnitClause, LongClause, is_unit, unit_literals, long_clauses, hash_by}
 use Rattle.sat_checker.specs.Storing.{with_contradiction, with_new_unit, with_unit, settled_by, last_literals}
-use Rattle.sat_checker.specs.Accepts.{Passes, PassInTurn, IsStrictSubset, Accepts}
+use Rattle.sat_checker.specs.Accepts.{PassesByHashes, PassInTurn, IsStrictSubset, Accepts}
 use Rattle.sat_checker.specs.Invariants.{PendingChangesNothing}
 
 -- what the check of a clause looks at
@@ -38,7 +38,7 @@ alike_unit f g l a = go (is_unit f l) (is_unit g l) (ap (λ us. is_among us l) a
 abbrev PassesUnder : (ℕ → Option ℕ) → ℕ → List (List ℕ) → List ℕ → List ℕ → List ℕ → Type 0
 PassesUnder names width clauses units clause hashes = PassesCheck units clause (map (λ h. filter (λ c. eqb (hash_by names width c) h) clauses) hashes)
 
-pass_alike : (f g : Stored) (clause hashes : List ℕ) → Alike f g → Passes f clause hashes → Passes g clause hashes
+pass_alike : (f g : Stored) (clause hashes : List ℕ) → Alike f g → PassesByHashes f clause hashes → PassesByHashes g clause hashes
 pass_alike f g clause hashes a p =
     subst (λ x. PassesUnder x g.width (long_clauses g) (unit_literals g) clause hashes) (sym a.names)
     (subst (λ x. PassesUnder f.solver_names x (long_clauses g) (unit_literals g) clause hashes) (sym a.width)

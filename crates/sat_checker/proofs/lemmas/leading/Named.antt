@@ -7,7 +7,7 @@ use Rattle.sat_checker.specs.LiteralSets.{canonical, same_literals}
 use Rattle.sat_checker.specs.Propagation.{IsSubsequence, LeadToConflict, clauses_in, conflict}
 use Rattle.sat_checker.specs.Stored.{StoredClause, Stored, unit_literals, long_clauses, hash_by, bucket}
 use Rattle.sat_checker.specs.Storing.{clause_with}
-use Rattle.sat_checker.specs.Leading.{Leads, AreNamed, denied, LeadingPasses}
+use Rattle.sat_checker.specs.Leading.{LeadsToConflict, AreStoredByHash, denied, LeadingPasses}
 use Rattle.sat_checker.proofs.lemmas.sets.Order.{among-append}
 use Rattle.sat_checker.proofs.lemmas.meaning.Clauses.{same}
 use Rattle.sat_checker.proofs.lemmas.leading.AnyOrder.{hash_any_order}
@@ -81,14 +81,14 @@ none_empty f (c ∷ cs) (k ∷ ks) h = (not_empty c (bucket f k) h.0, none_empty
 chosen_from : (f : Stored) (picked cs : List (List ℕ)) (hs : List ℕ) → IsSubsequence picked cs → StandIn f cs hs → IsSubsequence picked (clauses_in (map (bucket f) hs))
 chosen_from f picked cs hs s h = sub_trans picked cs (clauses_in (map (bucket f) hs)) s (all_chosen f cs hs h)
 
-stand_in : (f : Stored) (named : List (List ℕ)) (hashes : List ℕ) → AreNamed f named hashes → StandIn f (map canonical named) hashes
+stand_in : (f : Stored) (named : List (List ℕ)) (hashes : List ℕ) → AreStoredByHash f named hashes → StandIn f (map canonical named) hashes
 stand_in f [] [] h = tt
 stand_in f [] (k ∷ ks) h = absurd h
 stand_in f (c ∷ cs) [] h = absurd h
 stand_in f (c ∷ cs) (k ∷ ks) h =
     (in_bucket f (canonical c) k (has_found (canonical c) f.clauses h.0.stored) (hash_any_order f.solver_names f.width c h.0.once ∙ sym h.0.hash), stand_in f cs ks h.1)
 
-lead_to_conflict : (f : Stored) (clause hashes : List ℕ) (named : List (List ℕ)) → AreNamed f named hashes → Leads (denied f clause) named → LeadToConflict (map negated clause ++ unit_literals f) (map (bucket f) hashes)
+lead_to_conflict : (f : Stored) (clause hashes : List ℕ) (named : List (List ℕ)) → AreStoredByHash f named hashes → LeadsToConflict (denied f clause) named → LeadToConflict (map negated clause ++ unit_literals f) (map (bucket f) hashes)
 lead_to_conflict f clause hashes named n lead =
     let r = picked_from (map canonical named) (denied f clause) (map negated clause ++ unit_literals f) (λ l. sym (among-append (map negated clause) (unit_literals f) l)) (sorted_lead named (denied f clause) lead) in
     let s = stand_in f named hashes n in

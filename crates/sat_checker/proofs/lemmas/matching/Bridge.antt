@@ -10,7 +10,7 @@ use Rattle.sat_base.specs.steps.Steps.{Step, UserVarName, AddClause, DeleteVar}
 use Rattle.sat_checker.specs.Fold.{Holds}
 use Rattle.sat_checker.specs.matching.Checking.{is_variable, variable_of, Checking, IsSound}
 use Rattle.sat_checker.specs.matching.Expected.{Spells, EachSpelt, SameSet}
-use Rattle.sat_checker.specs.matching.Bridge.{Live, Agrees, Apart, IsBridge}
+use Rattle.sat_checker.specs.matching.Bridge.{Live, AgreesOnLive, Apart, IsBridge}
 use Rattle.sat_base.proofs.lemmas.script.LiteralValues.{coded_half, literal_same, among_true, some_true, some_mapped, among_mapped, all_at, all_map, updated, Below, updated_clauses, placed_found, removed_found, removed_gone}
 
 pub begun : (k : Checking) → IsBridge k start [] []
@@ -28,7 +28,7 @@ begun k = record {
 }
 
 -- a literal's identity
-module _ (k : Checking) (j : Judge) (earlier : List Step) (live : Live) (bridge : IsBridge k j earlier live) (a b : Valuation) (agrees : Agrees live a b) where
+module _ (k : Checking) (j : Judge) (earlier : List Step) (live : Live) (bridge : IsBridge k j earlier live) (a b : Valuation) (agrees : AgreesOnLive live a b) where
   pub value : (l : Literal) (code : ℕ) → Spells (variable_of earlier) l code → literal_true a code ≡ literal_true b (over j l)
   value l code s =
       let p = bridge.named l.name s.variable s.named in
@@ -62,7 +62,7 @@ abbrev pub pulled : Live → Valuation → Valuation
 pulled [] b = λ x. false
 pulled (p ∷ ps) b = λ x. cond (eqb x p.0) (b p.1) (pulled ps b x)
 
-pub pulled_agrees : (live : Live) (b : Valuation) → Apart live → Agrees live (pulled live b) b
+pub pulled_agrees : (live : Live) (b : Valuation) → Apart live → AgreesOnLive live (pulled live b) b
 pulled_agrees [] b once = tt
 pulled_agrees (p ∷ ps) b once = (here, all_map (λ q. (q.0 ≡ p.0 → ⊥) × (pulled ps b q.0 ≡ b q.1)) (λ q. pulled (p ∷ ps) b q.0 ≡ b q.1) ps there (both ps once.0 (pulled_agrees ps b once.1)))
   where
@@ -110,11 +110,11 @@ elsewhere : (v : ℕ) (a : Valuation) (w : ℕ) → (w ≡ v → ⊥) → flippe
 elsewhere v a w n = let e : eqb w v ≡ false = ne_eqb w v n in rw e refl
 
 -- where no pair is of v, both agree
-none_of : (v : ℕ) (a b : Valuation) (ps : Live) → AllByRecursion (λ q. q.0 ≡ v → ⊥) ps → Agrees (without v ps) a b → Agrees ps a b × Agrees ps (flipped v a) b
+none_of : (v : ℕ) (a b : Valuation) (ps : Live) → AllByRecursion (λ q. q.0 ≡ v → ⊥) ps → AgreesOnLive (without v ps) a b → AgreesOnLive ps a b × AgreesOnLive ps (flipped v a) b
 none_of v a b [] n h = (tt, tt)
 none_of v a b (p ∷ ps) n h =
     let e : eqb p.0 v ≡ false = ne_eqb p.0 v n.0 in
-    let x : Agrees (p ∷ without v ps) a b = subst (λ b'. Agrees (cond (not b') (p ∷ without v ps) (without v ps)) a b) e h in
+    let x : AgreesOnLive (p ∷ without v ps) a b = subst (λ b'. AgreesOnLive (cond (not b') (p ∷ without v ps) (without v ps)) a b) e h in
     let rest = none_of v a b ps n.1 x.1 in
     ((x.0, rest.0), (elsewhere v a p.0 n.0 ∙ x.0, rest.1))
 
@@ -124,11 +124,11 @@ same_or_not true false = inr refl
 same_or_not false true = inr refl
 same_or_not false false = inl refl
 
-either : (v : ℕ) (a b : Valuation) (live : Live) → Apart live → Agrees (without v live) a b → Agrees live a b ⊎ Agrees live (flipped v a) b
+either : (v : ℕ) (a b : Valuation) (live : Live) → Apart live → AgreesOnLive (without v live) a b → AgreesOnLive live a b ⊎ AgreesOnLive live (flipped v a) b
 either v a b [] once h = inl tt
 either v a b (p ∷ ps) once h = go (eqb p.0 v) refl (either v a b ps once.1) h
   where
-    go : (d : Bool) → eqb p.0 v ≡ d → (Agrees (without v ps) a b → Agrees ps a b ⊎ Agrees ps (flipped v a) b) → Agrees (cond (not d) (p ∷ without v ps) (without v ps)) a b → Agrees (p ∷ ps) a b ⊎ Agrees (p ∷ ps) (flipped v a) b
+    go : (d : Bool) → eqb p.0 v ≡ d → (AgreesOnLive (without v ps) a b → AgreesOnLive ps a b ⊎ AgreesOnLive ps (flipped v a) b) → AgreesOnLive (cond (not d) (p ∷ without v ps) (without v ps)) a b → AgreesOnLive (p ∷ ps) a b ⊎ AgreesOnLive (p ∷ ps) (flipped v a) b
     go true e ih x =
         let none : AllByRecursion (λ q. q.0 ≡ v → ⊥) ps = subst (λ y. AllByRecursion (λ q. q.0 ≡ y → ⊥) ps) (eqb-true p.0 v e) once.0 in
         let rest = none_of v a b ps none x in
@@ -231,10 +231,10 @@ module _ (k : Checking) (sound : IsSound k) (j : Judge) (earlier : List Step) (l
       at_new : (a b : Valuation) → updated j.next_identity (a v) b j.next_identity ≡ a v
       at_new a b = let e : eqb j.next_identity j.next_identity ≡ true = eq-eqb j.next_identity j.next_identity refl in rw e refl
 
-      kept : (a b : Valuation) → Agrees live a b → Agrees live a (updated j.next_identity (a v) b)
+      kept : (a b : Valuation) → AgreesOnLive live a b → AgreesOnLive live a (updated j.next_identity (a v) b)
       kept a b ag = both live ag bridge.below
         where
-          both : (ps : Live) → Agrees ps a b → AllByRecursion (λ p. p.1 < j.next_identity) ps → Agrees ps a (updated j.next_identity (a v) b)
+          both : (ps : Live) → AgreesOnLive ps a b → AllByRecursion (λ p. p.1 < j.next_identity) ps → AgreesOnLive ps a (updated j.next_identity (a v) b)
           both [] x y = tt
           both (p ∷ ps) x y = (let e : eqb p.1 j.next_identity ≡ false = ne_eqb p.1 j.next_identity (λ z. let lt = y.0 in omega arith) in rw e x.0, both ps x.1 y.1)
 

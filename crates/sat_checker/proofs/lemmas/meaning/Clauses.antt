@@ -7,7 +7,7 @@ use Rattle.std.specs.List.{AllByRecursion}
 use Rattle.sat_base.specs.values.Clauses.{Valuation, literal_true, clause_true, EachHolds}
 use Rattle.sat_checker.specs.LiteralSets.{same_literals, with_literal, canonical}
 use Rattle.sat_checker.specs.Stored.{StoredClause}
-use Rattle.sat_checker.specs.Storing.{with_count, with_clause, clause_with, irredundant_count, without_count, unless_gone, without_clause}
+use Rattle.sat_checker.specs.Storing.{with_count, with_stored_clause, clause_with, irredundant_count, without_count, unless_gone, without_clause}
 
 abbrev pub Kept : Valuation → List StoredClause → Type 0
 Kept a = AllByRecursion (λ c. (c.irredundant ≡ 0) ⊎ (clause_true a c.literals ≡ true))
@@ -48,34 +48,34 @@ one_more : (n : ℕ) → n + 1 ≡ 0 → ⊥
 one_more n e = omega arith
 
 -- what one more clause asks
-pub more_asks : (a : Valuation) (r : Bool) (id : ℕ) (ls : List ℕ) (cs : List StoredClause) → Kept a (with_clause r id ls cs) → Kept a cs × (r ≡ false → clause_true a ls ≡ true)
+pub more_asks : (a : Valuation) (r : Bool) (id : ℕ) (ls : List ℕ) (cs : List StoredClause) → Kept a (with_stored_clause r id ls cs) → Kept a cs × (r ≡ false → clause_true a ls ≡ true)
 more_asks a true id ls [] h = (tt, λ e. absurd (true≢false e))
 more_asks a false id ls [] h = (tt, λ e. elim h.0 [ inl z ↦ absurd (one_more 0 z) | inr t ↦ t ])
 more_asks a r id ls (c ∷ cs) h = go r (more_asks a r id ls cs) (same_literals c.literals ls) refl h
   where
-    go : (r : Bool) → (Kept a (with_clause r id ls cs) → Kept a cs × (r ≡ false → clause_true a ls ≡ true)) → (b : Bool) → same_literals c.literals ls ≡ b → Kept a (cond b (with_count r c ∷ cs) (c ∷ with_clause r id ls cs)) → Kept a (c ∷ cs) × (r ≡ false → clause_true a ls ≡ true)
+    go : (r : Bool) → (Kept a (with_stored_clause r id ls cs) → Kept a cs × (r ≡ false → clause_true a ls ≡ true)) → (b : Bool) → same_literals c.literals ls ≡ b → Kept a (cond b (with_count r c ∷ cs) (c ∷ with_stored_clause r id ls cs)) → Kept a (c ∷ cs) × (r ≡ false → clause_true a ls ≡ true)
     go true ih true e k = (k, λ z. absurd (true≢false z))
     go false ih true e k =
         let t : clause_true a c.literals ≡ true = elim k.0 [ inl z ↦ absurd (one_more c.irredundant z) | inr y ↦ y ] in
         ((inr t, k.1), λ _. subst (λ x. clause_true a x ≡ true) (same c.literals ls e) t)
     go r ih false e k = let p = ih k.1 in ((k.0, p.0), p.1)
 
-pub more_kept : (a : Valuation) (r : Bool) (id : ℕ) (ls : List ℕ) (cs : List StoredClause) → Kept a cs → clause_true a ls ≡ true → Kept a (with_clause r id ls cs)
+pub more_kept : (a : Valuation) (r : Bool) (id : ℕ) (ls : List ℕ) (cs : List StoredClause) → Kept a cs → clause_true a ls ≡ true → Kept a (with_stored_clause r id ls cs)
 more_kept a true id ls [] h t = (inr t, tt)
 more_kept a false id ls [] h t = (inr t, tt)
 more_kept a r id ls (c ∷ cs) h t = go r (more_kept a r id ls cs h.1 t) (same_literals c.literals ls) refl
   where
-    go : (r : Bool) → Kept a (with_clause r id ls cs) → (b : Bool) → same_literals c.literals ls ≡ b → Kept a (cond b (with_count r c ∷ cs) (c ∷ with_clause r id ls cs))
+    go : (r : Bool) → Kept a (with_stored_clause r id ls cs) → (b : Bool) → same_literals c.literals ls ≡ b → Kept a (cond b (with_count r c ∷ cs) (c ∷ with_stored_clause r id ls cs))
     go true ih true e = (h.0, h.1)
     go false ih true e = (inr (subst (λ x. clause_true a x ≡ true) (sym (same c.literals ls e)) t), h.1)
     go r ih false e = (h.0, ih)
 
-pub more_true : (a : Valuation) (r : Bool) (id : ℕ) (ls : List ℕ) (cs : List StoredClause) → EachHolds a (literals_of cs) → clause_true a ls ≡ true → EachHolds a (literals_of (with_clause r id ls cs))
+pub more_true : (a : Valuation) (r : Bool) (id : ℕ) (ls : List ℕ) (cs : List StoredClause) → EachHolds a (literals_of cs) → clause_true a ls ≡ true → EachHolds a (literals_of (with_stored_clause r id ls cs))
 more_true a true id ls [] h t = (t, tt)
 more_true a false id ls [] h t = (t, tt)
 more_true a r id ls (c ∷ cs) h t = go r (more_true a r id ls cs h.1 t) (same_literals c.literals ls)
   where
-    go : (r : Bool) → EachHolds a (literals_of (with_clause r id ls cs)) → (b : Bool) → EachHolds a (literals_of (cond b (with_count r c ∷ cs) (c ∷ with_clause r id ls cs)))
+    go : (r : Bool) → EachHolds a (literals_of (with_stored_clause r id ls cs)) → (b : Bool) → EachHolds a (literals_of (cond b (with_count r c ∷ cs) (c ∷ with_stored_clause r id ls cs)))
     go true ih true = (h.0, h.1)
     go false ih true = (h.0, h.1)
     go r ih false = (h.0, ih)
@@ -171,7 +171,7 @@ irredundant_stay ls ms (c ∷ cs) n = go (irredundant_stay ls ms cs) (same_liter
         pick ih false k = ih k
 
 -- so does one more of whatever
-pub irredundant_more : (r : Bool) (id : ℕ) (ls ms : List ℕ) (cs : List StoredClause) → 0 < irredundant_count (clause_with ls cs) → 0 < irredundant_count (clause_with ls (with_clause r id ms cs))
+pub irredundant_more : (r : Bool) (id : ℕ) (ls ms : List ℕ) (cs : List StoredClause) → 0 < irredundant_count (clause_with ls cs) → 0 < irredundant_count (clause_with ls (with_stored_clause r id ms cs))
 irredundant_more r id ls ms [] n = absurd (omega arith)
 irredundant_more r id ls ms (c ∷ cs) n = go r (irredundant_more r id ls ms cs) (same_literals c.literals ms) n
   where
@@ -180,11 +180,11 @@ irredundant_more r id ls ms (c ∷ cs) n = go r (irredundant_more r id ls ms cs)
     once_more false true k = omega arith
     once_more r false k = k
 
-    behind : (r d : Bool) → (0 < irredundant_count (clause_with ls cs) → 0 < irredundant_count (clause_with ls (with_clause r id ms cs))) → 0 < irredundant_count (cond d (Some c) (clause_with ls cs)) → 0 < irredundant_count (cond d (Some c) (clause_with ls (with_clause r id ms cs)))
+    behind : (r d : Bool) → (0 < irredundant_count (clause_with ls cs) → 0 < irredundant_count (clause_with ls (with_stored_clause r id ms cs))) → 0 < irredundant_count (cond d (Some c) (clause_with ls cs)) → 0 < irredundant_count (cond d (Some c) (clause_with ls (with_stored_clause r id ms cs)))
     behind r true ih k = k
     behind r false ih k = ih k
 
-    go : (r : Bool) → (0 < irredundant_count (clause_with ls cs) → 0 < irredundant_count (clause_with ls (with_clause r id ms cs))) → (b : Bool) → 0 < irredundant_count (clause_with ls (c ∷ cs)) → 0 < irredundant_count (clause_with ls (cond b (with_count r c ∷ cs) (c ∷ with_clause r id ms cs)))
+    go : (r : Bool) → (0 < irredundant_count (clause_with ls cs) → 0 < irredundant_count (clause_with ls (with_stored_clause r id ms cs))) → (b : Bool) → 0 < irredundant_count (clause_with ls (c ∷ cs)) → 0 < irredundant_count (clause_with ls (cond b (with_count r c ∷ cs) (c ∷ with_stored_clause r id ms cs)))
     go true ih true k = once_more true (same_literals c.literals ls) k
     go false ih true k = once_more false (same_literals c.literals ls) k
     go r ih false k = behind r (same_literals c.literals ls) ih k

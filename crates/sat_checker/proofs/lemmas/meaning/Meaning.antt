@@ -7,7 +7,7 @@ use Rattle.sat_base.specs.steps.Steps.{Redundant, Simplified, Satisfied, Step, S
 use Rattle.sat_checker.specs.LiteralSets.{is_among, mentions, is_part, is_tautology, canonical}
 use Rattle.sat_checker.specs.Stored.{Stored, StoredUnit, Last, NoneYet, Empty, UnitClause, LongClause, Satisfies, is_unit, unit_literals, long_clauses}
 use Rattle.sat_checker.specs.Storing.{irredundant_count, without_clause, with_unit, with_contradiction, with_new_unit, settled_by, with_set, place_of, with_canonical, with_stored, with_input, with_units, with_literals_known, without_variable, unit_numbered, last_literals}
-use Rattle.sat_checker.specs.Accepts.{VariablesApart, IsStrictSubset, PassInTurn, Passes, MayBeDeleted, AcceptsAll, effect, stored_after, ready_after}
+use Rattle.sat_checker.specs.Accepts.{VariablesApart, IsStrictSubset, PassInTurn, PassesByHashes, MayBeDeleted, AcceptsAll, effect, stored_after, ready_after}
 use Rattle.sat_checker.specs.Fold.{Holds}
 use Rattle.sat_checker.proofs.lemmas.sets.Subsets.{superset_true}
 use Rattle.sat_checker.proofs.lemmas.propagation.Soundness.{true_among, negated_value, unit_in_clause, tautology_true, derived_hold}
@@ -159,7 +159,7 @@ adds f c s = go f.unsat refl
         let d = aside (with_stored false c g) (with_input c g) (λ a. Satisfies g a × (clause_true a c ≡ true)) refl refl refl (stores g false c k.coherent (λ a t z. absurd (true≢false (sym z)))) in
         record { coherent = d.coherent; to = λ a h. d.to a (k.to a h.0, h.1); back = λ a h. let p = d.back a h in (k.back a p.0, p.1) }
 
-derives : (f : Stored) (r : Bool) (c hashes : List ℕ) → IsCoherent f → Passes f c hashes → Does (effect (AtClause r c hashes) f) (Satisfies f)
+derives : (f : Stored) (r : Bool) (c hashes : List ℕ) → IsCoherent f → PassesByHashes f c hashes → Does (effect (AtClause r c hashes) f) (Satisfies f)
 derives f r c hashes s p =
     let k = known f c s in
     let d = stores (with_literals_known c f) r c k.coherent (λ a t e. holds a (k.back a t)) in
@@ -168,7 +168,7 @@ derives f r c hashes s p =
     holds : (a : Valuation) → Satisfies f a → clause_true a c ≡ true
     holds a h = derived_hold f c hashes a p h.units (s.follows a h)
 
-one_unit : (f : Stored) (l hash : ℕ) → IsCoherent f → Passes f (l ∷ []) (hash ∷ []) → Does (with_unit l f) (Satisfies f)
+one_unit : (f : Stored) (l hash : ℕ) → IsCoherent f → PassesByHashes f (l ∷ []) (hash ∷ []) → Does (with_unit l f) (Satisfies f)
 one_unit f l hash s p =
     let d = sets f false (l ∷ []) s (λ a t e. absurd (true≢false (sym e))) in
     record { coherent = d.coherent; to = λ a h. d.to a (h, derived_hold f (l ∷ []) (hash ∷ []) a p h.units (s.follows a h)); back = λ a h. (d.back a h).0 }

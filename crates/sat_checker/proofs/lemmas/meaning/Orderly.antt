@@ -5,7 +5,7 @@ use Rattle.std.specs.List.{AllByRecursion}
 use Rattle.sat_base.specs.values.Literals.{negated}
 use Rattle.sat_checker.specs.LiteralSets.{is_among, same_literals}
 use Rattle.sat_checker.specs.Stored.{StoredClause, StoredUnit, Last, NoneYet, Empty, UnitClause, LongClause, Stored, is_unit, unit_literals}
-use Rattle.sat_checker.specs.Storing.{with_count, with_clause, clause_with, irredundant_count, with_unit, with_contradiction, with_new_unit, settled, settled_by, with_long, with_set, clause_numbered}
+use Rattle.sat_checker.specs.Storing.{with_count, with_stored_clause, clause_with, irredundant_count, with_unit, with_contradiction, with_new_unit, settled, settled_by, with_long, with_set, clause_numbered}
 pub use Rattle.sat_checker.specs.Invariants.{Supported, LastHolds, LastBelow, Orderly}
 use Rattle.sat_checker.specs.inner.Marks.{IsIncreasing}
 use Rattle.sat_checker.proofs.lemmas.sets.Subsets.{any_true, some_of}
@@ -64,21 +64,21 @@ orderly_unit f l o = go (is_unit f l) (is_unit f (negated l))
     }
 
 -- ids, once a clause was stored
-ids_with : (r : Bool) (n : ℕ) (ls : List ℕ) (cs : List StoredClause) → is_some (clause_with ls cs) ≡ true → ids (with_clause r n ls cs) ≡ ids cs
+ids_with : (r : Bool) (n : ℕ) (ls : List ℕ) (cs : List StoredClause) → is_some (clause_with ls cs) ≡ true → ids (with_stored_clause r n ls cs) ≡ ids cs
 ids_with r n ls [] e = absurd (true≢false (sym e))
 ids_with r n ls (c ∷ cs) e = go r (ids_with r n ls cs) (same_literals c.literals ls) e
   where
-    go : (r : Bool) → (is_some (clause_with ls cs) ≡ true → ids (with_clause r n ls cs) ≡ ids cs) → (b : Bool) → is_some (cond b (Some c) (clause_with ls cs)) ≡ true → ids (cond b (with_count r c ∷ cs) (c ∷ with_clause r n ls cs)) ≡ c.id ∷ ids cs
+    go : (r : Bool) → (is_some (clause_with ls cs) ≡ true → ids (with_stored_clause r n ls cs) ≡ ids cs) → (b : Bool) → is_some (cond b (Some c) (clause_with ls cs)) ≡ true → ids (cond b (with_count r c ∷ cs) (c ∷ with_stored_clause r n ls cs)) ≡ c.id ∷ ids cs
     go true ih true e = refl
     go false ih true e = refl
     go r ih false e = ap (λ is. c.id ∷ is) (ih e)
 
-ids_new : (r : Bool) (n : ℕ) (ls : List ℕ) (cs : List StoredClause) → is_some (clause_with ls cs) ≡ false → ids (with_clause r n ls cs) ≡ ids cs ++ n ∷ []
+ids_new : (r : Bool) (n : ℕ) (ls : List ℕ) (cs : List StoredClause) → is_some (clause_with ls cs) ≡ false → ids (with_stored_clause r n ls cs) ≡ ids cs ++ n ∷ []
 ids_new true n ls [] e = refl
 ids_new false n ls [] e = refl
 ids_new r n ls (c ∷ cs) e = go r (ids_new r n ls cs) (same_literals c.literals ls) e
   where
-    go : (r : Bool) → (is_some (clause_with ls cs) ≡ false → ids (with_clause r n ls cs) ≡ ids cs ++ n ∷ []) → (b : Bool) → is_some (cond b (Some c) (clause_with ls cs)) ≡ false → ids (cond b (with_count r c ∷ cs) (c ∷ with_clause r n ls cs)) ≡ c.id ∷ (ids cs ++ n ∷ [])
+    go : (r : Bool) → (is_some (clause_with ls cs) ≡ false → ids (with_stored_clause r n ls cs) ≡ ids cs ++ n ∷ []) → (b : Bool) → is_some (cond b (Some c) (clause_with ls cs)) ≡ false → ids (cond b (with_count r c ∷ cs) (c ∷ with_stored_clause r n ls cs)) ≡ c.id ∷ (ids cs ++ n ∷ [])
     go r ih true e = absurd (true≢false e)
     go r ih false e = ap (λ is. c.id ∷ is) (ih e)
 
@@ -95,7 +95,7 @@ below_push [] n b = (omega arith, tt)
 below_push (i ∷ is) n b = (let h : i < n = b.0 in omega arith, below_push is n b.1)
 
 -- the clause of an id, once a clause was stored
-pub numbered_with : (r : Bool) (id n : ℕ) (ls ms : List ℕ) (cs : List StoredClause) → clause_numbered id (with_clause r n ls cs) ≡ Some ms → (clause_numbered id cs ≡ Some ms) ⊎ (id ≡ n)
+pub numbered_with : (r : Bool) (id n : ℕ) (ls ms : List ℕ) (cs : List StoredClause) → clause_numbered id (with_stored_clause r n ls cs) ≡ Some ms → (clause_numbered id cs ≡ Some ms) ⊎ (id ≡ n)
 numbered_with true id n ls ms [] e = go (eqb n id) refl e
   where
     go : (b : Bool) → eqb n id ≡ b → cond b (Some ls) None ≡ Some ms → (None ≡ Some ms) ⊎ (id ≡ n)
@@ -108,17 +108,17 @@ numbered_with false id n ls ms [] e = go (eqb n id) refl e
     go false h e = inl e
 numbered_with r id n ls ms (c ∷ cs) e = go r (numbered_with r id n ls ms cs) (same_literals c.literals ls) e
   where
-    behind : (r b : Bool) → (clause_numbered id (with_clause r n ls cs) ≡ Some ms → (clause_numbered id cs ≡ Some ms) ⊎ (id ≡ n)) → cond b (Some c.literals) (clause_numbered id (with_clause r n ls cs)) ≡ Some ms → (cond b (Some c.literals) (clause_numbered id cs) ≡ Some ms) ⊎ (id ≡ n)
+    behind : (r b : Bool) → (clause_numbered id (with_stored_clause r n ls cs) ≡ Some ms → (clause_numbered id cs ≡ Some ms) ⊎ (id ≡ n)) → cond b (Some c.literals) (clause_numbered id (with_stored_clause r n ls cs)) ≡ Some ms → (cond b (Some c.literals) (clause_numbered id cs) ≡ Some ms) ⊎ (id ≡ n)
     behind r true ih e = inl e
     behind r false ih e = ih e
 
-    go : (r : Bool) → (clause_numbered id (with_clause r n ls cs) ≡ Some ms → (clause_numbered id cs ≡ Some ms) ⊎ (id ≡ n)) → (b : Bool) → clause_numbered id (cond b (with_count r c ∷ cs) (c ∷ with_clause r n ls cs)) ≡ Some ms → (clause_numbered id (c ∷ cs) ≡ Some ms) ⊎ (id ≡ n)
+    go : (r : Bool) → (clause_numbered id (with_stored_clause r n ls cs) ≡ Some ms → (clause_numbered id cs ≡ Some ms) ⊎ (id ≡ n)) → (b : Bool) → clause_numbered id (cond b (with_count r c ∷ cs) (c ∷ with_stored_clause r n ls cs)) ≡ Some ms → (clause_numbered id (c ∷ cs) ≡ Some ms) ⊎ (id ≡ n)
     go true ih true e = inl e
     go false ih true e = inl e
     go r ih false e = behind r (eqb c.id id) ih e
 
 -- the last one stays the last where another clause is stored
-last_beside : (r : Bool) (n : ℕ) (ls : List ℕ) (last : Last) (unsat : Bool) (us : List ℕ) (cs : List StoredClause) → LastBelow n last → LastHolds last unsat us cs → LastHolds last unsat us (with_clause r n ls cs)
+last_beside : (r : Bool) (n : ℕ) (ls : List ℕ) (last : Last) (unsat : Bool) (us : List ℕ) (cs : List StoredClause) → LastBelow n last → LastHolds last unsat us cs → LastHolds last unsat us (with_stored_clause r n ls cs)
 last_beside r n ls NoneYet unsat us cs b h = tt
 last_beside r n ls (Empty id) unsat us cs b h = h
 last_beside r n ls (UnitClause id) unsat us cs b h = tt
@@ -133,7 +133,7 @@ orderly_long f r ls o = go (is_some (clause_with ls f.clauses)) refl
     more : (i : ℕ) → i < f.next_id → i < f.next_id + 1
     more i h = omega arith
 
-    go : (b : Bool) → is_some (clause_with ls f.clauses) ≡ b → Orderly (record f { clauses = with_clause r f.next_id ls f.clauses; next_id = cond b f.next_id (f.next_id + 1) })
+    go : (b : Bool) → is_some (clause_with ls f.clauses) ≡ b → Orderly (record f { clauses = with_stored_clause r f.next_id ls f.clauses; next_id = cond b f.next_id (f.next_id + 1) })
     go true e = record {
       increasing = subst IsIncreasing (sym (ids_with r f.next_id ls f.clauses e)) o.increasing;
       below = subst (AllByRecursion (λ i. i < f.next_id)) (sym (ids_with r f.next_id ls f.clauses e)) o.below;
@@ -201,7 +201,7 @@ below_itself n ls c (d ∷ ds) h e = go (below_itself n ls c ds h.1) (same_liter
     go ih false e = ih e
 
 -- a clause stored as irredundant has a count
-pub stored_count : (n : ℕ) (ls : List ℕ) (cs : List StoredClause) → 0 < irredundant_count (clause_with ls (with_clause false n ls cs))
+pub stored_count : (n : ℕ) (ls : List ℕ) (cs : List StoredClause) → 0 < irredundant_count (clause_with ls (with_stored_clause false n ls cs))
 stored_count n ls [] = subst (λ b. 0 < irredundant_count (cond b (Some (record { id = n; literals = ls; irredundant = 0 + 1; redundant = 0 })) None)) (sym (itself ls)) (omega arith)
   where
     itself : (xs : List ℕ) → same_literals xs xs ≡ true
@@ -209,9 +209,9 @@ stored_count n ls [] = subst (λ b. 0 < irredundant_count (cond b (Some (record 
     itself (x ∷ xs) = let e : eqb x x ≡ true = grind arith in rw e (itself xs)
 stored_count n ls (c ∷ cs) = go (stored_count n ls cs) (same_literals c.literals ls) refl
   where
-    go : 0 < irredundant_count (clause_with ls (with_clause false n ls cs)) → (b : Bool) → same_literals c.literals ls ≡ b → 0 < irredundant_count (clause_with ls (cond b (with_count false c ∷ cs) (c ∷ with_clause false n ls cs)))
+    go : 0 < irredundant_count (clause_with ls (with_stored_clause false n ls cs)) → (b : Bool) → same_literals c.literals ls ≡ b → 0 < irredundant_count (clause_with ls (cond b (with_count false c ∷ cs) (c ∷ with_stored_clause false n ls cs)))
     go ih true e = subst (λ b. 0 < irredundant_count (cond b (Some (with_count false c)) (clause_with ls cs))) (sym e) (omega arith)
-    go ih false e = subst (λ b. 0 < irredundant_count (cond b (Some c) (clause_with ls (with_clause false n ls cs)))) (sym e) ih
+    go ih false e = subst (λ b. 0 < irredundant_count (cond b (Some c) (clause_with ls (with_stored_clause false n ls cs)))) (sym e) ih
 
 pub orderly_settled : (f : Stored) → Orderly f → Orderly (settled f)
 orderly_settled f o = go f.conflict

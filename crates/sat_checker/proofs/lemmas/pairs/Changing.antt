@@ -6,8 +6,8 @@ use Rattle.std.specs.List.{All, AllByRecursion, IsDistinct}
 use Rattle.std.specs.Prelude.{slice_index_or}
 use Rattle.std.proofs.lemmas.Map.Keys.{IsDistinct-head, IsDistinct-tail}
 use Rattle.std.proofs.lemmas.List.Elements.{All-from_recursion}
-use Rattle.sat_checker.specs.inner.PairView.{IsBefore, AreInOrder, inserted, without_pair, same_place}
-use Rattle.sat_checker.specs.inner.LinkView.{nowhere, link_at, Leads, joined, top_of, head_at, part_at, listed, IsPart, AreLinked, Lists, up_to, last_or, place_before}
+use Rattle.sat_checker.specs.inner.PairView.{IsPairBefore, AreInOrder, inserted, without_pair, same_place}
+use Rattle.sat_checker.specs.inner.LinkView.{nowhere, link_at, LinksPairs, joined, top_of, head_at, part_at, listed, IsPairChain, AreLinked, Lists, up_to, last_or, place_before}
 use Rattle.sat_checker.specs.declared.store.links.Pair.{Pair}
 use Rattle.sat_checker.specs.declared.store.links.Link.{Link}
 use Rattle.sat_checker.proofs.lemmas.pairs.Order.{all_weaker, all_both, all_filter, all_inserted, order_filter, order_inserted, length_inserted, length_filter, inserted_first}
@@ -17,7 +17,7 @@ use Rattle.sat_checker.proofs.lemmas.pairs.Links.{are_linked, listed_is, tops_of
 
 module _ (heads : List ℕ) (links : List Link) (shift : ℕ) (a : AreLinked heads links shift) (now : List ℕ) (new : List Link) (counts : length now ≡ length heads) (few : length new ≤ nowhere) (top : ℕ) (inside : top < length heads) where
   module _ (p : Pair) (t : top_of shift (length heads) p.hash ≡ top) (apart : AllByRecursion (λ q. p.place ≢ q.place) (part_at heads links top)) (more : length links ≤ length new) (room : length (listed heads links) + 1 ≤ length new)
-      (here : Leads new (head_at now top) (inserted p (part_at heads links top))) (others : (s : ℕ) → s < length heads → s ≢ top → Leads new (head_at now s) (part_at heads links s)) where
+      (here : LinksPairs new (head_at now top) (inserted p (part_at heads links top))) (others : (s : ℕ) → s < length heads → s ≢ top → LinksPairs new (head_at now s) (part_at heads links s)) where
     parts : ℕ → List Pair
     parts s = cond (eqb s top) (inserted p (part_at heads links s)) (part_at heads links s)
 
@@ -29,27 +29,27 @@ module _ (heads : List ℕ) (links : List Link) (shift : ℕ) (a : AreLinked hea
     unfolding parts
     at_other s n = ap (λ b. cond b (inserted p (part_at heads links s)) (part_at heads links s)) (ne_eqb s top n)
 
-    each : (s : ℕ) → s < length now → IsPart new shift (length now) s (head_at now s) (parts s)
+    each : (s : ℕ) → s < length now → IsPairChain new shift (length now) s (head_at now s) (parts s)
     each s l = go (eqb s top) refl
       where
         i : s < length heads
         i = omega (arith, l, counts)
 
-        go : (b : Bool) → eqb s top ≡ b → IsPart new shift (length now) s (head_at now s) (parts s)
+        go : (b : Bool) → eqb s top ≡ b → IsPairChain new shift (length now) s (head_at now s) (parts s)
         go true e =
             let is = eqb-true s top e in
-            let old : IsPart links shift (length heads) top (head_at heads top) (part_at heads links top) = a.parts top inside in
+            let old : IsPairChain links shift (length heads) top (head_at heads top) (part_at heads links top) = a.parts top inside in
             let ps : parts s ≡ inserted p (part_at heads links top) = at_top s is ∙ ap (λ x. inserted p (part_at heads links x)) is in
-            subst (IsPart new shift (length now) s (head_at now s)) (sym ps) (record {
-              leads = subst (λ x. Leads new (head_at now x) (inserted p (part_at heads links top))) (sym is) here;
+            subst (IsPairChain new shift (length now) s (head_at now s)) (sym ps) (record {
+              leads = subst (λ x. LinksPairs new (head_at now x) (inserted p (part_at heads links top))) (sym is) here;
               short = omega (arith, length_inserted p (part_at heads links top), room, length_part (part_at heads links) (length heads) top inside);
               in_order = order_inserted p (part_at heads links top) apart old.in_order;
               tops = subst (λ n. Tops shift n s (inserted p (part_at heads links top))) (sym counts) (all_inserted (λ q. top_of shift (length heads) q.hash ≡ s) p (part_at heads links top) (t ∙ sym is) (subst (λ x. Tops shift (length heads) x (part_at heads links top)) (sym is) old.tops));
             })
         go false e =
             let n = eqb-false s top e in
-            let old : IsPart links shift (length heads) s (head_at heads s) (part_at heads links s) = a.parts s i in
-            subst (IsPart new shift (length now) s (head_at now s)) (sym (at_other s n)) (record {
+            let old : IsPairChain links shift (length heads) s (head_at heads s) (part_at heads links s) = a.parts s i in
+            subst (IsPairChain new shift (length now) s (head_at now s)) (sym (at_other s n)) (record {
               leads = others s i n;
               short = let k : length (part_at heads links s) ≤ length links = old.short in omega (arith, more);
               in_order = old.in_order;
@@ -66,20 +66,20 @@ module _ (heads : List ℕ) (links : List Link) (shift : ℕ) (a : AreLinked hea
     }
 
   module _ (x : ℕ) (apart : (s : ℕ) → s < length heads → s ≢ top → AllByRecursion (λ q. q.place ≢ x) (part_at heads links s)) (same : length new ≡ length links)
-      (here : Leads new (head_at now top) (without_pair x (part_at heads links top))) (others : (s : ℕ) → s < length heads → s ≢ top → Leads new (head_at now s) (part_at heads links s)) where
+      (here : LinksPairs new (head_at now top) (without_pair x (part_at heads links top))) (others : (s : ℕ) → s < length heads → s ≢ top → LinksPairs new (head_at now s) (part_at heads links s)) where
     left : ℕ → List Pair
     left s = without_pair x (part_at heads links s)
 
-    each_left : (s : ℕ) → s < length now → IsPart new shift (length now) s (head_at now s) (left s)
+    each_left : (s : ℕ) → s < length now → IsPairChain new shift (length now) s (head_at now s) (left s)
     unfolding left
     each_left s l = go (eqb s top) refl
       where
         i : s < length heads
         i = omega (arith, l, counts)
 
-        made : Leads new (head_at now s) (without_pair x (part_at heads links s)) → IsPart new shift (length now) s (head_at now s) (without_pair x (part_at heads links s))
+        made : LinksPairs new (head_at now s) (without_pair x (part_at heads links s)) → IsPairChain new shift (length now) s (head_at now s) (without_pair x (part_at heads links s))
         made leads =
-            let old : IsPart links shift (length heads) s (head_at heads s) (part_at heads links s) = a.parts s i in
+            let old : IsPairChain links shift (length heads) s (head_at heads s) (part_at heads links s) = a.parts s i in
             record {
               leads = leads;
               short = let k : length (part_at heads links s) ≤ length links = old.short in omega (arith, same, length_filter (λ p. not (eqb p.place x)) (part_at heads links s));
@@ -87,9 +87,9 @@ module _ (heads : List ℕ) (links : List Link) (shift : ℕ) (a : AreLinked hea
               tops = subst (λ m. Tops shift m s (without_pair x (part_at heads links s))) (sym counts) (all_filter (λ q. top_of shift (length heads) q.hash ≡ s) (λ p. not (eqb p.place x)) (part_at heads links s) old.tops);
             }
 
-        go : (b : Bool) → eqb s top ≡ b → IsPart new shift (length now) s (head_at now s) (without_pair x (part_at heads links s))
-        go true e = made (subst (λ y. Leads new (head_at now y) (without_pair x (part_at heads links y))) (sym (eqb-true s top e)) here)
-        go false e = let n = eqb-false s top e in made (subst (Leads new (head_at now s)) (sym (without_none x (part_at heads links s) (apart s i n))) (others s i n))
+        go : (b : Bool) → eqb s top ≡ b → IsPairChain new shift (length now) s (head_at now s) (without_pair x (part_at heads links s))
+        go true e = made (subst (λ y. LinksPairs new (head_at now y) (without_pair x (part_at heads links y))) (sym (eqb-true s top e)) here)
+        go false e = let n = eqb-false s top e in made (subst (LinksPairs new (head_at now s)) (sym (without_none x (part_at heads links s) (apart s i n))) (others s i n))
 
     whole_left : joined left (length now) ≡ without_pair x (listed heads links)
     unfolding left
@@ -163,10 +163,10 @@ module _ (heads : List ℕ) (links : List Link) (shift : ℕ) (a : AreLinked hea
         → Lists now new shift (inserted (record { hash = h; place = length links }) (listed heads links))
     put_first now new e n m =
         has_inserted heads links shift a now new (ap length m ∙ length-set heads top (length links)) (omega (arith, longer, few)) top inside (record { hash = h; place = length links }) t new_apart (omega (arith, longer)) (omega (arith, longer, a.count))
-        (subst (λ y. Leads new y (inserted (record { hash = h; place = length links }) (part_at heads links top))) (sym (ap (λ xs. head_at xs top) m ∙ get_or-set_same heads top (length links) 0 inside))
+        (subst (λ y. LinksPairs new y (inserted (record { hash = h; place = length links }) (part_at heads links top))) (sym (ap (λ xs. head_at xs top) m ∙ get_or-set_same heads top (length links) 0 inside))
         (link_first links new (head_at heads top) h (part_at heads links top) (a.parts top inside).leads (a.parts top inside).in_order (sym e) longer same
         (ap (λ xs. link_at xs (length links)) n ∙ get_or_push links (record { hash = h; next = head_at heads top }) (record { hash = 0; next = 0 }) (length links) refl)))
-        (λ s i d. subst (λ y. Leads new y (part_at heads links s)) (sym (ap (λ xs. head_at xs s) m ∙ get_or-set_other heads top s (length links) 0 d))
+        (λ s i d. subst (λ y. LinksPairs new y (part_at heads links s)) (sym (ap (λ xs. head_at xs s) m ∙ get_or-set_other heads top s (length links) 0 d))
         (leads_same links new (head_at heads s) (part_at heads links s) (a.parts s i).leads (omega (arith, longer)) (all_weaker (IsThere links) (λ q. link_at new q.place ≡ link_at links q.place) (λ q k. same q.place k.inside) (part_at heads links s) (there s i))))
       where
         longer : length new ≡ length links + 1
@@ -179,9 +179,9 @@ module _ (heads : List ℕ) (links : List Link) (shift : ℕ) (a : AreLinked hea
     pub take_first : (now : List ℕ) → head_at heads top ≡ x → now ≡ slice_set heads top (link_at links x).next → Lists now links shift (without_pair x (listed heads links))
     take_first now e m =
         has_left heads links shift a now links (ap length m ∙ length-set heads top (link_at links x).next) a.few top inside x (not_in x t) refl
-        (subst (λ y. Leads links y (without_pair x (part_at heads links top))) (sym (ap (λ xs. head_at xs top) m ∙ get_or-set_same heads top (link_at links x).next 0 inside))
-        (unlink_first links x (part_at heads links top) a.few i (subst (λ y. Leads links y (part_at heads links top)) e (a.parts top inside).leads) (a.parts top inside).in_order))
-        (λ s j d. subst (λ y. Leads links y (part_at heads links s)) (sym (ap (λ xs. head_at xs s) m ∙ get_or-set_other heads top s (link_at links x).next 0 d)) (a.parts s j).leads)
+        (subst (λ y. LinksPairs links y (without_pair x (part_at heads links top))) (sym (ap (λ xs. head_at xs top) m ∙ get_or-set_same heads top (link_at links x).next 0 inside))
+        (unlink_first links x (part_at heads links top) a.few i (subst (λ y. LinksPairs links y (part_at heads links top)) e (a.parts top inside).leads) (a.parts top inside).in_order))
+        (λ s j d. subst (λ y. LinksPairs links y (part_at heads links s)) (sym (ap (λ xs. head_at xs s) m ∙ get_or-set_other heads top s (link_at links x).next 0 d)) (a.parts s j).leads)
 
     pub before_there : (b : ℕ) → Some b ≡ place_before x (part_at heads links top) → (b < length links) × (top_of shift (length heads) (link_at links b).hash ≡ top)
     before_there b e =
@@ -213,21 +213,21 @@ module _ (heads : List ℕ) (links : List Link) (shift : ℕ) (a : AreLinked hea
     pub take_none : head_at heads top ≢ x → None ≡ place_before x (part_at heads links top) → Lists heads links shift (without_pair x (listed heads links))
     take_none n e =
         has_left heads links shift a heads links refl a.few top inside x (not_in x t) refl
-        (subst (Leads links (head_at heads top)) (sym (unlink_none links (head_at heads top) x (part_at heads links top) (a.parts top inside).leads n (sym e))) (a.parts top inside).leads)
+        (subst (LinksPairs links (head_at heads top)) (sym (unlink_none links (head_at heads top) x (part_at heads links top) (a.parts top inside).leads n (sym e))) (a.parts top inside).leads)
         (λ s j d. (a.parts s j).leads)
 
 -- a pair before all others
 pub put_front : (heads : List ℕ) (links : List Link) (shift : ℕ) (ps : List Pair) (p : Pair) (top : ℕ) → Lists heads links shift ps → top < length heads → top_of shift (length heads) p.hash ≡ top → p.place < length links → length ps + 1 ≤ length links
-    → AllByRecursion (IsBefore p) ps → AllByRecursion (λ q. p.place ≢ q.place) ps → Lists (slice_set heads top p.place) (slice_set links p.place (record { hash = p.hash; next = head_at heads top })) shift (p ∷ ps)
+    → AllByRecursion (IsPairBefore p) ps → AllByRecursion (λ q. p.place ≢ q.place) ps → Lists (slice_set heads top p.place) (slice_set links p.place (record { hash = p.hash; next = head_at heads top })) shift (p ∷ ps)
 put_front heads links shift ps p top m inside t i room before apart =
     subst (Lists now new shift) (ap (inserted p) m.is ∙ inserted_first p ps before)
     (has_inserted heads links shift m.linked now new (length-set heads top p.place) (omega (arith, count, m.linked.few)) top inside p t (part (λ q. p.place ≢ q.place) apart top inside) (omega (arith, count)) (omega (arith, count, room, ap length m.is))
-    (subst (λ y. Leads new y (inserted p (part_at heads links top))) (sym (get_or-set_same heads top p.place 0 inside))
-    (subst (Leads new p.place) (sym (inserted_first p (part_at heads links top) (part (IsBefore p) before top inside))) (
+    (subst (λ y. LinksPairs new y (inserted p (part_at heads links top))) (sym (get_or-set_same heads top p.place 0 inside))
+    (subst (LinksPairs new p.place) (sym (inserted_first p (part_at heads links top) (part (IsPairBefore p) before top inside))) (
       record { inside = omega (arith, count, i); is = ap (λ (k : Link). record { hash = k.hash; place = p.place }) (sym here) },
-      subst (λ (k : Link). Leads new k.next (part_at heads links top)) (sym here) (same_part top inside),
+      subst (λ (k : Link). LinksPairs new k.next (part_at heads links top)) (sym here) (same_part top inside),
     )))
-    (λ s j d. subst (λ y. Leads new y (part_at heads links s)) (sym (get_or-set_other heads top s p.place 0 d)) (same_part s j)))
+    (λ s j d. subst (λ y. LinksPairs new y (part_at heads links s)) (sym (get_or-set_other heads top s p.place 0 d)) (same_part s j)))
   where
     now : List ℕ
     now = slice_set heads top p.place
@@ -244,7 +244,7 @@ put_front heads links shift ps p top m inside t i room before apart =
     part : (P : Pair → Type 0) → AllByRecursion P ps → (s : ℕ) → s < length heads → AllByRecursion P (part_at heads links s)
     part P h s j = all_part P (part_at heads links) (length heads) s j (subst (AllByRecursion P) (sym m.is) h)
 
-    same_part : (s : ℕ) → s < length heads → Leads (slice_set links p.place (record { hash = p.hash; next = head_at heads top })) (head_at heads s) (part_at heads links s)
+    same_part : (s : ℕ) → s < length heads → LinksPairs (slice_set links p.place (record { hash = p.hash; next = head_at heads top })) (head_at heads s) (part_at heads links s)
     same_part s j =
         leads_same links (slice_set links p.place (record { hash = p.hash; next = head_at heads top })) (head_at heads s) (part_at heads links s) (m.linked.parts s j).leads (omega (arith, count))
         (all_weaker (λ q. p.place ≢ q.place) (λ q. link_at (slice_set links p.place (record { hash = p.hash; next = head_at heads top })) q.place ≡ link_at links q.place)
@@ -261,7 +261,7 @@ lists_none heads links shift few none = record {
     nothing zero = refl
     nothing (suc n) = ap (λ ps. ps ++ []) (nothing n)
 
-    each : (s : ℕ) → s < length heads → IsPart links shift (length heads) s (head_at heads s) []
+    each : (s : ℕ) → s < length heads → IsPairChain links shift (length heads) s (head_at heads s) []
     each s l = record { leads = none s 0 l; short = omega arith; in_order = tt; tops = tt }
 
 order_drop : (i : ℕ) (ps : List Pair) → AreInOrder ps → AreInOrder (drop i ps)
@@ -276,7 +276,7 @@ distinct_drop (suc i) (p ∷ ps) d = distinct_drop i ps (IsDistinct-tail same_pl
 
 -- the pair at a place of the list comes before those behind it
 pub front_of : (ps : List Pair) (i : ℕ) → i < length ps → AreInOrder ps → IsDistinct same_place ps
-    → AllByRecursion (IsBefore (slice_index_or ps i (record { hash = 0; place = 0 }))) (drop (i + 1) ps) × AllByRecursion (λ q. (slice_index_or ps i (record { hash = 0; place = 0 })).place ≢ q.place) (drop (i + 1) ps)
+    → AllByRecursion (IsPairBefore (slice_index_or ps i (record { hash = 0; place = 0 }))) (drop (i + 1) ps) × AllByRecursion (λ q. (slice_index_or ps i (record { hash = 0; place = 0 })).place ≢ q.place) (drop (i + 1) ps)
 front_of ps i l o d =
     let e : drop i ps ≡ slice_index_or ps i (record { hash = 0; place = 0 }) ∷ drop (i + 1) ps = drop_more ps i (record { hash = 0; place = 0 }) l in
     let o' = subst AreInOrder e (order_drop i ps o) in
@@ -289,7 +289,7 @@ front_of ps i l o d =
 distinct_there : (links : List Link) (ps : List Pair) → AllByRecursion (IsThere links) ps → AreInOrder ps → IsDistinct same_place ps
 unfolding IsDistinct
 distinct_there links [] t o = tt
-distinct_there links (p ∷ ps) t o = (all_weaker (λ q. IsThere links q × IsBefore p q) (λ q. same_place p q ≡ false) (λ q k. ne_eqb p.place q.place (λ e. there_apart links p q t.0 k.0 k.1 (sym e))) ps (all_both (IsThere links) (IsBefore p) ps t.1 o.0), distinct_there links ps t.1 o.1)
+distinct_there links (p ∷ ps) t o = (all_weaker (λ q. IsThere links q × IsPairBefore p q) (λ q. same_place p q ≡ false) (λ q k. ne_eqb p.place q.place (λ e. there_apart links p q t.0 k.0 k.1 (sym e))) ps (all_both (IsThere links) (IsPairBefore p) ps t.1 o.0), distinct_there links ps t.1 o.1)
 
 -- pairs that are linked are at places of their own
 pub listed_distinct : (heads : List ℕ) (links : List Link) (shift : ℕ) → AreLinked heads links shift → IsDistinct same_place (listed heads links)

@@ -3,9 +3,9 @@ use Rattle.std.proofs.Common.{ltb, ◌||◌, ℕ, ◌+◌, ◌<◌, ◌≤◌, �
 use Rattle.std.proofs.lemmas.Bool.{cases_lt, eq-eqb, ne_eqb, eqb-true, eqb-false, true≢false}
 use Rattle.std.proofs.lemmas.Bool.Decides.{nat_tests}
 use Rattle.std.specs.List.{AllByRecursion}
-use Rattle.sat_checker.specs.inner.PairView.{IsBefore, AreInOrder, inserted, without_pair, places_in, behind}
+use Rattle.sat_checker.specs.inner.PairView.{IsPairBefore, AreInOrder, inserted, without_pair, places_in, places_behind}
 use Rattle.sat_checker.specs.LiteralSets.{is_among}
-use Rattle.sat_checker.specs.inner.LinkView.{nowhere, link_at, rest, Leads, joined, top_of, head_at, part_at, listed, IsWalk, IsPart, AreLinked, up_to, last_or, place_before}
+use Rattle.sat_checker.specs.inner.LinkView.{nowhere, link_at, rest, LinksPairs, joined, top_of, head_at, part_at, listed, IsWalk, IsPairChain, AreLinked, up_to, last_or, place_before}
 use Rattle.sat_checker.specs.declared.store.links.Pair.{Pair}
 use Rattle.sat_checker.specs.declared.store.links.Link.{Link}
 use Rattle.sat_checker.proofs.lemmas.pairs.Order.{all_weaker, all_both, all_filter, filter_none, filter_whole, inserted_first, not-before}
@@ -14,7 +14,7 @@ use Rattle.sat_checker.proofs.lemmas.pairs.Walks.{IsThere, leads_there, there_ap
 
 -- what is linked so is what the heads list
 module _ (heads : List ℕ) (links : List Link) (shift : ℕ) (few : length links ≤ nowhere) (parts : ℕ → List Pair)
-    (each : (top : ℕ) → top < length heads → IsPart links shift (length heads) top (head_at heads top) (parts top)) where
+    (each : (top : ℕ) → top < length heads → IsPairChain links shift (length heads) top (head_at heads top) (parts top)) where
   pub part_is : (top : ℕ) → top < length heads → part_at heads links top ≡ parts top
   part_is top l = chain_is links few (length links) (head_at heads top) (parts top) (each top l).leads (each top l).short
 
@@ -22,7 +22,7 @@ module _ (heads : List ℕ) (links : List Link) (shift : ℕ) (few : length link
   listed_is = joined_same (part_at heads links) parts (length heads) part_is
 
   pub are_linked : length (joined parts (length heads)) ≤ length links → AreLinked heads links shift
-  are_linked count = record { few = few; count = subst (λ ps. length ps ≤ length links) (sym listed_is) count; parts = λ top l. subst (IsPart links shift (length heads) top (head_at heads top)) (sym (part_is top l)) (each top l) }
+  are_linked count = record { few = few; count = subst (λ ps. length ps ≤ length links) (sym listed_is) count; parts = λ top l. subst (IsPairChain links shift (length heads) top (head_at heads top)) (sym (part_is top l)) (each top l) }
 
 module _ (heads : List ℕ) (links : List Link) (shift : ℕ) (a : AreLinked heads links shift) where
   pub tops_of : (top : ℕ) → top < length heads → Tops shift (length heads) top (part_at heads links top)
@@ -35,11 +35,11 @@ module _ (heads : List ℕ) (links : List Link) (shift : ℕ) (a : AreLinked hea
   all_in_order = order_joined shift (length heads) (part_at heads links) (length heads) (λ top l. ((a.parts top l).in_order, (a.parts top l).tops))
 
 -- links that change where no pair stands
-pub leads_same : (links new : List Link) (at : ℕ) (ps : List Pair) → Leads links at ps → length links ≤ length new → AllByRecursion (λ p. link_at new p.place ≡ link_at links p.place) ps → Leads new at ps
+pub leads_same : (links new : List Link) (at : ℕ) (ps : List Pair) → LinksPairs links at ps → length links ≤ length new → AllByRecursion (λ p. link_at new p.place ≡ link_at links p.place) ps → LinksPairs new at ps
 leads_same links new at [] h l s = h
 leads_same links new at (p ∷ ps) h l s = (
   record { inside = let i : at < length links = h.0.inside in omega arith; is = h.0.is ∙ ap (λ (k : Link). record { hash = k.hash; place = at }) (sym here) },
-  subst (λ (k : Link). Leads new k.next ps) (sym here) (leads_same links new (link_at links at).next ps h.1 l s.1),
+  subst (λ (k : Link). LinksPairs new k.next ps) (sym here) (leads_same links new (link_at links at).next ps h.1 l s.1),
 )
   where
     here : link_at new at ≡ link_at links at
@@ -73,7 +73,7 @@ up_to_none h ps k = filter_none (λ p. leb p.hash h) ps (all_weaker (λ p. h < p
 
 -- all behind a pair that is past are past
 all_past : (h : ℕ) (p : Pair) (ps : List Pair) → AreInOrder (p ∷ ps) → h < p.hash → AllByRecursion (λ q. h < q.hash) (p ∷ ps)
-all_past h p ps o l = (l, all_weaker (IsBefore p) (λ q. h < q.hash) (λ q b. let k : p.hash ≤ q.hash = b.hash in omega arith) ps o.0)
+all_past h p ps o l = (l, all_weaker (IsPairBefore p) (λ q. h < q.hash) (λ q b. let k : p.hash ≤ q.hash = b.hash in omega arith) ps o.0)
 
 -- none is up to the hash, or the first one is
 none_up_to : (h : ℕ) (ps : List Pair) → AreInOrder ps → up_to h ps ≡ [] → AllByRecursion (λ q. h < q.hash) ps
@@ -83,17 +83,17 @@ none_up_to h (p ∷ ps) o e = elim (cases_lt h p.hash) [
   | inr within ↦ absurd (let k : up_to h (p ∷ ps) ≡ p ∷ up_to h ps = up_to_yes h p ps within in cc)
 ]
 
-new_before : (links : List Link) (h : ℕ) (q : Pair) → h < q.hash → IsBefore (new_pair links h) q
+new_before : (links : List Link) (h : ℕ) (q : Pair) → h < q.hash → IsPairBefore (new_pair links h) q
 new_before links h q l = record { hash = omega arith; place = λ e. absurd (omega arith) }
 
-new_behind : (links : List Link) (h : ℕ) (q : Pair) → q.hash ≤ h → q.place < length links → IsBefore q (new_pair links h)
+new_behind : (links : List Link) (h : ℕ) (q : Pair) → q.hash ≤ h → q.place < length links → IsPairBefore q (new_pair links h)
 new_behind links h q l k = record { hash = l; place = λ e. k }
 
-pub link_behind : (links new : List Link) (at h b : ℕ) (ps : List Pair) → Leads links at ps → AreInOrder ps → last_or None (up_to h ps) ≡ Some b → IsRelinked links new h b → Leads new at (inserted (new_pair links h) ps)
+pub link_behind : (links new : List Link) (at h b : ℕ) (ps : List Pair) → LinksPairs links at ps → AreInOrder ps → last_or None (up_to h ps) ≡ Some b → IsRelinked links new h b → LinksPairs new at (inserted (new_pair links h) ps)
 link_behind links new at h b [] l o e r = absurd cc
 link_behind links new at h b (p ∷ ps) l o e r = elim (cases_lt h p.hash) [
   | inl past ↦ absurd (let k : up_to h (p ∷ ps) ≡ [] = up_to_none h (p ∷ ps) (all_past h p ps o past) in let n : last_or None (up_to h (p ∷ ps)) ≡ None = ap (last_or None) k in cc)
-  | inr within ↦ subst (Leads new at) (sym (ap (λ d. cond d (new_pair links h ∷ p ∷ ps) (p ∷ inserted (new_pair links h) ps)) (not-before (new_pair links h) p (behind within))))
+  | inr within ↦ subst (LinksPairs new at) (sym (ap (λ d. cond d (new_pair links h ∷ p ∷ ps) (p ∷ inserted (new_pair links h) ps)) (not-before (new_pair links h) p (places_behind within))))
       (go within (up_to h ps) refl (λ s. link_behind links new (link_at links at).next h b ps l.1 o.1 s r))
 ]
   where
@@ -106,30 +106,30 @@ link_behind links new at h b (p ∷ ps) l o e r = elim (cases_lt h p.hash) [
     inside : at < length links
     inside = l.0.inside
 
-    behind : p.hash ≤ h → IsBefore p (new_pair links h)
-    behind w = new_behind links h p w (let i : at < length links = l.0.inside in omega (arith, place))
+    places_behind : p.hash ≤ h → IsPairBefore p (new_pair links h)
+    places_behind w = new_behind links h p w (let i : at < length links = l.0.inside in omega (arith, place))
 
     apart : AllByRecursion (λ q. q.place ≢ p.place) ps
-    apart = all_weaker (λ q. IsThere links q × IsBefore p q) (λ q. q.place ≢ p.place) (λ q k. there_apart links p q there.0 k.0 k.1) ps (all_both (IsThere links) (IsBefore p) ps there.1 o.0)
+    apart = all_weaker (λ q. IsThere links q × IsPairBefore p q) (λ q. q.place ≢ p.place) (λ q k. there_apart links p q there.0 k.0 k.1) ps (all_both (IsThere links) (IsPairBefore p) ps there.1 o.0)
 
     more : length links ≤ length new
     more = let k : length new ≡ length links + 1 = r.longer in omega arith
 
-    go : p.hash ≤ h → (u : List Pair) → up_to h ps ≡ u → (last_or None (up_to h ps) ≡ Some b → Leads new (link_at links at).next (inserted (new_pair links h) ps)) → Leads new at (p ∷ inserted (new_pair links h) ps)
+    go : p.hash ≤ h → (u : List Pair) → up_to h ps ≡ u → (last_or None (up_to h ps) ≡ Some b → LinksPairs new (link_at links at).next (inserted (new_pair links h) ps)) → LinksPairs new at (p ∷ inserted (new_pair links h) ps)
     go w [] u ih =
         let was : last_or None (p ∷ []) ≡ Some b = ap (last_or None) (sym (up_to_yes h p ps w ∙ ap (λ qs. p ∷ qs) u)) ∙ e in
         let is : b ≡ at = let s : p.place ≡ b = cc in sym s ∙ place in
         let here : link_at new at ≡ record { hash = (link_at links at).hash; next = length links } = ap (link_at new) (sym is) ∙ r.there ∙ ap (λ x. record { hash = (link_at links x).hash; next = length links }) is in
         let then : link_at new (length links) ≡ record { hash = h; next = (link_at links at).next } = r.last ∙ ap (λ x. record { hash = h; next = (link_at links x).next }) is in
         let past : AllByRecursion (λ q. h < q.hash) ps = none_up_to h ps o.1 u in
-        let first : inserted (new_pair links h) ps ≡ new_pair links h ∷ ps = inserted_first (new_pair links h) ps (all_weaker (λ q. h < q.hash) (IsBefore (new_pair links h)) (λ q k. new_before links h q k) ps past) in
-        let tail : Leads new (link_at links at).next ps = leads_same links new (link_at links at).next ps l.1 more
+        let first : inserted (new_pair links h) ps ≡ new_pair links h ∷ ps = inserted_first (new_pair links h) ps (all_weaker (λ q. h < q.hash) (IsPairBefore (new_pair links h)) (λ q k. new_before links h q k) ps past) in
+        let tail : LinksPairs new (link_at links at).next ps = leads_same links new (link_at links at).next ps l.1 more
         (all_weaker (λ q. IsThere links q × (q.place ≢ p.place)) (λ q. link_at new q.place ≡ link_at links q.place) (λ q k. r.same q.place (k.0).inside (λ s. k.1 (s ∙ is ∙ sym place))) ps (all_both (IsThere links) (λ q. q.place ≢ p.place) ps there.1 apart)) in
-        subst (λ qs. Leads new at (p ∷ qs)) (sym first) (
+        subst (λ qs. LinksPairs new at (p ∷ qs)) (sym first) (
           record { inside = omega arith; is = l.0.is ∙ ap (λ (k : Link). record { hash = k.hash; place = at }) (sym here) },
-          subst (λ (k : Link). Leads new k.next (new_pair links h ∷ ps)) (sym here) (
+          subst (λ (k : Link). LinksPairs new k.next (new_pair links h ∷ ps)) (sym here) (
             record { inside = let k : length new ≡ length links + 1 = r.longer in omega arith; is = ap (λ (k : Link). record { hash = k.hash; place = length links }) (sym then) },
-            subst (λ (k : Link). Leads new k.next ps) (sym then) tail,
+            subst (λ (k : Link). LinksPairs new k.next ps) (sym then) tail,
           ),
         )
     go w (y ∷ ys) u ih =
@@ -138,16 +138,16 @@ link_behind links new at h b (p ∷ ps) l o e r = elim (cases_lt h p.hash) [
         let other : b ≢ p.place = last_member (λ x. x ≢ p.place) None (up_to h ps) b is (λ s. absurd cc) (all_filter (λ q. q.place ≢ p.place) (λ q. leb q.hash h) ps apart) in
         let here : link_at new at ≡ link_at links at = r.same at inside (λ s. other (sym s ∙ sym place)) in (
           record { inside = omega arith; is = l.0.is ∙ ap (λ (k : Link). record { hash = k.hash; place = at }) (sym here) },
-          subst (λ (k : Link). Leads new k.next (inserted (new_pair links h) ps)) (sym here) (ih is),
+          subst (λ (k : Link). LinksPairs new k.next (inserted (new_pair links h) ps)) (sym here) (ih is),
         )
 
 -- a new pair before all others of its top
-pub link_first : (links new : List Link) (at h : ℕ) (ps : List Pair) → Leads links at ps → AreInOrder ps → last_or None (up_to h ps) ≡ None → length new ≡ length links + 1 → ((x : ℕ) → x < length links → link_at new x ≡ link_at links x)
-    → link_at new (length links) ≡ record { hash = h; next = at } → Leads new (length links) (inserted (new_pair links h) ps)
+pub link_first : (links new : List Link) (at h : ℕ) (ps : List Pair) → LinksPairs links at ps → AreInOrder ps → last_or None (up_to h ps) ≡ None → length new ≡ length links + 1 → ((x : ℕ) → x < length links → link_at new x ≡ link_at links x)
+    → link_at new (length links) ≡ record { hash = h; next = at } → LinksPairs new (length links) (inserted (new_pair links h) ps)
 link_first links new at h ps l o e longer same last =
-    subst (Leads new (length links)) (sym (inserted_first (new_pair links h) ps (all_weaker (λ q. h < q.hash) (IsBefore (new_pair links h)) (λ q k. new_before links h q k) ps (none_up_to h ps o (empty (up_to h ps) e))))) (
+    subst (LinksPairs new (length links)) (sym (inserted_first (new_pair links h) ps (all_weaker (λ q. h < q.hash) (IsPairBefore (new_pair links h)) (λ q k. new_before links h q k) ps (none_up_to h ps o (empty (up_to h ps) e))))) (
       record { inside = omega arith; is = ap (λ (k : Link). record { hash = k.hash; place = length links }) (sym last) },
-      subst (λ (k : Link). Leads new k.next ps) (sym last) (leads_same links new at ps l (omega arith) (all_weaker (IsThere links) (λ q. link_at new q.place ≡ link_at links q.place) (λ q k. same q.place k.inside) ps (leads_there links at ps l))),
+      subst (λ (k : Link). LinksPairs new k.next ps) (sym last) (leads_same links new at ps l (omega arith) (all_weaker (IsThere links) (λ q. link_at new q.place ≡ link_at links q.place) (λ q k. same q.place k.inside) ps (leads_there links at ps l))),
     )
   where
     some : (p : Pair) (u : List Pair) → last_or (Some p.place) u ≢ None
@@ -195,12 +195,12 @@ pub record IsUnlinked (links new : List Link) (place before : ℕ) : Type 0 wher
   pub same : (x : ℕ) → x ≢ before → link_at new x ≡ link_at links x
   pub there : link_at new before ≡ record { hash = (link_at links before).hash; next = (link_at links place).next }
 
-apart_behind : (links : List Link) (at : ℕ) (p : Pair) (ps : List Pair) → Leads links at (p ∷ ps) → AreInOrder (p ∷ ps) → AllByRecursion (λ q. q.place ≢ p.place) ps
+apart_behind : (links : List Link) (at : ℕ) (p : Pair) (ps : List Pair) → LinksPairs links at (p ∷ ps) → AreInOrder (p ∷ ps) → AllByRecursion (λ q. q.place ≢ p.place) ps
 apart_behind links at p ps l o =
     let there = leads_there links at (p ∷ ps) l in
-    all_weaker (λ q. IsThere links q × IsBefore p q) (λ q. q.place ≢ p.place) (λ q k. there_apart links p q there.0 k.0 k.1) ps (all_both (IsThere links) (IsBefore p) ps there.1 o.0)
+    all_weaker (λ q. IsThere links q × IsPairBefore p q) (λ q. q.place ≢ p.place) (λ q k. there_apart links p q there.0 k.0 k.1) ps (all_both (IsThere links) (IsPairBefore p) ps there.1 o.0)
 
-pub unlink : (links new : List Link) (at x b : ℕ) (ps : List Pair) → Leads links at ps → AreInOrder ps → place_before x ps ≡ Some b → IsUnlinked links new x b → Leads new at (without_pair x ps)
+pub unlink : (links new : List Link) (at x b : ℕ) (ps : List Pair) → LinksPairs links at ps → AreInOrder ps → place_before x ps ≡ Some b → IsUnlinked links new x b → LinksPairs new at (without_pair x ps)
 unlink links new at x b [] l o e r = absurd cc
 unlink links new at x b (p ∷ []) l o e r = absurd cc
 unlink links new at x b (p ∷ q ∷ qs) l o e r = go (eqb q.place x) refl e (λ k. unlink links new (link_at links at).next x b (q ∷ qs) l.1 o.1 k r)
@@ -220,7 +220,7 @@ unlink links new at x b (p ∷ q ∷ qs) l o e r = go (eqb q.place x) refl e (λ
     inside : at < length new
     inside = let i : at < length links = l.0.inside in let k : length new ≡ length links = r.count in omega arith
 
-    go : (d : Bool) → eqb q.place x ≡ d → cond d (Some p.place) (place_before x (q ∷ qs)) ≡ Some b → (place_before x (q ∷ qs) ≡ Some b → Leads new (link_at links at).next (without_pair x (q ∷ qs))) → Leads new at (without_pair x (p ∷ q ∷ qs))
+    go : (d : Bool) → eqb q.place x ≡ d → cond d (Some p.place) (place_before x (q ∷ qs)) ≡ Some b → (place_before x (q ∷ qs) ≡ Some b → LinksPairs new (link_at links at).next (without_pair x (q ∷ qs))) → LinksPairs new at (without_pair x (p ∷ q ∷ qs))
     go true d k ih =
         let is : b ≡ at = let s : p.place ≡ b = cc in sym s ∙ place in
         let qx : q.place ≡ x = eqb-true q.place x d in
@@ -228,30 +228,30 @@ unlink links new at x b (p ∷ q ∷ qs) l o e r = go (eqb q.place x) refl e (λ
         let next : (link_at links at).next ≡ x = sym (ap (λ (y : Pair). y.place) l.1.0.is) ∙ qx in
         let gone : without_pair x (q ∷ qs) ≡ qs = without_head x q qs qx (subst (λ y. AllByRecursion (λ z. z.place ≢ y) qs) qx apart_next) in
         let here : link_at new at ≡ record { hash = (link_at links at).hash; next = (link_at links x).next } = ap (link_at new) (sym is) ∙ r.there ∙ ap (λ y. record { hash = (link_at links y).hash; next = (link_at links x).next }) is in
-        let tail : Leads new (link_at links x).next qs = leads_same links new (link_at links x).next qs (subst (λ y. Leads links (link_at links y).next qs) next l.1.1) more
+        let tail : LinksPairs new (link_at links x).next qs = leads_same links new (link_at links x).next qs (subst (λ y. LinksPairs links (link_at links y).next qs) next l.1.1) more
         (all_weaker (λ y. y.place ≢ p.place) (λ y. link_at new y.place ≡ link_at links y.place) (λ y n. r.same y.place (λ s. n (s ∙ is ∙ sym place))) qs apart.1) in
-        subst (Leads new at) (sym (without_tail x p (q ∷ qs) px ∙ ap (λ ys. p ∷ ys) gone))
-        (record { inside = inside; is = l.0.is ∙ ap (λ (y : Link). record { hash = y.hash; place = at }) (sym here) }, subst (λ (y : Link). Leads new y.next qs) (sym here) tail)
+        subst (LinksPairs new at) (sym (without_tail x p (q ∷ qs) px ∙ ap (λ ys. p ∷ ys) gone))
+        (record { inside = inside; is = l.0.is ∙ ap (λ (y : Link). record { hash = y.hash; place = at }) (sym here) }, subst (λ (y : Link). LinksPairs new y.next qs) (sym here) tail)
     go false d k ih =
         let other : b ≢ p.place = before_member (λ y. y ≢ p.place) x b (q ∷ qs) k apart in
         let here : link_at new at ≡ link_at links at = r.same at (λ s. other (sym s ∙ sym place)) in
         let px : p.place ≢ x = λ s. let n : place_before x (p ∷ q ∷ qs) ≡ None = before_none x p (q ∷ qs) (subst (λ y. AllByRecursion (λ z. z.place ≢ y) (q ∷ qs)) s apart) in absurd cc in
-        subst (Leads new at) (sym (without_tail x p (q ∷ qs) px))
-        (record { inside = inside; is = l.0.is ∙ ap (λ (y : Link). record { hash = y.hash; place = at }) (sym here) }, subst (λ (y : Link). Leads new y.next (without_pair x (q ∷ qs))) (sym here) (ih k))
+        subst (LinksPairs new at) (sym (without_tail x p (q ∷ qs) px))
+        (record { inside = inside; is = l.0.is ∙ ap (λ (y : Link). record { hash = y.hash; place = at }) (sym here) }, subst (λ (y : Link). LinksPairs new y.next (without_pair x (q ∷ qs))) (sym here) (ih k))
 
 -- the first one goes
-pub unlink_first : (links : List Link) (x : ℕ) (ps : List Pair) → length links ≤ nowhere → x < length links → Leads links x ps → AreInOrder ps → Leads links (link_at links x).next (without_pair x ps)
+pub unlink_first : (links : List Link) (x : ℕ) (ps : List Pair) → length links ≤ nowhere → x < length links → LinksPairs links x ps → AreInOrder ps → LinksPairs links (link_at links x).next (without_pair x ps)
 unlink_first links x [] f i l o = absurd (omega (arith, l))
 unlink_first links x (p ∷ ps) f i l o =
     let place : p.place ≡ x = ap (λ (y : Pair). y.place) l.0.is in
-    subst (Leads links (link_at links x).next) (sym (without_head x p ps place (subst (λ y. AllByRecursion (λ z. z.place ≢ y) ps) place (apart_behind links x p ps l o)))) l.1
+    subst (LinksPairs links (link_at links x).next) (sym (without_head x p ps place (subst (λ y. AllByRecursion (λ z. z.place ≢ y) ps) place (apart_behind links x p ps l o)))) l.1
 
 -- none goes
-pub unlink_none : (links : List Link) (at x : ℕ) (ps : List Pair) → Leads links at ps → at ≢ x → place_before x ps ≡ None → without_pair x ps ≡ ps
+pub unlink_none : (links : List Link) (at x : ℕ) (ps : List Pair) → LinksPairs links at ps → at ≢ x → place_before x ps ≡ None → without_pair x ps ≡ ps
 unlink_none links at x [] l n e = refl
 unlink_none links at x (p ∷ ps) l n e = without_none x (p ∷ ps) ((λ s. n (sym (ap (λ (y : Pair). y.place) l.0.is) ∙ s)), never_before x p ps e)
 
-past_same : (h : ℕ) (p : Pair) → p.hash ≡ h → (ts : List Pair) → AllByRecursion (IsBefore p) ts → AllByRecursion (λ y. p.place < y) (places_in h ts)
+past_same : (h : ℕ) (p : Pair) → p.hash ≡ h → (ts : List Pair) → AllByRecursion (IsPairBefore p) ts → AllByRecursion (λ y. p.place < y) (places_in h ts)
 past_same h p e [] b = tt
 past_same h p e (t ∷ ts) b = pick (eqb t.hash h) refl (past_same h p e ts b.1)
   where
@@ -259,9 +259,9 @@ past_same h p e (t ∷ ts) b = pick (eqb t.hash h) refl (past_same h p e ts b.1)
     pick true d ih = ((b.0).place (e ∙ sym (eqb-true t.hash h d)), ih)
     pick false d ih = ih
 
-behind_whole : (y : ℕ) (ys : List ℕ) → AllByRecursion (λ z. y < z) ys → behind y ys ≡ ys
+behind_whole : (y : ℕ) (ys : List ℕ) → AllByRecursion (λ z. y < z) ys → places_behind y ys ≡ ys
 behind_whole y [] k = refl
-behind_whole y (z ∷ zs) k = ap (λ b. cond b (z ∷ behind y zs) (behind y zs)) (less y z k.0) ∙ ap (λ qs. z ∷ qs) (behind_whole y zs k.1)
+behind_whole y (z ∷ zs) k = ap (λ b. cond b (z ∷ places_behind y zs) (places_behind y zs)) (less y z k.0) ∙ ap (λ qs. z ∷ qs) (behind_whole y zs k.1)
   where
     less : (a b : ℕ) → a < b → ltb a b ≡ true
     less a b j = grind (arith, nat_tests)
@@ -275,8 +275,8 @@ member_above x y (z ∷ zs) k e = pick (eqb z x) refl e (λ k'. member_above x y
     pick false d e' ih = ih e'
 
 -- the links behind a place of a hash lead over the others of the hash behind it
-pub walk_behind : (links : List Link) (at h x : ℕ) (ps : List Pair) → length links ≤ nowhere → length ps ≤ length links → Leads links at ps → AreInOrder ps → is_among (places_in h ps) x ≡ true
-    → IsWalk links (link_at links x).next × (behind x (places_in h ps) ≡ places_in h (rest links (link_at links x).next))
+pub walk_behind : (links : List Link) (at h x : ℕ) (ps : List Pair) → length links ≤ nowhere → length ps ≤ length links → LinksPairs links at ps → AreInOrder ps → is_among (places_in h ps) x ≡ true
+    → IsWalk links (link_at links x).next × (places_behind x (places_in h ps) ≡ places_in h (rest links (link_at links x).next))
 walk_behind links at h x [] f s l o m = absurd (true≢false (sym m))
 walk_behind links at h x (p ∷ ps) f s l o m = go (eqb p.hash h) refl m (λ k. walk_behind links (link_at links at).next h x ps f (omega arith) l.1 o.1 k)
   where
@@ -289,24 +289,24 @@ walk_behind links at h x (p ∷ ps) f s l o m = go (eqb p.hash h) refl m (λ k. 
     not_less : (a b : ℕ) → b ≤ a → ltb a b ≡ false
     not_less a b j = grind (arith, nat_tests)
 
-    skip : (y : ℕ) (ys : List ℕ) → y ≤ x → behind x (y ∷ ys) ≡ behind x ys
-    skip y ys j = ap (λ b. cond b (y ∷ behind x ys) (behind x ys)) (not_less x y j)
+    skip : (y : ℕ) (ys : List ℕ) → y ≤ x → places_behind x (y ∷ ys) ≡ places_behind x ys
+    skip y ys j = ap (λ b. cond b (y ∷ places_behind x ys) (places_behind x ys)) (not_less x y j)
 
     go : (d : Bool) → eqb p.hash h ≡ d → is_among (map (λ (q : Pair). q.place) (cond d (p ∷ filter (λ q. eqb q.hash h) ps) (filter (λ q. eqb q.hash h) ps))) x ≡ true
-        → (is_among (places_in h ps) x ≡ true → IsWalk links (link_at links x).next × (behind x (places_in h ps) ≡ places_in h (rest links (link_at links x).next)))
-        → IsWalk links (link_at links x).next × (behind x (map (λ (q : Pair). q.place) (cond d (p ∷ filter (λ q. eqb q.hash h) ps) (filter (λ q. eqb q.hash h) ps))) ≡ places_in h (rest links (link_at links x).next))
+        → (is_among (places_in h ps) x ≡ true → IsWalk links (link_at links x).next × (places_behind x (places_in h ps) ≡ places_in h (rest links (link_at links x).next)))
+        → IsWalk links (link_at links x).next × (places_behind x (map (λ (q : Pair). q.place) (cond d (p ∷ filter (λ q. eqb q.hash h) ps) (filter (λ q. eqb q.hash h) ps))) ≡ places_in h (rest links (link_at links x).next))
     go false d k ih = ih k
     go true d k ih = here (eqb p.place x) refl k
       where
         same : p.hash ≡ h
         same = eqb-true p.hash h d
 
-        here : (b : Bool) → eqb p.place x ≡ b → (b || is_among (places_in h ps) x) ≡ true → IsWalk links (link_at links x).next × (behind x (p.place ∷ places_in h ps) ≡ places_in h (rest links (link_at links x).next))
+        here : (b : Bool) → eqb p.place x ≡ b → (b || is_among (places_in h ps) x) ≡ true → IsWalk links (link_at links x).next × (places_behind x (p.place ∷ places_in h ps) ≡ places_in h (rest links (link_at links x).next))
         here true b k' =
             let is : at ≡ x = sym place ∙ eqb-true p.place x b in
             let px : p.place ≡ x = eqb-true p.place x b in (
-              subst (λ y. IsWalk links (link_at links y).next) is (record { few = f; leads = subst (Leads links (link_at links at).next) (sym then) l.1; in_order = subst AreInOrder (sym then) o.1 }),
-              skip p.place (places_in h ps) (omega (arith, px)) ∙ ap (λ y. behind y (places_in h ps)) (sym px) ∙ behind_whole p.place (places_in h ps) (past_same h p same ps o.0) ∙ ap (places_in h) (sym then) ∙ ap (λ y. places_in h (rest links (link_at links y).next)) is,
+              subst (λ y. IsWalk links (link_at links y).next) is (record { few = f; leads = subst (LinksPairs links (link_at links at).next) (sym then) l.1; in_order = subst AreInOrder (sym then) o.1 }),
+              skip p.place (places_in h ps) (omega (arith, px)) ∙ ap (λ y. places_behind y (places_in h ps)) (sym px) ∙ behind_whole p.place (places_in h ps) (past_same h p same ps o.0) ∙ ap (places_in h) (sym then) ∙ ap (λ y. places_in h (rest links (link_at links y).next)) is,
             )
         here false b k' =
             let r = ih k' in
@@ -331,16 +331,16 @@ module _ (heads : List ℕ) (links : List Link) (shift : ℕ) (a : AreLinked hea
   places_part top l t = places_joined shift (length heads) (part_at heads links) h (length heads) (omega (arith, l, t)) (tops_of heads links shift a) ∙ ap (λ s. places_in h (part_at heads links s)) t
 
   -- a place of the hash is there, and the links behind it lead over the others of the hash behind it
-  pub next_of : (x : ℕ) → is_among (places_in h (listed heads links)) x ≡ true → (x < length links) × IsWalk links (link_at links x).next × (behind x (places_in h (listed heads links)) ≡ places_in h (rest links (link_at links x).next))
+  pub next_of : (x : ℕ) → is_among (places_in h (listed heads links)) x ≡ true → (x < length links) × IsWalk links (link_at links x).next × (places_behind x (places_in h (listed heads links)) ≡ places_in h (rest links (link_at links x).next))
   next_of x m = go (cases_lt (top_of shift (length heads) h) (length heads))
     where
-      go : (top_of shift (length heads) h < length heads) ⊎ (length heads ≤ top_of shift (length heads) h) → (x < length links) × IsWalk links (link_at links x).next × (behind x (places_in h (listed heads links)) ≡ places_in h (rest links (link_at links x).next))
+      go : (top_of shift (length heads) h < length heads) ⊎ (length heads ≤ top_of shift (length heads) h) → (x < length links) × IsWalk links (link_at links x).next × (places_behind x (places_in h (listed heads links)) ≡ places_in h (rest links (link_at links x).next))
       go (inl l) =
           let top = top_of shift (length heads) h in
           let same : places_in h (listed heads links) ≡ places_in h (part_at heads links top) = places_part top l refl in
-          let part : IsPart links shift (length heads) top (head_at heads top) (part_at heads links top) = a.parts top l in
+          let part : IsPairChain links shift (length heads) top (head_at heads top) (part_at heads links top) = a.parts top l in
           let w = walk_behind links (head_at heads top) h x (part_at heads links top) a.few part.short part.leads part.in_order (ap (λ ps. is_among ps x) (sym same) ∙ m) in
-          (place_inside links h x (listed heads links) (all_there heads links shift a) m, w.0, ap (behind x) same ∙ w.1)
+          (place_inside links h x (listed heads links) (all_there heads links shift a) m, w.0, ap (places_behind x) same ∙ w.1)
       go (inr l) =
           let none : listed heads links ≡ [] = ap (joined (part_at heads links)) (let z : length heads ≡ 0 = omega arith in z) in
           absurd (true≢false (sym m ∙ ap (λ ps. is_among (places_in h ps) x) none))

@@ -3,7 +3,7 @@ use Rattle.std.proofs.Common.{ℕ, ◌+◌, ◌<◌, ◌≤◌, ◌≡◌, ◌�
 use Rattle.std.proofs.lemmas.Bool.{cases_lt, ne_eqb, eqb-true}
 use Rattle.std.proofs.lemmas.Bool.Decides.{nat_tests}
 use Rattle.std.specs.List.{AllByRecursion}
-use Rattle.sat_checker.specs.inner.PairView.{IsBefore, AreInOrder, is_before, inserted, places_in}
+use Rattle.sat_checker.specs.inner.PairView.{IsPairBefore, AreInOrder, is_before, inserted, places_in}
 use Rattle.sat_checker.specs.declared.store.links.Pair.{Pair}
 
 pub all_append : (P : Pair → Type 0) (xs ys : List Pair) → AllByRecursion P xs → AllByRecursion P ys → AllByRecursion P (xs ++ ys)
@@ -50,29 +50,29 @@ filter_two t (x ∷ xs) ys = go (t x) (filter_two t xs ys)
     go true ih = ap (λ zs. x ∷ zs) ih
     go false ih = ih
 
-pub order_append : (xs ys : List Pair) → AreInOrder xs → AreInOrder ys → AllByRecursion (λ x. AllByRecursion (IsBefore x) ys) xs → AreInOrder (xs ++ ys)
+pub order_append : (xs ys : List Pair) → AreInOrder xs → AreInOrder ys → AllByRecursion (λ x. AllByRecursion (IsPairBefore x) ys) xs → AreInOrder (xs ++ ys)
 order_append [] ys o p h = p
-order_append (x ∷ xs) ys o p h = (all_append (IsBefore x) xs ys o.0 h.0, order_append xs ys o.1 p h.1)
+order_append (x ∷ xs) ys o p h = (all_append (IsPairBefore x) xs ys o.0 h.0, order_append xs ys o.1 p h.1)
 
 pub order_filter : (t : Pair → Bool) (ps : List Pair) → AreInOrder ps → AreInOrder (filter t ps)
 order_filter t [] o = tt
 order_filter t (p ∷ ps) o = go (t p) (order_filter t ps o.1)
   where
     go : (b : Bool) → AreInOrder (filter t ps) → AreInOrder (cond b (p ∷ filter t ps) (filter t ps))
-    go true ih = (all_filter (IsBefore p) t ps o.0, ih)
+    go true ih = (all_filter (IsPairBefore p) t ps o.0, ih)
     go false ih = ih
 
 -- the test decides
-pub is-before : (p q : Pair) → IsBefore p q → is_before p q ≡ true
+pub is-before : (p q : Pair) → IsPairBefore p q → is_before p q ≡ true
 is-before p q b = let h = b.hash in let k = b.place in grind (arith, nat_tests)
 
-pub before-is : (p q : Pair) → is_before p q ≡ true → IsBefore p q
+pub before-is : (p q : Pair) → is_before p q ≡ true → IsPairBefore p q
 before-is p q e = record { hash = grind (arith, nat_tests); place = λ s. grind (arith, nat_tests) }
 
-pub before_not : (p q : Pair) → is_before p q ≡ false → p.place ≢ q.place → IsBefore q p
+pub before_not : (p q : Pair) → is_before p q ≡ false → p.place ≢ q.place → IsPairBefore q p
 before_not p q e n = record { hash = grind (arith, nat_tests); place = λ s. grind (arith, nat_tests) }
 
-pub not-before : (p q : Pair) → IsBefore q p → is_before p q ≡ false
+pub not-before : (p q : Pair) → IsPairBefore q p → is_before p q ≡ false
 not-before p q b = go (is_before p q) refl
   where
     go : (d : Bool) → is_before p q ≡ d → d ≡ false
@@ -83,15 +83,15 @@ not-before p q b = go (is_before p q) refl
         let one : p.place < q.place = f.place same in let two : q.place < p.place = b.place (sym same) in absurd (omega arith)
 
 -- before all of them
-pub inserted_first : (p : Pair) (ps : List Pair) → AllByRecursion (IsBefore p) ps → inserted p ps ≡ p ∷ ps
+pub inserted_first : (p : Pair) (ps : List Pair) → AllByRecursion (IsPairBefore p) ps → inserted p ps ≡ p ∷ ps
 inserted_first p [] h = refl
 inserted_first p (q ∷ qs) h = ap (λ b. cond b (p ∷ q ∷ qs) (q ∷ inserted p qs)) (is-before p q h.0)
 
-pub inserted_behind : (p : Pair) (xs ys : List Pair) → AllByRecursion (λ x. IsBefore x p) xs → inserted p (xs ++ ys) ≡ xs ++ inserted p ys
+pub inserted_behind : (p : Pair) (xs ys : List Pair) → AllByRecursion (λ x. IsPairBefore x p) xs → inserted p (xs ++ ys) ≡ xs ++ inserted p ys
 inserted_behind p [] ys h = refl
 inserted_behind p (x ∷ xs) ys h = ap (λ b. cond b (p ∷ x ∷ (xs ++ ys)) (x ∷ inserted p (xs ++ ys))) (not-before p x h.0) ∙ ap (λ zs. x ∷ zs) (inserted_behind p xs ys h.1)
 
-pub inserted_within : (p : Pair) (xs ys : List Pair) → AllByRecursion (IsBefore p) ys → inserted p (xs ++ ys) ≡ inserted p xs ++ ys
+pub inserted_within : (p : Pair) (xs ys : List Pair) → AllByRecursion (IsPairBefore p) ys → inserted p (xs ++ ys) ≡ inserted p xs ++ ys
 inserted_within p [] ys h = inserted_first p ys h
 inserted_within p (x ∷ xs) ys h = go (is_before p x) (inserted_within p xs ys h)
   where
@@ -107,8 +107,8 @@ all_inserted P p (q ∷ qs) h k = go (is_before p q) (all_inserted P p qs h k.1)
     go true ih = (h, k)
     go false ih = (k.0, ih)
 
-pub before_all : (p q : Pair) → IsBefore p q → (qs : List Pair) → AllByRecursion (IsBefore q) qs → AllByRecursion (IsBefore p) qs
-before_all p q b qs h = all_weaker (IsBefore q) (IsBefore p) (λ r k. let bh = b.hash in let bp = b.place in let kh = k.hash in let kp = k.place in record { hash = omega arith; place = λ s. omega arith }) qs h
+pub before_all : (p q : Pair) → IsPairBefore p q → (qs : List Pair) → AllByRecursion (IsPairBefore q) qs → AllByRecursion (IsPairBefore p) qs
+before_all p q b qs h = all_weaker (IsPairBefore q) (IsPairBefore p) (λ r k. let bh = b.hash in let bp = b.place in let kh = k.hash in let kp = k.place in record { hash = omega arith; place = λ s. omega arith }) qs h
 
 pub order_inserted : (p : Pair) (ps : List Pair) → AllByRecursion (λ q. p.place ≢ q.place) ps → AreInOrder ps → AreInOrder (inserted p ps)
 order_inserted p [] n o = (tt, tt)
@@ -116,7 +116,7 @@ order_inserted p (q ∷ qs) n o = go (is_before p q) refl (order_inserted p qs n
   where
     go : (b : Bool) → is_before p q ≡ b → AreInOrder (inserted p qs) → AreInOrder (cond b (p ∷ q ∷ qs) (q ∷ inserted p qs))
     go true e ih = let b = before-is p q e in ((b, before_all p q b qs o.0), o)
-    go false e ih = (all_inserted (IsBefore q) p qs (before_not p q e n.0) o.0, ih)
+    go false e ih = (all_inserted (IsPairBefore q) p qs (before_not p q e n.0) o.0, ih)
 
 pub length_inserted : (p : Pair) (ps : List Pair) → length (inserted p ps) ≡ length ps + 1
 length_inserted p [] = omega arith
@@ -159,7 +159,7 @@ places_inserted q p (x ∷ xs) o l = by_place (places_inserted q p xs o.1 l.1) (
           | inl less ↦ less
           | inr more ↦ let b = before-is p x e in let bh : p.hash ≤ x.hash = b.hash in let bp : p.place < x.place = b.place (omega arith) in let lx : x.place < p.place = l.0 in absurd (omega arith)
         ] in
-        (first, all_weaker (IsBefore x) (λ y. p.hash < y.hash) (λ y k. let kh = k.hash in omega arith) xs o.0)
+        (first, all_weaker (IsPairBefore x) (λ y. p.hash < y.hash) (λ y k. let kh = k.hash in omega arith) xs o.0)
 
     new_first : (b : Bool) → eqb q p.hash ≡ b → is_before p x ≡ true → map (λ (y : Pair). y.place) (cond b (p ∷ filter (λ y. eqb y.hash q) (x ∷ xs)) (filter (λ y. eqb y.hash q) (x ∷ xs))) ≡ cond b (places_in q (x ∷ xs) ++ p.place ∷ []) (places_in q (x ∷ xs))
     new_first false d e = refl

@@ -5,7 +5,7 @@ use Rattle.std.proofs.lemmas.List.{append-nil}
 use Rattle.std.proofs.lemmas.Nat.{le-div}
 use Rattle.std.proofs.Math.Nat.{div-mul-le_self}
 use Rattle.std.specs.List.{AllByRecursion}
-use Rattle.sat_checker.specs.inner.PairView.{IsBefore, AreInOrder, inserted, places_in}
+use Rattle.sat_checker.specs.inner.PairView.{IsPairBefore, AreInOrder, inserted, places_in}
 use Rattle.sat_checker.specs.inner.LinkView.{joined, top_of}
 use Rattle.sat_checker.specs.declared.store.links.Pair.{Pair}
 use Rattle.sat_checker.proofs.lemmas.pairs.Order.{all_append, all_left, all_right, all_weaker, filter_none, filter_two, order_append, inserted_behind, inserted_within}
@@ -55,21 +55,21 @@ module _ (shift count : ℕ) where
   abbrev pub Tops : ℕ → List Pair → Type 0
   Tops top = AllByRecursion (λ p. top_of shift count p.hash ≡ top)
 
-  lower : (p q : Pair) → top_of shift count p.hash < top_of shift count q.hash → IsBefore p q
+  lower : (p q : Pair) → top_of shift count p.hash < top_of shift count q.hash → IsPairBefore p q
   lower p q l = let k : p.hash < q.hash = tops_rise shift count p.hash q.hash l in record { hash = omega arith; place = λ e. absurd (omega arith) }
 
-  pub below_part : (p : Pair) (top : ℕ) (ps : List Pair) → top_of shift count p.hash < top → Tops top ps → AllByRecursion (IsBefore p) ps
-  below_part p top ps l h = all_weaker (λ q. top_of shift count q.hash ≡ top) (IsBefore p) (λ q e. lower p q (omega (arith, l, e))) ps h
+  pub below_part : (p : Pair) (top : ℕ) (ps : List Pair) → top_of shift count p.hash < top → Tops top ps → AllByRecursion (IsPairBefore p) ps
+  below_part p top ps l h = all_weaker (λ q. top_of shift count q.hash ≡ top) (IsPairBefore p) (λ q e. lower p q (omega (arith, l, e))) ps h
 
-  pub above_part : (p : Pair) (top : ℕ) (ps : List Pair) → top < top_of shift count p.hash → Tops top ps → AllByRecursion (λ q. IsBefore q p) ps
-  above_part p top ps l h = all_weaker (λ q. top_of shift count q.hash ≡ top) (λ q. IsBefore q p) (λ q e. lower q p (omega (arith, l, e))) ps h
+  pub above_part : (p : Pair) (top : ℕ) (ps : List Pair) → top < top_of shift count p.hash → Tops top ps → AllByRecursion (λ q. IsPairBefore q p) ps
+  above_part p top ps l h = all_weaker (λ q. top_of shift count q.hash ≡ top) (λ q. IsPairBefore q p) (λ q e. lower q p (omega (arith, l, e))) ps h
 
   module _ (f : ℕ → List Pair) where
     pub order_joined : (n : ℕ) → ((s : ℕ) → s < n → AreInOrder (f s) × Tops s (f s)) → AreInOrder (joined f n)
     order_joined zero h = tt
     order_joined (suc n) h =
         order_append (joined f n) (f n) (order_joined n (λ s l. h s (omega arith))) (h n (omega arith)).0
-        (all_joined (λ x. AllByRecursion (IsBefore x) (f n)) f n (λ s l. all_weaker (λ q. top_of shift count q.hash ≡ s) (λ x. AllByRecursion (IsBefore x) (f n)) (λ x e. below_part x n (f n) (omega (arith, l, e)) (h n (omega arith)).1) (f s) (h s (omega arith)).1))
+        (all_joined (λ x. AllByRecursion (IsPairBefore x) (f n)) f n (λ s l. all_weaker (λ q. top_of shift count q.hash ≡ s) (λ x. AllByRecursion (IsPairBefore x) (f n)) (λ x e. below_part x n (f n) (omega (arith, l, e)) (h n (omega arith)).1) (f s) (h s (omega arith)).1))
 
     not_there : (q top : ℕ) (ps : List Pair) → top_of shift count q ≢ top → Tops top ps → filter (λ p. eqb p.hash q) ps ≡ []
     not_there q top ps n h = filter_none (λ p. eqb p.hash q) ps (all_weaker (λ p. top_of shift count p.hash ≡ top) (λ p. eqb p.hash q ≡ false) (λ p e. ne_eqb p.hash q (λ s. n (sym (ap (top_of shift count) s) ∙ e))) ps h)
@@ -108,4 +108,4 @@ module _ (shift count : ℕ) where
             let e : n ≡ top = omega arith in
             ap (λ ps. ps ++ g n) (joined_same g f n (λ s j. other s (omega arith) (λ d. omega (arith, j, d, k))))
             ∙ ap (λ ps. joined f n ++ ps) (ap g e ∙ here ∙ ap (λ s. inserted p (f s)) (sym e))
-            ∙ sym (inserted_behind p (joined f n) (f n) (all_joined (λ q. IsBefore q p) f n (λ s j. above_part p s (f s) (omega (arith, j, k, t)) (h s (omega arith)))))
+            ∙ sym (inserted_behind p (joined f n) (f n) (all_joined (λ q. IsPairBefore q p) f n (λ s j. above_part p s (f s) (omega (arith, j, k, t)) (h s (omega arith)))))

@@ -6,7 +6,7 @@ use Rattle.std.proofs.lemmas.Map.Keys.{IsDistinct-head, IsDistinct-tail}
 use Rattle.std.specs.List.{IsDistinct}
 use Rattle.std.specs.Ordering.{ordering_then}
 use Rattle.std.specs.declared.cmp.Ordering.TheVariants.{Less, Equal, Greater}
-use Rattle.sat_checker.specs.inner.PairView.{IsBefore, AreInOrder, same_place}
+use Rattle.sat_checker.specs.inner.PairView.{IsPairBefore, AreInOrder, same_place}
 use Rattle.sat_checker.specs.declared.store.links.Pair.{Pair}
 use Rattle.sat_checker.proofs.lemmas.pairs.Order.{before_all}
 
@@ -26,7 +26,7 @@ cmp_equal a b e = ap (λ t. cond t Less (cond (eqb a b) Equal Greater)) (no a b 
 abbrev IsNotBelow : Pair → Pair → Type 0
 IsNotBelow p q = is_lt (ordering_then (nat_cmp q.hash p.hash) (nat_cmp q.place p.place)) ≡ false
 
-before_from : (p q : Pair) → IsNotBelow p q → p.place ≢ q.place → IsBefore p q
+before_from : (p q : Pair) → IsNotBelow p q → p.place ≢ q.place → IsPairBefore p q
 before_from p q n d = record {
   hash = elim (cases_lt q.hash p.hash) [
     | inl less ↦ absurd (true≢false (sym (ap (λ o. is_lt (ordering_then o (nat_cmp q.place p.place))) (cmp_less q.hash p.hash less)) ∙ n))
@@ -43,7 +43,7 @@ order_from_sort [] s d = tt
 order_from_sort (p ∷ []) s d = (tt, tt)
 order_from_sort (p ∷ q ∷ qs) s d = go (order_from_sort (q ∷ qs) (λ k e z l. let m : suc k + 1 ≡ suc (k + 1) = omega arith in subst (λ n. IsNotBelow (get_or (p ∷ q ∷ qs) (suc k) e) (get_or (p ∷ q ∷ qs) n e)) m (s (suc k) e (omega arith) (omega arith))) (IsDistinct-tail same_place p (q ∷ qs) d))
   where
-    first : IsBefore p q
+    first : IsPairBefore p q
     first = before_from p q (s 0 p (omega arith) (omega arith)) (eqb-false p.place q.place (IsDistinct-head same_place p (q ∷ qs) d).0)
 
     go : AreInOrder (q ∷ qs) → AreInOrder (p ∷ q ∷ qs)

@@ -4,8 +4,8 @@ use Rattle.std.proofs.lemmas.Bool.{eq-eqb, ne_eqb, eqb-true, or_cases, true≢fa
 use Rattle.std.proofs.lemmas.Bool.Decides.{nat_tests}
 use Rattle.std.specs.List.{AllByRecursion}
 use Rattle.sat_checker.specs.LiteralSets.{is_among}
-use Rattle.sat_checker.specs.inner.PairView.{IsBefore, AreInOrder, places_in, first_of}
-use Rattle.sat_checker.specs.inner.LinkView.{nowhere, link_at, pair_at, chain, rest, Leads, IsWalk, up_to, last_or, place_before}
+use Rattle.sat_checker.specs.inner.PairView.{IsPairBefore, AreInOrder, places_in, first_of}
+use Rattle.sat_checker.specs.inner.LinkView.{nowhere, link_at, pair_at, chain, rest, LinksPairs, IsWalk, up_to, last_or, place_before}
 use Rattle.sat_checker.specs.declared.store.links.Pair.{Pair}
 use Rattle.sat_checker.specs.declared.store.links.Link.{Link}
 use Rattle.sat_checker.proofs.lemmas.pairs.Order.{all_weaker, filter_none, places_past}
@@ -15,7 +15,7 @@ pub record IsThere (links : List Link) (p : Pair) : Type 0 where
   pub inside : p.place < length links
   pub hash : p.hash ≡ (link_at links p.place).hash
 
-pub leads_there : (links : List Link) (at : ℕ) (ps : List Pair) → Leads links at ps → AllByRecursion (IsThere links) ps
+pub leads_there : (links : List Link) (at : ℕ) (ps : List Pair) → LinksPairs links at ps → AllByRecursion (IsThere links) ps
 leads_there links at [] h = tt
 leads_there links at (p ∷ ps) h = (here, leads_there links (link_at links at).next ps h.1)
   where
@@ -36,7 +36,7 @@ hash_of_pair links (p ∷ ps) place h t m = go (eqb p.hash h) refl m (hash_of_pa
     go true e m ih = elim (or_cases (eqb p.place place) (is_among (places_in h ps) place) m) [ inl s ↦ here (eqb-true p.hash h e) (eqb-true p.place place s) | inr r ↦ ih r ]
     go false e m ih = ih m
 
-pub there_apart : (links : List Link) (p q : Pair) → IsThere links p → IsThere links q → IsBefore p q → q.place ≢ p.place
+pub there_apart : (links : List Link) (p q : Pair) → IsThere links p → IsThere links q → IsPairBefore p q → q.place ≢ p.place
 there_apart links p q a b o e =
     let same : p.hash ≡ q.hash = a.hash ∙ ap (λ x. (link_at links x).hash) (sym e) ∙ sym b.hash in
     let less : p.place < q.place = o.place same in omega arith
@@ -54,7 +54,7 @@ length_chain links (suc n) at = go (eqb at nowhere) (length_chain links n (link_
     go false ih = omega arith
 
 -- the chain is what the links lead over
-pub chain_is : (links : List Link) → length links ≤ nowhere → (n at : ℕ) (ps : List Pair) → Leads links at ps → length ps ≤ n → chain links n at ≡ ps
+pub chain_is : (links : List Link) → length links ≤ nowhere → (n at : ℕ) (ps : List Pair) → LinksPairs links at ps → length ps ≤ n → chain links n at ≡ ps
 chain_is links few n at [] h l = chain_end links n at h
 chain_is links few zero at (p ∷ ps) h l = absurd (omega arith)
 chain_is links few (suc n) at (p ∷ ps) h l =
@@ -65,14 +65,14 @@ chain_is links few (suc n) at (p ∷ ps) h l =
 pub record IsStep (links : List Link) (at : ℕ) : Type 0 where
   pub inside : at < length links
   pub head : rest links at ≡ pair_at links at ∷ rest links (link_at links at).next
-  pub before : AllByRecursion (IsBefore (pair_at links at)) (rest links (link_at links at).next)
+  pub before : AllByRecursion (IsPairBefore (pair_at links at)) (rest links (link_at links at).next)
   pub next : IsWalk links (link_at links at).next
   pub shorter : length (rest links (link_at links at).next) < length (rest links at)
 
 pub step_on : (links : List Link) (at : ℕ) → IsWalk links at → at ≢ nowhere → IsStep links at
 step_on links at w n = go (rest links at) refl w.leads w.in_order
   where
-    go : (ps : List Pair) → rest links at ≡ ps → Leads links at ps → AreInOrder ps → IsStep links at
+    go : (ps : List Pair) → rest links at ≡ ps → LinksPairs links at ps → AreInOrder ps → IsStep links at
     go [] e h o = absurd (n h)
     go (p ∷ ps) e h o =
         let short : length (rest links at) ≤ length links = length_chain links (length links) at in
@@ -82,8 +82,8 @@ step_on links at w n = go (rest links at) refl w.leads w.in_order
         record {
           inside = h.0.inside;
           head = e ∙ ap (λ q. q ∷ ps) h.0.is ∙ ap (λ qs. pair_at links at ∷ qs) (sym then);
-          before = subst (λ q. AllByRecursion (IsBefore q) (rest links (link_at links at).next)) h.0.is (subst (AllByRecursion (IsBefore p)) (sym then) o.0);
-          next = record { few = w.few; leads = subst (Leads links (link_at links at).next) (sym then) h.1; in_order = subst AreInOrder (sym then) o.1 };
+          before = subst (λ q. AllByRecursion (IsPairBefore q) (rest links (link_at links at).next)) h.0.is (subst (AllByRecursion (IsPairBefore p)) (sym then) o.0);
+          next = record { few = w.few; leads = subst (LinksPairs links (link_at links at).next) (sym then) h.1; in_order = subst AreInOrder (sym then) o.1 };
           shorter = omega arith;
         }
 
@@ -106,7 +106,7 @@ module _ (links : List Link) (at : ℕ) (link : Link) (w : IsWalk links at) (n :
   higher : AllByRecursion (λ q. link.hash ≤ q.hash) (rest links link.next)
   higher =
       subst (λ x. AllByRecursion (λ q. link.hash ≤ q.hash) (rest links x)) next_is
-      (all_weaker (IsBefore (pair_at links at)) (λ q. link.hash ≤ q.hash) (λ q b. let k : (link_at links at).hash ≤ q.hash = b.hash in let e : link.hash ≡ (link_at links at).hash = ap (λ (l : Link). l.hash) read in omega arith) (rest links (link_at links at).next) step.before)
+      (all_weaker (IsPairBefore (pair_at links at)) (λ q. link.hash ≤ q.hash) (λ q b. let k : (link_at links at).hash ≤ q.hash = b.hash in let e : link.hash ≡ (link_at links at).hash = ap (λ (l : Link). l.hash) read in omega arith) (rest links (link_at links at).next) step.before)
 
   all_past : (h : ℕ) → h < link.hash → AllByRecursion (λ q. h < q.hash) (rest links at)
   all_past h l =
@@ -134,6 +134,6 @@ module _ (links : List Link) (at : ℕ) (link : Link) (w : IsWalk links at) (n :
   pub before_on : (place : ℕ) → link.next ≢ place → place_before place (rest links at) ≡ place_before place (rest links link.next)
   before_on place d = ap (place_before place) after ∙ go (rest links link.next) walk_next.leads
     where
-      go : (ps : List Pair) → Leads links link.next ps → place_before place (record { hash = link.hash; place = at } ∷ ps) ≡ place_before place ps
+      go : (ps : List Pair) → LinksPairs links link.next ps → place_before place (record { hash = link.hash; place = at } ∷ ps) ≡ place_before place ps
       go [] h = refl
       go (q ∷ qs) h = ap (λ b. cond b (Some at) (place_before place (q ∷ qs))) (ne_eqb q.place place (λ e. d (sym (ap (λ (p : Pair). p.place) h.0.is) ∙ e)))

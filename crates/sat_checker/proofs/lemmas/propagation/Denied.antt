@@ -6,7 +6,7 @@ use Rattle.sat_base.specs.values.Literals.{negated}
 use Rattle.sat_checker.specs.LiteralSets.{is_among, is_tautology}
 use Rattle.sat_checker.specs.inner.Marks.{NoRepeats}
 use Rattle.sat_checker.specs.Propagation.{PassesCheck, tautology, unit_true, conflict}
-use Rattle.sat_checker.specs.inner.Walk.{denied, walk_buckets}
+use Rattle.sat_checker.specs.inner.Walk.{denied_in_turn, walk_buckets}
 use Rattle.std.proofs.lemmas.List.{drop_more}
 use Rattle.sat_checker.proofs.lemmas.propagation.Walking.{Extends-itself, Extends-more}
 use Rattle.sat_checker.proofs.lemmas.propagation.Greedy.{Within, rule_from_walk, walk_from_rule}
@@ -40,11 +40,11 @@ any_denied assumed l (m ∷ ms) h =
     ]
 
 -- a literal was true: a unit or both signs
-pub denied_none : (clause assumed : List ℕ) → denied assumed clause ≡ None → (list_any (is_among assumed) clause ≡ true) ⊎ (is_tautology clause ≡ true)
+pub denied_none : (clause assumed : List ℕ) → denied_in_turn assumed clause ≡ None → (list_any (is_among assumed) clause ≡ true) ⊎ (is_tautology clause ≡ true)
 denied_none [] assumed e = absurd cc
 denied_none (l ∷ ls) assumed e = go (denied_none ls) (is_among assumed l) refl e
   where
-    go : ((more : List ℕ) → denied more ls ≡ None → (list_any (is_among more) ls ≡ true) ⊎ (is_tautology ls ≡ true)) → (b : Bool) → is_among assumed l ≡ b → cond b None (denied (with_denied assumed l) ls) ≡ None → (list_any (is_among assumed) (l ∷ ls) ≡ true) ⊎ (is_tautology (l ∷ ls) ≡ true)
+    go : ((more : List ℕ) → denied_in_turn more ls ≡ None → (list_any (is_among more) ls ≡ true) ⊎ (is_tautology ls ≡ true)) → (b : Bool) → is_among assumed l ≡ b → cond b None (denied_in_turn (with_denied assumed l) ls) ≡ None → (list_any (is_among assumed) (l ∷ ls) ≡ true) ⊎ (is_tautology (l ∷ ls) ≡ true)
     go ih true h e' = inl (or_left (is_among assumed l) (list_any (is_among assumed) ls) h)
     go ih false h e' =
         elim (ih (with_denied assumed l) e') [
@@ -85,13 +85,13 @@ any_weaker : (p q : ℕ → Bool) → ((m : ℕ) → p m ≡ true → q m ≡ tr
 any_weaker p q w [] h = h
 any_weaker p q w (l ∷ ls) h = elim (or_cases (p l) (list_any p ls) h) [ inl a ↦ or_left (q l) (list_any q ls) (w l a) | inr b ↦ or_right (q l) (list_any q ls) (any_weaker p q w ls b) ]
 
-pub denied_some : (clause assumed more : List ℕ) → denied assumed clause ≡ Some more → Denied assumed clause more
+pub denied_some : (clause assumed more : List ℕ) → denied_in_turn assumed clause ≡ Some more → Denied assumed clause more
 denied_some [] assumed more e =
     let same : assumed ≡ more = cc in
     record { enough = record { each = λ l h. subst (λ x. is_among x l ≡ true) same h }; only = record { each = λ l h. subst (λ x. is_among x l ≡ true) (sym same) h }; no_unit = refl; no_tautology = refl }
 denied_some (l ∷ ls) assumed more e = go (λ m. denied_some ls m more) (is_among assumed l) refl e
   where
-    go : ((m : List ℕ) → denied m ls ≡ Some more → Denied m ls more) → (b : Bool) → is_among assumed l ≡ b → cond b None (denied (with_denied assumed l) ls) ≡ Some more → Denied assumed (l ∷ ls) more
+    go : ((m : List ℕ) → denied_in_turn m ls ≡ Some more → Denied m ls more) → (b : Bool) → is_among assumed l ≡ b → cond b None (denied_in_turn (with_denied assumed l) ls) ≡ Some more → Denied assumed (l ∷ ls) more
     go ih true h e' = absurd cc
     go ih false h e' =
         let d = ih (with_denied assumed l) e' in
@@ -122,34 +122,34 @@ denied_some (l ∷ ls) assumed more e = go (λ m. denied_some ls m more) (is_amo
         }
 
 -- the check says yes exactly by the rule
-pub passes_when_true : (units clause : List ℕ) (buckets : List (List (List ℕ))) → denied units clause ≡ None → PassesCheck units clause buckets
+pub passes_when_true : (units clause : List ℕ) (buckets : List (List (List ℕ))) → denied_in_turn units clause ≡ None → PassesCheck units clause buckets
 passes_when_true units clause buckets e = elim (denied_none clause units e) [ inl u ↦ unit_true u | inr t ↦ tautology t ]
 
-pub passes_when_walked : (units clause more : List ℕ) (buckets : List (List (List ℕ))) → AllByRecursion (AllByRecursion NoRepeats) buckets → denied units clause ≡ Some more → walk_buckets more buckets ≡ true → PassesCheck units clause buckets
+pub passes_when_walked : (units clause more : List ℕ) (buckets : List (List (List ℕ))) → AllByRecursion (AllByRecursion NoRepeats) buckets → denied_in_turn units clause ≡ Some more → walk_buckets more buckets ≡ true → PassesCheck units clause buckets
 passes_when_walked units clause more buckets n e w =
     let d = denied_some clause units more e in
     conflict (rule_from_walk (map negated clause ++ units) buckets (walk_from_rule more (map negated clause ++ units) buckets d.only n (rule_from_walk more buckets w)))
 
-pub walked_when_passes : (units clause more : List ℕ) (buckets : List (List (List ℕ))) → AllByRecursion (AllByRecursion NoRepeats) buckets → denied units clause ≡ Some more → PassesCheck units clause buckets → walk_buckets more buckets ≡ true
+pub walked_when_passes : (units clause more : List ℕ) (buckets : List (List (List ℕ))) → AllByRecursion (AllByRecursion NoRepeats) buckets → denied_in_turn units clause ≡ Some more → PassesCheck units clause buckets → walk_buckets more buckets ≡ true
 walked_when_passes units clause more buckets n e (tautology t) = absurd (both_ways (is_tautology clause) (denied_some clause units more e).no_tautology t)
 walked_when_passes units clause more buckets n e (unit_true u) = absurd (both_ways (list_any (is_among units) clause) (denied_some clause units more e).no_unit u)
 walked_when_passes units clause more buckets n e (conflict k) = walk_from_rule (map negated clause ++ units) more buckets (denied_some clause units more e).enough n k
 
-pub exact_when_met : (units clause : List ℕ) (buckets : List (List (List ℕ))) (answer : Bool) → denied units clause ≡ None → answer ≡ true → (answer ≡ true) ↔ PassesCheck units clause buckets
+pub exact_when_met : (units clause : List ℕ) (buckets : List (List (List ℕ))) (answer : Bool) → denied_in_turn units clause ≡ None → answer ≡ true → (answer ≡ true) ↔ PassesCheck units clause buckets
 exact_when_met units clause buckets answer e t = ((λ _. passes_when_true units clause buckets e), (λ _. t))
 
-pub exact_when_walked : (units clause more : List ℕ) (buckets : List (List (List ℕ))) (answer : Bool) → AllByRecursion (AllByRecursion NoRepeats) buckets → denied units clause ≡ Some more → answer ≡ walk_buckets more buckets → (answer ≡ true) ↔ PassesCheck units clause buckets
+pub exact_when_walked : (units clause more : List ℕ) (buckets : List (List (List ℕ))) (answer : Bool) → AllByRecursion (AllByRecursion NoRepeats) buckets → denied_in_turn units clause ≡ Some more → answer ≡ walk_buckets more buckets → (answer ≡ true) ↔ PassesCheck units clause buckets
 exact_when_walked units clause more buckets answer sets e w =
     ((λ t. passes_when_walked units clause more buckets sets e (sym w ∙ t)), (λ p. w ∙ walked_when_passes units clause more buckets sets e p))
 
 module _ (clause : List ℕ) (i d : ℕ) (inside : i < length clause) (assumed : List ℕ) where
-  pub denied-true : is_among assumed (get_or clause i d) ≡ true → denied assumed (drop i clause) ≡ None
+  pub denied-true : is_among assumed (get_or clause i d) ≡ true → denied_in_turn assumed (drop i clause) ≡ None
   denied-true t = rw (drop_more clause i d inside) (rw t refl)
 
-  pub denied-had : is_among assumed (get_or clause i d) ≡ false → is_among assumed (negated (get_or clause i d)) ≡ true → denied assumed (drop i clause) ≡ denied assumed (drop (i + 1) clause)
+  pub denied-had : is_among assumed (get_or clause i d) ≡ false → is_among assumed (negated (get_or clause i d)) ≡ true → denied_in_turn assumed (drop i clause) ≡ denied_in_turn assumed (drop (i + 1) clause)
   denied-had f t = rw (drop_more clause i d inside) (rw (f, t) refl)
 
-  pub denied-new : is_among assumed (get_or clause i d) ≡ false → is_among assumed (negated (get_or clause i d)) ≡ false → denied assumed (drop i clause) ≡ denied (negated (get_or clause i d) ∷ assumed) (drop (i + 1) clause)
+  pub denied-new : is_among assumed (get_or clause i d) ≡ false → is_among assumed (negated (get_or clause i d)) ≡ false → denied_in_turn assumed (drop i clause) ≡ denied_in_turn (negated (get_or clause i d) ∷ assumed) (drop (i + 1) clause)
   denied-new f t = rw (drop_more clause i d inside) (rw (f, t) refl)
 
 pub ruleset denying = (Extends-itself, Extends-more, denied-true, denied-had, denied-new)

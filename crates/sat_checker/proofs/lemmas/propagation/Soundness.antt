@@ -7,7 +7,7 @@ use Rattle.sat_base.specs.values.Clauses.{Valuation, literal_true, clause_true, 
 use Rattle.sat_checker.specs.LiteralSets.{is_among, is_tautology}
 use Rattle.sat_checker.specs.Propagation.{IsFalsified, UnitInTurn, IsSubsequence, clauses_in, PassesCheck, tautology, unit_true, conflict}
 use Rattle.sat_checker.specs.Stored.{Stored, unit_literals, long_clauses, hash_by, bucket}
-use Rattle.sat_checker.specs.Accepts.{Passes}
+use Rattle.sat_checker.specs.Accepts.{PassesByHashes}
 
 pub negated-negated : (l : ℕ) → negated (negated l) ≡ l
 negated-negated l = omega arith
@@ -138,5 +138,5 @@ buckets_hold f [] a h = tt
 buckets_hold f (k ∷ ks) a h = (EachHolds-filter a (λ c. eqb (hash_by f.solver_names f.width c) k) (long_clauses f) h, buckets_hold f ks a h)
 
 -- a clause that passes is true wherever the stored units and clauses are
-pub derived_hold : (f : Stored) (clause hashes : List ℕ) (a : Valuation) → Passes f clause hashes → EachTrue a (unit_literals f) → EachHolds a (long_clauses f) → clause_true a clause ≡ true
+pub derived_hold : (f : Stored) (clause hashes : List ℕ) (a : Valuation) → PassesByHashes f clause hashes → EachTrue a (unit_literals f) → EachHolds a (long_clauses f) → clause_true a clause ≡ true
 derived_hold f clause hashes a p u h = passed_holds (unit_literals f) clause (map (bucket f) hashes) a p u (buckets_hold f hashes a h)

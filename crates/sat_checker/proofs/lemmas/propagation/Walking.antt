@@ -4,7 +4,7 @@ use Rattle.std.proofs.lemmas.List.{drop_more, drop-drop}
 use Rattle.std.specs.Prelude.{find}
 use Rattle.sat_checker.specs.Looks.{total_length}
 use Rattle.sat_checker.specs.LiteralSets.{is_among}
-use Rattle.sat_checker.specs.inner.Look.{Extends}
+use Rattle.sat_checker.specs.inner.Look.{AssumesMore}
 use Rattle.sat_checker.specs.inner.Walk.{opens, rests, verdict, verdict_of_open, not_false, walk, walk_on, and_then, walk_buckets, if_conflict}
 
 -- a literal that a clause opens isn't assumed yet
@@ -20,10 +20,10 @@ opens_from assumed (m ∷ n ∷ ls) l e = absurd cc
 pub opens_new : (assumed clause : List ℕ) (l : ℕ) → verdict assumed clause ≡ opens l → is_among assumed l ≡ false
 opens_new assumed clause l e = opens_from assumed (not_false assumed clause) l e
 
-pub Extends-itself : (xs : List ℕ) → Extends xs xs
+pub Extends-itself : (xs : List ℕ) → AssumesMore xs xs
 Extends-itself xs = record { longer = omega arith; below = let e : length xs - length xs ≡ 0 = omega arith in rw e refl }
 
-pub Extends-more : (xs ys : List ℕ) (l : ℕ) → Extends xs ys → Extends xs (l ∷ ys)
+pub Extends-more : (xs ys : List ℕ) (l : ℕ) → AssumesMore xs ys → AssumesMore xs (l ∷ ys)
 Extends-more xs ys l h = record {
   longer = let k = h.longer in omega arith;
   below = let k : length xs ≤ length ys = h.longer in let e : suc (length ys) - length xs ≡ suc (length ys - length xs) = omega arith in rw e h.below;
@@ -67,7 +67,7 @@ module _ (literals : ℕ → List ℕ) (places : List ℕ) (i : ℕ) (inside : i
 pub looks_over : (most before left : ℕ) → before + left ≡ most → before ≤ most
 looks_over most before left h = omega arith
 
-pub Extends-further : (xs ys zs : List ℕ) → Extends xs ys → Extends ys zs → Extends xs zs
+pub Extends-further : (xs ys zs : List ℕ) → AssumesMore xs ys → AssumesMore ys zs → AssumesMore xs zs
 Extends-further xs ys zs h k =
     let p : length xs ≤ length ys = h.longer in
     let q : length ys ≤ length zs = k.longer in

@@ -10,7 +10,7 @@ use Rattle.sat_checker.specs.inner.Marks.{NoRepeats}
 use Rattle.sat_checker.specs.Propagation.{tautology, unit_true, conflict}
 use Rattle.sat_checker.specs.Stored.{Stored, Variable, Sample, Hide, unknown, is_unit, unit_literals, bucket}
 use Rattle.sat_checker.specs.Storing.{with_unit}
-use Rattle.sat_checker.specs.Accepts.{Passes, MayGetName}
+use Rattle.sat_checker.specs.Accepts.{PassesByHashes, MayGetName}
 use Rattle.sat_checker.specs.inner.Walk.{walk_buckets}
 use Rattle.sat_checker.specs.Rows.{ready_by, AllAccepted, HashesOfOneTwo, EndAlone, NamedAgain, four_clauses as four, FourClauses, Refuted, RefutedAtZero, StoredTwice, three_at_zero, NamedOnce, NamedTwice, Colliding, SolverNamesHash, UnitConflict, ConflictAndUnit}
 use Rattle.sat_checker.proofs.lemmas.propagation.Greedy.{rule_from_walk, walk_from_rule}
@@ -25,11 +25,11 @@ none_some : (n : ℕ) → None ≢ Some n
 none_some n e = cc
 
 -- a clause passes where the walk meets a conflict
-pub walked : (f : Stored) (clause hashes : List ℕ) → walk_buckets (map negated clause ++ unit_literals f) (map (bucket f) hashes) ≡ true → Passes f clause hashes
+pub walked : (f : Stored) (clause hashes : List ℕ) → walk_buckets (map negated clause ++ unit_literals f) (map (bucket f) hashes) ≡ true → PassesByHashes f clause hashes
 walked f clause hashes e = conflict (rule_from_walk (map negated clause ++ unit_literals f) (map (bucket f) hashes) e)
 
 -- and doesn't where there is nothing to pass by
-pub stuck : (f : Stored) (clause hashes : List ℕ) → is_tautology clause ≡ false → list_any (is_unit f) clause ≡ false → AllByRecursion (AllByRecursion NoRepeats) (map (bucket f) hashes) → walk_buckets (map negated clause ++ unit_literals f) (map (bucket f) hashes) ≡ false → Passes f clause hashes → ⊥
+pub stuck : (f : Stored) (clause hashes : List ℕ) → is_tautology clause ≡ false → list_any (is_unit f) clause ≡ false → AllByRecursion (AllByRecursion NoRepeats) (map (bucket f) hashes) → walk_buckets (map negated clause ++ unit_literals f) (map (bucket f) hashes) ≡ false → PassesByHashes f clause hashes → ⊥
 stuck f clause hashes t u n w (tautology e) = both_ways (is_tautology clause) t e
 stuck f clause hashes t u n w (unit_true e) = both_ways (list_any (is_unit f) clause) u e
 stuck f clause hashes t u n w (conflict k) =

@@ -6,10 +6,10 @@ use Rattle.std.proofs.lemmas.List.{get_or_append_left, get_or_at, length-append,
 use Rattle.std.proofs.lemmas.List.Sorted.{IsPermutation-swap_remove, IsPermutation-sym, Contains-permutation}
 use Rattle.std.specs.List.{swap_remove}
 use Rattle.std.specs.List.Sorted.{IsPermutation}
-use Rattle.sat_base.specs.values.Tables.{HasRoom}
+use Rattle.sat_base.specs.values.Tables.{HasPlaceFor}
 use Rattle.sat_base.proofs.lemmas.values.TableLemmas.{has_room}
 use Rattle.sat_checker.specs.LiteralSets.{is_among}
-use Rattle.sat_checker.specs.inner.LitNumbers.{number_of, number_at, ArePlaced}
+use Rattle.sat_checker.specs.inner.LitNumbers.{unless_largest, number_at, AreTrailPlaces}
 use Rattle.sat_checker.specs.inner.Marks.{NoRepeats, LosesAt}
 use Rattle.sat_checker.specs.declared.units.lit_numbers.LitNumbers.{LitNumbers}
 use Rattle.sat_checker.proofs.lemmas.sets.Canonical.{among_from_contains, contains_from_among}
@@ -52,8 +52,8 @@ lost trail rest place n at others = record { count = n; each = λ i h. go i h (e
     go i h false s = others i 0 (eqb-false i place s) (omega (arith, h, n))
 
 -- what has a number has room
-pub number_has_room : (numbers : LitNumbers) (l n : ℕ) → number_at numbers l ≡ Some n → HasRoom numbers.numbers l
-number_has_room numbers l n e = has_room (2 ^ 64 - 1) numbers.numbers l (λ s. none (number_at numbers l) (ap number_of s) e)
+pub number_has_room : (numbers : LitNumbers) (l n : ℕ) → number_at numbers l ≡ Some n → HasPlaceFor numbers.numbers l
+number_has_room numbers l n e = has_room (2 ^ 64 - 1) numbers.numbers l (λ s. none (number_at numbers l) (ap unless_largest s) e)
   where
     none : (o : Option ℕ) → o ≡ None → o ≡ Some n → ⊥
     none None h k = absurd (let w : ◌≡◌ {A = Option ℕ} None (Some n) = k in cc)
@@ -73,21 +73,21 @@ pub record Stands (places : LitNumbers) (trail : List ℕ) (l : ℕ) : Type 0 wh
   pub there : get_or trail place 0 ≡ l
   pub noted : number_at places l ≡ Some place
 
-pub stands : (places : LitNumbers) (trail : List ℕ) (l : ℕ) → ArePlaced places trail → is_among trail l ≡ true → Stands places trail l
+pub stands : (places : LitNumbers) (trail : List ℕ) (l : ℕ) → AreTrailPlaces places trail → is_among trail l ≡ true → Stands places trail l
 stands places trail l placed among =
     let c = contains_from_among trail l among in
     let there : get_or trail c.0 0 ≡ l = sym (get_or_default_zero trail c.0 l c.1) ∙ c.2 in
     record { place = c.0; inside = c.1; there = there; noted = ap (number_at places) (sym there) ∙ placed c.0 c.1 }
 
-pub stands_at : (places : LitNumbers) (trail : List ℕ) (l n : ℕ) → ArePlaced places trail → is_among trail l ≡ true → number_at places l ≡ Some n → (n < length trail) × (get_or trail n 0 ≡ l)
+pub stands_at : (places : LitNumbers) (trail : List ℕ) (l n : ℕ) → AreTrailPlaces places trail → is_among trail l ≡ true → number_at places l ≡ Some n → (n < length trail) × (get_or trail n 0 ≡ l)
 stands_at places trail l n placed among e =
     let s = stands places trail l placed among in
     let same : s.place ≡ n = same_number s.place n (sym s.noted ∙ e) in
     (subst (λ k. k < length trail) same s.inside, subst (λ k. get_or trail k 0 ≡ l) same s.there)
 
 -- the newest one gets the place of the one that is taken off
-pub placed_without : (places new : LitNumbers) (trail rest : List ℕ) (place newest : ℕ) → ArePlaced places trail → LosesAt place trail rest → newest ≡ get_or trail (length trail - 1) 0
-    → ((k : ℕ) → number_at new k ≡ cond (eqb k newest) (Some place) (number_at places k)) → ArePlaced new rest
+pub placed_without : (places new : LitNumbers) (trail rest : List ℕ) (place newest : ℕ) → AreTrailPlaces places trail → LosesAt place trail rest → newest ≡ get_or trail (length trail - 1) 0
+    → ((k : ℕ) → number_at new k ≡ cond (eqb k newest) (Some place) (number_at places k)) → AreTrailPlaces new rest
 placed_without places new trail rest place newest placed loses is numbers i inside = ap (number_at new) (loses.each i inside) ∙ go (eqb i place) refl
   where
     go : (b : Bool) → eqb i place ≡ b → number_at new (cond b (get_or trail (length trail - 1) 0) (get_or trail i 0)) ≡ Some i
@@ -106,8 +106,8 @@ placed_without places new trail rest place newest placed loses is numbers i insi
             absurd (omega (arith, n, inside, last))
 
 -- one literal more gets the last place
-pub placed_more : (places new : LitNumbers) (trail : List ℕ) (l place : ℕ) → ArePlaced places trail → is_among trail l ≡ false → place ≡ length trail → ((k : ℕ) → number_at new k ≡ cond (eqb k l) (Some place) (number_at places k))
-    → ArePlaced new (trail ++ l ∷ [])
+pub placed_more : (places new : LitNumbers) (trail : List ℕ) (l place : ℕ) → AreTrailPlaces places trail → is_among trail l ≡ false → place ≡ length trail → ((k : ℕ) → number_at new k ≡ cond (eqb k l) (Some place) (number_at places k))
+    → AreTrailPlaces new (trail ++ l ∷ [])
 placed_more places new trail l place placed fresh is numbers i inside = go (eqb i place) refl
   where
     long : length (trail ++ l ∷ []) ≡ length trail + 1

@@ -8,10 +8,10 @@ use Rattle.sat_checker.specs.LiteralSets.{is_among, mentions, canonical}
 use Rattle.sat_checker.specs.Stored.{Stored, StoredUnit, Variable}
 use Rattle.sat_checker.specs.Storing.{unit_id}
 use Rattle.sat_checker.specs.Accepts.{MayBeDeleted}
-use Rattle.sat_checker.specs.inner.LitNumbers.{number_at, ArePlaced}
+use Rattle.sat_checker.specs.inner.LitNumbers.{number_at, AreTrailPlaces}
 use Rattle.sat_checker.specs.inner.Marks.{NoRepeats}
-use Rattle.sat_checker.specs.inner.StateView.{Keeps}
-use Rattle.sat_checker.specs.inner.UnitView.{AreUnits}
+use Rattle.sat_checker.specs.inner.StateView.{KeepsStored}
+use Rattle.sat_checker.specs.inner.UnitView.{UnitsInvariant}
 use Rattle.sat_checker.specs.inner.VariablesView.{variable_of, variable_at}
 use Rattle.sat_checker.specs.declared.units.lit_numbers.LitNumbers.{LitNumbers}
 use Rattle.sat_checker.specs.declared.state.State.{State}
@@ -84,8 +84,8 @@ module _ (t : ℕ → Bool) where
       go false e false f ih = ih
 
 -- the unit of a literal is taken out
-pub unit_taken : (l : ℕ) (us : List StoredUnit) (ids new places moved : LitNumbers) (assigned rest : List ℕ) → AreUnits us ids places assigned → ((k : ℕ) → is_among rest k ≡ cond (eqb k l) false (is_among assigned k))
-    → ((k : ℕ) → number_at new k ≡ cond (eqb k l) None (number_at ids k)) → ArePlaced moved (reverse rest) → AreUnits (filter (λ u. not (eqb u.literal l)) us) new moved rest
+pub unit_taken : (l : ℕ) (us : List StoredUnit) (ids new places moved : LitNumbers) (assigned rest : List ℕ) → UnitsInvariant us ids places assigned → ((k : ℕ) → is_among rest k ≡ cond (eqb k l) false (is_among assigned k))
+    → ((k : ℕ) → number_at new k ≡ cond (eqb k l) None (number_at ids k)) → AreTrailPlaces moved (reverse rest) → UnitsInvariant (filter (λ u. not (eqb u.literal l)) us) new moved rest
 unit_taken l us ids new places moved assigned rest u among numbers placed = record {
   assumed = λ k.
       among k ∙ ap (cond (eqb k l) false) (u.assumed k) ∙ both (eqb k l) (is_among literals k)
@@ -159,7 +159,7 @@ mentions_set ls v = implies_same (mentions (canonical ls) v) (mentions ls v)
     (λ h. let s = some_of (λ l. eqb (variable l) v) ls h in any_true (λ l. eqb (variable l) v) (canonical ls) s.literal (canonical_among ls s.literal ∙ s.within) s.passes)
 
 -- whether a variable may be deleted
-module _ (state : State) (f : Stored) (k : Keeps state f) (v : ℕ) where
+module _ (state : State) (f : Stored) (k : KeepsStored state f) (v : ℕ) where
   pub assumed_same : mentions state.assumed v ≡ mentions f.assumed v
   assumed_same = ap (λ xs. mentions xs v) k.assumed ∙ mentions_set f.assumed v
 

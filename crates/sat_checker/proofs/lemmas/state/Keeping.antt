@@ -8,8 +8,8 @@ use Rattle.sat_checker.specs.Stored.{Stored, Variable, Sample, mode_of}
 use Rattle.sat_checker.specs.Storing.{settled, with_stored, with_input, with_literals_known, with_solver_name, with_known}
 use Rattle.sat_checker.specs.Accepts.{effect, IsStrictSubset}
 use Rattle.sat_checker.specs.Spent.{IsSpent}
-use Rattle.sat_checker.specs.inner.FormulaView.{KeepsFormula, refiled_in, TurnsBehind, Turns}
-use Rattle.sat_checker.specs.inner.StateView.{Keeps, with_added}
+use Rattle.sat_checker.specs.inner.FormulaView.{KeepsFormula, refiled_in, TurnsBehind, KeepsOrSpends}
+use Rattle.sat_checker.specs.inner.StateView.{KeepsStored, with_added}
 use Rattle.sat_checker.specs.inner.VariablesView.{KeepsVariables, AreSampling}
 use Rattle.sat_checker.specs.declared.store.StoreError.{StoreError}
 use Rattle.sat_checker.specs.declared.store.StoreError.TheVariants.{OutOfMemory, CounterEnd}
@@ -21,10 +21,10 @@ use Rattle.sat_checker.proofs.lemmas.state.Scanning.{same_part}
 use Rattle.sat_checker.proofs.lemmas.meaning.Names.{SameVariables, stored_same, settled_same}
 
 -- an error is handed on
-pub decides_err : {T : Type 0} (first : Result T StoreError) (result : Result Bool StoreError) (d e : StoreError) → first ≡ Err e → result ≡ Err d → d ≡ e → (K J A L : Type 0) (g h : Stored) → J → A → (IsSpent g → IsSpent h) → Turns first K g → TurnsBehind result J A L h
-decides_err {T = T} first result d e a b s K J A L g h j p w t = subst (λ x. TurnsBehind x J A L h) (sym (b ∙ ap Err s)) (go e (subst (λ x. Turns x K g) a t))
+pub decides_err : {T : Type 0} (first : Result T StoreError) (result : Result Bool StoreError) (d e : StoreError) → first ≡ Err e → result ≡ Err d → d ≡ e → (K J A L : Type 0) (g h : Stored) → J → A → (IsSpent g → IsSpent h) → KeepsOrSpends first K g → TurnsBehind result J A L h
+decides_err {T = T} first result d e a b s K J A L g h j p w t = subst (λ x. TurnsBehind x J A L h) (sym (b ∙ ap Err s)) (go e (subst (λ x. KeepsOrSpends x K g) a t))
   where
-    go : (e : StoreError) → Turns {T = T} (Err e) K g → TurnsBehind (Err e) J A L h
+    go : (e : StoreError) → KeepsOrSpends {T = T} (Err e) K g → TurnsBehind (Err e) J A L h
     go OutOfMemory t = j
     go CounterEnd t = (p, w t)
 
@@ -33,34 +33,34 @@ sampling_kept vs f [] k h = tt
 sampling_kept vs f (l ∷ ls) k h = (sym (ap (λ (x : Variable). x.mode) (k.each (variable l))) ∙ h.0, sampling_kept vs f ls k h.1)
 
 -- what is kept says more
-pub turns_then : {T : Type 0} (result : Result T StoreError) (K L : Type 0) (g : Stored) → (K → L) → Turns result K g → Turns result L g
+pub turns_then : {T : Type 0} (result : Result T StoreError) (K L : Type 0) (g : Stored) → (K → L) → KeepsOrSpends result K g → KeepsOrSpends result L g
 turns_then (Ok x) K L g f k = f k
 turns_then (Err OutOfMemory) K L g f k = tt
 turns_then (Err CounterEnd) K L g f k = k
 
 -- a clause that was derived
 pub derived : (new : State) (f : Stored) (r : Bool) (c : List ℕ) → KeepsFormula new.formula (with_stored r c (with_literals_known c f)) → KeepsVariables new.variables (with_literals_known c f).variables → new.assumed ≡ canonical f.assumed
-    → Keeps new (with_stored r c (with_literals_known c f))
+    → KeepsStored new (with_stored r c (with_literals_known c f))
 derived new f r c F V a = let s = stored_same r c (with_literals_known c f) in record { formula = loosened new.formula (with_stored r c (with_literals_known c f)) F; variables = subst (KeepsVariables new.variables) (sym s.variables) V; assumed = a ∙ ap canonical (sym s.assumed) }
 
 -- a clause of the formula
-pub input_kept : (new : State) (f : Stored) (c : List ℕ) → KeepsFormula new.formula (with_input c (with_literals_known c f)) → KeepsVariables new.variables (with_literals_known c f).variables → new.assumed ≡ canonical f.assumed → Keeps new (with_added c f)
+pub input_kept : (new : State) (f : Stored) (c : List ℕ) → KeepsFormula new.formula (with_input c (with_literals_known c f)) → KeepsVariables new.variables (with_literals_known c f).variables → new.assumed ≡ canonical f.assumed → KeepsStored new (with_added c f)
 input_kept new f c F V a =
     let s = stored_same false c (with_literals_known c f) in record { formula = loosened new.formula (with_input c (with_literals_known c f)) F; variables = subst (KeepsVariables new.variables) (sym s.variables) V; assumed = a ∙ ap canonical (sym s.assumed) }
 
-pub added : (new : State) (f : Stored) (c : List ℕ) → f.unsat ≡ false → Keeps new (with_added c f) → Keeps new (effect (AddClause c) f)
-added new f c e k = subst (λ b. Keeps new (cond b f (with_added c f))) (sym e) k
+pub added : (new : State) (f : Stored) (c : List ℕ) → f.unsat ≡ false → KeepsStored new (with_added c f) → KeepsStored new (effect (AddClause c) f)
+added new f c e k = subst (λ b. KeepsStored new (cond b f (with_added c f))) (sym e) k
 
 pub added_spent : (f : Stored) (c : List ℕ) → f.unsat ≡ false → IsSpent (with_added c f) → IsSpent (effect (AddClause c) f)
 added_spent f c e k = subst (λ b. IsSpent (cond b f (with_added c f))) (sym e) k
 
 -- a solver name
 pub renamed : (new : State) (f : Stored) (v : ℕ) (name : Option ℕ) (n : ℕ) → name ≡ Some n → KeepsFormula (refiled_in new.formula) (with_solver_name v (Some n) f) → KeepsVariables new.variables (with_known (v ∷ []) f).variables → new.assumed ≡ canonical f.assumed
-    → Keeps new (effect (SolverVarName v name) f)
-renamed new f v name n e F V a = subst (λ o. Keeps new (effect (SolverVarName v o) f)) (sym e) (record { formula = F; variables = V; assumed = a })
+    → KeepsStored new (effect (SolverVarName v name) f)
+renamed new f v name n e F V a = subst (λ o. KeepsStored new (effect (SolverVarName v o) f)) (sym e) (record { formula = F; variables = V; assumed = a })
 
-pub unnamed : (new : State) (f : Stored) (v : ℕ) (name : Option ℕ) → name ≡ None → KeepsFormula (refiled_in new.formula) (with_solver_name v None f) → KeepsVariables new.variables f.variables → new.assumed ≡ canonical f.assumed → Keeps new (effect (SolverVarName v name) f)
-unnamed new f v name e F V a = subst (λ o. Keeps new (effect (SolverVarName v o) f)) (sym e) (record { formula = F; variables = V; assumed = a })
+pub unnamed : (new : State) (f : Stored) (v : ℕ) (name : Option ℕ) → name ≡ None → KeepsFormula (refiled_in new.formula) (with_solver_name v None f) → KeepsVariables new.variables f.variables → new.assumed ≡ canonical f.assumed → KeepsStored new (effect (SolverVarName v name) f)
+unnamed new f v name e F V a = subst (λ o. KeepsStored new (effect (SolverVarName v o) f)) (sym e) (record { formula = F; variables = V; assumed = a })
 
 -- the last irredundant clause, beside a clause or its sorted literals
 pub strict_on : (o : Option (List ℕ)) (c ls : List ℕ) → ls ≡ canonical c → IsStrictSubset o c → IsStrictSubset o ls
@@ -82,7 +82,7 @@ deletion_same f c Redundant = record { variables = refl; deleted = refl; assumed
 deletion_same f c Satisfied = record { variables = refl; deleted = refl; assumed = refl }
 deletion_same f c Simplified = record { variables = refl; deleted = refl; assumed = refl }
 
-pub deleted_kept : (old new : State) (f : Stored) (c : List ℕ) (p : Deletion) → Keeps old f → KeepsFormula new.formula (effect (DeleteClause c p) f) → new.variables ≡ old.variables → new.assumed ≡ old.assumed → Keeps new (effect (DeleteClause c p) f)
+pub deleted_kept : (old new : State) (f : Stored) (c : List ℕ) (p : Deletion) → KeepsStored old f → KeepsFormula new.formula (effect (DeleteClause c p) f) → new.variables ≡ old.variables → new.assumed ≡ old.assumed → KeepsStored new (effect (DeleteClause c p) f)
 deleted_kept old new f c p k F v a = let s = deletion_same f c p in record {
   formula = loosened new.formula (effect (DeleteClause c p) f) F;
   variables = subst (λ vs. KeepsVariables vs (effect (DeleteClause c p) f).variables) (sym v) (subst (KeepsVariables old.variables) (sym s.variables) k.variables);
@@ -90,7 +90,7 @@ deleted_kept old new f c p k F v a = let s = deletion_same f c p in record {
 }
 
 -- what a step answers behind a settled conflict
-pub settled_kept : (old new : State) (f : Stored) → Keeps old f → KeepsFormula (refiled_in new.formula) (settled f) → new.variables ≡ old.variables → new.assumed ≡ old.assumed → Keeps new (settled f)
+pub settled_kept : (old new : State) (f : Stored) → KeepsStored old f → KeepsFormula (refiled_in new.formula) (settled f) → new.variables ≡ old.variables → new.assumed ≡ old.assumed → KeepsStored new (settled f)
 settled_kept old new f k F v a = let s = settled_same f in record {
   formula = F;
   variables = subst (λ vs. KeepsVariables vs (settled f).variables) (sym v) (subst (KeepsVariables old.variables) (sym s.variables) k.variables);

@@ -9,9 +9,9 @@ use Rattle.sat_checker.specs.Looks.{literal_count}
 use Rattle.sat_checker.specs.Spent.{IsSpent}
 use Rattle.sat_checker.specs.Stored.{Stored, is_unit}
 use Rattle.sat_checker.specs.Storing.{with_unit, with_contradiction, with_new_unit, with_units, with_known, with_literals_known}
-use Rattle.sat_checker.specs.Accepts.{Passes, PassInTurn, effect}
+use Rattle.sat_checker.specs.Accepts.{PassesByHashes, PassInTurn, effect}
 use Rattle.sat_checker.specs.inner.FormulaView.{KeepsFormula, TurnsIf}
-use Rattle.sat_checker.specs.inner.StateView.{Keeps}
+use Rattle.sat_checker.specs.inner.StateView.{KeepsStored}
 use Rattle.sat_checker.specs.inner.VariablesView.{KeepsVariables}
 use Rattle.sat_checker.specs.declared.store.StoreError.{StoreError}
 use Rattle.sat_checker.specs.declared.store.StoreError.TheVariants.{OutOfMemory, CounterEnd}
@@ -60,7 +60,7 @@ module _ (F : Formula) (f : Stored) (all : List (ℕ × ℕ)) (i : ℕ) (u : ℕ
   split : drop i all ≡ u ∷ drop (i + 1) all
   split = drop_more all i u inside ∙ ap (λ x. x ∷ drop (i + 1) all) (sym is)
 
-  pub passed : (G : Formula) → Passes left.now (u.0 ∷ []) (u.1 ∷ []) → KeepsFormula G (with_unit u.0 left.now) → Left G f all (drop (i + 1) all)
+  pub passed : (G : Formula) → PassesByHashes left.now (u.0 ∷ []) (u.1 ∷ []) → KeepsFormula G (with_unit u.0 left.now) → Left G f all (drop (i + 1) all)
   passed G p k = record {
     now = with_unit u.0 left.now;
     kept = k;
@@ -70,13 +70,13 @@ module _ (F : Formula) (f : Stored) (all : List (ℕ × ℕ)) (i : ℕ) (u : ℕ
     count = count_unit u.0 left.now ∙ left.count;
   }
 
-  pub behind_it : PassInTurn (with_unit u.0 left.now) (drop (i + 1) all) → Passes left.now (u.0 ∷ []) (u.1 ∷ []) → PassInTurn f all
+  pub behind_it : PassInTurn (with_unit u.0 left.now) (drop (i + 1) all) → PassesByHashes left.now (u.0 ∷ []) (u.1 ∷ []) → PassInTurn f all
   behind_it q p = left.on (subst (PassInTurn left.now) (sym split) (p, q))
 
   pub back_behind : PassInTurn f all → PassInTurn (with_unit u.0 left.now) (drop (i + 1) all)
   back_behind q = (subst (PassInTurn left.now) split (left.back q)).1
 
-  pub stopped : (Passes left.now (u.0 ∷ []) (u.1 ∷ []) → ⊥) → PassInTurn f all → ⊥
+  pub stopped : (PassesByHashes left.now (u.0 ∷ []) (u.1 ∷ []) → ⊥) → PassInTurn f all → ⊥
   stopped n q = n (subst (PassInTurn left.now) split (left.back q)).0
 
   pub spent_then : IsSpent (with_unit u.0 left.now) → IsSpent (with_units (firsts all) f)
@@ -116,10 +116,10 @@ pub known_units : (vs ls : List ℕ) (f : Stored) → with_units ls (with_known 
 known_units vs [] f = refl
 known_units vs (l ∷ ls) f = ap (with_units ls) (known_unit vs l f) ∙ known_units vs ls (with_unit l f)
 
-pub units_stored : (new : State) (f : Stored) (us : List (ℕ × ℕ)) → KeepsFormula new.formula (with_units (firsts us) f) → KeepsVariables new.variables (with_literals_known (firsts us) f).variables → new.assumed ≡ canonical f.assumed → Keeps new (effect (UnitClauses us) f)
+pub units_stored : (new : State) (f : Stored) (us : List (ℕ × ℕ)) → KeepsFormula new.formula (with_units (firsts us) f) → KeepsVariables new.variables (with_literals_known (firsts us) f).variables → new.assumed ≡ canonical f.assumed → KeepsStored new (effect (UnitClauses us) f)
 units_stored new f us F V a =
     let s = units_same (firsts us) f in
-    subst (Keeps new) (sym (known_units (map variable (firsts us)) (firsts us) f)) (record {
+    subst (KeepsStored new) (sym (known_units (map variable (firsts us)) (firsts us) f)) (record {
       formula = loosened new.formula (with_units (firsts us) f) F;
       variables = subst (λ g. KeepsVariables new.variables (with_literals_known (firsts us) (record f { variables = g })).variables) (sym s.variables) V;
       assumed = a ∙ ap canonical (sym s.assumed);

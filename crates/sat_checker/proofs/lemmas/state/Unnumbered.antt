@@ -3,7 +3,7 @@ use Rattle.std.proofs.Common.{ℕ, ◌≡◌, ◌↔◌, Bool, true, List, map, 
 use Rattle.sat_checker.specs.Looks.{literal_count}
 use Rattle.sat_checker.specs.Propagation.{PassesCheck}
 use Rattle.sat_checker.specs.Stored.{Stored, StoredUnit, bucket}
-use Rattle.sat_checker.specs.Accepts.{Passes, PassInTurn}
+use Rattle.sat_checker.specs.Accepts.{PassesByHashes, PassInTurn}
 use Rattle.sat_checker.specs.inner.FormulaView.{ChecksAs, KeepsFormula}
 use Rattle.sat_checker.specs.inner.StoreView.{KeepsClauses}
 use Rattle.sat_checker.specs.declared.formula.Formula.{Formula}
@@ -19,7 +19,7 @@ kept_beside F G f e k = subst (λ H. KeepsFormula H f) (sym e) (record { clauses
 under : Formula → Stored → Stored
 under F f = record f { units = F.units }
 
-passes_under : (F : Formula) (f : Stored) (clause hashes : List ℕ) → ChecksAs F f → (b : Bool) → (b ≡ true) ↔ Passes (under F f) clause hashes → (b ≡ true) ↔ Passes f clause hashes
+passes_under : (F : Formula) (f : Stored) (clause hashes : List ℕ) → ChecksAs F f → (b : Bool) → (b ≡ true) ↔ PassesByHashes (under F f) clause hashes → (b ≡ true) ↔ PassesByHashes f clause hashes
 unfolding under
 passes_under F f clause hashes a b h = subst (λ us. (b ≡ true) ↔ PassesCheck us clause (map (bucket f) hashes)) a.units h
 
@@ -31,8 +31,8 @@ units_under : (F : Formula) (f : Stored) → F.units ≡ (under F f).units
 unfolding under
 units_under F f = refl
 
-pub checked_as : {E : Type 0} (r : Result Bool E) (F : Formula) (clause hashes : List ℕ) → IfOk r (λ b. (f : Stored) → KeepsClauses F.store f → F.units ≡ f.units → (b ≡ true) ↔ Passes f clause hashes)
-    → IfOk r (λ b. (f : Stored) → ChecksAs F f → (b ≡ true) ↔ Passes f clause hashes)
+pub checked_as : {E : Type 0} (r : Result Bool E) (F : Formula) (clause hashes : List ℕ) → IfOk r (λ b. (f : Stored) → KeepsClauses F.store f → F.units ≡ f.units → (b ≡ true) ↔ PassesByHashes f clause hashes)
+    → IfOk r (λ b. (f : Stored) → ChecksAs F f → (b ≡ true) ↔ PassesByHashes f clause hashes)
 checked_as (Ok b) F clause hashes h = λ f a. passes_under F f clause hashes a b (h (under F f) (keeps_under F f a.clauses) (units_under F f))
 checked_as (Err e) F clause hashes h = tt
 

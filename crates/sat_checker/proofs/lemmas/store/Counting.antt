@@ -7,7 +7,7 @@ use Rattle.sat_checker.specs.Stored.{StoredClause, hash_by}
 use Rattle.sat_checker.specs.Storing.{with_count, without_count}
 use Rattle.sat_checker.specs.inner.Marks.{IsIncreasing}
 use Rattle.sat_checker.specs.inner.OccurrenceView.{times_in, times_stored}
-use Rattle.sat_checker.specs.inner.SlotView.{Slot, stored_slot, slot_at, literals_at, all_lits, count_of, is_gone, with_count_at, without_count_at, all_hashed_by}
+use Rattle.sat_checker.specs.inner.SlotView.{Slot, stored_slot, slot_at, literals_at, all_lits, slot_count, is_gone, with_count_at, without_count_at, all_hashed_by}
 use Rattle.sat_checker.proofs.lemmas.sets.Marks.{below_all}
 use Rattle.sat_checker.proofs.lemmas.store.Places.{gone_more, gone_not}
 
@@ -55,7 +55,7 @@ module _ (l : ℕ) where
       omega (arith, e, a, b)
 
   -- a count less of one that stays, and of one that is gone then
-  module _ (r : Bool) (i : ℕ) (ss : List Slot) (k : i < length ss) (g : 0 < count_of r (slot_at ss i)) where
+  module _ (r : Bool) (i : ℕ) (ss : List Slot) (k : i < length ss) (g : 0 < slot_count r (slot_at ss i)) where
     abbrev left : Slot
     left = record { clause = without_count r (slot_at ss i).clause; hash = (slot_at ss i).hash }
 

@@ -10,9 +10,9 @@ use Rattle.sat_checker.specs.Storing.{with_count, without_count}
 use Rattle.sat_checker.specs.inner.Marks.{IsIncreasing}
 use Rattle.sat_checker.specs.inner.IndexView.{Files, pairs_from, pairs_of}
 use Rattle.sat_checker.specs.inner.PairView.{Indexed, places_in, mixed}
-use Rattle.sat_checker.specs.inner.OccurrenceView.{times_in, times_stored, AreKept}
-use Rattle.sat_checker.specs.inner.SlotView.{Slot, unstored, slot_at, stored_slot, is_gone, is_filed, places_from, gone_count, standing, MayDrop, live, slot_ids, count_of, with_count_at, without_count_at, all_hashed_by}
-use Rattle.sat_checker.specs.inner.StoreView.{AreHashed, KeepsClauses, AreIds, KeepsIds}
+use Rattle.sat_checker.specs.inner.OccurrenceView.{times_in, times_stored, SlotsInvariant}
+use Rattle.sat_checker.specs.inner.SlotView.{Slot, unstored, slot_at, stored_slot, is_gone, is_filed, places_from, gone_count, slots_present, MayDrop, live, slot_ids, slot_count, with_count_at, without_count_at, all_hashed_by}
+use Rattle.sat_checker.specs.inner.StoreView.{AreHashed, KeepsClauses, AreIdsInOrder, KeepsIds}
 use Rattle.sat_checker.specs.declared.hash.ClauseHasher.{ClauseHasher}
 use Rattle.sat_checker.specs.declared.store.occurrences.Occurrences.{Occurrences}
 use Rattle.sat_checker.specs.declared.store.Store.{Store}
@@ -50,7 +50,7 @@ gone_counted r i old ss new is l g e =
     ap gone_count (e ∙ ap (with_count_at r i) is) ∙ d ∙ ap gone_count (sym is)
 
 -- a count less
-module _ (old ss new : List Slot) (r : Bool) (i : ℕ) (is : old ≡ ss) (l : i < length ss) (c : 0 < count_of r (slot_at ss i)) (e : new ≡ without_count_at r i old) where
+module _ (old ss new : List Slot) (r : Bool) (i : ℕ) (is : old ≡ ss) (l : i < length ss) (c : 0 < slot_count r (slot_at ss i)) (e : new ≡ without_count_at r i old) where
   abbrev left : Slot
   left = record (slot_at ss i) { clause = without_count r (slot_at ss i).clause }
 
@@ -102,56 +102,56 @@ gone_hashed names width ss new e = ap gone_count e ∙ all ss
     all (x ∷ xs) = let h = one_if _ _ (one (is_gone x) x refl) in let ih = all xs in omega (arith, h, ih)
 
 -- once they are dropped
-pub none_gone : (ss : List Slot) → gone_count (standing ss) ≡ zero
+pub none_gone : (ss : List Slot) → gone_count (slots_present ss) ≡ zero
 none_gone [] = refl
 none_gone (s ∷ ss) = go (is_gone s) refl (none_gone ss)
   where
-    go : (b : Bool) → is_gone s ≡ b → gone_count (standing ss) ≡ zero → gone_count (cond (not b) (s ∷ standing ss) (standing ss)) ≡ zero
+    go : (b : Bool) → is_gone s ≡ b → gone_count (slots_present ss) ≡ zero → gone_count (cond (not b) (s ∷ slots_present ss) (slots_present ss)) ≡ zero
     go true g ih = ih
     go false g ih = let a = one_if (is_gone s) false g in omega (arith, a, ih)
 
-live_standing : (ss : List Slot) → live (standing ss) ≡ live ss
+live_standing : (ss : List Slot) → live (slots_present ss) ≡ live ss
 live_standing [] = refl
 live_standing (s ∷ ss) = go (is_gone s) refl (live_standing ss)
   where
-    go : (b : Bool) → is_gone s ≡ b → live (standing ss) ≡ live ss → live (cond (not b) (s ∷ standing ss) (standing ss)) ≡ cond b [] (s.clause ∷ []) ++ live ss
+    go : (b : Bool) → is_gone s ≡ b → live (slots_present ss) ≡ live ss → live (cond (not b) (s ∷ slots_present ss) (slots_present ss)) ≡ cond b [] (s.clause ∷ []) ++ live ss
     go true g ih = ih
-    go false g ih = ap (λ b. cond b [] (s.clause ∷ []) ++ live (standing ss)) g ∙ ap (λ cs. s.clause ∷ cs) ih
+    go false g ih = ap (λ b. cond b [] (s.clause ∷ []) ++ live (slots_present ss)) g ∙ ap (λ cs. s.clause ∷ cs) ih
 
-hashed_standing : (h : ClauseHasher) (ss : List Slot) → AreHashed h ss → AreHashed h (standing ss)
+hashed_standing : (h : ClauseHasher) (ss : List Slot) → AreHashed h ss → AreHashed h (slots_present ss)
 hashed_standing h [] k = tt
 hashed_standing h (s ∷ ss) k = go (is_gone s) (hashed_standing h ss k.1)
   where
-    go : (b : Bool) → AreHashed h (standing ss) → AreHashed h (cond (not b) (s ∷ standing ss) (standing ss))
+    go : (b : Bool) → AreHashed h (slots_present ss) → AreHashed h (cond (not b) (s ∷ slots_present ss) (slots_present ss))
     go true ih = ih
     go false ih = (k.0, ih)
 
-times_standing : (l : ℕ) (ss : List Slot) → times_stored l (standing ss) ≡ times_stored l ss
+times_standing : (l : ℕ) (ss : List Slot) → times_stored l (slots_present ss) ≡ times_stored l ss
 times_standing l [] = refl
 times_standing l (s ∷ ss) = go (is_gone s) refl (times_standing l ss)
   where
-    go : (b : Bool) → is_gone s ≡ b → times_stored l (standing ss) ≡ times_stored l ss → times_stored l (cond (not b) (s ∷ standing ss) (standing ss)) ≡ cond b 0 (times_in l s.clause.literals) + times_stored l ss
-    go true g ih = let a : times_stored l (standing ss) ≡ 0 + times_stored l ss = omega (arith, ih) in a
-    go false g ih = ap (λ b. cond b 0 (times_in l s.clause.literals) + times_stored l (standing ss)) g ∙ ap (λ n. times_in l s.clause.literals + n) ih
+    go : (b : Bool) → is_gone s ≡ b → times_stored l (slots_present ss) ≡ times_stored l ss → times_stored l (cond (not b) (s ∷ slots_present ss) (slots_present ss)) ≡ cond b 0 (times_in l s.clause.literals) + times_stored l ss
+    go true g ih = let a : times_stored l (slots_present ss) ≡ 0 + times_stored l ss = omega (arith, ih) in a
+    go false g ih = ap (λ b. cond b 0 (times_in l s.clause.literals) + times_stored l (slots_present ss)) g ∙ ap (λ n. times_in l s.clause.literals + n) ih
 
-each_standing : (P : ℕ → Type 0) (ss : List Slot) → AllByRecursion P (slot_ids ss) → AllByRecursion P (slot_ids (standing ss))
+each_standing : (P : ℕ → Type 0) (ss : List Slot) → AllByRecursion P (slot_ids ss) → AllByRecursion P (slot_ids (slots_present ss))
 each_standing P [] h = tt
 each_standing P (s ∷ ss) h = go (is_gone s) (each_standing P ss h.1)
   where
-    go : (b : Bool) → AllByRecursion P (slot_ids (standing ss)) → AllByRecursion P (slot_ids (cond (not b) (s ∷ standing ss) (standing ss)))
+    go : (b : Bool) → AllByRecursion P (slot_ids (slots_present ss)) → AllByRecursion P (slot_ids (cond (not b) (s ∷ slots_present ss) (slots_present ss)))
     go true ih = ih
     go false ih = (h.0, ih)
 
-rising_standing : (ss : List Slot) → IsIncreasing (slot_ids ss) → IsIncreasing (slot_ids (standing ss))
+rising_standing : (ss : List Slot) → IsIncreasing (slot_ids ss) → IsIncreasing (slot_ids (slots_present ss))
 rising_standing [] h = tt
 rising_standing (s ∷ ss) h = go (is_gone s) (rising_standing ss h.1)
   where
-    go : (b : Bool) → IsIncreasing (slot_ids (standing ss)) → IsIncreasing (slot_ids (cond (not b) (s ∷ standing ss) (standing ss)))
+    go : (b : Bool) → IsIncreasing (slot_ids (slots_present ss)) → IsIncreasing (slot_ids (cond (not b) (s ∷ slots_present ss) (slots_present ss)))
     go true ih = ih
     go false ih = (each_standing (λ m. s.clause.id < m) ss h.0, ih)
 
 -- what is kept beside the slots
-pub kept_standing : (ss new : List Slot) (index next : Indexed) (o : Occurrences) → AreKept ss index o → new ≡ standing ss → Files next (standing ss) → AreKept new next o
+pub kept_standing : (ss new : List Slot) (index next : Indexed) (o : Occurrences) → SlotsInvariant ss index o → new ≡ slots_present ss → Files next (slots_present ss) → SlotsInvariant new next o
 kept_standing ss new index next o k e f = record {
   files = subst (Files next) (sym e) f;
   counted = λ l. k.counted l ∙ sym (times_standing l ss) ∙ ap (times_stored l) (sym e);
@@ -173,9 +173,9 @@ keeps_dropped store new f (inr e) k = record {
 }
 
 pub ids_dropped : (old new : List Slot) → MayDrop old new → KeepsIds old new
-ids_dropped old new (inl e) n h = subst (λ ss. AreIds (slot_ids ss) n) (sym e) h
+ids_dropped old new (inl e) n h = subst (λ ss. AreIdsInOrder (slot_ids ss) n) (sym e) h
 ids_dropped old new (inr e) n h =
-    subst (λ ss. AreIds (slot_ids ss) n) (sym e) (record { increasing = rising_standing old h.increasing; below = each_standing (λ i. i < n) old h.below })
+    subst (λ ss. AreIdsInOrder (slot_ids ss) n) (sym e) (record { increasing = rising_standing old h.increasing; below = each_standing (λ i. i < n) old h.below })
 
 pub take_whole : (ts : List Slot) (j : ℕ) → length ts ≤ j → take j ts ≡ ts
 take_whole [] zero k = refl
@@ -184,45 +184,45 @@ take_whole (t ∷ ts) zero k = absurd (omega arith)
 take_whole (t ∷ ts) (suc j) k = ap (λ us. t ∷ us) (take_whole ts j (omega arith))
 
 -- those that aren't gone, up to a place
-standing_next : (ss : List Slot) (i : ℕ) → i < length ss → standing (take (i + 1) ss) ≡ standing (take i ss) ++ cond (not (is_gone (slot_at ss i))) (slot_at ss i ∷ []) []
+standing_next : (ss : List Slot) (i : ℕ) → i < length ss → slots_present (take (i + 1) ss) ≡ slots_present (take i ss) ++ cond (not (is_gone (slot_at ss i))) (slot_at ss i ∷ []) []
 standing_next ss i l = filter_more (λ s. not (is_gone s)) ss i (unstored 0 0 []) l
 
-pub standing_skip : (old mid ss : List Slot) (i : ℕ) → i < length ss → is_gone (slot_at ss i) ≡ true → mid ≡ old ++ standing (take i ss) → mid ≡ old ++ standing (take (i + 1) ss)
+pub standing_skip : (old mid ss : List Slot) (i : ℕ) → i < length ss → is_gone (slot_at ss i) ≡ true → mid ≡ old ++ slots_present (take i ss) → mid ≡ old ++ slots_present (take (i + 1) ss)
 standing_skip old mid ss i l g e =
-    e ∙ ap (λ xs. old ++ xs) (sym (standing_next ss i l ∙ ap (λ b. standing (take i ss) ++ cond (not b) (slot_at ss i ∷ []) []) g ∙ append-nil (standing (take i ss))))
+    e ∙ ap (λ xs. old ++ xs) (sym (standing_next ss i l ∙ ap (λ b. slots_present (take i ss) ++ cond (not b) (slot_at ss i ∷ []) []) g ∙ append-nil (slots_present (take i ss))))
 
-pub standing_put : (old mid new ss : List Slot) (i : ℕ) (s : Slot) → i < length ss → is_gone (slot_at ss i) ≡ false → s ≡ slot_at ss i → mid ≡ old ++ standing (take i ss) → new ≡ mid ++ s ∷ [] → new ≡ old ++ standing (take (i + 1) ss)
+pub standing_put : (old mid new ss : List Slot) (i : ℕ) (s : Slot) → i < length ss → is_gone (slot_at ss i) ≡ false → s ≡ slot_at ss i → mid ≡ old ++ slots_present (take i ss) → new ≡ mid ++ s ∷ [] → new ≡ old ++ slots_present (take (i + 1) ss)
 standing_put old mid new ss i s l n same e w =
-    w ∙ ap (λ xs. xs ++ s ∷ []) e ∙ append_assoc old (standing (take i ss)) (s ∷ [])
-    ∙ ap (λ xs. old ++ xs) (ap (λ x. standing (take i ss) ++ x ∷ []) same ∙ sym (standing_next ss i l ∙ ap (λ b. standing (take i ss) ++ cond (not b) (slot_at ss i ∷ []) []) n))
+    w ∙ ap (λ xs. xs ++ s ∷ []) e ∙ append_assoc old (slots_present (take i ss)) (s ∷ [])
+    ∙ ap (λ xs. old ++ xs) (ap (λ x. slots_present (take i ss) ++ x ∷ []) same ∙ sym (standing_next ss i l ∙ ap (λ b. slots_present (take i ss) ++ cond (not b) (slot_at ss i ∷ []) []) n))
 
-pub standing_all : (old mid ss : List Slot) (i : ℕ) → length ss ≤ i → mid ≡ old ++ standing (take i ss) → mid ≡ old ++ standing ss
-standing_all old mid ss i l e = e ∙ ap (λ xs. old ++ standing xs) (take_whole ss i l)
+pub standing_all : (old mid ss : List Slot) (i : ℕ) → length ss ≤ i → mid ≡ old ++ slots_present (take i ss) → mid ≡ old ++ slots_present ss
+standing_all old mid ss i l e = e ∙ ap (λ xs. old ++ slots_present xs) (take_whole ss i l)
 
 -- the pairs of those that aren't gone, up to a place, by the places that they will have
-count_listed : (k : ℕ) (ss : List Slot) → length (pairs_from k (standing ss)) ≡ length (standing ss)
+count_listed : (k : ℕ) (ss : List Slot) → length (pairs_from k (slots_present ss)) ≡ length (slots_present ss)
 count_listed k [] = refl
 count_listed k (s ∷ ss) = go (is_gone s) refl (λ n. count_listed n ss)
   where
-    go : (b : Bool) → is_gone s ≡ b → ((n : ℕ) → length (pairs_from n (standing ss)) ≡ length (standing ss)) → length (pairs_from k (cond (not b) (s ∷ standing ss) (standing ss))) ≡ length (cond (not b) (s ∷ standing ss) (standing ss))
+    go : (b : Bool) → is_gone s ≡ b → ((n : ℕ) → length (pairs_from n (slots_present ss)) ≡ length (slots_present ss)) → length (pairs_from k (cond (not b) (s ∷ slots_present ss) (slots_present ss))) ≡ length (cond (not b) (s ∷ slots_present ss) (slots_present ss))
     go true g ih = ih k
-    go false g ih = ap (λ b. length (cond b (pairs_from (k + 1) (standing ss)) ((record { hash = mixed s.hash; place = k }) ∷ pairs_from (k + 1) (standing ss)))) g ∙ ap suc (ih (k + 1))
+    go false g ih = ap (λ b. length (cond b (pairs_from (k + 1) (slots_present ss)) ((record { hash = mixed s.hash; place = k }) ∷ pairs_from (k + 1) (slots_present ss)))) g ∙ ap suc (ih (k + 1))
 
-pub listed_skip : (ps : List Pair) (ss : List Slot) (i : ℕ) → i < length ss → is_gone (slot_at ss i) ≡ true → ps ≡ pairs_of (standing (take i ss)) → ps ≡ pairs_of (standing (take (i + 1) ss))
-listed_skip ps ss i l g e = e ∙ ap pairs_of (standing_skip [] (standing (take i ss)) ss i l g refl)
+pub listed_skip : (ps : List Pair) (ss : List Slot) (i : ℕ) → i < length ss → is_gone (slot_at ss i) ≡ true → ps ≡ pairs_of (slots_present (take i ss)) → ps ≡ pairs_of (slots_present (take (i + 1) ss))
+listed_skip ps ss i l g e = e ∙ ap pairs_of (standing_skip [] (slots_present (take i ss)) ss i l g refl)
 
-pub listed_put : (ps new : List Pair) (ss : List Slot) (i hash next : ℕ) → i < length ss → is_gone (slot_at ss i) ≡ false → hash ≡ mixed (slot_at ss i).hash → next ≡ length ps → ps ≡ pairs_of (standing (take i ss))
-    → new ≡ ps ++ (record { hash = hash; place = next }) ∷ [] → new ≡ pairs_of (standing (take (i + 1) ss))
+pub listed_put : (ps new : List Pair) (ss : List Slot) (i hash next : ℕ) → i < length ss → is_gone (slot_at ss i) ≡ false → hash ≡ mixed (slot_at ss i).hash → next ≡ length ps → ps ≡ pairs_of (slots_present (take i ss))
+    → new ≡ ps ++ (record { hash = hash; place = next }) ∷ [] → new ≡ pairs_of (slots_present (take (i + 1) ss))
 listed_put ps new ss i hash next l n h c e w =
-    let xs : List Slot = standing (take i ss) in
+    let xs : List Slot = slots_present (take i ss) in
     let count : next ≡ 0 + length xs = c ∙ ap length e ∙ count_listed 0 (take i ss) ∙ (let z : length xs ≡ 0 + length xs = omega arith in z) in
     w ∙ ap (λ qs. qs ++ (record { hash = hash; place = next }) ∷ []) e ∙ ap (λ k. pairs_of xs ++ (record { hash = k; place = next }) ∷ []) h
     ∙ ap (λ k. pairs_of xs ++ (record { hash = mixed (slot_at ss i).hash; place = k }) ∷ []) count
     ∙ sym (ap pairs_of (standing_next ss i l ∙ ap (λ b. xs ++ cond (not b) (slot_at ss i ∷ []) []) n) ∙ pairs_push 0 xs (slot_at ss i)
     ∙ ap (λ b. pairs_of xs ++ cond b [] ((record { hash = mixed (slot_at ss i).hash; place = 0 + length xs }) ∷ [])) n)
 
-pub listed_all : (ps : List Pair) (ss : List Slot) (i : ℕ) → length ss ≤ i → ps ≡ pairs_of (standing (take i ss)) → ps ≡ pairs_of (standing ss)
-listed_all ps ss i l e = e ∙ ap (λ xs. pairs_of (standing xs)) (take_whole ss i l)
+pub listed_all : (ps : List Pair) (ss : List Slot) (i : ℕ) → length ss ≤ i → ps ≡ pairs_of (slots_present (take i ss)) → ps ≡ pairs_of (slots_present ss)
+listed_all ps ss i l e = e ∙ ap (λ xs. pairs_of (slots_present xs)) (take_whole ss i l)
 
 -- one that isn't gone is filed under its hash
 place_among : (k : ℕ) (ss : List Slot) (i n : ℕ) → i < length ss → is_gone (slot_at ss i) ≡ false → k + i ≡ n → is_among (places_from k (slot_at ss i).hash ss) n ≡ true

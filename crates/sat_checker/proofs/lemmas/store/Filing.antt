@@ -11,7 +11,7 @@ use Rattle.std.specs.Prelude.{slice_index_or}
 use Rattle.sat_checker.specs.LiteralSets.{is_among}
 use Rattle.sat_checker.specs.inner.Marks.{IsIncreasing}
 use Rattle.sat_checker.specs.inner.IndexView.{without_place, pairs_from, pairs_of}
-use Rattle.sat_checker.specs.inner.PairView.{IsBefore, AreInOrder, without_pair, places_in, first_of, behind, from_on, same_place, mixed}
+use Rattle.sat_checker.specs.inner.PairView.{IsPairBefore, AreInOrder, without_pair, places_in, first_of, places_behind, from_on, same_place, mixed}
 use Rattle.sat_checker.specs.inner.SlotView.{Slot, is_gone, is_filed, places_from, places_of}
 use Rattle.sat_checker.specs.declared.store.links.Pair.{Pair}
 use Rattle.sat_checker.proofs.lemmas.sets.Canonical.{same_increasing}
@@ -73,7 +73,7 @@ pairs_apart k (s ∷ ss) = go (is_gone s) (pairs_apart (k + 1) ss)
     go false ih = (differ (pairs_from (k + 1) ss) (pairs_above k (k + 1) ss (omega arith)), ih)
 
 -- the places of a hash rise, in an index and in slots
-above_in : (q : ℕ) (p : Pair) → p.hash ≡ q → (ps : List Pair) → AllByRecursion (IsBefore p) ps → AllByRecursion (λ x. p.place < x) (places_in q ps)
+above_in : (q : ℕ) (p : Pair) → p.hash ≡ q → (ps : List Pair) → AllByRecursion (IsPairBefore p) ps → AllByRecursion (λ x. p.place < x) (places_in q ps)
 above_in q p e [] b = tt
 above_in q p e (t ∷ ts) b = pick (eqb t.hash q) refl (above_in q p e ts b.1)
   where
@@ -172,9 +172,9 @@ module _ (x : ℕ) where
   at_most : (y : ℕ) → x < y → leb x y ≡ true
   at_most y l = grind (arith, nat_tests)
 
-  pub whole_behind : (ys : List ℕ) → AllByRecursion (λ y. x < y) ys → behind x ys ≡ ys
+  pub whole_behind : (ys : List ℕ) → AllByRecursion (λ y. x < y) ys → places_behind x ys ≡ ys
   whole_behind [] h = refl
-  whole_behind (y ∷ ys) h = ap (λ b. cond b (y ∷ behind x ys) (behind x ys)) (less y h.0) ∙ ap (λ zs. y ∷ zs) (whole_behind ys h.1)
+  whole_behind (y ∷ ys) h = ap (λ b. cond b (y ∷ places_behind x ys) (places_behind x ys)) (less y h.0) ∙ ap (λ zs. y ∷ zs) (whole_behind ys h.1)
 
   pub whole_on : (ys : List ℕ) → AllByRecursion (λ y. x < y) ys → from_on (Some x) ys ≡ ys
   whole_on [] h = refl
@@ -212,7 +212,7 @@ pub first_among : (ps : List ℕ) (p : ℕ) → Some p ≡ first_of ps → is_am
 first_among [] p e = absurd cc
 first_among (q ∷ qs) p e = let s : p ≡ q = cc in ap (λ b. b || is_among qs p) (eq-eqb q p (sym s))
 
-pub behind_among : (x : ℕ) (ps : List ℕ) (p : ℕ) → is_among (behind x ps) p ≡ true → is_among ps p ≡ true
+pub behind_among : (x : ℕ) (ps : List ℕ) (p : ℕ) → is_among (places_behind x ps) p ≡ true → is_among ps p ≡ true
 behind_among x [] p e = e
 behind_among x (q ∷ qs) p e = go (ltb x q) e (λ k. behind_among x qs p k)
   where
@@ -220,27 +220,27 @@ behind_among x (q ∷ qs) p e = go (ltb x q) e (λ k. behind_among x qs p k)
     or_true true = refl
     or_true false = refl
 
-    here : (b : Bool) → (b || is_among (behind x qs) p) ≡ true → (is_among (behind x qs) p ≡ true → is_among qs p ≡ true) → (b || is_among qs p) ≡ true
+    here : (b : Bool) → (b || is_among (places_behind x qs) p) ≡ true → (is_among (places_behind x qs) p ≡ true → is_among qs p ≡ true) → (b || is_among qs p) ≡ true
     here true k ih = refl
     here false k ih = ih k
 
-    go : (d : Bool) → is_among (cond d (q ∷ behind x qs) (behind x qs)) p ≡ true → (is_among (behind x qs) p ≡ true → is_among qs p ≡ true) → (eqb q p || is_among qs p) ≡ true
+    go : (d : Bool) → is_among (cond d (q ∷ places_behind x qs) (places_behind x qs)) p ≡ true → (is_among (places_behind x qs) p ≡ true → is_among qs p ≡ true) → (eqb q p || is_among qs p) ≡ true
     go true k ih = here (eqb q p) k ih
     go false k ih = ap (λ b. eqb q p || b) (ih k) ∙ or_true (eqb q p)
 
-pub next_among : (x : ℕ) (ps : List ℕ) (o : Option ℕ) → o ≡ first_of (behind x ps) → IfSome o (λ p. is_among ps p ≡ true)
+pub next_among : (x : ℕ) (ps : List ℕ) (o : Option ℕ) → o ≡ first_of (places_behind x ps) → IfSome o (λ p. is_among ps p ≡ true)
 next_among x ps None e = tt
-next_among x ps (Some p) e = behind_among x ps p (first_among (behind x ps) p e)
+next_among x ps (Some p) e = behind_among x ps p (first_among (places_behind x ps) p e)
 
 -- the first of those behind x is above x
-first_above : (x : ℕ) (ps : List ℕ) (p : ℕ) → Some p ≡ first_of (behind x ps) → x < p
+first_above : (x : ℕ) (ps : List ℕ) (p : ℕ) → Some p ≡ first_of (places_behind x ps) → x < p
 first_above x [] p e = absurd cc
 first_above x (q ∷ qs) p e = go (ltb x q) refl e (λ k. first_above x qs p k)
   where
     above : (y : ℕ) → ltb x y ≡ true → x < y
     above y k = grind (arith, nat_tests)
 
-    go : (b : Bool) → ltb x q ≡ b → Some p ≡ first_of (cond b (q ∷ behind x qs) (behind x qs)) → (Some p ≡ first_of (behind x qs) → x < p) → x < p
+    go : (b : Bool) → ltb x q ≡ b → Some p ≡ first_of (cond b (q ∷ places_behind x qs) (places_behind x qs)) → (Some p ≡ first_of (places_behind x qs) → x < p) → x < p
     go true b k ih = let s : p ≡ q = cc in subst (λ y. x < y) (sym s) (above q b)
     go false b k ih = ih k
 
@@ -249,21 +249,21 @@ on_tail x xs None h = refl
 on_tail x xs (Some p) h = ap (λ b. cond b (x ∷ from_on (Some p) xs) (from_on (Some p) xs)) (passed_on p x (h p refl))
 
 -- those from a place on are that place and those from the next one on
-pub from_step : (ps : List ℕ) → IsIncreasing ps → (x : ℕ) → is_among ps x ≡ true → (o : Option ℕ) → o ≡ first_of (behind x ps) → from_on (Some x) ps ≡ x ∷ from_on o ps
+pub from_step : (ps : List ℕ) → IsIncreasing ps → (x : ℕ) → is_among ps x ≡ true → (o : Option ℕ) → o ≡ first_of (places_behind x ps) → from_on (Some x) ps ≡ x ∷ from_on o ps
 from_step [] i x m o e = absurd (true≢false (sym m))
 from_step (p ∷ ps) i x m o e = go (eqb p x) refl m (λ k o' e'. from_step ps i.1 x k o' e')
   where
-    go : (b : Bool) → eqb p x ≡ b → (b || is_among ps x) ≡ true → (is_among ps x ≡ true → (o' : Option ℕ) → o' ≡ first_of (behind x ps) → from_on (Some x) ps ≡ x ∷ from_on o' ps) → from_on (Some x) (p ∷ ps) ≡ x ∷ from_on o (p ∷ ps)
+    go : (b : Bool) → eqb p x ≡ b → (b || is_among ps x) ≡ true → (is_among ps x ≡ true → (o' : Option ℕ) → o' ≡ first_of (places_behind x ps) → from_on (Some x) ps ≡ x ∷ from_on o' ps) → from_on (Some x) (p ∷ ps) ≡ x ∷ from_on o (p ∷ ps)
     go true b k ih =
         let s : p ≡ x = eqb-true p x b in
         let all : AllByRecursion (λ y. x < y) ps = subst (λ z. AllByRecursion (λ y. z < y) ps) s i.0 in
-        let rest : behind x (p ∷ ps) ≡ ps = ap (λ z. cond (ltb x z) (z ∷ behind x ps) (behind x ps)) s ∙ ap (λ d. cond d (x ∷ behind x ps) (behind x ps)) (not_itself x) ∙ whole_behind x ps all in
+        let rest : places_behind x (p ∷ ps) ≡ ps = ap (λ z. cond (ltb x z) (z ∷ places_behind x ps) (places_behind x ps)) s ∙ ap (λ d. cond d (x ∷ places_behind x ps) (places_behind x ps)) (not_itself x) ∙ whole_behind x ps all in
         let next : o ≡ first_of ps = e ∙ ap first_of rest in
         let left : from_on o (p ∷ ps) ≡ ps = on_tail p ps o (λ q z. subst (λ y. y < q) (sym s) (first_above x (p ∷ ps) q (sym z ∙ e))) ∙ from_first ps i.1 o next in
         ap (λ z. cond (leb x z) (z ∷ from_on (Some x) ps) (from_on (Some x) ps)) s ∙ ap (λ d. cond d (x ∷ from_on (Some x) ps) (from_on (Some x) ps)) (itself x) ∙ ap (λ zs. x ∷ zs) (whole_on x ps all) ∙ ap (λ zs. x ∷ zs) (sym left)
     go false b k ih =
         let l : p < x = member_above x p ps i.0 k in
-        let rest : behind x (p ∷ ps) ≡ behind x ps = ap (λ d. cond d (p ∷ behind x ps) (behind x ps)) (passed_behind x p l) in
+        let rest : places_behind x (p ∷ ps) ≡ places_behind x ps = ap (λ d. cond d (p ∷ places_behind x ps) (places_behind x ps)) (passed_behind x p l) in
         ap (λ d. cond d (p ∷ from_on (Some x) ps) (from_on (Some x) ps)) (passed_on x p l) ∙ ih k o (e ∙ ap first_of rest)
         ∙ ap (λ zs. x ∷ zs) (sym (on_tail p ps o (λ q z. let j : x < q = first_above x (p ∷ ps) q (sym z ∙ e) in omega arith)))
 
@@ -272,7 +272,7 @@ first_ok ps None e = tt
 first_ok ps (Some p) e = first_among ps p e
 
 -- what is left from a place of the hash on is that place and what is left behind it
-pub left_step : (h : ℕ) (ss : List Slot) (now : Option ℕ) (x : ℕ) → now ≡ Some x → IfSome now (λ p. is_among (places_of h ss) p ≡ true) → (next : Option ℕ) → next ≡ first_of (behind x (places_of h ss))
+pub left_step : (h : ℕ) (ss : List Slot) (now : Option ℕ) (x : ℕ) → now ≡ Some x → IfSome now (λ p. is_among (places_of h ss) p ≡ true) → (next : Option ℕ) → next ≡ first_of (places_behind x (places_of h ss))
     → from_on now (places_of h ss) ≡ x ∷ from_on next (places_of h ss)
 left_step h ss now x e m next n = ap (λ o. from_on o (places_of h ss)) e ∙ from_step (places_of h ss) (increasing_places 0 h ss) x (subst (λ o. IfSome o (λ p. is_among (places_of h ss) p ≡ true)) e m) next n
 

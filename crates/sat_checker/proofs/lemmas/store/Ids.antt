@@ -8,7 +8,7 @@ use Rattle.sat_checker.specs.inner.Marks.{IsIncreasing}
 use Rattle.sat_checker.specs.Stored.{StoredClause, hash_by}
 use Rattle.sat_checker.specs.Storing.{with_count, without_count, clause_numbered}
 use Rattle.sat_checker.specs.Looks.{total_length}
-use Rattle.sat_checker.specs.inner.SlotView.{Slot, slot_at, literals_at, slot_ids, is_gone, IsStanding, live, live_length, stored_slot, with_count_at, without_count_at, all_hashed_by}
+use Rattle.sat_checker.specs.inner.SlotView.{Slot, slot_at, literals_at, slot_ids, is_gone, IsPresentAt, live, live_length, stored_slot, with_count_at, without_count_at, all_hashed_by}
 use Rattle.sat_checker.specs.inner.StoreView.{PlacesIds}
 
 -- ids stay where a clause is counted or hashed anew
@@ -95,7 +95,7 @@ numbered_at (s ∷ ss) id (suc i) h l e = first (is_gone s) ∙ numbered_at ss i
     first true = refl
     first false = ap (λ b. cond b (Some s.clause.literals) (clause_numbered id (live ss))) (ne_eqb s.clause.id id (λ q. omega (arith, below, q)))
 
-pub numbered_standing : (ss : List Slot) (id i : ℕ) → IsIncreasing (slot_ids ss) → IsStanding ss id i → clause_numbered id (live ss) ≡ Some (literals_at ss i)
+pub numbered_standing : (ss : List Slot) (id i : ℕ) → IsIncreasing (slot_ids ss) → IsPresentAt ss id i → clause_numbered id (live ss) ≡ Some (literals_at ss i)
 numbered_standing ss id i h s = numbered_at ss id i h s.inside s.id_is ∙ ap (λ b. cond b None (Some (literals_at ss i))) s.there
 
 pub numbered_gone : (ss : List Slot) (id i : ℕ) → IsIncreasing (slot_ids ss) → i < length ss → (slot_at ss i).clause.id ≡ id → is_gone (slot_at ss i) ≡ true → clause_numbered id (live ss) ≡ None

@@ -6,7 +6,7 @@ use Rattle.sat_checker.specs.Propagation.{PassesCheck}
 use Rattle.sat_checker.specs.Stored.{Stored, solver_literal, hash_by, bucket}
 use Rattle.sat_checker.specs.Looks.{literal_count, total_length}
 use Rattle.sat_checker.specs.HasherView.{solver_name_of, width_of}
-use Rattle.sat_checker.specs.announcements.Needed.{named_by}
+use Rattle.sat_checker.specs.announcements.Needed.{clauses_named}
 use Rattle.sat_checker.specs.inner.Reasons.{filed, named}
 use Rattle.sat_checker.specs.inner.SlotView.{Slot, is_gone, is_filed, all_lits, live, live_length, bucket_in, bucket_of}
 use Rattle.sat_checker.specs.inner.StoreView.{AreHashed, KeepsClauses}
@@ -67,7 +67,7 @@ filed_live h f k (s ∷ ss) a n w = go (is_gone s) refl (filed_live h f k ss a.1
         pick true ih = ap (λ cs. s.clause ∷ cs) ih
         pick false ih = ih
 
-pub named_same : (store : Store) (f : Stored) → KeepsClauses store f → (hashes : List ℕ) → named hashes store.clauses ≡ named_by hashes f
+pub named_same : (store : Store) (f : Stored) → KeepsClauses store f → (hashes : List ℕ) → named hashes store.clauses ≡ clauses_named hashes f
 named_same store f p [] = refl
 named_same store f p (k ∷ ks) =
     ap (λ cs. cs ++ named ks store.clauses) (filed_live store.hasher f k store.clauses p.hashed p.names p.width ∙ ap (filter (λ c. eqb (hash_by f.solver_names f.width c.literals) k)) p.clauses)

@@ -5,9 +5,9 @@ use Rattle.std.specs.Result.{is_err}
 use Rattle.std.proofs.lemmas.List.{length-set}
 use Rattle.sat_checker.specs.inner.IndexView.{Files}
 use Rattle.sat_checker.specs.inner.PairView.{Indexed, places_in, inserted, without_pair, mixed}
-use Rattle.sat_checker.specs.inner.OccurrenceView.{count_at, times_in, times_stored, AreKept}
+use Rattle.sat_checker.specs.inner.OccurrenceView.{count_at, times_in, times_stored, SlotsInvariant}
 use Rattle.sat_checker.specs.Storing.{with_count, without_count}
-use Rattle.sat_checker.specs.inner.SlotView.{Slot, unstored, stored_slot, slot_at, literals_at, is_gone, count_of, with_count_at, without_count_at, all_hashed_by}
+use Rattle.sat_checker.specs.inner.SlotView.{Slot, unstored, stored_slot, slot_at, literals_at, is_gone, slot_count, with_count_at, without_count_at, all_hashed_by}
 use Rattle.sat_checker.specs.declared.store.occurrences.Occurrences.{Occurrences}
 use Rattle.sat_checker.proofs.lemmas.store.Places.{agrees_stored, agrees_counted, agrees_left, agrees_removed, stored_last, after, gone_there}
 use Rattle.sat_checker.proofs.lemmas.pairs.Order.{all_weaker, all_filter, all_inserted, order_filter, order_inserted, places_inserted}
@@ -16,8 +16,8 @@ use Rattle.sat_checker.proofs.lemmas.store.Filing.{places_without}
 use Rattle.sat_checker.proofs.lemmas.store.Counting.{times_more, times_counted, times_left, times_gone, times_hashed}
 
 -- a clause that is stored once
-pub kept_stored : (ss new all : List Slot) (index next : Indexed) (o mid p : Occurrences) (r : Bool) (id hash place : ℕ) (literals : List ℕ) → AreKept ss index o → ((l : ℕ) → count_at mid l ≡ count_at o l) → place ≡ length ss
-    → next ≡ record { pairs = inserted (record { hash = mixed hash; place = index.places }) index.pairs; places = index.places + 1 } → new ≡ ss ++ unstored id hash literals ∷ [] → all ≡ with_count_at r place new → ((l : ℕ) → count_at p l ≡ count_at mid l + times_in l literals) → AreKept all next p
+pub kept_stored : (ss new all : List Slot) (index next : Indexed) (o mid p : Occurrences) (r : Bool) (id hash place : ℕ) (literals : List ℕ) → SlotsInvariant ss index o → ((l : ℕ) → count_at mid l ≡ count_at o l) → place ≡ length ss
+    → next ≡ record { pairs = inserted (record { hash = mixed hash; place = index.places }) index.pairs; places = index.places + 1 } → new ≡ ss ++ unstored id hash literals ∷ [] → all ≡ with_count_at r place new → ((l : ℕ) → count_at p l ≡ count_at mid l + times_in l literals) → SlotsInvariant all next p
 kept_stored ss new all index next o mid p r id hash place literals k m is h e s a = record {
   files = subst (λ x. Files x all) (sym h) (record {
     filed = agrees_stored (λ q. places_in (mixed q) index.pairs) (λ q. places_in (mixed q) (inserted (record { hash = mixed hash; place = index.places }) index.pairs)) r id hash place literals ss new all k.files.filed is
@@ -38,7 +38,7 @@ kept_stored ss new all index next o mid p r id hash place literals k m is h e s 
     length_more (y ∷ ys) x = let ih : length (ys ++ x ∷ []) ≡ length ys + 1 = length_more ys x in omega arith
 
 -- a count more
-pub kept_counted : (old ss new : List Slot) (index : Indexed) (o : Occurrences) (r : Bool) (i : ℕ) → old ≡ ss → i < length ss → is_gone (slot_at ss i) ≡ false → AreKept old index o → new ≡ with_count_at r i old → AreKept new index o
+pub kept_counted : (old ss new : List Slot) (index : Indexed) (o : Occurrences) (r : Bool) (i : ℕ) → old ≡ ss → i < length ss → is_gone (slot_at ss i) ≡ false → SlotsInvariant old index o → new ≡ with_count_at r i old → SlotsInvariant new index o
 kept_counted old ss new index o r i is l n k e = record {
   files = record {
     filed = agrees_counted (λ q. places_in (mixed q) index.pairs) r i old ss new is l n k.files.filed e;
@@ -50,7 +50,7 @@ kept_counted old ss new index o r i is l n k e = record {
 }
 
 -- a count less
-module _ (old ss new : List Slot) (index : Indexed) (o : Occurrences) (r : Bool) (i : ℕ) (is : old ≡ ss) (l : i < length ss) (c : 0 < count_of r (slot_at ss i)) (k : AreKept old index o) (e : new ≡ without_count_at r i old) where
+module _ (old ss new : List Slot) (index : Indexed) (o : Occurrences) (r : Bool) (i : ℕ) (is : old ≡ ss) (l : i < length ss) (c : 0 < slot_count r (slot_at ss i)) (k : SlotsInvariant old index o) (e : new ≡ without_count_at r i old) where
   there : is_gone (slot_at new i) ≡ is_gone (record { clause = without_count r (slot_at ss i).clause; hash = (slot_at ss i).hash })
   there = gone_there (λ q. places_in (mixed q) index.pairs) r i old ss new is l c k.files.filed e
 
@@ -60,7 +60,7 @@ module _ (old ss new : List Slot) (index : Indexed) (o : Occurrences) (r : Bool)
   length_left : length new ≡ length old
   length_left = ap length e ∙ length-set old i (record (slot_at old i) { clause = without_count r (slot_at old i).clause })
 
-  pub kept_left : is_gone (slot_at new i) ≡ false → AreKept new index o
+  pub kept_left : is_gone (slot_at new i) ≡ false → SlotsInvariant new index o
   kept_left n = record {
     files = record { filed = agrees_left (λ q. places_in (mixed q) index.pairs) r i old ss new is l c k.files.filed e n; places = k.files.places ∙ sym length_left; in_order = k.files.in_order; below = k.files.below };
     counted = λ q. k.counted q ∙ ap (times_stored q) is ∙ sym (times_left q r i ss l c (sym there ∙ n)) ∙ sym (now q);
@@ -75,7 +75,7 @@ module _ (old ss new : List Slot) (index : Indexed) (o : Occurrences) (r : Bool)
       omega (arith, a, b, d)
 
   pub kept_removed : (next : Indexed) (p : Occurrences) (literals : List ℕ) → next ≡ record index { pairs = without_pair i index.pairs }
-      → literals ≡ literals_at ss i → ((q : ℕ) → count_at p q + times_in q literals ≡ count_at o q) → is_gone (slot_at new i) ≡ true → AreKept new next p
+      → literals ≡ literals_at ss i → ((q : ℕ) → count_at p q + times_in q literals ≡ count_at o q) → is_gone (slot_at new i) ≡ true → SlotsInvariant new next p
   kept_removed next p literals w s m g = record {
     files = subst (λ x. Files x new) (sym w) (record {
       filed = agrees_removed (λ q. places_in (mixed q) index.pairs) r i old ss new is l c k.files.filed e (λ q. places_in (mixed q) (without_pair i index.pairs)) (λ q. places_without (mixed q) i index.pairs) g;
@@ -93,7 +93,7 @@ module _ (old ss new : List Slot) (index : Indexed) (o : Occurrences) (r : Bool)
   }
 
 -- all filed anew
-pub kept_hashed : (names : ℕ → Option ℕ) (width : ℕ) (old ss new : List Slot) (index next : Indexed) (o : Occurrences) → old ≡ ss → AreKept old index o → new ≡ all_hashed_by names width ss → Files next (all_hashed_by names width ss) → AreKept new next o
+pub kept_hashed : (names : ℕ → Option ℕ) (width : ℕ) (old ss new : List Slot) (index next : Indexed) (o : Occurrences) → old ≡ ss → SlotsInvariant old index o → new ≡ all_hashed_by names width ss → Files next (all_hashed_by names width ss) → SlotsInvariant new next o
 kept_hashed names width old ss new index next o is k e f = record {
   files = subst (Files next) (sym e) f;
   counted = λ q. k.counted q ∙ ap (times_stored q) is ∙ sym (times_hashed q names width ss) ∙ ap (times_stored q) (sym e);

@@ -4,7 +4,7 @@ use Rattle.sat_checker.specs.LiteralSets.{same_literals}
 use Rattle.sat_checker.specs.Stored.{Stored, StoredClause, hash_by}
 use Rattle.sat_checker.specs.Storing.{clause_with}
 use Rattle.sat_checker.specs.HasherView.{solver_name_of, width_of}
-use Rattle.sat_checker.specs.inner.SlotView.{Slot, literals_at, slot_at, count_of, places_of, found_among}
+use Rattle.sat_checker.specs.inner.SlotView.{Slot, literals_at, slot_at, slot_count, places_of, found_among}
 use Rattle.sat_checker.specs.inner.StoreView.{KeepsClauses, found_in}
 use Rattle.sat_checker.specs.declared.store.Store.{Store}
 use Rattle.sat_checker.proofs.lemmas.meaning.Clauses.{same}
@@ -32,8 +32,8 @@ module _ (store : Store) (f : Stored) (k : KeepsClauses store f) (literals : Lis
   pub none_found : None ≡ found_among store.clauses literals (places_of hash store.clauses) → clause_with literals f.clauses ≡ None
   none_found found = ap (clause_with literals) (sym k.clauses) ∙ (stands_none store.hasher store.clauses literals hash k.hashed e found).none
 
-  pub one_found : (p : ℕ) → Some p ≡ found_among store.clauses literals (places_of hash store.clauses) → (id irredundant redundant : ℕ) → id ≡ (slot_at store.clauses p).clause.id → irredundant ≡ count_of false (slot_at store.clauses p)
-      → redundant ≡ count_of true (slot_at store.clauses p) → clause_with literals f.clauses ≡ found_in literals (Some (record { id = id; irredundant = irredundant; redundant = redundant }))
+  pub one_found : (p : ℕ) → Some p ≡ found_among store.clauses literals (places_of hash store.clauses) → (id irredundant redundant : ℕ) → id ≡ (slot_at store.clauses p).clause.id → irredundant ≡ slot_count false (slot_at store.clauses p)
+      → redundant ≡ slot_count true (slot_at store.clauses p) → clause_with literals f.clauses ≡ found_in literals (Some (record { id = id; irredundant = irredundant; redundant = redundant }))
   one_found p found id irredundant redundant i n r =
       was ∙ ap (λ ls. Some (clause_of there.id ls there.irredundant there.redundant)) (literals_found literals there f.clauses was) ∙ ap (λ x. Some (clause_of x literals there.irredundant there.redundant)) (sym i)
       ∙ ap (λ x. Some (clause_of id literals x there.redundant)) (sym n) ∙ ap (λ x. Some (clause_of id literals irredundant x)) (sym r)

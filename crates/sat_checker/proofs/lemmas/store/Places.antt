@@ -5,7 +5,7 @@ use Rattle.std.specs.List.{AllByRecursion}
 use Rattle.sat_checker.specs.Stored.{StoredClause}
 use Rattle.sat_checker.specs.Storing.{with_count, without_count}
 use Rattle.sat_checker.specs.inner.IndexView.{without_place}
-use Rattle.sat_checker.specs.inner.SlotView.{Slot, unstored, stored_slot, slot_at, count_of, with_count_at, without_count_at, is_gone, is_filed, places_from, places_of}
+use Rattle.sat_checker.specs.inner.SlotView.{Slot, unstored, stored_slot, slot_at, slot_count, with_count_at, without_count_at, is_gone, is_filed, places_from, places_of}
 
 pub eqb_comm : (x y : ℕ) → eqb x y ≡ eqb y x
 eqb_comm x y = go (eqb x y) refl (eqb y x) refl
@@ -151,7 +151,7 @@ places_gone k q (s ∷ ss) (suc i) t l g n =
     go false false = refl
 
 -- gone or not, by the counts
-pub gone_not : (s : Slot) (r : Bool) → 0 < count_of r s → is_gone s ≡ false
+pub gone_not : (s : Slot) (r : Bool) → 0 < slot_count r s → is_gone s ≡ false
 gone_not s true h = let e : eqb s.clause.redundant 0 ≡ false = ne_eqb s.clause.redundant 0 (λ z. let k : 0 < s.clause.redundant = h in omega arith) in ap (λ b. eqb s.clause.irredundant 0 && b) e ∙ and_false (eqb s.clause.irredundant 0)
   where
     and_false : (b : Bool) → (b && false) ≡ false
@@ -171,12 +171,12 @@ places_counted q r i ss l n =
 
 -- a count less of one that isn't gone afterwards, and of one that is
 
-pub places_left : (q : ℕ) (r : Bool) (i : ℕ) (ss : List Slot) → i < length ss → 0 < count_of r (slot_at ss i) → is_gone (record { clause = without_count r (slot_at ss i).clause; hash = (slot_at ss i).hash }) ≡ false → places_of q (without_count_at r i ss) ≡ places_of q ss
+pub places_left : (q : ℕ) (r : Bool) (i : ℕ) (ss : List Slot) → i < length ss → 0 < slot_count r (slot_at ss i) → is_gone (record { clause = without_count r (slot_at ss i).clause; hash = (slot_at ss i).hash }) ≡ false → places_of q (without_count_at r i ss) ≡ places_of q ss
 places_left q r i ss l c n =
     places_same 0 q ss i (record { clause = without_count r (slot_at ss i).clause; hash = (slot_at ss i).hash }) l
     (ap (λ b. not b && eqb (slot_at ss i).hash q) (n ∙ sym (gone_not (slot_at ss i) r c)))
 
-pub places_removed : (q : ℕ) (r : Bool) (i : ℕ) (ss : List Slot) → i < length ss → 0 < count_of r (slot_at ss i) → is_gone (record { clause = without_count r (slot_at ss i).clause; hash = (slot_at ss i).hash }) ≡ true → places_of q (without_count_at r i ss) ≡ cond (eqb q (slot_at ss i).hash) (without_place i (places_of q ss)) (places_of q ss)
+pub places_removed : (q : ℕ) (r : Bool) (i : ℕ) (ss : List Slot) → i < length ss → 0 < slot_count r (slot_at ss i) → is_gone (record { clause = without_count r (slot_at ss i).clause; hash = (slot_at ss i).hash }) ≡ true → places_of q (without_count_at r i ss) ≡ cond (eqb q (slot_at ss i).hash) (without_place i (places_of q ss)) (places_of q ss)
 places_removed q r i ss l c g =
     let z : 0 + i ≡ i = omega arith in
     places_gone 0 q ss i (record { clause = without_count r (slot_at ss i).clause; hash = (slot_at ss i).hash }) l g (gone_not (slot_at ss i) r c)
@@ -204,7 +204,7 @@ agrees_stored f g r id hash place literals old new all a p h e s = λ q.
     h q ∙ ap (λ n. cond (eqb q hash) (f q ++ n ∷ []) (f q)) p ∙ ap (λ ps. cond (eqb q hash) (ps ++ length old ∷ []) ps) (a q)
     ∙ sym (places_stored r q id hash literals old) ∙ ap (places_of q) (sym (stored_last r id hash place literals old new all p e s))
 
-module _ (f : ℕ → List ℕ) (r : Bool) (i : ℕ) (old ss new : List Slot) (is : old ≡ ss) (l : i < length ss) (c : 0 < count_of r (slot_at ss i)) (a : Agrees f old) (e : new ≡ without_count_at r i old) where
+module _ (f : ℕ → List ℕ) (r : Bool) (i : ℕ) (old ss new : List Slot) (is : old ≡ ss) (l : i < length ss) (c : 0 < slot_count r (slot_at ss i)) (a : Agrees f old) (e : new ≡ without_count_at r i old) where
   pub after : new ≡ without_count_at r i ss
   after = e ∙ ap (without_count_at r i) is
 

@@ -3,9 +3,9 @@ use Rattle.std.proofs.Common.{ℕ, zero, suc, ◌+◌, ◌<◌, ◌≤◌, ◌�
 use Rattle.std.proofs.lemmas.Bool.{true≢false, eq-eqb}
 use Rattle.sat_checker.specs.LiteralSets.{same_literals}
 use Rattle.sat_checker.specs.Stored.{Stored, StoredClause, hash_by}
-use Rattle.sat_checker.specs.Storing.{with_count, new_clause, with_clause, clause_with, without_count, unless_gone, without_clause}
+use Rattle.sat_checker.specs.Storing.{with_count, new_clause, with_stored_clause, clause_with, without_count, unless_gone, without_clause}
 use Rattle.sat_checker.specs.HasherView.{solver_name_of, width_of}
-use Rattle.sat_checker.specs.inner.SlotView.{Slot, stored_slot, slot_at, count_of, with_count_at, without_count_at, is_gone, live, live_length, bucket_in, places_from, places_of, is_same_at, found_among}
+use Rattle.sat_checker.specs.inner.SlotView.{Slot, stored_slot, slot_at, slot_count, with_count_at, without_count_at, is_gone, live, live_length, bucket_in, places_from, places_of, is_same_at, found_among}
 use Rattle.sat_checker.specs.Looks.{total_length, literal_count}
 use Rattle.sat_checker.specs.inner.StoreView.{AreHashed, KeepsClauses, Stores, count_in, id_in}
 use Rattle.sat_checker.specs.declared.store.Store.{Store}
@@ -48,12 +48,12 @@ pub record StandsAt (ss : List Slot) (literals : List ℕ) (i : ℕ) : Type 0 wh
   pub inside : i < length ss
   pub there : is_gone (slot_at ss i) ≡ false
   pub is : clause_with literals (live ss) ≡ Some (slot_at ss i).clause
-  pub more : (r : Bool) (id : ℕ) → with_clause r id literals (live ss) ≡ live (with_count_at r i ss)
+  pub more : (r : Bool) (id : ℕ) → with_stored_clause r id literals (live ss) ≡ live (with_count_at r i ss)
   pub less : (r : Bool) → without_clause r literals (live ss) ≡ live (without_count_at r i ss)
 
 pub record StandsNowhere (ss : List Slot) (literals : List ℕ) : Type 0 where
   pub none : clause_with literals (live ss) ≡ None
-  pub new : (r : Bool) (id hash : ℕ) → with_clause r id literals (live ss) ≡ live (ss ++ stored_slot r id hash literals ∷ [])
+  pub new : (r : Bool) (id hash : ℕ) → with_stored_clause r id literals (live ss) ≡ live (ss ++ stored_slot r id hash literals ∷ [])
 
 not_gone : (c : StoredClause) → (eqb c.irredundant 0 && eqb c.redundant 0) ≡ false → unless_gone c ≡ c ∷ []
 not_gone c e = ap (λ b. cond b [] (c ∷ [])) e
@@ -67,7 +67,7 @@ stands_first s ss literals g e = record {
   there = g;
   is = ap (λ cs. clause_with literals (cs ++ live ss)) (not_gone s.clause g) ∙ ap (λ b. cond b (Some s.clause) (clause_with literals (live ss))) e;
   more = λ r id.
-      ap (λ cs. with_clause r id literals (cs ++ live ss)) (not_gone s.clause g) ∙ ap (λ b. cond b (with_count r s.clause ∷ live ss) (s.clause ∷ with_clause r id literals (live ss))) e
+      ap (λ cs. with_stored_clause r id literals (cs ++ live ss)) (not_gone s.clause g) ∙ ap (λ b. cond b (with_count r s.clause ∷ live ss) (s.clause ∷ with_stored_clause r id literals (live ss))) e
       ∙ sym (ap (λ cs. cs ++ live ss) (not_gone_more r s.clause));
   less = λ r.
       ap (λ cs. without_clause r literals (cs ++ live ss)) (not_gone s.clause g) ∙ ap (λ b. cond b (unless_gone (without_count r s.clause) ++ live ss) (s.clause ∷ without_clause r literals (live ss))) e;
@@ -81,7 +81,7 @@ stands_behind s ss literals i n k = go (is_gone s) refl n
       inside = let l : i < length ss = k.inside in omega arith;
       there = k.there;
       is = ap (λ b. clause_with literals (cond b [] (s.clause ∷ []) ++ live ss)) g ∙ k.is;
-      more = λ r id. ap (λ b. with_clause r id literals (cond b [] (s.clause ∷ []) ++ live ss)) g ∙ k.more r id ∙ sym (ap (λ b. cond b [] (s.clause ∷ []) ++ live (with_count_at r i ss)) g);
+      more = λ r id. ap (λ b. with_stored_clause r id literals (cond b [] (s.clause ∷ []) ++ live ss)) g ∙ k.more r id ∙ sym (ap (λ b. cond b [] (s.clause ∷ []) ++ live (with_count_at r i ss)) g);
       less = λ r. ap (λ b. without_clause r literals (cond b [] (s.clause ∷ []) ++ live ss)) g ∙ k.less r ∙ sym (ap (λ b. cond b [] (s.clause ∷ []) ++ live (without_count_at r i ss)) g);
     }
     go false g n = record {
@@ -89,7 +89,7 @@ stands_behind s ss literals i n k = go (is_gone s) refl n
       there = k.there;
       is = ap (λ b. clause_with literals (cond b [] (s.clause ∷ []) ++ live ss)) g ∙ ap (λ b. cond b (Some s.clause) (clause_with literals (live ss))) n ∙ k.is;
       more = λ r id.
-          ap (λ b. with_clause r id literals (cond b [] (s.clause ∷ []) ++ live ss)) g ∙ ap (λ b. cond b (with_count r s.clause ∷ live ss) (s.clause ∷ with_clause r id literals (live ss))) n
+          ap (λ b. with_stored_clause r id literals (cond b [] (s.clause ∷ []) ++ live ss)) g ∙ ap (λ b. cond b (with_count r s.clause ∷ live ss) (s.clause ∷ with_stored_clause r id literals (live ss))) n
           ∙ ap (λ cs. s.clause ∷ cs) (k.more r id) ∙ sym (ap (λ b. cond b [] (s.clause ∷ []) ++ live (with_count_at r i ss)) g);
       less = λ r.
           ap (λ b. without_clause r literals (cond b [] (s.clause ∷ []) ++ live ss)) g ∙ ap (λ b. cond b (unless_gone (without_count r s.clause) ++ live ss) (s.clause ∷ without_clause r literals (live ss))) n
@@ -125,12 +125,12 @@ place_nowhere literals (s ∷ ss) k e = go (place_nowhere literals ss (k + 1)) (
         by_gone : (g : Bool) → is_gone s ≡ g → (not g && same_literals s.clause.literals literals) ≡ false → StandsNowhere ss literals → StandsNowhere (s ∷ ss) literals
         by_gone true g n ih = record {
           none = ap (λ b. clause_with literals (cond b [] (s.clause ∷ []) ++ live ss)) g ∙ ih.none;
-          new = λ r id hash. ap (λ b. with_clause r id literals (cond b [] (s.clause ∷ []) ++ live ss)) g ∙ ih.new r id hash ∙ sym (ap (λ b. cond b [] (s.clause ∷ []) ++ live (ss ++ stored_slot r id hash literals ∷ [])) g);
+          new = λ r id hash. ap (λ b. with_stored_clause r id literals (cond b [] (s.clause ∷ []) ++ live ss)) g ∙ ih.new r id hash ∙ sym (ap (λ b. cond b [] (s.clause ∷ []) ++ live (ss ++ stored_slot r id hash literals ∷ [])) g);
         }
         by_gone false g n ih = record {
           none = ap (λ b. clause_with literals (cond b [] (s.clause ∷ []) ++ live ss)) g ∙ ap (λ b. cond b (Some s.clause) (clause_with literals (live ss))) n ∙ ih.none;
           new = λ r id hash.
-              ap (λ b. with_clause r id literals (cond b [] (s.clause ∷ []) ++ live ss)) g ∙ ap (λ b. cond b (with_count r s.clause ∷ live ss) (s.clause ∷ with_clause r id literals (live ss))) n
+              ap (λ b. with_stored_clause r id literals (cond b [] (s.clause ∷ []) ++ live ss)) g ∙ ap (λ b. cond b (with_count r s.clause ∷ live ss) (s.clause ∷ with_stored_clause r id literals (live ss))) n
               ∙ ap (λ cs. s.clause ∷ cs) (ih.new r id hash) ∙ sym (ap (λ b. cond b [] (s.clause ∷ []) ++ live (ss ++ stored_slot r id hash literals ∷ [])) g);
         }
 
@@ -198,7 +198,7 @@ looks_one store hash old new h f k =
     let b : live_length store.clauses ≡ literal_count f = length_same store f k in omega arith
 
 module _ (store : Store) (f : Stored) (k : KeepsClauses store f) (literals : List ℕ) (hash : ℕ) (e : hash ≡ hash_by (solver_name_of store.hasher) (width_of store.hasher) literals) where
-  pub count_there : (p : ℕ) → Some p ≡ found_among store.clauses literals (places_of hash store.clauses) → (r : Bool) → count_in r (clause_with literals f.clauses) ≡ count_of r (slot_at store.clauses p)
+  pub count_there : (p : ℕ) → Some p ≡ found_among store.clauses literals (places_of hash store.clauses) → (r : Bool) → count_in r (clause_with literals f.clauses) ≡ slot_count r (slot_at store.clauses p)
   count_there p found r = ap (count_in r) (ap (clause_with literals) (sym k.clauses) ∙ (stands_found store.hasher store.clauses literals hash k.hashed e p found).is)
 
   pub count_none : None ≡ found_among store.clauses literals (places_of hash store.clauses) → (r : Bool) → count_in r (clause_with literals f.clauses) ≡ 0
@@ -215,7 +215,7 @@ module _ (store : Store) (f : Stored) (k : KeepsClauses store f) (literals : Lis
       let was : clause_with literals f.clauses ≡ Some (slot_at store.clauses p).clause = ap (clause_with literals) (sym k.clauses) ∙ s.is in
       record {
         stored = record {
-          clauses = ap live n ∙ sym (s.more r id) ∙ ap (with_clause r id literals) k.clauses;
+          clauses = ap live n ∙ sym (s.more r id) ∙ ap (with_stored_clause r id literals) k.clauses;
           hashed = subst (AreHashed store.hasher) (sym n) (hashed_set store.hasher store.clauses p (record (slot_at store.clauses p) { clause = with_count r (slot_at store.clauses p).clause }) k.hashed
               (λ g. hashed_at store.hasher store.clauses p s.inside k.hashed s.there ∙ ap (hash_by (solver_name_of store.hasher) (width_of store.hasher)) (counted_literals r (slot_at store.clauses p).clause)));
           names = k.names;
@@ -242,7 +242,7 @@ module _ (store : Store) (f : Stored) (k : KeepsClauses store f) (literals : Lis
       let was : clause_with literals f.clauses ≡ None = ap (clause_with literals) (sym k.clauses) ∙ s.none in
       record {
         stored = record {
-          clauses = ap live n ∙ sym (s.new r id hash) ∙ ap (with_clause r id literals) k.clauses;
+          clauses = ap live n ∙ sym (s.new r id hash) ∙ ap (with_stored_clause r id literals) k.clauses;
           hashed = subst (AreHashed store.hasher) (sym n) (hashed_push store.hasher store.clauses (stored_slot r id hash literals) k.hashed (e ∙ ap (hash_by (solver_name_of store.hasher) (width_of store.hasher)) (fresh_literals r)));
           names = k.names;
           width = k.width;

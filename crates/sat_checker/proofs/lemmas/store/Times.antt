@@ -3,7 +3,7 @@ use Rattle.std.proofs.Common.{ℕ, ◌+◌, ◌-◌, ◌<◌, ◌≤◌, ◌^◌
 use Rattle.std.proofs.lemmas.Bool.{eq-eqb, eqb-true, eqb-false}
 use Rattle.std.proofs.lemmas.List.{drop_more, get_or_default}
 use Rattle.sat_base.specs.declared.table.Table.{Table}
-use Rattle.sat_base.specs.values.Tables.{value_at, HasRoom}
+use Rattle.sat_base.specs.values.Tables.{value_at, HasPlaceFor}
 use Rattle.sat_base.proofs.lemmas.values.TableLemmas.{has_room}
 use Rattle.sat_checker.proofs.lemmas.store.Places.{eqb_comm}
 use Rattle.sat_checker.specs.inner.OccurrenceView.{times_in}
@@ -22,7 +22,7 @@ next_times ls i x h e k =
     ap (times_in k) (drop_more ls i x h) ∙ ap (λ y. cond (eqb y k) 1 0 + times_in k (drop (i + 1) ls)) (sym e) ∙ ap (λ b. cond b 1 0 + times_in k (drop (i + 1) ls)) (eqb_comm x k)
 
 -- a count that isn't zero has room
-pub some_room : (t : Table ℕ) (x : ℕ) → 0 < value_at 0 t x → HasRoom t x
+pub some_room : (t : Table ℕ) (x : ℕ) → 0 < value_at 0 t x → HasPlaceFor t x
 some_room t x h = has_room 0 t x (λ e. omega (arith, h, e))
 
 -- one count more, and one less
@@ -42,12 +42,12 @@ module _ (t new : Table ℕ) (p x c : ℕ) (is : p ≡ x) (read : c ≡ value_at
       go false e n = omega (arith, n)
 
 -- room for one literal more
-pub room_next : (old new : Table ℕ) (ls : List ℕ) (i x : ℕ) → i < length ls → x ≡ get_or ls i x → ((j d : ℕ) → j < i → HasRoom old (get_or ls j d)) → ((k : ℕ) → HasRoom old k → HasRoom new k) → HasRoom new x
-    → (j d : ℕ) → j < i + 1 → HasRoom new (get_or ls j d)
+pub room_next : (old new : Table ℕ) (ls : List ℕ) (i x : ℕ) → i < length ls → x ≡ get_or ls i x → ((j d : ℕ) → j < i → HasPlaceFor old (get_or ls j d)) → ((k : ℕ) → HasPlaceFor old k → HasPlaceFor new k) → HasPlaceFor new x
+    → (j d : ℕ) → j < i + 1 → HasPlaceFor new (get_or ls j d)
 room_next old new ls i x inside is before others room j d h = go (eqb j i) refl
   where
-    go : (b : Bool) → eqb j i ≡ b → HasRoom new (get_or ls j d)
-    go true e = subst (λ k. HasRoom new (get_or ls k d)) (sym (eqb-true j i e)) (subst (HasRoom new) (is ∙ get_or_default ls i x d inside) room)
+    go : (b : Bool) → eqb j i ≡ b → HasPlaceFor new (get_or ls j d)
+    go true e = subst (λ k. HasPlaceFor new (get_or ls k d)) (sym (eqb-true j i e)) (subst (HasPlaceFor new) (is ∙ get_or_default ls i x d inside) room)
     go false e = let other = eqb-false j i e in others (get_or ls j d) (before j d (omega (arith, h, other)))
 
 pub fits_more : (r now left old all : ℕ) → r ≡ now → 1 ≤ left → now + left ≡ old + all → old + all < 2 ^ 64 → r + 1 < 2 ^ 64

@@ -7,7 +7,7 @@ use Rattle.sat_base.specs.values.Literals.{negated}
 use Rattle.sat_checker.specs.LiteralSets.{is_among}
 use Rattle.sat_checker.specs.Propagation.{PassesCheck}
 use Rattle.sat_checker.specs.Stored.{Stored, StoredUnit, unit_literals, bucket}
-use Rattle.sat_checker.specs.Accepts.{Passes}
+use Rattle.sat_checker.specs.Accepts.{PassesByHashes}
 use Rattle.sat_checker.specs.inner.StoreView.{KeepsClauses}
 use Rattle.sat_checker.specs.declared.store.Store.{Store}
 use Rattle.sat_checker.proofs.lemmas.propagation.Members.{same_passes}
@@ -15,13 +15,13 @@ use Rattle.sat_checker.proofs.lemmas.propagation.Soundness.{negated-negated}
 use Rattle.sat_checker.specs.Storing.{unit_id}
 use Rattle.sat_checker.proofs.lemmas.sets.Order.{among-append, among-reverse}
 use Rattle.sat_checker.proofs.lemmas.sets.Subsets.{any_true, some_of}
-use Rattle.sat_checker.specs.inner.LitNumbers.{number_at, ArePlaced}
+use Rattle.sat_checker.specs.inner.LitNumbers.{number_at, AreTrailPlaces}
 use Rattle.sat_checker.specs.inner.Marks.{NoRepeats}
-use Rattle.sat_checker.specs.inner.UnitView.{AreUnits}
+use Rattle.sat_checker.specs.inner.UnitView.{UnitsInvariant}
 use Rattle.sat_checker.specs.declared.units.lit_numbers.LitNumbers.{LitNumbers}
 use Rattle.sat_checker.proofs.lemmas.sets.Trails.{same_tests, placed_more}
 
-pub among_units : (us value : List StoredUnit) (ids places : LitNumbers) (assigned : List ℕ) → us ≡ value → AreUnits us ids places assigned → (l : ℕ) → is_among assigned l ≡ is_among (map (λ u. u.literal) value) l
+pub among_units : (us value : List StoredUnit) (ids places : LitNumbers) (assigned : List ℕ) → us ≡ value → UnitsInvariant us ids places assigned → (l : ℕ) → is_among assigned l ≡ is_among (map (λ u. u.literal) value) l
 among_units us value ids places assigned is u l = u.assumed l ∙ ap (λ v. is_among (map (λ (w : StoredUnit). w.literal) v) l) is
 
 eqb_turned : (x y : ℕ) → eqb x y ≡ eqb y x
@@ -47,16 +47,16 @@ once_more (m ∷ ms) l once n =
     let parts = or_parts (eqb m l) (is_among ms l) n in
     (among-append ms (l ∷ []) m ∙ or_from (is_among ms m) (eqb l m || false) once.0 (or_from (eqb l m) false (eqb_turned l m ∙ parts.0) refl), once_more ms l once.1 parts.1)
 
-pub units_more : (us : List StoredUnit) (u : StoredUnit) (ids mid ids_new places between places_new : LitNumbers) (assigned all : List ℕ) (place : ℕ) → AreUnits us ids places assigned → is_among assigned u.literal ≡ false
+pub units_more : (us : List StoredUnit) (u : StoredUnit) (ids mid ids_new places between places_new : LitNumbers) (assigned all : List ℕ) (place : ℕ) → UnitsInvariant us ids places assigned → is_among assigned u.literal ≡ false
     → ((l : ℕ) → number_at mid l ≡ number_at ids l) → ((l : ℕ) → number_at ids_new l ≡ cond (eqb l u.literal) (Some u.id) (number_at mid l)) → ((l : ℕ) → number_at between l ≡ number_at places l)
-    → ((l : ℕ) → number_at places_new l ≡ cond (eqb l u.literal) (Some place) (number_at between l)) → all ≡ u.literal ∷ assigned → place ≡ length assigned → AreUnits (us ++ u ∷ []) ids_new places_new all
+    → ((l : ℕ) → number_at places_new l ≡ cond (eqb l u.literal) (Some place) (number_at between l)) → all ≡ u.literal ∷ assigned → place ≡ length assigned → UnitsInvariant (us ++ u ∷ []) ids_new places_new all
 units_more us u ids mid ids_new places between places_new assigned all place k n m p b q a e = record {
   assumed = λ l.
       ap (λ ls. is_among ls l) a ∙ ap (λ x. eqb u.literal l || x) (k.assumed l) ∙ turned (eqb u.literal l) (is_among literals l)
       ∙ sym (among-append literals (u.literal ∷ []) l) ∙ ap (λ ls. is_among ls l) (sym (map-append (λ (w : StoredUnit). w.literal) us (u ∷ [])));
   once = subst NoRepeats (sym (map-append (λ (w : StoredUnit). w.literal) us (u ∷ []))) (once_more literals u.literal k.once fresh);
   numbered = λ l. p l ∙ ap (cond (eqb l u.literal) (Some u.id)) (m l ∙ k.numbered l) ∙ sym (more_numbered us u l fresh);
-  placed = subst (ArePlaced places_new) (sym (reverse-append (u.literal ∷ []) assigned) ∙ ap reverse (sym a))
+  placed = subst (AreTrailPlaces places_new) (sym (reverse-append (u.literal ∷ []) assigned) ∙ ap reverse (sym a))
       (placed_more places places_new (reverse assigned) u.literal place k.placed (among-reverse assigned u.literal ∙ n) (e ∙ sym (length-reverse assigned))
       (λ l. q l ∙ ap (cond (eqb l u.literal) (Some place)) (b l)));
 }
@@ -92,7 +92,7 @@ contradicted_same us assigned ls e = same_tests _ _
 
 -- the check over what is kept is the definition's, whatever the order in which the units are assumed
 pub checked_units : {E : Type 0} (r : Result Bool E) (store : Store) (value : List StoredUnit) (assigned clause hashes : List ℕ) → ((l : ℕ) → is_among assigned l ≡ is_among (map (λ u. u.literal) value) l)
-    → IfOk r (λ b. (f : Stored) → KeepsClauses store f → (b ≡ true) ↔ PassesCheck assigned clause (map (bucket f) hashes)) → IfOk r (λ b. (f : Stored) → KeepsClauses store f → value ≡ f.units → (b ≡ true) ↔ Passes f clause hashes)
+    → IfOk r (λ b. (f : Stored) → KeepsClauses store f → (b ≡ true) ↔ PassesCheck assigned clause (map (bucket f) hashes)) → IfOk r (λ b. (f : Stored) → KeepsClauses store f → value ≡ f.units → (b ≡ true) ↔ PassesByHashes f clause hashes)
 checked_units (Err e) store value assigned clause hashes same h = tt
 checked_units (Ok b) store value assigned clause hashes same h = λ f k e.
     let exact = h f k in

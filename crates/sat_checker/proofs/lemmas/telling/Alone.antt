@@ -3,8 +3,8 @@ use Rattle.std.proofs.Common.{ℕ, ◌≡◌, List, [], ◌∷◌, Result, Ok, E
 use Rattle.anyhow.specs.declared.error.Error.{Error}
 use Rattle.sat_base.specs.device.Device.{Reader}
 use Rattle.sat_base.specs.steps.Steps.{Step}
-use Rattle.sat_checker.specs.CheckerView.{Seen, seen, Stands, Fails, Refuses, Stops, Breaks, BreaksAt, StarvesAt, AnswersStep, AnswersDelayed}
-use Rattle.sat_checker.specs.ProofView.{Went, GoesOn, AnswersProof}
+use Rattle.sat_checker.specs.CheckerView.{Seen, seen, Stands, Fails, FailsRefusing, FailsBeforeStep, FailsAtListener, BreaksAt, StarvesAt, AnswersStep, AnswersDelayed}
+use Rattle.sat_checker.specs.ProofView.{ReadsProofPart, StandsUnfailed, AnswersProof}
 use Rattle.sat_checker.specs.announcements.Announcements.{Told}
 use Rattle.sat_checker.specs.telling.Hearing.{Hearers, hearers, takes_all, HearsAll, HearsUpTo, HearsSince, HearsSinceUpTo, HearsFirst}
 use Rattle.sat_checker.specs.declared.kernel.Kernel.{Kernel}
@@ -57,16 +57,16 @@ module _ {V L : Type 0} (Hears : L → Told → Result Unit ProcessingError → 
     fails_down : (c : Seen (Hearers V L)) (steps : List Step) → Fails (HearsFirst takes_all Hears) before (hearers nobody begun) c steps → Fails Hears before begun (others_of c) steps
     fails_down c steps f = record { stands = stands_down c steps f.stands; failed = f.failed }
 
-    refuses_down : (c : Seen (Hearers V L)) (steps : List Step) → Refuses (HearsFirst takes_all Hears) before (hearers nobody begun) c steps → Refuses Hears before begun (others_of c) steps
+    refuses_down : (c : Seen (Hearers V L)) (steps : List Step) → FailsRefusing (HearsFirst takes_all Hears) before (hearers nobody begun) c steps → FailsRefusing Hears before begun (others_of c) steps
     refuses_down c steps f = record { fails = fails_down c steps f.fails; heard = since_down before _ (hearers nobody begun) c.listeners f.heard }
 
-    stops_down : (c : Seen (Hearers V L)) (steps : List Step) → Stops (HearsFirst takes_all Hears) before (hearers nobody begun) c steps → Stops Hears before begun (others_of c) steps
+    stops_down : (c : Seen (Hearers V L)) (steps : List Step) → FailsBeforeStep (HearsFirst takes_all Hears) before (hearers nobody begun) c steps → FailsBeforeStep Hears before begun (others_of c) steps
     stops_down c steps f = record {
       fails = fails_down c steps f.fails;
       heard = elim f.heard [ inl h ↦ inl (since_down before _ (hearers nobody begun) c.listeners h) | inr h ↦ inr (since_down before _ (hearers nobody begun) c.listeners h) ];
     }
 
-    breaks_down : (e : ProcessingError) (ts : List Told) (c : Seen (Hearers V L)) (steps : List Step) → Breaks (HearsFirst takes_all Hears) before (hearers nobody begun) e ts c steps → Breaks Hears before begun e ts (others_of c) steps
+    breaks_down : (e : ProcessingError) (ts : List Told) (c : Seen (Hearers V L)) (steps : List Step) → FailsAtListener (HearsFirst takes_all Hears) before (hearers nobody begun) e ts c steps → FailsAtListener Hears before begun e ts (others_of c) steps
     breaks_down e ts c steps f = record { fails = fails_down c steps f.fails; heard = since_down_to e before ts (hearers nobody begun) c.listeners f.heard }
 
     breaks_at_down : (e : ProcessingError) (c : Seen (Hearers V L)) (step : Step) (steps : List Step) → BreaksAt (HearsFirst takes_all Hears) before (hearers nobody begun) e c step steps → BreaksAt Hears before begun e (others_of c) step steps
@@ -101,10 +101,10 @@ module _ {V L : Type 0} (Hears : L → Told → Result Unit ProcessingError → 
     delayed_down (Err errors.IoError) c d steps a = absurd a
     delayed_down (Err errors.ParseError) c d steps a = absurd a
 
-    went_down : (c d : Seen (Hearers V L)) (from to : Reader) (earlier passed last : List Step) (rest : List ℕ) → Went c d from to earlier passed last rest → Went (others_of c) (others_of d) from to earlier passed last rest
+    went_down : (c d : Seen (Hearers V L)) (from to : Reader) (earlier passed last : List Step) (rest : List ℕ) → ReadsProofPart c d from to earlier passed last rest → ReadsProofPart (others_of c) (others_of d) from to earlier passed last rest
     went_down c d from to earlier passed last rest w = record { well = w.well; steps = w.steps; unended = w.unended; looks = w.looks }
 
-    on_down : (c : Seen (Hearers V L)) (steps : List Step) → GoesOn (HearsFirst takes_all Hears) before (hearers nobody begun) c steps → GoesOn Hears before begun (others_of c) steps
+    on_down : (c : Seen (Hearers V L)) (steps : List Step) → StandsUnfailed (HearsFirst takes_all Hears) before (hearers nobody begun) c steps → StandsUnfailed Hears before begun (others_of c) steps
     on_down c steps g = (stands_down c steps g.0, g.1)
 
     pub proof_down : (r : Result Unit CheckerError) (c d : Seen (Hearers V L)) (from to : Reader) (steps : List Step) → AnswersProof (HearsFirst takes_all Hears) before (hearers nobody begun) r c d from to steps → AnswersProof Hears before begun r (others_of c) (others_of d) from to steps

@@ -8,7 +8,7 @@ use Rattle.sat_checker.specs.LiteralSets.{canonical, is_tautology}
 use Rattle.sat_checker.specs.announcements.Announcements.{Announcement, announced, derived, derived_set, id_of_set, input}
 use Rattle.sat_checker.specs.announcements.Needed.{propagations}
 use Rattle.sat_checker.specs.telling.AnnouncingView.{stored_as, deletion_told}
-use Rattle.sat_checker.specs.telling.NotedView.{Adds, Announces}
+use Rattle.sat_checker.specs.telling.NotedView.{AppendsNews, Announces}
 use Rattle.sat_checker.specs.declared.announce.announcing.Change.{Change}
 use Rattle.sat_checker.specs.declared.announce.announcing.Deletion.{Deletion}
 use Rattle.sat_checker.specs.declared.announce.notes.Notes.{Notes}
@@ -19,7 +19,7 @@ pub none_behind : (xs : List Announcement) → xs ++ [] ≡ xs
 none_behind [] = refl
 none_behind (x ∷ xs) = ap (λ ys. x ∷ ys) (none_behind xs)
 
-pub none_added : (notes : Notes) → Adds notes [] notes
+pub none_added : (notes : Notes) → AppendsNews notes [] notes
 none_added notes = λ h. sym (none_behind notes.news)
 
 pub nothing_noted : (r : Result Bool StoreError) (old : State) (step : Step) (notes : Notes) → ((f : Stored) → announced f step ≡ []) → Announces r old step notes notes
@@ -27,15 +27,15 @@ nothing_noted (Ok b) old step notes e = λ _ f k a h. none_added notes h ∙ ap 
 nothing_noted (Err d) old step notes e = tt
 
 -- a clause of the formula, by whether unsat is recorded
-pub input_noted : (f : Stored) (clause : List ℕ) (before after : Notes) → f.unsat ≡ false → Adds before (input clause f) after → Adds before (announced f (AddClause clause)) after
+pub input_noted : (f : Stored) (clause : List ℕ) (before after : Notes) → f.unsat ≡ false → AppendsNews before (input clause f) after → AppendsNews before (announced f (AddClause clause)) after
 input_noted f clause before after e a = λ h. a h ∙ ap (λ b. before.news ++ cond b [] (input clause f)) (sym e)
 
-pub unsat_noted : (f : Stored) (clause : List ℕ) (notes : Notes) → f.unsat ≡ true → Adds notes (announced f (AddClause clause)) notes
+pub unsat_noted : (f : Stored) (clause : List ℕ) (notes : Notes) → f.unsat ≡ true → AppendsNews notes (announced f (AddClause clause)) notes
 unsat_noted f clause notes e = λ h. none_added notes h ∙ ap (λ b. notes.news ++ cond b [] (input clause f)) (sym e)
 
 -- a deletion, by what it will announce
-pub deletion_noted : (f : Stored) (clause : List ℕ) (proof : steps.Deletion) (literals : List ℕ) (deletion : Deletion) (before after : Notes) → (IsTrue before.hears → deletion_told literals deletion ≡ announced f (DeleteClause clause proof)) → Adds before (deletion_told literals deletion) after
-    → Adds before (announced f (DeleteClause clause proof)) after
+pub deletion_noted : (f : Stored) (clause : List ℕ) (proof : steps.Deletion) (literals : List ℕ) (deletion : Deletion) (before after : Notes) → (IsTrue before.hears → deletion_told literals deletion ≡ announced f (DeleteClause clause proof)) → AppendsNews before (deletion_told literals deletion) after
+    → AppendsNews before (announced f (DeleteClause clause proof)) after
 deletion_noted f clause proof literals deletion before after e a = λ h. a h ∙ ap (λ x. before.news ++ x) (e h)
 
 pub on_ok : {A E : Type 0} (r : Result A E) (P Q : Type 0) → (P → Q) → OnOk r P → OnOk r Q

@@ -5,7 +5,7 @@ use Rattle.sat_checker.specs.Stored.{Stored}
 use Rattle.sat_checker.specs.Storing.{settled, settled_by}
 use Rattle.sat_checker.specs.Accepts.{stored_after, ready_after}
 use Rattle.sat_checker.specs.KernelView.{KeepsAfter}
-use Rattle.sat_checker.specs.inner.FormulaView.{Standing}
+use Rattle.sat_checker.specs.inner.FormulaView.{RestOfStored}
 use Rattle.sat_checker.specs.declared.kernel.Kernel.{Kernel}
 use Rattle.sat_checker.specs.declared.state.State.{State}
 
@@ -28,7 +28,7 @@ end_settled steps = settled_none (stored_after steps)
 
 module _ (k : Kernel) (steps : List Step) (kept : KeepsAfter k.state steps) where
   pub conflict_of : k.state.formula.status.conflict ≡ kept.formula.conflict
-  conflict_of = ap (λ (s : Standing). s.conflict) kept.keeps.formula.status
+  conflict_of = ap (λ (s : RestOfStored). s.conflict) kept.keeps.formula.status
 
   pub none_pending : (stored_after steps).conflict ≡ None → k.state.formula.status.conflict ≡ None
   none_pending n = elim kept.left [

@@ -5,7 +5,7 @@ use Rattle.anyhow.specs.declared.error.Error.{Error}
 use Rattle.sat_base.specs.device.Device.{Reader}
 use Rattle.sat_base.specs.steps.Steps.{Step, AddClause}
 use Rattle.sat_checker.specs.KernelView as kernels
-use Rattle.sat_checker.specs.CheckerView.{Seen, Stands, Breaks, BreaksAt, AnswersStep, AnswersDelayed, ChecksStep, ChecksDelayed}
+use Rattle.sat_checker.specs.CheckerView.{Seen, Stands, FailsAtListener, BreaksAt, AnswersStep, AnswersDelayed, ChecksStep, ChecksDelayed}
 use Rattle.sat_checker.specs.ClausesView.{AnswersClauses, AddsClauses}
 use Rattle.sat_checker.specs.DimacsView.{AnswersDimacs, AddsDimacs, DimacsFaultOfSomebody}
 use Rattle.sat_checker.specs.ProofView.{AnswersProof, ChecksProof}
@@ -30,7 +30,7 @@ module _ {P T : Type 0} (Takes : P → Told → Result Unit Error → P → Type
   stands_here old steps s = record { kernel = s; heard = λ e. ([], sym (append-nil (before old steps)), refl) }
 
   module _ (earlier : List Told) (begun : Processing P T) (e : ProcessingError) where
-    broken : (told : List Told) (new : Seen (Processing P T)) (steps : List Step) → Breaks (HearsEach Takes Reads) earlier begun e told new steps → listeners_of begun ≡ record { processors = []; transcripts = [] } → ⊥
+    broken : (told : List Told) (new : Seen (Processing P T)) (steps : List Step) → FailsAtListener (HearsEach Takes Reads) earlier begun e told new steps → listeners_of begun ≡ record { processors = []; transcripts = [] } → ⊥
     broken told new steps b none = nobody_fails Takes Reads e b.heard.0 begun new.listeners none b.heard.2
 
     broken_at : (new : Seen (Processing P T)) (step : Step) (steps : List Step) → BreaksAt (HearsEach Takes Reads) earlier begun e new step steps → listeners_of begun ≡ record { processors = []; transcripts = [] } → ⊥

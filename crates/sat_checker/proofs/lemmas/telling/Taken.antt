@@ -14,12 +14,12 @@ use Rattle.sat_checker.specs.KernelView as kernels
 use Rattle.sat_checker.specs.KernelView.{KeepsAfter, LeavesConflict, records_of}
 use Rattle.sat_checker.specs.CheckerView.{Seen, seen, has_failed, Fails, AnswersStep, AnswersDelayed}
 use Rattle.sat_checker.specs.announcements.Announcements.{Announcement, AtClause, Told, announced, delayed, delayed_by, told_over, told_after, all_told_after}
-use Rattle.sat_checker.specs.inner.FormulaView.{KeepsFormula, refiled_in, TurnsBehind, Standing, Turns}
-use Rattle.sat_checker.specs.inner.StateView.{Keeps}
-use Rattle.sat_checker.specs.inner.TellingSteps.{announced_by, changed_by, put_back, failure_of, fault_of, records_in, TakesIn}
+use Rattle.sat_checker.specs.inner.FormulaView.{KeepsFormula, refiled_in, TurnsBehind, RestOfStored, KeepsOrSpends}
+use Rattle.sat_checker.specs.inner.StateView.{KeepsStored}
+use Rattle.sat_checker.specs.inner.TellingSteps.{announced_by, changed_by, put_back, failure_of, fault_of, records_in, TellsAndKeepsState}
 use Rattle.sat_checker.specs.inner.VariablesView.{variable_at}
 use Rattle.sat_checker.specs.telling.Hearing.{SameTold, HearsSame, HearsAll, HearsUpTo, HearsSince, HearsSinceUpTo, told_by}
-use Rattle.sat_checker.specs.telling.NotedView.{Adds}
+use Rattle.sat_checker.specs.telling.NotedView.{AppendsNews}
 use Rattle.sat_checker.specs.declared.kernel.Kernel.{Kernel}
 use Rattle.sat_checker.specs.declared.announce.notes.Notes.{Notes}
 use Rattle.sat_checker.specs.declared.state.State.{State}
@@ -119,7 +119,7 @@ module _ (old : Kernel) (steps : List Step) (s : kernels.Stands old steps) (well
   conflict_told =
       subst (λ f. delayed f ≡ AtClause old.state.formula.status.next_id false [] (one ∷ other ∷ []) ∷ []) is_stored
       (ap (λ c. delayed_by kept.formula.next_id c) (sym (conflict_of old steps kept) ∙ waits)
-      ∙ ap (λ n. AtClause n false [] (one ∷ other ∷ []) ∷ []) (sym (ap (λ (z : Standing). z.next_id) kept.keeps.formula.status)))
+      ∙ ap (λ n. AtClause n false [] (one ∷ other ∷ []) ∷ []) (sym (ap (λ (z : RestOfStored). z.next_id) kept.keeps.formula.status)))
 
   module _ {L : Type 0} (Hears : L → Told → Result Unit ProcessingError → L → Type 0) (before : List Told) (begun l : L) (heard : HearsSince Hears before (told_by old.state.formula.status.conflict steps) begun l) (names : ℕ → Variable) (each : (v : ℕ) → names v ≡ variable_at old.state.variables v) where
     so_far : HearsSince Hears before (told_after steps) begun l
@@ -157,7 +157,7 @@ changed_same (FailedAssumptions core hs) g h e = refl
 changed_same End g h e = refl
 
 records_same : (new : Kernel) (g : Stored) → KeepsFormula (refiled_in new.state.formula) g → records_in new.state.formula.status ≡ records_of g
-records_same new g k = ap (λ (z : Standing). record { unsat = z.unsat; ended = z.ended; var_deleted = z.var_deleted }) k.status
+records_same new g k = ap (λ (z : RestOfStored). record { unsat = z.unsat; ended = z.ended; var_deleted = z.var_deleted }) k.status
 
 -- nothing waits, so all was told
 told_now : (c : Option (ℕ × ℕ)) (steps : List Step) → (stored_after steps).conflict ≡ c → told_after steps ≡ told_by c steps
@@ -166,11 +166,11 @@ told_now None steps e =
     sym (ap (λ d. told_after steps ++ told_over (stored_after steps) (delayed_by (stored_after steps).next_id d)) e ∙ append-nil (told_after steps))
 
 module _ (old : Kernel) (steps : List Step) (s : kernels.Stands old steps) (well : kernels.has_failed old ≡ false) (none : old.state.formula.status.conflict ≡ None) where
-  pub ready_kept : Keeps old.state (ready_after steps)
-  ready_kept = let k = s.kept well in subst (Keeps old.state) (ready_is old steps k none) k.keeps
+  pub ready_kept : KeepsStored old.state (ready_after steps)
+  ready_kept = let k = s.kept well in subst (KeepsStored old.state) (ready_is old steps k none) k.keeps
 
   module _ (step : Step) where
-    pub step_stands : (new : Kernel) → Accepts (ready_after steps) step → Keeps new.state (effect step (ready_after steps)) → new.records ≡ records_in new.state.formula.status → kernels.Stands new (step ∷ steps)
+    pub step_stands : (new : Kernel) → Accepts (ready_after steps) step → KeepsStored new.state (effect step (ready_after steps)) → new.records ≡ records_in new.state.formula.status → kernels.Stands new (step ∷ steps)
     step_stands new a k r = record {
       accepted = (s.accepted, a);
       records = r ∙ records_same new (effect step (ready_after steps)) k.formula;
@@ -184,7 +184,7 @@ module _ (old : Kernel) (steps : List Step) (s : kernels.Stands old steps) (well
       pub all_before : HearsSince Hears before (all_told_after steps) begun l
       all_before = subst (λ c. HearsSince Hears before (told_by c steps) begun l) none heard
 
-      module _ (new : Kernel) (k : Keeps new.state (effect step (ready_after steps))) (news : List Announcement) (noted : news ≡ announced (ready_after steps) step) (was : Option (ℕ × Variable)) (put : was ≡ changed_by (variable_at old.state.variables) step) where
+      module _ (new : Kernel) (k : KeepsStored new.state (effect step (ready_after steps))) (news : List Announcement) (noted : news ≡ announced (ready_after steps) step) (was : Option (ℕ × Variable)) (put : was ≡ changed_by (variable_at old.state.variables) step) where
         abbrev names : ℕ → Variable
         names = put_back was (variable_at new.state.variables)
 
@@ -205,7 +205,7 @@ module _ (old : Kernel) (steps : List Step) (s : kernels.Stands old steps) (well
         step_heard c m e h =
             let told : HearsAll Hears (told_over (ready_after steps) (announced (ready_after steps) step)) l m =
             subst (λ xs. HearsAll Hears (told_over (ready_after steps) xs) l m) noted (all_alike Hears names (ready_after steps).variables looked news l m h) in
-            subst (λ ts. HearsSince Hears before ts begun m) (told_step step steps ∙ told_now c (step ∷ steps) (sym (ap (λ (z : Standing). z.conflict) k.formula.status) ∙ e))
+            subst (λ ts. HearsSince Hears before ts begun m) (told_step step steps ∙ told_now c (step ∷ steps) (sym (ap (λ (z : RestOfStored). z.conflict) k.formula.status) ∙ e))
             (since_more Hears before (all_told_after steps) (told_over (ready_after steps) (announced (ready_after steps) step)) begun l m all_before told)
 
         pub step_broken : (e : ProcessingError) (m : L) → HearsUpTo Hears e (announced_by names news) l m → HearsSinceUpTo Hears e before (told_after (step ∷ steps)) begun m
@@ -214,17 +214,17 @@ module _ (old : Kernel) (steps : List Step) (s : kernels.Stands old steps) (well
             subst (λ xs. HearsUpTo Hears e (told_over (ready_after steps) xs) l m) noted (up_to_alike Hears names (ready_after steps).variables looked e news l m h) in
             subst (λ ts. HearsSinceUpTo Hears e before ts begun m) (told_step step steps) (since_up_to_more Hears e before (all_told_after steps) (told_over (ready_after steps) (announced (ready_after steps) step)) begun l m all_before told)
 
-pub taken_on : {L : Type 0} (Hears : L → Told → Result Unit ProcessingError → L → Type 0) (told : List Told) (mid : Kernel) (l : L) (new : Kernel) (m : L) (r : Result Unit CheckerError) → TakesIn Hears told r (seen mid l) (seen new m) → OnOk r (kernels.has_failed new ≡ false)
+pub taken_on : {L : Type 0} (Hears : L → Told → Result Unit ProcessingError → L → Type 0) (told : List Told) (mid : Kernel) (l : L) (new : Kernel) (m : L) (r : Result Unit CheckerError) → TellsAndKeepsState Hears told r (seen mid l) (seen new m) → OnOk r (kernels.has_failed new ≡ false)
 taken_on Hears told mid l new m (Ok x) t = t.1.0
 taken_on Hears told mid l new m (Err e) t = tt
 
 -- what is recorded may differ before
-pub taken_from : {L : Type 0} (Hears : L → Told → Result Unit ProcessingError → L → Type 0) (told : List Told) (old mid : Kernel) (l : L) (new : Kernel) (m : L) (r : Result Unit CheckerError) → mid.state ≡ old.state → kernels.looks_of mid ≡ kernels.looks_of old → TakesIn Hears told r (seen mid l) (seen new m) → TakesIn Hears told r (seen old l) (seen new m)
+pub taken_from : {L : Type 0} (Hears : L → Told → Result Unit ProcessingError → L → Type 0) (told : List Told) (old mid : Kernel) (l : L) (new : Kernel) (m : L) (r : Result Unit CheckerError) → mid.state ≡ old.state → kernels.looks_of mid ≡ kernels.looks_of old → TellsAndKeepsState Hears told r (seen mid l) (seen new m) → TellsAndKeepsState Hears told r (seen old l) (seen new m)
 taken_from Hears told old mid l new m (Ok x) s k t = (record { state = t.0.state ∙ s; looks = t.0.looks ∙ k }, t.1)
 taken_from Hears told old mid l new m (Err e) s k t = (record { state = t.0.state ∙ s; looks = t.0.looks ∙ k }, t.1)
 
 -- what was noted, where somebody listens, is what is announced
-pub noted_told : (begun noted : Notes) (hears : Bool) (step : Step) (f : Stored) (old new : ℕ → Variable) (was : Option (ℕ × Variable)) → begun.hears ≡ hears → (hears ≡ true → begun.news ≡ []) → (hears ≡ true → was ≡ changed_by old step) → Adds begun (announced f step) noted
+pub noted_told : (begun noted : Notes) (hears : Bool) (step : Step) (f : Stored) (old new : ℕ → Variable) (was : Option (ℕ × Variable)) → begun.hears ≡ hears → (hears ≡ true → begun.news ≡ []) → (hears ≡ true → was ≡ changed_by old step) → AppendsNews begun (announced f step) noted
     → hears ≡ true → announced_by (put_back (changed_by old step) new) (announced f step) ≡ announced_by (put_back was new) noted.news
 noted_told begun noted hears step f old new was same none put adds h =
     ap (λ w. announced_by (put_back w new) (announced f step)) (sym (put h))
@@ -234,7 +234,7 @@ noted_told begun noted hears step f old new was same none put adds h =
 
 module _ (old : Kernel) (steps : List Step) (s : kernels.Stands old steps) (well : kernels.has_failed old ≡ false) (none : old.state.formula.status.conflict ≡ None) (step : Step) where
   -- it couldn't be stored
-  pub short_judges : (new : Kernel) (error : StoreError) → TurnsBehind (Err error) (JudgedBefore (ready_after steps) step) (Accepts (ready_after steps) step) (Keeps new.state (effect step (ready_after steps))) (effect step (ready_after steps)) → new.records ≡ old.records → kernels.has_failed new ≡ true
+  pub short_judges : (new : Kernel) (error : StoreError) → TurnsBehind (Err error) (JudgedBefore (ready_after steps) step) (Accepts (ready_after steps) step) (KeepsStored new.state (effect step (ready_after steps))) (effect step (ready_after steps)) → new.records ≡ old.records → kernels.has_failed new ≡ true
       → kernels.AnswersStep (Err (failure_of error)) old step new steps
   short_judges new stores.OutOfMemory h r f = (well, inl (h, step_fails old steps s well none step new r f))
   short_judges new stores.CounterEnd h r f = (well, inr h, step_fails old steps s well none step new r f)
@@ -243,16 +243,16 @@ module _ (old : Kernel) (steps : List Step) (s : kernels.Stands old steps) (well
   pub refused_judges : (new : Kernel) → (Accepts (ready_after steps) step → ⊥) → new.records ≡ old.records → kernels.has_failed new ≡ true → kernels.AnswersStep (Err errors.CheckFailed) old step new steps
   refused_judges new h r f = (well, h, step_fails old steps s well none step new r f)
 
-  module _ {L : Type 0} (Hears : L → Told → Result Unit ProcessingError → L → Type 0) (told : List Told) (mid : Kernel) (l : L) (accepts : Accepts (ready_after steps) step) (k : Keeps mid.state (effect step (ready_after steps))) where
-    pub taken_judges : (new : Kernel) (m : L) (r : Result Unit CheckerError) → TakesIn Hears told r (seen mid l) (seen new m) → kernels.AnswersStep r old step new steps
+  module _ {L : Type 0} (Hears : L → Told → Result Unit ProcessingError → L → Type 0) (told : List Told) (mid : Kernel) (l : L) (accepts : Accepts (ready_after steps) step) (k : KeepsStored mid.state (effect step (ready_after steps))) where
+    pub taken_judges : (new : Kernel) (m : L) (r : Result Unit CheckerError) → TellsAndKeepsState Hears told r (seen mid l) (seen new m) → kernels.AnswersStep r old step new steps
     taken_judges new m (Ok x) t = (
       well,
-      record { accepts = accepts; stands = step_stands old steps s well none step new accepts (subst (λ z. Keeps z (effect step (ready_after steps))) (sym t.0.state) k) t.1.1; goes_on = t.1.0 },
+      record { accepts = accepts; stands = step_stands old steps s well none step new accepts (subst (λ z. KeepsStored z (effect step (ready_after steps))) (sym t.0.state) k) t.1.1; goes_on = t.1.0 },
     )
     taken_judges new m (Err e) t = subst (λ z. kernels.AnswersStep (Err z) old step new steps) (sym t.1.3) (go t.1.2)
       where
         fails : kernels.Fails new (step ∷ steps)
-        fails = record { stands = step_stands old steps s well none step new accepts (subst (λ z. Keeps z (effect step (ready_after steps))) (sym t.0.state) k) t.1.1; failed = t.1.0 }
+        fails = record { stands = step_stands old steps s well none step new accepts (subst (λ z. KeepsStored z (effect step (ready_after steps))) (sym t.0.state) k) t.1.1; failed = t.1.0 }
 
         go : (f : ProcessingError) → kernels.AnswersStep (Err (fault_of f)) old step new steps
         go faults.OutOfMemory = (well, inr (inr (accepts, fails)))
@@ -265,7 +265,7 @@ module _ (old : Kernel) (steps : List Step) (s : kernels.Stands old steps) (well
     failed_with : (new : Kernel) (m : L) → new.records ≡ old.records → kernels.has_failed new ≡ true → Fails Hears before begun (seen new m) steps
     failed_with new m r f = failing Hears before begun (seen new m) steps (step_fails old steps s well none step new r f)
 
-    pub short_tells : (new : Kernel) (error : StoreError) → TurnsBehind (Err error) (JudgedBefore (ready_after steps) step) (Accepts (ready_after steps) step) (Keeps new.state (effect step (ready_after steps))) (effect step (ready_after steps)) → new.records ≡ old.records → kernels.has_failed new ≡ true
+    pub short_tells : (new : Kernel) (error : StoreError) → TurnsBehind (Err error) (JudgedBefore (ready_after steps) step) (Accepts (ready_after steps) step) (KeepsStored new.state (effect step (ready_after steps))) (effect step (ready_after steps)) → new.records ≡ old.records → kernels.has_failed new ≡ true
         → AnswersStep Hears before begun (Err (failure_of error)) (seen old l) step (seen new l) steps
     short_tells new stores.OutOfMemory h r f = (well, inl (h, record { fails = failed_with new l r f; heard = inr before_it }))
     short_tells new stores.CounterEnd h r f = (well, inr h, record { fails = failed_with new l r f; heard = inr before_it })
@@ -273,17 +273,17 @@ module _ (old : Kernel) (steps : List Step) (s : kernels.Stands old steps) (well
     pub refused_tells : (new : Kernel) → (Accepts (ready_after steps) step → ⊥) → new.records ≡ old.records → kernels.has_failed new ≡ true → AnswersStep Hears before begun (Err errors.CheckFailed) (seen old l) step (seen new l) steps
     refused_tells new h r f = (well, h, record { fails = failed_with new l r f; heard = before_it })
 
-    module _ (mid : Kernel) (accepts : Accepts (ready_after steps) step) (k : Keeps mid.state (effect step (ready_after steps))) (news : List Announcement) (noted : news ≡ announced (ready_after steps) step) (was : Option (ℕ × Variable)) (put : was ≡ changed_by (variable_at old.state.variables) step) where
+    module _ (mid : Kernel) (accepts : Accepts (ready_after steps) step) (k : KeepsStored mid.state (effect step (ready_after steps))) (news : List Announcement) (noted : news ≡ announced (ready_after steps) step) (was : Option (ℕ × Variable)) (put : was ≡ changed_by (variable_at old.state.variables) step) where
       abbrev told : List Told
       told = announced_by (put_back was (variable_at mid.state.variables)) news
 
-      pub taken_tells : (new : Kernel) (m : L) (r : Result Unit CheckerError) → TakesIn Hears told r (seen mid l) (seen new m) → AnswersStep Hears before begun r (seen old l) step (seen new m) steps
+      pub taken_tells : (new : Kernel) (m : L) (r : Result Unit CheckerError) → TellsAndKeepsState Hears told r (seen mid l) (seen new m) → AnswersStep Hears before begun r (seen old l) step (seen new m) steps
       taken_tells new m (Ok x) t = (
         well,
         record {
           accepts = accepts;
           stands = record {
-            kernel = step_stands old steps s well none step new accepts (subst (λ z. Keeps z (effect step (ready_after steps))) (sym t.0.state) k) t.1.1;
+            kernel = step_stands old steps s well none step new accepts (subst (λ z. KeepsStored z (effect step (ready_after steps))) (sym t.0.state) k) t.1.1;
             heard = λ e. step_heard old steps s well none step Hears before begun l heard mid k news noted was put new.state.formula.status.conflict m (ap (λ (z : State). z.formula.status.conflict) (sym t.0.state)) t.1.2;
           };
           goes_on = t.1.0;
@@ -292,14 +292,14 @@ module _ (old : Kernel) (steps : List Step) (s : kernels.Stands old steps) (well
       taken_tells new m (Err e) t = subst (λ z. AnswersStep Hears before begun (Err z) (seen old l) step (seen new m) steps) (sym t.1.3) (go t.1.2 t.1.4)
         where
           fails : Fails Hears before begun (seen new m) (step ∷ steps)
-          fails = failing Hears before begun (seen new m) (step ∷ steps) (record { stands = step_stands old steps s well none step new accepts (subst (λ z. Keeps z (effect step (ready_after steps))) (sym t.0.state) k) t.1.1; failed = t.1.0 })
+          fails = failing Hears before begun (seen new m) (step ∷ steps) (record { stands = step_stands old steps s well none step new accepts (subst (λ z. KeepsStored z (effect step (ready_after steps))) (sym t.0.state) k) t.1.1; failed = t.1.0 })
 
           go : (f : ProcessingError) → HearsUpTo Hears f told l m → AnswersStep Hears before begun (Err (fault_of f)) (seen old l) step (seen new m) steps
           go faults.OutOfMemory u = (well, inr (inr (accepts, record { fails = fails; heard = step_broken old steps s well none step Hears before begun l heard mid k news noted was put faults.OutOfMemory m u })))
           go (faults.ProofProcessorError cause) u = (well, inr (accepts, record { fails = fails; heard = step_broken old steps s well none step Hears before begun l heard mid k news noted was put (faults.ProofProcessorError cause) m u }))
 
 -- an answer that is no error
-pub turned : (r : Result Unit StoreError) (K : Type 0) (g : Stored) → is_err r ≡ false → Turns r K g → K
+pub turned : (r : Result Unit StoreError) (K : Type 0) (g : Stored) → is_err r ≡ false → KeepsOrSpends r K g → K
 turned (Ok x) K g e t = t
 turned (Err d) K g e t = absurd (true≢false e)
 
@@ -307,7 +307,7 @@ pub turned_none : (r : Result Unit StoreError) (P : Type 0) → is_err r ≡ fal
 turned_none (Ok x) P e p = p
 turned_none (Err d) P e p = absurd (true≢false e)
 
-pub turned_spent : (r : Result Unit StoreError) (K : Type 0) (g : Stored) → is_err r ≡ true → OnErr r (IsErrOf r stores.CounterEnd) → Turns r K g → IsSpent g
+pub turned_spent : (r : Result Unit StoreError) (K : Type 0) (g : Stored) → is_err r ≡ true → OnErr r (IsErrOf r stores.CounterEnd) → KeepsOrSpends r K g → IsSpent g
 turned_spent (Ok x) K g e h t = absurd (true≢false (sym e))
 turned_spent (Err stores.OutOfMemory) K g e h t = absurd cc
 turned_spent (Err stores.CounterEnd) K g e h t = t

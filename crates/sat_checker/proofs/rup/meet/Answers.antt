@@ -1,7 +1,7 @@
 use Rattle.std.proofs.Common.{ℕ, ◌≡◌, ◌+◌, ◌≤◌, [], ◌∷◌, length, Some, refl, ap, sym, subst, ◌∙◌, arith}
 use Rattle.std.proofs.lemmas.Result.{IfOk-from_err}
-use Rattle.sat_checker.specs.inner.Look.{verdict_of, Extends}
-use Rattle.sat_checker.specs.inner.Reasons.{clause_at, Leads}
+use Rattle.sat_checker.specs.inner.Look.{verdict_of, AssumesMore}
+use Rattle.sat_checker.specs.inner.Reasons.{clause_at, KeepsGround}
 use Rattle.sat_checker.specs.inner.SlotView.{literals_at}
 use Rattle.sat_checker.specs.inner.Walk.{falsified, opens, rests, verdict, walk_on}
 use Rattle.sat_checker.proofs.lemmas.propagation.Walking.{Extends-itself, Extends-more}
@@ -57,7 +57,7 @@ pub returns-in_ok-note-in-Opens-clause-noted : goal.returns-in_ok-note-in-Opens-
 returns-in_ok-note-in-Opens-clause-noted c =
     let v : verdict c.args.assigned.now (literals_at c.args.clauses.now c.args.place) ≡ opens c.in-Opens.lit =
     ap (verdict c.args.assigned.now) (sym c.literals.ensures.lent) ∙ sym c.look_at.ensures ∙ ap verdict_of c.in-Opens.is in
-    subst (λ x. Leads c.args.clauses.now c.args.passed.now c.args.assigned.now (clause_at c.args.clauses.now c.args.place ∷ []) c.note.new.self x []) (sym c.in_ok-assume-in-Opens.ensures.ok)
+    subst (λ x. KeepsGround c.args.clauses.now c.args.passed.now c.args.assigned.now (clause_at c.args.clauses.now c.args.place ∷ []) c.note.new.self x []) (sym c.in_ok-assume-in-Opens.ensures.ok)
     (leads_open c.args.clauses.now c.args.passed.now c.note.new.self c.args.assigned.now c.args.place c.requires c.in-Opens.lit v c.in_ok-note-in-Opens.ensures.noted)
 
 pub returns-in_ok-note-in-Opens-clause-read : goal.returns-in_ok-note-in-Opens-clause-read
@@ -79,7 +79,7 @@ returns-in-Falsified-clause-read c = read_conflict c.args.clauses.now c.args.pas
 
 pub returns-in_err-note-in-Opens-clause-extends : goal.returns-in_err-note-in-Opens-clause-extends
 returns-in_err-note-in-Opens-clause-extends c =
-    subst (Extends c.args.assigned.now) (sym c.in_ok-assume-in-Opens.ensures.ok) (Extends-more c.args.assigned.now c.args.assigned.now c.in-Opens.lit (Extends-itself c.args.assigned.now))
+    subst (AssumesMore c.args.assigned.now) (sym c.in_ok-assume-in-Opens.ensures.ok) (Extends-more c.args.assigned.now c.args.assigned.now c.in-Opens.lit (Extends-itself c.args.assigned.now))
 
 pub returns-in_ok-note-in-Opens-clause-met : goal.returns-in_ok-note-in-Opens-clause-met
 returns-in_ok-note-in-Opens-clause-met c =
@@ -88,7 +88,7 @@ returns-in_ok-note-in-Opens-clause-met c =
 
 pub returns-in_ok-note-in-Opens-clause-extends : goal.returns-in_ok-note-in-Opens-clause-extends
 returns-in_ok-note-in-Opens-clause-extends c =
-    subst (Extends c.args.assigned.now) (sym c.in_ok-assume-in-Opens.ensures.ok) (Extends-more c.args.assigned.now c.args.assigned.now c.in-Opens.lit (Extends-itself c.args.assigned.now))
+    subst (AssumesMore c.args.assigned.now) (sym c.in_ok-assume-in-Opens.ensures.ok) (Extends-more c.args.assigned.now c.args.assigned.now c.in-Opens.lit (Extends-itself c.args.assigned.now))
 
 pub returns-in-Rests-clause-met : goal.returns-in-Rests-clause-met
 returns-in-Rests-clause-met c =

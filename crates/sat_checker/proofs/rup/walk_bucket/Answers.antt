@@ -3,8 +3,8 @@ use Rattle.std.proofs.lemmas.Result.{IfOk-from_err}
 use Rattle.std.specs.Option.{IfSome}
 use Rattle.sat_checker.specs.LiteralSets.{is_among}
 use Rattle.sat_checker.specs.Looks.{total_length}
-use Rattle.sat_checker.specs.inner.PairView.{first_of, behind, from_on}
-use Rattle.sat_checker.specs.inner.Reasons.{clause_at, filed, Leads}
+use Rattle.sat_checker.specs.inner.PairView.{first_of, places_behind, from_on}
+use Rattle.sat_checker.specs.inner.Reasons.{clause_at, filed, KeepsGround}
 use Rattle.sat_checker.specs.inner.SlotView.{literals_at, places_of}
 use Rattle.sat_checker.specs.inner.Walk.{walk}
 use Rattle.sat_checker.proofs.lemmas.propagation.Walking.{Extends-itself, Extends-further, walk_more, walk_ends, looks_more, looks_ended}
@@ -45,7 +45,7 @@ loop-next-init c =
       walked = ap (walk c.args.assigned.now) (sym (bucket_literals c.args.hash c.args.clauses.now) ∙ ap (map (literals_at c.args.clauses.now)) (sym all));
       extends = Extends-itself c.args.assigned.now;
       looks = ap (λ qs. c.args.looks.now + total_length (map (literals_at c.args.clauses.now) qs)) all ∙ ap (λ ls. c.args.looks.now + total_length ls) (bucket_literals c.args.hash c.args.clauses.now);
-      leads = subst (Leads c.args.clauses.now c.args.passed.now c.args.assigned.now (filed c.args.hash c.args.clauses.now) c.args.passed.now c.args.assigned.now)
+      leads = subst (KeepsGround c.args.clauses.now c.args.passed.now c.args.assigned.now (filed c.args.hash c.args.clauses.now) c.args.passed.now c.args.assigned.now)
           (filed_at c.args.hash c.args.clauses.now ps refl ∙ ap (map (clause_at c.args.clauses.now)) (sym all)) (leads_itself c.args.clauses.now c.args.passed.now c.args.assigned.now (filed c.args.hash c.args.clauses.now));
       read = as_much _;
       rise = as_much _;
@@ -72,8 +72,8 @@ returns-in_err-meet-clause-looks c = record {
   rise = grind (arith, common_steps);
   most =
       let ps = places_of c.args.hash c.args.clauses.now in
-      let more = from_on (first_of (behind c.in-Some-next.place ps)) ps in
-      let left = left_step c.args.hash c.args.clauses.now c.loop-next.next c.in-Some-next.place c.in-Some-next.is c.loop-next.invariant.among (first_of (behind c.in-Some-next.place ps)) refl in
+      let more = from_on (first_of (places_behind c.in-Some-next.place ps)) ps in
+      let left = left_step c.args.hash c.args.clauses.now c.loop-next.next c.in-Some-next.place c.in-Some-next.is c.loop-next.invariant.among (first_of (places_behind c.in-Some-next.place ps)) refl in
       looks_ended (literals_at c.args.clauses.now) (c.in-Some-next.place ∷ more) 0 (omega arith) _ c.loop-next.looks c.meet.new.looks
       (ap (λ qs. c.loop-next.looks + total_length (map (literals_at c.args.clauses.now) qs)) (sym left) ∙ c.loop-next.invariant.looks) c.meet.ensures.looks;
 }
@@ -83,8 +83,8 @@ returns-then-branch-clause-looks c = record {
   rise = grind (arith, common_steps);
   most =
       let ps = places_of c.args.hash c.args.clauses.now in
-      let more = from_on (first_of (behind c.in-Some-next.place ps)) ps in
-      let left = left_step c.args.hash c.args.clauses.now c.loop-next.next c.in-Some-next.place c.in-Some-next.is c.loop-next.invariant.among (first_of (behind c.in-Some-next.place ps)) refl in
+      let more = from_on (first_of (places_behind c.in-Some-next.place ps)) ps in
+      let left = left_step c.args.hash c.args.clauses.now c.loop-next.next c.in-Some-next.place c.in-Some-next.is c.loop-next.invariant.among (first_of (places_behind c.in-Some-next.place ps)) refl in
       looks_ended (literals_at c.args.clauses.now) (c.in-Some-next.place ∷ more) 0 (omega arith) _ c.loop-next.looks c.meet.new.looks
       (ap (λ qs. c.loop-next.looks + total_length (map (literals_at c.args.clauses.now) qs)) (sym left) ∙ c.loop-next.invariant.looks) c.meet.ensures.looks;
 }
@@ -95,8 +95,8 @@ returns-then-branch-clause-extends c = Extends-further c.args.assigned.now c.loo
 pub returns-then-branch-clause-says : goal.returns-then-branch-clause-says
 returns-then-branch-clause-says c =
     let ps = places_of c.args.hash c.args.clauses.now in
-    let more = from_on (first_of (behind c.in-Some-next.place ps)) ps in
-    let left = left_step c.args.hash c.args.clauses.now c.loop-next.next c.in-Some-next.place c.in-Some-next.is c.loop-next.invariant.among (first_of (behind c.in-Some-next.place ps)) refl in (
+    let more = from_on (first_of (places_behind c.in-Some-next.place ps)) ps in
+    let left = left_step c.args.hash c.args.clauses.now c.loop-next.next c.in-Some-next.place c.in-Some-next.is c.loop-next.invariant.among (first_of (places_behind c.in-Some-next.place ps)) refl in (
       is_full c.args.hash c.args.clauses.now c.in-Some.first c.in-Some.ensures,
       walk_ends (literals_at c.args.clauses.now) (c.in-Some-next.place ∷ more) 0 (omega arith) _ c.loop-next.assigned
           (c.loop-next.invariant.walked ∙ ap (λ qs. walk c.loop-next.assigned (map (literals_at c.args.clauses.now) qs)) left) (rw c.if-branch.true at c.in_ok-meet.ensures.met),
@@ -105,10 +105,10 @@ returns-then-branch-clause-says c =
 pub returns-then-branch-clause-noted : goal.returns-then-branch-clause-noted
 returns-then-branch-clause-noted c =
     let ps = places_of c.args.hash c.args.clauses.now in
-    let more = from_on (first_of (behind c.in-Some-next.place ps)) ps in
-    let left = left_step c.args.hash c.args.clauses.now c.loop-next.next c.in-Some-next.place c.in-Some-next.is c.loop-next.invariant.among (first_of (behind c.in-Some-next.place ps)) refl in
+    let more = from_on (first_of (places_behind c.in-Some-next.place ps)) ps in
+    let left = left_step c.args.hash c.args.clauses.now c.loop-next.next c.in-Some-next.place c.in-Some-next.is c.loop-next.invariant.among (first_of (places_behind c.in-Some-next.place ps)) refl in
     ends_next c.args.clauses.now c.args.passed.now c.loop-next.passed c.meet.new.passed c.args.assigned.now c.loop-next.assigned c.meet.new.assigned (c.in-Some-next.place ∷ more) 0 (omega arith) _
-    (subst (λ qs. Leads c.args.clauses.now c.args.passed.now c.args.assigned.now (filed c.args.hash c.args.clauses.now) c.loop-next.passed c.loop-next.assigned (map (clause_at c.args.clauses.now) qs)) left c.loop-next.invariant.leads)
+    (subst (λ qs. KeepsGround c.args.clauses.now c.args.passed.now c.args.assigned.now (filed c.args.hash c.args.clauses.now) c.loop-next.passed c.loop-next.assigned (map (clause_at c.args.clauses.now) qs)) left c.loop-next.invariant.leads)
     (rw c.if-branch.true at c.in_ok-meet.ensures.noted)
 
 pub returns-then-branch-clause-read : goal.returns-then-branch-clause-read
@@ -133,7 +133,7 @@ loop-next-preserved c =
       looks = looks_more (literals_at c.args.clauses.now) (c.in-Some-next.place ∷ more) 0 (omega arith) _ c.loop-next.looks c.meet.new.looks
           (ap (λ qs. c.loop-next.looks + total_length (map (literals_at c.args.clauses.now) qs)) (sym left) ∙ c.loop-next.invariant.looks) c.meet.ensures.looks;
       leads = leads_next c.args.clauses.now c.args.passed.now c.loop-next.passed c.meet.new.passed c.args.assigned.now c.loop-next.assigned c.meet.new.assigned (c.in-Some-next.place ∷ more) 0 (omega arith) _
-          (subst (λ qs. Leads c.args.clauses.now c.args.passed.now c.args.assigned.now (filed c.args.hash c.args.clauses.now) c.loop-next.passed c.loop-next.assigned (map (clause_at c.args.clauses.now) qs)) left c.loop-next.invariant.leads)
+          (subst (λ qs. KeepsGround c.args.clauses.now c.args.passed.now c.args.assigned.now (filed c.args.hash c.args.clauses.now) c.loop-next.passed c.loop-next.assigned (map (clause_at c.args.clauses.now) qs)) left c.loop-next.invariant.leads)
           (rw c.if-branch.false at c.in_ok-meet.ensures.noted);
       read = read_further _ _ _ c.args.looks.now c.loop-next.looks c.meet.new.looks _ c.loop-next.invariant.read c.meet.ensures.looks c.in_ok-meet.ensures.read;
       rise = omega (arith, c.loop-next.invariant.rise, c.meet.ensures.looks);

@@ -1,5 +1,5 @@
 use Rattle.std.proofs.Common.{◌≡◌, ◌≢◌, ◌≤◌, ◌⊎◌, ℕ, inl, inr, [], ◌∷◌, Some, subst, sym, arith}
-use Rattle.sat_hints.specs.inner.Fronts.{limit_of, Leads}
+use Rattle.sat_hints.specs.inner.Fronts.{limit_of, LeadsToPlace}
 use Rattle.sat_hints.specs.inner.LineReading.{NoDigit}
 use Rattle.sat_hints.specs.declared.fronts.Place.TheVariants.{Digits, Item}
 use Rattle.sat_hints.proofs.lemmas.Fronts.{number_ends, number_goes, number_stops}
@@ -10,7 +10,7 @@ at_zero b number (inl h) e = omega arith
 at_zero b number (inr h) e = absurd (h e)
 
 pub returns-then-number-gt0 : goal.returns-then-number-gt0
-returns-then-number-gt0 c = subst (λ b. Leads (Digits c.args.part c.args.number) (b ∷ []) (Some (Item c.next.result))) (sym c.if-byte-eq32.true)
+returns-then-number-gt0 c = subst (λ b. LeadsToPlace (Digits c.args.part c.args.number) (b ∷ []) (Some (Item c.next.result))) (sym c.if-byte-eq32.true)
     (rw c.next.ensures (number_ends c.args.part c.args.number (omega arith) (omega arith)))
 
 pub returns-in_err-more : goal.returns-in_err-more

@@ -5,12 +5,12 @@ use Rattle.std.proofs.lemmas.List.{take_all, length-take-le}
 use Rattle.std.proofs.lemmas.List.Sums.{sum_by_push}
 use Rattle.std.proofs.lemmas.List.Elements.{filter-append, filter_passes, All-contains, Contains-push_cases}
 use Rattle.std.specs.List.{Contains, sum_by, count_by}
-use Rattle.sat_store.specs.clause.Buffer.{IsClause, Laid, Keeps, Adds, ChangesAt, header_at, lits_at}
+use Rattle.sat_store.specs.clause.Buffer.{IsClause, Laid, SameClauseAt, AppendsClause, ChangesAt, header_at, lits_at}
 use Rattle.sat_store.specs.clause.Header.{Header, index_of}
 use Rattle.sat_store.specs.declared.clause.tier.Tier.{Tier}
 use Rattle.sat_store.specs.declared.clause.tier.Tier.TheVariants.{Irred, Core, Mid, Local}
 use Rattle.sat_store.proofs.lemmas.clause.Laying.{same_count, clause_within, kept_below}
-use Rattle.sat_parts.specs.clause.Db.{Db, is_live, live_refs, is_live_of, garbage_of, AreRising, HoldsDb, one_more, one_less, AddsClause, PutsHeader, DeletesClause, MovesClause, ShortensClause}
+use Rattle.sat_parts.specs.clause.Db.{Db, is_live, live_refs, is_live_of, garbage_of, AreRising, HoldsDb, one_more, one_less, AddsLongClause, PutsHeader, DeletesClause, MovesClause, ShortensClause}
 use Rattle.sat_parts.proofs.lemmas.prop.BuildLemmas.{live_in, live_same}
 use Rattle.sat_parts.proofs.lemmas.clause.ListLemmas.{rising_push, sum_same, sum_changed, count_less, counted_some, filter_without, filter_same}
 
@@ -51,7 +51,7 @@ one b = cond b 1 0
 kept_counted : (words words' : List ℕ) (t : Tier) (p : ℕ) → header_at words' p ≡ header_at words p → is_live_of words' t p ≡ is_live_of words t p
 kept_counted words words' t p e = ap (λ (h : Header). not h.deleted && (index_of h.tier == index_of t)) e
 
-kept_garbage : (words words' : List ℕ) (p : ℕ) → Keeps words words' p → garbage_of words' p ≡ garbage_of words p
+kept_garbage : (words words' : List ℕ) (p : ℕ) → SameClauseAt words words' p → garbage_of words' p ≡ garbage_of words p
 kept_garbage words words' p k =
     ap (λ (h : Header). cond (not h.deleted) 0 (length (lits_at words' p) + 3)) k.header ∙ ap (λ (ls : List ℕ). cond (is_live words p) 0 (length ls + 3)) k.lits
 
@@ -229,14 +229,14 @@ abbrev pub after_add : ℕ → Tier → Db → Db
 after_add o tier db = record db { refs = db.refs ++ o ∷ []; counts = one_more tier db.counts }
 
 -- the clauses of the list are kept by an addition
-added_keeps : (words words' : List ℕ) (db : Db) (o : ℕ) (header : Header) (lits : List ℕ) → HoldsDb words db → Adds words words' o header lits → (p : ℕ) → Contains db.refs p → Keeps words words' p
+added_keeps : (words words' : List ℕ) (db : Db) (o : ℕ) (header : Header) (lits : List ℕ) → HoldsDb words db → AppendsClause words words' o header lits → (p : ℕ) → Contains db.refs p → SameClauseAt words words' p
 added_keeps words words' db o header lits h added p c = kept_below words words' db.refs o p header lits h.laid c added
 
 pub adds : (words : List ℕ) (db : Db) (words' : List ℕ) (o : ℕ) (header : Header) (lits : List ℕ) → HoldsDb words db → header.deleted ≡ false → 3 ≤ length lits → length (db.refs ++ o ∷ []) < 2 ^ 64 →
-    Adds words words' o header lits → AddsClause words db words' (after_add o header.tier db) o header lits
+    AppendsClause words words' o header lits → AddsLongClause words db words' (after_add o header.tier db) o header lits
 adds words db words' o header lits h new three few added =
     let tier : Tier = header.tier in
-    let keeps : (p : ℕ) → Contains db.refs p → Keeps words words' p = added_keeps words words' db o header lits h added in
+    let keeps : (p : ℕ) → Contains db.refs p → SameClauseAt words words' p = added_keeps words words' db o header lits h added in
     let live : is_live words' o ≡ true = ap (λ (x : Header). not x.deleted) added.header_there ∙ ap (λ b. not b) new in
     record {
       added = added;
@@ -300,14 +300,14 @@ deleted_by words db words' o h c put =
 -- the same for an addition, in the words of the call
 pub added_by : (words : List ℕ) (db db' inside : Db) (words' items : List ℕ) (tier : Tier) (o : ℕ) (header : Header) (lits : List ℕ) → inside ≡ db →
     db' ≡ record inside { refs = items; counts = one_more tier inside.counts } → items ≡ inside.refs ++ o ∷ [] → tier ≡ header.tier →
-    HoldsDb words db → header.deleted ≡ false → 3 ≤ length lits → length items < 2 ^ 64 → Adds words words' o header lits → AddsClause words db words' db' o header lits
+    HoldsDb words db → header.deleted ≡ false → 3 ≤ length lits → length items < 2 ^ 64 → AppendsClause words words' o header lits → AddsLongClause words db words' db' o header lits
 added_by words db db' inside words' items tier o header lits same is items_is tier_is h new three few added =
     let refs_is : items ≡ db.refs ++ o ∷ [] = items_is ∙ ap (λ (d : Db). d.refs ++ o ∷ []) same in
     let whole : db' ≡ after_add o header.tier db =
     is ∙ ap (λ (d : Db). record d { refs = items; counts = one_more tier d.counts }) same
     ∙ ap (λ (xs : List ℕ). record db { refs = xs; counts = one_more tier db.counts }) refs_is
     ∙ ap (λ (t : Tier). record db { refs = db.refs ++ o ∷ []; counts = one_more t db.counts }) tier_is in
-    subst (λ (d : Db). AddsClause words db words' d o header lits) (sym whole)
+    subst (λ (d : Db). AddsLongClause words db words' d o header lits) (sym whole)
     (adds words db words' o header lits h new three (subst (λ (xs : List ℕ). length xs < 2 ^ 64) refs_is few) added)
 
 -- the clause at o came to be shorter, as `set_header` says it
@@ -317,7 +317,7 @@ shortens words db words' o len h c long fits header lits change =
     let has : Contains db.refs o = live_in words db.refs o c in
     let live : is_live words o ≡ true = live_is words db.refs o c in
     let live' : is_live words' o ≡ true = ap (λ (x : Header). not x.deleted) header ∙ live in
-    let others : (p : ℕ) → Contains db.refs p → p ≢ o → Keeps words words' p = λ p d n. change.others p (h.laid.clauses p d) (h.laid.apart o p has d (λ e. n (sym e))) in
+    let others : (p : ℕ) → Contains db.refs p → p ≢ o → SameClauseAt words words' p = λ p d n. change.others p (h.laid.clauses p d) (h.laid.apart o p has d (λ e. n (sym e))) in
     let flags : (p : ℕ) → Contains db.refs p → (is_live words' p ≡ is_live words p) × ((header_at words' p).tier ≡ (header_at words p).tier) = λ p d. elim (cases_eq p o) [
       | inl e ↦ (
         ap (λ z. is_live words' z) e ∙ ap (λ (x : Header). not x.deleted) header ∙ ap (λ z. is_live words z) (sym e),

@@ -4,21 +4,21 @@ use Rattle.std.proofs.lemmas.Bool.{cases_eq}
 use Rattle.std.proofs.lemmas.List.{length_push, take_all, get_or-take}
 use Rattle.std.specs.List.{Contains, items_where_true}
 use Rattle.std.specs.List.Retain.{ReturnsInTurn, IsFiltered}
-use Rattle.sat_store.specs.clause.Buffer.{Laid, Keeps, header_at}
+use Rattle.sat_store.specs.clause.Buffer.{Laid, SameClauseAt, header_at}
 use Rattle.sat_store.specs.clause.Header.{Header}
 use Rattle.sat_parts.specs.clause.Db.{AreRising, PutsHeader, is_live, live_refs}
-use Rattle.sat_parts.specs.clause.Filtered.{AreKept, Filtering}
+use Rattle.sat_parts.specs.clause.Filtered.{SameClausesAt, Filtering}
 use Rattle.sat_parts.proofs.lemmas.clause.ListLemmas.{place_in, at_place, in_head, in_tail, there, rising_distinct, filter_same}
 use Rattle.sat_parts.proofs.lemmas.clause.DbLemmas.{live_is}
 use Rattle.sat_parts.proofs.lemmas.prop.BuildLemmas.{live_in, live_place, live_next, live_skip}
 
-keeps_itself : (words refs : List ℕ) (p : ℕ) → Laid words refs → Contains refs p → Keeps words words p
+keeps_itself : (words refs : List ℕ) (p : ℕ) → Laid words refs → Contains refs p → SameClauseAt words words p
 keeps_itself words refs p laid c = record { clause = laid.clauses p c; header = refl; lits = refl }
 
-keeps_on : (a b c : List ℕ) (p : ℕ) → Keeps a b p → Keeps b c p → Keeps a c p
+keeps_on : (a b c : List ℕ) (p : ℕ) → SameClauseAt a b p → SameClauseAt b c p → SameClauseAt a c p
 keeps_on a b c p x y = record { clause = y.clause; header = y.header ∙ x.header; lits = y.lits ∙ x.lits }
 
-live_kept : (old new : List ℕ) (p : ℕ) → Keeps old new p → is_live old p ≡ is_live new p
+live_kept : (old new : List ℕ) (p : ℕ) → SameClauseAt old new p → is_live old p ≡ is_live new p
 live_kept old new p k = ap (λ (h : Header). not h.deleted) (sym k.header)
 
 pub filtering_none : {F : Type 0} (R : F → ℕ → Bool → F → Type 0) (f : F) (words refs : List ℕ) → Laid words refs → Filtering R f words words refs 0 f
@@ -81,8 +81,8 @@ picked_false (false ∷ bs) (x ∷ xs) o e = picked_false bs xs o (omega arith)
 
 -- a live clause that is next was live before, and is as it was
 pub filtering_kept : {F : Type 0} (R : F → ℕ → Bool → F → Type 0) (f f' : F) (old new refs : List ℕ) (at o : ℕ) → Filtering R f old new refs at f' → at < length refs →
-    o ≡ get_or refs at 0 → Keeps old new o
-filtering_kept R f f' old new refs at o h lt e = subst (λ p. Keeps old new p) (sym e) (h.rest at (omega arith) lt)
+    o ≡ get_or refs at 0 → SameClauseAt old new o
+filtering_kept R f f' old new refs at o h lt e = subst (λ p. SameClauseAt old new p) (sym e) (h.rest at (omega arith) lt)
 
 pub filtering_alive : {F : Type 0} (R : F → ℕ → Bool → F → Type 0) (f f' : F) (old new refs : List ℕ) (at o : ℕ) → Filtering R f old new refs at f' → at < length refs →
     o ≡ get_or refs at 0 → is_live new o ≡ true → Contains (live_refs old refs) o
@@ -124,7 +124,7 @@ filtering_drop R f f' f'' old new new' refs at p rising h lt is live asked puts 
     let before : live_refs old (take (at + 1) refs) ≡ live_refs old (take at refs) ++ get_or refs at 0 ∷ [] =
     live_next old refs at lt (live_kept old new (get_or refs at 0) (h.rest at (omega arith) lt) ∙ alive) in
     let dead : is_live new' (get_or refs at 0) ≡ false = ap (λ (x : Header). not x.deleted) put.header_there in
-    let other : (k : ℕ) → k < length refs → k ≢ at → Keeps new new' (get_or refs k 0) = λ k b n.
+    let other : (k : ℕ) → k < length refs → k ≢ at → SameClauseAt new new' (get_or refs k 0) = λ k b n.
     put.others (get_or refs k 0) (place_in refs k b) (λ e. n (rising_distinct refs k at rising b lt e)) in
     record {
       answers = h.answers ++ false ∷ [];
@@ -135,21 +135,21 @@ filtering_drop R f f' f'' old new new' refs at p rising h lt is live asked puts 
       front = λ k a b e. elim (cases_eq k at) [
         | inl q ↦ absurd (let x : true ≡ false = sym e ∙ ap (λ z. is_live new' (get_or refs z 0)) q ∙ dead in cc)
         | inr n ↦
-            let y : Keeps new new' (get_or refs k 0) = other k b n in
+            let y : SameClauseAt new new' (get_or refs k 0) = other k b n in
             keeps_on old new new' (get_or refs k 0) (h.front k (omega arith) b (live_kept new new' (get_or refs k 0) y ∙ e)) y
       ];
       rest = λ k a b. keeps_on old new new' (get_or refs k 0) (h.rest k (omega arith) b) (other k b (omega arith));
     }
 
 pub filtering_all : {F : Type 0} (R : F → ℕ → Bool → F → Type 0) (f f' : F) (old new refs : List ℕ) (at : ℕ) → Filtering R f old new refs at f' → at ≡ length refs →
-    IsFiltered R f (live_refs old refs) (live_refs new refs) × AreKept old new (live_refs new refs)
+    IsFiltered R f (live_refs old refs) (live_refs new refs) × SameClausesAt old new (live_refs new refs)
 filtering_all R f f' old new refs at h e =
     let all : take at refs ≡ refs = take_all at refs (omega arith) in (
       subst (λ (xs : List ℕ). IsFiltered R f (live_refs old xs) (live_refs new xs)) all (h.answers, f', h.size, h.asked, h.live),
       λ o c.
           let d : Contains refs o = live_in new refs o c in
           let q : get_or refs d.0 0 ≡ o = at_place refs o d in
-          subst (λ p. Keeps old new p) q (h.front d.0 (omega (arith, d.1)) d.1 (ap (λ p. is_live new p) q ∙ live_is new refs o c)),
+          subst (λ p. SameClauseAt old new p) q (h.front d.0 (omega (arith, d.1)) d.1 (ap (λ p. is_live new p) q ∙ live_is new refs o c)),
     )
 
 -- what is picked from a list is among it

@@ -3,11 +3,11 @@ use Rattle.std.proofs.Common.{ℕ, ◌+◌, ◌-◌, ◌^◌, ◌≤◌, min, Li
 use Rattle.sat_store.specs.clause.Buffer.{lits_at}
 use Rattle.sat_store.specs.clause.Header.{Header, index_of}
 use Rattle.sat_parts.specs.clause.Db.{Db, HoldsDb, is_live, live_refs, is_live_of, garbage_of}
-use Rattle.sat_parts.specs.clause.Orders.{Kept, Reorders}
+use Rattle.sat_parts.specs.clause.Orders.{SameUpToOrder, Reorders}
 use Rattle.sat_parts.proofs.lemmas.clause.ListLemmas.{sum_same}
 use Rattle.sat_parts.proofs.lemmas.prop.BuildLemmas.{live_in}
 
-pub held_kept : (old new : List ℕ) (db : Db) → HoldsDb old db → Kept old new db.refs → HoldsDb new db
+pub held_kept : (old new : List ℕ) (db : Db) → HoldsDb old db → SameUpToOrder old new db.refs → HoldsDb new db
 held_kept old new db h k = record {
   laid = k.laid;
   rising = h.rising;

@@ -5,8 +5,8 @@ use Rattle.std.proofs.lemmas.Bool.Decides.{nat_tests}
 use Rattle.std.proofs.lemmas.List.Edits.{swap_is}
 use Rattle.std.proofs.lemmas.List.Sorted.{IsPermutation-refl, IsPermutation-trans, IsPermutation-swap}
 use Rattle.std.specs.List.{Contains}
-use Rattle.sat_store.specs.clause.Buffer.{IsClause, Keeps, ChangesAt, header_at, lits_at, swapped}
-use Rattle.sat_parts.specs.clause.Orders.{Shuffled, Shuffles, Kept, Reorders}
+use Rattle.sat_store.specs.clause.Buffer.{IsClause, SameClauseAt, ChangesAt, header_at, lits_at, swapped}
+use Rattle.sat_parts.specs.clause.Orders.{Shuffled, Shuffles, SameUpToOrder, Reorders}
 use Rattle.sat_parts.specs.clause.Stored.{AreClauses, lit_of, size_of}
 
 -- where the literal at k stood before places i and j were exchanged
@@ -116,8 +116,8 @@ shuffles_trans a b c o x y = record {
   lits = shuffled_trans (lits_at a o) (lits_at b o) (lits_at c o) x.lits y.lits;
   laid = λ refs h l. y.laid refs h (x.laid refs h l);
   others = λ refs p h l g n.
-      let f : Keeps a b p = x.others refs p h l g n in
-      let s : Keeps b c p = y.others refs p h (x.laid refs h l) g n in
+      let f : SameClauseAt a b p = x.others refs p h l g n in
+      let s : SameClauseAt b c p = y.others refs p h (x.laid refs h l) g n in
       record { clause = s.clause; header = s.header ∙ f.header; lits = s.lits ∙ f.lits };
 }
 
@@ -143,8 +143,8 @@ pub reorders_trans : (a b c live : List ℕ) → Reorders a b live → Reorders 
 reorders_trans a b c live x y = record {
   size = y.size ∙ x.size;
   all = λ refs h l.
-      let f : Kept a b refs = x.all refs h l in
-      let s : Kept b c refs = y.all refs h f.laid in
+      let f : SameUpToOrder a b refs = x.all refs h l in
+      let s : SameUpToOrder b c refs = y.all refs h f.laid in
       record {
         laid = s.laid;
         headers = λ o g. s.headers o g ∙ f.headers o g;
@@ -170,7 +170,7 @@ reorders_one a b live o g s = record {
 
 pub kept_clauses : (a b live : List ℕ) (count : ℕ) → AreClauses a live count → Reorders a b live → AreClauses b live count
 kept_clauses a b live count h r =
-    let k : Kept a b live = r.all live (λ o g. g) h.laid in
+    let k : SameUpToOrder a b live = r.all live (λ o g. g) h.laid in
     record {
       laid = k.laid;
       long = λ o g. let s : size_of b o ≡ size_of a o = (k.lits o g).size in omega (arith, h.long o g);

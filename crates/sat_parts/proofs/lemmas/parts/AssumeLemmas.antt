@@ -10,7 +10,7 @@ use Rattle.sat_parts.specs.prop.Graphs.{node_at}
 use Rattle.sat_parts.specs.prop.Values.{IsTrueLit, IsOpenLit}
 use Rattle.sat_parts.specs.prop.Trails.{LevelIs, with_level}
 use Rattle.sat_parts.specs.prop.State.{State, node, level, lit_at, Agrees}
-use Rattle.sat_parts.specs.prop.TrailWord.{IsLevelled, BeginsNone, decided_on}
+use Rattle.sat_parts.specs.prop.TrailWord.{IsLevelled, BeginsNoLevel, decided_on}
 use Rattle.sat_parts.proofs.lemmas.prop.StateLemmas.{level_low, lit_last, node_new, true_new}
 use Rattle.sat_parts.proofs.lemmas.clause.ListLemmas.{place_in}
 use Rattle.sat_parts.specs.parts.Frame.{KeepsTo}
@@ -123,11 +123,11 @@ placed_next ls below place l s x lt is h free there k =
     }
 
 -- a level begins at a place of a list or none does
-begins_behind : (x : ℕ) (xs : List ℕ) (i : ℕ) → x ≢ i → BeginsNone xs i → BeginsNone (x ∷ xs) i
+begins_behind : (x : ℕ) (xs : List ℕ) (i : ℕ) → x ≢ i → BeginsNoLevel xs i → BeginsNoLevel (x ∷ xs) i
 begins_behind x xs i n none zero b e = n e
 begins_behind x xs i n none (suc k) b e = none k (omega arith) e
 
-begins_or_not : (starts : List ℕ) (i : ℕ) → ((k : ℕ) × ((k < length starts) × (get_or starts k 0 ≡ i))) ⊎ BeginsNone starts i
+begins_or_not : (starts : List ℕ) (i : ℕ) → ((k : ℕ) × ((k < length starts) × (get_or starts k 0 ≡ i))) ⊎ BeginsNoLevel starts i
 begins_or_not [] i = inr (λ k b e. absurd (omega arith))
 begins_or_not (x ∷ xs) i = elim (cases_eq x i) [
   | inl e ↦ inl (0, (omega arith, e))

@@ -24,7 +24,7 @@ use Rattle.sat_parts.proofs.lemmas.prop.ReasonLemmas.{false_before_forth}
 use Rattle.sat_parts.proofs.lemmas.prop.RoomLemmas.{room_for}
 use Rattle.sat_parts.proofs.lemmas.prop.StepLemmas.{asks_enqueued}
 use Rattle.sat_parts.proofs.lemmas.prop.WordLemmas.{levels_stay}
-use Rattle.sat_parts.specs.parts.Round.{IsUnused, IsSoundBelow, IsSound}
+use Rattle.sat_parts.specs.parts.Round.{IsUnused, IsSoundBelow, RoundInvariant}
 use Rattle.sat_parts.specs.parts.Learned.{IsPending}
 use Rattle.sat_parts.proofs.lemmas.parts.ValueLemmas.{not_false}
 use Rattle.sat_parts.proofs.lemmas.parts.TurnLemmas.{turns_by, turns_enqueued, units_enqueued}
@@ -134,8 +134,8 @@ no_binary ls o e = cc
 
 -- a learned clause of two literals
 pub sound_binary : (words : List ℕ) (db : Db) (w : Watching) (x : Binaries) (a : Values) (g : List ImplNode) (t : Trailed) (q : Queue) (ls : List ℕ) →
-    IsSound words db w x a g t q → IsPending (state_of a g t) q ls → length ls ≡ 2 →
-    IsSound words db w (with_binary (get_or ls 0 0) (get_or ls 1 0) x) (made_true (get_or ls 0 0) a)
+    RoundInvariant words db w x a g t q → IsPending (state_of a g t) q ls → length ls ≡ 2 →
+    RoundInvariant words db w (with_binary (get_or ls 0 0) (get_or ls 1 0) x) (made_true (get_or ls 0 0) a)
     (with_node (variable (get_or ls 0 0)) (node_at t (Binary (get_or ls 1 0 ∷ []))) g) (with_lit (get_or ls 0 0) t) q
 sound_binary words db w x a g t q ls h p two =
     let c : ℕ = get_or ls 0 0 in

@@ -21,7 +21,7 @@ use Rattle.sat_parts.specs.prop.Ready.{state_of, AreWatched, AreLists}
 use Rattle.sat_parts.proofs.lemmas.prop.StateLemmas.{level_low, left_true, true_back, true_new, node_new, lit_front, agrees_enqueued, lit_from_parts}
 use Rattle.sat_parts.proofs.lemmas.prop.RoomLemmas.{room_for, below_from_value}
 use Rattle.sat_parts.proofs.lemmas.prop.WordLemmas.{levels_stay}
-use Rattle.sat_parts.specs.parts.Round.{AreUnits, IsSoundBelow, IsSound}
+use Rattle.sat_parts.specs.parts.Round.{UnitsAreUncaused, IsSoundBelow, RoundInvariant}
 use Rattle.sat_parts.specs.parts.Units.{removed, again}
 use Rattle.sat_parts.proofs.lemmas.parts.LevelLemmas.{left_all}
 use Rattle.sat_parts.proofs.lemmas.parts.ValueLemmas.{some_none}
@@ -108,7 +108,7 @@ agrees_cleared a g t h e =
 
 -- (e) units are taken off the trail once all is propagated
 pub sound_cleared : (words : List ℕ) (db : Db) (w : Watching) (b : Binaries) (a : Values) (g : List ImplNode) (t : Trailed) (q : Queue) →
-    IsSoundBelow words db w b a g t q (length t.starts + 1) → t.starts ≡ [] → t.head ≡ length t.lits → IsSound words db w b a (removed t.lits g) (with_cleared t) q
+    IsSoundBelow words db w b a g t q (length t.starts + 1) → t.starts ≡ [] → t.head ≡ length t.lits → RoundInvariant words db w b a (removed t.lits g) (with_cleared t) q
 sound_cleared words db w b a g t q h e done =
     let s : State = state_of a g t in
     let s' : State = state_of a (removed t.lits g) (with_cleared t) in
@@ -150,7 +150,7 @@ sound_cleared words db w b a g t q h e done =
     }
 
 -- at level 0 the reasons between rounds are those of units
-pub turns_of_units : (words live : List ℕ) (implied : List (List ℕ)) (s : State) → Agrees s → length s.trail.starts ≡ 0 → AreUnits s → AreInTurn words live implied s 0
+pub turns_of_units : (words live : List ℕ) (implied : List (List ℕ)) (s : State) → Agrees s → length s.trail.starts ≡ 0 → UnitsAreUncaused s → AreInTurn words live implied s 0
 turns_of_units words live implied s h n x i le b =
     subst (λ (r : Reason). Implies words live implied s i r) (sym (x i b (omega (arith, (h.levels i b).within)))) tt
 
@@ -267,8 +267,8 @@ again_left s l m h x left =
 
 -- (e) a unit taken off the trail is put back into the queue
 pub sound_again : (words : List ℕ) (db : Db) (w : Watching) (b : Binaries) (a : Values) (g : List ImplNode) (t : Trailed) (q : Queue) (l : ℕ) →
-    IsSound words db w b a g t q → t.starts ≡ [] → IsRemoved (state_of a g t) l →
-    IsSound words db w b (again l a) (with_node (variable l) (node_at t NoCause) g) (with_lit l t) q
+    RoundInvariant words db w b a g t q → t.starts ≡ [] → IsRemoved (state_of a g t) l →
+    RoundInvariant words db w b (again l a) (with_node (variable l) (node_at t NoCause) g) (with_lit l t) q
 sound_again words db w b a g t q l h e x =
     let s : State = state_of a g t in
     let u : State = dropped l s in
@@ -290,7 +290,7 @@ sound_again words db w b a g t q l h e x =
       holds = again_true s l (get_or ls z.place 0) old x z.holds;
       low = omega (arith, z.low, again_level s l (get_or ls z.place 0) old x n);
     } in
-    let units : AreUnits (enqueued l NoCause (dropped l (state_of a g t))) = units_enqueued u l NoCause mid free (omega arith) (λ f. refl) h.units in
+    let units : UnitsAreUncaused (enqueued l NoCause (dropped l (state_of a g t))) = units_enqueued u l NoCause mid free (omega arith) (λ f. refl) h.units in
     record {
       below = record {
         held = y.held;

@@ -20,7 +20,7 @@ use Rattle.sat_parts.proofs.lemmas.prop.RoomLemmas.{room_for}
 use Rattle.sat_parts.proofs.lemmas.prop.StepLemmas.{raised, agrees_raised, asks_raised, asks_for_reason, asks_enqueued}
 use Rattle.sat_parts.proofs.lemmas.prop.WordLemmas.{levels_stay}
 use Rattle.sat_parts.proofs.lemmas.parts.ValueLemmas.{some_none}
-use Rattle.sat_parts.specs.parts.Round.{AreReady, IsBased, KeepsPicks, IsSoundBelow, IsSound}
+use Rattle.sat_parts.specs.parts.Round.{AreReady, IsBased, KeepsPicks, IsSoundBelow, RoundInvariant}
 use Rattle.sat_parts.proofs.lemmas.parts.TurnLemmas.{turns_enqueued, turns_raised, units_enqueued}
 
 pub still_open : (values : List (Option Bool)) (l u : ℕ) (b : Bool) → variable l < length values → value_of (set values (variable l) (Some b)) u ≡ None → (u ≢ variable l) × (value_of values u ≡ None)
@@ -70,8 +70,8 @@ based_raised t l h done =
 
 -- an open literal is decided
 pub sound_decided : (words : List ℕ) (db : Db) (w : Watching) (b : Binaries) (a : Values) (g : List ImplNode) (t : Trailed) (q q' : Queue) (l : ℕ) →
-    IsSound words db w b a g t q → t.head ≡ length t.lits → IsOpenLit a.current l → variable l < length a.current → KeepsPicks a.current q q' (variable l) → length q'.available ≡ length q.available →
-    IsSound words db w b (made_true l a) (with_node (variable l) (node_at (with_level t) NoCause) g) (with_lit l (with_level t)) q'
+    RoundInvariant words db w b a g t q → t.head ≡ length t.lits → IsOpenLit a.current l → variable l < length a.current → KeepsPicks a.current q q' (variable l) → length q'.available ≡ length q.available →
+    RoundInvariant words db w b (made_true l a) (with_node (variable l) (node_at (with_level t) NoCause) g) (with_lit l (with_level t)) q'
 sound_decided words db w b a g t q q' l h done n below keeps size =
     let s : State = state_of a g t in
     let x : IsSoundBelow words db w b a g t q (length t.starts + 1) = h.below in

@@ -13,9 +13,9 @@ use Rattle.sat_store.specs.heap.Vsids.{Queue}
 use Rattle.sat_parts.specs.declared.prop.graph.ImplNode.{ImplNode}
 use Rattle.sat_parts.specs.declared.prop.graph.Reason.{Reason}
 use Rattle.sat_parts.specs.declared.prop.graph.Reason.TheVariants.{Unit as NoCause, Binary, Long}
-use Rattle.sat_parts.specs.clause.Db.{Db, HoldsDb, live_refs, without, PutsHeader, DeletesClause, MovesClause, IsAsserting}
-use Rattle.sat_parts.specs.clause.Activity.{PutsHeaders, Scale, StaysBelow, ComesTo, BumpsOne, BumpsAll, DecaysAll, later_bump, shifted, raised, with_activity, bumped_shifted}
-use Rattle.sat_parts.specs.clause.Collected.{FollowsClause, Collects, AllStay}
+use Rattle.sat_parts.specs.clause.Db.{Db, HoldsDb, live_refs, without, PutsHeader, DeletesClause, MovesClause, IsLockedClause}
+use Rattle.sat_parts.specs.clause.Activity.{PutsHeaders, Scale, StaysBelow, ReachesRescale, BumpsOne, BumpsAll, DecaysAll, later_bump, shifted, raised, with_activity, bumped_shifted}
+use Rattle.sat_parts.specs.clause.Collected.{FollowsClause, Collects, CollectsNothing}
 use Rattle.sat_parts.specs.clause.Stored.{lit_of}
 use Rattle.sat_parts.specs.prop.Binaries.{Binaries, implied_by, open_among, RemovesAssigned}
 use Rattle.sat_parts.specs.prop.Graphs.{is_unit}
@@ -30,7 +30,7 @@ use Rattle.sat_parts.proofs.lemmas.clause.ListLemmas.{at_place, place_in, in_wit
 use Rattle.sat_parts.proofs.lemmas.prop.BuildLemmas.{live_in}
 use Rattle.sat_parts.proofs.lemmas.prop.CallLemmas.{asks_fewer, asks_removed}
 use Rattle.sat_parts.proofs.lemmas.prop.CollectedLemmas.{with_graph, asks_collected}
-use Rattle.sat_parts.specs.parts.Round.{IsUnused, IsSoundBelow, IsSound}
+use Rattle.sat_parts.specs.parts.Round.{IsUnused, IsSoundBelow, RoundInvariant}
 use Rattle.sat_parts.proofs.lemmas.parts.TurnLemmas.{turns_by}
 
 -- fewer clauses are live, each with its literals as before
@@ -48,8 +48,8 @@ unused_fewer words refs words' refs' implied v same u = record {
 }
 
 pub sound_fewer : (words words' : List ℕ) (db db' : Db) (w w' : Watching) (b : Binaries) (a : Values) (g : List ImplNode) (t : Trailed) (q : Queue) →
-    IsSound words db w b a g t q → HoldsDb words' db' → LeavesClauses words db.refs words' db'.refs → KeepsReasons words' db'.refs (state_of a g t) → length w'.lists ≡ length w.lists →
-    (w'.enabled ≡ true → AreWatched words' (live_refs words' db'.refs) w'.lists (length a.current)) → IsSound words' db' w' b a g t q
+    RoundInvariant words db w b a g t q → HoldsDb words' db' → LeavesClauses words db.refs words' db'.refs → KeepsReasons words' db'.refs (state_of a g t) → length w'.lists ≡ length w.lists →
+    (w'.enabled ≡ true → AreWatched words' (live_refs words' db'.refs) w'.lists (length a.current)) → RoundInvariant words' db' w' b a g t q
 sound_fewer words words' db db' w w' b a g t q h held same reasons size watched =
     let s : State = state_of a g t in
     let x : IsSoundBelow words db w b a g t q (length t.starts + 1) = h.below in
@@ -84,8 +84,8 @@ without_there o p (x ∷ xs) n c = elim (cases_eq x o) [
 
 -- a clause is deleted that is no reason of the trail
 pub sound_without : (words words' : List ℕ) (db db' : Db) (w w' : Watching) (b : Binaries) (a : Values) (g : List ImplNode) (t : Trailed) (q : Queue) (o : ℕ) →
-    IsSound words db w b a g t q → DeletesClause words db words' db' o → w' ≡ record w { enabled = false } → ((i p : ℕ) → i < length t.lits → (node (state_of a g t) (lit_at (state_of a g t) i)).reason ≡ Long p → p ≢ o) →
-    IsSound words' db' w' b a g t q
+    RoundInvariant words db w b a g t q → DeletesClause words db words' db' o → w' ≡ record w { enabled = false } → ((i p : ℕ) → i < length t.lits → (node (state_of a g t) (lit_at (state_of a g t) i)).reason ≡ Long p → p ≢ o) →
+    RoundInvariant words' db' w' b a g t q
 sound_without words words' db db' w w' b a g t q o h x to_w free =
     let y : IsSoundBelow words db w b a g t q (length t.starts + 1) = h.below in
     let refs : db'.refs ≡ db.refs = x.refs in
@@ -102,7 +102,7 @@ sound_without words words' db db' w w' b a g t q o h x to_w free =
 
 -- a clause that isn't the reason of its first literal is deleted
 pub sound_deleted : (words words' : List ℕ) (db db' : Db) (w w' : Watching) (b : Binaries) (a : Values) (g : List ImplNode) (t : Trailed) (q : Queue) (o : ℕ) →
-    IsSound words db w b a g t q → DeletesClause words db words' db' o → w' ≡ record w { enabled = false } → (IsAsserting words a.current g o → ⊥) → IsSound words' db' w' b a g t q
+    RoundInvariant words db w b a g t q → DeletesClause words db words' db' o → w' ≡ record w { enabled = false } → (IsLockedClause words a.current g o → ⊥) → RoundInvariant words' db' w' b a g t q
 sound_deleted words words' db db' w w' b a g t q o h x to_w free =
     let s : State = state_of a g t in
     let y : IsSoundBelow words db w b a g t q (length t.starts + 1) = h.below in
@@ -150,7 +150,7 @@ levelled_collected words db s words' db' nodes' x h = record {
 }
 
 pub sound_collected : (words words' : List ℕ) (db db' : Db) (w w' : Watching) (b : Binaries) (a : Values) (g g' : List ImplNode) (t : Trailed) (q : Queue) →
-    IsSound words db w b a g t q → Collects words db g t.lits words' db' g' → w' ≡ record w { enabled = false } → IsSound words' db' w' b a g' t q
+    RoundInvariant words db w b a g t q → Collects words db g t.lits words' db' g' → w' ≡ record w { enabled = false } → RoundInvariant words' db' w' b a g' t q
 sound_collected words words' db db' w w' b a g g' t q h x to_w =
     let s : State = state_of a g t in
     let y : IsSoundBelow words db w b a g t q (length t.starts + 1) = h.below in
@@ -190,7 +190,7 @@ watched_same words words' live w count same h = record {
 
 -- only headers changed, and the same clauses are live
 pub sound_put : (words words' : List ℕ) (db db' : Db) (w : Watching) (b : Binaries) (a : Values) (g : List ImplNode) (t : Trailed) (q : Queue) (f : ℕ → Header) →
-    IsSound words db w b a g t q → HoldsDb words' db' → PutsHeaders words words' db.refs f → db'.refs ≡ db.refs → live_refs words' db'.refs ≡ live_refs words db.refs → IsSound words' db' w b a g t q
+    RoundInvariant words db w b a g t q → HoldsDb words' db' → PutsHeaders words words' db.refs f → db'.refs ≡ db.refs → live_refs words' db'.refs ≡ live_refs words db.refs → RoundInvariant words' db' w b a g t q
 sound_put words words' db db' w b a g t q f h held x refs live =
     let y : IsSoundBelow words db w b a g t q (length t.starts + 1) = h.below in
     let back : LeavesClauses words db.refs words' db'.refs = λ p c.
@@ -202,8 +202,8 @@ sound_put words words' db db' w b a g t q f h held x refs live =
 
 -- a collection that is due, and one that isn't or fails
 pub sound_collect : (words words' : List ℕ) (db db' : Db) (w w' : Watching) (b : Binaries) (a : Values) (g g' : List ImplNode) (t : Trailed) (q : Queue) (r : Result (Unit {0}) StoreError) →
-    IsSound words db w b a g t q → (length words / 2 < db.garbage → OnOk r (Collects words db g t.lits words' db' g')) → (length words / 2 < db.garbage → OnOk r (w' ≡ record w { enabled = false })) →
-    (db.garbage ≤ length words / 2 → AllStay words db g w words' db' g' w') → OnErr r (AllStay words db g w words' db' g' w') → IsSound words' db' w' b a g' t q
+    RoundInvariant words db w b a g t q → (length words / 2 < db.garbage → OnOk r (Collects words db g t.lits words' db' g')) → (length words / 2 < db.garbage → OnOk r (w' ≡ record w { enabled = false })) →
+    (db.garbage ≤ length words / 2 → CollectsNothing words db g w words' db' g' w') → OnErr r (CollectsNothing words db g w words' db' g' w') → RoundInvariant words' db' w' b a g' t q
 sound_collect words words' db db' w w' b a g g' t q (Ok x) h due off not_due same = elim (cases_lt (length words / 2) db.garbage) [
   | inl lt ↦ sound_collected words words' db db' w w' b a g g' t q h (due lt) (off lt)
   | inr le ↦ (let y = not_due le in rw (y.0, y.1, y.2, y.3) h)
@@ -212,14 +212,14 @@ sound_collect words words' db db' w w' b a g g' t q (Err x) h due off not_due sa
 
 -- a clause is deleted unless it is a reason
 pub sound_tried : (words words' : List ℕ) (db db' : Db) (w w' : Watching) (b : Binaries) (a : Values) (g : List ImplNode) (t : Trailed) (q : Queue) (o : ℕ) (r : Bool) →
-    IsSound words db w b a g t q → (r ≡ true → IsAsserting words a.current g o → ⊥) → (r ≡ true → DeletesClause words db words' db' o) → (r ≡ true → w' ≡ record w { enabled = false }) →
-    (r ≡ false → (words' ≡ words) × (db' ≡ db) × (w' ≡ w)) → IsSound words' db' w' b a g t q
+    RoundInvariant words db w b a g t q → (r ≡ true → IsLockedClause words a.current g o → ⊥) → (r ≡ true → DeletesClause words db words' db' o) → (r ≡ true → w' ≡ record w { enabled = false }) →
+    (r ≡ false → (words' ≡ words) × (db' ≡ db) × (w' ≡ w)) → RoundInvariant words' db' w' b a g t q
 sound_tried words words' db db' w w' b a g t q o true h free deleted off same = sound_deleted words words' db db' w w' b a g t q o h (deleted refl) (off refl) (free refl)
 sound_tried words words' db db' w w' b a g t q o false h free deleted off same = (let y = same refl in rw (y.0, y.1, y.2) h)
 
 -- the header of one clause changed, but for what the list counts
 pub sound_put_one : (words words' : List ℕ) (db : Db) (w : Watching) (b : Binaries) (a : Values) (g : List ImplNode) (t : Trailed) (q : Queue) (o : ℕ) (header : Header) →
-    IsSound words db w b a g t q → PutsHeader words words' db.refs o header → HoldsDb words' db → live_refs words' db.refs ≡ live_refs words db.refs → IsSound words' db w b a g t q
+    RoundInvariant words db w b a g t q → PutsHeader words words' db.refs o header → HoldsDb words' db → live_refs words' db.refs ≡ live_refs words db.refs → RoundInvariant words' db w b a g t q
 sound_put_one words words' db w b a g t q o header h x held live =
     let y : IsSoundBelow words db w b a g t q (length t.starts + 1) = h.below in
     let lits : (p : ℕ) → Contains db.refs p → lits_at words' p ≡ lits_at words p = λ p c. elim (cases_eq p o) [
@@ -235,7 +235,7 @@ sound_put_one words words' db w b a g t q o header h x held live =
 
 -- a clause is moved to a tier
 pub sound_tier : (words words' : List ℕ) (db db' : Db) (w : Watching) (b : Binaries) (a : Values) (g : List ImplNode) (t : Trailed) (q : Queue) (o : ℕ) (tier : Tier) →
-    IsSound words db w b a g t q → MovesClause words db words' db' o tier → IsSound words' db' w b a g t q
+    RoundInvariant words db w b a g t q → MovesClause words db words' db' o tier → RoundInvariant words' db' w b a g t q
 sound_tier words words' db db' w b a g t q o tier h x =
     let y : IsSoundBelow words db w b a g t q (length t.starts + 1) = h.below in
     let lits : (p : ℕ) → Contains db.refs p → lits_at words' p ≡ lits_at words p = λ p c. elim (cases_eq p o) [
@@ -251,10 +251,10 @@ sound_tier words words' db db' w b a g t q o tier h x =
 
 -- later bumps raise more
 pub sound_clause_decayed : (words words' : List ℕ) (db : Db) (w : Watching) (b : Binaries) (a : Values) (g : List ImplNode) (t : Trailed) (q : Queue) (c c' : Scale) →
-    IsSound words db w b a g t q → (later_bump c < 2 ^ 30 → words' ≡ words) → (2 ^ 30 ≤ later_bump c → DecaysAll words words' db.refs c c') →
-    HoldsDb words' db → live_refs words' db.refs ≡ live_refs words db.refs → IsSound words' db w b a g t q
+    RoundInvariant words db w b a g t q → (later_bump c < 2 ^ 30 → words' ≡ words) → (2 ^ 30 ≤ later_bump c → DecaysAll words words' db.refs c c') →
+    HoldsDb words' db → live_refs words' db.refs ≡ live_refs words db.refs → RoundInvariant words' db w b a g t q
 sound_clause_decayed words words' db w b a g t q c c' h later all held live = elim (cases_lt (later_bump c) (2 ^ 30)) [
-  | inl lt ↦ subst (λ (ws : List ℕ). IsSound ws db w b a g t q) (sym (later lt)) h
+  | inl lt ↦ subst (λ (ws : List ℕ). RoundInvariant ws db w b a g t q) (sym (later lt)) h
   | inr le ↦ sound_put words words' db db w b a g t q (shifted words) h held (all le).1 refl live
 ]
 
@@ -273,7 +273,7 @@ open_in values v m ls c =
 
 -- (e) the clauses of two literals of which a variable has a value are gone, while nothing is on the trail
 pub sound_removed : (words : List ℕ) (db : Db) (w : Watching) (b b' : Binaries) (a : Values) (g : List ImplNode) (t : Trailed) (q : Queue) →
-    IsSound words db w b a g t q → t.lits ≡ [] → RemovesAssigned a.current b b' → IsSound words db w b' a g t q
+    RoundInvariant words db w b a g t q → t.lits ≡ [] → RemovesAssigned a.current b b' → RoundInvariant words db w b' a g t q
 sound_removed words db w b b' a g t q h empty x =
     let s : State = state_of a g t in
     let y : IsSoundBelow words db w b a g t q (length t.starts + 1) = h.below in
@@ -311,15 +311,15 @@ others_tried words words' db db' o false deleted same p n c = (let y = same refl
 
 -- a clause's activity is raised
 pub sound_clause_bumped : (words words' : List ℕ) (db : Db) (w : Watching) (b : Binaries) (a : Values) (g : List ImplNode) (t : Trailed) (q : Queue) (o : ℕ) (c c' : Scale) →
-    IsSound words db w b a g t q → (StaysBelow words o c → BumpsOne words words' db.refs o c c') → (ComesTo words o c → BumpsAll words words' db.refs o c c') →
-    HoldsDb words' db → live_refs words' db.refs ≡ live_refs words db.refs → IsSound words' db w b a g t q
+    RoundInvariant words db w b a g t q → (StaysBelow words o c → BumpsOne words words' db.refs o c c') → (ReachesRescale words o c → BumpsAll words words' db.refs o c c') →
+    HoldsDb words' db → live_refs words' db.refs ≡ live_refs words db.refs → RoundInvariant words' db w b a g t q
 sound_clause_bumped words words' db w b a g t q o c c' h one all held live = elim (cases_lt (raised words o c.bump) (2 ^ 30)) [
   | inl lt ↦ sound_put_one words words' db w b a g t q o (with_activity (header_at words o) (raised words o c.bump)) h (one lt).1 held live
   | inr le ↦ sound_put words words' db db w b a g t q (bumped_shifted words o c.bump) h held (all le).1 refl live
 ]
 
 -- only the flags of variables count
-pub sound_flags : (words : List ℕ) (db : Db) (w : Watching) (b : Binaries) (a : Values) (g : List ImplNode) (t : Trailed) (q q' : Queue) → IsSound words db w b a g t q → q'.available ≡ q.available → IsSound words db w b a g t q'
+pub sound_flags : (words : List ℕ) (db : Db) (w : Watching) (b : Binaries) (a : Values) (g : List ImplNode) (t : Trailed) (q q' : Queue) → RoundInvariant words db w b a g t q → q'.available ≡ q.available → RoundInvariant words db w b a g t q'
 sound_flags words db w b a g t q q' h e =
     let y : IsSoundBelow words db w b a g t q (length t.starts + 1) = h.below in
     record {

@@ -12,7 +12,7 @@ use Rattle.sat_parts.specs.prop.Trails.{Trailed, with_level, cut_to}
 use Rattle.sat_parts.specs.prop.Undone.{undone_to, undone_lits}
 use Rattle.sat_parts.specs.prop.State.{State, node, level, lit_at, Agrees, Grows, enqueued}
 use Rattle.sat_parts.specs.prop.Ready.{state_of}
-use Rattle.sat_parts.specs.prop.Reasons.{Moves}
+use Rattle.sat_parts.specs.prop.Reasons.{PropagatesOn}
 use Rattle.sat_parts.specs.prop.Backtracked.{KeepsLow}
 use Rattle.sat_parts.proofs.lemmas.prop.StateLemmas.{grows_enqueued, lit_last, node_new}
 use Rattle.sat_parts.proofs.lemmas.prop.BacktrackLemmas.{keeps_low, undone_length}
@@ -25,11 +25,11 @@ use Rattle.std.proofs.Common.{get_or-set_same, get_or-set_other, length-set}
 use Rattle.std.proofs.lemmas.List.{get_or_past}
 use Rattle.sat_parts.specs.prop.Graphs.{new_node}
 use Rattle.sat_parts.specs.parts.Units.{removed}
-use Rattle.sat_parts.specs.parts.Frame.{Carries, Clears}
+use Rattle.sat_parts.specs.parts.Frame.{AddsNoUnit, Clears}
 
 -- where new literals are of higher levels, or true by clauses
 pub carries_grown : (s s' : State) → Agrees s → Grows s s' →
-    ((i : ℕ) → length s.trail.lits ≤ i → i < length s'.trail.lits → level s' (lit_at s' i) ≡ 0 → is_unit (node s' (lit_at s' i)).reason ≡ true → ⊥) → Carries s s'
+    ((i : ℕ) → length s.trail.lits ≤ i → i < length s'.trail.lits → level s' (lit_at s' i) ≡ 0 → is_unit (node s' (lit_at s' i)).reason ≡ true → ⊥) → AddsNoUnit s s'
 carries_grown s s' a g new = record {
   size = g.size;
   units = λ l u. elim u [
@@ -52,11 +52,11 @@ carries_grown s s' a g new = record {
   bottom = λ l t z. (g.kept l t, ap (λ (n : ImplNode). n.level) (g.nodes l t) ∙ z);
 }
 
-pub carries_moved : (live : List ℕ) (implied : List (List ℕ)) (words words' : List ℕ) (s s' : State) → Agrees s → Moves live implied words s words' s' → Carries s s'
+pub carries_moved : (live : List ℕ) (implied : List (List ℕ)) (words words' : List ℕ) (s s' : State) → Agrees s → PropagatesOn live implied words s words' s' → AddsNoUnit s s'
 carries_moved live implied words words' s s' a m = carries_grown s s' a m.grows (λ i ge lt z u. true≢false (sym u ∙ (m.caused i ge lt).1))
 
 -- an free literal that becomes true by a clause, or above level 0
-pub carries_enqueued : (s : State) (l : ℕ) (r : Reason) → Agrees s → IsOpenLit s.values l → variable l < length s.values → (is_unit r ≡ false) ⊎ (0 < length s.trail.starts) → Carries s (enqueued l r s)
+pub carries_enqueued : (s : State) (l : ℕ) (r : Reason) → Agrees s → IsOpenLit s.values l → variable l < length s.values → (is_unit r ≡ false) ⊎ (0 < length s.trail.starts) → AddsNoUnit s (enqueued l r s)
 carries_enqueued s l r a free below why =
     let size : length (s.trail.lits ++ l ∷ []) ≡ length s.trail.lits + 1 = length_push s.trail.lits l in
     carries_grown s (enqueued l r s) a (grows_enqueued s l r a free below (room_for s l r a free below)) (λ i ge lt z u.
@@ -69,7 +69,7 @@ carries_enqueued s l r a free below why =
     ])
 
 -- a level that begins
-carries_level : (s : State) → Carries s (record s { trail = with_level s.trail })
+carries_level : (s : State) → AddsNoUnit s (record s { trail = with_level s.trail })
 carries_level s = record {
   size = refl;
   units = λ l u. elim u [
@@ -79,25 +79,25 @@ carries_level s = record {
   bottom = λ l t z. (t, z);
 }
 
-pub carries_trans : (a b c : State) → Carries a b → Carries b c → Carries a c
+pub carries_trans : (a b c : State) → AddsNoUnit a b → AddsNoUnit b c → AddsNoUnit a c
 carries_trans a b c x y = record {
   size = y.size ∙ x.size;
   units = λ l u. x.units l (y.units l u);
   bottom = λ l t z. let k = x.bottom l t z in y.bottom l k.0 k.1;
 }
 
-pub carries_refl : (s : State) → Carries s s
+pub carries_refl : (s : State) → AddsNoUnit s s
 carries_refl s = record { size = refl; units = λ l u. u; bottom = λ l t z. (t, z) }
 
 -- a literal that is decided, on a level of its own
-pub carries_decided : (s : State) (l : ℕ) → Agrees (record s { trail = with_level s.trail }) → IsOpenLit s.values l → variable l < length s.values → Carries s (enqueued l NoCause (record s { trail = with_level s.trail }))
+pub carries_decided : (s : State) (l : ℕ) → Agrees (record s { trail = with_level s.trail }) → IsOpenLit s.values l → variable l < length s.values → AddsNoUnit s (enqueued l NoCause (record s { trail = with_level s.trail }))
 carries_decided s l a free below =
     let r : State = record s { trail = with_level s.trail } in
     let size : length (s.trail.starts ++ length s.trail.lits ∷ []) ≡ length s.trail.starts + 1 = length_push s.trail.starts (length s.trail.lits) in
     carries_trans s r (enqueued l NoCause r) (carries_level s) (carries_enqueued r l NoCause a free below (inr (omega arith)))
 
 -- levels that are undone
-pub carries_undone : (v : ℕ) (a : Values) (g : List ImplNode) (t : Trailed) → Agrees (state_of a g t) → v < length t.starts → Carries (state_of a g t) (state_of (undone_to v t a) g (cut_to v t))
+pub carries_undone : (v : ℕ) (a : Values) (g : List ImplNode) (t : Trailed) → Agrees (state_of a g t) → v < length t.starts → AddsNoUnit (state_of a g t) (state_of (undone_to v t a) g (cut_to v t))
 carries_undone v a g t h lt =
     let s : State = state_of a g t in
     let s' : State = state_of (undone_to v t a) g (cut_to v t) in

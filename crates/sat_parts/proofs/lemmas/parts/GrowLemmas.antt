@@ -19,7 +19,7 @@ use Rattle.sat_parts.specs.prop.WatchLists.{Watching, watches_of, no_watch, with
 use Rattle.sat_parts.specs.prop.State.{State, node, level, lit_at, HasLeft, IsRemoved, Agrees, IsSatisfied}
 use Rattle.sat_parts.specs.prop.Reasons.{Implies}
 use Rattle.sat_parts.specs.prop.Ready.{state_of, AreWatched, HasWatch, IsGood}
-use Rattle.sat_parts.specs.parts.Round.{IsSoundBelow, IsSound}
+use Rattle.sat_parts.specs.parts.Round.{IsSoundBelow, RoundInvariant}
 use Rattle.sat_parts.specs.declared.parts.Parts.{Parts}
 use Rattle.sat_parts.specs.parts.Whole.{PartsInvariant}
 use Rattle.sat_parts.specs.parts.Frame.{IsUnitLit, KeepsTo, Grown}
@@ -100,8 +100,8 @@ agrees_grown n a g t h le top =
 
 -- all parts get more variables
 pub sound_grown : (words : List ℕ) (db : Db) (w : Watching) (b : Binaries) (a : Values) (g : List ImplNode) (t : Trailed) (q : Queue) (n : ℕ) →
-    IsSound words db w b a g t q → length a.current ≤ n → n ≤ largest →
-    IsSound words db (with_lists (2 * n) w) (with_literals (2 * n) b) (with_var_count n a) (with_nodes n g) (record t { room = max t.room n }) (with_variables n q)
+    RoundInvariant words db w b a g t q → length a.current ≤ n → n ≤ largest →
+    RoundInvariant words db (with_lists (2 * n) w) (with_literals (2 * n) b) (with_var_count n a) (with_nodes n g) (record t { room = max t.room n }) (with_variables n q)
 sound_grown words db w b a g t q n h le top =
     let s : State = state_of a g t in
     let s' : State = grown n a g t in

@@ -12,10 +12,10 @@ use Rattle.sat_store.specs.declared.clause.alloc.StoreError.{StoreError}
 use Rattle.sat_parts.specs.declared.prop.graph.ImplNode.{ImplNode}
 use Rattle.sat_parts.specs.declared.prop.graph.Reason.{Reason}
 use Rattle.sat_parts.specs.declared.prop.graph.Reason.TheVariants.{Unit as NoCause, Binary, Long}
-use Rattle.sat_parts.specs.clause.Activity.{PutsHeaders, Scale, StaysBelow, ComesTo, BumpsOne, BumpsAll, DecaysAll, later_bump, raised, shifted, bumped_shifted, with_activity}
-use Rattle.sat_parts.specs.clause.Collected.{Copies, Collects, FollowsClause, AllStay}
+use Rattle.sat_parts.specs.clause.Activity.{PutsHeaders, Scale, StaysBelow, ReachesRescale, BumpsOne, BumpsAll, DecaysAll, later_bump, raised, shifted, bumped_shifted, with_activity}
+use Rattle.sat_parts.specs.clause.Collected.{Copies, Collects, FollowsClause, CollectsNothing}
 use Rattle.sat_parts.specs.clause.Db.{Db, live_refs, PutsHeader}
-use Rattle.sat_parts.specs.clause.Orders.{Shuffles, Reorders, Kept}
+use Rattle.sat_parts.specs.clause.Orders.{Shuffles, Reorders, SameUpToOrder}
 use Rattle.sat_parts.specs.clause.Reduced.{reduced}
 use Rattle.sat_parts.specs.prop.Graphs.{is_unit}
 use Rattle.sat_parts.specs.prop.Values.{Values}
@@ -28,7 +28,7 @@ use Rattle.sat_parts.proofs.lemmas.prop.BuildLemmas.{live_in}
 use Rattle.sat_parts.proofs.lemmas.prop.BuildLemmas.{live_same}
 use Rattle.sat_parts.specs.declared.parts.Parts.{Parts}
 use Rattle.sat_parts.specs.parts.Whole.{state, PartsInvariant}
-use Rattle.sat_parts.specs.parts.Frame.{Carries, KeepsTo, SameSearch, Reordered, Headed, Copied}
+use Rattle.sat_parts.specs.parts.Frame.{AddsNoUnit, KeepsTo, SameSearch, Reordered, Headed, Copied}
 
 -- what stays of clauses whose headers changed
 pub record SidesStay (words words' refs : List ℕ) : Type 0 where
@@ -72,7 +72,7 @@ second_true false b e = absurd (true≢false (sym e))
 pub reduced_side : (h : Header) → is_learned (reduced h).tier ≡ is_learned h.tier
 reduced_side h = reduced_by h (not h.deleted && (index_of h.tier == 2)) h.active (λ e. learned_middle h.tier (second_true (not h.deleted) (index_of h.tier == 2) e))
 
-pub sides_bumped : (words words' refs : List ℕ) (o : ℕ) (c c' : Scale) → (StaysBelow words o c → BumpsOne words words' refs o c c') → (ComesTo words o c → BumpsAll words words' refs o c c') → SidesStay words words' refs
+pub sides_bumped : (words words' refs : List ℕ) (o : ℕ) (c c' : Scale) → (StaysBelow words o c → BumpsOne words words' refs o c c') → (ReachesRescale words o c → BumpsAll words words' refs o c c') → SidesStay words words' refs
 sides_bumped words words' refs o c c' one all = elim (cases_lt (raised words o c.bump) (2 ^ 30)) [
   | inl lt ↦ sides_one words words' refs o (with_activity (header_at words o) (raised words o c.bump)) (one lt).1 refl
   | inr le ↦ sides_all words words' refs (bumped_shifted words o c.bump) (all le).1 (λ p k. refl)
@@ -102,7 +102,7 @@ unit_followed live refs' (Long o) r' f = ap (λ (z : Reason). is_unit z) f.1.2
 copies_refl : (words live : List ℕ) → Copies words live words live
 copies_refl words live = record { size = refl; headers = λ k b. refl; lits = λ k b. refl }
 
-carries_collected : (words : List ℕ) (db : Db) (a : Values) (g g' : List ImplNode) (t : Trailed) (words' : List ℕ) (db' : Db) → Collects words db g t.lits words' db' g' → Carries (state_of a g t) (state_of a g' t)
+carries_collected : (words : List ℕ) (db : Db) (a : Values) (g g' : List ImplNode) (t : Trailed) (words' : List ℕ) (db' : Db) → Collects words db g t.lits words' db' g' → AddsNoUnit (state_of a g t) (state_of a g' t)
 carries_collected words db a g g' t words' db' x = record {
   size = refl;
   units = λ l u. elim u [
@@ -120,7 +120,7 @@ carries_collected words db a g g' t words' db' x = record {
 keeps_collected : (top : ℕ) (words : List ℕ) (db : Db) (a : Values) (g g' : List ImplNode) (t : Trailed) (words' : List ℕ) (db' : Db) → Collects words db g t.lits words' db' g' → KeepsTo top (state_of a g t) (state_of a g' t)
 keeps_collected top words db a g g' t words' db' x = record { low = λ l h b. (h, x.levels (variable l)); begun = λ j b lt. (lt, refl) }
 
-carries_stayed : (s : State) → Carries s s
+carries_stayed : (s : State) → AddsNoUnit s s
 carries_stayed s = record { size = refl; units = λ l u. u; bottom = λ l h z. (h, z) }
 
 keeps_stayed : (top : ℕ) (s : State) → KeepsTo top s s
@@ -139,7 +139,7 @@ copied_due p words' db' w' g' x = record {
 }
 
 -- one that isn't, or fails
-copied_none : (p : Parts) (words' : List ℕ) (db' : Db) (w' : Watching) (g' : List ImplNode) → AllStay p.clauses p.db p.graph p.watchlists words' db' g' w' → Copied p (record p { clauses = words'; db = db'; watchlists = w'; graph = g' })
+copied_none : (p : Parts) (words' : List ℕ) (db' : Db) (w' : Watching) (g' : List ImplNode) → CollectsNothing p.clauses p.db p.graph p.watchlists words' db' g' w' → Copied p (record p { clauses = words'; db = db'; watchlists = w'; graph = g' })
 copied_none p words' db' w' g' x = rw (x.0, x.1, x.2) record {
   copies = copies_refl p.clauses (live_refs p.clauses p.db.refs);
   binary = refl;
@@ -152,7 +152,7 @@ copied_none p words' db' w' g' x = rw (x.0, x.1, x.2) record {
 
 pub copied_collect : (p : Parts) (words' : List ℕ) (db' : Db) (w' : Watching) (g' : List ImplNode) (r : Result (Unit {0}) StoreError) →
     (length p.clauses / 2 < p.db.garbage → OnOk r (Collects p.clauses p.db p.graph p.trail.lits words' db' g')) →
-    (p.db.garbage ≤ length p.clauses / 2 → AllStay p.clauses p.db p.graph p.watchlists words' db' g' w') → OnErr r (AllStay p.clauses p.db p.graph p.watchlists words' db' g' w') →
+    (p.db.garbage ≤ length p.clauses / 2 → CollectsNothing p.clauses p.db p.graph p.watchlists words' db' g' w') → OnErr r (CollectsNothing p.clauses p.db p.graph p.watchlists words' db' g' w') →
     Copied p (record p { clauses = words'; db = db'; watchlists = w'; graph = g' })
 copied_collect p words' db' w' g' (Ok x) due not_due same = elim (cases_lt (length p.clauses / 2) p.db.garbage) [
   | inl lt ↦ copied_due p words' db' w' g' (due lt)
@@ -165,5 +165,5 @@ copied_collect p words' db' w' g' (Err e) due not_due same = copied_none p words
 pub moved_shuffled : (p : Parts) (words' : List ℕ) (o : ℕ) → PartsInvariant p → Contains (live_refs p.clauses p.db.refs) o → Shuffles p.clauses words' o → Reordered p (record p { clauses = words' })
 moved_shuffled p words' o h c x =
     let r : Reorders p.clauses words' (live_refs p.clauses p.db.refs) = reorders_one p.clauses words' (live_refs p.clauses p.db.refs) o c x in
-    let k : Kept p.clauses words' p.db.refs = r.all p.db.refs (λ q d. live_in p.clauses p.db.refs q d) h.below.asks.laid in
+    let k : SameUpToOrder p.clauses words' p.db.refs = r.all p.db.refs (λ q d. live_in p.clauses p.db.refs q d) h.below.asks.laid in
     record { live = live_same p.clauses words' p.db.refs k.headers; kept = r.all (live_refs p.clauses p.db.refs) (λ q d. d) h.below.asks.clauses.laid; binary = refl }

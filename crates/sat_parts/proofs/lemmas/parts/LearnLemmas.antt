@@ -9,7 +9,7 @@ use Rattle.sat_store.specs.clause.Header.{Header}
 use Rattle.sat_store.specs.heap.Vsids.{Queue}
 use Rattle.sat_parts.specs.declared.prop.graph.ImplNode.{ImplNode}
 use Rattle.sat_parts.specs.declared.prop.graph.Reason.TheVariants.{Unit as NoCause, Long}
-use Rattle.sat_parts.specs.clause.Db.{Db, HoldsDb, live_refs, AddsClause}
+use Rattle.sat_parts.specs.clause.Db.{Db, HoldsDb, live_refs, AddsLongClause}
 use Rattle.sat_parts.specs.clause.Stored.{lit_of}
 use Rattle.sat_parts.specs.prop.Binaries.{Binaries}
 use Rattle.sat_parts.specs.prop.Values.{Values, value_of, made_true, IsFalseLit, IsOpenLit}
@@ -28,7 +28,7 @@ use Rattle.sat_parts.proofs.lemmas.prop.StepLemmas.{asks_for_reason, asks_enqueu
 use Rattle.sat_parts.proofs.lemmas.prop.CallLemmas.{asks_added}
 use Rattle.sat_parts.proofs.lemmas.prop.WalkLemmas.{at_two}
 use Rattle.sat_parts.proofs.lemmas.prop.WordLemmas.{levels_stay}
-use Rattle.sat_parts.specs.parts.Round.{IsUnused, IsSoundBelow, IsSound}
+use Rattle.sat_parts.specs.parts.Round.{IsUnused, IsSoundBelow, RoundInvariant}
 use Rattle.sat_parts.specs.parts.Learned.{IsPending}
 use Rattle.sat_parts.proofs.lemmas.parts.ValueLemmas.{some_none, not_false}
 use Rattle.sat_parts.proofs.lemmas.parts.TurnLemmas.{turns_by, turns_enqueued, units_enqueued}
@@ -55,7 +55,7 @@ pending_below s q ls x k b = elim (cases_eq k 0) [
 ]
 
 -- the reasons of the trail stay so where a long clause is added
-pub turns_added : (words words' : List ℕ) (db db' : Db) (o : ℕ) (header : Header) (lits : List ℕ) (implied : List (List ℕ)) (s : State) → HoldsDb words db → AddsClause words db words' db' o header lits →
+pub turns_added : (words words' : List ℕ) (db db' : Db) (o : ℕ) (header : Header) (lits : List ℕ) (implied : List (List ℕ)) (s : State) → HoldsDb words db → AddsLongClause words db words' db' o header lits →
     AreInTurn words (live_refs words db.refs) implied s 0 → AreInTurn words' (live_refs words' db'.refs) implied s 0
 turns_added words words' db db' o header lits implied s held x h =
     turns_by words words' (live_refs words db.refs) (live_refs words' db'.refs) implied implied s
@@ -66,7 +66,7 @@ turns_added words words' db db' o header lits implied s held x h =
     (λ i ls b e c. c) h
 
 -- a variable that no clause has isn't in a new one either, where it has no value there and the literals of that have one
-pub unused_added : (words words' : List ℕ) (db db' : Db) (o : ℕ) (header : Header) (lits : List ℕ) (implied : List (List ℕ)) (v : ℕ) → HoldsDb words db → AddsClause words db words' db' o header lits →
+pub unused_added : (words words' : List ℕ) (db db' : Db) (o : ℕ) (header : Header) (lits : List ℕ) (implied : List (List ℕ)) (v : ℕ) → HoldsDb words db → AddsLongClause words db words' db' o header lits →
     ((k : ℕ) → k < length lits → variable (get_or lits k 0) ≢ v) → IsUnused words (live_refs words db.refs) implied v → IsUnused words' (live_refs words' db'.refs) implied v
 unused_added words words' db db' o header lits implied v held x apart u = record {
   long = λ p k c b e. elim (Contains-push_cases (live_refs words db.refs) o p (subst (λ (xs : List ℕ). Contains xs p) x.live c)) [
@@ -88,7 +88,7 @@ pending_apart s q ls u x n none k b e = elim (cases_eq k 0) [
 ]
 
 long_reason : (words words' : List ℕ) (db db' : Db) (o : ℕ) (header : Header) (ls : List ℕ) (implied : List (List ℕ)) (s : State) (q : Queue) → Agrees s → IsPending s q ls →
-    AddsClause words db words' db' o header ls →
+    AddsLongClause words db words' db' o header ls →
     Implies words' (live_refs words' db'.refs) implied (enqueued (get_or ls 0 0) (Long o) s) (length s.trail.lits) (Long o)
 long_reason words words' db db' o header ls implied s q h x added =
     let l : ℕ = get_or ls 0 0 in
@@ -104,8 +104,8 @@ long_reason words words' db db' o header ls implied s q h x added =
 
 -- a long clause
 pub sound_long : (words words' : List ℕ) (db db' : Db) (w : Watching) (b : Binaries) (a : Values) (g : List ImplNode) (t : Trailed) (q : Queue) (ls : List ℕ) (o : ℕ) (header : Header) →
-    IsSound words db w b a g t q → IsPending (state_of a g t) q ls → 3 ≤ length ls → AddsClause words db words' db' o header ls →
-    IsSound words' db' (with_firsts o ls w) b (made_true (get_or ls 0 0) a) (with_node (variable (get_or ls 0 0)) (node_at t (Long o)) g) (with_lit (get_or ls 0 0) t) q
+    RoundInvariant words db w b a g t q → IsPending (state_of a g t) q ls → 3 ≤ length ls → AddsLongClause words db words' db' o header ls →
+    RoundInvariant words' db' (with_firsts o ls w) b (made_true (get_or ls 0 0) a) (with_node (variable (get_or ls 0 0)) (node_at t (Long o)) g) (with_lit (get_or ls 0 0) t) q
 sound_long words words' db db' w b a g t q ls o header h x three added =
     let l : ℕ = get_or ls 0 0 in
     let s : State = state_of a g t in
@@ -141,8 +141,8 @@ sound_long words words' db db' w b a g t q ls o header h x three added =
 
 -- a unit, at level 0
 pub sound_unit : (words : List ℕ) (db : Db) (w : Watching) (b : Binaries) (a : Values) (g : List ImplNode) (t : Trailed) (q : Queue) (l : ℕ) →
-    IsSound words db w b a g t q → t.starts ≡ [] → IsOpenLit a.current l → variable l < length a.current →
-    IsSound words db w b (made_true l a) (with_node (variable l) (node_at t NoCause) g) (with_lit l t) q
+    RoundInvariant words db w b a g t q → t.starts ≡ [] → IsOpenLit a.current l → variable l < length a.current →
+    RoundInvariant words db w b (made_true l a) (with_node (variable l) (node_at t NoCause) g) (with_lit l t) q
 sound_unit words db w b a g t q l h bottom n below =
     let s : State = state_of a g t in
     let y : IsSoundBelow words db w b a g t q (length t.starts + 1) = h.below in

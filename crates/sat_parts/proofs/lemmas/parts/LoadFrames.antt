@@ -7,7 +7,7 @@ use Rattle.sat_parts.specs.declared.prop.graph.ImplNode.{ImplNode}
 use Rattle.sat_parts.specs.declared.prop.graph.Reason.TheVariants.{Unit as NoCause}
 use Rattle.sat_store.specs.clause.Header.{no_header}
 use Rattle.sat_store.specs.heap.Vsids.{with_available}
-use Rattle.sat_parts.specs.clause.Db.{Db, AddsClause}
+use Rattle.sat_parts.specs.clause.Db.{Db, AddsLongClause}
 use Rattle.sat_parts.specs.prop.Binaries.{Binaries, with_binary}
 use Rattle.sat_parts.specs.prop.Graphs.{is_unit, node_at, node_of, new_node}
 use Rattle.sat_parts.specs.prop.Values.{IsTrueLit, IsOpenLit, value_of, assigned}
@@ -18,7 +18,7 @@ use Rattle.sat_parts.specs.declared.parts.Parts.{Parts}
 use Rattle.sat_parts.specs.declared.parts.load.Loaded.{Loaded}
 use Rattle.sat_parts.specs.declared.parts.load.Loaded.TheVariants.{Stored, Unit as One, Satisfied, Falsified}
 use Rattle.sat_parts.specs.parts.Whole.{state}
-use Rattle.sat_parts.specs.parts.Frame.{Carries, SameClauses, SameState, GainsUnit, Freed, Stores, stores_binary, stores_long, IsUnitLit}
+use Rattle.sat_parts.specs.parts.Frame.{AddsNoUnit, SameClauses, SameState, GainsUnit, Freed, AddsOriginalClause, stores_binary, stores_long, IsUnitLit}
 use Rattle.sat_parts.specs.parts.Loading.{LoadSays}
 use Rattle.sat_parts.proofs.lemmas.parts.FrameLemmas.{carries_trans, carries_refl}
 use Rattle.sat_parts.proofs.lemmas.parts.ValueLemmas.{some_none}
@@ -52,7 +52,7 @@ gains_enqueued s l a free below bottom =
       holds = (true_new s l NoCause below, ap (λ (n : ImplNode). n.level) (node_new s l NoCause (omega (arith, a.nodes))) ∙ ap (λ (xs : List ℕ). length xs) bottom);
     }
 
-pub gains_after : (l : ℕ) (a b c : State) → Carries a b → GainsUnit l b c → GainsUnit l a c
+pub gains_after : (l : ℕ) (a b c : State) → AddsNoUnit a b → GainsUnit l b c → GainsUnit l a c
 gains_after l a b c x y = record {
   size = y.size ∙ x.size;
   units = λ m u. elim (y.units m u) [ inl v ↦ inl (x.units m v) | inr e ↦ inr e ];
@@ -61,7 +61,7 @@ gains_after l a b c x y = record {
 }
 
 -- a unit is put back
-pub carries_again : (s : State) (l : ℕ) → Agrees s → IsRemoved s l → length s.trail.starts ≡ 0 → Carries s (enqueued l NoCause (dropped l s))
+pub carries_again : (s : State) (l : ℕ) → Agrees s → IsRemoved s l → length s.trail.starts ≡ 0 → AddsNoUnit s (enqueued l NoCause (dropped l s))
 carries_again s l a gone bottom =
     let s' : State = enqueued l NoCause (dropped l s) in
     let size : length (s.trail.lits ++ l ∷ []) ≡ length s.trail.lits + 1 = length_push s.trail.lits l in
@@ -100,22 +100,22 @@ carries_again s l a gone bottom =
     }
 
 -- values, reasons and trail are the same
-pub carries_same : (p p' : Parts) → SameState p p' → Carries (state p) (state p')
+pub carries_same : (p p' : Parts) → SameState p p' → AddsNoUnit (state p) (state p')
 carries_same p p' e = rw (e.0, e.1, e.2) (carries_refl (state p))
 
 -- the same clauses, and then a clause more
-pub stores_after : (p m p' : Parts) (ls : List ℕ) → SameClauses p m → Carries (state p) (state m) → Stores m p' ls → Stores p p' ls
+pub stores_after : (p m p' : Parts) (ls : List ℕ) → SameClauses p m → AddsNoUnit (state p) (state m) → AddsOriginalClause m p' ls → AddsOriginalClause p p' ls
 stores_after p m p' ls same carries (stores_binary size words db binary more) =
     stores_binary size (words ∙ same.0) (db ∙ same.1) (subst (λ (x : Binaries). p'.binary ≡ with_binary (get_or ls 0 0) (get_or ls 1 0) x) same.2 binary) (carries_trans (state p) (state m) (state p') carries more)
 stores_after p m p' ls same carries (stores_long size o added binary more) =
-    stores_long size o (subst (λ (db : Db). AddsClause p.clauses db p'.clauses p'.db o no_header ls) same.1 (subst (λ (ws : List ℕ). AddsClause ws m.db p'.clauses p'.db o no_header ls) same.0 added)) (binary ∙ same.2)
+    stores_long size o (subst (λ (db : Db). AddsLongClause p.clauses db p'.clauses p'.db o no_header ls) same.1 (subst (λ (ws : List ℕ). AddsLongClause ws m.db p'.clauses p'.db o no_header ls) same.0 added)) (binary ∙ same.2)
     (carries_trans (state p) (state m) (state p') carries more)
 
 same_trans : (p m p' : Parts) → SameClauses p m → SameClauses m p' → SameClauses p p'
 same_trans p m p' a b = (b.0 ∙ a.0, b.1 ∙ a.1, b.2 ∙ a.2)
 
 -- what becomes of a clause once units were put back
-pub says_after : (r : Loaded) (p m p' : Parts) (ls : List ℕ) → SameClauses p m → Carries (state p) (state m) → ((v : ℕ) → value_of m.assignment.current v ≡ value_of p.assignment.current v) → LoadSays r m p' ls → LoadSays r p p' ls
+pub says_after : (r : Loaded) (p m p' : Parts) (ls : List ℕ) → SameClauses p m → AddsNoUnit (state p) (state m) → ((v : ℕ) → value_of m.assignment.current v ≡ value_of p.assignment.current v) → LoadSays r m p' ls → LoadSays r p p' ls
 says_after Stored p m p' ls same carries values x = stores_after p m p' ls same carries x
 says_after One p m p' ls same carries values x =
     (x.0, sym (values (variable (get_or ls 0 0))) ∙ x.1, same_trans p m p' same x.2, gains_after (get_or ls 0 0) (state p) (state m) (state p') carries x.3)
@@ -125,7 +125,7 @@ says_after Falsified p m p' ls same carries values x =
     (x.0, λ k b. sym (values (variable (get_or ls k 0))) ∙ x.1 k b, same_trans p m p' same x.2, carries_trans (state p) (state m) (state p') carries x.3)
 
 -- what becomes of a clause leaves as many variables
-stored_size : (p p' : Parts) (ls : List ℕ) → Stores p p' ls → length p'.assignment.current ≡ length p.assignment.current
+stored_size : (p p' : Parts) (ls : List ℕ) → AddsOriginalClause p p' ls → length p'.assignment.current ≡ length p.assignment.current
 stored_size p p' ls (stores_binary two a b c carries) = carries.size
 stored_size p p' ls (stores_long three o adds b carries) = carries.size
 
@@ -136,7 +136,7 @@ says_size Satisfied p p' ls says = says.1.size
 says_size Falsified p p' ls says = says.3.size
 
 -- no unit is new, but for the clause's first literal
-stored_units : (p p' : Parts) (ls : List ℕ) → Stores p p' ls → (l : ℕ) → IsUnitLit (state p') l → IsUnitLit (state p) l
+stored_units : (p p' : Parts) (ls : List ℕ) → AddsOriginalClause p p' ls → (l : ℕ) → IsUnitLit (state p') l → IsUnitLit (state p) l
 stored_units p p' ls (stores_binary two a b c carries) l u = carries.units l u
 stored_units p p' ls (stores_long three o adds b carries) l u = carries.units l u
 

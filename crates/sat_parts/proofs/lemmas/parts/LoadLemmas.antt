@@ -7,7 +7,7 @@ use Rattle.sat_store.specs.clause.Header.{Header}
 use Rattle.sat_store.specs.heap.Vsids.{Queue, may_pick, with_available}
 use Rattle.sat_parts.specs.declared.prop.graph.ImplNode.{ImplNode}
 use Rattle.sat_parts.specs.declared.prop.graph.Reason.TheVariants.{Unit as NoCause}
-use Rattle.sat_parts.specs.clause.Db.{Db, live_refs, AddsClause}
+use Rattle.sat_parts.specs.clause.Db.{Db, live_refs, AddsLongClause}
 use Rattle.sat_parts.specs.clause.Stored.{AreClauses, lit_of}
 use Rattle.sat_parts.specs.prop.Binaries.{Binaries, implied_by, with_binary}
 use Rattle.sat_parts.specs.prop.Values.{Values, value_of, assigned, IsTrueLit}
@@ -17,7 +17,7 @@ use Rattle.sat_parts.specs.prop.State.{State, level, HasLeft, Agrees, IsSatisfie
 use Rattle.sat_parts.specs.prop.Ready.{state_of, AreWatched, AreLists}
 use Rattle.sat_parts.proofs.lemmas.prop.CallLemmas.{asks_added, asks_of_unit}
 use Rattle.sat_parts.proofs.lemmas.prop.WordLemmas.{levels_stay}
-use Rattle.sat_parts.specs.parts.Round.{IsUnused, IsSoundBelow, IsSound}
+use Rattle.sat_parts.specs.parts.Round.{IsUnused, IsSoundBelow, RoundInvariant}
 use Rattle.sat_parts.specs.parts.Loadable.{IsLoadable}
 use Rattle.sat_parts.proofs.lemmas.parts.ValueLemmas.{some_none, pick_set}
 use Rattle.sat_parts.proofs.lemmas.parts.LearnLemmas.{turns_added, unused_added}
@@ -29,8 +29,8 @@ not_in s q ls u x none not k b e =
     true≢false (sym (x.ready k b (ap (λ v. value_of s.values v) e ∙ none)) ∙ ap (λ v. may_pick q v) e ∙ not)
 
 pub sound_loaded_long : (words words' : List ℕ) (db db' : Db) (w : Watching) (b : Binaries) (a : Values) (g : List ImplNode) (t : Trailed) (q : Queue) (ls : List ℕ) (o : ℕ) (header : Header) →
-    IsSound words db w b a g t q → IsLoadable (state_of a g t) q ls → 3 ≤ length ls → AddsClause words db words' db' o header ls →
-    IsSound words' db' (with_firsts o ls w) b a g t q
+    RoundInvariant words db w b a g t q → IsLoadable (state_of a g t) q ls → 3 ≤ length ls → AddsLongClause words db words' db' o header ls →
+    RoundInvariant words' db' (with_firsts o ls w) b a g t q
 sound_loaded_long words words' db db' w b a g t q ls o header h x three added =
     let s : State = state_of a g t in
     let y : IsSoundBelow words db w b a g t q (length t.starts + 1) = h.below in
@@ -52,8 +52,8 @@ sound_loaded_long words words' db db' w b a g t q ls o header h x three added =
     }
 
 pub sound_loaded_binary : (words : List ℕ) (db : Db) (w : Watching) (x : Binaries) (a : Values) (g : List ImplNode) (t : Trailed) (q : Queue) (ls : List ℕ) →
-    IsSound words db w x a g t q → IsLoadable (state_of a g t) q ls → length ls ≡ 2 →
-    IsSound words db w (with_binary (get_or ls 0 0) (get_or ls 1 0) x) a g t q
+    RoundInvariant words db w x a g t q → IsLoadable (state_of a g t) q ls → length ls ≡ 2 →
+    RoundInvariant words db w (with_binary (get_or ls 0 0) (get_or ls 1 0) x) a g t q
 sound_loaded_binary words db w x a g t q ls h p two =
     let s : State = state_of a g t in
     let y : IsSoundBelow words db w x a g t q (length t.starts + 1) = h.below in
@@ -96,8 +96,8 @@ lost_true s v m below h = elim (cases_eq (variable m) v) [
 
 -- (e) a variable that no clause has, with nothing on the trail, is given up
 pub sound_freed : (words : List ℕ) (db : Db) (w : Watching) (b : Binaries) (a : Values) (g : List ImplNode) (t : Trailed) (q : Queue) (v : ℕ) →
-    IsSound words db w b a g t q → t.starts ≡ [] → t.lits ≡ [] → v < length a.current → IsUnused words (live_refs words db.refs) b.implied v →
-    IsSound words db w b (assigned v None a) g t (with_available v false q)
+    RoundInvariant words db w b a g t q → t.starts ≡ [] → t.lits ≡ [] → v < length a.current → IsUnused words (live_refs words db.refs) b.implied v →
+    RoundInvariant words db w b (assigned v None a) g t (with_available v false q)
 sound_freed words db w b a g t q v h bottom empty below unused =
     let s : State = state_of a g t in
     let s' : State = lost_value v (state_of a g t) in
@@ -157,7 +157,7 @@ sound_freed words db w b a g t q v h bottom empty below unused =
     }
 
 -- more variables may be picked
-pub sound_picked : (words : List ℕ) (db : Db) (w : Watching) (b : Binaries) (a : Values) (g : List ImplNode) (t : Trailed) (q : Queue) (v : ℕ) → IsSound words db w b a g t q → IsSound words db w b a g t (with_available v true q)
+pub sound_picked : (words : List ℕ) (db : Db) (w : Watching) (b : Binaries) (a : Values) (g : List ImplNode) (t : Trailed) (q : Queue) (v : ℕ) → RoundInvariant words db w b a g t q → RoundInvariant words db w b a g t (with_available v true q)
 sound_picked words db w b a g t q v h =
     let y : IsSoundBelow words db w b a g t q (length t.starts + 1) = h.below in
     record {

@@ -11,7 +11,7 @@ use Rattle.sat_store.specs.clause.Buffer.{header_at}
 use Rattle.sat_parts.specs.clause.Db.{live_refs, is_live, is_live_of, AreRising}
 use Rattle.sat_parts.specs.clause.Orders.{AreDistinct, Shuffled}
 use Rattle.sat_parts.proofs.lemmas.clause.ListLemmas.{there, in_head, in_tail, place_in, rising_distinct}
-use Rattle.sat_parts.specs.parts.Reducing.{rank, ranked}
+use Rattle.sat_parts.specs.parts.Reducing.{clause_rank, ranked}
 use Rattle.sat_parts.proofs.lemmas.parts.SortLemmas.{shuffled_by}
 
 -- what passes a test, and is among all
@@ -99,16 +99,16 @@ permuted_ranks words list pairs p = subst (λ (xs : List ℕ). IsPermutation xs 
 there_pair : (pairs : List (ℕ × ℕ)) (k : ℕ) (d : ℕ × ℕ) → k < length pairs → Contains pairs (get_or pairs k d)
 there_pair pairs k d b = (k, b, get_or_default pairs k (get_or pairs k d) d b)
 
-is_ranked : (words list : List ℕ) (x : ℕ × ℕ) → Contains (map (ranked words) list) x → x.0 ≡ rank words x.1
+is_ranked : (words list : List ℕ) (x : ℕ × ℕ) → Contains (map (ranked words) list) x → x.0 ≡ clause_rank words x.1
 is_ranked words list x c =
     let size : length (map (ranked words) list) ≡ length list = length-map list (ranked words) in
     let e : ranked words (get_or list c.0 0) ≡ x = sym (get_or-map (ranked words) list c.0 0 x (omega (arith, c.1))) ∙ c.2 in
-    subst (λ (z : ℕ × ℕ). z.0 ≡ rank words z.1) e refl
+    subst (λ (z : ℕ × ℕ). z.0 ≡ clause_rank words z.1) e refl
 
-pub rising_ranks : (words list : List ℕ) (pairs : List (ℕ × ℕ)) → IsPermutation (map (ranked words) list) pairs → IsNonDecreasingBy (λ (x : ℕ × ℕ). x.0) pairs → IsNonDecreasingBy (rank words) (map (λ (x : ℕ × ℕ). x.1) pairs)
+pub rising_ranks : (words list : List ℕ) (pairs : List (ℕ × ℕ)) → IsPermutation (map (ranked words) list) pairs → IsNonDecreasingBy (λ (x : ℕ × ℕ). x.0) pairs → IsNonDecreasingBy (clause_rank words) (map (λ (x : ℕ × ℕ). x.1) pairs)
 rising_ranks words list pairs p rising i j d le lt =
     let size : length (map (λ (x : ℕ × ℕ). x.1) pairs) ≡ length pairs = length-map pairs (λ (x : ℕ × ℕ). x.1) in
-    let at : (k : ℕ) → k < length pairs → (get_or pairs k (0, d)).0 ≡ rank words (get_or (map (λ (x : ℕ × ℕ). x.1) pairs) k d) = λ k b.
+    let at : (k : ℕ) → k < length pairs → (get_or pairs k (0, d)).0 ≡ clause_rank words (get_or (map (λ (x : ℕ × ℕ). x.1) pairs) k d) = λ k b.
     is_ranked words list (get_or pairs k (0, d)) (Contains-permutation pairs (map (ranked words) list) (get_or pairs k (0, d)) (IsPermutation-sym (map (ranked words) list) pairs p) (there_pair pairs k (0, d) b))
-    ∙ ap (λ o. rank words o) (sym (get_or-map (λ (x : ℕ × ℕ). x.1) pairs k (0, d) d b)) in
+    ∙ ap (λ o. clause_rank words o) (sym (get_or-map (λ (x : ℕ × ℕ). x.1) pairs k (0, d) d b)) in
     omega (arith, at i (omega arith), at j (omega arith), rising i j (0, d) le (omega arith))

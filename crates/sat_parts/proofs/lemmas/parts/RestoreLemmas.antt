@@ -19,7 +19,7 @@ use Rattle.sat_parts.specs.prop.Ready.{state_of, AreWatched, AreLists}
 use Rattle.sat_parts.specs.prop.Reasons.{Implies}
 use Rattle.sat_parts.proofs.lemmas.prop.StateLemmas.{left_true, negated_variable, open_other, true_kept, true_back, true_new}
 use Rattle.sat_parts.proofs.lemmas.prop.WordLemmas.{levels_stay}
-use Rattle.sat_parts.specs.parts.Round.{IsUnused, IsSoundBelow, IsSound}
+use Rattle.sat_parts.specs.parts.Round.{IsUnused, IsSoundBelow, RoundInvariant}
 use Rattle.sat_parts.specs.parts.Frame.{GainsUnit}
 use Rattle.sat_parts.proofs.lemmas.parts.TurnLemmas.{implies_by}
 use Rattle.sat_parts.proofs.lemmas.parts.DecideLemmas.{still_open}
@@ -84,8 +84,8 @@ agrees_restored s l h free below =
 
 -- a unit of a variable that was given up is true again
 pub sound_restored : (words : List ℕ) (db : Db) (w : Watching) (b : Binaries) (a : Values) (g : List ImplNode) (t : Trailed) (q : Queue) (l : ℕ) →
-    IsSound words db w b a g t q → t.starts ≡ [] → variable l < length a.current → IsOpenLit a.current l → may_pick q (variable l) ≡ false →
-    IsSound words db w b (made_true l a) (with_node (variable l) removed_node g) t q
+    RoundInvariant words db w b a g t q → t.starts ≡ [] → variable l < length a.current → IsOpenLit a.current l → may_pick q (variable l) ≡ false →
+    RoundInvariant words db w b (made_true l a) (with_node (variable l) removed_node g) t q
 sound_restored words db w b a g t q l h bottom below free not =
     let s : State = state_of a g t in
     let s' : State = restored l (state_of a g t) in

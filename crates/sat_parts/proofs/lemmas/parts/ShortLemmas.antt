@@ -11,7 +11,7 @@ use Rattle.sat_parts.specs.declared.prop.graph.ImplNode.{ImplNode}
 use Rattle.sat_parts.specs.declared.prop.graph.Reason.{Reason}
 use Rattle.sat_parts.specs.declared.prop.graph.Reason.TheVariants.{Unit as NoCause, Binary, Long}
 use Rattle.sat_parts.specs.clause.Db.{Db, live_refs, ShortensClause}
-use Rattle.sat_parts.specs.clause.Orders.{AreDistinct, Shuffled, Shuffles, Kept, Reorders}
+use Rattle.sat_parts.specs.clause.Orders.{AreDistinct, Shuffled, Shuffles, SameUpToOrder, Reorders}
 use Rattle.sat_parts.specs.clause.Stored.{AreClauses, lit_of, size_of}
 use Rattle.sat_parts.specs.prop.Binaries.{Binaries}
 use Rattle.sat_parts.specs.prop.Values.{Values, IsTrueLit}
@@ -19,7 +19,7 @@ use Rattle.sat_parts.specs.declared.prop.watch.Watch.{Watch}
 use Rattle.sat_parts.specs.prop.Trails.{Trailed}
 use Rattle.sat_parts.specs.prop.WatchLists.{Watching, watches_of, no_watch}
 use Rattle.sat_parts.specs.prop.State.{State, node, level, lit_at, HasLeft, IsSatisfied}
-use Rattle.sat_parts.specs.prop.Reasons.{IsFalseBefore, Implies, Moves}
+use Rattle.sat_parts.specs.prop.Reasons.{IsFalseBefore, Implies, PropagatesOn}
 use Rattle.sat_parts.specs.prop.Ready.{state_of, AreWatched, HasWatch}
 use Rattle.sat_parts.specs.prop.Asks.{PropagationInvariant}
 use Rattle.sat_parts.proofs.lemmas.clause.OrderLemmas.{reorders_one, kept_clauses}
@@ -28,7 +28,7 @@ use Rattle.sat_parts.proofs.lemmas.prop.BuildLemmas.{live_in, live_same}
 use Rattle.sat_parts.proofs.lemmas.prop.ReasonLemmas.{moves_shuffled}
 use Rattle.sat_parts.proofs.lemmas.prop.WalkLemmas.{at_two}
 use Rattle.sat_parts.proofs.lemmas.prop.StateLemmas.{left_true, level_low}
-use Rattle.sat_parts.specs.parts.Round.{IsSoundBelow, IsSound}
+use Rattle.sat_parts.specs.parts.Round.{IsSoundBelow, RoundInvariant}
 use Rattle.sat_parts.proofs.lemmas.parts.MoveLemmas.{sound_moved}
 
 -- the other literals of one clause change places
@@ -37,7 +37,7 @@ pub asks_shuffled : (words words' refs : List ℕ) (w : Watching) (implied : Lis
 asks_shuffled words words' refs w implied s top o h c x first second =
     let live : List ℕ = live_refs words refs in
     let r : Reorders words words' (live_refs words refs) = reorders_one words words' (live_refs words refs) o c x in
-    let k : Kept words words' refs = r.all refs (λ p d. live_in words refs p d) h.laid in
+    let k : SameUpToOrder words words' refs = r.all refs (λ p d. live_in words refs p d) h.laid in
     let e : live_refs words' refs ≡ live_refs words refs = live_same words words' refs k.headers in
     let two : (p i : ℕ) → Contains (live_refs words refs) p → i < 2 → lit_of words' p i ≡ lit_of words p i = λ p i d b. elim (cases_eq o p) [
       | inl q ↦ subst (λ z. lit_of words' z i ≡ lit_of words z i) q (at_two (λ j. lit_of words' o j ≡ lit_of words o j) first second i b)
@@ -82,12 +82,12 @@ asks_shuffled words words' refs w implied s top o h c x first second =
     }
 
 pub sound_shuffled : (words words' : List ℕ) (db : Db) (w : Watching) (b : Binaries) (a : Values) (g : List ImplNode) (t : Trailed) (q : Queue) (o : ℕ) →
-    IsSound words db w b a g t q → Contains (live_refs words db.refs) o → Shuffles words words' o → lit_of words' o 0 ≡ lit_of words o 0 → lit_of words' o 1 ≡ lit_of words o 1 → IsSound words' db w b a g t q
+    RoundInvariant words db w b a g t q → Contains (live_refs words db.refs) o → Shuffles words words' o → lit_of words' o 0 ≡ lit_of words o 0 → lit_of words' o 1 ≡ lit_of words o 1 → RoundInvariant words' db w b a g t q
 sound_shuffled words words' db w b a g t q o h c x first second =
     let s : State = state_of a g t in
     let y : IsSoundBelow words db w b a g t q (length t.starts + 1) = h.below in
-    let m : Moves (live_refs words db.refs) b.implied words s words' s = moves_shuffled (live_refs words db.refs) b.implied words s words' o (length a.current) y.asks.agrees y.asks.clauses c x (λ _. first) in
-    let k : Kept words words' db.refs = m.reorders.all db.refs (λ p d. live_in words db.refs p d) y.asks.laid in
+    let m : PropagatesOn (live_refs words db.refs) b.implied words s words' s = moves_shuffled (live_refs words db.refs) b.implied words s words' o (length a.current) y.asks.agrees y.asks.clauses c x (λ _. first) in
+    let k : SameUpToOrder words words' db.refs = m.reorders.all db.refs (λ p d. live_in words db.refs p d) y.asks.laid in
     record {
       below = sound_moved words words' db w w b a a g g t t q (length t.starts + 1) (length t.starts + 1) y (held_reordered words words' db y.held m.reorders) m
           (live_same words words' db.refs k.headers) (asks_shuffled words words' db.refs w b.implied s (length t.starts + 1) o y.asks c x first second);
@@ -115,8 +115,8 @@ shorter_turn words words' live live' implied s i o len (Long p) e same first h =
 
 -- (e) a clause whose first two literals aren't false by a literal that has left the queue is shortened
 pub sound_shortened : (words words' : List ℕ) (db : Db) (w w' : Watching) (b : Binaries) (a : Values) (g : List ImplNode) (t : Trailed) (q : Queue) (o len : ℕ) →
-    IsSound words db w b a g t q → Contains (live_refs words db.refs) o → 3 ≤ len → len ≤ size_of words o → ShortensClause words db words' o len → w' ≡ record w { enabled = false } →
-    ((i : ℕ) → i < 2 → HasLeft (state_of a g t) (negated (lit_of words o i)) → ⊥) → IsSound words' db w' b a g t q
+    RoundInvariant words db w b a g t q → Contains (live_refs words db.refs) o → 3 ≤ len → len ≤ size_of words o → ShortensClause words db words' o len → w' ≡ record w { enabled = false } →
+    ((i : ℕ) → i < 2 → HasLeft (state_of a g t) (negated (lit_of words o i)) → ⊥) → RoundInvariant words' db w' b a g t q
 sound_shortened words words' db w w' b a g t q o len h c three le x to_w fresh =
     let s : State = state_of a g t in
     let y : IsSoundBelow words db w b a g t q (length t.starts + 1) = h.below in
@@ -178,7 +178,7 @@ sound_shortened words words' db w w' b a g t q o len h c three le x to_w fresh =
     }
 
 -- a live clause without a true literal isn't false in its first two by literals that have left the queue
-pub fresh_unsatisfied : (words : List ℕ) (db : Db) (w : Watching) (b : Binaries) (a : Values) (g : List ImplNode) (t : Trailed) (q : Queue) (o : ℕ) → IsSound words db w b a g t q → Contains (live_refs words db.refs) o →
+pub fresh_unsatisfied : (words : List ℕ) (db : Db) (w : Watching) (b : Binaries) (a : Values) (g : List ImplNode) (t : Trailed) (q : Queue) (o : ℕ) → RoundInvariant words db w b a g t q → Contains (live_refs words db.refs) o →
     ((k : ℕ) → k < size_of words o → IsTrueLit a.current (lit_of words o k) → ⊥) → (i : ℕ) → i < 2 → HasLeft (state_of a g t) (negated (lit_of words o i)) → ⊥
 fresh_unsatisfied words db w b a g t q o h c none i lt left =
     let s : State = state_of a g t in

@@ -17,7 +17,7 @@ use Rattle.sat_parts.proofs.lemmas.prop.StateLemmas.{grows_enqueued, lit_front, 
 use Rattle.sat_parts.proofs.lemmas.prop.ReasonLemmas.{implies_forth}
 use Rattle.sat_parts.proofs.lemmas.prop.RoomLemmas.{room_for}
 use Rattle.sat_parts.proofs.lemmas.prop.StepLemmas.{raised}
-use Rattle.sat_parts.specs.parts.Round.{AreUnits}
+use Rattle.sat_parts.specs.parts.Round.{UnitsAreUncaused}
 
 -- a reason that is unit in turn stays so where its clause and what was false before stay
 pub implies_by : (words words' live live' : List ℕ) (implied implied' : List (List ℕ)) (s s' : State) (i : ℕ) (r : Reason) → lit_at s' i ≡ lit_at s i →
@@ -73,7 +73,7 @@ turns_raised words live implied s h i p b =
     (λ o e c. (c, refl)) (λ ls e c. c) (h i p b)
 
 -- a literal becomes true, at level 0 without a clause as its reason
-pub units_enqueued : (s : State) (l : ℕ) (r : Reason) → Agrees s → IsOpenLit s.values l → variable l < length s.values → (length s.trail.starts ≡ 0 → r ≡ NoCause) → AreUnits s → AreUnits (enqueued l r s)
+pub units_enqueued : (s : State) (l : ℕ) (r : Reason) → Agrees s → IsOpenLit s.values l → variable l < length s.values → (length s.trail.starts ≡ 0 → r ≡ NoCause) → UnitsAreUncaused s → UnitsAreUncaused (enqueued l r s)
 units_enqueued s l r h n below bottom x i b e =
     let t : State = enqueued l r s in
     let size : length (s.trail.lits ++ l ∷ []) ≡ length s.trail.lits + 1 = length_push s.trail.lits l in

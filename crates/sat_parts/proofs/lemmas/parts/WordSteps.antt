@@ -4,7 +4,7 @@ use Rattle.std.specs.Prelude.{replicate, OnOk, OnErr}
 use Rattle.sat_parts.specs.declared.prop.graph.Conflict.{Conflict}
 use Rattle.sat_store.specs.declared.clause.alloc.StoreError.{StoreError}
 use Rattle.sat_parts.specs.prop.Asks.{PropagationResult}
-use Rattle.sat_parts.specs.clause.Collected.{Collects, AllStay}
+use Rattle.sat_parts.specs.clause.Collected.{Collects, CollectsNothing}
 use Rattle.sat_parts.proofs.lemmas.parts.MoveLemmas.{sound_propagated}
 use Rattle.std.specs.List.{Contains}
 use Rattle.std.proofs.lemmas.Bool.{cases_eq, cases_lt, ne_eqb, eqb-true, true≢false}
@@ -18,7 +18,7 @@ use Rattle.sat_parts.specs.declared.prop.graph.ImplNode.{ImplNode}
 use Rattle.sat_parts.specs.declared.prop.graph.Reason.{Reason}
 use Rattle.sat_parts.specs.declared.prop.graph.Reason.TheVariants.{Unit as NoCause, Binary, Long}
 use Rattle.sat_parts.specs.clause.Db.{Db, live_refs}
-use Rattle.sat_parts.specs.clause.Orders.{AreDistinct, Kept}
+use Rattle.sat_parts.specs.clause.Orders.{AreDistinct, SameUpToOrder}
 use Rattle.sat_parts.specs.clause.Stored.{size_of}
 use Rattle.sat_parts.specs.prop.Binaries.{Binaries}
 use Rattle.sat_parts.specs.prop.WatchLists.{Watching}
@@ -26,11 +26,11 @@ use Rattle.sat_parts.specs.prop.Values.{Values, value_of, assigned, IsTrueLit, I
 use Rattle.sat_parts.specs.prop.Graphs.{is_unit}
 use Rattle.sat_parts.specs.prop.Trails.{Trailed, with_lit, with_level, with_cleared, cut_to}
 use Rattle.sat_parts.specs.prop.State.{State, lit_at, Grows, Agrees, enqueued}
-use Rattle.sat_parts.specs.prop.Reasons.{Implies, Moves}
+use Rattle.sat_parts.specs.prop.Reasons.{Implies, PropagatesOn}
 use Rattle.sat_parts.specs.prop.Ready.{state_of}
 use Rattle.sat_parts.specs.prop.Undone.{undone_to, undone_lits, all_available}
 use Rattle.sat_parts.specs.prop.Backtracked.{KeepsLow}
-use Rattle.sat_parts.specs.prop.TrailWord.{Letter, D, P, letter, letters, IsBelow, IsLevelled, decided_on}
+use Rattle.sat_parts.specs.prop.TrailWord.{Letter, D, P, letter, letters, IsLowerWord, IsLevelled, decided_on}
 use Rattle.sat_parts.proofs.lemmas.prop.WordLemmas.{words_rise}
 use Rattle.sat_parts.proofs.lemmas.prop.StateLemmas.{removed_forth, true_kept, node_kept}
 use Rattle.sat_parts.proofs.lemmas.prop.RoomLemmas.{places_apart, below_from_value}
@@ -40,7 +40,7 @@ use Rattle.sat_parts.specs.declared.parts.Parts.{Parts}
 use Rattle.sat_parts.specs.parts.Whole.{state}
 use Rattle.sat_parts.specs.parts.Round.{IsUnused, IsSoundBelow}
 use Rattle.sat_parts.specs.parts.Units.{removed}
-use Rattle.sat_parts.specs.parts.Words.{Begins, standing, IsIdle, IsGone, GoesOn, IsWord, WordExtends, WordRises, Words, TrailWordStays, TrailWordExtends, TrailWordRises, TrailWordExtendsFor, TrailWordRisesFor}
+use Rattle.sat_parts.specs.parts.Words.{Begins, trail_letters, IsIdle, IsGone, GoneAndIdleStay, IsWord, WordExtends, WordRises, Words, TrailWordStays, TrailWordExtends, TrailWordRises, TrailWordExtendsFor, TrailWordRisesFor}
 use Rattle.sat_parts.proofs.lemmas.parts.ValueLemmas.{open_or_true, not_true}
 use Rattle.sat_parts.proofs.lemmas.parts.ClearLemmas.{all_removed, apart_removed}
 
@@ -55,7 +55,7 @@ pub begins_trans : (u v w : List Letter) → Begins u v → Begins v w → Begin
 begins_trans u v w x y = (x.0 ++ y.0, y.1 ∙ ap (λ (z : List Letter). z ++ y.0) x.1 ∙ append_assoc u x.0 y.0)
 
 -- what begins a word is below what that is below of
-pub below_front : (u w z : List Letter) → IsBelow (u ++ w) z → IsBelow u z
+pub below_front : (u w z : List Letter) → IsLowerWord (u ++ w) z → IsLowerWord u z
 below_front [] [] [] h = h
 below_front [] [] (y ∷ z) h = tt
 below_front [] (x ∷ w) [] h = absurd h
@@ -67,7 +67,7 @@ below_front (P ∷ u) w (D ∷ z) h = h
 below_front (P ∷ u) w (P ∷ z) h = below_front u w z h
 
 -- the same letters before both
-below_behind : (k : ℕ) (u v : List Letter) → IsBelow u v → IsBelow (replicate k P ++ u) (replicate k P ++ v)
+below_behind : (k : ℕ) (u v : List Letter) → IsLowerWord u v → IsLowerWord (replicate k P ++ u) (replicate k P ++ v)
 below_behind zero u v h = h
 below_behind (suc k) u v h = below_behind k u v h
 
@@ -91,7 +91,7 @@ letters_count starts [] at = refl
 letters_count starts (x ∷ xs) at = ap (λ n. suc n) (letters_count starts xs (at + 1))
 
 -- more literals of the same levels
-pub standing_grown : (s s' : State) → Grows s s' → Begins (standing s.trail) (standing s'.trail)
+pub standing_grown : (s s' : State) → Grows s s' → Begins (trail_letters s.trail) (trail_letters s'.trail)
 standing_grown s s' g =
     let n : ℕ = length s.trail.lits in
     let starts : List ℕ = s.trail.starts in
@@ -109,10 +109,10 @@ from_now s = record s { trail = record s.trail { cleared = 0 } }
 levelled_now : (s : State) → IsLevelled s → IsLevelled (from_now s)
 levelled_now s x = record { strict = x.strict; begun = x.begun; decided = x.decided; caused = x.caused }
 
-pub standing_decided : (s : State) (l : ℕ) → IsLevelled s → Begins (standing s.trail) (standing (with_lit l (with_level s.trail)))
+pub standing_decided : (s : State) (l : ℕ) → IsLevelled s → Begins (trail_letters s.trail) (trail_letters (with_lit l (with_level s.trail)))
 standing_decided s l x = (D ∷ [], words_rise.decided (from_now s) l (levelled_now s x))
 
-pub standing_learned : (s : State) (l v : ℕ) → IsLevelled s → v < length s.trail.starts → IsBelow (standing s.trail) (standing (with_lit l (cut_to v s.trail)))
+pub standing_learned : (s : State) (l v : ℕ) → IsLevelled s → v < length s.trail.starts → IsLowerWord (trail_letters s.trail) (trail_letters (with_lit l (cut_to v s.trail)))
 standing_learned s l v x lt = words_rise.rises (from_now s) l v (levelled_now s x) lt
 
 -- what is gone has no literal on the trail
@@ -184,7 +184,7 @@ pub word_fits : (am : List ℕ) → (s : State) (q : Queue) (w : List Letter) �
 word_fits am s q w h x =
     let n : length (taken s x.gone) ≡ length s.trail.lits + length x.gone = taken_length s x.gone in
     let all : length (taken s x.gone) ≤ length s.values = fits_below (taken s x.gone) (length s.values) (taken_distinct am s q x.gone h x.distinct x.each) (λ i b. taken_there am s q x.gone i h x.each b) in
-    omega (arith, ap (λ (v : List Letter). length v) x.is, length-append (replicate (length x.gone) P) (standing s.trail), count_of (length x.gone), letters_count s.trail.starts s.trail.lits 0)
+    omega (arith, ap (λ (v : List Letter). length v) x.is, length-append (replicate (length x.gone) P) (trail_letters s.trail), count_of (length x.gone), letters_count s.trail.starts s.trail.lits 0)
   where
     count_of : (k : ℕ) → length (replicate k P) ≡ k
     count_of zero = refl
@@ -200,7 +200,7 @@ module _ (am : List ℕ) (s : State) (q : Queue) (l : ℕ) (r : Reason) (unset :
       ] in
       (get_or-set_other s.values (variable l) v (Some (is_positive l)) None other ∙ y.0, y.1, y.2)
 
-  pub gone_enqueued : GoesOn am s q (enqueued l r s) q
+  pub gone_enqueued : GoneAndIdleStay am s q (enqueued l r s) q
   gone_enqueued = record {
     size = length-set s.values (variable l) (Some (is_positive l));
     gone = λ v x. (
@@ -224,9 +224,9 @@ module _ (am : List ℕ) (s : State) (q : Queue) (l : ℕ) (r : Reason) (unset :
   }
 
 -- the same where the variable was picked
-pub gone_decided : (am : List ℕ) → (s : State) (q q' : Queue) (l : ℕ) → IsOpenLit s.values l → (may_pick q (variable l) ≡ true) ⊎ Contains am (variable l) → ((u : ℕ) → may_pick q u ≡ false → may_pick q' u ≡ false) → GoesOn am s q (decided_on l s) q'
+pub gone_decided : (am : List ℕ) → (s : State) (q q' : Queue) (l : ℕ) → IsOpenLit s.values l → (may_pick q (variable l) ≡ true) ⊎ Contains am (variable l) → ((u : ℕ) → may_pick q u ≡ false → may_pick q' u ≡ false) → GoneAndIdleStay am s q (decided_on l s) q'
 gone_decided am s q q' l unset picks less =
-    let f : GoesOn am (record s { trail = with_level s.trail }) q (decided_on l s) q = gone_enqueued am (record s { trail = with_level s.trail }) q l NoCause unset picks in
+    let f : GoneAndIdleStay am (record s { trail = with_level s.trail }) q (decided_on l s) q = gone_enqueued am (record s { trail = with_level s.trail }) q l NoCause unset picks in
     record {
       size = f.size;
       gone = λ v x.
@@ -248,7 +248,7 @@ implied_used words live implied s i NoCause clause sizes h u = true≢false clau
 implied_used words live implied s i (Binary ls) clause sizes h u = (u.binary _ h.0.0 h.0.1).1 (ap (λ l. variable l) (default_free _ h.0.0 0 _ h.0.1 ∙ h.0.2))
 implied_used words live implied s i (Long o) clause sizes h u = u.long o 0 h.0 (omega (arith, sizes o h.0)) (ap (λ l. variable l) h.1)
 
-unused_moved : (words words' refs : List ℕ) (implied : List (List ℕ)) (v : ℕ) → Kept words words' refs → live_refs words' refs ≡ live_refs words refs →
+unused_moved : (words words' refs : List ℕ) (implied : List (List ℕ)) (v : ℕ) → SameUpToOrder words words' refs → live_refs words' refs ≡ live_refs words refs →
     IsUnused words (live_refs words refs) implied v → IsUnused words' (live_refs words' refs) implied v
 unused_moved words words' refs implied v kept e u = record {
   long = λ o k c lt same.
@@ -261,8 +261,8 @@ unused_moved words words' refs implied v kept e u = record {
 
 -- what is gone goes on through propagation
 pub gone_moved : (am : List ℕ) → (words words' : List ℕ) (db : Db) (w w' : Watching) (b : Binaries) (a a' : Values) (g g' : List ImplNode) (t t' : Trailed) (q : Queue) (top top' : ℕ) →
-    IsSoundBelow words db w b a g t q top → IsSoundBelow words' db w' b a' g' t' q top' → Moves (live_refs words db.refs) b.implied words (state_of a g t) words' (state_of a' g' t') →
-    live_refs words' db.refs ≡ live_refs words db.refs → GoesOn am (state_of a g t) q (state_of a' g' t') q
+    IsSoundBelow words db w b a g t q top → IsSoundBelow words' db w' b a' g' t' q top' → PropagatesOn (live_refs words db.refs) b.implied words (state_of a g t) words' (state_of a' g' t') →
+    live_refs words' db.refs ≡ live_refs words db.refs → GoneAndIdleStay am (state_of a g t) q (state_of a' g' t') q
 gone_moved am words words' db w w' b a a' g g' t t' q top top' h h' m e = record {
   size = m.grows.size;
   gone = λ v x. (
@@ -316,7 +316,7 @@ available_other (l ∷ ls) q v h =
 
 -- where levels are undone
 pub gone_undone : (am : List ℕ) → (top : ℕ) (a : Values) (g : List ImplNode) (t : Trailed) (q : Queue) → Agrees (state_of a g t) → top < length t.starts →
-    GoesOn am (state_of a g t) q (state_of (undone_to top t a) g (cut_to top t)) (all_available (undone_lits top t) q)
+    GoneAndIdleStay am (state_of a g t) q (state_of (undone_to top t a) g (cut_to top t)) (all_available (undone_lits top t) q)
 gone_undone am top a g t q h lt = record {
   size = undone_length (undone_lits top t) a;
   gone = λ v x. (
@@ -347,7 +347,7 @@ gone_undone am top a g t q h lt = record {
     )
 
 -- where units are taken off the trail
-gone_cleared : (am : List ℕ) → (a : Values) (g : List ImplNode) (t : Trailed) (q : Queue) → Agrees (state_of a g t) → GoesOn am (state_of a g t) q (state_of a (removed t.lits g) (with_cleared t)) q
+gone_cleared : (am : List ℕ) → (a : Values) (g : List ImplNode) (t : Trailed) (q : Queue) → Agrees (state_of a g t) → GoneAndIdleStay am (state_of a g t) q (state_of a (removed t.lits g) (with_cleared t)) q
 gone_cleared am a g t q h = record {
   size = refl;
   gone = λ v x. (
@@ -360,26 +360,26 @@ gone_cleared am a g t q h = record {
   idle = λ v y. y;
 }
 
-pub word_goes : (am : List ℕ) → (s : State) (q : Queue) (s' : State) (q' : Queue) → GoesOn am s q s' q' → Begins (standing s.trail) (standing s'.trail) → WordExtends am s q s' q'
+pub word_goes : (am : List ℕ) → (s : State) (q : Queue) (s' : State) (q' : Queue) → GoneAndIdleStay am s q s' q' → Begins (trail_letters s.trail) (trail_letters s'.trail) → WordExtends am s q s' q'
 word_goes am s q s' q' stay more = (
   stay,
   λ w x. (
-    replicate (length x.gone) P ++ standing s'.trail,
+    replicate (length x.gone) P ++ trail_letters s'.trail,
     (
       record { gone = x.gone; distinct = x.distinct; each = λ k b. stay.gone (get_or x.gone k 0) (x.each k b); is = refl },
-      subst (λ (u : List Letter). Begins u (replicate (length x.gone) P ++ standing s'.trail)) (sym x.is) (begins_behind (length x.gone) (standing s.trail) (standing s'.trail) more),
+      subst (λ (u : List Letter). Begins u (replicate (length x.gone) P ++ trail_letters s'.trail)) (sym x.is) (begins_behind (length x.gone) (trail_letters s.trail) (trail_letters s'.trail) more),
     ),
   ),
 )
 
-pub word_rises : (am : List ℕ) → (s : State) (q : Queue) (s' : State) (q' : Queue) → GoesOn am s q s' q' → IsBelow (standing s.trail) (standing s'.trail) → WordRises am s q s' q'
+pub word_rises : (am : List ℕ) → (s : State) (q : Queue) (s' : State) (q' : Queue) → GoneAndIdleStay am s q s' q' → IsLowerWord (trail_letters s.trail) (trail_letters s'.trail) → WordRises am s q s' q'
 word_rises am s q s' q' stay more = (
   stay,
   λ w x. (
-    replicate (length x.gone) P ++ standing s'.trail,
+    replicate (length x.gone) P ++ trail_letters s'.trail,
     (
       record { gone = x.gone; distinct = x.distinct; each = λ k b. stay.gone (get_or x.gone k 0) (x.each k b); is = refl },
-      subst (λ (u : List Letter). IsBelow u (replicate (length x.gone) P ++ standing s'.trail)) (sym x.is) (below_behind (length x.gone) (standing s.trail) (standing s'.trail) more),
+      subst (λ (u : List Letter). IsLowerWord u (replicate (length x.gone) P ++ trail_letters s'.trail)) (sym x.is) (below_behind (length x.gone) (trail_letters s.trail) (trail_letters s'.trail) more),
     ),
   ),
 )
@@ -424,13 +424,13 @@ word_cleared am a g t q h e = (
 )
 
 -- as an ask begins, nothing is taken off yet
-pub word_begins : (am : List ℕ) (p : Parts) → Words am p (standing p.trail)
+pub word_begins : (am : List ℕ) (p : Parts) → Words am p (trail_letters p.trail)
 word_begins am p = record { gone = []; distinct = λ i j a b e. absurd (omega arith); each = λ k b. absurd (omega arith); is = refl }
 
-pub goes_refl : (am : List ℕ) → (s : State) (q : Queue) → GoesOn am s q s q
+pub goes_refl : (am : List ℕ) → (s : State) (q : Queue) → GoneAndIdleStay am s q s q
 goes_refl am s q = record { size = refl; gone = λ v x. x; idle = λ v x. x }
 
-pub goes_trans : (am : List ℕ) → (s : State) (q : Queue) (s' : State) (q' : Queue) (s'' : State) (q'' : Queue) → GoesOn am s q s' q' → GoesOn am s' q' s'' q'' → GoesOn am s q s'' q''
+pub goes_trans : (am : List ℕ) → (s : State) (q : Queue) (s' : State) (q' : Queue) (s'' : State) (q'' : Queue) → GoneAndIdleStay am s q s' q' → GoneAndIdleStay am s' q' s'' q'' → GoneAndIdleStay am s q s'' q''
 goes_trans am s q s' q' s'' q'' x y = record { size = y.size ∙ x.size; gone = λ v z. y.gone v (x.gone v z); idle = λ v z. y.idle v (x.idle v z) }
 
 pub extends_refl : (p : Parts) → TrailWordExtends p p
@@ -455,7 +455,7 @@ rises_after am p q r x y = (
   λ w h.
       let a = x.1 w h in
       let b = y.1 a.0 a.1.0 in
-      (b.0, (b.1.0, below_front w a.1.1.0 b.0 (subst (λ (u : List Letter). IsBelow u b.0) a.1.1.1 b.1.1))),
+      (b.0, (b.1.0, below_front w a.1.1.0 b.0 (subst (λ (u : List Letter). IsLowerWord u b.0) a.1.1.1 b.1.1))),
 )
 
 -- fewer variables may be picked
@@ -465,7 +465,7 @@ extends_fewer am s q q' less =
       size = refl;
       gone = λ v x. (x.0, elim x.1 [ inl y ↦ inl y | inr y ↦ inr (y.0, less v y.1, y.2) ]);
       idle = λ v y. (y.0, less v y.1, y.2);
-    }) (begins_refl (standing s.trail))
+    }) (begins_refl (trail_letters s.trail))
 
 pub extends_decided : (am : List ℕ) → (s : State) (q q' : Queue) (l : ℕ) → IsOpenLit s.values l → (may_pick q (variable l) ≡ true) ⊎ Contains am (variable l) → ((u : ℕ) → may_pick q u ≡ false → may_pick q' u ≡ false) → IsLevelled s → WordExtends am s q (decided_on l s) q'
 extends_decided am s q q' l unset picks less levels = word_goes am s q (decided_on l s) q' (gone_decided am s q q' l unset picks less) (standing_decided s l levels)
@@ -484,7 +484,7 @@ extends_propagated am words words' db w w' b a a' g g' t t' q (Err x) h given =
 
 -- a collection
 pub extends_collect : (am : List ℕ) → (words words' : List ℕ) (db db' : Db) (w w' : Watching) (a : Values) (g g' : List ImplNode) (t : Trailed) (q : Queue) (r : Result (Unit {0}) StoreError) →
-    (length words / 2 < db.garbage → OnOk r (Collects words db g t.lits words' db' g')) → (db.garbage ≤ length words / 2 → AllStay words db g w words' db' g' w') → OnErr r (AllStay words db g w words' db' g' w') →
+    (length words / 2 < db.garbage → OnOk r (Collects words db g t.lits words' db' g')) → (db.garbage ≤ length words / 2 → CollectsNothing words db g w words' db' g' w') → OnErr r (CollectsNothing words db g w words' db' g' w') →
     WordExtends am (state_of a g t) q (state_of a g' t) q
 extends_collect am words words' db db' w w' a g g' t q (Ok x) due not_due same = elim (cases_lt (length words / 2) db.garbage) [
   | inl lt ↦
@@ -499,15 +499,15 @@ extends_collect am words words' db db' w w' a g g' t q (Ok x) due not_due same =
           ],
         );
         idle = λ v y. y;
-      }) (begins_refl (standing t))
+      }) (begins_refl (trail_letters t))
   | inr le ↦ (let y = not_due le in rw y.2 (extends_fewer am (state_of a g t) q q (λ u e. e)))
 ]
 extends_collect am words words' db db' w w' a g g' t q (Err x) due not_due same = rw same.2 (extends_fewer am (state_of a g t) q q (λ u e. e))
 
 -- learned: levels are undone, and a literal becomes true
-pub rises_learned : (am : List ℕ) → (s : State) (q : Queue) (s' : State) (q' : Queue) (l top : ℕ) → GoesOn am s q s' q' → IsLevelled s → top < length s.trail.starts → s'.trail ≡ with_lit l (cut_to top s.trail) → WordRises am s q s' q'
+pub rises_learned : (am : List ℕ) → (s : State) (q : Queue) (s' : State) (q' : Queue) (l top : ℕ) → GoneAndIdleStay am s q s' q' → IsLevelled s → top < length s.trail.starts → s'.trail ≡ with_lit l (cut_to top s.trail) → WordRises am s q s' q'
 rises_learned am s q s' q' l top stay levels lt e =
-    word_rises am s q s' q' stay (subst (λ (t : Trailed). IsBelow (standing s.trail) (standing t)) (sym e) (standing_learned s l top levels lt))
+    word_rises am s q s' q' stay (subst (λ (t : Trailed). IsLowerWord (trail_letters s.trail) (trail_letters t)) (sym e) (standing_learned s l top levels lt))
 
 -- levels are undone, and a learned literal comes in their place
 pub rises_taken : (p u n : Parts) (l top : ℕ) → TrailWordStays p u → TrailWordStays u n → u.trail ≡ cut_to top p.trail → n.trail ≡ with_lit l u.trail → IsLevelled (state p) → top < length p.trail.starts → TrailWordRises p n
@@ -517,7 +517,7 @@ rises_taken p u n l top undone stay cut last levelled lt am =
 
 -- a variable that isn't assumed is given up
 pub gone_freed : (am : List ℕ) (a : Values) (g : List ImplNode) (t : Trailed) (q : Queue) (u : ℕ) → u < length q.available → length q.available ≡ length a.current → (Contains am u → ⊥) →
-    GoesOn am (state_of a g t) q (state_of (assigned u None a) g t) (with_available u false q)
+    GoneAndIdleStay am (state_of a g t) q (state_of (assigned u None a) g t) (with_available u false q)
 gone_freed am a g t q u there same free = record {
   size = length-set a.current u None;
   gone = λ v x. (

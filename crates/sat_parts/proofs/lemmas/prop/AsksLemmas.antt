@@ -3,13 +3,13 @@ use Rattle.std.proofs.Common.{ℕ, ◌≡◌, inl, inr, ◌+◌, ◌/◌, ◌<�
 use Rattle.std.proofs.lemmas.Bool.{cases_Bool}
 use Rattle.sat_store.specs.clause.Buffer.{Laid}
 use Rattle.sat_parts.specs.declared.prop.graph.Conflict.{Conflict}
-use Rattle.sat_parts.specs.clause.Orders.{Kept}
+use Rattle.sat_parts.specs.clause.Orders.{SameUpToOrder}
 use Rattle.sat_parts.specs.clause.Db.{live_refs}
 use Rattle.sat_parts.specs.clause.Stored.{AreClauses}
 use Rattle.sat_parts.specs.prop.WatchLists.{Watching}
 use Rattle.sat_parts.specs.prop.State.{State, level, current_level}
 use Rattle.sat_parts.specs.prop.Reasons.{HaveFirsts}
-use Rattle.sat_parts.specs.prop.Ready.{AreWatched, AreSettled, ReadyBelow, Propagated, IsComplete, IsConflict}
+use Rattle.sat_parts.specs.prop.Ready.{AreWatched, AreSettled, ReadyBelow, Propagated, IsUnitFixpoint, IsConflict}
 use Rattle.sat_parts.specs.prop.Asks.{PropagationInvariant, PropagationResult}
 use Rattle.sat_parts.proofs.lemmas.prop.BuildLemmas.{live_in, live_same}
 
@@ -40,7 +40,7 @@ asks_from words refs w implied s top live laid e h = record {
 pub gives_from : (refs : List ℕ) (implied : List (List ℕ)) (words : List ℕ) (s : State) (words' : List ℕ) (s' : State) (w : Watching) (r : Result (Unit {0}) Conflict) →
     Laid words refs → Propagated (live_refs words refs) implied words s words' s' w.lists r → PropagationResult refs implied words s words' s' w r
 gives_from refs implied words s words' s' w (Ok x) laid h =
-    let k : Kept words words' refs = h.moves.reorders.all refs (λ o g. live_in words refs o g) laid in
+    let k : SameUpToOrder words words' refs = h.moves.reorders.all refs (λ o g. live_in words refs o g) laid in
     let e : live_refs words' refs ≡ live_refs words refs = live_same words words' refs k.headers in
     record {
       moves = h.moves;
@@ -48,11 +48,11 @@ gives_from refs implied words s words' s' w (Ok x) laid h =
       outcome = (
         asks_from words' refs w implied s' (current_level s' + 1) (live_refs words refs) k.laid e h.outcome.0,
         h.outcome.1,
-        subst (λ (z : List ℕ). IsComplete words' z implied s'.values) (sym e) h.outcome.2,
+        subst (λ (z : List ℕ). IsUnitFixpoint words' z implied s'.values) (sym e) h.outcome.2,
       );
     }
 gives_from refs implied words s words' s' w (Err x) laid h =
-    let k : Kept words words' refs = h.moves.reorders.all refs (λ o g. live_in words refs o g) laid in
+    let k : SameUpToOrder words words' refs = h.moves.reorders.all refs (λ o g. live_in words refs o g) laid in
     let e : live_refs words' refs ≡ live_refs words refs = live_same words words' refs k.headers in
     record {
       moves = h.moves;

@@ -10,7 +10,7 @@ use Rattle.sat_store.specs.clause.Header.{Header}
 use Rattle.sat_parts.specs.declared.prop.watch.Watch.{Watch}
 use Rattle.sat_parts.specs.clause.Db.{is_live, live_refs}
 use Rattle.sat_parts.specs.clause.Stored.{AreClauses, lit_of, size_of}
-use Rattle.sat_parts.specs.prop.WatchLists.{Watching, watch_on, watches_of, more_at, with_watch, with_clause}
+use Rattle.sat_parts.specs.prop.WatchLists.{Watching, watch_on, watches_of, more_at, with_watch, with_clause_watches}
 use Rattle.sat_parts.specs.prop.Ready.{IsGood, HasWatch, AreWatched}
 use Rattle.sat_parts.specs.prop.Building.{AreBuilt}
 use Rattle.sat_parts.proofs.lemmas.prop.WalkLemmas.{more_watch, new_watch, good_lists, at_two}
@@ -108,15 +108,15 @@ live_same old new (r ∷ rs) h =
 
 -- the same in the code's words
 pub built_by : (words refs : List ℕ) (w w' : Watching) (count k o a b : ℕ) → AreClauses words (live_refs words refs) count → AreBuilt words refs w.lists count k → k < length refs →
-    o ≡ get_or refs k 0 → is_live words o ≡ true → a ≡ lit_of words o 0 → b ≡ lit_of words o 1 → w.enabled ≡ true → w' ≡ with_clause o a b w →
+    o ≡ get_or refs k 0 → is_live words o ≡ true → a ≡ lit_of words o 0 → b ≡ lit_of words o 1 → w.enabled ≡ true → w' ≡ with_clause_watches o a b w →
     AreBuilt words refs w'.lists count (k + 1) × (w'.enabled ≡ true)
 built_by words refs w w' count k o a b c h lt o_is live a_is b_is on e =
     let r : ℕ = get_or refs k 0 in
     let o' : o ≡ get_or refs k 0 = o_is in
     let a' : a ≡ lit_of words (get_or refs k 0) 0 = a_is ∙ ap (λ z. lit_of words z 0) o_is in
     let b' : b ≡ lit_of words (get_or refs k 0) 1 = b_is ∙ ap (λ z. lit_of words z 1) o_is in
-    let f : w' ≡ with_clause (get_or refs k 0) (lit_of words (get_or refs k 0) 0) (lit_of words (get_or refs k 0) 1) w =
-    e ∙ ap (λ z. with_clause z a b w) o' ∙ ap (λ z. with_clause (get_or refs k 0) z b w) a' ∙ ap (λ z. with_clause (get_or refs k 0) (lit_of words (get_or refs k 0) 0) z w) b' in
+    let f : w' ≡ with_clause_watches (get_or refs k 0) (lit_of words (get_or refs k 0) 0) (lit_of words (get_or refs k 0) 1) w =
+    e ∙ ap (λ z. with_clause_watches z a b w) o' ∙ ap (λ z. with_clause_watches (get_or refs k 0) z b w) a' ∙ ap (λ z. with_clause_watches (get_or refs k 0) (lit_of words (get_or refs k 0) 0) z w) b' in
     let g : w' ≡ with_watch (negated (lit_of words (get_or refs k 0) 1)) (watch_on (get_or refs k 0) (lit_of words (get_or refs k 0) 0))
     (with_watch (negated (lit_of words (get_or refs k 0) 0)) (watch_on (get_or refs k 0) (lit_of words (get_or refs k 0) 1)) w) =
     f ∙ cond-true w.enabled _ w on in (

@@ -12,12 +12,12 @@ use Rattle.sat_parts.specs.declared.prop.graph.Reason.TheVariants.{Unit as NoCau
 use Rattle.sat_parts.specs.clause.Orders.{AreDistinct}
 use Rattle.sat_store.specs.clause.Header.{Header}
 use Rattle.sat_parts.specs.declared.prop.watch.Watch.{Watch}
-use Rattle.sat_parts.specs.clause.Db.{Db, live_refs, AddsClause}
-use Rattle.sat_parts.specs.clause.Filtered.{AreKept}
+use Rattle.sat_parts.specs.clause.Db.{Db, live_refs, AddsLongClause}
+use Rattle.sat_parts.specs.clause.Filtered.{SameClausesAt}
 use Rattle.sat_parts.specs.clause.Stored.{lit_of}
 use Rattle.sat_parts.specs.prop.Values.{is_unset, IsTrueLit}
 use Rattle.sat_parts.specs.prop.Binaries.{Binaries, implied_by, open_among, RemovesAssigned}
-use Rattle.sat_parts.specs.prop.WatchLists.{Watching, no_watch, watch_on, watches_of, more_at, with_watch, with_clause}
+use Rattle.sat_parts.specs.prop.WatchLists.{Watching, no_watch, watch_on, watches_of, more_at, with_watch, with_clause_watches}
 use Rattle.sat_parts.specs.prop.State.{State, node, level, current_level, lit_at, HasLeft, IsSatisfied}
 use Rattle.sat_parts.specs.prop.Ready.{IsGood, HasWatch, AreWatched}
 use Rattle.sat_parts.specs.prop.Asks.{PropagationInvariant, AsksForReason, IsOwnLong}
@@ -69,24 +69,24 @@ asks_of_unit words refs w implied s top lit h = record {
   binary = λ l k x d b. elim (h.binary l k x d b) [ inl y ↦ y | inr n ↦ absurd n.0 ];
 }
 
-lists_added : (o a b : ℕ) (w : Watching) → (length (with_clause o a b w).lists ≡ length w.lists) × ((with_clause o a b w).enabled ≡ w.enabled)
+lists_added : (o a b : ℕ) (w : Watching) → (length (with_clause_watches o a b w).lists ≡ length w.lists) × ((with_clause_watches o a b w).enabled ≡ w.enabled)
 lists_added o a b w = elim (cases_Bool w.enabled) [
   | inl on ↦
-      let e : with_clause o a b w ≡ with_watch (negated b) (watch_on o a) (with_watch (negated a) (watch_on o b) w) = cond-true w.enabled _ w on in
+      let e : with_clause_watches o a b w ≡ with_watch (negated b) (watch_on o a) (with_watch (negated a) (watch_on o b) w) = cond-true w.enabled _ w on in
       let one : List (List Watch) = more_at (negated a) (watch_on o b) w.lists in (
         ap (λ (x : Watching). length x.lists) e ∙ length-set one (negated b) (watches_of one (negated b) ++ watch_on o a ∷ [])
             ∙ length-set w.lists (negated a) (watches_of w.lists (negated a) ++ watch_on o b ∷ []),
         ap (λ (x : Watching). x.enabled) e,
       )
   | inr off ↦
-      let e : with_clause o a b w ≡ w = cond-false w.enabled _ w off in
+      let e : with_clause_watches o a b w ≡ w = cond-false w.enabled _ w off in
       (ap (λ (x : Watching). length x.lists) e, ap (λ (x : Watching). x.enabled) e)
 ]
 
 -- watch lists that are kept up have the new clause too
-watched_added : (words words' : List ℕ) (db db' : Db) (o count : ℕ) (header : Header) (lits : List ℕ) (w : Watching) → AddsClause words db words' db' o header lits →
+watched_added : (words words' : List ℕ) (db db' : Db) (o count : ℕ) (header : Header) (lits : List ℕ) (w : Watching) → AddsLongClause words db words' db' o header lits →
     Laid words db.refs → 3 ≤ length lits → ((k : ℕ) → k < length lits → get_or lits k 0 < 2 * count) → w.enabled ≡ true → AreWatched words (live_refs words db.refs) w.lists count →
-    AreWatched words' (live_refs words' db'.refs) (with_clause o (get_or lits 0 0) (get_or lits 1 0) w).lists count
+    AreWatched words' (live_refs words' db'.refs) (with_clause_watches o (get_or lits 0 0) (get_or lits 1 0) w).lists count
 watched_added words words' db db' o count header lits w x laid three below on h =
     let a : ℕ = get_or lits 0 0 in
     let b : ℕ = get_or lits 1 0 in
@@ -116,7 +116,7 @@ watched_added words words' db db' o count header lits w x laid three below on h 
     let y : Watch = get_or (watches_of w.lists l) p no_watch in
     (old_in y.cref g.0, (g.1.0, subst (λ (ls : List ℕ). (g.1.0 < length ls) × (get_or ls g.1.0 0 ≡ y.blocking)) (sym (same y.cref g.0)) g.1.1)) in
     let W : ℕ → ℕ → Type 0 = λ p i. HasWatch (watches_of two (negated (lit_of words' p i))) p in
-    let e : with_clause o a b w ≡ with_watch (negated b) second (with_watch (negated a) first w) = cond-true w.enabled _ w on in
+    let e : with_clause_watches o a b w ≡ with_watch (negated b) second (with_watch (negated a) first w) = cond-true w.enabled _ w on in
     subst (λ (z : Watching). AreWatched words' (live_refs words' db'.refs) z.lists count) (sym e) (record {
       room = two_length ∙ one_length ∙ h.room;
       good = good_lists words' (live_refs words' db'.refs) one (negated b) second in_two good_second (good_lists words' (live_refs words' db'.refs) w.lists (negated a) first in_one good_first good_old);
@@ -133,10 +133,10 @@ watched_added words words' db db' o count header lits w x laid three below on h 
 -- after an addition of a clause of different literals of known variables, which may be the next literal's reason: its false
 -- literals that are watched and have left the queue are settled, or of the current level
 pub asks_added : (words words' : List ℕ) (db db' : Db) (o : ℕ) (header : Header) (lits : List ℕ) (w : Watching) (implied : List (List ℕ)) (s : State) (top lit : ℕ) (r : Reason) →
-    PropagationInvariant words db.refs w implied s top → AddsClause words db words' db' o header lits → AreDistinct lits → 3 ≤ length lits → ((k : ℕ) → k < length lits → get_or lits k 0 < 2 * length s.values) →
+    PropagationInvariant words db.refs w implied s top → AddsLongClause words db words' db' o header lits → AreDistinct lits → 3 ≤ length lits → ((k : ℕ) → k < length lits → get_or lits k 0 < 2 * length s.values) →
     ((i : ℕ) → i < 2 → HasLeft s (negated (get_or lits i 0)) → level s (negated (get_or lits i 0)) < top →
     IsSatisfied s lits (level s (negated (get_or lits i 0))) ⊎ (IsOwnLong r o × (current_level s ≤ level s (negated (get_or lits i 0))))) →
-    AsksForReason lit r words' db'.refs (with_clause o (get_or lits 0 0) (get_or lits 1 0) w) implied s top
+    AsksForReason lit r words' db'.refs (with_clause_watches o (get_or lits 0 0) (get_or lits 1 0) w) implied s top
 asks_added words words' db db' o header lits w implied s top lit r h x apart three below own =
     let live : List ℕ = live_refs words db.refs in
     let keeps : (p : ℕ) → Contains (live_refs words db.refs) p → lits_at words' p ≡ lits_at words p = λ p c. (x.added.others p (h.laid.clauses p (live_in words db.refs p c))).lits in
@@ -213,7 +213,7 @@ asks_removed words refs w old new s top h x =
 
 -- after a pass over the clauses that kept the reasons of the trail
 pub asks_filtered : {F : Type 0} (R : F → ℕ → Bool → F → Type 0) (f : F) (words refs words' : List ℕ) (w : Watching) (implied : List (List ℕ)) (s : State) (top : ℕ) →
-    PropagationInvariant words refs w implied s top → IsFiltered R f (live_refs words refs) (live_refs words' refs) → AreKept words words' (live_refs words' refs) → Laid words' refs →
+    PropagationInvariant words refs w implied s top → IsFiltered R f (live_refs words refs) (live_refs words' refs) → SameClausesAt words words' (live_refs words' refs) → Laid words' refs →
     ((i o : ℕ) → i < length s.trail.lits → (node s (lit_at s i)).reason ≡ Long o → Contains (live_refs words' refs) o) →
     PropagationInvariant words' refs (record w { enabled = false }) implied s top
 asks_filtered R f words refs words' w implied s top h x kept laid reasons =

@@ -12,8 +12,8 @@ use Rattle.sat_parts.specs.clause.Stored.{AreClauses, lit_of, size_of}
 use Rattle.sat_parts.specs.prop.Values.{IsTrueLit, IsFalseLit}
 use Rattle.sat_parts.specs.prop.Binaries.{implied_by}
 use Rattle.sat_parts.specs.prop.State.{State, node, level, current_level, lit_at, IsRemoved, IsBefore, HasLeft, Agrees, IsQueueCurrent, IsSatisfied, Grows}
-use Rattle.sat_parts.specs.prop.Reasons.{HaveFirsts, Moves}
-use Rattle.sat_parts.specs.prop.Ready.{AreImplied, AreWatched, AreLists, LongReady, ReadyBelow, IsReady, IsComplete, IsConflict}
+use Rattle.sat_parts.specs.prop.Reasons.{HaveFirsts, PropagatesOn}
+use Rattle.sat_parts.specs.prop.Ready.{AreImplied, AreWatched, AreLists, LongReady, ReadyBelow, IsReadyToPropagate, IsUnitFixpoint, IsConflict}
 use Rattle.sat_parts.specs.prop.Walk.{BinaryWalk, Walks, due_after}
 use Rattle.sat_parts.proofs.lemmas.clause.OrderLemmas.{reorders_refl}
 use Rattle.sat_parts.proofs.lemmas.prop.StateLemmas.{true_from_false, not_both, open_other, level_low, left_true, left_back, level_kept, satisfied_forth, before_forth, removed_forth}
@@ -53,7 +53,7 @@ agrees_popped s h lt = record {
   ];
 }
 
-pub moves_popped : (live : List ℕ) (implied : List (List ℕ)) (words : List ℕ) (s : State) → Moves live implied words s words (popped s)
+pub moves_popped : (live : List ℕ) (implied : List (List ℕ)) (words : List ℕ) (s : State) → PropagatesOn live implied words s words (popped s)
 moves_popped live implied words s = record {
   grows = grows_popped s;
   reorders = reorders_refl words live;
@@ -184,7 +184,7 @@ stopped_binary w live lists implied s t l h ranges i firsts b = record {
 -- the state after one piece of propagation, from one after the clauses of two literals
 pub ready_again : (w v live : List ℕ) (lists : List (List Watch)) (implied : List (List ℕ)) (s t : State) →
     Agrees s → AreLists implied (length s.values) → AreImplied implied s (λ m. level s m < current_level s + 1) → HaveFirsts w live s →
-    Walks live w s v t lists None → IsReady v live lists implied t
+    Walks live w s v t lists None → IsReadyToPropagate v live lists implied t
 ready_again w v live lists implied s t a ranges i firsts x =
     let g : Grows s t = (x.moves []).grows in
     record {
@@ -221,8 +221,8 @@ settled_by w live lists s o i h e ho hi f =
     h.settled o i ho hi x (all_due s (negated (lit_of w o i)) h.agrees x)
 
 -- where nothing is in the queue, no clause is falsified or unit with its literal open
-pub complete : (w live : List ℕ) (lists : List (List Watch)) (implied : List (List ℕ)) (s : State) → IsReady w live lists implied s → s.trail.head ≡ length s.trail.lits →
-    IsComplete w live implied s.values
+pub complete : (w live : List ℕ) (lists : List (List Watch)) (implied : List (List ℕ)) (s : State) → IsReadyToPropagate w live lists implied s → s.trail.head ≡ length s.trail.lits →
+    IsUnitFixpoint w live implied s.values
 complete w live lists implied s h e = record {
   not_falsified = λ o ho f.
       let long : 3 ≤ size_of w o = h.long.clauses.long o ho in
@@ -261,13 +261,13 @@ next_top s l q e = ap (λ m. level s m) (sym (next_there s l e).1) ∙ q s.trail
 
 -- what propagation over the long clauses asks
 pub next_long : (w live : List ℕ) (lists : List (List Watch)) (implied : List (List ℕ)) (s t : State) (l : ℕ) →
-    IsReady w live lists implied s → IsNext s l → BinaryWalk implied l (popped s) t (length (implied_by implied l)) →
+    IsReadyToPropagate w live lists implied s → IsNext s l → BinaryWalk implied l (popped s) t (length (implied_by implied l)) →
     LongReady w live lists t (λ m. m ≢ l)
 next_long w live lists implied s t l h e b =
     binary_long w live lists implied (popped s) t l (length (implied_by implied l)) (long_popped w live lists s l h.long (next_there s l e).0 (next_there s l e).1) b
 
 pub next_stops_binary : (w live : List ℕ) (lists : List (List Watch)) (implied : List (List ℕ)) (s t : State) (l : ℕ) →
-    IsReady w live lists implied s → IsNext s l → BinaryWalk implied l (popped s) t 0 → ReadyBelow w live lists implied t (current_level t)
+    IsReadyToPropagate w live lists implied s → IsNext s l → BinaryWalk implied l (popped s) t 0 → ReadyBelow w live lists implied t (current_level t)
 next_stops_binary w live lists implied s t l h e b =
     stopped_binary w live lists implied (popped s) t l (long_popped w live lists s l h.long (next_there s l e).0 (next_there s l e).1) h.ranges
     (implied_popped implied s l h.long.agrees h.binary (next_there s l e).1) h.firsts b
@@ -279,8 +279,8 @@ middle_binary implied s t l a i e b =
     binary_settled implied (popped s) t l (next_agrees s l a e) (implied_popped implied s l a i (next_there s l e).1) b
 
 pub next_goes_on : (w v live : List ℕ) (lists lists' : List (List Watch)) (implied : List (List ℕ)) (s t u : State) (l : ℕ) →
-    IsReady w live lists implied s → IsNext s l → BinaryWalk implied l (popped s) t (length (implied_by implied l)) → Walks live w t v u lists' None →
-    IsReady v live lists' implied u
+    IsReadyToPropagate w live lists implied s → IsNext s l → BinaryWalk implied l (popped s) t (length (implied_by implied l)) → Walks live w t v u lists' None →
+    IsReadyToPropagate v live lists' implied u
 next_goes_on w v live lists lists' implied s t u l h e b x =
     ready_again w v live lists' implied t u b.agrees
     (subst (λ (n : ℕ). AreLists implied n) (sym (b.moves [] []).grows.size) h.ranges)
@@ -288,7 +288,7 @@ next_goes_on w v live lists lists' implied s t u l h e b x =
     (firsts_moved live implied w (popped s) w t (next_agrees s l h.long.agrees e) (b.moves w live) h.firsts) x
 
 pub next_stops_long : (w v live : List ℕ) (lists lists' : List (List Watch)) (implied : List (List ℕ)) (s t u : State) (l o : ℕ) →
-    IsReady w live lists implied s → IsNext s l → BinaryWalk implied l (popped s) t (length (implied_by implied l)) → Walks live w t v u lists' (Some o) →
+    IsReadyToPropagate w live lists implied s → IsNext s l → BinaryWalk implied l (popped s) t (length (implied_by implied l)) → Walks live w t v u lists' (Some o) →
     ReadyBelow v live lists' implied u (current_level u)
 next_stops_long w v live lists lists' implied s t u l o h e b x =
     stopped_long w v live lists' implied t u o b.agrees
@@ -298,12 +298,12 @@ next_stops_long w v live lists lists' implied s t u l o h e b x =
 
 -- the pieces of one turn
 pub next_moves_binary : (live : List ℕ) (implied : List (List ℕ)) (w0 : List ℕ) (s0 : State) (w : List ℕ) (s t : State) (l at : ℕ) →
-    Moves live implied w0 s0 w s → BinaryWalk implied l (popped s) t at → Moves live implied w0 s0 w t
+    PropagatesOn live implied w0 s0 w s → BinaryWalk implied l (popped s) t at → PropagatesOn live implied w0 s0 w t
 next_moves_binary live implied w0 s0 w s t l at m b =
     moves_trans live implied w0 s0 w (popped s) w t (moves_trans live implied w0 s0 w s w (popped s) m (moves_popped live implied w s)) (b.moves w live)
 
 pub next_moves : (live : List ℕ) (implied : List (List ℕ)) (w0 : List ℕ) (s0 : State) (w v : List ℕ) (s t u : State) (lists : List (List Watch)) (found : Option ℕ) (l at : ℕ) →
-    Moves live implied w0 s0 w s → BinaryWalk implied l (popped s) t at → Walks live w t v u lists found → Moves live implied w0 s0 v u
+    PropagatesOn live implied w0 s0 w s → BinaryWalk implied l (popped s) t at → Walks live w t v u lists found → PropagatesOn live implied w0 s0 v u
 next_moves live implied w0 s0 w v s t u lists found l at m b x =
     moves_trans live implied w0 s0 w t v u (next_moves_binary live implied w0 s0 w s t l at m b) (x.moves implied)
 

@@ -13,7 +13,7 @@ use Rattle.sat_parts.specs.clause.Stored.{AreClauses, lit_of, size_of}
 use Rattle.sat_parts.specs.prop.Values.{IsTrueLit, IsOpenLit}
 use Rattle.sat_parts.specs.prop.Graphs.{is_unit}
 use Rattle.sat_parts.specs.prop.State.{State, node, lit_at, Agrees, Grows, enqueued}
-use Rattle.sat_parts.specs.prop.Reasons.{IsCaused, IsFalseBefore, Implies, AreInTurn, HaveFirsts, Moves}
+use Rattle.sat_parts.specs.prop.Reasons.{HasClauseReason, IsFalseBefore, Implies, AreInTurn, HaveFirsts, PropagatesOn}
 use Rattle.sat_parts.proofs.lemmas.clause.OrderLemmas.{reorders_refl, reorders_trans, reorders_one}
 use Rattle.sat_parts.proofs.lemmas.prop.StateLemmas.{before_forth, removed_forth, grows_refl, grows_trans, grows_enqueued, lit_front, lit_last, node_kept, node_new, true_new}
 
@@ -31,14 +31,14 @@ implies_forth words live implied a b i (Long o) g p h =
     (h.0, h.1 ∙ sym (g.front i p), λ k x y. false_before_forth a b i (lit_of words o k) g (h.2 k x y))
 
 -- the cause of a literal stays while the trail grows
-pub caused_forth : (a b : State) (i : ℕ) → Grows a b → i < length a.trail.lits → IsCaused a i → IsCaused b i
+pub caused_forth : (a b : State) (i : ℕ) → Grows a b → i < length a.trail.lits → HasClauseReason a i → HasClauseReason b i
 caused_forth a b i g p h =
     let e : lit_at b i ≡ lit_at a i = g.front i p in (
       subst (λ (m : ℕ). IsTrueLit b.values m) (sym e) (g.kept (lit_at a i) h.0),
       ap (λ m. is_unit (node b m).reason) e ∙ ap (λ (z : ImplNode). is_unit z.reason) (g.nodes (lit_at a i) h.0) ∙ h.1,
     )
 
-pub moves_refl : (live : List ℕ) (implied : List (List ℕ)) (words : List ℕ) (s : State) → Moves live implied words s words s
+pub moves_refl : (live : List ℕ) (implied : List (List ℕ)) (words : List ℕ) (s : State) → PropagatesOn live implied words s words s
 moves_refl live implied words s = record {
   grows = grows_refl s;
   reorders = reorders_refl words live;
@@ -47,7 +47,7 @@ moves_refl live implied words s = record {
   turns = λ from p h. h;
 }
 
-pub moves_trans : (live : List ℕ) (implied : List (List ℕ)) (u : List ℕ) (a : State) (v : List ℕ) (b : State) (w : List ℕ) (c : State) → Moves live implied u a v b → Moves live implied v b w c → Moves live implied u a w c
+pub moves_trans : (live : List ℕ) (implied : List (List ℕ)) (u : List ℕ) (a : State) (v : List ℕ) (b : State) (w : List ℕ) (c : State) → PropagatesOn live implied u a v b → PropagatesOn live implied v b w c → PropagatesOn live implied u a w c
 moves_trans live implied u a v b w c x y = record {
   grows = grows_trans a b c x.grows y.grows;
   reorders = reorders_trans u v w live x.reorders y.reorders;
@@ -65,7 +65,7 @@ moves_trans live implied u a v b w c x y = record {
 pub moves_enqueued : (live : List ℕ) (implied : List (List ℕ)) (words : List ℕ) (s : State) (l : ℕ) (r : Reason) →
     Agrees s → IsOpenLit s.values l → variable l < length s.values → length s.trail.lits < s.trail.room →
     is_unit r ≡ false → Implies words live implied (enqueued l r s) (length s.trail.lits) r →
-    Moves live implied words s words (enqueued l r s)
+    PropagatesOn live implied words s words (enqueued l r s)
 moves_enqueued live implied words s l r h n below room clause cause =
     let t : State = enqueued l r s in
     let g : Grows s t = grows_enqueued s l r h n below room in
@@ -129,7 +129,7 @@ implies_shuffled words words' live implied s p i (Long o) count c g e first hold
 pub moves_shuffled : (live : List ℕ) (implied : List (List ℕ)) (words : List ℕ) (s : State) (words' : List ℕ) (p count : ℕ) →
     Agrees s → AreClauses words live count → Contains live p → Shuffles words words' p →
     (IsTrueLit s.values (lit_of words p 0) → lit_of words' p 0 ≡ lit_of words p 0) →
-    Moves live implied words s words' s
+    PropagatesOn live implied words s words' s
 moves_shuffled live implied words s words' p count a c g e first = record {
   grows = grows_refl s;
   reorders = reorders_one words words' live p g e;
@@ -148,7 +148,7 @@ from_long words live implied s i o r e h =
 
 -- long reasons have their literals first after a piece of propagation where they had before
 pub firsts_moved : (live : List ℕ) (implied : List (List ℕ)) (words : List ℕ) (s : State) (words' : List ℕ) (s' : State) →
-    Agrees s → Moves live implied words s words' s' → HaveFirsts words live s → HaveFirsts words' live s'
+    Agrees s → PropagatesOn live implied words s words' s' → HaveFirsts words live s → HaveFirsts words' live s'
 firsts_moved live implied words s words' s' a m h i o p e = elim (cases_lt i (length s.trail.lits)) [
   | inl lt ↦
       let f : (node s' (lit_at s' i)).reason ≡ (node s (lit_at s i)).reason =

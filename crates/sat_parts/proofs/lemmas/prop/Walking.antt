@@ -12,7 +12,7 @@ use Rattle.sat_parts.specs.clause.Stored.{AreClauses, lit_of, size_of}
 use Rattle.sat_parts.specs.prop.Values.{IsTrueLit, IsFalseLit, IsOpenLit}
 use Rattle.sat_parts.specs.prop.WatchLists.{no_watch, watch_on, watches_of, more_at}
 use Rattle.sat_parts.specs.prop.State.{State, level, current_level, HasLeft, Agrees, IsQueueCurrent, IsSatisfied, enqueued, Grows}
-use Rattle.sat_parts.specs.prop.Reasons.{IsFalseBefore, Implies, Moves}
+use Rattle.sat_parts.specs.prop.Reasons.{IsFalseBefore, Implies, PropagatesOn}
 use Rattle.sat_parts.specs.prop.Ready.{HasLit, HasWatch, IsGood, LongReady}
 use Rattle.sat_parts.specs.prop.Walk.{Half, IsOther, Oriented, Walks}
 use Rattle.sat_parts.proofs.lemmas.clause.OrderLemmas.{shuffles_refl, kept_clauses, reorders_one}
@@ -25,7 +25,7 @@ use Rattle.sat_parts.proofs.lemmas.prop.HalfLemmas.{satisfied_order, place_live,
 -- the parts in the middle of a walk that began with the words w0 and the state s0
 pub record Walking (live w0 : List ℕ) (s0 : State) (w : List ℕ) (s : State) (lists : List (List Watch)) (list : List Watch) (lit kept at : ℕ) : Type 0 where
   pub half : Half w live s lists list lit kept at
-  pub moves : (implied : List (List ℕ)) → Moves live implied w0 s0 w s
+  pub moves : (implied : List (List ℕ)) → PropagatesOn live implied w0 s0 w s
   pub head : s.trail.head ≡ s0.trail.head
 
 -- the false literal of a visit
@@ -76,7 +76,7 @@ step_stale live w0 s0 w s lists list lit kept at p h lt at_p n0 n1 = record {
 visit_moves : (live w0 : List ℕ) (s0 : State) (w v : List ℕ) (s : State) (lists : List (List Watch)) (list : List Watch) (lit kept at p : ℕ) →
     Walking live w0 s0 w s lists list lit kept at → at < length list → p ≡ (get_or list at no_watch).cref →
     Shuffles w v p → IsOther w v p (negated lit) →
-    (implied : List (List ℕ)) → Moves live implied w0 s0 v s
+    (implied : List (List ℕ)) → PropagatesOn live implied w0 s0 v s
 visit_moves live w0 s0 w v s lists list lit kept at p h lt at_p e other implied =
     let half : Half w live s lists list lit kept at = h.half in
     moves_trans live implied w0 s0 w s v s (h.moves implied)

@@ -12,9 +12,9 @@ use Rattle.sat_parts.specs.prop.Values.{Values, IsOpenLit}
 use Rattle.sat_parts.specs.prop.Trails.{Trailed, with_lit, with_level, cut_to}
 use Rattle.sat_parts.specs.prop.Undone.{undone_to}
 use Rattle.sat_parts.specs.prop.State.{State, node, lit_at, Agrees, enqueued}
-use Rattle.sat_parts.specs.prop.Reasons.{Moves}
+use Rattle.sat_parts.specs.prop.Reasons.{PropagatesOn}
 use Rattle.sat_parts.specs.prop.Ready.{state_of}
-use Rattle.sat_parts.specs.prop.TrailWord.{Letter, D, P, begins, letter, letters, trail_word, IsBelow, BeginsNone, IsLevelled, decided_on, LevelsStay, WordsRise}
+use Rattle.sat_parts.specs.prop.TrailWord.{Letter, D, P, begins, letter, letters, trail_word, IsLowerWord, BeginsNoLevel, IsLevelled, decided_on, LevelsStay, WordsRise}
 use Rattle.sat_parts.proofs.lemmas.prop.StateLemmas.{lit_front, lit_last, node_kept, node_new}
 
 levels_none : (s : State) → s.trail.starts ≡ [] → IsLevelled s
@@ -93,7 +93,7 @@ levels_decided s l h n below x =
           ];
     }
 
-levels_moved : (words live words' : List ℕ) (implied : List (List ℕ)) (s s' : State) → Agrees s → Moves live implied words s words' s' → IsLevelled s → IsLevelled s'
+levels_moved : (words live words' : List ℕ) (implied : List (List ℕ)) (s s' : State) → Agrees s → PropagatesOn live implied words s words' s' → IsLevelled s → IsLevelled s'
 levels_moved words live words' implied s s' h m x =
     let front : (i : ℕ) → i < length s.trail.lits → (node s' (lit_at s' i)).reason ≡ (node s (lit_at s i)).reason = λ i b.
     ap (λ l. (node s' l).reason) (m.grows.front i b) ∙ ap (λ (z : ImplNode). z.reason) (m.grows.nodes (lit_at s i) (h.holds i b)) in
@@ -101,7 +101,7 @@ levels_moved words live words' implied s s' h m x =
     let begun : (k : ℕ) → k < length s.trail.starts → get_or s.trail.starts k 0 < length s'.trail.lits = λ k b. omega (arith, x.begun k b) in
     let decided : (k : ℕ) → k < length s.trail.starts → is_unit (node s' (lit_at s' (get_or s.trail.starts k 0))).reason ≡ true = λ k b.
     ap (λ (z : Reason). is_unit z) (front (get_or s.trail.starts k 0) (x.begun k b)) ∙ x.decided k b in
-    let caused : (i k : ℕ) → k < length s.trail.starts → get_or s.trail.starts k 0 ≤ i → i < length s'.trail.lits → BeginsNone s.trail.starts i → is_unit (node s' (lit_at s' i)).reason ≡ false =
+    let caused : (i k : ℕ) → k < length s.trail.starts → get_or s.trail.starts k 0 ≤ i → i < length s'.trail.lits → BeginsNoLevel s.trail.starts i → is_unit (node s' (lit_at s' i)).reason ≡ false =
     λ i k b c d e. elim (cases_lt i (length s.trail.lits)) [
       | inl lt ↦ ap (λ (z : Reason). is_unit z) (front i lt) ∙ x.caused i k b c lt e
       | inr le ↦ (m.caused i le d).1
@@ -110,7 +110,7 @@ levels_moved words live words' implied s s' h m x =
     ((j k : ℕ) → j < k → k < length starts → get_or starts j 0 < get_or starts k 0)
     × ((k : ℕ) → k < length starts → get_or starts k 0 < length s'.trail.lits)
     × ((k : ℕ) → k < length starts → is_unit (node s' (lit_at s' (get_or starts k 0))).reason ≡ true)
-    × ((i k : ℕ) → k < length starts → get_or starts k 0 ≤ i → i < length s'.trail.lits → BeginsNone starts i → is_unit (node s' (lit_at s' i)).reason ≡ false) in
+    × ((i k : ℕ) → k < length starts → get_or starts k 0 ≤ i → i < length s'.trail.lits → BeginsNoLevel starts i → is_unit (node s' (lit_at s' i)).reason ≡ false) in
     let whole : Whole s'.trail.starts = subst Whole (sym m.grows.starts) (x.strict, begun, decided, caused) in
     record { strict = whole.0; begun = whole.1; decided = whole.2; caused = whole.3 }
 
@@ -163,7 +163,7 @@ or_assoc : (a b c : Bool) → ((a || b) || c) ≡ (a || (b || c))
 or_assoc true b c = refl
 or_assoc false b c = refl
 
-begins_none : (starts : List ℕ) (i : ℕ) → BeginsNone starts i → begins starts i ≡ false
+begins_none : (starts : List ℕ) (i : ℕ) → BeginsNoLevel starts i → begins starts i ≡ false
 begins_none [] i h = refl
 begins_none (k ∷ ks) i h = or_false (k == i) (begins ks i) (ne_eqb k i (h 0 (omega arith))) (begins_none ks i (λ j b e. h (suc j) (omega arith) e))
 
@@ -212,7 +212,7 @@ word_decided s l x =
     ap (λ (w : List Letter). replicate t.cleared P ++ w) (letters_append more t.lits (l ∷ []) 0 ∙ ap (λ (w : List Letter). letters more t.lits 0 ++ w) last ∙ ap (λ (w : List Letter). w ++ D ∷ []) front)
     ∙ sym (append_assoc (replicate t.cleared P) (letters t.starts t.lits 0) (D ∷ []))
 
-below_there : (pre u v : List Letter) → IsBelow (pre ++ D ∷ u) (pre ++ P ∷ v)
+below_there : (pre u v : List Letter) → IsLowerWord (pre ++ D ∷ u) (pre ++ P ∷ v)
 below_there [] u v = tt
 below_there (D ∷ w) u v = below_there w u v
 below_there (P ∷ w) u v = below_there w u v
@@ -223,7 +223,7 @@ from_place [] k b = absurd (omega arith)
 from_place (x ∷ xs) zero b = refl
 from_place (x ∷ xs) (suc k) b = from_place xs k (omega arith)
 
-word_rises : (s : State) (l level : ℕ) → IsLevelled s → level < length s.trail.starts → IsBelow (trail_word s.trail) (trail_word (with_lit l (cut_to level s.trail)))
+word_rises : (s : State) (l level : ℕ) → IsLevelled s → level < length s.trail.starts → IsLowerWord (trail_word s.trail) (trail_word (with_lit l (cut_to level s.trail)))
 word_rises s l level x lt =
     let t : Trailed = s.trail in
     let cut : ℕ = get_or s.trail.starts level 0 in
@@ -258,8 +258,8 @@ word_rises s l level x lt =
     ∙ sym (append_assoc (replicate t.cleared P) (letters few front 0) (D ∷ letters t.starts (drop (suc cut) t.lits) (0 + length front + 1))) in
     let whole' : trail_word (with_lit l (cut_to level t)) ≡ pre ++ P ∷ [] =
     ap (λ (w : List Letter). replicate t.cleared P ++ w) new ∙ sym (append_assoc (replicate t.cleared P) (letters few front 0) (P ∷ [])) in
-    subst (λ (w : List Letter). IsBelow w (trail_word (with_lit l (cut_to level t)))) (sym whole)
-    (subst (λ (w : List Letter). IsBelow (pre ++ D ∷ letters t.starts (drop (suc cut) t.lits) (0 + length front + 1)) w) (sym whole')
+    subst (λ (w : List Letter). IsLowerWord w (trail_word (with_lit l (cut_to level t)))) (sym whole)
+    (subst (λ (w : List Letter). IsLowerWord (pre ++ D ∷ letters t.starts (drop (suc cut) t.lits) (0 + length front + 1)) w) (sym whole')
     (below_there pre (letters t.starts (drop (suc cut) t.lits) (0 + length front + 1)) []))
 
 pub words_rise : WordsRise

@@ -1,7 +1,7 @@
 use Rattle.std.proofs.Common.{◌≡◌}
 use Rattle.std.proofs.lemmas.Result.{on_ok_weaker}
 use Rattle.sat_store.specs.heap.Vsids.{with_variables}
-use Rattle.sat_parts.specs.parts.Round.{IsSound}
+use Rattle.sat_parts.specs.parts.Round.{RoundInvariant}
 use Rattle.sat_parts.specs.parts.Frame.{Grown}
 use Rattle.sat_parts.proofs.lemmas.parts.GrowLemmas.{sound_grown, grown_frame}
 use Rattle.sat_parts.proofs.parts.grow.Goals as goal
@@ -11,7 +11,7 @@ returns c =
     let p = c.args.parts.now in
     let n = c.args.count in
     let keep : c.set_var_count-6.new.self ≡ with_variables c.args.count c.args.parts.now.vsids →
-    IsSound c.args.parts.now.clauses c.args.parts.now.db c.set_var_count.new.self c.set_var_count-2.new.self c.set_var_count-3.new.self c.set_var_count-4.new.self c.set_var_count-5.new.self c.set_var_count-6.new.self =
+    RoundInvariant c.args.parts.now.clauses c.args.parts.now.db c.set_var_count.new.self c.set_var_count-2.new.self c.set_var_count-3.new.self c.set_var_count-4.new.self c.set_var_count-5.new.self c.set_var_count-6.new.self =
     λ e.
     rw (e, c.in_ok-set_var_count.ensures.done, c.in_ok-set_var_count-2.ensures.done, c.in_ok-set_var_count-3.ensures.done, c.in_ok-set_var_count-4.ensures.done, c.in_ok-set_var_count-5.ensures.done)
     (sound_grown p.clauses p.db p.watchlists p.binary p.assignment p.graph p.trail p.vsids n c.requires.holds c.requires.more c.requires.few) in

@@ -5,7 +5,7 @@ use Rattle.sat_solver.specs.proof.ProofView.{steps_of, session_of}
 use Rattle.sat_solver.specs.declared.schedule.Outcome.TheVariants as outcomes
 use Rattle.sat_solver.specs.declared.cdcl.find_conflict.FoundConflict.TheVariants.{Falsified, Complete, Failed}
 use Rattle.sat_solver.specs.declared.context.Search.{Search}
-use Rattle.sat_solver.specs.cdcl.Turns.{Stopped}
+use Rattle.sat_solver.specs.cdcl.Turns.{StopsSearch}
 use Rattle.sat_solver.specs.cdcl.Rounds.{RoundSays}
 use Rattle.sat_solver.proofs.lemmas.cdcl.EndingLemmas.{ends_refuted, ends_on}
 use Rattle.sat_solver.proofs.lemmas.cdcl.GoingLemmas.{goes_behind, goes_failing, goes_or, goes_quietly}
@@ -45,7 +45,7 @@ returns-in-Complete g c =
     (Ok outcomes.Model) z e
     (goes_quietly g.W.CountedWrite.seen _ outcomes.Model p z _ (λ outcome steps. RoundSays outcome (steps_of p) steps (session_of z) d e)
     (λ steps quiet stopped.
-    let x : Stopped Complete (session_of z) d e = subst (λ stop. Stopped stop (session_of z) d e) c.in-Complete.is stopped in
+    let x : StopsSearch Complete (session_of z) d e = subst (λ stop. StopsSearch stop (session_of z) d e) c.in-Complete.is stopped in
     (record { search = x.says.0; moved = x.moved; complete = x.says.1 }, quiet)) c.in_ok-stop.ensures)
 
 pub returns-in-Failed : goal.returns-in-Failed
@@ -59,7 +59,7 @@ returns-in-Failed g c =
     (Ok outcomes.Failed) z e
     (goes_quietly g.W.CountedWrite.seen _ outcomes.Failed p z _ (λ outcome steps. RoundSays outcome (steps_of p) steps (session_of z) d e)
     (λ steps quiet stopped.
-    let x : Stopped (Failed c.in-Failed.lit) (session_of z) d f = subst (λ stop. Stopped stop (session_of z) d f) c.in-Failed.is stopped in
+    let x : StopsSearch (Failed c.in-Failed.lit) (session_of z) d f = subst (λ stop. StopsSearch stop (session_of z) d f) c.in-Failed.is stopped in
     (record { search = search_failed (session_of z) f c.in-Failed.lit x.says.0; moved = record { globals = x.moved.globals; lits = x.moved.lits; size = x.moved.size }; failing = x.says.1 }, quiet)) c.in_ok-stop.ensures)
 
 pub returns-in-Falsified : goal.returns-in-Falsified
@@ -74,6 +74,6 @@ returns-in-Falsified g c =
     c.resolve-in-Falsified.result z e
     (goes_behind g.W.CountedWrite.seen _ c.resolve-in-Falsified.result p q z _ _ _ c.in_ok-stop.ensures c.resolve-in-Falsified.ensures
     (λ xs ys outcome added quiet stopped says.
-    let x : Stopped (Falsified c.in-Falsified.conflict) (session_of q) d f = subst (λ stop. Stopped stop (session_of q) d f) c.in-Falsified.is stopped in
+    let x : StopsSearch (Falsified c.in-Falsified.conflict) (session_of q) d f = subst (λ stop. StopsSearch stop (session_of q) d f) c.in-Falsified.is stopped in
     round_from outcome (steps_of p) xs ys (session_of z) d f e x.moved x.word quiet
     (subst (λ zs. RoundSays outcome zs ys (session_of z) f e) added says)))

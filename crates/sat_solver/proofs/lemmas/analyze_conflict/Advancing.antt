@@ -17,7 +17,7 @@ use Rattle.sat_parts.specs.prop.Asks.{PropagationInvariant}
 use Rattle.sat_parts.proofs.lemmas.clause.ListLemmas.{at_place}
 use Rattle.sat_parts.proofs.lemmas.prop.StateLemmas.{negated_variable, negated_twice, true_from_false, false_from_true, not_both}
 use Rattle.sat_solver.specs.analyze_conflict.Work.{Work}
-use Rattle.sat_solver.specs.analyze_conflict.Derivation.{AreUnits, Learns}
+use Rattle.sat_solver.specs.analyze_conflict.Derivation.{AreLevelZeroLits, Learns}
 use Rattle.sat_solver.specs.analyze_conflict.Advances.{IsStored, stored_long, stored_pair, LeadTo, LearnedAdvances}
 use Rattle.sat_solver.proofs.lemmas.analyze_conflict.InTurn.{negation_of}
 use Rattle.sat_solver.proofs.lemmas.analyze_conflict.Meeting.{level_by_variable}
@@ -104,7 +104,7 @@ reached_low words refs watching implied s back us (c ∷ cs) reached a lt st h r
     reached_low words refs watching implied s back (o ∷ us) cs reached a lt st.1
     (λ m t. elim (or_cases (eqb o m) (is_among us m) t) [ inl q ↦ subst (λ z. IsLow s back z) (eqb-true o m q) low | inr k ↦ h m k ]) r.2
 
-assumed_low : (words : List ℕ) (s : State) (conflict : List ℕ) (w : Work) (back : ℕ) (units : List ℕ) → Learns words s conflict w back → AreUnits s units → AreLow s back (map negated (drop 1 w.clause) ++ units)
+assumed_low : (words : List ℕ) (s : State) (conflict : List ℕ) (w : Work) (back : ℕ) (units : List ℕ) → Learns words s conflict w back → AreLevelZeroLits s units → AreLow s back (map negated (drop 1 w.clause) ++ units)
 assumed_low words s conflict w back units h u m t =
     elim (or_cases (is_among (map negated (drop 1 w.clause)) m) (is_among units m) (sym (among-append (map negated (drop 1 w.clause)) units m) ∙ t)) [
       | inl n ↦

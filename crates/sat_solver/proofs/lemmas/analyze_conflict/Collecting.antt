@@ -14,9 +14,9 @@ use Rattle.sat_parts.specs.prop.Reasons.{IsFalseBefore}
 use Rattle.sat_parts.proofs.lemmas.clause.ListLemmas.{at_place, place_in}
 use Rattle.sat_parts.proofs.lemmas.prop.StateLemmas.{negated_variable}
 use Rattle.sat_parts.proofs.lemmas.prop.RoomLemmas.{places_apart}
-use Rattle.sat_solver.specs.analyze_conflict.Work.{Work, with_literal, with_literals, long_of, long_falsified, taken_up, begun}
+use Rattle.sat_solver.specs.analyze_conflict.Work.{Work, with_met_literal, with_literals, long_of, long_falsified, taken_up, begun}
 use Rattle.sat_solver.specs.analyze_conflict.Marks.{causes_at}
-use Rattle.sat_solver.specs.analyze_conflict.Involved.{HasAbove, IsMet, met_first, met_cause, longs_of, AreListed, AreMet, HasOther, AreNeeded, Collecting, Collected}
+use Rattle.sat_solver.specs.analyze_conflict.Involved.{HasAbove, IsMetVariable, met_first, met_cause, longs_of, AreListed, AreMet, HasOther, AreNeeded, Collecting, Collected}
 use Rattle.sat_solver.proofs.lemmas.analyze_conflict.Meeting.{OpenPlace, Meets, at_bottom, is_flagged, is_high, is_lower, counted, listed, meets, stands_before, variable_below, flag_kept, flag_cases}
 use Rattle.sat_solver.proofs.lemmas.analyze_conflict.Minimizing.{distinct_push}
 use Rattle.sat_solver.proofs.lemmas.analyze_conflict.Resolution.{IsLastFlagged, at_current}
@@ -120,7 +120,7 @@ pub lists_all : (s : State) (top at : ℕ) (rs : List ℕ) (w : Work) → Agrees
     Lists s at rs w (with_literals s.nodes top rs w)
 lists_all s top at [] w a h size l = record { listed = l; size = refl; stays = λ v c. c; has = λ v x. absurd (omega (arith, x.1.0)); only = λ v c. inl c }
 lists_all s top at (r ∷ rs) w a h size l =
-    let w1 : Work = with_literal s.nodes top r w in
+    let w1 : Work = with_met_literal s.nodes top r w in
     let w2 : Work = with_literals s.nodes top rs w1 in
     let x : Lists s at (r ∷ []) w w1 = lists_one s top at r w w1 a (h 0 (omega arith)) size l (meets s top r w) in
     let y : Lists s at rs w1 w2 = lists_all s top at rs w1 a (λ k lt. h (suc k) (omega arith)) (x.size ∙ size) x.listed in
@@ -180,7 +180,7 @@ same_one s top r w w' (is_lower above f t e) = record { used = ap (λ (x : Work)
 same_all : (s : State) (top : ℕ) (rs : List ℕ) (w : Work) → Same w (with_literals s.nodes top rs w)
 same_all s top [] w = record { used = refl; involved = refl }
 same_all s top (r ∷ rs) w =
-    let w1 : Work = with_literal s.nodes top r w in
+    let w1 : Work = with_met_literal s.nodes top r w in
     let x : Same w w1 = same_one s top r w w1 (meets s top r w) in
     let y : Same w1 (with_literals s.nodes top rs w1) = same_all s top rs w1 in
     record { used = y.used ∙ x.used; involved = y.involved ∙ x.involved }
@@ -209,7 +209,7 @@ collecting_began words s e w a clear size h =
       involved = m.involved ∙ sym (append-nil (long_falsified e)) ∙ ap (λ (us : List ℕ). long_falsified e ++ longs_of s us) (sym m.used);
     }
   where
-    all_began : (words : List ℕ) (s : State) (conflict used met : List ℕ) (v : ℕ) → used ≡ [] → ((u : ℕ) → HasAbove s conflict u → Contains met u) → IsMet words s conflict used v → Contains met v
+    all_began : (words : List ℕ) (s : State) (conflict used met : List ℕ) (v : ℕ) → used ≡ [] → ((u : ℕ) → HasAbove s conflict u → Contains met u) → IsMetVariable words s conflict used v → Contains met v
     all_began words s conflict used met v none has (met_first y) = has v y
     all_began words s conflict used met v none has (met_cause l c y) = absurd (omega (arith, c.1, ap (λ (xs : List ℕ). length xs) none))
 
@@ -249,11 +249,11 @@ collecting_taken words s e w p at a c h le size before o =
     record {
       listed = x.listed;
       met = record {
-        only = λ v y. subst (λ (us : List ℕ). IsMet words s (falsified words e) us v) (sym used) (elim (x.only v y) [
+        only = λ v y. subst (λ (us : List ℕ). IsMetVariable words s (falsified words e) us v) (sym used) (elim (x.only v y) [
           | inl z ↦ met_more words s (falsified words e) w.used l v (c.met.only v z)
           | inr z ↦ met_cause l (Contains-push w.used l) z
         ]);
-        all = λ v y. all_taken words s (falsified words e) w.used w.met w2.met l v c.met.all x.stays x.has (subst (λ (us : List ℕ). IsMet words s (falsified words e) us v) used y);
+        all = λ v y. all_taken words s (falsified words e) w.used w.met w2.met l v c.met.all x.stays x.has (subst (λ (us : List ℕ). IsMetVariable words s (falsified words e) us v) used y);
       };
       needed = subst (λ (us : List ℕ). AreNeeded words s (falsified words e) us) (sym used)
           (needed_more words s (falsified words e) w.used l c.needed (other_met words s e w p at a c h le o));
@@ -261,12 +261,12 @@ collecting_taken words s e w p at a c h le size before o =
           ∙ ap (λ (xs : List ℕ). long_falsified e ++ xs) (sym (longs_push s w.used l)) ∙ ap (λ (us : List ℕ). long_falsified e ++ longs_of s us) (sym used);
     }
   where
-    met_more : (words : List ℕ) (s : State) (conflict used : List ℕ) (l v : ℕ) → IsMet words s conflict used v → IsMet words s conflict (used ++ l ∷ []) v
+    met_more : (words : List ℕ) (s : State) (conflict used : List ℕ) (l v : ℕ) → IsMetVariable words s conflict used v → IsMetVariable words s conflict (used ++ l ∷ []) v
     met_more words s conflict used l v (met_first y) = met_first y
     met_more words s conflict used l v (met_cause q c y) = met_cause q (Contains-append_left used (l ∷ []) q c) y
 
-    all_taken : (words : List ℕ) (s : State) (conflict used old new : List ℕ) (l v : ℕ) → ((u : ℕ) → IsMet words s conflict used u → Contains old u) → ((u : ℕ) → Contains old u → Contains new u) →
-        ((u : ℕ) → HasAbove s (causes_at words s l) u → Contains new u) → IsMet words s conflict (used ++ l ∷ []) v → Contains new v
+    all_taken : (words : List ℕ) (s : State) (conflict used old new : List ℕ) (l v : ℕ) → ((u : ℕ) → IsMetVariable words s conflict used u → Contains old u) → ((u : ℕ) → Contains old u → Contains new u) →
+        ((u : ℕ) → HasAbove s (causes_at words s l) u → Contains new u) → IsMetVariable words s conflict (used ++ l ∷ []) v → Contains new v
     all_taken words s conflict used old new l v before stays has (met_first y) = stays v (before v (met_first y))
     all_taken words s conflict used old new l v before stays has (met_cause q c y) = elim (push_cases used l q c) [
       | inl b ↦ stays v (before v (met_cause q b y))

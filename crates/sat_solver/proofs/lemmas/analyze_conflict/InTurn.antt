@@ -13,7 +13,7 @@ use Rattle.sat_parts.specs.prop.Reasons.{IsFalseBefore}
 use Rattle.sat_parts.proofs.lemmas.clause.ListLemmas.{at_place, place_in, in_tail, in_head, there}
 use Rattle.sat_parts.proofs.lemmas.prop.StateLemmas.{negated_variable, negated_twice, false_from_true, true_from_false, not_both}
 use Rattle.sat_solver.specs.analyze_conflict.Marks.{causes_at, CanAnalyze, IsReasoned, depth}
-use Rattle.sat_solver.specs.analyze_conflict.Derivation.{clause_of, AreUnits, IsGrounded, IsDerivation, IsAcceptable, grounded_unit, grounded_clause, grounded_reason}
+use Rattle.sat_solver.specs.analyze_conflict.Derivation.{clause_of, AreLevelZeroLits, IsGrounded, IsDerivation, IsAcceptable, grounded_unit, grounded_clause, grounded_reason}
 
 -- the literal is assumed, or given by an entry of smaller depth
 abbrev pub Given : (s : State) (known es : List ℕ) (d m : ℕ) → Type 0
@@ -138,7 +138,7 @@ causes_before words s p l i can within there first b =
     (can.before p i first within (subst (λ z. i < length (causes_at words s z)) (sym there) b))
 
 -- a literal that was false before, and is accounted for, is given
-pub given_one : (words : List ℕ) (s : State) (learned used units : List ℕ) (p r : ℕ) → Agrees s → AreUnits s units →
+pub given_one : (words : List ℕ) (s : State) (learned used units : List ℕ) (p r : ℕ) → Agrees s → AreLevelZeroLits s units →
     ((k : ℕ) → k < length used → IsReasoned s 0 (get_or used k 0)) → IsFalseBefore s p r → IsGrounded s learned used r →
     Given s (map negated learned ++ units) used (p + 1) (negated r)
 given_one words s learned used units p r a u reasons before (grounded_unit z) =
@@ -154,7 +154,7 @@ given_one words s learned used units p r a u reasons before (grounded_reason c) 
     inr (c, negation_depth s p r a before (omega (arith, x.above, ap (λ z. level s z) e)))
 
 -- the same for a literal of the clause that was found false
-given_start : (s : State) (learned used units : List ℕ) (r : ℕ) → AreUnits s units → IsFalseLit s.values r → IsGrounded s learned used r →
+given_start : (s : State) (learned used units : List ℕ) (r : ℕ) → AreLevelZeroLits s units → IsFalseLit s.values r → IsGrounded s learned used r →
     (is_among (map negated learned ++ units) (negated r) ≡ true) ⊎ Contains used (negated r)
 given_start s learned used units r u fails (grounded_unit z) =
     let zero_level : level s (negated r) ≡ 0 = ap (λ v. (node_of s.nodes v).level) (negated_variable r) ∙ z in
@@ -165,7 +165,7 @@ given_start s learned used units r u fails (grounded_clause c) =
     or_left (is_among (map negated learned) (negated r)) (is_among units (negated r)) (negated_among learned r c))
 given_start s learned used units r u fails (grounded_reason c) = inr c
 
-assumed_true : (s : State) (learned units : List ℕ) (l : ℕ) → AreUnits s units → ((k : ℕ) → k < length learned → IsFalseLit s.values (get_or learned k 0)) →
+assumed_true : (s : State) (learned units : List ℕ) (l : ℕ) → AreLevelZeroLits s units → ((k : ℕ) → k < length learned → IsFalseLit s.values (get_or learned k 0)) →
     is_among (map negated learned ++ units) l ≡ true → IsTrueLit s.values l
 assumed_true s learned units l u fails t =
     elim (or_cases (is_among (map negated learned) l) (is_among units l) (sym (among-append (map negated learned) units l) ∙ t)) [
@@ -176,7 +176,7 @@ assumed_true s learned units l u fails t =
       | inr k ↦ (u.only l k).0
     ]
 
-pub not_assumed : (s : State) (learned units : List ℕ) (l : ℕ) → AreUnits s units → 0 < level s l → (Contains learned (negated l) → ⊥) → is_among (map negated learned ++ units) l ≡ false
+pub not_assumed : (s : State) (learned units : List ℕ) (l : ℕ) → AreLevelZeroLits s units → 0 < level s l → (Contains learned (negated l) → ⊥) → is_among (map negated learned ++ units) l ≡ false
 not_assumed s learned units l u above apart = false_from_ne_true (is_among (map negated learned ++ units) l) (λ t.
     elim (or_cases (is_among (map negated learned) l) (is_among units l) (sym (among-append (map negated learned) units l) ∙ t)) [
       | inl n ↦ apart (negation_of learned l n)

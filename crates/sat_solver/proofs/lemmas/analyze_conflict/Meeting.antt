@@ -10,8 +10,8 @@ use Rattle.sat_parts.specs.prop.State.{State, level, lit_at, IsBefore, Agrees}
 use Rattle.sat_parts.specs.prop.Reasons.{IsFalseBefore}
 use Rattle.sat_parts.proofs.lemmas.prop.StateLemmas.{negated_variable, negated_twice, false_from_true, true_from_false, lit_from_parts}
 use Rattle.sat_parts.proofs.lemmas.prop.RoomLemmas.{places_apart, below_from_value}
-use Rattle.sat_solver.specs.analyze_conflict.Work.{Work, with_literal, with_literals}
-use Rattle.sat_solver.specs.analyze_conflict.Marks.{is_open, open_below, HasVariable, IsOpenAt, IsLower, Marks, MarksWork, IsCovered, covered_unit, covered_clause, covered_reason, covered_core, covered_open, AreCovered}
+use Rattle.sat_solver.specs.analyze_conflict.Work.{Work, with_met_literal, with_literals}
+use Rattle.sat_solver.specs.analyze_conflict.Marks.{is_open_flagged, open_below, HasVariable, IsOpenAt, IsLower, AreFlagsAt, MarksWork, IsCovered, covered_unit, covered_clause, covered_reason, covered_core, covered_open, AreCovered}
 use Rattle.sat_solver.proofs.lemmas.analyze_conflict.InTurn.{negation_true}
 
 pub level_by_variable : (s : State) (l m : ℕ) → variable l ≡ variable m → level s l ≡ level s m
@@ -42,24 +42,24 @@ levels_rise s i j a le lt = elim (cases_lt (level s (lit_at s j)) (level s (lit_
 ]
 
 -- counts
-open_none : (s : State) (top : ℕ) (flags : List Bool) (l : ℕ) → is_open s top flags l ≡ false → cond {A = ℕ} (is_open s top flags l) 1 0 ≡ 0
+open_none : (s : State) (top : ℕ) (flags : List Bool) (l : ℕ) → is_open_flagged s top flags l ≡ false → cond {A = ℕ} (is_open_flagged s top flags l) 1 0 ≡ 0
 open_none s top flags l e = ap (λ (b : Bool). cond {A = ℕ} b 1 0) e
 
-open_one : (s : State) (top : ℕ) (flags : List Bool) (l : ℕ) → is_open s top flags l ≡ true → cond {A = ℕ} (is_open s top flags l) 1 0 ≡ 1
+open_one : (s : State) (top : ℕ) (flags : List Bool) (l : ℕ) → is_open_flagged s top flags l ≡ true → cond {A = ℕ} (is_open_flagged s top flags l) 1 0 ≡ 1
 open_one s top flags l e = ap (λ (b : Bool). cond {A = ℕ} b 1 0) e
 
-unflagged : (s : State) (top : ℕ) (flags : List Bool) (l : ℕ) → get_or flags (variable l) false ≡ false → is_open s top flags l ≡ false
+unflagged : (s : State) (top : ℕ) (flags : List Bool) (l : ℕ) → get_or flags (variable l) false ≡ false → is_open_flagged s top flags l ≡ false
 unflagged s top flags l e = and_left (get_or flags (variable l) false) (not (ltb (level s l) top)) e
 
-not_high : (s : State) (top : ℕ) (flags : List Bool) (l : ℕ) → level s l < top → is_open s top flags l ≡ false
+not_high : (s : State) (top : ℕ) (flags : List Bool) (l : ℕ) → level s l < top → is_open_flagged s top flags l ≡ false
 not_high s top flags l n = and_right (get_or flags (variable l) false) (not (ltb (level s l) top)) (ap (λ b. not b) (lt-ltb (level s l) top n))
 
-is_high_flagged : (s : State) (top : ℕ) (flags : List Bool) (l : ℕ) → get_or flags (variable l) false ≡ true → top ≤ level s l → is_open s top flags l ≡ true
+is_high_flagged : (s : State) (top : ℕ) (flags : List Bool) (l : ℕ) → get_or flags (variable l) false ≡ true → top ≤ level s l → is_open_flagged s top flags l ≡ true
 is_high_flagged s top flags l f t = and_from (get_or flags (variable l) false) (not (ltb (level s l) top)) f (ap (λ b. not b) (le-ltb (level s l) top t))
 
 pub open_at_most : (s : State) (top : ℕ) (flags : List Bool) (n : ℕ) → open_below s top flags n ≤ n
 open_at_most s top flags zero = omega arith
-open_at_most s top flags (suc n) = elim (cases_Bool (is_open s top flags (lit_at s n))) [
+open_at_most s top flags (suc n) = elim (cases_Bool (is_open_flagged s top flags (lit_at s n))) [
   | inl t ↦ omega (arith, open_one s top flags (lit_at s n) t, open_at_most s top flags n)
   | inr f ↦ omega (arith, open_none s top flags (lit_at s n) f, open_at_most s top flags n)
 ]
@@ -87,7 +87,7 @@ pub record OpenPlace (s : State) (top : ℕ) (flags : List Bool) (n : ℕ) : Typ
 
 pub open_some : (s : State) (top : ℕ) (flags : List Bool) (n : ℕ) → 0 < open_below s top flags n → OpenPlace s top flags n
 open_some s top flags zero h = absurd (omega arith)
-open_some s top flags (suc n) h = elim (cases_Bool (is_open s top flags (lit_at s n))) [
+open_some s top flags (suc n) h = elim (cases_Bool (is_open_flagged s top flags (lit_at s n))) [
   | inl t ↦
       let both = and_parts (get_or flags (variable (lit_at s n)) false) (not (ltb (level s (lit_at s n)) top)) t in
       record { place = n; before = omega arith; flagged = both.0; high = ltb-false (level s (lit_at s n)) top (not-true (ltb (level s (lit_at s n)) top) both.1) }
@@ -100,12 +100,12 @@ open_some s top flags (suc n) h = elim (cases_Bool (is_open s top flags (lit_at 
 pub open_no : (s : State) (top : ℕ) (flags : List Bool) (n q : ℕ) → open_below s top flags n ≡ 0 → q < n → get_or flags (variable (lit_at s q)) false ≡ true → top ≤ level s (lit_at s q) → ⊥
 open_no s top flags zero q e lt f t = omega arith
 open_no s top flags (suc n) q e lt f t = elim (cases_eq q n) [
-  | inl i ↦ omega (arith, open_one s top flags (lit_at s n) (subst (λ m. is_open s top flags (lit_at s m) ≡ true) i (is_high_flagged s top flags (lit_at s q) f t)))
+  | inl i ↦ omega (arith, open_one s top flags (lit_at s n) (subst (λ m. is_open_flagged s top flags (lit_at s m) ≡ true) i (is_high_flagged s top flags (lit_at s q) f t)))
   | inr d ↦ open_no s top flags n q (omega arith) (omega arith) f t
 ]
 
 -- a flag that is written counts as before at literals of other variables, and at those of lower levels
-open_kept_one : (s : State) (top : ℕ) (flags : List Bool) (v : ℕ) (b : Bool) (l : ℕ) → (variable l ≢ v) ⊎ (level s l < top) → is_open s top (set flags v b) l ≡ is_open s top flags l
+open_kept_one : (s : State) (top : ℕ) (flags : List Bool) (v : ℕ) (b : Bool) (l : ℕ) → (variable l ≢ v) ⊎ (level s l < top) → is_open_flagged s top (set flags v b) l ≡ is_open_flagged s top flags l
 open_kept_one s top flags v b l (inl n) = ap (λ c. c && not (ltb (level s l) top)) (get_or-set_other flags v (variable l) b false n)
 open_kept_one s top flags v b l (inr n) = not_high s top (set flags v b) l n ∙ sym (not_high s top flags l n)
 
@@ -114,7 +114,7 @@ pub open_kept : (s : State) (top : ℕ) (flags : List Bool) (v : ℕ) (b : Bool)
 open_kept s top flags v b zero h = refl
 open_kept s top flags v b (suc n) h =
     let rest : open_below s top (set flags v b) n ≡ open_below s top flags n = open_kept s top flags v b n (λ q lt. h q (omega arith)) in
-    let here : cond {A = ℕ} (is_open s top (set flags v b) (lit_at s n)) 1 0 ≡ cond {A = ℕ} (is_open s top flags (lit_at s n)) 1 0 =
+    let here : cond {A = ℕ} (is_open_flagged s top (set flags v b) (lit_at s n)) 1 0 ≡ cond {A = ℕ} (is_open_flagged s top flags (lit_at s n)) 1 0 =
     ap (λ (c : Bool). cond {A = ℕ} c 1 0) (open_kept_one s top flags v b (lit_at s n) (h n (omega arith))) in
     omega arith
 
@@ -127,14 +127,14 @@ open_more s top flags p (suc n) a lt le t f b = elim (cases_eq p n) [
   | inl e ↦
       let v : ℕ = variable (lit_at s p) in
       let rest : open_below s top (set flags v true) n ≡ open_below s top flags n = open_kept s top flags v true n (λ q d. inl (λ same. omega (arith, places_apart s q p a (omega arith) (omega arith) same))) in
-      let now : is_open s top (set flags v true) (lit_at s p) ≡ true = is_high_flagged s top (set flags v true) (lit_at s p) (get_or-set_same flags v true false b) t in
-      let now' : cond {A = ℕ} (is_open s top (set flags v true) (lit_at s n)) 1 0 ≡ 1 = open_one s top (set flags v true) (lit_at s n) (subst (λ m. is_open s top (set flags v true) (lit_at s m) ≡ true) e now) in
-      let was : cond {A = ℕ} (is_open s top flags (lit_at s n)) 1 0 ≡ 0 = open_none s top flags (lit_at s n) (subst (λ m. is_open s top flags (lit_at s m) ≡ false) e (unflagged s top flags (lit_at s p) f)) in
+      let now : is_open_flagged s top (set flags v true) (lit_at s p) ≡ true = is_high_flagged s top (set flags v true) (lit_at s p) (get_or-set_same flags v true false b) t in
+      let now' : cond {A = ℕ} (is_open_flagged s top (set flags v true) (lit_at s n)) 1 0 ≡ 1 = open_one s top (set flags v true) (lit_at s n) (subst (λ m. is_open_flagged s top (set flags v true) (lit_at s m) ≡ true) e now) in
+      let was : cond {A = ℕ} (is_open_flagged s top flags (lit_at s n)) 1 0 ≡ 0 = open_none s top flags (lit_at s n) (subst (λ m. is_open_flagged s top flags (lit_at s m) ≡ false) e (unflagged s top flags (lit_at s p) f)) in
       omega arith
   | inr d ↦
       let v : ℕ = variable (lit_at s p) in
       let rest : open_below s top (set flags v true) n ≡ open_below s top flags n + 1 = open_more s top flags p n a (omega arith) (omega arith) t f b in
-      let here : cond {A = ℕ} (is_open s top (set flags v true) (lit_at s n)) 1 0 ≡ cond {A = ℕ} (is_open s top flags (lit_at s n)) 1 0 =
+      let here : cond {A = ℕ} (is_open_flagged s top (set flags v true) (lit_at s n)) 1 0 ≡ cond {A = ℕ} (is_open_flagged s top flags (lit_at s n)) 1 0 =
       ap (λ (c : Bool). cond {A = ℕ} c 1 0) (open_kept_one s top flags v true (lit_at s n) (inl (λ same. d (places_apart s p n a (omega arith) (omega arith) (sym same))))) in
       omega arith
 ]
@@ -152,7 +152,7 @@ pub data Meets (s : State) (top r : ℕ) (w w' : Work) : Type 0 where
   is_high : 0 < level s r → get_or w.flags (variable r) false ≡ false → top ≤ level s r → w' ≡ counted r w → Meets s top r w w'
   is_lower : 0 < level s r → get_or w.flags (variable r) false ≡ false → level s r < top → w' ≡ listed r w → Meets s top r w w'
 
-pub meets : (s : State) (top r : ℕ) (w : Work) → Meets s top r w (with_literal s.nodes top r w)
+pub meets : (s : State) (top r : ℕ) (w : Work) → Meets s top r w (with_met_literal s.nodes top r w)
 meets s top r w =
     let high : Work = counted r w in
     let lower : Work = listed r w in
@@ -205,7 +205,7 @@ lower_kept : (s : State) (top : ℕ) (flags : List Bool) (v r : ℕ) → v < len
 lower_kept s top flags v r lt h = record { fails = h.fails; above = h.above; below = h.below; flagged = flag_kept flags v (variable r) lt h.flagged }
 
 marks_high : (s : State) (top : ℕ) (w : Work) (at r : ℕ) → Agrees s → IsFalseBefore s at r → 0 < level s r → get_or w.flags (variable r) false ≡ false → top ≤ level s r → MarksWork s top w at →
-    Marks s top w.clause (set w.flags (variable r) true) (min (w.pending + 1) (2 ^ 64 - 1)) at
+    AreFlagsAt s top w.clause (set w.flags (variable r) true) (min (w.pending + 1) (2 ^ 64 - 1)) at
 marks_high s top w at r a h above f t m =
     let b : IsBefore s at (negated r) = stands_before s at r h above in
     let lt : variable r < length w.flags = omega (arith, variable_below s at r a h, m.size) in
@@ -228,7 +228,7 @@ marks_high s top w at r a h above f t m =
     }
 
 marks_lower : (s : State) (top : ℕ) (w : Work) (at r : ℕ) → Agrees s → IsFalseBefore s at r → 0 < level s r → get_or w.flags (variable r) false ≡ false → level s r < top → MarksWork s top w at →
-    Marks s top (w.clause ++ r ∷ []) (set w.flags (variable r) true) w.pending at
+    AreFlagsAt s top (w.clause ++ r ∷ []) (set w.flags (variable r) true) w.pending at
 marks_lower s top w at r a h above f t m =
     let n : length (w.clause ++ r ∷ []) ≡ length w.clause + 1 = length_push w.clause r in
     let lt : variable r < length w.flags = omega (arith, variable_below s at r a h, m.size) in
@@ -356,7 +356,7 @@ pub met_all : (s : State) (top at : ℕ) (rs : List ℕ) (w : Work) → Agrees s
     Met s top at rs w (with_literals s.nodes top rs w)
 met_all s top at [] w a h m = record { marks = m; used = refl; core = refl; involved = refl; pending = omega arith; kept = λ q x. x; covered = λ k lt. absurd (omega arith) }
 met_all s top at (r ∷ rs) w a h m =
-    let w1 : Work = with_literal s.nodes top r w in
+    let w1 : Work = with_met_literal s.nodes top r w in
     let x : Met s top at (r ∷ []) w w1 = met_by s top at r w w1 a (h 0 (omega arith)) m (meets s top r w) in
     let y : Met s top at rs w1 (with_literals s.nodes top rs w1) = met_all s top at rs w1 a (λ k lt. h (suc k) (omega arith)) x.marks in
     record {

@@ -16,8 +16,8 @@ use Rattle.sat_parts.proofs.lemmas.clause.ListLemmas.{at_place, place_in}
 use Rattle.sat_parts.proofs.lemmas.prop.StateLemmas.{negated_twice, false_from_true, not_both}
 use Rattle.sat_solver.specs.analyze_conflict.Work.{Work}
 use Rattle.sat_solver.specs.analyze_conflict.Marks.{causes_at, CanAnalyze, IsReasoned, depth}
-use Rattle.sat_solver.specs.analyze_conflict.Derivation.{clause_of, AreUnits, IsDerivation}
-use Rattle.sat_solver.specs.assumptions.Failing.{IsChosen, IsCoreOf, IsRefutation, Traced}
+use Rattle.sat_solver.specs.analyze_conflict.Derivation.{clause_of, AreLevelZeroLits, IsDerivation}
+use Rattle.sat_solver.specs.assumptions.Failing.{IsChosen, IsDistinctCore, IsRefutation, Traced}
 use Rattle.sat_solver.proofs.lemmas.analyze_conflict.InTurn.{Given, turns, above_first, causes_before, given_one, negation_of, negated_among, not_assumed}
 use Rattle.sat_solver.proofs.lemmas.analyze_conflict.Ends.{grounds_permuted}
 use Rattle.sat_solver.proofs.lemmas.analyze_conflict.Ordered.{distinct_permuted}
@@ -51,7 +51,7 @@ rising_reversed s xs f j k lt b =
 record Ordered (words : List ℕ) (s : State) (failed : ℕ) (core used : List ℕ) (last : ℕ) : Type 0 where
   size : length used ≡ last + 1
   end : get_or used last 0 ≡ negated failed
-  lits : IsCoreOf s failed core
+  lits : IsDistinctCore s failed core
   fails : IsFalseLit s.values failed
   derivation : IsDerivation words s (clause_of words s (negated failed)) (map negated core) used
 
@@ -68,7 +68,7 @@ in_front words s failed core used last m h c lt =
     subst (λ z. Contains (take last used) z) (get_or-take last used c.0 0 b ∙ at_place used m c) (place_in (take last used) c.0 (omega (arith, length-take last used, h.size)))
 
 -- the negation of a used literal before the last one isn't assumed
-not_denied : (words : List ℕ) (s : State) (failed : ℕ) (core used units : List ℕ) (last k : ℕ) → CanAnalyze words s → AreUnits s units → Ordered words s failed core used last → k < last → IsTrueLit s.values (get_or used k 0) →
+not_denied : (words : List ℕ) (s : State) (failed : ℕ) (core used units : List ℕ) (last k : ℕ) → CanAnalyze words s → AreLevelZeroLits s units → Ordered words s failed core used last → k < last → IsTrueLit s.values (get_or used k 0) →
     is_among (assumed core units) (negated (get_or used k 0)) ≡ false
 not_denied words s failed core used units last k can u h lt holds =
     let e : ℕ = get_or used k 0 in
@@ -90,7 +90,7 @@ not_denied words s failed core used units last k can u h lt holds =
     ])
 
 -- what a cause is given by
-given_front : (words : List ℕ) (s : State) (failed : ℕ) (core used units : List ℕ) (last l i : ℕ) → CanAnalyze words s → AreUnits s units → Ordered words s failed core used last → Contains used l → depth s l ≤ depth s (get_or used last 0) →
+given_front : (words : List ℕ) (s : State) (failed : ℕ) (core used units : List ℕ) (last l i : ℕ) → CanAnalyze words s → AreLevelZeroLits s units → Ordered words s failed core used last → Contains used l → depth s l ≤ depth s (get_or used last 0) →
     i < length (causes_at words s l) → Given s (assumed core units) (take last used) (depth s l) (negated (get_or (causes_at words s l) i 0))
 given_front words s failed core used units last l i can u h c le b =
     let d : IsDerivation words s (clause_of words s (negated failed)) (map negated core) used = h.derivation in
@@ -105,7 +105,7 @@ given_front words s failed core used units last l i can u h c le b =
     ]
 
 -- the clauses are unit in turn, the last one falsified
-turns_to_failure : (words : List ℕ) (s : State) (failed : ℕ) (core used units : List ℕ) (last : ℕ) → CanAnalyze words s → AreUnits s units → Ordered words s failed core used last →
+turns_to_failure : (words : List ℕ) (s : State) (failed : ℕ) (core used units : List ℕ) (last : ℕ) → CanAnalyze words s → AreLevelZeroLits s units → Ordered words s failed core used last →
     UnitInTurn (assumed core units) (map (clause_of words s) (take last used) ++ clause_of words s (negated failed) ∷ [])
 turns_to_failure words s failed core used units last can u h =
     let d : IsDerivation words s (clause_of words s (negated failed)) (map negated core) used = h.derivation in
@@ -128,7 +128,7 @@ turns_to_failure words s failed core used units last can u h =
       start = λ i lt. first_or_cause words s failed core used units last can u h ended i lt;
     })
   where
-    first_or_cause : (words : List ℕ) (s : State) (failed : ℕ) (core used units : List ℕ) (last : ℕ) → CanAnalyze words s → AreUnits s units → Ordered words s failed core used last → Contains used (negated failed) → (i : ℕ) →
+    first_or_cause : (words : List ℕ) (s : State) (failed : ℕ) (core used units : List ℕ) (last : ℕ) → CanAnalyze words s → AreLevelZeroLits s units → Ordered words s failed core used last → Contains used (negated failed) → (i : ℕ) →
         i < length (clause_of words s (negated failed)) → (is_among (assumed core units) (negated (get_or (clause_of words s (negated failed)) i 0)) ≡ true) ⊎ Contains (take last used) (negated (get_or (clause_of words s (negated failed)) i 0))
     first_or_cause words s failed core used units last can u h ended zero lt =
         let c : Contains core failed = subst (λ z. Contains core z) h.lits.lits.first (place_in core 0 h.lits.lits.some) in

@@ -13,13 +13,13 @@ use Rattle.sat_parts.specs.prop.State.{State, node, lit_at}
 use Rattle.sat_parts.proofs.lemmas.clause.ListLemmas.{place_in, at_place}
 use Rattle.sat_parts.proofs.lemmas.prop.RoomLemmas.{below_from_value}
 use Rattle.sat_solver.specs.session.LiveClauses.{with_var}
-use Rattle.sat_solver.specs.proof.ProofView.{Gains, Keeps, Records, session_of}
+use Rattle.sat_solver.specs.proof.ProofView.{EmitsChecked, HasAllowedSteps, EmitsAsAnswered, session_of}
 use Rattle.sat_solver.specs.declared.proof.Proof.{Proof}
 use Rattle.sat_solver.specs.declared.proof.ProofError.{ProofError}
 use Rattle.sat_solver.specs.declared.proof.ProofError.TheVariants.{Write, OutOfMemory, Check}
 use Rattle.sat_solver.proofs.lemmas.session.ProofLemmas.{adds_none, gains_adds}
 use Rattle.sat_solver.specs.analyze_conflict.Marks.{CanAnalyze, IsReasoned}
-use Rattle.sat_solver.specs.assumptions.Failing.{IsChosen, Fails, fails_bottom, fails_signs, fails_clauses}
+use Rattle.sat_solver.specs.assumptions.Failing.{IsChosen, IsFailedAssumption, fails_bottom, fails_signs, fails_clauses}
 use Rattle.sat_solver.proofs.lemmas.analyze_conflict.Callers.{can_analyze, stands_by}
 use Rattle.sat_parts.specs.declared.parts.Parts.{Parts}
 use Rattle.sat_parts.specs.parts.Whole.{state, PartsInvariant}
@@ -29,7 +29,7 @@ use Rattle.sat_solver.specs.declared.error.SolverError.TheVariants as errors
 use Rattle.sat_solver.specs.declared.context.Search.{Search}
 use Rattle.sat_solver.specs.assumptions.Core.{causes_hashes, AreFailed, TellsCore}
 use Rattle.sat_solver.specs.cdcl.Going.{fault_of}
-use Rattle.sat_solver.specs.cdcl.Joint.{global_in, IsFree, IsSearch, Moved, assumed_in}
+use Rattle.sat_solver.specs.cdcl.Joint.{global_in, IsFree, IsSearch, SameVarsAndAssumptions, assumed_in}
 use Rattle.sat_solver.specs.cdcl.Turns.{IsFailing}
 use Rattle.sat_solver.proofs.lemmas.cdcl.TurnLemmas.{ready_moved}
 use Rattle.sat_parts.proofs.lemmas.parts.WordSteps.{goes_refl}
@@ -59,7 +59,7 @@ module _ (p : Parts) (assumed : List ℕ) (failed : ℕ) (holds : PartsInvariant
   both c (suc (suc k)) lt = absurd (omega arith)
 
   -- the core is of assumptions, the failed one first
-  pub fails_failed : (core used : List ℕ) → Fails p.clauses (state p) failed core used → AreFailed assumed failed core
+  pub fails_failed : (core used : List ℕ) → IsFailedAssumption p.clauses (state p) failed core used → AreFailed assumed failed core
   fails_failed core used (fails_bottom low one none) = subst (λ ls. AreFailed assumed failed ls) (sym one) (record { some = omega arith; first = refl; among = only })
   fails_failed core used (fails_signs chosen two none) = subst (λ ls. AreFailed assumed failed ls) (sym two) (record { some = omega arith; first = refl; among = both chosen })
   fails_failed core used (fails_clauses r) = record { some = r.lits.lits.some; first = r.lits.lits.first; among = each core r.lits.lits.first r.lits.lits.chosen }
@@ -67,19 +67,19 @@ module _ (p : Parts) (assumed : List ℕ) (failed : ℕ) (holds : PartsInvariant
   valued : (l : ℕ) → Contains assumed l → ((k : ℕ) → k < length assumed → variable (get_or assumed k 0) < length p.assignment.current) → variable l < length p.assignment.current
   valued l c there = subst (λ m. variable m < length p.assignment.current) (at_place assumed l c) (there c.0 c.1)
 
-  pub core_below : (core used : List ℕ) (count : ℕ) → ((k : ℕ) → k < length assumed → variable (get_or assumed k 0) < length p.assignment.current) → length p.assignment.current ≤ count → Fails p.clauses (state p) failed core used →
+  pub core_below : (core used : List ℕ) (count : ℕ) → ((k : ℕ) → k < length assumed → variable (get_or assumed k 0) < length p.assignment.current) → length p.assignment.current ≤ count → IsFailedAssumption p.clauses (state p) failed core used →
       (k : ℕ) → k < length core → variable (get_or core k 0) < count
   core_below core used count there le f k lt = (let v : variable (get_or core k 0) < length p.assignment.current = valued (get_or core k 0) ((fails_failed core used f).among k lt) there in omega arith)
 
   none_used : (used : List ℕ) (A : Type 0) → used ≡ [] → (k : ℕ) → k < length used → A
   none_used used A none k lt = (let z : length used ≡ 0 = ap (λ (xs : List ℕ). length xs) none in absurd (omega arith))
 
-  pub used_reasoned : (core used : List ℕ) → Fails p.clauses (state p) failed core used → (k : ℕ) → k < length used → IsReasoned (state p) 0 (get_or used k 0)
+  pub used_reasoned : (core used : List ℕ) → IsFailedAssumption p.clauses (state p) failed core used → (k : ℕ) → k < length used → IsReasoned (state p) 0 (get_or used k 0)
   used_reasoned core used (fails_bottom low one none) k lt = none_used used _ none k lt
   used_reasoned core used (fails_signs chosen two none) k lt = none_used used _ none k lt
   used_reasoned core used (fails_clauses r) k lt = r.derivation.grounds.reasons (get_or used k 0) (place_in used k lt)
 
-  module _ (core used : List ℕ) (f : Fails p.clauses (state p) failed core used) where
+  module _ (core used : List ℕ) (f : IsFailedAssumption p.clauses (state p) failed core used) where
     pub cause_there : (k : ℕ) → k < length used → variable (get_or used k 0) < length p.graph
     cause_there k lt =
         let x : IsReasoned (state p) 0 (get_or used k 0) = used_reasoned core used f k lt in
@@ -100,18 +100,18 @@ module _ (p : Parts) (assumed : List ℕ) (failed : ℕ) (holds : PartsInvariant
 
 module _ {W L : Type 0} {G : Ghosts L} (seen : W → Writer) (a b : Proof W L G) (c c' : Search) where
   -- no memory was left before anything was written
-  pub tells_starved : Keeps a → TellsCore seen (Err errors.OutOfMemory) a a c c'
+  pub tells_starved : HasAllowedSteps a → TellsCore seen (Err errors.OutOfMemory) a a c c'
   tells_starved keeps = record { steps = []; went = adds_none seen a; core = tt; keeps = keeps; kept = tt; loss = inl refl; ends = tt }
 
   -- the target failed
-  pub tells_broken : (e : ProofError) (core hashes : List ℕ) → Keeps b → Records {T = Unit {0}} seen (Err e) (FailedAssumptions core hashes ∷ []) a b → TellsCore seen (Err (fault_of e)) a b c c'
+  pub tells_broken : (e : ProofError) (core hashes : List ℕ) → HasAllowedSteps b → EmitsAsAnswered {T = Unit {0}} seen (Err e) (FailedAssumptions core hashes ∷ []) a b → TellsCore seen (Err (fault_of e)) a b c c'
   tells_broken (Write cause) core hashes keeps fails = record { steps = FailedAssumptions core hashes ∷ []; went = fails.0; core = (refl, tt); keeps = keeps; kept = fails.1; loss = tt; ends = tt }
   tells_broken OutOfMemory core hashes keeps gains = record { steps = []; went = gains_adds seen [] a b gains; core = tt; keeps = keeps; kept = tt; loss = inl gains.taking; ends = tt }
   tells_broken (Check fault) core hashes keeps fails = record { steps = FailedAssumptions core hashes ∷ []; went = went_checked seen (Unit {0}) fault (FailedAssumptions core hashes ∷ []) a b fails.0; core = (refl, tt); keeps = keeps; kept = complaint_kept fault b fails.1; loss = check_loss fault a b fails.0.why; ends = fault_checked _ fault }
 
   -- what is told stands
-  pub tells_core : Keeps b → (core : List ℕ) → core ≡ map (with_var (global_in c)) c'.analysis.core → (hashes : List ℕ) → hashes ≡ causes_hashes c.parts c'.analysis.used → Gains seen (FailedAssumptions core hashes ∷ []) a b →
-      IsSearch (session_of a) c → IsFailing c.assumptions.lits.items c.parts c.failed → Fails c.parts.clauses (state c.parts) c.failed c'.analysis.core c'.analysis.used → IsFree c' →
+  pub tells_core : HasAllowedSteps b → (core : List ℕ) → core ≡ map (with_var (global_in c)) c'.analysis.core → (hashes : List ℕ) → hashes ≡ causes_hashes c.parts c'.analysis.used → EmitsChecked seen (FailedAssumptions core hashes ∷ []) a b →
+      IsSearch (session_of a) c → IsFailing c.assumptions.lits.items c.parts c.failed → IsFailedAssumption c.parts.clauses (state c.parts) c.failed c'.analysis.core c'.analysis.used → IsFree c' →
       c'.parts ≡ c.parts → c'.globals ≡ c.globals → c'.assumptions ≡ c.assumptions → TellsCore seen (Ok tt) a b c c'
   tells_core keeps core core_is hashes hashes_is adds search failing f free parts globals assumptions = record {
     steps = FailedAssumptions core hashes ∷ [];
@@ -135,5 +135,5 @@ module _ {W L : Type 0} {G : Ghosts L} (seen : W → Writer) (a b : Proof W L G)
     };
   }
     where
-      moved : Moved c c'
+      moved : SameVarsAndAssumptions c c'
       moved = record { globals = globals; lits = ap (λ a. a.lits) assumptions; size = ap (λ p. length p.assignment.current) parts }

@@ -5,9 +5,9 @@ use Rattle.sat_base.specs.values.Literals.{variable, negated}
 use Rattle.sat_base.specs.steps.Steps.{Step, SolverVarName, UserVarName, DeleteVar, ChangeSamplingMode, AddClause, AtClause, UnitClauses, DeleteClause, ChangeHashBits, Model, Assumptions, FailedAssumptions, End, Redundant, Simplified, Satisfied}
 use Rattle.sat_checker.specs.LiteralSets.{is_among, is_tautology, canonical}
 use Rattle.sat_checker.specs.Stored.{Variable}
-use Rattle.sat_solver.specs.session.Session.{Session, with_fact, with_facts, with_sorted, with_clause, knowing_literals, after, session_after}
+use Rattle.sat_solver.specs.session.Session.{Session, with_fact, with_facts, with_sorted, with_live_clause, knowing_literals, after, session_after}
 use Rattle.sat_solver.specs.cdcl.Going.{is_searched, AreSearched, IsSearched}
-use Rattle.sat_solver.specs.cdcl.Joint.{Leaves}
+use Rattle.sat_solver.specs.cdcl.Joint.{SameAssumedAndNames}
 
 -- THEIR KINDS
 
@@ -60,7 +60,7 @@ sorted r [] s = record { asked = refl; names = refl; modes = λ v. refl }
 sorted r (l ∷ []) s = fact l s
 sorted r (l ∷ m ∷ ls) s = record { asked = refl; names = refl; modes = λ v. refl }
 
-clause : (r : Bool) (ls : List ℕ) (s : Session) → Kept s (with_clause r ls s)
+clause : (r : Bool) (ls : List ℕ) (s : Session) → Kept s (with_live_clause r ls s)
 clause r ls s = both (is_tautology ls) s s _ (kept_refl s) (sorted r (canonical ls) s)
 
 mode_of : (b : Bool) (x : Variable) → (cond b (record x { known = true }) x).mode ≡ x.mode
@@ -103,8 +103,8 @@ pub names_behind : (steps later earlier : List Step) (names : ℕ → Option ℕ
 names_behind steps later earlier names written h = ap (λ ss. (session_after ss).solver_names) written ∙ names_after steps earlier names h
 
 -- so is what is assumed
-pub leaves_after : (steps earlier : List Step) → AllByRecursion (λ step. is_searched step ≡ true) steps → Leaves (session_after earlier) (session_after (steps ++ earlier))
+pub leaves_after : (steps earlier : List Step) → AllByRecursion (λ step. is_searched step ≡ true) steps → SameAssumedAndNames (session_after earlier) (session_after (steps ++ earlier))
 leaves_after steps earlier h = let k = all steps earlier h in record { assumed = k.asked; names = λ v. ap (λ f. f v) k.names }
 
-pub names_added : (ks : List ℕ) (s : Session) → (with_clause false ks (knowing_literals ks s)).solver_names ≡ s.solver_names
+pub names_added : (ks : List ℕ) (s : Session) → (with_live_clause false ks (knowing_literals ks s)).solver_names ≡ s.solver_names
 names_added ks s = (clause false ks (knowing_literals ks s)).names

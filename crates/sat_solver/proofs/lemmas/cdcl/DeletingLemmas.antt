@@ -5,16 +5,16 @@ use Rattle.std.proofs.lemmas.List.Elements.{Contains-append_left, Contains-appen
 use Rattle.std.proofs.lemmas.List.{drop_more}
 use Rattle.std.specs.List.{Contains, filter}
 use Rattle.std.specs.List.Sorted.{IsPermutation, IsNonDecreasingBy}
-use Rattle.sat_store.specs.clause.Buffer.{Keeps}
+use Rattle.sat_store.specs.clause.Buffer.{SameClauseAt}
 use Rattle.sat_store.specs.declared.clause.tier.Tier.TheVariants.{Local}
 use Rattle.sat_parts.specs.clause.Db.{live_refs, is_live_of}
 use Rattle.sat_parts.proofs.lemmas.clause.ListLemmas.{at_place, in_without}
 use Rattle.sat_parts.proofs.lemmas.prop.BuildLemmas.{live_in}
 use Rattle.sat_parts.specs.declared.parts.Parts.{Parts}
 use Rattle.sat_parts.specs.parts.Frame.{SameSearch, Dropped}
-use Rattle.sat_parts.specs.parts.Reducing.{rank}
+use Rattle.sat_parts.specs.parts.Reducing.{clause_rank}
 use Rattle.sat_parts.proofs.lemmas.parts.FewerLemmas.{without_there}
-use Rattle.sat_solver.specs.clause.Reduced.{IsReason, Tried, AreFirstFree, Deletes, HalvesLocals}
+use Rattle.sat_solver.specs.clause.Reduced.{IsReason, Tried, AreFirstFree, DeletesJustThese, HalvesLocals}
 
 abbrev live : Parts → List ℕ
 live p = live_refs p.clauses p.db.refs
@@ -23,7 +23,7 @@ search_trans : (p q r : Parts) → SameSearch p q → SameSearch q r → SameSea
 search_trans p q r x y = ((y.0.0 ∙ x.0.0, y.0.1 ∙ x.0.1, y.0.2 ∙ x.0.2), y.1 ∙ x.1, y.2 ∙ x.2)
 
 -- nothing was deleted
-deletes_none : (p : Parts) → ((o : ℕ) → Contains (live p) o → Keeps p.clauses p.clauses o) → Deletes p p []
+deletes_none : (p : Parts) → ((o : ℕ) → Contains (live p) o → SameClauseAt p.clauses p.clauses o) → DeletesJustThese p p []
 deletes_none p keeps = record {
   deleted = λ o c. absurd (omega (arith, c.1));
   others = λ o c. inr c;
@@ -32,21 +32,21 @@ deletes_none p keeps = record {
 }
 
 -- one clause more
-module _ (p q r : Parts) (gone : List ℕ) (o : ℕ) (x : Deletes p q gone) (here : Contains (live q) o) (d : Dropped q r o) where
+module _ (p q r : Parts) (gone : List ℕ) (o : ℕ) (x : DeletesJustThese p q gone) (here : Contains (live q) o) (d : Dropped q r o) where
   left_alone : (u : ℕ) → Contains (live r) u → Contains (live q) u × (u ≢ o)
   left_alone u c = in_without o u (live q) (subst (λ os. Contains os u) d.deletes.live c)
 
-  kept : (u : ℕ) → Contains (live r) u → Keeps p.clauses r.clauses u
+  kept : (u : ℕ) → Contains (live r) u → SameClauseAt p.clauses r.clauses u
   kept u c =
       let y = left_alone u c in
-      let a : Keeps p.clauses q.clauses u = (x.stay u y.0).1 in
-      let b : Keeps q.clauses r.clauses u = d.deletes.put.others u (live_in q.clauses q.db.refs u y.0) y.1 in
+      let a : SameClauseAt p.clauses q.clauses u = (x.stay u y.0).1 in
+      let b : SameClauseAt q.clauses r.clauses u = d.deletes.put.others u (live_in q.clauses q.db.refs u y.0) y.1 in
       record { clause = b.clause; header = b.header ∙ a.header; lits = b.lits ∙ a.lits }
 
   gone_first : (u : ℕ) → Contains gone u → Contains (gone ++ o ∷ []) u
   gone_first u c = Contains-append_left gone (o ∷ []) u c
 
-  deletes_more : Deletes p r (gone ++ o ∷ [])
+  deletes_more : DeletesJustThese p r (gone ++ o ∷ [])
   deletes_more = record {
     deleted = λ u c. elim (Contains-append_cases gone (o ∷ []) u c) [
       | inl g ↦ (let y = x.deleted u g in (y.0, λ k. y.1 (left_alone u k).0))
@@ -66,7 +66,7 @@ module _ (p q r : Parts) (gone : List ℕ) (o : ℕ) (x : Deletes p q gone) (her
   }
 
 -- a clause that stands is a reason as it was
-module _ (p q : Parts) (gone : List ℕ) (o : ℕ) (x : Deletes p q gone) (here : Contains (live q) o) where
+module _ (p q : Parts) (gone : List ℕ) (o : ℕ) (x : DeletesJustThese p q gone) (here : Contains (live q) o) where
   reason_before : IsReason q o → IsReason p o
   reason_before h = rw (x.same.0.0, x.same.0.1, (x.stay o here).1.lits) at h
 
@@ -77,9 +77,9 @@ module _ (p q : Parts) (gone : List ℕ) (o : ℕ) (x : Deletes p q gone) (here 
 pub record Halving (p q : Parts) (list rest : List ℕ) (left : ℕ) : Type 0 where
   pub gone : List ℕ
   pub first : (free : List ℕ) → AreFirstFree p rest left free → AreFirstFree p list (length list / 2) (gone ++ free)
-  pub deletes : Deletes p q gone
+  pub deletes : DeletesJustThese p q gone
 
-pub halving_none : (p : Parts) (list : List ℕ) (left : ℕ) → left ≡ length list / 2 → ((o : ℕ) → Contains (live p) o → Keeps p.clauses p.clauses o) → Halving p p list list left
+pub halving_none : (p : Parts) (list : List ℕ) (left : ℕ) → left ≡ length list / 2 → ((o : ℕ) → Contains (live p) o → SameClauseAt p.clauses p.clauses o) → Halving p p list list left
 halving_none p list left e keeps = record { gone = []; first = λ free h. rw e at h; deletes = deletes_none p keeps }
 
 pub halving_next : (p q r : Parts) (list rest : List ℕ) (o n left : ℕ) (b : Bool) → Halving p q list (o ∷ rest) (suc n) → Contains (live q) o → Tried b o q r → left ≡ cond b n (suc n) → Halving p r list rest left
@@ -98,7 +98,7 @@ none_free : (p : Parts) (rest : List ℕ) → AreFirstFree p rest 0 []
 none_free p [] = refl
 none_free p (o ∷ rest) = refl
 
-module _ (p q : Parts) (list : List ℕ) (all : IsPermutation (filter (is_live_of p.clauses Local) p.db.refs) list) (rising : IsNonDecreasingBy (rank p.clauses) list) where
+module _ (p q : Parts) (list : List ℕ) (all : IsPermutation (filter (is_live_of p.clauses Local) p.db.refs) list) (rising : IsNonDecreasingBy (clause_rank p.clauses) list) where
   done : (rest : List ℕ) (left : ℕ) → AreFirstFree p rest left [] → Halving p q list rest left → HalvesLocals p q
   done rest left f h = record {
     locals = list;

@@ -4,7 +4,7 @@ use Rattle.sat_base.specs.device.Device.{Writer}
 use Rattle.sat_base.specs.steps.Steps.{Step}
 use Rattle.sat_checker.specs.declared.processing.ProofProcessor.{Ghosts}
 use Rattle.sat_parts.specs.declared.prop.graph.Conflict.{Conflict}
-use Rattle.sat_solver.specs.session.Making.{Gained}
+use Rattle.sat_solver.specs.session.Making.{ComesByCheckedSteps}
 use Rattle.sat_solver.specs.proof.ProofView.{steps_of, session_of}
 use Rattle.sat_solver.specs.session.Session.{Session, MayAll}
 use Rattle.sat_solver.specs.declared.proof.Proof.{Proof}
@@ -20,7 +20,7 @@ use Rattle.sat_solver.proofs.lemmas.fits.QuietLemmas.{quiet_comes, comes_quiet}
 use Rattle.sat_parts.specs.parts.Words.{TrailWordExtendsFor}
 use Rattle.sat_parts.specs.parts.Full.{IsFull}
 use Rattle.sat_solver.specs.cdcl.Going.{EmitsStepsOr}
-use Rattle.sat_solver.specs.cdcl.Joint.{assumed_in, Moved}
+use Rattle.sat_solver.specs.cdcl.Joint.{assumed_in, SameVarsAndAssumptions}
 use Rattle.sat_solver.specs.cdcl.Rounds.{RoundSays}
 use Rattle.sat_solver.specs.cdcl.Ending.{RoundShares, EndsRound}
 use Rattle.sat_solver.specs.declared.context.Search.{Search}
@@ -30,19 +30,19 @@ use Rattle.sat_solver.proofs.lemmas.cdcl.RoundLemmas.{round_from}
 use Rattle.sat_solver.proofs.lemmas.solver.BehindLemmas.{nothing_behind}
 use Rattle.sat_solver.proofs.lemmas.solver.TellingLemmas.{shares_moved}
 use Rattle.sat_solver.specs.unit_simplify.Freed.{KeepsAsked}
-use Rattle.sat_solver.specs.unit_simplify.Passes.{StandTogether, Passes, Refutes}
+use Rattle.sat_solver.specs.unit_simplify.Passes.{StandTogether, PassesQuietly, FindsFalseClause}
 use Rattle.sat_solver.proofs.lemmas.unit_simplify.FreedLemmas.{asked_refl}
 use Rattle.sat_solver.proofs.lemmas.unit_simplify.LighterLemmas.{goes_leaves}
 use Rattle.sat_solver.proofs.lemmas.unit_simplify.PassesLemmas.{falls_goes, falls_later}
 
 -- what a round began with
 record Reaches {W L : Type 0} {G : Ghosts L} (seen : W → Writer) (n m : Variables) (p q : Proof W L G) (c d : Search) : Type 0 where
-  took : Gained seen p q
+  took : ComesByCheckedSteps seen p q
   quiet : ComesQuietly (steps_of p) (steps_of q)
   does : DoesNothing n m (steps_of p) (steps_of q)
   asked : KeepsAsked n m (session_of p) (session_of q)
   shares : SharesIndices m d
-  moved : Moved c d
+  moved : SameVarsAndAssumptions c d
   word : TrailWordExtendsFor (assumed_in c) c.parts d.parts
 
 shares_on : (o : Outcome) (earlier steps : List Step) (s : Session) (m : Variables) (d e : Search) → SharesIndices m d → RoundSays o earlier steps s d e → RoundShares o m e
@@ -68,11 +68,11 @@ module _ {W L : Type 0} {G : Ghosts L} (seen : W → Writer) (n m : Variables) (
   ends_behind b (Err f) z e g = falls_later seen f p q z b.took (falls_goes seen f q z (λ _ _. ⊥) (goes_failing seen f q z (λ o steps. RoundSays o (steps_of q) steps (session_of z) d e) (λ (_ : Unit {0}) _. ⊥) g))
 
   -- behind a simplification, or nothing
-  pub ends_on : Passes seen n m p q c d → (r : Result Outcome SolverError) (z : Proof W L G) (e : Search) → EmitsStepsOr (IsFull e.parts) seen r q z (λ o steps. RoundSays o (steps_of q) steps (session_of z) d e) → EndsRound seen r n m p z c e
+  pub ends_on : PassesQuietly seen n m p q c d → (r : Result Outcome SolverError) (z : Proof W L G) (e : Search) → EmitsStepsOr (IsFull e.parts) seen r q z (λ o steps. RoundSays o (steps_of q) steps (session_of z) d e) → EndsRound seen r n m p z c e
   ends_on b = ends_behind (record { took = b.took; quiet = b.quiet; does = b.does; asked = b.asked; shares = b.together.shares; moved = b.moved; word = b.word })
 
   -- behind a clause that is false at level 0
-  pub ends_refuted : StandTogether n p c → (f : Conflict) → Refutes n m p q c d f → (r : Result Outcome SolverError) (z : Proof W L G) (e : Search) → EmitsStepsOr (IsFull e.parts) seen r q z (λ o steps. RoundSays o (steps_of q) steps (session_of z) d e) → EndsRound seen r n m p z c e
+  pub ends_refuted : StandTogether n p c → (f : Conflict) → FindsFalseClause n m p q c d f → (r : Result Outcome SolverError) (z : Proof W L G) (e : Search) → EmitsStepsOr (IsFull e.parts) seen r q z (λ o steps. RoundSays o (steps_of q) steps (session_of z) d e) → EndsRound seen r n m p z c e
   ends_refuted h f b = ends_behind reaches
     where
       here : Reaches seen n n p p c d

@@ -4,7 +4,7 @@ use Rattle.std.specs.Prelude.{MatchResult, IfErr}
 use Rattle.sat_base.specs.device.Device.{Writer}
 use Rattle.sat_base.specs.steps.Steps.{Step}
 use Rattle.sat_checker.specs.declared.processing.ProofProcessor.{Ghosts}
-use Rattle.sat_solver.specs.proof.ProofView.{Adds, Complains, FailsCheck, Gains, Records, Keeps, is_lost, steps_of, session_of}
+use Rattle.sat_solver.specs.proof.ProofView.{EmitsExactly, Complains, FailsCheck, EmitsChecked, EmitsAsAnswered, HasAllowedSteps, is_lost, steps_of, session_of}
 use Rattle.sat_solver.specs.session.Session.{session_after}
 use Rattle.sat_solver.specs.declared.proof.made.CheckFault.{CheckFault}
 use Rattle.sat_solver.specs.declared.proof.made.CheckFault.TheVariants as checks
@@ -21,7 +21,7 @@ use Rattle.sat_solver.specs.declared.error.SolverError.{SolverError}
 use Rattle.sat_solver.specs.declared.error.SolverError.TheVariants as errors
 use Rattle.sat_solver.specs.session.Quiet.{is_quiet, AreQuiet}
 use Rattle.sat_solver.proofs.lemmas.fits.QuietLemmas.{quiet_both}
-use Rattle.sat_solver.specs.cdcl.Going.{AreSearched, IsSearched, AreQuietUnless, check_fault_of, fault_of, IsFault, IsFaultOr, Went, EmitsSteps, EmitsStepsOr, EmitsStepsWith}
+use Rattle.sat_solver.specs.cdcl.Going.{AreSearched, IsSearched, AreQuietUnless, check_fault_of, fault_of, IsFault, IsFaultOr, EmitsUpToFault, EmitsSteps, EmitsStepsOr, EmitsStepsWith}
 use Rattle.sat_solver.proofs.lemmas.cdcl.AskedLemmas.{names_behind}
 
 both : (names : ℕ → Option ℕ) (ys xs : List Step) → AreSearched names ys → AreSearched names xs → AreSearched names (ys ++ xs)
@@ -115,40 +115,40 @@ quiet_or (Err e) = tt
 
 module _ {W L : Type 0} {G : Ghosts L} (seen : W → Writer) where
   -- nothing was written
-  pub goes_none : {A full : Type 0} {learns : Bool} (x : A) (p : Proof W L G) (P : A → List Step → Type 0) → Keeps p → P x [] → EmitsStepsWith full learns seen (Ok x) p p P
+  pub goes_none : {A full : Type 0} {learns : Bool} (x : A) (p : Proof W L G) (P : A → List Step → Type 0) → HasAllowedSteps p → P x [] → EmitsStepsWith full learns seen (Ok x) p p P
   goes_none {learns = learns} x p P keeps h = record { steps = []; went = gains_none seen p; searched = tt; quiet = quiet_none learns; keeps = keeps; kept = tt; loss = tt; ends = h }
 
   -- no memory was left before anything was written
-  pub goes_starved : {A full : Type 0} {learns : Bool} (p : Proof W L G) (P : A → List Step → Type 0) → Keeps p → EmitsStepsWith full learns seen (Err errors.OutOfMemory) p p P
+  pub goes_starved : {A full : Type 0} {learns : Bool} (p : Proof W L G) (P : A → List Step → Type 0) → HasAllowedSteps p → EmitsStepsWith full learns seen (Err errors.OutOfMemory) p p P
   goes_starved p P keeps = record { steps = []; went = adds_none seen p; searched = tt; quiet = tt; keeps = keeps; kept = tt; loss = inl refl; ends = tt }
 
   -- the checker failed
-  pub went_checked : (A : Type 0) (fault : CheckFault) (steps : List Step) (p q : Proof W L G) → FailsCheck seen fault steps p q → Went {A = A} seen (Err (check_fault_of fault)) steps p q
+  pub went_checked : (A : Type 0) (fault : CheckFault) (steps : List Step) (p q : Proof W L G) → FailsCheck seen fault steps p q → EmitsUpToFault {A = A} seen (Err (check_fault_of fault)) steps p q
   went_checked A checks.OutOfMemory steps p q h = h.adds
   went_checked A checks.CounterEnd steps p q h = h
   went_checked A (checks.Processor cause) steps p q h = h
 
   -- one step was written, by which nothing is learned
-  pub goes_step : {A full : Type 0} (x : A) (p q : Proof W L G) (step : Step) (P : A → List Step → Type 0) → IsSearched (session_of p).solver_names step → is_quiet step ≡ true → Keeps q → Gains seen (step ∷ []) p q → P x (step ∷ []) → EmitsStepsWith full false seen (Ok x) p q P
+  pub goes_step : {A full : Type 0} (x : A) (p q : Proof W L G) (step : Step) (P : A → List Step → Type 0) → IsSearched (session_of p).solver_names step → is_quiet step ≡ true → HasAllowedSteps q → EmitsChecked seen (step ∷ []) p q → P x (step ∷ []) → EmitsStepsWith full false seen (Ok x) p q P
   goes_step x p q step P s quiet keeps gains h = record { steps = step ∷ []; went = gains; searched = (s, tt); quiet = (quiet, tt); keeps = keeps; kept = tt; loss = tt; ends = h }
 
   -- or something is
-  pub goes_learned : {A full : Type 0} (x : A) (p q : Proof W L G) (step : Step) (P : A → List Step → Type 0) → IsSearched (session_of p).solver_names step → Keeps q → Gains seen (step ∷ []) p q → P x (step ∷ []) → EmitsStepsOr full seen (Ok x) p q P
+  pub goes_learned : {A full : Type 0} (x : A) (p q : Proof W L G) (step : Step) (P : A → List Step → Type 0) → IsSearched (session_of p).solver_names step → HasAllowedSteps q → EmitsChecked seen (step ∷ []) p q → P x (step ∷ []) → EmitsStepsOr full seen (Ok x) p q P
   goes_learned x p q step P s keeps gains h = record { steps = step ∷ []; went = gains; searched = (s, tt); quiet = tt; keeps = keeps; kept = tt; loss = tt; ends = h }
 
   -- a step was made, and the target failed at it, or no memory was left for it
-  pub goes_broken : {A full : Type 0} {learns : Bool} (e : ProofError) (p q : Proof W L G) (step : Step) (P : A → List Step → Type 0) → IsSearched (session_of p).solver_names step → Keeps q → Records {T = Unit {0}} seen (Err e) (step ∷ []) p q → EmitsStepsWith full learns seen (Err (fault_of e)) p q P
+  pub goes_broken : {A full : Type 0} {learns : Bool} (e : ProofError) (p q : Proof W L G) (step : Step) (P : A → List Step → Type 0) → IsSearched (session_of p).solver_names step → HasAllowedSteps q → EmitsAsAnswered {T = Unit {0}} seen (Err e) (step ∷ []) p q → EmitsStepsWith full learns seen (Err (fault_of e)) p q P
   goes_broken (Write cause) p q step P s keeps fails = record { steps = step ∷ []; went = fails.0; searched = (s, tt); quiet = tt; keeps = keeps; kept = fails.1; loss = tt; ends = tt }
   goes_broken OutOfMemory p q step P s keeps gains = record { steps = []; went = gains_adds seen [] p q gains; searched = tt; quiet = tt; keeps = keeps; kept = tt; loss = inl gains.taking; ends = tt }
   goes_broken {A = A} {full} (Check fault) p q step P s keeps fails = record { steps = step ∷ []; went = went_checked A fault (step ∷ []) p q fails.0; searched = (s, tt); quiet = tt; keeps = keeps; kept = complaint_kept fault q fails.1; loss = check_loss fault p q fails.0.why; ends = fault_checked full fault }
 
   -- a step was made, and then the clause buffer refused
-  pub goes_refused : {A full : Type 0} {learns : Bool} (s : StoreError) (p q : Proof W L G) (step : Step) (P : A → List Step → Type 0) → IsSearched (session_of p).solver_names step → Keeps q → Gains seen (step ∷ []) p q → (s ≡ stores.StoreFull → full) → EmitsStepsWith full learns seen (Err (failure_of s)) p q P
+  pub goes_refused : {A full : Type 0} {learns : Bool} (s : StoreError) (p q : Proof W L G) (step : Step) (P : A → List Step → Type 0) → IsSearched (session_of p).solver_names step → HasAllowedSteps q → EmitsChecked seen (step ∷ []) p q → (s ≡ stores.StoreFull → full) → EmitsStepsWith full learns seen (Err (failure_of s)) p q P
   goes_refused stores.StoreFull p q step P s keeps gains f = record { steps = step ∷ []; went = gains_adds seen (step ∷ []) p q gains; searched = (s, tt); quiet = tt; keeps = keeps; kept = tt; loss = gains.taking; ends = f refl }
   goes_refused stores.OutOfMemory p q step P s keeps gains f = record { steps = step ∷ []; went = gains_adds seen (step ∷ []) p q gains; searched = (s, tt); quiet = tt; keeps = keeps; kept = tt; loss = inl gains.taking; ends = tt }
 
   -- a fault behind steps that were made
-  pub went_behind : (A : Type 0) (e : SolverError) (xs ys : List Step) (a b c : Proof W L G) → Adds seen xs a b → Went {A = A} seen (Err e) ys b c → Went {A = A} seen (Err e) (ys ++ xs) a c
+  pub went_behind : (A : Type 0) (e : SolverError) (xs ys : List Step) (a b c : Proof W L G) → EmitsExactly seen xs a b → EmitsUpToFault {A = A} seen (Err e) ys b c → EmitsUpToFault {A = A} seen (Err e) (ys ++ xs) a c
   went_behind A (errors.ProofIoError cause) xs ys a b c h k = fails_later seen xs ys a b c h k
   went_behind A errors.Interrupted xs ys a b c h k = adds_more seen xs ys a b c h k
   went_behind A (errors.ProofProcessorError cause) xs ys a b c h k = check_later seen xs ys a b c h k
@@ -166,7 +166,7 @@ module _ {W L : Type 0} {G : Ghosts L} (seen : W → Writer) where
   went_behind A errors.OutOfRange xs ys a b c h k = adds_more seen xs ys a b c h k
 
   -- a call behind another that went well
-  pub went_later : {A : Type 0} (r : Result A SolverError) (xs ys : List Step) (a b c : Proof W L G) → Gains seen xs a b → Went seen r ys b c → Went seen r (ys ++ xs) a c
+  pub went_later : {A : Type 0} (r : Result A SolverError) (xs ys : List Step) (a b c : Proof W L G) → EmitsChecked seen xs a b → EmitsUpToFault seen r ys b c → EmitsUpToFault seen r (ys ++ xs) a c
   went_later (Ok x) xs ys a b c h k = gains_more seen xs ys a b c h k
   went_later {A = A} (Err e) xs ys a b c h k = went_behind A e xs ys a b c (gains_adds seen xs a b h) k
 
@@ -188,7 +188,7 @@ module _ {W L : Type 0} {G : Ghosts L} (seen : W → Writer) where
     ends = ends_with full r (λ y. Q y k.steps) (λ y. R y (k.steps ++ h.steps)) (λ y. f h.steps k.steps y h.ends) k.ends;
   }
 
-  pub went_failing : (A B : Type 0) (e : SolverError) (steps : List Step) (a b : Proof W L G) → Went {A = A} seen (Err e) steps a b → Went {A = B} seen (Err e) steps a b
+  pub went_failing : (A B : Type 0) (e : SolverError) (steps : List Step) (a b : Proof W L G) → EmitsUpToFault {A = A} seen (Err e) steps a b → EmitsUpToFault {A = B} seen (Err e) steps a b
   went_failing A B (errors.ProofIoError cause) steps a b h = h
   went_failing A B errors.Interrupted steps a b h = h
   went_failing A B (errors.ProofProcessorError cause) steps a b h = h

@@ -13,8 +13,8 @@ use Rattle.sat_parts.specs.declared.parts.Parts.{Parts}
 use Rattle.sat_parts.specs.parts.Whole.{state, PartsInvariant, IsRefuted}
 use Rattle.sat_parts.specs.parts.Words.{TrailWordRises}
 use Rattle.sat_solver.specs.session.FitLaws.{named_hashes}
-use Rattle.sat_solver.specs.session.Fits.{SessionMatchesParts, FlagFits, Stands, HaveNames}
-use Rattle.sat_solver.specs.session.Learning.{TakesIn}
+use Rattle.sat_solver.specs.session.Fits.{SessionMatchesParts, FlagFits, PartsSessionInvariant, TrueLitsHaveNames}
+use Rattle.sat_solver.specs.session.Learning.{FitsAfterLearning}
 use Rattle.sat_solver.proofs.lemmas.fits.MayLemmas.{learned_may}
 use Rattle.sat_solver.proofs.lemmas.fits.AdvanceLemmas.{learned_clause_advances}
 use Rattle.sat_solver.proofs.lemmas.session.UnitLemmas.{units_consistent}
@@ -26,16 +26,16 @@ use Rattle.sat_parts.specs.parts.Learned.{IsPending}
 use Rattle.sat_parts.proofs.lemmas.parts.KeepLemmas.{keeps_enqueued}
 use Rattle.sat_solver.specs.declared.context.Search.{Search}
 use Rattle.sat_solver.specs.cdcl.Going.{is_searched}
-use Rattle.sat_solver.specs.cdcl.Joint.{global_in, IsFree, IsReady, Moved, assumed_in}
+use Rattle.sat_solver.specs.cdcl.Joint.{global_in, IsFree, IsReadySearch, SameVarsAndAssumptions, assumed_in}
 use Rattle.sat_solver.specs.unit_simplify.Left.{SameSize}
-use Rattle.sat_solver.specs.cdcl.Learning.{LastAdvances, Learned}
+use Rattle.sat_solver.specs.cdcl.Learning.{LastAdvances, LearnsAndRises}
 use Rattle.sat_solver.proofs.lemmas.cdcl.AskedLemmas.{leaves_after}
 use Rattle.sat_solver.proofs.lemmas.cdcl.TurnLemmas.{ready_moved}
 use Rattle.sat_base.specs.values.Literals.{variable, negated}
 use Rattle.sat_solver.proofs.lemmas.fits.FitLemmas.{all_at}
 use Rattle.sat_parts.proofs.lemmas.prop.StateLemmas.{negated_variable, true_from_false}
 
-module _ (p : Parts) (e : Conflict) (w : Work) (back : ℕ) (steps : List Step) (global : ℕ → ℕ) (refuted : IsRefuted p e) (above : 0 < length p.trail.starts) (fits : SessionMatchesParts p (session_after steps) global) (names : HaveNames p.assignment.current (session_after steps) global)
+module _ (p : Parts) (e : Conflict) (w : Work) (back : ℕ) (steps : List Step) (global : ℕ → ℕ) (refuted : IsRefuted p e) (above : 0 < length p.trail.starts) (fits : SessionMatchesParts p (session_after steps) global) (names : TrueLitsHaveNames p.assignment.current (session_after steps) global)
     (learns : Learns p.clauses (state p) (falsified p.clauses e) w back) where
   clause_named : AreMapped global (session_after steps).solver_names w.clause
   clause_named = all_at (λ l. (session_after steps).solver_names (global (variable l)) ≡ Some (variable l)) w.clause (λ k lt.
@@ -50,7 +50,7 @@ module _ (p : Parts) (e : Conflict) (w : Work) (back : ℕ) (steps : List Step) 
 
   -- and then it comes to the others
   pub learned_stands : (q : Parts) (header : Header) (clause hashes : List ℕ) (flag : Bool) (new : List Step) → clause ≡ map (with_var global) w.clause → FlagFits flag header w.clause →
-      new ≡ AtClause flag clause hashes ∷ steps → PartsInvariant q → TakesIn p q header w.clause → Stands q (session_after new) global
+      new ≡ AtClause flag clause hashes ∷ steps → PartsInvariant q → FitsAfterLearning p q header w.clause → PartsSessionInvariant q (session_after new) global
   learned_stands q header clause hashes flag new c flags added holds takes = record {
     holds = holds;
     fits = subst (λ t. SessionMatchesParts q t global) (sym (ap session_after added ∙ ap (λ ls. after (AtClause flag ls hashes) (session_after steps)) c)) (takes (session_after steps) global hashes flag flags clause_named fits);
@@ -68,10 +68,10 @@ module _ (p : Parts) (e : Conflict) (w : Work) (back : ℕ) (steps : List Step) 
   }
 
 -- what became of all
-pub learned_whole : (steps new : List Step) (step : Step) (c c' : Search) → IsReady (session_after steps) c → is_searched step ≡ true → new ≡ step ∷ steps → Stands c'.parts (session_after new) (global_in c) → TrailWordRises c.parts c'.parts → SameSize c.parts c'.parts → LastAdvances steps (step ∷ []) →
-    c'.globals ≡ c.globals → c'.assumptions.lits ≡ c.assumptions.lits → ArePlaced c'.assumptions (state c'.parts) → IsFree c' → Learned steps (step ∷ []) (session_after new) c c'
+pub learned_whole : (steps new : List Step) (step : Step) (c c' : Search) → IsReadySearch (session_after steps) c → is_searched step ≡ true → new ≡ step ∷ steps → PartsSessionInvariant c'.parts (session_after new) (global_in c) → TrailWordRises c.parts c'.parts → SameSize c.parts c'.parts → LastAdvances steps (step ∷ []) →
+    c'.globals ≡ c.globals → c'.assumptions.lits ≡ c.assumptions.lits → ArePlaced c'.assumptions (state c'.parts) → IsFree c' → LearnsAndRises steps (step ∷ []) (session_after new) c c'
 learned_whole steps new step c c' ready s added stands rises size last globals lits placed free =
-    let moved : Moved c c' = record { globals = globals; lits = lits; size = size } in
+    let moved : SameVarsAndAssumptions c c' = record { globals = globals; lits = lits; size = size } in
     record {
       search = record { stands = rw globals stands; ready = ready_moved (session_after steps) (session_after new) c c' ready (rw added (leaves_after (step ∷ []) steps (s, tt))) moved (rises (assumed_in c)).0 placed free };
       moved = moved;

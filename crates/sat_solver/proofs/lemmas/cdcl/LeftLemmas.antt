@@ -3,7 +3,7 @@ use Rattle.std.proofs.Common.{ℕ, ◌≡◌, ◌<◌, ◌+◌, ◌∙◌, List,
 use Rattle.sat_base.specs.steps.Steps.{UnitClauses}
 use Rattle.sat_parts.specs.clause.Db.{live_refs}
 use Rattle.sat_parts.specs.declared.parts.Parts.{Parts}
-use Rattle.sat_parts.specs.parts.Round.{AreUnits, IsBased}
+use Rattle.sat_parts.specs.parts.Round.{UnitsAreUncaused, IsBased}
 use Rattle.sat_parts.specs.prop.State.{State}
 use Rattle.sat_parts.specs.parts.Assumed.{IsPlaced}
 use Rattle.sat_parts.specs.parts.Whole.{state, PartsInvariant, HoldsBelow, IsDone}
@@ -12,12 +12,12 @@ use Rattle.sat_parts.specs.parts.Words.{TrailWordExtends}
 use Rattle.sat_parts.proofs.lemmas.parts.WordSteps.{extends_refl}
 use Rattle.sat_solver.specs.session.Session.{Session, after}
 use Rattle.sat_solver.specs.session.TrailUnits.{written_units}
-use Rattle.sat_solver.specs.session.Fits.{SessionMatchesParts, HaveNames}
+use Rattle.sat_solver.specs.session.Fits.{SessionMatchesParts, TrueLitsHaveNames}
 use Rattle.sat_solver.specs.session.Units.{FitsAll}
 use Rattle.sat_solver.specs.session.Going.{IsOrderly}
 use Rattle.sat_solver.proofs.lemmas.fits.StepLemmas.{starts_none}
 use Rattle.sat_solver.proofs.lemmas.fits.UnitLemmas.{units_written, fits_cleared}
-use Rattle.sat_solver.specs.unit_simplify.Left.{AllUnits, IsSettled}
+use Rattle.sat_solver.specs.unit_simplify.Left.{AllUnits, TakesUnitsOff}
 
 pub none_left : {A : Type 0} (xs : List A) → length xs ≡ 0 → xs ≡ []
 none_left [] e = refl
@@ -37,7 +37,7 @@ fits_quiet words live implied p s global h = record {
   all = h.all;
 }
 
-module _ (p : Parts) (s : Session) (global : ℕ → ℕ) (orderly : IsOrderly p) (bottom : length p.trail.starts ≡ 0) (fits : SessionMatchesParts p s global) (names : HaveNames p.assignment.current s global) where
+module _ (p : Parts) (s : Session) (global : ℕ → ℕ) (orderly : IsOrderly p) (bottom : length p.trail.starts ≡ 0) (fits : SessionMatchesParts p s global) (names : TrueLitsHaveNames p.assignment.current s global) where
   pub units_step : AllUnits p (after (UnitClauses (written_units p.clauses (state p) 64 global p.trail.lits)) s) global
   units_step = units_written p.clauses (live_refs p.clauses p.db.refs) p.binary.implied (state p) s global fits names orderly.agrees orderly.clauses orderly.turns bottom
 
@@ -60,7 +60,7 @@ placed_cleared ls below place s s' bottom none clears x =
     }
 
 -- above level 0 nothing is done
-pub settled_above : (p : Parts) (s : Session) (global : ℕ → ℕ) → 0 < length p.trail.starts → HoldsBelow (length p.trail.starts + 1) p → IsDone p → AreUnits (state p) × IsBased p.trail → SessionMatchesParts p s global → IsSettled p p s global
+pub settled_above : (p : Parts) (s : Session) (global : ℕ → ℕ) → 0 < length p.trail.starts → HoldsBelow (length p.trail.starts + 1) p → IsDone p → UnitsAreUncaused (state p) × IsBased p.trail → SessionMatchesParts p s global → TakesUnitsOff p p s global
 settled_above p s global above h done units fits = record {
   stands = record { holds = record { below = h; units = units.0; base = units.1 }; fits = fits };
   done = done;
@@ -72,7 +72,7 @@ settled_above p s global above h done units fits = record {
 }
 
 -- at level 0 units were taken off the trail
-pub settled_bottom : (p q : Parts) (s : Session) (global : ℕ → ℕ) → AllUnits p s global → length p.trail.starts ≡ 0 → PartsInvariant q → IsDone q → q.trail.starts ≡ [] → q.trail.lits ≡ [] → SameClauses p q → Clears (state p) (state q) → TrailWordExtends p q → IsSettled p q s global
+pub settled_bottom : (p q : Parts) (s : Session) (global : ℕ → ℕ) → AllUnits p s global → length p.trail.starts ≡ 0 → PartsInvariant q → IsDone q → q.trail.starts ≡ [] → q.trail.lits ≡ [] → SameClauses p q → Clears (state p) (state q) → TrailWordExtends p q → TakesUnitsOff p q s global
 settled_bottom p q s global all bottom holds done none empty same clears word = record {
   stands = record { holds = holds; fits = rw (same.0, same.1, same.2) (fits_cleared p.clauses (live_refs p.clauses p.db.refs) p.binary.implied (state p) (state q) s global clears all) };
   done = done;

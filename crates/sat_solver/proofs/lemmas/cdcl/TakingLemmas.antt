@@ -9,22 +9,22 @@ use Rattle.sat_parts.specs.prop.TrailWord.{IsLevelled}
 use Rattle.sat_store.specs.heap.Vsids.{Queue}
 use Rattle.sat_solver.specs.analyze_conflict.Work.{Work}
 use Rattle.sat_parts.specs.declared.parts.Parts.{Parts}
-use Rattle.sat_parts.specs.parts.Frame.{SameClauses, Carries, KeepsTo, Learnt, Headed}
+use Rattle.sat_parts.specs.parts.Frame.{SameClauses, AddsNoUnit, KeepsTo, Learnt, Headed}
 use Rattle.sat_parts.specs.parts.Learned.{IsLearned, IsPending}
 use Rattle.sat_parts.specs.parts.Whole.{state, PartsInvariant}
-use Rattle.sat_parts.specs.parts.Words.{GoesOn, TrailWordStays}
+use Rattle.sat_parts.specs.parts.Words.{GoneAndIdleStay, TrailWordStays}
 use Rattle.sat_parts.proofs.lemmas.parts.KeepLemmas.{keeps_trans}
 use Rattle.sat_parts.proofs.lemmas.parts.WordSteps.{rises_taken}
 use Rattle.sat_solver.proofs.lemmas.fits.FramedParts.{fits_headed}
 use Rattle.sat_solver.proofs.lemmas.fits.LearnedLemmas.{size_learnt, fits_learnt, fits_undone, false_signs}
 use Rattle.sat_solver.specs.clause.Assessed.{levels_in, TakePart, AreInvolved}
 use Rattle.sat_solver.specs.declared.context.Search.{Search}
-use Rattle.sat_solver.specs.cdcl.Joint.{IsFree, Moved}
-use Rattle.sat_solver.specs.cdcl.Learning.{Taken, Rated}
+use Rattle.sat_solver.specs.cdcl.Joint.{IsFree, SameVarsAndAssumptions}
+use Rattle.sat_solver.specs.cdcl.Learning.{UndoesAndLearns, Rated}
 use Rattle.sat_solver.proofs.lemmas.cdcl.LearningLemmas.{keeps_learnt, starts_learnt}
 
 module _ (p mid q n : Parts) (header : Header) (ls : List ℕ) (top : ℕ) (levelled : IsLevelled (state p)) (learned : IsLearned (state p) ls top)
-    (trail : mid.trail ≡ cut_to top p.trail) (starts : length mid.trail.starts ≡ top) (same : SameClauses p mid) (carries : Carries (state p) (state mid)) (keeps : KeepsTo top (state p) (state mid)) (stay : TrailWordStays p mid)
+    (trail : mid.trail ≡ cut_to top p.trail) (starts : length mid.trail.starts ≡ top) (same : SameClauses p mid) (carries : AddsNoUnit (state p) (state mid)) (keeps : KeepsTo top (state p) (state mid)) (stay : TrailWordStays p mid)
     (pending : IsPending (state mid) mid.vsids ls) (headed : Headed mid q) (holds : PartsInvariant q) where
   same_state : state q ≡ state mid
   same_state = rw (headed.same.0.0, headed.same.0.1, headed.same.0.2) (refl {a = state mid})
@@ -33,9 +33,9 @@ module _ (p mid q n : Parts) (header : Header) (ls : List ℕ) (top : ℕ) (leve
   still_pending = rw (same_state, headed.same.2) pending
 
   stay_before : TrailWordStays q n → TrailWordStays mid n
-  stay_before x am = subst (λ (v : Queue). GoesOn am (state mid) v (state n) n.vsids) headed.same.2 (subst (λ (s : State). GoesOn am s q.vsids (state n) n.vsids) same_state (x am))
+  stay_before x am = subst (λ (v : Queue). GoneAndIdleStay am (state mid) v (state n) n.vsids) headed.same.2 (subst (λ (s : State). GoneAndIdleStay am s q.vsids (state n) n.vsids) same_state (x am))
 
-  taken : PartsInvariant n → n.trail ≡ with_lit (get_or ls 0 0) q.trail → Learnt q n header ls → TrailWordStays q n → Taken p n header ls top
+  taken : PartsInvariant n → n.trail ≡ with_lit (get_or ls 0 0) q.trail → Learnt q n header ls → TrailWordStays q n → UndoesAndLearns p n header ls top
   taken after last learnt more = record {
     holds = after;
     fits = λ s global hashes flag flags names fits.
@@ -46,7 +46,7 @@ module _ (p mid q n : Parts) (header : Header) (ls : List ℕ) (top : ℕ) (leve
     starts = ap (λ (xs : List ℕ). length xs) (starts_learnt q n header ls learnt) ∙ ap (λ (t : Trailed). length t.starts) headed.same.0.2 ∙ starts;
   }
 
-  pub taken_ok : {E : Type 0} (r : Result (Unit {0}) E) → OnOk r (PartsInvariant n) → OnOk r (n.trail ≡ with_lit (get_or ls 0 0) q.trail) → OnOk r (Learnt q n header ls) → OnOk r (TrailWordStays q n) → OnOk r (Taken p n header ls top)
+  pub taken_ok : {E : Type 0} (r : Result (Unit {0}) E) → OnOk r (PartsInvariant n) → OnOk r (n.trail ≡ with_lit (get_or ls 0 0) q.trail) → OnOk r (Learnt q n header ls) → OnOk r (TrailWordStays q n) → OnOk r (UndoesAndLearns p n header ls top)
   taken_ok (Ok x) a b c d = taken a b c d
   taken_ok (Err e) a b c d = tt
 
@@ -71,7 +71,7 @@ module _ (p mid : Parts) (same : SameClauses p mid) (graph : mid.graph ≡ p.gra
     rated_ok refs take (Err e) learnt = tt
 
 -- the flags are again as they were
-pub free_taken : (c c' : Search) → IsFree c → Moved c c' → c'.analysis ≡ c.analysis → c'.flags.flags.items ≡ c.flags.flags.items → IsFree c'
+pub free_taken : (c c' : Search) → IsFree c → SameVarsAndAssumptions c c' → c'.analysis ≡ c.analysis → c'.flags.flags.items ≡ c.flags.flags.items → IsFree c'
 free_taken c c' f moved analysis flags = record {
   names = rw (moved.globals, moved.size) f.names;
   size = rw (analysis, moved.size) f.size;

@@ -7,17 +7,17 @@ use Rattle.sat_parts.specs.clause.Db.{live_refs}
 use Rattle.sat_parts.specs.prop.Ready.{IsConflict}
 use Rattle.sat_parts.specs.declared.parts.Parts.{Parts}
 use Rattle.sat_parts.specs.parts.Assumed.{ArePlaced}
-use Rattle.sat_parts.specs.parts.Frame.{Reordered, Carries, KeepsTo}
-use Rattle.sat_parts.specs.parts.Round.{AreUnits, IsBased}
+use Rattle.sat_parts.specs.parts.Frame.{Reordered, AddsNoUnit, KeepsTo}
+use Rattle.sat_parts.specs.parts.Round.{UnitsAreUncaused, IsBased}
 use Rattle.sat_parts.specs.parts.Whole.{state, HoldsBelow, IsDone}
-use Rattle.sat_parts.specs.parts.Words.{TrailWordExtends, TrailWordExtendsFor, GoesOn}
+use Rattle.sat_parts.specs.parts.Words.{TrailWordExtends, TrailWordExtendsFor, GoneAndIdleStay}
 use Rattle.sat_parts.proofs.lemmas.parts.AssumeLemmas.{placed_kept}
 use Rattle.sat_parts.proofs.lemmas.parts.WordSteps.{extends_after}
 use Rattle.sat_solver.specs.proof.ProofView.{steps_of, session_of}
 use Rattle.sat_solver.specs.declared.proof.Proof.{Proof}
 use Rattle.sat_solver.specs.session.Session.{Session, session_after}
 use Rattle.sat_solver.specs.session.Naming.{global_of}
-use Rattle.sat_solver.specs.session.Fits.{SessionMatchesParts, HaveNames}
+use Rattle.sat_solver.specs.session.Fits.{SessionMatchesParts, TrueLitsHaveNames}
 use Rattle.sat_solver.proofs.lemmas.fits.LearnedLemmas.{fits_undone}
 use Rattle.sat_solver.proofs.lemmas.fits.StepLemmas.{fits_propagated}
 use Rattle.sat_solver.specs.declared.cdcl.find_conflict.FoundConflict.{FoundConflict}
@@ -25,33 +25,33 @@ use Rattle.sat_solver.specs.declared.cdcl.find_conflict.FoundConflict.TheVariant
 use Rattle.sat_solver.specs.declared.context.Search.{Search}
 use Rattle.sat_solver.specs.cdcl.Going.{EmitsSteps}
 use Rattle.sat_solver.proofs.lemmas.cdcl.AskedLemmas.{leaves_after, kinds_of}
-use Rattle.sat_solver.specs.cdcl.Joint.{global_in, assumed_in, IsFree, IsReady, IsSearch, Moved, Leaves}
-use Rattle.sat_solver.specs.unit_simplify.Left.{IsSettled}
-use Rattle.sat_solver.specs.cdcl.Turns.{GoesDeeper, IsPropagated, StopsAt, TurnSays, Turned, Stopped}
+use Rattle.sat_solver.specs.cdcl.Joint.{global_in, assumed_in, IsFree, IsReadySearch, IsSearch, SameVarsAndAssumptions, SameAssumedAndNames}
+use Rattle.sat_solver.specs.unit_simplify.Left.{TakesUnitsOff}
+use Rattle.sat_solver.specs.cdcl.Turns.{GoesDeeper, IsPropagated, OpensLevelOrStops, TurnSays, TakesTurn, StopsSearch}
 use Rattle.sat_base.specs.values.Literals.{variable}
 use Rattle.sat_parts.proofs.lemmas.prop.RoomLemmas.{below_from_value}
 
-pub moved_refl : (c : Search) → Moved c c
+pub moved_refl : (c : Search) → SameVarsAndAssumptions c c
 moved_refl c = record { globals = refl; lits = refl; size = refl }
 
-pub moved_trans : (a b c : Search) → Moved a b → Moved b c → Moved a c
+pub moved_trans : (a b c : Search) → SameVarsAndAssumptions a b → SameVarsAndAssumptions b c → SameVarsAndAssumptions a c
 moved_trans a b c x y = record { globals = y.globals ∙ x.globals; lits = y.lits ∙ x.lits; size = y.size ∙ x.size }
 
 -- what is true, or may be picked, or is assumed, is of variables that have their solver names
 none_some : {A : Type 0} (x : A) → None ≡ Some x → ⊥
 none_some x e = cc
 
-pub ready_names : (s : Session) (c : Search) → IsReady s c → HaveNames c.parts.assignment.current s (global_in c)
+pub ready_names : (s : Session) (c : Search) → IsReadySearch s c → TrueLitsHaveNames c.parts.assignment.current s (global_in c)
 ready_names s c r l t = elim (r.used (variable l) (below_from_value c.parts.assignment.current (variable l) _ t)) [
   | inl own ↦ own
   | inr idle ↦ absurd (none_some _ (sym idle.0 ∙ t))
 ]
 
-pub leaves_refl : (s : Session) → Leaves s s
+pub leaves_refl : (s : Session) → SameAssumedAndNames s s
 leaves_refl s = record { assumed = refl; names = λ v. refl }
 
 -- variables and assumptions are the same, and what was looked at of these stands
-pub ready_moved : (s s' : Session) (c c' : Search) → IsReady s c → Leaves s s' → Moved c c' → GoesOn (assumed_in c) (state c.parts) c.parts.vsids (state c'.parts) c'.parts.vsids → ArePlaced c'.assumptions (state c'.parts) → IsFree c' → IsReady s' c'
+pub ready_moved : (s s' : Session) (c c' : Search) → IsReadySearch s c → SameAssumedAndNames s s' → SameVarsAndAssumptions c c' → GoneAndIdleStay (assumed_in c) (state c.parts) c.parts.vsids (state c'.parts) c'.parts.vsids → ArePlaced c'.assumptions (state c'.parts) → IsFree c' → IsReadySearch s' c'
 ready_moved s s' c c' r leaves moved goes placed free = record {
   free = free;
   placed = placed;
@@ -64,7 +64,7 @@ ready_moved s s' c c' r leaves moved goes placed free = record {
 }
 
 -- the flags and lists that analysis works with are the same, and so is the number of variables
-pub free_moved : (c c' : Search) → IsFree c → Moved c c' → c'.analysis ≡ c.analysis → c'.flags ≡ c.flags → IsFree c'
+pub free_moved : (c c' : Search) → IsFree c → SameVarsAndAssumptions c c' → c'.analysis ≡ c.analysis → c'.flags ≡ c.flags → IsFree c'
 free_moved c c' f moved analysis flags = record {
   names = rw (moved.globals, moved.size) f.names;
   size = rw (analysis, moved.size) f.size;
@@ -78,16 +78,16 @@ free_moved c c' f moved analysis flags = record {
 -- all was propagated, and no clause is false
 pub record Propagation (s : Session) (c d : Search) : Type 0 where
   pub whole : IsPropagated s d
-  pub moved : Moved c d
+  pub moved : SameVarsAndAssumptions c d
   pub word : TrailWordExtendsFor (assumed_in c) c.parts d.parts
   pub starts : d.parts.trail.starts ≡ c.parts.trail.starts
 
 module _ (s : Session) (c c' : Search) (search : IsSearch s c) (globals : c'.globals ≡ c.globals) (assumptions : c'.assumptions ≡ c.assumptions) (analysis : c'.analysis ≡ c.analysis) (flags : c'.flags ≡ c.flags)
-    (starts : c'.parts.trail.starts ≡ c.parts.trail.starts) (moved : Reordered c.parts c'.parts) (carries : Carries (state c.parts) (state c'.parts)) (word : TrailWordExtends c.parts c'.parts) (keeps : (top : ℕ) → KeepsTo top (state c.parts) (state c'.parts)) where
-  pub propagated_moved : Moved c c'
+    (starts : c'.parts.trail.starts ≡ c.parts.trail.starts) (moved : Reordered c.parts c'.parts) (carries : AddsNoUnit (state c.parts) (state c'.parts)) (word : TrailWordExtends c.parts c'.parts) (keeps : (top : ℕ) → KeepsTo top (state c.parts) (state c'.parts)) where
+  pub propagated_moved : SameVarsAndAssumptions c c'
   propagated_moved = record { globals = globals; lits = ap (λ a. a.lits) assumptions; size = carries.size }
 
-  propagated_ready : IsReady s c'
+  propagated_ready : IsReadySearch s c'
   propagated_ready =
       let a = search.ready.placed in
       ready_moved s s c c' search.ready (leaves_refl s) propagated_moved (word (assumed_in c)).0
@@ -101,7 +101,7 @@ module _ (s : Session) (c c' : Search) (search : IsSearch s c) (globals : c'.glo
   propagated_fits_all : HoldsBelow (length c'.parts.trail.starts + 1) c'.parts → SessionMatchesParts c'.parts s (global_in c')
   propagated_fits_all holds = rw globals (fits_propagated c.parts c'.parts s (global_in c) moved carries holds.asks.clauses search.stands.fits)
 
-  pub propagation : HoldsBelow (length c'.parts.trail.starts + 1) c'.parts → IsDone c'.parts → (0 < length c.parts.trail.starts → AreUnits (state c.parts) → AreUnits (state c'.parts)) →
+  pub propagation : HoldsBelow (length c'.parts.trail.starts + 1) c'.parts → IsDone c'.parts → (0 < length c.parts.trail.starts → UnitsAreUncaused (state c.parts) → UnitsAreUncaused (state c'.parts)) →
       (0 < length c.parts.trail.starts → IsBased c.parts.trail → IsBased c'.parts.trail) → Propagation s c c'
   propagation holds done units base = record {
     whole = record {
@@ -117,7 +117,7 @@ module _ (s : Session) (c c' : Search) (search : IsSearch s c) (globals : c'.glo
   }
 
   pub falsified_whole : (e : Conflict) → HoldsBelow (length c'.parts.trail.starts) c'.parts → IsConflict c'.parts.clauses (live_refs c'.parts.clauses c'.parts.db.refs) c'.parts.binary.implied c'.parts.assignment.current e →
-      (0 < length c.parts.trail.starts → AreUnits (state c.parts) → AreUnits (state c'.parts)) → (0 < length c.parts.trail.starts → IsBased c.parts.trail → IsBased c'.parts.trail) → Turned (Some (Falsified e)) s c c'
+      (0 < length c.parts.trail.starts → UnitsAreUncaused (state c.parts) → UnitsAreUncaused (state c'.parts)) → (0 < length c.parts.trail.starts → IsBased c.parts.trail → IsBased c'.parts.trail) → TakesTurn (Some (Falsified e)) s c c'
   falsified_whole e holds conflict units base = record {
     says = record {
       refuted = (holds, conflict, λ some. let old : 0 < length c.parts.trail.starts = rw starts at some in (units old search.stands.holds.units, base old search.stands.holds.base));
@@ -131,7 +131,7 @@ module _ (s : Session) (c c' : Search) (search : IsSearch s c) (globals : c'.glo
 -- A LEVEL BEGINS, OR NONE
 
 -- what is said of a later state behind an earlier one
-pub turned_from : (found : Option FoundConflict) (s : Session) (a b c : Search) → Moved a b → TrailWordExtendsFor (assumed_in a) a.parts b.parts → length b.parts.trail.starts ≡ length a.parts.trail.starts → Turned found s b c → Turned found s a c
+pub turned_from : (found : Option FoundConflict) (s : Session) (a b c : Search) → SameVarsAndAssumptions a b → TrailWordExtendsFor (assumed_in a) a.parts b.parts → length b.parts.trail.starts ≡ length a.parts.trail.starts → TakesTurn found s b c → TakesTurn found s a c
 turned_from found s a b c moved word starts t = record {
   says = later found t.says;
   moved = moved_trans a b c moved t.moved;
@@ -142,16 +142,16 @@ turned_from found s a b c moved word starts t = record {
     later None x = (x.0, x.1 ∙ ap (λ n. n + 1) starts)
     later (Some stop) x = x
 
-pub stopped_from : (stop : FoundConflict) (s : Session) (a b c : Search) → Moved a b → TrailWordExtendsFor (assumed_in a) a.parts b.parts → Turned (Some stop) s b c → Stopped stop s a c
+pub stopped_from : (stop : FoundConflict) (s : Session) (a b c : Search) → SameVarsAndAssumptions a b → TrailWordExtendsFor (assumed_in a) a.parts b.parts → TakesTurn (Some stop) s b c → StopsSearch stop s a c
 stopped_from stop s a b c moved word t = record {
   says = t.says;
   moved = moved_trans a b c moved t.moved;
   word = extends_after (assumed_in a) a.parts b.parts c.parts word (rw moved.lits at t.word);
 }
 
-module _ (s s' : Session) (c c' : Search) (mid : Parts) (propagated : IsPropagated s c) (leaves : Leaves s s') (settled : IsSettled c.parts mid s' (global_in c))
+module _ (s s' : Session) (c c' : Search) (mid : Parts) (propagated : IsPropagated s c) (leaves : SameAssumedAndNames s s') (settled : TakesUnitsOff c.parts mid s' (global_in c))
     (globals : c'.globals ≡ c.globals) (analysis : c'.analysis ≡ c.analysis) (flags : c'.flags ≡ c.flags) where
-  pub gone_on : (found : Option FoundConflict) → GoesDeeper found c.assumptions c'.assumptions mid c'.parts → Turned found s' c c'
+  pub gone_on : (found : Option FoundConflict) → GoesDeeper found c.assumptions c'.assumptions mid c'.parts → TakesTurn found s' c c'
   gone_on found d = record {
     says = says found d.stops;
     moved = moved;
@@ -161,7 +161,7 @@ module _ (s s' : Session) (c c' : Search) (mid : Parts) (propagated : IsPropagat
       word : TrailWordExtendsFor (assumed_in c) c.parts c'.parts
       word = extends_after (assumed_in c) c.parts mid c'.parts (settled.word (assumed_in c)) d.word
 
-      moved : Moved c c'
+      moved : SameVarsAndAssumptions c c'
       moved = record { globals = globals; lits = d.lits; size = d.carries.size ∙ settled.size }
 
       search : IsSearch s' c'
@@ -170,7 +170,7 @@ module _ (s s' : Session) (c c' : Search) (mid : Parts) (propagated : IsPropagat
         ready = ready_moved s s' c c' propagated.ready leaves moved word.0 d.placed (free_moved c c' propagated.ready.free moved analysis flags);
       }
 
-      says : (f : Option FoundConflict) → StopsAt f c.assumptions.lits.items mid c'.parts → TurnSays f s' c c'
+      says : (f : Option FoundConflict) → OpensLevelOrStops f c.assumptions.lits.items mid c'.parts → TurnSays f s' c c'
       says None x = (search, x ∙ ap (λ ss. length ss + 1) settled.starts)
       says (Some (Falsified e)) x = absurd x
       says (Some Complete) x = (search, rw d.lits x)
@@ -180,9 +180,9 @@ module _ (s s' : Session) (c c' : Search) (mid : Parts) (propagated : IsPropagat
 
 -- what was propagated, units that were written, and a level that began, or none
 module _ {W L : Type 0} {G : Ghosts L} (seen : W → Writer) (p q : Proof W L G) (c d e : Search) (mid : Parts) (went : Propagation (session_of p) c d) (gs : List ℕ) (same : gs ≡ d.globals.items)
-    (settles : EmitsSteps {A = Unit {0}} seen (Ok tt) p q (λ _ _. IsSettled d.parts mid (session_of q) (global_of gs))) (globals : e.globals ≡ d.globals) (analysis : e.analysis ≡ d.analysis) (flags : e.flags ≡ d.flags) where
-  pub turned : (found : Option FoundConflict) → GoesDeeper found d.assumptions e.assumptions mid e.parts → Turned found (session_of q) c e
+    (settles : EmitsSteps {A = Unit {0}} seen (Ok tt) p q (λ _ _. TakesUnitsOff d.parts mid (session_of q) (global_of gs))) (globals : e.globals ≡ d.globals) (analysis : e.analysis ≡ d.analysis) (flags : e.flags ≡ d.flags) where
+  pub turned : (found : Option FoundConflict) → GoesDeeper found d.assumptions e.assumptions mid e.parts → TakesTurn found (session_of q) c e
   turned found deeper =
-      let leaves : Leaves (session_of p) (session_of q) = subst (λ ss. Leaves (session_of p) (session_after ss)) (sym settles.went.history) (leaves_after settles.steps (steps_of p) (kinds_of (session_of p).solver_names settles.steps settles.searched)) in
-      let settled : IsSettled d.parts mid (session_of q) (global_in d) = subst (λ hs. IsSettled d.parts mid (session_of q) (global_of hs)) same settles.ends in
+      let leaves : SameAssumedAndNames (session_of p) (session_of q) = subst (λ ss. SameAssumedAndNames (session_of p) (session_after ss)) (sym settles.went.history) (leaves_after settles.steps (steps_of p) (kinds_of (session_of p).solver_names settles.steps settles.searched)) in
+      let settled : TakesUnitsOff d.parts mid (session_of q) (global_in d) = subst (λ hs. TakesUnitsOff d.parts mid (session_of q) (global_of hs)) same settles.ends in
       turned_from found (session_of q) c d e went.moved went.word (ap (λ ss. length ss) went.starts) (gone_on (session_of p) (session_of q) d e mid went.whole leaves settled globals analysis flags found deeper)

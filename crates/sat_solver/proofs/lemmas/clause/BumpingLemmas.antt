@@ -3,7 +3,7 @@ use Rattle.std.proofs.Common.{ℕ, zero, suc, ◌+◌, ◌<◌, ◌≤◌, ◌�
 use Rattle.std.proofs.lemmas.List.{at_drop_more}
 use Rattle.sat_store.specs.heap.Vsids.{Queue, bumped}
 use Rattle.sat_base.specs.steps.Steps.{Step}
-use Rattle.sat_parts.specs.prop.TrailWord.{Letter, D, P, IsBelow}
+use Rattle.sat_parts.specs.prop.TrailWord.{Letter, D, P, IsLowerWord}
 use Rattle.sat_solver.specs.session.Session.{Session}
 use Rattle.sat_parts.specs.declared.parts.Parts.{Parts}
 use Rattle.sat_parts.specs.parts.Frame.{SameClauses, SameState}
@@ -14,7 +14,7 @@ use Rattle.sat_solver.proofs.lemmas.fits.LearnedLemmas.{fits_undone}
 use Rattle.sat_solver.specs.declared.context.Search.{Search}
 use Rattle.sat_solver.specs.clause.Activity.{all_bumped, Bumped}
 use Rattle.sat_solver.specs.cdcl.Joint.{global_in, IsSearch}
-use Rattle.sat_solver.specs.cdcl.Learning.{Learned}
+use Rattle.sat_solver.specs.cdcl.Learning.{LearnsAndRises}
 use Rattle.sat_solver.specs.unit_simplify.Left.{SameSize}
 use Rattle.sat_solver.proofs.lemmas.clause.ReducingLemmas.{still, still_moved}
 use Rattle.sat_solver.proofs.lemmas.cdcl.TurnLemmas.{moved_trans, leaves_refl}
@@ -34,7 +34,7 @@ bumped_same s c c' search globals assumptions analysis flags holds clauses state
     }
 
 -- what a word is below of may go on
-below_more : (u v z : List Letter) → IsBelow u v → IsBelow u (v ++ z)
+below_more : (u v z : List Letter) → IsLowerWord u v → IsLowerWord u (v ++ z)
 below_more [] [] z h = absurd h
 below_more [] (y ∷ v) z h = tt
 below_more (x ∷ u) [] z h = absurd h
@@ -46,11 +46,11 @@ below_more (P ∷ u) (P ∷ v) z h = below_more u v z h
 rises_on : (p q r : Parts) → TrailWordRises p q → TrailWordExtends q r → TrailWordRises p r
 rises_on p q r x y = λ am. (
   goes_trans am (state p) p.vsids (state q) q.vsids (state r) r.vsids (x am).0 (y am).0,
-  λ w h. let v = (x am).1 w h in let u = (y am).1 v.0 v.1.0 in (u.0, (u.1.0, subst (λ z. IsBelow w z) (sym u.1.1.1) (below_more w v.0 u.1.1.0 v.1.1))),
+  λ w h. let v = (x am).1 w h in let u = (y am).1 v.0 v.1.0 in (u.0, (u.1.0, subst (λ z. IsLowerWord w z) (sym u.1.1.1) (below_more w v.0 u.1.1.0 v.1.1))),
 )
 
 -- a learned clause stands when activities were raised
-pub learned_on : (earlier steps : List Step) (s : Session) (a b c : Search) → Learned earlier steps s a b → Bumped s b c → Learned earlier steps s a c
+pub learned_on : (earlier steps : List Step) (s : Session) (a b c : Search) → LearnsAndRises earlier steps s a b → Bumped s b c → LearnsAndRises earlier steps s a c
 learned_on earlier steps s a b c x y = record {
   search = y.search;
   moved = moved_trans a b c x.moved y.moved;

@@ -11,7 +11,7 @@ use Rattle.sat_parts.proofs.lemmas.prop.RoomLemmas.{below_from_value}
 use Rattle.sat_solver.specs.analyze_conflict.Work.{Work}
 use Rattle.sat_solver.specs.analyze_conflict.Derivation.{Learns}
 use Rattle.sat_parts.specs.declared.parts.Parts.{Parts}
-use Rattle.sat_parts.specs.parts.Words.{standing}
+use Rattle.sat_parts.specs.parts.Words.{trail_letters}
 use Rattle.sat_parts.specs.parts.Whole.{state, PartsInvariant, IsRefuted}
 use Rattle.sat_parts.proofs.lemmas.parts.WordSteps.{word_begins, word_fits}
 
@@ -33,13 +33,13 @@ levels_few p n x le = elim (cases_eq (length p.trail.starts) 0) [
 -- levels are no more than variables
 pub starts_few : (p : Parts) → PartsInvariant p → length p.trail.starts ≤ length p.assignment.current
 starts_few p h =
-    let fits : length (standing p.trail) ≤ length p.assignment.current = word_fits [] (state p) p.vsids (standing p.trail) h.below.asks.agrees (word_begins [] p) in
+    let fits : length (trail_letters p.trail) ≤ length p.assignment.current = word_fits [] (state p) p.vsids (trail_letters p.trail) h.below.asks.agrees (word_begins [] p) in
     levels_few p (length p.assignment.current) h.below.levelled (omega (arith, fits, letters_counted p.trail.starts p.trail.lits 0))
 
 -- above a conflict, too
 starts_refuted : (p : Parts) (e : Conflict) → IsRefuted p e → length p.trail.starts ≤ length p.assignment.current
 starts_refuted p e refuted =
-    let fits : length (standing p.trail) ≤ length p.assignment.current = word_fits [] (state p) p.vsids (standing p.trail) refuted.0.asks.agrees (word_begins [] p) in
+    let fits : length (trail_letters p.trail) ≤ length p.assignment.current = word_fits [] (state p) p.vsids (trail_letters p.trail) refuted.0.asks.agrees (word_begins [] p) in
     levels_few p (length p.assignment.current) refuted.0.levelled (omega (arith, fits, letters_counted p.trail.starts p.trail.lits 0))
 
 -- there is a flag for a level up to the current one

@@ -13,7 +13,7 @@ use Rattle.sat_parts.specs.declared.parts.Parts.{Parts}
 use Rattle.sat_parts.specs.parts.Frame.{Headed}
 use Rattle.sat_parts.specs.parts.Whole.{PartsInvariant}
 use Rattle.sat_parts.proofs.lemmas.parts.WordSteps.{extends_refl, extends_trans}
-use Rattle.sat_solver.specs.clause.Assessed.{with_glue, improved, levels_in, TakesPart, Decays, TakePart, Rates, AreInvolved}
+use Rattle.sat_solver.specs.clause.Assessed.{with_glue, improved, levels_in, TakesPart, DecaysActivities, TakePart, Rates, AreInvolved}
 
 -- the header of a clause was put twice
 pub puts_twice : (a b c refs : List ℕ) (o : ℕ) (h k : Header) → PutsHeader a b refs o h → PutsHeader b c refs o k → PutsHeader a c refs o k
@@ -93,5 +93,5 @@ drop_all (o ∷ os) zero le = absurd (omega arith)
 drop_all (o ∷ os) (suc n) le = drop_all os n (omega arith)
 
 -- and when none is left, activities decay
-pub takes_last : (levels : ℕ → ℕ) (refs os : List ℕ) (n : ℕ) (words words' : List ℕ) (s s' : Scale) → length os ≤ n → Decays words words' refs s s' → TakePart levels refs (drop n os) words s words' s'
+pub takes_last : (levels : ℕ → ℕ) (refs os : List ℕ) (n : ℕ) (words words' : List ℕ) (s s' : Scale) → length os ≤ n → DecaysActivities words words' refs s s' → TakePart levels refs (drop n os) words s words' s'
 takes_last levels refs os n words words' s s' le h = subst (λ ps. TakePart levels refs ps words s words' s') (sym (drop_all os n le)) h

@@ -25,7 +25,7 @@ use Rattle.sat_parts.proofs.lemmas.parts.WordSteps.{extends_after, extends_refl}
 use Rattle.sat_solver.specs.session.Fits.{SessionMatchesParts}
 use Rattle.sat_solver.proofs.lemmas.fits.FramedParts.{fits_headed, fits_copied, fits_dropped_redundant}
 use Rattle.sat_solver.specs.declared.context.Search.{Search}
-use Rattle.sat_solver.specs.cdcl.Joint.{global_in, assumed_in, IsSearch, Moved, Leaves}
+use Rattle.sat_solver.specs.cdcl.Joint.{global_in, assumed_in, IsSearch, SameVarsAndAssumptions, SameAssumedAndNames}
 use Rattle.sat_solver.specs.unit_simplify.Left.{SameSize}
 use Rattle.sat_solver.specs.clause.Reduced.{IsLearnt, IsReason, Deleted, Reduced}
 use Rattle.sat_solver.proofs.lemmas.cdcl.TurnLemmas.{moved_refl, moved_trans, ready_moved, free_moved, leaves_refl}
@@ -76,10 +76,10 @@ pub reduced_deleted : (b : Bool) (o : ℕ) (s : Session) (c c' : Search) → Del
 reduced_deleted b o s c c' d = record { search = d.search; moved = d.moved; word = d.word (assumed_in c) }
 
 module _ (s s' : Session) (c c' : Search) (search : IsSearch s c) (globals : c'.globals ≡ c.globals) (assumptions : c'.assumptions ≡ c.assumptions) (analysis : c'.analysis ≡ c.analysis) (flags : c'.flags ≡ c.flags) where
-  pub still_moved : SameSize c.parts c'.parts → Moved c c'
+  pub still_moved : SameSize c.parts c'.parts → SameVarsAndAssumptions c c'
   still_moved size = record { globals = globals; lits = ap (λ a. a.lits) assumptions; size = size }
 
-  pub still : Leaves s s' → PartsInvariant c'.parts → SessionMatchesParts c'.parts s' (global_in c) → SameSize c.parts c'.parts → TrailWordExtends c.parts c'.parts → ArePlaced c.assumptions (state c'.parts) → IsSearch s' c'
+  pub still : SameAssumedAndNames s s' → PartsInvariant c'.parts → SessionMatchesParts c'.parts s' (global_in c) → SameSize c.parts c'.parts → TrailWordExtends c.parts c'.parts → ArePlaced c.assumptions (state c'.parts) → IsSearch s' c'
   still leaves holds fits size word placed = record {
     stands = record { holds = holds; fits = rw globals fits };
     ready = ready_moved s s' c c' search.ready leaves (still_moved size) (word (assumed_in c)).0 (rw assumptions placed) (free_moved c c' search.ready.free (still_moved size) analysis flags);

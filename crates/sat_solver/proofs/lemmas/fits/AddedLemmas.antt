@@ -7,7 +7,7 @@ use Rattle.sat_store.specs.clause.Header.{Header, is_learned}
 use Rattle.sat_checker.specs.LiteralSets.{is_among, is_tautology, canonical}
 use Rattle.sat_checker.proofs.lemmas.sets.Canonical.{same_tautology}
 use Rattle.sat_parts.specs.declared.prop.graph.Reason.{Reason}
-use Rattle.sat_parts.specs.clause.Db.{Db, HoldsDb, live_refs, AddsClause}
+use Rattle.sat_parts.specs.clause.Db.{Db, HoldsDb, live_refs, AddsLongClause}
 use Rattle.sat_parts.specs.clause.Orders.{AreDistinct, Shuffled}
 use Rattle.sat_parts.specs.prop.Binaries.{Binaries, with_binary}
 use Rattle.sat_parts.specs.prop.Graphs.{is_unit}
@@ -15,14 +15,14 @@ use Rattle.sat_parts.specs.prop.Values.{IsTrueLit, IsFalseLit}
 use Rattle.sat_parts.specs.prop.State.{State, node, level, lit_at, Agrees}
 use Rattle.sat_parts.proofs.lemmas.clause.OrderLemmas.{shuffled_trans}
 use Rattle.sat_parts.proofs.lemmas.prop.StateLemmas.{negated_variable, negated_twice, false_from_true, not_both}
-use Rattle.sat_solver.specs.session.Session.{Session, with_fact, with_clause, with_sorted, knowing_literals, after, May}
+use Rattle.sat_solver.specs.session.Session.{Session, with_fact, with_live_clause, with_sorted, knowing_literals, after, May}
 use Rattle.sat_solver.specs.session.LiveClauses.{LiveClause, with_var, AreMapped}
 use Rattle.sat_solver.proofs.lemmas.session.Mapped.{negated_mapped, apart}
 use Rattle.sat_solver.proofs.lemmas.session.StepsOfClauses.{short_leaves}
 use Rattle.sat_solver.specs.session.SolverClauses.{solver_clauses, Inserted}
 use Rattle.sat_solver.proofs.lemmas.trail.UnitLemmas.{fact_keeps, fact_only, fact_names, fact_width}
 use Rattle.sat_solver.proofs.lemmas.trail.InsertedLemmas.{inserted_first}
-use Rattle.sat_parts.specs.parts.Round.{AreUnits as AreBare}
+use Rattle.sat_parts.specs.parts.Round.{UnitsAreUncaused as AreBare}
 use Rattle.sat_parts.specs.parts.Frame.{IsUnitLit}
 use Rattle.sat_solver.specs.session.Fits.{is_redundant, SessionMatches}
 use Rattle.sat_solver.specs.session.Listed.{FitsList}
@@ -97,8 +97,8 @@ module _ (words live : List ℕ) (implied : List (List ℕ)) (st : State) (s : S
   pub fits_added_tautology : (ls : List ℕ) → is_tautology ls ≡ true → SessionMatches words live implied st (after (AddClause (map (with_var global) ls)) s) global
   fits_added_tautology ls taut =
       let ks : List ℕ = map (with_var global) ls in
-      let same : cond s.unsat s (with_clause false ks (knowing_literals ks s)) ≡ knowing_literals ks s =
-      ap (λ b. cond b s (with_clause false ks (knowing_literals ks s))) fits.consistent ∙ ap (λ b. cond b (knowing_literals ks s) (with_sorted false (canonical ks) (knowing_literals ks s))) (taut_carried global ls taut) in
+      let same : cond s.unsat s (with_live_clause false ks (knowing_literals ks s)) ≡ knowing_literals ks s =
+      ap (λ b. cond b s (with_live_clause false ks (knowing_literals ks s))) fits.consistent ∙ ap (λ b. cond b (knowing_literals ks s) (with_sorted false (canonical ks) (knowing_literals ks s))) (taut_carried global ls taut) in
       fits_listed words live implied st (after (AddClause ks) s) global
       (listed_stays all st s (after (AddClause ks) s) global its
       (record {
@@ -150,7 +150,7 @@ fits_added_binary words live x st s global agrees fits ls a b order differ small
 
 -- a long one
 pub fits_added_long_as : (words words' : List ℕ) (db db' : Db) (implied : List (List ℕ)) (st : State) (s : Session) (global : ℕ → ℕ) → Agrees st → SessionMatches words (live_refs words db.refs) implied st s global →
-    (ls ms : List ℕ) (o : ℕ) (header : Header) → HoldsDb words db → AddsClause words db words' db' o header ms → is_learned header.tier ≡ false → Shuffled ls ms → AreDistinct ls → 3 ≤ length ms →
+    (ls ms : List ℕ) (o : ℕ) (header : Header) → HoldsDb words db → AddsLongClause words db words' db' o header ms → is_learned header.tier ≡ false → Shuffled ls ms → AreDistinct ls → 3 ≤ length ms →
     AreMapped global s.solver_names ms → is_tautology ls ≡ false →
     SessionMatches words' (live_refs words' db'.refs) implied st (after (AddClause (map (with_var global) ls)) s) global
 fits_added_long_as words words' db db' implied st s global agrees fits ls ms o header held adds side order differ three names taut =

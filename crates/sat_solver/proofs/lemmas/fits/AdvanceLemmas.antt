@@ -26,7 +26,7 @@ use Rattle.sat_solver.specs.analyze_conflict.Advances.{IsStored, stored_long, st
 use Rattle.sat_solver.proofs.lemmas.analyze_conflict.Advancing.{IsLow, OthersLow, stored_low}
 use Rattle.sat_parts.specs.declared.parts.Parts.{Parts}
 use Rattle.sat_parts.specs.parts.Whole.{state, IsRefuted}
-use Rattle.sat_solver.specs.session.Fits.{is_redundant, SessionMatchesParts, HaveNames}
+use Rattle.sat_solver.specs.session.Fits.{is_redundant, SessionMatchesParts, TrueLitsHaveNames}
 use Rattle.sat_solver.specs.session.Advancing.{LeadsOn, StaysNew, Advances, AreConsistent, LearnedAdvancesIn}
 use Rattle.sat_solver.proofs.lemmas.fits.UsableLemmas.{among_place}
 use Rattle.sat_solver.proofs.lemmas.fits.FitLemmas.{among_at, among_back, in_either, long_of}
@@ -36,7 +36,7 @@ each : (P : ℕ → Type 0) (xs : List ℕ) (m : ℕ) → AllByRecursion P xs �
 each P [] m a e = absurd (true≢false (sym e))
 each P (x ∷ xs) m a e = elim (or_cases (eqb x m) (is_among xs m) e) [ inl q ↦ subst P (eqb-true x m q) a.0 | inr k ↦ each P xs m a.1 k ]
 
-module _ (p : Parts) (e : Conflict) (w : Work) (back : ℕ) (s : Session) (global : ℕ → ℕ) (refuted : IsRefuted p e) (fits : SessionMatchesParts p s global) (named_lits : HaveNames p.assignment.current s global) (learns : Learns p.clauses (state p) (falsified p.clauses e) w back) where
+module _ (p : Parts) (e : Conflict) (w : Work) (back : ℕ) (s : Session) (global : ℕ → ℕ) (refuted : IsRefuted p e) (fits : SessionMatchesParts p s global) (named_lits : TrueLitsHaveNames p.assignment.current s global) (learns : Learns p.clauses (state p) (falsified p.clauses e) w back) where
   abbrev all : List LiveClause
   all = solver_clauses (is_redundant p.clauses) p.clauses (live_refs p.clauses p.db.refs) p.binary.implied
 
@@ -197,7 +197,7 @@ pub learned_advances_in : LearnedAdvancesIn
 learned_advances_in p e w back s global picked reached refuted fits names learns h = advances p e w back s global refuted fits names learns picked reached h
 
 -- the same of the clause as it is written
-pub learned_clause_advances : (p : Parts) (e : Conflict) (w : Work) (back : ℕ) (s : Session) (global : ℕ → ℕ) → AreConsistent s.units → IsRefuted p e → SessionMatchesParts p s global → HaveNames p.assignment.current s global → Learns p.clauses (state p) (falsified p.clauses e) w back → Advances s (map (with_var global) w.clause)
+pub learned_clause_advances : (p : Parts) (e : Conflict) (w : Work) (back : ℕ) (s : Session) (global : ℕ → ℕ) → AreConsistent s.units → IsRefuted p e → SessionMatchesParts p s global → TrueLitsHaveNames p.assignment.current s global → Learns p.clauses (state p) (falsified p.clauses e) w back → Advances s (map (with_var global) w.clause)
 learned_clause_advances p e w back s global consistent refuted fits names learns = record {
   some = subst (λ n. 0 < n) (sym (length-map w.clause (with_var global))) learns.asserting.some;
   agree = subst (λ ls. AreConsistent (denied s ls)) (sym (rest_of (with_var global) w.clause)) (agrees p e w back s global refuted fits names learns consistent);

@@ -10,13 +10,13 @@ use Rattle.sat_solver.specs.session.Session.{Session, after}
 use Rattle.sat_solver.specs.session.LiveClauses.{LiveClause, with_var}
 use Rattle.sat_solver.specs.session.SolverClauses.{solver_clauses}
 use Rattle.sat_solver.specs.session.Fits.{is_redundant, SessionMatches}
-use Rattle.sat_solver.specs.session.Listed.{FitsList, SameFacts, Rests}
+use Rattle.sat_solver.specs.session.Listed.{FitsList, SameFacts, ChangesNoClause}
 use Rattle.sat_solver.proofs.lemmas.fits.UsableLemmas.{among_place}
 use Rattle.sat_solver.proofs.lemmas.fits.ListedLemmas.{listed, fits_listed, listed_stays}
 use Rattle.sat_solver.proofs.lemmas.fits.SetLemmas.{part_mapped}
 
 -- what these steps leave
-rests : (step : Step) (s : Session) → Rests step → SameFacts s (after step s) × (((r : Bool) (set : List ℕ) → (after step s).live r set ≡ s.live r set) × ((after step s).solver_names ≡ s.solver_names))
+rests : (step : Step) (s : Session) → ChangesNoClause step → SameFacts s (after step s) × (((r : Bool) (set : List ℕ) → (after step s).live r set ≡ s.live r set) × ((after step s).solver_names ≡ s.solver_names))
 rests (UserVarName v (Some name)) s h = (record { names = λ w. refl; units = λ l. refl; unsat = refl; width = refl }, (λ r set. refl, refl))
 rests (UserVarName v None) s h = (record { names = λ w. refl; units = λ l. refl; unsat = refl; width = refl }, (λ r set. refl, refl))
 rests (ChangeSamplingMode v sample) s h = (record { names = λ w. refl; units = λ l. refl; unsat = refl; width = refl }, (λ r set. refl, refl))
@@ -26,7 +26,7 @@ rests (FailedAssumptions core hashes) s h = (record { names = λ w. refl; units 
 rests End s h = (record { names = λ w. refl; units = λ l. refl; unsat = refl; width = refl }, (λ r set. refl, refl))
 rests step s h = absurd h
 
-module _ (st : State) (s : Session) (global : ℕ → ℕ) (step : Step) (quiet : Rests step) where
+module _ (st : State) (s : Session) (global : ℕ → ℕ) (step : Step) (quiet : ChangesNoClause step) where
   pub listed_rests : (cs : List LiveClause) → FitsList cs st s global → FitsList cs st (after step s) global
   listed_rests cs h = let x = rests step s quiet in listed_stays cs st s (after step s) global h x.0 x.1.1 x.1.0
 

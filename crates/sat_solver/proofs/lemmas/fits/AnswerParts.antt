@@ -10,11 +10,11 @@ use Rattle.sat_parts.specs.prop.State.{level}
 use Rattle.sat_solver.specs.session.Session.{Session, after, May}
 use Rattle.sat_solver.specs.session.LiveClauses.{with_var}
 use Rattle.sat_solver.specs.analyze_conflict.Marks.{IsReasoned}
-use Rattle.sat_solver.specs.analyze_conflict.Derivation.{clause_of, AreUnits}
+use Rattle.sat_solver.specs.analyze_conflict.Derivation.{clause_of, AreLevelZeroLits}
 use Rattle.sat_parts.specs.declared.parts.Parts.{Parts}
 use Rattle.sat_parts.specs.parts.Whole.{state, PartsInvariant}
 use Rattle.sat_solver.specs.session.Fits.{SessionMatchesParts}
-use Rattle.sat_solver.specs.session.Listed.{Rests}
+use Rattle.sat_solver.specs.session.Listed.{ChangesNoClause}
 use Rattle.sat_solver.proofs.lemmas.fits.AnswerLemmas.{fits_rests}
 use Rattle.sat_solver.proofs.lemmas.fits.CoreLemmas.{core_may, core_bottom_may}
 
@@ -22,13 +22,13 @@ module _ (p : Parts) (s : Session) (global : ℕ → ℕ) (fits : SessionMatches
   abbrev live : List ℕ
   live = live_refs p.clauses p.db.refs
 
-  pub parts_rests : (step : Step) → Rests step → SessionMatchesParts p (after step s) global
+  pub parts_rests : (step : Step) → ChangesNoClause step → SessionMatchesParts p (after step s) global
   parts_rests step quiet = fits_rests (state p) s global step quiet p.clauses live p.binary.implied fits
 
   module _ (holds : PartsInvariant p) where
     -- a core that clauses refute: those of the used literals, the last of which is falsified where the core is true
     pub parts_core_may : (core used assumed : List ℕ) → s.assumed ≡ map (with_var global) assumed → is_part core assumed ≡ true → ((k : ℕ) → k < length used → IsReasoned (state p) 0 (get_or used k 0)) →
-        ((units : List ℕ) → AreUnits (state p) units → UnitInTurn (core ++ units) (map (clause_of p.clauses (state p)) used)) →
+        ((units : List ℕ) → AreLevelZeroLits (state p) units → UnitInTurn (core ++ units) (map (clause_of p.clauses (state p)) used)) →
         May s (FailedAssumptions (map (with_var global) core) (map (λ l. hash_of (clause_of p.clauses (state p) l)) used))
     parts_core_may = core_may p.clauses live p.binary.implied (state p) s global fits holds.below.asks.agrees holds.below.asks.clauses holds.units holds.below.turns
 

@@ -5,7 +5,7 @@ use Rattle.std.specs.List.{Contains}
 use Rattle.sat_base.specs.values.Literals.{negated}
 use Rattle.sat_store.specs.clause.Buffer.{lits_at}
 use Rattle.sat_store.specs.clause.Header.{Header, is_learned}
-use Rattle.sat_parts.specs.clause.Db.{Db, HoldsDb, AreRising, is_live, live_refs, without, AddsClause, DeletesClause}
+use Rattle.sat_parts.specs.clause.Db.{Db, HoldsDb, AreRising, is_live, live_refs, without, AddsLongClause, DeletesClause}
 use Rattle.sat_parts.specs.clause.Orders.{AreDistinct, Shuffled}
 use Rattle.sat_parts.specs.prop.Binaries.{Binaries, with_binary}
 use Rattle.sat_parts.proofs.lemmas.clause.ListLemmas.{rising_tail, rising_above, rising_distinct, place_in, in_without}
@@ -44,7 +44,7 @@ module _ (words words' : List ℕ) (db db' : Db) (implied : List (List ℕ)) whe
   live' = live_refs words' db'.refs
 
   -- a long clause that came
-  pub added_there : (o : ℕ) (header : Header) (ls : List ℕ) (r : Bool) → HoldsDb words db → AddsClause words db words' db' o header ls → is_learned header.tier ≡ r →
+  pub added_there : (o : ℕ) (header : Header) (ls : List ℕ) (r : Bool) → HoldsDb words db → AddsLongClause words db words' db' o header ls → is_learned header.tier ≡ r →
       Inserted (solver_clauses (is_redundant words) words live implied) (solver_clauses (is_redundant words') words' live' implied) (record { redundant = r; literals = ls })
   added_there o header ls r held adds side =
       let its : longs (is_redundant words') words' live ≡ longs (is_redundant words) words live =

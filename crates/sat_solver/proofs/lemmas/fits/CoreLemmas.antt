@@ -14,14 +14,14 @@ use Rattle.sat_parts.specs.prop.State.{State, node, level, Agrees}
 use Rattle.sat_parts.specs.prop.Reasons.{AreInTurn}
 use Rattle.sat_parts.specs.prop.Values.{IsFalseLit}
 use Rattle.sat_parts.proofs.lemmas.prop.StateLemmas.{negated_twice, negated_variable, true_from_false}
-use Rattle.sat_checker.specs.Leading.{Leads}
-use Rattle.sat_solver.specs.session.Session.{Session, May, MayDerive, AreNamed, denied, by_clauses, by_derivation, by_signs, by_unit}
+use Rattle.sat_checker.specs.Leading.{LeadsToConflict}
+use Rattle.sat_solver.specs.session.Session.{Session, May, MayDerive, AreLiveByHash, denied, by_clauses, by_derivation, by_signs, by_unit}
 use Rattle.sat_solver.specs.session.LiveClauses.{with_var}
 use Rattle.sat_solver.proofs.lemmas.session.Mapped.{negated_mapped, among_mapped, leads_mapped, Carries}
 use Rattle.sat_solver.specs.session.TrailUnits.{IsUsable}
 use Rattle.sat_solver.specs.analyze_conflict.Marks.{IsReasoned}
-use Rattle.sat_solver.specs.analyze_conflict.Derivation.{clause_of, AreUnits}
-use Rattle.sat_parts.specs.parts.Round.{AreUnits as AreBare}
+use Rattle.sat_solver.specs.analyze_conflict.Derivation.{clause_of, AreLevelZeroLits}
+use Rattle.sat_parts.specs.parts.Round.{UnitsAreUncaused as AreBare}
 use Rattle.sat_solver.specs.session.Fits.{SessionMatches}
 use Rattle.sat_solver.proofs.lemmas.fits.MayLemmas.{bottom, bottom_units, leads_from_turns, AllUsable, named_by, place_usable, bottom_known}
 use Rattle.sat_solver.proofs.lemmas.fits.AnswerLemmas.{assumed_part}
@@ -47,24 +47,24 @@ module _ (words live : List ℕ) (implied : List (List ℕ)) (st : State) (s : S
         all_usable ls (λ k lt. r (suc k) (omega arith)),
       )
 
-  core_derives : (core used : List ℕ) → ((k : ℕ) → k < length used → IsReasoned st 0 (get_or used k 0)) → ((units : List ℕ) → AreUnits st units → UnitInTurn (core ++ units) (map (clause_of words st) used)) →
+  core_derives : (core used : List ℕ) → ((k : ℕ) → k < length used → IsReasoned st 0 (get_or used k 0)) → ((units : List ℕ) → AreLevelZeroLits st units → UnitInTurn (core ++ units) (map (clause_of words st) used)) →
       MayDerive s (map negated (map (with_var global) core)) (map (λ l. hash_of (clause_of words st l)) used)
   core_derives core used reasons acceptable =
       let cs : List (List ℕ) = map (clause_of words st) used in
       let known : ℕ → Bool = λ l. is_among core l || is_among (bottom st) l in
-      let units : AreUnits st (bottom st) = bottom_units st in
-      let leads : Leads known (map (clause_of words st) used) =
+      let units : AreLevelZeroLits st (bottom st) = bottom_units st in
+      let leads : LeadsToConflict known (map (clause_of words st) used) =
       leads_from_turns cs known (core ++ bottom st) (λ l k. sym (among-append core (bottom st) l) ∙ k) (acceptable (bottom st) units) in
       let ks : List ℕ = map negated (map (with_var global) core) in
       let carries : Carries global known (denied s ks) = λ l k. elim (or_cases (is_among core l) (is_among (bottom st) l) k) [
         | inl t ↦ or_left (is_among (map negated ks) (with_var global l)) (s.units (with_var global l)) (subst (λ ms. is_among ms (with_var global l) ≡ true) (sym (twice (map (with_var global) core))) (among_mapped (with_var global) core l t))
         | inr t ↦ or_right (is_among (map negated ks) (with_var global l)) (s.units (with_var global l)) (let o = units.only l t in bottom_known words live implied st s global fits clauses turns agrees bare l o.0 o.1)
       ] in
-      by_clauses (map (map (with_var global)) cs) (subst (AreNamed s (map (map (with_var global)) cs)) (hashes_of (clause_of words st) used) (named_by s global cs fits.width (all_usable used reasons)))
+      by_clauses (map (map (with_var global)) cs) (subst (AreLiveByHash s (map (map (with_var global)) cs)) (hashes_of (clause_of words st) used) (named_by s global cs fits.width (all_usable used reasons)))
       (leads_mapped global cs known (denied s ks) carries leads)
 
   pub core_may : (core used assumed : List ℕ) → s.assumed ≡ map (with_var global) assumed → is_part core assumed ≡ true → ((k : ℕ) → k < length used → IsReasoned st 0 (get_or used k 0)) →
-      ((units : List ℕ) → AreUnits st units → UnitInTurn (core ++ units) (map (clause_of words st) used)) →
+      ((units : List ℕ) → AreLevelZeroLits st units → UnitInTurn (core ++ units) (map (clause_of words st) used)) →
       May s (FailedAssumptions (map (with_var global) core) (map (λ l. hash_of (clause_of words st l)) used))
   core_may core used assumed e within reasons acceptable = (assumed_part s global core assumed e within, by_derivation (core_derives core used reasons acceptable))
 

@@ -12,7 +12,7 @@ use Rattle.sat_checker.specs.SortedSets.{NoRepeats}
 use Rattle.sat_checker.proofs.lemmas.sets.Canonical.{canonical_among, canonical_increasing, same_increasing}
 use Rattle.sat_parts.specs.declared.prop.graph.ImplNode.{ImplNode}
 use Rattle.sat_parts.specs.declared.prop.graph.Reason.{Reason}
-use Rattle.sat_parts.specs.clause.Orders.{Shuffled, Kept}
+use Rattle.sat_parts.specs.clause.Orders.{Shuffled, SameUpToOrder}
 use Rattle.sat_parts.specs.clause.Stored.{AreClauses}
 use Rattle.sat_parts.specs.prop.Graphs.{is_unit}
 use Rattle.sat_parts.specs.prop.Binaries.{Binaries, implied_by, with_implied, with_binary}
@@ -22,13 +22,13 @@ use Rattle.sat_parts.proofs.lemmas.clause.ListLemmas.{at_place, place_in}
 use Rattle.sat_parts.proofs.lemmas.prop.StateLemmas.{negated_twice, negated_variable, grows_enqueued, lit_last, node_new, true_new}
 use Rattle.sat_parts.proofs.lemmas.prop.RoomLemmas.{room_for}
 use Rattle.sat_checker.specs.Contents.{same_side, more_if}
-use Rattle.sat_solver.specs.session.Session.{Session, with_fact, with_live, with_clause, knowing_literals, after}
-use Rattle.sat_solver.specs.session.LiveClauses.{LiveClause, count_of, IsIn, with_var, mapped, AreMapped, AreOf}
+use Rattle.sat_solver.specs.session.Session.{Session, with_fact, with_live, with_live_clause, knowing_literals, after}
+use Rattle.sat_solver.specs.session.LiveClauses.{LiveClause, live_count_of, IsIn, with_var, mapped, AreMapped, AreOf}
 use Rattle.sat_solver.proofs.lemmas.session.Mapped.{negated_mapped, among_mapped, not_among, apart}
 use Rattle.sat_solver.proofs.lemmas.session.StepsOfClauses.{clause_long, short_leaves}
 use Rattle.sat_solver.specs.session.SolverClauses.{binaries, longs, solver_clauses}
 use Rattle.sat_solver.proofs.lemmas.trail.UnitLemmas.{fact_keeps, fact_gives, fact_only, fact_names, fact_width}
-use Rattle.sat_parts.specs.parts.Frame.{IsUnitLit, Carries}
+use Rattle.sat_parts.specs.parts.Frame.{IsUnitLit, AddsNoUnit}
 use Rattle.sat_parts.proofs.lemmas.parts.BinaryLemmas.{binary_all, binary_kept, binary_new, implied_kept, implied_new}
 use Rattle.sat_solver.specs.session.Fits.{ArePaired, is_redundant, SessionMatches}
 use Rattle.sat_solver.proofs.lemmas.fits.UsableLemmas.{among_place, once_distinct}
@@ -36,7 +36,7 @@ use Rattle.sat_solver.proofs.lemmas.trail.ClauseLemmas.{in_behind, long_there}
 
 -- WHERE NO UNIT IS NEW
 
-pub fits_carried : (words live : List ℕ) (implied : List (List ℕ)) (st st' : State) (s : Session) (global : ℕ → ℕ) → Carries st st' → SessionMatches words live implied st s global → SessionMatches words live implied st' s global
+pub fits_carried : (words live : List ℕ) (implied : List (List ℕ)) (st st' : State) (s : Session) (global : ℕ → ℕ) → AddsNoUnit st st' → SessionMatches words live implied st s global → SessionMatches words live implied st' s global
 fits_carried words live implied st st' s global c h = record {
   clauses = h.clauses;
   paired = h.paired;
@@ -106,19 +106,19 @@ pub all_at : (P : ℕ → Type 0) (xs : List ℕ) → ((k : ℕ) → k < length 
 all_at P [] h = tt
 all_at P (x ∷ xs) h = (h zero (omega arith), all_at P xs (λ k n. h (suc k) (omega arith)))
 
-counts_front : (f : LiveClause → LiveClause) (xs ys zs : List LiveClause) (r : Bool) (set : List ℕ) → count_of (map f ys) r set ≡ count_of (map f zs) r set → count_of (map f (xs ++ ys)) r set ≡ count_of (map f (xs ++ zs)) r set
+counts_front : (f : LiveClause → LiveClause) (xs ys zs : List LiveClause) (r : Bool) (set : List ℕ) → live_count_of (map f ys) r set ≡ live_count_of (map f zs) r set → live_count_of (map f (xs ++ ys)) r set ≡ live_count_of (map f (xs ++ zs)) r set
 counts_front f [] ys zs r set e = e
 counts_front f (x ∷ xs) ys zs r set e = ap (more_if (same_side (f x).redundant r && same_literals (canonical (f x).literals) set)) (counts_front f xs ys zs r set e)
 
 counts_kept : (global : ℕ → ℕ) (a b : ℕ → Bool) (words words' os : List ℕ) (r : Bool) (set : List ℕ) → ((o : ℕ) → Contains os o → (b o ≡ a o) × Shuffled (lits_at words o) (lits_at words' o)) →
-    count_of (map (mapped global) (longs a words os)) r set ≡ count_of (map (mapped global) (longs b words' os)) r set
+    live_count_of (map (mapped global) (longs a words os)) r set ≡ live_count_of (map (mapped global) (longs b words' os)) r set
 counts_kept global a b words words' [] r set h = refl
 counts_kept global a b words words' (o ∷ os) r set h =
     let x = h o (0, omega arith, refl) in
-    let rest : count_of (map (mapped global) (longs a words os)) r set ≡ count_of (map (mapped global) (longs b words' os)) r set =
+    let rest : live_count_of (map (mapped global) (longs a words os)) r set ≡ live_count_of (map (mapped global) (longs b words' os)) r set =
     counts_kept global a b words words' os r set (λ p c. h p (suc c.0, omega (arith, c.1), c.2)) in
-    ap (λ q. more_if (same_side q r && same_literals (canonical (map (with_var global) (lits_at words o))) set) (count_of (map (mapped global) (longs a words os)) r set)) (sym x.0)
-    ∙ ap (λ ks. more_if (same_side (b o) r && same_literals ks set) (count_of (map (mapped global) (longs a words os)) r set)) (canonical_shuffled (with_var global) (lits_at words o) (lits_at words' o) x.1)
+    ap (λ q. more_if (same_side q r && same_literals (canonical (map (with_var global) (lits_at words o))) set) (live_count_of (map (mapped global) (longs a words os)) r set)) (sym x.0)
+    ∙ ap (λ ks. more_if (same_side (b o) r && same_literals ks set) (live_count_of (map (mapped global) (longs a words os)) r set)) (canonical_shuffled (with_var global) (lits_at words o) (lits_at words' o) x.1)
     ∙ ap (more_if (same_side (b o) r && same_literals (canonical (map (with_var global) (lits_at words' o))) set)) rest
 
 -- a literal of a clause has its solver name
@@ -133,7 +133,7 @@ mapped_shuffled global names ls ms order h = all_at (λ l. names (global (variab
     let j = order.back k (omega (arith, order.size)) in
     subst (λ l. names (global (variable l)) ≡ Some (variable l)) j.1.1 (mapped_at global names ls j.0 h j.1.0))
 
-pub of_reordered : (words words' live : List ℕ) (implied : List (List ℕ)) (s : Session) (global : ℕ → ℕ) (count : ℕ) → AreClauses words' live count → Kept words words' live →
+pub of_reordered : (words words' live : List ℕ) (implied : List (List ℕ)) (s : Session) (global : ℕ → ℕ) (count : ℕ) → AreClauses words' live count → SameUpToOrder words words' live →
     AreOf s global (solver_clauses (is_redundant words) words live implied) → AreOf s global (solver_clauses (is_redundant words') words' live implied)
 of_reordered words words' live implied s global count clauses kept h = record {
   named = λ c k. elim (in_either c (binaries implied) (longs (is_redundant words') words' live) k) [
@@ -155,7 +155,7 @@ of_reordered words words' live implied s global count clauses kept h = record {
       (counts_kept global (is_redundant words) (is_redundant words') words words' live r set (λ o c. (ap (λ (x : Header). is_learned x.tier) (kept.headers o c), kept.lits o c)));
 }
 
-pub fits_reordered : (words words' live : List ℕ) (implied : List (List ℕ)) (st : State) (s : Session) (global : ℕ → ℕ) → AreClauses words' live (length st.values) → Kept words words' live →
+pub fits_reordered : (words words' live : List ℕ) (implied : List (List ℕ)) (st : State) (s : Session) (global : ℕ → ℕ) → AreClauses words' live (length st.values) → SameUpToOrder words words' live →
     SessionMatches words live implied st s global → SessionMatches words' live implied st s global
 fits_reordered words words' live implied st s global clauses kept h = record {
   clauses = of_reordered words words' live implied s global (length st.values) clauses kept h.clauses;
@@ -273,7 +273,7 @@ module _ (words live : List ℕ) (implied : List (List ℕ)) (st : State) (s : S
   fits_long_by words' live' implied' l r flag c hashes free below caused once long taut paired clauses =
       let g : Grows st (enqueued l r st) = grows_enqueued st l r agrees free below (room_for st l r agrees free below) in
       let known : Session = knowing_literals c s in
-      let same : with_clause flag c (knowing_literals c s) ≡ with_live flag (canonical c) (knowing_literals c s) = clause_long flag c known once long taut in
+      let same : with_live_clause flag c (knowing_literals c s) ≡ with_live flag (canonical c) (knowing_literals c s) = clause_long flag c known once long taut in
       record {
         clauses = clauses;
         paired = paired;

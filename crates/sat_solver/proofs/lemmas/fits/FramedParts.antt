@@ -20,7 +20,7 @@ use Rattle.sat_solver.specs.session.SolverClauses.{longs, solver_clauses}
 use Rattle.sat_parts.specs.declared.parts.Parts.{Parts}
 use Rattle.sat_parts.specs.parts.Round.{IsUnused}
 use Rattle.sat_parts.specs.parts.Whole.{state, PartsInvariant}
-use Rattle.sat_parts.specs.parts.Frame.{Carries, SameState, Headed, Dropped, Shortened, Copied, Removed, Grown, Freed, Stores, stores_binary, stores_long, IsUnitLit}
+use Rattle.sat_parts.specs.parts.Frame.{AddsNoUnit, SameState, Headed, Dropped, Shortened, Copied, Removed, Grown, Freed, AddsOriginalClause, stores_binary, stores_long, IsUnitLit}
 use Rattle.sat_solver.specs.session.Fits.{ArePaired, is_redundant, SessionMatchesParts}
 use Rattle.sat_solver.specs.session.Listed.{LeftParts, ArePlain}
 use Rattle.sat_solver.proofs.lemmas.fits.FitLemmas.{longs_same, fits_carried, two_of}
@@ -98,7 +98,7 @@ module _ (p p' : Parts) (s : Session) (global : ℕ → ℕ) (fits : SessionMatc
             record { derive = x.derive; delete = x.delete; fits = rw (same_state p p' short.same.0, short.same.1, short.db) x.fits }
 
       -- the part has two literals: it is stored, and then the clause goes
-      module _ (pm : Parts) (two : length part ≡ 2) (stores : Stores p pm part) (drops : Dropped pm p' o) (are : AreTwo (state p) (lits_at p.clauses o) (get_or part 0 0) (get_or part 1 0)) where
+      module _ (pm : Parts) (two : length part ≡ 2) (stores : AddsOriginalClause p pm part) (drops : Dropped pm p' o) (are : AreTwo (state p) (lits_at p.clauses o) (get_or part 0 0) (get_or part 1 0)) where
         abbrev a : ℕ
         a = get_or part 0 0
 
@@ -111,9 +111,9 @@ module _ (p p' : Parts) (s : Session) (global : ℕ → ℕ) (fits : SessionMatc
         record Between : Type 0 where
           gone : DeletesClause p.clauses p.db p'.clauses p'.db o
           pairs : p'.binary ≡ with_binary a b p.binary
-          carries : Carries (state p) (state p')
+          carries : AddsNoUnit (state p) (state p')
 
-        between : Stores p pm part → Between
+        between : AddsOriginalClause p pm part → Between
         between (stores_long three q adds pairs carries) = absurd (omega arith)
         between (stores_binary e words list pairs carries) = record {
           gone = subst (λ (ws : List ℕ). DeletesClause ws p.db p'.clauses p'.db o) words (subst (λ (d : Db). DeletesClause pm.clauses d p'.clauses p'.db o) list drops.deletes);

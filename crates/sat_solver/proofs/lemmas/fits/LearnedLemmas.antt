@@ -15,7 +15,7 @@ use Rattle.sat_store.specs.heap.Vsids.{Queue}
 use Rattle.sat_checker.specs.LiteralSets.{is_tautology}
 use Rattle.sat_checker.specs.SortedSets.{NoRepeats}
 use Rattle.sat_parts.specs.declared.prop.graph.Reason.{Reason}
-use Rattle.sat_parts.specs.clause.Db.{Db, HoldsDb, live_refs, AddsClause}
+use Rattle.sat_parts.specs.clause.Db.{Db, HoldsDb, live_refs, AddsLongClause}
 use Rattle.sat_parts.specs.clause.Orders.{AreDistinct}
 use Rattle.sat_parts.specs.prop.Binaries.{Binaries, with_binary}
 use Rattle.sat_parts.specs.prop.Graphs.{is_unit}
@@ -37,7 +37,7 @@ use Rattle.sat_solver.specs.analyze_conflict.Derivation.{Learns}
 use Rattle.sat_parts.specs.declared.parts.Parts.{Parts}
 use Rattle.sat_parts.specs.parts.Whole.{state, PartsInvariant}
 use Rattle.sat_parts.specs.parts.Learned.{IsLearned, IsPending}
-use Rattle.sat_parts.specs.parts.Frame.{SameClauses, Learnt, learnt_unit, learnt_binary, learnt_long, Carries}
+use Rattle.sat_parts.specs.parts.Frame.{SameClauses, Learnt, learnt_unit, learnt_binary, learnt_long, AddsNoUnit}
 use Rattle.sat_parts.proofs.lemmas.parts.LearnLemmas.{pending_below}
 use Rattle.sat_solver.specs.session.Fits.{is_redundant, SessionMatches, SessionMatchesParts, FlagFits}
 use Rattle.sat_solver.proofs.lemmas.fits.UsableLemmas.{once_distinct}
@@ -118,7 +118,7 @@ module _ (s : Session) (global : ℕ → ℕ) (header : Header) (ls hashes : Lis
         fits_long_by words (live_refs words db.refs) x.implied st s global agrees fits words (live_refs words db.refs) (with_binary (get_or ls 0 0) (get_or ls 1 0) x).implied (get_or ls 0 0) r flag (map (with_var global) ls) hashes
         pending.open_first pending.there caused (once_mapped global s.solver_names ls mapped_here once_here) (mapped_long (omega arith)) plain (paired_binary x a b first second differ fits.paired) comes
 
-    pub learnt_as_long : (r : Reason) (words' : List ℕ) (db' : Db) (o : ℕ) → is_unit r ≡ false → 3 ≤ length ls → HoldsDb words db → AddsClause words db words' db' o header ls →
+    pub learnt_as_long : (r : Reason) (words' : List ℕ) (db' : Db) (o : ℕ) → is_unit r ≡ false → 3 ≤ length ls → HoldsDb words db → AddsLongClause words db words' db' o header ls →
         SessionMatches words' (live_refs words' db'.refs) x.implied (enqueued (get_or ls 0 0) r st) now global
     learnt_as_long r words' db' o caused three held adds =
         let live : List ℕ = live_refs words db.refs in
@@ -153,7 +153,7 @@ fits_learnt p p' s global header ls hashes flag flags taut names holds pending (
     rw (is, b) (learnt_as_long s global header ls hashes flag flags taut names p.clauses p.db p.binary (state p) p.vsids holds.below.asks.agrees fits pending r p'.clauses p'.db o caused three holds.below.held adds)
 
 -- levels that are undone
-pub fits_undone : (p p' : Parts) (s : Session) (global : ℕ → ℕ) → SameClauses p p' → Carries (state p) (state p') → SessionMatchesParts p s global → SessionMatchesParts p' s global
+pub fits_undone : (p p' : Parts) (s : Session) (global : ℕ → ℕ) → SameClauses p p' → AddsNoUnit (state p) (state p') → SessionMatchesParts p s global → SessionMatchesParts p' s global
 fits_undone p p' s global same carries fits =
     rw (same.0, same.1, same.2) (fits_carried p.clauses (live_refs p.clauses p.db.refs) p.binary.implied (state p) (state p') s global carries fits)
 

@@ -8,7 +8,7 @@ use Rattle.sat_checker.specs.SortedSets.{NoRepeats}
 use Rattle.sat_checker.proofs.lemmas.sets.Subsets.{any_true}
 use Rattle.sat_parts.specs.clause.Orders.{Shuffled}
 use Rattle.sat_parts.specs.prop.State.{State}
-use Rattle.sat_solver.specs.session.Session.{Session, with_clause, with_live, without_live, knowing_literals, after, May, MayReplace}
+use Rattle.sat_solver.specs.session.Session.{Session, with_live_clause, with_live, without_live, knowing_literals, after, May, MayReplace}
 use Rattle.sat_solver.specs.session.LiveClauses.{LiveClause, IsIn, with_var, mapped, AreMapped, AreOf}
 use Rattle.sat_solver.proofs.lemmas.session.Lists.{in_counts}
 use Rattle.sat_solver.proofs.lemmas.session.Mapped.{once_mapped, among_mapped}
@@ -60,7 +60,7 @@ module _ (s : Session) (global : ℕ → ℕ) (ls ms : List ℕ) (c : MayCome s.
   set = canonical (map (with_var global) ms)
 
   -- what it makes of the session
-  pub comes_as : (r : Bool) (t : Session) → with_clause r ks t ≡ with_live r set t
+  pub comes_as : (r : Bool) (t : Session) → with_live_clause r ks t ≡ with_live r set t
   comes_as r t =
       clause_of_set r ks set t (set_shuffled (with_var global) ls ms c.order)
       (let e : length (canonical (map (with_var global) ms)) ≡ length (map (with_var global) ms) = length_sorted (map (with_var global) ms) (once_mapped global s.solver_names ms c.mapped c.once) in
@@ -73,7 +73,7 @@ module _ (s : Session) (global : ℕ → ℕ) (ls ms : List ℕ) (c : MayCome s.
     listed_derived hashes =
         let d : LiveClause = record { redundant = r; literals = ms } in
         let t : Session = after (AtClause r ks hashes) s in
-        let same : with_clause r ks (knowing_literals ks s) ≡ with_live r set (knowing_literals ks s) = comes_as r (knowing_literals ks s) in
+        let same : with_live_clause r ks (knowing_literals ks s) ≡ with_live r set (knowing_literals ks s) = comes_as r (knowing_literals ks s) in
         let from : AreOf s global (i.before ++ i.behind) = subst (λ cs. AreOf s global cs) i.was h.clauses in
         listed_as old st s global h t new
         (record {
@@ -90,7 +90,7 @@ module _ (s : Session) (global : ℕ → ℕ) (ls ms : List ℕ) (c : MayCome s.
 pub listed_by : (cs : List LiveClause) (st : State) (s : Session) (global : ℕ → ℕ) (ks hashes : List ℕ) → s.unsat ≡ false →
     FitsList cs st (after (AtClause false ks hashes) s) global → FitsList cs st (after (AddClause ks) s) global
 listed_by cs st s global ks hashes u h =
-    let same : cond s.unsat s (with_clause false ks (knowing_literals ks s)) ≡ with_clause false ks (knowing_literals ks s) = ap (λ b. cond b s (with_clause false ks (knowing_literals ks s))) u in
+    let same : cond s.unsat s (with_live_clause false ks (knowing_literals ks s)) ≡ with_live_clause false ks (knowing_literals ks s) = ap (λ b. cond b s (with_live_clause false ks (knowing_literals ks s))) u in
     listed_stays cs st (after (AtClause false ks hashes) s) (after (AddClause ks) s) global h
     (record {
       names = λ v. ap (λ (x : Session). x.solver_names v) same;

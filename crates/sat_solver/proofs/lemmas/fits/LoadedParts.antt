@@ -23,7 +23,7 @@ use Rattle.sat_parts.specs.declared.parts.Parts.{Parts}
 use Rattle.sat_parts.specs.declared.parts.load.Loaded.{Loaded}
 use Rattle.sat_parts.specs.declared.parts.load.Loaded.TheVariants.{Stored, Unit as One, Satisfied, Falsified}
 use Rattle.sat_parts.specs.parts.Whole.{state, PartsInvariant}
-use Rattle.sat_parts.specs.parts.Frame.{GainsUnit, Stores, stores_binary, stores_long, IsUnitLit}
+use Rattle.sat_parts.specs.parts.Frame.{GainsUnit, AddsOriginalClause, stores_binary, stores_long, IsUnitLit}
 use Rattle.sat_parts.specs.parts.Loading.{LoadSays}
 use Rattle.sat_solver.specs.session.Fits.{is_redundant, SessionMatches, SessionMatchesParts}
 use Rattle.sat_solver.specs.session.Listed.{FitsList}
@@ -99,7 +99,7 @@ module _ (p p' : Parts) (s : Session) (global : ℕ → ℕ) (holds : PartsInvar
   abbrev added : Session
   added = after (AddClause (map (with_var global) given)) s
 
-  pub fits_stored : Stores p p' ls → SessionMatchesParts p' added global
+  pub fits_stored : AddsOriginalClause p p' ls → SessionMatchesParts p' added global
   fits_stored (stores_binary two words list pairs carries) =
       let is : Shuffled given (get_or ls 0 0 ∷ get_or ls 1 0 ∷ []) = subst (λ ms. Shuffled given ms) (two_of ls two) order in
       rw (words, list, pairs)

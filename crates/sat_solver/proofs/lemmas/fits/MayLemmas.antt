@@ -15,16 +15,16 @@ use Rattle.sat_parts.specs.prop.Values.{IsTrueLit}
 use Rattle.sat_parts.specs.prop.State.{State, node, level, lit_at, Agrees}
 use Rattle.sat_parts.specs.prop.Reasons.{AreInTurn}
 use Rattle.sat_parts.proofs.lemmas.prop.RoomLemmas.{below_from_value}
-use Rattle.sat_checker.specs.Leading.{Leads}
-use Rattle.sat_solver.specs.session.Session.{Session, AreNamed, denied, by_clauses}
+use Rattle.sat_checker.specs.Leading.{LeadsToConflict}
+use Rattle.sat_solver.specs.session.Session.{Session, AreLiveByHash, denied, by_clauses}
 use Rattle.sat_solver.specs.session.LiveClauses.{with_var}
 use Rattle.sat_solver.proofs.lemmas.session.Mapped.{leads_mapped, denied_mapped}
 use Rattle.sat_solver.specs.session.TrailUnits.{IsUsable}
 use Rattle.sat_solver.specs.session.AnswerFacts.{is_true}
 use Rattle.sat_solver.proofs.lemmas.trail.AnswerLemmas.{true_lit, lit_true}
 use Rattle.sat_solver.specs.analyze_conflict.Marks.{IsReasoned}
-use Rattle.sat_solver.specs.analyze_conflict.Derivation.{clause_of, AreUnits}
-use Rattle.sat_parts.specs.parts.Round.{AreUnits as AreBare}
+use Rattle.sat_solver.specs.analyze_conflict.Derivation.{clause_of, AreLevelZeroLits}
+use Rattle.sat_parts.specs.parts.Round.{UnitsAreUncaused as AreBare}
 use Rattle.sat_solver.specs.session.Fits.{SessionMatches}
 use Rattle.sat_solver.specs.session.FitLaws.{named_clauses, LearnedMay}
 use Rattle.sat_solver.proofs.lemmas.fits.UsableLemmas.{reason_usable, conflict_usable, reason_clauses}
@@ -59,7 +59,7 @@ is_bottom st l = is_true st.values l && eqb (level st l) 0
 abbrev pub bottom : State → List ℕ
 bottom st = upto (is_bottom st) (2 * length st.values)
 
-pub bottom_units : (st : State) → AreUnits st (bottom st)
+pub bottom_units : (st : State) → AreLevelZeroLits st (bottom st)
 bottom_units st = record {
   all = λ l t z.
       let lt : variable l < length st.values = below_from_value st.values (variable l) _ t in
@@ -79,7 +79,7 @@ others_known : (known : ℕ → Bool) (us c : List ℕ) (o : ℕ) → ((l : ℕ)
 others_known known us [] o m h = tt
 others_known known us (l ∷ ls) o m h = (elim h.0 [ inl e ↦ inl e | inr k ↦ inr (m (negated l) k) ], others_known known us ls o m h.1)
 
-pub leads_from_turns : (cs : List (List ℕ)) (known : ℕ → Bool) (us : List ℕ) → ((l : ℕ) → is_among us l ≡ true → known l ≡ true) → UnitInTurn us cs → Leads known cs
+pub leads_from_turns : (cs : List (List ℕ)) (known : ℕ → Bool) (us : List ℕ) → ((l : ℕ) → is_among us l ≡ true → known l ≡ true) → UnitInTurn us cs → LeadsToConflict known cs
 leads_from_turns [] known us m h = h
 leads_from_turns (c ∷ []) known us m h = all_known known us c m h
 leads_from_turns (c ∷ d ∷ cs) known us m h = (
@@ -99,7 +99,7 @@ AllUsable s global (c ∷ cs) = IsUsable s global c × AllUsable s global cs
 pub whole : (s : Session) (h : ℕ) → s.width ≡ 64 → h ≡ h / 2 ^ (64 - s.width)
 whole s h e = (let one : h ≡ h / 1 = omega arith in one) ∙ ap (λ w. h / 2 ^ (64 - w)) (sym e)
 
-pub named_by : (s : Session) (global : ℕ → ℕ) (cs : List (List ℕ)) → s.width ≡ 64 → AllUsable s global cs → AreNamed s (map (map (with_var global)) cs) (map hash_of cs)
+pub named_by : (s : Session) (global : ℕ → ℕ) (cs : List (List ℕ)) → s.width ≡ 64 → AllUsable s global cs → AreLiveByHash s (map (map (with_var global)) cs) (map hash_of cs)
 named_by s global [] w h = tt
 named_by s global (c ∷ cs) w h = (h.0.live, whole s (hash_of c) w ∙ h.0.hash, named_by s global cs w h.1)
 
@@ -134,11 +134,11 @@ pub learned_may : LearnedMay
 learned_may words live implied st s global e w back fits agrees clauses bare turns conflict learns =
     let us : List ℕ = bottom st in
     let known : ℕ → Bool = λ l. is_among (map negated w.clause) l || is_among (bottom st) l in
-    let units : AreUnits st (bottom st) = bottom_units st in
+    let units : AreLevelZeroLits st (bottom st) = bottom_units st in
     let all : AllUsable s global (named_clauses words st w.used e) =
     all_used words live implied st s global fits clauses turns w.used (falsified words e) learns.reasons (conflict_usable words live implied s global fits.clauses fits.paired st.values e conflict) in
-    let leads : Leads known (named_clauses words st w.used e) =
+    let leads : LeadsToConflict known (named_clauses words st w.used e) =
     leads_from_turns (named_clauses words st w.used e) known (map negated w.clause ++ bottom st) (λ l k. sym (among-append (map negated w.clause) (bottom st) l) ∙ k) (learns.acceptable (bottom st) units) in
-    by_clauses (map (map (with_var global)) (named_clauses words st w.used e)) (subst (AreNamed s (map (map (with_var global)) (named_clauses words st w.used e))) (hashes_same (clause_of words st) w.used (falsified words e)) (named_by s global (named_clauses words st w.used e) fits.width all))
+    by_clauses (map (map (with_var global)) (named_clauses words st w.used e)) (subst (AreLiveByHash s (map (map (with_var global)) (named_clauses words st w.used e))) (hashes_same (clause_of words st) w.used (falsified words e)) (named_by s global (named_clauses words st w.used e) fits.width all))
     (leads_mapped global (named_clauses words st w.used e) known (denied s (map (with_var global) w.clause))
     (denied_mapped global s w.clause (is_among (bottom st)) (λ l k. let o = units.only l k in bottom_known words live implied st s global fits clauses turns agrees bare l o.0 o.1)) leads)

@@ -23,7 +23,7 @@ use Rattle.sat_parts.specs.declared.parts.Parts.{Parts}
 use Rattle.sat_parts.specs.parts.Whole.{AllAssigned, IsModelled}
 use Rattle.sat_parts.proofs.lemmas.parts.ValueLemmas.{open_or_true}
 use Rattle.sat_solver.specs.session.Units.{AreTrueLits}
-use Rattle.sat_solver.specs.session.Fits.{is_redundant, SessionMatchesParts, HaveNames}
+use Rattle.sat_solver.specs.session.Fits.{is_redundant, SessionMatchesParts, TrueLitsHaveNames}
 use Rattle.sat_solver.proofs.lemmas.fits.FitLemmas.{among_at, among_back, long_of, in_either}
 
 -- a clause of the list of those of two literals stands in a list of implied literals
@@ -84,7 +84,7 @@ among_in : (xs : List ℕ) (a b l : ℕ) → xs ≡ a ∷ b ∷ [] → (l ≡ a)
 among_in xs a b l e (inl q) = subst (λ ys. is_among ys l ≡ true) (sym e) (or_left (eqb a l) (is_among (b ∷ []) l) (eq-eqb a l (sym q)))
 among_in xs a b l e (inr q) = subst (λ ys. is_among ys l ≡ true) (sym e) (or_right (eqb a l) (is_among (b ∷ []) l) (or_left (eqb b l) false (eq-eqb b l (sym q))))
 
-module _ (p : Parts) (s : Session) (global : ℕ → ℕ) (fits : SessionMatchesParts p s global) (names : HaveNames p.assignment.current s global) (room : length p.binary.implied ≡ 2 * length p.assignment.current) where
+module _ (p : Parts) (s : Session) (global : ℕ → ℕ) (fits : SessionMatchesParts p s global) (names : TrueLitsHaveNames p.assignment.current s global) (room : length p.binary.implied ≡ 2 * length p.assignment.current) where
   named_true : (l : ℕ) → IsTrueLit p.assignment.current l → s.solver_names (global (variable l)) ≡ Some (variable l)
   named_true l t = names l t
 

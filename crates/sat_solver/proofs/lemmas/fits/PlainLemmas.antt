@@ -7,7 +7,7 @@ use Rattle.sat_checker.specs.LiteralSets.{is_part, is_tautology, canonical, same
 use Rattle.sat_checker.proofs.lemmas.sets.Canonical.{canonical_tautology, tautology_from, both_signs}
 use Rattle.sat_checker.proofs.lemmas.meaning.Clauses.{same}
 use Rattle.sat_checker.specs.Contents.{same_side, more_if, less_if}
-use Rattle.sat_solver.specs.session.Session.{Session, with_fact, with_facts, with_live, with_sorted, with_clause, knowing_literals, without_live, changed, session_after}
+use Rattle.sat_solver.specs.session.Session.{Session, with_fact, with_facts, with_live, with_sorted, with_live_clause, knowing_literals, without_live, changed, session_after}
 use Rattle.sat_solver.proofs.lemmas.session.StepsOfClauses.{fact_stays, facts_stay}
 use Rattle.sat_solver.specs.session.Listed.{ArePlain}
 use Rattle.sat_solver.proofs.lemmas.fits.SetLemmas.{part_has}
@@ -46,7 +46,7 @@ plain_sorted r [] s n h = h
 plain_sorted r (l ∷ []) s n h = plain_same s (with_fact l s) (fact_stays l s).live h
 plain_sorted r (l ∷ m ∷ ls) s n h = plain_live r (l ∷ m ∷ ls) s n h
 
-plain_clause : (r : Bool) (c : List ℕ) (s : Session) → ArePlain s → ArePlain (with_clause r c s)
+plain_clause : (r : Bool) (c : List ℕ) (s : Session) → ArePlain s → ArePlain (with_live_clause r c s)
 plain_clause r c s h = go (is_tautology c) refl
   where
     go : (b : Bool) → is_tautology c ≡ b → ArePlain (cond b s (with_sorted r (canonical c) s))
@@ -65,7 +65,7 @@ plain_changed (DeleteVar v) s h = h
 plain_changed (ChangeSamplingMode v sample) s h = h
 plain_changed (AddClause clause) s h = go s.unsat
   where
-    go : (b : Bool) → ArePlain (cond b s (with_clause false clause (knowing_literals clause s)))
+    go : (b : Bool) → ArePlain (cond b s (with_live_clause false clause (knowing_literals clause s)))
     go true = h
     go false = plain_clause false clause (knowing_literals clause s) h
 plain_changed (AtClause redundant clause hashes) s h = plain_clause redundant clause (knowing_literals clause s) h

@@ -6,12 +6,12 @@ use Rattle.std.specs.List.{AllByRecursion, list_any}
 use Rattle.sat_base.specs.values.Literals.{negated}
 use Rattle.sat_base.specs.steps.Steps.{Step, SolverVarName, UserVarName, DeleteVar, ChangeSamplingMode, AddClause, AtClause, UnitClauses, DeleteClause, ChangeHashBits, Model, Assumptions, FailedAssumptions, End}
 use Rattle.sat_checker.specs.LiteralSets.{is_among}
-use Rattle.sat_checker.specs.Leading.{Leads}
+use Rattle.sat_checker.specs.Leading.{LeadsToConflict}
 use Rattle.sat_parts.proofs.lemmas.prop.StateLemmas.{negated_twice}
-use Rattle.sat_solver.specs.session.Session.{Session, IsLive, AreNamed, denied, MayDerive, by_unit, by_clauses}
+use Rattle.sat_solver.specs.session.Session.{Session, IsLive, AreLiveByHash, denied, MayDerive, by_unit, by_clauses}
 use Rattle.sat_solver.proofs.lemmas.session.Mapped.{among_mapped}
 use Rattle.sat_solver.specs.session.Coming.{EachIsAllowed}
-use Rattle.sat_solver.specs.session.Quiet.{others_of, Opens, are_few, is_quiet, AreQuiet, ComesQuietly, QuietNeverAdvances}
+use Rattle.sat_solver.specs.session.Quiet.{others_of, LeavesLiteralOpen, are_few, is_quiet, AreQuiet, ComesQuietly, QuietNeverAdvances}
 
 -- LISTS
 
@@ -84,7 +84,7 @@ unit_in s (x ∷ xs) e = elim (or_cases (s.units x) (list_any s.units xs) e) [
   | inr k ↦ let h = unit_in s xs k in record { unit = h.unit; among = or_right (eqb x h.unit) (is_among xs h.unit) h.among; is = h.is }
 ]
 
-module _ (s : Session) (clause : List ℕ) (l : ℕ) (o : Opens s clause l) where
+module _ (s : Session) (clause : List ℕ) (l : ℕ) (o : LeavesLiteralOpen s clause l) where
   abbrev holds : ℕ → Bool
   holds = denied s (others_of l clause)
 
@@ -138,7 +138,7 @@ module _ (s : Session) (clause : List ℕ) (l : ℕ) (o : Opens s clause l) wher
     | inr f ↦ let new = o.stays [] holds (λ m t. t) in new.no_conflict c live (no_open c f (all_split c h))
   ]
 
-  by_few : (named : List (List ℕ)) (hashes : List ℕ) → are_few hashes ≡ true → AreNamed s named hashes → Leads (denied s clause) named → ⊥
+  by_few : (named : List (List ℕ)) (hashes : List ℕ) → are_few hashes ≡ true → AreLiveByHash s named hashes → LeadsToConflict (denied s clause) named → ⊥
   by_few [] hashes few n h = h
   by_few (c ∷ []) [] few n h = n
   by_few (c ∷ []) (x ∷ hashes) few n h = by_one c n.0 h
@@ -147,7 +147,7 @@ module _ (s : Session) (clause : List ℕ) (l : ℕ) (o : Opens s clause l) wher
   by_few (c ∷ d ∷ cs) (x ∷ y ∷ hashes) few n h = true≢false (sym few)
 
 -- nothing of the clause is new then
-clause_never : (s : Session) (clause hashes : List ℕ) → MayDerive s clause hashes → are_few hashes ≡ true → (l : ℕ) → Opens s clause l → ⊥
+clause_never : (s : Session) (clause hashes : List ℕ) → MayDerive s clause hashes → are_few hashes ≡ true → (l : ℕ) → LeavesLiteralOpen s clause l → ⊥
 clause_never s clause hashes may few l o = elim may [
   | by_unit u ↦ by_a_unit s clause l o (unit_in s clause u)
   | by_clauses named n h ↦ by_few s clause l o named hashes few n h

@@ -18,7 +18,7 @@ use Rattle.sat_solver.specs.session.SolverClauses.{pair, binaries, longs, Insert
 use Rattle.sat_solver.proofs.lemmas.trail.InsertedLemmas.{inserted_before}
 use Rattle.sat_solver.proofs.lemmas.trail.OpenLemmas.{binaries_open}
 use Rattle.sat_solver.proofs.lemmas.trail.LeftLemmas.{left_start, left_list, left_end, left_other, left_open, left_set}
-use Rattle.sat_parts.specs.parts.Round.{AreUnits as AreBare}
+use Rattle.sat_parts.specs.parts.Round.{UnitsAreUncaused as AreBare}
 use Rattle.sat_parts.proofs.lemmas.parts.ValueLemmas.{open_or_true}
 use Rattle.sat_solver.specs.session.Fits.{ArePaired, is_redundant, SessionMatches}
 use Rattle.sat_solver.specs.session.Listed.{FitsList}

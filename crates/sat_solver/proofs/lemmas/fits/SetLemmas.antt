@@ -7,7 +7,7 @@ use Rattle.sat_checker.specs.SortedSets.{NoRepeats}
 use Rattle.sat_checker.proofs.lemmas.sets.Canonical.{canonical_among, canonical_increasing, same_increasing, same_tautology, tautology_from, both_signs}
 use Rattle.sat_checker.proofs.lemmas.sets.Subsets.{all_true}
 use Rattle.sat_parts.specs.clause.Orders.{AreDistinct, Shuffled}
-use Rattle.sat_solver.specs.session.Session.{Session, with_clause, with_sorted, with_live}
+use Rattle.sat_solver.specs.session.Session.{Session, with_live_clause, with_sorted, with_live}
 use Rattle.sat_solver.specs.session.LiveClauses.{with_var}
 use Rattle.sat_solver.proofs.lemmas.session.Mapped.{negated_mapped, among_mapped}
 use Rattle.sat_solver.proofs.lemmas.fits.UsableLemmas.{among_place, once_distinct}
@@ -74,7 +74,7 @@ part_mapped f xs ys h = all_true (is_among (map f ys)) (map f xs) (λ y t.
     subst (λ z. is_among (map f ys) z ≡ true) p.1.1 (among_mapped f ys p.0 (part_has xs ys p.0 h p.1.0)))
 
 -- a clause of two literals or more, of which the sorted set is known
-pub clause_of_set : (r : Bool) (c set : List ℕ) (s : Session) → canonical c ≡ set → 1 < length set → is_tautology c ≡ false → with_clause r c s ≡ with_live r set s
+pub clause_of_set : (r : Bool) (c set : List ℕ) (s : Session) → canonical c ≡ set → 1 < length set → is_tautology c ≡ false → with_live_clause r c s ≡ with_live r set s
 clause_of_set r c set s e n t = ap (λ b. cond b s (with_sorted r (canonical c) s)) t ∙ ap (λ x. with_sorted r x s) e ∙ long set n
   where
     long : (set : List ℕ) → 1 < length set → with_sorted r set s ≡ with_live r set s

@@ -26,7 +26,7 @@ use Rattle.sat_solver.specs.session.TrailEntries.{reason_clause}
 use Rattle.sat_solver.proofs.lemmas.fits.MayLemmas.{whole}
 use Rattle.sat_solver.proofs.lemmas.trail.UnitLemmas.{trail_units_may, fact_keeps, fact_gives, fact_only, fact_names, fact_width}
 use Rattle.sat_parts.specs.parts.Frame.{Clears}
-use Rattle.sat_solver.specs.session.Fits.{is_redundant, SessionMatches, HaveNames}
+use Rattle.sat_solver.specs.session.Fits.{is_redundant, SessionMatches, TrueLitsHaveNames}
 use Rattle.sat_solver.specs.session.Units.{written_lits, FitsAll}
 use Rattle.sat_solver.proofs.lemmas.fits.UsableLemmas.{reason_usable, conflict_usable}
 use Rattle.sat_solver.proofs.lemmas.fits.FitLemmas.{fact_unsat, all_at}
@@ -125,7 +125,7 @@ module _ (st : State) (global : ℕ → ℕ) where
       go true ih = ih
       go false ih = or_right (eqb l (get_or ls k 0)) (is_among (written_lits st ls) (get_or ls k 0)) ih
 
-module _ (words live : List ℕ) (implied : List (List ℕ)) (st : State) (s : Session) (global : ℕ → ℕ) (fits : SessionMatches words live implied st s global) (names : HaveNames st.values s global) (agrees : Agrees st) (clauses : AreClauses words live (length st.values)) (turns : AreInTurn words live implied st 0) (bottom : length st.trail.starts ≡ 0) where
+module _ (words live : List ℕ) (implied : List (List ℕ)) (st : State) (s : Session) (global : ℕ → ℕ) (fits : SessionMatches words live implied st s global) (names : TrueLitsHaveNames st.values s global) (agrees : Agrees st) (clauses : AreClauses words live (length st.values)) (turns : AreInTurn words live implied st 0) (bottom : length st.trail.starts ≡ 0) where
   low : (l : ℕ) → IsTrueLit st.values l → level st l ≡ 0
   low l t = (let h : level st l ≤ current_level st = level_low st l agrees t in omega arith)
 

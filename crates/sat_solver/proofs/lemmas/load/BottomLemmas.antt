@@ -9,23 +9,23 @@ use Rattle.sat_base.specs.steps.Steps.{Assumptions as Asks}
 use Rattle.sat_parts.specs.prop.State.{State}
 use Rattle.sat_parts.specs.declared.parts.Parts.{Parts}
 use Rattle.sat_parts.specs.declared.parts.assumptions.Assumptions.{Assumptions}
-use Rattle.sat_parts.specs.parts.Assumed.{ArePlaced, AreThere, variables}
-use Rattle.sat_parts.specs.parts.Frame.{SameClauses, Carries}
+use Rattle.sat_parts.specs.parts.Assumed.{ArePlaced, HaveVariablesIn, variables}
+use Rattle.sat_parts.specs.parts.Frame.{SameClauses, AddsNoUnit}
 use Rattle.sat_parts.specs.parts.Whole.{state, PartsInvariant}
 use Rattle.sat_parts.specs.parts.Words.{TrailWordStays}
 use Rattle.sat_solver.proofs.lemmas.fits.AnswerParts.{parts_rests}
 use Rattle.sat_solver.proofs.lemmas.fits.LearnedLemmas.{fits_undone}
 use Rattle.sat_solver.specs.declared.context.Search.{Search}
-use Rattle.sat_solver.specs.cdcl.Joint.{global_in, assumed_in, Moved}
+use Rattle.sat_solver.specs.cdcl.Joint.{global_in, assumed_in, SameVarsAndAssumptions}
 use Rattle.sat_solver.proofs.lemmas.cdcl.TurnLemmas.{ready_moved, free_moved, leaves_refl}
 use Rattle.sat_solver.specs.load.Bottom.{AtBottom}
 use Rattle.sat_solver.specs.assumptions.Setting.{AreAssumed}
 
-pub at_bottom : (c : Search) (p : Parts) (a : Assumptions) → p.trail.starts ≡ [] → PartsInvariant p → SameClauses c.parts p → Carries (state c.parts) (state p) → TrailWordStays c.parts p → ArePlaced a (state p) → a.lits ≡ c.assumptions.lits →
+pub at_bottom : (c : Search) (p : Parts) (a : Assumptions) → p.trail.starts ≡ [] → PartsInvariant p → SameClauses c.parts p → AddsNoUnit (state c.parts) (state p) → TrailWordStays c.parts p → ArePlaced a (state p) → a.lits ≡ c.assumptions.lits →
     AtBottom c (record c { parts = p; assumptions = a })
 at_bottom c p a bottom holds same carries stay placed lits =
     let c' : Search = record c { parts = p; assumptions = a } in
-    let moved : Moved c c' = record { globals = refl; lits = lits; size = carries.size } in
+    let moved : SameVarsAndAssumptions c c' = record { globals = refl; lits = lits; size = carries.size } in
     record {
       bottom = bottom;
       holds = holds;
@@ -65,7 +65,7 @@ variables_mention (l ∷ ls) v (zero, lt, e) = or_left (eqb (variable l) v) (men
 variables_mention (l ∷ ls) v (suc k, lt, e) = or_right (eqb (variable l) v) (mentions ls v) (variables_mention ls v (k, omega arith, e))
 
 -- other literals are assumed
-pub assumed : (c : Search) (a : Assumptions) → c.parts.trail.starts ≡ [] → AreThere a.lits.items c.parts → ((s : State) → s.trail.starts ≡ [] → ArePlaced a s) → AreAssumed a.lits.items c (record c { assumptions = a })
+pub assumed : (c : Search) (a : Assumptions) → c.parts.trail.starts ≡ [] → HaveVariablesIn a.lits.items c.parts → ((s : State) → s.trail.starts ≡ [] → ArePlaced a s) → AreAssumed a.lits.items c (record c { assumptions = a })
 assumed c a bottom there placed = record {
   lits = refl;
   same = refl;

@@ -12,14 +12,14 @@ use Rattle.sat_parts.specs.clause.Db.{live_refs}
 use Rattle.sat_parts.specs.prop.Values.{value_of, IsTrueLit}
 use Rattle.sat_parts.specs.prop.State.{State, level}
 use Rattle.sat_solver.specs.session.Session.{Session}
-use Rattle.sat_solver.specs.session.LiveClauses.{LiveClause, IsIn, with_var, mapped, count_of, AreMapped, AreOf}
+use Rattle.sat_solver.specs.session.LiveClauses.{LiveClause, IsIn, with_var, mapped, live_count_of, AreMapped, AreOf}
 use Rattle.sat_solver.specs.session.SolverClauses.{solver_clauses}
 use Rattle.sat_parts.specs.declared.parts.Parts.{Parts}
 use Rattle.sat_parts.specs.parts.Assumed.{IsPlaced, ArePlaced, variables}
 use Rattle.sat_parts.specs.parts.Frame.{Grown, IsUnitLit}
 use Rattle.sat_parts.specs.parts.Whole.{state, PartsInvariant}
 use Rattle.sat_parts.specs.parts.Words.{IsIdle}
-use Rattle.sat_solver.specs.session.Fits.{is_redundant, SessionMatchesParts, HaveNames}
+use Rattle.sat_solver.specs.session.Fits.{is_redundant, SessionMatchesParts, TrueLitsHaveNames}
 use Rattle.sat_solver.specs.session.Naming.{global_of}
 use Rattle.sat_solver.proofs.lemmas.fits.AddedLemmas.{unit_true}
 use Rattle.sat_solver.proofs.lemmas.fits.CodeLemmas.{coded_by}
@@ -32,7 +32,7 @@ use Rattle.sat_solver.specs.declared.context.Search.{Search}
 use Rattle.sat_solver.specs.cdcl.Joint.{global_in, assumed_in, IsFree, IsSearch}
 use Rattle.sat_solver.proofs.lemmas.cdcl.TurnLemmas.{ready_names}
 use Rattle.sat_solver.specs.load.Bottom.{AtBottom}
-use Rattle.sat_solver.specs.variables.Initialized.{GivesLit, IsVacant, AreVacant, TakesIndices, Renames, IsGivenTo, GivesNames, AreIndexed}
+use Rattle.sat_solver.specs.variables.Initialized.{GivesLit, IsVacant, AreVacant, TakesIndices, Renames, IsGivenTo, GivesNames, GivesSearchIndices}
 use Rattle.sat_solver.proofs.lemmas.load.IndexLemmas.{given_or_not, lit_given}
 
 -- two maps of literals agree where their variables do
@@ -63,7 +63,7 @@ module _ (f h : ℕ → ℕ) (p q : ℕ → Option ℕ) (stays : (v : ℕ) → p
   of_on s t cs ep eq live a = record {
     named = λ c k. subst (λ z. AreMapped h z c.literals) (sym eq) (mapped_on c.literals (subst (λ z. AreMapped f z c.literals) ep (a.named c k)));
     once = a.once;
-    counts = λ r set. ap (λ z. z r set) live ∙ a.counts r set ∙ ap (λ ds. count_of ds r set) (clauses_on cs (λ c k. subst (λ z. AreMapped f z c.literals) ep (a.named c k)));
+    counts = λ r set. ap (λ z. z r set) live ∙ a.counts r set ∙ ap (λ ds. live_count_of ds r set) (clauses_on cs (λ c k. subst (λ z. AreMapped f z c.literals) ep (a.named c k)));
   }
 
 record Found (globals : List ℕ) (s t : Session) (x : ℕ) : Type 0 where
@@ -152,7 +152,7 @@ module _ (c c1 c2 c3 : Search) (globals : List ℕ) (gs : List Given) (count : �
     fits2 : SessionMatchesParts c2.parts s (global_in c)
     fits2 = fits_undone c1.parts c2.parts s (global_in c) back.same back.carries (fits_grown c.parts c1.parts count s (global_in c) holds (omega (arith, next, more)) grown x.stands.fits)
 
-    names : HaveNames c.parts.assignment.current s (global_in c)
+    names : TrueLitsHaveNames c.parts.assignment.current s (global_in c)
     names = ready_names s c x.ready
 
     -- units of before are of variables that had solver names
@@ -262,7 +262,7 @@ module _ (c c1 c2 c3 : Search) (globals : List ℕ) (gs : List Given) (count : �
       };
     }
 
-  pub indexed : AreIndexed globals gs c c3
+  pub indexed : GivesSearchIndices globals gs c c3
   indexed = record {
     named = renamed.named;
     others = others;
@@ -342,7 +342,7 @@ none_given globals count s t c x g = record {
 }
 
 -- where no index was given, a search that went back to level 0 has all of them
-pub none_indexed : (globals : List ℕ) (c c' : Search) → length c.globals.items ≡ length c.parts.assignment.current → AtBottom c c' → AreIndexed globals [] c c'
+pub none_indexed : (globals : List ℕ) (c c' : Search) → length c.globals.items ≡ length c.parts.assignment.current → AtBottom c c' → GivesSearchIndices globals [] c c'
 none_indexed globals c c' next back =
     let kept : length c'.globals.items ≡ length c.globals.items = ap (λ v. length v.items) back.moved.globals in
     record {

@@ -7,7 +7,7 @@ use Rattle.sat_store.specs.declared.clause.alloc.StoreError.{StoreError}
 use Rattle.sat_store.specs.declared.clause.alloc.StoreError.TheVariants as stores
 use Rattle.sat_solver.specs.Recovery.{failure_of}
 use Rattle.sat_solver.specs.declared.proof.Proof.{Proof}
-use Rattle.sat_solver.specs.proof.ProofView.{Keeps}
+use Rattle.sat_solver.specs.proof.ProofView.{HasAllowedSteps}
 use Rattle.sat_solver.proofs.lemmas.session.ProofLemmas.{adds_none}
 use Rattle.sat_solver.specs.cdcl.Going.{EmitsStepsOr}
 use Rattle.sat_parts.specs.prop.State.{Agrees}
@@ -21,7 +21,7 @@ use Rattle.sat_parts.specs.parts.Whole.{state, PartsInvariant}
 use Rattle.sat_parts.proofs.lemmas.parts.LoadFrames.{carries_same, says_size, says_units}
 use Rattle.sat_parts.proofs.lemmas.parts.SortLemmas.{shuffled_last}
 use Rattle.sat_parts.proofs.lemmas.parts.WordSteps.{fits_below}
-use Rattle.sat_solver.specs.session.Session.{Session, May, after, session_after, with_clause, knowing_literals}
+use Rattle.sat_solver.specs.session.Session.{Session, May, after, session_after, with_live_clause, knowing_literals}
 use Rattle.sat_solver.specs.session.Coming.{IsLastAdded}
 use Rattle.sat_solver.specs.session.LiveClauses.{with_var}
 use Rattle.sat_solver.specs.session.Fits.{SessionMatchesParts}
@@ -31,7 +31,7 @@ use Rattle.sat_solver.proofs.lemmas.fits.LearnedLemmas.{fits_undone}
 use Rattle.sat_solver.proofs.lemmas.fits.LoadedParts.{fits_loaded}
 use Rattle.sat_solver.specs.declared.context.Search.{Search}
 use Rattle.sat_solver.specs.declared.context.Scratch.{Scratch}
-use Rattle.sat_solver.specs.cdcl.Joint.{global_in, IsSearch, Moved, Leaves, AreUsed, assumed_in}
+use Rattle.sat_solver.specs.cdcl.Joint.{global_in, IsSearch, SameVarsAndAssumptions, SameAssumedAndNames, AreNamedOrIdle, assumed_in}
 use Rattle.sat_solver.proofs.lemmas.cdcl.AskedLemmas.{asked_after, leaves_after}
 use Rattle.sat_solver.proofs.lemmas.cdcl.TurnLemmas.{free_moved, moved_trans}
 use Rattle.sat_solver.specs.load.Bottom.{AtBottom}
@@ -50,14 +50,14 @@ use Rattle.sat_solver.proofs.lemmas.load.BottomLemmas.{mention_named}
 -- what is assumed stays so as a clause is added
 pub asked_added : (ks : List ℕ) (earlier : List Step) → (session_after earlier).unsat ≡ false → (session_after (AddClause ks ∷ earlier)).assumed ≡ (session_after earlier).assumed
 asked_added ks earlier consistent =
-    ap (λ b. (cond b (session_after earlier) (with_clause false ks (knowing_literals ks (session_after earlier)))).assumed) consistent ∙ asked_after (AtClause false ks [] ∷ []) earlier (refl, tt)
+    ap (λ b. (cond b (session_after earlier) (with_live_clause false ks (knowing_literals ks (session_after earlier)))).assumed) consistent ∙ asked_after (AtClause false ks [] ∷ []) earlier (refl, tt)
 
 -- and the solver names
-pub leaves_added : (ks : List ℕ) (earlier : List Step) → (session_after earlier).unsat ≡ false → Leaves (session_after earlier) (session_after (AddClause ks ∷ earlier))
+pub leaves_added : (ks : List ℕ) (earlier : List Step) → (session_after earlier).unsat ≡ false → SameAssumedAndNames (session_after earlier) (session_after (AddClause ks ∷ earlier))
 leaves_added ks earlier consistent = record {
   assumed = asked_added ks earlier consistent;
   names = λ v.
-      ap (λ b. (cond b (session_after earlier) (with_clause false ks (knowing_literals ks (session_after earlier)))).solver_names v) consistent ∙ (leaves_after (AtClause false ks [] ∷ []) earlier (refl, tt)).names v;
+      ap (λ b. (cond b (session_after earlier) (with_live_clause false ks (knowing_literals ks (session_after earlier)))).solver_names v) consistent ∙ (leaves_after (AtClause false ks [] ∷ []) earlier (refl, tt)).names v;
 }
 
 -- different literals of these variables are few
@@ -72,11 +72,11 @@ mentions_at [] k lt = absurd (omega arith)
 mentions_at (l ∷ ls) zero lt = or_left (eqb (variable l) (variable l)) (mentions ls (variable l)) (eq-eqb (variable l) (variable l) refl)
 mentions_at (l ∷ ls) (suc k) lt = or_right (eqb (variable l) (variable (get_or ls k 0))) (mentions ls (variable (get_or ls k 0))) (mentions_at ls k (omega arith))
 
-leaves_both : (s t u : Session) → Leaves s t → Leaves t u → Leaves s u
+leaves_both : (s t u : Session) → SameAssumedAndNames s t → SameAssumedAndNames t u → SameAssumedAndNames s u
 leaves_both s t u x y = record { assumed = y.assumed ∙ x.assumed; names = λ v. y.names v ∙ x.names v }
 
 -- nothing was written, and then the clause buffer refused
-pub goes_unstored : {A W L full : Type 0} {G : Ghosts L} (seen : W → Writer) (e : StoreError) (p : Proof W L G) (P : A → List Step → Type 0) → Keeps p → (e ≡ stores.StoreFull → full) → EmitsStepsOr full seen (Err (failure_of e)) p p P
+pub goes_unstored : {A W L full : Type 0} {G : Ghosts L} (seen : W → Writer) (e : StoreError) (p : Proof W L G) (P : A → List Step → Type 0) → HasAllowedSteps p → (e ≡ stores.StoreFull → full) → EmitsStepsOr full seen (Err (failure_of e)) p p P
 goes_unstored seen stores.StoreFull p P keeps f = record { steps = []; went = adds_none seen p; searched = tt; quiet = tt; keeps = keeps; kept = tt; loss = refl; ends = f refl }
 goes_unstored seen stores.OutOfMemory p P keeps f = record { steps = []; went = adds_none seen p; searched = tt; quiet = tt; keeps = keeps; kept = tt; loss = inl refl; ends = tt }
 
@@ -113,7 +113,7 @@ module _ (c : Search) (ls : List ℕ) (steps : List Step) (added : IsAdded steps
   fits2 r says =
       fits_loaded p1 p2 s (global_in c) holds1 fits1 (rw ready.1.2 may.bottom) ls ms (shuffled_last p1.assignment.current ls) may.differ (rw same_values may.below) may.plain added.named r says
 
-  moved2 : (r : Loaded) → LoadSays r p1 p2 ms → Moved c c2
+  moved2 : (r : Loaded) → LoadSays r p1 p2 ms → SameVarsAndAssumptions c c2
   moved2 r says = record { globals = refl; lits = refl; size = says_size r p1 p2 ms says ∙ ap (λ a. length a.current) same_values }
 
   none_some : {A : Type 0} (x : A) → None ≡ Some x → ⊥
@@ -138,9 +138,9 @@ module _ (c : Search) (ls : List ℕ) (steps : List Step) (added : IsAdded steps
     idle.2,
   )
 
-  used2 : (r : Loaded) → LoadSays r p1 p2 ms → (t : Session) → Leaves s t → AreUsed t c'
+  used2 : (r : Loaded) → LoadSays r p1 p2 ms → (t : Session) → SameAssumedAndNames s t → AreNamedOrIdle t c'
   used2 r says t leaves v lt =
-      let m : Moved c c' = moved_trans c c2 c' (moved2 r says) back.moved in
+      let m : SameVarsAndAssumptions c c' = moved_trans c c2 c' (moved2 r says) back.moved in
       elim (added.search.ready.used v (subst (λ n. v < n) m.size lt)) [
         | inl own ↦ inl (rw m.globals (leaves.names (global_in c v) ∙ own))
         | inr idle ↦ elim (cases_Bool (mentions ls v)) [
@@ -149,9 +149,9 @@ module _ (c : Search) (ls : List ℕ) (steps : List Step) (added : IsAdded steps
         ]
       ]
 
-  whole : (r : Loaded) → LoadSays r p1 p2 ms → (t : Session) → Leaves s t → SessionMatchesParts p2 t (global_in c) → IsSearch t c'
+  whole : (r : Loaded) → LoadSays r p1 p2 ms → (t : Session) → SameAssumedAndNames s t → SessionMatchesParts p2 t (global_in c) → IsSearch t c'
   whole r says t leaves fits =
-      let m : Moved c c' = moved_trans c c2 c' (moved2 r says) back.moved in
+      let m : SameVarsAndAssumptions c c' = moved_trans c c2 c' (moved2 r says) back.moved in
       record {
         stands = record { holds = back.holds; fits = rw back.moved.globals (fits_undone p2 c'.parts t (global_in c) back.same back.carries fits) };
         ready = record {
@@ -163,7 +163,7 @@ module _ (c : Search) (ls : List ℕ) (steps : List Step) (added : IsAdded steps
         };
       }
 
-  asked : Leaves s (session_after steps)
+  asked : SameAssumedAndNames s (session_after steps)
   asked = rw added.added (leaves_added (map (with_var (global_in c)) ls) added.earlier added.search.stands.fits.consistent)
 
   now : session_after steps ≡ after (AddClause (map (with_var (global_in c)) ls)) s

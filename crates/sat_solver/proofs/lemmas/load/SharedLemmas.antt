@@ -7,12 +7,12 @@ use Rattle.sat_solver.specs.session.Session.{Session}
 use Rattle.sat_solver.specs.session.LiveClauses.{with_var, AreMapped}
 use Rattle.sat_solver.specs.variables.Variables.{AreTidy, AreSaid, solver_of, global_at, indices_used}
 use Rattle.sat_solver.specs.load.Literals as adding
-use Rattle.sat_solver.specs.variables.Search.{KeepsSearch, IsGiven, HasGiven, Gives}
+use Rattle.sat_solver.specs.variables.Search.{KeepsSearch, IsGiven, HasGiven, GivesIndices}
 use Rattle.sat_solver.specs.declared.variables.solver_vars.Given.{Given}
 use Rattle.sat_solver.specs.declared.variables.Variables.{Variables}
 use Rattle.sat_solver.specs.declared.context.Search.{Search}
 use Rattle.sat_solver.specs.cdcl.Joint.{global_in, IsSearch}
-use Rattle.sat_solver.specs.variables.Initialized.{AreVacant, IsGivenTo, GivesNames, AreIndexed}
+use Rattle.sat_solver.specs.variables.Initialized.{AreVacant, IsGivenTo, GivesNames, GivesSearchIndices}
 use Rattle.sat_solver.specs.variables.Shared.{SharesIndices}
 use Rattle.sat_solver.proofs.lemmas.load.GivenLemmas.{are_vacant}
 use Rattle.sat_solver.proofs.lemmas.load.IndexLemmas.{given_or_not}
@@ -20,7 +20,7 @@ use Rattle.sat_solver.proofs.lemmas.load.IndexLemmas.{given_or_not}
 none_some : {x : ℕ} {o : Option ℕ} → o ≡ None → o ≡ Some x → ⊥
 none_some e f = cc
 
-module _ (old new : Variables) (s t : Session) (gs : List Given) (tidy : AreTidy old) (tidy' : AreTidy new) (said : AreSaid old s) (names : (v : ℕ) → t.solver_names v ≡ solver_of new v) (gives : Gives old new s gs) (keeps : KeepsSearch s t) where
+module _ (old new : Variables) (s t : Session) (gs : List Given) (tidy : AreTidy old) (tidy' : AreTidy new) (said : AreSaid old s) (names : (v : ℕ) → t.solver_names v ≡ solver_of new v) (gives : GivesIndices old new s gs) (keeps : KeepsSearch s t) where
   given_to : (g : Given) → IsGiven old new s g → IsGivenTo new.globals.items s t g
   given_to g i =
       let its : get_or new.globals.items g.solver 0 ≡ i.variable = tidy'.globals g.solver i.variable i.taken in
@@ -54,7 +54,7 @@ module _ (old new : Variables) (s t : Session) (gs : List Given) (tidy : AreTidy
     given_vacant h = are_vacant new.globals.items s t c (length new.globals.items) gs h (all_given gs gives.each) (all_below gs gives.each) gives.apart
 
     -- and then it has those of the names
-    pub shares_given : (c' : Search) → AreIndexed new.globals.items gs c c' → SharesIndices new c'
+    pub shares_given : (c' : Search) → GivesSearchIndices new.globals.items gs c c' → SharesIndices new c'
     shares_given c' a = record { size = a.size; few = (let k = tidy'.globals_count in let u = gives.used in let f = shares.few in let le = a.few (omega arith) in omega arith); below = below; same = same }
       where
         has_below : (ks : List Given) (x : ℕ) → AllByRecursion (λ g. g.solver < length c'.globals.items) ks → HasGiven ks x → x < length c'.globals.items

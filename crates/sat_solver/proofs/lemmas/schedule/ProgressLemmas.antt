@@ -2,11 +2,11 @@
 use Rattle.std.proofs.Common.{◌≡◌, ℕ, zero, suc, ◌+◌, ◌-◌, ◌*◌, ◌^◌, ◌<◌, ◌≤◌, ◌⊎◌, inl, inr, List, arith, sym, ap, ◌∙◌, subst, min}
 use Rattle.std.proofs.lemmas.Bool.{cases_lt}
 use Rattle.sat_parts.specs.prop.TrailWord.{Letter}
-use Rattle.sat_store.specs.schedule.Luby.{luby, behind}
-use Rattle.sat_solver.specs.schedule.Ranks.{rank}
+use Rattle.sat_store.specs.schedule.Luby.{luby, wrapped_number}
+use Rattle.sat_solver.specs.schedule.Ranks.{word_rank}
 use Rattle.sat_solver.specs.schedule.Gaps.{given_after, gap_end}
-use Rattle.sat_solver.specs.schedule.Progress.{IsComing, IsLong, Progress}
-use Rattle.sat_solver.specs.schedule.Climbing.{Keeps, Climbs, StartsAnew, HasCome}
+use Rattle.sat_solver.specs.schedule.Progress.{IsComing, IsLong, AskProgress}
+use Rattle.sat_solver.specs.schedule.Climbing.{ExtendsEachWord, Climbs, StartsAnew, HasCome}
 use Rattle.sat_solver.proofs.lemmas.schedule.RankLemmas.{rank_below, rank_begins, rank_rises}
 use Rattle.sat_solver.proofs.lemmas.schedule.GapLemmas.{long_ahead, pow_double, pow_mono}
 
@@ -35,7 +35,7 @@ times_mono : (g a b : ℕ) → g ≤ a → g * b ≤ a * b
 times_mono g a b h = grind arith
 
 -- an ask begins
-pub progress_begins : (n round next given : ℕ) (w : List Letter) → n < 63 → Progress n round round next given w
+pub progress_begins : (n round next given : ℕ) (w : List Letter) → n < 63 → AskProgress n round round next given w
 progress_begins n round next given w few =
     let l : (d : ℕ) × ((d + 1 < 2 ^ suc (n + 1)) × (2 ^ (n + 1) ≤ luby (given_after d given + 1))) = long_ahead (n + 1) given (omega arith) in
     record {
@@ -46,14 +46,14 @@ progress_begins n round next given w few =
       due = inl (record { ahead = l.0; few = omega (arith, l.1.0, pow_two_next n); long = l.1.1 });
     }
 
-rank_few : (n : ℕ) (w : List Letter) → rank n w + 1 < 2 ^ (n + 1)
+rank_few : (n : ℕ) (w : List Letter) → word_rank n w + 1 < 2 ^ (n + 1)
 rank_few n w = omega (arith, rank_below n w, pow_next n)
 
-gaps_few : (n start round next given : ℕ) (w : List Letter) (p : Progress n start round next given w) → p.gaps + 1 ≤ 2 ^ (n + 2)
+gaps_few : (n start round next given : ℕ) (w : List Letter) (p : AskProgress n start round next given w) → p.gaps + 1 ≤ 2 ^ (n + 2)
 gaps_few n start round next given w p = elim p.due [ inl x ↦ omega (arith, x.few) | inr x ↦ x.few ]
 
 -- it has come to few rounds
-pub progress_few : (n start round next given : ℕ) (w : List Letter) → Progress n start round next given w → round + 1 < start + 2 ^ (2 * n + 3)
+pub progress_few : (n start round next given : ℕ) (w : List Letter) → AskProgress n start round next given w → round + 1 < start + 2 ^ (2 * n + 3)
 progress_few n start round next given w p =
     omega (arith, p.spent, p.risen, rank_few n w, times_next p.gaps (2 ^ (n + 1)), times_mono (p.gaps + 1) (2 ^ (n + 2)) (2 ^ (n + 1)) (gaps_few n start round next given w p), pow_whole n)
 
@@ -67,11 +67,11 @@ long_begun n round term scale some h = elim (cases_lt (round + term * scale) (2 
 ]
 
 -- it restarts
-pub progress_restarts : (n start round next given scale : ℕ) (w v : List Letter) → round < 2 ^ 64 - 1 → next ≤ round → 0 < scale → Progress n start round next given w →
-    Progress n start round (gap_end round (luby (given + 1)) scale) (behind (given + 1)) v
+pub progress_restarts : (n start round next given scale : ℕ) (w v : List Letter) → round < 2 ^ 64 - 1 → next ≤ round → 0 < scale → AskProgress n start round next given w →
+    AskProgress n start round (gap_end round (luby (given + 1)) scale) (wrapped_number (given + 1)) v
 progress_restarts n start round next given scale w v counts over some p =
     let spent : round + 2 * (p.gaps + 1) ≤ start + (p.gaps + 1) * 2 ^ (n + 1) = omega (arith, p.spent, p.risen, rank_few n w, times_next p.gaps (2 ^ (n + 1))) in
-    let Next : Type 0 = IsComing n (p.gaps + 1) (behind (given + 1)) ⊎ IsLong n (p.gaps + 1) round (gap_end round (luby (given + 1)) scale) in
+    let Next : Type 0 = IsComing n (p.gaps + 1) (wrapped_number (given + 1)) ⊎ IsLong n (p.gaps + 1) round (gap_end round (luby (given + 1)) scale) in
     let due : Next = elim p.due [
       | inl x ↦ coming x.ahead x.few x.long
       | inr x ↦ absurd (elim x.long [
@@ -82,17 +82,17 @@ progress_restarts n start round next given scale w v counts over some p =
     record { gaps = p.gaps + 1; base = round; spent = spent; risen = omega arith; due = due }
   where
     coming : (d : ℕ) → p.gaps + d + 2 ≤ 2 ^ (n + 2) → 2 ^ (n + 1) ≤ luby (given_after d given + 1) →
-        IsComing n (p.gaps + 1) (behind (given + 1)) ⊎ IsLong n (p.gaps + 1) round (gap_end round (luby (given + 1)) scale)
+        IsComing n (p.gaps + 1) (wrapped_number (given + 1)) ⊎ IsLong n (p.gaps + 1) round (gap_end round (luby (given + 1)) scale)
     coming zero few long = inr (record { few = omega arith; long = long_begun n round (luby (given + 1)) scale some long })
     coming (suc d) few long = inl (record { ahead = d; few = omega arith; long = long })
 
 -- a round
-pub progress_climbs : (n start round next given : ℕ) (w v : List Letter) → rank n w < rank n v → Progress n start round next given w → Progress n start (round + 1) next given v
+pub progress_climbs : (n start round next given : ℕ) (w v : List Letter) → word_rank n w < word_rank n v → AskProgress n start round next given w → AskProgress n start (round + 1) next given v
 progress_climbs n start round next given w v lt p =
     record { gaps = p.gaps; base = p.base; spent = p.spent; risen = omega (arith, p.risen); due = p.due }
 
 -- what stands between rounds
-pub progress_keeps : (n start round next given : ℕ) (w v : List Letter) → rank n w ≤ rank n v → Progress n start round next given w → Progress n start round next given v
+pub progress_keeps : (n start round next given : ℕ) (w v : List Letter) → word_rank n w ≤ word_rank n v → AskProgress n start round next given w → AskProgress n start round next given v
 progress_keeps n start round next given w v le p =
     record { gaps = p.gaps; base = p.base; spent = p.spent; risen = omega (arith, p.risen); due = p.due }
 
@@ -102,15 +102,15 @@ come_climbs words s t n start round next given c h =
     let x = c h.0 h.1.0 in
     (x.0, (x.1.0, progress_climbs n start round next given h.0 x.0 (rank_rises n h.0 x.0 x.1.2 x.1.1) h.1.1))
 
-pub come_keeps : {A : Type 0} (words : A → List Letter → Type 0) (s t : A) (n start round next given : ℕ) → Keeps words s t →
+pub come_keeps : {A : Type 0} (words : A → List Letter → Type 0) (s t : A) (n start round next given : ℕ) → ExtendsEachWord words s t →
     HasCome words s n start round next given → HasCome words t n start round next given
 come_keeps words s t n start round next given c h =
     let x = c h.0 h.1.0 in
-    (x.0, (x.1.0, progress_keeps n start round next given h.0 x.0 (subst (λ (v : List Letter). rank n h.0 ≤ rank n v) (sym x.1.1.1) (rank_begins n h.0 x.1.1.0)) h.1.1))
+    (x.0, (x.1.0, progress_keeps n start round next given h.0 x.0 (subst (λ (v : List Letter). word_rank n h.0 ≤ word_rank n v) (sym x.1.1.1) (rank_begins n h.0 x.1.1.0)) h.1.1))
 
 pub come_restarts : {A : Type 0} (words : A → List Letter → Type 0) (s t : A) (n start round next given scale : ℕ) → StartsAnew words s t →
     round < 2 ^ 64 - 1 → next ≤ round → 0 < scale →
-    HasCome words s n start round next given → HasCome words t n start round (gap_end round (luby (given + 1)) scale) (behind (given + 1))
+    HasCome words s n start round next given → HasCome words t n start round (gap_end round (luby (given + 1)) scale) (wrapped_number (given + 1))
 come_restarts words s t n start round next given scale c counts over some h =
     let x = c h.0 h.1.0 in
     (x.0, (x.1, progress_restarts n start round next given scale h.0 x.0 counts over some h.1.1))

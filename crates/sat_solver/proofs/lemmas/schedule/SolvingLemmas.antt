@@ -4,7 +4,7 @@ use Rattle.sat_base.specs.device.Device.{Writer}
 use Rattle.sat_base.specs.steps.Steps.{Step}
 use Rattle.sat_checker.specs.declared.processing.ProofProcessor.{Ghosts}
 use Rattle.sat_parts.specs.prop.TrailWord.{Letter}
-use Rattle.sat_solver.specs.proof.ProofView.{Gains, steps_of, session_of}
+use Rattle.sat_solver.specs.proof.ProofView.{EmitsChecked, steps_of, session_of}
 use Rattle.sat_solver.specs.session.Session.{Session, MayAll, session_after}
 use Rattle.sat_solver.proofs.lemmas.session.ProofLemmas.{gains_none, gains_more}
 use Rattle.sat_solver.specs.session.Coming.{OnlyAllowedSteps, EndsAtUnsat}
@@ -12,12 +12,12 @@ use Rattle.sat_solver.proofs.lemmas.session.ComingLemmas.{comes_open, comes_last
 use Rattle.sat_parts.specs.declared.parts.Parts.{Parts}
 use Rattle.sat_parts.specs.parts.Assumed.{variables, ArePlaced}
 use Rattle.sat_parts.specs.parts.Whole.{state, PartsInvariant}
-use Rattle.sat_parts.specs.parts.Words.{Words, TrailWordStays, standing}
+use Rattle.sat_parts.specs.parts.Words.{Words, TrailWordStays, trail_letters}
 use Rattle.sat_parts.proofs.lemmas.parts.WordSteps.{word_fits, word_begins}
 use Rattle.sat_solver.specs.session.Advancing.{Advances}
 use Rattle.sat_solver.specs.session.Quiet.{AreQuiet}
 use Rattle.sat_solver.proofs.lemmas.fits.QuietLemmas.{quiet_never}
-use Rattle.sat_solver.specs.schedule.Climbing.{Keeps as Goes_up, Climbs}
+use Rattle.sat_solver.specs.schedule.Climbing.{ExtendsEachWord as Goes_up, Climbs}
 use Rattle.sat_solver.specs.declared.schedule.Outcome.{Outcome}
 use Rattle.sat_solver.specs.declared.schedule.Outcome.TheVariants as outcomes
 use Rattle.sat_solver.specs.declared.error.SolverError.{SolverError}
@@ -31,18 +31,18 @@ use Rattle.sat_solver.specs.solver.Joined.{IsJoined, KeepsJoined}
 use Rattle.sat_solver.proofs.lemmas.solver.AnsweredLemmas.{joined_at}
 use Rattle.sat_solver.proofs.lemmas.solver.TellingLemmas.{shares_moved}
 use Rattle.sat_solver.specs.unit_simplify.Freed.{KeepsAsked}
-use Rattle.sat_solver.specs.unit_simplify.Passes.{Passes, FallsOr}
+use Rattle.sat_solver.specs.unit_simplify.Passes.{PassesQuietly, FallsOr}
 use Rattle.sat_solver.proofs.lemmas.unit_simplify.FreedLemmas.{asked_refl, asked_trans}
 use Rattle.sat_solver.proofs.lemmas.unit_simplify.PassesLemmas.{passes_goes, falls_goes, falls_later, falls_or}
 use Rattle.sat_solver.specs.declared.context.Search.{Search}
 use Rattle.sat_parts.specs.parts.Full.{IsFull}
-use Rattle.sat_solver.specs.cdcl.Joint.{assumed_in, Moved, global_in, IsSearch}
+use Rattle.sat_solver.specs.cdcl.Joint.{assumed_in, SameVarsAndAssumptions, global_in, IsSearch}
 use Rattle.sat_solver.specs.cdcl.Learning.{LastAdvances}
 use Rattle.sat_solver.specs.clause.Reduced.{Reduced, Reduces, ReducesBy}
 use Rattle.sat_solver.specs.cdcl.Rounds.{RoundLearns, RoundSays}
-use Rattle.sat_solver.specs.schedule.Solving.{AdvanceTimes, StandsStill, words_in, values_in, Gone, GoesAlong, EndSays, Ended, Broke}
+use Rattle.sat_solver.specs.schedule.Solving.{AdvanceTimes, StandsStill, words_in, values_in, ComesByRounds, GoesAlong, EndSays, Ended, BreaksRounds}
 use Rattle.sat_solver.proofs.lemmas.cdcl.TurnLemmas.{moved_refl, moved_trans, ready_moved, free_moved, leaves_refl}
-use Rattle.sat_parts.specs.parts.Frame.{SameClauses, Carries}
+use Rattle.sat_parts.specs.parts.Frame.{SameClauses, AddsNoUnit}
 use Rattle.sat_solver.proofs.lemmas.fits.LearnedLemmas.{fits_undone}
 
 -- STEPS THAT ADVANCE
@@ -76,16 +76,16 @@ allowed s a b xs ys e f may = subst (λ zs. MayAll (ys ++ zs)) e (subst MayAll f
 pub words_stay : (am : List ℕ) (p p' : Parts) → TrailWordStays p p' → (w : List Letter) → Words am p w → (v : List Letter) × Words am p' v
 words_stay am p p' stay w x = (_, record { gone = x.gone; distinct = x.distinct; each = λ k b. (stay am).gone _ (x.each k b); is = refl })
 
-words_moved : (p : Parts) (a b : Search) → Moved a b → (v : List Letter) → Words (assumed_in a) p v → Words (assumed_in b) p v
+words_moved : (p : Parts) (a b : Search) → SameVarsAndAssumptions a b → (v : List Letter) → Words (assumed_in a) p v → Words (assumed_in b) p v
 words_moved p a b m v x = subst (λ ls. Words (variables ls.items) p v) (sym m.lits) x
 
-pub core_word : {W L : Type 0} {G : Ghosts L} (c : Core W L G) → Words (assumed_in c.search) c.search.parts (standing c.search.parts.trail)
+pub core_word : {W L : Type 0} {G : Ghosts L} (c : Core W L G) → Words (assumed_in c.search) c.search.parts (trail_letters c.search.parts.trail)
 core_word c = word_begins (assumed_in c.search) c.search.parts
 
 -- decisions were undone
-pub search_undone : (s : Session) (c : Search) (p : Parts) → IsSearch s c → PartsInvariant p → SameClauses c.parts p → Carries (state c.parts) (state p) → TrailWordStays c.parts p → ArePlaced c.assumptions (state p) → IsSearch s (record c { parts = p })
+pub search_undone : (s : Session) (c : Search) (p : Parts) → IsSearch s c → PartsInvariant p → SameClauses c.parts p → AddsNoUnit (state c.parts) (state p) → TrailWordStays c.parts p → ArePlaced c.assumptions (state p) → IsSearch s (record c { parts = p })
 search_undone s c p h holds same carries stay placed =
-    let moved : Moved c (record c { parts = p }) = record { globals = refl; lits = refl; size = carries.size } in
+    let moved : SameVarsAndAssumptions c (record c { parts = p }) = record { globals = refl; lits = refl; size = carries.size } in
     record {
       stands = record { holds = holds; fits = fits_undone c.parts p s (global_in c) same carries h.stands.fits };
       ready = ready_moved s s c (record c { parts = p }) h.ready (leaves_refl s) moved (stay (assumed_in c)) placed (free_moved c (record c { parts = p }) h.ready.free moved refl refl);
@@ -94,7 +94,7 @@ search_undone s c p h holds same carries stay placed =
 -- ROUNDS, ONE AFTER ANOTHER
 
 module _ {W L : Type 0} {G : Ghosts L} (seen : W → Writer) where
-  pub gone_none : (a : Core W L G) (n : Variables) → NamesInvariant n (steps_of a.proof) → Gone seen a n 0 a n
+  pub gone_none : (a : Core W L G) (n : Variables) → NamesInvariant n (steps_of a.proof) → ComesByRounds seen a n 0 a n
   gone_none a n stands = record {
     steps = [];
     adds = gains_none seen a.proof;
@@ -106,8 +106,8 @@ module _ {W L : Type 0} {G : Ghosts L} (seen : W → Writer) where
   }
 
   module _ (a b : Core W L G) (na nb : Variables) (config : b.config ≡ a.config) where
-    gone_on : (ys : List Step) → Gains seen ys a.proof b.proof → DoesNothing na nb (steps_of a.proof) (steps_of b.proof) → KeepsAsked na nb (session_of a.proof) (session_of b.proof) → Moved a.search b.search →
-        (s : Core W L G) (n : Variables) (j k : ℕ) → (g : Gone seen s n k a na) → AdvanceTimes (steps_of s.proof) (ys ++ g.steps) j → Gone seen s n j b nb
+    gone_on : (ys : List Step) → EmitsChecked seen ys a.proof b.proof → DoesNothing na nb (steps_of a.proof) (steps_of b.proof) → KeepsAsked na nb (session_of a.proof) (session_of b.proof) → SameVarsAndAssumptions a.search b.search →
+        (s : Core W L G) (n : Variables) (j k : ℕ) → (g : ComesByRounds seen s n k a na) → AdvanceTimes (steps_of s.proof) (ys ++ g.steps) j → ComesByRounds seen s n j b nb
     gone_on ys adds does asked moved s n j k g times = record {
       steps = ys ++ g.steps;
       adds = gains_more seen g.steps ys s.proof a.proof b.proof g.adds adds;
@@ -119,13 +119,13 @@ module _ {W L : Type 0} {G : Ghosts L} (seen : W → Writer) where
     }
 
     -- a fault behind what went well
-    falls : (e : SolverError) → FallsOr (IsFull b.search.parts) seen e a.proof b.proof → (s : Core W L G) (n : Variables) (k : ℕ) → Gone seen s n k a na → Broke seen s e b
+    falls : (e : SolverError) → FallsOr (IsFull b.search.parts) seen e a.proof b.proof → (s : Core W L G) (n : Variables) (k : ℕ) → ComesByRounds seen s n k a na → BreaksRounds seen s e b
     falls e f s n k gone = falls_later seen e s.proof a.proof b.proof (gone.steps, gone.adds) f
 
   -- RESTARTS
 
   -- decisions were undone, down to the levels of assumptions
-  module _ (a : Core W L G) (p : Parts) (holds : PartsInvariant p) (same : SameClauses a.search.parts p) (carries : Carries (state a.search.parts) (state p)) (stay : TrailWordStays a.search.parts p) (placed : ArePlaced a.search.assumptions (state p)) where
+  module _ (a : Core W L G) (p : Parts) (holds : PartsInvariant p) (same : SameClauses a.search.parts p) (carries : AddsNoUnit (state a.search.parts) (state p)) (stay : TrailWordStays a.search.parts p) (placed : ArePlaced a.search.assumptions (state p)) where
     abbrev pub undone : Core W L G
     undone = record a { search = record a.search { parts = p } }
 
@@ -164,13 +164,13 @@ module _ {W L : Type 0} {G : Ghosts L} (seen : W → Writer) where
     pub reduced_words : (x : Unit {0}) → Reduction (Ok x) → Goes_up words_in a b
     reduced_words x g = λ w h. (let y = g.ends.0.word.1 w h in (y.0, (rw g.ends.0.moved.lits y.1.0, y.1.1)))
 
-    pub reduced_goes : (x : Unit {0}) → Reduction (Ok x) → (s : Core W L G) (m : Variables) (k : ℕ) → Gone seen s m k a n → Gone seen s m k b n
+    pub reduced_goes : (x : Unit {0}) → Reduction (Ok x) → (s : Core W L G) (m : Variables) (k : ℕ) → ComesByRounds seen s m k a n → ComesByRounds seen s m k b n
     reduced_goes x g = λ s m k gone.
         (let P : Unit {0} → List Step → Type 0 = λ _ _. Reduced (session_of b.proof) a.search b.search × Reduces a.config round a.search.parts b.search.parts in
-        let p : Passes seen n n a.proof b.proof a.search b.search = passes_goes seen x n a.proof b.proof a.search b.search P joined.stands joined.shares g g.ends.0.search g.ends.0.moved g.ends.0.word in
+        let p : PassesQuietly seen n n a.proof b.proof a.search b.search = passes_goes seen x n a.proof b.proof a.search b.search P joined.stands joined.shares g g.ends.0.search g.ends.0.moved g.ends.0.word in
         gone_on a b n n config g.steps g.went p.does p.asked g.ends.0.moved s m k k gone (times_quiet (steps_of s.proof) gone.steps g.steps k (allowed s a b gone.steps g.steps gone.adds.history g.went.history g.keeps) g.quiet gone.times))
 
-    pub reduced_fails : (e : SolverError) → Reduction (Err e) → (s : Core W L G) (m : Variables) (k : ℕ) → Gone seen s m k a n → Broke seen s e b
+    pub reduced_fails : (e : SolverError) → Reduction (Err e) → (s : Core W L G) (m : Variables) (k : ℕ) → ComesByRounds seen s m k a n → BreaksRounds seen s e b
     reduced_fails e g = λ s m k gone.
         (let P : Unit {0} → List Step → Type 0 = λ _ _. Reduced (session_of b.proof) a.search b.search × Reduces a.config round a.search.parts b.search.parts in
         falls a b n n config e (falls_or seen (IsFull b.search.parts) e a.proof b.proof (falls_goes seen e a.proof b.proof P g)) s m k gone)
@@ -206,7 +206,7 @@ module _ {W L : Type 0} {G : Ghosts L} (seen : W → Writer) where
         let fits : length y.0 ≤ length b.search.parts.assignment.current = word_fits (assumed_in a.search) (state b.search.parts) b.search.parts.vsids y.0 l.search.stands.holds.below.asks.agrees y.1.0 in
         (y.0, (words_moved b.search.parts a.search b.search l.moved y.0 y.1.0, y.1.1, omega (arith, fits, l.moved.size))))
 
-    pub round_goes : (o : Outcome) → Round (Ok o) → o ≡ outcomes.Learned → (s : Core W L G) (n : Variables) (k : ℕ) → Gone seen s n k a na → Gone seen s n (k + 1) b nb
+    pub round_goes : (o : Outcome) → Round (Ok o) → o ≡ outcomes.Learned → (s : Core W L G) (n : Variables) (k : ℕ) → ComesByRounds seen s n k a na → ComesByRounds seen s n (k + 1) b nb
     round_goes o g = λ e s n k gone.
         (let l : RoundLearns (steps_of a.proof) g.steps (session_of b.proof) a.search b.search = learns o g.steps e g.says in
         gone_on a b na nb config g.steps g.adds g.does g.asked l.moved s n (k + 1) k gone
@@ -215,7 +215,7 @@ module _ {W L : Type 0} {G : Ghosts L} (seen : W → Writer) where
     behind : (s : Core W L G) (steps before : List Step) → steps_of b.proof ≡ steps ++ steps_of a.proof → steps_of a.proof ≡ before ++ steps_of s.proof → steps_of b.proof ≡ (steps ++ before) ++ steps_of s.proof
     behind s steps before e f = e ∙ ap (λ ss. steps ++ ss) f ∙ sym (append_assoc steps before (steps_of s.proof))
 
-    end_says : (o : Outcome) (earlier steps : List Step) (s : Session) (c : Search) → o ≢ outcomes.Learned → Moved c a.search → RoundSays o earlier steps s a.search b.search → RoundShares o nb b.search → EndSays o s nb c b.search
+    end_says : (o : Outcome) (earlier steps : List Step) (s : Session) (c : Search) → o ≢ outcomes.Learned → SameVarsAndAssumptions c a.search → RoundSays o earlier steps s a.search b.search → RoundShares o nb b.search → EndSays o s nb c b.search
     end_says outcomes.Learned earlier steps s c n m x shares = absurd (n refl)
     end_says outcomes.Model earlier steps s c n m x shares = (record { search = x.0.search; moved = moved_trans c a.search b.search m x.0.moved; complete = x.0.complete }, shares)
     end_says outcomes.Unsat earlier steps s c n m x shares = x.now
@@ -236,7 +236,7 @@ module _ {W L : Type 0} {G : Ghosts L} (seen : W → Writer) where
     end_quiet outcomes.Unsat earlier steps n x = x.quiet
     end_quiet outcomes.Failed earlier steps n x = x.1
 
-    pub round_ends : (o : Outcome) → Round (Ok o) → o ≢ outcomes.Learned → (s : Core W L G) (n : Variables) (k : ℕ) → Gone seen s n k a na → Ended seen s n k o b nb
+    pub round_ends : (o : Outcome) → Round (Ok o) → o ≢ outcomes.Learned → (s : Core W L G) (n : Variables) (k : ℕ) → ComesByRounds seen s n k a na → Ended seen s n k o b nb
     round_ends o g = λ not s n k gone. record {
       steps = g.steps ++ gone.steps;
       adds = gains_more seen gone.steps g.steps s.proof a.proof b.proof gone.adds g.adds;
@@ -249,5 +249,5 @@ module _ {W L : Type 0} {G : Ghosts L} (seen : W → Writer) where
       times = times_quiet (steps_of s.proof) gone.steps g.steps k (allowed s a b gone.steps g.steps gone.adds.history g.adds.history g.keeps) (end_quiet o (steps_of a.proof) g.steps not g.says) gone.times;
     }
 
-    pub round_fails : (e : SolverError) → Round (Err e) → (s : Core W L G) (n : Variables) (k : ℕ) → Gone seen s n k a na → Broke seen s e b
+    pub round_fails : (e : SolverError) → Round (Err e) → (s : Core W L G) (n : Variables) (k : ℕ) → ComesByRounds seen s n k a na → BreaksRounds seen s e b
     round_fails e g = λ s n k gone. falls a b na nb config e g s n k gone

@@ -8,14 +8,14 @@ use Rattle.sat_checker.specs.LiteralSets.{is_among, mentions, canonical}
 use Rattle.sat_checker.specs.Propagation.{tautology, unit_true}
 use Rattle.sat_checker.specs.Stored.{StoredClause, Stored, unit_literals}
 use Rattle.sat_checker.specs.Storing.{clause_with, with_unit, last_literals}
-use Rattle.sat_checker.specs.Accepts.{Passes, PassInTurn, IsStrictSubset, Accepts}
+use Rattle.sat_checker.specs.Accepts.{PassesByHashes, PassInTurn, IsStrictSubset, Accepts}
 use Rattle.sat_checker.specs.Contents.{count_in}
 use Rattle.sat_checker.specs.Invariants.{EachCounted}
 use Rattle.sat_checker.specs.Leading as stored
 use Rattle.sat_checker.proofs.lemmas.contents.Counts.{found}
 use Rattle.sat_checker.proofs.lemmas.invariants.Counted.{TidyClauses}
 use Rattle.sat_checker.proofs.lemmas.leading.Named.{leading_passes}
-use Rattle.sat_solver.specs.session.Session.{AreNamed, MayDerive, MayFail, by_signs, by_derivation, by_unit, by_clauses, MayProve, MayForget, MayShow, MayReplace, May}
+use Rattle.sat_solver.specs.session.Session.{AreLiveByHash, MayDerive, MayFail, by_signs, by_derivation, by_unit, by_clauses, MayProve, MayForget, MayShow, MayReplace, May}
 use Rattle.sat_solver.proofs.lemmas.session.Views.{view, view_unit}
 use Rattle.sat_solver.proofs.lemmas.session.LastLemmas.{LastIs}
 
@@ -28,19 +28,19 @@ counted_some (Some c) n = refl
 
 module _ (f : Stored) (last : Option (List ℕ)) where
   -- live clauses that hashes name are stored
-  are_named : (named : List (List ℕ)) (hashes : List ℕ) → AreNamed (view last f) named hashes → stored.AreNamed f named hashes
+  are_named : (named : List (List ℕ)) (hashes : List ℕ) → AreLiveByHash (view last f) named hashes → stored.AreStoredByHash f named hashes
   are_named [] [] h = tt
   are_named [] (k ∷ ks) h = absurd h
   are_named (c ∷ cs) [] h = absurd h
   are_named (c ∷ cs) (k ∷ ks) h = (record { once = h.0.once; stored = counted_some (clause_with (canonical c) f.clauses) h.0.counted; hash = h.1 }, are_named cs ks h.2)
 
   -- a clause that may be derived passes the check
-  pub passes : (clause hashes : List ℕ) → MayDerive (view last f) clause hashes → Passes f clause hashes
+  pub passes : (clause hashes : List ℕ) → MayDerive (view last f) clause hashes → PassesByHashes f clause hashes
   passes clause hashes (by_unit t) = unit_true t
   passes clause hashes (by_clauses named n lead) = leading_passes f clause hashes named (are_named named hashes n) lead
 
   -- a core that may fail passes with its negation
-  pub core_passes : (core hashes : List ℕ) → MayFail (view last f) core hashes → Passes f (map negated core) hashes
+  pub core_passes : (core hashes : List ℕ) → MayFail (view last f) core hashes → PassesByHashes f (map negated core) hashes
   core_passes core hashes (by_signs t) = tautology t
   core_passes core hashes (by_derivation d) = passes (map negated core) hashes d
 

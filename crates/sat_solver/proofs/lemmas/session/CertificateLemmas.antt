@@ -4,7 +4,7 @@ use Rattle.std.proofs.lemmas.Bool.{true≢false}
 use Rattle.sat_base.specs.device.Device.{Writer}
 use Rattle.sat_base.specs.steps.Steps.{Step, SolverVarName, UserVarName, DeleteVar, ChangeSamplingMode, AddClause, AtClause, UnitClauses, DeleteClause, ChangeHashBits, Model, Assumptions, FailedAssumptions, End}
 use Rattle.sat_solver.specs.proof.Checked.{has_begun}
-use Rattle.sat_solver.specs.proof.ProofTexts.{IsCertificate, TookSince}
+use Rattle.sat_solver.specs.proof.ProofTexts.{TookAcceptedSteps, TookSince}
 use Rattle.sat_solver.specs.session.Session.{May, MayAll, nothing, after, session_after}
 use Rattle.sat_solver.specs.declared.proof.format.ProofFormat.{ProofFormat}
 use Rattle.sat_solver.proofs.lemmas.session.CutsLemmas.{cuts_are_free}
@@ -37,7 +37,7 @@ module _ (before : List Step) (none : session_after before ≡ nothing) where
   may_behind [] h = tt
   may_behind (step ∷ steps) h = (may_behind steps h.0, subst (λ s. May s step) (session_behind steps) h.1)
 
-pub is_certificate : (f : ProofFormat) (from given : Writer) (before now : List Step) → has_begun before ≡ false → MayAll now → TookSince f from given before now → IsCertificate f from given before now
+pub is_certificate : (f : ProofFormat) (from given : Writer) (before now : List Step) → has_begun before ≡ false → MayAll now → TookSince f from given before now → TookAcceptedSteps f from given before now
 is_certificate f from given before now e may since =
     let written = cuts_are_free since.steps since.took.written since.took.counting since.took.cuts (may_behind before (none_begun before e) since.steps (subst MayAll since.behind may)) in
     record { since = since; accepted = (stands since.took.written written.may).0 }

@@ -22,13 +22,13 @@ use Rattle.sat_checker.proofs.lemmas.telling.Heard.{nobody_fails}
 use Rattle.sat_checker.specs.declared.processing.ProofProcessor.{Ghosts}
 use Rattle.sat_solver.specs.declared.proof.made.CheckFault.{CheckFault}
 use Rattle.sat_solver.specs.declared.proof.made.CheckFault.TheVariants as checks
-use Rattle.sat_solver.specs.proof.Checked.{is_end, unended, has_begun, who_listens, FedUnless, IsFed, Heard, HeardWhole, Failed, IsCause, cause_in, OrCause, TakesStep, TakesWidth, TakesDelayed, Feeds, TakesIn, BeginsAnew}
+use Rattle.sat_solver.specs.proof.Checked.{is_end, unended, has_begun, who_listens, FedUnless, IsFed, Heard, HeardWhole, FailsWhileHeard, IsCause, cause_in, OrCause, TakesStep, TakesWidth, TakesDelayed, FeedsOwnChecker, AddsOwnListener, BeginsAnew}
 use Rattle.sat_solver.specs.session.Due.{kept_if}
-use Rattle.sat_solver.specs.proof.Listening.{AreListed, Hears, FailedOf, reads_nothing}
-use Rattle.sat_solver.specs.proof.MadeView.{audience, listed_in, Handed, HandedIn, HandedWhole, HandedWholeIn, HasListeners, IsHanded, IsHandedWhole, ListedAnew, told}
+use Rattle.sat_solver.specs.proof.Listening.{AreJustListeners, Hears, FailedOf, reads_nothing}
+use Rattle.sat_solver.specs.proof.MadeView.{audience, listed_in, Handed, HandedIn, HandedWhole, HandedWholeIn, HasListeners, IsHanded, IsHandedWhole, ListedAnew, without_complaint}
 use Rattle.sat_solver.specs.declared.proof.made.Made.{Made}
 use Rattle.sat_solver.specs.session.Session.{MayAll}
-use Rattle.sat_solver.specs.proof.Widths.{KeepsWidth, narrowed, IsWritten, none_yet, width_changes, one_more}
+use Rattle.sat_solver.specs.proof.Widths.{KeepsWidth, narrowed, IsNarrowedTo, none_yet, width_changes, one_more}
 use Rattle.sat_solver.specs.declared.proof.checker.Checked.{Checked}
 use Rattle.sat_solver.proofs.lemmas.session.EndedLemmas.{unended_may}
 use Rattle.sat_solver.proofs.lemmas.session.HearingLemmas.{answered_delayed, has_heard, heard_all, none_told, widths_quiet}
@@ -53,10 +53,10 @@ unended_none (step ∷ steps) e = ended_next step steps (unended_none steps) e
 
 module _ {L : Type 0} (takes : L → Told → Result Unit Error → L → Type 0) where
   -- nothing was taken yet, and these listen
-  pub fed_first : (own : Checked L) (added : List L) → own.bits ≡ 64 → kernels.Stands (kernel_of own.checker) [] → has_failed (kernel_of own.checker) ≡ false → kernels.IsSettled (kernel_of own.checker) → AreListed added (who_listens own) → IsFed takes own added []
+  pub fed_first : (own : Checked L) (added : List L) → own.bits ≡ 64 → kernels.Stands (kernel_of own.checker) [] → has_failed (kernel_of own.checker) ≡ false → kernels.IsSettled (kernel_of own.checker) → AreJustListeners added (who_listens own) → IsFed takes own added []
   fed_first own added e s g settled listed = record {
     written = [];
-    cut = subst (IsWritten [] []) (sym e) none_yet;
+    cut = subst (IsNarrowedTo [] []) (sym e) none_yet;
     begun = who_listens own;
     were = listed;
     stands = record { kernel = s; heard = λ f. rw settled ([], refl, refl) };
@@ -65,7 +65,7 @@ module _ {L : Type 0} (takes : L → Told → Result Unit Error → L → Type 0
 
   -- one that has taken nothing stands behind ends of proofs
   pub fed_ended : (own : Checked L) (added : List L) (steps : List Step) → has_begun steps ≡ false → IsFed takes own added [] → IsFed takes own added steps
-  fed_ended own added steps e fed = record { written = fed.written; cut = subst (λ x. IsWritten x fed.written own.bits) (sym (unended_none steps e)) fed.cut; begun = fed.begun; were = fed.were; stands = fed.stands; going = fed.going }
+  fed_ended own added steps e fed = record { written = fed.written; cut = subst (λ x. IsNarrowedTo x fed.written own.bits) (sym (unended_none steps e)) fed.cut; begun = fed.begun; were = fed.were; stands = fed.stands; going = fed.going }
 
   -- those who listen have heard what it told
   pub fed_heard : (own : Checked L) (added : List L) (steps : List Step) → IsFed takes own added steps → Heard takes added (listeners_of (who_listens own)) steps
@@ -99,29 +99,29 @@ module _ {L : Type 0} (takes : L → Told → Result Unit Error → L → Type 0
   )
 
   -- so they have where it failed
-  pub failed_heard : (added : List L) (now : Listeners L Nobody) (steps : List Step) (fault : CheckFault) → Failed takes added now steps fault → Heard takes added now steps
+  pub failed_heard : (added : List L) (now : Listeners L Nobody) (steps : List Step) (fault : CheckFault) → FailsWhileHeard takes added now steps fault → Heard takes added now steps
   failed_heard added now steps fault f = record { later = f.later; taken = f.taken; all = f.all; written = f.written; bits = f.bits; cut = f.cut; begun = f.begun; were = f.were; heard = (f.heard.0, f.heard.1, has_heard takes f.begun f.heard.0 f.written fault f.heard.2) }
 
   -- a step more that it wasn't given
   pub heard_later : (added : List L) (now : Listeners L Nobody) (step : Step) (steps : List Step) → Heard takes added now steps → Heard takes added now (step ∷ steps)
   heard_later added now step steps h = record { later = step ∷ h.later; taken = h.taken; all = ap (λ xs. step ∷ xs) h.all; written = h.written; bits = h.bits; cut = h.cut; begun = h.begun; were = h.were; heard = h.heard }
 
-  failed_later : (added : List L) (now : Listeners L Nobody) (step : Step) (steps : List Step) (fault : CheckFault) → Failed takes added now steps fault → Failed takes added now (step ∷ steps) fault
+  failed_later : (added : List L) (now : Listeners L Nobody) (step : Step) (steps : List Step) (fault : CheckFault) → FailsWhileHeard takes added now steps fault → FailsWhileHeard takes added now (step ∷ steps) fault
   failed_later added now step steps fault h = record { later = step ∷ h.later; taken = h.taken; all = ap (λ xs. step ∷ xs) h.all; written = h.written; bits = h.bits; cut = h.cut; begun = h.begun; were = h.were; heard = h.heard }
 
   module _ (r : Result (Unit {0}) CheckerError) (old new : Checked L) where
     -- a width was told
-    pub width_fed : (bits : ℕ) → new.bits ≡ bits → Feeds takes r (seen_of old.checker) (ChangeHashBits bits) (seen_of new.checker) → TakesWidth takes r old new
+    pub width_fed : (bits : ℕ) → new.bits ≡ bits → FeedsOwnChecker takes r (seen_of old.checker) (ChangeHashBits bits) (seen_of new.checker) → TakesWidth takes r old new
     width_fed bits e feeds added steps may fed =
-        cause_map r _ (IsFed takes new added steps) _ (Failed takes added (listeners_of (who_listens new)) steps)
-        (λ s. record { written = ChangeHashBits bits ∷ fed.written; cut = subst (IsWritten (unended steps) (ChangeHashBits bits ∷ fed.written)) (sym e) changed; begun = fed.begun; were = fed.were; stands = s.0; going = s.1 })
+        cause_map r _ (IsFed takes new added steps) _ (FailsWhileHeard takes added (listeners_of (who_listens new)) steps)
+        (λ s. record { written = ChangeHashBits bits ∷ fed.written; cut = subst (IsNarrowedTo (unended steps) (ChangeHashBits bits ∷ fed.written)) (sym e) changed; begun = fed.begun; were = fed.were; stands = s.0; going = s.1 })
         failed
         (feeds fed.begun fed.written fed.stands fed.going ((widths_are_free (unended steps) fed.written old.bits fed.cut (unended_may steps may)).may, tt))
       where
-        changed : IsWritten (unended steps) (ChangeHashBits bits ∷ fed.written) bits
+        changed : IsNarrowedTo (unended steps) (ChangeHashBits bits ∷ fed.written) bits
         changed = width_changes bits fed.cut
 
-        failed : (fault : CheckFault) → FailedOf takes fed.begun (who_listens new) fed.written fault ⊎ FailedOf takes fed.begun (who_listens new) (ChangeHashBits bits ∷ fed.written) fault → Failed takes added (listeners_of (who_listens new)) steps fault
+        failed : (fault : CheckFault) → FailedOf takes fed.begun (who_listens new) fed.written fault ⊎ FailedOf takes fed.begun (who_listens new) (ChangeHashBits bits ∷ fed.written) fault → FailsWhileHeard takes added (listeners_of (who_listens new)) steps fault
         failed fault (inl h) = record { later = []; taken = steps; all = refl; written = fed.written; bits = old.bits; cut = fed.cut; begun = fed.begun; were = fed.were; heard = (who_listens new, refl, h) }
         failed fault (inr h) = record { later = []; taken = steps; all = refl; written = ChangeHashBits bits ∷ fed.written; bits = bits; cut = changed; begun = fed.begun; were = fed.were; heard = (who_listens new, refl, h) }
 
@@ -129,29 +129,29 @@ module _ {L : Type 0} (takes : L → Told → Result Unit Error → L → Type 0
     pub delayed_fed : new.bits ≡ old.bits → ChecksDelayed (Hears takes) r (seen_of old.checker) (seen_of new.checker) → TakesDelayed takes r old new
     delayed_fed e tells added steps fed =
         cause_map r _ _ _ _
-        (λ s. (record { written = fed.written; cut = subst (IsWritten (unended steps) fed.written) (sym e) fed.cut; begun = fed.begun; were = fed.were; stands = s.0; going = s.1 }, s.2))
+        (λ s. (record { written = fed.written; cut = subst (IsNarrowedTo (unended steps) fed.written) (sym e) fed.cut; begun = fed.begun; were = fed.were; stands = s.0; going = s.1 }, s.2))
         (λ fault h. record { later = []; taken = steps; all = refl; written = fed.written; bits = old.bits; cut = fed.cut; begun = fed.begun; were = fed.were; heard = (who_listens new, refl, h) })
         (answered_delayed takes fed.begun (seen_of old.checker) (seen_of new.checker) fed.written fed.going r (tells [] fed.begun fed.written fed.stands))
 
   module _ (old : Checked L) (step : Step) where
     -- a step was taken at its width
     pub step_fed : (r : Result (Unit {0}) CheckerError) (mid new : Checked L) (cut_step : Step) → is_end step ≡ false → KeepsWidth step → TakesWidth takes (Ok tt) old mid → new.bits ≡ mid.bits → cut_step ≡ narrowed mid.bits step
-        → Feeds takes r (seen_of mid.checker) cut_step (seen_of new.checker) → TakesStep takes r old step new
-    step_fed r mid new cut_step e k told same is feeds added steps may fed =
-        cause_map r Fed (IsFed takes new added (step ∷ steps)) _ (Failed takes added (listeners_of (who_listens new)) (step ∷ steps)) by failed
-        (subst (λ x. Feeds takes r (seen_of mid.checker) x (seen_of new.checker)) is feeds f.begun f.written f.stands f.going (widths_are_free (step ∷ unended steps) (narrowed mid.bits step ∷ f.written) mid.bits cut allowed).may)
+        → FeedsOwnChecker takes r (seen_of mid.checker) cut_step (seen_of new.checker) → TakesStep takes r old step new
+    step_fed r mid new cut_step e k without_complaint same is feeds added steps may fed =
+        cause_map r Fed (IsFed takes new added (step ∷ steps)) _ (FailsWhileHeard takes added (listeners_of (who_listens new)) (step ∷ steps)) by failed
+        (subst (λ x. FeedsOwnChecker takes r (seen_of mid.checker) x (seen_of new.checker)) is feeds f.begun f.written f.stands f.going (widths_are_free (step ∷ unended steps) (narrowed mid.bits step ∷ f.written) mid.bits cut allowed).may)
       where
         f : IsFed takes mid added steps
-        f = told added steps may.0 fed
+        f = without_complaint added steps may.0 fed
 
         kept : unended (step ∷ steps) ≡ step ∷ unended steps
         kept = ap (λ b. kept_if (not b) step (unended steps)) e
 
-        cut : IsWritten (step ∷ unended steps) (narrowed mid.bits step ∷ f.written) mid.bits
+        cut : IsNarrowedTo (step ∷ unended steps) (narrowed mid.bits step ∷ f.written) mid.bits
         cut = one_more step k f.cut
 
-        cut_all : IsWritten (unended (step ∷ steps)) (narrowed mid.bits step ∷ f.written) mid.bits
-        cut_all = subst (λ x. IsWritten x (narrowed mid.bits step ∷ f.written) mid.bits) (sym kept) cut
+        cut_all : IsNarrowedTo (unended (step ∷ steps)) (narrowed mid.bits step ∷ f.written) mid.bits
+        cut_all = subst (λ x. IsNarrowedTo x (narrowed mid.bits step ∷ f.written) mid.bits) (sym kept) cut
 
         allowed : MayAll (step ∷ unended steps)
         allowed = subst MayAll kept (unended_may (step ∷ steps) may)
@@ -162,38 +162,38 @@ module _ {L : Type 0} (takes : L → Told → Result Unit Error → L → Type 0
         by : Fed → IsFed takes new added (step ∷ steps)
         by h = record {
           written = narrowed mid.bits step ∷ f.written;
-          cut = subst (IsWritten (unended (step ∷ steps)) (narrowed mid.bits step ∷ f.written)) (sym same) cut_all;
+          cut = subst (IsNarrowedTo (unended (step ∷ steps)) (narrowed mid.bits step ∷ f.written)) (sym same) cut_all;
           begun = f.begun;
           were = f.were;
           stands = h.0;
           going = h.1;
         }
 
-        failed : (fault : CheckFault) → FailedOf takes f.begun (who_listens new) f.written fault ⊎ FailedOf takes f.begun (who_listens new) (narrowed mid.bits step ∷ f.written) fault → Failed takes added (listeners_of (who_listens new)) (step ∷ steps) fault
+        failed : (fault : CheckFault) → FailedOf takes f.begun (who_listens new) f.written fault ⊎ FailedOf takes f.begun (who_listens new) (narrowed mid.bits step ∷ f.written) fault → FailsWhileHeard takes added (listeners_of (who_listens new)) (step ∷ steps) fault
         failed fault (inl h) = record { later = step ∷ []; taken = steps; all = refl; written = f.written; bits = mid.bits; cut = f.cut; begun = f.begun; were = f.were; heard = (who_listens new, refl, h) }
         failed fault (inr h) = record { later = []; taken = step ∷ steps; all = refl; written = narrowed mid.bits step ∷ f.written; bits = mid.bits; cut = cut_all; begun = f.begun; were = f.were; heard = (who_listens new, refl, h) }
 
     -- a width alone was told
     pub width_taken : (r : Result (Unit {0}) CheckerError) (new : Checked L) → is_end step ≡ true → TakesWidth takes r old new → TakesStep takes r old step new
-    width_taken r new e told added steps may fed =
-        cause_map r _ _ _ _ (λ (f : IsFed takes new added steps). record { written = f.written; cut = subst (λ x. IsWritten x f.written new.bits) (sym kept) f.cut; begun = f.begun; were = f.were; stands = f.stands; going = f.going })
-        (failed_later added (listeners_of (who_listens new)) step steps) (told added steps may.0 fed)
+    width_taken r new e without_complaint added steps may fed =
+        cause_map r _ _ _ _ (λ (f : IsFed takes new added steps). record { written = f.written; cut = subst (λ x. IsNarrowedTo x f.written new.bits) (sym kept) f.cut; begun = f.begun; were = f.were; stands = f.stands; going = f.going })
+        (failed_later added (listeners_of (who_listens new)) step steps) (without_complaint added steps may.0 fed)
       where
         kept : unended (step ∷ steps) ≡ unended steps
         kept = ap (λ b. kept_if (not b) step (unended steps)) e
 
     -- the width wasn't
     pub width_untaken : (er : CheckerError) (new : Checked L) → TakesWidth takes (Err er) old new → TakesStep takes (Err er) old step new
-    width_untaken er new told added steps may fed = (let h = told added steps may.0 fed in (h.0, failed_later added (listeners_of (who_listens new)) step steps (cause_in er) h.1))
+    width_untaken er new without_complaint added steps may fed = (let h = without_complaint added steps may.0 fed in (h.0, failed_later added (listeners_of (who_listens new)) step steps (cause_in er) h.1))
 
 -- LISTENERS
 
-listed_more : {L : Type 0} (added : List L) (one : L) (old new : Processing L Nobody) → AreListed added old → listeners_of new ≡ record (listeners_of old) { processors = (listeners_of old).processors ++ one ∷ [] } → AreListed (added ++ one ∷ []) new
+listed_more : {L : Type 0} (added : List L) (one : L) (old new : Processing L Nobody) → AreJustListeners added old → listeners_of new ≡ record (listeners_of old) { processors = (listeners_of old).processors ++ one ∷ [] } → AreJustListeners (added ++ one ∷ []) new
 listed_more added one old new e f = f ∙ ap (λ (z : Listeners _ Nobody). record z { processors = z.processors ++ one ∷ [] }) e
 
 module _ {L : Type 0} (takes : L → Told → Result Unit Error → L → Type 0) where
-  heard_none : (told : List Told) (begun now : Processing L Nobody) → told ≡ [] → HearsSince (Hears takes) [] told begun now → now ≡ begun
-  heard_none told begun now e h = go h.0 (sym h.1 ∙ e) h.2
+  heard_none : (without_complaint : List Told) (begun now : Processing L Nobody) → without_complaint ≡ [] → HearsSince (Hears takes) [] without_complaint begun now → now ≡ begun
+  heard_none without_complaint begun now e h = go h.0 (sym h.1 ∙ e) h.2
     where
       go : (since : List Told) → since ≡ [] → HearsAll (Hears takes) since begun now → now ≡ begun
       go [] e k = k
@@ -204,7 +204,7 @@ module _ {L : Type 0} (takes : L → Told → Result Unit Error → L → Type 0
       → listeners_of (who_listens new) ≡ record (listeners_of (who_listens old)) { processors = (listeners_of (who_listens old)).processors ++ one ∷ [] } → IsFed takes new (added ++ one ∷ []) steps
   listens_more old new one added steps unbegun fed bits kernel listed = record {
     written = fed.written;
-    cut = subst (IsWritten (unended steps) fed.written) (sym bits) fed.cut;
+    cut = subst (IsNarrowedTo (unended steps) fed.written) (sym bits) fed.cut;
     begun = who_listens new;
     were = listed_more added one (who_listens old) (who_listens new) (ap listeners_of (heard_none (told_by conflict fed.written) fed.begun (who_listens old) silent (fed.stands.heard fed.going)) ∙ fed.were) listed;
     stands = record {
@@ -223,7 +223,7 @@ module _ {L : Type 0} (takes : L → Told → Result Unit Error → L → Type 0
   -- another one was added, or no memory was left for it
   pub taken_in : (r : Result (Unit {0}) CheckerError) (old new : Checked L) (one : L) → new.bits ≡ old.bits
       → AddsListener r (kernel_of old.checker) (kernel_of new.checker) (listeners_of (who_listens old)) (listeners_of (who_listens new)) (record (listeners_of (who_listens old)) { processors = (listeners_of (who_listens old)).processors ++ one ∷ [] })
-      → TakesIn takes r old one new
+      → AddsOwnListener takes r old one new
   taken_in (Ok x) old new one bits a added steps unbegun fed = listens_more old new one added steps unbegun fed bits a.1 a.2
   taken_in (Err errors.OutOfMemory) old new one bits a added steps unbegun fed = (tt, (refl, subst (λ (z : Listeners _ Nobody). Heard takes added z steps) (sym a.2) (fed_heard takes old added steps fed)))
   taken_in (Err errors.HasFailed) old new one bits a added steps unbegun fed = absurd (true≢false (sym a.0 ∙ fed.going))
@@ -262,7 +262,7 @@ starved_stable errors.ParseError h = refl
 
 -- where nobody was added no processor answers a fault
 module _ {L : Type 0} (takes : L → Told → Result Unit Error → L → Type 0) where
-  nobody_failed : (now : Listeners L Nobody) (steps : List Step) (cause : Error) → Failed takes [] now steps (checks.Processor cause) → ⊥
+  nobody_failed : (now : Listeners L Nobody) (steps : List Step) (cause : Error) → FailsWhileHeard takes [] now steps (checks.Processor cause) → ⊥
   nobody_failed now steps cause f = elim f.heard.2 [
     | inl h ↦ nobody_fails takes reads_nothing (faults.ProofProcessorError cause) h.0 f.begun f.heard.0 f.were h.2
     | inr h ↦ nobody_fails takes reads_nothing (faults.ProofProcessorError cause) h.0 f.begun f.heard.0 f.were h.2
@@ -271,11 +271,11 @@ module _ {L : Type 0} (takes : L → Told → Result Unit Error → L → Type 0
   same_added : (xs : List L) → Some xs ≡ Some [] → xs ≡ []
   same_added xs e = cc
 
-  with_listeners : (fault : CheckFault) (added : List L) (now : Listeners L Nobody) (steps : List Step) → ∥ Failed takes added now steps fault ∥₁ → ∥ Failed takes added now steps fault ∥₁ × HasListeners fault (Some added)
+  with_listeners : (fault : CheckFault) (added : List L) (now : Listeners L Nobody) (steps : List Step) → ∥ FailsWhileHeard takes added now steps fault ∥₁ → ∥ FailsWhileHeard takes added now steps fault ∥₁ × HasListeners fault (Some added)
   with_listeners checks.OutOfMemory added now steps h = (h, tt)
   with_listeners checks.CounterEnd added now steps h = (h, tt)
   with_listeners (checks.Processor cause) added now steps h =
-      (h, λ e. ∥∥₁_elim h (λ a b. absurd a) (λ f. nobody_failed now steps cause (subst (λ xs. Failed takes xs now steps (checks.Processor cause)) (same_added added e) f)))
+      (h, λ e. ∥∥₁_elim h (λ a b. absurd a) (λ f. nobody_failed now steps cause (subst (λ xs. FailsWhileHeard takes xs now steps (checks.Processor cause)) (same_added added e) f)))
 
 module _ {L : Type 0} (takes : L → Told → Result Unit Error → L → Type 0) (lost : Bool) (own : Option (Checked L)) (added : List L) (steps : List Step) (fed : ∥ FedUnless takes lost own added steps ∥₁) where
   -- a step more that the checker isn't given
@@ -317,9 +317,9 @@ module _ {L : Type 0} (takes : L → Told → Result Unit Error → L → Type 0
       pub taken_cause : (e : CheckerError) (step : Step) → lost ≡ false → MayAll (step ∷ steps) → TakesStep takes (Err e) old step new → IsCause e
       taken_cause e step l may takes_step = ∥∥₁_elim was (cause_prop e) (λ f. (takes_step added steps may (f.0 l)).0)
 
-      pub taken_why : (e : CheckerError) (step : Step) (now : List Step) → now ≡ step ∷ steps → lost ≡ false → MayAll (step ∷ steps) → TakesStep takes (Err e) old step new → ∥ Failed takes added (listeners_of (who_listens new)) now (cause_in e) ∥₁ × HasListeners (cause_in e) (Some added)
+      pub taken_why : (e : CheckerError) (step : Step) (now : List Step) → now ≡ step ∷ steps → lost ≡ false → MayAll (step ∷ steps) → TakesStep takes (Err e) old step new → ∥ FailsWhileHeard takes added (listeners_of (who_listens new)) now (cause_in e) ∥₁ × HasListeners (cause_in e) (Some added)
       taken_why e step now q l may takes_step =
-          with_listeners takes (cause_in e) added (listeners_of (who_listens new)) now (subst (λ x. ∥ Failed takes added (listeners_of (who_listens new)) x (cause_in e) ∥₁) (sym q) (∥∥₁_elim was ∥∥₁_prop (λ f. ∣ (takes_step added steps may (f.0 l)).1 ∣₁)))
+          with_listeners takes (cause_in e) added (listeners_of (who_listens new)) now (subst (λ x. ∥ FailsWhileHeard takes added (listeners_of (who_listens new)) x (cause_in e) ∥₁) (sym q) (∥∥₁_elim was ∥∥₁_prop (λ f. ∣ (takes_step added steps may (f.0 l)).1 ∣₁)))
 
       -- what waited was told
       pub told_fed : lost ≡ false → TakesDelayed takes (Ok tt) old new → ∥ FedUnless takes lost (Some new) added steps ∥₁
@@ -336,22 +336,22 @@ module _ {L : Type 0} (takes : L → Told → Result Unit Error → L → Type 0
       pub told_cause : (e : CheckerError) → lost ≡ false → TakesDelayed takes (Err e) old new → IsCause e
       told_cause e l tells = ∥∥₁_elim was (cause_prop e) (λ f. (tells added steps (f.0 l)).0)
 
-      pub told_why : (e : CheckerError) → lost ≡ false → TakesDelayed takes (Err e) old new → ∥ Failed takes added (listeners_of (who_listens new)) steps (cause_in e) ∥₁ × HasListeners (cause_in e) (Some added)
+      pub told_why : (e : CheckerError) → lost ≡ false → TakesDelayed takes (Err e) old new → ∥ FailsWhileHeard takes added (listeners_of (who_listens new)) steps (cause_in e) ∥₁ × HasListeners (cause_in e) (Some added)
       told_why e l tells = with_listeners takes (cause_in e) added (listeners_of (who_listens new)) steps (∥∥₁_elim was ∥∥₁_prop (λ f. ∣ (tells added steps (f.0 l)).1 ∣₁))
 
       -- another one listens
-      pub listens_fed : (one : L) (more : List L) → more ≡ added ++ one ∷ [] → has_begun steps ≡ false → lost ≡ false → TakesIn takes (Ok tt) old one new → ∥ FedUnless takes lost (Some new) more steps ∥₁
+      pub listens_fed : (one : L) (more : List L) → more ≡ added ++ one ∷ [] → has_begun steps ≡ false → lost ≡ false → AddsOwnListener takes (Ok tt) old one new → ∥ FedUnless takes lost (Some new) more steps ∥₁
       listens_fed one more e u l takes_in = subst (λ x. ∥ FedUnless takes lost (Some new) x steps ∥₁) (sym e)
           (∥∥₁_elim was ∥∥₁_prop (λ f. let k = takes_in added steps u (f.0 l) in ∣ ((λ _. k), fed_heard takes new (added ++ one ∷ []) steps k) ∣₁))
 
       -- no memory was left for it
-      pub unlistened_fed : (e : CheckerError) (one : L) → has_begun steps ≡ false → lost ≡ false → TakesIn takes (Err e) old one new → ∥ FedUnless takes true (Some new) added steps ∥₁
+      pub unlistened_fed : (e : CheckerError) (one : L) → has_begun steps ≡ false → lost ≡ false → AddsOwnListener takes (Err e) old one new → ∥ FedUnless takes true (Some new) added steps ∥₁
       unlistened_fed e one u l takes_in = ∥∥₁_elim was ∥∥₁_prop (λ f. ∣ ((λ t. absurd (true≢false t)), (takes_in added steps u (f.0 l)).1.1) ∣₁)
 
-      pub unlistened_cause : (e : CheckerError) (one : L) → has_begun steps ≡ false → lost ≡ false → TakesIn takes (Err e) old one new → IsCause e
+      pub unlistened_cause : (e : CheckerError) (one : L) → has_begun steps ≡ false → lost ≡ false → AddsOwnListener takes (Err e) old one new → IsCause e
       unlistened_cause e one u l takes_in = ∥∥₁_elim was (cause_prop e) (λ f. (takes_in added steps u (f.0 l)).0)
 
-      pub unlistened_why : (e : CheckerError) (one : L) → has_begun steps ≡ false → lost ≡ false → TakesIn takes (Err e) old one new → cause_in e ≡ checks.OutOfMemory
+      pub unlistened_why : (e : CheckerError) (one : L) → has_begun steps ≡ false → lost ≡ false → AddsOwnListener takes (Err e) old one new → cause_in e ≡ checks.OutOfMemory
       unlistened_why e one u l takes_in = starved_stable e (∥∥₁_elim was ∥∥₁_prop (λ f. ∣ (takes_in added steps u (f.0 l)).1.0 ∣₁))
 
 module _ {L : Type 0} (takes : L → Told → Result Unit Error → L → Type 0) where
@@ -403,7 +403,7 @@ module _ {L : Type 0} {G : Ghosts L} (m : Made L G) where
 
 -- a complaint was told, and nothing else has changed
 pub complaint_told : {L : Type 0} {G : Ghosts L} (m : Made L G) (complaint : Option Error) (counted : m.begun ≡ has_begun m.history.steps) (may : ∥ MayAll m.history.steps ∥₁) (fed : ∥ FedUnless G.takes m.lost m.own m.roll.items m.history.steps ∥₁) → complaint ≡ None
-    → record { history = m.history; own = m.own; roll = m.roll; begun = m.begun; lost = m.lost; complaint = complaint; counted = counted; may = may; fed = fed } ≡ told m
+    → record { history = m.history; own = m.own; roll = m.roll; begun = m.begun; lost = m.lost; complaint = complaint; counted = counted; may = may; fed = fed } ≡ without_complaint m
 complaint_told m complaint counted may fed none = λ i. record m {
   complaint = none i;
   counted = Bool-set m.begun (has_begun m.history.steps) counted m.counted i;

@@ -4,21 +4,21 @@ use Rattle.std.proofs.lemmas.Bool.{eqb-true}
 use Rattle.sat_base.specs.steps.Steps.{Step, ChangeHashBits}
 use Rattle.sat_solver.specs.proof.Counting.{start, width_told, counted, TruncatesHashes, none_made, ask_begun, one_made}
 use Rattle.sat_solver.specs.proof.ProofTexts.{CutsAreFree}
-use Rattle.sat_solver.specs.proof.Widths.{IsWritten, none_yet, width_changes, one_more}
+use Rattle.sat_solver.specs.proof.Widths.{IsNarrowedTo, none_yet, width_changes, one_more}
 use Rattle.sat_solver.specs.declared.proof.hash_bits.Counting.{Counting}
 use Rattle.sat_solver.proofs.lemmas.session.Narrowing.{widths_are_free}
 
 -- a width that changes was written
-told : {made written : List Step} (before now : ℕ) → IsWritten made written before → IsWritten made (width_told before now ++ written) now
+told : {made written : List Step} (before now : ℕ) → IsNarrowedTo made written before → IsNarrowedTo made (width_told before now ++ written) now
 told {made} {written} before now w = go (eqb before now) refl
   where
-    go : (b : Bool) → eqb before now ≡ b → IsWritten made (cond b [] (ChangeHashBits now ∷ []) ++ written) now
-    go true e = subst (IsWritten made written) (eqb-true before now e) w
+    go : (b : Bool) → eqb before now ≡ b → IsNarrowedTo made (cond b [] (ChangeHashBits now ∷ []) ++ written) now
+    go true e = subst (IsNarrowedTo made written) (eqb-true before now e) w
     go false e = width_changes now w
 
 -- what is written for steps, by whole hashes at first
-pub is_written : {c d : Counting} {made written : List Step} → c ≡ start → TruncatesHashes c made written d → IsWritten made written d.bits
-is_written e none_made = subst (λ (x : Counting). IsWritten [] [] x.bits) (sym e) none_yet
+pub is_written : {c d : Counting} {made written : List Step} → c ≡ start → TruncatesHashes c made written d → IsNarrowedTo made written d.bits
+is_written e none_made = subst (λ (x : Counting). IsNarrowedTo [] [] x.bits) (sym e) none_yet
 is_written e (ask_begun p) = is_written e p
 is_written e (one_made {d = d} step k p) = one_more step k (told d.bits (counted step d).bits (is_written e p))
 

@@ -7,10 +7,10 @@ use Rattle.sat_base.specs.values.Literals.{variable, negated}
 use Rattle.sat_base.specs.steps.Steps.{Redundant, Simplified, Satisfied, Step, SolverVarName, UserVarName, DeleteVar, ChangeSamplingMode, AddClause, AtClause, UnitClauses, DeleteClause, ChangeHashBits, Model, Assumptions, FailedAssumptions, End}
 use Rattle.sat_checker.specs.LiteralSets.{is_among, is_tautology, canonical, same_literals}
 use Rattle.sat_checker.proofs.lemmas.propagation.Soundness.{negated-negated}
-use Rattle.sat_solver.specs.proof.Drat.{times, without_set, behind_lines, behind_step, present, Refutes, LinesStand, IsDratDerivation, DratStands}
-use Rattle.sat_solver.specs.proof.DratText.{unit_lines, lines_of}
+use Rattle.sat_solver.specs.proof.Drat.{times, without_set, behind_lines, behind_step, present, RefutesByUnits, LinesStand, IsDratDerivation, DratStands}
+use Rattle.sat_solver.specs.proof.DratText.{unit_lines, drat_lines}
 use Rattle.sat_checker.specs.Contents.{more_if, less_if, same_side}
-use Rattle.sat_solver.specs.session.Session.{Session, nothing, with_live, without_live, with_fact, with_facts, with_sorted, with_clause, knowing_literals, after, session_after, AreNamed, denied, MayDerive, by_unit, by_clauses, MayProve, May, MayAll}
+use Rattle.sat_solver.specs.session.Session.{Session, nothing, with_live, without_live, with_fact, with_facts, with_sorted, with_live_clause, knowing_literals, after, session_after, AreLiveByHash, denied, MayDerive, by_unit, by_clauses, MayProve, May, MayAll}
 use Rattle.sat_solver.proofs.lemmas.session.DratLemmas.{times_behind, times_itself, times_left, times_less, refutes_one, refutes_unit, leads_refute, units_first, negations, leads_within, units_in, units_there, units_are}
 
 -- of two literals or more
@@ -94,7 +94,7 @@ sorted_kept r [] s ps k = let w = kept_more s [] ps k in record { counts = w.cou
 sorted_kept r (l ∷ []) s ps k = fact_kept l s ps k
 sorted_kept r (l ∷ m ∷ ls) s ps k = live_kept r (l ∷ m ∷ ls) s ps tt k
 
-clause_kept : (r : Bool) (clause : List ℕ) (s : Session) (ps : List (List ℕ)) → Kept s ps → Kept (with_clause r clause s) (canonical clause ∷ ps)
+clause_kept : (r : Bool) (clause : List ℕ) (s : Session) (ps : List (List ℕ)) → Kept s ps → Kept (with_live_clause r clause s) (canonical clause ∷ ps)
 clause_kept r clause s ps k = go (is_tautology clause)
   where
     go : (b : Bool) → Kept (cond b s (with_sorted r (canonical clause) s)) (canonical clause ∷ ps)
@@ -166,20 +166,20 @@ among_negated (x ∷ xs) l e = elim (or_cases (eqb x l) (is_among xs l) e) [
 ]
 
 -- a present unit in a clause
-unit_refutes : (ps : List (List ℕ)) (q : ℕ → Bool) → ((l : ℕ) → q l ≡ true → 0 < times (l ∷ []) ps) → (known ls : List ℕ) → ((l : ℕ) → is_among ls l ≡ true → is_among known (negated l) ≡ true) → list_any q ls ≡ true → Refutes ps known
+unit_refutes : (ps : List (List ℕ)) (q : ℕ → Bool) → ((l : ℕ) → q l ≡ true → 0 < times (l ∷ []) ps) → (known ls : List ℕ) → ((l : ℕ) → is_among ls l ≡ true → is_among known (negated l) ≡ true) → list_any q ls ≡ true → RefutesByUnits ps known
 unit_refutes ps q p known [] f e = absurd (true≢false (sym e))
 unit_refutes ps q p known (l ∷ ls) f e = elim (or_cases (q l) (list_any q ls) e) [
   | inl t ↦ refutes_one ps known (l ∷ []) (p l t) (f l (or_left (eqb l l) (is_among ls l) (eq-eqb l l refl)), tt)
   | inr t ↦ unit_refutes ps q p known ls (λ m a. f m (or_right (eqb l m) (is_among ls m) a)) t
 ]
 
-named_present : (s : Session) (ps : List (List ℕ)) → Kept s ps → (named : List (List ℕ)) (hashes : List ℕ) → AreNamed s named hashes → AllByRecursion (λ c. 0 < times (canonical c) ps) named
+named_present : (s : Session) (ps : List (List ℕ)) → Kept s ps → (named : List (List ℕ)) (hashes : List ℕ) → AreLiveByHash s named hashes → AllByRecursion (λ c. 0 < times (canonical c) ps) named
 named_present s ps k [] hashes n = tt
 named_present s ps k (c ∷ cs) [] n = absurd n
 named_present s ps k (c ∷ cs) (h ∷ hs) n = ((let a = k.counts (canonical c) in let b = n.0.counted in omega (arith, a, b)), named_present s ps k cs hs n.2)
 
 -- what may be derived is refuted when it's denied
-derive_refutes : (s : Session) (ps : List (List ℕ)) (clause hashes : List ℕ) → Kept s ps → MayDerive s clause hashes → Refutes ps (map negated clause)
+derive_refutes : (s : Session) (ps : List (List ℕ)) (clause hashes : List ℕ) → Kept s ps → MayDerive s clause hashes → RefutesByUnits ps (map negated clause)
 derive_refutes s ps clause hashes k (by_unit t) = unit_refutes ps s.units k.units (map negated clause) clause (among_negated clause) t
 derive_refutes s ps clause hashes k (by_clauses named n lead) =
     units_first ps us (map negated clause) (is_among (map negated clause)) (units_are s.units (λ u. 0 < times (u ∷ []) ps) k.units (negations named)) (λ l a. a)
@@ -224,7 +224,7 @@ step_kept (AddClause clause) s ps k m = go s.unsat
     rest : Session → Session
     rest t = record t { last = None }
 
-    go : (b : Bool) → Kept (rest (cond b s (with_clause false clause known))) (canonical clause ∷ ps)
+    go : (b : Bool) → Kept (rest (cond b s (with_live_clause false clause known))) (canonical clause ∷ ps)
     go true = let w = kept_more s (canonical clause) ps k in record { counts = w.counts; long = w.long; units = w.units; unsat = w.unsat }
     go false = let w = clause_kept false clause known ps (moved s known ps refl refl refl k) in record { counts = w.counts; long = w.long; units = w.units; unsat = w.unsat }
 step_kept (AtClause r clause hashes) s ps k m =
@@ -249,7 +249,7 @@ present_of : (r : Bool) (set : List ℕ) (s : Session) (ps : List (List ℕ)) �
 present_of true set s ps k h = let a = k.counts set in omega (arith, a, h)
 present_of false set s ps k h = let a = k.counts set in omega (arith, a, h)
 
-step_stands : (step : Step) (s : Session) (ps : List (List ℕ)) → Kept s ps → May s step → LinesStand (lines_of step) ps
+step_stands : (step : Step) (s : Session) (ps : List (List ℕ)) → Kept s ps → May s step → LinesStand (drat_lines step) ps
 step_stands (AtClause r clause hashes) s ps k m = (derive_refutes s ps clause hashes k m, tt)
 step_stands (UnitClauses us) s ps k m = units_stand us s ps k m
 step_stands (DeleteClause clause Redundant) s ps k m = (present_of true (canonical clause) s ps k m, tt)
@@ -282,7 +282,7 @@ both (step ∷ earlier) m =
     (step_kept step (session_after earlier) (present earlier) ih.0 m.1, (ih.1, step_stands step (session_after earlier) (present earlier) ih.0 m.1))
 
 -- what is left behind recorded unsat is refuted
-conflict_refutes : (ps : List (List ℕ)) → Conflict ps → Refutes ps []
+conflict_refutes : (ps : List (List ℕ)) → Conflict ps → RefutesByUnits ps []
 conflict_refutes ps (inl h) = refutes_one ps [] [] h tt
 conflict_refutes ps (inr h) =
     refutes_unit ps [] (h.0 ∷ []) h.0 h.1 (record { within = or_left (eqb h.0 h.0) false (eq-eqb h.0 h.0 refl); not_true = refl; not_false = refl; others = (inl refl, tt) })

@@ -8,8 +8,8 @@ use Rattle.sat_checker.specs.LiteralSets.{is_among, canonical, same_literals}
 use Rattle.sat_checker.specs.Propagation.{IsFalsified, IsUnit, UnitInTurn}
 use Rattle.sat_checker.proofs.lemmas.sets.Canonical.{canonical_among}
 use Rattle.sat_checker.proofs.lemmas.sets.Members.{canonical_each}
-use Rattle.sat_solver.specs.proof.Drat.{times, without_set, Refutes}
-use Rattle.sat_checker.specs.Leading.{Leads}
+use Rattle.sat_solver.specs.proof.Drat.{times, without_set, RefutesByUnits}
+use Rattle.sat_checker.specs.Leading.{LeadsToConflict}
 use Rattle.sat_checker.specs.Contents.{more_if}
 
 -- COUNTS
@@ -66,14 +66,14 @@ times_less set out (c ∷ cs) = go (times_less set out cs) (same_literals c out)
 -- REFUTATIONS
 
 -- one clause that is falsified
-pub refutes_one : (cs : List (List ℕ)) (known c : List ℕ) → 0 < times c cs → IsFalsified known c → Refutes cs known
+pub refutes_one : (cs : List (List ℕ)) (known c : List ℕ) → 0 < times c cs → IsFalsified known c → RefutesByUnits cs known
 refutes_one cs known c p f = record { named = c ∷ []; are_present = (p, tt); turns = f }
 
 -- one that is unit before others
-pub refutes_unit : (cs : List (List ℕ)) (known c : List ℕ) (o : ℕ) → 0 < times c cs → IsUnit known c o → Refutes cs (o ∷ known) → Refutes cs known
+pub refutes_unit : (cs : List (List ℕ)) (known c : List ℕ) (o : ℕ) → 0 < times c cs → IsUnit known c o → RefutesByUnits cs (o ∷ known) → RefutesByUnits cs known
 refutes_unit cs known c o p u r = go r.named r.are_present r.turns
   where
-    go : (named : List (List ℕ)) → AllByRecursion (λ c. 0 < times c cs) named → UnitInTurn (o ∷ known) named → Refutes cs known
+    go : (named : List (List ℕ)) → AllByRecursion (λ c. 0 < times c cs) named → UnitInTurn (o ∷ known) named → RefutesByUnits cs known
     go [] a t = absurd t
     go (d ∷ ds) a t = record { named = c ∷ d ∷ ds; are_present = (p, a); turns = (o, u, t) }
 
@@ -101,7 +101,7 @@ all_falsified known o f [] a = tt
 all_falsified known o f (l ∷ ls) a = (elim a.0 [ inl e ↦ subst (λ x. is_among known (negated x) ≡ true) (sym e) f | inr t ↦ t ], all_falsified known o f ls a.1)
 
 -- Present clauses that lead to a conflict refute what holds: those that are no longer unit in their turn are left out.
-pub leads_refute : (ps cs : List (List ℕ)) (known : List ℕ) (q : ℕ → Bool) → AllByRecursion (λ c. 0 < times (canonical c) ps) cs → Has known q → Leads q cs → Refutes ps known
+pub leads_refute : (ps cs : List (List ℕ)) (known : List ℕ) (q : ℕ → Bool) → AllByRecursion (λ c. 0 < times (canonical c) ps) cs → Has known q → LeadsToConflict q cs → RefutesByUnits ps known
 leads_refute ps [] known q p h l = absurd l
 leads_refute ps (c ∷ []) known q p h l = refutes_one ps known (canonical c) p.0 (canonical_each (λ m. is_among known (negated m) ≡ true) c (each_falsified known q h c l))
 leads_refute ps (c ∷ d ∷ cs) known q p h l = go (λ k r a b. leads_refute ps (d ∷ cs) k r p.1 a b) (is_among known l.0) refl (is_among known (negated l.0)) refl
@@ -112,7 +112,7 @@ leads_refute ps (c ∷ d ∷ cs) known q p h l = go (λ k r a b. leads_refute ps
     others : AllByRecursion (λ m. (m ≡ o) ⊎ (is_among known (negated m) ≡ true)) c
     others = others_falsified known q o h c l.1
 
-    go : ((k : List ℕ) (r : ℕ → Bool) → Has k r → Leads r (d ∷ cs) → Refutes ps k) → (b : Bool) → is_among known o ≡ b → (n : Bool) → is_among known (negated o) ≡ n → Refutes ps known
+    go : ((k : List ℕ) (r : ℕ → Bool) → Has k r → LeadsToConflict r (d ∷ cs) → RefutesByUnits ps k) → (b : Bool) → is_among known o ≡ b → (n : Bool) → is_among known (negated o) ≡ n → RefutesByUnits ps known
     go ih true e n f = ih known (λ m. eqb o m || q m) (has_there known q o e h) l.3
     go ih false e true f = refutes_one ps known (canonical c) p.0 (canonical_each (λ m. is_among known (negated m) ≡ true) c (all_falsified known o f c others))
     go ih false e false f =
@@ -123,21 +123,21 @@ leads_refute ps (c ∷ d ∷ cs) known q p h l = go (λ k r a b. leads_refute ps
 -- UNITS
 
 -- present units come first
-pub units_first : (ps : List (List ℕ)) (us known : List ℕ) (q : ℕ → Bool) → AllByRecursion (λ u. 0 < times (u ∷ []) ps) us → Has known q → ((k : List ℕ) → Has k (λ l. is_among us l || q l) → Refutes ps k) → Refutes ps known
+pub units_first : (ps : List (List ℕ)) (us known : List ℕ) (q : ℕ → Bool) → AllByRecursion (λ u. 0 < times (u ∷ []) ps) us → Has known q → ((k : List ℕ) → Has k (λ l. is_among us l || q l) → RefutesByUnits ps k) → RefutesByUnits ps known
 units_first ps [] known q p h f = f known h
 units_first ps (u ∷ us) known q p h f = go (λ k r a b. units_first ps us k r p.1 a b) (is_among known u) refl (is_among known (negated u)) refl
   where
     q' : ℕ → Bool
     q' = λ l. eqb u l || q l
 
-    next : (k : List ℕ) → Has k (λ l. is_among us l || q' l) → Refutes ps k
+    next : (k : List ℕ) → Has k (λ l. is_among us l || q' l) → RefutesByUnits ps k
     next k a = f k (λ l e. a l (turned l (elim (or_cases (is_among (u ∷ us) l) (q l) e) [ inl s ↦ elim (or_cases (eqb u l) (is_among us l) s) [ inl t ↦ inr (or_left (eqb u l) (q l) t) | inr t ↦ inl t ] | inr t ↦ inr (or_right (eqb u l) (q l) t) ])))
       where
         turned : (l : ℕ) → (is_among us l ≡ true) ⊎ (q' l ≡ true) → (is_among us l || q' l) ≡ true
         turned l (inl s) = or_left (is_among us l) (q' l) s
         turned l (inr s) = or_right (is_among us l) (q' l) s
 
-    go : ((k : List ℕ) (r : ℕ → Bool) → Has k r → ((m : List ℕ) → Has m (λ l. is_among us l || r l) → Refutes ps m) → Refutes ps k) → (b : Bool) → is_among known u ≡ b → (n : Bool) → is_among known (negated u) ≡ n → Refutes ps known
+    go : ((k : List ℕ) (r : ℕ → Bool) → Has k r → ((m : List ℕ) → Has m (λ l. is_among us l || r l) → RefutesByUnits ps m) → RefutesByUnits ps k) → (b : Bool) → is_among known u ≡ b → (n : Bool) → is_among known (negated u) ≡ n → RefutesByUnits ps known
     go ih true e n g = ih known q' (has_there known q u e h) next
     go ih false e true g = refutes_one ps known (u ∷ []) p.0 (g, tt)
     go ih false e false g =
@@ -170,7 +170,7 @@ within_others q r o (x ∷ xs) f a = (
   within_others q r o xs (λ l e. f l (or_right (eqb (negated x) l) (is_among (map negated xs) l) e)) a.1,
 )
 
-pub leads_within : (cs : List (List ℕ)) (q r : ℕ → Bool) → ((l : ℕ) → is_among (negations cs) l ≡ true → q l ≡ true → r l ≡ true) → Leads q cs → Leads r cs
+pub leads_within : (cs : List (List ℕ)) (q r : ℕ → Bool) → ((l : ℕ) → is_among (negations cs) l ≡ true → q l ≡ true → r l ≡ true) → LeadsToConflict q cs → LeadsToConflict r cs
 leads_within [] q r f h = h
 leads_within (c ∷ []) q r f h = within_each q r c (λ l e. f l (among_left (map negated c) [] l e)) h
 leads_within (c ∷ d ∷ cs) q r f h = (

@@ -2,7 +2,7 @@
 use Rattle.std.proofs.Common.{ℕ, ◌≡◌, List, [], ◌∷◌, map, refl, ap}
 use Rattle.sat_base.specs.steps.Steps.{Step, SolverVarName, UserVarName, DeleteVar, ChangeSamplingMode, AddClause, AtClause, UnitClauses, DeleteClause, ChangeHashBits, Model, Assumptions, FailedAssumptions, End}
 use Rattle.sat_checker.specs.matching.Checking.{is_ordered}
-use Rattle.sat_solver.specs.proof.Widths.{narrowed, IsWritten, none_yet, width_changes, one_more}
+use Rattle.sat_solver.specs.proof.Widths.{narrowed, IsNarrowedTo, none_yet, width_changes, one_more}
 use Rattle.sat_solver.specs.session.Due.{kept_if, ordered_of, without_hashes, WidthsKeepOrder}
 
 -- one step, before the earlier ones
@@ -22,7 +22,7 @@ one_kept w (Assumptions ls) xs ys e = ap (λ z. Assumptions ls ∷ z) e
 one_kept w (FailedAssumptions core hashes) xs ys e = ap (λ z. FailedAssumptions core [] ∷ z) e
 one_kept w End xs ys e = ap (λ z. End ∷ z) e
 
-order_kept : {wide text : List Step} {width : ℕ} → IsWritten wide text width → map without_hashes (ordered_of text) ≡ map without_hashes (ordered_of wide)
+order_kept : {wide text : List Step} {width : ℕ} → IsNarrowedTo wide text width → map without_hashes (ordered_of text) ≡ map without_hashes (ordered_of wide)
 order_kept none_yet = refl
 order_kept (width_changes bits i) = order_kept i
 order_kept (one_more {wide = wide} {written = text} {width = width} step k i) = one_kept width step (ordered_of text) (ordered_of wide) (order_kept i)

@@ -3,7 +3,7 @@ use Rattle.std.proofs.Common.{ℕ, ◌≡◌, Bool, true, false, ◌||◌, cond,
 use Rattle.sat_base.specs.values.Literals.{negated}
 use Rattle.sat_base.specs.steps.Steps.{Redundant, Simplified, Satisfied, Step, SolverVarName, UserVarName, DeleteVar, ChangeSamplingMode, AddClause, AtClause, UnitClauses, DeleteClause, ChangeHashBits, Model, Assumptions, FailedAssumptions, End}
 use Rattle.sat_checker.specs.LiteralSets.{is_tautology, canonical}
-use Rattle.sat_solver.specs.session.Session.{Session, with_fact, with_facts, with_sorted, with_clause, knowing_literals, changed, last_after, after, session_after, AreNamed, MayDerive, MayFail, by_signs, by_derivation, by_unit, by_clauses, MayProve, May, MayAll}
+use Rattle.sat_solver.specs.session.Session.{Session, with_fact, with_facts, with_sorted, with_live_clause, knowing_literals, changed, last_after, after, session_after, AreLiveByHash, MayDerive, MayFail, by_signs, by_derivation, by_unit, by_clauses, MayProve, May, MayAll}
 use Rattle.sat_solver.specs.proof.Checked.{unended}
 
 -- the session with another last clause
@@ -11,7 +11,7 @@ abbrev at : Option (List ℕ) → Session → Session
 at last s = record s { last = last }
 
 -- named clauses are named
-named_at : (o : Option (List ℕ)) (s : Session) (named : List (List ℕ)) (hashes : List ℕ) → AreNamed s named hashes → AreNamed (at o s) named hashes
+named_at : (o : Option (List ℕ)) (s : Session) (named : List (List ℕ)) (hashes : List ℕ) → AreLiveByHash s named hashes → AreLiveByHash (at o s) named hashes
 named_at o s [] [] h = tt
 named_at o s [] (k ∷ ks) h = absurd h
 named_at o s (c ∷ cs) [] h = absurd h
@@ -50,7 +50,7 @@ sorted_at o r [] s = refl
 sorted_at o r (l ∷ []) s = fact_at o l s
 sorted_at o r (l ∷ m ∷ ls) s = refl
 
-clause_at : (o : Option (List ℕ)) (r : Bool) (clause : List ℕ) (s : Session) → with_clause r clause (at o s) ≡ at o (with_clause r clause s)
+clause_at : (o : Option (List ℕ)) (r : Bool) (clause : List ℕ) (s : Session) → with_live_clause r clause (at o s) ≡ at o (with_live_clause r clause s)
 clause_at o r clause s = go (is_tautology clause)
   where
     go : (b : Bool) → cond b (at o s) (with_sorted r (canonical clause) (at o s)) ≡ at o (cond b s (with_sorted r (canonical clause) s))
@@ -67,7 +67,7 @@ changed_at o (DeleteVar v) s = refl
 changed_at o (ChangeSamplingMode v sample) s = refl
 changed_at o (AddClause clause) s = go s.unsat
   where
-    go : (b : Bool) → cond b (at o s) (with_clause false clause (knowing_literals clause (at o s))) ≡ at o (cond b s (with_clause false clause (knowing_literals clause s)))
+    go : (b : Bool) → cond b (at o s) (with_live_clause false clause (knowing_literals clause (at o s))) ≡ at o (cond b s (with_live_clause false clause (knowing_literals clause s)))
     go true = refl
     go false = clause_at o false clause (knowing_literals clause s)
 changed_at o (AtClause r clause hashes) s = clause_at o r clause (knowing_literals clause s)

@@ -8,8 +8,8 @@ use Rattle.sat_base.specs.steps.Steps.{Step, SolverVarName, UserVarName, DeleteV
 use Rattle.sat_checker.specs.declared.processing.ProofProcessor.{Ghosts}
 use Rattle.sat_solver.specs.proof.Checked.{has_begun}
 use Rattle.sat_solver.specs.proof.Counting.{start}
-use Rattle.sat_solver.specs.proof.Fronts.{FrontText, Follows, WentOn, FrontsAreAccepted}
-use Rattle.sat_solver.specs.proof.ProofView.{Target, Closed, Open, Broken as Faulty, Carries, Stops, Gives, target_of, steps_of, Adds, Fails}
+use Rattle.sat_solver.specs.proof.Fronts.{FrontText, TargetTakesFront, WentOn, FrontsAreAccepted}
+use Rattle.sat_solver.specs.proof.ProofView.{Target, Closed, Open, Broken as Faulty, TargetTakes, TargetFails, GivesWriter, target_of, steps_of, EmitsExactly, FailsToEmit}
 use Rattle.sat_solver.specs.session.Session.{nothing, May, MayAll, after, session_after}
 use Rattle.sat_solver.specs.declared.proof.format.ProofFormat.{ProofFormat}
 use Rattle.sat_solver.specs.declared.proof.Proof.{Proof}
@@ -55,9 +55,9 @@ may_first (step ∷ later) first m = may_first later first m.0
 
 module _ (f : ProofFormat) (from given : Writer) where
   -- of the text of steps that were carried
-  carried_front : (steps : List Step) (now : Target) → MayAll steps → Carries (Open f start (empty_sink from)) steps now → Gives now (Some given) → FrontText f from given steps
+  carried_front : (steps : List Step) (now : Target) → MayAll steps → TargetTakes (Open f start (empty_sink from)) steps now → GivesWriter now (Some given) → FrontText f from given steps
   carried_front steps now m h g =
-      let q : Some given ≡ Some h.1.writer = subst (λ (z : Target). Gives z (Some given)) h.2 g in
+      let q : Some given ≡ Some h.1.writer = subst (λ (z : Target). GivesWriter z (Some given)) h.2 g in
       let same : h.1.writer ≡ given = cc in
       let may = (cuts_are_free steps h.3.written h.0 h.3.cuts m).may in
       record {
@@ -74,9 +74,9 @@ module _ (f : ProofFormat) (from given : Writer) where
       }
 
   -- of the text at which a call failed
-  stopped_front : (steps : List Step) (now : Target) → MayAll steps → Stops (Open f start (empty_sink from)) steps now → Gives now (Some given) → FrontText f from given steps
+  stopped_front : (steps : List Step) (now : Target) → MayAll steps → TargetFails (Open f start (empty_sink from)) steps now → GivesWriter now (Some given) → FrontText f from given steps
   stopped_front steps now m h g =
-      let q : Some given ≡ Some h.0 = subst (λ (z : Target). Gives z (Some given)) h.1 g in
+      let q : Some given ≡ Some h.0 = subst (λ (z : Target). GivesWriter z (Some given)) h.1 g in
       let same : h.0 ≡ given = cc in
       let may = (cuts_are_free steps h.2.written h.2.counting h.2.cuts m).may in
       record {
@@ -108,11 +108,11 @@ fronts_are_accepted f from given before steps now b m follows g =
 -- FROM STEP TO STEP
 
 -- a target that failed takes nothing more
-broken_follows : (w : Writer) (ys : List Step) (c : Target) → Follows (Faulty w) ys c → c ≡ Faulty w
+broken_follows : (w : Writer) (ys : List Step) (c : Target) → TargetTakesFront (Faulty w) ys c → c ≡ Faulty w
 broken_follows w ys c h = elim h [ inl k ↦ k | inr k ↦ absurd k.3 ]
 
 -- steps, and then later ones
-pub follows_more : (a b c : Target) (xs ys : List Step) → Follows a xs b → Follows b ys c → Follows a (ys ++ xs) c
+pub follows_more : (a b c : Target) (xs ys : List Step) → TargetTakesFront a xs b → TargetTakesFront b ys c → TargetTakesFront a (ys ++ xs) c
 follows_more a b c xs ys p q = elim p [
   | inl k ↦ elim q [
     | inl l ↦ inl (carries_more a b c xs ys k l)
@@ -121,10 +121,10 @@ follows_more a b c xs ys p q = elim p [
   | inr k ↦ inr (ys ++ k.0, k.1, ap (λ (z : List Step). ys ++ z) k.2 ∙ sym (append_assoc ys k.0 k.1), stays a k.1 k.3 q)
 ]
   where
-    stays : (t : Target) (first : List Step) → Stops t first b → Follows b ys c → Stops t first c
+    stays : (t : Target) (first : List Step) → TargetFails t first b → TargetTakesFront b ys c → TargetFails t first c
     stays Closed first s n = absurd s
     stays (Open f n z) first s r =
-        let e : c ≡ Faulty s.0 = broken_follows s.0 ys c (subst (λ (z : Target). Follows z ys c) s.1 r) in
+        let e : c ≡ Faulty s.0 = broken_follows s.0 ys c (subst (λ (z : Target). TargetTakesFront z ys c) s.1 r) in
         (s.0, e, s.2)
     stays (Faulty w) first s n = absurd s
 
@@ -140,9 +140,9 @@ went_more seen a b c p q = record {
 }
 
 -- steps that were taken
-pub went_added : {W L : Type 0} {G : Ghosts L} (seen : W → Writer) (steps : List Step) (a b : Proof W L G) → Adds seen steps a b → WentOn seen a b
+pub went_added : {W L : Type 0} {G : Ghosts L} (seen : W → Writer) (steps : List Step) (a b : Proof W L G) → EmitsExactly seen steps a b → WentOn seen a b
 went_added seen steps a b h = record { steps = steps; history = h.history; target = inl h.target }
 
 -- and steps at whose text a call failed
-pub went_failed : {W L : Type 0} {G : Ghosts L} (seen : W → Writer) (steps : List Step) (a b : Proof W L G) → Fails seen steps a b → WentOn seen a b
+pub went_failed : {W L : Type 0} {G : Ghosts L} (seen : W → Writer) (steps : List Step) (a b : Proof W L G) → FailsToEmit seen steps a b → WentOn seen a b
 went_failed seen steps a b h = record { steps = steps; history = h.history; target = inr ([], steps, refl, h.target) }

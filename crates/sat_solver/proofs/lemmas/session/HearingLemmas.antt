@@ -21,7 +21,7 @@ use Rattle.sat_solver.specs.declared.proof.made.CheckFault.TheVariants as checks
 use Rattle.sat_solver.specs.proof.Checked.{OrCause}
 use Rattle.sat_solver.specs.proof.Listening.{Hears, HeardAll, HeardUpTo, HasHeard, FailedOf}
 use Rattle.sat_solver.specs.session.Session.{MayAll}
-use Rattle.sat_solver.specs.proof.Widths.{IsWritten, none_yet, width_changes, one_more}
+use Rattle.sat_solver.specs.proof.Widths.{IsNarrowedTo, none_yet, width_changes, one_more}
 use Rattle.sat_solver.proofs.lemmas.session.StepLemmas.{sessions_are_accepted}
 
 -- changes of width tell nothing, and leave no unit conflict
@@ -41,7 +41,7 @@ width_quiet bits written q = record {
   told = shown written (stored_after written) q.conflict q.told;
 }
 
-pub widths_quiet : {written : List Step} {width : ℕ} (wide : List Step) → wide ≡ [] → IsWritten wide written width → Quiet written
+pub widths_quiet : {written : List Step} {width : ℕ} (wide : List Step) → wide ≡ [] → IsNarrowedTo wide written width → Quiet written
 widths_quiet wide e none_yet = record { conflict = refl; told = refl }
 widths_quiet wide e (width_changes bits h) = width_quiet bits _ (widths_quiet wide e h)
 widths_quiet wide e (one_more step k h) = cc

@@ -8,7 +8,7 @@ use Rattle.sat_checker.proofs.lemmas.meaning.Clauses.{same, same_from}
 use Rattle.sat_checker.proofs.lemmas.sets.Canonical.{canonical_among}
 use Rattle.sat_checker.proofs.lemmas.sets.Subsets.{any_true, some_of, any_canonical}
 use Rattle.sat_checker.specs.Contents.{same_side, more_if}
-use Rattle.sat_solver.specs.session.LiveClauses.{LiveClause, count_of, IsIn, with_var, AreMapped}
+use Rattle.sat_solver.specs.session.LiveClauses.{LiveClause, live_count_of, IsIn, with_var, AreMapped}
 
 -- two clauses more, in either order
 more_more : (a b : Bool) (n : ℕ) → more_if a (more_if b n) ≡ more_if b (more_if a n)
@@ -17,11 +17,11 @@ more_more true false n = refl
 more_more false b n = refl
 
 -- one clause more, wherever it stands
-pub count_between : (xs ys : List LiveClause) (c : LiveClause) (r : Bool) (set : List ℕ) → count_of (xs ++ c ∷ ys) r set ≡ more_if (same_side c.redundant r && same_literals (canonical c.literals) set) (count_of (xs ++ ys) r set)
+pub count_between : (xs ys : List LiveClause) (c : LiveClause) (r : Bool) (set : List ℕ) → live_count_of (xs ++ c ∷ ys) r set ≡ more_if (same_side c.redundant r && same_literals (canonical c.literals) set) (live_count_of (xs ++ ys) r set)
 count_between [] ys c r set = refl
 count_between (x ∷ xs) ys c r set =
     ap (more_if (same_side x.redundant r && same_literals (canonical x.literals) set)) (count_between xs ys c r set)
-    ∙ more_more (same_side x.redundant r && same_literals (canonical x.literals) set) (same_side c.redundant r && same_literals (canonical c.literals) set) (count_of (xs ++ ys) r set)
+    ∙ more_more (same_side x.redundant r && same_literals (canonical x.literals) set) (same_side c.redundant r && same_literals (canonical c.literals) set) (live_count_of (xs ++ ys) r set)
 
 -- a clause is on its own side
 its_side : (r : Bool) → same_side r r ≡ true
@@ -34,13 +34,13 @@ more_positive true n h = omega arith
 more_positive false n h = h
 
 -- what is in the list has a count
-pub in_counts : (cs : List LiveClause) (c : LiveClause) → IsIn c cs → 0 < count_of cs c.redundant (canonical c.literals)
+pub in_counts : (cs : List LiveClause) (c : LiveClause) → IsIn c cs → 0 < live_count_of cs c.redundant (canonical c.literals)
 in_counts [] c h = absurd h
 in_counts (d ∷ ds) c h = elim h [
   | inl e ↦
       let t : (same_side d.redundant c.redundant && same_literals (canonical d.literals) (canonical c.literals)) ≡ true = subst (λ x. (same_side x.redundant c.redundant && same_literals (canonical x.literals) (canonical c.literals)) ≡ true) e (ap (λ b. b && same_literals (canonical c.literals) (canonical c.literals)) (its_side c.redundant) ∙ same_from (canonical c.literals) (canonical c.literals) refl) in
-      subst (λ b. 0 < more_if b (count_of ds c.redundant (canonical c.literals))) (sym t) (omega arith)
-  | inr k ↦ more_positive (same_side d.redundant c.redundant && same_literals (canonical d.literals) (canonical c.literals)) (count_of ds c.redundant (canonical c.literals)) (in_counts ds c k)
+      subst (λ b. 0 < more_if b (live_count_of ds c.redundant (canonical c.literals))) (sym t) (omega arith)
+  | inr k ↦ more_positive (same_side d.redundant c.redundant && same_literals (canonical d.literals) (canonical c.literals)) (live_count_of ds c.redundant (canonical c.literals)) (in_counts ds c k)
 ]
 
 -- a clause of the list that has this side and set
@@ -58,20 +58,20 @@ side_is false true e = absurd cc
 side_is false false e = refl
 
 -- what has a count is in the list
-pub counts_in : (cs : List LiveClause) (r : Bool) (set : List ℕ) → 0 < count_of cs r set → SomeIn cs r set
+pub counts_in : (cs : List LiveClause) (r : Bool) (set : List ℕ) → 0 < live_count_of cs r set → SomeIn cs r set
 counts_in [] r set n = absurd (omega arith)
 counts_in (c ∷ cs) r set n = go (counts_in cs r set) (same_side c.redundant r) refl (same_literals (canonical c.literals) set) refl n
   where
     later : SomeIn cs r set → SomeIn (c ∷ cs) r set
     later s = record { clause = s.clause; within = inr s.within; side = s.side; its = s.its }
 
-    go : (0 < count_of cs r set → SomeIn cs r set) → (a : Bool) → same_side c.redundant r ≡ a → (b : Bool) → same_literals (canonical c.literals) set ≡ b → 0 < more_if (a && b) (count_of cs r set) → SomeIn (c ∷ cs) r set
+    go : (0 < live_count_of cs r set → SomeIn cs r set) → (a : Bool) → same_side c.redundant r ≡ a → (b : Bool) → same_literals (canonical c.literals) set ≡ b → 0 < more_if (a && b) (live_count_of cs r set) → SomeIn (c ∷ cs) r set
     go ih true x true y k = record { clause = c; within = inl refl; side = side_is c.redundant r x; its = same (canonical c.literals) set y }
     go ih true x false y k = later (ih k)
     go ih false x b y k = later (ih k)
 
 -- where each irredundant clause of the list has a true literal, each counted set has
-pub shows_all : (cs : List LiveClause) (test : ℕ → Bool) → ((c : LiveClause) → IsIn c cs → c.redundant ≡ false → list_any test c.literals ≡ true) → (set : List ℕ) → 0 < count_of cs false set → list_any test set ≡ true
+pub shows_all : (cs : List LiveClause) (test : ℕ → Bool) → ((c : LiveClause) → IsIn c cs → c.redundant ≡ false → list_any test c.literals ≡ true) → (set : List ℕ) → 0 < live_count_of cs false set → list_any test set ≡ true
 shows_all cs test h set n = let s = counts_in cs false set n in subst (λ x. list_any test x ≡ true) s.its (any_canonical test s.clause.literals (h s.clause s.within s.side))
 
 -- a variable that a clause does not have is not in its sorted set
@@ -83,7 +83,7 @@ mentions_canonical v ls n = go (mentions (canonical ls) v) refl
     go false t = refl
 
 -- where no clause of the list has the variable, no counted set has it
-pub unused_in_all : (cs : List LiveClause) (v : ℕ) → ((c : LiveClause) → IsIn c cs → mentions c.literals v ≡ false) → (r : Bool) (set : List ℕ) → 0 < count_of cs r set → mentions set v ≡ false
+pub unused_in_all : (cs : List LiveClause) (v : ℕ) → ((c : LiveClause) → IsIn c cs → mentions c.literals v ≡ false) → (r : Bool) (set : List ℕ) → 0 < live_count_of cs r set → mentions set v ≡ false
 unused_in_all cs v h r set n = let s = counts_in cs r set n in subst (λ x. mentions x v ≡ false) s.its (mentions_canonical v s.clause.literals (h s.clause s.within))
 
 -- SOLVER VARIABLES

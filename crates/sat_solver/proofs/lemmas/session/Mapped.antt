@@ -5,7 +5,7 @@ use Rattle.std.specs.List.{AllByRecursion}
 use Rattle.sat_base.specs.values.Literals.{variable, negated}
 use Rattle.sat_checker.specs.LiteralSets.{is_among}
 use Rattle.sat_checker.specs.SortedSets.{NoRepeats}
-use Rattle.sat_checker.specs.Leading.{Leads}
+use Rattle.sat_checker.specs.Leading.{LeadsToConflict}
 use Rattle.sat_solver.specs.session.Session.{Session, denied}
 use Rattle.sat_solver.specs.session.LiveClauses.{with_var, AreMapped}
 
@@ -42,7 +42,7 @@ module _ (global : ℕ → ℕ) where
   others_mapped p q o m (l ∷ ls) h = (elim h.0 [ inl e ↦ inl (ap (with_var global) e) | inr k ↦ inr (subst (λ x. q x ≡ true) (negated_mapped global l) (m (negated l) k)) ], others_mapped p q o m ls h.1)
 
   -- what leads to a conflict in solver variables does in proof variables; that no two are mapped to one isn't asked
-  pub leads_mapped : (cs : List (List ℕ)) (p q : ℕ → Bool) → Carries p q → Leads p cs → Leads q (map (map (with_var global)) cs)
+  pub leads_mapped : (cs : List (List ℕ)) (p q : ℕ → Bool) → Carries p q → LeadsToConflict p cs → LeadsToConflict q (map (map (with_var global)) cs)
   leads_mapped [] p q m h = h
   leads_mapped (c ∷ []) p q m h = all_mapped p q m c h
   leads_mapped (c ∷ d ∷ cs) p q m h =

@@ -12,7 +12,7 @@ use Rattle.sat_checker.proofs.lemmas.meaning.Answers.{unsat_means_none, models_e
 use Rattle.sat_solver.specs.session.Session.{session_after}
 use Rattle.sat_solver.specs.session.LiveClauses.{with_var}
 use Rattle.sat_solver.specs.session.Promises.{added}
-use Rattle.sat_solver.specs.session.NamedMeaning.{AgreeOn, Reads, AllFrom, NamedModelsAreRight, NamedCoresAreRight, NamedUnsatIsRight, SameLits, KeepsVariables, NoneHiddenMeans}
+use Rattle.sat_solver.specs.session.NamedMeaning.{AgreeOn, IsReadAs, AllFrom, NamedModelsAreRight, NamedCoresAreRight, NamedUnsatIsRight, SameLits, DeletesNoVar, NoneHiddenMeans}
 use Rattle.sat_solver.proofs.lemmas.session.PromiseLemmas.{added_hold}
 use Rattle.sat_solver.proofs.lemmas.session.StepLemmas.{sessions_are_accepted}
 
@@ -67,7 +67,7 @@ some_true a (y ∷ ys) t = elim (or_cases (literal_true a y) (clause_true a ys) 
 ]
 
 -- a literal over a name is true where the one over its proof variable is
-pub read_value : (j : Judge) (variable_of : ℕ → Option ℕ) (a b : Valuation) → AgreeOn j variable_of a b → (l : Literal) (code : ℕ) → Reads j variable_of l code → literal_true a code ≡ literal_true b (over j l)
+pub read_value : (j : Judge) (variable_of : ℕ → Option ℕ) (a b : Valuation) → AgreeOn j variable_of a b → (l : Literal) (code : ℕ) → IsReadAs j variable_of l code → literal_true a code ≡ literal_true b (over j l)
 read_value j variable_of a b agree l code r =
     let e : a r.var ≡ b r.identity = agree l.name r.identity r.var r.in_use r.named in
     let o : over j l ≡ coded r.identity l.positive = ap (λ x. coded (or_zero x) l.positive) r.in_use in
@@ -83,7 +83,7 @@ named_models_are_right j variable_of steps codes ask line means may names read a
     let a : Valuation = m.1.0 in
     let held : Holds steps a = m.0 a m.1.1 m.1.2 in
     let k = means.to a held in
-    let each : AllByRecursion (λ l. literal_true k.0 (over j l) ≡ true) line = all_from (λ l. literal_true k.0 (over j l) ≡ true) line (λ l i. let r = all_at (λ x. (code : ℕ) × Reads j variable_of x code × Among code codes) l line read i in
+    let each : AllByRecursion (λ l. literal_true k.0 (over j l) ≡ true) line = all_from (λ l. literal_true k.0 (over j l) ≡ true) line (λ l i. let r = all_at (λ x. (code : ℕ) × IsReadAs j variable_of x code × Among code codes) l line read i in
     sym (read_value j variable_of a k.0 k.1 l r.0 r.1) ∙ all_at (λ x. literal_true a x ≡ true) r.0 codes m.1.1 r.2) in
     record {
       names = names;
@@ -96,7 +96,7 @@ named_models_are_right j variable_of steps codes ask line means may names read a
 -- where the literals of a core are true, so are those over proof variables
 core_true : (j : Judge) (variable_of : ℕ → Option ℕ) (a b : Valuation) (codes : List ℕ) (core : List Literal) → AgreeOn j variable_of a b → AllFrom j variable_of codes core → EachTrue b (map (over j) core) → EachTrue a codes
 core_true j variable_of a b codes core agree from t = all_from (λ x. literal_true a x ≡ true) codes (λ x i.
-    let r = all_at (λ code. (l : Literal) × Reads j variable_of l code × Among l core) x codes from i in
+    let r = all_at (λ code. (l : Literal) × IsReadAs j variable_of l code × Among l core) x codes from i in
     read_value j variable_of a b agree r.0 x r.1 ∙ all_at (λ y. literal_true b y ≡ true) (over j r.0) (map (over j) core) t (among_images (over j) r.0 core r.2))
 
 -- a failed core that may be written gives a right core
@@ -122,7 +122,7 @@ named_unsat_is_right j variable_of steps ask means may unsat =
 -- WHERE NO NAME WAS EVER HIDDEN
 
 -- where no variable was deleted, what the steps leave satisfies all added clauses
-pub holds_added : (steps : List Step) (a : Valuation) → AllByRecursion KeepsVariables steps → Holds steps a → EachHolds a (added steps)
+pub holds_added : (steps : List Step) (a : Valuation) → AllByRecursion DeletesNoVar steps → Holds steps a → EachHolds a (added steps)
 holds_added [] a k h = tt
 holds_added (AddClause clause ∷ earlier) a k h = (h.1, holds_added earlier a k.1 h.0)
 holds_added (DeleteVar v ∷ earlier) a k h = absurd k.0

@@ -5,8 +5,8 @@ use Rattle.sat_base.specs.values.Hashes.{hash_of}
 use Rattle.sat_base.specs.steps.Steps.{Redundant, Simplified, Satisfied, Step, SolverVarName, UserVarName, DeleteVar, ChangeSamplingMode, AddClause, AtClause, UnitClauses, DeleteClause, ChangeHashBits, Model, Assumptions, FailedAssumptions, End}
 use Rattle.sat_checker.specs.LiteralSets.{is_tautology, canonical}
 use Rattle.sat_checker.specs.Stored.{solver_literal}
-use Rattle.sat_solver.specs.session.Session.{Session, with_fact, with_facts, with_sorted, with_clause, knowing_literals, changed, last_after, after, session_after, AreNamed, MayDerive, MayFail, by_signs, by_derivation, by_unit, by_clauses, MayProve, May, MayAll}
-use Rattle.sat_solver.specs.proof.Widths.{kept_bits, narrowed, KeepsWidth, IsWritten, none_yet, width_changes, one_more, MayAt, WidthsAreFree}
+use Rattle.sat_solver.specs.session.Session.{Session, with_fact, with_facts, with_sorted, with_live_clause, knowing_literals, changed, last_after, after, session_after, AreLiveByHash, MayDerive, MayFail, by_signs, by_derivation, by_unit, by_clauses, MayProve, May, MayAll}
+use Rattle.sat_solver.specs.proof.Widths.{kept_bits, narrowed, KeepsWidth, IsNarrowedTo, none_yet, width_changes, one_more, MayAt, WidthsAreFree}
 
 -- the session at another width
 abbrev pub at : ℕ → Session → Session
@@ -17,7 +17,7 @@ whole : (n : ℕ) → n / 2 ^ (64 - 64) ≡ n
 whole n = omega arith
 
 -- named clauses are named at another width
-named_at : (w : ℕ) (s : Session) → s.width ≡ 64 → (named : List (List ℕ)) (hashes : List ℕ) → AreNamed s named hashes → AreNamed (at w s) named (map (kept_bits w) hashes)
+named_at : (w : ℕ) (s : Session) → s.width ≡ 64 → (named : List (List ℕ)) (hashes : List ℕ) → AreLiveByHash s named hashes → AreLiveByHash (at w s) named (map (kept_bits w) hashes)
 named_at w s e [] [] h = tt
 named_at w s e [] (k ∷ ks) h = absurd h
 named_at w s e (c ∷ cs) [] h = absurd h
@@ -81,7 +81,7 @@ sorted_at w r (l ∷ []) s = fact_at w l s
 sorted_at w r (l ∷ m ∷ ls) s = refl
 
 -- a clause, at another width
-clause_at : (w : ℕ) (r : Bool) (clause : List ℕ) (s : Session) → with_clause r clause (at w s) ≡ at w (with_clause r clause s)
+clause_at : (w : ℕ) (r : Bool) (clause : List ℕ) (s : Session) → with_live_clause r clause (at w s) ≡ at w (with_live_clause r clause s)
 clause_at w r clause s = go (is_tautology clause)
   where
     go : (b : Bool) → cond b (at w s) (with_sorted r (canonical clause) (at w s)) ≡ at w (cond b s (with_sorted r (canonical clause) s))
@@ -103,7 +103,7 @@ changed_at w (DeleteVar v) s k = refl
 changed_at w (ChangeSamplingMode v sample) s k = refl
 changed_at w (AddClause clause) s k = go s.unsat
   where
-    go : (b : Bool) → cond b (at w s) (with_clause false clause (knowing_literals clause (at w s))) ≡ at w (cond b s (with_clause false clause (knowing_literals clause s)))
+    go : (b : Bool) → cond b (at w s) (with_live_clause false clause (knowing_literals clause (at w s))) ≡ at w (cond b s (with_live_clause false clause (knowing_literals clause s)))
     go true = refl
     go false = clause_at w false clause (knowing_literals clause s)
 changed_at w (AtClause r clause hashes) s k = clause_at w r clause (knowing_literals clause s)
@@ -164,7 +164,7 @@ sorted_width r (l ∷ []) s = fact_width l s
 sorted_width r (l ∷ m ∷ ls) s = refl
 
 -- a clause leaves the width
-clause_width : (r : Bool) (clause : List ℕ) (s : Session) → (with_clause r clause s).width ≡ s.width
+clause_width : (r : Bool) (clause : List ℕ) (s : Session) → (with_live_clause r clause s).width ≡ s.width
 clause_width r clause s = go (is_tautology clause)
   where
     go : (b : Bool) → (cond b s (with_sorted r (canonical clause) s)).width ≡ s.width
@@ -186,7 +186,7 @@ changed_width (DeleteVar v) s k = refl
 changed_width (ChangeSamplingMode v sample) s k = refl
 changed_width (AddClause clause) s k = go s.unsat
   where
-    go : (b : Bool) → (cond b s (with_clause false clause (knowing_literals clause s))).width ≡ s.width
+    go : (b : Bool) → (cond b s (with_live_clause false clause (knowing_literals clause s))).width ≡ s.width
     go true = refl
     go false = clause_width false clause (knowing_literals clause s)
 changed_width (AtClause r clause hashes) s k = clause_width r clause (knowing_literals clause s)
@@ -201,7 +201,7 @@ changed_width (FailedAssumptions core hashes) s k = refl
 changed_width End s k = refl
 
 -- what is written for steps may be written, and the steps themselves are at 64 bits
-written_may : {wide written : List Step} {width : ℕ} → IsWritten wide written width → MayAll wide → MayAt wide written width × (session_after wide).width ≡ 64
+written_may : {wide written : List Step} {width : ℕ} → IsNarrowedTo wide written width → MayAll wide → MayAt wide written width × (session_after wide).width ≡ 64
 written_may none_yet h = (record { may = tt; session = refl }, refl)
 written_may (width_changes {wide = wide} {written = written} {width = width} bits w) h =
     let ih = written_may w h in

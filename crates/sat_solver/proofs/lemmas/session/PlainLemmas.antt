@@ -3,7 +3,7 @@ use Rattle.std.proofs.Common.{ℕ, ◌≡◌, Bool, true, false, ◌||◌, cond,
 use Rattle.sat_base.specs.values.Literals.{negated}
 use Rattle.sat_base.specs.steps.Steps.{Redundant, Simplified, Satisfied, Step, SolverVarName, UserVarName, DeleteVar, ChangeSamplingMode, AddClause, AtClause, UnitClauses, DeleteClause, ChangeHashBits, Model, Assumptions, FailedAssumptions, End}
 use Rattle.sat_checker.specs.LiteralSets.{is_tautology, canonical}
-use Rattle.sat_solver.specs.session.Session.{Session, with_fact, with_facts, with_sorted, with_clause, knowing_literals, after}
+use Rattle.sat_solver.specs.session.Session.{Session, with_fact, with_facts, with_sorted, with_live_clause, knowing_literals, after}
 
 -- RECORDED UNSAT STAYS
 
@@ -28,7 +28,7 @@ sorted_unsat r (l ∷ []) s u = fact_unsat l s u
 sorted_unsat r (l ∷ m ∷ ls) s u = u
 
 -- behind a clause
-clause_unsat : (r : Bool) (clause : List ℕ) (s : Session) → s.unsat ≡ true → (with_clause r clause s).unsat ≡ true
+clause_unsat : (r : Bool) (clause : List ℕ) (s : Session) → s.unsat ≡ true → (with_live_clause r clause s).unsat ≡ true
 clause_unsat r clause s u = go (is_tautology clause)
   where
     go : (b : Bool) → (cond b s (with_sorted r (canonical clause) s)).unsat ≡ true
@@ -45,7 +45,7 @@ unsat_stays (DeleteVar v) s u = u
 unsat_stays (ChangeSamplingMode v sample) s u = u
 unsat_stays (AddClause clause) s u = go s.unsat
   where
-    go : (b : Bool) → (cond b s (with_clause false clause (knowing_literals clause s))).unsat ≡ true
+    go : (b : Bool) → (cond b s (with_live_clause false clause (knowing_literals clause s))).unsat ≡ true
     go true = u
     go false = clause_unsat false clause (knowing_literals clause s) u
 unsat_stays (AtClause r clause hashes) s u = clause_unsat r clause (knowing_literals clause s) u

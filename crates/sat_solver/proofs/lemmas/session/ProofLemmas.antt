@@ -3,7 +3,7 @@ use Rattle.std.proofs.Common.{◌≡◌, ◌∙◌, ℕ, Bool, true, false, Opti
 use Rattle.std.proofs.lemmas.Bool.{true≢false}
 use Rattle.std.proofs.lemmas.List.{append-nil, reverse-append}
 use Rattle.std.specs.Prelude.{is_some, reverse}
-use Rattle.sat_base.specs.device.Device.{Writer, Takes, Breaks}
+use Rattle.sat_base.specs.device.Device.{Writer, WriterTakes, WriterBreaks}
 use Rattle.sat_base.specs.device.Sink.{Sink, Sent, empty_sink}
 use Rattle.sat_base.specs.steps.Formats.{Format, Items}
 use Rattle.sat_base.specs.steps.Steps.{Step, End}
@@ -14,11 +14,11 @@ use Rattle.sat_base.proofs.lemmas.device.Writes.{took_more as took_both, breaks_
 use Rattle.sat_checker.specs.declared.processing.ProofProcessor.{Ghosts}
 use Rattle.sat_solver.specs.proof.Counting.{TruncatesHashes, none_made, ask_begun, one_made, written_for, counted}
 use Rattle.sat_solver.specs.proof.ProofTexts.{ClosedIsText, BrokenIsFront, WroteSince, TookSince}
-use Rattle.sat_solver.specs.proof.OutputView.{step_text, text_in, AreSpelt, Wrote}
-use Rattle.sat_solver.specs.proof.ProofView.{IsAtWidth, Target, Closed, Open, Broken as Faulty, is_open, Carried, Carries, Stops, Flushed, TakesAll, Gives, target_of, steps_of, has_asked, Adds, Gains, Fails, FailsCheck, Complains, is_checked, is_lost, Records, Drains, Flushes, FlushesOrFails, Closes, ClosesOne, HandsBack}
+use Rattle.sat_solver.specs.proof.OutputView.{step_text, text_in, AreSpeltInFormat, SendsSteps}
+use Rattle.sat_solver.specs.proof.ProofView.{IsAtWidth, Target, Closed, Open, Broken as Faulty, is_open, Carried, TargetTakes, TargetFails, Flushed, TakesAll, GivesWriter, target_of, steps_of, has_asked, EmitsExactly, EmitsChecked, FailsToEmit, FailsCheck, Complains, is_checked, is_lost, EmitsAsAnswered, Drains, FlushesAndTells, FlushesOrFails, ClosesTarget, ClosesOne, HandsBack}
 use Rattle.sat_solver.specs.proof.Complaints.{IsComplaint}
 use Rattle.sat_solver.specs.proof.MadeView as mades
-use Rattle.sat_solver.specs.session.Making.{Gained}
+use Rattle.sat_solver.specs.session.Making.{ComesByCheckedSteps}
 use Rattle.sat_solver.specs.declared.proof.made.CheckFault.{CheckFault}
 use Rattle.sat_solver.specs.declared.proof.checker.Checked.{Checked}
 use Rattle.sat_solver.specs.declared.proof.made.Made.{Made}
@@ -38,7 +38,7 @@ items_one F [] x a b h k = (b, [], k, refl, subst (λ (z : List ℕ). z ++ b ≡
 items_one F (y ∷ xs) x a b h k = (h.0, h.1 ++ b, h.2, items_one F xs x h.1 b h.3 k, subst (λ (z : List ℕ). z ++ b ≡ h.0 ++ (h.1 ++ b)) (sym h.4) (append_assoc h.0 h.1 b))
 
 -- in bytes the text spells the steps, the oldest first
-pub text_spells : (steps : List Step) → AreSpelt Varisat steps → SpellsSteps (reverse steps) (text_in Varisat steps)
+pub text_spells : (steps : List Step) → AreSpeltInFormat Varisat steps → SpellsSteps (reverse steps) (text_in Varisat steps)
 text_spells [] h = refl
 text_spells (step ∷ earlier) h =
     subst (λ (z : List Step). SpellsSteps z (text_in Varisat earlier ++ step_bytes step)) (sym (reverse-append (step ∷ []) earlier))
@@ -51,18 +51,18 @@ module _ (f : ProofFormat) where
   text_append (y ∷ ys) xs = ap (λ (z : List ℕ). z ++ step_text f y) (text_append ys xs) ∙ append_assoc (text_in f xs) (text_in f ys) (step_text f y)
 
   -- all of them are spelt
-  pub spelt_append : (ys xs : List Step) → AreSpelt f ys → AreSpelt f xs → AreSpelt f (ys ++ xs)
+  pub spelt_append : (ys xs : List Step) → AreSpeltInFormat f ys → AreSpeltInFormat f xs → AreSpeltInFormat f (ys ++ xs)
   spelt_append [] xs h k = k
   spelt_append (y ∷ ys) xs h k = (h.0, spelt_append ys xs h.1 k)
 
   -- SINKS
 
   -- nothing was written
-  pub wrote_none : (s : Sink) → Wrote f [] s s
+  pub wrote_none : (s : Sink) → SendsSteps f [] s s
   wrote_none s = record { spelt = tt; sent = sent_none s }
 
   -- steps were written, and then later ones
-  pub wrote_more : (s t u : Sink) (xs ys : List Step) → Wrote f xs s t → Wrote f ys t u → Wrote f (ys ++ xs) s u
+  pub wrote_more : (s t u : Sink) (xs ys : List Step) → SendsSteps f xs s t → SendsSteps f ys t u → SendsSteps f (ys ++ xs) s u
   wrote_more s t u xs ys p q = record {
     spelt = spelt_append ys xs q.spelt p.spelt;
     sent = subst (Sent s u) (sym (text_append ys xs)) (sent_more s t u (text_in f xs) (text_in f ys) p.sent q.sent);
@@ -75,9 +75,9 @@ module _ (f : ProofFormat) where
       ∙ ap (λ (z : List ℕ). s.waiting ++ z) (sym (text_append ys xs))
 
   -- steps were written, and a call failed at later ones
-  pub breaks_behind : (s t : Sink) (w : Writer) (xs ys : List Step) → Wrote f xs s t → Breaks t.writer w (t.waiting ++ text_in f ys) → Breaks s.writer w (s.waiting ++ text_in f (ys ++ xs))
+  pub breaks_behind : (s t : Sink) (w : Writer) (xs ys : List Step) → SendsSteps f xs s t → WriterBreaks t.writer w (t.waiting ++ text_in f ys) → WriterBreaks s.writer w (s.waiting ++ text_in f (ys ++ xs))
   breaks_behind s t w xs ys p q =
-      subst (Breaks s.writer w) (rest_text s t p.sent.fresh xs ys p.sent.flows) (breaks_later s.writer t.writer w p.sent.fresh (t.waiting ++ text_in f ys) p.sent.takes q)
+      subst (WriterBreaks s.writer w) (rest_text s t p.sent.fresh xs ys p.sent.flows) (breaks_later s.writer t.writer w p.sent.fresh (t.waiting ++ text_in f ys) p.sent.takes q)
 
 -- WIDTHS
 
@@ -95,7 +95,7 @@ cuts_one c step k = subst (λ (z : List Step). TruncatesHashes c (step ∷ []) z
 -- TARGETS
 
 -- no step
-pub carries_none : (t : Target) → Carries t [] t
+pub carries_none : (t : Target) → TargetTakes t [] t
 carries_none Closed = refl
 carries_none (Open f c s) = (c, s, refl, record { written = []; cuts = none_made; wrote = wrote_none f s })
 carries_none (Faulty w) = refl
@@ -105,18 +105,18 @@ pub carried_more : (f : ProofFormat) (c d e : Counting) (s t u : Sink) (xs ys : 
 carried_more f c d e s t u xs ys p q = record { written = q.written ++ p.written; cuts = cuts_more p.cuts q.cuts; wrote = wrote_more f s t u p.written q.written p.wrote q.wrote }
 
 -- steps, and then later ones
-pub carries_more : (a b c : Target) (xs ys : List Step) → Carries a xs b → Carries b ys c → Carries a (ys ++ xs) c
-carries_more Closed b c xs ys p q = subst (λ (z : Target). Carries z ys c) p q
+pub carries_more : (a b c : Target) (xs ys : List Step) → TargetTakes a xs b → TargetTakes b ys c → TargetTakes a (ys ++ xs) c
+carries_more Closed b c xs ys p q = subst (λ (z : Target). TargetTakes z ys c) p q
 carries_more (Open f n s) b c xs ys p q =
-    let k = subst (λ (z : Target). Carries z ys c) p.2 q in
+    let k = subst (λ (z : Target). TargetTakes z ys c) p.2 q in
     (k.0, k.1, k.2, carried_more f n p.0 k.0 s p.1 k.1 xs ys p.3 k.3)
-carries_more (Faulty w) b c xs ys p q = subst (λ (z : Target). Carries z ys c) p q
+carries_more (Faulty w) b c xs ys p q = subst (λ (z : Target). TargetTakes z ys c) p q
 
 -- steps, and a fault at later ones
-pub stops_later : (a b c : Target) (xs ys : List Step) → Carries a xs b → Stops b ys c → Stops a (ys ++ xs) c
-stops_later Closed b c xs ys p q = subst (λ (z : Target). Stops z ys c) p q
+pub stops_later : (a b c : Target) (xs ys : List Step) → TargetTakes a xs b → TargetFails b ys c → TargetFails a (ys ++ xs) c
+stops_later Closed b c xs ys p q = subst (λ (z : Target). TargetFails z ys c) p q
 stops_later (Open f n s) b c xs ys p q =
-    let k = subst (λ (z : Target). Stops z ys c) p.2 q in (
+    let k = subst (λ (z : Target). TargetFails z ys c) p.2 q in (
       k.0,
       k.1,
       record {
@@ -126,20 +126,20 @@ stops_later (Open f n s) b c xs ys p q =
         breaks = breaks_behind f s p.1 k.0 p.3.written k.2.written p.3.wrote k.2.breaks;
       },
     )
-stops_later (Faulty w) b c xs ys p q = subst (λ (z : Target). Stops z ys c) p q
+stops_later (Faulty w) b c xs ys p q = subst (λ (z : Target). TargetFails z ys c) p q
 
 -- a flush writes no step
-pub flushed_carries : (a b : Target) → Flushed a b → Carries a [] b
+pub flushed_carries : (a b : Target) → Flushed a b → TargetTakes a [] b
 flushed_carries Closed b h = h
 flushed_carries (Open f c s) b h = (c, h.0, h.1, record { written = []; cuts = none_made; wrote = record { spelt = tt; sent = h.2.sent } })
 flushed_carries (Faulty w) b h = h
 
 -- steps, a flush, and the target is handed back
-pub takes_all : (a b c : Target) (given : Option Writer) (w : Writer) (xs : List Step) → is_open a ≡ true → Carries a xs b → Flushed b c → Gives c given → given ≡ Some w → TakesAll a xs w
+pub takes_all : (a b c : Target) (given : Option Writer) (w : Writer) (xs : List Step) → is_open a ≡ true → TargetTakes a xs b → Flushed b c → GivesWriter c given → given ≡ Some w → TakesAll a xs w
 takes_all Closed b c given w xs o p f g e = cc
 takes_all (Open a n s) b c given w xs o p f g e =
     let k = subst (λ (z : Target). Flushed z c) p.2 f in
-    let q = subst (λ (z : Target). Gives z given) k.1 g in
+    let q = subst (λ (z : Target). GivesWriter z given) k.1 g in
     let is : k.0.writer ≡ w = cc in
     let text = text_in a p.3.written in
     let sent : Sent s k.0 text = subst (Sent s k.0) (append-nil text) (sent_more s p.1 k.0 text [] p.3.wrote.sent k.2.sent) in
@@ -150,14 +150,14 @@ takes_all (Open a n s) b c given w xs o p f g e =
       counting = p.0;
       cuts = p.3.cuts;
       spelt = p.3.wrote.spelt;
-      takes = subst (λ (z : Writer). Takes s.writer z (s.waiting ++ text)) is (subst (Takes s.writer k.0.writer) all sent.takes);
+      takes = subst (λ (z : Writer). WriterTakes s.writer z (s.waiting ++ text)) is (subst (WriterTakes s.writer k.0.writer) all sent.takes);
       flushed = subst (λ (z : Writer). z.flushed ≡ true) is k.2.flushed;
     }
 takes_all (Faulty w) b c given v xs o p f g e = cc
 
 -- in bytes it spells them
-spells : (f : ProofFormat) (steps : List Step) → AreSpelt f steps → f ≡ Varisat → SpellsSteps (reverse steps) (text_in f steps)
-spells f steps h e = subst (λ (z : ProofFormat). SpellsSteps (reverse steps) (text_in z steps)) (sym e) (text_spells steps (subst (λ (z : ProofFormat). AreSpelt z steps) e h))
+spells : (f : ProofFormat) (steps : List Step) → AreSpeltInFormat f steps → f ≡ Varisat → SpellsSteps (reverse steps) (text_in f steps)
+spells f steps h e = subst (λ (z : ProofFormat). SpellsSteps (reverse steps) (text_in z steps)) (sym e) (text_spells steps (subst (λ (z : ProofFormat). AreSpeltInFormat z steps) e h))
 
 -- What a target took from the opening of a proof to its end, in which these steps were made.
 pub closed_is_text : ClosedIsText
@@ -170,25 +170,25 @@ closed_is_text f from given steps last t p q =
       counting = k.counting;
       cuts = cuts_more p.3.cuts k.cuts;
       spells = spells f (k.written ++ p.3.written) (spelt_append f k.written p.3.written k.spelt p.3.wrote.spelt);
-      takes = subst (Takes from given) whole (took_both from s.writer given p.3.wrote.sent.fresh (s.waiting ++ text_in f k.written) p.3.wrote.sent.takes k.takes);
+      takes = subst (WriterTakes from given) whole (took_both from s.writer given p.3.wrote.sent.fresh (s.waiting ++ text_in f k.written) p.3.wrote.sent.takes k.takes);
       flushed = k.flushed;
     }
 
 -- What a target that failed took since the opening of a proof: a front of the text, and that call was the last.
 pub broken_is_front : BrokenIsFront
 broken_is_front f from given steps t p g =
-    let q = subst (λ (z : Target). Gives z (Some given)) p.1 g in
+    let q = subst (λ (z : Target). GivesWriter z (Some given)) p.1 g in
     let same : p.0 ≡ given = cc in
-    record { written = p.2.written; counting = p.2.counting; cuts = p.2.cuts; breaks = subst (λ (z : Writer). Breaks from z (text_in f p.2.written)) same p.2.breaks }
+    record { written = p.2.written; counting = p.2.counting; cuts = p.2.cuts; breaks = subst (λ (z : Writer). WriterBreaks from z (text_in f p.2.written)) same p.2.breaks }
 
 -- PROOFS
 
 -- no step
-pub adds_none : {W L : Type 0} {G : Ghosts L} (seen : W → Writer) (p : Proof W L G) → Adds seen [] p p
+pub adds_none : {W L : Type 0} {G : Ghosts L} (seen : W → Writer) (p : Proof W L G) → EmitsExactly seen [] p p
 adds_none seen p = record { history = refl; listening = refl; target = carries_none (target_of seen p) }
 
 -- steps, and then later ones
-pub adds_more : {W L : Type 0} {G : Ghosts L} (seen : W → Writer) (xs ys : List Step) (a b c : Proof W L G) → Adds seen xs a b → Adds seen ys b c → Adds seen (ys ++ xs) a c
+pub adds_more : {W L : Type 0} {G : Ghosts L} (seen : W → Writer) (xs ys : List Step) (a b c : Proof W L G) → EmitsExactly seen xs a b → EmitsExactly seen ys b c → EmitsExactly seen (ys ++ xs) a c
 adds_more seen xs ys a b c p q = record {
   history = q.history ∙ ap (λ z. ys ++ z) p.history ∙ sym (append_assoc ys xs (steps_of a));
   listening = q.listening ∙ p.listening;
@@ -196,11 +196,11 @@ adds_more seen xs ys a b c p q = record {
 }
 
 -- the same, where the checker took them
-pub gains_none : {W L : Type 0} {G : Ghosts L} (seen : W → Writer) (p : Proof W L G) → Gains seen [] p p
+pub gains_none : {W L : Type 0} {G : Ghosts L} (seen : W → Writer) (p : Proof W L G) → EmitsChecked seen [] p p
 gains_none seen p = record { history = refl; listening = refl; taking = refl; asked = refl; width = λ h. elim h [ inl w ↦ w | inr n ↦ absurd (n refl) ]; target = carries_none (target_of seen p) }
 
 -- nothing was made
-pub gains_kept : {W L : Type 0} {G : Ghosts L} (seen : W → Writer) (p q : Proof W L G) → q.made ≡ p.made → q.counting ≡ p.counting → has_asked q ≡ has_asked p → Carries (target_of seen p) [] (target_of seen q) → Gains seen [] p q
+pub gains_kept : {W L : Type 0} {G : Ghosts L} (seen : W → Writer) (p q : Proof W L G) → q.made ≡ p.made → q.counting ≡ p.counting → has_asked q ≡ has_asked p → TargetTakes (target_of seen p) [] (target_of seen q) → EmitsChecked seen [] p q
 gains_kept {W} {L} {G} seen p q made counting asked target = record {
   history = ap (λ (m : Made L G). m.history.steps) made;
   listening = ap (λ (m : Made L G). mades.audience m) made;
@@ -214,20 +214,20 @@ width_more : {W L : Type 0} {G : Ghosts L} (xs ys : List Step) (a b c : Proof W 
 width_more xs [] a b c p q h = q (inl (p h))
 width_more xs (y ∷ ys) a b c p q h = q (inr (λ e. cc))
 
-pub gains_adds : {W L : Type 0} {G : Ghosts L} (seen : W → Writer) (xs : List Step) (a b : Proof W L G) → Gains seen xs a b → Adds seen xs a b
+pub gains_adds : {W L : Type 0} {G : Ghosts L} (seen : W → Writer) (xs : List Step) (a b : Proof W L G) → EmitsChecked seen xs a b → EmitsExactly seen xs a b
 gains_adds seen xs a b h = record { history = h.history; listening = h.listening; target = h.target }
 
-pub gains_more : {W L : Type 0} {G : Ghosts L} (seen : W → Writer) (xs ys : List Step) (a b c : Proof W L G) → Gains seen xs a b → Gains seen ys b c → Gains seen (ys ++ xs) a c
+pub gains_more : {W L : Type 0} {G : Ghosts L} (seen : W → Writer) (xs ys : List Step) (a b c : Proof W L G) → EmitsChecked seen xs a b → EmitsChecked seen ys b c → EmitsChecked seen (ys ++ xs) a c
 gains_more seen xs ys a b c p q =
     let both = adds_more seen xs ys a b c (gains_adds seen xs a b p) (gains_adds seen ys b c q) in
     record { history = both.history; listening = both.listening; taking = q.taking ∙ p.taking; asked = q.asked ∙ p.asked; width = width_more xs ys a b c p.width q.width; target = both.target }
 
 -- behind steps the checker is at the width of the target's text
-pub gained_width : {W L : Type 0} {G : Ghosts L} (seen : W → Writer) (a b : Proof W L G) → Gained seen a b → (steps_of b ≡ steps_of a → ⊥) → IsAtWidth b
+pub gained_width : {W L : Type 0} {G : Ghosts L} (seen : W → Writer) (a b : Proof W L G) → ComesByCheckedSteps seen a b → (steps_of b ≡ steps_of a → ⊥) → IsAtWidth b
 gained_width seen a b t n = t.1.width (inr (λ e. n (t.1.history ∙ ap (λ xs. xs ++ steps_of a) e)))
 
 -- steps, and then a fault at later ones
-pub fails_later : {W L : Type 0} {G : Ghosts L} (seen : W → Writer) (xs ys : List Step) (a b c : Proof W L G) → Adds seen xs a b → Fails seen ys b c → Fails seen (ys ++ xs) a c
+pub fails_later : {W L : Type 0} {G : Ghosts L} (seen : W → Writer) (xs ys : List Step) (a b c : Proof W L G) → EmitsExactly seen xs a b → FailsToEmit seen ys b c → FailsToEmit seen (ys ++ xs) a c
 fails_later seen xs ys a b c p q = record {
   history = q.history ∙ ap (λ z. ys ++ z) p.history ∙ sym (append_assoc ys xs (steps_of a));
   listening = q.listening ∙ p.listening;
@@ -243,11 +243,11 @@ complains_checked {G = G} fault p h = go p.made.own h
     go (Some own) h = refl
 
 -- steps, and then later ones at which the checker failed
-pub check_later : {W L : Type 0} {G : Ghosts L} {fault : CheckFault} (seen : W → Writer) (xs ys : List Step) (a b c : Proof W L G) → Adds seen xs a b → FailsCheck seen fault ys b c → FailsCheck seen fault (ys ++ xs) a c
+pub check_later : {W L : Type 0} {G : Ghosts L} {fault : CheckFault} (seen : W → Writer) (xs ys : List Step) (a b c : Proof W L G) → EmitsExactly seen xs a b → FailsCheck seen fault ys b c → FailsCheck seen fault (ys ++ xs) a c
 check_later seen xs ys a b c p q = record { adds = adds_more seen xs ys a b c p q.adds; why = q.why }
 
 -- a flush of the target makes no step
-drained : {W L : Type 0} {G : Ghosts L} (seen : W → Writer) (a b : Proof W L G) → Drains seen a b → Adds seen [] a b
+drained : {W L : Type 0} {G : Ghosts L} (seen : W → Writer) (a b : Proof W L G) → Drains seen a b → EmitsExactly seen [] a b
 drained seen a b h = record { history = h.history; listening = h.listening; target = flushed_carries (target_of seen a) (target_of seen b) h.target }
 
 -- it hadn't failed before
@@ -255,20 +255,20 @@ pub complains_now : {W L : Type 0} {G : Ghosts L} (fault : CheckFault) (p : Proo
 complains_now fault p lost taking h = elim h [ inl k ↦ k | inr k ↦ absurd (true≢false (sym k.0 ∙ taking)) ]
 
 -- nor does what the checker tells behind it
-pub flush_records : {W L : Type 0} {G : Ghosts L} (seen : W → Writer) (r : Result (Unit {0}) ProofError) (a b : Proof W L G) → is_lost a ≡ false → FlushesOrFails seen r a b → Records seen r [] a b
+pub flush_records : {W L : Type 0} {G : Ghosts L} (seen : W → Writer) (r : Result (Unit {0}) ProofError) (a b : Proof W L G) → is_lost a ≡ false → FlushesOrFails seen r a b → EmitsAsAnswered seen r [] a b
 flush_records seen (Ok x) a b taking h = record { history = h.history; listening = h.listening; taking = h.taking; asked = h.asked; width = λ k. elim k [ inl w ↦ h.width w | inr n ↦ absurd (n refl) ]; target = flushed_carries (target_of seen a) (target_of seen b) h.target }
 flush_records seen (Err (Write e)) a b taking h = h
 flush_records seen (Err OutOfMemory) a b taking h = absurd h
 flush_records seen (Err (Check fault)) a b taking h = (let k = complains_now fault b (is_lost a) taking h.1 in (record { adds = drained seen a b h.0; why = k.0 }, k.1))
 
 -- the last step wasn't made, or not taken
-pub close_stops : {W L : Type 0} {G : Ghosts L} (T : Type 0) (seen : W → Writer) (e : ProofError) (a b : Proof W L G) → Records {T = T} seen (Err e) (End ∷ []) a b → Closes seen (Err e) a b
+pub close_stops : {W L : Type 0} {G : Ghosts L} (T : Type 0) (seen : W → Writer) (e : ProofError) (a b : Proof W L G) → EmitsAsAnswered {T = T} seen (Err e) (End ∷ []) a b → ClosesTarget seen (Err e) a b
 close_stops T seen (Write e) a b h = h
 close_stops T seen OutOfMemory a b h = h
 close_stops T seen (Check fault) a b h = (h.0.adds, inl (h.0.why, h.1))
 
 -- the last step was made, and then a flush failed
-pub close_fails : {W L : Type 0} {G : Ghosts L} (seen : W → Writer) (e : ProofError) (a b c : Proof W L G) → Gains seen (End ∷ []) a b → FlushesOrFails seen (Err e) b c → Closes seen (Err e) a c
+pub close_fails : {W L : Type 0} {G : Ghosts L} (seen : W → Writer) (e : ProofError) (a b c : Proof W L G) → EmitsChecked seen (End ∷ []) a b → FlushesOrFails seen (Err e) b c → ClosesTarget seen (Err e) a c
 close_fails seen (Write e) a b c p q = (
   record {
     history = q.0.history ∙ p.history;
@@ -280,16 +280,16 @@ close_fails seen (Write e) a b c p q = (
 close_fails seen OutOfMemory a b c p q = absurd q
 close_fails seen (Check fault) a b c p q = (adds_more seen (End ∷ []) [] a b c (gains_adds seen (End ∷ []) a b p) (drained seen b c q.0), elim q.1 [ inl k ↦ inl k | inr k ↦ inr (sym p.taking ∙ k.0, k.1) ])
 
-gives_none : (a b c : Target) (xs : List Step) → is_open a ≡ true → Carries a xs b → Flushed b c → Gives c None → ⊥
+gives_none : (a b c : Target) (xs : List Step) → is_open a ≡ true → TargetTakes a xs b → Flushed b c → GivesWriter c None → ⊥
 gives_none Closed b c xs o p f g = absurd (true≢false (sym o))
 gives_none (Open a n s) b c xs o p f g =
     let k = subst (λ (z : Target). Flushed z c) p.2 f in
-    let q : None ≡ Some k.0.writer = subst (λ (z : Target). Gives z None) k.1 g in
+    let q : None ≡ Some k.0.writer = subst (λ (z : Target). GivesWriter z None) k.1 g in
     cc
 gives_none (Faulty w) b c xs o p f g = absurd (true≢false (sym o))
 
 -- the last step was made, the target flushed and handed back
-pub close_gives : {W L : Type 0} {G : Ghosts L} (seen : W → Writer) (o : Option W) (a b c d : Proof W L G) → is_open (target_of seen a) ≡ true → Gains seen (End ∷ []) a b → Flushes seen b c → HandsBack seen o c d → Closes seen (Ok o) a d
+pub close_gives : {W L : Type 0} {G : Ghosts L} (seen : W → Writer) (o : Option W) (a b c d : Proof W L G) → is_open (target_of seen a) ≡ true → EmitsChecked seen (End ∷ []) a b → FlushesAndTells seen b c → HandsBack seen o c d → ClosesTarget seen (Ok o) a d
 close_gives seen None a b c d open_yet p q h = absurd (gives_none (target_of seen a) (target_of seen b) (target_of seen c) (End ∷ []) open_yet p.target q.target h.gives)
 close_gives seen (Some w) a b c d open_yet p q h = record {
   history = h.history ∙ q.history ∙ p.history;

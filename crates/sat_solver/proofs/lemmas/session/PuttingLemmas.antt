@@ -1,13 +1,13 @@
 -- Steps that are put into a target's text, with the widths that they have.
 use Rattle.std.proofs.Common.{Bool, ◌≡◌, ◌∙◌, true, false, Option, None, Some, Err, List, [], ◌∷◌, ◌++◌, append_assoc, refl, sym, ap, subst}
-use Rattle.sat_base.specs.device.Device.{Writer, Breaks}
+use Rattle.sat_base.specs.device.Device.{Writer, WriterBreaks}
 use Rattle.sat_base.specs.device.Sink.{Sink, Sent}
 use Rattle.sat_base.specs.steps.Steps.{Step}
 use Rattle.sat_base.proofs.lemmas.device.Writes.{breaks_within}
 use Rattle.sat_checker.specs.declared.processing.ProofProcessor.{Ghosts}
 use Rattle.sat_solver.specs.proof.Counting.{width_told, written_for, counted}
-use Rattle.sat_solver.specs.proof.OutputView.{step_text, SpellsIn, text_in, Wrote, PutsSteps, output_format, output_sink}
-use Rattle.sat_solver.specs.proof.ProofView.{Carries, Stops, Open, Broken as Faulty, with_fault, target_in, target_of, Adds, Fails}
+use Rattle.sat_solver.specs.proof.OutputView.{step_text, SpellsIn, text_in, SendsSteps, PutsSteps, output_format, output_sink}
+use Rattle.sat_solver.specs.proof.ProofView.{TargetTakes, TargetFails, Open, Broken as Faulty, with_fault, target_in, target_of, EmitsExactly, FailsToEmit}
 use Rattle.sat_solver.specs.proof.Widths.{narrowed, KeepsWidth}
 use Rattle.sat_solver.specs.declared.proof.hash_bits.Counting.{Counting}
 use Rattle.sat_solver.specs.declared.proof.output.Output.{Output}
@@ -19,25 +19,25 @@ use Rattle.sat_solver.specs.declared.proof.output.OutputError.TheVariants.{Write
 use Rattle.sat_solver.proofs.lemmas.session.ProofLemmas.{wrote_none, breaks_behind, cuts_one, carries_none}
 
 -- one step was written
-pub wrote_one : (f : ProofFormat) (step : Step) (s t : Sink) → Sent s t (step_text f step) → SpellsIn f step → Wrote f (step ∷ []) s t
+pub wrote_one : (f : ProofFormat) (step : Step) (s t : Sink) → Sent s t (step_text f step) → SpellsIn f step → SendsSteps f (step ∷ []) s t
 wrote_one f step s t h k = record { spelt = (k, tt); sent = h }
 
 -- a step behind others that were written
-pub puts_behind : (f : ProofFormat) (step : Step) (xs : List Step) (s t u : Sink) → Wrote f xs s t → Breaks t.writer u.writer (t.waiting ++ step_text f step) → Breaks s.writer u.writer (s.waiting ++ text_in f (step ∷ xs))
+pub puts_behind : (f : ProofFormat) (step : Step) (xs : List Step) (s t u : Sink) → SendsSteps f xs s t → WriterBreaks t.writer u.writer (t.waiting ++ step_text f step) → WriterBreaks s.writer u.writer (s.waiting ++ text_in f (step ∷ xs))
 puts_behind f step xs s t u p q = breaks_behind f s t u.writer xs (step ∷ []) p q
 
 -- a fault at the text of steps is one at the text of these and one more
 pub puts_short : (f : ProofFormat) (e : OutputError) (step : Step) (xs : List Step) (s t : Sink) → PutsSteps f (Err e) xs s t → PutsSteps f (Err e) (step ∷ xs) s t
 puts_short f (Write e) step xs s t h =
-    subst (Breaks s.writer t.writer) (append_assoc s.waiting (text_in f xs) (step_text f step)) (breaks_within s.writer t.writer (s.waiting ++ text_in f xs) (step_text f step) h)
+    subst (WriterBreaks s.writer t.writer) (append_assoc s.waiting (text_in f xs) (step_text f step)) (breaks_within s.writer t.writer (s.waiting ++ text_in f xs) (step_text f step) h)
 puts_short f OutOfMemory step xs s t h = h
 
 -- a step was carried
-pub carries_step : (f : ProofFormat) (c : Counting) (s t : Sink) (step : Step) → KeepsWidth step → Wrote f (written_for c.bits (counted step c).bits step) s t → Carries (Open f c s) (step ∷ []) (Open f (counted step c) t)
+pub carries_step : (f : ProofFormat) (c : Counting) (s t : Sink) (step : Step) → KeepsWidth step → SendsSteps f (written_for c.bits (counted step c).bits step) s t → TargetTakes (Open f c s) (step ∷ []) (Open f (counted step c) t)
 carries_step f c s t step k w = (counted step c, t, refl, record { written = written_for c.bits (counted step c).bits step; cuts = cuts_one c step k; wrote = w })
 
 -- or the target failed at its text
-pub stops_step : (f : ProofFormat) (c : Counting) (s t : Sink) (step : Step) → KeepsWidth step → Breaks s.writer t.writer (s.waiting ++ text_in f (written_for c.bits (counted step c).bits step)) → Stops (Open f c s) (step ∷ []) (Faulty t.writer)
+pub stops_step : (f : ProofFormat) (c : Counting) (s t : Sink) (step : Step) → KeepsWidth step → WriterBreaks s.writer t.writer (s.waiting ++ text_in f (written_for c.bits (counted step c).bits step)) → TargetFails (Open f c s) (step ∷ []) (Faulty t.writer)
 stops_step f c s t step k b = (t.writer, refl, record { written = written_for c.bits (counted step c).bits step; counting = counted step c; cuts = cuts_one c step k; breaks = b })
 
 module _ {W L : Type 0} {G : Ghosts L} (seen : W → Writer) (p : Proof W L G) where
@@ -45,10 +45,10 @@ module _ {W L : Type 0} {G : Ghosts L} (seen : W → Writer) (p : Proof W L G) w
   begun = record p { counting = record p.counting { solving = true } }
 
   -- an ask begins, and no step is made of it
-  pub adds_begun : Adds seen [] p begun
+  pub adds_begun : EmitsExactly seen [] p begun
   adds_begun = record { history = refl; listening = refl; target = go p.output p.broken }
     where
-      go : (o : Option (Output W)) (b : Bool) → Carries (target_in seen o b p.counting) [] (target_in seen o b (record p.counting { solving = true }))
+      go : (o : Option (Output W)) (b : Bool) → TargetTakes (target_in seen o b p.counting) [] (target_in seen o b (record p.counting { solving = true }))
       go None b = refl
       go (Some o) false = (record p.counting { solving = true }, output_sink seen o, refl, record { written = []; cuts = ask_begun none_made; wrote = wrote_none (output_format o) (output_sink seen o) })
       go (Some o) true = refl
@@ -58,37 +58,37 @@ module _ {W L : Type 0} {G : Ghosts L} (seen : W → Writer) (p : Proof W L G) w
     was_open = sym (ap (λ x. target_in seen x p.broken p.counting) is ∙ ap (λ b. with_fault b (output_format o) p.counting (output_sink seen o)) well)
 
     -- a flush failed
-    pub fails_flush : (cause : _) → Breaks (output_sink seen o).writer (output_sink seen u).writer ((output_sink seen o).waiting ++ []) → Fails seen [] p (record p { output = Some u; broken = true; cause = Some cause })
+    pub fails_flush : (cause : _) → WriterBreaks (output_sink seen o).writer (output_sink seen u).writer ((output_sink seen o).waiting ++ []) → FailsToEmit seen [] p (record p { output = Some u; broken = true; cause = Some cause })
     fails_flush cause b = record {
       history = refl;
       listening = refl;
-      target = subst (λ t. Stops t [] (Faulty (output_sink seen u).writer)) was_open ((output_sink seen u).writer, refl, record { written = []; counting = p.counting; cuts = none_made; breaks = b });
+      target = subst (λ t. TargetFails t [] (Faulty (output_sink seen u).writer)) was_open ((output_sink seen u).writer, refl, record { written = []; counting = p.counting; cuts = none_made; breaks = b });
     }
 
     module _ (step cut : Step) (keeps : KeepsWidth step) (d : Counting) (e : d ≡ counted step p.counting) (is_cut : cut ≡ narrowed d.bits step) where
       -- a step was written
-      pub carries_put : output_format u ≡ output_format o → Wrote (output_format o) (cut ∷ width_told p.counting.bits d.bits) (output_sink seen o) (output_sink seen u) →
-          Carries (target_of seen p) (step ∷ []) (target_in seen (Some u) p.broken d)
-      carries_put same wrote = subst (λ b. Carries (target_of seen p) (step ∷ []) (with_fault b (output_format u) d (output_sink seen u))) (sym well) carried
+      pub carries_put : output_format u ≡ output_format o → SendsSteps (output_format o) (cut ∷ width_told p.counting.bits d.bits) (output_sink seen o) (output_sink seen u) →
+          TargetTakes (target_of seen p) (step ∷ []) (target_in seen (Some u) p.broken d)
+      carries_put same wrote = subst (λ b. TargetTakes (target_of seen p) (step ∷ []) (with_fault b (output_format u) d (output_sink seen u))) (sym well) carried
         where
-          carried : Carries (target_of seen p) (step ∷ []) (Open (output_format u) d (output_sink seen u))
-          carried = subst (λ f. Carries (target_of seen p) (step ∷ []) (Open f d (output_sink seen u))) (sym same)
-              (subst (λ t. Carries t (step ∷ []) (Open (output_format o) d (output_sink seen u))) was_open
-              (subst (λ x. Carries (Open (output_format o) p.counting (output_sink seen o)) (step ∷ []) (Open (output_format o) x (output_sink seen u))) (sym e)
-              (carries_step (output_format o) p.counting (output_sink seen o) (output_sink seen u) step keeps (subst (λ x. Wrote (output_format o) (written_for p.counting.bits x.bits step) (output_sink seen o) (output_sink seen u)) e
-              (subst (λ x. Wrote (output_format o) (x ∷ width_told p.counting.bits d.bits) (output_sink seen o) (output_sink seen u)) is_cut wrote)))))
+          carried : TargetTakes (target_of seen p) (step ∷ []) (Open (output_format u) d (output_sink seen u))
+          carried = subst (λ f. TargetTakes (target_of seen p) (step ∷ []) (Open f d (output_sink seen u))) (sym same)
+              (subst (λ t. TargetTakes t (step ∷ []) (Open (output_format o) d (output_sink seen u))) was_open
+              (subst (λ x. TargetTakes (Open (output_format o) p.counting (output_sink seen o)) (step ∷ []) (Open (output_format o) x (output_sink seen u))) (sym e)
+              (carries_step (output_format o) p.counting (output_sink seen o) (output_sink seen u) step keeps (subst (λ x. SendsSteps (output_format o) (written_for p.counting.bits x.bits step) (output_sink seen o) (output_sink seen u)) e
+              (subst (λ x. SendsSteps (output_format o) (x ∷ width_told p.counting.bits d.bits) (output_sink seen o) (output_sink seen u)) is_cut wrote)))))
 
       -- a call of the target failed at its text
-      pub stops_put : Breaks (output_sink seen o).writer (output_sink seen u).writer ((output_sink seen o).waiting ++ text_in (output_format o) (cut ∷ width_told p.counting.bits d.bits)) →
-          Stops (target_of seen p) (step ∷ []) (Faulty (output_sink seen u).writer)
-      stops_put b = subst (λ t. Stops t (step ∷ []) (Faulty (output_sink seen u).writer)) was_open
+      pub stops_put : WriterBreaks (output_sink seen o).writer (output_sink seen u).writer ((output_sink seen o).waiting ++ text_in (output_format o) (cut ∷ width_told p.counting.bits d.bits)) →
+          TargetFails (target_of seen p) (step ∷ []) (Faulty (output_sink seen u).writer)
+      stops_put b = subst (λ t. TargetFails t (step ∷ []) (Faulty (output_sink seen u).writer)) was_open
           (stops_step (output_format o) p.counting (output_sink seen o) (output_sink seen u) step keeps
-          (subst (λ x. Breaks (output_sink seen o).writer (output_sink seen u).writer ((output_sink seen o).waiting ++ text_in (output_format o) (written_for p.counting.bits x.bits step))) e
-          (subst (λ x. Breaks (output_sink seen o).writer (output_sink seen u).writer ((output_sink seen o).waiting ++ text_in (output_format o) (x ∷ width_told p.counting.bits d.bits))) is_cut b)))
+          (subst (λ x. WriterBreaks (output_sink seen o).writer (output_sink seen u).writer ((output_sink seen o).waiting ++ text_in (output_format o) (written_for p.counting.bits x.bits step))) e
+          (subst (λ x. WriterBreaks (output_sink seen o).writer (output_sink seen u).writer ((output_sink seen o).waiting ++ text_in (output_format o) (x ∷ width_told p.counting.bits d.bits))) is_cut b)))
 
     -- no memory was left, and nothing was written
-    pub carries_starved : output_format u ≡ output_format o → output_sink seen u ≡ output_sink seen o → Carries (target_of seen p) [] (target_in seen (Some u) p.broken p.counting)
-    carries_starved same sent = subst (λ t. Carries (target_of seen p) [] t) unchanged (carries_none (target_of seen p))
+    pub carries_starved : output_format u ≡ output_format o → output_sink seen u ≡ output_sink seen o → TargetTakes (target_of seen p) [] (target_in seen (Some u) p.broken p.counting)
+    carries_starved same sent = subst (λ t. TargetTakes (target_of seen p) [] t) unchanged (carries_none (target_of seen p))
       where
         unchanged : target_of seen p ≡ target_in seen (Some u) p.broken p.counting
         unchanged = ap (λ x. target_in seen x p.broken p.counting) is ∙ ap (λ f. with_fault p.broken f p.counting (output_sink seen o)) (sym same) ∙ ap (λ s. with_fault p.broken (output_format u) p.counting s) (sym sent)

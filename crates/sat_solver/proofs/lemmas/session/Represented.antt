@@ -8,7 +8,7 @@ use Rattle.sat_checker.specs.LiteralSets.{mentions, canonical, same_literals}
 use Rattle.sat_checker.specs.SortedSets.{NoRepeats}
 use Rattle.sat_checker.specs.Contents.{same_side, more_if, less_if}
 use Rattle.sat_solver.specs.session.Session.{Session, with_live, without_live, with_solver_name, IsLive, hash_in}
-use Rattle.sat_solver.specs.session.LiveClauses.{LiveClause, count_of, IsIn, with_var, mapped, AreMapped, AreOf}
+use Rattle.sat_solver.specs.session.LiveClauses.{LiveClause, live_count_of, IsIn, with_var, mapped, AreMapped, AreOf}
 use Rattle.sat_solver.proofs.lemmas.session.Lists.{count_between, in_counts, solver_hash}
 use Rattle.sat_solver.proofs.lemmas.session.Mapped.{once_mapped}
 
@@ -39,10 +39,10 @@ in_mapped f (d ∷ ds) c h = elim h [ inl e ↦ inl (ap f e) | inr k ↦ inr (in
 
 -- how many there are with one more
 counts_with : (global : ℕ → ℕ) (xs ys : List LiveClause) (c : LiveClause) (r : Bool) (set : List ℕ)
-    → count_of (map (mapped global) (xs ++ c ∷ ys)) r set ≡ more_if (same_side c.redundant r && same_literals (canonical (map (with_var global) c.literals)) set) (count_of (map (mapped global) (xs ++ ys)) r set)
+    → live_count_of (map (mapped global) (xs ++ c ∷ ys)) r set ≡ more_if (same_side c.redundant r && same_literals (canonical (map (with_var global) c.literals)) set) (live_count_of (map (mapped global) (xs ++ ys)) r set)
 counts_with global xs ys c r set =
-    ap (λ zs. count_of zs r set) (map_between (mapped global) xs ys c) ∙ count_between (map (mapped global) xs) (map (mapped global) ys) (mapped global c) r set
-    ∙ ap (λ zs. more_if (same_side c.redundant r && same_literals (canonical (map (with_var global) c.literals)) set) (count_of zs r set)) (sym (map_both (mapped global) xs ys))
+    ap (λ zs. live_count_of zs r set) (map_between (mapped global) xs ys c) ∙ count_between (map (mapped global) xs) (map (mapped global) ys) (mapped global c) r set
+    ∙ ap (λ zs. more_if (same_side c.redundant r && same_literals (canonical (map (with_var global) c.literals)) set) (live_count_of zs r set)) (sym (map_both (mapped global) xs ys))
 
 -- A live clause of the solver is live in the session, and its hash there is the one that the solver computes, over its own variables and in its own order.
 pub record Usable (s : Session) (global : ℕ → ℕ) (c : LiveClause) : Type 0 where
@@ -87,7 +87,7 @@ goes s global xs ys c h = record {
   once = λ d k. h.once d (in_longer xs ys c d k);
   counts = λ r set.
       ap (less_if (same_side c.redundant r && same_literals (canonical (map (with_var global) c.literals)) set)) (h.counts r set ∙ counts_with global xs ys c r set)
-      ∙ less_more (same_side c.redundant r && same_literals (canonical (map (with_var global) c.literals)) set) (count_of (map (mapped global) (xs ++ ys)) r set);
+      ∙ less_more (same_side c.redundant r && same_literals (canonical (map (with_var global) c.literals)) set) (live_count_of (map (mapped global) (xs ++ ys)) r set);
 }
 
 -- SOLVER NAMES COME AND GO

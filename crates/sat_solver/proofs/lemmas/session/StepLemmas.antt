@@ -9,7 +9,7 @@ use Rattle.sat_checker.proofs.lemmas.invariants.Counted.{TidyClauses, tidy_effec
 use Rattle.sat_checker.proofs.lemmas.meaning.Orderly.{Orderly, orderly_settled}
 use Rattle.sat_checker.proofs.lemmas.meaning.OrderlySteps.{orderly_effect, orderly}
 use Rattle.sat_solver.specs.session.Session.{Session, May, MayAll, after, session_after}
-use Rattle.sat_solver.specs.session.Agrees.{Agrees}
+use Rattle.sat_solver.specs.session.Agrees.{MatchesStored}
 use Rattle.sat_solver.specs.session.Promises.{MayIsAccepted, SessionsAreAccepted}
 use Rattle.sat_solver.proofs.lemmas.session.Views.{view, view_after, view_settled}
 use Rattle.sat_solver.proofs.lemmas.session.LastLemmas.{LastIs, no_last, last_kept, last_settled}
@@ -24,7 +24,7 @@ pub record Fits (s : Session) (f : Stored) : Type 0 where
   pub last : LastIs s.last f
 
 -- a session that agrees fits
-pub fits : (s : Session) (f : Stored) → Agrees s f → Fits s f
+pub fits : (s : Session) (f : Stored) → MatchesStored s f → Fits s f
 fits s f a = record {
   same = λ i. record { live = λ r set. a.live r set i; units = λ l. a.units l i; unsat = a.unsat i; variables = a.variables i; solver_names = a.solver_names i; width = a.width i; assumed = a.assumed i; last = s.last };
   tidy = record { once = a.once; counted = a.counted };
@@ -32,7 +32,7 @@ fits s f a = record {
 }
 
 -- one that fits agrees
-pub agrees : (s : Session) (f : Stored) → Fits s f → Agrees s f
+pub agrees : (s : Session) (f : Stored) → Fits s f → MatchesStored s f
 agrees s f h = record {
   live = λ r set. ap (λ x. x.live r set) h.same;
   units = λ l. ap (λ x. x.units l) h.same;

@@ -6,7 +6,7 @@ use Rattle.sat_base.specs.steps.Steps.{AtClause, UnitClauses}
 use Rattle.sat_checker.specs.LiteralSets.{is_among, is_tautology, with_literal, canonical}
 use Rattle.sat_checker.specs.SortedSets.{NoRepeats}
 use Rattle.sat_checker.proofs.lemmas.sets.Canonical.{canonical_among}
-use Rattle.sat_solver.specs.session.Session.{Session, with_live, with_fact, with_facts, with_sorted, with_clause, knowing_literals, after}
+use Rattle.sat_solver.specs.session.Session.{Session, with_live, with_fact, with_facts, with_sorted, with_live_clause, knowing_literals, after}
 use Rattle.sat_solver.specs.session.LiveClauses.{LiveClause, with_var, AreMapped, AreOf}
 use Rattle.sat_solver.proofs.lemmas.session.Mapped.{once_mapped}
 use Rattle.sat_solver.proofs.lemmas.session.Represented.{comes_in, still_of}
@@ -75,7 +75,7 @@ sorted_short r (l ∷ []) s n = fact_stays l s
 sorted_short r (l ∷ m ∷ ls) s n = absurd (omega arith)
 
 -- a clause of two literals or more comes to the live ones
-pub clause_long : (r : Bool) (c : List ℕ) (s : Session) → NoRepeats c → 1 < length c → is_tautology c ≡ false → with_clause r c s ≡ with_live r (canonical c) s
+pub clause_long : (r : Bool) (c : List ℕ) (s : Session) → NoRepeats c → 1 < length c → is_tautology c ≡ false → with_live_clause r c s ≡ with_live r (canonical c) s
 clause_long r c s n l t =
     ap (λ b. cond b s (with_sorted r (canonical c) s)) t ∙ sorted_long r (canonical c) s (let e : length (canonical c) ≡ length c = length_sorted c n in omega arith)
 
@@ -88,7 +88,7 @@ module _ (s : Session) (global : ℕ → ℕ) where
   derived_comes xs ys c hashes h n o l t =
       let w : List ℕ = map (with_var global) c.literals in
       let long : 1 < length w = (let e : length w ≡ length c.literals = length_mapped (with_var global) c.literals in omega arith) in
-      let same : with_clause c.redundant w (knowing_literals w s) ≡ with_live c.redundant (canonical w) (knowing_literals w s) = clause_long c.redundant w (knowing_literals w s) (once_mapped global s.solver_names c.literals n o) long t in
+      let same : with_live_clause c.redundant w (knowing_literals w s) ≡ with_live c.redundant (canonical w) (knowing_literals w s) = clause_long c.redundant w (knowing_literals w s) (once_mapped global s.solver_names c.literals n o) long t in
       still_of (with_live c.redundant (canonical w) s) (after (AtClause c.redundant w hashes) s) global (xs ++ c ∷ ys) (λ r set. ap (λ x. x.live r set) same) (ap (λ x. x.solver_names) same) (comes_in s global xs ys c h n o)
 
   -- units leave the clauses
@@ -102,7 +102,7 @@ module _ (s : Session) (global : ℕ → ℕ) where
   short_leaves cs r c hashes n l t h =
       let e : length (canonical c) ≡ length c = length_sorted c n in
       let k = sorted_short r (canonical c) (knowing_literals c s) (omega arith) in
-      let same : with_clause r c (knowing_literals c s) ≡ with_sorted r (canonical c) (knowing_literals c s) = ap (λ b. cond b (knowing_literals c s) (with_sorted r (canonical c) (knowing_literals c s))) t in
+      let same : with_live_clause r c (knowing_literals c s) ≡ with_sorted r (canonical c) (knowing_literals c s) = ap (λ b. cond b (knowing_literals c s) (with_sorted r (canonical c) (knowing_literals c s))) t in
       of_staying s (after (AtClause r c hashes) s) global cs (record { live = ap (λ x. x.live) same ∙ k.live; names = ap (λ x. x.solver_names) same ∙ k.names }) h
 
   -- the step may have the literals in another order than the list
@@ -110,6 +110,6 @@ module _ (s : Session) (global : ℕ → ℕ) where
       → canonical d ≡ canonical (map (with_var global) c.literals) → AreOf (after (AtClause c.redundant d hashes) s) global (xs ++ c ∷ ys)
   derived_comes_as xs ys c d hashes h n o m l t e =
       let w : List ℕ = map (with_var global) c.literals in
-      let same : with_clause c.redundant d (knowing_literals d s) ≡ with_live c.redundant (canonical d) (knowing_literals d s) = clause_long c.redundant d (knowing_literals d s) m l t in
+      let same : with_live_clause c.redundant d (knowing_literals d s) ≡ with_live c.redundant (canonical d) (knowing_literals d s) = clause_long c.redundant d (knowing_literals d s) m l t in
       still_of (with_live c.redundant (canonical w) s) (after (AtClause c.redundant d hashes) s) global (xs ++ c ∷ ys)
       (λ r set. ap (λ x. x.live r set) same ∙ ap (λ k. (with_live c.redundant k s).live r set) e) (ap (λ x. x.solver_names) same) (comes_in s global xs ys c h n o)

@@ -5,7 +5,7 @@ use Rattle.sat_base.specs.values.Literals.{variable, negated}
 use Rattle.sat_base.specs.steps.Steps.{Redundant, Simplified, Satisfied, Step, SolverVarName, UserVarName, DeleteVar, ChangeSamplingMode, AddClause, AtClause, UnitClauses, DeleteClause, ChangeHashBits, Model, Assumptions, FailedAssumptions, End}
 use Rattle.sat_checker.specs.LiteralSets.{is_tautology, canonical}
 use Rattle.sat_parts.proofs.lemmas.prop.StateLemmas.{negated_twice}
-use Rattle.sat_solver.specs.session.Session.{Session, with_fact, with_facts, with_sorted, with_clause, knowing_literals, after, session_after}
+use Rattle.sat_solver.specs.session.Session.{Session, with_fact, with_facts, with_sorted, with_live_clause, knowing_literals, after, session_after}
 use Rattle.sat_solver.specs.session.Advancing.{AreConsistent}
 
 negated_other : (l : ℕ) → negated l ≢ l
@@ -44,7 +44,7 @@ sorted_consistent r [] s h = h
 sorted_consistent r (l ∷ []) s h = fact_consistent l s h
 sorted_consistent r (l ∷ m ∷ ls) s h = h
 
-clause_consistent : (r : Bool) (clause : List ℕ) (s : Session) → AreConsistent s.units → AreConsistent (with_clause r clause s).units
+clause_consistent : (r : Bool) (clause : List ℕ) (s : Session) → AreConsistent s.units → AreConsistent (with_live_clause r clause s).units
 clause_consistent r clause s h = go (is_tautology clause)
   where
     go : (b : Bool) → AreConsistent (cond b s (with_sorted r (canonical clause) s)).units
@@ -69,7 +69,7 @@ step_consistent (DeleteVar v) s h = without s.units (λ l. not (eqb (variable l)
 step_consistent (ChangeSamplingMode v sample) s h = h
 step_consistent (AddClause clause) s h = go s.unsat
   where
-    go : (b : Bool) → AreConsistent (cond b s (with_clause false clause (knowing_literals clause s))).units
+    go : (b : Bool) → AreConsistent (cond b s (with_live_clause false clause (knowing_literals clause s))).units
     go true = h
     go false = clause_consistent false clause (knowing_literals clause s) h
 step_consistent (AtClause r clause hashes) s h = clause_consistent r clause (knowing_literals clause s) h

@@ -9,7 +9,7 @@ use Rattle.sat_checker.specs.Accepts.{effect}
 use Rattle.sat_checker.specs.Contents.{Contents, contents, unit_more, units_more, set_more, clause_more, literals_known, contents_after}
 use Rattle.sat_checker.specs.Invariants.{EachOnce}
 use Rattle.sat_checker.proofs.lemmas.contents.Views.{view_unit as unit_viewed, contents_follow, contents_are_settled}
-use Rattle.sat_solver.specs.session.Session.{Session, with_fact, with_facts, with_sorted, with_clause, changed, last_after, after}
+use Rattle.sat_solver.specs.session.Session.{Session, with_fact, with_facts, with_sorted, with_live_clause, changed, last_after, after}
 
 -- the session with these contents, and this last clause
 abbrev pub with_contents : Option (List ℕ) → Contents → Session
@@ -47,7 +47,7 @@ module _ (last : Option (List ℕ)) where
   of_set r (l ∷ []) c = of_unit l c
   of_set r (l ∷ m ∷ ls) c = refl
 
-  of_clause : (r : Bool) (clause : List ℕ) (c : Contents) → with_contents last (clause_more r clause c) ≡ with_clause r clause (with_contents last c)
+  of_clause : (r : Bool) (clause : List ℕ) (c : Contents) → with_contents last (clause_more r clause c) ≡ with_live_clause r clause (with_contents last c)
   of_clause r clause c = go (is_tautology clause)
     where
       go : (b : Bool) → with_contents last (cond b c (set_more r (canonical clause) c)) ≡ cond b (with_contents last c) (with_sorted r (canonical clause) (with_contents last c))
@@ -64,7 +64,7 @@ module _ (last : Option (List ℕ)) where
   of_step (ChangeSamplingMode v sample) c = refl
   of_step (AddClause clause) c = go c.unsat
     where
-      go : (b : Bool) → with_contents last (cond b c (clause_more false clause (literals_known clause c))) ≡ cond b (with_contents last c) (with_clause false clause (with_contents last (literals_known clause c)))
+      go : (b : Bool) → with_contents last (cond b c (clause_more false clause (literals_known clause c))) ≡ cond b (with_contents last c) (with_live_clause false clause (with_contents last (literals_known clause c)))
       go true = refl
       go false = of_clause false clause (literals_known clause c)
   of_step (AtClause r clause hashes) c = of_clause r clause (literals_known clause c)

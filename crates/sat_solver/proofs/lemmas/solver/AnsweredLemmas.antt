@@ -12,7 +12,7 @@ use Rattle.sat_checker.specs.declared.processing.ProofProcessor.{Ghosts}
 use Rattle.sat_parts.specs.prop.Values.{IsTrueLit}
 use Rattle.sat_parts.proofs.lemmas.clause.ListLemmas.{at_place}
 use Rattle.sat_solver.proofs.lemmas.fits.CodeLemmas.{coded_by}
-use Rattle.sat_solver.specs.proof.ProofView.{Gains, Keeps, steps_of, session_of}
+use Rattle.sat_solver.specs.proof.ProofView.{EmitsChecked, HasAllowedSteps, steps_of, session_of}
 use Rattle.sat_solver.specs.session.Session.{MayAll}
 use Rattle.sat_solver.proofs.lemmas.session.StepLemmas.{sessions_are_accepted}
 use Rattle.sat_solver.specs.session.LiveClauses.{with_var}
@@ -21,7 +21,7 @@ use Rattle.sat_solver.specs.declared.context.Search.{Search}
 use Rattle.sat_solver.specs.declared.config.SolverConfig.{SolverConfig}
 use Rattle.sat_solver.specs.assumptions.Core.{causes_hashes}
 use Rattle.sat_solver.specs.cdcl.Going.{AreSearched}
-use Rattle.sat_solver.specs.cdcl.Joint.{global_in, IsSearch, Moved}
+use Rattle.sat_solver.specs.cdcl.Joint.{global_in, IsSearch, SameVarsAndAssumptions}
 use Rattle.sat_solver.specs.load.Literals.{named_literal, Images}
 use Rattle.sat_solver.specs.variables.Variables.{data_at, global_at, user_of, names_used, variables_used}
 use Rattle.sat_solver.specs.variables.Shared.{SharesIndices}
@@ -37,7 +37,7 @@ use Rattle.sat_solver.proofs.lemmas.variables.ModeChanges.{live_within}
 use Rattle.sat_solver.proofs.lemmas.variables.Searched.{searches_agree}
 use Rattle.sat_solver.proofs.lemmas.variables.TakenNames.{test_among}
 use Rattle.sat_solver.specs.solver.Joined.{IsJoined, name_of, named_by, user_by}
-use Rattle.sat_solver.specs.solver.Answering.{Shown, Failed, model_of, line_of}
+use Rattle.sat_solver.specs.solver.Answering.{Shown, WritesFailedCore, model_of, line_of}
 use Rattle.sat_solver.proofs.lemmas.solver.BehindLemmas.{stands_behind}
 use Rattle.sat_solver.proofs.lemmas.solver.ShownLemmas.{coded_back, coded_sign, model_all}
 use Rattle.sat_solver.proofs.lemmas.solver.LineLemmas.{named_has, named_each, mapped_each, literal_among}
@@ -158,7 +158,7 @@ named_among_all line [] h = tt
 named_among_all line (l ∷ asked) h = (literal_among l line h.0, named_among_all line asked h.1)
 
 -- names and search stand where a search came to, whatever became of names
-pub joined_by : {W L : Type 0} {G : Ghosts L} (n m : Variables) (a b : Core W L G) → IsJoined n a → b.config ≡ a.config → Keeps b.proof → NamesInvariant m (steps_of b.proof) → IsSearch (session_of b.proof) b.search → SharesIndices m b.search → IsJoined m b
+pub joined_by : {W L : Type 0} {G : Ghosts L} (n m : Variables) (a b : Core W L G) → IsJoined n a → b.config ≡ a.config → HasAllowedSteps b.proof → NamesInvariant m (steps_of b.proof) → IsSearch (session_of b.proof) b.search → SharesIndices m b.search → IsJoined m b
 joined_by n m a b joined config keeps stands search shares = record {
   sound = record {
     keeps = keeps;
@@ -172,7 +172,7 @@ joined_by n m a b joined config keeps stands search shares = record {
 
 module _ {W L : Type 0} {G : Ghosts L} (seen : W → Writer) (n : Variables) (a : Core W L G) (joined : IsJoined n a) where
   -- names stand where a search came to
-  pub joined_at : (b : Core W L G) (steps : List Step) → Gains seen steps a.proof b.proof → AreSearched (session_of a.proof).solver_names steps → Keeps b.proof → Moved a.search b.search → IsSearch (session_of b.proof) b.search →
+  pub joined_at : (b : Core W L G) (steps : List Step) → EmitsChecked seen steps a.proof b.proof → AreSearched (session_of a.proof).solver_names steps → HasAllowedSteps b.proof → SameVarsAndAssumptions a.search b.search → IsSearch (session_of b.proof) b.search →
       b.config ≡ a.config → IsJoined n b
   joined_at b steps adds searched keeps moved search config = record {
     sound = record {
@@ -202,7 +202,7 @@ module _ {W L : Type 0} {G : Ghosts L} (seen : W → Writer) (n : Variables) (a 
       }
 
   -- the step of a core, as the judge expects it
-  pub does_failed : (b : Core W L G) (core : List ℕ) → Failed seen n a b core → (asked order : List ℕ) → Images n asked order → a.search.assumptions.lits.items ≡ order →
+  pub does_failed : (b : Core W L G) (core : List ℕ) → WritesFailedCore seen n a b core → (asked order : List ℕ) → Images n asked order → a.search.assumptions.lits.items ≡ order →
       NamesRefineJudge n n (steps_of a.proof) (steps_of b.proof) (λ j. j) (λ j. Fails (map named_literal asked) (map named_literal core) ∷ [])
   does_failed b core f asked order images lits =
       subst (λ ss. NamesRefineJudge n n (steps_of a.proof) ss (λ j. j) (λ j. Fails (map named_literal asked) (map named_literal core) ∷ [])) (sym (history_of f))
@@ -224,7 +224,7 @@ module _ {W L : Type 0} {G : Ghosts L} (seen : W → Writer) (n : Variables) (a 
       step : Step
       step = FailedAssumptions codes (causes_hashes a.search.parts b.search.analysis.used)
 
-      history_of : Failed seen n a b core → steps_of b.proof ≡ step ∷ steps_of a.proof
+      history_of : WritesFailedCore seen n a b core → steps_of b.proof ≡ step ∷ steps_of a.proof
       history_of f = f.adds.history ∙ ap (λ ss. ss ++ steps_of a.proof) f.told.is
 
       may : MayAll (step ∷ steps_of a.proof)

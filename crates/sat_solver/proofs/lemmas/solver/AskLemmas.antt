@@ -3,21 +3,21 @@ use Rattle.std.proofs.Common.{◌≡◌, true, false, Err, []}
 use Rattle.sat_base.specs.device.Device.{Writer}
 use Rattle.sat_checker.specs.declared.processing.ProofProcessor.{Ghosts}
 use Rattle.sat_solver.specs.cdcl.Going.{fault_of}
-use Rattle.sat_solver.specs.proof.ProofView.{Adds, Flushes, FlushesOrFails, has_asked, is_lost}
+use Rattle.sat_solver.specs.proof.ProofView.{EmitsExactly, FlushesAndTells, FlushesOrFails, has_asked, is_lost}
 use Rattle.sat_solver.specs.declared.error.SolverError.{SolverError}
 use Rattle.sat_solver.specs.declared.proof.Proof.{Proof}
 use Rattle.sat_solver.specs.declared.proof.ProofError.{ProofError}
 use Rattle.sat_solver.specs.declared.solver.Solver.{Solver}
 use Rattle.sat_solver.specs.solver.Calls.{Answered, Solves}
 use Rattle.sat_solver.specs.solver.Failing.{failed_with}
-use Rattle.sat_solver.specs.solver.Settling.{Settled, Settles}
+use Rattle.sat_solver.specs.solver.Settling.{Settled, AnswersOrBreaks}
 use Rattle.sat_solver.specs.solver.Whole.{IsSolver}
 use Rattle.sat_solver.proofs.lemmas.session.AskingLemmas.{asked_flushed}
 use Rattle.sat_solver.proofs.lemmas.solver.BegunLemmas.{begun, settled_begun, rounds_begun, breaks_begun, flush_begun}
 use Rattle.sat_solver.proofs.lemmas.solver.SettlingLemmas.{answered, settled_flushed, settled_broken, flushed_by}
 use Rattle.sat_solver.proofs.lemmas.solver.ToldLemmas.{solve_ends}
 
-module _ {W L : Type 0} {G : Ghosts L} (seen : W → Writer) (s : Solver W L G) (going : s.failed ≡ false) (p : Proof W L G) (adds : Adds seen [] s.core.proof p) (taking : is_lost p ≡ is_lost s.core.proof) (mid : Solver W L G) where
+module _ {W L : Type 0} {G : Ghosts L} (seen : W → Writer) (s : Solver W L G) (going : s.failed ≡ false) (p : Proof W L G) (adds : EmitsExactly seen [] s.core.proof p) (taking : is_lost p ≡ is_lost s.core.proof) (mid : Solver W L G) where
   abbrev pub used : Solver W L G
   used = record s { used = true }
 
@@ -25,7 +25,7 @@ module _ {W L : Type 0} {G : Ghosts L} (seen : W → Writer) (s : Solver W L G) 
   asking = begun seen used p adds taking
 
   -- looking for an answer failed
-  pub ask_ends : (e : SolverError) → Settles seen (Err e) asking mid → Solves seen (Err e) s (failed_with mid)
+  pub ask_ends : (e : SolverError) → AnswersOrBreaks seen (Err e) asking mid → Solves seen (Err e) s (failed_with mid)
   ask_ends e h =
       solve_ends seen s mid going e
       (breaks_begun seen used p adds taking e mid.core h.0, rounds_begun seen used p adds taking mid.clock.steps h.1, λ n. flush_begun seen used p adds taking e mid.core.proof (h.2 n))
@@ -38,17 +38,17 @@ module _ {W L : Type 0} {G : Ghosts L} (seen : W → Writer) (s : Solver W L G) 
     behind = settled_begun seen used p adds taking mid settled
 
     -- a flush failed
-    pub ask_breaks : (e : ProofError) → FlushesOrFails seen (Err e) mid.core.proof q → Settles seen (Err (fault_of e)) used flushed
+    pub ask_breaks : (e : ProofError) → FlushesOrFails seen (Err e) mid.core.proof q → AnswersOrBreaks seen (Err (fault_of e)) used flushed
     ask_breaks e f = settled_broken seen used mid behind q e f
 
     pub ask_broken : (e : ProofError) → FlushesOrFails seen (Err e) mid.core.proof q → Solves seen (Err (fault_of e)) s (failed_with flushed)
     ask_broken e f = solve_ends seen s flushed going (fault_of e) (ask_breaks e f)
 
     -- or not
-    pub ask_whole : Flushes seen mid.core.proof q → IsSolver flushed
+    pub ask_whole : FlushesAndTells seen mid.core.proof q → IsSolver flushed
     ask_whole f _ = (settled_flushed seen used mid behind q f).whole
 
-    pub ask_answered : has_asked p ≡ true → Flushes seen mid.core.proof q → Answered seen s flushed
+    pub ask_answered : has_asked p ≡ true → FlushesAndTells seen mid.core.proof q → Answered seen s flushed
     ask_answered asked f =
         answered seen s flushed (settled_flushed seen used mid behind q f) going (flushed_by seen mid.core.proof q f) f.told
         (asked_flushed seen settled.took.0 p mid.core.proof q asked settled.took.1 f)

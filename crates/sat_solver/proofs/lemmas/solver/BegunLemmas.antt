@@ -12,21 +12,21 @@ use Rattle.sat_solver.specs.variables.Calls.{Agree, NamesRefineJudge}
 use Rattle.sat_checker.specs.matching.Bridge.{Live}
 use Rattle.sat_solver.specs.schedule.Solving.{AdvancesIn}
 use Rattle.sat_solver.specs.session.Coming.{OnlyAllowedSteps, EndsAtUnsat}
-use Rattle.sat_solver.specs.proof.ProofView.{Adds, is_lost}
+use Rattle.sat_solver.specs.proof.ProofView.{EmitsExactly, is_lost}
 use Rattle.sat_solver.specs.solver.Answering.{BreaksOff, FlushFails}
 use Rattle.sat_solver.specs.declared.state.State.TheVariants as states
-use Rattle.sat_solver.specs.solver.Calls.{RoundsOn, learned_of, rounds_left, told_by}
+use Rattle.sat_solver.specs.solver.Calls.{RoundsOn, learned_of, rounds_left, due_for_answer}
 use Rattle.sat_solver.specs.solver.Settling.{Settled}
-use Rattle.sat_solver.specs.solver.Whole.{IsWhole, steps_in}
+use Rattle.sat_solver.specs.solver.Whole.{SolverInvariant, steps_in}
 use Rattle.sat_solver.proofs.lemmas.cdcl.GoingLemmas.{loss_later, went_behind}
 use Rattle.sat_solver.proofs.lemmas.session.ProofLemmas.{adds_more, fails_later, check_later}
 use Rattle.sat_solver.proofs.lemmas.solver.SettlingLemmas.{whole_over}
 
-module _ {W L : Type 0} {G : Ghosts L} (seen : W → Writer) (old : Solver W L G) (p : Proof W L G) (adds : Adds seen [] old.core.proof p) (taking : is_lost p ≡ is_lost old.core.proof) where
+module _ {W L : Type 0} {G : Ghosts L} (seen : W → Writer) (old : Solver W L G) (p : Proof W L G) (adds : EmitsExactly seen [] old.core.proof p) (taking : is_lost p ≡ is_lost old.core.proof) where
   abbrev pub begun : Solver W L G
   begun = record old { core = record old.core { proof = p } }
 
-  pub whole_begun : IsWhole old → IsWhole begun
+  pub whole_begun : SolverInvariant old → SolverInvariant begun
   whole_begun whole = whole_over old.core old.names old.asked old.assumed.items old.told.failed_core.items old.clock.restarts.scale old.state p whole adds.history taking
 
   pub rounds_begun : (now : ℕ) → RoundsOn old.names (steps_in begun) old.core.config.max_steps old.clock.steps now → RoundsOn old.names (steps_in old) old.core.config.max_steps old.clock.steps now
@@ -39,7 +39,7 @@ module _ {W L : Type 0} {G : Ghosts L} (seen : W → Writer) (old : Solver W L G
     comes = subst (λ ss. OnlyAllowedSteps EndsAtUnsat ss (steps_in new)) adds.history s.comes;
     config = s.config;
     times = subst (λ ss. AdvancesIn ss (steps_in new) (learned_of new.state (new.clock.steps - old.clock.steps))) adds.history s.times;
-    does = subst (λ ss. NamesRefineJudge old.names new.names ss (steps_in new) (λ j. j) (λ j. told_by old.state new)) adds.history s.does;
+    does = subst (λ ss. NamesRefineJudge old.names new.names ss (steps_in new) (λ j. j) (λ j. due_for_answer old.state new)) adds.history s.does;
     took = (_, adds_more seen [] s.took.0 old.core.proof p new.core.proof adds s.took.1);
     width = λ n. s.width (λ e. n (e ∙ adds.history));
     same = s.same;

@@ -5,7 +5,7 @@ use Rattle.sat_base.specs.values.Literals.{variable}
 use Rattle.sat_base.specs.script.Judge.{Judge}
 use Rattle.sat_base.specs.steps.Steps.{Step, SolverVarName, UserVarName, DeleteVar, ChangeSamplingMode, AddClause, AtClause, UnitClauses, DeleteClause, ChangeHashBits, Model, Assumptions, FailedAssumptions, End}
 use Rattle.sat_solver.specs.session.Session.{Session, MayAll, session_after}
-use Rattle.sat_solver.specs.cdcl.Going.{AreNamed, IsSearched}
+use Rattle.sat_solver.specs.cdcl.Going.{HaveSolverNames, IsSearched}
 use Rattle.sat_checker.specs.matching.Bridge.{Live}
 use Rattle.sat_solver.specs.variables.Variables.{AreSaid}
 use Rattle.sat_checker.specs.matching.Checking.{is_ordered}
@@ -20,7 +20,7 @@ use Rattle.sat_solver.proofs.lemmas.variables.Doing.{does_both}
 use Rattle.sat_solver.proofs.lemmas.variables.Searched.{searches_stand, searches_agree}
 use Rattle.std.proofs.lemmas.List.{append-nil}
 
-indexed : (n : Variables) (s : Session) (ls : List ℕ) → AreSaid n s → AreNamed s.solver_names ls → AreIndexed n ls
+indexed : (n : Variables) (s : Session) (ls : List ℕ) → AreSaid n s → HaveSolverNames s.solver_names ls → AreIndexed n ls
 indexed n s [] said h = tt
 indexed n s (l ∷ ls) said h = ((h.0.0, sym (said.solver_names (variable l)) ∙ h.0.1), indexed n s ls said h.1)
 

@@ -5,7 +5,7 @@ use Rattle.sat_base.specs.script.Judge.{Judge, bring_all, refused_literal}
 use Rattle.sat_base.specs.values.Literals.{variable}
 use Rattle.sat_store.specs.variables.Maps.{target}
 use Rattle.sat_checker.specs.declared.processing.ProofProcessor.{Ghosts}
-use Rattle.sat_solver.specs.session.Making.{Took, Gained}
+use Rattle.sat_solver.specs.session.Making.{ComesBySteps, ComesByCheckedSteps}
 use Rattle.sat_solver.specs.proof.ProofView.{IsAtWidth, has_asked, is_lost, steps_of, session_of}
 use Rattle.sat_solver.specs.session.Session.{session_after}
 use Rattle.sat_solver.specs.declared.proof.Proof.{Proof}
@@ -28,8 +28,8 @@ use Rattle.sat_solver.specs.declared.state.State.TheVariants as states
 use Rattle.sat_solver.specs.declared.solver.load.Loading.{Loading}
 use Rattle.sat_solver.specs.cdcl.Going.{IsFault, IsFaultOr}
 use Rattle.sat_solver.specs.solver.Taking.{TookClause, TookAssumptions, BreaksNames, BreaksNamesOr}
-use Rattle.sat_solver.specs.solver.Whole.{HasFullStore, IsWhole, IsWholeOf, StateSays, AskGoesOn, steps_in}
-use Rattle.sat_solver.specs.solver.Adding.{TookIn, with_added, due_for_clause, Forgets, AreSampled, IsBeforeDrat, AddsClause, Assumed, Assumes, due_for_asked}
+use Rattle.sat_solver.specs.solver.Whole.{HasFullStore, SolverInvariant, IsWholeOf, StateSays, AskGoesOn, steps_in}
+use Rattle.sat_solver.specs.solver.Adding.{TookIn, with_added, due_for_clause, ForgetsAnswer, AreSampled, IsBeforeDrat, AddsClause, ReplacesAssumptions, AssumesOrRefuses, due_for_asked}
 use Rattle.sat_solver.specs.clause.Activity.{AreDecays}
 use Rattle.sat_solver.specs.solver.Asking.{AskedIn}
 use Rattle.sat_solver.specs.variables.Room.{HasRoom, users_in}
@@ -52,7 +52,7 @@ goes_of states.Sat c n asked assumed core k h = h.0
 goes_of states.UnsatUnderAssumptions c n asked assumed core k h = h.0
 goes_of states.Unsat c n asked assumed core k h = absurd (k refl)
 
-module _ {W L : Type 0} {G : Ghosts L} (seen : W → Writer) (s : Solver W L G) (whole : IsWhole s) (apart : s.state ≡ states.Unsat → ⊥) where
+module _ {W L : Type 0} {G : Ghosts L} (seen : W → Writer) (s : Solver W L G) (whole : SolverInvariant s) (apart : s.state ≡ states.Unsat → ⊥) where
   pub going_on : AskGoesOn s.core s.names s.asked
   going_on = goes_of s.state s.core s.names s.asked s.assumed.items s.told.failed_core.items apart whole.says
 
@@ -60,7 +60,7 @@ module _ {W L : Type 0} {G : Ghosts L} (seen : W → Writer) (s : Solver W L G) 
     abbrev pub added : State → Solver W L G
     added st = record s { core = b; names = n'; loading = loading; state = st }
 
-    by_state : (before now : State) → (before ≡ states.Unsat → ⊥) → ((now ≡ states.Unknown) ⊎ (now ≡ states.Unsat)) → Forgets before now
+    by_state : (before now : State) → (before ≡ states.Unsat → ⊥) → ((now ≡ states.Unknown) ⊎ (now ≡ states.Unsat)) → ForgetsAnswer before now
     by_state states.Unknown states.Unknown k e = tt
     by_state states.Unknown states.Unsat k e = tt
     by_state states.Sat states.Unknown k e = tt
@@ -171,13 +171,13 @@ module _ {W L : Type 0} {G : Ghosts L} (seen : W → Writer) (s : Solver W L G) 
     state = forgets s.state apart;
   }
     where
-      forgets : (before : State) → (before ≡ states.Unsat → ⊥) → Forgets before states.Unknown
+      forgets : (before : State) → (before ≡ states.Unsat → ⊥) → ForgetsAnswer before states.Unknown
       forgets states.Unknown k = tt
       forgets states.Sat k = tt
       forgets states.UnsatUnderAssumptions k = tt
       forgets states.Unsat k = absurd (k refl)
 
-module _ {W L : Type 0} {G : Ghosts L} (seen : W → Writer) (s : Solver W L G) (whole : IsWhole s) (known : s.state ≡ states.Unsat) (p : Proof W L G) (n' : Variables) (user : List ℕ) (took : Gained seen s.core.proof p) where
+module _ {W L : Type 0} {G : Ghosts L} (seen : W → Writer) (s : Solver W L G) (whole : SolverInvariant s) (known : s.state ≡ states.Unsat) (p : Proof W L G) (n' : Variables) (user : List ℕ) (took : ComesByCheckedSteps seen s.core.proof p) where
   unsat : (session_of s.core.proof).unsat ≡ true
   unsat = subst (λ st. StateSays st s.core s.names s.asked s.assumed.items s.told.failed_core.items) known whole.says
 
@@ -206,7 +206,7 @@ module _ {W L : Type 0} {G : Ghosts L} (seen : W → Writer) (s : Solver W L G) 
     failed = refl;
     used = refl;
     config = refl;
-    state = subst (λ st. Forgets st st) (sym known) refl;
+    state = subst (λ st. ForgetsAnswer st st) (sym known) refl;
   }
     where
       images : Images n' s.assumed.items s.asked.order.items
@@ -217,7 +217,7 @@ module _ {W L : Type 0} {G : Ghosts L} (seen : W → Writer) (s : Solver W L G) 
       }
 
   -- assumptions came in, of which the search isn't told
-  pub asked_known : (asked : Taken) → assuming.Assumes s.names n' (steps_in s) (steps_of p) user asked → AskedIn seen s (record s { core = record s.core { proof = p }; names = n'; asked = asked }) user
+  pub asked_known : (asked : Taken) → assuming.BringsAssumptions s.names n' (steps_in s) (steps_of p) user asked → AskedIn seen s (record s { core = record s.core { proof = p }; names = n'; asked = asked }) user
   asked_known asked a = record {
     whole = record {
       stands = (a.does Unknown).stands;
@@ -239,7 +239,7 @@ module _ {W L : Type 0} {G : Ghosts L} (seen : W → Writer) (s : Solver W L G) 
     failed = refl;
     used = refl;
     config = refl;
-    state = subst (λ st. Forgets st st) (sym known) refl;
+    state = subst (λ st. ForgetsAnswer st st) (sym known) refl;
   }
 
 -- FAULTS
@@ -263,7 +263,7 @@ adding_ends seen errors.Malformed s new user g d w r x b k f = absurd x
 adding_ends seen errors.OutOfRange s new user g d w r x b k f = absurd x
 
 -- a call over assumptions failed
-pub asking_ends : {W L : Type 0} {G : Ghosts L} (seen : W → Writer) (e : SolverError) (s new : Solver W L G) (user : List ℕ) → s.failed ≡ false → AreSampled s user → HasRoom s.names (users_in user) → IsFault e → BreaksNames seen e s.core new.core → new.clock ≡ s.clock → new.failed ≡ true → Assumes seen (Err e) s new user
+pub asking_ends : {W L : Type 0} {G : Ghosts L} (seen : W → Writer) (e : SolverError) (s new : Solver W L G) (user : List ℕ) → s.failed ≡ false → AreSampled s user → HasRoom s.names (users_in user) → IsFault e → BreaksNames seen e s.core new.core → new.clock ≡ s.clock → new.failed ≡ true → AssumesOrRefuses seen (Err e) s new user
 asking_ends seen errors.OutOfMemory s new user g w r x b k f = (w, r, record { going = g; failed = f; fault = x; breaks = b; clock = k })
 asking_ends seen errors.StoreFull s new user g w r x b k f = absurd x
 asking_ends seen (errors.ProofIoError cause) s new user g w r x b k f = (w, r, record { going = g; failed = f; fault = x; breaks = b; clock = k })
@@ -288,7 +288,7 @@ none_refused s user None judged none = λ j live agree. judged j live agree.judg
 none_refused s user (Some name) judged none = absurd (true≢false none)
 
 -- assumptions were taken, and no memory was left to list them over names
-pub asking_starved : {W L : Type 0} {G : Ghosts L} (seen : W → Writer) (s mid new : Solver W L G) (user : List ℕ) → s.failed ≡ false → AreSampled s user → HasRoom s.names (users_in user) → is_lost s.core.proof ≡ false → AskedIn seen (record s { used = true }) mid user → mid.clock ≡ s.clock → new.core ≡ (failed_with mid).core → new.clock ≡ mid.clock → new.failed ≡ true → Assumes seen (Err errors.OutOfMemory) s new user
+pub asking_starved : {W L : Type 0} {G : Ghosts L} (seen : W → Writer) (s mid new : Solver W L G) (user : List ℕ) → s.failed ≡ false → AreSampled s user → HasRoom s.names (users_in user) → is_lost s.core.proof ≡ false → AskedIn seen (record s { used = true }) mid user → mid.clock ≡ s.clock → new.core ≡ (failed_with mid).core → new.clock ≡ mid.clock → new.failed ≡ true → AssumesOrRefuses seen (Err errors.OutOfMemory) s new user
 asking_starved seen s mid new user going sampled room taking a clock core same failed = (
   sampled,
   room,
@@ -296,7 +296,7 @@ asking_starved seen s mid new user going sampled room taking a clock core same f
 )
 
 -- assumptions were taken, and listed over names
-pub assumed_by : {W L : Type 0} {G : Ghosts L} (seen : W → Writer) (s mid new : Solver W L G) (user : List ℕ) → s.failed ≡ false → AreSampled s user → HasRoom s.names (users_in user) → AskedIn seen (record s { used = true }) mid user → mid.clock ≡ s.clock → new ≡ record mid { assumed = new.assumed } → new.assumed.items ≡ user → Assumed seen s new user
+pub assumed_by : {W L : Type 0} {G : Ghosts L} (seen : W → Writer) (s mid new : Solver W L G) (user : List ℕ) → s.failed ≡ false → AreSampled s user → HasRoom s.names (users_in user) → AskedIn seen (record s { used = true }) mid user → mid.clock ≡ s.clock → new ≡ record mid { assumed = new.assumed } → new.assumed.items ≡ user → ReplacesAssumptions seen s new user
 assumed_by {W} {L} {G} seen s mid new user going sampled room a clock same items = record {
   sampled = sampled;
   room = room;
@@ -308,12 +308,12 @@ assumed_by {W} {L} {G} seen s mid new user going sampled room a clock same items
     used = ap (λ (x : Solver W L G). x.used) same ∙ a.used;
     config = ap (λ (x : Solver W L G). x.core.config) same ∙ a.config;
     does = subst (λ (x : Solver W L G). NamesRefineJudge s.names x.names (steps_in s) (steps_in x) (bring_all (names_in user)) (due_for_asked o user)) (sym same) (a.does o);
-    took = subst (λ (x : Solver W L G). Took seen s.core.proof x.core.proof) (sym same) a.took;
+    took = subst (λ (x : Solver W L G). ComesBySteps seen s.core.proof x.core.proof) (sym same) a.took;
     width = subst (λ (x : Solver W L G). (steps_in x ≡ steps_in s → ⊥) → IsAtWidth x.core.proof) (sym same) a.width;
   };
   comes = subst (λ (x : Solver W L G). OnlyAllowedSteps (MayTake (names_in user)) (steps_in s) (steps_in x)) (sym same) a.comes;
   asked = ap (λ (x : Solver W L G). has_asked x.core.proof) same ∙ a.asked;
   assumed = items;
   clock = ap (λ (x : Solver W L G). x.clock) same ∙ clock;
-  state = subst (λ (x : Solver W L G). Forgets s.state x.state) (sym same) a.state;
+  state = subst (λ (x : Solver W L G). ForgetsAnswer s.state x.state) (sym same) a.state;
 }

@@ -16,7 +16,7 @@ use Rattle.sat_solver.specs.clause.Activity.{AreDecays}
 use Rattle.sat_solver.specs.cdcl.Turns.{IsComplete}
 use Rattle.sat_solver.specs.declared.state.State.{State}
 use Rattle.sat_solver.specs.declared.state.State.TheVariants as states
-use Rattle.sat_solver.specs.solver.Configuring.{Decays, HandsOn}
+use Rattle.sat_solver.specs.solver.Configuring.{SetsDecays, HandsOn}
 use Rattle.sat_solver.specs.solver.Whole.{IsWholeOf, StateSays, AskGoesOn, HasCore}
 use Rattle.sat_solver.proofs.lemmas.solver.TellingLemmas.{shares_moved}
 
@@ -63,7 +63,7 @@ module _ {W L : Type 0} {G : Ghosts L} (u : SolverConfigUpdate) (c : Core W L G)
   abbrev pub changed : Core W L G
   changed = record c { config = updated u c.config }
 
-  going : (b : Core W L G) → Decays changed b → AskGoesOn c n asked → AskGoesOn b n asked
+  going : (b : Core W L G) → SetsDecays changed b → AskGoesOn c n asked → AskGoesOn b n asked
   going b d g =
       let bumped = d.bumped (session_of c.proof) g.joined.sound.search in
       subst (λ x. AskGoesOn x n asked) (sym d.same) (record {
@@ -80,7 +80,7 @@ module _ {W L : Type 0} {G : Ghosts L} (u : SolverConfigUpdate) (c : Core W L G)
         lits = ap (λ ls. ls.items) bumped.moved.lits ∙ g.lits;
       })
 
-  complete : (b : Core W L G) → Decays changed b → IsComplete c.search.assumptions.lits.items c.search.parts → IsComplete b.search.assumptions.lits.items b.search.parts
+  complete : (b : Core W L G) → SetsDecays changed b → IsComplete c.search.assumptions.lits.items c.search.parts → IsComplete b.search.assumptions.lits.items b.search.parts
   complete b d h =
       subst (λ (x : Search). IsComplete x.assumptions.lits.items x.parts) (sym d.search)
       (subst (λ p. IsComplete c.search.assumptions.lits.items p) (sym d.parts) (record { done = h.done; all = h.all; assumed = h.assumed }))

@@ -7,7 +7,7 @@ use Rattle.sat_checker.specs.Fold.{Holds}
 use Rattle.sat_checker.specs.declared.processing.ProofProcessor.{Ghosts}
 use Rattle.sat_solver.specs.load.Literals.{named_literal}
 use Rattle.sat_checker.specs.matching.Checking.{variable_of}
-use Rattle.sat_solver.specs.proof.ProofView.{Closes, ClosesOne, Keeps, is_lost, steps_of, session_of}
+use Rattle.sat_solver.specs.proof.ProofView.{ClosesTarget, ClosesOne, HasAllowedSteps, is_lost, steps_of, session_of}
 use Rattle.sat_solver.specs.session.Session.{MayAll, session_after}
 use Rattle.sat_solver.specs.declared.proof.Proof.{Proof}
 use Rattle.sat_solver.specs.declared.variables.Variables.{Variables}
@@ -21,7 +21,7 @@ use Rattle.sat_solver.proofs.lemmas.variables.Searched.{searches_stand, searches
 use Rattle.sat_solver.specs.declared.solver.Solver.{Solver}
 use Rattle.sat_solver.specs.declared.state.State.{State}
 use Rattle.sat_solver.specs.declared.state.State.TheVariants as states
-use Rattle.sat_solver.specs.solver.Whole.{IsWhole, IsWholeOf, StateSays, AskGoesOn, steps_in}
+use Rattle.sat_solver.specs.solver.Whole.{SolverInvariant, IsWholeOf, StateSays, AskGoesOn, steps_in}
 use Rattle.sat_solver.specs.solver.Proving.{ClosedOne, ClosesProof}
 use Rattle.sat_solver.proofs.lemmas.session.CertificateLemmas.{is_certificate}
 use Rattle.sat_solver.proofs.lemmas.session.DratDerivations.{drat_stands}
@@ -30,7 +30,7 @@ use Rattle.sat_solver.proofs.lemmas.solver.TellingLemmas.{search_rests}
 use Rattle.sat_solver.proofs.lemmas.solver.SettlingLemmas.{whole_over}
 
 -- the last step leaves all as it is
-pub whole_ended : {W L : Type 0} {G : Ghosts L} (c : Core W L G) (n : Variables) (asked : Taken) (assumed core : List ℕ) (scale : ℕ) (state : State) (p : Proof W L G) → IsWholeOf c n asked assumed core scale state → steps_of p ≡ End ∷ steps_of c.proof → Keeps p → is_lost p ≡ is_lost c.proof → IsWholeOf (record c { proof = p }) n asked assumed core scale state
+pub whole_ended : {W L : Type 0} {G : Ghosts L} (c : Core W L G) (n : Variables) (asked : Taken) (assumed core : List ℕ) (scale : ℕ) (state : State) (p : Proof W L G) → IsWholeOf c n asked assumed core scale state → steps_of p ≡ End ∷ steps_of c.proof → HasAllowedSteps p → is_lost p ≡ is_lost c.proof → IsWholeOf (record c { proof = p }) n asked assumed core scale state
 whole_ended {W} {L} {G} c n asked assumed core scale state p whole e keeps taking = record {
   stands = stands;
   images = whole.images;
@@ -77,7 +77,7 @@ whole_ended {W} {L} {G} c n asked assumed core scale state p whole e keeps takin
     )
     says states.Unsat h = ap (λ ss. (session_after ss).unsat) e ∙ h
 
-module _ {W L : Type 0} {G : Ghosts L} (seen : W → Writer) (s : Solver W L G) (whole : IsWhole s) (going : s.failed ≡ false) (p : Proof W L G) (keeps : Keeps p) where
+module _ {W L : Type 0} {G : Ghosts L} (seen : W → Writer) (s : Solver W L G) (whole : SolverInvariant s) (going : s.failed ≡ false) (p : Proof W L G) (keeps : HasAllowedSteps p) where
   -- the target came back
   pub closed_one : (given : W) → ClosesOne seen given s.core.proof p → ClosedOne seen given s (record s { core = record s.core { proof = p } })
   closed_one given c = record {
@@ -101,10 +101,10 @@ module _ {W L : Type 0} {G : Ghosts L} (seen : W → Writer) (s : Solver W L G) 
       may = subst MayAll c.history keeps
 
   -- what came of closing it
-  pub closed_by : (o : Option W) → Closes seen (Ok o) s.core.proof p → ClosesProof seen (Ok o) s (record s { core = record s.core { proof = p } })
+  pub closed_by : (o : Option W) → ClosesTarget seen (Ok o) s.core.proof p → ClosesProof seen (Ok o) s (record s { core = record s.core { proof = p } })
   closed_by None c = record { going = going; closes = c; same = refl }
   closed_by (Some given) c = closed_one given c
 
-  pub closed_whole : (o : Option W) → Closes seen (Ok o) s.core.proof p → IsWhole (record s { core = record s.core { proof = p } })
+  pub closed_whole : (o : Option W) → ClosesTarget seen (Ok o) s.core.proof p → SolverInvariant (record s { core = record s.core { proof = p } })
   closed_whole None c = whole_over s.core s.names s.asked s.assumed.items s.told.failed_core.items s.clock.restarts.scale s.state p whole c.history c.taking
   closed_whole (Some given) c = whole_ended s.core s.names s.asked s.assumed.items s.told.failed_core.items s.clock.restarts.scale s.state p whole c.history keeps c.taking

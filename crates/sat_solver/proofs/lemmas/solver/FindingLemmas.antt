@@ -15,19 +15,19 @@ use Rattle.sat_solver.specs.declared.state.State.{State}
 use Rattle.sat_solver.specs.declared.state.State.TheVariants as states
 use Rattle.sat_solver.specs.solver.Joined.{IsJoined}
 use Rattle.sat_solver.specs.solver.Answering.{BreaksOff}
-use Rattle.sat_solver.specs.solver.Found.{ComesTo, ToldSays, Tells, Finds}
+use Rattle.sat_solver.specs.solver.Found.{OutcomeHolds, ToldSays, TellsOutcome, FindsAnswer}
 use Rattle.sat_solver.proofs.lemmas.solver.AnsweredLemmas.{joined_by}
 
 module _ {W L : Type 0} {G : Ghosts L} (seen : W → Writer) (n m : Variables) (a : Core W L G) where
   -- names stand where it came to
-  pub comes_to : {k : ℕ} → IsJoined n a → (outcome : Outcome) (mid : Core W L G) → Ended seen a n k outcome mid m → ComesTo outcome m mid
+  pub comes_to : {k : ℕ} → IsJoined n a → (outcome : Outcome) (mid : Core W L G) → Ended seen a n k outcome mid m → OutcomeHolds outcome m mid
   comes_to joined outcomes.Learned mid e = e.says
   comes_to joined outcomes.Model mid e = (joined_by n m a mid joined e.config e.keeps e.does.stands e.says.0.search e.says.1, e.says.0.complete)
   comes_to joined outcomes.Failed mid e = (joined_by n m a mid joined e.config e.keeps e.does.stands e.says.0.search e.says.1, e.says.0.failing)
   comes_to joined outcomes.Unsat mid e = tt
 
   -- and it was told
-  pub finds_told : (outcome : Outcome) (o : Option State) (mid b : Core W L G) (core : List ℕ) (rounds : ℕ) → Ended seen a n (rounds - 1) outcome mid m → ToldSays seen o outcome m mid b core → Finds seen o rounds n m a b core
+  pub finds_told : (outcome : Outcome) (o : Option State) (mid b : Core W L G) (core : List ℕ) (rounds : ℕ) → Ended seen a n (rounds - 1) outcome mid m → ToldSays seen o outcome m mid b core → FindsAnswer seen o rounds n m a b core
   finds_told outcomes.Model (Some states.Sat) mid b core rounds e t = record { mid = mid; ended = e; shown = t }
   finds_told outcomes.Failed (Some states.UnsatUnderAssumptions) mid b core rounds e t = record { mid = mid; ended = e; failed = t }
   finds_told outcomes.Unsat (Some states.Unsat) mid b core rounds e t = subst (λ c. Ended seen a n (rounds - 1) outcomes.Unsat c m) (sym t) e
@@ -50,10 +50,10 @@ module _ {W L : Type 0} {G : Ghosts L} (seen : W → Writer) (n m : Variables) (
   breaks_told outcome e mid b ended k = (record { fault = k.0.fault; steps = k.0.steps ++ ended.steps; went = went_behind seen (Unit {0}) e ended.steps k.0.steps a.proof mid.proof b.proof (gains_adds seen ended.steps a.proof mid.proof ended.adds) k.0.went; loss = loss_later e a.proof mid.proof b.proof ended.adds.taking k.0.loss }, k.1)
 
   -- what came of telling it
-  pub finds_by : (outcome : Outcome) (r : Result (Option State) SolverError) (mid b : Core W L G) (core : List ℕ) (rounds : ℕ) → Ended seen a n (rounds - 1) outcome mid m → Tells seen r outcome m mid b core → IfOk r (λ o. Finds seen o rounds n m a b core)
+  pub finds_by : (outcome : Outcome) (r : Result (Option State) SolverError) (mid b : Core W L G) (core : List ℕ) (rounds : ℕ) → Ended seen a n (rounds - 1) outcome mid m → TellsOutcome seen r outcome m mid b core → IfOk r (λ o. FindsAnswer seen o rounds n m a b core)
   finds_by outcome (Ok o) mid b core rounds e t = finds_told outcome o mid b core rounds e t
   finds_by outcome (Err x) mid b core rounds e t = tt
 
-  pub breaks_by : {k : ℕ} → (outcome : Outcome) (r : Result (Option State) SolverError) (mid b : Core W L G) (core : List ℕ) → Ended seen a n k outcome mid m → Tells seen r outcome m mid b core → IfErr r (λ x. BreaksOff seen x a b)
+  pub breaks_by : {k : ℕ} → (outcome : Outcome) (r : Result (Option State) SolverError) (mid b : Core W L G) (core : List ℕ) → Ended seen a n k outcome mid m → TellsOutcome seen r outcome m mid b core → IfErr r (λ x. BreaksOff seen x a b)
   breaks_by outcome (Ok o) mid b core e t = tt
   breaks_by outcome (Err x) mid b core e t = breaks_told outcome x mid b e t

@@ -4,13 +4,13 @@ use Rattle.std.proofs.lemmas.Bool.{true≢false}
 use Rattle.std.proofs.lemmas.List.{append-nil}
 use Rattle.sat_base.specs.device.Device.{Reader, Writer, GaveAll, GaveEnough, GaveFront, ReadFails}
 use Rattle.sat_base.specs.dimacs.Dimacs.{dimacs, settled}
-use Rattle.sat_base.specs.dimacs.Parsing.{Progress, with_fed, clauses_read, all_taken, Feeds, Finishes, IsSound, IsSoundText}
+use Rattle.sat_base.specs.dimacs.Parsing.{Progress, with_fed, clauses_read, all_taken, FeedsPiece, Finishes, IsSoundSoFar, IsSoundText}
 use Rattle.sat_base.specs.declared.dimacs.error.DimacsError.{DimacsError}
 use Rattle.sat_base.specs.declared.dimacs.error.DimacsError.TheVariants as texts
 use Rattle.sat_base.proofs.lemmas.device.Given.{enough_all, enough_front}
 use Rattle.sat_base.proofs.lemmas.dimacs.Parsed.{Stands as HasFed}
 use Rattle.sat_checker.specs.DimacsView.{AreRead, FailsBehind}
-use Rattle.sat_checker.specs.ProofView.{NoneFailed}
+use Rattle.sat_checker.specs.ProofView.{NoReadFailed}
 use Rattle.sat_checker.proofs.lemmas.checker.Texts.{fed_more, open_read, read_by_piece, read_by_end, clean_by_end, fails_by_piece, fails_by_end}
 use Rattle.sat_checker.specs.declared.processing.ProofProcessor.{Ghosts}
 use Rattle.sat_solver.specs.declared.error.SolverError.{SolverError}
@@ -18,11 +18,11 @@ use Rattle.sat_solver.specs.declared.error.SolverError.TheVariants as errors
 use Rattle.sat_solver.specs.declared.solver.Solver.{Solver}
 use Rattle.sat_solver.specs.solver.Adding.{Added, AddsClause}
 use Rattle.sat_solver.specs.solver.Calls.{Refuses}
-use Rattle.sat_solver.specs.solver.Formulas.{AddsAll, StopsAt, AddsFormula, text_fault, TextFails, ClauseFails, AddsText, AddsRead}
+use Rattle.sat_solver.specs.solver.Formulas.{AddsAll, StopsAtClause, AddsFormula, text_fault, TextFails, ClauseFails, AddsText, AddsFormulaRead}
 
 -- what was taken before isn't touched by reading
 
-taken_by_piece : (answer : Result Unit DimacsError) (text piece : List ℕ) (p q : Progress) → HasFed text p → Feeds answer piece p q → q.taken ≡ p.taken
+taken_by_piece : (answer : Result Unit DimacsError) (text piece : List ℕ) (p q : Progress) → HasFed text p → FeedsPiece answer piece p q → q.taken ≡ p.taken
 taken_by_piece (Ok x) text piece p q is f = ap (λ (z : Progress). z.taken) f.1
 taken_by_piece (Err (texts.Malformed line)) text piece p q is f = ap (λ (z : Progress). z.taken) f.3.progress
 taken_by_piece (Err (texts.Limit line)) text piece p q is f = ap (λ (z : Progress). z.taken) f.3.progress
@@ -78,17 +78,17 @@ module _ {W L : Type 0} {G : Ghosts L} (seen : W → Writer) where
   pub so_all : (old now : Solver W L G) (clauses rest : List (List ℕ)) → old.failed ≡ false → rest ≡ [] → AddedSo old now clauses rest → AddsFormula seen (Ok tt) old now clauses
   so_all old now clauses rest going e so = (going, subst (λ cs. AddsAll seen old cs now) (sym (so.split ∙ ap (λ (z : List (List ℕ)). so.before ++ z) e ∙ append-nil so.before)) so.added)
 
-  stops_at : (e : SolverError) (old now new : Solver W L G) (clauses rest more : List (List ℕ)) (c : List ℕ) → old.failed ≡ false → rest ≡ c ∷ more → AddedSo old now clauses rest → AddsClause seen (Err e) now new c → StopsAt seen e old new clauses
+  stops_at : (e : SolverError) (old now new : Solver W L G) (clauses rest more : List (List ℕ)) (c : List ℕ) → old.failed ≡ false → rest ≡ c ∷ more → AddedSo old now clauses rest → AddsClause seen (Err e) now new c → StopsAtClause seen e old new clauses
   stops_at e old now new clauses rest more c going at so stops =
       record { going = going; before = so.before; clause = c; left = more; split = so.split ∙ ap (λ (z : List (List ℕ)). so.before ++ z) at; mid = now; added = so.added; stops = stops }
 
   -- a clause that isn't added isn't refused for an earlier failure
-  clause_apart : (e : SolverError) (old new : Solver W L G) (clauses : List (List ℕ)) → StopsAt seen e old new clauses → e ≡ errors.HasFailed → ⊥
+  clause_apart : (e : SolverError) (old new : Solver W L G) (clauses : List (List ℕ)) → StopsAtClause seen e old new clauses → e ≡ errors.HasFailed → ⊥
   clause_apart e old new clauses s is =
       let r : Refuses s.mid new (s.mid.failed ≡ true) = subst (λ (z : SolverError). AddsClause seen (Err z) s.mid new s.clause) is s.stops in
       true≢false (sym r.cause ∙ adds_going old s.mid s.before s.going s.added)
 
-  formula_by : (e : SolverError) (old new : Solver W L G) (clauses : List (List ℕ)) → (e ≡ errors.HasFailed → ⊥) → StopsAt seen e old new clauses → AddsFormula seen (Err e) old new clauses
+  formula_by : (e : SolverError) (old new : Solver W L G) (clauses : List (List ℕ)) → (e ≡ errors.HasFailed → ⊥) → StopsAtClause seen e old new clauses → AddsFormula seen (Err e) old new clauses
   formula_by errors.OutOfMemory old new clauses n s = s
   formula_by errors.StoreFull old new clauses n s = s
   formula_by (errors.ProofIoError cause) old new clauses n s = s
@@ -111,7 +111,7 @@ module _ {W L : Type 0} {G : Ghosts L} (seen : W → Writer) where
       formula_by e old new clauses (clause_apart e old new clauses s) s
 
   -- and back
-  pub stops_of : (e : SolverError) (old new : Solver W L G) (clauses : List (List ℕ)) → old.failed ≡ false → AddsFormula seen (Err e) old new clauses → StopsAt seen e old new clauses
+  pub stops_of : (e : SolverError) (old new : Solver W L G) (clauses : List (List ℕ)) → old.failed ≡ false → AddsFormula seen (Err e) old new clauses → StopsAtClause seen e old new clauses
   stops_of errors.OutOfMemory old new clauses going s = s
   stops_of errors.StoreFull old new clauses going s = s
   stops_of (errors.ProofIoError cause) old new clauses going s = s
@@ -152,7 +152,7 @@ module _ {W L : Type 0} {G : Ghosts L} (seen : W → Writer) where
     first_then : (new : Solver W L G) (clauses : List (List ℕ)) → clauses_read q ≡ q.taken ++ clauses → AddsAll seen cur clauses new → AddsAll seen old (clauses_read q) new
     first_then new clauses split added = subst (λ cs. AddsAll seen old cs new) (sym split) (adds_joined old cur new q.taken clauses first added)
 
-    stops_then : (e : SolverError) (new : Solver W L G) (clauses : List (List ℕ)) → clauses_read q ≡ q.taken ++ clauses → StopsAt seen e cur new clauses → StopsAt seen e old new (clauses_read q)
+    stops_then : (e : SolverError) (new : Solver W L G) (clauses : List (List ℕ)) → clauses_read q ≡ q.taken ++ clauses → StopsAtClause seen e cur new clauses → StopsAtClause seen e old new (clauses_read q)
     stops_then e new clauses split s = record {
       going = going;
       before = q.taken ++ s.before;
@@ -164,8 +164,8 @@ module _ {W L : Type 0} {G : Ghosts L} (seen : W → Writer) where
       stops = s.stops;
     }
 
-    answers_text : (e : SolverError) (answer : Result Unit DimacsError) (new : Solver W L G) (from to : Reader) → NoneFailed from to → ((d : DimacsError) → answer ≡ Err d → FailsBehind d from to (clauses_read q)) → (answer ≡ Err texts.HasFailed → ⊥) →
-        GaveEnough from to (λ text. AreRead text (clauses_read q)) → AddsRead seen (Err e) answer q cur new → AddsText seen (Err e) old new from to
+    answers_text : (e : SolverError) (answer : Result Unit DimacsError) (new : Solver W L G) (from to : Reader) → NoReadFailed from to → ((d : DimacsError) → answer ≡ Err d → FailsBehind d from to (clauses_read q)) → (answer ≡ Err texts.HasFailed → ⊥) →
+        GaveEnough from to (λ text. AreRead text (clauses_read q)) → AddsFormulaRead seen (Err e) answer q cur new → AddsText seen (Err e) old new from to
     answers_text e answer new from to quiet fails apart read a = elim a.2 [
       | inl r ↦ text_by e old new from to (λ is. apart (r.answered ∙ ap (λ (d : DimacsError). Err d) (fault_apart r.fault (sym r.is ∙ is))))
           (inl (record { going = going; fault = r.fault; is = r.is; clauses = clauses_read q; fails = fails r.fault r.answered; mid = r.mid; added = first_then r.mid a.0 a.1 r.added; new_is = r.new_is }))
@@ -173,10 +173,10 @@ module _ {W L : Type 0} {G : Ghosts L} (seen : W → Writer) where
     ]
 
   -- a piece without a fault
-  pub piece_added : (old cur new : Solver W L G) (text piece : List ℕ) (p q r : Progress) (answer : Result Unit DimacsError) → HasFed text p → Feeds answer piece p q → r ≡ all_taken q → AddsRead seen (Ok tt) answer q cur new → AddsAll seen old p.taken cur
+  pub piece_added : (old cur new : Solver W L G) (text piece : List ℕ) (p q r : Progress) (answer : Result Unit DimacsError) → HasFed text p → FeedsPiece answer piece p q → r ≡ all_taken q → AddsFormulaRead seen (Ok tt) answer q cur new → AddsAll seen old p.taken cur
       → HasFed (text ++ piece) r × (r.taken ≡ (dimacs (settled (text ++ piece))).clauses) × AddsAll seen old r.taken new
   piece_added old cur new text piece p q r answer is f t a added =
-      let fed : q ≡ with_fed piece p = (subst (λ (z : Result Unit DimacsError). Feeds z piece p q) a.2.0 f).1 in
+      let fed : q ≡ with_fed piece p = (subst (λ (z : Result Unit DimacsError). FeedsPiece z piece p q) a.2.0 f).1 in
       let first : AddsAll seen old q.taken cur = subst (λ cs. AddsAll seen old cs cur) (sym (ap (λ (z : Progress). z.taken) fed)) added in (
         fed_more text piece p q r is fed t,
         ap (λ (z : Progress). z.taken) t ∙ open_read text piece p q is fed,
@@ -184,18 +184,18 @@ module _ {W L : Type 0} {G : Ghosts L} (seen : W → Writer) where
       )
 
   -- one at which reading stops
-  pub piece_answers : (e : SolverError) (answer : Result Unit DimacsError) (old cur new : Solver W L G) (from to : Reader) (text piece : List ℕ) (p q : Progress) → old.failed ≡ false → HasFed text p → Feeds answer piece p q → NoneFailed from to
-      → GaveFront from to (text ++ piece) → to.ended ≡ false → to.calls ≤ from.calls + length (text ++ piece) + 1 → AddsAll seen old p.taken cur → AddsRead seen (Err e) answer q cur new → AddsText seen (Err e) old new from to
+  pub piece_answers : (e : SolverError) (answer : Result Unit DimacsError) (old cur new : Solver W L G) (from to : Reader) (text piece : List ℕ) (p q : Progress) → old.failed ≡ false → HasFed text p → FeedsPiece answer piece p q → NoReadFailed from to
+      → GaveFront from to (text ++ piece) → to.ended ≡ false → to.calls ≤ from.calls + length (text ++ piece) + 1 → AddsAll seen old p.taken cur → AddsFormulaRead seen (Err e) answer q cur new → AddsText seen (Err e) old new from to
   piece_answers e answer old cur new from to text piece p q going is f n g o few added a =
       answers_text old cur going q (subst (λ cs. AddsAll seen old cs cur) (sym (taken_by_piece answer text piece p q is f)) added) e answer new from to n
-      (λ d s. fails_by_piece d from to text piece p q is (subst (λ (z : Result Unit DimacsError). Feeds z piece p q) s f) n g o few)
-      (λ s. true≢false (sym (subst (λ (z : Result Unit DimacsError). Feeds z piece p q) s f).0 ∙ ap (λ (z : Progress). z.stopped) is))
+      (λ d s. fails_by_piece d from to text piece p q is (subst (λ (z : Result Unit DimacsError). FeedsPiece z piece p q) s f) n g o few)
+      (λ s. true≢false (sym (subst (λ (z : Result Unit DimacsError). FeedsPiece z piece p q) s f).0 ∙ ap (λ (z : Progress). z.stopped) is))
       (enough_front from to _ (text ++ piece) g o few (λ rest. read_by_piece answer text piece p q is f rest))
       a
 
   -- the end of the text
-  pub end_answers : (result : Result Unit SolverError) (answer : Result Unit DimacsError) (old cur new : Solver W L G) (from to : Reader) (text : List ℕ) (p q : Progress) → old.failed ≡ false → HasFed text p → Finishes answer p q → NoneFailed from to
-      → GaveAll from to text → AddsAll seen old p.taken cur → AddsRead seen result answer q cur new → AddsText seen result old new from to
+  pub end_answers : (result : Result Unit SolverError) (answer : Result Unit DimacsError) (old cur new : Solver W L G) (from to : Reader) (text : List ℕ) (p q : Progress) → old.failed ≡ false → HasFed text p → Finishes answer p q → NoReadFailed from to
+      → GaveAll from to text → AddsAll seen old p.taken cur → AddsFormulaRead seen result answer q cur new → AddsText seen result old new from to
   end_answers (Ok x) answer old cur new from to text p q going is f n g added a =
       let first : AddsAll seen old q.taken cur = subst (λ cs. AddsAll seen old cs cur) (sym (taken_by_end answer p q f)) added in
       record {
@@ -213,7 +213,7 @@ module _ {W L : Type 0} {G : Ghosts L} (seen : W → Writer) where
       a
 
   -- a read that failed
-  pub read_answers : (old cur : Solver W L G) (from to : Reader) (text : List ℕ) (p : Progress) → old.failed ≡ false → HasFed text p → ReadFails from to → GaveFront from to text → IsSound p → p.taken ≡ (dimacs (settled text)).clauses → AddsAll seen old p.taken cur →
+  pub read_answers : (old cur : Solver W L G) (from to : Reader) (text : List ℕ) (p : Progress) → old.failed ≡ false → HasFed text p → ReadFails from to → GaveFront from to text → IsSoundSoFar p → p.taken ≡ (dimacs (settled text)).clauses → AddsAll seen old p.taken cur →
       AddsText seen (Err errors.Read) old cur from to
   read_answers old cur from to text p going is r g s t added = inl (record {
     going = going;

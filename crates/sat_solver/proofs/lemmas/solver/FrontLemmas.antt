@@ -2,24 +2,24 @@
 use Rattle.std.proofs.Common.{ℕ, ◌≡◌, ◌∙◌, ◌⊎◌, inl, inr, Some, Result, Ok, Err, List, [], ◌∷◌, ◌++◌, sym, ap, subst, append-nil, Bool, true, Option}
 use Rattle.std.proofs.Math.Logic.{∥∥₁_elim, ∥∥₁_prop}
 use Rattle.std.specs.Prelude.{reverse}
-use Rattle.sat_base.specs.device.Device.{Reader, Writer, Takes}
+use Rattle.sat_base.specs.device.Device.{Reader, Writer, WriterTakes}
 use Rattle.sat_base.specs.steps.Steps.{Step, End}
 use Rattle.sat_base.specs.steps.StepText.{SpellsSteps}
 use Rattle.sat_base.specs.script.Judge.{Judge}
 use Rattle.sat_checker.specs.declared.processing.ProofProcessor.{Ghosts}
 use Rattle.sat_checker.specs.matching.Expected.{Expected, Unknown}
 use Rattle.sat_solver.specs.cdcl.Going as going
-use Rattle.sat_solver.specs.proof.Fronts.{FrontSince, Follows, WentOn}
-use Rattle.sat_solver.specs.proof.OutputView.{text_in, AreSpelt}
-use Rattle.sat_solver.specs.session.Making.{Took}
-use Rattle.sat_solver.specs.proof.ProofView.{Target, FailsCheck, Carries, Gives, target_of, steps_of, seen_of}
+use Rattle.sat_solver.specs.proof.Fronts.{FrontSince, TargetTakesFront, WentOn}
+use Rattle.sat_solver.specs.proof.OutputView.{text_in, AreSpeltInFormat}
+use Rattle.sat_solver.specs.session.Making.{ComesBySteps}
+use Rattle.sat_solver.specs.proof.ProofView.{Target, FailsCheck, TargetTakes, GivesWriter, target_of, steps_of, seen_of}
 use Rattle.sat_solver.specs.session.Session.{MayAll}
-use Rattle.sat_solver.specs.solver.Adding.{Added, AddsClause, Assumes}
-use Rattle.sat_solver.specs.solver.Answering.{Breaks}
+use Rattle.sat_solver.specs.solver.Adding.{Added, AddsClause, AssumesOrRefuses}
+use Rattle.sat_solver.specs.solver.Answering.{BreaksCall}
 use Rattle.sat_solver.specs.solver.Calls.{Refuses, Solves, IsFlushed}
 use Rattle.sat_solver.specs.solver.Configuring.{Configures}
-use Rattle.sat_solver.specs.solver.Formulas.{AddsAll, StopsAt, AddsFormula, AddsText, TextFails, ClauseFails}
-use Rattle.sat_solver.specs.solver.Fronts.{Went, CallsGoOn, HandsFront, FlushedIsText}
+use Rattle.sat_solver.specs.solver.Formulas.{AddsAll, StopsAtClause, AddsFormula, AddsText, TextFails, ClauseFails}
+use Rattle.sat_solver.specs.solver.Fronts.{ReachesBySteps, CallsGoOn, HandsFront, FlushedIsText}
 use Rattle.sat_solver.specs.solver.Naming.{ChangesMode, NamesNew, NamesFail}
 use Rattle.sat_solver.specs.solver.Proving.{AddsProcessor, ClosesProof, Enables}
 use Rattle.sat_solver.specs.solver.Taking.{BreaksNamesOr}
@@ -38,18 +38,18 @@ use Rattle.sat_solver.proofs.lemmas.session.ProofLemmas.{carries_none, text_spel
 module _ {W L : Type 0} {G : Ghosts L} (seen : W → Writer) where
   -- PROOFS
 
-  took : (a b : Proof W L G) → Took seen a b → WentOn seen a b
+  took : (a b : Proof W L G) → ComesBySteps seen a b → WentOn seen a b
   took a b t = went_added seen t.0 a b t.1
 
   -- no step, and the target as it was
   stood : (a b : Proof W L G) → steps_of b ≡ steps_of a → target_of seen b ≡ target_of seen a → WentOn seen a b
-  stood a b h t = record { steps = []; history = h; target = inl (subst (Carries (target_of seen a) []) (sym t) (carries_none (target_of seen a))) }
+  stood a b h t = record { steps = []; history = h; target = inl (subst (TargetTakes (target_of seen a) []) (sym t) (carries_none (target_of seen a))) }
 
   checked : {fault : CheckFault} (steps : List Step) (a b : Proof W L G) → FailsCheck seen fault steps a b → WentOn seen a b
   checked steps a b h = went_added seen steps a b h.adds
 
   -- steps of a call that failed
-  failed : (e : SolverError) (steps : List Step) (a b : Proof W L G) → going.Went {A = Unit {0}} seen (Err e) steps a b → WentOn seen a b
+  failed : (e : SolverError) (steps : List Step) (a b : Proof W L G) → going.EmitsUpToFault {A = Unit {0}} seen (Err e) steps a b → WentOn seen a b
   failed errors.Interrupted steps a b h = went_added seen steps a b h
   failed (errors.ProofProcessorError cause) steps a b h = checked steps a b h
   failed (errors.ProofIoError cause) steps a b h = went_failed seen steps a b h
@@ -68,19 +68,19 @@ module _ {W L : Type 0} {G : Ghosts L} (seen : W → Writer) where
 
   -- CALLS
 
-  same : (a b : Solver W L G) (why : Type 0) → Refuses a b why → Went seen a b
-  same a b why h = subst (λ (x : Solver W L G). Went seen a x) (sym h.same) (went_none seen a.core.proof)
+  same : (a b : Solver W L G) (why : Type 0) → Refuses a b why → ReachesBySteps seen a b
+  same a b why h = subst (λ (x : Solver W L G). ReachesBySteps seen a x) (sym h.same) (went_none seen a.core.proof)
 
   names_broke : (full : Type 0) (e : SolverError) (a b : Core W L G) → BreaksNamesOr full seen e a b → WentOn seen a.proof b.proof
   names_broke full e a b h = failed e h.steps a.proof b.proof h.went
 
-  broke : (e : SolverError) (a b : Core W L G) → Breaks seen e a b → WentOn seen a.proof b.proof
+  broke : (e : SolverError) (a b : Core W L G) → BreaksCall seen e a b → WentOn seen a.proof b.proof
   broke e a b h = failed e h.steps a.proof b.proof h.went
 
-  added : (a b : Solver W L G) (user : List ℕ) → Added seen a b user → Went seen a b
+  added : (a b : Solver W L G) (user : List ℕ) → Added seen a b user → ReachesBySteps seen a b
   added a b user h = took a.core.proof b.core.proof h.did.took
 
-  clause_added : (a b : Solver W L G) (r : Result (Unit {0}) SolverError) (user : List ℕ) → AddsClause seen r a b user → Went seen a b
+  clause_added : (a b : Solver W L G) (r : Result (Unit {0}) SolverError) (user : List ℕ) → AddsClause seen r a b user → ReachesBySteps seen a b
   clause_added a b (Ok x) user h = added a b user h
   clause_added a b (Err errors.Interrupted) user h = names_broke _ errors.Interrupted a.core b.core h.2.breaks
   clause_added a b (Err (errors.ProofProcessorError cause)) user h = names_broke _ (errors.ProofProcessorError cause) a.core b.core h.2.breaks
@@ -98,7 +98,7 @@ module _ {W L : Type 0} {G : Ghosts L} (seen : W → Writer) where
   clause_added a b (Err errors.Malformed) user h = names_broke _ errors.Malformed a.core b.core h.2.breaks
   clause_added a b (Err errors.OutOfRange) user h = names_broke _ errors.OutOfRange a.core b.core h.2.breaks
 
-  assumed : (a b : Solver W L G) (r : Result (Unit {0}) SolverError) (user : List ℕ) → Assumes seen r a b user → Went seen a b
+  assumed : (a b : Solver W L G) (r : Result (Unit {0}) SolverError) (user : List ℕ) → AssumesOrRefuses seen r a b user → ReachesBySteps seen a b
   assumed a b (Ok x) user h = took a.core.proof b.core.proof (h.did Unknown).took
   assumed a b (Err errors.Interrupted) user h = names_broke _ errors.Interrupted a.core b.core h.2.breaks
   assumed a b (Err (errors.ProofProcessorError cause)) user h = names_broke _ (errors.ProofProcessorError cause) a.core b.core h.2.breaks
@@ -116,14 +116,14 @@ module _ {W L : Type 0} {G : Ghosts L} (seen : W → Writer) where
   assumed a b (Err errors.Malformed) user h = names_broke _ errors.Malformed a.core b.core h.2.breaks
   assumed a b (Err errors.OutOfRange) user h = names_broke _ errors.OutOfRange a.core b.core h.2.breaks
 
-  all_added : (a b : Solver W L G) (clauses : List (List ℕ)) → AddsAll seen a clauses b → Went seen a b
-  all_added a b [] h = subst (λ (x : Solver W L G). Went seen a x) (sym h) (went_none seen a.core.proof)
+  all_added : (a b : Solver W L G) (clauses : List (List ℕ)) → AddsAll seen a clauses b → ReachesBySteps seen a b
+  all_added a b [] h = subst (λ (x : Solver W L G). ReachesBySteps seen a x) (sym h) (went_none seen a.core.proof)
   all_added a b (c ∷ cs) h = went_more seen a.core.proof h.0.core.proof b.core.proof (added a h.0 c h.1) (all_added h.0 b cs h.2)
 
-  stopped : (a b : Solver W L G) (e : SolverError) (clauses : List (List ℕ)) → StopsAt seen e a b clauses → Went seen a b
+  stopped : (a b : Solver W L G) (e : SolverError) (clauses : List (List ℕ)) → StopsAtClause seen e a b clauses → ReachesBySteps seen a b
   stopped a b e clauses h = went_more seen a.core.proof h.mid.core.proof b.core.proof (all_added a h.mid h.before h.added) (clause_added h.mid b (Err e) h.clause h.stops)
 
-  formula_added : (a b : Solver W L G) (r : Result (Unit {0}) SolverError) (clauses : List (List ℕ)) → AddsFormula seen r a b clauses → Went seen a b
+  formula_added : (a b : Solver W L G) (r : Result (Unit {0}) SolverError) (clauses : List (List ℕ)) → AddsFormula seen r a b clauses → ReachesBySteps seen a b
   formula_added a b (Ok x) clauses h = all_added a b clauses h.1
   formula_added a b (Err errors.Interrupted) clauses h = stopped a b errors.Interrupted clauses h
   formula_added a b (Err (errors.ProofProcessorError cause)) clauses h = stopped a b (errors.ProofProcessorError cause) clauses h
@@ -141,13 +141,13 @@ module _ {W L : Type 0} {G : Ghosts L} (seen : W → Writer) where
   formula_added a b (Err errors.Malformed) clauses h = stopped a b errors.Malformed clauses h
   formula_added a b (Err errors.OutOfRange) clauses h = stopped a b errors.OutOfRange clauses h
 
-  text_stopped : (a b : Solver W L G) (e : SolverError) (from to : Reader) → TextFails seen e a b from to ⊎ ClauseFails seen e a b from to → Went seen a b
+  text_stopped : (a b : Solver W L G) (e : SolverError) (from to : Reader) → TextFails seen e a b from to ⊎ ClauseFails seen e a b from to → ReachesBySteps seen a b
   text_stopped a b e from to h = elim h [
-    | inl k ↦ subst (λ (x : Solver W L G). Went seen a x) (sym k.new_is) (all_added a k.mid k.clauses k.added)
+    | inl k ↦ subst (λ (x : Solver W L G). ReachesBySteps seen a x) (sym k.new_is) (all_added a k.mid k.clauses k.added)
     | inr k ↦ stopped a b e k.clauses k.stops
   ]
 
-  text_added : (a b : Solver W L G) (r : Result (Unit {0}) SolverError) (from to : Reader) → AddsText seen r a b from to → Went seen a b
+  text_added : (a b : Solver W L G) (r : Result (Unit {0}) SolverError) (from to : Reader) → AddsText seen r a b from to → ReachesBySteps seen a b
   text_added a b (Ok x) from to h = all_added a b h.clauses h.added
   text_added a b (Err errors.Interrupted) from to h = text_stopped a b errors.Interrupted from to h
   text_added a b (Err (errors.ProofProcessorError cause)) from to h = text_stopped a b (errors.ProofProcessorError cause) from to h
@@ -165,7 +165,7 @@ module _ {W L : Type 0} {G : Ghosts L} (seen : W → Writer) where
   text_added a b (Err errors.Malformed) from to h = text_stopped a b errors.Malformed from to h
   text_added a b (Err errors.OutOfRange) from to h = text_stopped a b errors.OutOfRange from to h
 
-  mode_changed : (a b : Solver W L G) (r : Result (Unit {0}) SolverError) (user : ℕ) (judge : Judge → Judge) (due : Judge → List Expected) (May : List Step → Step → Type 0) → ChangesMode seen r a b user judge due May → Went seen a b
+  mode_changed : (a b : Solver W L G) (r : Result (Unit {0}) SolverError) (user : ℕ) (judge : Judge → Judge) (due : Judge → List Expected) (May : List Step → Step → Type 0) → ChangesMode seen r a b user judge due May → ReachesBySteps seen a b
   mode_changed a b (Ok x) user judge due May h = took a.core.proof b.core.proof h.1.did.took
   mode_changed a b (Err errors.Interrupted) user judge due May h = names_broke _ errors.Interrupted a.core b.core h.2.breaks
   mode_changed a b (Err (errors.ProofProcessorError cause)) user judge due May h = names_broke _ (errors.ProofProcessorError cause) a.core b.core h.2.breaks
@@ -183,7 +183,7 @@ module _ {W L : Type 0} {G : Ghosts L} (seen : W → Writer) where
   mode_changed a b (Err errors.Malformed) user judge due May h = names_broke _ errors.Malformed a.core b.core h.2.breaks
   mode_changed a b (Err errors.OutOfRange) user judge due May h = names_broke _ errors.OutOfRange a.core b.core h.2.breaks
 
-  named : (a b : Solver W L G) (r : Result ℕ SolverError) → NamesNew seen r a b → Went seen a b
+  named : (a b : Solver W L G) (r : Result ℕ SolverError) → NamesNew seen r a b → ReachesBySteps seen a b
   named a b (Ok user) h = took a.core.proof b.core.proof h.1.did.took
   named a b (Err errors.Interrupted) h = names_broke _ errors.Interrupted a.core b.core h.1.breaks
   named a b (Err (errors.ProofProcessorError cause)) h = names_broke _ (errors.ProofProcessorError cause) a.core b.core h.1.breaks
@@ -201,7 +201,7 @@ module _ {W L : Type 0} {G : Ghosts L} (seen : W → Writer) where
   named a b (Err errors.Malformed) h = names_broke _ errors.Malformed a.core b.core h.1.breaks
   named a b (Err errors.OutOfRange) h = names_broke _ errors.OutOfRange a.core b.core h.1.breaks
 
-  unnamed : (a b : Solver W L G) (e : SolverError) → NamesFail seen e a b → Went seen a b
+  unnamed : (a b : Solver W L G) (e : SolverError) → NamesFail seen e a b → ReachesBySteps seen a b
   unnamed a b errors.Interrupted h = names_broke _ errors.Interrupted a.core b.core h.breaks
   unnamed a b (errors.ProofProcessorError cause) h = names_broke _ (errors.ProofProcessorError cause) a.core b.core h.breaks
   unnamed a b (errors.ProofIoError cause) h = names_broke _ (errors.ProofIoError cause) a.core b.core h.breaks
@@ -218,7 +218,7 @@ module _ {W L : Type 0} {G : Ghosts L} (seen : W → Writer) where
   unnamed a b errors.Malformed h = names_broke _ errors.Malformed a.core b.core h.breaks
   unnamed a b errors.OutOfRange h = names_broke _ errors.OutOfRange a.core b.core h.breaks
 
-  solved : (a b : Solver W L G) (r : Result Bool SolverError) → Solves seen r a b → Went seen a b
+  solved : (a b : Solver W L G) (r : Result Bool SolverError) → Solves seen r a b → ReachesBySteps seen a b
   solved a b (Ok sat) h = took a.core.proof b.core.proof h.0.did.took
   solved a b (Err errors.Interrupted) h = took a.core.proof b.core.proof h.0.did.took
   solved a b (Err (errors.ProofProcessorError cause)) h = broke (errors.ProofProcessorError cause) a.core b.core h.breaks
@@ -236,7 +236,7 @@ module _ {W L : Type 0} {G : Ghosts L} (seen : W → Writer) where
   solved a b (Err errors.Malformed) h = broke errors.Malformed a.core b.core h.breaks
   solved a b (Err errors.OutOfRange) h = broke errors.OutOfRange a.core b.core h.breaks
 
-  configured : (a b : Solver W L G) (r : Result (Unit {0}) SolverError) (u : SolverConfigUpdate) → Configures r u a b → Went seen a b
+  configured : (a b : Solver W L G) (r : Result (Unit {0}) SolverError) (u : SolverConfigUpdate) → Configures r u a b → ReachesBySteps seen a b
   configured a b (Ok x) u h = subst (WentOn seen a.core.proof) (sym h.proof) (went_none seen a.core.proof)
   configured a b (Err errors.Interrupted) u h = absurd h
   configured a b (Err (errors.ProofProcessorError cause)) u h = absurd h
@@ -254,7 +254,7 @@ module _ {W L : Type 0} {G : Ghosts L} (seen : W → Writer) where
   configured a b (Err errors.Malformed) u h = absurd h
   configured a b (Err errors.OutOfRange) u h = same a b _ h
 
-  enabled : (a b : Solver W L G) (r : Result (Unit {0}) SolverError) → Enables seen r a b → Went seen a b
+  enabled : (a b : Solver W L G) (r : Result (Unit {0}) SolverError) → Enables seen r a b → ReachesBySteps seen a b
   enabled a b (Ok x) h = stood a.core.proof b.core.proof h.checks.steps h.target
   enabled a b (Err errors.Interrupted) h = absurd h
   enabled a b (Err (errors.ProofProcessorError cause)) h = absurd h
@@ -272,7 +272,7 @@ module _ {W L : Type 0} {G : Ghosts L} (seen : W → Writer) where
   enabled a b (Err errors.Malformed) h = absurd h
   enabled a b (Err errors.OutOfRange) h = absurd h
 
-  listened : (a b : Solver W L G) (r : Result (Unit {0}) SolverError) (processor : L) → AddsProcessor seen r processor a b → Went seen a b
+  listened : (a b : Solver W L G) (r : Result (Unit {0}) SolverError) (processor : L) → AddsProcessor seen r processor a b → ReachesBySteps seen a b
   listened a b (Ok x) processor h = stood a.core.proof b.core.proof h.steps h.target
   listened a b (Err errors.Interrupted) processor h = absurd h
   listened a b (Err (errors.ProofProcessorError cause)) processor h = absurd h
@@ -290,7 +290,7 @@ module _ {W L : Type 0} {G : Ghosts L} (seen : W → Writer) where
   listened a b (Err errors.Malformed) processor h = absurd h
   listened a b (Err errors.OutOfRange) processor h = absurd h
 
-  unclosed : (a b : Solver W L G) (e : SolverError) → ClosesProof seen (Err e) a b → Went seen a b
+  unclosed : (a b : Solver W L G) (e : SolverError) → ClosesProof seen (Err e) a b → ReachesBySteps seen a b
   unclosed a b errors.Interrupted h = absurd h
   unclosed a b (errors.ProofProcessorError cause) h = checked (End ∷ []) a.core.proof b.core.proof h.fails
   unclosed a b (errors.ProofIoError cause) h = went_failed seen (End ∷ []) a.core.proof b.core.proof h.fails
@@ -330,10 +330,10 @@ module _ {W L : Type 0} {G : Ghosts L} (seen : W → Writer) where
     closing_fails = unclosed old new;
   }
 
-  pub hands_front : (s : Solver W L G) (handed : Option W) → Gives (target_of seen s.core.proof) (seen_of seen handed) → HandsFront seen handed s
+  pub hands_front : (s : Solver W L G) (handed : Option W) → GivesWriter (target_of seen s.core.proof) (seen_of seen handed) → HandsFront seen handed s
   hands_front s handed g opened f from given is open_then begun went =
-      let follows = subst (λ (t : Target). Follows t went.steps (target_of seen s.core.proof)) open_then went.target in
-      let gives = subst (λ (o : Option W). Gives (target_of seen s.core.proof) (seen_of seen o)) is g in
+      let follows = subst (λ (t : Target). TargetTakesFront t went.steps (target_of seen s.core.proof)) open_then went.target in
+      let gives = subst (λ (o : Option W). GivesWriter (target_of seen s.core.proof) (seen_of seen o)) is g in
       ∥∥₁_elim s.core.proof.made.may ∥∥₁_prop (λ may.
       let front = fronts_are_accepted f from (seen given) (steps_in opened) went.steps (target_of seen s.core.proof) begun (subst MayAll went.history may) follows gives in
       ∣ subst (FrontSince f from (seen given) (steps_in opened)) (sym went.history) front ∣₁)
@@ -341,7 +341,7 @@ module _ {W L : Type 0} {G : Ghosts L} (seen : W → Writer) where
 pub flushed_is_text : FlushedIsText
 flushed_is_text f from given steps now h flushed g =
     let k = subst (λ (z : Target). IsFlushed z) h.2 flushed in
-    let q : Some given ≡ Some h.1.writer = subst (λ (z : Target). Gives z (Some given)) h.2 g in
+    let q : Some given ≡ Some h.1.writer = subst (λ (z : Target). GivesWriter z (Some given)) h.2 g in
     let same : h.1.writer ≡ given = cc in
     let sent = h.3.wrote.sent in
     let all : sent.fresh ≡ text_in f h.3.written = sym (append-nil sent.fresh) ∙ ap (λ (z : List ℕ). sent.fresh ++ z) (sym k.0) ∙ sym sent.flows in
@@ -349,7 +349,7 @@ flushed_is_text f from given steps now h flushed g =
       written = h.3.written;
       counting = h.0;
       cuts = h.3.cuts;
-      spells = λ e. subst (λ (z : ProofFormat). SpellsSteps (reverse h.3.written) (text_in z h.3.written)) (sym e) (text_spells h.3.written (subst (λ z. AreSpelt z h.3.written) e h.3.wrote.spelt));
-      takes = subst (λ (z : Writer). Takes from z (text_in f h.3.written)) same (subst (Takes from h.1.writer) all sent.takes);
+      spells = λ e. subst (λ (z : ProofFormat). SpellsSteps (reverse h.3.written) (text_in z h.3.written)) (sym e) (text_spells h.3.written (subst (λ z. AreSpeltInFormat z h.3.written) e h.3.wrote.spelt));
+      takes = subst (λ (z : Writer). WriterTakes from z (text_in f h.3.written)) same (subst (WriterTakes from h.1.writer) all sent.takes);
       flushed = subst (λ (z : Writer). z.flushed ≡ true) same k.1;
     }

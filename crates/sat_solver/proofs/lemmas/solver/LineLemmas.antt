@@ -13,10 +13,10 @@ use Rattle.sat_base.proofs.lemmas.script.NamesListed.{lists_in_use}
 use Rattle.sat_base.specs.steps.Steps.{Step, Model}
 use Rattle.sat_checker.specs.Fold.{Holds}
 use Rattle.sat_solver.specs.session.Session.{May, session_after}
-use Rattle.sat_solver.specs.session.NamedMeaning.{Means, AgreeOn, Reads, AllRead}
+use Rattle.sat_solver.specs.session.NamedMeaning.{MeansAcceptedClauses, AgreeOn, IsReadAs, AllReadAmong}
 use Rattle.sat_solver.proofs.lemmas.session.NamedLemmas.{all_at, all_from, among_images, read_value, named_models_are_right}
 use Rattle.sat_solver.specs.load.Literals.{named_literal}
-use Rattle.sat_checker.specs.matching.Bridge.{Live, Agrees}
+use Rattle.sat_checker.specs.matching.Bridge.{Live, AgreesOnLive}
 use Rattle.sat_solver.specs.variables.Live.{given_of}
 use Rattle.sat_solver.specs.variables.Variables.{global_of, names_used, variables_used}
 use Rattle.sat_solver.specs.Models.{value_in, model_to, name_literal, named_to}
@@ -35,10 +35,10 @@ use Rattle.sat_solver.proofs.lemmas.solver.ShownLemmas.{coded_sign, model_all}
 
 -- MEANING
 
-agree_at : (live : Live) (a b : Valuation) (v i : ℕ) → Agrees live a b → Among (v, i) live → a v ≡ b i
+agree_at : (live : Live) (a b : Valuation) (v i : ℕ) → AgreesOnLive live a b → Among (v, i) live → a v ≡ b i
 agree_at live a b v i h m = all_pairs live h m
   where
-    all_pairs : (ps : Live) → Agrees ps a b → Among (v, i) ps → a v ≡ b i
+    all_pairs : (ps : Live) → AgreesOnLive ps a b → Among (v, i) ps → a v ≡ b i
     all_pairs [] h m = absurd m
     all_pairs (p ∷ ps) h m = elim m [
       | inl e ↦ ap (λ (q : ℕ × ℕ). a q.0) e ∙ h.0 ∙ sym (ap (λ (q : ℕ × ℕ). b q.1) e)
@@ -49,19 +49,19 @@ some_same : (x y : ℕ) (o : Option ℕ) → o ≡ Some x → o ≡ Some y → x
 some_same x y o e f = (let g : Some x ≡ Some y = sym e ∙ f in cc)
 
 module _ (n : Variables) (steps : List Step) (j : Judge) (live : Live) (agree : Agree n steps j live) where
-  agree_on : (a b : Valuation) → Agrees live a b → AgreeOn j (variable_of steps) a b
+  agree_on : (a b : Valuation) → AgreesOnLive live a b → AgreeOn j (variable_of steps) a b
   agree_on a b h name i v use_ named =
       let k = agree.bridge.named name v named in
       agree_at live a b v i h (subst (λ z. Among (v, z) live) (some_same k.0 i (identity_of j name) k.1 use_) k.2)
 
-  pub means_of : Means j (variable_of steps) steps
+  pub means_of : MeansAcceptedClauses j (variable_of steps) steps
   means_of = record {
     to = λ a h. let m = agree.bridge.to a h in (m.0, agree_on a m.0 m.1, m.2);
     back = λ b h. let g = pulled_agrees live b agree.bridge.once in (pulled live b, agree_on (pulled live b) b g, agree.bridge.back (pulled live b) (b, g, h));
   }
 
   -- the proof's literal of a name in use
-  pub reads_at : (u v : ℕ) (b : Bool) → NamesInvariant n steps → global_of n u ≡ Some v → Reads j (variable_of steps) (named_literal (coded u b)) (coded v b)
+  pub reads_at : (u v : ℕ) (b : Bool) → NamesInvariant n steps → global_of n u ≡ Some v → IsReadAs j (variable_of steps) (named_literal (coded u b)) (coded v b)
   reads_at u v b stands e =
       let name : variable_of steps (variable (coded u b) + 1) ≡ Some v = ap (λ w. variable_of steps (w + 1)) (coded_variable u b) ∙ stands.read u ∙ e in
       let k = agree.bridge.named (variable (coded u b) + 1) v name in
@@ -169,9 +169,9 @@ module _ (n : Variables) (steps : List Step) (values : List (Option Bool)) (stan
     lists : names_of (map named_literal line) ≡ map (λ n. n.name) j.in_use
     lists = lists_in_use j (names_of (map named_literal line)) agree.judged.increasing (line_rises n values (names_used n)) lists_all lists_only
 
-    read : AllRead j (variable_of steps) (map named_literal line) (model_to n values (variables_used n))
-    read = mapped_each (λ l. (code : ℕ) × Reads j (variable_of steps) l code × Among code (model_to n values (variables_used n))) line
-        (named_each n values (λ l. (code : ℕ) × Reads j (variable_of steps) (named_literal l) code × Among code (model_to n values (variables_used n))) (names_used n) (λ u v lt e.
+    read : AllReadAmong j (variable_of steps) (map named_literal line) (model_to n values (variables_used n))
+    read = mapped_each (λ l. (code : ℕ) × IsReadAs j (variable_of steps) l code × Among code (model_to n values (variables_used n))) line
+        (named_each n values (λ l. (code : ℕ) × IsReadAs j (variable_of steps) (named_literal l) code × Among code (model_to n values (variables_used n))) (names_used n) (λ u v lt e.
         let live_ = stands.tidy.named v u (stands.tidy.users.back u v e) in (
           coded v (value_in n values v),
           reads_at n steps j live agree u v (value_in n values v) stands e,
@@ -190,7 +190,7 @@ module _ (n : Variables) (steps : List Step) (values : List (Option Bool)) (stan
 
 -- a core that no valuation of the steps makes true is right
 module _ (n : Variables) (steps : List Step) (j : Judge) (live : Live) (agree : Agree n steps j live) where
-  spells_reads : (l : Literal) (code : ℕ) → Spells (variable_of steps) l code → Reads j (variable_of steps) l code
+  spells_reads : (l : Literal) (code : ℕ) → Spells (variable_of steps) l code → IsReadAs j (variable_of steps) l code
   spells_reads l code s = (let k = agree.bridge.named l.name s.variable s.named in record { identity = k.0; in_use = k.1; var = s.variable; named = s.named; is = s.is })
 
   pub core_of : (asked core codes : List ℕ) → ((a : Valuation) → Holds steps a → EachTrue a codes → ⊥) → SameSet (variable_of steps) (map named_literal core) codes → AllByRecursion (λ l. Among l asked) core → IsCoreOf j (map named_literal asked) (map named_literal core)

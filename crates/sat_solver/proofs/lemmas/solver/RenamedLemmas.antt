@@ -10,7 +10,7 @@ use Rattle.sat_base.specs.script.Judge.{Judge}
 use Rattle.sat_checker.specs.LiteralSets.{mentions}
 use Rattle.sat_store.specs.variables.Maps.{target}
 use Rattle.sat_checker.specs.declared.processing.ProofProcessor.{Ghosts}
-use Rattle.sat_solver.specs.session.Making.{Gained}
+use Rattle.sat_solver.specs.session.Making.{ComesByCheckedSteps}
 use Rattle.sat_solver.specs.proof.ProofView.{is_lost, steps_of, session_of}
 use Rattle.sat_solver.proofs.lemmas.session.ProofLemmas.{gains_adds, gained_width}
 use Rattle.sat_solver.specs.declared.proof.made.CheckFault.TheVariants as checks
@@ -45,7 +45,7 @@ use Rattle.sat_solver.specs.solver.Naming.{IsAsked, IsKeptOrFalse, variable_valu
 use Rattle.sat_solver.specs.solver.Taking.{IsNameFaultOr, BreaksNames}
 use Rattle.sat_solver.specs.cdcl.Going.{IsFault}
 use Rattle.sat_solver.specs.declared.context.Core.{Core}
-use Rattle.sat_solver.specs.solver.Whole.{IsWhole, IsWholeOf, StateSays, AskGoesOn, HasCore, steps_in, session_in}
+use Rattle.sat_solver.specs.solver.Whole.{SolverInvariant, IsWholeOf, StateSays, AskGoesOn, HasCore, steps_in, session_in}
 use Rattle.sat_solver.proofs.lemmas.variables.Giving.{alike_unseen}
 use Rattle.sat_solver.proofs.lemmas.variables.NextUnused.{lowest_unused}
 use Rattle.sat_parts.proofs.lemmas.parts.ValueLemmas.{coded_variable}
@@ -79,7 +79,7 @@ some_same v w e = cc
 
 -- ASSUMPTIONS AND THEIR MARKS
 
-module _ {W L : Type 0} {G : Ghosts L} (s : Solver W L G) (whole : IsWhole s) where
+module _ {W L : Type 0} {G : Ghosts L} (s : Solver W L G) (whole : SolverInvariant s) where
   -- the variable of one of the assumptions
   pub record Asked_as (l : ℕ) : Type 0 where
     pub variable_is : ℕ
@@ -249,7 +249,7 @@ module _ {W L : Type 0} {G : Ghosts L} (s : Solver W L G) (whole : IsWhole s) wh
   pub others_kept : (n' : Variables) (user : ℕ) → (IsAsked s user → ⊥) → KeepsOthers s.names n' user → (l v : ℕ) → Among l s.assumed.items → global_of s.names (variable l) ≡ Some v → global_of n' (variable l) ≡ Some v
   others_kept n' user free others l v h e = others (variable l) v (λ q. free (l, h, q)) e
 
-module _ {W L : Type 0} {G : Ghosts L} (seen : W → Writer) (s : Solver W L G) (whole : IsWhole s) (going : s.failed ≡ false) (n' : Variables) (p : Proof W L G) where
+module _ {W L : Type 0} {G : Ghosts L} (seen : W → Writer) (s : Solver W L G) (whole : SolverInvariant s) (going : s.failed ≡ false) (n' : Variables) (p : Proof W L G) where
   abbrev values : List (Option Bool)
   values = s.core.search.parts.assignment.current
 
@@ -290,7 +290,7 @@ module _ {W L : Type 0} {G : Ghosts L} (seen : W → Writer) (s : Solver W L G) 
 
   -- a call over names was carried out
   pub renamed : (judge : Judge → Judge) (due : Judge → List Expected) (May : List Step → Step → Type 0) → OnlyAllowedSteps May (steps_in s) (steps_of p) → NamesRefineJudge s.names n' (steps_in s) (steps_of p) judge due → AreFresh s.names n' → KeepsUnits n' (steps_in s) (steps_of p) →
-      ((l v : ℕ) → Among l s.assumed.items → global_of s.names (variable l) ≡ Some v → global_of n' (variable l) ≡ Some v) → IsAlike s.names n' (steps_in s) (steps_of p) → Gained seen s.core.proof p →
+      ((l v : ℕ) → Among l s.assumed.items → global_of s.names (variable l) ≡ Some v → global_of n' (variable l) ≡ Some v) → IsAlike s.names n' (steps_in s) (steps_of p) → ComesByCheckedSteps seen s.core.proof p →
       Renamed seen s (record s { core = record s.core { proof = p }; names = n'; used = true }) judge due May
   renamed judge due May comes does fresh units kept alike took = record {
     did = record { whole = whole_renamed s whole n' p does.stands kept alike (judged_by does whole.judged) took.1.taking; going = going; failed = going; used = refl; config = refl; does = does; took = (took.0, gains_adds seen took.0 s.core.proof p took.1); width = gained_width seen s.core.proof p took };
@@ -384,11 +384,11 @@ same_solver {W} {L} {G} s n' p e f =
     (subst (λ (q : Proof W L G). ◌≡◌ {A = Solver W L G} (record s { core = record s.core { proof = q } }) s) (sym f) refl)
 
 -- the next of the names is the judge's lowest one not in use
-pub next_name : {W L : Type 0} {G : Ghosts L} (s : Solver W L G) → IsWhole s → (user : ℕ) → IsNextUser s.names user → IsNextName s (user + 1)
+pub next_name : {W L : Type 0} {G : Ghosts L} (s : Solver W L G) → SolverInvariant s → (user : ℕ) → IsNextUser s.names user → IsNextName s (user + 1)
 next_name s whole user next j live agree = lowest_unused s.names (steps_in s) j live user whole.stands agree.judged next
 
 -- hidden variables got names
-pub observed_all : {W L : Type 0} {G : Ghosts L} (seen : W → Writer) (s : Solver W L G) → IsWhole s → s.failed ≡ false → (n' : Variables) (p : Proof W L G) (users : List ℕ) (used : Bool) → used ≡ (s.used || not (eqb (length users) 0)) → NamesAllHidden s.names n' (steps_in s) (steps_of p) users → Gained seen s.core.proof p →
+pub observed_all : {W L : Type 0} {G : Ghosts L} (seen : W → Writer) (s : Solver W L G) → SolverInvariant s → s.failed ≡ false → (n' : Variables) (p : Proof W L G) (users : List ℕ) (used : Bool) → used ≡ (s.used || not (eqb (length users) 0)) → NamesAllHidden s.names n' (steps_in s) (steps_of p) users → ComesByCheckedSteps seen s.core.proof p →
     Observed seen s (record s { core = record s.core { proof = p }; names = n'; used = used }) users
 observed_all seen s whole going n' p users used opened all took = record {
   whole = whole_renamed s whole n' p all.stands (λ l v h e. all.names (variable l) v e) (alike_unseen s.names n' (steps_in s) (steps_of p) all.unseen)

@@ -7,13 +7,13 @@ use Rattle.sat_solver.proofs.lemmas.session.NamedLemmas.{named_unsat_is_right}
 use Rattle.sat_checker.specs.matching.Checking.{variable_of}
 use Rattle.sat_solver.specs.declared.solver.Solver.{Solver}
 use Rattle.sat_solver.specs.declared.state.State.TheVariants as states
-use Rattle.sat_solver.specs.solver.Whole.{IsWhole, StateSays, steps_in, line_in}
+use Rattle.sat_solver.specs.solver.Whole.{SolverInvariant, StateSays, steps_in, line_in}
 use Rattle.sat_solver.specs.solver.Resting.{IsModel, IsRightLine, IsRightCoreOf, IsCore}
 use Rattle.sat_solver.proofs.lemmas.solver.ShownLemmas.{shown_may}
 use Rattle.sat_solver.proofs.lemmas.solver.LineLemmas.{model_line, core_of, means_of}
 use Rattle.sat_solver.proofs.lemmas.solver.AnsweredLemmas.{asked_shown}
 
-module _ {W L : Type 0} {G : Ghosts L} (s : Solver W L G) (whole : IsWhole s) where
+module _ {W L : Type 0} {G : Ghosts L} (s : Solver W L G) (whole : SolverInvariant s) where
   -- the line of a model is right
   pub model_rests : s.failed ≡ false → s.state ≡ states.Sat → (line : List ℕ) → line ≡ line_in s → IsModel s line
   model_rests going state line e = record {

@@ -9,7 +9,7 @@ use Rattle.sat_checker.specs.Fold.{Holds}
 use Rattle.sat_checker.specs.declared.processing.ProofProcessor.{Ghosts}
 use Rattle.sat_parts.specs.prop.Values.{IsTrueLit}
 use Rattle.sat_solver.specs.session.LiveClauses.{with_var}
-use Rattle.sat_solver.specs.proof.ProofView.{Target, Closed, Open, Broken, Flushed, Flushes, FlushesOrFails, Adds, Gains, FailsCheck, HasTold, is_lost, steps_of, session_of, target_of}
+use Rattle.sat_solver.specs.proof.ProofView.{Target, Closed, Open, Broken, Flushed, FlushesAndTells, FlushesOrFails, EmitsExactly, EmitsChecked, FailsCheck, HasTold, is_lost, steps_of, session_of, target_of}
 use Rattle.sat_solver.specs.declared.proof.made.CheckFault.{CheckFault}
 use Rattle.sat_solver.specs.declared.proof.made.CheckFault.TheVariants as checks
 use Rattle.sat_solver.specs.declared.proof.Proof.{Proof}
@@ -30,7 +30,7 @@ use Rattle.sat_solver.specs.declared.context.Core.{Core}
 use Rattle.sat_solver.specs.declared.config.SolverConfig.{SolverConfig}
 use Rattle.sat_solver.specs.declared.context.Search.{Search}
 use Rattle.sat_solver.specs.assumptions.Core.{causes_hashes}
-use Rattle.sat_solver.specs.cdcl.Joint.{global_in, AreAsked, IsSearch, Moved}
+use Rattle.sat_solver.specs.cdcl.Joint.{global_in, AreAsked, IsSearch, SameVarsAndAssumptions}
 use Rattle.sat_solver.specs.clause.Activity.{AreDecays}
 use Rattle.sat_solver.specs.cdcl.Turns.{IsComplete}
 use Rattle.sat_solver.specs.schedule.Solving.{AdvancesIn, AdvanceTimes, StandsStill, Ended, values_in}
@@ -50,11 +50,11 @@ use Rattle.sat_solver.specs.declared.state.State.TheVariants as states
 use Rattle.sat_solver.specs.declared.solver.find.Told.{Told}
 use Rattle.sat_solver.specs.declared.solver.find.Clock.{Clock}
 use Rattle.sat_solver.specs.solver.Joined.{IsJoined, name_of}
-use Rattle.sat_solver.specs.solver.Answering.{BreaksOff, FlushFails, Failed, line_of, model_of}
+use Rattle.sat_solver.specs.solver.Answering.{BreaksOff, FlushFails, WritesFailedCore, line_of, model_of}
 use Rattle.sat_solver.specs.solver.Found.{FoundModel, FoundCore, FoundNone, FoundSays}
-use Rattle.sat_solver.specs.solver.Calls.{Answered, Counts, CountsRounds, RoundsOn, IsFlushed, NotesAsk, learned_of, told_as, told_by}
+use Rattle.sat_solver.specs.solver.Calls.{Answered, Counts, CountsRounds, RoundsOn, IsFlushed, NotesAsk, learned_of, due_between_states, due_for_answer}
 use Rattle.sat_solver.specs.solver.Settling.{Settled}
-use Rattle.sat_solver.specs.solver.Whole.{IsWhole, IsWholeOf, StateSays, AskGoesOn, HasCore, steps_in, session_in, line_in}
+use Rattle.sat_solver.specs.solver.Whole.{SolverInvariant, IsWholeOf, StateSays, AskGoesOn, HasCore, steps_in, session_in, line_in}
 use Rattle.sat_solver.proofs.lemmas.solver.AnsweredLemmas.{asked_shown, core_among, core_spelt, core_none, joined_by, does_shown, does_failed}
 use Rattle.sat_solver.proofs.lemmas.solver.KeptLemmas.{images_kept, globals_kept}
 use Rattle.sat_solver.specs.unit_simplify.Freed.{KeepsAsked}
@@ -72,7 +72,7 @@ some_mapped : (f : ℕ → ℕ) (ls : List ℕ) → 0 < length ls → map f ls �
 some_mapped f [] lt e = omega arith
 some_mapped f (l ∷ ls) lt e = cc
 
-assumed_moved : (s t : Session) (c c' : Search) → AreAsked s c → AreAsked t c' → Moved c c' → t.assumed ≡ s.assumed
+assumed_moved : (s t : Session) (c c' : Search) → AreAsked s c → AreAsked t c' → SameVarsAndAssumptions c c' → t.assumed ≡ s.assumed
 assumed_moved s t c c' h k moved =
     k ∙ ap (λ gs. map (with_var (λ x. get_or gs x 0)) c'.assumptions.lits.items) (ap (λ gs. gs.items) moved.globals)
     ∙ ap (λ ls. map (with_var (global_in c)) ls) (ap (λ ls. ls.items) moved.lits) ∙ sym h
@@ -88,7 +88,7 @@ no_rounds states.Unsat n = omega arith
 then_still : (from mids to steps : List Step) (step : Step) (k : ℕ) → mids ≡ steps ++ from → to ≡ step ∷ mids → AdvanceTimes from steps k → StandsStill (session_after (steps ++ from)) step → AdvancesIn from to k
 then_still from mids to steps step k e f times still = record { steps = step ∷ steps; behind = f ∙ ap (λ ss. step ∷ ss) e; times = inl (times, still) }
 
-module _ {W L : Type 0} {G : Ghosts L} (seen : W → Writer) (s : Solver W L G) (whole : IsWhole s) where
+module _ {W L : Type 0} {G : Ghosts L} (seen : W → Writer) (s : Solver W L G) (whole : SolverInvariant s) where
   -- where an answer was known
   pub settled_known : (s.state ≡ states.Unknown → ⊥) → Settled seen s s
   settled_known n = record {
@@ -110,7 +110,7 @@ module _ {W L : Type 0} {G : Ghosts L} (seen : W → Writer) (s : Solver W L G) 
     known = λ k. (adds_none seen s.core.proof, refl);
   }
     where
-      none : (st : State) → (st ≡ states.Unknown → ⊥) → NamesRefineJudge s.names s.names (steps_in s) (steps_in s) (λ j. j) (λ j. told_as st st (line_in s) s.assumed.items s.told.failed_core.items)
+      none : (st : State) → (st ≡ states.Unknown → ⊥) → NamesRefineJudge s.names s.names (steps_in s) (steps_in s) (λ j. j) (λ j. due_between_states st st (line_in s) s.assumed.items s.told.failed_core.items)
       none states.Unknown n = absurd (n refl)
       none states.Sat n = does_none s.names (steps_in s) whole.stands
       none states.UnsatUnderAssumptions n = does_none s.names (steps_in s) whole.stands
@@ -146,7 +146,7 @@ module _ {W L : Type 0} {G : Ghosts L} (seen : W → Writer) (s : Solver W L G) 
         judged = judged_by found.gone.does whole.judged;
         says = subst (λ st. StateSays st core m s.asked s.assumed.items told.failed_core.items) (sym unknown) (record { joined = found.joined; lits = ap (λ ls. ls.items) found.gone.moved.lits ∙ goes.lits });
       };
-      does = subst (λ st. NamesRefineJudge s.names m (steps_in s) (steps_of core.proof) (λ j. j) (λ j. told_as st st (line_of m core) s.assumed.items told.failed_core.items)) (sym unknown) found.gone.does;
+      does = subst (λ st. NamesRefineJudge s.names m (steps_in s) (steps_of core.proof) (λ j. j) (λ j. due_between_states st st (line_of m core) s.assumed.items told.failed_core.items)) (sym unknown) found.gone.does;
       comes = comes_open (steps_in s) (steps_of core.proof) found.gone.steps found.gone.adds.history found.joined.sound.search.stands.fits.consistent;
       took = (found.gone.steps, gains_adds seen found.gone.steps s.core.proof core.proof found.gone.adds);
       width = gained_width seen s.core.proof core.proof (found.gone.steps, found.gone.adds);
@@ -162,8 +162,8 @@ module _ {W L : Type 0} {G : Ghosts L} (seen : W → Writer) (s : Solver W L G) 
       abbrev pub new : State → Solver W L G
       new st = record s { core = core; names = m; told = told; clock = clock; state = st }
 
-      unknown_told : (st : State) → NamesRefineJudge s.names m (steps_in s) (steps_of core.proof) (λ j. j) (λ j. told_as states.Unknown st (line_of m core) s.assumed.items told.failed_core.items) → NamesRefineJudge s.names m (steps_in s) (steps_of core.proof) (λ j. j) (λ j. told_as s.state st (line_of m core) s.assumed.items told.failed_core.items)
-      unknown_told st d = subst (λ before. NamesRefineJudge s.names m (steps_in s) (steps_of core.proof) (λ j. j) (λ j. told_as before st (line_of m core) s.assumed.items told.failed_core.items)) (sym unknown) d
+      unknown_told : (st : State) → NamesRefineJudge s.names m (steps_in s) (steps_of core.proof) (λ j. j) (λ j. due_between_states states.Unknown st (line_of m core) s.assumed.items told.failed_core.items) → NamesRefineJudge s.names m (steps_in s) (steps_of core.proof) (λ j. j) (λ j. due_between_states s.state st (line_of m core) s.assumed.items told.failed_core.items)
+      unknown_told st d = subst (λ before. NamesRefineJudge s.names m (steps_in s) (steps_of core.proof) (λ j. j) (λ j. due_between_states before st (line_of m core) s.assumed.items told.failed_core.items)) (sym unknown) d
 
       -- where a model was found
       pub settled_model : Counts s (new states.Sat) → FoundModel seen (clock.steps - s.clock.steps) s.names m s.core core → Settled seen s (new states.Sat)
@@ -205,8 +205,8 @@ module _ {W L : Type 0} {G : Ghosts L} (seen : W → Writer) (s : Solver W L G) 
           mid : IsJoined m found.mid
           mid = joined_by s.names m s.core found.mid goes.joined found.ended.config found.ended.keeps found.ended.does.stands found.ended.says.0.search found.ended.says.1
 
-          moved : Moved s.core.search core.search
-          moved = subst (Moved s.core.search) (sym found.shown.search) found.ended.says.0.moved
+          moved : SameVarsAndAssumptions s.core.search core.search
+          moved = subst (SameVarsAndAssumptions s.core.search) (sym found.shown.search) found.ended.says.0.moved
 
           lits : core.search.assumptions.lits.items ≡ s.asked.order.items
           lits = ap (λ ls. ls.items) moved.lits ∙ goes.lits
@@ -218,11 +218,11 @@ module _ {W L : Type 0} {G : Ghosts L} (seen : W → Writer) (s : Solver W L G) 
           asked = asked_shown m core.search.parts.assignment.current s.assumed.items s.asked.order.items images
               (subst (λ ls. (k : ℕ) → k < length ls → IsTrueLit core.search.parts.assignment.current (get_or ls k 0)) lits complete.assumed)
 
-          both : Gains seen (Model (model_of m found.mid) ∷ found.ended.steps) s.core.proof core.proof
+          both : EmitsChecked seen (Model (model_of m found.mid) ∷ found.ended.steps) s.core.proof core.proof
           both = gains_more seen found.ended.steps (Model (model_of m found.mid) ∷ []) s.core.proof found.mid.proof core.proof found.ended.adds found.shown.adds
 
-          does : NamesRefineJudge s.names m (steps_in s) (steps_of core.proof) (λ j. j) (λ j. told_as states.Unknown states.Sat (line_of m core) s.assumed.items told.failed_core.items)
-          does = does_both s.names m m (steps_in s) (steps_of found.mid.proof) (steps_of core.proof) (λ j. j) (λ j. j) (λ j. []) (λ j. told_as states.Unknown states.Sat (line_of m core) s.assumed.items told.failed_core.items)
+          does : NamesRefineJudge s.names m (steps_in s) (steps_of core.proof) (λ j. j) (λ j. due_between_states states.Unknown states.Sat (line_of m core) s.assumed.items told.failed_core.items)
+          does = does_both s.names m m (steps_in s) (steps_of found.mid.proof) (steps_of core.proof) (λ j. j) (λ j. j) (λ j. []) (λ j. due_between_states states.Unknown states.Sat (line_of m core) s.assumed.items told.failed_core.items)
               found.ended.does
               (subst (λ c. NamesRefineJudge m m (steps_of found.mid.proof) (steps_of core.proof) (λ j. j) (λ j. Shows (names_of (map named_literal (line_by c))) (map named_literal s.assumed.items) (map named_literal (line_by c)) ∷ [])) (sym found.shown.search)
               (does_shown seen m found.mid mid core found.shown s.assumed.items (subst (λ c. AllByRecursion (λ l. Among l (line_by c)) s.assumed.items) found.shown.search asked)))
@@ -264,7 +264,7 @@ module _ {W L : Type 0} {G : Ghosts L} (seen : W → Writer) (s : Solver W L G) 
           mid : IsJoined m found.mid
           mid = joined_by s.names m s.core found.mid goes.joined found.ended.config found.ended.keeps found.ended.does.stands found.ended.says.0.search found.ended.says.1
 
-          moved : Moved s.core.search core.search
+          moved : SameVarsAndAssumptions s.core.search core.search
           moved = record {
             globals = found.failed.told.moved.globals ∙ found.ended.says.0.moved.globals;
             lits = found.failed.told.moved.lits ∙ found.ended.says.0.moved.lits;
@@ -274,14 +274,14 @@ module _ {W L : Type 0} {G : Ghosts L} (seen : W → Writer) (s : Solver W L G) 
           lits : found.mid.search.assumptions.lits.items ≡ s.asked.order.items
           lits = ap (λ ls. ls.items) found.ended.says.0.moved.lits ∙ goes.lits
 
-          both : Gains seen (found.failed.steps ++ found.ended.steps) s.core.proof core.proof
+          both : EmitsChecked seen (found.failed.steps ++ found.ended.steps) s.core.proof core.proof
           both = gains_more seen found.ended.steps found.failed.steps s.core.proof found.mid.proof core.proof found.ended.adds found.failed.adds
 
-          does : NamesRefineJudge s.names m (steps_in s) (steps_of core.proof) (λ j. j) (λ j. told_as states.Unknown states.UnsatUnderAssumptions (line_of m core) s.assumed.items told.failed_core.items)
-          does = does_both s.names m m (steps_in s) (steps_of found.mid.proof) (steps_of core.proof) (λ j. j) (λ j. j) (λ j. []) (λ j. told_as states.Unknown states.UnsatUnderAssumptions (line_of m core) s.assumed.items told.failed_core.items)
+          does : NamesRefineJudge s.names m (steps_in s) (steps_of core.proof) (λ j. j) (λ j. due_between_states states.Unknown states.UnsatUnderAssumptions (line_of m core) s.assumed.items told.failed_core.items)
+          does = does_both s.names m m (steps_in s) (steps_of found.mid.proof) (steps_of core.proof) (λ j. j) (λ j. j) (λ j. []) (λ j. due_between_states states.Unknown states.UnsatUnderAssumptions (line_of m core) s.assumed.items told.failed_core.items)
               found.ended.does (does_failed seen m found.mid mid core told.failed_core.items found.failed s.assumed.items s.asked.order.items images lits)
 
-          failed_is : (mid : Core W L G) → IsJoined m mid → mid.search.assumptions.lits.items ≡ s.asked.order.items → Failed seen m mid core told.failed_core.items → HasCore core s.assumed.items told.failed_core.items
+          failed_is : (mid : Core W L G) → IsJoined m mid → mid.search.assumptions.lits.items ≡ s.asked.order.items → WritesFailedCore seen m mid core told.failed_core.items → HasCore core s.assumed.items told.failed_core.items
           failed_is mid joined lits f =
               let used = core.search.analysis.core in
               let codes = map (with_var (global_in mid.search)) used in
@@ -372,14 +372,14 @@ whole_over {W} {L} {G} c n asked assumed core scale state p whole e taking = rec
     says states.Unsat h = subst (λ ss. (session_after ss).unsat ≡ true) (sym e) h
 
 module _ {W L : Type 0} {G : Ghosts L} (seen : W → Writer) (old mid : Solver W L G) (settled : Settled seen old mid) (p : Proof W L G) where
-  flush_adds : Flushes seen mid.core.proof p → Adds seen [] mid.core.proof p
+  flush_adds : FlushesAndTells seen mid.core.proof p → EmitsExactly seen [] mid.core.proof p
   flush_adds f = gains_adds seen [] mid.core.proof p (flush_records seen (Ok tt) mid.core.proof p settled.whole.taking f)
 
   -- the answer was flushed
-  pub settled_flushed : Flushes seen mid.core.proof p → Settled seen old (record mid { core = record mid.core { proof = p } })
+  pub settled_flushed : FlushesAndTells seen mid.core.proof p → Settled seen old (record mid { core = record mid.core { proof = p } })
   settled_flushed f = record {
     whole = whole_over mid.core mid.names mid.asked mid.assumed.items mid.told.failed_core.items mid.clock.restarts.scale mid.state p settled.whole f.history f.taking;
-    does = subst (λ ss. NamesRefineJudge old.names mid.names (steps_in old) ss (λ j. j) (λ j. told_by old.state mid)) (sym f.history) settled.does;
+    does = subst (λ ss. NamesRefineJudge old.names mid.names (steps_in old) ss (λ j. j) (λ j. due_for_answer old.state mid)) (sym f.history) settled.does;
     comes = subst (OnlyAllowedSteps EndsAtUnsat (steps_in old)) (sym f.history) settled.comes;
     took = (_, adds_more seen settled.took.0 [] old.core.proof mid.core.proof p settled.took.1 (flush_adds f));
     width = λ n. f.width (settled.width (λ e. n (f.history ∙ e)));
@@ -405,7 +405,7 @@ module _ {W L : Type 0} {G : Ghosts L} (seen : W → Writer) (old mid : Solver W
       flush_checked checks.CounterEnd h = h
       flush_checked (checks.Processor cause) h = h
 
-module _ {W L : Type 0} {G : Ghosts L} (seen : W → Writer) (s : Solver W L G) (whole : IsWhole s) (unknown : s.state ≡ states.Unknown) (core : Core W L G) (m : Variables) (told : Told) (clock : Clock) (scale : clock.restarts.scale ≡ s.clock.restarts.scale) (on : CountsOn (values_in s.core) s.core.config.max_steps s.clock.steps clock.steps) where
+module _ {W L : Type 0} {G : Ghosts L} (seen : W → Writer) (s : Solver W L G) (whole : SolverInvariant s) (unknown : s.state ≡ states.Unknown) (core : Core W L G) (m : Variables) (told : Told) (clock : Clock) (scale : clock.restarts.scale ≡ s.clock.restarts.scale) (on : CountsOn (values_in s.core) s.core.config.max_steps s.clock.steps clock.steps) where
   goes_on : AskGoesOn s.core s.names s.asked
   goes_on = subst (λ st. StateSays st s.core s.names s.asked s.assumed.items s.told.failed_core.items) unknown whole.says
 
@@ -440,7 +440,7 @@ module _ {W L : Type 0} {G : Ghosts L} (seen : W → Writer) (s : Solver W L G) 
   settled_without spent answered found = settled_none seen s whole goes_on core m told clock scale unknown (record { on = rounds_on; round = λ u k. absurd (k unknown); spent = λ u. spent; answered = λ j live a fits u. answered j.next_identity (over_identities j live a) fits }) found
 
 -- a target was flushed
-pub flushed_by : {W L : Type 0} {G : Ghosts L} (seen : W → Writer) (p q : Proof W L G) → Flushes seen p q → IsFlushed (target_of seen q)
+pub flushed_by : {W L : Type 0} {G : Ghosts L} (seen : W → Writer) (p q : Proof W L G) → FlushesAndTells seen p q → IsFlushed (target_of seen q)
 flushed_by seen p q f = go (target_of seen p) (target_of seen q) f.target
   where
     go : (a b : Target) → Flushed a b → IsFlushed b

@@ -11,9 +11,9 @@ use Rattle.sat_checker.specs.SortedSets.{IsIncreasing}
 use Rattle.sat_checker.proofs.lemmas.sets.Canonical.{canonical_increasing, canonical_tautology}
 use Rattle.sat_checker.specs.declared.processing.ProofProcessor.{Ghosts}
 use Rattle.sat_solver.specs.declared.proof.made.CheckFault.TheVariants as checks
-use Rattle.sat_solver.specs.proof.ProofView.{Keeps, is_lost, steps_of, session_of}
+use Rattle.sat_solver.specs.proof.ProofView.{HasAllowedSteps, is_lost, steps_of, session_of}
 use Rattle.sat_solver.specs.session.Session.{Session, MayAll, session_after}
-use Rattle.sat_solver.specs.session.Making.{Took, Gained}
+use Rattle.sat_solver.specs.session.Making.{ComesBySteps, ComesByCheckedSteps}
 use Rattle.sat_solver.specs.variables.Taking.{NotTaken}
 use Rattle.sat_solver.specs.declared.proof.Proof.{Proof}
 use Rattle.sat_solver.proofs.lemmas.session.ProofLemmas.{gains_none, gains_adds, gains_more}
@@ -31,20 +31,20 @@ use Rattle.sat_solver.specs.cdcl.Going.{IsFault, IsFaultOr, EmitsStepsOr}
 use Rattle.sat_solver.specs.cdcl.Joint.{global_in, IsSearch}
 use Rattle.sat_solver.proofs.lemmas.cdcl.AskedLemmas.{asked_after, kinds_of}
 use Rattle.sat_solver.specs.load.Literals.{named_literal, Image}
-use Rattle.sat_solver.specs.load.Clauses.{AddsClause}
-use Rattle.sat_solver.specs.load.Assumed.{Assumes}
+use Rattle.sat_solver.specs.load.Clauses.{BringsClause}
+use Rattle.sat_solver.specs.load.Assumed.{BringsAssumptions}
 use Rattle.sat_solver.specs.declared.config.SolverConfig.{SolverConfig}
 use Rattle.sat_solver.specs.session.LiveClauses.{with_var}
-use Rattle.sat_parts.specs.parts.Assumed.{AreThere}
+use Rattle.sat_parts.specs.parts.Assumed.{HaveVariablesIn}
 use Rattle.sat_solver.specs.variables.Calls.{NamesInvariant, NamesRefineJudge}
 use Rattle.sat_checker.specs.matching.Expected.{Unknown, Adds, bringing}
 use Rattle.sat_solver.specs.variables.Refusing.{names_in}
-use Rattle.sat_solver.specs.variables.Naming.{Extends}
-use Rattle.sat_solver.specs.variables.Search.{Gives}
+use Rattle.sat_solver.specs.variables.Naming.{ExtendsNames}
+use Rattle.sat_solver.specs.variables.Search.{GivesIndices}
 use Rattle.sat_solver.specs.variables.Variables.{solver_of}
 use Rattle.sat_solver.specs.declared.variables.Variables.{Variables}
 use Rattle.sat_solver.specs.declared.load.literals.Taken.{Taken}
-use Rattle.sat_solver.specs.variables.Initialized.{AreVacant, AreIndexed}
+use Rattle.sat_solver.specs.variables.Initialized.{AreVacant, GivesSearchIndices}
 use Rattle.sat_solver.specs.variables.Shared.{SharesIndices}
 use Rattle.sat_solver.specs.load.Loaded.{MayLoad, IsAdded, IsLoaded}
 use Rattle.sat_solver.specs.assumptions.Setting.{AreAssumed}
@@ -56,7 +56,7 @@ use Rattle.sat_solver.specs.solver.Joined.{IsJoined}
 use Rattle.sat_solver.specs.solver.Taking.{KeepImages, GoesOnOr, TookClause, TookAssumptions, TakesClause, BreaksNamesOff, BreaksNamesOr}
 use Rattle.sat_solver.proofs.lemmas.solver.SpeltLemmas.{global_images_of}
 use Rattle.sat_solver.specs.variables.Coming.{MayAdd}
-use Rattle.sat_solver.specs.variables.Ordering.{AddsInOrder, IsInOrder}
+use Rattle.sat_solver.specs.variables.Ordering.{AddsInOrder, IsInIndexOrder}
 use Rattle.sat_solver.specs.session.Coming.{OnlyAllowedSteps, DeletesAdded}
 use Rattle.sat_solver.proofs.lemmas.session.ComingLemmas.{comes_both}
 use Rattle.sat_solver.proofs.lemmas.variables.ComingSteps.{comes_added, comes_deleted}
@@ -66,7 +66,7 @@ use Rattle.sat_solver.proofs.lemmas.solver.TellingLemmas.{shares_moved}
 -- FAULTS
 
 -- nothing was made
-pub none_took : {W L : Type 0} {G : Ghosts L} (seen : W → Writer) (p : Proof W L G) → Gained seen p p
+pub none_took : {W L : Type 0} {G : Ghosts L} (seen : W → Writer) (p : Proof W L G) → ComesByCheckedSteps seen p p
 none_took seen p = ([], gains_none seen p)
 
 -- a failure of a call over names, as a solver tells it
@@ -88,21 +88,21 @@ fault_ends seen (Err e) p q P goes = goes.ends
 
 module _ {W L : Type 0} {G : Ghosts L} (seen : W → Writer) (a b : Core W L G) where
   -- a call over names failed
-  pub names_broke : {full : Type 0} (e : NameError) → EmitsUpTo (Gained seen) (NotTaken seen) a.proof e b.proof → BreaksNamesOff full seen (told_as e) a b
+  pub names_broke : {full : Type 0} (e : NameError) → EmitsUpTo (ComesByCheckedSteps seen) (NotTaken seen) a.proof e b.proof → BreaksNamesOff full seen (told_as e) a b
   names_broke names.VariableLimit h = (record { fault = inr refl; steps = h.0; went = gains_adds seen h.0 a.proof b.proof h.1; loss = h.1.taking }, tt)
   names_broke names.OutOfMemory h = (record { fault = inl tt; steps = h.0; went = gains_adds seen h.0 a.proof b.proof h.1; loss = inl h.1.taking }, tt)
   names_broke (names.Write cause) h = (record { fault = inl tt; steps = h.0.0; went = h.0.1; loss = tt }, h.1)
   names_broke (names.Check fault) h = (record { fault = inl (fault_checked _ fault); steps = h.0; went = went_checked seen (Unit {0}) fault h.0 a.proof b.proof h.1; loss = check_loss fault a.proof b.proof h.1.why }, complaint_kept fault b.proof h.2)
 
   -- no memory was left behind it
-  pub took_starved : {full : Type 0} → Took seen a.proof b.proof → is_lost b.proof ≡ is_lost a.proof → BreaksNamesOr full seen errors.OutOfMemory a b
+  pub took_starved : {full : Type 0} → ComesBySteps seen a.proof b.proof → is_lost b.proof ≡ is_lost a.proof → BreaksNamesOr full seen errors.OutOfMemory a b
   took_starved h taking = record { fault = inl tt; steps = h.0; went = h.1; loss = inl taking }
 
-  pub names_starved : {full : Type 0} → Gained seen a.proof b.proof → BreaksNamesOff full seen errors.OutOfMemory a b
+  pub names_starved : {full : Type 0} → ComesByCheckedSteps seen a.proof b.proof → BreaksNamesOff full seen errors.OutOfMemory a b
   names_starved h = (took_starved (h.0, gains_adds seen h.0 a.proof b.proof h.1) h.1.taking, tt)
 
   -- a search failed behind it
-  pub load_broke : {A full : Type 0} (e : SolverError) (p : Proof W L G) (P : A → List Step → Type 0) → Gained seen a.proof p → EmitsStepsOr {A = A} full seen (Err e) p b.proof P → BreaksNamesOff full seen e a b
+  pub load_broke : {A full : Type 0} (e : SolverError) (p : Proof W L G) (P : A → List Step → Type 0) → ComesByCheckedSteps seen a.proof p → EmitsStepsOr {A = A} full seen (Err e) p b.proof P → BreaksNamesOff full seen e a b
   load_broke {A} {full} e p P h goes = (
     record {
       fault = inl goes.ends;
@@ -114,7 +114,7 @@ module _ {W L : Type 0} {G : Ghosts L} (seen : W → Writer) (a b : Core W L G) 
   )
 
 -- names that keep variables and indices keep their literals of the search
-keep_images : (n n' : Variables) (s : Session) (gs : _) → Extends n n' → Gives n n' s gs → KeepImages n n'
+keep_images : (n n' : Variables) (s : Session) (gs : _) → ExtendsNames n n' → GivesIndices n n' s gs → KeepImages n n'
 keep_images n n' s gs extends gives user order i = record {
   count = i.count;
   each = λ k lt. let x : Image n (get_or user k 0) (get_or order k 0) = i.each k lt in
@@ -126,7 +126,7 @@ keep_images n n' s gs extends gives user order i = record {
 same_rest : (x y : Step) (xs ys : List Step) → x ∷ xs ≡ y ∷ ys → xs ≡ ys
 same_rest x y xs ys e = cc
 
-module _ {W L : Type 0} {G : Ghosts L} (seen : W → Writer) (n n' : Variables) (a : Core W L G) (joined : IsJoined n a) (user : List ℕ) (t : Taken) (both : Bool) (p : Proof W L G) (adds : AddsClause n n' (steps_of a.proof) (steps_of p) user t both) (took : Gained seen a.proof p) (keeps : Keeps p) where
+module _ {W L : Type 0} {G : Ghosts L} (seen : W → Writer) (n n' : Variables) (a : Core W L G) (joined : IsJoined n a) (user : List ℕ) (t : Taken) (both : Bool) (p : Proof W L G) (adds : BringsClause n n' (steps_of a.proof) (steps_of p) user t both) (took : ComesByCheckedSteps seen a.proof p) (keeps : HasAllowedSteps p) where
   abbrev pub between : Session
   between = session_after adds.between
 
@@ -139,7 +139,7 @@ module _ {W L : Type 0} {G : Ghosts L} (seen : W → Writer) (n n' : Variables) 
   pub clause_vacant : AreVacant a.search.parts (length n'.globals.items) t.given.items
   clause_vacant = given_vacant n n' (session_of a.proof) between t.given.items joined.stands.tidy adds.does.stands.tidy joined.stands.said names_between adds.gives adds.search a.search joined.shares joined.sound.search
 
-  module _ (c1 : Search) (indexed : AreIndexed n'.globals.items t.given.items a.search c1) where
+  module _ (c1 : Search) (indexed : GivesSearchIndices n'.globals.items t.given.items a.search c1) where
     shares1 : SharesIndices n' c1
     shares1 = shares_given n n' (session_of a.proof) between t.given.items joined.stands.tidy adds.does.stands.tidy joined.stands.said names_between adds.gives adds.search a.search joined.shares c1 indexed
 
@@ -162,7 +162,7 @@ module _ {W L : Type 0} {G : Ghosts L} (seen : W → Writer) (n n' : Variables) 
       clause = map (with_var (global_in c1)) t.lits.items;
       behind = [];
       steps = clause_added.added ∙ ap (λ ss. AddClause (map (with_var (global_in c1)) t.lits.items) ∷ ss) since_added;
-      order = subst (λ ss. IsInOrder ss (map (with_var (global_in c1)) t.lits.items)) since_added (record {
+      order = subst (λ ss. IsInIndexOrder ss (map (with_var (global_in c1)) t.lits.items)) since_added (record {
         variable_at = global_in c1;
         lits = t.lits.items;
         is = refl;
@@ -177,7 +177,7 @@ module _ {W L : Type 0} {G : Ghosts L} (seen : W → Writer) (n n' : Variables) 
     joined1 : (b : Core W L G) → b.proof ≡ p → b.search ≡ c1 → b.config ≡ a.config → IsSearch (session_of p) c1 → IsJoined n' b
     joined1 b e f g search = record {
       sound = record {
-        keeps = subst Keeps (sym e) keeps;
+        keeps = subst HasAllowedSteps (sym e) keeps;
         search = subst (λ q. IsSearch (session_of q) b.search) (sym e) (subst (IsSearch (session_of p)) (sym f) search);
         locals = subst (λ (c : SolverConfig). 0 < c.reduce_locals_interval) (sym g) joined.sound.locals;
         mids = subst (λ (c : SolverConfig). 0 < c.reduce_mids_interval) (sym g) joined.sound.mids;
@@ -241,7 +241,7 @@ module _ {W L : Type 0} {G : Ghosts L} (seen : W → Writer) (n n' : Variables) 
 
 -- ASSUMPTIONS
 
-module _ {W L : Type 0} {G : Ghosts L} (seen : W → Writer) (n n' : Variables) (a : Core W L G) (joined : IsJoined n a) (user : List ℕ) (t : Taken) (p : Proof W L G) (assumes : Assumes n n' (steps_of a.proof) (steps_of p) user t) (took : Gained seen a.proof p) (keeps : Keeps p) where
+module _ {W L : Type 0} {G : Ghosts L} (seen : W → Writer) (n n' : Variables) (a : Core W L G) (joined : IsJoined n a) (user : List ℕ) (t : Taken) (p : Proof W L G) (assumes : BringsAssumptions n n' (steps_of a.proof) (steps_of p) user t) (took : ComesByCheckedSteps seen a.proof p) (keeps : HasAllowedSteps p) where
   abbrev pub asked_between : Session
   asked_between = session_after assumes.between
 
@@ -251,7 +251,7 @@ module _ {W L : Type 0} {G : Ghosts L} (seen : W → Writer) (n n' : Variables) 
   pub asked_vacant : AreVacant a.search.parts (length n'.globals.items) t.given.items
   asked_vacant = given_vacant n n' (session_of a.proof) asked_between t.given.items joined.stands.tidy (assumes.does Unknown).stands.tidy joined.stands.said asked_names assumes.gives assumes.search a.search joined.shares joined.sound.search
 
-  module _ (c1 : Search) (indexed : AreIndexed n'.globals.items t.given.items a.search c1) where
+  module _ (c1 : Search) (indexed : GivesSearchIndices n'.globals.items t.given.items a.search c1) where
     shares_asked : SharesIndices n' c1
     shares_asked = shares_given n n' (session_of a.proof) asked_between t.given.items joined.stands.tidy (assumes.does Unknown).stands.tidy joined.stands.said asked_names assumes.gives assumes.search a.search joined.shares c1 indexed
 
@@ -262,7 +262,7 @@ module _ {W L : Type 0} {G : Ghosts L} (seen : W → Writer) (n n' : Variables) 
     over_order : AreOver n' t.order.items
     over_order = images_over n' user t.order.items (assumes.does Unknown).stands.tidy assumes.images
 
-    pub asked_there : AreThere t.order.items c1.parts
+    pub asked_there : HaveVariablesIn t.order.items c1.parts
     asked_there = over_below n' c1 t.order.items shares_asked over_order
 
     pub asked_taken : (c2 : Search) → AreAssumed t.order.items c1 c2 → TookAssumptions seen n n' a (record a { proof = p; search = c2 }) user t

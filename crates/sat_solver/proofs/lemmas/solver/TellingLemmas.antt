@@ -7,19 +7,19 @@ use Rattle.sat_base.specs.values.Literals.{variable}
 use Rattle.sat_base.specs.steps.Steps.{Step, Model, FailedAssumptions}
 use Rattle.sat_checker.specs.LiteralSets.{is_among}
 use Rattle.sat_checker.specs.declared.processing.ProofProcessor.{Ghosts}
-use Rattle.sat_solver.specs.proof.ProofView.{Gains, Keeps, Records, steps_of, session_of}
+use Rattle.sat_solver.specs.proof.ProofView.{EmitsChecked, HasAllowedSteps, EmitsAsAnswered, steps_of, session_of}
 use Rattle.sat_solver.specs.session.Session.{Session, MayAll, after, session_after}
 use Rattle.sat_solver.specs.declared.proof.Proof.{Proof}
 use Rattle.sat_solver.specs.declared.proof.ProofError.{ProofError}
 use Rattle.sat_solver.specs.declared.proof.ProofError.TheVariants.{Write, OutOfMemory, Check}
 use Rattle.sat_solver.proofs.lemmas.session.ProofLemmas.{adds_none, gains_adds}
 use Rattle.sat_solver.proofs.lemmas.cdcl.GoingLemmas.{check_loss, complaint_kept, went_checked, fault_checked}
-use Rattle.sat_solver.specs.session.Listed.{Rests}
+use Rattle.sat_solver.specs.session.Listed.{ChangesNoClause}
 use Rattle.sat_solver.proofs.lemmas.fits.AnswerParts.{parts_rests}
 use Rattle.sat_solver.specs.declared.error.SolverError.TheVariants as errors
 use Rattle.sat_solver.specs.assumptions.Core.{TellsCore}
 use Rattle.sat_solver.specs.cdcl.Going.{fault_of}
-use Rattle.sat_solver.specs.cdcl.Joint.{assumed_in, global_in, IsSearch, Moved}
+use Rattle.sat_solver.specs.cdcl.Joint.{assumed_in, global_in, IsSearch, SameVarsAndAssumptions}
 use Rattle.sat_parts.specs.parts.Whole.{state}
 use Rattle.sat_parts.specs.parts.Words.{IsIdle}
 use Rattle.sat_solver.specs.declared.context.Search.{Search}
@@ -31,11 +31,11 @@ use Rattle.sat_solver.specs.variables.Calls.{NamesInvariant}
 use Rattle.sat_solver.specs.declared.variables.Variables.{Variables}
 use Rattle.sat_solver.proofs.lemmas.variables.Searched.{searches_stand}
 use Rattle.sat_solver.specs.solver.Joined.{IsJoined, name_of}
-use Rattle.sat_solver.specs.solver.Answering.{Shown, Failed, BreaksOff, model_of}
+use Rattle.sat_solver.specs.solver.Answering.{Shown, WritesFailedCore, BreaksOff, model_of}
 use Rattle.sat_solver.proofs.lemmas.solver.ShownLemmas.{model_only}
 
 -- the search doesn't see a step that leaves clauses, units, names and assumptions as they are
-pub search_rests : (s : Session) (c : Search) (step : Step) → IsSearch s c → Rests step → (after step s).assumed ≡ s.assumed → (after step s).solver_names ≡ s.solver_names → IsSearch (after step s) c
+pub search_rests : (s : Session) (c : Search) (step : Step) → IsSearch s c → ChangesNoClause step → (after step s).assumed ≡ s.assumed → (after step s).solver_names ≡ s.solver_names → IsSearch (after step s) c
 search_rests s c step search quiet assumed names = record {
   stands = record { holds = search.stands.holds; fits = parts_rests c.parts s (global_in c) search.stands.fits step quiet };
   ready = record { free = search.ready.free; placed = search.ready.placed; there = search.ready.there; asked = assumed ∙ search.ready.asked; used = subst (λ (f : ℕ → Option ℕ). (v : ℕ) → v < length c.parts.assignment.current → (f (global_in c v) ≡ Some v) ⊎ IsIdle (assumed_in c) (state c.parts) c.parts.vsids v) (sym names) search.ready.used };
@@ -55,7 +55,7 @@ each_live n values count (l ∷ ls) h = (
     later l m ls t = or_right (eqb l m) (is_among ls m) t
 
 -- indices are shared where variables are the same
-pub shares_moved : (n : Variables) (c c' : Search) → SharesIndices n c → Moved c c' → SharesIndices n c'
+pub shares_moved : (n : Variables) (c c' : Search) → SharesIndices n c → SameVarsAndAssumptions c c' → SharesIndices n c'
 shares_moved n c c' h moved = record {
   size = moved.size ∙ h.size ∙ sym (ap (λ gs. length gs.items) moved.globals);
   few = subst (λ (k : ℕ). k ≤ indices_used n) (sym (ap (λ gs. length gs.items) moved.globals)) h.few;
@@ -69,9 +69,9 @@ module _ {W L : Type 0} {G : Ghosts L} (seen : W → Writer) (n : Variables) (a 
     told = record a { proof = proof }
 
     -- the step of a model was taken
-    pub model_shown : (ls : List ℕ) → ls ≡ model_of n a → Gains seen (Model ls ∷ []) a.proof proof → Keeps proof → Shown seen n a told
+    pub model_shown : (ls : List ℕ) → ls ≡ model_of n a → EmitsChecked seen (Model ls ∷ []) a.proof proof → HasAllowedSteps proof → Shown seen n a told
     model_shown ls e adds keeps =
-        let adds_model : Gains seen (Model (model_of n a) ∷ []) a.proof proof = subst (λ xs. Gains seen (Model xs ∷ []) a.proof proof) e adds in
+        let adds_model : EmitsChecked seen (Model (model_of n a) ∷ []) a.proof proof = subst (λ xs. EmitsChecked seen (Model xs ∷ []) a.proof proof) e adds in
         let may : MayAll (Model (model_of n a) ∷ steps_of a.proof) = subst MayAll adds_model.history keeps in
         record {
           adds = adds_model;
@@ -95,7 +95,7 @@ module _ {W L : Type 0} {G : Ghosts L} (seen : W → Writer) (n : Variables) (a 
   starved = (record { fault = tt; steps = []; went = adds_none seen a.proof; loss = inl refl }, tt)
 
   -- the target failed at a step
-  pub broken : (e : ProofError) (step : Step) (proof : Proof W L G) → Records {T = Unit {0}} seen (Err e) (step ∷ []) a.proof proof → BreaksOff seen (fault_of e) a (record a { proof = proof })
+  pub broken : (e : ProofError) (step : Step) (proof : Proof W L G) → EmitsAsAnswered {T = Unit {0}} seen (Err e) (step ∷ []) a.proof proof → BreaksOff seen (fault_of e) a (record a { proof = proof })
   broken (Write cause) step proof fails = (record { fault = tt; steps = step ∷ []; went = fails.0; loss = tt }, fails.1)
   broken OutOfMemory step proof gains = (record { fault = tt; steps = []; went = gains_adds seen [] a.proof proof gains; loss = inl gains.taking }, tt)
   broken (Check fault) step proof fails = (record { fault = fault_checked _ fault; steps = step ∷ []; went = went_checked seen (Unit {0}) fault (step ∷ []) a.proof proof fails.0; loss = check_loss fault a.proof proof fails.0.why }, complaint_kept fault proof fails.1)
@@ -105,7 +105,7 @@ module _ {W L : Type 0} {G : Ghosts L} (seen : W → Writer) (n : Variables) (a 
     searched = record a { proof = proof; search = c' }
 
     -- a failed core was written
-    pub core_failed : (core : List ℕ) → TellsCore seen (Ok tt) a.proof proof a.search c' → core ≡ map (name_of n) c'.analysis.core → Failed seen n a searched core
+    pub core_failed : (core : List ℕ) → TellsCore seen (Ok tt) a.proof proof a.search c' → core ≡ map (name_of n) c'.analysis.core → WritesFailedCore seen n a searched core
     core_failed core t e = record {
       steps = t.steps;
       adds = t.went;

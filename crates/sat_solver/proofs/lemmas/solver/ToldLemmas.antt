@@ -3,7 +3,7 @@ use Rattle.std.proofs.Common.{◌≡◌, false, true, inl, inr, refl, Err, List,
 use Rattle.sat_base.specs.device.Device.{Writer}
 use Rattle.sat_base.specs.steps.Steps.{Step, End}
 use Rattle.sat_checker.specs.declared.processing.ProofProcessor.{Ghosts}
-use Rattle.sat_solver.specs.proof.ProofView.{Adds, Closes, Fails, FailsCheck, is_lost, told}
+use Rattle.sat_solver.specs.proof.ProofView.{EmitsExactly, ClosesTarget, FailsToEmit, FailsCheck, is_lost, without_complaint}
 use Rattle.sat_solver.specs.declared.proof.made.CheckFault.{CheckFault}
 use Rattle.sat_solver.specs.declared.proof.made.CheckFault.TheVariants as checks
 use Rattle.sat_solver.specs.declared.proof.Proof.{Proof}
@@ -12,30 +12,30 @@ use Rattle.sat_solver.specs.declared.proof.ProofError.TheVariants.{Write, OutOfM
 use Rattle.sat_solver.specs.declared.error.SolverError.{SolverError}
 use Rattle.sat_solver.specs.declared.error.SolverError.TheVariants as errors
 use Rattle.sat_solver.specs.cdcl.Faults.{IsKept, NamesLoss}
-use Rattle.sat_solver.specs.cdcl.Going.{Went, fault_of}
+use Rattle.sat_solver.specs.cdcl.Going.{EmitsUpToFault, fault_of}
 use Rattle.sat_solver.proofs.lemmas.cdcl.GoingLemmas.{complaint_kept}
 use Rattle.sat_solver.proofs.lemmas.session.ProofLemmas.{complains_now, gains_adds}
 use Rattle.sat_solver.specs.declared.context.Core.{Core}
 use Rattle.sat_solver.specs.declared.solver.Solver.{Solver}
 use Rattle.sat_solver.specs.solver.Answering.{FlushFails}
-use Rattle.sat_solver.specs.solver.Calls.{Ends, Solves}
+use Rattle.sat_solver.specs.solver.Calls.{EndsInFailure, Solves}
 use Rattle.sat_solver.specs.solver.Failing.{failed_with}
 use Rattle.sat_solver.specs.solver.Proving.{ClosesProof}
-use Rattle.sat_solver.specs.solver.Settling.{Settles}
+use Rattle.sat_solver.specs.solver.Settling.{AnswersOrBreaks}
 use Rattle.sat_solver.specs.solver.Taking.{BreaksNamesOr}
 
 module _ {W L : Type 0} {G : Ghosts L} (seen : W → Writer) (p q : Proof W L G) where
-  adds_told : (steps : List Step) → Adds seen steps p q → Adds seen steps p (told q)
+  adds_told : (steps : List Step) → EmitsExactly seen steps p q → EmitsExactly seen steps p (without_complaint q)
   adds_told steps h = record { history = h.history; listening = h.listening; target = h.target }
 
-  pub fails_told : (steps : List Step) → Fails seen steps p q → Fails seen steps p (told q)
+  pub fails_told : (steps : List Step) → FailsToEmit seen steps p q → FailsToEmit seen steps p (without_complaint q)
   fails_told steps h = record { history = h.history; listening = h.listening; target = h.target }
 
-  pub check_told : (fault : CheckFault) (steps : List Step) → FailsCheck seen fault steps p q → FailsCheck seen fault steps p (told q)
+  pub check_told : (fault : CheckFault) (steps : List Step) → FailsCheck seen fault steps p q → FailsCheck seen fault steps p (without_complaint q)
   check_told fault steps h = record { adds = adds_told steps h.adds; why = h.why }
 
   -- what went wrong did so, told or not
-  pub went_told : (e : SolverError) (steps : List Step) → Went {A = Unit {0}} seen (Err e) steps p q → Went {A = Unit {0}} seen (Err e) steps p (told q)
+  pub went_told : (e : SolverError) (steps : List Step) → EmitsUpToFault {A = Unit {0}} seen (Err e) steps p q → EmitsUpToFault {A = Unit {0}} seen (Err e) steps p (without_complaint q)
   went_told (errors.ProofIoError cause) steps h = fails_told steps h
   went_told (errors.ProofProcessorError cause) steps h = check_told _ steps h
   went_told errors.CounterEnd steps h = check_told _ steps h
@@ -52,7 +52,7 @@ module _ {W L : Type 0} {G : Ghosts L} (seen : W → Writer) (p q : Proof W L G)
   went_told errors.Malformed steps h = adds_told steps h
   went_told errors.OutOfRange steps h = adds_told steps h
 
-  loss_told : (e : SolverError) → NamesLoss e p q → NamesLoss e p (told q)
+  loss_told : (e : SolverError) → NamesLoss e p q → NamesLoss e p (without_complaint q)
   loss_told errors.Interrupted h = h
   loss_told (errors.ProofProcessorError cause) h = h
   loss_told (errors.ProofIoError cause) h = h
@@ -69,7 +69,7 @@ module _ {W L : Type 0} {G : Ghosts L} (seen : W → Writer) (p q : Proof W L G)
   loss_told errors.Malformed h = h
   loss_told errors.OutOfRange h = h
 
-  flush_told : (e : SolverError) → FlushFails seen e p q → FlushFails seen e p (told q)
+  flush_told : (e : SolverError) → FlushFails seen e p q → FlushFails seen e p (without_complaint q)
   flush_told (errors.ProofIoError cause) h = fails_told _ h
   flush_told (errors.ProofProcessorError cause) h = check_told _ _ h
   flush_told errors.OutOfMemory h = check_told _ _ h
@@ -92,7 +92,7 @@ module _ {W L : Type 0} {G : Ghosts L} (seen : W → Writer) where
   names_told e a s h = record { fault = h.fault; steps = h.steps; went = went_told seen a.proof s.core.proof e h.steps h.went; loss = loss_told seen a.proof s.core.proof e h.loss }
 
   module _ (s mid : Solver W L G) (going : s.failed ≡ false) where
-    ended : (e : SolverError) → Settles seen (Err e) (record s { used = true }) mid → Ends seen e s (failed_with mid)
+    ended : (e : SolverError) → AnswersOrBreaks seen (Err e) (record s { used = true }) mid → EndsInFailure seen e s (failed_with mid)
     ended e h = record {
       going = going;
       failed = refl;
@@ -102,7 +102,7 @@ module _ {W L : Type 0} {G : Ghosts L} (seen : W → Writer) where
     }
 
     -- an ask failed
-    pub solve_ends : (e : SolverError) → Settles seen (Err e) (record s { used = true }) mid → Solves seen (Err e) s (failed_with mid)
+    pub solve_ends : (e : SolverError) → AnswersOrBreaks seen (Err e) (record s { used = true }) mid → Solves seen (Err e) s (failed_with mid)
     solve_ends (errors.ProofIoError cause) h = ended _ h
     solve_ends (errors.ProofProcessorError cause) h = ended _ h
     solve_ends errors.OutOfMemory h = ended _ h
@@ -123,18 +123,18 @@ module _ {W L : Type 0} {G : Ghosts L} (seen : W → Writer) where
     abbrev pub closing : Solver W L G
     closing = record s { core = record s.core { proof = p } }
 
-    unchecked : (fault : CheckFault) → Closes {W = W} seen (Err (Check fault)) s.core.proof p → FailsCheck seen fault (End ∷ []) s.core.proof (told p)
+    unchecked : (fault : CheckFault) → ClosesTarget {W = W} seen (Err (Check fault)) s.core.proof p → FailsCheck seen fault (End ∷ []) s.core.proof (without_complaint p)
     unchecked fault h = check_told seen s.core.proof p fault (End ∷ []) (record { adds = h.0; why = (complains_now fault p (is_lost s.core.proof) taking h.1).0 })
 
     -- a proof wasn't closed
-    pub close_ends : (e : ProofError) → Closes {W = W} seen (Err e) s.core.proof p → ClosesProof seen (Err (fault_of e)) s (failed_with closing)
+    pub close_ends : (e : ProofError) → ClosesTarget {W = W} seen (Err e) s.core.proof p → ClosesProof seen (Err (fault_of e)) s (failed_with closing)
     close_ends (Write cause) h = record { going = going; failed = refl; fails = fails_told seen s.core.proof p _ h.0; clock = refl }
     close_ends OutOfMemory h = record { going = going; failed = refl; adds = inl (adds_told seen s.core.proof p [] (gains_adds seen [] s.core.proof p h)); loss = inl h.taking; clock = refl }
     close_ends (Check checks.OutOfMemory) h = (let k = unchecked checks.OutOfMemory h in record { going = going; failed = refl; adds = inr k; loss = inr k.why; clock = refl })
     close_ends (Check checks.CounterEnd) h = record { going = going; failed = refl; fails = unchecked checks.CounterEnd h; clock = refl }
     close_ends (Check (checks.Processor cause)) h = record { going = going; failed = refl; fails = unchecked (checks.Processor cause) h; clock = refl }
 
-    pub close_kept : (e : ProofError) → Closes {W = W} seen (Err e) s.core.proof p → IsKept (fault_of e) p
+    pub close_kept : (e : ProofError) → ClosesTarget {W = W} seen (Err e) s.core.proof p → IsKept (fault_of e) p
     close_kept (Write cause) h = h.1
     close_kept OutOfMemory h = tt
     close_kept (Check fault) h = complaint_kept fault p (complains_now fault p (is_lost s.core.proof) taking h.1).1

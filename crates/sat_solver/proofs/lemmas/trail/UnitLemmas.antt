@@ -17,7 +17,7 @@ use Rattle.sat_solver.specs.session.LiveClauses.{with_var}
 use Rattle.sat_solver.proofs.lemmas.session.Deriving.{proves}
 use Rattle.sat_solver.proofs.lemmas.session.Mapped.{negated_mapped, apart}
 use Rattle.sat_solver.specs.session.TrailEntries.{reason_clause}
-use Rattle.sat_solver.specs.session.TrailUnits.{written_units, IsUsable, IsNamed, UnitsFit, TrailUnitsMay}
+use Rattle.sat_solver.specs.session.TrailUnits.{written_units, IsUsable, HasOwnSolverName, UnitsFit, TrailUnitsMay}
 use Rattle.sat_solver.proofs.lemmas.trail.TrailLemmas.{Parts, drop_parts, from_index}
 
 -- WHAT ONE UNIT MORE LEAVES
@@ -135,7 +135,7 @@ module _ (words live : List ℕ) (implied : List (List ℕ)) (st : State) (globa
           given = λ k q u. fact_keeps s w (with_var global (lit_at st k)) (n.fits.given k q u);
           removed = λ m r. fact_keeps s w (with_var global m) (n.fits.removed m r);
           sound = λ m q u.
-              let named : IsNamed s global m = sym (fact_names s w (global (variable m))) ∙ q in
+              let named : HasOwnSolverName s global m = sym (fact_names s w (global (variable m))) ∙ q in
               elim (fact_only s w (with_var global m) u) [
                 | inl e ↦ subst (λ x. IsTrueLit st.values x) (apart global s.solver_names l m (n.fits.named i j) named e) (agrees.holds i j)
                 | inr k ↦ n.fits.sound m named k

@@ -8,14 +8,14 @@ use Rattle.sat_solver.specs.declared.proof.Proof.{Proof}
 use Rattle.sat_solver.specs.declared.variables.Variables.{Variables}
 use Rattle.sat_solver.specs.declared.error.SolverError.{SolverError}
 use Rattle.sat_solver.specs.cdcl.Going.{EmitsSteps}
-use Rattle.sat_solver.specs.cdcl.Joint.{assumed_in, global_in, IsSearch, Moved, Leaves}
-use Rattle.sat_solver.specs.unit_simplify.Left.{IsSettled}
+use Rattle.sat_solver.specs.cdcl.Joint.{assumed_in, global_in, IsSearch, SameVarsAndAssumptions, SameAssumedAndNames}
+use Rattle.sat_solver.specs.unit_simplify.Left.{TakesUnitsOff}
 use Rattle.sat_solver.specs.cdcl.Turns.{IsPropagated}
 use Rattle.sat_solver.specs.declared.context.Search.{Search}
 use Rattle.sat_solver.proofs.lemmas.cdcl.TurnLemmas.{Propagation, ready_moved, free_moved}
 use Rattle.sat_solver.proofs.lemmas.solver.TellingLemmas.{shares_moved}
 use Rattle.sat_solver.specs.unit_simplify.Flat.{IsFlat}
-use Rattle.sat_solver.specs.unit_simplify.Passes.{StandTogether, MaySettle, Passes, Simplifies}
+use Rattle.sat_solver.specs.unit_simplify.Passes.{StandTogether, MaySettle, PassesQuietly, Simplifies}
 use Rattle.sat_solver.proofs.lemmas.unit_simplify.LighterLemmas.{goes_leaves}
 use Rattle.sat_solver.proofs.lemmas.unit_simplify.PassesLemmas.{passes_goes, passes_trans, falls_later}
 
@@ -24,8 +24,8 @@ pub may_settle : {W L : Type 0} {G : Ghosts L} (n : Variables) (p : Proof W L G)
 may_settle n p c d h bottom went = record { keeps = h.keeps; stands = h.stands; shares = shares_moved n c d h.shares went.moved; propagated = went.whole; bottom = went.starts ∙ bottom }
 
 -- units were taken off the trail at level 0
-module _ (s t : Session) (c d : Search) (propagated : IsPropagated s c) (leaves : Leaves s t) (settled : IsSettled c.parts d.parts t (global_in c)) (globals : d.globals ≡ c.globals) (assumptions : d.assumptions ≡ c.assumptions) (analysis : d.analysis ≡ c.analysis) (flags : d.flags ≡ c.flags) where
-  pub settled_moved : Moved c d
+module _ (s t : Session) (c d : Search) (propagated : IsPropagated s c) (leaves : SameAssumedAndNames s t) (settled : TakesUnitsOff c.parts d.parts t (global_in c)) (globals : d.globals ≡ c.globals) (assumptions : d.assumptions ≡ c.assumptions) (analysis : d.analysis ≡ c.analysis) (flags : d.flags ≡ c.flags) where
+  pub settled_moved : SameVarsAndAssumptions c d
   settled_moved = record { globals = globals; lits = ap (λ a. a.lits) assumptions; size = settled.size }
 
   pub settled_search : IsSearch t d
@@ -34,17 +34,17 @@ module _ (s t : Session) (c d : Search) (propagated : IsPropagated s c) (leaves 
     ready = ready_moved s t c d propagated.ready leaves settled_moved (settled.word (assumed_in c)).0 (rw assumptions (settled.placed c.assumptions propagated.ready.placed)) (free_moved c d propagated.ready.free settled_moved analysis flags);
   }
 
-module _ {W L : Type 0} {G : Ghosts L} (seen : W → Writer) (n : Variables) (p q : Proof W L G) (c d : Search) (may : MaySettle n p c) (g : EmitsSteps {A = Unit {0}} seen (Ok tt) p q (λ _ _. IsSettled c.parts d.parts (session_of q) (global_in c)))
+module _ {W L : Type 0} {G : Ghosts L} (seen : W → Writer) (n : Variables) (p q : Proof W L G) (c d : Search) (may : MaySettle n p c) (g : EmitsSteps {A = Unit {0}} seen (Ok tt) p q (λ _ _. TakesUnitsOff c.parts d.parts (session_of q) (global_in c)))
     (globals : d.globals ≡ c.globals) (assumptions : d.assumptions ≡ c.assumptions) (analysis : d.analysis ≡ c.analysis) (flags : d.flags ≡ c.flags) where
-  leaves : Leaves (session_of p) (session_of q)
-  leaves = goes_leaves seen tt p q (λ _ _. IsSettled c.parts d.parts (session_of q) (global_in c)) g
+  leaves : SameAssumedAndNames (session_of p) (session_of q)
+  leaves = goes_leaves seen tt p q (λ _ _. TakesUnitsOff c.parts d.parts (session_of q) (global_in c)) g
 
   pub settled_flat : IsFlat d.parts
   settled_flat = record { bottom = g.ends.starts ∙ may.bottom; empty = g.ends.empty may.bottom }
 
-  pub settled_passes : Passes seen n n p q c d
+  pub settled_passes : PassesQuietly seen n n p q c d
   settled_passes =
-      passes_goes seen tt n p q c d (λ _ _. IsSettled c.parts d.parts (session_of q) (global_in c)) may.stands may.shares g
+      passes_goes seen tt n p q c d (λ _ _. TakesUnitsOff c.parts d.parts (session_of q) (global_in c)) may.stands may.shares g
       (settled_search (session_of p) (session_of q) c d may.propagated leaves g.ends globals assumptions analysis flags)
       (settled_moved (session_of p) (session_of q) c d may.propagated leaves g.ends globals assumptions analysis flags) (g.ends.word (assumed_in c))
 

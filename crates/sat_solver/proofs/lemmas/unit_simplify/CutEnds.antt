@@ -18,8 +18,8 @@ use Rattle.sat_solver.proofs.lemmas.fits.FramedParts.{BothParts}
 use Rattle.sat_parts.proofs.lemmas.parts.WordSteps.{extends_trans}
 use Rattle.sat_parts.specs.parts.Words.{TrailWordExtends}
 use Rattle.sat_parts.specs.parts.Frame.{SameState}
-use Rattle.sat_solver.specs.cdcl.Going.{AreNamed, EmitsSteps}
-use Rattle.sat_solver.specs.cdcl.Joint.{global_in, IsSearch, Leaves}
+use Rattle.sat_solver.specs.cdcl.Going.{HaveSolverNames, EmitsSteps}
+use Rattle.sat_solver.specs.cdcl.Joint.{global_in, IsSearch, SameAssumedAndNames}
 use Rattle.sat_solver.specs.declared.context.Search.{Search}
 use Rattle.sat_solver.proofs.lemmas.cdcl.GoingLemmas.{goes_on, goes_failing}
 use Rattle.sat_solver.specs.unit_simplify.Cuts.{deleted_step, derived_step, MayCut}
@@ -52,7 +52,7 @@ module _ {W L : Type 0} {G : Ghosts L} (seen : W → Writer) (p : Proof W L G) (
   both : BothParts m.parts q (session_of p) (global_in c) first second
   both = cut_goes (steps_of p) c m.parts o len h flat there n.gathers n.some n.within (fewer_open c.parts m.parts o len there n.gathers has) q r.puts b side
 
-  pub cut_named : AreNamed (session_of p).solver_names left
+  pub cut_named : HaveSolverNames (session_of p).solver_names left
   cut_named = rw n.part (part_named (steps_of p) c m.parts o len h flat there n.gathers n.some n.within (fewer_open c.parts m.parts o len there n.gathers has))
 
   pub cut_may : MayCut (session_of p) b left m.scratch.hashes.items m.scratch.clause.items
@@ -74,7 +74,7 @@ module _ {W L : Type 0} {G : Ghosts L} (seen : W → Writer) (p : Proof W L G) (
     word : TrailWordExtends c.parts q
     word = extends_trans c.parts m.parts q n.gathers.word r.word
 
-    lighter : Leaves (session_of p) (session_of z) → Wrote → Lighter (session_of z) c d
+    lighter : SameAssumedAndNames (session_of p) (session_of z) → Wrote → Lighter (session_of z) c d
     lighter leaves w =
         lighter_by (session_of p) (session_of z) c d h (ap (λ s. s.globals) same) (ap (λ s. s.assumptions) same) (ap (λ s. s.analysis) same) (ap (λ s. s.flags) same) leaves r.holds (fits w) state word
         (r.refs ∙ ap (λ x. x.refs) n.gathers.db)

@@ -17,12 +17,12 @@ use Rattle.sat_solver.specs.session.Session.{Session, session_after}
 use Rattle.sat_solver.specs.session.LiveClauses.{with_var}
 use Rattle.sat_solver.proofs.lemmas.session.StepsOfClauses.{length_mapped}
 use Rattle.sat_parts.specs.declared.parts.Parts.{Parts}
-use Rattle.sat_parts.specs.parts.Frame.{Dropped, Shortened, Stores, IsUnitLit}
+use Rattle.sat_parts.specs.parts.Frame.{Dropped, Shortened, AddsOriginalClause, IsUnitLit}
 use Rattle.sat_parts.specs.parts.Whole.{state}
 use Rattle.sat_solver.specs.session.Fits.{is_redundant, SessionMatchesParts}
 use Rattle.sat_solver.proofs.lemmas.fits.FitLemmas.{among_at, mapped_at}
 use Rattle.sat_solver.proofs.lemmas.fits.UsableLemmas.{long_named}
-use Rattle.sat_solver.specs.cdcl.Going.{AreNamed}
+use Rattle.sat_solver.specs.cdcl.Going.{HaveSolverNames}
 use Rattle.sat_solver.proofs.lemmas.cdcl.NamedLemmas.{mapped_named}
 use Rattle.sat_solver.proofs.lemmas.fits.FramedParts.{BothParts, bottom_unit, same_state, fits_short, fits_short_redundant, fits_pair, fits_pair_redundant}
 use Rattle.sat_solver.proofs.lemmas.fits.PairLemmas.{AreTwo}
@@ -122,7 +122,7 @@ module _ (steps : List Step) (c : Search) (p : Parts) (o len : ℕ) (h : IsSearc
         (fits_short_redundant p q s (global_in c) fits_p g.holds o there_p old order (sessions_are_plain steps) part old hash order distinct refl len short long (omega (arith, size)) false_by (shuffled_refl part) side)
 
   -- two literals are left
-  module _ (q mid : Parts) (two : len ≡ 2) (stores : Stores p mid (lit_of p.clauses o 0 ∷ lit_of p.clauses o 1 ∷ [])) (drops : Dropped mid q o) where
+  module _ (q mid : Parts) (two : len ≡ 2) (stores : AddsOriginalClause p mid (lit_of p.clauses o 0 ∷ lit_of p.clauses o 1 ∷ [])) (drops : Dropped mid q o) where
     abbrev a : ℕ
     a = lit_of p.clauses o 0
 
@@ -159,7 +159,7 @@ module _ (steps : List Step) (c : Search) (p : Parts) (o len : ℕ) (h : IsSearc
   cut_goes q (puts_pair two mid stores drops) b side = cut_pair q mid two stores drops b side
 
   -- what is left has solver names
-  pub part_named : AreNamed (session_after steps).solver_names mpart
+  pub part_named : HaveSolverNames (session_after steps).solver_names mpart
   part_named =
       mapped_named (session_after steps).solver_names (global_in c) part (λ k lt.
       let at : get_or part k 0 ≡ get_or new k 0 = get_or-take len new k 0 (omega (arith, part_size)) in

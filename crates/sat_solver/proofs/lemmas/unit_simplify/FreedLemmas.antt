@@ -23,7 +23,7 @@ use Rattle.sat_parts.specs.parts.Frame.{Freed, IsUnitLit}
 use Rattle.sat_parts.specs.parts.Round.{IsUnused as InNoClause}
 use Rattle.sat_parts.specs.parts.Whole.{state, PartsInvariant}
 use Rattle.sat_parts.specs.parts.Words.{IsIdle, TrailWordExtendsFor}
-use Rattle.sat_solver.specs.session.Fits.{is_redundant, SessionMatchesParts, HaveNames}
+use Rattle.sat_solver.specs.session.Fits.{is_redundant, SessionMatchesParts, TrueLitsHaveNames}
 use Rattle.sat_solver.proofs.lemmas.fits.AddedLemmas.{unit_true}
 use Rattle.sat_solver.proofs.lemmas.fits.CodeLemmas.{coded_by}
 use Rattle.sat_solver.proofs.lemmas.fits.FramedParts.{bottom_unit, fits_freed}
@@ -39,18 +39,18 @@ use Rattle.sat_solver.specs.variables.Naming.{PutsUnit}
 use Rattle.sat_solver.proofs.lemmas.variables.Units.{unit_stands, unit_agrees}
 use Rattle.sat_solver.specs.variables.Indexing.{Unindexes}
 use Rattle.sat_solver.specs.variables.Search.{IsAlike}
-use Rattle.sat_solver.specs.variables.Variables.{AreTidy, solver_of, global_at, data_at, variables_used, indices_used, says_unit, IsUnitOf, IsUnused}
+use Rattle.sat_solver.specs.variables.Variables.{AreTidy, solver_of, global_at, data_at, variables_used, indices_used, says_unit, IsUnitOf, IsInNoNonUnitClause}
 use Rattle.sat_solver.specs.declared.variables.Variables.{Variables}
 use Rattle.sat_solver.proofs.lemmas.variables.Doing.{does_none, does_both}
 use Rattle.sat_solver.specs.declared.context.Search.{Search}
-use Rattle.sat_solver.specs.cdcl.Joint.{global_in, assumed_in, IsSearch, Moved}
+use Rattle.sat_solver.specs.cdcl.Joint.{global_in, assumed_in, IsSearch, SameVarsAndAssumptions}
 use Rattle.sat_parts.proofs.lemmas.parts.WordSteps.{extends_refl, extends_after}
 use Rattle.sat_solver.proofs.lemmas.cdcl.TurnLemmas.{free_moved, moved_refl, moved_trans, ready_names}
 use Rattle.sat_solver.specs.variables.Shared.{SharesIndices}
 use Rattle.sat_solver.proofs.lemmas.load.GivenLemmas.{of_on}
 use Rattle.sat_solver.proofs.lemmas.load.IndexLemmas.{coded_variable, coded_sign}
 use Rattle.sat_solver.specs.unit_simplify.Flat.{IsFlat}
-use Rattle.sat_solver.specs.unit_simplify.Freed.{LosesIndex, GivesUp, MayFree, KeepsAsked, FreesSome, AreLeft, IsLeft}
+use Rattle.sat_solver.specs.unit_simplify.Freed.{LosesIndex, GivesUp, MayFree, KeepsAsked, FreesSome, AreLeft, IsIndexOfAssumed}
 
 none_some : {A : Type 0} (x : A) → None ≡ Some x → ⊥
 none_some x e = cc
@@ -158,7 +158,7 @@ module _ (s : Session) (c : Search) (v x : ℕ) (search : IsSearch s c) (flat : 
   all = solver_clauses (is_redundant c.parts.clauses) c.parts.clauses (live_refs c.parts.clauses c.parts.db.refs) c.parts.binary.implied
 
   -- no clause of the session has its variable
-  pub session_unused : IsUnused s v
+  pub session_unused : IsInNoNonUnitClause s v
   session_unused r set n = unused_in_all (map (mapped (global_in c)) all) v (λ d k.
       let y = in_map_back (mapped (global_in c)) all d k in
       ap (λ (z : LiveClause). mentions z.literals v) y.1.1
@@ -203,7 +203,7 @@ module _ (s : Session) (c : Search) (v x : ℕ) (search : IsSearch s c) (flat : 
     pub freed_word : TrailWordExtendsFor (assumed_in c) c.parts p
     freed_word = word (assumed_in c) not_assumed
 
-    pub freed_moved : Moved c c'
+    pub freed_moved : SameVarsAndAssumptions c c'
     freed_moved = record { globals = refl; lits = refl; size = freed_word.0.size }
 
     pub freed_flat : IsFlat p
@@ -227,7 +227,7 @@ module _ (s : Session) (c : Search) (v x : ℕ) (search : IsSearch s c) (flat : 
     fits_m : SessionMatchesParts p m (global_in c)
     fits_m = fits_freed c.parts p s (global_in c) v x search.stands.fits freed unused own at
 
-    names_c : HaveNames c.parts.assignment.current s (global_in c)
+    names_c : TrueLitsHaveNames c.parts.assignment.current s (global_in c)
     names_c = ready_names s c search.ready
 
     unit_same : (l : ℕ) → s.solver_names (global_in c (variable l)) ≡ Some (variable l) → global_in c (variable l) ≢ v → t.units (with_var (global_in c) l) ≡ s.units (with_var (global_in c) l)
@@ -290,7 +290,7 @@ global_gone old new v x w tidy tidy' solvers e f =
     let same : w ≡ v = some_same w v (sym (global_before old new v tidy tidy' solvers x w f) ∙ e) in
     none_some x (sym (ap (λ b. cond b None (solver_of old w)) (eq-eqb w v same)) ∙ sym (solvers w) ∙ tidy'.solvers.forth w x f)
 
-pub shares_freed : (old new : Variables) (c c' : Search) (v : ℕ) → AreTidy old → AreTidy new → ((w : ℕ) → solver_of new w ≡ cond (eqb w v) None (solver_of old w)) → indices_used new ≡ indices_used old → Moved c c' → SharesIndices old c → SharesIndices new c'
+pub shares_freed : (old new : Variables) (c c' : Search) (v : ℕ) → AreTidy old → AreTidy new → ((w : ℕ) → solver_of new w ≡ cond (eqb w v) None (solver_of old w)) → indices_used new ≡ indices_used old → SameVarsAndAssumptions c c' → SharesIndices old c → SharesIndices new c'
 shares_freed old new c c' v tidy tidy' solvers used moved h = record {
   size = rw (moved.globals, moved.size) h.size;
   few = (let e = ap (λ gs. length gs.items) moved.globals in let k = h.few in omega (arith, used));
@@ -340,7 +340,7 @@ module _ (n : Variables) (steps : List Step) (c : Search) (may : MayFree n steps
       noted_unit b = session_unit now c v x may.search may.flat own at unused b
           ∙ ap (λ (d : VarData). says_unit d.unit b) (sym (put.kept v ∙ ap (λ t. cond t (record (data_at n v) { unit = value_of c.parts.assignment.current x }) (data_at n v)) (eq-eqb v v refl)))
 
-      pub noted_unused : IsUnused now v
+      pub noted_unused : IsInNoNonUnitClause now v
       noted_unused = session_unused now c v x may.search may.flat own at unused
 
       noted_does : DoesNothing n n1 steps steps
@@ -432,7 +432,7 @@ module _ (a b d : Variables) (s t : Session) (p : Parts) (at : ℕ) (left : AreL
   ]
 
   -- one that no clause has
-  pub left_more : ((x v : ℕ) → global_at d x ≡ Some v → global_at b x ≡ Some v) → t.assumed ≡ s.assumed → IsLeft d t at → AreLeft d s p (at + 1)
+  pub left_more : ((x v : ℕ) → global_at d x ≡ Some v → global_at b x ≡ Some v) → t.assumed ≡ s.assumed → IsIndexOfAssumed d t at → AreLeft d s p (at + 1)
   left_more fewer asked here x lt none = elim (cases_eq x at) [
     | inl e ↦ λ v f. (ap (λ ls. mentions ls v) (sym asked) ∙ here v (subst (λ z. global_at d z ≡ Some v) e f))
     | inr n ↦ λ v f. left x (omega arith) none v (fewer x v f)

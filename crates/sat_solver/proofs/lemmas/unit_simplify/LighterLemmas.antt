@@ -21,7 +21,7 @@ use Rattle.sat_solver.proofs.lemmas.fits.RemovedParts.{parts_removal_begins, par
 use Rattle.sat_parts.proofs.lemmas.parts.WordSteps.{extends_refl, extends_after}
 use Rattle.sat_solver.specs.declared.context.Search.{Search}
 use Rattle.sat_solver.specs.declared.context.Scratch.{Scratch}
-use Rattle.sat_solver.specs.cdcl.Joint.{assumed_in, global_in, IsSearch, Leaves}
+use Rattle.sat_solver.specs.cdcl.Joint.{assumed_in, global_in, IsSearch, SameAssumedAndNames}
 use Rattle.sat_solver.proofs.lemmas.cdcl.TurnLemmas.{moved_refl, moved_trans}
 use Rattle.sat_solver.proofs.lemmas.clause.ReducingLemmas.{still, still_moved}
 use Rattle.sat_solver.specs.unit_simplify.Flat.{IsFlat, MayRemove, LeavesPairs, Lighter}
@@ -45,8 +45,8 @@ pub may_remove : (s : Session) (c : Search) → IsSearch s c → IsFlat c.parts 
 may_remove s c h flat = record { holds = h.stands.holds; flat = flat; paired = h.stands.fits.paired; names = h.ready.free.names }
 
 -- steps of a search leave what is assumed, and the names
-pub goes_leaves : {A W L full : Type 0} {learns : Bool} {G : Ghosts L} (seen : W → Writer) (x : A) (p q : Proof W L G) (P : A → List Step → Type 0) → EmitsStepsWith full learns seen (Ok x) p q P → Leaves (session_of p) (session_of q)
-goes_leaves seen x p q P h = subst (λ ss. Leaves (session_of p) (session_after ss)) (sym h.went.history) (leaves_after h.steps (steps_of p) (kinds_of (session_of p).solver_names h.steps h.searched))
+pub goes_leaves : {A W L full : Type 0} {learns : Bool} {G : Ghosts L} (seen : W → Writer) (x : A) (p q : Proof W L G) (P : A → List Step → Type 0) → EmitsStepsWith full learns seen (Ok x) p q P → SameAssumedAndNames (session_of p) (session_of q)
+goes_leaves seen x p q P h = subst (λ ss. SameAssumedAndNames (session_of p) (session_after ss)) (sym h.went.history) (leaves_after h.steps (steps_of p) (kinds_of (session_of p).solver_names h.steps h.searched))
 
 pub may_scratch : (c : Search) (x : Scratch) → MayRemove c → MayRemove (record c { scratch = x })
 may_scratch c x m = record { holds = m.holds; flat = m.flat; paired = m.paired; names = m.names }
@@ -94,7 +94,7 @@ module _ (s : Session) (c : Search) (may : MayRemove c) where
     pair_there there (suc (suc i)) less = absurd (omega arith)
 
 -- and then they are removed
-pub pairs_removed : (s s' : Session) (c c' : Search) → IsSearch s c → IsFlat c.parts → Leaves s s' → LeavesPairs s' c (length c.parts.binary.implied) 0 → c'.globals ≡ c.globals → c'.assumptions ≡ c.assumptions → c'.analysis ≡ c.analysis → c'.flags ≡ c.flags →
+pub pairs_removed : (s s' : Session) (c c' : Search) → IsSearch s c → IsFlat c.parts → SameAssumedAndNames s s' → LeavesPairs s' c (length c.parts.binary.implied) 0 → c'.globals ≡ c.globals → c'.assumptions ≡ c.assumptions → c'.analysis ≡ c.analysis → c'.flags ≡ c.flags →
     PartsInvariant c'.parts → Removed c.parts c'.parts → TrailWordExtends c.parts c'.parts → Lighter s' c c'
 pairs_removed s s' c c' h flat leaves left globals assumptions analysis flags holds r word =
     let size : length c'.parts.assignment.current ≡ length c.parts.assignment.current = ap (λ a. length a.current) r.state.0 in

@@ -9,9 +9,9 @@ use Rattle.sat_parts.specs.clause.Stored.{lit_of}
 use Rattle.sat_parts.specs.prop.Values.{value_of}
 use Rattle.sat_base.specs.values.Literals.{variable}
 use Rattle.sat_checker.specs.LiteralSets.{mentions}
-use Rattle.sat_solver.specs.session.Making.{Gained}
+use Rattle.sat_solver.specs.session.Making.{ComesByCheckedSteps}
 use Rattle.sat_solver.specs.variables.Taking.{NotTaken}
-use Rattle.sat_solver.specs.proof.ProofView.{Keeps, steps_of, session_of}
+use Rattle.sat_solver.specs.proof.ProofView.{HasAllowedSteps, steps_of, session_of}
 use Rattle.sat_solver.specs.session.Session.{MayAll}
 use Rattle.sat_solver.specs.declared.proof.Proof.{Proof}
 use Rattle.sat_solver.proofs.lemmas.session.ProofLemmas.{adds_none, gains_none, gains_adds, gains_more}
@@ -31,7 +31,7 @@ use Rattle.sat_parts.specs.parts.Frame.{SameClauses}
 use Rattle.sat_parts.specs.parts.Words.{TrailWordExtendsFor}
 use Rattle.sat_parts.proofs.lemmas.parts.WordSteps.{extends_refl, extends_after}
 use Rattle.sat_solver.specs.cdcl.Going.{EmitsSteps, EmitsStepsWith}
-use Rattle.sat_solver.specs.cdcl.Joint.{assumed_in, IsSearch, Moved}
+use Rattle.sat_solver.specs.cdcl.Joint.{assumed_in, IsSearch, SameVarsAndAssumptions}
 use Rattle.sat_solver.specs.declared.context.Search.{Search}
 use Rattle.sat_solver.proofs.lemmas.cdcl.TurnLemmas.{moved_refl, moved_trans}
 use Rattle.sat_solver.specs.variables.Shared.{SharesIndices}
@@ -40,13 +40,13 @@ use Rattle.sat_solver.proofs.lemmas.solver.BehindLemmas.{nothing_behind}
 use Rattle.sat_solver.proofs.lemmas.solver.TellingLemmas.{shares_moved}
 use Rattle.sat_solver.specs.unit_simplify.Flat.{IsFlat, LightensAll}
 use Rattle.sat_solver.specs.unit_simplify.Freed.{MayFree, FreesSome, AreLeft}
-use Rattle.sat_solver.specs.unit_simplify.Looks.{IsOpenAt}
-use Rattle.sat_solver.specs.unit_simplify.Passes.{StandTogether, Passes, Falls, FallsOr, Simplified}
+use Rattle.sat_solver.specs.unit_simplify.Looks.{IsOpenClause}
+use Rattle.sat_solver.specs.unit_simplify.Passes.{StandTogether, PassesQuietly, FallsWithoutStore, FallsOr, IsSimplifiedPass}
 use Rattle.sat_solver.proofs.lemmas.unit_simplify.FreedLemmas.{asked_refl, asked_trans}
 use Rattle.sat_solver.proofs.lemmas.unit_simplify.LighterLemmas.{goes_leaves, flat_on}
 
 module _ {W L : Type 0} {G : Ghosts L} (seen : W → Writer) where
-  pub passes_refl : (n : Variables) (p : Proof W L G) (c : Search) → StandTogether n p c → Passes seen n n p p c c
+  pub passes_refl : (n : Variables) (p : Proof W L G) (c : Search) → StandTogether n p c → PassesQuietly seen n n p p c c
   passes_refl n p c h = record {
     together = h;
     took = ([], gains_none seen p);
@@ -57,7 +57,7 @@ module _ {W L : Type 0} {G : Ghosts L} (seen : W → Writer) where
     word = extends_refl c.parts (assumed_in c);
   }
 
-  pub passes_trans : (a b d : Variables) (p q r : Proof W L G) (x y z : Search) → Passes seen a b p q x y → Passes seen b d q r y z → Passes seen a d p r x z
+  pub passes_trans : (a b d : Variables) (p q r : Proof W L G) (x y z : Search) → PassesQuietly seen a b p q x y → PassesQuietly seen b d q r y z → PassesQuietly seen a d p r x z
   passes_trans a b d p q r x y z one two = record {
     together = two.together;
     took = (two.took.0 ++ one.took.0, gains_more seen one.took.0 two.took.0 p q r one.took.1 two.took.1);
@@ -69,7 +69,7 @@ module _ {W L : Type 0} {G : Ghosts L} (seen : W → Writer) where
   }
 
   -- what changed before without a step
-  pub passes_behind : (a b : Variables) (p q : Proof W L G) (x y z : Search) → Moved x y → TrailWordExtendsFor (assumed_in x) x.parts y.parts → Passes seen a b p q y z → Passes seen a b p q x z
+  pub passes_behind : (a b : Variables) (p q : Proof W L G) (x y z : Search) → SameVarsAndAssumptions x y → TrailWordExtendsFor (assumed_in x) x.parts y.parts → PassesQuietly seen a b p q y z → PassesQuietly seen a b p q x z
   passes_behind a b p q x y z moved word h = record {
     together = h.together;
     took = h.took;
@@ -81,7 +81,7 @@ module _ {W L : Type 0} {G : Ghosts L} (seen : W → Writer) where
   }
 
   -- steps of a search
-  pub passes_goes : {A : Type 0} (v : A) (n : Variables) (p q : Proof W L G) (c d : Search) (P : A → List Step → Type 0) → NamesInvariant n (steps_of p) → SharesIndices n c → EmitsSteps seen (Ok v) p q P → IsSearch (session_of q) d → Moved c d → TrailWordExtendsFor (assumed_in c) c.parts d.parts → Passes seen n n p q c d
+  pub passes_goes : {A : Type 0} (v : A) (n : Variables) (p q : Proof W L G) (c d : Search) (P : A → List Step → Type 0) → NamesInvariant n (steps_of p) → SharesIndices n c → EmitsSteps seen (Ok v) p q P → IsSearch (session_of q) d → SameVarsAndAssumptions c d → TrailWordExtendsFor (assumed_in c) c.parts d.parts → PassesQuietly seen n n p q c d
   passes_goes v n p q c d P stands shares g search moved word =
       let may : MayAll (g.steps ++ steps_of p) = subst MayAll g.went.history g.keeps in
       let does : DoesNothing n n (steps_of p) (steps_of q) = subst (DoesNothing n n (steps_of p)) (sym g.went.history) (nothing_behind n (steps_of p) g.steps stands may g.searched) in
@@ -96,7 +96,7 @@ module _ {W L : Type 0} {G : Ghosts L} (seen : W → Writer) where
       }
 
   -- indices that were given up
-  pub passes_frees : (a b : Variables) (p q : Proof W L G) (c d : Search) → FreesSome a b (steps_of p) (steps_of q) c d → Keeps q → ((w : Proof W L G) → Gained seen w p → Gained seen w q) → Passes seen a b p q c d
+  pub passes_frees : (a b : Variables) (p q : Proof W L G) (c d : Search) → FreesSome a b (steps_of p) (steps_of q) c d → HasAllowedSteps q → ((w : Proof W L G) → ComesByCheckedSteps seen w p → ComesByCheckedSteps seen w q) → PassesQuietly seen a b p q c d
   passes_frees a b p q c d f keeps came = record {
     together = record { keeps = keeps; stands = f.does.stands; search = f.search; shares = f.shares };
     took = came p ([], gains_none seen p);
@@ -113,18 +113,18 @@ module _ {W L : Type 0} {G : Ghosts L} (seen : W → Writer) where
   falls_goes e p q P g = record { fault = g.ends; steps = g.steps; went = g.went; kept = g.kept; loss = g.loss }
 
   -- what goes wrong where no clause is stored may go wrong where one is
-  pub falls_or : (full : Type 0) (e : SolverError) (p q : Proof W L G) → Falls seen e p q → FallsOr full seen e p q
+  pub falls_or : (full : Type 0) (e : SolverError) (p q : Proof W L G) → FallsWithoutStore seen e p q → FallsOr full seen e p q
   falls_or full e p q h = record { fault = fault_or full e h.fault; steps = h.steps; went = h.went; kept = h.kept; loss = h.loss }
 
-  pub falls_starved : (p : Proof W L G) → Falls seen errors.OutOfMemory p p
+  pub falls_starved : (p : Proof W L G) → FallsWithoutStore seen errors.OutOfMemory p p
   falls_starved p = record { fault = tt; steps = []; went = adds_none seen p; kept = tt; loss = inl refl }
 
   -- behind what went well
-  pub falls_later : {full : Type 0} (e : SolverError) (p q r : Proof W L G) → Gained seen p q → FallsOr full seen e q r → FallsOr full seen e p r
+  pub falls_later : {full : Type 0} (e : SolverError) (p q r : Proof W L G) → ComesByCheckedSteps seen p q → FallsOr full seen e q r → FallsOr full seen e p r
   falls_later e p q r took f = record { fault = f.fault; steps = f.steps ++ took.0; went = went_behind seen (Unit {0}) e took.0 f.steps p q r (gains_adds seen took.0 p q took.1) f.went; kept = f.kept; loss = loss_later e p q r took.1.taking f.loss }
 
   -- a call over names
-  pub falls_names : (e : NameError) (p q : Proof W L G) → IsFailure e → ((w : Proof W L G) → Gained seen w p → EmitsUpTo (Gained seen) (NotTaken seen) w e q) → Falls seen (told_as e) p q
+  pub falls_names : (e : NameError) (p q : Proof W L G) → IsFailure e → ((w : Proof W L G) → ComesByCheckedSteps seen w p → EmitsUpTo (ComesByCheckedSteps seen) (NotTaken seen) w e q) → FallsWithoutStore seen (told_as e) p q
   falls_names names.OutOfMemory p q f came = (let t = came p ([], gains_none seen p) in record { fault = tt; steps = t.0; went = gains_adds seen t.0 p q t.1; kept = tt; loss = inl t.1.taking })
   falls_names (names.Write cause) p q f came = (let t = came p ([], gains_none seen p) in record { fault = tt; steps = t.0.0; went = t.0.1; kept = t.1; loss = tt })
   falls_names (names.Check fault) p q f came = (let t = came p ([], gains_none seen p) in record { fault = fault_checked _ fault; steps = t.0; went = went_checked seen (Unit {0}) fault t.0 p q t.1; kept = complaint_kept fault q t.2; loss = check_loss fault p q t.1.why })
@@ -136,14 +136,14 @@ module _ {W L : Type 0} {G : Ghosts L} (seen : W → Writer) where
   may_free n p c h flat = record { stands = h.stands; search = h.search; shares = h.shares; flat = flat }
 
   module _ (n n' : Variables) (p q r : Proof W L G) (c d e : Search) (h : StandTogether n p c) (flat : IsFlat c.parts) (g : EmitsSteps {A = Unit {0}} seen (Ok tt) p q (λ _ _. LightensAll (session_of q) c d)) where
-    pub lightened : Passes seen n n p q c d
+    pub lightened : PassesQuietly seen n n p q c d
     lightened = passes_goes tt n p q c d (λ _ _. LightensAll (session_of q) c d) h.stands h.shares g g.ends.lighter.search g.ends.lighter.moved g.ends.lighter.word
 
     pub lightened_may : MayFree n (steps_of q) d
     lightened_may = may_free n q d lightened.together (flat_on c d (session_of q) g.ends.lighter flat)
 
     open_freed : SameClauses d.parts e.parts → ((v : ℕ) → value_of d.parts.assignment.current v ≡ None → value_of e.parts.assignment.current v ≡ None) →
-        (o : ℕ) → Contains (live_refs e.parts.clauses e.parts.db.refs) o → IsOpenAt e.parts o
+        (o : ℕ) → Contains (live_refs e.parts.clauses e.parts.db.refs) o → IsOpenClause e.parts o
     open_freed same unset o there k lt =
         let was : Contains (live_refs d.parts.clauses d.parts.db.refs) o = rw (same.0, same.1) at there in
         rw same.0 (unset (variable (lit_of d.parts.clauses o k)) (g.ends.left o was k (rw same.0 at lt)))
@@ -152,7 +152,7 @@ module _ {W L : Type 0} {G : Ghosts L} (seen : W → Writer) where
     indices_freed f left x lt none v g =
         ap (λ ls. mentions ls v) f.asked.assumed ∙ left x (subst (λ k. x < k) f.moved.size lt) (rw (f.same.0, f.same.1, f.same.2) at none) v g
 
-    pub simplified : FreesSome n n' (steps_of q) (steps_of r) d e → AreLeft n' (session_of q) d.parts (length d.parts.assignment.current) → Keeps r → ((w : Proof W L G) → Gained seen w q → Gained seen w r) → Simplified seen n n' p r c e
+    pub simplified : FreesSome n n' (steps_of q) (steps_of r) d e → AreLeft n' (session_of q) d.parts (length d.parts.assignment.current) → HasAllowedSteps r → ((w : Proof W L G) → ComesByCheckedSteps seen w q → ComesByCheckedSteps seen w r) → IsSimplifiedPass seen n n' p r c e
     simplified f left keeps came = record {
       passes = passes_trans n n n' p q r c d e lightened (passes_frees n n' q r d e f keeps came);
       flat = f.flat;

@@ -17,14 +17,14 @@ use Rattle.sat_solver.proofs.lemmas.fits.FramedParts.{bottom_unit, same_state, f
 use Rattle.sat_parts.proofs.lemmas.clause.OrderLemmas.{shuffled_eq}
 use Rattle.sat_solver.specs.declared.context.Search.{Search}
 use Rattle.sat_solver.specs.declared.context.Scratch.{Scratch}
-use Rattle.sat_solver.specs.cdcl.Joint.{assumed_in, global_in, IsSearch, Leaves}
+use Rattle.sat_solver.specs.cdcl.Joint.{assumed_in, global_in, IsSearch, SameAssumedAndNames}
 use Rattle.sat_solver.proofs.lemmas.clause.ReducingLemmas.{still, still_moved}
 use Rattle.sat_solver.specs.unit_simplify.Cuts.{deleted_step}
 use Rattle.sat_solver.specs.unit_simplify.Flat.{IsFlat, Lighter}
 use Rattle.sat_solver.specs.unit_simplify.Looks.{HasTrue}
 
 -- the search goes on, where values stay
-pub lighter_by : (s t : Session) (c c' : Search) → IsSearch s c → c'.globals ≡ c.globals → c'.assumptions ≡ c.assumptions → c'.analysis ≡ c.analysis → c'.flags ≡ c.flags → Leaves s t → PartsInvariant c'.parts → SessionMatchesParts c'.parts t (global_in c) →
+pub lighter_by : (s t : Session) (c c' : Search) → IsSearch s c → c'.globals ≡ c.globals → c'.assumptions ≡ c.assumptions → c'.analysis ≡ c.analysis → c'.flags ≡ c.flags → SameAssumedAndNames s t → PartsInvariant c'.parts → SessionMatchesParts c'.parts t (global_in c) →
     SameState c.parts c'.parts → TrailWordExtends c.parts c'.parts → c'.parts.db.refs ≡ c.parts.db.refs → Lighter t c c'
 lighter_by s t c c' h globals assumptions analysis flags leaves holds fits same word refs =
     let size : length c'.parts.assignment.current ≡ length c.parts.assignment.current = ap (λ a. length a.current) same.0 in
@@ -49,7 +49,7 @@ module _ (s : Session) (c : Search) (p : Parts) (o : ℕ) (h : IsSearch s c) (fl
       fits_dropped_satisfied c.parts p s (global_in c) h.stands.fits h.stands.holds o there (lits_at c.parts.clauses o) (shuffled_eq (lits_at c.parts.clauses o) (lits_at c.parts.clauses o) refl) dropped e
       (lit_of c.parts.clauses o has.0) (among_at (lits_at c.parts.clauses o) has.0 has.1.0) (bottom_unit c.parts (lit_of c.parts.clauses o has.0) h.stands.holds flat.bottom has.1.1)
 
-  leaves_deleted : (b : Bool) → Leaves s (after (deleted_step b Satisfied mapped) s)
+  leaves_deleted : (b : Bool) → SameAssumedAndNames s (after (deleted_step b Satisfied mapped) s)
   leaves_deleted true = record { assumed = refl; names = λ v. refl }
   leaves_deleted false = record { assumed = refl; names = λ v. refl }
 

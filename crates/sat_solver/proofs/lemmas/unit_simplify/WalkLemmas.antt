@@ -9,7 +9,7 @@ use Rattle.sat_parts.proofs.lemmas.parts.ReduceLemmas.{filter_in}
 use Rattle.sat_solver.specs.session.Session.{Session}
 use Rattle.sat_solver.specs.declared.context.Search.{Search}
 use Rattle.sat_solver.specs.unit_simplify.Flat.{Lightens, AreOpenTo}
-use Rattle.sat_solver.specs.unit_simplify.Looks.{IsOpenAt}
+use Rattle.sat_solver.specs.unit_simplify.Looks.{IsOpenClause}
 
 pub to_none : (c d : Search) → AreOpenTo c d 0
 to_none c d k lt = absurd (omega arith)
@@ -20,7 +20,7 @@ module _ (c m : Search) (at : ℕ) (h : AreOpenTo c m at) where
   to_more t d o lt rising is x k less there = elim (cases_eq k at) [
     | inl e ↦
         let here : get_or c.parts.db.refs k 0 ≡ o = (let z : get_or c.parts.db.refs k 0 ≡ get_or c.parts.db.refs at 0 = subst (λ j. get_or c.parts.db.refs k 0 ≡ get_or c.parts.db.refs j 0) e refl in z ∙ sym is) in
-        subst (λ z. IsOpenAt d.parts z) (sym here) (x.left (subst (λ z. Contains (live_refs d.parts.clauses d.parts.db.refs) z) here there))
+        subst (λ z. IsOpenClause d.parts z) (sym here) (x.left (subst (λ z. Contains (live_refs d.parts.clauses d.parts.db.refs) z) here there))
     | inr n ↦
         let below : get_or c.parts.db.refs k 0 < get_or c.parts.db.refs at 0 = rising k at (omega arith) lt in
         let y = x.others (get_or c.parts.db.refs k 0) (λ e. omega (arith, e ∙ is)) there in
@@ -37,8 +37,8 @@ module _ (c m : Search) (at : ℕ) (h : AreOpenTo c m at) where
   ]
 
 -- all of them
-pub to_all : (c d : Search) → d.parts.db.refs ≡ c.parts.db.refs → AreOpenTo c d (length c.parts.db.refs) → (o : ℕ) → Contains (live_refs d.parts.clauses d.parts.db.refs) o → IsOpenAt d.parts o
+pub to_all : (c d : Search) → d.parts.db.refs ≡ c.parts.db.refs → AreOpenTo c d (length c.parts.db.refs) → (o : ℕ) → Contains (live_refs d.parts.clauses d.parts.db.refs) o → IsOpenClause d.parts o
 to_all c d same h o there =
     let x = subst (λ (xs : List ℕ). Contains xs o) same (live_in d.parts.clauses d.parts.db.refs o there) in
     let here : get_or c.parts.db.refs x.0 0 ≡ o = get_or_default c.parts.db.refs x.0 0 o x.1 ∙ x.2 in
-    subst (λ z. IsOpenAt d.parts z) here (h x.0 x.1 (subst (λ z. Contains (live_refs d.parts.clauses d.parts.db.refs) z) (sym here) there))
+    subst (λ z. IsOpenClause d.parts z) here (h x.0 x.1 (subst (λ z. Contains (live_refs d.parts.clauses d.parts.db.refs) z) (sym here) there))

@@ -10,13 +10,13 @@ use Rattle.sat_solver.specs.session.Session.{session_after}
 use Rattle.sat_solver.specs.session.LiveClauses.{with_var}
 use Rattle.sat_store.specs.variables.Maps.{target}
 use Rattle.sat_solver.specs.variables.Variables.{data_at, global_of, variables_used, AreTidy}
-use Rattle.sat_solver.specs.variables.Naming.{Extends}
+use Rattle.sat_solver.specs.variables.Naming.{ExtendsNames}
 use Rattle.sat_solver.specs.variables.Refusing.{names_in}
-use Rattle.sat_solver.specs.load.Literals.{named_literal, Image, Images, MapsClause, NoWitness, SameLiterals, Takes, global_in}
-use Rattle.sat_solver.specs.load.Clauses.{AddsClause}
-use Rattle.sat_solver.specs.load.Assumed.{PutsMarks, Assumes}
+use Rattle.sat_solver.specs.load.Literals.{named_literal, Image, Images, MapsClause, NoWitness, SameLiterals, BringsLiterals, global_in}
+use Rattle.sat_solver.specs.load.Clauses.{BringsClause}
+use Rattle.sat_solver.specs.load.Assumed.{PutsMarks, BringsAssumptions}
 use Rattle.sat_checker.specs.matching.Expected.{Outcome, Adds, Opens, bringing}
-use Rattle.sat_solver.specs.variables.Search.{Gives}
+use Rattle.sat_solver.specs.variables.Search.{GivesIndices}
 use Rattle.sat_solver.specs.variables.Calls.{NamesRefineJudge}
 use Rattle.sat_solver.specs.declared.variables.Variables.{Variables}
 use Rattle.sat_solver.specs.declared.load.literals.Taken.{Taken}
@@ -33,20 +33,20 @@ use Rattle.sat_solver.proofs.lemmas.variables.TakenNames.{same_literals, canonic
 order_same : (n : Variables) (user : List ℕ) (t u : Taken) → u.order ≡ t.order → Images n user t.order.items → Images n user u.order.items
 order_same n user t u e = subst (Images n user) (sym (ap (λ v. v.items) e))
 
-pub clause_literals : (old mid : Variables) (user : List ℕ) (t u : Taken) → AreTidy mid → Extends old mid → NoWitness old user → Images mid user t.order.items → MapsClause mid u → u.order ≡ t.order → SameLiterals mid user u.globals.items
+pub clause_literals : (old mid : Variables) (user : List ℕ) (t u : Taken) → AreTidy mid → ExtendsNames old mid → NoWitness old user → Images mid user t.order.items → MapsClause mid u → u.order ≡ t.order → SameLiterals mid user u.globals.items
 clause_literals old mid user t u tidy extends none images maps e =
     same_literals old mid user u.order.items u.lits.items u.globals.items tidy extends none (order_same mid user t u e images)
     (λ x m. subst (Among x) (sym maps.lits) (canonical_more u.order.items x m)) (λ x m. canonical_less u.order.items x (subst (Among x) maps.lits m)) maps.globals
 
-pub clause_added : (old mid : Variables) (from mids to : List Step) (user : List ℕ) (t u : Taken) (both_signs : Bool) → Takes old mid from mids user t → MapsClause mid u → both_signs ≡ is_tautology u.order.items → u.order ≡ t.order → u.given ≡ t.given
-    → NamesRefineJudge mid mid mids to (with_clause (map named_literal user)) (λ j. Adds (map named_literal user) ∷ []) → to ≡ AddClause u.globals.items ∷ mids → AddsClause old mid from to user u both_signs
+pub clause_added : (old mid : Variables) (from mids to : List Step) (user : List ℕ) (t u : Taken) (both_signs : Bool) → BringsLiterals old mid from mids user t → MapsClause mid u → both_signs ≡ is_tautology u.order.items → u.order ≡ t.order → u.given ≡ t.given
+    → NamesRefineJudge mid mid mids to (with_clause (map named_literal user)) (λ j. Adds (map named_literal user) ∷ []) → to ≡ AddClause u.globals.items ∷ mids → BringsClause old mid from to user u both_signs
 clause_added old mid from mids to user t u both_signs takes maps signs order given does e = record {
   does = does_both old mid mid from mids to (bring_all (names_in user)) (with_clause (map named_literal user)) (bringing (names_in user)) (λ j. Adds (map named_literal user) ∷ []) takes.does does;
   signs = signs;
   extends = takes.extends;
   images = order_same mid user t u order takes.images;
   clause = maps;
-  gives = subst (Gives old mid (session_after from)) (sym (ap (λ v. v.items) given)) takes.gives;
+  gives = subst (GivesIndices old mid (session_after from)) (sym (ap (λ v. v.items) given)) takes.gives;
   between = mids;
   since = takes.comes;
   written = e;
@@ -54,7 +54,7 @@ clause_added old mid from mids to user t u both_signs takes maps signs order giv
   comes = comes_both (MayTake (names_in user)) from mids to takes.comes (comes_one (MayTake (names_in user)) mids to (AddClause u.globals.items) e refl);
 }
 
-pub assumed_literals : (old mid : Variables) (user : List ℕ) (t u : Taken) → AreTidy mid → Extends old mid → NoWitness old user → Images mid user t.order.items → u.globals.items ≡ map (with_var (global_in mid)) t.order.items → SameLiterals mid user u.globals.items
+pub assumed_literals : (old mid : Variables) (user : List ℕ) (t u : Taken) → AreTidy mid → ExtendsNames old mid → NoWitness old user → Images mid user t.order.items → u.globals.items ≡ map (with_var (global_in mid)) t.order.items → SameLiterals mid user u.globals.items
 assumed_literals old mid user t u tidy extends none images e = same_literals old mid user t.order.items t.order.items u.globals.items tidy extends none images (λ x m. m) (λ x m. m) e
 
 images_kept : (old new : Variables) (user order : List ℕ) → new.global_from_user ≡ old.global_from_user → new.solver_from_global ≡ old.solver_from_global → Images old user order → Images new user order
@@ -64,7 +64,7 @@ images_kept old new user order users solvers i = record {
 }
 
 -- marks leave names and modes as they are
-extends_marked : (old new : Variables) (ls : List ℕ) → PutsMarks old new ls → Extends old new
+extends_marked : (old new : Variables) (ls : List ℕ) → PutsMarks old new ls → ExtendsNames old new
 extends_marked old new ls put = record {
   stays = λ u v e. (same u ∙ e, ap (λ d. d.sampling_mode) (put.kept v));
   came = λ u v e f. absurd (none_some (sym e ∙ sym (same u) ∙ f));
@@ -78,14 +78,14 @@ extends_marked old new ls put = record {
     none_some : {v : ℕ} → None ≡ Some v → ⊥
     none_some e = cc
 
-pub assumptions_added : (old mid new : Variables) (from mids to : List Step) (user : List ℕ) (t u : Taken) → Takes old mid from mids user t → PutsMarks mid new u.globals.items → u.globals.items ≡ map (with_var (global_in mid)) t.order.items → u.order ≡ t.order → u.given ≡ t.given
-    → ((o : Outcome) → NamesRefineJudge mid new mids to (λ j. j) (λ j. Opens (map named_literal user) o ∷ [])) → to ≡ Assumptions u.globals.items ∷ mids → Assumes old new from to user u
+pub assumptions_added : (old mid new : Variables) (from mids to : List Step) (user : List ℕ) (t u : Taken) → BringsLiterals old mid from mids user t → PutsMarks mid new u.globals.items → u.globals.items ≡ map (with_var (global_in mid)) t.order.items → u.order ≡ t.order → u.given ≡ t.given
+    → ((o : Outcome) → NamesRefineJudge mid new mids to (λ j. j) (λ j. Opens (map named_literal user) o ∷ [])) → to ≡ Assumptions u.globals.items ∷ mids → BringsAssumptions old new from to user u
 assumptions_added old mid new from mids to user t u takes put globals order given does e = record {
   does = λ o. does_both old mid new from mids to (bring_all (names_in user)) (λ j. j) (bringing (names_in user)) (λ j. Opens (map named_literal user) o ∷ []) takes.does (does o);
   extends = extends_both old mid new takes.extends (extends_marked mid new u.globals.items put);
   images = images_kept mid new user u.order.items put.users put.solvers (order_same mid user t u order takes.images);
   globals = globals ∙ ap (λ v. map (with_var (global_in mid)) v.items) (sym order) ∙ ap (λ g. map (with_var (λ x. get_or g.items x 0)) u.order.items) (sym put.globals);
-  gives = subst (Gives old new (session_after from)) (sym (ap (λ v. v.items) given)) (gives_unseen old mid new (session_after from) t.given.items takes.gives put.solvers);
+  gives = subst (GivesIndices old new (session_after from)) (sym (ap (λ v. v.items) given)) (gives_unseen old mid new (session_after from) t.given.items takes.gives put.solvers);
   between = mids;
   written = e;
   search = takes.search;

@@ -18,12 +18,12 @@ use Rattle.sat_checker.specs.matching.Bridge.{Live}
 use Rattle.sat_solver.specs.variables.Live.{given_of}
 use Rattle.sat_solver.specs.variables.Variables.{data_at, user_of, variables_used, AreTidy, AreSaid, AreJudged, IsModeOf, says_unit}
 use Rattle.sat_solver.specs.load.Literals.{named_literal, SameLiterals, StandsFor}
-use Rattle.sat_solver.specs.load.Assumed.{marked_if, Marks, PutsMarks}
+use Rattle.sat_solver.specs.load.Assumed.{marked_if, MarksAssumed, PutsMarks}
 use Rattle.sat_checker.specs.matching.Checking.{variable_of}
 use Rattle.sat_checker.specs.matching.ProofChecking.{the_checking}
 use Rattle.sat_checker.specs.matching.Expected.{Outcome, Opens, opens}
 use Rattle.sat_checker.specs.matching.Traces.{no_step, visible}
-use Rattle.sat_solver.specs.variables.Calls.{NamesInvariant, Kept, NamesRefineJudge}
+use Rattle.sat_solver.specs.variables.Calls.{NamesInvariant, ReachesJudge, NamesRefineJudge}
 use Rattle.sat_solver.specs.declared.variables.Variables.{Variables}
 use Rattle.sat_solver.proofs.lemmas.variables.NewName.{shape}
 use Rattle.sat_base.proofs.lemmas.script.LiteralValues.{coded_half}
@@ -34,12 +34,12 @@ use Rattle.sat_solver.proofs.lemmas.variables.ClauseWritten.{all_known, known_sa
 -- LITERAL BY LITERAL
 
 pub record Marking (first now : ℕ → VarData) (all : List ℕ) (index : ℕ) (assumed : Bool) : Type 0 where
-  pub rest : (new : ℕ → VarData) → Marks now new (drop index all) assumed → Marks first new all assumed
+  pub rest : (new : ℕ → VarData) → MarksAssumed now new (drop index all) assumed → MarksAssumed first new all assumed
 
 pub one_marked : (first now next : ℕ → VarData) (all : List ℕ) (index l v : ℕ) (assumed : Bool) → Marking first now all index assumed → index < length all → l ≡ get_or all index 0 → v ≡ variable l
     → ((w : ℕ) → next w ≡ cond (eqb w v) (record (now v) { assumed = assumed }) (now w)) → Marking first next all (index + 1) assumed
 one_marked first now next all index l v assumed m lt at is put = record {
-  rest = λ new k. m.rest new (subst (λ ls. Marks now new ls assumed) (sym (drop_more all index 0 lt ∙ ap (λ y. y ∷ drop (index + 1) all) (sym at))) (record { each = λ w. k.each w ∙ at_one w (eqb (variable l) w) refl (mentions (drop (index + 1) all) w) }));
+  rest = λ new k. m.rest new (subst (λ ls. MarksAssumed now new ls assumed) (sym (drop_more all index 0 lt ∙ ap (λ y. y ∷ drop (index + 1) all) (sym at))) (record { each = λ w. k.each w ∙ at_one w (eqb (variable l) w) refl (mentions (drop (index + 1) all) w) }));
 }
   where
     at_one : (w : ℕ) (b : Bool) → eqb (variable l) w ≡ b → (q : Bool) → marked_if q assumed (next w) ≡ marked_if (eqb (variable l) w || q) assumed (now w)
@@ -58,13 +58,13 @@ one_marked first now next all index l v assumed m lt at is put = record {
             let here : next w ≡ now w = e ∙ ap (λ x. cond x (record (now v) { assumed = assumed }) (now w)) (ne_eqb w v (λ x. true≢false (sym (eq-eqb (variable l) w (sym is ∙ sym x)) ∙ t))) in
             ap (marked_if q assumed) here ∙ sym (ap (λ x. marked_if (x || q) assumed (now w)) t)
 
-pub all_marked : (first now : ℕ → VarData) (all : List ℕ) (index : ℕ) (assumed : Bool) → length all ≤ index → Marking first now all index assumed → Marks first now all assumed
-all_marked first now all index assumed le m = m.rest now (subst (λ ls. Marks now now ls assumed) (sym (drop_all index all le)) (record { each = λ v. refl }))
+pub all_marked : (first now : ℕ → VarData) (all : List ℕ) (index : ℕ) (assumed : Bool) → length all ≤ index → Marking first now all index assumed → MarksAssumed first now all assumed
+all_marked first now all index assumed le m = m.rest now (subst (λ ls. MarksAssumed now now ls assumed) (sym (drop_all index all le)) (record { each = λ v. refl }))
 
 -- ALL MARKS
 
 -- the marks of the earlier list go, those of the other come
-pub remarked : (old mid new : ℕ → VarData) (before ls : List ℕ) → ((v : ℕ) → mentions before v ≡ (old v).assumed) → Marks old mid before false → Marks mid new ls true → (v : ℕ) → new v ≡ record (old v) { assumed = mentions ls v }
+pub remarked : (old mid new : ℕ → VarData) (before ls : List ℕ) → ((v : ℕ) → mentions before v ≡ (old v).assumed) → MarksAssumed old mid before false → MarksAssumed mid new ls true → (v : ℕ) → new v ≡ record (old v) { assumed = mentions ls v }
 remarked old mid new before ls marked one two v = two.each v ∙ ap (marked_if (mentions ls v) true) (cleared (mentions before v) refl) ∙ set (mentions ls v)
   where
     still : (d : VarData) → d.assumed ≡ false → d ≡ record d { assumed = false }
@@ -79,8 +79,8 @@ remarked old mid new before ls marked one two v = two.each v ∙ ap (marked_if (
     set false = refl
 
 -- the same of lists that are lent
-pub remarked_lent : (old mid new : ℕ → VarData) (first second before ls : List ℕ) → ((v : ℕ) → mentions before v ≡ (old v).assumed) → Marks old mid first false → Marks mid new second true → first ≡ before → second ≡ ls → (v : ℕ) → new v ≡ record (old v) { assumed = mentions ls v }
-remarked_lent old mid new first second before ls marked one two e f = remarked old mid new before ls marked (subst (λ xs. Marks old mid xs false) e one) (subst (λ xs. Marks mid new xs true) f two)
+pub remarked_lent : (old mid new : ℕ → VarData) (first second before ls : List ℕ) → ((v : ℕ) → mentions before v ≡ (old v).assumed) → MarksAssumed old mid first false → MarksAssumed mid new second true → first ≡ before → second ≡ ls → (v : ℕ) → new v ≡ record (old v) { assumed = mentions ls v }
+remarked_lent old mid new first second before ls marked one two e f = remarked old mid new before ls marked (subst (λ xs. MarksAssumed old mid xs false) e one) (subst (λ xs. MarksAssumed mid new xs true) f two)
 
 -- what is mentioned is in use
 pub marked_within : (n : Variables) (ls : List ℕ) (v : ℕ) → AreTidy n → mentions ls v ≡ (data_at n v).assumed → mentions ls v ≡ true → (data_at n v).deleted ≡ false
@@ -177,7 +177,7 @@ assumptions_written old new from to user ls stands same put e o = record {
     may = subst MayAll (sym e) (stands.may, tt);
     read = λ u. ap (λ steps. variable_of steps (u + 1)) e ∙ stands.read u ∙ ap (λ m. target m.fwd u) (sym put.users);
   };
-  kept = λ j list a. subst (λ steps. Kept new from steps j (Opens (map named_literal user) o ∷ [])) (sym e) (record {
+  kept = λ j list a. subst (λ steps. ReachesJudge new from steps j (Opens (map named_literal user) o ∷ [])) (sym e) (record {
     live = list;
     agree = record {
       judged = judged_marked old new ls stands.tidy live put j list a.judged;

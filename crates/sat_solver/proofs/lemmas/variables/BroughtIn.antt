@@ -9,7 +9,7 @@ use Rattle.sat_solver.specs.variables.Live.{given_of}
 use Rattle.sat_solver.specs.variables.Variables.{data_at, global_of, names_used, AreTidy, AreJudged}
 use Rattle.sat_solver.specs.variables.Naming.{IsNextUser}
 use Rattle.sat_checker.specs.matching.Expected.{NewName}
-use Rattle.sat_solver.specs.variables.Calls.{NamesInvariant, Kept, NamesOne, NamesAll, BringsIn, Brought}
+use Rattle.sat_solver.specs.variables.Calls.{NamesInvariant, ReachesJudge, NamesOne, NamesAll, BringsIn, Brought}
 use Rattle.sat_solver.specs.declared.variables.Variables.{Variables}
 use Rattle.sat_solver.proofs.lemmas.variables.NamingSteps.{none_brought, one_then, none_yet, last_came}
 use Rattle.sat_solver.proofs.lemmas.variables.Extending.{extends_same}
@@ -22,7 +22,7 @@ use Rattle.sat_solver.proofs.lemmas.session.ComingLemmas.{comes_none, comes_one}
 as_new : (old new : Variables) (from to : List Step) (user : ℕ) (names : List ℕ) → ((j : Judge) (live : Live) → AreJudged old j live → new_names (user + 1) j ≡ names) → NamesAll old new from to names → BringsIn old new from to user
 as_new old new from to user names is all = record {
   stands = all.stands;
-  kept = λ j live a. subst (λ ns. Kept new from to (with_names ns j) (map NewName ns)) (sym (is j live a.judged)) (all.kept j live a);
+  kept = λ j live a. subst (λ ns. ReachesJudge new from to (with_names ns j) (map NewName ns)) (sym (is j live a.judged)) (all.kept j live a);
 }
 
 pub brings_new : (old new : Variables) (from to : List Step) (user : ℕ) → names_used old ≤ user → NamesAll old new from to (names_from (user + 1 - names_used old) (names_used old + 1)) → BringsIn old new from to user

@@ -16,13 +16,13 @@ use Rattle.sat_checker.specs.Contents.{more_if, same_side}
 use Rattle.sat_solver.specs.session.Session.{Session, May, MayAll, session_after, after, knowing_literals, with_fact, with_sorted, with_live}
 use Rattle.sat_solver.specs.session.Session as sessions
 use Rattle.sat_solver.proofs.lemmas.session.StepLemmas.{sessions_are_accepted}
-use Rattle.sat_solver.specs.variables.Variables.{data_at, user_of, solver_of, AreSaid, IsUnused, mode_in}
+use Rattle.sat_solver.specs.variables.Variables.{data_at, user_of, solver_of, AreSaid, IsInNoNonUnitClause, mode_in}
 use Rattle.sat_solver.specs.load.Literals.{named_literal, StandsFor, SameLiterals}
 use Rattle.sat_checker.specs.matching.Checking.{variable_of}
 use Rattle.sat_checker.specs.matching.ProofChecking.{the_checking}
 use Rattle.sat_checker.specs.matching.Expected.{Spells, SameSet, EachSpelt, Adds, adds}
 use Rattle.sat_checker.specs.matching.Traces.{no_step, visible}
-use Rattle.sat_solver.specs.variables.Calls.{NamesInvariant, Kept, NamesRefineJudge}
+use Rattle.sat_solver.specs.variables.Calls.{NamesInvariant, ReachesJudge, NamesRefineJudge}
 use Rattle.sat_solver.specs.declared.variables.Variables.{Variables}
 use Rattle.sat_base.proofs.lemmas.script.LiteralValues.{coded_half, all_map}
 use Rattle.sat_checker.proofs.lemmas.matching.Bridge.{added}
@@ -47,7 +47,7 @@ sorted_same [] s = record { variables = refl; solver_names = refl; assumed = ref
 sorted_same (l ∷ []) s = fact_same l s
 sorted_same (l ∷ m ∷ ls) s = record { variables = refl; solver_names = refl; assumed = refl }
 
-clause_same : (c : List ℕ) (s : Session) → SameNames s (sessions.with_clause false c s)
+clause_same : (c : List ℕ) (s : Session) → SameNames s (sessions.with_live_clause false c s)
 clause_same c s = go (is_tautology c)
   where
     go : (b : Bool) → SameNames s (cond b s (with_sorted false (canonical c) s))
@@ -80,21 +80,21 @@ added_variables s c v h = go s.unsat
     known true e = known_still (s.variables v) (known_among s c v h e)
     known false e = refl
 
-    go : (b : Bool) → (cond b s (sessions.with_clause false c (knowing_literals c s))).variables v ≡ s.variables v
+    go : (b : Bool) → (cond b s (sessions.with_live_clause false c (knowing_literals c s))).variables v ≡ s.variables v
     go true = refl
     go false = ap (λ f. f v) (clause_same c (knowing_literals c s)).variables ∙ known (is_among (map variable c) v) refl
 
 added_names : (s : Session) (c : List ℕ) → (after (AddClause c) s).solver_names ≡ s.solver_names
 added_names s c = go s.unsat
   where
-    go : (b : Bool) → (cond b s (sessions.with_clause false c (knowing_literals c s))).solver_names ≡ s.solver_names
+    go : (b : Bool) → (cond b s (sessions.with_live_clause false c (knowing_literals c s))).solver_names ≡ s.solver_names
     go true = refl
     go false = (clause_same c (knowing_literals c s)).solver_names
 
 added_assumed : (s : Session) (c : List ℕ) → (after (AddClause c) s).assumed ≡ s.assumed
 added_assumed s c = go s.unsat
   where
-    go : (b : Bool) → (cond b s (sessions.with_clause false c (knowing_literals c s))).assumed ≡ s.assumed
+    go : (b : Bool) → (cond b s (sessions.with_live_clause false c (knowing_literals c s))).assumed ≡ s.assumed
     go true = refl
     go false = (clause_same c (knowing_literals c s)).assumed
 
@@ -133,7 +133,7 @@ added_units s c m e = go s.unsat
     inner true = refl
     inner false = sorted_units (canonical c) m (knowing_literals c s) (canonical_among c m ∙ e)
 
-    go : (b : Bool) → (cond b s (sessions.with_clause false c (knowing_literals c s))).units m ≡ s.units m
+    go : (b : Bool) → (cond b s (sessions.with_live_clause false c (knowing_literals c s))).units m ≡ s.units m
     go true = refl
     go false = inner (is_tautology c)
 
@@ -147,7 +147,7 @@ unindexed n user (x ∷ xs) w m e f h =
     ap (λ b. b || is_among xs m) (ne_eqb x m (λ q. none_some e (ap (solver_of n) (sym f ∙ ap variable (sym q) ∙ ap variable h.0.1.is ∙ coded_half h.0.1.variable_is (is_positive h.0.0)) ∙ h.0.1.indexed))) ∙ unindexed n user xs w m e f h.1
 
 -- it is in no clause afterwards either
-added_unused : (s : Session) (c : List ℕ) (w : ℕ) → mentions c w ≡ false → IsUnused s w → IsUnused (after (AddClause c) s) w
+added_unused : (s : Session) (c : List ℕ) (w : ℕ) → mentions c w ≡ false → IsInNoNonUnitClause s w → IsInNoNonUnitClause (after (AddClause c) s) w
 added_unused s c w e h r set lt = go s.unsat lt
   where
     inner : (set : List ℕ) → mentions set w ≡ false → (q : List ℕ) → 0 < (with_sorted false set (knowing_literals c s)).live r q → mentions q w ≡ false
@@ -164,7 +164,7 @@ added_unused s c w e h r set lt = go s.unsat lt
         more_live false t y = h r q y
         more_live true t y = ap (λ z. mentions z w) (sym (same_lists (l ∷ k ∷ ls) q (and_right (same_side false r) (same_literals (l ∷ k ∷ ls) q) t))) ∙ m
 
-    go : (b : Bool) → 0 < (cond b s (sessions.with_clause false c (knowing_literals c s))).live r set → mentions set w ≡ false
+    go : (b : Bool) → 0 < (cond b s (sessions.with_live_clause false c (knowing_literals c s))).live r set → mentions set w ≡ false
     go true x = h r set x
     go false x = tautology (is_tautology c) x
       where
@@ -231,7 +231,7 @@ module _ (n : Variables) (from : List Step) (user clause : List ℕ) (stands : N
       may = subst MayAll (sym e) (stands.may, may_add);
       read = λ u. ap (λ steps. variable_of steps (u + 1)) e ∙ stands.read u;
     };
-    kept = λ j live a. subst (λ steps. Kept n from steps (with_clause (map named_literal user) j) (Adds (map named_literal user) ∷ [])) (sym e) (record {
+    kept = λ j live a. subst (λ steps. ReachesJudge n from steps (with_clause (map named_literal user) j) (Adds (map named_literal user) ∷ [])) (sym e) (record {
       live = live;
       agree = record {
         judged = record {

@@ -10,7 +10,7 @@ use Rattle.sat_solver.specs.session.Coming.{OnlyAllowedSteps, DeletesAdded}
 use Rattle.sat_solver.specs.session.Session.{session_after}
 use Rattle.sat_checker.specs.matching.Checking.{variable_of}
 use Rattle.sat_solver.specs.variables.Coming.{ForgetsIdle, IsDue, IsNextSolver, LeavesNoneIdle, MayTake, MayAdd, MayHide, TurnsMode, MaySet}
-use Rattle.sat_solver.specs.variables.Naming.{Extends}
+use Rattle.sat_solver.specs.variables.Naming.{ExtendsNames}
 use Rattle.sat_solver.specs.variables.Refusing.{IsAssumed, names_in}
 use Rattle.sat_solver.specs.variables.Search.{IsUnseen}
 use Rattle.sat_solver.specs.variables.Variables.{AreSaid, AreTidy, data_at, global_of}
@@ -126,7 +126,7 @@ comes_hidden (Ok x) n from mids hides to v said brought hidden gone = comes_both
 ])
 
 -- a name that isn't assumed came in and was hidden: its variable isn't assumed either
-pub hidden_unmarked : (n m h : Variables) (from mids hides : List Step) (user v : ℕ) → AreTidy n → AreSaid n (session_after from) → Extends n m → IsUnseen n m from mids → (IsAssumed n user → ⊥) → global_of m user ≡ Some v →
+pub hidden_unmarked : (n m h : Variables) (from mids hides : List Step) (user v : ℕ) → AreTidy n → AreSaid n (session_after from) → ExtendsNames n m → IsUnseen n m from mids → (IsAssumed n user → ⊥) → global_of m user ≡ Some v →
     AreSaid h (session_after hides) → hides ≡ UserVarName v None ∷ mids → (data_at h v).assumed ≡ false
 hidden_unmarked n m h from mids hides user v tidy said extends unseen free named then hidden =
     sym (then.marked v) ∙ ap (λ ss. mentions (session_after ss).assumed v) hidden ∙ ap (λ ls. mentions ls v) unseen.search.assumed ∙ said.marked v ∙ before (global_of n user) refl

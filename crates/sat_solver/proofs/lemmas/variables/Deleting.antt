@@ -20,8 +20,8 @@ use Rattle.sat_solver.specs.variables.Naming.{PutsDeleted}
 use Rattle.sat_checker.specs.matching.Checking.{variable_of}
 use Rattle.sat_checker.specs.matching.ProofChecking.{the_checking}
 use Rattle.sat_checker.specs.matching.Traces.{no_step, silent}
-use Rattle.sat_solver.specs.variables.Calls.{NamesInvariant, Kept, DoesNothing}
-use Rattle.sat_solver.specs.variables.Search.{Forgets}
+use Rattle.sat_solver.specs.variables.Calls.{NamesInvariant, ReachesJudge, DoesNothing}
+use Rattle.sat_solver.specs.variables.Search.{ForgetsUnits}
 use Rattle.sat_solver.specs.declared.variables.Variables.{Variables}
 use Rattle.sat_solver.proofs.lemmas.variables.NewName.{shape, and_false}
 use Rattle.sat_base.proofs.lemmas.script.LiteralValues.{coded_half}
@@ -224,7 +224,7 @@ var_deleted old new from to v stands alive nameless noindex unmarked put e = rec
     may = subst MayAll (sym e) (stands.may, may_delete old v (session_after from) stands.tidy stands.said alive nameless noindex unmarked);
     read = λ u. ap (λ steps. variable_of steps (u + 1)) e ∙ stands.read u ∙ ap (λ m. target m.fwd u) (sym put.users);
   };
-  kept = λ j live a. subst (λ steps. Kept new from steps j []) (sym e) (
+  kept = λ j live a. subst (λ steps. ReachesJudge new from steps j []) (sym e) (
       let b = deleted the_checking the_checking_sound j from live a.bridge v accepted in
       record {
         live = without v live;
@@ -237,5 +237,5 @@ var_deleted old new from to v stands alive nameless noindex unmarked put e = rec
     accepted = (sessions_are_accepted (DeleteVar v ∷ from) (stands.may, may_delete old v (session_after from) stands.tidy stands.said alive nameless noindex unmarked)).0.1
 
 -- the search sees that units are forgotten
-pub var_forgotten : (from to : List Step) (v : ℕ) → to ≡ DeleteVar v ∷ from → Forgets (session_after from) (session_after to) v
-var_forgotten from to v e = subst (λ steps. Forgets (session_after from) (session_after steps) v) (sym e) (record { live = refl; units = λ l. refl; unsat = refl; width = refl; assumed = refl })
+pub var_forgotten : (from to : List Step) (v : ℕ) → to ≡ DeleteVar v ∷ from → ForgetsUnits (session_after from) (session_after to) v
+var_forgotten from to v e = subst (λ steps. ForgetsUnits (session_after from) (session_after steps) v) (sym e) (record { live = refl; units = λ l. refl; unsat = refl; width = refl; assumed = refl })

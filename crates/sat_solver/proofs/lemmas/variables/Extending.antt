@@ -5,7 +5,7 @@ use Rattle.sat_store.specs.declared.data.SamplingMode.TheVariants as kept
 use Rattle.sat_store.specs.variables.VarData.{user_variable, unused_variable}
 use Rattle.sat_store.specs.variables.Maps.{target}
 use Rattle.sat_solver.specs.variables.Variables.{data_at, global_of, AreTidy}
-use Rattle.sat_solver.specs.variables.Naming.{IsRoom, PutsName, Extends, AreFresh}
+use Rattle.sat_solver.specs.variables.Naming.{IsRoom, PutsName, ExtendsNames, AreFresh}
 use Rattle.sat_solver.specs.declared.variables.Variables.{Variables}
 
 none_some : {x : ℕ} {o : Option ℕ} → o ≡ None → o ≡ Some x → ⊥
@@ -14,10 +14,10 @@ none_some e f = cc
 some_same : {x y : ℕ} {o : Option ℕ} → o ≡ Some x → o ≡ Some y → x ≡ y
 some_same e f = cc
 
-pub extends_same : (n : Variables) → Extends n n
+pub extends_same : (n : Variables) → ExtendsNames n n
 extends_same n = record { stays = λ u v e. (e, refl); came = λ u v e f. absurd (none_some e f); fresh = λ u v e f. absurd (none_some e f); lives = λ v d. d }
 
-pub extends_both : (a b c : Variables) → Extends a b → Extends b c → Extends a c
+pub extends_both : (a b c : Variables) → ExtendsNames a b → ExtendsNames b c → ExtendsNames a c
 extends_both a b c one two = record {
   stays = λ u v e. let x = one.stays u v e in let y = two.stays u v x.0 in (y.0, y.1 ∙ x.1);
   came = λ u v e f. go u v e f (global_of b u) refl;
@@ -41,7 +41,7 @@ extends_both a b c one two = record {
         ap (λ k. (data_at c k).sampling_mode) (sym same) ∙ y.1 ∙ one.came u w e x
 
 -- where names and data are as they were
-pub extends_kept : (old new : Variables) → new.global_from_user ≡ old.global_from_user → new.var_data ≡ old.var_data → Extends old new
+pub extends_kept : (old new : Variables) → new.global_from_user ≡ old.global_from_user → new.var_data ≡ old.var_data → ExtendsNames old new
 extends_kept old new users items = record {
   stays = λ u v e. (ap (λ m. target m.fwd u) users ∙ e, ap (λ d. (get_or d.items v unused_variable).sampling_mode) items);
   came = λ u v e f. absurd (none_some e (sym (ap (λ m. target m.fwd u) users) ∙ f));
@@ -50,14 +50,14 @@ extends_kept old new users items = record {
 }
 
 -- variables of names that stay, or come in
-pub are_fresh : (old new : Variables) → Extends old new → AreFresh old new
+pub are_fresh : (old new : Variables) → ExtendsNames old new → AreFresh old new
 are_fresh old new x = record { same = λ u v w e f. some_same f (x.stays u v e).0; fresh = x.fresh }
 
 -- behind a call by which names at most go
 pub fresh_only : (old mid new : Variables) → AreFresh old mid → ((u v : ℕ) → global_of new u ≡ Some v → global_of mid u ≡ Some v) → AreFresh old new
 fresh_only old mid new x only = record { same = λ u v w e f. x.same u v w e (only u w f); fresh = λ u v e f. x.fresh u v e (only u v f) }
 
-pub extends_named : (old new : Variables) (user v : ℕ) → AreTidy old → IsRoom old user v → global_of old user ≡ None → PutsName old new user v → Extends old new
+pub extends_named : (old new : Variables) (user v : ℕ) → AreTidy old → IsRoom old user v → global_of old user ≡ None → PutsName old new user v → ExtendsNames old new
 extends_named old new user v tidy room free put = record { stays = stays; came = came; fresh = fresh; lives = lives }
   where
     fresh : (u w : ℕ) → global_of old u ≡ None → global_of new u ≡ Some w → (data_at old w).deleted ≡ true

@@ -11,7 +11,7 @@ use Rattle.sat_store.specs.variables.Maps.{AreInverse, target}
 use Rattle.sat_solver.specs.session.Session.{Session, session_after}
 use Rattle.sat_solver.specs.variables.Variables.{global_at, user_of, solver_of, says_unit}
 use Rattle.sat_solver.specs.variables.Naming.{PutsIndex, KeepsOthers, AreFresh}
-use Rattle.sat_solver.specs.variables.Search.{KeepsSearch, KeepsUnits, IsUnseen, IsLeftOn, IsAlike, Forgets, IsGiven, GivenApart, HasGiven, Gives}
+use Rattle.sat_solver.specs.variables.Search.{KeepsSearch, KeepsUnits, IsUnseen, IsLeftOn, IsAlike, ForgetsUnits, IsGiven, GivenApart, HasGiven, GivesIndices}
 use Rattle.sat_solver.specs.declared.variables.solver_vars.Given.{Given}
 use Rattle.sat_solver.specs.declared.variables.Variables.{Variables}
 use Rattle.sat_solver.proofs.lemmas.variables.Extending.{fresh_only}
@@ -36,11 +36,11 @@ unseen_same n steps = record { solvers = refl; globals = refl; search = keeps_sa
 pub unseen_both : (a b c : Variables) (from mids to : List Step) → IsUnseen a b from mids → IsUnseen b c mids to → IsUnseen a c from to
 unseen_both a b c from mids to x y = record { solvers = y.solvers ∙ x.solvers; globals = y.globals ∙ x.globals; search = keeps_both (session_after from) (session_after mids) (session_after to) x.search y.search; leaves = λ a h. x.leaves a (y.leaves a h) }
 
-pub gives_none : (n : Variables) (s : Session) → Gives n n s []
+pub gives_none : (n : Variables) (s : Session) → GivesIndices n n s []
 gives_none n s = record { stays = λ v x e. e; each = tt; apart = tt; others = λ v x e. inl e; used = omega arith }
 
 -- a call that the search doesn't see
-pub gives_unseen : (a b c : Variables) (s : Session) (gs : List Given) → Gives a b s gs → c.solver_from_global ≡ b.solver_from_global → Gives a c s gs
+pub gives_unseen : (a b c : Variables) (s : Session) (gs : List Given) → GivesIndices a b s gs → c.solver_from_global ≡ b.solver_from_global → GivesIndices a c s gs
 gives_unseen a b c s gs g e = record {
   stays = λ v x f. ap (λ m. target m.fwd v) e ∙ g.stays v x f;
   each = all_map (IsGiven a b s) (IsGiven a c s) gs (λ h i. record { variable = i.variable; without = i.without; free = i.free; taken = ap (λ m. target m.bwd h.solver) e ∙ i.taken; unit = i.unit }) g.each;
@@ -62,7 +62,7 @@ has_right : (xs ys : List Given) (x : ℕ) → HasGiven ys x → HasGiven (xs ++
 has_right [] ys x h = h
 has_right (g ∷ gs) ys x h = inr (has_right gs ys x h)
 
-pub gives_both : (a b c : Variables) (s t : Session) (xs ys : List Given) → AreInverse a.solver_from_global → AreInverse b.solver_from_global → AreInverse c.solver_from_global → t.units ≡ s.units → Gives a b s xs → Gives b c t ys → Gives a c s (xs ++ ys)
+pub gives_both : (a b c : Variables) (s t : Session) (xs ys : List Given) → AreInverse a.solver_from_global → AreInverse b.solver_from_global → AreInverse c.solver_from_global → t.units ≡ s.units → GivesIndices a b s xs → GivesIndices b c t ys → GivesIndices a c s (xs ++ ys)
 gives_both a b c s t xs ys ia ib ic units one two = record {
   stays = λ v x e. two.stays v x (one.stays v x e);
   each = all_both (IsGiven a c s) xs ys
@@ -87,7 +87,7 @@ gives_both a b c s t xs ys ia ib ic units one two = record {
     apart (g ∷ gs) i h = (all_both (λ k. k.solver ≢ g.solver) gs ys h.0 (all_map (IsGiven b c t) (λ k. k.solver ≢ g.solver) ys (λ k j same. none_some j.free (ap (global_at b) same ∙ i.0.taken)) two.each), apart gs i.1 h.1)
 
 -- one index
-pub gives_one : (old new : Variables) (s : Session) (v : ℕ) (g : Given) → solver_of old v ≡ None → global_at old g.solver ≡ None → PutsIndex old new v g.solver true → ((b : Bool) → s.units (coded v b) ≡ says_unit g.unit b) → Gives old new s (g ∷ [])
+pub gives_one : (old new : Variables) (s : Session) (v : ℕ) (g : Given) → solver_of old v ≡ None → global_at old g.solver ≡ None → PutsIndex old new v g.solver true → ((b : Bool) → s.units (coded v b) ≡ says_unit g.unit b) → GivesIndices old new s (g ∷ [])
 gives_one old new s v g without free put unit = record {
   stays = stays;
   each = (record { variable = v; without = without; free = free; taken = put.globals g.solver ∙ ap (λ b. cond b (Some v) (global_at old g.solver)) (eq-eqb g.solver g.solver refl); unit = unit }, tt);
@@ -137,7 +137,7 @@ alike_both a b c from mids to x y = record {
 
 -- a variable that wasn't assumed was deleted
 pub alike_forgets : (a b : Variables) (from to : List Step) (v : ℕ) → b.solver_from_global ≡ a.solver_from_global → b.globals ≡ a.globals → solver_of a v ≡ None → to ≡ DeleteVar v ∷ from → mentions (session_after from).assumed v ≡ false →
-    Forgets (session_after from) (session_after to) v → IsAlike a b from to
+    ForgetsUnits (session_after from) (session_after to) v → IsAlike a b from to
 alike_forgets a b from to v solvers globals none step unmarked f = record {
   solvers = solvers;
   globals = globals;
@@ -167,7 +167,7 @@ ok_units (Ok x) c from mids to one two = λ u v b e. two u v b e ∙ ap (λ f. f
 ok_units (Err x) c from mids to one two = tt
 
 -- only the units of a variable without a name are forgotten
-pub units_forgotten : (a b : Variables) (from to : List Step) (v : ℕ) → AreInverse a.global_from_user → user_of a v ≡ None → b.global_from_user ≡ a.global_from_user → Forgets (session_after from) (session_after to) v → KeepsUnits b from to
+pub units_forgotten : (a b : Variables) (from to : List Step) (v : ℕ) → AreInverse a.global_from_user → user_of a v ≡ None → b.global_from_user ≡ a.global_from_user → ForgetsUnits (session_after from) (session_after to) v → KeepsUnits b from to
 units_forgotten a b from to v inverse none users f u w d e =
     let named : user_of a w ≡ Some u = inverse.back u w (sym (ap (λ m. target m.fwd u) users) ∙ e) in
     f.units (coded w d) ∙ ap (λ k. (session_after from).units (coded w d) && not (eqb k v)) (coded_half w d) ∙ ap (λ t. (session_after from).units (coded w d) && not t) (ne_eqb w v (λ q. none_some (ap (user_of a) q ∙ none) named)) ∙ and_true ((session_after from).units (coded w d))

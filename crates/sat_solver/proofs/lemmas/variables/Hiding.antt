@@ -22,7 +22,7 @@ use Rattle.sat_checker.specs.matching.Checking.{is_variable, variable_of}
 use Rattle.sat_checker.specs.matching.ProofChecking.{the_checking}
 use Rattle.sat_checker.specs.matching.Expected.{NoName, no_name}
 use Rattle.sat_checker.specs.matching.Traces.{no_step, visible}
-use Rattle.sat_solver.specs.variables.Calls.{NamesInvariant, Kept, NamesRefineJudge}
+use Rattle.sat_solver.specs.variables.Calls.{NamesInvariant, ReachesJudge, NamesRefineJudge}
 use Rattle.sat_solver.specs.variables.Search.{KeepsSearch, IsUnseen}
 use Rattle.sat_solver.specs.declared.variables.Variables.{Variables}
 use Rattle.sat_solver.proofs.lemmas.variables.MapLemmas.{some_within}
@@ -208,7 +208,7 @@ name_hidden old new from to user v stands had put e = record {
     may = subst MayAll (sym e) (stands.may, may_hide old new user v stands.tidy had put (session_after from) stands.said);
     read = λ u. ap (λ steps. variable_of steps (u + 1)) e ∙ read_hidden old new user v stands.tidy had put (variable_of from) stands.read u;
   };
-  kept = λ j live a. subst (λ steps. Kept new from steps (without_name (user + 1) j) (NoName (user + 1) ∷ [])) (sym e) (record {
+  kept = λ j live a. subst (λ steps. ReachesJudge new from steps (without_name (user + 1) j) (NoName (user + 1) ∷ [])) (sym e) (record {
     live = live;
     agree = record {
       judged = judged_hidden old new user v stands.tidy had put j live a.judged;

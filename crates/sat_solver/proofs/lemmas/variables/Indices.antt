@@ -15,14 +15,14 @@ use Rattle.sat_solver.proofs.lemmas.variables.Counts.{mapped_one_more, mapped_on
 use Rattle.sat_solver.specs.variables.Free.{is_free, IsTree}
 use Rattle.sat_checker.specs.matching.Bridge.{Live}
 use Rattle.sat_solver.specs.variables.Live.{given_of}
-use Rattle.sat_solver.specs.variables.Variables.{data_at, user_of, solver_of, global_at, indices_used, variables_used, AreTidy, mode_in, variable_at, AreSaid, IsModeOf, AreJudged, says_unit, IsUnitOf, IsUnused}
+use Rattle.sat_solver.specs.variables.Variables.{data_at, user_of, solver_of, global_at, indices_used, variables_used, AreTidy, mode_in, variable_at, AreSaid, IsModeOf, AreJudged, says_unit, IsUnitOf, IsInNoNonUnitClause}
 use Rattle.sat_solver.specs.variables.Naming.{PutsIndex, IsNextIndex}
 use Rattle.sat_solver.specs.variables.Search.{KeepsSearch}
 use Rattle.sat_solver.specs.variables.Indexing.{Indexes, Unindexes}
 use Rattle.sat_solver.specs.declared.variables.solver_vars.Given.{Given}
 use Rattle.sat_checker.specs.matching.ProofChecking.{the_checking}
 use Rattle.sat_checker.specs.matching.Traces.{no_step, silent}
-use Rattle.sat_solver.specs.variables.Calls.{NamesInvariant, Kept, DoesNothing}
+use Rattle.sat_solver.specs.variables.Calls.{NamesInvariant, ReachesJudge, DoesNothing}
 use Rattle.sat_checker.specs.matching.Checking.{variable_of}
 use Rattle.sat_solver.specs.declared.variables.Variables.{Variables}
 use Rattle.sat_solver.proofs.lemmas.variables.JudgeLemmas.{same_below}
@@ -156,7 +156,7 @@ module _ (old new : Variables) (v x : ℕ) (there : Bool) (tidy : AreTidy old) (
                   ∙ ap (λ n. ltb y n && not (is_some (global_at old y))) (sym used)
                   ∙ sym (ap (λ o. ltb y (indices_used new) && not (is_some o)) g)
 
-  pub said_index : (s : Session) → AreSaid old s → (there ≡ false → IsUnitOf old s v) → (there ≡ false → IsUnused s v) → AreSaid new (after (SolverVarName v (cond there (Some x) None)) s)
+  pub said_index : (s : Session) → AreSaid old s → (there ≡ false → IsUnitOf old s v) → (there ≡ false → IsInNoNonUnitClause s v) → AreSaid new (after (SolverVarName v (cond there (Some x) None)) s)
   said_index s said its_unit its_unused = by_case there refl
     where
       unit_at : (w : ℕ) → solver_of new w ≡ None → IsUnitOf new s w
@@ -171,7 +171,7 @@ module _ (old new : Variables) (v x : ℕ) (there : Bool) (tidy : AreTidy old) (
           was : s.units (coded w b) ≡ says_unit (data_at old w).unit b
           was = go there (eqb w v) refl refl (sym (put.solvers w) ∙ e)
 
-      unused_at : (w : ℕ) → solver_of new w ≡ None → IsUnused s w
+      unused_at : (w : ℕ) → solver_of new w ≡ None → IsInNoNonUnitClause s w
       unused_at w e r set lt = go there (eqb w v) refl refl (sym (put.solvers w) ∙ e)
         where
           go : (c q : Bool) → there ≡ c → eqb w v ≡ q → cond q (cond c (Some x) None) (solver_of old w) ≡ None → mentions set w ≡ false
@@ -214,7 +214,7 @@ index_search from to v name e = subst (λ steps. KeepsSearch (session_after from
     go None = record { live = refl; units = refl; unsat = refl; width = refl; assumed = refl }
     go (Some x) = record { live = refl; units = refl; unsat = refl; width = refl; assumed = refl }
 
-pub index_put : (old new : Variables) (from to : List Step) (v x : ℕ) (there : Bool) → NamesInvariant old from → (data_at old v).deleted ≡ false → (there ≡ true → x ≤ indices_used old) → (there ≡ false → solver_of old v ≡ Some x) → (there ≡ true → (solver_of old v ≡ None) × (global_at old x ≡ None)) → (there ≡ true → x < variables_used old) → (there ≡ false → IsUnitOf old (session_after from) v) → (there ≡ false → IsUnused (session_after from) v) → PutsIndex old new v x there
+pub index_put : (old new : Variables) (from to : List Step) (v x : ℕ) (there : Bool) → NamesInvariant old from → (data_at old v).deleted ≡ false → (there ≡ true → x ≤ indices_used old) → (there ≡ false → solver_of old v ≡ Some x) → (there ≡ true → (solver_of old v ≡ None) × (global_at old x ≡ None)) → (there ≡ true → x < variables_used old) → (there ≡ false → IsUnitOf old (session_after from) v) → (there ≡ false → IsInNoNonUnitClause (session_after from) v) → PutsIndex old new v x there
     → to ≡ SolverVarName v (cond there (Some x) None) ∷ from → DoesNothing old new from to
 index_put old new from to v x there stands alive low had fresh room its_unit its_unused put e = record {
   stands = record {
@@ -223,7 +223,7 @@ index_put old new from to v x there stands alive low had fresh room its_unit its
     may = subst MayAll (sym e) (stands.may, tt);
     read = λ u. ap (λ steps. variable_of steps (u + 1)) e ∙ stands.read u ∙ ap (λ m. target m.fwd u) (sym put.users);
   };
-  kept = λ j live a. subst (λ steps. Kept new from steps j []) (sym e) (record {
+  kept = λ j live a. subst (λ steps. ReachesJudge new from steps j []) (sym e) (record {
     live = live;
     agree = record {
       judged = judged_same old new j live put.users put.kept a.judged;
@@ -260,7 +260,7 @@ index_had old from given v x stands e = record {
   step = inl refl;
 }
 
-pub index_taken : (old new : Variables) (from to : List Step) (v x : ℕ) → NamesInvariant old from → solver_of old v ≡ Some x → IsUnitOf old (session_after from) v → IsUnused (session_after from) v → PutsIndex old new v x false → new.globals ≡ old.globals → to ≡ SolverVarName v None ∷ from → Unindexes old new from to v x
+pub index_taken : (old new : Variables) (from to : List Step) (v x : ℕ) → NamesInvariant old from → solver_of old v ≡ Some x → IsUnitOf old (session_after from) v → IsInNoNonUnitClause (session_after from) v → PutsIndex old new v x false → new.globals ≡ old.globals → to ≡ SolverVarName v None ∷ from → Unindexes old new from to v x
 index_taken old new from to v x stands there unit unused put globals e = record {
   does = index_put old new from to v x false stands (stands.tidy.indexed v x there) (λ f. absurd (true≢false (sym f))) (λ f. there) (λ f. absurd (true≢false (sym f))) (λ f. absurd (true≢false (sym f))) (λ f. unit) (λ f. unused) put e;
   solvers = put.solvers;

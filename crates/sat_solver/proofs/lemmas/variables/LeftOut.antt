@@ -19,7 +19,7 @@ use Rattle.sat_solver.specs.variables.Search.{IsUnseen}
 use Rattle.sat_solver.specs.variables.Calls.{NamesInvariant, Brought}
 use Rattle.sat_solver.specs.declared.variables.Variables.{Variables}
 use Rattle.sat_checker.proofs.lemmas.matching.CheckerIsSound.{the_checking_sound}
-use Rattle.sat_solver.specs.variables.Naming.{Extends}
+use Rattle.sat_solver.specs.variables.Naming.{ExtendsNames}
 use Rattle.sat_solver.proofs.lemmas.variables.Extending.{extends_same, extends_both}
 use Rattle.sat_solver.proofs.lemmas.variables.Doing.{does_none, does_both}
 use Rattle.sat_solver.proofs.lemmas.variables.Giving.{unseen_same, unseen_both}
@@ -33,7 +33,7 @@ use Rattle.sat_solver.proofs.lemmas.session.ComingLemmas.{comes_none, comes_both
 -- so many names came in
 pub record Bringing (old now : Variables) (from steps : List Step) (all : List ℕ) (index : ℕ) : Type 0 where
   pub stands : NamesInvariant now steps
-  pub extends : Extends old now
+  pub extends : ExtendsNames old now
   pub unseen : IsUnseen old now from steps
   pub comes : OnlyAllowedSteps IsDue from steps
   pub named : (k : ℕ) → k < index → (v : ℕ) × (global_of now (variable (get_or all k 0)) ≡ Some v)

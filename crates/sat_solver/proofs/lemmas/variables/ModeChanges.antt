@@ -25,7 +25,7 @@ use Rattle.sat_checker.specs.matching.Checking.{variable_of}
 use Rattle.sat_solver.specs.variables.Coming.{mode_said, TurnsMode}
 use Rattle.sat_checker.specs.matching.ProofChecking.{the_checking}
 use Rattle.sat_checker.specs.matching.Traces.{no_step, silent}
-use Rattle.sat_solver.specs.variables.Calls.{NamesInvariant, Kept, NamesRefineJudge}
+use Rattle.sat_solver.specs.variables.Calls.{NamesInvariant, ReachesJudge, NamesRefineJudge}
 use Rattle.sat_solver.specs.variables.Search.{KeepsSearch, IsUnseen}
 use Rattle.sat_solver.specs.declared.variables.Variables.{Variables}
 use Rattle.sat_solver.proofs.lemmas.variables.JudgeLemmas.{given_has}
@@ -254,7 +254,7 @@ mode_set old new from to user v sample stands had put e = record {
     may = subst MayAll (sym e) (stands.may, may_mode old user v (session_after from) stands.tidy stands.said had);
     read = λ u. ap (λ steps. variable_of steps (u + 1)) e ∙ stands.read u ∙ ap (λ m. target m.fwd u) (sym put.users);
   };
-  kept = λ j live a. subst (λ steps. Kept new from steps (with_mode (judged_mode sample) (user + 1) j) []) (sym e) (record {
+  kept = λ j live a. subst (λ steps. ReachesJudge new from steps (with_mode (judged_mode sample) (user + 1) j) []) (sym e) (record {
     live = live;
     agree = record {
       judged = judged_with_mode old new user v sample stands.tidy had put j live a.judged;

@@ -11,7 +11,7 @@ use Rattle.sat_checker.specs.Contents.{more_if, less_if, same_side}
 use Rattle.sat_solver.specs.session.Session.{Session, May, MayAll, session_after, after, with_fact, with_facts, with_sorted, with_live, without_live, knowing_literals}
 use Rattle.sat_solver.specs.session.Session as sessions
 use Rattle.sat_solver.proofs.lemmas.session.StepLemmas.{sessions_are_accepted}
-use Rattle.sat_solver.specs.variables.Variables.{data_at, solver_of, AreTidy, AreSaid, IsUnused}
+use Rattle.sat_solver.specs.variables.Variables.{data_at, solver_of, AreTidy, AreSaid, IsInNoNonUnitClause}
 use Rattle.sat_checker.specs.matching.Bridge.{IsBridge}
 use Rattle.sat_checker.specs.matching.Checking.{variable_of}
 use Rattle.sat_checker.specs.matching.ProofChecking.{the_checking}
@@ -32,7 +32,7 @@ pub record Leaves (n : Variables) (s t : Session) : Type 0 where
   solver_names : t.solver_names ≡ s.solver_names
   assumed : t.assumed ≡ s.assumed
   units : (v : ℕ) → solver_of n v ≡ None → (b : Bool) → t.units (coded v b) ≡ s.units (coded v b)
-  unused : (v : ℕ) → solver_of n v ≡ None → IsUnused s v → IsUnused t v
+  unused : (v : ℕ) → solver_of n v ≡ None → IsInNoNonUnitClause s v → IsInNoNonUnitClause t v
 
 leaves_same : (n : Variables) (s : Session) → Leaves n s s
 leaves_same n s = record { variables = λ v. refl; solver_names = refl; assumed = refl; units = λ v e b. refl; unused = λ v e h. h }
@@ -76,7 +76,7 @@ leaves_live n r set s none = record {
   unused = λ v e h q other lt. go v e h q other (same_side r q && same_literals set other) refl lt;
 }
   where
-    go : (v : ℕ) → solver_of n v ≡ None → IsUnused s v → (q : Bool) (other : List ℕ) (b : Bool) → (same_side r q && same_literals set other) ≡ b → 0 < more_if b (s.live q other) → mentions other v ≡ false
+    go : (v : ℕ) → solver_of n v ≡ None → IsInNoNonUnitClause s v → (q : Bool) (other : List ℕ) (b : Bool) → (same_side r q && same_literals set other) ≡ b → 0 < more_if b (s.live q other) → mentions other v ≡ false
     go v e h q other false t lt = h q other lt
     go v e h q other true t lt = ap (λ z. mentions z v) (sym (same_lists set other (and_right (same_side r q) (same_literals set other) t))) ∙ none v e
 
@@ -93,7 +93,7 @@ leaves_sorted n r (l ∷ []) c s h e = let i = has c h (sym (canonical_among c l
         at ih false t m = ih m
 leaves_sorted n r (l ∷ m ∷ ls) c s h e = leaves_live n r (l ∷ m ∷ ls) s (λ v f. ap (λ z. mentions z v) e ∙ mentions_set c v ∙ unmentioned n c v f h)
 
-leaves_clause : (n : Variables) (r : Bool) (c : List ℕ) (s : Session) → AreIndexed n c → Leaves n s (sessions.with_clause r c s)
+leaves_clause : (n : Variables) (r : Bool) (c : List ℕ) (s : Session) → AreIndexed n c → Leaves n s (sessions.with_live_clause r c s)
 leaves_clause n r c s h = go (is_tautology c)
   where
     go : (b : Bool) → Leaves n s (cond b s (with_sorted r (canonical c) s))
@@ -122,7 +122,7 @@ known_indexed n ls s tidy said = all_map (λ l. (x : ℕ) × (solver_of n (varia
 
 step_leaves : (n : Variables) (step : Step) (s : Session) → AreTidy n → AreSaid n s → IsOfSearch n step → Leaves n s (after step s)
 step_leaves n (AtClause r c hs) s tidy said h =
-    let l = leaves_both n s (knowing_literals c s) (sessions.with_clause r c (knowing_literals c s)) (leaves_known n c s (known_indexed n c s tidy said h)) (leaves_clause n r c (knowing_literals c s) h) in
+    let l = leaves_both n s (knowing_literals c s) (sessions.with_live_clause r c (knowing_literals c s)) (leaves_known n c s (known_indexed n c s tidy said h)) (leaves_clause n r c (knowing_literals c s) h) in
     record { variables = l.variables; solver_names = l.solver_names; assumed = l.assumed; units = l.units; unused = l.unused }
 step_leaves n (UnitClauses us) s tidy said h =
     let l = leaves_both n s (knowing_literals (map (λ u. u.0) us) s) (with_facts (map (λ u. u.0) us) (knowing_literals (map (λ u. u.0) us) s)) (leaves_known n (map (λ u. u.0) us) s (known_indexed n (map (λ u. u.0) us) s tidy said h)) (leaves_facts n (map (λ u. u.0) us) (knowing_literals (map (λ u. u.0) us) s) h) in

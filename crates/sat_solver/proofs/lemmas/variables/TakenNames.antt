@@ -13,13 +13,13 @@ use Rattle.sat_base.specs.steps.Steps.{Step, SolverVarName}
 use Rattle.sat_solver.specs.session.Session.{session_after}
 use Rattle.sat_solver.specs.session.LiveClauses.{with_var}
 use Rattle.sat_solver.specs.variables.Variables.{data_at, global_of, solver_of, AreTidy}
-use Rattle.sat_solver.specs.variables.Search.{KeepsSearch, Gives}
+use Rattle.sat_solver.specs.variables.Search.{KeepsSearch, GivesIndices}
 use Rattle.sat_solver.specs.variables.Indexing.{Indexes}
 use Rattle.sat_solver.specs.declared.variables.solver_vars.Given.{Given}
 use Rattle.sat_solver.specs.declared.load.literals.Taken.{Taken}
-use Rattle.sat_solver.specs.variables.Naming.{Extends}
+use Rattle.sat_solver.specs.variables.Naming.{ExtendsNames}
 use Rattle.sat_solver.specs.variables.Refusing.{names_in}
-use Rattle.sat_solver.specs.load.Literals.{StandsFor, SameLiterals, Image, Images, NoWitness, global_in, Takes}
+use Rattle.sat_solver.specs.load.Literals.{StandsFor, SameLiterals, Image, Images, NoWitness, global_in, BringsLiterals}
 use Rattle.sat_checker.specs.matching.Expected.{NewName, bringing}
 use Rattle.sat_solver.specs.variables.Calls.{NamesInvariant, NamesRefineJudge, Brought}
 use Rattle.sat_solver.specs.declared.variables.Variables.{Variables}
@@ -43,15 +43,15 @@ Brings old new from to lits = NamesRefineJudge old new from to (bring_all (names
 pub record Taking (old now : Variables) (from steps : List Step) (all : List ℕ) (index : ℕ) (items : List ℕ) (given : List Given) : Type 0 where
   pub first : AreInverse old.solver_from_global
   pub stands : NamesInvariant now steps
-  pub extends : Extends old now
+  pub extends : ExtendsNames old now
   pub count : length items ≡ index
   pub each : (k : ℕ) → k < index → Image now (get_or all k 0) (get_or items k 0)
-  pub gives : Gives old now (session_after from) given
+  pub gives : GivesIndices old now (session_after from) given
   pub search : KeepsSearch (session_after from) (session_after steps)
   pub comes : OnlyAllowedSteps (MayTake (names_in all)) from steps
   pub rest : (new : Variables) (to : List Step) → Brings now new steps to (drop index all) → Brings old new from to all
 
-image_stays : (old new : Variables) (l code : ℕ) → Extends old new → ((v x : ℕ) → solver_of old v ≡ Some x → solver_of new v ≡ Some x) → Image old l code → Image new l code
+image_stays : (old new : Variables) (l code : ℕ) → ExtendsNames old new → ((v x : ℕ) → solver_of old v ≡ Some x → solver_of new v ≡ Some x) → Image old l code → Image new l code
 image_stays old new l code e stays i = record { variable_is = i.variable_is; index_is = i.index_is; named = (e.stays (variable l) i.variable_is i.named).0; indexed = stays i.variable_is i.index_is i.indexed; is = i.is }
 
 -- one literal's name and index
@@ -63,7 +63,7 @@ one_taken old now mid new from log mids to all items next before after index l v
   extends = extends_both old now new t.extends both;
   count = ap length e ∙ length-append items (code ∷ []) ∙ ap (λ k. k + 1) t.count;
   each = each;
-  gives = subst (Gives old new (session_after from)) (sym indexes.listed)
+  gives = subst (GivesIndices old new (session_after from)) (sym indexes.listed)
       (gives_both old mid new (session_after from) (session_after mids) before indexes.fresh t.first brought.brings.stands.tidy.solvers indexes.does.stands.tidy.solvers (brought.unseen.search.units ∙ t.search.units)
       (gives_unseen old now mid (session_after from) before t.gives brought.unseen.solvers) indexes.gives);
   search = keeps_both (session_after from) (session_after log) (session_after to) t.search (keeps_both (session_after log) (session_after mids) (session_after to) brought.unseen.search indexes.search);
@@ -77,7 +77,7 @@ one_taken old now mid new from log mids to all items next before after index l v
     lowest : (to ≡ mids) ⊎ ((to ≡ SolverVarName v (Some x) ∷ mids) × ((session_after mids).solver_names v ≡ None) × IsNextSolver (session_after mids) (Some x))
     lowest = elim indexes.step [ inl e ↦ inl e | inr e ↦ inr (e.0, brought.brings.stands.said.solver_names v ∙ e.1, next_solver mid (session_after mids) x brought.brings.stands.tidy brought.brings.stands.said e.2) ]
 
-    both : Extends now new
+    both : ExtendsNames now new
     both = extends_both now mid new brought.extends (extends_kept mid new indexes.users indexes.kept)
 
     stays : (w y : ℕ) → solver_of now w ≡ Some y → solver_of new w ≡ Some y
@@ -102,13 +102,13 @@ none_taken old from all items given stands e f = record {
   extends = extends_same old;
   count = ap length e;
   each = λ k lt. absurd (let z : k < 0 = lt in omega arith);
-  gives = subst (Gives old old (session_after from)) (sym f) (gives_none old (session_after from));
+  gives = subst (GivesIndices old old (session_after from)) (sym f) (gives_none old (session_after from));
   search = keeps_same (session_after from);
   comes = comes_none (MayTake (names_in all)) from;
   rest = λ new to more. more;
 }
 
-pub all_taken : (old new : Variables) (from to : List Step) (all : List ℕ) (t : Taken) (index : ℕ) → length all ≤ index → index ≤ length all → Taking old new from to all index t.order.items t.given.items → Takes old new from to all t
+pub all_taken : (old new : Variables) (from to : List Step) (all : List ℕ) (t : Taken) (index : ℕ) → length all ≤ index → index ≤ length all → Taking old new from to all index t.order.items t.given.items → BringsLiterals old new from to all t
 all_taken old new from to all t index le ge taking = record {
   does = taking.rest new to (subst (Brings new new to to) (sym (drop_all index all le)) (does_none new to taking.stands));
   extends = taking.extends;
@@ -158,7 +158,7 @@ map_among f y (x ∷ xs) (inl e) = (x, inl refl, e)
 map_among f y (x ∷ xs) (inr m) = let p = map_among f y xs m in (p.0, inr p.1, p.2)
 
 -- literals that have the same members as those in order, over the proof's variables
-pub same_literals : (old new : Variables) (user order set clause : List ℕ) → AreTidy new → Extends old new → NoWitness old user → Images new user order → ((x : ℕ) → Among x order → Among x set) → ((x : ℕ) → Among x set → Among x order) → clause ≡ map (with_var (global_in new)) set → SameLiterals new user clause
+pub same_literals : (old new : Variables) (user order set clause : List ℕ) → AreTidy new → ExtendsNames old new → NoWitness old user → Images new user order → ((x : ℕ) → Among x order → Among x set) → ((x : ℕ) → Among x set → Among x order) → clause ≡ map (with_var (global_in new)) set → SameLiterals new user clause
 same_literals old new user order set clause tidy extends none images more less e = record {
   there = all_from (λ l. (code : ℕ) × StandsFor new l code × Among code clause) user (λ l m.
       let p = at_place user l m in

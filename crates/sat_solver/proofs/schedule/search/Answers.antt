@@ -1,11 +1,11 @@
 use Rattle.std.proofs.Common.{ℕ, ◌+◌, ◌-◌, ◌≤◌, ◌≡◌, ◌∙◌, subst, refl, sym, arith}
 use Rattle.std.proofs.lemmas.Bool.{true≢false}
 use Rattle.std.proofs.lemmas.Result.{err_from_is_err_and}
-use Rattle.sat_parts.specs.parts.Words.{standing}
+use Rattle.sat_parts.specs.parts.Words.{trail_letters}
 use Rattle.sat_solver.specs.declared.context.Core.{Core}
 use Rattle.sat_solver.specs.schedule.Climbing.{Climbs}
 use Rattle.sat_solver.specs.schedule.Rounds.{no_round, one_more as one_more_round}
-use Rattle.sat_solver.specs.schedule.Solving.{words_in, values_in, Gone, Ended, RoundOf}
+use Rattle.sat_solver.specs.schedule.Solving.{words_in, values_in, ComesByRounds, Ended, RoundOf}
 use Rattle.sat_solver.proofs.lemmas.schedule.ProgressLemmas.{come_begins, come_climbs, come_keeps, few_rounds, none_left}
 use Rattle.sat_solver.proofs.lemmas.schedule.SolvingLemmas.{core_word, gone_none, reduced_sound, reduced_words, reduced_goes, reduced_fails, round_sound, round_most, round_words, round_goes, round_ends, round_fails}
 use Rattle.sat_solver.proofs.schedule.search.Goals as goal
@@ -30,8 +30,8 @@ loop-steps-init g c =
       most = refl;
       before = omega arith;
       within = omega (arith, c.saturating_add-end.ensures);
-      come = λ few. come_begins words_in core (values_in core) c.args.steps.now c.args.restarts.now.next c.args.restarts.now.sequence (standing core.search.parts.trail) (core_word core) few;
-      goes = from_start (λ k. Gone g.W.CountedWrite.seen core c.args.names.now k core c.args.names.now) c.args.steps.now (gone_none g.W.CountedWrite.seen core c.args.names.now c.requires.joined.stands);
+      come = λ few. come_begins words_in core (values_in core) c.args.steps.now c.args.restarts.now.next c.args.restarts.now.sequence (trail_letters core.search.parts.trail) (core_word core) few;
+      goes = from_start (λ k. ComesByRounds g.W.CountedWrite.seen core c.args.names.now k core c.args.names.now) c.args.steps.now (gone_none g.W.CountedWrite.seen core c.args.names.now c.requires.joined.stands);
       rounds = no_round;
     }
 
@@ -84,7 +84,7 @@ loop-steps-preserved g c =
           (reduced_words seen b r c.loop-steps.names c.loop-steps.steps refl restarted tt c.in_ok-reduce.ensures)
           (c.restart_where_due.ensures.come n c.args.steps.now (i.come few)));
       goes =
-          one_more (λ k. Gone seen c.args.core.now c.args.names.now k d names) c.loop-steps.steps c.args.steps.now i.before
+          one_more (λ k. ComesByRounds seen c.args.core.now c.args.names.now k d names) c.loop-steps.steps c.args.steps.now i.before
           (round_goes seen r d c.loop-steps.names names refl sound out rounded learned c.args.core.now c.args.names.now (c.loop-steps.steps - c.args.steps.now)
           (reduced_goes seen b r c.loop-steps.names c.loop-steps.steps refl restarted tt c.in_ok-reduce.ensures c.args.core.now c.args.names.now (c.loop-steps.steps - c.args.steps.now)
           (c.restart_where_due.ensures.goes c.args.core.now c.args.names.now c.loop-steps.names (c.loop-steps.steps - c.args.steps.now) i.goes)));

@@ -1,7 +1,7 @@
 use Rattle.std.proofs.Common.{◌≡◌, ◌-◌, ◌<◌, ◌≤◌}
 use Rattle.sat_solver.specs.schedule.Climbing.{HasCome}
 use Rattle.sat_solver.specs.schedule.Rounds.{AreRounds}
-use Rattle.sat_solver.specs.schedule.Solving.{words_in, values_in, Gone, Restarted, ReducedAt, RoundOf}
+use Rattle.sat_solver.specs.schedule.Solving.{words_in, values_in, ComesByRounds, Restarted, ReducedAt, RoundOf}
 use Rattle.sat_solver.specs.solver.Joined.{IsJoined}
 use Rattle.sat_solver.proofs.schedule.search.Given as goal
 
@@ -14,7 +14,7 @@ invariant-loop-steps g l = record {
   before : l.fn.steps ≤ l.steps;
   within : l.steps ≤ l.end;
   come : values_in l.fn.core < 63 → HasCome words_in l.core (values_in l.fn.core) l.fn.steps l.steps l.restarts.next l.restarts.sequence;
-  goes : Gone g.W.CountedWrite.seen l.fn.core l.fn.names (l.steps - l.fn.steps) l.core l.names;
+  goes : ComesByRounds g.W.CountedWrite.seen l.fn.core l.fn.names (l.steps - l.fn.steps) l.core l.names;
   rounds : AreRounds Restarted ReducedAt (RoundOf g.W.CountedWrite.seen) l.fn.core l.fn.names l.fn.restarts l.fn.steps l.core l.names l.restarts l.steps;
 }
 

@@ -7,7 +7,7 @@ use Rattle.std.proofs.lemmas.Bool.{cases_eq, cases_lt}
 use Rattle.std.specs.List.{Contains, All}
 use Rattle.sat_base.specs.values.Literals.{largest}
 use Rattle.sat_store.specs.clause.Header.{Header, header_of}
-use Rattle.sat_store.specs.clause.Buffer.{header_at, lits_at, IsClause, Apart, Laid, Keeps, ChangesAt, Adds}
+use Rattle.sat_store.specs.clause.Buffer.{header_at, lits_at, IsClause, Apart, Laid, SameClauseAt, ChangesAt, AppendsClause}
 
 -- the clause's length is its header's and that of its literals
 
@@ -32,7 +32,7 @@ same_lits v w o p c d n e =
     ext_get_or 0 (lits_at w p) (lits_at v o) (lw ∙ n ∙ sym lv)
     (λ k h. lit_there w p k (omega arith) ∙ e k (omega arith) ∙ sym (lit_there v o k (omega arith)))
 
-pub kept : (v w : List ℕ) (p : ℕ) → IsClause v p → length v ≤ length w → ((i : ℕ) → p ≤ i → i < p + 3 + get_or v (p + 2) 0 → get_or w i 0 ≡ get_or v i 0) → Keeps v w p
+pub kept : (v w : List ℕ) (p : ℕ) → IsClause v p → length v ≤ length w → ((i : ℕ) → p ≤ i → i < p + 3 + get_or v (p + 2) 0 → get_or w i 0 ≡ get_or v i 0) → SameClauseAt v w p
 unfolding header_at
 kept v w p c longer same =
     let e0 : get_or w p 0 ≡ get_or v p 0 = same p (omega arith) (omega arith) in
@@ -50,14 +50,14 @@ kept v w p c longer same =
       lits = same_lits v w p p c clause e2 ls;
     }
 
-same_len : (v w : List ℕ) (p : ℕ) → Keeps v w p → get_or w (p + 2) 0 ≡ get_or v (p + 2) 0
+same_len : (v w : List ℕ) (p : ℕ) → SameClauseAt v w p → get_or w (p + 2) 0 ≡ get_or v (p + 2) 0
 same_len v w p keeps = sym (header_len w p) ∙ ap (λ (h : Header). h.len) keeps.header ∙ header_len v p
 
 still_apart : (v w : List ℕ) (p q : ℕ) → Apart v p q → get_or w (p + 2) 0 ≤ get_or v (p + 2) 0 → get_or w (q + 2) 0 ≤ get_or v (q + 2) 0 → Apart w p q
 unfolding Apart
 still_apart v w p q apart a b = elim apart [ inl before ↦ inl (omega arith) | inr behind ↦ inr (omega arith) ]
 
-pub others_kept : (v w : List ℕ) (o : ℕ) → length w ≡ length v → ((i : ℕ) → i < o → get_or w i 0 ≡ get_or v i 0) → ((i : ℕ) → o + 3 + get_or v (o + 2) 0 ≤ i → get_or w i 0 ≡ get_or v i 0) → (p : ℕ) → IsClause v p → Apart v o p → Keeps v w p
+pub others_kept : (v w : List ℕ) (o : ℕ) → length w ≡ length v → ((i : ℕ) → i < o → get_or w i 0 ≡ get_or v i 0) → ((i : ℕ) → o + 3 + get_or v (o + 2) 0 ≤ i → get_or w i 0 ≡ get_or v i 0) → (p : ℕ) → IsClause v p → Apart v o p → SameClauseAt v w p
 unfolding Apart
 others_kept v w o size below above p c apart = elim apart [
   | inl before ↦ kept v w p c (omega arith) (λ i h k. above i (omega arith))
@@ -67,7 +67,7 @@ others_kept v w o size below above p c apart = elim apart [
 -- a write within the words of the clause at o, which is at most as long as before
 pub changes_at : (v w : List ℕ) (o : ℕ) → IsClause v o → IsClause w o → length w ≡ length v → get_or w (o + 2) 0 ≤ get_or v (o + 2) 0 → ((i : ℕ) → i < o → get_or w i 0 ≡ get_or v i 0) → ((i : ℕ) → o + 3 + get_or v (o + 2) 0 ≤ i → get_or w i 0 ≡ get_or v i 0) → ChangesAt v w o
 changes_at v w o was now size shorter below above =
-    let others : (p : ℕ) → IsClause v p → Apart v o p → Keeps v w p = others_kept v w o size below above in
+    let others : (p : ℕ) → IsClause v p → Apart v o p → SameClauseAt v w p = others_kept v w o size below above in
     let no_longer : (live : List ℕ) → Contains live o → Laid v live → (p : ℕ) → Contains live p → get_or w (p + 2) 0 ≤ get_or v (p + 2) 0 = λ live has laid p c. elim (cases_eq p o) [
       | inl same ↦ subst (λ (x : ℕ). get_or w (x + 2) 0 ≤ get_or v (x + 2) 0) (sym same) shorter
       | inr other ↦ omega (arith, same_len v w p (others p (laid.clauses p c) (laid.apart o p has c (λ e. other (sym e)))))
@@ -125,7 +125,7 @@ changes_lit w o k x c within small =
 
 -- two writes one after the other
 
-keeps_twice : (u v w : List ℕ) (p : ℕ) → Keeps u v p → Keeps v w p → Keeps u w p
+keeps_twice : (u v w : List ℕ) (p : ℕ) → SameClauseAt u v p → SameClauseAt v w p → SameClauseAt u w p
 keeps_twice u v w p a b = record { clause = b.clause; header = b.header ∙ a.header; lits = b.lits ∙ a.lits }
 
 pub changes_twice : (u v w : List ℕ) (o : ℕ) → get_or v (o + 2) 0 ≤ get_or u (o + 2) 0 → ChangesAt u v o → ChangesAt v w o → ChangesAt u w o
@@ -133,7 +133,7 @@ changes_twice u v w o shorter a b = record {
   clause = b.clause;
   size = b.size ∙ a.size;
   others = λ p c apart.
-      let first : Keeps u v p = a.others p c apart in
+      let first : SameClauseAt u v p = a.others p c apart in
       keeps_twice u v w p first (b.others p first.clause (still_apart u v o p apart shorter (omega (arith, same_len u v p first))));
   laid = λ live has laid. b.laid live has (a.laid live has laid);
 }
@@ -318,13 +318,13 @@ wrote_clause v a f ls =
       behind = λ k. let e : length v + 3 + k ≡ length v + suc (suc (suc k)) = omega arith in ap (λ (i : ℕ). get_or (v ++ new) i 0) e ∙ get_or-append-add v new (suc (suc (suc k))) 0;
     }
 
-apart_behind : (v w : List ℕ) (p : ℕ) → IsClause v p → Keeps v w p → Apart w p (length v) × Apart w (length v) p
+apart_behind : (v w : List ℕ) (p : ℕ) → IsClause v p → SameClauseAt v w p → Apart w p (length v) × Apart w (length v) p
 unfolding Apart
 apart_behind v w p c keeps =
     let n : get_or w (p + 2) 0 ≡ get_or v (p + 2) 0 = same_len v w p keeps in
     (inl (omega (arith, c.whole)), inr (omega (arith, c.whole)))
 
-pub added_clause : (v w : List ℕ) (a f : ℕ) (ls : List ℕ) (h : Header) → WroteClause v w a f ls → f < 2 ^ 11 → All (λ l. l < 2 * largest) ls → header_of a f h.len ≡ h → Adds v w (length v) h ls
+pub added_clause : (v w : List ℕ) (a f : ℕ) (ls : List ℕ) (h : Header) → WroteClause v w a f ls → f < 2 ^ 11 → All (λ l. l < 2 * largest) ls → header_of a f h.len ≡ h → AppendsClause v w (length v) h ls
 unfolding header_at
 added_clause v w a f ls h wrote small fit is =
     let size : length w ≡ length v + 3 + length ls = wrote.size in
@@ -334,7 +334,7 @@ added_clause v w a f ls h wrote small fit is =
       whole = omega arith;
       lits = λ k p. let e : get_or w (length v + 3 + k) 0 ≡ get_or ls k 0 = wrote.behind k in omega (arith, fit k 0 (omega arith));
     } in
-    let others : (p : ℕ) → IsClause v p → Keeps v w p = λ p c. kept v w p c (omega arith) (λ i x y. wrote.before i (omega (arith, c.whole))) in
+    let others : (p : ℕ) → IsClause v p → SameClauseAt v w p = λ p c. kept v w p c (omega arith) (λ i x y. wrote.before i (omega (arith, c.whole))) in
     let count : length (lits_at w (length v)) ≡ length ls = lits_count w (length v) clause ∙ third in
     record {
       place = refl;
@@ -353,8 +353,8 @@ added_clause v w a f ls h wrote small fit is =
         apart = λ o p has_o has_p differ. elim (Contains-append_cases live (length v ∷ []) o has_o) [
           | inl old_o ↦ elim (Contains-append_cases live (length v ∷ []) p has_p) [
             | inl old_p ↦
-                let keeps_o : Keeps v w o = others o (laid.clauses o old_o) in
-                let keeps_p : Keeps v w p = others p (laid.clauses p old_p) in
+                let keeps_o : SameClauseAt v w o = others o (laid.clauses o old_o) in
+                let keeps_p : SameClauseAt v w p = others p (laid.clauses p old_p) in
                 still_apart v w o p (laid.apart o p old_o old_p differ) (omega (arith, same_len v w o keeps_o)) (omega (arith, same_len v w p keeps_p))
             | inr new_p ↦ subst (Apart w o) (sym (single (length v) p new_p)) (apart_behind v w o (laid.clauses o old_o) (others o (laid.clauses o old_o))).0
           ]
@@ -366,10 +366,10 @@ added_clause v w a f ls h wrote small fit is =
       };
     }
 
-pub pushed_clause : (v w x : List ℕ) (c a f l : ℕ) (ls : List ℕ) (h : Header) → v ≡ w → c ≡ length v → x ≡ v ++ a ∷ [] ++ f ∷ [] ++ l ∷ [] ++ ls → l ≡ length ls → f < 2 ^ 11 → All (λ l. l < 2 * largest) ls → a ≡ h.activity → header_of h.activity f h.len ≡ h → Adds w x c h ls
+pub pushed_clause : (v w x : List ℕ) (c a f l : ℕ) (ls : List ℕ) (h : Header) → v ≡ w → c ≡ length v → x ≡ v ++ a ∷ [] ++ f ∷ [] ++ l ∷ [] ++ ls → l ≡ length ls → f < 2 ^ 11 → All (λ l. l < 2 * largest) ls → a ≡ h.activity → header_of h.activity f h.len ≡ h → AppendsClause w x c h ls
 pushed_clause v w x c a f l ls h e place is len small fit active head =
     let whole : x ≡ w ++ (h.activity ∷ f ∷ length ls ∷ ls) = is ∙ rw (active, len, e) (simp append_assoc) in
-    let here : Adds w (w ++ (h.activity ∷ f ∷ length ls ∷ ls)) (length w) h ls = added_clause w (w ++ (h.activity ∷ f ∷ length ls ∷ ls)) h.activity f ls h (wrote_clause w h.activity f ls) small fit head in
+    let here : AppendsClause w (w ++ (h.activity ∷ f ∷ length ls ∷ ls)) (length w) h ls = added_clause w (w ++ (h.activity ∷ f ∷ length ls ∷ ls)) h.activity f ls h (wrote_clause w h.activity f ls) small fit head in
     rw (whole, place, e) here
 
 pub one_more : (v items ls : List ℕ) (i x y : ℕ) → i < length ls → x ≡ get_or ls i x → y ≡ x → items ≡ v ++ take i ls → items ++ y ∷ [] ≡ v ++ take (i + 1) ls
@@ -456,16 +456,16 @@ copied_words v u o m c is =
           ];
     }
 
-pub copied_clause : (v w x u : List ℕ) (c o m : ℕ) → v ≡ w → c ≡ length v → x ≡ v ++ take m (drop o u) → IsClause u o → m ≡ 3 + get_or u (o + 2) 0 → All (λ l. l < 2 * largest) (lits_at u o) → Adds w x c (header_at u o) (lits_at u o)
+pub copied_clause : (v w x u : List ℕ) (c o m : ℕ) → v ≡ w → c ≡ length v → x ≡ v ++ take m (drop o u) → IsClause u o → m ≡ 3 + get_or u (o + 2) 0 → All (λ l. l < 2 * largest) (lits_at u o) → AppendsClause w x c (header_at u o) (lits_at u o)
 unfolding header_at
 copied_clause v w x u c o m e place is clause size fit =
-    let here : Adds w (w ++ take m (drop o u)) (length w) (header_at u o) (lits_at u o) =
+    let here : AppendsClause w (w ++ take m (drop o u)) (length w) (header_at u o) (lits_at u o) =
     added_clause w (w ++ take m (drop o u)) (get_or u o 0) (get_or u (o + 1) 0) (lits_at u o) (header_at u o) (copied_words w u o m clause size) clause.flags fit refl in
     let whole : x ≡ w ++ take m (drop o u) = is ∙ ap (λ (ws : List ℕ). ws ++ take m (drop o u)) e in
     rw (whole, place, e) here
 
 -- the same, where the call knows the other buffer's words under another name
-pub copied_by : (v w x u t : List ℕ) (c o p n : ℕ) → v ≡ w → t ≡ u → p ≡ o → c ≡ length v → n ≡ get_or t (p + 2) n → x ≡ v ++ take (p + 3 + n - p) (drop p t) → IsClause u o → All (λ l. l < 2 * largest) (lits_at u o) → Adds w x c (header_at u o) (lits_at u o)
+pub copied_by : (v w x u t : List ℕ) (c o p n : ℕ) → v ≡ w → t ≡ u → p ≡ o → c ≡ length v → n ≡ get_or t (p + 2) n → x ≡ v ++ take (p + 3 + n - p) (drop p t) → IsClause u o → All (λ l. l < 2 * largest) (lits_at u o) → AppendsClause w x c (header_at u o) (lits_at u o)
 copied_by v w x u t c o p n e same f place read is clause fit =
     let there : n ≡ get_or u (o + 2) 0 = (len_read t u p o n same f clause read).0 ∙ lits_count u o clause in
     let m : p + 3 + n - p ≡ 3 + get_or u (o + 2) 0 = omega arith in

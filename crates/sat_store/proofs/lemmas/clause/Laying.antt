@@ -4,7 +4,7 @@ use Rattle.std.proofs.lemmas.List.{get_or_default}
 use Rattle.std.specs.List.{Contains, All}
 use Rattle.sat_base.specs.values.Literals.{largest}
 use Rattle.sat_store.specs.clause.Header.{Header}
-use Rattle.sat_store.specs.clause.Buffer.{header_at, lits_at, IsClause, Apart, Laid, Keeps, ChangesAt, Adds}
+use Rattle.sat_store.specs.clause.Buffer.{header_at, lits_at, IsClause, Apart, Laid, SameClauseAt, ChangesAt, AppendsClause}
 use Rattle.sat_store.proofs.lemmas.clause.BufferLemmas.{lits_count, lit_there, header_len}
 
 -- nothing is live in an empty buffer
@@ -22,11 +22,11 @@ laid_among words live some among laid = record {
 }
 
 -- a change of one live clause keeps each other one
-pub kept_beside : (old new live : List ℕ) (o p : ℕ) → Laid old live → Contains live o → Contains live p → p ≢ o → ChangesAt old new o → Keeps old new p
+pub kept_beside : (old new live : List ℕ) (o p : ℕ) → Laid old live → Contains live o → Contains live p → p ≢ o → ChangesAt old new o → SameClauseAt old new p
 kept_beside old new live o p laid has_o has_p differ change = change.others p (laid.clauses p has_p) (laid.apart o p has_o has_p (λ e. differ (sym e)))
 
 -- a clause added keeps each live one, and isn't one of them
-pub kept_below : (old new live : List ℕ) (c p : ℕ) (header : Header) (lits : List ℕ) → Laid old live → Contains live p → Adds old new c header lits → Keeps old new p
+pub kept_below : (old new live : List ℕ) (c p : ℕ) (header : Header) (lits : List ℕ) → Laid old live → Contains live p → AppendsClause old new c header lits → SameClauseAt old new p
 kept_below old new live c p header lits laid has added = added.others p (laid.clauses p has)
 
 -- the length in the header is that of the literals

@@ -13,7 +13,7 @@ use Rattle.sat_store.specs.heap.Vsids.{Queue, activity_of, bumped, quotient_up, 
 use Rattle.sat_store.proofs.lemmas.heap.OrderLemmas.{top_greatest, raised_up}
 use Rattle.sat_store.proofs.lemmas.heap.FlagLemmas.{flag_at, flags_count, flags_taken, flags_given}
 use Rattle.sat_store.proofs.lemmas.heap.MoveLemmas.{key_of, keys_count}
-use Rattle.sat_store.specs.heap.Heap.{no_entry, var_at, key_at, Placed, rank, rank_at, parent, Ordered, UpFrom, DownFrom, Exchanges, Exchanged, Transposes, Rearranged, Adds, flags, keys, scaled, IsHeap}
+use Rattle.sat_store.specs.heap.Heap.{no_entry, var_at, key_at, Placed, rank, rank_at, parent, Ordered, UpFrom, DownFrom, Exchanges, Exchanged, Transposes, Rearranged, AddsHeapVars, flags, keys, scaled, IsHeap}
 
 -- one more variable
 
@@ -264,7 +264,7 @@ scaled_keys h p =
 pub one_more_copy {ℓ} : {X : Type ℓ} → (xs ys : List X) (x : X) (k : ℕ) → ys ≡ xs ++ replicate k x → ys ++ x ∷ [] ≡ xs ++ replicate (k + 1) x
 one_more_copy xs ys x k is = ap (λ zs. zs ++ x ∷ []) is ∙ append_assoc xs (replicate k x) (x ∷ []) ∙ ap (λ zs. xs ++ zs) (replicate-append-replicate k 1 x)
 
-pub none_added : (h : List Entry) (p : List ℕ) (n : ℕ) → n ≡ length h → Adds n h p h p
+pub none_added : (h : List Entry) (p : List ℕ) (n : ℕ) → n ≡ length h → AddsHeapVars n h p h p
 none_added h p n is =
     let none : n - length h ≡ 0 = omega arith in
     record {
@@ -272,7 +272,7 @@ none_added h p n is =
       keys = sym (ap (λ (k : ℕ). keys h p ++ replicate k 0) none ∙ append-nil (keys h p));
     }
 
-pub one_more_added : (h h' : List Entry) (p p' : List ℕ) (i : ℕ) → length h ≤ i → length h' ≡ i → Placed h' p' → Adds i h p h' p' → Adds (i + 1) h p (h' ++ newcomer i ∷ []) (p' ++ i ∷ [])
+pub one_more_added : (h h' : List Entry) (p p' : List ℕ) (i : ℕ) → length h ≤ i → length h' ≡ i → Placed h' p' → AddsHeapVars i h p h' p' → AddsHeapVars (i + 1) h p (h' ++ newcomer i ∷ []) (p' ++ i ∷ [])
 one_more_added h h' p p' i some count placed adds =
     let more : i + 1 - length h ≡ i - length h + 1 = omega arith in
     let grown : keys (h' ++ newcomer i ∷ []) (p' ++ i ∷ []) ≡ keys h' p' ++ 0 ∷ [] = subst (λ (x : ℕ). keys (h' ++ newcomer x ∷ []) (p' ++ x ∷ []) ≡ keys h' p' ++ 0 ∷ []) count (grown_keys h' p' placed) in

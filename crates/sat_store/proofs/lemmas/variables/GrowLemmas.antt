@@ -3,7 +3,7 @@ use Rattle.std.proofs.Common.{ℕ, ◌≡◌, ◌≢◌, ◌+◌, ◌-◌, ◌*�
 use Rattle.std.proofs.lemmas.Bool.{cases_lt, ne_eqb, eq-eqb}
 use Rattle.std.proofs.lemmas.List.{get_or_append_left, get_or-append_right, get_or-replicate, get_or-take, get_or_past, length-replicate, length-take, take_all}
 use Rattle.sat_store.specs.variables.Flags.{flags_for, GrowsFlags}
-use Rattle.sat_store.specs.variables.Maps.{target, PutsTarget, GrowsMap, Both, Links, GrowsBoth}
+use Rattle.sat_store.specs.variables.Maps.{target, PutsTarget, GrowsMap, MapAndInverse, Links, GrowsBoth}
 
 flags_size : (count : ℕ) (fs : List Bool) → length (flags_for count fs) ≡ 2 * count
 flags_size count fs =
@@ -48,7 +48,7 @@ grows_map old new from into put size =
       watermark = size;
     }
 
-pub grows_both : (old new : Both) (from into : ℕ) → Links old new from into → GrowsBoth old new from into
+pub grows_both : (old new : MapAndInverse) (from into : ℕ) → Links old new from into → GrowsBoth old new from into
 grows_both old new from into h = record {
   fwd = grows_map old.fwd new.fwd from into h.fwd h.fwd_watermark;
   bwd = grows_map old.bwd new.bwd into from h.bwd h.bwd_watermark;

@@ -3,7 +3,7 @@ use Rattle.sat_base.specs.steps.StepViews.{step_of}
 use Rattle.certify.specs.declared.confirm.expect.Expected.{Expected}
 use Rattle.certify.specs.declared.confirm.expect.Expected.TheVariants as code
 use Rattle.certify.specs.declared.verdict.Why.TheVariants.{AnswerDiffers}
-use Rattle.certify.specs.confirm.SpeltLiterals.{AllAmong, Tells}
+use Rattle.certify.specs.confirm.SpeltLiterals.{AllAmong, AnswersWhether}
 use Rattle.certify.specs.judge.Names.{ListsUsed}
 use Rattle.certify.specs.confirm.Comparing.{Compares, ComparesLine, due_of}
 use Rattle.certify.proofs.lemmas.confirm.Compared.{if_ok, model_unlisted, model_told}
@@ -35,7 +35,7 @@ returns-then-not-branch c =
     let names = c.in-Model.names.now in
     let ask = c.in-Model.ask.now in
     let line = c.in-Model.line.now in
-    let none = subst (λ (b : Bool). Tells b (ListsUsed names line × AllAmong ask line)) c.if-not-branch.true c.in_ok-is_line-in-Model.ensures in
+    let none = subst (λ (b : Bool). AnswersWhether b (ListsUsed names line × AllAmong ask line)) c.if-not-branch.true c.in_ok-is_line-in-Model.ensures in
     subst (λ (d : Expected). Compares (due_of d) c.args.known (step_of c.args.step.now) (Some AnswerDiffers)) (sym c.in-Model.is)
     (model_unlisted c.args.known (step_of c.args.step.now) names ask line AnswerDiffers none)
 
@@ -44,7 +44,7 @@ returns-else-not-branch c =
     let names = c.in-Model.names.now in
     let ask = c.in-Model.ask.now in
     let line = c.in-Model.line.now in
-    let both = subst (λ (b : Bool). Tells b (ListsUsed names line × AllAmong ask line)) c.if-not-branch.false c.in_ok-is_line-in-Model.ensures in
+    let both = subst (λ (b : Bool). AnswersWhether b (ListsUsed names line × AllAmong ask line)) c.if-not-branch.false c.in_ok-is_line-in-Model.ensures in
     subst (λ (d : Expected). IfOk c.compare_line.result (Compares (due_of d) c.args.known (step_of c.args.step.now))) (sym c.in-Model.is)
     (if_ok c.compare_line.result (ComparesLine c.args.known line (step_of c.args.step.now)) (Compares (due_of (code.Model c.in-Model.names c.in-Model.ask c.in-Model.line)) c.args.known (step_of c.args.step.now))
     (λ r told. model_told c.args.known (step_of c.args.step.now) names ask line r both.0 both.1 told) c.compare_line.ensures)

@@ -1,5 +1,5 @@
 use Rattle.std.proofs.Common.{◌≡◌, ◌++◌, ◌∙◌, List, ℕ, [], append-nil, ap, sym, subst, rules}
-use Rattle.sat_base.specs.device.Device.{Takes}
+use Rattle.sat_base.specs.device.Device.{WriterTakes}
 use Rattle.sat_base.proofs.lemmas.device.Writes.{took_more}
 use Rattle.sat_checker.specs.matching.ProofChecking.{the_checking}
 use Rattle.certify.specs.confirm.Matches.{Matches}
@@ -23,12 +23,12 @@ returns-clause-printed g c =
     let yes : c.in_ok-verdict.verdict ≡ Yes = c.in_ok-verdict.ensures.exact.1 matches in
     let last = verdict_text Yes in
     let is_last = c.deref-4.ensures.value ∙ c.in_ok-verdict.ensures.line ∙ ap (λ (xs : List ℕ). xs ++ verdict_text c.in_ok-verdict.verdict) c.new-line.ensures.items ∙ ap verdict_text yes in
-    let line = took_more b d f last [] (subst (Takes b d) is_last c.in_ok-write_out-2.ensures) c.in_ok-flush_out.ensures.took in
-    let answers = subst (Takes a b) (c.deref.ensures.value ∙ sym c.deref-2.ensures.value) c.in_ok-write_out.ensures in
+    let line = took_more b d f last [] (subst (WriterTakes b d) is_last c.in_ok-write_out-2.ensures) c.in_ok-flush_out.ensures.took in
+    let answers = subst (WriterTakes a b) (c.deref.ensures.value ∙ sym c.deref-2.ensures.value) c.in_ok-write_out.ensures in
     record {
       answers = printed;
       answered = subst (IsAnswered text) (sym c.deref-2.ensures.value) written.answered;
-      printed = took_more a b f printed last answers (subst (Takes b f) (append-nil last) line);
+      printed = took_more a b f printed last answers (subst (WriterTakes b f) (append-nil last) line);
       flushed = c.in_ok-flush_out.ensures.flushed;
       done = search rules;
     }

@@ -1,9 +1,9 @@
 use Rattle.std.proofs.Common.{◌≡◌, [], ◌∷◌, refl, subst, rules}
-use Rattle.sat_base.specs.device.Device.{Breaks}
+use Rattle.sat_base.specs.device.Device.{WriterBreaks}
 use Rattle.sat_base.specs.script.Language.{onto_commands}
 use Rattle.certify.specs.answers.Answers.{refused_line}
 use Rattle.certify.specs.judge.Names.{refusal_in}
-use Rattle.certify.specs.run.Unfinished.{TookFront}
+use Rattle.certify.specs.run.Unfinished.{TookAnswersFront}
 use Rattle.std.proofs.lemmas.Result.{err_from_is_err_and}
 use Rattle.certify.specs.run.SolverCalls.{proof_in}
 use Rattle.certify.proofs.lemmas.run.SessionCalls.{err_map, memory_says, on_err, took_none, written_of}
@@ -33,8 +33,8 @@ returns-clause-stops g c j d left e =
     let n = c.args.session.now.commands in
     let why = refusal_in c.args.refusal in
     let line : c.deref.result.now ≡ refused_line n why = search rules in
-    err_map c.write_answer.result (Breaks u v c.deref.result.now) (TookFront n j (onto_commands (d ∷ []) left) u v)
-    (λ b. front_refused n j d why left u v e (subst (Breaks u v) line b)) c.write_answer.ensures.breaks
+    err_map c.write_answer.result (WriterBreaks u v c.deref.result.now) (TookAnswersFront n j (onto_commands (d ∷ []) left) u v)
+    (λ b. front_refused n j d why left u v e (subst (WriterBreaks u v) line b)) c.write_answer.ensures.breaks
 
 pub returns-in_err-push_refused-clause-cause : goal.returns-in_err-push_refused-clause-cause
 returns-in_err-push_refused-clause-cause g c =

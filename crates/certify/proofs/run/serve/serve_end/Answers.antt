@@ -4,7 +4,7 @@ use Rattle.certify.specs.declared.script.ScriptEnd.{ScriptEnd}
 use Rattle.certify.specs.script.Commands.{end_reading}
 use Rattle.certify.specs.run.SolverCalls.{proof_in}
 use Rattle.sat_base.specs.script.Script.{Clean, Malformed}
-use Rattle.certify.specs.run.Unfinished.{TookFront}
+use Rattle.certify.specs.run.Unfinished.{TookAnswersFront}
 use Rattle.certify.specs.run.Standing.{CausedOver, StopsOver}
 use Rattle.certify.specs.run.ServedScript.{ServesWhole}
 use Rattle.certify.proofs.lemmas.run.SessionCalls.{took_none}
@@ -66,7 +66,7 @@ returns-in_err-tell_malformed-in-Malformed-clause-stops g c =
     let v = g.A.CountedWrite.seen c.tell_malformed.new.answers in
     let number : c.in-Some.number ≡ s.commands + 1 = search rules in
     rw p.1 (subst (λ (x : ScriptEnd). StopsOver {T = Unit {0}} (Err e) s (end_reading x) u v) (sym c.in-Malformed.is)
-    (λ j at. subst (λ n. TookFront n j ([], Malformed) u v) number (c.in_err-tell_malformed-in-Malformed.ensures.stops j)))
+    (λ j at. subst (λ n. TookAnswersFront n j ([], Malformed) u v) number (c.in_err-tell_malformed-in-Malformed.ensures.stops j)))
 
 pub returns-in_default-clause-cause : goal.returns-in_default-clause-cause
 returns-in_default-clause-cause g c = λ j at. inl (let full : c.args.session.now.commands ≡ 2 ^ 64 - 1 = search rules in omega arith)

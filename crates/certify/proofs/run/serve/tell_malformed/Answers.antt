@@ -1,8 +1,8 @@
 use Rattle.std.proofs.Common.{◌≡◌, [], refl, subst, rules}
-use Rattle.sat_base.specs.device.Device.{Breaks}
+use Rattle.sat_base.specs.device.Device.{WriterBreaks}
 use Rattle.sat_base.specs.script.Script.{Malformed}
 use Rattle.certify.specs.answers.Answers.{malformed_line}
-use Rattle.certify.specs.run.Unfinished.{TookFront}
+use Rattle.certify.specs.run.Unfinished.{TookAnswersFront}
 use Rattle.std.proofs.lemmas.Result.{err_from_is_err_and}
 use Rattle.certify.specs.run.SolverCalls.{proof_in}
 use Rattle.certify.proofs.lemmas.run.SessionCalls.{err_map, memory_says, on_err, took_none, written_of}
@@ -30,8 +30,8 @@ returns-clause-stops g c j =
     let u = g.A.CountedWrite.seen c.args.answers.now in
     let v = g.A.CountedWrite.seen c.write_answer.new.answers in
     let line : c.deref.result.now ≡ malformed_line c.args.number = search rules in
-    err_map c.write_answer.result (Breaks u v c.deref.result.now) (TookFront c.args.number j ([], Malformed) u v)
-    (λ b. front_malformed c.args.number j u v (subst (Breaks u v) line b)) c.write_answer.ensures.breaks
+    err_map c.write_answer.result (WriterBreaks u v c.deref.result.now) (TookAnswersFront c.args.number j ([], Malformed) u v)
+    (λ b. front_malformed c.args.number j u v (subst (WriterBreaks u v) line b)) c.write_answer.ensures.breaks
 
 pub returns-in_err-push_malformed-clause-cause : goal.returns-in_err-push_malformed-clause-cause
 returns-in_err-push_malformed-clause-cause g c =

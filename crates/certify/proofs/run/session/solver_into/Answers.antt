@@ -4,7 +4,7 @@ use Rattle.sat_solver.specs.declared.error.SolverError.{SolverError}
 use Rattle.sat_solver.specs.declared.proof.format.ProofFormat.TheVariants.{Varisat}
 use Rattle.sat_solver.specs.proof.ProofView.{is_checked, is_drat}
 use Rattle.sat_solver.specs.solver.Configuring.{Configures}
-use Rattle.sat_solver.specs.solver.Proving.{Opened, Opens}
+use Rattle.sat_solver.specs.solver.Proving.{Opened, OpensProof}
 use Rattle.certify.specs.run.SolverCalls.{proof_in}
 use Rattle.certify.specs.run.Quiet.{Solver}
 use Rattle.certify.proofs.lemmas.run.NoLines.{none_yet}
@@ -18,7 +18,7 @@ returns-clause-ready g c =
     let mid = c.config.new.self in
     let end = c.write_proof.new.self in
     let seen = g.C.CountedWrite.seen in
-    let opened : Opened seen Varisat c.args.certificate mid end = subst (λ r. Opens seen r Varisat c.args.certificate mid end) c.unwrap-2.ensures c.write_proof.ensures.opens in
+    let opened : Opened seen Varisat c.args.certificate mid end = subst (λ r. OpensProof seen r Varisat c.args.certificate mid end) c.unwrap-2.ensures c.write_proof.ensures.opens in
     let same = keeps_proof _ c.config.result c.unwrap.result c.new-solver.result mid c.unwrap.ensures c.config.ensures.configures in
     record {
       solver = c.write_proof.ensures.solver;

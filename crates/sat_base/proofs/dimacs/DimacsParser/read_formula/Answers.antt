@@ -1,6 +1,6 @@
 use Rattle.std.proofs.Common.{◌≡◌, ◌+◌, ℕ, List, [], ◌++◌, inl, inr, Ok, Err, refl, ap, sym, subst, ◌∙◌, take, length-append, rules, arith}
 use Rattle.std.proofs.lemmas.Result.{err_from_is_err_and}
-use Rattle.sat_base.specs.dimacs.Parsing.{Progress, Parses, no_progress, with_fed, IsSound, IsSoundText}
+use Rattle.sat_base.specs.dimacs.Parsing.{Progress, Parses, no_progress, with_fed, IsSoundSoFar, IsSoundText}
 use Rattle.sat_base.proofs.lemmas.device.Given.{gave_none, gave_more, gave_still, gave_to_end, not_ended, enough_all, enough_front, few_front, calls_within, calls_upto}
 use Rattle.sat_base.proofs.lemmas.dimacs.Parsed.{stops_on, ends_by, stands_of, piece_given, sound_none}
 use Rattle.sat_base.proofs.lemmas.dimacs.ParseAnswers.{finish_no_read, finish_no_stop, feed_no_read, feed_no_stop, read_is_no_stop}
@@ -8,7 +8,7 @@ use Rattle.sat_base.proofs.lemmas.device.WholeAnswers.{ok_is_no_err}
 use Rattle.sat_base.proofs.dimacs.DimacsParser.read_formula.Goals as goal
 
 pub loop-init : goal.loop-init
-loop-init g c = record { bytes = ([], c.requires, gave_none _, omega arith); sound = subst IsSound (sym c.requires) sound_none; open_yet = λ h. absurd (omega arith); failures = refl; calls = omega arith }
+loop-init g c = record { bytes = ([], c.requires, gave_none _, omega arith); sound = subst IsSoundSoFar (sym c.requires) sound_none; open_yet = λ h. absurd (omega arith); failures = refl; calls = omega arith }
 
 pub loop-preserved : goal.loop-preserved
 loop-preserved g c =
@@ -62,7 +62,7 @@ returns-clause-given g c = let b = c.loop.invariant.bytes in enough_front _ _ _ 
 
 -- WHAT WAS GIVEN BEFORE A READ FAILED
 
-sound_of : (p : Progress) (text : List ℕ) → p ≡ with_fed text no_progress → IsSound p → IsSoundText text
+sound_of : (p : Progress) (text : List ℕ) → p ≡ with_fed text no_progress → IsSoundSoFar p → IsSoundText text
 sound_of p text e s = subst IsSoundText (ap (λ (k : Progress). k.fed) e) s
 
 pub returns-in-Err-clause-sound : goal.returns-in-Err-clause-sound

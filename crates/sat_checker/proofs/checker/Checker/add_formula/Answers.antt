@@ -1,7 +1,7 @@
 use Rattle.std.proofs.Common.{rules}
 use Rattle.std.proofs.lemmas.Result.{err_from_is_err_and}
 use Rattle.sat_checker.specs.CheckerView.{seen_of}
-use Rattle.sat_checker.specs.ClausesView.{behind}
+use Rattle.sat_checker.specs.ClausesView.{after_additions}
 use Rattle.sat_checker.specs.telling.ProcessingView.{HearsEach}
 use Rattle.sat_checker.proofs.lemmas.checker.Additions.{added_one, added_stops, added_all}
 use Rattle.sat_checker.proofs.lemmas.telling.Somebody.{clauses_faults}
@@ -13,7 +13,7 @@ loop-clause-preserved g c = (
   λ before begun earlier stands.
       let p = c.loop-clause.invariant.1 before begun earlier stands in
       added_one (HearsEach g.P.ProofProcessor.takes g.T.ProofTranscriptProcessor.reads) before begun (seen_of c.args.self.now) (seen_of c.loop-clause.self) (seen_of c.add_clause.new.self) c.args.formula.now.clauses c.loop-clause.clause-iterator c.next.new.self c.in-Some.clause.now earlier c.in-Some.ensures.steps p
-      c.in_ok-add_clause.ensures.looks (c.in_ok-add_clause.ensures.checks before begun (behind p.added earlier) p.goes_on.0),
+      c.in_ok-add_clause.ensures.looks (c.in_ok-add_clause.ensures.checks before begun (after_additions p.added earlier) p.goes_on.0),
 )
 
 pub returns-in_err-add_clause-clause-adds : goal.returns-in_err-add_clause-clause-adds
@@ -22,7 +22,7 @@ returns-in_err-add_clause-clause-adds g c = λ before begun earlier stands.
     let p = c.loop-clause.invariant.1 before begun earlier stands in
     rw (q.1, q.2)
     (added_stops (HearsEach g.P.ProofProcessor.takes g.T.ProofTranscriptProcessor.reads) before begun (seen_of c.args.self.now) (seen_of c.loop-clause.self) (seen_of c.add_clause.new.self) c.in_err-add_clause.field-0.0 c.args.formula.now.clauses c.loop-clause.clause-iterator c.next.new.self c.in-Some.clause.now earlier
-    c.loop-clause.invariant.0 c.in-Some.ensures.steps p c.in_err-add_clause.ensures.looks (c.in_err-add_clause.ensures.checks before begun (behind p.added earlier) p.goes_on.0))
+    c.loop-clause.invariant.0 c.in-Some.ensures.steps p c.in_err-add_clause.ensures.looks (c.in_err-add_clause.ensures.checks before begun (after_additions p.added earlier) p.goes_on.0))
 
 pub returns-clause-adds : goal.returns-clause-adds
 returns-clause-adds g c = λ before begun earlier stands.

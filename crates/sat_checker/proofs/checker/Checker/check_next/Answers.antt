@@ -2,7 +2,7 @@ use Rattle.std.proofs.Common.{sym, subst}
 use Rattle.sat_base.specs.steps.StepReading.{reader_source, step_in}
 use Rattle.sat_base.specs.steps.StepText.{SpellsStep}
 use Rattle.sat_base.specs.steps.StepViews.{step_of}
-use Rattle.sat_checker.specs.inner.ProofSteps.{turn}
+use Rattle.sat_checker.specs.inner.ProofSteps.{at_source}
 use Rattle.sat_checker.specs.CheckerView.{seen_with}
 use Rattle.sat_checker.specs.telling.Hearing.{HearsFirst}
 use Rattle.sat_checker.specs.telling.ProcessingView.{HearsEach}
@@ -19,7 +19,7 @@ pub returns-in-Err-check_step-clause-steps_on : goal.returns-in-Err-check_step-c
 returns-in-Err-check_step-clause-steps_on g c = λ before begun earlier stands.
     let S = g.R.CountedRead.seen in
     let n = c.in_default.ensures.answer in
-    step_stops (HearsFirst g.O.ProofProcessor.takes (HearsEach g.P.ProofProcessor.takes g.T.ProofTranscriptProcessor.reads)) before begun (turn (seen_with c.args.own.now c.args.self.now) (reader_source S c.args.steps.now)) (turn _ (reader_source S c.advance.new.self)) c.in-Err-check_step.error earlier (step_of c.step-step.result) c.requires.well
+    step_stops (HearsFirst g.O.ProofProcessor.takes (HearsEach g.P.ProofProcessor.takes g.T.ProofTranscriptProcessor.reads)) before begun (at_source (seen_with c.args.own.now c.args.self.now) (reader_source S c.args.steps.now)) (at_source _ (reader_source S c.advance.new.self)) c.in-Err-check_step.error earlier (step_of c.step-step.result) c.requires.well
     (record { text = n.0; passes = n.1; spelt = subst (λ z. SpellsStep z n.0) (sym c.step-step.ensures) n.2; looks = c.in-Err-check_step.ensures.looks earlier stands.kernel })
     (c.in-Err-check_step.ensures.tells before begun earlier stands)
 

@@ -4,7 +4,7 @@ use Rattle.sat_base.specs.steps.StepReading.{reader_source}
 use Rattle.sat_checker.specs.CheckerView.{seen_with}
 use Rattle.sat_checker.specs.telling.Hearing.{HearsFirst}
 use Rattle.sat_checker.specs.telling.ProcessingView.{HearsEach}
-use Rattle.sat_checker.specs.inner.ProofSteps.{turn}
+use Rattle.sat_checker.specs.inner.ProofSteps.{at_source}
 use Rattle.sat_checker.specs.ProofView.{taken_after}
 use Rattle.sat_checker.proofs.lemmas.checker.Proofs.{passed_none, passed_one, stops, finishes, none_read, ended, not_ended}
 use Rattle.sat_checker.proofs.checker.Checker.check_steps.Goals as goal
@@ -17,7 +17,7 @@ loop-init g c =
       open_yet = c.requires.open_yet;
       same = refl;
       bound = none_read (reader_source S c.args.steps.now) c.requires.fresh;
-      passed = λ before begun earlier stands. ([], passed_none (HearsFirst g.O.ProofProcessor.takes (HearsEach g.P.ProofProcessor.takes g.T.ProofTranscriptProcessor.reads)) before begun (turn (seen_with c.args.own.now c.args.self.now) (reader_source S c.args.steps.now)) earlier c.requires.well stands);
+      passed = λ before begun earlier stands. ([], passed_none (HearsFirst g.O.ProofProcessor.takes (HearsEach g.P.ProofProcessor.takes g.T.ProofTranscriptProcessor.reads)) before begun (at_source (seen_with c.args.own.now c.args.self.now) (reader_source S c.args.steps.now)) earlier c.requires.well stands);
     }
 
 pub returns-in_err-check_next-clause-proof : goal.returns-in_err-check_next-clause-proof
@@ -25,7 +25,7 @@ returns-in_err-check_next-clause-proof g c = λ before begun earlier stands.
     let S = g.R.CountedRead.seen in
     let p = err_from_is_err_and c.from_residual.result c.from_residual.ensures.1 in
     let passed = c.loop.invariant.passed before begun earlier stands in
-    rw (p.1, p.2) (stops (HearsFirst g.O.ProofProcessor.takes (HearsEach g.P.ProofProcessor.takes g.T.ProofTranscriptProcessor.reads)) before begun (turn (seen_with c.args.own.now c.args.self.now) (reader_source S c.args.steps.now)) (turn (seen_with c.loop.own c.loop.self) (reader_source S c.loop.steps)) (turn (seen_with c.check_next.new.own c.check_next.new.self) (reader_source S c.check_next.new.steps))
+    rw (p.1, p.2) (stops (HearsFirst g.O.ProofProcessor.takes (HearsEach g.P.ProofProcessor.takes g.T.ProofTranscriptProcessor.reads)) before begun (at_source (seen_with c.args.own.now c.args.self.now) (reader_source S c.args.steps.now)) (at_source (seen_with c.loop.own c.loop.self) (reader_source S c.loop.steps)) (at_source (seen_with c.check_next.new.own c.check_next.new.self) (reader_source S c.check_next.new.steps))
     c.in_err-check_next.field-0.0 earlier passed.0 c.requires.fresh c.requires.well c.check_next.ensures.bound passed.1
     (c.in_err-check_next.ensures.steps_on before begun (taken_after passed.0 earlier) passed.1.goes_on.0))
 
@@ -34,7 +34,7 @@ returns-then-branch-clause-proof g c = λ before begun earlier stands.
     let S = g.R.CountedRead.seen in
     let passed = c.loop.invariant.passed before begun earlier stands in
     let on = c.in_ok-check_next.ensures.steps_on before begun (taken_after passed.0 earlier) passed.1.goes_on.0 in
-    finishes (HearsFirst g.O.ProofProcessor.takes (HearsEach g.P.ProofProcessor.takes g.T.ProofTranscriptProcessor.reads)) before begun (turn (seen_with c.args.own.now c.args.self.now) (reader_source S c.args.steps.now)) (turn (seen_with c.loop.own c.loop.self) (reader_source S c.loop.steps)) (turn (seen_with c.check_next.new.own c.check_next.new.self) (reader_source S c.check_next.new.steps))
+    finishes (HearsFirst g.O.ProofProcessor.takes (HearsEach g.P.ProofProcessor.takes g.T.ProofTranscriptProcessor.reads)) before begun (at_source (seen_with c.args.own.now c.args.self.now) (reader_source S c.args.steps.now)) (at_source (seen_with c.loop.own c.loop.self) (reader_source S c.loop.steps)) (at_source (seen_with c.check_next.new.own c.check_next.new.self) (reader_source S c.check_next.new.steps))
     earlier passed.0 on.0 c.requires.fresh c.requires.well c.check_next.ensures.bound passed.1 on.1 (ended _ _ c.if-branch.true on.2) on.3
 
 pub loop-preserved : goal.loop-preserved
@@ -50,7 +50,7 @@ loop-preserved g c =
           let passed = c.loop.invariant.passed before begun earlier stands in
           let on = c.in_ok-check_next.ensures.steps_on before begun (taken_after passed.0 earlier) passed.1.goes_on.0 in (
             passed.0 ++ on.0 ∷ [],
-            passed_one (HearsFirst g.O.ProofProcessor.takes (HearsEach g.P.ProofProcessor.takes g.T.ProofTranscriptProcessor.reads)) before begun (turn (seen_with c.args.own.now c.args.self.now) (reader_source S c.args.steps.now)) (turn (seen_with c.loop.own c.loop.self) (reader_source S c.loop.steps)) (turn (seen_with c.check_next.new.own c.check_next.new.self) (reader_source S c.check_next.new.steps))
+            passed_one (HearsFirst g.O.ProofProcessor.takes (HearsEach g.P.ProofProcessor.takes g.T.ProofTranscriptProcessor.reads)) before begun (at_source (seen_with c.args.own.now c.args.self.now) (reader_source S c.args.steps.now)) (at_source (seen_with c.loop.own c.loop.self) (reader_source S c.loop.steps)) (at_source (seen_with c.check_next.new.own c.check_next.new.self) (reader_source S c.check_next.new.steps))
                 earlier passed.0 on.0 passed.1 on.1 (not_ended _ _ c.if-branch.false on.2) on.3,
           );
     }

@@ -1,6 +1,6 @@
 use Rattle.std.proofs.Common.{ap}
 use Rattle.sat_checker.specs.inner.SlotView.{slot_ids}
-use Rattle.sat_checker.specs.inner.FormulaView.{Standing}
+use Rattle.sat_checker.specs.inner.FormulaView.{RestOfStored}
 use Rattle.sat_checker.proofs.lemmas.formula.Numbering.{numbered_none}
 use Rattle.sat_checker.proofs.formula.Formula.new.Goals as goal
 
@@ -9,5 +9,5 @@ returns c = record {
   clauses = c.new.ensures.kept;
   units = c.new-2.ensures;
   status = c.new-3.ensures;
-  numbered = numbered_none (slot_ids c.new.result.clauses) c.new-3.result.last c.new.ensures.ids (ap (λ (s : Standing). s.last) c.new-3.ensures);
+  numbered = numbered_none (slot_ids c.new.result.clauses) c.new-3.result.last c.new.ensures.ids (ap (λ (s : RestOfStored). s.last) c.new-3.ensures);
 }

@@ -2,7 +2,7 @@ use Rattle.std.proofs.Common.{ℕ, ◌+◌, ◌≤◌, ◌++◌, map, ap, ◌∙
 use Rattle.std.proofs.lemmas.Result.{IfOk-from_err}
 use Rattle.sat_base.specs.values.Literals.{negated}
 use Rattle.sat_checker.specs.announcements.Needed.{ground}
-use Rattle.sat_checker.specs.inner.FormulaView.{Standing}
+use Rattle.sat_checker.specs.inner.FormulaView.{RestOfStored}
 use Rattle.sat_checker.specs.inner.Reasons.{named}
 use Rattle.sat_checker.proofs.lemmas.telling.Noting.{derived_noted, on_ok}
 use Rattle.std.proofs.lemmas.Grind.{common_steps}
@@ -33,7 +33,7 @@ pub returns-clause-noted : goal.returns-clause-noted
 returns-clause-noted c = on_ok c.derived.result _ _
     (λ noted f hashes k long e h.
     derived_noted c.derived.new.self c.args.notes.now.news c.clause_change-change.result c.args.self.now.status.next_id c.args.redundant c.in_ok-both_signs.both_signs c.args.clause.now c.as_slice-literals.result.now hashes c.ids.result.now f
-    noted (ap (λ (s : Standing). s.next_id) k.status) (c.clause_change-change.ensures.change f k long c.ids.result.now) c.in_ok-both_signs.ensures.signs (c.as_slice-literals.ensures.value ∙ c.in_ok-both_signs.ensures.set)
+    noted (ap (λ (s : RestOfStored). s.next_id) k.status) (c.clause_change-change.ensures.change f k long c.ids.result.now) c.in_ok-both_signs.ensures.signs (c.as_slice-literals.ensures.value ∙ c.in_ok-both_signs.ensures.set)
     (c.ids.ensures ∙ c.in_ok-list.ensures.listed f hashes k.clauses k.units e k.numbered.of_units.increasing))
     c.derived.ensures.ok
 

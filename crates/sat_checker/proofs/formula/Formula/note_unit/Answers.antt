@@ -2,7 +2,7 @@ use Rattle.std.proofs.Common.{[], ◌∷◌, ◌++◌, map, false, ap, refl, ◌
 use Rattle.std.proofs.lemmas.Result.{IfOk-from_err}
 use Rattle.sat_base.specs.values.Literals.{negated}
 use Rattle.sat_checker.specs.announcements.Needed.{ground}
-use Rattle.sat_checker.specs.inner.FormulaView.{Standing}
+use Rattle.sat_checker.specs.inner.FormulaView.{RestOfStored}
 use Rattle.sat_checker.specs.inner.Reasons.{named}
 use Rattle.sat_checker.proofs.lemmas.telling.Noting.{derived_noted, on_ok}
 use Rattle.sat_checker.proofs.formula.Formula.note_unit.Goals as goal
@@ -20,6 +20,6 @@ pub returns-clause-noted : goal.returns-clause-noted
 returns-clause-noted c = on_ok c.derived.result _ _
     (λ noted f hashes k long e h.
     derived_noted c.derived.new.self c.args.notes.now.news c.unit_change-change.result c.args.self.now.status.next_id false false (c.args.lit ∷ []) (c.args.lit ∷ []) hashes c.ids.result.now f
-    noted (ap (λ (s : Standing). s.next_id) k.status) (c.unit_change-change.ensures f k long c.ids.result.now) refl refl
+    noted (ap (λ (s : RestOfStored). s.next_id) k.status) (c.unit_change-change.ensures f k long c.ids.result.now) refl refl
     (c.ids.ensures ∙ c.in_ok-list.ensures.listed f hashes k.clauses k.units e k.numbered.of_units.increasing))
     c.derived.ensures.ok

@@ -2,7 +2,7 @@ use Rattle.std.proofs.lemmas.Result.{err_from_is_err_and}
 use Rattle.std.proofs.Common.{◌∙◌, ap, subst, sym, arith}
 use Rattle.sat_checker.specs.LiteralSets.{is_tautology}
 use Rattle.sat_checker.specs.Storing.{with_canonical}
-use Rattle.sat_checker.specs.inner.FormulaView.{KeepsFormula, Turns}
+use Rattle.sat_checker.specs.inner.FormulaView.{KeepsFormula, KeepsOrSpends}
 use Rattle.sat_checker.specs.inner.Marks.{IsIncreasing}
 use Rattle.sat_checker.proofs.lemmas.sets.Canonical.{canonical_increasing, canonical_tautology}
 use Rattle.sat_checker.proofs.lemmas.formula.Storing.{stored_signs, stored_apart}
@@ -30,7 +30,7 @@ pub returns-clause-stored : goal.returns-clause-stored
 returns-clause-stored c = λ f k.
     let apart = sym (canonical_tautology c.args.clause.now) ∙ ap is_tautology (sym c.in_ok-literals.ensures.set) ∙ sym c.has_both_signs.ensures ∙ c.if-has_both_signs.false in
     let e = ap (λ ls. with_canonical c.args.redundant ls f) c.in_ok-literals.ensures.set ∙ sym (stored_apart c.args.redundant c.args.clause.now f apart) in
-    subst (λ g. Turns c.store_canonical.result (KeepsFormula c.store_canonical.new.self g) g) e (c.store_canonical.ensures.stored f k)
+    subst (λ g. KeepsOrSpends c.store_canonical.result (KeepsFormula c.store_canonical.new.self g) g) e (c.store_canonical.ensures.stored f k)
 
 pub returns-clause-looks : goal.returns-clause-looks
 returns-clause-looks c = c.store_canonical.ensures.looks

@@ -1,6 +1,6 @@
 use Rattle.std.proofs.Common.{refl, sym, subst, rules}
 use Rattle.sat_checker.specs.CheckerView.{seen}
-use Rattle.sat_checker.specs.inner.TellingSteps.{TakesIn}
+use Rattle.sat_checker.specs.inner.TellingSteps.{TellsAndKeepsState}
 use Rattle.sat_checker.specs.telling.Hearing.{hearers, HearsFirst}
 use Rattle.sat_checker.specs.telling.ProcessingView.{HearsEach}
 use Rattle.sat_checker.proofs.lemmas.telling.Heard.{all_quiet}
@@ -18,5 +18,5 @@ tell-requires-clause-recorded g c = search rules
 
 pub returns : goal.returns
 returns g c = λ told is.
-    subst (λ ts. TakesIn (HearsFirst g.O.ProofProcessor.takes (HearsEach g.P.ProofProcessor.takes g.T.ProofTranscriptProcessor.reads)) ts c.tell.result (seen c.args.self.now (hearers c.args.own.now c.args.others.now)) (seen c.tell.new.self (hearers c.tell.new.own c.tell.new.others))) (sym (is c.if-not-hears.false))
+    subst (λ ts. TellsAndKeepsState (HearsFirst g.O.ProofProcessor.takes (HearsEach g.P.ProofProcessor.takes g.T.ProofTranscriptProcessor.reads)) ts c.tell.result (seen c.args.self.now (hearers c.args.own.now c.args.others.now)) (seen c.tell.new.self (hearers c.tell.new.own c.tell.new.others))) (sym (is c.if-not-hears.false))
     (taken_from (HearsFirst g.O.ProofProcessor.takes (HearsEach g.P.ProofProcessor.takes g.T.ProofTranscriptProcessor.reads)) _ c.args.self.now _ (hearers c.args.own.now c.args.others.now) c.tell.new.self (hearers c.tell.new.own c.tell.new.others) c.tell.result refl refl c.tell.ensures)

@@ -1,7 +1,7 @@
 use Rattle.std.proofs.Common.{ℕ, ◌+◌, ◌≤◌, sym, ap, ◌∙◌, inr, arith}
 use Rattle.std.proofs.lemmas.Bool.{true≢false}
 use Rattle.std.proofs.lemmas.Result.{err_from_is_err_and, IfOk-from_err}
-use Rattle.sat_checker.specs.inner.FormulaView.{Standing}
+use Rattle.sat_checker.specs.inner.FormulaView.{RestOfStored}
 use Rattle.sat_checker.proofs.lemmas.state.Keeping.{sampling_kept, added, added_spent, decides_err}
 use Rattle.sat_checker.proofs.lemmas.telling.Noting.{input_noted, unsat_noted}
 use Rattle.std.proofs.lemmas.Grind.{common_steps}
@@ -47,7 +47,7 @@ returns-clause-looks c = record {
 pub returns-clause-decides : goal.returns-clause-decides
 returns-clause-decides c = λ f k. (
   inr (sampling_kept c.args.self.now.variables f c.args.clause.now k.variables c.if-not-are_sampling.ensures),
-  added _ f c.args.clause.now (sym (ap (λ (s : Standing). s.unsat) k.formula.status) ∙ c.if-self.false) (c.in_ok-store_input.ensures.stored f (record { formula = c.in_ok-file.ensures.kept f k.formula; variables = k.variables; assumed = k.assumed })),
+  added _ f c.args.clause.now (sym (ap (λ (s : RestOfStored). s.unsat) k.formula.status) ∙ c.if-self.false) (c.in_ok-store_input.ensures.stored f (record { formula = c.in_ok-file.ensures.kept f k.formula; variables = k.variables; assumed = k.assumed })),
 )
 
 pub returns-in_err-note_input-clause-decides : goal.returns-in_err-note_input-clause-decides
@@ -57,10 +57,10 @@ pub returns-in_err-store_input-clause-decides : goal.returns-in_err-store_input-
 returns-in_err-store_input-clause-decides c = λ f k.
     let p = err_from_is_err_and c.from_residual-in_err-store_input.result c.from_residual-in_err-store_input.ensures.1 in
     decides_err c.store_input.result _ p.0 _ c.in_err-store_input.was p.1 p.2 _ _ _ _ _ _ (inr (sampling_kept c.args.self.now.variables f c.args.clause.now k.variables c.if-not-are_sampling.ensures)) (inr (sampling_kept c.args.self.now.variables f c.args.clause.now k.variables c.if-not-are_sampling.ensures))
-    (added_spent f c.args.clause.now (sym (ap (λ (s : Standing). s.unsat) k.formula.status) ∙ c.if-self.false)) (c.store_input.ensures.stored f (record { formula = c.in_ok-file.ensures.kept f k.formula; variables = k.variables; assumed = k.assumed }))
+    (added_spent f c.args.clause.now (sym (ap (λ (s : RestOfStored). s.unsat) k.formula.status) ∙ c.if-self.false)) (c.store_input.ensures.stored f (record { formula = c.in_ok-file.ensures.kept f k.formula; variables = k.variables; assumed = k.assumed }))
 
 pub returns-then-self-clause-noted : goal.returns-then-self-clause-noted
-returns-then-self-clause-noted c = λ t f k long. unsat_noted f c.args.clause.now c.args.notes.now (sym (ap (λ (s : Standing). s.unsat) k.formula.status) ∙ c.if-self.true)
+returns-then-self-clause-noted c = λ t f k long. unsat_noted f c.args.clause.now c.args.notes.now (sym (ap (λ (s : RestOfStored). s.unsat) k.formula.status) ∙ c.if-self.true)
 
 pub returns-then-not-are_sampling-clause-noted : goal.returns-then-not-are_sampling-clause-noted
 returns-then-not-are_sampling-clause-noted c = λ t. absurd (true≢false (sym t))
@@ -72,7 +72,7 @@ pub returns-in_err-store_input-clause-noted : goal.returns-in_err-store_input-cl
 returns-in_err-store_input-clause-noted c = IfOk-from_err c.from_residual-in_err-store_input.result _ c.from_residual-in_err-store_input.ensures.0
 
 pub returns-clause-noted : goal.returns-clause-noted
-returns-clause-noted c = λ t f k long. input_noted f c.args.clause.now c.args.notes.now c.note_input.new.notes (sym (ap (λ (s : Standing). s.unsat) k.formula.status) ∙ c.if-self.false) (c.in_ok-note_input.ensures.noted f (c.in_ok-file.ensures.kept f k.formula))
+returns-clause-noted c = λ t f k long. input_noted f c.args.clause.now c.args.notes.now c.note_input.new.notes (sym (ap (λ (s : RestOfStored). s.unsat) k.formula.status) ∙ c.if-self.false) (c.in_ok-note_input.ensures.noted f (c.in_ok-file.ensures.kept f k.formula))
 
 pub returns-in_err-file-clause-decides : goal.returns-in_err-file-clause-decides
 returns-in_err-file-clause-decides c = let p = err_from_is_err_and c.from_residual.result c.from_residual.ensures.1 in rw (p.1, p.2) (λ f k. inr (sampling_kept c.args.self.now.variables f c.args.clause.now k.variables c.if-not-are_sampling.ensures))

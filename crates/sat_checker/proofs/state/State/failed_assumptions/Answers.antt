@@ -1,7 +1,7 @@
 use Rattle.std.proofs.Common.{◌≡◌, true, sym, subst, ◌∙◌, ◌↔◌, arith, length}
 use Rattle.std.proofs.lemmas.Bool.{true≢false}
 use Rattle.std.proofs.lemmas.Result.{err_from_is_err_and, IfOk-from_err}
-use Rattle.sat_checker.specs.Accepts.{Passes}
+use Rattle.sat_checker.specs.Accepts.{PassesByHashes}
 use Rattle.sat_checker.specs.Looks.{literal_count}
 use Rattle.sat_checker.specs.inner.Reasons.{noted_length}
 use Rattle.sat_checker.proofs.lemmas.state.Refiled.{loosened}
@@ -24,12 +24,12 @@ returns-then-not-has_all-clause-decides c = λ f k p.
 
 pub returns-then-not-branch-clause-decides : goal.returns-then-not-branch-clause-decides
 returns-then-not-branch-clause-decides c = λ f k p.
-    true≢false (sym ((subst (λ ls. (c.in_ok-check.field-0 ≡ true) ↔ Passes f ls c.args.hashes.now) (c.as_slice-denied.ensures.value ∙ c.in_ok-copy_negated.ensures) (c.in_ok-check.ensures.exact f (checks_as c.file.new.self f (c.in_ok-file.ensures.kept f k.formula)))).1 p.1) ∙ c.if-not-branch.true)
+    true≢false (sym ((subst (λ ls. (c.in_ok-check.field-0 ≡ true) ↔ PassesByHashes f ls c.args.hashes.now) (c.as_slice-denied.ensures.value ∙ c.in_ok-copy_negated.ensures) (c.in_ok-check.ensures.exact f (checks_as c.file.new.self f (c.in_ok-file.ensures.kept f k.formula)))).1 p.1) ∙ c.if-not-branch.true)
 
 pub returns-clause-decides : goal.returns-clause-decides
 returns-clause-decides c = λ f k.
     let w = within_assumed c.has_all.result c.args.core.now f.assumed c.args.self.now.assumed k.assumed c.has_all.ensures in (
-      (sym w ∙ c.if-not-has_all.false, (subst (λ ls. (c.in_ok-check.field-0 ≡ true) ↔ Passes f ls c.args.hashes.now) (c.as_slice-denied.ensures.value ∙ c.in_ok-copy_negated.ensures) (c.in_ok-check.ensures.exact f (checks_as c.file.new.self f (c.in_ok-file.ensures.kept f k.formula)))).0 c.if-not-branch.false),
+      (sym w ∙ c.if-not-has_all.false, (subst (λ ls. (c.in_ok-check.field-0 ≡ true) ↔ PassesByHashes f ls c.args.hashes.now) (c.as_slice-denied.ensures.value ∙ c.in_ok-copy_negated.ensures) (c.in_ok-check.ensures.exact f (checks_as c.file.new.self f (c.in_ok-file.ensures.kept f k.formula)))).0 c.if-not-branch.false),
       record { formula = loosened c.check.new.self f (kept_beside c.file.new.self c.check.new.self f c.check.ensures.rest (c.in_ok-file.ensures.kept f k.formula)); variables = k.variables; assumed = k.assumed },
     )
 

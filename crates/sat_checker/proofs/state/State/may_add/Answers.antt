@@ -5,7 +5,7 @@ use Rattle.sat_base.specs.values.Literals.{variable}
 use Rattle.sat_checker.specs.Stored.{Sample, Stored, Variable, mode_of}
 use Rattle.sat_checker.specs.Accepts.{MayBeAdded}
 use Rattle.sat_checker.specs.declared.variables.Variables.{Variables}
-use Rattle.sat_checker.specs.inner.FormulaView.{Standing}
+use Rattle.sat_checker.specs.inner.FormulaView.{RestOfStored}
 use Rattle.sat_checker.specs.inner.VariablesView.{KeepsVariables, AreSampling}
 use Rattle.sat_checker.proofs.lemmas.state.Keeping.{sampling_kept}
 use Rattle.sat_checker.proofs.state.State.may_add.Goals as goal
@@ -20,7 +20,7 @@ added_or vs f ls true k u h = inr (sampling_kept vs f ls k h)
 added_or vs f ls false k u h = λ may. elim may [ inl e ↦ true≢false (sym e ∙ u) | inr s ↦ h (sampling_back vs f ls k s) ]
 
 pub returns-then-self : goal.returns-then-self
-returns-then-self c = λ f k. subst (λ b. MatchBool b (MayBeAdded f c.args.clause.now) (MayBeAdded f c.args.clause.now → ⊥)) (sym c.if-self.true) (inl (sym (ap (λ (s : Standing). s.unsat) k.formula.status) ∙ c.if-self.true))
+returns-then-self c = λ f k. subst (λ b. MatchBool b (MayBeAdded f c.args.clause.now) (MayBeAdded f c.args.clause.now → ⊥)) (sym c.if-self.true) (inl (sym (ap (λ (s : RestOfStored). s.unsat) k.formula.status) ∙ c.if-self.true))
 
 pub returns-else-self : goal.returns-else-self
-returns-else-self c = λ f k. added_or c.args.self.now.variables f c.args.clause.now c.are_sampling.result k.variables (sym (ap (λ (s : Standing). s.unsat) k.formula.status) ∙ c.if-self.false) c.are_sampling.ensures
+returns-else-self c = λ f k. added_or c.args.self.now.variables f c.args.clause.now c.are_sampling.result k.variables (sym (ap (λ (s : RestOfStored). s.unsat) k.formula.status) ∙ c.if-self.false) c.are_sampling.ensures

@@ -3,28 +3,28 @@ use Rattle.std.specs.List.{IsDistinct}
 use Rattle.std.specs.List.Sorted.{IsPermutation}
 use Rattle.sat_checker.specs.inner.IndexView.{pairs_of}
 use Rattle.sat_checker.specs.inner.PairView.{same_place}
-use Rattle.sat_checker.specs.inner.SlotView.{standing}
+use Rattle.sat_checker.specs.inner.SlotView.{slots_present}
 use Rattle.sat_checker.proofs.lemmas.store.Filing.{pairs_apart, pairs_within, pairs_count, sorted_places, sorted_below}
 use Rattle.sat_checker.proofs.store.clauses.drop_gone.Goals as goal
 
 pub sorted-requires-clause-apart : goal.sorted-requires-clause-apart
-sorted-requires-clause-apart c = subst (IsDistinct same_place) (sym c.in_ok-list_standing.ensures) (pairs_apart 0 (standing c.args.slots.now))
+sorted-requires-clause-apart c = subst (IsDistinct same_place) (sym c.in_ok-list_standing.ensures) (pairs_apart 0 (slots_present c.args.slots.now))
 
 pub sorted-requires-clause-within : goal.sorted-requires-clause-within
 sorted-requires-clause-within c =
-    let ss = standing c.args.slots.now in
+    let ss = slots_present c.args.slots.now in
     let n : length ss ≡ c.len.result = sym (c.len.ensures.count ∙ ap length (c.in_ok-push_standing.ensures ∙ ap (λ xs. xs ++ ss) c.new-left.ensures)) in
     subst (λ ps. All (λ p. p.place < c.len.result) ps) (sym c.in_ok-list_standing.ensures) (subst (λ m. All (λ p. p.place < m) (pairs_of ss)) n (pairs_within ss))
 
 pub sorted-requires-clause-count : goal.sorted-requires-clause-count
 sorted-requires-clause-count c =
-    let ss = standing c.args.slots.now in
+    let ss = slots_present c.args.slots.now in
     let n : length ss ≡ c.len.result = sym (c.len.ensures.count ∙ ap length (c.in_ok-push_standing.ensures ∙ ap (λ xs. xs ++ ss) c.new-left.ensures)) in
     omega (arith, n, pairs_count 0 ss, ap length c.in_ok-list_standing.ensures)
 
 pub returns-clause-filed : goal.returns-clause-filed
 returns-clause-filed c =
-    let ss = standing c.args.slots.now in
+    let ss = slots_present c.args.slots.now in
     let n : length ss ≡ c.len.result = sym (c.len.ensures.count ∙ ap length (c.in_ok-push_standing.ensures ∙ ap (λ xs. xs ++ ss) c.new-left.ensures)) in
     let same = subst (λ ps. IsPermutation ps c.in_ok-index.field-0.pairs) c.in_ok-list_standing.ensures c.in_ok-index.ensures.same in
     record {

@@ -1,6 +1,6 @@
 use Rattle.std.proofs.Common.{◌∙◌, sym, ap, subst, filter, not, eqb}
 use Rattle.sat_checker.specs.Stored.{StoredUnit}
-use Rattle.sat_checker.specs.inner.UnitView.{AreUnits}
+use Rattle.sat_checker.specs.inner.UnitView.{UnitsInvariant}
 use Rattle.sat_checker.proofs.lemmas.state.Forgetting.{unit_taken, none_taken}
 use Rattle.sat_checker.proofs.lemmas.store.Units.{among_units}
 use Rattle.sat_checker.proofs.units.Units.forget_lit.Goals as goal
@@ -10,7 +10,7 @@ take_out-requires-clause-assumed c = among_units c.self.inside.order.units c.arg
 
 pub invariant_of-self : goal.invariant_of-self
 invariant_of-self c =
-    subst (λ us. AreUnits us c.forget.new.self c.take_out.new.places c.take_out.new.assigned)
+    subst (λ us. UnitsInvariant us c.forget.new.self c.take_out.new.places c.take_out.new.assigned)
     (sym (c.without-self-inside.ensures ∙ ap (λ x. filter (λ (u : StoredUnit). not (eqb u.literal x)) c.self.inside.order.units) c.code.ensures.value))
     (unit_taken c.args.lit c.self.inside.order.units c.self.inside.ids c.forget.new.self c.self.inside.places c.take_out.new.places c.self.inside.assigned c.take_out.new.assigned
     c.self.invariant c.take_out.ensures.assumed c.forget.ensures c.take_out.ensures.placed)

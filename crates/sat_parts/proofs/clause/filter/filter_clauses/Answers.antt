@@ -1,5 +1,5 @@
 use Rattle.std.proofs.Common.{◌≡◌, ◌<◌, ℕ, true, false, not, length, get_or, List, refl, sym, ap, ◌∙◌, subst, arith, Bool}
-use Rattle.sat_store.specs.clause.Buffer.{Keeps, header_at}
+use Rattle.sat_store.specs.clause.Buffer.{SameClauseAt, header_at}
 use Rattle.sat_store.specs.clause.Header.{Header}
 use Rattle.sat_parts.specs.clause.Db.{is_live, PutsHeader}
 use Rattle.sat_parts.specs.clause.Filtered.{AnswersAt}
@@ -46,7 +46,7 @@ loop-at-preserved-then-keep g c =
     let lt : c.loop-at.at < length c.args.db.now.refs = omega (arith, ap length h.refs) in
     let e : c.cref-cref.result ≡ get_or c.args.db.now.refs c.loop-at.at 0 = c.cref-cref.ensures ∙ ap (λ (xs : List ℕ). get_or xs c.loop-at.at 0) h.refs in
     let alive : is_live c.loop-at.clauses c.cref-cref.result ≡ true = ap (λ b. not b) (ap (λ (x : Header). x.deleted) (sym c.header.ensures.value) ∙ sym c.deleted.ensures ∙ c.if-deleted.false) in
-    let same : Keeps c.args.clauses.now c.loop-at.clauses c.cref-cref.result =
+    let same : SameClauseAt c.args.clauses.now c.loop-at.clauses c.cref-cref.result =
     filtering_kept (AnswersAt g.F.FnMut c.args.clauses.now) c.args.keep c.loop-at.keep c.args.clauses.now c.loop-at.clauses c.args.db.now.refs c.loop-at.at c.cref-cref.result h.pass lt e in
     let asked : AnswersAt g.F.FnMut c.args.clauses.now c.loop-at.keep c.cref-cref.result c.keep.result c.keep.new.self = record { shown = _; same = same; called = c.keep.ensures } in
     record {
@@ -69,7 +69,7 @@ loop-at-preserved g c =
     let lt : c.loop-at.at < length c.args.db.now.refs = omega (arith, ap length h.refs) in
     let e : c.cref-cref.result ≡ get_or c.args.db.now.refs c.loop-at.at 0 = c.cref-cref.ensures ∙ ap (λ (xs : List ℕ). get_or xs c.loop-at.at 0) h.refs in
     let alive : is_live c.loop-at.clauses c.cref-cref.result ≡ true = ap (λ b. not b) (ap (λ (x : Header). x.deleted) (sym c.header.ensures.value) ∙ sym c.deleted.ensures ∙ c.if-deleted.false) in
-    let same : Keeps c.args.clauses.now c.loop-at.clauses c.cref-cref.result =
+    let same : SameClauseAt c.args.clauses.now c.loop-at.clauses c.cref-cref.result =
     filtering_kept (AnswersAt g.F.FnMut c.args.clauses.now) c.args.keep c.loop-at.keep c.args.clauses.now c.loop-at.clauses c.args.db.now.refs c.loop-at.at c.cref-cref.result h.pass lt e in
     let asked : AnswersAt g.F.FnMut c.args.clauses.now c.loop-at.keep c.cref-cref.result c.keep.result c.keep.new.self = record { shown = _; same = same; called = c.keep.ensures } in
     let x = c.delete_clause.ensures.deleted in

@@ -3,7 +3,7 @@ use Rattle.sat_base.specs.values.Literals.{negated}
 use Rattle.sat_parts.specs.prop.State.{HasLeft}
 use Rattle.sat_parts.specs.prop.Values.{value_of}
 use Rattle.sat_parts.specs.parts.Whole.{state, PartsInvariant}
-use Rattle.sat_parts.specs.parts.Frame.{Carries, SameClauses}
+use Rattle.sat_parts.specs.parts.Frame.{AddsNoUnit, SameClauses}
 use Rattle.sat_parts.proofs.parts.load.put_all_back.Given as goal
 
 abbrev pub invariant-loop-at : goal.invariant-loop-at
@@ -14,6 +14,6 @@ invariant-loop-at l = record {
   size : length l.parts.assignment.current ≡ length l.fn.parts.assignment.current;
   queue : l.parts.vsids ≡ l.fn.parts.vsids;
   same : SameClauses l.fn.parts l.parts;
-  carries : Carries (state l.fn.parts) (state l.parts);
+  carries : AddsNoUnit (state l.fn.parts) (state l.parts);
   fresh : (k : ℕ) → l.kept ≤ k → k < l.at → HasLeft (state l.parts) (negated (slice_index_or l.lits k 0)) → ⊥;
 }

@@ -7,7 +7,7 @@ use Rattle.sat_store.specs.declared.clause.tier.Tier.TheVariants.{Local}
 use Rattle.sat_parts.specs.clause.Db.{live_refs, is_live_of}
 use Rattle.sat_parts.specs.clause.Orders.{AreDistinct}
 use Rattle.sat_parts.proofs.lemmas.clause.ListLemmas.{place_in}
-use Rattle.sat_parts.specs.parts.Reducing.{rank, ranked}
+use Rattle.sat_parts.specs.parts.Reducing.{clause_rank, ranked}
 use Rattle.sat_parts.proofs.lemmas.parts.ReduceLemmas.{filter_in, permuted_ranks, rising_ranks, listed_once, listed_live}
 use Rattle.sat_parts.proofs.parts.reduce.list_locals.Goals as goal
 
@@ -34,7 +34,7 @@ returns-clause-rising c =
     let pairs : IsPermutation (map (ranked c.args.parts.now.clauses) (filter (is_live_of c.args.parts.now.clauses Local) c.args.parts.now.db.refs)) c.sort_unstable_by_key.new.self.items =
     rw (c.in_ok-rank_all.ensures, is) at c.sort_unstable_by_key.ensures.permutation in
     let sorted : IsNonDecreasingBy (λ (x : ℕ × ℕ). x.0) c.sort_unstable_by_key.new.self.items = IsNonDecreasingBy-from_sort_by_key (λ (x : ℕ × ℕ). x.0) _ c.sort_unstable_by_key.ensures.sorted (λ a r q k. search rules) in
-    let all : c.take_clauses.new.list.items ≡ map (λ (x : ℕ × ℕ). x.1) c.deref-2.result.now → IsNonDecreasingBy (rank c.args.parts.now.clauses) c.take_clauses.new.list.items = λ e.
+    let all : c.take_clauses.new.list.items ≡ map (λ (x : ℕ × ℕ). x.1) c.deref-2.result.now → IsNonDecreasingBy (clause_rank c.args.parts.now.clauses) c.take_clauses.new.list.items = λ e.
     rw (e, c.deref-2.ensures.value) (rising_ranks p.clauses (filter (is_live_of p.clauses Local) p.db.refs) c.sort_unstable_by_key.new.self.items pairs sorted) in
     on_ok_weaker c.take_clauses.result all c.take_clauses.ensures
 

@@ -7,8 +7,8 @@ use Rattle.sat_solver.specs.proof.ProofView.{session_of}
 use Rattle.sat_solver.specs.session.Naming.{global_of}
 use Rattle.sat_solver.specs.cdcl.Going.{EmitsSteps}
 use Rattle.sat_solver.specs.cdcl.Joint.{assumed_in}
-use Rattle.sat_solver.specs.unit_simplify.Left.{IsSettled}
-use Rattle.sat_solver.specs.unit_simplify.Passes.{MaySettle, Simplified}
+use Rattle.sat_solver.specs.unit_simplify.Left.{TakesUnitsOff}
+use Rattle.sat_solver.specs.unit_simplify.Passes.{MaySettle, IsSimplifiedPass}
 use Rattle.sat_solver.specs.declared.context.Search.{Search}
 use Rattle.sat_solver.proofs.lemmas.cdcl.TurnLemmas.{Propagation, propagation, propagated_moved, falsified_whole, ready_names}
 use Rattle.sat_solver.proofs.lemmas.unit_simplify.BeginLemmas.{may_settle, settled_passes, settled_flat, settled_simplified}
@@ -49,8 +49,8 @@ unit_simplify-requires g c =
     let holds : HoldsBelow (length d.parts.trail.starts + 1) d.parts = rw c.in-Ok.is at x.holds in
     let went : Propagation s c.args.search.now d = propagation s c.args.search.now d search refl refl refl refl x.starts x.moved x.carries x.word x.keeps holds (rw c.in-Ok.is at x.done) x.units x.base in
     let may : MaySettle c.args.names.now c.args.proof.now d = may_settle c.args.names.now c.args.proof.now c.args.search.now d c.requires.together (none_open c.args.search.now.parts.trail.starts (omega (arith, c.if-current_level-gt0.false, c.current_level.ensures.level))) went in
-    let settles : EmitsSteps {A = Unit {0}} g.W.CountedWrite.seen (Ok tt) c.args.proof.now c.settle.new.proof (λ _ _. IsSettled d.parts c.settle.new.parts (session_of c.settle.new.proof) (global_of d.globals.items)) =
-    subst (λ gs. EmitsSteps {A = Unit {0}} g.W.CountedWrite.seen (Ok tt) c.args.proof.now c.settle.new.proof (λ _ _. IsSettled d.parts c.settle.new.parts (session_of c.settle.new.proof) (global_of gs))) c.deref.ensures.value c.in_ok-settle.ensures in
+    let settles : EmitsSteps {A = Unit {0}} g.W.CountedWrite.seen (Ok tt) c.args.proof.now c.settle.new.proof (λ _ _. TakesUnitsOff d.parts c.settle.new.parts (session_of c.settle.new.proof) (global_of d.globals.items)) =
+    subst (λ gs. EmitsSteps {A = Unit {0}} g.W.CountedWrite.seen (Ok tt) c.args.proof.now c.settle.new.proof (λ _ _. TakesUnitsOff d.parts c.settle.new.parts (session_of c.settle.new.proof) (global_of gs))) c.deref.ensures.value c.in_ok-settle.ensures in
     let e : Search = record d { parts = c.settle.new.parts; scratch = record d.scratch { units = c.settle.new.units } } in
     record {
       together = (settled_passes g.W.CountedWrite.seen c.args.names.now c.args.proof.now c.settle.new.proof d e may settles refl refl refl refl).together;
@@ -91,8 +91,8 @@ returns-in_err-unit_simplify g c =
     let holds : HoldsBelow (length d.parts.trail.starts + 1) d.parts = rw c.in-Ok.is at x.holds in
     let went : Propagation s c.args.search.now d = propagation s c.args.search.now d search refl refl refl refl x.starts x.moved x.carries x.word x.keeps holds (rw c.in-Ok.is at x.done) x.units x.base in
     let may : MaySettle c.args.names.now c.args.proof.now d = may_settle c.args.names.now c.args.proof.now c.args.search.now d c.requires.together (none_open c.args.search.now.parts.trail.starts (omega (arith, c.if-current_level-gt0.false, c.current_level.ensures.level))) went in
-    let settles : EmitsSteps {A = Unit {0}} g.W.CountedWrite.seen (Ok tt) c.args.proof.now c.settle.new.proof (λ _ _. IsSettled d.parts c.settle.new.parts (session_of c.settle.new.proof) (global_of d.globals.items)) =
-    subst (λ gs. EmitsSteps {A = Unit {0}} g.W.CountedWrite.seen (Ok tt) c.args.proof.now c.settle.new.proof (λ _ _. IsSettled d.parts c.settle.new.parts (session_of c.settle.new.proof) (global_of gs))) c.deref.ensures.value c.in_ok-settle.ensures in
+    let settles : EmitsSteps {A = Unit {0}} g.W.CountedWrite.seen (Ok tt) c.args.proof.now c.settle.new.proof (λ _ _. TakesUnitsOff d.parts c.settle.new.parts (session_of c.settle.new.proof) (global_of d.globals.items)) =
+    subst (λ gs. EmitsSteps {A = Unit {0}} g.W.CountedWrite.seen (Ok tt) c.args.proof.now c.settle.new.proof (λ _ _. TakesUnitsOff d.parts c.settle.new.parts (session_of c.settle.new.proof) (global_of gs))) c.deref.ensures.value c.in_ok-settle.ensures in
     let e : Search = record d { parts = c.settle.new.parts; scratch = record d.scratch { units = c.settle.new.units } } in
     let p = err_from_is_err_and c.from_residual-in_err-unit_simplify.result c.from_residual-in_err-unit_simplify.ensures.1 in
     rw (p.1, p.2) (settled_simplified g.W.CountedWrite.seen c.args.names.now c.args.proof.now c.settle.new.proof d e may settles refl refl refl refl
@@ -107,10 +107,10 @@ returns g c =
     let holds : HoldsBelow (length d.parts.trail.starts + 1) d.parts = rw c.in-Ok.is at x.holds in
     let went : Propagation s c.args.search.now d = propagation s c.args.search.now d search refl refl refl refl x.starts x.moved x.carries x.word x.keeps holds (rw c.in-Ok.is at x.done) x.units x.base in
     let may : MaySettle c.args.names.now c.args.proof.now d = may_settle c.args.names.now c.args.proof.now c.args.search.now d c.requires.together (none_open c.args.search.now.parts.trail.starts (omega (arith, c.if-current_level-gt0.false, c.current_level.ensures.level))) went in
-    let settles : EmitsSteps {A = Unit {0}} g.W.CountedWrite.seen (Ok tt) c.args.proof.now c.settle.new.proof (λ _ _. IsSettled d.parts c.settle.new.parts (session_of c.settle.new.proof) (global_of d.globals.items)) =
-    subst (λ gs. EmitsSteps {A = Unit {0}} g.W.CountedWrite.seen (Ok tt) c.args.proof.now c.settle.new.proof (λ _ _. IsSettled d.parts c.settle.new.parts (session_of c.settle.new.proof) (global_of gs))) c.deref.ensures.value c.in_ok-settle.ensures in
+    let settles : EmitsSteps {A = Unit {0}} g.W.CountedWrite.seen (Ok tt) c.args.proof.now c.settle.new.proof (λ _ _. TakesUnitsOff d.parts c.settle.new.parts (session_of c.settle.new.proof) (global_of d.globals.items)) =
+    subst (λ gs. EmitsSteps {A = Unit {0}} g.W.CountedWrite.seen (Ok tt) c.args.proof.now c.settle.new.proof (λ _ _. TakesUnitsOff d.parts c.settle.new.parts (session_of c.settle.new.proof) (global_of gs))) c.deref.ensures.value c.in_ok-settle.ensures in
     let e : Search = record d { parts = c.settle.new.parts; scratch = record d.scratch { units = c.settle.new.units } } in
-    let simplified : Simplified g.W.CountedWrite.seen c.args.names.now c.unit_simplify.new.names c.args.proof.now c.unit_simplify.new.proof d c.unit_simplify.new.search =
+    let simplified : IsSimplifiedPass g.W.CountedWrite.seen c.args.names.now c.unit_simplify.new.names c.args.proof.now c.unit_simplify.new.proof d c.unit_simplify.new.search =
     settled_simplified g.W.CountedWrite.seen c.args.names.now c.args.proof.now c.settle.new.proof d e may settles refl refl refl refl
     (Ok tt) c.unit_simplify.new.names c.unit_simplify.new.proof c.unit_simplify.new.search c.in_ok-unit_simplify.ensures in
     passes_behind g.W.CountedWrite.seen c.args.names.now c.unit_simplify.new.names c.args.proof.now c.unit_simplify.new.proof c.args.search.now d c.unit_simplify.new.search went.moved went.word simplified.passes

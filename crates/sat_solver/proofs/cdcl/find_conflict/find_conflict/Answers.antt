@@ -7,7 +7,7 @@ use Rattle.sat_parts.proofs.lemmas.parts.WordSteps.{extends_refl, extends_after}
 use Rattle.sat_solver.specs.proof.ProofView.{session_of}
 use Rattle.sat_solver.specs.cdcl.Going.{EmitsSteps}
 use Rattle.sat_solver.specs.cdcl.Joint.{assumed_in}
-use Rattle.sat_solver.specs.cdcl.Turns.{Turned, Stopped}
+use Rattle.sat_solver.specs.cdcl.Turns.{TakesTurn, StopsSearch}
 use Rattle.sat_solver.specs.declared.context.Search.{Search}
 use Rattle.sat_solver.specs.declared.cdcl.find_conflict.FoundConflict.TheVariants.{Falsified}
 use Rattle.sat_solver.specs.declared.error.SolverError.TheVariants as errors
@@ -96,7 +96,7 @@ turns-preserved g c =
     let holds : HoldsBelow (length d.parts.trail.starts + 1) d.parts = rw c.in-Ok.is at x.holds in
     let went : Propagation s c.turns.search d = propagation s c.turns.search d c.turns.invariant.search refl refl refl refl x.starts x.moved x.carries x.word x.keeps holds (rw c.in-Ok.is at x.done) x.units x.base in
     let e : Search = record d { parts = c.assume_or_decide.new.parts; assumptions = c.assume_or_decide.new.assumptions; scratch = record d.scratch { units = c.settle.new.units } } in
-    let t : Turned None (session_of c.settle.new.proof) c.turns.search e = turned g.W.CountedWrite.seen c.turns.proof c.settle.new.proof c.turns.search d e c.settle.new.parts went c.deref.result.now c.deref.ensures.value c.in_ok-settle.ensures refl refl refl None (rw c.in-None.is at c.in_ok-found.ensures) in
+    let t : TakesTurn None (session_of c.settle.new.proof) c.turns.search e = turned g.W.CountedWrite.seen c.turns.proof c.settle.new.proof c.turns.search d e c.settle.new.parts went c.deref.result.now c.deref.ensures.value c.in_ok-settle.ensures refl refl refl None (rw c.in-None.is at c.in_ok-found.ensures) in
     record {
       came = goes_then g.W.CountedWrite.seen tt (Ok tt) c.args.proof.now c.turns.proof c.settle.new.proof _ _ _ i.came c.in_ok-settle.ensures (λ xs ys y a b. tt);
       search = t.says.0;
@@ -112,7 +112,7 @@ turns-smaller g c =
     let holds : HoldsBelow (length d.parts.trail.starts + 1) d.parts = rw c.in-Ok.is at x.holds in
     let went : Propagation s c.turns.search d = propagation s c.turns.search d c.turns.invariant.search refl refl refl refl x.starts x.moved x.carries x.word x.keeps holds (rw c.in-Ok.is at x.done) x.units x.base in
     let e : Search = record d { parts = c.assume_or_decide.new.parts; assumptions = c.assume_or_decide.new.assumptions; scratch = record d.scratch { units = c.settle.new.units } } in
-    let t : Turned None (session_of c.settle.new.proof) c.turns.search e = turned g.W.CountedWrite.seen c.turns.proof c.settle.new.proof c.turns.search d e c.settle.new.parts went c.deref.result.now c.deref.ensures.value c.in_ok-settle.ensures refl refl refl None (rw c.in-None.is at c.in_ok-found.ensures) in
+    let t : TakesTurn None (session_of c.settle.new.proof) c.turns.search e = turned g.W.CountedWrite.seen c.turns.proof c.settle.new.proof c.turns.search d e c.settle.new.parts went c.deref.result.now c.deref.ensures.value c.in_ok-settle.ensures refl refl refl None (rw c.in-None.is at c.in_ok-found.ensures) in
     omega (arith, t.says.1, t.moved.size, starts_few e.parts t.says.0.stands.holds)
 
 pub returns-in-Some : goal.returns-in-Some
@@ -124,8 +124,8 @@ returns-in-Some g c =
     let holds : HoldsBelow (length d.parts.trail.starts + 1) d.parts = rw c.in-Ok.is at x.holds in
     let went : Propagation s c.turns.search d = propagation s c.turns.search d c.turns.invariant.search refl refl refl refl x.starts x.moved x.carries x.word x.keeps holds (rw c.in-Ok.is at x.done) x.units x.base in
     let e : Search = record d { parts = c.assume_or_decide.new.parts; assumptions = c.assume_or_decide.new.assumptions; scratch = record d.scratch { units = c.settle.new.units } } in
-    let t : Turned (Some c.in-Some.stop) (session_of c.settle.new.proof) c.turns.search e = turned g.W.CountedWrite.seen c.turns.proof c.settle.new.proof c.turns.search d e c.settle.new.parts went c.deref.result.now c.deref.ensures.value c.in_ok-settle.ensures refl refl refl (Some c.in-Some.stop) (rw c.in-Some.is at c.in_ok-found.ensures) in
+    let t : TakesTurn (Some c.in-Some.stop) (session_of c.settle.new.proof) c.turns.search e = turned g.W.CountedWrite.seen c.turns.proof c.settle.new.proof c.turns.search d e c.settle.new.parts went c.deref.result.now c.deref.ensures.value c.in_ok-settle.ensures refl refl refl (Some c.in-Some.stop) (rw c.in-Some.is at c.in_ok-found.ensures) in
     goes_then g.W.CountedWrite.seen tt (Ok c.in-Some.stop) c.args.proof.now c.turns.proof c.settle.new.proof _ _ _ i.came
-    (goes_on g.W.CountedWrite.seen tt c.in-Some.stop c.turns.proof c.settle.new.proof _ (λ stop _. Stopped stop (session_of c.settle.new.proof) c.args.search.now e)
+    (goes_on g.W.CountedWrite.seen tt c.in-Some.stop c.turns.proof c.settle.new.proof _ (λ stop _. StopsSearch stop (session_of c.settle.new.proof) c.args.search.now e)
     (λ steps _. stopped_from c.in-Some.stop (session_of c.settle.new.proof) c.args.search.now c.turns.search e i.moved i.word t) c.in_ok-settle.ensures)
     (λ xs ys stop a b. b)

@@ -10,8 +10,8 @@ use Rattle.sat_solver.specs.proof.ProofView.{steps_of, session_of}
 use Rattle.sat_parts.specs.parts.Whole.{state}
 use Rattle.sat_solver.proofs.lemmas.fits.LearnedLemmas.{is_learned_clause}
 use Rattle.sat_solver.specs.declared.context.Search.{Search}
-use Rattle.sat_solver.specs.cdcl.Joint.{global_in, Moved}
-use Rattle.sat_solver.specs.cdcl.Learning.{Taken}
+use Rattle.sat_solver.specs.cdcl.Joint.{global_in, SameVarsAndAssumptions}
+use Rattle.sat_solver.specs.cdcl.Learning.{UndoesAndLearns}
 use Rattle.sat_solver.proofs.lemmas.cdcl.TakingLemmas.{free_taken}
 use Rattle.sat_store.specs.clause.Header.{Header}
 use Rattle.sat_solver.proofs.lemmas.cdcl.GoingLemmas.{goes_starved, goes_learned, goes_broken, goes_refused}
@@ -75,12 +75,12 @@ returns-clause-learned g c =
     let same : c.analyze.new.search.parts ≡ c.args.search.now.parts = ap (λ (s : Search). s.parts) x.same in
     let assumptions : c.analyze.new.search.assumptions ≡ c.args.search.now.assumptions = ap (λ (s : Search). s.assumptions) x.same in
     let n = c.take_in.new.search in
-    let taken : Taken c.args.search.now.parts c.take_in.new.search.parts c.in_ok-level.header c.analyze.new.search.analysis.clause c.in_ok-level.level = rw same at y.taken in
+    let taken : UndoesAndLearns c.args.search.now.parts c.take_in.new.search.parts c.in_ok-level.header c.analyze.new.search.analysis.clause c.in_ok-level.level = rw same at y.taken in
     let assumed : c.take_in.new.search.assumptions ≡ c.args.search.now.assumptions = ap (λ (s : Search). s.assumptions) y.same ∙ assumptions in
     let lits : c.cut.new.self.lits ≡ c.args.search.now.assumptions.lits = c.cut.ensures.lits ∙ ap (λ (a : Assumptions). a.lits) assumed in
     let before : ArePlaced c.take_in.new.search.assumptions (state c.args.search.now.parts) = rw assumed r.ready.placed in
     let placed = c.cut.ensures.placed (state c.args.search.now.parts) (state c.take_in.new.search.parts) before (omega (arith, x.learns.below)) taken.keeps taken.starts in
-    let moved : Moved c.analyze.new.search (record c.take_in.new.search { assumptions = c.cut.new.self }) =
+    let moved : SameVarsAndAssumptions c.analyze.new.search (record c.take_in.new.search { assumptions = c.cut.new.self }) =
     record { globals = ap (λ (s : Search). s.globals) y.same; lits = c.cut.ensures.lits ∙ ap (λ (s : Search). s.assumptions.lits) y.same; size = y.taken.size } in
     goes_learned g.W.CountedWrite.seen tt c.args.proof.now c.step.new.self (AtClause c.says_redundant.result c.deref.result.now c.deref-2.result.now) _
     (learned_named c.args.search.now.parts c.args.conflict.now c.analyze.new.search.analysis c.in_ok-level.level (session_of c.args.proof.now) (global_in c.args.search.now) (ready_names (session_of c.args.proof.now) c.args.search.now c.requires.stopped.ready) x.learns c.deref.result.now (c.deref.ensures.value ∙ x.clause)) c.in_ok-step.ensures.keeps c.in_ok-step.ensures.records

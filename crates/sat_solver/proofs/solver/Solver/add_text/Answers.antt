@@ -1,6 +1,6 @@
 use Rattle.std.proofs.Common.{◌+◌, ℕ, [], ◌++◌, inl, inr, refl, ap, sym, subst, ◌∙◌, take, length-append, rules, arith}
 use Rattle.std.proofs.lemmas.Result.{err_from_is_err_and}
-use Rattle.sat_base.specs.dimacs.Parsing.{Progress, IsSound}
+use Rattle.sat_base.specs.dimacs.Parsing.{Progress, IsSoundSoFar}
 use Rattle.sat_base.proofs.lemmas.device.Given.{gave_none, gave_more, gave_still, gave_to_end, not_ended, few_front}
 use Rattle.sat_base.proofs.lemmas.dimacs.Parsed.{stands_of, piece_given, sound_none}
 use Rattle.sat_checker.proofs.lemmas.checker.Texts.{no_clauses, sound_after}
@@ -14,7 +14,7 @@ loop-init g c = record {
   going = c.requires.going;
   solver = c.requires.solver;
   bytes = ([], stands_of [] c.args.parser.now c.requires.fresh, gave_none _, omega arith, ap (λ (z : Progress). z.taken) c.requires.fresh ∙ sym no_clauses);
-  sound = subst IsSound (sym c.requires.fresh) sound_none;
+  sound = subst IsSoundSoFar (sym c.requires.fresh) sound_none;
   open_yet = λ h. absurd (omega arith);
   failures = refl;
   calls = omega arith;

@@ -1,7 +1,7 @@
 use Rattle.std.proofs.Common.{◌≡◌, ◌+◌, ◌<◌, ◌≤◌, false, length, List, ℕ}
 use Rattle.sat_base.specs.device.Device.{GaveFront}
 use Rattle.sat_base.specs.dimacs.Dimacs.{dimacs, settled}
-use Rattle.sat_base.specs.dimacs.Parsing.{IsSound}
+use Rattle.sat_base.specs.dimacs.Parsing.{IsSoundSoFar}
 use Rattle.sat_base.proofs.lemmas.dimacs.Parsed.{Stands as HasFed}
 use Rattle.sat_solver.specs.solver.Formulas.{AddsAll}
 use Rattle.sat_solver.specs.solver.Whole.{IsSolver}
@@ -15,7 +15,7 @@ invariant-loop g l = record {
   solver : IsSolver l.self;
   bytes : (text : List ℕ) × HasFed text l.parser × GaveFront (g.R.CountedRead.seen l.fn.reader) (g.R.CountedRead.seen l.reader) text × (l.counter ≤ length text)
       × (l.parser.taken ≡ (dimacs (settled text)).clauses);
-  sound : IsSound l.parser;
+  sound : IsSoundSoFar l.parser;
   open_yet : 0 < l.counter → (g.R.CountedRead.seen l.reader).ended ≡ false;
   failures : (g.R.CountedRead.seen l.reader).failures ≡ (g.R.CountedRead.seen l.fn.reader).failures;
   calls : (g.R.CountedRead.seen l.reader).calls ≡ (g.R.CountedRead.seen l.fn.reader).calls + l.counter;

@@ -3,7 +3,7 @@ use Rattle.std.specs.Prelude.{◌-◌}
 use Rattle.std.proofs.lemmas.Result.{err_from_is_err_and}
 use Rattle.sat_solver.specs.declared.state.State.{State}
 use Rattle.sat_solver.specs.declared.state.State.TheVariants as states
-use Rattle.sat_solver.specs.solver.Found.{Finds}
+use Rattle.sat_solver.specs.solver.Found.{FindsAnswer}
 use Rattle.sat_solver.proofs.lemmas.solver.SettlingLemmas.{rounds_on, settled_known, settled_some, settled_without}
 use Rattle.sat_solver.proofs.solver.Solver.find_where_unknown.Goals as goal
 
@@ -32,14 +32,14 @@ pub returns-in-Some : goal.returns-in-Some
 returns-in-Some g c =
     let s = c.args.self.now in
     settled_some g.W.CountedWrite.seen s c.requires.whole c.in-Unknown.is c.find_answer.new.core c.find_answer.new.names c.find_answer.new.told c.find_answer.new.clock c.in_ok-found.ensures.scale c.in_ok-found.ensures.counts (c.in_ok-found.ensures.round (λ e. none_some c.in_ok-found.found c.in-Some.state e c.in-Some.is)) c.in-Some.state
-    (subst (λ (o : Option State). Finds g.W.CountedWrite.seen o (c.find_answer.new.clock.steps - s.clock.steps) s.names c.find_answer.new.names s.core c.find_answer.new.core c.find_answer.new.told.failed_core.items) c.in-Some.is c.in_ok-found.ensures.finds)
+    (subst (λ (o : Option State). FindsAnswer g.W.CountedWrite.seen o (c.find_answer.new.clock.steps - s.clock.steps) s.names c.find_answer.new.names s.core c.find_answer.new.core c.find_answer.new.told.failed_core.items) c.in-Some.is c.in_ok-found.ensures.finds)
 
 pub returns-in-None : goal.returns-in-None
 returns-in-None g c =
     let s = c.args.self.now in
     settled_without g.W.CountedWrite.seen s c.requires.whole c.in-Unknown.is c.find_answer.new.core c.find_answer.new.names c.find_answer.new.told c.find_answer.new.clock c.in_ok-found.ensures.scale c.in_ok-found.ensures.counts
     (c.in_ok-found.ensures.interrupted c.in-None.is) (λ n le fits. c.in_ok-found.ensures.answered n le fits c.in-None.is)
-    (subst (λ (o : Option State). Finds g.W.CountedWrite.seen o (c.find_answer.new.clock.steps - s.clock.steps) s.names c.find_answer.new.names s.core c.find_answer.new.core c.find_answer.new.told.failed_core.items) c.in-None.is c.in_ok-found.ensures.finds)
+    (subst (λ (o : Option State). FindsAnswer g.W.CountedWrite.seen o (c.find_answer.new.clock.steps - s.clock.steps) s.names c.find_answer.new.names s.core c.find_answer.new.core c.find_answer.new.told.failed_core.items) c.in-None.is c.in_ok-found.ensures.finds)
 
 pub returns-in_err-found : goal.returns-in_err-found
 returns-in_err-found g c =

@@ -1,5 +1,5 @@
 use Rattle.std.proofs.Common.{ℕ, List, subst}
-use Rattle.sat_solver.specs.variables.Initialized.{AreIndexed}
+use Rattle.sat_solver.specs.variables.Initialized.{GivesSearchIndices}
 use Rattle.sat_solver.specs.assumptions.Setting.{AreAssumed}
 use Rattle.sat_solver.specs.declared.variables.solver_vars.Given.{Given}
 use Rattle.std.proofs.lemmas.Result.{err_from_is_err_and}
@@ -23,8 +23,8 @@ returns-in_err-new_indices-clause-takes g c =
 
 pub set_assumptions-requires-clause-there : goal.set_assumptions-requires-clause-there
 set_assumptions-requires-clause-there g c = rw c.deref-3.ensures.value (asked_there g.W.CountedWrite.seen c.args.names.now c.assume.new.variables c.args.core.now c.requires.joined c.args.lits.now c.assume.new.asked c.assume.new.writer c.in_ok-assume.ensures.assumes (c.in_ok-assume.ensures.came c.args.core.now.proof (none_took g.W.CountedWrite.seen c.args.core.now.proof)) c.in_ok-assume.ensures.keeps c.new_indices.new.search
-    (subst (λ (gs : List ℕ). AreIndexed gs c.assume.new.asked.given.items c.args.core.now.search c.new_indices.new.search) c.deref.ensures.value
-    (subst (λ (hs : List Given). AreIndexed c.deref.result.now hs c.args.core.now.search c.new_indices.new.search) c.deref-2.ensures.value c.in_ok-new_indices.ensures)))
+    (subst (λ (gs : List ℕ). GivesSearchIndices gs c.assume.new.asked.given.items c.args.core.now.search c.new_indices.new.search) c.deref.ensures.value
+    (subst (λ (hs : List Given). GivesSearchIndices c.deref.result.now hs c.args.core.now.search c.new_indices.new.search) c.deref-2.ensures.value c.in_ok-new_indices.ensures)))
 
 pub returns-in_err-set_assumptions-clause-takes : goal.returns-in_err-set_assumptions-clause-takes
 returns-in_err-set_assumptions-clause-takes g c =
@@ -33,8 +33,8 @@ returns-in_err-set_assumptions-clause-takes g c =
 
 pub returns-clause-takes : goal.returns-clause-takes
 returns-clause-takes g c = asked_taken g.W.CountedWrite.seen c.args.names.now c.assume.new.variables c.args.core.now c.requires.joined c.args.lits.now c.assume.new.asked c.assume.new.writer c.in_ok-assume.ensures.assumes (c.in_ok-assume.ensures.came c.args.core.now.proof (none_took g.W.CountedWrite.seen c.args.core.now.proof)) c.in_ok-assume.ensures.keeps c.new_indices.new.search
-    (subst (λ (gs : List ℕ). AreIndexed gs c.assume.new.asked.given.items c.args.core.now.search c.new_indices.new.search) c.deref.ensures.value
-    (subst (λ (hs : List Given). AreIndexed c.deref.result.now hs c.args.core.now.search c.new_indices.new.search) c.deref-2.ensures.value c.in_ok-new_indices.ensures))
+    (subst (λ (gs : List ℕ). GivesSearchIndices gs c.assume.new.asked.given.items c.args.core.now.search c.new_indices.new.search) c.deref.ensures.value
+    (subst (λ (hs : List Given). GivesSearchIndices c.deref.result.now hs c.args.core.now.search c.new_indices.new.search) c.deref-2.ensures.value c.in_ok-new_indices.ensures))
     c.set_assumptions.new.search (subst (λ (ls : List ℕ). AreAssumed ls c.new_indices.new.search c.set_assumptions.new.search) c.deref-3.ensures.value c.in_ok-set_assumptions.ensures)
 
 pub returns-in_err-assume-clause-room : goal.returns-in_err-assume-clause-room

@@ -5,7 +5,7 @@ use Rattle.sat_solver.specs.declared.context.Search.{Search}
 use Rattle.sat_parts.specs.parts.Whole.{PartsInvariant}
 use Rattle.sat_parts.specs.parts.Frame.{Removed}
 use Rattle.sat_parts.specs.parts.Words.{TrailWordExtends}
-use Rattle.sat_solver.specs.cdcl.Joint.{Leaves}
+use Rattle.sat_solver.specs.cdcl.Joint.{SameAssumedAndNames}
 use Rattle.sat_solver.specs.unit_simplify.Flat.{MayRemove, LeavesPairs, Lighter}
 use Rattle.sat_solver.proofs.lemmas.cdcl.GoingLemmas.{goes_none, goes_then, goes_then_fails, goes_on}
 use Rattle.sat_solver.proofs.lemmas.unit_simplify.LighterLemmas.{pairs_begin, pairs_removed, may_remove, may_scratch, goes_leaves}
@@ -64,7 +64,7 @@ returns g c =
     let y : Search = record c.loop-code.search { parts = c.remove_binary.new.parts } in
     let room = c.requires.search.stands.holds.below.asks.ranges.room in
     let end : c.loop-code.code ≡ length c.args.search.now.parts.binary.implied = omega (arith, room, c.loop-code-test.false, c.loop-code.auto.code-end, ap (λ xs. length xs) c.assignment.ensures.values) in
-    let leaves : Leaves (session_of c.args.proof.now) (session_of c.loop-code.proof) = goes_leaves g.W.CountedWrite.seen tt c.args.proof.now c.loop-code.proof _ i.went in
+    let leaves : SameAssumedAndNames (session_of c.args.proof.now) (session_of c.loop-code.proof) = goes_leaves g.W.CountedWrite.seen tt c.args.proof.now c.loop-code.proof _ i.went in
     let removed : Removed c.args.search.now.parts c.remove_binary.new.parts = subst (λ (s : Search). Removed s.parts c.remove_binary.new.parts) i.same c.remove_binary.ensures.removed in
     goes_on g.W.CountedWrite.seen tt tt c.args.proof.now c.loop-code.proof (λ _ _. LeavesPairs (session_of c.loop-code.proof) c.args.search.now c.loop-code.code 0)
     (λ _ _. Lighter (session_of c.loop-code.proof) c.args.search.now (record c.loop-code.search { parts = c.remove_binary.new.parts }) × Removed c.args.search.now.parts c.remove_binary.new.parts)

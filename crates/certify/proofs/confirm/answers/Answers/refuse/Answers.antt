@@ -1,16 +1,16 @@
 use Rattle.std.proofs.Common.{◌++◌, true, List, ℕ, sym, ◌∙◌, ap, subst}
 use Rattle.certify.specs.answers.Answers.{refused_line}
-use Rattle.certify.specs.confirm.Lines.{TakesLine}
+use Rattle.certify.specs.confirm.Lines.{TakesDueLine}
 use Rattle.certify.specs.confirm.Stopping.{Replies}
 use Rattle.certify.specs.judge.Names.{refusal_in}
-use Rattle.certify.specs.confirm.Lines.{IsLine, answers_source}
+use Rattle.certify.specs.confirm.Lines.{IsOneLine, answers_source}
 use Rattle.certify.proofs.confirm.answers.Answers.refuse.Goals as goal
 
 pub take_due-requires-clause-line : goal.take_due-requires-clause-line
-take_due-requires-clause-line g c = subst IsLine (sym (c.in_ok-push_refused.ensures.text ∙ ap (λ (xs : List ℕ). xs ++ refused_line c.args.number (refusal_in c.args.refusal)) c.clear.ensures.items)) c.in_ok-push_refused.ensures.line
+take_due-requires-clause-line g c = subst IsOneLine (sym (c.in_ok-push_refused.ensures.text ∙ ap (λ (xs : List ℕ). xs ++ refused_line c.args.number (refusal_in c.args.refusal)) c.clear.ensures.items)) c.in_ok-push_refused.ensures.line
 
 pub returns : goal.returns
 returns g c =
     let A = g.A.CountedRead.seen in
-    subst (λ (t : List ℕ). Replies true c.take_due.result (answers_source A c.args.answers.now c.args.self.now) (answers_source A c.take_due.new.answers c.take_due.new.self) (λ before behind. TakesLine before behind t))
+    subst (λ (t : List ℕ). Replies true c.take_due.result (answers_source A c.args.answers.now c.args.self.now) (answers_source A c.take_due.new.answers c.take_due.new.self) (λ before behind. TakesDueLine before behind t))
     (c.in_ok-push_refused.ensures.text ∙ ap (λ (xs : List ℕ). xs ++ refused_line c.args.number (refusal_in c.args.refusal)) c.clear.ensures.items) c.take_due.ensures

@@ -1,7 +1,7 @@
 use Rattle.std.proofs.Common.{◌≡◌, Bool, true, refl, sym, ◌∙◌, subst}
 use Rattle.std.proofs.lemmas.Result.{err_from_is_err_and}
 use Rattle.std.specs.Bool.{MatchBool}
-use Rattle.certify.specs.confirm.Lines.{TakesLine}
+use Rattle.certify.specs.confirm.Lines.{TakesDueLine}
 use Rattle.certify.specs.declared.confirm.lines.Wanted.TheVariants as wanted
 use Rattle.certify.specs.declared.verdict.Why.TheVariants.{AnswerMissing, AnswerText}
 use Rattle.certify.specs.confirm.Lines.{IsWantedLine, answers_source}
@@ -17,7 +17,7 @@ returns-in_err-next_line g c =
     let b = answers_source A c.next_line.new.answers mid in
     let line = mid.lines.line.items in
     let p = err_from_is_err_and c.from_residual.result c.from_residual.ensures.1 in
-    rw (p.1, p.2) (line_stops (IsWantedLine wanted.Due old.due.items) true c.in_err-next_line.field-0.0 a b line (λ before behind. TakesLine before behind old.due.items) c.in_err-next_line.ensures.line)
+    rw (p.1, p.2) (line_stops (IsWantedLine wanted.Due old.due.items) true c.in_err-next_line.field-0.0 a b line (λ before behind. TakesDueLine before behind old.due.items) c.in_err-next_line.ensures.line)
 
 pub returns-then-is_same : goal.returns-then-is_same
 returns-then-is_same g c =

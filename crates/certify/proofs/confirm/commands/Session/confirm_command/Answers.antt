@@ -6,7 +6,7 @@ use Rattle.certify.specs.confirm.Lines.{answers_source}
 use Rattle.certify.specs.confirm.Sessions.{answers_in, stream_in}
 use Rattle.certify.specs.script.Commands.{kind_of}
 use Rattle.certify.specs.declared.judge.Refusal.{Refusal}
-use Rattle.certify.specs.judge.Names.{Judges}
+use Rattle.certify.specs.judge.Names.{TellsRefusal}
 use Rattle.sat_base.specs.script.Language.{command_of}
 use Rattle.certify.proofs.lemmas.confirm.SessionMet.{allowed_by, if_ok, lent_whole, names_go, names_stop, refused}
 use Rattle.certify.proofs.confirm.commands.Session.confirm_command.Goals as goal
@@ -21,7 +21,7 @@ returns-in-Some-clause-confirms g c w is =
       bound = c.requires.goes_on.bound;
       goes_on = if_ok c.refuse.result c.requires.goes_on;
       joins = refused old.number c.args.command w is (table_of old.matching) (table_of old.matching) (answers_in A c.args.answers.now old) (answers_source A c.refuse.new.answers c.refuse.new.self) (stream_in C c.args.steps.now old.matching) c.in-Some.refusal c.refuse.result c.requires.goes_on.open_yet
-          (subst (λ (o : Option Refusal). Judges o old.matching.names c.args.command) c.in-Some.is c.refusal.ensures.judges) refl c.refuse.ensures;
+          (subst (λ (o : Option Refusal). TellsRefusal o old.matching.names c.args.command) c.in-Some.is c.refusal.ensures.judges) refl c.refuse.ensures;
     }
 
 pub returns-in_err-take_names-clause-confirms : goal.returns-in_err-take_names-clause-confirms
@@ -33,7 +33,7 @@ returns-in_err-take_names-clause-confirms g c w is =
     let kind = kind_of c.args.command.kind in
     let ls = named_literals c.args.command.literals.now in
     let whole = lent_whole c.args.command w (c.refusal.ensures.within c.in_default.is) is in
-    let judges = subst (λ (o : Option Refusal). Judges o old.matching.names c.args.command) c.in_default.is c.refusal.ensures.judges in
+    let judges = subst (λ (o : Option Refusal). TellsRefusal o old.matching.names c.args.command) c.in_default.is c.refusal.ensures.judges in
     let allowed = allowed_by old.matching.names c.args.command w (command_of kind ls) whole is judges in
     let a = answers_in A c.args.answers.now old in
     let s = stream_in C c.args.steps.now old.matching in
@@ -56,7 +56,7 @@ returns-clause-confirms g c w is =
     let kind = kind_of c.args.command.kind in
     let ls = named_literals c.args.command.literals.now in
     let whole = lent_whole c.args.command w (c.refusal.ensures.within c.in_default.is) is in
-    let judges = subst (λ (o : Option Refusal). Judges o old.matching.names c.args.command) c.in_default.is c.refusal.ensures.judges in
+    let judges = subst (λ (o : Option Refusal). TellsRefusal o old.matching.names c.args.command) c.in_default.is c.refusal.ensures.judges in
     let allowed = allowed_by old.matching.names c.args.command w (command_of kind ls) whole is judges in
     let k = c.confirm_content.ensures.confirms in
     record {

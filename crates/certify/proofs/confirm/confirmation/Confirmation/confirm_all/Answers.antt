@@ -2,7 +2,7 @@ use Rattle.std.proofs.Common.{◌+◌, ◌<◌, ℕ, true, refl, sym, ◌∙◌,
 use Rattle.std.proofs.lemmas.Result.{err_from_is_err_and}
 use Rattle.certify.specs.confirm.Streams.{bytes_left}
 use Rattle.certify.specs.confirm.Sessions.{answers_in}
-use Rattle.certify.specs.confirm.ConfirmedScript.{ConfirmsThrough, script_in, standing}
+use Rattle.certify.specs.confirm.ConfirmedScript.{ConfirmsThrough, script_in, confirm_place}
 use Rattle.certify.specs.script.Ahead.{IsNotAtEnd, source_in}
 use Rattle.sat_base.specs.script.Language.{reading}
 use Rattle.certify.specs.script.Streaming.{Arrives}
@@ -19,7 +19,7 @@ loop-next-init g c = record {
   goes_on = c.requires.goes_on;
   open_yet = c.requires.open_yet;
   script_open = c.requires.script_open;
-  through = through_none reading (standing g.S.CountedRead.seen g.A.CountedRead.seen g.C.CountedRead.seen c.args.script.now c.args.answers.now c.args.steps.now c.args.self.now) c.args.self.now.script.reader c.requires.reads;
+  through = through_none reading (confirm_place g.S.CountedRead.seen g.A.CountedRead.seen g.C.CountedRead.seen c.args.script.now c.args.answers.now c.args.steps.now c.args.self.now) c.args.self.now.script.reader c.requires.reads;
 }
 
 pub returns-in-Err-clause-ends : goal.returns-in-Err-clause-ends
@@ -28,8 +28,8 @@ returns-in-Err-clause-ends g c =
     let A = g.A.CountedRead.seen in
     let C = g.C.CountedRead.seen in
     let l = c.loop-next in
-    let old = standing S A C c.args.script.now c.args.answers.now c.args.steps.now c.args.self.now in
-    let mid = standing S A C l.script l.answers l.steps l.self in
+    let old = confirm_place S A C c.args.script.now c.args.answers.now c.args.steps.now c.args.self.now in
+    let mid = confirm_place S A C l.script l.answers l.steps l.self in
     rw c.unread_script.ensures (unread reading old mid l.self.script.reader c.next.new.self.reader l.invariant.through c.requires.script_open c.requires.open_yet c.requires.goes_on.open_yet c.in-Err.error (source_in S c.next.new.script c.next.new.self.ahead) c.in-Err.ensures)
 
 pub returns-in-End-clause-ends : goal.returns-in-End-clause-ends
@@ -40,9 +40,9 @@ returns-in-End-clause-ends g c =
     let l = c.loop-next in
     let a = script_in S l.script l.self in
     let b = source_in S c.next.new.script c.next.new.self.ahead in
-    let old = standing S A C c.args.script.now c.args.answers.now c.args.steps.now c.args.self.now in
-    let mid = standing S A C l.script l.answers l.steps l.self in
-    let new = standing S A C c.next.new.script c.confirm_end.new.answers c.confirm_end.new.steps (record l.self { script = c.next.new.self; session = c.confirm_end.new.self }) in
+    let old = confirm_place S A C c.args.script.now c.args.answers.now c.args.steps.now c.args.self.now in
+    let mid = confirm_place S A C l.script l.answers l.steps l.self in
+    let new = confirm_place S A C c.next.new.script c.confirm_end.new.answers c.confirm_end.new.steps (record l.self { script = c.next.new.self; session = c.confirm_end.new.self }) in
     let came = subst (λ (n : Next). Arrives n a b l.self.script.reader c.next.new.self.reader) c.in-End.is c.in-Ok.ensures in
     ends_so reading old mid l.self.script.reader c.next.new.self.reader l.invariant.through c.requires.script_open c.requires.open_yet c.requires.goes_on.open_yet new c.in-End.end c.confirm_end.result came c.confirm_end.ensures.confirms.joins
 
@@ -70,10 +70,10 @@ returns-in-Last-clause-ends g c =
     let l = c.loop-next in
     let a = script_in S l.script l.self in
     let b = source_in S c.next.new.script c.next.new.self.ahead in
-    let old = standing S A C c.args.script.now c.args.answers.now c.args.steps.now c.args.self.now in
-    let mid = standing S A C l.script l.answers l.steps l.self in
+    let old = confirm_place S A C c.args.script.now c.args.answers.now c.args.steps.now c.args.self.now in
+    let mid = confirm_place S A C l.script l.answers l.steps l.self in
     let last = c.confirm_last.new.self in
-    let new = standing S A C c.next.new.script c.confirm_last.new.answers c.confirm_last.new.steps (record last { script = c.next.new.self }) in
+    let new = confirm_place S A C c.next.new.script c.confirm_last.new.answers c.confirm_last.new.steps (record last { script = c.next.new.self }) in
     let came = subst (λ (n : Next). Arrives n a b l.self.script.reader c.next.new.self.reader) c.in-Last.is c.in-Ok.ensures in
     rw c.confirm_last.ensures.script (ends_last reading old mid l.self.script.reader c.next.new.self.reader l.invariant.through c.requires.script_open c.requires.open_yet c.requires.goes_on.open_yet new c.in-Last.end c.confirm_last.result came (λ w is. (c.confirm_last.ensures.confirms w is).joins))
 
@@ -115,10 +115,10 @@ returns-in_err-confirm_next-in-Command-clause-ends g c =
     let l = c.loop-next in
     let a = script_in S l.script l.self in
     let b = source_in S c.next.new.script c.next.new.self.ahead in
-    let old = standing S A C c.args.script.now c.args.answers.now c.args.steps.now c.args.self.now in
-    let mid = standing S A C l.script l.answers l.steps l.self in
+    let old = confirm_place S A C c.args.script.now c.args.answers.now c.args.steps.now c.args.self.now in
+    let mid = confirm_place S A C l.script l.answers l.steps l.self in
     let last = c.confirm_next.new.self in
-    let new = standing S A C c.next.new.script c.confirm_next.new.answers c.confirm_next.new.steps (record last { script = c.next.new.self }) in
+    let new = confirm_place S A C c.next.new.script c.confirm_next.new.answers c.confirm_next.new.steps (record last { script = c.next.new.self }) in
     let came = subst (λ (n : Next). Arrives n a b l.self.script.reader c.next.new.self.reader) c.in-Command.is c.in-Ok.ensures in
     let p = err_from_is_err_and c.from_residual.result c.from_residual.ensures.1 in
     rw (p.1, p.2, c.in_err-confirm_next-in-Command.ensures.script) (stops reading old mid l.self.script.reader c.next.new.self.reader l.invariant.through c.requires.script_open c.requires.open_yet c.requires.goes_on.open_yet new came c.in_err-confirm_next-in-Command.field-0.0 (λ w is. (c.in_err-confirm_next-in-Command.ensures.confirms w is).joins))
@@ -151,10 +151,10 @@ loop-next-preserved g c =
     let l = c.loop-next in
     let a = script_in S l.script l.self in
     let b = source_in S c.next.new.script c.next.new.self.ahead in
-    let old = standing S A C c.args.script.now c.args.answers.now c.args.steps.now c.args.self.now in
-    let mid = standing S A C l.script l.answers l.steps l.self in
+    let old = confirm_place S A C c.args.script.now c.args.answers.now c.args.steps.now c.args.self.now in
+    let mid = confirm_place S A C l.script l.answers l.steps l.self in
     let last = c.confirm_next.new.self in
-    let new = standing S A C c.next.new.script c.confirm_next.new.answers c.confirm_next.new.steps (record last { script = c.next.new.self }) in
+    let new = confirm_place S A C c.next.new.script c.confirm_next.new.answers c.confirm_next.new.steps (record last { script = c.next.new.self }) in
     let came = subst (λ (n : Next). Arrives n a b l.self.script.reader c.next.new.self.reader) c.in-Command.is c.in-Ok.ensures in
     let w = came.3 true l.invariant.through.left l.invariant.through.means in
     let k = c.in_ok-confirm_next-in-Command.ensures.confirms w.command w.whole in
@@ -164,7 +164,7 @@ loop-next-preserved g c =
       goes_on = k.goes_on;
       open_yet = took_open (answers_in A l.answers l.self.session) (answers_in A c.confirm_next.new.answers last.session) l.invariant.open_yet k.joins.0;
       script_open = subst (λ (x : CommandStream). IsNotAtEnd (source_in S c.next.new.script x.ahead)) script (took_open a b l.invariant.script_open (came.0, came.1));
-      through = subst (λ (x : CommandStream). ConfirmsThrough reading old (standing S A C c.next.new.script c.confirm_next.new.answers c.confirm_next.new.steps (record last { script = x })) x.reader) script
+      through = subst (λ (x : CommandStream). ConfirmsThrough reading old (confirm_place S A C c.next.new.script c.confirm_next.new.answers c.confirm_next.new.steps (record last { script = x })) x.reader) script
           (one_more reading old mid l.self.script.reader c.next.new.self.reader l.invariant.through c.requires.script_open c.requires.open_yet c.requires.goes_on.open_yet new came (ap (λ (n : ℕ). n + 1) c.in_ok-confirm_next-in-Command.ensures.number) (λ v is. (c.in_ok-confirm_next-in-Command.ensures.confirms v is).joins));
     }
 

@@ -3,7 +3,7 @@ use Rattle.std.proofs.lemmas.Result.{err_from_is_err_and}
 use Rattle.sat_base.specs.device.Reading.{Passes}
 use Rattle.sat_base.proofs.lemmas.device.ReadLemmas.{passes_none}
 use Rattle.certify.specs.confirm.Lines.{EndsPart, HasNoLf, IsWantedLine, IsWrong}
-use Rattle.certify.specs.script.Ahead.{Kept, source_in, waiting}
+use Rattle.certify.specs.script.Ahead.{NoReadFailedAhead, source_in, waiting}
 use Rattle.certify.specs.declared.script.ahead.Ahead.{Ahead}
 use Rattle.certify.proofs.lemmas.confirm.Lines.{line_came, part_came, line_ends, line_goes, line_fails, line_kept}
 use Rattle.certify.proofs.lemmas.script.Ahead.{passes_front}
@@ -21,7 +21,7 @@ returns-in_err-take g c =
     let a = source_in S c.args.answers.now c.args.self.now.ahead in
     let b = source_in S l.answers l.self.ahead in
     let p = err_from_is_err_and c.from_residual.result c.from_residual.ensures.1 in
-    rw (p.1, p.2) (subst (λ (x : Ahead). Kept a (source_in S l.answers x)) (sym c.in_err-take.ensures) (line_kept a b l.self.line.items l.invariant.passes))
+    rw (p.1, p.2) (subst (λ (x : Ahead). NoReadFailedAhead a (source_in S l.answers x)) (sym c.in_err-take.ensures) (line_kept a b l.self.line.items l.invariant.passes))
 
 pub returns-then-branch : goal.returns-then-branch
 returns-then-branch g c =

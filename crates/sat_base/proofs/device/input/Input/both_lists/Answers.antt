@@ -4,7 +4,7 @@ use Rattle.sat_base.specs.declared.steps.error.StepError.{StepError}
 use Rattle.sat_base.specs.steps.Formats.{Both}
 use Rattle.sat_base.specs.steps.Numbers.{IsBelow}
 use Rattle.sat_base.specs.steps.StepText.{AreLiterals, AreHashes}
-use Rattle.sat_base.specs.device.Reading.{source_of, Reads, giving}
+use Rattle.sat_base.specs.device.Reading.{source_of, ReadsValue, giving}
 use Rattle.sat_base.proofs.lemmas.steps.FormatReads.{first_fails, second_gives, pair_giving}
 use Rattle.sat_base.proofs.lemmas.steps.StepReads.{one_literals, some_list}
 use Rattle.sat_base.proofs.device.input.Input.both_lists.Goals as goal
@@ -21,5 +21,5 @@ returns g c =
     let lits = c.literals.new.lits.items in
     let hs = c.hashes.new.hashes.items in
     let k = c.in_ok-literals.ensures in
-    subst (λ (z : Result (List ℕ × List ℕ) StepError). Reads (Both AreLiterals AreHashes) z (S c.args.self.now) (S c.hashes.new.self)) (pair_giving lits hs c.hashes.result)
+    subst (λ (z : Result (List ℕ × List ℕ) StepError). ReadsValue (Both AreLiterals AreHashes) z (S c.args.self.now) (S c.hashes.new.self)) (pair_giving lits hs c.hashes.result)
     (second_gives AreLiterals (λ _. AreHashes) one_literals lits k.0 (S c.args.self.now) (S c.literals.new.self) (S c.hashes.new.self) k.2 k.1 (giving hs c.hashes.result) c.hashes.ensures)

@@ -5,7 +5,7 @@ use Rattle.sat_base.specs.steps.Formats.{Both}
 use Rattle.sat_base.specs.steps.Steps.{Deletion}
 use Rattle.sat_base.specs.steps.StepViews.{deletion_of}
 use Rattle.sat_base.specs.steps.StepText.{IsDeletion, AreLiterals}
-use Rattle.sat_base.specs.device.Reading.{source_of, Reads, valued}
+use Rattle.sat_base.specs.device.Reading.{source_of, ReadsValue, valued}
 use Rattle.sat_base.proofs.lemmas.steps.FormatReads.{first_fails, second_gives, pair_valued}
 use Rattle.sat_base.proofs.lemmas.steps.StepReads.{one_literals, some_deletion}
 use Rattle.sat_base.proofs.device.input.Input.clause_and_deletion.Goals as goal
@@ -21,5 +21,5 @@ returns g c =
     let S = source_of g.R.CountedRead.seen in
     let lits = c.literals.new.lits.items in
     let k = c.in_ok-literals.ensures in
-    subst (λ (z : Result (List ℕ × Deletion) StepError). Reads (Both AreLiterals IsDeletion) z (S c.args.self.now) (S c.deletion.new.self)) (pair_valued lits deletion_of c.deletion.result)
+    subst (λ (z : Result (List ℕ × Deletion) StepError). ReadsValue (Both AreLiterals IsDeletion) z (S c.args.self.now) (S c.deletion.new.self)) (pair_valued lits deletion_of c.deletion.result)
     (second_gives AreLiterals (λ _. IsDeletion) one_literals lits k.0 (S c.args.self.now) (S c.literals.new.self) (S c.deletion.new.self) k.2 k.1 (valued deletion_of c.deletion.result) c.deletion.ensures)

@@ -6,7 +6,7 @@ use Rattle.sat_base.specs.values.Literals.{largest}
 use Rattle.sat_base.specs.steps.Formats.{Both}
 use Rattle.sat_base.specs.steps.Steps.{Step}
 use Rattle.sat_base.specs.steps.StepText.{IsVariable, IsOptionalVariable, IsFlag}
-use Rattle.sat_base.specs.device.Reading.{Source, Reads, Behind, source_of, valued}
+use Rattle.sat_base.specs.device.Reading.{Source, ReadsValue, Behind, source_of, valued}
 use Rattle.sat_base.proofs.lemmas.steps.FormatReads.{first_fails, second_gives}
 use Rattle.sat_base.proofs.lemmas.steps.Numbers.{one_below}
 use Rattle.sat_base.proofs.lemmas.steps.StepReads.{some_flag, some_optional}
@@ -15,16 +15,16 @@ use Rattle.sat_base.proofs.device.input.Input.plain_fields.Goals as goal
 
 -- behind a tag with a variable and one that may be none
 names_stop : {X : Type 0} (tag : ℕ) (one : Bool) → nat_eq tag 1 ≡ one → (nat_eq tag 1 ≡ false → 2 ≡ tag)
-    → (g : X → Step) (r : Result X StepError) (d e : StepError) (old new : Source) → r ≡ Err d → d ≡ e → Reads (Both IsVariable IsOptionalVariable) (Err e) old new
-    → Reads (Behind tag) (valued g r) old new
+    → (g : X → Step) (r : Result X StepError) (d e : StepError) (old new : Source) → r ≡ Err d → d ≡ e → ReadsValue (Both IsVariable IsOptionalVariable) (Err e) old new
+    → ReadsValue (Behind tag) (valued g r) old new
 names_stop tag true t other g r d e old new p q h = stops_behind 1 tag _ _ solver_form g r d e old new p q (grind (arith, nat_tests)) h
 names_stop tag false t other g r d e old new p q h = stops_behind 2 tag _ _ user_form g r d e old new p q (sym (other t)) h
 
 -- behind a tag with a variable
 variable_stops : {X : Type 0} (tag : ℕ) (three four : Bool) → nat_eq tag 3 ≡ three → nat_eq tag 4 ≡ four
     → (nat_eq tag 3 ≡ false → nat_eq tag 4 ≡ false → nat_eq tag 1 ≡ false → 2 ≡ tag)
-    → (g : X → Step) (r : Result X StepError) (d e : StepError) (old new : Source) → r ≡ Err d → d ≡ e → Reads IsVariable (Err e) old new
-    → Reads (Behind tag) (valued g r) old new
+    → (g : X → Step) (r : Result X StepError) (d e : StepError) (old new : Source) → r ≡ Err d → d ≡ e → ReadsValue IsVariable (Err e) old new
+    → ReadsValue (Behind tag) (valued g r) old new
 variable_stops tag true four t f other g r d e old new p q h = stops_behind 3 tag _ _ variable_form g r d e old new p q (grind (arith, nat_tests)) h
 variable_stops tag false true t f other g r d e old new p q h =
     stops_behind 4 tag _ _ mode_form g r d e old new p q (grind (arith, nat_tests)) (first_fails IsVariable (λ _. IsFlag) (one_below largest) (λ _. some_flag) e old new h)

@@ -1,7 +1,7 @@
 use Rattle.std.proofs.Common.{Err, refl, sym, subst, ◌∙◌}
 use Rattle.sat_base.specs.declared.dimacs.parser.Parser.{Parser}
 use Rattle.sat_base.specs.declared.dimacs.clauses.Refusal.TheVariants as refusal
-use Rattle.sat_base.specs.dimacs.Collecting.{Collects, token_of}
+use Rattle.sat_base.specs.dimacs.Collecting.{CollectsToken, token_of}
 use Rattle.sat_base.specs.dimacs.Dimacs.{Malformed, Limit}
 use Rattle.sat_base.specs.dimacs.Parsing.{Finishes}
 use Rattle.sat_base.specs.dimacs.ParserPlaces.{IsParser, progress_of}
@@ -38,7 +38,7 @@ returns-in-Ok-clause-answer c =
 
 at_malformed : (c : goal.After-line-in-Err-Malformed) → FaultAtEnd Malformed c.line-in-Err-Malformed.result c.args.self.now (at_end_of (record c.args.self.now { clauses = c.take.new.self }))
 at_malformed c =
-    let e : Collects (Err refusal.Malformed) c.args.self.now.clauses (token_of c.in-Some.token) c.take.new.self = rw c.in-Err-Malformed.field-0-is at c.in-Err-Malformed.ensures in
+    let e : CollectsToken (Err refusal.Malformed) c.args.self.now.clauses (token_of c.in-Some.token) c.take.new.self = rw c.in-Err-Malformed.field-0-is at c.in-Err-Malformed.ensures in
     finish_fails c.args.self.now (record c.args.self.now { clauses = c.take.new.self }) c.requires c.if-self.false c.in-Some.token Malformed c.line-in-Err-Malformed.result refl c.in-Some.ensures e.0 e.1 c.line-in-Err-Malformed.ensures
 
 pub returns-in-Err-Malformed-clause-parser : goal.returns-in-Err-Malformed-clause-parser
@@ -49,7 +49,7 @@ returns-in-Err-Malformed-clause-answer c = (at_malformed c).answer
 
 at_limit : (c : goal.After-line-in-Err-Limit) → FaultAtEnd Limit c.line-in-Err-Limit.result c.args.self.now (at_end_of (record c.args.self.now { clauses = c.take.new.self }))
 at_limit c =
-    let e : Collects (Err refusal.Limit) c.args.self.now.clauses (token_of c.in-Some.token) c.take.new.self = rw c.in-Err-Limit.field-0-is at c.in-Err-Limit.ensures in
+    let e : CollectsToken (Err refusal.Limit) c.args.self.now.clauses (token_of c.in-Some.token) c.take.new.self = rw c.in-Err-Limit.field-0-is at c.in-Err-Limit.ensures in
     finish_fails c.args.self.now (record c.args.self.now { clauses = c.take.new.self }) c.requires c.if-self.false c.in-Some.token Limit c.line-in-Err-Limit.result refl c.in-Some.ensures e.0 e.1 c.line-in-Err-Limit.ensures
 
 pub returns-in-Err-Limit-clause-parser : goal.returns-in-Err-Limit-clause-parser
@@ -68,5 +68,5 @@ returns-then-is_literal-clause-answer c =
 
 pub returns-in-Err-OutOfMemory-clause-answer : goal.returns-in-Err-OutOfMemory-clause-answer
 returns-in-Err-OutOfMemory-clause-answer c =
-    let e : Collects (Err refusal.OutOfMemory) c.args.self.now.clauses (token_of c.in-Some.token) c.take.new.self = rw c.in-Err-OutOfMemory.field-0-is at c.in-Err-OutOfMemory.ensures in
+    let e : CollectsToken (Err refusal.OutOfMemory) c.args.self.now.clauses (token_of c.in-Some.token) c.take.new.self = rw c.in-Err-OutOfMemory.field-0-is at c.in-Err-OutOfMemory.ensures in
     (c.if-self.false, refl, finish_short c.args.self.now c.requires c.if-self.false c.in-Some.token c.in-Some.ensures (sym c.is_literal.ensures ∙ c.if-is_literal.false) e.1)

@@ -2,7 +2,7 @@ use Rattle.std.proofs.Common.{ℕ, List, [], ◌∷◌, ◌++◌, None, Some, Er
 use Rattle.std.proofs.lemmas.List.{append-nil}
 use Rattle.sat_base.specs.declared.dimacs.clauses.Refusal.TheVariants as refusal
 use Rattle.sat_base.specs.declared.dimacs.parser.Parser.{Parser}
-use Rattle.sat_base.specs.dimacs.Collecting.{Collects, token_of}
+use Rattle.sat_base.specs.dimacs.Collecting.{CollectsToken, token_of}
 use Rattle.sat_base.specs.dimacs.Parsing.{GoesWell, cut_short}
 use Rattle.sat_base.specs.dimacs.ParserPlaces.{progress_of}
 use Rattle.sat_base.specs.dimacs.Dimacs.{Malformed, Limit}
@@ -23,7 +23,7 @@ at_malformed : (c : goal.After-line-in-Err-Malformed) → FaultAt Malformed c.li
     (record { alloc = c.args.self.now.alloc; tokenizer = c.push.new.self; clauses = c.take.new.self; history = c.and_byte-self-in-Err-Malformed.result; stopped = true; ended = true })
 at_malformed c =
     let p = pushed c.args.self.now.tokenizer c.push.new.self c.args.byte (Some c.in-Some.token) c.in-Some.ensures.takes c.in-Some.ensures.inside c.in-Some.ensures.quiet c.in-Some.ensures.ended c.in-Some.ensures.right in
-    let e : Collects (Err refusal.Malformed) c.args.self.now.clauses (token_of c.in-Some.token) c.take.new.self = rw c.in-Err-Malformed.field-0-is at c.in-Err-Malformed.ensures in
+    let e : CollectsToken (Err refusal.Malformed) c.args.self.now.clauses (token_of c.in-Some.token) c.take.new.self = rw c.in-Err-Malformed.field-0-is at c.in-Err-Malformed.ensures in
     push_fails c.args.self.now _ c.args.byte c.in-Some.token Malformed c.line-in-Err-Malformed.result c.requires.parser c.requires.open p
     (record { fed = c.and_byte-self-in-Err-Malformed.ensures.0; taken = c.and_byte-self-in-Err-Malformed.ensures.1 }) refl refl e.0 e.1 c.line-in-Err-Malformed.ensures
 
@@ -37,7 +37,7 @@ at_limit : (c : goal.After-line-in-Err-Limit) → FaultAt Limit c.line-in-Err-Li
     (record { alloc = c.args.self.now.alloc; tokenizer = c.push.new.self; clauses = c.take.new.self; history = c.and_byte-self-in-Err-Limit.result; stopped = true; ended = true })
 at_limit c =
     let p = pushed c.args.self.now.tokenizer c.push.new.self c.args.byte (Some c.in-Some.token) c.in-Some.ensures.takes c.in-Some.ensures.inside c.in-Some.ensures.quiet c.in-Some.ensures.ended c.in-Some.ensures.right in
-    let e : Collects (Err refusal.Limit) c.args.self.now.clauses (token_of c.in-Some.token) c.take.new.self = rw c.in-Err-Limit.field-0-is at c.in-Err-Limit.ensures in
+    let e : CollectsToken (Err refusal.Limit) c.args.self.now.clauses (token_of c.in-Some.token) c.take.new.self = rw c.in-Err-Limit.field-0-is at c.in-Err-Limit.ensures in
     push_fails c.args.self.now _ c.args.byte c.in-Some.token Limit c.line-in-Err-Limit.result c.requires.parser c.requires.open p
     (record { fed = c.and_byte-self-in-Err-Limit.ensures.0; taken = c.and_byte-self-in-Err-Limit.ensures.1 }) refl refl e.0 e.1 c.line-in-Err-Limit.ensures
 
@@ -51,7 +51,7 @@ pub returns-in-Err-OutOfMemory-clause-answer : goal.returns-in-Err-OutOfMemory-c
 returns-in-Err-OutOfMemory-clause-answer c =
     let old = c.args.self.now in
     let p = pushed old.tokenizer c.push.new.self c.args.byte (Some c.in-Some.token) c.in-Some.ensures.takes c.in-Some.ensures.inside c.in-Some.ensures.quiet c.in-Some.ensures.ended c.in-Some.ensures.right in
-    let e : Collects (Err refusal.OutOfMemory) old.clauses (token_of c.in-Some.token) c.take.new.self = rw c.in-Err-OutOfMemory.field-0-is at c.in-Err-OutOfMemory.ensures in
+    let e : CollectsToken (Err refusal.OutOfMemory) old.clauses (token_of c.in-Some.token) c.take.new.self = rw c.in-Err-OutOfMemory.field-0-is at c.in-Err-OutOfMemory.ensures in
     let taken : Parser = record old { tokenizer = c.push.new.self; history = record { fed = old.history.fed ++ c.args.byte ∷ []; taken = old.history.taken } } in (
       c.requires.open,
       record {

@@ -1,6 +1,6 @@
 use Rattle.std.proofs.Common.{ℕ, ◌+◌, ◌-◌, ◌<◌, ◌≡◌, length, get_or, map, drop, sym, ◌∙◌, ap, arith, Some, subst}
 use Rattle.sat_checker.specs.announcements.Following.{followed_back}
-use Rattle.sat_checker.specs.inner.Reasons.{reason_in, conflict_at, IsThere}
+use Rattle.sat_checker.specs.inner.Reasons.{reason_in, conflict_at, IsConflictPlace}
 use Rattle.sat_checker.specs.inner.SlotView.{literals_at}
 use Rattle.sat_checker.proofs.lemmas.announcements.Marking.{back_next, read_next, within_notes, there_at}
 use Rattle.std.proofs.lemmas.Result.{IfOk-from_err}
@@ -39,7 +39,7 @@ loop-done-preserved c =
     }
 
 pub begin-requires : goal.begin-requires
-begin-requires c = subst (IsThere c.args.clauses.now) c.in-Some.is c.requires.met
+begin-requires c = subst (IsConflictPlace c.args.clauses.now) c.in-Some.is c.requires.met
 
 pub index-reason-requires : goal.index-reason-requires
 index-reason-requires c = omega (arith, c.len-count.ensures)

@@ -1,11 +1,11 @@
 use Rattle.std.proofs.Common.{refl, subst, sym, arith}
-use Rattle.sat_base.specs.values.Tables.{HasRoom}
+use Rattle.sat_base.specs.values.Tables.{HasPlaceFor}
 use Rattle.sat_checker.proofs.lemmas.store.Times.{still_left, fits_more, next_times}
 use Rattle.sat_checker.proofs.store.occurrences.Occurrences.add.Goals as goal
 
 pub add_one-requires-clause-room : goal.add_one-requires-clause-room
 add_one-requires-clause-room c =
-    c.loop-lit.invariant.room c.lit-item.result (subst (HasRoom c.args.self.now.counts) (sym c.lit-item.is) (c.requires.room c.loop-lit.lit-index c.lit-item.result c.loop-lit-test.true))
+    c.loop-lit.invariant.room c.lit-item.result (subst (HasPlaceFor c.args.self.now.counts) (sym c.lit-item.is) (c.requires.room c.loop-lit.lit-index c.lit-item.result c.loop-lit-test.true))
 
 pub add_one-requires-clause-few : goal.add_one-requires-clause-few
 add_one-requires-clause-few c =

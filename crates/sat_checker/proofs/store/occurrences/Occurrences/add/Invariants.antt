@@ -1,5 +1,5 @@
 use Rattle.std.proofs.Common.{ℕ, ◌≡◌, ◌+◌, drop}
-use Rattle.sat_base.specs.values.Tables.{HasRoom}
+use Rattle.sat_base.specs.values.Tables.{HasPlaceFor}
 use Rattle.sat_checker.specs.inner.OccurrenceView.{count_at, times_in}
 use Rattle.sat_checker.proofs.store.occurrences.Occurrences.add.Given as goal
 
@@ -7,5 +7,5 @@ use Rattle.sat_checker.proofs.store.occurrences.Occurrences.add.Given as goal
 abbrev pub invariant-loop-lit : goal.invariant-loop-lit
 invariant-loop-lit l = record {
   counted : (k : ℕ) → count_at l.self k + times_in k (drop l.lit-index l.literals) ≡ count_at l.fn.self k + times_in k l.literals;
-  room : (k : ℕ) → HasRoom l.fn.self.counts k → HasRoom l.self.counts k;
+  room : (k : ℕ) → HasPlaceFor l.fn.self.counts k → HasPlaceFor l.self.counts k;
 }
