@@ -1,7 +1,7 @@
 //! Which commands of a script are refused, by the names in use and their modes alone.
 //!
-//! A command is refused if a name of it is past the limit, or if it is a clause or an ask with a name in use of mode witness. The
-//! leftmost such name is the reason.
+//! A command is refused if a name of it is past the limit, or if it is a clause or an ask with a name in use of mode
+//! witness. The leftmost such name is the reason.
 
 mod names;
 

@@ -2,10 +2,20 @@
 ghost use Rattle.certify.specs.laws.Confirmed.{CertifiedMatches};
 ghost use Rattle.certify.specs.laws.EndToEnd.{FinishedIsConfirmed};
 ghost use Rattle.certify.specs.laws.HintTexts.{RunsHaveHints};
-ghost use Rattle.certify.specs.laws.Laws.{AskBindsNothing, AskLeavesNames, MatchingIsRight, NotBoth, RepeatChangesNothing, TautologyChangesNothing, TextsTellOutcomes, TextsThatMatchAreRight};
+ghost use Rattle.certify.specs.laws.Laws.{AskBindsNothing, AskLeavesNames, MatchingIsRight, NotBoth};
+ghost use Rattle.certify.specs.laws.Laws.{RepeatChangesNothing, TautologyChangesNothing, TextsTellOutcomes};
+ghost use Rattle.certify.specs.laws.Laws.{TextsThatMatchAreRight};
 ghost use Rattle.sat_checker.specs.matching.Checking.{IsSound};
 ghost use Rattle.sat_checker.specs.matching.ProofChecking.{the_checking};
-ghost use Rattle.certify.specs.laws.Rows.{AnswersTwice, AskAloneText, BehindEndUncertified, ChainCertified, UnknownUncertified, ClauseAndAskCertified, ClauseAndAskExpected, ClauseAndAskMatches, ClauseAndAskRight, ClauseAndAskSteps, ClauseAndAskText, ClauseUncertified, CoreUncertified, EarlyUncertified, EmptyMatches, EmptyText, EndAlone, EndAloneUncertified, HiddenAndBackExpected, HiddenAndBackState, HiddenAtOnceState, KnownWithoutRounds, LeftOutCertified, LeftmostRefuses, MalformedText, ModelUncertified, NameOnOldVariable, NoAnswers, TwoUnitsMatches, TwoUnitsRight, TwoUnitsSteps, WitnessRefusedText, WitnessRefusesAsk};
+ghost use Rattle.certify.specs.laws.Rows.{AnswersTwice, AskAloneText, BehindEndUncertified, ChainCertified};
+ghost use Rattle.certify.specs.laws.Rows.{UnknownUncertified, ClauseAndAskCertified, ClauseAndAskExpected};
+ghost use Rattle.certify.specs.laws.Rows.{ClauseAndAskMatches, ClauseAndAskRight, ClauseAndAskSteps, ClauseAndAskText};
+ghost use Rattle.certify.specs.laws.Rows.{ClauseUncertified, CoreUncertified, EarlyUncertified, EmptyMatches};
+ghost use Rattle.certify.specs.laws.Rows.{EmptyText, EndAlone, EndAloneUncertified, HiddenAndBackExpected};
+ghost use Rattle.certify.specs.laws.Rows.{HiddenAndBackState, HiddenAtOnceState, KnownWithoutRounds, LeftOutCertified};
+ghost use Rattle.certify.specs.laws.Rows.{LeftmostRefuses, MalformedText, ModelUncertified, NameOnOldVariable};
+ghost use Rattle.certify.specs.laws.Rows.{NoAnswers, TwoUnitsMatches, TwoUnitsRight, TwoUnitsSteps, WitnessRefusedText};
+ghost use Rattle.certify.specs.laws.Rows.{WitnessRefusesAsk};
 
 pub mod commands;
 pub mod names;
@@ -88,8 +98,8 @@ pub fn rows_that_match()
     ensures core_steps { TwoUnitsSteps }
 {}
 
-/// Worked rows that don't match: a name put again on its old variable, a certificate of `End` alone, answers that are missing,
-/// and answers that stand twice.
+/// Worked rows that don't match: a name put again on its old variable, a certificate of `End` alone, answers that are
+/// missing, and answers that stand twice.
 pub fn rows_that_fail()
     ensures old_variable { NameOnOldVariable }
     ensures end_alone { EndAlone }
@@ -97,7 +107,8 @@ pub fn rows_that_fail()
     ensures extra { AnswersTwice }
 {}
 
-/// Worked rows of a run's certificate: steps that it may have, and such that leave out what is needed, or have more behind `End`.
+/// Worked rows of a run's certificate: steps that it may have, and such that leave out what is needed, or have more
+/// behind `End`.
 pub fn rows_of_certificates()
     ensures model { ClauseAndAskCertified }
     ensures left_out { LeftOutCertified }

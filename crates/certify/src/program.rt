@@ -42,14 +42,14 @@ const USAGE: &str = "usage: certify [run S A C [STEPS] | confirm S A C | hints C
 /// - `hints C H`: writes the hint text of the certificate in C to the file H.
 /// - `check H`: writes to `output` what the hint text in H is, `proved empty=E cores=K lines=L`, E being 0 or 1, or `bad LINE WHY`.
 ///
-/// An output with the word of the input is refused as other arguments are; two outputs may be one. Files are opened in the order of the
-/// arguments, and one that can't be opened or made is the fault of its text. Behind a finished run a line of its solver's counts goes to
-/// `errors`.
+/// An output with the word of the input is refused as other arguments are; two outputs may be one. Files are opened in
+/// the order of the arguments, and one that can't be opened or made is the fault of its text. Behind a finished run a
+/// line of its solver's counts goes to `errors`.
 ///
-/// The status is 0 where all is done, confirmed or proved; 1 where the script is malformed, the answers aren't confirmed or the hint
-/// text is bad, and where a certificate is refused, with `certify: Refused` on `errors`; 2 for other
-/// arguments, or where they can't be had as text, with the usage on `errors`; and 3 after a fault, with its name on `errors`. After a
-/// fault nothing more goes to `output`. A fault of `errors` is ignored.
+/// The status is 0 where all is done, confirmed or proved; 1 where the script is malformed, the answers aren't
+/// confirmed or the hint text is bad, and where a certificate is refused, with `certify: Refused` on `errors`; 2 for
+/// other arguments, or where they can't be had as text, with the usage on `errors`; and 3 after a fault, with its name
+/// on `errors`. After a fault nothing more goes to `output`. A fault of `errors` is ignored.
 pub fn program<R: AllocGlobal + Files, I: CountedRead, O: CountedWrite, E: CountedWrite>(
     rt: &R,
     arguments: io::Result<Vec<String>>,
@@ -60,8 +60,8 @@ pub fn program<R: AllocGlobal + Files, I: CountedRead, O: CountedWrite, E: Count
     ensures status { result ≤ 3 }
     // Of arguments that are text, 2 means exactly those that are no call.
     ensures usage { IfOk arguments (λ words. (result ≡ 2) ↔ IsMisuse (map string_bytes words.items)) }
-    // Without arguments, behind a status of 0 or 1 stand right answers to the script, none of them unknown but where all steps were
-    // spent, and `c confirmed`. 0 means a script that isn't malformed.
+    // Without arguments, behind a status of 0 or 1 stand right answers to the script, none of them unknown but where
+    // all steps were spent, and `c confirmed`. 0 means a script that isn't malformed.
     ensures printed { IfOk arguments (λ words. words.items ≡ [] → result ≤ 1
         → PrintsVerdict result (gave I.seen input.old input.new) (took O.seen output.old output.new)) }
 {

@@ -1,4 +1,5 @@
-//! Answers a script as it is read, with a certificate: what a run does for each command and at its end, over its solver.
+//! Answers a script as it is read, with a certificate: what a run does for each command and at its end, over its
+//! solver.
 ghost use Rattle.std.specs.Prelude.{◌≡◌, ◌+◌, ◌≤◌, ◌⊎◌, true, IfOk, OnErr, OnOk, IsErrOf};
 ghost use Rattle.sat_base.specs.device.Device.{most_reads, ReadFails};
 ghost use Rattle.certify.specs.Devices.{gave, took};
@@ -35,9 +36,10 @@ fn answer<S: CountedRead, A: CountedWrite, C: CountedWrite + Drop>(
     certificate: C,
     budget: u64,
 ) -> (C, Result<Summary, RunFault>)
-    ensures runs { FinishesOrFaults result.1 budget (gave S.seen script.old script.new) (took A.seen answers.old answers.new)
-        (C.seen certificate, C.seen result.0) }
-    ensures unfinished { OnErr result.1 (Unfinished (gave S.seen script.old script.new) (took A.seen answers.old answers.new)) }
+    ensures runs { FinishesOrFaults result.1 budget (gave S.seen script.old script.new)
+        (took A.seen answers.old answers.new) (C.seen certificate, C.seen result.0) }
+    ensures unfinished { OnErr result.1
+        (Unfinished (gave S.seen script.old script.new) (took A.seen answers.old answers.new)) }
     ensures steps { TookSteps (C.seen certificate, C.seen result.0) }
     ensures counter_end { IsErrOf result.1 RunFault.CounterEnd → CounterEnds (gave S.seen script.old script.new) }
     ensures reads { ReadsFew (gave S.seen script.old script.new) }
@@ -56,9 +58,10 @@ fn answer_into<S: CountedRead, A: CountedWrite, C: CountedWrite>(
     certificate: &mut C,
     budget: u64,
 ) -> Result<Summary, RunFault>
-    ensures runs { FinishesOrFaults result budget (gave S.seen script.old script.new) (took A.seen answers.old answers.new)
-        (took C.seen certificate.old certificate.new) }
-    ensures unfinished { OnErr result (Unfinished (gave S.seen script.old script.new) (took A.seen answers.old answers.new)) }
+    ensures runs { FinishesOrFaults result budget (gave S.seen script.old script.new)
+        (took A.seen answers.old answers.new) (took C.seen certificate.old certificate.new) }
+    ensures unfinished { OnErr result
+        (Unfinished (gave S.seen script.old script.new) (took A.seen answers.old answers.new)) }
     ensures steps { TookSteps (took C.seen certificate.old certificate.new) }
     ensures counter_end { IsErrOf result RunFault.CounterEnd → CounterEnds (gave S.seen script.old script.new) }
     ensures reads { ReadsFew (gave S.seen script.old script.new) }
@@ -68,11 +71,11 @@ fn answer_into<S: CountedRead, A: CountedWrite, C: CountedWrite>(
     result
 }
 
-/// Answers each ask of a script, with at most `budget` steps of search for each, and writes the answers and a certificate
-/// behind what the writers hold.
+/// Answers each ask of a script, with at most `budget` steps of search for each, and writes the answers and a
+/// certificate behind what the writers hold.
 ///
-/// A command is served as soon as it is read, of which at most 4,096 bytes are read at a time. Both writers are flushed before a
-/// summary is answered.
+/// A command is served as soon as it is read, of which at most 4,096 bytes are read at a time. Both writers are flushed
+/// before a summary is answered.
 pub fn run<S: CountedRead, A: CountedWrite, C: CountedWrite>(
     alloc: Global,
     script: &mut S,
@@ -80,30 +83,41 @@ pub fn run<S: CountedRead, A: CountedWrite, C: CountedWrite>(
     certificate: &mut C,
     budget: u64,
 ) -> Result<Summary, RunFault>
-    // The answers' writer took the answers to the text that was given, whatever would follow, and each of them is right.
-    ensures answered { IfOk result (λ s. WritesAnswers budget s (gave S.seen script.old script.new) (took A.seen answers.old answers.new)) }
-    // The certificate's writer took the steps of the accepted commands and of these answers, each accepted in its turn. Once it has
-    // recorded that the clauses are unsatisfiable, an ask is answered so without a round of search; each round of another ask has derived
-    // a clause that advances, but for the one that answered, and no other clause of it does. Where no command hides a name, no variable
-    // is deleted.
-    ensures backed { Backed result budget S.seen A.seen C.seen (script.old, answers.old, certificate.old) (script.new, answers.new, certificate.new) }
+    // The answers' writer took the answers to the text that was given, whatever would follow, and each of them is
+    // right.
+    ensures answered { IfOk result
+        (λ s. WritesAnswers budget s (gave S.seen script.old script.new) (took A.seen answers.old answers.new)) }
+    // The certificate's writer took the steps of the accepted commands and of these answers, each accepted in its turn.
+    // Once it has recorded that the clauses are unsatisfiable, an ask is answered so without a round of search; each
+    // round of another ask has derived a clause that advances, but for the one that answered, and no other clause of it
+    // does. Where no command hides a name, no variable is deleted.
+    ensures backed { Backed result budget S.seen A.seen C.seen (script.old, answers.old, certificate.old)
+        (script.new, answers.new, certificate.new) }
     ensures flushed { OnOk result (((A.seen answers.new).flushed ≡ true) × ((C.seen certificate.new).flushed ≡ true)) }
-    // Where it isn't finished, the answers' writer took a front of right answers to the text that was given, whatever would follow.
-    ensures unfinished { OnErr result (Unfinished (gave S.seen script.old script.new) (took A.seen answers.old answers.new)) }
-    // Whatever is answered, the certificate's writer took a front of the text of steps that a checker accepts, and nothing else.
+    // Where it isn't finished, the answers' writer took a front of right answers to the text that was given, whatever
+    // would follow.
+    ensures unfinished { OnErr result
+        (Unfinished (gave S.seen script.old script.new) (took A.seen answers.old answers.new)) }
+    // Whatever is answered, the certificate's writer took a front of the text of steps that a checker accepts, and
+    // nothing else.
     ensures steps { TookSteps (took C.seen certificate.old certificate.new) }
 
-    // A fault is answered only where it happened: exactly one call of the device failed, or there were 2^48 reads and none did.
+    // A fault is answered only where it happened: exactly one call of the device failed, or there were 2^48 reads and
+    // none did.
     ensures script_read { IsErrOf result RunFault.ScriptRead → ReadFails (S.seen script.old) (S.seen script.new) }
-    ensures answers_write { IsErrOf result RunFault.AnswersWrite → WriteFails (A.seen answers.old) (A.seen answers.new) }
-    ensures certificate_write { IsErrOf result RunFault.CertificateWrite → WriteFails (C.seen certificate.old) (C.seen certificate.new) }
-    // A counter has ended only where the text that was given, whatever would follow, has 2^64-1 commands or brings more names in than
-    // there are variables.
+    ensures answers_write { IsErrOf result RunFault.AnswersWrite
+        → WriteFails (A.seen answers.old) (A.seen answers.new) }
+    ensures certificate_write { IsErrOf result RunFault.CertificateWrite
+        → WriteFails (C.seen certificate.old) (C.seen certificate.new) }
+    // A counter has ended only where the text that was given, whatever would follow, has 2^64-1 commands or brings more
+    // names in than there are variables.
     ensures counter_end { IsErrOf result RunFault.CounterEnd → CounterEnds (gave S.seen script.old script.new) }
     // A call of a device has failed only where the answer is that.
-    ensures kept_script { IsErrOf result RunFault.ScriptRead ⊎ ((S.seen script.new).failures ≡ (S.seen script.old).failures) }
+    ensures kept_script { IsErrOf result RunFault.ScriptRead
+        ⊎ ((S.seen script.new).failures ≡ (S.seen script.old).failures) }
     ensures kept_answers { IsErrOf result RunFault.AnswersWrite ⊎ WritesKept A.seen answers.old answers.new }
-    ensures kept_certificate { IsErrOf result RunFault.CertificateWrite ⊎ WritesKept C.seen certificate.old certificate.new }
+    ensures kept_certificate { IsErrOf result RunFault.CertificateWrite
+        ⊎ WritesKept C.seen certificate.old certificate.new }
     // The script is read at most 2^48 times.
     ensures reads { (S.seen script.new).calls ≤ (S.seen script.old).calls + most_reads }
 {

@@ -57,7 +57,8 @@ fn is_written(alloc: Global, kind: AnswerKind, line: &[Lit], text: &[u8]) -> boo
     push(&mut out, kind, line).is_ok() && out.as_slice() == text
 }
 
-/// Tests whether an answer of these literals is read from the front of a text, and leaves this rest. A literal stands in the line before.
+/// Tests whether an answer of these literals is read from the front of a text, and leaves this rest. A literal stands
+/// in the line before.
 fn is_read(alloc: Global, text: &[u8], kind: AnswerKind, line: &[Lit], rest: &[u8]) -> bool {
     let mut found = Vec::new(alloc);
     push_lits(&mut found, &[7])

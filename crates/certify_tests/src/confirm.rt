@@ -270,7 +270,8 @@ fn steps_may_stand_between(rt: HostRuntime) {
     }
 }
 
-/// Four clauses that can't hold together: their certificate at hashes of 8 bits and of 64, each up to the step that records `unsat`.
+/// Four clauses that can't hold together: their certificate at hashes of 8 bits and of 64, each up to the step that
+/// records `unsat`.
 const FOUR_AT_8: &[u8] = &[
     2, 0, 1, 2, 1, 2, 5, 2, 0, 2, 5, 2, 0, 3, 5, 2, 1, 2, 5, 2, 1, 3, 11, 0, 9, 8, 6, 0, 1, 0, 2,
     68, 230, 1, 7, 1, 2, 230, 1, 6, 0, 0, 1, 68,
@@ -283,7 +284,8 @@ const FOUR_AT_64: &[u8] = &[
     217, 68,
 ];
 
-/// The same with names for the solver, as a run writes it, and without any bit of a hash, so that one bucket has all clauses.
+/// The same with names for the solver, as a run writes it, and without any bit of a hash, so that one bucket has all
+/// clauses.
 const FOUR_AS_WRITTEN: &[u8] = &[
     2, 0, 1, 1, 0, 1, 2, 1, 2, 1, 1, 2, 5, 2, 0, 2, 5, 2, 0, 3, 5, 2, 1, 2, 5, 2, 1, 3, 11, 0, 9,
     8, 6, 0, 1, 0, 2, 68, 230, 1, 7, 1, 2, 230, 1, 6, 0, 0, 1, 68,
@@ -617,7 +619,8 @@ const OUT_OF_PLACE: Verdict = Verdict::No {
     why: Why::StepOutOfPlace,
 };
 
-/// Texts, the reads of script, answers and certificate that fail, and what is said: nothing is read behind the step that decides.
+/// Texts, the reads of script, answers and certificate that fail, and what is said: nothing is read behind the step
+/// that decides.
 static DECIDED_BEFORE: [(Texts<'static>, (u64, u64, u64), Verdict); 5] = [
     ((UNITS, NONE_LEFT, &[0x0d]), (0, 0, 2), OUT_OF_PLACE),
     // The first command ends with its fourth byte, and expects a step.
@@ -663,8 +666,8 @@ fn each_fails(alloc: Global, texts: Texts<'_>, text: u8, reads: u64, fault: Conf
     true
 }
 
-/// Tests whether each read in turn fails and gives its text's fault, and no further read is made. Of script and answers the one that
-/// finds the end is among them; of the certificate so many are made.
+/// Tests whether each read in turn fails and gives its text's fault, and no further read is made. Of script and answers
+/// the one that finds the end is among them; of the certificate so many are made.
 fn each_read_fails(alloc: Global, texts: Texts<'_>, reads: u64) -> bool {
     let script = (texts.0.len() as u64).saturating_add(1);
     let answers = (texts.1.len() as u64).saturating_add(1);
@@ -690,7 +693,8 @@ fn each_read_of_run_fails(alloc: Global, script: &[u8], reads: u64) -> bool {
     written.fault.is_none() && each_read_fails(alloc, texts, reads)
 }
 
-/// Scripts, and how many bytes of the certificates are read: all of one that ends with a model, and those up to recorded `unsat`.
+/// Scripts, and how many bytes of the certificates are read: all of one that ends with a model, and those up to
+/// recorded `unsat`.
 static READ_IN_TURN: [(&[u8], u64); 5] = [
     (ROW, 27),
     (SIXTH, 50),

@@ -41,7 +41,8 @@ fn answers_are_denied(
     true
 }
 
-/// Tests whether there is a verdict wherever one bit of a certificate is turned: the answers are right, whatever shows it.
+/// Tests whether there is a verdict wherever one bit of a certificate is turned: the answers are right, whatever shows
+/// it.
 fn certificates_are_told(
     alloc: Global,
     script: &[u8],

@@ -7,7 +7,8 @@ use std::fmt::Display;
 use std::io;
 use std::io::{ErrorKind, Read, Write};
 
-/// A device that gives its text byte by byte, and takes what it is asked to. One call fails, counted from 1; none where that is 0.
+/// A device that gives its text byte by byte, and takes what it is asked to. One call fails, counted from 1; none where
+/// that is 0.
 #[derive(Drop)]
 pub(crate) struct FailsAt<'a> {
     text: &'a [u8],
@@ -64,7 +65,8 @@ pub(crate) fn fails_at(text: &[u8], failing: u64) -> Counted<FailsAt<'_>> {
     })
 }
 
-/// A reader that gives its text in pieces of at most so many bytes, and notes the largest room that it was asked to fill.
+/// A reader that gives its text in pieces of at most so many bytes, and notes the largest room that it was asked to
+/// fill.
 #[derive(Drop)]
 pub(crate) struct Pieces<'a> {
     text: &'a [u8],
@@ -108,7 +110,8 @@ impl Write for Watched<'_> {
     }
 }
 
-/// A reader that gives its text byte by byte, and looks at one of its reads, counted from 1, how many bytes a writer took.
+/// A reader that gives its text byte by byte, and looks at one of its reads, counted from 1, how many bytes a writer
+/// took.
 #[derive(Drop)]
 pub(crate) struct Watching<'a> {
     pub(crate) text: &'a [u8],

@@ -1,5 +1,5 @@
-//! Texts that never end: a line of answers is refused once no line that may stand there begins with its bytes, and a script is malformed at
-//! the first byte behind which no right word goes on.
+//! Texts that never end: a line of answers is refused once no line that may stand there begins with its bytes, and a
+//! script is malformed at the first byte behind which no right word goes on.
 
 use crate::confirm::said_at;
 use crate::devices::fails_at;
@@ -87,7 +87,8 @@ fn rows() -> &'static [(
     &ENDLESS
 }
 
-/// Tests whether this is said, after one read of the text and at most ten of one or two bytes, the digits of a number past the limit.
+/// Tests whether this is said, after one read of the text and at most ten of one or two bytes, the digits of a number
+/// past the limit.
 fn is_refused(alloc: Global, texts: (&[u8], &[u8]), text: &[u8], again: &[u8], why: Why) -> bool {
     let (said, reads) = said_of(alloc, texts, text, again);
     match said {
@@ -120,7 +121,8 @@ fn malformed_there() -> &'static [(&'static [u8], &'static [u8])] {
     &MALFORMED_THERE
 }
 
-/// Tests whether a script that is read byte by byte has these answers, and they are confirmed, where a read behind its last byte would fail.
+/// Tests whether a script that is read byte by byte has these answers, and they are confirmed, where a read behind its
+/// last byte would fail.
 fn is_decided(alloc: Global, text: &[u8], answers: &[u8]) -> bool {
     let behind = (text.len() as u64).saturating_add(1);
     let written = run_on(alloc, &mut fails_at(text, behind), AMPLE);

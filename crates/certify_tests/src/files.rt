@@ -53,7 +53,8 @@ impl Folder<'_> {
         }
     }
 
-    /// The status of a call whose output fails at one of its calls, or never where that is 0, and what it writes to its errors.
+    /// The status of a call whose output fails at one of its calls, or never where that is 0, and what it writes to its
+    /// errors.
     fn call_failing(&self, call: Words<'_>, failing: u64) -> (u8, Vec<u8>) {
         let mut input = Counted::new("a 0\n".as_bytes());
         let mut output = fails_at(b"", failing);

@@ -126,8 +126,8 @@ fn is_proved_with(said: Option<HintVerdict>, wanted: (bool, u64)) -> bool {
     }
 }
 
-/// Tests whether a script's certificate has a hint text that is proved, whole and by one byte: it derives an empty clause or doesn't,
-/// and has so many cores.
+/// Tests whether a script's certificate has a hint text that is proved, whole and by one byte: it derives an empty
+/// clause or doesn't, and has so many cores.
 pub(crate) fn is_proved(alloc: Global, script: &[u8], wanted: (bool, u64)) -> bool {
     let certificate = certificate_of(alloc, script);
     for size in [1, 4096] {

@@ -1,7 +1,7 @@
 //! Tests of `certify` by its public calls, in a crate of their own so that the library is proved once.
 //!
-//! A table of rows is named by a function of its own, and by no other: each body that names a table is proved over all of its rows,
-//! which is dear.
+//! A table of rows is named by a function of its own, and by no other: each body that names a table is proved over all
+//! of its rows, which is dear.
 #![tactic(auto)]
 
 #[cfg(test)]

@@ -244,7 +244,8 @@ fn whole_scripts_that_do_not_match(rt: HostRuntime) {
     }
 }
 
-/// Three asks, which have a model, a core and an unknown, then a name that is hidden and comes in again, and a fourth ask.
+/// Three asks, which have a model, a core and an unknown, then a name that is hidden and comes in again, and a fourth
+/// ask.
 const FOURTH: &[u8] = b"1 2 0\na 0\na -1 -2 0\na 0\nh 2 0\n2 -1 0\na 1 0\n";
 
 /// The certificate up to the end of the third ask.

@@ -109,7 +109,8 @@ fn is_confirmed(alloc: Global) -> io::Result<bool> {
     Ok(are_confirmed(alloc, (&script, &answers, &certificate)))
 }
 
-/// The answers of a run over a script in pieces of this size, where they are confirmed in such pieces and no larger ones were asked for.
+/// The answers of a run over a script in pieces of this size, where they are confirmed in such pieces and no larger
+/// ones were asked for.
 fn answers_in(alloc: Global, script: &[u8], piece: usize) -> Option<Vec<u8>> {
     let mut reader = in_pieces(script, piece);
     let written = run_on(alloc, &mut reader, 1);
@@ -128,7 +129,8 @@ fn answers_in(alloc: Global, script: &[u8], piece: usize) -> Option<Vec<u8>> {
     }
 }
 
-/// Tests whether runs over all of the literals are confirmed, and answer alike in pieces of one byte and of the largest.
+/// Tests whether runs over all of the literals are confirmed, and answer alike in pieces of one byte and of the
+/// largest.
 fn is_run(alloc: Global) -> Result<bool, AllocError> {
     let lits = literals(alloc)?;
     let script = script_of(alloc, &lits)?;

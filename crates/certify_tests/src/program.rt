@@ -31,7 +31,8 @@ const PIGEONS: &str = "\
     -2 -5 0\n-2 -8 0\n-2 -11 0\n-5 -8 0\n-5 -11 0\n-8 -11 0\n-3 -6 0\n-3 -9 0\n-3 -12 0\n-6 -9 0\n\
     -6 -12 0\n-9 -12 0\na 0\n";
 
-/// What is told on standard error of a run that made no round, of one of pair 1, 2, of one whose names no clause has, and of PIGEONS.
+/// What is told on standard error of a run that made no round, of one of pair 1, 2, of one whose names no clause has,
+/// and of PIGEONS.
 const NO_ROUND: &str =
     "[INFO  certify] progress conflicts=0 restarts=0 vars=0 binary=0 irred=0 core=0 mid=0 local=0\n";
 
@@ -199,8 +200,8 @@ fn standard_input_fails(rt: HostRuntime) {
     }
 }
 
-/// The status of the program where one call of its output fails, how many calls were made and bytes taken, and whether this is on
-/// its errors.
+/// The status of the program where one call of its output fails, how many calls were made and bytes taken, and whether
+/// this is on its errors.
 fn output_fails(rt: &HostRuntime, failing: u64, told: &str) -> (u8, u64, usize, bool) {
     let mut input = Counted::new("1 2 0\na 0\n".as_bytes());
     let mut output = fails_at(b"", failing);
@@ -219,7 +220,8 @@ static TAKEN: [(u64, usize); 3] = [(1, 0), (2, 23), (3, 35)];
 const NOT_PRINTED: &str =
     "[INFO  certify] progress conflicts=1 restarts=1 vars=2 binary=1 irred=0 core=0 mid=0 local=0\ncertify: AnswersWrite\n";
 
-/// The write of the answers fails, then that of the last line, behind the answers, then the flush. Nothing more is written then.
+/// The write of the answers fails, then that of the last line, behind the answers, then the flush. Nothing more is
+/// written then.
 #[test]
 fn standard_output_fails(rt: HostRuntime) {
     for &(failing, taken) in &TAKEN {
@@ -228,7 +230,8 @@ fn standard_output_fails(rt: HostRuntime) {
     }
 }
 
-/// The status of the program where its input fails and then one call of its errors, and whether nothing is on its output.
+/// The status of the program where its input fails and then one call of its errors, and whether nothing is on its
+/// output.
 fn errors_fail(rt: &HostRuntime, failing: u64) -> (u8, bool) {
     let mut input = fails_at(b"", 1);
     let mut output = Counted::new(Vec::new(rt.alloc()));

@@ -45,7 +45,8 @@ fn take(reader: &mut ScriptReader, piece: &[u8], out: &mut Vec<u8>) -> Result<bo
     Ok(true)
 }
 
-/// Writes the commands of a text that is fed in pieces of this size, and `.`, `?` or `x` where it ends cleanly, asks or is malformed.
+/// Writes the commands of a text that is fed in pieces of this size, and `.`, `?` or `x` where it ends cleanly, asks or
+/// is malformed.
 fn read_in(alloc: Global, text: &[u8], size: usize) -> Result<Vec<u8>, AllocError> {
     let mut out = Vec::new(alloc);
     let mut reader = ScriptReader::new(alloc);

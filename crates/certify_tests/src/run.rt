@@ -371,7 +371,8 @@ const UNSAT_AT_ONCE: AskReport = AskReport {
     steps: 0,
 };
 
-/// A text, a budget, what a run counts, and what it reports of each ask. An ask at the end of a text is reported, and is no command of it.
+/// A text, a budget, what a run counts, and what it reports of each ask. An ask at the end of a text is reported, and
+/// is no command of it.
 static SUMMARIES: [(&[u8], u64, Counts, &[AskReport]); 9] = [
     // Units stay from one ask to the next.
     (
@@ -429,8 +430,8 @@ fn run_at(alloc: Global, text: &[u8], failing: Calls) -> (Option<RunFault>, Call
     (fault, calls)
 }
 
-/// A text, and how many calls a run over it makes, where that is looked at. The certificate's writer is written to and flushed before an
-/// answer, and at the end.
+/// A text, and how many calls a run over it makes, where that is looked at. The certificate's writer is written to and
+/// flushed before an answer, and at the end.
 static CALLS: [(&[u8], Option<Calls>); 6] = [
     (b"a 0\n", Some((5, 2, 4))),
     (FOURTH, Some((11, 2, 4))),

@@ -9,8 +9,8 @@ use certify::summary::{Answer, AskReport};
 use sat_base::Counted;
 use std::alloc::Global;
 
-/// Each three of five names with both signs, the positive ones with a sixth; asks without the sixth and under nothing, and the sixth is
-/// false from then on.
+/// Each three of five names with both signs, the positive ones with a sixth; asks without the sixth and under nothing,
+/// and the sixth is false from then on.
 const SESSION: &[u8] =
     b"1 2 3 6 0 1 2 4 6 0 1 2 5 6 0 1 3 4 6 0 1 3 5 6 0 1 4 5 6 0 2 3 4 6 0 2 3 5 6 0 2 4 5 6 0 3 4 5 6 0
 -1 -2 -3 0 -1 -2 -4 0 -1 -2 -5 0 -1 -3 -4 0 -1 -3 -5 0 -1 -4 -5 0 -2 -3 -4 0 -2 -3 -5 0 -2 -4 -5 0 -3 -4 -5 0

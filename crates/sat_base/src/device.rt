@@ -1,7 +1,8 @@
 //! Readers and writers whose contracts see what was read and written, and how often that failed.
 ghost use Rattle.std.specs.Prelude.{◌≡◌};
 ghost use Rattle.std.specs.Io.{ReadsAtMost, WritesAtMost};
-ghost use Rattle.sat_base.specs.device.Device.{Reader, Writer, ReadsOnce, WritesOnce, FlushesOnce, Puts, lent_reader, lent_writer};
+ghost use Rattle.sat_base.specs.device.Device.{Reader, Writer, ReadsOnce, WritesOnce, FlushesOnce, Puts, lent_reader};
+ghost use Rattle.sat_base.specs.device.Device.{lent_writer};
 
 pub(crate) mod ahead;
 mod counted;
@@ -18,8 +19,8 @@ pub use self::whole::{Feed, ReadError, read_into, read_whole};
 use std::io;
 use std::io::{ErrorKind, Read, Write};
 
-/// A reader that says how often it was read, how often that failed, which bytes it gave, and whether the last read found it at its
-/// end.
+/// A reader that says how often it was read, how often that failed, which bytes it gave, and whether the last read
+/// found it at its end.
 pub trait CountedRead: Read {
     ghost seen: { Self → Reader };
 
@@ -44,8 +45,8 @@ pub trait CountedWrite: Write {
     fn flush_counted(&mut self) -> io::Result<()>
         ensures { FlushesOnce result (seen self.old) (seen self.new) };
 
-    /// Writes the whole piece, in as many writes as that takes. The first failed one ends it; a front of the piece may then have
-    /// been written.
+    /// Writes the whole piece, in as many writes as that takes. The first failed one ends it; a front of the piece may
+    /// then have been written.
     fn write_all_counted(&mut self, piece: &[u8]) -> io::Result<()>
         ensures { Puts piece.now result (seen self.old) (seen self.new) }
     {

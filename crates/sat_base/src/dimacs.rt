@@ -6,7 +6,9 @@ ghost use Rattle.sat_base.specs.text.Text.{dimacs_header};
 ghost use Rattle.sat_base.specs.text.Tokenizing.{held};
 ghost use Rattle.sat_base.specs.values.Formulas.{vars_of};
 ghost use Rattle.sat_base.specs.dimacs.ParserPlaces.{with_parser};
-ghost use Rattle.sat_base.specs.dimacs.Parsing.{no_progress, clauses_read, lines_read, held_numbers, all_taken, FeedsPiece, IsSoundSoFar, GaveSound, Finishes, Parses, KeepsText, ParsesInParts, VisitsAll};
+ghost use Rattle.sat_base.specs.dimacs.Parsing.{no_progress, clauses_read, lines_read, held_numbers, all_taken};
+ghost use Rattle.sat_base.specs.dimacs.Parsing.{FeedsPiece, IsSoundSoFar, GaveSound, Finishes, Parses, KeepsText};
+ghost use Rattle.sat_base.specs.dimacs.Parsing.{ParsesInParts, VisitsAll};
 
 mod clauses;
 pub mod error;
@@ -21,11 +23,12 @@ use crate::{CnfFormula, CountedRead};
 use std::alloc::Global;
 use std::marker::Model;
 
-/// A parser of DIMACS CNF, which is fed a formula's text in any pieces. It looks at each byte once, and keeps of the text the
-/// clauses that wait to be taken, the one in hand, and the header.
+/// A parser of DIMACS CNF, which is fed a formula's text in any pieces. It looks at each byte once, and keeps of the
+/// text the clauses that wait to be taken, the one in hand, and the header.
 ///
-/// Contracts see the bytes that were taken, the clauses that were handed over, and whether it stopped. It stops at a fault of
-/// the text, for want of memory, and where the text is said to be over; what it has read can be taken then, too.
+/// Contracts see the bytes that were taken, the clauses that were handed over, and whether it stopped. It stops at a
+/// fault of the text, for want of memory, and where the text is said to be over; what it has read can be taken then,
+/// too.
 #[derive(Drop)]
 pub struct DimacsParser {
     parser: Parser,
@@ -71,8 +74,9 @@ impl DimacsParser {
         }
     }
 
-    /// Takes the next bytes of the text. An `Err` says that it stopped: at a fault, whose line is then that of the wrong word or
-    /// of the number past 2^28, or for want of memory. A wrong word is told at the first byte behind which no right one goes on.
+    /// Takes the next bytes of the text. An `Err` says that it stopped: at a fault, whose line is then that of the
+    /// wrong word or of the number past 2^28, or for want of memory. A wrong word is told at the first byte behind
+    /// which no right one goes on.
     pub fn feed(&mut self, piece: &[u8]) -> Result<(), DimacsError>
         ensures answer { FeedsPiece result piece.now self.old self.new }
         // No fault is held back at the end of its line, nor a word that is wrong whatever follows.
@@ -81,8 +85,8 @@ impl DimacsParser {
         self.parser.feed(piece)
     }
 
-    /// The text is over. Where it ends inside a clause, that is malformed on the last line, whatever memory there is: it is asked
-    /// for only by a last clause that ends there.
+    /// The text is over. Where it ends inside a clause, that is malformed on the last line, whatever memory there is:
+    /// it is asked for only by a last clause that ends there.
     pub fn finish(&mut self) -> Result<(), DimacsError>
         ensures { Finishes result self.old self.new }
     {
@@ -113,8 +117,8 @@ impl DimacsParser {
         self.parser.clauses.count
     }
 
-    /// The numbers of the header, if there is one: of variables and of clauses, each held at 2^64-1. Nothing is compared with
-    /// them.
+    /// The numbers of the header, if there is one: of variables and of clauses, each held at 2^64-1. Nothing is
+    /// compared with them.
     pub fn header(&self) -> Option<(u64, u64)>
         ensures { result ≡ held_numbers (dimacs_header (lines_read self.now)) }
     {
@@ -161,25 +165,28 @@ impl DimacsParser {
         Err(DimacsError::Read)
     }
 
-    /// Reads a formula to the end of its text, and lends the parser to the closure after each piece, also where that was at fault
-    /// or there was no memory for it, and after the end, but not after a failed read. The closure's refusal is answered at once,
-    /// also in place of a fault. What a closure that only takes clauses has left waits in the parser.
+    /// Reads a formula to the end of its text, and lends the parser to the closure after each piece, also where that
+    /// was at fault or there was no memory for it, and after the end, but not after a failed read. The closure's
+    /// refusal is answered at once, also in place of a fault. What a closure that only takes clauses has left waits in
+    /// the parser.
     pub fn parse_incremental<R: CountedRead, E: Drop, F: FnMut(&mut DimacsParser) -> Result<(), E>>(
         alloc: Global,
         reader: &mut R,
         closure: F,
     ) -> Result<DimacsParser, IncrementalError<E>>
         requires { F.IsAlwaysCallable closure }
-        // Where no call does more than take clauses, the answer is that of the text that was given, whatever would follow. The
-        // clauses taken and those that wait are then the text's, too, by what `take_formula` ensures.
+        // Where no call does more than take clauses, the answer is that of the text that was given, whatever would
+        // follow. The clauses taken and those that wait are then the text's, too, by what `take_formula` ensures.
         ensures given { KeepsText (λ f p r q g. F.step f p r q g) closure
             → ParsesInParts (R.seen reader.old) (R.seen reader.new) result }
         // Whatever the closure does, it had the parser after each piece that the reader gave.
-        ensures visited { VisitsAll (λ f p r q g. F.step f p r q g) closure (R.seen reader.old) (R.seen reader.new) result }
+        ensures visited { VisitsAll (λ f p r q g. F.step f p r q g) closure (R.seen reader.old) (R.seen reader.new)
+            result }
         // A read has failed only where the answer is that, and none is tried again.
         ensures kept { IsErrOf result (IncrementalError.Dimacs DimacsError.Read)
             ⊎ ((R.seen reader.new).failures ≡ (R.seen reader.old).failures) }
-        ensures read { IsErrOf result (IncrementalError.Dimacs DimacsError.Read) → ReadFails (R.seen reader.old) (R.seen reader.new) }
+        ensures read { IsErrOf result (IncrementalError.Dimacs DimacsError.Read)
+            → ReadFails (R.seen reader.old) (R.seen reader.new) }
         ensures reads { (R.seen reader.new).calls ≤ (R.seen reader.old).calls + most_reads }
     {
         let mut parser = DimacsParser::new(alloc);

@@ -13,7 +13,8 @@ use std::io;
 
 impl<W: CountedWrite, P: Room> Output<W, P> {
     fn put_decimal(&mut self, number: u64) -> io::Result<()>
-        ensures { Sends (decimal number) result (sink_of W.seen P.waiting self.old) (sink_of W.seen P.waiting self.new) }
+        ensures { Sends (decimal number) result (sink_of W.seen P.waiting self.old)
+            (sink_of W.seen P.waiting self.new) }
     {
         if number < 10 {
             return self.put(b'0' + number as u8);
@@ -23,7 +24,8 @@ impl<W: CountedWrite, P: Room> Output<W, P> {
     }
 
     fn put_literal(&mut self, lit: Lit) -> io::Result<()>
-        ensures { Sends (number_text lit) result (sink_of W.seen P.waiting self.old) (sink_of W.seen P.waiting self.new) }
+        ensures { Sends (number_text lit) result (sink_of W.seen P.waiting self.old)
+            (sink_of W.seen P.waiting self.new) }
     {
         let number = lit.index() as u64 + 1;
         if lit.is_positive() {
@@ -34,7 +36,8 @@ impl<W: CountedWrite, P: Room> Output<W, P> {
     }
 
     fn put_clause(&mut self, lits: &[Lit]) -> io::Result<()>
-        ensures { Sends (clause_line lits.now) result (sink_of W.seen P.waiting self.old) (sink_of W.seen P.waiting self.new) }
+        ensures { Sends (clause_line lits.now) result (sink_of W.seen P.waiting self.old)
+            (sink_of W.seen P.waiting self.new) }
     {
         for lit in lits {
             self.put_literal(*lit)?;
@@ -44,7 +47,8 @@ impl<W: CountedWrite, P: Room> Output<W, P> {
     }
 
     fn put_clauses(&mut self, formula: &CnfFormula) -> io::Result<()>
-        ensures { Sends (clause_lines formula.now.clauses) result (sink_of W.seen P.waiting self.old) (sink_of W.seen P.waiting self.new) }
+        ensures { Sends (clause_lines formula.now.clauses) result (sink_of W.seen P.waiting self.old)
+            (sink_of W.seen P.waiting self.new) }
     {
         for clause in formula {
             self.put_clause(clause)?;
@@ -53,7 +57,8 @@ impl<W: CountedWrite, P: Room> Output<W, P> {
     }
 
     fn put_header(&mut self, vars: u64, clauses: u64) -> io::Result<()>
-        ensures { Sends (header_line vars clauses) result (sink_of W.seen P.waiting self.old) (sink_of W.seen P.waiting self.new) }
+        ensures { Sends (header_line vars clauses) result (sink_of W.seen P.waiting self.old)
+            (sink_of W.seen P.waiting self.new) }
     {
         self.put_all(b"p cnf ")?;
         self.put_decimal(vars)?;
@@ -63,7 +68,8 @@ impl<W: CountedWrite, P: Room> Output<W, P> {
     }
 
     fn write_formula(&mut self, formula: &CnfFormula) -> io::Result<()>
-        ensures sends { Sends (dimacs_text formula.now) result (sink_of W.seen P.waiting self.old) (sink_of W.seen P.waiting self.new) }
+        ensures sends { Sends (dimacs_text formula.now) result (sink_of W.seen P.waiting self.old)
+            (sink_of W.seen P.waiting self.new) }
         ensures none { OnOk result (P.waiting self.new.pending ≡ []) }
     {
         self.put_header(formula.var_count() as u64, formula.len() as u64)?;
@@ -72,9 +78,9 @@ impl<W: CountedWrite, P: Room> Output<W, P> {
     }
 }
 
-/// Writes the formula as DIMACS CNF has it: a line `p cnf V C` with the number of variables and that of clauses, then a line for
-/// each clause, its numbers and `0`. Takes no memory: it writes in pieces of 4,096 bytes. After an error a front of the text may
-/// have been written.
+/// Writes the formula as DIMACS CNF has it: a line `p cnf V C` with the number of variables and that of clauses, then a
+/// line for each clause, its numbers and `0`. Takes no memory: it writes in pieces of 4,096 bytes. After an error a
+/// front of the text may have been written.
 pub fn write_dimacs<W: CountedWrite>(writer: &mut W, formula: &CnfFormula) -> io::Result<()>
     ensures { Puts (dimacs_text formula.now) result (W.seen writer.old) (W.seen writer.new) }
 {

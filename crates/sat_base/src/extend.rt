@@ -4,8 +4,8 @@ ghost use Rattle.sat_base.specs.values.Literals.{coded};
 
 use crate::{Lit, Var};
 
-/// A formula that can be added to, or what holds one, as a solver does. What its calls mean is said by relations that each
-/// implementation defines; clauses are lists of codes of literals, and variables are indices.
+/// A formula that can be added to, or what holds one, as a solver does. What its calls mean is said by relations that
+/// each implementation defines; clauses are lists of codes of literals, and variables are indices.
 pub trait ExtendFormula {
     /// Why a clause wasn't added, or no variable was given.
     type Error;
@@ -28,7 +28,8 @@ pub trait ExtendFormula {
     fn add_clause(&mut self, lits: &[Lit]) -> Result<(), Self::Error>
         requires { ready self.old }
         ensures ready { ready self.new }
-        ensures adds { MatchResult result (λ _. adds self.old lits.now self.new) (λ e. refuses_clause self.old lits.now e self.new) };
+        ensures adds { MatchResult result (λ _. adds self.old lits.now self.new)
+            (λ e. refuses_clause self.old lits.now e self.new) };
 
     /// A variable that is used nowhere else.
     fn new_var(&mut self) -> Result<Var, Self::Error>

@@ -1,7 +1,8 @@
 //! Lists of lists in one piece of memory: their items one after another, and where each list ends.
 #![tactic(auto, using(crate::proofs::lemmas::values::FlatLemmas::flat))]
 
-ghost use Rattle.std.specs.Prelude.{◌≡◌, ◌≤◌, ◌<◌, ◌↔◌, ◌++◌, ◌∷◌, [], List, IsTrue, length, slice_index, slice_index_or, OnOk, OnErr};
+ghost use Rattle.std.specs.Prelude.{◌≡◌, ◌≤◌, ◌<◌, ◌↔◌, ◌++◌, ◌∷◌, [], List, IsTrue, length, slice_index};
+ghost use Rattle.std.specs.Prelude.{slice_index_or, OnOk, OnErr};
 
 mod iter;
 

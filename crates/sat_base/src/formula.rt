@@ -2,7 +2,8 @@
 ghost use Rattle.std.specs.Prelude.{◌≡◌, ◌≤◌, ◌<◌, [], length, ℕ, List, IsTrue, ◌↔◌};
 ghost use Rattle.std.specs.Map.Iter.{ShowsInOrder, deref};
 ghost use Rattle.sat_base.specs.values.Literals.{largest};
-ghost use Rattle.sat_base.specs.values.Formulas.{no_formula, vars_in, vars_of, with_count, with_clause, with_next_variable};
+ghost use Rattle.sat_base.specs.values.Formulas.{no_formula, vars_in, vars_of, with_count, with_clause};
+ghost use Rattle.sat_base.specs.values.Formulas.{with_next_variable};
 ghost use Rattle.sat_base.specs.declared.formula.error.FormulaError.TheVariants.{OutOfMemory, VariableLimit};
 
 pub(crate) mod error;

@@ -66,8 +66,8 @@ impl Lit {
         Lit { code: code as u32 }
     }
 
-    /// The literal that DIMACS writes as this number: that of the variable with its absolute value, negative where the number is.
-    /// `None` for 0, and for numbers whose absolute value is above 2^28.
+    /// The literal that DIMACS writes as this number: that of the variable with its absolute value, negative where the
+    /// number is. `None` for 0, and for numbers whose absolute value is above 2^28.
     pub fn from_dimacs(number: i64) -> Option<Lit>
         ensures { MatchOption result (IsNoNumeral number) (λ l. number ≡ numeral l) }
     {

@@ -11,9 +11,10 @@ const FEW: usize = 1 << 18;
 /// So many more may be for each place that room was made for.
 const MORE: usize = 8;
 
-/// A value for each place, where most may be missing. Near places stand in one list, others in a tree. The list is no longer than some
-/// times the number of places that room was made for, or than its owner allows, who may count what it has read; so a table takes memory
-/// by how much was read, whatever numbers stand there. A place that is in the list costs what it does in a `Vec`.
+/// A value for each place, where most may be missing. Near places stand in one list, others in a tree. The list is no
+/// longer than some times the number of places that room was made for, or than its owner allows, who may count what it
+/// has read; so a table takes memory by how much was read, whatever numbers stand there. A place that is in the list
+/// costs what it does in a `Vec`.
 #[derive(Drop)]
 pub struct Table<T> {
     near: Vec<T>,
@@ -84,7 +85,8 @@ impl<T: Copy> Table<T> {
         }
     }
 
-    /// Makes room for the value at a place, which is this one where it was missing. So no value changes, whether there was memory or not.
+    /// Makes room for the value at a place, which is this one where it was missing. So no value changes, whether there
+    /// was memory or not.
     #[inline(always)]
     pub fn make_room(&mut self, place: usize, missing: T) -> Result<(), AllocError>
         ensures room { OnOk result (HasPlaceFor self.new place) }
@@ -188,7 +190,8 @@ impl<T: Copy> Table<T> {
         Ok(())
     }
 
-    /// The value at a place is this one from here on, which it has where it is missing. Takes no memory, and needs no room.
+    /// The value at a place is this one from here on, which it has where it is missing. Takes no memory, and needs no
+    /// room.
     #[inline(always)]
     pub fn reset(&mut self, place: usize, missing: T)
         ensures set { SetsValue missing self.old self.new place missing }

@@ -1,9 +1,12 @@
 //! The words of a text, from its bytes. Formulas and scripts are both made of them.
-ghost use Rattle.std.specs.Prelude.{◌≡◌, ◌+◌, ◌*◌, ◌-◌, ◌<◌, ◌≤◌, ℕ, List, [], Bool, true, false, None, Some, IfSome, length, take};
+ghost use Rattle.std.specs.Prelude.{◌≡◌, ◌+◌, ◌*◌, ◌-◌, ◌<◌, ◌≤◌, ℕ, List, [], Bool, true, false, None, Some, IfSome};
+ghost use Rattle.std.specs.Prelude.{length, take};
 ghost use Rattle.sat_base.specs.text.Text.{is_blank, is_digit, is_letter, Scan, scan};
 ghost use Rattle.sat_base.specs.text.Chunks.{Follows};
 ghost use Rattle.sat_base.specs.text.WrongWords.{RightAhead, WrongAhead};
-ghost use Rattle.sat_base.specs.text.Tokenizing.{grown, held, may_come, Began, MovesPlace, MovesBy, BeginsWord, SaysInHand, SaysAtBlank, LeadsBehind, IsQuiet, StandsBefore, TakesByte, TakesFront, HoldsNoWord, GivesLast};
+ghost use Rattle.sat_base.specs.text.Tokenizing.{grown, held, may_come, Began, MovesPlace, MovesBy, BeginsWord};
+ghost use Rattle.sat_base.specs.text.Tokenizing.{SaysInHand, SaysAtBlank, LeadsBehind, IsQuiet, StandsBefore};
+ghost use Rattle.sat_base.specs.text.Tokenizing.{TakesByte, TakesFront, HoldsNoWord, GivesLast};
 
 mod header;
 
@@ -50,9 +53,9 @@ enum Place {
 
 /// Takes the bytes of a text one by one, and gives its tokens. It holds no bytes.
 ///
-/// Blanks are space, tab, CR and LF, and a word is a longest run of other bytes. A line ends at LF. A line whose first byte
-/// that is no blank is `c` is a comment, one whose first is `%` ends the text, and one whose first is `p` is a header line, which
-/// gives one token. A header may stand once, before the first word of other lines.
+/// Blanks are space, tab, CR and LF, and a word is a longest run of other bytes. A line ends at LF. A line whose first
+/// byte that is no blank is `c` is a comment, one whose first is `%` ends the text, and one whose first is `p` is a
+/// header line, which gives one token. A header may stand once, before the first word of other lines.
 #[derive(Drop)]
 pub struct Tokenizer {
     place: Place,
@@ -60,9 +63,9 @@ pub struct Tokenizer {
     lines: u64,
 }
 
-// Each byte goes through several of the functions below, which pass places by value: unasked none is inlined into the others, and
-// a place is then written to memory and read again for each. With all of them inlined, a tokenizer that its owner lends to nobody else
-// stays in registers.
+// Each byte goes through several of the functions below, which pass places by value: unasked none is inlined into the
+// others, and a place is then written to memory and read again for each. With all of them inlined, a tokenizer that its
+// owner lends to nobody else stays in registers.
 
 fn is_blank(byte: u8) -> bool
     ensures { result ≡ is_blank byte }
@@ -156,7 +159,8 @@ fn number_goes_on(negative: bool, value: u64, byte: u8) -> Place
 #[inline(always)]
 fn digits_in(value: u64, bytes: &[u8]) -> (u64, usize)
     ensures within { result.1 ≤ length bytes.now }
-    ensures moves { (negative : Bool) → MovesBy (Place.Digits negative value) (take result.1 bytes.now) (Place.Digits negative result.0) }
+    ensures moves { (negative : Bool)
+        → MovesBy (Place.Digits negative value) (take result.1 bytes.now) (Place.Digits negative result.0) }
 {
     let mut value = value;
     for (count, byte) in bytes.iter().enumerate() {
@@ -172,7 +176,8 @@ fn digits_in(value: u64, bytes: &[u8]) -> (u64, usize)
 #[inline(always)]
 fn some_digits_in(bytes: &[u8]) -> Option<(u64, usize)>
     ensures within { IfSome result (λ r. (0 < r.1) × (r.1 ≤ length bytes.now)) }
-    ensures plain { IfSome result (λ r. (old : Place) → BeginsWord old → MovesBy old (take r.1 bytes.now) (Place.Digits false r.0)) }
+    ensures plain { IfSome result (λ r. (old : Place) → BeginsWord old
+        → MovesBy old (take r.1 bytes.now) (Place.Digits false r.0)) }
     ensures negative { IfSome result (λ r. MovesBy Place.Minus (take r.1 bytes.now) (Place.Digits true r.0)) }
 {
     if bytes.is_empty() {
@@ -366,18 +371,20 @@ impl Tokenizer {
         token
     }
 
-    /// Takes the next byte, and gives the token that it ended, if it ended one. A header is ended by its LF, a wrong word in a
-    /// header line by the blank behind it. Behind the `%` that ends the text no byte gives a token.
+    /// Takes the next byte, and gives the token that it ended, if it ended one. A header is ended by its LF, a wrong
+    /// word in a header line by the blank behind it. Behind the `%` that ends the text no byte gives a token.
     #[inline(always)]
     pub fn push(&mut self, byte: u8) -> Option<Token>
         ensures takes { TakesByte self.old byte result self.new }
         // Only a blank ends a word,
         ensures inside { is_blank byte ≡ false → result ≡ None }
         // and behind it none is in hand, nor a header line behind LF,
-        ensures quiet { is_blank byte ≡ true → (after : List ℕ → Scan) → StandsBefore self.new after → HoldsNoWord (after []) }
+        ensures quiet { is_blank byte ≡ true → (after : List ℕ → Scan) → StandsBefore self.new after
+            → HoldsNoWord (after []) }
         ensures ended { byte ≡ 10 → (after : List ℕ → Scan) → StandsBefore self.new after → (after []).tokens ≡ [] }
         // and what comes may be right.
-        ensures right { is_blank byte ≡ true → (after : List ℕ → Scan) → StandsBefore self.new after → RightAhead after }
+        ensures right { is_blank byte ≡ true → (after : List ℕ → Scan) → StandsBefore self.new after
+            → RightAhead after }
     {
         // Most bytes are a further digit, for which no other place is looked at.
         if let Place::Digits { negative, value } = self.place {
@@ -413,15 +420,16 @@ impl Tokenizer {
         Some(count)
     }
 
-    /// Takes one byte or more, of which only the last may end a token. Says how many, and gives the token. It takes all digits of a
-    /// number at once; how many bytes it takes matters for nothing else.
+    /// Takes one byte or more, of which only the last may end a token. Says how many, and gives the token. It takes all
+    /// digits of a number at once; how many bytes it takes matters for nothing else.
     #[inline(always)]
     pub fn push_some(&mut self, bytes: &[u8]) -> (usize, Option<Token>)
         requires { 0 < length bytes.now }
         ensures some { 0 < result.0 }
         ensures within { result.0 ≤ length bytes.now }
         ensures takes { TakesFront self.old (take result.0 bytes.now) result.1 self.new }
-        ensures right { (result.1 ≡ None → ⊥) → (after : List ℕ → Scan) → StandsBefore self.new after → RightAhead after }
+        ensures right { (result.1 ≡ None → ⊥) → (after : List ℕ → Scan) → StandsBefore self.new after
+            → RightAhead after }
     {
         let Some(count) = self.push_number(bytes) else {
             return (1, self.push(bytes[0]));
@@ -433,8 +441,9 @@ impl Tokenizer {
         (count + 1, self.push(bytes[count]))
     }
 
-    /// Whether the word or header line in hand is wrong whatever follows: from its first byte on behind which no right one goes
-    /// on. So `1x` is wrong at `x` and `--` at the second `-`, but `-0`, which may go on as `-01`, only where it ends.
+    /// Whether the word or header line in hand is wrong whatever follows: from its first byte on behind which no right
+    /// one goes on. So `1x` is wrong at `x` and `--` at the second `-`, but `-0`, which may go on as `-01`, only where
+    /// it ends.
     #[inline(always)]
     pub fn is_wrong(&self) -> bool
         ensures wrong { result ≡ true → (before : List ℕ → Scan) → StandsBefore self.now before → WrongAhead before }
@@ -454,8 +463,9 @@ impl Tokenizer {
         token_in(self.place)
     }
 
-    /// The line of the last byte, from 1, held at 2^64-1; 0 before the first byte. Where a `%` has ended the text it is the line of
-    /// that. It is the line of the token that this byte ended, and where the text ends here, of the one in hand.
+    /// The line of the last byte, from 1, held at 2^64-1; 0 before the first byte. Where a `%` has ended the text it is
+    /// the line of that. It is the line of the token that this byte ended, and where the text ends here, of the one in
+    /// hand.
     pub fn line(&self) -> u64
         ensures { (before : List ℕ → Scan) → StandsBefore self.now before → result ≡ held (before []).last }
     {

@@ -122,8 +122,8 @@ fn is_fed<R: CountedRead>(alloc: Global, reader: &mut R, text: &[u8]) -> bool {
     read_into(reader, &mut held).is_ok() && held.as_slice() == text
 }
 
-/// Reads a text whole, byte by byte, of which one read fails, counted from 1. Gives whether the text was read, or the fault, and
-/// how many calls were made.
+/// Reads a text whole, byte by byte, of which one read fails, counted from 1. Gives whether the text was read, or the
+/// fault, and how many calls were made.
 fn read_by_one(alloc: Global, text: &[u8], failing: u64) -> (Result<bool, ReadError>, u64) {
     let mut reader = by_one(text, failing);
     let answer = is_read(alloc, &mut reader, text);

@@ -1,6 +1,7 @@
 //! Rows of texts, whole and in pieces of one byte, and what goes on after a fault.
 //!
-//! The tests see a parser and a formula through functions that ensure nothing, and keep few values: that is cheap to prove.
+//! The tests see a parser and a formula through functions that ensure nothing, and keep few values: that is cheap to
+//! prove.
 ghost use Rattle.std.specs.Prelude.{◌≡◌, ◌<◌, ℕ, List, IfOk, length};
 ghost use Rattle.sat_base.specs.device.Device.{GaveEnough, GaveFront};
 ghost use Rattle.sat_base.specs.dimacs.Parsing.{IsWholeText};
@@ -117,7 +118,8 @@ fn rows() -> &'static [Row] {
     &ROWS
 }
 
-/// Tests whether a parser that has read a row's text has what the row says, also when its clauses are taken, and is over.
+/// Tests whether a parser that has read a row's text has what the row says, also when its clauses are taken, and is
+/// over.
 fn has_read(alloc: Global, parser: &mut DimacsParser, row: &Row) -> bool {
     let found = state(parser);
     let (is_right, count, _) = take(alloc, parser, row.2);
@@ -209,7 +211,8 @@ fn is_parsed(alloc: Global, text: &[u8], clauses: &[i64], highest: usize) -> boo
 
 /// How many clauses a formula's text has.
 fn clause_count<R: CountedRead>(alloc: Global, reader: &mut R) -> Result<usize, DimacsError>
-    ensures { IfOk result (λ count. GaveEnough (R.seen reader.old) (R.seen reader.new) (λ text. count ≡ length (dimacs text).clauses)) }
+    ensures { IfOk result (λ count. GaveEnough (R.seen reader.old) (R.seen reader.new)
+        (λ text. count ≡ length (dimacs text).clauses)) }
 {
     let formula = DimacsParser::parse(alloc, reader)?;
     Ok(formula.len())
@@ -291,8 +294,8 @@ fn looked<R: CountedRead>(
     (is_right, end_of(answer))
 }
 
-/// Reads a text byte by byte, of which one read fails and one call of the closure refuses, both counted from 1. Gives how often
-/// the closure was called, and the fault.
+/// Reads a text byte by byte, of which one read fails and one call of the closure refuses, both counted from 1. Gives
+/// how often the closure was called, and the fault.
 fn in_parts(
     alloc: Global,
     text: &[u8],
@@ -320,7 +323,8 @@ fn long_text(alloc: Global) -> (bool, Vec<u8>) {
     (is_written, writer.into_inner())
 }
 
-/// Tests whether a text's clauses have so many numbers, a closure that is called 4 times sees them, and the parser ends as the text says.
+/// Tests whether a text's clauses have so many numbers, a closure that is called 4 times sees them, and the parser ends
+/// as the text says.
 fn are_seen_again(alloc: Global, text: &[u8], formula: &CnfFormula, length: usize) -> bool {
     let end = Some((Some((1_000, 1_000)), 1_000, formula.var_count()));
     match numbers(alloc, formula) {
@@ -394,8 +398,8 @@ fn a_caller_sees_each_piece_and_the_clauses_before_a_fault(rt: HostRuntime) {
     }
 }
 
-/// Reads a text byte by byte. Gives the numbers of the clauses that a closure took, how often it was called, how often the reader
-/// was, and the fault.
+/// Reads a text byte by byte. Gives the numbers of the clauses that a closure took, how often it was called, how often
+/// the reader was, and the fault.
 fn looks_and_reads(
     alloc: Global,
     text: &[u8],
@@ -406,7 +410,8 @@ fn looks_and_reads(
     (numbers, calls, reader.into_inner().calls, answer.err())
 }
 
-/// Behind the byte `%` the text is decided, and nothing need be read. The closure has the parser behind each read, either way.
+/// Behind the byte `%` the text is decided, and nothing need be read. The closure has the parser behind each read,
+/// either way.
 #[test]
 fn a_caller_sees_each_piece_up_to_a_percent_line(rt: HostRuntime) {
     let (numbers, calls, reads, fault) = looks_and_reads(rt.alloc(), b"1\n%\n");

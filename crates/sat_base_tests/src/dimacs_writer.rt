@@ -60,8 +60,8 @@ fn formulas_have_these_texts(rt: HostRuntime) {
     }
 }
 
-/// Writes a formula to a writer that takes so many bytes a call, of which one fails, counted from 1. Gives whether it was
-/// written, how many calls were made, and whether what was taken is this text.
+/// Writes a formula to a writer that takes so many bytes a call, of which one fails, counted from 1. Gives whether it
+/// was written, how many calls were made, and whether what was taken is this text.
 fn by_few_calls(
     alloc: Global,
     formula: &CnfFormula,

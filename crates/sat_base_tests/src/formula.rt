@@ -14,7 +14,8 @@ use std::test::*;
 fn add_unit<F: ExtendFormula>(formula: &mut F) -> Result<Lit, F::Error>
     requires { F.ready formula.old }
     ensures ready { F.ready formula.new }
-    ensures adds { OnOk result ((v : ℕ) × (between : F) × F.makes formula.old v between × F.adds between (coded v true ∷ []) formula.new) }
+    ensures adds { OnOk result ((v : ℕ) × (between : F) × F.makes formula.old v between
+        × F.adds between (coded v true ∷ []) formula.new) }
 {
     let lit = formula.new_lit()?;
     formula.add_clause(&[lit])?;

@@ -101,7 +101,8 @@ fn begins_with_tag(alloc: Global, text: &[u8]) -> bool {
     first_tag(alloc, &mut Counted::new(text)) == text.first().copied()
 }
 
-/// Tests whether a step has this text, and is read again from it, whole and by one byte, and whether the text begins with its tag.
+/// Tests whether a step has this text, and is read again from it, whole and by one byte, and whether the text begins
+/// with its tag.
 fn has_text(alloc: Global, step: &ProofStep<'_>, text: &[u8]) -> bool {
     match written(alloc, step) {
         Some(found) => {
@@ -495,8 +496,8 @@ fn a_long_step_is_read_again(rt: HostRuntime) {
     assert!(rt; length_again(rt.alloc(), &long) == Some(15003));
 }
 
-/// Writes a step to a writer that takes so many bytes a call, of which one fails, counted from 1. Gives whether the step was
-/// written, how many calls were made, and whether what was taken begins this text, and is it.
+/// Writes a step to a writer that takes so many bytes a call, of which one fails, counted from 1. Gives whether the
+/// step was written, how many calls were made, and whether what was taken begins this text, and is it.
 fn by_few_calls(
     alloc: Global,
     step: &ProofStep<'_>,
@@ -526,7 +527,8 @@ fn may_fail(alloc: Global, step: &ProofStep<'_>, most: usize, calls: u64, text: 
     true
 }
 
-/// Tests whether a step is written whole to a writer that takes so many bytes a call, and is an error where one of the calls fails.
+/// Tests whether a step is written whole to a writer that takes so many bytes a call, and is an error where one of the
+/// calls fails.
 fn is_taken_by_few(alloc: Global, step: &ProofStep<'_>, most: usize) -> bool {
     let Some(text) = written(alloc, step) else {
         return false;
@@ -554,8 +556,8 @@ fn is_not_taken(alloc: Global, step: &ProofStep<'_>) -> bool {
     !is_written && calls == 1
 }
 
-/// The length of a long step's text, and whether the step is taken by a writer that takes few bytes a call, and not by one that
-/// takes none.
+/// The length of a long step's text, and whether the step is taken by a writer that takes few bytes a call, and not by
+/// one that takes none.
 fn taken(alloc: Global, step: &ProofStep<'_>) -> (Option<usize>, bool, bool) {
     let length = length_again(alloc, step);
     let is_taken = is_taken_by_few(alloc, step, 7);

@@ -53,7 +53,8 @@ const LIMIT_HEADER: Option<Token> = Some(Token::Header {
 /// A byte, the token that it ends, and the line on which the tokenizer stands behind it.
 type Step = (u8, Option<Token>, u64);
 
-/// The first of some bytes, with its line, behind which the tokenizer doesn't give this token, or none, and stand on this line.
+/// The first of some bytes, with its line, behind which the tokenizer doesn't give this token, or none, and stand on
+/// this line.
 fn wrong_byte(tokenizer: &mut Tokenizer, rows: &[Step]) -> Option<(u8, u64)> {
     for &(byte, token, line) in rows {
         let found = tokenizer.push(byte);
@@ -185,8 +186,8 @@ const HEADER: Token = Token::Header {
     clauses: 1,
 };
 
-/// Lines that begin with p and are no headers, then headers, which come once and before words, then lines that begin with %, which
-/// end the text.
+/// Lines that begin with p and are no headers, then headers, which come once and before words, then lines that begin
+/// with %, which end the text.
 static LINES: [Row; 29] = [
     (b"p", &[(1, Token::Wrong)], 1),
     (b"p ", &[(1, Token::Wrong)], 1),

@@ -6,7 +6,8 @@ ghost use Rattle.sat_checker.specs.Stored.{is_known, name_of};
 ghost use Rattle.sat_checker.specs.Accepts.{ready_after};
 ghost use Rattle.sat_checker.specs.KernelView as kernels;
 ghost use Rattle.sat_checker.specs.KernelView.{has_failed, looks_of, LooksAtMost, Stands};
-ghost use Rattle.sat_checker.specs.CheckerView.{kernel_of, seen_of, AddsListener, ChecksStep, ChecksDelayed, ChecksClause, FaultsOfSomebody, FailsAgain};
+ghost use Rattle.sat_checker.specs.CheckerView.{kernel_of, seen_of, AddsListener, ChecksStep, ChecksDelayed};
+ghost use Rattle.sat_checker.specs.CheckerView.{ChecksClause, FaultsOfSomebody, FailsAgain};
 ghost use Rattle.sat_checker.specs.declared.error.CheckerError.TheVariants.{HasFailed};
 ghost use Rattle.sat_checker.specs.telling.ProcessingView.{listeners_of, HearsEach};
 
@@ -23,9 +24,9 @@ use crate::processing::{Nobody, Processing, Processors, ProofProcessor};
 use sat_base::{Lit, ProofStep, Var};
 use std::alloc::Global;
 
-/// A checker, which takes clauses of a formula and the steps of a proof in turn, and tells processors and transcripts what it
-/// announces. Once it has refused a step, had no memory or no id left, or one of them answered a fault, it only answers that it has
-/// failed.
+/// A checker, which takes clauses of a formula and the steps of a proof in turn, and tells processors and transcripts
+/// what it announces. Once it has refused a step, had no memory or no id left, or one of them answered a fault, it only
+/// answers that it has failed.
 #[derive(Drop)]
 pub struct Checker<P: ProofProcessor = Nobody, T: ProofTranscriptProcessor = Nobody> {
     pub(crate) kernel: Kernel,
@@ -75,7 +76,8 @@ impl<P: ProofProcessor, T: ProofTranscriptProcessor> Checker<P, T> {
         }
     }
 
-    /// A processor, which is told all announcements from here on. Without memory it is dropped, and the checker has failed.
+    /// A processor, which is told all announcements from here on. Without memory it is dropped, and the checker has
+    /// failed.
     pub fn add_processor(&mut self, processor: P) -> Result<(), CheckerError>
         ensures { AddsListener result (kernel_of self.old) (kernel_of self.new)
             (listeners_of self.old.processing) (listeners_of self.new.processing)
@@ -93,7 +95,8 @@ impl<P: ProofProcessor, T: ProofTranscriptProcessor> Checker<P, T> {
         Ok(())
     }
 
-    /// A transcript, which is told all its steps from here on. Without memory it is dropped, and the checker has failed.
+    /// A transcript, which is told all its steps from here on. Without memory it is dropped, and the checker has
+    /// failed.
     pub fn add_transcript(&mut self, transcript: T) -> Result<(), CheckerError>
         ensures { AddsListener result (kernel_of self.old) (kernel_of self.new)
             (listeners_of self.old.processing) (listeners_of self.new.processing)
@@ -121,7 +124,8 @@ impl<P: ProofProcessor, T: ProofTranscriptProcessor> Checker<P, T> {
         processing.into_processors()
     }
 
-    /// Takes a clause of the formula, unless it has a variable that is hidden or a witness. A refused one changes nothing.
+    /// Takes a clause of the formula, unless it has a variable that is hidden or a witness. A refused one changes
+    /// nothing.
     pub fn add_clause(&mut self, clause: &[Lit]) -> Result<(), CheckerError>
         ensures checks { ChecksClause (HearsEach P.takes T.reads)
             result (seen_of self.old) clause.now (seen_of self.new) }
@@ -208,7 +212,8 @@ impl<P: ProofProcessor, T: ProofTranscriptProcessor> Checker<P, T> {
 
 impl<P: ProofProcessor, T: ProofTranscriptProcessor> SelfChecker for Checker<P, T> {
     ghost checks = { λ c step r d. kernels.ChecksStep r (kernel_of c) step (kernel_of d)
-        × LooksAtMost (kernel_of c) step (kernel_of d) × ChecksStep (HearsEach P.takes T.reads) r (seen_of c) step (seen_of d) };
+        × LooksAtMost (kernel_of c) step (kernel_of d)
+        × ChecksStep (HearsEach P.takes T.reads) r (seen_of c) step (seen_of d) };
 
     ghost settles = { λ c r d. kernels.ChecksDelayed r (kernel_of c) (kernel_of d)
         × ChecksDelayed (HearsEach P.takes T.reads) r (seen_of c) (seen_of d) };

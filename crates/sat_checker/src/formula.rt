@@ -1,5 +1,6 @@
 //! The stored formula: clauses, units, and what is recorded of them.
-ghost use Rattle.std.specs.Prelude.{◌≡◌, ◌+◌, ◌≤◌, ◌*◌, [], ◌∷◌, length, IfOk, OnOk, OnErr, IsErrOf, None, IsTrue, ◌↔◌, MatchBool, map, not, ◌&&◌, false};
+ghost use Rattle.std.specs.Prelude.{◌≡◌, ◌+◌, ◌≤◌, ◌*◌, [], ◌∷◌, length, IfOk, OnOk, OnErr, IsErrOf, None, IsTrue, ◌↔◌};
+ghost use Rattle.std.specs.Prelude.{MatchBool, map, not, ◌&&◌, false};
 ghost use Rattle.sat_base.specs.steps.Steps.{DeleteClause, Redundant, Satisfied, Simplified};
 ghost use Rattle.sat_base.specs.steps.StepViews.{deletion_of};
 ghost use Rattle.std.specs.List.{list_any};
@@ -10,13 +11,15 @@ ghost use Rattle.sat_checker.specs.LiteralSets.{canonical, is_among};
 ghost use Rattle.sat_checker.specs.Accepts.{PassesByHashes, PassInTurn, IsStrictSubset, FitsModel, VariablesApart};
 ghost use Rattle.sat_checker.specs.Stored.{Stored, nothing_stored};
 ghost use Rattle.sat_checker.specs.Looks.{literal_count};
-ghost use Rattle.sat_checker.specs.Storing.{settled, with_unit, with_contradiction, with_canonical, with_stored, with_input, with_units, last_literals, without_variable};
+ghost use Rattle.sat_checker.specs.Storing.{settled, with_unit, with_contradiction, with_canonical, with_stored};
+ghost use Rattle.sat_checker.specs.Storing.{with_input, with_units, last_literals, without_variable};
 ghost use Rattle.sat_checker.specs.announcements.Announcements.{derived, derived_units};
 ghost use Rattle.sat_checker.specs.inner.Reasons.{noted_length};
 ghost use Rattle.sat_checker.specs.inner.StoreView.{TakesCount, with_less};
 ghost use Rattle.sat_checker.specs.inner.Marks.{IsIncreasing};
 ghost use Rattle.sat_checker.specs.declared.store.StoreError.TheVariants.{CounterEnd};
-ghost use Rattle.sat_checker.specs.inner.FormulaView.{KeepsFormula, refiled_in, ChecksAs, Becomes, TurnsIf, Deletes, Explained};
+ghost use Rattle.sat_checker.specs.inner.FormulaView.{KeepsFormula, refiled_in, ChecksAs, Becomes, TurnsIf, Deletes};
+ghost use Rattle.sat_checker.specs.inner.FormulaView.{Explained};
 ghost use Rattle.sat_checker.specs.telling.AnnouncingView.{AreLong};
 ghost use Rattle.sat_checker.specs.telling.NotedView.{AppendsNews};
 
@@ -66,14 +69,16 @@ impl Formula {
         self.store.file(looks)
     }
 
-    /// The propagation check of a clause under hashes, whatever the ids of clauses and units are. What it notes is kept.
+    /// The propagation check of a clause under hashes, whatever the ids of clauses and units are. What it notes is
+    /// kept.
     pub fn check(
         &mut self,
         clause: &[Lit],
         hashes: &[ClauseHash],
         looks: &mut Looks,
     ) -> Result<bool, AllocError>
-        ensures exact { IfOk result (λ passes. (f : Stored) → ChecksAs self.old f → IsTrue passes ↔ PassesByHashes f clause.now hashes.now) }
+        ensures exact { IfOk result (λ passes. (f : Stored) → ChecksAs self.old f
+            → IsTrue passes ↔ PassesByHashes f clause.now hashes.now) }
         ensures rest { self.new ≡ record self.old { passed = self.new.passed } }
         ensures looks { LooksOver (ChecksAs self.old) (λ f. length hashes.now * literal_count f) looks.old looks.new }
         ensures explained { IfOk result (λ passes. IsTrue passes → Explained self.new clause.now hashes.now) }
@@ -222,7 +227,8 @@ impl Formula {
         self.status.take_id_if(unnumbered)
     }
 
-    /// Checks a unit under its one hash, and stores it. The answer is whether it passes. It does where no id is left for it.
+    /// Checks a unit under its one hash, and stores it. The answer is whether it passes. It does where no id is left
+    /// for it.
     fn store_checked(
         &mut self,
         lit: Lit,
@@ -231,7 +237,8 @@ impl Formula {
         looks: &mut Looks,
     ) -> Result<bool, StoreError>
         ensures decides { (f : Stored) → KeepsFormula self.old f
-            → TurnsIf result (PassesByHashes f (lit ∷ []) (hash ∷ [])) (KeepsFormula self.new (with_unit lit f)) (with_unit lit f) }
+            → TurnsIf result (PassesByHashes f (lit ∷ []) (hash ∷ [])) (KeepsFormula self.new (with_unit lit f))
+            (with_unit lit f) }
         ensures kept { IsErrOf result CounterEnd → (f : Stored) → KeepsFormula self.old f → KeepsFormula self.new f }
         ensures noted { IfOk result (λ passes. IsTrue passes → (f : Stored) → KeepsFormula self.old f → AreLong f
             → AppendsNews notes.old (derived false (lit ∷ []) (hash ∷ []) f) notes.new) }
@@ -254,8 +261,8 @@ impl Formula {
         looks: &mut Looks,
     ) -> Result<bool, StoreError>
         ensures decides { (f : Stored) → KeepsFormula self.old f
-            → TurnsIf result (PassInTurn f units.now)
-            (KeepsFormula self.new (with_units (map (λ u. u.0) units.now) f)) (with_units (map (λ u. u.0) units.now) f) }
+            → TurnsIf result (PassInTurn f units.now) (KeepsFormula self.new (with_units (map (λ u. u.0) units.now) f))
+            (with_units (map (λ u. u.0) units.now) f) }
         ensures noted { IfOk result (λ passes. IsTrue passes → (f : Stored) → KeepsFormula self.old f → AreLong f
             → AppendsNews notes.old (derived_units units.now f) notes.new) }
         ensures looks { LooksOver (KeepsFormula self.old)
@@ -335,8 +342,9 @@ impl Formula {
     /// Whether the last irredundant clause stored is there, and is a part of these sorted literals but not all of them.
     fn has_last_within(&self, literals: &[Lit], looks: &mut Looks) -> bool
         requires { IsIncreasing literals.now }
-        ensures part { (f : Stored) → KeepsFormula self.now f → MatchBool result
-            (IsStrictSubset (last_literals f.last f) literals.now) (IsStrictSubset (last_literals f.last f) literals.now → ⊥) }
+        ensures part { (f : Stored) → KeepsFormula self.now f
+            → MatchBool result (IsStrictSubset (last_literals f.last f) literals.now)
+            (IsStrictSubset (last_literals f.last f) literals.now → ⊥) }
         ensures looks { LooksOver (KeepsFormula self.now) literal_count looks.old looks.new }
     {
         match self.status.last {
@@ -366,7 +374,8 @@ impl Formula {
 
     /// Forgets the unit of a variable, which is deleted.
     pub fn forget(&mut self, var: Var)
-        ensures { (f : Stored) → KeepsFormula (refiled_in self.old) f → KeepsFormula (refiled_in self.new) (without_variable var f) }
+        ensures { (f : Stored) → KeepsFormula (refiled_in self.old) f
+            → KeepsFormula (refiled_in self.new) (without_variable var f) }
     {
         self.units.forget(var);
         self.status.var_deleted = true;
@@ -398,8 +407,8 @@ impl Formula {
     /// Whether no unit's negation is assumed, and each irredundant clause has an assumed literal.
     fn are_met(&self, assigned: &Assigned, looks: &mut Looks) -> bool
         ensures met { (f : Stored) → KeepsFormula (refiled_in self.now) f
-            → result
-            ≡ (not (list_any (λ u. is_among assigned.now (negated u.literal)) f.units) && are_all_true assigned.now f.clauses) }
+            → result ≡ (not (list_any (λ u. is_among assigned.now (negated u.literal)) f.units) && are_all_true
+            assigned.now f.clauses) }
         ensures looks { LooksOver (KeepsFormula (refiled_in self.now)) literal_count looks.old looks.new }
     {
         !self.units.are_contradicted(assigned) && self.store.are_satisfied(assigned, looks)

@@ -44,7 +44,8 @@ impl ClauseHasher {
     /// A variable has this solver name or none from here on.
     pub fn set_solver_name(&mut self, var: Var, name: Option<Var>) -> Result<(), AllocError>
         ensures width { width_of self.new ≡ width_of self.old }
-        ensures names { OnOk result ((v : ℕ) → solver_name_of self.new v ≡ (if v == var then name else solver_name_of self.old v)) }
+        ensures names { OnOk result ((v : ℕ) → solver_name_of self.new v
+            ≡ (if v == var then name else solver_name_of self.old v)) }
     {
         self.solver_names.set(var.index(), name, None)
     }
@@ -84,7 +85,8 @@ impl ClauseHasher {
 /// Odd, so that no two hashes are mixed to one.
 const MIXER: u64 = 0xbf58_476d_1ce4_e5b9;
 
-/// A hash by which the index files another: its top bits hang on all bits of that one, of which those of neighbouring literals share many.
+/// A hash by which the index files another: its top bits hang on all bits of that one, of which those of neighbouring
+/// literals share many.
 #[inline(always)]
 #[tactic(auto, using(crate::proofs::lemmas::pairs::Mixing::is_mixed))]
 pub(crate) fn mixed(hash: ClauseHash) -> ClauseHash

@@ -5,7 +5,8 @@ ghost use Rattle.sat_checker.specs.KernelView as kernels;
 ghost use Rattle.sat_checker.specs.KernelView.{has_failed, looks_of, Stands};
 ghost use Rattle.sat_checker.specs.CheckerView.{seen, ChecksStep, ChecksDelayed};
 ghost use Rattle.sat_checker.specs.announcements.Announcements.{Told};
-ghost use Rattle.sat_checker.specs.inner.TellingSteps.{announced_by, changed_by, put_back, was_of, fault_of, records_in, IsUnmovedByTold, TellsAndKeepsState};
+ghost use Rattle.sat_checker.specs.inner.TellingSteps.{announced_by, changed_by, put_back, was_of, fault_of};
+ghost use Rattle.sat_checker.specs.inner.TellingSteps.{records_in, IsUnmovedByTold, TellsAndKeepsState};
 ghost use Rattle.sat_checker.specs.inner.VariablesView.{variable_at};
 ghost use Rattle.sat_checker.specs.telling.AnnouncementView.{variables_of};
 ghost use Rattle.sat_checker.specs.telling.Hearing.{hearers, HearsAll, HearsFirst, HearsUpTo};
@@ -68,7 +69,8 @@ fn listens<P: ProofProcessor, T: ProofTranscriptProcessor>(
     has_own: bool,
     others: &Processing<P, T>,
 ) -> bool
-    ensures { result ≡ false → (has_own ≡ false) × (listeners_of others.now ≡ record { processors = []; transcripts = [] }) }
+    ensures { result ≡ false → (has_own ≡ false)
+        × (listeners_of others.now ≡ record { processors = []; transcripts = [] }) }
 {
     has_own || !others.is_quiet()
 }
@@ -81,11 +83,10 @@ fn tell_news<O: ProofProcessor, P: ProofProcessor, T: ProofTranscriptProcessor>(
     own: &mut O,
     others: &mut Processing<P, T>,
 ) -> Result<(), ProcessingError>
-    ensures { MatchResult result
-        (λ _. HearsAll (HearsFirst O.takes (HearsEach P.takes T.reads))
+    ensures { MatchResult result (λ _. HearsAll (HearsFirst O.takes (HearsEach P.takes T.reads))
         (announced_by (variables_of names.entry) news.now) (hearers own.old others.old) (hearers own.new others.new))
-        (λ e. HearsUpTo (HearsFirst O.takes (HearsEach P.takes T.reads))
-        e (announced_by (variables_of names.entry) news.now) (hearers own.old others.old) (hearers own.new others.new)) }
+        (λ e. HearsUpTo (HearsFirst O.takes (HearsEach P.takes T.reads)) e
+        (announced_by (variables_of names.entry) news.now) (hearers own.old others.old) (hearers own.new others.new)) }
 {
     for place in 0..news.len() {
         match others.step_with(own, &news.get(place), names) {
@@ -125,8 +126,8 @@ impl Kernel {
         }
     }
 
-    /// Checks the next step, takes it in if it is accepted, and tells what it announces: first to a processor of the caller's own, where
-    /// it has one.
+    /// Checks the next step, takes it in if it is accepted, and tells what it announces: first to a processor of the
+    /// caller's own, where it has one.
     pub fn check_step<O: ProofProcessor, P: ProofProcessor, T: ProofTranscriptProcessor>(
         &mut self,
         step: &ProofStep<'_>,
@@ -138,8 +139,9 @@ impl Kernel {
         requires { has_own ≡ false → (v : _) (t : Told) → O.takes v t (Ok tt) v }
         ensures judges { kernels.ChecksStep result self.old (step_of step.now) self.new }
         ensures goes_on { OnOk result (has_failed self.new ≡ false) }
-        ensures tells { ChecksStep (HearsFirst O.takes (HearsEach P.takes T.reads))
-            result (seen self.old (hearers own.old others.old)) (step_of step.now) (seen self.new (hearers own.new others.new)) }
+        ensures tells { ChecksStep (HearsFirst O.takes (HearsEach P.takes T.reads)) result
+            (seen self.old (hearers own.old others.old)) (step_of step.now)
+            (seen self.new (hearers own.new others.new)) }
         ensures looks { kernels.LooksAtMost self.old (step_of step.now) self.new }
         ensures rise { looks_of self.old ≤ looks_of self.new }
         ensures failed { has_failed self.old ≡ true
@@ -166,7 +168,8 @@ impl Kernel {
     ) -> Result<(), CheckerError>
         requires { has_failed self.old ≡ false }
         ensures judges { kernels.ChecksDelayed result self.old self.new }
-        ensures goes_on { OnOk result ((has_failed self.new ≡ false) × (self.new.state.formula.status.conflict ≡ None)) }
+        ensures goes_on { OnOk result ((has_failed self.new ≡ false)
+            × (self.new.state.formula.status.conflict ≡ None)) }
         ensures looks { looks_of self.new ≡ looks_of self.old }
         ensures tells { ChecksDelayed (HearsFirst O.takes (HearsEach P.takes T.reads))
             result (seen self.old (hearers own.old others.old)) (seen self.new (hearers own.new others.new)) }
@@ -177,7 +180,8 @@ impl Kernel {
         self.settle_conflict(own, others)
     }
 
-    /// The empty clause of a pending unit conflict takes the next id, and is told. Steps that follow none don't come here.
+    /// The empty clause of a pending unit conflict takes the next id, and is told. Steps that follow none don't come
+    /// here.
     #[inline(never)]
     fn settle_conflict<O: ProofProcessor, P: ProofProcessor, T: ProofTranscriptProcessor>(
         &mut self,
@@ -186,7 +190,8 @@ impl Kernel {
     ) -> Result<(), CheckerError>
         requires { has_failed self.old ≡ false }
         ensures judges { kernels.ChecksDelayed result self.old self.new }
-        ensures goes_on { OnOk result ((has_failed self.new ≡ false) × (self.new.state.formula.status.conflict ≡ None)) }
+        ensures goes_on { OnOk result ((has_failed self.new ≡ false)
+            × (self.new.state.formula.status.conflict ≡ None)) }
         ensures looks { looks_of self.new ≡ looks_of self.old }
         ensures tells { ChecksDelayed (HearsFirst O.takes (HearsEach P.takes T.reads))
             result (seen self.old (hearers own.old others.old)) (seen self.new (hearers own.new others.new)) }
@@ -224,11 +229,13 @@ impl Kernel {
     ) -> Result<(), CheckerError>
         requires well { has_failed self.old ≡ false }
         requires settled { self.old.state.formula.status.conflict ≡ None }
-        requires quiet { hears ≡ false → IsUnmovedByTold (HearsFirst O.takes (HearsEach P.takes T.reads)) (hearers own.old others.old) }
+        requires quiet { hears ≡ false
+            → IsUnmovedByTold (HearsFirst O.takes (HearsEach P.takes T.reads)) (hearers own.old others.old) }
         ensures judges { kernels.ChecksStep result self.old (step_of step.now) self.new }
         ensures goes_on { OnOk result (has_failed self.new ≡ false) }
-        ensures tells { ChecksStep (HearsFirst O.takes (HearsEach P.takes T.reads))
-            result (seen self.old (hearers own.old others.old)) (step_of step.now) (seen self.new (hearers own.new others.new)) }
+        ensures tells { ChecksStep (HearsFirst O.takes (HearsEach P.takes T.reads)) result
+            (seen self.old (hearers own.old others.old)) (step_of step.now)
+            (seen self.new (hearers own.new others.new)) }
         ensures looks { kernels.LooksAtMost self.old (step_of step.now) self.new }
         ensures rise { looks_of self.old ≤ looks_of self.new }
     {
@@ -257,11 +264,12 @@ impl Kernel {
         others: &mut Processing<P, T>,
     ) -> Result<(), CheckerError>
         requires well { has_failed self.old ≡ false }
-        requires quiet { hears ≡ false → IsUnmovedByTold (HearsFirst O.takes (HearsEach P.takes T.reads)) (hearers own.old others.old) }
-        ensures { (told : List Told)
-            → (IsTrue hears → told ≡ announced_by (put_back (was_of was.now) (variable_at self.old.state.variables)) self.old.notes.news)
-            → TellsAndKeepsState (HearsFirst O.takes (HearsEach P.takes T.reads))
-            told result (seen self.old (hearers own.old others.old)) (seen self.new (hearers own.new others.new)) }
+        requires quiet { hears ≡ false
+            → IsUnmovedByTold (HearsFirst O.takes (HearsEach P.takes T.reads)) (hearers own.old others.old) }
+        ensures { (told : List Told) → (IsTrue hears
+            → told ≡ announced_by (put_back (was_of was.now) (variable_at self.old.state.variables))
+            self.old.notes.news) → TellsAndKeepsState (HearsFirst O.takes (HearsEach P.takes T.reads)) told result
+            (seen self.old (hearers own.old others.old)) (seen self.new (hearers own.new others.new)) }
     {
         self.records = self.state.formula.status.records();
         if !hears {

@@ -1,6 +1,21 @@
 //! What holds of announcements: each law is the contract of a function that does nothing.
-ghost use Rattle.sat_checker.specs.announcements.Promises.{ConflictIsAnnounced, ConflictIsFollowedBackwards, DeletionsRest, IdsAreAnnounced, PropagationsInTurn, SimplifiedIsAnnounced, TautologiesRestOnNothing, ToldInOrder};
-ghost use Rattle.sat_checker.specs.announcements.Rows.{AnswersRead, Assumed, CollidingTold, ConflictAndUnitTold, Contradiction, CoreFailed, CoreOfBothSigns, DerivedIrredundant, DerivedIrredundantAgain, DerivedNew, DerivedRedundantAgain, DerivedTautology, DerivedUnitAgain, InputBehindUnsat, InputDuplicate, InputNew, InputRedundant, InputTautology, InputUnitAgain, InputsRead, ModeChanged, ModeLeft, ModeOfNameless, Modelled, ModesRead, NameNew, NameNewRead, NameOfKnown, NameOfKnownRead, NameRemoved, NameRemovedRead, NamedTwiceTold, OthersRead, OthersTell, PassedNotNeeded, RedundantGone, RedundantStays, RefutedAtZeroTold, RefutedRead, RefutedTold, SatisfiedGone, SatisfiedKept, SatisfiedStays, SimplifiedByEmpty, SimplifiedGone, SolverNameSet, UnitAlone, UnitsFirst, UnitsHeld};
+ghost use Rattle.sat_checker.specs.announcements.Promises.{ConflictIsAnnounced, ConflictIsFollowedBackwards};
+ghost use Rattle.sat_checker.specs.announcements.Promises.{DeletionsRest, IdsAreAnnounced, PropagationsInTurn};
+ghost use Rattle.sat_checker.specs.announcements.Promises.{SimplifiedIsAnnounced, TautologiesRestOnNothing};
+ghost use Rattle.sat_checker.specs.announcements.Promises.{ToldInOrder};
+ghost use Rattle.sat_checker.specs.announcements.Rows.{AnswersRead, Assumed, CollidingTold, ConflictAndUnitTold};
+ghost use Rattle.sat_checker.specs.announcements.Rows.{Contradiction, CoreFailed, CoreOfBothSigns, DerivedIrredundant};
+ghost use Rattle.sat_checker.specs.announcements.Rows.{DerivedIrredundantAgain, DerivedNew, DerivedRedundantAgain};
+ghost use Rattle.sat_checker.specs.announcements.Rows.{DerivedTautology, DerivedUnitAgain, InputBehindUnsat};
+ghost use Rattle.sat_checker.specs.announcements.Rows.{InputDuplicate, InputNew, InputRedundant, InputTautology};
+ghost use Rattle.sat_checker.specs.announcements.Rows.{InputUnitAgain, InputsRead, ModeChanged, ModeLeft};
+ghost use Rattle.sat_checker.specs.announcements.Rows.{ModeOfNameless, Modelled, ModesRead, NameNew, NameNewRead};
+ghost use Rattle.sat_checker.specs.announcements.Rows.{NameOfKnown, NameOfKnownRead, NameRemoved, NameRemovedRead};
+ghost use Rattle.sat_checker.specs.announcements.Rows.{NamedTwiceTold, OthersRead, OthersTell, PassedNotNeeded};
+ghost use Rattle.sat_checker.specs.announcements.Rows.{RedundantGone, RedundantStays, RefutedAtZeroTold, RefutedRead};
+ghost use Rattle.sat_checker.specs.announcements.Rows.{RefutedTold, SatisfiedGone, SatisfiedKept, SatisfiedStays};
+ghost use Rattle.sat_checker.specs.announcements.Rows.{SimplifiedByEmpty, SimplifiedGone, SolverNameSet, UnitAlone};
+ghost use Rattle.sat_checker.specs.announcements.Rows.{UnitsFirst, UnitsHeld};
 ghost use Rattle.sat_checker.specs.telling.ProcessingView.{NobodyFails};
 
 use crate::announce::transcript::ProofTranscriptProcessor;
@@ -14,7 +29,8 @@ pub fn propagations_run_to_conflict()
     ensures deleted { DeletionsRest }
 {}
 
-/// What is stored was announced under its id, and so was what an empty clause of a conflict and a simplified deletion name.
+/// What is stored was announced under its id, and so was what an empty clause of a conflict and a simplified deletion
+/// name.
 pub fn ids_are_announced()
     ensures stored { IdsAreAnnounced }
     ensures delayed { ConflictIsAnnounced }

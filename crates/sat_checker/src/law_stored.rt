@@ -1,7 +1,10 @@
-//! What makes a clause pass, what each step leaves of what is stored, and what always holds of it: each law is the contract of a function that
-//! does nothing.
+//! What makes a clause pass, what each step leaves of what is stored, and what always holds of it: each law is the
+//! contract of a function that does nothing.
 ghost use Rattle.sat_checker.specs.FewBytes.{IdsWithinBytes, NoneIsSpent};
-ghost use Rattle.sat_checker.specs.Invariants.{AllClausesHold, AlwaysOrderly, AlwaysTidy, ContentsAreSettled, ContentsFollow, ContentsOfSteps, CountedIsStored, DerivedIsLast, LastIsSettled, LastStays, PendingChangesNothing, TakingCounts, UnsatStays};
+ghost use Rattle.sat_checker.specs.Invariants.{AllClausesHold, AlwaysOrderly, AlwaysTidy, ContentsAreSettled};
+ghost use Rattle.sat_checker.specs.Invariants.{ContentsFollow, ContentsOfSteps, CountedIsStored, DerivedIsLast};
+ghost use Rattle.sat_checker.specs.Invariants.{LastIsSettled, LastStays, PendingChangesNothing, TakingCounts};
+ghost use Rattle.sat_checker.specs.Invariants.{UnsatStays};
 ghost use Rattle.sat_checker.specs.Leading.{HashOfAnyOrder, LeadingPasses, LeadsOnMore, TurnsConflict, TurnsLead};
 
 /// Stored clauses that hashes name make a clause pass where they lead to a conflict, whatever else the buckets hold.
@@ -38,8 +41,8 @@ pub fn last_was_derived()
     ensures settled { LastIsSettled }
 {}
 
-/// Steps give no more ids than they have bytes. So none of those that a reader can give, behind a new checker's none, comes to the end of
-/// ids or counts.
+/// Steps give no more ids than they have bytes. So none of those that a reader can give, behind a new checker's none,
+/// comes to the end of ids or counts.
 pub fn bytes_bound_ids()
     ensures ids { IdsWithinBytes }
     ensures spent { NoneIsSpent }

@@ -1,8 +1,21 @@
 //! What holds of the definitions: each law is the contract of a function that does nothing.
 ghost use Rattle.sat_checker.specs.DimacsView.{EndedStayFirst, ReadAreFirst};
-ghost use Rattle.sat_checker.specs.Laws.{CanonicalIsSortedSet, CoresAssumed, CoresFail, DeletedIsNameless, DeletionIsSeen, EmptyIsGiven, FormulaIsFold, KnownStays, ModelsExtend, NamedIsKnown, NamesApart, SameLiteralsAreEqual, SortedSetsAreEqual, TautologyHasBothSigns, UnknownIsUnknown, UnsatMeansNone};
-ghost use Rattle.sat_checker.specs.MeaningRows.{DeletedIsFree, EitherHolds, FourHaveNone, LooksOfAll, LooksOfKinds, OnlyAddedAsk, StoredAsk, UnsatAsks};
-ghost use Rattle.sat_checker.specs.Rows.{Assumed, BehindUnsat, BothSigns, ByDuplicate, ByNameLeft, ByOneCount, BySolverName, Colliding, ConflictAndUnit, EmptyBefore, EmptyBehind, EndAlone, FourClauses, HashesOfOneTwo, HiddenAdded, HiddenNamed, InClause, LastBehindConflict, LastUnit, ModelAgainstUnit, ModelTwice, ModelWithoutClause, Modelled, NameTaken, NamedAgain, NamedOnce, NamedTwice, NamedTwiceOver, NoNameTaken, NoRedundantCount, NotAssumed, Refuted, RefutedAtZero, SimplifiedByGone, SimplifiedByItself, SimplifiedByPart, SolverNamesHash, StoredTwice, Tautologies, TwoCounts, TwoUnits, UnitConflict, UnitForgotten, UnitsTurned, Unknown, UnknownMode, WithName, WitnessAdded, WitnessNamed};
+ghost use Rattle.sat_checker.specs.Laws.{CanonicalIsSortedSet, CoresAssumed, CoresFail, DeletedIsNameless};
+ghost use Rattle.sat_checker.specs.Laws.{DeletionIsSeen, EmptyIsGiven, FormulaIsFold, KnownStays, ModelsExtend};
+ghost use Rattle.sat_checker.specs.Laws.{NamedIsKnown, NamesApart, SameLiteralsAreEqual, SortedSetsAreEqual};
+ghost use Rattle.sat_checker.specs.Laws.{TautologyHasBothSigns, UnknownIsUnknown, UnsatMeansNone};
+ghost use Rattle.sat_checker.specs.MeaningRows.{DeletedIsFree, EitherHolds, FourHaveNone, LooksOfAll, LooksOfKinds};
+ghost use Rattle.sat_checker.specs.MeaningRows.{OnlyAddedAsk, StoredAsk, UnsatAsks};
+ghost use Rattle.sat_checker.specs.Rows.{Assumed, BehindUnsat, BothSigns, ByDuplicate, ByNameLeft, ByOneCount};
+ghost use Rattle.sat_checker.specs.Rows.{BySolverName, Colliding, ConflictAndUnit, EmptyBefore, EmptyBehind, EndAlone};
+ghost use Rattle.sat_checker.specs.Rows.{FourClauses, HashesOfOneTwo, HiddenAdded, HiddenNamed, InClause};
+ghost use Rattle.sat_checker.specs.Rows.{LastBehindConflict, LastUnit, ModelAgainstUnit, ModelTwice};
+ghost use Rattle.sat_checker.specs.Rows.{ModelWithoutClause, Modelled, NameTaken, NamedAgain, NamedOnce, NamedTwice};
+ghost use Rattle.sat_checker.specs.Rows.{NamedTwiceOver, NoNameTaken, NoRedundantCount, NotAssumed, Refuted};
+ghost use Rattle.sat_checker.specs.Rows.{RefutedAtZero, SimplifiedByGone, SimplifiedByItself, SimplifiedByPart};
+ghost use Rattle.sat_checker.specs.Rows.{SolverNamesHash, StoredTwice, Tautologies, TwoCounts, TwoUnits, UnitConflict};
+ghost use Rattle.sat_checker.specs.Rows.{UnitForgotten, UnitsTurned, Unknown, UnknownMode, WithName, WitnessAdded};
+ghost use Rattle.sat_checker.specs.Rows.{WitnessNamed};
 
 /// What clauses as sets are: the sorted form, and both signs of a variable.
 pub fn clauses_are_sets()

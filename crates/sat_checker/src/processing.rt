@@ -36,9 +36,10 @@ fn tell_processors<P: ProofProcessor>(
     step: &CheckedProofStep<'_>,
     names: CheckerData<'_>,
 ) -> anyhow::Result<()>
-    ensures ok { OnOk result (AllTold (λ r b d. P.takes b (told_of step.now names.entry) r d) processors.old processors.new) }
-    ensures err { IfErr result
-        (λ cause. SomeTold (λ r b d. P.takes b (told_of step.now names.entry) r d) cause processors.old processors.new) }
+    ensures ok { OnOk result (AllTold (λ r b d. P.takes b (told_of step.now names.entry) r d) processors.old
+        processors.new) }
+    ensures err { IfErr result (λ cause. SomeTold (λ r b d. P.takes b (told_of step.now names.entry) r d) cause
+        processors.old processors.new) }
 {
     for processor in processors.iter_mut() {
         match processor.process_step(step, names) {
@@ -53,7 +54,8 @@ fn tell_transcripts<T: ProofTranscriptProcessor>(
     transcripts: &mut [T],
     step: &ProofTranscriptStep<'_>,
 ) -> anyhow::Result<()>
-    ensures ok { OnOk result (AllTold (λ r b d. T.reads b (transcribed_of step.now) r d) transcripts.old transcripts.new) }
+    ensures ok { OnOk result (AllTold (λ r b d. T.reads b (transcribed_of step.now) r d) transcripts.old
+        transcripts.new) }
     ensures err { IfErr result
         (λ cause. SomeTold (λ r b d. T.reads b (transcribed_of step.now) r d) cause transcripts.old transcripts.new) }
 {
@@ -191,8 +193,8 @@ impl<P: ProofProcessor, T: ProofTranscriptProcessor> Processing<P, T> {
         self.processors.is_empty() && self.transcripts.is_empty()
     }
 
-    /// Tells an announcement to the processors, and its transcript to the transcripts, in the order in which they were added. The first
-    /// fault ends it.
+    /// Tells an announcement to the processors, and its transcript to the transcripts, in the order in which they were
+    /// added. The first fault ends it.
     pub fn step(
         &mut self,
         step: &CheckedProofStep<'_>,
@@ -273,7 +275,8 @@ pub fn process_step<P: ProofProcessor, T: ProofTranscriptProcessor>(
     step: &CheckedProofStep<'_>,
 ) -> Result<(), ProcessingError>
     ensures { HearsEach P.takes T.reads processing.old
-        (record { announcement = announcement_of step.now; variables = variable_at variables.now }) result processing.new }
+        (record { announcement = announcement_of step.now; variables = variable_at variables.now }) result
+        processing.new }
 {
     processing.step(step, CheckerData::new(variables))
 }

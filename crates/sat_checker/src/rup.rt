@@ -1,10 +1,13 @@
-//! The propagation check of a clause under the hashes that a step names: a walk over the clauses, which notes those that it takes.
-ghost use Rattle.std.specs.Prelude.{◌≡◌, ◌+◌, ◌*◌, ◌<◌, ◌≤◌, [], ◌∷◌, length, IfOk, if◌then◌else◌, None, Some, map, false, IsTrue, ◌↔◌};
+//! The propagation check of a clause under the hashes that a step names: a walk over the clauses, which notes those
+//! that it takes.
+ghost use Rattle.std.specs.Prelude.{◌≡◌, ◌+◌, ◌*◌, ◌<◌, ◌≤◌, [], ◌∷◌, length, IfOk, if◌then◌else◌, None, Some, map};
+ghost use Rattle.std.specs.Prelude.{false, IsTrue, ◌↔◌};
 ghost use Rattle.sat_checker.specs.Looks.{total_length};
 ghost use Rattle.sat_checker.specs.Propagation.{PassesCheck};
 ghost use Rattle.sat_checker.specs.inner.Look.{AssumesMore, WalksBucket};
 ghost use Rattle.sat_checker.specs.inner.Looking.{LooksUpTo};
-ghost use Rattle.sat_checker.specs.inner.Reasons.{clause_at, filed, named, noted_length, NotesReasons, RecordsWalk, MeetsConflict, ExplainsCheck};
+ghost use Rattle.sat_checker.specs.inner.Reasons.{clause_at, filed, named, noted_length, NotesReasons, RecordsWalk};
+ghost use Rattle.sat_checker.specs.inner.Reasons.{MeetsConflict, ExplainsCheck};
 ghost use Rattle.sat_checker.specs.inner.SlotView.{literals_at, bucket_in, bucket_of, live_length};
 ghost use Rattle.sat_checker.specs.inner.Walk.{verdict, walk_on, walk_buckets, denied_in_turn};
 
@@ -33,10 +36,10 @@ fn meet(
         ≡ (if conflict then None else Some assigned.new)) }
     ensures extends { AssumesMore assigned.old assigned.new }
     ensures looks { looks.new ≡ looks.old + length (literals_at clauses.now place) }
-    ensures noted { IfOk result (λ conflict.
-        NotesReasons clauses.now conflict passed.old assigned.old (clause_at clauses.now place ∷ []) passed.new assigned.new) }
-    ensures read { IfOk result
-        (λ _. noted_length clauses.now passed.new ≤ noted_length clauses.now passed.old + length (literals_at clauses.now place)) }
+    ensures noted { IfOk result (λ conflict. NotesReasons clauses.now conflict passed.old assigned.old
+        (clause_at clauses.now place ∷ []) passed.new assigned.new) }
+    ensures read { IfOk result (λ _. noted_length clauses.now passed.new
+        ≤ noted_length clauses.now passed.old + length (literals_at clauses.now place)) }
 {
     match look_at(assigned, clauses.literals(place, looks)) {
         Look::Falsified => {
@@ -101,8 +104,8 @@ fn walk_hashes(
     ensures found { IfOk result (λ yes. yes ≡ walk_buckets assigned.old (map (bucket_of clauses.now) hashes.now)) }
     ensures extends { AssumesMore assigned.old assigned.new }
     ensures looks { LooksUpTo (length hashes.now * live_length clauses.now) looks.old looks.new }
-    ensures noted { IfOk result
-        (λ yes. IsTrue yes → MeetsConflict clauses.now passed.old assigned.old (named hashes.now clauses.now) passed.new) }
+    ensures noted { IfOk result (λ yes. IsTrue yes
+        → MeetsConflict clauses.now passed.old assigned.old (named hashes.now clauses.now) passed.new) }
     ensures read { IfOk result
         (λ _. noted_length clauses.now passed.new + looks.old ≤ noted_length clauses.now passed.old + looks.new) }
 {
@@ -119,7 +122,8 @@ fn walk_hashes(
 /// Assumes the negations of a clause's literals. The answer is whether a literal was true already.
 #[tactic(auto, using(crate::proofs::lemmas::propagation::Denied::denying))]
 fn deny(assigned: &mut Assigned, clause: &[Lit]) -> Result<bool, AllocError>
-    ensures denied { IfOk result (λ met. denied_in_turn assigned.old clause.now ≡ (if met then None else Some assigned.new)) }
+    ensures denied { IfOk result (λ met. denied_in_turn assigned.old clause.now
+        ≡ (if met then None else Some assigned.new)) }
     ensures extends { AssumesMore assigned.old assigned.new }
 {
     for lit in clause {
@@ -135,8 +139,8 @@ fn deny(assigned: &mut Assigned, clause: &[Lit]) -> Result<bool, AllocError>
     Ok(false)
 }
 
-/// The propagation check of a clause, over what is assigned. What it assumes is left behind that. Where it passes by a conflict, the
-/// notes explain what the conflict rests on, which is followed where somebody listens.
+/// The propagation check of a clause, over what is assigned. What it assumes is left behind that. Where it passes by a
+/// conflict, the notes explain what the conflict rests on, which is followed where somebody listens.
 pub(crate) fn check_clause_with_hashes(
     clauses: &Clauses,
     clause: &[Lit],
@@ -145,10 +149,12 @@ pub(crate) fn check_clause_with_hashes(
     passed: &mut Passed,
     looks: &mut Looks,
 ) -> Result<bool, AllocError>
-    ensures exact { IfOk result (λ yes. IsTrue yes ↔ PassesCheck assigned.old clause.now (map (bucket_of clauses.now) hashes.now)) }
+    ensures exact { IfOk result (λ yes. IsTrue yes
+        ↔ PassesCheck assigned.old clause.now (map (bucket_of clauses.now) hashes.now)) }
     ensures extends { AssumesMore assigned.old assigned.new }
     ensures looks { LooksUpTo (length hashes.now * live_length clauses.now) looks.old looks.new }
-    ensures explained { IfOk result (λ yes. IsTrue yes → ExplainsCheck clauses.now passed.new assigned.old clause.now hashes.now) }
+    ensures explained { IfOk result
+        (λ yes. IsTrue yes → ExplainsCheck clauses.now passed.new assigned.old clause.now hashes.now) }
     ensures read { IfOk result (λ _. noted_length clauses.now passed.new + looks.old ≤ looks.new) }
 {
     let _count = clauses.len();

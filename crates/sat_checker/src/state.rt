@@ -3,10 +3,13 @@ ghost use Rattle.std.specs.Prelude.{None, Some, MatchBool};
 ghost use Rattle.sat_checker.specs.Stored.{Stored, nothing_stored};
 ghost use Rattle.sat_checker.specs.Looks.{literal_count};
 ghost use Rattle.sat_checker.specs.Accepts.{MayBeDeleted, MayBeAdded};
-ghost use Rattle.sat_base.specs.steps.Steps.{SolverVarName, UserVarName, ChangeSamplingMode, AddClause, AtClause, ChangeHashBits, Assumptions, End, UnitClauses, DeleteClause, Model, FailedAssumptions, DeleteVar};
+ghost use Rattle.sat_base.specs.steps.Steps.{SolverVarName, UserVarName, ChangeSamplingMode, AddClause, AtClause};
+ghost use Rattle.sat_base.specs.steps.Steps.{ChangeHashBits, Assumptions, End, UnitClauses, DeleteClause, Model};
+ghost use Rattle.sat_base.specs.steps.Steps.{FailedAssumptions, DeleteVar};
 ghost use Rattle.sat_base.specs.steps.StepViews.{deletion_of, step_of};
 ghost use Rattle.sat_checker.specs.inner.Looking.{LooksOver};
-ghost use Rattle.sat_checker.specs.inner.StateView.{KeepsStored, KeepsFiled, ChangesStored, with_added, with_derived, Decides, LooksWithin};
+ghost use Rattle.sat_checker.specs.inner.StateView.{KeepsStored, KeepsFiled, ChangesStored, with_added, with_derived};
+ghost use Rattle.sat_checker.specs.inner.StateView.{Decides, LooksWithin};
 ghost use Rattle.sat_checker.specs.telling.NotedView.{Announces};
 
 pub(crate) mod lit_set;
@@ -189,7 +192,8 @@ impl State {
         Ok(true)
     }
 
-    /// Deletes a clause. Want of memory for what is announced, and for dropping clauses that are gone, comes only where it is accepted.
+    /// Deletes a clause. Want of memory for what is announced, and for dropping clauses that are gone, comes only where
+    /// it is accepted.
     fn delete_clause(
         &mut self,
         clause: &[Lit],
@@ -270,7 +274,8 @@ impl State {
 
     /// Whether the variable is known, has no name, and is neither in a stored clause nor assumed.
     fn may_delete(&self, var: Var) -> bool
-        ensures { (f : Stored) → KeepsStored self.now f → MatchBool result (MayBeDeleted f var) (MayBeDeleted f var → ⊥) }
+        ensures { (f : Stored) → KeepsStored self.now f
+            → MatchBool result (MayBeDeleted f var) (MayBeDeleted f var → ⊥) }
     {
         let data = self.variables.data(var);
         if !data.known {
@@ -298,7 +303,8 @@ impl State {
         }
     }
 
-    /// Checks the next step, and takes it in if it is accepted. The answer is whether it is. What it announces is noted.
+    /// Checks the next step, and takes it in if it is accepted. The answer is whether it is. What it announces is
+    /// noted.
     pub fn step(
         &mut self,
         step: &ProofStep<'_>,
@@ -339,7 +345,8 @@ impl State {
 
     /// Whether a clause of the formula is accepted: unsat is recorded, or its variables are all sampling or unknown.
     pub fn may_add(&self, clause: &[Lit]) -> bool
-        ensures { (f : Stored) → KeepsStored self.now f → MatchBool result (MayBeAdded f clause.now) (MayBeAdded f clause.now → ⊥) }
+        ensures { (f : Stored) → KeepsStored self.now f
+            → MatchBool result (MayBeAdded f clause.now) (MayBeAdded f clause.now → ⊥) }
     {
         self.formula.status.unsat || self.variables.are_sampling(clause)
     }

@@ -1,10 +1,12 @@
 //! The stored clauses of two literals or more, with the hashes by which steps name them.
-ghost use Rattle.std.specs.Prelude.{ℕ, List, true, false, length, ◌≡◌, [], ◌+◌, ◌*◌, ◌≤◌, ◌^◌, Some, IfOk, OnOk, Err, MatchBool};
+ghost use Rattle.std.specs.Prelude.{ℕ, List, true, false, length, ◌≡◌, [], ◌+◌, ◌*◌, ◌≤◌, ◌^◌, Some, IfOk, OnOk, Err};
+ghost use Rattle.std.specs.Prelude.{MatchBool};
 ghost use Rattle.sat_checker.specs.inner.Looking.{LooksOver, LooksUpTo};
 ghost use Rattle.sat_checker.specs.inner.Marks.{IsIncreasing};
 ghost use Rattle.sat_checker.specs.Stored.{Stored, nothing_stored};
 ghost use Rattle.sat_checker.specs.Looks.{literal_count};
-ghost use Rattle.sat_checker.specs.inner.StoreView.{KeepsClauses, refiled, Stores, PlacesIds, KeepsIds, TakesCount, with_less, count_in, found_in};
+ghost use Rattle.sat_checker.specs.inner.StoreView.{KeepsClauses, refiled, Stores, PlacesIds, KeepsIds, TakesCount};
+ghost use Rattle.sat_checker.specs.inner.StoreView.{with_less, count_in, found_in};
 ghost use Rattle.sat_checker.specs.inner.SlotView.{slot_ids, live, live_length, gone_count};
 ghost use Rattle.sat_checker.specs.Storing.{clause_with, clause_numbered, with_solver_name};
 ghost use Rattle.sat_checker.specs.Accepts.{IsStrictSubset};
@@ -106,7 +108,8 @@ impl Store {
         Ok(())
     }
 
-    /// Stores sorted literals without repeats once more, under this id where they are new. The answer is under which id they are stored.
+    /// Stores sorted literals without repeats once more, under this id where they are new. The answer is under which id
+    /// they are stored.
     pub fn store_clause(
         &mut self,
         id: u64,
@@ -141,7 +144,8 @@ impl Store {
     /// The clause with these literals.
     #[inline(never)]
     pub fn stored(&self, literals: &[Lit], looks: &mut Looks) -> Option<Found>
-        ensures found { (f : Stored) → KeepsClauses self.now f → clause_with literals.now f.clauses ≡ found_in literals.now result }
+        ensures found { (f : Stored) → KeepsClauses self.now f
+            → clause_with literals.now f.clauses ≡ found_in literals.now result }
         ensures looks { LooksOver (KeepsClauses self.now) literal_count looks.old looks.new }
     {
         let hash = self.hasher.clause_hash(literals);
@@ -173,8 +177,8 @@ impl Store {
         true
     }
 
-    /// Drops the clauses that are gone, where more than half of all are, or more than half of the buffer is theirs. The places of
-    /// others change by that. Where memory is wanted all stay.
+    /// Drops the clauses that are gone, where more than half of all are, or more than half of the buffer is theirs. The
+    /// places of others change by that. Where memory is wanted all stay.
     pub fn compact(&mut self) -> Result<(), AllocError>
         ensures kept { (f : Stored) → KeepsClauses self.old f → KeepsClauses self.new f }
         ensures ids { KeepsIds self.old.clauses self.new.clauses }
@@ -185,7 +189,8 @@ impl Store {
 
     /// So many bits of each hash are kept from here on. No clause is looked at before a hash is looked up.
     pub fn set_bits(&mut self, bits: HashBits)
-        ensures set { (f : Stored) → KeepsClauses (refiled self.old) f → KeepsClauses (refiled self.new) (record f { width = bits }) }
+        ensures set { (f : Stored) → KeepsClauses (refiled self.old) f
+            → KeepsClauses (refiled self.new) (record f { width = bits }) }
         ensures ids { slot_ids self.new.clauses ≡ slot_ids self.old.clauses }
     {
         if self.hasher.bits() == bits {
@@ -212,7 +217,8 @@ impl Store {
         Ok(())
     }
 
-    /// Whether the clause with this id isn't gone, and is a part of these sorted literals but not all of them. Ids rise by place.
+    /// Whether the clause with this id isn't gone, and is a part of these sorted literals but not all of them. Ids rise
+    /// by place.
     pub fn has_strict_part(&self, id: u64, literals: &[Lit], looks: &mut Looks) -> bool
         requires { IsIncreasing literals.now }
         ensures part { IsIncreasing (slot_ids self.now.clauses) → MatchBool result
@@ -232,14 +238,16 @@ impl Store {
 
     /// Whether a stored clause has a literal of the variable. No clause is looked at.
     pub fn mention(&self, var: Var) -> bool
-        ensures { (f : Stored) → KeepsClauses (refiled self.now) f → result ≡ list_any (λ c. mentions c.literals var) f.clauses }
+        ensures { (f : Stored) → KeepsClauses (refiled self.now) f
+            → result ≡ list_any (λ c. mentions c.literals var) f.clauses }
     {
         self.clauses.mention(var)
     }
 
     /// Whether each clause that stands as irredundant has an assumed literal.
     pub fn are_satisfied(&self, assigned: &Assigned, looks: &mut Looks) -> bool
-        ensures found { (f : Stored) → KeepsClauses (refiled self.now) f → result ≡ are_all_true assigned.now f.clauses }
+        ensures found { (f : Stored) → KeepsClauses (refiled self.now) f
+            → result ≡ are_all_true assigned.now f.clauses }
         ensures looks { LooksOver (KeepsClauses (refiled self.now)) literal_count looks.old looks.new }
         // All irredundant ones were looked at where they are.
         ensures all { (f : Stored) → KeepsClauses (refiled self.now) f → result ≡ true

@@ -1,5 +1,6 @@
 //! The stored units.
-ghost use Rattle.std.specs.Prelude.{ℕ, ◌≡◌, ◌++◌, ◌∷◌, [], ◌+◌, ◌*◌, ◌^◌, ◌<◌, ◌≤◌, ◌↔◌, true, false, length, map, reverse, IfOk, IsTrue, OnOk, filter, not, ◌==◌, if◌then◌else◌};
+ghost use Rattle.std.specs.Prelude.{ℕ, ◌≡◌, ◌++◌, ◌∷◌, [], ◌+◌, ◌*◌, ◌^◌, ◌<◌, ◌≤◌, ◌↔◌, true, false, length, map};
+ghost use Rattle.std.specs.Prelude.{reverse, IfOk, IsTrue, OnOk, filter, not, ◌==◌, if◌then◌else◌};
 ghost use Rattle.sat_base.specs.values.Literals.{negated, variable};
 ghost use Rattle.std.specs.List.{list_any};
 ghost use Rattle.sat_checker.specs.LiteralSets.{is_among};
@@ -30,7 +31,8 @@ use sat_base::{ClauseHash, Lit, Var};
 use std::alloc::{AllocError, Global};
 use std::marker::Model;
 
-/// The units, which are assumed whenever a clause is checked. Contracts see them in the order in which they were stored.
+/// The units, which are assumed whenever a clause is checked. Contracts see them in the order in which they were
+/// stored.
 #[derive(Drop)]
 pub(crate) struct Units {
     ids: LitNumbers,
@@ -181,7 +183,8 @@ impl Units {
         false
     }
 
-    /// The propagation check of a clause under hashes, over the units, which stay. The notes are of the clauses that it took.
+    /// The propagation check of a clause under hashes, over the units, which stay. The notes are of the clauses that it
+    /// took.
     #[tactic(auto, using(crate::proofs::lemmas::store::Keeping::checking))]
     pub fn check(
         &mut self,

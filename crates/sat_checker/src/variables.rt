@@ -1,9 +1,12 @@
 //! Which variables are known, their modes, and the user's names for them.
-ghost use Rattle.std.specs.Prelude.{ℕ, true, false, ◌≡◌, ◌==◌, None, Some, OnErr, OnOk, IfOk, MatchBool, map, [], ◌∷◌, if◌then◌else◌};
+ghost use Rattle.std.specs.Prelude.{ℕ, true, false, ◌≡◌, ◌==◌, None, Some, OnErr, OnOk, IfOk, MatchBool, map, [], ◌∷◌};
+ghost use Rattle.std.specs.Prelude.{if◌then◌else◌};
 ghost use Rattle.sat_base.specs.values.Literals.{variable};
 ghost use Rattle.sat_checker.specs.LiteralSets.{is_among};
 ghost use Rattle.sat_checker.specs.Stored.{Hide, Sample, Variable, Witness, unknown};
-ghost use Rattle.sat_checker.specs.inner.VariablesView.{mode_in, variable_of, variable_at, holder_at, known_if, unknown_data, AreSampling, KeepsVariables, VariablesAllow, VariablesAnswer};
+ghost use Rattle.sat_checker.specs.inner.VariablesView.{mode_in, variable_of, variable_at, holder_at, known_if};
+ghost use Rattle.sat_checker.specs.inner.VariablesView.{unknown_data, AreSampling, KeepsVariables, VariablesAllow};
+ghost use Rattle.sat_checker.specs.inner.VariablesView.{VariablesAnswer};
 ghost use Rattle.sat_base.specs.steps.Steps.{UserVarName, ChangeSamplingMode};
 
 use sat_base::{ClauseHash, Lit, Table, Var};
@@ -108,7 +111,8 @@ impl Variables {
 
     /// An unknown variable becomes a sampling one.
     pub fn ensure_var(&mut self, var: Var) -> Result<(), AllocError>
-        ensures variables { OnOk result ((v : ℕ) → variable_at self.new v ≡ (known_if (v == var) (variable_at self.old v))) }
+        ensures variables { OnOk result
+            ((v : ℕ) → variable_at self.new v ≡ (known_if (v == var) (variable_at self.old v))) }
         ensures holders { (name : ℕ) → holder_at self.new name ≡ holder_at self.old name }
     {
         let old = self.data(var);
@@ -165,7 +169,8 @@ impl Variables {
         self.ensure_var(var)
     }
 
-    /// Gives a variable a name. The answer is whether it may have it: the name is free, the variable has none and isn't hidden.
+    /// Gives a variable a name. The answer is whether it may have it: the name is free, the variable has none and isn't
+    /// hidden.
     pub fn add_user_mapping(&mut self, var: Var, name: Var) -> Result<bool, AllocError>
         ensures answers { IfOk result (VariablesAnswer self.old (UserVarName var (Some name)) self.new) }
         ensures judged { OnErr result (VariablesAllow self.old (UserVarName var (Some name))) }
@@ -270,7 +275,8 @@ impl Variables {
     }
 
     fn set_holder(&mut self, name: Var, holder: Option<Var>) -> Result<(), AllocError>
-        ensures holders { OnOk result ((q : ℕ) → holder_at self.new q ≡ (if q == name then holder else holder_at self.old q)) }
+        ensures holders { OnOk result ((q : ℕ) → holder_at self.new q
+            ≡ (if q == name then holder else holder_at self.old q)) }
         ensures variables { (v : ℕ) → variable_at self.new v ≡ variable_at self.old v }
     {
         self.holders.set(name.index(), holder, None)

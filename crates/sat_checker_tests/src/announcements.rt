@@ -743,7 +743,8 @@ static ANSWERS: [Row; 13] = [
         ],
         &[Said::WitnessVar(5), Said::Assume([-5, 0, 0])],
     ),
-    // without literals of variables that have no name: a hidden one, which is its own once it is sampled again, and a witness
+    // without literals of variables that have no name: a hidden one, which is its own once it is sampled again, and a
+    // witness
     (
         &[
             2, 0, 5, 2, 0, 0, 11, 3, 0, 1, 3, 12, 2, 0, 1, 0, 10, 2, 1, 2,
@@ -1001,8 +1002,8 @@ impl ProofProcessor for Names {
     }
 }
 
-/// A variable that is known, gets a name, becomes a witness, is hidden, is sampled again and becomes a witness without a name; behind each
-/// step assumptions are announced.
+/// A variable that is known, gets a name, becomes a witness, is hidden, is sampled again and becomes a witness without
+/// a name; behind each step assumptions are announced.
 const LOOKED_UP: &[u8] = &[
     1, 0, 1, 11, 0, 2, 0, 5, 11, 0, 4, 0, 0, 11, 0, 2, 0, 0, 11, 0, 4, 0, 1, 11, 0, 4, 0, 0, 11, 0,
     13,

@@ -20,7 +20,8 @@ fn is_refuted<R: CountedRead>(
 ) -> Result<bool, CheckerError>
     ensures { IfOk result (λ refuted. (passed : List Step) × (rest : List ℕ)
         × GaveSteps (R.seen proof.old) (R.seen proof.new) (passed ++ End ∷ []) rest
-        × (refuted ≡ true → (a : Valuation) → Holds (taken_after passed (after_additions formula.now.clauses [])) a → ⊥)) }
+        × (refuted ≡ true → (a : Valuation) → Holds (taken_after passed (after_additions formula.now.clauses [])) a
+        → ⊥)) }
 {
     let mut checker = Checker::new(alloc);
     let answer = is_refuted_by(&mut checker, formula, proof);
@@ -38,7 +39,8 @@ fn is_refuted_by<R: CountedRead>(
     requires settled { IsSettled (kernel_of checker.old) }
     ensures { IfOk result (λ refuted. (passed : List Step) × (rest : List ℕ)
         × GaveSteps (R.seen proof.old) (R.seen proof.new) (passed ++ End ∷ []) rest
-        × (refuted ≡ true → (a : Valuation) → Holds (taken_after passed (after_additions formula.now.clauses [])) a → ⊥)) }
+        × (refuted ≡ true → (a : Valuation) → Holds (taken_after passed (after_additions formula.now.clauses [])) a
+        → ⊥)) }
 {
     checker.add_formula(formula)?;
     checker.check_proof(proof)?;

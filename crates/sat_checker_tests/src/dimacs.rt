@@ -10,7 +10,8 @@ const TAKEN: Answer = (None, false, false);
 
 const REFUTED: Answer = (None, true, false);
 
-/// At fault in the first line, in the second, and by a number past the limit in the third; whether unsat is recorded then.
+/// At fault in the first line, in the second, and by a number past the limit in the third; whether unsat is recorded
+/// then.
 const FIRST_LINE: Answer = (
     Some(Kind::Dimacs(DimacsError::Malformed { line: 1 })),
     false,

@@ -17,8 +17,8 @@ use std::alloc::Global;
 /// How many steps a transcript has of so many announcements of the refutation: the fifth has none.
 const STEPS: [usize; 7] = [0, 1, 2, 3, 4, 4, 5];
 
-/// How often the one at this place is called without a fault, where the one at the failing place answers a fault to this announcement.
-/// Those behind it aren't told of it.
+/// How often the one at this place is called without a fault, where the one at the failing place answers a fault to
+/// this announcement. Those behind it aren't told of it.
 fn calls(place: usize, failing: usize, at: usize) -> usize {
     if place < failing {
         at
@@ -66,8 +66,8 @@ fn has_failed(alloc: Global, checker: &mut Heard) -> bool {
     true
 }
 
-/// Whether a fault at this place ends the steps at this announcement: those of a proof with a processor of the caller's own, or else those
-/// that are fed one by one.
+/// Whether a fault at this place ends the steps at this announcement: those of a proof with a processor of the caller's
+/// own, or else those that are fed one by one.
 fn ends(alloc: Global, failing: usize, at: usize, with_own: bool) -> bool {
     let mut checker = Heard::telling(alloc);
     let ended = add_four(&mut checker, failing, at)

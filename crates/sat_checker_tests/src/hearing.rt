@@ -412,7 +412,8 @@ pub(crate) fn are_done(given_back: Processors<Listener, Reader>, count: usize) -
         && transcripts_are_done(&given_back.transcripts)
 }
 
-/// Whether a processor and a transcript that listen to a new checker are told this, and no more, of calls that are answered so.
+/// Whether a processor and a transcript that listen to a new checker are told this, and no more, of calls that are
+/// answered so.
 pub(crate) fn are_heard(
     alloc: Global,
     told: &'static [Told],

@@ -17,16 +17,17 @@ use sat_checker::law_stored::{
 
 /// [1] passes under the hashes of [1,2] and [1,-2], whatever else has these hashes.
 fn resolvent_passes()
-    ensures { (f : Stored) (g h : ℕ) → IsStoredByHash f (0 ∷ 2 ∷ []) g → IsStoredByHash f (0 ∷ 3 ∷ []) h → PassesByHashes f (0 ∷ []) (g ∷ h ∷ []) }
+    ensures { (f : Stored) (g h : ℕ) → IsStoredByHash f (0 ∷ 2 ∷ []) g → IsStoredByHash f (0 ∷ 3 ∷ []) h
+        → PassesByHashes f (0 ∷ []) (g ∷ h ∷ []) }
 {
     named_clauses_pass();
 }
 
 /// A redundant clause that is derived and deleted leaves all counts as they were.
 fn counts_return()
-    ensures { (earlier : List Step) (hashes : List ℕ) (side : Bool) (set : List ℕ) →
-        (contents (ready_after (DeleteClause (0 ∷ 2 ∷ []) Redundant ∷ AtClause true (0 ∷ 2 ∷ []) hashes ∷ earlier))).counts side set
-        ≡ (contents (ready_after earlier)).counts side set }
+    ensures { (earlier : List Step) (hashes : List ℕ) (side : Bool) (set : List ℕ)
+        → (contents (ready_after (DeleteClause (0 ∷ 2 ∷ []) Redundant ∷ AtClause true (0 ∷ 2 ∷ []) hashes
+        ∷ earlier))).counts side set ≡ (contents (ready_after earlier)).counts side set }
 {
     contents_follow_steps();
 }
@@ -42,15 +43,16 @@ fn ids_were_given()
 /// A derived clause may stand for one that it is a strict part of.
 fn derived_is_part()
     ensures { (steps : List Step) (hashes : List ℕ) → AcceptsAll (AtClause false (0 ∷ 2 ∷ []) hashes ∷ steps)
-        → let f = ready_after (AtClause false (0 ∷ 2 ∷ []) hashes ∷ steps) in IsStrictSubset (last_literals f.last f) (0 ∷ 2 ∷ 4 ∷ []) }
+        → let f = ready_after (AtClause false (0 ∷ 2 ∷ []) hashes ∷ steps) in IsStrictSubset (last_literals f.last f)
+        (0 ∷ 2 ∷ 4 ∷ []) }
 {
     last_was_derived();
 }
 
 /// A clause that is read behind other steps has an id.
 fn clause_has_an_id()
-    ensures { (steps : List Step) (clause text : List ℕ) → SpellsSteps (steps ++ AddClause clause ∷ []) text → length text ≤ most_bytes
-        → SpentBy (AddClause clause) (stored_after (taken_after steps [])) → ⊥ }
+    ensures { (steps : List Step) (clause text : List ℕ) → SpellsSteps (steps ++ AddClause clause ∷ []) text
+        → length text ≤ most_bytes → SpentBy (AddClause clause) (stored_after (taken_after steps [])) → ⊥ }
 {
     bytes_bound_ids();
 }

@@ -82,8 +82,8 @@ fn add_three(processing: &mut Processing<FailsAt, FailsAt>, at: u64) -> bool {
         && processing.add_transcript(FailsAt::new(at)).is_ok()
 }
 
-/// Whether two processors that fail at this call, and a transcript, are handed back as the first fault left them: the second processor and
-/// the transcript were called once less.
+/// Whether two processors that fail at this call, and a transcript, are handed back as the first fault left them: the
+/// second processor and the transcript were called once less.
 fn are_handed_back(alloc: Global, at: u64) -> bool {
     let variables = Variables::new(alloc);
     let mut processing: Processing<FailsAt, FailsAt> = Processing::new(alloc);
@@ -110,7 +110,8 @@ fn failed_processors_are_handed_back(rt: HostRuntime) {
     }
 }
 
-/// Whether a processor of the caller's own that answers a fault ends the step before the others, and one that doesn't lets them be told.
+/// Whether a processor of the caller's own that answers a fault ends the step before the others, and one that doesn't
+/// lets them be told.
 fn is_told_before(processing: &mut Processing<FailsAt, FailsAt>, names: CheckerData<'_>) -> bool {
     let step = CheckedProofStep::AddClause { id: 0, clause: &[] };
     let mut own = FailsAt::new(1);

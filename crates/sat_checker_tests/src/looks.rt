@@ -1,4 +1,5 @@
-//! How many looks each kind of step takes, over the four clauses of two variables and with a third variable that is known and unused.
+//! How many looks each kind of step takes, over the four clauses of two variables and with a third variable that is
+//! known and unused.
 use sat_base::{ClauseHash, DeleteClauseProof, HashBits, Lit, ProofStep, Var};
 use sat_checker::{Checker, SelfChecker};
 use std::alloc::Global;

@@ -65,7 +65,8 @@ const NAMED_AGAIN: &[u8] = &[
     0x01, 0x01, 0x0d,
 ];
 
-/// The first read whose fault isn't answered, or behind which the checker doesn't go on. Before the last one unsat is recorded.
+/// The first read whose fault isn't answered, or behind which the checker doesn't go on. Before the last one unsat is
+/// recorded.
 fn first_unanswered_read(alloc: Global) -> Option<u64> {
     for failing in 1..20 {
         let unsat = failing == 19;

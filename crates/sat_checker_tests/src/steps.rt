@@ -38,8 +38,8 @@ fn is_answered_to_listeners(alloc: Global, calls: &[Answered]) -> bool {
     right
 }
 
-/// Whether steps are answered so, and so an empty clause behind them, read whole and in pieces of one byte, and whether or not somebody
-/// listens.
+/// Whether steps are answered so, and so an empty clause behind them, read whole and in pieces of one byte, and whether
+/// or not somebody listens.
 pub(crate) fn is_answered(
     alloc: Global,
     text: &'static [u8],

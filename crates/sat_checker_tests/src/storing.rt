@@ -1,4 +1,5 @@
-//! A store alone: clauses of three, four and five literals come and go, the width changes, and those that are left are found.
+//! A store alone: clauses of three, four and five literals come and go, the width changes, and those that are left are
+//! found.
 use sat_base::{HashBits, Lit};
 use sat_checker::Looks;
 use sat_checker::sorted_lits::copy_canonical;

@@ -23,7 +23,8 @@ pub enum HintWhy {
 /// What a hint text is.
 #[derive(Clone, Copy, Debug, Drop, PartialEq, Eq)]
 pub enum HintVerdict {
-    /// A derivation: whether it derives an empty clause, how many cores it has, and how many lines, both held at 2^64-1.
+    /// A derivation: whether it derives an empty clause, how many cores it has, and how many lines, both held at
+    /// 2^64-1.
     Proved { empty: bool, cores: u64, lines: u64 },
     /// None: the first line at fault, counted from 1 and held at 2^64-1, and why it is.
     Bad { line: u64, why: HintWhy },

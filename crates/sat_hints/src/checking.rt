@@ -1,10 +1,12 @@
 //! Checking a hint text, line by line.
-ghost use Rattle.std.specs.Prelude.{◌≡◌, ◌<◌, ◌≤◌, ◌+◌, ◌⊎◌, List, ℕ, [], length, take, IfErr, IfOk, IsErrOf, MatchOption};
+ghost use Rattle.std.specs.Prelude.{◌≡◌, ◌<◌, ◌≤◌, ◌+◌, ◌⊎◌, List, ℕ, [], length, take, IfErr, IfOk, IsErrOf};
+ghost use Rattle.std.specs.Prelude.{MatchOption};
 ghost use Rattle.sat_base.specs.device.Device.{GaveEnough, ReadFails, most_reads};
 ghost use Rattle.sat_hints.specs.Lines.{Line, HasNoEnd};
 ghost use Rattle.sat_hints.specs.Checks.{Judges};
 ghost use Rattle.sat_hints.specs.inner.Judging.{HasTakenLines, IsReadyJudge};
-ghost use Rattle.sat_hints.specs.inner.Holding.{HasRead, IsReadyIf, IsWholeLine, ReadsFurther, IsRightIfVerdict, JudgesLineBytes, TakesPiece};
+ghost use Rattle.sat_hints.specs.inner.Holding.{HasRead, IsReadyIf, IsWholeLine, ReadsFurther, IsRightIfVerdict};
+ghost use Rattle.sat_hints.specs.inner.Holding.{JudgesLineBytes, TakesPiece};
 
 use crate::answer::{HintFault, HintVerdict, HintWhy};
 use crate::fronts::{Place, behind};
@@ -33,7 +35,8 @@ struct Checking {
 /// How many bytes the first line has with its LF, if that is among them.
 #[inline(always)]
 fn line_end(bytes: &[u8]) -> Option<usize>
-    ensures { MatchOption result (HasNoEnd bytes.now) (λ end. (0 < end) × (end ≤ length bytes.now) × IsWholeLine (take end bytes.now)) }
+    ensures { MatchOption result (HasNoEnd bytes.now)
+        (λ end. (0 < end) × (end ≤ length bytes.now) × IsWholeLine (take end bytes.now)) }
 {
     for (place, byte) in bytes.iter().enumerate() {
         if *byte == b'\n' {
@@ -51,7 +54,8 @@ fn take_line(
 ) -> Result<Option<HintWhy>, AllocError>
     requires { IsReadyJudge judge.old }
     ensures ready { IfOk result (λ why. IsReadyIf why judge.new) }
-    ensures takes { IfOk result (λ why. (lines : List Line) → HasTakenLines judge.old lines → JudgesLineBytes why judge.old judge.new lines bytes.now) }
+    ensures takes { IfOk result (λ why. (lines : List Line) → HasTakenLines judge.old lines
+        → JudgesLineBytes why judge.old judge.new lines bytes.now) }
 {
     match lists.read_line(bytes)? {
         Some(head) => judge.take(&lists.line(head)),
@@ -147,7 +151,8 @@ impl Checking {
         ensures given { GaveEnough (R.seen text.old) (R.seen text.new) (IsRightIfVerdict result) }
         ensures kept { IsErrOf result HintFault.Read ⊎ ((R.seen text.new).failures ≡ (R.seen text.old).failures) }
         ensures read { IsErrOf result HintFault.Read → ReadFails (R.seen text.old) (R.seen text.new) }
-        ensures some { IsErrOf result HintFault.OutOfMemory → length (R.seen text.old).given < length (R.seen text.new).given }
+        ensures some { IsErrOf result HintFault.OutOfMemory
+            → length (R.seen text.old).given < length (R.seen text.new).given }
         ensures reads { (R.seen text.new).calls ≤ (R.seen text.old).calls + most_reads }
     {
         let mut piece = [0; PIECE];
@@ -173,7 +178,8 @@ pub fn check<R: CountedRead>(alloc: Global, text: &mut R) -> Result<HintVerdict,
     ensures kept { IsErrOf result HintFault.Read ⊎ ((R.seen text.new).failures ≡ (R.seen text.old).failures) }
     ensures read { IsErrOf result HintFault.Read → ReadFails (R.seen text.old) (R.seen text.new) }
     // Memory is asked for by bytes alone.
-    ensures some { IsErrOf result HintFault.OutOfMemory → length (R.seen text.old).given < length (R.seen text.new).given }
+    ensures some { IsErrOf result HintFault.OutOfMemory
+        → length (R.seen text.old).given < length (R.seen text.new).given }
     ensures reads { (R.seen text.new).calls ≤ (R.seen text.old).calls + most_reads }
 {
     let mut checking = Checking::new(alloc);

@@ -19,8 +19,8 @@ use sat_base::{CountedRead, CountedWrite};
 use sat_checker::{CheckedProofStep, Checker, CheckerData, CheckerError, ProofProcessor};
 use std::alloc::Global;
 
-/// The line of an announcement, if it has one. Clauses that were stored before, tautologies, names, models and assumptions have
-/// none.
+/// The line of an announcement, if it has one. Clauses that were stored before, tautologies, names, models and
+/// assumptions have none.
 fn line_told<'a>(step: &CheckedProofStep<'a>) -> Option<HintLine<'a>>
     ensures { option_map line_of result ≡ line_told (announcement_of step.now) }
 {
@@ -70,7 +70,8 @@ fn line_told<'a>(step: &CheckedProofStep<'a>) -> Option<HintLine<'a>>
 impl<W: CountedWrite> LineWriter<W> {
     /// Lets the line of an announcement wait, if it has one.
     fn put_told(&mut self, step: &CheckedProofStep<'_>)
-        ensures { PutsText (text_if (line_told (announcement_of step.now))) (outlet W.seen self.old) (outlet W.seen self.new) }
+        ensures { PutsText (text_if (line_told (announcement_of step.now))) (outlet W.seen self.old)
+            (outlet W.seen self.new) }
     {
         match line_told(step) {
             Some(line) => self.put_line(&line),
@@ -122,7 +123,8 @@ fn write_checked<R: CountedRead, W: CountedWrite + Drop>(
     requires settled { IsSettled (kernel_of checker.old) }
     requires listeners { listeners_of (seen_of checker.old).listeners ≡ record { processors = []; transcripts = [] } }
     requires well { lines.old.failed ≡ false }
-    ensures { WritesLines result (R.seen certificate.old) (R.seen certificate.new) (outlet W.seen lines.old) (outlet W.seen lines.new) }
+    ensures { WritesLines result (R.seen certificate.old) (R.seen certificate.new) (outlet W.seen lines.old)
+        (outlet W.seen lines.new) }
 {
     match checker.check_proof_with(certificate, lines) {
         Err(error) => Err(hint_error(error)),
@@ -137,7 +139,8 @@ fn write_lines<R: CountedRead, W: CountedWrite + Drop>(
     lines: &mut LineWriter<W>,
 ) -> Result<(), HintError>
     requires { lines.old.failed ≡ false }
-    ensures { WritesLines result (R.seen certificate.old) (R.seen certificate.new) (outlet W.seen lines.old) (outlet W.seen lines.new) }
+    ensures { WritesLines result (R.seen certificate.old) (R.seen certificate.new) (outlet W.seen lines.old)
+        (outlet W.seen lines.new) }
 {
     let mut checker = Checker::new(alloc);
     write_checked(&mut checker, certificate, lines)
@@ -166,8 +169,8 @@ fn write_text<R: CountedRead, W: CountedWrite + Drop>(
     }
 }
 
-/// Writes the hint text of a certificate, which is checked meanwhile. It writes in pieces of at most 4,096 bytes, and takes the memory of a
-/// checker, and none for a line.
+/// Writes the hint text of a certificate, which is checked meanwhile. It writes in pieces of at most 4,096 bytes, and
+/// takes the memory of a checker, and none for a line.
 pub fn convert<R: CountedRead, W: CountedWrite>(
     alloc: Global,
     certificate: &mut R,

@@ -12,8 +12,8 @@ const SPREAD: u64 = 4;
 /// So many ids are noted at once.
 const FIRST: u64 = 4096;
 
-/// A place by id, which may be wrong: it is tested. Ids that run far ahead of the number of clauses have none, so that the table takes
-/// no more room than a few numbers a clause.
+/// A place by id, which may be wrong: it is tested. Ids that run far ahead of the number of clauses have none, so that
+/// the table takes no more room than a few numbers a clause.
 #[derive(Drop)]
 pub(crate) struct Guesses {
     places: Vec<u32>,

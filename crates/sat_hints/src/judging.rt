@@ -5,7 +5,8 @@ ghost use Rattle.sat_checker.specs.LiteralSets.{canonical};
 ghost use Rattle.sat_hints.specs.Lines.{Input, Derived, Gone, Core, Fresh, IsLine};
 ghost use Rattle.sat_hints.specs.inner.LineReading.{line_of, IsId};
 ghost use Rattle.sat_hints.specs.inner.Course.{signed};
-ghost use Rattle.sat_hints.specs.inner.Judging.{HasTakenLines, IsReadyJudge, IsSame, WhyNotRefuted, StoresClause, TakesNext, TakesOne};
+ghost use Rattle.sat_hints.specs.inner.Judging.{HasTakenLines, IsReadyJudge, IsSame, WhyNotRefuted, StoresClause};
+ghost use Rattle.sat_hints.specs.inner.Judging.{TakesNext, TakesOne};
 
 use crate::answer::{HintVerdict, HintWhy};
 use crate::line::HintLine;
@@ -71,7 +72,8 @@ impl Judge {
     ) -> Result<Option<HintWhy>, AllocError>
         requires { IsReadyJudge self.old }
         ensures same { OnOk result (IsSame self.old self.new) }
-        ensures refutes { IfOk result (λ why. WhyNotRefuted self.old.standing (signed negate literals.now) ids.now why) }
+        ensures refutes { IfOk result (λ why. WhyNotRefuted self.old.standing (signed negate literals.now) ids.now
+            why) }
     {
         if !find_all(&self.standing, ids, &mut self.places)? {
             return Ok(Some(HintWhy::UnknownId));

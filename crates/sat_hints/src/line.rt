@@ -10,8 +10,8 @@ pub(crate) enum HintLine<'a> {
         id: u64,
         clause: &'a [Lit],
     },
-    /// `d ID LITS 0 IDS 0`: a clause that follows. The clauses that are named are unit in turn under its negation, the last
-    /// falsified.
+    /// `d ID LITS 0 IDS 0`: a clause that follows. The clauses that are named are unit in turn under its negation, the
+    /// last falsified.
     Derived {
         id: u64,
         clause: &'a [Lit],
@@ -21,7 +21,8 @@ pub(crate) enum HintLine<'a> {
     Gone {
         id: u64,
     },
-    /// `f LITS 0 IDS 0`: literals that fail together. The clauses that are named run into a conflict when they are all true.
+    /// `f LITS 0 IDS 0`: literals that fail together. The clauses that are named run into a conflict when they are all
+    /// true.
     Core {
         core: &'a [Lit],
         ids: &'a [u64],

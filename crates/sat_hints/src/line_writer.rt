@@ -15,8 +15,8 @@ const PIECE: usize = 4096;
 /// No number has more digits.
 const MOST_DIGITS: usize = 20;
 
-/// A writer, and bytes that wait until there is no room for more, or nothing more comes. Once a write has failed nothing more is
-/// written.
+/// A writer, and bytes that wait until there is no room for more, or nothing more comes. Once a write has failed
+/// nothing more is written.
 #[derive(Drop)]
 pub(crate) struct LineWriter<W> {
     writer: W,
@@ -204,7 +204,8 @@ impl<W: CountedWrite> LineWriter<W> {
     }
 
     fn put_derived(&mut self, id: u64, clause: &[Lit], ids: &[u64])
-        ensures { PutsText (line_text (Derived id clause.now ids.now)) (outlet W.seen self.old) (outlet W.seen self.new) }
+        ensures { PutsText (line_text (Derived id clause.now ids.now)) (outlet W.seen self.old)
+            (outlet W.seen self.new) }
     {
         self.put_all(b"d ");
         self.put_id(id);

@@ -12,7 +12,8 @@ pub(crate) fn find_all(
     places: &mut Vec<usize>,
 ) -> Result<bool, AllocError>
     requires { StandingInvariant standing.now }
-    ensures { IfOk result (λ all. MatchBool all (FindsPlaces standing.now ids.now places.new.items) (clauses_of standing.now ids.now ≡ None)) }
+    ensures { IfOk result (λ all. MatchBool all (FindsPlaces standing.now ids.now places.new.items)
+        (clauses_of standing.now ids.now ≡ None)) }
 {
     places.clear();
     for id in ids {

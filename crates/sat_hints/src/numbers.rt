@@ -2,24 +2,27 @@
 ghost use Rattle.std.specs.Prelude.{◌≡◌, ◌++◌, ◌∷◌, [], ◌<◌, ◌≤◌, ◌^◌, decimal, List, ℕ, MatchOption};
 ghost use Rattle.sat_base.specs.dimacs.DimacsText.{number_text};
 ghost use Rattle.sat_hints.specs.Lines.{id_text};
-ghost use Rattle.sat_hints.specs.inner.LineReading.{BeginsWithWord, IsId, IsLiteralCode, IsNumberUpTo, IsVariableIndex, NoDigit, NoWord, digits_so_far};
+ghost use Rattle.sat_hints.specs.inner.LineReading.{BeginsWithWord, IsId, IsLiteralCode, IsNumberUpTo, IsVariableIndex};
+ghost use Rattle.sat_hints.specs.inner.LineReading.{NoDigit, NoWord, digits_so_far};
 
 use sat_base::{Lit, Var};
 
 /// What is behind the text, where the bytes begin with it.
 #[inline(always)]
 pub(crate) fn take_text<'a>(bytes: &'a [u8], text: &[u8]) -> Option<&'a [u8]>
-    ensures { MatchOption result ((tail : List ℕ) → bytes.now ≡ text.now ++ tail → ⊥) (λ rest. bytes.now ≡ text.now ++ rest.now) }
+    ensures { MatchOption result ((tail : List ℕ) → bytes.now ≡ text.now ++ tail → ⊥)
+        (λ rest. bytes.now ≡ text.now ++ rest.now) }
 {
     bytes.strip_prefix(text)
 }
 
-/// The number with one more digit, or the first digit where it is still 0. `None` for another byte, a leading zero, and a number
-/// past the limit.
+/// The number with one more digit, or the first digit where it is still 0. `None` for another byte, a leading zero, and
+/// a number past the limit.
 #[inline(always)]
 pub(crate) fn with_digit(number: u64, byte: u8, limit: u64) -> Option<u64>
     requires { 9 ≤ limit }
-    ensures { MatchOption result (NoDigit limit number byte) (λ more. IsNumberUpTo limit more × (decimal more ≡ digits_so_far number ++ byte ∷ [])) }
+    ensures { MatchOption result (NoDigit limit number byte)
+        (λ more. IsNumberUpTo limit more × (decimal more ≡ digits_so_far number ++ byte ∷ [])) }
 {
     if byte < b'0' || byte > b'9' {
         return None;
@@ -39,7 +42,8 @@ pub(crate) fn with_digit(number: u64, byte: u8, limit: u64) -> Option<u64>
 #[inline(always)]
 pub(crate) fn read_number(bytes: &[u8], limit: u64) -> Option<(u64, &[u8])>
     requires { 9 ≤ limit }
-    ensures { MatchOption result (NoWord decimal (IsNumberUpTo limit) bytes.now) (λ x. BeginsWithWord decimal (IsNumberUpTo limit) bytes.now x.0 x.1.now) }
+    ensures { MatchOption result (NoWord decimal (IsNumberUpTo limit) bytes.now)
+        (λ x. BeginsWithWord decimal (IsNumberUpTo limit) bytes.now x.0 x.1.now) }
 {
     let mut number = 0;
     for i in 0..bytes.len() {
@@ -55,7 +59,8 @@ pub(crate) fn read_number(bytes: &[u8], limit: u64) -> Option<(u64, &[u8])>
 /// The id whose ID stands in front of a space, and what is behind the space.
 #[inline(always)]
 pub(crate) fn read_id(bytes: &[u8]) -> Option<(u64, &[u8])>
-    ensures { MatchOption result (NoWord id_text IsId bytes.now) (λ x. BeginsWithWord id_text IsId bytes.now x.0 x.1.now) }
+    ensures { MatchOption result (NoWord id_text IsId bytes.now)
+        (λ x. BeginsWithWord id_text IsId bytes.now x.0 x.1.now) }
 {
     let (number, rest) = read_number(bytes, u64::MAX)?;
     Some((number - 1, rest))
@@ -64,7 +69,8 @@ pub(crate) fn read_id(bytes: &[u8]) -> Option<(u64, &[u8])>
 /// The index of the variable whose number stands in front of a space, and what is behind the space.
 #[inline(always)]
 pub(crate) fn read_variable(bytes: &[u8]) -> Option<(usize, &[u8])>
-    ensures { MatchOption result (NoWord id_text IsVariableIndex bytes.now) (λ x. BeginsWithWord id_text IsVariableIndex bytes.now x.0 x.1.now) }
+    ensures { MatchOption result (NoWord id_text IsVariableIndex bytes.now)
+        (λ x. BeginsWithWord id_text IsVariableIndex bytes.now x.0 x.1.now) }
 {
     let (number, rest) = read_number(bytes, Var::max_count() as u64)?;
     Some((number as usize - 1, rest))
@@ -73,7 +79,8 @@ pub(crate) fn read_variable(bytes: &[u8]) -> Option<(usize, &[u8])>
 /// The literal in front of a space, and what is behind the space.
 #[inline(always)]
 pub(crate) fn read_literal(bytes: &[u8]) -> Option<(Lit, &[u8])>
-    ensures { MatchOption result (NoWord number_text IsLiteralCode bytes.now) (λ x. BeginsWithWord number_text IsLiteralCode bytes.now x.0 x.1.now) }
+    ensures { MatchOption result (NoWord number_text IsLiteralCode bytes.now)
+        (λ x. BeginsWithWord number_text IsLiteralCode bytes.now x.0 x.1.now) }
 {
     match take_text(bytes, b"-") {
         Some(behind) => {

@@ -1,14 +1,16 @@
 //! The clauses that are present, by their ids.
-ghost use Rattle.std.specs.Prelude.{◌≡◌, ◌<◌, ℕ, [], None, length, slice_index, slice_index_or, OnOk, MatchOption, false};
+ghost use Rattle.std.specs.Prelude.{◌≡◌, ◌<◌, ℕ, [], None, length, slice_index, slice_index_or, OnOk, MatchOption};
+ghost use Rattle.std.specs.Prelude.{false};
 ghost use Rattle.sat_checker.specs.SortedSets.{IsIncreasing};
-ghost use Rattle.sat_hints.specs.inner.Clauses.{clause_at, clause_in, times_at, AddsPresentClause, AllBelow, FindsOne, IsStore, SamePresentClauses, Loses};
+ghost use Rattle.sat_hints.specs.inner.Clauses.{clause_at, clause_in, times_at, AddsPresentClause, AllBelow, FindsOne};
+ghost use Rattle.sat_hints.specs.inner.Clauses.{IsStore, SamePresentClauses, Loses};
 
 use crate::guesses::Guesses;
 use sat_base::{FlatLists, Lit};
 use std::alloc::{AllocError, Global};
 
-/// Clauses in the order of their ids, their literals one after another. Those that are gone are kept until they take more than
-/// half of the room.
+/// Clauses in the order of their ids, their literals one after another. Those that are gone are kept until they take
+/// more than half of the room.
 #[derive(Drop)]
 pub(crate) struct Present {
     ids: Vec<u64>,

@@ -15,7 +15,8 @@ use std::alloc::AllocError;
 fn assume_all(assumed: &mut Assigned, literals: &[Lit], negate: bool) -> Result<bool, AllocError>
     requires { assumed.old ≡ [] }
     ensures { IfOk result (λ both. MatchBool both (is_tautology (signed negate literals.now) ≡ true)
-        ((is_tautology (signed negate literals.now) ≡ false) × AreJustAssumed (signed negate literals.now) assumed.new)) }
+        ((is_tautology (signed negate literals.now) ≡ false)
+        × AreJustAssumed (signed negate literals.now) assumed.new)) }
 {
     for literal in literals {
         let lit = *literal ^ negate;
@@ -65,7 +66,8 @@ fn conflict_under(
 ) -> Result<Option<HintWhy>, AllocError>
     requires within { AllByRecursion (λ place. place < length present.now.clauses) places.now }
     requires nothing { assumed.old ≡ [] }
-    ensures { IfOk result (λ why. WhyNoConflict (signed negate literals.now) (map (clause_at present.now) places.now) why) }
+    ensures { IfOk result (λ why. WhyNoConflict (signed negate literals.now) (map (clause_at present.now) places.now)
+        why) }
 {
     if assume_all(assumed, literals, negate)? {
         return Ok(None);
@@ -83,7 +85,8 @@ pub(crate) fn conflict(
 ) -> Result<Option<HintWhy>, AllocError>
     requires within { AllByRecursion (λ place. place < length present.now.clauses) places.now }
     requires nothing { assumed.old ≡ [] }
-    ensures runs { IfOk result (λ why. WhyNoConflict (signed negate literals.now) (map (clause_at present.now) places.now) why) }
+    ensures runs { IfOk result (λ why. WhyNoConflict (signed negate literals.now)
+        (map (clause_at present.now) places.now) why) }
     ensures nothing { assumed.new ≡ [] }
 {
     let answer = conflict_under(present, places, literals, negate, assumed);

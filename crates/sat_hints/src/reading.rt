@@ -2,7 +2,8 @@
 ghost use Rattle.std.specs.Prelude.{◌≡◌, ◌++◌, List, ℕ, codes, IfOk, MatchBool, MatchOption, []};
 ghost use Rattle.sat_base.specs.dimacs.DimacsText.{number_text};
 ghost use Rattle.sat_hints.specs.Lines.{SpellsLine, id_text};
-ghost use Rattle.sat_hints.specs.inner.LineReading.{BeginsWithWords, IsBoth, IsId, IsLiteralCode, IsNoLine, IsOne, line_of, line_with};
+ghost use Rattle.sat_hints.specs.inner.LineReading.{BeginsWithWords, IsBoth, IsId, IsLiteralCode, IsNoLine, IsOne};
+ghost use Rattle.sat_hints.specs.inner.LineReading.{line_of, line_with};
 
 use crate::line::HintLine;
 use crate::numbers::{read_id, read_literal, read_variable, take_text};

@@ -2,7 +2,9 @@
 ghost use Rattle.std.specs.Prelude.{◌≡◌, ◌≢◌, ◌⊎◌, ℕ, [], None, IfOk, OnOk, MatchBool, MatchOption};
 ghost use Rattle.sat_checker.specs.SortedSets.{IsIncreasing};
 ghost use Rattle.sat_hints.specs.inner.Clauses.{AllBelow};
-ghost use Rattle.sat_hints.specs.inner.Standing.{clause_of, is_stale, Drops, FindsOne, RenewsVariable, AddsStandingClause, StandingInvariant, IsUsed, StandingUnchanged, SinceWithin};
+ghost use Rattle.sat_hints.specs.inner.Standing.{clause_of, is_stale, Drops, FindsOne, RenewsVariable};
+ghost use Rattle.sat_hints.specs.inner.Standing.{AddsStandingClause, StandingInvariant, IsUsed, StandingUnchanged};
+ghost use Rattle.sat_hints.specs.inner.Standing.{SinceWithin};
 
 use crate::present::Present;
 use crate::uses::Uses;
@@ -82,7 +84,8 @@ impl Standing {
         Ok(true)
     }
 
-    /// Whether the variable is in a clause of two literals or more. The first time all clauses are looked at, later none.
+    /// Whether the variable is in a clause of two literals or more. The first time all clauses are looked at, later
+    /// none.
     pub(crate) fn is_used(&mut self, var: Var) -> Result<bool, AllocError>
         requires { StandingInvariant self.old }
         ensures keeps { OnOk result (StandingUnchanged self.old self.new) }

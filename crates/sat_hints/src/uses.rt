@@ -10,8 +10,8 @@ use sat_base::{Lit, Var};
 use sat_checker::store::occurrences::Occurrences;
 use std::alloc::{AllocError, Global};
 
-/// How often literals stand in the clauses of two or more that are present. They are counted from the first time on that it is
-/// asked for, so that a text in which no variable becomes new pays nothing.
+/// How often literals stand in the clauses of two or more that are present. They are counted from the first time on
+/// that it is asked for, so that a text in which no variable becomes new pays nothing.
 #[derive(Drop)]
 pub(crate) struct Uses {
     counting: bool,
@@ -64,7 +64,8 @@ impl Uses {
         requires increasing { IsIncreasing clause.now }
         requires few { (l : ℕ) → uses_at self.old l + times_long l clause.now < 2 ^ 64 }
         ensures counting { OnOk result (self.new.counting ≡ self.old.counting) }
-        ensures counted { OnOk result ((l : ℕ) → uses_at self.new l ≡ uses_at self.old l + if_counting self.old.counting (times_long l clause.now)) }
+        ensures counted { OnOk result ((l : ℕ)
+            → uses_at self.new l ≡ uses_at self.old l + if_counting self.old.counting (times_long l clause.now)) }
     {
         if !self.counting {
             return Ok(());
@@ -76,7 +77,8 @@ impl Uses {
     pub(crate) fn take(&mut self, clause: &[Lit])
         requires { (l : ℕ) → if_counting self.old.counting (times_long l clause.now) ≤ uses_at self.old l }
         ensures counting { self.new.counting ≡ self.old.counting }
-        ensures counted { (l : ℕ) → uses_at self.new l + if_counting self.old.counting (times_long l clause.now) ≡ uses_at self.old l }
+        ensures counted { (l : ℕ) → uses_at self.new l + if_counting self.old.counting (times_long l clause.now)
+            ≡ uses_at self.old l }
     {
         if !self.counting || clause.len() < 2 {
             return;

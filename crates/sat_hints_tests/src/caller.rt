@@ -19,15 +19,17 @@ fn verdict_on(alloc: Global, text: &[u8]) -> Result<HintVerdict, HintFault>
     check(alloc, &mut Counted::new(text))
 }
 
-/// Converts a certificate, and checks the text that was written: it is proved, with the fields that the lines of the steps have. Where the
-/// steps are accepted, nothing but a device or memory stops that.
+/// Converts a certificate, and checks the text that was written: it is proved, with the fields that the lines of the
+/// steps have. Where the steps are accepted, nothing but a device or memory stops that.
 fn recheck<R: CountedRead>(
     alloc: Global,
     certificate: &mut R,
 ) -> Result<Result<HintVerdict, HintFault>, HintError>
-    ensures proved { IfOk result (λ checked. IfOk checked (λ verdict. (steps : List Step) × (verdict ≡ hint_verdict steps))) }
+    ensures proved { IfOk result (λ checked. IfOk checked
+        (λ verdict. (steps : List Step) × (verdict ≡ hint_verdict steps))) }
     ensures accepted { (steps : List Step) (text more : List ℕ) → IsCertificate steps text
-        → (R.seen certificate.old).to_come ≡ Some (text ++ more) → IfErr result (λ error. (e : CheckerError) → error ≢ HintError.Refused e) }
+        → (R.seen certificate.old).to_come ≡ Some (text ++ more)
+        → IfErr result (λ error. (e : CheckerError) → error ≢ HintError.Refused e) }
 {
     let mut out = Counted::new(Vec::new(alloc));
     match convert(alloc, certificate, &mut out) {

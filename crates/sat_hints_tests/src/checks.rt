@@ -84,7 +84,8 @@ fn faults() -> [Row; 8] {
 /// Variables that become new.
 fn new_variables() -> [Row; 19] {
     [
-        // Four that a reader of the format is told of: units go, and may not be named again; a longer clause is in the way.
+        // Four that a reader of the format is told of: units go, and may not be named again; a longer clause is in the
+        // way.
         (
             b"i 1 1 2 0\ni 2 -2 0\nd 3 1 0 2 1 0\nx 1 0\ne 2 0\nf -1 0 3 0\n",
             proved(false, 1, 6),

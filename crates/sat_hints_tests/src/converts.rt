@@ -189,8 +189,8 @@ fn asks() -> [Row; 9] {
     ]
 }
 
-/// Each three of five variables with both signs, the positive ones with a sixth, which is learned: asks without the sixth and under nothing,
-/// and it is false from then on.
+/// Each three of five variables with both signs, the positive ones with a sixth, which is learned: asks without the
+/// sixth and under nothing, and it is false from then on.
 const SESSION: &[u8] = &[
     0x02, 0x00, 0x01, 0x01, 0x00, 0x01, 0x02, 0x01, 0x02, 0x01, 0x01, 0x02, 0x02, 0x02, 0x03, 0x01,
     0x02, 0x03, 0x02, 0x03, 0x04, 0x02, 0x04, 0x05, 0x02, 0x05, 0x06, 0x01, 0x05, 0x04, 0x05, 0x04,

@@ -1,8 +1,10 @@
 //! Clauses of two literals.
-ghost use Rattle.std.specs.Prelude.{◌≡◌, ◌-◌, ◌*◌, ◌<◌, ◌≤◌, ◌∷◌, ◌++◌, [], length, take, OnOk, OnErr, is_ok, if◌then◌else◌, slice_index_or};
+ghost use Rattle.std.specs.Prelude.{◌≡◌, ◌-◌, ◌*◌, ◌<◌, ◌≤◌, ◌∷◌, ◌++◌, [], length, take, OnOk, OnErr, is_ok};
+ghost use Rattle.std.specs.Prelude.{if◌then◌else◌, slice_index_or};
 ghost use Rattle.sat_base.specs.values.Literals.{largest, negated};
 ghost use Rattle.sat_parts.specs.prop.Values.{is_unset};
-ghost use Rattle.sat_parts.specs.prop.Binaries.{implied_by, with_implied, without_last, with_binary, with_literals, open_among, implications, RemovesAssigned};
+ghost use Rattle.sat_parts.specs.prop.Binaries.{implied_by, with_implied, without_last, with_binary, with_literals};
+ghost use Rattle.sat_parts.specs.prop.Binaries.{open_among, implications, RemovesAssigned};
 
 use crate::prop::assignment::Assignment;
 use sat_base::Lit;
@@ -45,8 +47,8 @@ impl Implied {
         let _ = self.lits.pop();
     }
 
-    /// Keeps the literals whose variables have no value, and none where the variable that implies them has one. Answers how many
-    /// are left.
+    /// Keeps the literals whose variables have no value, and none where the variable that implies them has one. Answers
+    /// how many are left.
     fn keep_open(&mut self, assignment: &Assignment, index: usize) -> usize
         ensures kept { self.new ≡ open_among assignment.now.current index self.old }
         ensures size { result ≡ length self.new }
@@ -70,8 +72,8 @@ fn is_unset(assignment: &Assignment, index: usize) -> bool
     }
 }
 
-/// The clauses of two literals, each as two implications. Contracts see the list of implied literals of each literal, by its
-/// code, and the number of clauses.
+/// The clauses of two literals, each as two implications. Contracts see the list of implied literals of each literal,
+/// by its code, and the number of clauses.
 #[derive(Drop)]
 pub struct BinaryClauses {
     by_lit: Vec<Implied>,
@@ -144,7 +146,8 @@ impl BinaryClauses {
     /// Puts a literal behind those that another implies.
     fn add_implied(&mut self, lit: Lit, implied: Lit) -> Result<(), AllocError>
         requires { lit < length self.old.implied }
-        ensures done { OnOk result (self.new ≡ record self.old { implied = with_implied lit implied self.old.implied }) }
+        ensures done { OnOk result (self.new
+            ≡ record self.old { implied = with_implied lit implied self.old.implied }) }
         ensures same { OnErr result (self.new ≡ self.old) }
     {
         let list = &mut self.by_lit[lit.code()];
@@ -164,7 +167,8 @@ impl BinaryClauses {
     pub fn add_binary_clause(&mut self, lits: [Lit; 2]) -> Result<(), AllocError>
         requires first { negated (slice_index_or lits 0 0) < length self.old.implied }
         requires second { negated (slice_index_or lits 1 0) < length self.old.implied }
-        ensures done { OnOk result (self.new ≡ with_binary (slice_index_or lits 0 0) (slice_index_or lits 1 0) self.old) }
+        ensures done { OnOk result (self.new ≡ with_binary (slice_index_or lits 0 0)
+            (slice_index_or lits 1 0) self.old) }
         ensures same { OnErr result (self.new ≡ self.old) }
     {
         let [first, second] = lits;

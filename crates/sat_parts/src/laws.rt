@@ -7,9 +7,9 @@ pub fn assigned_is_implied()
     ensures { AssignedIsImplied }
 {}
 
-/// Levels begin with decisions, each behind the literals before it, and every other literal above level 0 has a clause as its
-/// reason: this stays so where literals are decided or become true by clauses, where propagation goes on, and where levels are
-/// undone.
+/// Levels begin with decisions, each behind the literals before it, and every other literal above level 0 has a clause
+/// as its reason: this stays so where literals are decided or become true by clauses, where propagation goes on, and
+/// where levels are undone.
 pub fn levels_stay()
     ensures { LevelsStay }
 {}

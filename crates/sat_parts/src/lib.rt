@@ -1,5 +1,5 @@
-//! What a solver propagates with: values of variables, the trail, reasons, lists of clauses, and propagation itself; and all of
-//! these as one struct.
+//! What a solver propagates with: values of variables, the trail, reasons, lists of clauses, and propagation itself;
+//! and all of these as one struct.
 #![tactic(auto)]
 
 pub mod binary;

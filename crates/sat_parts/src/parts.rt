@@ -31,8 +31,8 @@ pub struct Parts {
     pub vsids: Vsids,
 }
 
-/// Makes the variables those with an index below the count, which is no lower than before. New ones have no value, are in no clause,
-/// and aren't to be picked.
+/// Makes the variables those with an index below the count, which is no lower than before. New ones have no value, are
+/// in no clause, and aren't to be picked.
 pub fn grow(alloc: Global, parts: &mut Parts, count: usize) -> Result<(), AllocError>
     requires holds { PartsInvariant parts.old }
     requires more { length parts.old.assignment.current ≤ count }

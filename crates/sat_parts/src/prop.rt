@@ -24,9 +24,9 @@ use crate::prop::watch::{Watchlists, enable_watchlists};
 use sat_store::ClauseAlloc;
 use std::alloc::{AllocError, Global};
 
-/// Propagates all literals of the queue: for each, the clauses of two literals before the long ones. Watch lists that weren't
-/// kept up are built first. `Ok` within means that nothing is left to do, `Err` names a falsified clause. After want of memory
-/// the parts aren't used again.
+/// Propagates all literals of the queue: for each, the clauses of two literals before the long ones. Watch lists that
+/// weren't kept up are built first. `Ok` within means that nothing is left to do, `Err` names a falsified clause. After
+/// want of memory the parts aren't used again.
 pub fn propagate(
     alloc: Global,
     clauses: &mut ClauseAlloc,
@@ -37,7 +37,8 @@ pub fn propagate(
     trail: &mut Trail,
     binary: &BinaryClauses,
 ) -> Result<Result<(), Conflict>, AllocError>
-    requires { AsksAll clauses.old db.now.refs watchlists.old binary.now.implied (state_of assignment.old graph.old trail.old) }
+    requires { AsksAll clauses.old db.now.refs watchlists.old binary.now.implied
+        (state_of assignment.old graph.old trail.old) }
     ensures given { IfOk result (λ r. PropagationResult db.now.refs binary.now.implied
         clauses.old (state_of assignment.old graph.old trail.old)
         clauses.new (state_of assignment.new graph.new trail.new) watchlists.new r) }

@@ -37,7 +37,8 @@ pub fn store(
     ensures db { OnOk result (HoldsDb clauses.new db.new) }
     ensures place { IfOk result (λ cref. cref ≡ length clauses.old) }
     ensures size { OnOk result (length clauses.new ≡ length clauses.old + 3 + length lits.now) }
-    ensures live { OnOk result (live_refs clauses.new db.new.refs ≡ live_refs clauses.old db.old.refs ++ length clauses.old ∷ []) }
+    ensures live { OnOk result (live_refs clauses.new db.new.refs
+        ≡ live_refs clauses.old db.old.refs ++ length clauses.old ∷ []) }
     ensures room { OnOk result (length watchlists.new.lists ≡ 14) }
 {
     let mut header = ClauseHeader::new();

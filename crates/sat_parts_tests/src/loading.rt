@@ -125,7 +125,8 @@ fn load_all(
     Ok(true)
 }
 
-/// Makes so many variables, where there were none, and loads clauses in their order. Answers whether they are clauses over them.
+/// Makes so many variables, where there were none, and loads clauses in their order. Answers whether they are clauses
+/// over them.
 pub fn loaded(
     alloc: Global,
     parts: &mut Parts,

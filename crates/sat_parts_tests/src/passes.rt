@@ -132,7 +132,8 @@ fn shortened(
 fn keep_short(clauses: &mut ClauseAlloc, db: &mut ClauseDb, watchlists: &mut Watchlists)
     requires { HoldsDb clauses.old db.old }
     ensures db { HoldsDb clauses.new db.new }
-    ensures short { live_refs clauses.new db.new.refs ≡ filter (λ o. length (lits_at clauses.old o) == 3) (live_refs clauses.old db.old.refs) }
+    ensures short { live_refs clauses.new db.new.refs
+        ≡ filter (λ o. length (lits_at clauses.old o) == 3) (live_refs clauses.old db.old.refs) }
 {
     filter_clauses(
         clauses,

@@ -26,7 +26,8 @@ fn node(graph: &ImplGraph, index: usize) -> Option<(Reason, usize, usize)> {
     Some((graph.reason(var), graph.level(var), graph.depth(var)))
 }
 
-/// Loads two clauses and a unit, propagates, and takes the unit off the trail. Answers whether it stood there without a reason.
+/// Loads two clauses and a unit, propagates, and takes the unit off the trail. Answers whether it stood there without a
+/// reason.
 fn begun(alloc: Global, parts: &mut Parts) -> Result<bool, StoreError>
     requires holds { PartsInvariant parts.old }
     requires none { parts.old.assignment.current ≡ [] }
@@ -80,8 +81,10 @@ fn nodes_are_right(parts: &Parts) -> bool {
 
 /// Whether each literal has a node of a level below the bound.
 fn levels_below(graph: &ImplGraph, lits: &[Lit], bound: usize) -> bool
-    ensures nodes { IsTrue result → (k : ℕ) → k < length lits.now → variable (slice_index lits.now k) < length graph.now }
-    ensures levels { IsTrue result → (k : ℕ) → k < length lits.now → (node_of graph.now (variable (slice_index lits.now k))).level < bound }
+    ensures nodes { IsTrue result → (k : ℕ) → k < length lits.now
+        → variable (slice_index lits.now k) < length graph.now }
+    ensures levels { IsTrue result → (k : ℕ) → k < length lits.now
+        → (node_of graph.now (variable (slice_index lits.now k))).level < bound }
 {
     for at in 0..lits.len() {
         let lit = lits[at];

@@ -43,7 +43,8 @@ fn refute<W: CountedWrite + Drop, P: ProofProcessor>(
     requires fits { SessionMatchesParts parts.now (session_of proof.old) (global_of globals.now) }
     requires named { TrueLitsHaveNames parts.now.assignment.current (session_of proof.old) (global_of globals.now) }
     requires names { length parts.now.assignment.current ≤ length globals.now }
-    ensures { EmitsSteps W.seen result proof.old proof.new (λ _ steps. LastRefutes (steps_of proof.old) steps (session_of proof.new)) }
+    ensures { EmitsSteps W.seen result proof.old proof.new
+        (λ _ steps. LastRefutes (steps_of proof.old) steps (session_of proof.new)) }
 {
     write_units(proof, parts, globals, &mut scratch.units)?;
     name_clauses(parts, &[], conflict, &mut scratch.hashes)?;
@@ -80,8 +81,8 @@ fn resolve<W: CountedWrite + Drop, P: ProofProcessor>(
     Ok(Outcome::Unsat)
 }
 
-/// A conflict step: up to a conflict and what is learned from it, or an answer. Where literals came at level 0, it begins
-/// with a simplification.
+/// A conflict step: up to a conflict and what is learned from it, or an answer. Where literals came at level 0, it
+/// begins with a simplification.
 pub fn conflict_step<W: CountedWrite + Drop, P: ProofProcessor>(
     proof: &mut Proof<W, P>,
     search: &mut Search,

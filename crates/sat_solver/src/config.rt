@@ -98,11 +98,12 @@ impl SolverConfigUpdate {
             && may_count(self.luby_restart_interval_scale)
     }
 
-    /// Changes the parameters. All fields are tested before any changes: OutOfRange is answered exactly where one is out of its
-    /// range, and then nothing changes.
+    /// Changes the parameters. All fields are tested before any changes: OutOfRange is answered exactly where one is
+    /// out of its range, and then nothing changes.
     pub fn apply(&self, config: &mut SolverConfig) -> Result<(), SolverError>
         ensures ok { OnOk result ((in_range self.now ≡ true) × (config.new ≡ updated self.now config.old)) }
-        ensures err { IfErr result (λ e. (e ≡ SolverError.OutOfRange) × (in_range self.now ≡ false) × (config.new ≡ config.old)) }
+        ensures err { IfErr result (λ e. (e ≡ SolverError.OutOfRange) × (in_range self.now ≡ false)
+            × (config.new ≡ config.old)) }
     {
         if !self.is_in_range() {
             return Err(SolverError::OutOfRange);

@@ -18,8 +18,9 @@ pub fn make_ready(parts: &mut Parts, lits: &[Lit])
     requires there { HaveVariablesIn lits.now parts.old }
     ensures holds { PartsInvariant parts.new }
     ensures same { SameContents parts.old parts.new }
-    ensures ready { (k : ℕ) → k < length lits.now → value_of parts.old.assignment.current (variable (slice_index_or lits.now k 0)) ≡ None →
-        may_pick parts.new.vsids (variable (slice_index_or lits.now k 0)) ≡ true }
+    ensures ready { (k : ℕ) → k < length lits.now
+        → value_of parts.old.assignment.current (variable (slice_index_or lits.now k 0)) ≡ None
+        → may_pick parts.new.vsids (variable (slice_index_or lits.now k 0)) ≡ true }
     ensures others { (v : ℕ) → mentions lits.now v ≡ false → may_pick parts.new.vsids v ≡ may_pick parts.old.vsids v }
 {
     for at in 0..lits.len() {

@@ -8,8 +8,8 @@ use thiserror::Error;
 
 /// Why a call of a solver wasn't carried out.
 ///
-/// After an error that isn't recoverable each call that may answer one answers `HasFailed`, but for the `OutOfMemory` of `model`, which
-/// changes nothing.
+/// After an error that isn't recoverable each call that may answer one answers `HasFailed`, but for the `OutOfMemory`
+/// of `model`, which changes nothing.
 #[derive(Debug, Drop, Error)]
 pub enum SolverError {
     /// The rounds of this `solve` are spent, or the count of all rounds is.
@@ -60,7 +60,8 @@ pub enum SolverError {
 }
 
 impl SolverError {
-    /// Whether the solver goes on after this error, whichever call answers it. After the `OutOfMemory` of `model` it does, too.
+    /// Whether the solver goes on after this error, whichever call answers it. After the `OutOfMemory` of `model` it
+    /// does, too.
     pub fn is_recoverable(&self) -> bool
         ensures { result ≡ is_recoverable self.now }
     {

@@ -6,7 +6,8 @@ ghost use Rattle.sat_solver.specs.session.Session.{May};
 ghost use Rattle.sat_solver.specs.proof.ProofView.{HasAllowedSteps, steps_of, session_of};
 ghost use Rattle.sat_solver.specs.session.Naming.{global_of};
 ghost use Rattle.sat_solver.specs.cdcl.Joint.{global_in};
-ghost use Rattle.sat_solver.specs.load.Loaded.{MayLoad, IsAdded, satisfied_step, DeletesSatisfied, DeletesTrue, LoadsClause};
+ghost use Rattle.sat_solver.specs.load.Loaded.{MayLoad, IsAdded, satisfied_step, DeletesSatisfied, DeletesTrue};
+ghost use Rattle.sat_solver.specs.load.Loaded.{LoadsClause};
 ghost use Rattle.sat_parts.specs.clause.Glue.{VariablesBelow};
 
 pub mod assume;
@@ -64,8 +65,9 @@ fn delete_true<W: CountedWrite + Drop, P: ProofProcessor>(
     Ok(true)
 }
 
-/// Loads a clause, at level 0, that the last step added. One with a true literal and another one is deleted at once. Answers
-/// whether a valuation may be left: for a clause without literals, or whose one literal is false, it's not, and unsat is recorded.
+/// Loads a clause, at level 0, that the last step added. One with a true literal and another one is deleted at once.
+/// Answers whether a valuation may be left: for a clause without literals, or whose one literal is false, it's not, and
+/// unsat is recorded.
 pub fn load_clause<W: CountedWrite + Drop, P: ProofProcessor>(
     proof: &mut Proof<W, P>,
     search: &mut Search,

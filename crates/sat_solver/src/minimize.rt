@@ -14,8 +14,8 @@ use sat_parts::{Assignment, CauseLits, Conflict, ImplGraph, Trail};
 use sat_store::{ClauseAlloc, LevelAbstraction};
 use std::alloc::AllocError;
 
-/// Marks the literals of a reason that aren't marked yet, and answers whether each of them may follow from the clause. It stops at
-/// the first one that may not.
+/// Marks the literals of a reason that aren't marked yet, and answers whether each of them may follow from the clause.
+/// It stops at the first one that may not.
 fn follow(
     analysis: &mut Analysis,
     graph: &ImplGraph,
@@ -24,7 +24,8 @@ fn follow(
 ) -> Result<bool, AllocError>
     requires nodes { HaveNodes graph.now lits.now }
     requires flags { length analysis.old.flags ≡ length graph.now }
-    ensures { IfOk result (λ b. followed graph.now levels.now lits.now analysis.old ≡ record { work = analysis.new; whole = b }) }
+    ensures { IfOk result (λ b. followed graph.now levels.now lits.now analysis.old
+        ≡ record { work = analysis.new; whole = b }) }
 {
     for at in 0..lits.len() {
         let lit = lits.get(at);
@@ -41,7 +42,8 @@ fn follow(
     Ok(true)
 }
 
-/// Whether the literal follows from the others of the clause. The literals by which it does are then among the used ones.
+/// Whether the literal follows from the others of the clause. The literals by which it does are then among the used
+/// ones.
 fn is_implied(
     analysis: &mut Analysis,
     clauses: &ClauseAlloc,
@@ -54,9 +56,11 @@ fn is_implied(
     lit: Lit,
 ) -> Result<bool, AllocError>
     requires can { CanAnalyze clauses.now (state_of assignment.now graph.now trail.now) }
-    requires searching { HasSearched clauses.now (state_of assignment.now graph.now trail.now) conflict.now low analysis.old }
+    requires searching { HasSearched clauses.now (state_of assignment.now graph.now trail.now) conflict.now low
+        analysis.old }
     requires may { MayStart (state_of assignment.now graph.now trail.now) analysis.old lit }
-    ensures { IfOk result (λ b. Searches clauses.now (state_of assignment.now graph.now trail.now) conflict.now low lit analysis.old analysis.new b) }
+    ensures { IfOk result (λ b. Searches clauses.now (state_of assignment.now graph.now trail.now) conflict.now low lit
+        analysis.old analysis.new b) }
 {
     let top = analysis.used().len();
     analysis.use_up(!lit)?;
@@ -95,9 +99,11 @@ pub(crate) fn minimize_clause(
 ) -> Result<(), AllocError>
     requires can { CanAnalyze clauses.now (state_of assignment.now graph.now trail.now) }
     requires fails { IsFalsified assignment.now.current (falsified clauses.now conflict.now) }
-    requires resolved { IsUipClause clauses.now (state_of assignment.now graph.now trail.now) conflict.now analysis.old }
+    requires resolved { IsUipClause clauses.now (state_of assignment.now graph.now trail.now) conflict.now
+        analysis.old }
     ensures asserting { OnOk result (IsAsserting (state_of assignment.now graph.now trail.now) analysis.new.clause) }
-    ensures grounds { OnOk result (HasGrounds clauses.now (state_of assignment.now graph.now trail.now) conflict.now analysis.new) }
+    ensures grounds { OnOk result (HasGrounds clauses.now (state_of assignment.now graph.now trail.now) conflict.now
+        analysis.new) }
     ensures among { OnOk result (FlagsAmong analysis.new) }
     ensures kept { OnOk result (KeepsResolved (state_of assignment.now graph.now trail.now) analysis.old analysis.new) }
     ensures size { OnOk result (length analysis.new.flags ≡ length analysis.old.flags) }

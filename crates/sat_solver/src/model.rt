@@ -82,7 +82,8 @@ fn push_named(
     lits: &mut Vec<Lit>,
 ) -> Result<(), AllocError>
     requires tidy { AreTidy variables.now }
-    ensures { OnOk result (lits.new.items ≡ lits.old.items ++ name_literal variables.now values.now user (global_of variables.now user)) }
+    ensures { OnOk result (lits.new.items ≡ lits.old.items ++ name_literal variables.now values.now user
+        (global_of variables.now user)) }
 {
     let Some(global) = variables.global_from_user.fwd().get(user) else {
         return Ok(());

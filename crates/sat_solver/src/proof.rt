@@ -7,7 +7,12 @@ ghost use Rattle.sat_solver.specs.proof.Checked.{has_begun};
 ghost use Rattle.sat_solver.specs.proof.MadeView.{Makes};
 ghost use Rattle.sat_solver.specs.session.Session.{May, MayAll};
 ghost use Rattle.sat_solver.specs.proof.Widths.{narrowed, KeepsWidth};
-ghost use Rattle.sat_solver.specs.proof.ProofView.{Closed, IsAtWidth, Open, audience, is_open, is_drat, has_asked, target_of, steps_of, session_of, is_checked, is_lost, Checks, HasTold, HasAllowedSteps, EmitsExactly, EmitsAsAnswered, PutsOn, FailsOfCheck, FailsOfCheckUnless, FlushesTarget, FlushesOrFails, ClosesTarget, Handed, HandedWhole, HandsBack, HasCause, Listens, without_complaint};
+ghost use Rattle.sat_solver.specs.proof.ProofView.{Closed, IsAtWidth, Open, audience, is_open, is_drat, has_asked};
+ghost use Rattle.sat_solver.specs.proof.ProofView.{target_of, steps_of, session_of, is_checked, is_lost, Checks};
+ghost use Rattle.sat_solver.specs.proof.ProofView.{HasTold, HasAllowedSteps, EmitsExactly, EmitsAsAnswered, PutsOn};
+ghost use Rattle.sat_solver.specs.proof.ProofView.{FailsOfCheck, FailsOfCheckUnless, FlushesTarget, FlushesOrFails};
+ghost use Rattle.sat_solver.specs.proof.ProofView.{ClosesTarget, Handed, HandedWhole, HandsBack, HasCause, Listens};
+ghost use Rattle.sat_solver.specs.proof.ProofView.{without_complaint};
 
 pub mod checker;
 pub mod drat;
@@ -53,8 +58,8 @@ impl From<CheckFault> for ProofError {
     }
 }
 
-/// All steps that a solver made, the checker that takes them, where there is one, and the target that their text goes to, where one is
-/// open. After a fault of the target it isn't used again, and steps go on as if none were open.
+/// All steps that a solver made, the checker that takes them, where there is one, and the target that their text goes
+/// to, where one is open. After a fault of the target it isn't used again, and steps go on as if none were open.
 #[derive(Drop)]
 pub struct Proof<W, P: ProofProcessor = Nobody> {
     alloc: Global,
@@ -135,7 +140,8 @@ impl<W: CountedWrite + Drop, P: ProofProcessor> Proof<W, P> {
         self.made.check(alloc);
     }
 
-    /// A processor, which the checker tells what it announces from here on. Without memory it is dropped, and the checker takes no step.
+    /// A processor, which the checker tells what it announces from here on. Without memory it is dropped, and the
+    /// checker takes no step.
     pub fn add_processor(&mut self, processor: P) -> Result<(), ProofError>
         requires begun { has_begun (steps_of self.old) ≡ false }
         requires taking { is_lost self.old ≡ false }
@@ -146,8 +152,8 @@ impl<W: CountedWrite + Drop, P: ProofProcessor> Proof<W, P> {
         Ok(())
     }
 
-    /// From here on steps are written to this target, with whole hashes at first. Takes no memory. A target that failed before is
-    /// dropped.
+    /// From here on steps are written to this target, with whole hashes at first. Takes no memory. A target that failed
+    /// before is dropped.
     pub fn open(&mut self, format: ProofFormat, target: W)
         requires { is_open (target_of W.seen self.old) ≡ false }
         ensures steps { steps_of self.new ≡ steps_of self.old }
@@ -222,7 +228,8 @@ impl<W: CountedWrite + Drop, P: ProofProcessor> Proof<W, P> {
     fn take(&mut self, step: &ProofStep<'_>, cut: &ProofStep<'_>) -> Result<(), ProofError>
         requires may { MayAll (step_of step.now ∷ steps_of self.old) }
         requires width { KeepsWidth (step_of step.now) }
-        requires cut { is_checked self.old ≡ true → step_of cut.now ≡ narrowed self.old.counting.bits (step_of step.now) }
+        requires cut { is_checked self.old ≡ true
+            → step_of cut.now ≡ narrowed self.old.counting.bits (step_of step.now) }
         ensures makes { Makes (step_of step.now) self.old.made self.new.made }
         ensures taking { OnOk result (is_lost self.new ≡ is_lost self.old) }
         ensures width { OnOk result (IsAtWidth self.new) }
@@ -234,8 +241,8 @@ impl<W: CountedWrite + Drop, P: ProofProcessor> Proof<W, P> {
         Ok(())
     }
 
-    /// Gives target and checker the very same step, with its hashes cut to the width for the clauses behind it. A step at whose text
-    /// the target fails isn't checked.
+    /// Gives target and checker the very same step, with its hashes cut to the width for the clauses behind it. A step
+    /// at whose text the target fails isn't checked.
     fn record(
         &mut self,
         counting: Counting,
@@ -362,8 +369,8 @@ impl<W: CountedWrite + Drop, P: ProofProcessor> Proof<W, P> {
         }
     }
 
-    /// Makes a step that the session may write, writes it where a target is open, and gives it to the checker, where there is one.
-    /// Without memory for its text or its hashes nothing is made.
+    /// Makes a step that the session may write, writes it where a target is open, and gives it to the checker, where
+    /// there is one. Without memory for its text or its hashes nothing is made.
     pub fn step(&mut self, step: &ProofStep<'_>) -> Result<(), ProofError>
         requires keeps { HasAllowedSteps self.old }
         requires may { May (session_of self.old) (step_of step.now) }
@@ -423,7 +430,8 @@ impl<W: CountedWrite + Drop, P: ProofProcessor> Proof<W, P> {
         self.take_delayed()
     }
 
-    /// Writes the last step, flushes, and hands the target back; `None` where none is open. After an error the target stays.
+    /// Writes the last step, flushes, and hands the target back; `None` where none is open. After an error the target
+    /// stays.
     pub fn close(&mut self) -> Result<Option<W>, ProofError>
         requires { HasAllowedSteps self.old }
         ensures keeps { HasAllowedSteps self.new }
@@ -464,7 +472,8 @@ impl<W: CountedWrite + Drop, P: ProofProcessor> Proof<W, P> {
         self.made.take_complaint()
     }
 
-    /// Those who listen to the checker, in the order in which they were added, also after a failure. There is none afterwards.
+    /// Those who listen to the checker, in the order in which they were added, also after a failure. There is none
+    /// afterwards.
     pub fn take_processors(&mut self, alloc: Global) -> Vec<P>
         ensures handed { Handed self.old result.items }
         ensures whole { HandedWhole self.old result.items }

@@ -3,7 +3,8 @@ ghost use Rattle.std.specs.Prelude.{◌≡◌, ◌+◌, ◌-◌, ◌^◌, ◌<�
 ghost use Rattle.sat_solver.specs.schedule.Climbing.{KeepsProgress};
 ghost use Rattle.sat_solver.specs.schedule.Counting.{AnswersWithin, CountsOn, SpendsRounds, TakesRound, steps_left};
 ghost use Rattle.sat_solver.specs.schedule.Rounds.{ComesBy, RestartsWhereDue};
-ghost use Rattle.sat_solver.specs.schedule.Solving.{words_in, values_in, CoreInvariant, GoesAlong, EndedBy, BreaksRounds};
+ghost use Rattle.sat_solver.specs.schedule.Solving.{words_in, values_in, CoreInvariant, GoesAlong, EndedBy};
+ghost use Rattle.sat_solver.specs.schedule.Solving.{BreaksRounds};
 ghost use Rattle.sat_solver.specs.schedule.Solving.{Restarted, ReducedAt, RoundOf};
 ghost use Rattle.sat_solver.specs.solver.Found.{FoundNone};
 ghost use Rattle.sat_solver.specs.solver.Joined.{IsJoined, KeepsJoined};
@@ -89,8 +90,8 @@ pub fn search<W: CountedWrite + Drop, P: ProofProcessor>(
     ensures goes { IfOk result (λ r. r ≡ None
         → FoundNone W.seen (steps.new - steps.old) names.old names.new core.old core.new) }
     ensures ends { IfOk result (λ r. EndedBy W.seen (steps.new - steps.old) r core.old names.old core.new names.new) }
-    ensures rounds { IfOk result (λ o. ComesBy Restarted ReducedAt (RoundOf W.seen) o core.old names.old restarts.old steps.old
-        core.new names.new restarts.new steps.new) }
+    ensures rounds { IfOk result (λ o. ComesBy Restarted ReducedAt (RoundOf W.seen) o core.old names.old restarts.old
+        steps.old core.new names.new restarts.new steps.new) }
     ensures fails { IfErr result (λ e. BreaksRounds W.seen core.old e core.new) }
 {
     let end = steps.saturating_add(max_steps);

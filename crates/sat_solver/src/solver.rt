@@ -1,7 +1,7 @@
 //! An incremental solver that writes a proof.
 //!
-//! Contracts see of a solver its names, steps, assumptions, what it knows of an answer, the rounds it made and whether a call failed;
-//! what holds between calls is `IsSolver`, which `new` gives and each call keeps.
+//! Contracts see of a solver its names, steps, assumptions, what it knows of an answer, the rounds it made and whether
+//! a call failed; what holds between calls is `IsSolver`, which `new` gives and each call keeps.
 ghost use Rattle.std.specs.Prelude.{◌≡◌, true, false, []};
 ghost use Rattle.sat_base.specs.script.Judge.{start};
 ghost use Rattle.sat_solver.specs.proof.ProofView.{Closed, has_asked, is_checked, is_lost, target_of};

@@ -23,8 +23,8 @@ use crate::variables::Variables;
 use sat_base::CountedWrite;
 use sat_checker::ProofProcessor;
 
-/// Clauses of two literals go where a variable of them has a value, long ones where a literal is true; the others lose their false
-/// literals.
+/// Clauses of two literals go where a variable of them has a value, long ones where a literal is true; the others lose
+/// their false literals.
 fn lighten<W: CountedWrite + Drop, P: ProofProcessor>(
     proof: &mut Proof<W, P>,
     search: &mut Search,
@@ -32,15 +32,17 @@ fn lighten<W: CountedWrite + Drop, P: ProofProcessor>(
     requires keeps { HasAllowedSteps proof.old }
     requires search { IsSearch (session_of proof.old) search.old }
     requires flat { IsFlat search.old.parts }
-    ensures { EmitsSteps W.seen result proof.old proof.new (λ _ _. LightensAll (session_of proof.new) search.old search.new) }
+    ensures { EmitsSteps W.seen result proof.old proof.new
+        (λ _ _. LightensAll (session_of proof.new) search.old search.new) }
 {
     simplify_binary(proof, search)?;
     let mut part = Vec::new(search.alloc);
     simplify_clauses(proof, search, &mut part)
 }
 
-/// Simplifies at level 0, where all was propagated and the trail is empty: true clauses go, false literals are cut off, and then the
-/// variables that no clause has and no assumption give their indices up, in order. Hidden ones among these are deleted.
+/// Simplifies at level 0, where all was propagated and the trail is empty: true clauses go, false literals are cut off,
+/// and then the variables that no clause has and no assumption give their indices up, in order. Hidden ones among these
+/// are deleted.
 pub fn unit_simplify<W: CountedWrite + Drop, P: ProofProcessor>(
     proof: &mut Proof<W, P>,
     search: &mut Search,

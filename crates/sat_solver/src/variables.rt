@@ -1,8 +1,11 @@
 //! Names, variables and indices of a solver.
 ghost use Rattle.std.specs.Prelude.{ℕ, ◌≡◌, ◌≤◌, ◌<◌, None, Some, OnOk, IfSome, IfNone, MatchOption, true, false};
-ghost use Rattle.sat_solver.specs.variables.Variables.{AreTidy, data_at, global_of, user_of, solver_of, names_used, variables_used};
+ghost use Rattle.sat_solver.specs.variables.Variables.{AreTidy, data_at, global_of, user_of, solver_of, names_used};
+ghost use Rattle.sat_solver.specs.variables.Variables.{variables_used};
 ghost use Rattle.sat_solver.specs.variables.Free.{is_free};
-ghost use Rattle.sat_solver.specs.variables.Naming.{IsRoom, NamesFull, NoneLeft, PutsDeleted, PutsHidden, PutsIndex, PutsMode, PutsName, PutsObserved, PutsUnit, IsNextIndex, IsNextUser};
+ghost use Rattle.sat_solver.specs.variables.Naming.{IsRoom, NamesFull, NoneLeft, PutsDeleted, PutsHidden, PutsIndex};
+ghost use Rattle.sat_solver.specs.variables.Naming.{PutsMode, PutsName, PutsObserved, PutsUnit, IsNextIndex};
+ghost use Rattle.sat_solver.specs.variables.Naming.{IsNextUser};
 
 pub mod error;
 pub mod free;
@@ -240,7 +243,8 @@ impl Variables {
         self.var_data[global.index()].unit
     }
 
-    /// Notes the value of the unit of a variable that has an index, if there is one: the search does so before it gives the index up.
+    /// Notes the value of the unit of a variable that has an index, if there is one: the search does so before it gives
+    /// the index up.
     pub fn set_unit(&mut self, global: Var, unit: Option<bool>)
         requires within { global < variables_used self.old }
         ensures { PutsUnit self.old self.new global unit }

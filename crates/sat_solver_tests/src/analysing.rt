@@ -8,8 +8,8 @@ use sat_solver::proof::Proof;
 use sat_solver::variables::Variables;
 use std::alloc::Global;
 
-/// Clauses; the codes of the learned clause, the one that asserts first; those of the literals whose reasons were used, those of
-/// minimisation first; and how many long clauses took part.
+/// Clauses; the codes of the learned clause, the one that asserts first; those of the literals whose reasons were used,
+/// those of minimisation first; and how many long clauses took part.
 type Row = (
     &'static [&'static [usize]],
     &'static [usize],
@@ -23,9 +23,11 @@ const ROWS: &[Row] = &[
     (&[&[0, 2], &[0, 3]], &[0], &[2], 0),
     // -1 and -2 are decided. 3 follows by the first clause, and falsifies the second.
     (&[&[0, 2, 4], &[0, 2, 5]], &[2, 0], &[4], 2),
-    // -1 is decided, and 2 follows. -3 is decided, 4 follows, and falsifies the last clause. -2 is dropped, as it follows from 1.
+    // -1 is decided, and 2 follows. -3 is decided, 4 follows, and falsifies the last clause. -2 is dropped, as it
+    // follows from 1.
     (&[&[0, 2], &[3, 4, 6], &[0, 4, 7]], &[4, 0], &[2, 6], 2),
-    // -1 and -2 are decided. 3 follows, from it 4 and 5, and these falsify the last clause: 3 is the first implication point.
+    // -1 and -2 are decided. 3 follows, from it 4 and 5, and these falsify the last clause: 3 is the first implication
+    // point.
     (
         &[&[0, 2, 4], &[5, 6], &[5, 8], &[0, 7, 9]],
         &[5, 0],

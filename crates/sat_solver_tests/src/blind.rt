@@ -144,7 +144,8 @@ fn are_read<C: SelfChecker, R: CountedRead>(
     are_taken(checker, blanks, &mut StepReader::new(alloc, reader))
 }
 
-/// How many clauses a proof deletes as of no use; `None` where its steps aren't accepted if no hash tells a clause from another.
+/// How many clauses a proof deletes as of no use; `None` where its steps aren't accepted if no hash tells a clause from
+/// another.
 pub(crate) fn reductions(alloc: Global, text: &[u8]) -> Option<u64> {
     let mut checker = Checker::new(alloc);
     let mut blanks = Blanks::new(alloc);

@@ -1,5 +1,5 @@
-//! Each call of a proof's target fails in turn, in each format, with and without a checker of the solver's own; and what a solver drops
-//! isn't called.
+//! Each call of a proof's target fails in turn, in each format, with and without a checker of the solver's own; and
+//! what a solver drops isn't called.
 
 use crate::calls::{Behind, Call, Kind, Part, Session, done, kind_of};
 use crate::devices::{ByFew, Tally, by_few};
@@ -61,7 +61,8 @@ fn calls_of(target: Few) -> u64 {
     target.into_inner().calls
 }
 
-/// How a session ends, closing its proof included, and how many calls a target got that was handed back by that, or else by the solver.
+/// How a session ends, closing its proof included, and how many calls a target got that was handed back by that, or
+/// else by the solver.
 fn end_of(told: Kind, closed: Closed<Few>, left: Option<Few>) -> (Kind, u64) {
     match (closed, left) {
         (Ok(Some(target)), None) => (told, calls_of(target)),
@@ -77,8 +78,8 @@ fn end_of(told: Kind, closed: Closed<Few>, left: Option<Few>) -> (Kind, u64) {
     }
 }
 
-/// How a session ends whose target takes seven bytes at a time and fails at this call, whether the solver has failed then, and how many
-/// calls the target got.
+/// How a session ends whose target takes seven bytes at a time and fails at this call, whether the solver has failed
+/// then, and how many calls the target got.
 fn end_with(alloc: Global, (front, format, parts): Row, failing: u64) -> (Kind, bool, u64) {
     let act = Behind(Proved {
         target: by_few(alloc, 7, failing),

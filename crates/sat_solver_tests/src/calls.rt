@@ -446,7 +446,8 @@ fn make_part<W: CountedWrite + Drop + Made, P: ProofProcessor + Made>(
     kind
 }
 
-/// Makes calls, up to the first that isn't answered as its part says. Gives its answer, and that all is right where there is none.
+/// Makes calls, up to the first that isn't answered as its part says. Gives its answer, and that all is right where
+/// there is none.
 fn make_all<W: CountedWrite + Drop + Made, P: ProofProcessor + Made>(
     alloc: Global,
     solver: &mut Solver<W, P>,

@@ -1,4 +1,5 @@
-//! Solvers that tests play on. They are made here and nowhere else, and lent, since each function that owns one is dear to prove.
+//! Solvers that tests play on. They are made here and nowhere else, and lent, since each function that owns one is dear
+//! to prove.
 ghost use Rattle.sat_solver.specs.solver.Whole.{IsSolver};
 
 use sat_base::{Counted, CountedWrite};
@@ -32,8 +33,8 @@ pub(crate) trait Ready: Drop {
     ghost ready: { Self → Type 0 };
 }
 
-/// What is made anew, and gives back what is left in it of others. Where a function owns one of these, the prover need not look at the
-/// solver that it is.
+/// What is made anew, and gives back what is left in it of others. Where a function owns one of these, the prover need
+/// not look at the solver that it is.
 pub(crate) trait Fresh<B>: Ready {
     fn fresh(alloc: Global) -> Self
         ensures { Self.ready result };

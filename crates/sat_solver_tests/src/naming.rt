@@ -174,8 +174,8 @@ const UNSATISFIABLE: &[Part<'static>] = &[
     ),
 ];
 
-/// The first variable is kept for its clause, so that the last name, with all below it, finds one too few. With the name before it the
-/// second one, which is hidden, would come in as well.
+/// The first variable is kept for its clause, so that the last name, with all below it, finds one too few. With the
+/// name before it the second one, which is hidden, would come in as well.
 const VARIABLES_LACK: &[Part<'static>] = &[
     (
         Kind::Right,

@@ -56,8 +56,8 @@ fn closed(mut proof: Proof<Counted<ByFew>>, text: &[u8]) -> (Option<bool>, Seen)
     }
 }
 
-/// Makes two steps and flushes them, makes two more and closes. Gives whether the steps and the flush were done, and what came of
-/// closing.
+/// Makes two steps and flushes them, makes two more and closes. Gives whether the steps and the flush were done, and
+/// what came of closing.
 fn written(alloc: Global, device: Device) -> (bool, bool, (Option<bool>, Seen)) {
     let mut proof: Proof<Counted<ByFew>> = Proof::new(alloc);
     proof.open(ProofFormat::Varisat, by_few(alloc, device.0, device.1));
@@ -67,7 +67,8 @@ fn written(alloc: Global, device: Device) -> (bool, bool, (Option<bool>, Seen)) 
     (first && second, flushed, closed(proof, TEXT))
 }
 
-/// Makes a step of more bytes than may wait, and two more. Gives whether it and whether they were taken, and what came of closing.
+/// Makes a step of more bytes than may wait, and two more. Gives whether it and whether they were taken, and what came
+/// of closing.
 fn long_written(
     alloc: Global,
     device: Device,
@@ -98,7 +99,8 @@ fn is_lent(alloc: Global) -> bool {
 /// A device, whether the flush was done, what came of closing, and what the device saw.
 type Row = (Device, bool, Option<bool>, Seen);
 
-/// The first takes 4 bytes of a piece and never fails; each call of it in turn; one that takes a byte, and one that takes all.
+/// The first takes 4 bytes of a piece and never fails; each call of it in turn; one that takes a byte, and one that
+/// takes all.
 const ROWS: &[Row] = &[
     ((4, 0), true, Some(true), (6, 11, true)),
     ((4, 1), false, Some(false), (1, 0, true)),

@@ -1,4 +1,5 @@
-//! Calls that are refused, at each place of a session: its answers, and what is written of it, are those of the session alone.
+//! Calls that are refused, at each place of a session: its answers, and what is written of it, are those of the session
+//! alone.
 
 use crate::calls::{Call, Kind, Part};
 use crate::scripts::text_of;

@@ -25,8 +25,8 @@ pub(crate) fn text_of(
 
 const CHECKED: &[Part<'static>] = &[(Kind::Right, &[Call::Check])];
 
-/// Whether each call is answered as it is to be, and the proof is accepted, also where hashes tell nothing, and is the same where the
-/// solver has a checker of its own.
+/// Whether each call is answered as it is to be, and the proof is accepted, also where hashes tell nothing, and is the
+/// same where the solver has a checker of its own.
 fn is_right(alloc: Global, parts: &[Part<'_>]) -> bool {
     let text = text_of(alloc, ProofFormat::Varisat, &[], parts);
     let checked = text_of(alloc, ProofFormat::Varisat, CHECKED, parts);

@@ -7,7 +7,8 @@ use std::alloc::Global;
 /// What may begin, and begins too late.
 const BEGINNINGS: &[Call] = &[Call::Proof, Call::Check, Call::Tell];
 
-/// A new solver lets all begin, and so does one whose proof was closed. Behind a proof that is open there begins no other.
+/// A new solver lets all begin, and so does one whose proof was closed. Behind a proof that is open there begins no
+/// other.
 const FIRST: &[Part<'static>] = &[
     (
         Kind::Right,

@@ -114,8 +114,8 @@ const ROWS: &[Row] = &[
     (&[], HIDDEN_AT_LAST),
 ];
 
-/// How many clauses the proof of a session deletes as of no use; `None` where a call isn't answered as it is to be, or the proof isn't
-/// accepted, also where hashes tell nothing.
+/// How many clauses the proof of a session deletes as of no use; `None` where a call isn't answered as it is to be, or
+/// the proof isn't accepted, also where hashes tell nothing.
 fn deletions(alloc: Global, (front, parts): Row) -> Option<u64> {
     match text_of(alloc, ProofFormat::Varisat, front, parts) {
         Some(text) => if is_accepted(alloc, &text) {

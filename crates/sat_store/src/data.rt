@@ -1,8 +1,8 @@
 //! What is kept of each variable.
 ghost use Rattle.std.specs.Prelude.{◌≡◌};
 
-/// How a variable takes part in models: each model fixes it (`Sample`), some model goes with the others (`Witness`), or no
-/// user names it (`Hide`).
+/// How a variable takes part in models: each model fixes it (`Sample`), some model goes with the others (`Witness`), or
+/// no user names it (`Hide`).
 #[derive(Clone, Copy, Debug, PartialEq, Eq)]
 pub enum SamplingMode {
     Sample,

@@ -34,7 +34,8 @@ impl Default for LevelAbstraction {
 impl LevelAbstraction {
     /// Lets a level pass from now on, with all that have its remainder.
     pub fn add(&mut self, level: usize)
-        ensures { (other : ℕ) → passes self.new other ≡ (if other % 64 == level % 64 then true else passes self.old other) }
+        ensures { (other : ℕ) → passes self.new other
+            ≡ (if other % 64 == level % 64 then true else passes self.old other) }
     {
         self.bits |= 1 << (level % 64);
     }

@@ -4,8 +4,8 @@ ghost use Rattle.sat_store.specs.schedule.Luby.{luby, wrapped_number};
 
 use std::marker::Model;
 
-/// The Luby sequence 1, 1, 2, 1, 1, 2, 4, .. from term 1 to term 2^64 - 1, and then from the first again. Contracts see it as the
-/// number of the last term that it gave.
+/// The Luby sequence 1, 1, 2, 1, 1, 2, 4, .. from term 1 to term 2^64 - 1, and then from the first again. Contracts see
+/// it as the number of the last term that it gave.
 #[derive(Drop)]
 pub struct LubySequence {
     given: u64,

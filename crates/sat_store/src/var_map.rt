@@ -1,5 +1,6 @@
 //! Maps between variables.
-ghost use Rattle.std.specs.Prelude.{ℕ, ◌≡◌, ◌==◌, if◌then◌else◌, IfNone, IfSome, true, false, ◌+◌, ◌<◌, ◌≤◌, Option, Some, None, List, [], length, max, OnOk, OnErr, vec_capacity};
+ghost use Rattle.std.specs.Prelude.{ℕ, ◌≡◌, ◌==◌, if◌then◌else◌, IfNone, IfSome, true, false, ◌+◌, ◌<◌, ◌≤◌, Option};
+ghost use Rattle.std.specs.Prelude.{Some, None, List, [], length, max, OnOk, OnErr, vec_capacity};
 ghost use Rattle.sat_store.specs.variables.Maps.{target, PutsTarget, GrowsMap, GrowsBoth, AreInverse, Links, Unlinks};
 
 use sat_base::Var;
@@ -204,8 +205,8 @@ impl VarBiMap {
     }
 }
 
-/// One of the two maps of a `VarBiMap`, to be changed with the other. The fields are the maps, and whether they are taken the
-/// other way round.
+/// One of the two maps of a `VarBiMap`, to be changed with the other. The fields are the maps, and whether they are
+/// taken the other way round.
 #[derive(Drop)]
 pub struct VarBiMapMut<'a> {
     pub map: &'a mut VarBiMap,

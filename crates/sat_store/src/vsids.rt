@@ -1,11 +1,14 @@
 //! Variables by activity.
 //!
-//! A decision takes the variable of highest activity. Conflicts raise activities, and in place of lowering all others after each
-//! conflict, later conflicts raise by more; where numbers grow too large, all are brought to a smaller scale.
-ghost use Rattle.std.specs.Prelude.{◌≡◌, ◌<◌, ◌≤◌, ◌+◌, ◌*◌, ◌-◌, ◌/◌, ◌^◌, OnOk, OnErr, true, false, length, map, max, slice_set};
+//! A decision takes the variable of highest activity. Conflicts raise activities, and in place of lowering all others
+//! after each conflict, later conflicts raise by more; where numbers grow too large, all are brought to a smaller
+//! scale.
+ghost use Rattle.std.specs.Prelude.{◌≡◌, ◌<◌, ◌≤◌, ◌+◌, ◌*◌, ◌-◌, ◌/◌, ◌^◌, OnOk, OnErr, true, false, length, map, max};
+ghost use Rattle.std.specs.Prelude.{slice_set};
 ghost use Rattle.sat_base.specs.values.Literals.{largest};
 ghost use Rattle.sat_store.specs.heap.Heap.{scaled};
-ghost use Rattle.sat_store.specs.heap.Vsids.{no_variables, with_variables, GrowsQueue, bumped, decayed, with_available, may_pick};
+ghost use Rattle.sat_store.specs.heap.Vsids.{no_variables, with_variables, GrowsQueue, bumped, decayed, with_available};
+ghost use Rattle.sat_store.specs.heap.Vsids.{may_pick};
 
 mod heap;
 
@@ -17,8 +20,8 @@ use std::marker::Model;
 /// Activities are below this.
 const LIMIT: u64 = 1 << 60;
 
-/// The variables that may be picked, by activity. Contracts see it as a `Queue`: which variables may be picked, the activity of
-/// each, what a bump adds, and the decay.
+/// The variables that may be picked, by activity. Contracts see it as a `Queue`: which variables may be picked, the
+/// activity of each, what a bump adds, and the decay.
 #[derive(Drop)]
 pub struct Vsids {
     /// All variables with their activities, the available ones first and in a heap.
@@ -180,8 +183,8 @@ impl Iterator for Vsids {
 
     ghost remaining = { λ q. at_most (count_by (λ b. b) q.available) };
 
-    /// The variable of highest activity of those that may be picked, of equals the one of the lowest index. It may not be picked
-    /// from then on. `None` where there is none.
+    /// The variable of highest activity of those that may be picked, of equals the one of the lowest index. It may not
+    /// be picked from then on. `None` where there is none.
     fn next(&mut self) -> Option<Var> {
         if self.available == 0 {
             return None;

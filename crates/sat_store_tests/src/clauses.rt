@@ -278,8 +278,8 @@ fn too_much_room_is_refused(rt: HostRuntime) {
     assert!(rt; ClauseAlloc::with_capacity(rt.alloc(), 1 << 62).is_err());
 }
 
-/// The lengths of a view of a clause of three literals, of the view without its first literal, and of none, and the literal that
-/// is then the first.
+/// The lengths of a view of a clause of three literals, of the view without its first literal, and of none, and the
+/// literal that is then the first.
 fn views(buffer: &mut ClauseAlloc) -> Result<([usize; 3], Lit), StoreError> {
     let codes = [Lit::from_code(4), Lit::from_code(7), Lit::from_code(8)];
     let cref = buffer.add_clause(ClauseHeader::new(), &codes)?;

@@ -1,8 +1,13 @@
 //! Reads answers, line by line, from the front of their bytes. What isn't in form to the byte is refused:
 //! single spaces, no leading zeros, each line ended by LF, names from 1 to 2^28 in their order.
-ghost use Rattle.std.specs.Prelude.{◌≡◌, ◌++◌, ◌∷◌, [], false, ◌*◌, ◌<◌, ◌≤◌, decimal, MatchOption, MatchResult, List, ℕ};
+ghost use Rattle.std.specs.Prelude.{◌≡◌, ◌++◌, ◌∷◌, [], false, ◌*◌, ◌<◌, ◌≤◌, decimal, MatchOption, MatchResult, List};
+ghost use Rattle.std.specs.Prelude.{ℕ};
 ghost use Rattle.certify.specs.answers.AnswerForms.{IsName};
-ghost use Rattle.certify.specs.answers.AnswerReading.{NoNameDigit, NoName, NoLiteral, NoLiterals, NoKind, NoLine, NoOutcome, StartsNoName, StartsNoLiteral, StartsNoLiterals, StartsNoKind, StartsNoLine, HasLine, IsHead, digits_so_far, first_line, literal_place, BeginsWithLiteral, BeginsWithLiterals, BeginsWithSecondLine, BeginsWithAnswer};
+ghost use Rattle.certify.specs.answers.AnswerReading.{NoNameDigit, NoName, NoLiteral, NoLiterals, NoKind, NoLine};
+ghost use Rattle.certify.specs.answers.AnswerReading.{NoOutcome, StartsNoName, StartsNoLiteral, StartsNoLiterals};
+ghost use Rattle.certify.specs.answers.AnswerReading.{StartsNoKind, StartsNoLine, HasLine, IsHead, digits_so_far};
+ghost use Rattle.certify.specs.answers.AnswerReading.{first_line, literal_place, BeginsWithLiteral, BeginsWithLiterals};
+ghost use Rattle.certify.specs.answers.AnswerReading.{BeginsWithSecondLine, BeginsWithAnswer};
 ghost use Rattle.sat_base.specs.values.Literals.{largest};
 
 use sat_base::{Lit, Var};
@@ -45,7 +50,8 @@ impl<T: Drop> From<AllocFailed<T>> for AnswerFault {
 
 /// What is behind the text, where the bytes begin with it.
 pub fn take_text<'a>(bytes: &'a [u8], text: &[u8]) -> Option<&'a [u8]>
-    ensures { MatchOption result ((tail : List ℕ) → bytes.now ≡ text.now ++ tail → ⊥) (λ rest. bytes.now ≡ text.now ++ rest.now) }
+    ensures { MatchOption result ((tail : List ℕ) → bytes.now ≡ text.now ++ tail → ⊥)
+        (λ rest. bytes.now ≡ text.now ++ rest.now) }
 {
     bytes.strip_prefix(text)
 }
@@ -64,7 +70,8 @@ pub fn is_front(bytes: &[u8], text: &[u8]) -> bool
 /// `None` for another byte, a leading zero, and a name past the limit.
 fn with_digit(name: usize, byte: u8) -> Option<usize>
     requires { name ≤ largest }
-    ensures { MatchOption result (NoNameDigit name byte) (λ more. IsName more × (decimal more ≡ digits_so_far name ++ byte ∷ [])) }
+    ensures { MatchOption result (NoNameDigit name byte)
+        (λ more. IsName more × (decimal more ≡ digits_so_far name ++ byte ∷ [])) }
 {
     if byte < b'0' || byte > b'9' {
         return None;
@@ -146,15 +153,16 @@ fn literal_place(kind: AnswerKind, lit: Lit) -> usize
     }
 }
 
-/// Reads the literals of a line of this kind up to `0` and LF, leaves them in the line, and answers what is behind them.
-/// A literal out of its order is refused before memory is asked for it.
+/// Reads the literals of a line of this kind up to `0` and LF, leaves them in the line, and answers what is behind
+/// them. A literal out of its order is refused before memory is asked for it.
 fn read_literals<'a>(
     kind: AnswerKind,
     bytes: &'a [u8],
     line: &mut Vec<Lit>,
 ) -> Result<&'a [u8], AnswerFault>
     requires { HasLine kind }
-    ensures { MatchResult result (λ rest. BeginsWithLiterals kind bytes.now line.new.items rest.now) (NoLiterals kind bytes.now) }
+    ensures { MatchResult result (λ rest. BeginsWithLiterals kind bytes.now line.new.items rest.now)
+        (NoLiterals kind bytes.now) }
 {
     line.clear();
     let mut rest = bytes;
@@ -234,7 +242,8 @@ fn read_list<'a>(
     line: &mut Vec<Lit>,
 ) -> Result<&'a [u8], AnswerFault>
     requires { IsHead kind head.now }
-    ensures { MatchResult result (λ rest. BeginsWithSecondLine kind bytes.now line.new.items rest.now) (NoLine kind bytes.now) }
+    ensures { MatchResult result (λ rest. BeginsWithSecondLine kind bytes.now line.new.items rest.now)
+        (NoLine kind bytes.now) }
 {
     if bytes.is_empty() {
         return Err(AnswerFault::Missing);
@@ -268,14 +277,16 @@ pub fn begins_line(kind: AnswerKind, bytes: &[u8]) -> bool
     }
 }
 
-/// Reads the second line of an answer of this kind, leaves its literals in `line`, and answers what is behind it.
-/// An unknown answer has no second line: nothing is read, and `line` is left empty. After a fault `line` may hold anything.
+/// Reads the second line of an answer of this kind, leaves its literals in `line`, and answers what is behind it. An
+/// unknown answer has no second line: nothing is read, and `line` is left empty. After a fault `line` may hold
+/// anything.
 pub fn read_line<'a>(
     kind: AnswerKind,
     bytes: &'a [u8],
     line: &mut Vec<Lit>,
 ) -> Result<&'a [u8], AnswerFault>
-    ensures { MatchResult result (λ rest. BeginsWithSecondLine kind bytes.now line.new.items rest.now) (NoLine kind bytes.now) }
+    ensures { MatchResult result (λ rest. BeginsWithSecondLine kind bytes.now line.new.items rest.now)
+        (NoLine kind bytes.now) }
 {
     match kind {
         AnswerKind::Sat => read_list(kind, b"v ", bytes, line),

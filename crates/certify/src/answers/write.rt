@@ -1,5 +1,5 @@
-//! Writes answers, line by line, behind the bytes of a buffer. Where there is no memory a part of a line may stand there.
-//! A name is written as its number, which is one more than the index of its variable.
+//! Writes answers, line by line, behind the bytes of a buffer. Where there is no memory a part of a line may stand
+//! there. A name is written as its number, which is one more than the index of its variable.
 ghost use Rattle.std.specs.Prelude.{◌≡◌, ◌++◌, decimal, OnOk};
 ghost use Rattle.certify.specs.answers.Answers.{literals_text, malformed_line, outcome_text, refused_line, word_of};
 ghost use Rattle.sat_checker.specs.matching.Expected.{Sat, Unsat, Unknown};

@@ -6,7 +6,8 @@ ghost use Rattle.certify.specs.answers.AnswerForms.{named_literals};
 ghost use Rattle.certify.specs.answers.AnswerReading.{outcome_of};
 ghost use Rattle.certify.specs.confirm.Lines.{TakesDueLine, stop_after};
 ghost use Rattle.certify.specs.confirm.Stopping.{Replies, SaysSo};
-ghost use Rattle.certify.specs.confirm.Lines.{IsOneLine, IsReply, IsWantedLine, NextLine, ReadsFirst, ReadsSecond, answers_source};
+ghost use Rattle.certify.specs.confirm.Lines.{IsOneLine, IsReply, IsWantedLine, NextLine, ReadsFirst, ReadsSecond};
+ghost use Rattle.certify.specs.confirm.Lines.{answers_source};
 ghost use Rattle.certify.specs.judge.Names.{refusal_in};
 ghost use Rattle.certify.specs.script.Ahead.{IsNotAtEnd, waiting};
 
@@ -52,7 +53,8 @@ fn is_none(line: &[u8]) -> bool
 
 /// Whether only one answer may stand where another kind does.
 fn is_other(settled: bool, kind: AnswerKind) -> bool
-    ensures { MatchBool result ((settled ≡ true) × (kind ≡ AnswerKind.Unsat → ⊥)) (settled ≡ true → kind ≡ AnswerKind.Unsat) }
+    ensures { MatchBool result ((settled ≡ true) × (kind ≡ AnswerKind.Unsat → ⊥))
+        (settled ≡ true → kind ≡ AnswerKind.Unsat) }
 {
     if !settled {
         return false;
@@ -118,7 +120,8 @@ impl Answers {
     fn take_due<A: CountedRead>(&mut self, answers: &mut A) -> Result<(), Stop>
         requires open_yet { IsNotAtEnd (answers_source A.seen answers.old self.old) }
         requires line { IsOneLine self.old.due.items }
-        ensures { Replies true result (answers_source A.seen answers.old self.old) (answers_source A.seen answers.new self.new)
+        ensures { Replies true result (answers_source A.seen answers.old self.old)
+            (answers_source A.seen answers.new self.new)
             (λ before behind. TakesDueLine before behind self.old.due.items) }
     {
         self.next_line(answers, Wanted::Due)?;
@@ -139,7 +142,8 @@ impl Answers {
         refusal: Refusal,
     ) -> Result<(), Stop>
         requires open_yet { IsNotAtEnd (answers_source A.seen answers.old self.old) }
-        ensures { Replies true result (answers_source A.seen answers.old self.old) (answers_source A.seen answers.new self.new)
+        ensures { Replies true result (answers_source A.seen answers.old self.old)
+            (answers_source A.seen answers.new self.new)
             (λ before behind. TakesDueLine before behind (refused_line number (refusal_in refusal))) }
     {
         self.due.clear();
@@ -150,7 +154,8 @@ impl Answers {
     /// Expects the last line of the answers to a malformed text.
     pub fn refuse_rest<A: CountedRead>(&mut self, answers: &mut A, number: u64) -> Result<(), Stop>
         requires open_yet { IsNotAtEnd (answers_source A.seen answers.old self.old) }
-        ensures { Replies true result (answers_source A.seen answers.old self.old) (answers_source A.seen answers.new self.new)
+        ensures { Replies true result (answers_source A.seen answers.old self.old)
+            (answers_source A.seen answers.new self.new)
             (λ before behind. TakesDueLine before behind (malformed_line number)) }
     {
         self.due.clear();
@@ -161,8 +166,8 @@ impl Answers {
     /// Reads the first line of an answer, which tells its kind.
     fn read_first<A: CountedRead>(&mut self, answers: &mut A) -> Result<AnswerKind, Stop>
         requires open_yet { IsNotAtEnd (answers_source A.seen answers.old self.old) }
-        ensures { Replies true result (answers_source A.seen answers.old self.old) (answers_source A.seen answers.new self.new)
-            (ReadsFirst) }
+        ensures { Replies true result (answers_source A.seen answers.old self.old)
+            (answers_source A.seen answers.new self.new) (ReadsFirst) }
     {
         self.next_line(answers, Wanted::First)?;
         match read_kind(&self.lines.line) {
@@ -174,8 +179,8 @@ impl Answers {
     /// Reads the second line of an answer of this kind, if it has one.
     fn read_second<A: CountedRead>(&mut self, answers: &mut A, kind: AnswerKind) -> Result<(), Stop>
         requires open_yet { IsNotAtEnd (answers_source A.seen answers.old self.old) }
-        ensures { Replies true result (answers_source A.seen answers.old self.old) (answers_source A.seen answers.new self.new)
-            (ReadsSecond kind (named_literals self.new.reply.lits.items)) }
+        ensures { Replies true result (answers_source A.seen answers.old self.old)
+            (answers_source A.seen answers.new self.new) (ReadsSecond kind (named_literals self.new.reply.lits.items)) }
     {
         if let AnswerKind::Unknown = kind {
             self.reply.lits.clear();
@@ -191,8 +196,10 @@ impl Answers {
     /// Reads an answer, with its line. Where `unsat` is recorded there is only one.
     pub fn read<A: CountedRead>(&mut self, answers: &mut A, settled: bool) -> Result<(), Stop>
         requires open_yet { IsNotAtEnd (answers_source A.seen answers.old self.old) }
-        ensures { Replies true result (answers_source A.seen answers.old self.old) (answers_source A.seen answers.new self.new)
-            (λ before behind. IsReply before behind (outcome_of self.new.reply.kind (named_literals self.new.reply.lits.items)) settled) }
+        ensures { Replies true result (answers_source A.seen answers.old self.old)
+            (answers_source A.seen answers.new self.new)
+            (λ before behind. IsReply before behind
+            (outcome_of self.new.reply.kind (named_literals self.new.reply.lits.items)) settled) }
     {
         let kind = self.read_first(answers)?;
         if is_other(settled, kind) {
@@ -209,8 +216,8 @@ impl Answers {
     /// Expects that nothing is left.
     pub fn expect_over<A: CountedRead>(&mut self, answers: &mut A) -> Result<(), Stop>
         requires open_yet { IsNotAtEnd (answers_source A.seen answers.old self.old) }
-        ensures { Replies false result (answers_source A.seen answers.old self.old) (answers_source A.seen answers.new self.new)
-            (λ before behind. SaysSo (before ≡ [])) }
+        ensures { Replies false result (answers_source A.seen answers.old self.old)
+            (answers_source A.seen answers.new self.new) (λ before behind. SaysSo (before ≡ [])) }
     {
         self.next_line(answers, Wanted::Nothing)?;
         if is_none(&self.lines.line) {

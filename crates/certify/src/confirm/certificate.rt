@@ -61,7 +61,8 @@ impl Certificate {
         ensures bound { IsReadFew R.seen steps.new }
         ensures goes_on { StepsGoOnIf result R.seen steps.new }
         ensures confirms { Confirms result (stream_of R.seen steps.old (kernel_of self.old.checker))
-            (stream_of R.seen steps.new (kernel_of self.new.checker)) (MeetsDue (due_of expected.now) self.old.names self.new.names) }
+            (stream_of R.seen steps.new (kernel_of self.new.checker))
+            (MeetsDue (due_of expected.now) self.old.names self.new.names) }
     {
         match await_ordered(&mut self.checker, steps)? {
             Awaited::Cut => return excuse_unmet(expected),

@@ -8,7 +8,8 @@ ghost use Rattle.sat_checker.specs.KernelView.{looks_of};
 ghost use Rattle.certify.specs.answers.AnswerForms.{named_literals};
 ghost use Rattle.certify.specs.confirm.Streams.{Confirms, StepsGoOn, StepsGoOnIf, IsReadFew, SameLoan, stream_of};
 ghost use Rattle.certify.specs.confirm.VerdictPromises.{numbers};
-ghost use Rattle.certify.specs.confirm.Confirming.{ConfirmsAnswer, ConfirmsContent, ConfirmsLast, ConfirmsNext, HoldsAt, MeetsContent, MeetsOutcome, MeetsShown, table_of};
+ghost use Rattle.certify.specs.confirm.Confirming.{ConfirmsAnswer, ConfirmsContent, ConfirmsLast, ConfirmsNext};
+ghost use Rattle.certify.specs.confirm.Confirming.{HoldsAt, MeetsContent, MeetsOutcome, MeetsShown, table_of};
 ghost use Rattle.certify.specs.confirm.Lines.{outcome_in};
 ghost use Rattle.certify.specs.confirm.Sessions.{ConfirmsBoth, answers_in, stream_in};
 ghost use Rattle.certify.specs.script.Ahead.{IsNotAtEnd, waiting};
@@ -48,9 +49,10 @@ fn show<C: CountedRead>(
     ensures bound { IsReadFew C.seen steps.new }
     ensures goes_on { StepsGoOnIf result C.seen steps.new }
     ensures names { matching.new.names ≡ matching.old.names }
-    ensures confirms { Confirms result (stream_in C.seen steps.old matching.old) (stream_in C.seen steps.new matching.new)
-        (MeetsShown matching.old.names (named_literals ask.now) (outcome_in reply.now)
-        matching.old.certificate.names matching.new.certificate.names) }
+    ensures confirms { Confirms result (stream_in C.seen steps.old matching.old)
+        (stream_in C.seen steps.new matching.new)
+        (MeetsShown matching.old.names (named_literals ask.now) (outcome_in reply.now) matching.old.certificate.names
+        matching.new.certificate.names) }
 {
     let line = reply.lits.as_slice();
     match reply.kind {
@@ -76,9 +78,10 @@ fn close<C: CountedRead>(
     ensures bound { IsReadFew C.seen steps.new }
     ensures goes_on { StepsGoOnIf result C.seen steps.new }
     ensures names { matching.new.names ≡ matching.old.names }
-    ensures confirms { Confirms result (stream_in C.seen steps.old matching.old) (stream_in C.seen steps.new matching.new)
-        (MeetsOutcome matching.old.names (named_literals ask.now) (outcome_in reply.now)
-        matching.old.certificate.names matching.new.certificate.names) }
+    ensures confirms { Confirms result (stream_in C.seen steps.old matching.old)
+        (stream_in C.seen steps.new matching.new)
+        (MeetsOutcome matching.old.names (named_literals ask.now) (outcome_in reply.now) matching.old.certificate.names
+        matching.new.certificate.names) }
 {
     show(matching, steps, ask, reply)?;
     matching.certificate.expect(steps, &Expected::Close)
@@ -96,7 +99,8 @@ fn expect_content<C: CountedRead>(
     ensures goes_on { StepsGoOnIf result C.seen steps.new }
     ensures confirms { Confirms result (stream_of C.seen steps.old (kernel_of certificate.old.checker))
         (stream_of C.seen steps.new (kernel_of certificate.new.checker))
-        (MeetsContent (kind_of command.entry.kind) (named_literals command.entry.literals.now) certificate.old.names certificate.new.names) }
+        (MeetsContent (kind_of command.entry.kind) (named_literals command.entry.literals.now) certificate.old.names
+        certificate.new.names) }
 {
     match command.kind {
         CommandKind::Clause => certificate.expect(steps, &Expected::Clause(command.literals)),
@@ -138,8 +142,9 @@ impl Session {
         requires goes_on { StepsGoOn C.seen steps.old }
         requires open_yet { IsNotAtEnd (answers_in A.seen answers.old self.old) }
         ensures number { self.new.number ≡ self.old.number }
-        ensures confirms { ConfirmsBoth ⊥ true result A.seen C.seen answers.old answers.new steps.old steps.new self.old self.new
-            (ConfirmsAnswer self.old.number (named_literals ask.now) (table_of self.old.matching) (table_of self.new.matching)) }
+        ensures confirms { ConfirmsBoth ⊥ true result A.seen C.seen answers.old answers.new steps.old steps.new self.old
+            self.new (ConfirmsAnswer self.old.number (named_literals ask.now) (table_of self.old.matching)
+            (table_of self.new.matching)) }
     {
         let settled = self.matching.certificate.checker.unsat();
         self.answers.read(answers, settled)?;
@@ -158,9 +163,9 @@ impl Session {
         requires goes_on { StepsGoOn C.seen steps.old }
         requires open_yet { IsNotAtEnd (answers_in A.seen answers.old self.old) }
         ensures number { self.new.number ≡ self.old.number }
-        ensures confirms { ConfirmsBoth ⊥ true result A.seen C.seen answers.old answers.new steps.old steps.new self.old self.new
-            (ConfirmsContent self.old.number (kind_of command.entry.kind) (named_literals command.entry.literals.now)
-            (table_of self.old.matching) (table_of self.new.matching)) }
+        ensures confirms { ConfirmsBoth ⊥ true result A.seen C.seen answers.old answers.new steps.old steps.new self.old
+            self.new (ConfirmsContent self.old.number (kind_of command.entry.kind)
+            (named_literals command.entry.literals.now) (table_of self.old.matching) (table_of self.new.matching)) }
     {
         expect_content(&mut self.matching.certificate, steps, command)?;
         if let CommandKind::Ask = command.kind {
@@ -199,8 +204,9 @@ impl Session {
     ) -> Result<(), Stop>
         requires goes_on { StepsGoOn C.seen steps.old }
         requires open_yet { IsNotAtEnd (answers_in A.seen answers.old self.old) }
-        ensures confirms { (n : ℕ) → ConfirmsBoth ⊥ false result A.seen C.seen answers.old answers.new steps.old steps.new self.old self.new
-            (λ before behind u v. ConfirmsLast n ([], Clean) (table_of self.old.matching) before u) }
+        ensures confirms { (n : ℕ) → ConfirmsBoth ⊥ false result A.seen C.seen answers.old answers.new steps.old
+            steps.new self.old self.new (λ before behind u v. ConfirmsLast n ([], Clean) (table_of self.old.matching)
+            before u) }
     {
         self.matching.certificate.expect(steps, &Expected::End)?;
         self.answers.expect_over(answers)
@@ -214,9 +220,10 @@ impl Session {
     ) -> Result<(), Stop>
         requires goes_on { StepsGoOn C.seen steps.old }
         requires open_yet { IsNotAtEnd (answers_in A.seen answers.old self.old) }
-        ensures confirms { ConfirmsBoth (2 ^ 64 < self.old.number + 1 + numbers (end_reading ScriptEnd.Asked)) false result
-            A.seen C.seen answers.old answers.new steps.old steps.new self.old self.new
-            (λ before behind u v. ConfirmsLast (self.old.number + 1) (end_reading ScriptEnd.Asked) (table_of self.old.matching) before u) }
+        ensures confirms { ConfirmsBoth (2 ^ 64 < self.old.number + 1 + numbers (end_reading ScriptEnd.Asked)) false
+            result A.seen C.seen answers.old answers.new steps.old steps.new self.old self.new
+            (λ before behind u v. ConfirmsLast (self.old.number + 1) (end_reading ScriptEnd.Asked)
+            (table_of self.old.matching) before u) }
     {
         if self.number == u64::MAX {
             return Err(Stop::TooMany);
@@ -239,9 +246,10 @@ impl Session {
     ) -> Result<(), Stop>
         requires goes_on { StepsGoOn C.seen steps.old }
         requires open_yet { IsNotAtEnd (answers_in A.seen answers.old self.old) }
-        ensures confirms { ConfirmsBoth (2 ^ 64 < self.old.number + 1 + numbers (end_reading ScriptEnd.Malformed)) false result
-            A.seen C.seen answers.old answers.new steps.old steps.new self.old self.new
-            (λ before behind u v. ConfirmsLast (self.old.number + 1) (end_reading ScriptEnd.Malformed) (table_of self.old.matching) before u) }
+        ensures confirms { ConfirmsBoth (2 ^ 64 < self.old.number + 1 + numbers (end_reading ScriptEnd.Malformed)) false
+            result A.seen C.seen answers.old answers.new steps.old steps.new self.old self.new
+            (λ before behind u v. ConfirmsLast (self.old.number + 1) (end_reading ScriptEnd.Malformed)
+            (table_of self.old.matching) before u) }
     {
         if self.number == u64::MAX {
             return Err(Stop::TooMany);
@@ -259,9 +267,10 @@ impl Session {
     ) -> Result<(), Stop>
         requires goes_on { StepsGoOn C.seen steps.old }
         requires open_yet { IsNotAtEnd (answers_in A.seen answers.old self.old) }
-        ensures confirms { ConfirmsBoth (2 ^ 64 < self.old.number + 1 + numbers (end_reading end)) false result
-            A.seen C.seen answers.old answers.new steps.old steps.new self.old self.new
-            (λ before behind u v. ConfirmsLast (self.old.number + 1) (end_reading end) (table_of self.old.matching) before u) }
+        ensures confirms { ConfirmsBoth (2 ^ 64 < self.old.number + 1 + numbers (end_reading end)) false result A.seen
+            C.seen answers.old answers.new steps.old steps.new self.old self.new
+            (λ before behind u v. ConfirmsLast (self.old.number + 1) (end_reading end) (table_of self.old.matching)
+            before u) }
     {
         match end {
             ScriptEnd::Clean => self.confirm_over(answers, steps),

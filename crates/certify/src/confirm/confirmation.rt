@@ -39,7 +39,8 @@ impl Confirmation {
         ensures confirms { (c : Spelled) → HasWhole self.old.script.reader c
             → ConfirmsBoth (2 ^ 64 ≤ self.old.session.number + 1) true result A.seen C.seen answers.old answers.new
             steps.old steps.new self.old.session self.new.session
-            (ConfirmsNext (self.old.session.number + 1) c (table_of self.old.session.matching) (table_of self.new.session.matching)) }
+            (ConfirmsNext (self.old.session.number + 1) c (table_of self.old.session.matching)
+            (table_of self.new.session.matching)) }
     {
         if self.session.number == u64::MAX {
             return Err(Stop::TooMany);
@@ -61,8 +62,8 @@ impl Confirmation {
         requires whole { (c : Spelled) × HasWhole self.old.script.reader c }
         ensures script { self.new.script ≡ self.old.script }
         ensures confirms { (c : Spelled) → HasWhole self.old.script.reader c
-            → ConfirmsBoth (2 ^ 64 < self.old.session.number + 1 + numbers (onto_commands (c ∷ []) (end_reading end))) false result
-            A.seen C.seen answers.old answers.new steps.old steps.new self.old.session self.new.session
+            → ConfirmsBoth (2 ^ 64 < self.old.session.number + 1 + numbers (onto_commands (c ∷ []) (end_reading end)))
+            false result A.seen C.seen answers.old answers.new steps.old steps.new self.old.session self.new.session
             (λ before behind u v. ConfirmsLast (self.old.session.number + 1) (onto_commands (c ∷ []) (end_reading end))
             (table_of self.old.session.matching) before u) }
     {
@@ -83,7 +84,8 @@ impl Confirmation {
         requires reads { ReaderMeans self.old.script.reader reading }
         ensures same { SameLoan steps.old steps.new }
         ensures bound { IsReadFew C.seen steps.new }
-        ensures ends { ConfirmsScript reading result (confirm_place S.seen A.seen C.seen script.old answers.old steps.old self.old)
+        ensures ends { ConfirmsScript reading result
+            (confirm_place S.seen A.seen C.seen script.old answers.old steps.old self.old)
             (confirm_place S.seen A.seen C.seen script.new answers.new steps.new self.new) }
     {
         loop {

@@ -96,7 +96,8 @@ fn compare_no_name(known: Known<'_>, step: &ProofStep<'_>, name: Var) -> Option<
     None
 }
 
-/// Whether the step adds a clause with the literals of the script's, in whatever order and however often: nothing, or why not.
+/// Whether the step adds a clause with the literals of the script's, in whatever order and however often: nothing, or
+/// why not.
 fn compare_clause(
     known: Known<'_>,
     step: &ProofStep<'_>,
@@ -112,7 +113,8 @@ fn compare_clause(
     Ok(unless(same, Why::ClauseDiffers))
 }
 
-/// Whether the step sets the literals of the ask as assumptions, in whatever order and however often: nothing, or why not.
+/// Whether the step sets the literals of the ask as assumptions, in whatever order and however often: nothing, or why
+/// not.
 fn compare_ask(
     known: Known<'_>,
     step: &ProofStep<'_>,

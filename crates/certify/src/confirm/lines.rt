@@ -8,7 +8,8 @@ use crate::script::ahead::Ahead;
 use sat_base::{CountedRead, ReadError};
 use std::alloc::{AllocError, Global};
 
-/// So many bytes without LF are looked at whenever more of them have come, and more than those whenever they have doubled.
+/// So many bytes without LF are looked at whenever more of them have come, and more than those whenever they have
+/// doubled.
 const HELD: usize = 1024;
 
 /// Which lines may stand where the next one is read.
@@ -97,8 +98,8 @@ impl Lines {
         Ok(whole)
     }
 
-    /// Reads the next line, or what is left of the text where no LF comes. Bytes without LF that begin no line which may
-    /// stand there are as good as a line: a line that is due, or in form, is held, and at most as much again.
+    /// Reads the next line, or what is left of the text where no LF comes. Bytes without LF that begin no line which
+    /// may stand there are as good as a line: a line that is due, or in form, is held, and at most as much again.
     pub fn next<A: CountedRead>(
         &mut self,
         answers: &mut A,

@@ -109,8 +109,9 @@ impl Matching {
         ensures changes { OnOk result (Changes self.old.names self.new.names
             (taken_by (kind_of kind) (names_of (named_literals literals.now)))) }
         ensures confirms { Confirms result (stream_of R.seen steps.old (kernel_of self.old.certificate.checker))
-            (stream_of R.seen steps.new (kernel_of self.new.certificate.checker)) (MeetsNames (kind_of kind)
-            (names_of (named_literals literals.now)) self.old.names self.old.certificate.names self.new.certificate.names) }
+            (stream_of R.seen steps.new (kernel_of self.new.certificate.checker))
+            (MeetsNames (kind_of kind) (names_of (named_literals literals.now)) self.old.names
+            self.old.certificate.names self.new.certificate.names) }
     {
         for lit in literals {
             self.take_name(steps, kind, lit.var())?;

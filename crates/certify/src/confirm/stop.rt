@@ -83,8 +83,8 @@ pub(crate) fn unread(error: StepError) -> Stop
     }
 }
 
-/// Why a step wasn't accepted. A checker that goes on answers one of the first three; nobody listens to this one, so the last never
-/// comes.
+/// Why a step wasn't accepted. A checker that goes on answers one of the first three; nobody listens to this one, so
+/// the last never comes.
 pub(crate) fn refused(error: CheckerError) -> Stop
     ensures { result ≡ stop_by error }
 {

@@ -3,9 +3,11 @@ ghost use Rattle.std.specs.Prelude.{◌≡◌, ◌+◌, ◌<◌, ◌≤◌, List
 ghost use Rattle.std.specs.Bool.{MatchBool};
 ghost use Rattle.sat_base.specs.values.Literals.{largest};
 ghost use Rattle.sat_base.specs.script.Script.{Command as Spelled, Literal, names_of};
-ghost use Rattle.sat_base.specs.script.Judge.{Judge, accepted, bring_in, names_from, new_names, refused_literal, start, with_mode, without_name};
+ghost use Rattle.sat_base.specs.script.Judge.{Judge, accepted, bring_in, names_from, new_names, refused_literal, start};
+ghost use Rattle.sat_base.specs.script.Judge.{with_mode, without_name};
 ghost use Rattle.certify.specs.script.Commands.{IsFront, IsLent, kind_of};
-ghost use Rattle.certify.specs.judge.Names.{Changes, IsInUse, ListsUsed, changed, TellsRefusal, NamesStand, is_witnessed, limit_refusal, mode_of_state, refusal_said, state_in, taken};
+ghost use Rattle.certify.specs.judge.Names.{Changes, IsInUse, ListsUsed, changed, TellsRefusal, NamesStand};
+ghost use Rattle.certify.specs.judge.Names.{is_witnessed, limit_refusal, mode_of_state, refusal_said, state_in, taken};
 
 use super::{NameState, Refusal};
 use crate::script::{Command, CommandKind};
@@ -98,10 +100,11 @@ impl Names {
         }
     }
 
-    /// The names that become new variables where this one is brought in, in order: all from the first never used up to it, or a hidden
-    /// one itself.
+    /// The names that become new variables where this one is brought in, in order: all from the first never used up to
+    /// it, or a hidden one itself.
     pub fn new_names(&self, var: Var) -> NewNames
-        ensures told { (j : Judge) → NamesStand self.now j → new_names (var + 1) j ≡ names_from result.count (result.first + 1) }
+        ensures told { (j : Judge) → NamesStand self.now j
+            → new_names (var + 1) j ≡ names_from result.count (result.first + 1) }
         ensures within { result.first + result.count ≤ largest }
     {
         let index = var.index();
@@ -224,7 +227,8 @@ impl Names {
     /// What a command that isn't refused makes of all its names.
     pub fn accept(&mut self, command: Command<'_>) -> Result<(), AllocError>
         requires { command.past_limit ≡ false }
-        ensures { OnOk result ((j : Judge) (c : Spelled) → NamesStand self.old j → IsLent command.entry c → NamesStand self.new (accepted c j)) }
+        ensures { OnOk result ((j : Judge) (c : Spelled) → NamesStand self.old j → IsLent command.entry c
+            → NamesStand self.new (accepted c j)) }
     {
         for lit in command.literals {
             self.take(command.kind, lit.var())?;

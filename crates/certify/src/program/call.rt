@@ -78,7 +78,8 @@ fn hints_of<'a>(name: &str, certificate: &'a str, hints: &'a str) -> Option<Call
 
 /// `run S A C` or `confirm S A C`.
 fn call_on<'a>(name: &str, files: RunFiles<'a>) -> Option<Call<'a>>
-    ensures { IsCallOf (name.now ∷ files.entry.script.now ∷ files.entry.answers.now ∷ files.entry.certificate.now ∷ []) result }
+    ensures { IsCallOf (name.now ∷ files.entry.script.now ∷ files.entry.answers.now ∷ files.entry.certificate.now ∷ [])
+        result }
 {
     match name {
         "run" => run_of(files, u64::MAX),
@@ -89,7 +90,8 @@ fn call_on<'a>(name: &str, files: RunFiles<'a>) -> Option<Call<'a>>
 
 /// `run S A C STEPS`
 fn limited_run<'a>(name: &str, files: RunFiles<'a>, steps: &str) -> Option<Call<'a>>
-    ensures { IsCallOf (name.now ∷ files.entry.script.now ∷ files.entry.answers.now ∷ files.entry.certificate.now ∷ steps.now ∷ []) result }
+    ensures { IsCallOf (name.now ∷ files.entry.script.now ∷ files.entry.answers.now ∷ files.entry.certificate.now
+        ∷ steps.now ∷ []) result }
 {
     if name != "run" {
         return None;
@@ -100,8 +102,8 @@ fn limited_run<'a>(name: &str, files: RunFiles<'a>, steps: &str) -> Option<Call<
     }
 }
 
-/// The call that these words are, if they are one with files. None writes over what it reads: an output with the word of its input is no
-/// call.
+/// The call that these words are, if they are one with files. None writes over what it reads: an output with the word
+/// of its input is no call.
 pub(super) fn call_of(words: &[String]) -> Option<Call<'_>>
     ensures { IsCallOf (map string_bytes words.now) result }
 {

@@ -1,6 +1,7 @@
 //! The line that is printed of a hint text, and the status behind it.
 ghost use Rattle.std.specs.Prelude.{◌≡◌, ◌≤◌, ◌↔◌, ◌++◌, OnOk, true};
-ghost use Rattle.certify.specs.program.HintPrinting.{bad_text, digit_of, hint_verdict_text, hint_why_text, is_proved, proved_text};
+ghost use Rattle.certify.specs.program.HintPrinting.{bad_text, digit_of, hint_verdict_text, hint_why_text, is_proved};
+ghost use Rattle.certify.specs.program.HintPrinting.{proved_text};
 
 use crate::answers::write::push_number;
 use crate::program::printing::{DONE, REFUSED};

@@ -56,7 +56,8 @@ pub(super) fn answer<I: CountedRead, O: CountedWrite, E: CountedWrite>(
     errors: &mut E,
 ) -> Result<u8, Fault>
     ensures small { HasStatus result }
-    ensures printed { IfOk result (λ s. PrintsVerdict s (gave I.seen input.old input.new) (took O.seen output.old output.new)) }
+    ensures printed { IfOk result (λ s. PrintsVerdict s (gave I.seen input.old input.new)
+        (took O.seen output.old output.new)) }
 {
     let script = read_whole(alloc, input)?;
     let written = run_in_memory(alloc, &script)?;

@@ -55,7 +55,8 @@ fn print_yes_or_no<O: CountedWrite>(
     output: &mut O,
 ) -> Result<u8, Fault>
     ensures small { HasStatus result }
-    ensures printed { IfOk result (λ s. PrintsLine s (yes_or_no_text verdict) (verdict ≡ Yes) (O.seen output.old) (O.seen output.new)) }
+    ensures printed { IfOk result (λ s. PrintsLine s (yes_or_no_text verdict) (verdict ≡ Yes) (O.seen output.old)
+        (O.seen output.new)) }
 {
     let mut line = Vec::new(alloc);
     if push_yes_or_no(&mut line, verdict).is_err() {
@@ -74,8 +75,9 @@ pub(super) fn confirm_given<S: CountedRead, A: CountedRead, C: CountedRead, O: C
     output: &mut O,
 ) -> Result<u8, Fault>
     ensures small { HasStatus result }
-    ensures printed { IfOk result (λ s. PrintsYesOrNo s (gave S.seen script.old script.new) (gave A.seen answers.old answers.new)
-        (gave C.seen certificate.old certificate.new) (took O.seen output.old output.new)) }
+    ensures printed { IfOk result (λ s. PrintsYesOrNo s (gave S.seen script.old script.new)
+        (gave A.seen answers.old answers.new) (gave C.seen certificate.old certificate.new)
+        (took O.seen output.old output.new)) }
 {
     let mut looks = Looks::new();
     let verdict = confirm(alloc, script, answers, certificate, &mut looks)?;
@@ -90,7 +92,8 @@ pub(super) fn write_hints<C: CountedRead, H: CountedWrite, E: CountedWrite>(
     errors: &mut E,
 ) -> Result<u8, Fault>
     ensures small { HasStatus result }
-    ensures written { IfOk result (λ s. WritesHints s (gave C.seen certificate.old certificate.new) (took H.seen hints.old hints.new)) }
+    ensures written { IfOk result (λ s. WritesHints s (gave C.seen certificate.old certificate.new)
+        (took H.seen hints.old hints.new)) }
 {
     match convert(alloc, certificate, hints) {
         Ok(()) => finish_hints(hints),
@@ -145,7 +148,8 @@ pub(super) fn check_text<H: CountedRead, O: CountedWrite>(
     output: &mut O,
 ) -> Result<u8, Fault>
     ensures small { HasStatus result }
-    ensures printed { IfOk result (λ s. PrintsHintVerdict s (gave H.seen text.old text.new) (took O.seen output.old output.new)) }
+    ensures printed { IfOk result (λ s. PrintsHintVerdict s (gave H.seen text.old text.new)
+        (took O.seen output.old output.new)) }
 {
     let verdict = check(alloc, text)?;
     print_hint_verdict(alloc, verdict, output)

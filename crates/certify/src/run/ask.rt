@@ -26,12 +26,14 @@ fn ask<C: CountedWrite + Drop>(
 ) -> Result<AskReport, RunFault>
     requires ready { IsReady solver.old }
     requires allowed { IsAllowed solver.old literals.now }
-    ensures sought { IfOk result (λ report. Sought C.seen budget report literals.now page.new.text.items solver.old solver.new) }
+    ensures sought { IfOk result (λ report. Sought C.seen budget report literals.now page.new.text.items solver.old
+        solver.new) }
     ensures ready { OnOk result (IsReady solver.new) }
     // No name is refused where there is none.
     ensures allowed { OnOk result (IsAllowed solver.new []) }
     ensures fails { FailsIf result C.seen solver.old solver.new }
-    ensures cause { IfErr result (λ e. IsCaused e (HasFullStore solver.new) (NeedsMore solver.old (Ask (named_literals literals.now)))) }
+    ensures cause { IfErr result (λ e. IsCaused e (HasFullStore solver.new)
+        (NeedsMore solver.old (Ask (named_literals literals.now)))) }
 {
     assume(solver, literals)?;
     let report = search(solver, budget)?;
@@ -50,10 +52,12 @@ pub fn answer_ask<A: CountedWrite, C: CountedWrite + Drop>(
     ensures carried { OnOk result (CarriedOut C.seen session.old session.new (Ask (named_literals literals.now))
         (A.seen answers.old) (A.seen answers.new)) }
     ensures stops { (left : Reading)
-        → StopsCarrying result session.old (Ask (named_literals literals.now)) left (A.seen answers.old) (A.seen answers.new) }
+        → StopsCarrying result session.old (Ask (named_literals literals.now)) left (A.seen answers.old)
+        (A.seen answers.new) }
     ensures cause { CausedBy result session.old session.new (Ask (named_literals literals.now)) }
     ensures names { session.new.names ≡ session.old.names }
-    ensures written { WritesBoth result C.seen (A.seen answers.old) (A.seen answers.new) session.old.solver session.new.solver }
+    ensures written { WritesBoth result C.seen (A.seen answers.old) (A.seen answers.new) session.old.solver
+        session.new.solver }
 {
     let report = ask(
         &mut session.solver,

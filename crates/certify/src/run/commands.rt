@@ -5,7 +5,8 @@ ghost use Rattle.sat_base.specs.script.Script.{Command as Spelled};
 ghost use Rattle.sat_base.specs.script.Judge.{Judge, accepted};
 ghost use Rattle.certify.specs.judge.Names.{NamesStand};
 ghost use Rattle.certify.specs.script.Commands.{IsLent, IsSomeLent};
-ghost use Rattle.certify.specs.run.Standing.{NamesAllow, CarriedOut, CausedBy, CausedOver, RunGoesOn, ServedNext, StopsCarrying, StopsOver, WritesBoth, spelled_by};
+ghost use Rattle.certify.specs.run.Standing.{NamesAllow, CarriedOut, CausedBy, CausedOver, RunGoesOn, ServedNext};
+ghost use Rattle.certify.specs.run.Standing.{StopsCarrying, StopsOver, WritesBoth, spelled_by};
 
 use super::ask::answer_ask;
 use super::names::set_names;
@@ -25,11 +26,14 @@ fn carry_out<A: CountedWrite, C: CountedWrite + Drop>(
 ) -> Result<(), RunFault>
     requires goes_on { RunGoesOn session.old }
     requires allowed { NamesAllow session.old.names (spelled_by command) }
-    ensures carried { OnOk result (CarriedOut C.seen session.old session.new (spelled_by command.entry) (A.seen answers.old) (A.seen answers.new)) }
-    ensures stops { (left : Reading) → StopsCarrying result session.old (spelled_by command.entry) left (A.seen answers.old) (A.seen answers.new) }
+    ensures carried { OnOk result (CarriedOut C.seen session.old session.new (spelled_by command.entry)
+        (A.seen answers.old) (A.seen answers.new)) }
+    ensures stops { (left : Reading)
+        → StopsCarrying result session.old (spelled_by command.entry) left (A.seen answers.old) (A.seen answers.new) }
     ensures cause { CausedBy result session.old session.new (spelled_by command.entry) }
     ensures names { session.new.names ≡ session.old.names }
-    ensures written { WritesBoth result C.seen (A.seen answers.old) (A.seen answers.new) session.old.solver session.new.solver }
+    ensures written { WritesBoth result C.seen (A.seen answers.old) (A.seen answers.new) session.old.solver
+        session.new.solver }
 {
     match command.kind {
         CommandKind::Clause => add_clause(&mut session.solver, command.literals),
@@ -51,12 +55,15 @@ fn take_allowed<A: CountedWrite, C: CountedWrite + Drop>(
     requires goes_on { RunGoesOn session.old }
     requires allowed { NamesAllow session.old.names (spelled_by command) }
     requires within { command.past_limit ≡ false }
-    ensures carried { OnOk result (CarriedOut C.seen session.old session.new (spelled_by command.entry) (A.seen answers.old) (A.seen answers.new)) }
-    ensures stops { (left : Reading) → StopsCarrying result session.old (spelled_by command.entry) left (A.seen answers.old) (A.seen answers.new) }
+    ensures carried { OnOk result (CarriedOut C.seen session.old session.new (spelled_by command.entry)
+        (A.seen answers.old) (A.seen answers.new)) }
+    ensures stops { (left : Reading)
+        → StopsCarrying result session.old (spelled_by command.entry) left (A.seen answers.old) (A.seen answers.new) }
     ensures cause { CausedBy result session.old session.new (spelled_by command.entry) }
     ensures names { OnOk result ((j : Judge) (c : Spelled) → NamesStand session.old.names j → IsLent command.entry c
         → NamesStand session.new.names (accepted c j)) }
-    ensures written { WritesBoth result C.seen (A.seen answers.old) (A.seen answers.new) session.old.solver session.new.solver }
+    ensures written { WritesBoth result C.seen (A.seen answers.old) (A.seen answers.new) session.old.solver
+        session.new.solver }
 {
     carry_out(session, answers, command)?;
     session.names.accept(command)?;
@@ -78,7 +85,8 @@ pub fn take_command<A: CountedWrite, C: CountedWrite + Drop>(
         → StopsOver result session.old (onto_commands (c ∷ []) left) (A.seen answers.old) (A.seen answers.new) }
     ensures cause { (c : Spelled) → IsLent command.entry c → (left : Reading)
         → CausedOver result session.old session.new (onto_commands (c ∷ []) left) }
-    ensures written { WritesBoth result C.seen (A.seen answers.old) (A.seen answers.new) session.old.solver session.new.solver }
+    ensures written { WritesBoth result C.seen (A.seen answers.old) (A.seen answers.new) session.old.solver
+        session.new.solver }
 {
     session.commands += 1;
     match session.names.refusal(command) {

@@ -22,12 +22,15 @@ pub fn refuse<A: CountedWrite, C: CountedWrite + Drop>(
     refusal: Refusal,
 ) -> Result<(), RunFault>
     requires { session.old.refused < session.old.commands }
-    ensures refused { OnOk result (Refused session.old session.new (refusal_in refusal) (A.seen answers.old) (A.seen answers.new)) }
+    ensures refused { OnOk result (Refused session.old session.new (refusal_in refusal) (A.seen answers.old)
+        (A.seen answers.new)) }
     ensures stops { (j : Judge) (c : Spelled) (left : Reading) → refusal_of j c ≡ Some (refusal_in refusal)
-        → OnErr result (TookAnswersFront session.old.commands j (onto_commands (c ∷ []) left) (A.seen answers.old) (A.seen answers.new)) }
+        → OnErr result (TookAnswersFront session.old.commands j (onto_commands (c ∷ []) left) (A.seen answers.old)
+        (A.seen answers.new)) }
     // No clause is stored, and no name comes in.
     ensures cause { IfErr result (λ e. IsCaused e ⊥ ⊥) }
-    ensures written { WritesBoth result C.seen (A.seen answers.old) (A.seen answers.new) session.old.solver session.new.solver }
+    ensures written { WritesBoth result C.seen (A.seen answers.old) (A.seen answers.new) session.old.solver
+        session.new.solver }
 {
     session.refused += 1;
     session.page.text.clear();

@@ -46,7 +46,8 @@ fn serve_next<A: CountedWrite, C: CountedWrite + Drop>(
         → StopsOver result session.old (onto_commands (c ∷ []) left) (A.seen answers.old) (A.seen answers.new) }
     ensures cause { (c : Spelled) → IsLent command.entry c → (left : Reading)
         → CausedOver result session.old session.new (onto_commands (c ∷ []) left) }
-    ensures written { WritesBoth result C.seen (A.seen answers.old) (A.seen answers.new) session.old.solver session.new.solver }
+    ensures written { WritesBoth result C.seen (A.seen answers.old) (A.seen answers.new) session.old.solver
+        session.new.solver }
 {
     if session.commands == u64::MAX {
         return Err(RunFault::CounterEnd);
@@ -62,9 +63,11 @@ fn tell_malformed<A: CountedWrite, C: CountedWrite + Drop>(
 ) -> Result<(), RunFault>
     ensures told { OnOk result (WriterTakes (A.seen answers.old) (A.seen answers.new) (malformed_line number)) }
     ensures same { session.new ≡ record session.old { page = session.new.page } }
-    ensures stops { (j : Judge) → OnErr result (TookAnswersFront number j ([], Malformed) (A.seen answers.old) (A.seen answers.new)) }
+    ensures stops { (j : Judge) → OnErr result
+        (TookAnswersFront number j ([], Malformed) (A.seen answers.old) (A.seen answers.new)) }
     ensures cause { IfErr result (λ e. IsCaused e ⊥ ⊥) }
-    ensures written { WritesBoth result C.seen (A.seen answers.old) (A.seen answers.new) session.old.solver session.new.solver }
+    ensures written { WritesBoth result C.seen (A.seen answers.old) (A.seen answers.new) session.old.solver
+        session.new.solver }
 {
     session.page.text.clear();
     push_malformed(&mut session.page.text, number)?;
@@ -79,11 +82,13 @@ fn serve_end<A: CountedWrite, C: CountedWrite + Drop>(
 ) -> Result<Option<u64>, RunFault>
     requires { RunGoesOn session.old }
     ensures serves { (j : Judge) → JudgeIsAt session.old j
-        → IfOk result (λ at. ServesWhole C.seen j (end_reading end) 0 at session.old session.new (A.seen answers.old) (A.seen answers.new)) }
+        → IfOk result (λ at. ServesWhole C.seen j (end_reading end) 0 at session.old session.new (A.seen answers.old)
+        (A.seen answers.new)) }
     ensures stops { StopsOver result session.old (end_reading end) (A.seen answers.old) (A.seen answers.new) }
     ensures cause { CausedOver result session.old session.new (end_reading end) }
     ensures ready { OnOk result (IsReady session.new.solver) }
-    ensures written { WritesBoth result C.seen (A.seen answers.old) (A.seen answers.new) session.old.solver session.new.solver }
+    ensures written { WritesBoth result C.seen (A.seen answers.old) (A.seen answers.new) session.old.solver
+        session.new.solver }
 {
     match end {
         ScriptEnd::Clean => Ok(None),
@@ -111,14 +116,16 @@ fn serve_last<A: CountedWrite, C: CountedWrite + Drop>(
     requires goes_on { RunGoesOn session.old }
     requires whole { IsSomeLent command }
     ensures serves { (c : Spelled) → IsLent command.entry c → (j : Judge) → JudgeIsAt session.old j
-        → IfOk result (λ at. ServesWhole C.seen j (onto_commands (c ∷ []) (end_reading end)) 1 at session.old session.new
-        (A.seen answers.old) (A.seen answers.new)) }
+        → IfOk result (λ at. ServesWhole C.seen j (onto_commands (c ∷ []) (end_reading end)) 1 at session.old
+        session.new (A.seen answers.old) (A.seen answers.new)) }
     ensures stops { (c : Spelled) → IsLent command.entry c
-        → StopsOver result session.old (onto_commands (c ∷ []) (end_reading end)) (A.seen answers.old) (A.seen answers.new) }
+        → StopsOver result session.old (onto_commands (c ∷ []) (end_reading end)) (A.seen answers.old)
+        (A.seen answers.new) }
     ensures cause { (c : Spelled) → IsLent command.entry c
         → CausedOver result session.old session.new (onto_commands (c ∷ []) (end_reading end)) }
     ensures ready { OnOk result (IsReady session.new.solver) }
-    ensures written { WritesBoth result C.seen (A.seen answers.old) (A.seen answers.new) session.old.solver session.new.solver }
+    ensures written { WritesBoth result C.seen (A.seen answers.old) (A.seen answers.new) session.old.solver
+        session.new.solver }
 {
     serve_next(session, answers, command)?;
     serve_end(session, answers, end)
@@ -137,7 +144,8 @@ pub(crate) fn serve_all<S: CountedRead, A: CountedWrite, C: CountedWrite + Drop>
     requires means { ReaderMeans stream.old.reader reading }
     requires counts { MeansIf false stream.old.reader written }
     ensures { ServesScript C.seen start reading written result (source_in S.seen script.old stream.old.ahead)
-        (source_in S.seen script.new stream.new.ahead) session.old session.new (A.seen answers.old) (A.seen answers.new) }
+        (source_in S.seen script.new stream.new.ahead) session.old session.new (A.seen answers.old)
+        (A.seen answers.new) }
 {
     loop {
         let next = match stream.next(script) {

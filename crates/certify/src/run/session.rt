@@ -16,7 +16,8 @@ use sat_base::CountedWrite;
 use sat_solver::{ProofFormat, Solver, SolverConfigUpdate};
 use std::alloc::Global;
 
-/// Rounds between reductions of the clauses of tier Local, a seventh of a solver's default: half as many clauses are watched.
+/// Rounds between reductions of the clauses of tier Local, a seventh of a solver's default: half as many clauses are
+/// watched.
 const REDUCE_LOCALS_INTERVAL: u64 = 2_000;
 
 /// What a run holds between commands.
@@ -38,7 +39,8 @@ fn solver_into<C: CountedWrite + Drop>(alloc: Global, certificate: C) -> Solver<
     ensures ready { IsReady result }
     ensures agree { Agree result.names [] start [] }
     ensures steps { steps_in result ≡ [] }
-    ensures target { target_of C.seen (proof_in result) ≡ Open ProofFormat.Varisat uncounted (empty_sink (C.seen certificate)) }
+    ensures target { target_of C.seen (proof_in result)
+        ≡ Open ProofFormat.Varisat uncounted (empty_sink (C.seen certificate)) }
     ensures rounds { result.clock.steps ≡ 0 }
     ensures free { result.assumed.items ≡ [] }
 {
@@ -58,7 +60,8 @@ impl<C: CountedWrite + Drop> Session<C> {
         ensures goes_on { RunGoesOn result }
         ensures at { JudgeIsAt result start }
         ensures steps { steps_in result.solver ≡ [] }
-        ensures target { target_of C.seen (proof_in result.solver) ≡ Open ProofFormat.Varisat uncounted (empty_sink (C.seen certificate)) }
+        ensures target { target_of C.seen (proof_in result.solver)
+            ≡ Open ProofFormat.Varisat uncounted (empty_sink (C.seen certificate)) }
         ensures rounds { result.solver.clock.steps ≡ 0 }
         ensures budget { result.budget ≡ budget }
         ensures commands { result.commands ≡ 0 }

@@ -3,7 +3,8 @@ ghost use Rattle.std.specs.Prelude.{IfOk, IfErr, OnOk};
 ghost use Rattle.sat_solver.specs.variables.Room.{users_in};
 ghost use Rattle.sat_solver.specs.solver.Adding.{Added, ReplacesAssumptions};
 ghost use Rattle.sat_solver.specs.solver.Whole.{HasFullStore};
-ghost use Rattle.certify.specs.run.SolverCalls.{FailsIf, IsAllowed, IsCaused, IsReady, LacksRoom, Limited, Searched, Solved};
+ghost use Rattle.certify.specs.run.SolverCalls.{FailsIf, IsAllowed, IsCaused, IsReady, LacksRoom, Limited, Searched};
+ghost use Rattle.certify.specs.run.SolverCalls.{Solved};
 
 use super::faults::{fault_of, is_interrupted};
 use crate::fault::RunFault;
@@ -20,7 +21,8 @@ pub fn add_clause<C: CountedWrite + Drop>(
     requires allowed { IsAllowed solver.old literals.now }
     ensures added { OnOk result (Added C.seen solver.old solver.new literals.now) }
     ensures fails { FailsIf result C.seen solver.old solver.new }
-    ensures cause { IfErr result (λ e. IsCaused e (HasFullStore solver.new) (LacksRoom solver.old (users_in literals.now))) }
+    ensures cause { IfErr result (λ e. IsCaused e (HasFullStore solver.new)
+        (LacksRoom solver.old (users_in literals.now))) }
 {
     match solver.add_clause(literals) {
         Ok(()) => Ok(()),

@@ -9,7 +9,8 @@ use sat_base::CountedWrite;
 /// Writes a text of the answers.
 pub fn write_answer<A: CountedWrite>(answers: &mut A, text: &[u8]) -> Result<(), RunFault>
     ensures takes { OnOk result (WriterTakes (A.seen answers.old) (A.seen answers.new) text.now) }
-    ensures fails { IfErr result (λ e. (e ≡ RunFault.AnswersWrite) × OneFailed (A.seen answers.old) (A.seen answers.new)) }
+    ensures fails { IfErr result (λ e. (e ≡ RunFault.AnswersWrite)
+        × OneFailed (A.seen answers.old) (A.seen answers.new)) }
     ensures breaks { OnErr result (WriterBreaks (A.seen answers.old) (A.seen answers.new) text.now) }
 {
     match answers.write_all_counted(text) {

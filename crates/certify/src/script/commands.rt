@@ -3,7 +3,8 @@ ghost use Rattle.std.specs.Prelude.{◌≡◌, ◌<◌, ◌&&◌, ◌||◌, ℕ,
 ghost use Rattle.sat_base.specs.text.Text.{Token as Spelled, Letter, Number};
 ghost use Rattle.sat_base.specs.text.Tokenizing.{held, held_token};
 ghost use Rattle.sat_base.specs.script.Language.{CommandHand, Nothing, may_stand};
-ghost use Rattle.certify.specs.script.Commands.{BeginsKind, EndsSo, HoldsHand, TakesToken, end_if, is_ask_kind, kind_of, meaning};
+ghost use Rattle.certify.specs.script.Commands.{BeginsKind, EndsSo, HoldsHand, TakesToken, end_if, is_ask_kind};
+ghost use Rattle.certify.specs.script.Commands.{kind_of, meaning};
 
 use super::draft::Draft;
 use super::{CommandKind, Reached, ScriptEnd};
@@ -88,7 +89,8 @@ impl Commands {
     #[inline(always)]
     fn add_literal(&mut self, name: u64, negative: bool) -> Result<Reached, AllocError>
         requires { 0 < name }
-        ensures { IfOk result (λ reached. (value : ℕ) → name ≡ held value → TakesToken reached self.old (Number negative value) self.new) }
+        ensures { IfOk result (λ reached. (value : ℕ) → name ≡ held value
+            → TakesToken reached self.old (Number negative value) self.new) }
     {
         self.draft.open();
         if !may_stand(self.draft.kind, !negative) {
@@ -115,7 +117,8 @@ impl Commands {
     /// The next token.
     #[inline(always)]
     pub fn take(&mut self, token: Token) -> Result<Reached, AllocError>
-        ensures { IfOk result (λ reached. (t : Spelled) → token ≡ held_token t → TakesToken reached self.old t self.new) }
+        ensures { IfOk result (λ reached. (t : Spelled) → token ≡ held_token t
+            → TakesToken reached self.old t self.new) }
     {
         match token {
             Token::Number { negative, value } => {
@@ -143,7 +146,8 @@ impl Commands {
 
     /// How a script ends behind a whole command, or with one in hand.
     pub fn ending(&self) -> ScriptEnd
-        ensures { (asks : Bool) (hand : CommandHand) → HoldsHand self.now.draft hand → end_if asks result ≡ meaning asks self.now hand [] }
+        ensures { (asks : Bool) (hand : CommandHand) → HoldsHand self.now.draft hand
+            → end_if asks result ≡ meaning asks self.now hand [] }
     {
         if self.draft.is_open {
             return ScriptEnd::Malformed;
@@ -156,7 +160,8 @@ impl Commands {
 
     /// The last token, which the end of the text ended. It may be a zero, which completes a command.
     pub fn finish_with(&mut self, token: Token) -> (bool, ScriptEnd)
-        ensures { (t : Spelled) → token ≡ held_token t → (asks : Bool) (hand : CommandHand) → HoldsHand self.old.draft hand
+        ensures { (t : Spelled) → token ≡ held_token t → (asks : Bool) (hand : CommandHand)
+            → HoldsHand self.old.draft hand
             → EndsSo asks result.0 result.1 self.new (meaning asks self.old hand (t ∷ [])) }
     {
         match token {

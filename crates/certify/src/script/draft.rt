@@ -47,8 +47,8 @@ impl Draft {
     #[inline(always)]
     pub fn add(&mut self, name: u64, positive: bool) -> Result<(), AllocError>
         requires { 0 < name }
-        ensures { OnOk result ((kind : Kind) (ls : List Literal) (l : Literal)
-            → IsNumbered l name positive → HoldsHand self.old (Within kind ls) → HoldsHand self.new (Within kind (ls ++ l ∷ []))) }
+        ensures { OnOk result ((kind : Kind) (ls : List Literal) (l : Literal) → IsNumbered l name positive
+            → HoldsHand self.old (Within kind ls) → HoldsHand self.new (Within kind (ls ++ l ∷ []))) }
     {
         if self.past_limit {
             return Ok(());

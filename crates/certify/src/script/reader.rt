@@ -9,8 +9,8 @@ use super::{Command, Reached, ScriptEnd};
 use sat_base::Tokenizer;
 use std::alloc::{AllocError, Global};
 
-/// Takes the bytes of a script in any pieces, and lends each command as soon as it is complete. It holds no bytes, and of the
-/// commands only the one in hand. Behind malformed text it isn't asked again.
+/// Takes the bytes of a script in any pieces, and lends each command as soon as it is complete. It holds no bytes, and
+/// of the commands only the one in hand. Behind malformed text it isn't asked again.
 #[derive(Drop)]
 pub struct ScriptReader {
     tokenizer: Tokenizer,
@@ -40,7 +40,8 @@ impl ScriptReader {
         }
     }
 
-    /// Takes bytes up to the one that completes a command or makes the text malformed, or all. Says how many, and what it came to.
+    /// Takes bytes up to the one that completes a command or makes the text malformed, or all. Says how many, and what
+    /// it came to.
     pub fn push(&mut self, bytes: &[u8]) -> Result<(usize, Reached), AllocError>
         ensures within { IfOk result (λ r. r.0 ≤ length bytes.now) }
         ensures some { IfOk result (λ r. 0 < length bytes.now → 0 < r.0) }
@@ -71,7 +72,8 @@ impl ScriptReader {
 
     /// The text ends here. Says whether that completes a command, and how the script ends.
     pub fn finish(&mut self) -> (bool, ScriptEnd)
-        ensures { (asks : Bool) (before : List ℕ → Reading) → MeansIf asks self.old before → EndsLast asks result.0 result.1 self.new (before []) }
+        ensures { (asks : Bool) (before : List ℕ → Reading) → MeansIf asks self.old before
+            → EndsLast asks result.0 result.1 self.new (before []) }
     {
         match self.tokenizer.finish() {
             None => (false, self.commands.ending()),

@@ -75,8 +75,8 @@ impl CommandStream {
     /// Reads the next bytes, where none wait. `None`: some came.
     fn refill<S: CountedRead>(&mut self, script: &mut S) -> Result<Option<Next>, ReadError>
         requires { waiting self.old.ahead ≡ [] }
-        ensures brings { Brings result (source_in S.seen script.old self.old.ahead) (source_in S.seen script.new self.new.ahead)
-            self.old.reader self.new.reader }
+        ensures brings { Brings result (source_in S.seen script.old self.old.ahead)
+            (source_in S.seen script.new self.new.ahead) self.old.reader self.new.reader }
         ensures falls { LeavesFewerRounds result self.old.ahead self.new.ahead }
     {
         if self.ahead.refill(script)? == 0 {
@@ -88,8 +88,8 @@ impl CommandStream {
     /// Takes bytes that wait, or reads the next ones. `None`: nothing came of them yet.
     fn advance<S: CountedRead>(&mut self, script: &mut S) -> Result<Option<Next>, ReadError>
         requires { IsNotAtEnd (source_in S.seen script.old self.old.ahead) }
-        ensures brings { Brings result (source_in S.seen script.old self.old.ahead) (source_in S.seen script.new self.new.ahead)
-            self.old.reader self.new.reader }
+        ensures brings { Brings result (source_in S.seen script.old self.old.ahead)
+            (source_in S.seen script.new self.new.ahead) self.old.reader self.new.reader }
         ensures falls { LeavesFewerRounds result self.old.ahead self.new.ahead }
     {
         if self.ahead.waiting().is_empty() {
@@ -105,8 +105,8 @@ impl CommandStream {
     /// Reads on to the next command, or to the end.
     pub fn next<S: CountedRead>(&mut self, script: &mut S) -> Result<Next, ReadError>
         requires { IsNotAtEnd (source_in S.seen script.old self.old.ahead) }
-        ensures { NextComes result (source_in S.seen script.old self.old.ahead) (source_in S.seen script.new self.new.ahead)
-            self.old.reader self.new.reader }
+        ensures { NextComes result (source_in S.seen script.old self.old.ahead)
+            (source_in S.seen script.new self.new.ahead) self.old.reader self.new.reader }
     {
         loop {
             if let Some(next) = self.advance(script)? {

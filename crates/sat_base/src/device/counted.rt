@@ -10,8 +10,8 @@ use crate::device::{CountedRead, CountedWrite};
 use std::io;
 use std::io::{Read, Write};
 
-/// Any reader or writer, with a count of its calls and of those that failed, and with the bytes read and written, which contracts
-/// alone see.
+/// Any reader or writer, with a count of its calls and of those that failed, and with the bytes read and written, which
+/// contracts alone see.
 #[derive(Drop)]
 pub struct Counted<D> {
     device: D,
@@ -21,7 +21,8 @@ pub struct Counted<D> {
 impl<D> Counted<D> {
     pub fn new(device: D) -> Counted<D>
         ensures device { device_of result ≡ device }
-        ensures reader { (remaining : D → Option (List ℕ)) → reader_of remaining result ≡ new_reader (remaining device) }
+        ensures reader { (remaining : D → Option (List ℕ))
+            → reader_of remaining result ≡ new_reader (remaining device) }
         ensures writer { (contents : D → Option (List ℕ)) → writer_of contents result ≡ new_writer (contents device) }
     {
         Counted {
@@ -46,7 +47,8 @@ impl<D: Read> Read for Counted<D> {
 
     fn read(&mut self, buf: &mut [u8]) -> io::Result<usize>
         ensures bound { ReadsAtMost result buf.new }
-        ensures bytes { ReadConsumes (D.remaining (device_of self.old)) (D.remaining (device_of self.new)) result buf.new }
+        ensures bytes { ReadConsumes (D.remaining (device_of self.old)) (D.remaining (device_of self.new)) result
+            buf.new }
         ensures once { ReadsOnce result buf.new (reader_of D.remaining self.old) (reader_of D.remaining self.new) }
     {
         self.read_counted(buf)
@@ -74,7 +76,8 @@ impl<D: Write> Write for Counted<D> {
 
     fn write(&mut self, piece: &[u8]) -> io::Result<usize>
         ensures bound { WritesAtMost result piece.now }
-        ensures bytes { WriteAppends (D.contents (device_of self.old)) (D.contents (device_of self.new)) result piece.now }
+        ensures bytes { WriteAppends (D.contents (device_of self.old)) (D.contents (device_of self.new)) result
+            piece.now }
         ensures once { WritesOnce result piece.now (writer_of D.contents self.old) (writer_of D.contents self.new) }
     {
         self.write_counted(piece)

@@ -3,7 +3,8 @@ ghost use Rattle.std.specs.Prelude.{◌≡◌, ◌+◌, ◌++◌, ◌∷◌, [],
 
 use crate::device::pending::Pending;
 
-/// Room for some bytes, of which those that wait are the first. What is taken for a piece depends on how long it is kept.
+/// Room for some bytes, of which those that wait are the first. What is taken for a piece depends on how long it is
+/// kept.
 pub(crate) trait Room: Drop {
     ghost waiting: { Self → List ℕ };
 

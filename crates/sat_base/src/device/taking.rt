@@ -36,7 +36,8 @@ impl Ahead {
     #[inline(always)]
     pub(crate) fn byte_at(&self, at: usize) -> u8
         requires { at < self.now.end }
-        ensures { drop at (take self.now.end self.now.piece) ≡ result ∷ drop (at + 1) (take self.now.end self.now.piece) }
+        ensures { drop at (take self.now.end self.now.piece)
+            ≡ result ∷ drop (at + 1) (take self.now.end self.now.piece) }
     {
         self.piece[at]
     }

@@ -4,8 +4,8 @@ ghost use Rattle.std.specs.Borrow.{ftrue};
 
 use std::marker::Model;
 
-/// How many calls there were and how many of them failed, the bytes that reads gave and that writes took, and what the last call
-/// was. The counts have no largest value.
+/// How many calls there were and how many of them failed, the bytes that reads gave and that writes took, and what the
+/// last call was. The counts have no largest value.
 #[derive(Drop)]
 pub(crate) struct Tally {
     pub ghost calls: { ℕ },
@@ -27,7 +27,8 @@ impl Model for Tally {
 
 impl Tally {
     ghost use Rattle.std.specs.Prelude.{◌≡◌};
-    ghost use Rattle.sat_base.specs.device.Counting.{no_calls, after_read, after_end, after_write, after_flush, after_failure};
+    ghost use Rattle.sat_base.specs.device.Counting.{no_calls, after_read, after_end, after_write, after_flush};
+    ghost use Rattle.sat_base.specs.device.Counting.{after_failure};
 
     pub(crate) fn new() -> Tally
         ensures { result ≡ no_calls }

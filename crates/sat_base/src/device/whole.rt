@@ -64,18 +64,21 @@ impl Feed for Vec<u8> {
     }
 }
 
-/// Reads to the end, in pieces of at most 4,096 bytes, and feeds each as it comes. The first failed read ends it, and so does the
-/// first piece for which there is no memory.
+/// Reads to the end, in pieces of at most 4,096 bytes, and feeds each as it comes. The first failed read ends it, and
+/// so does the first piece for which there is no memory.
 pub fn read_into<R: CountedRead, F: Feed>(reader: &mut R, taker: &mut F) -> Result<(), ReadError>
     requires { F.was_fed taker.old [] }
-    ensures gave { OnOk result ((text : List ℕ) × GaveAll (R.seen reader.old) (R.seen reader.new) text × F.was_fed taker.new text) }
+    ensures gave { OnOk result ((text : List ℕ) × GaveAll (R.seen reader.old) (R.seen reader.new) text
+        × F.was_fed taker.new text) }
     ensures front { Grew (R.seen reader.old) (R.seen reader.new) }
     ensures kept { OnOk result ((R.seen reader.new).failures ≡ (R.seen reader.old).failures) }
     // None is tried again.
     ensures failed { IsErrOf result ReadError.Failed → ReadFails (R.seen reader.old) (R.seen reader.new) }
-    ensures memory { IsErrOf result ReadError.OutOfMemory → (R.seen reader.new).failures ≡ (R.seen reader.old).failures }
+    ensures memory { IsErrOf result ReadError.OutOfMemory
+        → (R.seen reader.new).failures ≡ (R.seen reader.old).failures }
     // Memory is asked for by bytes alone.
-    ensures some { IsErrOf result ReadError.OutOfMemory → length (R.seen reader.old).given < length (R.seen reader.new).given }
+    ensures some { IsErrOf result ReadError.OutOfMemory
+        → length (R.seen reader.old).given < length (R.seen reader.new).given }
     ensures reads { (R.seen reader.new).calls ≤ (R.seen reader.old).calls + most_reads }
 {
     let mut piece = [0; PIECE];
@@ -89,17 +92,19 @@ pub fn read_into<R: CountedRead, F: Feed>(reader: &mut R, taker: &mut F) -> Resu
     Err(ReadError::Failed)
 }
 
-/// Reads to the end, in pieces of at most 4,096 bytes, and gives all bytes. The first failed read ends it. After an error what was
-/// read is gone.
+/// Reads to the end, in pieces of at most 4,096 bytes, and gives all bytes. The first failed read ends it. After an
+/// error what was read is gone.
 pub fn read_whole<R: CountedRead>(alloc: Global, reader: &mut R) -> Result<Vec<u8>, ReadError>
     ensures gave { IfOk result (λ v. GaveAll (R.seen reader.old) (R.seen reader.new) v.items) }
     ensures front { Grew (R.seen reader.old) (R.seen reader.new) }
     ensures kept { OnOk result ((R.seen reader.new).failures ≡ (R.seen reader.old).failures) }
     // None is tried again.
     ensures failed { IsErrOf result ReadError.Failed → ReadFails (R.seen reader.old) (R.seen reader.new) }
-    ensures memory { IsErrOf result ReadError.OutOfMemory → (R.seen reader.new).failures ≡ (R.seen reader.old).failures }
+    ensures memory { IsErrOf result ReadError.OutOfMemory
+        → (R.seen reader.new).failures ≡ (R.seen reader.old).failures }
     // Memory is asked for by bytes alone.
-    ensures some { IsErrOf result ReadError.OutOfMemory → length (R.seen reader.old).given < length (R.seen reader.new).given }
+    ensures some { IsErrOf result ReadError.OutOfMemory
+        → length (R.seen reader.old).given < length (R.seen reader.new).given }
     ensures reads { (R.seen reader.new).calls ≤ (R.seen reader.old).calls + most_reads }
 {
     let mut whole = Vec::new(alloc);

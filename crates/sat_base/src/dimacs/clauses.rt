@@ -3,7 +3,8 @@ ghost use Rattle.std.specs.Prelude.{◌≡◌, None, MatchResult};
 ghost use Rattle.sat_base.specs.values.Formulas.{no_formula, with_count};
 ghost use Rattle.sat_base.specs.dimacs.Dimacs.{Ends, literals_in};
 ghost use Rattle.sat_base.specs.declared.dimacs.clauses.Refusal.TheVariants.{OutOfMemory};
-ghost use Rattle.sat_base.specs.dimacs.Collecting.{token_of, hand_in, is_literal, AllStay, TakesTokenTurn, CollectsToken, IsInside};
+ghost use Rattle.sat_base.specs.dimacs.Collecting.{token_of, hand_in, is_literal, AllStay, TakesTokenTurn};
+ghost use Rattle.sat_base.specs.dimacs.Collecting.{CollectsToken, IsInside};
 
 use crate::var::MAX_COUNT;
 use crate::{CnfFormula, ExtendFormula, FormulaError, Lit, Token};
@@ -82,9 +83,8 @@ impl Clauses {
 
     /// A zero.
     fn end_clause(&mut self) -> Result<(), Refusal>
-        ensures { MatchResult result
-            (λ _. TakesTokenTurn (Ends (literals_in (hand_in self.old))) self.old self.new × (self.new.header ≡ self.old.header))
-            (λ e. (e ≡ OutOfMemory) × AllStay self.old self.new) }
+        ensures { MatchResult result (λ _. TakesTokenTurn (Ends (literals_in (hand_in self.old))) self.old self.new
+            × (self.new.header ≡ self.old.header)) (λ e. (e ≡ OutOfMemory) × AllStay self.old self.new) }
     {
         self.formula.add_clause(&self.hand)?;
         self.hand.clear();

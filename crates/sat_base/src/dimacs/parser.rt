@@ -3,7 +3,8 @@ ghost use Rattle.std.specs.Prelude.{◌≡◌, ◌++◌, ◌∷◌, [], ℕ, Lis
 ghost use Rattle.sat_base.specs.text.Text.{Scan};
 ghost use Rattle.sat_base.specs.text.Tokenizing.{held, StandsBefore};
 ghost use Rattle.sat_base.specs.values.Formulas.{vars_of};
-ghost use Rattle.sat_base.specs.dimacs.Parsing.{FeedsPiece, Finishes, IsSoundSoFar, no_progress, all_taken, clauses_read};
+ghost use Rattle.sat_base.specs.dimacs.Parsing.{FeedsPiece, Finishes, IsSoundSoFar, no_progress, all_taken};
+ghost use Rattle.sat_base.specs.dimacs.Parsing.{clauses_read};
 ghost use Rattle.sat_base.specs.dimacs.ParserPlaces.{IsParser, progress_of, EndsClean};
 
 use super::clauses::{Clauses, Refusal, is_literal};

@@ -56,7 +56,8 @@ impl<R: CountedRead> Input<'_, R> {
         requires known { IsTrue (is_tag tag) }
         requires plain { has_lists tag ≡ false }
         ensures { (literals hashes : List ℕ) (units : List (ℕ × ℕ))
-            → ReadsFromInput (Behind tag) (valued (λ k. step_with k literals hashes units) result) R.seen self.old self.new }
+            → ReadsFromInput (Behind tag) (valued (λ k. step_with k literals hashes units) result) R.seen self.old
+            self.new }
     {
         if tag < 5 {
             let var = self.variable()?;
@@ -130,7 +131,8 @@ impl<R: CountedRead> Input<'_, R> {
 
     /// Reads the next step, and its lists into those that are there.
     pub(super) fn read_step(&mut self, lists: &mut Lists) -> Result<Kind, StepError>
-        ensures { AnswersStepRead (valued (step_held lists.new) result) (source_of R.seen self.old) (source_of R.seen self.new) }
+        ensures { AnswersStepRead (valued (step_held lists.new) result) (source_of R.seen self.old)
+            (source_of R.seen self.new) }
     {
         match self.next_byte()? {
             None => Err(StepError::Ends),

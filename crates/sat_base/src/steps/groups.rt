@@ -17,7 +17,8 @@ use std::io;
 
 impl<R: CountedRead> Input<'_, R> {
     pub(super) fn flag_and_lists(&mut self, lists: &mut Lists) -> Result<bool, StepError>
-        ensures { ReadsFromInput (Both IsFlag (Both AreLiterals AreHashes)) (valued (λ f. (f, both_held lists.new)) result) R.seen self.old self.new }
+        ensures { ReadsFromInput (Both IsFlag (Both AreLiterals AreHashes))
+            (valued (λ f. (f, both_held lists.new)) result) R.seen self.old self.new }
     {
         let flag = self.flag()?;
         self.both_lists(lists)?;
@@ -28,8 +29,8 @@ impl<R: CountedRead> Input<'_, R> {
         &mut self,
         lists: &mut Lists,
     ) -> Result<DeleteClauseProof, StepError>
-        ensures { ReadsFromInput (Both AreLiterals IsDeletion) (valued (λ p. (lists.new.literals.items, deletion_of p)) result)
-            R.seen self.old self.new }
+        ensures { ReadsFromInput (Both AreLiterals IsDeletion)
+            (valued (λ p. (lists.new.literals.items, deletion_of p)) result) R.seen self.old self.new }
     {
         self.literals(&mut lists.literals)?;
         self.deletion()
@@ -58,14 +59,16 @@ impl<W: CountedWrite, P: Room> Output<W, P> {
         clause: &[Lit],
         hashes: &[ClauseHash],
     ) -> io::Result<()>
-        ensures { spelling.SendsSpelling spelling.a_derived (redundant, (clause.now, hashes.now)) result W.seen P.waiting self.old self.new }
+        ensures { spelling.SendsSpelling spelling.a_derived (redundant, (clause.now, hashes.now)) result W.seen
+            P.waiting self.old self.new }
     {
         self.put_flag(redundant)?;
         self.put_both_lists(clause, hashes)
     }
 
     pub(super) fn put_deleted(&mut self, clause: &[Lit], proof: DeleteClauseProof) -> io::Result<()>
-        ensures { spelling.SendsSpelling spelling.a_deleted (clause.now, deletion_of proof) result W.seen P.waiting self.old self.new }
+        ensures { spelling.SendsSpelling spelling.a_deleted (clause.now, deletion_of proof) result W.seen P.waiting
+            self.old self.new }
     {
         self.put_literals(clause)?;
         self.put_deletion(proof)

@@ -64,7 +64,8 @@ impl<R: CountedRead> Input<'_, R> {
         units: &mut Vec<(Lit, ClauseHash)>,
     ) -> Result<(), StepError>
         requires { units.old.items ≡ [] }
-        ensures { ReadsFromInput (Times (Both IsLiteral IsHash) count) (giving units.new.items result) R.seen self.old self.new }
+        ensures { ReadsFromInput (Times (Both IsLiteral IsHash) count) (giving units.new.items result) R.seen self.old
+            self.new }
     {
         for _ in 0..count {
             let unit = self.unit()?;
@@ -102,7 +103,8 @@ impl<R: CountedRead> Input<'_, R> {
 
     /// Reads a list of literals, and then one of hashes.
     pub(super) fn both_lists(&mut self, lists: &mut Lists) -> Result<(), StepError>
-        ensures { ReadsFromInput (Both AreLiterals AreHashes) (giving (both_held lists.new) result) R.seen self.old self.new }
+        ensures { ReadsFromInput (Both AreLiterals AreHashes) (giving (both_held lists.new) result) R.seen self.old
+            self.new }
     {
         self.literals(&mut lists.literals)?;
         self.hashes(&mut lists.hashes)
@@ -131,7 +133,8 @@ impl<W: CountedWrite, P: Room> Output<W, P> {
     }
 
     fn put_unit(&mut self, unit: (Lit, ClauseHash)) -> io::Result<()>
-        ensures { spelling.SendsSpelling (spelling.both spelling.a_literal spelling.a_hash) unit result W.seen P.waiting self.old self.new }
+        ensures { spelling.SendsSpelling (spelling.both spelling.a_literal spelling.a_hash) unit result W.seen P.waiting
+            self.old self.new }
     {
         let (lit, hash) = unit;
         self.put_number(lit.code() as u64)?;
@@ -149,7 +152,8 @@ impl<W: CountedWrite, P: Room> Output<W, P> {
     }
 
     pub(super) fn put_both_lists(&mut self, lits: &[Lit], hashes: &[ClauseHash]) -> io::Result<()>
-        ensures { spelling.SendsSpelling spelling.both_lists (lits.now, hashes.now) result W.seen P.waiting self.old self.new }
+        ensures { spelling.SendsSpelling spelling.both_lists (lits.now, hashes.now) result W.seen P.waiting self.old
+            self.new }
     {
         self.put_literals(lits)?;
         self.put_hashes(hashes)

@@ -112,7 +112,8 @@ impl<W: CountedWrite, P: Room> Output<W, P> {
     /// Where there is room for the longest number, no byte asks for it again.
     #[inline(always)] // each literal and each hash goes through it
     pub(super) fn put_number(&mut self, number: u64) -> io::Result<()>
-        ensures { Sends (number_bytes number) result (sink_of W.seen P.waiting self.old) (sink_of W.seen P.waiting self.new) }
+        ensures { Sends (number_bytes number) result (sink_of W.seen P.waiting self.old)
+            (sink_of W.seen P.waiting self.new) }
     {
         if self.pending.free() < LONGEST {
             return self.put_by_bytes(number);
@@ -124,7 +125,8 @@ impl<W: CountedWrite, P: Room> Output<W, P> {
     /// Puts a number byte by byte: what waits may have to be written out before one of them.
     #[inline(never)] // so that numbers for which there is room pay nothing for it
     fn put_by_bytes(&mut self, number: u64) -> io::Result<()>
-        ensures { Sends (number_bytes number) result (sink_of W.seen P.waiting self.old) (sink_of W.seen P.waiting self.new) }
+        ensures { Sends (number_bytes number) result (sink_of W.seen P.waiting self.old)
+            (sink_of W.seen P.waiting self.new) }
     {
         let mut rest = number;
         while rest >= 128 {

@@ -4,7 +4,8 @@ ghost use Rattle.sat_base.specs.steps.StepText.{tag_of};
 ghost use Rattle.sat_base.specs.steps.StepViews.{step_of};
 ghost use Rattle.sat_base.specs.device.Reading.{AnswersStepRead, giving, source, unread, valued};
 ghost use Rattle.sat_base.specs.steps.Kinds.{step_held, step_with};
-ghost use Rattle.sat_base.specs.steps.StepReading.{reader_source, has_reader_failed, reader_name, step_in, is_stop, Next};
+ghost use Rattle.sat_base.specs.steps.StepReading.{reader_source, has_reader_failed, reader_name, step_in, is_stop};
+ghost use Rattle.sat_base.specs.steps.StepReading.{Next};
 
 use crate::device::ahead::Ahead;
 use crate::device::input::Input;
@@ -58,7 +59,8 @@ fn stops(error: StepError) -> bool
 /// The tag of a step of this kind.
 #[inline(always)] // a caller that asks for one tag compares once
 fn tag(kind: Kind) -> u8
-    ensures { (literals hashes : List ℕ) (units : List (ℕ × ℕ)) → result ≡ tag_of (step_with kind literals hashes units) }
+    ensures { (literals hashes : List ℕ) (units : List (ℕ × ℕ))
+        → result ≡ tag_of (step_with kind literals hashes units) }
 {
     match kind {
         Kind::SolverVarName { .. } => 1,
@@ -83,7 +85,8 @@ fn read_from<R: CountedRead>(
     ahead: &mut Ahead,
     lists: &mut Lists,
 ) -> Result<Kind, StepError>
-    ensures { AnswersStepRead (valued (step_held lists.new) result) (source R.seen reader.old ahead.old) (source R.seen reader.new ahead.new) }
+    ensures { AnswersStepRead (valued (step_held lists.new) result) (source R.seen reader.old ahead.old)
+        (source R.seen reader.new ahead.new) }
 {
     let mut input = Input::new(reader, ahead);
     input.read_step(lists)

@@ -1,6 +1,7 @@
 //! The fields of steps that are one number.
 ghost use Rattle.sat_base.specs.device.Reading.{ReadsFromInput, valued};
-ghost use Rattle.sat_base.specs.steps.Spellings.{SendsSpelling, a_variable, an_optional_variable, a_flag, a_width, a_deletion};
+ghost use Rattle.sat_base.specs.steps.Spellings.{SendsSpelling, a_variable, an_optional_variable, a_flag, a_width};
+ghost use Rattle.sat_base.specs.steps.Spellings.{a_deletion};
 ghost use Rattle.sat_base.specs.steps.StepText.{IsVariable, IsOptionalVariable, IsFlag, IsWidth, IsDeletion};
 ghost use Rattle.sat_base.specs.steps.StepViews.{deletion_of};
 

@@ -16,8 +16,8 @@ use std::io;
 /// How many bytes of a single step wait at most.
 const SHORT_PIECE: usize = 64;
 
-/// A writer of proof steps, which keeps at most 4,096 bytes from step to step, so that a proof of N bytes takes about N/4,096
-/// writes. They are written out when there is no room for more, at a flush, and when it is taken apart.
+/// A writer of proof steps, which keeps at most 4,096 bytes from step to step, so that a proof of N bytes takes about
+/// N/4,096 writes. They are written out when there is no room for more, at a flush, and when it is taken apart.
 #[derive(Drop)]
 pub struct StepWriter<W> {
     output: Output<W, Pending<PIECE>>,
@@ -33,9 +33,11 @@ impl<W: CountedWrite> StepWriter<W> {
         }
     }
 
-    /// Lets a step's bytes wait. After an error a front of what waited and of them may have been written; nothing waits then.
+    /// Lets a step's bytes wait. After an error a front of what waited and of them may have been written; nothing waits
+    /// then.
     pub fn write(&mut self, step: &ProofStep<'_>) -> io::Result<()>
-        ensures sends { Sends (step_bytes (step_of step.now)) result (steps_sink W.seen self.old) (steps_sink W.seen self.new) }
+        ensures sends { Sends (step_bytes (step_of step.now)) result (steps_sink W.seen self.old)
+            (steps_sink W.seen self.new) }
         ensures spells { OnOk result (SpellsStep (step_of step.now) (step_bytes (step_of step.now))) }
     {
         self.output.put_step(step)
@@ -50,7 +52,8 @@ impl<W: CountedWrite> StepWriter<W> {
 
     /// The writer, and whether what waited was written out. Where nothing waited nothing is done.
     pub fn into_inner(self) -> (W, io::Result<()>)
-        ensures puts { Puts (steps_sink W.seen self).waiting result.1 (steps_sink W.seen self).writer (W.seen result.0) }
+        ensures puts { Puts (steps_sink W.seen self).waiting result.1 (steps_sink W.seen self).writer
+            (W.seen result.0) }
         ensures idle { (steps_sink W.seen self).waiting ≡ [] → W.seen result.0 ≡ (steps_sink W.seen self).writer }
     {
         let StepWriter { mut output } = self;
@@ -67,8 +70,8 @@ impl<W: CountedWrite> StepWriter<W> {
     }
 }
 
-/// Writes a step's bytes, taking no memory: in pieces of 64 bytes, so that most steps are one write. After an error a front of
-/// them may have been written.
+/// Writes a step's bytes, taking no memory: in pieces of 64 bytes, so that most steps are one write. After an error a
+/// front of them may have been written.
 pub fn write_step<W: CountedWrite>(writer: &mut W, step: &ProofStep<'_>) -> io::Result<()>
     ensures puts { Puts (step_bytes (step_of step.now)) result (W.seen writer.old) (W.seen writer.new) }
     ensures spells { OnOk result (SpellsStep (step_of step.now) (step_bytes (step_of step.now))) }

@@ -30,8 +30,8 @@ pub struct CheckedUserVar {
 #[derive(Clone, Copy)]
 pub struct ResolutionPropagations {}
 
-/// An announcement. Its lists are lent; clauses and cores are sorted, without repeats. `propagations` are the ids of the clauses
-/// that something follows from by propagation.
+/// An announcement. Its lists are lent; clauses and cores are sorted, without repeats. `propagations` are the ids of
+/// the clauses that something follows from by propagation.
 #[derive(Clone, Copy)]
 pub enum CheckedProofStep<'a> {
     /// A variable gets a name of the user's or another mode, or loses its name.
@@ -113,8 +113,8 @@ pub(crate) struct Was {
     pub(crate) data: VarData,
 }
 
-/// What may be looked up while something is announced: the variables as they were before the step. `known` of their data may be
-/// that of now, which no announcement or name rests on.
+/// What may be looked up while something is announced: the variables as they were before the step. `known` of their
+/// data may be that of now, which no announcement or name rests on.
 #[derive(Clone, Copy)]
 pub struct CheckerData<'a> {
     variables: &'a Variables,

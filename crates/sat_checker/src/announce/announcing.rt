@@ -3,7 +3,9 @@ ghost use Rattle.std.specs.Prelude.{ℕ, List, ◌≡◌, ◌+◌, ◌++◌, ◌
 ghost use Rattle.sat_checker.specs.Looks.{literal_count};
 ghost use Rattle.sat_checker.specs.Stored.{Stored};
 ghost use Rattle.sat_checker.specs.announcements.Announcements as told;
-ghost use Rattle.sat_checker.specs.announcements.Announcements.{derived_set, id_of_set, input_set, irredundant_deleted, is_sample, is_witness, last_id, mode_change, naming, one, redundant_deleted, renaming};
+ghost use Rattle.sat_checker.specs.announcements.Announcements.{derived_set, id_of_set, input_set, irredundant_deleted};
+ghost use Rattle.sat_checker.specs.announcements.Announcements.{is_sample, is_witness, last_id, mode_change, naming};
+ghost use Rattle.sat_checker.specs.announcements.Announcements.{one, redundant_deleted, renaming};
 ghost use Rattle.sat_checker.specs.inner.FormulaView.{last_in, KeepsFormula};
 ghost use Rattle.sat_checker.specs.inner.Looking.{LooksOver};
 ghost use Rattle.sat_checker.specs.inner.StoreView.{found_in};
@@ -124,7 +126,8 @@ fn has_mode(mode: SamplingMode, sampling: bool) -> bool
 }
 
 impl News {
-    /// A clause of the formula that takes this id. Its sorted literals have both signs of a variable, or are stored under an id or not.
+    /// A clause of the formula that takes this id. Its sorted literals have both signs of a variable, or are stored
+    /// under an id or not.
     pub fn input(
         &mut self,
         id: u64,
@@ -189,7 +192,8 @@ impl News {
         stored: Option<Found>,
         from: Option<u64>,
     ) -> Result<(), AllocError>
-        ensures ok { OnOk result (self.new ≡ self.old ++ irredundant_deleted (one from) (found_in literals.now stored)) }
+        ensures ok { OnOk result (self.new ≡ self.old ++ irredundant_deleted (one from)
+            (found_in literals.now stored)) }
         ensures err { OnErr result (self.new ≡ self.old) }
     {
         let Some(clause) = stored else {

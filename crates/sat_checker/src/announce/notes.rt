@@ -1,5 +1,5 @@
-//! What a step announces, noted where somebody listens: of clauses while all is stored as it was before them, of names, modes and
-//! models once they are accepted. What is noted of a step that is refused is of no use.
+//! What a step announces, noted where somebody listens: of clauses while all is stored as it was before them, of names,
+//! modes and models once they are accepted. What is noted of a step that is refused is of no use.
 ghost use Rattle.std.specs.Prelude.{ℕ, false, ◌≡◌, ◌+◌, ◌∷◌, [], List, OnOk, IsTrue, map, if◌then◌else◌};
 ghost use Rattle.sat_base.specs.steps.Steps.{DeleteClause, FailedAssumptions};
 ghost use Rattle.sat_base.specs.steps.StepViews.{deletion_of};
@@ -8,7 +8,8 @@ ghost use Rattle.sat_checker.specs.LiteralSets.{canonical};
 ghost use Rattle.sat_checker.specs.Looks.{literal_count};
 ghost use Rattle.sat_checker.specs.Stored.{Stored};
 ghost use Rattle.sat_checker.specs.announcements.Announcements as told;
-ghost use Rattle.sat_checker.specs.announcements.Announcements.{announced, derived, derived_set, id_of_set, input, mode_change, renaming};
+ghost use Rattle.sat_checker.specs.announcements.Announcements.{announced, derived, derived_set, id_of_set, input};
+ghost use Rattle.sat_checker.specs.announcements.Announcements.{mode_change, renaming};
 ghost use Rattle.sat_checker.specs.inner.FormulaView.{Explained, KeepsFormula};
 ghost use Rattle.sat_checker.specs.inner.Looking.{LooksOver, LooksUpTo};
 ghost use Rattle.sat_checker.specs.inner.Reasons.{noted_length};
@@ -84,7 +85,8 @@ impl Notes {
         sampling: bool,
         before: VarData,
     ) -> Result<(), AllocError>
-        ensures { OnOk result (AppendsNews self.old (mode_change var sampling (mode_in before.mode) before.name) self.new) }
+        ensures { OnOk result (AppendsNews self.old (mode_change var sampling (mode_in before.mode) before.name)
+            self.new) }
     {
         if !self.hears {
             return Ok(());
@@ -139,7 +141,8 @@ impl Formula {
         notes: &mut Notes,
         looks: &mut Looks,
     ) -> Result<(), AllocError>
-        ensures noted { OnOk result ((f : Stored) → KeepsFormula self.now f → AppendsNews notes.old (input clause.now f) notes.new) }
+        ensures noted { OnOk result ((f : Stored) → KeepsFormula self.now f
+            → AppendsNews notes.old (input clause.now f) notes.new) }
         ensures looks { LooksOver (KeepsFormula self.now) literal_count looks.old looks.new }
     {
         if !notes.hears {
@@ -177,7 +180,8 @@ impl Formula {
         self.deletion_heard(literals, proof, looks)
     }
 
-    /// What a deletion will announce: the id of its clause, and of the one that it was simplified from. Somebody listens.
+    /// What a deletion will announce: the id of its clause, and of the one that it was simplified from. Somebody
+    /// listens.
     #[inline(never)]
     fn deletion_heard(
         &self,
@@ -239,7 +243,8 @@ impl Formula {
     ) -> Result<(), AllocError>
         requires explained { (hashes : List ℕ) × Explained self.now clause.now hashes }
         ensures noted { OnOk result ((f : Stored) (hashes : List ℕ) → KeepsFormula self.now f → AreLong f
-            → Explained self.now clause.now hashes → AppendsNews notes.old (derived redundant clause.now hashes f) notes.new) }
+            → Explained self.now clause.now hashes
+            → AppendsNews notes.old (derived redundant clause.now hashes f) notes.new) }
         ensures looks { LooksOver (KeepsFormula self.now)
             (λ f. noted_length self.now.store.clauses self.now.passed + literal_count f) looks.old looks.new }
     {
@@ -260,7 +265,8 @@ impl Formula {
     ) -> Result<(), AllocError>
         requires explained { (hashes : List ℕ) × Explained self.now clause.now hashes }
         ensures noted { OnOk result ((f : Stored) (hashes : List ℕ) → KeepsFormula self.now f → AreLong f
-            → Explained self.now clause.now hashes → AppendsNews notes.old (derived redundant clause.now hashes f) notes.new) }
+            → Explained self.now clause.now hashes
+            → AppendsNews notes.old (derived redundant clause.now hashes f) notes.new) }
         ensures looks { LooksOver (KeepsFormula self.now)
             (λ f. noted_length self.now.store.clauses self.now.passed + literal_count f) looks.old looks.new }
     {
@@ -302,7 +308,8 @@ impl Formula {
     ) -> Result<(), AllocError>
         requires explained { (hashes : List ℕ) × Explained self.now (lit ∷ []) hashes }
         ensures noted { OnOk result ((f : Stored) (hashes : List ℕ) → KeepsFormula self.now f → AreLong f
-            → Explained self.now (lit ∷ []) hashes → AppendsNews notes.old (derived false (lit ∷ []) hashes f) notes.new) }
+            → Explained self.now (lit ∷ []) hashes
+            → AppendsNews notes.old (derived false (lit ∷ []) hashes f) notes.new) }
         ensures hears { notes.new.hears ≡ notes.old.hears }
         ensures looks { LooksUpTo (noted_length self.now.store.clauses self.now.passed) looks.old looks.new }
     {
@@ -335,7 +342,8 @@ impl Formula {
         requires denied { denied.now ≡ map negated core.now }
         requires explained { (hashes : List ℕ) × Explained self.now denied.now hashes }
         ensures noted { OnOk result ((f : Stored) (hashes : List ℕ) → KeepsFormula self.now f
-            → Explained self.now denied.now hashes → AppendsNews notes.old (announced f (FailedAssumptions core.now hashes)) notes.new) }
+            → Explained self.now denied.now hashes
+            → AppendsNews notes.old (announced f (FailedAssumptions core.now hashes)) notes.new) }
         ensures looks { LooksUpTo (noted_length self.now.store.clauses self.now.passed) looks.old looks.new }
     {
         if !notes.hears {

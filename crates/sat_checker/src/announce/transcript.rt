@@ -2,7 +2,8 @@
 ghost use Rattle.std.specs.Prelude.{◌≡◌, IfOk, OnOk, Result, if◌then◌else◌, []};
 ghost use Rattle.std.specs.Option.{option_map};
 ghost use Rattle.anyhow.specs.declared.error.Error.{Error};
-ghost use Rattle.sat_checker.specs.announcements.Transcripts.{Transcribed, SampleVar, WitnessVar, deriving_of, in_user_names, transcript};
+ghost use Rattle.sat_checker.specs.announcements.Transcripts.{Transcribed, SampleVar, WitnessVar, deriving_of};
+ghost use Rattle.sat_checker.specs.announcements.Transcripts.{in_user_names, transcript};
 ghost use Rattle.sat_checker.specs.announcements.Announcements.{UserVar};
 ghost use Rattle.sat_checker.specs.telling.AnnouncementView.{announcement_of, user_of, variables_of};
 ghost use Rattle.sat_checker.specs.telling.TranscriptView.{transcribed_of};
@@ -123,7 +124,8 @@ fn name_change<'s>(
     var: Var,
     user_var: Option<CheckedUserVar>,
 ) -> Option<ProofTranscriptStep<'s>>
-    ensures { option_map transcribed_of result ≡ transcript (variables_of names.entry) (UserVar var (option_map user_of user_var)) }
+    ensures { option_map transcribed_of result ≡ transcript (variables_of names.entry)
+        (UserVar var (option_map user_of user_var)) }
 {
     let explicit = names.explicit_name(var);
     let Some(user) = user_var else {

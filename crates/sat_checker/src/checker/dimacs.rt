@@ -34,8 +34,9 @@ fn is_want(error: DimacsError) -> bool
 }
 
 impl<P: ProofProcessor, T: ProofTranscriptProcessor> Checker<P, T> {
-    /// Takes the clauses of a formula's text in DIMACS CNF, in order, as the text is read in pieces of 4,096 bytes. Those before a
-    /// fault stand, and those before a clause that is refused. A text that can't be read leaves the checker going on.
+    /// Takes the clauses of a formula's text in DIMACS CNF, in order, as the text is read in pieces of 4,096 bytes.
+    /// Those before a fault stand, and those before a clause that is refused. A text that can't be read leaves the
+    /// checker going on.
     pub fn add_dimacs_cnf<R: CountedRead>(
         &mut self,
         reader: &mut R,

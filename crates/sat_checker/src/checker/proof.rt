@@ -55,8 +55,9 @@ fn is_end(step: &ProofStep<'_>) -> bool
 }
 
 impl<P: ProofProcessor, T: ProofTranscriptProcessor> Checker<P, T> {
-    /// Reads and checks the steps of a proof up to its `End`; nothing behind that is looked at. One step is held at a time.
-    /// The steps accepted before an error stand. A proof that can't be read or is cut off leaves the checker going on.
+    /// Reads and checks the steps of a proof up to its `End`; nothing behind that is looked at. One step is held at a
+    /// time. The steps accepted before an error stand. A proof that can't be read or is cut off leaves the checker
+    /// going on.
     pub fn check_proof<R: CountedRead>(&mut self, reader: &mut R) -> Result<(), CheckerError>
         ensures proof { ChecksProof (HearsEach P.takes T.reads)
             result (seen_of self.old) (seen_of self.new) (R.seen reader.old) (R.seen reader.new) }
@@ -134,7 +135,8 @@ impl<P: ProofProcessor, T: ProofTranscriptProcessor> Checker<P, T> {
         ensures same { reader_name steps.new ≡ reader_name steps.old }
         ensures bound { (reader_source R.seen steps.new).reads ≤ most_reads }
         ensures goes_on { OnOk result ((has_failed (kernel_of self.new) ≡ false) × (is_stopped steps.new ≡ false)) }
-        ensures takes { OnOk result (bytes_left (reader_source R.seen steps.new) < bytes_left (reader_source R.seen steps.old)) }
+        ensures takes { OnOk result (bytes_left (reader_source R.seen steps.new)
+            < bytes_left (reader_source R.seen steps.old)) }
         ensures steps_on { TurnsOn (HearsFirst O.takes (HearsEach P.takes T.reads))
             result (at_source (seen_with own.old self.old) (reader_source R.seen steps.old))
             (at_source (seen_with own.new self.new) (reader_source R.seen steps.new)) }

@@ -1,4 +1,5 @@
-//! Units that are judged where no id is left for one before them: a step is refused first, and only then are the ids over.
+//! Units that are judged where no id is left for one before them: a step is refused first, and only then are the ids
+//! over.
 ghost use Rattle.std.specs.Prelude.{◌≡◌, ◌*◌, ◌↔◌, length, false, IfOk, IsTrue, OnOk, MatchResult};
 ghost use Rattle.sat_checker.specs.Accepts.{PassInTurn};
 ghost use Rattle.sat_checker.specs.Looks.{literal_count};
@@ -37,7 +38,8 @@ impl Formula {
         units: &[(Lit, ClauseHash)],
         looks: &mut Looks,
     ) -> Result<bool, AllocError>
-        ensures exact { IfOk result (λ passes. (f : Stored) → ChecksAs self.old f → IsTrue passes ↔ PassInTurn f units.now) }
+        ensures exact { IfOk result (λ passes. (f : Stored) → ChecksAs self.old f
+            → IsTrue passes ↔ PassInTurn f units.now) }
         ensures looks { LooksOver (ChecksAs self.old) (λ f. length units.now * literal_count f) looks.old looks.new }
     {
         for unit in units {

@@ -2,11 +2,13 @@
 ghost use Rattle.std.specs.Prelude.{ℕ, ◌≡◌, ◌+◌, ◌<◌, ◌==◌, ◌||◌, [], map, length, OnOk, Some};
 ghost use Rattle.sat_base.specs.values.Literals.{negated};
 ghost use Rattle.sat_checker.specs.LiteralSets.{is_among};
-ghost use Rattle.sat_checker.specs.announcements.Needed.{Ground, others_denied, with_reason, needed_units, conflict_ids};
+ghost use Rattle.sat_checker.specs.announcements.Needed.{Ground, others_denied, with_reason, needed_units};
+ghost use Rattle.sat_checker.specs.announcements.Needed.{conflict_ids};
 ghost use Rattle.sat_checker.specs.inner.Looking.{LooksUpTo};
 ghost use Rattle.sat_checker.specs.inner.Marks.{IsIncreasing};
 ghost use Rattle.sat_checker.specs.inner.NeededView.{IsFollowed};
-ghost use Rattle.sat_checker.specs.inner.Reasons.{clause_at, conflict_at, noted_length, AreNotedPlaces, IsConflictPlace, Explains};
+ghost use Rattle.sat_checker.specs.inner.Reasons.{clause_at, conflict_at, noted_length, AreNotedPlaces};
+ghost use Rattle.sat_checker.specs.inner.Reasons.{IsConflictPlace, Explains};
 ghost use Rattle.sat_checker.specs.inner.SlotView.{literals_at};
 
 use crate::looks::Looks;
@@ -37,7 +39,8 @@ fn mark(marked: &mut Assigned, lit: Lit) -> Result<(), AllocError>
 /// Marks the negations of a clause's literals.
 #[tactic(auto, using(crate::proofs::lemmas::announcements::Marking::marking))]
 pub(crate) fn mark_all(marked: &mut Assigned, clause: &[Lit]) -> Result<(), AllocError>
-    ensures marked { OnOk result ((m : ℕ) → is_among marked.new m ≡ (is_among (map negated clause.now) m || is_among marked.old m)) }
+    ensures marked { OnOk result ((m : ℕ) → is_among marked.new m
+        ≡ (is_among (map negated clause.now) m || is_among marked.old m)) }
 {
     for lit in clause {
         mark(marked, !*lit)?;
@@ -70,7 +73,8 @@ fn list_units(
 ) -> Result<(), AllocError>
     requires { ids.old.items ≡ [] }
     ensures { OnOk result ((g : Ground) → ((m : ℕ) → is_among marked.now m ≡ is_among g.literals m)
-        → IsIncreasing (map (λ u. u.id) units.now) → ids.new.items ≡ map (λ u. u.id) (needed_units denied.now g units.now)) }
+        → IsIncreasing (map (λ u. u.id) units.now)
+        → ids.new.items ≡ map (λ u. u.id) (needed_units denied.now g units.now)) }
 {
     units.stand_once();
     for lit in marked.literals() {
@@ -150,7 +154,8 @@ impl Needed {
     ) -> Result<(), AllocError>
         requires there { AreNotedPlaces clauses.now passed.now }
         requires met { IsConflictPlace clauses.now passed.now.conflict }
-        ensures followed { OnOk result ((whole : Ground) → Explains clauses.now passed.now whole → IsFollowed self.new whole) }
+        ensures followed { OnOk result
+            ((whole : Ground) → Explains clauses.now passed.now whole → IsFollowed self.new whole) }
         ensures looks { LooksUpTo (noted_length clauses.now passed.now) looks.old looks.new }
     {
         let Some(place) = passed.conflict else {

@@ -40,7 +40,8 @@ impl Passed {
 
     /// Notes that the clause at a place made a literal true.
     pub fn note(&mut self, place: usize, lit: Lit) -> Result<(), AllocError>
-        ensures noted { OnOk result (self.new.reasons.items ≡ self.old.reasons.items ++ (record { place = place; lit = lit }) ∷ []) }
+        ensures noted { OnOk result (self.new.reasons.items
+            ≡ self.old.reasons.items ++ (record { place = place; lit = lit }) ∷ []) }
         ensures conflict { self.new.conflict ≡ self.old.conflict }
     {
         self.reasons.push(Reason { place, lit })?;

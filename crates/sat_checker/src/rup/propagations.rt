@@ -6,7 +6,8 @@ ghost use Rattle.sat_checker.specs.Stored.{Stored};
 ghost use Rattle.sat_checker.specs.announcements.Needed.{Ground, ground, conflict_ids, propagations};
 ghost use Rattle.sat_checker.specs.inner.Looking.{LooksUpTo};
 ghost use Rattle.sat_checker.specs.inner.Marks.{IsIncreasing};
-ghost use Rattle.sat_checker.specs.inner.Reasons.{named, noted_length, AreNotedPlaces, IsConflictPlace, Explains, ExplainsUnless};
+ghost use Rattle.sat_checker.specs.inner.Reasons.{named, noted_length, AreNotedPlaces, IsConflictPlace, Explains};
+ghost use Rattle.sat_checker.specs.inner.Reasons.{ExplainsUnless};
 ghost use Rattle.sat_checker.specs.inner.StoreView.{KeepsClauses};
 
 use crate::looks::Looks;
@@ -44,7 +45,8 @@ impl Propagations {
         &self.ids
     }
 
-    /// Lists the propagations of a clause that passed the check, by what the check noted. These are its sorted literals.
+    /// Lists the propagations of a clause that passed the check, by what the check noted. These are its sorted
+    /// literals.
     #[inline(never)]
     pub fn list(
         &mut self,

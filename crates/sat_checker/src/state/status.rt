@@ -8,8 +8,8 @@ ghost use Rattle.sat_checker.specs.declared.store.StoreError.TheVariants.{Counte
 use crate::store::StoreError;
 use sat_base::Lit;
 
-/// The last irredundant clause stored: none yet, or an empty one, a unit or a longer one by its id. Beside a unit's id stands its
-/// literal, so that it is found without a search.
+/// The last irredundant clause stored: none yet, or an empty one, a unit or a longer one by its id. Beside a unit's id
+/// stands its literal, so that it is found without a search.
 #[derive(Clone, Copy)]
 pub(crate) enum LastClause {
     NoneYet,
@@ -55,7 +55,8 @@ impl Status {
 
     #[inline(always)]
     pub fn records(&self) -> Records
-        ensures { (result.unsat ≡ self.now.unsat) × (result.ended ≡ self.now.ended) × (result.var_deleted ≡ self.now.var_deleted) }
+        ensures { (result.unsat ≡ self.now.unsat) × (result.ended ≡ self.now.ended)
+            × (result.var_deleted ≡ self.now.var_deleted) }
     {
         Records {
             unsat: self.unsat,

@@ -1,11 +1,15 @@
 //! The stored clauses of two literals or more.
-ghost use Rattle.std.specs.Prelude.{◌≡◌, ◌+◌, ◌*◌, ◌<◌, ◌≤◌, ◌^◌, [], ◌∷◌, ◌++◌, length, true, false, None, OnOk, OnErr, IfSome};
+ghost use Rattle.std.specs.Prelude.{◌≡◌, ◌+◌, ◌*◌, ◌<◌, ◌≤◌, ◌^◌, [], ◌∷◌, ◌++◌, length, true, false, None, OnOk};
+ghost use Rattle.std.specs.Prelude.{OnErr, IfSome};
 ghost use Rattle.std.specs.List.{AllByRecursion, list_any};
 ghost use Rattle.sat_checker.specs.inner.Looking.{LooksUpTo};
 ghost use Rattle.sat_checker.specs.inner.ModelTests.{are_all_true, irredundant_length};
 ghost use Rattle.sat_checker.specs.Looks.{total_length};
 ghost use Rattle.sat_checker.specs.inner.Marks.{IsIncreasing};
-ghost use Rattle.sat_checker.specs.inner.SlotView.{slot_at, literals_at, all_lits, stored_slot, with_count_at, without_count_at, slot_count, is_gone, gone_count, slots_present, MayDrop, IsPresentAt, slot_ids, places_of, bucket_in, is_same_at, found_among, hashed_anew, live, live_length};
+ghost use Rattle.sat_checker.specs.inner.SlotView.{slot_at, literals_at, all_lits, stored_slot, with_count_at};
+ghost use Rattle.sat_checker.specs.inner.SlotView.{without_count_at, slot_count, is_gone, gone_count, slots_present};
+ghost use Rattle.sat_checker.specs.inner.SlotView.{MayDrop, IsPresentAt, slot_ids, places_of, bucket_in, is_same_at};
+ghost use Rattle.sat_checker.specs.inner.SlotView.{found_among, hashed_anew, live, live_length};
 ghost use Rattle.sat_checker.specs.Storing.{clause_numbered};
 ghost use Rattle.sat_checker.specs.LiteralSets.{mentions, is_among};
 ghost use Rattle.sat_checker.specs.inner.PairView.{first_of, places_behind};
@@ -254,8 +258,8 @@ impl Clauses {
         }
     }
 
-    /// Drops the clauses that are gone, where more than half of all are, or more than half of the buffer is theirs. Their places are
-    /// given again. Where memory is wanted they stay.
+    /// Drops the clauses that are gone, where more than half of all are, or more than half of the buffer is theirs.
+    /// Their places are given again. Where memory is wanted they stay.
     pub fn compact(&mut self) -> Result<(), AllocError>
         ensures left { MayDrop self.old self.new }
         ensures few { OnOk result (2 * gone_count self.new ≤ length self.new) }

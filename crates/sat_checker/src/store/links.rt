@@ -1,8 +1,10 @@
-//! Pairs of a hash and a place, linked by their places. A head for each value of the top bits of a hash says where a search starts.
+//! Pairs of a hash and a place, linked by their places. A head for each value of the top bits of a hash says where a
+//! search starts.
 ghost use Rattle.std.specs.Prelude.{All, ℕ, ◌≡◌, ◌+◌, ◌<◌, ◌≤◌, ◌++◌, length, OnOk, OnErr, None};
 ghost use Rattle.std.specs.List.{IsDistinct};
 ghost use Rattle.sat_checker.specs.inner.PairView.{AreInOrder, inserted, without_pair, places_in, first_of, same_place};
-ghost use Rattle.sat_checker.specs.inner.LinkView.{rest, listed, top_of, head_at, IsWalk, AreLinked, Lists, up_to, last_or, place_before, nowhere};
+ghost use Rattle.sat_checker.specs.inner.LinkView.{rest, listed, top_of, head_at, IsWalk, AreLinked, Lists, up_to};
+ghost use Rattle.sat_checker.specs.inner.LinkView.{last_or, place_before, nowhere};
 
 use sat_base::ClauseHash;
 use std::alloc::AllocError;

@@ -1,9 +1,12 @@
 //! Clauses of sorted literals by place, with their ids, counts and hashes.
-ghost use Rattle.std.specs.Prelude.{◌≡◌, ◌+◌, ◌<◌, ◌^◌, ℕ, List, ◌∷◌, [], ◌++◌, length, nat_le, false, None, OnOk, OnErr, IfOk, IfSome, if◌then◌else◌};
+ghost use Rattle.std.specs.Prelude.{◌≡◌, ◌+◌, ◌<◌, ◌^◌, ℕ, List, ◌∷◌, [], ◌++◌, length, nat_le, false, None, OnOk};
+ghost use Rattle.std.specs.Prelude.{OnErr, IfOk, IfSome, if◌then◌else◌};
 ghost use Rattle.std.specs.List.{AllByRecursion};
 ghost use Rattle.sat_checker.specs.LiteralSets.{is_among};
 ghost use Rattle.sat_checker.specs.inner.Marks.{IsIncreasing};
-ghost use Rattle.sat_checker.specs.inner.SlotView.{lits_in, LitsWithin, slot_at, literals_at, all_lits, slot_ids, slot_with, with_count_at, without_count_at, with_hash_at, slot_count, is_gone, slots_present};
+ghost use Rattle.sat_checker.specs.inner.SlotView.{lits_in, LitsWithin, slot_at, literals_at, all_lits, slot_ids};
+ghost use Rattle.sat_checker.specs.inner.SlotView.{slot_with, with_count_at, without_count_at, with_hash_at};
+ghost use Rattle.sat_checker.specs.inner.SlotView.{slot_count, is_gone, slots_present};
 
 use crate::looks::Looks;
 use crate::store::filed_hash::FiledHash;
@@ -182,7 +185,8 @@ impl Slots {
         literals: &[Lit],
     ) -> Result<(), AllocError>
         requires { IsIncreasing literals.now }
-        ensures ok { OnOk result (self.new ≡ self.old ++ slot_with id irredundant redundant hash.hash literals.now ∷ []) }
+        ensures ok { OnOk result (self.new ≡ self.old ++ slot_with id irredundant redundant hash.hash literals.now
+            ∷ []) }
         ensures err { OnErr result (self.new ≡ self.old) }
     {
         let lits = ClauseLits::new(&mut self.buffer, literals)?;

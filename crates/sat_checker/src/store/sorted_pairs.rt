@@ -1,9 +1,11 @@
-//! One sorted list of pairs of a hash and a place. Its hashes are mixed: a search starts by their top bits, and needs them spread.
+//! One sorted list of pairs of a hash and a place. Its hashes are mixed: a search starts by their top bits, and needs
+//! them spread.
 ghost use Rattle.std.specs.Prelude.{All, ℕ, true, ◌≡◌, ◌+◌, ◌++◌, ◌<◌, ◌≤◌, [], length, OnOk, OnErr, IfOk};
 ghost use Rattle.std.specs.List.{IsDistinct};
 ghost use Rattle.std.specs.List.Sorted.{IsPermutation};
 ghost use Rattle.sat_checker.specs.LiteralSets.{is_among};
-ghost use Rattle.sat_checker.specs.inner.PairView.{AreInOrder, inserted, without_pair, places_in, first_of, places_behind, same_place};
+ghost use Rattle.sat_checker.specs.inner.PairView.{AreInOrder, inserted, without_pair, places_in, first_of};
+ghost use Rattle.sat_checker.specs.inner.PairView.{places_behind, same_place};
 ghost use Rattle.sat_checker.specs.inner.LinkView.{listed, AreKeptPairs, Lists, nowhere};
 
 use crate::store::links::{Link, NOWHERE, Pair, first_from, link_all, list_all, put, take, top};

@@ -1,5 +1,6 @@
 //! Literals that are assumed, with a mark by code for each.
-ghost use Rattle.std.specs.Prelude.{◌≡◌, ◌+◌, ◌-◌, ◌<◌, ◌≤◌, List, [], ◌∷◌, drop, length, OnOk, OnErr, false, reverse, ℕ, ◌==◌, get_or, if◌then◌else◌};
+ghost use Rattle.std.specs.Prelude.{◌≡◌, ◌+◌, ◌-◌, ◌<◌, ◌≤◌, List, [], ◌∷◌, drop, length, OnOk, OnErr, false, reverse};
+ghost use Rattle.std.specs.Prelude.{ℕ, ◌==◌, get_or, if◌then◌else◌};
 ghost use Rattle.sat_checker.specs.inner.Marks.{is_marked, NoRepeats, LosesAt};
 ghost use Rattle.sat_checker.specs.LiteralSets.{is_among};
 ghost use Rattle.sat_checker.specs.Verdicts.{verdict, verdict_of};
@@ -88,7 +89,8 @@ impl Assigned {
     /// Forgets the literal at a place, the oldest standing at 0. The newest takes its place.
     pub fn forget_at(&mut self, place: usize)
         requires { place < length self.old }
-        ensures forgotten { (l : ℕ) → is_among self.new l ≡ (if l == get_or (reverse self.old) place 0 then false else is_among self.old l) }
+        ensures forgotten { (l : ℕ) → is_among self.new l
+            ≡ (if l == get_or (reverse self.old) place 0 then false else is_among self.old l) }
         ensures moved { LosesAt place (reverse self.old) (reverse self.new) }
     {
         let lit = self.trail.swap_remove(place);

@@ -1,4 +1,5 @@
-//! What contracts alone see of the order in which units were stored. It takes no memory, and its functions do nothing at run time.
+//! What contracts alone see of the order in which units were stored. It takes no memory, and its functions do nothing
+//! at run time.
 ghost use Rattle.std.specs.Prelude.{◌≡◌, ◌++◌, ◌∷◌, [], List, filter, not, ◌==◌};
 ghost use Rattle.std.specs.Borrow.{ftrue};
 ghost use Rattle.sat_checker.specs.Stored.{StoredUnit};

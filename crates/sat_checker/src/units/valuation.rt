@@ -23,8 +23,8 @@ fn want_if_apart(literals: &[Lit]) -> Result<bool, AllocError>
 #[tactic(auto, using(crate::proofs::lemmas::state::Models::setting_apart))]
 pub(crate) fn assume_apart(assigned: &mut Assigned, literals: &[Lit]) -> Result<bool, AllocError>
     requires { assigned.old ≡ [] }
-    ensures exact { IfOk result
-        (λ yes. MatchBool yes (VariablesApart literals.now × (assigned.new ≡ literals.now)) (VariablesApart literals.now → ⊥)) }
+    ensures exact { IfOk result (λ yes. MatchBool yes (VariablesApart literals.now × (assigned.new ≡ literals.now))
+        (VariablesApart literals.now → ⊥)) }
     ensures apart { OnErr result (VariablesApart literals.now) }
 {
     for place in (0..literals.len()).rev() {

@@ -3,7 +3,8 @@ ghost use Rattle.std.specs.Prelude.{◌≡◌, ◌+◌, ◌*◌, ◌/◌, ◌^�
 ghost use Rattle.std.specs.List.{Contains};
 ghost use Rattle.sat_store.specs.clause.Buffer.{header_at};
 ghost use Rattle.sat_parts.specs.clause.Db.{HoldsDb, PutsHeader, live_refs};
-ghost use Rattle.sat_parts.specs.clause.Activity.{PutsHeaders, BumpsBelow, BumpsPast, DecaysAll, later_scale, first_scale, later_bump, with_activity, shifted};
+ghost use Rattle.sat_parts.specs.clause.Activity.{PutsHeaders, BumpsBelow, BumpsPast, DecaysAll, later_scale};
+ghost use Rattle.sat_parts.specs.clause.Activity.{first_scale, later_bump, with_activity, shifted};
 
 use crate::clause::db::{ClauseDb, put_header};
 use sat_store::{ClauseAlloc, ClauseRef};
@@ -82,7 +83,8 @@ fn rescale_clause_activities(clauses: &mut ClauseAlloc, db: &ClauseDb)
 fn put_activity(clauses: &mut ClauseAlloc, _db: &ClauseDb, cref: ClauseRef, activity: u32)
     requires db { HoldsDb clauses.old _db.now }
     requires there { Contains _db.now.refs cref }
-    ensures put { PutsHeader clauses.old clauses.new _db.now.refs cref (with_activity (header_at clauses.old cref) activity) }
+    ensures put { PutsHeader clauses.old clauses.new _db.now.refs cref
+        (with_activity (header_at clauses.old cref) activity) }
     ensures db { HoldsDb clauses.new _db.now }
     ensures live { live_refs clauses.new _db.now.refs ≡ live_refs clauses.old _db.now.refs }
 {
@@ -114,16 +116,18 @@ pub fn bump_clause_activity(
     }
 }
 
-/// Lets all activities decay, in that later bumps add more. Where the bump comes to 2^30, it and all activities are put on a
-/// smaller scale.
+/// Lets all activities decay, in that later bumps add more. Where the bump comes to 2^30, it and all activities are put
+/// on a smaller scale.
 pub fn decay_clause_activities(
     activity: &mut ClauseActivity,
     clauses: &mut ClauseAlloc,
     db: &ClauseDb,
 )
     requires db { HoldsDb clauses.old db.now }
-    ensures later { later_bump activity.old < 2 ^ 30 → (activity.new ≡ later_scale activity.old) × (clauses.new ≡ clauses.old) }
-    ensures rescaled { 2 ^ 30 ≤ later_bump activity.old → DecaysAll clauses.old clauses.new db.now.refs activity.old activity.new }
+    ensures later { later_bump activity.old < 2 ^ 30
+        → (activity.new ≡ later_scale activity.old) × (clauses.new ≡ clauses.old) }
+    ensures rescaled { 2 ^ 30 ≤ later_bump activity.old
+        → DecaysAll clauses.old clauses.new db.now.refs activity.old activity.new }
     ensures db { HoldsDb clauses.new db.now }
     ensures live { live_refs clauses.new db.now.refs ≡ live_refs clauses.old db.now.refs }
 {

@@ -1,11 +1,13 @@
 //! The list of long clauses.
-ghost use Rattle.std.specs.Prelude.{◌≡◌, ◌+◌, ◌-◌, ◌^◌, ◌<◌, ◌≤◌, ◌↔◌, ℕ, List, Err, [], false, true, length, min, slice_index, slice_index_or, IsTrue, IfOk, OnErr};
+ghost use Rattle.std.specs.Prelude.{◌≡◌, ◌+◌, ◌-◌, ◌^◌, ◌<◌, ◌≤◌, ◌↔◌, ℕ, List, Err, [], false, true, length, min};
+ghost use Rattle.std.specs.Prelude.{slice_index, slice_index_or, IsTrue, IfOk, OnErr};
 ghost use Rattle.std.specs.List.{Contains};
 ghost use Rattle.sat_base.specs.values.Literals.{negated, variable};
 ghost use Rattle.sat_store.specs.clause.Buffer.{IsClause, Laid, AppendsClause, header_at, lits_at};
 ghost use Rattle.sat_store.specs.clause.Full.{OnFull};
 ghost use Rattle.sat_store.specs.clause.Header.{index_of};
-ghost use Rattle.sat_parts.specs.clause.Db.{no_clauses, HoldsDb, live_refs, one_more, one_less, PutsHeader, AddsLongClause, DeletesClause, MovesClause, ShortensClause, IsLockedClause};
+ghost use Rattle.sat_parts.specs.clause.Db.{no_clauses, HoldsDb, live_refs, one_more, one_less, PutsHeader};
+ghost use Rattle.sat_parts.specs.clause.Db.{AddsLongClause, DeletesClause, MovesClause, ShortensClause, IsLockedClause};
 ghost use Rattle.sat_parts.specs.clause.Stored.{lit_of};
 ghost use Rattle.sat_parts.specs.prop.WatchLists.{with_firsts};
 
@@ -20,9 +22,9 @@ use std::marker::Model;
 /// The words of a clause before its literals.
 const HEADER_LEN: usize = 3;
 
-/// The long clauses, in the order in which they came, and how many there are of each tier. A clause that was deleted stays in
-/// the list until its words are collected: its header says so. Contracts see a `Db`, and say by `HoldsDb` that it is the list of
-/// the clauses of a buffer.
+/// The long clauses, in the order in which they came, and how many there are of each tier. A clause that was deleted
+/// stays in the list until its words are collected: its header says so. Contracts see a `Db`, and say by `HoldsDb` that
+/// it is the list of the clauses of a buffer.
 #[derive(Drop)]
 pub struct ClauseDb {
     pub(crate) clauses: Vec<ClauseRef>,
@@ -116,7 +118,8 @@ impl ClauseDb {
 pub(crate) fn put_header(clauses: &mut ClauseAlloc, cref: ClauseRef, header: ClauseHeader)
     requires clause { IsClause clauses.old cref }
     requires len { header.len ≡ (header_at clauses.old cref).len }
-    ensures { (refs : List ℕ) → Laid clauses.old refs → Contains refs cref → PutsHeader clauses.old clauses.new refs cref header }
+    ensures { (refs : List ℕ) → Laid clauses.old refs → Contains refs cref
+        → PutsHeader clauses.old clauses.new refs cref header }
 {
     clauses.set_header(cref, header);
 }
@@ -147,9 +150,9 @@ fn store_clause(
     Ok(cref)
 }
 
-/// Adds a clause, of the tier of its header, behind all others, and watches it by its first two literals where watch lists are
-/// kept up. Its length is that of the literals, whatever the header says. An `Err` leaves everything as it was: `StoreFull` where
-/// no reference names the next place, else `OutOfMemory`.
+/// Adds a clause, of the tier of its header, behind all others, and watches it by its first two literals where watch
+/// lists are kept up. Its length is that of the literals, whatever the header says. An `Err` leaves everything as it
+/// was: `StoreFull` where no reference names the next place, else `OutOfMemory`.
 pub fn add_clause(
     clauses: &mut ClauseAlloc,
     db: &mut ClauseDb,
@@ -259,7 +262,8 @@ pub fn try_delete_clause(
     ensures free { result ≡ true → IsLockedClause clauses.old assignment.now.current graph.now cref → ⊥ }
     ensures deleted { result ≡ true → DeletesClause clauses.old db.old clauses.new db.new cref }
     ensures watches { result ≡ true → watchlists.new ≡ record watchlists.old { enabled = false } }
-    ensures same { result ≡ false → (clauses.new ≡ clauses.old) × (db.new ≡ db.old) × (watchlists.new ≡ watchlists.old) }
+    ensures same { result ≡ false → (clauses.new ≡ clauses.old) × (db.new ≡ db.old)
+        × (watchlists.new ≡ watchlists.old) }
 {
     if is_asserting(clauses, graph, assignment, cref) {
         return false;
@@ -268,8 +272,8 @@ pub fn try_delete_clause(
     true
 }
 
-/// Drops the literals of a live clause from a place on, of which three or more are left. Watch lists aren't kept up from here on,
-/// until they are built anew.
+/// Drops the literals of a live clause from a place on, of which three or more are left. Watch lists aren't kept up
+/// from here on, until they are built anew.
 pub fn shorten_clause(
     clauses: &mut ClauseAlloc,
     db: &ClauseDb,

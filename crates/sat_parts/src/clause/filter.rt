@@ -8,8 +8,8 @@ use crate::clause::db::{ClauseDb, delete_clause};
 use crate::prop::watch::Watchlists;
 use sat_store::{ClauseAlloc, ClauseRef};
 
-/// Asks a test for each live clause, once and in the order in which they came, and deletes those for which it answers false.
-/// Watch lists aren't kept up from here on, until they are built anew.
+/// Asks a test for each live clause, once and in the order in which they came, and deletes those for which it answers
+/// false. Watch lists aren't kept up from here on, until they are built anew.
 pub fn filter_clauses<F: FnMut(&ClauseAlloc, ClauseRef) -> bool>(
     clauses: &mut ClauseAlloc,
     db: &mut ClauseDb,

@@ -4,7 +4,8 @@ ghost use Rattle.sat_base.specs.values.Literals.{variable};
 ghost use Rattle.sat_store.specs.clause.Buffer.{IsClause};
 ghost use Rattle.sat_store.specs.clause.Full.{OnFull};
 ghost use Rattle.sat_parts.specs.clause.Db.{HoldsDb, live_refs};
-ghost use Rattle.sat_parts.specs.clause.Collected.{CopiesOne, Copying, AreFirsts, FollowsAll, Collects, CollectsNothing, after_collection};
+ghost use Rattle.sat_parts.specs.clause.Collected.{CopiesOne, Copying, AreFirsts, FollowsAll, Collects};
+ghost use Rattle.sat_parts.specs.clause.Collected.{CollectsNothing, after_collection};
 ghost use Rattle.sat_parts.specs.prop.Graphs.{HasReason, with_reason};
 
 use crate::clause::db::ClauseDb;
@@ -75,8 +76,8 @@ fn move_reason(graph: &mut ImplGraph, lit: Lit, from: ClauseRef, to: ClauseRef)
     }
 }
 
-/// Makes the copies of the live clauses the reasons that the clauses were. The trail isn't read: the contract's caller says by it
-/// which reasons count.
+/// Makes the copies of the live clauses the reasons that the clauses were. The trail isn't read: the contract's caller
+/// says by it which reasons count.
 fn move_reasons(
     clauses: &ClauseAlloc,
     db: &ClauseDb,
@@ -86,7 +87,8 @@ fn move_reasons(
 )
     requires db { HoldsDb clauses.now db.now }
     requires size { length refs.now.items ≡ length (live_refs clauses.now db.now.refs) }
-    requires low { (k : ℕ) → k < length refs.now.items → slice_index refs.now.items k ≤ slice_index (live_refs clauses.now db.now.refs) k }
+    requires low { (k : ℕ) → k < length refs.now.items
+        → slice_index refs.now.items k ≤ slice_index (live_refs clauses.now db.now.refs) k }
     requires firsts { AreFirsts clauses.now (live_refs clauses.now db.now.refs) _trail.now.lits graph.old }
     ensures { FollowsAll (live_refs clauses.now db.now.refs) refs.now.items _trail.now.lits graph.old graph.new }
 {
@@ -138,9 +140,9 @@ fn put_copied(copied: Copied, clauses: &mut ClauseAlloc, db: &mut ClauseDb)
     db.garbage_size = 0;
 }
 
-/// Collects deleted clauses where they take more than half of the buffer: the live clauses are put behind one another in a new
-/// buffer, in order, and reasons of literals of the trail name them there. Watch lists aren't kept up from there on, until they are
-/// built anew. After want of memory everything is as it was.
+/// Collects deleted clauses where they take more than half of the buffer: the live clauses are put behind one another
+/// in a new buffer, in order, and reasons of literals of the trail name them there. Watch lists aren't kept up from
+/// there on, until they are built anew. After want of memory everything is as it was.
 pub fn collect_garbage(
     alloc: Global,
     clauses: &mut ClauseAlloc,
@@ -153,11 +155,13 @@ pub fn collect_garbage(
     requires firsts { AreFirsts clauses.old (live_refs clauses.old db.old.refs) trail.now.lits graph.old }
     ensures collected { length clauses.old / 2 < db.old.garbage →
         OnOk result (Collects clauses.old db.old graph.old trail.now.lits clauses.new db.new graph.new) }
-    ensures watches { length clauses.old / 2 < db.old.garbage → OnOk result (watchlists.new ≡ record watchlists.old { enabled = false }) }
+    ensures watches { length clauses.old / 2 < db.old.garbage
+        → OnOk result (watchlists.new ≡ record watchlists.old { enabled = false }) }
     ensures not_due { db.old.garbage ≤ length clauses.old / 2 →
         CollectsNothing clauses.old db.old graph.old watchlists.old clauses.new db.new graph.new watchlists.new }
     ensures room { OnFull result ⊥ }
-    ensures same { OnErr result (CollectsNothing clauses.old db.old graph.old watchlists.old clauses.new db.new graph.new watchlists.new) }
+    ensures same { OnErr result (CollectsNothing clauses.old db.old graph.old watchlists.old clauses.new db.new
+        graph.new watchlists.new) }
 {
     if db.garbage_size() <= clauses.buffer_size() / 2 {
         return Ok(());

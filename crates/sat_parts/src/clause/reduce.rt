@@ -112,8 +112,8 @@ fn mark_tier(clauses: &mut ClauseAlloc, db: &ClauseDb, tier: Tier)
     }
 }
 
-/// The live clauses of a tier, each once and in the order in which they came, with their marks set. After want of memory everything
-/// is as it was.
+/// The live clauses of a tier, each once and in the order in which they came, with their marks set. After want of
+/// memory everything is as it was.
 pub fn dedup_and_mark_by_tier(
     alloc: Global,
     clauses: &mut ClauseAlloc,
@@ -122,7 +122,8 @@ pub fn dedup_and_mark_by_tier(
 ) -> Result<Vec<ClauseRef>, AllocError>
     requires { HoldsDb clauses.old db.now }
     ensures list { IfOk result (λ list. list.items ≡ filter (is_live_of clauses.old tier) db.now.refs) }
-    ensures marks { OnOk result (PutsHeaders clauses.old clauses.new db.now.refs (λ p. marked tier (header_at clauses.old p))) }
+    ensures marks { OnOk result (PutsHeaders clauses.old clauses.new db.now.refs
+        (λ p. marked tier (header_at clauses.old p))) }
     ensures db { HoldsDb clauses.new db.now }
     ensures live { live_refs clauses.new db.now.refs ≡ live_refs clauses.old db.now.refs }
     ensures same { OnErr result (clauses.new ≡ clauses.old) }

@@ -5,7 +5,8 @@ ghost use Rattle.sat_parts.specs.prop.Values.{IsOpenLit};
 ghost use Rattle.sat_parts.specs.prop.State.{State};
 ghost use Rattle.sat_parts.specs.parts.Whole.{state, PartsInvariant, IsDone};
 ghost use Rattle.sat_parts.specs.parts.Words.{TrailWordStays, TrailWordExtendsFor};
-ghost use Rattle.sat_parts.specs.parts.Assumed.{HaveVariablesIn, variables, ArePlaced, AssumedSays, AreCutTo, AreTrueFromTo, IsUntrueAt};
+ghost use Rattle.sat_parts.specs.parts.Assumed.{HaveVariablesIn, variables, ArePlaced, AssumedSays, AreCutTo};
+ghost use Rattle.sat_parts.specs.parts.Assumed.{AreTrueFromTo, IsUntrueAt};
 ghost use Rattle.sat_parts.specs.parts.Frame.{AddsNoUnit, SameClauses, AddsNothing, KeepsLevels, Deepens};
 
 use crate::parts::Parts;
@@ -13,13 +14,14 @@ use crate::parts::steps::{assume, undo};
 use sat_base::Lit;
 use std::alloc::{AllocError, Global};
 
-/// The literals that an ask assumes. Those that aren't true yet are made true in their order, each on a level of its own, before
-/// anything is decided. One that is true already gets no level.
+/// The literals that an ask assumes. Those that aren't true yet are made true in their order, each on a level of its
+/// own, before anything is decided. One that is true already gets no level.
 #[derive(Drop)]
 pub struct Assumptions {
     /// The whole list.
     pub lits: Vec<Lit>,
-    /// For each level below the last one that an assumption began, from level 0 on, the first assumption that wasn't looked at there.
+    /// For each level below the last one that an assumption began, from level 0 on, the first assumption that wasn't
+    /// looked at there.
     pub below: Vec<usize>,
     /// The same for the last level that an assumption began.
     pub place: usize,

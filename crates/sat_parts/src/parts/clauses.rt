@@ -4,7 +4,8 @@ ghost use Rattle.sat_base.specs.values.Literals.{negated};
 ghost use Rattle.sat_store.specs.clause.Buffer.{header_at};
 ghost use Rattle.sat_store.specs.clause.Header.{is_learned};
 ghost use Rattle.sat_store.specs.heap.Vsids.{bumped, decayed};
-ghost use Rattle.sat_parts.specs.clause.Activity.{PutsHeaders, DecaysAll, later_bump, later_scale, BumpsBelow, BumpsPast};
+ghost use Rattle.sat_parts.specs.clause.Activity.{PutsHeaders, DecaysAll, later_bump, later_scale, BumpsBelow};
+ghost use Rattle.sat_parts.specs.clause.Activity.{BumpsPast};
 ghost use Rattle.sat_parts.specs.clause.Reduced.{reduced};
 ghost use Rattle.sat_parts.specs.clause.Stored.{lit_of, size_of};
 ghost use Rattle.sat_parts.specs.prop.State.{HasLeft};
@@ -29,8 +30,10 @@ pub fn drop_clause(parts: &mut Parts, cref: ClauseRef) -> bool
     requires live { HasClause parts.old cref }
     ensures holds { PartsInvariant parts.new }
     ensures dropped { result ≡ true → Dropped parts.old parts.new cref }
-    ensures free { result ≡ true → IsLockedClause parts.old.clauses parts.old.assignment.current parts.old.graph cref → ⊥ }
-    ensures kept { result ≡ false → IsLockedClause parts.old.clauses parts.old.assignment.current parts.old.graph cref × (parts.new ≡ parts.old) }
+    ensures free { result ≡ true → IsLockedClause parts.old.clauses parts.old.assignment.current parts.old.graph cref
+        → ⊥ }
+    ensures kept { result ≡ false → IsLockedClause parts.old.clauses parts.old.assignment.current parts.old.graph cref
+        × (parts.new ≡ parts.old) }
     ensures others { (p : ℕ) → p ≢ cref → HasClause parts.old p → HasClause parts.new p }
     ensures word { TrailWordExtends parts.old parts.new }
 {
@@ -65,7 +68,8 @@ pub fn delete_long(parts: &mut Parts, cref: ClauseRef)
 pub fn reduce_middle(parts: &mut Parts)
     requires holds { PartsInvariant parts.old }
     ensures holds { PartsInvariant parts.new }
-    ensures headers { PutsHeaders parts.old.clauses parts.new.clauses parts.old.db.refs (λ o. reduced (header_at parts.old.clauses o)) }
+    ensures headers { PutsHeaders parts.old.clauses parts.new.clauses parts.old.db.refs
+        (λ o. reduced (header_at parts.old.clauses o)) }
     ensures headed { Headed parts.old parts.new }
     ensures word { TrailWordExtends parts.old parts.new }
 {
@@ -137,7 +141,8 @@ pub fn swap_behind(parts: &mut Parts, cref: ClauseRef, i: usize, j: usize)
     parts.clauses.swap_lits(cref, i, j);
 }
 
-/// Drops the literals of a live clause from a place on, where the first two aren't false by literals that have left the queue.
+/// Drops the literals of a live clause from a place on, where the first two aren't false by literals that have left the
+/// queue.
 pub fn shorten(parts: &mut Parts, cref: ClauseRef, len: usize)
     requires holds { PartsInvariant parts.old }
     requires live { HasClause parts.old cref }
@@ -199,8 +204,10 @@ pub fn bump_variable(parts: &mut Parts, var: Var)
 pub fn decay_clauses(parts: &mut Parts, activity: &mut ClauseActivity)
     requires holds { PartsInvariant parts.old }
     ensures holds { PartsInvariant parts.new }
-    ensures later { later_bump activity.old < 2 ^ 30 → (activity.new ≡ later_scale activity.old) × (parts.new.clauses ≡ parts.old.clauses) }
-    ensures rescaled { 2 ^ 30 ≤ later_bump activity.old → DecaysAll parts.old.clauses parts.new.clauses parts.old.db.refs activity.old activity.new }
+    ensures later { later_bump activity.old < 2 ^ 30
+        → (activity.new ≡ later_scale activity.old) × (parts.new.clauses ≡ parts.old.clauses) }
+    ensures rescaled { 2 ^ 30 ≤ later_bump activity.old
+        → DecaysAll parts.old.clauses parts.new.clauses parts.old.db.refs activity.old activity.new }
     ensures db { parts.new.db ≡ parts.old.db }
     ensures headed { Headed parts.old parts.new }
     ensures word { TrailWordExtends parts.old parts.new }

@@ -1,5 +1,6 @@
 //! Clauses that are loaded at level 0.
-ghost use Rattle.std.specs.Prelude.{ℕ, ◌≡◌, ◌-◌, ◌*◌, ◌^◌, ◌<◌, ◌≤◌, OnOk, IfOk, None, length, slice_index_or, [], true, false};
+ghost use Rattle.std.specs.Prelude.{ℕ, ◌≡◌, ◌-◌, ◌*◌, ◌^◌, ◌<◌, ◌≤◌, OnOk, IfOk, None, length, slice_index_or, []};
+ghost use Rattle.std.specs.Prelude.{true, false};
 ghost use Rattle.sat_base.specs.values.Literals.{variable, negated};
 ghost use Rattle.sat_store.specs.heap.Vsids.{may_pick};
 ghost use Rattle.sat_parts.specs.clause.Orders.{AreDistinct};
@@ -8,7 +9,8 @@ ghost use Rattle.sat_parts.specs.prop.State.{HasLeft, enqueued};
 ghost use Rattle.sat_parts.specs.prop.Values.{IsOpenLit, IsFalseLit, value_of};
 ghost use Rattle.sat_parts.specs.parts.Loadable.{IsLoadable, false_last, IsSorted};
 ghost use Rattle.sat_parts.specs.parts.Whole.{state, PartsInvariant};
-ghost use Rattle.sat_parts.specs.parts.Frame.{AddsNoUnit, SameClauses, SameState, GainsUnit, AddsOriginalClause, SameQueues};
+ghost use Rattle.sat_parts.specs.parts.Frame.{AddsNoUnit, SameClauses, SameState, GainsUnit, AddsOriginalClause};
+ghost use Rattle.sat_parts.specs.parts.Frame.{SameQueues};
 ghost use Rattle.sat_parts.specs.parts.Full.{IsFull};
 ghost use Rattle.sat_parts.specs.parts.Loading.{LoadSays};
 ghost use Rattle.sat_parts.specs.parts.Words.{TrailWordExtends};
@@ -99,13 +101,15 @@ pub fn load_unit(parts: &mut Parts, lit: Lit)
 fn put_all_back(parts: &mut Parts, lits: &[Lit], kept: usize)
     requires holds { PartsInvariant parts.old }
     requires bottom { parts.old.trail.starts ≡ [] }
-    requires back { (k : ℕ) → kept ≤ k → k < length lits.now → IsFalseLit parts.old.assignment.current (slice_index_or lits.now k 0) }
+    requires back { (k : ℕ) → kept ≤ k → k < length lits.now
+        → IsFalseLit parts.old.assignment.current (slice_index_or lits.now k 0) }
     ensures holds { PartsInvariant parts.new }
     ensures bottom { parts.new.trail.starts ≡ [] }
     ensures values { (v : ℕ) → value_of parts.new.assignment.current v ≡ value_of parts.old.assignment.current v }
     ensures size { length parts.new.assignment.current ≡ length parts.old.assignment.current }
     ensures queue { parts.new.vsids ≡ parts.old.vsids }
-    ensures fresh { (k : ℕ) → kept ≤ k → k < length lits.now → HasLeft (state parts.new) (negated (slice_index_or lits.now k 0)) → ⊥ }
+    ensures fresh { (k : ℕ) → kept ≤ k → k < length lits.now
+        → HasLeft (state parts.new) (negated (slice_index_or lits.now k 0)) → ⊥ }
     ensures same { SameClauses parts.old parts.new }
     ensures carries { AddsNoUnit (state parts.old) (state parts.new) }
 {
@@ -154,19 +158,23 @@ fn load_sorted(parts: &mut Parts, lits: &[Lit], kept: usize) -> Result<Loaded, S
     Ok(Loaded::Unit)
 }
 
-/// Loads a clause at level 0. Its false literals in front of the first true one go last, in order, and the units that make them
-/// false are put back into the queue. It is stored in this order unless one of its literals is true, or it has less than two.
+/// Loads a clause at level 0. Its false literals in front of the first true one go last, in order, and the units that
+/// make them false are put back into the queue. It is stored in this order unless one of its literals is true, or it
+/// has less than two.
 pub fn load(parts: &mut Parts, given: &[Lit], sorting: &mut Sorting) -> Result<Loaded, StoreError>
     requires holds { PartsInvariant parts.old }
     requires bottom { parts.old.trail.starts ≡ [] }
     requires distinct { AreDistinct given.now }
     requires fits { length given.now < 2 ^ 32 }
-    requires below { (k : ℕ) → k < length given.now → slice_index_or given.now k 0 < 2 * length parts.old.assignment.current }
-    requires ready { (k : ℕ) → k < length given.now → value_of parts.old.assignment.current (variable (slice_index_or given.now k 0)) ≡ None →
-        may_pick parts.old.vsids (variable (slice_index_or given.now k 0)) ≡ true }
+    requires below { (k : ℕ) → k < length given.now
+        → slice_index_or given.now k 0 < 2 * length parts.old.assignment.current }
+    requires ready { (k : ℕ) → k < length given.now
+        → value_of parts.old.assignment.current (variable (slice_index_or given.now k 0)) ≡ None
+        → may_pick parts.old.vsids (variable (slice_index_or given.now k 0)) ≡ true }
     ensures holds { OnOk result (PartsInvariant parts.new) }
     ensures order { OnOk result (sorting.new.lits.items ≡ false_last parts.old.assignment.current given.now) }
-    ensures says { IfOk result (λ r. LoadSays r parts.old parts.new (false_last parts.old.assignment.current given.now)) }
+    ensures says { IfOk result (λ r. LoadSays r parts.old parts.new
+        (false_last parts.old.assignment.current given.now)) }
     ensures kept { OnOk result ((parts.new.vsids ≡ parts.old.vsids) × (parts.new.trail.starts ≡ [])) }
     ensures full { OnFull result (IsFull parts.new) }
 {

@@ -74,14 +74,16 @@ fn take_clauses(ranks: &[(u128, ClauseRef)], list: &mut Vec<ClauseRef>) -> Resul
     Ok(())
 }
 
-/// Puts the live clauses of tier Local into a list: those of lower activity first, and of equals the one that came first.
+/// Puts the live clauses of tier Local into a list: those of lower activity first, and of equals the one that came
+/// first.
 pub fn list_locals(
     alloc: Global,
     parts: &Parts,
     list: &mut Vec<ClauseRef>,
 ) -> Result<(), AllocError>
     requires holds { PartsInvariant parts.now }
-    ensures locals { OnOk result (IsPermutation (filter (is_live_of parts.now.clauses Tier.Local) parts.now.db.refs) list.new.items) }
+    ensures locals { OnOk result (IsPermutation (filter (is_live_of parts.now.clauses Tier.Local) parts.now.db.refs)
+        list.new.items) }
     ensures rising { OnOk result (IsNonDecreasingBy (clause_rank parts.now.clauses) list.new.items) }
     ensures once { OnOk result (AreDistinct list.new.items) }
     ensures live { OnOk result (HasClauses parts.now list.new.items) }

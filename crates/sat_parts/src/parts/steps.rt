@@ -1,5 +1,6 @@
 //! The steps of a round.
-ghost use Rattle.std.specs.Prelude.{ℕ, List, ◌≡◌, ◌≢◌, ◌+◌, ◌<◌, ◌≤◌, OnOk, IfOk, MatchResult, MatchOption, Some, None, true, false, [], length};
+ghost use Rattle.std.specs.Prelude.{ℕ, List, ◌≡◌, ◌≢◌, ◌+◌, ◌<◌, ◌≤◌, OnOk, IfOk, MatchResult, MatchOption, Some, None};
+ghost use Rattle.std.specs.Prelude.{true, false, [], length};
 ghost use Rattle.sat_base.specs.values.Literals.{variable};
 ghost use Rattle.sat_store.specs.heap.Vsids.{Queue, may_pick};
 ghost use Rattle.sat_parts.specs.prop.Values.{IsOpenLit, value_of};
@@ -10,9 +11,11 @@ ghost use Rattle.sat_parts.specs.parts.Whole.{state, PartsInvariant, HoldsBelow,
 ghost use Rattle.sat_parts.specs.parts.Round.{UnitsAreUncaused, IsBased};
 ghost use Rattle.sat_parts.specs.prop.Trails.{cut_to};
 ghost use Rattle.sat_parts.specs.prop.TrailWord.{decided_on};
-ghost use Rattle.sat_parts.specs.parts.Words.{WordExtends, TrailWordExtendsFor, TrailWordStays, TrailWordExtends, IsAwaited};
+ghost use Rattle.sat_parts.specs.parts.Words.{WordExtends, TrailWordExtendsFor, TrailWordStays, TrailWordExtends};
+ghost use Rattle.sat_parts.specs.parts.Words.{IsAwaited};
 ghost use Rattle.sat_parts.specs.parts.Learned.{IsLearned, IsPending};
-ghost use Rattle.sat_parts.specs.parts.Frame.{AddsNoUnit, SameClauses, Reordered, Learnt, KeepsTo, AddsNothing, KeepsLevels, Deepens, EnqueuesFirst};
+ghost use Rattle.sat_parts.specs.parts.Frame.{AddsNoUnit, SameClauses, Reordered, Learnt, KeepsTo, AddsNothing};
+ghost use Rattle.sat_parts.specs.parts.Frame.{KeepsLevels, Deepens, EnqueuesFirst};
 ghost use Rattle.sat_parts.specs.parts.Full.{IsFull};
 ghost use Rattle.sat_store.specs.clause.Full.{OnFull};
 
@@ -25,12 +28,13 @@ use std::alloc::{AllocError, Global};
 /// Propagates. After a conflict the parts hold again once the current level is undone.
 pub fn propagate_all(alloc: Global, parts: &mut Parts) -> Result<Result<(), Conflict>, AllocError>
     requires holds { HoldsBelow (length parts.old.trail.starts + 1) parts.old }
-    ensures holds { IfOk result (λ r. MatchResult r
-        (λ _. HoldsBelow (length parts.new.trail.starts + 1) parts.new)
+    ensures holds { IfOk result (λ r. MatchResult r (λ _. HoldsBelow (length parts.new.trail.starts + 1) parts.new)
         (λ e. HoldsBelow (length parts.new.trail.starts) parts.new
-        × IsConflict parts.new.clauses (live_refs parts.new.clauses parts.new.db.refs) parts.new.binary.implied parts.new.assignment.current e)) }
+        × IsConflict parts.new.clauses (live_refs parts.new.clauses parts.new.db.refs) parts.new.binary.implied
+        parts.new.assignment.current e)) }
     ensures done { IfOk result (λ r. OnOk r (IsDone parts.new)) }
-    ensures units { 0 < length parts.old.trail.starts → UnitsAreUncaused (state parts.old) → OnOk result (UnitsAreUncaused (state parts.new)) }
+    ensures units { 0 < length parts.old.trail.starts → UnitsAreUncaused (state parts.old)
+        → OnOk result (UnitsAreUncaused (state parts.new)) }
     ensures base { 0 < length parts.old.trail.starts → IsBased parts.old.trail → OnOk result (IsBased parts.new.trail) }
     ensures starts { OnOk result (parts.new.trail.starts ≡ parts.old.trail.starts) }
     ensures moved { OnOk result (Reordered parts.old parts.new) }
@@ -54,9 +58,11 @@ pub fn propagate_all(alloc: Global, parts: &mut Parts) -> Result<Result<(), Conf
 pub fn pick(vsids: &mut Vsids, assignment: &Assignment) -> Option<Var>
     requires size { length vsids.old.available ≡ length assignment.now.current }
     ensures size { length vsids.new.available ≡ length vsids.old.available }
-    ensures kept { (u : ℕ) → value_of assignment.now.current u ≡ None → MatchOption result (may_pick vsids.old u ≡ false)
+    ensures kept { (u : ℕ) → value_of assignment.now.current u ≡ None
+        → MatchOption result (may_pick vsids.old u ≡ false)
         (λ v. u ≢ v → may_pick vsids.old u ≡ true → may_pick vsids.new u ≡ true) }
-    ensures open { MatchOption result ℕ (λ v. (v < length assignment.now.current) × (value_of assignment.now.current v ≡ None)) }
+    ensures open { MatchOption result ℕ
+        (λ v. (v < length assignment.now.current) × (value_of assignment.now.current v ≡ None)) }
     ensures picked { MatchOption result ℕ (λ v. may_pick vsids.old v ≡ true) }
     ensures fewer { (u : ℕ) → may_pick vsids.old u ≡ false → may_pick vsids.new u ≡ false }
 {
@@ -76,8 +82,9 @@ fn decide_on(parts: &mut Parts, var: Var) -> Result<(), AllocError>
     ensures deeper { OnOk result (Deepens parts.old parts.new) }
     ensures same { OnOk result (AddsNothing parts.old parts.new) }
     ensures keeps { OnOk result (KeepsLevels parts.old parts.new) }
-    ensures word { (assumed : List ℕ) (q : Queue) → may_pick q var ≡ true → ((u : ℕ) → may_pick q u ≡ false → may_pick parts.old.vsids u ≡ false) →
-        OnOk result (WordExtends assumed (state parts.old) q (state parts.new) parts.new.vsids) }
+    ensures word { (assumed : List ℕ) (q : Queue) → may_pick q var ≡ true
+        → ((u : ℕ) → may_pick q u ≡ false → may_pick parts.old.vsids u ≡ false)
+        → OnOk result (WordExtends assumed (state parts.old) q (state parts.new) parts.new.vsids) }
 {
     let lit = var.lit(parts.assignment.last_var_value(var));
     parts.trail.new_decision_level()?;
@@ -195,7 +202,8 @@ pub fn undo(parts: &mut Parts, level: usize)
     requires below { level < length parts.old.trail.starts }
     requires due { level < top }
     ensures holds { PartsInvariant parts.new }
-    ensures pending { (ls : List ℕ) → IsLearned (state parts.old) ls level → IsPending (state parts.new) parts.new.vsids ls }
+    ensures pending { (ls : List ℕ) → IsLearned (state parts.old) ls level
+        → IsPending (state parts.new) parts.new.vsids ls }
     ensures starts { length parts.new.trail.starts ≡ level }
     ensures trail { parts.new.trail ≡ cut_to level parts.old.trail }
     ensures graph { parts.new.graph ≡ parts.old.graph }

@@ -33,7 +33,8 @@ fn mark_lits(used: &mut Vec<bool>, lits: &[Lit])
 /// Marks the variables of a clause.
 fn mark_clause(used: &mut Vec<bool>, clauses: &ClauseAlloc, cref: ClauseRef)
     requires clause { IsClause clauses.now cref }
-    requires below { (k : ℕ) → k < size_of clauses.now cref → variable (lit_of clauses.now cref k) < length used.old.items }
+    requires below { (k : ℕ) → k < size_of clauses.now cref
+        → variable (lit_of clauses.now cref k) < length used.old.items }
     ensures { MarksJustWhere used.old.items used.new.items (HasVar clauses.now cref (size_of clauses.now cref)) }
 {
     for at in 0..clauses.len(cref) {
@@ -45,7 +46,8 @@ fn mark_clause(used: &mut Vec<bool>, clauses: &ClauseAlloc, cref: ClauseRef)
 fn mark_long(used: &mut Vec<bool>, parts: &Parts)
     requires holds { PartsInvariant parts.now }
     requires size { length used.old.items ≡ length parts.now.assignment.current }
-    ensures { MarksJustWhere used.old.items used.new.items (InLong parts.now.clauses parts.now.db.refs (length parts.now.db.refs)) }
+    ensures { MarksJustWhere used.old.items used.new.items
+        (InLong parts.now.clauses parts.now.db.refs (length parts.now.db.refs)) }
 {
     for at in 0..parts.db.len() {
         let cref = parts.db.cref(at);
@@ -60,7 +62,8 @@ fn mark_long(used: &mut Vec<bool>, parts: &Parts)
 fn mark_binary(used: &mut Vec<bool>, parts: &Parts)
     requires holds { PartsInvariant parts.now }
     requires size { length used.old.items ≡ length parts.now.assignment.current }
-    ensures { MarksJustWhere used.old.items used.new.items (InBinary parts.now.binary.implied (length parts.now.binary.implied)) }
+    ensures { MarksJustWhere used.old.items used.new.items
+        (InBinary parts.now.binary.implied (length parts.now.binary.implied)) }
 {
     for code in 0..2 * used.len() {
         let lit = Lit::from_code(code);

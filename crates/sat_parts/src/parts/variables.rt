@@ -46,12 +46,14 @@ pub fn reset_activity(parts: &mut Parts, var: Var)
     requires given_up { may_pick parts.old.vsids var ≡ false }
     ensures holds { PartsInvariant parts.new }
     ensures same { SameContents parts.old parts.new }
-    ensures queue { parts.new.vsids ≡ record parts.old.vsids { activities = slice_set parts.old.vsids.activities var 0 } }
+    ensures queue { parts.new.vsids
+        ≡ record parts.old.vsids { activities = slice_set parts.old.vsids.activities var 0 } }
 {
     parts.vsids.reset(var);
 }
 
-/// Gives a variable that was given up the value that makes a unit true, as it had when the unit was taken off the trail.
+/// Gives a variable that was given up the value that makes a unit true, as it had when the unit was taken off the
+/// trail.
 pub fn use_with_unit(parts: &mut Parts, lit: Lit)
     requires holds { PartsInvariant parts.old }
     requires bottom { parts.old.trail.starts ≡ [] }

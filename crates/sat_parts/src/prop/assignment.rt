@@ -1,7 +1,8 @@
 //! Values of variables.
 ghost use Rattle.std.specs.Prelude.{◌≡◌, ◌<◌, ◌≤◌, ◌↔◌, [], length, IsTrue, OnOk, OnErr, None, slice_index_or};
 ghost use Rattle.sat_base.specs.values.Literals.{largest, variable, is_positive};
-ghost use Rattle.sat_parts.specs.prop.Values.{assigned, made_true, with_var_count, value_of, seen_from, IsTrueLit, IsFalseLit, IsOpenLit};
+ghost use Rattle.sat_parts.specs.prop.Values.{assigned, made_true, with_var_count, value_of, seen_from, IsTrueLit};
+ghost use Rattle.sat_parts.specs.prop.Values.{IsFalseLit, IsOpenLit};
 ghost use Rattle.sat_parts.specs.prop.Undone.{lost};
 
 use crate::prop::lit_values::LitValues;

@@ -11,8 +11,8 @@ use crate::prop::trail::{Trail, enqueue_assignment};
 use sat_base::Lit;
 use std::alloc::AllocError;
 
-/// Makes the literals true that a literal taken off the queue implies. An `Err` within is a clause of two literals, both of
-/// which are false. Takes no memory.
+/// Makes the literals true that a literal taken off the queue implies. An `Err` within is a clause of two literals,
+/// both of which are false. Takes no memory.
 pub fn propagate_binary(
     binary: &BinaryClauses,
     assignment: &mut Assignment,
@@ -24,7 +24,8 @@ pub fn propagate_binary(
     requires agrees { Agrees (state_of assignment.old graph.old trail.old) }
     requires queue { IsQueueCurrent (state_of assignment.old graph.old trail.old) }
     requires left { HasLeft (state_of assignment.old graph.old trail.old) lit }
-    requires top { level (state_of assignment.old graph.old trail.old) lit ≡ current_level (state_of assignment.old graph.old trail.old) }
+    requires top { level (state_of assignment.old graph.old trail.old) lit
+        ≡ current_level (state_of assignment.old graph.old trail.old) }
     ensures memory { IsOk result }
     ensures walked { IfOk result (λ r. WalksBinary binary.now.implied lit
         (state_of assignment.old graph.old trail.old) (state_of assignment.new graph.new trail.new) r) }

@@ -103,8 +103,8 @@ impl<'a> Iterator for CauseLitsIter<'a> {
 impl<'a> FusedIterator for CauseLitsIter<'a> {}
 
 impl Reason {
-    /// The false literals by which the reason's literal became true: none of a unit or a decision. A long clause has that literal
-    /// first, and the others are lent from it.
+    /// The false literals by which the reason's literal became true: none of a unit or a decision. A long clause has
+    /// that literal first, and the others are lent from it.
     pub fn lits<'a>(&'a self, clauses: &'a ClauseAlloc) -> CauseLits<'a>
         requires clause { (o : ℕ) → self.now ≡ Reason.Long o → IsClause clauses.now o }
         requires some { (o : ℕ) → self.now ≡ Reason.Long o → 0 < length (lits_at clauses.now o) }

@@ -16,8 +16,8 @@ use sat_base::Lit;
 use sat_store::{ClauseAlloc, ClauseRef};
 use std::alloc::{AllocError, Global};
 
-/// What became of a watch whose literal is false: the clause isn't watched by it, has found another literal, or keeps the
-/// watch, with its first literal true, to become true, or false as all others.
+/// What became of a watch whose literal is false: the clause isn't watched by it, has found another literal, or keeps
+/// the watch, with its first literal true, to become true, or false as all others.
 #[derive(Clone, Copy)]
 enum Visit {
     Stale,
@@ -31,12 +31,14 @@ enum Visit {
 #[inline(always)] // called for each clause that propagation reads
 fn find_open(clauses: &ClauseAlloc, assignment: &Assignment, cref: ClauseRef) -> usize
     requires clause { IsClause clauses.now cref }
-    requires below { (k : ℕ) → k < size_of clauses.now cref → lit_of clauses.now cref k < 2 * length assignment.now.current }
+    requires below { (k : ℕ) → k < size_of clauses.now cref
+        → lit_of clauses.now cref k < 2 * length assignment.now.current }
     requires long { 2 ≤ size_of clauses.now cref }
     ensures from { 2 ≤ result }
     ensures within { result ≤ size_of clauses.now cref }
     ensures before { (k : ℕ) → 2 ≤ k → k < result → IsFalseLit assignment.now.current (lit_of clauses.now cref k) }
-    ensures found { result < size_of clauses.now cref → IsFalseLit assignment.now.current (lit_of clauses.now cref result) → ⊥ }
+    ensures found { result < size_of clauses.now cref
+        → IsFalseLit assignment.now.current (lit_of clauses.now cref result) → ⊥ }
 {
     let len = clauses.len(cref);
     for at in 2..len {
@@ -47,15 +49,16 @@ fn find_open(clauses: &ClauseAlloc, assignment: &Assignment, cref: ClauseRef) ->
     len
 }
 
-/// Brings a literal to the second place if it is one of the first two, and says whether it is. The second place is tested
-/// first, so that a literal that is true by this clause stays its first.
+/// Brings a literal to the second place if it is one of the first two, and says whether it is. The second place is
+/// tested first, so that a literal that is true by this clause stays its first.
 #[inline(always)] // called for each clause that propagation reads
 fn orient(clauses: &mut ClauseAlloc, cref: ClauseRef, lit: Lit) -> bool
     requires clause { IsClause clauses.old cref }
     requires long { 2 ≤ size_of clauses.old cref }
     ensures shuffles { Shuffles clauses.old clauses.new cref }
     ensures oriented { IsTrue result → Oriented clauses.old clauses.new cref lit }
-    ensures stale { ¬ IsTrue result → (lit_of clauses.old cref 0 ≢ lit) × (lit_of clauses.old cref 1 ≢ lit) × (clauses.new ≡ clauses.old) }
+    ensures stale { ¬ IsTrue result → (lit_of clauses.old cref 0 ≢ lit) × (lit_of clauses.old cref 1 ≢ lit)
+        × (clauses.new ≡ clauses.old) }
 {
     if clauses.lit(cref, 1) == lit {
         return true;
@@ -77,11 +80,13 @@ fn visit_clause(
 ) -> Result<Visit, AllocError>
     requires clause { IsClause clauses.old cref }
     requires long { 2 ≤ size_of clauses.old cref }
-    requires below { (k : ℕ) → k < size_of clauses.old cref → lit_of clauses.old cref k < 2 * length assignment.now.current }
+    requires below { (k : ℕ) → k < size_of clauses.old cref
+        → lit_of clauses.old cref k < 2 * length assignment.now.current }
     requires room { length watchlists.old.lists ≡ 2 * length assignment.now.current }
     requires falsified { IsFalseLit assignment.now.current false_lit }
     ensures shuffles { Shuffles clauses.old clauses.new cref }
-    ensures visited { IfOk result (λ r. VisitedIn clauses.old clauses.new assignment.now watchlists.old watchlists.new cref false_lit r) }
+    ensures visited { IfOk result (λ r. VisitedIn clauses.old clauses.new assignment.now watchlists.old watchlists.new
+        cref false_lit r) }
     ensures enabled { watchlists.new.enabled ≡ watchlists.old.enabled }
 {
     if !orient(clauses, cref, false_lit) {
@@ -109,8 +114,8 @@ fn visit_clause(
     }
 }
 
-/// Goes through the watches of a literal that was taken off the queue, and answers a clause that it finds falsified. After
-/// want of memory the parts aren't used again.
+/// Goes through the watches of a literal that was taken off the queue, and answers a clause that it finds falsified.
+/// After want of memory the parts aren't used again.
 fn propagate_list(
     clauses: &mut ClauseAlloc,
     watchlists: &mut Watchlists,
@@ -121,7 +126,8 @@ fn propagate_list(
     lit: Lit,
 ) -> Result<Option<ClauseRef>, AllocError>
     ghost live: { List ℕ }
-    requires { Half clauses.old live (state_of assignment.old graph.old trail.old) watchlists.old.lists list.old lit 0 0 }
+    requires { Half clauses.old live (state_of assignment.old graph.old trail.old) watchlists.old.lists list.old lit 0
+        0 }
     ensures walked { IfOk result (λ found. Walks live
         clauses.old (state_of assignment.old graph.old trail.old)
         clauses.new (state_of assignment.new graph.new trail.new) (slice_set watchlists.new.lists lit list.new) found) }
@@ -162,8 +168,9 @@ fn propagate_list(
     Ok(None)
 }
 
-/// Propagates a literal that was taken off the queue, over the long clauses. The literals before it are settled already. An
-/// `Err` within is a live clause whose literals are all false. After want of memory the parts aren't used again.
+/// Propagates a literal that was taken off the queue, over the long clauses. The literals before it are settled
+/// already. An `Err` within is a live clause whose literals are all false. After want of memory the parts aren't used
+/// again.
 pub fn propagate_long(
     alloc: Global,
     clauses: &mut ClauseAlloc,
@@ -174,9 +181,11 @@ pub fn propagate_long(
     lit: Lit,
 ) -> Result<Result<(), Conflict>, AllocError>
     ghost live: { List ℕ }
-    requires ready { LongReady clauses.old live watchlists.old.lists (state_of assignment.old graph.old trail.old) (λ l. l ≢ lit) }
+    requires ready { LongReady clauses.old live watchlists.old.lists (state_of assignment.old graph.old trail.old)
+        (λ l. l ≢ lit) }
     requires left { HasLeft (state_of assignment.old graph.old trail.old) lit }
-    requires top { level (state_of assignment.old graph.old trail.old) lit ≡ current_level (state_of assignment.old graph.old trail.old) }
+    requires top { level (state_of assignment.old graph.old trail.old) lit
+        ≡ current_level (state_of assignment.old graph.old trail.old) }
     ensures walked { IfOk result (λ r. WalksLong live
         clauses.old (state_of assignment.old graph.old trail.old)
         clauses.new (state_of assignment.new graph.new trail.new) watchlists.new.lists r) }

@@ -13,8 +13,9 @@ use crate::prop::watch::Watchlists;
 use sat_store::ClauseAlloc;
 use std::alloc::{AllocError, Global};
 
-/// Takes literal after literal off the queue and propagates it, over the clauses of two literals before the long ones. After
-/// want of memory the parts aren't used again. The list of clauses isn't read: the contract's caller says by it which are live.
+/// Takes literal after literal off the queue and propagates it, over the clauses of two literals before the long ones.
+/// After want of memory the parts aren't used again. The list of clauses isn't read: the contract's caller says by it
+/// which are live.
 pub(crate) fn propagate_queue(
     alloc: Global,
     clauses: &mut ClauseAlloc,
@@ -26,7 +27,8 @@ pub(crate) fn propagate_queue(
     binary: &BinaryClauses,
 ) -> Result<Result<(), Conflict>, AllocError>
     ghost live: { List ℕ }
-    requires { IsReadyToPropagate clauses.old live watchlists.old.lists binary.now.implied (state_of assignment.old graph.old trail.old) }
+    requires { IsReadyToPropagate clauses.old live watchlists.old.lists binary.now.implied
+        (state_of assignment.old graph.old trail.old) }
     ensures propagated { IfOk result (λ r. Propagated live binary.now.implied
         clauses.old (state_of assignment.old graph.old trail.old)
         clauses.new (state_of assignment.new graph.new trail.new) watchlists.new.lists r) }

@@ -1,15 +1,18 @@
 //! The trail of literals that were made true.
-ghost use Rattle.std.specs.Prelude.{◌≡◌, ◌+◌, ◌-◌, ◌^◌, ◌<◌, ◌≤◌, ◌↔◌, ◌⊎◌, [], length, min, max, IsTrue, OnOk, OnErr, MatchOption, slice_get, IfNone, IfSome};
+ghost use Rattle.std.specs.Prelude.{◌≡◌, ◌+◌, ◌-◌, ◌^◌, ◌<◌, ◌≤◌, ◌↔◌, ◌⊎◌, [], length, min, max, IsTrue, OnOk, OnErr};
+ghost use Rattle.std.specs.Prelude.{MatchOption, slice_get, IfNone, IfSome};
 ghost use Rattle.sat_base.specs.values.Literals.{largest, variable};
 ghost use Rattle.sat_parts.specs.clause.Glue.{VariablesBelow};
 ghost use Rattle.sat_parts.specs.prop.Values.{made_true, IsOpenLit};
 ghost use Rattle.sat_parts.specs.prop.Graphs.{node_at, with_node};
-ghost use Rattle.sat_parts.specs.prop.Trails.{IsTrail, PopsNext, no_trail, first_start, with_lit, with_level, with_cleared};
+ghost use Rattle.sat_parts.specs.prop.Trails.{IsTrail, PopsNext, no_trail, first_start, with_lit, with_level};
+ghost use Rattle.sat_parts.specs.prop.Trails.{with_cleared};
 ghost use Rattle.sat_parts.specs.prop.Trails.{cut_to};
 ghost use Rattle.sat_parts.specs.prop.Undone.{undone, undone_to, all_available, undone_lits};
 ghost use Rattle.sat_parts.specs.prop.State.{Agrees};
 ghost use Rattle.sat_parts.specs.prop.Ready.{state_of};
-ghost use Rattle.sat_parts.specs.prop.Backtracked.{KeepsBelow, KeepsAllAsked, KeepsAskedBy, KeepsAskedAbove, KeepsTurns};
+ghost use Rattle.sat_parts.specs.prop.Backtracked.{KeepsBelow, KeepsAllAsked, KeepsAskedBy, KeepsAskedAbove};
+ghost use Rattle.sat_parts.specs.prop.Backtracked.{KeepsTurns};
 
 use crate::prop::assignment::Assignment;
 use crate::prop::graph::{ImplGraph, ImplNode, Reason};
@@ -69,7 +72,8 @@ impl Trail {
 
     /// The next literal to be propagated.
     pub fn queue_head(&self) -> Option<Lit>
-        ensures next { MatchOption result (self.now.head ≡ length self.now.lits) (λ l. slice_get self.now.lits self.now.head ≡ Some l) }
+        ensures next { MatchOption result (self.now.head ≡ length self.now.lits)
+            (λ l. slice_get self.now.lits self.now.head ≡ Some l) }
         ensures sound { IsTrail self.now }
     {
         self.trail.get(self.queue_head_pos).copied()
@@ -177,7 +181,8 @@ pub fn enqueue_assignment(
     ensures value { assignment.new ≡ made_true lit assignment.old }
     ensures node { graph.new ≡ with_node (variable lit) (node_at trail.old reason) graph.old }
     ensures trail { trail.new ≡ with_lit lit trail.old }
-    ensures agrees { Agrees (state_of assignment.old graph.old trail.old) → Agrees (state_of assignment.new graph.new trail.new) }
+    ensures agrees { Agrees (state_of assignment.old graph.old trail.old)
+        → Agrees (state_of assignment.new graph.new trail.new) }
     ensures asked { KeepsAskedBy lit reason assignment.old graph.old trail.old assignment.new graph.new trail.new }
 {
     push_assignment(assignment, graph, trail, lit, reason);
@@ -222,8 +227,9 @@ fn undo(assignment: &mut Assignment, vsids: &mut Vsids, lits: &[Lit])
     }
 }
 
-/// Undoes the levels above this one: their literals leave the trail, their variables lose their values and may be picked again,
-/// and nothing is to be propagated. A level that isn't below the current one changes nothing. Takes no memory.
+/// Undoes the levels above this one: their literals leave the trail, their variables lose their values and may be
+/// picked again, and nothing is to be propagated. A level that isn't below the current one changes nothing. Takes no
+/// memory.
 pub fn backtrack(assignment: &mut Assignment, trail: &mut Trail, vsids: &mut Vsids, level: usize)
     requires values { VariablesBelow trail.old.lits (length assignment.old.current) }
     requires queue { VariablesBelow trail.old.lits (length vsids.old.available) }
@@ -232,9 +238,11 @@ pub fn backtrack(assignment: &mut Assignment, trail: &mut Trail, vsids: &mut Vsi
     ensures same_queue { length trail.old.starts ≤ level → vsids.new ≡ vsids.old }
     ensures values { level < length trail.old.starts → assignment.new ≡ undone_to level trail.old assignment.old }
     ensures trail { level < length trail.old.starts → trail.new ≡ cut_to level trail.old }
-    ensures available { level < length trail.old.starts → vsids.new ≡ all_available (undone_lits level trail.old) vsids.old }
+    ensures available { level < length trail.old.starts
+        → vsids.new ≡ all_available (undone_lits level trail.old) vsids.old }
     ensures kept { KeepsBelow level assignment.old trail.old assignment.new trail.new }
-    ensures asked { level < length trail.old.starts → KeepsAllAsked level assignment.old trail.old assignment.new trail.new }
+    ensures asked { level < length trail.old.starts
+        → KeepsAllAsked level assignment.old trail.old assignment.new trail.new }
     ensures turns { level < length trail.old.starts → KeepsTurns assignment.old trail.old assignment.new trail.new }
 {
     if level >= trail.current_level() {

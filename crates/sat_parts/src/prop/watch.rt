@@ -1,11 +1,13 @@
 //! Lists of the long clauses that are to be looked at when a literal becomes true.
-ghost use Rattle.std.specs.Prelude.{ℕ, IsTrue, ◌≡◌, ◌-◌, ◌*◌, ◌<◌, ◌≤◌, ◌∷◌, ◌++◌, [], length, OnOk, OnErr, take, drop, true, false, slice_index_or, slice_set, if◌then◌else◌, is_ok};
+ghost use Rattle.std.specs.Prelude.{ℕ, IsTrue, ◌≡◌, ◌-◌, ◌*◌, ◌<◌, ◌≤◌, ◌∷◌, ◌++◌, [], length, OnOk, OnErr, take, drop};
+ghost use Rattle.std.specs.Prelude.{true, false, slice_index_or, slice_set, if◌then◌else◌, is_ok};
 ghost use Rattle.sat_base.specs.values.Literals.{largest, negated};
 ghost use Rattle.sat_store.specs.clause.Buffer.{Laid};
 ghost use Rattle.sat_parts.specs.clause.Db.{live_refs};
 ghost use Rattle.sat_parts.specs.clause.Stored.{AreClauses};
 ghost use Rattle.sat_parts.specs.prop.Building.{WatchesLive};
-ghost use Rattle.sat_parts.specs.prop.WatchLists.{watches_of, no_watch, watch_on, with_watch, without_last, with_clause_watches, with_lists};
+ghost use Rattle.sat_parts.specs.prop.WatchLists.{watches_of, no_watch, watch_on, with_watch, without_last};
+ghost use Rattle.sat_parts.specs.prop.WatchLists.{with_clause_watches, with_lists};
 
 use crate::clause::db::ClauseDb;
 use sat_base::Lit;
@@ -118,8 +120,8 @@ impl WatchList {
     }
 }
 
-/// For each literal the watches that are gone through once it is true. Contracts see a `Watching`: the lists by code of the
-/// literal, and whether they are kept up.
+/// For each literal the watches that are gone through once it is true. Contracts see a `Watching`: the lists by code of
+/// the literal, and whether they are kept up.
 #[derive(Drop)]
 pub struct Watchlists {
     watches: Vec<WatchList>,
@@ -229,7 +231,8 @@ impl Watchlists {
     pub fn watch_clause(&mut self, cref: ClauseRef, lits: [Lit; 2]) -> Result<(), AllocError>
         requires first { negated (slice_index_or lits 0 0) < length self.old.lists }
         requires second { negated (slice_index_or lits 1 0) < length self.old.lists }
-        ensures done { OnOk result (self.new ≡ with_clause_watches cref (slice_index_or lits 0 0) (slice_index_or lits 1 0) self.old) }
+        ensures done { OnOk result (self.new ≡ with_clause_watches cref (slice_index_or lits 0 0)
+            (slice_index_or lits 1 0) self.old) }
         ensures same { OnErr result (self.new ≡ self.old) }
     {
         if !self.enabled {
@@ -271,8 +274,8 @@ impl Watchlists {
     }
 }
 
-/// Builds all watch lists anew where they weren't kept up: each live clause is watched by its first two literals. After want
-/// of memory the parts aren't used again.
+/// Builds all watch lists anew where they weren't kept up: each live clause is watched by its first two literals. After
+/// want of memory the parts aren't used again.
 pub fn enable_watchlists(
     watchlists: &mut Watchlists,
     clauses: &ClauseAlloc,
@@ -283,7 +286,8 @@ pub fn enable_watchlists(
     requires clauses { AreClauses clauses.now (live_refs clauses.now db.now.refs) count }
     requires room { length watchlists.old.lists ≡ 2 * count }
     ensures kept { IsTrue watchlists.old.enabled → OnOk result (watchlists.new ≡ watchlists.old) }
-    ensures built { watchlists.old.enabled ≡ false → OnOk result (WatchesLive clauses.now db.now.refs watchlists.new.lists count) }
+    ensures built { watchlists.old.enabled ≡ false
+        → OnOk result (WatchesLive clauses.now db.now.refs watchlists.new.lists count) }
     ensures enabled { OnOk result (watchlists.new.enabled ≡ true) }
 {
     if watchlists.enabled {

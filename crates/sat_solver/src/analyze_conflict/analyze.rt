@@ -30,8 +30,10 @@ pub fn analyze_conflict(
     requires stands { (o : ℕ) → conflict.now ≡ Conflict.Long o → IsClause clauses.now o }
     requires fails { IsFalsified assignment.now.current (falsified clauses.now conflict.now) }
     requires top { HasTop (state_of assignment.now graph.now trail.now) (falsified clauses.now conflict.now) }
-    ensures learns { IfOk result (λ back. LearnsFrom clauses.now (state_of assignment.now graph.now trail.now) conflict.now analysis.new back) }
-    ensures resolution { OnOk result (IsResolution clauses.now (state_of assignment.now graph.now trail.now) conflict.now analysis.new) }
+    ensures learns { IfOk result (λ back. LearnsFrom clauses.now (state_of assignment.now graph.now trail.now)
+        conflict.now analysis.new back) }
+    ensures resolution { OnOk result
+        (IsResolution clauses.now (state_of assignment.now graph.now trail.now) conflict.now analysis.new) }
     ensures size { OnOk result (length analysis.new.flags ≡ length assignment.now.current) }
 {
     begin_conflict(analysis, clauses, assignment, graph, trail, conflict)?;

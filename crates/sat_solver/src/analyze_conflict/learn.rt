@@ -27,16 +27,22 @@ pub fn learn_from_conflict(
     trail: &Trail,
     conflict: &Conflict,
 ) -> Result<usize, AllocError>
-    requires asks { AsksBelow clauses.now db.now.refs watchlists.now binary.now.implied (state_of assignment.now graph.now trail.now) }
-    requires conflict { IsConflict clauses.now (live_refs clauses.now db.now.refs) binary.now.implied assignment.now.current conflict.now }
+    requires asks { AsksBelow clauses.now db.now.refs watchlists.now binary.now.implied
+        (state_of assignment.now graph.now trail.now) }
+    requires conflict { IsConflict clauses.now (live_refs clauses.now db.now.refs) binary.now.implied
+        assignment.now.current conflict.now }
     requires above { 0 < length trail.now.starts }
     requires levelled { IsLevelled (state_of assignment.now graph.now trail.now) }
-    requires turns { AreInTurnAbove clauses.now db.now.refs binary.now.implied (state_of assignment.now graph.now trail.now) }
+    requires turns { AreInTurnAbove clauses.now db.now.refs binary.now.implied
+        (state_of assignment.now graph.now trail.now) }
     requires size { length analysis.old.flags ≡ length assignment.now.current }
     requires clear { AreClear analysis.old.flags }
-    ensures learns { IfOk result (λ back. LearnsFrom clauses.now (state_of assignment.now graph.now trail.now) conflict.now analysis.new back) }
-    ensures resolution { OnOk result (IsResolution clauses.now (state_of assignment.now graph.now trail.now) conflict.now analysis.new) }
-    ensures live { OnOk result ((o : ℕ) → Contains analysis.new.involved o → Contains (live_refs clauses.now db.now.refs) o) }
+    ensures learns { IfOk result (λ back. LearnsFrom clauses.now (state_of assignment.now graph.now trail.now)
+        conflict.now analysis.new back) }
+    ensures resolution { OnOk result
+        (IsResolution clauses.now (state_of assignment.now graph.now trail.now) conflict.now analysis.new) }
+    ensures live { OnOk result ((o : ℕ) → Contains analysis.new.involved o
+        → Contains (live_refs clauses.now db.now.refs) o) }
     ensures clear { OnOk result (AreClear analysis.new.flags) }
     ensures size { OnOk result (length analysis.new.flags ≡ length assignment.now.current) }
 {

@@ -43,8 +43,10 @@ fn resolve_next(
     before: usize,
 ) -> Result<usize, AllocError>
     requires can { CanAnalyze clauses.now (state_of assignment.now graph.now trail.now) }
-    requires resolving { IsResolvent clauses.now (state_of assignment.now graph.now trail.now) conflict.now analysis.old before }
-    requires collecting { Collecting clauses.now (state_of assignment.now graph.now trail.now) conflict.now analysis.old before }
+    requires resolving { IsResolvent clauses.now (state_of assignment.now graph.now trail.now) conflict.now analysis.old
+        before }
+    requires collecting { Collecting clauses.now (state_of assignment.now graph.now trail.now) conflict.now analysis.old
+        before }
     requires two { 1 < analysis.old.pending }
     ensures next { IfOk result (λ p. (p < before)
         × IsResolvent clauses.now (state_of assignment.now graph.now trail.now) conflict.now analysis.new p
@@ -74,8 +76,10 @@ pub(crate) fn resolve_conflict(
     conflict: &Conflict,
 ) -> Result<usize, AllocError>
     requires can { CanAnalyze clauses.now (state_of assignment.now graph.now trail.now) }
-    requires resolving { IsFirstResolvent clauses.now (state_of assignment.now graph.now trail.now) conflict.now analysis.old }
-    requires collecting { BeginsCollecting clauses.now (state_of assignment.now graph.now trail.now) conflict.now analysis.old }
+    requires resolving { IsFirstResolvent clauses.now (state_of assignment.now graph.now trail.now) conflict.now
+        analysis.old }
+    requires collecting { BeginsCollecting clauses.now (state_of assignment.now graph.now trail.now) conflict.now
+        analysis.old }
     ensures next { IfOk result (λ p. (analysis.new.pending ≡ 1)
         × IsResolvent clauses.now (state_of assignment.now graph.now trail.now) conflict.now analysis.new p
         × Collecting clauses.now (state_of assignment.now graph.now trail.now) conflict.now analysis.new p) }
@@ -102,8 +106,10 @@ pub(crate) fn begin_conflict(
     requires stands { (o : ℕ) → conflict.now ≡ Conflict.Long o → IsClause clauses.now o }
     requires fails { IsFalsified assignment.now.current (falsified clauses.now conflict.now) }
     requires top { HasTop (state_of assignment.now graph.now trail.now) (falsified clauses.now conflict.now) }
-    ensures resolving { OnOk result (IsFirstResolvent clauses.now (state_of assignment.now graph.now trail.now) conflict.now analysis.new) }
-    ensures collecting { OnOk result (BeginsCollecting clauses.now (state_of assignment.now graph.now trail.now) conflict.now analysis.new) }
+    ensures resolving { OnOk result
+        (IsFirstResolvent clauses.now (state_of assignment.now graph.now trail.now) conflict.now analysis.new) }
+    ensures collecting { OnOk result
+        (BeginsCollecting clauses.now (state_of assignment.now graph.now trail.now) conflict.now analysis.new) }
 {
     analysis.begin(conflict)?;
     add_all(
@@ -126,11 +132,15 @@ pub(crate) fn finish_conflict(
     before: usize,
 ) -> Result<(), AllocError>
     requires can { CanAnalyze clauses.now (state_of assignment.now graph.now trail.now) }
-    requires resolving { IsResolvent clauses.now (state_of assignment.now graph.now trail.now) conflict.now analysis.old before }
-    requires collecting { Collecting clauses.now (state_of assignment.now graph.now trail.now) conflict.now analysis.old before }
+    requires resolving { IsResolvent clauses.now (state_of assignment.now graph.now trail.now) conflict.now analysis.old
+        before }
+    requires collecting { Collecting clauses.now (state_of assignment.now graph.now trail.now) conflict.now analysis.old
+        before }
     requires one { analysis.old.pending ≡ 1 }
-    ensures resolved { OnOk result (IsUipClause clauses.now (state_of assignment.now graph.now trail.now) conflict.now analysis.new) }
-    ensures collected { OnOk result (Collected clauses.now (state_of assignment.now graph.now trail.now) conflict.now analysis.new) }
+    ensures resolved { OnOk result
+        (IsUipClause clauses.now (state_of assignment.now graph.now trail.now) conflict.now analysis.new) }
+    ensures collected { OnOk result
+        (Collected clauses.now (state_of assignment.now graph.now trail.now) conflict.now analysis.new) }
 {
     let lits = trail.trail();
     let place = analysis.last_flagged(lits, before);

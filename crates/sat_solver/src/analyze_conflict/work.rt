@@ -1,9 +1,11 @@
 //! What conflict analysis works on.
-ghost use Rattle.std.specs.Prelude.{ℕ, ◌≡◌, ◌-◌, replicate, ◌<◌, ◌≤◌, ◌++◌, length, slice_index, slice_index_or, true, false, [], ◌∷◌, reverse, take, slice_set, OnOk};
+ghost use Rattle.std.specs.Prelude.{ℕ, ◌≡◌, ◌-◌, replicate, ◌<◌, ◌≤◌, ◌++◌, length, slice_index, slice_index_or, true};
+ghost use Rattle.std.specs.Prelude.{false, [], ◌∷◌, reverse, take, slice_set, OnOk};
 ghost use Rattle.std.specs.List.Sorted.{IsPermutation, IsNonDecreasingBy};
 ghost use Rattle.sat_base.specs.values.Literals.{variable};
 ghost use Rattle.sat_parts.specs.clause.Glue.{AreClear, VariablesBelow, HaveNodes};
-ghost use Rattle.sat_solver.specs.analyze_conflict.Work.{Work, with_met_literal, passed_by, long_of, taken_up, with_chosen, begun, begun_core, with_first};
+ghost use Rattle.sat_solver.specs.analyze_conflict.Work.{Work, with_met_literal, passed_by, long_of, taken_up};
+ghost use Rattle.sat_solver.specs.analyze_conflict.Work.{with_chosen, begun, begun_core, with_first};
 ghost use Rattle.sat_solver.specs.analyze_conflict.Derivation.{FlagsAmong, PutsSecond};
 ghost use Rattle.sat_solver.specs.analyze_conflict.Minimal.{FallsBefore, depth_in, marked, used_up, Undoes};
 
@@ -14,7 +16,8 @@ use sat_store::ClauseRef;
 use std::alloc::{AllocError, Global};
 use std::marker::Model;
 
-/// The lists of an analysis, which are used again by the next one, and a flag for each variable. Contracts see a `Work`.
+/// The lists of an analysis, which are used again by the next one, and a flag for each variable. Contracts see a
+/// `Work`.
 #[derive(Drop)]
 pub struct Analysis {
     clause: Vec<Lit>,
@@ -31,7 +34,8 @@ impl Model for Analysis {
 
     ghost Value = { Work };
 
-    ghost view = { λ a. worked a.clause.items a.used.items a.met.items a.involved.items a.core.items a.flags.items a.pending };
+    ghost view = { λ a. worked a.clause.items a.used.items a.met.items a.involved.items a.core.items a.flags.items
+        a.pending };
 }
 
 impl Analysis {
@@ -61,7 +65,8 @@ impl Analysis {
     /// Drops flags from the end, or adds some that aren't set.
     fn resize_flags(&mut self, count: usize) -> Result<(), AllocError>
         ensures size { OnOk result (length self.new.flags ≡ count) }
-        ensures flags { OnOk result (self.new.flags ≡ take count self.old.flags ++ replicate (count - length self.old.flags) false) }
+        ensures flags { OnOk result (self.new.flags ≡ take count self.old.flags
+            ++ replicate (count - length self.old.flags) false) }
     {
         self.flags.resize(count, false)
     }
@@ -87,8 +92,8 @@ impl Analysis {
         &self.met
     }
 
-    /// The long clauses that resolution took: the one that was found false, and then the reasons of literals from the end of the
-    /// trail on.
+    /// The long clauses that resolution took: the one that was found false, and then the reasons of literals from the
+    /// end of the trail on.
     pub fn involved(&self) -> &[ClauseRef]
         ensures { result.now ≡ self.now.involved }
     {
@@ -111,7 +116,8 @@ impl Analysis {
 
     /// Nothing is met yet. The flags stay.
     fn clear(&mut self)
-        ensures { self.new ≡ record self.old { clause = []; used = []; met = []; involved = []; core = []; pending = 0 } }
+        ensures { self.new ≡ record self.old
+            { clause = []; used = []; met = []; involved = []; core = []; pending = 0 } }
     {
         self.clause.clear();
         self.used.clear();
@@ -170,10 +176,12 @@ impl Analysis {
     pub(crate) fn last_flagged(&self, lits: &[Lit], before: usize) -> usize
         requires within { before ≤ length lits.now }
         requires flags { (p : ℕ) → p < before → variable (slice_index lits.now p) < length self.now.flags }
-        requires some { (p : ℕ) × ((p < before) × (slice_index_or self.now.flags (variable (slice_index lits.now p)) false ≡ true)) }
+        requires some { (p : ℕ) × ((p < before)
+            × (slice_index_or self.now.flags (variable (slice_index lits.now p)) false ≡ true)) }
         ensures within { result < before }
         ensures flagged { slice_index_or self.now.flags (variable (slice_index lits.now result)) false ≡ true }
-        ensures others { (p : ℕ) → result < p → p < before → slice_index_or self.now.flags (variable (slice_index lits.now p)) false ≡ false }
+        ensures others { (p : ℕ) → result < p → p < before
+            → slice_index_or self.now.flags (variable (slice_index lits.now p)) false ≡ false }
     {
         let mut at = before;
         loop {
@@ -255,8 +263,8 @@ impl Analysis {
         unflag(&mut self.flags, &self.used, 0);
     }
 
-    /// Whether the literal's variable is flagged. While a clause is minimised, each flagged variable is one of the clause or of a
-    /// used literal.
+    /// Whether the literal's variable is flagged. While a clause is minimised, each flagged variable is one of the
+    /// clause or of a used literal.
     pub(crate) fn is_flagged(&self, lit: Lit) -> bool
         requires flag { variable lit < length self.now.flags }
         ensures { result ≡ slice_index_or self.now.flags (variable lit) false }
@@ -307,7 +315,8 @@ impl Analysis {
         self.clause.truncate(len);
     }
 
-    /// Puts a literal of the highest level among those behind the first one second, and gives this level, 0 where there is none.
+    /// Puts a literal of the highest level among those behind the first one second, and gives this level, 0 where there
+    /// is none.
     pub(crate) fn put_second(&mut self, graph: &ImplGraph) -> usize
         requires nodes { HaveNodes graph.now self.old.clause }
         ensures second { PutsSecond graph.now self.old.clause self.new.clause result }

@@ -30,7 +30,8 @@ fn begin_trace(
     requires fails { IsFalseLit assignment.now.current failed }
     requires above { 0 < level (state_of assignment.now graph.now trail.now) failed }
     requires caused { is_unit (node (state_of assignment.now graph.now trail.now) failed).reason ≡ false }
-    ensures { IfOk result (λ p. Tracing clauses.now (state_of assignment.now graph.now trail.now) failed analysis.new p) }
+    ensures { IfOk result (λ p. Tracing clauses.now (state_of assignment.now graph.now trail.now) failed analysis.new
+        p) }
 {
     analysis.begin_core(failed)?;
     analysis.use_up(!failed)?;
@@ -39,8 +40,8 @@ fn begin_trace(
     Ok(graph.depth(failed.var()) - 1)
 }
 
-/// Goes on with the last flagged literal of the trail: it is one of the core if it has no clause as its reason, and its clause is used
-/// otherwise.
+/// Goes on with the last flagged literal of the trail: it is one of the core if it has no clause as its reason, and its
+/// clause is used otherwise.
 fn trace_next(
     analysis: &mut Analysis,
     clauses: &ClauseAlloc,
@@ -53,7 +54,8 @@ fn trace_next(
     requires can { CanAnalyze clauses.now (state_of assignment.now graph.now trail.now) }
     requires tracing { Tracing clauses.now (state_of assignment.now graph.now trail.now) failed analysis.old before }
     requires some { 0 < analysis.old.pending }
-    ensures { IfOk result (λ p. (p < before) × Tracing clauses.now (state_of assignment.now graph.now trail.now) failed analysis.new p) }
+    ensures { IfOk result (λ p. (p < before)
+        × Tracing clauses.now (state_of assignment.now graph.now trail.now) failed analysis.new p) }
 {
     let lits = trail.trail();
     let place = analysis.last_flagged(lits, before);
@@ -104,7 +106,8 @@ pub fn analyze_assumption(
     requires size { length analysis.old.flags ≡ length assignment.now.current }
     requires clear { AreClear analysis.old.flags }
     requires fails { IsFalseLit assignment.now.current failed }
-    ensures fails { OnOk result (IsFailedAssumption clauses.now (state_of assignment.now graph.now trail.now) failed analysis.new.core analysis.new.used) }
+    ensures fails { OnOk result (IsFailedAssumption clauses.now (state_of assignment.now graph.now trail.now) failed
+        analysis.new.core analysis.new.used) }
     ensures clear { OnOk result (AreClear analysis.new.flags) }
     ensures size { OnOk result (length analysis.new.flags ≡ length assignment.now.current) }
 {

@@ -17,7 +17,8 @@ use sat_base::{CountedWrite, ProofStep};
 use sat_checker::ProofProcessor;
 use std::alloc::AllocError;
 
-/// Puts the step of a core together: its literals and the hashes of the clauses that it follows from, in proof variables.
+/// Puts the step of a core together: its literals and the hashes of the clauses that it follows from, in proof
+/// variables.
 fn name_core(search: &mut Search) -> Result<(), AllocError>
     requires holds { PartsInvariant search.old.parts }
     requires names { length search.old.parts.assignment.current ≤ length search.old.globals.items }
@@ -25,8 +26,10 @@ fn name_core(search: &mut Search) -> Result<(), AllocError>
     requires failing { IsFailing search.old.assumptions.lits.items search.old.parts search.old.failed }
     requires fails { FailsBy search.old.parts search.old.failed search.old.analysis }
     ensures same { search.new ≡ record search.old { scratch = search.new.scratch } }
-    ensures clause { OnOk result (search.new.scratch.clause.items ≡ map (with_var (global_in search.old)) search.old.analysis.core) }
-    ensures hashes { OnOk result (search.new.scratch.hashes.items ≡ causes_hashes search.old.parts search.old.analysis.used) }
+    ensures clause { OnOk result (search.new.scratch.clause.items
+        ≡ map (with_var (global_in search.old)) search.old.analysis.core) }
+    ensures hashes { OnOk result (search.new.scratch.hashes.items
+        ≡ causes_hashes search.old.parts search.old.analysis.used) }
 {
     map_lits(
         &search.globals,
@@ -49,8 +52,10 @@ fn find_core(search: &mut Search) -> Result<(), AllocError>
     ensures same { search.new ≡ record search.old { analysis = search.new.analysis; scratch = search.new.scratch } }
     ensures free { OnOk result (IsFree search.new) }
     ensures fails { OnOk result (FailsBy search.old.parts search.old.failed search.new.analysis) }
-    ensures clause { OnOk result (search.new.scratch.clause.items ≡ map (with_var (global_in search.old)) search.new.analysis.core) }
-    ensures hashes { OnOk result (search.new.scratch.hashes.items ≡ causes_hashes search.old.parts search.new.analysis.used) }
+    ensures clause { OnOk result (search.new.scratch.clause.items
+        ≡ map (with_var (global_in search.old)) search.new.analysis.core) }
+    ensures hashes { OnOk result (search.new.scratch.hashes.items
+        ≡ causes_hashes search.old.parts search.new.analysis.used) }
 {
     let parts = &search.parts;
     analyze_assumption(
@@ -64,7 +69,8 @@ fn find_core(search: &mut Search) -> Result<(), AllocError>
     name_core(search)
 }
 
-/// Writes the step of the assumptions that can't be true together, of which one failed. They stand in the analysis behind it.
+/// Writes the step of the assumptions that can't be true together, of which one failed. They stand in the analysis
+/// behind it.
 pub fn tell_core<W: CountedWrite + Drop, P: ProofProcessor>(
     proof: &mut Proof<W, P>,
     search: &mut Search,

@@ -29,7 +29,8 @@ pub enum FoundConflict {
     Failed(Lit),
 }
 
-/// Begins a level by the next assumption, or where there is none by the variable of highest activity. None where it did.
+/// Begins a level by the next assumption, or where there is none by the variable of highest activity. None where it
+/// did.
 fn assume_or_decide(
     parts: &mut Parts,
     assumptions: &mut Assumptions,
@@ -51,15 +52,16 @@ fn assume_or_decide(
     Ok(Some(FoundConflict::Complete))
 }
 
-/// Propagates, assumes and decides until a clause is false, an assumption is, or no variable of a clause is open. What comes
-/// at level 0 is written, and taken off the trail.
+/// Propagates, assumes and decides until a clause is false, an assumption is, or no variable of a clause is open. What
+/// comes at level 0 is written, and taken off the trail.
 pub fn find_conflict<W: CountedWrite + Drop, P: ProofProcessor>(
     proof: &mut Proof<W, P>,
     search: &mut Search,
 ) -> Result<FoundConflict, Fault>
     requires keeps { HasAllowedSteps proof.old }
     requires search { IsSearch (session_of proof.old) search.old }
-    ensures { EmitsSteps W.seen result proof.old proof.new (λ stop _. StopsSearch stop (session_of proof.new) search.old search.new) }
+    ensures { EmitsSteps W.seen result proof.old proof.new
+        (λ stop _. StopsSearch stop (session_of proof.new) search.old search.new) }
 {
     'turns: loop {
         let propagated = propagate_all(search.alloc, &mut search.parts)?;

@@ -12,7 +12,8 @@ ghost use Rattle.sat_solver.specs.session.Fits.{FlagFits};
 ghost use Rattle.sat_solver.specs.clause.Activity.{AreBelow};
 ghost use Rattle.sat_solver.specs.clause.Assessed.{graded, AreInvolved};
 ghost use Rattle.sat_solver.specs.cdcl.Joint.{global_in, IsFree};
-ghost use Rattle.sat_solver.specs.cdcl.Learning.{UndoesAndLearns, Rated, IsRated, IsRaised, LearnsClause, learned_hashes};
+ghost use Rattle.sat_solver.specs.cdcl.Learning.{UndoesAndLearns, Rated, IsRated, IsRaised, LearnsClause};
+ghost use Rattle.sat_solver.specs.cdcl.Learning.{learned_hashes};
 ghost use Rattle.sat_solver.specs.cdcl.Turns.{IsStopped};
 ghost use Rattle.sat_store.specs.clause.Full.{OnFull};
 
@@ -30,14 +31,18 @@ use sat_parts::parts::steps::{learn, undo};
 use sat_store::{ClauseHeader, StoreError};
 use std::alloc::AllocError;
 
-/// Puts the step of a learned clause together: its literals and the hashes of the clauses that it follows from, in proof variables.
+/// Puts the step of a learned clause together: its literals and the hashes of the clauses that it follows from, in
+/// proof variables.
 fn name_learned(search: &mut Search, _level: usize, conflict: &Conflict) -> Result<(), AllocError>
     requires refuted { IsRefuted search.old.parts conflict.now }
     requires names { length search.old.parts.assignment.current ≤ length search.old.globals.items }
-    requires learns { LearnsFrom search.old.parts.clauses (state search.old.parts) conflict.now search.old.analysis _level }
+    requires learns { LearnsFrom search.old.parts.clauses (state search.old.parts) conflict.now search.old.analysis
+        _level }
     ensures same { search.new ≡ record search.old { scratch = search.new.scratch } }
-    ensures clause { OnOk result (search.new.scratch.clause.items ≡ map (with_var (global_in search.old)) search.old.analysis.clause) }
-    ensures hashes { OnOk result (search.new.scratch.hashes.items ≡ learned_hashes search.old.parts search.old.analysis conflict.now) }
+    ensures clause { OnOk result (search.new.scratch.clause.items
+        ≡ map (with_var (global_in search.old)) search.old.analysis.clause) }
+    ensures hashes { OnOk result (search.new.scratch.hashes.items
+        ≡ learned_hashes search.old.parts search.old.analysis conflict.now) }
 {
     map_lits(
         &search.globals,
@@ -52,8 +57,8 @@ fn name_learned(search: &mut Search, _level: usize, conflict: &Conflict) -> Resu
     )
 }
 
-/// Goes back to a level, and takes over what was learned from a conflict. Before it comes in, the clauses that took part are raised
-/// and improved, by the levels that were.
+/// Goes back to a level, and takes over what was learned from a conflict. Before it comes in, the clauses that took
+/// part are raised and improved, by the levels that were.
 fn take_in(search: &mut Search, header: ClauseHeader, level: usize) -> Result<(), StoreError>
     requires holds { HoldsBelow (length search.old.parts.trail.starts) search.old.parts }
     requires units { UnitsAreUncaused (state search.old.parts) }
@@ -61,10 +66,13 @@ fn take_in(search: &mut Search, header: ClauseHeader, level: usize) -> Result<()
     requires live { header.deleted ≡ false }
     requires learned { IsLearned (state search.old.parts) search.old.analysis.clause level }
     requires involved { AreInvolved search.old.parts search.old.flags.flags.items search.old.analysis.involved }
-    ensures same { search.new ≡ record search.old { parts = search.new.parts; activity = search.new.activity; flags = search.new.flags } }
+    ensures same { search.new ≡ record search.old
+        { parts = search.new.parts; activity = search.new.activity; flags = search.new.flags } }
     ensures flags { search.new.flags.flags.items ≡ search.old.flags.flags.items }
-    ensures taken { OnOk result (UndoesAndLearns search.old.parts search.new.parts header search.old.analysis.clause level) }
-    ensures rated { OnOk result (Rated search.old.parts search.old.activity search.old.analysis header search.new.parts search.new.activity) }
+    ensures taken { OnOk result (UndoesAndLearns search.old.parts search.new.parts header search.old.analysis.clause
+        level) }
+    ensures rated { OnOk result (Rated search.old.parts search.old.activity search.old.analysis header search.new.parts
+        search.new.activity) }
     ensures full { OnFull result (IsFull search.new.parts) }
 {
     undo(&mut search.parts, level);
@@ -87,19 +95,26 @@ fn says_redundant(header: &ClauseHeader, lits: &[Lit]) -> bool
     header.redundant()
 }
 
-/// Analyses a conflict above level 0, and puts the step of what is learned together. Gives the level to go back to, and the header.
+/// Analyses a conflict above level 0, and puts the step of what is learned together. Gives the level to go back to, and
+/// the header.
 fn analyze(search: &mut Search, conflict: &Conflict) -> Result<(usize, ClauseHeader), AllocError>
     requires refuted { IsRefuted search.old.parts conflict.now }
     requires above { 0 < length search.old.parts.trail.starts }
     requires free { IsFree search.old }
-    ensures same { search.new ≡ record search.old { analysis = search.new.analysis; flags = search.new.flags; scratch = search.new.scratch } }
+    ensures same { search.new ≡ record search.old
+        { analysis = search.new.analysis; flags = search.new.flags; scratch = search.new.scratch } }
     ensures free { OnOk result (IsFree search.new) }
-    ensures learns { IfOk result (λ r. LearnsFrom search.old.parts.clauses (state search.old.parts) conflict.now search.new.analysis r.0) }
-    ensures header { IfOk result (λ r. r.1 ≡ graded (different (levels_of search.old.parts.graph search.new.analysis.clause))) }
-    ensures involved { OnOk result (AreInvolved search.old.parts search.new.flags.flags.items search.new.analysis.involved) }
+    ensures learns { IfOk result (λ r. LearnsFrom search.old.parts.clauses (state search.old.parts) conflict.now
+        search.new.analysis r.0) }
+    ensures header { IfOk result (λ r. r.1
+        ≡ graded (different (levels_of search.old.parts.graph search.new.analysis.clause))) }
+    ensures involved { OnOk result
+        (AreInvolved search.old.parts search.new.flags.flags.items search.new.analysis.involved) }
     ensures met { OnOk result (AreBelow search.new.analysis.met (length search.old.parts.assignment.current)) }
-    ensures clause { OnOk result (search.new.scratch.clause.items ≡ map (with_var (global_in search.old)) search.new.analysis.clause) }
-    ensures hashes { OnOk result (search.new.scratch.hashes.items ≡ learned_hashes search.old.parts search.new.analysis conflict.now) }
+    ensures clause { OnOk result (search.new.scratch.clause.items
+        ≡ map (with_var (global_in search.old)) search.new.analysis.clause) }
+    ensures hashes { OnOk result (search.new.scratch.hashes.items
+        ≡ learned_hashes search.old.parts search.new.analysis conflict.now) }
 {
     let parts = &search.parts;
     let level = learn_from_conflict(
@@ -147,8 +162,8 @@ fn learn_clause<W: CountedWrite + Drop, P: ProofProcessor>(
     Ok(())
 }
 
-/// Learns a clause from a conflict above level 0, with its step, and raises the activity of the clauses and variables that the
-/// conflict met.
+/// Learns a clause from a conflict above level 0, with its step, and raises the activity of the clauses and variables
+/// that the conflict met.
 pub fn learn_from<W: CountedWrite + Drop, P: ProofProcessor>(
     proof: &mut Proof<W, P>,
     search: &mut Search,

@@ -52,14 +52,16 @@ pub fn set_decays(search: &mut Search, config: &SolverConfig)
     requires decays { AreDecays config.now }
     ensures bumped { (s : Session) → IsSearch s search.old → Bumped s search.old search.new }
     ensures rest { search.new ≡ record search.old { parts = search.new.parts; activity = search.new.activity } }
-    ensures parts { search.new.parts ≡ record search.old.parts { vsids = record search.old.parts.vsids { decay = config.now.vsids_decay } } }
+    ensures parts { search.new.parts
+        ≡ record search.old.parts { vsids = record search.old.parts.vsids { decay = config.now.vsids_decay } } }
     ensures activity { search.new.activity ≡ record search.old.activity { decay = config.now.clause_activity_decay } }
 {
     search.parts.vsids.set_decay(config.vsids_decay);
     search.activity.set_decay(config.clause_activity_decay);
 }
 
-/// Raises the activity of a clause that took part in an analysis, and improves its header by the levels of its literals.
+/// Raises the activity of a clause that took part in an analysis, and improves its header by the levels of its
+/// literals.
 fn bump_one(parts: &mut Parts, activity: &mut ClauseActivity, flags: &mut TmpFlags, cref: ClauseRef)
     requires holds { PartsInvariant parts.old }
     requires live { HasClause parts.old cref }
@@ -67,14 +69,16 @@ fn bump_one(parts: &mut Parts, activity: &mut ClauseActivity, flags: &mut TmpFla
     requires clear { AreClear flags.old.flags.items }
     ensures rates { Rates parts.old parts.new }
     ensures flags { flags.new.flags.items ≡ flags.old.flags.items }
-    ensures takes { TakesPart (levels_in parts.old cref) parts.old.clauses parts.new.clauses parts.old.db.refs cref activity.old activity.new }
+    ensures takes { TakesPart (levels_in parts.old cref) parts.old.clauses parts.new.clauses parts.old.db.refs cref
+        activity.old activity.new }
 {
     bump_clause(parts, activity, cref);
     let levels = compute_clause_glue(flags, &parts.graph, &parts.clauses, cref);
     improve(parts, cref, levels);
 }
 
-/// Raises the activity of these clauses, which took part in an analysis, and improves their headers. Then activities decay.
+/// Raises the activity of these clauses, which took part in an analysis, and improves their headers. Then activities
+/// decay.
 pub fn bump_clauses(
     parts: &mut Parts,
     activity: &mut ClauseActivity,
@@ -85,7 +89,8 @@ pub fn bump_clauses(
     requires involved { AreInvolved parts.old flags.old.flags.items crefs.now }
     ensures rates { Rates parts.old parts.new }
     ensures flags { flags.new.flags.items ≡ flags.old.flags.items }
-    ensures take { TakePart (levels_in parts.old) parts.old.db.refs crefs.now parts.old.clauses activity.old parts.new.clauses activity.new }
+    ensures take { TakePart (levels_in parts.old) parts.old.db.refs crefs.now parts.old.clauses activity.old
+        parts.new.clauses activity.new }
 {
     for cref in crefs {
         bump_one(parts, activity, flags, *cref);

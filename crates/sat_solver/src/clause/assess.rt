@@ -36,13 +36,14 @@ pub fn assess(flags: &mut TmpFlags, graph: &ImplGraph, lits: &[Lit]) -> ClauseHe
     header
 }
 
-/// Makes a clause that took part in an analysis active. A learned one whose literals are of fewer levels than its glue says takes
-/// their number as its glue, with the tier for it.
+/// Makes a clause that took part in an analysis active. A learned one whose literals are of fewer levels than its glue
+/// says takes their number as its glue, with the tier for it.
 pub fn improve(parts: &mut Parts, cref: ClauseRef, levels: usize)
     requires holds { PartsInvariant parts.old }
     requires live { HasClause parts.old cref }
     ensures rates { Rates parts.old parts.new }
-    ensures put { PutsHeader parts.old.clauses parts.new.clauses parts.old.db.refs cref (improved levels (header_at parts.old.clauses cref)) }
+    ensures put { PutsHeader parts.old.clauses parts.new.clauses parts.old.db.refs cref
+        (improved levels (header_at parts.old.clauses cref)) }
 {
     let mut header = parts.clauses.header(cref);
     header.set_active(true);

@@ -8,7 +8,8 @@ ghost use Rattle.sat_parts.specs.parts.Whole.{PartsInvariant};
 ghost use Rattle.sat_solver.specs.session.Naming.{global_of};
 ghost use Rattle.sat_solver.specs.cdcl.Going.{EmitsSteps};
 ghost use Rattle.sat_solver.specs.cdcl.Joint.{IsSearch};
-ghost use Rattle.sat_solver.specs.clause.Reduced.{IsLearnt, Deleted, Reduced, ReducesLocals, ReducesMids, CollectsWhereDue, Reduces, ReducesBy};
+ghost use Rattle.sat_solver.specs.clause.Reduced.{IsLearnt, Deleted, Reduced, ReducesLocals, ReducesMids};
+ghost use Rattle.sat_solver.specs.clause.Reduced.{CollectsWhereDue, Reduces, ReducesBy};
 ghost use Rattle.sat_parts.specs.clause.Glue.{VariablesBelow};
 ghost use Rattle.sat_store.specs.clause.Full.{OnFull};
 
@@ -54,7 +55,8 @@ fn delete_learned<W: CountedWrite + Drop, P: ProofProcessor>(
     requires keeps { HasAllowedSteps proof.old }
     requires search { IsSearch (session_of proof.old) search.old }
     requires learned { IsLearnt search.old.parts cref }
-    ensures { EmitsSteps W.seen result proof.old proof.new (λ deleted _. Deleted deleted cref (session_of proof.new) search.old search.new) }
+    ensures { EmitsSteps W.seen result proof.old proof.new
+        (λ deleted _. Deleted deleted cref (session_of proof.new) search.old search.new) }
 {
     map_clause(
         &search.parts,
@@ -81,7 +83,8 @@ fn left_after(left: usize, deleted: bool) -> usize
     if deleted { left - 1 } else { left }
 }
 
-/// Deletes half of the clauses of tier Local where that is due: those that were used least, without those that values depend on.
+/// Deletes half of the clauses of tier Local where that is due: those that were used least, without those that values
+/// depend on.
 fn reduce_locals<W: CountedWrite + Drop, P: ProofProcessor>(
     proof: &mut Proof<W, P>,
     search: &mut Search,
@@ -130,8 +133,8 @@ fn collect_deleted(search: &mut Search) -> Result<(), StoreError>
     collect(search.alloc, &mut search.parts)
 }
 
-/// Reduces the learned clauses where that is due before this round: first those of tier Local, then those of tier Mid. Then it
-/// collects deleted clauses.
+/// Reduces the learned clauses where that is due before this round: first those of tier Local, then those of tier Mid.
+/// Then it collects deleted clauses.
 pub fn reduce<W: CountedWrite + Drop, P: ProofProcessor>(
     proof: &mut Proof<W, P>,
     search: &mut Search,

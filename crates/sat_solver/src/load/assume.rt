@@ -44,7 +44,8 @@ fn change_marks(
     requires marked { (v : ℕ) → mentions asked.old.globals.items v ≡ (data_at variables.old v).assumed }
     requires images { Images variables.old _user.now asked.old.order.items }
     ensures puts { OnOk result (PutsMarks variables.old variables.new asked.new.globals.items) }
-    ensures globals { OnOk result (asked.new.globals.items ≡ map (with_var (global_in variables.old)) asked.old.order.items) }
+    ensures globals { OnOk result (asked.new.globals.items
+        ≡ map (with_var (global_in variables.old)) asked.old.order.items) }
     ensures order { asked.new.order ≡ asked.old.order }
     ensures given { asked.new.given ≡ asked.old.given }
 {
@@ -54,8 +55,8 @@ fn change_marks(
     Ok(())
 }
 
-/// Replaces the assumptions by others without a name of mode witness. `asked` has the assumptions so far, over the proof's
-/// variables, and afterwards those taken.
+/// Replaces the assumptions by others without a name of mode witness. `asked` has the assumptions so far, over the
+/// proof's variables, and afterwards those taken.
 pub fn assume<W: StepWriter>(
     variables: &mut Variables,
     writer: &mut W,
@@ -66,7 +67,8 @@ pub fn assume<W: StepWriter>(
     requires keeps { W.keeps writer.old }
     requires sampled { NoWitness variables.old lits.now }
     requires asked { asked.old.globals.items ≡ (session_after (W.steps writer.old)).assumed }
-    ensures assumes { OnOk result (BringsAssumptions variables.old variables.new (W.steps writer.old) (W.steps writer.new) lits.now asked.new) }
+    ensures assumes { OnOk result (BringsAssumptions variables.old variables.new (W.steps writer.old)
+        (W.steps writer.new) lits.now asked.new) }
     ensures room { FailsOnlyByFault result variables.old (users_in lits.now) }
     ensures keeps { OnOk result (W.keeps writer.new) }
     ensures came { EmitsOrFails W.took W.broke result writer.old writer.new }

@@ -41,8 +41,8 @@ fn write_clause<W: StepWriter>(
     Ok(())
 }
 
-/// Sorts the literals of a clause that were taken, without repeats, and lists them over the proof's variables. The answer is whether both
-/// signs of a variable are among them.
+/// Sorts the literals of a clause that were taken, without repeats, and lists them over the proof's variables. The
+/// answer is whether both signs of a variable are among them.
 fn map_clause(variables: &Variables, _user: &[Lit], taken: &mut Taken) -> Result<bool, NameError>
     requires tidy { AreTidy variables.now }
     requires images { Images variables.now _user.now taken.old.order.items }
@@ -57,8 +57,8 @@ fn map_clause(variables: &Variables, _user: &[Lit], taken: &mut Taken) -> Result
     Ok(both_signs)
 }
 
-/// Adds a clause without a name of mode witness, while the clauses aren't known to be unsatisfiable. The answer is whether both
-/// signs of a variable are in the clause, which then is written and nothing more.
+/// Adds a clause without a name of mode witness, while the clauses aren't known to be unsatisfiable. The answer is
+/// whether both signs of a variable are in the clause, which then is written and nothing more.
 pub fn add_clause<W: StepWriter>(
     variables: &mut Variables,
     writer: &mut W,
@@ -68,7 +68,8 @@ pub fn add_clause<W: StepWriter>(
     requires stands { NamesInvariant variables.old (W.steps writer.old) }
     requires keeps { W.keeps writer.old }
     requires sampled { NoWitness variables.old lits.now }
-    ensures adds { IfOk result (BringsClause variables.old variables.new (W.steps writer.old) (W.steps writer.new) lits.now taken.new) }
+    ensures adds { IfOk result (BringsClause variables.old variables.new (W.steps writer.old) (W.steps writer.new)
+        lits.now taken.new) }
     ensures room { FailsOnlyByFault result variables.old (users_in lits.now) }
     ensures keeps { OnOk result (W.keeps writer.new) }
     ensures came { EmitsOrFails W.took W.broke result writer.old writer.new }
@@ -88,7 +89,8 @@ pub fn leave_out_clause<W: StepWriter>(
     requires stands { NamesInvariant variables.old (W.steps writer.old) }
     requires keeps { W.keeps writer.old }
     requires unsat { (session_after (W.steps writer.old)).unsat ≡ true }
-    ensures leaves { OnOk result (LeavesOut variables.old variables.new (W.steps writer.old) (W.steps writer.new) lits.now) }
+    ensures leaves { OnOk result (LeavesOut variables.old variables.new (W.steps writer.old) (W.steps writer.new)
+        lits.now) }
     ensures room { FailsOnlyByFault result variables.old (users_in lits.now) }
     ensures keeps { OnOk result (W.keeps writer.new) }
     ensures came { EmitsOrFails W.took W.broke result writer.old writer.new }

@@ -55,7 +55,8 @@ pub fn take_names<W: StepWriter>(
 ) -> Result<(), NameError>
     requires stands { NamesInvariant variables.old (W.steps writer.old) }
     requires keeps { W.keeps writer.old }
-    ensures takes { OnOk result (BringsLiterals variables.old variables.new (W.steps writer.old) (W.steps writer.new) lits.now taken.new) }
+    ensures takes { OnOk result (BringsLiterals variables.old variables.new (W.steps writer.old) (W.steps writer.new)
+        lits.now taken.new) }
     ensures room { FailsOnlyByFault result variables.old (users_in lits.now) }
     ensures globals { taken.new.globals ≡ taken.old.globals }
     ensures keeps { OnOk result (W.keeps writer.new) }

@@ -3,7 +3,8 @@ ghost use Rattle.std.specs.Prelude.{◌≡◌, [], OnOk};
 ghost use Rattle.sat_base.specs.steps.StepViews.{step_of};
 ghost use Rattle.sat_checker.specs.CheckerView.{seen_of};
 ghost use Rattle.sat_checker.specs.telling.ProcessingView.{listeners_of};
-ghost use Rattle.sat_solver.specs.proof.Checked.{is_end, IsFed, TakesStep, TakesWidth, TakesDelayed, FeedsOwnChecker, AddsOwnListener, BeginsAnew, who_listens};
+ghost use Rattle.sat_solver.specs.proof.Checked.{is_end, IsFed, TakesStep, TakesWidth, TakesDelayed, FeedsOwnChecker};
+ghost use Rattle.sat_solver.specs.proof.Checked.{AddsOwnListener, BeginsAnew, who_listens};
 ghost use Rattle.sat_solver.specs.proof.Widths.{narrowed, KeepsWidth};
 
 use crate::proof::hash_bits::Counting;
@@ -77,7 +78,8 @@ impl<P: ProofProcessor> Checked<P> {
         )
     }
 
-    /// Takes a step at a width, to which its hashes were cut, and of an end the width alone. What a solver may write is never refused.
+    /// Takes a step at a width, to which its hashes were cut, and of an end the width alone. What a solver may write is
+    /// never refused.
     pub fn take(
         &mut self,
         bits: HashBits,
@@ -103,7 +105,8 @@ impl<P: ProofProcessor> Checked<P> {
     {
         self.checker.self_check_delayed_steps()
     }
-    /// A processor, which is told all announcements from here on. Without memory it is dropped, and the checker has failed.
+    /// A processor, which is told all announcements from here on. Without memory it is dropped, and the checker has
+    /// failed.
     pub fn add_processor(&mut self, processor: P) -> Result<(), CheckerError>
         ensures { AddsOwnListener P.takes result self.old processor self.new }
     {

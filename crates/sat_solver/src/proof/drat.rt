@@ -2,7 +2,8 @@
 ghost use Rattle.std.specs.Prelude.{◌≡◌, ◌++◌, [], ◌∷◌, OnOk, codes, decimal, if◌then◌else◌};
 ghost use Rattle.sat_base.specs.dimacs.DimacsText.{clause_line};
 ghost use Rattle.sat_base.specs.steps.StepViews.{step_of};
-ghost use Rattle.sat_solver.specs.proof.DratText.{seven_bits, bytes_line, mark, clause_text, unit_lines, lines_text, drat_text};
+ghost use Rattle.sat_solver.specs.proof.DratText.{seven_bits, bytes_line, mark, clause_text, unit_lines, lines_text};
+ghost use Rattle.sat_solver.specs.proof.DratText.{drat_text};
 
 use sat_base::{ClauseHash, Lit, ProofStep};
 use std::alloc::AllocError;
@@ -25,7 +26,8 @@ fn put_decimal(text: &mut Vec<u8>, number: u64) -> Result<(), AllocError>
 
 /// The number of a literal: a negative one has a minus sign before it.
 fn put_sign(text: &mut Vec<u8>, number: u64, positive: bool) -> Result<(), AllocError>
-    ensures { OnOk result (text.new.items ≡ text.old.items ++ ((if positive then [] else codes "-") ++ decimal number)) }
+    ensures { OnOk result (text.new.items
+        ≡ text.old.items ++ ((if positive then [] else codes "-") ++ decimal number)) }
 {
     if positive {
         return put_decimal(text, number);

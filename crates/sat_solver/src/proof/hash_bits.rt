@@ -1,7 +1,8 @@
 //! How many bits of hashes a proof keeps: their number follows the count of its clauses.
 ghost use Rattle.std.specs.Prelude.{◌≡◌, ◌≤◌, ◌/◌, ◌^◌};
 ghost use Rattle.sat_base.specs.steps.StepViews.{step_of};
-ghost use Rattle.sat_solver.specs.proof.Counting.{start, one_more_if, one_less_if, count_after, too_short, too_long, widened, shortened, fitting, counted};
+ghost use Rattle.sat_solver.specs.proof.Counting.{start, one_more_if, one_less_if, count_after, too_short, too_long};
+ghost use Rattle.sat_solver.specs.proof.Counting.{widened, shortened, fitting, counted};
 
 use sat_base::{HashBits, Lit, ProofStep};
 

@@ -1,4 +1,5 @@
-//! What contracts alone see of a cause that is kept elsewhere. It takes no memory, and its function does nothing at run time.
+//! What contracts alone see of a cause that is kept elsewhere. It takes no memory, and its function does nothing at run
+//! time.
 ghost use Rattle.std.specs.Prelude.{◌≡◌};
 ghost use Rattle.std.specs.Borrow.{ftrue};
 

@@ -65,7 +65,9 @@ pub struct Made<P: ProofProcessor = Nobody> {
 }
 
 impl<P: ProofProcessor> Made<P> {
-    ghost use Rattle.sat_solver.specs.proof.MadeView.{audience, is_checked, is_lost, Checks, Handed, HandedWhole, HasTold, IsTold, Makes, OrComplains, OrComplainsUnless, TakesListener, without_complaint};
+    ghost use Rattle.sat_solver.specs.proof.MadeView.{audience, is_checked, is_lost, Checks, Handed, HandedWhole};
+    ghost use Rattle.sat_solver.specs.proof.MadeView.{HasTold, IsTold, Makes, OrComplains, OrComplainsUnless};
+    ghost use Rattle.sat_solver.specs.proof.MadeView.{TakesListener, without_complaint};
 
     /// No step yet, and no checker.
     pub fn new() -> Made<P>
@@ -113,7 +115,8 @@ impl<P: ProofProcessor> Made<P> {
         }
     }
 
-    /// A processor, which the checker tells what it announces from here on. Without memory it is dropped, and the checker takes no step.
+    /// A processor, which the checker tells what it announces from here on. Without memory it is dropped, and the
+    /// checker takes no step.
     pub fn add_processor(&mut self, processor: P) -> Result<(), CheckFault>
         requires begun { has_begun self.old.history.steps ≡ false }
         requires taking { is_lost self.old ≡ false }

@@ -45,7 +45,8 @@ fn causes_hash(lits: &CauseLits) -> ClauseHash
 fn reason_hash(parts: &Parts, lit: Lit) -> ClauseHash
     requires there { variable lit < length parts.now.graph }
     requires clause { (o : ℕ) → (node (state parts.now) lit).reason ≡ Reason.Long o → IsClause parts.now.clauses o }
-    requires some { (o : ℕ) → (node (state parts.now) lit).reason ≡ Reason.Long o → 0 < length (lits_at parts.now.clauses o) }
+    requires some { (o : ℕ) → (node (state parts.now) lit).reason ≡ Reason.Long o
+        → 0 < length (lits_at parts.now.clauses o) }
     ensures { result ≡ hash_of (clause_of parts.now.clauses (state parts.now) lit) }
 {
     let reason = parts.graph.reason(lit.var());
@@ -61,7 +62,8 @@ pub fn name_reasons(
     requires there { VariablesBelow used.now (length parts.now.graph) }
     requires clause { ReasonsAreStored parts.now.clauses (state parts.now) used.now }
     requires some { ReasonsHaveLiterals parts.now.clauses (state parts.now) used.now }
-    ensures { OnOk result (hashes.new.items ≡ map (λ l. hash_of (clause_of parts.now.clauses (state parts.now) l)) used.now) }
+    ensures { OnOk result (hashes.new.items ≡ map (λ l. hash_of (clause_of parts.now.clauses (state parts.now) l))
+        used.now) }
 {
     hashes.clear();
     for lit in used {
@@ -101,8 +103,13 @@ fn unit_of(parts: &Parts, globals: &[Var], lit: Lit) -> (Lit, ClauseHash)
     requires there { variable lit < length parts.now.graph }
     requires name { variable lit < length globals.now }
     requires clause { (o : ℕ) → (node (state parts.now) lit).reason ≡ Reason.Long o → IsClause parts.now.clauses o }
-    requires some { (o : ℕ) → (node (state parts.now) lit).reason ≡ Reason.Long o → 0 < length (lits_at parts.now.clauses o) }
-    ensures { result ≡ (with_var (global_of globals.now) lit, hash_of (clause_of parts.now.clauses (state parts.now) lit)) }
+    requires some { (o : ℕ) → (node (state parts.now) lit).reason ≡ Reason.Long o
+        → 0 < length (lits_at parts.now.clauses o) }
+    ensures { result ≡ (
+      with_var (global_of globals.now) lit,
+      hash_of
+          (clause_of parts.now.clauses (state parts.now) lit),
+    ) }
 {
     let hash = reason_hash(parts, lit);
     (map_lit(globals, lit), hash)
@@ -116,7 +123,8 @@ pub fn collect_units(
 ) -> Result<(), AllocError>
     requires orderly { IsOrderly parts.now }
     requires names { length parts.now.assignment.current ≤ length globals.now }
-    ensures { OnOk result (units.new.items ≡ written_units parts.now.clauses (state parts.now) 64 (global_of globals.now) parts.now.trail.lits) }
+    ensures { OnOk result (units.new.items ≡ written_units parts.now.clauses (state parts.now) 64
+        (global_of globals.now) parts.now.trail.lits) }
 {
     units.clear();
     for lit in parts.trail.trail() {

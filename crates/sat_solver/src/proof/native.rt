@@ -15,7 +15,8 @@ fn tell_width<W: CountedWrite>(
     before: HashBits,
     now: HashBits,
 ) -> Result<(), OutputError>
-    ensures { PutsSteps Varisat result (width_told before now) (steps_sink W.seen writer.old) (steps_sink W.seen writer.new) }
+    ensures { PutsSteps Varisat result (width_told before now) (steps_sink W.seen writer.old)
+        (steps_sink W.seen writer.new) }
 {
     if before.get() == now.get() {
         return Ok(());

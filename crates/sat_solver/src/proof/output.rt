@@ -54,7 +54,8 @@ impl<W: CountedWrite> LineWriter<W> {
     /// Writes a step's lines, which are put together in the text.
     fn write(&mut self, text: &mut Vec<u8>, step: &ProofStep<'_>) -> Result<(), OutputError>
         ensures binary { self.new.binary ≡ self.old.binary }
-        ensures puts { PutsLines self.old.binary result (step_of step.now) (W.seen self.old.writer) (W.seen self.new.writer) }
+        ensures puts { PutsLines self.old.binary result (step_of step.now) (W.seen self.old.writer)
+            (W.seen self.new.writer) }
     {
         text.clear();
         put_step(text, self.binary, step)?;
@@ -99,8 +100,8 @@ impl<W: CountedWrite> Output<W> {
         }
     }
 
-    /// Writes a step, where the widths are that of the step before and its own, to which its hashes are cut. Lines are put together in
-    /// the text.
+    /// Writes a step, where the widths are that of the step before and its own, to which its hashes are cut. Lines are
+    /// put together in the text.
     pub fn write(
         &mut self,
         text: &mut Vec<u8>,

@@ -1,9 +1,11 @@
 //! What holds of sessions: each law is the contract of a function that does nothing.
-ghost use Rattle.sat_solver.specs.session.Promises.{CoresAreRight, MayIsAccepted, ModelsAreRight, SessionsAreAccepted, UnsatIsRight};
+ghost use Rattle.sat_solver.specs.session.Promises.{CoresAreRight, MayIsAccepted, ModelsAreRight, SessionsAreAccepted};
+ghost use Rattle.sat_solver.specs.session.Promises.{UnsatIsRight};
 ghost use Rattle.sat_solver.specs.proof.Checked.{NobodyComplains};
 ghost use Rattle.sat_solver.specs.proof.Drat.{DratStands};
 ghost use Rattle.sat_solver.specs.session.Due.{WidthsKeepOrder};
-ghost use Rattle.sat_solver.specs.session.NamedMeaning.{NamedCoresAreRight, NamedModelsAreRight, NamedUnsatIsRight, NoneHiddenMeans};
+ghost use Rattle.sat_solver.specs.session.NamedMeaning.{NamedCoresAreRight, NamedModelsAreRight, NamedUnsatIsRight};
+ghost use Rattle.sat_solver.specs.session.NamedMeaning.{NoneHiddenMeans};
 ghost use Rattle.sat_solver.specs.proof.ProofRows.{CountRow, LineRows, WidthRows};
 ghost use Rattle.sat_solver.specs.proof.ProofTexts.{BrokenIsFront, ClosedIsText, CutsAreFree};
 ghost use Rattle.sat_solver.specs.session.SessionRows.{CollidingMay, HiddenMay};
@@ -57,7 +59,8 @@ pub fn plain_steps_mean_clauses()
     ensures { NoneHiddenMeans }
 {}
 
-/// The target of a closed proof took the text of the steps that were made since it was opened, and one that failed a front of it.
+/// The target of a closed proof took the text of the steps that were made since it was opened, and one that failed a
+/// front of it.
 pub fn targets_take_texts()
     ensures closed { ClosedIsText }
     ensures broken { BrokenIsFront }

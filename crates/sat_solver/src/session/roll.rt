@@ -1,4 +1,5 @@
-//! What contracts alone see of those who were added to a checker. It takes no memory, and its functions do nothing at run time.
+//! What contracts alone see of those who were added to a checker. It takes no memory, and its functions do nothing at
+//! run time.
 ghost use Rattle.std.specs.Prelude.{◌≡◌, ◌++◌, ◌∷◌, [], List};
 ghost use Rattle.std.specs.Borrow.{ftrue};
 

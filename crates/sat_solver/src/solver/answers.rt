@@ -26,8 +26,8 @@ impl<W: CountedWrite + Drop, P: ProofProcessor> Solver<W, P> {
         Ok(lits)
     }
 
-    /// A model: a literal for each name in use, in increasing order. There is one only behind a `solve` that answered true, with no
-    /// clause and no assumptions since; names that came since are false. `OutOfMemory` changes nothing.
+    /// A model: a literal for each name in use, in increasing order. There is one only behind a `solve` that answered
+    /// true, with no clause and no assumptions since; names that came since are false. `OutOfMemory` changes nothing.
     pub fn model(&self, alloc: Global) -> Result<Option<Vec<Lit>>, SolverError>
         requires { IsSolver self.now }
         ensures model { IfOk result (λ o. MatchOption o (HasNone self.now) (λ lits. IsModel self.now lits.items)) }
@@ -44,8 +44,9 @@ impl<W: CountedWrite + Drop, P: ProofProcessor> Solver<W, P> {
         }
     }
 
-    /// Assumptions that can't be true together. There are some only behind a `solve` that answered false, with no clause and no
-    /// assumptions since; an empty list once the clauses alone are known to be unsatisfiable. None after a call failed.
+    /// Assumptions that can't be true together. There are some only behind a `solve` that answered false, with no
+    /// clause and no assumptions since; an empty list once the clauses alone are known to be unsatisfiable. None after
+    /// a call failed.
     pub fn failed_core(&self) -> Option<&[Lit]>
         requires { IsSolver self.now }
         ensures { MatchOption result (HasNoCore self.now) (λ core. IsCore self.now core.now) }

@@ -54,9 +54,9 @@ impl<W: CountedWrite + Drop, P: ProofProcessor> Solver<W, P> {
         Ok(())
     }
 
-    /// Replaces the assumptions, whose names come in from left to right. `NotInDrat` while lines of DRAT are written. `WitnessVariable`
-    /// where a literal is over a name of mode witness. `VariableLimit` where a variable is lacking for a name that
-    /// would come in.
+    /// Replaces the assumptions, whose names come in from left to right. `NotInDrat` while lines of DRAT are written.
+    /// `WitnessVariable` where a literal is over a name of mode witness. `VariableLimit` where a variable is lacking
+    /// for a name that would come in.
     pub fn assume(&mut self, lits: &[Lit]) -> Result<(), SolverError>
         requires { IsSolver self.old }
         ensures solver { IsSolver self.new }

@@ -63,10 +63,10 @@ impl<W: CountedWrite + Drop, P: ProofProcessor> Solver<W, P> {
         Ok(())
     }
 
-    /// Adds a clause, whose names come in from left to right. It may stand behind asks, and ends what is known of an answer. Once the
-    /// clauses alone are known to be unsatisfiable, only its names come in. `NotInDrat` behind the first `solve` while lines of DRAT are
-    /// written. `WitnessVariable` where a literal is over a name of mode witness. `VariableLimit` where a variable
-    /// is lacking for a name that would come in.
+    /// Adds a clause, whose names come in from left to right. It may stand behind asks, and ends what is known of an
+    /// answer. Once the clauses alone are known to be unsatisfiable, only its names come in. `NotInDrat` behind the
+    /// first `solve` while lines of DRAT are written. `WitnessVariable` where a literal is over a name of mode witness.
+    /// `VariableLimit` where a variable is lacking for a name that would come in.
     pub fn add_clause(&mut self, lits: &[Lit]) -> Result<(), SolverError>
         requires { IsSolver self.old }
         ensures solver { IsSolver self.new }

@@ -29,7 +29,8 @@ fn hand_on<W: CountedWrite + Drop, P: ProofProcessor>(core: &mut Core<W, P>, sta
 }
 
 impl<W: CountedWrite + Drop, P: ProofProcessor> Solver<W, P> {
-    /// Changes parameters: those that the update has. `OutOfRange` changes nothing, and comes exactly where one is out of its range.
+    /// Changes parameters: those that the update has. `OutOfRange` changes nothing, and comes exactly where one is out
+    /// of its range.
     pub fn config(&mut self, update: &SolverConfigUpdate) -> Result<(), SolverError>
         requires { IsSolver self.old }
         ensures solver { IsSolver self.new }

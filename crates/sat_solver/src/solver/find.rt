@@ -54,7 +54,8 @@ fn tell<W: CountedWrite + Drop, P: ProofProcessor>(
     }
 }
 
-/// Rounds up to an answer, at most so many as the parameters say, and the answer's step. None where there is no answer by then.
+/// Rounds up to an answer, at most so many as the parameters say, and the answer's step. None where there is no answer
+/// by then.
 pub fn find_answer<W: CountedWrite + Drop, P: ProofProcessor>(
     core: &mut Core<W, P>,
     names: &mut Variables,
@@ -66,9 +67,12 @@ pub fn find_answer<W: CountedWrite + Drop, P: ProofProcessor>(
     ensures scale { clock.new.restarts.scale ≡ clock.old.restarts.scale }
     ensures counts { CountsOn (values_in core.old) core.old.config.max_steps clock.old.steps clock.new.steps }
     ensures round { TakesRound result clock.old.steps clock.new.steps }
-    ensures interrupted { SpendsRounds result (steps_left core.old.config.max_steps clock.old.steps) clock.old.steps clock.new.steps }
-    ensures answered { AnswersWithin result (values_in core.old) (steps_left core.old.config.max_steps clock.old.steps) }
-    ensures finds { IfOk result (λ r. FindsBy W.seen r clock.old clock.new names.old names.new core.old core.new told.new) }
+    ensures interrupted { SpendsRounds result (steps_left core.old.config.max_steps clock.old.steps) clock.old.steps
+        clock.new.steps }
+    ensures answered { AnswersWithin result (values_in core.old)
+        (steps_left core.old.config.max_steps clock.old.steps) }
+    ensures finds { IfOk result (λ r. FindsBy W.seen r clock.old clock.new names.old names.new core.old core.new
+        told.new) }
     ensures breaks { IfErr result (λ e. BreaksOff W.seen e core.old core.new) }
 {
     let max_steps = core.config.max_steps;

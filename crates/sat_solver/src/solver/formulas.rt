@@ -42,8 +42,8 @@ fn is_want(error: DimacsError) -> bool
 }
 
 impl<W: CountedWrite + Drop, P: ProofProcessor> Solver<W, P> {
-    /// Adds the clauses of a formula, in order, each as by a call of its own, up to the first that is refused: those before it stand.
-    /// The formula's variable count brings in no name.
+    /// Adds the clauses of a formula, in order, each as by a call of its own, up to the first that is refused: those
+    /// before it stand. The formula's variable count brings in no name.
     pub fn add_formula(&mut self, formula: &CnfFormula) -> Result<(), SolverError>
         requires { IsSolver self.old }
         ensures solver { IsSolver self.new }
@@ -108,9 +108,10 @@ impl<W: CountedWrite + Drop, P: ProofProcessor> Solver<W, P> {
         Err(SolverError::Read)
     }
 
-    /// Adds the clauses of a formula's text in DIMACS CNF, in order, as the text is read in pieces of 4,096 bytes. Those before a fault
-    /// stand, and those before a clause that is refused. A text that can't be read leaves the solver going on: `Malformed`,
-    /// `VariableLimit` for a number past the limit, or `Read`. The header's variable count brings in no name.
+    /// Adds the clauses of a formula's text in DIMACS CNF, in order, as the text is read in pieces of 4,096 bytes.
+    /// Those before a fault stand, and those before a clause that is refused. A text that can't be read leaves the
+    /// solver going on: `Malformed`, `VariableLimit` for a number past the limit, or `Read`. The header's variable
+    /// count brings in no name.
     pub fn add_dimacs_cnf<R: CountedRead>(&mut self, reader: &mut R) -> Result<(), SolverError>
         requires { IsSolver self.old }
         ensures solver { IsSolver self.new }

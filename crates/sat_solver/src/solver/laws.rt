@@ -14,8 +14,8 @@ pub fn calls_go_on<W: CountedWrite + Drop, P: ProofProcessor>(
     ensures { CallsGoOn W.seen _old.now _new.now }
 {}
 
-/// Where no call failed some state of the judge is what names and steps say, so that what answers and bounds say of each such state is
-/// said of one.
+/// Where no call failed some state of the judge is what names and steps say, so that what answers and bounds say of
+/// each such state is said of one.
 pub fn solvers_are_judged<W: CountedWrite + Drop, P: ProofProcessor>(_solver: &Solver<W, P>)
     ensures { SolverIsJudged _solver.now }
 {}

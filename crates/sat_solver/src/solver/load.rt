@@ -28,8 +28,8 @@ pub struct Loading {
     pub sorting: Sorting,
 }
 
-/// Takes a clause without a name of mode witness, where the clauses aren't known to be unsatisfiable. Answers whether a valuation may
-/// be left.
+/// Takes a clause without a name of mode witness, where the clauses aren't known to be unsatisfiable. Answers whether a
+/// valuation may be left.
 pub fn take_clause<W: CountedWrite + Drop, P: ProofProcessor>(
     core: &mut Core<W, P>,
     names: &mut Variables,

@@ -37,9 +37,10 @@ fn is_used(used: bool, users: &[Var]) -> bool
 }
 
 impl<W: CountedWrite + Drop, P: ProofProcessor> Solver<W, P> {
-    /// Brings a name in, and hides it: its variable stays in the clauses, and the name may become that of a new variable. A variable
-    /// without an index, which is in no clause, is deleted at once. What is known of an answer stays. `AssumedVariable` where the name
-    /// is assumed. `VariableLimit` where a variable is lacking for a name that would come in.
+    /// Brings a name in, and hides it: its variable stays in the clauses, and the name may become that of a new
+    /// variable. A variable without an index, which is in no clause, is deleted at once. What is known of an answer
+    /// stays. `AssumedVariable` where the name is assumed. `VariableLimit` where a variable is lacking for a name that
+    /// would come in.
     pub fn hide_var(&mut self, user: Var) -> Result<(), SolverError>
         requires { IsSolver self.old }
         ensures solver { IsSolver self.new }
@@ -84,8 +85,9 @@ impl<W: CountedWrite + Drop, P: ProofProcessor> Solver<W, P> {
         }
     }
 
-    /// Brings a name in, and sets its mode to witness: no clause and no assumption may have it. What is known of an answer stays.
-    /// `AssumedVariable` where the name is assumed, also where the mode would stay. `VariableLimit` as by `hide_var`.
+    /// Brings a name in, and sets its mode to witness: no clause and no assumption may have it. What is known of an
+    /// answer stays. `AssumedVariable` where the name is assumed, also where the mode would stay. `VariableLimit` as by
+    /// `hide_var`.
     pub fn witness_var(&mut self, user: Var) -> Result<(), SolverError>
         requires { IsSolver self.old }
         ensures solver { IsSolver self.new }
@@ -94,8 +96,8 @@ impl<W: CountedWrite + Drop, P: ProofProcessor> Solver<W, P> {
         self.set_mode(user, false)
     }
 
-    /// Brings a name in, and sets its mode to sample, as new names have it. What is known of an answer stays. `AssumedVariable` where
-    /// the name is assumed, also where the mode would stay. `VariableLimit` as by `hide_var`.
+    /// Brings a name in, and sets its mode to sample, as new names have it. What is known of an answer stays.
+    /// `AssumedVariable` where the name is assumed, also where the mode would stay. `VariableLimit` as by `hide_var`.
     pub fn sample_var(&mut self, user: Var) -> Result<(), SolverError>
         requires { IsSolver self.old }
         ensures solver { IsSolver self.new }
@@ -104,8 +106,9 @@ impl<W: CountedWrite + Drop, P: ProofProcessor> Solver<W, P> {
         self.set_mode(user, true)
     }
 
-    /// Brings in the lowest hidden name, else the first never used, and gives it. What is known of an answer stays: in a model the name
-    /// is false. `VariableLimit` changes nothing, and comes only where every variable of the proof is in use.
+    /// Brings in the lowest hidden name, else the first never used, and gives it. What is known of an answer stays: in
+    /// a model the name is false. `VariableLimit` changes nothing, and comes only where every variable of the proof is
+    /// in use.
     pub fn new_var(&mut self) -> Result<Var, SolverError>
         requires { IsSolver self.old }
         ensures solver { IsSolver self.new }
@@ -129,8 +132,9 @@ impl<W: CountedWrite + Drop, P: ProofProcessor> Solver<W, P> {
         }
     }
 
-    /// Gives each hidden variable that is still kept the name that `new_var` would take, and mode witness, by increasing variable of the
-    /// proof; the names in this order. What is known of an answer stays. Where there is none, a proof may still be opened.
+    /// Gives each hidden variable that is still kept the name that `new_var` would take, and mode witness, by
+    /// increasing variable of the proof; the names in this order. What is known of an answer stays. Where there is
+    /// none, a proof may still be opened.
     pub fn observe_internal_vars(&mut self) -> Result<Vec<Var>, SolverError>
         requires { IsSolver self.old }
         ensures solver { IsSolver self.new }

@@ -13,7 +13,8 @@ use sat_store::Tier;
 
 /// Whether a variable has this index, and no value.
 fn is_open(names: &Variables, global: Var, index: usize, values: &[Option<bool>]) -> bool
-    ensures { AreTidy names.now → slice_index_or names.now.globals.items index 0 ≡ global → result ≡ is_open_at names.now values.now index }
+    ensures { AreTidy names.now → slice_index_or names.now.globals.items index 0 ≡ global
+        → result ≡ is_open_at names.now values.now index }
 {
     let Some(solver) = names.solver_from_global.fwd().get(global) else {
         return false;

@@ -19,8 +19,8 @@ pub struct HandedBack<W, P> {
 }
 
 impl<W: CountedWrite + Drop, P: ProofProcessor> Solver<W, P> {
-    /// Writes the steps that are made from here on to this target, in this format. `TooLate` once a clause, a name, assumptions or an ask
-    /// came, or while a proof is open; the target is dropped then.
+    /// Writes the steps that are made from here on to this target, in this format. `TooLate` once a clause, a name,
+    /// assumptions or an ask came, or while a proof is open; the target is dropped then.
     pub fn write_proof(&mut self, target: W, format: ProofFormat) -> Result<(), SolverError>
         requires { IsSolver self.old }
         ensures solver { IsSolver self.new }
@@ -36,8 +36,8 @@ impl<W: CountedWrite + Drop, P: ProofProcessor> Solver<W, P> {
         Ok(())
     }
 
-    /// From here on a checker of the solver's own takes each step that is made, as a file in bytes would have it, but for the ends of
-    /// proofs; it refuses none. `TooLate` once a clause, a name, assumptions or an ask came.
+    /// From here on a checker of the solver's own takes each step that is made, as a file in bytes would have it, but
+    /// for the ends of proofs; it refuses none. `TooLate` once a clause, a name, assumptions or an ask came.
     pub fn enable_self_checking(&mut self) -> Result<(), SolverError>
         requires { IsSolver self.old }
         ensures solver { IsSolver self.new }
@@ -54,8 +54,8 @@ impl<W: CountedWrite + Drop, P: ProofProcessor> Solver<W, P> {
         Ok(())
     }
 
-    /// A processor, which the solver's own checker, which comes by it where there is none, tells what it announces. `TooLate` as
-    /// `enable_self_checking`; the processor is dropped then, and so it is where there's no memory for it.
+    /// A processor, which the solver's own checker, which comes by it where there is none, tells what it announces.
+    /// `TooLate` as `enable_self_checking`; the processor is dropped then, and so it is where there's no memory for it.
     pub fn add_proof_processor(&mut self, processor: P) -> Result<(), SolverError>
         requires { IsSolver self.old }
         ensures solver { IsSolver self.new }
@@ -75,7 +75,8 @@ impl<W: CountedWrite + Drop, P: ProofProcessor> Solver<W, P> {
         }
     }
 
-    /// Writes the last step, flushes, and hands the target back; `None` where no proof is open. After a fault the target stays.
+    /// Writes the last step, flushes, and hands the target back; `None` where no proof is open. After a fault the
+    /// target stays.
     pub fn close_proof(&mut self) -> Result<Option<W>, SolverError>
         requires { IsSolver self.old }
         ensures solver { IsSolver self.new }
@@ -90,8 +91,8 @@ impl<W: CountedWrite + Drop, P: ProofProcessor> Solver<W, P> {
         }
     }
 
-    /// The target as it is, where a proof is open or its target failed; what waits for it is lost. So who lent a target to a solver
-    /// that failed learns what it took: a front of the text of steps that a checker accepts.
+    /// The target as it is, where a proof is open or its target failed; what waits for it is lost. So who lent a target
+    /// to a solver that failed learns what it took: a front of the text of steps that a checker accepts.
     pub fn into_target(self) -> Option<W>
         ensures gives { GivesWriter (target_of W.seen self.core.proof) (seen_of W.seen result) }
         ensures front { HandsFront W.seen result self }
@@ -100,8 +101,8 @@ impl<W: CountedWrite + Drop, P: ProofProcessor> Solver<W, P> {
         solver.core.proof.take_target()
     }
 
-    /// The processors that were added, in their order, and the target as it is, where a proof is open or its target failed, also after
-    /// a failure; what waits for the target is lost.
+    /// The processors that were added, in their order, and the target as it is, where a proof is open or its target
+    /// failed, also after a failure; what waits for the target is lost.
     pub fn into_processors(self) -> HandedBack<W, P>
         ensures target { GivesWriter (target_of W.seen self.core.proof) (seen_of W.seen result.target) }
         ensures front { HandsFront W.seen result.target self }

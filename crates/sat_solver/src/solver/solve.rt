@@ -38,10 +38,10 @@ impl<W: CountedWrite + Drop, P: ProofProcessor> Solver<W, P> {
         }
     }
 
-    /// Whether the clauses and the assumptions can be satisfied. `Interrupted` where the rounds of this call are spent, as many as the
-    /// parameters allow, or the count of all rounds is. With no clause and no assumptions accepted since an answer, this one is given
-    /// again, without a round or a step. Before it answers, an open target is flushed, and the
-    /// solver's own checker, where there is one, has taken all steps and told what waited in it.
+    /// Whether the clauses and the assumptions can be satisfied. `Interrupted` where the rounds of this call are spent,
+    /// as many as the parameters allow, or the count of all rounds is. With no clause and no assumptions accepted since
+    /// an answer, this one is given again, without a round or a step. Before it answers, an open target is flushed, and
+    /// the solver's own checker, where there is one, has taken all steps and told what waited in it.
     pub fn solve(&mut self) -> Result<bool, SolverError>
         requires { IsSolver self.old }
         ensures solver { IsSolver self.new }

@@ -27,7 +27,8 @@ fn are_open(parts: &Parts, first: Lit, second: Lit) -> bool
     values.var_value(first.var()).is_none() && values.var_value(second.var()).is_none()
 }
 
-/// Deletes the clause by which a literal implies another, in the list of its lower literal, where a variable of it has a value.
+/// Deletes the clause by which a literal implies another, in the list of its lower literal, where a variable of it has
+/// a value.
 fn delete_pair<W: CountedWrite + Drop, P: ProofProcessor>(
     proof: &mut Proof<W, P>,
     search: &mut Search,
@@ -40,7 +41,8 @@ fn delete_pair<W: CountedWrite + Drop, P: ProofProcessor>(
     requires there { lit < length search.old.parts.binary.implied }
     requires within { at < length (implied_by search.old.parts.binary.implied lit) }
     ensures same { search.new ≡ record search.old { scratch = search.new.scratch } }
-    ensures left { EmitsSteps W.seen result proof.old proof.new (λ _ _. LeavesPairs (session_of proof.new) search.old lit (at + 1)) }
+    ensures left { EmitsSteps W.seen result proof.old proof.new
+        (λ _ _. LeavesPairs (session_of proof.new) search.old lit (at + 1)) }
 {
     let first = !lit;
     let second = search.parts.binary.implied(lit)[at];
@@ -65,7 +67,8 @@ fn delete_pairs_of<W: CountedWrite + Drop, P: ProofProcessor>(
     requires left { LeavesPairs (session_of proof.old) search.old lit 0 }
     requires there { lit < length search.old.parts.binary.implied }
     ensures same { search.new ≡ record search.old { scratch = search.new.scratch } }
-    ensures left { EmitsSteps W.seen result proof.old proof.new (λ _ _. LeavesPairs (session_of proof.new) search.old (lit + 1) 0) }
+    ensures left { EmitsSteps W.seen result proof.old proof.new
+        (λ _ _. LeavesPairs (session_of proof.new) search.old (lit + 1) 0) }
 {
     for at in 0..search.parts.binary.implied(lit).len() {
         delete_pair(proof, search, lit, at)?;

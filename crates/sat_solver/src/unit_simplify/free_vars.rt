@@ -52,7 +52,8 @@ fn free_unused<S: StepWriter>(
     requires may { MayFree variables.old (S.steps writer.old) search.old }
     requires there { index < length search.old.parts.assignment.current }
     requires unused { InNoClause search.old.parts index }
-    ensures frees { OnOk result (FreesSome variables.old variables.new (S.steps writer.old) (S.steps writer.new) search.old search.new) }
+    ensures frees { OnOk result (FreesSome variables.old variables.new (S.steps writer.old) (S.steps writer.new)
+        search.old search.new) }
     ensures left { OnOk result (IsIndexOfAssumed variables.new (session_after (S.steps writer.old)) index) }
     ensures keeps { OnOk result (S.keeps writer.new) }
     ensures fails { IfErr result IsFailure }
@@ -70,7 +71,8 @@ fn free_unused<S: StepWriter>(
     Ok(())
 }
 
-/// Gives the indices up, in order, that no clause has and no assumption. What units they have is noted; hidden variables are deleted.
+/// Gives the indices up, in order, that no clause has and no assumption. What units they have is noted; hidden
+/// variables are deleted.
 pub fn free_indices<S: StepWriter>(
     variables: &mut Variables,
     writer: &mut S,
@@ -79,7 +81,8 @@ pub fn free_indices<S: StepWriter>(
 ) -> Result<(), NameError>
     requires keeps { S.keeps writer.old }
     requires may { MayFree variables.old (S.steps writer.old) search.old }
-    ensures frees { OnOk result (FreesSome variables.old variables.new (S.steps writer.old) (S.steps writer.new) search.old search.new) }
+    ensures frees { OnOk result (FreesSome variables.old variables.new (S.steps writer.old) (S.steps writer.new)
+        search.old search.new) }
     ensures left { OnOk result (AllLeft variables.new (session_after (S.steps writer.old)) search.old.parts) }
     ensures keeps { OnOk result (S.keeps writer.new) }
     ensures fails { IfErr result IsFailure }

@@ -47,7 +47,8 @@ fn delete_true<W: CountedWrite + Drop, P: ProofProcessor>(
     Ok(())
 }
 
-/// Deletes a live long clause where a unit made it true, and replaces it by what is left of it where units made literals false.
+/// Deletes a live long clause where a unit made it true, and replaces it by what is left of it where units made
+/// literals false.
 fn simplify_clause<W: CountedWrite + Drop, P: ProofProcessor>(
     proof: &mut Proof<W, P>,
     search: &mut Search,
@@ -67,7 +68,8 @@ fn simplify_clause<W: CountedWrite + Drop, P: ProofProcessor>(
     }
 }
 
-/// Looks at the long clauses in the order of their list, the redundant ones too. Behind it none of their literals has a value.
+/// Looks at the long clauses in the order of their list, the redundant ones too. Behind it none of their literals has a
+/// value.
 pub fn simplify_clauses<W: CountedWrite + Drop, P: ProofProcessor>(
     proof: &mut Proof<W, P>,
     search: &mut Search,
@@ -76,7 +78,8 @@ pub fn simplify_clauses<W: CountedWrite + Drop, P: ProofProcessor>(
     requires keeps { HasAllowedSteps proof.old }
     requires search { IsSearch (session_of proof.old) search.old }
     requires flat { IsFlat search.old.parts }
-    ensures { EmitsSteps W.seen result proof.old proof.new (λ _ _. LightensAll (session_of proof.new) search.old search.new) }
+    ensures { EmitsSteps W.seen result proof.old proof.new
+        (λ _ _. LightensAll (session_of proof.new) search.old search.new) }
 {
     for at in 0..search.parts.db.len() {
         let cref = search.parts.db.cref(at);

@@ -23,7 +23,8 @@ pub enum Looks {
 fn look_on(parts: &Parts, cref: ClauseRef, from: usize) -> Looks
     requires holds { PartsInvariant parts.now }
     requires live { HasClause parts.now cref }
-    requires before { (k : ℕ) → k < from → IsTrueLit parts.now.assignment.current (lit_of parts.now.clauses cref k) → ⊥ }
+    requires before { (k : ℕ) → k < from → IsTrueLit parts.now.assignment.current (lit_of parts.now.clauses cref k)
+        → ⊥ }
     requires within { from < size_of parts.now.clauses cref }
     requires there { IsFalseLit parts.now.assignment.current (lit_of parts.now.clauses cref from) }
     ensures { LooksSo result parts.now cref }

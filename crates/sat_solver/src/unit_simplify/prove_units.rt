@@ -30,7 +30,8 @@ pub fn write_units<W: CountedWrite + Drop, P: ProofProcessor>(
     requires fits { SessionMatchesParts parts.now (session_of proof.old) (global_of globals.now) }
     requires named { TrueLitsHaveNames parts.now.assignment.current (session_of proof.old) (global_of globals.now) }
     requires names { length parts.now.assignment.current ≤ length globals.now }
-    ensures { EmitsSteps W.seen result proof.old proof.new (λ _ _. AllUnits parts.now (session_of proof.new) (global_of globals.now)) }
+    ensures { EmitsSteps W.seen result proof.old proof.new
+        (λ _ _. AllUnits parts.now (session_of proof.new) (global_of globals.now)) }
 {
     collect_units(parts, globals, units)?;
     if units.is_empty() {
@@ -54,7 +55,8 @@ pub fn settle<W: CountedWrite + Drop, P: ProofProcessor>(
     requires fits { SessionMatchesParts parts.old (session_of proof.old) (global_of globals.now) }
     requires named { TrueLitsHaveNames parts.old.assignment.current (session_of proof.old) (global_of globals.now) }
     requires names { length parts.old.assignment.current ≤ length globals.now }
-    ensures { EmitsSteps W.seen result proof.old proof.new (λ _ _. TakesUnitsOff parts.old parts.new (session_of proof.new) (global_of globals.now)) }
+    ensures { EmitsSteps W.seen result proof.old proof.new
+        (λ _ _. TakesUnitsOff parts.old parts.new (session_of proof.new) (global_of globals.now)) }
 {
     if parts.trail.current_level() > 0 {
         return Ok(());

@@ -41,7 +41,8 @@ pub fn write_cut<W: CountedWrite + Drop, P: ProofProcessor>(
     requires named { HaveSolverNames (session_of proof.old).solver_names part.now }
     requires may { MayCut (session_of proof.old) redundant part.now scratch.now.hashes.items scratch.now.clause.items }
     requires few { are_few scratch.now.hashes.items ≡ true }
-    ensures { WritesCut W.seen result proof.old proof.new redundant part.now scratch.now.hashes.items scratch.now.clause.items }
+    ensures { WritesCut W.seen result proof.old proof.new redundant part.now scratch.now.hashes.items
+        scratch.now.clause.items }
 {
     let derived = ProofStep::AtClause {
         redundant: left_redundant(redundant, part.len()),

@@ -23,7 +23,8 @@ use sat_parts::{Conflict, Parts};
 use sat_store::ClauseRef;
 use std::alloc::AllocError;
 
-/// Brings the open literals of a clause to its front, in order, of which the first two are there. Answers how many they are.
+/// Brings the open literals of a clause to its front, in order, of which the first two are there. Answers how many they
+/// are.
 fn gather_open(parts: &mut Parts, cref: ClauseRef) -> usize
     requires holds { PartsInvariant parts.old }
     requires live { HasClause parts.old cref }

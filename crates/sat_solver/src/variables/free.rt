@@ -1,13 +1,16 @@
 //! Indices that are free.
-ghost use Rattle.std.specs.Prelude.{ℕ, ◌≡◌, ◌==◌, ◌||◌, ◌+◌, ◌*◌, ◌<◌, ◌≤◌, true, false, MatchOption, OnOk, length, if◌then◌else◌, slice_index_or};
+ghost use Rattle.std.specs.Prelude.{ℕ, ◌≡◌, ◌==◌, ◌||◌, ◌+◌, ◌*◌, ◌<◌, ◌≤◌, true, false, MatchOption, OnOk, length};
+ghost use Rattle.std.specs.Prelude.{if◌then◌else◌, slice_index_or};
 ghost use Rattle.sat_base.specs.values.Literals.{largest};
-ghost use Rattle.sat_solver.specs.variables.Free.{is_free, IsTree, Powers, Refreshes, IsChild, IsLowest, CopiesLeaves, IsCounted};
+ghost use Rattle.sat_solver.specs.variables.Free.{is_free, IsTree, Powers, Refreshes, IsChild, IsLowest, CopiesLeaves};
+ghost use Rattle.sat_solver.specs.variables.Free.{IsCounted};
 
 use sat_base::Var;
 use std::alloc::{AllocError, Global};
 
-/// A set of indices below a bound, as a binary tree of tests in one list: node 1 is the root, the nodes below node k are 2 k and
-/// 2 k + 1, and the second half are the leaves, one for each index. A node says whether a leaf below it is in the set.
+/// A set of indices below a bound, as a binary tree of tests in one list: node 1 is the root, the nodes below node k
+/// are 2 k and 2 k + 1, and the second half are the leaves, one for each index. A node says whether a leaf below it is
+/// in the set.
 #[derive(Drop)]
 pub struct FreeIndices {
     nodes: Vec<bool>,
@@ -46,7 +49,8 @@ fn refresh(nodes: &mut Vec<bool>, at: usize)
 /// The lower one of the nodes below a node that has an index in the set.
 fn child(nodes: &Vec<bool>, at: usize) -> usize
     requires within { 2 * at + 1 < length nodes.now.items }
-    requires some { (slice_index_or nodes.now.items (2 * at) false || slice_index_or nodes.now.items (2 * at + 1) false) ≡ true }
+    requires some { (slice_index_or nodes.now.items (2 * at) false || slice_index_or nodes.now.items (2 * at + 1) false)
+        ≡ true }
     ensures { IsChild nodes.now.items at result }
 {
     if nodes[2 * at] {
@@ -59,7 +63,8 @@ fn child(nodes: &Vec<bool>, at: usize) -> usize
 pub(crate) fn widen(nodes: &mut Vec<bool>, count: usize) -> Result<(), AllocError>
     requires more { length nodes.old.items ≤ count }
     ensures size { OnOk result (length nodes.new.items ≡ count) }
-    ensures same { OnOk result ((q : ℕ) → slice_index_or nodes.new.items q false ≡ slice_index_or nodes.old.items q false) }
+    ensures same { OnOk result ((q : ℕ) → slice_index_or nodes.new.items q false
+        ≡ slice_index_or nodes.old.items q false) }
 {
     nodes.resize(count, false)?;
     Ok(())

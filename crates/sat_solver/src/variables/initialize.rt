@@ -4,7 +4,8 @@ ghost use Rattle.std.specs.List.{AllByRecursion};
 ghost use Rattle.sat_base.specs.values.Literals.{largest};
 ghost use Rattle.sat_solver.specs.variables.Search.{GivenApart};
 ghost use Rattle.sat_parts.specs.parts.Whole.{PartsInvariant};
-ghost use Rattle.sat_solver.specs.variables.Initialized.{IsVacant, AreVacant, TakesIndices, Renames, GivesSearchIndices};
+ghost use Rattle.sat_solver.specs.variables.Initialized.{IsVacant, AreVacant, TakesIndices, Renames};
+ghost use Rattle.sat_solver.specs.variables.Initialized.{GivesSearchIndices};
 
 use crate::context::Search;
 use crate::load::backtrack::back_to_bottom;
@@ -15,8 +16,8 @@ use sat_parts::parts::grow;
 use sat_parts::parts::variables::{reset_activity, use_variable, use_with_unit};
 use std::alloc::AllocError;
 
-/// Takes an index at level 0: a unit gives it its value, and otherwise it may be picked, from activity 0 on. The value that it is
-/// picked with first is the one that it had last.
+/// Takes an index at level 0: a unit gives it its value, and otherwise it may be picked, from activity 0 on. The value
+/// that it is picked with first is the one that it had last.
 fn take_index(parts: &mut Parts, given: &Given)
     requires holds { PartsInvariant parts.old }
     requires bottom { parts.old.trail.starts ≡ [] }
@@ -88,8 +89,8 @@ fn add_indices(search: &mut Search, globals: &[Var], given: &[Given]) -> Result<
     Ok(())
 }
 
-/// Goes back to level 0, and takes the indices that proof variables were given: new ones, or such as others gave up. The list has the
-/// proof variable of each index, or the one that it had last.
+/// Goes back to level 0, and takes the indices that proof variables were given: new ones, or such as others gave up.
+/// The list has the proof variable of each index, or the one that it had last.
 pub fn new_indices(search: &mut Search, globals: &[Var], given: &[Given]) -> Result<(), AllocError>
     requires holds { PartsInvariant search.old.parts }
     requires same { length search.old.globals.items ≡ length search.old.parts.assignment.current }

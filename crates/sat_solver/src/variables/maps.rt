@@ -1,5 +1,6 @@
 //! Maps and data of variables, changed in one place.
-ghost use Rattle.std.specs.Prelude.{ℕ, ◌≡◌, ◌==◌, ◌+◌, ◌≤◌, ◌<◌, max, length, None, Some, OnOk, if◌then◌else◌, slice_index_or};
+ghost use Rattle.std.specs.Prelude.{ℕ, ◌≡◌, ◌==◌, ◌+◌, ◌≤◌, ◌<◌, max, length, None, Some, OnOk, if◌then◌else◌};
+ghost use Rattle.std.specs.Prelude.{slice_index_or};
 ghost use Rattle.sat_store.specs.variables.Maps.{target, AreInverse, Links, Unlinks};
 ghost use Rattle.sat_store.specs.variables.VarData.{unused_variable};
 
@@ -40,7 +41,8 @@ pub(crate) fn put_data(list: &mut Vec<VarData>, var: Var, new: VarData) -> Resul
 /// The variable of an index, from the last one on, is replaced.
 pub(crate) fn put_global(list: &mut Vec<Var>, solver: Var, global: Var) -> Result<(), AllocError>
     requires within { solver ≤ length list.old.items }
-    ensures put { OnOk result ((x : ℕ) → slice_index_or list.new.items x 0 ≡ (if x == solver then global else slice_index_or list.old.items x 0)) }
+    ensures put { OnOk result ((x : ℕ) → slice_index_or list.new.items x 0
+        ≡ (if x == solver then global else slice_index_or list.old.items x 0)) }
     ensures size { OnOk result (length list.new.items ≡ max (length list.old.items) (solver + 1)) }
 {
     let index = solver.index();

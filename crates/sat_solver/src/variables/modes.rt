@@ -64,7 +64,8 @@ pub fn delete_var<W: StepWriter>(
     ensures solvers { OnOk result (variables.new.solver_from_global ≡ variables.old.solver_from_global) }
     ensures globals { OnOk result (variables.new.globals ≡ variables.old.globals) }
     ensures users { OnOk result (variables.new.global_from_user ≡ variables.old.global_from_user) }
-    ensures forgets { OnOk result (ForgetsUnits (session_after (W.steps writer.old)) (session_after (W.steps writer.new)) global) }
+    ensures forgets { OnOk result (ForgetsUnits (session_after (W.steps writer.old))
+        (session_after (W.steps writer.new)) global) }
     ensures fails { IfErr result IsFailure }
     ensures keeps { OnOk result (W.keeps writer.new) }
     ensures came { EmitsOrFails W.took W.broke result writer.old writer.new }
@@ -113,7 +114,8 @@ pub fn hide_var<W: StepWriter>(
     requires keeps { W.keeps writer.old }
     requires free { IsAssumed variables.old user → ⊥ }
     ensures does { OnOk result (NamesRefineJudge variables.old variables.new (W.steps writer.old) (W.steps writer.new)
-        (λ j. without_name (user + 1) (bring_in (user + 1) j)) (λ j. map NewName (new_names (user + 1) j) ++ (NoName (user + 1) ∷ []))) }
+        (λ j. without_name (user + 1) (bring_in (user + 1) j))
+        (λ j. map NewName (new_names (user + 1) j) ++ (NoName (user + 1) ∷ []))) }
     ensures others { OnOk result (KeepsOthers variables.old variables.new user) }
     ensures fresh { OnOk result (AreFresh variables.old variables.new) }
     ensures units { OnOk result (KeepsUnits variables.new (W.steps writer.old) (W.steps writer.new)) }
@@ -197,11 +199,13 @@ pub fn set_sampling_mode<W: StepWriter>(
     requires keeps { W.keeps writer.old }
     requires free { IsAssumed variables.old user → ⊥ }
     ensures does { OnOk result (NamesRefineJudge variables.old variables.new (W.steps writer.old) (W.steps writer.new)
-        (λ j. with_mode (judged_mode sample) (user + 1) (bring_in (user + 1) j)) (λ j. map NewName (new_names (user + 1) j) ++ [])) }
+        (λ j. with_mode (judged_mode sample) (user + 1) (bring_in (user + 1) j))
+        (λ j. map NewName (new_names (user + 1) j) ++ [])) }
     ensures others { OnOk result (KeepsOthers variables.old variables.new user) }
     ensures fresh { OnOk result (AreFresh variables.old variables.new) }
     ensures unseen { OnOk result (IsUnseen variables.old variables.new (W.steps writer.old) (W.steps writer.new)) }
-    ensures comes { OnOk result (OnlyAllowedSteps (MaySet (user + 1) sample) (W.steps writer.old) (W.steps writer.new)) }
+    ensures comes { OnOk result (OnlyAllowedSteps (MaySet (user + 1) sample) (W.steps writer.old)
+        (W.steps writer.new)) }
     ensures room { FailsOnlyByFault result variables.old (user ∷ []) }
     ensures keeps { OnOk result (W.keeps writer.new) }
     ensures came { EmitsOrFails W.took W.broke result writer.old writer.new }

@@ -31,7 +31,8 @@ fn observe_var<W: StepWriter>(
     requires stands { NamesInvariant variables.old (W.steps writer.old) }
     requires keeps { W.keeps writer.old }
     requires hidden { IsHidden variables.old global }
-    ensures names { IfOk result (λ user. NamesHidden variables.old variables.new (W.steps writer.old) (W.steps writer.new) global user) }
+    ensures names { IfOk result (λ user. NamesHidden variables.old variables.new (W.steps writer.old)
+        (W.steps writer.new) global user) }
     ensures left { IfErr result (λ e. e ≡ NameError.VariableLimit → ⊥) }
     ensures keeps { OnOk result (W.keeps writer.new) }
     ensures came { EmitsOrFails W.took W.broke result writer.old writer.new }
@@ -51,8 +52,8 @@ fn observe_var<W: StepWriter>(
     Ok(user)
 }
 
-/// Gives each hidden variable that is kept the next name and mode witness, by increasing variable, and puts their names into a list in
-/// place of what it had.
+/// Gives each hidden variable that is kept the next name and mode witness, by increasing variable, and puts their names
+/// into a list in place of what it had.
 pub fn observe_internal_vars<W: StepWriter>(
     variables: &mut Variables,
     writer: &mut W,
@@ -60,7 +61,8 @@ pub fn observe_internal_vars<W: StepWriter>(
 ) -> Result<(), NameError>
     requires stands { NamesInvariant variables.old (W.steps writer.old) }
     requires keeps { W.keeps writer.old }
-    ensures names { OnOk result (NamesAllHidden variables.old variables.new (W.steps writer.old) (W.steps writer.new) users.new.items) }
+    ensures names { OnOk result (NamesAllHidden variables.old variables.new (W.steps writer.old) (W.steps writer.new)
+        users.new.items) }
     ensures left { IfErr result (λ e. e ≡ NameError.VariableLimit → ⊥) }
     ensures keeps { OnOk result (W.keeps writer.new) }
     ensures came { EmitsOrFails W.took W.broke result writer.old writer.new }

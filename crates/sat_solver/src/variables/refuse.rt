@@ -23,7 +23,8 @@ fn is_witness_mode(mode: SamplingMode) -> bool
 /// Whether a name is in use and of mode witness.
 fn is_witness(variables: &Variables, user: Var) -> bool
     requires { AreTidy variables.now }
-    ensures judged { (j : Judge) (live : Live) → AreJudged variables.now j live → result ≡ has_witness j (identity_of j (user + 1)) }
+    ensures judged { (j : Judge) (live : Live) → AreJudged variables.now j live
+        → result ≡ has_witness j (identity_of j (user + 1)) }
     ensures sampled { result ≡ false → IsSampled variables.now user }
 {
     let Some(global) = variables.global_from_user.fwd().get(user) else {
@@ -35,7 +36,8 @@ fn is_witness(variables: &Variables, user: Var) -> bool
 /// The leftmost literal over a name of mode witness.
 pub fn leftmost_witness(variables: &Variables, lits: &[Lit]) -> Option<Var>
     requires { AreTidy variables.now }
-    ensures judged { (j : Judge) (live : Live) → AreJudged variables.now j live → refused_literal j (names_in lits.now) ≡ as_refusal result }
+    ensures judged { (j : Judge) (live : Live) → AreJudged variables.now j live
+        → refused_literal j (names_in lits.now) ≡ as_refusal result }
     ensures sampled { IfNone result (NoWitness variables.now lits.now) }
 {
     for lit in lits {

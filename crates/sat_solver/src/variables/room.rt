@@ -43,7 +43,8 @@ fn has_name(lits: &[Lit], user: Var) -> bool
     false
 }
 
-/// Counts the name of the literal at this place, if it was used and isn't in use, but where a literal behind it is over the name, too.
+/// Counts the name of the literal at this place, if it was used and isn't in use, but where a literal behind it is over
+/// the name, too.
 fn count_hidden_name(variables: &Variables, lits: &[Lit], at: usize, count: usize) -> usize
     requires within { at < length lits.now }
     requires count { count ≤ largest }
@@ -74,8 +75,8 @@ fn count_hidden(variables: &Variables, lits: &[Lit]) -> usize
     count
 }
 
-/// Whether a variable is left for each name that comes in with these literals. Where that depends on how often a name is among them, each
-/// hidden one is looked for among the literals behind it.
+/// Whether a variable is left for each name that comes in with these literals. Where that depends on how often a name
+/// is among them, each hidden one is looked for among the literals behind it.
 pub fn has_room(variables: &Variables, lits: &[Lit]) -> bool
     requires { AreTidy variables.now }
     ensures { SaysRoom result variables.now (users_in lits.now) }

@@ -80,7 +80,8 @@ pub fn remove_solver_var<W: StepWriter>(
     requires there { solver_of variables.old global ≡ Some solver }
     requires unit { IsUnitOf variables.old (session_after (W.steps writer.old)) global }
     requires unused { IsInNoNonUnitClause (session_after (W.steps writer.old)) global }
-    ensures gone { OnOk result (Unindexes variables.old variables.new (W.steps writer.old) (W.steps writer.new) global solver) }
+    ensures gone { OnOk result (Unindexes variables.old variables.new (W.steps writer.old) (W.steps writer.new) global
+        solver) }
     ensures fails { IfErr result IsFailure }
     ensures keeps { OnOk result (W.keeps writer.new) }
     ensures came { EmitsOrFails W.took W.broke result writer.old writer.new }

@@ -22,7 +22,8 @@ fn new_name<W: StepWriter>(
     requires keeps { W.keeps writer.old }
     requires free { global_of variables.old user ≡ None }
     requires within { user ≤ names_used variables.old }
-    ensures names { IfOk result (λ v. NamesOne variables.old variables.new (W.steps writer.old) (W.steps writer.new) user v) }
+    ensures names { IfOk result (λ v. NamesOne variables.old variables.new (W.steps writer.old) (W.steps writer.new)
+        user v) }
     ensures limit { IfErr result (λ e. Limits e variables.old variables.new writer.old writer.new) }
     ensures keeps { OnOk result (W.keeps writer.new) }
     ensures came { EmitsOrFails W.took W.broke result writer.old writer.new }
@@ -95,7 +96,8 @@ pub fn new_user_var<W: StepWriter>(
     requires stands { NamesInvariant variables.old (W.steps writer.old) }
     requires keeps { W.keeps writer.old }
     ensures next { IfOk result (IsNextUser variables.old) }
-    ensures brought { IfOk result (λ user. Brought variables.old variables.new (W.steps writer.old) (W.steps writer.new) user) }
+    ensures brought { IfOk result (λ user. Brought variables.old variables.new (W.steps writer.old) (W.steps writer.new)
+        user) }
     ensures limit { IfErr result (λ e. Limits e variables.old variables.new writer.old writer.new) }
     ensures keeps { OnOk result (W.keeps writer.new) }
     ensures came { EmitsOrFails W.took W.broke result writer.old writer.new }

@@ -1,5 +1,6 @@
 //! Clauses in one buffer.
-ghost use Rattle.std.specs.Prelude.{◌≡◌, ◌<◌, ◌≤◌, ◌^◌, ◌+◌, ◌-◌, ◌*◌, ◌↔◌, ◌++◌, [], length, slice_index, slice_set, take, IfOk, OnErr, vec_len, vec_capacity};
+ghost use Rattle.std.specs.Prelude.{◌≡◌, ◌<◌, ◌≤◌, ◌^◌, ◌+◌, ◌-◌, ◌*◌, ◌↔◌, ◌++◌, [], length, slice_index, slice_set};
+ghost use Rattle.std.specs.Prelude.{take, IfOk, OnErr, vec_len, vec_capacity};
 ghost use Rattle.std.specs.List.{All};
 ghost use Rattle.sat_base.specs.values.Literals.{largest};
 ghost use Rattle.sat_store.specs.clause.Buffer.{IsClause, header_at, lits_at, ChangesAt, AppendsClause, swapped};
@@ -17,7 +18,8 @@ use std::marker::Model;
 /// How many words of the buffer a clause takes beside its literals.
 const HEADER_LEN: usize = 3;
 
-/// A clause in a `ClauseAlloc`, which contracts see as the place of its first word. Clauses that were added later are greater.
+/// A clause in a `ClauseAlloc`, which contracts see as the place of its first word. Clauses that were added later are
+/// greater.
 #[derive(Clone, Copy, Debug, PartialEq, Eq, PartialOrd, Ord)]
 pub struct ClauseRef {
     offset: u32,
@@ -72,8 +74,8 @@ impl From<AllocError> for StoreError {
     }
 }
 
-/// The buffer that long clauses are kept in. It is a map from references to headers and literals: contracts see it as its
-/// words, and read them by `IsClause`, `header_at` and `lits_at` alone.
+/// The buffer that long clauses are kept in. It is a map from references to headers and literals: contracts see it as
+/// its words, and read them by `IsClause`, `header_at` and `lits_at` alone.
 #[derive(Debug, Drop)]
 pub struct ClauseAlloc {
     words: Vec<u32>,
@@ -139,14 +141,16 @@ impl ClauseAlloc {
         })
     }
 
-    /// Stores a copy of another buffer's clause behind all others. There is room at a place not behind the clause's own.
+    /// Stores a copy of another buffer's clause behind all others. There is room at a place not behind the clause's
+    /// own.
     pub fn copy_clause(
         &mut self,
         from: &ClauseAlloc,
         cref: ClauseRef,
     ) -> Result<ClauseRef, StoreError>
         requires { IsClause from.now cref }
-        ensures added { IfOk result (λ c. AppendsClause self.old self.new c (header_at from.now cref) (lits_at from.now cref)) }
+        ensures added { IfOk result (λ c. AppendsClause self.old self.new c (header_at from.now cref)
+            (lits_at from.now cref)) }
         ensures full { (result ≡ Err StoreError.StoreFull) ↔ (2 ^ 32 - 1 < length self.old) }
         ensures room { length self.old ≤ cref → OnFull result ⊥ }
         ensures kept { OnErr result (self.new ≡ self.old) }

@@ -152,7 +152,8 @@ impl<'a> ClauseMut<'a> {
         requires clause { IsViewOfClause self.old }
         requires no_longer { len ≤ length (lits_there self.old) }
         ensures buffer { self.new.buffer.ghost_name ≡ self.old.buffer.ghost_name }
-        ensures edit { Edits self.old self.new (record (header_there self.old) { len = len }) (take len (lits_there self.old)) }
+        ensures edit { Edits self.old self.new (record (header_there self.old) { len = len })
+            (take len (lits_there self.old)) }
     {
         let mut header = self.buffer.header(self.cref);
         header.set_len(len);
@@ -162,7 +163,8 @@ impl<'a> ClauseMut<'a> {
     pub fn set_deleted(&mut self, deleted: bool)
         requires { IsViewOfClause self.old }
         ensures buffer { self.new.buffer.ghost_name ≡ self.old.buffer.ghost_name }
-        ensures edit { Edits self.old self.new (record (header_there self.old) { deleted = deleted }) (lits_there self.old) }
+        ensures edit { Edits self.old self.new (record (header_there self.old) { deleted = deleted })
+            (lits_there self.old) }
     {
         let mut header = self.header();
         header.set_deleted(deleted);
@@ -192,7 +194,8 @@ impl<'a> ClauseMut<'a> {
     pub fn set_active(&mut self, active: bool)
         requires { IsViewOfClause self.old }
         ensures buffer { self.new.buffer.ghost_name ≡ self.old.buffer.ghost_name }
-        ensures edit { Edits self.old self.new (record (header_there self.old) { active = active }) (lits_there self.old) }
+        ensures edit { Edits self.old self.new (record (header_there self.old) { active = active })
+            (lits_there self.old) }
     {
         let mut header = self.header();
         header.set_active(active);
@@ -203,7 +206,8 @@ impl<'a> ClauseMut<'a> {
     pub fn set_glue(&mut self, glue: usize)
         requires { IsViewOfClause self.old }
         ensures buffer { self.new.buffer.ghost_name ≡ self.old.buffer.ghost_name }
-        ensures edit { Edits self.old self.new (record (header_there self.old) { glue = min glue 63 }) (lits_there self.old) }
+        ensures edit { Edits self.old self.new (record (header_there self.old) { glue = min glue 63 })
+            (lits_there self.old) }
     {
         let mut header = self.header();
         header.set_glue(glue);
@@ -213,7 +217,8 @@ impl<'a> ClauseMut<'a> {
     pub fn set_activity(&mut self, activity: u32)
         requires { IsViewOfClause self.old }
         ensures buffer { self.new.buffer.ghost_name ≡ self.old.buffer.ghost_name }
-        ensures edit { Edits self.old self.new (record (header_there self.old) { activity = activity }) (lits_there self.old) }
+        ensures edit { Edits self.old self.new (record (header_there self.old) { activity = activity })
+            (lits_there self.old) }
     {
         let mut header = self.header();
         header.set_activity(activity);

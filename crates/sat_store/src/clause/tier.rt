@@ -2,7 +2,8 @@
 ghost use Rattle.std.specs.Prelude.{◌≡◌, ◌≤◌, MatchOption};
 ghost use Rattle.sat_store.specs.clause.Header.{index_of};
 
-/// How long a clause is kept: `Irred` is a clause of the formula, the others are learned clauses, from the most useful on.
+/// How long a clause is kept: `Irred` is a clause of the formula, the others are learned clauses, from the most useful
+/// on.
 #[derive(Clone, Copy, Debug, PartialEq, Eq)]
 pub enum Tier {
     Irred = 0,

@@ -1,7 +1,10 @@
 //! A heap of variables with their activities, in a list of all of them: each place is parent of four.
-ghost use Rattle.std.specs.Prelude.{◌≡◌, ◌+◌, ◌*◌, ◌<◌, ◌≤◌, ◌↔◌, IsTrue, length, MatchOption, slice_set, ◌-◌, true, false, vec_capacity};
+ghost use Rattle.std.specs.Prelude.{◌≡◌, ◌+◌, ◌*◌, ◌<◌, ◌≤◌, ◌↔◌, IsTrue, length, MatchOption, slice_set, ◌-◌, true};
+ghost use Rattle.std.specs.Prelude.{false, vec_capacity};
 ghost use Rattle.sat_base.specs.values.Literals.{largest};
-ghost use Rattle.sat_store.specs.heap.Heap.{var_at, HoldsVariables, Placed, IsHeap, StaysHeap, rank, rank_at, parent, Ordered, UpFrom, IsFirstChild, FirstAbove, NoneAbove, SettlesDown, Exchanged, Rearranged, SetsFlag, AddsHeapVars, keys};
+ghost use Rattle.sat_store.specs.heap.Heap.{var_at, HoldsVariables, Placed, IsHeap, StaysHeap, rank, rank_at, parent};
+ghost use Rattle.sat_store.specs.heap.Heap.{Ordered, UpFrom, IsFirstChild, FirstAbove, NoneAbove, SettlesDown};
+ghost use Rattle.sat_store.specs.heap.Heap.{Exchanged, Rearranged, SetsFlag, AddsHeapVars, keys};
 
 /// A variable, and its activity.
 #[derive(Clone, Copy)]
@@ -113,7 +116,8 @@ fn child_above(heap: &[Entry], available: usize, entry: Entry, at: usize) -> Opt
     requires within { available ≤ length heap.now }
     requires var { entry.var < largest }
     requires at { at < available }
-    ensures { MatchOption result (NoneAbove heap.now available entry at) (λ child. FirstAbove heap.now available entry at child) }
+    ensures { MatchOption result (NoneAbove heap.now available entry at)
+        (λ child. FirstAbove heap.now available entry at child) }
 {
     if 4 * at + 1 >= available {
         return None;
@@ -169,7 +173,8 @@ pub(super) fn take_out(heap: &mut Vec<Entry>, positions: &mut Vec<u32>, availabl
     requires heap { IsHeap heap.old.items positions.old.items available }
     requires at { at < available }
     ensures heap { IsHeap heap.new.items positions.new.items (available - 1) }
-    ensures flags { SetsFlag available (available - 1) positions.old.items positions.new.items (var_at heap.old.items at) false }
+    ensures flags { SetsFlag available (available - 1) positions.old.items positions.new.items
+        (var_at heap.old.items at) false }
     ensures keys { keys heap.new.items positions.new.items ≡ keys heap.old.items positions.old.items }
 {
     let last = available - 1;
@@ -190,7 +195,8 @@ pub(super) fn put_in(heap: &mut Vec<Entry>, positions: &mut Vec<u32>, available:
     requires behind { available ≤ at }
     requires at { at < length heap.old.items }
     ensures heap { IsHeap heap.new.items positions.new.items (available + 1) }
-    ensures flags { SetsFlag available (available + 1) positions.old.items positions.new.items (var_at heap.old.items at) true }
+    ensures flags { SetsFlag available (available + 1) positions.old.items positions.new.items
+        (var_at heap.old.items at) true }
     ensures keys { keys heap.new.items positions.new.items ≡ keys heap.old.items positions.old.items }
 {
     exchange(heap, positions, at, available);

@@ -38,7 +38,8 @@ impl Ahead {
         self.at += count;
     }
 
-    /// Reads the next piece, where all of the last one was taken. Says how many bytes came: none only at the reader's end.
+    /// Reads the next piece, where all of the last one was taken. Says how many bytes came: none only at the reader's
+    /// end.
     pub fn refill<R: CountedRead>(&mut self, reader: &mut R) -> Result<usize, ReadError>
         requires { waiting self.old ≡ [] }
         ensures bytes { Refills result (source_in R.seen reader.old self.old) (source_in R.seen reader.new self.new) }
