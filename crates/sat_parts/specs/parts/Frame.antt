@@ -1,22 +1,22 @@
 -- What the rest of a solver sees of a step: which clauses there are, and which literals of level 0. A step's contract has these words:
---   propagate_all: Reordered, Carries, KeepsLevels
+--   propagate_all: Reordered, AddsNoUnit, KeepsLevels
 --   make_decision, assume, enqueue_assumption: AddsNothing, KeepsLevels
---   undo: SameClauses, Carries, KeepsTo (to the level that is gone back to)
---   restart, full_restart: SameClauses, Carries
+--   undo: SameClauses, AddsNoUnit, KeepsTo (to the level that is gone back to)
+--   restart, full_restart: SameClauses, AddsNoUnit
 --   learn: Learnt
 --   clear_units: SameClauses, Clears
---   put_back: SameClauses, Carries
+--   put_back: SameClauses, AddsNoUnit
 --   grow: Grown
 --   use_variable: SameContents, and what may be picked
 --   free_variable: Freed; use_with_unit: SameClauses, GainsUnit
 --   load_unit: SameClauses, GainsUnit
---   load_binary, load_long: Stores
+--   load_binary, load_long: AddsOriginalClause
 --   load: LoadSays (Loading), which says by the answer which of these it is
 --   drop_clause: Dropped where it deletes, else nothing changes
 --   put_header, set_tier, reduce_middle, bump_clause, decay_clauses: Headed, beside the word of the parts
 --   bump_variable, decay_variables: SameContents
 --   swap_behind: Swapped; shorten: Shortened; remove_binary: Removed; collect: Copied
--- At level 0 KeepsTo 0 follows from Carries (keeps_carries); where SameState or SameSearch holds, Carries does (carries_same).
+-- At level 0 KeepsTo 0 follows from AddsNoUnit; where SameState or SameSearch holds, AddsNoUnit does (carries_same).
 use Rattle.std.specs.Prelude.{ℕ, ◌≡◌, ◌≢◌, ◌+◌, ◌*◌, ◌<◌, ◌≤◌, ◌⊎◌, true, false, None, List, length, slice_index_or as get_or}
 use Rattle.std.specs.List.{Contains}
 use Rattle.sat_base.specs.values.Literals.{variable}
