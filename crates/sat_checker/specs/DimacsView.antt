@@ -30,7 +30,7 @@ AreRead text clauses = AreOfFront text clauses ⊎ (clauses ≡ (dimacs text).cl
 
 -- the text has these clauses first
 abbrev pub AreFirst : List (List ℕ) → List ℕ → Type 0
-AreFirst clauses text = (after_additions : List (List ℕ)) × ((dimacs text).clauses ≡ clauses ++ after_additions)
+AreFirst clauses text = (behind : List (List ℕ)) × ((dimacs text).clauses ≡ clauses ++ behind)
 
 -- the text has these clauses before a fault, or there was no memory behind them
 abbrev pub FaultBehind : DimacsError → List ℕ → List (List ℕ) → Type 0

@@ -93,7 +93,7 @@ pub link_behind : (links new : List Link) (at h b : ℕ) (ps : List Pair) → Li
 link_behind links new at h b [] l o e r = absurd cc
 link_behind links new at h b (p ∷ ps) l o e r = elim (cases_lt h p.hash) [
   | inl past ↦ absurd (let k : up_to h (p ∷ ps) ≡ [] = up_to_none h (p ∷ ps) (all_past h p ps o past) in let n : last_or None (up_to h (p ∷ ps)) ≡ None = ap (last_or None) k in cc)
-  | inr within ↦ subst (LinksPairs new at) (sym (ap (λ d. cond d (new_pair links h ∷ p ∷ ps) (p ∷ inserted (new_pair links h) ps)) (not-before (new_pair links h) p (places_behind within))))
+  | inr within ↦ subst (LinksPairs new at) (sym (ap (λ d. cond d (new_pair links h ∷ p ∷ ps) (p ∷ inserted (new_pair links h) ps)) (not-before (new_pair links h) p (behind within))))
       (go within (up_to h ps) refl (λ s. link_behind links new (link_at links at).next h b ps l.1 o.1 s r))
 ]
   where
@@ -106,8 +106,8 @@ link_behind links new at h b (p ∷ ps) l o e r = elim (cases_lt h p.hash) [
     inside : at < length links
     inside = l.0.inside
 
-    places_behind : p.hash ≤ h → IsPairBefore p (new_pair links h)
-    places_behind w = new_behind links h p w (let i : at < length links = l.0.inside in omega (arith, place))
+    behind : p.hash ≤ h → IsPairBefore p (new_pair links h)
+    behind w = new_behind links h p w (let i : at < length links = l.0.inside in omega (arith, place))
 
     apart : AllByRecursion (λ q. q.place ≢ p.place) ps
     apart = all_weaker (λ q. IsThere links q × IsPairBefore p q) (λ q. q.place ≢ p.place) (λ q k. there_apart links p q there.0 k.0 k.1) ps (all_both (IsThere links) (IsPairBefore p) ps there.1 o.0)
