@@ -112,8 +112,8 @@ OrComplainsUnless lost (Ok x) m = Unit {0}
 OrComplainsUnless lost (Err fault) m = ComplainsOr lost fault m
 
 -- its processor's complaint was told
-abbrev pub without_complaint : {L : Type 0} {G : Ghosts L} → Made L G → Made L G
-without_complaint m = record m { complaint = None }
+abbrev pub cleared_complaint : {L : Type 0} {G : Ghosts L} → Made L G → Made L G
+cleared_complaint m = record m { complaint = None }
 
 -- the step was made
 pub record Makes {L : Type 0} {G : Ghosts L} (step : Step) (old new : Made L G) : Type 0 where

@@ -90,7 +90,7 @@ HasCause (Check fault) p = Unit {0}
 
 -- its processor's complaint was told
 abbrev pub without_complaint : {W L : Type 0} {G : Ghosts L} → Proof W L G → Proof W L G
-without_complaint p = record p { made = mades.without_complaint p.made }
+without_complaint p = record p { made = mades.cleared_complaint p.made }
 
 -- those who listen are handed back, behind what they have heard of all steps, each once and in order
 abbrev pub Handed : {W L : Type 0} {G : Ghosts L} → Proof W L G → (given : List L) → Type 0

@@ -67,7 +67,7 @@ pub struct Made<P: ProofProcessor = Nobody> {
 impl<P: ProofProcessor> Made<P> {
     ghost use Rattle.sat_solver.specs.proof.MadeView.{audience, is_checked, is_lost, Checks, Handed, HandedWhole};
     ghost use Rattle.sat_solver.specs.proof.MadeView.{HasTold, IsTold, Makes, OrComplains, OrComplainsUnless};
-    ghost use Rattle.sat_solver.specs.proof.MadeView.{TakesListener, without_complaint};
+    ghost use Rattle.sat_solver.specs.proof.MadeView.{TakesListener, cleared_complaint};
 
     /// No step yet, and no checker.
     pub fn new() -> Made<P>
@@ -211,7 +211,7 @@ impl<P: ProofProcessor> Made<P> {
     /// What a processor complained of. It is told once.
     pub fn take_complaint(&mut self) -> Option<anyhow::Error>
         ensures gives { result ≡ self.old.complaint }
-        ensures same { self.new ≡ without_complaint self.old }
+        ensures same { self.new ≡ cleared_complaint self.old }
     {
         self.complaint.take()
     }

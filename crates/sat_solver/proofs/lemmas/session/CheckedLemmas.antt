@@ -25,7 +25,7 @@ use Rattle.sat_solver.specs.declared.proof.made.CheckFault.TheVariants as checks
 use Rattle.sat_solver.specs.proof.Checked.{is_end, unended, has_begun, who_listens, FedUnless, IsFed, Heard, HeardWhole, FailsWhileHeard, IsCause, cause_in, OrCause, TakesStep, TakesWidth, TakesDelayed, FeedsOwnChecker, AddsOwnListener, BeginsAnew}
 use Rattle.sat_solver.specs.session.Due.{kept_if}
 use Rattle.sat_solver.specs.proof.Listening.{AreJustListeners, Hears, FailedOf, reads_nothing}
-use Rattle.sat_solver.specs.proof.MadeView.{audience, listed_in, Handed, HandedIn, HandedWhole, HandedWholeIn, HasListeners, IsHanded, IsHandedWhole, ListedAnew, without_complaint}
+use Rattle.sat_solver.specs.proof.MadeView.{audience, listed_in, Handed, HandedIn, HandedWhole, HandedWholeIn, HasListeners, IsHanded, IsHandedWhole, ListedAnew, cleared_complaint}
 use Rattle.sat_solver.specs.declared.proof.made.Made.{Made}
 use Rattle.sat_solver.specs.session.Session.{MayAll}
 use Rattle.sat_solver.specs.proof.Widths.{KeepsWidth, narrowed, IsNarrowedTo, none_yet, width_changes, one_more}
@@ -137,12 +137,12 @@ module _ {L : Type 0} (takes : L → Told → Result Unit Error → L → Type 0
     -- a step was taken at its width
     pub step_fed : (r : Result (Unit {0}) CheckerError) (mid new : Checked L) (cut_step : Step) → is_end step ≡ false → KeepsWidth step → TakesWidth takes (Ok tt) old mid → new.bits ≡ mid.bits → cut_step ≡ narrowed mid.bits step
         → FeedsOwnChecker takes r (seen_of mid.checker) cut_step (seen_of new.checker) → TakesStep takes r old step new
-    step_fed r mid new cut_step e k without_complaint same is feeds added steps may fed =
+    step_fed r mid new cut_step e k told same is feeds added steps may fed =
         cause_map r Fed (IsFed takes new added (step ∷ steps)) _ (FailsWhileHeard takes added (listeners_of (who_listens new)) (step ∷ steps)) by failed
         (subst (λ x. FeedsOwnChecker takes r (seen_of mid.checker) x (seen_of new.checker)) is feeds f.begun f.written f.stands f.going (widths_are_free (step ∷ unended steps) (narrowed mid.bits step ∷ f.written) mid.bits cut allowed).may)
       where
         f : IsFed takes mid added steps
-        f = without_complaint added steps may.0 fed
+        f = told added steps may.0 fed
 
         kept : unended (step ∷ steps) ≡ step ∷ unended steps
         kept = ap (λ b. kept_if (not b) step (unended steps)) e
@@ -175,16 +175,16 @@ module _ {L : Type 0} (takes : L → Told → Result Unit Error → L → Type 0
 
     -- a width alone was told
     pub width_taken : (r : Result (Unit {0}) CheckerError) (new : Checked L) → is_end step ≡ true → TakesWidth takes r old new → TakesStep takes r old step new
-    width_taken r new e without_complaint added steps may fed =
+    width_taken r new e told added steps may fed =
         cause_map r _ _ _ _ (λ (f : IsFed takes new added steps). record { written = f.written; cut = subst (λ x. IsNarrowedTo x f.written new.bits) (sym kept) f.cut; begun = f.begun; were = f.were; stands = f.stands; going = f.going })
-        (failed_later added (listeners_of (who_listens new)) step steps) (without_complaint added steps may.0 fed)
+        (failed_later added (listeners_of (who_listens new)) step steps) (told added steps may.0 fed)
       where
         kept : unended (step ∷ steps) ≡ unended steps
         kept = ap (λ b. kept_if (not b) step (unended steps)) e
 
     -- the width wasn't
     pub width_untaken : (er : CheckerError) (new : Checked L) → TakesWidth takes (Err er) old new → TakesStep takes (Err er) old step new
-    width_untaken er new without_complaint added steps may fed = (let h = without_complaint added steps may.0 fed in (h.0, failed_later added (listeners_of (who_listens new)) step steps (cause_in er) h.1))
+    width_untaken er new told added steps may fed = (let h = told added steps may.0 fed in (h.0, failed_later added (listeners_of (who_listens new)) step steps (cause_in er) h.1))
 
 -- LISTENERS
 
@@ -192,8 +192,8 @@ listed_more : {L : Type 0} (added : List L) (one : L) (old new : Processing L No
 listed_more added one old new e f = f ∙ ap (λ (z : Listeners _ Nobody). record z { processors = z.processors ++ one ∷ [] }) e
 
 module _ {L : Type 0} (takes : L → Told → Result Unit Error → L → Type 0) where
-  heard_none : (without_complaint : List Told) (begun now : Processing L Nobody) → without_complaint ≡ [] → HearsSince (Hears takes) [] without_complaint begun now → now ≡ begun
-  heard_none without_complaint begun now e h = go h.0 (sym h.1 ∙ e) h.2
+  heard_none : (told : List Told) (begun now : Processing L Nobody) → told ≡ [] → HearsSince (Hears takes) [] told begun now → now ≡ begun
+  heard_none told begun now e h = go h.0 (sym h.1 ∙ e) h.2
     where
       go : (since : List Told) → since ≡ [] → HearsAll (Hears takes) since begun now → now ≡ begun
       go [] e k = k
@@ -403,7 +403,7 @@ module _ {L : Type 0} {G : Ghosts L} (m : Made L G) where
 
 -- a complaint was told, and nothing else has changed
 pub complaint_told : {L : Type 0} {G : Ghosts L} (m : Made L G) (complaint : Option Error) (counted : m.begun ≡ has_begun m.history.steps) (may : ∥ MayAll m.history.steps ∥₁) (fed : ∥ FedUnless G.takes m.lost m.own m.roll.items m.history.steps ∥₁) → complaint ≡ None
-    → record { history = m.history; own = m.own; roll = m.roll; begun = m.begun; lost = m.lost; complaint = complaint; counted = counted; may = may; fed = fed } ≡ without_complaint m
+    → record { history = m.history; own = m.own; roll = m.roll; begun = m.begun; lost = m.lost; complaint = complaint; counted = counted; may = may; fed = fed } ≡ cleared_complaint m
 complaint_told m complaint counted may fed none = λ i. record m {
   complaint = none i;
   counted = Bool-set m.begun (has_begun m.history.steps) counted m.counted i;
