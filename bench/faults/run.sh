@@ -9,8 +9,8 @@
 # OutOfMemory` and status 3, and what it printed by then has to be the beginning of what it prints with all memory. A line says for each N
 # which call was out of memory. Last for three programs that tell by their status how it went: texts.rt.txt, over run, confirm, convert and
 # check, where exactly one call has to say so, and all others do as with all memory; solves.rt.txt, over a solver with a checker of its own,
-# each later call of which has to answer that the solver has failed; and refusals.rt.txt, where it is told how many allocations come before a
-# refusal that the input alone decides. It isn't part of the gate, and takes some minutes.
+# each later call of which has to answer that the solver has failed; and refusals.rt.txt, where steps that are refused have to be answered so,
+# whatever allocation is refused as they are judged. It isn't part of the gate, and takes some minutes.
 #
 # `rt try --fail-alloc N` refuses the Nth allocation. Since a build takes longer than a run, one build serves for each N: it always
 # refuses the same allocation, the `most`th, and the program first makes as many of no use as the first byte of its standard input
@@ -254,9 +254,9 @@ summing() { # COUNT
 }
 
 # Runs a program that tells by its status how it went with each of so many allocations refused: with 0 none was, and else one.
-told() { # CRATE MOST STATUS..
-    local crate=$1 many=$2 n count=0 end
-    shift 2
+told() { # CRATE MOST all|some STATUS..: behind the first 0 all are 0, or some aren't
+    local crate=$1 many=$2 which=$3 n count=0 end
+    shift 3
     mkdir -p "$work/$crate-cases"
     for n in $(seq "$many"); do
         summing $((many - n)) > "$work/$crate-cases/$n"
@@ -266,7 +266,7 @@ told() { # CRATE MOST STATUS..
         end=$(cat "$work/$crate-runs/$n.end")
         [ "$end" != "run=ended status=0" ] || continue
         [[ " $* " == *" ${end#run=ended status=} "* ]] || fail "$crate $n: $end"
-        [ $((count += 1)) = "$n" ] || fail "$crate $n: refused behind one that was not"
+        [ $((count += 1)) = "$n" ] || [ "$which" = some ] || fail "$crate $n: refused behind one that was not"
         echo "${end#run=ended }"
     done > "$work/$crate.txt"
     count=$(wc -l < "$work/$crate.txt")
@@ -275,6 +275,6 @@ told() { # CRATE MOST STATUS..
     sort "$work/$crate.txt" | uniq -c
 }
 
-told texts 400 3
-told solves 250 3
-told refusals 20 3 4 5
+told texts 400 all 3
+told solves 250 all 3
+told refusals 400 some 3 5

@@ -3,7 +3,6 @@ use Rattle.std.specs.Prelude.{ℕ, ◌≡◌, ◌⊎◌, Bool, true, false, List
 use Rattle.sat_base.specs.steps.Steps.{Step, AddClause}
 use Rattle.sat_checker.specs.Spent.{IsSpent, SpentBy}
 use Rattle.sat_checker.specs.Accepts.{Accepts, stored_after, ready_after}
-use Rattle.sat_checker.specs.Judging.{JudgedBefore}
 use Rattle.sat_checker.specs.KernelView as kernels
 use Rattle.sat_checker.specs.announcements.Announcements.{Told, told_after, all_told_after}
 use Rattle.sat_checker.specs.telling.Hearing.{Hearers, hearers, HearsSince, HearsSinceUpTo, told_by}
@@ -102,9 +101,9 @@ module _ {L : Type 0} (Hears : L → Told → Result Unit ProcessingError → L 
       (kernels.LeavesConflict steps × FailsAtListener e (all_told_after steps) new steps)
       ⊎ (Accepts (ready_after steps) step × FailsAtListener e (told_after (step ∷ steps)) new (step ∷ steps))
 
-  -- There was no memory for the step, behind what is judged of it before, or as something was told.
+  -- There was no memory for the step, which is accepted, or as something was told.
   abbrev pub StarvesAt : Seen L → Step → List Step → Type 0
-  StarvesAt new step steps = (JudgedBefore (ready_after steps) step × FailsBeforeStep new steps) ⊎ BreaksAt faults.OutOfMemory new step steps
+  StarvesAt new step steps = (Accepts (ready_after steps) step × FailsBeforeStep new steps) ⊎ BreaksAt faults.OutOfMemory new step steps
 
   -- the step was accepted, as the definition has it
   pub record Takes (new : Seen L) (step : Step) (steps : List Step) : Type 0 where

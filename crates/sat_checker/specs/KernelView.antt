@@ -4,7 +4,6 @@ use Rattle.sat_base.specs.steps.Steps.{Step}
 use Rattle.sat_checker.specs.Stored.{Stored}
 use Rattle.sat_checker.specs.Spent.{IsSpent, SpentBy}
 use Rattle.sat_checker.specs.Accepts.{Accepts, AcceptsAll, stored_after, ready_after}
-use Rattle.sat_checker.specs.Judging.{JudgedBefore}
 use Rattle.sat_checker.specs.Looks.{most_looks}
 use Rattle.sat_checker.specs.inner.StateView.{KeepsStored}
 use Rattle.sat_checker.specs.declared.kernel.Kernel.{Kernel}
@@ -61,10 +60,10 @@ abbrev pub AnswersStep : Result Unit CheckerError → Kernel → Step → Kernel
 AnswersStep (Ok x) old step new steps = (has_failed old ≡ false) × Takes new step steps
 AnswersStep (Err errors.CheckFailed) old step new steps = (has_failed old ≡ false) × (Accepts (ready_after steps) step → ⊥) × Fails new steps
 AnswersStep (Err errors.CounterEnd) old step new steps = (has_failed old ≡ false) × SpentBy step (stored_after steps) × Fails new steps
--- for the step, behind what is judged of it before; as a pending conflict was told; or as the step was: then it's among the accepted ones
+-- for the step, which is accepted; as a pending conflict was told; or as the step was: then it is among the accepted ones
 AnswersStep (Err errors.OutOfMemory) old step new steps =
     (has_failed old ≡ false)
-    × ((JudgedBefore (ready_after steps) step × Fails new steps)
+    × ((Accepts (ready_after steps) step × Fails new steps)
     ⊎ ((LeavesConflict steps × Fails new steps)
     ⊎ (Accepts (ready_after steps) step × Fails new (step ∷ steps))))
 AnswersStep (Err errors.HasFailed) old step new steps = (has_failed old ≡ true) × Fails new steps

@@ -5,7 +5,6 @@ pub mod Verdicts
 pub mod Stored
 pub mod Storing
 pub mod Accepts
-pub mod Judging
 pub mod Spent
 pub mod Fold
 pub mod Looks

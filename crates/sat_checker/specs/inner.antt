@@ -1,4 +1,5 @@
 pub mod Marks
+pub mod Room
 pub mod Walk
 pub mod Look
 pub mod Looking
@@ -12,11 +13,13 @@ pub mod VariablesView
 pub mod StoreView
 pub mod LitNumbers
 pub mod UnitView
+pub mod InTurn
 pub mod FormulaView
 pub mod StateView
 pub mod ModelTests
 pub mod ProofSteps
 pub mod DimacsPieces
+pub mod WalkNotes
 pub mod Reasons
 pub mod NeededView
 pub mod TellingSteps

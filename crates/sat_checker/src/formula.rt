@@ -1,6 +1,6 @@
 //! The stored formula: clauses, units, and what is recorded of them.
-ghost use Rattle.std.specs.Prelude.{◌≡◌, ◌+◌, ◌≤◌, ◌*◌, [], ◌∷◌, length, IfOk, OnOk, OnErr, IsErrOf, None, IsTrue, ◌↔◌};
-ghost use Rattle.std.specs.Prelude.{MatchBool, map, not, ◌&&◌, false};
+ghost use Rattle.std.specs.Prelude.{◌≡◌, ◌+◌, ◌-◌, ◌≤◌, ◌*◌, [], ◌∷◌, length, IfOk, OnOk, OnErr, IsErrOf};
+ghost use Rattle.std.specs.Prelude.{None, IsTrue, ◌↔◌, MatchBool, MatchResult, map, not, ◌&&◌, false};
 ghost use Rattle.sat_base.specs.steps.Steps.{DeleteClause, Redundant, Satisfied, Simplified};
 ghost use Rattle.sat_base.specs.steps.StepViews.{deletion_of};
 ghost use Rattle.std.specs.List.{list_any};
@@ -18,12 +18,14 @@ ghost use Rattle.sat_checker.specs.inner.Reasons.{noted_length};
 ghost use Rattle.sat_checker.specs.inner.StoreView.{TakesCount, with_less};
 ghost use Rattle.sat_checker.specs.inner.Marks.{IsIncreasing};
 ghost use Rattle.sat_checker.specs.declared.store.StoreError.TheVariants.{CounterEnd};
-ghost use Rattle.sat_checker.specs.inner.FormulaView.{KeepsFormula, refiled_in, ChecksAs, Becomes, TurnsIf, Deletes};
-ghost use Rattle.sat_checker.specs.inner.FormulaView.{Explained};
+ghost use Rattle.sat_checker.specs.inner.FormulaView.{KeepsFormula, refiled_in, ChecksAs, ChecksBeside, Becomes};
+ghost use Rattle.sat_checker.specs.inner.FormulaView.{TurnsIf, Deletes, Explained};
+ghost use Rattle.sat_checker.specs.inner.InTurn.{PassBehind};
+ghost use Rattle.sat_checker.specs.inner.Room.{signed, HasRoomFor};
 ghost use Rattle.sat_checker.specs.telling.AnnouncingView.{AreLong};
 ghost use Rattle.sat_checker.specs.telling.NotedView.{AppendsNews};
 
-pub(crate) mod unnumbered;
+pub(crate) mod in_room;
 
 use crate::announce::notes::Notes;
 use crate::looks::Looks;
@@ -32,8 +34,7 @@ use crate::sorted_lits::{has_both_signs, is_subset, sorted_set};
 use crate::state::status::{LastClause, Status};
 use crate::store::{Store, StoreError};
 use crate::units::Units;
-use crate::units::assigned::Assigned;
-use crate::units::valuation::assume_apart;
+use crate::units::assigned::{Assigned, make_room_for};
 use sat_base::{ClauseHash, DeleteClauseProof, Lit, Var};
 use std::alloc::{AllocError, Global};
 
@@ -43,6 +44,8 @@ pub(crate) struct Formula {
     pub(crate) store: Store,
     pub(crate) units: Units,
     pub(crate) status: Status,
+    /// Marks of a model's literals, or of a clause's.
+    pub(crate) marks: Assigned,
     /// What the last propagation check noted.
     pub(crate) passed: Passed,
 }
@@ -55,37 +58,48 @@ impl Formula {
         Formula {
             store: Store::new(alloc),
             units: Units::new(alloc),
+            marks: Assigned::new(alloc),
             status: Status::new(),
             passed: Passed::new(alloc),
         }
     }
 
-    /// Files the stored clauses by the hashes of now, where they wait for it.
+    /// Files the stored clauses by the hashes of now, where they wait for it. It takes no memory.
     #[inline(always)]
-    pub fn file(&mut self, looks: &mut Looks) -> Result<(), AllocError>
-        ensures kept { OnOk result ((f : Stored) → KeepsFormula (refiled_in self.old) f → KeepsFormula self.new f) }
+    pub fn file(&mut self, looks: &mut Looks)
+        ensures kept { (f : Stored) → KeepsFormula (refiled_in self.old) f → KeepsFormula self.new f }
         ensures looks { LooksOver (KeepsFormula (refiled_in self.old)) literal_count looks.old looks.new }
     {
-        self.store.file(looks)
+        self.store.file(looks);
     }
 
-    /// The propagation check of a clause under hashes, whatever the ids of clauses and units are. What it notes is
-    /// kept.
+    /// The propagation check of a clause of these literals, or of their negations, under hashes, whatever the ids of
+    /// clauses and units are. What it notes is kept.
     pub fn check(
         &mut self,
-        clause: &[Lit],
+        literals: &[Lit],
+        negate: bool,
         hashes: &[ClauseHash],
         looks: &mut Looks,
     ) -> Result<bool, AllocError>
         ensures exact { IfOk result (λ passes. (f : Stored) → ChecksAs self.old f
-            → IsTrue passes ↔ PassesByHashes f clause.now hashes.now) }
-        ensures rest { self.new ≡ record self.old { passed = self.new.passed } }
+            → IsTrue passes ↔ PassesByHashes f (signed negate literals.now) hashes.now) }
+        // There is room for all that is assumed of stored clauses.
+        ensures short { OnErr result ((f : Stored) → ChecksAs self.old f → ⊥) }
+        ensures rest { ChecksBeside self.old self.new }
         ensures looks { LooksOver (ChecksAs self.old) (λ f. length hashes.now * literal_count f) looks.old looks.new }
-        ensures explained { IfOk result (λ passes. IsTrue passes → Explained self.new clause.now hashes.now) }
+        ensures explained { IfOk result (λ passes. IsTrue passes → self.new.passed.lost ≡ false
+            → Explained self.new (signed negate literals.now) hashes.now) }
         ensures read { IfOk result (λ _. noted_length self.new.store.clauses self.new.passed + looks.old ≤ looks.new) }
     {
-        self.units
-            .check(&self.store, clause, hashes, &mut self.passed, looks)
+        self.units.check(
+            &self.store,
+            literals,
+            negate,
+            hashes,
+            &mut self.passed,
+            looks,
+        )
     }
 
     /// The empty clause of a pending unit conflict takes the next id.
@@ -101,10 +115,10 @@ impl Formula {
         Ok(())
     }
 
-    /// Stores a unit. Nothing changes where no id is left for it.
+    /// Stores a unit. Where that fails, the units stay.
     pub fn store_unit(&mut self, lit: Lit) -> Result<(), StoreError>
         ensures stored { Becomes result self.old (with_unit lit) self.new }
-        ensures same { IsErrOf result CounterEnd → self.new ≡ self.old }
+        ensures kept { OnErr result ((f : Stored) → ChecksAs self.old f → ChecksAs self.new f) }
     {
         if self.units.is_unit(lit) {
             return Ok(());
@@ -120,7 +134,7 @@ impl Formula {
     /// A unit whose negation is stored takes an id, and records unsat and a unit conflict.
     fn store_contradiction(&mut self, lit: Lit) -> Result<(), StoreError>
         ensures stored { Becomes result self.old (with_contradiction lit) self.new }
-        ensures same { IsErrOf result CounterEnd → self.new ≡ self.old }
+        ensures kept { OnErr result ((f : Stored) → ChecksAs self.old f → ChecksAs self.new f) }
     {
         let stored = self.units.id(!lit);
         let id = self.status.take_id()?;
@@ -153,6 +167,16 @@ impl Formula {
         Ok(())
     }
 
+    /// Makes room for all that is assumed of a clause.
+    fn make_room(&mut self, literals: &[Lit]) -> Result<(), AllocError>
+        ensures room { OnOk result
+            (HasRoomFor self.new.units.room literals.now × HasRoomFor self.new.marks.room literals.now) }
+        ensures rest { ChecksBeside self.old self.new }
+    {
+        self.units.make_room_for(literals)?;
+        make_room_for(&mut self.marks, literals)
+    }
+
     /// Stores a clause of two literals or more.
     fn store_long(
         &mut self,
@@ -165,6 +189,7 @@ impl Formula {
         ensures stored { Becomes result self.old (with_canonical redundant literals.now) self.new }
         ensures looks { LooksOver (KeepsFormula self.old) literal_count looks.old looks.new }
     {
+        self.make_room(literals)?;
         let id = self.status.next_id;
         let placed = self.store.store_clause(id, redundant, literals, looks)?;
         self.status
@@ -227,8 +252,8 @@ impl Formula {
         self.status.take_id_if(unnumbered)
     }
 
-    /// Checks a unit under its one hash, and stores it. The answer is whether it passes. It does where no id is left
-    /// for it.
+    /// Checks a unit under its one hash, and stores it. The answer is whether it passes. It does where it can't be
+    /// noted or stored.
     fn store_checked(
         &mut self,
         lit: Lit,
@@ -239,18 +264,54 @@ impl Formula {
         ensures decides { (f : Stored) → KeepsFormula self.old f
             → TurnsIf result (PassesByHashes f (lit ∷ []) (hash ∷ [])) (KeepsFormula self.new (with_unit lit f))
             (with_unit lit f) }
-        ensures kept { IsErrOf result CounterEnd → (f : Stored) → KeepsFormula self.old f → KeepsFormula self.new f }
+        ensures kept { OnErr result ((f : Stored) → ChecksAs self.old f → ChecksAs self.new f) }
         ensures noted { IfOk result (λ passes. IsTrue passes → (f : Stored) → KeepsFormula self.old f → AreLong f
             → AppendsNews notes.old (derived false (lit ∷ []) (hash ∷ []) f) notes.new) }
         ensures hears { notes.new.hears ≡ notes.old.hears }
         ensures looks { LooksOver (KeepsFormula self.old) (λ f. 2 * literal_count f) looks.old looks.new }
     {
-        if !self.check(&[lit], &[hash], looks)? {
+        if !self.check(&[lit], false, &[hash], looks)? {
             return Ok(false);
         }
         self.note_unit(lit, notes, looks)?;
         self.store_unit(lit)?;
         Ok(true)
+    }
+
+    /// Whether units pass in turn behind the first of them. They aren't stored.
+    fn pass_in_turn(
+        &mut self,
+        units: &[(Lit, ClauseHash)],
+        looks: &mut Looks,
+    ) -> Result<bool, AllocError>
+        ensures exact { IfOk result (λ pass. (f : Stored) → ChecksAs self.old f
+            → IsTrue pass ↔ PassBehind f units.now) }
+        ensures short { OnErr result ((f : Stored) → ChecksAs self.old f → ⊥) }
+        ensures looks { LooksOver (ChecksAs self.old)
+            (λ f. (length units.now - 1) * literal_count f) looks.old looks.new }
+    {
+        self.units
+            .pass_in_turn(&self.store, units, &mut self.passed, looks)
+    }
+
+    /// Answers a fault that was met at the first of the units, unless one behind it is refused.
+    fn fail_unless_refused(
+        &mut self,
+        fault: StoreError,
+        units: &[(Lit, ClauseHash)],
+        looks: &mut Looks,
+    ) -> Result<bool, StoreError>
+        ensures exact { (f : Stored) → ChecksAs self.old f → MatchResult result
+            (λ passes. (passes ≡ false) × (PassBehind f units.now → ⊥))
+            (λ e. (e ≡ fault) × PassBehind f units.now) }
+        ensures never { IfOk result (λ passes. passes ≡ false) }
+        ensures looks { LooksOver (ChecksAs self.old)
+            (λ f. (length units.now - 1) * literal_count f) looks.old looks.new }
+    {
+        if !self.pass_in_turn(units, looks)? {
+            return Ok(false);
+        }
+        Err(fault)
     }
 
     /// Checks and stores units in turn. The answer is whether each passes.
@@ -273,10 +334,9 @@ impl Formula {
             match self.store_checked(unit.0, unit.1, notes, looks) {
                 Ok(true) => {}
                 Ok(false) => return Ok(false),
-                Err(StoreError::OutOfMemory) => return Err(StoreError::OutOfMemory),
-                Err(StoreError::CounterEnd) => {
-                    let (_, behind) = units.split_at(place + 1);
-                    return self.pass_unnumbered(unit.0, behind, looks);
+                Err(fault) => {
+                    let (_, left) = units.split_at(place);
+                    return self.fail_unless_refused(fault, left, looks);
                 }
             }
         }
@@ -379,38 +439,5 @@ impl Formula {
     {
         self.units.forget(var);
         self.status.var_deleted = true;
-    }
-
-    /// Whether the literals are a model of what is stored.
-    pub fn fits(
-        &self,
-        alloc: Global,
-        literals: &[Lit],
-        looks: &mut Looks,
-    ) -> Result<bool, AllocError>
-        ensures exact { IfOk result (λ fits. (f : Stored) → KeepsFormula (refiled_in self.now) f
-            → IsTrue fits ↔ FitsModel f literals.now) }
-        ensures apart { OnErr result (VariablesApart literals.now) }
-        ensures looks { LooksOver (KeepsFormula (refiled_in self.now)) literal_count looks.old looks.new }
-    {
-        if self.status.unsat {
-            return Ok(false);
-        }
-        let mut assigned = Assigned::new(alloc);
-        assigned.allow(literals.len().saturating_mul(4));
-        if !assume_apart(&mut assigned, literals)? {
-            return Ok(false);
-        }
-        Ok(self.are_met(&assigned, looks))
-    }
-
-    /// Whether no unit's negation is assumed, and each irredundant clause has an assumed literal.
-    fn are_met(&self, assigned: &Assigned, looks: &mut Looks) -> bool
-        ensures met { (f : Stored) → KeepsFormula (refiled_in self.now) f
-            → result ≡ (not (list_any (λ u. is_among assigned.now (negated u.literal)) f.units) && are_all_true
-            assigned.now f.clauses) }
-        ensures looks { LooksOver (KeepsFormula (refiled_in self.now)) literal_count looks.old looks.new }
-    {
-        !self.units.are_contradicted(assigned) && self.store.are_satisfied(assigned, looks)
     }
 }

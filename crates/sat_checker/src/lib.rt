@@ -30,4 +30,4 @@ pub use hash::ClauseHasher;
 pub use internal::SelfChecker;
 pub use looks::Looks;
 pub use processing::{Nobody, Processing, ProcessingError, Processors, ProofProcessor};
-pub use units::assigned::{Assigned, Look, look_at};
+pub use units::assigned::{Assigned, Look, assume_if_roomy, look_at, make_room_for};

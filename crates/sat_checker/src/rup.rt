@@ -1,28 +1,36 @@
 //! The propagation check of a clause under the hashes that a step names: a walk over the clauses, which notes those
 //! that it takes.
 ghost use Rattle.std.specs.Prelude.{◌≡◌, ◌+◌, ◌*◌, ◌<◌, ◌≤◌, [], ◌∷◌, length, IfOk, if◌then◌else◌, None, Some, map};
-ghost use Rattle.std.specs.Prelude.{false, IsTrue, ◌↔◌};
+ghost use Rattle.std.specs.Prelude.{ℕ, true, false, IsTrue, ◌↔◌, ◌⊎◌, OnErr, MatchBool};
+ghost use Rattle.std.specs.List.{list_any};
+ghost use Rattle.sat_base.specs.values.Literals.{negated, negated_if};
+ghost use Rattle.sat_checker.specs.LiteralSets.{is_among, is_tautology};
 ghost use Rattle.sat_checker.specs.Looks.{total_length};
 ghost use Rattle.sat_checker.specs.Propagation.{PassesCheck};
 ghost use Rattle.sat_checker.specs.inner.Look.{AssumesMore, WalksBucket};
 ghost use Rattle.sat_checker.specs.inner.Looking.{LooksUpTo};
 ghost use Rattle.sat_checker.specs.inner.Reasons.{clause_at, filed, named, noted_length, NotesReasons, RecordsWalk};
 ghost use Rattle.sat_checker.specs.inner.Reasons.{MeetsConflict, ExplainsCheck};
-ghost use Rattle.sat_checker.specs.inner.SlotView.{literals_at, bucket_in, bucket_of, live_length};
+ghost use Rattle.sat_checker.specs.inner.Room.{HasRoomFor, HasRoomForAll, HasRoomForStored, signed};
+ghost use Rattle.sat_checker.specs.inner.Room.{AgreesOn, DeniedInRoom};
+ghost use Rattle.sat_checker.specs.inner.SlotView.{literals_at, bucket_in, bucket_of, live, live_length};
 ghost use Rattle.sat_checker.specs.inner.Walk.{verdict, walk_on, walk_buckets, denied_in_turn};
 
+pub(crate) mod in_turn;
 pub(crate) mod needed;
+pub(crate) mod noted;
 pub(crate) mod passed;
 pub(crate) mod propagations;
 
 use crate::looks::Looks;
 use crate::rup::passed::Passed;
 use crate::store::clauses::Clauses;
-use crate::units::assigned::{Assigned, Look, look_at};
+use crate::units::assigned::{Assigned, Look, assume_if_roomy, look_at};
 use sat_base::{ClauseHash, Lit};
 use std::alloc::AllocError;
 
-/// Takes what the clause at a place opens, and notes it. The answer is whether the clause was falsified.
+/// Takes what the clause at a place opens, and notes it. The answer is whether the clause was falsified. Memory is
+/// wanted only where there is no room for a literal of the clause.
 #[tactic(auto, using(crate::proofs::lemmas::propagation::Walking::meeting))]
 fn meet(
     clauses: &Clauses,
@@ -32,23 +40,26 @@ fn meet(
     looks: &mut Looks,
 ) -> Result<bool, AllocError>
     requires { place < length clauses.now }
-    ensures met { IfOk result (λ conflict. walk_on (verdict assigned.old (literals_at clauses.now place)) assigned.old
-        ≡ (if conflict then None else Some assigned.new)) }
+    ensures met { IfOk result (λ conflict. walk_on (verdict assigned.old.literals (literals_at clauses.now place))
+        assigned.old.literals ≡ (if conflict then None else Some assigned.new.literals)) }
+    ensures short { OnErr result (HasRoomFor assigned.old.room (literals_at clauses.now place) → ⊥) }
     ensures extends { AssumesMore assigned.old assigned.new }
+    ensures same { HasRoomFor assigned.old.room (literals_at clauses.now place)
+        → assigned.new.room ≡ assigned.old.room }
     ensures looks { looks.new ≡ looks.old + length (literals_at clauses.now place) }
-    ensures noted { IfOk result (λ conflict. NotesReasons clauses.now conflict passed.old assigned.old
-        (clause_at clauses.now place ∷ []) passed.new assigned.new) }
+    ensures noted { IfOk result (λ conflict. NotesReasons clauses.now conflict passed.old assigned.old.literals
+        (clause_at clauses.now place ∷ []) passed.new assigned.new.literals) }
     ensures read { IfOk result (λ _. noted_length clauses.now passed.new
         ≤ noted_length clauses.now passed.old + length (literals_at clauses.now place)) }
 {
     match look_at(assigned, clauses.literals(place, looks)) {
         Look::Falsified => {
-            passed.conflict = Some(place);
+            passed.end_at(place);
             Ok(true)
         }
         Look::Opens(lit) => {
             assigned.assume(lit)?;
-            passed.note(place, lit)?;
+            passed.note(place, lit);
             Ok(false)
         }
         Look::Rests => Ok(false),
@@ -71,11 +82,15 @@ fn walk_bucket(
     passed: &mut Passed,
     looks: &mut Looks,
 ) -> Result<Walked, AllocError>
-    ensures says { IfOk result (λ b. WalksBucket b (bucket_in hash clauses.now) assigned.old assigned.new) }
+    ensures says { IfOk result
+        (λ b. WalksBucket b (bucket_in hash clauses.now) assigned.old.literals assigned.new.literals) }
+    ensures short { OnErr result (HasRoomForAll assigned.old.room (bucket_in hash clauses.now) → ⊥) }
     ensures extends { AssumesMore assigned.old assigned.new }
+    ensures same { HasRoomForAll assigned.old.room (bucket_in hash clauses.now)
+        → assigned.new.room ≡ assigned.old.room }
     ensures looks { LooksUpTo (total_length (bucket_in hash clauses.now)) looks.old looks.new }
-    ensures noted { IfOk result
-        (λ b. RecordsWalk clauses.now b passed.old assigned.old (filed hash clauses.now) passed.new assigned.new) }
+    ensures noted { IfOk result (λ b. RecordsWalk clauses.now b passed.old assigned.old.literals
+        (filed hash clauses.now) passed.new assigned.new.literals) }
     ensures read { IfOk result
         (λ _. noted_length clauses.now passed.new + looks.old ≤ noted_length clauses.now passed.old + looks.new) }
 {
@@ -101,11 +116,14 @@ fn walk_hashes(
     passed: &mut Passed,
     looks: &mut Looks,
 ) -> Result<bool, AllocError>
-    ensures found { IfOk result (λ yes. yes ≡ walk_buckets assigned.old (map (bucket_of clauses.now) hashes.now)) }
+    ensures found { IfOk result
+        (λ yes. yes ≡ walk_buckets assigned.old.literals (map (bucket_of clauses.now) hashes.now)) }
+    ensures short { OnErr result (HasRoomForStored assigned.old.room (live clauses.now) → ⊥) }
     ensures extends { AssumesMore assigned.old assigned.new }
+    ensures same { HasRoomForStored assigned.old.room (live clauses.now) → assigned.new.room ≡ assigned.old.room }
     ensures looks { LooksUpTo (length hashes.now * live_length clauses.now) looks.old looks.new }
     ensures noted { IfOk result (λ yes. IsTrue yes
-        → MeetsConflict clauses.now passed.old assigned.old (named hashes.now clauses.now) passed.new) }
+        → MeetsConflict clauses.now passed.old assigned.old.literals (named hashes.now clauses.now) passed.new) }
     ensures read { IfOk result
         (λ _. noted_length clauses.now passed.new + looks.old ≤ noted_length clauses.now passed.old + looks.new) }
 {
@@ -119,48 +137,137 @@ fn walk_hashes(
     Ok(false)
 }
 
-/// Assumes the negations of a clause's literals. The answer is whether a literal was true already.
+/// Assumes the negations of a clause's literals, or they themselves where the clause is of their negations. The answer
+/// is whether a literal of the clause was true already.
 #[tactic(auto, using(crate::proofs::lemmas::propagation::Denied::denying))]
-fn deny(assigned: &mut Assigned, clause: &[Lit]) -> Result<bool, AllocError>
-    ensures denied { IfOk result (λ met. denied_in_turn assigned.old clause.now
-        ≡ (if met then None else Some assigned.new)) }
+fn deny(assigned: &mut Assigned, literals: &[Lit], negate: bool) -> Result<bool, AllocError>
+    ensures denied { IfOk result (λ met. denied_in_turn assigned.old.literals (signed negate literals.now)
+        ≡ (if met then None else Some assigned.new.literals)) }
     ensures extends { AssumesMore assigned.old assigned.new }
 {
-    for lit in clause {
-        if assigned.is_true(*lit) {
+    for literal in literals {
+        let lit = *literal ^ negate;
+        if assigned.is_true(lit) {
             return Ok(true);
         }
-        let denied = !*lit;
-        if assigned.is_true(denied) {
+        if assigned.is_true(!lit) {
             continue;
         }
-        assigned.assume(denied)?;
+        assigned.assume(!lit)?;
     }
     Ok(false)
 }
 
-/// The propagation check of a clause, over what is assigned. What it assumes is left behind that. Where it passes by a
-/// conflict, the notes explain what the conflict rests on, which is followed where somebody listens.
-pub(crate) fn check_clause_with_hashes(
+/// Whether the literal is in the list. No memory is wanted for it.
+pub fn has(literals: &[Lit], lit: Lit) -> bool
+    ensures { result ≡ is_among literals.now lit }
+{
+    for other in literals {
+        if *other == lit {
+            return true;
+        }
+    }
+    false
+}
+
+/// Whether a literal of a clause is true. One that there is no room for is taken as true where its negation stands
+/// before it.
+fn is_met(assigned: &Assigned, before: &[Lit], literal: Lit, negate: bool) -> bool
+    ensures { result ≡ (if is_among assigned.now.room (negated_if negate literal)
+        then is_among assigned.now.literals (negated_if negate literal) else is_among before.now (negated literal)) }
+{
+    let lit = literal ^ negate;
+    if assigned.has_room(lit) {
+        return assigned.is_true(lit);
+    }
+    has(before, !literal)
+}
+
+/// Assumes what `deny` does as far as there is room for it, and takes no memory. The answer is whether a literal of the
+/// clause was true already, or has its negation there.
+fn deny_in_room(assigned: &mut Assigned, literals: &[Lit], negate: bool) -> bool
+    ensures met { MatchBool result ((list_any (is_among assigned.old.literals) (signed negate literals.now) ≡ true)
+        ⊎ (is_tautology (signed negate literals.now) ≡ true))
+        (DeniedInRoom assigned.old (signed negate literals.now) assigned.new) }
+    ensures extends { AssumesMore assigned.old assigned.new }
+    ensures same { assigned.new.room ≡ assigned.old.room }
+{
+    assigned.stand_in_room();
+    for place in 0..literals.len() {
+        let literal = literals[place];
+        let (before, _) = literals.split_at(place);
+        if is_met(assigned, before, literal, negate) {
+            return true;
+        }
+        assume_if_roomy(assigned, !(literal ^ negate));
+    }
+    false
+}
+
+/// The check where memory is wanted for what it assumes: literals that there is no room for stand in no stored clause.
+/// What is noted tells nothing then.
+#[inline(never)]
+pub(crate) fn check_in_room(
     clauses: &Clauses,
-    clause: &[Lit],
+    literals: &[Lit],
+    negate: bool,
     hashes: &[ClauseHash],
     assigned: &mut Assigned,
     passed: &mut Passed,
     looks: &mut Looks,
 ) -> Result<bool, AllocError>
-    ensures exact { IfOk result (λ yes. IsTrue yes
-        ↔ PassesCheck assigned.old clause.now (map (bucket_of clauses.now) hashes.now)) }
+    requires { noted_length clauses.now passed.old ≡ 0 }
+    ensures exact { IfOk result (λ yes. HasRoomForStored assigned.old.room (live clauses.now) → IsTrue yes
+        ↔ PassesCheck assigned.old.literals (signed negate literals.now)
+        (map (bucket_of clauses.now) hashes.now)) }
+    ensures short { OnErr result (HasRoomForStored assigned.old.room (live clauses.now) → ⊥) }
+    ensures extends { AssumesMore assigned.old assigned.new }
+    ensures same { HasRoomForStored assigned.old.room (live clauses.now) → assigned.new.room ≡ assigned.old.room }
+    ensures looks { LooksUpTo (length hashes.now * live_length clauses.now) looks.old looks.new }
+    ensures lost { passed.new.lost ≡ true }
+    ensures read { IfOk result (λ _. noted_length clauses.now passed.new + looks.old ≤ looks.new) }
+{
+    let _count = clauses.len();
+    if deny_in_room(assigned, literals, negate) {
+        passed.lose();
+        return Ok(true);
+    }
+    let found = walk_hashes(clauses, hashes, assigned, passed, looks);
+    passed.lose();
+    found
+}
+
+/// The propagation check of a clause of these literals, or of their negations, over what is assigned. What it assumes
+/// is left behind that. Where it passes by a conflict, the notes explain what the conflict rests on, unless they are
+/// short. Memory is wanted only where there is no room for the literals of a stored clause.
+pub(crate) fn check_clause_with_hashes(
+    clauses: &Clauses,
+    literals: &[Lit],
+    negate: bool,
+    hashes: &[ClauseHash],
+    assigned: &mut Assigned,
+    passed: &mut Passed,
+    looks: &mut Looks,
+) -> Result<bool, AllocError>
+    ensures exact { IfOk result (λ yes. HasRoomForStored assigned.old.room (live clauses.now) → IsTrue yes
+        ↔ PassesCheck assigned.old.literals (signed negate literals.now)
+        (map (bucket_of clauses.now) hashes.now)) }
+    ensures short { OnErr result (HasRoomForStored assigned.old.room (live clauses.now) → ⊥) }
     ensures extends { AssumesMore assigned.old assigned.new }
     ensures looks { LooksUpTo (length hashes.now * live_length clauses.now) looks.old looks.new }
-    ensures explained { IfOk result
-        (λ yes. IsTrue yes → ExplainsCheck clauses.now passed.new assigned.old clause.now hashes.now) }
+    ensures explained { IfOk result (λ yes. IsTrue yes → passed.new.lost ≡ false
+        → ExplainsCheck clauses.now passed.new assigned.old.literals (signed negate literals.now) hashes.now) }
     ensures read { IfOk result (λ _. noted_length clauses.now passed.new + looks.old ≤ looks.new) }
 {
     let _count = clauses.len();
     passed.clear();
-    if deny(assigned, clause)? {
-        return Ok(true);
+    let before = assigned.len();
+    match deny(assigned, literals, negate) {
+        Ok(true) => Ok(true),
+        Ok(false) => walk_hashes(clauses, hashes, assigned, passed, looks),
+        Err(_) => {
+            assigned.undo_to(before);
+            check_in_room(clauses, literals, negate, hashes, assigned, passed, looks)
+        }
     }
-    walk_hashes(clauses, hashes, assigned, passed, looks)
 }

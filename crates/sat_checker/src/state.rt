@@ -99,7 +99,7 @@ impl State {
         if !self.variables.are_sampling(clause) {
             return Ok(false);
         }
-        self.formula.file(looks)?;
+        self.formula.file(looks);
         self.formula.note_input(clause, notes, looks)?;
         self.store_input(clause, looks)?;
         Ok(true)
@@ -126,8 +126,8 @@ impl State {
         ensures looks { LooksWithin self.old (AtClause redundant clause.now hashes.now) looks.old looks.new }
         ensures noted { Announces result self.old (AtClause redundant clause.now hashes.now) notes.old notes.new }
     {
-        self.formula.file(looks)?;
-        if !self.formula.check(clause, hashes, looks)? {
+        self.formula.file(looks);
+        if !self.formula.check(clause, false, hashes, looks)? {
             return Ok(false);
         }
         self.formula.note_derived(redundant, clause, notes, looks)?;
@@ -184,7 +184,7 @@ impl State {
         ensures looks { LooksWithin self.old (UnitClauses units.now) looks.old looks.new }
         ensures noted { Announces result self.old (UnitClauses units.now) notes.old notes.new }
     {
-        self.formula.file(looks)?;
+        self.formula.file(looks);
         if !self.formula.store_units(units, notes, looks)? {
             return Ok(false);
         }
@@ -192,8 +192,7 @@ impl State {
         Ok(true)
     }
 
-    /// Deletes a clause. Want of memory for what is announced, and for dropping clauses that are gone, comes only where
-    /// it is accepted.
+    /// Deletes a clause. Where memory is wanted for its sorted literals, it is judged without them.
     fn delete_clause(
         &mut self,
         clause: &[Lit],
@@ -205,8 +204,10 @@ impl State {
         ensures looks { LooksWithin self.old (DeleteClause clause.now (deletion_of proof)) looks.old looks.new }
         ensures noted { Announces result self.old (DeleteClause clause.now (deletion_of proof)) notes.old notes.new }
     {
-        self.formula.file(looks)?;
-        let literals = sorted_set(&mut self.buffer, clause)?;
+        self.formula.file(looks);
+        let Ok(literals) = sorted_set(&mut self.buffer, clause) else {
+            return self.formula.want_if_deletable(clause, proof, looks);
+        };
         let deletion = self.formula.deletion(notes, literals, proof, looks);
         if !self.formula.delete(clause, proof, literals, looks) {
             return Ok(false);
@@ -226,7 +227,7 @@ impl State {
         ensures looks { LooksWithin self.old (Model assignment.now) looks.old looks.new }
         ensures noted { Announces result self.old (Model assignment.now) notes.old notes.new }
     {
-        if !self.formula.fits(self.alloc, assignment, looks)? {
+        if !self.formula.fits(assignment, looks)? {
             return Ok(false);
         }
         self.variables.learn(assignment)?;
@@ -248,13 +249,12 @@ impl State {
         if !self.assumed.has_all(core) {
             return Ok(false);
         }
-        self.formula.file(looks)?;
-        copy_negated(&mut self.buffer, core)?;
-        let denied = self.buffer.as_slice();
-        if !self.formula.check(denied, hashes, looks)? {
+        self.formula.file(looks);
+        if !self.formula.check(core, true, hashes, looks)? {
             return Ok(false);
         }
-        self.formula.note_core(core, denied, notes, looks)?;
+        copy_negated(&mut self.buffer, core)?;
+        self.formula.note_core(core, &self.buffer, notes, looks)?;
         Ok(true)
     }
 

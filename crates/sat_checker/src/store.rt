@@ -10,7 +10,7 @@ ghost use Rattle.sat_checker.specs.inner.StoreView.{with_less, count_in, found_i
 ghost use Rattle.sat_checker.specs.inner.SlotView.{slot_ids, live, live_length, gone_count};
 ghost use Rattle.sat_checker.specs.Storing.{clause_with, clause_numbered, with_solver_name};
 ghost use Rattle.sat_checker.specs.Accepts.{IsStrictSubset};
-ghost use Rattle.sat_checker.specs.LiteralSets.{mentions};
+ghost use Rattle.sat_checker.specs.LiteralSets.{mentions, canonical};
 ghost use Rattle.sat_checker.specs.inner.ModelTests.{are_all_true, irredundant_length};
 ghost use Rattle.std.specs.List.{list_any};
 
@@ -26,6 +26,7 @@ use crate::looks::Looks;
 use crate::sorted_lits::is_subset;
 use crate::store::clauses::{Clauses, all_bits};
 use crate::units::assigned::Assigned;
+use crate::units::valuation::is_strictly_assumed;
 use sat_base::{HashBits, Lit, Var};
 use std::alloc::{AllocError, Global};
 
@@ -84,28 +85,28 @@ impl Store {
         }
     }
 
-    /// Files the clauses by the hashes of now, where they wait for it. Hashes are looked up behind that.
+    /// Files the clauses by the hashes of now, where they wait for it. Hashes are looked up behind that. It takes no
+    /// memory.
     #[inline(always)]
-    pub fn file(&mut self, looks: &mut Looks) -> Result<(), AllocError>
-        ensures filed { OnOk result (self.new ≡ refiled self.old) }
+    pub fn file(&mut self, looks: &mut Looks)
+        ensures filed { self.new ≡ refiled self.old }
         ensures looks { LooksOver (KeepsClauses (refiled self.old)) literal_count looks.old looks.new }
     {
         if !self.stale {
-            return Ok(());
+            return;
         }
-        self.file_anew(looks)
+        self.file_anew(looks);
     }
 
     /// Files the clauses by the hashes of now.
     #[inline(never)]
-    fn file_anew(&mut self, looks: &mut Looks) -> Result<(), AllocError>
+    fn file_anew(&mut self, looks: &mut Looks)
         requires { self.old.stale ≡ true }
-        ensures filed { OnOk result (self.new ≡ refiled self.old) }
+        ensures filed { self.new ≡ refiled self.old }
         ensures looks { LooksUpTo (live_length self.old.clauses) looks.old looks.new }
     {
-        self.clauses.rehash(&self.hasher, looks)?;
+        self.clauses.rehash(&self.hasher, looks);
         self.stale = false;
-        Ok(())
     }
 
     /// Stores sorted literals without repeats once more, under this id where they are new. The answer is under which id
@@ -236,6 +237,31 @@ impl Store {
         is_subset(self.clauses.literals(place, looks), literals, true)
     }
 
+    /// Whether the clause with this id isn't gone, and is a part of the assumed literals but not all of them. Ids rise
+    /// by place.
+    pub fn has_part_assumed(&self, id: u64, assigned: &Assigned, looks: &mut Looks) -> bool
+        ensures part { IsIncreasing (slot_ids self.now.clauses) → MatchBool result
+            (IsStrictSubset (clause_numbered id (live self.now.clauses)) assigned.now.literals)
+            (IsStrictSubset (clause_numbered id (live self.now.clauses)) assigned.now.literals → ⊥) }
+        ensures looks { LooksOver (KeepsClauses self.now) literal_count looks.old looks.new }
+    {
+        let _count = self.clauses.len();
+        let Some(place) = self.clauses.place_of(id) else {
+            return false;
+        };
+        is_strictly_assumed(assigned, self.clauses.literals(place, looks))
+    }
+
+    /// How often the clause of just the assumed literals stands as redundant, or as irredundant. It is found without
+    /// its hash.
+    pub fn assumed_count(&self, redundant: bool, assigned: &Assigned, looks: &mut Looks) -> u64
+        ensures found { (f : Stored) → KeepsClauses self.now f
+            → result ≡ count_in redundant (clause_with (canonical assigned.now.literals) f.clauses) }
+        ensures looks { LooksOver (KeepsClauses self.now) literal_count looks.old looks.new }
+    {
+        self.clauses.assumed_count(redundant, assigned, looks)
+    }
+
     /// Whether a stored clause has a literal of the variable. No clause is looked at.
     pub fn mention(&self, var: Var) -> bool
         ensures { (f : Stored) → KeepsClauses (refiled self.now) f
@@ -247,7 +273,7 @@ impl Store {
     /// Whether each clause that stands as irredundant has an assumed literal.
     pub fn are_satisfied(&self, assigned: &Assigned, looks: &mut Looks) -> bool
         ensures found { (f : Stored) → KeepsClauses (refiled self.now) f
-            → result ≡ are_all_true assigned.now f.clauses }
+            → result ≡ are_all_true assigned.now.literals f.clauses }
         ensures looks { LooksOver (KeepsClauses (refiled self.now)) literal_count looks.old looks.new }
         // All irredundant ones were looked at where they are.
         ensures all { (f : Stored) → KeepsClauses (refiled self.now) f → result ≡ true

@@ -1,6 +1,6 @@
 //! The stored units.
-ghost use Rattle.std.specs.Prelude.{ℕ, ◌≡◌, ◌++◌, ◌∷◌, [], ◌+◌, ◌*◌, ◌^◌, ◌<◌, ◌≤◌, ◌↔◌, true, false, length, map};
-ghost use Rattle.std.specs.Prelude.{reverse, IfOk, IsTrue, OnOk, filter, not, ◌==◌, if◌then◌else◌};
+ghost use Rattle.std.specs.Prelude.{ℕ, ◌≡◌, ◌++◌, ◌∷◌, [], ◌+◌, ◌-◌, ◌*◌, ◌^◌, ◌<◌, ◌≤◌, ◌↔◌, true, false, length, map};
+ghost use Rattle.std.specs.Prelude.{reverse, IfOk, IsTrue, OnOk, OnErr, filter, not, ◌==◌, if◌then◌else◌};
 ghost use Rattle.sat_base.specs.values.Literals.{negated, variable};
 ghost use Rattle.std.specs.List.{list_any};
 ghost use Rattle.sat_checker.specs.LiteralSets.{is_among};
@@ -10,21 +10,25 @@ ghost use Rattle.sat_checker.specs.inner.Marks.{NoRepeats};
 ghost use Rattle.sat_checker.specs.inner.LitNumbers.{AreTrailPlaces};
 ghost use Rattle.sat_checker.specs.inner.Reasons.{noted_length, ExplainsCheck};
 ghost use Rattle.sat_checker.specs.Storing.{unit_id};
-ghost use Rattle.sat_checker.specs.Stored.{Stored};
+ghost use Rattle.sat_checker.specs.Stored.{Stored, unit_literals};
 ghost use Rattle.sat_checker.specs.Accepts.{PassesByHashes};
 ghost use Rattle.sat_checker.specs.Looks.{literal_count};
 ghost use Rattle.sat_checker.specs.inner.StoreView.{KeepsClauses};
+ghost use Rattle.sat_checker.specs.inner.InTurn.{PassBehind};
+ghost use Rattle.sat_checker.specs.inner.Room.{signed, with_room, RoomStays, HasRoomFor, HasRoomForStored};
 
 pub mod assigned;
 pub(crate) mod lit_numbers;
+pub(crate) mod roomy;
 pub(crate) mod unit_order;
 pub(crate) mod valuation;
 
 use crate::looks::Looks;
 use crate::rup::check_clause_with_hashes;
+use crate::rup::in_turn::pass_in_turn;
 use crate::rup::passed::Passed;
 use crate::store::Store;
-use crate::units::assigned::Assigned;
+use crate::units::assigned::{Assigned, make_room_for};
 use crate::units::lit_numbers::LitNumbers;
 use crate::units::unit_order::UnitOrder;
 use sat_base::{ClauseHash, Lit, Var};
@@ -43,23 +47,23 @@ pub(crate) struct Units {
 }
 
 impl Model for Units {
-    ghost use Rattle.std.specs.Prelude.{List};
-    ghost use Rattle.sat_checker.specs.Stored.{StoredUnit};
-    ghost use Rattle.sat_checker.specs.inner.UnitView.{UnitsInvariant};
+    ghost use Rattle.sat_checker.specs.inner.UnitView.{UnitsAndRoom, UnitsInvariant};
 
-    ghost Value = { List StoredUnit };
+    ghost Value = { UnitsAndRoom };
 
-    ghost view = { λ s. s.order.units };
+    ghost view = { λ s. record { units = s.order.units; room = s.assigned.room } };
 
-    ghost invariant = { λ s. UnitsInvariant s.order.units s.ids s.places s.assigned };
+    ghost invariant = { λ s. UnitsInvariant s.order.units s.ids s.places s.assigned.literals };
 }
 
 /// Forgets an assumed literal, by its place on the trail. The newest takes its place.
 fn take_out(assigned: &mut Assigned, places: &mut LitNumbers, lit: Lit)
-    requires assumed { is_among assigned.old lit ≡ true }
-    requires placed { AreTrailPlaces places.old (reverse assigned.old) }
-    ensures assumed { (l : ℕ) → is_among assigned.new l ≡ (if l == lit then false else is_among assigned.old l) }
-    ensures placed { AreTrailPlaces places.new (reverse assigned.new) }
+    requires assumed { is_among assigned.old.literals lit ≡ true }
+    requires placed { AreTrailPlaces places.old (reverse assigned.old.literals) }
+    ensures assumed { (l : ℕ) → is_among assigned.new.literals l
+        ≡ (if l == lit then false else is_among assigned.old.literals l) }
+    ensures room { assigned.new.room ≡ assigned.old.room }
+    ensures placed { AreTrailPlaces places.new (reverse assigned.new.literals) }
 {
     let Some(place) = places.get(lit) else {
         return;
@@ -72,7 +76,7 @@ fn take_out(assigned: &mut Assigned, places: &mut LitNumbers, lit: Lit)
 
 impl Units {
     pub fn new(alloc: Global) -> Units
-        ensures { result ≡ [] }
+        ensures { result ≡ record { units = []; room = [] } }
     {
         Units {
             ids: LitNumbers::new(alloc),
@@ -84,13 +88,13 @@ impl Units {
 
     /// No literal is a unit twice. For contracts alone: it does nothing at run time.
     pub fn stand_once(&self)
-        ensures { NoRepeats (map (λ u. u.literal) self.now) }
+        ensures { NoRepeats (map (λ u. u.literal) self.now.units) }
     {
         let _ = &self.order;
     }
 
     pub fn is_unit(&self, lit: Lit) -> bool
-        ensures { result ≡ is_among (map (λ u. u.literal) self.now) lit }
+        ensures { result ≡ is_among (map (λ u. u.literal) self.now.units) lit }
     {
         self.assigned.is_true(lit)
     }
@@ -98,7 +102,7 @@ impl Units {
     /// Whether a unit is true in the clause.
     #[tactic(auto, using(crate::proofs::lemmas::state::Scanning::any_literal))]
     pub fn has_any(&self, clause: &[Lit]) -> bool
-        ensures { result ≡ list_any (is_among (map (λ u. u.literal) self.now)) clause.now }
+        ensures { result ≡ list_any (is_among (map (λ u. u.literal) self.now.units)) clause.now }
     {
         for lit in clause {
             if self.is_unit(*lit) {
@@ -110,9 +114,13 @@ impl Units {
 
     /// Stores a unit behind the others.
     pub fn push(&mut self, id: u64, lit: Lit) -> Result<(), AllocError>
-        requires new { is_among (map (λ u. u.literal) self.old) lit ≡ false }
+        requires new { is_among (map (λ u. u.literal) self.old.units) lit ≡ false }
         requires id { id + 1 < 2 ^ 64 }
-        ensures { OnOk result (self.new ≡ self.old ++ (record { id = id; literal = lit }) ∷ []) }
+        ensures ok { OnOk result (self.new ≡ record {
+          units = self.old.units ++ (record { id = id; literal = lit }) ∷ [];
+          room = with_room lit self.old.room;
+        }) }
+        ensures err { OnErr result (self.new ≡ self.old) }
     {
         self.ids.make_room(lit)?;
         self.places.make_room(lit)?;
@@ -124,9 +132,18 @@ impl Units {
         Ok(())
     }
 
+    /// Makes room for the literals of a clause, and for their negations.
+    pub fn make_room_for(&mut self, literals: &[Lit]) -> Result<(), AllocError>
+        ensures room { OnOk result (HasRoomFor self.new.room literals.now) }
+        ensures units { self.new.units ≡ self.old.units }
+        ensures stays { RoomStays self.old.room self.new.room }
+    {
+        make_room_for(&mut self.assigned, literals)
+    }
+
     /// The id of a unit.
     pub fn id(&self, lit: Lit) -> Option<u64>
-        ensures { result ≡ unit_id lit self.now }
+        ensures { result ≡ unit_id lit self.now.units }
     {
         self.ids.get(lit)
     }
@@ -134,7 +151,7 @@ impl Units {
     /// The id of the first of the literals that is a unit.
     #[tactic(auto, using(crate::proofs::lemmas::announcements::Listing::finding_true))]
     pub fn true_id(&self, literals: &[Lit]) -> Option<u64>
-        ensures { result ≡ true_unit literals.now self.now }
+        ensures { result ≡ true_unit literals.now self.now.units }
     {
         for lit in literals {
             if let Some(id) = self.id(*lit) {
@@ -146,14 +163,15 @@ impl Units {
 
     /// Forgets the unit of a variable. It takes the same time however many units there are.
     pub fn forget(&mut self, var: Var)
-        ensures { self.new ≡ filter (λ u. not (variable u.literal == var)) self.old }
+        ensures { self.new
+            ≡ record self.old { units = filter (λ u. not (variable u.literal == var)) self.old.units } }
     {
         self.forget_lit(var.lit(true));
         self.forget_lit(var.lit(false));
     }
 
     fn forget_lit(&mut self, lit: Lit)
-        ensures { self.new ≡ filter (λ u. not (u.literal == lit)) self.old }
+        ensures { self.new ≡ record self.old { units = filter (λ u. not (u.literal == lit)) self.old.units } }
     {
         if !self.is_unit(lit) {
             return;
@@ -163,17 +181,17 @@ impl Units {
         self.order = self.order.without(lit.code());
     }
 
-    /// Whether the negation of a unit is assumed.
-    pub fn are_contradicted(&self, assigned: &Assigned) -> bool
-        ensures { result ≡ list_any (λ u. is_among assigned.now (negated u.literal)) self.now }
+    /// Whether the negation of a unit is in the list.
+    pub fn are_contradicted(&self, literals: &[Lit]) -> bool
+        ensures { result ≡ list_any (λ u. is_among literals.now (negated u.literal)) self.now.units }
     {
-        self.has_any_negated(assigned.literals())
+        self.has_any_negated(literals)
     }
 
-    /// Whether the negation of a unit is in the list.
+    /// Whether a literal of the list is the negation of a unit.
     #[tactic(auto, using(crate::proofs::lemmas::state::Scanning::any_literal))]
     fn has_any_negated(&self, literals: &[Lit]) -> bool
-        ensures { result ≡ list_any (λ l. is_among (map (λ u. u.literal) self.now) (negated l)) literals.now }
+        ensures { result ≡ list_any (λ l. is_among (map (λ u. u.literal) self.now.units) (negated l)) literals.now }
     {
         for lit in literals {
             if self.is_unit(!*lit) {
@@ -183,37 +201,67 @@ impl Units {
         false
     }
 
-    /// The propagation check of a clause under hashes, over the units, which stay. The notes are of the clauses that it
-    /// took.
+    /// The propagation check of a clause of these literals, or of their negations, under hashes, over the units, which
+    /// stay. The notes are of the clauses that it took.
     #[tactic(auto, using(crate::proofs::lemmas::store::Keeping::checking))]
     pub fn check(
         &mut self,
         store: &Store,
-        clause: &[Lit],
+        literals: &[Lit],
+        negate: bool,
         hashes: &[ClauseHash],
         passed: &mut Passed,
         looks: &mut Looks,
     ) -> Result<bool, AllocError>
-        ensures exact { IfOk result (λ passes. (f : Stored) → KeepsClauses store.now f → self.old ≡ f.units
-            → IsTrue passes ↔ PassesByHashes f clause.now hashes.now) }
-        ensures units { self.new ≡ self.old }
+        ensures exact { IfOk result (λ passes. (f : Stored) → KeepsClauses store.now f → self.old.units ≡ f.units
+            → HasRoomForStored self.old.room f.clauses → IsTrue passes
+            ↔ PassesByHashes f (signed negate literals.now) hashes.now) }
+        ensures short { OnErr result ((f : Stored) → KeepsClauses store.now f
+            → HasRoomForStored self.old.room f.clauses → ⊥) }
+        ensures units { self.new.units ≡ self.old.units }
+        ensures stays { RoomStays self.old.room self.new.room }
         ensures looks { LooksOver (KeepsClauses store.now)
             (λ f. length hashes.now * literal_count f) looks.old looks.new }
-        ensures explained { IfOk result (λ passes. IsTrue passes
-            → ExplainsCheck store.now.clauses passed.new (map (λ u. u.literal) self.old) clause.now hashes.now) }
+        ensures explained { IfOk result (λ passes. IsTrue passes → passed.new.lost ≡ false
+            → ExplainsCheck store.now.clauses passed.new (map (λ u. u.literal) self.old.units)
+            (signed negate literals.now) hashes.now) }
         ensures read { IfOk result (λ _. noted_length store.now.clauses passed.new + looks.old ≤ looks.new) }
     {
         let units = self.assigned.len();
         self.assigned.allow(store.clauses.near_count());
         let answer = check_clause_with_hashes(
             &store.clauses,
-            clause,
+            literals,
+            negate,
             hashes,
             &mut self.assigned,
             passed,
             looks,
         );
         self.assigned.undo_to(units);
+        answer
+    }
+
+    /// Whether units pass in turn behind the first of them, over the units, which stay.
+    pub fn pass_in_turn(
+        &mut self,
+        store: &Store,
+        units: &[(Lit, ClauseHash)],
+        passed: &mut Passed,
+        looks: &mut Looks,
+    ) -> Result<bool, AllocError>
+        ensures exact { IfOk result (λ pass. (f : Stored) → KeepsClauses store.now f
+            → map (λ u. u.literal) self.old.units ≡ unit_literals f → HasRoomForStored self.old.room f.clauses
+            → IsTrue pass ↔ PassBehind f units.now) }
+        ensures short { OnErr result ((f : Stored) → KeepsClauses store.now f
+            → HasRoomForStored self.old.room f.clauses → ⊥) }
+        ensures units { self.new.units ≡ self.old.units }
+        ensures looks { LooksOver (KeepsClauses store.now)
+            (λ f. (length units.now - 1) * literal_count f) looks.old looks.new }
+    {
+        let count = self.assigned.len();
+        let answer = pass_in_turn(store, units, &mut self.assigned, passed, looks);
+        self.assigned.undo_to(count);
         answer
     }
 }

@@ -1,32 +1,30 @@
 //! Judging one line after another.
-ghost use Rattle.std.specs.Prelude.{◌≡◌, ◌≤◌, ◌+◌, ◌^◌, ◌-◌, ◌<◌, ℕ, [], None, Some, IfOk, OnOk};
+ghost use Rattle.std.specs.Prelude.{◌≡◌, ◌≤◌, ◌+◌, ◌^◌, ◌-◌, ◌<◌, ℕ, [], None, Some, IfOk, OnErr, OnOk};
 ghost use Rattle.sat_base.specs.text.Tokenizing.{held};
 ghost use Rattle.sat_checker.specs.LiteralSets.{canonical};
 ghost use Rattle.sat_hints.specs.Lines.{Input, Derived, Gone, Core, Fresh, IsLine};
 ghost use Rattle.sat_hints.specs.inner.LineReading.{line_of, IsId};
-ghost use Rattle.sat_hints.specs.inner.Course.{signed};
-ghost use Rattle.sat_hints.specs.inner.Judging.{HasTakenLines, IsReadyJudge, IsSame, WhyNotRefuted, StoresClause};
-ghost use Rattle.sat_hints.specs.inner.Judging.{TakesNext, TakesOne};
+ghost use Rattle.sat_checker.specs.inner.Room.{signed};
+ghost use Rattle.sat_hints.specs.inner.Judging.{HasTakenLines, IsReadyJudge, IsSame, MayFollow, WhyNotRefuted};
+ghost use Rattle.sat_hints.specs.inner.Judging.{StoresClause, TakesNext, TakesOne};
 
 use crate::answer::{HintVerdict, HintWhy};
 use crate::line::HintLine;
-use crate::naming::find_all;
 use crate::propagating::conflict;
 use crate::standing::Standing;
 use sat_base::{Lit, Var};
-use sat_checker::Assigned;
 use sat_checker::sorted_lits::copy_canonical;
+use sat_checker::{Assigned, make_room_for};
 use std::alloc::{AllocError, Global};
 
 /// What the lines so far leave, and room that is used again.
 #[derive(Drop)]
 pub(crate) struct Judge {
     standing: Standing,
+    /// There is room for the literals of present clauses, and for their negations.
     assumed: Assigned,
     /// The literals of a clause that comes, as a sorted set.
     set: Vec<Lit>,
-    /// Where the clauses are that a line names.
-    places: Vec<usize>,
     least_id: u64,
     empty: bool,
     cores: u64,
@@ -42,7 +40,6 @@ impl Judge {
             standing: Standing::new(alloc),
             assumed: Assigned::new(alloc),
             set: Vec::new(alloc),
-            places: Vec::new(alloc),
             least_id: 0,
             empty: false,
             cores: 0,
@@ -59,39 +56,26 @@ impl Judge {
     {
         copy_canonical(&mut self.set, clause)?;
         self.standing.push(id, &self.set)?;
+        self.assumed.allow(self.standing.present.near_limit());
+        make_room_for(&mut self.assumed, &self.set)?;
         self.least_id = id + 1;
         Ok(())
     }
 
     /// Why the clauses under these ids don't run into a conflict with literals, or with their negations, if they don't.
-    fn refute(
-        &mut self,
-        literals: &[Lit],
-        negate: bool,
-        ids: &[u64],
-    ) -> Result<Option<HintWhy>, AllocError>
+    fn refute(&mut self, literals: &[Lit], negate: bool, ids: &[u64]) -> Option<HintWhy>
         requires { IsReadyJudge self.old }
-        ensures same { OnOk result (IsSame self.old self.new) }
-        ensures refutes { IfOk result (λ why. WhyNotRefuted self.old.standing (signed negate literals.now) ids.now
-            why) }
+        ensures same { IsSame self.old self.new }
+        ensures refutes { WhyNotRefuted self.old.standing (signed negate literals.now) ids.now result }
     {
-        if !find_all(&self.standing, ids, &mut self.places)? {
-            return Ok(Some(HintWhy::UnknownId));
-        }
-        self.assumed.allow(self.standing.present.near_limit());
-        conflict(
-            &self.standing.present,
-            &self.places,
-            literals,
-            negate,
-            &mut self.assumed,
-        )
+        conflict(&self.standing, ids, literals, negate, &mut self.assumed)
     }
 
     fn input(&mut self, id: u64, clause: &[Lit]) -> Result<Option<HintWhy>, AllocError>
         requires ready { IsReadyJudge self.old }
         requires within { IsId id }
-        ensures { IfOk result (λ why. TakesOne why self.old self.new (Input id clause.now)) }
+        ensures takes { IfOk result (λ why. TakesOne why self.old self.new (Input id clause.now)) }
+        ensures judged { OnErr result (MayFollow self.old (Input id clause.now)) }
     {
         if id < self.least_id {
             return Ok(Some(HintWhy::IdOrder));
@@ -108,12 +92,13 @@ impl Judge {
     ) -> Result<Option<HintWhy>, AllocError>
         requires ready { IsReadyJudge self.old }
         requires within { IsId id }
-        ensures { IfOk result (λ why. TakesOne why self.old self.new (Derived id clause.now ids.now)) }
+        ensures takes { IfOk result (λ why. TakesOne why self.old self.new (Derived id clause.now ids.now)) }
+        ensures judged { OnErr result (MayFollow self.old (Derived id clause.now ids.now)) }
     {
         if id < self.least_id {
             return Ok(Some(HintWhy::IdOrder));
         }
-        match self.refute(clause, true, ids)? {
+        match self.refute(clause, true, ids) {
             Some(why) => return Ok(Some(why)),
             None => {}
         }
@@ -124,7 +109,8 @@ impl Judge {
 
     fn gone(&mut self, id: u64) -> Result<Option<HintWhy>, AllocError>
         requires { IsReadyJudge self.old }
-        ensures { IfOk result (λ why. TakesOne why self.old self.new (Gone id)) }
+        ensures takes { IfOk result (λ why. TakesOne why self.old self.new (Gone id)) }
+        ensures judged { OnErr result (MayFollow self.old (Gone id)) }
     {
         if self.standing.remove(id)? {
             return Ok(None);
@@ -132,23 +118,24 @@ impl Judge {
         Ok(Some(HintWhy::UnknownId))
     }
 
-    fn core(&mut self, core: &[Lit], ids: &[u64]) -> Result<Option<HintWhy>, AllocError>
+    fn core(&mut self, core: &[Lit], ids: &[u64]) -> Option<HintWhy>
         requires { IsReadyJudge self.old }
-        ensures { IfOk result (λ why. TakesOne why self.old self.new (Core core.now ids.now)) }
+        ensures { TakesOne result self.old self.new (Core core.now ids.now) }
     {
-        match self.refute(core, false, ids)? {
-            Some(why) => return Ok(Some(why)),
+        match self.refute(core, false, ids) {
+            Some(why) => return Some(why),
             None => {}
         }
         self.cores = self.cores.saturating_add(1);
-        Ok(None)
+        None
     }
 
     fn fresh(&mut self, var: Var) -> Result<Option<HintWhy>, AllocError>
         requires { IsReadyJudge self.old }
-        ensures { IfOk result (λ why. TakesOne why self.old self.new (Fresh var)) }
+        ensures takes { IfOk result (λ why. TakesOne why self.old self.new (Fresh var)) }
+        ensures judged { OnErr result (MayFollow self.old (Fresh var)) }
     {
-        if self.standing.is_used(var)? {
+        if self.standing.is_used(var) {
             return Ok(Some(HintWhy::VarInUse));
         }
         self.standing.forget_units(var, self.least_id)?;
@@ -159,23 +146,25 @@ impl Judge {
     fn take_unnumbered(&mut self, line: &HintLine<'_>) -> Result<Option<HintWhy>, AllocError>
         requires ready { IsReadyJudge self.old }
         requires within { IsLine (line_of line.now) }
-        ensures { IfOk result (λ why. TakesOne why self.old self.new (line_of line.now)) }
+        ensures takes { IfOk result (λ why. TakesOne why self.old self.new (line_of line.now)) }
+        ensures judged { OnErr result (MayFollow self.old (line_of line.now)) }
     {
         match line {
             HintLine::Input { id, clause } => self.input(*id, clause),
             HintLine::Derived { id, clause, ids } => self.derived(*id, clause, ids),
             HintLine::Gone { id } => self.gone(*id),
-            HintLine::Core { core, ids } => self.core(core, ids),
+            HintLine::Core { core, ids } => Ok(self.core(core, ids)),
             HintLine::Fresh { var } => self.fresh(*var),
         }
     }
 
-    /// Takes the next line. The answer is why it is at fault, if it is.
+    /// Takes the next line. The answer is why it is at fault, if it is. Memory is wanted only for a line that is not.
     pub(crate) fn take(&mut self, line: &HintLine<'_>) -> Result<Option<HintWhy>, AllocError>
         requires ready { IsReadyJudge self.old }
         requires within { IsLine (line_of line.now) }
         ensures ready { IfOk result (λ why. why ≡ None → IsReadyJudge self.new) }
         ensures takes { IfOk result (λ why. TakesNext why self.old self.new (line_of line.now)) }
+        ensures judged { OnErr result (MayFollow self.old (line_of line.now)) }
     {
         let why = self.take_unnumbered(line)?;
         if why.is_none() {

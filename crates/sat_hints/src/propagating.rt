@@ -1,95 +1,146 @@
-//! Whether clauses are unit in turn, the last falsified.
-ghost use Rattle.std.specs.Prelude.{◌≡◌, ◌<◌, [], true, false, map, length, IfOk, MatchBool};
-ghost use Rattle.std.specs.List.{AllByRecursion};
-ghost use Rattle.sat_checker.specs.LiteralSets.{is_tautology};
-ghost use Rattle.sat_hints.specs.inner.Clauses.{clause_at};
-ghost use Rattle.sat_hints.specs.inner.Course.{course, signed, AreJustAssumed, WhyNoConflict};
+//! Whether clauses are unit in turn, the last falsified. Want of memory changes no answer.
+ghost use Rattle.std.specs.Prelude.{◌≡◌, ◌≢◌, ◌⊎◌, [], true, false, None, MatchBool};
+ghost use Rattle.sat_checker.specs.LiteralSets.{is_among, is_tautology};
+ghost use Rattle.sat_checker.specs.inner.Room.{AgreesOn, RoomStays, signed};
+ghost use Rattle.sat_hints.specs.inner.Judging.{course_of, WhyNotRefuted};
+ghost use Rattle.sat_hints.specs.inner.Standing.{clauses_of, HasRoomForPresent, StandingInvariant};
 
 use crate::answer::HintWhy;
-use crate::present::Present;
+use crate::naming::are_present;
+use crate::standing::Standing;
 use sat_base::Lit;
-use sat_checker::{Assigned, Look, look_at};
-use std::alloc::AllocError;
+use sat_checker::rup::has;
+use sat_checker::{Assigned, Look, assume_if_roomy, look_at};
 
-/// Assumes literals, or their negations. The answer is whether both signs of a variable are among them.
-fn assume_all(assumed: &mut Assigned, literals: &[Lit], negate: bool) -> Result<bool, AllocError>
-    requires { assumed.old ≡ [] }
-    ensures { IfOk result (λ both. MatchBool both (is_tautology (signed negate literals.now) ≡ true)
+/// Assumes literals, or their negations, as far as there is room for them. The answer is whether both signs of a
+/// variable are among them, for which the negation of each is looked for among those before it.
+#[inline(never)]
+fn assume_roomy(assumed: &mut Assigned, literals: &[Lit], negate: bool) -> bool
+    requires { assumed.old.literals ≡ [] }
+    ensures assumes { MatchBool result (is_tautology (signed negate literals.now) ≡ true)
         ((is_tautology (signed negate literals.now) ≡ false)
-        × AreJustAssumed (signed negate literals.now) assumed.new)) }
+        × AgreesOn assumed.old.room assumed.new.literals (signed negate literals.now)) }
+    ensures room { assumed.new.room ≡ assumed.old.room }
+{
+    for place in 0..literals.len() {
+        let literal = literals[place];
+        let (before, _) = literals.split_at(place);
+        if has(before, !literal) {
+            return true;
+        }
+        assume_if_roomy(assumed, literal ^ negate);
+    }
+    false
+}
+
+/// Assumes literals, or their negations. Where memory is wanted for one, which then stands in no clause, it assumes
+/// those that there is room for. The answer is whether both signs of a variable are among them.
+fn assume_all(assumed: &mut Assigned, literals: &[Lit], negate: bool) -> bool
+    requires { assumed.old.literals ≡ [] }
+    ensures assumes { MatchBool result (is_tautology (signed negate literals.now) ≡ true)
+        ((is_tautology (signed negate literals.now) ≡ false)
+        × AgreesOn assumed.old.room assumed.new.literals (signed negate literals.now)) }
+    ensures stays { RoomStays assumed.old.room assumed.new.room }
 {
     for literal in literals {
         let lit = *literal ^ negate;
         if assumed.is_true(!lit) {
-            return Ok(true);
+            return true;
         }
         if assumed.is_true(lit) {
             continue;
         }
-        assumed.assume(lit)?;
-    }
-    Ok(false)
-}
-
-/// Why the clauses at these places don't run into a conflict, if they don't.
-fn follow(
-    present: &Present,
-    places: &[usize],
-    assumed: &mut Assigned,
-) -> Result<Option<HintWhy>, AllocError>
-    requires { AllByRecursion (λ place. place < length present.now.clauses) places.now }
-    ensures { IfOk result (λ why. why ≡ course assumed.old (map (clause_at present.now) places.now)) }
-{
-    if places.is_empty() {
-        return Ok(Some(HintWhy::NotFalsified));
-    }
-    let last = places.len() - 1;
-    for i in 0..last {
-        match look_at(assumed, present.clause(places[i])) {
-            Look::Opens(lit) => assumed.assume(lit)?,
-            Look::Falsified | Look::Rests => return Ok(Some(HintWhy::NotUnit)),
+        match assumed.assume(lit) {
+            Ok(()) => {}
+            Err(_) => {
+                assumed.undo_to(0);
+                return assume_roomy(assumed, literals, negate);
+            }
         }
     }
-    match look_at(assumed, present.clause(places[last])) {
-        Look::Falsified => Ok(None),
-        Look::Opens(_) | Look::Rests => Ok(Some(HintWhy::NotFalsified)),
+    false
+}
+
+/// Why a line is at fault whose clause isn't unit in its turn, where clauses under these ids are named behind that.
+fn not_unit(standing: &Standing, behind: &[u64]) -> HintWhy
+    requires { StandingInvariant standing.now }
+    ensures { (clauses_of standing.now behind.now ≡ None) × (result ≡ HintWhy.UnknownId)
+        ⊎ (clauses_of standing.now behind.now ≢ None) × (result ≡ HintWhy.NotUnit) }
+{
+    if are_present(standing, behind) {
+        return HintWhy::NotUnit;
+    }
+    HintWhy::UnknownId
+}
+
+/// Why the clauses under these ids don't run into a conflict, if they don't.
+fn follow(standing: &Standing, ids: &[u64], assumed: &mut Assigned) -> Option<HintWhy>
+    requires standing { StandingInvariant standing.now }
+    requires room { HasRoomForPresent assumed.old.room standing.now }
+    ensures follows { result ≡ course_of assumed.old.literals (clauses_of standing.now ids.now) }
+    ensures room { assumed.new.room ≡ assumed.old.room }
+{
+    if ids.is_empty() {
+        return Some(HintWhy::NotFalsified);
+    }
+    let last = ids.len() - 1;
+    for turn in 0..last {
+        let Some(place) = standing.find(ids[turn]) else {
+            return Some(HintWhy::UnknownId);
+        };
+        match look_at(assumed, standing.present.clause(place)) {
+            Look::Opens(lit) => assumed.assume_in_room(lit),
+            Look::Falsified | Look::Rests => return Some(not_unit(standing, &ids[turn + 1..])),
+        }
+    }
+    let Some(place) = standing.find(ids[last]) else {
+        return Some(HintWhy::UnknownId);
+    };
+    match look_at(assumed, standing.present.clause(place)) {
+        Look::Falsified => None,
+        Look::Opens(_) | Look::Rests => Some(HintWhy::NotFalsified),
     }
 }
 
-/// Why the clauses at these places and the literals, or their negations, don't run into a conflict, if they don't.
+/// Why the clauses under these ids and the literals, or their negations, don't run into a conflict, if they don't.
 fn conflict_under(
-    present: &Present,
-    places: &[usize],
+    standing: &Standing,
+    ids: &[u64],
     literals: &[Lit],
     negate: bool,
     assumed: &mut Assigned,
-) -> Result<Option<HintWhy>, AllocError>
-    requires within { AllByRecursion (λ place. place < length present.now.clauses) places.now }
-    requires nothing { assumed.old ≡ [] }
-    ensures { IfOk result (λ why. WhyNoConflict (signed negate literals.now) (map (clause_at present.now) places.now)
-        why) }
+) -> Option<HintWhy>
+    requires standing { StandingInvariant standing.now }
+    requires room { HasRoomForPresent assumed.old.room standing.now }
+    requires nothing { assumed.old.literals ≡ [] }
+    ensures runs { WhyNotRefuted standing.now (signed negate literals.now) ids.now result }
+    ensures stays { RoomStays assumed.old.room assumed.new.room }
 {
-    if assume_all(assumed, literals, negate)? {
-        return Ok(None);
+    if !assume_all(assumed, literals, negate) {
+        return follow(standing, ids, assumed);
     }
-    follow(present, places, assumed)
+    if are_present(standing, ids) {
+        return None;
+    }
+    Some(HintWhy::UnknownId)
 }
 
 /// As `conflict_under`, with nothing assumed before and after.
 pub(crate) fn conflict(
-    present: &Present,
-    places: &[usize],
+    standing: &Standing,
+    ids: &[u64],
     literals: &[Lit],
     negate: bool,
     assumed: &mut Assigned,
-) -> Result<Option<HintWhy>, AllocError>
-    requires within { AllByRecursion (λ place. place < length present.now.clauses) places.now }
-    requires nothing { assumed.old ≡ [] }
-    ensures runs { IfOk result (λ why. WhyNoConflict (signed negate literals.now)
-        (map (clause_at present.now) places.now) why) }
-    ensures nothing { assumed.new ≡ [] }
+) -> Option<HintWhy>
+    requires standing { StandingInvariant standing.now }
+    requires room { HasRoomForPresent assumed.old.room standing.now }
+    requires nothing { assumed.old.literals ≡ [] }
+    ensures runs { WhyNotRefuted standing.now (signed negate literals.now) ids.now result }
+    ensures nothing { assumed.new.literals ≡ [] }
+    ensures stays { RoomStays assumed.old.room assumed.new.room }
 {
-    let answer = conflict_under(present, places, literals, negate, assumed);
+    let why = conflict_under(standing, ids, literals, negate, assumed);
     assumed.undo_to(0);
-    answer
+    why
 }

@@ -1,10 +1,9 @@
 //! The clauses that are present, where variables become new.
-ghost use Rattle.std.specs.Prelude.{◌≡◌, ◌≢◌, ◌⊎◌, ℕ, [], None, IfOk, OnOk, MatchBool, MatchOption};
+ghost use Rattle.std.specs.Prelude.{◌≡◌, ◌≢◌, ◌⊎◌, ℕ, [], None, IfOk, OnErr, OnOk, MatchBool, MatchOption};
 ghost use Rattle.sat_checker.specs.SortedSets.{IsIncreasing};
 ghost use Rattle.sat_hints.specs.inner.Clauses.{AllBelow};
 ghost use Rattle.sat_hints.specs.inner.Standing.{clause_of, is_stale, Drops, FindsOne, RenewsVariable};
-ghost use Rattle.sat_hints.specs.inner.Standing.{AddsStandingClause, StandingInvariant, IsUsed, StandingUnchanged};
-ghost use Rattle.sat_hints.specs.inner.Standing.{SinceWithin};
+ghost use Rattle.sat_hints.specs.inner.Standing.{AddsStandingClause, StandingInvariant, IsUsed, SinceWithin};
 
 use crate::present::Present;
 use crate::uses::Uses;
@@ -73,8 +72,9 @@ impl Standing {
     /// Takes away the clause under this id. The answer is whether it was present.
     pub(crate) fn remove(&mut self, id: u64) -> Result<bool, AllocError>
         requires { StandingInvariant self.old }
-        ensures { IfOk result (λ was. MatchBool was ((clause_of self.old id ≢ None) × Drops self.old self.new id)
+        ensures takes { IfOk result (λ was. MatchBool was ((clause_of self.old id ≢ None) × Drops self.old self.new id)
             ((clause_of self.old id ≡ None) × (self.new ≡ self.old))) }
+        ensures judged { OnErr result (clause_of self.old id ≢ None) }
     {
         let Some(place) = self.find(id) else {
             return Ok(false);
@@ -84,15 +84,13 @@ impl Standing {
         Ok(true)
     }
 
-    /// Whether the variable is in a clause of two literals or more. The first time all clauses are looked at, later
-    /// none.
-    pub(crate) fn is_used(&mut self, var: Var) -> Result<bool, AllocError>
-        requires { StandingInvariant self.old }
-        ensures keeps { OnOk result (StandingUnchanged self.old self.new) }
-        ensures used { IfOk result (λ used. MatchBool used (IsUsed self.old var) (IsUsed self.old var → ⊥)) }
+    /// Whether the variable is in a clause of two literals or more. All clauses are looked at until a variable became
+    /// new, and none behind that.
+    pub(crate) fn is_used(&self, var: Var) -> bool
+        requires { StandingInvariant self.now }
+        ensures { MatchBool result (IsUsed self.now var) (IsUsed self.now var → ⊥) }
     {
-        self.uses.begin(&self.present)?;
-        Ok(self.uses.has(var))
+        self.uses.has(&self.present, var)
     }
 
     /// The variable becomes new: its units under ids below this are forgotten.
@@ -102,6 +100,7 @@ impl Standing {
         requires since { SinceWithin self.old bound }
         ensures { OnOk result (RenewsVariable self.old self.new var bound) }
     {
+        self.uses.begin(&self.present)?;
         self.since.set(var.index(), bound, 0)
     }
 }

@@ -1,5 +1,6 @@
 //! Which variables stand in clauses of two literals or more.
 ghost use Rattle.std.specs.Prelude.{◌≡◌, ◌+◌, ◌*◌, ◌≤◌, ◌<◌, ◌^◌, ℕ, OnOk, MatchBool, true, false};
+ghost use Rattle.sat_checker.specs.LiteralSets.{mentions};
 ghost use Rattle.sat_checker.specs.SortedSets.{IsIncreasing};
 ghost use Rattle.sat_checker.specs.inner.OccurrenceView.{count_at};
 ghost use Rattle.sat_hints.specs.inner.Clauses.{times_at, times_long, IsStore};
@@ -10,12 +11,52 @@ use sat_base::{Lit, Var};
 use sat_checker::store::occurrences::Occurrences;
 use std::alloc::{AllocError, Global};
 
-/// How often literals stand in the clauses of two or more that are present. They are counted from the first time on
-/// that it is asked for, so that a text in which no variable becomes new pays nothing.
+/// How often literals stand in the clauses of two or more that are present. They are counted from the first variable
+/// on that becomes new, so that a text in which no variable becomes new pays nothing.
 #[derive(Drop)]
 pub(crate) struct Uses {
     counting: bool,
     counts: Occurrences,
+}
+
+/// Whether the variable is in the clause.
+fn mentions(clause: &[Lit], var: Var) -> bool
+    ensures { result ≡ mentions clause.now var }
+{
+    for lit in clause {
+        if lit.var() == var {
+            return true;
+        }
+    }
+    false
+}
+
+/// Whether the clause has two literals or more, and the variable in one of them.
+fn is_long_with(clause: &[Lit], var: Var) -> bool
+    ensures { MatchBool result (0 < times_long (2 * var) clause.now + times_long (2 * var + 1) clause.now)
+        (times_long (2 * var) clause.now + times_long (2 * var + 1) clause.now ≡ 0) }
+{
+    if clause.len() < 2 {
+        return false;
+    }
+    mentions(clause, var)
+}
+
+/// Whether a clause of two literals or more has the variable.
+fn is_in_long(present: &Present, var: Var) -> bool
+    requires { IsStore present.now }
+    ensures { MatchBool result (0 < times_at present.now (2 * var) + times_at present.now (2 * var + 1))
+        (times_at present.now (2 * var) + times_at present.now (2 * var + 1) ≡ 0) }
+{
+    for place in 0..present.len() {
+        if present.is_gone(place) {
+            continue;
+        }
+        if is_long_with(present.clause(place), var) {
+            return true;
+        }
+    }
+    false
 }
 
 /// Counts the literals of a clause, if it has two or more.
@@ -101,11 +142,16 @@ impl Uses {
         Ok(())
     }
 
-    /// Whether a literal of the variable is counted.
-    pub(crate) fn has(&self, var: Var) -> bool
-        ensures { MatchBool result (0 < uses_at self.now (2 * var) + uses_at self.now (2 * var + 1))
-            (uses_at self.now (2 * var) + uses_at self.now (2 * var + 1) ≡ 0) }
+    /// Whether a clause of two literals or more has the variable. All are looked at where they aren't counted.
+    pub(crate) fn has(&self, present: &Present, var: Var) -> bool
+        requires store { IsStore present.now }
+        requires counted { (l : ℕ) → uses_at self.now l ≡ if_counting self.now.counting (times_at present.now l) }
+        ensures { MatchBool result (0 < times_at present.now (2 * var) + times_at present.now (2 * var + 1))
+            (times_at present.now (2 * var) + times_at present.now (2 * var + 1) ≡ 0) }
     {
+        if !self.counting {
+            return is_in_long(present, var);
+        }
         self.counts.has(var)
     }
 }

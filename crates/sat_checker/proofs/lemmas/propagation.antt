@@ -3,3 +3,4 @@ pub mod Denied
 pub mod Soundness
 pub mod Walking
 pub mod Members
+pub mod InRoom

@@ -7,6 +7,8 @@ pub mod Merging
 pub mod Order
 pub mod Distinct
 pub mod Members
+pub mod Rooms
+pub mod Parts
 pub mod Unmarking
 pub mod Searching
 pub mod Trails

@@ -1,10 +1,12 @@
+pub mod Rooms
 pub mod Keeping
 pub mod Scanning
 pub mod Refiled
 pub mod Units
-pub mod Unnumbered
+pub mod Checks
+pub mod InTurn
 pub mod Living
 pub mod Models
 pub mod Forgetting
 pub mod Kinds
-pub mod Apart
+pub mod InRoom

@@ -7,6 +7,7 @@ use Rattle.sat_base.specs.steps.Steps.{Step}
 use Rattle.sat_checker.specs.Accepts.{Accepts, effect}
 use Rattle.sat_checker.specs.Spent.{IsSpent}
 use Rattle.sat_checker.specs.inner.Reasons.{ExplainsCheck}
+use Rattle.sat_checker.specs.inner.Room.{RoomStays, HasRoomForStored}
 use Rattle.sat_checker.specs.inner.SlotView.{slot_ids}
 use Rattle.sat_checker.specs.inner.StoreView.{KeepsClauses, KeepsHashed, AreIdsInOrder, refiled}
 use Rattle.sat_checker.specs.declared.store.StoreError.{StoreError}
@@ -57,12 +58,14 @@ pub record AreNumbered (ids : List ℕ) (units : List StoredUnit) (last : LastCl
   pub of_units : AreIdsInOrder (map (λ u. u.id) units) next_id
   pub put : LastUnitIsPut last units next_id
 
--- it has these clauses, hashed by these names and of this width, these units, and this is recorded
+-- it has these clauses, hashed by these names and of this width, these units, and this is recorded; there is room for the clauses' literals among what is assumed and among the marks
 pub record KeepsParts (formula : Formula) (kept : List StoredClause) (solver_names : ℕ → Option ℕ) (bits : ℕ) (stored : List StoredUnit) (standing : RestOfStored) : Type 0 where
   pub clauses : KeepsHashed formula.store kept solver_names bits
-  pub units : formula.units ≡ stored
+  pub units : formula.units.units ≡ stored
   pub status : standing_in formula.status ≡ standing
   pub numbered : AreNumbered (slot_ids formula.store.clauses) stored formula.status.last standing.next_id
+  pub room : HasRoomForStored formula.units.room kept
+  pub marks : HasRoomForStored formula.marks.room kept
 
 -- it has what is stored, but for the variables and what is assumed
 abbrev pub KeepsFormula : Formula → Stored → Type 0
@@ -82,20 +85,25 @@ KeepsOrSpends (Err CounterEnd) kept g = IsSpent g
 abbrev pub Becomes : {T : Type 0} → Result T StoreError → Formula → (Stored → Stored) → Formula → Type 0
 Becomes result old change new = (f : Stored) → KeepsFormula old f → KeepsOrSpends result (KeepsFormula new (change f)) (change f)
 
--- It is accepted, and changed so, or it isn't. Where memory is wanted, so much was judged before; where a number is spent, it would be accepted.
-abbrev pub TurnsBehind : Result Bool StoreError → Type 0 → Type 0 → Type 0 → Stored → Type 0
-TurnsBehind (Ok accepted) judged accepts kept g = MatchBool accepted (accepts × kept) (accepts → ⊥)
-TurnsBehind (Err OutOfMemory) judged accepts kept g = judged
-TurnsBehind (Err CounterEnd) judged accepts kept g = accepts × IsSpent g
-
--- nothing is judged before memory is wanted
+-- It is accepted, and changed so, or it isn't; an error comes only where it is accepted.
 abbrev pub TurnsIf : Result Bool StoreError → Type 0 → Type 0 → Stored → Type 0
-TurnsIf result accepts kept g = TurnsBehind result (Unit {0}) accepts kept g
+TurnsIf (Ok accepted) accepts kept g = MatchBool accepted (accepts × kept) (accepts → ⊥)
+TurnsIf (Err OutOfMemory) accepts kept g = accepts
+TurnsIf (Err CounterEnd) accepts kept g = accepts × IsSpent g
 
--- It has these clauses and units, whatever their ids: all that a propagation check looks at.
+-- It has these clauses and units, whatever their ids, and room for the clauses' literals: all that a propagation check needs.
 pub record ChecksAs (formula : Formula) (f : Stored) : Type 0 where
   pub clauses : KeepsClauses formula.store f
-  pub units : map (λ u. u.literal) formula.units ≡ unit_literals f
+  pub units : map (λ u. u.literal) formula.units.units ≡ unit_literals f
+  pub room : HasRoomForStored formula.units.room f.clauses
+
+-- but for notes, marks and more room it's the same
+pub record ChecksBeside (old new : Formula) : Type 0 where
+  pub store : new.store ≡ old.store
+  pub status : new.status ≡ old.status
+  pub units : new.units.units ≡ old.units.units
+  pub room : RoomStays old.units.room new.units.room
+  pub marks : RoomStays old.marks.room new.marks.room
 
 -- a deletion is accepted, and what it leaves is kept, or it's refused
 abbrev pub Deletes : Bool → Formula → Step → Formula → Type 0
@@ -103,4 +111,4 @@ Deletes accepted old step new = (f : Stored) → KeepsFormula old f → MatchBoo
 
 -- what the last propagation check noted explains why the clause passes under these hashes
 abbrev pub Explained : Formula → List ℕ → List ℕ → Type 0
-Explained formula clause hashes = ExplainsCheck formula.store.clauses formula.passed (map (λ u. u.literal) formula.units) clause hashes
+Explained formula clause hashes = ExplainsCheck formula.store.clauses formula.passed (map (λ u. u.literal) formula.units.units) clause hashes

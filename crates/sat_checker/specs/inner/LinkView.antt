@@ -99,5 +99,6 @@ place_before place (p ∷ q ∷ qs) = if q.place == place then Some p.place else
 -- what is kept of pairs of whose hashes so many bits don't tell the head
 pub record AreKeptPairs (heads : List ℕ) (links : List Link) (shift : ℕ) : Type 0 where
   pub linked : AreLinked heads links shift
+  pub some : 0 < length links → 0 < length heads
   pub few : 33 ≤ shift
   pub below : shift < 64

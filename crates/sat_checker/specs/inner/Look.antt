@@ -1,14 +1,16 @@
 -- What the answers of the walk's functions mean.
 use Rattle.std.specs.Prelude.{ℕ, ◌≡◌, ◌≢◌, ◌-◌, ◌≤◌, List, [], length, drop, None, Some}
+use Rattle.sat_checker.specs.inner.Room.{LiteralsAndRoom, RoomStays}
 use Rattle.sat_checker.specs.inner.Walk.{walk}
 pub use Rattle.sat_checker.specs.Verdicts.{verdict_of}
 use Rattle.sat_checker.specs.declared.rup.Walked.{Walked}
 use Rattle.sat_checker.specs.declared.rup.Walked.TheVariants.{Empty, Conflict, Open}
 
--- literals were assumed on top of the old ones
-pub record AssumesMore (old new : List ℕ) : Type 0 where
-  pub longer : length old ≤ length new
-  pub below : drop (length new - length old) new ≡ old
+-- literals were assumed on top of the old ones, and there is room for those that there was room for
+pub record AssumesMore (old new : LiteralsAndRoom) : Type 0 where
+  pub longer : length old.literals ≤ length new.literals
+  pub below : drop (length new.literals - length old.literals) new.literals ≡ old.literals
+  pub room : RoomStays old.room new.room
 
 -- what is said of the walk over a bucket, from the old assumed literals to the new ones
 abbrev pub WalksBucket : Walked → List (List ℕ) → List ℕ → List ℕ → Type 0

@@ -1,18 +1,32 @@
--- Marks by number.
-use Rattle.std.specs.Prelude.{ℕ, ◌≡◌, ◌<◌, ◌+◌, ◌-◌, ◌==◌, Bool, false, List, length, get_or, if◌then◌else◌}
+-- Marks of literals by number.
+use Rattle.std.specs.Prelude.{ℕ, ◌≡◌, ◌<◌, ◌≤◌, ◌+◌, ◌-◌, ◌==◌, Bool, true, List, length, get_or, if◌then◌else◌}
 use Rattle.sat_base.specs.declared.table.Table.{Table}
+use Rattle.sat_base.specs.values.Literals.{negated}
 use Rattle.sat_base.specs.values.Tables.{value_at}
 use Rattle.sat_checker.specs.LiteralSets.{is_among}
+use Rattle.sat_checker.specs.declared.units.assigned.Mark.{Mark}
+use Rattle.sat_checker.specs.declared.units.assigned.Mark.TheVariants as mark
 pub use Rattle.sat_checker.specs.SortedSets.{NoRepeats, IsIncreasing}
 
--- is the number marked?
-abbrev pub is_marked : Table Bool → ℕ → Bool
-is_marked = value_at false
+-- what is marked of a literal
+abbrev pub mark_at : Table Mark → ℕ → Mark
+mark_at = value_at mark.NoRoom
 
--- just the codes of the literals are marked, and no literal stands twice
-pub record AreMarks (marks : Table Bool) (literals : List ℕ) : Type 0 where
-  pub each : (l : ℕ) → is_marked marks l ≡ is_among literals l
+-- the mark of a literal, by whether it's assumed and whether there is room for it
+abbrev pub mark_for : Bool → Bool → Mark
+mark_for assumed roomy = if assumed then mark.Assumed else if roomy then mark.Room else mark.NoRoom
+
+-- the literals are marked as assumed, others by whether there is room for them, and none of the literals stands twice or without room
+pub record AreMarks (marks : Table Mark) (literals room : List ℕ) : Type 0 where
+  pub each : (l : ℕ) → mark_at marks l ≡ mark_for (is_among literals l) (is_among room l)
   pub once : NoRepeats literals
+  pub within : (l : ℕ) → is_among literals l ≡ true → is_among room l ≡ true
+
+-- So many have room, and as many can be held. Where a literal has room, its negation has.
+pub record HoldsRoom (count capacity : ℕ) (room : List ℕ) : Type 0 where
+  pub exact : count ≡ length room
+  pub enough : count ≤ capacity
+  pub paired : (l : ℕ) → is_among room l ≡ is_among room (negated l)
 
 -- The list has lost what stood at a place, where its last one stands now.
 pub record LosesAt (place : ℕ) (old new : List ℕ) : Type 0 where

@@ -6,5 +6,5 @@ use Rattle.sat_checker.specs.declared.rup.needed.Needed.{Needed}
 
 -- just the literals that the conflict rests on are marked, and the ids are those of the clauses needed, the last one first
 pub record IsFollowed (needed : Needed) (g : Ground) : Type 0 where
-  pub marked : (m : ℕ) → is_among needed.marked m ≡ is_among g.literals m
+  pub marked : (m : ℕ) → is_among needed.marked.literals m ≡ is_among g.literals m
   pub ids : needed.ids.items ≡ reverse (map (λ c. c.id) g.clauses)

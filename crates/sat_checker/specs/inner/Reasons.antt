@@ -9,7 +9,7 @@ use Rattle.sat_checker.specs.announcements.Needed.{Ground, ground}
 use Rattle.sat_checker.specs.announcements.Promises.{Reason}
 use Rattle.sat_checker.specs.announcements.Following.{followed_back}
 use Rattle.sat_checker.specs.inner.SlotView.{Slot, slot_at, literals_at, is_filed}
-use Rattle.sat_checker.specs.declared.rup.passed.Passed.{Passed}
+use Rattle.sat_checker.specs.inner.WalkNotes.{WalkNotes}
 use Rattle.sat_checker.specs.declared.rup.passed.Reason as noted
 use Rattle.sat_checker.specs.declared.rup.Walked.{Walked}
 use Rattle.sat_checker.specs.declared.rup.Walked.TheVariants.{Empty, Conflict, Open}
@@ -32,8 +32,8 @@ abbrev pub reason_in : List Slot → noted.Reason → Reason
 reason_in slots r = record { clause = clause_at slots r.place; literal = r.lit }
 
 -- the clauses that made a literal true, in the order passed
-abbrev pub reasons_in : List Slot → Passed → List Reason
-reasons_in slots passed = map (reason_in slots) passed.reasons.items
+abbrev pub reasons_in : List Slot → WalkNotes → List Reason
+reasons_in slots passed = map (reason_in slots) passed.reasons
 
 -- what the falsified clause rests on by itself
 abbrev pub conflict_at : List Slot → Option ℕ → Ground
@@ -41,8 +41,8 @@ conflict_at slots None = record { literals = []; clauses = [] }
 conflict_at slots (Some place) = record { literals = map negated (clause_at slots place).literals; clauses = clause_at slots place ∷ [] }
 
 -- each place that was noted is there
-abbrev pub AreNotedPlaces : List Slot → Passed → Type 0
-AreNotedPlaces slots passed = AllByRecursion (λ r. r.place < length slots) passed.reasons.items
+abbrev pub AreNotedPlaces : List Slot → WalkNotes → Type 0
+AreNotedPlaces slots passed = AllByRecursion (λ r. r.place < length slots) passed.reasons
 
 -- the falsified clause was noted, and is there
 abbrev pub IsConflictPlace : List Slot → Option ℕ → Type 0
@@ -55,43 +55,43 @@ conflict_length slots None = 0
 conflict_length slots (Some place) = length (literals_at slots place)
 
 -- the number of literals of the clauses that were noted: those that made a literal true, and the falsified one
-abbrev pub noted_length : List Slot → Passed → ℕ
-noted_length slots passed = total_length (map (λ r. literals_at slots r.place) passed.reasons.items) + conflict_length slots passed.conflict
+abbrev pub noted_length : List Slot → WalkNotes → ℕ
+noted_length slots passed = total_length (map (λ r. literals_at slots r.place) passed.reasons) + conflict_length slots passed.conflict
 
 -- From the old notes, under the assumed literals and before these clauses, the walk came to the new notes, under more literals and before those that are left: what the conflict rests on is the same.
-pub record KeepsGround (slots : List Slot) (old : Passed) (assumed : List ℕ) (clauses : List StoredClause) (new : Passed) (more : List ℕ) (left : List StoredClause) : Type 0 where
+pub record KeepsGround (slots : List Slot) (old : WalkNotes) (assumed : List ℕ) (clauses : List StoredClause) (new : WalkNotes) (more : List ℕ) (left : List StoredClause) : Type 0 where
   pub same : (rest : List StoredClause) →
       followed_back (reasons_in slots old) (ground assumed (clauses ++ rest)) ≡ followed_back (reasons_in slots new) (ground more (left ++ rest))
   pub there : AreNotedPlaces slots old → AreNotedPlaces slots new
 
 -- The walk met its conflict in these clauses, and the notes explain it.
-pub record MeetsConflict (slots : List Slot) (old : Passed) (assumed : List ℕ) (clauses : List StoredClause) (new : Passed) : Type 0 where
+pub record MeetsConflict (slots : List Slot) (old : WalkNotes) (assumed : List ℕ) (clauses : List StoredClause) (new : WalkNotes) : Type 0 where
   pub same : (rest : List StoredClause) →
       followed_back (reasons_in slots old) (ground assumed (clauses ++ rest)) ≡ followed_back (reasons_in slots new) (conflict_at slots new.conflict)
   pub there : AreNotedPlaces slots old → AreNotedPlaces slots new
   pub met : IsConflictPlace slots new.conflict
 
 -- by whether it met its conflict
-abbrev pub NotesReasons : List Slot → Bool → Passed → List ℕ → List StoredClause → Passed → List ℕ → Type 0
+abbrev pub NotesReasons : List Slot → Bool → WalkNotes → List ℕ → List StoredClause → WalkNotes → List ℕ → Type 0
 NotesReasons slots true old assumed clauses new more = MeetsConflict slots old assumed clauses new
 NotesReasons slots false old assumed clauses new more = KeepsGround slots old assumed clauses new more []
 
 -- by how it ended over a bucket
-abbrev pub RecordsWalk : List Slot → Walked → Passed → List ℕ → List StoredClause → Passed → List ℕ → Type 0
+abbrev pub RecordsWalk : List Slot → Walked → WalkNotes → List ℕ → List StoredClause → WalkNotes → List ℕ → Type 0
 RecordsWalk slots Empty old assumed clauses new more = Unit {0}
 RecordsWalk slots Conflict old assumed clauses new more = MeetsConflict slots old assumed clauses new
 RecordsWalk slots Open old assumed clauses new more = KeepsGround slots old assumed clauses new more []
 
 -- The notes explain what the conflict of these clauses rests on, under the assumed literals.
-pub record Explains (slots : List Slot) (passed : Passed) (whole : Ground) : Type 0 where
+pub record Explains (slots : List Slot) (passed : WalkNotes) (whole : Ground) : Type 0 where
   pub same : whole ≡ followed_back (reasons_in slots passed) (conflict_at slots passed.conflict)
   pub there : AreNotedPlaces slots passed
   pub met : IsConflictPlace slots passed.conflict
 
 -- They do so unless the clause has both signs of a variable or a unit in it.
-abbrev pub ExplainsUnless : List Slot → Passed → List ℕ → List ℕ → Ground → Type 0
+abbrev pub ExplainsUnless : List Slot → WalkNotes → List ℕ → List ℕ → Ground → Type 0
 ExplainsUnless slots passed units clause whole = list_any (is_among units) clause ≡ false → is_tautology clause ≡ false → Explains slots passed whole
 
 -- They do so of the check of a clause by these hashes, under the assumed literals.
-abbrev pub ExplainsCheck : List Slot → Passed → List ℕ → List ℕ → List ℕ → Type 0
+abbrev pub ExplainsCheck : List Slot → WalkNotes → List ℕ → List ℕ → List ℕ → Type 0
 ExplainsCheck slots passed assumed clause hashes = ExplainsUnless slots passed assumed clause (ground (map negated clause ++ assumed) (named hashes slots))

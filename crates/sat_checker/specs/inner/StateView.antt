@@ -5,9 +5,8 @@ use Rattle.sat_base.specs.steps.Steps.{Step}
 use Rattle.sat_checker.specs.LiteralSets.{canonical}
 use Rattle.sat_checker.specs.Stored.{Stored}
 use Rattle.sat_checker.specs.Accepts.{Accepts, effect}
-use Rattle.sat_checker.specs.Judging.{JudgedBefore}
 use Rattle.sat_checker.specs.Looks.{most_looks}
-use Rattle.sat_checker.specs.inner.FormulaView.{KeepsFormula, refiled_in, TurnsBehind, KeepsOrSpends}
+use Rattle.sat_checker.specs.inner.FormulaView.{KeepsFormula, refiled_in, TurnsIf, KeepsOrSpends}
 use Rattle.sat_checker.specs.inner.Looking.{LooksOver}
 use Rattle.sat_checker.specs.inner.VariablesView.{KeepsVariables}
 use Rattle.sat_checker.specs.declared.state.State.{State}
@@ -25,9 +24,9 @@ pub record KeepsFiled (state : State) (f : Stored) : Type 0 where
   pub variables : KeepsVariables state.variables f.variables
   pub assumed : state.assumed ≡ canonical f.assumed
 
--- Whatever state was kept, a step that it accepts is one that the definition accepts, and what the step leaves is kept then. One that it refuses is one that the definition refuses, and where memory is wanted, what is judged before was found right.
+-- Whatever state was kept, a step that it accepts is one that the definition accepts, and what the step leaves is kept then. One that it refuses is one that the definition refuses, and it gives an error only for one that the definition accepts.
 abbrev pub Decides : Result Bool StoreError → State → Step → State → Type 0
-Decides result old step new = (f : Stored) → KeepsStored old f → TurnsBehind result (JudgedBefore f step) (Accepts f step) (KeepsStored new (effect step f)) (effect step f)
+Decides result old step new = (f : Stored) → KeepsStored old f → TurnsIf result (Accepts f step) (KeepsStored new (effect step f)) (effect step f)
 
 -- what an answer says where the state, of which all clauses are filed, is changed so
 abbrev pub ChangesStored : {T : Type 0} → Result T StoreError → State → (Stored → Stored) → State → Type 0

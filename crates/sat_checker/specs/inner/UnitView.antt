@@ -7,6 +7,11 @@ use Rattle.sat_checker.specs.Storing.{unit_id}
 use Rattle.sat_checker.specs.inner.LitNumbers.{number_at, AreTrailPlaces}
 use Rattle.sat_checker.specs.declared.units.lit_numbers.LitNumbers.{LitNumbers}
 
+-- the units in the order in which they were stored, and the literals that there is room for
+pub record UnitsAndRoom : Type 0 where
+  pub units : List StoredUnit
+  pub room : List ℕ
+
 -- just the units are assumed, in any order; by each literal stand its unit's id and, where it's assumed, its place on the trail
 pub record UnitsInvariant (units : List StoredUnit) (ids places : LitNumbers) (assigned : List ℕ) : Type 0 where
   pub assumed : (l : ℕ) → is_among assigned l ≡ is_among (map (λ u. u.literal) units) l

@@ -241,9 +241,9 @@ impl Formula {
         notes: &mut Notes,
         looks: &mut Looks,
     ) -> Result<(), AllocError>
-        requires explained { (hashes : List ℕ) × Explained self.now clause.now hashes }
+        requires explained { self.now.passed.lost ≡ false → (hashes : List ℕ) × Explained self.now clause.now hashes }
         ensures noted { OnOk result ((f : Stored) (hashes : List ℕ) → KeepsFormula self.now f → AreLong f
-            → Explained self.now clause.now hashes
+            → (self.now.passed.lost ≡ false → Explained self.now clause.now hashes)
             → AppendsNews notes.old (derived redundant clause.now hashes f) notes.new) }
         ensures looks { LooksOver (KeepsFormula self.now)
             (λ f. noted_length self.now.store.clauses self.now.passed + literal_count f) looks.old looks.new }
@@ -263,9 +263,9 @@ impl Formula {
         notes: &mut Notes,
         looks: &mut Looks,
     ) -> Result<(), AllocError>
-        requires explained { (hashes : List ℕ) × Explained self.now clause.now hashes }
+        requires explained { self.now.passed.lost ≡ false → (hashes : List ℕ) × Explained self.now clause.now hashes }
         ensures noted { OnOk result ((f : Stored) (hashes : List ℕ) → KeepsFormula self.now f → AreLong f
-            → Explained self.now clause.now hashes
+            → (self.now.passed.lost ≡ false → Explained self.now clause.now hashes)
             → AppendsNews notes.old (derived redundant clause.now hashes f) notes.new) }
         ensures looks { LooksOver (KeepsFormula self.now)
             (λ f. noted_length self.now.store.clauses self.now.passed + literal_count f) looks.old looks.new }
@@ -306,9 +306,9 @@ impl Formula {
         notes: &mut Notes,
         looks: &mut Looks,
     ) -> Result<(), AllocError>
-        requires explained { (hashes : List ℕ) × Explained self.now (lit ∷ []) hashes }
+        requires explained { self.now.passed.lost ≡ false → (hashes : List ℕ) × Explained self.now (lit ∷ []) hashes }
         ensures noted { OnOk result ((f : Stored) (hashes : List ℕ) → KeepsFormula self.now f → AreLong f
-            → Explained self.now (lit ∷ []) hashes
+            → (self.now.passed.lost ≡ false → Explained self.now (lit ∷ []) hashes)
             → AppendsNews notes.old (derived false (lit ∷ []) hashes f) notes.new) }
         ensures hears { notes.new.hears ≡ notes.old.hears }
         ensures looks { LooksUpTo (noted_length self.now.store.clauses self.now.passed) looks.old looks.new }
@@ -340,9 +340,9 @@ impl Formula {
         looks: &mut Looks,
     ) -> Result<(), AllocError>
         requires denied { denied.now ≡ map negated core.now }
-        requires explained { (hashes : List ℕ) × Explained self.now denied.now hashes }
+        requires explained { self.now.passed.lost ≡ false → (hashes : List ℕ) × Explained self.now denied.now hashes }
         ensures noted { OnOk result ((f : Stored) (hashes : List ℕ) → KeepsFormula self.now f
-            → Explained self.now denied.now hashes
+            → (self.now.passed.lost ≡ false → Explained self.now denied.now hashes)
             → AppendsNews notes.old (announced f (FailedAssumptions core.now hashes)) notes.new) }
         ensures looks { LooksUpTo (noted_length self.now.store.clauses self.now.passed) looks.old looks.new }
     {

@@ -1,5 +1,5 @@
 //! What a conflict rests on, followed backwards over the notes of a walk.
-ghost use Rattle.std.specs.Prelude.{ℕ, ◌≡◌, ◌+◌, ◌<◌, ◌==◌, ◌||◌, [], map, length, OnOk, Some};
+ghost use Rattle.std.specs.Prelude.{ℕ, ◌≡◌, ◌+◌, ◌<◌, ◌==◌, ◌||◌, [], map, length, OnOk, Some, false};
 ghost use Rattle.sat_base.specs.values.Literals.{negated};
 ghost use Rattle.sat_checker.specs.LiteralSets.{is_among};
 ghost use Rattle.sat_checker.specs.announcements.Needed.{Ground, others_denied, with_reason, needed_units};
@@ -28,7 +28,8 @@ pub(crate) struct Needed {
 
 #[tactic(auto, using(crate::proofs::lemmas::announcements::Marking::marking))]
 fn mark(marked: &mut Assigned, lit: Lit) -> Result<(), AllocError>
-    ensures marked { OnOk result ((m : ℕ) → is_among marked.new m ≡ (lit == m || is_among marked.old m)) }
+    ensures marked { OnOk result ((m : ℕ) → is_among marked.new.literals m
+        ≡ (lit == m || is_among marked.old.literals m)) }
 {
     if marked.is_true(lit) {
         return Ok(());
@@ -39,8 +40,8 @@ fn mark(marked: &mut Assigned, lit: Lit) -> Result<(), AllocError>
 /// Marks the negations of a clause's literals.
 #[tactic(auto, using(crate::proofs::lemmas::announcements::Marking::marking))]
 pub(crate) fn mark_all(marked: &mut Assigned, clause: &[Lit]) -> Result<(), AllocError>
-    ensures marked { OnOk result ((m : ℕ) → is_among marked.new m
-        ≡ (is_among (map negated clause.now) m || is_among marked.old m)) }
+    ensures marked { OnOk result ((m : ℕ) → is_among marked.new.literals m
+        ≡ (is_among (map negated clause.now) m || is_among marked.old.literals m)) }
 {
     for lit in clause {
         mark(marked, !*lit)?;
@@ -51,8 +52,8 @@ pub(crate) fn mark_all(marked: &mut Assigned, clause: &[Lit]) -> Result<(), Allo
 /// Marks the negations of a clause's literals other than this one.
 #[tactic(auto, using(crate::proofs::lemmas::announcements::Marking::marking))]
 fn mark_others(marked: &mut Assigned, clause: &[Lit], made: Lit) -> Result<(), AllocError>
-    ensures marked { OnOk result
-        ((m : ℕ) → is_among marked.new m ≡ (is_among (others_denied made clause.now) m || is_among marked.old m)) }
+    ensures marked { OnOk result ((m : ℕ) → is_among marked.new.literals m
+        ≡ (is_among (others_denied made clause.now) m || is_among marked.old.literals m)) }
 {
     for lit in clause {
         if *lit == made {
@@ -72,9 +73,9 @@ fn list_units(
     ids: &mut Vec<u64>,
 ) -> Result<(), AllocError>
     requires { ids.old.items ≡ [] }
-    ensures { OnOk result ((g : Ground) → ((m : ℕ) → is_among marked.now m ≡ is_among g.literals m)
-        → IsIncreasing (map (λ u. u.id) units.now)
-        → ids.new.items ≡ map (λ u. u.id) (needed_units denied.now g units.now)) }
+    ensures { OnOk result ((g : Ground) → ((m : ℕ) → is_among marked.now.literals m ≡ is_among g.literals m)
+        → IsIncreasing (map (λ u. u.id) units.now.units)
+        → ids.new.items ≡ map (λ u. u.id) (needed_units denied.now.literals g units.now.units)) }
 {
     units.stand_once();
     for lit in marked.literals() {
@@ -91,7 +92,7 @@ fn list_units(
 
 impl Needed {
     pub fn new(alloc: Global) -> Needed
-        ensures marked { result.marked ≡ [] }
+        ensures marked { result.marked.literals ≡ [] }
         ensures none { result.ids.items ≡ [] }
     {
         Needed {
@@ -154,17 +155,19 @@ impl Needed {
     ) -> Result<(), AllocError>
         requires there { AreNotedPlaces clauses.now passed.now }
         requires met { IsConflictPlace clauses.now passed.now.conflict }
+        requires whole { passed.now.lost ≡ false }
         ensures followed { OnOk result
             ((whole : Ground) → Explains clauses.now passed.now whole → IsFollowed self.new whole) }
         ensures looks { LooksUpTo (noted_length clauses.now passed.now) looks.old looks.new }
     {
-        let Some(place) = passed.conflict else {
+        let Some(place) = passed.conflict() else {
             return Ok(());
         };
         self.begin(clauses, place, looks)?;
-        let count = passed.reasons.len();
+        let reasons = passed.reasons();
+        let count = reasons.len();
         for done in 0..count {
-            let reason = passed.reasons[count - 1 - done];
+            let reason = reasons[count - 1 - done];
             self.follow(clauses, reason, looks)?;
         }
         Ok(())
@@ -179,7 +182,8 @@ impl Needed {
     ) -> Result<(), AllocError>
         requires { ids.old.items ≡ [] }
         ensures { OnOk result ((g : Ground) → IsFollowed self.old g
-            → IsIncreasing (map (λ u. u.id) units.now) → ids.new.items ≡ conflict_ids denied.now g units.now) }
+            → IsIncreasing (map (λ u. u.id) units.now.units)
+            → ids.new.items ≡ conflict_ids denied.now.literals g units.now.units) }
     {
         list_units(&self.marked, denied, units, ids)?;
         self.ids.reverse();

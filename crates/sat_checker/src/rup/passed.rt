@@ -1,8 +1,10 @@
 //! What a walk notes: the clauses that it took.
-ghost use Rattle.std.specs.Prelude.{◌≡◌, ◌++◌, ◌∷◌, [], None, OnOk};
+ghost use Rattle.std.specs.Prelude.{◌≡◌, ◌++◌, ◌∷◌, [], None, Some, true, false};
 
+use crate::rup::noted::Noted;
 use sat_base::Lit;
-use std::alloc::{AllocError, Global};
+use std::alloc::Global;
+use std::marker::Model;
 
 /// The place of a clause that made a literal true.
 #[derive(Clone, Copy)]
@@ -11,40 +13,94 @@ pub(crate) struct Reason {
     pub(crate) lit: Lit,
 }
 
-/// The reasons in the order passed, and the place of the clause that was falsified.
+/// The reasons in the order passed, and the place of the clause that was falsified. Contracts see all reasons, also
+/// where memory was wanted for one.
 #[derive(Drop)]
 pub(crate) struct Passed {
-    pub(crate) reasons: Vec<Reason>,
-    pub(crate) conflict: Option<usize>,
+    reasons: Vec<Reason>,
+    conflict: Option<usize>,
+    /// Whether the notes are of no use, since memory was wanted for one of them or for what the walk started from.
+    lost: bool,
+    noted: Noted,
+}
+
+impl Model for Passed {
+    ghost use Rattle.std.specs.Prelude.{◌≡◌, false};
+    ghost use Rattle.sat_checker.specs.inner.WalkNotes.{WalkNotes};
+
+    ghost Value = { WalkNotes };
+
+    ghost view = { λ s. record { reasons = s.noted.reasons; conflict = s.conflict; lost = s.lost } };
+
+    ghost invariant = { λ s. s.lost ≡ false → s.reasons.items ≡ s.noted.reasons };
 }
 
 impl Passed {
     pub fn new(alloc: Global) -> Passed
-        ensures reasons { result.reasons.items ≡ [] }
-        ensures conflict { result.conflict ≡ None }
+        ensures { result ≡ record { reasons = []; conflict = None; lost = false } }
     {
         Passed {
             reasons: Vec::new(alloc),
             conflict: None,
+            lost: false,
+            noted: Noted::new(),
         }
     }
 
     /// Forgets all, and keeps the room that it took.
     pub fn clear(&mut self)
-        ensures reasons { self.new.reasons.items ≡ [] }
-        ensures conflict { self.new.conflict ≡ None }
+        ensures { self.new ≡ record { reasons = []; conflict = None; lost = false } }
     {
         self.reasons.clear();
         self.conflict = None;
+        self.lost = false;
+        self.noted = Noted::new();
     }
 
-    /// Notes that the clause at a place made a literal true.
-    pub fn note(&mut self, place: usize, lit: Lit) -> Result<(), AllocError>
-        ensures noted { OnOk result (self.new.reasons.items
-            ≡ self.old.reasons.items ++ (record { place = place; lit = lit }) ∷ []) }
+    /// WalkNotes that the clause at a place made a literal true.
+    pub fn note(&mut self, place: usize, lit: Lit)
+        ensures reasons { self.new.reasons ≡ self.old.reasons ++ (record { place = place; lit = lit }) ∷ [] }
         ensures conflict { self.new.conflict ≡ self.old.conflict }
     {
-        self.reasons.push(Reason { place, lit })?;
-        Ok(())
+        if self.reasons.push(Reason { place, lit }).is_err() {
+            self.lost = true;
+        }
+        self.noted = self.noted.and(place, lit.code());
+    }
+
+    /// WalkNotes that the clause at a place was falsified.
+    pub fn end_at(&mut self, place: usize)
+        ensures { self.new ≡ record self.old { conflict = Some place } }
+    {
+        self.conflict = Some(place);
+    }
+
+    /// The notes don't tell what the walk started from.
+    pub fn lose(&mut self)
+        ensures { self.new ≡ record self.old { lost = true } }
+    {
+        self.lost = true;
+    }
+
+    /// Whether the notes are of no use.
+    pub fn is_lost(&self) -> bool
+        ensures { result ≡ self.now.lost }
+    {
+        self.lost
+    }
+
+    /// The place of the clause that was falsified.
+    pub fn conflict(&self) -> Option<usize>
+        ensures { result ≡ self.now.conflict }
+    {
+        self.conflict
+    }
+
+    /// The reasons, where the notes are of use.
+    pub fn reasons(&self) -> &[Reason]
+        requires { self.now.lost ≡ false }
+        ensures { result.now ≡ self.now.reasons }
+    {
+        &self.reasons
     }
 }

@@ -1,5 +1,5 @@
 //! The ids that a clause rests on which passed the propagation check. They are listed where somebody listens.
-ghost use Rattle.std.specs.Prelude.{ℕ, List, ◌≡◌, ◌+◌, ◌++◌, [], map, OnOk};
+ghost use Rattle.std.specs.Prelude.{ℕ, List, ◌≡◌, ◌+◌, ◌++◌, [], map, OnOk, false};
 ghost use Rattle.sat_base.specs.values.Literals.{negated};
 ghost use Rattle.sat_checker.specs.LiteralSets.{canonical};
 ghost use Rattle.sat_checker.specs.Stored.{Stored};
@@ -45,8 +45,8 @@ impl Propagations {
         &self.ids
     }
 
-    /// Lists the propagations of a clause that passed the check, by what the check noted. These are its sorted
-    /// literals.
+    /// Lists the propagations of a clause that passed the check, by what the check noted, of which nothing may be
+    /// missing. These are its sorted literals.
     #[inline(never)]
     pub fn list(
         &mut self,
@@ -58,15 +58,20 @@ impl Propagations {
         looks: &mut Looks,
     ) -> Result<(), AllocError>
         requires canonical { literals.now ≡ canonical clause.now }
-        requires explained { (whole : Ground)
-            × ExplainsUnless store.now.clauses passed.now (map (λ u. u.literal) units.now) clause.now whole }
-        ensures listed { OnOk result ((f : Stored) (hashes : List ℕ) → KeepsClauses store.now f → units.now ≡ f.units
-            → ExplainsUnless store.now.clauses passed.now (map (λ u. u.literal) units.now) clause.now
-            (ground (map negated clause.now ++ map (λ u. u.literal) units.now) (named hashes store.now.clauses))
+        requires explained { passed.now.lost ≡ false → (whole : Ground)
+            × ExplainsUnless store.now.clauses passed.now (map (λ u. u.literal) units.now.units) clause.now whole }
+        ensures listed { OnOk result
+            ((f : Stored) (hashes : List ℕ) → KeepsClauses store.now f → units.now.units ≡ f.units
+            → (passed.now.lost ≡ false
+            → ExplainsUnless store.now.clauses passed.now (map (λ u. u.literal) units.now.units) clause.now
+            (ground (map negated clause.now ++ map (λ u. u.literal) units.now.units) (named hashes store.now.clauses)))
             → IsIncreasing (map (λ u. u.id) f.units) → self.new.ids.items ≡ propagations f clause.now hashes) }
         ensures looks { LooksUpTo (noted_length store.now.clauses passed.now) looks.old looks.new }
     {
         self.ids.clear();
+        if passed.is_lost() {
+            return Err(AllocError);
+        }
         if has_both_signs(literals) {
             return Ok(());
         }
@@ -87,11 +92,12 @@ impl Propagations {
         looks: &mut Looks,
     ) -> Result<(), AllocError>
         requires empty { self.old.ids.items ≡ [] }
+        requires whole { passed.now.lost ≡ false }
         requires there { AreNotedPlaces store.now.clauses passed.now }
         requires met { IsConflictPlace store.now.clauses passed.now.conflict }
         ensures listed { OnOk result ((whole : Ground) → Explains store.now.clauses passed.now whole
-            → IsIncreasing (map (λ u. u.id) units.now)
-            → self.new.ids.items ≡ conflict_ids (map negated clause.now) whole units.now) }
+            → IsIncreasing (map (λ u. u.id) units.now.units)
+            → self.new.ids.items ≡ conflict_ids (map negated clause.now) whole units.now.units) }
         ensures looks { LooksUpTo (noted_length store.now.clauses passed.now) looks.old looks.new }
     {
         self.needed.follow_all(&store.clauses, passed, looks)?;

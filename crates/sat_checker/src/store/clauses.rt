@@ -1,6 +1,6 @@
 //! The stored clauses of two literals or more.
 ghost use Rattle.std.specs.Prelude.{◌≡◌, ◌+◌, ◌*◌, ◌<◌, ◌≤◌, ◌^◌, [], ◌∷◌, ◌++◌, length, true, false, None, OnOk};
-ghost use Rattle.std.specs.Prelude.{OnErr, IfSome};
+ghost use Rattle.std.specs.Prelude.{OnErr, IfSome, vec_capacity};
 ghost use Rattle.std.specs.List.{AllByRecursion, list_any};
 ghost use Rattle.sat_checker.specs.inner.Looking.{LooksUpTo};
 ghost use Rattle.sat_checker.specs.inner.ModelTests.{are_all_true, irredundant_length};
@@ -10,8 +10,9 @@ ghost use Rattle.sat_checker.specs.inner.SlotView.{slot_at, literals_at, all_lit
 ghost use Rattle.sat_checker.specs.inner.SlotView.{without_count_at, slot_count, is_gone, gone_count, slots_present};
 ghost use Rattle.sat_checker.specs.inner.SlotView.{MayDrop, IsPresentAt, slot_ids, places_of, bucket_in, is_same_at};
 ghost use Rattle.sat_checker.specs.inner.SlotView.{found_among, hashed_anew, live, live_length};
-ghost use Rattle.sat_checker.specs.Storing.{clause_numbered};
-ghost use Rattle.sat_checker.specs.LiteralSets.{mentions, is_among};
+ghost use Rattle.sat_checker.specs.Storing.{clause_numbered, clause_with};
+ghost use Rattle.sat_checker.specs.LiteralSets.{mentions, is_among, canonical};
+ghost use Rattle.sat_checker.specs.inner.StoreView.{count_in};
 ghost use Rattle.sat_checker.specs.inner.PairView.{first_of, places_behind};
 ghost use Rattle.sat_checker.specs.inner.IndexView.{Files, pairs_of};
 ghost use Rattle.sat_checker.specs.inner.OccurrenceView.{SlotsInvariant};
@@ -24,7 +25,7 @@ use crate::store::occurrences::Occurrences;
 use crate::store::slots::{Slots, in_buffer};
 use crate::store::sorted_pairs::{SortedPairs, sorted};
 use crate::units::assigned::Assigned;
-use crate::units::valuation::makes_true;
+use crate::units::valuation::{has_just_assumed, makes_true};
 use sat_base::{ClauseHash, HashBits, Lit, Var};
 use std::alloc::{AllocError, Global};
 use std::marker::Model;
@@ -36,6 +37,8 @@ pub struct Clauses {
     slots: Slots,
     index: SortedPairs,
     occurrences: Occurrences,
+    /// Room for a pair of each place, so that filing all anew takes no memory.
+    spare: Vec<Pair>,
     /// How many are gone.
     gone: usize,
     /// How many literals of those lie in the buffer. Nothing but the time of a compaction hangs on it.
@@ -43,7 +46,7 @@ pub struct Clauses {
 }
 
 impl Model for Clauses {
-    ghost use Rattle.std.specs.Prelude.{List, ◌≡◌};
+    ghost use Rattle.std.specs.Prelude.{List, ◌≡◌, ◌≤◌, [], length, vec_capacity};
     ghost use Rattle.sat_checker.specs.inner.SlotView.{Slot, gone_count};
     ghost use Rattle.sat_checker.specs.inner.OccurrenceView.{SlotsInvariant};
 
@@ -51,7 +54,8 @@ impl Model for Clauses {
 
     ghost view = { λ s. s.slots };
 
-    ghost invariant = { λ s. SlotsInvariant s.slots s.index s.occurrences × (s.gone ≡ gone_count s.slots) };
+    ghost invariant = { λ s. SlotsInvariant s.slots s.index s.occurrences × (s.gone ≡ gone_count s.slots)
+        × (length s.slots ≤ vec_capacity s.spare) × (s.spare.items ≡ []) };
 }
 
 impl Clauses {
@@ -63,6 +67,7 @@ impl Clauses {
             slots: Slots::new(alloc),
             index: SortedPairs::new(alloc),
             occurrences: Occurrences::new(alloc),
+            spare: Vec::new(alloc),
             gone: 0,
             unused: 0,
         }
@@ -174,7 +179,7 @@ impl Clauses {
 
     /// Whether each clause that stands as irredundant has an assumed literal.
     pub fn are_satisfied(&self, assigned: &Assigned, looks: &mut Looks) -> bool
-        ensures found { result ≡ are_all_true assigned.now (live self.now) }
+        ensures found { result ≡ are_all_true assigned.now.literals (live self.now) }
         ensures looks { LooksUpTo (live_length self.now) looks.old looks.new }
         // All irredundant ones were looked at where they are.
         ensures all { result ≡ true → looks.new ≡ looks.old + irredundant_length (live self.now) }
@@ -190,7 +195,24 @@ impl Clauses {
         true
     }
 
-    /// Puts a clause with one count behind the others. Where memory is wanted none is left.
+    /// How often the clause of just the assumed literals stands as redundant, or as irredundant. It is found without
+    /// its hash.
+    pub fn assumed_count(&self, redundant: bool, assigned: &Assigned, looks: &mut Looks) -> u64
+        ensures found { result ≡ count_in redundant (clause_with (canonical assigned.now.literals) (live self.now)) }
+        ensures looks { LooksUpTo (live_length self.now) looks.old looks.new }
+    {
+        for place in 0..self.slots.len() {
+            if self.slots.is_gone(place) {
+                continue;
+            }
+            if has_just_assumed(assigned, self.slots.literals(place, looks)) {
+                return self.slots.count(place, redundant);
+            }
+        }
+        0
+    }
+
+    /// Puts a clause with one count behind the others. Where memory is wanted all stay, or none is left.
     pub fn push(
         &mut self,
         id: u64,
@@ -202,6 +224,7 @@ impl Clauses {
         ensures { OnOk result (self.new ≡ self.old ++ stored_slot redundant id hash literals.now ∷ []) }
     {
         let alloc = self.alloc;
+        self.spare.reserve(self.index.places() + 1)?;
         let added = add(
             &mut self.slots,
             &mut self.index,
@@ -218,17 +241,18 @@ impl Clauses {
         Ok(())
     }
 
-    /// Files all clauses anew, by the hashes of this hasher. Where memory is wanted none is left.
-    pub fn rehash(&mut self, hasher: &ClauseHasher, looks: &mut Looks) -> Result<(), AllocError>
-        ensures hashed { OnOk result (self.new ≡ hashed_anew hasher.now self.old) }
+    /// Files all clauses anew, by the hashes of this hasher. It takes no memory.
+    pub fn rehash(&mut self, hasher: &ClauseHasher, looks: &mut Looks)
+        ensures hashed { self.new ≡ hashed_anew hasher.now self.old }
         ensures looks { LooksUpTo (live_length self.old) looks.old looks.new }
     {
-        let alloc = self.alloc;
-        if file_all(alloc, &mut self.slots, hasher, &mut self.index, looks).is_err() {
-            *self = Clauses::new(alloc);
-            return Err(AllocError);
-        }
-        Ok(())
+        file_all(
+            &mut self.slots,
+            hasher,
+            &mut self.index,
+            &mut self.spare,
+            looks,
+        );
     }
 
     /// One count more of a clause that isn't gone.
@@ -267,7 +291,12 @@ impl Clauses {
         if self.gone <= self.slots.len() / 2 && self.unused <= self.slots.buffered() / 2 {
             return Ok(());
         }
-        drop_gone(self.alloc, &mut self.slots, &mut self.index)?;
+        drop_gone(
+            self.alloc,
+            &mut self.slots,
+            &mut self.index,
+            &mut self.spare,
+        )?;
         self.gone = 0;
         self.unused = 0;
         Ok(())
@@ -305,17 +334,14 @@ fn add(
     Ok(())
 }
 
-/// Hashes the clauses that aren't gone, and lists the pairs of their mixed hashes and places.
+/// Hashes the clauses that aren't gone, and lists the pairs of their mixed hashes and places. There is room for them.
 #[tactic(auto, using(crate::proofs::lemmas::store::Rehashing::filing))]
-fn hash_all(
-    slots: &mut Slots,
-    hasher: &ClauseHasher,
-    pairs: &mut Vec<Pair>,
-    looks: &mut Looks,
-) -> Result<(), AllocError>
-    requires { pairs.old.items ≡ [] }
-    ensures hashed { OnOk result (slots.new ≡ hashed_anew hasher.now slots.old) }
-    ensures pairs { OnOk result (pairs.new.items ≡ pairs_of (hashed_anew hasher.now slots.old)) }
+fn hash_all(slots: &mut Slots, hasher: &ClauseHasher, pairs: &mut Vec<Pair>, looks: &mut Looks)
+    requires room { length slots.old ≤ vec_capacity pairs.old }
+    requires none { pairs.old.items ≡ [] }
+    ensures hashed { slots.new ≡ hashed_anew hasher.now slots.old }
+    ensures pairs { pairs.new.items ≡ pairs_of (hashed_anew hasher.now slots.old) }
+    ensures room { vec_capacity pairs.new ≡ vec_capacity pairs.old }
     ensures looks { LooksUpTo (live_length slots.old) looks.old looks.new }
 {
     for place in 0..slots.len() {
@@ -323,13 +349,12 @@ fn hash_all(
             continue;
         }
         let hash = hasher.clause_hash(slots.literals(place, looks));
-        pairs.push(Pair {
+        pairs.push_reserved(Pair {
             hash: mixed(hash),
             place,
-        })?;
+        });
         slots.set_hash(place, hash);
     }
-    Ok(())
 }
 
 /// Lists the pairs of the clauses that aren't gone, by the places that they have once the others are dropped.
@@ -353,38 +378,52 @@ fn list_standing(
     Ok(())
 }
 
-/// Drops the clauses that are gone, and files the others by their new places. Where memory is wanted all stay.
-fn drop_gone(alloc: Global, slots: &mut Slots, index: &mut SortedPairs) -> Result<(), AllocError>
+/// Drops the clauses that are gone, and files the others by their new places. Where memory is wanted all stay. Behind
+/// that there is room for a pair of each place left.
+fn drop_gone(
+    alloc: Global,
+    slots: &mut Slots,
+    index: &mut SortedPairs,
+    spare: &mut Vec<Pair>,
+) -> Result<(), AllocError>
     requires { Files index.old slots.old }
     ensures left { OnOk result (slots.new ≡ slots_present slots.old) }
     ensures filed { OnOk result (Files index.new (slots_present slots.old)) }
-    ensures err { OnErr result ((slots.new ≡ slots.old) × (index.new ≡ index.old)) }
+    ensures room { OnOk result (length slots.new ≤ vec_capacity spare.new) }
+    ensures none { OnOk result (spare.new.items ≡ []) }
+    ensures err { OnErr result ((slots.new ≡ slots.old) × (index.new ≡ index.old) × (spare.new ≡ spare.old)) }
 {
     let mut pairs = Vec::new(alloc);
     list_standing(slots, index, &mut pairs)?;
     let mut left = Slots::new(alloc);
     left.push_standing(slots)?;
-    *index = sorted(alloc, pairs, left.len())?;
+    *index = sorted(alloc, &mut pairs, left.len())?;
     let _count = index.places();
     *slots = left;
+    pairs.clear();
+    *spare = pairs;
     Ok(())
 }
 
-/// Hashes the clauses that aren't gone, and files them by one sort.
+/// Hashes the clauses that aren't gone, and files them by one sort. There is room for their pairs, and stays.
 fn file_all(
-    alloc: Global,
     slots: &mut Slots,
     hasher: &ClauseHasher,
     index: &mut SortedPairs,
+    spare: &mut Vec<Pair>,
     looks: &mut Looks,
-) -> Result<(), AllocError>
-    ensures hashed { OnOk result (slots.new ≡ hashed_anew hasher.now slots.old) }
-    ensures filed { OnOk result (Files index.new (hashed_anew hasher.now slots.old)) }
+)
+    requires places { index.old.places ≡ length slots.old }
+    requires room { length slots.old ≤ vec_capacity spare.old }
+    requires none { spare.old.items ≡ [] }
+    ensures hashed { slots.new ≡ hashed_anew hasher.now slots.old }
+    ensures filed { Files index.new (hashed_anew hasher.now slots.old) }
+    ensures room { vec_capacity spare.new ≡ vec_capacity spare.old }
+    ensures none { spare.new.items ≡ [] }
     ensures looks { LooksUpTo (live_length slots.old) looks.old looks.new }
 {
-    let mut pairs = Vec::new(alloc);
-    hash_all(slots, hasher, &mut pairs, looks)?;
-    *index = sorted(alloc, pairs, slots.len())?;
+    hash_all(slots, hasher, spare, looks);
+    index.replace(spare);
+    spare.clear();
     let _count = index.places();
-    Ok(())
 }

@@ -36,6 +36,14 @@ fn no_heads(alloc: Global, shift: u32) -> Result<Vec<u32>, AllocError>
     Ok(heads)
 }
 
+/// Makes all heads those of nothing.
+fn clear_heads(heads: &mut [u32])
+    ensures none { All (λ h. h ≡ nowhere) heads.new }
+    ensures count { length heads.new ≡ length heads.old }
+{
+    heads.fill(NOWHERE);
+}
+
 /// Makes more heads, and links all pairs anew. The answer is how many bits of a hash don't tell its head then.
 fn grow(
     alloc: Global,
@@ -120,6 +128,7 @@ impl SortedPairs {
     /// How many places were given.
     pub fn places(&self) -> usize
         ensures count { result ≡ self.now.places }
+        ensures few { self.now.places ≤ nowhere }
         ensures order { AreInOrder self.now.pairs }
     {
         self.links.len()
@@ -187,18 +196,34 @@ impl SortedPairs {
         }
         take(&mut self.heads, &mut self.links, self.shift, place);
     }
+
+    /// Has these pairs in place of all others, by one sort that takes no memory. No place is given.
+    pub fn replace(&mut self, pairs: &mut [Pair])
+        requires apart { IsDistinct same_place pairs.old }
+        requires within { All (λ p. p.place < self.old.places) pairs.old }
+        requires count { length pairs.old ≤ self.old.places }
+        ensures same { IsPermutation pairs.old self.new.pairs }
+        ensures places { self.new.places ≡ self.old.places }
+    {
+        if self.heads.is_empty() {
+            return;
+        }
+        pairs.sort_unstable();
+        clear_heads(&mut self.heads);
+        link_all(&mut self.heads, &mut self.links, self.shift, pairs);
+    }
 }
 
 /// Pairs that are sorted once. As many places are given.
 pub(crate) fn sorted(
     alloc: Global,
-    mut pairs: Vec<Pair>,
+    pairs: &mut [Pair],
     places: usize,
 ) -> Result<SortedPairs, AllocError>
-    requires apart { IsDistinct same_place pairs.items }
-    requires within { All (λ p. p.place < places) pairs.items }
-    requires count { length pairs.items ≤ places }
-    ensures same { IfOk result (λ s. IsPermutation pairs.items s.pairs) }
+    requires apart { IsDistinct same_place pairs.old }
+    requires within { All (λ p. p.place < places) pairs.old }
+    requires count { length pairs.old ≤ places }
+    ensures same { IfOk result (λ s. IsPermutation pairs.old s.pairs) }
     ensures places { IfOk result (λ s. s.places ≡ places) }
 {
     if places > NOWHERE as usize {
@@ -209,7 +234,7 @@ pub(crate) fn sorted(
     let mut links = Vec::new(alloc);
     links.resize(places, Link { hash: 0, next: 0 })?;
     pairs.sort_unstable();
-    link_all(&mut heads, &mut links, shift, &pairs);
+    link_all(&mut heads, &mut links, shift, pairs);
     Ok(SortedPairs {
         alloc,
         heads,

@@ -1,54 +1,84 @@
-//! Literals that are assumed, with a mark by code for each.
-ghost use Rattle.std.specs.Prelude.{◌≡◌, ◌+◌, ◌-◌, ◌<◌, ◌≤◌, List, [], ◌∷◌, drop, length, OnOk, OnErr, false, reverse};
-ghost use Rattle.std.specs.Prelude.{ℕ, ◌==◌, get_or, if◌then◌else◌};
-ghost use Rattle.sat_checker.specs.inner.Marks.{is_marked, NoRepeats, LosesAt};
+//! Literals that are assumed, and those that there is room for, with a mark by code for each.
+ghost use Rattle.std.specs.Prelude.{◌≡◌, ◌+◌, ◌-◌, ◌<◌, ◌≤◌, List, [], ◌∷◌, drop, length, OnOk, OnErr};
+ghost use Rattle.std.specs.Prelude.{true, false, reverse, ℕ, ◌==◌, get_or, if◌then◌else◌, ◌&&◌, not};
+ghost use Rattle.sat_checker.specs.inner.Marks.{mark_at, NoRepeats, LosesAt};
+ghost use Rattle.sat_checker.specs.inner.Room.{with_room, AgreesOn, HasRoomFor, RoomStays};
+ghost use Rattle.sat_checker.specs.inner.Look.{AssumesMore};
+ghost use Rattle.sat_base.specs.values.Tables.{HasPlaceFor, KeepsRoom};
 ghost use Rattle.sat_checker.specs.LiteralSets.{is_among};
+ghost use Rattle.sat_base.specs.values.Literals.{negated};
 ghost use Rattle.sat_checker.specs.Verdicts.{verdict, verdict_of};
 
+use crate::units::roomy::Roomy;
 use sat_base::{Lit, Table};
 use std::alloc::{AllocError, Global};
 use std::marker::Model;
 
-/// Literals that are assumed, each once. Contracts see them with the newest first.
+/// What is marked by the code of a literal: whether there is room for it, and whether it is assumed.
+#[derive(Clone, Copy)]
+pub(crate) enum Mark {
+    NoRoom,
+    Room,
+    Assumed,
+}
+
+/// Literals that are assumed, each once, and those that there is room for. Contracts see the assumed ones with the
+/// newest first.
 #[derive(Drop)]
 pub struct Assigned {
-    marks: Table<bool>,
+    marks: Table<Mark>,
     trail: Vec<Lit>,
+    /// How many there is room for.
+    count: usize,
+    room: Roomy,
 }
 
 impl Model for Assigned {
-    ghost use Rattle.std.specs.Prelude.{List, ℕ, reverse};
-    ghost use Rattle.sat_checker.specs.inner.Marks.{AreMarks};
+    ghost use Rattle.std.specs.Prelude.{reverse, vec_capacity};
+    ghost use Rattle.sat_checker.specs.inner.Room.{LiteralsAndRoom};
+    ghost use Rattle.sat_checker.specs.inner.Marks.{AreMarks, HoldsRoom};
 
-    ghost Value = { List ℕ };
+    ghost Value = { LiteralsAndRoom };
 
-    ghost view = { λ s. reverse s.trail.items };
+    ghost view = { λ s. record { literals = reverse s.trail.items; room = s.room.literals } };
 
-    ghost invariant = { λ s. AreMarks s.marks (reverse s.trail.items) };
+    ghost invariant = { λ s. AreMarks s.marks (reverse s.trail.items) s.room.literals
+        × HoldsRoom s.count (vec_capacity s.trail) s.room.literals };
 }
 
 impl Assigned {
     pub fn new(alloc: Global) -> Assigned
-        ensures { result ≡ [] }
+        ensures { result ≡ record { literals = []; room = [] } }
     {
         Assigned {
             marks: Table::new(alloc),
             trail: Vec::new(alloc),
+            count: 0,
+            room: Roomy::new(),
         }
     }
 
     pub fn len(&self) -> usize
-        ensures { result ≡ length self.now }
+        ensures { result ≡ length self.now.literals }
     {
         self.trail.len()
     }
 
     /// The literals, the oldest first.
     pub fn literals(&self) -> &[Lit]
-        ensures lent { result.now ≡ reverse self.now }
+        ensures lent { result.now ≡ reverse self.now.literals }
         ensures once { NoRepeats result.now }
     {
         self.trail.as_slice()
+    }
+
+    /// There is room for what is assumed, and for the negation of what there is room for. For contracts alone: it does
+    /// nothing at run time.
+    pub fn stand_in_room(&self)
+        ensures paired { (l : ℕ) → is_among self.now.room l ≡ is_among self.now.room (negated l) }
+        ensures stand { (l : ℕ) → is_among self.now.literals l ≡ true → is_among self.now.room l ≡ true }
+    {
+        let _ = &self.room;
     }
 
     /// So many places of marks may stand in one list, which is faster than a tree.
@@ -60,38 +90,89 @@ impl Assigned {
 
     #[inline(always)]
     pub fn is_true(&self, lit: Lit) -> bool
-        ensures { result ≡ is_among self.now lit }
+        ensures { result ≡ is_among self.now.literals lit }
     {
-        self.marks.get(lit.code(), false)
+        match self.marks.get(lit.code(), Mark::NoRoom) {
+            Mark::Assumed => true,
+            Mark::Room | Mark::NoRoom => false,
+        }
     }
 
-    pub fn assume(&mut self, lit: Lit) -> Result<(), AllocError>
-        requires { is_among self.old lit ≡ false }
-        ensures ok { OnOk result (self.new ≡ lit ∷ self.old) }
+    /// Whether there is room for a literal.
+    pub fn has_room(&self, lit: Lit) -> bool
+        ensures { result ≡ is_among self.now.room lit }
+    {
+        match self.marks.get(lit.code(), Mark::NoRoom) {
+            Mark::Assumed | Mark::Room => true,
+            Mark::NoRoom => false,
+        }
+    }
+
+    /// Makes room for a literal, and for its negation.
+    pub fn make_room(&mut self, lit: Lit) -> Result<(), AllocError>
+        ensures ok { OnOk result (self.new ≡ record self.old { room = with_room lit self.old.room }) }
+        ensures err { OnErr result (self.new ≡ self.old) }
+        ensures short { OnErr result (is_among self.old.room lit ≡ false) }
+    {
+        if self.has_room(lit) {
+            return Ok(());
+        }
+        self.make_new_room(lit)
+    }
+
+    /// Makes room for a literal that has none, and for its negation.
+    #[inline(never)]
+    fn make_new_room(&mut self, lit: Lit) -> Result<(), AllocError>
+        requires { is_among self.old.room lit ≡ false }
+        ensures ok { OnOk result (self.new ≡ record self.old { room = lit ∷ negated lit ∷ self.old.room }) }
         ensures err { OnErr result (self.new ≡ self.old) }
     {
-        let place = lit.code();
-        self.marks.make_room(place, false)?;
-        self.trail.push(lit)?;
-        self.marks.put(place, true);
+        let other = !lit;
+        self.trail.reserve(self.count + 2 - self.trail.len())?;
+        self.marks.make_room(lit.code(), Mark::NoRoom)?;
+        self.marks.make_room(other.code(), Mark::NoRoom)?;
+        self.marks.put(other.code(), Mark::Room);
+        self.marks.put(lit.code(), Mark::Room);
+        self.count += 2;
+        let room = self.room.and(other.code());
+        self.room = room.and(lit.code());
         Ok(())
     }
 
-    /// Forgets the newest literal.
-    pub fn forget(&mut self)
-        requires { 0 < length self.old }
-        ensures { self.new ≡ drop 1 self.old }
+    /// Assumes a literal. Memory is wanted where there is no room for it yet.
+    #[inline(always)]
+    pub fn assume(&mut self, lit: Lit) -> Result<(), AllocError>
+        requires { is_among self.old.literals lit ≡ false }
+        ensures ok { OnOk result (self.new ≡ record {
+          literals = lit ∷ self.old.literals;
+          room = with_room lit self.old.room;
+        }) }
+        ensures err { OnErr result (self.new ≡ self.old) }
+        ensures short { OnErr result (is_among self.old.room lit ≡ false) }
     {
-        let count = self.len();
-        self.undo_to(count - 1);
+        self.make_room(lit)?;
+        self.assume_in_room(lit);
+        Ok(())
+    }
+
+    /// Assumes a literal that there is room for.
+    #[inline(always)]
+    pub fn assume_in_room(&mut self, lit: Lit)
+        requires new { is_among self.old.literals lit ≡ false }
+        requires room { is_among self.old.room lit ≡ true }
+        ensures { self.new ≡ record self.old { literals = lit ∷ self.old.literals } }
+    {
+        self.trail.push_reserved(lit);
+        self.marks.put(lit.code(), Mark::Assumed);
     }
 
     /// Forgets the literal at a place, the oldest standing at 0. The newest takes its place.
     pub fn forget_at(&mut self, place: usize)
-        requires { place < length self.old }
-        ensures forgotten { (l : ℕ) → is_among self.new l
-            ≡ (if l == get_or (reverse self.old) place 0 then false else is_among self.old l) }
-        ensures moved { LosesAt place (reverse self.old) (reverse self.new) }
+        requires { place < length self.old.literals }
+        ensures forgotten { (l : ℕ) → is_among self.new.literals l
+            ≡ (if l == get_or (reverse self.old.literals) place 0 then false else is_among self.old.literals l) }
+        ensures moved { LosesAt place (reverse self.old.literals) (reverse self.new.literals) }
+        ensures room { self.new.room ≡ self.old.room }
     {
         let lit = self.trail.swap_remove(place);
         unmark(&mut self.marks, lit);
@@ -99,26 +180,64 @@ impl Assigned {
 
     /// Forgets the newest literals, so that so many are left.
     pub fn undo_to(&mut self, left: usize)
-        requires { left ≤ length self.old }
-        ensures { self.new ≡ drop (length self.old - left) self.old }
+        requires { left ≤ length self.old.literals }
+        ensures { self.new
+            ≡ record self.old { literals = drop (length self.old.literals - left) self.old.literals } }
     {
         unmark_all(&mut self.marks, &self.trail[left..]);
         self.trail.truncate(left);
     }
 }
 
-fn unmark_all(marks: &mut Table<bool>, literals: &[Lit])
-    ensures { (l : ℕ) → is_marked marks.new l ≡ (if is_among literals.now l then false else is_marked marks.old l) }
+/// Makes room for the literals of a clause, and for their negations.
+pub fn make_room_for(assigned: &mut Assigned, clause: &[Lit]) -> Result<(), AllocError>
+    ensures room { OnOk result (HasRoomFor assigned.new.room clause.now) }
+    ensures short { OnErr result (HasRoomFor assigned.old.room clause.now → ⊥) }
+    ensures literals { assigned.new.literals ≡ assigned.old.literals }
+    ensures stays { RoomStays assigned.old.room assigned.new.room }
+{
+    for lit in clause {
+        assigned.make_room(*lit)?;
+        assigned.stand_in_room();
+    }
+    Ok(())
+}
+
+/// Assumes a literal, if there is room for it and it isn't assumed yet. Takes no memory.
+pub fn assume_if_roomy(assigned: &mut Assigned, lit: Lit)
+    ensures literals { assigned.new.literals
+        ≡ (if is_among assigned.old.room lit && not (is_among assigned.old.literals lit)
+        then lit ∷ assigned.old.literals else assigned.old.literals) }
+    ensures room { assigned.new.room ≡ assigned.old.room }
+    ensures agrees { AgreesOn assigned.old.room assigned.new.literals (lit ∷ assigned.old.literals) }
+    ensures extends { AssumesMore assigned.old assigned.new }
+{
+    if !assigned.has_room(lit) {
+        return;
+    }
+    if assigned.is_true(lit) {
+        return;
+    }
+    assigned.assume_in_room(lit);
+}
+
+/// Forgets the marks of assumed literals.
+fn unmark_all(marks: &mut Table<Mark>, literals: &[Lit])
+    requires { (l : ℕ) → is_among literals.now l ≡ true → HasPlaceFor marks.old l }
+    ensures { (l : ℕ) → mark_at marks.new l ≡ (if is_among literals.now l then Mark.Room else mark_at marks.old l) }
 {
     for lit in literals {
         unmark(marks, *lit);
     }
 }
 
-fn unmark(marks: &mut Table<bool>, lit: Lit)
-    ensures { (l : ℕ) → is_marked marks.new l ≡ (if l == lit then false else is_marked marks.old l) }
+/// Forgets the mark of an assumed literal. There is room for it still.
+fn unmark(marks: &mut Table<Mark>, lit: Lit)
+    requires { HasPlaceFor marks.old lit }
+    ensures set { (l : ℕ) → mark_at marks.new l ≡ (if l == lit then Mark.Room else mark_at marks.old l) }
+    ensures places { KeepsRoom marks.old marks.new }
 {
-    marks.reset(lit.code(), false);
+    marks.put(lit.code(), Mark::Room);
 }
 
 /// What a clause says under the assumed literals.
@@ -134,7 +253,7 @@ pub enum Look {
 
 #[inline(always)]
 pub fn look_at(assigned: &Assigned, clause: &[Lit]) -> Look
-    ensures { verdict_of result ≡ verdict assigned.now clause.now }
+    ensures { verdict_of result ≡ verdict assigned.now.literals clause.now }
 {
     let mut open = None;
     for lit in clause {

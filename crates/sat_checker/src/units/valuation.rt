@@ -1,31 +1,22 @@
-//! Whether literals are a model of what is stored.
-ghost use Rattle.std.specs.Prelude.{◌≡◌, false, [], IfOk, OnErr, MatchBool};
+//! Marks of literals, by which a model is judged and a clause is found without its hash.
+ghost use Rattle.std.specs.Prelude.{ℕ, ◌≡◌, [], ◌&&◌, not, IfOk, MatchBool};
 ghost use Rattle.std.specs.List.{list_any};
-ghost use Rattle.sat_checker.specs.LiteralSets.{is_among, mentions};
+ghost use Rattle.sat_checker.specs.LiteralSets.{is_among, is_part, mentions, canonical, same_literals};
 ghost use Rattle.sat_checker.specs.Accepts.{VariablesApart};
+ghost use Rattle.sat_checker.specs.inner.Marks.{IsIncreasing};
+ghost use Rattle.sat_checker.specs.inner.Room.{RoomStays};
 
-use crate::units::assigned::Assigned;
+use crate::units::assigned::{Assigned, assume_if_roomy};
 use sat_base::{Lit, Var};
 use std::alloc::AllocError;
-
-/// What is answered where memory is wanted: that a variable stands twice among the literals, or else the want.
-fn want_if_apart(literals: &[Lit]) -> Result<bool, AllocError>
-    ensures twice { IfOk result (λ yes. (yes ≡ false) × (VariablesApart literals.now → ⊥)) }
-    ensures apart { OnErr result (VariablesApart literals.now) }
-{
-    if are_apart(literals) {
-        return Err(AllocError);
-    }
-    Ok(false)
-}
 
 /// Assumes the literals, the last first, unless a variable stands twice among them. The answer is whether none does.
 #[tactic(auto, using(crate::proofs::lemmas::state::Models::setting_apart))]
 pub(crate) fn assume_apart(assigned: &mut Assigned, literals: &[Lit]) -> Result<bool, AllocError>
-    requires { assigned.old ≡ [] }
-    ensures exact { IfOk result (λ yes. MatchBool yes (VariablesApart literals.now × (assigned.new ≡ literals.now))
-        (VariablesApart literals.now → ⊥)) }
-    ensures apart { OnErr result (VariablesApart literals.now) }
+    requires { assigned.old.literals ≡ [] }
+    ensures exact { IfOk result (λ yes. MatchBool yes
+        (VariablesApart literals.now × (assigned.new.literals ≡ literals.now)) (VariablesApart literals.now → ⊥)) }
+    ensures stays { RoomStays assigned.old.room assigned.new.room }
 {
     for place in (0..literals.len()).rev() {
         let lit = literals[place];
@@ -35,16 +26,69 @@ pub(crate) fn assume_apart(assigned: &mut Assigned, literals: &[Lit]) -> Result<
         if assigned.is_true(!lit) {
             return Ok(false);
         }
-        match assigned.assume(lit) {
-            Ok(()) => {}
-            Err(_) => return want_if_apart(literals),
-        }
+        assigned.assume(lit)?;
     }
     Ok(true)
 }
 
+/// Assumes those of the literals that there is room for. No memory is wanted for it.
+pub(crate) fn assume_roomy(assigned: &mut Assigned, literals: &[Lit])
+    requires { assigned.old.literals ≡ [] }
+    ensures marked { (l : ℕ) → is_among assigned.new.literals l
+        ≡ (is_among assigned.old.room l && is_among literals.now l) }
+    ensures room { assigned.new.room ≡ assigned.old.room }
+{
+    for lit in literals {
+        assume_if_roomy(assigned, *lit);
+    }
+}
+
+/// Whether there is room for each of the literals.
+#[tactic(auto, using(crate::proofs::lemmas::sets::Parts::each_literal))]
+pub(crate) fn have_room(assigned: &Assigned, literals: &[Lit]) -> bool
+    ensures { result ≡ is_part literals.now assigned.now.room }
+{
+    for lit in literals {
+        if !assigned.has_room(*lit) {
+            return false;
+        }
+    }
+    true
+}
+
+/// Whether each of the literals is assumed.
+#[tactic(auto, using(crate::proofs::lemmas::sets::Parts::each_literal))]
+fn are_assumed(assigned: &Assigned, literals: &[Lit]) -> bool
+    ensures { result ≡ is_part literals.now assigned.now.literals }
+{
+    for lit in literals {
+        if !assigned.is_true(*lit) {
+            return false;
+        }
+    }
+    true
+}
+
+/// Whether a clause of sorted literals has just the assumed ones.
+pub(crate) fn has_just_assumed(assigned: &Assigned, clause: &[Lit]) -> bool
+    requires { IsIncreasing clause.now }
+    ensures { result ≡ same_literals clause.now (canonical assigned.now.literals) }
+{
+    let assumed = assigned.literals();
+    clause.len() == assumed.len() && are_assumed(assigned, clause)
+}
+
+/// Whether a clause of sorted literals is a part of the assumed ones but not all of them.
+pub(crate) fn is_strictly_assumed(assigned: &Assigned, clause: &[Lit]) -> bool
+    requires { IsIncreasing clause.now }
+    ensures { result ≡ (is_part clause.now assigned.now.literals && not (is_part assigned.now.literals clause.now)) }
+{
+    let assumed = assigned.literals();
+    clause.len() < assumed.len() && are_assumed(assigned, clause)
+}
+
 /// Whether no variable stands twice among the literals. No memory is wanted for it.
-fn are_apart(literals: &[Lit]) -> bool
+pub(crate) fn are_apart(literals: &[Lit]) -> bool
     ensures { MatchBool result (VariablesApart literals.now) (VariablesApart literals.now → ⊥) }
 {
     for place in 0..literals.len() {
@@ -59,7 +103,7 @@ fn are_apart(literals: &[Lit]) -> bool
 /// Whether a literal of the clause is assumed.
 #[tactic(auto, using(crate::proofs::lemmas::state::Scanning::any_literal))]
 pub(crate) fn makes_true(assigned: &Assigned, clause: &[Lit]) -> bool
-    ensures { result ≡ list_any (is_among assigned.now) clause.now }
+    ensures { result ≡ list_any (is_among assigned.now.literals) clause.now }
 {
     for lit in clause {
         if assigned.is_true(*lit) {

@@ -1,5 +1,5 @@
 -- How often literals stand in clauses of two or more, as these come and go.
-use Rattle.std.proofs.Common.{ℕ, zero, suc, ◌+◌, ◌*◌, ◌<◌, ◌≤◌, ◌^◌, ◌≡◌, Bool, true, false, cond, List, [], ◌∷◌, ◌++◌, length, take, get_or, set, refl, sym, ◌∙◌, ap, subst, arith}
+use Rattle.std.proofs.Common.{ℕ, zero, suc, ◌+◌, ◌*◌, ◌<◌, ◌≤◌, ◌^◌, ◌≡◌, Bool, true, false, cond, List, [], ◌∷◌, ◌++◌, length, take, get_or, set, refl, sym, ◌∙◌, ap, subst, arith, MatchBool}
 use Rattle.std.proofs.lemmas.List.{length-take-le, take_more, take_all}
 use Rattle.std.specs.List.{AllByRecursion}
 use Rattle.sat_checker.specs.LiteralSets.{mentions}
@@ -102,6 +102,29 @@ mentions_counted v c e m =
     let n : 0 < times_in (2 * v) c + times_in (2 * v + 1) c = times_some v c m in
     omega (arith, a, b, n)
 
+-- whether its literals are counted, by whether it is mentioned
+pub not_long : (l : ℕ) (c : List ℕ) → length c < 2 → times_long l c ≡ 0
+not_long l [] h = refl
+not_long l (x ∷ []) h = refl
+not_long l (x ∷ y ∷ ys) h = absurd (omega arith)
+
+long_length : (c : List ℕ) → 2 ≤ length c → is_long c ≡ true
+long_length [] h = absurd (omega arith)
+long_length (x ∷ []) h = absurd (omega arith)
+long_length (x ∷ y ∷ ys) h = refl
+
+pub counted_where : (v : ℕ) (c : List ℕ) (r : Bool) → 2 ≤ length c → r ≡ mentions c v → MatchBool r (0 < times_long (2 * v) c + times_long (2 * v + 1) c) (times_long (2 * v) c + times_long (2 * v + 1) c ≡ 0)
+counted_where v c true h e = mentions_counted v c (long_length c h) (sym e)
+counted_where v c false h e =
+    let a = long_as (2 * v) c (long_length c h) in
+    let b = long_as (2 * v + 1) c (long_length c h) in
+    let n : times_in (2 * v) c + times_in (2 * v + 1) c ≡ zero = times_none v c (sym e) in
+    omega (arith, a, b, n)
+
+pub counted_same : (r : Bool) (a b c d : ℕ) → a ≡ c → b ≡ d → MatchBool r (0 < a + b) (a + b ≡ 0) → MatchBool r (0 < c + d) (c + d ≡ 0)
+counted_same true a b c d e f h = omega (arith, e, f, h)
+counted_same false a b c d e f h = omega (arith, e, f, h)
+
 pub times-more : (l : ℕ) (cs : List (List ℕ)) (gs : List Bool) (i : ℕ) → length gs ≡ length cs → i < length cs
     → times_kept l (take (i + 1) cs) (take (i + 1) gs) ≡ times_kept l (take i cs) (take i gs) + cond (get_or gs i false) 0 (times_long l (get_or cs i []))
 times-more l cs gs i e h =
@@ -144,6 +167,28 @@ kept_more l cs gs i n before after clause g c h e is b a =
     let m = times-more l cs gs i (g ∙ sym c) (subst (λ k. i < k) (sym c) h) in
     let z : cond (get_or gs i false) 0 (times_long l (get_or cs i [])) ≡ times_long l clause = ap (λ b. cond b 0 (times_long l (get_or cs i []))) e ∙ ap (times_long l) (sym is) in
     omega (arith, m, z, b, a)
+
+pub kept_none : (v : ℕ) (cs : List (List ℕ)) (gs : List Bool) (i n : ℕ) (clause : List ℕ) → length gs ≡ n → length cs ≡ n → i < n → clause ≡ get_or cs i [] → times_long (2 * v) clause + times_long (2 * v + 1) clause ≡ 0
+    → times_kept (2 * v) (take i cs) (take i gs) + times_kept (2 * v + 1) (take i cs) (take i gs) ≡ 0 → times_kept (2 * v) (take (i + 1) cs) (take (i + 1) gs) + times_kept (2 * v + 1) (take (i + 1) cs) (take (i + 1) gs) ≡ 0
+kept_none v cs gs i n clause g c h is z before =
+    let one : (l : ℕ) → times_long l clause ≡ 0 → times_kept l (take (i + 1) cs) (take (i + 1) gs) ≡ times_kept l (take i cs) (take i gs) = λ l e.
+    let m = times-more l cs gs i (g ∙ sym c) (subst (λ k. i < k) (sym c) h) in
+    let k = either (get_or gs i false) (times_long l (get_or cs i [])) (ap (times_long l) (sym is) ∙ e) in
+    omega (arith, m, k) in
+    let a = one (2 * v) (omega (arith, z)) in
+    let b = one (2 * v + 1) (omega (arith, z)) in
+    omega (arith, a, b, before)
+  where
+    either : (b : Bool) (n : ℕ) → n ≡ 0 → cond b 0 n ≡ 0
+    either true n e = refl
+    either false n e = e
+
+pub kept_some : (v : ℕ) (cs : List (List ℕ)) (gs : List Bool) (i n : ℕ) (clause : List ℕ) → length gs ≡ n → length cs ≡ n → i < n → get_or gs i false ≡ false → clause ≡ get_or cs i [] → 0 < times_long (2 * v) clause + times_long (2 * v + 1) clause → 0 < times_kept (2 * v) cs gs + times_kept (2 * v + 1) cs gs
+kept_some v cs gs i n clause g c h e is z =
+    let one : (l : ℕ) → times_long l clause ≤ times_kept l cs gs = λ l. subst (λ d. times_long l d ≤ times_kept l cs gs) (sym is) (times-there l cs gs i (g ∙ sym c) (subst (λ k. i < k) (sym c) h) e) in
+    let a = one (2 * v) in
+    let b = one (2 * v + 1) in
+    omega (arith, a, b, z)
 
 -- there is room for it
 pub kept_few : (l : ℕ) (cs : List (List ℕ)) (gs : List Bool) (i n before : ℕ) (clause : List ℕ) → AllByRecursion IsIncreasing cs → length cs ≡ n → i < n → n < 2 ^ 64 → clause ≡ get_or cs i [] → before ≡ times_kept l (take i cs) (take i gs) → before + times_long l clause < 2 ^ 64

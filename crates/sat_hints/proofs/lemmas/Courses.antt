@@ -6,6 +6,7 @@ use Rattle.sat_base.specs.values.Literals.{negated}
 use Rattle.sat_checker.specs.LiteralSets.{is_among}
 use Rattle.sat_checker.specs.Propagation.{IsFalsified, IsUnit, UnitInTurn}
 use Rattle.sat_checker.specs.SortedSets.{NoRepeats}
+use Rattle.sat_checker.specs.inner.Room.{AgreesOn, HasRoomFor, HasRoomForAll}
 use Rattle.sat_checker.specs.Verdicts.{Verdict, falsified, opens, rests, verdict, verdict_of_open, not_false}
 use Rattle.sat_hints.specs.Checks.{SomeIsNotUnit, LastIsNotFalsified}
 use Rattle.sat_hints.specs.declared.answer.HintWhy.{HintWhy}
@@ -157,30 +158,34 @@ course_says (c ∷ d ∷ ds) assumed n = go (λ l. course_says (d ∷ ds) (l ∷
     go ih (opens l) e = says_further (course (l ∷ assumed) (d ∷ ds)) assumed c d ds l (is_unit assumed c l e) (ih l)
     go ih rests e = inl (λ l u. let g = unit_opens assumed c l n.0 u in absurd cc)
 
--- IT DEPENDS ON WHICH LITERALS ARE ASSUMED, NOT ON THEIR ORDER
-abbrev pub SameMembers : List ℕ → List ℕ → Type 0
-SameMembers us vs = (l : ℕ) → is_among us l ≡ is_among vs l
+-- IT DEPENDS ON WHICH LITERALS OF THE CLAUSES ARE ASSUMED
+pub room_in : (room c : List ℕ) (l : ℕ) → HasRoomFor room c → is_among c l ≡ true → (is_among room l ≡ true) × (is_among room (negated l) ≡ true)
+room_in room [] l h m = absurd cc
+room_in room (x ∷ xs) l h m = elim (or_cases (eqb x l) (is_among xs l) m) [
+  | inl e ↦ subst (λ y. (is_among room y ≡ true) × (is_among room (negated y) ≡ true)) (eqb-true x l e) h.0
+  | inr k ↦ room_in room xs l h.1 k
+]
 
-same_open : (us vs clause : List ℕ) → SameMembers us vs → not_false us clause ≡ not_false vs clause
-same_open us vs [] same = refl
-same_open us vs (l ∷ ls) same = ap (λ b. cond (not b) (l ∷ not_false us ls) (not_false us ls)) (same (negated l)) ∙ ap (λ ms. cond (not (is_among vs (negated l))) (l ∷ ms) ms) (same_open us vs ls same)
+same_open : (room us vs clause : List ℕ) → HasRoomFor room clause → AgreesOn room us vs → not_false us clause ≡ not_false vs clause
+same_open room us vs [] h same = refl
+same_open room us vs (l ∷ ls) h same =
+    ap (λ b. cond (not b) (l ∷ not_false us ls) (not_false us ls)) (same (negated l) h.0.1) ∙ ap (λ ms. cond (not (is_among vs (negated l))) (l ∷ ms) ms) (same_open room us vs ls h.1 same)
 
-same_of_open : (us vs ls : List ℕ) → SameMembers us vs → verdict_of_open us ls ≡ verdict_of_open vs ls
-same_of_open us vs [] same = refl
-same_of_open us vs (l ∷ []) same = ap (λ b. cond b rests (opens l)) (same l)
-same_of_open us vs (l ∷ m ∷ ls) same = refl
+same_verdict : (room us vs clause : List ℕ) → HasRoomFor room clause → AgreesOn room us vs → verdict us clause ≡ verdict vs clause
+same_verdict room us vs clause h same = ap (verdict_of_open us) (same_open room us vs clause h same) ∙ go (not_false vs clause) refl
+  where
+    go : (ns : List ℕ) → not_false vs clause ≡ ns → verdict_of_open us ns ≡ verdict_of_open vs ns
+    go [] e = refl
+    go (l ∷ []) e = ap (λ b. cond b rests (opens l)) (same l (room_in room clause l h (one_open vs clause l e).within).0)
+    go (l ∷ m ∷ ls) e = refl
 
-same_verdict : (us vs clause : List ℕ) → SameMembers us vs → verdict us clause ≡ verdict vs clause
-same_verdict us vs clause same = ap (verdict_of_open us) (same_open us vs clause same) ∙ same_of_open us vs (not_false vs clause) same
-
-pub same_course : (cs : List (List ℕ)) (us vs : List ℕ) → SameMembers us vs → course us cs ≡ course vs cs
-same_course [] us vs same = refl
-same_course (c ∷ []) us vs same = ap at_last (same_verdict us vs c same)
-same_course (c ∷ d ∷ ds) us vs same = ap (λ v. at_turn v (λ l. course (l ∷ us) (d ∷ ds))) (same_verdict us vs c same) ∙ go (λ l. same_course (d ∷ ds) (l ∷ us) (l ∷ vs) (λ m. ap (λ b. eqb l m || b) (same m))) (verdict vs c)
+pub same_course : (cs : List (List ℕ)) (room us vs : List ℕ) → HasRoomForAll room cs → AgreesOn room us vs → course us cs ≡ course vs cs
+same_course [] room us vs h same = refl
+same_course (c ∷ []) room us vs h same = ap at_last (same_verdict room us vs c h.0 same)
+same_course (c ∷ d ∷ ds) room us vs h same =
+    ap (λ v. at_turn v (λ l. course (l ∷ us) (d ∷ ds))) (same_verdict room us vs c h.0 same) ∙ go (λ l. same_course (d ∷ ds) room (l ∷ us) (l ∷ vs) h.1 (λ m r. ap (λ b. eqb l m || b) (same m r))) (verdict vs c)
   where
     go : ((l : ℕ) → course (l ∷ us) (d ∷ ds) ≡ course (l ∷ vs) (d ∷ ds)) → (v : Verdict) → at_turn v (λ l. course (l ∷ us) (d ∷ ds)) ≡ at_turn v (λ l. course (l ∷ vs) (d ∷ ds))
     go ih falsified = refl
     go ih (opens l) = ih l
     go ih rests = refl
-
--- AT PLACES

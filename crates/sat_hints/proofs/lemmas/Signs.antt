@@ -1,17 +1,22 @@
 -- Literals, or their negations, that are assumed in turn.
 use Rattle.std.proofs.Common.{ℕ, zero, suc, ◌+◌, ◌<◌, ◌≤◌, ◌≡◌, ◌≢◌, Bool, true, false, ◌||◌, eqb, List, [], ◌∷◌, length, take, drop, get_or, refl, sym, ◌∙◌, ap, subst, arith, ◌⊎◌, inl, inr}
 use Rattle.std.proofs.lemmas.Bool.{or_cases, or_left, or_right, both_ways, eqb-true, eq-eqb, true≢false}
-use Rattle.std.proofs.lemmas.List.{take_more, take_all, take-append-drop}
+use Rattle.std.proofs.lemmas.List.{take_more, take_all, take-append-drop, take-map, get_or-map, length-map}
 use Rattle.sat_base.specs.values.Literals.{negated, negated_if}
 use Rattle.sat_checker.specs.LiteralSets.{is_among, is_tautology}
+use Rattle.sat_checker.specs.inner.Room.{AgreesOn, signed}
 use Rattle.sat_checker.proofs.lemmas.sets.Canonical.{tautology_from, both_signs}
 use Rattle.sat_checker.proofs.lemmas.sets.Order.{among-append}
-use Rattle.sat_hints.specs.inner.Course.{signed, AreJustAssumed}
+use Rattle.sat_hints.specs.inner.Course.{AreJustAssumed}
+
+-- of no variable both signs are among these
+abbrev pub OneSign : List ℕ → Type 0
+OneSign ls = (l : ℕ) → is_among ls l ≡ true → is_among ls (negated l) ≡ true → ⊥
 
 -- the first so many literals are assumed, of each variable one sign
 pub record AssumesFirst (ls : List ℕ) (count : ℕ) (assumed : List ℕ) : Type 0 where
   pub are : AreJustAssumed (take count ls) assumed
-  pub one_sign : (l : ℕ) → is_among (take count ls) l ≡ true → is_among (take count ls) (negated l) ≡ true → ⊥
+  pub one_sign : OneSign (take count ls)
 
 pub assumes_none : (ls assumed : List ℕ) → assumed ≡ [] → AssumesFirst ls 0 assumed
 assumes_none ls assumed e = rw e (record { are = λ l. refl; one_sign = λ l a b. true≢false (sym a) })
@@ -23,13 +28,12 @@ negated_other : (l : ℕ) → negated l ≢ l
 negated_other l e = omega arith
 
 pub signed-at : (negate : Bool) (ls : List ℕ) (i : ℕ) → i < length ls → get_or (signed negate ls) i 0 ≡ negated_if negate (get_or ls i 0)
-signed-at negate [] i h = absurd (omega arith)
-signed-at negate (l ∷ ls) zero h = refl
-signed-at negate (l ∷ ls) (suc i) h = signed-at negate ls i (omega arith)
+signed-at true ls i h = get_or-map negated ls i 0 0 h
+signed-at false ls i h = refl
 
 pub length-signed : (negate : Bool) (ls : List ℕ) → length (signed negate ls) ≡ length ls
-length-signed negate [] = refl
-length-signed negate (l ∷ ls) = let e = length-signed negate ls in omega arith
+length-signed true ls = length-map ls negated
+length-signed false ls = refl
 
 among_take : (ls : List ℕ) (i m : ℕ) → is_among (take i ls) m ≡ true → is_among ls m ≡ true
 among_take ls i m h = ap (λ xs. is_among xs m) (sym (take-append-drop i ls)) ∙ among-append (take i ls) (drop i ls) m ∙ or_left (is_among (take i ls) m) (is_among (drop i ls) m) h
@@ -66,27 +70,43 @@ module _ (ls : List ℕ) (i : ℕ) (inside : i < length ls) where
   among_at : is_among ls (get_or ls i 0) ≡ true
   among_at = among_take ls (i + 1) (get_or ls i 0) (among_more (get_or ls i 0) ∙ or_right (is_among (take i ls) (get_or ls i 0)) (eqb (get_or ls i 0) (get_or ls i 0) || false) (or_left (eqb (get_or ls i 0) (get_or ls i 0)) false (eq-eqb (get_or ls i 0) (get_or ls i 0) refl)))
 
-module _ (ls assumed : List ℕ) (i : ℕ) (inside : i < length ls) (so_far : AssumesFirst ls i assumed) where
-  -- the other sign of its variable is assumed
-  pub both_met : is_among assumed (negated (get_or ls i 0)) ≡ true → is_tautology ls ≡ true
-  both_met h = tautology_from ls (get_or ls i 0) (among_at ls i inside) (among_take ls i (negated (get_or ls i 0)) (sym (so_far.are (negated (get_or ls i 0))) ∙ h))
+  -- the other sign stands before it
+  pub both_stand : is_among (take i ls) (negated (get_or ls i 0)) ≡ true → is_tautology ls ≡ true
+  both_stand h = tautology_from ls (get_or ls i 0) among_at (among_take ls i (negated (get_or ls i 0)) h)
 
-  one_sign_more : is_among assumed (negated (get_or ls i 0)) ≡ false → (m : ℕ) → is_among (take (i + 1) ls) m ≡ true → is_among (take (i + 1) ls) (negated m) ≡ true → ⊥
-  one_sign_more fresh m a b = elim (among_split ls i inside m a) [
-    | inl c ↦ elim (among_split ls i inside (negated m) b) [
-      | inl d ↦ so_far.one_sign m c d
+  one_sign_more : OneSign (take i ls) → is_among (take i ls) (negated (get_or ls i 0)) ≡ false → OneSign (take (i + 1) ls)
+  one_sign_more so_far fresh m a b = elim (among_split m a) [
+    | inl c ↦ elim (among_split (negated m) b) [
+      | inl d ↦ so_far m c d
       | inr e ↦ let f : m ≡ negated (get_or ls i 0) = sym (negated-negated m) ∙ ap negated (sym e) in
-          both_ways (is_among assumed (negated (get_or ls i 0))) fresh (so_far.are (negated (get_or ls i 0)) ∙ subst (λ x. is_among (take i ls) x ≡ true) f c)
+          both_ways (is_among (take i ls) (negated (get_or ls i 0))) fresh (subst (λ x. is_among (take i ls) x ≡ true) f c)
     ]
-    | inr e ↦ elim (among_split ls i inside (negated m) b) [
-      | inl d ↦ both_ways (is_among assumed (negated (get_or ls i 0))) fresh (so_far.are (negated (get_or ls i 0)) ∙ subst (λ x. is_among (take i ls) x ≡ true) (ap negated (sym e)) d)
+    | inr e ↦ elim (among_split (negated m) b) [
+      | inl d ↦ both_ways (is_among (take i ls) (negated (get_or ls i 0))) fresh (subst (λ x. is_among (take i ls) x ≡ true) (ap negated (sym e)) d)
       | inr f ↦ negated_other m (sym f ∙ e)
     ]
   ]
 
+  among_last : (m : ℕ) → (eqb (get_or ls i 0) m || is_among (take i ls) m) ≡ is_among (take (i + 1) ls) m
+  among_last m = turn (eqb (get_or ls i 0) m) (is_among (take i ls) m) ∙ sym (among_more m)
+    where
+      turn : (a b : Bool) → (a || b) ≡ (b || (a || false))
+      turn true true = refl
+      turn true false = refl
+      turn false true = refl
+      turn false false = refl
+
+module _ (ls assumed : List ℕ) (i : ℕ) (inside : i < length ls) (so_far : AssumesFirst ls i assumed) where
+  -- the other sign of its variable is assumed
+  pub both_met : is_among assumed (negated (get_or ls i 0)) ≡ true → is_tautology ls ≡ true
+  both_met h = both_stand ls i inside (sym (so_far.are (negated (get_or ls i 0))) ∙ h)
+
+  one_sign_still : is_among assumed (negated (get_or ls i 0)) ≡ false → OneSign (take (i + 1) ls)
+  one_sign_still fresh = one_sign_more ls i inside so_far.one_sign (sym (so_far.are (negated (get_or ls i 0))) ∙ fresh)
+
   -- it is assumed already
   pub assumes_same : is_among assumed (negated (get_or ls i 0)) ≡ false → is_among assumed (get_or ls i 0) ≡ true → AssumesFirst ls (i + 1) assumed
-  assumes_same fresh had = record { are = λ m. so_far.are m ∙ go m (eqb (get_or ls i 0) m) refl ∙ sym (among_more ls i inside m); one_sign = one_sign_more fresh }
+  assumes_same fresh had = record { are = λ m. so_far.are m ∙ go m (eqb (get_or ls i 0) m) refl ∙ sym (among_more ls i inside m); one_sign = one_sign_still fresh }
     where
       go : (m : ℕ) (b : Bool) → eqb (get_or ls i 0) m ≡ b → is_among (take i ls) m ≡ (is_among (take i ls) m || (eqb (get_or ls i 0) m || false))
       go m true e =
@@ -96,13 +116,14 @@ module _ (ls assumed : List ℕ) (i : ℕ) (inside : i < length ls) (so_far : As
 
   -- it is assumed now
   pub assumes_more : (new : List ℕ) → new ≡ get_or ls i 0 ∷ assumed → is_among assumed (negated (get_or ls i 0)) ≡ false → AssumesFirst ls (i + 1) new
-  assumes_more new is fresh = rw is (record { are = λ m. ap (λ b. eqb (get_or ls i 0) m || b) (so_far.are m) ∙ turn (eqb (get_or ls i 0) m) (is_among (take i ls) m) ∙ sym (among_more ls i inside m); one_sign = one_sign_more fresh })
-    where
-      turn : (a b : Bool) → (a || b) ≡ (b || (a || false))
-      turn true true = refl
-      turn true false = refl
-      turn false true = refl
-      turn false false = refl
+  assumes_more new is fresh = rw is (record { are = λ m. ap (λ b. eqb (get_or ls i 0) m || b) (so_far.are m) ∙ among_last ls i inside m; one_sign = one_sign_still fresh })
+
+no_both : (ls : List ℕ) → OneSign ls → is_tautology ls ≡ false
+no_both ls one = go (is_tautology ls) refl
+  where
+    go : (b : Bool) → is_tautology ls ≡ b → b ≡ false
+    go true t = let s = both_signs ls t in absurd (one s.literal s.within s.negation)
+    go false t = refl
 
 -- all are assumed
 pub record AssumesAll (ls assumed : List ℕ) : Type 0 where
@@ -112,8 +133,65 @@ pub record AssumesAll (ls assumed : List ℕ) : Type 0 where
 pub assumes_all : (ls assumed : List ℕ) (i : ℕ) → length ls ≤ i → AssumesFirst ls i assumed → AssumesAll ls assumed
 assumes_all ls assumed i h so_far =
     let e : take i ls ≡ ls = take_all i ls h in
-    record { consistent = go (is_tautology ls) refl (subst (λ xs. (l : ℕ) → is_among xs l ≡ true → is_among xs (negated l) ≡ true → ⊥) e so_far.one_sign); are = subst (λ xs. AreJustAssumed xs assumed) e so_far.are }
+    record { consistent = no_both ls (subst OneSign e so_far.one_sign); are = subst (λ xs. AreJustAssumed xs assumed) e so_far.are }
+
+-- AS FAR AS THERE IS ROOM
+-- the first so many literals are assumed where there is room for them, and of each variable one sign is among them
+pub record AgreesFirst (room ls : List ℕ) (count : ℕ) (assumed : List ℕ) : Type 0 where
+  pub agrees : AgreesOn room assumed (take count ls)
+  pub one_sign : OneSign (take count ls)
+
+pub agrees_none : (room ls assumed : List ℕ) → assumed ≡ [] → AgreesFirst room ls 0 assumed
+agrees_none room ls assumed e = rw e (record { agrees = λ l r. refl; one_sign = λ l a b. true≢false (sym a) })
+
+eqb-negated : (x m : ℕ) → eqb (negated x) (negated m) ≡ eqb x m
+eqb-negated x m = go (eqb x m) refl (eqb (negated x) (negated m)) refl
   where
-    go : (b : Bool) → is_tautology ls ≡ b → ((l : ℕ) → is_among ls l ≡ true → is_among ls (negated l) ≡ true → ⊥) → b ≡ false
-    go true t one = let s = both_signs ls t in absurd (one s.literal s.within s.negation)
-    go false t one = refl
+    go : (b : Bool) → eqb x m ≡ b → (d : Bool) → eqb (negated x) (negated m) ≡ d → eqb (negated x) (negated m) ≡ eqb x m
+    go true e d f = eq-eqb (negated x) (negated m) (ap negated (eqb-true x m e)) ∙ sym e
+    go false e false f = f ∙ sym e
+    go false e true f = let same : x ≡ m = sym (negated-negated x) ∙ ap negated (eqb-true (negated x) (negated m) f) ∙ negated-negated m in absurd (both_ways (eqb x m) e (eq-eqb x m same))
+
+among-signed : (negate : Bool) (xs : List ℕ) (m : ℕ) → is_among (signed negate xs) (negated_if negate m) ≡ is_among xs m
+among-signed true [] m = refl
+among-signed true (x ∷ xs) m = ap (λ b. b || is_among (signed true xs) (negated m)) (eqb-negated x m) ∙ ap (λ b. eqb x m || b) (among-signed true xs m)
+among-signed false xs m = refl
+
+take-signed : (negate : Bool) (i : ℕ) (ls : List ℕ) → take i (signed negate ls) ≡ signed negate (take i ls)
+take-signed true i ls = take-map negated i ls
+take-signed false i ls = refl
+
+turned : (negate : Bool) (x : ℕ) → negated (negated_if negate x) ≡ negated_if negate (negated x)
+turned true x = refl
+turned false x = refl
+
+-- whether the other sign stands before it is the same of the negations
+among_before : (negate : Bool) (ls : List ℕ) (i : ℕ) → i < length ls → is_among (take i (signed negate ls)) (negated (get_or (signed negate ls) i 0)) ≡ is_among (take i ls) (negated (get_or ls i 0))
+among_before negate ls i h =
+    ap (λ xs. is_among xs (negated (get_or (signed negate ls) i 0))) (take-signed negate i ls)
+    ∙ ap (is_among (signed negate (take i ls))) (ap negated (signed-at negate ls i h) ∙ turned negate (get_or ls i 0)) ∙ among-signed negate (take i ls) (negated (get_or ls i 0))
+
+module _ (negate : Bool) (ls before : List ℕ) (i item : ℕ) (inside : i < length ls) (front : before ≡ take i ls) (is : item ≡ get_or ls i item) where
+  before_is : (lit : ℕ) → lit ≡ negated item → is_among before lit ≡ is_among (take i (signed negate ls)) (negated (get_or (signed negate ls) i 0))
+  before_is lit n = ap (λ xs. is_among xs lit) front ∙ ap (is_among (take i ls)) (n ∙ ap negated (is ∙ same_default ls i item 0 inside)) ∙ sym (among_before negate ls i inside)
+
+  pub before_met : (lit : ℕ) → lit ≡ negated item → is_among before lit ≡ true → is_tautology (signed negate ls) ≡ true
+  before_met lit n h = both_stand (signed negate ls) i (subst (λ n. i < n) (sym (length-signed negate ls)) inside) (sym (before_is lit n) ∙ h)
+
+  pub agrees_more : (room assumed new : List ℕ) (lit next : ℕ) → AgreesFirst room (signed negate ls) i assumed → lit ≡ negated item → is_among before lit ≡ false → next ≡ negated_if negate item → AgreesOn room new (next ∷ assumed) → AgreesFirst room (signed negate ls) (i + 1) new
+  agrees_more room assumed new lit next so_far n h x a =
+      let inner : i < length (signed negate ls) = subst (λ n. i < n) (sym (length-signed negate ls)) inside in
+      record {
+        agrees = λ m r.
+            a m r ∙ ap (λ b. eqb next m || b) (so_far.agrees m r) ∙ ap (λ y. eqb y m || is_among (take i (signed negate ls)) m) (lit_at negate ls i item next inside is x) ∙ among_last (signed negate ls) i inner m;
+        one_sign = one_sign_more (signed negate ls) i inner so_far.one_sign (sym (before_is lit n) ∙ h);
+      }
+
+pub record AgreesAll (room ls assumed : List ℕ) : Type 0 where
+  pub consistent : is_tautology ls ≡ false
+  pub agrees : AgreesOn room assumed ls
+
+pub agrees_all : (room ls assumed : List ℕ) (i : ℕ) → length ls ≤ i → AgreesFirst room ls i assumed → AgreesAll room ls assumed
+agrees_all room ls assumed i h so_far =
+    let e : take i ls ≡ ls = take_all i ls h in
+    record { consistent = no_both ls (subst OneSign e so_far.one_sign); agrees = subst (λ xs. AgreesOn room assumed xs) e so_far.agrees }

@@ -170,9 +170,9 @@ module _ (s : Standing) (v : ℕ) (st : IsStore s.present) where
       let n : 0 < times_long (2 * v) u.clause + times_long (2 * v + 1) u.clause = mentions_counted v u.clause u.long u.within in
       omega (arith, h, a, b, c, d, n)
 
-  pub used_is : (r : Bool) (u : Uses) → ((l : ℕ) → uses_at u l ≡ times_at s.present l) → MatchBool r (0 < uses_at u (2 * v) + uses_at u (2 * v + 1)) (uses_at u (2 * v) + uses_at u (2 * v + 1) ≡ 0) → MatchBool r (IsUsed s v) (IsUsed s v → ⊥)
-  used_is true u e h = let a = e (2 * v) in let b = e (2 * v + 1) in used_some (omega (arith, a, b, h))
-  used_is false u e h = let a = e (2 * v) in let b = e (2 * v + 1) in used_none (omega (arith, a, b, h))
+  pub used_is : (r : Bool) → MatchBool r (0 < both) (both ≡ 0) → MatchBool r (IsUsed s v) (IsUsed s v → ⊥)
+  used_is true h = used_some h
+  used_is false h = used_none h
 
 -- A NEW VARIABLE
 -- what is listed is under an id that is
@@ -182,7 +182,7 @@ below_bound p bound s h id c e =
     subst (λ i. i < bound) t.named (h t.place (subst (λ n. t.place < n) s.clauses t.within))
 
 module _ (old new : Standing) (v bound : ℕ) (s : StandingInvariant old) (above : AllBelow old.present.ids.items bound) (w : SinceWithin old bound)
-    (p : new.present ≡ old.present) (u : new.uses ≡ old.uses) (at : (x : ℕ) → value_at 0 new.since x ≡ cond (eqb x v) bound (value_at 0 old.since x)) where
+    (p : new.present ≡ old.present) (counting : new.uses.counting ≡ true) (u : (l : ℕ) → uses_at new.uses l ≡ times_at old.present l) (at : (x : ℕ) → value_at 0 new.since x ≡ cond (eqb x v) bound (value_at 0 old.since x)) where
   unit_gone : (l : ℕ) (b : Bool) → eqb (variable l) v ≡ true → unless_unit_over v (cond b None (Some (l ∷ []))) ≡ None
   unit_gone l true e = refl
   unit_gone l false e = ap (λ t. cond t None (Some (l ∷ []))) e
@@ -213,7 +213,7 @@ module _ (old new : Standing) (v bound : ℕ) (s : StandingInvariant old) (above
   forgets = record {
     standing = record {
       store = subst IsStore (sym p) s.store;
-      counted = λ l. ap (λ x. uses_at x l) u ∙ s.counted l ∙ ap (λ x. if_counting x.counting (times_at old.present l)) (sym u) ∙ ap (λ x. if_counting new.uses.counting (times_at x l)) (sym p);
+      counted = λ l. u l ∙ ap (λ x. times_at x l) (sym p) ∙ ap (λ b. if_counting b (times_at new.present l)) (sym counting);
     };
     present = p;
     since = λ x. within x (eqb x v) refl;

@@ -7,20 +7,22 @@ use Rattle.sat_base.specs.values.Literals.{negated}
 use Rattle.sat_base.specs.values.Tables.{value_at}
 use Rattle.sat_checker.specs.LiteralSets.{canonical, is_tautology}
 use Rattle.sat_checker.specs.SortedSets.{NoRepeats}
+use Rattle.sat_checker.specs.inner.Room.{HasRoomFor, RoomStays, signed}
 use Rattle.sat_checker.proofs.lemmas.sets.Canonical.{canonical_increasing}
 use Rattle.sat_checker.proofs.lemmas.sets.Marks.{once}
 use Rattle.sat_hints.specs.Lines.{Line, Input, Derived, Gone, Core, Fresh}
-use Rattle.sat_hints.specs.Hints.{and_clauses, unless_unit_over, clause_under, clauses_under, IsInOrder, named_ids, assumed_by, ConflictsIf, Conflicts, IsInNonUnitClause, FollowsLines, is_empty, derives_empty, count_of_cores}
+use Rattle.sat_hints.specs.Hints.{and_clauses, clause_under, clauses_under, IsInOrder, named_ids, assumed_by, ConflictsIf, Conflicts, FollowsLines, is_empty, derives_empty, count_of_cores}
 use Rattle.sat_hints.specs.Checks.{IsFaultOf}
-use Rattle.sat_hints.specs.inner.Clauses.{clause_in, AllBelow}
-use Rattle.sat_hints.specs.inner.Standing.{unless_stale, clause_of, clauses_of, Drops, RenewsVariable, StandingInvariant, IsUsed, StandingUnchanged, SinceWithin}
-use Rattle.sat_hints.specs.inner.Course.{course, signed, WhyNoConflict}
-use Rattle.sat_hints.specs.inner.Judging.{IsReadyJudge, HasTakenLines, IsSame, WhyNotRefuted, StoresClause, TakesOne}
+use Rattle.sat_hints.specs.inner.Clauses.{AllBelow}
+use Rattle.sat_hints.specs.inner.Standing.{clause_of, clauses_of, AddsStandingClause, Drops, HasRoomForPresent, StandingInvariant, IsUsed, SinceWithin}
+use Rattle.sat_hints.specs.inner.Course.{course, WhyNoConflict}
+use Rattle.sat_hints.specs.inner.Judging.{IsReadyJudge, HasTakenLines, IsSame, MayFollow, WhyNotRefuted, StoresClause, TakesOne}
 use Rattle.sat_hints.specs.declared.answer.HintWhy.{HintWhy}
 use Rattle.sat_hints.specs.declared.answer.HintWhy.TheVariants.{Syntax, IdOrder, UnknownId, NotUnit, NotFalsified, VarInUse}
 use Rattle.sat_hints.specs.declared.judging.Judge.{Judge}
 use Rattle.sat_hints.specs.declared.standing.Standing.{Standing}
 use Rattle.sat_hints.proofs.lemmas.Courses.{Says, course_says}
+use Rattle.sat_hints.proofs.lemmas.Finding.{room_still}
 use Rattle.sat_hints.proofs.lemmas.Sound.{still}
 use Rattle.sat_hints.proofs.lemmas.Unused.{unused_assuming}
 
@@ -92,20 +94,23 @@ module _ (lines : List Line) (line : Line) (assumed : List ℕ) (in_order : IsIn
       go (inl r) = subst (λ w. Says_of w lines line) (sym r.1) (record { in_order = in_order; clauses = h.0; present = present; conflict = conflict_of (assumed_by line) assumed h.0 assumes (inl r.0); unused = unused_assuming lines line assumed assumes })
       go (inr r) = subst (λ w. Says_of w lines line) (sym r.1) (by_course h.0 present r.0 (course assumed h.0) (course_says h.0 assumed (sets_once (named_ids line) lines h.0 present)))
 
-signed_true : (ls : List ℕ) → signed true ls ≡ map negated ls
-signed_true [] = refl
-signed_true (l ∷ ls) = ap (λ ms. negated l ∷ ms) (signed_true ls)
-
-signed_false : (ls : List ℕ) → signed false ls ≡ ls
-signed_false [] = refl
-signed_false (l ∷ ls) = ap (λ ms. l ∷ ms) (signed_false ls)
-
 stored_ready : (old new : Judge) (id : ℕ) (clause : List ℕ) → SinceWithin old.standing id → StoresClause old new id clause → IsReadyJudge new
 stored_ready old new id clause w s = record {
   standing = s.adds.standing;
   below = subst (AllBelow new.standing.present.ids.items) (sym s.least) (s.adds.below (id + 1) (omega arith));
   since = subst (SinceWithin new.standing) (sym s.least) (λ v. subst (λ x. value_at 0 x v ≤ id + 1) (sym s.adds.since) (let k = w v in omega (arith, k)));
   nothing = s.nothing;
+  room = s.room;
+}
+
+-- it can go on behind what leaves it the same
+pub same_ready : (old new : Judge) → IsReadyJudge old → IsSame old new → IsReadyJudge new
+same_ready old new r m = record {
+  standing = subst StandingInvariant (sym m.standing) r.standing;
+  below = subst (λ p. AllBelow p.present.ids.items new.least_id) (sym m.standing) (subst (AllBelow old.standing.present.ids.items) (sym m.least) r.below);
+  since = subst (λ p. SinceWithin p new.least_id) (sym m.standing) (subst (SinceWithin old.standing) (sym m.least) r.since);
+  nothing = m.nothing;
+  room = subst (HasRoomForPresent new.assumed.room) (sym m.standing) (room_still old.standing old.assumed.room new.assumed.room m.room r.room);
 }
 
 since_later : (old : Judge) (id : ℕ) → IsReadyJudge old → old.least_id ≤ id → SinceWithin old.standing id
@@ -113,7 +118,18 @@ since_later old id r l = λ v. let k = r.since v in omega (arith, k, l)
 
 derived_refuted : (old : Judge) (id : ℕ) (clause ids : List ℕ) (why : Option HintWhy) → old.least_id ≤ id → WhyNotRefuted old.standing (signed true clause) ids why → (lines : List Line) → HasTakenLines old lines → Says_of why lines (Derived id clause ids)
 derived_refuted old id clause ids why l r lines t =
-    refuted lines (Derived id clause ids) (map negated clause) (subst (λ n. n ≤ id) t.least l) refl old.standing why t.clauses (subst (λ a. WhyNotRefuted old.standing a ids why) (signed_true clause) r)
+    refuted lines (Derived id clause ids) (map negated clause) (subst (λ n. n ≤ id) t.least l) refl old.standing why t.clauses r
+
+pub derived_may : (old : Judge) (id : ℕ) (clause ids : List ℕ) → old.least_id ≤ id → WhyNotRefuted old.standing (signed true clause) ids None → MayFollow old (Derived id clause ids)
+derived_may old id clause ids l r lines t = derived_refuted old id clause ids None l r lines t
+
+-- there is room for those of one more clause
+pub room_stored : (old new : Standing) (id : ℕ) (clause xs ys : List ℕ) → AddsStandingClause old new id clause → HasRoomForPresent xs old → RoomStays xs ys → HasRoomFor ys clause → HasRoomForPresent ys new
+room_stored old new id clause xs ys a h k m j c e = go (eqb j id) (sym (a.clauses j) ∙ e)
+  where
+    go : (b : Bool) → cond b (Some clause) (clause_of old j) ≡ Some c → HasRoomFor ys c
+    go true f = let g : clause ≡ c = cc in subst (HasRoomFor ys) g m
+    go false f = room_still old xs ys k h j c f
 
 pub derived_faulty : (old new : Judge) (id : ℕ) (clause ids : List ℕ) (why : HintWhy) → old.least_id ≤ id → WhyNotRefuted old.standing (signed true clause) ids (Some why) → IsSame old new → TakesOne (Some why) old new (Derived id clause ids)
 derived_faulty old new id clause ids why l r s = (s.lines, derived_refuted old id clause ids (Some why) l r)
@@ -128,7 +144,7 @@ empty_length (l ∷ ls) = sym (never (eqb (length (l ∷ ls)) 0) refl)
 
 pub derived_taken : (old mid last new : Judge) (id : ℕ) (clause ids : List ℕ) (e : Bool) → IsReadyJudge old → old.least_id ≤ id → WhyNotRefuted old.standing (signed true clause) ids None → IsSame old mid → StoresClause mid last id clause → e ≡ (eqb (length clause) 0 || last.empty) → new ≡ record last { empty = e } → TakesOne None old new (Derived id clause ids)
 derived_taken old mid last new id clause ids e y l r m s f n = (
-  subst IsReadyJudge (sym n) (let k = stored_ready mid last id clause (subst (λ x. SinceWithin x id) (sym m.standing) (since_later old id y l)) s in record { standing = k.standing; below = k.below; since = k.since; nothing = k.nothing }),
+  subst IsReadyJudge (sym n) (let k = stored_ready mid last id clause (subst (λ x. SinceWithin x id) (sym m.standing) (since_later old id y l)) s in record { standing = k.standing; below = k.below; since = k.since; nothing = k.nothing; room = k.room }),
   ap (λ j. j.lines) n ∙ s.lines ∙ m.lines,
   λ lines t. record {
     follows = derived_refuted old id clause ids None l r lines t;
@@ -144,24 +160,37 @@ some_clause : (o : Option (List ℕ)) → o ≢ None → (c : List ℕ) × (o �
 some_clause None h = absurd (h refl)
 some_clause (Some c) h = (c, refl)
 
+gone_follows : (s : Standing) (id : ℕ) (lines : List Line) → ((j : ℕ) → clause_of s j ≡ clause_under j lines) → clause_of s id ≢ None → FollowsLines lines (Gone id)
+gone_follows s id lines same h =
+    let c = some_clause (clause_of s id) h in
+    record { in_order = tt; clauses = c.0 ∷ []; present = ap (λ o. and_clauses o (Some [])) (sym (same id) ∙ c.1); conflict = tt; unused = λ u. u }
+
+pub gone_may : (old : Judge) (id : ℕ) → clause_of old.standing id ≢ None → MayFollow old (Gone id)
+gone_may old id h lines t = gone_follows old.standing id lines t.clauses h
+
+room_less : (s p : Standing) (id : ℕ) (room : List ℕ) → ((j : ℕ) → clause_of p j ≡ cond (eqb j id) None (clause_of s j)) → HasRoomForPresent room s → HasRoomForPresent room p
+room_less s p id room same h j c e = go (eqb j id) (sym (same j) ∙ e)
+  where
+    go : (b : Bool) → cond b None (clause_of s j) ≡ Some c → HasRoomFor room c
+    go true f = absurd cc
+    go false f = h j c f
+
 pub gone_taken : (old new : Judge) (id : ℕ) (p : Standing) → IsReadyJudge old → clause_of old.standing id ≢ None → Drops old.standing p id → new ≡ record old { standing = p } → TakesOne None old new (Gone id)
 gone_taken old new id p r h l n = (
-  subst IsReadyJudge (sym n) (record { standing = l.standing; below = l.below old.least_id r.below; since = λ v. subst (λ x. value_at 0 x v ≤ old.least_id) (sym l.since) (r.since v); nothing = r.nothing }),
+  subst IsReadyJudge (sym n) (record { standing = l.standing; below = l.below old.least_id r.below; since = λ v. subst (λ x. value_at 0 x v ≤ old.least_id) (sym l.since) (r.since v); nothing = r.nothing; room = room_less old.standing p id old.assumed.room l.clauses r.room }),
   ap (λ j. j.lines) n,
-  λ lines t.
-      let c = some_clause (clause_of old.standing id) h in
-      record {
-        follows = record { in_order = tt; clauses = c.0 ∷ []; present = ap (λ o. and_clauses o (Some [])) (sym (t.clauses id) ∙ c.1); conflict = tt; unused = λ u. u };
-        clauses = λ j. ap (λ k. clause_of k.standing j) n ∙ l.clauses j ∙ ap (λ o. cond (eqb j id) None o) (t.clauses j);
-        least = ap (λ j. j.least_id) n ∙ t.least;
-        says_empty = ap (λ j. j.empty) n ∙ t.says_empty;
-        counts_cores = ap (λ j. j.cores) n ∙ t.counts_cores;
-      },
+  λ lines t. record {
+    follows = gone_follows old.standing id lines t.clauses h;
+    clauses = λ j. ap (λ k. clause_of k.standing j) n ∙ l.clauses j ∙ ap (λ o. cond (eqb j id) None o) (t.clauses j);
+    least = ap (λ j. j.least_id) n ∙ t.least;
+    says_empty = ap (λ j. j.empty) n ∙ t.says_empty;
+    counts_cores = ap (λ j. j.cores) n ∙ t.counts_cores;
+  },
 )
 
 -- A CORE
 core_refuted : (old : Judge) (core ids : List ℕ) (why : Option HintWhy) → WhyNotRefuted old.standing (signed false core) ids why → (lines : List Line) → HasTakenLines old lines → Says_of why lines (Core core ids)
-core_refuted old core ids why r lines t = refuted lines (Core core ids) core tt refl old.standing why t.clauses (subst (λ a. WhyNotRefuted old.standing a ids why) (signed_false core) r)
+core_refuted old core ids why r lines t = refuted lines (Core core ids) core tt refl old.standing why t.clauses r
 
 pub core_faulty : (old new : Judge) (core ids : List ℕ) (why : HintWhy) → WhyNotRefuted old.standing (signed false core) ids (Some why) → IsSame old new → TakesOne (Some why) old new (Core core ids)
 core_faulty old new core ids why r s = (s.lines, core_refuted old core ids (Some why) r)
@@ -171,12 +200,7 @@ one_more n count m e f = omega arith
 
 pub core_taken : (old mid new : Judge) (core ids : List ℕ) (n : ℕ) → IsReadyJudge old → WhyNotRefuted old.standing (signed false core) ids None → IsSame old mid → n ≡ min (mid.cores + 1) (2 ^ 64 - 1) → new ≡ record mid { cores = n } → TakesOne None old new (Core core ids)
 core_taken old mid new core ids n r h m f e = (
-  subst IsReadyJudge (sym e) (record {
-    standing = subst StandingInvariant (sym m.standing) r.standing;
-    below = subst (λ p. AllBelow p.present.ids.items mid.least_id) (sym m.standing) (subst (AllBelow old.standing.present.ids.items) (sym m.least) r.below);
-    since = subst (λ p. SinceWithin p mid.least_id) (sym m.standing) (subst (SinceWithin old.standing) (sym m.least) r.since);
-    nothing = m.nothing;
-  }),
+  subst IsReadyJudge (sym e) (let k = same_ready old mid r m in record { standing = k.standing; below = k.below; since = k.since; nothing = k.nothing; room = k.room }),
   ap (λ j. j.lines) e ∙ m.lines,
   λ lines t. record {
     follows = core_refuted old core ids None h lines t;
@@ -187,30 +211,5 @@ core_taken old mid new core ids n r h m f e = (
   },
 )
 
--- A NEW VARIABLE
-fresh_unused : (old : Judge) (v : ℕ) (lines : List Line) → HasTakenLines old lines → (IsUsed old.standing v → ⊥) → IsInNonUnitClause v lines → ⊥
-fresh_unused old v lines t none u = none (record { id = u.id; clause = u.clause; present = t.clauses u.id ∙ u.present; long = u.long; within = u.within })
-
 pub fresh_faulty : (old new : Judge) (v : ℕ) → IsUsed old.standing v → new.lines ≡ old.lines → TakesOne (Some VarInUse) old new (Fresh v)
 fresh_faulty old new v u n = (n, λ lines t. record { id = u.id; clause = u.clause; present = sym (t.clauses u.id) ∙ u.present; long = u.long; within = u.within })
-
-same_of : (old mid : Standing) → StandingUnchanged old mid → (j : ℕ) → clause_of mid j ≡ clause_of old j
-same_of old mid k j = ap (λ x. unless_stale x j (clause_in mid.present j)) k.since ∙ ap (λ x. unless_stale old.since j (clause_in x j)) k.present
-
-pub fresh_taken : (old new : Judge) (v : ℕ) (mid last : Standing) → IsReadyJudge old → (IsUsed old.standing v → ⊥) → StandingUnchanged old.standing mid → RenewsVariable mid last v old.least_id → new ≡ record old { standing = last } → TakesOne None old new (Fresh v)
-fresh_taken old new v mid last r none k f n = (
-  subst IsReadyJudge (sym n) (record {
-    standing = f.standing;
-    below = subst (λ p. AllBelow p.ids.items old.least_id) (sym (f.present ∙ k.present)) r.below;
-    since = f.since;
-    nothing = r.nothing;
-  }),
-  ap (λ j. j.lines) n,
-  λ lines t. record {
-    follows = record { in_order = tt; clauses = []; present = refl; conflict = tt; unused = fresh_unused old v lines t none };
-    clauses = λ j. ap (λ x. clause_of x.standing j) n ∙ f.clauses j ∙ ap (unless_unit_over v) (same_of old.standing mid k j ∙ t.clauses j);
-    least = ap (λ j. j.least_id) n ∙ t.least;
-    says_empty = ap (λ j. j.empty) n ∙ t.says_empty;
-    counts_cores = ap (λ j. j.cores) n ∙ t.counts_cores;
-  },
-)

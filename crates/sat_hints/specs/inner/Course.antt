@@ -24,10 +24,6 @@ course assumed [] = Some NotFalsified
 course assumed (c ∷ []) = at_last (verdict assumed c)
 course assumed (c ∷ d ∷ cs) = at_turn (verdict assumed c) (λ l. course (l ∷ assumed) (d ∷ cs))
 
--- literals, or their negations
-abbrev pub signed : Bool → List ℕ → List ℕ
-signed negate ls = map (negated_if negate) ls
-
 -- just these are assumed
 abbrev pub AreJustAssumed : List ℕ → List ℕ → Type 0
 AreJustAssumed ls assumed = (l : ℕ) → is_among assumed l ≡ is_among ls l

@@ -2,12 +2,13 @@
 use Rattle.std.specs.Prelude.{ℕ, ◌≡◌, ◌⊎◌, ◌+◌, Option, None, Some, List, [], ◌∷◌, length}
 use Rattle.sat_base.specs.text.Tokenizing.{held}
 use Rattle.sat_checker.specs.LiteralSets.{canonical}
+use Rattle.sat_checker.specs.inner.Room.{RoomStays}
 use Rattle.sat_hints.specs.Lines.{Line}
 use Rattle.sat_hints.specs.Hints.{clause_under, least_id, derives_empty, count_of_cores, FollowsLines}
 use Rattle.sat_hints.specs.Checks.{IsFaultOf}
 use Rattle.sat_hints.specs.inner.Clauses.{AllBelow}
-use Rattle.sat_hints.specs.inner.Standing.{clause_of, clauses_of, AddsStandingClause, StandingInvariant, SinceWithin}
-use Rattle.sat_hints.specs.inner.Course.{WhyNoConflict}
+use Rattle.sat_hints.specs.inner.Standing.{clause_of, clauses_of, AddsStandingClause, HasRoomForPresent, StandingInvariant, SinceWithin}
+use Rattle.sat_hints.specs.inner.Course.{course, WhyNoConflict}
 use Rattle.sat_hints.specs.declared.answer.HintWhy.{HintWhy}
 use Rattle.sat_hints.specs.declared.answer.HintWhy.TheVariants.{UnknownId}
 use Rattle.sat_hints.specs.declared.standing.Standing.{Standing}
@@ -18,7 +19,8 @@ pub record IsReadyJudge (j : Judge) : Type 0 where
   pub standing : StandingInvariant j.standing
   pub below : AllBelow j.standing.present.ids.items j.least_id
   pub since : SinceWithin j.standing j.least_id
-  pub nothing : j.assumed ≡ []
+  pub nothing : j.assumed.literals ≡ []
+  pub room : HasRoomForPresent j.assumed.room j.standing
 
 -- it has taken these lines
 pub record HasTakenLines (j : Judge) (lines : List Line) : Type 0 where
@@ -28,10 +30,11 @@ pub record HasTakenLines (j : Judge) (lines : List Line) : Type 0 where
   pub counts_cores : j.cores ≡ held (count_of_cores lines)
   pub counts_lines : j.lines ≡ held (length lines)
 
--- what it keeps from line to line is the same
+-- what it keeps from line to line is the same, but for more room
 pub record IsSame (old new : Judge) : Type 0 where
   pub standing : new.standing ≡ old.standing
-  pub nothing : new.assumed ≡ []
+  pub nothing : new.assumed.literals ≡ []
+  pub room : RoomStays old.assumed.room new.assumed.room
   pub least : new.least_id ≡ old.least_id
   pub empty : new.empty ≡ old.empty
   pub cores : new.cores ≡ old.cores
@@ -42,14 +45,24 @@ abbrev pub WhyNotRefuted : Standing → List ℕ → List ℕ → Option HintWhy
 WhyNotRefuted s assumed ids why =
     ((clauses_of s ids ≡ None) × (why ≡ Some UnknownId)) ⊎ ((clauses : List (List ℕ)) × (clauses_of s ids ≡ Some clauses) × WhyNoConflict assumed clauses why)
 
+-- why the clauses that were looked up don't run into a conflict under assumed literals, if they don't
+abbrev pub course_of : List ℕ → Option (List (List ℕ)) → Option HintWhy
+course_of assumed None = Some UnknownId
+course_of assumed (Some clauses) = course assumed clauses
+
 -- a clause is stored under an id
 pub record StoresClause (old new : Judge) (id : ℕ) (clause : List ℕ) : Type 0 where
   pub adds : AddsStandingClause old.standing new.standing id (canonical clause)
-  pub nothing : new.assumed ≡ []
+  pub nothing : new.assumed.literals ≡ []
+  pub room : HasRoomForPresent new.assumed.room new.standing
   pub least : new.least_id ≡ id + 1
   pub empty : new.empty ≡ old.empty
   pub cores : new.cores ≡ old.cores
   pub lines : new.lines ≡ old.lines
+
+-- whatever lines were taken, this one may follow them
+abbrev pub MayFollow : Judge → Line → Type 0
+MayFollow old line = (lines : List Line) → HasTakenLines old lines → FollowsLines lines line
 
 -- the line was taken, but not numbered
 pub record HasTakenOne (old new : Judge) (lines : List Line) (line : Line) : Type 0 where

@@ -1,10 +1,10 @@
 -- The clauses that are present, but for units over variables that became new since they came.
-use Rattle.std.specs.Prelude.{ℕ, ◌≡◌, ◌≤◌, ◌<◌, ◌==◌, Bool, true, false, Option, None, Some, List, [], ◌∷◌, map, length, nat_lt, slice_index, if◌then◌else◌}
-use Rattle.std.specs.List.{AllByRecursion}
+use Rattle.std.specs.Prelude.{ℕ, ◌≡◌, ◌≤◌, ◌<◌, ◌==◌, Bool, true, false, Option, None, Some, List, [], ◌∷◌, length, nat_lt, slice_index, if◌then◌else◌}
 use Rattle.sat_base.specs.values.Literals.{variable}
 use Rattle.sat_base.specs.values.Tables.{value_at}
 use Rattle.sat_base.specs.declared.table.Table.{Table}
 use Rattle.sat_checker.specs.LiteralSets.{mentions}
+use Rattle.sat_checker.specs.inner.Room.{HasRoomFor}
 use Rattle.sat_hints.specs.Hints.{and_clauses, is_long, unless_unit_over}
 use Rattle.sat_hints.specs.inner.Clauses.{clause_at, clause_in, times_at, AllBelow, IsStore}
 use Rattle.sat_hints.specs.inner.UsesView.{if_counting, uses_at}
@@ -60,12 +60,6 @@ pub record Drops (old new : Standing) (id : ℕ) : Type 0 where
   pub since : new.since ≡ old.since
   pub clauses : (j : ℕ) → clause_of new j ≡ (if j == id then None else clause_of old j)
 
--- the same clauses
-pub record StandingUnchanged (old new : Standing) : Type 0 where
-  pub standing : StandingInvariant new
-  pub present : new.present ≡ old.present
-  pub since : new.since ≡ old.since
-
 -- a variable is in a clause of two literals or more
 pub record IsUsed (s : Standing) (v : ℕ) : Type 0 where
   pub id : ℕ
@@ -81,7 +75,6 @@ pub record RenewsVariable (old new : Standing) (v bound : ℕ) : Type 0 where
   pub since : SinceWithin new bound
   pub clauses : (j : ℕ) → clause_of new j ≡ unless_unit_over v (clause_of old j)
 
--- the clauses under these ids are those at these places
-pub record FindsPlaces (s : Standing) (ids places : List ℕ) : Type 0 where
-  pub within : AllByRecursion (λ place. place < length s.present.clauses) places
-  pub clauses : clauses_of s ids ≡ Some (map (clause_at s.present) places)
+-- there is room for the literals of each clause that is present, and for their negations
+abbrev pub HasRoomForPresent : List ℕ → Standing → Type 0
+HasRoomForPresent room s = (id : ℕ) (clause : List ℕ) → clause_of s id ≡ Some clause → HasRoomFor room clause

@@ -11,7 +11,8 @@ use Rattle.sat_checker.specs.inner.Walk.{Verdict, falsified, opens, rests, verdi
 use Rattle.sat_checker.specs.announcements.Needed.{Ground, others_denied, ground_by, ground}
 use Rattle.sat_checker.specs.announcements.Promises.{IsOneOf, Reason, is_conflict, is_unit, is_neither, IsNeededLiteral, of_last, of_reason, IsGround}
 use Rattle.sat_checker.proofs.lemmas.meaning.Clauses.{literals_of}
-use Rattle.sat_checker.proofs.lemmas.announcements.Grounds.{each_at, among_negated, Says, verdict_says}
+use Rattle.sat_checker.proofs.lemmas.sets.Members.{each_at}
+use Rattle.sat_checker.proofs.lemmas.announcements.Grounds.{among_negated, Says, verdict_says}
 
 -- a negation comes from a literal
 record Negation (ls : List ℕ) (m : ℕ) : Type 0 where

@@ -39,9 +39,9 @@ pub record ClauseNumbered (cs : List StoredClause) (id : ℕ) (ls : List ℕ) : 
   pub id_is : clause.id ≡ id
   pub literals_are : clause.literals ≡ ls
 
-pub clause_of : (id : ℕ) (ls : List ℕ) (cs : List StoredClause) → clause_numbered id cs ≡ Some ls → ClauseNumbered cs id ls
-clause_of id ls [] e = absurd cc
-clause_of id ls (c ∷ cs) e = go (clause_of id ls cs) (eqb c.id id) refl e
+pub signed : (id : ℕ) (ls : List ℕ) (cs : List StoredClause) → clause_numbered id cs ≡ Some ls → ClauseNumbered cs id ls
+signed id ls [] e = absurd cc
+signed id ls (c ∷ cs) e = go (signed id ls cs) (eqb c.id id) refl e
   where
     go : (clause_numbered id cs ≡ Some ls → ClauseNumbered cs id ls) → (b : Bool) → eqb c.id id ≡ b → cond b (Some c.literals) (clause_numbered id cs) ≡ Some ls → ClauseNumbered (c ∷ cs) id ls
     go ih true s k = record { clause = c; stored = inl refl; id_is = eqb-true c.id id s; literals_are = cc }
@@ -89,7 +89,7 @@ by_last f clause (LongClause id) s n = go (clause_numbered id f.clauses) refl s
   where
     go : (x : Option (List ℕ)) → clause_numbered id f.clauses ≡ x → IsStrictSubset x clause → RestsOn f clause (id ∷ [])
     go None e k = absurd k
-    go (Some ls) e k = by_clause f clause ls id (clause_of id ls f.clauses e) k.0
+    go (Some ls) e k = by_clause f clause ls id (signed id ls f.clauses e) k.0
 
 pub deletions : DeletionsRest
 deletions steps clause ok = ((λ a. satisfied (true_unit (canonical clause) (ready_after steps).units) refl a.1), (λ a n. by_last (ready_after steps) clause (ready_after steps).last a.1 n))

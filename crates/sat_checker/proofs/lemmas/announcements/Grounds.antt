@@ -9,12 +9,8 @@ use Rattle.sat_checker.specs.Stored.{StoredClause}
 use Rattle.sat_checker.specs.inner.Walk.{Verdict, falsified, opens, rests, verdict, verdict_of_open, not_false, walk, walk_on, and_then}
 use Rattle.sat_checker.specs.announcements.Needed.{Ground, others_denied, ground_by, ground}
 use Rattle.sat_checker.proofs.lemmas.propagation.Greedy.{Within}
+use Rattle.sat_checker.proofs.lemmas.sets.Members.{each_at}
 use Rattle.sat_checker.proofs.lemmas.meaning.Clauses.{literals_of}
-
--- what holds of each literal holds of one of them
-pub each_at : (P : ℕ → Type 0) (ls : List ℕ) (m : ℕ) → AllByRecursion P ls → is_among ls m ≡ true → P m
-each_at P [] m h e = absurd (true≢false (sym e))
-each_at P (l ∷ ls) m h e = elim (or_cases (eqb l m) (is_among ls m) e) [ inl s ↦ subst P (eqb-true l m s) h.0 | inr k ↦ each_at P ls m h.1 k ]
 
 pub each_from : (P : ℕ → Type 0) (ls : List ℕ) → ((m : ℕ) → is_among ls m ≡ true → P m) → AllByRecursion P ls
 each_from P [] h = tt

@@ -16,7 +16,7 @@ use Rattle.sat_checker.proofs.lemmas.propagation.Soundness.{negated-negated}
 use Rattle.sat_checker.proofs.lemmas.state.Units.{known_units}
 use Rattle.sat_checker.proofs.lemmas.telling.Settling.{settled_none}
 use Rattle.sat_checker.proofs.lemmas.announcements.Rests.{unit_found}
-use Rattle.sat_checker.proofs.lemmas.announcements.Deletions.{unit_of, clause_of}
+use Rattle.sat_checker.proofs.lemmas.announcements.Deletions.{unit_of, signed}
 
 -- where elements stand
 one_front : {A : Type 0} (x : A) (xs ys : List A) → IsOneOf x xs → IsOneOf x (xs ++ ys)
@@ -339,7 +339,7 @@ last_named f told a clause (LongClause id) is s = go (clause_numbered id f.claus
     go : (x : Option (List ℕ)) → clause_numbered id f.clauses ≡ x → IsStrictSubset x clause → NamesPart told clause (id ∷ [])
     go None e k = absurd k
     go (Some ls) e k =
-        let c = clause_of id ls f.clauses e in
+        let c = signed id ls f.clauses e in
         let this = one_each (λ w. IsAnnounced w.id w.literals told) c.clause f.clauses a.clauses c.stored in
         (id, ls, refl, k.0, subst (λ x. IsAnnounced x ls told) c.id_is (subst (λ x. IsAnnounced c.clause.id x told) c.literals_are this))
 

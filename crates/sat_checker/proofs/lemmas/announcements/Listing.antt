@@ -11,11 +11,11 @@ use Rattle.sat_checker.specs.LiteralSets.{is_among, is_tautology}
 use Rattle.sat_checker.specs.Stored.{StoredUnit}
 use Rattle.sat_checker.specs.Storing.{unit_id}
 use Rattle.sat_checker.specs.inner.Marks.{NoRepeats, IsIncreasing}
+use Rattle.sat_checker.specs.inner.WalkNotes.{WalkNotes}
 use Rattle.sat_checker.specs.inner.Reasons.{named, Explains}
 use Rattle.sat_checker.specs.inner.SlotView.{Slot}
 use Rattle.sat_checker.specs.announcements.Needed.{Ground, ground, needed_units, conflict_ids, or_else, true_unit}
 use Rattle.sat_checker.specs.announcements.Promises.{IsOneOf}
-use Rattle.sat_checker.specs.declared.rup.passed.Passed.{Passed}
 use Rattle.sat_checker.proofs.lemmas.sets.Canonical.{same_increasing, among_from_contains, contains_from_among}
 use Rattle.sat_checker.proofs.lemmas.sets.Distinct.{sorted_increasing}
 use Rattle.sat_checker.proofs.lemmas.sets.Merging.{nothing_left}
@@ -29,7 +29,7 @@ use Rattle.sat_checker.proofs.lemmas.announcements.Marking.{or_none}
 use Rattle.sat_checker.proofs.lemmas.announcements.Noting.{ground_same}
 
 -- what the notes explain, whatever the order in which the units are assumed
-pub explained_units : {E : Type 0} (r : Result Bool E) (ss : List Slot) (passed : Passed) (value : List StoredUnit) (assigned clause hashes : List ℕ) → ((l : ℕ) → is_among assigned l ≡ is_among (map (λ u. u.literal) value) l)
+pub explained_units : {E : Type 0} (r : Result Bool E) (ss : List Slot) (passed : WalkNotes) (value : List StoredUnit) (assigned clause hashes : List ℕ) → ((l : ℕ) → is_among assigned l ≡ is_among (map (λ u. u.literal) value) l)
     → IfOk r (λ b. b ≡ true → list_any (is_among assigned) clause ≡ false → is_tautology clause ≡ false → Explains ss passed (ground (map negated clause ++ assigned) (named hashes ss)))
     → IfOk r (λ b. b ≡ true → list_any (is_among (map (λ u. u.literal) value)) clause ≡ false → is_tautology clause ≡ false → Explains ss passed (ground (map negated clause ++ map (λ u. u.literal) value) (named hashes ss)))
 explained_units (Err e) ss passed value assigned clause hashes same h = tt

@@ -6,12 +6,12 @@ use Rattle.sat_base.specs.values.Literals.{negated}
 use Rattle.std.specs.List.{AllByRecursion}
 use Rattle.sat_checker.specs.Looks.{total_length}
 use Rattle.sat_checker.specs.announcements.Following.{followed_back}
-use Rattle.sat_checker.specs.declared.rup.passed.Passed.{Passed}
 use Rattle.sat_checker.specs.declared.rup.passed.Reason as noted
 use Rattle.sat_checker.specs.LiteralSets.{is_among}
 use Rattle.sat_checker.specs.Stored.{StoredClause}
 use Rattle.sat_checker.specs.announcements.Needed.{Ground, others_denied, with_reason}
 use Rattle.sat_checker.specs.inner.NeededView.{IsFollowed}
+use Rattle.sat_checker.specs.inner.WalkNotes.{WalkNotes}
 use Rattle.sat_checker.specs.inner.SlotView.{Slot, literals_at}
 use Rattle.sat_checker.specs.inner.Reasons.{clause_at, reason_in, conflict_at, conflict_length, noted_length}
 use Rattle.sat_checker.specs.declared.rup.needed.Needed.{Needed}
@@ -69,17 +69,17 @@ drop_whole (x ∷ xs) = drop_whole xs
 pub none_left : (xs : List ℕ) → drop (length xs - 0) xs ≡ []
 none_left xs = let e : length xs - 0 ≡ length xs = omega arith in ap (λ n. drop n xs) e ∙ drop_whole xs
 
-pub begins : (ss : List Slot) (place : ℕ) (needed : Needed) (marked : List ℕ) → marked ≡ [] → ((m : ℕ) → is_among needed.marked m ≡ (is_among (map negated (literals_at ss place)) m || is_among marked m)) → needed.ids.items ≡ (clause_at ss place).id ∷ [] → IsFollowed needed (conflict_at ss (Some place))
+pub begins : (ss : List Slot) (place : ℕ) (needed : Needed) (marked : List ℕ) → marked ≡ [] → ((m : ℕ) → is_among needed.marked.literals m ≡ (is_among (map negated (literals_at ss place)) m || is_among marked m)) → needed.ids.items ≡ (clause_at ss place).id ∷ [] → IsFollowed needed (conflict_at ss (Some place))
 begins ss place needed marked e h k = record {
   marked = λ m. h m ∙ ap (λ xs. is_among (map negated (literals_at ss place)) m || is_among xs m) e ∙ or_none (is_among (map negated (literals_at ss place)) m);
   ids = k;
 }
 
 module _ (old new : Needed) (c : StoredClause) (l : ℕ) (g : Ground) (f : IsFollowed old g) where
-  pub not_needed : is_among old.marked l ≡ false → IsFollowed old (with_reason l c g)
+  pub not_needed : is_among old.marked.literals l ≡ false → IsFollowed old (with_reason l c g)
   not_needed n = subst (λ b. IsFollowed old (cond b (record { literals = others_denied l c.literals ++ g.literals; clauses = c ∷ g.clauses }) g)) (sym (sym (f.marked l) ∙ n)) f
 
-  pub is_needed : is_among old.marked l ≡ true → ((m : ℕ) → is_among new.marked m ≡ (is_among (others_denied l c.literals) m || is_among old.marked m)) → new.ids.items ≡ old.ids.items ++ c.id ∷ [] → IsFollowed new (with_reason l c g)
+  pub is_needed : is_among old.marked.literals l ≡ true → ((m : ℕ) → is_among new.marked.literals m ≡ (is_among (others_denied l c.literals) m || is_among old.marked.literals m)) → new.ids.items ≡ old.ids.items ++ c.id ∷ [] → IsFollowed new (with_reason l c g)
   is_needed t h k = subst (λ b. IsFollowed new (cond b (record { literals = others_denied l c.literals ++ g.literals; clauses = c ∷ g.clauses }) g)) (sym (sym (f.marked l) ∙ t)) (record {
     marked = λ m. h m ∙ ap (λ b. is_among (others_denied l c.literals) m || b) (f.marked m) ∙ sym (among-append (others_denied l c.literals) g.literals m);
     ids = k ∙ ap (λ xs. xs ++ c.id ∷ []) f.ids ∙ sym (reverse_more c.id (map (λ x. x.id) g.clauses));
@@ -119,8 +119,8 @@ total_left ss (suc i) [] = omega arith
 total_left ss (suc i) (x ∷ xs) = let h : total_length (map (λ y. literals_at ss y.place) (drop i xs)) ≤ total_length (map (λ y. literals_at ss y.place) xs) = total_left ss i xs in omega arith
 
 -- what was read is no more than what was noted
-pub within_notes : (ss : List Slot) (passed : Passed) (place i old new : ℕ) → passed.conflict ≡ Some place → new ≤ old + length (literals_at ss place) + total_length (map (λ x. literals_at ss x.place) (drop i passed.reasons.items)) → new ≤ old + noted_length ss passed
+pub within_notes : (ss : List Slot) (passed : WalkNotes) (place i old new : ℕ) → passed.conflict ≡ Some place → new ≤ old + length (literals_at ss place) + total_length (map (λ x. literals_at ss x.place) (drop i passed.reasons)) → new ≤ old + noted_length ss passed
 within_notes ss passed place i old new e h =
     let c : conflict_length ss passed.conflict ≡ length (literals_at ss place) = ap (conflict_length ss) e in
-    let t : total_length (map (λ x. literals_at ss x.place) (drop i passed.reasons.items)) ≤ total_length (map (λ x. literals_at ss x.place) passed.reasons.items) = total_left ss i passed.reasons.items in
+    let t : total_length (map (λ x. literals_at ss x.place) (drop i passed.reasons)) ≤ total_length (map (λ x. literals_at ss x.place) passed.reasons) = total_left ss i passed.reasons in
     omega arith

@@ -11,8 +11,8 @@ use Rattle.sat_checker.specs.inner.Walk.{Verdict, falsified, opens, rests, verdi
 use Rattle.sat_checker.specs.announcements.Needed.{with_reason, ground_by, ground}
 use Rattle.sat_checker.specs.announcements.Following.{followed_back}
 use Rattle.sat_checker.specs.inner.SlotView.{Slot, slot_at, literals_at, is_filed, places_from, places_of}
+use Rattle.sat_checker.specs.inner.WalkNotes.{WalkNotes}
 use Rattle.sat_checker.specs.inner.Reasons.{clause_at, filed, named, reason_in, reasons_in, conflict_at, conflict_length, noted_length, IsConflictPlace, KeepsGround, MeetsConflict, Explains}
-use Rattle.sat_checker.specs.declared.rup.passed.Passed.{Passed}
 use Rattle.sat_checker.specs.declared.rup.passed.Reason as noted
 use Rattle.sat_checker.proofs.lemmas.propagation.Walking.{walking}
 use Rattle.sat_checker.proofs.lemmas.propagation.Denied.{denied_none, denied_some}
@@ -27,15 +27,15 @@ length_push ss [] r = omega arith
 length_push ss (x ∷ xs) r = let e : total_length (map (λ y. literals_at ss y.place) (xs ++ r ∷ [])) ≡ total_length (map (λ y. literals_at ss y.place) xs) + length (literals_at ss r.place) = length_push ss xs r in omega arith
 
 -- one clause, by what it says
-module _ (ss : List Slot) (old new : Passed) (assumed : List ℕ) (place : ℕ) (inside : place < length ss) where
-  pub leads_open : (l : ℕ) → verdict assumed (literals_at ss place) ≡ opens l → new.reasons.items ≡ old.reasons.items ++ (record { place = place; lit = l }) ∷ [] → KeepsGround ss old assumed (clause_at ss place ∷ []) new (l ∷ assumed) []
+module _ (ss : List Slot) (old new : WalkNotes) (assumed : List ℕ) (place : ℕ) (inside : place < length ss) where
+  pub leads_open : (l : ℕ) → verdict assumed (literals_at ss place) ≡ opens l → new.reasons ≡ old.reasons ++ (record { place = place; lit = l }) ∷ [] → KeepsGround ss old assumed (clause_at ss place ∷ []) new (l ∷ assumed) []
   leads_open l v e =
       let r : noted.Reason = record { place = place; lit = l } in
-      let notes : reasons_in ss new ≡ reasons_in ss old ++ reason_in ss r ∷ [] = ap (map (reason_in ss)) e ∙ map-append (reason_in ss) old.reasons.items (r ∷ []) in
+      let notes : reasons_in ss new ≡ reasons_in ss old ++ reason_in ss r ∷ [] = ap (map (reason_in ss)) e ∙ map-append (reason_in ss) old.reasons (r ∷ []) in
       record {
         same = λ rest. passed_open (followed_back (reasons_in ss old) (ground assumed (clause_at ss place ∷ rest))) (reasons_in ss old) assumed (clause_at ss place) rest refl l v
             ∙ ap (λ rs. followed_back rs (ground (l ∷ assumed) rest)) (sym notes);
-        there = λ h. subst (AllByRecursion (λ x. x.place < length ss)) (sym e) (all_push (λ x. x.place < length ss) old.reasons.items r h inside);
+        there = λ h. subst (AllByRecursion (λ x. x.place < length ss)) (sym e) (all_push (λ x. x.place < length ss) old.reasons r h inside);
       }
 
   pub leads_over : verdict assumed (literals_at ss place) ≡ rests → KeepsGround ss old assumed (clause_at ss place ∷ []) old assumed []
@@ -44,7 +44,7 @@ module _ (ss : List Slot) (old new : Passed) (assumed : List ℕ) (place : ℕ) 
     there = λ h. h;
   }
 
-  pub ends_there : verdict assumed (literals_at ss place) ≡ falsified → new.reasons.items ≡ old.reasons.items → new.conflict ≡ Some place → MeetsConflict ss old assumed (clause_at ss place ∷ []) new
+  pub ends_there : verdict assumed (literals_at ss place) ≡ falsified → new.reasons ≡ old.reasons → new.conflict ≡ Some place → MeetsConflict ss old assumed (clause_at ss place ∷ []) new
   ends_there v e k = record {
     same = λ rest. passed_conflict (followed_back (reasons_in ss old) (ground assumed (clause_at ss place ∷ rest))) (reasons_in ss old) assumed (clause_at ss place) rest refl v
         ∙ ap (λ rs. followed_back (map (reason_in ss) rs) (conflict_at ss (Some place))) (sym e) ∙ ap (λ c. followed_back (reasons_in ss new) (conflict_at ss c)) (sym k);
@@ -52,23 +52,23 @@ module _ (ss : List Slot) (old new : Passed) (assumed : List ℕ) (place : ℕ) 
     met = subst (IsConflictPlace ss) (sym k) inside;
   }
 
-  pub read_open : (l : ℕ) → new.reasons.items ≡ old.reasons.items ++ (record { place = place; lit = l }) ∷ [] → new.conflict ≡ old.conflict → noted_length ss new ≤ noted_length ss old + length (literals_at ss place)
+  pub read_open : (l : ℕ) → new.reasons ≡ old.reasons ++ (record { place = place; lit = l }) ∷ [] → new.conflict ≡ old.conflict → noted_length ss new ≤ noted_length ss old + length (literals_at ss place)
   read_open l e k =
       let r : noted.Reason = record { place = place; lit = l } in
-      let n : total_length (map (λ x. literals_at ss x.place) new.reasons.items) ≡ total_length (map (λ x. literals_at ss x.place) old.reasons.items) + length (literals_at ss place) =
-      ap (λ rs. total_length (map (λ (x : noted.Reason). literals_at ss x.place) rs)) e ∙ length_push ss old.reasons.items r in
+      let n : total_length (map (λ x. literals_at ss x.place) new.reasons) ≡ total_length (map (λ x. literals_at ss x.place) old.reasons) + length (literals_at ss place) =
+      ap (λ rs. total_length (map (λ (x : noted.Reason). literals_at ss x.place) rs)) e ∙ length_push ss old.reasons r in
       let c : conflict_length ss new.conflict ≡ conflict_length ss old.conflict = ap (conflict_length ss) k in
       omega arith
 
-  pub read_conflict : new.reasons.items ≡ old.reasons.items → new.conflict ≡ Some place → noted_length ss new ≤ noted_length ss old + length (literals_at ss place)
+  pub read_conflict : new.reasons ≡ old.reasons → new.conflict ≡ Some place → noted_length ss new ≤ noted_length ss old + length (literals_at ss place)
   read_conflict e k =
-      let n : total_length (map (λ x. literals_at ss x.place) new.reasons.items) ≡ total_length (map (λ x. literals_at ss x.place) old.reasons.items) =
+      let n : total_length (map (λ x. literals_at ss x.place) new.reasons) ≡ total_length (map (λ x. literals_at ss x.place) old.reasons) =
       ap (λ rs. total_length (map (λ (x : noted.Reason). literals_at ss x.place) rs)) e in
       let c : conflict_length ss new.conflict ≡ length (literals_at ss place) = ap (conflict_length ss) k in
       omega arith
 
 -- a walk, and a walk over what it left
-module _ (ss : List Slot) (old mid new : Passed) (assumed more most : List ℕ) (cs front left : List StoredClause) (first : KeepsGround ss old assumed cs mid more (front ++ left)) where
+module _ (ss : List Slot) (old mid new : WalkNotes) (assumed more most : List ℕ) (cs front left : List StoredClause) (first : KeepsGround ss old assumed cs mid more (front ++ left)) where
   pub leads_further : KeepsGround ss mid more front new most [] → KeepsGround ss old assumed cs new most left
   leads_further then = record {
     same = λ rest. first.same rest ∙ ap (λ xs. followed_back (reasons_in ss mid) (ground more xs)) (append_assoc front left rest) ∙ then.same (left ++ rest);
@@ -82,7 +82,7 @@ module _ (ss : List Slot) (old mid new : Passed) (assumed more most : List ℕ) 
     met = then.met;
   }
 
-pub leads_itself : (ss : List Slot) (passed : Passed) (assumed : List ℕ) (cs : List StoredClause) → KeepsGround ss passed assumed cs passed assumed cs
+pub leads_itself : (ss : List Slot) (passed : WalkNotes) (assumed : List ℕ) (cs : List StoredClause) → KeepsGround ss passed assumed cs passed assumed cs
 leads_itself ss passed assumed cs = record { same = λ rest. refl; there = λ h. h }
 
 -- the clauses of a hash are those at its places
@@ -108,7 +108,7 @@ module _ (ss : List Slot) (places : List ℕ) (i : ℕ) (inside : i < length pla
   pub next_named : named (drop i places) ss ≡ filed (get_or places i 0) ss ++ named (drop (i + 1) places) ss
   next_named = ap (λ hs. named hs ss) (drop_more places i 0 inside)
 
-module _ (ss : List Slot) (old mid new : Passed) (assumed more most : List ℕ) where
+module _ (ss : List Slot) (old mid new : WalkNotes) (assumed more most : List ℕ) where
   -- the first place of a hash, and those behind it
   module _ (hash place : ℕ) (places : List ℕ) (all : places_of hash ss ≡ place ∷ places) where
     pub leads_first : KeepsGround ss old assumed (clause_at ss place ∷ []) new most [] → KeepsGround ss old assumed (filed hash ss) new most (map (clause_at ss) places)
@@ -178,15 +178,8 @@ both_same true b f g = sym (f refl)
 both_same false true f g = g refl
 both_same false false f g = refl
 
--- nothing is noted yet
-pub nothing_noted : (ss : List Slot) (passed : Passed) → passed.reasons.items ≡ [] → passed.conflict ≡ None → noted_length ss passed ≡ 0
-nothing_noted ss passed e k =
-    let n : total_length (map (λ x. literals_at ss x.place) passed.reasons.items) ≡ 0 = ap (λ rs. total_length (map (λ (x : noted.Reason). literals_at ss x.place) rs)) e in
-    let c : conflict_length ss passed.conflict ≡ 0 = ap (conflict_length ss) k in
-    omega arith
-
 -- A walk that starts with no notes, under the negated clause, ends with notes that explain the ground of its conflict.
-pub explained : (ss : List Slot) (old new : Passed) (units clause more hashes : List ℕ) → old.reasons.items ≡ [] → denied_in_turn units clause ≡ Some more → MeetsConflict ss old more (named hashes ss) new
+pub explained : (ss : List Slot) (old new : WalkNotes) (units clause more hashes : List ℕ) → old.reasons ≡ [] → denied_in_turn units clause ≡ Some more → MeetsConflict ss old more (named hashes ss) new
     → Explains ss new (ground (map negated clause ++ units) (named hashes ss))
 explained ss old new units clause more hashes e d h =
     let k = denied_some clause units more d in

@@ -202,10 +202,10 @@ module _ (F : Formula) (f : Stored) (k : KeepsFormula F f) where
   put_is : (last : LastClause) → F.status.last ≡ last → LastUnitIsPut last f.units f.next_id
   put_is last e = subst (λ x. LastUnitIsPut x f.units f.next_id) e k.numbered.put
 
-  pub single_is : (id l : ℕ) → F.status.last ≡ code.Single id l → unit_id l F.units ≡ Some id → last_literals f.last f ≡ Some (l ∷ [])
+  pub single_is : (id l : ℕ) → F.status.last ≡ code.Single id l → unit_id l F.units.units ≡ Some id → last_literals f.last f ≡ Some (l ∷ [])
   single_is id l e u = last_is (code.Single id l) e ∙ unit_there id l f.units (put_is (code.Single id l) e).1 (ap (unit_id l) (sym k.units) ∙ u)
 
-  pub single_none : (id l : ℕ) → F.status.last ≡ code.Single id l → (unit_id l F.units ≡ Some id → ⊥) → last_literals f.last f ≡ None
+  pub single_none : (id l : ℕ) → F.status.last ≡ code.Single id l → (unit_id l F.units.units ≡ Some id → ⊥) → last_literals f.last f ≡ None
   single_none id l e n = last_is (code.Single id l) e ∙ unit_gone id l f.units k.numbered.of_units.increasing (put_is (code.Single id l) e).1 (λ u. n (ap (unit_id l) k.units ∙ u))
 
   pub long_is : (id : ℕ) → F.status.last ≡ code.Long id → last_literals f.last f ≡ clause_numbered id (live F.store.clauses)

@@ -7,8 +7,10 @@ use Rattle.sat_checker.specs.LiteralSets.{is_among, same_literals, is_tautology,
 use Rattle.sat_checker.specs.Spent.{CountSpent, IsSpent}
 use Rattle.sat_checker.specs.Stored.{Stored, StoredClause, StoredUnit, Last, UnitClause, LongClause, is_unit}
 use Rattle.sat_checker.specs.Storing.{with_count, new_clause, with_stored_clause, clause_with, irredundant_count, redundant_count, unit_id, unit_at, long_at, with_unit, with_contradiction, with_new_unit, with_set, with_canonical, with_stored, with_input}
+use Rattle.sat_checker.specs.inner.Room.{HasRoomFor, RoomStays, with_room}
 use Rattle.sat_checker.specs.inner.SlotView.{slot_ids}
 use Rattle.sat_checker.specs.inner.StoreView.{KeepsClauses, Stores, PlacesIds, count_in, id_in}
+use Rattle.sat_checker.specs.inner.UnitView.{UnitsAndRoom}
 use Rattle.sat_checker.specs.inner.FormulaView.{RestOfStored, standing_of, standing_in, AreNumbered, KeepsFormula, KeepsOrSpends}
 use Rattle.sat_checker.specs.declared.store.Placed.{Placed}
 use Rattle.sat_checker.specs.declared.store.Store.{Store}
@@ -17,6 +19,8 @@ use Rattle.sat_checker.specs.declared.store.StoreError.TheVariants.{OutOfMemory,
 use Rattle.sat_checker.specs.declared.state.status.LastClause.TheVariants as code
 use Rattle.sat_checker.specs.declared.state.status.Status.{Status}
 use Rattle.sat_checker.specs.declared.formula.Formula.{Formula}
+use Rattle.sat_checker.proofs.lemmas.sets.Rooms.{room_stays}
+use Rattle.sat_checker.proofs.lemmas.state.Rooms.{stored_stays, stored_with}
 use Rattle.sat_checker.proofs.lemmas.formula.Numbering.{numbered_more, numbered_placed, numbered_unit, unit_noted}
 
 -- the place of a unit by its id
@@ -44,7 +48,7 @@ last_same l f = go (is_unit f l) (is_unit f (negated l))
     go false true = refl
     go false false = refl
 
-pub single_noted : (F : Formula) (r : Bool) (l id : ℕ) (f : Stored) → r ≡ false → KeepsFormula F (with_unit l f) → unit_id l F.units ≡ Some id
+pub single_noted : (F : Formula) (r : Bool) (l id : ℕ) (f : Stored) → r ≡ false → KeepsFormula F (with_unit l f) → unit_id l F.units.units ≡ Some id
     → KeepsFormula (record F { status = record F.status { last = code.Single id l } }) (with_canonical r (l ∷ []) f)
 single_noted F true l id f e k u = absurd (true≢false e)
 single_noted F false l id f e k u = record {
@@ -54,9 +58,11 @@ single_noted F false l id f e k u = record {
       ap (λ (s : RestOfStored). record s { last = UnitClause id }) k.status
       ∙ ap (λ o. record (standing_of (with_unit l f)) { last = o }) (sym (unit_there l id (with_unit l f).units f.last (ap (unit_id l) (sym k.units) ∙ u)));
   numbered = unit_noted (slot_ids F.store.clauses) (with_unit l f).units F.status.last (with_unit l f).next_id l id (ap (unit_id l) (sym k.units) ∙ u) k.numbered;
+  room = k.room;
+  marks = k.marks;
 }
 
-pub single_passed : (F : Formula) (r : Bool) (l : ℕ) (f : Stored) → r ≡ false → KeepsFormula F (with_unit l f) → unit_id l F.units ≡ None → KeepsFormula F (with_canonical r (l ∷ []) f)
+pub single_passed : (F : Formula) (r : Bool) (l : ℕ) (f : Stored) → r ≡ false → KeepsFormula F (with_unit l f) → unit_id l F.units.units ≡ None → KeepsFormula F (with_canonical r (l ∷ []) f)
 single_passed F true l f e k u = absurd (true≢false e)
 single_passed F false l f e k u = record {
   clauses = k.clauses;
@@ -65,6 +71,8 @@ single_passed F false l f e k u = record {
       k.status
       ∙ ap (λ o. record (standing_of (with_unit l f)) { last = o }) (last_same l f ∙ sym (unit_none l (with_unit l f).units f.last (ap (unit_id l) (sym k.units) ∙ u)));
   numbered = k.numbered;
+  room = k.room;
+  marks = k.marks;
 }
 
 -- where a clause is, once it was stored
@@ -106,7 +114,7 @@ next_of : (F : Formula) (f : Stored) → KeepsFormula F f → F.status.next_id �
 next_of F f k = ap (λ (s : RestOfStored). s.next_id) k.status
 
 -- a new unit
-pub unit_stored : (F : Formula) (f : Stored) (l id : ℕ) (units : List StoredUnit) (status : Status) → KeepsFormula F f → is_among (map (λ u. u.literal) F.units) l ≡ false → is_among (map (λ u. u.literal) F.units) (negated l) ≡ false → units ≡ F.units ++ (record { id = id; literal = l }) ∷ []
+pub unit_stored : (F : Formula) (f : Stored) (l id : ℕ) (units : UnitsAndRoom) (status : Status) → KeepsFormula F f → is_among (map (λ u. u.literal) F.units.units) l ≡ false → is_among (map (λ u. u.literal) F.units.units) (negated l) ≡ false → units ≡ record { units = F.units.units ++ (record { id = id; literal = l }) ∷ []; room = with_room l F.units.room }
     → (id ≡ F.status.next_id) × (status ≡ record F.status { next_id = F.status.next_id + 1 }) → KeepsFormula (record F { units = units; status = status }) (with_unit l f)
 unit_stored F f l id units status k a b u s =
     let e : with_unit l f ≡ with_new_unit l f =
@@ -114,9 +122,11 @@ unit_stored F f l id units status k a b u s =
     ∙ ap (λ us. cond (is_among (map (λ (w : StoredUnit). w.literal) us) (negated l)) (with_contradiction l f) (with_new_unit l f)) (sym k.units) ∙ ap (λ b. cond b (with_contradiction l f) (with_new_unit l f)) b in
     subst (KeepsFormula (record F { units = units; status = status })) (sym e) (record {
       clauses = k.clauses;
-      units = u ∙ ap (λ us. us ++ (record { id = id; literal = l }) ∷ []) k.units ∙ ap (λ n. f.units ++ (record { id = n; literal = l }) ∷ []) (s.0 ∙ next_of F f k);
+      units = ap (λ (w : UnitsAndRoom). w.units) u ∙ ap (λ us. us ++ (record { id = id; literal = l }) ∷ []) k.units ∙ ap (λ n. f.units ++ (record { id = n; literal = l }) ∷ []) (s.0 ∙ next_of F f k);
       status = ap standing_in s.1 ∙ ap (λ (t : RestOfStored). record t { next_id = t.next_id + 1 }) k.status;
       numbered = subst (λ x. AreNumbered (slot_ids F.store.clauses) (with_new_unit l f).units x (f.next_id + 1)) (sym (ap (λ (t : Status). t.last) s.1)) (numbered_unit (slot_ids F.store.clauses) f.units F.status.last f.next_id l k.numbered);
+      room = stored_stays F.units.room units.room f.clauses (subst (RoomStays F.units.room) (sym (ap (λ (w : UnitsAndRoom). w.room) u)) (room_stays l F.units.room)) k.room;
+      marks = k.marks;
     })
 
 next_swap : (b is_new : Bool) (n : ℕ) → is_new ≡ not b → cond is_new (n + 1) n ≡ cond b n (n + 1)
@@ -140,18 +150,20 @@ module _ (F : Formula) (store : Store) (f : Stored) (x y : ℕ) (ls : List ℕ) 
   numbered_so h e =
       numbered_placed F.store.clauses store.clauses f.units F.status.last f.next_id p.is_new (is_some there) (subst (λ n. PlacesIds F.store.clauses store.clauses n p.is_new) (next_of F f k) h) e k.numbered
 
-  long_done : (r : Bool) (status : Status) → Stores store f F.status.next_id r all p.id p.is_new → PlacesIds F.store.clauses store.clauses F.status.next_id p.is_new
+  long_done : (r : Bool) (status : Status) → HasRoomFor F.units.room all × HasRoomFor F.marks.room all → Stores store f F.status.next_id r all p.id p.is_new → PlacesIds F.store.clauses store.clauses F.status.next_id p.is_new
       → status ≡ record (noted r p F.status) { next_id = cond p.is_new ((noted r p F.status).next_id + 1) (noted r p F.status).next_id }
       → KeepsFormula (record F { store = store; status = status }) (with_canonical r all f)
-  long_done true status s h e = record {
+  long_done true status roomy s h e = record {
     clauses = kept_so true s.stored;
     units = k.units;
     status =
         ap standing_in e ∙ ap (λ (t : RestOfStored). record t { next_id = cond p.is_new (t.next_id + 1) t.next_id }) k.status
         ∙ ap (λ n. record (standing_of f) { next_id = n }) (next_swap (is_some there) p.is_new f.next_id s.new_is);
     numbered = subst (λ l. AreNumbered (slot_ids store.clauses) f.units l (cond (is_some there) f.next_id (f.next_id + 1))) (sym (ap (λ (t : Status). t.last) e)) (numbered_so h s.new_is);
+    room = stored_with F.units.room true f.next_id all f.clauses roomy.0 k.room;
+    marks = stored_with F.marks.room true f.next_id all f.clauses roomy.1 k.marks;
   }
-  long_done false status s h e = record {
+  long_done false status roomy s h e = record {
     clauses = kept_so false s.stored;
     units = k.units;
     status =
@@ -163,6 +175,8 @@ module _ (F : Formula) (store : Store) (f : Stored) (x y : ℕ) (ls : List ℕ) 
     numbered =
         subst (λ l. AreNumbered (slot_ids store.clauses) f.units l (cond (is_some there) f.next_id (f.next_id + 1))) (sym (ap (λ (t : Status). t.last) e))
         (let n = numbered_so h s.new_is in record { of_clauses = n.of_clauses; of_units = n.of_units; put = tt });
+    room = stored_with F.units.room false f.next_id all f.clauses roomy.0 k.room;
+    marks = stored_with F.marks.room false f.next_id all f.clauses roomy.1 k.marks;
   }
 
   next_noted : (r : Bool) → (noted r p F.status).next_id ≡ f.next_id
@@ -182,14 +196,14 @@ abbrev pub Takes : {T : Type 0} → Result T StoreError → Status → Bool → 
 Takes result old needed new =
     MatchResult result (λ x. new ≡ record old { next_id = cond needed (old.next_id + 1) old.next_id }) (λ e. (e ≡ CounterEnd) × (needed ≡ true) × (2 ^ 64 ≤ old.next_id + 1))
 
-pub long_stored : {T : Type 0} (result : Result T StoreError) (F : Formula) (store : Store) (was status : Status) (f : Stored) (r : Bool) (ls : List ℕ) (p : Placed) → 2 ≤ length ls → KeepsFormula F f → Stores store f F.status.next_id r ls p.id p.is_new → PlacesIds F.store.clauses store.clauses F.status.next_id p.is_new
+pub long_stored : {T : Type 0} (result : Result T StoreError) (F : Formula) (store : Store) (was status : Status) (f : Stored) (r : Bool) (ls : List ℕ) (p : Placed) → 2 ≤ length ls → KeepsFormula F f → HasRoomFor F.units.room ls × HasRoomFor F.marks.room ls → Stores store f F.status.next_id r ls p.id p.is_new → PlacesIds F.store.clauses store.clauses F.status.next_id p.is_new
     → was ≡ noted r p F.status → Takes result was p.is_new status → KeepsOrSpends result (KeepsFormula (record F { store = store; status = status }) (with_canonical r ls f)) (with_canonical r ls f)
-long_stored result F store was status f r [] p l k s h w m = absurd (omega arith)
-long_stored result F store was status f r (x ∷ []) p l k s h w m = absurd (omega arith)
-long_stored {T = T} result F store was status f r (x ∷ y ∷ ls) p l k s h w m = go result (subst (λ t. Takes result t p.is_new status) w m)
+long_stored result F store was status f r [] p l k q s h w m = absurd (omega arith)
+long_stored result F store was status f r (x ∷ []) p l k q s h w m = absurd (omega arith)
+long_stored {T = T} result F store was status f r (x ∷ y ∷ ls) p l k q s h w m = go result (subst (λ t. Takes result t p.is_new status) w m)
   where
     go : (result : Result T StoreError) → Takes result (noted r p F.status) p.is_new status → KeepsOrSpends result (KeepsFormula (record F { store = store; status = status }) (with_canonical r (x ∷ y ∷ ls) f)) (with_canonical r (x ∷ y ∷ ls) f)
-    go (Ok v) m = long_done F store f x y ls p k r status s h m
+    go (Ok v) m = long_done F store f x y ls p k r status q s h m
     go (Err e) m =
         subst (λ d. KeepsOrSpends {T = T} (Err d) (KeepsFormula (record F { store = store; status = status }) (with_canonical r (x ∷ y ∷ ls) f)) (with_canonical r (x ∷ y ∷ ls) f)) (sym m.0) (long_spent F store f x y ls p k r s.new_is m.1 m.2)
 
@@ -253,6 +267,8 @@ input_stored {T = T} result F G status f c b k g e m = go result m
       numbered =
           subst (λ l. AreNumbered (slot_ids G.store.clauses) (with_stored false c f).units l (with_input c f).next_id) (sym (ap (λ (t : Status). t.last) m))
           (numbered_more (slot_ids G.store.clauses) (with_stored false c f).units G.status.last (with_stored false c f).next_id (with_input c f).next_id (omega arith) g.numbered);
+      room = g.room;
+      marks = g.marks;
     }
     go (Err e) m =
         subst (λ d. KeepsOrSpends {T = T} (Err d) (KeepsFormula (record G { status = status }) (with_input c f)) (with_input c f)) (sym m.0)

@@ -1,14 +1,15 @@
 -- What it takes to assume the negation of a clause, and that the check is then exact.
-use Rattle.std.proofs.Common.{length, drop, get_or, ◌<◌, ◌+◌, ◌↔◌, ℕ, ◌≡◌, Bool, true, false, cond, eqb, List, [], ◌∷◌, ◌++◌, map, refl, sym, ◌∙◌, subst, Some, None, ◌⊎◌, inl, inr}
+use Rattle.std.proofs.Common.{length, take, drop, get_or, ap, ◌<◌, ◌+◌, ◌↔◌, ℕ, ◌≡◌, Bool, true, false, cond, eqb, List, [], ◌∷◌, ◌++◌, map, refl, sym, ◌∙◌, subst, Some, None, ◌⊎◌, inl, inr}
 use Rattle.std.proofs.lemmas.Bool.{or_cases, or_left, or_right, or_from, both_ways, eqb-true, eq-eqb, true≢false, false_from_ne_true}
 use Rattle.std.specs.List.{AllByRecursion, list_any}
-use Rattle.sat_base.specs.values.Literals.{negated}
+use Rattle.sat_base.specs.values.Literals.{negated, negated_if}
 use Rattle.sat_checker.specs.LiteralSets.{is_among, is_tautology}
 use Rattle.sat_checker.specs.inner.Marks.{NoRepeats}
 use Rattle.sat_checker.specs.Propagation.{PassesCheck, tautology, unit_true, conflict}
+use Rattle.sat_checker.specs.inner.Room.{signed}
 use Rattle.sat_checker.specs.inner.Walk.{denied_in_turn, walk_buckets}
-use Rattle.std.proofs.lemmas.List.{drop_more}
-use Rattle.sat_checker.proofs.lemmas.propagation.Walking.{Extends-itself, Extends-more}
+use Rattle.std.proofs.lemmas.List.{length-map, map-append, map-id, get_or-map, take_more, take-append-drop, drop_more}
+use Rattle.sat_checker.proofs.lemmas.propagation.Walking.{Extends-itself, Extends-assumed}
 use Rattle.sat_checker.proofs.lemmas.propagation.Greedy.{Within, rule_from_walk, walk_from_rule}
 
 -- the assumed literals once l is denied
@@ -142,14 +143,40 @@ pub exact_when_walked : (units clause more : List ℕ) (buckets : List (List (Li
 exact_when_walked units clause more buckets answer sets e w =
     ((λ t. passes_when_walked units clause more buckets sets e (sym w ∙ t)), (λ p. w ∙ walked_when_passes units clause more buckets sets e p))
 
-module _ (clause : List ℕ) (i d : ℕ) (inside : i < length clause) (assumed : List ℕ) where
-  pub denied-true : is_among assumed (get_or clause i d) ≡ true → denied_in_turn assumed (drop i clause) ≡ None
-  denied-true t = rw (drop_more clause i d inside) (rw t refl)
+-- a clause of negations is a map
+pub clause_is_map : (negate : Bool) (ls : List ℕ) → signed negate ls ≡ map (negated_if negate) ls
+clause_is_map true ls = refl
+clause_is_map false ls = sym (map-id ls)
 
-  pub denied-had : is_among assumed (get_or clause i d) ≡ false → is_among assumed (negated (get_or clause i d)) ≡ true → denied_in_turn assumed (drop i clause) ≡ denied_in_turn assumed (drop (i + 1) clause)
-  denied-had f t = rw (drop_more clause i d inside) (rw (f, t) refl)
+-- it has one literal more, behind those before
+pub clause_more : (negate : Bool) (ls : List ℕ) (i d : ℕ) → i < length ls → signed negate (take (i + 1) ls) ≡ signed negate (take i ls) ++ negated_if negate (get_or ls i d) ∷ []
+clause_more negate ls i d h =
+    clause_is_map negate (take (i + 1) ls) ∙ ap (map (negated_if negate)) (take_more ls i d h) ∙ map-append (negated_if negate) (take i ls) (get_or ls i d ∷ [])
+    ∙ ap (λ xs. xs ++ negated_if negate (get_or ls i d) ∷ []) (sym (clause_is_map negate (take i ls)))
 
-  pub denied-new : is_among assumed (get_or clause i d) ≡ false → is_among assumed (negated (get_or clause i d)) ≡ false → denied_in_turn assumed (drop i clause) ≡ denied_in_turn (negated (get_or clause i d) ∷ assumed) (drop (i + 1) clause)
-  denied-new f t = rw (drop_more clause i d inside) (rw (f, t) refl)
+-- and the rest behind
+pub clause_split : (negate : Bool) (ls : List ℕ) (i : ℕ) → signed negate (take i ls) ++ signed negate (drop i ls) ≡ signed negate ls
+clause_split true ls i = sym (map-append negated (take i ls) (drop i ls)) ∙ ap (map negated) (take-append-drop i ls)
+clause_split false ls i = take-append-drop i ls
 
-pub ruleset denying = (Extends-itself, Extends-more, denied-true, denied-had, denied-new)
+clause_length : (negate : Bool) (ls : List ℕ) → length (signed negate ls) ≡ length ls
+clause_length true ls = length-map ls negated
+clause_length false ls = refl
+
+-- the next literal of a clause, by what is assumed of it and of its negation
+module _ (negate : Bool) (ls : List ℕ) (i d x : ℕ) (inside : i < length ls) (is : x ≡ negated_if negate (get_or ls i d)) (assumed : List ℕ) where
+  next : drop i (signed negate ls) ≡ x ∷ drop (i + 1) (signed negate ls)
+  next =
+      drop_more (signed negate ls) i 0 (subst (λ n. i < n) (sym (clause_length negate ls)) inside)
+      ∙ ap (λ l. l ∷ drop (i + 1) (signed negate ls)) (ap (λ c. get_or c i 0) (clause_is_map negate ls) ∙ get_or-map (negated_if negate) ls i d 0 inside ∙ sym is)
+
+  pub denied-true : is_among assumed x ≡ true → denied_in_turn assumed (drop i (signed negate ls)) ≡ None
+  denied-true t = rw next (rw t refl)
+
+  pub denied-had : is_among assumed x ≡ false → is_among assumed (negated x) ≡ true → denied_in_turn assumed (drop i (signed negate ls)) ≡ denied_in_turn assumed (drop (i + 1) (signed negate ls))
+  denied-had f t = rw next (rw (f, t) refl)
+
+  pub denied-new : is_among assumed x ≡ false → is_among assumed (negated x) ≡ false → denied_in_turn assumed (drop i (signed negate ls)) ≡ denied_in_turn (negated x ∷ assumed) (drop (i + 1) (signed negate ls))
+  denied-new f t = rw next (rw (f, t) refl)
+
+pub ruleset denying = (Extends-itself, Extends-assumed, denied-true, denied-had, denied-new)

@@ -79,6 +79,12 @@ IsSubsequence-longer : (xs : List (List ℕ)) (y : List ℕ) (ys : List (List �
 IsSubsequence-longer [] y ys h = tt
 IsSubsequence-longer (x ∷ xs) y ys h = inr h
 
+-- what holds of each of a list holds of each of those that are picked
+pub picked_each : (P : List ℕ → Type 0) (xs ys : List (List ℕ)) → IsSubsequence xs ys → AllByRecursion P ys → AllByRecursion P xs
+picked_each P [] ys s h = tt
+picked_each P (x ∷ xs) [] s h = absurd s
+picked_each P (x ∷ xs) (y ∷ ys) s h = elim s [ inl p ↦ (subst P (sym p.0) h.0, picked_each P xs ys p.1 h.1) | inr q ↦ picked_each P (x ∷ xs) ys q h.1 ]
+
 record Runs (assumed : List ℕ) (clauses : List (List ℕ)) : Type 0 where
   picked : List (List ℕ)
   chosen : IsSubsequence picked clauses
@@ -112,7 +118,7 @@ walk_runs (c ∷ cs) assumed e = by_open (walk_runs cs) (not_false assumed c) re
 pub record Within (fewer more : List ℕ) : Type 0 where
   pub each : (l : ℕ) → is_among fewer l ≡ true → is_among more l ≡ true
 
-Within-itself : (xs : List ℕ) → Within xs xs
+pub Within-itself : (xs : List ℕ) → Within xs xs
 Within-itself xs = record { each = λ l h. h }
 
 Within-one_more : (xs : List ℕ) (o : ℕ) → Within xs (o ∷ xs)
@@ -232,11 +238,12 @@ rule_from_walk assumed buckets e =
     let r = walk_runs (clauses_in f.first) assumed f.met in
     record { first = f.first; rest = f.rest; picked = r.picked; split = f.split; none_empty = f.none_empty; chosen = r.chosen; conflict = r.conflict }
 
-joined_front : (first rest : List (List (List ℕ))) → AllByRecursion (AllByRecursion NoRepeats) (first ++ rest) → AllByRecursion NoRepeats (clauses_in first)
-joined_front [] rest h = tt
-joined_front (b ∷ bs) rest h = both b (clauses_in bs) h.0 (joined_front bs rest h.1)
+-- what holds of each clause of all buckets holds of each of the first ones
+pub joined_front : (P : List ℕ → Type 0) (first rest : List (List (List ℕ))) → AllByRecursion (AllByRecursion P) (first ++ rest) → AllByRecursion P (clauses_in first)
+joined_front P [] rest h = tt
+joined_front P (b ∷ bs) rest h = both b (clauses_in bs) h.0 (joined_front P bs rest h.1)
   where
-    both : (xs ys : List (List ℕ)) → AllByRecursion NoRepeats xs → AllByRecursion NoRepeats ys → AllByRecursion NoRepeats (xs ++ ys)
+    both : (xs ys : List (List ℕ)) → AllByRecursion P xs → AllByRecursion P ys → AllByRecursion P (xs ++ ys)
     both [] ys p q = q
     both (x ∷ xs) ys p q = (p.0, both xs ys p.1 q)
 
@@ -245,4 +252,4 @@ pub walk_from_rule : (fewer more : List ℕ) (buckets : List (List (List ℕ))) 
 walk_from_rule fewer more buckets w n h =
     let n' : AllByRecursion (AllByRecursion NoRepeats) (h.first ++ h.rest) = subst (AllByRecursion (AllByRecursion NoRepeats)) h.split n in
     subst (λ b. walk_buckets more b ≡ true) (sym h.split)
-    (walk_over h.first h.rest more h.none_empty (walk_finds (clauses_in h.first) fewer more w (joined_front h.first h.rest n') h.picked h.chosen h.conflict))
+    (walk_over h.first h.rest more h.none_empty (walk_finds (clauses_in h.first) fewer more w (joined_front NoRepeats h.first h.rest n') h.picked h.chosen h.conflict))

@@ -8,6 +8,7 @@ use Rattle.sat_checker.specs.LiteralSets.{is_among, is_tautology}
 use Rattle.sat_checker.specs.Propagation.{IsFalsified, UnitInTurn, IsSubsequence, clauses_in, PassesCheck, tautology, unit_true, conflict}
 use Rattle.sat_checker.specs.Stored.{Stored, unit_literals, long_clauses, hash_by, bucket}
 use Rattle.sat_checker.specs.Accepts.{PassesByHashes}
+use Rattle.sat_checker.proofs.lemmas.propagation.Greedy.{joined_front, picked_each}
 
 pub negated-negated : (l : ℕ) → negated (negated l) ≡ l
 negated-negated l = omega arith
@@ -55,11 +56,8 @@ conflict_never a assumed [] h t r = r
 conflict_never a assumed (c ∷ []) h t r = falsified a assumed c h r t.0
 conflict_never a assumed (c ∷ d ∷ cs) h t r = conflict_never a (r.0 ∷ assumed) (d ∷ cs) (unit a assumed c r.0 h r.1.others t.0, h) t.1 r.2
 
-pub EachHolds-chosen : (a : Valuation) (xs ys : List (List ℕ)) → IsSubsequence xs ys → EachHolds a ys → EachHolds a xs
-EachHolds-chosen a [] ys s h = tt
-EachHolds-chosen a (x ∷ xs) [] s h = absurd s
-EachHolds-chosen a (x ∷ xs) (y ∷ ys) s h =
-    elim s [ inl p ↦ (subst (λ c. clause_true a c ≡ true) (sym p.0) h.0, EachHolds-chosen a xs ys p.1 h.1) | inr q ↦ EachHolds-chosen a (x ∷ xs) ys q h.1 ]
+EachHolds-chosen : (a : Valuation) (xs ys : List (List ℕ)) → IsSubsequence xs ys → EachHolds a ys → EachHolds a xs
+EachHolds-chosen a = picked_each (λ c. clause_true a c ≡ true)
 
 EachTrue-both : (a : Valuation) (xs ys : List ℕ) → EachTrue a xs → EachTrue a ys → EachTrue a (xs ++ ys)
 EachTrue-both a [] ys p q = q
@@ -84,16 +82,8 @@ EachHolds-filter a test (c ∷ cs) h = go (EachHolds-filter a test cs h.1) (test
     go ih true = (h.0, ih)
     go ih false = ih
 
-EachHolds-both : (a : Valuation) (xs ys : List (List ℕ)) → EachHolds a xs → EachHolds a ys → EachHolds a (xs ++ ys)
-EachHolds-both a [] ys p q = q
-EachHolds-both a (x ∷ xs) ys p q = (p.0, EachHolds-both a xs ys p.1 q)
-
 EachHolds-buckets : (a : Valuation) (first rest buckets : List (List (List ℕ))) → AllByRecursion (EachHolds a) buckets → buckets ≡ first ++ rest → EachHolds a (clauses_in first)
-EachHolds-buckets a first rest buckets h e = go first (subst (AllByRecursion (EachHolds a)) e h)
-  where
-    go : (bs : List (List (List ℕ))) → AllByRecursion (EachHolds a) (bs ++ rest) → EachHolds a (clauses_in bs)
-    go [] k = tt
-    go (b ∷ bs) k = EachHolds-both a b (clauses_in bs) k.0 (go bs k.1)
+EachHolds-buckets a first rest buckets h e = joined_front (λ c. clause_true a c ≡ true) first rest (subst (AllByRecursion (EachHolds a)) e h)
 
 -- a clause with both signs of a variable is true
 pub member_true : (a : Valuation) (ls : List ℕ) (l : ℕ) → is_among ls l ≡ true → literal_true a l ≡ true → clause_true a ls ≡ true

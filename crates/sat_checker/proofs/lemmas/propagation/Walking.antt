@@ -1,10 +1,15 @@
 -- Steps of the walk.
-use Rattle.std.proofs.Common.{ℕ, suc, ◌+◌, ◌-◌, ◌<◌, ◌≤◌, ◌≡◌, ◌≢◌, Bool, true, false, cond, List, [], ◌∷◌, length, drop, get_or, map, refl, sym, ◌∙◌, ap, subst, arith, Option, Some, None}
+use Rattle.std.proofs.Common.{ℕ, suc, ◌+◌, ◌-◌, ◌<◌, ◌≤◌, ◌≡◌, ◌≢◌, Bool, true, false, not, cond, eqb, List, [], ◌∷◌, length, drop, get_or, map, filter, refl, sym, ◌∙◌, ap, subst, arith, Option, Some, None, inl, inr}
+use Rattle.std.proofs.lemmas.Bool.{or_cases, or_left, or_right, eq-eqb}
 use Rattle.std.proofs.lemmas.List.{drop_more, drop-drop}
 use Rattle.std.specs.Prelude.{find}
 use Rattle.sat_checker.specs.Looks.{total_length}
 use Rattle.sat_checker.specs.LiteralSets.{is_among}
+use Rattle.sat_base.specs.values.Literals.{negated}
 use Rattle.sat_checker.specs.inner.Look.{AssumesMore}
+use Rattle.sat_checker.specs.inner.Room.{LiteralsAndRoom, with_room, RoomStays, HasRoomFor, HasRoomForAll}
+use Rattle.sat_checker.proofs.lemmas.sets.Members.{each_at, each_mapped}
+use Rattle.sat_checker.proofs.lemmas.sets.Rooms.{room_stays}
 use Rattle.sat_checker.specs.inner.Walk.{opens, rests, verdict, verdict_of_open, not_false, walk, walk_on, and_then, walk_buckets, if_conflict}
 
 -- a literal that a clause opens isn't assumed yet
@@ -20,14 +25,62 @@ opens_from assumed (m ∷ n ∷ ls) l e = absurd cc
 pub opens_new : (assumed clause : List ℕ) (l : ℕ) → verdict assumed clause ≡ opens l → is_among assumed l ≡ false
 opens_new assumed clause l e = opens_from assumed (not_false assumed clause) l e
 
-pub Extends-itself : (xs : List ℕ) → AssumesMore xs xs
-Extends-itself xs = record { longer = omega arith; below = let e : length xs - length xs ≡ 0 = omega arith in rw e refl }
+-- and it's in the clause
+filter_among : (test : ℕ → Bool) (ls : List ℕ) (l : ℕ) → is_among (filter test ls) l ≡ true → is_among ls l ≡ true
+filter_among test [] l h = h
+filter_among test (m ∷ ms) l h = go (filter_among test ms l) (test m) h
+  where
+    go : (is_among (filter test ms) l ≡ true → is_among ms l ≡ true) → (b : Bool) → is_among (cond b (m ∷ filter test ms) (filter test ms)) l ≡ true → is_among (m ∷ ms) l ≡ true
+    go ih true k = elim (or_cases (eqb m l) (is_among (filter test ms) l) k) [ inl e ↦ or_left (eqb m l) (is_among ms l) e | inr r ↦ or_right (eqb m l) (is_among ms l) (ih r) ]
+    go ih false k = or_right (eqb m l) (is_among ms l) (ih k)
 
-pub Extends-more : (xs ys : List ℕ) (l : ℕ) → AssumesMore xs ys → AssumesMore xs (l ∷ ys)
-Extends-more xs ys l h = record {
-  longer = let k = h.longer in omega arith;
-  below = let k : length xs ≤ length ys = h.longer in let e : suc (length ys) - length xs ≡ suc (length ys - length xs) = omega arith in rw e h.below;
-}
+among_open : (assumed ls : List ℕ) (l : ℕ) → verdict_of_open assumed ls ≡ opens l → is_among ls l ≡ true
+among_open assumed [] l e = absurd cc
+among_open assumed (m ∷ []) l e = go (is_among assumed m) e
+  where
+    go : (b : Bool) → cond b rests (opens m) ≡ opens l → is_among (m ∷ []) l ≡ true
+    go true e' = absurd cc
+    go false e' = let same : m ≡ l = cc in or_left (eqb m l) false (eq-eqb m l same)
+among_open assumed (m ∷ n ∷ ls) l e = absurd cc
+
+pub opens_among : (assumed clause : List ℕ) (l : ℕ) → verdict assumed clause ≡ opens l → is_among clause l ≡ true
+opens_among assumed clause l e = filter_among (λ m. not (is_among assumed (negated m))) clause l (among_open assumed (not_false assumed clause) l e)
+
+-- so there is room for it where there is room for the clause
+pub opens_roomy : (room assumed clause : List ℕ) (l : ℕ) → verdict assumed clause ≡ opens l → HasRoomFor room clause → is_among room l ≡ true
+opens_roomy room assumed clause l e h = (each_at (λ m. (is_among room m ≡ true) × (is_among room (negated m) ≡ true)) clause l h (opens_among assumed clause l e)).0
+
+-- and none has to be made for it
+pub opens_same : (room assumed clause : List ℕ) (l : ℕ) → verdict assumed clause ≡ opens l → HasRoomFor room clause → with_room l room ≡ room
+opens_same room assumed clause l e h = ap (λ b. cond b room (l ∷ negated l ∷ room)) (opens_roomy room assumed clause l e h)
+
+-- and there is still room for the clause where there is more room
+pub roomy_further : (old new clause : List ℕ) → RoomStays old new → HasRoomFor old clause → HasRoomFor new clause
+roomy_further old new [] s h = tt
+roomy_further old new (l ∷ ls) s h = ((s l h.0.0, s (negated l) h.0.1), roomy_further old new ls s h.1)
+
+-- there is room for a clause where there was room for all of these places
+pub roomy_at : (old new : List ℕ) (literals : ℕ → List ℕ) (places : List ℕ) (place : ℕ) → RoomStays old new → is_among places place ≡ true → HasRoomForAll old (map literals places) → HasRoomFor new (literals place)
+roomy_at old new literals places place s among h = roomy_further old new (literals place) s (each_at (λ p. HasRoomFor old (literals p)) places place (each_mapped (HasRoomFor old) literals places h) among)
+
+pub Extends-itself : (t : LiteralsAndRoom) → AssumesMore t t
+Extends-itself t = record { longer = omega arith; below = let e : length t.literals - length t.literals ≡ 0 = omega arith in rw e refl; room = λ l h. h }
+
+pub Extends-more : (old mid new : LiteralsAndRoom) (l : ℕ) → AssumesMore old mid → new.literals ≡ l ∷ mid.literals → RoomStays mid.room new.room → AssumesMore old new
+Extends-more old mid new l h e s =
+    let k : length old.literals ≤ length mid.literals = h.longer in
+    let n : length new.literals ≡ suc (length mid.literals) = ap length e in
+    let d : length new.literals - length old.literals ≡ suc (length mid.literals - length old.literals) = omega arith in
+    record {
+      longer = omega arith;
+      below = ap (λ i. drop i new.literals) d ∙ ap (drop (suc (length mid.literals - length old.literals))) e ∙ h.below;
+      room = λ m r. s m (h.room m r);
+    }
+
+-- one more is assumed, with room for it
+pub Extends-assumed : (old mid new : LiteralsAndRoom) (l : ℕ) → AssumesMore old mid → new ≡ record { literals = l ∷ mid.literals; room = with_room l mid.room } → AssumesMore old new
+Extends-assumed old mid new l h e =
+    Extends-more old mid new l h (ap (λ (t : LiteralsAndRoom). t.literals) e) (λ m k. subst (λ (t : LiteralsAndRoom). is_among t.room m ≡ true) (sym e) (room_stays l mid.room m k))
 
 -- the literals of places, one place after another
 module _ (literals : ℕ → List ℕ) (places : List ℕ) (i : ℕ) (inside : i < length places) where
@@ -67,17 +120,26 @@ module _ (literals : ℕ → List ℕ) (places : List ℕ) (i : ℕ) (inside : i
 pub looks_over : (most before left : ℕ) → before + left ≡ most → before ≤ most
 looks_over most before left h = omega arith
 
-pub Extends-further : (xs ys zs : List ℕ) → AssumesMore xs ys → AssumesMore ys zs → AssumesMore xs zs
-Extends-further xs ys zs h k =
-    let p : length xs ≤ length ys = h.longer in
-    let q : length ys ≤ length zs = k.longer in
-    let e : length zs - length xs ≡ (length zs - length ys) + (length ys - length xs) = omega arith in
+pub Extends-further : (old mid new : LiteralsAndRoom) → AssumesMore old mid → AssumesMore mid new → AssumesMore old new
+Extends-further old mid new h k =
+    let p : length old.literals ≤ length mid.literals = h.longer in
+    let q : length mid.literals ≤ length new.literals = k.longer in
+    let e : length new.literals - length old.literals ≡ (length new.literals - length mid.literals) + (length mid.literals - length old.literals) = omega arith in
     record {
       longer = omega arith;
-      below = ap (λ n. drop n zs) e ∙ sym (drop-drop (length ys - length xs) (length zs - length ys) zs) ∙ ap (drop (length ys - length xs)) k.below ∙ h.below;
+      below = ap (λ n. drop n new.literals) e ∙ sym (drop-drop (length mid.literals - length old.literals) (length new.literals - length mid.literals) new.literals)
+          ∙ ap (drop (length mid.literals - length old.literals)) k.below ∙ h.below;
+      room = λ l r. k.room l (h.room l r);
     }
 
-pub ruleset meeting = (opens_new, Extends-itself, Extends-more)
+-- where what was assumed in between is forgotten, the literals are the old ones, and what had room still has
+pub Extends-undone : (old mid new : LiteralsAndRoom) (left : ℕ) → AssumesMore old mid → left ≡ length old.literals → new ≡ record mid { literals = drop (length mid.literals - left) mid.literals } → (new.literals ≡ old.literals) × RoomStays old.room new.room
+Extends-undone old mid new left h n e = (
+  ap (λ (t : LiteralsAndRoom). t.literals) e ∙ ap (λ k. drop (length mid.literals - k) mid.literals) n ∙ h.below,
+  (λ l k. subst (λ (t : LiteralsAndRoom). is_among t.room l ≡ true) (sym e) (h.room l k)),
+)
+
+pub ruleset meeting = (opens_new, Extends-itself, Extends-assumed)
 
 pub ruleset walking = (Extends-itself, Extends-further, walk_next, sum_next, walk-met, walk-conflict)
 

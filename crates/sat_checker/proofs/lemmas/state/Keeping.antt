@@ -8,7 +8,7 @@ use Rattle.sat_checker.specs.Stored.{Stored, Variable, Sample, mode_of}
 use Rattle.sat_checker.specs.Storing.{settled, with_stored, with_input, with_literals_known, with_solver_name, with_known}
 use Rattle.sat_checker.specs.Accepts.{effect, IsStrictSubset}
 use Rattle.sat_checker.specs.Spent.{IsSpent}
-use Rattle.sat_checker.specs.inner.FormulaView.{KeepsFormula, refiled_in, TurnsBehind, KeepsOrSpends}
+use Rattle.sat_checker.specs.inner.FormulaView.{KeepsFormula, refiled_in, TurnsIf, KeepsOrSpends}
 use Rattle.sat_checker.specs.inner.StateView.{KeepsStored, with_added}
 use Rattle.sat_checker.specs.inner.VariablesView.{KeepsVariables, AreSampling}
 use Rattle.sat_checker.specs.declared.store.StoreError.{StoreError}
@@ -21,11 +21,11 @@ use Rattle.sat_checker.proofs.lemmas.state.Scanning.{same_part}
 use Rattle.sat_checker.proofs.lemmas.meaning.Names.{SameVariables, stored_same, settled_same}
 
 -- an error is handed on
-pub decides_err : {T : Type 0} (first : Result T StoreError) (result : Result Bool StoreError) (d e : StoreError) → first ≡ Err e → result ≡ Err d → d ≡ e → (K J A L : Type 0) (g h : Stored) → J → A → (IsSpent g → IsSpent h) → KeepsOrSpends first K g → TurnsBehind result J A L h
-decides_err {T = T} first result d e a b s K J A L g h j p w t = subst (λ x. TurnsBehind x J A L h) (sym (b ∙ ap Err s)) (go e (subst (λ x. KeepsOrSpends x K g) a t))
+pub decides_err : {T : Type 0} (first : Result T StoreError) (result : Result Bool StoreError) (d e : StoreError) → first ≡ Err e → result ≡ Err d → d ≡ e → (K A L : Type 0) (g h : Stored) → A → (IsSpent g → IsSpent h) → KeepsOrSpends first K g → TurnsIf result A L h
+decides_err {T = T} first result d e a b s K A L g h p w t = subst (λ x. TurnsIf x A L h) (sym (b ∙ ap Err s)) (go e (subst (λ x. KeepsOrSpends x K g) a t))
   where
-    go : (e : StoreError) → KeepsOrSpends {T = T} (Err e) K g → TurnsBehind (Err e) J A L h
-    go OutOfMemory t = j
+    go : (e : StoreError) → KeepsOrSpends {T = T} (Err e) K g → TurnsIf (Err e) A L h
+    go OutOfMemory t = p
     go CounterEnd t = (p, w t)
 
 pub sampling_kept : (vs : Variables) (f : Stored) (ls : List ℕ) → KeepsVariables vs f.variables → AreSampling vs ls → AllByRecursion (λ l. mode_of (variable l) f ≡ Sample) ls

@@ -118,18 +118,15 @@ fits_model f ls u a n t = record { consistent = u; apart = a; units = not_contra
 pub fits_tests : (f : Stored) (ls : List ℕ) → FitsModel f ls → (is_contradicted ls f.units ≡ false) × (are_all_true ls f.clauses ≡ true)
 fits_tests f ls h = (uncontradicted ls f.units h.units, true_each ls f.clauses h.clauses)
 
-pub met_fits : (b : Bool) (f : Stored) (ls assigned : List ℕ) → f.unsat ≡ false → VariablesApart ls → assigned ≡ ls → b ≡ (not (is_contradicted assigned f.units) && are_all_true assigned f.clauses) → (b ≡ true) ↔ FitsModel f ls
-met_fits b f ls assigned u a s e = (to, back)
+pub met_fits : (b : Bool) (f : Stored) (ls : List ℕ) → f.unsat ≡ false → VariablesApart ls → b ≡ (not (is_contradicted ls f.units) && are_all_true ls f.clauses) → (b ≡ true) ↔ FitsModel f ls
+met_fits b f ls u a e = (to, back)
   where
-    same : b ≡ (not (is_contradicted ls f.units) && are_all_true ls f.clauses)
-    same = e ∙ ap (λ xs. not (is_contradicted xs f.units) && are_all_true xs f.clauses) s
-
     to : b ≡ true → FitsModel f ls
-    to t = let p = and_parts (not (is_contradicted ls f.units)) (are_all_true ls f.clauses) (sym same ∙ t) in fits_model f ls u a (not_true (is_contradicted ls f.units) p.0) p.1
+    to t = let p = and_parts (not (is_contradicted ls f.units)) (are_all_true ls f.clauses) (sym e ∙ t) in fits_model f ls u a (not_true (is_contradicted ls f.units) p.0) p.1
       where
         not_true : (x : Bool) → not x ≡ true → x ≡ false
         not_true true n = absurd (true≢false (sym n))
         not_true false n = refl
 
     back : FitsModel f ls → b ≡ true
-    back h = let p = fits_tests f ls h in same ∙ ap (λ x. not x && are_all_true ls f.clauses) p.0 ∙ p.1
+    back h = let p = fits_tests f ls h in e ∙ ap (λ x. not x && are_all_true ls f.clauses) p.0 ∙ p.1

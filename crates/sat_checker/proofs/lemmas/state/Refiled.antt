@@ -20,6 +20,8 @@ loosened F f k = record {
   units = k.units;
   status = k.status;
   numbered = subst (λ ids. AreNumbered ids f.units F.status.last f.next_id) (sym (refiled_ids F.store)) k.numbered;
+  room = k.room;
+  marks = k.marks;
 }
 
 -- and once they are

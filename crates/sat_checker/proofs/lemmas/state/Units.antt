@@ -11,6 +11,7 @@ use Rattle.sat_checker.specs.Stored.{Stored, is_unit}
 use Rattle.sat_checker.specs.Storing.{with_unit, with_contradiction, with_new_unit, with_units, with_known, with_literals_known}
 use Rattle.sat_checker.specs.Accepts.{PassesByHashes, PassInTurn, effect}
 use Rattle.sat_checker.specs.inner.FormulaView.{KeepsFormula, TurnsIf}
+use Rattle.sat_checker.specs.inner.InTurn.{PassBehind}
 use Rattle.sat_checker.specs.inner.StateView.{KeepsStored}
 use Rattle.sat_checker.specs.inner.VariablesView.{KeepsVariables}
 use Rattle.sat_checker.specs.declared.store.StoreError.{StoreError}
@@ -70,11 +71,11 @@ module _ (F : Formula) (f : Stored) (all : List (ℕ × ℕ)) (i : ℕ) (u : ℕ
     count = count_unit u.0 left.now ∙ left.count;
   }
 
-  pub behind_it : PassInTurn (with_unit u.0 left.now) (drop (i + 1) all) → PassesByHashes left.now (u.0 ∷ []) (u.1 ∷ []) → PassInTurn f all
-  behind_it q p = left.on (subst (PassInTurn left.now) (sym split) (p, q))
+  pub accepted_behind : PassesByHashes left.now (u.0 ∷ []) (u.1 ∷ []) → PassBehind left.now (drop i all) → PassInTurn f all
+  accepted_behind p q = left.on (subst (PassInTurn left.now) (sym split) (p, subst (PassBehind left.now) split q))
 
-  pub back_behind : PassInTurn f all → PassInTurn (with_unit u.0 left.now) (drop (i + 1) all)
-  back_behind q = (subst (PassInTurn left.now) split (left.back q)).1
+  pub back_behind : PassInTurn f all → PassBehind left.now (drop i all)
+  back_behind q = subst (PassBehind left.now) (sym split) (subst (PassInTurn left.now) split (left.back q)).1
 
   pub stopped : (PassesByHashes left.now (u.0 ∷ []) (u.1 ∷ []) → ⊥) → PassInTurn f all → ⊥
   stopped n q = n (subst (PassInTurn left.now) split (left.back q)).0
@@ -92,16 +93,16 @@ finished F f all i l left = let e = past all i l in (left.on (subst (PassInTurn 
     past (x ∷ xs) zero l = absurd (omega arith)
     past (x ∷ xs) (suc i) l = past xs i (omega arith)
 
--- a number is spent
-pub spent_passes : (e : StoreError) (A K : Type 0) (g : Stored) → e ≡ CounterEnd → TurnsIf (Err e) A K g → A × IsSpent g
-spent_passes e A K g s t = subst (λ x. TurnsIf (Err x) A K g) s t
-
--- no id is left for the next one
-pub unnumbered : (r : Result Bool StoreError) (A B K : Type 0) (g : Stored) → (A → B) → (B → A) → IsSpent g → MatchResult r (λ passes. (passes ≡ false) × (A → ⊥)) (λ e. e ≡ CounterEnd → A) → TurnsIf r B K g
-unnumbered (Ok true) A B K g on back s m = absurd (let e : true ≡ false = m.0 in cc)
-unnumbered (Ok false) A B K g on back s m = λ b. m.1 (back b)
-unnumbered (Err OutOfMemory) A B K g on back s m = tt
-unnumbered (Err CounterEnd) A B K g on back s m = (on (m refl), s)
+-- A fault was met at one of them, which passes: those behind it pass too, or the units are refused.
+pub failed : (r : Result Bool StoreError) (fault : StoreError) (A B P K L : Type 0) (g h : Stored) → TurnsIf (Err fault) A K g → (IsSpent g → IsSpent h) → (A → P → B) → (B → P)
+    → MatchResult r (λ passes. (passes ≡ false) × (P → ⊥)) (λ e. (e ≡ fault) × P) → TurnsIf r B L h
+failed (Ok true) fault A B P K L g h t spent on back m = absurd (let e : true ≡ false = m.0 in cc)
+failed (Ok false) fault A B P K L g h t spent on back m = λ b. m.1 (back b)
+failed (Err e) fault A B P K L g h t spent on back m = subst (λ x. TurnsIf (Err x) B L h) (sym m.0) (go fault t)
+  where
+    go : (x : StoreError) → TurnsIf (Err x) A K g → TurnsIf (Err x) B L h
+    go OutOfMemory a = on a m.1
+    go CounterEnd a = (on a.0 m.1, spent a.1)
 
 -- units and known variables come in apart from each other
 known_unit : (vs : List ℕ) (l : ℕ) (f : Stored) → with_unit l (with_known vs f) ≡ with_known vs (with_unit l f)

@@ -200,7 +200,7 @@ pub standing_all : (old mid ss : List Slot) (i : ℕ) → length ss ≤ i → mi
 standing_all old mid ss i l e = e ∙ ap (λ xs. old ++ slots_present xs) (take_whole ss i l)
 
 -- the pairs of those that aren't gone, up to a place, by the places that they will have
-count_listed : (k : ℕ) (ss : List Slot) → length (pairs_from k (slots_present ss)) ≡ length (slots_present ss)
+pub count_listed : (k : ℕ) (ss : List Slot) → length (pairs_from k (slots_present ss)) ≡ length (slots_present ss)
 count_listed k [] = refl
 count_listed k (s ∷ ss) = go (is_gone s) refl (λ n. count_listed n ss)
   where

@@ -1,5 +1,5 @@
 -- What the store keeps, as clauses come in and go.
-use Rattle.std.proofs.Common.{ℕ, ◌+◌, ◌*◌, ◌/◌, ◌%◌, ◌-◌, ◌^◌, ◌≤◌, ◌≡◌, Bool, true, false, not, ◌&&◌, cond, eqb, List, [], ◌∷◌, ◌++◌, map, filter, Option, refl, ◌∙◌, ap, subst, Result, Ok, Err, IfOk, ◌↔◌, unwrap_or}
+use Rattle.std.proofs.Common.{ℕ, ◌+◌, ◌*◌, ◌/◌, ◌%◌, ◌-◌, ◌^◌, ◌≤◌, ◌≡◌, Bool, true, false, not, ◌&&◌, cond, eqb, List, [], ◌∷◌, ◌++◌, map, filter, Option, refl, sym, ◌∙◌, ap, subst, Result, Ok, Err, IfOk, ◌↔◌, unwrap_or}
 use Rattle.sat_base.specs.values.Literals.{variable}
 use Rattle.sat_base.specs.values.Hashes.{hash_of}
 use Rattle.sat_checker.specs.Propagation.{PassesCheck}
@@ -7,7 +7,9 @@ use Rattle.sat_checker.specs.Stored.{Stored, solver_literal, hash_by, bucket}
 use Rattle.sat_checker.specs.Looks.{literal_count, total_length}
 use Rattle.sat_checker.specs.HasherView.{solver_name_of, width_of}
 use Rattle.sat_checker.specs.announcements.Needed.{clauses_named}
+use Rattle.std.specs.Result.{OnErr}
 use Rattle.sat_checker.specs.inner.Reasons.{filed, named}
+use Rattle.sat_checker.specs.inner.Room.{HasRoomForStored}
 use Rattle.sat_checker.specs.inner.SlotView.{Slot, is_gone, is_filed, all_lits, live, live_length, bucket_in, bucket_of}
 use Rattle.sat_checker.specs.inner.StoreView.{AreHashed, KeepsClauses}
 use Rattle.sat_checker.specs.declared.store.Store.{Store}
@@ -73,9 +75,23 @@ named_same store f p (k ∷ ks) =
     ap (λ cs. cs ++ named ks store.clauses) (filed_live store.hasher f k store.clauses p.hashed p.names p.width ∙ ap (filter (λ c. eqb (hash_by f.solver_names f.width c.literals) k)) p.clauses)
     ∙ ap (λ cs. filter (λ c. eqb (hash_by f.solver_names f.width c.literals) k) f.clauses ++ cs) (named_same store f p ks)
 
-pub checked : {E : Type 0} (r : Result Bool E) (store : Store) (units clause hashes : List ℕ) → IfOk r (λ yes'. (yes' ≡ true) ↔ PassesCheck units clause (map (bucket_of store.clauses) hashes)) → IfOk r (λ yes'. (f : Stored) → KeepsClauses store f → (yes' ≡ true) ↔ PassesCheck units clause (map (bucket f) hashes))
-checked (Ok b) store units clause hashes h = λ f k. subst (λ bs. (b ≡ true) ↔ PassesCheck units clause bs) (buckets_same store f k hashes) h
-checked (Err e) store units clause hashes h = tt
+-- there is room for the clauses that are kept
+room_kept : (store : Store) (room : List ℕ) (f : Stored) → KeepsClauses store f → HasRoomForStored room f.clauses → HasRoomForStored room (live store.clauses)
+room_kept store room f k h = subst (HasRoomForStored room) (sym k.clauses) h
+
+pub checked : {E : Type 0} (r : Result Bool E) (store : Store) (room units clause hashes : List ℕ) → IfOk r (λ yes'. HasRoomForStored room (live store.clauses) → (yes' ≡ true) ↔ PassesCheck units clause (map (bucket_of store.clauses) hashes))
+    → IfOk r (λ yes'. (f : Stored) → KeepsClauses store f → HasRoomForStored room f.clauses → (yes' ≡ true) ↔ PassesCheck units clause (map (bucket f) hashes))
+checked (Ok b) store room units clause hashes h = λ f k roomy. subst (λ bs. (b ≡ true) ↔ PassesCheck units clause bs) (buckets_same store f k hashes) (h (room_kept store room f k roomy))
+checked (Err e) store room units clause hashes h = tt
+
+pub short_checked : {E : Type 0} (r : Result Bool E) (store : Store) (room : List ℕ) → OnErr r (HasRoomForStored room (live store.clauses) → ⊥) → OnErr r ((f : Stored) → KeepsClauses store f → HasRoomForStored room f.clauses → ⊥)
+short_checked (Ok b) store room h = tt
+short_checked (Err e) store room h = λ f k roomy. h (room_kept store room f k roomy)
+
+-- what holds under a premise, by a law of what holds
+pub under_premise : {E : Type 0} (r : Result Bool E) (S A B : Type 0) → (IfOk r (λ b. b ≡ true → A) → IfOk r (λ b. b ≡ true → B)) → IfOk r (λ b. b ≡ true → S → A) → IfOk r (λ b. b ≡ true → S → B)
+under_premise (Ok b) S A B law h = λ t s. law (λ t'. h t' s) t
+under_premise (Err e) S A B law h = tt
 
 pub length_same : (store : Store) (f : Stored) → KeepsClauses store f → live_length store.clauses ≡ literal_count f
 length_same store f k = ap (λ cs. total_length (map (λ c. c.literals) cs)) k.clauses

@@ -1,5 +1,5 @@
 -- What is kept beside the slots, as clauses come in and go.
-use Rattle.std.proofs.Common.{ℕ, ◌+◌, ◌<◌, ◌≤◌, ◌≡◌, ◌≢◌, Bool, true, false, not, cond, eqb, List, [], ◌∷◌, ◌++◌, length, Option, refl, sym, ◌∙◌, ap, subst, arith, Result, Ok, Err, OnOk}
+use Rattle.std.proofs.Common.{ℕ, suc, ◌+◌, ◌<◌, ◌≤◌, ◌≡◌, ◌≢◌, Bool, true, false, not, cond, eqb, List, [], ◌∷◌, ◌++◌, length, Option, refl, sym, ◌∙◌, ap, subst, arith, Result, Ok, Err, OnOk}
 use Rattle.std.proofs.lemmas.Bool.{true≢false}
 use Rattle.std.specs.Result.{is_err}
 use Rattle.std.proofs.lemmas.List.{length-set}
@@ -93,6 +93,10 @@ module _ (old ss new : List Slot) (index : Indexed) (o : Occurrences) (r : Bool)
   }
 
 -- all filed anew
+pub count_hashed : (names : ℕ → Option ℕ) (width : ℕ) (ss : List Slot) → length (all_hashed_by names width ss) ≡ length ss
+count_hashed names width [] = refl
+count_hashed names width (s ∷ ss) = ap suc (count_hashed names width ss)
+
 pub kept_hashed : (names : ℕ → Option ℕ) (width : ℕ) (old ss new : List Slot) (index next : Indexed) (o : Occurrences) → old ≡ ss → SlotsInvariant old index o → new ≡ all_hashed_by names width ss → Files next (all_hashed_by names width ss) → SlotsInvariant new next o
 kept_hashed names width old ss new index next o is k e f = record {
   files = subst (Files next) (sym e) f;

@@ -35,8 +35,8 @@ module _ (store : Store) (f : Stored) (k : KeepsClauses store f) (literals : Lis
   pub one_found : (p : ℕ) → Some p ≡ found_among store.clauses literals (places_of hash store.clauses) → (id irredundant redundant : ℕ) → id ≡ (slot_at store.clauses p).clause.id → irredundant ≡ slot_count false (slot_at store.clauses p)
       → redundant ≡ slot_count true (slot_at store.clauses p) → clause_with literals f.clauses ≡ found_in literals (Some (record { id = id; irredundant = irredundant; redundant = redundant }))
   one_found p found id irredundant redundant i n r =
-      was ∙ ap (λ ls. Some (clause_of there.id ls there.irredundant there.redundant)) (literals_found literals there f.clauses was) ∙ ap (λ x. Some (clause_of x literals there.irredundant there.redundant)) (sym i)
-      ∙ ap (λ x. Some (clause_of id literals x there.redundant)) (sym n) ∙ ap (λ x. Some (clause_of id literals irredundant x)) (sym r)
+      was ∙ ap (λ ls. Some (signed there.id ls there.irredundant there.redundant)) (literals_found literals there f.clauses was) ∙ ap (λ x. Some (signed x literals there.irredundant there.redundant)) (sym i)
+      ∙ ap (λ x. Some (signed id literals x there.redundant)) (sym n) ∙ ap (λ x. Some (signed id literals irredundant x)) (sym r)
     where
       there : StoredClause
       there = (slot_at store.clauses p).clause
@@ -44,5 +44,5 @@ module _ (store : Store) (f : Stored) (k : KeepsClauses store f) (literals : Lis
       was : clause_with literals f.clauses ≡ Some there
       was = ap (clause_with literals) (sym k.clauses) ∙ (stands_found store.hasher store.clauses literals hash k.hashed e p found).is
 
-      clause_of : ℕ → List ℕ → ℕ → ℕ → StoredClause
-      clause_of i ls n r = record { id = i; literals = ls; irredundant = n; redundant = r }
+      signed : ℕ → List ℕ → ℕ → ℕ → StoredClause
+      signed i ls n r = record { id = i; literals = ls; irredundant = n; redundant = r }

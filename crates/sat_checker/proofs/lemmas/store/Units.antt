@@ -3,6 +3,7 @@ use Rattle.std.proofs.Common.{ℕ, ◌≡◌, Bool, true, false, ◌||◌, cond,
 use Rattle.std.proofs.lemmas.Bool.{eq-eqb, ne_eqb, eqb-true, eqb-false, or_parts, or_from}
 use Rattle.std.proofs.lemmas.List.{reverse-append, length-reverse, map-append}
 use Rattle.std.specs.List.{list_any}
+use Rattle.std.specs.Result.{OnErr}
 use Rattle.sat_base.specs.values.Literals.{negated}
 use Rattle.sat_checker.specs.LiteralSets.{is_among}
 use Rattle.sat_checker.specs.Propagation.{PassesCheck}
@@ -15,6 +16,7 @@ use Rattle.sat_checker.proofs.lemmas.propagation.Soundness.{negated-negated}
 use Rattle.sat_checker.specs.Storing.{unit_id}
 use Rattle.sat_checker.proofs.lemmas.sets.Order.{among-append, among-reverse}
 use Rattle.sat_checker.proofs.lemmas.sets.Subsets.{any_true, some_of}
+use Rattle.sat_checker.specs.inner.Room.{HasRoomForStored}
 use Rattle.sat_checker.specs.inner.LitNumbers.{number_at, AreTrailPlaces}
 use Rattle.sat_checker.specs.inner.Marks.{NoRepeats}
 use Rattle.sat_checker.specs.inner.UnitView.{UnitsInvariant}
@@ -81,21 +83,24 @@ any_at test (u ∷ us) = ap (λ b. test u.literal || b) (any_at test us)
 abbrev negated_in : List ℕ → ℕ → Bool
 negated_in ls l = is_among ls (negated l)
 
-pub contradicted_same : (us : List StoredUnit) (assigned ls : List ℕ) → ls ≡ reverse assigned → list_any (λ l. is_among (map (λ u. u.literal) us) (negated l)) ls ≡ list_any (λ u. is_among assigned (negated u.literal)) us
-contradicted_same us assigned ls e = same_tests _ _
+pub contradicted_same : (us : List StoredUnit) (ls : List ℕ) → list_any (λ l. is_among (map (λ u. u.literal) us) (negated l)) ls ≡ list_any (λ u. is_among ls (negated u.literal)) us
+contradicted_same us ls = same_tests _ _
     (λ h. let s = some_of (negated_in (map (λ u. u.literal) us)) ls h in
-    any_at (negated_in assigned) us
-    ∙ any_true (negated_in assigned) (map (λ u. u.literal) us) (negated s.literal) s.passes (ap (is_among assigned) (negated-negated s.literal) ∙ sym (among-reverse assigned s.literal) ∙ ap (λ ms. is_among ms s.literal) (sym e) ∙ s.within))
-    (λ h. let s = some_of (negated_in assigned) (map (λ u. u.literal) us) (sym (any_at (negated_in assigned) us) ∙ h) in
-    any_true (negated_in (map (λ u. u.literal) us)) ls (negated s.literal) (ap (λ ms. is_among ms (negated s.literal)) e ∙ among-reverse assigned (negated s.literal) ∙ s.passes)
-    (ap (is_among (map (λ u. u.literal) us)) (negated-negated s.literal) ∙ s.within))
+    any_at (negated_in ls) us ∙ any_true (negated_in ls) (map (λ u. u.literal) us) (negated s.literal) s.passes (ap (is_among ls) (negated-negated s.literal) ∙ s.within))
+    (λ h. let s = some_of (negated_in ls) (map (λ u. u.literal) us) (sym (any_at (negated_in ls) us) ∙ h) in
+    any_true (negated_in (map (λ u. u.literal) us)) ls (negated s.literal) s.passes (ap (is_among (map (λ u. u.literal) us)) (negated-negated s.literal) ∙ s.within))
 
 -- the check over what is kept is the definition's, whatever the order in which the units are assumed
-pub checked_units : {E : Type 0} (r : Result Bool E) (store : Store) (value : List StoredUnit) (assigned clause hashes : List ℕ) → ((l : ℕ) → is_among assigned l ≡ is_among (map (λ u. u.literal) value) l)
-    → IfOk r (λ b. (f : Stored) → KeepsClauses store f → (b ≡ true) ↔ PassesCheck assigned clause (map (bucket f) hashes)) → IfOk r (λ b. (f : Stored) → KeepsClauses store f → value ≡ f.units → (b ≡ true) ↔ PassesByHashes f clause hashes)
-checked_units (Err e) store value assigned clause hashes same h = tt
-checked_units (Ok b) store value assigned clause hashes same h = λ f k e.
-    let exact = h f k in
+pub short_units : {E : Type 0} (r : Result Bool E) (store : Store) (room roomy : List ℕ) → roomy ≡ room → OnErr r ((f : Stored) → KeepsClauses store f → HasRoomForStored roomy f.clauses → ⊥) → OnErr r ((f : Stored) → KeepsClauses store f → HasRoomForStored room f.clauses → ⊥)
+short_units (Ok b) store room roomy w h = tt
+short_units (Err e) store room roomy w h = λ f k there. h f k (subst (λ r. HasRoomForStored r f.clauses) (sym w) there)
+
+pub checked_units : {E : Type 0} (r : Result Bool E) (store : Store) (value : List StoredUnit) (room roomy assigned clause hashes : List ℕ) → ((l : ℕ) → is_among assigned l ≡ is_among (map (λ u. u.literal) value) l) → roomy ≡ room
+    → IfOk r (λ b. (f : Stored) → KeepsClauses store f → HasRoomForStored roomy f.clauses → (b ≡ true) ↔ PassesCheck assigned clause (map (bucket f) hashes))
+    → IfOk r (λ b. (f : Stored) → KeepsClauses store f → value ≡ f.units → HasRoomForStored room f.clauses → (b ≡ true) ↔ PassesByHashes f clause hashes)
+checked_units (Err e) store value room roomy assigned clause hashes same w h = tt
+checked_units (Ok b) store value room roomy assigned clause hashes same w h = λ f k e there.
+    let exact = h f k (subst (λ r. HasRoomForStored r f.clauses) (sym w) there) in
     let is : (l : ℕ) → is_among assigned l ≡ is_among (unit_literals f) l = λ l. same l ∙ ap (λ v. is_among (map (λ (u : StoredUnit). u.literal) v) l) e in (
       (λ t. same_passes assigned (unit_literals f) clause (map (bucket f) hashes) is (exact.0 t)),
       (λ p. exact.1 (same_passes (unit_literals f) assigned clause (map (bucket f) hashes) (λ l. sym (is l)) p)),

@@ -54,7 +54,7 @@ noted_all F f all i before notes l noted = λ t. sym (none_behind notes.news) �
     past (x ∷ xs) zero l = absurd (omega arith)
     past (x ∷ xs) (suc i) l = past xs i (omega arith)
 
--- nothing is accepted where no id is left
+-- nothing is accepted behind a fault
 pub none_noted : {E : Type 0} (r : Result Bool E) (P : Type 0) → IfOk r (λ passes. passes ≡ false) → IfOk r (λ passes. passes ≡ true → P)
 none_noted (Ok true) P h = absurd (let e : true ≡ false = h in cc)
 none_noted (Ok false) P h = λ e. absurd (let d : false ≡ true = e in cc)

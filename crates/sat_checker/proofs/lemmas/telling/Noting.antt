@@ -53,9 +53,6 @@ derived_noted new old change id redundant both clause literals hashes ids f e ne
 once_more : (n l : ℕ) → (5 + 2 * n) * l ≡ n * l + (n * l + 5 * l)
 once_more n l = grind arith
 
-pub looks_filed : (before old n l : ℕ) → old ≤ before + l → old ≤ before + (5 + 2 * n) * l
-looks_filed before old n l b = let e = once_more n l in omega arith
-
 pub looks_judged : (before old mid n l : ℕ) → old ≤ before + l → mid ≤ old + n * l → mid ≤ before + (5 + 2 * n) * l
 looks_judged before old mid n l b h = let e = once_more n l in omega arith
 

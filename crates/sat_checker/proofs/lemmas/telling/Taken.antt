@@ -6,7 +6,6 @@ use Rattle.std.proofs.lemmas.List.{append-nil}
 use Rattle.sat_base.specs.steps.Steps.{Step, SolverVarName, UserVarName, DeleteVar, ChangeSamplingMode, AddClause, UnitClauses, DeleteClause, ChangeHashBits, Model, Assumptions, FailedAssumptions, End}
 use Rattle.sat_base.specs.steps.Steps as kinds
 use Rattle.sat_checker.specs.Stored.{Stored, Variable}
-use Rattle.sat_checker.specs.Judging.{JudgedBefore}
 use Rattle.sat_checker.specs.Spent.{IsSpent}
 use Rattle.sat_checker.specs.Storing.{settled}
 use Rattle.sat_checker.specs.Accepts.{Accepts, effect, stored_after, ready_after}
@@ -14,7 +13,7 @@ use Rattle.sat_checker.specs.KernelView as kernels
 use Rattle.sat_checker.specs.KernelView.{KeepsAfter, LeavesConflict, records_of}
 use Rattle.sat_checker.specs.CheckerView.{Seen, seen, has_failed, Fails, AnswersStep, AnswersDelayed}
 use Rattle.sat_checker.specs.announcements.Announcements.{Announcement, AtClause, Told, announced, delayed, delayed_by, told_over, told_after, all_told_after}
-use Rattle.sat_checker.specs.inner.FormulaView.{KeepsFormula, refiled_in, TurnsBehind, RestOfStored, KeepsOrSpends}
+use Rattle.sat_checker.specs.inner.FormulaView.{KeepsFormula, refiled_in, TurnsIf, RestOfStored, KeepsOrSpends}
 use Rattle.sat_checker.specs.inner.StateView.{KeepsStored}
 use Rattle.sat_checker.specs.inner.TellingSteps.{announced_by, changed_by, put_back, failure_of, fault_of, records_in, TellsAndKeepsState}
 use Rattle.sat_checker.specs.inner.VariablesView.{variable_at}
@@ -234,7 +233,7 @@ noted_told begun noted hears step f old new was same none put adds h =
 
 module _ (old : Kernel) (steps : List Step) (s : kernels.Stands old steps) (well : kernels.has_failed old ≡ false) (none : old.state.formula.status.conflict ≡ None) (step : Step) where
   -- it couldn't be stored
-  pub short_judges : (new : Kernel) (error : StoreError) → TurnsBehind (Err error) (JudgedBefore (ready_after steps) step) (Accepts (ready_after steps) step) (KeepsStored new.state (effect step (ready_after steps))) (effect step (ready_after steps)) → new.records ≡ old.records → kernels.has_failed new ≡ true
+  pub short_judges : (new : Kernel) (error : StoreError) → TurnsIf (Err error) (Accepts (ready_after steps) step) (KeepsStored new.state (effect step (ready_after steps))) (effect step (ready_after steps)) → new.records ≡ old.records → kernels.has_failed new ≡ true
       → kernels.AnswersStep (Err (failure_of error)) old step new steps
   short_judges new stores.OutOfMemory h r f = (well, inl (h, step_fails old steps s well none step new r f))
   short_judges new stores.CounterEnd h r f = (well, inr h, step_fails old steps s well none step new r f)
@@ -265,7 +264,7 @@ module _ (old : Kernel) (steps : List Step) (s : kernels.Stands old steps) (well
     failed_with : (new : Kernel) (m : L) → new.records ≡ old.records → kernels.has_failed new ≡ true → Fails Hears before begun (seen new m) steps
     failed_with new m r f = failing Hears before begun (seen new m) steps (step_fails old steps s well none step new r f)
 
-    pub short_tells : (new : Kernel) (error : StoreError) → TurnsBehind (Err error) (JudgedBefore (ready_after steps) step) (Accepts (ready_after steps) step) (KeepsStored new.state (effect step (ready_after steps))) (effect step (ready_after steps)) → new.records ≡ old.records → kernels.has_failed new ≡ true
+    pub short_tells : (new : Kernel) (error : StoreError) → TurnsIf (Err error) (Accepts (ready_after steps) step) (KeepsStored new.state (effect step (ready_after steps))) (effect step (ready_after steps)) → new.records ≡ old.records → kernels.has_failed new ≡ true
         → AnswersStep Hears before begun (Err (failure_of error)) (seen old l) step (seen new l) steps
     short_tells new stores.OutOfMemory h r f = (well, inl (h, record { fails = failed_with new l r f; heard = inr before_it }))
     short_tells new stores.CounterEnd h r f = (well, inr h, record { fails = failed_with new l r f; heard = inr before_it })

@@ -1,13 +1,14 @@
 use Rattle.std.proofs.Common.{ℕ, ◌≡◌, ◌+◌, ◌<◌, ◌≤◌, ◌∷◌, suc, length, map, true, None, Some, ◌∙◌, refl, ap, sym, subst, arith}
-use Rattle.std.proofs.lemmas.Result.{IfOk-from_err}
+use Rattle.std.proofs.lemmas.Result.{IfOk-from_err, err_from_is_err_and}
 use Rattle.std.specs.Option.{IfSome}
 use Rattle.sat_checker.specs.LiteralSets.{is_among}
 use Rattle.sat_checker.specs.Looks.{total_length}
 use Rattle.sat_checker.specs.inner.PairView.{first_of, places_behind, from_on}
 use Rattle.sat_checker.specs.inner.Reasons.{clause_at, filed, KeepsGround}
+use Rattle.sat_checker.specs.inner.Room.{HasRoomForAll}
 use Rattle.sat_checker.specs.inner.SlotView.{literals_at, places_of}
 use Rattle.sat_checker.specs.inner.Walk.{walk}
-use Rattle.sat_checker.proofs.lemmas.propagation.Walking.{Extends-itself, Extends-further, walk_more, walk_ends, looks_more, looks_ended}
+use Rattle.sat_checker.proofs.lemmas.propagation.Walking.{Extends-itself, Extends-further, roomy_at, walk_more, walk_ends, looks_more, looks_ended}
 use Rattle.sat_checker.proofs.lemmas.store.Filing.{first_ok, from_first, increasing_places, left_step, next_among}
 use Rattle.sat_checker.proofs.lemmas.store.Finding.{bucket_literals, place_inside, is_full, is_empty}
 use Rattle.sat_checker.proofs.lemmas.announcements.Noting.{leads_itself, filed_at, leads_next, ends_next, read_further}
@@ -42,11 +43,12 @@ loop-next-init c =
     let all = from_first ps (increasing_places 0 c.args.hash c.args.clauses.now) (Some c.in-Some.first) c.in-Some.ensures in
     record {
       among = first_ok ps (Some c.in-Some.first) c.in-Some.ensures;
-      walked = ap (walk c.args.assigned.now) (sym (bucket_literals c.args.hash c.args.clauses.now) ∙ ap (map (literals_at c.args.clauses.now)) (sym all));
+      walked = ap (walk c.args.assigned.now.literals) (sym (bucket_literals c.args.hash c.args.clauses.now) ∙ ap (map (literals_at c.args.clauses.now)) (sym all));
       extends = Extends-itself c.args.assigned.now;
+      same = λ roomy. refl;
       looks = ap (λ qs. c.args.looks.now + total_length (map (literals_at c.args.clauses.now) qs)) all ∙ ap (λ ls. c.args.looks.now + total_length ls) (bucket_literals c.args.hash c.args.clauses.now);
-      leads = subst (KeepsGround c.args.clauses.now c.args.passed.now c.args.assigned.now (filed c.args.hash c.args.clauses.now) c.args.passed.now c.args.assigned.now)
-          (filed_at c.args.hash c.args.clauses.now ps refl ∙ ap (map (clause_at c.args.clauses.now)) (sym all)) (leads_itself c.args.clauses.now c.args.passed.now c.args.assigned.now (filed c.args.hash c.args.clauses.now));
+      leads = subst (KeepsGround c.args.clauses.now c.args.passed.now c.args.assigned.now.literals (filed c.args.hash c.args.clauses.now) c.args.passed.now c.args.assigned.now.literals)
+          (filed_at c.args.hash c.args.clauses.now ps refl ∙ ap (map (clause_at c.args.clauses.now)) (sym all)) (leads_itself c.args.clauses.now c.args.passed.now c.args.assigned.now.literals (filed c.args.hash c.args.clauses.now));
       read = as_much _;
       rise = as_much _;
     }
@@ -57,6 +59,15 @@ meet-requires c =
 
 pub returns-in_err-meet-clause-says : goal.returns-in_err-meet-clause-says
 returns-in_err-meet-clause-says c = IfOk-from_err c.from_residual.result _ c.from_residual.ensures.0
+
+pub returns-in_err-meet-clause-short : goal.returns-in_err-meet-clause-short
+returns-in_err-meet-clause-short c =
+    let ss = c.args.clauses.now in
+    let ps = places_of c.args.hash c.args.clauses.now in
+    let among = subst (λ o. IfSome o (λ p. is_among ps p ≡ true)) c.in-Some-next.is c.loop-next.invariant.among in
+    let failed = (err_from_is_err_and c.from_residual.result c.from_residual.ensures.1).1 in
+    rw failed (λ roomy. c.in_err-meet.ensures.short (roomy_at c.args.assigned.now.room c.loop-next.assigned.room (literals_at ss) ps c.in-Some-next.place c.loop-next.invariant.extends.room among
+    (subst (HasRoomForAll c.args.assigned.now.room) (sym (bucket_literals c.args.hash ss)) roomy)))
 
 pub returns-in_err-meet-clause-noted : goal.returns-in_err-meet-clause-noted
 returns-in_err-meet-clause-noted c = IfOk-from_err c.from_residual.result _ c.from_residual.ensures.0
@@ -98,8 +109,8 @@ returns-then-branch-clause-says c =
     let more = from_on (first_of (places_behind c.in-Some-next.place ps)) ps in
     let left = left_step c.args.hash c.args.clauses.now c.loop-next.next c.in-Some-next.place c.in-Some-next.is c.loop-next.invariant.among (first_of (places_behind c.in-Some-next.place ps)) refl in (
       is_full c.args.hash c.args.clauses.now c.in-Some.first c.in-Some.ensures,
-      walk_ends (literals_at c.args.clauses.now) (c.in-Some-next.place ∷ more) 0 (omega arith) _ c.loop-next.assigned
-          (c.loop-next.invariant.walked ∙ ap (λ qs. walk c.loop-next.assigned (map (literals_at c.args.clauses.now) qs)) left) (rw c.if-branch.true at c.in_ok-meet.ensures.met),
+      walk_ends (literals_at c.args.clauses.now) (c.in-Some-next.place ∷ more) 0 (omega arith) _ c.loop-next.assigned.literals
+          (c.loop-next.invariant.walked ∙ ap (λ qs. walk c.loop-next.assigned.literals (map (literals_at c.args.clauses.now) qs)) left) (rw c.if-branch.true at c.in_ok-meet.ensures.met),
     )
 
 pub returns-then-branch-clause-noted : goal.returns-then-branch-clause-noted
@@ -107,8 +118,8 @@ returns-then-branch-clause-noted c =
     let ps = places_of c.args.hash c.args.clauses.now in
     let more = from_on (first_of (places_behind c.in-Some-next.place ps)) ps in
     let left = left_step c.args.hash c.args.clauses.now c.loop-next.next c.in-Some-next.place c.in-Some-next.is c.loop-next.invariant.among (first_of (places_behind c.in-Some-next.place ps)) refl in
-    ends_next c.args.clauses.now c.args.passed.now c.loop-next.passed c.meet.new.passed c.args.assigned.now c.loop-next.assigned c.meet.new.assigned (c.in-Some-next.place ∷ more) 0 (omega arith) _
-    (subst (λ qs. KeepsGround c.args.clauses.now c.args.passed.now c.args.assigned.now (filed c.args.hash c.args.clauses.now) c.loop-next.passed c.loop-next.assigned (map (clause_at c.args.clauses.now) qs)) left c.loop-next.invariant.leads)
+    ends_next c.args.clauses.now c.args.passed.now c.loop-next.passed c.meet.new.passed c.args.assigned.now.literals c.loop-next.assigned.literals c.meet.new.assigned.literals (c.in-Some-next.place ∷ more) 0 (omega arith) _
+    (subst (λ qs. KeepsGround c.args.clauses.now c.args.passed.now c.args.assigned.now.literals (filed c.args.hash c.args.clauses.now) c.loop-next.passed c.loop-next.assigned.literals (map (clause_at c.args.clauses.now) qs)) left c.loop-next.invariant.leads)
     (rw c.if-branch.true at c.in_ok-meet.ensures.noted)
 
 pub returns-then-branch-clause-read : goal.returns-then-branch-clause-read
@@ -127,13 +138,19 @@ loop-next-preserved c =
     let left = left_step c.args.hash c.args.clauses.now c.loop-next.next c.in-Some-next.place c.in-Some-next.is c.loop-next.invariant.among c.next-next.result c.next-next.ensures in
     record {
       among = next_among c.in-Some-next.place ps c.next-next.result c.next-next.ensures;
-      walked = walk_more (literals_at c.args.clauses.now) (c.in-Some-next.place ∷ more) 0 (omega arith) _ c.loop-next.assigned c.meet.new.assigned
-          (c.loop-next.invariant.walked ∙ ap (λ qs. walk c.loop-next.assigned (map (literals_at c.args.clauses.now) qs)) left) (rw c.if-branch.false at c.in_ok-meet.ensures.met);
+      walked = walk_more (literals_at c.args.clauses.now) (c.in-Some-next.place ∷ more) 0 (omega arith) _ c.loop-next.assigned.literals c.meet.new.assigned.literals
+          (c.loop-next.invariant.walked ∙ ap (λ qs. walk c.loop-next.assigned.literals (map (literals_at c.args.clauses.now) qs)) left) (rw c.if-branch.false at c.in_ok-meet.ensures.met);
       extends = Extends-further c.args.assigned.now c.loop-next.assigned c.meet.new.assigned c.loop-next.invariant.extends c.meet.ensures.extends;
+      same = λ roomy.
+          let ss = c.args.clauses.now in
+          let ps = places_of c.args.hash c.args.clauses.now in
+          let among = subst (λ o. IfSome o (λ p. is_among ps p ≡ true)) c.in-Some-next.is c.loop-next.invariant.among in
+          c.meet.ensures.same (roomy_at c.args.assigned.now.room c.loop-next.assigned.room (literals_at ss) ps c.in-Some-next.place c.loop-next.invariant.extends.room among
+          (subst (HasRoomForAll c.args.assigned.now.room) (sym (bucket_literals c.args.hash ss)) roomy)) ∙ c.loop-next.invariant.same roomy;
       looks = looks_more (literals_at c.args.clauses.now) (c.in-Some-next.place ∷ more) 0 (omega arith) _ c.loop-next.looks c.meet.new.looks
           (ap (λ qs. c.loop-next.looks + total_length (map (literals_at c.args.clauses.now) qs)) (sym left) ∙ c.loop-next.invariant.looks) c.meet.ensures.looks;
-      leads = leads_next c.args.clauses.now c.args.passed.now c.loop-next.passed c.meet.new.passed c.args.assigned.now c.loop-next.assigned c.meet.new.assigned (c.in-Some-next.place ∷ more) 0 (omega arith) _
-          (subst (λ qs. KeepsGround c.args.clauses.now c.args.passed.now c.args.assigned.now (filed c.args.hash c.args.clauses.now) c.loop-next.passed c.loop-next.assigned (map (clause_at c.args.clauses.now) qs)) left c.loop-next.invariant.leads)
+      leads = leads_next c.args.clauses.now c.args.passed.now c.loop-next.passed c.meet.new.passed c.args.assigned.now.literals c.loop-next.assigned.literals c.meet.new.assigned.literals (c.in-Some-next.place ∷ more) 0 (omega arith) _
+          (subst (λ qs. KeepsGround c.args.clauses.now c.args.passed.now c.args.assigned.now.literals (filed c.args.hash c.args.clauses.now) c.loop-next.passed c.loop-next.assigned.literals (map (clause_at c.args.clauses.now) qs)) left c.loop-next.invariant.leads)
           (rw c.if-branch.false at c.in_ok-meet.ensures.noted);
       read = read_further _ _ _ c.args.looks.now c.loop-next.looks c.meet.new.looks _ c.loop-next.invariant.read c.meet.ensures.looks c.in_ok-meet.ensures.read;
       rise = omega (arith, c.loop-next.invariant.rise, c.meet.ensures.looks);
@@ -143,5 +160,24 @@ pub returns-clause-says : goal.returns-clause-says
 returns-clause-says c =
     let over : c.loop-next.next ≡ None = cc in (
       is_full c.args.hash c.args.clauses.now c.in-Some.first c.in-Some.ensures,
-      c.loop-next.invariant.walked ∙ ap (λ o. walk c.loop-next.assigned (map (literals_at c.args.clauses.now) (from_on o (places_of c.args.hash c.args.clauses.now)))) over,
+      c.loop-next.invariant.walked ∙ ap (λ o. walk c.loop-next.assigned.literals (map (literals_at c.args.clauses.now) (from_on o (places_of c.args.hash c.args.clauses.now)))) over,
     )
+
+pub returns-in_err-meet-clause-same : goal.returns-in_err-meet-clause-same
+returns-in_err-meet-clause-same c = λ roomy.
+    let ss = c.args.clauses.now in
+    let ps = places_of c.args.hash c.args.clauses.now in
+    let among = subst (λ o. IfSome o (λ p. is_among ps p ≡ true)) c.in-Some-next.is c.loop-next.invariant.among in
+    c.meet.ensures.same (roomy_at c.args.assigned.now.room c.loop-next.assigned.room (literals_at ss) ps c.in-Some-next.place c.loop-next.invariant.extends.room among
+    (subst (HasRoomForAll c.args.assigned.now.room) (sym (bucket_literals c.args.hash ss)) roomy)) ∙ c.loop-next.invariant.same roomy
+
+pub returns-then-branch-clause-same : goal.returns-then-branch-clause-same
+returns-then-branch-clause-same c = λ roomy.
+    let ss = c.args.clauses.now in
+    let ps = places_of c.args.hash c.args.clauses.now in
+    let among = subst (λ o. IfSome o (λ p. is_among ps p ≡ true)) c.in-Some-next.is c.loop-next.invariant.among in
+    c.meet.ensures.same (roomy_at c.args.assigned.now.room c.loop-next.assigned.room (literals_at ss) ps c.in-Some-next.place c.loop-next.invariant.extends.room among
+    (subst (HasRoomForAll c.args.assigned.now.room) (sym (bucket_literals c.args.hash ss)) roomy)) ∙ c.loop-next.invariant.same roomy
+
+pub returns-clause-same : goal.returns-clause-same
+returns-clause-same c = c.loop-next.invariant.same

@@ -1,10 +1,11 @@
 use Rattle.std.proofs.Common.{length, get_or, map, sym, ap, ◌∙◌, arith}
 use Rattle.std.proofs.lemmas.List.{drop_all}
-use Rattle.sat_checker.specs.inner.SlotView.{bucket_of}
+use Rattle.std.proofs.lemmas.Result.{err_from_is_err_and}
+use Rattle.sat_checker.specs.inner.SlotView.{bucket_of, live}
 use Rattle.sat_checker.specs.inner.Walk.{walk_buckets}
 use Rattle.sat_checker.specs.inner.Reasons.{named}
 use Rattle.sat_checker.proofs.lemmas.propagation.Walking.{Extends-further, buckets-open, buckets-conflict, buckets-empty}
-use Rattle.sat_checker.proofs.lemmas.store.Buckets.{walked_more, walked_within, walked_all}
+use Rattle.sat_checker.proofs.lemmas.store.Buckets.{bucket_roomy, stored_further, walked_more, walked_within, walked_all}
 use Rattle.sat_checker.proofs.lemmas.announcements.Noting.{leads_hash, ends_hash}
 use Rattle.std.proofs.lemmas.Grind.{common_steps}
 use Rattle.sat_checker.proofs.rup.walk_hashes.Goals as goal
@@ -17,6 +18,12 @@ returns-in_err-walk_bucket-clause-looks c = record {
       c.loop-hash.invariant.looks c.walk_bucket.ensures.looks.most c.loop-hash-test.true;
 }
 
+pub returns-in_err-walk_bucket-clause-short : goal.returns-in_err-walk_bucket-clause-short
+returns-in_err-walk_bucket-clause-short c =
+    let failed = (err_from_is_err_and c.from_residual.result c.from_residual.ensures.1).1 in
+    rw failed (λ roomy. c.in_err-walk_bucket.ensures.short (bucket_roomy c.loop-hash.assigned.room (get_or c.args.hashes.now c.loop-hash.hash-index 0) c.args.clauses.now
+    (stored_further c.args.assigned.now.room c.loop-hash.assigned.room (live c.args.clauses.now) c.loop-hash.invariant.extends.room roomy)))
+
 pub returns-in-Conflict-clause-looks : goal.returns-in-Conflict-clause-looks
 returns-in-Conflict-clause-looks c = record {
   rise = grind (arith, common_steps);
@@ -27,18 +34,21 @@ returns-in-Conflict-clause-looks c = record {
 
 pub returns-in-Conflict-clause-noted : goal.returns-in-Conflict-clause-noted
 returns-in-Conflict-clause-noted c = λ _.
-    ends_hash c.args.clauses.now c.args.passed.now c.loop-hash.passed c.walk_bucket.new.passed c.args.assigned.now c.loop-hash.assigned c.walk_bucket.new.assigned c.args.hashes.now c.loop-hash.hash-index c.loop-hash-test.true
+    ends_hash c.args.clauses.now c.args.passed.now c.loop-hash.passed c.walk_bucket.new.passed c.args.assigned.now.literals c.loop-hash.assigned.literals c.walk_bucket.new.assigned.literals c.args.hashes.now c.loop-hash.hash-index c.loop-hash-test.true
     (named c.args.hashes.now c.args.clauses.now) c.loop-hash.invariant.leads (rw c.in-Conflict.is at c.in_ok-walk_bucket.ensures.noted)
 
 pub loop-hash-preserved : goal.loop-hash-preserved
 loop-hash-preserved c =
     let says = rw c.in-Open.is at c.in_ok-walk_bucket.ensures.says in
     record {
-      walked = c.loop-hash.invariant.walked ∙ buckets-open (bucket_of c.args.clauses.now) c.args.hashes.now c.loop-hash.hash-index c.loop-hash-test.true c.loop-hash.assigned c.walk_bucket.new.assigned says.0 says.1;
+      walked = c.loop-hash.invariant.walked ∙ buckets-open (bucket_of c.args.clauses.now) c.args.hashes.now c.loop-hash.hash-index c.loop-hash-test.true c.loop-hash.assigned.literals c.walk_bucket.new.assigned.literals says.0 says.1;
       extends = Extends-further c.args.assigned.now c.loop-hash.assigned c.walk_bucket.new.assigned c.loop-hash.invariant.extends c.walk_bucket.ensures.extends;
+      same = λ roomy.
+          c.walk_bucket.ensures.same (bucket_roomy c.loop-hash.assigned.room (get_or c.args.hashes.now c.loop-hash.hash-index 0) c.args.clauses.now
+          (stored_further c.args.assigned.now.room c.loop-hash.assigned.room (live c.args.clauses.now) c.loop-hash.invariant.extends.room roomy)) ∙ c.loop-hash.invariant.same roomy;
       looks = walked_more c.args.looks.now c.loop-hash.looks c.walk_bucket.new.looks c.loop-hash.hash-index (get_or c.args.hashes.now c.loop-hash.hash-index 0) c.args.clauses.now
           c.loop-hash.invariant.looks c.walk_bucket.ensures.looks.most;
-      leads = leads_hash c.args.clauses.now c.args.passed.now c.loop-hash.passed c.walk_bucket.new.passed c.args.assigned.now c.loop-hash.assigned c.walk_bucket.new.assigned c.args.hashes.now c.loop-hash.hash-index c.loop-hash-test.true
+      leads = leads_hash c.args.clauses.now c.args.passed.now c.loop-hash.passed c.walk_bucket.new.passed c.args.assigned.now.literals c.loop-hash.assigned.literals c.walk_bucket.new.assigned.literals c.args.hashes.now c.loop-hash.hash-index c.loop-hash-test.true
           (named c.args.hashes.now c.args.clauses.now) c.loop-hash.invariant.leads (rw c.in-Open.is at c.in_ok-walk_bucket.ensures.noted);
       read = omega (arith, c.loop-hash.invariant.read, c.in_ok-walk_bucket.ensures.read);
       rise = omega (arith, c.loop-hash.invariant.rise, c.walk_bucket.ensures.looks.rise);
@@ -50,7 +60,7 @@ returns-in_err-walk_bucket-clause-extends c = Extends-further c.args.assigned.no
 pub returns-in-Empty-clause-found : goal.returns-in-Empty-clause-found
 returns-in-Empty-clause-found c =
     let says = rw c.in-Empty.is at c.in_ok-walk_bucket.ensures.says in
-    sym (c.loop-hash.invariant.walked ∙ buckets-empty (bucket_of c.args.clauses.now) c.args.hashes.now c.loop-hash.hash-index c.loop-hash-test.true c.loop-hash.assigned c.loop-hash.assigned says.0)
+    sym (c.loop-hash.invariant.walked ∙ buckets-empty (bucket_of c.args.clauses.now) c.args.hashes.now c.loop-hash.hash-index c.loop-hash-test.true c.loop-hash.assigned.literals c.loop-hash.assigned.literals says.0)
 
 pub returns-in-Empty-clause-extends : goal.returns-in-Empty-clause-extends
 returns-in-Empty-clause-extends c = Extends-further c.args.assigned.now c.loop-hash.assigned c.walk_bucket.new.assigned c.loop-hash.invariant.extends c.walk_bucket.ensures.extends
@@ -66,16 +76,34 @@ returns-in-Empty-clause-looks c = record {
 pub returns-in-Conflict-clause-found : goal.returns-in-Conflict-clause-found
 returns-in-Conflict-clause-found c =
     let says = rw c.in-Conflict.is at c.in_ok-walk_bucket.ensures.says in
-    sym (c.loop-hash.invariant.walked ∙ buckets-conflict (bucket_of c.args.clauses.now) c.args.hashes.now c.loop-hash.hash-index c.loop-hash-test.true c.loop-hash.assigned c.loop-hash.assigned says.1)
+    sym (c.loop-hash.invariant.walked ∙ buckets-conflict (bucket_of c.args.clauses.now) c.args.hashes.now c.loop-hash.hash-index c.loop-hash-test.true c.loop-hash.assigned.literals c.loop-hash.assigned.literals says.1)
 
 pub returns-in-Conflict-clause-extends : goal.returns-in-Conflict-clause-extends
 returns-in-Conflict-clause-extends c = Extends-further c.args.assigned.now c.loop-hash.assigned c.walk_bucket.new.assigned c.loop-hash.invariant.extends c.walk_bucket.ensures.extends
 
 pub returns-clause-found : goal.returns-clause-found
-returns-clause-found c = sym (c.loop-hash.invariant.walked ∙ ap (λ hs. walk_buckets c.loop-hash.assigned (map (bucket_of c.args.clauses.now) hs)) (drop_all c.loop-hash.hash-index c.args.hashes.now c.loop-hash-test.false))
+returns-clause-found c = sym (c.loop-hash.invariant.walked ∙ ap (λ hs. walk_buckets c.loop-hash.assigned.literals (map (bucket_of c.args.clauses.now) hs)) (drop_all c.loop-hash.hash-index c.args.hashes.now c.loop-hash-test.false))
 
 pub returns-clause-looks : goal.returns-clause-looks
 returns-clause-looks c = record {
   rise = grind (arith, common_steps);
   most = walked_all c.args.looks.now c.loop-hash.looks c.loop-hash.hash-index (length c.args.hashes.now) c.args.clauses.now c.loop-hash.invariant.looks c.loop-hash.auto.hash-index-end;
 }
+
+pub returns-in_err-walk_bucket-clause-same : goal.returns-in_err-walk_bucket-clause-same
+returns-in_err-walk_bucket-clause-same c = λ roomy.
+    c.walk_bucket.ensures.same (bucket_roomy c.loop-hash.assigned.room (get_or c.args.hashes.now c.loop-hash.hash-index 0) c.args.clauses.now
+    (stored_further c.args.assigned.now.room c.loop-hash.assigned.room (live c.args.clauses.now) c.loop-hash.invariant.extends.room roomy)) ∙ c.loop-hash.invariant.same roomy
+
+pub returns-in-Empty-clause-same : goal.returns-in-Empty-clause-same
+returns-in-Empty-clause-same c = λ roomy.
+    c.walk_bucket.ensures.same (bucket_roomy c.loop-hash.assigned.room (get_or c.args.hashes.now c.loop-hash.hash-index 0) c.args.clauses.now
+    (stored_further c.args.assigned.now.room c.loop-hash.assigned.room (live c.args.clauses.now) c.loop-hash.invariant.extends.room roomy)) ∙ c.loop-hash.invariant.same roomy
+
+pub returns-in-Conflict-clause-same : goal.returns-in-Conflict-clause-same
+returns-in-Conflict-clause-same c = λ roomy.
+    c.walk_bucket.ensures.same (bucket_roomy c.loop-hash.assigned.room (get_or c.args.hashes.now c.loop-hash.hash-index 0) c.args.clauses.now
+    (stored_further c.args.assigned.now.room c.loop-hash.assigned.room (live c.args.clauses.now) c.loop-hash.invariant.extends.room roomy)) ∙ c.loop-hash.invariant.same roomy
+
+pub returns-clause-same : goal.returns-clause-same
+returns-clause-same c = c.loop-hash.invariant.same

@@ -1,8 +1,11 @@
-use Rattle.std.proofs.Common.{◌≡◌, drop, map}
-use Rattle.sat_hints.specs.inner.Clauses.{clause_at}
-use Rattle.sat_hints.specs.inner.Course.{course}
+use Rattle.std.proofs.Common.{◌≡◌, drop}
+use Rattle.sat_hints.specs.inner.Judging.{course_of}
+use Rattle.sat_hints.specs.inner.Standing.{clauses_of}
 use Rattle.sat_hints.proofs.propagating.follow.Given as goal
 
 -- the clauses that are left run as all do
-abbrev pub invariant-loop-i : goal.invariant-loop-i
-invariant-loop-i l = course l.fn.assumed (map (clause_at l.present) l.places) ≡ course l.assumed (map (clause_at l.present) (drop l.i l.places))
+abbrev pub invariant-loop-turn : goal.invariant-loop-turn
+invariant-loop-turn l = record {
+  course : course_of l.fn.assumed.literals (clauses_of l.standing l.ids) ≡ course_of l.assumed.literals (clauses_of l.standing (drop l.turn l.ids));
+  room : l.assumed.room ≡ l.fn.assumed.room;
+}

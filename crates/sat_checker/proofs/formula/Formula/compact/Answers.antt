@@ -7,4 +7,6 @@ returns c = λ f k. record {
   units = k.units;
   status = k.status;
   numbered = numbered_kept _ _ f.units c.args.self.now.status.last f.next_id c.compact.ensures.ids k.numbered;
+  room = k.room;
+  marks = k.marks;
 }

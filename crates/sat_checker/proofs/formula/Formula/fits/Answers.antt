@@ -1,31 +1,28 @@
-use Rattle.std.proofs.Common.{sym, ap, ◌∙◌, arith}
-use Rattle.sat_checker.specs.inner.FormulaView.{RestOfStored}
+use Rattle.std.proofs.Common.{◌∙◌, sym, ap}
+use Rattle.sat_checker.specs.inner.FormulaView.{RestOfStored, refiled_in}
+use Rattle.sat_checker.specs.inner.Room.{LiteralsAndRoom}
+use Rattle.sat_checker.proofs.lemmas.state.InRoom.{marks_kept, stays_through, judged_over, exact_over}
 use Rattle.sat_checker.proofs.lemmas.state.Models.{met_fits}
 use Rattle.sat_checker.proofs.lemmas.variables.Keeping.{match_true}
-use Rattle.std.proofs.lemmas.Result.{IfOk-from_err}
-use Rattle.std.proofs.lemmas.Grind.{common_steps}
 use Rattle.sat_checker.proofs.formula.Formula.fits.Goals as goal
-use Rattle.sat_checker.proofs.lemmas.store.Entries.{on_err}
 
-pub returns-clause-exact : goal.returns-clause-exact
-returns-clause-exact c = λ f k.
-    let m = match_true _ _ _ c.in_ok-assume_apart.ensures.exact c.if-not-branch.false in
-    met_fits c.are_met.result f c.args.literals.now c.assume_apart.new.assigned (sym (ap (λ (s : RestOfStored). s.unsat) k.status) ∙ c.if-self.false) m.0 m.1 (c.are_met.ensures.met f k)
+pub returns-then-apart-clause-exact : goal.returns-then-apart-clause-exact
+returns-then-apart-clause-exact c = λ f k.
+    met_fits c.are_met.result f c.args.literals.now (sym (ap (λ (s : RestOfStored). s.unsat) k.status) ∙ c.if-self.false) (match_true _ _ _ c.in-Ok.ensures.exact c.if-apart.true).0
+    (c.are_met.ensures.met f (marks_kept c.args.self.now c.assume_apart.new.assigned f (stays_through c.args.self.now.marks c.allow.new.self c.undo_to.new.self c.assume_apart.new.assigned.room c.allow.ensures (ap (λ (t : LiteralsAndRoom). t.room) c.undo_to.ensures) c.in-Ok.ensures.stays) k))
 
-pub returns-in_err-assume_apart-clause-exact : goal.returns-in_err-assume_apart-clause-exact
-returns-in_err-assume_apart-clause-exact c = IfOk-from_err c.from_residual.result _ c.from_residual.ensures.0
+pub returns-then-apart-clause-looks : goal.returns-then-apart-clause-looks
+returns-then-apart-clause-looks c = record { rise = c.are_met.ensures.looks.rise; most = λ f k. c.are_met.ensures.looks.most f (marks_kept c.args.self.now c.assume_apart.new.assigned f (stays_through c.args.self.now.marks c.allow.new.self c.undo_to.new.self c.assume_apart.new.assigned.room c.allow.ensures (ap (λ (t : LiteralsAndRoom). t.room) c.undo_to.ensures) c.in-Ok.ensures.stays) k) }
 
-pub returns-in_err-assume_apart-clause-looks : goal.returns-in_err-assume_apart-clause-looks
-returns-in_err-assume_apart-clause-looks c = record { rise = grind (arith, common_steps); most = λ f k. omega arith }
+pub returns-in-Err-clause-exact : goal.returns-in-Err-clause-exact
+returns-in-Err-clause-exact c =
+    exact_over c.want_if_met.result (refiled_in c.args.self.now) (refiled_in (record c.args.self.now { marks = c.assume_apart.new.assigned })) c.args.literals.now
+    (λ f. marks_kept c.args.self.now c.assume_apart.new.assigned f (stays_through c.args.self.now.marks c.allow.new.self c.undo_to.new.self c.assume_apart.new.assigned.room c.allow.ensures (ap (λ (t : LiteralsAndRoom). t.room) c.undo_to.ensures) c.in-Err.ensures.stays)) c.want_if_met.ensures.exact
 
-pub returns-then-self-clause-looks : goal.returns-then-self-clause-looks
-returns-then-self-clause-looks c = record { rise = grind (arith, common_steps); most = λ f k. omega arith }
+pub returns-in-Err-clause-judged : goal.returns-in-Err-clause-judged
+returns-in-Err-clause-judged c =
+    judged_over c.want_if_met.result (refiled_in c.args.self.now) (refiled_in (record c.args.self.now { marks = c.assume_apart.new.assigned })) c.args.literals.now
+    (λ f. marks_kept c.args.self.now c.assume_apart.new.assigned f (stays_through c.args.self.now.marks c.allow.new.self c.undo_to.new.self c.assume_apart.new.assigned.room c.allow.ensures (ap (λ (t : LiteralsAndRoom). t.room) c.undo_to.ensures) c.in-Err.ensures.stays)) c.want_if_met.ensures.judged
 
-pub returns-then-not-branch-clause-looks : goal.returns-then-not-branch-clause-looks
-returns-then-not-branch-clause-looks c = record { rise = grind (arith, common_steps); most = λ f k. omega arith }
-
-pub returns-clause-looks : goal.returns-clause-looks
-returns-clause-looks c = c.are_met.ensures.looks
-
-pub returns-in_err-assume_apart-clause-apart : goal.returns-in_err-assume_apart-clause-apart
-returns-in_err-assume_apart-clause-apart c = on_err _ _ c.in_err-assume_apart.ensures.apart
+pub returns-in-Err-clause-looks : goal.returns-in-Err-clause-looks
+returns-in-Err-clause-looks c = record { rise = c.want_if_met.ensures.looks.rise; most = λ f k. c.want_if_met.ensures.looks.most f (marks_kept c.args.self.now c.assume_apart.new.assigned f (stays_through c.args.self.now.marks c.allow.new.self c.undo_to.new.self c.assume_apart.new.assigned.room c.allow.ensures (ap (λ (t : LiteralsAndRoom). t.room) c.undo_to.ensures) c.in-Err.ensures.stays) k) }

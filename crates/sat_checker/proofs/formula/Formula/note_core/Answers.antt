@@ -16,7 +16,7 @@ pub list-requires-clause-canonical : goal.list-requires-clause-canonical
 list-requires-clause-canonical c = c.deref.ensures.value ∙ c.in_ok-copy_canonical.ensures.set
 
 pub list-requires-clause-explained : goal.list-requires-clause-explained
-list-requires-clause-explained c = (ground (map negated c.args.denied.now ++ map (λ u. u.literal) c.args.self.now.units) (named c.requires.explained.0 c.args.self.now.store.clauses), c.requires.explained.1)
+list-requires-clause-explained c = λ whole. (ground (map negated c.args.denied.now ++ map (λ u. u.literal) c.args.self.now.units.units) (named (c.requires.explained whole).0 c.args.self.now.store.clauses), (c.requires.explained whole).1)
 
 pub returns-in_err-copy_canonical-clause-noted : goal.returns-in_err-copy_canonical-clause-noted
 returns-in_err-copy_canonical-clause-noted c = IfOk-from_err c.from_residual.result _ c.from_residual.ensures.0

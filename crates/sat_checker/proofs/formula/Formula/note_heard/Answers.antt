@@ -21,7 +21,7 @@ pub list-requires-clause-canonical : goal.list-requires-clause-canonical
 list-requires-clause-canonical c = c.as_slice-literals.ensures.value ∙ c.in_ok-both_signs.ensures.set
 
 pub list-requires-clause-explained : goal.list-requires-clause-explained
-list-requires-clause-explained c = (ground (map negated c.args.clause.now ++ map (λ u. u.literal) c.args.self.now.units) (named c.requires.explained.0 c.args.self.now.store.clauses), c.requires.explained.1)
+list-requires-clause-explained c = λ whole. (ground (map negated c.args.clause.now ++ map (λ u. u.literal) c.args.self.now.units.units) (named (c.requires.explained whole).0 c.args.self.now.store.clauses), (c.requires.explained whole).1)
 
 pub returns-in_err-both_signs-clause-noted : goal.returns-in_err-both_signs-clause-noted
 returns-in_err-both_signs-clause-noted c = IfOk-from_err c.from_residual.result _ c.from_residual.ensures.0

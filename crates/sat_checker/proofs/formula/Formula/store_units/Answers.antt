@@ -1,40 +1,42 @@
-use Rattle.std.proofs.Common.{arith, length, subst, sym, ap, Err}
+use Rattle.std.proofs.Common.{◌+◌, ◌-◌, ◌≡◌, [], ◌∷◌, arith, length, subst, sym}
 use Rattle.sat_checker.specs.Looks.{literal_count}
-use Rattle.sat_checker.specs.Accepts.{PassInTurn}
+use Rattle.sat_checker.specs.Accepts.{PassesByHashes, PassInTurn}
 use Rattle.sat_checker.specs.Storing.{with_unit}
+use Rattle.sat_checker.specs.inner.InTurn.{PassBehind}
 use Rattle.sat_checker.proofs.lemmas.variables.Keeping.{match_true, match_false}
-use Rattle.sat_checker.proofs.lemmas.state.Units.{passed, stopped, spent_then, finished, unnumbered, spent_passes, behind_it, back_behind}
-use Rattle.sat_checker.proofs.lemmas.state.Unnumbered.{checks_as}
+use Rattle.sat_checker.proofs.lemmas.state.Units.{passed, stopped, spent_then, finished, failed, accepted_behind, back_behind}
+use Rattle.sat_checker.proofs.lemmas.state.Checks.{checks_as}
 use Rattle.sat_checker.proofs.lemmas.telling.NotedUnits.{noted_more, noted_all, none_noted, twice_then, twice_end, twice_rest}
 use Rattle.std.proofs.lemmas.Grind.{common_steps}
 use Rattle.sat_checker.proofs.formula.Formula.store_units.Goals as goal
 
-pub returns-in-Err-CounterEnd-clause-decides : goal.returns-in-Err-CounterEnd-clause-decides
-returns-in-Err-CounterEnd-clause-decides c = λ f k.
+pub returns-in-Err-clause-decides : goal.returns-in-Err-clause-decides
+returns-in-Err-clause-decides c = λ f k.
     let left = c.loop-place.invariant.left f k in
     let units = c.args.units.now in
     let self = c.loop-place.self in
+    let place = c.loop-place.place in
     let unit = c.index-units-place.result in
-    let spent = spent_passes c.in-Err-CounterEnd.field-0 _ _ _ c.in-Err-CounterEnd.field-0-is (c.in-Err-CounterEnd.ensures.decides left.now left.kept) in
-    let kept = checks_as c.store_checked.new.self left.now (c.in-Err-CounterEnd.ensures.kept (ap Err c.in-Err-CounterEnd.field-0-is) left.now left.kept) in
-    unnumbered c.pass_unnumbered.result (PassInTurn (with_unit unit.0 left.now) c.split_at.result.1.now) _ _ _
-    (λ q. behind_it self f units c.loop-place.place unit c.loop-place-test.true c.index-units-place.is left (subst (PassInTurn (with_unit unit.0 left.now)) c.split_at.ensures.back q) spent.0)
-    (λ q. subst (PassInTurn (with_unit unit.0 left.now)) (sym c.split_at.ensures.back) (back_behind self f units c.loop-place.place unit c.loop-place-test.true c.index-units-place.is left q))
-    (spent_then self f units c.loop-place.place unit c.loop-place-test.true c.index-units-place.is left spent.1)
-    (c.pass_unnumbered.ensures.exact left.now kept)
+    let kept = c.in-Err.ensures.kept left.now (checks_as self left.now left.kept) in
+    failed c.fail_unless_refused.result c.in-Err.fault (PassesByHashes left.now (unit.0 ∷ []) (unit.1 ∷ [])) (PassInTurn f units) (PassBehind left.now c.split_at.result.1.now) _ _ (with_unit unit.0 left.now) _
+    (c.in-Err.ensures.decides left.now left.kept) (spent_then self f units place unit c.loop-place-test.true c.index-units-place.is left)
+    (λ p q. accepted_behind self f units place unit c.loop-place-test.true c.index-units-place.is left p (subst (PassBehind left.now) c.split_at.ensures.back q))
+    (λ q. subst (PassBehind left.now) (sym c.split_at.ensures.back) (back_behind self f units place unit c.loop-place-test.true c.index-units-place.is left q))
+    (c.fail_unless_refused.ensures.exact left.now kept)
 
-pub returns-in-Err-CounterEnd-clause-looks : goal.returns-in-Err-CounterEnd-clause-looks
-returns-in-Err-CounterEnd-clause-looks c = record {
+pub returns-in-Err-clause-looks : goal.returns-in-Err-clause-looks
+returns-in-Err-clause-looks c = record {
   rise = grind (arith, common_steps);
   most = λ f k.
       let left = c.loop-place.invariant.left f k in
-      let kept = checks_as c.store_checked.new.self left.now (c.in-Err-CounterEnd.ensures.kept (ap Err c.in-Err-CounterEnd.field-0-is) left.now left.kept) in
-      twice_rest c.args.looks.now c.loop-place.looks c.store_checked.new.looks c.pass_unnumbered.new.looks c.loop-place.place (length c.split_at.result.1.now) (length c.args.units.now) (literal_count f) (literal_count left.now) left.count c.split_at.ensures.back_len
-      (c.loop-place.invariant.looks f k) (c.store_checked.ensures.looks.most left.now left.kept) (c.pass_unnumbered.ensures.looks.most left.now kept);
+      let kept = c.in-Err.ensures.kept left.now (checks_as c.loop-place.self left.now left.kept) in
+      let count : length c.split_at.result.1.now - 1 + (c.loop-place.place + 1) ≡ length c.args.units.now = omega (arith, c.split_at.ensures.back_len, c.loop-place-test.true) in
+      twice_rest c.args.looks.now c.loop-place.looks c.store_checked.new.looks c.fail_unless_refused.new.looks c.loop-place.place (length c.split_at.result.1.now - 1) (length c.args.units.now) (literal_count f) (literal_count left.now) left.count count
+      (c.loop-place.invariant.looks f k) (c.store_checked.ensures.looks.most left.now left.kept) (c.fail_unless_refused.ensures.looks.most left.now kept);
 }
 
-pub returns-in-Err-CounterEnd-clause-noted : goal.returns-in-Err-CounterEnd-clause-noted
-returns-in-Err-CounterEnd-clause-noted c = none_noted c.pass_unnumbered.result _ c.pass_unnumbered.ensures.never
+pub returns-in-Err-clause-noted : goal.returns-in-Err-clause-noted
+returns-in-Err-clause-noted c = none_noted c.fail_unless_refused.result _ c.fail_unless_refused.ensures.never
 
 pub returns-in-Ok-false-clause-decides : goal.returns-in-Ok-false-clause-decides
 returns-in-Ok-false-clause-decides c = λ f k.
@@ -44,14 +46,6 @@ returns-in-Ok-false-clause-decides c = λ f k.
 
 pub returns-in-Ok-false-clause-looks : goal.returns-in-Ok-false-clause-looks
 returns-in-Ok-false-clause-looks c = record {
-  rise = grind (arith, common_steps);
-  most = λ f k.
-      let left = c.loop-place.invariant.left f k in
-      twice_end c.args.looks.now c.loop-place.looks c.store_checked.new.looks c.args.units.now c.loop-place.place c.loop-place-test.true (literal_count f) (literal_count left.now) left.count (c.loop-place.invariant.looks f k) (c.store_checked.ensures.looks.most left.now left.kept);
-}
-
-pub returns-in-Err-OutOfMemory-clause-looks : goal.returns-in-Err-OutOfMemory-clause-looks
-returns-in-Err-OutOfMemory-clause-looks c = record {
   rise = grind (arith, common_steps);
   most = λ f k.
       let left = c.loop-place.invariant.left f k in

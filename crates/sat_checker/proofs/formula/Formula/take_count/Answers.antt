@@ -1,5 +1,6 @@
 use Rattle.std.proofs.Common.{sym, subst}
 use Rattle.sat_checker.specs.inner.FormulaView.{AreNumbered}
+use Rattle.sat_checker.proofs.lemmas.state.Rooms.{stored_without}
 use Rattle.sat_checker.proofs.lemmas.state.Units.{match_on}
 use Rattle.sat_checker.proofs.formula.Formula.take_count.Goals as goal
 
@@ -12,5 +13,7 @@ returns-clause-decides c = λ f k.
         units = k.units;
         status = k.status;
         numbered = subst (λ is. AreNumbered is f.units c.args.self.now.status.last f.next_id) (sym c.delete_clause.ensures.ids) k.numbered;
+        room = stored_without c.args.self.now.units.room c.args.redundant c.args.literals.now f.clauses k.room;
+        marks = stored_without c.args.self.now.marks.room c.args.redundant c.args.literals.now f.clauses k.marks;
       },
     )) (λ n. n) (c.delete_clause.ensures.deleted f k.clauses)

@@ -4,4 +4,4 @@ use Rattle.sat_checker.proofs.rup.needed.list_units.Given as goal
 
 -- the ids so far, and those of the literals that are left, are all
 abbrev pub invariant-loop-lit : goal.invariant-loop-lit
-invariant-loop-lit l = l.ids.items ++ unit_ids_of l.denied l.units (drop l.lit-index l.lit-items) ≡ unit_ids_of l.denied l.units l.lit-items
+invariant-loop-lit l = l.ids.items ++ unit_ids_of l.denied.literals l.units.units (drop l.lit-index l.lit-items) ≡ unit_ids_of l.denied.literals l.units.units l.lit-items

@@ -5,4 +5,4 @@ use Rattle.sat_checker.proofs.rup.needed.mark_all.Given as goal
 
 -- those that are left and those that are marked are all
 abbrev pub invariant-loop-lit : goal.invariant-loop-lit
-invariant-loop-lit l = MarksLeft (map negated (drop l.lit-index l.clause)) l.marked (map negated l.clause) l.fn.marked
+invariant-loop-lit l = MarksLeft (map negated (drop l.lit-index l.clause)) l.marked.literals (map negated l.clause) l.fn.marked.literals

@@ -21,7 +21,7 @@ returns-in_err-note_input-clause-looks c = record {
   rise = grind (arith, common_steps);
   most = λ f k.
       let filed = c.file.ensures.looks.most f k.formula in
-      let h = c.note_input.ensures.looks.most f (c.in_ok-file.ensures.kept f k.formula) in omega arith;
+      let h = c.note_input.ensures.looks.most f (c.file.ensures.kept f k.formula) in omega arith;
 }
 
 pub returns-in_err-store_input-clause-looks : goal.returns-in_err-store_input-clause-looks
@@ -29,8 +29,8 @@ returns-in_err-store_input-clause-looks c = record {
   rise = grind (arith, common_steps);
   most = λ f k.
       let filed = c.file.ensures.looks.most f k.formula in
-      let h = c.note_input.ensures.looks.most f (c.in_ok-file.ensures.kept f k.formula) in
-      let stored = c.store_input.ensures.looks.most f (record { formula = c.in_ok-file.ensures.kept f k.formula; variables = k.variables; assumed = k.assumed }) in
+      let h = c.note_input.ensures.looks.most f (c.file.ensures.kept f k.formula) in
+      let stored = c.store_input.ensures.looks.most f (record { formula = c.file.ensures.kept f k.formula; variables = k.variables; assumed = k.assumed }) in
       omega arith;
 }
 
@@ -39,25 +39,25 @@ returns-clause-looks c = record {
   rise = grind (arith, common_steps);
   most = λ f k.
       let filed = c.file.ensures.looks.most f k.formula in
-      let h = c.note_input.ensures.looks.most f (c.in_ok-file.ensures.kept f k.formula) in
-      let stored = c.store_input.ensures.looks.most f (record { formula = c.in_ok-file.ensures.kept f k.formula; variables = k.variables; assumed = k.assumed }) in
+      let h = c.note_input.ensures.looks.most f (c.file.ensures.kept f k.formula) in
+      let stored = c.store_input.ensures.looks.most f (record { formula = c.file.ensures.kept f k.formula; variables = k.variables; assumed = k.assumed }) in
       omega arith;
 }
 
 pub returns-clause-decides : goal.returns-clause-decides
 returns-clause-decides c = λ f k. (
   inr (sampling_kept c.args.self.now.variables f c.args.clause.now k.variables c.if-not-are_sampling.ensures),
-  added _ f c.args.clause.now (sym (ap (λ (s : RestOfStored). s.unsat) k.formula.status) ∙ c.if-self.false) (c.in_ok-store_input.ensures.stored f (record { formula = c.in_ok-file.ensures.kept f k.formula; variables = k.variables; assumed = k.assumed })),
+  added _ f c.args.clause.now (sym (ap (λ (s : RestOfStored). s.unsat) k.formula.status) ∙ c.if-self.false) (c.in_ok-store_input.ensures.stored f (record { formula = c.file.ensures.kept f k.formula; variables = k.variables; assumed = k.assumed })),
 )
 
 pub returns-in_err-note_input-clause-decides : goal.returns-in_err-note_input-clause-decides
-returns-in_err-note_input-clause-decides c = let p = err_from_is_err_and c.from_residual-in_err-note_input.result c.from_residual-in_err-note_input.ensures.1 in rw (p.1, p.2) (λ f k. inr (sampling_kept c.args.self.now.variables f c.args.clause.now k.variables c.if-not-are_sampling.ensures))
+returns-in_err-note_input-clause-decides c = let p = err_from_is_err_and c.from_residual.result c.from_residual.ensures.1 in rw (p.1, p.2) (λ f k. inr (sampling_kept c.args.self.now.variables f c.args.clause.now k.variables c.if-not-are_sampling.ensures))
 
 pub returns-in_err-store_input-clause-decides : goal.returns-in_err-store_input-clause-decides
 returns-in_err-store_input-clause-decides c = λ f k.
     let p = err_from_is_err_and c.from_residual-in_err-store_input.result c.from_residual-in_err-store_input.ensures.1 in
-    decides_err c.store_input.result _ p.0 _ c.in_err-store_input.was p.1 p.2 _ _ _ _ _ _ (inr (sampling_kept c.args.self.now.variables f c.args.clause.now k.variables c.if-not-are_sampling.ensures)) (inr (sampling_kept c.args.self.now.variables f c.args.clause.now k.variables c.if-not-are_sampling.ensures))
-    (added_spent f c.args.clause.now (sym (ap (λ (s : RestOfStored). s.unsat) k.formula.status) ∙ c.if-self.false)) (c.store_input.ensures.stored f (record { formula = c.in_ok-file.ensures.kept f k.formula; variables = k.variables; assumed = k.assumed }))
+    decides_err c.store_input.result _ p.0 _ c.in_err-store_input.was p.1 p.2 _ _ _ _ _ (inr (sampling_kept c.args.self.now.variables f c.args.clause.now k.variables c.if-not-are_sampling.ensures))
+    (added_spent f c.args.clause.now (sym (ap (λ (s : RestOfStored). s.unsat) k.formula.status) ∙ c.if-self.false)) (c.store_input.ensures.stored f (record { formula = c.file.ensures.kept f k.formula; variables = k.variables; assumed = k.assumed }))
 
 pub returns-then-self-clause-noted : goal.returns-then-self-clause-noted
 returns-then-self-clause-noted c = λ t f k long. unsat_noted f c.args.clause.now c.args.notes.now (sym (ap (λ (s : RestOfStored). s.unsat) k.formula.status) ∙ c.if-self.true)
@@ -66,19 +66,10 @@ pub returns-then-not-are_sampling-clause-noted : goal.returns-then-not-are_sampl
 returns-then-not-are_sampling-clause-noted c = λ t. absurd (true≢false (sym t))
 
 pub returns-in_err-note_input-clause-noted : goal.returns-in_err-note_input-clause-noted
-returns-in_err-note_input-clause-noted c = IfOk-from_err c.from_residual-in_err-note_input.result _ c.from_residual-in_err-note_input.ensures.0
+returns-in_err-note_input-clause-noted c = IfOk-from_err c.from_residual.result _ c.from_residual.ensures.0
 
 pub returns-in_err-store_input-clause-noted : goal.returns-in_err-store_input-clause-noted
 returns-in_err-store_input-clause-noted c = IfOk-from_err c.from_residual-in_err-store_input.result _ c.from_residual-in_err-store_input.ensures.0
 
 pub returns-clause-noted : goal.returns-clause-noted
-returns-clause-noted c = λ t f k long. input_noted f c.args.clause.now c.args.notes.now c.note_input.new.notes (sym (ap (λ (s : RestOfStored). s.unsat) k.formula.status) ∙ c.if-self.false) (c.in_ok-note_input.ensures.noted f (c.in_ok-file.ensures.kept f k.formula))
-
-pub returns-in_err-file-clause-decides : goal.returns-in_err-file-clause-decides
-returns-in_err-file-clause-decides c = let p = err_from_is_err_and c.from_residual.result c.from_residual.ensures.1 in rw (p.1, p.2) (λ f k. inr (sampling_kept c.args.self.now.variables f c.args.clause.now k.variables c.if-not-are_sampling.ensures))
-
-pub returns-in_err-file-clause-looks : goal.returns-in_err-file-clause-looks
-returns-in_err-file-clause-looks c = record { rise = grind (arith, common_steps); most = λ f k. let filed = c.file.ensures.looks.most f k.formula in omega arith }
-
-pub returns-in_err-file-clause-noted : goal.returns-in_err-file-clause-noted
-returns-in_err-file-clause-noted c = IfOk-from_err c.from_residual.result _ c.from_residual.ensures.0
+returns-clause-noted c = λ t f k long. input_noted f c.args.clause.now c.args.notes.now c.note_input.new.notes (sym (ap (λ (s : RestOfStored). s.unsat) k.formula.status) ∙ c.if-self.false) (c.in_ok-note_input.ensures.noted f (c.file.ensures.kept f k.formula))

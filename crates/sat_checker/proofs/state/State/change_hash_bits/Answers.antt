@@ -10,6 +10,8 @@ returns c = λ f k. (
       units = k.formula.units;
       status = k.formula.status;
       numbered = numbered_by c.args.self.now.formula.store c.set_bits.new.self f.units c.args.self.now.formula.status.last f.next_id c.set_bits.ensures.ids k.formula.numbered;
+      room = k.formula.room;
+      marks = k.formula.marks;
     };
     variables = k.variables;
     assumed = k.assumed;

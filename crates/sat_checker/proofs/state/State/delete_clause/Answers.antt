@@ -11,35 +11,26 @@ use Rattle.std.proofs.lemmas.Grind.{common_steps}
 use Rattle.sat_checker.proofs.state.State.delete_clause.Goals as goal
 
 pub delete-requires : goal.delete-requires
-delete-requires c = c.in_ok-literals.ensures.set
-
-pub returns-in_err-literals-clause-decides : goal.returns-in_err-literals-clause-decides
-returns-in_err-literals-clause-decides c = let p = err_from_is_err_and c.from_residual-in_err-literals.result c.from_residual-in_err-literals.ensures.1 in rw (p.1, p.2) (λ f k. tt)
+delete-requires c = c.in-Ok.ensures.set
 
 pub returns-in_err-deleted-clause-decides : goal.returns-in_err-deleted-clause-decides
-returns-in_err-deleted-clause-decides c = let p = err_from_is_err_and c.from_residual-in_err-deleted.result c.from_residual-in_err-deleted.ensures.1 in rw (p.1, p.2) (λ f k. tt)
+returns-in_err-deleted-clause-decides c = let p = err_from_is_err_and c.from_residual.result c.from_residual.ensures.1 in rw (p.1, p.2) (λ f k. (match_true _ _ _ (c.delete.ensures.decides f (c.file.ensures.kept f k.formula)) c.if-not-delete.false).0)
 
 pub returns-in_err-compact-clause-decides : goal.returns-in_err-compact-clause-decides
-returns-in_err-compact-clause-decides c = let p = err_from_is_err_and c.from_residual-in_err-compact.result c.from_residual-in_err-compact.ensures.1 in rw (p.1, p.2) (λ f k. tt)
+returns-in_err-compact-clause-decides c = let p = err_from_is_err_and c.from_residual-in_err-compact.result c.from_residual-in_err-compact.ensures.1 in rw (p.1, p.2) (λ f k. (match_true _ _ _ (c.delete.ensures.decides f (c.file.ensures.kept f k.formula)) c.if-not-delete.false).0)
 
 pub returns-then-not-delete-clause-decides : goal.returns-then-not-delete-clause-decides
-returns-then-not-delete-clause-decides c = λ f k. match_false _ _ _ (c.delete.ensures.decides f (c.in_ok-file.ensures.kept f k.formula)) c.if-not-delete.true
+returns-then-not-delete-clause-decides c = λ f k. match_false _ _ _ (c.delete.ensures.decides f (c.file.ensures.kept f k.formula)) c.if-not-delete.true
 
 pub returns-clause-decides : goal.returns-clause-decides
 returns-clause-decides c = λ f k.
-    let gone = match_true _ _ _ (c.delete.ensures.decides f (c.in_ok-file.ensures.kept f k.formula)) c.if-not-delete.false in (
+    let gone = match_true _ _ _ (c.delete.ensures.decides f (c.file.ensures.kept f k.formula)) c.if-not-delete.false in (
       gone.0,
       deleted_kept c.args.self.now _ f c.args.clause.now (deletion_of c.args.proof) k (c.in_ok-compact.ensures (effect (DeleteClause c.args.clause.now (deletion_of c.args.proof)) f) gone.1) refl refl,
     )
 
-pub returns-in_err-literals-clause-looks : goal.returns-in_err-literals-clause-looks
-returns-in_err-literals-clause-looks c = record { rise = grind (arith, common_steps); most = λ f k. let filed = c.file.ensures.looks.most f k.formula in omega arith }
-
-pub returns-in_err-literals-clause-noted : goal.returns-in_err-literals-clause-noted
-returns-in_err-literals-clause-noted c = IfOk-from_err c.from_residual-in_err-literals.result _ c.from_residual-in_err-literals.ensures.0
-
 pub returns-in_err-deleted-clause-noted : goal.returns-in_err-deleted-clause-noted
-returns-in_err-deleted-clause-noted c = IfOk-from_err c.from_residual-in_err-deleted.result _ c.from_residual-in_err-deleted.ensures.0
+returns-in_err-deleted-clause-noted c = IfOk-from_err c.from_residual.result _ c.from_residual.ensures.0
 
 pub returns-in_err-compact-clause-noted : goal.returns-in_err-compact-clause-noted
 returns-in_err-compact-clause-noted c = IfOk-from_err c.from_residual-in_err-compact.result _ c.from_residual-in_err-compact.ensures.0
@@ -52,8 +43,8 @@ returns-then-not-delete-clause-looks c = record {
   rise = grind (arith, common_steps);
   most = λ f k.
       let filed = c.file.ensures.looks.most f k.formula in
-      let told = c.deletion-deletion.ensures.looks.most f (c.in_ok-file.ensures.kept f k.formula) in
-      let gone = c.delete.ensures.looks.most f (c.in_ok-file.ensures.kept f k.formula) in
+      let told = c.deletion-deletion.ensures.looks.most f (c.file.ensures.kept f k.formula) in
+      let gone = c.delete.ensures.looks.most f (c.file.ensures.kept f k.formula) in
       omega arith;
 }
 
@@ -62,8 +53,8 @@ returns-in_err-deleted-clause-looks c = record {
   rise = grind (arith, common_steps);
   most = λ f k.
       let filed = c.file.ensures.looks.most f k.formula in
-      let told = c.deletion-deletion.ensures.looks.most f (c.in_ok-file.ensures.kept f k.formula) in
-      let gone = c.delete.ensures.looks.most f (c.in_ok-file.ensures.kept f k.formula) in
+      let told = c.deletion-deletion.ensures.looks.most f (c.file.ensures.kept f k.formula) in
+      let gone = c.delete.ensures.looks.most f (c.file.ensures.kept f k.formula) in
       omega arith;
 }
 
@@ -72,8 +63,8 @@ returns-in_err-compact-clause-looks c = record {
   rise = grind (arith, common_steps);
   most = λ f k.
       let filed = c.file.ensures.looks.most f k.formula in
-      let told = c.deletion-deletion.ensures.looks.most f (c.in_ok-file.ensures.kept f k.formula) in
-      let gone = c.delete.ensures.looks.most f (c.in_ok-file.ensures.kept f k.formula) in
+      let told = c.deletion-deletion.ensures.looks.most f (c.file.ensures.kept f k.formula) in
+      let gone = c.delete.ensures.looks.most f (c.file.ensures.kept f k.formula) in
       omega arith;
 }
 
@@ -82,20 +73,11 @@ returns-clause-looks c = record {
   rise = grind (arith, common_steps);
   most = λ f k.
       let filed = c.file.ensures.looks.most f k.formula in
-      let told = c.deletion-deletion.ensures.looks.most f (c.in_ok-file.ensures.kept f k.formula) in
-      let gone = c.delete.ensures.looks.most f (c.in_ok-file.ensures.kept f k.formula) in
+      let told = c.deletion-deletion.ensures.looks.most f (c.file.ensures.kept f k.formula) in
+      let gone = c.delete.ensures.looks.most f (c.file.ensures.kept f k.formula) in
       omega arith;
 }
 
 pub returns-clause-noted : goal.returns-clause-noted
 returns-clause-noted c = λ t f k long.
-    deletion_noted f c.args.clause.now (deletion_of c.args.proof) c.in_ok-literals.literals.now c.deletion-deletion.result c.args.notes.now c.deleted.new.self (λ h. c.deletion-deletion.ensures.told h f (c.in_ok-file.ensures.kept f k.formula) c.args.clause.now c.in_ok-literals.ensures.set) c.in_ok-deleted.ensures
-
-pub returns-in_err-file-clause-decides : goal.returns-in_err-file-clause-decides
-returns-in_err-file-clause-decides c = let p = err_from_is_err_and c.from_residual.result c.from_residual.ensures.1 in rw (p.1, p.2) (λ f k. tt)
-
-pub returns-in_err-file-clause-looks : goal.returns-in_err-file-clause-looks
-returns-in_err-file-clause-looks c = record { rise = grind (arith, common_steps); most = λ f k. let filed = c.file.ensures.looks.most f k.formula in omega arith }
-
-pub returns-in_err-file-clause-noted : goal.returns-in_err-file-clause-noted
-returns-in_err-file-clause-noted c = IfOk-from_err c.from_residual.result _ c.from_residual.ensures.0
+    deletion_noted f c.args.clause.now (deletion_of c.args.proof) c.in-Ok.literals.now c.deletion-deletion.result c.args.notes.now c.deleted.new.self (λ h. c.deletion-deletion.ensures.told h f (c.file.ensures.kept f k.formula) c.args.clause.now c.in-Ok.ensures.set) c.in_ok-deleted.ensures

@@ -1,21 +1,22 @@
-use Rattle.std.proofs.Common.{◌≡◌, true, sym, subst, ◌∙◌, ◌↔◌, arith, length}
+use Rattle.std.proofs.Common.{sym, subst, ◌∙◌, arith, length}
 use Rattle.std.proofs.lemmas.Bool.{true≢false}
 use Rattle.std.proofs.lemmas.Result.{err_from_is_err_and, IfOk-from_err}
-use Rattle.sat_checker.specs.Accepts.{PassesByHashes}
 use Rattle.sat_checker.specs.Looks.{literal_count}
+use Rattle.sat_checker.specs.inner.FormulaView.{Explained}
 use Rattle.sat_checker.specs.inner.Reasons.{noted_length}
 use Rattle.sat_checker.proofs.lemmas.state.Refiled.{loosened}
-use Rattle.sat_checker.proofs.lemmas.state.Unnumbered.{checks_as, kept_beside}
+use Rattle.sat_checker.proofs.lemmas.state.Checks.{checks_as, kept_beside}
 use Rattle.sat_checker.proofs.lemmas.state.Keeping.{within_assumed}
-use Rattle.sat_checker.proofs.lemmas.telling.Noting.{looks_filed, looks_judged, looks_followed}
+use Rattle.sat_checker.proofs.lemmas.telling.Noting.{looks_judged, looks_followed}
 use Rattle.std.proofs.lemmas.Grind.{common_steps}
 use Rattle.sat_checker.proofs.state.State.failed_assumptions.Goals as goal
 
 pub note_core-requires-clause-denied : goal.note_core-requires-clause-denied
-note_core-requires-clause-denied c = c.as_slice-denied.ensures.value ∙ c.in_ok-copy_negated.ensures
+note_core-requires-clause-denied c = c.deref.ensures.value ∙ c.in_ok-copy_negated.ensures
 
 pub note_core-requires-clause-explained : goal.note_core-requires-clause-explained
-note_core-requires-clause-explained c = (c.args.hashes.now, c.in_ok-check.ensures.explained c.if-not-branch.false)
+note_core-requires-clause-explained c = λ whole.
+    (c.args.hashes.now, subst (λ ls. Explained c.check.new.self ls c.args.hashes.now) (sym (c.deref.ensures.value ∙ c.in_ok-copy_negated.ensures)) (c.in_ok-check.ensures.explained c.if-not-branch.false whole))
 
 pub returns-then-not-has_all-clause-decides : goal.returns-then-not-has_all-clause-decides
 returns-then-not-has_all-clause-decides c = λ f k p.
@@ -24,23 +25,24 @@ returns-then-not-has_all-clause-decides c = λ f k p.
 
 pub returns-then-not-branch-clause-decides : goal.returns-then-not-branch-clause-decides
 returns-then-not-branch-clause-decides c = λ f k p.
-    true≢false (sym ((subst (λ ls. (c.in_ok-check.field-0 ≡ true) ↔ PassesByHashes f ls c.args.hashes.now) (c.as_slice-denied.ensures.value ∙ c.in_ok-copy_negated.ensures) (c.in_ok-check.ensures.exact f (checks_as c.file.new.self f (c.in_ok-file.ensures.kept f k.formula)))).1 p.1) ∙ c.if-not-branch.true)
+    true≢false (sym ((c.in_ok-check.ensures.exact f (checks_as c.file.new.self f (c.file.ensures.kept f k.formula))).1 p.1) ∙ c.if-not-branch.true)
 
 pub returns-clause-decides : goal.returns-clause-decides
 returns-clause-decides c = λ f k.
     let w = within_assumed c.has_all.result c.args.core.now f.assumed c.args.self.now.assumed k.assumed c.has_all.ensures in (
-      (sym w ∙ c.if-not-has_all.false, (subst (λ ls. (c.in_ok-check.field-0 ≡ true) ↔ PassesByHashes f ls c.args.hashes.now) (c.as_slice-denied.ensures.value ∙ c.in_ok-copy_negated.ensures) (c.in_ok-check.ensures.exact f (checks_as c.file.new.self f (c.in_ok-file.ensures.kept f k.formula)))).0 c.if-not-branch.false),
-      record { formula = loosened c.check.new.self f (kept_beside c.file.new.self c.check.new.self f c.check.ensures.rest (c.in_ok-file.ensures.kept f k.formula)); variables = k.variables; assumed = k.assumed },
+      (sym w ∙ c.if-not-has_all.false, (c.in_ok-check.ensures.exact f (checks_as c.file.new.self f (c.file.ensures.kept f k.formula))).0 c.if-not-branch.false),
+      record { formula = loosened c.check.new.self f (kept_beside c.file.new.self c.check.new.self f c.check.ensures.rest (c.file.ensures.kept f k.formula)); variables = k.variables; assumed = k.assumed },
     )
 
-pub returns-in_err-copy_negated-clause-decides : goal.returns-in_err-copy_negated-clause-decides
-returns-in_err-copy_negated-clause-decides c = let p = err_from_is_err_and c.from_residual-in_err-copy_negated.result c.from_residual-in_err-copy_negated.ensures.1 in rw (p.1, p.2) (λ f k. sym (within_assumed c.has_all.result c.args.core.now f.assumed c.args.self.now.assumed k.assumed c.has_all.ensures) ∙ c.if-not-has_all.false)
-
 pub returns-in_err-check-clause-decides : goal.returns-in_err-check-clause-decides
-returns-in_err-check-clause-decides c = let p = err_from_is_err_and c.from_residual-in_err-check.result c.from_residual-in_err-check.ensures.1 in rw (p.1, p.2) (λ f k. sym (within_assumed c.has_all.result c.args.core.now f.assumed c.args.self.now.assumed k.assumed c.has_all.ensures) ∙ c.if-not-has_all.false)
+returns-in_err-check-clause-decides c =
+    let p = err_from_is_err_and c.from_residual.result c.from_residual.ensures.1 in rw (p.1, p.2) (λ f k. absurd (c.in_err-check.ensures.short f (checks_as c.file.new.self f (c.file.ensures.kept f k.formula))))
+
+pub returns-in_err-copy_negated-clause-decides : goal.returns-in_err-copy_negated-clause-decides
+returns-in_err-copy_negated-clause-decides c = let p = err_from_is_err_and c.from_residual-in_err-copy_negated.result c.from_residual-in_err-copy_negated.ensures.1 in rw (p.1, p.2) (λ f k. (sym (within_assumed c.has_all.result c.args.core.now f.assumed c.args.self.now.assumed k.assumed c.has_all.ensures) ∙ c.if-not-has_all.false, (c.in_ok-check.ensures.exact f (checks_as c.file.new.self f (c.file.ensures.kept f k.formula))).0 c.if-not-branch.false))
 
 pub returns-in_err-note_core-clause-decides : goal.returns-in_err-note_core-clause-decides
-returns-in_err-note_core-clause-decides c = let p = err_from_is_err_and c.from_residual-in_err-note_core.result c.from_residual-in_err-note_core.ensures.1 in rw (p.1, p.2) (λ f k. sym (within_assumed c.has_all.result c.args.core.now f.assumed c.args.self.now.assumed k.assumed c.has_all.ensures) ∙ c.if-not-has_all.false)
+returns-in_err-note_core-clause-decides c = let p = err_from_is_err_and c.from_residual-in_err-note_core.result c.from_residual-in_err-note_core.ensures.1 in rw (p.1, p.2) (λ f k. (sym (within_assumed c.has_all.result c.args.core.now f.assumed c.args.self.now.assumed k.assumed c.has_all.ensures) ∙ c.if-not-has_all.false, (c.in_ok-check.ensures.exact f (checks_as c.file.new.self f (c.file.ensures.kept f k.formula))).0 c.if-not-branch.false))
 
 pub returns-then-not-has_all-clause-looks : goal.returns-then-not-has_all-clause-looks
 returns-then-not-has_all-clause-looks c = record { rise = grind (arith, common_steps); most = λ f k. omega arith }
@@ -48,38 +50,38 @@ returns-then-not-has_all-clause-looks c = record { rise = grind (arith, common_s
 pub returns-in_err-copy_negated-clause-looks : goal.returns-in_err-copy_negated-clause-looks
 returns-in_err-copy_negated-clause-looks c = record {
   rise = grind (arith, common_steps);
-  most = λ f k. looks_filed c.args.looks.now c.file.new.looks (length c.args.hashes.now) (literal_count f) (c.file.ensures.looks.most f k.formula);
+  most = λ f k. looks_judged c.args.looks.now c.file.new.looks c.check.new.looks (length c.args.hashes.now) (literal_count f) (c.file.ensures.looks.most f k.formula) (c.check.ensures.looks.most f (checks_as c.file.new.self f (c.file.ensures.kept f k.formula)));
 }
 
 pub returns-in_err-check-clause-looks : goal.returns-in_err-check-clause-looks
 returns-in_err-check-clause-looks c = record {
   rise = grind (arith, common_steps);
-  most = λ f k. looks_judged c.args.looks.now c.file.new.looks c.check.new.looks (length c.args.hashes.now) (literal_count f) (c.file.ensures.looks.most f k.formula) (c.check.ensures.looks.most f (checks_as c.file.new.self f (c.in_ok-file.ensures.kept f k.formula)));
+  most = λ f k. looks_judged c.args.looks.now c.file.new.looks c.check.new.looks (length c.args.hashes.now) (literal_count f) (c.file.ensures.looks.most f k.formula) (c.check.ensures.looks.most f (checks_as c.file.new.self f (c.file.ensures.kept f k.formula)));
 }
 
 pub returns-then-not-branch-clause-looks : goal.returns-then-not-branch-clause-looks
 returns-then-not-branch-clause-looks c = record {
   rise = grind (arith, common_steps);
-  most = λ f k. looks_judged c.args.looks.now c.file.new.looks c.check.new.looks (length c.args.hashes.now) (literal_count f) (c.file.ensures.looks.most f k.formula) (c.check.ensures.looks.most f (checks_as c.file.new.self f (c.in_ok-file.ensures.kept f k.formula)));
+  most = λ f k. looks_judged c.args.looks.now c.file.new.looks c.check.new.looks (length c.args.hashes.now) (literal_count f) (c.file.ensures.looks.most f k.formula) (c.check.ensures.looks.most f (checks_as c.file.new.self f (c.file.ensures.kept f k.formula)));
 }
 
 pub returns-in_err-note_core-clause-looks : goal.returns-in_err-note_core-clause-looks
 returns-in_err-note_core-clause-looks c = record {
   rise = grind (arith, common_steps);
-  most = λ f k. looks_followed c.args.looks.now c.file.new.looks c.check.new.looks c.note_core.new.looks (noted_length c.check.new.self.store.clauses c.check.new.self.passed) (length c.args.hashes.now) (literal_count f) (c.file.ensures.looks.most f k.formula) (c.check.ensures.looks.most f (checks_as c.file.new.self f (c.in_ok-file.ensures.kept f k.formula))) c.in_ok-check.ensures.read c.note_core.ensures.looks.most;
+  most = λ f k. looks_followed c.args.looks.now c.file.new.looks c.check.new.looks c.note_core.new.looks (noted_length c.check.new.self.store.clauses c.check.new.self.passed) (length c.args.hashes.now) (literal_count f) (c.file.ensures.looks.most f k.formula) (c.check.ensures.looks.most f (checks_as c.file.new.self f (c.file.ensures.kept f k.formula))) c.in_ok-check.ensures.read c.note_core.ensures.looks.most;
 }
 
 pub returns-clause-looks : goal.returns-clause-looks
 returns-clause-looks c = record {
   rise = grind (arith, common_steps);
-  most = λ f k. looks_followed c.args.looks.now c.file.new.looks c.check.new.looks c.note_core.new.looks (noted_length c.check.new.self.store.clauses c.check.new.self.passed) (length c.args.hashes.now) (literal_count f) (c.file.ensures.looks.most f k.formula) (c.check.ensures.looks.most f (checks_as c.file.new.self f (c.in_ok-file.ensures.kept f k.formula))) c.in_ok-check.ensures.read c.note_core.ensures.looks.most;
+  most = λ f k. looks_followed c.args.looks.now c.file.new.looks c.check.new.looks c.note_core.new.looks (noted_length c.check.new.self.store.clauses c.check.new.self.passed) (length c.args.hashes.now) (literal_count f) (c.file.ensures.looks.most f k.formula) (c.check.ensures.looks.most f (checks_as c.file.new.self f (c.file.ensures.kept f k.formula))) c.in_ok-check.ensures.read c.note_core.ensures.looks.most;
 }
 
 pub returns-in_err-copy_negated-clause-noted : goal.returns-in_err-copy_negated-clause-noted
 returns-in_err-copy_negated-clause-noted c = IfOk-from_err c.from_residual-in_err-copy_negated.result _ c.from_residual-in_err-copy_negated.ensures.0
 
 pub returns-in_err-check-clause-noted : goal.returns-in_err-check-clause-noted
-returns-in_err-check-clause-noted c = IfOk-from_err c.from_residual-in_err-check.result _ c.from_residual-in_err-check.ensures.0
+returns-in_err-check-clause-noted c = IfOk-from_err c.from_residual.result _ c.from_residual.ensures.0
 
 pub returns-in_err-note_core-clause-noted : goal.returns-in_err-note_core-clause-noted
 returns-in_err-note_core-clause-noted c = IfOk-from_err c.from_residual-in_err-note_core.result _ c.from_residual-in_err-note_core.ensures.0
@@ -91,16 +93,5 @@ pub returns-then-not-branch-clause-noted : goal.returns-then-not-branch-clause-n
 returns-then-not-branch-clause-noted c = λ t. absurd (true≢false (sym t))
 
 pub returns-clause-noted : goal.returns-clause-noted
-returns-clause-noted c = λ t f k long. c.in_ok-note_core.ensures.noted f c.args.hashes.now (kept_beside c.file.new.self c.check.new.self f c.check.ensures.rest (c.in_ok-file.ensures.kept f k.formula)) (c.in_ok-check.ensures.explained c.if-not-branch.false)
-
-pub returns-in_err-file-clause-decides : goal.returns-in_err-file-clause-decides
-returns-in_err-file-clause-decides c = let p = err_from_is_err_and c.from_residual.result c.from_residual.ensures.1 in rw (p.1, p.2) (λ f k. sym (within_assumed c.has_all.result c.args.core.now f.assumed c.args.self.now.assumed k.assumed c.has_all.ensures) ∙ c.if-not-has_all.false)
-
-pub returns-in_err-file-clause-looks : goal.returns-in_err-file-clause-looks
-returns-in_err-file-clause-looks c = record {
-  rise = grind (arith, common_steps);
-  most = λ f k. looks_filed c.args.looks.now c.file.new.looks (length c.args.hashes.now) (literal_count f) (c.file.ensures.looks.most f k.formula);
-}
-
-pub returns-in_err-file-clause-noted : goal.returns-in_err-file-clause-noted
-returns-in_err-file-clause-noted c = IfOk-from_err c.from_residual.result _ c.from_residual.ensures.0
+returns-clause-noted c = λ t f k long. c.in_ok-note_core.ensures.noted f c.args.hashes.now (kept_beside c.file.new.self c.check.new.self f c.check.ensures.rest (c.file.ensures.kept f k.formula))
+    (λ whole. subst (λ ls. Explained c.check.new.self ls c.args.hashes.now) (sym (c.deref.ensures.value ∙ c.in_ok-copy_negated.ensures)) (c.in_ok-check.ensures.explained c.if-not-branch.false whole))

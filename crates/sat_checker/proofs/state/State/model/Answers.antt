@@ -1,22 +1,23 @@
 use Rattle.std.proofs.lemmas.Result.{err_from_is_err_and, IfOk-from_err}
 use Rattle.std.proofs.Common.{arith}
 use Rattle.std.proofs.lemmas.Grind.{common_steps}
+use Rattle.sat_checker.proofs.lemmas.state.InRoom.{refiled_beside}
 use Rattle.sat_checker.proofs.state.State.model.Goals as goal
 
 pub returns-clause-decides : goal.returns-clause-decides
 returns-clause-decides c = λ f k. (
   (c.in_ok-fits.ensures.exact f k.formula).0 c.if-not-branch.false,
-  record { formula = k.formula; variables = c.in_ok-learn.ensures f.variables k.variables; assumed = k.assumed },
+  record { formula = refiled_beside c.args.self.now.formula c.fits.new.self f c.fits.ensures.rest k.formula; variables = c.in_ok-learn.ensures f.variables k.variables; assumed = k.assumed },
 )
 
 pub returns-in_err-fits-clause-decides : goal.returns-in_err-fits-clause-decides
-returns-in_err-fits-clause-decides c = let p = err_from_is_err_and c.from_residual.result c.from_residual.ensures.1 in rw (p.1, p.2) (λ f k. c.in_err-fits.ensures.apart)
+returns-in_err-fits-clause-decides c = let p = err_from_is_err_and c.from_residual.result c.from_residual.ensures.1 in rw (p.1, p.2) (λ f k. c.in_err-fits.ensures.judged f k.formula)
 
 pub returns-in_err-learn-clause-decides : goal.returns-in_err-learn-clause-decides
-returns-in_err-learn-clause-decides c = let p = err_from_is_err_and c.from_residual-in_err-learn.result c.from_residual-in_err-learn.ensures.1 in rw (p.1, p.2) (λ f k. ((c.in_ok-fits.ensures.exact f k.formula).0 c.if-not-branch.false).apart)
+returns-in_err-learn-clause-decides c = let p = err_from_is_err_and c.from_residual-in_err-learn.result c.from_residual-in_err-learn.ensures.1 in rw (p.1, p.2) (λ f k. (c.in_ok-fits.ensures.exact f k.formula).0 c.if-not-branch.false)
 
 pub returns-in_err-model-clause-decides : goal.returns-in_err-model-clause-decides
-returns-in_err-model-clause-decides c = let p = err_from_is_err_and c.from_residual-in_err-model.result c.from_residual-in_err-model.ensures.1 in rw (p.1, p.2) (λ f k. ((c.in_ok-fits.ensures.exact f k.formula).0 c.if-not-branch.false).apart)
+returns-in_err-model-clause-decides c = let p = err_from_is_err_and c.from_residual-in_err-model.result c.from_residual-in_err-model.ensures.1 in rw (p.1, p.2) (λ f k. (c.in_ok-fits.ensures.exact f k.formula).0 c.if-not-branch.false)
 
 pub returns-in_err-fits-clause-noted : goal.returns-in_err-fits-clause-noted
 returns-in_err-fits-clause-noted c = IfOk-from_err c.from_residual.result _ c.from_residual.ensures.0

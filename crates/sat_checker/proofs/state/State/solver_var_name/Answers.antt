@@ -11,6 +11,8 @@ returns-in-Some c = λ f k. (
     units = k.formula.units;
     status = k.formula.status;
     numbered = numbered_by c.args.self.now.formula.store c.set_solver_name.new.self f.units c.args.self.now.formula.status.last f.next_id c.set_solver_name.ensures.ids k.formula.numbered;
+    room = k.formula.room;
+    marks = k.formula.marks;
   }) (c.in_ok-learn_var.ensures f.variables k.variables) k.assumed,
 )
 
@@ -22,6 +24,8 @@ returns c = λ f k. (
     units = k.formula.units;
     status = k.formula.status;
     numbered = numbered_by c.args.self.now.formula.store c.set_solver_name-2.new.self f.units c.args.self.now.formula.status.last f.next_id c.set_solver_name-2.ensures.ids k.formula.numbered;
+    room = k.formula.room;
+    marks = k.formula.marks;
   }) k.variables k.assumed,
 )
 

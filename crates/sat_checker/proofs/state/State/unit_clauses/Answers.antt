@@ -8,14 +8,16 @@ use Rattle.sat_checker.proofs.state.State.unit_clauses.Goals as goal
 
 pub returns-clause-decides : goal.returns-clause-decides
 returns-clause-decides c = λ f k.
-    let m = match_true _ _ _ (c.in_ok-store_units.ensures.decides f (c.in_ok-file.ensures.kept f k.formula)) c.if-not-branch.false in
+    let m = match_true _ _ _ (c.in_ok-store_units.ensures.decides f (c.file.ensures.kept f k.formula)) c.if-not-branch.false in
     (m.0, units_stored _ f c.args.units.now m.1 (c.in_ok-learn_units.ensures f.variables k.variables) k.assumed)
 
 pub returns-in_err-learn_units-clause-decides : goal.returns-in_err-learn_units-clause-decides
-returns-in_err-learn_units-clause-decides c = let p = err_from_is_err_and c.from_residual-in_err-learn_units.result c.from_residual-in_err-learn_units.ensures.1 in rw (p.1, p.2) (λ f k. tt)
+returns-in_err-learn_units-clause-decides c =
+    let p = err_from_is_err_and c.from_residual-in_err-learn_units.result c.from_residual-in_err-learn_units.ensures.1 in
+    rw (p.1, p.2) (λ f k. (match_true _ _ _ (c.in_ok-store_units.ensures.decides f (c.file.ensures.kept f k.formula)) c.if-not-branch.false).0)
 
 pub returns-in_err-store_units-clause-noted : goal.returns-in_err-store_units-clause-noted
-returns-in_err-store_units-clause-noted c = IfOk-from_err c.from_residual-in_err-store_units.result _ c.from_residual-in_err-store_units.ensures.0
+returns-in_err-store_units-clause-noted c = IfOk-from_err c.from_residual.result _ c.from_residual.ensures.0
 
 pub returns-in_err-learn_units-clause-noted : goal.returns-in_err-learn_units-clause-noted
 returns-in_err-learn_units-clause-noted c = IfOk-from_err c.from_residual-in_err-learn_units.result _ c.from_residual-in_err-learn_units.ensures.0
@@ -24,14 +26,14 @@ pub returns-then-not-branch-clause-noted : goal.returns-then-not-branch-clause-n
 returns-then-not-branch-clause-noted c = λ t. absurd (true≢false (sym t))
 
 pub returns-clause-noted : goal.returns-clause-noted
-returns-clause-noted c = λ _ f k long. c.in_ok-store_units.ensures.noted c.if-not-branch.false f (c.in_ok-file.ensures.kept f k.formula) long
+returns-clause-noted c = λ _ f k long. c.in_ok-store_units.ensures.noted c.if-not-branch.false f (c.file.ensures.kept f k.formula) long
 
 pub returns-in_err-store_units-clause-looks : goal.returns-in_err-store_units-clause-looks
 returns-in_err-store_units-clause-looks c = record {
   rise = grind (arith, common_steps);
   most = λ f k.
       let filed = c.file.ensures.looks.most f k.formula in
-      let h = c.store_units.ensures.looks.most f (c.in_ok-file.ensures.kept f k.formula) in
+      let h = c.store_units.ensures.looks.most f (c.file.ensures.kept f k.formula) in
       omega arith;
 }
 
@@ -40,7 +42,7 @@ returns-then-not-branch-clause-looks c = record {
   rise = grind (arith, common_steps);
   most = λ f k.
       let filed = c.file.ensures.looks.most f k.formula in
-      let h = c.store_units.ensures.looks.most f (c.in_ok-file.ensures.kept f k.formula) in
+      let h = c.store_units.ensures.looks.most f (c.file.ensures.kept f k.formula) in
       omega arith;
 }
 
@@ -49,7 +51,7 @@ returns-in_err-learn_units-clause-looks c = record {
   rise = grind (arith, common_steps);
   most = λ f k.
       let filed = c.file.ensures.looks.most f k.formula in
-      let h = c.store_units.ensures.looks.most f (c.in_ok-file.ensures.kept f k.formula) in
+      let h = c.store_units.ensures.looks.most f (c.file.ensures.kept f k.formula) in
       omega arith;
 }
 
@@ -58,15 +60,6 @@ returns-clause-looks c = record {
   rise = grind (arith, common_steps);
   most = λ f k.
       let filed = c.file.ensures.looks.most f k.formula in
-      let h = c.store_units.ensures.looks.most f (c.in_ok-file.ensures.kept f k.formula) in
+      let h = c.store_units.ensures.looks.most f (c.file.ensures.kept f k.formula) in
       omega arith;
 }
-
-pub returns-in_err-file-clause-decides : goal.returns-in_err-file-clause-decides
-returns-in_err-file-clause-decides c = let p = err_from_is_err_and c.from_residual.result c.from_residual.ensures.1 in rw (p.1, p.2) (λ f k. tt)
-
-pub returns-in_err-file-clause-looks : goal.returns-in_err-file-clause-looks
-returns-in_err-file-clause-looks c = record { rise = grind (arith, common_steps); most = λ f k. let filed = c.file.ensures.looks.most f k.formula in omega arith }
-
-pub returns-in_err-file-clause-noted : goal.returns-in_err-file-clause-noted
-returns-in_err-file-clause-noted c = IfOk-from_err c.from_residual.result _ c.from_residual.ensures.0

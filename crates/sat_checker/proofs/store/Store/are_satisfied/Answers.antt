@@ -6,7 +6,7 @@ use Rattle.std.proofs.lemmas.Grind.{common_steps}
 use Rattle.sat_checker.proofs.store.Store.are_satisfied.Goals as goal
 
 pub returns-clause-found : goal.returns-clause-found
-returns-clause-found c = λ f k. c.are_satisfied.ensures.found ∙ ap (are_all_true c.args.assigned.now) (stored_live c.args.self.now f k)
+returns-clause-found c = λ f k. c.are_satisfied.ensures.found ∙ ap (are_all_true c.args.assigned.now.literals) (stored_live c.args.self.now f k)
 
 pub returns-clause-looks : goal.returns-clause-looks
 returns-clause-looks c = record {

@@ -10,10 +10,10 @@ pub loop-lit-init : goal.loop-lit-init
 loop-lit-init c = refl
 
 pub returns-then-is_unit : goal.returns-then-is_unit
-returns-then-is_unit c = sym (c.loop-lit.invariant ∙ first_test (is_among (map (λ (u : StoredUnit). u.literal) c.args.self.now)) c.args.clause.now c.loop-lit.lit-index c.lit-item.result c.loop-lit-test.true c.lit-item.is ∙ ap (λ b. b || list_any (is_among (map (λ (u : StoredUnit). u.literal) c.args.self.now)) (drop (c.loop-lit.lit-index + 1) c.args.clause.now)) (sym c.is_unit.ensures ∙ c.if-is_unit.true))
+returns-then-is_unit c = sym (c.loop-lit.invariant ∙ first_test (is_among (map (λ (u : StoredUnit). u.literal) c.args.self.now.units)) c.args.clause.now c.loop-lit.lit-index c.lit-item.result c.loop-lit-test.true c.lit-item.is ∙ ap (λ b. b || list_any (is_among (map (λ (u : StoredUnit). u.literal) c.args.self.now.units)) (drop (c.loop-lit.lit-index + 1) c.args.clause.now)) (sym c.is_unit.ensures ∙ c.if-is_unit.true))
 
 pub loop-lit-preserved : goal.loop-lit-preserved
-loop-lit-preserved c = c.loop-lit.invariant ∙ first_test (is_among (map (λ (u : StoredUnit). u.literal) c.args.self.now)) c.args.clause.now c.loop-lit.lit-index c.lit-item.result c.loop-lit-test.true c.lit-item.is ∙ ap (λ b. b || list_any (is_among (map (λ (u : StoredUnit). u.literal) c.args.self.now)) (drop (c.loop-lit.lit-index + 1) c.args.clause.now)) (sym c.is_unit.ensures ∙ c.if-is_unit.false)
+loop-lit-preserved c = c.loop-lit.invariant ∙ first_test (is_among (map (λ (u : StoredUnit). u.literal) c.args.self.now.units)) c.args.clause.now c.loop-lit.lit-index c.lit-item.result c.loop-lit-test.true c.lit-item.is ∙ ap (λ b. b || list_any (is_among (map (λ (u : StoredUnit). u.literal) c.args.self.now.units)) (drop (c.loop-lit.lit-index + 1) c.args.clause.now)) (sym c.is_unit.ensures ∙ c.if-is_unit.false)
 
 pub returns : goal.returns
-returns c = sym (c.loop-lit.invariant ∙ ap (list_any (is_among (map (λ (u : StoredUnit). u.literal) c.args.self.now))) (drop_all c.loop-lit.lit-index c.args.clause.now c.loop-lit-test.false))
+returns c = sym (c.loop-lit.invariant ∙ ap (list_any (is_among (map (λ (u : StoredUnit). u.literal) c.args.self.now.units))) (drop_all c.loop-lit.lit-index c.args.clause.now c.loop-lit-test.false))

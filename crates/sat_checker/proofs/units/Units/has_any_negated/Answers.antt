@@ -11,10 +11,10 @@ pub loop-lit-init : goal.loop-lit-init
 loop-lit-init c = refl
 
 pub returns-then-is_unit : goal.returns-then-is_unit
-returns-then-is_unit c = sym (c.loop-lit.invariant ∙ first_test (λ l. is_among (map (λ (u : StoredUnit). u.literal) c.args.self.now) (negated l)) c.args.literals.now c.loop-lit.lit-index c.lit-item.result c.loop-lit-test.true c.lit-item.is ∙ ap (λ b. b || list_any (λ l. is_among (map (λ (u : StoredUnit). u.literal) c.args.self.now) (negated l)) (drop (c.loop-lit.lit-index + 1) c.args.literals.now)) (ap (is_among (map (λ (u : StoredUnit). u.literal) c.args.self.now)) (sym c.not.ensures) ∙ sym c.is_unit.ensures ∙ c.if-is_unit.true))
+returns-then-is_unit c = sym (c.loop-lit.invariant ∙ first_test (λ l. is_among (map (λ (u : StoredUnit). u.literal) c.args.self.now.units) (negated l)) c.args.literals.now c.loop-lit.lit-index c.lit-item.result c.loop-lit-test.true c.lit-item.is ∙ ap (λ b. b || list_any (λ l. is_among (map (λ (u : StoredUnit). u.literal) c.args.self.now.units) (negated l)) (drop (c.loop-lit.lit-index + 1) c.args.literals.now)) (ap (is_among (map (λ (u : StoredUnit). u.literal) c.args.self.now.units)) (sym c.not.ensures) ∙ sym c.is_unit.ensures ∙ c.if-is_unit.true))
 
 pub loop-lit-preserved : goal.loop-lit-preserved
-loop-lit-preserved c = c.loop-lit.invariant ∙ first_test (λ l. is_among (map (λ (u : StoredUnit). u.literal) c.args.self.now) (negated l)) c.args.literals.now c.loop-lit.lit-index c.lit-item.result c.loop-lit-test.true c.lit-item.is ∙ ap (λ b. b || list_any (λ l. is_among (map (λ (u : StoredUnit). u.literal) c.args.self.now) (negated l)) (drop (c.loop-lit.lit-index + 1) c.args.literals.now)) (ap (is_among (map (λ (u : StoredUnit). u.literal) c.args.self.now)) (sym c.not.ensures) ∙ sym c.is_unit.ensures ∙ c.if-is_unit.false)
+loop-lit-preserved c = c.loop-lit.invariant ∙ first_test (λ l. is_among (map (λ (u : StoredUnit). u.literal) c.args.self.now.units) (negated l)) c.args.literals.now c.loop-lit.lit-index c.lit-item.result c.loop-lit-test.true c.lit-item.is ∙ ap (λ b. b || list_any (λ l. is_among (map (λ (u : StoredUnit). u.literal) c.args.self.now.units) (negated l)) (drop (c.loop-lit.lit-index + 1) c.args.literals.now)) (ap (is_among (map (λ (u : StoredUnit). u.literal) c.args.self.now.units)) (sym c.not.ensures) ∙ sym c.is_unit.ensures ∙ c.if-is_unit.false)
 
 pub returns : goal.returns
-returns c = sym (c.loop-lit.invariant ∙ ap (list_any (λ l. is_among (map (λ (u : StoredUnit). u.literal) c.args.self.now) (negated l))) (drop_all c.loop-lit.lit-index c.args.literals.now c.loop-lit-test.false))
+returns c = sym (c.loop-lit.invariant ∙ ap (list_any (λ l. is_among (map (λ (u : StoredUnit). u.literal) c.args.self.now.units) (negated l))) (drop_all c.loop-lit.lit-index c.args.literals.now c.loop-lit-test.false))

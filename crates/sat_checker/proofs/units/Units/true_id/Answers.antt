@@ -12,10 +12,10 @@ pub loop-lit-init : goal.loop-lit-init
 loop-lit-init c = refl
 
 pub returns-in-Some : goal.returns-in-Some
-returns-in-Some c = sym (c.loop-lit.invariant ∙ first_unit c.args.self.now c.args.literals.now c.loop-lit.lit-index c.lit-item.result c.loop-lit-test.true c.lit-item.is ∙ ap (λ o. or_else o (true_unit (drop (c.loop-lit.lit-index + 1) c.args.literals.now) c.args.self.now)) (sym c.id.ensures ∙ c.in-Some.is))
+returns-in-Some c = sym (c.loop-lit.invariant ∙ first_unit c.args.self.now.units c.args.literals.now c.loop-lit.lit-index c.lit-item.result c.loop-lit-test.true c.lit-item.is ∙ ap (λ o. or_else o (true_unit (drop (c.loop-lit.lit-index + 1) c.args.literals.now) c.args.self.now.units)) (sym c.id.ensures ∙ c.in-Some.is))
 
 pub loop-lit-preserved : goal.loop-lit-preserved
-loop-lit-preserved c = c.loop-lit.invariant ∙ first_unit c.args.self.now c.args.literals.now c.loop-lit.lit-index c.lit-item.result c.loop-lit-test.true c.lit-item.is ∙ ap (λ o. or_else o (true_unit (drop (c.loop-lit.lit-index + 1) c.args.literals.now) c.args.self.now)) (sym c.id.ensures ∙ c.in_default.is)
+loop-lit-preserved c = c.loop-lit.invariant ∙ first_unit c.args.self.now.units c.args.literals.now c.loop-lit.lit-index c.lit-item.result c.loop-lit-test.true c.lit-item.is ∙ ap (λ o. or_else o (true_unit (drop (c.loop-lit.lit-index + 1) c.args.literals.now) c.args.self.now.units)) (sym c.id.ensures ∙ c.in_default.is)
 
 pub returns : goal.returns
-returns c = sym (c.loop-lit.invariant ∙ ap (λ ls. true_unit ls c.args.self.now) (drop_all c.loop-lit.lit-index c.args.literals.now c.loop-lit-test.false))
+returns c = sym (c.loop-lit.invariant ∙ ap (λ ls. true_unit ls c.args.self.now.units) (drop_all c.loop-lit.lit-index c.args.literals.now c.loop-lit-test.false))

@@ -4,4 +4,4 @@ use Rattle.sat_checker.proofs.units.Units.true_id.Given as goal
 
 -- those that are left decide
 abbrev pub invariant-loop-lit : goal.invariant-loop-lit
-invariant-loop-lit l = true_unit l.literals l.self ≡ true_unit (drop l.lit-index l.literals) l.self
+invariant-loop-lit l = true_unit l.literals l.self.units ≡ true_unit (drop l.lit-index l.literals) l.self.units

@@ -5,4 +5,4 @@ use Rattle.sat_checker.proofs.units.assigned.look_at.Given as goal
 
 -- the literals that aren't false are the open one, if it was met, and those still to come
 abbrev pub invariant-loop-lit : goal.invariant-loop-lit
-invariant-loop-lit l = not_false l.assigned l.clause ≡ option_to_list l.open ++ not_false l.assigned (drop l.lit-index l.clause)
+invariant-loop-lit l = not_false l.assigned.literals l.clause ≡ option_to_list l.open ++ not_false l.assigned.literals (drop l.lit-index l.clause)

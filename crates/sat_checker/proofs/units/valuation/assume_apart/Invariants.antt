@@ -1,7 +1,12 @@
 use Rattle.std.proofs.Common.{◌≡◌, drop}
 use Rattle.sat_checker.specs.Accepts.{VariablesApart}
+use Rattle.sat_checker.specs.inner.Room.{RoomStays}
 use Rattle.sat_checker.proofs.units.valuation.assume_apart.Given as goal
 
 -- the literals from the place on are assumed
 abbrev pub invariant-loop-place : goal.invariant-loop-place
-invariant-loop-place l = record { set : l.assigned ≡ drop l.place l.literals; apart : VariablesApart (drop l.place l.literals) }
+invariant-loop-place l = record {
+  set : l.assigned.literals ≡ drop l.place l.literals;
+  apart : VariablesApart (drop l.place l.literals);
+  stays : RoomStays l.fn.assigned.room l.assigned.room;
+}

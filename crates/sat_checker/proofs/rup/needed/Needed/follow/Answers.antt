@@ -9,7 +9,7 @@ use Rattle.sat_checker.proofs.rup.needed.Needed.follow.Goals as goal
 pub returns-clause-followed : goal.returns-clause-followed
 returns-clause-followed c = λ g f.
     is_needed c.args.self.now (record { marked = c.mark_others.new.marked; ids = c.push.new.self }) (clause_at c.args.clauses.now c.args.reason.place) c.args.reason.lit g f (search rules)
-    (subst (λ ls. (m : ℕ) → is_among c.mark_others.new.marked m ≡ (is_among (others_denied c.args.reason.lit ls) m || is_among c.args.self.now.marked m)) c.literals.ensures.lent c.in_ok-mark_others.ensures.marked)
+    (subst (λ ls. (m : ℕ) → is_among c.mark_others.new.marked.literals m ≡ (is_among (others_denied c.args.reason.lit ls) m || is_among c.args.self.now.marked.literals m)) c.literals.ensures.lent c.in_ok-mark_others.ensures.marked)
     (c.in_ok-push.ensures.items ∙ ap (λ i. c.args.self.now.ids.items ++ i ∷ []) c.id.ensures)
 
 pub returns-in_err-mark_others-clause-followed : goal.returns-in_err-mark_others-clause-followed

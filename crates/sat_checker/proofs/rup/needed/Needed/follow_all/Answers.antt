@@ -11,38 +11,37 @@ pub returns-in_err-follow-clause-looks : goal.returns-in_err-follow-clause-looks
 returns-in_err-follow-clause-looks c = record {
   rise = grind (arith, common_steps);
   most =
-      let rs = c.args.passed.now.reasons.items in
-      let n : ℕ = c.len-count.result - c.loop-done.done in
-      let k : ℕ = c.len-count.result - (c.loop-done.done + 1) in
-      let next : k + 1 ≡ n = omega (arith, c.len-count.ensures) in
-      let inside : k < length rs = omega (arith, c.len-count.ensures) in
-      let same : c.len-count.result - 1 - c.loop-done.done ≡ k = omega arith in
-      let there : get_or rs k c.index-reason.result.now ≡ c.index-reason.result.now = ap (λ i. get_or rs i c.index-reason.result.now) (sym same) ∙ sym c.index-reason.ensures in
-      within_notes c.args.clauses.now c.args.passed.now c.in-Some.place k c.args.looks.now c.follow.new.looks c.in-Some.is
-      (read_next c.args.clauses.now rs k n c.index-reason.result.now next inside there c.args.looks.now c.loop-done.looks c.follow.new.looks (length (literals_at c.args.clauses.now c.in-Some.place)) c.loop-done.invariant.looks c.follow.ensures.looks.most);
+      let rs = c.args.passed.now.reasons in
+      let r = c.index-reasons-count.result in
+      let n : ℕ = length c.reasons-reasons.result.now - c.loop-done.done in
+      let k : ℕ = length c.reasons-reasons.result.now - (c.loop-done.done + 1) in
+      let next : k + 1 ≡ n = omega arith in
+      let inside : k < length rs = omega (arith, ap length c.reasons-reasons.ensures) in
+      let same : length c.reasons-reasons.result.now - 1 - c.loop-done.done ≡ k = omega arith in
+      let there : get_or rs k r ≡ r = ap (λ xs. get_or xs k r) (sym c.reasons-reasons.ensures) ∙ ap (λ i. get_or c.reasons-reasons.result.now i r) (sym same) ∙ sym c.index-reasons-count.is in
+      within_notes c.args.clauses.now c.args.passed.now c.in-Some.place k c.args.looks.now c.follow.new.looks (sym c.conflict.ensures ∙ c.in-Some.is)
+      (read_next c.args.clauses.now rs k n r next inside there c.args.looks.now c.loop-done.looks c.follow.new.looks (length (literals_at c.args.clauses.now c.in-Some.place)) c.loop-done.invariant.looks c.follow.ensures.looks.most);
 }
 
 pub loop-done-preserved : goal.loop-done-preserved
 loop-done-preserved c =
-    let rs = c.args.passed.now.reasons.items in
-    let n : ℕ = c.len-count.result - c.loop-done.done in
-    let k : ℕ = c.len-count.result - (c.loop-done.done + 1) in
-    let next : k + 1 ≡ n = omega (arith, c.len-count.ensures) in
-    let inside : k < length rs = omega (arith, c.len-count.ensures) in
-    let same : c.len-count.result - 1 - c.loop-done.done ≡ k = omega arith in
-    let there : get_or rs k c.index-reason.result.now ≡ c.index-reason.result.now = ap (λ i. get_or rs i c.index-reason.result.now) (sym same) ∙ sym c.index-reason.ensures in
+    let rs = c.args.passed.now.reasons in
+    let r = c.index-reasons-count.result in
+    let n : ℕ = length c.reasons-reasons.result.now - c.loop-done.done in
+    let k : ℕ = length c.reasons-reasons.result.now - (c.loop-done.done + 1) in
+    let next : k + 1 ≡ n = omega arith in
+    let inside : k < length rs = omega (arith, ap length c.reasons-reasons.ensures) in
+    let same : length c.reasons-reasons.result.now - 1 - c.loop-done.done ≡ k = omega arith in
+    let there : get_or rs k r ≡ r = ap (λ xs. get_or xs k r) (sym c.reasons-reasons.ensures) ∙ ap (λ i. get_or c.reasons-reasons.result.now i r) (sym same) ∙ sym c.index-reasons-count.is in
     record {
-      followed = back_next c.args.clauses.now rs k n c.index-reason.result.now next inside there c.follow.new.self (conflict_at c.args.clauses.now (Some c.in-Some.place))
+      followed = back_next c.args.clauses.now rs k n r next inside there c.follow.new.self (conflict_at c.args.clauses.now (Some c.in-Some.place))
           (c.in_ok-follow.ensures.followed (followed_back (map (reason_in c.args.clauses.now) (drop n rs)) (conflict_at c.args.clauses.now (Some c.in-Some.place))) c.loop-done.invariant.followed);
-      looks = read_next c.args.clauses.now rs k n c.index-reason.result.now next inside there c.args.looks.now c.loop-done.looks c.follow.new.looks (length (literals_at c.args.clauses.now c.in-Some.place)) c.loop-done.invariant.looks c.follow.ensures.looks.most;
+      looks = read_next c.args.clauses.now rs k n r next inside there c.args.looks.now c.loop-done.looks c.follow.new.looks (length (literals_at c.args.clauses.now c.in-Some.place)) c.loop-done.invariant.looks c.follow.ensures.looks.most;
       rise = omega (arith, c.loop-done.invariant.rise, c.follow.ensures.looks.rise);
     }
 
 pub begin-requires : goal.begin-requires
-begin-requires c = subst (IsConflictPlace c.args.clauses.now) c.in-Some.is c.requires.met
-
-pub index-reason-requires : goal.index-reason-requires
-index-reason-requires c = omega (arith, c.len-count.ensures)
+begin-requires c = subst (IsConflictPlace c.args.clauses.now) (sym c.conflict.ensures ∙ c.in-Some.is) c.requires.met
 
 pub returns-in_err-begin-clause-followed : goal.returns-in_err-begin-clause-followed
 returns-in_err-begin-clause-followed c = IfOk-from_err c.from_residual.result _ c.from_residual.ensures.0
@@ -52,17 +51,18 @@ returns-in_err-follow-clause-followed c = IfOk-from_err c.from_residual-in_err-f
 
 pub follow-requires : goal.follow-requires
 follow-requires c =
-    let rs = c.args.passed.now.reasons.items in
-    let n : ℕ = c.len-count.result - c.loop-done.done in
-    let k : ℕ = c.len-count.result - (c.loop-done.done + 1) in
-    let next : k + 1 ≡ n = omega (arith, c.len-count.ensures) in
-    let inside : k < length rs = omega (arith, c.len-count.ensures) in
-    let same : c.len-count.result - 1 - c.loop-done.done ≡ k = omega arith in
-    let there : get_or rs k c.index-reason.result.now ≡ c.index-reason.result.now = ap (λ i. get_or rs i c.index-reason.result.now) (sym same) ∙ sym c.index-reason.ensures in
-    there_at c.args.clauses.now rs k n c.index-reason.result.now next inside there c.requires.there
+    let rs = c.args.passed.now.reasons in
+    let r = c.index-reasons-count.result in
+    let n : ℕ = length c.reasons-reasons.result.now - c.loop-done.done in
+    let k : ℕ = length c.reasons-reasons.result.now - (c.loop-done.done + 1) in
+    let next : k + 1 ≡ n = omega arith in
+    let inside : k < length rs = omega (arith, ap length c.reasons-reasons.ensures) in
+    let same : length c.reasons-reasons.result.now - 1 - c.loop-done.done ≡ k = omega arith in
+    let there : get_or rs k r ≡ r = ap (λ xs. get_or xs k r) (sym c.reasons-reasons.ensures) ∙ ap (λ i. get_or c.reasons-reasons.result.now i r) (sym same) ∙ sym c.index-reasons-count.is in
+    there_at c.args.clauses.now rs k n r next inside there c.requires.there
 
 pub returns-clause-looks : goal.returns-clause-looks
 returns-clause-looks c = record {
   rise = grind (arith, common_steps);
-  most = within_notes c.args.clauses.now c.args.passed.now c.in-Some.place (c.len-count.result - c.loop-done.done) c.args.looks.now c.loop-done.looks c.in-Some.is c.loop-done.invariant.looks;
+  most = within_notes c.args.clauses.now c.args.passed.now c.in-Some.place (length c.reasons-reasons.result.now - c.loop-done.done) c.args.looks.now c.loop-done.looks (sym c.conflict.ensures ∙ c.in-Some.is) c.loop-done.invariant.looks;
 }

@@ -8,7 +8,7 @@ use Rattle.sat_checker.proofs.rup.needed.Needed.follow_all.Given as goal
 
 -- the last notes so far are followed
 abbrev pub invariant-loop-done : goal.invariant-loop-done
-invariant-loop-done l = let so_far = drop (l.count - l.done) l.passed.reasons.items in record {
+invariant-loop-done l = let so_far = drop (l.count - l.done) l.passed.reasons in record {
   followed : IsFollowed l.self (followed_back (map (reason_in l.clauses) so_far) (conflict_at l.clauses (Some l.place)));
   looks : l.looks ≤ l.fn.looks + length (literals_at l.clauses l.place) + total_length (map (λ r. literals_at l.clauses r.place) so_far);
   rise : l.fn.looks ≤ l.looks;

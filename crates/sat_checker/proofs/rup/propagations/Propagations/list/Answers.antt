@@ -48,21 +48,21 @@ list_conflict-requires-clause-empty c = c.clear.ensures.items
 
 pub list_conflict-requires-clause-there : goal.list_conflict-requires-clause-there
 list_conflict-requires-clause-there c =
-    (met_conflict c.args.clause.now c.args.literals.now c.requires.canonical c.args.units.now c.has_both_signs.result _ c.has_both_signs.ensures c.if-has_both_signs.false (sym c.true_id.ensures ∙ c.in_default.is) c.requires.explained.1).there
+    (met_conflict c.args.clause.now c.args.literals.now c.requires.canonical c.args.units.now.units c.has_both_signs.result _ c.has_both_signs.ensures c.if-has_both_signs.false (sym c.true_id.ensures ∙ c.in_default.is) (c.requires.explained (sym c.is_lost.ensures ∙ c.if-is_lost.false)).1).there
 
 pub list_conflict-requires-clause-met : goal.list_conflict-requires-clause-met
 list_conflict-requires-clause-met c =
-    (met_conflict c.args.clause.now c.args.literals.now c.requires.canonical c.args.units.now c.has_both_signs.result _ c.has_both_signs.ensures c.if-has_both_signs.false (sym c.true_id.ensures ∙ c.in_default.is) c.requires.explained.1).met
+    (met_conflict c.args.clause.now c.args.literals.now c.requires.canonical c.args.units.now.units c.has_both_signs.result _ c.has_both_signs.ensures c.if-has_both_signs.false (sym c.true_id.ensures ∙ c.in_default.is) (c.requires.explained (sym c.is_lost.ensures ∙ c.if-is_lost.false)).1).met
 
 pub returns-clause-listed : goal.returns-clause-listed
 returns-clause-listed c = on_ok c.list_conflict.result _ _
     (λ lists f hashes k e x i.
     let none = sym c.true_id.ensures ∙ c.in_default.is in
-    let explained = met_conflict c.args.clause.now c.args.literals.now c.requires.canonical c.args.units.now c.has_both_signs.result _ c.has_both_signs.ensures c.if-has_both_signs.false none x in
+    let explained = met_conflict c.args.clause.now c.args.literals.now c.requires.canonical c.args.units.now.units c.has_both_signs.result _ c.has_both_signs.ensures c.if-has_both_signs.false none (x (sym c.is_lost.ensures ∙ c.if-is_lost.false)) in
     let denied = map negated c.args.clause.now in
     let noted = named hashes c.args.store.now.clauses in
-    lists (ground (denied ++ map (λ u. u.literal) c.args.units.now) noted) explained (subst (λ us. IsIncreasing (map (λ (u : StoredUnit). u.id) us)) (sym e) i)
-    ∙ ap (conflict_ids denied (ground (denied ++ map (λ u. u.literal) c.args.units.now) noted)) e
+    lists (ground (denied ++ map (λ u. u.literal) c.args.units.now.units) noted) explained (subst (λ us. IsIncreasing (map (λ (u : StoredUnit). u.id) us)) (sym e) i)
+    ∙ ap (conflict_ids denied (ground (denied ++ map (λ u. u.literal) c.args.units.now.units) noted)) e
     ∙ ap (λ us. conflict_ids denied (ground (denied ++ map (λ (u : StoredUnit). u.literal) us) noted) f.units) e
     ∙ ap (λ cs. conflict_ids denied (ground (denied ++ unit_literals f) cs) f.units) (named_same c.args.store.now f k hashes)
     ∙ sym (ids_of_conflict c.args.clause.now c.args.literals.now c.requires.canonical f hashes (sym c.has_both_signs.ensures ∙ c.if-has_both_signs.false) (ap (true_unit c.args.literals.now) (sym e) ∙ none)))

@@ -1,5 +1,6 @@
-use Rattle.std.proofs.Common.{map, ◌∙◌, Result, Ok, Err, OnOk}
+use Rattle.std.proofs.Common.{map, ap, ◌∙◌, Result, Ok, Err, OnOk}
 use Rattle.sat_base.specs.values.Literals.{negated}
+use Rattle.sat_checker.specs.inner.Room.{LiteralsAndRoom}
 use Rattle.sat_checker.proofs.lemmas.announcements.Marking.{none_left}
 use Rattle.sat_checker.proofs.lemmas.announcements.Listing.{denied_same, marked_anew}
 use Rattle.std.proofs.lemmas.Result.{IfOk-from_err}
@@ -14,7 +15,7 @@ returns-clause-listed c =
     on_ok c.list.result _ _
     (λ listed. λ whole e i.
     listed whole (c.in_ok-follow_all.ensures.followed whole e) i
-    ∙ denied_same c.mark_all.new.marked (map negated c.args.clause.now) whole c.args.units.now (marked_anew c.undo_to.new.self c.mark_all.new.marked (map negated c.args.clause.now) (c.undo_to.ensures ∙ none_left c.allow.new.self) c.in_ok-mark_all.ensures.marked))
+    ∙ denied_same c.mark_all.new.marked.literals (map negated c.args.clause.now) whole c.args.units.now.units (marked_anew c.undo_to.new.self.literals c.mark_all.new.marked.literals (map negated c.args.clause.now) (ap (λ (t : LiteralsAndRoom). t.literals) c.undo_to.ensures ∙ none_left c.allow.new.self.literals) c.in_ok-mark_all.ensures.marked))
     c.list.ensures
 
 pub returns-in_err-follow_all-clause-listed : goal.returns-in_err-follow_all-clause-listed

@@ -22,7 +22,7 @@ pub loop-place-preserved-then-count-eq0 : goal.loop-place-preserved-then-count-e
 loop-place-preserved-then-count-eq0 c =
     let inside : c.loop-place.place < length c.args.self.now = subst (λ ss. c.loop-place.place < length ss) c.self.view_is (omega (arith, c.len-place-end.ensures.count)) in
     record {
-      found = c.loop-place.invariant.found ∙ all_skip c.args.assigned.now c.args.self.now c.loop-place.place inside (ap (λ ss. (slot_at ss c.loop-place.place).clause.irredundant) (sym c.self.view_is) ∙ sym c.count.ensures ∙ c.if-count-eq0.true);
+      found = c.loop-place.invariant.found ∙ all_skip c.args.assigned.now.literals c.args.self.now c.loop-place.place inside (ap (λ ss. (slot_at ss c.loop-place.place).clause.irredundant) (sym c.self.view_is) ∙ sym c.count.ensures ∙ c.if-count-eq0.true);
       looks = let fewer = left_fewer c.args.self.now c.loop-place.place inside in omega (arith, fewer, c.loop-place.invariant.looks);
       seen = ap (λ n. c.loop-place.looks + n) (sym (lengths_skip c.args.self.now c.loop-place.place inside (ap (λ ss. (slot_at ss c.loop-place.place).clause.irredundant) (sym c.self.view_is) ∙ sym c.count.ensures ∙ c.if-count-eq0.true))) ∙ c.loop-place.invariant.seen;
       rise = c.loop-place.invariant.rise;
@@ -33,11 +33,11 @@ loop-place-preserved c =
     let inside : c.loop-place.place < length c.args.self.now = subst (λ ss. c.loop-place.place < length ss) c.self.view_is (omega (arith, c.len-place-end.ensures.count)) in
     let lent = c.literals.ensures.lent ∙ ap (λ ss. literals_at ss c.loop-place.place) c.self.view_is in
     let some = ne_eqb (slot_at c.args.self.now c.loop-place.place).clause.irredundant 0 (λ z. c.if-count-eq0.false (c.count.ensures ∙ ap (λ ss. (slot_at ss c.loop-place.place).clause.irredundant) c.self.view_is ∙ z)) in
-    let met = ap (list_any (is_among c.args.assigned.now)) (sym lent) ∙ sym c.makes_true.ensures ∙ c.if-not-makes_true.false in
+    let met = ap (list_any (is_among c.args.assigned.now.literals)) (sym lent) ∙ sym c.makes_true.ensures ∙ c.if-not-makes_true.false in
     let left = left_there c.args.self.now c.loop-place.place inside (not_gone (slot_at c.args.self.now c.loop-place.place) some) in
     let count : length (literals_at c.self.inside.slots c.loop-place.place) ≡ length (literals_at c.args.self.now c.loop-place.place) = ap (λ ss. length (literals_at ss c.loop-place.place)) c.self.view_is in
     record {
-      found = c.loop-place.invariant.found ∙ all_met c.args.assigned.now c.args.self.now c.loop-place.place inside some met;
+      found = c.loop-place.invariant.found ∙ all_met c.args.assigned.now.literals c.args.self.now c.loop-place.place inside some met;
       looks = omega (arith, left, count, c.literals.ensures.looks, c.loop-place.invariant.looks);
       seen = let lengths = lengths_there c.args.self.now c.loop-place.place inside some in omega (arith, lengths, count, c.literals.ensures.looks, c.loop-place.invariant.seen);
       rise = omega (arith, c.literals.ensures.looks, c.loop-place.invariant.rise);
@@ -48,8 +48,8 @@ returns-then-not-makes_true-clause-found c =
     let inside : c.loop-place.place < length c.args.self.now = subst (λ ss. c.loop-place.place < length ss) c.self.view_is (omega (arith, c.len-place-end.ensures.count)) in
     let lent = c.literals.ensures.lent ∙ ap (λ ss. literals_at ss c.loop-place.place) c.self.view_is in
     let some = ne_eqb (slot_at c.args.self.now c.loop-place.place).clause.irredundant 0 (λ z. c.if-count-eq0.false (c.count.ensures ∙ ap (λ ss. (slot_at ss c.loop-place.place).clause.irredundant) c.self.view_is ∙ z)) in
-    let met = ap (list_any (is_among c.args.assigned.now)) (sym lent) ∙ sym c.makes_true.ensures ∙ c.if-not-makes_true.true in
-    sym (c.loop-place.invariant.found ∙ all_failed c.args.assigned.now c.args.self.now c.loop-place.place inside some met)
+    let met = ap (list_any (is_among c.args.assigned.now.literals)) (sym lent) ∙ sym c.makes_true.ensures ∙ c.if-not-makes_true.true in
+    sym (c.loop-place.invariant.found ∙ all_failed c.args.assigned.now.literals c.args.self.now c.loop-place.place inside some met)
 
 pub returns-then-not-makes_true-clause-looks : goal.returns-then-not-makes_true-clause-looks
 returns-then-not-makes_true-clause-looks c = record {
@@ -65,7 +65,7 @@ returns-then-not-makes_true-clause-looks c = record {
 pub returns-clause-found : goal.returns-clause-found
 returns-clause-found c =
     let over : length c.args.self.now ≤ c.loop-place.place = subst (λ ss. length ss ≤ c.loop-place.place) c.self.view_is (omega (arith, c.len-place-end.ensures.count)) in
-    sym (c.loop-place.invariant.found ∙ ap (λ ss. are_all_true c.args.assigned.now (live ss)) (drop_all c.loop-place.place c.args.self.now over))
+    sym (c.loop-place.invariant.found ∙ ap (λ ss. are_all_true c.args.assigned.now.literals (live ss)) (drop_all c.loop-place.place c.args.self.now over))
 
 pub returns-clause-looks : goal.returns-clause-looks
 returns-clause-looks c = record { rise = grind (arith, common_steps); most = omega (arith, c.loop-place.invariant.looks) }

@@ -1,6 +1,7 @@
 use Rattle.std.proofs.Common.{◌+◌, length, ◌∙◌, sym, ap, arith}
 use Rattle.sat_checker.proofs.lemmas.store.Dropping.{gone_left, gone_removed, gone_fewer}
 use Rattle.sat_checker.proofs.lemmas.store.Places.{gone_not}
+use Rattle.sat_checker.specs.inner.PairView.{Indexed}
 use Rattle.sat_checker.specs.inner.SlotView.{slot_at, gone_count}
 use Rattle.sat_checker.proofs.lemmas.store.Kept.{kept_left, kept_removed, were_counted}
 use Rattle.sat_checker.proofs.store.clauses.Clauses.take_count.Goals as goal
@@ -15,19 +16,27 @@ remove-requires c = omega (arith, c.self.invariant.0.files.places, ap length c.s
 
 pub invariant_of-self : goal.invariant_of-self
 invariant_of-self c =
-    let gone = sym c.is_gone.ensures ∙ c.if-is_gone.true in (
-      kept_removed c.self.inside.slots c.args.self.now c.take_count.new.self c.self.inside.index c.self.inside.occurrences c.args.redundant c.args.place c.self.view_is c.requires.inside c.requires.some c.self.invariant.0 c.take_count.ensures
-          c.remove.new.self c.take.new.self c.args.literals.now c.remove.ensures c.requires.literals c.take.ensures gone,
+    let gone = sym c.is_gone.ensures ∙ c.if-is_gone.true in
+    let kept =
+    kept_removed c.self.inside.slots c.args.self.now c.take_count.new.self c.self.inside.index c.self.inside.occurrences c.args.redundant c.args.place c.self.view_is c.requires.inside c.requires.some c.self.invariant.0 c.take_count.ensures
+    c.remove.new.self c.take.new.self c.args.literals.now c.remove.ensures c.requires.literals c.take.ensures gone in (
+      kept,
       ap (λ n. n + 1) c.self.invariant.1
           ∙ sym (gone_removed c.self.inside.slots c.args.self.now c.take_count.new.self c.args.redundant c.args.place c.self.view_is c.requires.inside c.requires.some c.take_count.ensures gone),
+      omega (arith, kept.files.places, ap (λ (x : Indexed). x.places) c.remove.ensures, c.self.invariant.0.files.places, c.self.invariant.2),
+      c.self.invariant.3,
     )
 
 pub invariant_of-self-else-is_gone : goal.invariant_of-self-else-is_gone
 invariant_of-self-else-is_gone c =
-    let there = sym c.is_gone.ensures ∙ c.if-is_gone.false in (
-      kept_left c.self.inside.slots c.args.self.now c.take_count.new.self c.self.inside.index c.self.inside.occurrences c.args.redundant c.args.place c.self.view_is c.requires.inside c.requires.some c.self.invariant.0 c.take_count.ensures
-          there,
+    let there = sym c.is_gone.ensures ∙ c.if-is_gone.false in
+    let kept =
+    kept_left c.self.inside.slots c.args.self.now c.take_count.new.self c.self.inside.index c.self.inside.occurrences c.args.redundant c.args.place c.self.view_is c.requires.inside c.requires.some c.self.invariant.0 c.take_count.ensures
+    there in (
+      kept,
       c.self.invariant.1 ∙ sym (gone_left c.self.inside.slots c.args.self.now c.take_count.new.self c.args.redundant c.args.place c.self.view_is c.requires.inside c.requires.some c.take_count.ensures there),
+      omega (arith, kept.files.places, c.self.invariant.0.files.places, c.self.invariant.2),
+      c.self.invariant.3,
     )
 
 pub overflow_add-self : goal.overflow_add-self

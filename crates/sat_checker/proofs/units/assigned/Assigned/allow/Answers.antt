@@ -1,5 +1,6 @@
-use Rattle.std.proofs.Common.{false, ◌∙◌}
+use Rattle.std.proofs.Common.{◌∙◌}
+use Rattle.sat_checker.specs.declared.units.assigned.Mark.TheVariants as mark
 use Rattle.sat_checker.proofs.units.assigned.Assigned.allow.Goals as goal
 
 pub invariant_of-self : goal.invariant_of-self
-invariant_of-self c = record { each = λ l. c.allow.ensures.same false l ∙ c.self.invariant.each l; once = c.self.invariant.once }
+invariant_of-self c = (record { each = λ l. c.allow.ensures.same mark.NoRoom l ∙ c.self.invariant.0.each l; once = c.self.invariant.0.once; within = c.self.invariant.0.within }, c.self.invariant.1)

@@ -5,4 +5,4 @@ use Rattle.sat_checker.proofs.lemmas.sets.Distinct.{once_reversed}
 use Rattle.sat_checker.proofs.units.assigned.Assigned.literals.Goals as goal
 
 pub returns-clause-once : goal.returns-clause-once
-returns-clause-once c = subst NoRepeats (reverse-reverse c.self.inside.trail.items ∙ sym c.as_slice.ensures.value) (once_reversed (reverse c.self.inside.trail.items) c.self.invariant.once)
+returns-clause-once c = subst NoRepeats (reverse-reverse c.self.inside.trail.items ∙ sym c.as_slice.ensures.value) (once_reversed (reverse c.self.inside.trail.items) c.self.invariant.0.once)

@@ -1,0 +1,162 @@
+-- The check where there isn't room for all literals that it assumes: no clause of the buckets has those without room.
+use Rattle.std.proofs.Common.{ℕ, ◌≡◌, ◌↔◌, ◌∙◌, ◌+◌, ◌<◌, Bool, true, false, ◌||◌, cond, eqb, List, [], ◌∷◌, ◌++◌, length, take, drop, get_or, map, refl, sym, ap, subst, ◌⊎◌, inl, inr}
+use Rattle.std.proofs.lemmas.Bool.{or_cases, or_left, or_right, or_parts, both_ways, eqb-true, eq-eqb, false_from_ne_true}
+use Rattle.std.proofs.lemmas.List.{map-append}
+use Rattle.std.specs.List.{AllByRecursion, list_any}
+use Rattle.sat_base.specs.values.Literals.{negated, negated_if}
+use Rattle.sat_checker.specs.LiteralSets.{is_among, is_tautology}
+use Rattle.sat_checker.specs.Propagation.{clauses_in, LeadToConflict, PassesCheck, tautology, unit_true, conflict}
+use Rattle.sat_checker.specs.inner.Marks.{NoRepeats}
+use Rattle.sat_checker.specs.inner.Room.{LiteralsAndRoom, AgreesOn, HasRoomFor, HasRoomForAll, DeniedInRoom, signed}
+use Rattle.sat_checker.specs.inner.Walk.{walk_buckets}
+use Rattle.sat_checker.proofs.lemmas.propagation.Denied.{clause_more, clause_split}
+use Rattle.sat_checker.proofs.lemmas.propagation.Greedy.{Within-itself, joined_front, picked_each, rule_from_walk, walk_from_rule}
+use Rattle.sat_checker.proofs.lemmas.propagation.Members.{same_runs_of}
+use Rattle.sat_checker.proofs.lemmas.propagation.Soundness.{negated-negated}
+use Rattle.sat_checker.proofs.lemmas.sets.Order.{among-append}
+use Rattle.sat_checker.proofs.lemmas.sets.Trails.{same_tests}
+use Rattle.sat_checker.proofs.lemmas.store.Places.{eqb_comm}
+
+negated_is : (x l : ℕ) → eqb (negated x) l ≡ eqb x (negated l)
+negated_is x l =
+    same_tests (eqb (negated x) l) (eqb x (negated l)) (λ h. eq-eqb x (negated l) (sym (negated-negated x) ∙ ap negated (eqb-true (negated x) l h)))
+    (λ h. eq-eqb (negated x) l (ap negated (eqb-true x (negated l) h) ∙ negated-negated l))
+
+among_negations : (ls : List ℕ) (x : ℕ) → is_among (map negated ls) x ≡ is_among ls (negated x)
+among_negations [] x = refl
+among_negations (l ∷ ls) x = ap (λ b. b || is_among (map negated ls) x) (negated_is l x) ∙ ap (λ b. eqb l (negated x) || b) (among_negations ls x)
+
+-- the negation of a literal of the clause stands in it where that of the one that it was made of stands among those
+pub other_among : (negate : Bool) (ls : List ℕ) (l : ℕ) → is_among (signed negate ls) (negated (negated_if negate l)) ≡ is_among ls (negated l)
+other_among true ls l = among_negations ls (negated (negated l)) ∙ ap (is_among ls) (ap negated (negated-negated l))
+other_among false ls l = refl
+
+any_push : (test : ℕ → Bool) (xs : List ℕ) (x : ℕ) → list_any test (xs ++ x ∷ []) ≡ (test x || list_any test xs)
+any_push test [] x = refl
+any_push test (y ∷ ys) x = ap (λ b. test y || b) (any_push test ys x) ∙ swap (test y) (test x) (list_any test ys)
+  where
+    swap : (a b c : Bool) → (a || (b || c)) ≡ (b || (a || c))
+    swap true true c = refl
+    swap true false c = refl
+    swap false b c = refl
+
+tautology_push : (xs : List ℕ) (x : ℕ) → is_tautology (xs ++ x ∷ []) ≡ (is_among xs (negated x) || is_tautology xs)
+tautology_push [] x = refl
+tautology_push (y ∷ ys) x =
+    ap (λ b. b || is_tautology (ys ++ x ∷ [])) (among-append ys (x ∷ []) (negated y)) ∙ ap (λ b. (is_among ys (negated y) || (eqb x (negated y) || false)) || b) (tautology_push ys x)
+    ∙ ap (λ b. (is_among ys (negated y) || (b || false)) || (is_among ys (negated x) || is_tautology ys)) (eqb_comm x (negated y) ∙ negated_is y x)
+    ∙ swap (is_among ys (negated y)) (eqb y (negated x)) (is_among ys (negated x)) (is_tautology ys)
+  where
+    swap : (a e m t : Bool) → ((a || (e || false)) || (m || t)) ≡ ((e || m) || (a || t))
+    swap true true m t = refl
+    swap false true m t = refl
+    swap true false true t = refl
+    swap true false false t = refl
+    swap false false m t = refl
+
+any_front : (test : ℕ → Bool) (xs ys : List ℕ) → list_any test xs ≡ true → list_any test (xs ++ ys) ≡ true
+any_front test [] ys h = absurd (both_ways false refl h)
+any_front test (x ∷ xs) ys h = elim (or_cases (test x) (list_any test xs) h) [ inl a ↦ or_left (test x) (list_any test (xs ++ ys)) a | inr b ↦ or_right (test x) (list_any test (xs ++ ys)) (any_front test xs ys b) ]
+
+tautology_front : (xs ys : List ℕ) → is_tautology xs ≡ true → is_tautology (xs ++ ys) ≡ true
+tautology_front [] ys h = absurd (both_ways false refl h)
+tautology_front (x ∷ xs) ys h =
+    elim (or_cases (is_among xs (negated x)) (is_tautology xs) h) [
+      | inl a ↦ or_left (is_among (xs ++ ys) (negated x)) (is_tautology (xs ++ ys)) (among-append xs ys (negated x) ∙ or_left (is_among xs (negated x)) (is_among ys (negated x)) a)
+      | inr b ↦ or_right (is_among (xs ++ ys) (negated x)) (is_tautology (xs ++ ys)) (tautology_front xs ys b)
+    ]
+
+-- one literal more is denied
+module _ (old mid : LiteralsAndRoom) (seen : List ℕ) (x : ℕ) (within : (l : ℕ) → is_among old.literals l ≡ true → is_among old.room l ≡ true) (denied : DeniedInRoom old seen mid) where
+  -- it is true where a unit is, or where its negation was met
+  met_is : cond (is_among old.room x) (is_among mid.literals x) (is_among seen (negated x)) ≡ (is_among seen (negated x) || is_among old.literals x)
+  met_is = go (is_among old.room x) refl
+    where
+      lone : (b : Bool) → b ≡ (b || false)
+      lone true = refl
+      lone false = refl
+
+      go : (b : Bool) → is_among old.room x ≡ b → cond b (is_among mid.literals x) (is_among seen (negated x)) ≡ (is_among seen (negated x) || is_among old.literals x)
+      go true e = denied.agrees x e ∙ among-append (map negated seen) old.literals x ∙ ap (λ b. b || is_among old.literals x) (among_negations seen x)
+      go false e =
+          let none : is_among old.literals x ≡ false = false_from_ne_true (is_among old.literals x) (λ t. both_ways (is_among old.room x) e (within x t)) in
+          lone (is_among seen (negated x)) ∙ ap (λ b. is_among seen (negated x) || b) (sym none)
+
+  pub met_in_room : (whole left : List ℕ) → (seen ++ x ∷ []) ++ left ≡ whole → cond (is_among old.room x) (is_among mid.literals x) (is_among seen (negated x)) ≡ true
+      → (list_any (is_among old.literals) whole ≡ true) ⊎ (is_tautology whole ≡ true)
+  met_in_room whole left split h =
+      elim (or_cases (is_among seen (negated x)) (is_among old.literals x) (sym met_is ∙ h)) [
+        | inl a ↦ inr (subst (λ c. is_tautology c ≡ true) split (tautology_front (seen ++ x ∷ []) left (tautology_push seen x ∙ or_left (is_among seen (negated x)) (is_tautology seen) a)))
+        | inr b ↦ inl (subst (λ c. list_any (is_among old.literals) c ≡ true) split
+            (any_front (is_among old.literals) (seen ++ x ∷ []) left (any_push (is_among old.literals) seen x ∙ or_left (is_among old.literals x) (list_any (is_among old.literals) seen) b)))
+      ]
+
+  pub denied_more : (new : LiteralsAndRoom) → cond (is_among old.room x) (is_among mid.literals x) (is_among seen (negated x)) ≡ false → AgreesOn old.room new.literals (negated x ∷ mid.literals) → DeniedInRoom old (seen ++ x ∷ []) new
+  denied_more new h same =
+      let none = or_parts (is_among seen (negated x)) (is_among old.literals x) (sym met_is ∙ h) in
+      record {
+        agrees = λ l r. same l r ∙ ap (λ b. eqb (negated x) l || b) (denied.agrees l r ∙ among-append (map negated seen) old.literals l)
+            ∙ swap (eqb (negated x) l) (is_among (map negated seen) l) (is_among old.literals l)
+            ∙ sym (ap (λ xs. is_among (xs ++ old.literals) l) (map-append negated seen (x ∷ [])) ∙ among-append (map negated seen ++ negated x ∷ []) old.literals l
+            ∙ ap (λ b. b || is_among old.literals l) (among-append (map negated seen) (negated x ∷ []) l));
+        no_unit = any_push (is_among old.literals) seen x ∙ ap (λ b. b || list_any (is_among old.literals) seen) none.1 ∙ denied.no_unit;
+        no_tautology = tautology_push seen x ∙ ap (λ b. b || is_tautology seen) none.0 ∙ denied.no_tautology;
+      }
+    where
+      swap : (e n a : Bool) → (e || (n || a)) ≡ ((n || (e || false)) || a)
+      swap true true a = refl
+      swap true false a = refl
+      swap false true a = refl
+      swap false false a = refl
+
+-- the literal at a place, behind those that are denied already
+module _ (old mid : LiteralsAndRoom) (negate : Bool) (ls before : List ℕ) (i l : ℕ) (inside : i < length ls) (is : l ≡ get_or ls i l) (front : before ≡ take i ls) (room : mid.room ≡ old.room)
+    (within : (m : ℕ) → is_among old.literals m ≡ true → is_among old.room m ≡ true) (denied : DeniedInRoom old (signed negate (take i ls)) mid) where
+  one_more : signed negate (take (i + 1) ls) ≡ signed negate (take i ls) ++ negated_if negate l ∷ []
+  one_more = clause_more negate ls i l inside ∙ ap (λ k. signed negate (take i ls) ++ negated_if negate k ∷ []) (sym is)
+
+  tested : cond (is_among mid.room (negated_if negate l)) (is_among mid.literals (negated_if negate l)) (is_among before (negated l))
+      ≡ cond (is_among old.room (negated_if negate l)) (is_among mid.literals (negated_if negate l)) (is_among (signed negate (take i ls)) (negated (negated_if negate l)))
+  tested =
+      ap (λ r. cond (is_among r (negated_if negate l)) (is_among mid.literals (negated_if negate l)) (is_among before (negated l))) room
+      ∙ ap (cond (is_among old.room (negated_if negate l)) (is_among mid.literals (negated_if negate l))) (ap (λ ks. is_among ks (negated l)) front ∙ sym (other_among negate (take i ls) l))
+
+  pub place_met : cond (is_among mid.room (negated_if negate l)) (is_among mid.literals (negated_if negate l)) (is_among before (negated l)) ≡ true
+      → (list_any (is_among old.literals) (signed negate ls) ≡ true) ⊎ (is_tautology (signed negate ls) ≡ true)
+  place_met h =
+      met_in_room old mid (signed negate (take i ls)) (negated_if negate l) within denied (signed negate ls) (signed negate (drop (i + 1) ls))
+      (ap (λ c. c ++ signed negate (drop (i + 1) ls)) (sym one_more) ∙ clause_split negate ls (i + 1)) (sym tested ∙ h)
+
+  pub place_denied : (new : LiteralsAndRoom) (other : ℕ) → other ≡ negated (negated_if negate l) → cond (is_among mid.room (negated_if negate l)) (is_among mid.literals (negated_if negate l)) (is_among before (negated l)) ≡ false
+      → AgreesOn mid.room new.literals (other ∷ mid.literals) → DeniedInRoom old (signed negate (take (i + 1) ls)) new
+  place_denied new other e h same =
+      subst (λ c. DeniedInRoom old c new) (sym one_more)
+      (denied_more old mid (signed negate (take i ls)) (negated_if negate l) within denied new (sym tested ∙ h)
+      (λ m r. same m (subst (λ xs. is_among xs m ≡ true) (sym room) r) ∙ ap (λ o. eqb o m || is_among mid.literals m) e))
+
+-- what leads to a conflict depends only on the literals that there is room for
+pub rule_same : (room us vs : List ℕ) (buckets : List (List (List ℕ))) → AgreesOn room us vs → AllByRecursion (HasRoomForAll room) buckets → LeadToConflict us buckets → LeadToConflict vs buckets
+rule_same room us vs buckets same roomy k = record {
+  first = k.first;
+  rest = k.rest;
+  picked = k.picked;
+  split = k.split;
+  none_empty = k.none_empty;
+  chosen = k.chosen;
+  conflict = same_runs_of (λ l. is_among room l ≡ true) k.picked us vs same
+      (picked_each (HasRoomFor room) k.picked (clauses_in k.first) k.chosen (joined_front (HasRoomFor room) k.first k.rest (subst (AllByRecursion (HasRoomForAll room)) k.split roomy))) k.conflict;
+}
+
+-- the check without the literals that there is no room for says yes exactly by the rule
+pub exact_in_room : (old new : LiteralsAndRoom) (clause : List ℕ) (buckets : List (List (List ℕ))) (answer : Bool) → AllByRecursion (AllByRecursion NoRepeats) buckets → AllByRecursion (HasRoomForAll old.room) buckets → DeniedInRoom old clause new → answer ≡ walk_buckets new.literals buckets
+    → (answer ≡ true) ↔ PassesCheck old.literals clause buckets
+exact_in_room old new clause buckets answer sets roomy denied w = (
+  (λ t. conflict (rule_same old.room new.literals (map negated clause ++ old.literals) buckets denied.agrees roomy (rule_from_walk new.literals buckets (sym w ∙ t)))),
+  by_rule,
+)
+  where
+    by_rule : PassesCheck old.literals clause buckets → answer ≡ true
+    by_rule (tautology t) = absurd (both_ways (is_tautology clause) denied.no_tautology t)
+    by_rule (unit_true u) = absurd (both_ways (list_any (is_among old.literals) clause) denied.no_unit u)
+    by_rule (conflict k) =
+        w ∙ walk_from_rule new.literals new.literals buckets (Within-itself new.literals) sets (rule_same old.room (map negated clause ++ old.literals) new.literals buckets (λ l r. sym (denied.agrees l r)) roomy k)

@@ -1,0 +1,28 @@
+-- Units that are judged in turn without memory for those before them.
+use Rattle.std.specs.Prelude.{ℕ, ◌==◌, ◌≡◌, Bool, true, false, not, ◌&&◌, List, [], ◌∷◌, if◌then◌else◌}
+use Rattle.sat_base.specs.values.Literals.{negated}
+use Rattle.sat_checker.specs.LiteralSets.{is_among}
+use Rattle.sat_checker.specs.Stored.{Stored, is_unit, unit_literals}
+use Rattle.sat_checker.specs.Storing.{with_unit}
+use Rattle.sat_checker.specs.Accepts.{PassInTurn}
+use Rattle.sat_checker.specs.inner.Room.{LiteralsAndRoom, AgreesOn}
+
+-- a unit is assumed where there is room for it, and neither it nor its negation is assumed
+abbrev pub with_supposed : ℕ → LiteralsAndRoom → List ℕ
+with_supposed l t = if is_among t.room l && not (is_among t.literals l) && not (is_among t.literals (negated l)) then l ∷ t.literals else t.literals
+
+-- the first of the literals that has this one's variable is this one
+abbrev pub stands_first : List ℕ → ℕ → Bool
+stands_first [] l = false
+stands_first (m ∷ ms) l = if m == l then true else if m == negated l then false else stands_first ms l
+
+-- As far as there is room, the units are assumed. Where there is none, a literal is a unit if it stands first among
+-- those that came in.
+pub record Supposes (trail : LiteralsAndRoom) (before : List ℕ) (f : Stored) : Type 0 where
+  pub agrees : AgreesOn trail.room trail.literals (unit_literals f)
+  pub others : (l : ℕ) → is_among trail.room l ≡ false → is_unit f l ≡ stands_first before l
+
+-- the units behind the first one pass in turn, once it came in
+abbrev pub PassBehind : Stored → List (ℕ × ℕ) → Type 0
+PassBehind f [] = Unit {0}
+PassBehind f (u ∷ us) = PassInTurn (with_unit u.0 f) us

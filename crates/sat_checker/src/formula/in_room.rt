@@ -1,0 +1,183 @@
+//! What marks of literals tell of the stored formula: whether they are a model of it, and whether they are those of a
+//! clause that may be deleted. Where memory is wanted for a mark, the literal stands in no stored clause.
+ghost use Rattle.std.specs.Prelude.{ℕ, ◌≡◌, ◌*◌, ◌<◌, ◌&&◌, ◌↔◌, not, IfOk, OnErr, IsErrOf, IsTrue};
+ghost use Rattle.std.specs.Prelude.{false, MatchBool};
+ghost use Rattle.std.specs.List.{list_any};
+ghost use Rattle.sat_base.specs.steps.Steps.{DeleteClause};
+ghost use Rattle.sat_base.specs.steps.StepViews.{deletion_of};
+ghost use Rattle.sat_base.specs.values.Literals.{negated};
+ghost use Rattle.sat_checker.specs.LiteralSets.{canonical, is_among};
+ghost use Rattle.sat_checker.specs.Accepts.{Accepts, FitsModel, IsStrictSubset};
+ghost use Rattle.sat_checker.specs.Looks.{literal_count};
+ghost use Rattle.sat_checker.specs.Stored.{Stored};
+ghost use Rattle.sat_checker.specs.Storing.{last_literals, clause_with};
+ghost use Rattle.sat_checker.specs.inner.FormulaView.{KeepsFormula, refiled_in, ChecksBeside};
+ghost use Rattle.sat_checker.specs.inner.Looking.{LooksOver};
+ghost use Rattle.sat_checker.specs.inner.ModelTests.{are_all_true};
+ghost use Rattle.sat_checker.specs.inner.Room.{AgreesOn};
+ghost use Rattle.sat_checker.specs.inner.StoreView.{count_in};
+ghost use Rattle.sat_checker.specs.declared.store.StoreError.TheVariants.{OutOfMemory};
+
+use crate::formula::Formula;
+use crate::looks::Looks;
+use crate::state::status::LastClause;
+use crate::store::StoreError;
+use crate::units::valuation::{
+    are_apart, assume_apart, assume_roomy, have_room, is_strictly_assumed,
+};
+use sat_base::{DeleteClauseProof, Lit};
+use std::alloc::AllocError;
+
+impl Formula {
+    /// Whether the literals are a model of what is stored. Memory is wanted only where they are.
+    pub fn fits(&mut self, literals: &[Lit], looks: &mut Looks) -> Result<bool, AllocError>
+        ensures exact { IfOk result (λ fits. (f : Stored) → KeepsFormula (refiled_in self.old) f
+            → IsTrue fits ↔ FitsModel f literals.now) }
+        ensures judged { OnErr result ((f : Stored) → KeepsFormula (refiled_in self.old) f → FitsModel f literals.now) }
+        ensures rest { ChecksBeside self.old self.new }
+        ensures looks { LooksOver (KeepsFormula (refiled_in self.old)) literal_count looks.old looks.new }
+    {
+        if self.status.unsat {
+            return Ok(false);
+        }
+        self.marks.allow(literals.len().saturating_mul(4));
+        self.marks.undo_to(0);
+        match assume_apart(&mut self.marks, literals) {
+            Ok(apart) => Ok(apart && self.are_met(literals, looks)),
+            Err(_) => self.want_if_met(literals, looks),
+        }
+    }
+
+    /// What is answered where memory is wanted: that the literals are no model of what is stored, or else the want.
+    fn want_if_met(&mut self, literals: &[Lit], looks: &mut Looks) -> Result<bool, AllocError>
+        requires { self.old.status.unsat ≡ false }
+        ensures exact { IfOk result (λ fits. (f : Stored) → KeepsFormula (refiled_in self.old) f
+            → IsTrue fits ↔ FitsModel f literals.now) }
+        ensures judged { OnErr result ((f : Stored) → KeepsFormula (refiled_in self.old) f → FitsModel f literals.now) }
+        ensures rest { ChecksBeside self.old self.new }
+        ensures looks { LooksOver (KeepsFormula (refiled_in self.old)) literal_count looks.old looks.new }
+    {
+        if !are_apart(literals) {
+            return Ok(false);
+        }
+        self.mark_in_room(literals);
+        if self.are_met(literals, looks) {
+            return Err(AllocError);
+        }
+        Ok(false)
+    }
+
+    /// Marks those of the literals that there is room for, and no others.
+    fn mark_in_room(&mut self, literals: &[Lit])
+        ensures marked { (l : ℕ) → is_among self.new.marks.literals l
+            ≡ (is_among self.old.marks.room l && is_among literals.now l) }
+        ensures room { self.new.marks.room ≡ self.old.marks.room }
+        ensures rest { ChecksBeside self.old self.new }
+    {
+        self.marks.undo_to(0);
+        assume_roomy(&mut self.marks, literals);
+    }
+
+    /// Whether no unit's negation is among the literals, and each irredundant clause has one of them. Those that there
+    /// is room for are marked.
+    fn are_met(&self, literals: &[Lit], looks: &mut Looks) -> bool
+        requires { AgreesOn self.now.marks.room self.now.marks.literals literals.now }
+        ensures met { (f : Stored) → KeepsFormula (refiled_in self.now) f
+            → result ≡ (not (list_any (λ u. is_among literals.now (negated u.literal)) f.units)
+            && are_all_true literals.now f.clauses) }
+        ensures looks { LooksOver (KeepsFormula (refiled_in self.now)) literal_count looks.old looks.new }
+    {
+        !self.units.are_contradicted(literals) && self.store.are_satisfied(&self.marks, looks)
+    }
+
+    /// What is answered where memory is wanted for a clause's sorted literals: that it may not be deleted by this
+    /// proof, or else the want.
+    pub fn want_if_deletable(
+        &mut self,
+        clause: &[Lit],
+        proof: DeleteClauseProof,
+        looks: &mut Looks,
+    ) -> Result<bool, StoreError>
+        ensures refused { IfOk result (λ accepted. (accepted ≡ false) × ((f : Stored) → KeepsFormula self.old f
+            → Accepts f (DeleteClause clause.now (deletion_of proof)) → ⊥)) }
+        ensures judged { OnErr result ((f : Stored) → KeepsFormula self.old f
+            → Accepts f (DeleteClause clause.now (deletion_of proof))) }
+        ensures wanted { OnErr result (IsErrOf result OutOfMemory) }
+        ensures looks { LooksOver (KeepsFormula self.old) (λ f. 2 * literal_count f) looks.old looks.new }
+    {
+        if self.may_delete_in_room(clause, proof, looks) {
+            return Err(StoreError::OutOfMemory);
+        }
+        Ok(false)
+    }
+
+    /// Whether a clause may be deleted by this proof. No memory is wanted for it.
+    pub fn may_delete_in_room(
+        &mut self,
+        clause: &[Lit],
+        proof: DeleteClauseProof,
+        looks: &mut Looks,
+    ) -> bool
+        ensures exact { (f : Stored) → KeepsFormula self.old f
+            → MatchBool result (Accepts f (DeleteClause clause.now (deletion_of proof)))
+            (Accepts f (DeleteClause clause.now (deletion_of proof)) → ⊥) }
+        ensures rest { ChecksBeside self.old self.new }
+        ensures looks { LooksOver (KeepsFormula self.old) (λ f. 2 * literal_count f) looks.old looks.new }
+    {
+        if !have_room(&self.marks, clause) {
+            return false;
+        }
+        self.mark_in_room(clause);
+        self.may_delete_marked(clause, proof, looks)
+    }
+
+    /// Whether a clause, of which just the literals are marked, may be deleted by this proof.
+    fn may_delete_marked(&self, clause: &[Lit], proof: DeleteClauseProof, looks: &mut Looks) -> bool
+        requires { (l : ℕ) → is_among self.now.marks.literals l ≡ is_among clause.now l }
+        ensures exact { (f : Stored) → KeepsFormula self.now f
+            → MatchBool result (Accepts f (DeleteClause clause.now (deletion_of proof)))
+            (Accepts f (DeleteClause clause.now (deletion_of proof)) → ⊥) }
+        ensures looks { LooksOver (KeepsFormula self.now) (λ f. 2 * literal_count f) looks.old looks.new }
+    {
+        match proof {
+            DeleteClauseProof::Redundant => self.marked_has_count(true, clause, looks),
+            DeleteClauseProof::Satisfied => {
+                self.units.has_any(clause) && self.marked_has_count(false, clause, looks)
+            }
+            DeleteClauseProof::Simplified => {
+                self.has_last_marked(looks) && self.marked_has_count(false, clause, looks)
+            }
+        }
+    }
+
+    /// Whether a clause, of which just the literals are marked, stands as redundant, or as irredundant.
+    fn marked_has_count(&self, redundant: bool, clause: &[Lit], looks: &mut Looks) -> bool
+        requires { (l : ℕ) → is_among self.now.marks.literals l ≡ is_among clause.now l }
+        ensures found { (f : Stored) → KeepsFormula self.now f
+            → MatchBool result (0 < count_in redundant (clause_with (canonical clause.now) f.clauses))
+            (0 < count_in redundant (clause_with (canonical clause.now) f.clauses) → ⊥) }
+        ensures looks { LooksOver (KeepsFormula self.now) literal_count looks.old looks.new }
+    {
+        self.store.assumed_count(redundant, &self.marks, looks) > 0
+    }
+
+    /// Whether the last irredundant clause stored is there, and is a part of the marked literals but not all of them.
+    fn has_last_marked(&self, looks: &mut Looks) -> bool
+        ensures part { (f : Stored) → KeepsFormula self.now f
+            → MatchBool result (IsStrictSubset (last_literals f.last f) self.now.marks.literals)
+            (IsStrictSubset (last_literals f.last f) self.now.marks.literals → ⊥) }
+        ensures looks { LooksOver (KeepsFormula self.now) literal_count looks.old looks.new }
+    {
+        match self.status.last {
+            LastClause::NoneYet => false,
+            LastClause::Empty(_) => is_strictly_assumed(&self.marks, &[]),
+            LastClause::Single(id, lit) => {
+                if self.units.id(lit) != Some(id) {
+                    return false;
+                }
+                is_strictly_assumed(&self.marks, &[lit])
+            }
+            LastClause::Long(id) => self.store.has_part_assumed(id, &self.marks, looks),
+        }
+    }
+}

@@ -1,0 +1,117 @@
+//! Units that are judged in turn where memory is wanted for one of them: those before a unit are assumed as far as
+//! there is room for them, and the others are looked for among those that came in.
+ghost use Rattle.std.specs.Prelude.{ℕ, ◌≡◌, ◌-◌, ◌*◌, [], ◌∷◌, length, map, not, ◌&&◌, IfOk, OnErr, IsTrue, ◌↔◌};
+ghost use Rattle.sat_checker.specs.Accepts.{PassesByHashes};
+ghost use Rattle.sat_checker.specs.LiteralSets.{is_among};
+ghost use Rattle.sat_checker.specs.Looks.{literal_count};
+ghost use Rattle.sat_checker.specs.Stored.{Stored, is_unit};
+ghost use Rattle.sat_checker.specs.inner.InTurn.{with_supposed, stands_first, Supposes, PassBehind};
+ghost use Rattle.sat_checker.specs.inner.Look.{AssumesMore};
+ghost use Rattle.sat_checker.specs.inner.Looking.{LooksOver};
+ghost use Rattle.sat_checker.specs.inner.Room.{HasRoomForStored};
+ghost use Rattle.sat_checker.specs.inner.StoreView.{KeepsClauses};
+
+use crate::looks::Looks;
+use crate::rup::check_in_room;
+use crate::rup::passed::Passed;
+use crate::store::Store;
+use crate::units::assigned::Assigned;
+use sat_base::{ClauseHash, Lit};
+use std::alloc::AllocError;
+
+/// A unit comes in: it is assumed where there is room for it, unless it or its negation is assumed.
+fn suppose(assigned: &mut Assigned, lit: Lit)
+    ensures { assigned.new ≡ record assigned.old { literals = with_supposed lit assigned.old } }
+{
+    if assigned.has_room(lit) && !assigned.is_true(lit) && !assigned.is_true(!lit) {
+        assigned.assume_in_room(lit);
+    }
+}
+
+/// Whether the literal is the first of its variable among the units.
+fn stands_first(units: &[(Lit, ClauseHash)], lit: Lit) -> bool
+    ensures { result ≡ stands_first (map (λ u. u.0) units.now) lit }
+{
+    for unit in units {
+        if unit.0 == lit {
+            return true;
+        }
+        if unit.0 == !lit {
+            return false;
+        }
+    }
+    false
+}
+
+/// Whether the literal has no room and came in.
+fn came_in(assigned: &Assigned, before: &[(Lit, ClauseHash)], lit: Lit) -> bool
+    ensures { result ≡ (not (is_among assigned.now.room lit) && stands_first (map (λ u. u.0) before.now) lit) }
+{
+    !assigned.has_room(lit) && stands_first(before, lit)
+}
+
+/// Whether a unit passes behind those before it. No memory is wanted where there is room for the stored clauses.
+fn passes(
+    store: &Store,
+    before: &[(Lit, ClauseHash)],
+    unit: (Lit, ClauseHash),
+    assigned: &mut Assigned,
+    passed: &mut Passed,
+    looks: &mut Looks,
+) -> Result<bool, AllocError>
+    ensures exact { IfOk result (λ yes. (f : Stored) → KeepsClauses store.now f
+        → HasRoomForStored assigned.old.room f.clauses → Supposes assigned.old (map (λ u. u.0) before.now) f
+        → IsTrue yes ↔ PassesByHashes f (unit.0 ∷ []) (unit.1 ∷ [])) }
+    ensures short { OnErr result ((f : Stored) → KeepsClauses store.now f
+        → HasRoomForStored assigned.old.room f.clauses → ⊥) }
+    ensures extends { AssumesMore assigned.old assigned.new }
+    ensures same { (f : Stored) → KeepsClauses store.now f → HasRoomForStored assigned.old.room f.clauses
+        → assigned.new ≡ assigned.old }
+    ensures looks { LooksOver (KeepsClauses store.now) literal_count looks.old looks.new }
+{
+    assigned.stand_in_room();
+    if came_in(assigned, before, unit.0) {
+        return Ok(true);
+    }
+    let count = assigned.len();
+    passed.clear();
+    let answer = check_in_room(
+        &store.clauses,
+        &[unit.0],
+        false,
+        &[unit.1],
+        assigned,
+        passed,
+        looks,
+    );
+    assigned.undo_to(count);
+    answer
+}
+
+/// Whether units pass in turn behind the first of them, where the units so far are what is assumed.
+pub(crate) fn pass_in_turn(
+    store: &Store,
+    units: &[(Lit, ClauseHash)],
+    assigned: &mut Assigned,
+    passed: &mut Passed,
+    looks: &mut Looks,
+) -> Result<bool, AllocError>
+    ensures exact { IfOk result (λ pass. (f : Stored) → KeepsClauses store.now f
+        → ((l : ℕ) → is_among assigned.old.literals l ≡ is_unit f l) → HasRoomForStored assigned.old.room f.clauses
+        → IsTrue pass ↔ PassBehind f units.now) }
+    ensures short { OnErr result ((f : Stored) → KeepsClauses store.now f
+        → HasRoomForStored assigned.old.room f.clauses → ⊥) }
+    ensures extends { AssumesMore assigned.old assigned.new }
+    ensures looks { LooksOver (KeepsClauses store.now)
+        (λ f. (length units.now - 1) * literal_count f) looks.old looks.new }
+{
+    assigned.stand_in_room();
+    for place in 1..units.len() {
+        suppose(assigned, units[place - 1].0);
+        let (before, _) = units.split_at(place);
+        if !passes(store, before, units[place], assigned, passed, looks)? {
+            return Ok(false);
+        }
+    }
+    Ok(true)
+}

@@ -1,0 +1,31 @@
+//! What contracts alone see of the notes of a walk, also where memory was wanted for one. It takes no memory, and its
+//! functions do nothing at run time.
+ghost use Rattle.std.specs.Prelude.{◌≡◌, ◌++◌, ◌∷◌, [], List};
+ghost use Rattle.std.specs.Borrow.{ftrue};
+ghost use Rattle.sat_checker.specs.declared.rup.passed.Reason.{Reason};
+
+use std::marker::Model;
+
+/// All reasons in the order passed.
+#[derive(Drop)]
+pub(crate) struct Noted {
+    pub ghost reasons: { List Reason },
+}
+
+impl Model for Noted {
+    ghost also_owns = { λ _. ftrue };
+}
+
+impl Noted {
+    pub(crate) fn new() -> Noted
+        ensures { result.reasons ≡ [] }
+    {
+        Noted {}
+    }
+
+    pub(crate) fn and(&self, _place: usize, _code: usize) -> Noted
+        ensures { result.reasons ≡ self.now.reasons ++ (record { place = _place; lit = _code }) ∷ [] }
+    {
+        Noted {}
+    }
+}

@@ -1,0 +1,30 @@
+//! What contracts alone see of the literals that there is room for. It takes no memory, and its functions do nothing at
+//! run time.
+ghost use Rattle.std.specs.Prelude.{ℕ, ◌≡◌, ◌∷◌, [], List};
+ghost use Rattle.std.specs.Borrow.{ftrue};
+
+use std::marker::Model;
+
+/// The literals that there is room for, each once.
+#[derive(Drop)]
+pub(crate) struct Roomy {
+    pub ghost literals: { List ℕ },
+}
+
+impl Model for Roomy {
+    ghost also_owns = { λ _. ftrue };
+}
+
+impl Roomy {
+    pub(crate) fn new() -> Roomy
+        ensures { result.literals ≡ [] }
+    {
+        Roomy {}
+    }
+
+    pub(crate) fn and(&self, _code: usize) -> Roomy
+        ensures { result.literals ≡ _code ∷ self.now.literals }
+    {
+        Roomy {}
+    }
+}
