@@ -35,7 +35,10 @@ fn close_certificate<C: CountedWrite + Drop>(solver: Solver<C>) -> (C, Result<()
 {
     let mut solver = solver;
     match solver.close_proof() {
-        Ok(Some(certificate)) => (certificate, Ok(())),
+        Ok(Some(certificate)) => {
+            drop(solver);
+            (certificate, Ok(()))
+        }
         Ok(None) => unreachable!(),
         Err(error) => (give_back(solver), Err(fault_of(error))),
     }

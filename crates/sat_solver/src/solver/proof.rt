@@ -98,7 +98,9 @@ impl<W: CountedWrite + Drop, P: ProofProcessor> Solver<W, P> {
         ensures front { HandsFront W.seen result self }
     {
         let mut solver = self;
-        solver.core.proof.take_target()
+        let target = solver.core.proof.take_target();
+        drop(solver);
+        target
     }
 
     /// The processors that were added, in their order, and the target as it is, where a proof is open or its target
@@ -113,6 +115,7 @@ impl<W: CountedWrite + Drop, P: ProofProcessor> Solver<W, P> {
         let target = solver.core.proof.take_target();
         let alloc = solver.core.search.alloc;
         let processors = solver.core.proof.take_processors(alloc);
+        drop(solver);
         HandedBack { target, processors }
     }
 }
