@@ -150,5 +150,6 @@ pub(crate) fn reductions(alloc: Global, text: &[u8]) -> Option<u64> {
     let mut checker = Checker::new(alloc);
     let mut blanks = Blanks::new(alloc);
     let taken = are_read(alloc, &mut checker, &mut blanks, &mut Counted::new(text));
+    drop(checker);
     if taken { Some(blanks.reductions) } else { None }
 }

@@ -30,13 +30,15 @@ fn write_owned<W: CountedWrite + Drop>(
 {
     let mut proof: Proof<W> = Proof::new(alloc);
     proof.open(ProofFormat::Varisat, target);
-    if let Err(error) = proof.step(&ProofStep::Assumptions { assumptions: &[] }) {
-        return (proof.take_target(), Err(error));
-    }
-    match proof.close() {
-        Ok(target) => (target, Ok(())),
+    let written = match proof.step(&ProofStep::Assumptions { assumptions: &[] }) {
+        Ok(()) => match proof.close() {
+            Ok(target) => (target, Ok(())),
+            Err(error) => (proof.take_target(), Err(error)),
+        },
         Err(error) => (proof.take_target(), Err(error)),
-    }
+    };
+    drop(proof);
+    written
 }
 
 /// The same, into a target that is lent.

@@ -140,5 +140,7 @@ pub(crate) fn written<R: Drop, A: Play<Solver<Bytes>, R>>(
 /// Whether the checker accepts a proof.
 pub(crate) fn is_accepted(alloc: Global, text: &[u8]) -> bool {
     let mut checker = Checker::new(alloc);
-    checker.check_proof(&mut Counted::new(text)).is_ok()
+    let accepted = checker.check_proof(&mut Counted::new(text)).is_ok();
+    drop(checker);
+    accepted
 }

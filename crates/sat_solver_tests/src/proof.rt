@@ -49,11 +49,13 @@ fn seen(target: Option<Counted<ByFew>>, text: &[u8]) -> Seen {
 fn closed(mut proof: Proof<Counted<ByFew>>, text: &[u8]) -> (Option<bool>, Seen)
     requires { HasAllowedSteps proof }
 {
-    match proof.close() {
-        Ok(Some(target)) => (Some(true), seen(Some(target), text)),
-        Ok(None) => (Some(false), seen(proof.take_target(), text)),
-        Err(_) => (None, seen(proof.take_target(), text)),
-    }
+    let (came, target) = match proof.close() {
+        Ok(Some(target)) => (Some(true), Some(target)),
+        Ok(None) => (Some(false), proof.take_target()),
+        Err(_) => (None, proof.take_target()),
+    };
+    drop(proof);
+    (came, seen(target, text))
 }
 
 /// Makes two steps and flushes them, makes two more and closes. Gives whether the steps and the flush were done, and
