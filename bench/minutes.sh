@@ -3,7 +3,8 @@
 #
 # In a copy of the repository each crate, or each that is named, is proved from nothing, then its tests, and then the edits of its must-fail/
 # are tried, one thing after another. A line has the minutes of processors that each of the three took, and those of all by the clock; the
-# last line has their sums. What lies below a crate is built before, and not counted. All crates take as long as the gate.
+# last line has their sums. What lies below a crate is built before, and not counted; nor is that the gate proves a crate once more before it
+# tries its edits. All crates take as long as the gate.
 set -euo pipefail
 top=$(cd "$(dirname "$0")/.." && pwd)
 work=$(mktemp -d)
