@@ -1,16 +1,17 @@
 #!/usr/bin/env bash
 # Refuses each allocation in turn, and looks at what is answered: bench/faults/run.sh
 #
-# First for calls.rt.txt, a program over sat_base: the call whose allocation is refused has to say that it is out of memory, what it leaves
-# behind has to be what its documentation says, and all other lines have to be those of a run with all memory. Then for feeds.rt.txt, a
-# program over sat_checker: the call has to say so, each later one has to answer that the checker has failed, and all who listen have to
-# be handed back, with no more told than in a run with all memory. Then for hints.rt.txt, a program over sat_hints: the call has to say so, what
-# it wrote has to be the beginning of what it writes with all memory, and all other lines the same. Then for the program certify, on two scripts: it has to end with `certify:
-# OutOfMemory` and status 3, and what it printed by then has to be the beginning of what it prints with all memory. A line says for each N
-# which call was out of memory. Last for three programs that tell by their status how it went: texts.rt.txt, over run, confirm, convert and
-# check, where exactly one call has to say so, and all others do as with all memory; solves.rt.txt, over a solver with a checker of its own,
-# each later call of which has to answer that the solver has failed; and refusals.rt.txt, where steps that are refused have to be answered so,
-# whatever allocation is refused as they are judged. It isn't part of the gate, and takes some minutes.
+# First for calls.rt.txt, a program over sat_base: the call whose allocation is refused has to say that it is out of memory, what it leaves behind
+# has to be what its documentation says, and all other lines have to be those of a run with all memory. Then for feeds.rt.txt, a program over
+# sat_checker: the call has to say so, each later one has to answer that the checker has failed, and all who listen have to be handed back, with
+# no more told than in a run with all memory. Then for hints.rt.txt, a program over sat_hints: the call has to say so, what it wrote has to be the
+# beginning of what it writes with all memory, and all other lines the same. Then for the program certify, on two scripts: it has to end with
+# `certify: OutOfMemory` and status 3, with nothing else on standard error but a run's line of progress, and what it printed by then has to be the
+# beginning of what it prints with all memory. A line says for each N which call was out of memory; there is none where notes on a step's check
+# were lost that nobody reads. Last for three programs that tell by their status how it went: texts.rt.txt, over run, confirm, convert and check,
+# where exactly one call has to say so, and all others do as with all memory; solves.rt.txt, over a solver with a checker of its own, each later
+# call of which has to answer that the solver has failed; and refusals.rt.txt, where steps that are refused have to be answered so, whatever
+# allocation is refused as they are judged. It isn't part of the gate, and takes some minutes.
 #
 # `rt try --fail-alloc N` refuses the Nth allocation. Since a build takes longer than a run, one build serves for each N: it always
 # refuses the same allocation, the `most`th, and the program first makes as many of no use as the first byte of its standard input
@@ -175,7 +176,7 @@ count=$(tail -n 1 "$work/feeds.txt" | cut -d : -f 1)
 [ "$count" -lt "$most" ] || fail "feeds: more than $most allocations"
 directly feeds "$work/feeds-plain" "$count"
 directly feeds "$work/feeds-plain" $((count + 1))
-echo "feeds: $(wc -l < "$work/feeds.txt") allocations"
+echo "feeds: $(wc -l < "$work/feeds.txt") of $count allocations"
 sed 's/^[0-9]*: //' "$work/feeds.txt" | sort | uniq -c
 
 # A run of hints.rt.txt beside the one with all memory. Prints which call was out of memory, or nothing where none was.
@@ -223,24 +224,22 @@ cp "$work/main.rt" "$main"
 for text in sat unsat; do
     all=$work/certify_cli-all/$text
     [ "$(cat "$all.end")" = "run=ended status=0" ] || fail "certify $text: $(cat "$all.end")"
-    count=0
     for n in $(seq "$most"); do
         it=$work/certify_cli-runs/$text-$n
         if cmp -s "$it.out" "$all.out" && cmp -s "$it.err" "$all.err" && cmp -s "$it.end" "$all.end"; then
             continue
         fi
         [ "$(cat "$it.end")" = "run=ended status=3" ] || fail "certify $text $n: $(cat "$it.end")"
-        [ "$(cat "$it.err")" = "certify: OutOfMemory" ] || fail "certify $text $n: $(cat "$it.err")"
+        [ "$(grep -v '^\[INFO  certify\] progress ' "$it.err")" = "certify: OutOfMemory" ] || fail "certify $text $n: $(cat "$it.err")"
         cmp -s "$it.out" <(head -c "$(wc -c < "$it.out")" "$all.out") || fail "certify $text $n: $(cat "$it.out")"
         ! grep -q '^c ' "$it.out" || fail "certify $text $n: $(cat "$it.out")"
-        [ $((count += 1)) = "$n" ] || fail "certify $text $n: refused behind one that was not"
         echo "$n: certify $text, behind $(wc -l < "$it.out") lines"
     done | tee "$work/$text.txt"
-    count=$(wc -l < "$work/$text.txt")
+    count=$(tail -n 1 "$work/$text.txt" | cut -d : -f 1)
     [ "$count" -lt "$most" ] || fail "certify $text: more than $most allocations"
     directly certify_cli "$work/texts/certify_cli" "$count"
     directly certify_cli "$work/texts/certify_cli" $((count + 1))
-    echo "certify $text: $count allocations"
+    echo "certify $text: $(wc -l < "$work/$text.txt") of $count allocations"
 done
 
 # Bytes that sum up to a count.
@@ -254,9 +253,9 @@ summing() { # COUNT
 }
 
 # Runs a program that tells by its status how it went with each of so many allocations refused: with 0 none was, and else one.
-told() { # CRATE MOST all|some STATUS..: behind the first 0 all are 0, or some aren't
-    local crate=$1 many=$2 which=$3 n count=0 end
-    shift 3
+told() { # CRATE MOST STATUS..
+    local crate=$1 many=$2 n count end
+    shift 2
     mkdir -p "$work/$crate-cases"
     for n in $(seq "$many"); do
         summing $((many - n)) > "$work/$crate-cases/$n"
@@ -266,15 +265,14 @@ told() { # CRATE MOST all|some STATUS..: behind the first 0 all are 0, or some a
         end=$(cat "$work/$crate-runs/$n.end")
         [ "$end" != "run=ended status=0" ] || continue
         [[ " $* " == *" ${end#run=ended status=} "* ]] || fail "$crate $n: $end"
-        [ $((count += 1)) = "$n" ] || [ "$which" = some ] || fail "$crate $n: refused behind one that was not"
-        echo "${end#run=ended }"
+        echo "$n: ${end#run=ended }"
     done > "$work/$crate.txt"
-    count=$(wc -l < "$work/$crate.txt")
+    count=$(tail -n 1 "$work/$crate.txt" | cut -d : -f 1)
     [ "$count" -lt "$many" ] || fail "$crate: more than $many allocations"
-    echo "$crate: $count allocations"
-    sort "$work/$crate.txt" | uniq -c
+    echo "$crate: $(wc -l < "$work/$crate.txt") of $count allocations"
+    sed 's/^[0-9]*: //' "$work/$crate.txt" | sort | uniq -c
 }
 
-told texts 400 all 3
-told solves 250 all 3
-told refusals 400 some 3 5
+told texts 400 3
+told solves 250 3
+told refusals 400 3 5
