@@ -243,11 +243,11 @@ impl<W: CountedWrite + Drop, P: ProofProcessor> Proof<W, P> {
 
     /// Gives target and checker the very same step, with its hashes cut to the width for the clauses behind it. A step
     /// at whose text the target fails isn't checked.
-    fn record(
+    fn record<'s>(
         &mut self,
         counting: Counting,
-        step: &ProofStep<'_>,
-        cut: &ProofStep<'_>,
+        step: &ProofStep<'s>,
+        cut: &ProofStep<'s>,
     ) -> Result<(), ProofError>
         requires keeps { HasAllowedSteps self.old }
         requires may { May (session_of self.old) (step_of step.now) }
@@ -325,47 +325,7 @@ impl<W: CountedWrite + Drop, P: ProofProcessor> Proof<W, P> {
                 };
                 self.record(counting, &whole, &cut)
             }
-            ProofStep::SolverVarName { global, solver } => {
-                let cut = ProofStep::SolverVarName { global, solver };
-                self.record(counting, step, &cut)
-            }
-            ProofStep::UserVarName { global, user } => {
-                let cut = ProofStep::UserVarName { global, user };
-                self.record(counting, step, &cut)
-            }
-            ProofStep::DeleteVar { var } => {
-                let cut = ProofStep::DeleteVar { var };
-                self.record(counting, step, &cut)
-            }
-            ProofStep::ChangeSamplingMode { var, sample } => {
-                let cut = ProofStep::ChangeSamplingMode { var, sample };
-                self.record(counting, step, &cut)
-            }
-            ProofStep::AddClause { clause } => {
-                let whole = ProofStep::AddClause { clause };
-                let cut = ProofStep::AddClause { clause };
-                self.record(counting, &whole, &cut)
-            }
-            ProofStep::DeleteClause { clause, proof } => {
-                let whole = ProofStep::DeleteClause { clause, proof };
-                let cut = ProofStep::DeleteClause { clause, proof };
-                self.record(counting, &whole, &cut)
-            }
-            ProofStep::ChangeHashBits { bits } => {
-                let cut = ProofStep::ChangeHashBits { bits };
-                self.record(counting, step, &cut)
-            }
-            ProofStep::Model { assignment } => {
-                let whole = ProofStep::Model { assignment };
-                let cut = ProofStep::Model { assignment };
-                self.record(counting, &whole, &cut)
-            }
-            ProofStep::Assumptions { assumptions } => {
-                let whole = ProofStep::Assumptions { assumptions };
-                let cut = ProofStep::Assumptions { assumptions };
-                self.record(counting, &whole, &cut)
-            }
-            ProofStep::End => self.record(counting, step, &ProofStep::End),
+            _ => self.record(counting, step, step),
         }
     }
 
