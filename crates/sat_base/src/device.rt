@@ -7,6 +7,7 @@ ghost use Rattle.sat_base.specs.device.Device.{lent_writer};
 pub(crate) mod ahead;
 mod counted;
 pub(crate) mod input;
+pub(crate) mod kept_error;
 pub(crate) mod output;
 pub(crate) mod pending;
 pub(crate) mod room;

@@ -5,6 +5,7 @@ ghost use Rattle.sat_base.specs.device.Device.{Puts};
 ghost use Rattle.sat_base.specs.device.Sink.{Sends, sink_of};
 
 use crate::device::ahead::PIECE;
+use crate::device::kept_error::WriteFailed;
 use crate::device::output::Output;
 use crate::device::pending::Pending;
 use crate::device::room::Room;
@@ -12,7 +13,7 @@ use crate::{CnfFormula, CountedWrite, Lit};
 use std::io;
 
 impl<W: CountedWrite, P: Room> Output<W, P> {
-    fn put_decimal(&mut self, number: u64) -> io::Result<()>
+    fn put_decimal(&mut self, number: u64) -> Result<(), WriteFailed>
         ensures { Sends (decimal number) result (sink_of W.seen P.waiting self.old)
             (sink_of W.seen P.waiting self.new) }
     {
@@ -23,7 +24,7 @@ impl<W: CountedWrite, P: Room> Output<W, P> {
         self.put(b'0' + (number % 10) as u8)
     }
 
-    fn put_literal(&mut self, lit: Lit) -> io::Result<()>
+    fn put_literal(&mut self, lit: Lit) -> Result<(), WriteFailed>
         ensures { Sends (number_text lit) result (sink_of W.seen P.waiting self.old)
             (sink_of W.seen P.waiting self.new) }
     {
@@ -35,7 +36,7 @@ impl<W: CountedWrite, P: Room> Output<W, P> {
         self.put_decimal(number)
     }
 
-    fn put_clause(&mut self, lits: &[Lit]) -> io::Result<()>
+    fn put_clause(&mut self, lits: &[Lit]) -> Result<(), WriteFailed>
         ensures { Sends (clause_line lits.now) result (sink_of W.seen P.waiting self.old)
             (sink_of W.seen P.waiting self.new) }
     {
@@ -46,7 +47,7 @@ impl<W: CountedWrite, P: Room> Output<W, P> {
         self.put_all(b"0\n")
     }
 
-    fn put_clauses(&mut self, formula: &CnfFormula) -> io::Result<()>
+    fn put_clauses(&mut self, formula: &CnfFormula) -> Result<(), WriteFailed>
         ensures { Sends (clause_lines formula.now.clauses) result (sink_of W.seen P.waiting self.old)
             (sink_of W.seen P.waiting self.new) }
     {
@@ -56,7 +57,7 @@ impl<W: CountedWrite, P: Room> Output<W, P> {
         Ok(())
     }
 
-    fn put_header(&mut self, vars: u64, clauses: u64) -> io::Result<()>
+    fn put_header(&mut self, vars: u64, clauses: u64) -> Result<(), WriteFailed>
         ensures { Sends (header_line vars clauses) result (sink_of W.seen P.waiting self.old)
             (sink_of W.seen P.waiting self.new) }
     {
@@ -67,7 +68,7 @@ impl<W: CountedWrite, P: Room> Output<W, P> {
         self.put(b'\n')
     }
 
-    fn write_formula(&mut self, formula: &CnfFormula) -> io::Result<()>
+    fn write_formula(&mut self, formula: &CnfFormula) -> Result<(), WriteFailed>
         ensures sends { Sends (dimacs_text formula.now) result (sink_of W.seen P.waiting self.old)
             (sink_of W.seen P.waiting self.new) }
         ensures none { OnOk result (P.waiting self.new.pending ≡ []) }
@@ -85,7 +86,8 @@ pub fn write_dimacs<W: CountedWrite>(writer: &mut W, formula: &CnfFormula) -> io
     ensures { Puts (dimacs_text formula.now) result (W.seen writer.old) (W.seen writer.new) }
 {
     let mut output: Output<&mut W, Pending<PIECE>> = Output::new(writer, Pending::new());
-    let result = output.write_formula(formula);
+    let written = output.write_formula(formula);
+    let result = output.give_error(written);
     let _writer = output.into_writer();
     result
 }

@@ -1,4 +1,5 @@
 pub mod Given
+pub mod KeptErrors
 pub mod Known
 pub mod Makers
 pub mod ReadLemmas

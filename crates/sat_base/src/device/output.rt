@@ -1,8 +1,9 @@
 //! Bytes on their way to a writer, in pieces.
-ghost use Rattle.std.specs.Prelude.{◌≡◌, ◌<◌, ◌∷◌, []};
+ghost use Rattle.std.specs.Prelude.{◌≡◌, ◌<◌, ◌∷◌, [], is_ok};
 ghost use Rattle.sat_base.specs.device.Sink.{Sends, Flushes, sink_of, empty_sink};
 
 use crate::CountedWrite;
+use crate::device::kept_error::{WriteFailed, keep_error};
 use crate::device::room::Room;
 use std::io;
 
@@ -11,6 +12,8 @@ use std::io;
 pub(crate) struct Output<W, P> {
     pub(crate) writer: W,
     pub(crate) pending: P,
+    /// The error of a failed call, until `give_error` returns it.
+    pub(crate) error: Option<io::Error>,
 }
 
 // Each byte goes through `put`, and nothing is inlined through a `Result` unasked.
@@ -19,23 +22,27 @@ impl<W: CountedWrite, P: Room> Output<W, P> {
         requires { P.waiting pending ≡ [] }
         ensures { sink_of W.seen P.waiting result ≡ empty_sink (W.seen writer) }
     {
-        Output { writer, pending }
+        Output {
+            writer,
+            pending,
+            error: None,
+        }
     }
 
     /// Writes out what waits.
-    fn write_out(&mut self) -> io::Result<()>
+    fn write_out(&mut self) -> Result<(), WriteFailed>
         ensures sends { Sends [] result (sink_of W.seen P.waiting self.old) (sink_of W.seen P.waiting self.new) }
         ensures none { P.waiting self.new.pending ≡ [] }
         ensures size { P.size self.new.pending ≡ P.size self.old.pending }
     {
         let result = self.writer.write_all_counted(self.pending.as_slice());
         self.pending.clear();
-        result
+        keep_error(&mut self.error, result)
     }
 
     /// Lets a byte wait. What waits is written out first where there is no room.
     #[inline(always)]
-    pub(crate) fn put(&mut self, byte: u8) -> io::Result<()>
+    pub(crate) fn put(&mut self, byte: u8) -> Result<(), WriteFailed>
         ensures { Sends (byte ∷ []) result (sink_of W.seen P.waiting self.old) (sink_of W.seen P.waiting self.new) }
     {
         if self.pending.free() == 0 {
@@ -46,7 +53,7 @@ impl<W: CountedWrite, P: Room> Output<W, P> {
     }
 
     /// Writes out what waits, and lets a byte wait.
-    fn put_behind(&mut self, byte: u8) -> io::Result<()>
+    fn put_behind(&mut self, byte: u8) -> Result<(), WriteFailed>
         requires { 0 < P.size self.old.pending }
         ensures { Sends (byte ∷ []) result (sink_of W.seen P.waiting self.old) (sink_of W.seen P.waiting self.new) }
     {
@@ -56,7 +63,7 @@ impl<W: CountedWrite, P: Room> Output<W, P> {
     }
 
     /// Lets bytes wait, or writes them at once where there is no room for them.
-    pub(crate) fn put_all(&mut self, bytes: &[u8]) -> io::Result<()>
+    pub(crate) fn put_all(&mut self, bytes: &[u8]) -> Result<(), WriteFailed>
         ensures { Sends bytes.now result (sink_of W.seen P.waiting self.old) (sink_of W.seen P.waiting self.new) }
     {
         if bytes.len() <= self.pending.free() {
@@ -68,7 +75,7 @@ impl<W: CountedWrite, P: Room> Output<W, P> {
     }
 
     /// Lets bytes wait where none does, or writes them at once.
-    fn put_first(&mut self, bytes: &[u8]) -> io::Result<()>
+    fn put_first(&mut self, bytes: &[u8]) -> Result<(), WriteFailed>
         requires { P.waiting self.old.pending ≡ [] }
         ensures { Sends bytes.now result (sink_of W.seen P.waiting self.old) (sink_of W.seen P.waiting self.new) }
     {
@@ -76,11 +83,12 @@ impl<W: CountedWrite, P: Room> Output<W, P> {
             self.pending.push_all(bytes);
             return Ok(());
         }
-        self.writer.write_all_counted(bytes)
+        let result = self.writer.write_all_counted(bytes);
+        keep_error(&mut self.error, result)
     }
 
     /// Writes out what waits, if anything does.
-    pub(crate) fn write_rest(&mut self) -> io::Result<()>
+    pub(crate) fn write_rest(&mut self) -> Result<(), WriteFailed>
         ensures sends { Sends [] result (sink_of W.seen P.waiting self.old) (sink_of W.seen P.waiting self.new) }
         ensures none { P.waiting self.new.pending ≡ [] }
         ensures idle { P.waiting self.old.pending ≡ [] → W.seen self.new.writer ≡ W.seen self.old.writer }
@@ -92,11 +100,29 @@ impl<W: CountedWrite, P: Room> Output<W, P> {
     }
 
     /// Writes out what waits, and flushes the writer.
-    pub(crate) fn flush(&mut self) -> io::Result<()>
+    pub(crate) fn flush(&mut self) -> Result<(), WriteFailed>
         ensures { Flushes result (sink_of W.seen P.waiting self.old) (sink_of W.seen P.waiting self.new) }
     {
         self.write_rest()?;
-        self.writer.flush_counted()
+        let result = self.writer.flush_counted();
+        keep_error(&mut self.error, result)
+    }
+
+    /// Returns the result with the kept error. No contract says that one was kept: without one, the error is
+    /// `ErrorKind::Other`.
+    #[inline(never)] // callers reserve no space for the error on the path without one
+    pub(crate) fn give_error(&mut self, answer: Result<(), WriteFailed>) -> io::Result<()>
+        ensures alike { is_ok result ≡ is_ok answer }
+        ensures writer { self.new.writer ≡ self.old.writer }
+        ensures pending { self.new.pending ≡ self.old.pending }
+    {
+        match answer {
+            Ok(()) => Ok(()),
+            Err(_) => match self.error.take() {
+                Some(error) => Err(error),
+                None => Err(io::Error::from(io::ErrorKind::Other)),
+            },
+        }
     }
 
     /// The writer. What waits is lost.
@@ -106,6 +132,7 @@ impl<W: CountedWrite, P: Room> Output<W, P> {
         let Output {
             writer,
             pending: _pending,
+            error: _error,
         } = self;
         writer
     }

@@ -9,12 +9,12 @@ ghost use Rattle.sat_base.specs.steps.StepText.{tag_of};
 ghost use Rattle.sat_base.specs.steps.StepViews.{step_of};
 
 use crate::device::input::Input;
+use crate::device::kept_error::WriteFailed;
 use crate::device::output::Output;
 use crate::device::room::Room;
 use crate::steps::kind::Kind;
 use crate::steps::step_lists::Lists;
 use crate::{CountedRead, CountedWrite, ProofStep, StepError};
-use std::io;
 
 fn tag(step: &ProofStep<'_>) -> u8
     ensures { result ≡ tag_of (step_of step.now) }
@@ -148,7 +148,7 @@ impl<R: CountedRead> Input<'_, R> {
 
 impl<W: CountedWrite, P: Room> Output<W, P> {
     /// Lets what stands behind the tag wait.
-    fn put_fields(&mut self, step: &ProofStep<'_>) -> io::Result<()>
+    fn put_fields(&mut self, step: &ProofStep<'_>) -> Result<(), WriteFailed>
         ensures { SendsSpelling fields (step_of step.now) result W.seen P.waiting self.old self.new }
     {
         match *step {
@@ -176,7 +176,7 @@ impl<W: CountedWrite, P: Room> Output<W, P> {
     }
 
     /// Lets a step's bytes wait.
-    pub(super) fn put_step(&mut self, step: &ProofStep<'_>) -> io::Result<()>
+    pub(super) fn put_step(&mut self, step: &ProofStep<'_>) -> Result<(), WriteFailed>
         ensures { SendsSpelling a_step (step_of step.now) result W.seen P.waiting self.old self.new }
     {
         self.put(tag(step))?;
@@ -184,7 +184,7 @@ impl<W: CountedWrite, P: Room> Output<W, P> {
     }
 
     /// Writes a step's bytes out, behind those that wait.
-    pub(super) fn write_step(&mut self, step: &ProofStep<'_>) -> io::Result<()>
+    pub(super) fn write_step(&mut self, step: &ProofStep<'_>) -> Result<(), WriteFailed>
         ensures writes { SendsSpelling a_step (step_of step.now) result W.seen P.waiting self.old self.new }
         ensures none { OnOk result (P.waiting self.new.pending ≡ []) }
     {

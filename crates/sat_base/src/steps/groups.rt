@@ -9,11 +9,11 @@ ghost use Rattle.sat_base.specs.steps.Spellings as spelling;
 ghost use Rattle.sat_base.specs.steps.StepViews.{deletion_of};
 
 use crate::device::input::Input;
+use crate::device::kept_error::WriteFailed;
 use crate::device::output::Output;
 use crate::device::room::Room;
 use crate::steps::step_lists::Lists;
 use crate::{ClauseHash, CountedRead, CountedWrite, DeleteClauseProof, Lit, StepError, Var};
-use std::io;
 
 impl<R: CountedRead> Input<'_, R> {
     pub(super) fn flag_and_lists(&mut self, lists: &mut Lists) -> Result<bool, StepError>
@@ -39,14 +39,18 @@ impl<R: CountedRead> Input<'_, R> {
 
 impl<W: CountedWrite, P: Room> Output<W, P> {
     /// Lets a variable wait, and one that may be none.
-    pub(super) fn put_variables(&mut self, first: Var, second: Option<Var>) -> io::Result<()>
+    pub(super) fn put_variables(
+        &mut self,
+        first: Var,
+        second: Option<Var>,
+    ) -> Result<(), WriteFailed>
         ensures { spelling.SendsSpelling spelling.variables (first, second) result W.seen P.waiting self.old self.new }
     {
         self.put_variable(first)?;
         self.put_optional(second)
     }
 
-    pub(super) fn put_mode(&mut self, var: Var, sample: bool) -> io::Result<()>
+    pub(super) fn put_mode(&mut self, var: Var, sample: bool) -> Result<(), WriteFailed>
         ensures { spelling.SendsSpelling spelling.a_mode (var, sample) result W.seen P.waiting self.old self.new }
     {
         self.put_variable(var)?;
@@ -58,7 +62,7 @@ impl<W: CountedWrite, P: Room> Output<W, P> {
         redundant: bool,
         clause: &[Lit],
         hashes: &[ClauseHash],
-    ) -> io::Result<()>
+    ) -> Result<(), WriteFailed>
         ensures { spelling.SendsSpelling spelling.a_derived (redundant, (clause.now, hashes.now)) result W.seen
             P.waiting self.old self.new }
     {
@@ -66,7 +70,11 @@ impl<W: CountedWrite, P: Room> Output<W, P> {
         self.put_both_lists(clause, hashes)
     }
 
-    pub(super) fn put_deleted(&mut self, clause: &[Lit], proof: DeleteClauseProof) -> io::Result<()>
+    pub(super) fn put_deleted(
+        &mut self,
+        clause: &[Lit],
+        proof: DeleteClauseProof,
+    ) -> Result<(), WriteFailed>
         ensures { spelling.SendsSpelling spelling.a_deleted (clause.now, deletion_of proof) result W.seen P.waiting
             self.old self.new }
     {

@@ -3,21 +3,69 @@
 
 ghost use Rattle.std.specs.Prelude.{[], ◌≡◌};
 ghost use Rattle.sat_base.specs.device.Reading.{ReadsFromInput, giving};
+ghost use Rattle.sat_base.specs.device.TakenAhead.{TakesItems};
 ghost use Rattle.sat_base.specs.steps.Kinds.{both_held};
 ghost use Rattle.sat_base.specs.steps.Formats.{Both, Times};
 ghost use Rattle.sat_base.specs.steps.StepText.{IsLiteral, IsHash, AreLiterals, AreHashes, AreHashedLiterals};
 ghost use Rattle.sat_base.specs.steps.Spellings as spelling;
 
+use crate::device::ahead::{Ahead, PIECE};
 use crate::device::input::Input;
+use crate::device::kept_error::WriteFailed;
 use crate::device::output::Output;
 use crate::device::room::Room;
 use crate::steps::step_lists::Lists;
 use crate::var::MAX_COUNT;
 use crate::{ClauseHash, CountedRead, CountedWrite, Lit, StepError};
-use std::io;
 
 /// The largest code of a literal.
 const LARGEST_CODE: u64 = 2 * MAX_COUNT as u64 - 1;
+
+impl Ahead {
+    /// Takes at most `most` literals that are complete among the buffered bytes, and returns how many.
+    fn take_literals(&mut self, most: u64, lits: &mut Vec<Lit>) -> Result<u64, StepError>
+        ensures { TakesItems IsLiteral most result lits.old.items lits.new.items self.old self.new }
+    {
+        let count = most.min(PIECE as u64);
+        lits.reserve(count as usize)?;
+        let mut at = self.at;
+        let mut taken = 0;
+        while taken < count {
+            match self.code_at(at, LARGEST_CODE) {
+                Some((code, behind)) => {
+                    lits.push_reserved(Lit::from_code(code as usize));
+                    at = behind;
+                    taken += 1;
+                }
+                None => break,
+            }
+        }
+        self.at = at;
+        Ok(taken)
+    }
+
+    /// Takes at most `most` hashes that are complete among the buffered bytes, and returns how many.
+    fn take_hashes(&mut self, most: u64, hashes: &mut Vec<ClauseHash>) -> Result<u64, StepError>
+        ensures { TakesItems IsHash most result hashes.old.items hashes.new.items self.old self.new }
+    {
+        let count = most.min(PIECE as u64);
+        hashes.reserve(count as usize)?;
+        let mut at = self.at;
+        let mut taken = 0;
+        while taken < count {
+            match self.number_at(at, u64::MAX) {
+                Some((hash, behind)) => {
+                    hashes.push_reserved(hash);
+                    at = behind;
+                    taken += 1;
+                }
+                None => break,
+            }
+        }
+        self.at = at;
+        Ok(taken)
+    }
+}
 
 impl<R: CountedRead> Input<'_, R> {
     #[inline(always)] // called for each literal of a list
@@ -32,9 +80,16 @@ impl<R: CountedRead> Input<'_, R> {
         requires { lits.old.items ≡ [] }
         ensures { ReadsFromInput (Times IsLiteral count) (giving lits.new.items result) R.seen self.old self.new }
     {
-        for _ in 0..count {
+        let mut left = count;
+        while left > 0 {
+            let taken = self.ahead.take_literals(left, lits)?;
+            left -= taken;
+            if taken > 0 {
+                continue;
+            }
             let lit = self.literal()?;
             lits.push(lit)?;
+            left -= 1;
         }
         Ok(())
     }
@@ -43,9 +98,16 @@ impl<R: CountedRead> Input<'_, R> {
         requires { hashes.old.items ≡ [] }
         ensures { ReadsFromInput (Times IsHash count) (giving hashes.new.items result) R.seen self.old self.new }
     {
-        for _ in 0..count {
+        let mut left = count;
+        while left > 0 {
+            let taken = self.ahead.take_hashes(left, hashes)?;
+            left -= taken;
+            if taken > 0 {
+                continue;
+            }
             let hash = self.number(u64::MAX)?;
             hashes.push(hash)?;
+            left -= 1;
         }
         Ok(())
     }
@@ -112,7 +174,7 @@ impl<R: CountedRead> Input<'_, R> {
 }
 
 impl<W: CountedWrite, P: Room> Output<W, P> {
-    pub(super) fn put_literals(&mut self, lits: &[Lit]) -> io::Result<()>
+    pub(super) fn put_literals(&mut self, lits: &[Lit]) -> Result<(), WriteFailed>
         ensures { spelling.SendsSpelling spelling.literals lits.now result W.seen P.waiting self.old self.new }
     {
         self.put_number(lits.len() as u64)?;
@@ -122,7 +184,7 @@ impl<W: CountedWrite, P: Room> Output<W, P> {
         Ok(())
     }
 
-    pub(super) fn put_hashes(&mut self, hashes: &[ClauseHash]) -> io::Result<()>
+    pub(super) fn put_hashes(&mut self, hashes: &[ClauseHash]) -> Result<(), WriteFailed>
         ensures { spelling.SendsSpelling spelling.hashes hashes.now result W.seen P.waiting self.old self.new }
     {
         self.put_number(hashes.len() as u64)?;
@@ -132,7 +194,7 @@ impl<W: CountedWrite, P: Room> Output<W, P> {
         Ok(())
     }
 
-    fn put_unit(&mut self, unit: (Lit, ClauseHash)) -> io::Result<()>
+    fn put_unit(&mut self, unit: (Lit, ClauseHash)) -> Result<(), WriteFailed>
         ensures { spelling.SendsSpelling (spelling.both spelling.a_literal spelling.a_hash) unit result W.seen P.waiting
             self.old self.new }
     {
@@ -141,7 +203,7 @@ impl<W: CountedWrite, P: Room> Output<W, P> {
         self.put_number(hash)
     }
 
-    pub(super) fn put_units(&mut self, units: &[(Lit, ClauseHash)]) -> io::Result<()>
+    pub(super) fn put_units(&mut self, units: &[(Lit, ClauseHash)]) -> Result<(), WriteFailed>
         ensures { spelling.SendsSpelling spelling.units units.now result W.seen P.waiting self.old self.new }
     {
         self.put_number(units.len() as u64)?;
@@ -151,7 +213,11 @@ impl<W: CountedWrite, P: Room> Output<W, P> {
         Ok(())
     }
 
-    pub(super) fn put_both_lists(&mut self, lits: &[Lit], hashes: &[ClauseHash]) -> io::Result<()>
+    pub(super) fn put_both_lists(
+        &mut self,
+        lits: &[Lit],
+        hashes: &[ClauseHash],
+    ) -> Result<(), WriteFailed>
         ensures { spelling.SendsSpelling spelling.both_lists (lits.now, hashes.now) result W.seen P.waiting self.old
             self.new }
     {

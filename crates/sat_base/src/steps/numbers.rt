@@ -1,17 +1,17 @@
 //! A number's bytes.
-ghost use Rattle.std.specs.Prelude.{◌≡◌, ◌+◌, ◌++◌, ◌<◌, ◌≤◌, ℕ, Some, None, length};
+ghost use Rattle.std.specs.Prelude.{◌≡◌, ◌+◌, ◌++◌, ◌-◌, ◌*◌, ◌^◌, ◌<◌, ◌≤◌, ℕ, Some, None, length};
 ghost use Rattle.sat_base.specs.device.Reading.{ReadsFromInput};
-ghost use Rattle.sat_base.specs.device.TakenAhead.{TakesNumber};
+ghost use Rattle.sat_base.specs.device.TakenAhead.{TakesNumber, StandsBetween};
 ghost use Rattle.sat_base.specs.device.Sink.{Sends, sink_of};
 ghost use Rattle.sat_base.specs.steps.StepBytes.{number_bytes};
 ghost use Rattle.sat_base.specs.steps.Numbers.{IsBelow};
 
 use crate::device::ahead::Ahead;
 use crate::device::input::Input;
+use crate::device::kept_error::WriteFailed;
 use crate::device::output::Output;
 use crate::device::room::Room;
 use crate::{CountedRead, CountedWrite, StepError};
-use std::io;
 
 /// The most bytes that a number of 64 bits has.
 const LONGEST: usize = 10;
@@ -19,14 +19,60 @@ const LONGEST: usize = 10;
 /// What the ninth group of a number counts.
 const LARGEST_PLACE: u64 = 1 << 56;
 
+/// Returns the number that `first` encodes, or `first` and `second` if the number goes on.
+#[inline(always)]
+fn one_or_two(first: u64, second: u64) -> u64
+    requires first { first < 256 }
+    requires second { second < 256 }
+    ensures one { first < 128 → result ≡ first }
+    ensures two { 128 ≤ first → result ≡ first - 128 + 128 * second }
+{
+    let long = first / 128;
+    first + 128 * long * second - 128 * long
+}
+
 impl Ahead {
-    /// Takes a number that is at most the largest, where it is whole among the bytes that wait and has at most eight.
+    /// Returns the number of at most four bytes at `from` and the position after it, or `from` itself if there is none.
     #[inline(always)] // each literal and each hash goes through it
-    pub(crate) fn take_number(&mut self, largest: u64) -> Option<u64>
-        ensures some { (number : ℕ) → result ≡ Some number → TakesNumber (largest + 1) number self.old self.new }
-        ensures none { result ≡ None → self.new ≡ self.old }
+    fn short_number_at(&self, from: usize) -> (u64, usize)
+        requires { from + 4 ≤ self.now.end }
+        ensures { (from < result.1 → StandsBetween (2 ^ 28) result.0 from result.1 self.now) }
     {
-        let mut at = self.at;
+        let first = self.byte_at(from) as u64;
+        if first < 128 {
+            return (first, from + 1);
+        }
+        let second = self.byte_at(from + 1) as u64;
+        if second < 128 {
+            if second == 0 {
+                return (0, from);
+            }
+            return (first - 128 + 128 * second, from + 2);
+        }
+        let third = self.byte_at(from + 2) as u64;
+        if third < 128 {
+            if third == 0 {
+                return (0, from);
+            }
+            return (first - 128 + 128 * (second - 128) + 16384 * third, from + 3);
+        }
+        let fourth = self.byte_at(from + 3) as u64;
+        if fourth < 128 && fourth > 0 {
+            return (
+                first - 128 + 128 * (second - 128) + 16384 * (third - 128) + 2097152 * fourth,
+                from + 4,
+            );
+        }
+        (0, from)
+    }
+
+    /// Returns the number of at most eight bytes at `from`, if it is complete.
+    #[inline(never)] // keeps the path of short numbers small
+    fn long_number_at(&self, from: usize, largest: u64) -> Option<(u64, usize)>
+        ensures { (number behind : ℕ) → result ≡ Some (number, behind)
+            → StandsBetween (largest + 1) number from behind self.now }
+    {
+        let mut at = from;
         let mut value = 0;
         let mut place = 1;
         while at < self.end && place < LARGEST_PLACE {
@@ -37,13 +83,64 @@ impl Ahead {
                 if number > largest || byte == 0 && place > 1 {
                     return None;
                 }
-                self.at = at;
-                return Some(number);
+                return Some((number, at));
             }
             value += place * (byte - 128);
             place *= 128;
         }
         None
+    }
+
+    /// Returns the number at `from` and the position after it, if the number is complete among the buffered bytes, has
+    /// at most eight bytes and is at most `largest`.
+    #[inline(always)] // each literal and each hash goes through it
+    pub(super) fn number_at(&self, from: usize, largest: u64) -> Option<(u64, usize)>
+        ensures { (number behind : ℕ) → result ≡ Some (number, behind)
+            → StandsBetween (largest + 1) number from behind self.now }
+    {
+        if self.end >= 4 && from <= self.end - 4 {
+            let (number, behind) = self.short_number_at(from);
+            if behind > from && number <= largest {
+                return Some((number, behind));
+            }
+        }
+        self.long_number_at(from, largest)
+    }
+
+    /// Does what `number_at` does. Numbers of one and two bytes take the same branch, since their order is unpredictable.
+    #[inline(always)] // each literal goes through it
+    pub(super) fn code_at(&self, from: usize, largest: u64) -> Option<(u64, usize)>
+        ensures { (number behind : ℕ) → result ≡ Some (number, behind)
+            → StandsBetween (largest + 1) number from behind self.now }
+    {
+        if self.end >= 2 && from <= self.end - 2 {
+            let first = self.byte_at(from) as u64;
+            let second = self.byte_at(from + 1) as u64;
+            let other = (second == 0) | (second >= 128);
+            if !((first >= 128) & other) {
+                let number = one_or_two(first, second);
+                if number > largest {
+                    return None;
+                }
+                return Some((number, from + 1 + (first / 128) as usize));
+            }
+        }
+        self.number_at(from, largest)
+    }
+
+    /// Takes a number, if it is complete among the buffered bytes, has at most eight bytes and is at most `largest`.
+    #[inline(always)] // each number that stands alone goes through it
+    pub(crate) fn take_number(&mut self, largest: u64) -> Option<u64>
+        ensures some { (number : ℕ) → result ≡ Some number → TakesNumber (largest + 1) number self.old self.new }
+        ensures none { result ≡ None → self.new ≡ self.old }
+    {
+        match self.number_at(self.at, largest) {
+            Some((number, behind)) => {
+                self.at = behind;
+                Some(number)
+            }
+            None => None,
+        }
     }
 }
 
@@ -111,7 +208,7 @@ fn push_number<P: Room>(pending: &mut P, number: u64)
 impl<W: CountedWrite, P: Room> Output<W, P> {
     /// Where there is room for the longest number, no byte asks for it again.
     #[inline(always)] // each literal and each hash goes through it
-    pub(super) fn put_number(&mut self, number: u64) -> io::Result<()>
+    pub(super) fn put_number(&mut self, number: u64) -> Result<(), WriteFailed>
         ensures { Sends (number_bytes number) result (sink_of W.seen P.waiting self.old)
             (sink_of W.seen P.waiting self.new) }
     {
@@ -124,7 +221,7 @@ impl<W: CountedWrite, P: Room> Output<W, P> {
 
     /// Puts a number byte by byte: what waits may have to be written out before one of them.
     #[inline(never)] // so that numbers for which there is room pay nothing for it
-    fn put_by_bytes(&mut self, number: u64) -> io::Result<()>
+    fn put_by_bytes(&mut self, number: u64) -> Result<(), WriteFailed>
         ensures { Sends (number_bytes number) result (sink_of W.seen P.waiting self.old)
             (sink_of W.seen P.waiting self.new) }
     {

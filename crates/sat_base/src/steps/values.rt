@@ -6,11 +6,11 @@ ghost use Rattle.sat_base.specs.steps.StepText.{IsVariable, IsOptionalVariable, 
 ghost use Rattle.sat_base.specs.steps.StepViews.{deletion_of};
 
 use crate::device::input::Input;
+use crate::device::kept_error::WriteFailed;
 use crate::device::output::Output;
 use crate::device::room::Room;
 use crate::var::MAX_COUNT;
 use crate::{CountedRead, CountedWrite, DeleteClauseProof, HashBits, StepError, Var};
-use std::io;
 
 /// The largest index of a variable.
 const LARGEST_INDEX: u64 = MAX_COUNT as u64 - 1;
@@ -65,13 +65,13 @@ impl<R: CountedRead> Input<'_, R> {
 }
 
 impl<W: CountedWrite, P: Room> Output<W, P> {
-    pub(super) fn put_variable(&mut self, var: Var) -> io::Result<()>
+    pub(super) fn put_variable(&mut self, var: Var) -> Result<(), WriteFailed>
         ensures { SendsSpelling a_variable var result W.seen P.waiting self.old self.new }
     {
         self.put_number(var.index() as u64)
     }
 
-    pub(super) fn put_optional(&mut self, var: Option<Var>) -> io::Result<()>
+    pub(super) fn put_optional(&mut self, var: Option<Var>) -> Result<(), WriteFailed>
         ensures { SendsSpelling an_optional_variable var result W.seen P.waiting self.old self.new }
     {
         match var {
@@ -80,7 +80,7 @@ impl<W: CountedWrite, P: Room> Output<W, P> {
         }
     }
 
-    pub(super) fn put_flag(&mut self, flag: bool) -> io::Result<()>
+    pub(super) fn put_flag(&mut self, flag: bool) -> Result<(), WriteFailed>
         ensures { SendsSpelling a_flag flag result W.seen P.waiting self.old self.new }
     {
         if flag {
@@ -90,13 +90,13 @@ impl<W: CountedWrite, P: Room> Output<W, P> {
         }
     }
 
-    pub(super) fn put_width(&mut self, bits: HashBits) -> io::Result<()>
+    pub(super) fn put_width(&mut self, bits: HashBits) -> Result<(), WriteFailed>
         ensures { SendsSpelling a_width bits result W.seen P.waiting self.old self.new }
     {
         self.put_number(bits.get() as u64)
     }
 
-    pub(super) fn put_deletion(&mut self, proof: DeleteClauseProof) -> io::Result<()>
+    pub(super) fn put_deletion(&mut self, proof: DeleteClauseProof) -> Result<(), WriteFailed>
         ensures { SendsSpelling a_deletion (deletion_of proof) result W.seen P.waiting self.old self.new }
     {
         match proof {

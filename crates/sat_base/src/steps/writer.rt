@@ -40,14 +40,19 @@ impl<W: CountedWrite> StepWriter<W> {
             (steps_sink W.seen self.new) }
         ensures spells { OnOk result (SpellsStep (step_of step.now) (step_bytes (step_of step.now))) }
     {
-        self.output.put_step(step)
+        let put = self.output.put_step(step);
+        if put.is_ok() {
+            return Ok(());
+        }
+        self.output.give_error(put)
     }
 
     /// Writes out what waits, and flushes the writer.
     pub fn flush(&mut self) -> io::Result<()>
         ensures { Flushes result (steps_sink W.seen self.old) (steps_sink W.seen self.new) }
     {
-        self.output.flush()
+        let flushed = self.output.flush();
+        self.output.give_error(flushed)
     }
 
     /// The writer, and whether what waited was written out. Where nothing waited nothing is done.
@@ -57,7 +62,8 @@ impl<W: CountedWrite> StepWriter<W> {
         ensures idle { (steps_sink W.seen self).waiting ≡ [] → W.seen result.0 ≡ (steps_sink W.seen self).writer }
     {
         let StepWriter { mut output } = self;
-        let result = output.write_rest();
+        let rest = output.write_rest();
+        let result = output.give_error(rest);
         (output.into_writer(), result)
     }
 
@@ -77,7 +83,8 @@ pub fn write_step<W: CountedWrite>(writer: &mut W, step: &ProofStep<'_>) -> io::
     ensures spells { OnOk result (SpellsStep (step_of step.now) (step_bytes (step_of step.now))) }
 {
     let mut output: Output<&mut W, Pending<SHORT_PIECE>> = Output::new(writer, Pending::new());
-    let result = output.write_step(step);
+    let written = output.write_step(step);
+    let result = output.give_error(written);
     let _writer = output.into_writer();
     result
 }

@@ -56,7 +56,7 @@ consed : {A : Type 0} (x : A) (r : Result (List A) StepError) → valued {A = A 
 consed x (Ok y) = refl
 consed x (Err e) = refl
 
-item_read : {A : Type 0} (F : Format A) → OneForm F → (n : ℕ) (x : A) (old mid new : Source) → ReadsValue F (Ok x) old mid → (r : Result (List A) StepError) → ReadsValue (Times F n) r mid new → ReadsValue (Times F (suc n)) (with_front (x ∷ []) r) old new
+pub item_read : {A : Type 0} (F : Format A) → OneForm F → (n : ℕ) (x : A) (old mid new : Source) → ReadsValue F (Ok x) old mid → (r : Result (List A) StepError) → ReadsValue (Times F n) r mid new → ReadsValue (Times F (suc n)) (with_front (x ∷ []) r) old new
 item_read {A} F one n x old mid new i r h =
     subst (λ (z : Result (List A) StepError). ReadsValue (Times F (suc n)) z old new) (consed x r)
     (reads_as (Then F (λ _. Times F n)) (Times F (suc n)) (λ y. y.0 ∷ y.1) (to_items F n) (from_items F n) (valued (λ y. (x, y)) r) old new (second_gives F (λ _. Times F n) one x i.0 old mid new i.2 i.1 r h))
@@ -65,7 +65,7 @@ item_read {A} F one n x old mid new i r h =
 pub record Counted {A : Type 0} (F : Format A) (count left : ℕ) (xs : List A) (old mid : Source) : Type 0 where
   pub rests : (r : Result (List A) StepError) (new : Source) → ReadsValue (Times F left) r mid new → ReadsValue (Times F count) (with_front xs r) old new
 
-front_none : {A : Type 0} (r : Result (List A) StepError) → r ≡ with_front [] r
+pub front_none : {A : Type 0} (r : Result (List A) StepError) → r ≡ with_front [] r
 front_none (Ok x) = refl
 front_none (Err e) = refl
 

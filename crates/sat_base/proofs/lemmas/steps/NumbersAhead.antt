@@ -1,6 +1,8 @@
 -- Numbers that stand whole among the bytes that wait.
-use Rattle.std.proofs.Common.{◌≡◌, ℕ, zero, suc, ◌+◌, ◌*◌, ◌-◌, ◌<◌, ◌≤◌, List, [], ◌∷◌, ◌++◌, ◌⊎◌, inl, inr, append_assoc, refl, sym, ap, ◌∙◌, arith}
+use Rattle.std.proofs.Common.{◌≡◌, ℕ, zero, suc, ◌+◌, ◌*◌, ◌-◌, ◌<◌, ◌≤◌, List, [], ◌∷◌, ◌++◌, ◌⊎◌, inl, inr, Option, Some, None, append_assoc, refl, sym, ap, subst, ◌∙◌, arith}
 use Rattle.std.proofs.Math.Nat.{mul-le-mul_left}
+use Rattle.sat_base.specs.declared.device.ahead.Ahead.{Ahead}
+use Rattle.sat_base.specs.device.TakenAhead.{StandsBetween, from}
 use Rattle.sat_base.specs.steps.Numbers.{IsBelow}
 use Rattle.sat_base.proofs.lemmas.steps.Numbers.{Front, front_none, front_more, last_read}
 
@@ -45,3 +47,30 @@ pub looked_at_last : (limit value place b : ℕ) (whole rest more : List ℕ) �
     → (text : List ℕ) × IsBelow limit (value + place * b) text × (whole ≡ text ++ more)
 looked_at_last limit value place b whole rest more l e p z h =
     (l.front ++ b ∷ [], last_read limit l.front value place b l.is p (last_begins l.front place b l.begun z) h, split_more whole l.front rest more b l.split e)
+
+-- the number that was read, and the place behind it
+abbrev told : Option (ℕ × ℕ) → ℕ × ℕ
+told (Some p) = p
+told None = (0, 0)
+
+pub stands_between : (limit m n at after behind : ℕ) (a : Ahead) → (let p : Option (ℕ × ℕ) = Some (m, after) in let q : Option (ℕ × ℕ) = Some (n, behind) in p ≡ q) → StandsBetween limit m at after a → StandsBetween limit n at behind a
+stands_between limit m n at after behind a e s =
+    let f : m ≡ n = ap (λ (p : Option (ℕ × ℕ)). (told p).0) e in
+    let g : after ≡ behind = ap (λ (p : Option (ℕ × ℕ)). (told p).1) e in
+    subst (λ (k : ℕ). StandsBetween limit k at behind a) f (subst (λ (k : ℕ). StandsBetween limit m at k a) g s)
+
+-- the same below another limit
+pub stands_below : (limit more n at behind : ℕ) (a : Ahead) → n < more → StandsBetween limit n at behind a → StandsBetween more n at behind a
+stands_below limit more n at behind a h s = (s.0, (s.1.0, h), s.2)
+
+-- a last group behind those that were looked at
+pub stands_last : (limit value place b n at next behind : ℕ) (a : Ahead) (rest : List ℕ) → LookedAt value place (from at a) rest → rest ≡ b ∷ from next a → b < 128 → (0 < b) ⊎ (place ≤ 1) → value + place * b ≡ n → n < limit → next ≡ behind
+    → StandsBetween limit n at behind a
+stands_last limit value place b n at next behind a rest l e p z v h w =
+    subst (λ (k : ℕ). StandsBetween limit k at behind a) v (subst (λ (k : ℕ). StandsBetween limit (value + place * b) at k a) w (looked_at_last limit value place b (from at a) rest (from next a) l e p z (omega (arith, v, h))))
+
+-- a group that goes on, and what stands behind it
+pub looked_on : (value place b at next after : ℕ) (a : Ahead) (rest : List ℕ) → LookedAt value place (from at a) rest → rest ≡ b ∷ from next a → 128 ≤ b → b < 256 → next ≡ after
+    → LookedAt (value + place * (b - 128)) (place * 128) (from at a) (from after a)
+looked_on value place b at next after a rest l e p q w =
+    subst (λ (k : ℕ). LookedAt (value + place * (b - 128)) (place * 128) (from at a) (from k a)) w (looked_at_more value place b (from at a) rest (from next a) l e p q)

@@ -1,8 +1,10 @@
-use Rattle.std.proofs.Common.{◌-◌}
 use Rattle.sat_base.specs.steps.StepText.{IsLiteral}
 use Rattle.sat_base.specs.device.Reading.{source_of}
 use Rattle.sat_base.proofs.lemmas.steps.FormatReads.{Counted}
 use Rattle.sat_base.proofs.device.input.Input.literal_items.Given as goal
 
-abbrev pub invariant-loop : goal.invariant-loop
-invariant-loop g l = Counted IsLiteral l.count (l.count - l.counter) l.lits.items (source_of g.R.CountedRead.seen l.fn.self) (source_of g.R.CountedRead.seen l.self)
+abbrev pub invariant-loop-left : goal.invariant-loop-left
+invariant-loop-left g l = Counted IsLiteral l.count l.left l.lits.items (source_of g.R.CountedRead.seen l.fn.self) (source_of g.R.CountedRead.seen l.self)
+
+abbrev pub decreases-loop-left : goal.decreases-loop-left
+decreases-loop-left g l = l.left
