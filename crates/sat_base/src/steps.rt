@@ -6,6 +6,7 @@ mod groups;
 mod kind;
 mod lists;
 mod numbers;
+mod push;
 mod reader;
 mod step;
 mod step_lists;

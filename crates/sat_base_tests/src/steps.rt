@@ -20,6 +20,20 @@ fn written(alloc: Global, step: &ProofStep<'_>) -> Option<Vec<u8>> {
     if is_written { Some(text) } else { None }
 }
 
+/// Whether there was room for a step in a new writer of steps, and the text that it took.
+fn tried(alloc: Global, step: &ProofStep<'_>) -> (bool, Vec<u8>) {
+    let mut steps = StepWriter::new(Counted::new(Vec::new(alloc)));
+    let is_tried = steps.try_write(step);
+    let (writer, end) = steps.into_inner();
+    (is_tried && end.is_ok(), writer.into_inner())
+}
+
+/// Tests whether a step has this text where it is only written if there is room.
+fn is_tried_so(alloc: Global, step: &ProofStep<'_>, text: &[u8]) -> bool {
+    let (is_tried, found) = tried(alloc, step);
+    is_tried && found.as_slice() == text
+}
+
 /// The errors of two calls.
 type Errors = (StepError, Option<StepError>);
 
@@ -107,6 +121,7 @@ fn has_text(alloc: Global, step: &ProofStep<'_>, text: &[u8]) -> bool {
     match written(alloc, step) {
         Some(found) => {
             found.as_slice() == text
+                && is_tried_so(alloc, step, text)
                 && both_give(alloc, text, text, AT_THE_END)
                 && begins_with_tag(alloc, text)
         }
@@ -494,6 +509,16 @@ fn a_long_step_is_read_again(rt: HostRuntime) {
         assignment: lits.as_slice(),
     };
     assert!(rt; length_again(rt.alloc(), &long) == Some(15003));
+}
+
+#[test]
+fn a_long_step_has_no_room(rt: HostRuntime) {
+    let lits = many_lits(rt.alloc(), 268000000);
+    let long = ProofStep::Model {
+        assignment: lits.as_slice(),
+    };
+    let (is_tried, taken) = tried(rt.alloc(), &long);
+    assert!(rt; !is_tried && taken.is_empty());
 }
 
 /// Writes a step to a writer that takes so many bytes a call, of which one fails, counted from 1. Gives whether the

@@ -11,3 +11,4 @@ pub mod OneSpelling
 pub mod StepReads
 pub mod TagForms
 pub mod TakenItems
+pub mod Pushing

@@ -1,5 +1,5 @@
 -- Bytes that wait: to be written, or to be taken.
-use Rattle.std.specs.Prelude.{List, ℕ, take, drop}
+use Rattle.std.specs.Prelude.{List, ℕ, ◌≡◌, ◌+◌, ◌≤◌, length, take, drop}
 use Rattle.sat_base.specs.declared.device.ahead.Ahead.{Ahead}
 use Rattle.sat_base.specs.declared.device.pending.Pending.{Pending}
 
@@ -10,3 +10,11 @@ waiting_in p = take p.len p.bytes
 -- the bytes read and not yet taken
 abbrev pub waiting : Ahead → List ℕ
 waiting a = drop a.at (take a.end a.piece)
+
+-- there is room for this many bytes more
+abbrev pub HasRoomFor : {P : Type 0} → ℕ → (P → List ℕ) → (P → ℕ) → P → Type 0
+HasRoomFor count waiting size p = length (waiting p) + count ≤ size p
+
+-- at most this many bytes more wait, in what is as large as it was
+abbrev pub Takes : {P : Type 0} → ℕ → (P → List ℕ) → (P → ℕ) → P → P → Type 0
+Takes count waiting size old new = (length (waiting new) ≤ length (waiting old) + count) × (size new ≡ size old)

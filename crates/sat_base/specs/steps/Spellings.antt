@@ -2,7 +2,7 @@
 use Rattle.std.specs.Prelude.{ℕ, Bool, Option, List, Result, ◌++◌}
 use Rattle.sat_base.specs.declared.device.output.Output.{Output}
 use Rattle.sat_base.specs.device.Device.{Writer}
-use Rattle.sat_base.specs.device.Sink.{Writes, sink_of}
+use Rattle.sat_base.specs.device.Sink.{Sent, Writes, sink_of}
 use Rattle.sat_base.specs.steps.Formats.{Format, Both}
 use Rattle.sat_base.specs.steps.Steps.{Deletion, Step}
 use Rattle.sat_base.specs.steps.StepText.{IsVariable, IsOptionalVariable, IsLiteral, IsHash, IsFlag, IsWidth, IsDeletion, AreLiterals, AreHashes, AreHashedLiterals, SpellsFields, SpellsStep}
@@ -89,3 +89,7 @@ a_step = record { format = SpellsStep; bytes = step_bytes }
 abbrev pub SendsSpelling : {A E W P : Type 0} → Spelling A → A → Result (Unit {0}) E → (W → Writer) → (P → List ℕ)
     → Output W P → Output W P → Type 0
 SendsSpelling s x r seen waiting old new = Writes s.format x (s.bytes x) r (sink_of seen waiting old) (sink_of seen waiting new)
+
+-- a value's spelling waits behind what waited
+abbrev pub Pushes : {A W P : Type 0} → Spelling A → A → (W → Writer) → (P → List ℕ) → Output W P → Output W P → Type 0
+Pushes s x seen waiting old new = Sent (sink_of seen waiting old) (sink_of seen waiting new) (s.bytes x) × s.format x (s.bytes x)

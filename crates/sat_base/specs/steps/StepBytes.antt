@@ -65,3 +65,19 @@ fields_bytes End = []
 -- a step's tag, and what stands behind it
 abbrev pub step_bytes : Step → List ℕ
 step_bytes step = tag_of step ∷ fields_bytes step
+
+-- the items of a step's lists, of which a unit is two
+abbrev pub items_in : Step → ℕ
+items_in (SolverVarName global solver) = 0
+items_in (UserVarName global user) = 0
+items_in (DeleteVar v) = 0
+items_in (ChangeSamplingMode v sample) = 0
+items_in (AddClause clause) = length clause
+items_in (AtClause redundant clause hashes) = length clause + length hashes
+items_in (UnitClauses units) = length units + length units
+items_in (DeleteClause clause proof) = length clause
+items_in (ChangeHashBits bits) = 0
+items_in (Model assignment) = length assignment
+items_in (Assumptions assumptions) = length assumptions
+items_in (FailedAssumptions core hashes) = length core + length hashes
+items_in End = 0

@@ -16,7 +16,8 @@ use crate::steps::kind::Kind;
 use crate::steps::step_lists::Lists;
 use crate::{CountedRead, CountedWrite, ProofStep, StepError};
 
-fn tag(step: &ProofStep<'_>) -> u8
+#[inline(always)] // most callers know the step
+pub(super) fn tag(step: &ProofStep<'_>) -> u8
     ensures { result ≡ tag_of (step_of step.now) }
 {
     match *step {

@@ -14,7 +14,7 @@ use crate::device::room::Room;
 use crate::{CountedRead, CountedWrite, StepError};
 
 /// The most bytes that a number of 64 bits has.
-const LONGEST: usize = 10;
+pub(super) const LONGEST: usize = 10;
 
 /// What the ninth group of a number counts.
 const LARGEST_PLACE: u64 = 1 << 56;
@@ -192,9 +192,10 @@ impl<R: CountedRead> Input<'_, R> {
 
 /// Lets a number's bytes wait, for which there is room.
 #[inline(always)] // each literal and each hash goes through it
-fn push_number<P: Room>(pending: &mut P, number: u64)
+pub(super) fn push_number<P: Room>(pending: &mut P, number: u64)
     requires room { length (P.waiting pending.old) + 10 ≤ P.size pending.old }
     ensures waiting { P.waiting pending.new ≡ P.waiting pending.old ++ number_bytes number }
+    ensures short { length (P.waiting pending.new) ≤ length (P.waiting pending.old) + 10 }
     ensures size { P.size pending.new ≡ P.size pending.old }
 {
     let mut rest = number;

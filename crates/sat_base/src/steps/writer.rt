@@ -1,7 +1,7 @@
 //! Writing proof steps.
-ghost use Rattle.std.specs.Prelude.{◌≡◌, [], OnOk};
+ghost use Rattle.std.specs.Prelude.{◌≡◌, [], OnOk, true, false};
 ghost use Rattle.sat_base.specs.device.Device.{Puts};
-ghost use Rattle.sat_base.specs.device.Sink.{Sends, Flushes, empty_sink};
+ghost use Rattle.sat_base.specs.device.Sink.{Sends, Sent, Flushes, empty_sink};
 ghost use Rattle.sat_base.specs.steps.StepBytes.{step_bytes};
 ghost use Rattle.sat_base.specs.steps.StepText.{SpellsStep};
 ghost use Rattle.sat_base.specs.steps.StepViews.{step_of};
@@ -45,6 +45,17 @@ impl<W: CountedWrite> StepWriter<W> {
             return Ok(());
         }
         self.output.give_error(put)
+    }
+
+    /// Lets a step's bytes wait where there surely is room for them all, and returns whether there is. Calls no writer.
+    #[inline(always)] // so that a caller's step needs no space in memory
+    pub fn try_write(&mut self, step: &ProofStep<'_>) -> bool
+        ensures sends { result ≡ true → Sent (steps_sink W.seen self.old) (steps_sink W.seen self.new)
+            (step_bytes (step_of step.now)) }
+        ensures spells { result ≡ true → SpellsStep (step_of step.now) (step_bytes (step_of step.now)) }
+        ensures stays { result ≡ false → self.new ≡ self.old }
+    {
+        self.output.try_step(step)
     }
 
     /// Writes out what waits, and flushes the writer.

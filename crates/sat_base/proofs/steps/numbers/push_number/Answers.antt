@@ -1,5 +1,6 @@
 use Rattle.std.proofs.Common.{◌%◌, ◌+◌, ◌∙◌, refl, arith}
 use Rattle.sat_base.proofs.lemmas.steps.NumberBytes.{wait_none, wait_more, wait_end}
+use Rattle.sat_base.proofs.lemmas.steps.Pushing.{number_is_short}
 use Rattle.sat_base.proofs.steps.numbers.push_number.Goals as goal
 
 pub loop-rest-init : goal.loop-rest-init
@@ -13,7 +14,9 @@ loop-rest-preserved g c =
 pub returns : goal.returns
 returns g c =
     let i = c.loop-rest.invariant in
+    let w = wait_end c.args.number c.loop-rest.rest _ _ _ _ c.loop-rest-test.false i.0 c.push-2.ensures.waiting in
     record {
-      waiting = wait_end c.args.number c.loop-rest.rest _ _ _ _ c.loop-rest-test.false i.0 c.push-2.ensures.waiting;
+      waiting = w;
+      short = number_is_short _ _ c.args.number w;
       size = c.push-2.ensures.size ∙ i.1;
     }

@@ -1,0 +1,10 @@
+use Rattle.std.proofs.Common.{arith}
+use Rattle.sat_base.specs.device.Sink.{sink_of}
+use Rattle.sat_base.proofs.lemmas.steps.NumberBytes.{number_writes}
+use Rattle.sat_base.proofs.lemmas.steps.Pushing.{pushed}
+use Rattle.sat_base.proofs.device.output.Output.push_width.Goals as goal
+
+pub returns-clause-sends : goal.returns-clause-sends
+returns-clause-sends g c =
+    let S = g.W.CountedWrite.seen in
+    number_writes 65 c.get.result c.args.bits (sink_of S g.P.Room.waiting c.args.self.now) (sink_of S g.P.Room.waiting c.push_one.new.self) pushed c.get.ensures.value (omega (arith, c.get.ensures.value, c.get.ensures.bound)) (omega arith) c.push_one.ensures.sends

@@ -1,0 +1,265 @@
+//! Steps for whose bytes there is room among those that wait: no call of the writer, and so no error.
+ghost use Rattle.std.specs.Prelude.{◌≡◌, ◌+◌, ◌*◌, ◌≤◌, length, true, false};
+ghost use Rattle.sat_base.specs.device.Sink.{Sent, sink_of};
+ghost use Rattle.sat_base.specs.device.Waiting.{HasRoomFor, Takes};
+ghost use Rattle.sat_base.specs.steps.Spellings as spelling;
+ghost use Rattle.sat_base.specs.steps.StepBytes.{number_bytes, items_in};
+ghost use Rattle.sat_base.specs.steps.StepViews.{step_of, deletion_of};
+
+use crate::device::output::Output;
+use crate::device::room::Room;
+use crate::steps::fields::tag;
+use crate::steps::numbers::{LONGEST, push_number};
+use crate::{ClauseHash, CountedWrite, DeleteClauseProof, HashBits, Lit, ProofStep, Var};
+
+/// The lengths of a step's two lists, of which a list of units counts as both.
+#[inline(always)] // most steps have one arm, which their caller knows
+fn list_lengths(step: &ProofStep<'_>) -> (usize, usize)
+    ensures { result.0 + result.1 ≡ items_in (step_of step.now) }
+{
+    match *step {
+        ProofStep::AddClause { clause } => (clause.len(), 0),
+        ProofStep::AtClause {
+            clause,
+            propagation_hashes,
+            ..
+        } => (clause.len(), propagation_hashes.len()),
+        ProofStep::UnitClauses { units } => (units.len(), units.len()),
+        ProofStep::DeleteClause { clause, .. } => (clause.len(), 0),
+        ProofStep::Model { assignment } => (assignment.len(), 0),
+        ProofStep::Assumptions { assumptions } => (assumptions.len(), 0),
+        ProofStep::FailedAssumptions {
+            failed_core,
+            propagation_hashes,
+        } => (failed_core.len(), propagation_hashes.len()),
+        _ => (0, 0),
+    }
+}
+
+impl<W: CountedWrite, P: Room> Output<W, P> {
+    #[inline(always)]
+    fn push_one(&mut self, number: u64)
+        requires { HasRoomFor 10 P.waiting P.size self.old.pending }
+        ensures sends { Sent (sink_of W.seen P.waiting self.old) (sink_of W.seen P.waiting self.new)
+            (number_bytes number) }
+        ensures room { Takes 10 P.waiting P.size self.old.pending self.new.pending }
+    {
+        push_number(&mut self.pending, number);
+    }
+
+    #[inline(always)]
+    fn push_variable(&mut self, var: Var)
+        requires { HasRoomFor 10 P.waiting P.size self.old.pending }
+        ensures sends { spelling.Pushes spelling.a_variable var W.seen P.waiting self.old self.new }
+        ensures room { Takes 10 P.waiting P.size self.old.pending self.new.pending }
+    {
+        self.push_one(var.index() as u64);
+    }
+
+    #[inline(always)]
+    fn push_optional(&mut self, var: Option<Var>)
+        requires { HasRoomFor 10 P.waiting P.size self.old.pending }
+        ensures sends { spelling.Pushes spelling.an_optional_variable var W.seen P.waiting self.old self.new }
+        ensures room { Takes 10 P.waiting P.size self.old.pending self.new.pending }
+    {
+        match var {
+            None => self.push_one(0),
+            Some(var) => self.push_one(var.index() as u64 + 1),
+        }
+    }
+
+    #[inline(always)]
+    fn push_flag(&mut self, flag: bool)
+        requires { HasRoomFor 10 P.waiting P.size self.old.pending }
+        ensures sends { spelling.Pushes spelling.a_flag flag W.seen P.waiting self.old self.new }
+        ensures room { Takes 10 P.waiting P.size self.old.pending self.new.pending }
+    {
+        if flag {
+            self.push_one(1)
+        } else {
+            self.push_one(0)
+        }
+    }
+
+    #[inline(always)]
+    fn push_width(&mut self, bits: HashBits)
+        requires { HasRoomFor 10 P.waiting P.size self.old.pending }
+        ensures sends { spelling.Pushes spelling.a_width bits W.seen P.waiting self.old self.new }
+        ensures room { Takes 10 P.waiting P.size self.old.pending self.new.pending }
+    {
+        self.push_one(bits.get() as u64);
+    }
+
+    #[inline(always)]
+    fn push_deletion(&mut self, proof: DeleteClauseProof)
+        requires { HasRoomFor 10 P.waiting P.size self.old.pending }
+        ensures sends { spelling.Pushes spelling.a_deletion (deletion_of proof) W.seen P.waiting self.old self.new }
+        ensures room { Takes 10 P.waiting P.size self.old.pending self.new.pending }
+    {
+        match proof {
+            DeleteClauseProof::Redundant => self.push_one(0),
+            DeleteClauseProof::Simplified => self.push_one(1),
+            DeleteClauseProof::Satisfied => self.push_one(2),
+        }
+    }
+
+    #[inline(always)]
+    fn push_literals(&mut self, lits: &[Lit])
+        requires { HasRoomFor (10 * (length lits.now + 1)) P.waiting P.size self.old.pending }
+        ensures sends { spelling.Pushes spelling.literals lits.now W.seen P.waiting self.old self.new }
+        ensures room { Takes (10 * (length lits.now + 1)) P.waiting P.size self.old.pending self.new.pending }
+    {
+        self.push_one(lits.len() as u64);
+        for lit in lits {
+            self.push_one(lit.code() as u64);
+        }
+    }
+
+    #[inline(always)]
+    fn push_hashes(&mut self, hashes: &[ClauseHash])
+        requires { HasRoomFor (10 * (length hashes.now + 1)) P.waiting P.size self.old.pending }
+        ensures sends { spelling.Pushes spelling.hashes hashes.now W.seen P.waiting self.old self.new }
+        ensures room { Takes (10 * (length hashes.now + 1)) P.waiting P.size self.old.pending self.new.pending }
+    {
+        self.push_one(hashes.len() as u64);
+        for hash in hashes {
+            self.push_one(*hash);
+        }
+    }
+
+    #[inline(always)]
+    fn push_unit(&mut self, unit: (Lit, ClauseHash))
+        requires { HasRoomFor 20 P.waiting P.size self.old.pending }
+        ensures sends { spelling.Pushes (spelling.both spelling.a_literal spelling.a_hash) unit W.seen P.waiting
+            self.old self.new }
+        ensures room { Takes 20 P.waiting P.size self.old.pending self.new.pending }
+    {
+        let (lit, hash) = unit;
+        self.push_one(lit.code() as u64);
+        self.push_one(hash);
+    }
+
+    fn push_units(&mut self, units: &[(Lit, ClauseHash)])
+        requires { HasRoomFor (20 * length units.now + 10) P.waiting P.size self.old.pending }
+        ensures sends { spelling.Pushes spelling.units units.now W.seen P.waiting self.old self.new }
+        ensures room { Takes (20 * length units.now + 10) P.waiting P.size self.old.pending self.new.pending }
+    {
+        self.push_one(units.len() as u64);
+        for unit in units {
+            self.push_unit(*unit);
+        }
+    }
+
+    #[inline(always)]
+    fn push_variables(&mut self, first: Var, second: Option<Var>)
+        requires { HasRoomFor 20 P.waiting P.size self.old.pending }
+        ensures { spelling.Pushes spelling.variables (first, second) W.seen P.waiting self.old self.new }
+    {
+        self.push_variable(first);
+        self.push_optional(second);
+    }
+
+    #[inline(always)]
+    fn push_mode(&mut self, var: Var, sample: bool)
+        requires { HasRoomFor 20 P.waiting P.size self.old.pending }
+        ensures { spelling.Pushes spelling.a_mode (var, sample) W.seen P.waiting self.old self.new }
+    {
+        self.push_variable(var);
+        self.push_flag(sample);
+    }
+
+    #[inline(always)]
+    fn push_both_lists(&mut self, lits: &[Lit], hashes: &[ClauseHash])
+        requires { HasRoomFor (10 * (length lits.now + length hashes.now + 2)) P.waiting P.size self.old.pending }
+        ensures { spelling.Pushes spelling.both_lists (lits.now, hashes.now) W.seen P.waiting self.old self.new }
+    {
+        self.push_literals(lits);
+        self.push_hashes(hashes);
+    }
+
+    #[inline(always)]
+    fn push_derived(&mut self, redundant: bool, clause: &[Lit], hashes: &[ClauseHash])
+        requires { HasRoomFor (10 * (length clause.now + length hashes.now + 3)) P.waiting P.size self.old.pending }
+        ensures { spelling.Pushes spelling.a_derived (redundant, (clause.now, hashes.now)) W.seen P.waiting self.old
+            self.new }
+    {
+        self.push_flag(redundant);
+        self.push_both_lists(clause, hashes);
+    }
+
+    #[inline(always)]
+    fn push_deleted(&mut self, clause: &[Lit], proof: DeleteClauseProof)
+        requires { HasRoomFor (10 * (length clause.now + 2)) P.waiting P.size self.old.pending }
+        ensures { spelling.Pushes spelling.a_deleted (clause.now, deletion_of proof) W.seen P.waiting self.old
+            self.new }
+    {
+        self.push_literals(clause);
+        self.push_deletion(proof);
+    }
+
+    /// Lets what stands after the tag wait.
+    #[inline(always)]
+    fn push_fields(&mut self, step: &ProofStep<'_>)
+        requires { HasRoomFor (10 * (items_in (step_of step.now) + 3)) P.waiting P.size self.old.pending }
+        ensures { spelling.Pushes spelling.fields (step_of step.now) W.seen P.waiting self.old self.new }
+    {
+        match *step {
+            ProofStep::SolverVarName { global, solver } => self.push_variables(global, solver),
+            ProofStep::UserVarName { global, user } => self.push_variables(global, user),
+            ProofStep::DeleteVar { var } => self.push_variable(var),
+            ProofStep::ChangeSamplingMode { var, sample } => self.push_mode(var, sample),
+            ProofStep::AddClause { clause } => self.push_literals(clause),
+            ProofStep::AtClause {
+                redundant,
+                clause,
+                propagation_hashes,
+            } => self.push_derived(redundant, clause, propagation_hashes),
+            ProofStep::UnitClauses { units } => self.push_units(units),
+            ProofStep::DeleteClause { clause, proof } => self.push_deleted(clause, proof),
+            ProofStep::ChangeHashBits { bits } => self.push_width(bits),
+            ProofStep::Model { assignment } => self.push_literals(assignment),
+            ProofStep::Assumptions { assumptions } => self.push_literals(assumptions),
+            ProofStep::FailedAssumptions {
+                failed_core,
+                propagation_hashes,
+            } => self.push_both_lists(failed_core, propagation_hashes),
+            ProofStep::End => {}
+        }
+    }
+
+    /// Tests whether there is room for a step's bytes: a number takes at most ten, and beside its lists a step has at
+    /// most three, and its tag.
+    #[inline(always)]
+    fn has_room(&self, step: &ProofStep<'_>) -> bool
+        ensures { result ≡ true → HasRoomFor (10 * (items_in (step_of step.now) + 4)) P.waiting P.size
+            self.now.pending }
+    {
+        let spare = self.pending.free() / LONGEST;
+        let (first, second) = list_lengths(step);
+        4 <= spare && first <= spare - 4 && second <= spare - 4 - first
+    }
+
+    /// Lets a step's bytes wait, for which there is room.
+    #[inline(always)]
+    fn push_step(&mut self, step: &ProofStep<'_>)
+        requires { HasRoomFor (10 * (items_in (step_of step.now) + 4)) P.waiting P.size self.old.pending }
+        ensures { spelling.Pushes spelling.a_step (step_of step.now) W.seen P.waiting self.old self.new }
+    {
+        self.pending.push(tag(step));
+        self.push_fields(step);
+    }
+
+    /// Lets a step's bytes wait where there is room for them all, and returns whether there is.
+    #[inline(always)]
+    pub(super) fn try_step(&mut self, step: &ProofStep<'_>) -> bool
+        ensures sends { result ≡ true → spelling.Pushes spelling.a_step (step_of step.now) W.seen P.waiting self.old
+            self.new }
+        ensures stays { result ≡ false → self.new ≡ self.old }
+    {
+        if !self.has_room(step) {
+            return false;
+        }
+        self.push_step(step);
+        true
+    }
+}
