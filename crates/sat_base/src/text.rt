@@ -191,11 +191,12 @@ fn some_digits_in(bytes: &[u8]) -> Option<(u64, usize)>
     Some((value, count + 1))
 }
 
-/// The place behind a sign and digits at the front of these bytes, and how many bytes they are, if there are some.
+/// What a sign and digits at the front of these bytes say, and how many bytes they are, if there are some.
 #[inline(always)]
-fn number_in(bytes: &[u8]) -> Option<(Place, usize)>
-    ensures within { IfSome result (λ r. (0 < r.1) × (r.1 ≤ length bytes.now)) }
-    ensures moves { IfSome result (λ r. (old : Place) → BeginsWord old → MovesBy old (take r.1 bytes.now) r.0) }
+fn number_in(bytes: &[u8]) -> Option<(bool, u64, usize)>
+    ensures within { IfSome result (λ r. (0 < r.2) × (r.2 ≤ length bytes.now)) }
+    ensures moves { IfSome result (λ r. (old : Place) → BeginsWord old
+        → MovesBy old (take r.2 bytes.now) (Place.Digits r.0 r.1)) }
 {
     if bytes.is_empty() {
         return None;
@@ -203,11 +204,11 @@ fn number_in(bytes: &[u8]) -> Option<(Place, usize)>
     if bytes[0] != b'-' {
         let (value, count) = some_digits_in(bytes)?;
         let negative = false;
-        return Some((Place::Digits { negative, value }, count));
+        return Some((negative, value, count));
     }
     let (value, count) = some_digits_in(&bytes[1..])?;
     let negative = true;
-    Some((Place::Digits { negative, value }, count + 1))
+    Some((negative, value, count + 1))
 }
 
 /// Whether a word begins with the next byte, unless that begins a comment or a header, or ends the text.
@@ -415,9 +416,43 @@ impl Tokenizer {
         if !begins_word(self.place) {
             return None;
         }
-        let (place, count) = number_in(bytes)?;
-        self.place = place;
+        let (negative, value, count) = number_in(bytes)?;
+        self.place = Place::Digits { negative, value };
         Some(count)
+    }
+
+    /// Takes a number at the front of the bytes and the space or LF that ends it, where a word begins with them. Returns
+    /// how many bytes they are, whether the number is negative, and its value, held at 2^64-1. Otherwise it takes
+    /// nothing: what is no such number is for `push_some`.
+    #[inline(always)]
+    pub fn push_whole(&mut self, bytes: &[u8]) -> Option<(usize, bool, u64)>
+        ensures none { result ≡ None → self.new ≡ self.old }
+        ensures within { IfSome result (λ r. (0 < r.0) × (r.0 ≤ length bytes.now)) }
+        // As if these bytes were pushed one by one: the last ends this number.
+        ensures takes { IfSome result (λ r.
+            TakesFront self.old (take r.0 bytes.now) (Some (Token.Number r.1 r.2)) self.new) }
+        ensures right { (result ≡ None → ⊥) → (after : List ℕ → Scan) → StandsBefore self.new after
+            → RightAhead after }
+    {
+        if !begins_word(self.place) {
+            return None;
+        }
+        let (negative, value, count) = number_in(bytes)?;
+        // `-0` is a wrong word.
+        if count == bytes.len() || (negative && value == 0) {
+            return None;
+        }
+        let ended = bytes[count];
+        if ended == b' ' {
+            self.place = Place::Between;
+            return Some((count + 1, negative, value));
+        }
+        if ended == b'\n' {
+            self.place = Place::Fresh(false);
+            self.lines = self.lines.saturating_add(1);
+            return Some((count + 1, negative, value));
+        }
+        None
     }
 
     /// Takes one byte or more, of which only the last may end a token. Says how many, and gives the token. It takes all

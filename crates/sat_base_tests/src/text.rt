@@ -1,3 +1,5 @@
+ghost use Rattle.std.specs.Prelude.{◌<◌, ◌≤◌, length};
+
 use sat_base::{Token, Tokenizer};
 use std::slice::Iter;
 use std::test::*;
@@ -132,8 +134,21 @@ fn gives(row: &Row) -> bool {
     ends_on(&mut tokenizer, &mut left, row.2)
 }
 
+/// Takes a number with the blank that ends it, if the bytes begin so and this is wanted, else what `push_some` takes.
+fn take_some(tokenizer: &mut Tokenizer, bytes: &[u8], whole: bool) -> (usize, Option<Token>)
+    requires { 0 < length bytes.now }
+    ensures { result.0 ≤ length bytes.now }
+{
+    if whole {
+        if let Some((count, negative, value)) = tokenizer.push_whole(bytes) {
+            return (count, Some(Token::Number { negative, value }));
+        }
+    }
+    tokenizer.push_some(bytes)
+}
+
 /// Tests the same where all of a text is handed over.
-fn gives_at_once(row: &Row) -> bool {
+fn gives_at_once(row: &Row, whole: bool) -> bool {
     let mut tokenizer = Tokenizer::new();
     let mut left = row.1.iter();
     let mut rest = row.0;
@@ -141,7 +156,7 @@ fn gives_at_once(row: &Row) -> bool {
         if rest.is_empty() {
             break;
         }
-        let (count, token) = tokenizer.push_some(rest);
+        let (count, token) = take_some(&mut tokenizer, rest, whole);
         rest = &rest[count..];
         if !is_next(&mut left, tokenizer.line(), token) {
             return false;
@@ -244,7 +259,7 @@ fn lines() -> &'static [Row] {
 /// The first text that doesn't give what its row says.
 fn wrong_text() -> Option<&'static [u8]> {
     for row in lines() {
-        if !gives(row) || !gives_at_once(row) {
+        if !gives(row) || !gives_at_once(row, false) || !gives_at_once(row, true) {
             return Some(row.0);
         }
     }

@@ -8,3 +8,4 @@ pub mod SeveralBytes
 pub mod HeaderFirst
 pub mod PlainTokens
 pub mod RightWords
+pub mod WholeNumbers
