@@ -1,5 +1,5 @@
 //! A value for each place.
-ghost use Rattle.std.specs.Prelude.{ℕ, ◌≡◌, ◌≤◌, ◌<◌, ◌+◌, length, OnOk, OnErr};
+ghost use Rattle.std.specs.Prelude.{ℕ, ◌≡◌, ◌≤◌, ◌<◌, ◌+◌, length, slice_index_or, OnOk, OnErr};
 ghost use Rattle.sat_base.specs.values.Tables.{near_count, value_at, HasPlaceFor, KeepsRoom, KeepsValues, SetsValue};
 
 use std::alloc::{AllocError, Global};
@@ -49,6 +49,16 @@ impl<T: Copy> Table<T> {
         ensures { result ≡ near_count self.now }
     {
         self.near.len()
+    }
+
+    /// The values at the near places.
+    #[inline(always)]
+    pub fn near(&self) -> &[T]
+        ensures count { length result.now ≡ near_count self.now }
+        ensures values { (missing : T) (place : ℕ) → place < length result.now
+            → slice_index_or result.now place missing ≡ value_at missing self.now place }
+    {
+        self.near.as_slice()
     }
 
     /// The value at a place, or this one where it is missing.
