@@ -1,11 +1,13 @@
 #!/usr/bin/env python3
-"""How the time of small texts that ask much grows with their size.
+"""Measures how the time of small, demanding texts grows with their size.
 
-scale.py [-i] PROGRAM [NAME..]: for each text below (or those that are named), at three sizes, the time of PROGRAM (certify) in seconds of
-its own processor time, the least of five, and the exponent by which that grows with the bytes read. Those above 1.15 are marked. A text
-whose exponent counts is sized so that its last time is some tenths of a second or more; what takes less than a hundredth has no exponent.
-With -i it counts millions of instructions, once each, in place of seconds: no other process changes these, but they know no cache. They
-need valgrind, and fifty times as long.
+scale.py [-i] PROGRAM [NAME..] measures PROGRAM (certify) on each text below, or on those that are named, at three sizes. A line has the
+bytes read of the largest size, the seconds of processor time at each size (the least of five runs), and the exponent by which the time
+grows with the bytes read. Exponents above 1.15 are marked. Each text is sized so that its largest time is some tenths of a second where the
+exponent matters; times below a hundredth of a second get no exponent.
+
+With -i it counts millions of instructions, once each, instead of seconds. Other processes do not change these counts, but they ignore
+caches. They need valgrind and fifty times as long.
 """
 import math
 import os
@@ -41,6 +43,11 @@ def derive(clause, hashes):
 
 def solver_name(var, name):
     return b"\x01" + number(var) + number(name + 1)
+
+
+def user_name(var):
+    """Gives the variable its own number as the user's name."""
+    return b"\x02" + number(var) + number(var + 1)
 
 
 def delete_var(var):
@@ -89,6 +96,17 @@ def listed(n):
     return line(n) + b"a 0\n"
 
 
+def open_hides(n):
+    """A clause, its name hidden and an ask, again and again: each ask has one more hidden variable to find a value for."""
+    return b"1 2 0\nh 1 0\na 0\n" * n
+
+
+def units_asked(n):
+    """Clauses of two literals, then a unit of a name of their own and an ask that contradicts it, as often as there are clauses."""
+    clauses = join(line(2 * i + 1, 2 * i + 2) for i in range(n))
+    return clauses + join(line(2 * n + i) + b"a " + line(-2 * n - i) for i in range(1, n + 1))
+
+
 # Certificates.
 
 def widths(n):
@@ -122,6 +140,19 @@ def widths_used(n):
     return clauses + (width(32) + derive([1, -1, 2], [0]) + width(64) + derive([1, -1, 2], [0])) * (n // 4) + END
 
 
+def narrow(n):
+    """Clauses added at width 0, where all have one hash."""
+    return width(0) + join(add([2 * i + 1, 2 * i + 2]) for i in range(n)) + END
+
+
+# Scripts with the answers and the certificate of their own.
+
+def narrow_confirmed(n):
+    """Clauses that no ask follows, and a certificate of width 0."""
+    steps = join(user_name(2 * i) + user_name(2 * i + 1) + add([2 * i + 1, 2 * i + 2]) for i in range(n))
+    return join(line(2 * i + 1, 2 * i + 2) for i in range(n)), b"", width(0) + steps + END
+
+
 TEXTS = [
     # text, commands, sizes
     (chain, ["run", "confirm"], [32768, 131072, 262144]),
@@ -130,6 +161,10 @@ TEXTS = [
     (falling, ["run"], [8192, 16384, 32768]),
     (falling, ["confirm"], [32768, 65536, 131072]),
     (listed, ["confirm"], [65536, 131072, 262144]),
+    (open_hides, ["run"], [1024, 2048, 4096]),
+    (units_asked, ["run"], [2048, 4096, 8192]),
+    (narrow, ["hints"], [4096, 8192, 16384]),
+    (narrow_confirmed, ["confirm"], [4096, 8192, 16384]),
     (widths, ["hints"], [65536, 131072, 262144]),
     (widths_used, ["hints"], [1024, 2048, 4096]),
     (renames, ["hints"], [65536, 131072, 262144]),
@@ -140,16 +175,16 @@ TEXTS = [
 
 
 def called(command):
-    """What a call says on standard error."""
+    """Returns what a call writes to standard error."""
     answer = subprocess.run(command, stdout=subprocess.DEVNULL, stderr=subprocess.PIPE, check=False)
-    told = answer.stderr.decode(errors="replace")
+    shown = answer.stderr.decode(errors="replace")
     if answer.returncode != 0:
-        sys.exit(f"{' '.join(command)}: status {answer.returncode}, {told}")
-    return told
+        sys.exit(f"{' '.join(command)}: status {answer.returncode}, {shown}")
+    return shown
 
 
 def seconds(command):
-    """The least processor time of five runs."""
+    """Returns the least processor time of five runs."""
     least = math.inf
     for _ in range(5):
         before = resource.getrusage(resource.RUSAGE_CHILDREN)
@@ -160,27 +195,30 @@ def seconds(command):
 
 
 def instructions(command):
-    """Millions of them, of one run."""
-    told = called(["valgrind", "--tool=callgrind", "--callgrind-out-file=/dev/null", *command])
-    return int(re.search(r"Collected : (\d+)", told)[1]) / 1e6
+    """Returns the millions of instructions of one run."""
+    shown = called(["valgrind", "--tool=callgrind", "--callgrind-out-file=/dev/null", *command])
+    return int(re.search(r"Collected : (\d+)", shown)[1]) / 1e6
 
 
 def measured(program, make, command, size, cost):
-    """The bytes that are read, and what that costs."""
-    with open("in", "wb") as text:
-        text.write(make(size))
+    """Returns the number of bytes read, and what reading them costs."""
+    text = make(size)
+    files = ["in", "answers", "certificate"]
+    for name, content in zip(files, text if isinstance(text, tuple) else [text]):
+        with open(name, "wb") as file:
+            file.write(content)
     if command == "hints":
         return os.path.getsize("in"), cost([program, "hints", "in", "hints"])
-    run = [program, "run", "in", "answers", "certificate"]
+    run = [program, "run", *files]
     if command == "run":
         return os.path.getsize("in"), cost(run)
-    called(run)
-    read = sum(map(os.path.getsize, ["in", "answers", "certificate"]))
-    return read, cost([program, "confirm", "in", "answers", "certificate"])
+    if not isinstance(text, tuple):
+        called(run)
+    return sum(map(os.path.getsize, files)), cost([program, "confirm", *files])
 
 
 def exponent(rows):
-    """The slope of the line through the logarithms, by least squares."""
+    """Returns the slope of the line through the logarithms, by least squares."""
     if rows[0][1] < 0.01:
         return None
     xs, ys = [math.log(b) for b, _ in rows], [math.log(t) for _, t in rows]

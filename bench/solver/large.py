@@ -1,8 +1,8 @@
 #!/usr/bin/env python3
-"""Large texts that ask little: large.py PROGRAM measures `certify run` on them, and MiniSat without preprocessing where it reads them.
+"""Measures large texts that ask little: large.py PROGRAM prints a table of `certify run`, `confirm` and MiniSat without preprocessing.
 
-Each has a million commands. A line has the least of three runs' user and system seconds, in turn, of both programs, and of run the peak
-memory. It needs python3, GNU time and Debian's minisat.
+Each text has a million commands. A cell has the least user and system seconds of three runs, and the peak memory. The programs run in turn.
+MiniSat reads the texts without asks. It needs python3, GNU time and Debian's minisat.
 """
 import math
 import os
@@ -28,36 +28,42 @@ def clauses(names):
 TEXTS = {
     "implications from each name to the next, and the first name": lambda: "".join(line(-i, i + 1) for i in range(1, COUNT)) + line(1),
     "random clauses of three literals over 500,000 names": lambda: clauses(500_000),
-    "clauses of three literals over 3,000 names": lambda: clauses(3_000),
+    "random clauses of three literals over 3,000 names": lambda: clauses(3_000),
     "units": lambda: "".join(line(i) for i in range(1, COUNT + 1)),
     "asks of one literal": lambda: "".join("a " + line(i % 2 + 1) for i in range(COUNT)),
 }
 
 
-def seconds(command):
+def measured(command):
+    """Returns the seconds of one run, and its peak memory in MB."""
     before = resource.getrusage(resource.RUSAGE_CHILDREN)
-    subprocess.run(command, stdout=subprocess.DEVNULL, stderr=subprocess.DEVNULL, check=False)
+    subprocess.run([shutil.which("time"), "-f", "%M", "-o", "memory", *command], stdout=subprocess.DEVNULL, stderr=subprocess.DEVNULL, check=False)
     after = resource.getrusage(resource.RUSAGE_CHILDREN)
-    return after.ru_utime + after.ru_stime - before.ru_utime - before.ru_stime
+    with open("memory", encoding="ascii") as file:
+        peak = int(file.read().split()[-1]) / 1024
+    return after.ru_utime + after.ru_stime - before.ru_utime - before.ru_stime, peak
 
 
 def main():
     program = os.path.abspath(sys.argv[1])
     with tempfile.TemporaryDirectory() as folder:
         os.chdir(folder)
-        run = [program, "run", "in", "answers", "certificate"]
+        print("| Text | `run` | `confirm` | MiniSat | `run` over MiniSat |\n|---|---|---|---|---|")
         for name, make in TEXTS.items():
+            text = make()
+            commands = [[program, word, "in", "answers", "certificate"] for word in ("run", "confirm")]
+            if "a" not in text:
+                text = f"p cnf {COUNT} {COUNT}\n" + text
+                commands.append(["minisat", "-no-pre", "in"])
             with open("in", "w", encoding="ascii") as file:
-                text = make()
-                file.write(text if "a" in text else f"p cnf {COUNT} {COUNT}\n" + text)
-            ours = theirs = math.inf
+                file.write(text)
+            least = [(math.inf, math.inf)] * len(commands)
             for _ in range(3):
-                ours = min(ours, seconds(run))
-                if "a" not in text:
-                    theirs = min(theirs, seconds(["minisat", "-no-pre", "in"]))
-            told = subprocess.run([shutil.which("time"), "-f", "%M", *run], stdout=subprocess.DEVNULL, stderr=subprocess.PIPE, check=False)
-            peak = int(told.stderr.split()[-1]) / 1024
-            print(f"{name}: run {ours:.2f} s {peak:.0f} MB, MiniSat {f'{theirs:.2f} s' if theirs < math.inf else 'has none'}", flush=True)
+                least = [min(old, measured(command)) for old, command in zip(least, commands)]
+            cells = [f"{seconds:.2f} s, {peak:.0f} MB" for seconds, peak in least]
+            if len(commands) == 3:
+                cells.append(f"{least[0][0] / least[2][0]:.2f}, memory {least[0][1] / least[2][1]:.2f}")
+            print("| " + " | ".join([name, *cells, "-", "-"][:5]) + " |", flush=True)
         os.chdir("/")
 
 

@@ -1,0 +1,146 @@
+#!/usr/bin/env python3
+"""speed.py [--keep FOLDER] [--only PART] [PROGRAM] measures the program and writes its figures into docs/SPEED.md and docs/pictures.
+
+It measures the proved program, crates/certify_cli/out/certify_cli, which `rt run` in crates/certify_cli leaves, and refuses if a source is
+newer. If PROGRAM is given, it measures that, and the document says that no proof was made of it.
+
+    formulas   bench/solver/run.sh and pictures.py: `run`, `confirm` and MiniSat over forty formulas, stopped after 60 seconds
+    large      bench/solver/large.py: texts of a million commands
+    scale      bench/scale.py: how time grows with the text
+    memory     bench/memory/run.sh: the texts that cost most memory for each byte
+
+Each part replaces the lines of docs/SPEED.md between `<!-- PART -->` and `<!-- end -->`. The output of each part is kept in FOLDER/PART, and
+a part whose output is there already isn't measured again. All parts take some 20 minutes. It needs what the scripts need: python3, GNU time
+and Debian's minisat.
+"""
+import importlib.util
+import os
+import re
+import subprocess
+import sys
+import tempfile
+
+BENCH = os.path.dirname(os.path.abspath(__file__))
+TOP = os.path.dirname(BENCH)
+PROVED = os.path.join(TOP, "crates/certify_cli/out/certify_cli")
+DOCUMENT = os.path.join(TOP, "docs/SPEED.md")
+PICTURES = os.path.join(TOP, "docs/pictures")
+LIMIT = "60"
+
+
+def output(command, **more):
+    return subprocess.run(command, stdout=subprocess.PIPE, check=True, encoding="utf-8", **more).stdout
+
+
+def script(*path):
+    return os.path.join(BENCH, *path)
+
+
+def measure(part, program):
+    """Returns the output of the part's script."""
+    if part == "formulas":
+        return output([script("solver", "run.sh"), program], env={**os.environ, "LIMIT": LIMIT})
+    if part == "large":
+        return output([sys.executable, script("solver", "large.py"), program])
+    if part == "scale":
+        return output([sys.executable, script("scale.py"), program])
+    return output([script("memory", "run.sh"), program])
+
+
+def show(part, path):
+    """Returns the lines of the document that the output in the file `path` makes."""
+    if part == "formulas":
+        return output([sys.executable, script("solver", "pictures.py"), path, PICTURES, LIMIT])
+    with open(path, encoding="utf-8") as file:
+        text = file.read()
+    return {"large": str, "scale": scale, "memory": memory}[part](text)
+
+
+def size(count):
+    return f"{count / 1e6:.1f} MB" if count >= 1e6 else f"{count / 1e3:.0f} kB"
+
+
+def scale(text):
+    """Makes a table of the lines of scale.py; what a text is, its function there says."""
+    found = importlib.util.spec_from_file_location("scale", script("scale.py"))
+    texts = importlib.util.module_from_spec(found)
+    found.loader.exec_module(texts)
+    rows = ["| Text | Call | Bytes read | Seconds | Exponent |", "|---|---|---|---|---|"]
+    for line in text.splitlines():
+        name, call, count, seconds, exponent, above = re.match(r"(\w+) +(\w+) +(\d+) bytes .* ([\d.]+) s  exponent +(\S+)( above)?", line).groups()
+        what = getattr(texts, name).__doc__.rstrip(".")
+        mark = "**" if above else ""
+        rows.append(f"| {what} (`{name}`) | `{call}` | {size(int(count))} | {float(seconds):.2f} | {mark}{exponent}{mark} |")
+    return "\n".join(rows) + "\n"
+
+
+def memory(text):
+    """Makes a table of the text of each call that costs most for each byte."""
+    most = {}
+    for line in text.splitlines():
+        found = re.match(r"(hints|check|confirm) (\S+) +(\d+) bytes +(\d+) KB +([\d.]+) a byte", line)
+        if found:
+            call, name, count, peak, each = found.groups()
+            most[call] = max(most.get(call, (0.0,)), (float(each), name, int(count), int(peak)))
+    rows = ["| Call | Text | Bytes read | Peak memory | For each byte, after the first 20 MB |", "|---|---|---|---|---|"]
+    for call, (each, name, count, peak) in most.items():
+        rows.append(f"| `{call}` | `{name}` | {size(count)} | {peak / 1024:.0f} MB | {each:.1f} |")
+    return "\n".join(rows) + "\n"
+
+
+def machine(program):
+    """Says what was measured, and where."""
+    model = re.search(r"model name\s*: (.*)", output(["cat", "/proc/cpuinfo"]))
+    what = "the proved program" if program == PROVED else "a program that was compiled without proof"
+    return f"Measured: {what}, on {os.cpu_count()} processors ({model[1].strip() if model else 'unknown'}), load average {os.getloadavg()[2]:.1f}.\n"
+
+
+def replace(part, lines):
+    with open(DOCUMENT, encoding="utf-8") as file:
+        text = file.read()
+    found = re.search(rf"(<!-- {part} -->\n).*?(<!-- end -->)", text, re.DOTALL)
+    if not found:
+        sys.exit(f"{DOCUMENT} has no part {part}")
+    with open(DOCUMENT, "w", encoding="utf-8") as file:
+        file.write(text[: found.end(1)] + lines + text[found.start(2) :])
+
+
+def newer(program):
+    """Returns a source that is newer than the program."""
+    for crate in ["certify_cli", "certify", "sat_hints", "sat_solver", "sat_checker", "sat_parts", "sat_store", "sat_base"]:
+        for folder, _, files in os.walk(os.path.join(TOP, "crates", crate, "src")):
+            for name in files:
+                if os.path.getmtime(os.path.join(folder, name)) > os.path.getmtime(program):
+                    return os.path.join(folder, name)
+    return None
+
+
+def main():
+    parts, keep, words = ["formulas", "large", "scale", "memory"], None, sys.argv[1:]
+    while words and words[0] in ("--keep", "--only"):
+        if words[0] == "--keep":
+            keep = os.path.abspath(words[1])
+        else:
+            parts = [words[1]]
+        words = words[2:]
+    program = os.path.abspath(words[0]) if words else PROVED
+    if not os.path.exists(program):
+        sys.exit(f"{program} isn't there; `rt run` in crates/certify_cli makes it")
+    if not words and newer(program):
+        sys.exit(f"{newer(program)} is newer than {program}; `rt run` in crates/certify_cli makes it anew")
+    with tempfile.TemporaryDirectory() as folder:
+        folder = keep or folder
+        os.makedirs(folder, exist_ok=True)
+        for part in parts:
+            path = os.path.join(folder, part)
+            if not os.path.exists(path):
+                text = measure(part, program)
+                with open(path, "w", encoding="utf-8") as file:
+                    file.write(text)
+            replace(part, show(part, path))
+            print(f"{part}: written", flush=True)
+    replace("machine", machine(program))
+
+
+if __name__ == "__main__":
+    main()
