@@ -1,5 +1,6 @@
 #!/usr/bin/env python3
-"""speed.py [--keep FOLDER] [--only PART] [PROGRAM] measures the program and writes its figures into docs/SPEED.md and docs/pictures.
+"""speed.py [--keep FOLDER] [--only PART] [--checker CHECKS FOLLOWER PLAIN FOLDER] [PROGRAM] measures the program and writes its figures into
+docs/SPEED.md and docs/pictures.
 
 It measures the proved program, crates/certify_cli/out/certify_cli, which `rt run` in crates/certify_cli leaves, and refuses if a source is
 newer. If PROGRAM is given, it measures that, and the document says that no proof was made of it.
@@ -8,6 +9,7 @@ newer. If PROGRAM is given, it measures that, and the document says that no proo
     large      bench/solver/large.py: texts of a million commands
     scale      bench/scale.py: how time grows with the text
     memory     bench/memory/run.sh: the texts that cost most memory for each byte
+    checker    bench/checker/beside.py: `confirm`, `hints` and `check` compared with plain checkers, if --checker gives what that needs
 
 Each part replaces the lines of docs/SPEED.md between `<!-- PART -->` and `<!-- end -->`. The output of each part is kept in FOLDER/PART, and
 a part whose output is there already isn't measured again. All parts take some 20 minutes. It needs what the scripts need: python3, GNU time
@@ -36,8 +38,12 @@ def script(*path):
     return os.path.join(BENCH, *path)
 
 
-def measure(part, program):
+def measure(part, program, tools):
     """Returns the output of the part's script."""
+    if part == "checker":
+        if tools is None:
+            sys.exit("the part checker needs --checker")
+        return output([sys.executable, script("checker", "beside.py"), program, *tools])
     if part == "formulas":
         return output([script("solver", "run.sh"), program], env={**os.environ, "LIMIT": LIMIT})
     if part == "large":
@@ -53,7 +59,7 @@ def show(part, path):
         return output([sys.executable, script("solver", "pictures.py"), path, PICTURES, LIMIT])
     with open(path, encoding="utf-8") as file:
         text = file.read()
-    return {"large": str, "scale": scale, "memory": memory}[part](text)
+    return {"large": str, "scale": scale, "memory": memory, "checker": checker}[part](text)
 
 
 def size(count):
@@ -88,6 +94,31 @@ def memory(text):
     return "\n".join(rows) + "\n"
 
 
+CALLS = ["confirm", "hints", "check", "check_proof", "follower", "plain"]
+CALLED = {"follower": "the follower of ids", "plain": "the plain checker"}
+
+
+def checker(text):
+    """Makes two tables of the lines of beside.py: means of ratios, and seconds and memory of each proof."""
+    called = lambda call: CALLED.get(call, f"`{call}`")
+    means, proofs = {}, []
+    for line in text.splitlines():
+        ratio = re.match(r"(\w+) beside (\w+), (seconds|memory): mean ([\d.]+) \((.*)\)", line)
+        if ratio:
+            call, other, what, mean, each = ratio.groups()
+            values = dict(zip(each.split()[::2], map(float, each.split()[1::2])))
+            most = max(values, key=values.get)
+            means.setdefault((call, other), {})[what] = f"{mean}, at most {values[most]:.2f} ({most})"
+        else:
+            name, rest = line.split(": ", 1)
+            found = dict((call, f"{float(s):.3f} s, {float(m):.0f} MB") for call, s, m in re.findall(r"(\w+) ([\d.]+) s ([\d.]+) MB", rest))
+            proofs.append(f"| {name} | " + " | ".join(found[call] for call in CALLS) + " |")
+    rows = ["| Call | Compared with | Times its time | Times its memory |", "|---|---|---|---|"]
+    rows += [f"| `{call}` | {called(other)} | {each['seconds']} | {each['memory']} |" for (call, other), each in means.items()]
+    rows += ["", "| Proof | " + " | ".join(map(called, CALLS)) + " |", "|---|" + "---|" * len(CALLS), *proofs]
+    return "\n".join(rows) + "\n"
+
+
 def machine(program):
     """Says what was measured, and where."""
     model = re.search(r"model name\s*: (.*)", output(["cat", "/proc/cpuinfo"]))
@@ -116,13 +147,17 @@ def newer(program):
 
 
 def main():
-    parts, keep, words = ["formulas", "large", "scale", "memory"], None, sys.argv[1:]
-    while words and words[0] in ("--keep", "--only"):
+    parts, keep, tools, words = ["formulas", "large", "scale", "memory"], None, None, sys.argv[1:]
+    while words and words[0].startswith("--"):
         if words[0] == "--keep":
-            keep = os.path.abspath(words[1])
+            keep, words = os.path.abspath(words[1]), words[2:]
+        elif words[0] == "--only":
+            parts, words = [words[1]], words[2:]
+        elif words[0] == "--checker":
+            tools, words = words[1:5], words[5:]
+            parts.append("checker")
         else:
-            parts = [words[1]]
-        words = words[2:]
+            sys.exit(__doc__)
     program = os.path.abspath(words[0]) if words else PROVED
     if not os.path.exists(program):
         sys.exit(f"{program} isn't there; `rt run` in crates/certify_cli makes it")
@@ -134,7 +169,7 @@ def main():
         for part in parts:
             path = os.path.join(folder, part)
             if not os.path.exists(path):
-                text = measure(part, program)
+                text = measure(part, program, tools)
                 with open(path, "w", encoding="utf-8") as file:
                     file.write(text)
             replace(part, show(part, path))

@@ -1,0 +1,73 @@
+#!/usr/bin/env python3
+"""examples.py [PROGRAM] runs and confirms each script of examples/ and compares the answers with those that are kept there.
+
+    examples.py --rows [PROGRAM]    prints rows for tests: script, printed text, status, and what comes on standard error; or script,
+                                    answers and budget
+    examples.py --check FILE        checks that FILE, a source with such rows, has each script and its answers as they are kept
+
+NAME.answers has the answers to NAME.script, and NAME-STEPS.answers those with a budget of STEPS rounds for each ask. PROGRAM is the proved
+program, crates/certify_cli/out/certify_cli, unless another one is given.
+"""
+import os
+import re
+import subprocess
+import sys
+import tempfile
+
+TOP = os.path.dirname(os.path.dirname(os.path.abspath(__file__)))
+EXAMPLES = os.path.join(TOP, "examples")
+PROVED = os.path.join(TOP, "crates/certify_cli/out/certify_cli")
+
+
+def read(path):
+    with open(path, encoding="ascii") as file:
+        return file.read()
+
+
+def examples():
+    """Yields the name of each file of answers, its text, the path of its script and the words of its budget."""
+    for file in sorted(os.listdir(EXAMPLES)):
+        found = re.fullmatch(r"(.*?)(?:-(\d+))?\.answers", file)
+        if found:
+            yield file, read(os.path.join(EXAMPLES, file)), os.path.join(EXAMPLES, found[1] + ".script"), [found[2]] if found[2] else []
+
+
+def literal(text):
+    """Returns the text as a string of Rust, a line of it on each line."""
+    lines = [line.replace("\\", "\\\\").replace('"', '\\"') + "\\n" for line in text.splitlines()]
+    return '"\\\n' + "\\\n".join(lines) + '"'
+
+
+def rows(program):
+    for _, answers, script, budget in examples():
+        if budget:
+            print("(\n" + ",\n".join([literal(read(script)), literal(answers), *budget]) + ",\n),")
+        else:
+            with open(script, "rb") as file:
+                done = subprocess.run([program], stdin=file, capture_output=True, check=True, encoding="ascii")
+            assert done.stdout == answers + "c confirmed\n", script
+            print("(\n" + ",\n".join([literal(read(script)), literal(done.stdout), "0", literal(done.stderr)]) + ",\n),")
+
+
+def main():
+    words = sys.argv[1:]
+    if words[:1] == ["--check"]:
+        text = read(words[1])
+        wrong = [file for file, answers, script, _ in examples() if literal(read(script)) not in text or literal(answers)[:-1] not in text]
+        sys.exit(f"{words[1]} doesn't have {', '.join(wrong)}" if wrong else 0)
+    show_rows = words[:1] == ["--rows"]
+    program = os.path.abspath((words[show_rows:] or [PROVED])[0])
+    if show_rows:
+        return rows(program)
+    with tempfile.TemporaryDirectory() as folder:
+        texts = [os.path.join(folder, name) for name in ("answers", "certificate")]
+        for file, answers, script, budget in examples():
+            subprocess.run([program, "run", script, *texts, *budget], check=True, stderr=subprocess.DEVNULL)
+            if read(texts[0]) != answers:
+                sys.exit(f"{file}: other answers:\n{read(texts[0])}")
+            subprocess.run([program, "confirm", script, *texts], check=True, stdout=subprocess.DEVNULL)
+            print(f"{file}: as kept, confirmed")
+
+
+if __name__ == "__main__":
+    main()
