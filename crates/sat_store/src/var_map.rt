@@ -2,6 +2,7 @@
 ghost use Rattle.std.specs.Prelude.{ℕ, ◌≡◌, ◌==◌, if◌then◌else◌, IfNone, IfSome, true, false, ◌+◌, ◌<◌, ◌≤◌, Option};
 ghost use Rattle.std.specs.Prelude.{Some, None, List, [], length, max, OnOk, OnErr, vec_capacity};
 ghost use Rattle.sat_store.specs.variables.Maps.{target, PutsTarget, GrowsMap, GrowsBoth, AreInverse, Links, Unlinks};
+ghost use Rattle.sat_store.specs.variables.Codes.{targets_of, AreCodes};
 
 use sat_base::Var;
 use std::alloc::{AllocError, Global};
@@ -10,15 +11,19 @@ use std::marker::Model;
 /// A map from variables to variables, which contracts see as the list of what each index is mapped to.
 #[derive(Debug, Drop)]
 pub struct VarMap {
-    targets: Vec<Option<Var>>,
+    /// One more than the target of each index, or 0 if it has none.
+    codes: Vec<u32>,
 }
 
 impl Model for VarMap {
     ghost use Rattle.std.specs.Prelude.{ℕ, List, Option};
+    ghost use Rattle.sat_store.specs.variables.Codes.{targets_of, AreCodes};
 
     ghost Value = { List (Option ℕ) };
 
-    ghost view = { λ m. m.targets.items };
+    ghost view = { λ m. targets_of m.codes.items };
+
+    ghost invariant = { λ m. AreCodes m.codes.items };
 }
 
 impl VarMap {
@@ -27,7 +32,7 @@ impl VarMap {
         ensures { result ≡ [] }
     {
         VarMap {
-            targets: Vec::new(alloc),
+            codes: Vec::new(alloc),
         }
     }
 
@@ -35,10 +40,11 @@ impl VarMap {
     pub fn get(&self, from: Var) -> Option<Var>
         ensures { result ≡ target self.now from }
     {
-        *self.targets.get(from.index())?
+        target_at(&self.codes, from)
     }
 
     /// Maps `from`, which isn't mapped, to `into`.
+    #[inline(always)]
     pub fn insert(&mut self, into: Var, from: Var) -> Result<(), AllocError>
         requires { target self.old from ≡ None }
         ensures put { OnOk result (PutsTarget self.old self.new from (Some into)) }
@@ -49,13 +55,14 @@ impl VarMap {
         self.put_target(into, from)
     }
 
+    #[inline(always)]
     fn put_target(&mut self, into: Var, from: Var) -> Result<(), AllocError>
         ensures put { OnOk result (PutsTarget self.old self.new from (Some into)) }
         ensures watermark { OnOk result (length self.new ≡ max (length self.old) (from + 1)) }
         ensures kept { OnErr result (self.new ≡ self.old) }
     {
-        make_room(&mut self.targets, from)?;
-        put(&mut self.targets, from, into);
+        make_room(&mut self.codes, from)?;
+        put(&mut self.codes, from, into);
         Ok(())
     }
 
@@ -64,9 +71,7 @@ impl VarMap {
         ensures put { PutsTarget self.old self.new from None }
         ensures watermark { length self.new ≡ length self.old }
     {
-        if let Some(into) = self.targets.get_mut(from.index()) {
-            *into = None;
-        }
+        forget(&mut self.codes, from);
     }
 
     /// Leaves a variable unmapped, and all from this index on.
@@ -75,7 +80,7 @@ impl VarMap {
         ensures put { (v : ℕ) → v < watermark → target self.new v ≡ (if v == from then None else target self.old v) }
         ensures watermark { length self.new ≡ watermark }
     {
-        self.targets.truncate(watermark);
+        self.codes.truncate(watermark);
         self.remove(from);
     }
 
@@ -83,33 +88,59 @@ impl VarMap {
     pub fn watermark(&self) -> usize
         ensures { result ≡ length self.now }
     {
-        self.targets.len()
+        self.codes.len()
+    }
+}
+
+/// Returns the target that the numbers hold for a variable.
+fn target_at(codes: &[u32], from: Var) -> Option<Var>
+    requires { AreCodes codes.now }
+    ensures { result ≡ target (targets_of codes.now) from }
+{
+    let code = *codes.get(from.index())?;
+    if code == 0 {
+        return None;
+    }
+    Some(Var::from_index((code - 1) as usize))
+}
+
+/// Sets the target of a variable to none.
+fn forget(codes: &mut [u32], from: Var)
+    ensures put { PutsTarget (targets_of codes.old) (targets_of codes.new) from None }
+    ensures codes { AreCodes codes.old → AreCodes codes.new }
+{
+    let index = from.index();
+    if index < codes.len() {
+        codes[index] = 0;
     }
 }
 
 /// Makes room for the target of a variable.
-fn make_room(targets: &mut Vec<Option<Var>>, from: Var) -> Result<(), AllocError>
-    ensures kept { targets.new.items ≡ targets.old.items }
-    ensures room { OnOk result (from < vec_capacity targets.new) }
+#[inline(always)]
+fn make_room(codes: &mut Vec<u32>, from: Var) -> Result<(), AllocError>
+    ensures kept { codes.new.items ≡ codes.old.items }
+    ensures room { OnOk result (from < vec_capacity codes.new) }
 {
     let index = from.index();
-    if index < targets.len() {
+    if index < codes.len() {
         return Ok(());
     }
-    targets.reserve(index + 1 - targets.len())
+    codes.reserve(index + 1 - codes.len())
 }
 
 /// Sets the target of a variable, for which there is room.
-fn put(targets: &mut Vec<Option<Var>>, from: Var, into: Var)
-    requires { from < vec_capacity targets.old }
-    ensures put { PutsTarget targets.old.items targets.new.items from (Some into) }
-    ensures watermark { length targets.new.items ≡ max (length targets.old.items) (from + 1) }
+#[inline(always)]
+fn put(codes: &mut Vec<u32>, from: Var, into: Var)
+    requires { from < vec_capacity codes.old }
+    ensures put { PutsTarget (targets_of codes.old.items) (targets_of codes.new.items) from (Some into) }
+    ensures watermark { length codes.new.items ≡ max (length codes.old.items) (from + 1) }
+    ensures codes { AreCodes codes.old.items → AreCodes codes.new.items }
 {
     let index = from.index();
-    for _new in targets.len()..index + 1 {
-        targets.push_reserved(None);
+    for _new in codes.len()..index + 1 {
+        codes.push_reserved(0);
     }
-    targets[index] = Some(into);
+    codes[index] = into.index() as u32 + 1;
 }
 
 /// A map from variables to variables and its inverse.
