@@ -1,6 +1,7 @@
 pub mod StateLemmas
 pub mod RoomLemmas
 pub mod WatchLemmas
+pub mod WidenLemmas
 pub mod WalkLemmas
 pub mod HalfLemmas
 pub mod Walking

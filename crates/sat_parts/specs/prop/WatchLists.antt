@@ -1,5 +1,5 @@
 -- Lists of watches.
-use Rattle.std.specs.Prelude.{ℕ, ◌-◌, Bool, if◌then◌else◌, List, [], ◌∷◌, ◌++◌, take, replicate, length, slice_index_or as get_or, slice_set as set}
+use Rattle.std.specs.Prelude.{ℕ, ◌≤◌, ◌-◌, Bool, if◌then◌else◌, List, [], ◌∷◌, ◌++◌, take, replicate, length, slice_index_or as get_or, slice_set as set}
 use Rattle.sat_base.specs.values.Literals.{negated}
 use Rattle.sat_parts.specs.declared.prop.watch.Watch.{Watch}
 
@@ -43,3 +43,12 @@ with_firsts o ls w = with_clause_watches o (get_or ls 0 0) (get_or ls 1 0) w
 -- the lists of so many literals
 abbrev pub with_lists : ℕ → Watching → Watching
 with_lists count w = record w { lists = take count w.lists ++ replicate (count - length w.lists) [] }
+
+-- the lists of so many literals where those of the last ones, which are empty, are left out
+abbrev pub widened : ℕ → List (List Watch) → List (List Watch)
+widened count lists = lists ++ replicate (count - length lists) []
+
+-- the lists of the first literals are at most so many, and there is room for all
+pub record HasRoom (count capacity : ℕ) (lists : List (List Watch)) : Type 0 where
+  pub few : length lists ≤ count
+  pub room : count ≤ capacity

@@ -1,13 +1,13 @@
 //! Lists of the long clauses that are to be looked at when a literal becomes true.
 ghost use Rattle.std.specs.Prelude.{ℕ, IsTrue, ◌≡◌, ◌-◌, ◌*◌, ◌<◌, ◌≤◌, ◌∷◌, ◌++◌, [], length, OnOk, OnErr, take, drop};
-ghost use Rattle.std.specs.Prelude.{true, false, slice_index_or, slice_set, if◌then◌else◌, is_ok};
+ghost use Rattle.std.specs.Prelude.{true, false, slice_index_or, slice_set, if◌then◌else◌, is_ok, vec_capacity};
 ghost use Rattle.sat_base.specs.values.Literals.{largest, negated};
 ghost use Rattle.sat_store.specs.clause.Buffer.{Laid};
 ghost use Rattle.sat_parts.specs.clause.Db.{live_refs};
 ghost use Rattle.sat_parts.specs.clause.Stored.{AreClauses};
 ghost use Rattle.sat_parts.specs.prop.Building.{WatchesLive};
 ghost use Rattle.sat_parts.specs.prop.WatchLists.{watches_of, no_watch, watch_on, with_watch, without_last};
-ghost use Rattle.sat_parts.specs.prop.WatchLists.{with_clause_watches, with_lists};
+ghost use Rattle.sat_parts.specs.prop.WatchLists.{with_clause_watches, with_lists, widened, HasRoom};
 
 use crate::clause::db::ClauseDb;
 use sat_base::Lit;
@@ -124,16 +124,24 @@ impl WatchList {
 /// the literal, and whether they are kept up.
 #[derive(Drop)]
 pub struct Watchlists {
+    alloc: Global,
+    /// The lists of the first literals, with capacity for those of all. The others are empty, and are made when one of
+    /// them is first watched.
     watches: Vec<WatchList>,
+    /// The number of literals.
+    count: usize,
     enabled: bool,
 }
 
 impl Model for Watchlists {
-    ghost use Rattle.sat_parts.specs.prop.WatchLists.{Watching};
+    ghost use Rattle.std.specs.Prelude.{vec_capacity};
+    ghost use Rattle.sat_parts.specs.prop.WatchLists.{Watching, widened, HasRoom};
 
     ghost Value = { Watching };
 
-    ghost view = { λ w. record { lists = w.watches.items; enabled = w.enabled } };
+    ghost view = { λ w. record { lists = widened w.count w.watches.items; enabled = w.enabled } };
+
+    ghost invariant = { λ w. HasRoom w.count (vec_capacity w.watches) w.watches.items };
 }
 
 impl Watchlists {
@@ -146,7 +154,9 @@ impl Watchlists {
         ensures enabled { result.enabled ≡ true }
     {
         Watchlists {
+            alloc,
             watches: Vec::new(alloc),
+            count: 0,
             enabled: true,
         }
     }
@@ -157,12 +167,12 @@ impl Watchlists {
         ensures done { OnOk result (self.new ≡ with_lists (2 * count) self.old) }
         ensures same { OnErr result (self.new ≡ self.old) }
     {
-        let more = (2 * count).saturating_sub(self.watches.len());
+        let literals = 2 * count;
+        let more = literals.saturating_sub(self.watches.len());
         self.watches.reserve(more)?;
-        self.watches.truncate(2 * count);
-        for _added in 0..more {
-            self.watches.push_reserved(WatchList::new(alloc));
-        }
+        self.watches.truncate(literals);
+        self.alloc = alloc;
+        self.count = literals;
         Ok(())
     }
 
@@ -186,7 +196,9 @@ impl Watchlists {
         ensures value { result.now ≡ watches_of self.old.lists lit }
         ensures* writes_back { sem 𝓛 (LendsList self.entry lit result) }
     {
-        &mut self.watches[lit.code()]
+        let code = lit.code();
+        make_list(self.alloc, &mut self.watches, self.count, code);
+        &mut self.watches[code]
     }
 
     /// Puts a watch behind those of a literal.
@@ -196,8 +208,11 @@ impl Watchlists {
         ensures done { OnOk result (self.new ≡ with_watch lit watch self.old) }
         ensures same { OnErr result (self.new ≡ self.old) }
     {
-        let list = &mut self.watches[lit.code()];
-        list.push(watch)
+        let code = lit.code();
+        make_list(self.alloc, &mut self.watches, self.count, code);
+        let list = &mut self.watches[code];
+        list.push(watch)?;
+        Ok(())
     }
 
     /// Takes out the watches of a literal, which has none until they are put back.
@@ -206,7 +221,11 @@ impl Watchlists {
         ensures list { result ≡ slice_index_or self.old.lists lit [] }
         ensures rest { self.new ≡ record self.old { lists = slice_set self.old.lists lit [] } }
     {
-        let list = &mut self.watches[lit.code()];
+        let code = lit.code();
+        if code >= self.watches.len() {
+            return WatchList::new(alloc);
+        }
+        let list = &mut self.watches[code];
         mem::replace(list, WatchList::new(alloc))
     }
 
@@ -215,7 +234,12 @@ impl Watchlists {
         requires { lit < length self.old.lists }
         ensures { self.new ≡ record self.old { lists = slice_set self.old.lists lit list } }
     {
-        self.watches[lit.code()] = list;
+        let code = lit.code();
+        if code >= self.watches.len() && list.len() == 0 {
+            return;
+        }
+        make_list(self.alloc, &mut self.watches, self.count, code);
+        self.watches[code] = list;
     }
 
     /// Takes the last watch of a literal out.
@@ -223,7 +247,11 @@ impl Watchlists {
         requires { lit < length self.old.lists }
         ensures { self.new ≡ record self.old { lists = without_last lit self.old.lists } }
     {
-        let list = &mut self.watches[lit.code()];
+        let code = lit.code();
+        if code >= self.watches.len() {
+            return;
+        }
+        let list = &mut self.watches[code];
         list.pop();
     }
 
@@ -258,6 +286,45 @@ impl Watchlists {
     }
 }
 
+/// Makes the lists of all literals, for which capacity is reserved.
+#[inline(never)] // called at the first watch, and at the first after new variables
+fn widen(alloc: Global, watches: &mut Vec<WatchList>, count: usize)
+    requires { HasRoom count (vec_capacity watches.old) watches.old.items }
+    ensures lists { watches.new.items ≡ widened count watches.old.items }
+    ensures capacity { vec_capacity watches.new ≡ vec_capacity watches.old }
+{
+    for _added in watches.len()..count {
+        watches.push_reserved(WatchList::new(alloc));
+    }
+}
+
+/// Makes the lists of all literals if the one with this code is not made yet.
+#[inline(always)] // called for each clause that gets a new watch in propagation
+fn make_list(alloc: Global, watches: &mut Vec<WatchList>, count: usize, code: usize)
+    requires room { HasRoom count (vec_capacity watches.old) watches.old.items }
+    requires below { code < count }
+    ensures room { HasRoom count (vec_capacity watches.new) watches.new.items }
+    ensures made { code < length watches.new.items }
+    ensures same { widened count watches.new.items ≡ widened count watches.old.items }
+{
+    if code >= watches.len() {
+        widen(alloc, watches, count);
+    }
+}
+
+/// Empties these lists.
+fn clear_all(watches: &mut Vec<WatchList>)
+    ensures size { length watches.new.items ≡ length watches.old.items }
+    ensures empty { (l : ℕ) → watches_of watches.new.items l ≡ [] }
+    ensures capacity { vec_capacity watches.new ≡ vec_capacity watches.old }
+{
+    let end = watches.len();
+    for at in 0..end {
+        let list = &mut watches[at];
+        list.clear();
+    }
+}
+
 impl Watchlists {
     /// Empties all lists. They are kept up from here on.
     fn clear_lists(&mut self)
@@ -265,11 +332,7 @@ impl Watchlists {
         ensures empty { (l : ℕ) → watches_of self.new.lists l ≡ [] }
         ensures enabled { self.new.enabled ≡ true }
     {
-        let end = self.watches.len();
-        for at in 0..end {
-            let list = &mut self.watches[at];
-            list.clear();
-        }
+        clear_all(&mut self.watches);
         self.enabled = true;
     }
 }
