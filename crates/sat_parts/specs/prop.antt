@@ -5,6 +5,7 @@ pub mod Graphs
 pub mod State
 pub mod Reasons
 pub mod Binaries
+pub mod Places
 pub mod WatchLists
 pub mod Ready
 pub mod Walk

@@ -1,65 +1,23 @@
 //! Clauses of two literals.
-ghost use Rattle.std.specs.Prelude.{◌≡◌, ◌-◌, ◌*◌, ◌<◌, ◌≤◌, ◌∷◌, ◌++◌, [], length, take, OnOk, OnErr, is_ok};
-ghost use Rattle.std.specs.Prelude.{if◌then◌else◌, slice_index_or};
+ghost use Rattle.std.specs.Prelude.{ℕ, ◌≡◌, ◌+◌, ◌-◌, ◌*◌, ◌/◌, ◌<◌, ◌≤◌, ◌⊎◌, ◌∷◌, ◌++◌, [], length, take, drop, replicate, OnOk, OnErr};
+ghost use Rattle.std.specs.Prelude.{slice_index, slice_index_or, slice_set, vec_capacity};
 ghost use Rattle.sat_base.specs.values.Literals.{largest, negated};
 ghost use Rattle.sat_parts.specs.prop.Values.{is_unset};
 ghost use Rattle.sat_parts.specs.prop.Binaries.{implied_by, with_implied, without_last, with_binary, with_literals};
 ghost use Rattle.sat_parts.specs.prop.Binaries.{open_among, implications, RemovesAssigned};
+ghost use Rattle.sat_parts.specs.prop.Places.{no_place, place_at, part_of, lists_of, ArePlaces, CopiesPart};
 
 use crate::prop::assignment::Assignment;
 use sat_base::Lit;
 use std::alloc::{AllocError, Global};
 use std::marker::Model;
 
-/// The literals that one literal implies, which contracts see as their list.
-#[derive(Drop)]
-struct Implied {
-    lits: Vec<Lit>,
-}
-
-impl Model for Implied {
-    ghost use Rattle.std.specs.Prelude.{ℕ, List};
-
-    ghost Value = { List ℕ };
-
-    ghost view = { λ i. i.lits.items };
-}
-
-impl Implied {
-    fn new(alloc: Global) -> Implied
-        ensures { result ≡ [] }
-    {
-        Implied {
-            lits: Vec::new(alloc),
-        }
-    }
-
-    fn push(&mut self, lit: Lit) -> Result<(), AllocError>
-        ensures { self.new ≡ (if is_ok result then self.old ++ lit ∷ [] else self.old) }
-    {
-        self.lits.push(lit)?;
-        Ok(())
-    }
-
-    fn pop(&mut self)
-        ensures { self.new ≡ take (length self.old - 1) self.old }
-    {
-        let _ = self.lits.pop();
-    }
-
-    /// Keeps the literals whose variables have no value, and none where the variable that implies them has one. Answers
-    /// how many are left.
-    fn keep_open(&mut self, assignment: &Assignment, index: usize) -> usize
-        ensures kept { self.new ≡ open_among assignment.now.current index self.old }
-        ensures size { result ≡ length self.new }
-    {
-        if is_unset(assignment, index) {
-            self.lits.retain(|lit| is_unset(assignment, lit.index()));
-        } else {
-            self.lits.clear();
-        }
-        self.lits.len()
-    }
+/// The part of the common list that holds the literals implied by one literal: the first `len` of `room` positions.
+#[derive(Clone, Copy)]
+struct Place {
+    start: u32,
+    len: u32,
+    room: u32,
 }
 
 /// Whether the variable with this index has no value.
@@ -72,20 +30,200 @@ fn is_unset(assignment: &Assignment, index: usize) -> bool
     }
 }
 
+/// Changes the number of places. New ones have no room.
+fn resize(places: &mut Vec<Place>, count: usize) -> Result<(), AllocError>
+    ensures done { OnOk result (places.new.items
+        ≡ take count places.old.items ++ replicate (count - length places.old.items) no_place) }
+    ensures same { OnErr result (places.new.items ≡ places.old.items) }
+{
+    let more = count.saturating_sub(places.len());
+    places.reserve(more)?;
+    places.truncate(count);
+    for _added in 0..more {
+        places.push_reserved(Place {
+            start: 0,
+            len: 0,
+            room: 0,
+        });
+    }
+    Ok(())
+}
+
+/// Copies a part of the list to its end, into a room of this size.
+fn copy_part(lits: &mut Vec<Lit>, start: usize, len: usize, room: usize) -> Result<(), AllocError>
+    requires within { start + len ≤ length lits.old.items }
+    requires fits { len ≤ room }
+    ensures copied { OnOk result (CopiesPart start len room lits.old.items lits.new.items) }
+    ensures same { OnErr result (lits.new.items ≡ lits.old.items) }
+{
+    lits.reserve(room)?;
+    push_part(lits, start, len);
+    for _free in len..room {
+        lits.push_reserved(Lit::from_code(0));
+    }
+    Ok(())
+}
+
+/// Copies a part of the list to its end, for which capacity is reserved.
+fn push_part(lits: &mut Vec<Lit>, start: usize, len: usize)
+    requires within { start + len ≤ length lits.old.items }
+    requires room { length lits.old.items + len ≤ vec_capacity lits.old }
+    ensures copied { CopiesPart start len len lits.old.items lits.new.items }
+    ensures capacity { vec_capacity lits.new ≡ vec_capacity lits.old }
+{
+    for at in start..start + len {
+        let lit = lits[at];
+        lits.push_reserved(lit);
+    }
+}
+
+/// Copies a literal's list to the end of the common list, with twice the room. Positions have 32 bits: a common list
+/// that would be longer is reported as out of memory.
+fn move_list(places: &mut Vec<Place>, lits: &mut Vec<Lit>, code: usize) -> Result<(), AllocError>
+    requires places { ArePlaces places.old.items (length lits.old.items) }
+    requires below { code < length places.old.items }
+    ensures places { ArePlaces places.new.items (length lits.new.items) }
+    ensures same { lists_of places.new.items lits.new.items ≡ lists_of places.old.items lits.old.items }
+    ensures size { length places.new.items ≡ length places.old.items }
+    ensures room { OnOk result ((place_at places.new.items code).len < (place_at places.new.items code).room) }
+{
+    let place = places[code];
+    let start = lits.len();
+    let room = (2 * place.room as usize).max(1);
+    if start.saturating_add(room) > u32::MAX as usize {
+        return Err(AllocError);
+    }
+    copy_part(lits, place.start as usize, place.len as usize, room)?;
+    places[code] = Place {
+        start: start as u32,
+        len: place.len,
+        room: room as u32,
+    };
+    Ok(())
+}
+
+/// Makes room for one more literal in a literal's list.
+fn make_room(places: &mut Vec<Place>, lits: &mut Vec<Lit>, code: usize) -> Result<(), AllocError>
+    requires places { ArePlaces places.old.items (length lits.old.items) }
+    requires below { code < length places.old.items }
+    ensures places { ArePlaces places.new.items (length lits.new.items) }
+    ensures same { lists_of places.new.items lits.new.items ≡ lists_of places.old.items lits.old.items }
+    ensures size { length places.new.items ≡ length places.old.items }
+    ensures room { OnOk result ((place_at places.new.items code).len < (place_at places.new.items code).room) }
+{
+    let place = places[code];
+    if place.len < place.room {
+        return Ok(());
+    }
+    move_list(places, lits, code)
+}
+
+/// Appends a literal to a literal's list, which has room for it.
+fn push(places: &mut Vec<Place>, lits: &mut Vec<Lit>, code: usize, implied: Lit)
+    requires places { ArePlaces places.old.items (length lits.old.items) }
+    requires below { code < length places.old.items }
+    requires room { (place_at places.old.items code).len < (place_at places.old.items code).room }
+    ensures places { ArePlaces places.new.items (length lits.new.items) }
+    ensures pushed { lists_of places.new.items lits.new.items
+        ≡ with_implied code implied (lists_of places.old.items lits.old.items) }
+{
+    let place = places[code];
+    lits[place.start as usize + place.len as usize] = implied;
+    places[code] = Place {
+        start: place.start,
+        len: place.len + 1,
+        room: place.room,
+    };
+}
+
+/// Removes the last literal of a literal's list.
+fn pop(places: &mut Vec<Place>, lits: &Vec<Lit>, code: usize)
+    requires places { ArePlaces places.old.items (length lits.now.items) }
+    requires below { code < length places.old.items }
+    ensures places { ArePlaces places.new.items (length lits.now.items) }
+    ensures popped { lists_of places.new.items lits.now.items
+        ≡ without_last code (lists_of places.old.items lits.now.items) }
+{
+    let place = places[code];
+    places[code] = Place {
+        start: place.start,
+        len: place.len.saturating_sub(1),
+        room: place.room,
+    };
+}
+
+/// Moves the literals at a place whose variables have no value to its front, and returns how many they are. Returns 0 if
+/// the variable with this index has a value.
+fn open_part(lits: &mut Vec<Lit>, place: Place, assignment: &Assignment, index: usize) -> u32
+    requires { place.start + place.len ≤ length lits.old.items }
+    ensures few { result ≤ place.len }
+    ensures size { length lits.new.items ≡ length lits.old.items }
+    ensures kept { take result (drop place.start lits.new.items)
+        ≡ open_among assignment.now.current index (part_of lits.old.items place) }
+    ensures rest { (k : ℕ) → (k < place.start) ⊎ (place.start + place.len ≤ k)
+        → slice_index lits.new.items k ≡ slice_index lits.old.items k }
+{
+    if !is_unset(assignment, index) {
+        return 0;
+    }
+    let start = place.start as usize;
+    let mut left: u32 = 0;
+    for at in 0..place.len {
+        let lit = lits[start + at as usize];
+        if is_unset(assignment, lit.index()) {
+            lits[start + left as usize] = lit;
+            left += 1;
+        }
+    }
+    left
+}
+
+/// Keeps the literals of a literal's list whose variables have no value, or none if the variable that implies them has
+/// one. Returns how many are left.
+fn keep_open(
+    places: &mut Vec<Place>,
+    lits: &mut Vec<Lit>,
+    assignment: &Assignment,
+    code: usize,
+) -> usize
+    requires places { ArePlaces places.old.items (length lits.old.items) }
+    requires below { code < length places.old.items }
+    ensures places { ArePlaces places.new.items (length lits.new.items) }
+    ensures size { length places.new.items ≡ length places.old.items }
+    ensures kept { lists_of places.new.items lits.new.items ≡ slice_set (lists_of places.old.items lits.old.items) code
+        (open_among assignment.now.current (code / 2) (implied_by (lists_of places.old.items lits.old.items) code)) }
+    ensures left { result ≡ length (implied_by (lists_of places.new.items lits.new.items) code) }
+{
+    let place = places[code];
+    let left = open_part(lits, place, assignment, code / 2);
+    places[code] = Place {
+        start: place.start,
+        len: left,
+        room: place.room,
+    };
+    left as usize
+}
+
 /// The clauses of two literals, each as two implications. Contracts see the list of implied literals of each literal,
 /// by its code, and the number of clauses.
 #[derive(Drop)]
 pub struct BinaryClauses {
-    by_lit: Vec<Implied>,
+    by_lit: Vec<Place>,
+    /// The literals of all lists. A list without room is copied to the end.
+    lits: Vec<Lit>,
     count: usize,
 }
 
 impl Model for BinaryClauses {
+    ghost use Rattle.std.specs.Prelude.{length};
     ghost use Rattle.sat_parts.specs.prop.Binaries.{Binaries};
+    ghost use Rattle.sat_parts.specs.prop.Places.{lists_of, ArePlaces};
 
     ghost Value = { Binaries };
 
-    ghost view = { λ b. record { implied = b.by_lit.items; count = b.count } };
+    ghost view = { λ b. record { implied = lists_of b.by_lit.items b.lits.items; count = b.count } };
+
+    ghost invariant = { λ b. ArePlaces b.by_lit.items (length b.lits.items) };
 }
 
 impl BinaryClauses {
@@ -96,6 +234,7 @@ impl BinaryClauses {
     {
         BinaryClauses {
             by_lit: Vec::new(alloc),
+            lits: Vec::new(alloc),
             count: 0,
         }
     }
@@ -106,12 +245,8 @@ impl BinaryClauses {
         ensures done { OnOk result (self.new ≡ with_literals (2 * count) self.old) }
         ensures same { OnErr result (self.new ≡ self.old) }
     {
-        let more = (2 * count).saturating_sub(self.by_lit.len());
-        self.by_lit.reserve(more)?;
-        self.by_lit.truncate(2 * count);
-        for _added in 0..more {
-            self.by_lit.push_reserved(Implied::new(alloc));
-        }
+        let _ = alloc;
+        resize(&mut self.by_lit, 2 * count)?;
         Ok(())
     }
 
@@ -120,8 +255,9 @@ impl BinaryClauses {
         requires { lit < length self.now.implied }
         ensures { result.now ≡ implied_by self.now.implied lit }
     {
-        let list = &self.by_lit[lit.code()];
-        &list.lits
+        let place = self.by_lit[lit.code()];
+        let start = place.start as usize;
+        &self.lits[start..start + place.len as usize]
     }
 
     /// The number of clauses, held at 2^64 - 1.
@@ -137,8 +273,8 @@ impl BinaryClauses {
     {
         let mut all: usize = 0;
         for code in 0..self.by_lit.len() {
-            let list = &self.by_lit[code];
-            all = all.saturating_add(list.lits.len());
+            let place = self.by_lit[code];
+            all = all.saturating_add(place.len as usize);
         }
         all
     }
@@ -150,8 +286,9 @@ impl BinaryClauses {
             ≡ record self.old { implied = with_implied lit implied self.old.implied }) }
         ensures same { OnErr result (self.new ≡ self.old) }
     {
-        let list = &mut self.by_lit[lit.code()];
-        list.push(implied)
+        make_room(&mut self.by_lit, &mut self.lits, lit.code())?;
+        push(&mut self.by_lit, &mut self.lits, lit.code(), implied);
+        Ok(())
     }
 
     /// Takes the last one of the literals that a literal implies out.
@@ -159,8 +296,7 @@ impl BinaryClauses {
         requires { lit < length self.old.implied }
         ensures { self.new ≡ record self.old { implied = without_last lit self.old.implied } }
     {
-        let list = &mut self.by_lit[lit.code()];
-        list.pop();
+        pop(&mut self.by_lit, &self.lits, lit.code());
     }
 
     /// Adds the clause of these two literals.
@@ -188,8 +324,7 @@ impl BinaryClauses {
         let mut implications: usize = 0;
         let end = self.by_lit.len();
         for code in 0..end {
-            let list = &mut self.by_lit[code];
-            let left = list.keep_open(assignment, code / 2);
+            let left = keep_open(&mut self.by_lit, &mut self.lits, assignment, code);
             implications = implications.saturating_add(left);
         }
         self.count = implications / 2;

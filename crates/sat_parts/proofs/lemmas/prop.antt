@@ -6,6 +6,7 @@ pub mod WalkLemmas
 pub mod HalfLemmas
 pub mod Walking
 pub mod BinaryLemmas
+pub mod PlaceLemmas
 pub mod QueueLemmas
 pub mod BuildLemmas
 pub mod BacktrackLemmas

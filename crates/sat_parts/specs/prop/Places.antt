@@ -1,0 +1,35 @@
+-- Lists of literals as parts of one list. Each has a room, of which it takes the first places.
+use Rattle.std.specs.Prelude.{ℕ, ◌≡◌, ◌≢◌, ◌+◌, ◌≤◌, ◌<◌, ◌⊎◌, List, map, take, drop, length, slice_index, slice_index_or}
+use Rattle.sat_parts.specs.declared.binary.Place.{Place}
+
+-- no literals, and no room
+abbrev pub no_place : Place
+no_place = record { start = 0; len = 0; room = 0 }
+
+-- where the list with this number is
+abbrev pub place_at : List Place → ℕ → Place
+place_at places l = slice_index_or places l no_place
+
+-- the literals at a place
+abbrev pub part_of : List ℕ → Place → List ℕ
+part_of lits p = take p.len (drop p.start lits)
+
+-- the lists at all places
+abbrev pub lists_of : List Place → List ℕ → List (List ℕ)
+lists_of places lits = map (part_of lits) places
+
+-- two rooms have nothing in common
+abbrev pub Apart : Place → Place → Type 0
+Apart p q = (p.start + p.room ≤ q.start) ⊎ (q.start + q.room ≤ p.start)
+
+-- the lists fit their rooms, which are within the list of so many literals and have nothing in common
+pub record ArePlaces (places : List Place) (size : ℕ) : Type 0 where
+  pub few : (l : ℕ) → (place_at places l).len ≤ (place_at places l).room
+  pub within : (l : ℕ) → (place_at places l).start + (place_at places l).room ≤ size
+  pub apart : (l m : ℕ) → l ≢ m → Apart (place_at places l) (place_at places m)
+
+-- a part of the list was copied to its end, where there is a room of this size
+pub record CopiesPart (start len room : ℕ) (old new : List ℕ) : Type 0 where
+  pub size : length new ≡ length old + room
+  pub kept : (k : ℕ) → k < length old → slice_index new k ≡ slice_index old k
+  pub copied : (k : ℕ) → k < len → slice_index new (length old + k) ≡ slice_index old (start + k)
