@@ -1,5 +1,5 @@
 //! How many levels the literals of a clause are of.
-ghost use Rattle.std.specs.Prelude.{ℕ, ◌≡◌, ◌<◌, length, slice_index_or, false};
+ghost use Rattle.std.specs.Prelude.{ℕ, ◌≡◌, ◌<◌, ◌≤◌, min, length, take, slice_index_or, false};
 ghost use Rattle.sat_store.specs.clause.Buffer.{IsClause, lits_at};
 ghost use Rattle.sat_parts.specs.clause.Glue.{levels_of, different, HaveNodes, HaveFlags, AreClear, MarksLevels};
 
@@ -68,52 +68,82 @@ pub fn compute_clause_glue(
     ensures glue { result ≡ different (levels_of graph.now (lits_at clauses.now cref)) }
     ensures clear { flags.new.flags.items ≡ flags.old.flags.items }
 {
-    let glue = mark_clause_levels(flags, graph, clauses, cref);
-    clear_clause_levels(flags, graph, clauses, cref);
-    glue
+    compute_clause_glue_below(flags, graph, clauses, cref, clauses.len(cref))
 }
 
-/// Sets the flag of each level of a clause's literal, and counts them.
-fn mark_clause_levels(
+/// The number of different levels of the literals of a long clause, or this limit if there are more. Stops reading the
+/// clause at the limit. The flags are all false, and are so again.
+pub fn compute_clause_glue_below(
     flags: &mut TmpFlags,
     graph: &ImplGraph,
     clauses: &ClauseAlloc,
     cref: ClauseRef,
+    limit: usize,
 ) -> usize
     requires clause { IsClause clauses.now cref }
     requires nodes { HaveNodes graph.now (lits_at clauses.now cref) }
     requires levels { HaveFlags graph.now flags.old.flags.items (lits_at clauses.now cref) }
     requires clear { AreClear flags.old.flags.items }
-    ensures glue { result ≡ different (levels_of graph.now (lits_at clauses.now cref)) }
-    ensures size { length flags.new.flags.items ≡ length flags.old.flags.items }
-    ensures marked { MarksLevels flags.new.flags.items (levels_of graph.now (lits_at clauses.now cref)) }
+    ensures glue { result ≡ min limit (different (levels_of graph.now (lits_at clauses.now cref))) }
+    ensures clear { flags.new.flags.items ≡ flags.old.flags.items }
 {
+    let (glue, seen) = mark_clause_levels(flags, graph, clauses, cref, limit);
+    clear_clause_levels(flags, graph, clauses, cref, seen);
+    glue
+}
+
+/// Sets the flag of each level of a clause's literal, and counts them, up to the limit. Returns their number and that of
+/// the literals read.
+fn mark_clause_levels(
+    flags: &mut TmpFlags,
+    graph: &ImplGraph,
+    clauses: &ClauseAlloc,
+    cref: ClauseRef,
+    limit: usize,
+) -> (usize, usize)
+    requires clause { IsClause clauses.now cref }
+    requires nodes { HaveNodes graph.now (lits_at clauses.now cref) }
+    requires levels { HaveFlags graph.now flags.old.flags.items (lits_at clauses.now cref) }
+    requires clear { AreClear flags.old.flags.items }
+    ensures glue { result.0 ≡ min limit (different (levels_of graph.now (lits_at clauses.now cref))) }
+    ensures within { result.1 ≤ length (lits_at clauses.now cref) }
+    ensures size { length flags.new.flags.items ≡ length flags.old.flags.items }
+    ensures marked { MarksLevels flags.new.flags.items
+        (take result.1 (levels_of graph.now (lits_at clauses.now cref))) }
+{
+    let end = clauses.len(cref);
     let mut glue = 0;
-    for at in 0..clauses.len(cref) {
+    for at in 0..end {
+        if glue >= limit {
+            return (glue, at);
+        }
         let level = graph.level(clauses.lit(cref, at).var());
         if !flags.flags[level] {
             flags.flags[level] = true;
             glue += 1;
         }
     }
-    glue
+    (glue, end)
 }
 
-/// Clears the flag of each level of a clause's literal.
+/// Clears the flag of each level of a clause's first literals, as many as were read.
 fn clear_clause_levels(
     flags: &mut TmpFlags,
     graph: &ImplGraph,
     clauses: &ClauseAlloc,
     cref: ClauseRef,
+    seen: usize,
 )
     requires clause { IsClause clauses.now cref }
     requires nodes { HaveNodes graph.now (lits_at clauses.now cref) }
     requires levels { HaveFlags graph.now flags.old.flags.items (lits_at clauses.now cref) }
-    requires marked { MarksLevels flags.old.flags.items (levels_of graph.now (lits_at clauses.now cref)) }
+    requires within { seen ≤ length (lits_at clauses.now cref) }
+    requires marked { MarksLevels flags.old.flags.items
+        (take seen (levels_of graph.now (lits_at clauses.now cref))) }
     ensures size { length flags.new.flags.items ≡ length flags.old.flags.items }
     ensures clear { (k : ℕ) → k < length flags.new.flags.items → slice_index_or flags.new.flags.items k false ≡ false }
 {
-    for at in 0..clauses.len(cref) {
+    for at in 0..seen {
         let level = graph.level(clauses.lit(cref, at).var());
         flags.flags[level] = false;
     }

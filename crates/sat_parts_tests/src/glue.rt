@@ -8,7 +8,10 @@ ghost use Rattle.sat_parts.specs.prop.Graphs.{node_of};
 use crate::passes::{four, is_among};
 use crate::table::make_flags;
 use sat_base::Lit;
-use sat_parts::{ClauseDb, ImplGraph, ImplNode, Reason, Watchlists, compute_clause_glue};
+use sat_parts::{
+    ClauseDb, ImplGraph, ImplNode, Reason, Watchlists, compute_clause_glue,
+    compute_clause_glue_below,
+};
 use sat_store::{ClauseAlloc, ClauseRef, StoreError, TmpFlags};
 use std::alloc::{AllocError, Global};
 
@@ -58,6 +61,9 @@ fn glue_of_first(
     }
     let cref = db.cref(0);
     if !is_among(clauses, db, cref) || !levels_below(graph, clauses, cref, 10) {
+        return Ok(None);
+    }
+    if compute_clause_glue_below(flags, graph, clauses, cref, 1) != 1 {
         return Ok(None);
     }
     Ok(Some(compute_clause_glue(flags, graph, clauses, cref)))

@@ -9,4 +9,5 @@ invariant-loop-at l = record {
   size : length l.flags.flags.items ≡ length l.fn.flags.flags.items;
   marked : AreMarked l.flags.flags.items (levels_of l.graph (lits_at l.clauses l.cref)) l.at l.glue;
   few : l.glue ≤ l.at;
+  below : l.glue ≤ l.limit;
 }

@@ -1,5 +1,5 @@
 -- Flags of levels that are set and cleared, one by one.
-use Rattle.std.proofs.Common.{ℕ, ◌≡◌, ◌+◌, ◌<◌, ◌||◌, inl, inr, List, [], ◌∷◌, ◌++◌, length, get_or, set, take, drop, refl, sym, ap, ◌∙◌, subst, arith, eqb, length-set, get_or-set_same, get_or-set_other, Bool, true, false}
+use Rattle.std.proofs.Common.{ℕ, zero, suc, ◌≡◌, ◌+◌, ◌-◌, ◌<◌, ◌≤◌, ◌||◌, inl, inr, List, [], ◌∷◌, ◌++◌, length, get_or, set, take, drop, refl, sym, ap, ◌∙◌, subst, arith, eqb, length-set, get_or-set_same, get_or-set_other, Bool, true, false}
 use Rattle.std.proofs.lemmas.Bool.{cases_eq, cases_Bool, eqb-true, eq-eqb, ne_eqb, true≢false}
 use Rattle.std.proofs.lemmas.List.{drop_more, drop_all, length_push, take_all, ext_get_or, get_or-map}
 use Rattle.std.proofs.lemmas.List.Folds.{list_any_more, list_any-append}
@@ -84,6 +84,53 @@ marked_all flags levels i glue h e =
       sym h.counted ∙ length-from_keys nat_eq_equiv h.keys levels h.distinct (λ q. h.same q ∙ ap (λ xs. among q xs) all),
       λ q b. h.marks q b ∙ ap (λ xs. among q xs) all,
     )
+
+-- the different ones of the first i numbers
+record HasKeys (levels : List ℕ) (i n : ℕ) : Type 0 where
+  keys : List ℕ
+  distinct : IsDistinct eqb keys
+  counted : length keys ≡ n
+  same : (q : ℕ) → among q keys ≡ among q (take i levels)
+
+keys_more : (levels : List ℕ) (i n : ℕ) → HasKeys levels i n → i < length levels → (m : ℕ) × ((n ≤ m) × HasKeys levels (i + 1) m)
+keys_more levels i n h lt =
+    let x : ℕ = get_or levels i 0 in
+    let more : (q : ℕ) → (among q (take i levels) || eqb q (get_or levels i 0)) ≡ among q (take (i + 1) levels) = λ q. sym (list_any_more (λ z. eqb q z) levels i 0 lt) in
+    elim (cases_Bool (among x h.keys)) [
+      | inl seen ↦
+          let kept : HasKeys levels (i + 1) n = record {
+            keys = h.keys;
+            distinct = h.distinct;
+            counted = h.counted;
+            same = λ q.
+                h.same q
+                ∙ absorbed (among q (take i levels)) (eqb q x) (λ e. subst (λ z. among z (take i levels) ≡ true) (sym (eqb-true q x e)) (sym (h.same x) ∙ seen))
+                ∙ more q;
+          } in
+          (n, (omega arith, kept))
+      | inr fresh ↦
+          let grown : HasKeys levels (i + 1) (n + 1) = record {
+            keys = h.keys ++ x ∷ [];
+            distinct = IsDistinct-push nat_eq_equiv h.keys x h.distinct fresh;
+            counted = length_push h.keys x ∙ ap (λ k. k + 1) h.counted;
+            same = λ q. list_any-append (λ z. eqb q z) h.keys (x ∷ []) ∙ ap (λ z. among q h.keys || z) (or_false (eqb q x)) ∙ ap (λ z. z || eqb q x) (h.same q) ∙ more q;
+          } in
+          (n + 1, (omega arith, grown))
+    ]
+
+keys_least : (levels : List ℕ) (k i n : ℕ) → HasKeys levels i n → i + k ≡ length levels → n ≤ different levels
+keys_least levels zero i n h e =
+    let d : length h.keys ≡ different levels = length-from_keys nat_eq_equiv h.keys levels h.distinct (λ q. h.same q ∙ ap (λ xs. among q xs) (take_all i levels (omega arith))) in
+    omega (arith, d, h.counted)
+keys_least levels (suc k) i n h e =
+    let more = keys_more levels i n h (omega arith) in
+    let rest : more.0 ≤ different levels = keys_least levels k (i + 1) more.0 more.1.1 (omega arith) in
+    omega (arith, more.1.0, rest)
+
+-- the first numbers have no more different ones than all
+pub marked_least : (flags : List Bool) (levels : List ℕ) (i glue : ℕ) → AreMarked flags levels i glue → i < length levels → glue ≤ different levels
+marked_least flags levels i glue h lt =
+    keys_least levels (length levels - i) i glue (record { keys = h.keys; distinct = h.distinct; counted = h.counted; same = h.same }) (omega arith)
 
 -- what is still set once the first i were cleared is among the others
 abbrev pub AreLeft : List Bool → List ℕ → ℕ → Type 0
