@@ -6,6 +6,12 @@ use sat_base::Lit;
 use sat_parts::{CauseLits, Conflict, Reason};
 use sat_store::{ClauseAlloc, ClauseHeader, ClauseRef, StoreError};
 
+/// How many literals the two parts have.
+fn count_in_parts(lits: &CauseLits) -> usize {
+    let (own, long) = lits.parts();
+    own.len().saturating_add(long.len())
+}
+
 /// Whether the literals are those with these codes, by place and one after the other.
 fn reads(lits: &CauseLits, codes: &[usize]) -> bool {
     if lits.len() != codes.len() || lits.is_empty() != codes.is_empty() {
@@ -16,7 +22,8 @@ fn reads(lits: &CauseLits, codes: &[usize]) -> bool {
             return false;
         }
     }
-    lits.iter().count() == codes.len()
+    count_in_parts(lits) == codes.len()
+        && lits.iter().count() == codes.len()
         && lits.iter().next().map(|lit| lit.code()) == codes.first().copied()
 }
 

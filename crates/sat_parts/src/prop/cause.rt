@@ -1,5 +1,5 @@
 //! The literals by which a literal became true, or a clause false.
-ghost use Rattle.std.specs.Prelude.{ℕ, ◌≡◌, ◌<◌, ◌↔◌, [], length, slice_index, IsTrue};
+ghost use Rattle.std.specs.Prelude.{ℕ, ◌≡◌, ◌<◌, ◌↔◌, ◌++◌, [], length, slice_index, IsTrue};
 ghost use Rattle.std.specs.Iterator.{at_most};
 ghost use Rattle.std.specs.Map.Iter.{TakesFirst, ShowsInOrder};
 ghost use Rattle.sat_store.specs.clause.Buffer.{IsClause, lits_at};
@@ -55,6 +55,14 @@ impl<'a> CauseLits<'a> {
         } else {
             self.long.get(at - own.len())
         }
+    }
+
+    /// The literals in two parts: those that the reason or the conflict has itself, and then those of its long clause.
+    #[inline(always)] // called for each reason that an analysis looks at
+    pub fn parts(&self) -> (&'a [Lit], &Lits<'a>)
+        ensures { result.0.now ++ result.1.now ≡ self.now }
+    {
+        (self.own, &self.long)
     }
 
     /// The literals, in order.
