@@ -4,4 +4,4 @@ pub mod Parts
 pub mod Walks
 pub mod Links
 pub mod Changing
-pub mod Sorting
+pub mod Before

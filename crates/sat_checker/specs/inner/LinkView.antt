@@ -1,5 +1,5 @@
 -- Pairs that are linked by their places: heads, and links by place.
-use Rattle.std.specs.Prelude.{ℕ, zero, suc, ◌≡◌, ◌≤◌, ◌<◌, ◌==◌, ◌-◌, ◌/◌, ◌^◌, min, nat_le, List, [], ◌∷◌, ◌++◌, length, filter, slice_index_or, Option, None, Some, if◌then◌else◌}
+use Rattle.std.specs.Prelude.{ℕ, zero, suc, ◌≡◌, ◌≤◌, ◌<◌, ◌==◌, ◌-◌, ◌/◌, ◌^◌, min, nat_le, nat_lt, List, [], ◌∷◌, ◌++◌, length, filter, slice_index_or, Option, None, Some, if◌then◌else◌}
 use Rattle.std.specs.List.{AllByRecursion}
 use Rattle.sat_checker.specs.inner.PairView.{AreInOrder}
 use Rattle.sat_checker.specs.declared.store.links.Pair.{Pair}
@@ -84,6 +84,10 @@ pub record Lists (heads : List ℕ) (links : List Link) (shift : ℕ) (pairs : L
 -- the pairs whose hash is at most this one
 abbrev pub up_to : ℕ → List Pair → List Pair
 up_to hash = filter (λ p. nat_le p.hash hash)
+
+-- the pairs whose hash is below this one
+abbrev pub below : ℕ → List Pair → List Pair
+below hash = filter (λ p. nat_lt p.hash hash)
 
 -- the place of the last pair, or this one where there is none
 abbrev pub last_or : Option ℕ → List Pair → Option ℕ

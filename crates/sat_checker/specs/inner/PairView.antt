@@ -26,6 +26,11 @@ abbrev pub inserted : Pair → List Pair → List Pair
 inserted p [] = p ∷ []
 inserted p (q ∷ qs) = if is_before p q then p ∷ q ∷ qs else q ∷ inserted p qs
 
+-- each put in, from the last to the first
+abbrev pub inserted_all : List Pair → List Pair
+inserted_all [] = []
+inserted_all (p ∷ ps) = inserted p (inserted_all ps)
+
 -- without the pair of this place
 abbrev pub without_pair : ℕ → List Pair → List Pair
 without_pair place = filter (λ p. not (p.place == place))

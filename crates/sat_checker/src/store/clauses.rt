@@ -1,6 +1,6 @@
 //! The stored clauses of two literals or more.
 ghost use Rattle.std.specs.Prelude.{◌≡◌, ◌+◌, ◌*◌, ◌<◌, ◌≤◌, ◌^◌, [], ◌∷◌, ◌++◌, length, true, false, None, OnOk};
-ghost use Rattle.std.specs.Prelude.{OnErr, IfSome, vec_capacity};
+ghost use Rattle.std.specs.Prelude.{OnErr, IfSome};
 ghost use Rattle.std.specs.List.{AllByRecursion, list_any};
 ghost use Rattle.sat_checker.specs.inner.Looking.{LooksUpTo};
 ghost use Rattle.sat_checker.specs.inner.ModelTests.{are_all_true, irredundant_length};
@@ -13,17 +13,16 @@ ghost use Rattle.sat_checker.specs.inner.SlotView.{found_among, hashed_anew, liv
 ghost use Rattle.sat_checker.specs.Storing.{clause_numbered, clause_with};
 ghost use Rattle.sat_checker.specs.LiteralSets.{mentions, is_among, canonical};
 ghost use Rattle.sat_checker.specs.inner.StoreView.{count_in};
-ghost use Rattle.sat_checker.specs.inner.PairView.{first_of, places_behind};
+ghost use Rattle.sat_checker.specs.inner.PairView.{inserted_all, first_of, places_behind};
 ghost use Rattle.sat_checker.specs.inner.IndexView.{Files, pairs_of};
 ghost use Rattle.sat_checker.specs.inner.OccurrenceView.{SlotsInvariant};
 
 use crate::hash::{ClauseHasher, mixed};
 use crate::looks::Looks;
 use crate::store::filed_hash::FiledHash;
-use crate::store::links::Pair;
 use crate::store::occurrences::Occurrences;
 use crate::store::slots::{Slots, in_buffer};
-use crate::store::sorted_pairs::{SortedPairs, sorted};
+use crate::store::sorted_pairs::{SortedPairs, with_places};
 use crate::units::assigned::Assigned;
 use crate::units::valuation::{has_just_assumed, makes_true};
 use sat_base::{ClauseHash, HashBits, Lit, Var};
@@ -37,8 +36,6 @@ pub struct Clauses {
     slots: Slots,
     index: SortedPairs,
     occurrences: Occurrences,
-    /// Room for a pair of each place, so that filing all anew takes no memory.
-    spare: Vec<Pair>,
     /// How many are gone.
     gone: usize,
     /// How many literals of those lie in the buffer. Nothing but the time of a compaction hangs on it.
@@ -46,7 +43,7 @@ pub struct Clauses {
 }
 
 impl Model for Clauses {
-    ghost use Rattle.std.specs.Prelude.{List, ◌≡◌, ◌≤◌, [], length, vec_capacity};
+    ghost use Rattle.std.specs.Prelude.{List, ◌≡◌};
     ghost use Rattle.sat_checker.specs.inner.SlotView.{Slot, gone_count};
     ghost use Rattle.sat_checker.specs.inner.OccurrenceView.{SlotsInvariant};
 
@@ -54,8 +51,7 @@ impl Model for Clauses {
 
     ghost view = { λ s. s.slots };
 
-    ghost invariant = { λ s. SlotsInvariant s.slots s.index s.occurrences × (s.gone ≡ gone_count s.slots)
-        × (length s.slots ≤ vec_capacity s.spare) × (s.spare.items ≡ []) };
+    ghost invariant = { λ s. SlotsInvariant s.slots s.index s.occurrences × (s.gone ≡ gone_count s.slots) };
 }
 
 impl Clauses {
@@ -67,7 +63,6 @@ impl Clauses {
             slots: Slots::new(alloc),
             index: SortedPairs::new(alloc),
             occurrences: Occurrences::new(alloc),
-            spare: Vec::new(alloc),
             gone: 0,
             unused: 0,
         }
@@ -224,7 +219,6 @@ impl Clauses {
         ensures { OnOk result (self.new ≡ self.old ++ stored_slot redundant id hash literals.now ∷ []) }
     {
         let alloc = self.alloc;
-        self.spare.reserve(self.index.places() + 1)?;
         let added = add(
             &mut self.slots,
             &mut self.index,
@@ -246,13 +240,7 @@ impl Clauses {
         ensures hashed { self.new ≡ hashed_anew hasher.now self.old }
         ensures looks { LooksUpTo (live_length self.old) looks.old looks.new }
     {
-        file_all(
-            &mut self.slots,
-            hasher,
-            &mut self.index,
-            &mut self.spare,
-            looks,
-        );
+        file_all(&mut self.slots, hasher, &mut self.index, looks);
     }
 
     /// One count more of a clause that isn't gone.
@@ -291,12 +279,7 @@ impl Clauses {
         if self.gone <= self.slots.len() / 2 && self.unused <= self.slots.buffered() / 2 {
             return Ok(());
         }
-        drop_gone(
-            self.alloc,
-            &mut self.slots,
-            &mut self.index,
-            &mut self.spare,
-        )?;
+        drop_gone(self.alloc, &mut self.slots, &mut self.index)?;
         self.gone = 0;
         self.unused = 0;
         Ok(())
@@ -334,96 +317,58 @@ fn add(
     Ok(())
 }
 
-/// Hashes the clauses that aren't gone, and lists the pairs of their mixed hashes and places. There is room for them.
-#[tactic(auto, using(crate::proofs::lemmas::store::Rehashing::filing))]
-fn hash_all(slots: &mut Slots, hasher: &ClauseHasher, pairs: &mut Vec<Pair>, looks: &mut Looks)
-    requires room { length slots.old ≤ vec_capacity pairs.old }
-    requires none { pairs.old.items ≡ [] }
+/// Files the clauses that aren't gone by the places that they have once the others are dropped, from the last to the
+/// first.
+fn file_standing(slots: &Slots, index: &SortedPairs, next: &mut SortedPairs)
+    requires filed { Files index.now slots.now }
+    requires none { next.old.pairs ≡ [] }
+    requires places { next.old.places ≡ length (slots_present slots.now) }
+    ensures { next.new ≡ record { pairs = inserted_all (pairs_of (slots_present slots.now)); places = next.old.places } }
+{
+    let mut to = next.places();
+    let count = slots.len();
+    for done in 0..count {
+        let place = count - 1 - done;
+        if slots.is_gone(place) {
+            continue;
+        }
+        to -= 1;
+        next.file_before(to, index.hash(place));
+    }
+}
+
+/// Drops the clauses that are gone, and files the others by their new places. Where memory is wanted all stay.
+fn drop_gone(alloc: Global, slots: &mut Slots, index: &mut SortedPairs) -> Result<(), AllocError>
+    requires { Files index.old slots.old }
+    ensures left { OnOk result (slots.new ≡ slots_present slots.old) }
+    ensures filed { OnOk result (Files index.new (slots_present slots.old)) }
+    ensures err { OnErr result ((slots.new ≡ slots.old) × (index.new ≡ index.old)) }
+{
+    let mut left = Slots::new(alloc);
+    left.push_standing(slots)?;
+    let mut next = with_places(alloc, left.len())?;
+    file_standing(slots, index, &mut next);
+    *index = next;
+    *slots = left;
+    Ok(())
+}
+
+/// Hashes the clauses that aren't gone, and files each, from the last to the first.
+fn file_all(slots: &mut Slots, hasher: &ClauseHasher, index: &mut SortedPairs, looks: &mut Looks)
+    requires places { index.old.places ≡ length slots.old }
     ensures hashed { slots.new ≡ hashed_anew hasher.now slots.old }
-    ensures pairs { pairs.new.items ≡ pairs_of (hashed_anew hasher.now slots.old) }
-    ensures room { vec_capacity pairs.new ≡ vec_capacity pairs.old }
+    ensures filed { Files index.new (hashed_anew hasher.now slots.old) }
     ensures looks { LooksUpTo (live_length slots.old) looks.old looks.new }
 {
-    for place in 0..slots.len() {
+    index.clear();
+    let count = slots.len();
+    for done in 0..count {
+        let place = count - 1 - done;
         if slots.is_gone(place) {
             continue;
         }
         let hash = hasher.clause_hash(slots.literals(place, looks));
-        pairs.push_reserved(Pair {
-            hash: mixed(hash),
-            place,
-        });
         slots.set_hash(place, hash);
+        index.file_before(place, mixed(hash));
     }
-}
-
-/// Lists the pairs of the clauses that aren't gone, by the places that they have once the others are dropped.
-fn list_standing(
-    slots: &Slots,
-    index: &SortedPairs,
-    pairs: &mut Vec<Pair>,
-) -> Result<(), AllocError>
-    requires filed { Files index.now slots.now }
-    requires none { pairs.old.items ≡ [] }
-    ensures { OnOk result (pairs.new.items ≡ pairs_of (slots_present slots.now)) }
-{
-    for place in 0..slots.len() {
-        if slots.is_gone(place) {
-            continue;
-        }
-        let hash = index.hash(place);
-        let next = pairs.len();
-        pairs.push(Pair { hash, place: next })?;
-    }
-    Ok(())
-}
-
-/// Drops the clauses that are gone, and files the others by their new places. Where memory is wanted all stay. Behind
-/// that there is room for a pair of each place left.
-fn drop_gone(
-    alloc: Global,
-    slots: &mut Slots,
-    index: &mut SortedPairs,
-    spare: &mut Vec<Pair>,
-) -> Result<(), AllocError>
-    requires { Files index.old slots.old }
-    ensures left { OnOk result (slots.new ≡ slots_present slots.old) }
-    ensures filed { OnOk result (Files index.new (slots_present slots.old)) }
-    ensures room { OnOk result (length slots.new ≤ vec_capacity spare.new) }
-    ensures none { OnOk result (spare.new.items ≡ []) }
-    ensures err { OnErr result ((slots.new ≡ slots.old) × (index.new ≡ index.old) × (spare.new ≡ spare.old)) }
-{
-    let mut pairs = Vec::new(alloc);
-    list_standing(slots, index, &mut pairs)?;
-    let mut left = Slots::new(alloc);
-    left.push_standing(slots)?;
-    *index = sorted(alloc, &mut pairs, left.len())?;
-    let _count = index.places();
-    *slots = left;
-    pairs.clear();
-    *spare = pairs;
-    Ok(())
-}
-
-/// Hashes the clauses that aren't gone, and files them by one sort. There is room for their pairs, and stays.
-fn file_all(
-    slots: &mut Slots,
-    hasher: &ClauseHasher,
-    index: &mut SortedPairs,
-    spare: &mut Vec<Pair>,
-    looks: &mut Looks,
-)
-    requires places { index.old.places ≡ length slots.old }
-    requires room { length slots.old ≤ vec_capacity spare.old }
-    requires none { spare.old.items ≡ [] }
-    ensures hashed { slots.new ≡ hashed_anew hasher.now slots.old }
-    ensures filed { Files index.new (hashed_anew hasher.now slots.old) }
-    ensures room { vec_capacity spare.new ≡ vec_capacity spare.old }
-    ensures none { spare.new.items ≡ [] }
-    ensures looks { LooksUpTo (live_length slots.old) looks.old looks.new }
-{
-    hash_all(slots, hasher, spare, looks);
-    index.replace(spare);
-    spare.clear();
-    let _count = index.places();
 }

@@ -1,10 +1,10 @@
 //! Pairs of a hash and a place, linked by their places. A head for each value of the top bits of a hash says where a
 //! search starts.
 ghost use Rattle.std.specs.Prelude.{All, ℕ, ◌≡◌, ◌+◌, ◌<◌, ◌≤◌, ◌++◌, length, OnOk, OnErr, None};
-ghost use Rattle.std.specs.List.{IsDistinct};
+ghost use Rattle.std.specs.List.{AllByRecursion, IsDistinct};
 ghost use Rattle.sat_checker.specs.inner.PairView.{AreInOrder, inserted, without_pair, places_in, first_of, same_place};
 ghost use Rattle.sat_checker.specs.inner.LinkView.{rest, listed, top_of, head_at, IsWalk, AreLinked, Lists, up_to};
-ghost use Rattle.sat_checker.specs.inner.LinkView.{last_or, place_before, nowhere};
+ghost use Rattle.sat_checker.specs.inner.LinkView.{below, last_or, place_before, nowhere};
 
 use sat_base::ClauseHash;
 use std::alloc::AllocError;
@@ -69,6 +69,24 @@ fn last_up_to(links: &[Link], from: u32, hash: ClauseHash) -> Option<usize>
     while at != NOWHERE {
         let link = links[at as usize];
         if link.hash > hash {
+            return last;
+        }
+        last = Some(at as usize);
+        at = link.next;
+    }
+    last
+}
+
+/// The last place whose hash is below this one, from a place on.
+fn last_below(links: &[Link], from: u32, hash: ClauseHash) -> Option<usize>
+    requires { IsWalk links.now from }
+    ensures { result ≡ last_or None (below hash (rest links.now from)) }
+{
+    let mut last = None;
+    let mut at = from;
+    while at != NOWHERE {
+        let link = links[at as usize];
+        if link.hash >= hash {
             return last;
         }
         last = Some(at as usize);
@@ -205,4 +223,37 @@ pub(crate) fn link_all(heads: &mut [u32], links: &mut [Link], shift: u32, pairs:
         };
         heads[top] = pair.place as u32;
     }
+}
+
+/// Links a pair whose place is before all that are linked.
+pub(crate) fn link_before(heads: &mut [u32], links: &mut [Link], shift: u32, pair: Pair)
+    requires linked { AreLinked heads.old links.old shift }
+    requires some { 0 < length heads.old }
+    requires inside { pair.place < length links.old }
+    requires above { AllByRecursion (λ q. pair.place < q.place) (listed heads.old links.old) }
+    requires room { length (listed heads.old links.old) < length links.old }
+    requires shift { shift < 64 }
+    ensures lists { Lists heads.new links.new shift (inserted pair (listed heads.old links.old)) }
+    ensures heads { length heads.new ≡ length heads.old }
+    ensures links { length links.new ≡ length links.old }
+{
+    let top = top(pair.hash, shift, heads.len());
+    let first = heads[top];
+    let Some(before) = last_below(links, first, pair.hash) else {
+        links[pair.place] = Link {
+            hash: pair.hash,
+            next: first,
+        };
+        heads[top] = pair.place as u32;
+        return;
+    };
+    let Link { hash: lower, next } = links[before];
+    links[pair.place] = Link {
+        hash: pair.hash,
+        next,
+    };
+    links[before] = Link {
+        hash: lower,
+        next: pair.place as u32,
+    };
 }

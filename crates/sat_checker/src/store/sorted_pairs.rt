@@ -1,14 +1,15 @@
 //! One sorted list of pairs of a hash and a place. Its hashes are mixed: a search starts by their top bits, and needs
 //! them spread.
 ghost use Rattle.std.specs.Prelude.{All, ℕ, true, ◌≡◌, ◌+◌, ◌++◌, ◌<◌, ◌≤◌, [], length, OnOk, OnErr, IfOk};
-ghost use Rattle.std.specs.List.{IsDistinct};
-ghost use Rattle.std.specs.List.Sorted.{IsPermutation};
+ghost use Rattle.std.specs.List.{AllByRecursion};
 ghost use Rattle.sat_checker.specs.LiteralSets.{is_among};
 ghost use Rattle.sat_checker.specs.inner.PairView.{AreInOrder, inserted, without_pair, places_in, first_of};
-ghost use Rattle.sat_checker.specs.inner.PairView.{places_behind, same_place};
+ghost use Rattle.sat_checker.specs.inner.PairView.{places_behind};
 ghost use Rattle.sat_checker.specs.inner.LinkView.{listed, AreKeptPairs, Lists, nowhere};
 
-use crate::store::links::{Link, NOWHERE, Pair, first_from, link_all, list_all, put, take, top};
+use crate::store::links::{
+    Link, NOWHERE, Pair, first_from, link_all, link_before, list_all, put, take, top,
+};
 use sat_base::ClauseHash;
 use std::alloc::{AllocError, Global};
 use std::marker::Model;
@@ -16,12 +17,16 @@ use std::marker::Model;
 /// The fewest bits of a hash that don't tell its head: there are at most 2^31 heads.
 const LEAST_SHIFT: u32 = 33;
 
-/// How many bits of a hash don't tell its head: there are as many heads as places, or more.
+/// Number of hash bits that do not select the head: there are at least twice as many heads as places.
 fn shift_for(places: usize) -> u32
     ensures few { 33 ≤ result }
     ensures below { result < 64 }
 {
-    (places as u64).leading_zeros().min(58).max(LEAST_SHIFT)
+    (places as u64)
+        .leading_zeros()
+        .saturating_sub(1)
+        .min(58)
+        .max(LEAST_SHIFT)
 }
 
 /// Heads of nothing.
@@ -67,7 +72,7 @@ fn grow(
     Ok(less)
 }
 
-/// Makes heads where there are none, or no more than places.
+/// Makes heads where there are none, or fewer than twice the places.
 fn make_heads(
     alloc: Global,
     heads: &mut Vec<u32>,
@@ -85,7 +90,7 @@ fn make_heads(
     if heads.is_empty() {
         return grow(alloc, heads, links, shift);
     }
-    if shift > LEAST_SHIFT && links.len() >= heads.len() {
+    if shift > LEAST_SHIFT && links.len() >= heads.len() / 2 {
         return grow(alloc, heads, links, shift);
     }
     Ok(shift)
@@ -197,44 +202,41 @@ impl SortedPairs {
         take(&mut self.heads, &mut self.links, self.shift, place);
     }
 
-    /// Has these pairs in place of all others, by one sort that takes no memory. No place is given.
-    pub fn replace(&mut self, pairs: &mut [Pair])
-        requires apart { IsDistinct same_place pairs.old }
-        requires within { All (λ p. p.place < self.old.places) pairs.old }
-        requires count { length pairs.old ≤ self.old.places }
-        ensures same { IsPermutation pairs.old self.new.pairs }
-        ensures places { self.new.places ≡ self.old.places }
+    /// Removes all pairs. The places stay.
+    pub fn clear(&mut self)
+        ensures { self.new ≡ record { pairs = []; places = self.old.places } }
     {
-        if self.heads.is_empty() {
-            return;
-        }
-        pairs.sort_unstable();
         clear_heads(&mut self.heads);
-        link_all(&mut self.heads, &mut self.links, self.shift, pairs);
+    }
+
+    /// Puts a pair in, at a place before all those that have pairs.
+    #[inline(always)]
+    pub fn file_before(&mut self, place: usize, hash: ClauseHash)
+        requires inside { place < self.old.places }
+        requires above { AllByRecursion (λ q. place < q.place) self.old.pairs }
+        requires room { length self.old.pairs < self.old.places }
+        ensures { self.new ≡ record self.old { pairs = inserted (record { hash = hash; place = place }) self.old.pairs } }
+    {
+        link_before(
+            &mut self.heads,
+            &mut self.links,
+            self.shift,
+            Pair { hash, place },
+        );
     }
 }
 
-/// Pairs that are sorted once. As many places are given.
-pub(crate) fn sorted(
-    alloc: Global,
-    pairs: &mut [Pair],
-    places: usize,
-) -> Result<SortedPairs, AllocError>
-    requires apart { IsDistinct same_place pairs.old }
-    requires within { All (λ p. p.place < places) pairs.old }
-    requires count { length pairs.old ≤ places }
-    ensures same { IfOk result (λ s. IsPermutation pairs.old s.pairs) }
-    ensures places { IfOk result (λ s. s.places ≡ places) }
+/// Returns an index that has this many places and no pair.
+pub(crate) fn with_places(alloc: Global, places: usize) -> Result<SortedPairs, AllocError>
+    ensures { IfOk result (λ s. s ≡ record { pairs = []; places = places }) }
 {
     if places > NOWHERE as usize {
         return Err(AllocError);
     }
     let shift = shift_for(places);
-    let mut heads = no_heads(alloc, shift)?;
+    let heads = no_heads(alloc, shift)?;
     let mut links = Vec::new(alloc);
     links.resize(places, Link { hash: 0, next: 0 })?;
-    pairs.sort_unstable();
-    link_all(&mut heads, &mut links, shift, pairs);
     Ok(SortedPairs {
         alloc,
         heads,

@@ -1,5 +1,5 @@
 -- What the heads list, as a pair comes in or goes.
-use Rattle.std.proofs.Common.{ℕ, zero, suc, drop, ◌+◌, ◌<◌, ◌≤◌, ◌≡◌, ◌≢◌, Bool, true, false, not, cond, eqb, List, [], ◌∷◌, ◌++◌, length, refl, sym, ◌∙◌, ap, subst, arith, None, Some, slice_set, length-append}
+use Rattle.std.proofs.Common.{ℕ, zero, suc, drop, ◌+◌, ◌<◌, ◌≤◌, ◌≡◌, ◌≢◌, Bool, true, false, not, cond, eqb, List, [], ◌∷◌, ◌++◌, length, take, refl, sym, ◌∙◌, ap, subst, arith, None, Some, slice_set, length-append}
 use Rattle.std.proofs.lemmas.Bool.{eq-eqb, ne_eqb, eqb-true, eqb-false}
 use Rattle.std.proofs.lemmas.List.{get_or-set_same, get_or-set_other, get_or_push, get_or_append_left, length-set, drop_more}
 use Rattle.std.specs.List.{All, AllByRecursion, IsDistinct}
@@ -7,7 +7,7 @@ use Rattle.std.specs.Prelude.{slice_index_or}
 use Rattle.std.proofs.lemmas.Map.Keys.{IsDistinct-head, IsDistinct-tail}
 use Rattle.std.proofs.lemmas.List.Elements.{All-from_recursion}
 use Rattle.sat_checker.specs.inner.PairView.{IsPairBefore, AreInOrder, inserted, without_pair, same_place}
-use Rattle.sat_checker.specs.inner.LinkView.{nowhere, link_at, LinksPairs, joined, top_of, head_at, part_at, listed, IsPairChain, AreLinked, Lists, up_to, last_or, place_before}
+use Rattle.sat_checker.specs.inner.LinkView.{nowhere, link_at, LinksPairs, joined, top_of, head_at, part_at, listed, IsPairChain, AreLinked, AreKeptPairs, Lists, up_to, last_or, place_before}
 use Rattle.sat_checker.specs.declared.store.links.Pair.{Pair}
 use Rattle.sat_checker.specs.declared.store.links.Link.{Link}
 use Rattle.sat_checker.proofs.lemmas.pairs.Order.{all_weaker, all_both, all_filter, all_inserted, order_filter, order_inserted, length_inserted, length_filter, inserted_first}
@@ -263,6 +263,16 @@ lists_none heads links shift few none = record {
 
     each : (s : ℕ) → s < length heads → IsPairChain links shift (length heads) s (head_at heads s) []
     each s l = record { leads = none s 0 l; short = omega arith; in_order = tt; tops = tt }
+
+-- heads that are written whole
+pub written : (n : ℕ) (xs ys : List ℕ) → length xs ≡ n → take n (xs ++ ys) ≡ xs
+written zero [] ys e = refl
+written zero (x ∷ xs) ys e = absurd (omega (arith, e))
+written (suc n) [] ys e = absurd (omega (arith, e))
+written (suc n) (x ∷ xs) ys e = ap (λ zs. x ∷ zs) (written n xs ys (omega (arith, e)))
+
+pub kept_none : (heads : List ℕ) (links : List Link) (shift : ℕ) → length links ≤ nowhere → All (λ h. h ≡ nowhere) heads → (0 < length links → 0 < length heads) → 33 ≤ shift → shift < 64 → AreKeptPairs heads links shift
+kept_none heads links shift few none some least below = record { linked = (lists_none heads links shift few none).linked; some = some; few = least; below = below }
 
 order_drop : (i : ℕ) (ps : List Pair) → AreInOrder ps → AreInOrder (drop i ps)
 order_drop zero ps o = o

@@ -1,11 +1,11 @@
 -- Walks over pairs that are linked by their places.
-use Rattle.std.proofs.Common.{ℕ, zero, suc, ◌<◌, ◌≤◌, ◌≡◌, ◌≢◌, Bool, true, false, cond, eqb, leb, List, [], ◌∷◌, length, filter, map, refl, sym, ◌∙◌, ap, subst, arith, Option, None, Some, inl, inr}
+use Rattle.std.proofs.Common.{ℕ, zero, suc, ◌<◌, ◌≤◌, ◌≡◌, ◌≢◌, Bool, true, false, cond, eqb, leb, ltb, List, [], ◌∷◌, length, filter, map, refl, sym, ◌∙◌, ap, subst, arith, Option, None, Some, inl, inr}
 use Rattle.std.proofs.lemmas.Bool.{eq-eqb, ne_eqb, eqb-true, or_cases, true≢false}
 use Rattle.std.proofs.lemmas.Bool.Decides.{nat_tests}
 use Rattle.std.specs.List.{AllByRecursion}
 use Rattle.sat_checker.specs.LiteralSets.{is_among}
 use Rattle.sat_checker.specs.inner.PairView.{IsPairBefore, AreInOrder, places_in, first_of}
-use Rattle.sat_checker.specs.inner.LinkView.{nowhere, link_at, pair_at, chain, rest, LinksPairs, IsWalk, up_to, last_or, place_before}
+use Rattle.sat_checker.specs.inner.LinkView.{nowhere, link_at, pair_at, chain, rest, LinksPairs, IsWalk, up_to, below, last_or, place_before}
 use Rattle.sat_checker.specs.declared.store.links.Pair.{Pair}
 use Rattle.sat_checker.specs.declared.store.links.Link.{Link}
 use Rattle.sat_checker.proofs.lemmas.pairs.Order.{all_weaker, filter_none, places_past}
@@ -129,6 +129,23 @@ module _ (links : List Link) (at : ℕ) (link : Link) (w : IsWalk links at) (n :
   last_past h o l = ap (last_or o) (filter_none (λ p. leb p.hash h) (rest links at) (all_weaker (λ q. h < q.hash) (λ q. leb q.hash h ≡ false) (λ q k. no q.hash h k) (rest links at) (all_past h l)))
     where
       no : (a b : ℕ) → b < a → leb a b ≡ false
+      no a b k = grind (arith, nat_tests)
+
+  all_from : (h : ℕ) → h ≤ link.hash → AllByRecursion (λ q. h ≤ q.hash) (rest links at)
+  all_from h l =
+      subst (AllByRecursion (λ q. h ≤ q.hash)) (sym after)
+      (l, all_weaker (λ q. link.hash ≤ q.hash) (λ q. h ≤ q.hash) (λ q k. omega arith) (rest links link.next) higher)
+
+  pub below_on : (h : ℕ) (o : Option ℕ) → link.hash < h → last_or o (below h (rest links at)) ≡ last_or (Some at) (below h (rest links link.next))
+  below_on h o l = ap (λ ps. last_or o (below h ps)) after ∙ ap (λ b. last_or o (cond b (record { hash = link.hash; place = at } ∷ below h (rest links link.next)) (below h (rest links link.next)))) (yes link.hash h l)
+    where
+      yes : (a b : ℕ) → a < b → ltb a b ≡ true
+      yes a b k = grind (arith, nat_tests)
+
+  pub below_past : (h : ℕ) (o : Option ℕ) → h ≤ link.hash → last_or o (below h (rest links at)) ≡ o
+  below_past h o l = ap (last_or o) (filter_none (λ p. ltb p.hash h) (rest links at) (all_weaker (λ q. h ≤ q.hash) (λ q. ltb q.hash h ≡ false) (λ q k. no q.hash h k) (rest links at) (all_from h l)))
+    where
+      no : (a b : ℕ) → b ≤ a → ltb a b ≡ false
       no a b k = grind (arith, nat_tests)
 
   pub before_on : (place : ℕ) → link.next ≢ place → place_before place (rest links at) ≡ place_before place (rest links link.next)

@@ -117,9 +117,6 @@ module _ (literals : ℕ → List ℕ) (places : List ℕ) (i : ℕ) (inside : i
   pub looks_ended : (most before after : ℕ) → before + total_length (map literals (drop i places)) ≡ most → after ≡ before + length (literals (get_or places i 0)) → after ≤ most
   looks_ended most before after h e = omega (arith, sum_next literals places i inside)
 
-pub looks_over : (most before left : ℕ) → before + left ≡ most → before ≤ most
-looks_over most before left h = omega arith
-
 pub Extends-further : (old mid new : LiteralsAndRoom) → AssumesMore old mid → AssumesMore mid new → AssumesMore old new
 Extends-further old mid new h k =
     let p : length old.literals ≤ length mid.literals = h.longer in

@@ -1,23 +1,21 @@
 -- Clauses that are gone are dropped, and the others keep all but their places.
-use Rattle.std.proofs.Common.{ℕ, zero, suc, ◌+◌, ◌<◌, ◌≤◌, ◌≡◌, inl, inr, Bool, true, false, not, ◌&&◌, cond, eqb, List, [], ◌∷◌, ◌++◌, length, take, Option, refl, sym, ◌∙◌, ap, subst, arith, slice_set}
+use Rattle.std.proofs.Common.{ℕ, zero, suc, ◌+◌, ◌<◌, ◌≤◌, ◌≡◌, inl, inr, Bool, true, false, not, ◌&&◌, cond, eqb, List, [], ◌∷◌, ◌++◌, length, length-append, take, drop, Option, refl, sym, ◌∙◌, ap, subst, arith, slice_set}
 use Rattle.std.proofs.lemmas.Bool.{or_left, or_right, eq-eqb}
-use Rattle.std.proofs.lemmas.List.{append-nil, append_assoc}
+use Rattle.std.proofs.lemmas.List.{append-nil, append_assoc, drop_more}
 use Rattle.std.proofs.lemmas.List.Elements.{filter_more}
 use Rattle.std.specs.List.{AllByRecursion}
 use Rattle.sat_checker.specs.LiteralSets.{is_among}
 use Rattle.sat_checker.specs.Stored.{Stored, hash_by}
 use Rattle.sat_checker.specs.Storing.{with_count, without_count}
 use Rattle.sat_checker.specs.inner.Marks.{IsIncreasing}
-use Rattle.sat_checker.specs.inner.IndexView.{Files, pairs_from, pairs_of}
-use Rattle.sat_checker.specs.inner.PairView.{Indexed, places_in, mixed}
+use Rattle.sat_checker.specs.inner.IndexView.{Files, pairs_from}
+use Rattle.sat_checker.specs.inner.PairView.{Indexed, inserted, inserted_all, places_in, mixed}
 use Rattle.sat_checker.specs.inner.OccurrenceView.{times_in, times_stored, SlotsInvariant}
 use Rattle.sat_checker.specs.inner.SlotView.{Slot, unstored, slot_at, stored_slot, is_gone, is_filed, places_from, gone_count, slots_present, MayDrop, live, slot_ids, slot_count, with_count_at, without_count_at, all_hashed_by}
 use Rattle.sat_checker.specs.inner.StoreView.{AreHashed, KeepsClauses, AreIdsInOrder, KeepsIds}
 use Rattle.sat_checker.specs.declared.hash.ClauseHasher.{ClauseHasher}
 use Rattle.sat_checker.specs.declared.store.occurrences.Occurrences.{Occurrences}
 use Rattle.sat_checker.specs.declared.store.Store.{Store}
-use Rattle.sat_checker.specs.declared.store.links.Pair.{Pair}
-use Rattle.sat_checker.proofs.lemmas.store.Filing.{pairs_push}
 use Rattle.sat_checker.proofs.lemmas.store.Places.{gone_more, gone_not, set_at}
 
 -- how many are gone, as clauses come in and go
@@ -199,30 +197,27 @@ standing_put old mid new ss i s l n same e w =
 pub standing_all : (old mid ss : List Slot) (i : ℕ) → length ss ≤ i → mid ≡ old ++ slots_present (take i ss) → mid ≡ old ++ slots_present ss
 standing_all old mid ss i l e = e ∙ ap (λ xs. old ++ slots_present xs) (take_whole ss i l)
 
--- the pairs of those that aren't gone, up to a place, by the places that they will have
-pub count_listed : (k : ℕ) (ss : List Slot) → length (pairs_from k (slots_present ss)) ≡ length (slots_present ss)
-count_listed k [] = refl
-count_listed k (s ∷ ss) = go (is_gone s) refl (λ n. count_listed n ss)
-  where
-    go : (b : Bool) → is_gone s ≡ b → ((n : ℕ) → length (pairs_from n (slots_present ss)) ≡ length (slots_present ss)) → length (pairs_from k (cond (not b) (s ∷ slots_present ss) (slots_present ss))) ≡ length (cond (not b) (s ∷ slots_present ss) (slots_present ss))
-    go true g ih = ih k
-    go false g ih = ap (λ b. length (cond b (pairs_from (k + 1) (slots_present ss)) ((record { hash = mixed s.hash; place = k }) ∷ pairs_from (k + 1) (slots_present ss)))) g ∙ ap suc (ih (k + 1))
+-- those that aren't gone, up to a place and from there on
+pub kept_skip : (ss : List Slot) (i : ℕ) → i < length ss → is_gone (slot_at ss i) ≡ true → (slots_present (take (i + 1) ss) ≡ slots_present (take i ss)) × (slots_present (drop i ss) ≡ slots_present (drop (i + 1) ss))
+kept_skip ss i l g = (
+  standing_next ss i l ∙ ap (λ b. slots_present (take i ss) ++ cond (not b) (slot_at ss i ∷ []) []) g ∙ append-nil (slots_present (take i ss)),
+  ap slots_present (drop_more ss i (unstored 0 0 []) l) ∙ ap (λ b. cond (not b) (slot_at ss i ∷ slots_present (drop (i + 1) ss)) (slots_present (drop (i + 1) ss))) g,
+)
 
-pub listed_skip : (ps : List Pair) (ss : List Slot) (i : ℕ) → i < length ss → is_gone (slot_at ss i) ≡ true → ps ≡ pairs_of (slots_present (take i ss)) → ps ≡ pairs_of (slots_present (take (i + 1) ss))
-listed_skip ps ss i l g e = e ∙ ap pairs_of (standing_skip [] (slots_present (take i ss)) ss i l g refl)
+pub kept_next : (ss : List Slot) (i : ℕ) → i < length ss → is_gone (slot_at ss i) ≡ false → (length (slots_present (take (i + 1) ss)) ≡ length (slots_present (take i ss)) + 1) × (slots_present (drop i ss) ≡ slot_at ss i ∷ slots_present (drop (i + 1) ss))
+kept_next ss i l g = (
+  ap length (standing_next ss i l ∙ ap (λ b. slots_present (take i ss) ++ cond (not b) (slot_at ss i ∷ []) []) g) ∙ length-append (slots_present (take i ss)) (slot_at ss i ∷ []),
+  ap slots_present (drop_more ss i (unstored 0 0 []) l) ∙ ap (λ b. cond (not b) (slot_at ss i ∷ slots_present (drop (i + 1) ss)) (slots_present (drop (i + 1) ss))) g,
+)
 
-pub listed_put : (ps new : List Pair) (ss : List Slot) (i hash next : ℕ) → i < length ss → is_gone (slot_at ss i) ≡ false → hash ≡ mixed (slot_at ss i).hash → next ≡ length ps → ps ≡ pairs_of (slots_present (take i ss))
-    → new ≡ ps ++ (record { hash = hash; place = next }) ∷ [] → new ≡ pairs_of (slots_present (take (i + 1) ss))
-listed_put ps new ss i hash next l n h c e w =
-    let xs : List Slot = slots_present (take i ss) in
-    let count : next ≡ 0 + length xs = c ∙ ap length e ∙ count_listed 0 (take i ss) ∙ (let z : length xs ≡ 0 + length xs = omega arith in z) in
-    w ∙ ap (λ qs. qs ++ (record { hash = hash; place = next }) ∷ []) e ∙ ap (λ k. pairs_of xs ++ (record { hash = k; place = next }) ∷ []) h
-    ∙ ap (λ k. pairs_of xs ++ (record { hash = mixed (slot_at ss i).hash; place = k }) ∷ []) count
-    ∙ sym (ap pairs_of (standing_next ss i l ∙ ap (λ b. xs ++ cond (not b) (slot_at ss i ∷ []) []) n) ∙ pairs_push 0 xs (slot_at ss i)
-    ∙ ap (λ b. pairs_of xs ++ cond b [] ((record { hash = mixed (slot_at ss i).hash; place = 0 + length xs }) ∷ [])) n)
-
-pub listed_all : (ps : List Pair) (ss : List Slot) (i : ℕ) → length ss ≤ i → ps ≡ pairs_of (slots_present (take i ss)) → ps ≡ pairs_of (slots_present ss)
-listed_all ps ss i l e = e ∙ ap (λ xs. pairs_of (slots_present xs)) (take_whole ss i l)
+-- the first of those that aren't gone is filed before the others
+pub filed_kept : (ss : List Slot) (i to next hash : ℕ) → i < length ss → is_gone (slot_at ss i) ≡ false → hash ≡ mixed (slot_at ss i).hash → next + 1 ≡ to
+    → inserted (record { hash = hash; place = next }) (inserted_all (pairs_from to (slots_present (drop (i + 1) ss)))) ≡ inserted_all (pairs_from next (slots_present (drop i ss)))
+filed_kept ss i to next hash l g h e =
+    ap (λ k. inserted (record { hash = k; place = next }) (inserted_all (pairs_from to (slots_present (drop (i + 1) ss))))) h
+    ∙ ap (λ k. inserted (record { hash = mixed (slot_at ss i).hash; place = next }) (inserted_all (pairs_from k (slots_present (drop (i + 1) ss))))) (sym e)
+    ∙ ap (λ b. inserted_all (cond b (pairs_from (next + 1) (slots_present (drop (i + 1) ss))) ((record { hash = mixed (slot_at ss i).hash; place = next }) ∷ pairs_from (next + 1) (slots_present (drop (i + 1) ss))))) (sym g)
+    ∙ ap (λ xs. inserted_all (pairs_from next xs)) (sym (kept_next ss i l g).1)
 
 -- one that isn't gone is filed under its hash
 place_among : (k : ℕ) (ss : List Slot) (i n : ℕ) → i < length ss → is_gone (slot_at ss i) ≡ false → k + i ≡ n → is_among (places_from k (slot_at ss i).hash ss) n ≡ true

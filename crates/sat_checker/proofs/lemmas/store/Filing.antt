@@ -1,20 +1,16 @@
 -- The places of a hash, in an index of pairs and one after another.
-use Rattle.std.proofs.Common.{ℕ, zero, suc, ◌+◌, ◌<◌, ◌≤◌, ◌≡◌, Bool, true, false, not, ◌||◌, ◌&&◌, cond, eqb, ltb, leb, List, [], ◌∷◌, ◌++◌, length, map, filter, Option, None, Some, refl, sym, ◌∙◌, ap, subst, arith}
-use Rattle.std.proofs.lemmas.Bool.{eqb-true, eq-eqb, ne_eqb, true≢false}
+use Rattle.std.proofs.Common.{ℕ, ◌+◌, ◌<◌, ◌≤◌, ◌≡◌, Bool, true, false, not, ◌||◌, ◌&&◌, cond, eqb, ltb, leb, List, [], ◌∷◌, length, map, filter, Option, None, Some, inl, inr, ◌≢◌, refl, sym, ◌∙◌, ap, subst, arith}
+use Rattle.std.proofs.lemmas.Bool.{cases_lt, eqb-true, eq-eqb, ne_eqb, true≢false}
 use Rattle.std.proofs.lemmas.Bool.Decides.{nat_tests}
-use Rattle.std.proofs.lemmas.List.Sorted.{All-permutation, Contains-permutation, IsPermutation-sym}
-use Rattle.std.proofs.lemmas.List.Elements.{All-from_recursion, recursion_from_All}
-use Rattle.std.specs.List.{All, AllByRecursion, Contains, IsDistinct}
-use Rattle.std.specs.List.Sorted.{IsPermutation}
+use Rattle.std.specs.List.{AllByRecursion}
 use Rattle.std.specs.Option.{IfSome}
-use Rattle.std.specs.Prelude.{slice_index_or}
 use Rattle.sat_checker.specs.LiteralSets.{is_among}
 use Rattle.sat_checker.specs.inner.Marks.{IsIncreasing}
-use Rattle.sat_checker.specs.inner.IndexView.{without_place, pairs_from, pairs_of}
-use Rattle.sat_checker.specs.inner.PairView.{IsPairBefore, AreInOrder, without_pair, places_in, first_of, places_behind, from_on, same_place, mixed}
+use Rattle.sat_checker.specs.inner.IndexView.{without_place, pairs_from, pairs_of, Files}
+use Rattle.sat_checker.specs.inner.PairView.{Indexed, AreInOrder, is_before, inserted, inserted_all, without_pair, places_in, first_of, places_behind, from_on, mixed}
 use Rattle.sat_checker.specs.inner.SlotView.{Slot, is_gone, is_filed, places_from, places_of}
 use Rattle.sat_checker.specs.declared.store.links.Pair.{Pair}
-use Rattle.sat_checker.proofs.lemmas.sets.Canonical.{same_increasing}
+use Rattle.sat_checker.proofs.lemmas.pairs.Order.{all_inserted, all_weaker, is-before, order_inserted}
 use Rattle.sat_checker.proofs.lemmas.pairs.Mixing.{mixed_same}
 use Rattle.sat_checker.proofs.lemmas.store.Places.{places_above}
 
@@ -48,47 +44,7 @@ pairs_below k n (s ∷ ss) l = go (is_gone s) (pairs_below (k + 1) n ss (omega a
     go true ih = ih
     go false ih = (omega arith, ih)
 
-pub pairs_within : (ss : List Slot) → All (λ (p : Pair). p.place < length ss) (pairs_of ss)
-pairs_within ss = All-from_recursion (λ (p : Pair). p.place < length ss) (pairs_of ss) (pairs_below 0 (length ss) ss (omega arith))
-
-pub pairs_count : (k : ℕ) (ss : List Slot) → length (pairs_from k ss) ≤ length ss
-pairs_count k [] = omega arith
-pairs_count k (s ∷ ss) = go (is_gone s) (pairs_count (k + 1) ss)
-  where
-    go : (g : Bool) → length (pairs_from (k + 1) ss) ≤ length ss → length (cond g (pairs_from (k + 1) ss) ((record { hash = mixed s.hash; place = k }) ∷ pairs_from (k + 1) ss)) ≤ length (s ∷ ss)
-    go true ih = omega arith
-    go false ih = omega arith
-
-pub pairs_apart : (k : ℕ) (ss : List Slot) → IsDistinct same_place (pairs_from k ss)
-unfolding IsDistinct
-pairs_apart k [] = tt
-pairs_apart k (s ∷ ss) = go (is_gone s) (pairs_apart (k + 1) ss)
-  where
-    differ : (ps : List Pair) → AllByRecursion (λ (p : Pair). k < p.place) ps → AllByRecursion (λ (p : Pair). same_place (record { hash = mixed s.hash; place = k }) p ≡ false) ps
-    differ [] h = tt
-    differ (p ∷ ps) h = (ne_eqb k p.place (λ e. let l : k < p.place = h.0 in omega arith), differ ps h.1)
-
-    go : (g : Bool) → IsDistinct same_place (pairs_from (k + 1) ss) → IsDistinct same_place (cond g (pairs_from (k + 1) ss) ((record { hash = mixed s.hash; place = k }) ∷ pairs_from (k + 1) ss))
-    go true ih = ih
-    go false ih = (differ (pairs_from (k + 1) ss) (pairs_above k (k + 1) ss (omega arith)), ih)
-
--- the places of a hash rise, in an index and in slots
-above_in : (q : ℕ) (p : Pair) → p.hash ≡ q → (ps : List Pair) → AllByRecursion (IsPairBefore p) ps → AllByRecursion (λ x. p.place < x) (places_in q ps)
-above_in q p e [] b = tt
-above_in q p e (t ∷ ts) b = pick (eqb t.hash q) refl (above_in q p e ts b.1)
-  where
-    pick : (d : Bool) → eqb t.hash q ≡ d → AllByRecursion (λ x. p.place < x) (places_in q ts) → AllByRecursion (λ x. p.place < x) (map (λ (r : Pair). r.place) (cond d (t ∷ filter (λ r. eqb r.hash q) ts) (filter (λ r. eqb r.hash q) ts)))
-    pick true d ih = ((b.0).place (e ∙ sym (eqb-true t.hash q d)), ih)
-    pick false d ih = ih
-
-increasing_in : (q : ℕ) (ps : List Pair) → AreInOrder ps → IsIncreasing (places_in q ps)
-increasing_in q [] o = tt
-increasing_in q (p ∷ ps) o = pick (eqb p.hash q) refl (increasing_in q ps o.1)
-  where
-    pick : (d : Bool) → eqb p.hash q ≡ d → IsIncreasing (places_in q ps) → IsIncreasing (map (λ (r : Pair). r.place) (cond d (p ∷ filter (λ r. eqb r.hash q) ps) (filter (λ r. eqb r.hash q) ps)))
-    pick true d ih = (above_in q p (eqb-true p.hash q d) ps o.0, ih)
-    pick false d ih = ih
-
+-- the places of a hash rise
 pub increasing_places : (k q : ℕ) (ss : List Slot) → IsIncreasing (places_from k q ss)
 increasing_places k q [] = tt
 increasing_places k q (s ∷ ss) = go (is_filed q s) (increasing_places (k + 1) q ss)
@@ -97,52 +53,71 @@ increasing_places k q (s ∷ ss) = go (is_filed q s) (increasing_places (k + 1) 
     go true ih = (places_above k (k + 1) q ss (omega arith), ih)
     go false ih = ih
 
--- a place of a hash is a pair of the list
-contains_from : (q x : ℕ) (ps : List Pair) → is_among (places_in q ps) x ≡ true → Contains ps (record { hash = q; place = x })
-contains_from q x [] e = absurd (true≢false (sym e))
-contains_from q x (p ∷ ps) e = go (eqb p.hash q) refl e (λ k. contains_from q x ps k)
+-- one put in at a place before all those of the others
+places_before : (q : ℕ) (p : Pair) (ps : List Pair) → AllByRecursion (λ x. p.place < x.place) ps → places_in q (inserted p ps) ≡ places_in q (p ∷ ps)
+places_before q p [] a = refl
+places_before q p (x ∷ xs) a = go (is_before p x) refl (places_before q p xs a.1)
   where
-    later : Contains ps (record { hash = q; place = x }) → Contains (p ∷ ps) (record { hash = q; place = x })
-    later c = (suc c.0, (let l : c.0 < length ps = c.1 in omega arith), c.2)
+    lower : is_before p x ≡ false → x.hash < p.hash
+    lower e = elim (cases_lt x.hash p.hash) [
+      | inl less ↦ less
+      | inr more ↦ let l : p.place < x.place = a.0 in absurd (true≢false (sym (is-before p x (record { hash = more; place = λ s. l })) ∙ e))
+    ]
 
-    here : eqb p.hash q ≡ true → (b : Bool) → eqb p.place x ≡ b → (b || is_among (places_in q ps) x) ≡ true → (is_among (places_in q ps) x ≡ true → Contains ps (record { hash = q; place = x })) → Contains (p ∷ ps) (record { hash = q; place = x })
-    here d true b k ih = (0, omega arith, ap (λ h. record { hash = h; place = p.place }) (eqb-true p.hash q d) ∙ ap (λ y. record { hash = q; place = y }) (eqb-true p.place x b))
-    here d false b k ih = later (ih k)
+    pick : (d f : Bool) → (d ≡ true → f ≡ false) → map (λ (y : Pair). y.place) (filter (λ y. eqb y.hash q) (inserted p xs)) ≡ map (λ (y : Pair). y.place) (cond d (p ∷ filter (λ y. eqb y.hash q) xs) (filter (λ y. eqb y.hash q) xs))
+        → map (λ (y : Pair). y.place) (cond f (x ∷ filter (λ y. eqb y.hash q) (inserted p xs)) (filter (λ y. eqb y.hash q) (inserted p xs)))
+        ≡ map (λ (y : Pair). y.place) (cond d (p ∷ cond f (x ∷ filter (λ y. eqb y.hash q) xs) (filter (λ y. eqb y.hash q) xs)) (cond f (x ∷ filter (λ y. eqb y.hash q) xs) (filter (λ y. eqb y.hash q) xs)))
+    pick true true n ih = absurd (true≢false (n refl))
+    pick true false n ih = ih
+    pick false true n ih = ap (λ ys. x.place ∷ ys) ih
+    pick false false n ih = ih
 
-    go : (d : Bool) → eqb p.hash q ≡ d → is_among (map (λ (r : Pair). r.place) (cond d (p ∷ filter (λ r. eqb r.hash q) ps) (filter (λ r. eqb r.hash q) ps))) x ≡ true → (is_among (places_in q ps) x ≡ true → Contains ps (record { hash = q; place = x })) → Contains (p ∷ ps) (record { hash = q; place = x })
-    go true d k ih = here d (eqb p.place x) refl k ih
-    go false d k ih = later (ih k)
+    go : (b : Bool) → is_before p x ≡ b → places_in q (inserted p xs) ≡ places_in q (p ∷ xs) → places_in q (cond b (p ∷ x ∷ xs) (x ∷ inserted p xs)) ≡ places_in q (p ∷ x ∷ xs)
+    go true e ih = refl
+    go false e ih = let l = lower e in pick (eqb p.hash q) (eqb x.hash q) (λ d. ne_eqb x.hash q (λ s. let h = eqb-true p.hash q d in omega (arith, l, h, s))) ih
 
-among_from : (q x : ℕ) (ps : List Pair) (i : ℕ) → i < length ps → slice_index_or ps i (record { hash = q; place = x }) ≡ record { hash = q; place = x } → is_among (places_in q ps) x ≡ true
-among_from q x [] i l e = absurd (omega arith)
-among_from q x (p ∷ ps) zero l e =
-    let h : p.hash ≡ q = ap (λ (r : Pair). r.hash) e in let y : p.place ≡ x = ap (λ (r : Pair). r.place) e in
-    ap (λ b. is_among (map (λ (r : Pair). r.place) (cond b (p ∷ filter (λ r. eqb r.hash q) ps) (filter (λ r. eqb r.hash q) ps))) x) (eq-eqb p.hash q h) ∙ ap (λ b. b || is_among (places_in q ps) x) (eq-eqb p.place x y)
-among_from q x (p ∷ ps) (suc i) l e = go (eqb p.hash q) (among_from q x ps i (omega arith) e)
+each_filed : (P : Pair → Type 0) (ps : List Pair) → AllByRecursion P ps → AllByRecursion P (inserted_all ps)
+each_filed P [] h = tt
+each_filed P (p ∷ ps) h = all_inserted P p (inserted_all ps) h.0 (each_filed P ps h.1)
+
+-- those of slots are above the place before
+pub filed_above : (b k : ℕ) (ss : List Slot) → b < k → AllByRecursion (λ p. b < p.place) (inserted_all (pairs_from k ss))
+filed_above b k ss l = each_filed (λ p. b < p.place) (pairs_from k ss) (pairs_above b k ss l)
+
+-- those of slots are in order, and have the places of each hash
+filed_in_order : (k : ℕ) (ss : List Slot) → AreInOrder (inserted_all (pairs_from k ss))
+filed_in_order k [] = tt
+filed_in_order k (s ∷ ss) = go (is_gone s) (filed_in_order (k + 1) ss)
   where
-    or_true : (b : Bool) → (b || true) ≡ true
-    or_true true = refl
-    or_true false = refl
+    go : (g : Bool) → AreInOrder (inserted_all (pairs_from (k + 1) ss)) → AreInOrder (inserted_all (cond g (pairs_from (k + 1) ss) ((record { hash = mixed s.hash; place = k }) ∷ pairs_from (k + 1) ss)))
+    go true ih = ih
+    go false ih =
+        order_inserted (record { hash = mixed s.hash; place = k }) (inserted_all (pairs_from (k + 1) ss))
+        (all_weaker (λ p. k < p.place) (λ p. k ≢ p.place) (λ p l e. omega (arith, l, e)) (inserted_all (pairs_from (k + 1) ss)) (filed_above k (k + 1) ss (omega arith))) ih
 
-    go : (d : Bool) → is_among (places_in q ps) x ≡ true → is_among (map (λ (r : Pair). r.place) (cond d (p ∷ filter (λ r. eqb r.hash q) ps) (filter (λ r. eqb r.hash q) ps))) x ≡ true
-    go true k = ap (λ b. eqb p.place x || b) k ∙ or_true (eqb p.place x)
-    go false k = k
-
--- the sorted pairs of slots have the places of each hash
-pub sorted_places : (q : ℕ) (ss : List Slot) (sorted : List Pair) → IsPermutation (pairs_of ss) sorted → AreInOrder sorted → places_in (mixed q) sorted ≡ places_of q ss
-sorted_places q ss sorted p o = same_increasing (places_in (mixed q) sorted) (places_of q ss) (increasing_in (mixed q) sorted o) (increasing_places 0 q ss) (λ x. both (is_among (places_in (mixed q) sorted) x) (is_among (places_of q ss) x) (to x) (from x))
+filed_places : (q k : ℕ) (ss : List Slot) → places_in q (inserted_all (pairs_from k ss)) ≡ places_in q (pairs_from k ss)
+filed_places q k [] = refl
+filed_places q k (s ∷ ss) = go (is_gone s) (filed_places q (k + 1) ss)
   where
-    to : (x : ℕ) → is_among (places_in (mixed q) sorted) x ≡ true → is_among (places_of q ss) x ≡ true
-    to x e = let c = Contains-permutation sorted (pairs_of ss) (record { hash = mixed q; place = x }) (IsPermutation-sym (pairs_of ss) sorted p) (contains_from (mixed q) x sorted e) in ap (λ ps. is_among ps x) (sym (pairs_places q 0 ss)) ∙ among_from (mixed q) x (pairs_of ss) c.0 c.1 c.2
+    pick : (d : Bool) → places_in q (inserted_all (pairs_from (k + 1) ss)) ≡ places_in q (pairs_from (k + 1) ss)
+        → map (λ (p : Pair). p.place) (cond d ((record { hash = mixed s.hash; place = k }) ∷ filter (λ p. eqb p.hash q) (inserted_all (pairs_from (k + 1) ss))) (filter (λ p. eqb p.hash q) (inserted_all (pairs_from (k + 1) ss))))
+        ≡ map (λ (p : Pair). p.place) (cond d ((record { hash = mixed s.hash; place = k }) ∷ filter (λ p. eqb p.hash q) (pairs_from (k + 1) ss)) (filter (λ p. eqb p.hash q) (pairs_from (k + 1) ss)))
+    pick true ih = ap (λ ps. k ∷ ps) ih
+    pick false ih = ih
 
-    from : (x : ℕ) → is_among (places_of q ss) x ≡ true → is_among (places_in (mixed q) sorted) x ≡ true
-    from x e = let c = Contains-permutation (pairs_of ss) sorted (record { hash = mixed q; place = x }) p (contains_from (mixed q) x (pairs_of ss) (ap (λ ps. is_among ps x) (pairs_places q 0 ss) ∙ e)) in among_from (mixed q) x sorted c.0 c.1 c.2
+    go : (g : Bool) → places_in q (inserted_all (pairs_from (k + 1) ss)) ≡ places_in q (pairs_from (k + 1) ss)
+        → places_in q (inserted_all (cond g (pairs_from (k + 1) ss) ((record { hash = mixed s.hash; place = k }) ∷ pairs_from (k + 1) ss))) ≡ places_in q (cond g (pairs_from (k + 1) ss) ((record { hash = mixed s.hash; place = k }) ∷ pairs_from (k + 1) ss))
+    go true ih = ih
+    go false ih = places_before q (record { hash = mixed s.hash; place = k }) (inserted_all (pairs_from (k + 1) ss)) (filed_above k (k + 1) ss (omega arith)) ∙ pick (eqb (mixed s.hash) q) ih
 
-    both : (b d : Bool) → (b ≡ true → d ≡ true) → (d ≡ true → b ≡ true) → b ≡ d
-    both true true f g = refl
-    both true false f g = sym (f refl)
-    both false true f g = g refl
-    both false false f g = refl
+-- an index in which the pairs of all slots were put in
+pub files_all : (ss : List Slot) (index : Indexed) → index ≡ record { pairs = inserted_all (pairs_of ss); places = length ss } → Files index ss
+files_all ss index e = subst (λ x. Files x ss) (sym e) (record {
+  filed = λ q. filed_places (mixed q) 0 ss ∙ pairs_places q 0 ss;
+  places = refl;
+  in_order = filed_in_order 0 ss;
+  below = each_filed (λ p. p.place < length ss) (pairs_of ss) (pairs_below 0 (length ss) ss (omega arith));
+})
 
 -- a pair that goes takes its place from its hash
 pub places_without : (q i : ℕ) (ps : List Pair) → places_in q (without_pair i ps) ≡ without_place i (places_in q ps)
@@ -275,19 +250,3 @@ first_ok ps (Some p) e = first_among ps p e
 pub left_step : (h : ℕ) (ss : List Slot) (now : Option ℕ) (x : ℕ) → now ≡ Some x → IfSome now (λ p. is_among (places_of h ss) p ≡ true) → (next : Option ℕ) → next ≡ first_of (places_behind x (places_of h ss))
     → from_on now (places_of h ss) ≡ x ∷ from_on next (places_of h ss)
 left_step h ss now x e m next n = ap (λ o. from_on o (places_of h ss)) e ∙ from_step (places_of h ss) (increasing_places 0 h ss) x (subst (λ o. IfSome o (λ p. is_among (places_of h ss) p ≡ true)) e m) next n
-
--- the pairs of slots have no place past them, also once they are sorted
-pub sorted_below : (ss : List Slot) (n : ℕ) (sorted : List Pair) → IsPermutation (pairs_of ss) sorted → n ≡ length ss → AllByRecursion (λ (p : Pair). p.place < n) sorted
-sorted_below ss n sorted p e = recursion_from_All (λ (x : Pair). x.place < n) sorted (All-permutation (λ (x : Pair). x.place < n) (pairs_of ss) sorted p (subst (λ m. All (λ (x : Pair). x.place < m) (pairs_of ss)) (sym e) (pairs_within ss)))
-
--- one slot more at the end
-pub pairs_push : (k : ℕ) (ss : List Slot) (s : Slot) → pairs_from k (ss ++ s ∷ []) ≡ pairs_from k ss ++ cond (is_gone s) [] ((record { hash = mixed s.hash; place = k + length ss }) ∷ [])
-pairs_push k [] s = let e : k + 0 ≡ k = omega arith in rw e refl
-pairs_push k (t ∷ ss) s =
-    let e : (k + 1) + length ss ≡ k + length (t ∷ ss) = omega arith in
-    go (is_gone t) (pairs_push (k + 1) ss s ∙ ap (λ n. pairs_from (k + 1) ss ++ cond (is_gone s) [] ((record { hash = mixed s.hash; place = n }) ∷ [])) e)
-  where
-    go : (b : Bool) → pairs_from (k + 1) (ss ++ s ∷ []) ≡ pairs_from (k + 1) ss ++ cond (is_gone s) [] ((record { hash = mixed s.hash; place = k + length (t ∷ ss) }) ∷ [])
-        → cond b (pairs_from (k + 1) (ss ++ s ∷ [])) ((record { hash = mixed t.hash; place = k }) ∷ pairs_from (k + 1) (ss ++ s ∷ [])) ≡ cond b (pairs_from (k + 1) ss) ((record { hash = mixed t.hash; place = k }) ∷ pairs_from (k + 1) ss) ++ cond (is_gone s) [] ((record { hash = mixed s.hash; place = k + length (t ∷ ss) }) ∷ [])
-    go true h = h
-    go false h = ap (λ ps. (record { hash = mixed t.hash; place = k }) ∷ ps) h

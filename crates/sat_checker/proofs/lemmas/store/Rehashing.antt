@@ -2,7 +2,7 @@
 use Rattle.std.proofs.Common.{ℕ, zero, suc, ◌+◌, ◌<◌, ◌≤◌, ◌≡◌, Bool, true, false, ◌&&◌, cond, eqb, List, [], ◌∷◌, ◌++◌, length, take, drop, map, Option, refl, sym, ◌∙◌, ap, arith, slice_set, ◌||◌}
 use Rattle.std.proofs.lemmas.Bool.{true≢false}
 use Rattle.std.specs.List.{list_any}
-use Rattle.std.proofs.lemmas.List.{drop_more, append-nil}
+use Rattle.std.proofs.lemmas.List.{drop_more, drop_all}
 use Rattle.sat_checker.specs.inner.ModelTests.{are_all_true, irredundant_length}
 use Rattle.sat_checker.specs.LiteralSets.{is_among}
 use Rattle.sat_checker.specs.Stored.{Stored, hash_by}
@@ -14,37 +14,34 @@ use Rattle.sat_checker.specs.declared.hash.ClauseHasher.{ClauseHasher}
 use Rattle.sat_checker.specs.declared.store.Store.{Store}
 use Rattle.sat_checker.proofs.lemmas.store.Ids.{ids_hashed}
 use Rattle.sat_checker.specs.inner.SlotView.{Slot, slot_at, slot_ids, literals_at, is_gone, live, live_length, with_hash_at, hashed_by, all_hashed_by, hashed_anew, unstored}
-use Rattle.sat_checker.specs.inner.IndexView.{pairs_of}
-use Rattle.sat_checker.specs.inner.PairView.{mixed}
+use Rattle.sat_checker.specs.inner.IndexView.{pairs_from}
+use Rattle.sat_checker.specs.inner.PairView.{inserted, inserted_all, mixed}
 use Rattle.sat_checker.specs.declared.store.links.Pair.{Pair}
-use Rattle.sat_checker.proofs.lemmas.store.Filing.{pairs_push}
 
 module _ (names : ℕ → Option ℕ) (width : ℕ) where
-  -- the slots up to a place are hashed anew, those from there on aren't yet
-  abbrev pub hashed_to : ℕ → List Slot → List Slot
-  hashed_to i ss = all_hashed_by names width (take i ss) ++ drop i ss
+  -- the slots from a place on are hashed anew, those up to it aren't yet
+  abbrev pub hashed_from : ℕ → List Slot → List Slot
+  hashed_from i ss = take i ss ++ all_hashed_by names width (drop i ss)
 
-  pub hashed_all : (ss : List Slot) (i : ℕ) → length ss ≤ i → hashed_to i ss ≡ all_hashed_by names width ss
-  hashed_all [] zero l = refl
-  hashed_all [] (suc i) l = refl
-  hashed_all (s ∷ ss) zero l = absurd (omega arith)
-  hashed_all (s ∷ ss) (suc i) l = ap (λ ts. hashed_by names width s ∷ ts) (hashed_all ss i (omega arith))
+  pub hashed_none : (ss : List Slot) → hashed_from (length ss) ss ≡ ss
+  hashed_none [] = refl
+  hashed_none (s ∷ ss) = ap (λ ts. s ∷ ts) (hashed_none ss)
 
-  pub slot_left : (ss : List Slot) (i : ℕ) → i < length ss → slot_at (hashed_to i ss) i ≡ slot_at ss i
+  slot_left : (ss : List Slot) (i : ℕ) → i < length ss → slot_at (hashed_from (suc i) ss) i ≡ slot_at ss i
   slot_left [] i l = absurd (omega arith)
   slot_left (s ∷ ss) zero l = refl
   slot_left (s ∷ ss) (suc i) l = slot_left ss i (omega arith)
 
-  pub length_left : (ss : List Slot) (i : ℕ) → length (hashed_to i ss) ≡ length ss
+  pub length_left : (ss : List Slot) (i : ℕ) → length (hashed_from i ss) ≡ length ss
   length_left [] zero = refl
   length_left [] (suc i) = refl
-  length_left (s ∷ ss) zero = refl
+  length_left (s ∷ ss) zero = ap suc (length_left ss zero)
   length_left (s ∷ ss) (suc i) = ap suc (length_left ss i)
 
-  set_next : (ss : List Slot) (i : ℕ) → i < length ss → slice_set (hashed_to i ss) i (hashed_by names width (slot_at ss i)) ≡ hashed_to (suc i) ss
+  set_next : (ss : List Slot) (i : ℕ) → i < length ss → slice_set (hashed_from (suc i) ss) i (hashed_by names width (slot_at ss i)) ≡ hashed_from i ss
   set_next [] i l = absurd (omega arith)
   set_next (s ∷ ss) zero l = refl
-  set_next (s ∷ ss) (suc i) l = ap (λ ts. hashed_by names width s ∷ ts) (set_next ss i (omega arith))
+  set_next (s ∷ ss) (suc i) l = ap (λ ts. s ∷ ts) (set_next ss i (omega arith))
 
   hashed_there : (s : Slot) → is_gone s ≡ false → hashed_by names width s ≡ record s { hash = hash_by names width s.clause.literals }
   hashed_there s g = ap (λ b. cond b s (record s { hash = hash_by names width s.clause.literals })) g
@@ -52,68 +49,48 @@ module _ (names : ℕ → Option ℕ) (width : ℕ) where
   hashed_gone : (s : Slot) → is_gone s ≡ true → hashed_by names width s ≡ s
   hashed_gone s g = ap (λ b. cond b s (record s { hash = hash_by names width s.clause.literals })) g
 
-  skip_next : (ss : List Slot) (i : ℕ) → i < length ss → is_gone (slot_at ss i) ≡ true → hashed_to i ss ≡ hashed_to (suc i) ss
+  skip_next : (ss : List Slot) (i : ℕ) → i < length ss → is_gone (slot_at ss i) ≡ true → hashed_from (suc i) ss ≡ hashed_from i ss
   skip_next [] i l g = absurd (omega arith)
-  skip_next (s ∷ ss) zero l g = ap (λ t. t ∷ ss) (sym (hashed_gone s g))
-  skip_next (s ∷ ss) (suc i) l g = ap (λ ts. hashed_by names width s ∷ ts) (skip_next ss i (omega arith) g)
+  skip_next (s ∷ ss) zero l g = ap (λ t. t ∷ all_hashed_by names width ss) (sym (hashed_gone s g))
+  skip_next (s ∷ ss) (suc i) l g = ap (λ ts. s ∷ ts) (skip_next ss i (omega arith) g)
 
-  pub gone_same : (ss now : List Slot) (i : ℕ) (b : Bool) → i < length ss → now ≡ hashed_to i ss → is_gone (slot_at now i) ≡ b → is_gone (slot_at ss i) ≡ b
-  gone_same ss now i b l e g = ap is_gone (sym (ap (λ x. slot_at x i) e ∙ slot_left ss i l)) ∙ g
+  module _ (ss now : List Slot) (n i : ℕ) (l : i < length ss) (to : n ≡ suc i) (e : now ≡ hashed_from n ss) where
+    pub slot_same : slot_at now i ≡ slot_at ss i
+    slot_same = ap (λ x. slot_at x i) (e ∙ ap (λ k. hashed_from k ss) to) ∙ slot_left ss i l
 
-  pub hashed_skip : (ss now : List Slot) (i : ℕ) → i < length ss → now ≡ hashed_to i ss → is_gone (slot_at now i) ≡ true → now ≡ hashed_to (i + 1) ss
-  hashed_skip ss now i l e g = let m : i + 1 ≡ suc i = omega arith in e ∙ skip_next ss i l (gone_same ss now i true l e g) ∙ ap (λ k. hashed_to k ss) (sym m)
+    pub hashed_skip : is_gone (slot_at now i) ≡ true → now ≡ hashed_from i ss
+    hashed_skip g = e ∙ ap (λ k. hashed_from k ss) to ∙ skip_next ss i l (ap is_gone (sym slot_same) ∙ g)
 
-  pub hashed_next : (ss now next : List Slot) (i hash : ℕ) → i < length ss → now ≡ hashed_to i ss → is_gone (slot_at now i) ≡ false → hash ≡ hash_by names width (literals_at now i) → next ≡ with_hash_at hash i now → next ≡ hashed_to (i + 1) ss
-  hashed_next ss now next i hash l e g h n =
-      let at : slot_at now i ≡ slot_at ss i = ap (λ x. slot_at x i) e ∙ slot_left ss i l in
-      let m : i + 1 ≡ suc i = omega arith in
-      n ∙ ap (λ k. with_hash_at k i now) (h ∙ ap (λ (x : Slot). hash_by names width x.clause.literals) at)
-      ∙ ap (λ (x : Slot). slice_set now i (record x { hash = hash_by names width (slot_at ss i).clause.literals })) at
-      ∙ ap (λ x. slice_set x i (record (slot_at ss i) { hash = hash_by names width (slot_at ss i).clause.literals })) e
-      ∙ ap (λ t. slice_set (hashed_to i ss) i t) (sym (hashed_there (slot_at ss i) (gone_same ss now i false l e g))) ∙ set_next ss i l ∙ ap (λ k. hashed_to k ss) (sym m)
+    pub hashed_next : (next : List Slot) (hash : ℕ) → is_gone (slot_at now i) ≡ false → hash ≡ hash_by names width (literals_at now i) → next ≡ with_hash_at hash i now → next ≡ hashed_from i ss
+    hashed_next next hash g h w =
+        w ∙ ap (λ k. with_hash_at k i now) (h ∙ ap (λ (x : Slot). hash_by names width x.clause.literals) slot_same)
+        ∙ ap (λ (x : Slot). slice_set now i (record x { hash = hash_by names width (slot_at ss i).clause.literals })) slot_same
+        ∙ ap (λ x. slice_set x i (record (slot_at ss i) { hash = hash_by names width (slot_at ss i).clause.literals })) (e ∙ ap (λ k. hashed_from k ss) to)
+        ∙ ap (λ t. slice_set (hashed_from (suc i) ss) i t) (sym (hashed_there (slot_at ss i) (ap is_gone (sym slot_same) ∙ g))) ∙ set_next ss i l
 
-  -- the pairs of the slots up to a place
-  abbrev pub pairs_to : ℕ → List Slot → List Pair
-  pairs_to i ss = pairs_of (all_hashed_by names width (take i ss))
+  -- the pairs of the slots from a place on
+  abbrev pub filed_from : ℕ → List Slot → List Pair
+  filed_from i ss = inserted_all (pairs_from i (all_hashed_by names width (drop i ss)))
 
-  take_next : (ss : List Slot) (i : ℕ) → i < length ss → all_hashed_by names width (take (suc i) ss) ≡ all_hashed_by names width (take i ss) ++ hashed_by names width (slot_at ss i) ∷ []
-  take_next [] i l = absurd (omega arith)
-  take_next (s ∷ ss) zero l = refl
-  take_next (s ∷ ss) (suc i) l = ap (λ ts. hashed_by names width s ∷ ts) (take_next ss i (omega arith))
+  pub filed_none : (ss : List Slot) → filed_from (length ss) ss ≡ []
+  filed_none ss = ap (λ xs. inserted_all (pairs_from (length ss) (all_hashed_by names width xs))) (drop_all (length ss) ss (omega arith))
 
-  taken_length : (ss : List Slot) (i : ℕ) → i < length ss → length (all_hashed_by names width (take i ss)) ≡ i
-  taken_length [] i l = absurd (omega arith)
-  taken_length (s ∷ ss) zero l = refl
-  taken_length (s ∷ ss) (suc i) l = ap suc (taken_length ss i (omega arith))
+  drop_on : (ss : List Slot) (i : ℕ) → i < length ss → drop i ss ≡ slot_at ss i ∷ drop (i + 1) ss
+  drop_on ss i l = drop_more ss i (unstored 0 0 []) l
 
-  pairs_one : (ss : List Slot) (i : ℕ) → i < length ss → pairs_to (i + 1) ss ≡ pairs_to i ss ++ cond (is_gone (hashed_by names width (slot_at ss i))) [] ((record { hash = mixed (hashed_by names width (slot_at ss i)).hash; place = i }) ∷ [])
-  pairs_one ss i l =
-      let m : i + 1 ≡ suc i = omega arith in
-      let z : 0 + length (all_hashed_by names width (take i ss)) ≡ i = let k = taken_length ss i l in omega arith in
-      ap (λ k. pairs_to k ss) m ∙ ap pairs_of (take_next ss i l) ∙ pairs_push 0 (all_hashed_by names width (take i ss)) (hashed_by names width (slot_at ss i))
-      ∙ ap (λ k. pairs_to i ss ++ cond (is_gone (hashed_by names width (slot_at ss i))) [] ((record { hash = mixed (hashed_by names width (slot_at ss i)).hash; place = k }) ∷ [])) z
+  pub filed_skip : (ss : List Slot) (i : ℕ) → i < length ss → is_gone (slot_at ss i) ≡ true → filed_from (i + 1) ss ≡ filed_from i ss
+  filed_skip ss i l g =
+      sym (ap (λ xs. inserted_all (pairs_from i (all_hashed_by names width xs))) (drop_on ss i l)
+      ∙ ap (λ (s : Slot). inserted_all (pairs_from i (s ∷ all_hashed_by names width (drop (i + 1) ss)))) (hashed_gone (slot_at ss i) g)
+      ∙ ap (λ b. inserted_all (cond b (pairs_from (i + 1) (all_hashed_by names width (drop (i + 1) ss))) ((record { hash = mixed (slot_at ss i).hash; place = i }) ∷ pairs_from (i + 1) (all_hashed_by names width (drop (i + 1) ss))))) g)
 
-  pub pairs_gone : (ps : List Pair) (ss : List Slot) (i : ℕ) → i < length ss → is_gone (slot_at ss i) ≡ true → ps ≡ pairs_to i ss → ps ≡ pairs_to (i + 1) ss
-  pairs_gone ps ss i l g e =
-      e ∙ sym (pairs_one ss i l ∙ ap (λ (s : Slot). pairs_to i ss ++ cond (is_gone s) [] ((record { hash = mixed s.hash; place = i }) ∷ [])) (hashed_gone (slot_at ss i) g)
-      ∙ ap (λ b. pairs_to i ss ++ cond b [] ((record { hash = mixed (slot_at ss i).hash; place = i }) ∷ [])) g ∙ append-nil (pairs_to i ss))
-
-  pub pairs_there : (ps new : List Pair) (ss : List Slot) (i hash : ℕ) → i < length ss → is_gone (slot_at ss i) ≡ false → hash ≡ mixed (hash_by names width (slot_at ss i).clause.literals) → ps ≡ pairs_to i ss
-      → new ≡ ps ++ (record { hash = hash; place = i }) ∷ [] → new ≡ pairs_to (i + 1) ss
-  pairs_there ps new ss i hash l n h e w =
-      w ∙ ap (λ qs. qs ++ (record { hash = hash; place = i }) ∷ []) e
-      ∙ sym (pairs_one ss i l ∙ ap (λ (s : Slot). pairs_to i ss ++ cond (is_gone s) [] ((record { hash = mixed s.hash; place = i }) ∷ [])) (hashed_there (slot_at ss i) n)
-      ∙ ap (λ b. pairs_to i ss ++ cond b [] ((record { hash = mixed (hash_by names width (slot_at ss i).clause.literals); place = i }) ∷ [])) n
-      ∙ ap (λ k. pairs_to i ss ++ (record { hash = k; place = i }) ∷ []) (sym h))
-
-  pub pairs_all : (ss : List Slot) (i : ℕ) → length ss ≤ i → pairs_to i ss ≡ pairs_of (all_hashed_by names width ss)
-  pairs_all ss i l = ap (λ ts. pairs_of (all_hashed_by names width ts)) (take_whole ss i l)
-    where
-      take_whole : (ts : List Slot) (j : ℕ) → length ts ≤ j → take j ts ≡ ts
-      take_whole [] zero k = refl
-      take_whole [] (suc j) k = refl
-      take_whole (t ∷ ts) zero k = absurd (omega arith)
-      take_whole (t ∷ ts) (suc j) k = ap (λ us. t ∷ us) (take_whole ts j (omega arith))
+  pub filed_next : (ss : List Slot) (i hash : ℕ) → i < length ss → is_gone (slot_at ss i) ≡ false → hash ≡ mixed (hash_by names width (slot_at ss i).clause.literals)
+      → inserted (record { hash = hash; place = i }) (filed_from (i + 1) ss) ≡ filed_from i ss
+  filed_next ss i hash l g h =
+      ap (λ k. inserted (record { hash = k; place = i }) (filed_from (i + 1) ss)) h
+      ∙ sym (ap (λ xs. inserted_all (pairs_from i (all_hashed_by names width xs))) (drop_on ss i l)
+      ∙ ap (λ (s : Slot). inserted_all (pairs_from i (s ∷ all_hashed_by names width (drop (i + 1) ss)))) (hashed_there (slot_at ss i) g)
+      ∙ ap (λ b. inserted_all (cond b (pairs_from (i + 1) (all_hashed_by names width (drop (i + 1) ss))) ((record { hash = mixed (hash_by names width (slot_at ss i).clause.literals); place = i }) ∷ pairs_from (i + 1) (all_hashed_by names width (drop (i + 1) ss))))) g)
 
 -- the literals of a place that are left to look at
 left_at : (ss : List Slot) (i : ℕ) → i < length ss → live_length (drop i ss) ≡ cond (is_gone (slot_at ss i)) 0 (length (literals_at ss i)) + live_length (drop (suc i) ss)
@@ -182,8 +159,6 @@ left_fewer ss i l =
 
 pub not_gone : (s : Slot) → eqb s.clause.irredundant 0 ≡ false → is_gone s ≡ false
 not_gone s n = ap (λ b. b && eqb s.clause.redundant 0) n
-
-pub ruleset filing = (pairs_all, hashed_all)
 
 -- what is stored, once all is filed anew
 live_hashed : (names : ℕ → Option ℕ) (width : ℕ) (ss : List Slot) → live (all_hashed_by names width ss) ≡ live ss

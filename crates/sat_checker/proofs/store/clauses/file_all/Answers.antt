@@ -1,38 +1,134 @@
-use Rattle.std.proofs.Common.{◌≡◌, ◌<◌, All, length, sym, subst, ap, ◌∙◌, arith}
-use Rattle.std.specs.List.{IsDistinct}
-use Rattle.std.specs.List.Sorted.{IsPermutation}
+use Rattle.std.proofs.Common.{ℕ, suc, ◌+◌, ◌-◌, ◌<◌, ◌≡◌, drop, length, sym, ap, subst, ◌∙◌, arith}
+use Rattle.std.specs.List.{AllByRecursion}
+use Rattle.std.proofs.lemmas.List.{drop_all}
 use Rattle.sat_checker.specs.HasherView.{solver_name_of, width_of}
-use Rattle.sat_checker.specs.inner.IndexView.{pairs_of}
-use Rattle.sat_checker.specs.inner.PairView.{same_place}
-use Rattle.sat_checker.specs.inner.SlotView.{all_hashed_by}
-use Rattle.sat_checker.proofs.lemmas.store.Filing.{pairs_apart, pairs_within, pairs_count, sorted_places, sorted_below}
+use Rattle.sat_checker.specs.Stored.{hash_by}
+use Rattle.sat_checker.specs.inner.PairView.{Indexed, inserted, mixed}
+use Rattle.sat_checker.specs.inner.SlotView.{Slot, all_hashed_by, is_gone, live_length}
+use Rattle.sat_checker.proofs.lemmas.pairs.Order.{length_inserted}
+use Rattle.sat_checker.proofs.lemmas.store.Filing.{filed_above, files_all}
 use Rattle.sat_checker.proofs.lemmas.store.Kept.{count_hashed}
+use Rattle.sat_checker.proofs.lemmas.store.Rehashing.{hashed_from, hashed_none, filed_none, filed_from, hashed_next, hashed_skip, slot_same, filed_next, filed_skip, left_gone, left_there, length_left}
 use Rattle.sat_checker.proofs.store.clauses.file_all.Goals as goal
 
-pub replace-requires-clause-apart : goal.replace-requires-clause-apart
-replace-requires-clause-apart c =
-    subst (IsDistinct same_place) (sym (c.deref_mut.ensures.value ∙ c.hash_all.ensures.pairs)) (pairs_apart 0 (all_hashed_by (solver_name_of c.args.hasher.now) (width_of c.args.hasher.now) c.args.slots.now))
+no_more : (a : ℕ) → a ≡ a + 0
+no_more a = omega arith
 
-pub replace-requires-clause-within : goal.replace-requires-clause-within
-replace-requires-clause-within c =
-    let ss = all_hashed_by (solver_name_of c.args.hasher.now) (width_of c.args.hasher.now) c.args.slots.now in
-    let n : length ss ≡ c.args.index.now.places = count_hashed (solver_name_of c.args.hasher.now) (width_of c.args.hasher.now) c.args.slots.now ∙ sym c.requires.places in
-    subst (λ ps. All (λ p. p.place < c.args.index.now.places) ps) (sym (c.deref_mut.ensures.value ∙ c.hash_all.ensures.pairs)) (subst (λ m. All (λ p. p.place < m) (pairs_of ss)) n (pairs_within ss))
+pub loop-done-init : goal.loop-done-init
+loop-done-init c =
+    let ss = c.args.slots.now in
+    let names = solver_name_of c.args.hasher.now in
+    let width = width_of c.args.hasher.now in
+    let n : c.len-count.result - 0 ≡ length ss = omega (arith, c.len-count.ensures.count) in
+    let pairs = ap (λ (x : Indexed). x.pairs) c.clear.ensures in
+    let places = ap (λ (x : Indexed). x.places) c.clear.ensures in
+    record {
+      hashed = sym (ap (λ k. hashed_from names width k ss) n ∙ hashed_none names width ss);
+      filed = pairs ∙ sym (ap (λ k. filed_from names width k ss) n ∙ filed_none names width ss);
+      places = places;
+      room = omega (arith, n, ap length pairs, places, c.requires.places);
+      looks = no_more c.args.looks.now ∙ ap (λ xs. c.args.looks.now + live_length xs) (sym (drop_all (c.len-count.result - 0) ss (omega (arith, n))));
+    }
 
-pub replace-requires-clause-count : goal.replace-requires-clause-count
-replace-requires-clause-count c =
-    let ss = all_hashed_by (solver_name_of c.args.hasher.now) (width_of c.args.hasher.now) c.args.slots.now in
-    let n : length ss ≡ c.args.index.now.places = count_hashed (solver_name_of c.args.hasher.now) (width_of c.args.hasher.now) c.args.slots.now ∙ sym c.requires.places in
-    omega (arith, n, pairs_count 0 ss, ap length (c.deref_mut.ensures.value ∙ c.hash_all.ensures.pairs))
+pub is_gone-requires : goal.is_gone-requires
+is_gone-requires c =
+    omega (arith, c.loop-done-test.true, c.len-count.ensures.count, ap length c.loop-done.invariant.hashed, length_left (solver_name_of c.args.hasher.now) (width_of c.args.hasher.now) (c.args.slots.now) (c.len-count.result - c.loop-done.done))
+
+pub literals-requires : goal.literals-requires
+literals-requires c =
+    omega (arith, c.loop-done-test.true, c.len-count.ensures.count, ap length c.loop-done.invariant.hashed, length_left (solver_name_of c.args.hasher.now) (width_of c.args.hasher.now) (c.args.slots.now) (c.len-count.result - c.loop-done.done))
+
+pub set_hash-requires : goal.set_hash-requires
+set_hash-requires c =
+    omega (arith, c.loop-done-test.true, c.len-count.ensures.count, ap length c.loop-done.invariant.hashed, length_left (solver_name_of c.args.hasher.now) (width_of c.args.hasher.now) (c.args.slots.now) (c.len-count.result - c.loop-done.done))
+
+pub loop-done-preserved-then-is_gone : goal.loop-done-preserved-then-is_gone
+loop-done-preserved-then-is_gone c =
+    let ss = c.args.slots.now in
+    let names = solver_name_of c.args.hasher.now in
+    let width = width_of c.args.hasher.now in
+    let i : ℕ = c.len-count.result - 1 - c.loop-done.done in
+    let inside : i < length ss = omega (arith, c.loop-done-test.true, c.len-count.ensures.count) in
+    let next : c.len-count.result - c.loop-done.done ≡ suc i = omega (arith, c.loop-done-test.true) in
+    let from : i + 1 ≡ c.len-count.result - c.loop-done.done = omega (arith, c.loop-done-test.true) in
+    let to : c.len-count.result - (c.loop-done.done + 1) ≡ i = omega (arith, c.loop-done-test.true) in
+    let same = slot_same names width ss c.loop-done.slots (c.len-count.result - c.loop-done.done) i inside next c.loop-done.invariant.hashed in
+    let now_gone = sym c.is_gone.ensures ∙ c.if-is_gone.true in
+    let gone = ap is_gone (sym same) ∙ now_gone in
+    record {
+      hashed = hashed_skip names width ss c.loop-done.slots (c.len-count.result - c.loop-done.done) i inside next c.loop-done.invariant.hashed now_gone ∙ ap (λ k. hashed_from names width k ss) (sym to);
+      filed = c.loop-done.invariant.filed ∙ ap (λ k. filed_from names width k ss) (sym from) ∙ filed_skip names width ss i inside gone ∙ ap (λ k. filed_from names width k ss) (sym to);
+      places = c.loop-done.invariant.places;
+      room = omega (arith, c.loop-done.invariant.room);
+      looks = c.loop-done.invariant.looks ∙ ap (λ k. c.args.looks.now + live_length (drop k ss)) (sym from) ∙ ap (λ n. c.args.looks.now + n) (sym (left_gone ss i inside gone)) ∙ ap (λ k. c.args.looks.now + live_length (drop k ss)) (sym to);
+    }
+
+pub file_before-requires-clause-inside : goal.file_before-requires-clause-inside
+file_before-requires-clause-inside c = omega (arith, c.loop-done-test.true, c.len-count.ensures.count, c.requires.places, c.loop-done.invariant.places)
+
+pub file_before-requires-clause-above : goal.file_before-requires-clause-above
+file_before-requires-clause-above c =
+    let ss = c.args.slots.now in
+    let names = solver_name_of c.args.hasher.now in
+    let width = width_of c.args.hasher.now in
+    let i : ℕ = c.len-count.result - 1 - c.loop-done.done in
+    let inside : i < length ss = omega (arith, c.loop-done-test.true, c.len-count.ensures.count) in
+    let next : c.len-count.result - c.loop-done.done ≡ suc i = omega (arith, c.loop-done-test.true) in
+    let from : i + 1 ≡ c.len-count.result - c.loop-done.done = omega (arith, c.loop-done-test.true) in
+    let to : c.len-count.result - (c.loop-done.done + 1) ≡ i = omega (arith, c.loop-done-test.true) in
+    let same = slot_same names width ss c.loop-done.slots (c.len-count.result - c.loop-done.done) i inside next c.loop-done.invariant.hashed in
+    subst (AllByRecursion (λ q. i < q.place)) (sym (c.loop-done.invariant.filed ∙ ap (λ k. filed_from names width k ss) (sym from))) (filed_above i (i + 1) (all_hashed_by names width (drop (i + 1) ss)) (omega arith))
+
+pub file_before-requires-clause-room : goal.file_before-requires-clause-room
+file_before-requires-clause-room c = omega (arith, c.loop-done-test.true, c.loop-done.invariant.room)
+
+pub loop-done-preserved : goal.loop-done-preserved
+loop-done-preserved c =
+    let ss = c.args.slots.now in
+    let names = solver_name_of c.args.hasher.now in
+    let width = width_of c.args.hasher.now in
+    let i : ℕ = c.len-count.result - 1 - c.loop-done.done in
+    let inside : i < length ss = omega (arith, c.loop-done-test.true, c.len-count.ensures.count) in
+    let next : c.len-count.result - c.loop-done.done ≡ suc i = omega (arith, c.loop-done-test.true) in
+    let from : i + 1 ≡ c.len-count.result - c.loop-done.done = omega (arith, c.loop-done-test.true) in
+    let to : c.len-count.result - (c.loop-done.done + 1) ≡ i = omega (arith, c.loop-done-test.true) in
+    let same = slot_same names width ss c.loop-done.slots (c.len-count.result - c.loop-done.done) i inside next c.loop-done.invariant.hashed in
+    let now_there = sym c.is_gone.ensures ∙ c.if-is_gone.false in
+    let there = ap is_gone (sym same) ∙ now_there in
+    let literals = ap (λ (s : Slot). s.clause.literals) same in
+    let hash_is = c.clause_hash-hash.ensures ∙ ap (hash_by names width) c.literals.ensures.lent in
+    let pairs = ap (λ (x : Indexed). x.pairs) c.file_before.ensures in
+    let places = ap (λ (x : Indexed). x.places) c.file_before.ensures in
+    let left = left_there ss i inside there in
+    let looked : c.literals.new.looks ≡ c.args.looks.now + live_length (drop i ss) =
+    omega (arith, c.literals.ensures.looks, ap length literals, left, c.loop-done.invariant.looks, ap (λ k. live_length (drop k ss)) from) in
+    record {
+      hashed = hashed_next names width ss c.loop-done.slots (c.len-count.result - c.loop-done.done) i inside next c.loop-done.invariant.hashed c.set_hash.new.self c.clause_hash-hash.result now_there hash_is c.set_hash.ensures
+          ∙ ap (λ k. hashed_from names width k ss) (sym to);
+      filed = pairs ∙ ap (inserted (record { hash = c.mixed.result; place = i })) (c.loop-done.invariant.filed ∙ ap (λ k. filed_from names width k ss) (sym from))
+          ∙ filed_next names width ss i c.mixed.result inside there (c.mixed.ensures ∙ ap mixed (hash_is ∙ ap (hash_by names width) literals)) ∙ ap (λ k. filed_from names width k ss) (sym to);
+      places = places ∙ c.loop-done.invariant.places;
+      room = omega (arith, c.loop-done-test.true, c.loop-done.invariant.room, ap length pairs, length_inserted (record { hash = c.mixed.result; place = i }) c.loop-done.index.pairs, places);
+      looks = looked ∙ ap (λ k. c.args.looks.now + live_length (drop k ss)) (sym to);
+    }
+
+pub returns-clause-hashed : goal.returns-clause-hashed
+returns-clause-hashed c =
+    let none : c.len-count.result - c.loop-done.done ≡ 0 = omega (arith, c.loop-done-test.false) in
+    c.loop-done.invariant.hashed ∙ ap (λ k. hashed_from (solver_name_of c.args.hasher.now) (width_of c.args.hasher.now) k c.args.slots.now) none
 
 pub returns-clause-filed : goal.returns-clause-filed
 returns-clause-filed c =
-    let ss = all_hashed_by (solver_name_of c.args.hasher.now) (width_of c.args.hasher.now) c.args.slots.now in
-    let n : c.replace.new.self.places ≡ length ss = c.replace.ensures.places ∙ c.requires.places ∙ sym (count_hashed (solver_name_of c.args.hasher.now) (width_of c.args.hasher.now) c.args.slots.now) in
-    let same = subst (λ ps. IsPermutation ps c.replace.new.self.pairs) (c.deref_mut.ensures.value ∙ c.hash_all.ensures.pairs) c.replace.ensures.same in
-    record {
-      filed = λ q. sorted_places q ss c.replace.new.self.pairs same c.places-count.ensures.order;
-      places = n;
-      in_order = c.places-count.ensures.order;
-      below = sorted_below ss c.replace.new.self.places c.replace.new.self.pairs same n;
-    }
+    let names = solver_name_of c.args.hasher.now in
+    let width = width_of c.args.hasher.now in
+    let none : c.len-count.result - c.loop-done.done ≡ 0 = omega (arith, c.loop-done-test.false) in
+    let pairs = c.loop-done.invariant.filed ∙ ap (λ k. filed_from names width k c.args.slots.now) none in
+    let places = c.loop-done.invariant.places ∙ c.requires.places ∙ sym (count_hashed names width c.args.slots.now) in
+    files_all (all_hashed_by names width c.args.slots.now) c.loop-done.index
+    (ap (λ ps. record { pairs = ps; places = c.loop-done.index.places }) pairs ∙ ap (λ n. record { pairs = filed_from names width 0 c.args.slots.now; places = n }) places)
+
+pub returns-clause-looks : goal.returns-clause-looks
+returns-clause-looks c =
+    let none : c.len-count.result - c.loop-done.done ≡ 0 = omega (arith, c.loop-done-test.false) in
+    let whole = c.loop-done.invariant.looks ∙ ap (λ k. c.args.looks.now + live_length (drop k c.args.slots.now)) none in
+    record { rise = omega (arith, whole); most = omega (arith, whole) }

@@ -7,8 +7,6 @@ pub invariant_of-self-2 : goal.invariant_of-self-2
 invariant_of-self-2 c = (
   kept_standing c.self.inside.slots c.drop_gone.new.slots c.self.inside.index c.drop_gone.new.index c.self.inside.occurrences c.self.invariant.0 c.in_ok-drop_gone.ensures.left c.in_ok-drop_gone.ensures.filed,
   sym (ap gone_count c.in_ok-drop_gone.ensures.left ∙ none_gone c.self.inside.slots),
-  c.in_ok-drop_gone.ensures.room,
-  c.in_ok-drop_gone.ensures.none,
 )
 
 pub returns-clause-few : goal.returns-clause-few

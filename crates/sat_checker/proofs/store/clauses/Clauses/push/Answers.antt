@@ -1,4 +1,4 @@
-use Rattle.std.proofs.Common.{◌≡◌, ◌++◌, ◌∷◌, [], ◌∙◌, ap, sym, length, length-append, arith}
+use Rattle.std.proofs.Common.{◌≡◌, ◌++◌, ◌∷◌, [], ◌∙◌, ap, sym}
 use Rattle.sat_checker.specs.inner.OccurrenceView.{SlotsInvariant}
 use Rattle.sat_checker.specs.inner.SlotView.{stored_slot}
 use Rattle.sat_checker.proofs.lemmas.store.Dropping.{gone_stored}
@@ -11,8 +11,6 @@ invariant_of-self-else-is_err c =
     let put = where_ok c.add-added.result (c.add-added.new.slots ≡ c.self.inside.slots ++ stored_slot c.args.redundant c.args.id c.args.hash c.args.literals.now ∷ []) went c.add-added.ensures.slots in (
       where_ok c.add-added.result (SlotsInvariant c.add-added.new.slots c.add-added.new.index c.add-added.new.occurrences) went c.add-added.ensures.kept,
       c.self.invariant.1 ∙ sym (gone_stored c.args.redundant c.args.id c.args.hash c.args.literals.now c.self.inside.slots c.add-added.new.slots put),
-      omega (arith, ap length put, length-append c.self.inside.slots (stored_slot c.args.redundant c.args.id c.args.hash c.args.literals.now ∷ []), c.in_ok-reserve.ensures.ok, c.places.ensures.count, c.self.invariant.0.files.places),
-      c.reserve.ensures.items ∙ c.self.invariant.3,
     )
 
 pub returns : goal.returns

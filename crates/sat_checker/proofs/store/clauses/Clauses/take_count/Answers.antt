@@ -1,7 +1,6 @@
 use Rattle.std.proofs.Common.{◌+◌, length, ◌∙◌, sym, ap, arith}
 use Rattle.sat_checker.proofs.lemmas.store.Dropping.{gone_left, gone_removed, gone_fewer}
 use Rattle.sat_checker.proofs.lemmas.store.Places.{gone_not}
-use Rattle.sat_checker.specs.inner.PairView.{Indexed}
 use Rattle.sat_checker.specs.inner.SlotView.{slot_at, gone_count}
 use Rattle.sat_checker.proofs.lemmas.store.Kept.{kept_left, kept_removed, were_counted}
 use Rattle.sat_checker.proofs.store.clauses.Clauses.take_count.Goals as goal
@@ -23,8 +22,6 @@ invariant_of-self c =
       kept,
       ap (λ n. n + 1) c.self.invariant.1
           ∙ sym (gone_removed c.self.inside.slots c.args.self.now c.take_count.new.self c.args.redundant c.args.place c.self.view_is c.requires.inside c.requires.some c.take_count.ensures gone),
-      omega (arith, kept.files.places, ap (λ (x : Indexed). x.places) c.remove.ensures, c.self.invariant.0.files.places, c.self.invariant.2),
-      c.self.invariant.3,
     )
 
 pub invariant_of-self-else-is_gone : goal.invariant_of-self-else-is_gone
@@ -35,8 +32,6 @@ invariant_of-self-else-is_gone c =
     there in (
       kept,
       c.self.invariant.1 ∙ sym (gone_left c.self.inside.slots c.args.self.now c.take_count.new.self c.args.redundant c.args.place c.self.view_is c.requires.inside c.requires.some c.take_count.ensures there),
-      omega (arith, kept.files.places, c.self.invariant.0.files.places, c.self.invariant.2),
-      c.self.invariant.3,
     )
 
 pub overflow_add-self : goal.overflow_add-self

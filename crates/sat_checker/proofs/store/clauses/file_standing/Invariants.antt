@@ -1,0 +1,14 @@
+use Rattle.std.proofs.Common.{◌≡◌, ◌≤◌, ◌+◌, ◌-◌, take, drop, length}
+use Rattle.sat_checker.specs.inner.IndexView.{pairs_from}
+use Rattle.sat_checker.specs.inner.PairView.{inserted_all}
+use Rattle.sat_checker.specs.inner.SlotView.{slots_present}
+use Rattle.sat_checker.proofs.store.clauses.file_standing.Given as goal
+
+-- the last ones that aren't gone are filed, by the places that they will have
+abbrev pub invariant-loop-done : goal.invariant-loop-done
+invariant-loop-done l = record {
+  to : l.to ≡ length (slots_present (take (l.count - l.done) l.slots));
+  filed : l.next.pairs ≡ inserted_all (pairs_from l.to (slots_present (drop (l.count - l.done) l.slots)));
+  places : l.next.places ≡ l.fn.next.places;
+  room : l.to + length l.next.pairs ≤ l.next.places;
+}
