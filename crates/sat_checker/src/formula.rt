@@ -74,12 +74,13 @@ impl Formula {
     }
 
     /// The propagation check of a clause of these literals, or of their negations, under hashes, whatever the ids of
-    /// clauses and units are. What it notes is kept.
+    /// clauses and units are. What it notes is kept, if a listener needs it.
     pub fn check(
         &mut self,
         literals: &[Lit],
         negate: bool,
         hashes: &[ClauseHash],
+        hears: bool,
         looks: &mut Looks,
     ) -> Result<bool, AllocError>
         ensures exact { IfOk result (λ passes. (f : Stored) → ChecksAs self.old f
@@ -92,6 +93,7 @@ impl Formula {
             → Explained self.new (signed negate literals.now) hashes.now) }
         ensures read { IfOk result (λ _. noted_length self.new.store.clauses self.new.passed + looks.old ≤ looks.new) }
     {
+        self.passed.listen(hears);
         self.units.check(
             &self.store,
             literals,
@@ -270,7 +272,7 @@ impl Formula {
         ensures hears { notes.new.hears ≡ notes.old.hears }
         ensures looks { LooksOver (KeepsFormula self.old) (λ f. 2 * literal_count f) looks.old looks.new }
     {
-        if !self.check(&[lit], false, &[hash], looks)? {
+        if !self.check(&[lit], false, &[hash], notes.has_listener(), looks)? {
             return Ok(false);
         }
         self.note_unit(lit, notes, looks)?;

@@ -127,7 +127,10 @@ impl State {
         ensures noted { Announces result self.old (AtClause redundant clause.now hashes.now) notes.old notes.new }
     {
         self.formula.file(looks);
-        if !self.formula.check(clause, false, hashes, looks)? {
+        if !self
+            .formula
+            .check(clause, false, hashes, notes.has_listener(), looks)?
+        {
             return Ok(false);
         }
         self.formula.note_derived(redundant, clause, notes, looks)?;
@@ -250,7 +253,10 @@ impl State {
             return Ok(false);
         }
         self.formula.file(looks);
-        if !self.formula.check(core, true, hashes, looks)? {
+        if !self
+            .formula
+            .check(core, true, hashes, notes.has_listener(), looks)?
+        {
             return Ok(false);
         }
         copy_negated(&mut self.buffer, core)?;

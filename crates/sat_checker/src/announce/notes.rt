@@ -52,6 +52,14 @@ impl Notes {
         }
     }
 
+    /// Whether a listener needs the notes.
+    #[inline(always)]
+    pub fn has_listener(&self) -> bool
+        ensures { result ≡ self.now.hears }
+    {
+        self.hears
+    }
+
     /// A step comes, to which somebody listens or nobody. What was noted before is forgotten.
     pub fn begin(&mut self, hears: bool)
         ensures hears { self.new.hears ≡ hears }

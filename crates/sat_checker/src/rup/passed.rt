@@ -19,8 +19,11 @@ pub(crate) struct Reason {
 pub(crate) struct Passed {
     reasons: Vec<Reason>,
     conflict: Option<usize>,
-    /// Whether the notes are of no use, since memory was wanted for one of them or for what the walk started from.
+    /// Whether the notes are of no use, since no listener needs them, or memory was wanted for one of them or for what the
+    /// walk started from.
     lost: bool,
+    /// Whether no listener needs the notes.
+    quiet: bool,
     noted: Noted,
 }
 
@@ -43,8 +46,17 @@ impl Passed {
             reasons: Vec::new(alloc),
             conflict: None,
             lost: false,
+            quiet: false,
             noted: Noted::new(),
         }
+    }
+
+    /// Sets whether a listener needs the notes from now on. Otherwise none is kept.
+    #[inline(always)]
+    pub fn listen(&mut self, hears: bool)
+        ensures { self.new ≡ self.old }
+    {
+        self.quiet = !hears;
     }
 
     /// Forgets all, and keeps the room that it took.
@@ -62,10 +74,14 @@ impl Passed {
         ensures reasons { self.new.reasons ≡ self.old.reasons ++ (record { place = place; lit = lit }) ∷ [] }
         ensures conflict { self.new.conflict ≡ self.old.conflict }
     {
+        self.noted = self.noted.and(place, lit.code());
+        if self.quiet {
+            self.lost = true;
+            return;
+        }
         if self.reasons.push(Reason { place, lit }).is_err() {
             self.lost = true;
         }
-        self.noted = self.noted.and(place, lit.code());
     }
 
     /// WalkNotes that the clause at a place was falsified.
