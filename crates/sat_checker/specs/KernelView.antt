@@ -11,6 +11,8 @@ use Rattle.sat_checker.specs.declared.state.State.{State}
 use Rattle.sat_checker.specs.declared.state.status.Records.{Records}
 use Rattle.sat_checker.specs.declared.error.CheckerError.{CheckerError}
 use Rattle.sat_checker.specs.declared.error.CheckerError.TheVariants as errors
+use Rattle.sat_checker.specs.declared.kernel.StepRefusal.{StepRefusal}
+use Rattle.sat_checker.specs.declared.kernel.StepRefusal.TheVariants as refusals
 
 -- whether it answers nothing but HasFailed any more
 abbrev pub has_failed : Kernel → Bool
@@ -73,6 +75,18 @@ AnswersStep (Err errors.ParseError) old step new steps = ⊥
 -- one of those who listen answered a fault, to a pending conflict or to the step
 AnswersStep (Err (errors.ProofProcessorError cause)) old step new steps =
     (has_failed old ≡ false) × ((LeavesConflict steps × Fails new steps) ⊎ (Accepts (ready_after steps) step × Fails new (step ∷ steps)))
+
+-- why a step is not accepted, as an error of a checker
+abbrev pub error_of : StepRefusal → CheckerError
+error_of refusals.HasFailed = errors.HasFailed
+error_of refusals.CheckFailed = errors.CheckFailed
+error_of refusals.OutOfMemory = errors.OutOfMemory
+error_of refusals.CounterEnd = errors.CounterEnd
+
+-- the answer to a step of which no listener is notified, as a checker's answer
+abbrev pub answer_of : Result Unit StepRefusal → Result Unit CheckerError
+answer_of (Ok x) = Ok x
+answer_of (Err refusal) = Err (error_of refusal)
 
 -- the answer to a step means so, whatever steps were accepted before
 abbrev pub ChecksStep : Result Unit CheckerError → Kernel → Step → Kernel → Type 0

@@ -18,7 +18,7 @@ mod proof;
 use crate::announce::transcript::ProofTranscriptProcessor;
 use crate::error::CheckerError;
 use crate::internal::SelfChecker;
-use crate::kernel::Kernel;
+use crate::kernel::{Kernel, StepRefusal};
 use crate::looks::Looks;
 use crate::processing::{Nobody, Processing, Processors, ProofProcessor};
 use sat_base::{Lit, ProofStep, Var};
@@ -43,6 +43,18 @@ impl Checker<Nobody, Nobody> {
         ensures listeners { listeners_of result.processing ≡ record { processors = []; transcripts = [] } }
     {
         Checker::telling(alloc)
+    }
+
+    /// Checks the next step, and accepts it if it passes. It judges as `self_check_step`, notifies no listener, and
+    /// its answer is small.
+    pub fn accept_step(&mut self, step: &ProofStep<'_>) -> Result<(), StepRefusal>
+        ensures judges { kernels.ChecksStep (kernels.answer_of result)
+            (kernel_of self.old) (step_of step.now) (kernel_of self.new) }
+        ensures looks { LooksAtMost (kernel_of self.old) (step_of step.now) (kernel_of self.new) }
+        ensures rise { looks_of (kernel_of self.old) ≤ looks_of (kernel_of self.new) }
+        ensures failed { FailsAgain StepRefusal.HasFailed result self.old self.new }
+    {
+        self.kernel.accept_step(step)
     }
 }
 

@@ -2,10 +2,10 @@
 ghost use Rattle.std.specs.Prelude.{List, ◌≤◌, ◌≡◌, true, false, [], None, Ok, Err, OnOk, IsTrue, MatchResult};
 ghost use Rattle.sat_base.specs.steps.StepViews.{step_of};
 ghost use Rattle.sat_checker.specs.KernelView as kernels;
-ghost use Rattle.sat_checker.specs.KernelView.{has_failed, looks_of, Stands};
+ghost use Rattle.sat_checker.specs.KernelView.{error_of, has_failed, looks_of, Stands};
 ghost use Rattle.sat_checker.specs.CheckerView.{seen, ChecksStep, ChecksDelayed};
 ghost use Rattle.sat_checker.specs.announcements.Announcements.{Told};
-ghost use Rattle.sat_checker.specs.inner.TellingSteps.{announced_by, changed_by, put_back, was_of, fault_of};
+ghost use Rattle.sat_checker.specs.inner.TellingSteps.{announced_by, changed_by, put_back, was_of, failure_of, fault_of};
 ghost use Rattle.sat_checker.specs.inner.TellingSteps.{records_in, IsUnmovedByTold, TellsAndKeepsState};
 ghost use Rattle.sat_checker.specs.inner.VariablesView.{variable_at};
 ghost use Rattle.sat_checker.specs.telling.AnnouncementView.{variables_of};
@@ -21,6 +21,7 @@ use crate::looks::Looks;
 use crate::processing::{Processing, ProcessingError, ProofProcessor};
 use crate::state::State;
 use crate::state::status::{Records, Status};
+use crate::store::StoreError;
 use crate::variables::Variables;
 use sat_base::ProofStep;
 use std::alloc::Global;
@@ -97,6 +98,28 @@ fn tell_news<O: ProofProcessor, P: ProofProcessor, T: ProofTranscriptProcessor>(
     Ok(())
 }
 
+/// Why a step is not accepted, where no listener is notified.
+#[derive(Clone, Copy, Drop)]
+pub enum StepRefusal {
+    /// The checker has failed before.
+    HasFailed,
+    /// The step is refused.
+    CheckFailed,
+    OutOfMemory,
+    /// The last id, 2^64-2, was given, or a clause was stored 2^64-1 times.
+    CounterEnd,
+}
+
+/// Returns why a step that could not be stored is not accepted.
+fn refusal(error: StoreError) -> StepRefusal
+    ensures { error_of result ≡ failure_of error }
+{
+    match error {
+        StoreError::OutOfMemory => StepRefusal::OutOfMemory,
+        StoreError::CounterEnd => StepRefusal::CounterEnd,
+    }
+}
+
 /// A checker without those who listen.
 #[derive(Drop)]
 pub(crate) struct Kernel {
@@ -156,6 +179,67 @@ impl Kernel {
                 self.step(step, own, hears, others)
             }
             Err(error) => Err(error),
+        }
+    }
+
+    /// Checks the next step, and accepts it if it passes. No listener is notified.
+    pub fn accept_step(&mut self, step: &ProofStep<'_>) -> Result<(), StepRefusal>
+        ensures judges { kernels.ChecksStep (kernels.answer_of result) self.old (step_of step.now) self.new }
+        ensures looks { kernels.LooksAtMost self.old (step_of step.now) self.new }
+        ensures rise { looks_of self.old ≤ looks_of self.new }
+        ensures failed { has_failed self.old ≡ true
+            → (result ≡ Err StepRefusal.HasFailed) × (self.new ≡ self.old) }
+    {
+        if self.failed {
+            return Err(StepRefusal::HasFailed);
+        }
+        match self.settle_alone() {
+            Ok(()) => self.step_alone(step),
+            Err(refusal) => Err(refusal),
+        }
+    }
+
+    /// Gives the empty clause of a pending unit conflict the next id. No listener is notified.
+    fn settle_alone(&mut self) -> Result<(), StepRefusal>
+        requires { has_failed self.old ≡ false }
+        ensures judges { kernels.ChecksDelayed (kernels.answer_of result) self.old self.new }
+        ensures goes_on { OnOk result ((has_failed self.new ≡ false)
+            × (self.new.state.formula.status.conflict ≡ None)) }
+        ensures looks { looks_of self.new ≡ looks_of self.old }
+    {
+        let Some((_stored, _contradicting)) = self.state.formula.status.conflict else {
+            return Ok(());
+        };
+        if self.state.formula.settle().is_err() {
+            self.failed = true;
+            return Err(StepRefusal::CounterEnd);
+        }
+        Ok(())
+    }
+
+    /// Checks the next step, where no unit conflict is pending. No listener is notified.
+    fn step_alone(&mut self, step: &ProofStep<'_>) -> Result<(), StepRefusal>
+        requires well { has_failed self.old ≡ false }
+        requires settled { self.old.state.formula.status.conflict ≡ None }
+        ensures judges { kernels.ChecksStep (kernels.answer_of result) self.old (step_of step.now) self.new }
+        ensures looks { kernels.LooksAtMost self.old (step_of step.now) self.new }
+        ensures rise { looks_of self.old ≤ looks_of self.new }
+    {
+        self.notes.begin(false);
+        match self.state.step(step, &mut self.notes, &mut self.looks) {
+            Ok(true) => {
+                let records = self.state.formula.status.records();
+                self.records = records;
+                Ok(())
+            }
+            Ok(false) => {
+                self.failed = true;
+                Err(StepRefusal::CheckFailed)
+            }
+            Err(error) => {
+                self.failed = true;
+                Err(refusal(error))
+            }
         }
     }
 

@@ -28,6 +28,7 @@ pub use checker::Checker;
 pub use error::{CheckerDimacsError, CheckerError};
 pub use hash::ClauseHasher;
 pub use internal::SelfChecker;
+pub use kernel::StepRefusal;
 pub use looks::Looks;
 pub use processing::{Nobody, Processing, ProcessingError, Processors, ProofProcessor};
 pub use units::assigned::{Assigned, Look, assume_if_roomy, look_at, make_room_for};

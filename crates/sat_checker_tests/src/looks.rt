@@ -100,7 +100,7 @@ fn is_ready(checker: &mut Checker) -> bool {
 fn are_accepted(checker: &mut Checker, steps: &[ProofStep<'_>], times: u64) -> bool {
     for _ in 0..times {
         for step in steps {
-            if checker.self_check_step(step).is_err() {
+            if checker.accept_step(step).is_err() {
                 return false;
             }
         }

@@ -20,6 +20,7 @@ use Rattle.sat_checker.specs.inner.VariablesView.{variable_at}
 use Rattle.sat_checker.specs.telling.Hearing.{SameTold, HearsSame, HearsAll, HearsUpTo, HearsSince, HearsSinceUpTo, told_by}
 use Rattle.sat_checker.specs.telling.NotedView.{AppendsNews}
 use Rattle.sat_checker.specs.declared.kernel.Kernel.{Kernel}
+use Rattle.sat_checker.specs.declared.kernel.StepRefusal.{StepRefusal}
 use Rattle.sat_checker.specs.declared.announce.notes.Notes.{Notes}
 use Rattle.sat_checker.specs.declared.state.State.{State}
 use Rattle.sat_checker.specs.declared.error.CheckerError.{CheckerError}
@@ -237,6 +238,10 @@ module _ (old : Kernel) (steps : List Step) (s : kernels.Stands old steps) (well
       → kernels.AnswersStep (Err (failure_of error)) old step new steps
   short_judges new stores.OutOfMemory h r f = (well, inl (h, step_fails old steps s well none step new r f))
   short_judges new stores.CounterEnd h r f = (well, inr h, step_fails old steps s well none step new r f)
+
+  pub short_alone : (new : Kernel) (error : StoreError) (refusal : StepRefusal) → kernels.error_of refusal ≡ failure_of error → TurnsIf (Err error) (Accepts (ready_after steps) step) (KeepsStored new.state (effect step (ready_after steps))) (effect step (ready_after steps)) → new.records ≡ old.records
+      → kernels.has_failed new ≡ true → kernels.AnswersStep (Err (kernels.error_of refusal)) old step new steps
+  short_alone new error refusal e h r f = subst (λ x. kernels.AnswersStep (Err x) old step new steps) (sym e) (short_judges new error h r f)
 
   -- it was refused
   pub refused_judges : (new : Kernel) → (Accepts (ready_after steps) step → ⊥) → new.records ≡ old.records → kernels.has_failed new ≡ true → kernels.AnswersStep (Err errors.CheckFailed) old step new steps
