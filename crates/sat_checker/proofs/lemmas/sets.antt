@@ -12,3 +12,4 @@ pub mod Parts
 pub mod Unmarking
 pub mod Searching
 pub mod Trails
+pub mod Ranks

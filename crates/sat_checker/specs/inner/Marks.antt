@@ -8,6 +8,10 @@ use Rattle.sat_checker.specs.declared.units.assigned.Mark.{Mark}
 use Rattle.sat_checker.specs.declared.units.assigned.Mark.TheVariants as mark
 pub use Rattle.sat_checker.specs.SortedSets.{NoRepeats, IsIncreasing}
 
+-- each of these literals is among those
+abbrev pub AreWithin : List ℕ → List ℕ → Type 0
+AreWithin part whole = (l : ℕ) → is_among part l ≡ true → is_among whole l ≡ true
+
 -- what is marked of a literal
 abbrev pub mark_at : Table Mark → ℕ → Mark
 mark_at = value_at mark.NoRoom
