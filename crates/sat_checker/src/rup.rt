@@ -150,10 +150,7 @@ fn deny(assigned: &mut Assigned, literals: &[Lit], negate: bool) -> Result<bool,
         if assigned.is_true(lit) {
             return Ok(true);
         }
-        if assigned.is_true(!lit) {
-            continue;
-        }
-        assigned.assume(!lit)?;
+        assigned.assume_once(!lit)?;
     }
     Ok(false)
 }

@@ -1,5 +1,5 @@
 -- Literals that there is room for, so that assuming them takes no memory.
-use Rattle.std.specs.Prelude.{ℕ, ◌≡◌, Bool, true, false, List, ◌∷◌, ◌++◌, map, if◌then◌else◌}
+use Rattle.std.specs.Prelude.{ℕ, ◌≡◌, Bool, true, false, List, ◌∷◌, ◌++◌, map, MatchBool, if◌then◌else◌}
 use Rattle.std.specs.List.{AllByRecursion, list_any}
 use Rattle.sat_base.specs.values.Literals.{negated}
 use Rattle.sat_checker.specs.LiteralSets.{is_among, is_tautology}
@@ -13,6 +13,10 @@ pub record LiteralsAndRoom : Type 0 where
 -- with room for one more, and for its negation
 abbrev pub with_room : ℕ → List ℕ → List ℕ
 with_room l room = if is_among room l then room else l ∷ negated l ∷ room
+
+-- the literal is assumed, unless it was
+abbrev pub AssumesOnce : ℕ → LiteralsAndRoom → LiteralsAndRoom → Type 0
+AssumesOnce l old new = MatchBool (is_among old.literals l) (new ≡ old) (new ≡ record { literals = l ∷ old.literals; room = with_room l old.room })
 
 -- what there was room for, there is room for still
 abbrev pub RoomStays : List ℕ → List ℕ → Type 0

@@ -26,15 +26,12 @@ pub(crate) struct Needed {
     ids: Vec<u64>,
 }
 
-#[tactic(auto, using(crate::proofs::lemmas::announcements::Marking::marking))]
+#[inline(always)]
 fn mark(marked: &mut Assigned, lit: Lit) -> Result<(), AllocError>
     ensures marked { OnOk result ((m : ℕ) → is_among marked.new.literals m
         ≡ (lit == m || is_among marked.old.literals m)) }
 {
-    if marked.is_true(lit) {
-        return Ok(());
-    }
-    marked.assume(lit)
+    marked.assume_once(lit)
 }
 
 /// Marks the negations of a clause's literals.

@@ -2,7 +2,7 @@
 ghost use Rattle.std.specs.Prelude.{◌≡◌, ◌+◌, ◌-◌, ◌<◌, ◌≤◌, List, [], ◌∷◌, drop, length, OnOk, OnErr};
 ghost use Rattle.std.specs.Prelude.{true, false, reverse, ℕ, ◌==◌, get_or, if◌then◌else◌, ◌&&◌, not};
 ghost use Rattle.sat_checker.specs.inner.Marks.{mark_at, NoRepeats, LosesAt};
-ghost use Rattle.sat_checker.specs.inner.Room.{with_room, AgreesOn, HasRoomFor, RoomStays};
+ghost use Rattle.sat_checker.specs.inner.Room.{with_room, AgreesOn, AssumesOnce, HasRoomFor, RoomStays};
 ghost use Rattle.sat_checker.specs.inner.Look.{AssumesMore};
 ghost use Rattle.sat_base.specs.values.Tables.{HasPlaceFor, KeepsRoom};
 ghost use Rattle.sat_checker.specs.LiteralSets.{is_among};
@@ -99,6 +99,7 @@ impl Assigned {
     }
 
     /// Whether there is room for a literal.
+    #[inline(always)]
     pub fn has_room(&self, lit: Lit) -> bool
         ensures { result ≡ is_among self.now.room lit }
     {
@@ -109,6 +110,7 @@ impl Assigned {
     }
 
     /// Makes room for a literal, and for its negation.
+    #[inline(always)]
     pub fn make_room(&mut self, lit: Lit) -> Result<(), AllocError>
         ensures ok { OnOk result (self.new ≡ record self.old { room = with_room lit self.old.room }) }
         ensures err { OnErr result (self.new ≡ self.old) }
@@ -153,6 +155,27 @@ impl Assigned {
         self.make_room(lit)?;
         self.assume_in_room(lit);
         Ok(())
+    }
+
+    /// Assumes a literal, unless it is assumed. Memory is needed only where there is no room for it yet.
+    #[inline(always)]
+    pub fn assume_once(&mut self, lit: Lit) -> Result<(), AllocError>
+        ensures ok { OnOk result (AssumesOnce lit self.old self.new) }
+        ensures err { OnErr result (self.new ≡ self.old) }
+        ensures short { OnErr result (is_among self.old.room lit ≡ false) }
+    {
+        match self.marks.get(lit.code(), Mark::NoRoom) {
+            Mark::Assumed => Ok(()),
+            Mark::Room => {
+                self.assume_in_room(lit);
+                Ok(())
+            }
+            Mark::NoRoom => {
+                self.make_new_room(lit)?;
+                self.assume_in_room(lit);
+                Ok(())
+            }
+        }
     }
 
     /// Assumes a literal that there is room for.

@@ -1,5 +1,5 @@
 -- Marks, and what they say of the ground of a conflict.
-use Rattle.std.proofs.Common.{ℕ, zero, suc, ◌≤◌, ◌+◌, ◌-◌, ◌<◌, ◌≡◌, Bool, true, false, not, ◌||◌, cond, eqb, List, [], ◌∷◌, ◌++◌, length, drop, get_or, map, filter, reverse, refl, sym, ◌∙◌, ap, subst, Some, arith}
+use Rattle.std.proofs.Common.{ℕ, zero, suc, ◌≤◌, ◌+◌, ◌-◌, ◌<◌, ◌≡◌, Bool, true, false, not, ◌||◌, cond, eqb, List, [], ◌∷◌, ◌++◌, length, drop, get_or, map, filter, reverse, refl, sym, ◌∙◌, ap, subst, Some, arith, MatchBool}
 use Rattle.std.proofs.lemmas.Bool.{eqb-true}
 use Rattle.std.proofs.lemmas.List.{drop_more, reverse-append}
 use Rattle.sat_base.specs.values.Literals.{negated}
@@ -11,21 +11,26 @@ use Rattle.sat_checker.specs.LiteralSets.{is_among}
 use Rattle.sat_checker.specs.Stored.{StoredClause}
 use Rattle.sat_checker.specs.announcements.Needed.{Ground, others_denied, with_reason}
 use Rattle.sat_checker.specs.inner.NeededView.{IsFollowed}
+use Rattle.sat_checker.specs.inner.Room.{AssumesOnce, LiteralsAndRoom, with_room}
 use Rattle.sat_checker.specs.inner.WalkNotes.{WalkNotes}
 use Rattle.sat_checker.specs.inner.SlotView.{Slot, literals_at}
 use Rattle.sat_checker.specs.inner.Reasons.{clause_at, reason_in, conflict_at, conflict_length, noted_length}
 use Rattle.sat_checker.specs.declared.rup.needed.Needed.{Needed}
 use Rattle.sat_checker.proofs.lemmas.sets.Order.{among-append}
 
-pub mark_had : (marked : List ℕ) (l : ℕ) → is_among marked l ≡ true → (m : ℕ) → is_among marked m ≡ (eqb l m || is_among marked m)
+mark_had : (marked : List ℕ) (l : ℕ) → is_among marked l ≡ true → (m : ℕ) → is_among marked m ≡ (eqb l m || is_among marked m)
 mark_had marked l t m = go (eqb l m) refl
   where
     go : (b : Bool) → eqb l m ≡ b → is_among marked m ≡ (b || is_among marked m)
     go true e = subst (λ x. is_among marked x ≡ true) (eqb-true l m e) t
     go false e = refl
 
-pub mark_new : (marked new : List ℕ) (l : ℕ) → new ≡ l ∷ marked → (m : ℕ) → is_among new m ≡ (eqb l m || is_among marked m)
-mark_new marked new l e m = ap (λ xs. is_among xs m) e
+pub mark_once : (old new : LiteralsAndRoom) (l : ℕ) → AssumesOnce l old new → (m : ℕ) → is_among new.literals m ≡ (eqb l m || is_among old.literals m)
+mark_once old new l h = go (is_among old.literals l) refl h
+  where
+    go : (b : Bool) → is_among old.literals l ≡ b → MatchBool b (new ≡ old) (new ≡ record { literals = l ∷ old.literals; room = with_room l old.room }) → (m : ℕ) → is_among new.literals m ≡ (eqb l m || is_among old.literals m)
+    go true e k m = ap (λ (t : LiteralsAndRoom). is_among t.literals m) k ∙ mark_had old.literals l e m
+    go false e k m = ap (λ (t : LiteralsAndRoom). is_among t.literals m) k
 
 turned : (a b d : Bool) → (b || (a || d)) ≡ ((a || b) || d)
 turned true true d = refl
@@ -56,7 +61,7 @@ module _ (clause marked new all old : List ℕ) (i : ℕ) (inside : i < length c
       ap (others_denied o) (drop_more clause i 0 inside) ∙ ap (λ b. map negated (cond (not b) (get_or clause i 0 ∷ filter (λ m. not (eqb m o)) (drop (i + 1) clause)) (filter (λ m. not (eqb m o)) (drop (i + 1) clause)))) d in
       subst (λ xs. MarksLeft xs marked all old) here h
 
-pub ruleset marking = (mark_had, mark_new, mark_next, mark_other, mark_open)
+pub ruleset marking = (mark_next, mark_other, mark_open)
 
 pub or_none : (b : Bool) → (b || false) ≡ b
 or_none true = refl

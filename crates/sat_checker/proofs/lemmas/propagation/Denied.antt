@@ -1,12 +1,13 @@
 -- What it takes to assume the negation of a clause, and that the check is then exact.
-use Rattle.std.proofs.Common.{length, take, drop, get_or, ap, ◌<◌, ◌+◌, ◌↔◌, ℕ, ◌≡◌, Bool, true, false, cond, eqb, List, [], ◌∷◌, ◌++◌, map, refl, sym, ◌∙◌, subst, Some, None, ◌⊎◌, inl, inr}
+use Rattle.std.proofs.Common.{length, take, drop, get_or, ap, ◌<◌, ◌+◌, ◌↔◌, ℕ, ◌≡◌, Bool, true, false, cond, eqb, List, [], ◌∷◌, ◌++◌, map, refl, sym, ◌∙◌, subst, Some, None, ◌⊎◌, inl, inr, MatchBool}
 use Rattle.std.proofs.lemmas.Bool.{or_cases, or_left, or_right, or_from, both_ways, eqb-true, eq-eqb, true≢false, false_from_ne_true}
 use Rattle.std.specs.List.{AllByRecursion, list_any}
 use Rattle.sat_base.specs.values.Literals.{negated, negated_if}
 use Rattle.sat_checker.specs.LiteralSets.{is_among, is_tautology}
 use Rattle.sat_checker.specs.inner.Marks.{NoRepeats}
 use Rattle.sat_checker.specs.Propagation.{PassesCheck, tautology, unit_true, conflict}
-use Rattle.sat_checker.specs.inner.Room.{signed}
+use Rattle.sat_checker.specs.inner.Look.{AssumesMore}
+use Rattle.sat_checker.specs.inner.Room.{AssumesOnce, LiteralsAndRoom, signed, with_room}
 use Rattle.sat_checker.specs.inner.Walk.{denied_in_turn, walk_buckets}
 use Rattle.std.proofs.lemmas.List.{length-map, map-append, map-id, get_or-map, take_more, take-append-drop, drop_more}
 use Rattle.sat_checker.proofs.lemmas.propagation.Walking.{Extends-itself, Extends-assumed}
@@ -179,4 +180,26 @@ module _ (negate : Bool) (ls : List ℕ) (i d x : ℕ) (inside : i < length ls) 
   pub denied-new : is_among assumed x ≡ false → is_among assumed (negated x) ≡ false → denied_in_turn assumed (drop i (signed negate ls)) ≡ denied_in_turn (negated x ∷ assumed) (drop (i + 1) (signed negate ls))
   denied-new f t = rw next (rw (f, t) refl)
 
-pub ruleset denying = (Extends-itself, Extends-assumed, denied-true, denied-had, denied-new)
+  -- the negation is assumed, unless it was
+  pub denied_once : (n : ℕ) (first mid new : LiteralsAndRoom) → mid.literals ≡ assumed → is_among mid.literals x ≡ false → n ≡ negated x → AssumesOnce n mid new → AssumesMore first mid
+      → (denied_in_turn mid.literals (drop i (signed negate ls)) ≡ denied_in_turn new.literals (drop (i + 1) (signed negate ls))) × AssumesMore first new
+  denied_once n first mid new a f e h more = go (is_among mid.literals n) refl h
+    where
+      free : is_among assumed x ≡ false
+      free = ap (λ xs. is_among xs x) (sym a) ∙ f
+
+      go : (b : Bool) → is_among mid.literals n ≡ b → MatchBool b (new ≡ mid) (new ≡ record { literals = n ∷ mid.literals; room = with_room n mid.room })
+          → (denied_in_turn mid.literals (drop i (signed negate ls)) ≡ denied_in_turn new.literals (drop (i + 1) (signed negate ls))) × AssumesMore first new
+      go true d k = (
+        ap (λ xs. denied_in_turn xs (drop i (signed negate ls))) a ∙ denied-had free (ap (is_among assumed) (sym e) ∙ ap (λ xs. is_among xs n) (sym a) ∙ d)
+            ∙ ap (λ xs. denied_in_turn xs (drop (i + 1) (signed negate ls))) (sym a) ∙ ap (λ (t : LiteralsAndRoom). denied_in_turn t.literals (drop (i + 1) (signed negate ls))) (sym k),
+        subst (AssumesMore first) (sym k) more,
+      )
+      go false d k = (
+        ap (λ xs. denied_in_turn xs (drop i (signed negate ls))) a ∙ denied-new free (ap (is_among assumed) (sym e) ∙ ap (λ xs. is_among xs n) (sym a) ∙ d)
+            ∙ ap (λ l. denied_in_turn (l ∷ assumed) (drop (i + 1) (signed negate ls))) (sym e) ∙ ap (λ xs. denied_in_turn (n ∷ xs) (drop (i + 1) (signed negate ls))) (sym a)
+            ∙ ap (λ (t : LiteralsAndRoom). denied_in_turn t.literals (drop (i + 1) (signed negate ls))) (sym k),
+        Extends-assumed first mid new n more k,
+      )
+
+pub ruleset denying = (Extends-itself, Extends-assumed, denied-true)
