@@ -93,6 +93,7 @@ impl Units {
         let _ = &self.order;
     }
 
+    #[inline(always)]
     pub fn is_unit(&self, lit: Lit) -> bool
         ensures { result ≡ is_among (map (λ u. u.literal) self.now.units) lit }
     {

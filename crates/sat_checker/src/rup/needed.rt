@@ -1,5 +1,5 @@
 //! What a conflict rests on, followed backwards over the notes of a walk.
-ghost use Rattle.std.specs.Prelude.{ℕ, ◌≡◌, ◌+◌, ◌<◌, ◌==◌, ◌||◌, [], map, length, OnOk, Some, false};
+ghost use Rattle.std.specs.Prelude.{ℕ, ◌≡◌, ◌+◌, ◌<◌, ◌==◌, ◌||◌, ◌++◌, [], map, length, reverse, OnOk, Some, true, false};
 ghost use Rattle.sat_base.specs.values.Literals.{negated};
 ghost use Rattle.sat_checker.specs.LiteralSets.{is_among};
 ghost use Rattle.sat_checker.specs.announcements.Needed.{Ground, others_denied, with_reason, needed_units};
@@ -170,6 +170,27 @@ impl Needed {
         Ok(())
     }
 
+    /// Whether a marked literal is a unit.
+    pub fn has_unit(&self, units: &Units) -> bool
+        ensures { result ≡ false → (l : ℕ) → is_among self.now.marked.literals l ≡ true
+            → is_among (map (λ u. u.literal) units.now.units) l ≡ false }
+    {
+        for lit in self.marked.literals() {
+            if units.is_unit(*lit) {
+                return true;
+            }
+        }
+        false
+    }
+
+    /// Lists the ids of the clauses needed, the falsified one last.
+    pub fn list_clauses(&mut self, ids: &mut Vec<u64>) -> Result<(), AllocError>
+        ensures { OnOk result (ids.new.items ≡ ids.old.items ++ reverse self.old.ids.items) }
+    {
+        self.ids.reverse();
+        ids.extend_from_slice(&self.ids)
+    }
+
     /// Lists the ids of the units needed, by increasing id, and then those of the clauses, the falsified one last.
     pub fn list(
         &mut self,
@@ -183,7 +204,6 @@ impl Needed {
             → ids.new.items ≡ conflict_ids denied.now.literals g units.now.units) }
     {
         list_units(&self.marked, denied, units, ids)?;
-        self.ids.reverse();
-        ids.extend_from_slice(&self.ids)
+        self.list_clauses(ids)
     }
 }

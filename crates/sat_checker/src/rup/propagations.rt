@@ -101,6 +101,9 @@ impl Propagations {
         ensures looks { LooksUpTo (noted_length store.now.clauses passed.now) looks.old looks.new }
     {
         self.needed.follow_all(&store.clauses, passed, looks)?;
+        if !self.needed.has_unit(units) {
+            return self.needed.list_clauses(&mut self.ids);
+        }
         self.denied.allow(store.clauses.near_count());
         self.denied.undo_to(0);
         mark_all(&mut self.denied, clause)?;

@@ -1,7 +1,7 @@
 -- The ids that a conflict rests on, as they are listed.
 use Rattle.std.proofs.Common.{ℕ, ◌+◌, ◌<◌, ◌≤◌, ◌≡◌, Bool, true, false, not, ◌&&◌, ◌||◌, cond, eqb, List, [], ◌∷◌, ◌++◌, length, drop, get_or, map, filter, reverse, refl, sym, ◌∙◌, ap, subst, arith, Option, Some, None, Result, Ok, Err, IfOk, inl, inr}
 use Rattle.std.proofs.lemmas.Bool.{or_cases, or_left, or_right, and_parts, both_ways, eqb-true, eq-eqb, true≢false, false_from_ne_true}
-use Rattle.std.proofs.lemmas.List.{drop_more, append_assoc, append-nil}
+use Rattle.std.proofs.lemmas.List.{drop_more, append_assoc, append-nil, reverse-reverse}
 use Rattle.std.proofs.lemmas.List.Sorted.{Contains-permutation, IsPermutation-sym}
 use Rattle.std.specs.List.{AllByRecursion, list_any}
 use Rattle.std.specs.List.Sorted.{IsPermutation, IsSorted}
@@ -240,3 +240,39 @@ denied_same xs ys g units same =
 
 pub marked_anew : (marked new xs : List ℕ) → marked ≡ [] → ((m : ℕ) → is_among new m ≡ (is_among xs m || is_among marked m)) → (m : ℕ) → is_among new m ≡ is_among xs m
 marked_anew marked new xs e h m = h m ∙ ap (λ ys. is_among xs m || is_among ys m) e ∙ or_none (is_among xs m)
+
+-- literals that are looked at one after another
+pub all_left : (marked items : List ℕ) (m : ℕ) → items ≡ reverse marked → is_among marked m ≡ true → is_among items m ≡ true
+all_left marked items m e t = ap (λ xs. is_among xs m) e ∙ among-reverse marked m ∙ t
+
+pub still_left : (units items : List ℕ) (i m : ℕ) → i < length items → is_among units (get_or items i 0) ≡ false → is_among units m ≡ true → is_among (drop i items) m ≡ true → is_among (drop (i + 1) items) m ≡ true
+still_left units items i m l n u h = elim (or_cases (eqb (get_or items i 0) m) (is_among (drop (i + 1) items) m) (ap (λ xs. is_among xs m) (sym (drop_more items i 0 l)) ∙ h)) [
+  | inl e ↦ absurd (true≢false (sym u ∙ ap (is_among units) (sym (eqb-true (get_or items i 0) m e)) ∙ n))
+  | inr r ↦ r
+]
+
+pub none_left_over : (units items : List ℕ) (i m : ℕ) → length items ≤ i → (is_among units m ≡ true → is_among (drop i items) m ≡ true) → is_among units m ≡ false
+none_left_over units items i m l h = go (is_among units m) refl
+  where
+    go : (b : Bool) → is_among units m ≡ b → b ≡ false
+    go true e = absurd (true≢false (sym (h e) ∙ ap (λ xs. is_among xs m) (nothing_left items i l)))
+    go false e = refl
+
+-- no unit is needed where no literal is one
+no_units : (denied literals : List ℕ) (us : List StoredUnit) → ((l : ℕ) → is_among literals l ≡ true → is_among (map (λ u. u.literal) us) l ≡ false) → filter (λ u. is_among literals u.literal && not (is_among denied u.literal)) us ≡ []
+no_units denied literals [] h = refl
+no_units denied literals (u ∷ us) h = go (no_units denied literals us) (is_among literals u.literal) refl
+  where
+    later : (a b : Bool) → (a || b) ≡ false → b ≡ false
+    later true b e = absurd (true≢false e)
+    later false b e = e
+
+    go : (((l : ℕ) → is_among literals l ≡ true → is_among (map (λ v. v.literal) us) l ≡ false) → filter (λ v. is_among literals v.literal && not (is_among denied v.literal)) us ≡ []) → (b : Bool) → is_among literals u.literal ≡ b
+        → cond (b && not (is_among denied u.literal)) (u ∷ filter (λ v. is_among literals v.literal && not (is_among denied v.literal)) us) (filter (λ v. is_among literals v.literal && not (is_among denied v.literal)) us) ≡ []
+    go ih true e = absurd (true≢false (sym (or_left (eqb u.literal u.literal) (is_among (map (λ v. v.literal) us) u.literal) (eq-eqb u.literal u.literal refl)) ∙ h u.literal e))
+    go ih false e = ih (λ l k. later (eqb u.literal l) (is_among (map (λ v. v.literal) us) l) (h l k))
+
+pub clauses_alone : (denied marked ids listed : List ℕ) (g : Ground) (us : List StoredUnit) → ((m : ℕ) → is_among marked m ≡ is_among g.literals m) → ((l : ℕ) → is_among marked l ≡ true → is_among (map (λ u. u.literal) us) l ≡ false)
+    → ids ≡ reverse (map (λ c. c.id) g.clauses) → listed ≡ [] ++ reverse ids → listed ≡ conflict_ids denied g us
+clauses_alone denied marked ids listed g us same none i e =
+    e ∙ ap reverse i ∙ reverse-reverse (map (λ c. c.id) g.clauses) ∙ ap (λ xs. map (λ (u : StoredUnit). u.id) xs ++ map (λ c. c.id) g.clauses) (sym (no_units denied g.literals us (λ l k. none l (same l ∙ k))))
