@@ -1,5 +1,5 @@
 -- Marks of literals by number.
-use Rattle.std.specs.Prelude.{ℕ, ◌≡◌, ◌<◌, ◌≤◌, ◌+◌, ◌-◌, ◌==◌, Bool, true, List, length, get_or, if◌then◌else◌}
+use Rattle.std.specs.Prelude.{ℕ, ◌≡◌, ◌<◌, ◌≤◌, ◌+◌, ◌-◌, ◌==◌, Bool, true, false, List, length, get_or, slice_index_or, if◌then◌else◌}
 use Rattle.sat_base.specs.declared.table.Table.{Table}
 use Rattle.sat_base.specs.values.Literals.{negated}
 use Rattle.sat_base.specs.values.Tables.{value_at}
@@ -19,6 +19,16 @@ mark_at = value_at mark.NoRoom
 -- the mark of a literal, by whether it's assumed and whether there is room for it
 abbrev pub mark_for : Bool → Bool → Mark
 mark_for assumed roomy = if assumed then mark.Assumed else if roomy then mark.Room else mark.NoRoom
+
+-- whether a mark says that the literal is assumed
+abbrev pub is_assumed : Mark → Bool
+is_assumed mark.Assumed = true
+is_assumed mark.Room = false
+is_assumed mark.NoRoom = false
+
+-- these are the marks of the literals with small codes, by code
+abbrev pub AreNear : List Mark → List ℕ → Type 0
+AreNear near literals = (l : ℕ) → l < length near → is_assumed (slice_index_or near l mark.NoRoom) ≡ is_among literals l
 
 -- the literals are marked as assumed, others by whether there is room for them, and none of the literals stands twice or without room
 pub record AreMarks (marks : Table Mark) (literals room : List ℕ) : Type 0 where

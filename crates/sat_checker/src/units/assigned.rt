@@ -1,7 +1,7 @@
 //! Literals that are assumed, and those that there is room for, with a mark by code for each.
-ghost use Rattle.std.specs.Prelude.{◌≡◌, ◌+◌, ◌-◌, ◌<◌, ◌≤◌, List, [], ◌∷◌, drop, length, OnOk, OnErr};
+ghost use Rattle.std.specs.Prelude.{◌≡◌, ◌+◌, ◌-◌, ◌<◌, ◌≤◌, List, [], ◌∷◌, drop, length, OnOk, OnErr, IfSome};
 ghost use Rattle.std.specs.Prelude.{true, false, reverse, ℕ, ◌==◌, get_or, if◌then◌else◌, ◌&&◌, not};
-ghost use Rattle.sat_checker.specs.inner.Marks.{mark_at, NoRepeats, LosesAt};
+ghost use Rattle.sat_checker.specs.inner.Marks.{is_assumed, mark_at, AreNear, NoRepeats, LosesAt};
 ghost use Rattle.sat_checker.specs.inner.Room.{with_room, AgreesOn, AssumesOnce, HasRoomFor, RoomStays};
 ghost use Rattle.sat_checker.specs.inner.Look.{AssumesMore};
 ghost use Rattle.sat_base.specs.values.Tables.{HasPlaceFor, KeepsRoom};
@@ -86,6 +86,14 @@ impl Assigned {
         ensures { self.new ≡ self.old }
     {
         self.marks.allow(limit);
+    }
+
+    /// Lends the marks of literals with small codes, in order of their codes.
+    #[inline(always)]
+    fn near(&self) -> &[Mark]
+        ensures { AreNear result.now self.now.literals }
+    {
+        self.marks.near()
     }
 
     #[inline(always)]
@@ -278,9 +286,13 @@ pub enum Look {
 pub fn look_at(assigned: &Assigned, clause: &[Lit]) -> Look
     ensures { verdict_of result ≡ verdict assigned.now.literals clause.now }
 {
+    let near = assigned.near();
     let mut open = None;
     for lit in clause {
-        if !assigned.is_true(!*lit) {
+        let Some(falsified) = is_near_true(assigned, near, !*lit) else {
+            return look_far(assigned, clause);
+        };
+        if !falsified {
             if open.is_some() {
                 return Look::Rests;
             }
@@ -292,4 +304,51 @@ pub fn look_at(assigned: &Assigned, clause: &[Lit]) -> Look
         Some(lit) if assigned.is_true(lit) => Look::Rests,
         Some(lit) => Look::Opens(lit),
     }
+}
+
+/// Whether a literal is assumed, or `None` if its mark is not among these near ones.
+#[inline(always)]
+fn is_near_true(assigned: &Assigned, near: &[Mark], lit: Lit) -> Option<bool>
+    requires { AreNear near.now assigned.now.literals }
+    ensures { IfSome result (λ assumed. assumed ≡ is_among assigned.now.literals lit) }
+{
+    let code = lit.code();
+    if code >= near.len() {
+        return None;
+    }
+    Some(is_assumed(near[code]))
+}
+
+/// Whether a mark says that the literal is assumed.
+#[inline(always)]
+fn is_assumed(mark: Mark) -> bool
+    ensures { result ≡ is_assumed mark }
+{
+    match mark {
+        Mark::Assumed => true,
+        Mark::Room | Mark::NoRoom => false,
+    }
+}
+
+/// As `look_at`, for a clause with literals whose marks are not near.
+#[inline(never)]
+fn look_far(assigned: &Assigned, clause: &[Lit]) -> Look
+    ensures { verdict_of result ≡ verdict assigned.now.literals clause.now }
+{
+    let mut open = None;
+    for lit in clause {
+        if !assigned.is_true(!*lit) {
+            if open.is_some() {
+                return Look::Rests;
+            }
+            open = Some(*lit);
+        }
+    }
+    let Some(lit) = open else {
+        return Look::Falsified;
+    };
+    if assigned.is_true(lit) {
+        return Look::Rests;
+    }
+    Look::Opens(lit)
 }
