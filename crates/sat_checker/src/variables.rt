@@ -109,8 +109,35 @@ impl Variables {
         self.data.set(var.index(), state, VarData::unknown())
     }
 
+    /// Whether the variable has a small index and is known.
+    #[inline(always)]
+    fn is_near_known(&self, var: Var) -> bool
+        ensures { result ≡ true → (variable_at self.now var).known ≡ true }
+    {
+        let near = self.data.near();
+        let index = var.index();
+        if index >= near.len() {
+            return false;
+        }
+        near[index].known
+    }
+
     /// An unknown variable becomes a sampling one.
+    #[inline(always)]
     pub fn ensure_var(&mut self, var: Var) -> Result<(), AllocError>
+        ensures variables { OnOk result
+            ((v : ℕ) → variable_at self.new v ≡ (known_if (v == var) (variable_at self.old v))) }
+        ensures holders { (name : ℕ) → holder_at self.new name ≡ holder_at self.old name }
+    {
+        if self.is_near_known(var) {
+            return Ok(());
+        }
+        self.ensure_far(var)
+    }
+
+    /// As `ensure_var`, for any variable.
+    #[inline(never)]
+    fn ensure_far(&mut self, var: Var) -> Result<(), AllocError>
         ensures variables { OnOk result
             ((v : ℕ) → variable_at self.new v ≡ (known_if (v == var) (variable_at self.old v))) }
         ensures holders { (name : ℕ) → holder_at self.new name ≡ holder_at self.old name }
