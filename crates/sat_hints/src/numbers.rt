@@ -1,11 +1,14 @@
 //! Numbers and literals at the front of a line's bytes: decimal, without leading zeros, in front of a single space.
-ghost use Rattle.std.specs.Prelude.{◌≡◌, ◌++◌, ◌∷◌, [], ◌<◌, ◌≤◌, ◌^◌, decimal, List, ℕ, MatchOption};
+ghost use Rattle.std.specs.Prelude.{◌≡◌, ◌++◌, ◌∷◌, [], ◌<◌, ◌≤◌, ◌^◌, decimal, List, ℕ, MatchBool, MatchOption};
 ghost use Rattle.sat_base.specs.dimacs.DimacsText.{number_text};
 ghost use Rattle.sat_hints.specs.Lines.{id_text};
 ghost use Rattle.sat_hints.specs.inner.LineReading.{BeginsWithWord, IsId, IsLiteralCode, IsNumberUpTo, IsVariableIndex};
-ghost use Rattle.sat_hints.specs.inner.LineReading.{NoDigit, NoWord, digits_so_far};
+ghost use Rattle.sat_hints.specs.inner.LineReading.{EndsNone, NoDigit, NoWord, digits_so_far};
 
 use sat_base::{Lit, Var};
+
+/// Any digit can follow a number that is not above this.
+const LONG: u64 = 1_000_000_000_000_000_000;
 
 /// What is behind the text, where the bytes begin with it.
 #[inline(always)]
@@ -38,9 +41,51 @@ pub(crate) fn with_digit(number: u64, byte: u8, limit: u64) -> Option<u64>
     Some(more)
 }
 
-/// The number from 1 to the limit in front of a space, and what is behind the space.
+/// Whether this byte ends a number that is within the limit.
+#[inline(always)]
+fn ends_number(number: u64, byte: u8, limit: u64) -> bool
+    ensures { MatchBool result ((byte ≡ 32) × (0 < number) × (number ≤ limit)) (EndsNone number byte limit) }
+{
+    if byte != b' ' || number == 0 {
+        return false;
+    }
+    number <= limit
+}
+
+/// The number from 1 to the limit in front of a space, and what is behind the space. A number with at most 19 digits
+/// is compared with the limit only at its end.
 #[inline(always)]
 pub(crate) fn read_number(bytes: &[u8], limit: u64) -> Option<(u64, &[u8])>
+    requires { 9 ≤ limit }
+    ensures { MatchOption result (NoWord decimal (IsNumberUpTo limit) bytes.now)
+        (λ x. BeginsWithWord decimal (IsNumberUpTo limit) bytes.now x.0 x.1.now) }
+{
+    if bytes.is_empty() {
+        return None;
+    }
+    if bytes[0] == b'0' {
+        return None;
+    }
+    let mut number: u64 = 0;
+    for i in 0..bytes.len() {
+        let byte = bytes[i];
+        if byte < b'0' || byte > b'9' {
+            if ends_number(number, byte, limit) {
+                return Some((number, &bytes[i + 1..]));
+            }
+            return None;
+        }
+        if number > LONG {
+            return read_long(bytes, limit);
+        }
+        number = 10 * number + (byte - b'0') as u64;
+    }
+    None
+}
+
+/// As `read_number`, with the limit tested at each digit.
+#[inline(never)]
+fn read_long(bytes: &[u8], limit: u64) -> Option<(u64, &[u8])>
     requires { 9 ≤ limit }
     ensures { MatchOption result (NoWord decimal (IsNumberUpTo limit) bytes.now)
         (λ x. BeginsWithWord decimal (IsNumberUpTo limit) bytes.now x.0 x.1.now) }

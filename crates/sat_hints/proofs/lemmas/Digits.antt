@@ -1,8 +1,8 @@
 -- Numbers, digit by digit, in front of a space.
-use Rattle.std.proofs.Common.{ℕ, zero, suc, ◌+◌, ◌-◌, ◌*◌, ◌/◌, ◌%◌, ◌^◌, ◌<◌, ◌≤◌, ◌≡◌, ◌∷◌, ◌++◌, [], List, length, take, get_or, decimal, append-nil, refl, sym, ◌∙◌, ap, subst, arith, append_assoc}
+use Rattle.std.proofs.Common.{ℕ, zero, suc, ◌+◌, ◌-◌, ◌*◌, ◌/◌, ◌%◌, ◌^◌, ◌<◌, ◌≤◌, ◌≡◌, ◌∷◌, ◌++◌, [], List, length, take, get_or, drop, decimal, append-nil, refl, sym, ◌∙◌, ap, subst, arith, append_assoc}
 use Rattle.std.proofs.lemmas.Fmt.{decimal_digit, decimal_step, decimal_is_IsNumeral, first_decimal, decimal_nonempty}
 use Rattle.std.proofs.lemmas.Str.Parse.{digit_from_value, digits_value-take-le}
-use Rattle.std.proofs.Math.Seq.{take-append_seam}
+use Rattle.std.proofs.Math.Seq.{drop-cons, take-append_seam}
 use Rattle.std.specs.List.{AllByRecursion}
 use Rattle.std.specs.Str.Parse.{AllDigits, digits_value}
 use Rattle.std.proofs.lemmas.Int.Digits.{digits_value_push}
@@ -26,6 +26,11 @@ plain_number n h = plain_digits (decimal n) (are_digits n h)
 digit_behind : (ds : List ℕ) (b : ℕ) (more : List ℕ) → AllDigits 10 (ds ++ (b ∷ more)) → (48 ≤ b) × (b ≤ 57)
 digit_behind [] b more d = digit_from_value b d.0
 digit_behind (c ∷ ds) b more d = digit_behind ds b more d.1
+
+-- the digits of a number that has begun
+pub so_far : (m : ℕ) → 1 ≤ m → digits_so_far m ≡ decimal m
+so_far zero h = absurd (omega arith)
+so_far (suc m) h = refl
 
 module _ (limit : ℕ) (fits : limit < 2 ^ 64) where
   -- a byte that is no digit
@@ -125,7 +130,30 @@ module _ (limit : ℕ) (fits : limit < 2 ^ 64) where
       none n r.0 k r.1
 
   -- where the bytes are over
+  pub no_number_past : (number : ℕ) (bytes : List ℕ) → number < 2 ^ 64 → bytes ≡ digits_so_far number ++ [] → NoWord decimal (IsNumberUpTo limit) bytes
+  no_number_past number bytes small e n tail k f = no_space (digits_so_far number) (decimal n) tail (plain_so_far number small) (sym (append-nil (digits_so_far number)) ∙ sym e ∙ f)
+
   pub no_number_end : (number : ℕ) (bytes : List ℕ) → number ≤ limit → bytes ≡ digits_so_far number ++ [] → NoWord decimal (IsNumberUpTo limit) bytes
-  no_number_end number bytes h e n tail k f =
-      let small : number < 2 ^ 64 = omega arith in
-      no_space (digits_so_far number) (decimal n) tail (plain_so_far number small) (sym (append-nil (digits_so_far number)) ∙ sym e ∙ f)
+  no_number_end number bytes h e = no_number_past number bytes (omega arith) e
+
+-- DIGIT BY DIGIT
+-- the first digit is not 0
+pub grows : (i number b : ℕ) → i ≤ number → (i ≡ 0 → b ≡ 48 → ⊥) → 48 ≤ b → i + 1 ≤ 10 * number + (b - 48)
+grows i zero b h other low = go (b - 48) refl
+  where
+    go : (d : ℕ) → b - 48 ≡ d → i + 1 ≤ 10 * 0 + (b - 48)
+    go zero e = absurd (other (omega arith) (omega arith))
+    go (suc d) e = omega arith
+grows i (suc number) b h other low = omega arith
+
+-- one more was read
+pub one_digit_more : (bytes : List ℕ) (i number b : ℕ) → i < length bytes → b ≡ get_or bytes i 0 → 48 ≤ b → b ≤ 57 → 10 * number + (b - 48) < 2 ^ 64 → i + 1 ≤ 10 * number + (b - 48) → bytes ≡ digits_so_far number ++ drop i bytes
+    → bytes ≡ digits_so_far (10 * number + (b - 48)) ++ drop (i + 1) bytes
+one_digit_more bytes i number b inside is low high small more e =
+    let n : suc i ≡ i + 1 = omega arith in
+    let p : 0 < 10 * number + (b - 48) = omega arith in
+    let d : decimal (10 * number + (b - 48)) ≡ digits_so_far number ++ (b ∷ []) = next_digit 0 (omega arith) number b low high small p in
+    e
+    ∙ ap (λ t. digits_so_far number ++ t) (drop-cons bytes i 0 inside ∙ ap (λ c. c ∷ drop (suc i) bytes) (sym is) ∙ ap (λ m. b ∷ drop m bytes) n)
+    ∙ sym (append_assoc (digits_so_far number) (b ∷ []) (drop (i + 1) bytes))
+    ∙ ap (λ ds. ds ++ drop (i + 1) bytes) (sym d ∙ sym (so_far (10 * number + (b - 48)) (omega arith)))

@@ -1,5 +1,5 @@
 -- Which bytes may come at each place of a line.
-use Rattle.std.proofs.Common.{ℕ, zero, suc, ◌+◌, ◌/◌, ◌^◌, ◌<◌, ◌≤◌, ◌≡◌, Bool, true, false, cond, Option, None, Some, List, [], ◌∷◌, ◌++◌, decimal, refl, sym, ◌∙◌, ap, subst, arith, append_assoc}
+use Rattle.std.proofs.Common.{ℕ, ◌+◌, ◌/◌, ◌^◌, ◌<◌, ◌≡◌, Bool, true, false, cond, Option, None, Some, List, [], ◌∷◌, ◌++◌, decimal, refl, sym, ◌∙◌, ap, subst, arith, append_assoc}
 use Rattle.std.proofs.lemmas.Fmt.{decimal_nonempty, first_decimal}
 use Rattle.sat_base.specs.values.Literals.{largest, is_positive}
 use Rattle.sat_base.specs.dimacs.DimacsText.{number_text}
@@ -10,7 +10,7 @@ use Rattle.sat_hints.specs.declared.fronts.Part.{Part}
 use Rattle.sat_hints.specs.declared.fronts.Part.TheVariants.{InputId, DerivedId, GoneId, FreshVar, Clause, Lists, Ids, End}
 use Rattle.sat_hints.specs.declared.fronts.Place.{Place}
 use Rattle.sat_hints.specs.declared.fronts.Place.TheVariants.{Item, Digits}
-use Rattle.sat_hints.proofs.lemmas.Digits.{number_goes_on, plain_number, plain_so_far}
+use Rattle.sat_hints.proofs.lemmas.Digits.{number_goes_on, plain_number, plain_so_far, so_far}
 use Rattle.sat_hints.proofs.lemmas.Words.{at_space, id_first, no_sign}
 
 abbrev end : List ℕ
@@ -109,10 +109,6 @@ number_ends part number small more_than more w =
     subst (IsPartOfLine (next_of part)) (sym e.1) w.behind
 
 -- a digit comes
-so_far : (m : ℕ) → 1 ≤ m → digits_so_far m ≡ decimal m
-so_far zero h = absurd (omega arith)
-so_far (suc m) h = refl
-
 pub number_goes : (part : Part) (number b m : ℕ) → IsNumberUpTo (limit_of part) m → decimal m ≡ digits_so_far number ++ (b ∷ []) → LeadsToPlace (Digits part number) (b ∷ []) (Some (Digits part m))
 number_goes part number b m within e more w = record {
   value = w.value;

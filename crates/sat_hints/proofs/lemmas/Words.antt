@@ -1,5 +1,6 @@
 -- Words, each with a space behind it, are read in one way.
-use Rattle.std.proofs.Common.{ℕ, ◌+◌, ◌/◌, ◌%◌, ◌^◌, ◌<◌, ◌≡◌, Bool, true, false, cond, eqb, List, [], ◌∷◌, ◌++◌, length, get_or, decimal, refl, sym, ◌∙◌, ap, subst, arith, append_assoc}
+use Rattle.std.proofs.Common.{ℕ, ◌+◌, ◌/◌, ◌%◌, ◌^◌, ◌<◌, ◌≤◌, ◌≡◌, ◌⊎◌, inl, inr, Bool, true, false, cond, eqb, List, [], ◌∷◌, ◌++◌, length, get_or, decimal, refl, sym, ◌∙◌, ap, subst, arith, append_assoc}
+use Rattle.std.proofs.lemmas.Bool.{both_ways, eqb-true, eq-eqb}
 use Rattle.std.proofs.lemmas.Fmt.{decimal_injective, decimal_nonempty, first_decimal}
 use Rattle.std.proofs.lemmas.Str.Parse.{digit_from_value}
 use Rattle.std.specs.List.{AllByRecursion}
@@ -7,8 +8,8 @@ use Rattle.std.specs.Str.Parse.{AllDigits}
 use Rattle.sat_base.specs.values.Literals.{variable, is_positive}
 use Rattle.sat_base.specs.dimacs.DimacsText.{number_text}
 use Rattle.sat_hints.specs.Lines.{words, id_text}
-use Rattle.sat_hints.specs.inner.LineReading.{IsId, IsVariableIndex, IsLiteralCode, NoWord, BeginsWithWord, BeginsWithWords}
-use Rattle.sat_hints.proofs.lemmas.Digits.{Plain, plain_number, are_digits}
+use Rattle.sat_hints.specs.inner.LineReading.{IsId, IsVariableIndex, IsLiteralCode, IsNumberUpTo, EndsNone, NoWord, BeginsWithWord, BeginsWithWords, digits_so_far}
+use Rattle.sat_hints.proofs.lemmas.Digits.{Plain, plain_number, plain_so_far, are_digits, so_far, no_digit, number_goes_on}
 
 -- words that a space ends, each of one value, and none that begins with `0`
 pub record AreWords (word : ℕ → List ℕ) (P : ℕ → Type 0) : Type 0 where
@@ -89,6 +90,37 @@ ids_are_words = record {
   one = λ x y p q e. let r : x + 1 ≡ y + 1 = decimal_injective (x + 1) (y + 1) (omega arith) (omega arith) e in omega arith;
   no_zero = λ x rest tail p e. id_first (decimal (x + 1)) rest tail (decimal_nonempty (x + 1) (omega arith)) (first_decimal (x + 1) (omega arith) (omega arith)) e;
 }
+
+-- bytes that begin with 0 are no number
+pub no_number_zero : (limit : ℕ) → limit < 2 ^ 64 → (bytes : List ℕ) → 0 < length bytes → get_or bytes 0 0 ≡ 48 → NoWord decimal (IsNumberUpTo limit) bytes
+no_number_zero limit fits [] h e n tail k f = omega arith
+no_number_zero limit fits (b ∷ bytes) h e n tail k f =
+    let g : 48 ∷ bytes ≡ decimal n ++ (32 ∷ tail) = ap (λ c. c ∷ bytes) (sym e) ∙ f in
+    id_first (decimal n) bytes tail (decimal_nonempty n (omega arith)) (first_decimal n k.0 (omega arith)) g
+
+-- nor are digits where something else comes, unless it ends a number within the limit
+pub no_number_stop : (limit : ℕ) → limit < 2 ^ 64 → (number b : ℕ) (bytes x : List ℕ) → number < 2 ^ 64 → ((48 ≤ b) × (b ≤ 57) → ⊥) → EndsNone number b limit → bytes ≡ digits_so_far number ++ (b ∷ x) → NoWord decimal (IsNumberUpTo limit) bytes
+no_number_stop limit fits number b bytes x small other space e n tail k f = go (eqb b 32) refl
+  where
+    from : (b ≡ 32 → number ≡ 0) → ⊥
+    from s = let r = number_goes_on limit fits number b x n tail small s k (sym e ∙ f) in no_digit limit fits number b other n r.0 k r.1
+
+    over : b ≡ 32 → limit < number → ⊥
+    over s past =
+        let g : digits_so_far number ++ (32 ∷ x) ≡ decimal n ++ (32 ∷ tail) = ap (λ c. digits_so_far number ++ (c ∷ x)) (sym s) ∙ sym e ∙ f in
+        let fit : n < 2 ^ 64 = omega arith in
+        let same : digits_so_far number ≡ decimal n = (at_space (digits_so_far number) (decimal n) x tail (plain_so_far number small) (plain_number n fit) g).0 in
+        let r : number ≡ n = decimal_injective number n small fit (sym (so_far number (omega arith)) ∙ same) in
+        let l : n ≤ limit = k.1 in
+        omega arith
+
+    either : b ≡ 32 → (number ≡ 0) ⊎ (limit < number) → ⊥
+    either s (inl z) = from (λ t. z)
+    either s (inr past) = over s past
+
+    go : (is : Bool) → eqb b 32 ≡ is → ⊥
+    go true h = let s = eqb-true b 32 h in either s (space s)
+    go false h = from (λ s. absurd (both_ways (eqb b 32) h (eq-eqb b 32 s)))
 
 -- literals
 plain_signed : (s : Bool) (n : ℕ) → n < 2 ^ 64 → Plain (cond s [] (45 ∷ []) ++ decimal n)

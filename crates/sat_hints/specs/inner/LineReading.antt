@@ -1,5 +1,5 @@
 -- What is read at the front of a line's bytes, and where nothing is.
-use Rattle.std.specs.Prelude.{ℕ, zero, suc, ◌*◌, ◌-◌, ◌^◌, ◌<◌, ◌≤◌, ◌≡◌, List, [], ◌∷◌, ◌++◌, decimal, codes}
+use Rattle.std.specs.Prelude.{ℕ, zero, suc, ◌*◌, ◌-◌, ◌^◌, ◌<◌, ◌≤◌, ◌≡◌, ◌⊎◌, List, [], ◌∷◌, ◌++◌, decimal, codes}
 use Rattle.std.specs.List.{AllByRecursion}
 use Rattle.sat_base.specs.values.Literals.{largest}
 use Rattle.sat_hints.specs.Lines.{Line, Input, Derived, Gone, Core, Fresh, AreIds, AreLiteralCodes, words, id_words, literal_words, SpellsLine}
@@ -32,6 +32,10 @@ digits_so_far (suc n) = decimal (suc n)
 -- no number goes on with this byte
 abbrev pub NoDigit : ℕ → ℕ → ℕ → Type 0
 NoDigit limit number byte = (n : ℕ) (more : List ℕ) → IsNumberUpTo limit n → decimal n ≡ digits_so_far number ++ (byte ∷ more) → ⊥
+
+-- the byte is no space, or no number up to the limit has ended before it
+abbrev pub EndsNone : ℕ → ℕ → ℕ → Type 0
+EndsNone number byte limit = byte ≡ 32 → (number ≡ 0) ⊎ (limit < number)
 
 -- the bytes begin with no word and a space
 abbrev pub NoWord : (ℕ → List ℕ) → (ℕ → Type 0) → List ℕ → Type 0

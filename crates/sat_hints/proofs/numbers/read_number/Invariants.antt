@@ -2,6 +2,6 @@ use Rattle.std.proofs.Common.{◌≡◌, ◌≤◌, ◌++◌, drop}
 use Rattle.sat_hints.specs.inner.LineReading.{digits_so_far}
 use Rattle.sat_hints.proofs.numbers.read_number.Given as goal
 
--- what was read is the number's digits
+-- what was read is the number's digits, of which the first is not 0
 abbrev pub invariant-loop-i : goal.invariant-loop-i
-invariant-loop-i l = record { within : l.number ≤ l.limit; digits : l.bytes ≡ digits_so_far l.number ++ drop l.i l.bytes }
+invariant-loop-i l = record { more : l.i ≤ l.number; digits : l.bytes ≡ digits_so_far l.number ++ drop l.i l.bytes }
