@@ -1,5 +1,17 @@
 //! The digits of a number.
-ghost use Rattle.std.specs.Prelude.{◌≡◌, ◌+◌, ◌≤◌, ◌++◌, length, take, decimal};
+ghost use Rattle.std.specs.Prelude.{◌≡◌, ◌+◌, ◌/◌, ◌%◌, ◌<◌, ◌≤◌, ◌++◌, ◌∷◌, [], length, take, decimal};
+
+/// Writes a number below 100 as two digits.
+#[inline(always)]
+fn write_pair(bytes: &mut [u8], at: usize, pair: u8)
+    requires room { at + 1 < length bytes.old }
+    requires two { pair < 100 }
+    ensures same { length bytes.new ≡ length bytes.old }
+    ensures text { take (at + 2) bytes.new ≡ take at bytes.old ++ (48 + pair / 10) ∷ (48 + pair % 10) ∷ [] }
+{
+    bytes[at] = b'0' + pair / 10;
+    bytes[at + 1] = b'0' + pair % 10;
+}
 
 /// Writes the digits of a number behind the first so many bytes. The answer is where they end.
 pub(crate) fn write_digits(bytes: &mut [u8], len: usize, number: u64) -> usize
@@ -13,13 +25,20 @@ pub(crate) fn write_digits(bytes: &mut [u8], len: usize, number: u64) -> usize
         return len + 1;
     }
     if number < 100 {
-        bytes[len] = b'0' + (number / 10) as u8;
-        bytes[len + 1] = b'0' + (number % 10) as u8;
+        write_pair(bytes, len, number as u8);
         return len + 2;
     }
-    let rest = (number % 100) as u8;
+    if number < 1000 {
+        bytes[len] = b'0' + (number / 100) as u8;
+        write_pair(bytes, len + 1, (number % 100) as u8);
+        return len + 3;
+    }
+    if number < 10000 {
+        write_pair(bytes, len, (number / 100) as u8);
+        write_pair(bytes, len + 2, (number % 100) as u8);
+        return len + 4;
+    }
     let at = write_digits(bytes, len, number / 100);
-    bytes[at] = b'0' + rest / 10;
-    bytes[at + 1] = b'0' + rest % 10;
+    write_pair(bytes, at, (number % 100) as u8);
     at + 2
 }

@@ -1,9 +1,8 @@
 //! Writing lines of a hint text, through bytes that wait.
-ghost use Rattle.std.specs.Prelude.{◌≡◌, ◌+◌, ◌<◌, ◌∷◌, [], false, decimal};
-ghost use Rattle.sat_base.specs.dimacs.DimacsText.{number_text};
-ghost use Rattle.sat_hints.specs.Lines.{Input, Derived, Gone, Core, Fresh, id_text, id_words, line_text, literal_words};
+ghost use Rattle.std.specs.Prelude.{◌≡◌, ◌+◌, ◌<◌, ◌∷◌, ◌++◌, [], false, decimal};
+ghost use Rattle.sat_hints.specs.Lines.{Input, Derived, Gone, Core, Fresh, id_words, line_text, literal_words};
 ghost use Rattle.sat_hints.specs.inner.LineReading.{line_of};
-ghost use Rattle.sat_hints.specs.inner.LineWriting.{outlet, both_words, PutsText};
+ghost use Rattle.sat_hints.specs.inner.LineWriting.{outlet, both_words, sign_text, PutsText};
 
 use crate::digits::write_digits;
 use crate::line::HintLine;
@@ -136,13 +135,40 @@ impl<W: CountedWrite> LineWriter<W> {
         self.len = write_digits(&mut self.bytes, 0, number);
     }
 
-    /// The ID of this id.
-    fn put_number(&mut self, id: u64)
-        ensures { PutsText (id_text id) (outlet W.seen self.old) (outlet W.seen self.new) }
+    /// Lets the digits of a number and a space wait.
+    #[inline(always)]
+    fn put_item(&mut self, number: u64)
+        ensures { PutsText (decimal number ++ 32 ∷ []) (outlet W.seen self.old) (outlet W.seen self.new) }
+    {
+        if self.failed {
+            return;
+        }
+        if self.len >= PIECE - MOST_DIGITS {
+            self.put_item_behind(number);
+            return;
+        }
+        let at = write_digits(&mut self.bytes, self.len, number);
+        self.bytes[at] = b' ';
+        self.len = at + 1;
+    }
+
+    /// As `put_item`, where there may be no room for as many bytes.
+    #[inline(never)]
+    fn put_item_behind(&mut self, number: u64)
+        ensures { PutsText (decimal number ++ 32 ∷ []) (outlet W.seen self.old) (outlet W.seen self.new) }
+    {
+        self.put_decimal(number);
+        self.put(b' ');
+    }
+
+    /// The ID of this id, and a space.
+    #[inline(always)]
+    fn put_id(&mut self, id: u64)
+        ensures { PutsText (id_words (id ∷ [])) (outlet W.seen self.old) (outlet W.seen self.new) }
     {
         match id.checked_add(1) {
-            Some(number) => self.put_decimal(number),
-            None => self.put_all(b"18446744073709551616"),
+            Some(number) => self.put_item(number),
+            None => self.put_all(b"18446744073709551616 "),
         }
     }
 
@@ -150,29 +176,27 @@ impl<W: CountedWrite> LineWriter<W> {
         ensures { PutsText (id_words ids.now) (outlet W.seen self.old) (outlet W.seen self.new) }
     {
         for id in ids {
-            self.put_number(*id);
-            self.put(b' ');
+            self.put_id(*id);
         }
     }
 
-    fn put_id(&mut self, id: u64)
-        ensures { PutsText (id_words (id ∷ [])) (outlet W.seen self.old) (outlet W.seen self.new) }
+    /// The sign of this literal, if it is negative.
+    #[inline(always)]
+    fn put_sign(&mut self, literal: Lit)
+        ensures { PutsText (sign_text literal) (outlet W.seen self.old) (outlet W.seen self.new) }
     {
-        self.put_number(id);
-        self.put(b' ');
+        if !literal.is_positive() {
+            self.put(b'-');
+        }
     }
 
-    /// The number of this literal.
+    /// The number of this literal, and a space.
+    #[inline(always)]
     fn put_literal(&mut self, literal: Lit)
-        ensures { PutsText (number_text literal) (outlet W.seen self.old) (outlet W.seen self.new) }
+        ensures { PutsText (literal_words (literal ∷ [])) (outlet W.seen self.old) (outlet W.seen self.new) }
     {
-        let number = literal.index() as u64 + 1;
-        if literal.is_positive() {
-            self.put_decimal(number);
-            return;
-        }
-        self.put(b'-');
-        self.put_decimal(number);
+        self.put_sign(literal);
+        self.put_item(literal.index() as u64 + 1);
     }
 
     fn put_literals(&mut self, literals: &[Lit])
@@ -180,7 +204,6 @@ impl<W: CountedWrite> LineWriter<W> {
     {
         for literal in literals {
             self.put_literal(*literal);
-            self.put(b' ');
         }
     }
 

@@ -1,7 +1,6 @@
--- Digits that are written behind bytes, two at a time.
+-- Digits that are written behind bytes.
 use Rattle.std.proofs.Common.{ℕ, suc, ◌+◌, ◌/◌, ◌%◌, ◌^◌, ◌<◌, ◌≤◌, ◌≡◌, false, List, [], ◌∷◌, ◌++◌, length, length-append, take, set, decimal, sym, ◌∙◌, ap, subst, arith, append_assoc}
 use Rattle.std.proofs.lemmas.Fmt.{decimal_digit, decimal_step, length-decimal-le}
-use Rattle.std.proofs.lemmas.List.{length-set}
 use Rattle.std.proofs.Math.Seq.{take-suc-set}
 use Rattle.sat_base.specs.device.Device.{Writer}
 use Rattle.sat_base.specs.device.Sink.{Sent}
@@ -29,14 +28,18 @@ more_length n h l = ap length (more_digits n h l) ∙ length-append (decimal (n 
 pub one_put : (bytes : List ℕ) (len x : ℕ) → len < length bytes → take (len + 1) (set bytes len x) ≡ take len bytes ++ x ∷ []
 one_put bytes len x h = let e : len + 1 ≡ suc len = omega arith in ap (λ n. take n (set bytes len x)) e ∙ take-suc-set bytes len x h
 
-pub two_put : (bytes : List ℕ) (len x y : ℕ) → len + 1 < length bytes → take (len + 2) (set (set bytes len x) (len + 1) y) ≡ take len bytes ++ x ∷ y ∷ []
-two_put bytes len x y h =
-    let first : List ℕ = set bytes len x in
-    let e : len + 2 ≡ (len + 1) + 1 = omega arith in
-    ap (λ n. take n (set first (len + 1) y)) e
-    ∙ one_put first (len + 1) y (subst (λ n. len + 1 < n) (sym (length-set bytes len x)) h)
-    ∙ ap (λ t. t ++ y ∷ []) (one_put bytes len x (omega arith))
-    ∙ append_assoc (take len bytes) (x ∷ []) (y ∷ [])
+-- two digits behind those before
+pub behind_pair : (old before now : List ℕ) (len at n : ℕ) → 100 ≤ n → n < 2 ^ 64 → take at before ≡ take len old ++ decimal (n / 100) → take (at + 2) now ≡ take at before ++ (48 + n % 100 / 10) ∷ (48 + n % 100 % 10) ∷ [] → take (at + 2) now ≡ take len old ++ decimal n
+behind_pair old before now len at n h l e f =
+    let pair : List ℕ = (48 + n % 100 / 10) ∷ (48 + n % 100 % 10) ∷ [] in
+    f ∙ ap (λ t. t ++ pair) e ∙ append_assoc (take len old) (decimal (n / 100)) pair ∙ ap (λ t. take len old ++ t) (sym (more_digits n h l))
+
+-- how many there are
+pub three_length : (n : ℕ) → 100 ≤ n → n < 1000 → length (decimal n) ≡ 3
+three_length n h l = more_length n h (omega arith) ∙ ap (λ ds. length ds + 2) (decimal_digit (n / 100) (omega arith))
+
+pub four_length : (n : ℕ) → 1000 ≤ n → n < 10000 → length (decimal n) ≡ 4
+four_length n h l = more_length n (omega arith) (omega arith) ∙ ap (λ ds. length ds + 2) (two_digits (n / 100) (omega arith) (omega arith))
 
 pub few_digits : (n : ℕ) → n < 2 ^ 64 → length (decimal n) ≤ 20
 few_digits n h = length-decimal-le 20 n (omega arith) (omega arith) h

@@ -89,6 +89,6 @@ first_byte_waits w bytes len byte a b c z h p e f g k =
     let f' : b.sink ≡ record { writer = w; waiting = take 0 bytes } = f ∙ ap (λ (n : ℕ). let s : Sink = record { writer = w; waiting = take n bytes } in s) z in
     put_more [] (byte ∷ []) a b c p (byte_waits w bytes 0 byte b c h e f' g k)
 
-pub past_all : (id : ℕ) → id < 2 ^ 64 → 2 ^ 64 ≤ id + 1 → codes "18446744073709551616" ≡ decimal (id + 1)
+pub past_all : (id : ℕ) → id < 2 ^ 64 → 2 ^ 64 ≤ id + 1 → codes "18446744073709551616 " ≡ decimal (id + 1) ++ (32 ∷ [])
 unfolding digits
 past_all id h k = let e : id + 1 ≡ 18446744073709551616 = omega arith in rw e refl

@@ -1,5 +1,6 @@
 -- How lines are written through bytes that wait.
-use Rattle.std.specs.Prelude.{ℕ, ◌≡◌, ◌++◌, Bool, true, false, List, take, codes}
+use Rattle.std.specs.Prelude.{ℕ, ◌≡◌, ◌++◌, Bool, true, false, List, [], take, codes, if◌then◌else◌}
+use Rattle.sat_base.specs.values.Literals.{is_positive}
 use Rattle.sat_base.specs.device.Device.{Writer}
 use Rattle.sat_base.specs.device.Sink.{Sink, Sent, Broken}
 use Rattle.sat_hints.specs.Lines.{id_words, literal_words}
@@ -23,6 +24,10 @@ PutBy true text old new = Broken old new text
 abbrev pub PutFrom : Bool → List ℕ → Outlet → Outlet → Type 0
 PutFrom true text old new = new ≡ old
 PutFrom false text old new = PutBy new.failed text old.sink new.sink
+
+-- what comes before the digits of a literal's number
+abbrev pub sign_text : ℕ → List ℕ
+sign_text l = if is_positive l then [] else codes "-"
 
 -- `LITS 0 IDS 0` and LF
 abbrev pub both_words : List ℕ → List ℕ → List ℕ
