@@ -42,6 +42,7 @@ impl Present {
     }
 
     /// The place of the clause under this id, if it is present.
+    #[inline(always)]
     pub(crate) fn find(&self, id: u64) -> Option<usize>
         requires { IsStore self.now }
         ensures { MatchOption result (clause_in self.now id ≡ None)
@@ -56,6 +57,7 @@ impl Present {
         Some(place)
     }
 
+    #[inline(always)]
     pub(crate) fn clause(&self, place: usize) -> &[Lit]
         requires { place < length self.now.clauses }
         ensures { result.now ≡ clause_at self.now place }

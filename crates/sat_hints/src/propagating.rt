@@ -85,18 +85,18 @@ fn follow(standing: &Standing, ids: &[u64], assumed: &mut Assigned) -> Option<Hi
     }
     let last = ids.len() - 1;
     for turn in 0..last {
-        let Some(place) = standing.find(ids[turn]) else {
+        let Some(clause) = standing.find_clause(ids[turn]) else {
             return Some(HintWhy::UnknownId);
         };
-        match look_at(assumed, standing.present.clause(place)) {
+        match look_at(assumed, clause) {
             Look::Opens(lit) => assumed.assume_in_room(lit),
             Look::Falsified | Look::Rests => return Some(not_unit(standing, &ids[turn + 1..])),
         }
     }
-    let Some(place) = standing.find(ids[last]) else {
+    let Some(clause) = standing.find_clause(ids[last]) else {
         return Some(HintWhy::UnknownId);
     };
-    match look_at(assumed, standing.present.clause(place)) {
+    match look_at(assumed, clause) {
         Look::Falsified => None,
         Look::Opens(_) | Look::Rests => Some(HintWhy::NotFalsified),
     }

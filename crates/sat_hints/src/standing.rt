@@ -1,5 +1,5 @@
 //! The clauses that are present, where variables become new.
-ghost use Rattle.std.specs.Prelude.{◌≡◌, ◌≢◌, ◌⊎◌, ℕ, [], None, IfOk, OnErr, OnOk, MatchBool, MatchOption};
+ghost use Rattle.std.specs.Prelude.{◌≡◌, ◌≢◌, ◌⊎◌, ℕ, [], None, Some, IfOk, OnErr, OnOk, MatchBool, MatchOption};
 ghost use Rattle.sat_checker.specs.SortedSets.{IsIncreasing};
 ghost use Rattle.sat_hints.specs.inner.Clauses.{AllBelow};
 ghost use Rattle.sat_hints.specs.inner.Standing.{clause_of, is_stale, Drops, FindsOne, RenewsVariable};
@@ -34,6 +34,7 @@ impl Standing {
     }
 
     /// Whether a clause under this id is a unit that came before its variable became new.
+    #[inline(always)]
     fn is_stale(&self, id: u64, clause: &[Lit]) -> bool
         ensures { result ≡ is_stale self.now.since id clause.now }
     {
@@ -53,6 +54,20 @@ impl Standing {
             return None;
         }
         Some(place)
+    }
+
+    /// The clause under this id, if it is present.
+    #[inline(always)]
+    pub(crate) fn find_clause(&self, id: u64) -> Option<&[Lit]>
+        requires { StandingInvariant self.now }
+        ensures { MatchOption result (clause_of self.now id ≡ None) (λ clause. clause_of self.now id ≡ Some clause.now) }
+    {
+        let place = self.present.find(id)?;
+        let clause = self.present.clause(place);
+        if self.is_stale(id, clause) {
+            return None;
+        }
+        Some(clause)
     }
 
     /// Adds a clause, a sorted set, whose id is above all before.

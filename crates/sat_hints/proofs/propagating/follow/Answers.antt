@@ -1,7 +1,5 @@
 use Rattle.std.proofs.Common.{◌<◌, ◌+◌, ◌≡◌, Some, drop, length, sym, ap, subst, ◌∙◌, arith, inl, inr}
 use Rattle.sat_base.proofs.lemmas.device.Known.{rest_is}
-use Rattle.sat_checker.specs.Verdicts.{verdict}
-use Rattle.sat_hints.specs.inner.Clauses.{clause_at}
 use Rattle.sat_hints.specs.inner.Judging.{course_of}
 use Rattle.sat_hints.specs.inner.Standing.{clauses_of, HasRoomForPresent}
 use Rattle.sat_hints.proofs.lemmas.Finding.{opens_in_room, lost, missed, no_turn}
@@ -12,7 +10,7 @@ pub assume_in_room-requires-clause-room : goal.assume_in_room-requires-clause-ro
 assume_in_room-requires-clause-room c =
     let s = c.args.standing.now in
     let h = subst (λ room. HasRoomForPresent room s) (sym c.loop-turn.invariant.room) c.requires.room in
-    (opens_in_room s c.loop-turn.assumed.room c.loop-turn.assumed.literals (clause_at s.present c.in-Some.place) _ c.in-Opens.lit h c.in-Some.ensures.clause (ap (verdict c.loop-turn.assumed.literals) (sym c.clause.ensures) ∙ sym c.in-Opens.ensures)).0
+    (opens_in_room s c.loop-turn.assumed.room c.loop-turn.assumed.literals c.in-Some.clause.now _ c.in-Opens.lit h c.in-Some.ensures (sym c.in-Opens.ensures)).0
 
 pub returns-in-Falsified : goal.returns-in-Falsified
 returns-in-Falsified c =
@@ -20,13 +18,13 @@ returns-in-Falsified c =
     let i = c.loop-turn.turn in
     let ids = c.args.ids.now in
     let assumed = c.loop-turn.assumed.literals in
-    let clause = clause_at s.present c.in-Some.place in
+    let clause = c.in-Some.clause.now in
     let inside : i < length ids = omega (arith, c.loop-turn-test.true, c.if-is_empty.false) in
     let more : i + 1 < length ids = omega (arith, c.loop-turn-test.true, c.if-is_empty.false) in
     let left = rest_is ids (i + 1) in
-    let turn = no_turn c.look_at.result assumed clause (c.look_at.ensures ∙ ap (verdict assumed) c.clause.ensures) c.in-Falsified.is in
+    let turn = no_turn c.look_at.result assumed clause c.look_at.ensures c.in-Falsified.is in
     let why : course_of assumed (clauses_of s (drop i ids)) ≡ Some c.not_unit.result = elim c.not_unit.ensures [
-      | inl h ↦ lost s ids i _ inside (same_default ids i 0 _ inside) assumed clause c.in-Some.ensures.clause (sym (ap (clauses_of s) left) ∙ h.0) ∙ ap Some (sym h.1)
-      | inr h ↦ missed s ids i _ inside (same_default ids i 0 _ inside) assumed clause c.in-Some.ensures.clause more turn (λ e. h.0 (ap (clauses_of s) left ∙ e)) ∙ ap Some (sym h.1)
+      | inl h ↦ lost s ids i _ inside (same_default ids i 0 _ inside) assumed clause c.in-Some.ensures (sym (ap (clauses_of s) left) ∙ h.0) ∙ ap Some (sym h.1)
+      | inr h ↦ missed s ids i _ inside (same_default ids i 0 _ inside) assumed clause c.in-Some.ensures more turn (λ e. h.0 (ap (clauses_of s) left ∙ e)) ∙ ap Some (sym h.1)
     ] in
     record { follows = sym (c.loop-turn.invariant.course ∙ why); room = c.loop-turn.invariant.room }
