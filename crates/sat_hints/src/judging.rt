@@ -1,7 +1,8 @@
 //! Judging one line after another.
-ghost use Rattle.std.specs.Prelude.{◌≡◌, ◌≤◌, ◌+◌, ◌^◌, ◌-◌, ◌<◌, ℕ, [], None, Some, IfOk, OnErr, OnOk};
+ghost use Rattle.std.specs.Prelude.{◌≡◌, ◌↔◌, ◌≤◌, ◌+◌, ◌^◌, ◌-◌, ◌<◌, ℕ, [], None, Some, IfOk, IsTrue, OnErr, OnOk};
 ghost use Rattle.sat_base.specs.text.Tokenizing.{held};
 ghost use Rattle.sat_checker.specs.LiteralSets.{canonical};
+ghost use Rattle.sat_checker.specs.SortedSets.{IsIncreasing};
 ghost use Rattle.sat_hints.specs.Lines.{Input, Derived, Gone, Core, Fresh, IsLine};
 ghost use Rattle.sat_hints.specs.inner.LineReading.{line_of, IsId};
 ghost use Rattle.sat_checker.specs.inner.Room.{signed};
@@ -23,12 +24,39 @@ pub(crate) struct Judge {
     standing: Standing,
     /// There is room for the literals of present clauses, and for their negations.
     assumed: Assigned,
-    /// The literals of a clause that comes, as a sorted set.
+    /// The literals of a clause that comes, as a sorted set, where they don't rise.
     set: Vec<Lit>,
     least_id: u64,
     empty: bool,
     cores: u64,
     lines: u64,
+}
+
+/// Whether each literal is below the next one.
+fn rises(literals: &[Lit]) -> bool
+    ensures { IsTrue result ↔ IsIncreasing literals.now }
+{
+    for place in 1..literals.len() {
+        let last = literals[place - 1].code();
+        let next = literals[place].code();
+        if next <= last {
+            return false;
+        }
+    }
+    true
+}
+
+/// The sorted set of the literals: they themselves where they rise, and else a copy in the buffer.
+fn sorted_set<'a>(buffer: &'a mut Vec<Lit>, literals: &'a [Lit]) -> Result<&'a [Lit], AllocError>
+    ensures { IfOk result (λ set. set.now ≡ canonical literals.now) }
+{
+    if rises(literals) {
+        return Ok(literals);
+    }
+    match copy_canonical(buffer, literals) {
+        Ok(_signs) => Ok(buffer.as_slice()),
+        Err(error) => Err(error),
+    }
 }
 
 impl Judge {
@@ -54,10 +82,10 @@ impl Judge {
         requires within { IsId id }
         ensures { OnOk result (StoresClause self.old self.new id clause.now) }
     {
-        copy_canonical(&mut self.set, clause)?;
-        self.standing.push(id, &self.set)?;
+        let set = sorted_set(&mut self.set, clause)?;
+        self.standing.push(id, set)?;
         self.assumed.allow(self.standing.present.near_limit());
-        make_room_for(&mut self.assumed, &self.set)?;
+        make_room_for(&mut self.assumed, set)?;
         self.least_id = id + 1;
         Ok(())
     }

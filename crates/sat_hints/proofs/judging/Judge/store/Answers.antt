@@ -8,21 +8,20 @@ use Rattle.sat_hints.proofs.lemmas.Taken.{room_stored}
 use Rattle.sat_hints.proofs.judging.Judge.store.Goals as goal
 
 pub push-requires-clause-increasing : goal.push-requires-clause-increasing
-push-requires-clause-increasing c = subst IsIncreasing (sym (c.deref.ensures.value ∙ c.in_ok-copy_canonical.ensures.set)) (canonical_increasing c.args.clause.now)
+push-requires-clause-increasing c = subst IsIncreasing (sym c.in_ok-set.ensures) (canonical_increasing c.args.clause.now)
 
 pub returns : goal.returns
 returns c =
     let old = c.args.self.now in
     let room = c.make_room_for.new.assigned.room in
-    let set : c.deref.result.now ≡ canonical c.args.clause.now = c.deref.ensures.value ∙ c.in_ok-copy_canonical.ensures.set in
-    let again : c.deref-2.result.now ≡ canonical c.args.clause.now = c.deref-2.ensures.value ∙ c.in_ok-copy_canonical.ensures.set in
+    let set : c.in_ok-set.set.now ≡ canonical c.args.clause.now = c.in_ok-set.ensures in
     let adds = subst (AddsStandingClause old.standing c.push.new.self c.args.id) set c.in_ok-push.ensures in
     record {
       adds = adds;
       nothing = c.make_room_for.ensures.literals ∙ ap (λ (t : LiteralsAndRoom). t.literals) c.allow.ensures ∙ c.requires.ready.nothing;
       room =
           room_stored old.standing c.push.new.self c.args.id (canonical c.args.clause.now) old.assumed.room room adds c.requires.ready.room (subst (λ (t : LiteralsAndRoom). RoomStays t.room room) c.allow.ensures c.make_room_for.ensures.stays)
-          (subst (HasRoomFor room) again c.in_ok-make_room_for.ensures.room);
+          (subst (HasRoomFor room) set c.in_ok-make_room_for.ensures.room);
       least = refl;
       empty = refl;
       cores = refl;
