@@ -11,6 +11,7 @@ pub mod Unused
 pub mod Taken
 pub mod Finding
 pub mod Holding
+pub mod InPlace
 pub mod Sound
 pub mod Mirrored
 pub mod Announced

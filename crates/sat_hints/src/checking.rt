@@ -5,6 +5,7 @@ ghost use Rattle.sat_base.specs.device.Device.{GaveEnough, ReadFails, most_reads
 ghost use Rattle.sat_hints.specs.Lines.{Line, HasNoEnd};
 ghost use Rattle.sat_hints.specs.Checks.{Judges};
 ghost use Rattle.sat_hints.specs.inner.Judging.{HasTakenLines, IsReadyJudge};
+ghost use Rattle.sat_hints.specs.inner.LineReading.{BeginsWithNoLine};
 ghost use Rattle.sat_hints.specs.inner.Holding.{HasRead, IsReadyIf, IsWholeLine, ReadsFurther, IsRightIfVerdict};
 ghost use Rattle.sat_hints.specs.inner.Holding.{JudgesLineBytes, TakesPiece};
 
@@ -54,12 +55,13 @@ fn take_line(
 ) -> Result<Option<HintWhy>, AllocError>
     requires { IsReadyJudge judge.old }
     ensures ready { IfOk result (λ why. IsReadyIf why judge.new) }
-    ensures takes { IfOk result (λ why. (lines : List Line) → HasTakenLines judge.old lines
+    ensures takes { IfOk result (λ why. IsWholeLine bytes.now → (lines : List Line) → HasTakenLines judge.old lines
         → JudgesLineBytes why judge.old judge.new lines bytes.now) }
 {
-    match lists.read_line(bytes)? {
-        Some(head) => judge.take(&lists.line(head)),
-        None => Ok(Some(HintWhy::Syntax)),
+    match lists.read_line(bytes) {
+        Ok(Some((head, _))) => judge.take(&lists.line(head)),
+        Ok(None) => Ok(Some(HintWhy::Syntax)),
+        Err(error) => Err(error),
     }
 }
 
@@ -81,6 +83,7 @@ impl Checking {
         requires ready { IsReadyJudge self.old.judge }
         requires ends { IsWholeLine bytes.now }
         ensures ready { IfOk result (λ why. IsReadyIf why self.new.judge) }
+        ensures empty { IfOk result (λ why. self.new.held.items ≡ []) }
         ensures reads { IfOk result (λ why. ReadsFurther why self.old bytes.now self.new) }
     {
         self.held.extend_from_slice(bytes)?;
@@ -105,22 +108,61 @@ impl Checking {
         Ok(None)
     }
 
+    /// Holds the bytes after the last line that was read in place. They begin with no line, so an LF among them is a
+    /// fault.
+    fn hold_rest(&mut self, bytes: &[u8]) -> Result<Option<HintWhy>, AllocError>
+        requires ready { IsReadyJudge self.old.judge }
+        requires empty { self.old.held.items ≡ [] }
+        requires none { BeginsWithNoLine bytes.now }
+        ensures ready { IfOk result (λ why. IsReadyIf why self.new.judge) }
+        ensures reads { IfOk result (λ why. ReadsFurther why self.old bytes.now self.new) }
+    {
+        match line_end(bytes) {
+            Some(_) => Ok(Some(HintWhy::Syntax)),
+            None => self.hold(bytes),
+        }
+    }
+
+    /// As `feed`, if no bytes are held. Lines are read in place.
+    fn feed_in_place(&mut self, piece: &[u8]) -> Result<Option<HintWhy>, AllocError>
+        requires ready { IsReadyJudge self.old.judge }
+        requires empty { self.old.held.items ≡ [] }
+        ensures ready { IfOk result (λ why. IsReadyIf why self.new.judge) }
+        ensures reads { IfOk result (λ why. ReadsFurther why self.old piece.now self.new) }
+    {
+        let mut rest = piece;
+        loop {
+            match self.lists.read_line(rest) {
+                Ok(Some((head, behind))) => {
+                    match self.judge.take(&self.lists.line(head))? {
+                        Some(why) => return Ok(Some(why)),
+                        None => {}
+                    }
+                    rest = behind;
+                }
+                Ok(None) => return self.hold_rest(rest),
+                Err(error) => return Err(error),
+            }
+        }
+    }
+
     /// Takes the next bytes of the text. The answer is why the first line at fault is, if there is one.
     fn feed(&mut self, piece: &[u8]) -> Result<Option<HintWhy>, AllocError>
         requires { IsReadyJudge self.old.judge }
         ensures ready { IfOk result (λ why. IsReadyIf why self.new.judge) }
         ensures reads { IfOk result (λ why. ReadsFurther why self.old piece.now self.new) }
     {
-        let mut rest = piece;
-        while let Some(end) = line_end(rest) {
-            let (line, behind) = rest.split_at(end);
-            match self.end_line(line)? {
-                Some(why) => return Ok(Some(why)),
-                None => {}
-            }
-            rest = behind;
+        if self.held.is_empty() {
+            return self.feed_in_place(piece);
         }
-        self.hold(rest)
+        let Some(end) = line_end(piece) else {
+            return self.hold(piece);
+        };
+        let (line, rest) = piece.split_at(end);
+        match self.end_line(line)? {
+            Some(why) => Ok(Some(why)),
+            None => self.feed_in_place(rest),
+        }
     }
 
     /// As `feed`, with the verdict on the first line at fault.

@@ -1,9 +1,9 @@
-//! Reading a line from its bytes.
-ghost use Rattle.std.specs.Prelude.{◌≡◌, ◌++◌, List, ℕ, codes, IfOk, MatchBool, MatchOption, []};
+//! Reading the line with which bytes begin.
+ghost use Rattle.std.specs.Prelude.{◌≡◌, ◌++◌, List, ℕ, codes, IfOk, MatchOption, []};
 ghost use Rattle.sat_base.specs.dimacs.DimacsText.{number_text};
-ghost use Rattle.sat_hints.specs.Lines.{SpellsLine, id_text};
-ghost use Rattle.sat_hints.specs.inner.LineReading.{BeginsWithWords, IsBoth, IsId, IsLiteralCode, IsNoLine, IsOne};
-ghost use Rattle.sat_hints.specs.inner.LineReading.{line_of, line_with};
+ghost use Rattle.sat_hints.specs.Lines.{id_text};
+ghost use Rattle.sat_hints.specs.inner.LineReading.{BeginsWithBoth, BeginsWithNoLine, BeginsWithOne, BeginsWithWords};
+ghost use Rattle.sat_hints.specs.inner.LineReading.{IsId, IsLiteralCode, ReadsLine, line_of, line_with};
 
 use crate::line::HintLine;
 use crate::numbers::{read_id, read_literal, read_variable, take_text};
@@ -55,13 +55,6 @@ fn read_ids<'a>(bytes: &'a [u8], ids: &mut Vec<u64>) -> Result<&'a [u8], AllocEr
     Ok(rest)
 }
 
-/// Whether the bytes are `0` and LF.
-fn is_end(bytes: &[u8]) -> bool
-    ensures { MatchBool result (bytes.now ≡ codes "0\n") (bytes.now ≡ codes "0\n" → ⊥) }
-{
-    bytes.len() == 2 && bytes[0] == b'0' && bytes[1] == b'\n'
-}
-
 impl Lists {
     pub(crate) fn new(alloc: Global) -> Lists
         ensures literals { result.literals.items ≡ [] }
@@ -98,70 +91,76 @@ impl Lists {
         }
     }
 
-    /// Reads `LITS 0` and LF. The answer is whether the bytes are that.
-    fn read_one(&mut self, bytes: &[u8]) -> Result<bool, AllocError>
-        ensures { IfOk result (λ yes. MatchBool yes (IsOne bytes.now self.new.literals.items)
-            ((ls : List ℕ) → IsOne bytes.now ls → ⊥)) }
+    /// Reads `LITS 0` and LF. Returns what comes after them, or `None` if the bytes begin otherwise.
+    fn read_one<'a>(&mut self, bytes: &'a [u8]) -> Result<Option<&'a [u8]>, AllocError>
+        ensures { IfOk result (λ found. MatchOption found
+            ((ls : List ℕ) (tail : List ℕ) → BeginsWithOne bytes.now ls tail → ⊥)
+            (λ rest. BeginsWithOne bytes.now self.new.literals.items rest.now)) }
     {
         let rest = read_literals(bytes, &mut self.literals)?;
-        Ok(is_end(rest))
+        Ok(take_text(rest, b"0\n"))
     }
 
-    /// Reads `LITS 0 IDS 0` and LF. The answer is whether the bytes are that.
-    fn read_both(&mut self, bytes: &[u8]) -> Result<bool, AllocError>
-        ensures { IfOk result (λ yes. MatchBool yes (IsBoth bytes.now self.new.literals.items self.new.ids.items)
-            ((ls : List ℕ) (ids : List ℕ) → IsBoth bytes.now ls ids → ⊥)) }
+    /// Reads `LITS 0 IDS 0` and LF. Returns what comes after them, or `None` if the bytes begin otherwise.
+    fn read_both<'a>(&mut self, bytes: &'a [u8]) -> Result<Option<&'a [u8]>, AllocError>
+        ensures { IfOk result (λ found. MatchOption found
+            ((ls : List ℕ) (ids : List ℕ) (tail : List ℕ) → BeginsWithBoth bytes.now ls ids tail → ⊥)
+            (λ rest. BeginsWithBoth bytes.now self.new.literals.items self.new.ids.items rest.now)) }
     {
         let rest = read_literals(bytes, &mut self.literals)?;
         let Some(behind) = take_text(rest, b"0 ") else {
-            return Ok(false);
+            return Ok(None);
         };
         let rest = read_ids(behind, &mut self.ids)?;
-        Ok(is_end(rest))
+        Ok(take_text(rest, b"0\n"))
     }
 
-    fn read_input(&mut self, bytes: &[u8]) -> Result<Option<Head>, AllocError>
-        ensures { IfOk result (λ head. MatchOption head (IsNoLine (codes "i " ++ bytes.now))
-            (λ h. SpellsLine (codes "i " ++ bytes.now) (line_with h self.new.literals.items self.new.ids.items))) }
+    fn read_input<'a>(&mut self, bytes: &'a [u8]) -> Result<Option<(Head, &'a [u8])>, AllocError>
+        ensures { IfOk result (λ found. MatchOption found (BeginsWithNoLine (codes "i " ++ bytes.now))
+            (λ x. ReadsLine (codes "i " ++ bytes.now) (line_with x.0 self.new.literals.items self.new.ids.items) x.1.now)) }
     {
         let Some(found) = read_id(bytes) else {
             return Ok(None);
         };
-        let (id, rest) = found;
-        if self.read_one(rest)? {
-            return Ok(Some(Head::Input { id }));
+        let (id, behind) = found;
+        match self.read_one(behind)? {
+            Some(rest) => Ok(Some((Head::Input { id }, rest))),
+            None => Ok(None),
         }
-        Ok(None)
     }
 
-    fn read_derived(&mut self, bytes: &[u8]) -> Result<Option<Head>, AllocError>
-        ensures { IfOk result (λ head. MatchOption head (IsNoLine (codes "d " ++ bytes.now))
-            (λ h. SpellsLine (codes "d " ++ bytes.now) (line_with h self.new.literals.items self.new.ids.items))) }
+    fn read_derived<'a>(&mut self, bytes: &'a [u8]) -> Result<Option<(Head, &'a [u8])>, AllocError>
+        ensures { IfOk result (λ found. MatchOption found (BeginsWithNoLine (codes "d " ++ bytes.now))
+            (λ x. ReadsLine (codes "d " ++ bytes.now) (line_with x.0 self.new.literals.items self.new.ids.items) x.1.now)) }
     {
         let Some(found) = read_id(bytes) else {
             return Ok(None);
         };
-        let (id, rest) = found;
-        if self.read_both(rest)? {
-            return Ok(Some(Head::Derived { id }));
+        let (id, behind) = found;
+        match self.read_both(behind)? {
+            Some(rest) => Ok(Some((Head::Derived { id }, rest))),
+            None => Ok(None),
         }
-        Ok(None)
     }
 
-    fn read_core(&mut self, bytes: &[u8]) -> Result<Option<Head>, AllocError>
-        ensures { IfOk result (λ head. MatchOption head (IsNoLine (codes "f " ++ bytes.now))
-            (λ h. SpellsLine (codes "f " ++ bytes.now) (line_with h self.new.literals.items self.new.ids.items))) }
+    fn read_core<'a>(&mut self, bytes: &'a [u8]) -> Result<Option<(Head, &'a [u8])>, AllocError>
+        ensures { IfOk result (λ found. MatchOption found (BeginsWithNoLine (codes "f " ++ bytes.now))
+            (λ x. ReadsLine (codes "f " ++ bytes.now) (line_with x.0 self.new.literals.items self.new.ids.items) x.1.now)) }
     {
-        if self.read_both(bytes)? {
-            return Ok(Some(Head::Core));
+        match self.read_both(bytes)? {
+            Some(rest) => Ok(Some((Head::Core, rest))),
+            None => Ok(None),
         }
-        Ok(None)
     }
 
-    /// Reads a line, with its LF, and keeps its lists. `None` where the bytes are no line.
-    pub(crate) fn read_line(&mut self, bytes: &[u8]) -> Result<Option<Head>, AllocError>
-        ensures { IfOk result (λ head. MatchOption head (IsNoLine bytes.now)
-            (λ h. SpellsLine bytes.now (line_with h self.new.literals.items self.new.ids.items))) }
+    /// Reads the line with which the bytes begin, with its LF, and keeps its lists. Returns its head and what comes after
+    /// it, or `None` if the bytes begin with no line.
+    pub(crate) fn read_line<'a>(
+        &mut self,
+        bytes: &'a [u8],
+    ) -> Result<Option<(Head, &'a [u8])>, AllocError>
+        ensures { IfOk result (λ found. MatchOption found (BeginsWithNoLine bytes.now)
+            (λ x. ReadsLine bytes.now (line_with x.0 self.new.literals.items self.new.ids.items) x.1.now)) }
     {
         if let Some(rest) = take_text(bytes, b"d ") {
             return self.read_derived(rest);
@@ -182,25 +181,21 @@ impl Lists {
     }
 }
 
-fn read_gone(bytes: &[u8]) -> Option<Head>
-    ensures { MatchOption result (IsNoLine (codes "x " ++ bytes.now))
-        (λ h. (ls : List ℕ) (ids : List ℕ) → SpellsLine (codes "x " ++ bytes.now) (line_with h ls ids)) }
+fn read_gone(bytes: &[u8]) -> Option<(Head, &[u8])>
+    ensures { MatchOption result (BeginsWithNoLine (codes "x " ++ bytes.now))
+        (λ x. (ls : List ℕ) (ids : List ℕ) → ReadsLine (codes "x " ++ bytes.now) (line_with x.0 ls ids) x.1.now) }
 {
-    let (id, rest) = read_id(bytes)?;
-    if is_end(rest) {
-        return Some(Head::Gone { id });
-    }
-    None
+    let (id, behind) = read_id(bytes)?;
+    let rest = take_text(behind, b"0\n")?;
+    Some((Head::Gone { id }, rest))
 }
 
-fn read_fresh(bytes: &[u8]) -> Option<Head>
-    ensures { MatchOption result (IsNoLine (codes "e " ++ bytes.now))
-        (λ h. (ls : List ℕ) (ids : List ℕ) → SpellsLine (codes "e " ++ bytes.now) (line_with h ls ids)) }
+fn read_fresh(bytes: &[u8]) -> Option<(Head, &[u8])>
+    ensures { MatchOption result (BeginsWithNoLine (codes "e " ++ bytes.now))
+        (λ x. (ls : List ℕ) (ids : List ℕ) → ReadsLine (codes "e " ++ bytes.now) (line_with x.0 ls ids) x.1.now) }
 {
-    let (index, rest) = read_variable(bytes)?;
-    if is_end(rest) {
-        let var = Var::from_index(index);
-        return Some(Head::Fresh { var });
-    }
-    None
+    let (index, behind) = read_variable(bytes)?;
+    let rest = take_text(behind, b"0\n")?;
+    let var = Var::from_index(index);
+    Some((Head::Fresh { var }, rest))
 }

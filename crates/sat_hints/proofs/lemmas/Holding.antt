@@ -28,18 +28,18 @@ whole_with held bytes h w = record { front = held ++ w.front; inside = no_end_bo
 
 -- a line's end comes
 module _ (old new : Checking) (bytes : List ℕ) (w : IsWholeLine bytes) where
-  line_follows : (text : List ℕ) (r : HasRead old text) (line : Line) → SpellsLine (old.held.items ++ bytes) line → FollowsLines r.lines line → HasTakenLines new.judge (line ∷ r.lines) → new.held.items ≡ [] → new.place ≡ Letter → HasRead new (text ++ bytes)
-  line_follows text r line s f t e at = record {
+  line_follows : (text : List ℕ) (r : HasRead old text) (line : Line) → SpellsLine (old.held.items ++ bytes) line → FollowsLines r.lines line → HasTakenLines new.judge (line ∷ r.lines) → new.held.items ≡ [] → LeadsToPlace Letter new.held.items (Some new.place) → HasRead new (text ++ bytes)
+  line_follows text r line s f t e fits = record {
     lines = line ∷ r.lines;
     whole = ap (λ x. x ++ bytes) r.whole ∙ append_assoc (text_of r.lines) old.held.items bytes ∙ ap (λ x. text_of r.lines ++ x) s.1 ∙ sym (append-nil (text_of (line ∷ r.lines))) ∙ ap (λ x. text_of (line ∷ r.lines) ++ x) (sym e);
     inside = subst HasNoEnd (sym e) tt;
-    fits = rw (e, at) (λ more h. h);
+    fits = fits;
     are = (s.0, r.are);
     derivation = (r.derivation, f);
     taken = t;
   }
 
-  line_faulty : (text : List ℕ) (r : HasRead old text) (why : HintWhy) → IsAtFault r.lines (old.held.items ++ bytes) why → new.judge.lines ≡ old.judge.lines → HasFault new (text ++ bytes) why
+  pub line_faulty : (text : List ℕ) (r : HasRead old text) (why : HintWhy) → IsAtFault r.lines (old.held.items ++ bytes) why → new.judge.lines ≡ old.judge.lines → HasFault new (text ++ bytes) why
   line_faulty text r why f e = record {
     count = length r.lines;
     number = e ∙ r.taken.counts_lines;
@@ -56,9 +56,21 @@ module _ (old new : Checking) (bytes : List ℕ) (w : IsWholeLine bytes) where
     };
   }
 
-  pub line_ends : (why : Option HintWhy) (all : List ℕ) → all ≡ old.held.items ++ bytes → ((lines : List Line) → HasTakenLines old.judge lines → JudgesLineBytes why old.judge new.judge lines all) → new.held.items ≡ [] → new.place ≡ Letter → ReadsFurther why old bytes new
-  line_ends None all a h e at text r = let t = subst (JudgesLineBytes None old.judge new.judge r.lines) a (h r.lines r.taken) in line_follows text r t.0 t.1 t.2 t.3 e at
-  line_ends (Some why) all a h e at text r = let t = subst (JudgesLineBytes (Some why) old.judge new.judge r.lines) a (h r.lines r.taken) in line_faulty text r why t.0 t.1
+  line_goes : (why : Option HintWhy) (text : List ℕ) (r : HasRead old text) → JudgesLineBytes why old.judge new.judge r.lines (old.held.items ++ bytes) → new.held.items ≡ [] → LeadsToPlace Letter new.held.items (Some new.place) → HasReadOrFault why new (text ++ bytes)
+  line_goes None text r t e fits = line_follows text r t.0 t.1 t.2 t.3 e fits
+  line_goes (Some why) text r t e fits = line_faulty text r why t.0 t.1
+
+  -- that of a line whose front was held
+  pub line_ends : (why : Option HintWhy) (all : List ℕ) → all ≡ old.held.items ++ bytes → (IsWholeLine all → (lines : List Line) → HasTakenLines old.judge lines → JudgesLineBytes why old.judge new.judge lines all) → new.held.items ≡ [] → new.place ≡ Letter → ReadsFurther why old bytes new
+  line_ends why all a h e at text r =
+      let whole : IsWholeLine all = subst IsWholeLine (sym a) (whole_with old.held.items bytes r.inside w) in
+      line_goes why text r (subst (JudgesLineBytes why old.judge new.judge r.lines) a (h whole r.lines r.taken)) e (rw (e, at) (λ more h. h))
+
+  -- that of a line of which nothing was held
+  pub line_passes : (why : Option HintWhy) → old.held.items ≡ [] → new.held.items ≡ old.held.items → new.place ≡ old.place → ((lines : List Line) → HasTakenLines old.judge lines → JudgesLineBytes why old.judge new.judge lines bytes) → ReadsFurther why old bytes new
+  line_passes why none e at h text r =
+      let fits : LeadsToPlace Letter new.held.items (Some new.place) = rw (e, at) r.fits in
+      line_goes why text r (subst (JudgesLineBytes why old.judge new.judge r.lines) (sym (ap (λ b. b ++ bytes) none)) (h r.lines r.taken)) (e ∙ none) fits
 
 leads_on : (held bytes : List ℕ) (here : Place) (to : Option Place) → LeadsToPlace Letter held (Some here) → LeadsToPlace here bytes to → LeadsToPlace Letter (held ++ bytes) to
 leads_on held bytes here to h k more l = k more (h (bytes ++ more) (subst (IsRestOfLine Letter) (append_assoc held bytes more) l))
@@ -156,7 +168,7 @@ no_end_second (x ∷ xs) ys h = no_end_second xs ys h.1
 ends : HasNoEnd (48 ∷ 10 ∷ []) → ⊥
 ends h = h.1.0 refl
 
-line_has_end : (line : Line) → HasNoEnd (line_text line) → ⊥
+pub line_has_end : (line : Line) → HasNoEnd (line_text line) → ⊥
 line_has_end (Input id ls) h = ends (no_end_second (literal_words ls) (48 ∷ 10 ∷ []) (no_end_second (id_words (id ∷ [])) (literal_words ls ++ (48 ∷ 10 ∷ [])) h.1.1))
 line_has_end (Derived id ls ids) h =
     ends (no_end_second (id_words ids) (48 ∷ 10 ∷ []) (no_end_second (literal_words ls) (48 ∷ 32 ∷ (id_words ids ++ (48 ∷ 10 ∷ []))) (no_end_second (id_words (id ∷ [])) (literal_words ls ++ (48 ∷ 32 ∷ (id_words ids ++ (48 ∷ 10 ∷ [])))) h.1.1)).1.1)

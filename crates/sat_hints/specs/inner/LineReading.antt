@@ -2,7 +2,7 @@
 use Rattle.std.specs.Prelude.{ℕ, zero, suc, ◌*◌, ◌-◌, ◌^◌, ◌<◌, ◌≤◌, ◌≡◌, ◌⊎◌, List, [], ◌∷◌, ◌++◌, decimal, codes}
 use Rattle.std.specs.List.{AllByRecursion}
 use Rattle.sat_base.specs.values.Literals.{largest}
-use Rattle.sat_hints.specs.Lines.{Line, Input, Derived, Gone, Core, Fresh, AreIds, AreLiteralCodes, words, id_words, literal_words, SpellsLine}
+use Rattle.sat_hints.specs.Lines.{Line, Input, Derived, Gone, Core, Fresh, IsLine, AreIds, AreLiteralCodes, words, id_words, literal_words, line_text}
 use Rattle.sat_hints.specs.declared.line.HintLine.{HintLine}
 use Rattle.sat_hints.specs.declared.line.HintLine.TheVariants as code
 use Rattle.sat_hints.specs.declared.reading.Head.{Head}
@@ -59,6 +59,14 @@ IsOne bytes ls = AreLiteralCodes ls × (bytes ≡ literal_words ls ++ codes "0\n
 abbrev pub IsBoth : List ℕ → List ℕ → List ℕ → Type 0
 IsBoth bytes ls ids = AreLiteralCodes ls × AreIds ids × (bytes ≡ literal_words ls ++ (codes "0 " ++ (id_words ids ++ codes "0\n")))
 
+-- the bytes begin with `LITS 0` and LF
+abbrev pub BeginsWithOne : List ℕ → List ℕ → List ℕ → Type 0
+BeginsWithOne bytes ls rest = AreLiteralCodes ls × (bytes ≡ literal_words ls ++ (codes "0\n" ++ rest))
+
+-- they begin with `LITS 0 IDS 0` and LF
+abbrev pub BeginsWithBoth : List ℕ → List ℕ → List ℕ → List ℕ → Type 0
+BeginsWithBoth bytes ls ids rest = AreLiteralCodes ls × AreIds ids × (bytes ≡ literal_words ls ++ (codes "0 " ++ (id_words ids ++ (codes "0\n" ++ rest))))
+
 -- a line without where its lists lie in memory
 abbrev pub line_of : HintLine → Line
 line_of (code.Input id clause) = Input id clause.now
@@ -75,6 +83,10 @@ line_with (head.Gone id) ls ids = Gone id
 line_with head.Core ls ids = Core ls ids
 line_with (head.Fresh var) ls ids = Fresh var
 
--- the bytes are no line
-abbrev pub IsNoLine : List ℕ → Type 0
-IsNoLine bytes = (line : Line) → SpellsLine bytes line → ⊥
+-- the bytes begin with this line
+abbrev pub ReadsLine : List ℕ → Line → List ℕ → Type 0
+ReadsLine bytes line rest = IsLine line × (bytes ≡ line_text line ++ rest)
+
+-- they begin with no line
+abbrev pub BeginsWithNoLine : List ℕ → Type 0
+BeginsWithNoLine bytes = (line : Line) (rest : List ℕ) → ReadsLine bytes line rest → ⊥

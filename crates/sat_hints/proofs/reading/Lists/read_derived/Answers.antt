@@ -1,5 +1,5 @@
 use Rattle.sat_hints.proofs.lemmas.Spelling.{derived_refused}
 use Rattle.sat_hints.proofs.reading.Lists.read_derived.Goals as goal
 
-pub returns : goal.returns
-returns c = derived_refused c.args.bytes.now _ _ c.in-Some.ensures (rw c.if-branch.false at c.in_ok-read_both.ensures)
+pub returns-in-None : goal.returns-in-None
+returns-in-None c = derived_refused c.args.bytes.now _ _ c.in-Some.ensures (rw c.in-None.is at c.in_ok-rest.ensures)

@@ -1,0 +1,128 @@
+-- Lines at the front of a piece.
+use Rattle.std.proofs.Common.{ℕ, ◌+◌, ◌<◌, ◌≡◌, Bool, true, false, Option, None, Some, Result, Ok, Err, IfOk, List, [], ◌∷◌, ◌++◌, take, drop, refl, sym, ◌∙◌, ap, subst, arith, append_assoc, append-nil}
+use Rattle.std.proofs.lemmas.List.{take-append-drop}
+use Rattle.std.proofs.lemmas.Str.Parse.{digit_from_value}
+use Rattle.std.specs.List.{AllByRecursion}
+use Rattle.std.specs.Str.Parse.{AllDigits}
+use Rattle.sat_base.specs.values.Literals.{variable, is_positive}
+use Rattle.sat_base.specs.dimacs.DimacsText.{number_text}
+use Rattle.sat_hints.specs.Lines.{Line, Input, Derived, Gone, Core, Fresh, IsLine, words, id_text, id_words, literal_words, line_text, HasNoEnd, SpellsLine}
+use Rattle.sat_hints.specs.Checks.{IsFaultOf, IsAtFault}
+use Rattle.sat_hints.specs.inner.LineReading.{IsId, IsLiteralCode, ReadsLine, BeginsWithNoLine}
+use Rattle.sat_hints.specs.inner.Judging.{HasTakenLines, TakesLine, TakesNext}
+use Rattle.sat_hints.specs.inner.Holding.{IsWholeLine, JudgesLineBytes, ReadsFurther}
+use Rattle.sat_hints.specs.declared.answer.HintWhy.{HintWhy}
+use Rattle.sat_hints.specs.declared.answer.HintWhy.TheVariants.{Syntax, IdOrder, UnknownId, NotUnit, NotFalsified, VarInUse}
+use Rattle.sat_hints.specs.declared.judging.Judge.{Judge}
+use Rattle.sat_hints.specs.declared.checking.Checking.{Checking}
+use Rattle.sat_hints.proofs.lemmas.Digits.{are_digits}
+use Rattle.sat_hints.proofs.lemmas.Holding.{no_end_both, whole_with, line_has_end, held_more, line_passes, line_faulty, reads_more, reads_behind}
+
+-- A LINE'S TEXT HAS ONE LF, AT ITS END
+no_end_digits : (ds : List ℕ) → AllDigits 10 ds → HasNoEnd ds
+no_end_digits [] d = tt
+no_end_digits (c ∷ cs) d = ((λ e. let r = digit_from_value c d.0 in omega arith), no_end_digits cs d.1)
+
+no_end_id : (id : ℕ) → IsId id → HasNoEnd (id_text id)
+no_end_id id p = no_end_digits (id_text id) (are_digits (id + 1) (omega arith))
+
+no_end_literal : (l : ℕ) → IsLiteralCode l → HasNoEnd (number_text l)
+no_end_literal l p = go (is_positive l) refl
+  where
+    digits : HasNoEnd (id_text (variable l))
+    digits = no_end_digits (id_text (variable l)) (are_digits (variable l + 1) (omega arith))
+
+    go : (s : Bool) → is_positive l ≡ s → HasNoEnd (number_text l)
+    go true e = rw e digits
+    go false e = rw e ((λ f. omega arith), digits)
+
+no_end_words : (word : ℕ → List ℕ) (P : ℕ → Type 0) → ((x : ℕ) → P x → HasNoEnd (word x)) → (xs : List ℕ) → AllByRecursion P xs → HasNoEnd (words word xs)
+no_end_words word P h [] p = tt
+no_end_words word P h (x ∷ xs) p = no_end_both (word x) (32 ∷ words word xs) (h x p.0) ((λ e. omega arith), no_end_words word P h xs p.1)
+
+end_whole : IsWholeLine (48 ∷ 10 ∷ [])
+end_whole = record { front = 48 ∷ []; inside = ((λ e. omega arith), tt); ended = refl }
+
+after_letter : (letter : ℕ) (text : List ℕ) → 10 < letter → IsWholeLine text → IsWholeLine (letter ∷ 32 ∷ text)
+after_letter letter text h w = whole_with (letter ∷ 32 ∷ []) text ((λ e. omega arith), ((λ e. omega arith), tt)) w
+
+ids_whole : (ids text : List ℕ) → AllByRecursion IsId ids → IsWholeLine text → IsWholeLine (id_words ids ++ text)
+ids_whole ids text p w = whole_with (id_words ids) text (no_end_words id_text IsId no_end_id ids p) w
+
+literals_whole : (ls text : List ℕ) → AllByRecursion IsLiteralCode ls → IsWholeLine text → IsWholeLine (literal_words ls ++ text)
+literals_whole ls text p w = whole_with (literal_words ls) text (no_end_words number_text IsLiteralCode no_end_literal ls p) w
+
+both_whole : (ls ids : List ℕ) → AllByRecursion IsLiteralCode ls → AllByRecursion IsId ids → IsWholeLine (literal_words ls ++ (48 ∷ 32 ∷ (id_words ids ++ (48 ∷ 10 ∷ []))))
+both_whole ls ids p q = literals_whole ls _ p (after_letter 48 (id_words ids ++ (48 ∷ 10 ∷ [])) (omega arith) (ids_whole ids (48 ∷ 10 ∷ []) q end_whole))
+
+pub line_is_whole : (line : Line) → IsLine line → IsWholeLine (line_text line)
+line_is_whole (Input id ls) p = after_letter 105 _ (omega arith) (ids_whole (id ∷ []) _ p.0 (literals_whole ls (48 ∷ 10 ∷ []) p.1 end_whole))
+line_is_whole (Derived id ls ids) p = after_letter 100 _ (omega arith) (ids_whole (id ∷ []) _ p.0 (both_whole ls ids p.1 p.2))
+line_is_whole (Gone id) p = after_letter 120 _ (omega arith) (ids_whole (id ∷ []) (48 ∷ 10 ∷ []) p end_whole)
+line_is_whole (Core ls ids) p = after_letter 102 _ (omega arith) (both_whole ls ids p.0 p.1)
+line_is_whole (Fresh v) p = after_letter 101 _ (omega arith) (ids_whole (v ∷ []) (48 ∷ 10 ∷ []) (let k = p.0 in (omega arith, tt)) end_whole)
+
+-- what begins with it and has one LF, at its end, is it
+only_front : (front xs rest : List ℕ) → HasNoEnd front → (HasNoEnd xs → ⊥) → front ++ (10 ∷ []) ≡ xs ++ rest → rest ≡ []
+only_front front [] rest h never e = absurd (never tt)
+only_front [] (x ∷ []) rest h never e = let r : rest ≡ [] = cc in r
+only_front [] (x ∷ y ∷ xs) rest h never e = absurd cc
+only_front (c ∷ front) (x ∷ xs) rest h never e =
+    let same : x ≡ c = cc in
+    let more : front ++ (10 ∷ []) ≡ xs ++ rest = cc in
+    only_front front xs rest h.1 (λ k. never (subst (λ b. b ≡ 10 → ⊥) (sym same) h.0, k)) more
+
+pub spells_whole : (bytes rest : List ℕ) (line : Line) → IsWholeLine bytes → ReadsLine bytes line rest → SpellsLine bytes line
+spells_whole bytes rest line w r =
+    let e : rest ≡ [] = only_front w.front (line_text line) rest w.inside (line_has_end line) (sym w.ended ∙ r.1) in
+    (r.0, r.1 ∙ ap (λ t. line_text line ++ t) e ∙ append-nil (line_text line))
+
+pub no_line_whole : (bytes : List ℕ) → BeginsWithNoLine bytes → (line : Line) → SpellsLine bytes line → ⊥
+no_line_whole bytes none line s = none line [] (s.0, s.1 ∙ sym (append-nil (line_text line)))
+
+-- JUDGED
+at_fault : (why : HintWhy) (lines : List Line) (bytes : List ℕ) (line : Line) → SpellsLine bytes line → IsFaultOf lines line why → IsAtFault lines bytes why
+at_fault Syntax lines bytes line s f = absurd f
+at_fault IdOrder lines bytes line s f = (line, s, f)
+at_fault UnknownId lines bytes line s f = (line, s, f)
+at_fault NotUnit lines bytes line s f = (line, s, f)
+at_fault NotFalsified lines bytes line s f = (line, s, f)
+at_fault VarInUse lines bytes line s f = (line, s, f)
+
+judged : (why : Option HintWhy) (old new : Judge) (lines : List Line) (bytes : List ℕ) (line : Line) → SpellsLine bytes line → TakesLine why old new lines line → JudgesLineBytes why old new lines bytes
+judged None old new lines bytes line s t = (line, s, t.0, t.1)
+judged (Some why) old new lines bytes line s t = (at_fault why lines bytes line s t.0, t.1)
+
+pub taken_whole : {E : Type 0} (r : Result (Option HintWhy) E) (old new : Judge) (bytes rest : List ℕ) (line : Line) → ReadsLine bytes line rest → IfOk r (λ why. TakesNext why old new line)
+    → IfOk r (λ why. IsWholeLine bytes → (lines : List Line) → HasTakenLines old lines → JudgesLineBytes why old new lines bytes)
+taken_whole (Ok why) old new bytes rest line read t = λ w lines taken. judged why old new lines bytes line (spells_whole bytes rest line w read) (t lines taken)
+taken_whole (Err e) old new bytes rest line read t = tt
+
+pub reads_line : (why : Option HintWhy) (old new : Checking) (bytes rest : List ℕ) (line : Line) → old.held.items ≡ [] → new.held.items ≡ old.held.items → new.place ≡ old.place → ReadsLine bytes line rest → TakesNext why old.judge new.judge line → ReadsFurther why old (line_text line) new
+reads_line why old new bytes rest line none e at r t = line_passes old new (line_text line) (line_is_whole line r.0) why none e at (λ lines taken. judged why old.judge new.judge lines (line_text line) line (r.0, refl) (t lines taken))
+
+-- PIECES
+-- a line is taken off the front of a piece
+pub line_off : (piece front bytes text rest : List ℕ) → piece ≡ front ++ bytes → bytes ≡ text ++ rest → piece ≡ (front ++ text) ++ rest
+line_off piece front bytes text rest e f = e ∙ ap (λ x. front ++ x) f ∙ sym (append_assoc front text rest)
+
+-- what was read, and then a part of it at fault
+pub reads_fault : (why : HintWhy) (a b c : Checking) (all xs ys rest : List ℕ) → all ≡ (xs ++ ys) ++ rest → ReadsFurther None a xs b → ReadsFurther (Some why) b ys c → ReadsFurther (Some why) a all c
+reads_fault why a b c all xs ys rest e h k = subst (λ t. ReadsFurther (Some why) a t c) (sym e) (reads_behind why a c (xs ++ ys) rest (reads_more (Some why) a b c xs ys h k))
+
+-- and then all that is left
+pub reads_then : {E : Type 0} (r : Result (Option HintWhy) E) (a b c : Checking) (all xs ys : List ℕ) → all ≡ xs ++ ys → ReadsFurther None a xs b → IfOk r (λ why. ReadsFurther why b ys c) → IfOk r (λ why. ReadsFurther why a all c)
+reads_then (Ok why) a b c all xs ys e h k = subst (λ t. ReadsFurther why a t c) (sym e) (reads_more why a b c xs ys h k)
+reads_then (Err x) a b c all xs ys e h k = tt
+
+-- and then nothing
+pub reads_still : (a b c : Checking) (xs : List ℕ) → ReadsFurther None a xs b → c.judge ≡ b.judge → c.held.items ≡ b.held.items → c.place ≡ b.place → ReadsFurther None a xs c
+reads_still a b c xs h j e p = subst (λ t. ReadsFurther None a t c) (append-nil xs) (reads_more None a b c xs [] h (held_more b c [] tt j (e ∙ sym (append-nil b.held.items)) (rw p (λ more k. k))))
+
+-- an LF where no line begins
+pub bad_line : (c : Checking) (bytes : List ℕ) (end : ℕ) → c.held.items ≡ [] → BeginsWithNoLine bytes → IsWholeLine (take end bytes) → ReadsFurther (Some Syntax) c bytes c
+bad_line c bytes end empty none w =
+    let whole : take end bytes ++ drop end bytes ≡ bytes = take-append-drop end bytes in
+    let never : (line : Line) → SpellsLine (take end bytes) line → ⊥ = λ line s. none line (drop end bytes) (s.0, sym whole ∙ ap (λ x. x ++ drop end bytes) s.1) in
+    let front : ReadsFurther (Some Syntax) c (take end bytes) c = λ text r. line_faulty c c (take end bytes) w text r Syntax (subst (λ x. IsAtFault r.lines x Syntax) (sym (ap (λ x. x ++ take end bytes) empty)) never) refl in
+    subst (λ x. ReadsFurther (Some Syntax) c x c) whole (reads_behind Syntax c c (take end bytes) (drop end bytes) front)
