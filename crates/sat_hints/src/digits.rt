@@ -13,9 +13,11 @@ fn write_pair(bytes: &mut [u8], at: usize, pair: u8)
     bytes[at + 1] = b'0' + pair % 10;
 }
 
-/// Writes the digits of a number behind the first so many bytes. The answer is where they end.
-pub(crate) fn write_digits(bytes: &mut [u8], len: usize, number: u64) -> usize
-    requires { len + length (decimal number) ≤ length bytes.old }
+/// Writes the digits of a number below 10,000 after the first `len` bytes. Returns where they end.
+#[inline(always)]
+fn write_short(bytes: &mut [u8], len: usize, number: u64) -> usize
+    requires room { len + length (decimal number) ≤ length bytes.old }
+    requires short { number < 10000 }
     ensures end { result ≡ len + length (decimal number) }
     ensures same { length bytes.new ≡ length bytes.old }
     ensures text { take result bytes.new ≡ take len bytes.old ++ decimal number }
@@ -33,12 +35,36 @@ pub(crate) fn write_digits(bytes: &mut [u8], len: usize, number: u64) -> usize
         write_pair(bytes, len + 1, (number % 100) as u8);
         return len + 3;
     }
+    write_pair(bytes, len, (number / 100) as u8);
+    write_pair(bytes, len + 2, (number % 100) as u8);
+    len + 4
+}
+
+/// As `write_digits`, for a number of any size.
+fn write_long(bytes: &mut [u8], len: usize, number: u64) -> usize
+    requires { len + length (decimal number) ≤ length bytes.old }
+    ensures end { result ≡ len + length (decimal number) }
+    ensures same { length bytes.new ≡ length bytes.old }
+    ensures text { take result bytes.new ≡ take len bytes.old ++ decimal number }
+{
     if number < 10000 {
-        write_pair(bytes, len, (number / 100) as u8);
-        write_pair(bytes, len + 2, (number % 100) as u8);
-        return len + 4;
+        return write_short(bytes, len, number);
     }
-    let at = write_digits(bytes, len, number / 100);
+    let at = write_long(bytes, len, number / 100);
     write_pair(bytes, at, (number % 100) as u8);
     at + 2
+}
+
+/// Writes the digits of a number after the first `len` bytes. Returns where they end.
+#[inline(always)]
+pub(crate) fn write_digits(bytes: &mut [u8], len: usize, number: u64) -> usize
+    requires { len + length (decimal number) ≤ length bytes.old }
+    ensures end { result ≡ len + length (decimal number) }
+    ensures same { length bytes.new ≡ length bytes.old }
+    ensures text { take result bytes.new ≡ take len bytes.old ++ decimal number }
+{
+    if number < 10000 {
+        return write_short(bytes, len, number);
+    }
+    write_long(bytes, len, number)
 }
