@@ -19,6 +19,7 @@ pub mod WithinLimits
 pub mod AreProved
 pub mod Putting
 pub mod Decimals
+pub mod Items
 pub mod Heard
 pub mod Written
 pub mod Finished

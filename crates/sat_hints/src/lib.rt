@@ -8,6 +8,7 @@ mod digits;
 mod error;
 mod fronts;
 mod guesses;
+mod items;
 mod judging;
 pub mod laws;
 mod line;

@@ -5,6 +5,7 @@ ghost use Rattle.sat_hints.specs.inner.LineReading.{line_of};
 ghost use Rattle.sat_hints.specs.inner.LineWriting.{outlet, both_words, sign_text, PutsText};
 
 use crate::digits::write_digits;
+use crate::items::{MOST_BYTES, write_ids, write_literals};
 use crate::line::HintLine;
 use sat_base::{CountedWrite, Lit, Var};
 
@@ -175,6 +176,20 @@ impl<W: CountedWrite> LineWriter<W> {
     fn put_ids(&mut self, ids: &[u64])
         ensures { PutsText (id_words ids.now) (outlet W.seen self.old) (outlet W.seen self.new) }
     {
+        if self.failed {
+            return;
+        }
+        if self.len > PIECE || ids.len() > (PIECE - self.len) / MOST_BYTES {
+            self.put_each_id(ids);
+            return;
+        }
+        self.len = write_ids(&mut self.bytes, self.len, ids);
+    }
+
+    /// As `put_ids`, where there may be no room for all.
+    fn put_each_id(&mut self, ids: &[u64])
+        ensures { PutsText (id_words ids.now) (outlet W.seen self.old) (outlet W.seen self.new) }
+    {
         for id in ids {
             self.put_id(*id);
         }
@@ -200,6 +215,20 @@ impl<W: CountedWrite> LineWriter<W> {
     }
 
     fn put_literals(&mut self, literals: &[Lit])
+        ensures { PutsText (literal_words literals.now) (outlet W.seen self.old) (outlet W.seen self.new) }
+    {
+        if self.failed {
+            return;
+        }
+        if self.len > PIECE || literals.len() > (PIECE - self.len) / MOST_BYTES {
+            self.put_each_literal(literals);
+            return;
+        }
+        self.len = write_literals(&mut self.bytes, self.len, literals);
+    }
+
+    /// As `put_literals`, where there may be no room for all.
+    fn put_each_literal(&mut self, literals: &[Lit])
         ensures { PutsText (literal_words literals.now) (outlet W.seen self.old) (outlet W.seen self.new) }
     {
         for literal in literals {

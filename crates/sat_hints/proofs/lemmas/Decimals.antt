@@ -28,6 +28,10 @@ more_length n h l = ap length (more_digits n h l) ∙ length-append (decimal (n 
 pub one_put : (bytes : List ℕ) (len x : ℕ) → len < length bytes → take (len + 1) (set bytes len x) ≡ take len bytes ++ x ∷ []
 one_put bytes len x h = let e : len + 1 ≡ suc len = omega arith in ap (λ n. take n (set bytes len x)) e ∙ take-suc-set bytes len x h
 
+-- a text, and a byte after it
+pub text_put : (old now text : List ℕ) (len end x : ℕ) → end < length now → take end now ≡ take len old ++ text → take (end + 1) (set now end x) ≡ take len old ++ (text ++ (x ∷ []))
+text_put old now text len end x h e = one_put now end x h ∙ ap (λ t. t ++ (x ∷ [])) e ∙ append_assoc (take len old) text (x ∷ [])
+
 -- two digits behind those before
 pub behind_pair : (old before now : List ℕ) (len at n : ℕ) → 100 ≤ n → n < 2 ^ 64 → take at before ≡ take len old ++ decimal (n / 100) → take (at + 2) now ≡ take at before ++ (48 + n % 100 / 10) ∷ (48 + n % 100 % 10) ∷ [] → take (at + 2) now ≡ take len old ++ decimal n
 behind_pair old before now len at n h l e f =
