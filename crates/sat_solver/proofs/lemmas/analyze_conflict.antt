@@ -5,6 +5,7 @@ pub mod Collecting
 pub mod Dropping
 pub mod Ends
 pub mod InTurn
+pub mod Keyed
 pub mod Learned
 pub mod Loops
 pub mod Meeting

@@ -1,5 +1,5 @@
 -- What holds while literals that follow from the others of the clause are looked for.
-use Rattle.std.specs.Prelude.{ℕ, ◌≡◌, ◌+◌, ◌<◌, ◌≤◌, ◌⊎◌, ◌==◌, ◌||◌, ◌&&◌, not, if◌then◌else◌, Bool, true, false, MatchBool, List, [], ◌∷◌, ◌++◌, length, take, slice_index_or as get_or, slice_set as set}
+use Rattle.std.specs.Prelude.{ℕ, ◌≡◌, ◌+◌, ◌*◌, ◌%◌, ◌^◌, ◌<◌, ◌≤◌, ◌⊎◌, ◌==◌, ◌||◌, ◌&&◌, not, if◌then◌else◌, Bool, true, false, MatchBool, List, [], ◌∷◌, ◌++◌, length, take, slice_index_or as get_or, slice_set as set}
 use Rattle.std.specs.List.{Contains}
 use Rattle.sat_base.specs.values.Literals.{variable, negated}
 use Rattle.sat_store.specs.levels.Levels.{passes}
@@ -137,6 +137,14 @@ unset (b ∷ bs) = (if b then 0 else 1) + unset bs
 -- the depth of a literal's variable
 abbrev pub depth_in : List ImplNode → ℕ → ℕ
 depth_in nodes l = (node_of nodes (variable l)).depth
+
+-- a number by which literals are sorted by depth: the literal's code is below 2^29
+abbrev pub depth_key : List ImplNode → ℕ → ℕ
+depth_key nodes l = depth_in nodes l * 2 ^ 29 + l
+
+-- the literal of such a number
+abbrev pub keyed_lit : ℕ → ℕ
+keyed_lit key = key % 2 ^ 29
 
 -- the first literals of the list are of falling depth, and those behind them of no greater depth than any of these
 pub record FallsBefore (nodes : List ImplNode) (ls : List ℕ) (resolved : ℕ) : Type 0 where

@@ -42,6 +42,6 @@ pub fn analyze_conflict(
     let resolved = analysis.used().len();
     minimize_clause(analysis, clauses, assignment, graph, trail, conflict)?;
     analysis.clear_flags();
-    analysis.order_used(graph, resolved);
+    analysis.order_used(graph, resolved)?;
     Ok(analysis.put_second(graph))
 }

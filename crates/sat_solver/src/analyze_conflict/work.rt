@@ -26,6 +26,9 @@ pub struct Analysis {
     involved: Vec<ClauseRef>,
     core: Vec<Lit>,
     flags: Vec<bool>,
+
+    /// Literals below their depths, while used literals are sorted.
+    keys: Vec<u64>,
     pending: usize,
 }
 
@@ -50,6 +53,7 @@ impl Analysis {
             involved: Vec::new(alloc),
             core: Vec::new(alloc),
             flags: Vec::new(alloc),
+            keys: Vec::new(alloc),
             pending: 0,
         }
     }
@@ -329,13 +333,17 @@ impl Analysis {
     }
 
     /// Puts the used literals in the order of the trail, of which so many were resolved.
-    pub(crate) fn order_used(&mut self, graph: &ImplGraph, resolved: usize)
+    pub(crate) fn order_used(
+        &mut self,
+        graph: &ImplGraph,
+        resolved: usize,
+    ) -> Result<(), AllocError>
         requires { FallsBefore graph.now self.old.used resolved }
-        ensures permutation { IsPermutation self.old.used self.new.used }
-        ensures rising { IsNonDecreasingBy (depth_in graph.now) self.new.used }
+        ensures permutation { OnOk result (IsPermutation self.old.used self.new.used) }
+        ensures rising { OnOk result (IsNonDecreasingBy (depth_in graph.now) self.new.used) }
         ensures same { self.new ≡ record self.old { used = self.new.used } }
     {
-        order_used(&mut self.used, graph, resolved);
+        order_used(&mut self.used, graph, resolved, &mut self.keys)
     }
 
     /// Turns the used literals round.

@@ -27,9 +27,9 @@ returns-clause-learns c =
     let asserting : IsAsserting s w.clause = c.in_ok-minimize_clause.ensures.asserting in
     let grounds : AreGrounds words s conflict w.clause w.used = c.in_ok-minimize_clause.ensures.grounds in
     let before : c.clear_flags.new.self.used ≡ w.used = ap (λ (x : Work). x.used) c.clear_flags.ensures.same in
-    let order : IsPermutation w.used c.order_used.new.self.used = subst (λ (us : List ℕ). IsPermutation us c.order_used.new.self.used) before c.order_used.ensures.permutation in
+    let order : IsPermutation w.used c.order_used.new.self.used = subst (λ (us : List ℕ). IsPermutation us c.order_used.new.self.used) before c.in_ok-order_used.ensures.permutation in
     let derivation : IsDerivation words s conflict w.clause c.order_used.new.self.used =
-    ordered words s conflict w.clause w.used c.order_used.new.self.used c.requires.can.agrees grounds order c.order_used.ensures.rising in
+    ordered words s conflict w.clause w.used c.order_used.new.self.used c.requires.can.agrees grounds order c.in_ok-order_used.ensures.rising in
     let used : w'.used ≡ c.order_used.new.self.used = ap (λ (x : Work). x.used) c.put_second.ensures.same in
     let clause : c.order_used.new.self.clause ≡ w.clause = ap (λ (x : Work). x.clause) c.order_used.ensures.same ∙ ap (λ (x : Work). x.clause) c.clear_flags.ensures.same in
     let flags : w'.flags ≡ c.clear_flags.new.self.flags = ap (λ (x : Work). x.flags) c.put_second.ensures.same ∙ ap (λ (x : Work). x.flags) c.order_used.ensures.same in
@@ -46,7 +46,7 @@ returns-clause-resolution c =
     let w' : Work = c.put_second.new.self in
     let before : c.clear_flags.new.self.used ≡ w.used = ap (λ (x : Work). x.used) c.clear_flags.ensures.same in
     let used : w'.used ≡ c.order_used.new.self.used = ap (λ (x : Work). x.used) c.put_second.ensures.same in
-    let order : IsPermutation w.used w'.used = subst (λ (vs : List ℕ). IsPermutation w.used vs) (sym used) (subst (λ (us : List ℕ). IsPermutation us c.order_used.new.self.used) before c.order_used.ensures.permutation) in
+    let order : IsPermutation w.used w'.used = subst (λ (vs : List ℕ). IsPermutation w.used vs) (sym used) (subst (λ (us : List ℕ). IsPermutation us c.order_used.new.self.used) before c.in_ok-order_used.ensures.permutation) in
     let met : w'.met ≡ w.met = ap (λ (x : Work). x.met) c.put_second.ensures.same ∙ ap (λ (x : Work). x.met) c.order_used.ensures.same ∙ ap (λ (x : Work). x.met) c.clear_flags.ensures.same in
     let involved : w'.involved ≡ w.involved = ap (λ (x : Work). x.involved) c.put_second.ensures.same ∙ ap (λ (x : Work). x.involved) c.order_used.ensures.same ∙ ap (λ (x : Work). x.involved) c.clear_flags.ensures.same in
     is_resolution words s c.args.conflict.now c.finish_conflict.new.analysis w w' c.in_ok-finish_conflict.ensures.resolved c.in_ok-finish_conflict.ensures.collected c.in_ok-minimize_clause.ensures.kept order met involved
