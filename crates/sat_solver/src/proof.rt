@@ -30,7 +30,7 @@ use crate::proof::hash_bits::Counting;
 use crate::proof::kept::Kept;
 use crate::proof::made::{CheckFault, Made};
 use crate::proof::output::{Output, OutputError};
-use crate::proof::truncate::{CutLists, narrow, narrow_units};
+use crate::proof::truncate::{CutLists, has_hashes, narrow, narrow_units};
 use sat_base::{CountedWrite, ProofStep};
 use sat_checker::{Nobody, ProofProcessor};
 use std::alloc::Global;
@@ -341,6 +341,21 @@ impl<W: CountedWrite + Drop, P: ProofProcessor> Proof<W, P> {
         if !self.made.is_checked() && !self.is_open() {
             return self.take(step, &ProofStep::End);
         }
+        if has_hashes(step) {
+            return self.step_with_hashes(step);
+        }
+        let counting = self.counting.with(step);
+        self.record(counting, step, step)
+    }
+
+    /// Records a step with hashes, over the lists that hold them once they are cut.
+    fn step_with_hashes(&mut self, step: &ProofStep<'_>) -> Result<(), ProofError>
+        requires keeps { HasAllowedSteps self.old }
+        requires may { May (session_of self.old) (step_of step.now) }
+        requires width { KeepsWidth (step_of step.now) }
+        ensures keeps { HasAllowedSteps self.new }
+        ensures records { EmitsAsAnswered W.seen result (step_of step.now ∷ []) self.old self.new }
+    {
         let mut lists = mem::replace(&mut self.lists, CutLists::new(self.alloc));
         let recorded = self.record_cut(&mut lists, step);
         self.lists = lists;

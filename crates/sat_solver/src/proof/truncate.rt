@@ -1,8 +1,9 @@
 //! Hashes lose their lower bits.
-ghost use Rattle.std.specs.Prelude.{ℕ, ◌≡◌, map, OnOk, []};
-ghost use Rattle.sat_solver.specs.proof.Widths.{kept_bits};
+ghost use Rattle.std.specs.Prelude.{ℕ, ◌≡◌, map, OnOk, [], false};
+ghost use Rattle.sat_base.specs.steps.StepViews.{step_of};
+ghost use Rattle.sat_solver.specs.proof.Widths.{kept_bits, narrowed};
 
-use sat_base::{ClauseHash, HashBits, Lit};
+use sat_base::{ClauseHash, HashBits, Lit, ProofStep};
 use std::alloc::{AllocError, Global};
 
 /// The topmost bits of a hash.
@@ -42,6 +43,28 @@ pub fn narrow_units(
         narrowed.push((unit.0, top_bits(unit.1, bits)))?;
     }
     Ok(())
+}
+
+/// Whether a step has hashes.
+#[inline(always)]
+pub fn has_hashes(step: &ProofStep<'_>) -> bool
+    ensures { result ≡ false → (bits : ℕ) → step_of step.now ≡ narrowed bits (step_of step.now) }
+{
+    match step {
+        ProofStep::AtClause { .. } => true,
+        ProofStep::UnitClauses { .. } => true,
+        ProofStep::FailedAssumptions { .. } => true,
+        ProofStep::SolverVarName { .. } => false,
+        ProofStep::UserVarName { .. } => false,
+        ProofStep::DeleteVar { .. } => false,
+        ProofStep::ChangeSamplingMode { .. } => false,
+        ProofStep::AddClause { .. } => false,
+        ProofStep::DeleteClause { .. } => false,
+        ProofStep::ChangeHashBits { .. } => false,
+        ProofStep::Model { .. } => false,
+        ProofStep::Assumptions { .. } => false,
+        ProofStep::End => false,
+    }
 }
 
 /// Where the hashes of a step are cut.
