@@ -37,7 +37,17 @@ fn recount_free(count: usize, before: bool, after: bool) -> usize
     if after { count + 1 } else { count - 1 }
 }
 
-/// A node is as those below it say.
+/// Whether a node is as those below it say.
+fn is_fresh(nodes: &Vec<bool>, at: usize) -> bool
+    requires within { 2 * at + 1 < length nodes.now.items }
+    ensures { result ≡ true → slice_index_or nodes.now.items at false
+        ≡ (slice_index_or nodes.now.items (2 * at) false || slice_index_or nodes.now.items (2 * at + 1) false) }
+{
+    let any = nodes[2 * at] || nodes[2 * at + 1];
+    nodes[at] == any
+}
+
+/// Makes a node as those below it say.
 fn refresh(nodes: &mut Vec<bool>, at: usize)
     requires within { 2 * at + 1 < length nodes.old.items }
     ensures { Refreshes nodes.old.items nodes.new.items at }
@@ -130,7 +140,7 @@ impl FreeIndices {
         self.change(index, free);
     }
 
-    /// Puts an index in or takes it out, and mends the nodes from its leaf up to the root.
+    /// Puts an index in or takes it out, and updates the nodes from its leaf up to the first one that stays.
     fn change(&mut self, index: usize, free: bool)
         requires tree { IsTree self.old }
         requires within { index < self.old.room }
@@ -144,6 +154,9 @@ impl FreeIndices {
         self.nodes[at] = free;
         while at > 1 {
             at /= 2;
+            if is_fresh(&self.nodes, at) {
+                return;
+            }
             refresh(&mut self.nodes, at);
         }
     }
@@ -199,6 +212,11 @@ impl FreeIndices {
             return Ok(());
         }
         widen(&mut self.nodes, 4 * self.room)?;
+        if self.count == 0 {
+            self.room *= 2;
+            self.height += 1;
+            return Ok(());
+        }
         copy_leaves(&mut self.nodes, self.room);
         self.room *= 2;
         self.height += 1;

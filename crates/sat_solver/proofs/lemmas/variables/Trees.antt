@@ -263,6 +263,19 @@ mended f g index value at tree lt room height count m le = (
         let all : g.count ≡ count_to f.room (is_free g) = omega arith in
         all ∙ ap (λ r. count_to r (is_free g)) (sym room)
 
+-- a node that stays leaves all above it right
+pub mended_early : (room : ℕ) (first nodes : List Bool) (leaf : ℕ) (value : Bool) (at : ℕ) → Mends room first nodes leaf value at → 1 < at → node_at nodes (at / 2) ≡ (node_at nodes (2 * (at / 2)) || node_at nodes (2 * (at / 2) + 1)) → Mends room first nodes leaf value 1
+mended_early room first nodes leaf value at m more fresh = record {
+  size = m.size;
+  leaves = m.leaves;
+  inner = λ q pos lt ne. elim (cases_eq q (at / 2)) [
+    | inl e ↦ subst (λ z. node_at nodes z ≡ (node_at nodes (2 * z) || node_at nodes (2 * z + 1))) (sym e) fresh
+    | inr n ↦ m.inner q pos lt n
+  ];
+  some = omega arith;
+  within = let w = m.within in omega arith;
+}
+
 -- ALL NODES ANEW
 
 -- leaves are as they were, and all nodes from this one on are as those below say
@@ -299,6 +312,36 @@ pub grown_counted : (f g : FreeIndices) (wide : List Bool) → IsTree f → f.ro
 grown_counted f g wide tree p size same c room count =
     count ∙ tree.counted ∙ sym (count_reach f.room g.room (is_free f) (omega arith) (λ k le. past f k tree le))
     ∙ count_same g.room (is_free f) (is_free g) (λ i lt. sym (grown f g g wide tree p size same c room (λ k. refl) i))
+
+-- where no leaf is in the set, no node says so
+nothing_free : (f : FreeIndices) → IsTree f → f.count ≡ 0 → (i : ℕ) → is_free f i ≡ false
+nothing_free f tree e i = bool_false (is_free f i) (λ t. elim (cases_lt i f.room) [
+  | inl lt ↦ absurd (let s = some_counted f i tree lt t in omega arith)
+  | inr le ↦ true≢false (sym t ∙ past f i tree le)
+])
+
+nothing_above : (f : FreeIndices) → IsTree f → f.count ≡ 0 → (n q : ℕ) → 2 * f.room ≤ q + n → 0 < q → node_at f.nodes.items q ≡ false
+nothing_above f tree e zero q le pos = get_or_past f.nodes.items q false (let s = tree.size in omega arith)
+nothing_above f tree e (suc n) q le pos = elim (cases_lt q f.room) [
+  | inl lt ↦ tree.inner q pos lt ∙ ap (λ b. b || node_at f.nodes.items (2 * q + 1)) (nothing_above f tree e n (2 * q) (omega arith) (omega arith)) ∙ nothing_above f tree e n (2 * q + 1) (omega arith) (omega arith)
+  | inr past ↦ ap (node_at f.nodes.items) (let s : q ≡ f.room + (q - f.room) = omega arith in s) ∙ nothing_free f tree e (q - f.room)
+]
+
+module _ (f g : FreeIndices) (tree : IsTree f) (some : f.room ≡ 0 → ⊥) (lt : f.room < largest) (size : length g.nodes.items ≡ 4 * f.room) (same : (q : ℕ) → node_at g.nodes.items q ≡ node_at f.nodes.items q) (room : g.room ≡ 2 * f.room) (height : g.height ≡ f.height + 1) (count : g.count ≡ f.count) (empty_set : f.count ≡ 0) where
+  nothing_wide : (q : ℕ) → 0 < q → node_at g.nodes.items q ≡ false
+  nothing_wide q pos = same q ∙ nothing_above f tree empty_set (2 * f.room) q (omega arith) pos
+
+  -- a tree of no free index grows as it is
+  pub empty_same : (i : ℕ) → is_free g i ≡ is_free f i
+  empty_same i = nothing_wide (g.room + i) (elim (cases_eq f.room 0) [ inl z ↦ absurd (some z) | inr n ↦ omega arith ]) ∙ sym (nothing_free f tree empty_set i)
+
+  pub empty_grown : IsTree g
+  empty_grown = record {
+    size = omega arith;
+    powers = grown_powers f g tree some lt room height;
+    counted = count ∙ tree.counted ∙ sym (count_reach f.room g.room (is_free f) (omega arith) (λ k le. past f k tree le)) ∙ count_same g.room (is_free f) (is_free g) (λ i w. sym (empty_same i));
+    inner = λ q pos w. nothing_wide q pos ∙ sym (ap (λ b. b || node_at g.nodes.items (2 * q + 1)) (nothing_wide (2 * q) (omega arith)) ∙ nothing_wide (2 * q + 1) (omega arith));
+  }
 
 pub height_fits : (f : FreeIndices) → IsTree f → (f.room ≡ 0 → ⊥) → f.height < largest
 height_fits f tree n = let p = full f tree n in let s = small f tree in let b = below_doubled f.height in omega arith
