@@ -3,5 +3,6 @@ pub mod Cuts
 pub mod Cutting
 pub mod Flat
 pub mod Freed
+pub mod Freeing
 pub mod Looks
 pub mod Passes

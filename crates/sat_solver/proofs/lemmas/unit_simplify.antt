@@ -2,6 +2,7 @@ pub mod BeginLemmas
 pub mod CutEnds
 pub mod CutLemmas
 pub mod FreedLemmas
+pub mod FreeingLemmas
 pub mod GatherLemmas
 pub mod LightensLemmas
 pub mod LighterLemmas

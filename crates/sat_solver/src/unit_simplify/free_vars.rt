@@ -1,11 +1,13 @@
 //! Variables that are in no clause lose their indices.
-ghost use Rattle.std.specs.Prelude.{◌≡◌, ◌<◌, IfErr, OnOk, Some, length};
+ghost use Rattle.std.specs.Prelude.{◌≡◌, ◌+◌, ◌<◌, ◌≤◌, IfErr, OnOk, Some, false, true, length, slice_index_or, slice_set};
+ghost use Rattle.sat_base.specs.values.Literals.{largest};
 ghost use Rattle.sat_solver.specs.session.Session.{session_after};
 ghost use Rattle.sat_solver.specs.variables.Variables.{solver_of, IsUnitOf, IsInNoNonUnitClause};
 ghost use Rattle.sat_solver.specs.variables.Calls.{NamesInvariant};
 ghost use Rattle.sat_solver.specs.variables.Failing.{IsFailure, EmitsOrFails};
 ghost use Rattle.sat_parts.specs.parts.Whole.{InNoClause};
 ghost use Rattle.sat_solver.specs.unit_simplify.Freed.{GivesUp, MayFree, FreesSome, IsIndexOfAssumed, AllLeft};
+ghost use Rattle.sat_solver.specs.unit_simplify.Freeing.{freed_below, freed_search, MarksAtMost};
 
 use crate::context::Search;
 use crate::variables::Variables;
@@ -14,8 +16,8 @@ use crate::variables::log::StepWriter;
 use crate::variables::modes::forget_idle;
 use crate::variables::solver_vars::remove_solver_var;
 use sat_base::Var;
+use sat_parts::Parts;
 use sat_parts::parts::unused::mark_used;
-use sat_parts::parts::variables::free_variable;
 
 /// Takes the index of a variable away, whose unit is known by then. A hidden variable is deleted.
 fn give_up<S: StepWriter>(
@@ -41,34 +43,66 @@ fn give_up<S: StepWriter>(
     forget_idle(variables, writer, global)
 }
 
-/// Gives an index up that no clause has, unless its variable is assumed, or no variable has it.
-fn free_unused<S: StepWriter>(
+/// Marks an index.
+fn mark(used: &mut Vec<bool>, index: Var)
+    requires { index < length used.old.items }
+    ensures { used.new.items ≡ slice_set used.old.items index true }
+{
+    used[index.index()] = true;
+}
+
+/// Releases an index that no clause uses, or marks it if its variable is assumed or no variable has it. The search still
+/// has its value.
+fn release_unused<S: StepWriter>(
     variables: &mut Variables,
     writer: &mut S,
-    search: &mut Search,
+    search: &Search,
+    used: &mut Vec<bool>,
     index: Var,
 ) -> Result<(), NameError>
     requires keeps { S.keeps writer.old }
-    requires may { MayFree variables.old (S.steps writer.old) search.old }
-    requires there { index < length search.old.parts.assignment.current }
-    requires unused { InNoClause search.old.parts index }
+    requires may { MayFree variables.old (S.steps writer.old) (freed_search used.old.items index search.now) }
+    requires there { index < length search.now.parts.assignment.current }
+    requires size { index < length used.old.items }
+    requires unmarked { slice_index_or used.old.items index false ≡ false }
+    requires unused { InNoClause search.now.parts index }
     ensures frees { OnOk result (FreesSome variables.old variables.new (S.steps writer.old) (S.steps writer.new)
-        search.old search.new) }
+        (freed_search used.old.items index search.now) (freed_search used.new.items (index + 1) search.now)) }
     ensures left { OnOk result (IsIndexOfAssumed variables.new (session_after (S.steps writer.old)) index) }
+    ensures marks { OnOk result (MarksAtMost index used.old.items used.new.items) }
     ensures keeps { OnOk result (S.keeps writer.new) }
     ensures fails { IfErr result IsFailure }
     ensures came { EmitsOrFails S.took S.broke result writer.old writer.new }
 {
     let Some(global) = variables.solver_from_global.bwd().get(index) else {
+        mark(used, index);
         return Ok(());
     };
     if variables.is_marked(global) {
+        mark(used, index);
         return Ok(());
     }
     variables.set_unit(global, search.parts.assignment.var_value(index));
     give_up(variables, writer, global, index)?;
-    free_variable(&mut search.parts, index);
     Ok(())
+}
+
+/// Frees the variables that aren't marked, from the last one to the first: where activities are equal, each is then the
+/// last of those that may be picked.
+fn free_unmarked(parts: &mut Parts, used: &Vec<bool>)
+    requires size { length used.now.items ≤ length parts.old.assignment.current }
+    requires queue { length used.now.items ≤ length parts.old.vsids.available }
+    requires few { length used.now.items ≤ largest }
+    ensures { parts.new ≡ freed_below used.now.items (length used.now.items) parts.old }
+{
+    for index in (0..used.len()).rev() {
+        if used[index] {
+            continue;
+        }
+        let var = Var::from_index(index);
+        parts.assignment.set_var(var, None);
+        parts.vsids.make_unavailable(var);
+    }
 }
 
 /// Gives the indices up, in order, that no clause has and no assumption. What units they have is noted; hidden
@@ -93,7 +127,8 @@ pub fn free_indices<S: StepWriter>(
         if used[index] {
             continue;
         }
-        free_unused(variables, writer, search, Var::from_index(index))?;
+        release_unused(variables, writer, search, used, Var::from_index(index))?;
     }
+    free_unmarked(&mut search.parts, used);
     Ok(())
 }

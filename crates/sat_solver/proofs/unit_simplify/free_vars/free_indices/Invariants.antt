@@ -1,7 +1,8 @@
-use Rattle.std.proofs.Common.{ℕ, ◌≡◌, false, length, slice_index_or}
+use Rattle.std.proofs.Common.{ℕ, ◌≡◌, ◌≤◌, false, length, slice_index_or}
 use Rattle.sat_parts.specs.clause.Db.{live_refs}
 use Rattle.sat_parts.specs.parts.Round.{IsUnused as InNoClause}
 use Rattle.sat_solver.specs.unit_simplify.Freed.{FreesSome, AreLeft}
+use Rattle.sat_solver.specs.unit_simplify.Freeing.{freed_search}
 use Rattle.sat_solver.specs.session.Session.{session_after}
 use Rattle.sat_solver.proofs.unit_simplify.free_vars.free_indices.Given as goal
 
@@ -10,8 +11,8 @@ invariant-loop-index g l = record {
   keeps : g.S.StepWriter.keeps l.writer;
   came : (w : g.row.S.Denot) → g.S.StepWriter.took w l.fn.writer → g.S.StepWriter.took w l.writer;
   left : AreLeft l.variables (session_after (g.S.StepWriter.steps l.fn.writer)) l.fn.search.parts l.index;
-  others : (v : ℕ) → InNoClause l.fn.search.parts.clauses (live_refs l.fn.search.parts.clauses l.fn.search.parts.db.refs) l.fn.search.parts.binary.implied v → slice_index_or l.used.items v false ≡ false;
-  frees : FreesSome l.fn.variables l.variables (g.S.StepWriter.steps l.fn.writer) (g.S.StepWriter.steps l.writer) l.fn.search l.search;
+  others : (v : ℕ) → l.index ≤ v → InNoClause l.fn.search.parts.clauses (live_refs l.fn.search.parts.clauses l.fn.search.parts.db.refs) l.fn.search.parts.binary.implied v → slice_index_or l.used.items v false ≡ false;
+  frees : FreesSome l.fn.variables l.variables (g.S.StepWriter.steps l.fn.writer) (g.S.StepWriter.steps l.writer) l.fn.search (freed_search l.used.items l.index l.fn.search);
   size : length l.used.items ≡ length l.fn.search.parts.assignment.current;
   unused : (v : ℕ) → slice_index_or l.used.items v false ≡ false → InNoClause l.fn.search.parts.clauses (live_refs l.fn.search.parts.clauses l.fn.search.parts.db.refs) l.fn.search.parts.binary.implied v;
 }
