@@ -46,6 +46,20 @@ pub struct Variables {
 
     /// Indices that were used and aren't in use.
     pub free_solvers: FreeIndices,
+
+    /// Whether a variable may be of mode witness.
+    pub witnessed: bool,
+
+    /// Whether each name that was ever used has the variable with its own index.
+    pub own_names: bool,
+}
+
+/// Whether each name still has the variable with its own index, after a name got this one.
+fn are_own(own: bool, user: Var, global: Var) -> bool
+    ensures own { result ≡ true → own ≡ true }
+    ensures same { result ≡ true → global ≡ user }
+{
+    own && user.index() == global.index()
 }
 
 impl Variables {
@@ -62,6 +76,8 @@ impl Variables {
             free_users: FreeIndices::new(alloc),
             free_globals: FreeIndices::new(alloc),
             free_solvers: FreeIndices::new(alloc),
+            witnessed: false,
+            own_names: true,
         }
     }
 
@@ -99,6 +115,7 @@ impl Variables {
         self.free_globals.reserve(global)?;
         self.free_users.take(user);
         self.free_globals.take(global);
+        self.own_names = are_own(self.own_names, user, global);
         Ok(())
     }
 
@@ -161,6 +178,7 @@ impl Variables {
         self.free_users.put(user);
         unlink(&mut self.global_from_user, user, global);
         set_mode(&mut self.var_data, global, SamplingMode::Hide);
+        self.own_names = false;
     }
 
     /// Gives a name to a hidden variable, which is of mode witness from here on.
@@ -176,6 +194,8 @@ impl Variables {
         self.free_users.reserve(user)?;
         self.free_users.take(user);
         set_mode(&mut self.var_data, global, SamplingMode::Witness);
+        self.witnessed = true;
+        self.own_names = false;
         Ok(())
     }
 
@@ -185,6 +205,7 @@ impl Variables {
         ensures { PutsMode self.old self.new global mode }
     {
         set_mode(&mut self.var_data, global, mode);
+        self.witnessed = true;
     }
 
     /// A variable is no longer in use. Takes no memory.

@@ -32,6 +32,8 @@ pub record PutsMarks (old new : Variables) (ls : List ℕ) : Type 0 where
   pub users : new.global_from_user ≡ old.global_from_user
   pub solvers : new.solver_from_global ≡ old.solver_from_global
   pub globals : new.globals ≡ old.globals
+  pub witnessed : new.witnessed ≡ old.witnessed
+  pub own : new.own_names ≡ old.own_names
   pub kept : (v : ℕ) → data_at new v ≡ record (data_at old v) { assumed = mentions ls v }
   pub count : variables_used new ≡ variables_used old
   pub free_users : new.free_users ≡ old.free_users

@@ -7,7 +7,7 @@ use Rattle.sat_store.specs.variables.Maps.{AreInverse, Links, Unlinks}
 use Rattle.sat_store.specs.declared.data.SamplingMode.{SamplingMode}
 use Rattle.sat_store.specs.declared.data.SamplingMode.TheVariants as kept
 use Rattle.sat_solver.specs.variables.Free.{is_free, Spans}
-use Rattle.sat_solver.specs.variables.Variables.{data_at, global_of, names_used, variables_used, solver_of, global_at, indices_used}
+use Rattle.sat_solver.specs.variables.Variables.{data_at, global_of, names_used, variables_used, solver_of, global_at, indices_used, is_witness_kept}
 use Rattle.sat_solver.specs.declared.variables.Variables.{Variables}
 
 -- the variable for the name: that of its own number where no name in use or hidden one has it, else the lowest free one
@@ -32,6 +32,9 @@ pub record PutsName (old new : Variables) (user v : ℕ) : Type 0 where
   pub inverse : AreInverse new.global_from_user
   pub solvers : new.solver_from_global ≡ old.solver_from_global
   pub globals : new.globals ≡ old.globals
+  pub witnessed : new.witnessed ≡ old.witnessed
+  pub own : new.own_names ≡ true → old.own_names ≡ true
+  pub same : new.own_names ≡ true → v ≡ user
   pub kept : (w : ℕ) → data_at new w ≡ (if w == v then user_variable else data_at old w)
   pub count : variables_used new ≡ max (variables_used old) (v + 1)
   pub free_users : (u : ℕ) → is_free new.free_users u ≡ (if u == user then false else is_free old.free_users u)
@@ -49,6 +52,8 @@ pub record PutsIndex (old new : Variables) (v x : ℕ) (there : Bool) : Type 0 w
   pub globals_count : length new.globals.items ≡ indices_used new
   pub listed : (y : ℕ) → get_or new.globals.items y 0 ≡ (if there && (y == x) then v else get_or old.globals.items y 0)
   pub users : new.global_from_user ≡ old.global_from_user
+  pub witnessed : new.witnessed ≡ old.witnessed
+  pub own : new.own_names ≡ old.own_names
   pub kept : new.var_data ≡ old.var_data
   pub free_users : new.free_users ≡ old.free_users
   pub free_globals : new.free_globals ≡ old.free_globals
@@ -61,6 +66,8 @@ pub record PutsHidden (old new : Variables) (user v : ℕ) : Type 0 where
   pub inverse : AreInverse new.global_from_user
   pub solvers : new.solver_from_global ≡ old.solver_from_global
   pub globals : new.globals ≡ old.globals
+  pub witnessed : new.witnessed ≡ old.witnessed
+  pub own : new.own_names ≡ false
   pub kept : (w : ℕ) → data_at new w ≡ (if w == v then record (data_at old v) { sampling_mode = kept.Hide } else data_at old w)
   pub count : variables_used new ≡ variables_used old
   pub free_users : (u : ℕ) → is_free new.free_users u ≡ (if u == user then true else is_free old.free_users u)
@@ -73,6 +80,9 @@ pub record PutsMode (old new : Variables) (v : ℕ) (mode : SamplingMode) : Type
   pub users : new.global_from_user ≡ old.global_from_user
   pub solvers : new.solver_from_global ≡ old.solver_from_global
   pub globals : new.globals ≡ old.globals
+  pub witnessed : is_witness_kept mode ≡ true → new.witnessed ≡ true
+  pub stays : old.witnessed ≡ true → new.witnessed ≡ true
+  pub own : new.own_names ≡ old.own_names
   pub kept : (w : ℕ) → data_at new w ≡ (if w == v then record (data_at old v) { sampling_mode = mode } else data_at old w)
   pub count : variables_used new ≡ variables_used old
   pub free_users : new.free_users ≡ old.free_users
@@ -84,6 +94,8 @@ pub record PutsDeleted (old new : Variables) (v : ℕ) : Type 0 where
   pub users : new.global_from_user ≡ old.global_from_user
   pub solvers : new.solver_from_global ≡ old.solver_from_global
   pub globals : new.globals ≡ old.globals
+  pub witnessed : new.witnessed ≡ old.witnessed
+  pub own : new.own_names ≡ old.own_names
   pub kept : (w : ℕ) → data_at new w ≡ (if w == v then unused_variable else data_at old w)
   pub count : variables_used new ≡ variables_used old
   pub free_users : new.free_users ≡ old.free_users
@@ -116,6 +128,8 @@ pub record SameMaps (old new : Variables) : Type 0 where
   pub users : new.global_from_user ≡ old.global_from_user
   pub solvers : new.solver_from_global ≡ old.solver_from_global
   pub globals : new.globals ≡ old.globals
+  pub witnessed : new.witnessed ≡ old.witnessed
+  pub own : new.own_names ≡ old.own_names
   pub count : variables_used new ≡ variables_used old
   pub free_users : new.free_users ≡ old.free_users
   pub free_globals : new.free_globals ≡ old.free_globals
@@ -144,6 +158,8 @@ pub record PutsObserved (old new : Variables) (user v : ℕ) : Type 0 where
   pub inverse : AreInverse new.global_from_user
   pub solvers : new.solver_from_global ≡ old.solver_from_global
   pub globals : new.globals ≡ old.globals
+  pub witnessed : new.witnessed ≡ true
+  pub own : new.own_names ≡ false
   pub kept : (w : ℕ) → data_at new w ≡ (if w == v then record (data_at old v) { sampling_mode = kept.Witness } else data_at old w)
   pub count : variables_used new ≡ variables_used old
   pub free_users : (u : ℕ) → is_free new.free_users u ≡ (if u == user then false else is_free old.free_users u)

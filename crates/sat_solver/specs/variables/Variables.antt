@@ -51,6 +51,12 @@ variables_used n = length n.var_data.items
 abbrev pub indices_used : Variables → ℕ
 indices_used n = length n.solver_from_global.bwd
 
+-- is a variable kept as one of mode witness?
+abbrev pub is_witness_kept : SamplingMode → Bool
+is_witness_kept kept.Sample = false
+is_witness_kept kept.Witness = true
+is_witness_kept kept.Hide = false
+
 -- It fits together.
 pub record AreTidy (n : Variables) : Type 0 where
   pub users : AreInverse n.global_from_user
@@ -63,6 +69,10 @@ pub record AreTidy (n : Variables) : Type 0 where
   pub shown : (v u : ℕ) → user_of n v ≡ Some u → (data_at n v).sampling_mode ≢ kept.Hide
   -- nothing is kept of a variable that isn't in use
   pub gone : (v : ℕ) → (data_at n v).deleted ≡ true → data_at n v ≡ unused_variable
+  -- unless a variable may be of mode witness, none is
+  pub plain : n.witnessed ≡ false → (v : ℕ) → is_witness_kept (data_at n v).sampling_mode ≡ false
+  -- while names have the variables of their own indices, each that was used does
+  pub own : n.own_names ≡ true → (u : ℕ) → u < names_used n → global_of n u ≡ Some u
   -- the list of what has each index
   pub globals_count : length n.globals.items ≡ indices_used n
   pub globals : (x v : ℕ) → global_at n x ≡ Some v → get_or n.globals.items x 0 ≡ v
@@ -144,9 +154,3 @@ mode_for false = kept.Witness
 abbrev pub judged_mode : Bool → judged.Mode
 judged_mode true = Sampled
 judged_mode false = Witnessed
-
--- is a variable kept as one of mode witness?
-abbrev pub is_witness_kept : SamplingMode → Bool
-is_witness_kept kept.Sample = false
-is_witness_kept kept.Witness = true
-is_witness_kept kept.Hide = false

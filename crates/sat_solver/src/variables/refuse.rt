@@ -27,6 +27,9 @@ fn is_witness(variables: &Variables, user: Var) -> bool
         → result ≡ has_witness j (identity_of j (user + 1)) }
     ensures sampled { result ≡ false → IsSampled variables.now user }
 {
+    if !variables.witnessed {
+        return false;
+    }
     let Some(global) = variables.global_from_user.fwd().get(user) else {
         return false;
     };

@@ -82,6 +82,9 @@ pub fn global_from_user<W: StepWriter>(
     if user.index() >= variables.global_from_user.fwd().watermark() {
         return bring_new(variables, writer, user);
     }
+    if variables.own_names {
+        return Ok(user);
+    }
     if let Some(global) = variables.global_from_user.fwd().get(user) {
         return Ok(global);
     }

@@ -16,7 +16,7 @@ use Rattle.sat_solver.specs.variables.Counting.{IsEven}
 use Rattle.sat_solver.specs.variables.Free.{is_free, IsTree}
 use Rattle.sat_checker.specs.matching.Bridge.{Live}
 use Rattle.sat_solver.specs.variables.Live.{given_of}
-use Rattle.sat_solver.specs.variables.Variables.{data_at, user_of, variables_used, AreTidy, AreSaid, AreJudged, IsModeOf, says_unit}
+use Rattle.sat_solver.specs.variables.Variables.{data_at, user_of, variables_used, AreTidy, AreSaid, AreJudged, IsModeOf, says_unit, is_witness_kept}
 use Rattle.sat_solver.specs.load.Literals.{named_literal, SameLiterals, StandsFor}
 use Rattle.sat_solver.specs.load.Assumed.{marked_if, MarksAssumed, PutsMarks}
 use Rattle.sat_checker.specs.matching.Checking.{variable_of}
@@ -109,6 +109,8 @@ module _ (old new : Variables) (ls : List ℕ) (tidy : AreTidy old) (live : (v :
     hidden = λ w d e. mode_at w ∙ tidy.hidden w (sym (deleted_at w) ∙ d) (sym (user_at w) ∙ e);
     shown = λ w u e h. tidy.shown w u (sym (user_at w) ∙ e) (sym (mode_at w) ∙ h);
     gone = gone;
+    plain = λ e w. ap is_witness_kept (mode_at w) ∙ tidy.plain (sym put.witnessed ∙ e) w;
+    own = λ e u lt. ap (λ m. target m.fwd u) put.users ∙ tidy.own (sym put.own ∙ e) u (let q = ap (λ m. length m.fwd) put.users in omega arith);
     globals_count = ap (λ g. length g.items) put.globals ∙ tidy.globals_count ∙ ap (λ m. length m.bwd) (sym put.solvers);
     globals = λ x w e. ap (λ g. get_or g.items x 0) put.globals ∙ tidy.globals x w (sym (ap (λ m. target m.bwd x) put.solvers) ∙ e);
     even_users = subst IsEven (sym put.users) tidy.even_users;

@@ -15,7 +15,7 @@ use Rattle.sat_solver.specs.variables.Counting.{IsEven}
 use Rattle.sat_solver.specs.variables.Free.{is_free, IsTree}
 use Rattle.sat_checker.specs.matching.Bridge.{Live, IsBridge}
 use Rattle.sat_solver.specs.variables.Live.{given_of, given}
-use Rattle.sat_solver.specs.variables.Variables.{data_at, global_of, user_of, solver_of, variables_used, AreTidy, mode_in, variable_at, AreSaid, IsModeOf, AreJudged, says_unit}
+use Rattle.sat_solver.specs.variables.Variables.{data_at, global_of, user_of, solver_of, variables_used, AreTidy, mode_in, variable_at, AreSaid, IsModeOf, AreJudged, says_unit, is_witness_kept}
 use Rattle.sat_solver.specs.variables.Naming.{PutsDeleted}
 use Rattle.sat_checker.specs.matching.Checking.{variable_of}
 use Rattle.sat_checker.specs.matching.ProofChecking.{the_checking}
@@ -70,6 +70,8 @@ module _ (old new : Variables) (v : ℕ) (tidy : AreTidy old) (alive : (data_at 
     hidden = hidden;
     shown = shown;
     gone = gone;
+    plain = λ e w. ap (λ d. is_witness_kept d.sampling_mode) (put.kept w) ∙ still (eqb w v) w (tidy.plain (sym put.witnessed ∙ e) w);
+    own = λ e u lt. ap (λ m. target m.fwd u) put.users ∙ tidy.own (sym put.own ∙ e) u (let q = ap (λ m. length m.fwd) put.users in omega arith);
     globals_count = ap (λ g. length g.items) put.globals ∙ tidy.globals_count ∙ ap (λ m. length m.bwd) (sym put.solvers);
     globals = λ x w e. ap (λ g. get_or g.items x 0) put.globals ∙ tidy.globals x w (sym (ap (λ m. target m.bwd x) put.solvers) ∙ e);
     even_users = subst IsEven (sym put.users) tidy.even_users;
@@ -85,6 +87,10 @@ module _ (old new : Variables) (v : ℕ) (tidy : AreTidy old) (alive : (data_at 
     free_solvers = λ x. ap (λ f. is_free f x) put.free_solvers ∙ tidy.free_solvers x ∙ ap (λ m. ltb x (length m.bwd) && not (is_some (target m.bwd x))) (sym put.solvers);
   }
     where
+      still : (b : Bool) (w : ℕ) → is_witness_kept (data_at old w).sampling_mode ≡ false → is_witness_kept (cond b (unused_variable) (data_at old w)).sampling_mode ≡ false
+      still true w e = refl
+      still false w e = e
+
       named : (w u : ℕ) → user_of new w ≡ Some u → (data_at new w).deleted ≡ false
       named w u e = go (eqb w v) refl (put.kept w)
         where

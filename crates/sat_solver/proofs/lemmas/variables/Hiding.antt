@@ -16,7 +16,7 @@ use Rattle.sat_solver.specs.variables.Counting.{IsEven}
 use Rattle.sat_solver.specs.variables.Free.{is_free, IsTree}
 use Rattle.sat_checker.specs.matching.Bridge.{Live}
 use Rattle.sat_solver.specs.variables.Live.{given_of, given}
-use Rattle.sat_solver.specs.variables.Variables.{data_at, global_of, user_of, names_used, variables_used, AreTidy, mode_in, variable_at, AreSaid, IsModeOf, AreJudged, says_unit}
+use Rattle.sat_solver.specs.variables.Variables.{data_at, global_of, user_of, names_used, variables_used, AreTidy, mode_in, variable_at, AreSaid, IsModeOf, AreJudged, says_unit, is_witness_kept}
 use Rattle.sat_solver.specs.variables.Naming.{PutsHidden, KeepsOthers}
 use Rattle.sat_checker.specs.matching.Checking.{is_variable, variable_of}
 use Rattle.sat_checker.specs.matching.ProofChecking.{the_checking}
@@ -61,6 +61,8 @@ module _ (old new : Variables) (user v : ℕ) (tidy : AreTidy old) (had : global
     hidden = hidden;
     shown = shown;
     gone = gone;
+    plain = λ e w. ap (λ d. is_witness_kept d.sampling_mode) (put.kept w) ∙ still (eqb w v) w (tidy.plain (sym put.witnessed ∙ e) w);
+    own = λ e u lt. absurd (true≢false (sym e ∙ put.own));
     globals_count = ap (λ g. length g.items) put.globals ∙ tidy.globals_count ∙ ap (λ m. length m.bwd) (sym put.solvers);
     globals = λ x w e. ap (λ g. get_or g.items x 0) put.globals ∙ tidy.globals x w (sym (ap (λ m. target m.bwd x) put.solvers) ∙ e);
     even_users = unlinks_inverse old.global_from_user new.global_from_user user v tidy.users had put.users tidy.even_users;
@@ -76,6 +78,10 @@ module _ (old new : Variables) (user v : ℕ) (tidy : AreTidy old) (had : global
     free_solvers = λ x. ap (λ f. is_free f x) put.free_solvers ∙ tidy.free_solvers x ∙ ap (λ m. ltb x (length m.bwd) && not (is_some (target m.bwd x))) (sym put.solvers);
   }
     where
+      still : (b : Bool) (w : ℕ) → is_witness_kept (data_at old w).sampling_mode ≡ false → is_witness_kept (cond b (record (data_at old v) { sampling_mode = kept.Hide }) (data_at old w)).sampling_mode ≡ false
+      still true w e = refl
+      still false w e = e
+
       named : (w u : ℕ) → user_of new w ≡ Some u → (data_at new w).deleted ≡ false
       named w u e = deleted_at w ∙ go (eqb w v) (put.users.bwd w)
         where

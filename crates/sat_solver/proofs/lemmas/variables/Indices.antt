@@ -15,7 +15,7 @@ use Rattle.sat_solver.proofs.lemmas.variables.Counts.{mapped_one_more, mapped_on
 use Rattle.sat_solver.specs.variables.Free.{is_free, IsTree}
 use Rattle.sat_checker.specs.matching.Bridge.{Live}
 use Rattle.sat_solver.specs.variables.Live.{given_of}
-use Rattle.sat_solver.specs.variables.Variables.{data_at, user_of, solver_of, global_at, indices_used, variables_used, AreTidy, mode_in, variable_at, AreSaid, IsModeOf, AreJudged, says_unit, IsUnitOf, IsInNoNonUnitClause}
+use Rattle.sat_solver.specs.variables.Variables.{data_at, user_of, solver_of, global_at, indices_used, variables_used, AreTidy, mode_in, variable_at, AreSaid, IsModeOf, AreJudged, says_unit, IsUnitOf, IsInNoNonUnitClause, is_witness_kept}
 use Rattle.sat_solver.specs.variables.Naming.{PutsIndex, IsNextIndex}
 use Rattle.sat_solver.specs.variables.Search.{KeepsSearch}
 use Rattle.sat_solver.specs.variables.Indexing.{Indexes, Unindexes}
@@ -80,6 +80,8 @@ module _ (old new : Variables) (v x : ℕ) (there : Bool) (tidy : AreTidy old) (
     hidden = λ w d e. ap (λ d. d.sampling_mode) (kept_at w) ∙ tidy.hidden w (sym (ap (λ d. d.deleted) (kept_at w)) ∙ d) (sym (user_at w) ∙ e);
     shown = λ w u e h. tidy.shown w u (sym (user_at w) ∙ e) (sym (ap (λ d. d.sampling_mode) (kept_at w)) ∙ h);
     gone = λ w d. kept_at w ∙ tidy.gone w (sym (ap (λ k. k.deleted) (kept_at w)) ∙ d);
+    plain = λ e w. ap (λ d. is_witness_kept d.sampling_mode) (kept_at w) ∙ tidy.plain (sym put.witnessed ∙ e) w;
+    own = λ e u lt. ap (λ m. target m.fwd u) put.users ∙ tidy.own (sym put.own ∙ e) u (let q = ap (λ m. length m.fwd) put.users in omega arith);
     globals_count = put.globals_count;
     globals = globals;
     even_users = subst IsEven (sym put.users) tidy.even_users;

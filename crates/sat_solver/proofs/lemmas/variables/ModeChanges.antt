@@ -2,7 +2,7 @@
 use Rattle.std.proofs.Common.{ℕ, ◌+◌, ◌<◌, ◌≡◌, ◌≢◌, Bool, true, false, not, ◌&&◌, cond, eqb, ltb, List, [], ◌∷◌, length, get_or, set, Option, Some, None, is_some, refl, sym, ◌∙◌, ap, subst, arith, inl, inr}
 use Rattle.std.proofs.Math.ListN.{length-set}
 use Rattle.std.proofs.lemmas.List.{get_or_past, get_or-set_same, get_or-set_other}
-use Rattle.std.proofs.lemmas.Bool.{eqb-true, eqb-false, true≢false, cases_lt}
+use Rattle.std.proofs.lemmas.Bool.{eqb-true, eqb-false, true≢false, false_from_ne_true, cases_lt}
 use Rattle.sat_base.specs.script.Judge.{Judge, Sampled, Witnessed, identity_of, or_zero, with_mode}
 use Rattle.sat_base.specs.script.Judge as judged
 use Rattle.sat_base.specs.steps.Steps.{Step, ChangeSamplingMode}
@@ -19,7 +19,7 @@ use Rattle.sat_solver.specs.variables.Counting.{IsEven}
 use Rattle.sat_solver.specs.variables.Free.{is_free, IsTree}
 use Rattle.sat_checker.specs.matching.Bridge.{Live, IsBridge}
 use Rattle.sat_solver.specs.variables.Live.{given_of, given}
-use Rattle.sat_solver.specs.variables.Variables.{data_at, global_of, user_of, variables_used, AreTidy, mode_in, variable_at, AreSaid, IsModeOf, AreJudged, mode_for, judged_mode, says_unit}
+use Rattle.sat_solver.specs.variables.Variables.{data_at, global_of, user_of, variables_used, AreTidy, mode_in, variable_at, AreSaid, IsModeOf, AreJudged, mode_for, judged_mode, says_unit, is_witness_kept}
 use Rattle.sat_solver.specs.variables.Naming.{PutsMode}
 use Rattle.sat_checker.specs.matching.Checking.{variable_of}
 use Rattle.sat_solver.specs.variables.Coming.{mode_said, TurnsMode}
@@ -47,11 +47,14 @@ not_hide true e = cc
 not_hide false e = cc
 
 -- a mode that the variable has already
-pub same_mode : (n : Variables) (v : ℕ) (mode : SamplingMode) → (data_at n v).sampling_mode ≡ mode → PutsMode n n v mode
-same_mode n v mode e = record {
+pub same_mode : (n : Variables) (v : ℕ) (mode : SamplingMode) → AreTidy n → (data_at n v).sampling_mode ≡ mode → PutsMode n n v mode
+same_mode n v mode tidy e = record {
   users = refl;
   solvers = refl;
   globals = refl;
+  witnessed = λ w. may n.witnessed refl w;
+  stays = λ w. w;
+  own = refl;
   kept = λ w. go w (eqb w v) refl;
   count = refl;
   free_users = refl;
@@ -59,6 +62,10 @@ same_mode n v mode e = record {
   free_solvers = refl;
 }
   where
+    may : (b : Bool) → n.witnessed ≡ b → is_witness_kept mode ≡ true → n.witnessed ≡ true
+    may true t w = t
+    may false t w = absurd (true≢false (sym w ∙ ap is_witness_kept (sym e) ∙ tidy.plain t v))
+
     go : (w : ℕ) (b : Bool) → eqb w v ≡ b → data_at n w ≡ cond b (record (data_at n v) { sampling_mode = mode }) (data_at n w)
     go w true t = ap (data_at n) (eqb-true w v t) ∙ ap {A = SamplingMode} (λ m. record (data_at n v) { sampling_mode = m }) e
     go w false t = refl
@@ -92,6 +99,9 @@ module _ (old new : Variables) (user v : ℕ) (sample : Bool) (tidy : AreTidy ol
     hidden = hidden;
     shown = shown;
     gone = gone;
+    plain = λ e w. ap (λ d. is_witness_kept d.sampling_mode) (put.kept w)
+        ∙ still (eqb w v) w (false_from_ne_true (is_witness_kept (mode_for sample)) (λ t. true≢false (sym (put.witnessed t) ∙ e))) (tidy.plain (false_from_ne_true old.witnessed (λ t. true≢false (sym (put.stays t) ∙ e))) w);
+    own = λ e u lt. ap (λ m. target m.fwd u) put.users ∙ tidy.own (sym put.own ∙ e) u (let q = ap (λ m. length m.fwd) put.users in omega arith);
     globals_count = ap (λ g. length g.items) put.globals ∙ tidy.globals_count ∙ ap (λ m. length m.bwd) (sym put.solvers);
     globals = λ x w e. ap (λ g. get_or g.items x 0) put.globals ∙ tidy.globals x w (sym (ap (λ m. target m.bwd x) put.solvers) ∙ e);
     even_users = subst IsEven (sym put.users) tidy.even_users;
@@ -107,6 +117,10 @@ module _ (old new : Variables) (user v : ℕ) (sample : Bool) (tidy : AreTidy ol
     free_solvers = λ x. ap (λ f. is_free f x) put.free_solvers ∙ tidy.free_solvers x ∙ ap (λ m. ltb x (length m.bwd) && not (is_some (target m.bwd x))) (sym put.solvers);
   }
     where
+      still : (b : Bool) (w : ℕ) → is_witness_kept (mode_for sample) ≡ false → is_witness_kept (data_at old w).sampling_mode ≡ false → is_witness_kept (cond b (record (data_at old v) { sampling_mode = mode_for sample }) (data_at old w)).sampling_mode ≡ false
+      still true w m e = m
+      still false w m e = e
+
       gone : (w : ℕ) → (data_at new w).deleted ≡ true → data_at new w ≡ unused_variable
       gone w d = go (eqb w v) refl (put.kept w)
         where
@@ -238,7 +252,7 @@ mode_kept old from user v sample stands had e = record {
   kept = λ j live a. record {
     live = live;
     agree = record {
-      judged = judged_with_mode old old user v sample stands.tidy had (same_mode old v (mode_for sample) e) j live a.judged;
+      judged = judged_with_mode old old user v sample stands.tidy had (same_mode old v (mode_for sample) stands.tidy e) j live a.judged;
       bridge = bridged j from live (judged_mode sample) (user + 1) a.bridge;
     };
     trace = no_step;

@@ -17,7 +17,7 @@ use Rattle.sat_solver.specs.variables.Counting.{IsEven}
 use Rattle.sat_solver.specs.variables.Free.{is_free, IsTree}
 use Rattle.sat_checker.specs.matching.Bridge.{Live}
 use Rattle.sat_solver.specs.variables.Live.{given, given_of}
-use Rattle.sat_solver.specs.variables.Variables.{data_at, global_of, user_of, solver_of, global_at, names_used, variables_used, indices_used, AreTidy, mode_in, variable_at, AreSaid, IsModeOf, AreJudged, says_unit}
+use Rattle.sat_solver.specs.variables.Variables.{data_at, global_of, user_of, solver_of, global_at, names_used, variables_used, indices_used, AreTidy, mode_in, variable_at, AreSaid, IsModeOf, AreJudged, says_unit, is_witness_kept}
 use Rattle.sat_solver.specs.variables.Naming.{IsRoom, PutsName}
 use Rattle.sat_solver.specs.declared.variables.Variables.{Variables}
 use Rattle.sat_solver.proofs.lemmas.variables.MapLemmas.{pushed}
@@ -57,6 +57,8 @@ module _ (old new : Variables) (user v : ℕ) (tidy : AreTidy old) (room : IsRoo
     hidden = hidden;
     shown = shown;
     gone = gone;
+    plain = λ e w. ap (λ d. is_witness_kept d.sampling_mode) (put.kept w) ∙ still (eqb w v) w (tidy.plain (sym put.witnessed ∙ e) w);
+    own = λ e u lt. named_own e u lt (eqb u user) refl;
     globals_count = ap (λ g. length g.items) put.globals ∙ tidy.globals_count ∙ ap (λ m. length m.bwd) (sym put.solvers);
     globals = λ x w e. ap (λ g. get_or g.items x 0) put.globals ∙ tidy.globals x w (sym (ap (λ m. target m.bwd x) put.solvers) ∙ e);
     even_users = links_even old.global_from_user new.global_from_user user v free (nameless old v tidy room.unused) put.users tidy.even_users;
@@ -72,6 +74,14 @@ module _ (old new : Variables) (user v : ℕ) (tidy : AreTidy old) (room : IsRoo
     free_solvers = free_solvers;
   }
     where
+      named_own : new.own_names ≡ true → (u : ℕ) → u < names_used new → (b : Bool) → eqb u user ≡ b → global_of new u ≡ Some u
+      named_own e u lt true t = put.users.fwd u ∙ ap (λ b. cond b (Some v) (global_of old u)) t ∙ ap (λ k. Some k) (put.same e ∙ sym (eqb-true u user t))
+      named_own e u lt false t = put.users.fwd u ∙ ap (λ b. cond b (Some v) (global_of old u)) t ∙ tidy.own (put.own e) u (let n = eqb-false u user t in let w = put.users.fwd_watermark in omega arith)
+
+      still : (b : Bool) (w : ℕ) → is_witness_kept (data_at old w).sampling_mode ≡ false → is_witness_kept (cond b (user_variable) (data_at old w)).sampling_mode ≡ false
+      still true w e = refl
+      still false w e = e
+
       named : (w u : ℕ) → user_of new w ≡ Some u → (data_at new w).deleted ≡ false
       named w u e = go (eqb w v) (put.users.bwd w) (put.kept w)
         where

@@ -128,6 +128,8 @@ module _ (old new : Variables) (user v : ℕ) (tidy : AreTidy old) (here : IsHid
     hidden = hidden;
     shown = shown;
     gone = gone;
+    plain = λ e w. absurd (true≢false (sym put.witnessed ∙ e));
+    own = λ e u lt. absurd (true≢false (sym e ∙ put.own));
     globals_count = ap (λ g. length g.items) put.globals ∙ tidy.globals_count ∙ ap (λ m. length m.bwd) (sym put.solvers);
     globals = λ x w e. ap (λ g. get_or g.items x 0) put.globals ∙ tidy.globals x w (sym (ap (λ m. target m.bwd x) put.solvers) ∙ e);
     even_users = links_even old.global_from_user new.global_from_user user v next.unused here.nameless put.users tidy.even_users;

@@ -42,6 +42,18 @@ sampled_some n user v tidy e w x f =
     some_same : {a b : ℕ} {o : Option ℕ} → o ≡ Some a → o ≡ Some b → a ≡ b
     some_same f g = cc
 
+-- where no variable may be of mode witness, no name is
+module _ (n : Variables) (tidy : AreTidy n) (user : ℕ) (plain : n.witnessed ≡ false) where
+  pub plain_judged : (j : Judge) (live : Live) → AreJudged n j live → false ≡ has_witness j (identity_of j (user + 1))
+  plain_judged j live judged = go (global_of n user) refl
+    where
+      go : (o : Option ℕ) → global_of n user ≡ o → false ≡ has_witness j (identity_of j (user + 1))
+      go None e = sym (ap (has_witness j) (judged.names user ∙ ap (given_of live) e))
+      go (Some v) e = sym (tidy.plain plain v) ∙ witness_some n user v tidy e j live judged
+
+  pub plain_sampled : IsSampled n user
+  plain_sampled v e = sampled_some n user v tidy e (tidy.plain plain v) v e
+
 -- ASSUMED NAMES
 
 pub not_assumed : (n : Variables) (user v : ℕ) → global_of n user ≡ Some v → (data_at n v).assumed ≡ false → IsAssumed n user → ⊥

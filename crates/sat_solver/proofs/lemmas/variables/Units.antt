@@ -10,7 +10,7 @@ use Rattle.sat_solver.specs.variables.Counting.{IsEven}
 use Rattle.sat_solver.specs.variables.Free.{is_free, IsTree}
 use Rattle.sat_checker.specs.matching.Bridge.{Live}
 use Rattle.sat_solver.specs.variables.Live.{given_of}
-use Rattle.sat_solver.specs.variables.Variables.{data_at, user_of, solver_of, variables_used, AreTidy, AreJudged, IsModeOf, says_unit}
+use Rattle.sat_solver.specs.variables.Variables.{data_at, user_of, solver_of, variables_used, AreTidy, AreJudged, IsModeOf, says_unit, is_witness_kept}
 use Rattle.sat_solver.specs.variables.Naming.{SameMaps, PutsUnit}
 use Rattle.sat_solver.specs.variables.Calls.{NamesInvariant, Agree}
 use Rattle.sat_solver.specs.declared.variables.Variables.{Variables}
@@ -30,6 +30,8 @@ module _ (old new : Variables) (tidy : AreTidy old) (maps : SameMaps old new) (d
     hidden = λ w d e. mode_at w ∙ tidy.hidden w (sym (deleted_at w) ∙ d) (sym (user_at w) ∙ e);
     shown = λ w u e h. tidy.shown w u (sym (user_at w) ∙ e) (sym (mode_at w) ∙ h);
     gone = λ w d. gone w (sym (deleted_at w) ∙ d);
+    plain = λ e w. ap is_witness_kept (mode_at w) ∙ tidy.plain (sym maps.witnessed ∙ e) w;
+    own = λ e u lt. ap (λ m. target m.fwd u) maps.users ∙ tidy.own (sym maps.own ∙ e) u (let q = ap (λ m. length m.fwd) maps.users in omega arith);
     globals_count = ap (λ g. length g.items) maps.globals ∙ tidy.globals_count ∙ ap (λ m. length m.bwd) (sym maps.solvers);
     globals = λ x w e. ap (λ g. get_or g.items x 0) maps.globals ∙ tidy.globals x w (sym (ap (λ m. target m.bwd x) maps.solvers) ∙ e);
     even_users = subst IsEven (sym maps.users) tidy.even_users;

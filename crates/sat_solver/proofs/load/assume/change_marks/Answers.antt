@@ -24,6 +24,8 @@ returns-clause-puts c = record {
   users = refl;
   solvers = refl;
   globals = refl;
+  witnessed = refl;
+  own = refl;
   kept = remarked_lent (λ v. get_or c.args.variables.now.var_data.items v unused_variable) (λ v. get_or c.mark_all.new.list.items v unused_variable) (λ v. get_or c.mark_all-2.new.list.items v unused_variable) c.deref.result.now c.deref-4.result.now c.args.asked.now.globals.items c.map_lits.new.mapped.items
       c.requires.marked c.mark_all.ensures.marks c.mark_all-2.ensures.marks c.deref.ensures.value c.deref-4.ensures.value;
   count = c.mark_all-2.ensures.size ∙ c.mark_all.ensures.size;

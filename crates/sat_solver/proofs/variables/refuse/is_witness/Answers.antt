@@ -2,8 +2,14 @@ use Rattle.std.proofs.Common.{◌≡◌, Some, sym, ◌∙◌, ap}
 use Rattle.sat_store.specs.variables.Maps.{target}
 use Rattle.sat_solver.specs.variables.Variables.{global_of, is_witness_kept}
 use Rattle.sat_solver.proofs.lemmas.variables.ModeChanges.{named_within}
-use Rattle.sat_solver.proofs.lemmas.variables.Refusals.{witness_some, sampled_some}
+use Rattle.sat_solver.proofs.lemmas.variables.Refusals.{witness_some, sampled_some, plain_judged, plain_sampled}
 use Rattle.sat_solver.proofs.variables.refuse.is_witness.Goals as goal
+
+pub returns-then-not-variables-clause-judged : goal.returns-then-not-variables-clause-judged
+returns-then-not-variables-clause-judged c = plain_judged c.args.variables.now c.requires c.args.user c.if-not-variables.true
+
+pub returns-then-not-variables-clause-sampled : goal.returns-then-not-variables-clause-sampled
+returns-then-not-variables-clause-sampled c = λ e. plain_sampled c.args.variables.now c.requires c.args.user c.if-not-variables.true
 
 pub mode-requires : goal.mode-requires
 mode-requires c =
