@@ -1,5 +1,5 @@
 //! How many bits of hashes a proof keeps: their number follows the count of its clauses.
-ghost use Rattle.std.specs.Prelude.{◌≡◌, ◌≤◌, ◌/◌, ◌^◌};
+ghost use Rattle.std.specs.Prelude.{◌≡◌, ◌≤◌, ◌/◌, ◌^◌, ◌&&◌, not};
 ghost use Rattle.sat_base.specs.steps.StepViews.{step_of};
 ghost use Rattle.sat_solver.specs.proof.Counting.{start, one_more_if, one_less_if, count_after, too_short, too_long};
 ghost use Rattle.sat_solver.specs.proof.Counting.{widened, shortened, fitting, counted};
@@ -128,10 +128,22 @@ fn shorten(clauses: u64, from: u32) -> u32
     bits
 }
 
+/// Whether the width stays, as it mostly does.
+fn fits(solving: bool, clauses: u64, bits: u32) -> bool
+    requires { bits ≤ 64 }
+    ensures { result ≡ (not (too_short clauses bits) && not (solving && too_long clauses bits)) }
+{
+    !is_short(clauses, bits) && !(solving && is_long(clauses, bits))
+}
+
 /// The width for so many clauses, from the one before.
+#[inline(always)]
 fn fit(solving: bool, clauses: u64, from: HashBits) -> HashBits
     ensures { result ≡ fitting solving clauses from }
 {
+    if fits(solving, clauses, from.get()) {
+        return from;
+    }
     let wide = widen(clauses, from.get());
     if solving {
         return of_bits(shorten(clauses, wide));

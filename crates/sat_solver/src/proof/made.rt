@@ -151,7 +151,32 @@ impl<P: ProofProcessor> Made<P> {
     }
 
     /// Notes a step, and gives it to the checker, where there is one, with its hashes cut to this width.
+    #[inline(always)]
     pub fn take(
+        &mut self,
+        bits: HashBits,
+        step: &ProofStep<'_>,
+        cut: &ProofStep<'_>,
+    ) -> Result<(), CheckFault>
+        requires may { MayAll (step_of step.now ∷ self.old.history.steps) }
+        requires width { KeepsWidth (step_of step.now) }
+        requires cut { is_checked self.old ≡ true → step_of cut.now ≡ narrowed bits (step_of step.now) }
+        ensures makes { Makes (step_of step.now) self.old self.new }
+        ensures taking { OnOk result (is_lost self.new ≡ is_lost self.old) }
+        ensures width { OnOk result (IsTold bits self.new) }
+        ensures fails { OrComplains result self.new }
+    {
+        let Some(_own) = &self.own else {
+            self.history = self.history.and(step);
+            self.begun = self.begun || !is_end(step);
+            return Ok(());
+        };
+        self.take_checked(bits, step, cut)
+    }
+
+    /// Notes a step, and gives it to the checker. A call of its own, since an error of the checker takes much room.
+    #[inline(never)]
+    fn take_checked(
         &mut self,
         bits: HashBits,
         step: &ProofStep<'_>,

@@ -1,7 +1,8 @@
 -- The width of hashes, turn by turn.
-use Rattle.std.proofs.Common.{ℕ, zero, suc, ◌+◌, ◌-◌, ◌<◌, ◌≤◌, ◌≡◌, ◌∙◌, true, false, refl, sym, ap, arith}
+use Rattle.std.proofs.Common.{ℕ, zero, suc, ◌+◌, ◌-◌, ◌<◌, ◌≤◌, ◌≡◌, ◌∙◌, Bool, true, false, not, ◌&&◌, refl, sym, ap, arith}
+use Rattle.std.proofs.lemmas.Bool.{true≢false}
 use Rattle.std.specs.Prelude.{cond, min}
-use Rattle.sat_solver.specs.proof.Counting.{too_short, too_long, widened, shortened}
+use Rattle.sat_solver.specs.proof.Counting.{too_short, too_long, widened, shortened, fitting}
 
 -- a turn is left
 turn : (i : ℕ) → i < 32 → 32 - i ≡ suc (32 - (i + 1))
@@ -45,3 +46,13 @@ shorten_stop i n b h e = ap (λ c. cond c (shortened (32 - (i + 1)) n (b - 2)) b
 
 pub shorten_end : (i n b : ℕ) → 32 ≤ i → b ≡ shortened (32 - i) n b
 shorten_end i n b h = sym (ap (λ k. shortened k n b) (none i h) ∙ shorten_none n b)
+
+-- a width that is neither too short nor too long stays
+pub fits_stays : (solving : Bool) (n b : ℕ) → (not (too_short n b) && not (solving && too_long n b)) ≡ true → b ≡ fitting solving n b
+fits_stays solving n b e = go solving (too_short n b) (too_long n b) refl refl e
+  where
+    go : (solving short long : Bool) → too_short n b ≡ short → too_long n b ≡ long → (not short && not (solving && long)) ≡ true → b ≡ fitting solving n b
+    go false false long s l e = widen_stop 0 n b (omega arith) (sym s)
+    go true false false s l e = shorten_stop 0 n b (omega arith) (sym l) ∙ ap (shortened 32 n) (widen_stop 0 n b (omega arith) (sym s))
+    go true false true s l e = absurd (true≢false (sym e))
+    go solving true long s l e = absurd (true≢false (sym e))
