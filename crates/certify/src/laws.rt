@@ -1,6 +1,8 @@
 //! What holds of the answers, of matching and of the checker: each law is the contract of a function that does nothing.
 ghost use Rattle.certify.specs.laws.Confirmed.{CertifiedMatches};
 ghost use Rattle.certify.specs.laws.EndToEnd.{FinishedIsConfirmed};
+ghost use Rattle.certify.specs.laws.HeadlineLaws.{CertifiedIsHeadline, RightByAsks, RightByOutcomes, SameAnswers};
+ghost use Rattle.certify.specs.laws.HeadlineLaws.{SaysTheSame};
 ghost use Rattle.certify.specs.laws.HintTexts.{RunsHaveHints};
 ghost use Rattle.certify.specs.laws.Laws.{AskBindsNothing, AskLeavesNames, MatchingIsRight, NotBoth};
 ghost use Rattle.certify.specs.laws.Laws.{RepeatChangesNothing, TautologyChangesNothing, TextsTellOutcomes};
@@ -34,6 +36,19 @@ pub fn certified_is_confirmed()
 /// What a finished run wrote is confirmed by whoever is given the three texts as they were written.
 pub fn finished_is_confirmed()
     ensures { FinishedIsConfirmed }
+{}
+
+/// What `certify_over` promises gives the headline.
+pub fn certified_is_headline()
+    ensures { CertifiedIsHeadline }
+{}
+
+/// The short definitions that `confirm` speaks of say the same as those that matching and runs are proved against.
+pub fn short_says_the_same()
+    ensures script { SaysTheSame }
+    ensures answers { SameAnswers }
+    ensures asks { RightByAsks }
+    ensures right { RightByOutcomes }
 {}
 
 /// The certificate of a finished run has a hint text, which is proved: `convert` doesn't refuse it.

@@ -4,6 +4,7 @@
 pub mod answers;
 pub mod confirm;
 pub mod fault;
+pub mod headline;
 pub mod judge;
 pub mod laws;
 pub mod program;

@@ -4,3 +4,4 @@ pub mod LiteralsOfLines
 pub mod LineOrder
 pub mod LiteralsInOrder
 pub mod AnswerLines
+pub mod ShortTexts

@@ -7,3 +7,4 @@ pub mod CertifiedRows
 pub mod CertifiedMatches
 pub mod FinishedTexts
 pub mod RunHints
+pub mod Headlines

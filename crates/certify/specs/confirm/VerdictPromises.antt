@@ -2,9 +2,11 @@
 use Rattle.std.specs.Prelude.{ℕ, ◌+◌, ◌*◌, ◌^◌, ◌≤◌, ◌≡◌, ◌↔◌, ◌⊎◌, Result, Err, IfOk, List, [], ◌++◌, length}
 use Rattle.sat_base.specs.device.Device.{Reader, GaveFront, GaveEnough, CanFollow, ReadFails, most_reads}
 use Rattle.certify.specs.Devices.{gave}
-use Rattle.certify.specs.answers.Answers.{answers_text}
+use Rattle.sat_base.specs.script.Judge.{start}
+use Rattle.certify.specs.answers.ScriptText.{script_in}
+use Rattle.certify.specs.answers.AnswersText.{lines_from}
 use Rattle.sat_checker.specs.matching.Expected.{Outcome}
-use Rattle.certify.specs.answers.RightAnswers.{AnswersAreRight}
+use Rattle.certify.specs.answers.Asks.{asks_of, EachIsRight}
 use Rattle.certify.specs.confirm.Matches.{Matches}
 use Rattle.sat_checker.specs.matching.ProofChecking.{the_checking}
 use Rattle.certify.specs.confirm.Walks.{LooksReach}
@@ -34,11 +36,12 @@ IsExact r script answers certificate old new =
 abbrev pub ReadsKept : {R : Type 0} → (R → Reader) → R → R → Type 0
 ReadsKept seen old new = (seen new).failures ≡ (seen old).failures
 
--- the answers are the text of right outcomes, one for each accepted ask of the script
+-- The answers are the text of right outcomes, one for each accepted ask of the script: models and cores are right; that an ask is unknown
+-- is right of any ask.
 pub record AreRightAnswers (script answers : List ℕ) : Type 0 where
   pub outcomes : List Outcome
-  pub answered : answers ≡ answers_text (reading script).0 (reading script).1 outcomes
-  pub right : AnswersAreRight (reading script).0 outcomes
+  pub answered : answers ≡ lines_from 1 start (script_in script).0 (script_in script).1 outcomes
+  pub right : EachIsRight (asks_of start (script_in script).0) outcomes
 
 -- a yes says that the answers that were given are right
 abbrev pub IsSoundVerdict : Reader × Reader → Reader × Reader → Verdict → Type 0

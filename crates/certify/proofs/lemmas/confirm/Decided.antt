@@ -35,6 +35,7 @@ use Rattle.certify.proofs.lemmas.confirm.LooksBound.{takes_looks}
 use Rattle.certify.proofs.lemmas.confirm.Streams.{confirms_so, few_given, gave_enough, moves_halt, read_fails, took_faulted, took_looks}
 use Rattle.certify.proofs.lemmas.confirm.Walks.{looks_from, tries_if}
 use Rattle.certify.proofs.lemmas.laws.ExpectedOutcomes.{matching_right}
+use Rattle.certify.proofs.lemmas.laws.Headlines.{right_answers}
 use Rattle.certify.proofs.lemmas.confirm.Joining.{covers_given, took_kept}
 use Rattle.certify.proofs.lemmas.script.FewCommands.{few_read}
 
@@ -49,7 +50,7 @@ sound_as (Ok v) script answers certificate h = λ said.
     enough_as answers.0 answers.1 (λ a. GaveTextWith certificate (λ c. (v ≡ Yes) ↔ Matches the_checking reading s a c)) (AreRightAnswers s)
     (λ a k.
     let m : Matches the_checking reading s a (k.text ++ []) = (k.holds [] (λ called ended. refl)).0 said in
-    record { outcomes = m.outcomes; answered = m.answered; right = matching_right the_checking the_checking_sound (reading s).0 m.outcomes m.steps m.match })
+    right_answers s a m.outcomes m.answered (matching_right the_checking the_checking_sound (reading s).0 m.outcomes m.steps m.match))
     g) h
 
 -- HOW EACH READER WAS LEFT

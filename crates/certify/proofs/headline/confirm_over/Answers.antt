@@ -2,7 +2,7 @@ use Rattle.std.proofs.Common.{ℕ, List, Some, Bor, ap}
 use Rattle.sat_base.specs.device.Device.{Reader}
 use Rattle.sat_base.specs.device.Counting.{reader_of}
 use Rattle.certify.proofs.lemmas.laws.FinishedTexts.{looks_within, says}
-use Rattle.certify_tests.proofs.caller.confirm_over.Goals as goal
+use Rattle.certify.proofs.headline.confirm_over.Goals as goal
 
 pub returns-clause-says : goal.returns-clause-says
 returns-clause-says c =

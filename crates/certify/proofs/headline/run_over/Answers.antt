@@ -3,7 +3,7 @@ use Rattle.std.specs.Global.{Vec}
 use Rattle.sat_base.specs.device.Device.{Reader, Writer}
 use Rattle.sat_base.specs.device.Counting.{reader_of, writer_of}
 use Rattle.certify.proofs.lemmas.laws.FinishedTexts.{run_finished}
-use Rattle.certify_tests.proofs.caller.run_over.Goals as goal
+use Rattle.certify.proofs.headline.run_over.Goals as goal
 
 pub returns-in-Ok : goal.returns-in-Ok
 returns-in-Ok c =

@@ -1,0 +1,15 @@
+use Rattle.certify.proofs.lemmas.laws.Headlines.{right_by_asks, right_by_outcomes}
+use Rattle.certify.proofs.lemmas.answers.ShortTexts.{says_the_same, same_answers}
+use Rattle.certify.proofs.laws.short_says_the_same.Goals as goal
+
+pub returns-clause-script : goal.returns-clause-script
+returns-clause-script c = says_the_same
+
+pub returns-clause-answers : goal.returns-clause-answers
+returns-clause-answers c = same_answers
+
+pub returns-clause-asks : goal.returns-clause-asks
+returns-clause-asks c = right_by_asks
+
+pub returns-clause-right : goal.returns-clause-right
+returns-clause-right c = right_by_outcomes

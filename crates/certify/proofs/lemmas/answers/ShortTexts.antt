@@ -1,0 +1,197 @@
+-- Short definitions of scripts and answers say the same as those that code is proved against.
+use Rattle.std.proofs.Common.{ℕ, ◌+◌, ◌≡◌, ◌∙◌, Bool, true, false, not, cond, ◌&&◌, Option, Some, None, List, [], ◌∷◌, ◌++◌, map, nat_eq, refl, sym, ap}
+use Rattle.std.specs.Prelude.{is_some, unwrap_or, decimal, if◌then◌else◌}
+use Rattle.sat_base.specs.text.Text.{is_letter, is_none, lines, words, begins_with, digits, header_in, header_if, header_first, on_line, plain, minus, behind_minus, alone, token, tokens_of, scan, tokens, dimacs_header, Token, Number, Letter, Header, Wrong}
+use Rattle.sat_base.specs.script.Script.{Literal, Command, Clause, Ask, Hide, Witness, Sample, ScriptEnding, Clean, Malformed, names_of}
+use Rattle.sat_base.specs.script.Judge.{Judge, Refusal, PastLimit, WitnessName, refusal_of, start}
+use Rattle.sat_checker.specs.matching.Expected.{Outcome, Sat, Unsat, Unknown}
+use Rattle.sat_base.specs.script.Language.{Reading, reading, written, with_ask, spoken, Kind, OfClause, OfAsk, OfHide, OfWitness, OfSample, command_of, CommandHand, Nothing, Within, GoesOn, Ends, Fails, commands_of, beginning, behind_turn, command_in, turn_with_literal}
+use Rattle.certify.specs.answers.Answers.{answers_from, literals_text, outcome_text, refused_line, piece, outcomes_left}
+use Rattle.certify.specs.answers.ScriptText.{number, single, token_in, tokens_in, with_literal, going_on, spelled, is_headed, script_in}
+use Rattle.certify.specs.answers.AnswersText.{literals_line, outcome_lines, refusal_line, command_lines, lines_from}
+use Rattle.certify.specs.laws.HeadlineLaws.{SameAnswers, SaysTheSame}
+
+-- WORDS
+
+minus_number : (o : Option ℕ) → number true o ≡ minus o
+minus_number None = refl
+minus_number (Some n) = refl
+
+plain_number : (o : Option ℕ) → number false o ≡ plain o
+plain_number None = refl
+plain_number (Some n) = refl
+
+behind_number : (bs : List ℕ) → number true (digits 0 bs) ≡ behind_minus bs
+unfolding digits
+behind_number [] = refl
+behind_number (d ∷ ds) = minus_number (digits 0 (d ∷ ds))
+
+same_single : (b : ℕ) (bs : List ℕ) → single (Letter b) bs ≡ alone b bs
+same_single b [] = refl
+same_single b (c ∷ cs) = refl
+
+when : (x y : Bool) (a b c d e f : Token) → a ≡ b → c ≡ d → e ≡ f → cond x a (cond y c e) ≡ cond x b (cond y d f)
+when true y a b c d e f p q r = p
+when false true a b c d e f p q r = q
+when false false a b c d e f p q r = r
+
+same_token : (w : List ℕ) → token_in w ≡ token w
+unfolding token
+same_token [] = refl
+same_token (b ∷ bs) = when (nat_eq b 45) (is_letter b) _ _ _ _ _ _ (behind_number bs) (same_single b bs) (plain_number (digits 0 (b ∷ bs)))
+
+-- LINES
+
+same_words : (n : ℕ) (ws : List (List ℕ)) → map token_in ws ≡ spoken (on_line n ws)
+same_words n [] = refl
+same_words n (w ∷ ws) = ap (λ (t : Token). t ∷ map token_in ws) (same_token w) ∙ ap (λ (ts : List Token). token w ∷ ts) (same_words n ws)
+
+spoken_append : (a b : List (ℕ × Token)) → spoken (a ++ b) ≡ spoken a ++ spoken b
+spoken_append [] b = refl
+spoken_append (t ∷ a) b = ap (λ (ts : List Token). t.1 ∷ ts) (spoken_append a b)
+
+spoken_cond : (x : Bool) (a b : List (ℕ × Token)) → spoken (cond x a b) ≡ cond x (spoken a) (spoken b)
+spoken_cond true a b = refl
+spoken_cond false a b = refl
+
+same_line : (x y z may : Bool) (n : ℕ) (line : List ℕ) (ts : List Token) (a b c : List Token) (d e f : List (ℕ × Token))
+    → a ≡ spoken d → b ≡ spoken e → c ≡ spoken f
+    → cond x [] (cond y a (cond z ((if may then header_in (words line) else Wrong) ∷ b) (map token_in (words line) ++ c)))
+    ≡ spoken (cond x [] (cond y d (cond z ((n, header_if may line) ∷ e) (on_line n (words line) ++ f))))
+same_line true y z may n line ts a b c d e f p q r = refl
+same_line false true z may n line ts a b c d e f p q r = p
+same_line false false true may n line ts a b c d e f p q r = ap (λ (xs : List Token). header_if may line ∷ xs) q
+same_line false false false may n line ts a b c d e f p q r =
+    ap (λ (xs : List Token). xs ++ c) (same_words n (words line)) ∙ ap (λ (xs : List Token). spoken (on_line n (words line)) ++ xs) r
+    ∙ sym (spoken_append (on_line n (words line)) f)
+
+same_lines : (may : Bool) (n : ℕ) (lines : List (List ℕ)) → tokens_in may lines ≡ spoken (tokens_of may n lines)
+unfolding tokens_of tokens_in
+same_lines may n [] = refl
+same_lines may n (line ∷ lines) =
+    same_line (begins_with 37 line) (begins_with 99 line) (begins_with 112 line) may (n + 1) line [] _ _ _ _ _ _
+    (same_lines may (n + 1) lines) (same_lines false (n + 1) lines) (same_lines (may && is_none (words line)) (n + 1) lines)
+
+same_tokens : (text : List ℕ) → tokens_in true (lines text) ≡ spoken (tokens text)
+unfolding scan
+same_tokens text = same_lines true 0 (lines text)
+
+-- COMMANDS
+
+abbrev hand_in : CommandHand → Option Command
+hand_in Nothing = None
+hand_in (Within kind ls) = Some (command_of kind ls)
+
+names_append : (ls : List Literal) (l : Literal) → names_of ls ++ l.name ∷ [] ≡ names_of (ls ++ l ∷ [])
+names_append [] l = refl
+names_append (k ∷ ls) l = ap (λ (ns : List ℕ). k.name ∷ ns) (names_append ls l)
+
+-- what is said behind a hand is the same
+abbrev Agree : (Option Command → Reading) → (CommandHand → Reading) → Type 0
+Agree short long = (h : CommandHand) → short (hand_in h) ≡ long h
+
+named_turn : (p : Bool) (command : Command) (kind : Kind) (ls : List Literal) (short : Option Command → Reading) (long : CommandHand → Reading)
+    → Agree short long → command ≡ command_of kind ls
+    → going_on (cond p (Some command) None) short ≡ behind_turn (cond p (GoesOn (Within kind ls)) Fails) long
+named_turn true command kind ls short long same e = ap (λ (c : Command). short (Some c)) e ∙ same (Within kind ls)
+named_turn false command kind ls short long same e = refl
+
+literal_turn : (h : CommandHand) (l : Literal) (short : Option Command → Reading) (long : CommandHand → Reading) → Agree short long
+    → going_on (with_literal l (unwrap_or (hand_in h) (Clause []))) short ≡ behind_turn (turn_with_literal h l) long
+literal_turn Nothing l short long same = same (Within OfClause (l ∷ []))
+literal_turn (Within OfClause ls) l short long same = same (Within OfClause (ls ++ l ∷ []))
+literal_turn (Within OfAsk ls) l short long same = same (Within OfAsk (ls ++ l ∷ []))
+literal_turn (Within OfHide ls) l short long same =
+    named_turn l.positive (Hide (names_of ls ++ l.name ∷ [])) OfHide (ls ++ l ∷ []) short long same (ap Hide (names_append ls l))
+literal_turn (Within OfWitness ls) l short long same =
+    named_turn l.positive (Witness (names_of ls ++ l.name ∷ [])) OfWitness (ls ++ l ∷ []) short long same (ap Witness (names_append ls l))
+literal_turn (Within OfSample ls) l short long same =
+    named_turn l.positive (Sample (names_of ls ++ l.name ∷ [])) OfSample (ls ++ l ∷ []) short long same (ap Sample (names_append ls l))
+
+ended : (h : CommandHand) (short : Option Command → Reading) (long : CommandHand → Reading) → Agree short long
+    → (unwrap_or (hand_in h) (Clause []) ∷ (short None).0, (short None).1) ≡ behind_turn (Ends (command_in h)) long
+ended Nothing short long same = ap (λ (r : Reading). (Clause [] ∷ r.0, r.1)) (same Nothing)
+ended (Within kind ls) short long same = ap (λ (r : Reading). (command_of kind ls ∷ r.0, r.1)) (same Nothing)
+
+number_turn : (x : Bool) (h : CommandHand) (l : Literal) (short : Option Command → Reading) (long : CommandHand → Reading) → Agree short long
+    → cond x (unwrap_or (hand_in h) (Clause []) ∷ (short None).0, (short None).1) (going_on (with_literal l (unwrap_or (hand_in h) (Clause []))) short)
+    ≡ behind_turn (cond x (Ends (command_in h)) (turn_with_literal h l)) long
+number_turn true h l short long same = ended h short long same
+number_turn false h l short long same = literal_turn h l short long same
+
+letter_turn : (a h w s : Bool) (short : Option Command → Reading) (long : CommandHand → Reading) → Agree short long
+    → going_on (cond a (Some (Ask [])) (cond h (Some (Hide [])) (cond w (Some (Witness [])) (cond s (Some (Sample [])) None)))) short
+    ≡ behind_turn (beginning (cond a (Some OfAsk) (cond h (Some OfHide) (cond w (Some OfWitness) (cond s (Some OfSample) None))))) long
+letter_turn true h w s short long same = same (Within OfAsk [])
+letter_turn false true w s short long same = same (Within OfHide [])
+letter_turn false false true s short long same = same (Within OfWitness [])
+letter_turn false false false true short long same = same (Within OfSample [])
+letter_turn false false false false short long same = refl
+
+same_commands : (ts : List Token) → Agree (λ h. spelled h ts) (λ h. commands_of h ts)
+unfolding commands_of spelled
+same_commands [] Nothing = refl
+same_commands [] (Within kind ls) = refl
+same_commands (Number negative n ∷ ts) Nothing =
+    number_turn (nat_eq n 0) Nothing (record { name = n; positive = not negative }) (λ h. spelled h ts) (λ h. commands_of h ts) (same_commands ts)
+same_commands (Number negative n ∷ ts) (Within kind ls) =
+    number_turn (nat_eq n 0) (Within kind ls) (record { name = n; positive = not negative }) (λ h. spelled h ts) (λ h. commands_of h ts) (same_commands ts)
+same_commands (Letter b ∷ ts) Nothing =
+    letter_turn (nat_eq b 97) (nat_eq b 104) (nat_eq b 119) (nat_eq b 115) (λ h. spelled h ts) (λ h. commands_of h ts) (same_commands ts)
+same_commands (Letter b ∷ ts) (Within kind ls) = refl
+same_commands (Header v c ∷ ts) Nothing = same_commands ts Nothing
+same_commands (Header v c ∷ ts) (Within kind ls) = same_commands ts (Within kind ls)
+same_commands (Wrong ∷ ts) Nothing = refl
+same_commands (Wrong ∷ ts) (Within kind ls) = refl
+
+same_header : (ts : List (ℕ × Token)) → is_headed (spoken ts) ≡ is_some (header_first ts)
+same_header [] = refl
+same_header ((n, Number negative value) ∷ ts) = refl
+same_header ((n, Letter b) ∷ ts) = refl
+same_header ((n, Header v c) ∷ ts) = refl
+same_header ((n, Wrong) ∷ ts) = refl
+
+says : (text : List ℕ) → script_in text ≡ reading text
+unfolding reading written
+says text =
+    ap (λ (ts : List Token). with_ask (is_headed ts) (spelled None ts)) (same_tokens text)
+    ∙ ap (λ (b : Bool). with_ask b (spelled None (spoken (tokens text)))) (same_header (tokens text))
+    ∙ ap (λ (r : Reading). with_ask (is_some (dimacs_header text)) r) (same_commands (spoken (tokens text)) Nothing)
+
+pub says_the_same : SaysTheSame
+says_the_same = says
+
+-- ANSWERS
+
+same_literals : (ls : List Literal) → literals_line ls ≡ literals_text ls
+same_literals [] = refl
+same_literals (l ∷ ls) = ap (λ (t : List ℕ). ((if l.positive then [] else 45 ∷ []) ++ decimal l.name) ++ 32 ∷ t) (same_literals ls)
+
+same_outcome : (o : Outcome) → outcome_lines o ≡ outcome_text o
+same_outcome (Sat line) = ap (λ (t : List ℕ). 115 ∷ 32 ∷ 83 ∷ 65 ∷ 84 ∷ 73 ∷ 83 ∷ 70 ∷ 73 ∷ 65 ∷ 66 ∷ 76 ∷ 69 ∷ 10 ∷ 118 ∷ 32 ∷ t) (same_literals line)
+same_outcome (Unsat core) = ap (λ (t : List ℕ). 115 ∷ 32 ∷ 85 ∷ 78 ∷ 83 ∷ 65 ∷ 84 ∷ 73 ∷ 83 ∷ 70 ∷ 73 ∷ 65 ∷ 66 ∷ 76 ∷ 69 ∷ 10 ∷ 102 ∷ 32 ∷ t) (same_literals core)
+same_outcome Unknown = refl
+
+same_refusal : (k : ℕ) (r : Refusal) → refusal_line k r ≡ refused_line k r
+same_refusal k PastLimit = refl
+same_refusal k (WitnessName name) = refl
+
+same_next : (k : ℕ) (r : Option Refusal) (command : Command) (os : List Outcome) (more : List Outcome → List ℕ) (long : List Outcome → List ℕ)
+    → ((os : List Outcome) → more os ≡ long os)
+    → command_lines k r command os more ≡ piece k r command os ++ long (outcomes_left r command os)
+same_next k (Some r) command os more long same = ap (λ (t : List ℕ). refusal_line k r ++ t) (same os) ∙ ap (λ (t : List ℕ). t ++ long os) (same_refusal k r)
+same_next k None (Ask ls) [] more long same = same []
+same_next k None (Ask ls) (o ∷ os) more long same = ap (λ (t : List ℕ). outcome_lines o ++ t) (same os) ∙ ap (λ (t : List ℕ). t ++ long os) (same_outcome o)
+same_next k None (Clause ls) os more long same = same os
+same_next k None (Hide names) os more long same = same os
+same_next k None (Witness names) os more long same = same os
+same_next k None (Sample names) os more long same = same os
+
+same_from : (k : ℕ) (j : Judge) (commands : List Command) (ending : ScriptEnding) (os : List Outcome) → lines_from k j commands ending os ≡ answers_from k j commands ending os
+same_from k j [] Clean os = refl
+same_from k j [] Malformed os = refl
+same_from k j (command ∷ commands) ending os =
+    same_next k (refusal_of j command) command os _ _ (λ os. same_from (k + 1) _ commands ending os)
+
+pub same_answers : SameAnswers
+same_answers commands ending outcomes = same_from 1 start commands ending outcomes

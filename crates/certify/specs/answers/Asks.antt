@@ -1,0 +1,25 @@
+-- The asks of a script, each with what it is put to, and when outcomes of them are right.
+use Rattle.std.specs.Prelude.{List, [], ◌∷◌, is_some, if◌then◌else◌}
+use Rattle.sat_base.specs.script.Script.{Literal, Command, Ask}
+use Rattle.sat_base.specs.script.Judge.{Judge, refusal_of, accepted, after_command}
+use Rattle.sat_checker.specs.matching.Expected.{Outcome}
+use Rattle.certify.specs.answers.RightAnswers.{IsRight}
+
+-- an ask that isn't refused: what commands left once its names came in, and its literals
+pub record Asked : Type 0 where
+  pub state : Judge
+  pub literals : List Literal
+
+-- the asks that aren't refused, in order
+abbrev pub asks_of : Judge → List Command → List Asked
+asks_of j [] = []
+asks_of j (Ask ls ∷ commands) =
+    if is_some (refusal_of j (Ask ls)) then asks_of j commands
+    else record { state = accepted (Ask ls) j; literals = ls } ∷ asks_of (accepted (Ask ls) j) commands
+asks_of j (command ∷ commands) = asks_of (after_command command j) commands
+
+-- one outcome for each ask, in order, and each is right
+abbrev pub EachIsRight : List Asked → List Outcome → Type 0
+EachIsRight [] [] = Unit {0}
+EachIsRight (a ∷ asks) (o ∷ outcomes) = IsRight a.state a.literals o × EachIsRight asks outcomes
+EachIsRight asks outcomes = ⊥

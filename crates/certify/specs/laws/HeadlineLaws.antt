@@ -1,0 +1,45 @@
+-- What the headline rests on: short definitions say the same as those that code is proved against, and what `certify_over` promises gives it.
+use Rattle.std.specs.Prelude.{ℕ, ◌≡◌, ◌↔◌, List}
+use Rattle.sat_base.specs.script.Script.{Command, ScriptEnding}
+use Rattle.sat_base.specs.script.Judge.{start}
+use Rattle.sat_base.specs.script.Language.{reading}
+use Rattle.sat_checker.specs.matching.Expected.{Outcome}
+use Rattle.certify.specs.answers.Answers.{answers_text}
+use Rattle.certify.specs.answers.RightAnswers.{AnswersAreRight}
+use Rattle.certify.specs.answers.ScriptText.{script_in}
+use Rattle.certify.specs.answers.AnswersText.{lines_from}
+use Rattle.certify.specs.answers.Asks.{asks_of, EachIsRight}
+use Rattle.certify.specs.confirm.VerdictPromises.{AreRightAnswers}
+use Rattle.certify.specs.run.FinishedRun.{asked_steps}
+use Rattle.certify.specs.laws.EndToEnd.{Certified}
+use Rattle.certify.specs.laws.Headline.{Headline}
+use Rattle.certify.specs.declared.summary.Summary.{Summary}
+use Rattle.certify.specs.declared.verdict.Verdict.{Verdict}
+
+-- a text says the same
+abbrev pub SaysTheSame : Type 0
+SaysTheSame = (text : List ℕ) → script_in text ≡ reading text
+
+-- answers have the same text
+abbrev pub SameAnswers : Type 0
+SameAnswers = (commands : List Command) (ending : ScriptEnding) (outcomes : List Outcome)
+    → lines_from 1 start commands ending outcomes ≡ answers_text commands ending outcomes
+
+-- outcomes are right of the asks that aren't refused just where they are of the commands that aren't
+abbrev pub RightByAsks : Type 0
+RightByAsks = (commands : List Command) (outcomes : List Outcome)
+    → AnswersAreRight commands outcomes ↔ EachIsRight (asks_of start commands) outcomes
+
+-- so right answers are the text of right outcomes
+abbrev pub RightByOutcomes : Type 0
+RightByOutcomes = (script answers : List ℕ)
+    → AreRightAnswers script answers
+    ↔ ((outcomes : List Outcome) × (answers ≡ answers_text (reading script).0 (reading script).1 outcomes) × AnswersAreRight (reading script).0 outcomes)
+
+-- what `certify_over` promises gives the headline
+abbrev pub CertifiedIsHeadline : Type 0
+CertifiedIsHeadline =
+    (script : List ℕ) (budget : ℕ) (claimed shown : List ℕ) (summary : Summary) (answers certificate : List ℕ)
+    (own other : Verdict) (before after : ℕ)
+    → Certified script budget claimed shown summary answers certificate own other before after
+    → Headline script budget (asked_steps summary.asks.items) answers certificate own claimed shown other before after

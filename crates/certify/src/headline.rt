@@ -1,0 +1,143 @@
+//! The headline over texts in memory: runs a script, confirms what was written, and confirms any other answers to it.
+ghost use Rattle.std.specs.Prelude.{◌≤◌, ◌+◌, IfOk, OnOk};
+ghost use Rattle.certify.specs.laws.EndToEnd.{Certified, VerdictSays, most_looks_over};
+ghost use Rattle.certify.specs.laws.Headline.{Headline};
+ghost use Rattle.certify.specs.run.FinishedRun.{Backs, asked_steps};
+
+use crate::confirm::confirm;
+use crate::fault::RunFault;
+use crate::run::run;
+use crate::summary::Summary;
+use crate::verdict::{ConfirmFault, Verdict};
+use sat_base::Counted;
+use sat_checker::Looks;
+use std::alloc::Global;
+
+/// What a finished run wrote.
+#[derive(Drop)]
+pub struct Written {
+    pub summary: Summary,
+    pub answers: Vec<u8>,
+    pub certificate: Vec<u8>,
+}
+
+/// What a finished run wrote, the verdict on it, and the verdict on other answers to the same script.
+#[derive(Drop)]
+pub struct Verdicts {
+    pub written: Written,
+    pub own: Verdict,
+    pub other: Verdict,
+}
+
+/// Why there are no verdicts.
+#[derive(Clone, Copy, Drop)]
+pub enum HeadlineFault {
+    Run(RunFault),
+    Confirm(ConfirmFault),
+}
+
+/// Answers a script.
+fn run_over(alloc: Global, script: &[u8], budget: u64) -> Result<Written, RunFault>
+    ensures { IfOk result (λ w. Backs script.now budget w.summary w.answers.items w.certificate.items) }
+{
+    let mut answers = Counted::new(Vec::new(alloc));
+    let mut certificate = Counted::new(Vec::new(alloc));
+    match run(
+        alloc,
+        &mut Counted::new(script),
+        &mut answers,
+        &mut certificate,
+        budget,
+    ) {
+        Ok(summary) => Ok(Written {
+            summary,
+            answers: answers.into_inner(),
+            certificate: certificate.into_inner(),
+        }),
+        Err(fault) => Err(fault),
+    }
+}
+
+/// Compares a script, answers and a certificate.
+fn confirm_over(
+    alloc: Global,
+    script: &[u8],
+    answers: &[u8],
+    certificate: &[u8],
+    looks: &mut Looks,
+) -> Result<Verdict, ConfirmFault>
+    ensures says { IfOk result (VerdictSays script.now answers.now certificate.now) }
+    ensures looks { looks.new ≤ looks.old + most_looks_over script.now answers.now certificate.now }
+{
+    let mut script = Counted::new(script);
+    let mut answers = Counted::new(answers);
+    let mut certificate = Counted::new(certificate);
+    confirm(alloc, &mut script, &mut answers, &mut certificate, looks)
+}
+
+/// Returns the verdict on what a run wrote, and the verdict on other answers to its script.
+fn verdicts_over(
+    alloc: Global,
+    script: &[u8],
+    written: &Written,
+    claimed: &[u8],
+    shown: &[u8],
+    looks: &mut Looks,
+) -> Result<(Verdict, Verdict), ConfirmFault>
+    ensures own { IfOk result (λ v. VerdictSays script.now written.now.answers.items written.now.certificate.items v.0) }
+    ensures other { IfOk result (λ v. VerdictSays script.now claimed.now shown.now v.1) }
+    ensures looks { OnOk result (looks.new ≤ looks.old
+        + most_looks_over script.now written.now.answers.items written.now.certificate.items
+        + most_looks_over script.now claimed.now shown.now) }
+{
+    let own = match confirm_over(alloc, script, &written.answers, &written.certificate, looks) {
+        Ok(own) => own,
+        Err(fault) => return Err(fault),
+    };
+    match confirm_over(alloc, script, claimed, shown, looks) {
+        Ok(other) => Ok((own, other)),
+        Err(fault) => Err(fault),
+    }
+}
+
+/// Answers a script, confirms what was written, and confirms other answers to it by another certificate.
+pub fn certify_over(
+    alloc: Global,
+    script: &[u8],
+    budget: u64,
+    claimed: &[u8],
+    shown: &[u8],
+    looks: &mut Looks,
+) -> Result<Verdicts, HeadlineFault>
+    ensures { IfOk result (λ v. Certified script.now budget claimed.now shown.now
+        v.written.summary v.written.answers.items v.written.certificate.items v.own v.other looks.old looks.new) }
+{
+    match run_over(alloc, script, budget) {
+        Ok(written) => match verdicts_over(alloc, script, &written, claimed, shown, looks) {
+            Ok((own, other)) => Ok(Verdicts {
+                written,
+                own,
+                other,
+            }),
+            Err(fault) => Err(HeadlineFault::Confirm(fault)),
+        },
+        Err(fault) => Err(HeadlineFault::Run(fault)),
+    }
+}
+
+/// Does what `certify_over` does, and promises it in the words of the headline.
+pub fn headline_over(
+    alloc: Global,
+    script: &[u8],
+    budget: u64,
+    claimed: &[u8],
+    shown: &[u8],
+    looks: &mut Looks,
+) -> Result<Verdicts, HeadlineFault>
+    // One answer for each accepted ask, right, and unknown only once its rounds are spent; a yes to what was written;
+    // right answers wherever a yes is said; and few looks.
+    ensures headline { IfOk result (λ v. Headline script.now budget (asked_steps v.written.summary.asks.items)
+        v.written.answers.items v.written.certificate.items v.own claimed.now shown.now v.other looks.old looks.new) }
+{
+    certify_over(alloc, script, budget, claimed, shown, looks)
+}
