@@ -16,9 +16,11 @@ use sat_base::CountedWrite;
 use sat_solver::{ProofFormat, Solver, SolverConfigUpdate};
 use std::alloc::Global;
 
-/// Rounds between reductions of the clauses of tier Local, a seventh of a solver's default: half as many clauses are
-/// watched.
-const REDUCE_LOCALS_INTERVAL: u64 = 2_000;
+/// Rounds between reductions of the clauses of tier Local, and of those of tier Mid. A solver's defaults are 15,000 and
+/// 10,000: with fewer rounds, fewer clauses are watched.
+const REDUCE_LOCALS_INTERVAL: u64 = 1_000;
+
+const REDUCE_MIDS_INTERVAL: u64 = 1_000;
 
 /// What a run holds between commands.
 #[derive(Drop)]
@@ -47,6 +49,7 @@ fn solver_into<C: CountedWrite + Drop>(alloc: Global, certificate: C) -> Solver<
     let mut solver = Solver::new(alloc);
     let mut update = SolverConfigUpdate::new();
     update.reduce_locals_interval = Some(REDUCE_LOCALS_INTERVAL);
+    update.reduce_mids_interval = Some(REDUCE_MIDS_INTERVAL);
     solver.config(&update).unwrap();
     solver
         .write_proof(certificate, ProofFormat::Varisat)
