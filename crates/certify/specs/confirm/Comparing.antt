@@ -9,7 +9,7 @@ use Rattle.sat_checker.specs.matching.Expected.{Outcome, Unsat, EachSpelt, Expec
 use Rattle.sat_checker.specs.matching.ProofChecking.{the_checking}
 use Rattle.certify.specs.confirm.Matches.{Excused}
 use Rattle.certify.specs.answers.AnswerForms.{named_literals}
-use Rattle.certify.specs.judge.Names.{used_in}
+use Rattle.certify.specs.judge.Names.{states_of, used_in}
 use Rattle.certify.specs.confirm.Variables.{variable_in}
 use Rattle.certify.specs.declared.confirm.expect.Expected.{Expected as CodeExpected}
 use Rattle.certify.specs.declared.confirm.expect.Expected.TheVariants as code
@@ -26,7 +26,7 @@ due_of (code.NewName v) = λ o ask. NewName (v + 1)
 due_of (code.NoName v) = λ o ask. NoName (v + 1)
 due_of (code.Clause ls) = λ o ask. Adds (named_literals ls.now)
 due_of (code.Ask ls) = λ o ask. Opens (named_literals ls.now) o
-due_of (code.Model names ls line) = λ o ask. Shows (used_in names.now.states.items) (named_literals ls.now) (named_literals line.now)
+due_of (code.Model names ls line) = λ o ask. Shows (used_in (states_of names.now)) (named_literals ls.now) (named_literals line.now)
 due_of (code.Core core) = λ o ask. Fails ask (named_literals core.now)
 due_of code.Close = λ o ask. Closes
 due_of code.End = λ o ask. Finish

@@ -1,10 +1,12 @@
 -- How a fold of names and modes stands for the judge's state.
-use Rattle.std.specs.Prelude.{ℕ, suc, zero, ◌+◌, ◌≤◌, ◌<◌, ◌≡◌, Bool, true, false, Option, Some, None, List, [], ◌∷◌, length, get_or, if◌then◌else◌}
+use Rattle.std.specs.Prelude.{ℕ, suc, zero, ◌+◌, ◌≤◌, ◌<◌, ◌≡◌, Bool, true, false, Option, Some, None, List, [], ◌∷◌, ◌++◌, length, get_or, if◌then◌else◌}
 use Rattle.std.specs.List.{AllByRecursion}
 use Rattle.sat_base.specs.values.Literals.{largest}
+use Rattle.sat_base.specs.values.Tables.{value_at}
+use Rattle.sat_base.specs.declared.table.Table.{Table}
 use Rattle.sat_base.specs.script.Script.{Command, names_of}
 use Rattle.certify.specs.answers.AnswerForms.{named_literals}
-use Rattle.sat_base.specs.script.Judge.{Judge, Mode, Sampled, Witnessed, identity_of, bring_in, without_name, with_mode, Refusal, PastLimit, WitnessName, refusal_of}
+use Rattle.sat_base.specs.script.Judge.{Judge, Mode, Sampled, Witnessed, identity_of, bring_in, new_names, without_name, with_mode, Refusal, PastLimit, WitnessName, refusal_of}
 use Rattle.sat_base.specs.script.Language.{Kind, OfClause, OfAsk, OfHide, OfWitness, OfSample}
 use Rattle.certify.specs.script.Commands.{IsLent}
 use Rattle.certify.specs.declared.script.Command.{Command as Lent}
@@ -29,11 +31,25 @@ abbrev pub state_of_identity : List Mode → Option ℕ → NameState
 state_of_identity modes None = state.Hidden
 state_of_identity modes (Some identity) = state_of_mode (get_or modes identity Sampled)
 
+-- the states of so many names, from name 1 on
+abbrev pub first_states : Table NameState → ℕ → List NameState
+first_states states zero = []
+first_states states (suc n) = first_states states n ++ value_at state.Sampled states n ∷ []
+
+-- the states of the names that were ever used
+abbrev pub states_of : Names → List NameState
+states_of names = first_states names.states names.used
+
+-- names that weren't are in no table
+abbrev pub AreFresh : Names → Type 0
+AreFresh names = (v : ℕ) → names.used ≤ v → value_at state.Sampled names.states v ≡ state.Sampled
+
 -- names and modes are the judge's, who was asked of names within the limit alone
 pub record NamesStand (names : Names) (j : Judge) : Type 0 where
-  pub first : j.first_unused ≡ length names.states.items + 1
+  pub first : j.first_unused ≡ names.used + 1
   pub limit : j.first_unused ≤ largest + 1
-  pub each : (name : ℕ) → state_of_identity j.modes (identity_of j name) ≡ state_in names.states.items name
+  pub each : (name : ℕ) → state_of_identity j.modes (identity_of j name) ≡ state_in (states_of names) name
+  pub fresh : AreFresh names
   -- each name in use has an identity of its own, which has a mode
   pub given : AllByRecursion (λ n. n.identity < j.next_identity) j.in_use
   pub modes : length j.modes ≡ j.next_identity
@@ -56,7 +72,7 @@ used_in states = used_from 1 states
 
 -- the literals of these codes are those of the names in use, in order
 abbrev pub ListsUsed : Names → List ℕ → Type 0
-ListsUsed names codes = names_of (named_literals codes) ≡ used_in names.states.items
+ListsUsed names codes = names_of (named_literals codes) ≡ used_in (states_of names)
 
 -- the judge's refusal, whose names are counted from 1
 abbrev pub refusal_in : CodeRefusal → Refusal
@@ -83,15 +99,19 @@ is_witnessed state.Hidden = false
 is_witnessed state.Sampled = false
 is_witnessed state.Witnessed = true
 
--- the judge's mode for a name in use; one that isn't counts as sampled
-abbrev pub mode_of_state : NameState → Mode
-mode_of_state state.Hidden = Sampled
-mode_of_state state.Sampled = Sampled
-mode_of_state state.Witnessed = Witnessed
-
 -- the name stands for a variable now
 abbrev pub IsInUse : Names → ℕ → Type 0
-IsInUse names name = state_in names.states.items name ≡ state.Hidden → ⊥
+IsInUse names name = state_in (states_of names) name ≡ state.Hidden → ⊥
+
+-- a name that a command brings in stands for a variable then, where names are a judge's
+abbrev pub ComesInUse : (old new : Names) → ℕ → Type 0
+ComesInUse old new name = (j : Judge) → NamesStand old j → IsInUse new name
+
+-- a name in use gets another state
+abbrev pub changed_to : NameState → ℕ → Judge → Judge
+changed_to state.Hidden name j = without_name name j
+changed_to state.Sampled name j = with_mode Sampled name j
+changed_to state.Witnessed name j = with_mode Witnessed name j
 
 -- what a command of a kind makes of one of its names, which is in use
 abbrev pub changed : Kind → ℕ → Judge → Judge
@@ -108,3 +128,16 @@ taken kind name j = changed kind name (bring_in name j)
 -- a change of the judge's state
 abbrev pub Changes : Names → Names → (Judge → Judge) → Type 0
 Changes old new change = (j : Judge) → NamesStand old j → NamesStand new (change j)
+
+-- does a command of this kind only bring names in?
+abbrev pub is_of_literals : Kind → Bool
+is_of_literals OfClause = true
+is_of_literals OfAsk = true
+is_of_literals OfHide = false
+is_of_literals OfWitness = false
+is_of_literals OfSample = false
+
+-- none of these names comes in, and a command of this kind does no more with them
+pub record BringsNothing (kind : Kind) (list : List ℕ) (names : Names) : Type 0 where
+  pub of_literals : is_of_literals kind ≡ true
+  pub known : (j : Judge) → NamesStand names j → AllByRecursion (λ name. new_names name j ≡ []) list

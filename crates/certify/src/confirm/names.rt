@@ -113,6 +113,9 @@ impl Matching {
             (MeetsNames (kind_of kind) (names_of (named_literals literals.now)) self.old.names
             self.old.certificate.names self.new.certificate.names) }
     {
+        if self.names.are_known(kind, literals) {
+            return Ok(());
+        }
         for lit in literals {
             self.take_name(steps, kind, lit.var())?;
         }

@@ -1,23 +1,27 @@
 //! The names in use, and their modes.
-ghost use Rattle.std.specs.Prelude.{◌≡◌, ◌+◌, ◌<◌, ◌≤◌, List, None, false, OnOk, length};
+ghost use Rattle.std.specs.Prelude.{◌≡◌, ◌+◌, ◌<◌, ◌≤◌, List, None, false, true, OnOk};
 ghost use Rattle.std.specs.Bool.{MatchBool};
 ghost use Rattle.sat_base.specs.values.Literals.{largest};
 ghost use Rattle.sat_base.specs.script.Script.{Command as Spelled, Literal, names_of};
 ghost use Rattle.sat_base.specs.script.Judge.{Judge, accepted, bring_in, names_from, new_names, refused_literal, start};
-ghost use Rattle.sat_base.specs.script.Judge.{with_mode, without_name};
 ghost use Rattle.certify.specs.script.Commands.{IsFront, IsLent, kind_of};
-ghost use Rattle.certify.specs.judge.Names.{Changes, IsInUse, ListsUsed, changed, TellsRefusal, NamesStand};
-ghost use Rattle.certify.specs.judge.Names.{is_witnessed, limit_refusal, mode_of_state, refusal_said, state_in, taken};
+ghost use Rattle.certify.specs.answers.AnswerForms.{named_literals};
+ghost use Rattle.certify.specs.judge.Names.{BringsNothing, Changes, ComesInUse, IsInUse, ListsUsed, NamesStand, TellsRefusal};
+ghost use Rattle.certify.specs.judge.Names.{changed, changed_to, is_of_literals, is_witnessed, limit_refusal, refusal_said};
+ghost use Rattle.certify.specs.judge.Names.{state_in, states_of, taken};
 
 use super::{NameState, Refusal};
 use crate::script::{Command, CommandKind};
-use sat_base::{Lit, Var};
+use sat_base::{Lit, Table, Var};
 use std::alloc::{AllocError, Global};
 
-/// The state of each name up to the highest that was ever used, from name 1: one byte a name.
+/// The names that were ever used, and their states. Names that no command hid or gave a mode take no memory.
 #[derive(Drop)]
 pub struct Names {
-    states: Vec<NameState>,
+    /// All names up to this one were used.
+    used: usize,
+    /// The states of names that a command hid or gave a mode, from name 1 on. The others are sampled.
+    states: Table<NameState>,
 }
 
 /// New names: so many, from the name of this index.
@@ -38,30 +42,44 @@ fn limit_refusal(past_limit: bool) -> Option<Refusal>
     }
 }
 
+/// Whether it is a clause or an ask, which only introduces names.
+fn is_of_literals(kind: CommandKind) -> bool
+    ensures { result ≡ is_of_literals (kind_of kind) }
+{
+    match kind {
+        CommandKind::Clause => true,
+        CommandKind::Ask => true,
+        CommandKind::Hide => false,
+        CommandKind::Witness => false,
+        CommandKind::Sample => false,
+    }
+}
+
 impl Names {
     /// Before the first command.
     pub fn new(alloc: Global) -> Names
         ensures { NamesStand result start }
     {
         Names {
-            states: Vec::new(alloc),
+            used: 0,
+            states: Table::new(alloc),
         }
     }
 
     /// The state of a name. One that was never used counts as hidden.
     fn state(&self, var: Var) -> NameState
-        ensures { result ≡ state_in self.now.states.items (var + 1) }
+        ensures { result ≡ state_in (states_of self.now) (var + 1) }
     {
         let index = var.index();
-        if index < self.states.len() {
-            return self.states[index];
+        if index < self.used {
+            return self.states.get(index, NameState::Sampled);
         }
         NameState::Hidden
     }
 
     /// Whether the name is in use, and of mode witness.
     fn is_witness(&self, var: Var) -> bool
-        ensures witness { result ≡ is_witnessed (state_in self.now.states.items (var + 1)) }
+        ensures witness { result ≡ is_witnessed (state_in (states_of self.now) (var + 1)) }
         ensures bound { var < largest }
     {
         match self.state(var) {
@@ -69,6 +87,31 @@ impl Names {
             NameState::Sampled => false,
             NameState::Hidden => false,
         }
+    }
+
+    /// Whether the name is in use.
+    fn is_in_use(&self, var: Var) -> bool
+        ensures { result ≡ true → IsInUse self.now (var + 1) }
+    {
+        if let NameState::Hidden = self.state(var) {
+            return false;
+        }
+        true
+    }
+
+    /// Whether this is a clause or an ask over names in use: such a command introduces no name, and changes none.
+    pub(crate) fn are_known(&self, kind: CommandKind, literals: &[Lit]) -> bool
+        ensures { result ≡ true → BringsNothing (kind_of kind) (names_of (named_literals literals.now)) self.now }
+    {
+        if !is_of_literals(kind) {
+            return false;
+        }
+        for lit in literals {
+            if !self.is_in_use(lit.var()) {
+                return false;
+            }
+        }
+        true
     }
 
     /// Why a clause or an ask is refused, if it is.
@@ -108,14 +151,13 @@ impl Names {
         ensures within { result.first + result.count ≤ largest }
     {
         let index = var.index();
-        let used = self.states.len();
-        if index >= used {
+        if index >= self.used {
             return NewNames {
-                first: used,
-                count: index + 1 - used,
+                first: self.used,
+                count: index + 1 - self.used,
             };
         }
-        match self.states[index] {
+        match self.states.get(index, NameState::Sampled) {
             NameState::Hidden => NewNames {
                 first: index,
                 count: 1,
@@ -136,8 +178,8 @@ impl Names {
         ensures { MatchBool result (ListsUsed self.now line.now) (ListsUsed self.now line.now → ⊥) }
     {
         let mut at = 0;
-        for index in 0..self.states.len() {
-            if let NameState::Hidden = self.states[index] {
+        for index in 0..self.used {
+            if let NameState::Hidden = self.states.get(index, NameState::Sampled) {
                 continue;
             }
             if at >= line.len() {
@@ -152,66 +194,52 @@ impl Names {
     }
 
     /// All names from the first never used up to this one become new variables.
-    fn grow(&mut self, index: usize) -> Result<(), AllocError>
-        requires fresh { length self.old.states.items < index + 1 }
+    fn grow(&mut self, index: usize)
+        requires fresh { self.old.used ≤ index }
         requires within { index < largest }
-        ensures changes { OnOk result (Changes self.old self.new (bring_in (index + 1))) }
-        ensures in_use { OnOk result (IsInUse self.new (index + 1)) }
+        ensures changes { Changes self.old self.new (bring_in (index + 1)) }
+        ensures in_use { ComesInUse self.old self.new (index + 1) }
     {
-        for next in self.states.len()..index + 1 {
-            self.states.push(NameState::Sampled)?;
-        }
-        Ok(())
+        self.used = index + 1;
     }
 
     /// Brings the name in, and with one that was never used all those below it that weren't.
-    pub fn bring_in(&mut self, var: Var) -> Result<(), AllocError>
-        ensures changes { OnOk result (Changes self.old self.new (bring_in (var + 1))) }
-        ensures in_use { OnOk result (IsInUse self.new (var + 1)) }
+    pub fn bring_in(&mut self, var: Var)
+        ensures changes { Changes self.old self.new (bring_in (var + 1)) }
+        ensures in_use { ComesInUse self.old self.new (var + 1) }
     {
         let index = var.index();
-        if index >= self.states.len() {
-            return self.grow(index);
+        if index >= self.used {
+            self.grow(index);
+            return;
         }
-        if let NameState::Hidden = self.states[index] {
-            self.states[index] = NameState::Sampled;
-        }
-        Ok(())
-    }
-
-    /// The name is no longer in use.
-    fn hide(&mut self, var: Var)
-        ensures { Changes self.old self.new (without_name (var + 1)) }
-    {
-        let index = var.index();
-        if index < self.states.len() {
-            self.states[index] = NameState::Hidden;
+        if let NameState::Hidden = self.states.get(index, NameState::Sampled) {
+            self.states.reset(index, NameState::Sampled);
         }
     }
 
-    /// Sets the mode of a name in use.
-    fn set_mode(&mut self, var: Var, mode: NameState)
-        requires in_use { IsInUse self.old (var + 1) }
-        requires mode { mode ≡ NameState.Hidden → ⊥ }
-        ensures { Changes self.old self.new (with_mode (mode_of_state mode) (var + 1)) }
+    /// Sets the state of a name that was used.
+    fn set_state(&mut self, var: Var, state: NameState) -> Result<(), AllocError>
+        ensures { OnOk result (IsInUse self.old (var + 1) → Changes self.old self.new (changed_to state (var + 1))) }
     {
         let index = var.index();
-        if index < self.states.len() {
-            self.states[index] = mode;
+        if index >= self.used {
+            return Ok(());
         }
+        self.states.set(index, state, NameState::Sampled)
     }
 
     /// What a command of this kind, which isn't refused, makes of a name that is in use.
-    fn change(&mut self, kind: CommandKind, var: Var)
-        requires { IsInUse self.old (var + 1) }
-        ensures { Changes self.old self.new (changed (kind_of kind) (var + 1)) }
+    fn change(&mut self, kind: CommandKind, var: Var) -> Result<(), AllocError>
+        ensures { OnOk result (IsInUse self.old (var + 1)
+            → Changes self.old self.new (changed (kind_of kind) (var + 1))) }
     {
         match kind {
-            CommandKind::Clause => {}
-            CommandKind::Ask => {}
-            CommandKind::Hide => self.hide(var),
-            CommandKind::Witness => self.set_mode(var, NameState::Witnessed),
-            CommandKind::Sample => self.set_mode(var, NameState::Sampled),
+            CommandKind::Clause => Ok(()),
+            CommandKind::Ask => Ok(()),
+            CommandKind::Hide => self.set_state(var, NameState::Hidden),
+            CommandKind::Witness => self.set_state(var, NameState::Witnessed),
+            CommandKind::Sample => self.set_state(var, NameState::Sampled),
         }
     }
 
@@ -219,9 +247,8 @@ impl Names {
     pub fn take(&mut self, kind: CommandKind, var: Var) -> Result<(), AllocError>
         ensures { OnOk result (Changes self.old self.new (taken (kind_of kind) (var + 1))) }
     {
-        self.bring_in(var)?;
-        self.change(kind, var);
-        Ok(())
+        self.bring_in(var);
+        self.change(kind, var)
     }
 
     /// What a command that isn't refused makes of all its names.
@@ -230,6 +257,9 @@ impl Names {
         ensures { OnOk result ((j : Judge) (c : Spelled) → NamesStand self.old j → IsLent command.entry c
             → NamesStand self.new (accepted c j)) }
     {
+        if self.are_known(command.kind, command.literals) {
+            return Ok(());
+        }
         for lit in command.literals {
             self.take(command.kind, lit.var())?;
         }

@@ -148,7 +148,7 @@ naming_is OfSample ls j = names_are_expected.samples (names_of ls) j
 
 -- names and modes don't depend on clauses
 with_clauses : (names : Names) (ls : List Literal) (j : Judge) → NamesStand names j → NamesStand names (with_clause ls j)
-with_clauses names ls j h = record { first = h.first; limit = h.limit; each = h.each; given = h.given; modes = h.modes; apart = h.apart }
+with_clauses names ls j h = record { first = h.first; limit = h.limit; each = h.each; fresh = h.fresh; given = h.given; modes = h.modes; apart = h.apart }
 
 -- what its names leave
 left_is : (kind : Kind) (ls : List Literal) (j : Judge) (names : Names) → NamesStand names (taken_by kind (names_of ls) j) → NamesStand names (accepted (command_of kind ls) j)

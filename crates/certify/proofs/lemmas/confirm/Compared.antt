@@ -10,7 +10,7 @@ use Rattle.sat_checker.specs.matching.Expected.{NewName, NoName, Adds, Opens, Sh
 use Rattle.sat_checker.specs.matching.ProofChecking.{the_checking}
 use Rattle.certify.specs.answers.AnswerForms.{named_literals}
 use Rattle.certify.specs.confirm.SpeltLiterals.{AllAmong}
-use Rattle.certify.specs.judge.Names.{used_in}
+use Rattle.certify.specs.judge.Names.{states_of, used_in}
 use Rattle.certify.specs.confirm.Variables.{variable_in}
 use Rattle.certify.specs.confirm.Comparing.{AreKnown, Compares, ComparesLine}
 use Rattle.certify.specs.declared.confirm.expect.Known.{Known}
@@ -85,20 +85,20 @@ line_told known step line codes shown why r is e told = subst (ComparesLine know
 
 -- where the line is no line
 pub model_unlisted : (known : Known) (step : Step) (names : Names) (ask line : List ℕ) (why : Why)
-    → ((names_of (named_literals line) ≡ used_in names.states.items) × AllAmong ask line → ⊥)
-    → Compares (λ o _. Shows (used_in names.states.items) (named_literals ask) (named_literals line)) known step (Some why)
+    → ((names_of (named_literals line) ≡ used_in (states_of names)) × AllAmong ask line → ⊥)
+    → Compares (λ o _. Shows (used_in (states_of names)) (named_literals ask) (named_literals line)) known step (Some why)
 model_unlisted known step names ask line why none earlier k o _ f =
-    let p = (fits_shows the_checking earlier (used_in names.states.items) (named_literals ask) (named_literals line) step).0 f in
+    let p = (fits_shows the_checking earlier (used_in (states_of names)) (named_literals ask) (named_literals line) step).0 f in
     none (p.2, named_each ask line p.4)
 
 pub model_told : (known : Known) (step : Step) (names : Names) (ask line : List ℕ) (r : Option Why)
-    → (names_of (named_literals line) ≡ used_in names.states.items) → AllAmong ask line → ComparesLine known line step r
-    → Compares (λ o _. Shows (used_in names.states.items) (named_literals ask) (named_literals line)) known step r
+    → (names_of (named_literals line) ≡ used_in (states_of names)) → AllAmong ask line → ComparesLine known line step r
+    → Compares (λ o _. Shows (used_in (states_of names)) (named_literals ask) (named_literals line)) known step r
 model_told known step names ask line None listed has c = λ earlier k o _.
-    (fits_shows the_checking earlier (used_in names.states.items) (named_literals ask) (named_literals line) step).1
+    (fits_shows the_checking earlier (used_in (states_of names)) (named_literals ask) (named_literals line) step).1
     (c.0, c.1, listed, subst (λ (f : ℕ → Option ℕ). EachSpelt f (named_literals line) c.0) (sym k.named) c.2, each_named ask line has)
 model_told known step names ask line (Some why) listed has c = λ earlier k o _ f.
-    let p = (fits_shows the_checking earlier (used_in names.states.items) (named_literals ask) (named_literals line) step).0 f in
+    let p = (fits_shows the_checking earlier (used_in (states_of names)) (named_literals ask) (named_literals line) step).0 f in
     c p.0 p.1 (subst (λ (f : ℕ → Option ℕ). EachSpelt f (named_literals line) p.0) k.named p.3)
 
 pub close_fits : (known : Known) (step : Step) (codes : List ℕ) → step ≡ Assumptions codes → codes ≡ [] → Compares (λ o ask. Closes) known step None

@@ -1,7 +1,7 @@
 -- Names' variables as they are put and taken, and names' literals.
 use Rattle.std.proofs.Common.{ℕ, zero, suc, ◌+◌, ◌<◌, ◌≡◌, Bool, true, false, cond, eqb, List, [], ◌∷◌, Option, None, length, get_or, refl, sym, ◌∙◌, ap, arith, inl, inr}
 use Rattle.std.proofs.lemmas.List.{length-map}
-use Rattle.std.proofs.lemmas.Bool.{eqb-true, eqb-false, eq-eqb, ne_eqb}
+use Rattle.std.proofs.lemmas.Bool.{ne_eqb}
 use Rattle.std.proofs.lemmas.Bool.Decides.{nat_tests}
 use Rattle.sat_base.specs.values.Tables.{value_at}
 use Rattle.sat_base.specs.values.Literals.{variable, is_positive}
@@ -10,13 +10,7 @@ use Rattle.certify.specs.answers.AnswerForms.{named_literal, named_literals}
 use Rattle.certify.specs.confirm.SpeltLiterals.{AllAmong, HasEach}
 use Rattle.certify.specs.confirm.Variables.{variable_in, PutsVariable}
 use Rattle.certify.specs.declared.confirm.variables.NamedVars.{NamedVars}
-
-same_place : (i place name : ℕ) → place + 1 ≡ name → eqb i place ≡ eqb name (suc i)
-same_place i place name n = go (eqb i place) refl
-  where
-    go : (b : Bool) → eqb i place ≡ b → b ≡ eqb name (suc i)
-    go true e = let q = eqb-true i place e in sym (eq-eqb name (suc i) (omega arith))
-    go false e = sym (ne_eqb name (suc i) (λ x. eqb-false i place e (omega arith)))
+use Rattle.certify.proofs.lemmas.judge.States.{same_place}
 
 -- a name is put at the place before its number
 pub put_at : (old new : NamedVars) (place name : ℕ) (value : Option ℕ) → place + 1 ≡ name → ((v : ℕ) → value_at None new.variables v ≡ cond (eqb v place) value (value_at None old.variables v)) → PutsVariable old new name value

@@ -1,21 +1,24 @@
 -- How all names of a command are met.
-use Rattle.std.proofs.Common.{ℕ, ◌+◌, ◌≤◌, ◌<◌, ◌≡◌, List, [], ◌∷◌, ◌++◌, length, get_or, take, drop, Ok, Err, refl, sym, ◌∙◌, ap, subst, append_assoc}
+use Rattle.std.proofs.Common.{ℕ, ◌+◌, ◌≤◌, ◌<◌, ◌≡◌, true, map, List, [], ◌∷◌, ◌++◌, length, get_or, take, drop, Ok, Err, refl, sym, ◌∙◌, ap, subst, append_assoc}
 use Rattle.std.proofs.lemmas.List.{append-nil, take_more, take_all, take-append-drop}
+use Rattle.std.proofs.lemmas.Bool.{true≢false}
+use Rattle.std.specs.List.{AllByRecursion}
 use Rattle.sat_base.specs.device.Reading.{AtEnd}
 use Rattle.sat_base.specs.script.Script.{names_of}
-use Rattle.sat_base.specs.script.Judge.{Judge}
+use Rattle.sat_base.specs.script.Judge.{Judge, new_names}
 use Rattle.sat_base.specs.values.Literals.{variable}
-use Rattle.sat_checker.specs.matching.Expected.{Expected}
+use Rattle.sat_checker.specs.matching.Expected.{Expected, NewName}
 use Rattle.certify.specs.answers.AnswerForms.{named_literals}
 use Rattle.certify.specs.confirm.Streams.{Stream, seen_in, Confirms}
-use Rattle.certify.specs.judge.Names.{NamesStand, Changes, taken}
+use Rattle.certify.specs.judge.Names.{BringsNothing, NamesStand, Changes, is_of_literals, taken}
 use Rattle.certify.specs.confirm.Naming.{MeetsAll, MeetsName, MeetsNames, expected_naming, naming_all, taken_by}
-use Rattle.sat_base.specs.script.Language.{Kind}
+use Rattle.sat_base.specs.script.Language.{Kind, OfClause, OfAsk, OfHide, OfWitness, OfSample}
 use Rattle.certify.specs.declared.confirm.stop.Stop.{Stop}
 use Rattle.certify.specs.declared.judge.names.Names.{Names}
 use Rattle.certify.specs.declared.confirm.variables.NamedVars.{NamedVars}
 use Rattle.certify.proofs.lemmas.confirm.Streams.{confirms_none, confirms_then, then_stop}
 use Rattle.certify.proofs.lemmas.confirm.Naming.{both, first_barred, nothing}
+use Rattle.certify.proofs.lemmas.judge.Taken.{untaken}
 
 naming_append : (kind : Kind) (xs ys : List ℕ) (j : Judge) → naming_all kind (xs ++ ys) j ≡ naming_all kind xs j ++ naming_all kind ys (taken_by kind xs j)
 naming_append kind [] ys j = refl
@@ -85,3 +88,28 @@ module _ (kind : Kind) (codes : List ℕ) (i code v : ℕ) (first now : Names) (
 
 pub all_met : (kind : Kind) (codes : List ℕ) (i : ℕ) (names : Names) (before after : NamedVars) (a b : Stream) → length codes ≤ i → Confirms (Ok tt) a b (MeetsNames kind (listed (take i codes)) names before after) → Confirms (Ok tt) a b (MeetsNames kind (listed codes) names before after)
 all_met kind codes i names before after a b over p = subst (λ (xs : List ℕ). Confirms (Ok tt) a b (MeetsNames kind (listed xs) names before after)) (take_all i codes over) p
+
+-- NAMES IN USE
+unmoved : (kind : Kind) (list : List ℕ) (j : Judge) → is_of_literals kind ≡ true → AllByRecursion (λ name. new_names name j ≡ []) list → taken_by kind list j ≡ j
+unmoved kind [] j k h = refl
+unmoved kind (name ∷ list) j k h = ap (taken_by kind list) (untaken kind name j k h.0) ∙ unmoved kind list j k h.1
+
+unnamed : (kind : Kind) (name : ℕ) (j : Judge) → is_of_literals kind ≡ true → new_names name j ≡ [] → expected_naming kind name j ≡ []
+unnamed OfClause name j k e = ap (λ (ns : List ℕ). map NewName ns ++ []) e
+unnamed OfAsk name j k e = ap (λ (ns : List ℕ). map NewName ns ++ []) e
+unnamed OfHide name j k e = absurd (true≢false (sym k))
+unnamed OfWitness name j k e = absurd (true≢false (sym k))
+unnamed OfSample name j k e = absurd (true≢false (sym k))
+
+unnamed_all : (kind : Kind) (list : List ℕ) (j : Judge) → is_of_literals kind ≡ true → AllByRecursion (λ name. new_names name j ≡ []) list → naming_all kind list j ≡ []
+unnamed_all kind [] j k h = refl
+unnamed_all kind (name ∷ list) j k h =
+    ap (λ (es : List Expected). es ++ naming_all kind list (taken kind name j)) (unnamed kind name j k h.0)
+    ∙ ap (naming_all kind list) (untaken kind name j k h.0) ∙ unnamed_all kind list j k h.1
+
+pub known_taken : (kind : Kind) (codes : List ℕ) (names : Names) → BringsNothing kind (listed codes) names → Changes names names (taken_by kind (listed codes))
+known_taken kind codes names b j h = subst (NamesStand names) (sym (unmoved kind (listed codes) j b.of_literals (b.known j h))) h
+
+pub known_met : (kind : Kind) (codes : List ℕ) (names : Names) (vars : NamedVars) (a : Stream) → BringsNothing kind (listed codes) names → Confirms (Ok tt) a a (MeetsNames kind (listed codes) names vars vars)
+known_met kind codes names vars a b = confirms_none tt a (MeetsNames kind (listed codes) names vars vars)
+    (λ total j h. subst (λ (es : List Expected). MeetsAll es vars vars (seen_in total a) (seen_in total a) (Ok tt)) (sym (unnamed_all kind (listed codes) j b.of_literals (b.known j h))) (nothing vars (seen_in total a)))

@@ -13,7 +13,7 @@ use Rattle.certify.specs.answers.AnswerForms.{IsInForm, named_literals}
 use Rattle.certify.specs.confirm.Lines.{TakesDueLine}
 use Rattle.certify.specs.confirm.Streams.{Stream, Confirms, seen_in}
 use Rattle.certify.specs.confirm.Views.{View}
-use Rattle.certify.specs.judge.Names.{Changes, TellsRefusal, NamesStand, refusal_in, used_in}
+use Rattle.certify.specs.judge.Names.{states_of, Changes, TellsRefusal, NamesStand, refusal_in, used_in}
 use Rattle.certify.specs.confirm.Awaiting.{MeetsDue}
 use Rattle.certify.specs.confirm.Comparing.{MayStayUnmet, Due}
 use Rattle.certify.specs.confirm.Confirming.{ConfirmsAnswer, ConfirmsContent, ConfirmsLast, ConfirmsNext, MeetsCommandNames, MeetsContent, MeetsOutcome, MeetsShown, Table, ToConfirm}
@@ -49,9 +49,9 @@ expects_one due o ask free before after r s t p = confirms_so r s t (MeetsDue du
 -- WHAT SHOWS AN OUTCOME
 
 module _ (names : Names) (ask line : List Literal) (before after : NamedVars) (r : Result (Unit {0}) Stop) (s t : Stream) where
-  pub shows_model : Confirms r s t (MeetsDue (λ o under. Shows (used_in names.states.items) ask line) before after) → Confirms r s t (MeetsShown names ask (Sat line) before after)
-  shows_model p = confirms_so r s t (MeetsDue (λ o under. Shows (used_in names.states.items) ask line) before after) (MeetsShown names ask (Sat line) before after)
-      (λ total y m j h up. subst (λ (used : List ℕ). MeetsAll (Shows used ask line ∷ []) before after (seen_in total s) (seen_in total t) y) (sym (used_names names j h up)) (at_ask (λ o under. Shows (used_in names.states.items) ask line) Unknown [] tt before after (seen_in total s) (seen_in total t) y m)) p
+  pub shows_model : Confirms r s t (MeetsDue (λ o under. Shows (used_in (states_of names)) ask line) before after) → Confirms r s t (MeetsShown names ask (Sat line) before after)
+  shows_model p = confirms_so r s t (MeetsDue (λ o under. Shows (used_in (states_of names)) ask line) before after) (MeetsShown names ask (Sat line) before after)
+      (λ total y m j h up. subst (λ (used : List ℕ). MeetsAll (Shows used ask line ∷ []) before after (seen_in total s) (seen_in total t) y) (sym (used_names names j h up)) (at_ask (λ o under. Shows (used_in (states_of names)) ask line) Unknown [] tt before after (seen_in total s) (seen_in total t) y m)) p
 
   pub shows_core : Confirms r s t (MeetsDue (λ o under. Fails under line) before after) → Confirms r s t (MeetsShown names ask (Unsat line) before after)
   shows_core p = confirms_so r s t (MeetsDue (λ o under. Fails under line) before after) (MeetsShown names ask (Unsat line) before after)

@@ -6,7 +6,8 @@ use Rattle.sat_base.specs.values.Literals.{largest}
 use Rattle.sat_base.specs.script.Script.{Literal, names_of}
 use Rattle.sat_base.specs.script.Judge.{Judge, Named, Mode, Sampled, Witnessed, identity_in, identity_of}
 use Rattle.certify.specs.answers.AnswerForms.{HaveNames, NamesRise}
-use Rattle.certify.specs.judge.Names.{NamesStand, is_hidden, state_of_mode, state_of_identity, used_from, used_in}
+use Rattle.certify.specs.judge.Names.{states_of, NamesStand, is_hidden, state_of_mode, state_of_identity, used_from, used_in}
+use Rattle.certify.proofs.lemmas.judge.States.{states_length}
 use Rattle.sat_base.specs.script.JudgeLaws.{NamesIncrease}
 use Rattle.certify.specs.declared.judge.NameState.{NameState}
 use Rattle.certify.specs.declared.judge.NameState.TheVariants as state
@@ -98,10 +99,10 @@ all_above : (ns : List Named) → Above 0 ns
 all_above [] = tt
 all_above (n ∷ ns) = (omega arith, all_above ns)
 
-pub used_names : (names : Names) (j : Judge) → NamesStand names j → NamesIncrease j.in_use → map (λ n. n.name) j.in_use ≡ used_in names.states.items
-used_names names j h up = same_from (state.Hidden ∷ names.states.items) 0 j.in_use up (all_above j.in_use) agree
+pub used_names : (names : Names) (j : Judge) → NamesStand names j → NamesIncrease j.in_use → map (λ n. n.name) j.in_use ≡ used_in (states_of names)
+used_names names j h up = same_from (state.Hidden ∷ (states_of names)) 0 j.in_use up (all_above j.in_use) agree
   where
-    agree : Agree 0 j.in_use (state.Hidden ∷ names.states.items)
+    agree : Agree 0 j.in_use (state.Hidden ∷ (states_of names))
     agree zero = shown_identity j.modes (identity_of j zero) ∙ ap (λ (s : NameState). not (is_hidden s)) (h.each zero)
     agree (suc i) = let e : 0 + suc i ≡ suc i = omega arith in ap (λ (m : ℕ). is_some (identity_in j.in_use m)) e ∙ shown_identity j.modes (identity_of j (suc i)) ∙ ap (λ (s : NameState). not (is_hidden s)) (h.each (suc i))
 
@@ -138,7 +139,8 @@ have_names : (line : List Literal) (bound : ℕ) → bound ≤ largest → Betwe
 have_names [] bound low h = tt
 have_names (l ∷ ls) bound low h = let a = h.0.0 in let b = h.0.1 in ((omega arith, omega arith), have_names ls bound low h.1)
 
-pub line_form : (names : Names) (line : List Literal) → length names.states.items ≤ largest → names_of line ≡ used_in names.states.items → HaveNames line × NamesRise (names_of line)
+pub line_form : (names : Names) (line : List Literal) → names.used ≤ largest → names_of line ≡ used_in (states_of names) → HaveNames line × NamesRise (names_of line)
 line_form names line low e =
-    let ss = names.states.items in
-    (have_names line (length ss) low (subst (Between 1 (1 + length ss)) (sym e) (used_between ss 1)), subst NamesRise (sym e) (used_rise ss 1))
+    let ss = states_of names in
+    let l = states_length names.states names.used in
+    (have_names line (length ss) (omega arith) (subst (Between 1 (1 + length ss)) (sym e) (used_between ss 1)), subst NamesRise (sym e) (used_rise ss 1))

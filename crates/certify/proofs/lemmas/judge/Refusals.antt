@@ -12,7 +12,7 @@ use Rattle.certify.specs.script.Commands.{kind_of, BeginsPast, IsFront}
 use Rattle.certify.specs.declared.script.Command.{Command as Lent}
 use Rattle.certify.specs.declared.judge.Refusal.{Refusal as CodeRefusal}
 use Rattle.certify.specs.declared.judge.names.Names.{Names}
-use Rattle.certify.specs.judge.Names.{state_in, state_of_mode, state_of_identity, NamesStand, is_witnessed, limit_refusal, refusal_said, TellsRefusal}
+use Rattle.certify.specs.judge.Names.{states_of, state_in, state_of_mode, state_of_identity, NamesStand, is_witnessed, limit_refusal, refusal_said, TellsRefusal}
 
 witness_at : (j : Judge) (o : Option ℕ) → has_witness j o ≡ is_witnessed (state_of_identity j.modes o)
 witness_at j None = refl
@@ -22,7 +22,7 @@ witness_at j (Some i) = go (get_or j.modes i Sampled)
     go Sampled = refl
     go Witnessed = refl
 
-pub witness_is : (names : Names) (j : Judge) (name : ℕ) → NamesStand names j → has_witness j (identity_of j name) ≡ is_witnessed (state_in names.states.items name)
+pub witness_is : (names : Names) (j : Judge) (name : ℕ) → NamesStand names j → has_witness j (identity_of j name) ≡ is_witnessed (state_in (states_of names) name)
 witness_is names j name h = witness_at j (identity_of j name) ∙ ap is_witnessed (h.each name)
 
 within : (name : ℕ) → name ≤ largest → ltb largest name ≡ false
@@ -35,11 +35,11 @@ within name h = go (ltb largest name) refl
 -- the next literal decides, or those behind it
 refused_next : (names : Names) (j : Judge) (code : ℕ) (codes : List ℕ) (tail : List Literal) → NamesStand names j → variable code < largest
     → refused_literal j (names_of (named_literals (code ∷ codes) ++ tail))
-    ≡ cond (is_witnessed (state_in names.states.items (variable code + 1))) (Some (WitnessName (variable code + 1))) (refused_literal j (names_of (named_literals codes ++ tail)))
+    ≡ cond (is_witnessed (state_in (states_of names) (variable code + 1))) (Some (WitnessName (variable code + 1))) (refused_literal j (names_of (named_literals codes ++ tail)))
 refused_next names j code codes tail h low = rw (within (variable code + 1) (omega arith), witness_is names j (variable code + 1) h) refl
 
 pub refused_at : (names : Names) (j : Judge) (codes : List ℕ) (tail : List Literal) (k code : ℕ) (b : Bool) → NamesStand names j → k < length codes → code ≡ get_or codes k code → variable code < largest
-    → is_witnessed (state_in names.states.items (variable code + 1)) ≡ b
+    → is_witnessed (state_in (states_of names) (variable code + 1)) ≡ b
     → refused_literal j (names_of (named_literals (drop k codes) ++ tail)) ≡ cond b (Some (WitnessName (variable code + 1))) (refused_literal j (names_of (named_literals (drop (k + 1) codes) ++ tail)))
 refused_at names j codes tail k code b h within at low e =
     let more : k + 1 ≡ suc k = omega arith in

@@ -3,7 +3,7 @@ use Rattle.std.proofs.Common.{ℕ, zero, suc, ◌+◌, ◌-◌, ◌≤◌, ◌<�
 use Rattle.std.proofs.Math.ListN.{length-set, get_or-append}
 use Rattle.std.proofs.Math.Seq.{get_or-append_seam}
 use Rattle.std.proofs.lemmas.List.{length-append, get_or-set_same, get_or-set_other}
-use Rattle.std.proofs.lemmas.Bool.{eqb-true, eqb-false, ne_eqb, ltb-true, ltb-false}
+use Rattle.std.proofs.lemmas.Bool.{eqb-true, eqb-false, eq-eqb, ne_eqb, ltb-true, ltb-false}
 use Rattle.sat_base.specs.values.Literals.{largest}
 use Rattle.sat_base.specs.script.Judge.{Judge, Named, Mode, Sampled, Witnessed, identity_of, or_zero, with_name, with_names, names_from, new_names, bring_in, without_name, with_mode}
 use Rattle.sat_base.proofs.lemmas.script.LiteralValues.{all_map, placed_found, removed_found, removed_gone}
@@ -11,7 +11,9 @@ use Rattle.sat_base.proofs.lemmas.script.JudgeStates.{placed_all, filtered_all, 
 use Rattle.certify.specs.declared.judge.NameState.{NameState}
 use Rattle.certify.specs.declared.judge.NameState.TheVariants as state
 use Rattle.certify.specs.declared.judge.names.Names.{Names}
-use Rattle.certify.specs.judge.Names.{state_in, state_of_mode, mode_of_state, state_of_identity, NamesStand}
+use Rattle.sat_base.specs.values.Tables.{value_at, SetsValue}
+use Rattle.sat_base.specs.declared.table.Table.{Table}
+use Rattle.certify.specs.judge.Names.{AreFresh, Changes, IsInUse, changed_to, first_states, state_in, state_of_mode, state_of_identity, states_of, NamesStand}
 
 none_some : {i : ℕ} → (let o : Option ℕ = None in o) ≡ Some i → ⊥
 none_some e = cc
@@ -44,14 +46,73 @@ pushed_at xs s (suc i) = go (eqb (length xs + 1) (suc i)) refl (ltb i (length xs
         let far : length xs < i = omega arith in
         past_end (xs ++ s ∷ []) i (omega (arith, length-append xs (s ∷ []))) ∙ sym (past_end xs i (omega arith))
 
--- another at its place
-pub set_at : (xs : List NameState) (index : ℕ) (s : NameState) (m : ℕ) → index < length xs → state_in (set xs index s) m ≡ cond (eqb (index + 1) m) s (state_in xs m)
-set_at xs index s zero h = let e : eqb (index + 1) zero ≡ false = ne_eqb (index + 1) zero (λ x. omega arith) in rw e refl
-set_at xs index s (suc i) h = go (eqb (index + 1) (suc i)) refl
+-- FROM A TABLE
+pub states_length : (t : Table NameState) (n : ℕ) → length (first_states t n) ≡ n
+states_length t zero = refl
+states_length t (suc n) = let l = states_length t n in let k = length-append (first_states t n) (value_at state.Sampled t n ∷ []) in omega arith
+
+pub past_used : (names : Names) (name : ℕ) → names.used < name → state_in (states_of names) name ≡ state.Hidden
+past_used names name h = let l = states_length names.states names.used in past_states (states_of names) name (omega arith)
+
+pub got : (t : Table NameState) (n i : ℕ) → i < n → state_in (first_states t n) (suc i) ≡ value_at state.Sampled t i
+got t zero i h = absurd (omega arith)
+got t (suc n) i h = pushed_at (first_states t n) (value_at state.Sampled t n) (suc i) ∙ go (eqb (length (first_states t n) + 1) (suc i)) refl (λ low. got t n i low)
   where
-    go : (b : Bool) → eqb (index + 1) (suc i) ≡ b → get_or (set xs index s) i state.Hidden ≡ cond b s (get_or xs i state.Hidden)
-    go true e = let here : i ≡ index = let y = eqb-true (index + 1) (suc i) e in omega arith in ap (λ (k : ℕ). get_or (set xs index s) k state.Hidden) here ∙ get_or-set_same xs index s state.Hidden h
-    go false e = get_or-set_other xs index i s state.Hidden (λ q. eqb-false (index + 1) (suc i) e (omega arith))
+    below : (b : Bool) → ltb i n ≡ b → (length (first_states t n) + 1 ≡ suc i → ⊥) → length (first_states t n) ≡ n → i < n
+    below true y x l = ltb-true i n y
+    below false y x l = let z = ltb-false i n y in absurd (x (omega arith))
+
+    go : (b : Bool) → eqb (length (first_states t n) + 1) (suc i) ≡ b → (i < n → state_in (first_states t n) (suc i) ≡ value_at state.Sampled t i)
+        → cond b (value_at state.Sampled t n) (state_in (first_states t n) (suc i)) ≡ value_at state.Sampled t i
+    go true e earlier = let l = states_length t n in let x = eqb-true (length (first_states t n) + 1) (suc i) e in let same : n ≡ i = omega arith in ap (value_at state.Sampled t) same
+    go false e earlier = earlier (below (ltb i n) refl (eqb-false (length (first_states t n) + 1) (suc i) e) (states_length t n))
+
+-- the state of a name that was used
+pub got_at : (names : Names) (index name : ℕ) (s : NameState) → index < names.used → index + 1 ≡ name → s ≡ value_at state.Sampled names.states index → state_in (states_of names) name ≡ s
+got_at names index name s low n e = let m : name ≡ suc index = omega arith in ap (state_in (states_of names)) m ∙ got names.states names.used index low ∙ sym e
+
+-- it is in use if it isn't hidden
+pub in_use_at : (names : Names) (index name : ℕ) (s : NameState) → index < names.used → index + 1 ≡ name → s ≡ value_at state.Sampled names.states index → (s ≡ state.Hidden → ⊥) → IsInUse names name
+in_use_at names index name s low n e shown h = shown (sym (got_at names index name s low n e) ∙ h)
+
+any_default : (xs : List NameState) (i : ℕ) (a b : NameState) → i < length xs → get_or xs i a ≡ get_or xs i b
+any_default [] i a b h = absurd (omega arith)
+any_default (x ∷ xs) zero a b h = refl
+any_default (x ∷ xs) (suc i) a b h = any_default xs i a b (omega arith)
+
+-- as an item of the list
+pub item_at : (names : Names) (index : ℕ) (s : NameState) → index < names.used → s ≡ value_at state.Sampled names.states index → s ≡ get_or (states_of names) index s
+item_at names index s low e =
+    let l = states_length names.states names.used in
+    e ∙ sym (got names.states names.used index low) ∙ any_default (states_of names) index state.Hidden s (omega arith)
+
+-- places are counted from 0, names from 1
+pub same_place : (i place name : ℕ) → place + 1 ≡ name → eqb i place ≡ eqb name (suc i)
+same_place i place name n = go (eqb i place) refl
+  where
+    go : (b : Bool) → eqb i place ≡ b → b ≡ eqb name (suc i)
+    go true e = let q = eqb-true i place e in sym (eq-eqb name (suc i) (omega arith))
+    go false e = sym (ne_eqb name (suc i) (λ x. eqb-false i place e (omega arith)))
+
+module _ (old new : Names) (index name : ℕ) (s : NameState) (low : index < old.used) (is : index + 1 ≡ name) (same : new.used ≡ old.used) (sets : SetsValue state.Sampled old.states new.states index s) where
+  -- another at its place
+  pub set_at : (m : ℕ) → state_in (states_of new) m ≡ cond (eqb name m) s (state_in (states_of old) m)
+  set_at zero = let e : eqb name zero ≡ false = ne_eqb name zero (λ x. omega arith) in rw e refl
+  set_at (suc i) = go (ltb i old.used) refl
+    where
+      go : (b : Bool) → ltb i old.used ≡ b → state_in (states_of new) (suc i) ≡ cond (eqb name (suc i)) s (state_in (states_of old) (suc i))
+      go true e =
+          let below : i < old.used = ltb-true i old.used e in
+          got new.states new.used i (omega arith) ∙ sets i
+          ∙ ap (λ (b : Bool). cond b s (value_at state.Sampled old.states i)) (same_place i index name is)
+          ∙ ap (λ (t : NameState). cond (eqb name (suc i)) s t) (sym (got old.states old.used i below))
+      go false e =
+          let past = ltb-false i old.used e in
+          let differ : eqb name (suc i) ≡ false = ne_eqb name (suc i) (λ x. omega arith) in
+          past_used new (suc i) (omega arith) ∙ sym (past_used old (suc i) (omega arith)) ∙ ap (λ (b : Bool). cond b s (state_in (states_of old) (suc i))) (sym differ)
+
+  pub set_fresh : AreFresh old → AreFresh new
+  set_fresh h v past = sets v ∙ ap (λ (b : Bool). cond b s (value_at state.Sampled old.states v)) (ne_eqb v index (λ x. omega arith)) ∙ h v (omega arith)
 
 -- WHAT A STATE SAYS
 some_used : (modes : List Mode) (i : ℕ) → state_of_identity modes (Some i) ≡ state.Hidden → ⊥
@@ -62,7 +123,7 @@ some_used modes i e = go (get_or modes i Sampled) e
     go Witnessed e = cc
 
 -- a hidden name has no identity
-pub hidden_none : (names : Names) (j : Judge) (name : ℕ) → NamesStand names j → state_in names.states.items name ≡ state.Hidden → identity_of j name ≡ None
+pub hidden_none : (names : Names) (j : Judge) (name : ℕ) → NamesStand names j → state_in (states_of names) name ≡ state.Hidden → identity_of j name ≡ None
 hidden_none names j name h e = go (identity_of j name) refl
   where
     go : (o : Option ℕ) → identity_of j name ≡ o → o ≡ None
@@ -70,7 +131,7 @@ hidden_none names j name h e = go (identity_of j name) refl
     go (Some i) x = absurd (some_used j.modes i (ap (state_of_identity j.modes) (sym x) ∙ h.each name ∙ e))
 
 -- another has one
-pub used_some : (names : Names) (j : Judge) (name : ℕ) → NamesStand names j → (state_in names.states.items name ≡ state.Hidden → ⊥) → (i : ℕ) × (identity_of j name ≡ Some i)
+pub used_some : (names : Names) (j : Judge) (name : ℕ) → NamesStand names j → (state_in (states_of names) name ≡ state.Hidden → ⊥) → (i : ℕ) × (identity_of j name ≡ Some i)
 used_some names j name h u = go (identity_of j name) refl
   where
     go : (o : Option ℕ) → identity_of j name ≡ o → (i : ℕ) × (identity_of j name ≡ Some i)
@@ -82,10 +143,10 @@ named_state : (j : Judge) (o : Option ℕ) → ((i : ℕ) → o ≡ Some i → i
 named_state j None h = refl
 named_state j (Some i) h = ap state_of_mode (get_or-append j.modes (Sampled ∷ []) Sampled i (h i refl))
 
-pub named : (old new : Names) (j : Judge) (name : ℕ) → NamesStand old j → state_in old.states.items name ≡ state.Hidden → 1 ≤ name → name ≤ largest → name ≤ j.first_unused
-    → length new.states.items ≡ max (length old.states.items) name
-    → ((m : ℕ) → state_in new.states.items m ≡ cond (eqb name m) state.Sampled (state_in old.states.items m)) → NamesStand new (with_name name j)
-named old new j name h hidden low high next longer states =
+pub named : (old new : Names) (j : Judge) (name : ℕ) → NamesStand old j → state_in (states_of old) name ≡ state.Hidden → 1 ≤ name → name ≤ largest → name ≤ j.first_unused
+    → new.used ≡ max old.used name → AreFresh new
+    → ((m : ℕ) → state_in (states_of new) m ≡ cond (eqb name m) state.Sampled (state_in (states_of old) m)) → NamesStand new (with_name name j)
+named old new j name h hidden low high next longer fresh states =
     let n : Named = record { name = name; identity = j.next_identity } in
     let f = h.first in
     let l = h.limit in
@@ -95,12 +156,13 @@ named old new j name h hidden low high next longer states =
       first = omega arith;
       limit = omega arith;
       each = λ m. ap (state_of_identity (j.modes ++ Sampled ∷ [])) (found m) ∙ at m (eqb name m) ∙ sym (states m);
+      fresh = fresh;
       given = placed_all (λ k. k.identity < j.next_identity + 1) n j.in_use (omega arith) (all_map (λ k. k.identity < j.next_identity) (λ k. k.identity < j.next_identity + 1) j.in_use (λ k x. omega arith) h.given);
       modes = length-append j.modes (Sampled ∷ []) ∙ ap (λ k. k + 1) h.modes;
       apart = λ m k i x y. alone m k i (eqb name m) refl (eqb name k) refl (sym (found m) ∙ x) (sym (found k) ∙ y);
     }
   where
-    at : (m : ℕ) (b : Bool) → state_of_identity (j.modes ++ Sampled ∷ []) (cond b (Some j.next_identity) (identity_of j m)) ≡ cond b state.Sampled (state_in old.states.items m)
+    at : (m : ℕ) (b : Bool) → state_of_identity (j.modes ++ Sampled ∷ []) (cond b (Some j.next_identity) (identity_of j m)) ≡ cond b state.Sampled (state_in (states_of old) m)
     at m true = ap (λ (k : ℕ). state_of_mode (get_or (j.modes ++ Sampled ∷ []) k Sampled)) (sym h.modes) ∙ ap state_of_mode (get_or-append_seam j.modes Sampled [] Sampled)
     at m false = named_state j (identity_of j m) (λ i e. let x = given_at j.in_use m i j.next_identity h.given e in let y = h.modes in omega arith) ∙ h.each m
 
@@ -111,9 +173,10 @@ named old new j name h hidden low high next longer states =
     alone m k i false e false g x y = h.apart m k i x y
 
 -- A NAME HIDDEN
-pub hidden : (old new : Names) (j : Judge) (name : ℕ) → NamesStand old j → length new.states.items ≡ length old.states.items
-    → ((m : ℕ) → state_in new.states.items m ≡ cond (eqb name m) state.Hidden (state_in old.states.items m)) → NamesStand new (without_name name j)
-hidden old new j name h same states = record {
+pub hidden : (old new : Names) (j : Judge) (name : ℕ) → NamesStand old j → new.used ≡ old.used → AreFresh new
+    → ((m : ℕ) → state_in (states_of new) m ≡ cond (eqb name m) state.Hidden (state_in (states_of old) m)) → NamesStand new (without_name name j)
+hidden old new j name h same fresh states = record {
+  fresh = fresh;
   first = let f = h.first in omega arith;
   limit = h.limit;
   each = λ m. at m (eqb name m) refl ∙ sym (states m);
@@ -122,7 +185,7 @@ hidden old new j name h same states = record {
   apart = λ m k i x y. h.apart m k i (still m i x) (still k i y);
 }
   where
-    at : (m : ℕ) (b : Bool) → eqb name m ≡ b → state_of_identity j.modes (identity_of (without_name name j) m) ≡ cond b state.Hidden (state_in old.states.items m)
+    at : (m : ℕ) (b : Bool) → eqb name m ≡ b → state_of_identity j.modes (identity_of (without_name name j) m) ≡ cond b state.Hidden (state_in (states_of old) m)
     at m true e = ap (λ (k : ℕ). state_of_identity j.modes (identity_of (without_name name j) k)) (sym (eqb-true name m e)) ∙ ap (state_of_identity j.modes) (removed_gone name j.in_use)
     at m false e = ap (state_of_identity j.modes) (removed_found name j.in_use m (λ q. eqb-false name m e (sym q))) ∙ h.each m
 
@@ -134,23 +197,24 @@ hidden old new j name h same states = record {
         go false e = sym (removed_found name j.in_use m (λ q. eqb-false name m e (sym q))) ∙ x
 
 -- A MODE SET
-pub moded : (old new : Names) (j : Judge) (mode : Mode) (name : ℕ) → NamesStand old j → (state_in old.states.items name ≡ state.Hidden → ⊥) → length new.states.items ≡ length old.states.items
-    → ((m : ℕ) → state_in new.states.items m ≡ cond (eqb name m) (state_of_mode mode) (state_in old.states.items m)) → NamesStand new (with_mode mode name j)
-moded old new j mode name h used same states =
+pub moded : (old new : Names) (j : Judge) (mode : Mode) (name : ℕ) → NamesStand old j → (state_in (states_of old) name ≡ state.Hidden → ⊥) → new.used ≡ old.used → AreFresh new
+    → ((m : ℕ) → state_in (states_of new) m ≡ cond (eqb name m) (state_of_mode mode) (state_in (states_of old) m)) → NamesStand new (with_mode mode name j)
+moded old new j mode name h used same fresh states =
     let u = used_some old j name h used in
     let at_name : or_zero (identity_of j name) ≡ u.0 = ap or_zero u.1 in
     record {
       first = let f = h.first in omega arith;
       limit = h.limit;
       each = λ m. at m (identity_of j m) refl (eqb name m) refl ∙ sym (states m);
+      fresh = fresh;
       given = h.given;
       modes = length-set j.modes (or_zero (identity_of j name)) mode ∙ h.modes;
       apart = h.apart;
     }
   where
     at : (m : ℕ) (o : Option ℕ) → identity_of j m ≡ o → (b : Bool) → eqb name m ≡ b
-        → state_of_identity (set j.modes (or_zero (identity_of j name)) mode) (identity_of j m) ≡ cond b (state_of_mode mode) (state_in old.states.items m)
-    at m None x true e = absurd (used (ap (state_in old.states.items) (eqb-true name m e) ∙ sym (h.each m) ∙ ap (state_of_identity j.modes) x))
+        → state_of_identity (set j.modes (or_zero (identity_of j name)) mode) (identity_of j m) ≡ cond b (state_of_mode mode) (state_in (states_of old) m)
+    at m None x true e = absurd (used (ap (state_in (states_of old)) (eqb-true name m e) ∙ sym (h.each m) ∙ ap (state_of_identity j.modes) x))
     at m None x false e = ap (state_of_identity (set j.modes (or_zero (identity_of j name)) mode)) x ∙ sym (ap (state_of_identity j.modes) x) ∙ h.each m
     at m (Some i) x true e =
         let here : or_zero (identity_of j name) ≡ i = ap (λ (k : ℕ). or_zero (identity_of j k)) (eqb-true name m e) ∙ ap or_zero x in
@@ -182,58 +246,54 @@ below_at j name b low e = go (ltb name j.first_unused) refl
     go true x = rw e refl
     go false x = let y = ltb-false name j.first_unused x in absurd (omega arith)
 
-pub new_hidden : (names : Names) (j : Judge) (name : ℕ) → NamesStand names j → name < j.first_unused → state_in names.states.items name ≡ state.Hidden → new_names name j ≡ name ∷ []
+pub new_hidden : (names : Names) (j : Judge) (name : ℕ) → NamesStand names j → name < j.first_unused → state_in (states_of names) name ≡ state.Hidden → new_names name j ≡ name ∷ []
 new_hidden names j name h low e = below_at j name false low (ap is_some (hidden_none names j name h e))
+
+-- a name in use doesn't come in again
+pub new_used : (names : Names) (j : Judge) (name : ℕ) → NamesStand names j → (state_in (states_of names) name ≡ state.Hidden → ⊥) → new_names name j ≡ []
+new_used names j name h u = below_at j name true (low (ltb names.used name) refl) (ap is_some (used_some names j name h u).1)
+  where
+    low : (b : Bool) → ltb names.used name ≡ b → name < j.first_unused
+    low true e = absurd (u (past_used names name (ltb-true names.used name e)))
+    low false e = let f = h.first in let x = ltb-false names.used name e in omega arith
+
+-- so bringing it in changes nothing
+pub stays : (names : Names) (name : ℕ) → IsInUse names name → Changes names names (bring_in name)
+stays names name u j h = subst (λ (ns : List ℕ). NamesStand names (with_names ns j)) (sym (new_used names j name h u)) h
+
+pub witnessed_used : (s : NameState) → s ≡ state.Witnessed → s ≡ state.Hidden → ⊥
+witnessed_used s e h = cc
 
 pub sampled_used : (s : NameState) → s ≡ state.Sampled → s ≡ state.Hidden → ⊥
 sampled_used s e h = cc
 
 -- BY INDEX
-at_index : (xs ys : List NameState) (index name : ℕ) (s : NameState) → index < length xs → index + 1 ≡ name → ys ≡ set xs index s
-    → (length ys ≡ length xs) × ((m : ℕ) → state_in ys m ≡ cond (eqb name m) s (state_in xs m))
-at_index xs ys index name s low n e = (
-  ap (λ (zs : List NameState). length zs) e ∙ length-set xs index s,
-  λ m. ap (λ (zs : List NameState). state_in zs m) e ∙ set_at xs index s m low ∙ ap (λ (k : ℕ). cond (eqb k m) s (state_in xs m)) n,
-)
+pub hide_at : (old new : Names) (j : Judge) (index name : ℕ) → NamesStand old j → index < old.used → index + 1 ≡ name → new.used ≡ old.used → SetsValue state.Sampled old.states new.states index state.Hidden → NamesStand new (without_name name j)
+hide_at old new j index name h low n same sets = hidden old new j name h same (set_fresh old new index name state.Hidden low n same sets h.fresh) (set_at old new index name state.Hidden low n same sets)
 
-pub hide_at : (old new : Names) (j : Judge) (index name : ℕ) → NamesStand old j → index < length old.states.items → index + 1 ≡ name → new.states.items ≡ set old.states.items index state.Hidden → NamesStand new (without_name name j)
-hide_at old new j index name h low n e =
-    let a = at_index old.states.items new.states.items index name state.Hidden low n e in
-    hidden old new j name h a.0 a.1
+mode_at : (old new : Names) (j : Judge) (mode : Mode) (index name : ℕ) → NamesStand old j → index < old.used → index + 1 ≡ name → new.used ≡ old.used → SetsValue state.Sampled old.states new.states index (state_of_mode mode)
+    → (state_in (states_of old) name ≡ state.Hidden → ⊥) → NamesStand new (with_mode mode name j)
+mode_at old new j mode index name h low n same sets used =
+    moded old new j mode name h used same (set_fresh old new index name (state_of_mode mode) low n same sets h.fresh) (set_at old new index name (state_of_mode mode) low n same sets)
 
-pub hide_past : (names : Names) (j : Judge) (name : ℕ) → NamesStand names j → length names.states.items < name → NamesStand names (without_name name j)
-hide_past names j name h past = hidden names names j name h refl same
-  where
-    same : (m : ℕ) → state_in names.states.items m ≡ cond (eqb name m) state.Hidden (state_in names.states.items m)
-    same m = go (eqb name m) refl
-      where
-        go : (b : Bool) → eqb name m ≡ b → state_in names.states.items m ≡ cond b state.Hidden (state_in names.states.items m)
-        go true e = ap (state_in names.states.items) (sym (eqb-true name m e)) ∙ past_states names.states.items name past
-        go false e = refl
-
-mode_back : (s : NameState) → (s ≡ state.Hidden → ⊥) → state_of_mode (mode_of_state s) ≡ s
-mode_back state.Hidden u = absurd (u refl)
-mode_back state.Sampled u = refl
-mode_back state.Witnessed u = refl
-
-pub mode_at : (old new : Names) (j : Judge) (s : NameState) (index name : ℕ) → NamesStand old j → index < length old.states.items → index + 1 ≡ name → new.states.items ≡ set old.states.items index s
-    → (state_in old.states.items name ≡ state.Hidden → ⊥) → (s ≡ state.Hidden → ⊥) → NamesStand new (with_mode (mode_of_state s) name j)
-mode_at old new j s index name h low n e used u =
-    let a = at_index old.states.items new.states.items index name s low n e in
-    moded old new j (mode_of_state s) name h used a.0 (λ m. a.1 m ∙ ap (λ (t : NameState). cond (eqb name m) t (state_in old.states.items m)) (sym (mode_back s u)))
+-- a name in use gets a state
+pub state_set : (old new : Names) (s : NameState) (index name : ℕ) → index < old.used → index + 1 ≡ name → new.used ≡ old.used → SetsValue state.Sampled old.states new.states index s
+    → IsInUse old name → Changes old new (changed_to s name)
+state_set old new state.Hidden index name low n same sets used j h = hide_at old new j index name h low n same sets
+state_set old new state.Sampled index name low n same sets used j h = mode_at old new j Sampled index name h low n same sets used
+state_set old new state.Witnessed index name low n same sets used j h = mode_at old new j Witnessed index name h low n same sets used
 
 -- a hidden name is used again
-pub again_at : (old new : Names) (j : Judge) (index name : ℕ) → NamesStand old j → index < length old.states.items → index + 1 ≡ name → index < largest → new.states.items ≡ set old.states.items index state.Sampled
-    → state_in old.states.items name ≡ state.Hidden → NamesStand new (bring_in name j)
-again_at old new j index name h low n within e hidden_yet =
-    let a = at_index old.states.items new.states.items index name state.Sampled low n e in
+pub again_at : (old new : Names) (j : Judge) (index name : ℕ) → NamesStand old j → index < old.used → index + 1 ≡ name → index < largest → new.used ≡ old.used → SetsValue state.Sampled old.states new.states index state.Sampled
+    → state_in (states_of old) name ≡ state.Hidden → NamesStand new (bring_in name j)
+again_at old new j index name h low n within same sets hidden_yet =
     let f = h.first in
-    let longer : length new.states.items ≡ max (length old.states.items) name = let l = a.0 in omega arith in
-    let b : NamesStand new (with_name name j) = named old new j name h hidden_yet (omega arith) (omega arith) (omega arith) longer a.1 in
+    let longer : new.used ≡ max old.used name = omega arith in
+    let b : NamesStand new (with_name name j) = named old new j name h hidden_yet (omega arith) (omega arith) (omega arith) longer (set_fresh old new index name state.Sampled low n same sets h.fresh) (set_at old new index name state.Sampled low n same sets) in
     subst (λ (ns : List ℕ). NamesStand new (with_names ns j)) (sym (new_hidden old j name h (omega arith) hidden_yet)) b
 
-pub state_next : (xs : List NameState) (index : ℕ) (s : NameState) → s ≡ get_or xs index s → s ≡ state.Hidden → state_in xs (index + 1) ≡ state.Hidden
-state_next xs index s at e =
-    let n : index + 1 ≡ suc index = omega arith in
-    let h : get_or xs index state.Hidden ≡ state.Hidden = sym (subst (λ (t : NameState). t ≡ get_or xs index t) e at) in
-    rw n h
+-- which is in use then
+pub again_used : (old new : Names) (index name : ℕ) → index < old.used → index + 1 ≡ name → new.used ≡ old.used → SetsValue state.Sampled old.states new.states index state.Sampled → IsInUse new name
+again_used old new index name low n same sets e =
+    let here : eqb name name ≡ true = eq-eqb name name refl in
+    sampled_used _ (set_at old new index name state.Sampled low n same sets name ∙ ap (λ (b : Bool). cond b state.Sampled (state_in (states_of old) name)) here) e

@@ -1,49 +1,69 @@
 -- What a command makes of names and modes, name by name.
-use Rattle.std.proofs.Common.{ℕ, suc, drop, drop-cons, get_or, ◌+◌, ◌-◌, ◌≤◌, ◌<◌, ◌≡◌, max, Bool, false, cond, eqb, List, [], ◌∷◌, ◌++◌, length, refl, sym, ◌∙◌, ap, subst, arith}
+use Rattle.std.proofs.Common.{ℕ, zero, suc, drop, drop-cons, get_or, ◌+◌, ◌-◌, ◌≤◌, ◌<◌, ◌≡◌, max, Bool, true, false, cond, eqb, List, [], ◌∷◌, ◌++◌, length, refl, sym, ◌∙◌, ap, subst, arith}
 use Rattle.std.proofs.lemmas.List.{append-nil, drop_all, length-append}
+use Rattle.std.proofs.lemmas.Bool.{true≢false}
+use Rattle.std.specs.List.{AllByRecursion}
 use Rattle.sat_base.specs.values.Literals.{largest, variable}
 use Rattle.sat_base.specs.script.Script.{Literal, names_of}
-use Rattle.sat_base.specs.script.Judge.{Judge, Sampled, Witnessed, with_name, with_names, names_from, bring_in, bring_all, hide_all, set_all, with_clause, accepted}
+use Rattle.sat_base.specs.script.Judge.{Judge, Sampled, Witnessed, with_name, with_names, names_from, bring_in, bring_all, hide_all, set_all, with_clause, accepted, new_names}
 use Rattle.certify.specs.declared.judge.NameState.{NameState}
 use Rattle.certify.specs.declared.judge.NameState.TheVariants as state
 use Rattle.certify.specs.declared.judge.names.Names.{Names}
 use Rattle.certify.specs.answers.AnswerForms.{named_literals}
 use Rattle.certify.specs.script.Commands.{BeginsPast, IsFront}
 use Rattle.sat_base.specs.script.Language.{Kind, OfClause, OfAsk, OfHide, OfWitness, OfSample, command_of}
-use Rattle.certify.specs.judge.Names.{state_in, NamesStand, taken}
+use Rattle.certify.specs.judge.Names.{state_in, states_of, first_states, BringsNothing, Changes, ComesInUse, IsInUse, NamesStand, is_of_literals, taken}
 use Rattle.certify.proofs.lemmas.confirm.NamesFrom.{from_more, with_names_append}
-use Rattle.certify.proofs.lemmas.judge.States.{past_states, pushed_at, named, new_past}
+use Rattle.certify.proofs.lemmas.judge.States.{past_used, pushed_at, states_length, got_at, named, new_past, new_used, sampled_used}
 
-pub grows_more : (old cur new : Names) (next : ℕ) → ((j : Judge) → NamesStand old j → NamesStand cur (with_names (names_from (next - length old.states.items) j.first_unused) j))
-    → length cur.states.items ≡ next → length old.states.items ≤ next → next < largest → new.states.items ≡ cur.states.items ++ state.Sampled ∷ []
-    → (j : Judge) → NamesStand old j → NamesStand new (with_names (names_from (next + 1 - length old.states.items) j.first_unused) j)
-grows_more old cur new next so_far longer past low items j h =
-    let count = next - length old.states.items in
-    let mid = with_names (names_from count j.first_unused) j in
-    let m : NamesStand cur mid = so_far j h in
+-- so many more names were used
+abbrev with_used : Names → ℕ → Names
+with_used names n = record names { used = n }
+
+grown_one : (names : Names) (j : Judge) (next : ℕ) → names.used ≤ next → next < largest → NamesStand (with_used names next) j → NamesStand (with_used names (next + 1)) (with_name (next + 1) j)
+grown_one names j next past low h =
+    let cur = with_used names next in
+    let new = with_used names (next + 1) in
     let f = h.first in
-    let g = m.first in
-    let length_new : length new.states.items ≡ max (length cur.states.items) (next + 1) = let l = ap (λ (xs : List NameState). length xs) items in let k = length-append cur.states.items (state.Sampled ∷ []) in omega arith in
-    let states : (n : ℕ) → state_in new.states.items n ≡ cond (eqb (next + 1) n) state.Sampled (state_in cur.states.items n) = λ n.
-    ap (λ (xs : List NameState). state_in xs n) items ∙ pushed_at cur.states.items state.Sampled n ∙ ap (λ (k : ℕ). cond (eqb (k + 1) n) state.Sampled (state_in cur.states.items n)) longer in
-    let hidden : state_in cur.states.items (next + 1) ≡ state.Hidden = past_states cur.states.items (next + 1) (omega arith) in
-    let named_one : NamesStand new (with_name (next + 1) mid) = named cur new mid (next + 1) m hidden (omega arith) (omega arith) (omega arith) length_new states in
-    let more : next + 1 - length old.states.items ≡ count + 1 = omega arith in
+    let l = states_length names.states next in
+    let more : next + 1 ≡ suc next = omega arith in
+    let items : states_of new ≡ states_of cur ++ state.Sampled ∷ [] = ap (first_states names.states) more ∙ ap (λ (s : NameState). states_of cur ++ s ∷ []) (h.fresh next (omega arith)) in
+    let longer : next + 1 ≡ max next (next + 1) = omega arith in
+    let states : (n : ℕ) → state_in (states_of new) n ≡ cond (eqb (next + 1) n) state.Sampled (state_in (states_of cur) n) = λ n.
+    ap (λ (xs : List NameState). state_in xs n) items ∙ pushed_at (states_of cur) state.Sampled n ∙ ap (λ (k : ℕ). cond (eqb (k + 1) n) state.Sampled (state_in (states_of cur) n)) l in
+    named cur new j (next + 1) h (past_used cur (next + 1) (omega arith)) (omega arith) (omega arith) (omega arith) longer (λ v k. h.fresh v (omega arith)) states
+
+grown_by : (names : Names) (j : Judge) (count : ℕ) → names.used + count ≤ largest → NamesStand names j → NamesStand (with_used names (names.used + count)) (with_names (names_from count j.first_unused) j)
+grown_by names j zero low h =
+    let e : names.used + 0 ≡ names.used = omega arith in
+    subst (λ (n : ℕ). NamesStand (with_used names n) j) (sym e) (record { first = h.first; limit = h.limit; each = h.each; fresh = h.fresh; given = h.given; modes = h.modes; apart = h.apart })
+grown_by names j (suc count) low h =
+    let f = h.first in
+    let mid = with_names (names_from count j.first_unused) j in
+    let next = names.used + count in
+    let one : NamesStand (with_used names (next + 1)) (with_name (next + 1) mid) = grown_one names mid next (omega arith) (omega arith) (grown_by names j count (omega arith) h) in
     let last : j.first_unused + count ≡ next + 1 = omega arith in
-    let whole : with_names (names_from (next + 1 - length old.states.items) j.first_unused) j ≡ with_name (next + 1) mid =
+    let total : names.used + suc count ≡ next + 1 = omega arith in
+    let more : suc count ≡ count + 1 = omega arith in
+    let whole : with_names (names_from (suc count) j.first_unused) j ≡ with_name (next + 1) mid =
     ap (λ (k : ℕ). with_names (names_from k j.first_unused) j) more
     ∙ ap (λ (ns : List ℕ). with_names ns j) (from_more count j.first_unused)
     ∙ with_names_append (names_from count j.first_unused) ((j.first_unused + count) ∷ []) j
     ∙ ap (λ (name : ℕ). with_name name mid) last in
-    subst (NamesStand new) (sym whole) named_one
+    subst (λ (k : Judge). NamesStand (with_used names (names.used + suc count)) k) (sym whole) (subst (λ (n : ℕ). NamesStand (with_used names n) (with_name (next + 1) mid)) (sym total) one)
 
-pub grown : (old new : Names) (index : ℕ) → ((j : Judge) → NamesStand old j → NamesStand new (with_names (names_from (index + 1 - length old.states.items) j.first_unused) j)) → length old.states.items < index + 1
-    → (j : Judge) → NamesStand old j → NamesStand new (bring_in (index + 1) j)
-grown old new index so_far past j h =
+pub grown : (names : Names) (index : ℕ) → names.used ≤ index → index < largest → Changes names (with_used names (index + 1)) (bring_in (index + 1))
+grown names index past low j h =
     let f = h.first in
-    let count : index + 1 - length old.states.items ≡ index + 1 + 1 - j.first_unused = omega arith in
-    let e = new_past old j (index + 1) (index + 1 - length old.states.items) j.first_unused h (omega arith) count refl in
-    subst (NamesStand new) (ap (λ (ns : List ℕ). with_names ns j) (sym e)) (so_far j h)
+    let count = index + 1 - names.used in
+    let total : names.used + count ≡ index + 1 = omega arith in
+    let e = new_past names j (index + 1) count j.first_unused h (omega arith) (omega arith) refl in
+    subst (λ (ns : List ℕ). NamesStand (with_used names (index + 1)) (with_names ns j)) (sym e)
+    (subst (λ (n : ℕ). NamesStand (with_used names n) (with_names (names_from count j.first_unused) j)) total (grown_by names j count (omega arith) h))
+
+-- the last of them is in use
+pub grown_used : (names : Names) (index : ℕ) → names.used ≤ index → ComesInUse names (with_used names (index + 1)) (index + 1)
+grown_used names index past j h = sampled_used _ (got_at (with_used names (index + 1)) index (index + 1) state.Sampled (omega arith) refl (sym (h.fresh index past)))
 
 -- NAME BY NAME
 abbrev pub taken_all : Kind → List ℕ → Judge → Judge
@@ -70,9 +90,34 @@ sampled_all : (names : List ℕ) (j : Judge) → taken_all OfSample names j ≡ 
 sampled_all [] j = refl
 sampled_all (name ∷ names) j = sampled_all names (taken OfSample name j)
 
+-- NAMES IN USE
+-- a name that doesn't come in changes nothing, where that is all that a command makes of it
+pub untaken : (kind : Kind) (name : ℕ) (j : Judge) → is_of_literals kind ≡ true → new_names name j ≡ [] → taken kind name j ≡ j
+untaken OfClause name j k e = ap (λ (ns : List ℕ). with_names ns j) e
+untaken OfAsk name j k e = ap (λ (ns : List ℕ). with_names ns j) e
+untaken OfHide name j k e = absurd (true≢false (sym k))
+untaken OfWitness name j k e = absurd (true≢false (sym k))
+untaken OfSample name j k e = absurd (true≢false (sym k))
+
+untaken_all : (kind : Kind) (names : List ℕ) (j : Judge) → is_of_literals kind ≡ true → AllByRecursion (λ name. new_names name j ≡ []) names → taken_all kind names j ≡ j
+untaken_all kind [] j k h = refl
+untaken_all kind (name ∷ names) j k h = ap (taken_all kind names) (untaken kind name j k h.0) ∙ untaken_all kind names j k h.1
+
+-- one more of a command's names is in use
+pub known_next : (n : Names) (j : Judge) (codes : List ℕ) (k code v : ℕ) → NamesStand n j → k < length codes → code ≡ get_or codes k code → v ≡ variable code → IsInUse n (v + 1)
+    → AllByRecursion (λ name. new_names name j ≡ []) (names_of (named_literals (drop (k + 1) codes))) → AllByRecursion (λ name. new_names name j ≡ []) (names_of (named_literals (drop k codes)))
+known_next n j codes k code v h within at e used rest =
+    let more : k + 1 ≡ suc k = omega arith in
+    let cut : drop k codes ≡ code ∷ drop (k + 1) codes = drop-cons codes k code within ∙ ap (λ (x : ℕ). x ∷ drop (suc k) codes) (sym at) ∙ ap (λ (n : ℕ). code ∷ drop n codes) (sym more) in
+    let one : new_names (variable code + 1) j ≡ [] = ap (λ (x : ℕ). new_names (x + 1) j) (sym e) ∙ new_used n j (v + 1) h used in
+    subst (λ (xs : List ℕ). AllByRecursion (λ name. new_names name j ≡ []) (names_of (named_literals xs))) (sym cut) (one, rest)
+
+pub known_end : (j : Judge) (codes : List ℕ) (k : ℕ) → length codes ≤ k → AllByRecursion (λ name. new_names name j ≡ []) (names_of (named_literals (drop k codes)))
+known_end j codes k over = subst (λ (xs : List ℕ). AllByRecursion (λ name. new_names name j ≡ []) (names_of (named_literals xs))) (sym (drop_all k codes over)) tt
+
 -- clauses are no names
 pub clause_stands : (n : Names) (ls : List Literal) (j : Judge) → NamesStand n j → NamesStand n (with_clause ls j)
-clause_stands n ls j h = record { first = h.first; limit = h.limit; each = h.each; given = h.given; modes = h.modes; apart = h.apart }
+clause_stands n ls j h = record { first = h.first; limit = h.limit; each = h.each; fresh = h.fresh; given = h.given; modes = h.modes; apart = h.apart }
 
 pub accepted_stands : (n : Names) (kind : Kind) (ls : List Literal) (j : Judge) → NamesStand n (taken_all kind (names_of ls) j) → NamesStand n (accepted (command_of kind ls) j)
 accepted_stands n OfClause ls j h = clause_stands n ls (bring_all (names_of ls) j) (subst (NamesStand n) (clause_all (names_of ls) j) h)
@@ -98,3 +143,12 @@ all_taken n kind codes past ls j mid k not_past f over h same =
     let whole : ls ≡ named_literals codes = f.whole ∙ ap (λ (ks : List Literal). named_literals codes ++ ks) none ∙ append-nil (named_literals codes) in
     let end : taken_all kind (names_of (named_literals codes)) j ≡ mid = same ∙ ap (λ (xs : List ℕ). taken_all kind (names_of (named_literals xs)) mid) (drop_all k codes over) in
     accepted_stands n kind ls j (subst (NamesStand n) (sym end ∙ ap (λ (ks : List Literal). taken_all kind (names_of ks) j) (sym whole)) h)
+
+-- so where all of its names are in use
+pub known_taken : (n : Names) (kind : Kind) (codes : List ℕ) (past : Bool) (ls : List Literal) (j : Judge) → past ≡ false → IsFront codes past ls → BringsNothing kind (names_of (named_literals codes)) n → NamesStand n j
+    → NamesStand n (accepted (command_of kind ls) j)
+known_taken n kind codes past ls j not_past f b h =
+    let over : length codes ≤ length codes = omega arith in
+    let none = drop_all (length codes) codes over in
+    let same = untaken_all kind (names_of (named_literals codes)) j b.of_literals (b.known j h) ∙ ap (λ (xs : List ℕ). taken_all kind (names_of (named_literals xs)) j) (sym none) in
+    all_taken n kind codes past ls j j (length codes) not_past f over h same

@@ -3,7 +3,7 @@ use Rattle.std.proofs.lemmas.Result.{err_from_is_err_and}
 use Rattle.sat_checker.specs.CheckerView.{kernel_of}
 use Rattle.certify.specs.confirm.Streams.{stream_of}
 use Rattle.certify.specs.script.Commands.{kind_of}
-use Rattle.certify.proofs.lemmas.confirm.NamesMet.{none_taken, one_taken, all_taken, none_met, next_met, next_stop, all_met}
+use Rattle.certify.proofs.lemmas.confirm.NamesMet.{none_taken, one_taken, all_taken, none_met, next_met, next_stop, all_met, known_taken, known_met}
 use Rattle.certify.proofs.confirm.names.Matching.take_names.Goals as goal
 
 pub loop-lit-init : goal.loop-lit-init
@@ -52,3 +52,11 @@ returns-clause-confirms g c =
     let l = c.loop-lit in
     let over : length c.args.literals.now ≤ l.lit-index = omega arith in
     all_met (kind_of c.args.kind) c.args.literals.now l.lit-index old.names old.certificate.names l.self.certificate.names (stream_of S c.args.steps.now (kernel_of old.certificate.checker)) (stream_of S l.steps (kernel_of l.self.certificate.checker)) over l.invariant.met
+
+pub returns-then-are_known-clause-changes : goal.returns-then-are_known-clause-changes
+returns-then-are_known-clause-changes g c = known_taken (kind_of c.args.kind) c.args.literals.now c.args.self.now.names (c.are_known.ensures c.if-are_known.true)
+
+pub returns-then-are_known-clause-confirms : goal.returns-then-are_known-clause-confirms
+returns-then-are_known-clause-confirms g c =
+    let old = c.args.self.now in
+    known_met (kind_of c.args.kind) c.args.literals.now old.names old.certificate.names (stream_of g.R.CountedRead.seen c.args.steps.now (kernel_of old.certificate.checker)) (c.are_known.ensures c.if-are_known.true)

@@ -1,6 +1,7 @@
 use Rattle.std.proofs.Common.{◌<◌, ◌≤◌, length, eqb, refl, sym, ◌∙◌, arith}
-use Rattle.certify.specs.judge.Names.{ListsUsed}
+use Rattle.certify.specs.judge.Names.{ListsUsed, states_of}
 use Rattle.certify.proofs.lemmas.judge.Listed.{hidden_left, none_left, other_left, used_left, end_left}
+use Rattle.certify.proofs.lemmas.judge.States.{item_at, states_length}
 use Rattle.certify.proofs.judge.names.Names.are_listed.Goals as goal
 
 pub loop-index-init : goal.loop-index-init
@@ -10,41 +11,50 @@ pub loop-index-preserved-in-Hidden : goal.loop-index-preserved-in-Hidden
 loop-index-preserved-in-Hidden c =
     let names = c.args.self.now in
     let l = c.loop-index in
-    let low : l.index < length names.states.items = omega (arith, c.len-index-end.ensures, names.states.ok.0) in
+    let n = states_length names.states names.used in
+    let low : l.index < length (states_of names) = omega arith in
+    let is = item_at names l.index c.get.result (omega arith) c.get.ensures in
     record {
       within = l.invariant.within;
-      left = hidden_left (ListsUsed names c.args.line.now) names.states.items c.args.line.now l.at l.index c.index.result.now low c.index.ensures l.invariant.left c.in-Hidden.is;
+      left = hidden_left (ListsUsed names c.args.line.now) (states_of names) c.args.line.now l.at l.index c.get.result low is l.invariant.left c.in-Hidden.is;
     }
 
 pub loop-index-preserved : goal.loop-index-preserved
 loop-index-preserved c =
     let names = c.args.self.now in
     let l = c.loop-index in
-    let low : l.index < length names.states.items = omega (arith, c.len-index-end.ensures, names.states.ok.0) in
+    let n = states_length names.states names.used in
+    let low : l.index < length (states_of names) = omega arith in
+    let is = item_at names l.index c.get.result (omega arith) c.get.ensures in
     record {
       within = omega arith;
-      left = used_left (ListsUsed names c.args.line.now) names.states.items c.args.line.now l.at l.index c.index.result.now low c.index.ensures l.invariant.left c.in_default.not-Hidden
-          c.index-line-at.result c.if-at-line.false c.index-line-at.is (sym c.index-in-loop-index.ensures.value ∙ c.if-index.false);
+      left = used_left (ListsUsed names c.args.line.now) (states_of names) c.args.line.now l.at l.index c.get.result low is l.invariant.left c.in_default.not-Hidden
+          c.index-line-at.result c.if-at-line.false c.index-line-at.is (sym c.index.ensures.value ∙ c.if-index.false);
     }
 
 pub returns-then-at-line : goal.returns-then-at-line
 returns-then-at-line c =
     let names = c.args.self.now in
     let l = c.loop-index in
-    let low : l.index < length names.states.items = omega (arith, c.len-index-end.ensures, names.states.ok.0) in
-    none_left (ListsUsed names c.args.line.now) names.states.items c.args.line.now l.at l.index c.index.result.now low c.index.ensures l.invariant.left c.in_default.not-Hidden c.if-at-line.true
+    let n = states_length names.states names.used in
+    let low : l.index < length (states_of names) = omega arith in
+    let is = item_at names l.index c.get.result (omega arith) c.get.ensures in
+    none_left (ListsUsed names c.args.line.now) (states_of names) c.args.line.now l.at l.index c.get.result low is l.invariant.left c.in_default.not-Hidden c.if-at-line.true
 
 pub returns-then-index : goal.returns-then-index
 returns-then-index c =
     let names = c.args.self.now in
     let l = c.loop-index in
-    let low : l.index < length names.states.items = omega (arith, c.len-index-end.ensures, names.states.ok.0) in
-    other_left (ListsUsed names c.args.line.now) names.states.items c.args.line.now l.at l.index c.index.result.now low c.index.ensures l.invariant.left c.in_default.not-Hidden
-    c.index-line-at.result c.if-at-line.false c.index-line-at.is (λ e. c.if-index.true (c.index-in-loop-index.ensures.value ∙ e))
+    let n = states_length names.states names.used in
+    let low : l.index < length (states_of names) = omega arith in
+    let is = item_at names l.index c.get.result (omega arith) c.get.ensures in
+    other_left (ListsUsed names c.args.line.now) (states_of names) c.args.line.now l.at l.index c.get.result low is l.invariant.left c.in_default.not-Hidden
+    c.index-line-at.result c.if-at-line.false c.index-line-at.is (λ e. c.if-index.true (c.index.ensures.value ∙ e))
 
 pub returns : goal.returns
 returns c =
     let names = c.args.self.now in
     let l = c.loop-index in
-    let over : length names.states.items ≤ l.index = omega (arith, c.len-index-end.ensures, names.states.ok.0) in
-    end_left (ListsUsed names c.args.line.now) names.states.items c.args.line.now l.at l.index (eqb l.at (length c.args.line.now)) over l.invariant.within l.invariant.left refl
+    let n = states_length names.states names.used in
+    let over : length (states_of names) ≤ l.index = omega arith in
+    end_left (ListsUsed names c.args.line.now) (states_of names) c.args.line.now l.at l.index (eqb l.at (length c.args.line.now)) over l.invariant.within l.invariant.left refl
