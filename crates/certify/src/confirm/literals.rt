@@ -1,8 +1,8 @@
 //! Lists of literals, compared as sets; those of names by the names' variables.
-ghost use Rattle.std.specs.Prelude.{IfOk, ◌≡◌, []};
-ghost use Rattle.sat_checker.specs.matching.Expected.{EachSpelt, SameSet};
-ghost use Rattle.certify.specs.answers.AnswerForms.{named_literals};
-ghost use Rattle.certify.specs.confirm.SpeltLiterals.{AllAmong, SpellsAll, AnswersWhether};
+ghost use Rattle.std.specs.Prelude.{IfOk, ◌≡◌, [], true};
+ghost use Rattle.sat_checker.specs.matching.Expected.{EachSpelt, SameSet, Spells};
+ghost use Rattle.certify.specs.answers.AnswerForms.{named_literal, named_literals};
+ghost use Rattle.certify.specs.confirm.SpeltLiterals.{AllAmong, AreSpelt, SpellsAll, AnswersWhether};
 ghost use Rattle.certify.specs.confirm.Variables.{variable_in};
 
 use crate::confirm::variables::NamedVars;
@@ -84,6 +84,31 @@ fn spell(variables: &NamedVars, literals: &[Lit], spelt: &mut Vec<Lit>) -> Resul
     Ok(true)
 }
 
+/// Whether the literal is spelt so by its name's variable.
+fn is_spelt(variables: &NamedVars, literal: Lit, code: Lit) -> bool
+    ensures { result ≡ true → Spells (variable_in variables.now) (named_literal literal) code }
+{
+    match variables.get(literal.var()) {
+        Some(variable) => variable.lit(literal.is_positive()) == code,
+        None => false,
+    }
+}
+
+/// Whether the codes spell the names' literals one by one, in order.
+fn are_spelt(variables: &NamedVars, literals: &[Lit], codes: &[Lit]) -> bool
+    ensures { result ≡ true → AreSpelt (variable_in variables.now) (named_literals literals.now) codes.now }
+{
+    if literals.len() != codes.len() {
+        return false;
+    }
+    for at in 0..literals.len() {
+        if !is_spelt(variables, literals[at], codes[at]) {
+            return false;
+        }
+    }
+    true
+}
+
 /// Whether all of the names' literals stand among the codes.
 pub(crate) fn are_spelt_in(
     variables: &NamedVars,
@@ -111,6 +136,9 @@ pub(crate) fn are_spelt_by(
     ensures { IfOk result
         (λ yes. AnswersWhether yes (SameSet (variable_in variables.now) (named_literals literals.now) codes.now)) }
 {
+    if are_spelt(variables, literals, codes) {
+        return Ok(true);
+    }
     if spell(variables, literals, &mut room.spelt)? {
         are_same(&room.spelt, codes, &mut room.sets)
     } else {

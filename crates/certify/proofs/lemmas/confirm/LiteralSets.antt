@@ -1,7 +1,7 @@
 -- Lists of literals as sets.
-use Rattle.std.proofs.Common.{ℕ, zero, suc, ◌+◌, ◌<◌, ◌≡◌, ◌||◌, inl, inr, Bool, true, false, eqb, List, [], ◌∷◌, ◌++◌, length, take, get_or, Option, Some, None, refl, sym, ◌∙◌, ap, subst, arith}
+use Rattle.std.proofs.Common.{ℕ, zero, suc, ◌+◌, ◌<◌, ◌≤◌, ◌≡◌, ◌||◌, inl, inr, Bool, true, false, eqb, List, [], ◌∷◌, ◌++◌, length, take, drop, drop-cons, get_or, Option, Some, None, refl, sym, ◌∙◌, ap, subst, arith}
 use Rattle.std.proofs.lemmas.Bool.{true≢false, eqb-true, or_cases}
-use Rattle.std.proofs.lemmas.List.{take_more}
+use Rattle.std.proofs.lemmas.List.{drop_all, take_more}
 use Rattle.std.specs.Bool.{MatchBool}
 use Rattle.std.specs.List.{AllByRecursion}
 use Rattle.sat_base.specs.values.Literals.{coded}
@@ -122,3 +122,26 @@ pub among_got : (ls : List Literal) (i : ℕ) (d : Literal) → i < length ls �
 among_got [] i d h = absurd (omega arith)
 among_got (l ∷ ls) zero d h = inl refl
 among_got (l ∷ ls) (suc i) d h = inr (among_got ls i d (omega arith))
+
+-- LITERALS SPELT IN ORDER
+pub spelt_next : (names : ℕ → Option ℕ) (ls : List Literal) (codes : List ℕ) (i : ℕ) (l : Literal) (code : ℕ) → i < length ls → i < length codes → l ≡ get_or ls i l → code ≡ get_or codes i code → Spells names l code
+    → AreSpelt names (drop (i + 1) ls) (drop (i + 1) codes) → AreSpelt names (drop i ls) (drop i codes)
+spelt_next names ls codes i l code h k a b s r =
+    let more : i + 1 ≡ suc i = omega arith in
+    let cut : drop i ls ≡ l ∷ drop (i + 1) ls = drop-cons ls i l h ∙ ap (λ (x : Literal). x ∷ drop (suc i) ls) (sym a) ∙ ap (λ (n : ℕ). l ∷ drop n ls) (sym more) in
+    let cut_codes : drop i codes ≡ code ∷ drop (i + 1) codes = drop-cons codes i code k ∙ ap (λ (x : ℕ). x ∷ drop (suc i) codes) (sym b) ∙ ap (λ (n : ℕ). code ∷ drop n codes) (sym more) in
+    subst (λ (xs : List Literal). AreSpelt names xs (drop i codes)) (sym cut) (subst (λ (xs : List ℕ). AreSpelt names (l ∷ drop (i + 1) ls) xs) (sym cut_codes) (s, r))
+
+pub spelt_end : (names : ℕ → Option ℕ) (ls : List Literal) (codes : List ℕ) (i : ℕ) → length ls ≤ i → length codes ≤ i → AreSpelt names (drop i ls) (drop i codes)
+spelt_end names ls codes i h k = rw (drop_all i ls h, drop_all i codes k) tt
+
+among_more : (xs ys : List ℕ) (y : ℕ) → AllAmong xs ys → AllAmong xs (y ∷ ys)
+among_more [] ys y h = tt
+among_more (x ∷ xs) ys y h = (inr h.0, among_more xs ys y h.1)
+
+all_among : (xs : List ℕ) → AllAmong xs xs
+all_among [] = tt
+all_among (x ∷ xs) = (inl refl, among_more xs xs x (all_among xs))
+
+pub spelt_set : (names : ℕ → Option ℕ) (ls : List Literal) (codes : List ℕ) → AreSpelt names ls codes → SameSet names ls codes
+spelt_set names ls codes a = same_set names ls codes codes a (all_among codes) (all_among codes)
