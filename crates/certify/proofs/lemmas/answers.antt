@@ -5,3 +5,4 @@ pub mod LineOrder
 pub mod LiteralsInOrder
 pub mod AnswerLines
 pub mod ShortTexts
+pub mod SpeltNumbers

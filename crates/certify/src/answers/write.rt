@@ -1,6 +1,6 @@
 //! Writes answers, line by line, behind the bytes of a buffer. Where there is no memory a part of a line may stand
 //! there. A name is written as its number, which is one more than the index of its variable.
-ghost use Rattle.std.specs.Prelude.{◌≡◌, ◌++◌, decimal, OnOk};
+ghost use Rattle.std.specs.Prelude.{◌≡◌, ◌<◌, ◌≤◌, ◌^◌, ◌++◌, decimal, drop, OnOk};
 ghost use Rattle.certify.specs.answers.Answers.{literals_text, malformed_line, outcome_text, refused_line, word_of};
 ghost use Rattle.sat_checker.specs.matching.Expected.{Sat, Unsat, Unknown};
 ghost use Rattle.certify.specs.answers.AnswerForms.{named_literal, named_literals};
@@ -20,14 +20,36 @@ pub(crate) fn push_number(out: &mut Vec<u8>, number: u64) -> Result<(), AllocErr
     Ok(())
 }
 
+/// Writes the number in decimal at the end of the bytes. Returns where it begins.
+fn spell_number(bytes: &mut [u8; 10], number: u32) -> usize
+    requires some { 1 ≤ number }
+    requires low { number < 10 ^ 9 }
+    ensures begins { 1 ≤ result }
+    ensures within { result < 10 }
+    ensures spelt { drop result bytes.new ≡ decimal number }
+{
+    let mut at = 9;
+    let mut rest = number;
+    while rest > 9 {
+        bytes[at] = b'0' + (rest % 10) as u8;
+        at -= 1;
+        rest /= 10;
+    }
+    bytes[at] = b'0' + rest as u8;
+    at
+}
+
 /// Appends the literal as DIMACS writes it.
 pub fn push_literal(out: &mut Vec<u8>, lit: Lit) -> Result<(), AllocError>
     ensures { OnOk result (out.new.items ≡ out.old.items ++ word_of (named_literal lit)) }
 {
+    let mut bytes = [b'0'; 10];
+    let at = spell_number(&mut bytes, lit.index() as u32 + 1);
     if lit.is_negative() {
-        out.push(b'-')?;
+        bytes[at - 1] = b'-';
+        return out.extend_from_slice(&bytes[at - 1..]);
     }
-    push_number(out, lit.index() as u64 + 1)
+    out.extend_from_slice(&bytes[at..])
 }
 
 /// Appends each literal and a space, then `0` and LF.

@@ -13,6 +13,9 @@ use Rattle.certify.proofs.lemmas.laws.TellingTexts.{Plain, plain_digits, small, 
 pub one_digit : (n : ℕ) (xs : List ℕ) → n ≤ 9 → xs ++ ((48 + n % 10) ∷ []) ≡ xs ++ decimal n
 one_digit n xs h = let e : n % 10 ≡ n = omega arith in let small : n < 10 = omega arith in rw (e, decimal_digit n small) refl
 
+pub only_digit : (n : ℕ) → n ≤ 9 → decimal n ≡ (48 + n) ∷ []
+only_digit n h = decimal_digit n (omega arith)
+
 pub last_digit : (n : ℕ) (xs : List ℕ) → 9 < n → n < 2 ^ 64 → (xs ++ decimal (n / 10)) ++ ((48 + n % 10) ∷ []) ≡ xs ++ decimal n
 last_digit n xs h fits = let more : 10 ≤ n = omega arith in rw (decimal_step n more fits) (append_assoc xs (decimal (n / 10)) ((48 + n % 10) ∷ []))
 
