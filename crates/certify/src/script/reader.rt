@@ -1,12 +1,15 @@
 //! The reader of scripts.
-ghost use Rattle.std.specs.Prelude.{◌≡◌, ◌<◌, ◌≤◌, ℕ, Bool, false, List, [], length, take, IfOk};
+ghost use Rattle.std.specs.Prelude.{◌≡◌, ◌<◌, ◌≤◌, ℕ, Bool, false, List, [], None, length, take, IfOk};
 ghost use Rattle.sat_base.specs.script.Script.{Command as SpelledCommand};
 ghost use Rattle.sat_base.specs.script.Language.{Reading, reading, written};
+ghost use Rattle.sat_base.specs.text.Text.{Scan};
+ghost use Rattle.sat_base.specs.text.Tokenizing.{StandsBefore, TakesFront};
+ghost use Rattle.sat_base.specs.text.WrongWords.{RightAhead};
 ghost use Rattle.certify.specs.script.Commands.{EndsLast, HasWhole, IsLent, MayGoOn, ReaderMeans, MeansIf, TakesBytes};
 
 use super::commands::Commands;
 use super::{Command, Reached, ScriptEnd};
-use sat_base::Tokenizer;
+use sat_base::{Token, Tokenizer};
 use std::alloc::{AllocError, Global};
 
 /// Takes the bytes of a script in any pieces, and lends each command as soon as it is complete. It holds no bytes, and
@@ -15,6 +18,23 @@ use std::alloc::{AllocError, Global};
 pub struct ScriptReader {
     tokenizer: Tokenizer,
     commands: Commands,
+}
+
+/// Takes one byte or more, of which only the last may end a token. Returns how many, and the token. A number and the
+/// space or LF after it are mostly taken at once.
+#[inline(always)]
+fn take_token(tokenizer: &mut Tokenizer, bytes: &[u8]) -> (usize, Option<Token>)
+    requires { 0 < length bytes.now }
+    ensures some { 0 < result.0 }
+    ensures within { result.0 ≤ length bytes.now }
+    ensures takes { TakesFront tokenizer.old (take result.0 bytes.now) result.1 tokenizer.new }
+    ensures right { (result.1 ≡ None → ⊥) → (after : List ℕ → Scan) → StandsBefore tokenizer.new after
+        → RightAhead after }
+{
+    match tokenizer.push_whole(bytes) {
+        Some((count, negative, value)) => (count, Some(Token::Number { negative, value })),
+        None => tokenizer.push_some(bytes),
+    }
 }
 
 impl ScriptReader {
@@ -53,7 +73,7 @@ impl ScriptReader {
     {
         let mut at = 0;
         while at < bytes.len() {
-            let (count, token) = self.tokenizer.push_some(&bytes[at..]);
+            let (count, token) = take_token(&mut self.tokenizer, &bytes[at..]);
             at += count;
             let Some(token) = token else {
                 if self.tokenizer.is_wrong() {
