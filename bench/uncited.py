@@ -189,7 +189,7 @@ def told_callers(crate):
     path = os.path.join(TOP, "crates", crate, "CALLING.md")
     if not os.path.exists(path):
         return set()
-    return {word for code in re.findall(r"`([^`]+)`", "\n".join(read_lines(path, "$"))) for word in re.findall(r"\w+", code)}
+    return {word for code in re.findall(r"`([^`]+)`", re.sub(r"```.*?```", "", "\n".join(read_lines(path, "$")), flags=re.S)) for word in re.findall(r"\w+", code)}
 
 
 def dead_definitions(crates, modules):
