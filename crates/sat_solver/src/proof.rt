@@ -9,7 +9,7 @@ ghost use Rattle.sat_solver.specs.session.Session.{May, MayAll};
 ghost use Rattle.sat_solver.specs.proof.Widths.{narrowed, KeepsWidth};
 ghost use Rattle.sat_solver.specs.proof.ProofView.{Closed, IsAtWidth, Open, audience, is_open, is_drat, has_asked};
 ghost use Rattle.sat_solver.specs.proof.ProofView.{target_of, steps_of, session_of, is_checked, is_lost, Checks};
-ghost use Rattle.sat_solver.specs.proof.ProofView.{HasTold, HasAllowedSteps, EmitsExactly, EmitsAsAnswered, PutsOn};
+ghost use Rattle.sat_solver.specs.proof.ProofView.{HasTold, HasAllowedSteps, EmitsExactly, EmitsAsAnswered, PutsOn, TargetTakes};
 ghost use Rattle.sat_solver.specs.proof.ProofView.{FailsOfCheck, FailsOfCheckUnless, FlushesTarget, FlushesOrFails};
 ghost use Rattle.sat_solver.specs.proof.ProofView.{ClosesTarget, Handed, HandedWhole, HandsBack, HasCause, Listens};
 ghost use Rattle.sat_solver.specs.proof.ProofView.{without_complaint};
@@ -189,6 +189,7 @@ impl<W: CountedWrite + Drop, P: ProofProcessor> Proof<W, P> {
     }
 
     /// Writes a step where a target is open, with its hashes cut to the width for the clauses behind it.
+    #[inline(always)]
     fn put(
         &mut self,
         counting: Counting,
@@ -205,18 +206,71 @@ impl<W: CountedWrite + Drop, P: ProofProcessor> Proof<W, P> {
         ensures puts { PutsOn result (step_of step.now ∷ []) (target_of W.seen self.old) (target_of W.seen self.new) }
         ensures cause { IfErr result (λ e. HasCause e self.new) }
     {
+        if self.try_put(&counting, step, cut) {
+            return Ok(());
+        }
+        self.put_long(&counting, step, cut)
+    }
+
+    /// Lets a step's text wait if there surely is room for it, or does nothing if no target takes it. Returns whether
+    /// the step is done with.
+    #[inline(always)]
+    fn try_put(&mut self, counting: &Counting, _step: &ProofStep<'_>, cut: &ProofStep<'_>) -> bool
+        requires width { KeepsWidth (step_of _step.now) }
+        requires counted { counting.now ≡ counted (step_of _step.now) self.old.counting }
+        requires cut { step_of cut.now ≡ narrowed counting.now.bits (step_of _step.now) }
+        ensures made { self.new.made ≡ self.old.made }
+        ensures counting { result ≡ true → self.new.counting ≡ counting.now }
+        ensures asked { has_asked self.new ≡ has_asked self.old }
+        ensures puts { result ≡ true → TargetTakes (target_of W.seen self.old) (step_of _step.now ∷ [])
+            (target_of W.seen self.new) }
+        ensures stays { result ≡ false → self.new ≡ self.old }
+    {
         if self.broken {
-            self.counting = counting;
+            self.counting = *counting;
+            return true;
+        }
+        let Some(output) = &mut self.output else {
+            self.counting = *counting;
+            return true;
+        };
+        if output.try_write((self.counting.bits, counting.bits), cut) {
+            self.counting = *counting;
+            return true;
+        }
+        false
+    }
+
+    /// The same of any step. A call of its own, since an error of a target takes much room.
+    #[inline(never)]
+    fn put_long(
+        &mut self,
+        counting: &Counting,
+        step: &ProofStep<'_>,
+        cut: &ProofStep<'_>,
+    ) -> Result<(), ProofError>
+        requires width { KeepsWidth (step_of step.now) }
+        requires counted { counting.now ≡ counted (step_of step.now) self.old.counting }
+        requires cut { step_of cut.now ≡ narrowed counting.now.bits (step_of step.now) }
+        ensures made { self.new.made ≡ self.old.made }
+        ensures counting { OnOk result (self.new.counting ≡ counting.now) }
+        ensures stays { IfErr result (λ e. self.new.counting ≡ self.old.counting) }
+        ensures asked { has_asked self.new ≡ has_asked self.old }
+        ensures puts { PutsOn result (step_of step.now ∷ []) (target_of W.seen self.old) (target_of W.seen self.new) }
+        ensures cause { IfErr result (λ e. HasCause e self.new) }
+    {
+        if self.broken {
+            self.counting = *counting;
             return Ok(());
         }
         let Some(output) = &mut self.output else {
-            self.counting = counting;
+            self.counting = *counting;
             return Ok(());
         };
         let widths = (self.counting.bits, counting.bits);
         match output.write(&mut self.text, widths, cut) {
             Ok(()) => {
-                self.counting = counting;
+                self.counting = *counting;
                 Ok(())
             }
             Err(OutputError::Write(cause)) => Err(self.break_off(cause)),
@@ -225,6 +279,7 @@ impl<W: CountedWrite + Drop, P: ProofProcessor> Proof<W, P> {
     }
 
     /// Notes a step that was written, and gives it to the checker as it was cut.
+    #[inline(always)]
     fn take(&mut self, step: &ProofStep<'_>, cut: &ProofStep<'_>) -> Result<(), ProofError>
         requires may { MayAll (step_of step.now ∷ steps_of self.old) }
         requires width { KeepsWidth (step_of step.now) }
@@ -243,6 +298,7 @@ impl<W: CountedWrite + Drop, P: ProofProcessor> Proof<W, P> {
 
     /// Gives target and checker the very same step, with its hashes cut to the width for the clauses behind it. A step
     /// at whose text the target fails isn't checked.
+    #[inline(always)]
     fn record<'s>(
         &mut self,
         counting: Counting,
@@ -331,6 +387,7 @@ impl<W: CountedWrite + Drop, P: ProofProcessor> Proof<W, P> {
 
     /// Makes a step that the session may write, writes it where a target is open, and gives it to the checker, where
     /// there is one. Without memory for its text or its hashes nothing is made.
+    #[inline(always)]
     pub fn step(&mut self, step: &ProofStep<'_>) -> Result<(), ProofError>
         requires keeps { HasAllowedSteps self.old }
         requires may { May (session_of self.old) (step_of step.now) }
@@ -349,6 +406,7 @@ impl<W: CountedWrite + Drop, P: ProofProcessor> Proof<W, P> {
     }
 
     /// Records a step with hashes, over the lists that hold them once they are cut.
+    #[inline(never)]
     fn step_with_hashes(&mut self, step: &ProofStep<'_>) -> Result<(), ProofError>
         requires keeps { HasAllowedSteps self.old }
         requires may { May (session_of self.old) (step_of step.now) }

@@ -15,6 +15,7 @@ use std::alloc::Global;
 use std::mem;
 
 /// Whether it's the end of a proof.
+#[inline(always)]
 pub fn is_end(step: &ProofStep<'_>) -> bool
     ensures { result ≡ is_end (step_of step.now) }
 {

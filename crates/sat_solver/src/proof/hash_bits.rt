@@ -52,6 +52,7 @@ fn without_clause(clauses: u64, clause: &[Lit]) -> u64
 }
 
 /// The count of clauses behind a step.
+#[inline(always)]
 fn count(clauses: u64, step: &ProofStep<'_>) -> u64
     ensures { result ≡ count_after (step_of step.now) clauses }
 {
@@ -164,6 +165,7 @@ impl Counting {
     }
 
     /// With a step that comes next, at whose width it's written.
+    #[inline(always)]
     pub fn with(&self, step: &ProofStep<'_>) -> Counting
         ensures { result ≡ counted (step_of step.now) self.now }
     {

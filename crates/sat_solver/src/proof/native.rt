@@ -1,10 +1,10 @@
 //! Steps are put into a target's text in bytes, each behind its width.
-ghost use Rattle.std.specs.Prelude.{◌∷◌};
+ghost use Rattle.std.specs.Prelude.{◌≡◌, ◌∷◌, true, false};
 ghost use Rattle.sat_base.specs.steps.StepViews.{step_of};
 ghost use Rattle.sat_base.specs.steps.StepWriting.{steps_sink};
 ghost use Rattle.sat_solver.specs.declared.proof.format.ProofFormat.TheVariants.{Varisat};
 ghost use Rattle.sat_solver.specs.proof.Counting.{width_told};
-ghost use Rattle.sat_solver.specs.proof.OutputView.{PutsSteps};
+ghost use Rattle.sat_solver.specs.proof.OutputView.{PutsSteps, SendsSteps};
 
 use crate::proof::output::OutputError;
 use sat_base::{CountedWrite, HashBits, ProofStep, StepWriter};
@@ -23,6 +23,25 @@ fn tell_width<W: CountedWrite>(
     }
     writer.write(&ProofStep::ChangeHashBits { bits: now })?;
     Ok(())
+}
+
+/// Lets a step wait if it has the width of the one before and there surely is room for it, and returns whether it does
+/// so.
+#[inline(always)]
+pub fn try_write_at<W: CountedWrite>(
+    writer: &mut StepWriter<W>,
+    widths: (HashBits, HashBits),
+    step: &ProofStep<'_>,
+) -> bool
+    ensures sends { result ≡ true → SendsSteps Varisat (step_of step.now ∷ width_told widths.0 widths.1)
+        (steps_sink W.seen writer.old) (steps_sink W.seen writer.new) }
+    ensures stays { result ≡ false → writer.new ≡ writer.old }
+{
+    let (before, now) = widths;
+    if before.get() != now.get() {
+        return false;
+    }
+    writer.try_write(step)
 }
 
 /// Writes a step, and before it its width where that is another than the one before.

@@ -1,13 +1,13 @@
 //! Where a proof's text goes.
-ghost use Rattle.std.specs.Prelude.{◌≡◌, ◌∷◌};
+ghost use Rattle.std.specs.Prelude.{◌≡◌, ◌∷◌, true, false};
 ghost use Rattle.sat_base.specs.device.Sink.{Flushes, empty_sink};
 ghost use Rattle.sat_base.specs.steps.StepViews.{step_of};
 ghost use Rattle.sat_solver.specs.proof.Counting.{width_told};
-ghost use Rattle.sat_solver.specs.proof.OutputView.{is_lines, output_format, output_sink, PutsLines, PutsSteps};
+ghost use Rattle.sat_solver.specs.proof.OutputView.{is_lines, output_format, output_sink, PutsLines, PutsSteps, SendsSteps};
 
 use crate::proof::drat::put_step;
 use crate::proof::format::ProofFormat;
-use crate::proof::native::write_at;
+use crate::proof::native::{try_write_at, write_at};
 use sat_base::{CountedWrite, HashBits, ProofStep, StepWriter};
 use std::alloc::AllocError;
 use std::io;
@@ -102,6 +102,7 @@ impl<W: CountedWrite> Output<W> {
 
     /// Writes a step, where the widths are that of the step before and its own, to which its hashes are cut. Lines are
     /// put together in the text.
+    #[inline(never)]
     pub fn write(
         &mut self,
         text: &mut Vec<u8>,
@@ -115,6 +116,21 @@ impl<W: CountedWrite> Output<W> {
         match self {
             Output::Steps(writer) => write_at(writer, widths, step),
             Output::Lines(lines) => lines.write(text, step),
+        }
+    }
+
+    /// Lets a step's bytes wait if it has the width of the one before and there surely is room for them, and returns
+    /// whether it does so. Calls no writer.
+    #[inline(always)]
+    pub fn try_write(&mut self, widths: (HashBits, HashBits), step: &ProofStep<'_>) -> bool
+        ensures format { output_format self.new ≡ output_format self.old }
+        ensures sends { result ≡ true → SendsSteps (output_format self.old)
+            (step_of step.now ∷ width_told widths.0 widths.1) (output_sink W.seen self.old) (output_sink W.seen self.new) }
+        ensures stays { result ≡ false → self.new ≡ self.old }
+    {
+        match self {
+            Output::Steps(writer) => try_write_at(writer, widths, step),
+            Output::Lines(_) => false,
         }
     }
 

@@ -50,6 +50,7 @@ impl<W: CountedWrite + Drop, P: ProofProcessor> StepWriter for Proof<W, P> {
 
     ghost broke = { NotTaken W.seen };
 
+    #[inline(always)]
     fn step(&mut self, step: &ProofStep<'_>) -> Result<(), NameError> {
         match self.step(step) {
             Ok(()) => Ok(()),

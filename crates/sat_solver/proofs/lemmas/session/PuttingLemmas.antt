@@ -1,8 +1,13 @@
 -- Steps that are put into a target's text, with the widths that they have.
-use Rattle.std.proofs.Common.{Bool, ◌≡◌, ◌∙◌, true, false, Option, None, Some, Err, List, [], ◌∷◌, ◌++◌, append_assoc, refl, sym, ap, subst}
+use Rattle.std.proofs.Common.{ℕ, Bool, ◌≡◌, ◌∙◌, true, false, Option, None, Some, Err, List, [], ◌∷◌, ◌++◌, append_assoc, refl, sym, ap, subst}
 use Rattle.sat_base.specs.device.Device.{Writer, WriterBreaks}
 use Rattle.sat_base.specs.device.Sink.{Sink, Sent}
-use Rattle.sat_base.specs.steps.Steps.{Step}
+use Rattle.std.proofs.lemmas.Bool.{eq-eqb}
+use Rattle.std.specs.Prelude.{cond}
+use Rattle.sat_base.specs.steps.Steps.{Step, ChangeHashBits}
+use Rattle.sat_base.specs.steps.StepBytes.{step_bytes}
+use Rattle.sat_base.specs.steps.StepText.{SpellsStep}
+use Rattle.sat_solver.specs.declared.proof.format.ProofFormat.TheVariants.{Varisat}
 use Rattle.sat_base.proofs.lemmas.device.Writes.{breaks_within}
 use Rattle.sat_checker.specs.declared.processing.ProofProcessor.{Ghosts}
 use Rattle.sat_solver.specs.proof.Counting.{width_told, written_for, counted}
@@ -21,6 +26,10 @@ use Rattle.sat_solver.proofs.lemmas.session.ProofLemmas.{wrote_none, breaks_behi
 -- one step was written
 pub wrote_one : (f : ProofFormat) (step : Step) (s t : Sink) → Sent s t (step_text f step) → SpellsIn f step → SendsSteps f (step ∷ []) s t
 wrote_one f step s t h k = record { spelt = (k, tt); sent = h }
+
+-- one at the same width waits
+pub waits_at : (step : Step) (before now : ℕ) (s t : Sink) → before ≡ now → Sent s t (step_bytes step) → SpellsStep step (step_bytes step) → SendsSteps Varisat (step ∷ width_told before now) s t
+waits_at step before now s t e sent spells = subst (λ xs. SendsSteps Varisat (step ∷ xs) s t) (sym (ap (λ b. cond b [] (ChangeHashBits now ∷ [])) (eq-eqb before now e))) (wrote_one Varisat step s t sent spells)
 
 -- a step behind others that were written
 pub puts_behind : (f : ProofFormat) (step : Step) (xs : List Step) (s t u : Sink) → SendsSteps f xs s t → WriterBreaks t.writer u.writer (t.waiting ++ step_text f step) → WriterBreaks s.writer u.writer (s.waiting ++ text_in f (step ∷ xs))
@@ -56,6 +65,10 @@ module _ {W L : Type 0} {G : Ghosts L} (seen : W → Writer) (p : Proof W L G) w
   module _ (o u : Output W) (is : p.output ≡ Some o) (well : p.broken ≡ false) where
     was_open : Open (output_format o) p.counting (output_sink seen o) ≡ target_of seen p
     was_open = sym (ap (λ x. target_in seen x p.broken p.counting) is ∙ ap (λ b. with_fault b (output_format o) p.counting (output_sink seen o)) well)
+
+    -- an output that stays
+    pub same_output : u ≡ o → record p { output = Some u } ≡ p
+    same_output e = ap (λ x. record p { output = Some x }) e ∙ ap (λ x. record p { output = x }) (sym is)
 
     -- a flush failed
     pub fails_flush : (cause : _) → WriterBreaks (output_sink seen o).writer (output_sink seen u).writer ((output_sink seen o).waiting ++ []) → FailsToEmit seen [] p (record p { output = Some u; broken = true; cause = Some cause })

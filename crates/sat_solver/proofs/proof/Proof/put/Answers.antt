@@ -1,17 +1,22 @@
-use Rattle.sat_base.specs.steps.StepViews.{step_of}
-use Rattle.sat_solver.proofs.lemmas.session.PuttingLemmas.{carries_put, stops_put, carries_starved}
 use Rattle.sat_solver.proofs.proof.Proof.put.Goals as goal
 
-pub returns-in-Ok-clause-puts : goal.returns-in-Ok-clause-puts
-returns-in-Ok-clause-puts g c =
-    carries_put g.W.CountedWrite.seen c.args.self.now c.in-Some.output c.write.new.self c.in-Some.is c.if-self.false (step_of c.args.step.now) (step_of c.args.cut.now) c.requires.width c.args.counting c.requires.counted c.requires.cut c.in-Ok.ensures.format
-    c.in-Ok.ensures.puts
+pub returns-then-try_put-clause-puts : goal.returns-then-try_put-clause-puts
+returns-then-try_put-clause-puts g c = c.try_put.ensures.puts c.if-try_put.true
 
-pub returns-in-Err-Write-clause-puts : goal.returns-in-Err-Write-clause-puts
-returns-in-Err-Write-clause-puts g c =
-    rw (c.break_off.ensures.fault, c.break_off.ensures.breaks) (stops_put g.W.CountedWrite.seen c.args.self.now c.in-Some.output c.write.new.self c.in-Some.is c.if-self.false (step_of c.args.step.now) (step_of c.args.cut.now) c.requires.width c.args.counting c.requires.counted c.requires.cut
-    (rw c.in-Err-Write.field-0-is at c.in-Err-Write.ensures.puts))
+pub returns-then-try_put-clause-counting : goal.returns-then-try_put-clause-counting
+returns-then-try_put-clause-counting g c = c.try_put.ensures.counting c.if-try_put.true
 
-pub returns-in-Err-OutOfMemory-clause-puts : goal.returns-in-Err-OutOfMemory-clause-puts
-returns-in-Err-OutOfMemory-clause-puts g c =
-    carries_starved g.W.CountedWrite.seen c.args.self.now c.in-Some.output c.write.new.self c.in-Some.is c.if-self.false c.in-Err-OutOfMemory.ensures.format (rw c.in-Err-OutOfMemory.field-0-is at c.in-Err-OutOfMemory.ensures.puts)
+pub put_long-requires-clause-counted : goal.put_long-requires-clause-counted
+put_long-requires-clause-counted g c = rw (c.try_put.ensures.stays c.if-try_put.false) c.requires.counted
+
+pub returns-clause-made : goal.returns-clause-made
+returns-clause-made g c = rw (c.try_put.ensures.stays c.if-try_put.false) at c.put_long.ensures.made
+
+pub returns-clause-stays : goal.returns-clause-stays
+returns-clause-stays g c = rw (c.try_put.ensures.stays c.if-try_put.false) at c.put_long.ensures.stays
+
+pub returns-clause-asked : goal.returns-clause-asked
+returns-clause-asked g c = rw (c.try_put.ensures.stays c.if-try_put.false) at c.put_long.ensures.asked
+
+pub returns-clause-puts : goal.returns-clause-puts
+returns-clause-puts g c = rw (c.try_put.ensures.stays c.if-try_put.false) at c.put_long.ensures.puts
