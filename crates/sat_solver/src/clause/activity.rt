@@ -1,6 +1,6 @@
 //! What an analysis met counts for more from there on: variables are picked sooner, and clauses are kept longer.
 ghost use Rattle.std.specs.Prelude.{◌≡◌, length};
-ghost use Rattle.sat_store.specs.clause.Buffer.{lits_at};
+ghost use Rattle.sat_store.specs.clause.Buffer.{header_at, lits_at};
 ghost use Rattle.sat_store.specs.heap.Vsids.{decayed};
 ghost use Rattle.sat_parts.specs.clause.Glue.{HaveFlags, AreClear};
 ghost use Rattle.sat_solver.specs.session.Session.{Session};
@@ -8,7 +8,7 @@ ghost use Rattle.sat_parts.specs.parts.Frame.{SameClauses, SameContents};
 ghost use Rattle.sat_parts.specs.parts.Whole.{PartsInvariant, HasClause};
 ghost use Rattle.sat_parts.specs.parts.Words.{TrailWordExtends};
 ghost use Rattle.sat_solver.specs.clause.Activity.{AreBelow, AreDecays, all_bumped, Bumped};
-ghost use Rattle.sat_solver.specs.clause.Assessed.{levels_in, TakesPart, TakePart, Rates, AreInvolved};
+ghost use Rattle.sat_solver.specs.clause.Assessed.{levels_in, improved, TakesPart, TakePart, Rates, AreInvolved};
 ghost use Rattle.sat_solver.specs.cdcl.Joint.{IsSearch};
 
 use crate::SolverConfig;
@@ -16,7 +16,7 @@ use crate::clause::assess::improve;
 use crate::context::Search;
 use sat_base::Var;
 use sat_parts::parts::clauses::{bump_clause, bump_variable, decay_clauses, decay_variables};
-use sat_parts::{ClauseActivity, Parts, compute_clause_glue};
+use sat_parts::{ClauseActivity, Parts, compute_clause_glue_below};
 use sat_store::{ClauseRef, TmpFlags};
 
 /// Raises the activity of each of these variables, and lets later bumps raise more.
@@ -60,6 +60,24 @@ pub fn set_decays(search: &mut Search, config: &SolverConfig)
     search.activity.set_decay(config.clause_activity_decay);
 }
 
+/// Counts the levels of a learned clause's literals, as far as its header may be improved by them: up to its glue. The
+/// header of a clause that was given isn't.
+fn count_levels(parts: &Parts, flags: &mut TmpFlags, cref: ClauseRef) -> usize
+    requires holds { PartsInvariant parts.now }
+    requires live { HasClause parts.now cref }
+    requires levels { HaveFlags parts.now.graph flags.old.flags.items (lits_at parts.now.clauses cref) }
+    requires clear { AreClear flags.old.flags.items }
+    ensures improves { improved result (header_at parts.now.clauses cref)
+        ≡ improved (levels_in parts.now cref) (header_at parts.now.clauses cref) }
+    ensures flags { flags.new.flags.items ≡ flags.old.flags.items }
+{
+    let header = parts.clauses.header(cref);
+    if !header.redundant() {
+        return 0;
+    }
+    compute_clause_glue_below(flags, &parts.graph, &parts.clauses, cref, header.glue())
+}
+
 /// Raises the activity of a clause that took part in an analysis, and improves its header by the levels of its
 /// literals.
 fn bump_one(parts: &mut Parts, activity: &mut ClauseActivity, flags: &mut TmpFlags, cref: ClauseRef)
@@ -73,7 +91,7 @@ fn bump_one(parts: &mut Parts, activity: &mut ClauseActivity, flags: &mut TmpFla
         activity.old activity.new }
 {
     bump_clause(parts, activity, cref);
-    let levels = compute_clause_glue(flags, &parts.graph, &parts.clauses, cref);
+    let levels = count_levels(parts, flags, cref);
     improve(parts, cref, levels);
 }
 

@@ -1,8 +1,9 @@
 -- Headers of clauses that took part in an analysis.
-use Rattle.std.proofs.Common.{ℕ, zero, suc, ◌+◌, ◌*◌, ◌<◌, ◌≤◌, ◌≡◌, ◌∙◌, Bool, true, cond, List, [], ◌∷◌, length, drop, get_or, refl, sym, ap, subst, arith, lt-ltb}
+use Rattle.std.proofs.Common.{ℕ, zero, suc, ◌+◌, ◌*◌, ◌<◌, ◌≤◌, ◌≡◌, ◌∙◌, inl, inr, Bool, true, false, cond, ltb, List, [], ◌∷◌, length, drop, get_or, refl, sym, ap, subst, arith, lt-ltb}
 use Rattle.std.proofs.lemmas.List.{drop_more}
 use Rattle.std.specs.List.{Contains}
-use Rattle.std.specs.Prelude.{◌&&◌}
+use Rattle.std.specs.Prelude.{◌&&◌, min}
+use Rattle.std.proofs.lemmas.Bool.{cases_lt, ltb-true, false_from_ne_true}
 use Rattle.sat_store.specs.clause.Buffer.{lits_at}
 use Rattle.sat_store.specs.clause.Header.{Header, is_learned}
 use Rattle.sat_parts.specs.clause.Activity.{Scale}
@@ -95,3 +96,30 @@ drop_all (o ∷ os) (suc n) le = drop_all os n (omega arith)
 -- and when none is left, activities decay
 pub takes_last : (levels : ℕ → ℕ) (refs os : List ℕ) (n : ℕ) (words words' : List ℕ) (s s' : Scale) → length os ≤ n → DecaysActivities words words' refs s s' → TakePart levels refs (drop n os) words s words' s'
 takes_last levels refs os n words words' s s' le h = subst (λ ps. TakePart levels refs ps words s words' s') (sym (drop_all os n le)) h
+
+-- WHAT MAY BE IMPROVED
+
+-- the header of a clause that was given, by no number of levels
+pub improved_given : (m n : ℕ) (h : Header) → is_learned h.tier ≡ false → improved m h ≡ improved n h
+improved_given m n h e =
+    ap (λ b. cond (b && ltb m h.glue) (with_glue m (record h { active = true })) (record h { active = true })) e
+    ∙ sym (ap (λ b. cond (b && ltb n h.glue) (with_glue n (record h { active = true })) (record h { active = true })) e)
+
+not_below : (k g : ℕ) → g ≤ k → ltb k g ≡ false
+not_below k g le = false_from_ne_true (ltb k g) (λ t. let lt = ltb-true k g t in absurd (omega arith))
+
+-- levels past the glue improve no header
+pub improved_limit : (m n : ℕ) (h : Header) → m ≡ min h.glue n → improved m h ≡ improved n h
+improved_limit m n h e = elim (cases_lt n h.glue) [
+  | inl lt ↦ ap (λ k. improved k h) (let q : m ≡ n = omega arith in q)
+  | inr ge ↦ past m (omega arith) ∙ sym (past n ge)
+]
+  where
+    past : (k : ℕ) → h.glue ≤ k → improved k h ≡ record h { active = true }
+    past k le =
+        ap (λ b. cond (is_learned h.tier && b) (with_glue k (record h { active = true })) (record h { active = true })) (not_below k h.glue le)
+        ∙ neither (is_learned h.tier)
+      where
+        neither : (b : Bool) → cond (b && false) (with_glue k (record h { active = true })) (record h { active = true }) ≡ record h { active = true }
+        neither true = refl
+        neither false = refl

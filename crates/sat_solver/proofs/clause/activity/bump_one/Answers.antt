@@ -1,20 +1,15 @@
 use Rattle.std.proofs.Common.{◌≡◌, ◌∙◌, ap}
+use Rattle.sat_store.specs.clause.Buffer.{header_at}
 use Rattle.sat_parts.specs.clause.Db.{Db}
-use Rattle.sat_solver.specs.clause.Assessed.{levels_in}
-use Rattle.sat_solver.proofs.lemmas.clause.GradingLemmas.{rates_trans, live_kept, flags_kept, levels_kept, clause_nodes}
-use Rattle.sat_solver.proofs.lemmas.clause.ReducingLemmas.{clause_stands}
+use Rattle.sat_solver.specs.clause.Assessed.{levels_in, improved}
+use Rattle.sat_solver.proofs.lemmas.clause.GradingLemmas.{rates_trans, live_kept, flags_kept, levels_kept}
 use Rattle.sat_solver.proofs.clause.activity.bump_one.Goals as goal
 
-pub compute_clause_glue-levels-requires-clause-clause : goal.compute_clause_glue-levels-requires-clause-clause
-compute_clause_glue-levels-requires-clause-clause c =
-    clause_stands c.bump_clause.new.parts c.args.cref c.bump_clause.ensures.holds (live_kept c.args.parts.now c.bump_clause.new.parts c.bump_clause.ensures.headed c.args.cref c.requires.live)
+pub count_levels-levels-requires-clause-live : goal.count_levels-levels-requires-clause-live
+count_levels-levels-requires-clause-live c = live_kept c.args.parts.now c.bump_clause.new.parts c.bump_clause.ensures.headed c.args.cref c.requires.live
 
-pub compute_clause_glue-levels-requires-clause-nodes : goal.compute_clause_glue-levels-requires-clause-nodes
-compute_clause_glue-levels-requires-clause-nodes c =
-    clause_nodes c.bump_clause.new.parts c.args.cref c.bump_clause.ensures.holds (live_kept c.args.parts.now c.bump_clause.new.parts c.bump_clause.ensures.headed c.args.cref c.requires.live)
-
-pub compute_clause_glue-levels-requires-clause-levels : goal.compute_clause_glue-levels-requires-clause-levels
-compute_clause_glue-levels-requires-clause-levels c =
+pub count_levels-levels-requires-clause-levels : goal.count_levels-levels-requires-clause-levels
+count_levels-levels-requires-clause-levels c =
     flags_kept c.args.parts.now c.bump_clause.new.parts c.bump_clause.ensures.headed c.args.cref c.requires.live c.args.flags.now.flags.items c.requires.levels
 
 pub improve-requires-clause-live : goal.improve-requires-clause-live
@@ -29,7 +24,8 @@ pub returns-clause-takes : goal.returns-clause-takes
 returns-clause-takes c =
     let e = c.bump_clause.ensures in
     let mid = c.bump_clause.new.parts in
-    let levels : c.compute_clause_glue-levels.result ≡ levels_in c.args.parts.now c.args.cref = c.compute_clause_glue-levels.ensures.glue ∙ levels_kept c.args.parts.now mid e.headed c.args.cref c.requires.live in
+    let levels : improved c.count_levels-levels.result (header_at mid.clauses c.args.cref) ≡ improved (levels_in c.args.parts.now c.args.cref) (header_at mid.clauses c.args.cref) =
+    c.count_levels-levels.ensures.improves ∙ ap (λ n. improved n (header_at mid.clauses c.args.cref)) (levels_kept c.args.parts.now mid e.headed c.args.cref c.requires.live) in
     record {
       raised = mid.clauses;
       one = e.raised;
