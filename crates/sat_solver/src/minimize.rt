@@ -1,5 +1,6 @@
 //! Literals that follow from the others of the clause are dropped.
-ghost use Rattle.std.specs.Prelude.{◌≡◌, length, OnOk, IfOk};
+ghost use Rattle.std.specs.Prelude.{◌≡◌, ◌<◌, ◌∷◌, [], length, OnOk, IfOk};
+ghost use Rattle.sat_base.specs.values.Literals.{variable};
 ghost use Rattle.sat_parts.specs.clause.Glue.{HaveNodes};
 ghost use Rattle.sat_parts.specs.prop.Causes.{falsified};
 ghost use Rattle.sat_parts.specs.prop.Ready.{state_of, IsFalsified};
@@ -11,11 +12,78 @@ ghost use Rattle.sat_solver.specs.analyze_conflict.Minimal.{HasSearched, Searche
 use crate::analyze_conflict::work::Analysis;
 use sat_base::Lit;
 use sat_parts::{Assignment, CauseLits, Conflict, ImplGraph, Trail};
-use sat_store::{ClauseAlloc, LevelAbstraction};
+use sat_store::{ClauseAlloc, LevelAbstraction, Lits};
 use std::alloc::AllocError;
 
-/// Marks the literals of a reason that aren't marked yet, and answers whether each of them may follow from the clause.
-/// It stops at the first one that may not.
+/// Marks a literal of a reason, unless it is marked or of level 0, and returns whether it may follow from the clause.
+#[inline(always)]
+fn follow_one(
+    analysis: &mut Analysis,
+    graph: &ImplGraph,
+    levels: &LevelAbstraction,
+    lit: Lit,
+) -> Result<bool, AllocError>
+    requires node { variable lit < length graph.now }
+    requires flags { length analysis.old.flags ≡ length graph.now }
+    ensures follows { IfOk result (λ b. followed graph.now levels.now (lit ∷ []) analysis.old
+        ≡ record { work = analysis.new; whole = b }) }
+    ensures flags { OnOk result (length analysis.new.flags ≡ length graph.now) }
+{
+    let level = graph.level(lit.var());
+    if level == 0 || analysis.is_flagged(lit) {
+        return Ok(true);
+    }
+    let reason = graph.reason(lit.var());
+    if reason.is_unit() || !levels.test(level) {
+        return Ok(false);
+    }
+    analysis.mark(lit)?;
+    Ok(true)
+}
+
+/// The same of the literals of a list, up to the first that may not.
+fn follow_own(
+    analysis: &mut Analysis,
+    graph: &ImplGraph,
+    levels: &LevelAbstraction,
+    lits: &[Lit],
+) -> Result<bool, AllocError>
+    requires nodes { HaveNodes graph.now lits.now }
+    requires flags { length analysis.old.flags ≡ length graph.now }
+    ensures follows { IfOk result (λ b. followed graph.now levels.now lits.now analysis.old
+        ≡ record { work = analysis.new; whole = b }) }
+    ensures flags { OnOk result (length analysis.new.flags ≡ length graph.now) }
+{
+    for lit in lits {
+        if !follow_one(analysis, graph, levels, *lit)? {
+            return Ok(false);
+        }
+    }
+    Ok(true)
+}
+
+/// The same of the literals of a long clause.
+fn follow_long(
+    analysis: &mut Analysis,
+    graph: &ImplGraph,
+    levels: &LevelAbstraction,
+    lits: &Lits<'_>,
+) -> Result<bool, AllocError>
+    requires nodes { HaveNodes graph.now lits.now }
+    requires flags { length analysis.old.flags ≡ length graph.now }
+    ensures { IfOk result (λ b. followed graph.now levels.now lits.now analysis.old
+        ≡ record { work = analysis.new; whole = b }) }
+{
+    for at in 0..lits.len() {
+        if !follow_one(analysis, graph, levels, lits.get(at))? {
+            return Ok(false);
+        }
+    }
+    Ok(true)
+}
+
+/// Marks the literals of a reason that aren't marked yet, and returns whether each of them may follow from the clause.
+/// Stops at the first one that may not.
 fn follow(
     analysis: &mut Analysis,
     graph: &ImplGraph,
@@ -27,19 +95,12 @@ fn follow(
     ensures { IfOk result (λ b. followed graph.now levels.now lits.now analysis.old
         ≡ record { work = analysis.new; whole = b }) }
 {
-    for at in 0..lits.len() {
-        let lit = lits.get(at);
-        let level = graph.level(lit.var());
-        if level == 0 || analysis.is_flagged(lit) {
-            continue;
-        }
-        let reason = graph.reason(lit.var());
-        if reason.is_unit() || !levels.test(level) {
-            return Ok(false);
-        }
-        analysis.mark(lit)?;
+    let (own, long) = lits.parts();
+    if !follow_own(analysis, graph, levels, own)? {
+        return Ok(false);
     }
-    Ok(true)
+    let whole = follow_long(analysis, graph, levels, long)?;
+    Ok(whole)
 }
 
 /// Whether the literal follows from the others of the clause. The literals by which it does are then among the used

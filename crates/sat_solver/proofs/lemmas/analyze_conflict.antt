@@ -18,4 +18,5 @@ pub mod Resolutions
 pub mod Sums
 pub mod Tracing
 pub mod Turned
+pub mod TwoParts
 pub mod Undoing

@@ -12,8 +12,43 @@ ghost use Rattle.sat_solver.specs.analyze_conflict.Involved.{Collecting, BeginsC
 use crate::analyze_conflict::work::Analysis;
 use sat_base::Lit;
 use sat_parts::{Assignment, CauseLits, Conflict, ImplGraph, Trail};
-use sat_store::ClauseAlloc;
+use sat_store::{ClauseAlloc, Lits};
 use std::alloc::AllocError;
+
+/// Meets the false literals of a list, one after the other.
+fn add_own(
+    analysis: &mut Analysis,
+    graph: &ImplGraph,
+    top: usize,
+    lits: &[Lit],
+) -> Result<(), AllocError>
+    requires nodes { HaveNodes graph.now lits.now }
+    requires flags { length analysis.old.flags ≡ length graph.now }
+    ensures meets { OnOk result (analysis.new ≡ with_literals graph.now top lits.now analysis.old) }
+    ensures flags { OnOk result (length analysis.new.flags ≡ length graph.now) }
+{
+    for lit in lits {
+        analysis.add(graph, top, *lit)?;
+    }
+    Ok(())
+}
+
+/// Meets the false literals of a long clause, one after the other.
+fn add_long(
+    analysis: &mut Analysis,
+    graph: &ImplGraph,
+    top: usize,
+    lits: &Lits<'_>,
+) -> Result<(), AllocError>
+    requires nodes { HaveNodes graph.now lits.now }
+    requires flags { length analysis.old.flags ≡ length graph.now }
+    ensures { OnOk result (analysis.new ≡ with_literals graph.now top lits.now analysis.old) }
+{
+    for at in 0..lits.len() {
+        analysis.add(graph, top, lits.get(at))?;
+    }
+    Ok(())
+}
 
 /// Meets these false literals, one after the other. Those of a level not below the one given are still to be resolved.
 pub(crate) fn add_all(
@@ -26,9 +61,9 @@ pub(crate) fn add_all(
     requires flags { length analysis.old.flags ≡ length graph.now }
     ensures { OnOk result (analysis.new ≡ with_literals graph.now top lits.now analysis.old) }
 {
-    for at in 0..lits.len() {
-        analysis.add(graph, top, lits.get(at))?;
-    }
+    let (own, long) = lits.parts();
+    add_own(analysis, graph, top, own)?;
+    add_long(analysis, graph, top, long)?;
     Ok(())
 }
 

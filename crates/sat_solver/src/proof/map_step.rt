@@ -15,6 +15,7 @@ ghost use Rattle.sat_solver.specs.session.FitLaws.{named_hashes};
 
 use sat_base::{ClauseHash, Lit, Var, lit_hash};
 use sat_parts::{CauseLits, Conflict, Parts, Reason};
+use sat_store::Lits;
 use std::alloc::AllocError;
 
 /// Puts the literals, in proof variables, into a list in place of what it had.
@@ -30,8 +31,19 @@ pub fn map_lits(globals: &[Var], lits: &[Lit], clause: &mut Vec<Lit>) -> Result<
     Ok(())
 }
 
-/// The hash of these literals.
-fn causes_hash(lits: &CauseLits) -> ClauseHash
+/// The hash of the literals of a list.
+fn own_hash(lits: &[Lit]) -> ClauseHash
+    ensures { result ≡ hash_of lits.now }
+{
+    let mut hash: ClauseHash = 0;
+    for lit in lits {
+        hash ^= lit_hash(*lit);
+    }
+    hash
+}
+
+/// The hash of the literals of a long clause.
+fn long_hash(lits: &Lits<'_>) -> ClauseHash
     ensures { result ≡ hash_of lits.now }
 {
     let mut hash: ClauseHash = 0;
@@ -39,6 +51,14 @@ fn causes_hash(lits: &CauseLits) -> ClauseHash
         hash ^= lit_hash(lits.get(at));
     }
     hash
+}
+
+/// The hash of these literals.
+fn causes_hash(lits: &CauseLits) -> ClauseHash
+    ensures { result ≡ hash_of lits.now }
+{
+    let (own, long) = lits.parts();
+    own_hash(own) ^ long_hash(long)
 }
 
 /// The hash of the clause by which a literal is true.

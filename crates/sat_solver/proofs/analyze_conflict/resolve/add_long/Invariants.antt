@@ -1,6 +1,6 @@
 use Rattle.std.proofs.Common.{◌≡◌, length, drop}
 use Rattle.sat_solver.specs.analyze_conflict.Work.{with_literals}
-use Rattle.sat_solver.proofs.analyze_conflict.resolve.add_all.Given as goal
+use Rattle.sat_solver.proofs.analyze_conflict.resolve.add_long.Given as goal
 
 abbrev pub invariant-loop-at : goal.invariant-loop-at
 invariant-loop-at l = record {
