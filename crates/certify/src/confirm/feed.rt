@@ -10,7 +10,7 @@ ghost use Rattle.certify.specs.confirm.Streams.{stream_of};
 ghost use Rattle.sat_checker.specs.CheckerView.{kernel_of};
 ghost use Rattle.sat_checker.specs.declared.kernel.Kernel.{Kernel};
 
-use crate::confirm::stop::{Stop, refused, unread};
+use crate::confirm::stop::{Stop, refused, refused_step, unread};
 use sat_base::{CountedRead, ProofStep, StepReader};
 use sat_checker::{Checker, SelfChecker};
 
@@ -39,14 +39,14 @@ pub(crate) fn read_next<R: CountedRead>(steps: &mut StepReader<'_, R>) -> Result
     }
 }
 
-/// Feeds a step. One that isn't accepted makes a no, whatever is expected.
+/// Feeds a step. One that is not accepted is a rejection, whatever is expected.
 pub(crate) fn feed(checker: &mut Checker, step: &ProofStep<'_>) -> Result<(), Stop>
     ensures feeds { FeedsStep result (kernel_of checker.old) (step_of step.now) (kernel_of checker.new) }
     ensures looks { LooksAtMost (kernel_of checker.old) (step_of step.now) (kernel_of checker.new) }
 {
-    match checker.self_check_step(step) {
+    match checker.accept_step(step) {
         Ok(()) => Ok(()),
-        Err(error) => Err(refused(error)),
+        Err(refusal) => Err(refused_step(refusal)),
     }
 }
 

@@ -1,12 +1,13 @@
 //! What ends a confirmation.
 ghost use Rattle.std.specs.Prelude.{◌≡◌};
+ghost use Rattle.sat_checker.specs.KernelView.{error_of};
 ghost use Rattle.certify.specs.confirm.Feeding.{stop_by};
 ghost use Rattle.certify.specs.confirm.Stopping.{answers_stop, script_stop};
 ghost use Rattle.certify.specs.confirm.Streams.{stop_of};
 
 use crate::verdict::Why;
 use sat_base::{ReadError, StepError};
-use sat_checker::CheckerError;
+use sat_checker::{CheckerError, StepRefusal};
 use std::alloc::{AllocError, AllocFailed};
 
 /// Why nothing more is confirmed, whichever of the three texts it is about.
@@ -83,8 +84,20 @@ pub(crate) fn unread(error: StepError) -> Stop
     }
 }
 
-/// Why a step wasn't accepted. A checker that goes on answers one of the first three; nobody listens to this one, so
-/// the last never comes.
+/// Why a step is not accepted. A checker that goes on never answers `HasFailed`.
+pub(crate) fn refused_step(refusal: StepRefusal) -> Stop
+    ensures { result ≡ stop_by (error_of refusal) }
+{
+    match refusal {
+        StepRefusal::CheckFailed => Stop::No(Why::StepRefused),
+        StepRefusal::OutOfMemory => Stop::OutOfMemory,
+        StepRefusal::CounterEnd => Stop::CounterEnd,
+        StepRefusal::HasFailed => Stop::No(Why::StepRefused),
+    }
+}
+
+/// Why a pending conflict is not settled. A checker that goes on answers one of the first three; this one has no
+/// listener, so the last never comes.
 pub(crate) fn refused(error: CheckerError) -> Stop
     ensures { result ≡ stop_by error }
 {

@@ -1,9 +1,10 @@
 use Rattle.sat_checker.specs.CheckerView.{kernel_of}
+use Rattle.sat_checker.specs.KernelView.{error_of}
 use Rattle.certify.proofs.lemmas.confirm.Feeding.{fed, unfed}
 use Rattle.certify.proofs.confirm.feed.feed.Goals as goal
 
 pub returns-in-Ok-clause-feeds : goal.returns-in-Ok-clause-feeds
-returns-in-Ok-clause-feeds c = fed (kernel_of c.args.checker.now) _ (kernel_of c.self_check_step.new.self) c.in-Ok.ensures.judges
+returns-in-Ok-clause-feeds c = fed (kernel_of c.args.checker.now) _ (kernel_of c.accept_step.new.self) c.in-Ok.ensures.judges
 
 pub returns-in-Err-clause-feeds : goal.returns-in-Err-clause-feeds
-returns-in-Err-clause-feeds c = rw c.refused.ensures (unfed c.in-Err.error (kernel_of c.args.checker.now) _ (kernel_of c.self_check_step.new.self) c.in-Err.ensures.judges)
+returns-in-Err-clause-feeds c = rw c.refused_step.ensures (unfed (error_of c.in-Err.refusal) (kernel_of c.args.checker.now) _ (kernel_of c.accept_step.new.self) c.in-Err.ensures.judges)
