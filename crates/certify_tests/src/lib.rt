@@ -17,6 +17,8 @@ mod devices;
 #[cfg(test)]
 mod endless;
 #[cfg(test)]
+mod examples;
+#[cfg(test)]
 mod files;
 #[cfg(test)]
 mod hints;

@@ -11,7 +11,7 @@ use std::io::ErrorKind;
 type Words = io::Result<Vec<String>>;
 
 /// Tests whether the program ends with this status, and writes these to its output and its errors.
-fn does<I: CountedRead>(
+pub(crate) fn does<I: CountedRead>(
     rt: &HostRuntime,
     words: Words,
     input: &mut I,
