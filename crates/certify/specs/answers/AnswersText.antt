@@ -4,7 +4,7 @@ use Rattle.sat_base.specs.script.Script.{Literal, Command, Ask, ScriptEnding, Cl
 use Rattle.sat_checker.specs.matching.Expected.{Outcome, Sat, Unsat, Unknown}
 use Rattle.sat_base.specs.script.Judge.{Judge, Refusal, PastLimit, WitnessName, refusal_of, after_command}
 
--- literals, each with a sign and a space behind it, and then `0` and LF
+-- literals, each with a sign and a space after it, and then `0` and LF
 abbrev pub literals_line : List Literal → List ℕ
 literals_line [] = codes "0\n"
 literals_line (l ∷ ls) = ((if l.positive then [] else codes "-") ++ decimal l.name) ++ (codes " " ++ literals_line ls)
@@ -20,7 +20,7 @@ abbrev pub refusal_line : ℕ → Refusal → List ℕ
 refusal_line k PastLimit = codes "c refused " ++ (decimal k ++ codes " limit\n")
 refusal_line k (WitnessName name) = codes "c refused " ++ (decimal k ++ (codes " witness " ++ (decimal name ++ codes "\n")))
 
--- a command's lines, and behind them what more says of the outcomes that are left: the first one is that of the next accepted ask
+-- a command's lines, followed by what `more` says of the outcomes that are left: the first is that of the next accepted ask
 abbrev pub command_lines : ℕ → Option Refusal → Command → List Outcome → (List Outcome → List ℕ) → List ℕ
 command_lines k (Some refusal) command outcomes more = refusal_line k refusal ++ more outcomes
 command_lines k None (Ask ls) (o ∷ os) more = outcome_lines o ++ more os

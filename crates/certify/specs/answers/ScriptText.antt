@@ -4,7 +4,7 @@ use Rattle.sat_base.specs.text.Text.{is_letter, is_none, lines, words, begins_wi
 use Rattle.sat_base.specs.script.Script.{Literal, Command, Clause, Ask, Hide, Witness, Sample, Clean, Malformed}
 use Rattle.sat_base.specs.script.Language.{Reading, with_ask}
 
--- a number, unless it is a 0 behind a minus sign
+-- a number, unless it is a 0 after a minus sign
 abbrev pub number : Bool → Option ℕ → Token
 number negative None = Wrong
 number negative (Some n) = if negative && nat_eq n 0 then Wrong else Number negative n
@@ -52,7 +52,7 @@ abbrev pub going_on : Option Command → (Option Command → Reading) → Readin
 going_on None more = ([], Malformed)
 going_on (Some command) more = more (Some command)
 
--- The commands that tokens spell, behind one that is begun, and how they end. What begins with a number is a clause, a zero ends a
+-- The commands that tokens spell, after one that has begun, and how they end. What begins with a number is a clause, a zero ends a
 -- command, and letters stand before one.
 unfoldable pub spelled : Option Command → List Token → Reading
 spelled None [] = ([], Clean)
@@ -64,11 +64,11 @@ spelled None (Letter b ∷ ts) = going_on (begun_by b) (λ h. spelled h ts)
 spelled hand (Header v c ∷ ts) = spelled hand ts
 spelled hand (t ∷ ts) = ([], Malformed)
 
--- a header stands first
+-- a header comes first
 abbrev pub is_headed : List Token → Bool
 is_headed (Header v c ∷ ts) = true
 is_headed ts = false
 
--- what a text says: its commands, and behind a header, where none of them is an ask, an ask under no literals
+-- what a text says: its commands and, after a header if none of them is an ask, an ask under no literals
 abbrev pub script_in : List ℕ → Reading
 script_in text = with_ask (is_headed (tokens_in true (lines text))) (spelled None (tokens_in true (lines text)))

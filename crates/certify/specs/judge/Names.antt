@@ -31,7 +31,7 @@ abbrev pub state_of_identity : List Mode → Option ℕ → NameState
 state_of_identity modes None = state.Hidden
 state_of_identity modes (Some identity) = state_of_mode (get_or modes identity Sampled)
 
--- the states of so many names, from name 1 on
+-- the states of the first names, from name 1 on
 abbrev pub first_states : Table NameState → ℕ → List NameState
 first_states states zero = []
 first_states states (suc n) = first_states states n ++ value_at state.Sampled states n ∷ []
@@ -103,7 +103,7 @@ is_witnessed state.Witnessed = true
 abbrev pub IsInUse : Names → ℕ → Type 0
 IsInUse names name = state_in (states_of names) name ≡ state.Hidden → ⊥
 
--- a name that a command brings in stands for a variable then, where names are a judge's
+-- a name that a command introduces then refers to a variable, if the names are those of a judge
 abbrev pub ComesInUse : (old new : Names) → ℕ → Type 0
 ComesInUse old new name = (j : Judge) → NamesStand old j → IsInUse new name
 

@@ -10,21 +10,21 @@ use Rattle.certify.specs.laws.EndToEnd.{most_looks_over}
 use Rattle.certify.specs.declared.verdict.Verdict.{Verdict}
 use Rattle.certify.specs.declared.verdict.Verdict.TheVariants.{Yes}
 
--- An ask over n variables took so many of the rounds that were left. It is unknown only where it took all, and never where 2^(2n+3)
+-- An ask over n variables took this many of the rounds that were left. It is unknown only if it took all, and never if 2^(2n+3)
 -- were left.
 pub record TookRounds (n left taken : ℕ) (o : Outcome) : Type 0 where
   pub within : taken ≤ left
   pub unknown : o ≡ Unknown → (taken ≡ left) × (left < 2 ^ (2 * n + 3))
 
--- each ask in its turn, where the earlier ones took so many
+-- every ask in its turn, if the earlier ones took this many
 abbrev pub EachTookRounds : (budget before : ℕ) → List Asked → List Outcome → List ℕ → Type 0
 EachTookRounds budget before [] [] [] = Unit {0}
 EachTookRounds budget before (a ∷ asks) (o ∷ outcomes) (taken ∷ rounds) =
     TookRounds a.state.next_identity (steps_left budget before) taken o × EachTookRounds budget (before + taken) asks outcomes rounds
 EachTookRounds budget before asks outcomes rounds = ⊥
 
--- A script was run, which wrote these answers and this certificate, with so many rounds for each ask. They were confirmed, and so were
--- others, with so many looks.
+-- A script was run, which wrote these answers and this certificate, with this many rounds for each ask. They were confirmed, and so were
+-- others, with this many looks.
 pub record Headline (script : List ℕ) (budget : ℕ) (rounds answers certificate : List ℕ) (own : Verdict)
     (claimed shown : List ℕ) (other : Verdict) (before after : ℕ) : Type 0 where
   -- one answer for each accepted ask: a right model, a right core, or unknown
