@@ -2,7 +2,7 @@
 ghost use Rattle.std.specs.Prelude.{◌≤◌, ◌+◌, IfOk, OnOk};
 ghost use Rattle.certify.specs.laws.EndToEnd.{Certified, VerdictSays, most_looks_over};
 ghost use Rattle.certify.specs.laws.Headline.{Headline};
-ghost use Rattle.certify.specs.run.FinishedRun.{Backs, asked_steps};
+ghost use Rattle.certify.specs.run.FinishedRun.{CertificateGuarantee, asked_steps};
 
 use crate::confirm::confirm;
 use crate::fault::RunFault;
@@ -38,7 +38,7 @@ pub enum HeadlineFault {
 
 /// Answers a script.
 fn run_over(alloc: Global, script: &[u8], budget: u64) -> Result<Written, RunFault>
-    ensures { IfOk result (λ w. Backs script.now budget w.summary w.answers.items w.certificate.items) }
+    ensures { IfOk result (λ w. CertificateGuarantee script.now budget w.summary w.answers.items w.certificate.items) }
 {
     let mut answers = Counted::new(Vec::new(alloc));
     let mut certificate = Counted::new(Vec::new(alloc));

@@ -1,7 +1,7 @@
 //! Formulas' texts, read in any pieces.
 ghost use Rattle.std.specs.Prelude.{◌≡◌, ◌≤◌, ◌+◌, ◌++◌, ◌⊎◌, length, Ok, Err, IfOk, IfErr, OnOk, IsErrOf};
 ghost use Rattle.sat_base.specs.device.Device.{most_reads, ReadFails, GaveEnough};
-ghost use Rattle.sat_base.specs.values.Literals.{largest};
+ghost use Rattle.sat_base.specs.values.Literals.{var_limit};
 ghost use Rattle.sat_base.specs.text.Text.{dimacs_header};
 ghost use Rattle.sat_base.specs.text.Tokenizing.{held};
 ghost use Rattle.sat_base.specs.values.Formulas.{vars_of};
@@ -105,7 +105,7 @@ impl DimacsParser {
     /// The highest number of a variable in a clause that was read to its end, over the whole text, or 0.
     pub fn var_count(&self) -> usize
         ensures count { result ≡ vars_of (clauses_read self.now) }
-        ensures bound { result ≤ largest }
+        ensures bound { result ≤ var_limit }
     {
         self.parser.clauses.formula.var_count()
     }

@@ -1,7 +1,7 @@
 //! Formulas in conjunctive normal form.
 ghost use Rattle.std.specs.Prelude.{◌≡◌, ◌≤◌, ◌<◌, [], length, ℕ, List, IsTrue, ◌↔◌};
 ghost use Rattle.std.specs.Map.Iter.{ShowsInOrder, deref};
-ghost use Rattle.sat_base.specs.values.Literals.{largest};
+ghost use Rattle.sat_base.specs.values.Literals.{var_limit};
 ghost use Rattle.sat_base.specs.values.Formulas.{no_formula, vars_in, vars_of, with_count, with_clause};
 ghost use Rattle.sat_base.specs.values.Formulas.{with_next_variable};
 ghost use Rattle.sat_base.specs.declared.formula.error.FormulaError.TheVariants.{OutOfMemory, VariableLimit};
@@ -27,14 +27,14 @@ pub struct CnfFormula {
 
 impl Model for CnfFormula {
     ghost use Rattle.std.specs.Prelude.{◌≤◌};
-    ghost use Rattle.sat_base.specs.values.Literals.{largest};
+    ghost use Rattle.sat_base.specs.values.Literals.{var_limit};
     ghost use Rattle.sat_base.specs.values.Formulas.{Formula, vars_of};
 
     ghost Value = { Formula };
 
     ghost view = { λ f. record { var_count = f.var_count; clauses = f.clauses } };
 
-    ghost invariant = { λ f. (vars_of f.clauses ≤ f.var_count) × (f.var_count ≤ largest) };
+    ghost invariant = { λ f. (vars_of f.clauses ≤ f.var_count) × (f.var_count ≤ var_limit) };
 }
 
 impl CnfFormula {
@@ -52,14 +52,14 @@ impl CnfFormula {
     pub fn var_count(&self) -> usize
         ensures count { result ≡ self.now.var_count }
         ensures covers { vars_of self.now.clauses ≤ self.now.var_count }
-        ensures bound { result ≤ largest }
+        ensures bound { result ≤ var_limit }
     {
         self.var_count
     }
 
     /// Raises the number of variables to this count. A lower count changes nothing.
     pub fn set_var_count(&mut self, count: usize)
-        requires { count ≤ largest }
+        requires { count ≤ var_limit }
         ensures { self.new ≡ with_count count self.old }
     {
         self.var_count = self.var_count.max(count);
@@ -92,7 +92,7 @@ impl CnfFormula {
 #[tactic(auto, using(crate::proofs::lemmas::values::FlatLemmas::vars_next))]
 fn vars_in(lits: &[Lit]) -> usize
     ensures count { result ≡ vars_in lits.now }
-    ensures bound { result ≤ largest }
+    ensures bound { result ≤ var_limit }
 {
     let mut count = 0;
     for lit in lits {
@@ -110,9 +110,9 @@ impl ExtendFormula for CnfFormula {
 
     ghost refuses_clause = { λ f clause e g. (e ≡ OutOfMemory) × (g ≡ f) };
 
-    ghost makes = { λ f v g. (v ≡ f.var_count) × (v < largest) × (g ≡ with_next_variable f) };
+    ghost makes = { λ f v g. (v ≡ f.var_count) × (v < var_limit) × (g ≡ with_next_variable f) };
 
-    ghost refuses_variable = { λ f e g. (e ≡ VariableLimit) × (f.var_count ≡ largest) × (g ≡ f) };
+    ghost refuses_variable = { λ f e g. (e ≡ VariableLimit) × (f.var_count ≡ var_limit) × (g ≡ f) };
 
     fn add_clause(&mut self, lits: &[Lit]) -> Result<(), FormulaError> {
         self.clauses.push(lits)?;

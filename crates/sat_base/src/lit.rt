@@ -1,6 +1,6 @@
 //! Literals.
 ghost use Rattle.std.specs.Prelude.{ℕ, ◌≡◌, ◌*◌, ◌<◌, not, true, false, MatchOption};
-ghost use Rattle.sat_base.specs.values.Literals.{coded, largest, variable, is_positive, negated, negated_if};
+ghost use Rattle.sat_base.specs.values.Literals.{coded, var_limit, variable, is_positive, negated, negated_if};
 ghost use Rattle.sat_base.specs.values.Numerals.{IsNoNumeral, numeral};
 
 use crate::Var;
@@ -16,7 +16,7 @@ pub struct Lit {
 
 impl Model for Lit {
     ghost use Rattle.std.specs.Prelude.{ℕ, ◌<◌, ◌*◌};
-    ghost use Rattle.sat_base.specs.values.Literals.{largest};
+    ghost use Rattle.sat_base.specs.values.Literals.{var_limit};
 
     ghost Value = { ℕ };
 
@@ -24,7 +24,7 @@ impl Model for Lit {
 
     ghost inverse = { λ n. record { code = n } };
 
-    ghost invariant = { λ l. l.code < 2 * largest };
+    ghost invariant = { λ l. l.code < 2 * var_limit };
 }
 
 impl Lit {
@@ -49,7 +49,7 @@ impl Lit {
 
     /// The literal of the variable with this index that is positive where asked.
     pub fn from_index(index: usize, positive: bool) -> Lit
-        requires { index < largest }
+        requires { index < var_limit }
         ensures { result ≡ coded index positive }
     {
         let sign = if positive { 0 } else { 1 };
@@ -60,7 +60,7 @@ impl Lit {
 
     /// The literal with this code.
     pub fn from_code(code: usize) -> Lit
-        requires { code < 2 * largest }
+        requires { code < 2 * var_limit }
         ensures { result ≡ code }
     {
         Lit { code: code as u32 }
@@ -92,7 +92,7 @@ impl Lit {
     /// The index of the variable.
     pub fn index(self) -> usize
         ensures value { result ≡ variable self }
-        ensures bound { result < largest }
+        ensures bound { result < var_limit }
     {
         (self.code / 2) as usize
     }
@@ -100,7 +100,7 @@ impl Lit {
     /// Twice the variable's index, plus one if the literal is negative.
     pub fn code(self) -> usize
         ensures value { result ≡ self }
-        ensures bound { result < 2 * largest }
+        ensures bound { result < 2 * var_limit }
     {
         self.code as usize
     }

@@ -1,6 +1,6 @@
 //! Variables.
 ghost use Rattle.std.specs.Prelude.{◌≡◌, ◌+◌, ◌<◌, true, false, MatchOption, pos};
-ghost use Rattle.sat_base.specs.values.Literals.{coded, largest};
+ghost use Rattle.sat_base.specs.values.Literals.{coded, var_limit};
 ghost use Rattle.sat_base.specs.values.Numerals.{IsNoVariable};
 
 use crate::Lit;
@@ -17,7 +17,7 @@ pub struct Var {
 
 impl Model for Var {
     ghost use Rattle.std.specs.Prelude.{ℕ, ◌<◌};
-    ghost use Rattle.sat_base.specs.values.Literals.{largest};
+    ghost use Rattle.sat_base.specs.values.Literals.{var_limit};
 
     ghost Value = { ℕ };
 
@@ -25,13 +25,13 @@ impl Model for Var {
 
     ghost inverse = { λ n. record { index = n } };
 
-    ghost invariant = { λ v. v.index < largest };
+    ghost invariant = { λ v. v.index < var_limit };
 }
 
 impl Var {
     /// The variable with this index.
     pub fn from_index(index: usize) -> Var
-        requires { index < largest }
+        requires { index < var_limit }
         ensures { result ≡ index }
     {
         Var {
@@ -42,7 +42,7 @@ impl Var {
     /// The index, from 0.
     pub fn index(self) -> usize
         ensures value { result ≡ self }
-        ensures bound { result < largest }
+        ensures bound { result < var_limit }
     {
         self.index as usize
     }
@@ -62,7 +62,7 @@ impl Var {
     /// The number of the variable, as DIMACS counts them, from 1.
     pub fn to_dimacs(self) -> i64
         ensures value { result ≡ pos (self + 1) }
-        ensures bound { self < largest }
+        ensures bound { self < var_limit }
     {
         self.index as i64 + 1
     }
@@ -88,7 +88,7 @@ impl Var {
 
     /// How many variables there are at most, which is the largest number of one in DIMACS too.
     pub const fn max_count() -> usize
-        ensures { result ≡ largest }
+        ensures { result ≡ var_limit }
     {
         MAX_COUNT
     }

@@ -2,7 +2,7 @@
 //!
 //! No `?` stands where a formula is owned: that is dear to prove.
 ghost use Rattle.std.specs.Prelude.{◌≡◌, ◌≤◌, ◌∷◌, [], ℕ, true, OnOk};
-ghost use Rattle.sat_base.specs.values.Literals.{coded, largest};
+ghost use Rattle.sat_base.specs.values.Literals.{coded, var_limit};
 
 use sat_base::{CnfFormula, ExtendFormula, FormulaError, Lit, Var};
 use std::alloc::Global;
@@ -76,7 +76,7 @@ fn clauses_come_in_order(rt: HostRuntime) {
 
 /// Sets a count, and gives the count that there is then.
 fn set(formula: &mut CnfFormula, count: usize) -> usize
-    requires { count ≤ largest }
+    requires { count ≤ var_limit }
 {
     formula.set_var_count(count);
     formula.var_count()

@@ -1,6 +1,6 @@
 //! Outside values, and each call once.
 ghost use Rattle.std.specs.Prelude.{◌<◌, ◌*◌};
-ghost use Rattle.sat_base.specs.values.Literals.{largest};
+ghost use Rattle.sat_base.specs.values.Literals.{var_limit};
 
 use sat_base::{Lit, Var, clause_hash, lit_hash, order_of_literals, order_of_variables};
 use std::cmp::Ordering;
@@ -41,7 +41,7 @@ fn first_of_literal(numbers: &[i64]) -> Option<i64> {
 
 /// Tests whether the literal of this number has this code, and that of the code the number.
 fn have(number: i64, code: usize) -> bool
-    requires { code < 2 * largest }
+    requires { code < 2 * var_limit }
 {
     match Lit::from_dimacs(number) {
         Some(lit) => lit.code() == code && Lit::from_code(code).to_dimacs() == number,

@@ -50,7 +50,7 @@ IsSettled c = kernels.IsSettled c.kernel
 
 -- One of those who were added answered the fault, where one was answered: nobody else did.
 abbrev pub FaultsOfSomebody : {P T : Type 0} → Result Unit CheckerError → Checker P T → Type 0
-FaultsOfSomebody result old = (steps : List Step) → kernels.Stands (kernel_of old) steps → IfErr result (FaultOfSomebody old.processing)
+FaultsOfSomebody result old = (steps : List Step) → kernels.HasAccepted (kernel_of old) steps → IfErr result (FaultOfSomebody old.processing)
 
 -- once it has failed it answers just that, whatever it keeps, and is as it was
 abbrev pub FailsAgain : {E P T : Type 0} → E → Result Unit E → Checker P T → Checker P T → Type 0
@@ -71,13 +71,13 @@ AddsListener (Err errors.ParseError) old new listened listen more = ⊥
 -- How those who listen take what is told, what was told before they are looked at, and what they were then.
 module _ {L : Type 0} (Hears : L → Told → Result Unit ProcessingError → L → Type 0) (before : List Told) (begun : L) where
   -- It has accepted these steps, the newest first, and keeps what they leave unless it has failed. Those who listen have heard all that these steps told behind what was told before.
-  pub record Stands (checker : Seen L) (steps : List Step) : Type 0 where
-    pub kernel : kernels.Stands checker.kernel steps
+  pub record HasAccepted (checker : Seen L) (steps : List Step) : Type 0 where
+    pub kernel : kernels.HasAccepted checker.kernel steps
     pub heard : has_failed checker ≡ false → HearsSince Hears before (told_by checker.kernel.state.formula.status.conflict steps) begun checker.listeners
 
   -- it stands where it stood, and answers nothing but HasFailed from then on
   pub record Fails (new : Seen L) (steps : List Step) : Type 0 where
-    pub stands : Stands new steps
+    pub stands : HasAccepted new steps
     pub failed : has_failed new ≡ true
 
   -- what waited was told, and no more
@@ -108,7 +108,7 @@ module _ {L : Type 0} (Hears : L → Told → Result Unit ProcessingError → L 
   -- the step was accepted, as the definition has it
   pub record Takes (new : Seen L) (step : Step) (steps : List Step) : Type 0 where
     pub accepts : Accepts (ready_after steps) step
-    pub stands : Stands new (step ∷ steps)
+    pub stands : HasAccepted new (step ∷ steps)
     pub goes_on : has_failed new ≡ false
 
   -- What an answer to a step means, where these steps were accepted before. A refused step is one that the definition refuses; `CounterEnd` is answered only where the last id or count was given.
@@ -125,7 +125,7 @@ module _ {L : Type 0} (Hears : L → Told → Result Unit ProcessingError → L 
 
   -- What an answer means where a pending unit conflict is settled, behind these steps. The empty clause has no id only where the last one was given.
   abbrev pub AnswersDelayed : Result Unit CheckerError → Seen L → Seen L → List Step → Type 0
-  AnswersDelayed (Ok x) old new steps = (has_failed old ≡ false) × (looks_of new ≡ looks_of old) × Stands new steps × (has_failed new ≡ false) × IsSettled new
+  AnswersDelayed (Ok x) old new steps = (has_failed old ≡ false) × (looks_of new ≡ looks_of old) × HasAccepted new steps × (has_failed new ≡ false) × IsSettled new
   AnswersDelayed (Err errors.CounterEnd) old new steps = (has_failed old ≡ false) × (looks_of new ≡ looks_of old) × IsSpent (ready_after steps) × FailsBeforeStep new steps
   AnswersDelayed (Err errors.OutOfMemory) old new steps =
       (has_failed old ≡ false) × (looks_of new ≡ looks_of old) × kernels.LeavesConflict steps × FailsAtListener faults.OutOfMemory (all_told_after steps) new steps
@@ -152,12 +152,12 @@ module _ {L : Type 0} (Hears : L → Told → Result Unit ProcessingError → L 
 module _ {L : Type 0} (Hears : L → Told → Result Unit ProcessingError → L → Type 0) where
   -- the answer to a step means so, whatever was accepted and told before
   abbrev pub ChecksStep : Result Unit CheckerError → Seen L → Step → Seen L → Type 0
-  ChecksStep result old step new = (before : List Told) (begun : L) (steps : List Step) → Stands Hears before begun old steps → AnswersStep Hears before begun result old step new steps
+  ChecksStep result old step new = (before : List Told) (begun : L) (steps : List Step) → HasAccepted Hears before begun old steps → AnswersStep Hears before begun result old step new steps
 
   -- so does the answer where a pending unit conflict is settled
   abbrev pub ChecksDelayed : Result Unit CheckerError → Seen L → Seen L → Type 0
-  ChecksDelayed result old new = (before : List Told) (begun : L) (steps : List Step) → Stands Hears before begun old steps → AnswersDelayed Hears before begun result old new steps
+  ChecksDelayed result old new = (before : List Told) (begun : L) (steps : List Step) → HasAccepted Hears before begun old steps → AnswersDelayed Hears before begun result old new steps
 
   -- and the answer to a clause of the formula
   abbrev pub ChecksClause : Result Unit CheckerError → Seen L → List ℕ → Seen L → Type 0
-  ChecksClause result old clause new = (before : List Told) (begun : L) (steps : List Step) → Stands Hears before begun old steps → AnswersClause Hears before begun result old clause new steps
+  ChecksClause result old clause new = (before : List Told) (begun : L) (steps : List Step) → HasAccepted Hears before begun old steps → AnswersClause Hears before begun result old clause new steps

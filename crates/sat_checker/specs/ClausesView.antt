@@ -2,7 +2,7 @@
 use Rattle.std.specs.Prelude.{ℕ, ◌≡◌, ◌+◌, ◌≤◌, true, false, List, [], ◌∷◌, ◌++◌, map, Result, Ok, Err}
 use Rattle.sat_base.specs.steps.Steps.{Step, AddClause}
 use Rattle.sat_checker.specs.Accepts.{Accepts, stored_after, ready_after}
-use Rattle.sat_checker.specs.CheckerView.{Seen, has_failed, looks_of, Stands, FailsBeforeStep, BreaksAt, StarvesAt}
+use Rattle.sat_checker.specs.CheckerView.{Seen, has_failed, looks_of, HasAccepted, FailsBeforeStep, BreaksAt, StarvesAt}
 use Rattle.sat_checker.specs.announcements.Announcements.{Told}
 use Rattle.sat_checker.specs.ProofView.{taken_after, most_looks_behind, StandsUnfailed}
 use Rattle.sat_checker.specs.Spent.{SpentBy}
@@ -50,4 +50,4 @@ module _ {L : Type 0} (Hears : L → Told → Result Unit ProcessingError → L 
 module _ {L : Type 0} (Hears : L → Told → Result Unit ProcessingError → L → Type 0) where
   -- the answer to clauses means so, whatever was accepted and told before
   abbrev pub AddsClauses : Result Unit CheckerError → Seen L → Seen L → List (List ℕ) → Type 0
-  AddsClauses result old new clauses = (before : List Told) (begun : L) (steps : List Step) → Stands Hears before begun old steps → AnswersClauses Hears before begun result old new clauses steps
+  AddsClauses result old new clauses = (before : List Told) (begun : L) (steps : List Step) → HasAccepted Hears before begun old steps → AnswersClauses Hears before begun result old new clauses steps

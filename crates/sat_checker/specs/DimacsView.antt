@@ -8,7 +8,7 @@ use Rattle.sat_base.specs.declared.dimacs.error.DimacsError.{DimacsError}
 use Rattle.sat_base.specs.declared.dimacs.error.DimacsError.TheVariants as texts
 use Rattle.sat_base.specs.steps.Steps.{Step}
 use Rattle.sat_checker.specs.KernelView as kernels
-use Rattle.sat_checker.specs.CheckerView.{Seen, kernel_of, has_failed, Stands, FailsBeforeStep}
+use Rattle.sat_checker.specs.CheckerView.{Seen, kernel_of, has_failed, HasAccepted, FailsBeforeStep}
 use Rattle.sat_checker.specs.announcements.Announcements.{Told}
 use Rattle.sat_checker.specs.ProofView.{NoReadFailed, StandsUnfailed}
 use Rattle.sat_checker.specs.ClausesView.{AddsFirstClauses, after_additions, AnswersClauses}
@@ -64,7 +64,7 @@ module _ {L : Type 0} (Hears : L → Told → Result Unit ProcessingError → L 
 module _ {L : Type 0} (Hears : L → Told → Result Unit ProcessingError → L → Type 0) where
   -- the answer to a formula's text means so, whatever was accepted and told before
   abbrev pub AddsDimacs : Result Unit CheckerDimacsError → Seen L → Seen L → Reader → Reader → Type 0
-  AddsDimacs result old new from to = (before : List Told) (begun : L) (steps : List Step) → Stands Hears before begun old steps → AnswersDimacs Hears before begun result old new from to steps
+  AddsDimacs result old new from to = (before : List Told) (begun : L) (steps : List Step) → HasAccepted Hears before begun old steps → AnswersDimacs Hears before begun result old new from to steps
 
 -- one of those who were added answered the fault, where one was answered
 abbrev pub DimacsFaultOfSomebody : {P T : Type 0} → Processing P T → CheckerDimacsError → Type 0
@@ -73,7 +73,7 @@ DimacsFaultOfSomebody old (refused.Dimacs error) = Unit {0}
 
 -- an answer names the fault of one who listens only where somebody was added
 abbrev pub DimacsFaultsOfSomebody : {P T : Type 0} → Result Unit CheckerDimacsError → Checker P T → Type 0
-DimacsFaultsOfSomebody result old = (steps : List Step) → kernels.Stands (kernel_of old) steps → IfErr result (DimacsFaultOfSomebody old.processing)
+DimacsFaultsOfSomebody result old = (steps : List Step) → kernels.HasAccepted (kernel_of old) steps → IfErr result (DimacsFaultOfSomebody old.processing)
 
 -- the clauses of the words that have ended in a text stay the first, however it goes on
 abbrev pub EndedStayFirst : Type 0

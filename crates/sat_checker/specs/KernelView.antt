@@ -37,14 +37,14 @@ abbrev pub records_of : Stored → Records
 records_of f = record { unsat = f.unsat; ended = f.ended; var_deleted = f.var_deleted }
 
 -- It has accepted these steps, the newest first, and keeps what they leave unless it has failed.
-pub record Stands (kernel : Kernel) (steps : List Step) : Type 0 where
+pub record HasAccepted (kernel : Kernel) (steps : List Step) : Type 0 where
   pub accepted : AcceptsAll steps
   pub records : kernel.records ≡ records_of (stored_after steps)
   pub kept : kernel.failed ≡ false → KeepsAfter kernel.state steps
 
 -- it stands where it stood, and answers nothing but HasFailed from then on
 pub record Fails (new : Kernel) (steps : List Step) : Type 0 where
-  pub stands : Stands new steps
+  pub stands : HasAccepted new steps
   pub failed : has_failed new ≡ true
 
 -- a unit conflict that these steps left is pending, and is told before the next step is judged
@@ -54,7 +54,7 @@ LeavesConflict steps = (stored_after steps).conflict ≢ None
 -- the step was accepted, as the definition has it
 pub record Takes (new : Kernel) (step : Step) (steps : List Step) : Type 0 where
   pub accepts : Accepts (ready_after steps) step
-  pub stands : Stands new (step ∷ steps)
+  pub stands : HasAccepted new (step ∷ steps)
   pub goes_on : has_failed new ≡ false
 
 -- What an answer to a step means, where these steps were accepted before. A refused step is one that the definition refuses; `CounterEnd` is answered only where the last id or count was given.
@@ -90,15 +90,15 @@ answer_of (Err refusal) = Err (error_of refusal)
 
 -- the answer to a step means so, whatever steps were accepted before
 abbrev pub ChecksStep : Result Unit CheckerError → Kernel → Step → Kernel → Type 0
-ChecksStep result old step new = (steps : List Step) → Stands old steps → AnswersStep result old step new steps
+ChecksStep result old step new = (steps : List Step) → HasAccepted old steps → AnswersStep result old step new steps
 
 -- the step takes no more looks than its bound
 abbrev pub LooksAtMost : Kernel → Step → Kernel → Type 0
-LooksAtMost old step new = (steps : List Step) → Stands old steps → looks_of new ≤ looks_of old + most_looks (ready_after steps) step
+LooksAtMost old step new = (steps : List Step) → HasAccepted old steps → looks_of new ≤ looks_of old + most_looks (ready_after steps) step
 
 -- What an answer means where a pending unit conflict is settled, behind these steps. The empty clause has no id only where the last one was given.
 abbrev pub AnswersDelayed : Result Unit CheckerError → Kernel → Kernel → List Step → Type 0
-AnswersDelayed (Ok x) old new steps = (has_failed old ≡ false) × (looks_of new ≡ looks_of old) × Stands new steps × (has_failed new ≡ false) × IsSettled new
+AnswersDelayed (Ok x) old new steps = (has_failed old ≡ false) × (looks_of new ≡ looks_of old) × HasAccepted new steps × (has_failed new ≡ false) × IsSettled new
 AnswersDelayed (Err errors.CounterEnd) old new steps = (has_failed old ≡ false) × (looks_of new ≡ looks_of old) × IsSpent (ready_after steps) × Fails new steps
 AnswersDelayed (Err errors.HasFailed) old new steps = (has_failed old ≡ true) × Fails new steps
 AnswersDelayed (Err errors.CheckFailed) old new steps = ⊥
@@ -111,4 +111,4 @@ AnswersDelayed (Err errors.ParseError) old new steps = ⊥
 
 -- the answer where a pending unit conflict is settled means so, whatever steps were accepted before
 abbrev pub ChecksDelayed : Result Unit CheckerError → Kernel → Kernel → Type 0
-ChecksDelayed result old new = (steps : List Step) → Stands old steps → AnswersDelayed result old new steps
+ChecksDelayed result old new = (steps : List Step) → HasAccepted old steps → AnswersDelayed result old new steps

@@ -7,7 +7,7 @@ use Rattle.sat_base.specs.steps.Steps.{Step, End}
 use Rattle.sat_base.specs.steps.StepText.{SpellsStep, SpellsSteps}
 use Rattle.sat_checker.specs.Accepts.{Accepts, stored_after, ready_after}
 use Rattle.sat_checker.specs.Looks.{most_looks}
-use Rattle.sat_checker.specs.CheckerView.{Seen, has_failed, looks_of, IsSettled, Stands, FailsRefusing, FailsBeforeStep, BreaksAt, StarvesAt}
+use Rattle.sat_checker.specs.CheckerView.{Seen, has_failed, looks_of, IsSettled, HasAccepted, FailsRefusing, FailsBeforeStep, BreaksAt, StarvesAt}
 use Rattle.sat_checker.specs.announcements.Announcements.{Told}
 use Rattle.sat_checker.specs.Spent.{SpentBy}
 use Rattle.sat_checker.specs.declared.error.CheckerError.{CheckerError}
@@ -60,7 +60,7 @@ NoReadFailed from to = to.failures ≡ from.failures
 module _ {L : Type 0} (Hears : L → Told → Result Unit ProcessingError → L → Type 0) (before : List Told) (begun : L) where
   -- these steps stand, and it goes on
   abbrev pub StandsUnfailed : Seen L → List Step → Type 0
-  StandsUnfailed new steps = Stands Hears before begun new steps × (has_failed new ≡ false)
+  StandsUnfailed new steps = HasAccepted Hears before begun new steps × (has_failed new ≡ false)
 
   -- What an answer to a proof means, where these steps were accepted before. `Ok` comes exactly where what was read are accepted steps up to the first end, of which nothing behind is looked at.
   abbrev pub AnswersProof : Result Unit CheckerError → Seen L → Seen L → Reader → Reader → List Step → Type 0
@@ -100,4 +100,4 @@ module _ {L : Type 0} (Hears : L → Told → Result Unit ProcessingError → L 
 module _ {L : Type 0} (Hears : L → Told → Result Unit ProcessingError → L → Type 0) where
   -- the answer to a proof means so, whatever was accepted and told before
   abbrev pub ChecksProof : Result Unit CheckerError → Seen L → Seen L → Reader → Reader → Type 0
-  ChecksProof result old new from to = (before : List Told) (begun : L) (steps : List Step) → Stands Hears before begun old steps → AnswersProof Hears before begun result old new from to steps
+  ChecksProof result old new from to = (before : List Told) (begun : L) (steps : List Step) → HasAccepted Hears before begun old steps → AnswersProof Hears before begun result old new from to steps

@@ -5,7 +5,7 @@ ghost use Rattle.sat_base.specs.steps.StepViews.{step_of};
 ghost use Rattle.sat_checker.specs.Stored.{is_known, name_of};
 ghost use Rattle.sat_checker.specs.Accepts.{ready_after};
 ghost use Rattle.sat_checker.specs.KernelView as kernels;
-ghost use Rattle.sat_checker.specs.KernelView.{has_failed, looks_of, LooksAtMost, Stands};
+ghost use Rattle.sat_checker.specs.KernelView.{has_failed, looks_of, LooksAtMost, HasAccepted};
 ghost use Rattle.sat_checker.specs.CheckerView.{kernel_of, seen_of, AddsListener, ChecksStep, ChecksDelayed};
 ghost use Rattle.sat_checker.specs.CheckerView.{ChecksClause, FaultsOfSomebody, FailsAgain};
 ghost use Rattle.sat_checker.specs.declared.error.CheckerError.TheVariants.{HasFailed};
@@ -36,7 +36,7 @@ pub struct Checker<P: ProofProcessor = Nobody, T: ProofTranscriptProcessor = Nob
 impl Checker<Nobody, Nobody> {
     /// No clause and no step yet, and nobody will listen. Nothing is allocated.
     pub fn new(alloc: Global) -> Checker<Nobody, Nobody>
-        ensures stands { Stands (kernel_of result) [] }
+        ensures stands { HasAccepted (kernel_of result) [] }
         ensures goes_on { has_failed (kernel_of result) ≡ false }
         ensures settled { kernels.IsSettled (kernel_of result) }
         ensures looks { looks_of (kernel_of result) ≡ 0 }
@@ -61,7 +61,7 @@ impl Checker<Nobody, Nobody> {
 impl<P: ProofProcessor, T: ProofTranscriptProcessor> Checker<P, T> {
     /// As `new`, for processors and transcripts of these types. Nobody listens yet.
     pub fn telling(alloc: Global) -> Checker<P, T>
-        ensures stands { Stands (kernel_of result) [] }
+        ensures stands { HasAccepted (kernel_of result) [] }
         ensures goes_on { has_failed (kernel_of result) ≡ false }
         ensures settled { kernels.IsSettled (kernel_of result) }
         ensures looks { looks_of (kernel_of result) ≡ 0 }
@@ -75,7 +75,7 @@ impl<P: ProofProcessor, T: ProofTranscriptProcessor> Checker<P, T> {
 
     /// As `telling`, for those whom another checker handed back: they listen again, each list in its order.
     pub fn telling_again(alloc: Global, listeners: Processors<P, T>) -> Checker<P, T>
-        ensures stands { Stands (kernel_of result) [] }
+        ensures stands { HasAccepted (kernel_of result) [] }
         ensures goes_on { has_failed (kernel_of result) ≡ false }
         ensures settled { kernels.IsSettled (kernel_of result) }
         ensures looks { looks_of (kernel_of result) ≡ 0 }
@@ -172,7 +172,7 @@ impl<P: ProofProcessor, T: ProofTranscriptProcessor> Checker<P, T> {
 
     /// Whether the steps so far leave no valuation: a clause among them is empty, or units contradict each other.
     pub fn unsat(&self) -> bool
-        ensures { (steps : List Step) → Stands (kernel_of self.now) steps → result ≡ (ready_after steps).unsat }
+        ensures { (steps : List Step) → HasAccepted (kernel_of self.now) steps → result ≡ (ready_after steps).unsat }
     {
         self.kernel.records.unsat
     }
@@ -186,14 +186,14 @@ impl<P: ProofProcessor, T: ProofTranscriptProcessor> Checker<P, T> {
 
     /// Whether `End` was accepted.
     pub fn ended(&self) -> bool
-        ensures { (steps : List Step) → Stands (kernel_of self.now) steps → result ≡ (ready_after steps).ended }
+        ensures { (steps : List Step) → HasAccepted (kernel_of self.now) steps → result ≡ (ready_after steps).ended }
     {
         self.kernel.records.ended
     }
 
     /// Whether a `DeleteVar` was accepted.
     pub fn var_deleted(&self) -> bool
-        ensures { (steps : List Step) → Stands (kernel_of self.now) steps → result ≡ (ready_after steps).var_deleted }
+        ensures { (steps : List Step) → HasAccepted (kernel_of self.now) steps → result ≡ (ready_after steps).var_deleted }
     {
         self.kernel.records.var_deleted
     }
@@ -201,7 +201,7 @@ impl<P: ProofProcessor, T: ProofTranscriptProcessor> Checker<P, T> {
     /// The user's name of a variable, while the checker hasn't failed.
     pub fn user_name(&self, var: Var) -> Option<Var>
         ensures { has_failed (kernel_of self.now) ≡ false
-            → (steps : List Step) → Stands (kernel_of self.now) steps → result ≡ name_of var (ready_after steps) }
+            → (steps : List Step) → HasAccepted (kernel_of self.now) steps → result ≡ name_of var (ready_after steps) }
     {
         self.kernel.state.variables.data(var).name
     }
@@ -209,7 +209,7 @@ impl<P: ProofProcessor, T: ProofTranscriptProcessor> Checker<P, T> {
     /// Whether the variable is known, while the checker hasn't failed.
     pub fn knows(&self, var: Var) -> bool
         ensures { has_failed (kernel_of self.now) ≡ false
-            → (steps : List Step) → Stands (kernel_of self.now) steps → result ≡ is_known var (ready_after steps) }
+            → (steps : List Step) → HasAccepted (kernel_of self.now) steps → result ≡ is_known var (ready_after steps) }
     {
         self.kernel.state.variables.data(var).known
     }

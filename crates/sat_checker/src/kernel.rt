@@ -2,7 +2,7 @@
 ghost use Rattle.std.specs.Prelude.{List, ◌≤◌, ◌≡◌, true, false, [], None, Ok, Err, OnOk, IsTrue, MatchResult};
 ghost use Rattle.sat_base.specs.steps.StepViews.{step_of};
 ghost use Rattle.sat_checker.specs.KernelView as kernels;
-ghost use Rattle.sat_checker.specs.KernelView.{error_of, has_failed, looks_of, Stands};
+ghost use Rattle.sat_checker.specs.KernelView.{error_of, has_failed, looks_of, HasAccepted};
 ghost use Rattle.sat_checker.specs.CheckerView.{seen, ChecksStep, ChecksDelayed};
 ghost use Rattle.sat_checker.specs.announcements.Announcements.{Told};
 ghost use Rattle.sat_checker.specs.inner.TellingSteps.{announced_by, changed_by, put_back, was_of, failure_of, fault_of};
@@ -135,7 +135,7 @@ pub(crate) struct Kernel {
 impl Kernel {
     /// No step yet. Nothing is allocated.
     pub fn new(alloc: Global) -> Kernel
-        ensures stands { Stands result [] }
+        ensures stands { HasAccepted result [] }
         ensures goes_on { has_failed result ≡ false }
         ensures settled { result.state.formula.status.conflict ≡ None }
         ensures looks { looks_of result ≡ 0 }

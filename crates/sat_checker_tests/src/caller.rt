@@ -4,7 +4,7 @@ ghost use Rattle.sat_base.specs.steps.Steps.{Step, End};
 ghost use Rattle.sat_base.specs.values.Clauses.{Valuation};
 ghost use Rattle.sat_checker.specs.Fold.{Holds};
 ghost use Rattle.sat_checker.specs.CheckerView.{kernel_of};
-ghost use Rattle.sat_checker.specs.KernelView.{Stands, IsSettled};
+ghost use Rattle.sat_checker.specs.KernelView.{HasAccepted, IsSettled};
 ghost use Rattle.sat_checker.specs.ProofView.{GaveSteps, taken_after};
 ghost use Rattle.sat_checker.specs.ClausesView.{after_additions};
 
@@ -35,7 +35,7 @@ fn is_refuted_by<R: CountedRead>(
     formula: &CnfFormula,
     proof: &mut R,
 ) -> Result<bool, CheckerError>
-    requires stands { Stands (kernel_of checker.old) [] }
+    requires stands { HasAccepted (kernel_of checker.old) [] }
     requires settled { IsSettled (kernel_of checker.old) }
     ensures { IfOk result (λ refuted. (passed : List Step) × (rest : List ℕ)
         × GaveSteps (R.seen proof.old) (R.seen proof.new) (passed ++ End ∷ []) rest

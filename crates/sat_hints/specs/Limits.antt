@@ -1,15 +1,15 @@
 -- Steps whose literals and variables are within their limits, as those of a certificate that is read are.
 use Rattle.std.specs.Prelude.{◌*◌, ◌<◌}
 use Rattle.std.specs.List.{AllByRecursion}
-use Rattle.sat_base.specs.values.Literals.{largest}
+use Rattle.sat_base.specs.values.Literals.{var_limit}
 use Rattle.sat_base.specs.steps.Steps.{Step, DeleteVar, AddClause, AtClause, UnitClauses, FailedAssumptions}
 use Rattle.sat_hints.specs.Lines.{AreLiteralCodes}
 
 -- the deleted variable, or the literals of the clause added or derived, the units or the core, are within their limits; of other steps nothing is asked
 abbrev pub FitsStep : Step → Type 0
-FitsStep (DeleteVar v) = v < largest
+FitsStep (DeleteVar v) = v < var_limit
 FitsStep (AddClause clause) = AreLiteralCodes clause
 FitsStep (AtClause redundant clause hashes) = AreLiteralCodes clause
-FitsStep (UnitClauses units) = AllByRecursion (λ u. u.0 < 2 * largest) units
+FitsStep (UnitClauses units) = AllByRecursion (λ u. u.0 < 2 * var_limit) units
 FitsStep (FailedAssumptions core hashes) = AreLiteralCodes core
 FitsStep step = Unit {0}

@@ -1,7 +1,7 @@
 -- The lines of a hint text, and their bytes. Lists of lines have the newest first.
 use Rattle.std.specs.Prelude.{ℕ, ◌+◌, ◌*◌, ◌-◌, ◌^◌, ◌<◌, ◌≡◌, List, [], ◌∷◌, ◌++◌, decimal, codes}
 use Rattle.std.specs.List.{AllByRecursion}
-use Rattle.sat_base.specs.values.Literals.{largest}
+use Rattle.sat_base.specs.values.Literals.{var_limit}
 use Rattle.sat_base.specs.dimacs.DimacsText.{number_text}
 
 -- A clause has an id, and a literal is its code.
@@ -18,11 +18,11 @@ AreIds = AllByRecursion (λ id. id < 2 ^ 64 - 1)
 
 -- variables are indices, within the limit
 abbrev pub AreVariables : List ℕ → Type 0
-AreVariables = AllByRecursion (λ v. v < largest)
+AreVariables = AllByRecursion (λ v. v < var_limit)
 
 -- literals are codes, of variables within the limit
 abbrev pub AreLiteralCodes : List ℕ → Type 0
-AreLiteralCodes = AllByRecursion (λ l. l < 2 * largest)
+AreLiteralCodes = AllByRecursion (λ l. l < 2 * var_limit)
 
 -- its ids, literals and variable are within their limits
 abbrev pub IsLine : Line → Type 0

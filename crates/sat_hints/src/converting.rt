@@ -2,7 +2,7 @@
 ghost use Rattle.std.specs.Prelude.{◌≡◌, [], false};
 ghost use Rattle.std.specs.Option.{option_map};
 ghost use Rattle.sat_checker.specs.CheckerView.{kernel_of, seen_of};
-ghost use Rattle.sat_checker.specs.KernelView.{has_failed, IsSettled, Stands};
+ghost use Rattle.sat_checker.specs.KernelView.{has_failed, IsSettled, HasAccepted};
 ghost use Rattle.sat_checker.specs.telling.AnnouncementView.{announcement_of};
 ghost use Rattle.sat_checker.specs.telling.ProcessingView.{listeners_of};
 ghost use Rattle.sat_hints.specs.Conversion.{line_told};
@@ -118,7 +118,7 @@ fn write_checked<R: CountedRead, W: CountedWrite + Drop>(
     certificate: &mut R,
     lines: &mut LineWriter<W>,
 ) -> Result<(), HintError>
-    requires stands { Stands (kernel_of checker.old) [] }
+    requires stands { HasAccepted (kernel_of checker.old) [] }
     requires goes_on { has_failed (kernel_of checker.old) ≡ false }
     requires settled { IsSettled (kernel_of checker.old) }
     requires listeners { listeners_of (seen_of checker.old).listeners ≡ record { processors = []; transcripts = [] } }

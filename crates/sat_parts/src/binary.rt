@@ -1,7 +1,7 @@
 //! Clauses of two literals.
 ghost use Rattle.std.specs.Prelude.{ℕ, ◌≡◌, ◌+◌, ◌-◌, ◌*◌, ◌/◌, ◌<◌, ◌≤◌, ◌⊎◌, ◌∷◌, ◌++◌, [], length, take, drop, replicate, OnOk, OnErr};
 ghost use Rattle.std.specs.Prelude.{slice_index, slice_index_or, slice_set, vec_capacity};
-ghost use Rattle.sat_base.specs.values.Literals.{largest, negated};
+ghost use Rattle.sat_base.specs.values.Literals.{var_limit, negated};
 ghost use Rattle.sat_parts.specs.prop.Values.{is_unset};
 ghost use Rattle.sat_parts.specs.prop.Binaries.{implied_by, with_implied, without_last, with_binary, with_literals};
 ghost use Rattle.sat_parts.specs.prop.Binaries.{open_among, implications, RemovesAssigned};
@@ -241,7 +241,7 @@ impl BinaryClauses {
 
     /// Makes the literals those of so many variables. New ones imply nothing.
     pub fn set_var_count(&mut self, alloc: Global, count: usize) -> Result<(), AllocError>
-        requires { count ≤ largest }
+        requires { count ≤ var_limit }
         ensures done { OnOk result (self.new ≡ with_literals (2 * count) self.old) }
         ensures same { OnErr result (self.new ≡ self.old) }
     {

@@ -1,6 +1,6 @@
 //! The parts of a search.
 ghost use Rattle.std.specs.Prelude.{◌≡◌, ◌≤◌, OnOk, length, []};
-ghost use Rattle.sat_base.specs.values.Literals.{largest};
+ghost use Rattle.sat_base.specs.values.Literals.{var_limit};
 ghost use Rattle.sat_parts.specs.prop.Trails.{no_trail};
 ghost use Rattle.sat_parts.specs.parts.Whole.{PartsInvariant};
 ghost use Rattle.sat_parts.specs.parts.Frame.{Grown};
@@ -36,7 +36,7 @@ pub struct Parts {
 pub fn grow(alloc: Global, parts: &mut Parts, count: usize) -> Result<(), AllocError>
     requires holds { PartsInvariant parts.old }
     requires more { length parts.old.assignment.current ≤ count }
-    requires few { count ≤ largest }
+    requires few { count ≤ var_limit }
     ensures holds { OnOk result (PartsInvariant parts.new) }
     ensures grown { OnOk result (Grown parts.old parts.new count) }
 {

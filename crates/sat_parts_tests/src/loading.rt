@@ -1,6 +1,6 @@
 //! Clauses that come to the parts of a search.
 ghost use Rattle.std.specs.Prelude.{ℕ, ◌≡◌, ◌≢◌, ◌*◌, ◌<◌, ◌≤◌, IsTrue, OnOk, [], length, slice_index_or};
-ghost use Rattle.sat_base.specs.values.Literals.{largest};
+ghost use Rattle.sat_base.specs.values.Literals.{var_limit};
 ghost use Rattle.sat_parts.specs.clause.Orders.{AreDistinct};
 ghost use Rattle.sat_parts.specs.parts.Whole.{PartsInvariant};
 ghost use Rattle.sat_parts_tests.specs.Loading.{IsReady};
@@ -56,7 +56,7 @@ fn use_all(parts: &mut Parts, count: usize)
     requires holds { PartsInvariant parts.old }
     requires bottom { parts.old.trail.starts ≡ [] }
     requires size { length parts.old.assignment.current ≡ count }
-    requires few { count ≤ largest }
+    requires few { count ≤ var_limit }
     ensures { IsReady parts.new count }
 {
     for index in 0..count {
@@ -68,7 +68,7 @@ fn use_all(parts: &mut Parts, count: usize)
 fn begin(alloc: Global, parts: &mut Parts, count: usize) -> Result<(), AllocError>
     requires holds { PartsInvariant parts.old }
     requires none { parts.old.assignment.current ≡ [] }
-    requires few { count ≤ largest }
+    requires few { count ≤ var_limit }
     ensures { OnOk result (IsReady parts.new count) }
 {
     grow(alloc, parts, count)?;
@@ -135,7 +135,7 @@ pub fn loaded(
 ) -> Result<bool, StoreError>
     requires holds { PartsInvariant parts.old }
     requires none { parts.old.assignment.current ≡ [] }
-    requires few { count ≤ largest }
+    requires few { count ≤ var_limit }
     ensures { OnOk result (IsReady parts.new count) }
 {
     begin(alloc, parts, count)?;

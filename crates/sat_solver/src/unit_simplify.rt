@@ -2,7 +2,7 @@
 ghost use Rattle.sat_solver.specs.proof.ProofView.{HasAllowedSteps, session_of};
 ghost use Rattle.sat_solver.specs.cdcl.Going.{EmitsSteps};
 ghost use Rattle.sat_solver.specs.cdcl.Joint.{IsSearch};
-ghost use Rattle.sat_solver.specs.unit_simplify.Flat.{IsFlat, LightensAll};
+ghost use Rattle.sat_solver.specs.unit_simplify.Flat.{IsFlat, StrengthensAll};
 ghost use Rattle.sat_solver.specs.unit_simplify.Passes.{StandTogether, Simplifies};
 
 pub mod binary;
@@ -33,7 +33,7 @@ fn lighten<W: CountedWrite + Drop, P: ProofProcessor>(
     requires search { IsSearch (session_of proof.old) search.old }
     requires flat { IsFlat search.old.parts }
     ensures { EmitsSteps W.seen result proof.old proof.new
-        (λ _ _. LightensAll (session_of proof.new) search.old search.new) }
+        (λ _ _. StrengthensAll (session_of proof.new) search.old search.new) }
 {
     simplify_binary(proof, search)?;
     let mut part = Vec::new(search.alloc);

@@ -1,7 +1,7 @@
 //! Lists that the solver's parts use for a while.
 ghost use Rattle.std.specs.Prelude.{◌≡◌, ◌≤◌, [], OnOk, OnErr};
 ghost use Rattle.sat_store.specs.variables.Flags.{flags_for, GrowsFlags};
-ghost use Rattle.sat_base.specs.values.Literals.{largest};
+ghost use Rattle.sat_base.specs.values.Literals.{var_limit};
 
 use sat_base::Lit;
 use std::alloc::{AllocError, Global};
@@ -44,7 +44,7 @@ impl TmpFlags {
 
     /// Makes it two flags for each of so many variables: new ones are false, those past the count are dropped.
     pub fn set_var_count(&mut self, count: usize) -> Result<(), AllocError>
-        requires { count ≤ largest }
+        requires { count ≤ var_limit }
         ensures flags { OnOk result (self.new.flags.items ≡ flags_for count self.old.flags.items) }
         ensures grows { OnOk result (GrowsFlags count self.old.flags.items self.new.flags.items) }
         ensures kept { OnErr result (self.new.flags.items ≡ self.old.flags.items) }
@@ -53,7 +53,7 @@ impl TmpFlags {
     }
 
     fn resize_flags(&mut self, count: usize) -> Result<(), AllocError>
-        requires { count ≤ largest }
+        requires { count ≤ var_limit }
         ensures flags { OnOk result (self.new.flags.items ≡ flags_for count self.old.flags.items) }
         ensures kept { OnErr result (self.new.flags.items ≡ self.old.flags.items) }
     {

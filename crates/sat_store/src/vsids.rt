@@ -5,7 +5,7 @@
 //! scale.
 ghost use Rattle.std.specs.Prelude.{◌≡◌, ◌<◌, ◌≤◌, ◌+◌, ◌*◌, ◌-◌, ◌/◌, ◌^◌, OnOk, OnErr, true, false, length, map, max};
 ghost use Rattle.std.specs.Prelude.{slice_set};
-ghost use Rattle.sat_base.specs.values.Literals.{largest};
+ghost use Rattle.sat_base.specs.values.Literals.{var_limit};
 ghost use Rattle.sat_store.specs.heap.Heap.{scaled};
 ghost use Rattle.sat_store.specs.heap.Vsids.{no_variables, with_variables, GrowsQueue, bumped, decayed, with_available};
 ghost use Rattle.sat_store.specs.heap.Vsids.{may_pick};
@@ -71,7 +71,7 @@ impl Vsids {
 
     /// Raises the number of variables to this count, with room for all to be available. A lower count changes nothing.
     pub fn set_var_count(&mut self, count: usize) -> Result<(), AllocError>
-        requires { count ≤ largest }
+        requires { count ≤ var_limit }
         ensures counted { OnOk result (self.new ≡ with_variables count self.old) }
         ensures grows { OnOk result (GrowsQueue count self.old self.new) }
         ensures kept { OnErr result (self.new ≡ self.old) }
@@ -80,7 +80,7 @@ impl Vsids {
     }
 
     fn raise_count(&mut self, count: usize) -> Result<(), AllocError>
-        requires { count ≤ largest }
+        requires { count ≤ var_limit }
         ensures counted { OnOk result (self.new ≡ with_variables count self.old) }
         ensures kept { OnErr result (self.new ≡ self.old) }
     {

@@ -1,6 +1,6 @@
 //! Clauses in one buffer.
 ghost use Rattle.std.specs.Prelude.{◌≡◌, ◌≢◌, ◌≤◌, ◌<◌, ◌^◌, [], ◌∷◌, length, IfOk};
-ghost use Rattle.sat_store.specs.clause.Buffer.{IsClause, Laid, lits_at, swapped};
+ghost use Rattle.sat_store.specs.clause.Buffer.{IsClause, HoldsClauses, lits_at, swapped};
 ghost use Rattle.sat_store_tests.specs.Two.{HasTwo};
 
 use sat_base::Lit;
@@ -44,10 +44,10 @@ fn reads(buffer: &ClauseAlloc, cref: ClauseRef, numbers: &[i64]) -> bool
 
 /// Reverses a clause of three literals. The other one stays.
 fn reverse_three(buffer: &mut ClauseAlloc, cref: ClauseRef, other: ClauseRef)
-    requires live { Laid buffer.old (cref ∷ other ∷ []) }
+    requires live { HoldsClauses buffer.old (cref ∷ other ∷ []) }
     requires differ { other ≢ cref }
     requires three { length (lits_at buffer.old cref) ≡ 3 }
-    ensures live { Laid buffer.new (cref ∷ other ∷ []) }
+    ensures live { HoldsClauses buffer.new (cref ∷ other ∷ []) }
     ensures reversed { lits_at buffer.new cref ≡ swapped (lits_at buffer.old cref) 0 2 }
     ensures kept { lits_at buffer.new other ≡ lits_at buffer.old other }
 {
@@ -57,11 +57,11 @@ fn reverse_three(buffer: &mut ClauseAlloc, cref: ClauseRef, other: ClauseRef)
 
 /// Exchanges two literals of a clause of four. The other one stays.
 fn exchange(buffer: &mut ClauseAlloc, other: ClauseRef, cref: ClauseRef, i: usize, j: usize)
-    requires live { Laid buffer.old (other ∷ cref ∷ []) }
+    requires live { HoldsClauses buffer.old (other ∷ cref ∷ []) }
     requires differ { other ≢ cref }
     requires four { length (lits_at buffer.old cref) ≡ 4 }
     requires places { (i < 4) × (j < 4) }
-    ensures live { Laid buffer.new (other ∷ cref ∷ []) }
+    ensures live { HoldsClauses buffer.new (other ∷ cref ∷ []) }
     ensures kept { lits_at buffer.new other ≡ lits_at buffer.old other }
     ensures four { length (lits_at buffer.new cref) ≡ 4 }
 {
@@ -70,10 +70,10 @@ fn exchange(buffer: &mut ClauseAlloc, other: ClauseRef, cref: ClauseRef, i: usiz
 
 /// Keeps the first three literals of a clause of four. The other one stays.
 fn cut_to_three(buffer: &mut ClauseAlloc, other: ClauseRef, cref: ClauseRef)
-    requires live { Laid buffer.old (other ∷ cref ∷ []) }
+    requires live { HoldsClauses buffer.old (other ∷ cref ∷ []) }
     requires differ { other ≢ cref }
     requires four { length (lits_at buffer.old cref) ≡ 4 }
-    ensures live { Laid buffer.new (other ∷ cref ∷ []) }
+    ensures live { HoldsClauses buffer.new (other ∷ cref ∷ []) }
     ensures kept { lits_at buffer.new other ≡ lits_at buffer.old other }
 {
     let mut header = buffer.header(cref);

@@ -1,7 +1,7 @@
 -- How literals stand for named ones, and which outcomes an answer may print.
 use Rattle.std.specs.Prelude.{ℕ, ◌+◌, ◌<◌, ◌≤◌, List, [], ◌∷◌, map}
 use Rattle.std.specs.List.{AllByRecursion}
-use Rattle.sat_base.specs.values.Literals.{largest, variable, is_positive}
+use Rattle.sat_base.specs.values.Literals.{var_limit, variable, is_positive}
 use Rattle.sat_base.specs.script.Script.{Literal, names_of, InOrder}
 use Rattle.sat_checker.specs.matching.Expected.{Outcome, Sat, Unsat, Unknown}
 
@@ -15,7 +15,7 @@ named_literals = map named_literal
 
 -- names are counted from 1 up to the limit
 abbrev pub IsName : ℕ → Type 0
-IsName n = (1 ≤ n) × (n ≤ largest)
+IsName n = (1 ≤ n) × (n ≤ var_limit)
 
 -- each literal is over a name that a script may have
 abbrev pub HaveNames : List Literal → Type 0

@@ -2,7 +2,7 @@
 use Rattle.std.specs.Prelude.{ℕ, ◌+◌, ◌≡◌, false, Option, Some, None, List, []}
 use Rattle.sat_base.specs.script.Script.{Literal}
 use Rattle.sat_base.specs.steps.Steps.{Step, Model}
-use Rattle.sat_checker.specs.KernelView.{Stands, has_failed}
+use Rattle.sat_checker.specs.KernelView.{HasAccepted, has_failed}
 use Rattle.sat_checker.specs.CheckerView.{kernel_of}
 use Rattle.sat_checker.specs.matching.Checking.{variable_of}
 use Rattle.sat_checker.specs.matching.Expected.{Outcome, Unsat, EachSpelt, Expected, NewName, NoName, Adds, Opens, Shows, Fails, Closes, Finish, Fits}
@@ -33,7 +33,7 @@ due_of code.End = λ o ask. Finish
 
 -- the checker took these steps, behind which the names have the variables that are known
 pub record AreKnown (known : Known) (earlier : List Step) : Type 0 where
-  pub stands : Stands (kernel_of known.checker.now) earlier
+  pub stands : HasAccepted (kernel_of known.checker.now) earlier
   pub goes_on : has_failed (kernel_of known.checker.now) ≡ false
   pub named : variable_of earlier ≡ variable_in known.variables.now
 

@@ -2,7 +2,7 @@
 use Rattle.std.specs.Prelude.{◌≡◌, false, Result, Ok, Err, List, ◌∷◌}
 use Rattle.sat_base.specs.steps.Steps.{Step}
 use Rattle.sat_checker.specs.Accepts.{Accepts, stored_after, ready_after}
-use Rattle.sat_checker.specs.KernelView.{Stands, has_failed, looks_of}
+use Rattle.sat_checker.specs.KernelView.{HasAccepted, has_failed, looks_of}
 use Rattle.sat_checker.specs.Spent.{IsSpent, SpentBy}
 use Rattle.sat_checker.specs.declared.kernel.Kernel.{Kernel}
 use Rattle.sat_checker.specs.declared.error.CheckerError.{CheckerError}
@@ -13,7 +13,7 @@ use Rattle.certify.specs.declared.verdict.Why.TheVariants.{StepRefused}
 
 -- it accepted these steps, the newest first, and goes on
 pub record HasTaken (checker : Kernel) (steps : List Step) : Type 0 where
-  pub stands : Stands checker steps
+  pub stands : HasAccepted checker steps
   pub goes_on : has_failed checker ≡ false
 
 -- What is answered where a step isn't accepted. Besides a refusal, want of memory and a number past its end nothing comes of a step

@@ -1,6 +1,6 @@
 -- What names stand for behind one step more.
 use Rattle.std.specs.Prelude.{ℕ, ◌≤◌, ◌≡◌, true, false, Some, List, ◌∷◌}
-use Rattle.sat_base.specs.values.Literals.{largest}
+use Rattle.sat_base.specs.values.Literals.{var_limit}
 use Rattle.sat_base.specs.script.Script.{Literal}
 use Rattle.sat_base.specs.steps.Steps.{Step}
 use Rattle.sat_checker.specs.Accepts.{Accepts, ready_after}
@@ -17,7 +17,7 @@ pub record StandFor (variables : NamedVars) (earlier : List Step) : Type 0 where
   pub named : variable_of earlier ≡ variable_in variables
   pub apart : (m n v : ℕ) → variable_of earlier m ≡ Some v → variable_of earlier n ≡ Some v → m ≡ n
   pub known : (m v : ℕ) → variable_of earlier m ≡ Some v → the_checking.knows earlier v ≡ true
-  pub few : (name v : ℕ) → variable_of earlier name ≡ Some v → name ≤ largest
+  pub few : (name v : ℕ) → variable_of earlier name ≡ Some v → name ≤ var_limit
 
 -- behind an accepted step that is what is expected
 abbrev pub NamesFollow : Due → NamedVars → Step → NamedVars → Type 0

@@ -1,7 +1,7 @@
 -- How a fold of names and modes stands for the judge's state.
 use Rattle.std.specs.Prelude.{ℕ, suc, zero, ◌+◌, ◌≤◌, ◌<◌, ◌≡◌, Bool, true, false, Option, Some, None, List, [], ◌∷◌, ◌++◌, length, get_or, if◌then◌else◌}
 use Rattle.std.specs.List.{AllByRecursion}
-use Rattle.sat_base.specs.values.Literals.{largest}
+use Rattle.sat_base.specs.values.Literals.{var_limit}
 use Rattle.sat_base.specs.values.Tables.{value_at}
 use Rattle.sat_base.specs.declared.table.Table.{Table}
 use Rattle.sat_base.specs.script.Script.{Command, names_of}
@@ -47,12 +47,12 @@ AreFresh names = (v : ℕ) → names.used ≤ v → value_at state.Sampled names
 -- names and modes are the judge's, who was asked of names within the limit alone
 pub record NamesStand (names : Names) (j : Judge) : Type 0 where
   pub first : j.first_unused ≡ names.used + 1
-  pub limit : j.first_unused ≤ largest + 1
+  pub limit : j.first_unused ≤ var_limit + 1
   pub each : (name : ℕ) → state_of_identity j.modes (identity_of j name) ≡ state_in (states_of names) name
   pub fresh : AreFresh names
   -- each name in use has an identity of its own, which has a mode
-  pub given : AllByRecursion (λ n. n.identity < j.next_identity) j.in_use
-  pub modes : length j.modes ≡ j.next_identity
+  pub given : AllByRecursion (λ n. n.identity < j.identity_count) j.in_use
+  pub modes : length j.modes ≡ j.identity_count
   pub apart : (m n i : ℕ) → identity_of j m ≡ Some i → identity_of j n ≡ Some i → m ≡ n
 
 -- is a name of this state out of use?

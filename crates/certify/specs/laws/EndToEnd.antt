@@ -5,7 +5,7 @@ use Rattle.sat_base.specs.script.Language.{reading}
 use Rattle.sat_checker.specs.matching.ProofChecking.{the_checking}
 use Rattle.certify.specs.confirm.Matches.{Matches}
 use Rattle.certify.specs.confirm.VerdictPromises.{AreRightAnswers, Exact}
-use Rattle.certify.specs.run.FinishedRun.{Backs}
+use Rattle.certify.specs.run.FinishedRun.{CertificateGuarantee}
 use Rattle.certify.specs.declared.summary.Summary.{Summary}
 use Rattle.certify.specs.declared.verdict.Verdict.{Verdict}
 use Rattle.certify.specs.declared.verdict.Verdict.TheVariants.{Yes}
@@ -23,7 +23,7 @@ abbrev pub FinishedIsConfirmed : Type 0
 FinishedIsConfirmed =
     (script answers certificate : Reader × Reader) (v : Verdict) (budget : ℕ) (summary : Summary) (text answered certified : List ℕ)
     → CanBe script text → CanBe answers answered → CanBe certificate certified
-    → Backs text budget summary answered certified → Exact script answers certificate v → v ≡ Yes
+    → CertificateGuarantee text budget summary answered certified → Exact script answers certificate v → v ≡ Yes
 
 -- OVER TEXTS IN MEMORY
 
@@ -41,7 +41,7 @@ pub record Certified (script : List ℕ) (budget : ℕ) (claimed shown : List �
     (own other : Verdict) (before after : ℕ) : Type 0 where
   -- one answer for each accepted ask: a right model, a right core, or unknown, once its steps are spent, of which each stands in the
   -- certificate, and never with 2^(2n+3) left at its start
-  pub answered : Backs script budget summary answers certificate
+  pub answered : CertificateGuarantee script budget summary answers certificate
   -- what a run wrote is confirmed
   pub confirmed : own ≡ Yes
   -- yes to any answers and certificate says that those answers are right

@@ -20,7 +20,7 @@ pub record TookRounds (n left taken : ℕ) (o : Outcome) : Type 0 where
 abbrev pub EachTookRounds : (budget before : ℕ) → List Asked → List Outcome → List ℕ → Type 0
 EachTookRounds budget before [] [] [] = Unit {0}
 EachTookRounds budget before (a ∷ asks) (o ∷ outcomes) (taken ∷ rounds) =
-    TookRounds a.state.next_identity (steps_left budget before) taken o × EachTookRounds budget (before + taken) asks outcomes rounds
+    TookRounds a.state.identity_count (steps_left budget before) taken o × EachTookRounds budget (before + taken) asks outcomes rounds
 EachTookRounds budget before asks outcomes rounds = ⊥
 
 -- A script was run, which wrote these answers and this certificate, with this many rounds for each ask. They were confirmed, and so were

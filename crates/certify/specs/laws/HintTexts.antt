@@ -7,7 +7,7 @@ use Rattle.sat_hints.specs.Conversion.{hint_text}
 use Rattle.sat_hints.specs.Converts.{Converts}
 use Rattle.sat_hints.specs.declared.error.HintError.{HintError}
 use Rattle.sat_hints.specs.declared.error.HintError.TheVariants.{Refused, HasDeleteVar, Read, Write, OutOfMemory}
-use Rattle.certify.specs.run.FinishedRun.{Backs}
+use Rattle.certify.specs.run.FinishedRun.{CertificateGuarantee}
 use Rattle.certify.specs.declared.summary.Summary.{Summary}
 
 -- a text is a derivation, with some fields
@@ -29,5 +29,5 @@ HasHints (Err OutOfMemory) steps old new = Unit {0}
 -- that is what `convert` answers to the certificate of any finished run, where its reader tells the bytes, whatever stands behind them
 abbrev pub RunsHaveHints : Type 0
 RunsHaveHints = (budget : ℕ) (summary : Summary) (text answered certified more : List ℕ) (result : Result (Unit {0}) HintError) (from to : Reader) (old new : Writer)
-    → (b : Backs text budget summary answered certified) → from.to_come ≡ Some (certified ++ more)
+    → (b : CertificateGuarantee text budget summary answered certified) → from.to_come ≡ Some (certified ++ more)
     → Converts result from to old new → HasHints result b.steps old new

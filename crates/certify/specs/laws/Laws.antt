@@ -1,7 +1,7 @@
 -- What holds of the definitions.
 use Rattle.std.specs.Prelude.{ℕ, ◌≤◌, ◌≡◌, ◌↔◌, true, false, List}
 use Rattle.std.specs.List.{AllByRecursion}
-use Rattle.sat_base.specs.values.Literals.{largest}
+use Rattle.sat_base.specs.values.Literals.{var_limit}
 use Rattle.sat_base.specs.values.Clauses.{Valuation, EachHolds}
 use Rattle.sat_base.specs.script.Script.{Literal, Command, Ask, ScriptEnding, Among, names_of}
 use Rattle.sat_base.specs.script.Judge.{Judge, IsRightModel, IsRightCore, with_clause, accepted, accepted_of, start}
@@ -40,8 +40,8 @@ AskLeavesNames = (j : Judge) (ls ks : List Literal) → names_of ls ≡ names_of
 
 -- no name past the limit
 abbrev pub HasPrintableNames : Outcome → Type 0
-HasPrintableNames (Sat line) = AllByRecursion (λ l. l.name ≤ largest) line
-HasPrintableNames (Unsat core) = AllByRecursion (λ l. l.name ≤ largest) core
+HasPrintableNames (Sat line) = AllByRecursion (λ l. l.name ≤ var_limit) line
+HasPrintableNames (Unsat core) = AllByRecursion (λ l. l.name ≤ var_limit) core
 HasPrintableNames Unknown = Unit {0}
 
 -- different outcomes give different texts

@@ -65,7 +65,7 @@ HiddenAndBackState = after_script hidden_and_back start ≡ record {
   first_unused = 2;
   in_use = (record { name = 1; identity = 1 }) ∷ [];
   modes = Sampled ∷ Sampled ∷ [];
-  next_identity = 2;
+  identity_count = 2;
   clauses = (3 ∷ []) ∷ (0 ∷ []) ∷ [];
 }
 
@@ -81,7 +81,7 @@ HiddenAtOnceState = after_script (Hide (2 ∷ []) ∷ Ask [] ∷ []) start ≡ r
   first_unused = 3;
   in_use = (record { name = 1; identity = 0 }) ∷ [];
   modes = Sampled ∷ Sampled ∷ [];
-  next_identity = 2;
+  identity_count = 2;
   clauses = [];
 }
 

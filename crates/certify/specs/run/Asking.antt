@@ -9,7 +9,7 @@ use Rattle.certify.specs.run.Telling.{IsToldRight, outcome_for}
 use Rattle.certify.specs.run.Quiet.{Solver}
 
 -- its literals were assumed, an answer was searched, which is right, and this is its text
-pub record Sought {C : Type 0} (seen : C → Writer) (budget : ℕ) (report : AskReport) (user text : List ℕ) (old new : Solver C) : Type 0 where
+pub record AskEffect {C : Type 0} (seen : C → Writer) (budget : ℕ) (report : AskReport) (user text : List ℕ) (old new : Solver C) : Type 0 where
   pub mid : Solver C
   pub opened : ReplacesAssumptions seen old mid user
   pub searched : Searched seen budget report mid new

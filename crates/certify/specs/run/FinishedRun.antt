@@ -20,7 +20,7 @@ use Rattle.certify.specs.run.Hiding.{HidesNothing}
 use Rattle.certify.specs.run.StepsLeft.{steps_left}
 use Rattle.certify.specs.run.Learning.{EachLearns}
 use Rattle.certify.specs.run.Certifies.{Certifies}
-use Rattle.certify.specs.run.Stretches.{MadeFor}
+use Rattle.certify.specs.run.Stretches.{ServesCommands}
 use Rattle.certify.specs.declared.fault.RunFault.{RunFault}
 use Rattle.certify.specs.declared.summary.Answer.{Answer}
 use Rattle.certify.specs.declared.summary.Answer.TheVariants as kind
@@ -57,7 +57,7 @@ pub record IsBounded (n budget before : ℕ) (report : AskReport) : Type 0 where
 -- how many identities were given out as each ask began, of commands that aren't refused
 abbrev pub identities_given : Judge → List Command → List ℕ
 identities_given j [] = []
-identities_given j (Ask ls ∷ commands) = (accepted (Ask ls) j).next_identity ∷ identities_given (accepted (Ask ls) j) commands
+identities_given j (Ask ls ∷ commands) = (accepted (Ask ls) j).identity_count ∷ identities_given (accepted (Ask ls) j) commands
 identities_given j (Clause ls ∷ commands) = identities_given (accepted (Clause ls) j) commands
 identities_given j (Hide names ∷ commands) = identities_given (accepted (Hide names) j) commands
 identities_given j (Witness names ∷ commands) = identities_given (accepted (Witness names) j) commands
@@ -90,7 +90,7 @@ pub record AnswersRightly (text : List ℕ) (budget : ℕ) (summary : Summary) (
 -- What its certificate is to the answers: it spells steps, the oldest first, which are, in order, those of the accepted commands and of
 -- these outcomes, which took the steps that the summary reports. Each is accepted in its turn. The list has the newest first.
 -- Beside them it has such as the solver makes for commands and asks, in their places, and widths for their hashes.
-pub record Backs (text : List ℕ) (budget : ℕ) (summary : Summary) (answered certified : List ℕ) : Type 0 where
+pub record CertificateGuarantee (text : List ℕ) (budget : ℕ) (summary : Summary) (answered certified : List ℕ) : Type 0 where
   pub is_answered : AnswersRightly text budget summary answered
   pub steps : List Step
   pub certificate : SpellsSteps (reverse steps) certified
@@ -99,7 +99,7 @@ pub record Backs (text : List ℕ) (budget : ℕ) (summary : Summary) (answered 
       (expected start (accepted_of start (reading text).0) is_answered.outcomes) (asked_steps summary.asks.items)
   -- what the solver made, up to the end, and how it was written
   pub made : List Step
-  pub follows : MadeFor start [] made (accepted_of start (reading text).0) is_answered.outcomes (asked_steps summary.asks.items)
+  pub follows : ServesCommands start [] made (accepted_of start (reading text).0) is_answered.outcomes (asked_steps summary.asks.items)
   pub counting : Counting
   pub cuts : TruncatesHashes uncounted (End ∷ made) steps counting
   -- each step that an ask took has derived a clause that advances, but for the one that answered, and no other clause of the ask does
@@ -118,7 +118,7 @@ WritesAnswers budget summary script answers =
 -- and the certificate's writer took the certificate
 abbrev pub TookCertificate : ℕ → Summary → Reader × Reader → Writer × Writer → Writer × Writer → Type 0
 TookCertificate budget summary script answers certificate = GaveEnough script.0 script.1 (λ text. (answered : List ℕ) × (certified : List ℕ)
-    × WriterTakes answers.0 answers.1 answered × WriterTakes certificate.0 certificate.1 certified × Backs text budget summary answered certified)
+    × WriterTakes answers.0 answers.1 answered × WriterTakes certificate.0 certificate.1 certified × CertificateGuarantee text budget summary answered certified)
 
 -- the same of what three devices were and are
 abbrev pub Backed : {S A C : Type 0} → Result Summary RunFault → ℕ → (S → Reader) → (A → Writer) → (C → Writer)

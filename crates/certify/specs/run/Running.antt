@@ -4,7 +4,7 @@ use Rattle.sat_base.specs.device.Device.{Reader, Writer, GaveEnough, ReadFails, 
 use Rattle.certify.specs.Devices.{NoneFailed, OneFailed}
 use Rattle.certify.specs.declared.fault.RunFault.{RunFault}
 use Rattle.certify.specs.declared.summary.Summary.{Summary}
-use Rattle.certify.specs.run.FinishedRun.{Backs}
+use Rattle.certify.specs.run.FinishedRun.{CertificateGuarantee}
 use Rattle.certify.specs.run.ServedScript.{RunFaultSays}
 
 -- what was written to a text, with its certificate
@@ -13,7 +13,7 @@ pub record WritesRun (text : List ℕ) (budget : ℕ) (summary : Summary) (answe
   pub certified : List ℕ
   pub tells : WriterTakes answers.0 answers.1 answered
   pub certifies : WriterTakes certificate.0 certificate.1 certified
-  pub is_backed : Backs text budget summary answered certified
+  pub is_backed : CertificateGuarantee text budget summary answered certified
 
 -- no read failed
 abbrev pub NoneUnread : Reader × Reader → Type 0

@@ -27,7 +27,7 @@ use Rattle.certify.specs.run.Unfinished.{Exceeds, TookAnswersFront}
 use Rattle.certify.specs.run.SolverCalls.{IsCaused, IsReady, proof_in}
 use Rattle.certify.specs.run.Serving.{RunPlace, Serves}
 use Rattle.certify.specs.run.Standing.{RunGoesOn, JudgeIsAt, place_in}
-use Rattle.certify.specs.run.Stretches.{MadeFor}
+use Rattle.certify.specs.run.Stretches.{ServesCommands}
 use Rattle.certify.specs.run.Quiet.{Solver}
 
 -- These commands were served, one after another.
@@ -57,7 +57,7 @@ pub record ServesTo (budget : ℕ) (a : RunPlace) (script : Reading) (to : List 
   pub refuses : refused_count a.judge script.0 ≡ refused
   pub kinds : map (λ r. r.answer) reports ≡ map answer_kind outcomes
   pub spent : AreSpent budget a.rounds (identities_given a.judge (accepted_of a.judge script.0)) reports
-  pub follows : MadeFor a.judge a.steps to (accepted_of a.judge script.0) outcomes (asked_steps reports)
+  pub follows : ServesCommands a.judge a.steps to (accepted_of a.judge script.0) outcomes (asked_steps reports)
 
 -- The whole script was served, in which so many commands stand. It is malformed at this command, if it is.
 pub record ServesWhole {C : Type 0} (seen : C → Writer) (j : Judge) (script : Reading) (count : ℕ) (at : Option ℕ)

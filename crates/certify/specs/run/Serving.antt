@@ -7,7 +7,7 @@ use Rattle.sat_checker.specs.matching.Expected.{Outcome}
 use Rattle.certify.specs.answers.Answers.{answers_from}
 use Rattle.certify.specs.answers.RightAnswers.{AreRight}
 use Rattle.certify.specs.run.FinishedRun.{refused_count, answer_kind, AreSpent, asked_steps, identities_given}
-use Rattle.certify.specs.run.Stretches.{MadeFor}
+use Rattle.certify.specs.run.Stretches.{ServesCommands}
 use Rattle.certify.specs.declared.summary.AskReport.{AskReport}
 
 -- where a run stands: the judge's state, the number of the next command, the steps made so far and the rounds
@@ -33,8 +33,8 @@ pub record Serves (budget : ℕ) (a b : RunPlace) (commands : List Command)
       → AreSpent budget b.rounds (identities_given b.judge (accepted_of b.judge left)) rest
       → AreSpent budget a.rounds (identities_given a.judge (accepted_of a.judge (commands ++ left))) (reports ++ rest)
   pub follows : (to : List Step) (left : List Command) (rest : List Outcome) (counts : List ℕ)
-      → MadeFor b.judge b.steps to (accepted_of b.judge left) rest counts
-      → MadeFor a.judge a.steps to (accepted_of a.judge (commands ++ left)) (outcomes ++ rest) (asked_steps reports ++ counts)
+      → ServesCommands b.judge b.steps to (accepted_of b.judge left) rest counts
+      → ServesCommands a.judge a.steps to (accepted_of a.judge (commands ++ left)) (outcomes ++ rest) (asked_steps reports ++ counts)
 
 -- behind a command that isn't refused
 abbrev pub place_after : RunPlace → Command → List Step → ℕ → RunPlace

@@ -36,7 +36,7 @@ PlainServes = (budget : ℕ) (a : RunPlace) (c : Command) (steps : List Step) �
 abbrev pub AskServes : Type 0
 AskServes = (budget : ℕ) (a : RunPlace) (ls : List Literal) (o : Outcome) (report : AskReport) (steps : List Step) → refusal_of a.judge (Ask ls) ≡ None
     → IsRight (accepted (Ask ls) a.judge) ls o → report.answer ≡ answer_kind o → SpendsWithinBudget budget a.rounds report
-    → IsBounded (accepted (Ask ls) a.judge).next_identity budget a.rounds report
+    → IsBounded (accepted (Ask ls) a.judge).identity_count budget a.rounds report
     → AskStretches a.judge ls o report.steps a.steps steps
     → Serves budget a (place_after a (Ask ls) steps (a.rounds + report.steps)) (Ask ls ∷ []) (outcome_text o) (report ∷ []) 0
 

@@ -3,7 +3,7 @@ use Rattle.std.specs.Prelude.{ℕ, ◌+◌, ◌<◌, ◌≡◌, Bool, true, fals
 use Rattle.sat_base.specs.device.Device.{Writer}
 use Rattle.sat_base.specs.script.Judge.{Judge, accepted, refused_literal}
 use Rattle.sat_base.specs.script.Script.{Command}
-use Rattle.sat_base.specs.values.Literals.{largest}
+use Rattle.sat_base.specs.values.Literals.{var_limit}
 use Rattle.sat_solver.specs.declared.error.SolverError.{SolverError}
 use Rattle.sat_solver.specs.declared.error.SolverError.TheVariants as errors
 use Rattle.sat_solver.specs.declared.state.State.{State}
@@ -92,7 +92,7 @@ LacksRoom s users = HasRoom s.names users → ⊥
 
 -- Once this command was carried out, the judge would have given out more identities than there are variables.
 abbrev pub NeedsMore : {C : Type 0} → Solver C → Command → Type 0
-NeedsMore s c = (j : Judge) (live : Live) → Agree s.names (steps_in s) j live → largest < (accepted c j).next_identity
+NeedsMore s c = (j : Judge) (live : Live) → Agree s.names (steps_in s) j live → var_limit < (accepted c j).identity_count
 
 -- from here on a search makes at most so many rounds
 pub record Limited {C : Type 0} (budget : ℕ) (old new : Solver C) : Type 0 where

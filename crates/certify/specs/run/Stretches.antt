@@ -79,11 +79,11 @@ pub record AskStretches (j : Judge) (ls : List Literal) (o : Outcome) (rounds : 
 -- ALL COMMANDS
 
 -- From these steps to those, these commands were carried out, of which none is refused. These are the asks' outcomes and rounds.
-pub data MadeFor : Judge → List Step → List Step → List Command → List Outcome → List ℕ → Type 0 where
-  made_none : {j : Judge} {s : List Step} → MadeFor j s s [] [] []
+pub data ServesCommands : Judge → List Step → List Step → List Command → List Outcome → List ℕ → Type 0 where
+  made_none : {j : Judge} {s : List Step} → ServesCommands j s s [] [] []
   made_one : {j : Judge} {from to : List Step} {c : Command} {cs : List Command} {os : List Outcome} {counts : List ℕ} (mid : List Step)
       → IsNoAsk c → Stretch (MayFor c) from mid (due_for (the_checking.unsat from) c j)
-      → MadeFor (accepted c j) mid to cs os counts → MadeFor j from to (c ∷ cs) os counts
+      → ServesCommands (accepted c j) mid to cs os counts → ServesCommands j from to (c ∷ cs) os counts
   made_ask : {j : Judge} {from to : List Step} {ls : List Literal} {o : Outcome} {n : ℕ} {cs : List Command} {os : List Outcome}
       {counts : List ℕ} (mid : List Step) → AskStretches j ls o n from mid
-      → MadeFor (accepted (Ask ls) j) mid to cs os counts → MadeFor j from to (Ask ls ∷ cs) (o ∷ os) (n ∷ counts)
+      → ServesCommands (accepted (Ask ls) j) mid to cs os counts → ServesCommands j from to (Ask ls ∷ cs) (o ∷ os) (n ∷ counts)

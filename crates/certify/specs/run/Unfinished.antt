@@ -4,7 +4,7 @@ use Rattle.std.specs.Io.KnownBytes.{Appends}
 use Rattle.sat_base.specs.device.Device.{Reader, Writer, CanFollow, GaveFront}
 use Rattle.sat_base.specs.script.Judge.{Judge, accepted_of, after_script, start}
 use Rattle.sat_base.specs.script.Language.{Reading, reading}
-use Rattle.sat_base.specs.values.Literals.{largest}
+use Rattle.sat_base.specs.values.Literals.{var_limit}
 use Rattle.sat_base.specs.steps.Steps.{Step}
 use Rattle.sat_checker.specs.Accepts.{AcceptsAll}
 use Rattle.sat_checker.specs.matching.Expected.{Outcome}
@@ -45,7 +45,7 @@ Unfinished script answers = GaveFrontOf script.0 script.1 (λ text. TookAnswersF
 
 -- Behind so many commands, these are more than are counted, or the judge gives out more identities than there are variables.
 abbrev pub Exceeds : (count : ℕ) → Judge → Reading → Type 0
-Exceeds count j script = (2 ^ 64 - 1 ≤ count + length script.0) ⊎ (largest < (after_script script.0 j).next_identity)
+Exceeds count j script = (2 ^ 64 - 1 ≤ count + length script.0) ⊎ (var_limit < (after_script script.0 j).identity_count)
 
 -- so, whatever follows what the reader gave of the script
 abbrev pub CounterEnds : Reader × Reader → Type 0

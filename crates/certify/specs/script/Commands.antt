@@ -1,7 +1,7 @@
 -- How a reader of scripts stands in a text, and what tokens and bytes make of it.
 use Rattle.std.specs.Prelude.{ℕ, ◌≡◌, ◌<◌, ◌*◌, Bool, true, false, not, ◌&&◌, ◌||◌, Option, Some, None, List, [], ◌∷◌, ◌++◌}
 use Rattle.std.specs.List.{AllByRecursion}
-use Rattle.sat_base.specs.values.Literals.{largest}
+use Rattle.sat_base.specs.values.Literals.{var_limit}
 use Rattle.sat_base.specs.text.Text.{Token, Number, Letter, Header, Wrong, Scan}
 use Rattle.sat_base.specs.text.Chunks.{Follows}
 use Rattle.sat_base.specs.text.WrongWords.{RightAhead}
@@ -45,11 +45,11 @@ is_ask_kind OfSample = false
 abbrev pub BeginsPast : Bool → List Literal → Type 0
 BeginsPast false ls = ls ≡ []
 BeginsPast true [] = ⊥
-BeginsPast true (l ∷ ls) = largest < l.name
+BeginsPast true (l ∷ ls) = var_limit < l.name
 
 -- the codes are those of the literals, up to the first past the limit
 pub record IsFront (codes : List ℕ) (past : Bool) (ls : List Literal) : Type 0 where
-  pub within : AllByRecursion (λ code. code < 2 * largest) codes
+  pub within : AllByRecursion (λ code. code < 2 * var_limit) codes
   pub behind : List Literal
   pub whole : ls ≡ named_literals codes ++ behind
   pub limit : BeginsPast past behind

@@ -8,7 +8,7 @@ ghost use Rattle.certify.specs.answers.AnswerReading.{NoOutcome, StartsNoName, S
 ghost use Rattle.certify.specs.answers.AnswerReading.{StartsNoKind, StartsNoLine, HasLine, IsHead, digits_so_far};
 ghost use Rattle.certify.specs.answers.AnswerReading.{first_line, literal_place, BeginsWithLiteral, BeginsWithLiterals};
 ghost use Rattle.certify.specs.answers.AnswerReading.{BeginsWithSecondLine, BeginsWithAnswer};
-ghost use Rattle.sat_base.specs.values.Literals.{largest};
+ghost use Rattle.sat_base.specs.values.Literals.{var_limit};
 
 use sat_base::{Lit, Var};
 use std::alloc::AllocFailed;
@@ -69,7 +69,7 @@ pub fn is_front(bytes: &[u8], text: &[u8]) -> bool
 /// The name with one more digit, or the first digit where it is still 0.
 /// `None` for another byte, a leading zero, and a name past the limit.
 fn with_digit(name: usize, byte: u8) -> Option<usize>
-    requires { name ≤ largest }
+    requires { name ≤ var_limit }
     ensures { MatchOption result (NoNameDigit name byte)
         (λ more. IsName more × (decimal more ≡ digits_so_far name ++ byte ∷ [])) }
 {
@@ -145,7 +145,7 @@ fn begins_literal(bytes: &[u8]) -> bool
 /// Where the literal stands in a line of this kind.
 fn literal_place(kind: AnswerKind, lit: Lit) -> usize
     ensures value { result ≡ literal_place kind lit }
-    ensures bound { result < 2 * largest }
+    ensures bound { result < 2 * var_limit }
 {
     match kind {
         AnswerKind::Sat => lit.index(),

@@ -2,7 +2,7 @@
 ghost use Rattle.std.specs.Prelude.{◌+◌, ◌≤◌, map, OnOk};
 ghost use Rattle.sat_base.specs.script.Judge.{names_from};
 ghost use Rattle.sat_base.specs.script.Script.{names_of};
-ghost use Rattle.sat_base.specs.values.Literals.{largest};
+ghost use Rattle.sat_base.specs.values.Literals.{var_limit};
 ghost use Rattle.sat_checker.specs.CheckerView.{kernel_of};
 ghost use Rattle.sat_checker.specs.matching.Expected.{NewName};
 ghost use Rattle.certify.specs.answers.AnswerForms.{named_literals};
@@ -32,7 +32,7 @@ fn expect_new<R: CountedRead>(
     new: NewNames,
 ) -> Result<(), Stop>
     requires goes_on { StepsGoOn R.seen steps.old }
-    requires within { new.first + new.count ≤ largest }
+    requires within { new.first + new.count ≤ var_limit }
     ensures same { SameLoan steps.old steps.new }
     ensures bound { IsReadFew R.seen steps.new }
     ensures goes_on { StepsGoOnIf result R.seen steps.new }

@@ -1,6 +1,6 @@
 //! The variables that names stand for.
 ghost use Rattle.std.specs.Prelude.{ℕ, ◌≡◌, ◌+◌, ◌<◌, None, Some, OnOk};
-ghost use Rattle.sat_base.specs.values.Literals.{largest};
+ghost use Rattle.sat_base.specs.values.Literals.{var_limit};
 ghost use Rattle.certify.specs.confirm.Variables.{PutsVariable, variable_in};
 
 use sat_base::{Table, Var};
@@ -33,7 +33,7 @@ impl NamedVars {
     /// Puts a name on a variable.
     pub fn put(&mut self, name: Var, variable: Var) -> Result<(), AllocError>
         ensures put { OnOk result (PutsVariable self.old self.new (name + 1) (Some variable)) }
-        ensures within { name < largest }
+        ensures within { name < var_limit }
     {
         self.variables.set(name.index(), Some(variable), None)
     }

@@ -1,7 +1,7 @@
 //! The names in use, and their modes.
 ghost use Rattle.std.specs.Prelude.{◌≡◌, ◌+◌, ◌<◌, ◌≤◌, List, None, false, true, OnOk};
 ghost use Rattle.std.specs.Bool.{MatchBool};
-ghost use Rattle.sat_base.specs.values.Literals.{largest};
+ghost use Rattle.sat_base.specs.values.Literals.{var_limit};
 ghost use Rattle.sat_base.specs.script.Script.{Command as Spelled, Literal, names_of};
 ghost use Rattle.sat_base.specs.script.Judge.{Judge, accepted, bring_in, names_from, new_names, refused_literal, start};
 ghost use Rattle.certify.specs.script.Commands.{IsFront, IsLent, kind_of};
@@ -80,7 +80,7 @@ impl Names {
     /// Whether the name is in use, and of mode witness.
     fn is_witness(&self, var: Var) -> bool
         ensures witness { result ≡ is_witnessed (state_in (states_of self.now) (var + 1)) }
-        ensures bound { var < largest }
+        ensures bound { var < var_limit }
     {
         match self.state(var) {
             NameState::Witnessed => true,
@@ -148,7 +148,7 @@ impl Names {
     pub fn new_names(&self, var: Var) -> NewNames
         ensures told { (j : Judge) → NamesStand self.now j
             → new_names (var + 1) j ≡ names_from result.count (result.first + 1) }
-        ensures within { result.first + result.count ≤ largest }
+        ensures within { result.first + result.count ≤ var_limit }
     {
         let index = var.index();
         if index >= self.used {
@@ -196,7 +196,7 @@ impl Names {
     /// All names from the first never used up to this one become new variables.
     fn grow(&mut self, index: usize)
         requires fresh { self.old.used ≤ index }
-        requires within { index < largest }
+        requires within { index < var_limit }
         ensures changes { Changes self.old self.new (bring_in (index + 1)) }
         ensures in_use { ComesInUse self.old self.new (index + 1) }
     {

@@ -4,7 +4,7 @@ ghost use Rattle.sat_base.specs.script.Language.{Reading};
 ghost use Rattle.sat_base.specs.script.Script.{Ask};
 ghost use Rattle.sat_solver.specs.solver.Whole.{HasFullStore};
 ghost use Rattle.certify.specs.answers.AnswerForms.{named_literals};
-ghost use Rattle.certify.specs.run.Asking.{Sought};
+ghost use Rattle.certify.specs.run.Asking.{AskEffect};
 ghost use Rattle.certify.specs.run.SolverCalls.{FailsIf, IsAllowed, IsCaused, IsReady, NeedsMore};
 ghost use Rattle.certify.specs.run.Standing.{CarriedOut, CausedBy, StopsCarrying, WritesBoth};
 
@@ -26,7 +26,7 @@ fn ask<C: CountedWrite + Drop>(
 ) -> Result<AskReport, RunFault>
     requires ready { IsReady solver.old }
     requires allowed { IsAllowed solver.old literals.now }
-    ensures sought { IfOk result (λ report. Sought C.seen budget report literals.now page.new.text.items solver.old
+    ensures sought { IfOk result (λ report. AskEffect C.seen budget report literals.now page.new.text.items solver.old
         solver.new) }
     ensures ready { OnOk result (IsReady solver.new) }
     // No name is refused where there is none.

@@ -9,7 +9,7 @@ use Rattle.sat_base.specs.text.Text.{Token, Number, Letter, Header, Wrong}
 use Rattle.sat_base.specs.text.Tokenizing.{held}
 use Rattle.sat_base.specs.values.Formulas.{with_clause}
 use Rattle.sat_base.specs.dimacs.Dimacs.{Malformed, Limit, Hand, Turn, GoesOn, Ends, Fails, literals_in, turn}
-use Rattle.sat_base.specs.values.Literals.{largest}
+use Rattle.sat_base.specs.values.Literals.{var_limit}
 
 -- a token as the code has it, with its value as it was held
 abbrev pub token_of : CodeToken → Token
@@ -50,7 +50,7 @@ TakesTokenTurn (Fails ending) old new = ⊥
 
 -- a number that is a literal
 abbrev pub is_literal : Token → Bool
-is_literal (Number negative value) = not (nat_eq value 0) && not (nat_lt largest value)
+is_literal (Number negative value) = not (nat_eq value 0) && not (nat_lt var_limit value)
 is_literal (Letter b) = false
 is_literal (Header v c) = false
 is_literal Wrong = false

@@ -1,6 +1,6 @@
 -- The clauses of a formula's text, as DIMACS CNF has them.
 use Rattle.std.specs.Prelude.{ℕ, ◌-◌, ◌≡◌, Bool, false, not, ◌||◌, List, [], ◌∷◌, ◌++◌, Option, None, Some, nat_eq, nat_lt, if◌then◌else◌}
-use Rattle.sat_base.specs.values.Literals.{coded, largest}
+use Rattle.sat_base.specs.values.Literals.{coded, var_limit}
 use Rattle.sat_base.specs.text.Text.{Token, Number, Letter, Header, Wrong, Scan, scan, is_blank}
 
 -- how a formula's text ends: cleanly; at a word that is wrong, or inside a clause; or at a number past the limit. Lines count from 1.
@@ -32,7 +32,7 @@ literals_in (Some ls) = ls
 -- a number that isn't 0 is a literal, unless it is past the limit
 abbrev pub with_number : Hand → ℕ → Bool → ℕ → Turn
 with_number hand line negative value =
-    if nat_lt largest value then Fails (Limit line) else GoesOn (Some (literals_in hand ++ coded (value - 1) (not negative) ∷ []))
+    if nat_lt var_limit value then Fails (Limit line) else GoesOn (Some (literals_in hand ++ coded (value - 1) (not negative) ∷ []))
 
 -- a token on this line
 abbrev pub turn : Hand → ℕ → Token → Turn

@@ -1,7 +1,7 @@
 -- How the clauses of a formula are spelled, which says again when a text reads cleanly.
 use Rattle.std.specs.Prelude.{◌≡◌, ℕ, ◌+◌, ◌<◌, ◌↔◌, ◌⊎◌, List, [], ◌∷◌, ◌++◌, map, not}
 use Rattle.std.specs.List.{AllByRecursion}
-use Rattle.sat_base.specs.values.Literals.{largest, variable, is_positive}
+use Rattle.sat_base.specs.values.Literals.{var_limit, variable, is_positive}
 use Rattle.sat_base.specs.text.Text.{Token, Number, Header, tokens}
 use Rattle.sat_base.specs.dimacs.Dimacs.{Ending, Clean, IsDimacs}
 use Rattle.sat_base.specs.script.Language.{spoken}
@@ -13,7 +13,7 @@ signed_number l = Number (not (is_positive l)) (variable l + 1)
 
 -- their numbers are at most 2^28
 abbrev pub AreWithin : List ℕ → Type 0
-AreWithin ls = AllByRecursion (λ l. variable l < largest) ls
+AreWithin ls = AllByRecursion (λ l. variable l < var_limit) ls
 
 -- a clause is the numbers of its literals and a zero
 abbrev pub SpellsClause : List ℕ → List Token → Type 0

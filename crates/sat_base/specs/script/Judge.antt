@@ -1,7 +1,7 @@
 -- What a script's commands leave: names, their variables, modes and clauses. No result of a search stands in it.
 use Rattle.std.specs.Prelude.{ℕ, zero, suc, ◌+◌, ◌-◌, ◌==◌, ◌≡◌, max, Bool, true, false, not, Option, Some, None, List, [], ◌∷◌, ◌++◌, map, set, get_or, nat_lt, is_some, if◌then◌else◌}
 use Rattle.std.specs.List.{filter, AllByRecursion}
-use Rattle.sat_base.specs.values.Literals.{coded, largest}
+use Rattle.sat_base.specs.values.Literals.{coded, var_limit}
 use Rattle.sat_base.specs.values.Clauses.{Valuation, EachTrue, EachHolds}
 use Rattle.sat_base.specs.script.Script.{Literal, Command, Clause, Ask, Hide, Witness, Sample, names_of, Among, InOrder}
 
@@ -20,12 +20,12 @@ pub record Judge : Type 0 where
   pub first_unused : ℕ  -- the first name never used
   pub in_use : List Named  -- by increasing name
   pub modes : List Mode  -- of each identity, in order
-  pub next_identity : ℕ
+  pub identity_count : ℕ
   pub clauses : List (List ℕ)  -- accepted, over identities; the newest first
 
 -- before the first command
 abbrev pub start : Judge
-start = record { first_unused = 1; in_use = []; modes = []; next_identity = 0; clauses = [] }
+start = record { first_unused = 1; in_use = []; modes = []; identity_count = 0; clauses = [] }
 
 -- the identity of a name in use
 abbrev pub identity_in : List Named → ℕ → Option ℕ
@@ -45,9 +45,9 @@ placed new (n ∷ ns) = if nat_lt n.name new.name then n ∷ placed new ns else 
 abbrev pub with_name : ℕ → Judge → Judge
 with_name name j = record {
   first_unused = max j.first_unused (name + 1);
-  in_use = placed (record { name = name; identity = j.next_identity }) j.in_use;
+  in_use = placed (record { name = name; identity = j.identity_count }) j.in_use;
   modes = j.modes ++ Sampled ∷ [];
-  next_identity = j.next_identity + 1;
+  identity_count = j.identity_count + 1;
   clauses = j.clauses;
 }
 
@@ -136,13 +136,13 @@ has_witness j (Some identity) = is_witness (get_or j.modes identity Sampled)
 abbrev pub refused_literal : Judge → List ℕ → Option Refusal
 refused_literal j [] = None
 refused_literal j (name ∷ names) =
-    if nat_lt largest name then Some PastLimit
+    if nat_lt var_limit name then Some PastLimit
     else (if has_witness j (identity_of j name) then Some (WitnessName name) else refused_literal j names)
 
 -- a name that is hidden or gets a mode is refused past the limit alone
 abbrev pub refused_name : List ℕ → Option Refusal
 refused_name [] = None
-refused_name (name ∷ names) = if nat_lt largest name then Some PastLimit else refused_name names
+refused_name (name ∷ names) = if nat_lt var_limit name then Some PastLimit else refused_name names
 
 -- why a command is refused, or none where it is accepted
 abbrev pub refusal_of : Judge → Command → Option Refusal

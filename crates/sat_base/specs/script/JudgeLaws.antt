@@ -1,7 +1,7 @@
 -- What every script keeps of the judge's state.
 use Rattle.std.specs.Prelude.{ℕ, ◌+◌, ◌≤◌, ◌<◌, ◌≡◌, ◌↔◌, false, Some, List, [], ◌∷◌, length, map, nat_lt, if◌then◌else◌}
 use Rattle.std.specs.List.{AllByRecursion}
-use Rattle.sat_base.specs.values.Literals.{largest, variable}
+use Rattle.sat_base.specs.values.Literals.{var_limit, variable}
 use Rattle.sat_base.specs.values.Clauses.{Valuation, literal_true, EachHolds}
 use Rattle.sat_base.specs.script.Script.{Literal, Command, Among}
 use Rattle.sat_base.specs.script.Judge.{Judge, Named, identity_of, over, after_script, start}
@@ -13,12 +13,12 @@ NamesIncrease (n ∷ ns) = AllByRecursion (λ m. n.name < m.name) ns × NamesInc
 
 -- names in use rise below the first never used, at most one past the limit; just the identities given have modes, and no others occur
 pub record JudgeInvariant (j : Judge) : Type 0 where
-  pub limit : j.first_unused ≤ largest + 1
+  pub limit : j.first_unused ≤ var_limit + 1
   pub order : NamesIncrease j.in_use
   pub used : AllByRecursion (λ n. n.name < j.first_unused) j.in_use
-  pub given : AllByRecursion (λ n. n.identity < j.next_identity) j.in_use
-  pub modes : length j.modes ≡ j.next_identity
-  pub clauses : AllByRecursion (AllByRecursion (λ l. variable l < j.next_identity)) j.clauses
+  pub given : AllByRecursion (λ n. n.identity < j.identity_count) j.in_use
+  pub modes : length j.modes ≡ j.identity_count
+  pub clauses : AllByRecursion (AllByRecursion (λ l. variable l < j.identity_count)) j.clauses
 
 -- After every script names increase, are below the first never used and within the limit; each identity has a mode; names in use and
 -- clauses speak of identities given out.
@@ -34,8 +34,8 @@ abbrev pub GivenIdentitiesSuffice : Type 0
 GivenIdentitiesSuffice =
     (commands : List Command) (a : Valuation)
     → let j = after_script commands start in
-    (EachHolds a j.clauses ↔ EachHolds (only_below j.next_identity a) j.clauses)
-    × ((l : Literal) (i : ℕ) → identity_of j l.name ≡ Some i → literal_true (only_below j.next_identity a) (over j l) ≡ literal_true a (over j l))
+    (EachHolds a j.clauses ↔ EachHolds (only_below j.identity_count a) j.clauses)
+    × ((l : Literal) (i : ℕ) → identity_of j l.name ≡ Some i → literal_true (only_below j.identity_count a) (over j l) ≡ literal_true a (over j l))
 
 -- each number is below those behind it
 abbrev pub Increase : List ℕ → Type 0

@@ -1,22 +1,22 @@
 -- The bytes of a proof step: a tag, and then its fields.
 use Rattle.std.specs.Prelude.{◌≡◌, ℕ, ◌+◌, ◌*◌, ◌^◌, Bool, true, false, Option, Some, None, List, [], ◌∷◌}
 use Rattle.sat_base.specs.steps.Formats.{Format, Both, Items, ListOf}
-use Rattle.sat_base.specs.values.Literals.{largest}
+use Rattle.sat_base.specs.values.Literals.{var_limit}
 use Rattle.sat_base.specs.steps.Numbers.{IsBelow}
 use Rattle.sat_base.specs.steps.Steps.{Deletion, Redundant, Simplified, Satisfied, Step, SolverVarName, UserVarName, DeleteVar, ChangeSamplingMode, AddClause, AtClause, UnitClauses, DeleteClause, ChangeHashBits, Model, Assumptions, FailedAssumptions, End}
 
 -- the index of a variable, within the limit
 abbrev pub IsVariable : Format ℕ
-IsVariable = IsBelow largest
+IsVariable = IsBelow var_limit
 
 -- 0 for none, else one more than the index
 abbrev pub IsOptionalVariable : Format (Option ℕ)
-IsOptionalVariable None bytes = IsBelow (largest + 1) 0 bytes
-IsOptionalVariable (Some v) bytes = IsBelow (largest + 1) (v + 1) bytes
+IsOptionalVariable None bytes = IsBelow (var_limit + 1) 0 bytes
+IsOptionalVariable (Some v) bytes = IsBelow (var_limit + 1) (v + 1) bytes
 
 -- the code of a literal whose variable is within the limit
 abbrev pub IsLiteral : Format ℕ
-IsLiteral = IsBelow (2 * largest)
+IsLiteral = IsBelow (2 * var_limit)
 
 -- a hash, of 64 bits at most
 abbrev pub IsHash : Format ℕ

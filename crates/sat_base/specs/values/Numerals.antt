@@ -1,6 +1,6 @@
 -- Literals as DIMACS writes them.
 use Rattle.std.specs.Prelude.{ℕ, ◌+◌, ◌-◌, ◌<ℤ◌, ℤ, pos, negsuc, ◌≡◌, ◌⊎◌, if◌then◌else◌}
-use Rattle.sat_base.specs.values.Literals.{largest, variable, is_positive}
+use Rattle.sat_base.specs.values.Literals.{var_limit, variable, is_positive}
 
 -- the number of a literal: that of its variable, counted from 1, negative if the literal is
 abbrev pub numeral : ℕ → ℤ
@@ -8,8 +8,8 @@ numeral l = if is_positive l then pos (variable l + 1) else negsuc (variable l)
 
 -- 0 and the numbers past the limit are no literal
 abbrev pub IsNoNumeral : ℤ → Type 0
-IsNoNumeral n = (n ≡ pos 0) ⊎ (pos largest <ℤ n) ⊎ (n <ℤ negsuc (largest - 1))
+IsNoNumeral n = (n ≡ pos 0) ⊎ (pos var_limit <ℤ n) ⊎ (n <ℤ negsuc (var_limit - 1))
 
 -- so are those below 1, of a variable
 abbrev pub IsNoVariable : ℤ → Type 0
-IsNoVariable n = (n <ℤ pos 1) ⊎ (pos largest <ℤ n)
+IsNoVariable n = (n <ℤ pos 1) ⊎ (pos var_limit <ℤ n)

@@ -18,7 +18,7 @@ stands_first (m ∷ ms) l = if m == l then true else if m == negated l then fals
 
 -- As far as there is room, the units are assumed. Where there is none, a literal is a unit if it stands first among
 -- those that came in.
-pub record Supposes (trail : LiteralsAndRoom) (before : List ℕ) (f : Stored) : Type 0 where
+pub record AssumesUnits (trail : LiteralsAndRoom) (before : List ℕ) (f : Stored) : Type 0 where
   pub agrees : AgreesOn trail.room trail.literals (unit_literals f)
   pub others : (l : ℕ) → is_among trail.room l ≡ false → is_unit f l ≡ stands_first before l
 

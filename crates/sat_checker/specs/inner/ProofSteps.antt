@@ -11,7 +11,7 @@ use Rattle.sat_base.specs.steps.Steps.{Step, End}
 use Rattle.sat_base.specs.steps.StepText.{SpellsStep, SpellsSteps}
 use Rattle.sat_checker.specs.Accepts.{Accepts, stored_after, ready_after}
 use Rattle.sat_checker.specs.Looks.{most_looks}
-use Rattle.sat_checker.specs.CheckerView.{Seen, looks_of, Stands, FailsRefusing, FailsBeforeStep, BreaksAt, StarvesAt}
+use Rattle.sat_checker.specs.CheckerView.{Seen, looks_of, HasAccepted, FailsRefusing, FailsBeforeStep, BreaksAt, StarvesAt}
 use Rattle.sat_checker.specs.announcements.Announcements.{Told}
 use Rattle.sat_checker.specs.ProofView.{taken_after, most_looks_behind, StandsUnfailed}
 use Rattle.sat_checker.specs.Spent.{SpentBy}
@@ -101,4 +101,4 @@ module _ {L : Type 0} (Hears : L → Told → Result Unit ProcessingError → L 
 module _ {L : Type 0} (Hears : L → Told → Result Unit ProcessingError → L → Type 0) where
   -- the answer to the next step means so, whatever was accepted and told before
   abbrev pub TurnsOn : Result Bool CheckerError → CheckerAtSource L → CheckerAtSource L → Type 0
-  TurnsOn result a b = (before : List Told) (begun : L) (earlier : List Step) → Stands Hears before begun a.checker earlier → StepsOn Hears before begun result a b earlier
+  TurnsOn result a b = (before : List Told) (begun : L) (earlier : List Step) → HasAccepted Hears before begun a.checker earlier → StepsOn Hears before begun result a b earlier

@@ -31,8 +31,8 @@ pub record IsBridge (k : Checking) (j : Judge) (earlier : List Step) (live : Liv
   pub accepted : Accepted k earlier
   pub once : Apart live
   pub known : AllByRecursion (λ p. k.knows earlier p.0 ≡ true) live
-  pub below : AllByRecursion (λ p. p.1 < j.next_identity) live
-  pub clauses_below : AllByRecursion (AllByRecursion (λ l. variable l < j.next_identity)) j.clauses
+  pub below : AllByRecursion (λ p. p.1 < j.identity_count) live
+  pub clauses_below : AllByRecursion (AllByRecursion (λ l. variable l < j.identity_count)) j.clauses
   -- a name's variable is live, with the name's identity
   pub named : (name v : ℕ) → variable_of earlier name ≡ Some v → (i : ℕ) × (identity_of j name ≡ Some i) × Among (v, i) live
   -- each name in use has one

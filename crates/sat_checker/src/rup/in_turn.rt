@@ -5,7 +5,7 @@ ghost use Rattle.sat_checker.specs.Accepts.{PassesByHashes};
 ghost use Rattle.sat_checker.specs.LiteralSets.{is_among};
 ghost use Rattle.sat_checker.specs.Looks.{literal_count};
 ghost use Rattle.sat_checker.specs.Stored.{Stored, is_unit};
-ghost use Rattle.sat_checker.specs.inner.InTurn.{with_supposed, stands_first, Supposes, PassBehind};
+ghost use Rattle.sat_checker.specs.inner.InTurn.{with_supposed, stands_first, AssumesUnits, PassBehind};
 ghost use Rattle.sat_checker.specs.inner.Look.{AssumesMore};
 ghost use Rattle.sat_checker.specs.inner.Looking.{LooksOver};
 ghost use Rattle.sat_checker.specs.inner.Room.{HasRoomForStored};
@@ -60,7 +60,7 @@ fn passes(
     looks: &mut Looks,
 ) -> Result<bool, AllocError>
     ensures exact { IfOk result (λ yes. (f : Stored) → KeepsClauses store.now f
-        → HasRoomForStored assigned.old.room f.clauses → Supposes assigned.old (map (λ u. u.0) before.now) f
+        → HasRoomForStored assigned.old.room f.clauses → AssumesUnits assigned.old (map (λ u. u.0) before.now) f
         → IsTrue yes ↔ PassesByHashes f (unit.0 ∷ []) (unit.1 ∷ [])) }
     ensures short { OnErr result ((f : Stored) → KeepsClauses store.now f
         → HasRoomForStored assigned.old.room f.clauses → ⊥) }

@@ -22,7 +22,7 @@ use Rattle.sat_hints.specs.Lines.{Line, Input, Derived, Gone, Core, Fresh}
 use Rattle.sat_hints.specs.Hints.{and_clauses, is_unit_over, unless_unit_over, clause_under, clauses_under, is_long, FollowsLines}
 use Rattle.sat_hints.specs.Conversion.{gone_unless, with_line, lines_told, lines_of}
 use Rattle.sat_hints.proofs.lemmas.Sound.{still}
-use Rattle.sat_hints.proofs.lemmas.Mirrored.{lines_by, told_lines, lines-append, by-append, each_more, one_each, IsUnder, Stands, Mirrors, aside, NewLine, new_input, empty_new, set_same, set_new}
+use Rattle.sat_hints.proofs.lemmas.Mirrored.{lines_by, told_lines, lines-append, by-append, each_more, one_each, IsUnder, HasAccepted, Mirrors, aside, NewLine, new_input, empty_new, set_same, set_new}
 
 -- WHAT A CLAUSE RESTS ON IS PRESENT
 module _ (f : Stored) (lines : List Line) (m : Mirrors f lines) where
@@ -257,37 +257,37 @@ module _ (P : ℕ → List ℕ → Type 0) where
       go ih true = each_unless (gone_then r c) (without_count r c) cs (each_less r c h.0) h.1
       go ih false = (h.0, ih)
 
-same_in : (r : Bool) (c : StoredClause) (id : ℕ) (d : List ℕ) (cs : List StoredClause) → c.id ≡ id → c.literals ≡ d → Stands id d (without_count r c ∷ cs)
+same_in : (r : Bool) (c : StoredClause) (id : ℕ) (d : List ℕ) (cs : List StoredClause) → c.id ≡ id → c.literals ≡ d → HasAccepted id d (without_count r c ∷ cs)
 same_in true c id d cs i e = record { clause = without_count true c; stored = inl refl; id_is = i; literals_are = e }
 same_in false c id d cs i e = record { clause = without_count false c; stored = inl refl; id_is = i; literals_are = e }
 
-stands_later : (id : ℕ) (d : List ℕ) (c : StoredClause) (cs : List StoredClause) → Stands id d cs → Stands id d (c ∷ cs)
+stands_later : (id : ℕ) (d : List ℕ) (c : StoredClause) (cs : List StoredClause) → HasAccepted id d cs → HasAccepted id d (c ∷ cs)
 stands_later id d c cs s = record { clause = s.clause; stored = inr s.stored; id_is = s.id_is; literals_are = s.literals_are }
 
-stands_left : (r : Bool) (ls : List ℕ) (id : ℕ) (d : List ℕ) (s : StoredClause) (cs : List StoredClause) → clause_with ls cs ≡ Some s → gone_then r s ≡ false → (t : StoredClause) → IsOneOf t cs → t.id ≡ id → t.literals ≡ d → Stands id d (without_clause r ls cs)
+stands_left : (r : Bool) (ls : List ℕ) (id : ℕ) (d : List ℕ) (s : StoredClause) (cs : List StoredClause) → clause_with ls cs ≡ Some s → gone_then r s ≡ false → (t : StoredClause) → IsOneOf t cs → t.id ≡ id → t.literals ≡ d → HasAccepted id d (without_clause r ls cs)
 stands_left r ls id d s [] e g t h i w = absurd h
 stands_left r ls id d s (c ∷ cs) e g t h i w = go (λ k l. stands_left r ls id d s cs k g t l i w) (same_literals c.literals ls) e h
   where
-    left : (b : Bool) → b ≡ false → (t ≡ c) ⊎ IsOneOf t cs → Stands id d (cond b [] (without_count r c ∷ []) ++ cs)
+    left : (b : Bool) → b ≡ false → (t ≡ c) ⊎ IsOneOf t cs → HasAccepted id d (cond b [] (without_count r c ∷ []) ++ cs)
     left true z k = absurd (true≢false z)
     left false z (inl k) = same_in r c id d cs (ap (λ (x : StoredClause). x.id) (sym k) ∙ i) (ap (λ (x : StoredClause). x.literals) (sym k) ∙ w)
     left false z (inr k) = record { clause = t; stored = inr k; id_is = i; literals_are = w }
 
-    go : (clause_with ls cs ≡ Some s → IsOneOf t cs → Stands id d (without_clause r ls cs)) → (b : Bool) → cond b (Some c) (clause_with ls cs) ≡ Some s → (t ≡ c) ⊎ IsOneOf t cs → Stands id d (cond b (unless_gone (without_count r c) ++ cs) (c ∷ without_clause r ls cs))
+    go : (clause_with ls cs ≡ Some s → IsOneOf t cs → HasAccepted id d (without_clause r ls cs)) → (b : Bool) → cond b (Some c) (clause_with ls cs) ≡ Some s → (t ≡ c) ⊎ IsOneOf t cs → HasAccepted id d (cond b (unless_gone (without_count r c) ++ cs) (c ∷ without_clause r ls cs))
     go ih true k l = let f : c ≡ s = cc in left (gone_then r c) (ap (gone_then r) f ∙ g) l
     go ih false k (inl l) = record { clause = c; stored = inl refl; id_is = ap (λ (x : StoredClause). x.id) (sym l) ∙ i; literals_are = ap (λ (x : StoredClause). x.literals) (sym l) ∙ w }
     go ih false k (inr l) = stands_later id d c (without_clause r ls cs) (ih k l)
 
 -- where it is gone, the others stay
-stands_other : (r : Bool) (ls : List ℕ) (id : ℕ) (d : List ℕ) (s : StoredClause) (cs : List StoredClause) → clause_with ls cs ≡ Some s → (id ≡ s.id → ⊥) → (t : StoredClause) → IsOneOf t cs → t.id ≡ id → t.literals ≡ d → Stands id d (without_clause r ls cs)
+stands_other : (r : Bool) (ls : List ℕ) (id : ℕ) (d : List ℕ) (s : StoredClause) (cs : List StoredClause) → clause_with ls cs ≡ Some s → (id ≡ s.id → ⊥) → (t : StoredClause) → IsOneOf t cs → t.id ≡ id → t.literals ≡ d → HasAccepted id d (without_clause r ls cs)
 stands_other r ls id d s [] e g t h i w = absurd h
 stands_other r ls id d s (c ∷ cs) e g t h i w = go (λ k l. stands_other r ls id d s cs k g t l i w) (same_literals c.literals ls) e h
   where
-    behind_it : (b : Bool) → IsOneOf t cs → Stands id d (cond b [] (without_count r c ∷ []) ++ cs)
+    behind_it : (b : Bool) → IsOneOf t cs → HasAccepted id d (cond b [] (without_count r c ∷ []) ++ cs)
     behind_it true k = record { clause = t; stored = k; id_is = i; literals_are = w }
     behind_it false k = record { clause = t; stored = inr k; id_is = i; literals_are = w }
 
-    go : (clause_with ls cs ≡ Some s → IsOneOf t cs → Stands id d (without_clause r ls cs)) → (b : Bool) → cond b (Some c) (clause_with ls cs) ≡ Some s → (t ≡ c) ⊎ IsOneOf t cs → Stands id d (cond b (unless_gone (without_count r c) ++ cs) (c ∷ without_clause r ls cs))
+    go : (clause_with ls cs ≡ Some s → IsOneOf t cs → HasAccepted id d (without_clause r ls cs)) → (b : Bool) → cond b (Some c) (clause_with ls cs) ≡ Some s → (t ≡ c) ⊎ IsOneOf t cs → HasAccepted id d (cond b (unless_gone (without_count r c) ++ cs) (c ∷ without_clause r ls cs))
     go ih true k (inl l) = absurd (let f : c ≡ s = cc in g (sym i ∙ ap (λ (x : StoredClause). x.id) (l ∙ f)))
     go ih true k (inr l) = behind_it (gone_then r c) l
     go ih false k (inl l) = record { clause = c; stored = inl refl; id_is = ap (λ (x : StoredClause). x.id) (sym l) ∙ i; literals_are = ap (λ (x : StoredClause). x.literals) (sym l) ∙ w }

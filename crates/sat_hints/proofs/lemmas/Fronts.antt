@@ -1,7 +1,7 @@
 -- Which bytes may come at each place of a line.
 use Rattle.std.proofs.Common.{ℕ, ◌+◌, ◌/◌, ◌^◌, ◌<◌, ◌≡◌, Bool, true, false, cond, Option, None, Some, List, [], ◌∷◌, ◌++◌, decimal, refl, sym, ◌∙◌, ap, subst, arith, append_assoc}
 use Rattle.std.proofs.lemmas.Fmt.{decimal_nonempty, first_decimal}
-use Rattle.sat_base.specs.values.Literals.{largest, is_positive}
+use Rattle.sat_base.specs.values.Literals.{var_limit, is_positive}
 use Rattle.sat_base.specs.dimacs.DimacsText.{number_text}
 use Rattle.sat_hints.specs.Lines.{HasNoEnd, id_text, id_words, literal_words}
 use Rattle.sat_hints.specs.inner.LineReading.{IsNumberUpTo, IsLiteralCode, NoDigit, digits_so_far}
@@ -34,8 +34,8 @@ data Turn (part : Part) (bytes : List ℕ) : Type 0 where
 
 -- a literal and a space
 data Signed (Rest : List ℕ → Type 0) (bytes : List ℕ) : Type 0 where
-  plain : Numbered largest Rest 0 bytes → Signed Rest bytes
-  minus : (rest : List ℕ) → bytes ≡ 45 ∷ rest → Numbered largest Rest 0 rest → Signed Rest bytes
+  plain : Numbered var_limit Rest 0 bytes → Signed Rest bytes
+  minus : (rest : List ℕ) → bytes ≡ 45 ∷ rest → Numbered var_limit Rest 0 rest → Signed Rest bytes
 
 signed : (Rest : List ℕ → Type 0) (l : ℕ) (rest bytes : List ℕ) → IsLiteralCode l → bytes ≡ number_text l ++ (32 ∷ rest) → Rest rest → Signed Rest bytes
 signed Rest l rest bytes p e r = go (is_positive l) e

@@ -50,7 +50,7 @@ abbrev pub IsUnder : List Line → ℕ → List ℕ → Type 0
 IsUnder lines id c = clause_under id lines ≡ Some c
 
 -- a clause of these literals is stored under the id
-pub record Stands (id : ℕ) (c : List ℕ) (cs : List StoredClause) : Type 0 where
+pub record HasAccepted (id : ℕ) (c : List ℕ) (cs : List StoredClause) : Type 0 where
   pub clause : StoredClause
   pub stored : IsOneOf clause cs
   pub id_is : clause.id ≡ id
@@ -61,7 +61,7 @@ pub record Mirrors (f : Stored) (lines : List Line) : Type 0 where
   pub derivation : IsHintDerivation lines
   pub clauses : AllByRecursion (λ c. IsUnder lines c.id c.literals) f.clauses
   pub units : AllByRecursion (λ u. IsUnder lines u.id (u.literal ∷ [])) f.units
-  pub long : (id : ℕ) (c : List ℕ) → IsUnder lines id c → is_long c ≡ true → Stands id c f.clauses
+  pub long : (id : ℕ) (c : List ℕ) → IsUnder lines id c → is_long c ≡ true → HasAccepted id c f.clauses
   pub least : least_id lines ≤ f.next_id
   pub conflict : (ids : ℕ × ℕ) → f.conflict ≡ Some ids → (l : ℕ) × IsUnder lines ids.0 (l ∷ []) × IsUnder lines ids.1 (negated l ∷ [])
 
@@ -71,7 +71,7 @@ aside f g lines c u k n m = record {
   derivation = m.derivation;
   clauses = subst (AllByRecursion (λ c. IsUnder lines c.id c.literals)) (sym c) m.clauses;
   units = subst (AllByRecursion (λ u. IsUnder lines u.id (u.literal ∷ []))) (sym u) m.units;
-  long = λ id d e l. subst (Stands id d) (sym c) (m.long id d e l);
+  long = λ id d e l. subst (HasAccepted id d) (sym c) (m.long id d e l);
   least = (let l = m.least in omega (arith, l, n));
   conflict = λ ids e. m.conflict ids (sym k ∙ e);
 }
@@ -145,29 +145,29 @@ clause_absent None e = refl
 clause_absent (Some c) e = absurd cc
 
 -- a clause of two literals or more comes in behind the others, or one count more
-stands_more : (r : Bool) (n : ℕ) (ls : List ℕ) (id : ℕ) (d : List ℕ) (cs : List StoredClause) → (s : StoredClause) → IsOneOf s cs → s.id ≡ id → s.literals ≡ d → Stands id d (with_stored_clause r n ls cs)
+stands_more : (r : Bool) (n : ℕ) (ls : List ℕ) (id : ℕ) (d : List ℕ) (cs : List StoredClause) → (s : StoredClause) → IsOneOf s cs → s.id ≡ id → s.literals ≡ d → HasAccepted id d (with_stored_clause r n ls cs)
 stands_more r n ls id d [] s h i e = absurd h
 stands_more r n ls id d (c ∷ cs) s h i e = elim h [
   | inl k ↦ here (same_literals c.literals ls) r k
   | inr k ↦ later (stands_more r n ls id d cs s k i e) (same_literals c.literals ls) k
 ]
   where
-    here : (b r : Bool) → s ≡ c → Stands id d (cond b (with_count r c ∷ cs) (c ∷ with_stored_clause r n ls cs))
+    here : (b r : Bool) → s ≡ c → HasAccepted id d (cond b (with_count r c ∷ cs) (c ∷ with_stored_clause r n ls cs))
     here true true k = record { clause = with_count true c; stored = inl refl; id_is = ap (λ x. x.id) (sym k) ∙ i; literals_are = ap (λ x. x.literals) (sym k) ∙ e }
     here true false k = record { clause = with_count false c; stored = inl refl; id_is = ap (λ x. x.id) (sym k) ∙ i; literals_are = ap (λ x. x.literals) (sym k) ∙ e }
     here false true k = record { clause = c; stored = inl refl; id_is = ap (λ x. x.id) (sym k) ∙ i; literals_are = ap (λ x. x.literals) (sym k) ∙ e }
     here false false k = record { clause = c; stored = inl refl; id_is = ap (λ x. x.id) (sym k) ∙ i; literals_are = ap (λ x. x.literals) (sym k) ∙ e }
 
-    later : Stands id d (with_stored_clause r n ls cs) → (b : Bool) → IsOneOf s cs → Stands id d (cond b (with_count r c ∷ cs) (c ∷ with_stored_clause r n ls cs))
+    later : HasAccepted id d (with_stored_clause r n ls cs) → (b : Bool) → IsOneOf s cs → HasAccepted id d (cond b (with_count r c ∷ cs) (c ∷ with_stored_clause r n ls cs))
     later ih true k = record { clause = s; stored = inr k; id_is = i; literals_are = e }
     later ih false k = record { clause = ih.clause; stored = inr ih.stored; id_is = ih.id_is; literals_are = ih.literals_are }
 
-stands_new : (r : Bool) (n : ℕ) (ls : List ℕ) (cs : List StoredClause) → clause_with ls cs ≡ None → Stands n ls (with_stored_clause r n ls cs)
+stands_new : (r : Bool) (n : ℕ) (ls : List ℕ) (cs : List StoredClause) → clause_with ls cs ≡ None → HasAccepted n ls (with_stored_clause r n ls cs)
 stands_new true n ls [] e = record { clause = new_clause true n ls; stored = inl refl; id_is = refl; literals_are = refl }
 stands_new false n ls [] e = record { clause = new_clause false n ls; stored = inl refl; id_is = refl; literals_are = refl }
 stands_new r n ls (c ∷ cs) e = go (stands_new r n ls cs) (same_literals c.literals ls) e
   where
-    go : (clause_with ls cs ≡ None → Stands n ls (with_stored_clause r n ls cs)) → (b : Bool) → cond b (Some c) (clause_with ls cs) ≡ None → Stands n ls (cond b (with_count r c ∷ cs) (c ∷ with_stored_clause r n ls cs))
+    go : (clause_with ls cs ≡ None → HasAccepted n ls (with_stored_clause r n ls cs)) → (b : Bool) → cond b (Some c) (clause_with ls cs) ≡ None → HasAccepted n ls (cond b (with_count r c ∷ cs) (c ∷ with_stored_clause r n ls cs))
     go ih true k = absurd cc
     go ih false k = let s = ih k in record { clause = s.clause; stored = inr s.stored; id_is = s.id_is; literals_are = s.literals_are }
 
@@ -236,7 +236,7 @@ module _ (line : Line) (set : List ℕ) (f : Stored) (lines : List Line) (new : 
   conflict_kept : (ids : ℕ × ℕ) → f.conflict ≡ Some ids → (l : ℕ) × IsUnder (line ∷ lines) ids.0 (l ∷ []) × IsUnder (line ∷ lines) ids.1 (negated l ∷ [])
   conflict_kept ids e = let k = m.conflict ids e in (k.0, kept ids.0 (k.0 ∷ []) k.1, kept ids.1 (negated k.0 ∷ []) k.2)
 
-  long_kept : is_long set ≡ false → (id : ℕ) (c : List ℕ) → IsUnder (line ∷ lines) id c → is_long c ≡ true → Stands id c f.clauses
+  long_kept : is_long set ≡ false → (id : ℕ) (c : List ℕ) → IsUnder (line ∷ lines) id c → is_long c ≡ true → HasAccepted id c f.clauses
   long_kept short id c e l = elim (split id c e) [
     | inl s ↦ absurd (true≢false (sym l ∙ ap is_long (sym s.1) ∙ short))
     | inr k ↦ m.long id c k l
@@ -251,7 +251,7 @@ module _ (line : Line) (set : List ℕ) (f : Stored) (lines : List Line) (new : 
     derivation = (m.derivation, new.follows);
     clauses = subst (AllByRecursion (λ c. IsUnder (line ∷ lines) c.id c.literals)) (sym c) clauses_kept;
     units = subst (AllByRecursion (λ u. IsUnder (line ∷ lines) u.id (u.literal ∷ []))) (sym u) units_kept;
-    long = λ id d e l. subst (Stands id d) (sym c) (long_kept short id d e l);
+    long = λ id d e l. subst (HasAccepted id d) (sym c) (long_kept short id d e l);
     least = let l = least_kept in omega (arith, l, n);
     conflict = λ ids e. conflict_kept ids (sym k ∙ e);
   }
@@ -290,7 +290,7 @@ module _ (line : Line) (set : List ℕ) (f : Stored) (lines : List Line) (new : 
     clauses = under_with (line ∷ lines) r f.next_id set f.clauses (λ n. here) clauses_kept;
     units = units_kept;
     long = λ id c u l. elim (split id c u) [
-      | inl k ↦ subst (λ i. Stands i c (with_stored_clause r f.next_id set f.clauses)) (sym k.0) (subst (λ d. Stands f.next_id d (with_stored_clause r f.next_id set f.clauses)) k.1 (stands_new r f.next_id set f.clauses e))
+      | inl k ↦ subst (λ i. HasAccepted i c (with_stored_clause r f.next_id set f.clauses)) (sym k.0) (subst (λ d. HasAccepted f.next_id d (with_stored_clause r f.next_id set f.clauses)) k.1 (stands_new r f.next_id set f.clauses e))
       | inr k ↦ let s = m.long id c k l in stands_more r f.next_id set id c f.clauses s.clause s.stored s.id_is s.literals_are
     ];
     least = let l = least_kept in subst (λ b. least_id (line ∷ lines) ≤ cond b f.next_id (f.next_id + 1)) (sym (ap is_some e)) l;

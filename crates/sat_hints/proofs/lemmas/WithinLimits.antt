@@ -1,7 +1,7 @@
 -- The lines of what accepted steps announce are within the limits of the grammar.
 use Rattle.std.proofs.Common.{ℕ, ◌*◌, ◌-◌, ◌^◌, ◌<◌, ◌≤◌, ◌≡◌, Bool, true, false, not, ◌&&◌, cond, eqb, List, [], ◌∷◌, ◌++◌, Option, None, Some, refl, sym, ◌∙◌, subst, arith}
 use Rattle.std.specs.List.{AllByRecursion}
-use Rattle.sat_base.specs.values.Literals.{largest}
+use Rattle.sat_base.specs.values.Literals.{var_limit}
 use Rattle.sat_base.specs.steps.Formats.{Items, Both}
 use Rattle.sat_base.specs.steps.Steps.{Redundant, Simplified, Satisfied, Step, SolverVarName, UserVarName, DeleteVar, ChangeSamplingMode, AddClause, AtClause, UnitClauses, DeleteClause, ChangeHashBits, Model, Assumptions, FailedAssumptions, End}
 use Rattle.sat_base.specs.steps.StepText as text
@@ -48,7 +48,7 @@ both_fit [] ys h k = k
 both_fit (x ∷ xs) ys h k = (h.0, both_fit xs ys h.1 k)
 
 set_fits : (clause : List ℕ) → AreLiteralCodes clause → AreLiteralCodes (canonical clause)
-set_fits clause h = canonical_each (λ l. l < 2 * largest) clause h
+set_fits clause h = canonical_each (λ l. l < 2 * var_limit) clause h
 
 derived_fit : (r : Bool) (c hs : List ℕ) (f : Stored) → AreLiteralCodes c → FitTold (derived r c hs f)
 derived_fit r c hs f h = go (is_tautology c) (id_of_set (canonical c) f)
@@ -62,7 +62,7 @@ derived_fit r c hs f h = go (is_tautology c) (id_of_set (canonical c) f)
     go false None = (set_fits c h, tt)
     go false (Some id) = more (not r && redundant_alone (clause_with (canonical c) f.clauses)) id
 
-units_fit : (us : List (ℕ × ℕ)) (f : Stored) → AllByRecursion (λ u. u.0 < 2 * largest) us → FitTold (derived_units us f)
+units_fit : (us : List (ℕ × ℕ)) (f : Stored) → AllByRecursion (λ u. u.0 < 2 * var_limit) us → FitTold (derived_units us f)
 units_fit [] f h = tt
 units_fit (u ∷ us) f h = both_fit (derived false (u.0 ∷ []) (u.1 ∷ []) f) (derived_units us (with_unit u.0 f)) (derived_fit false (u.0 ∷ []) (u.1 ∷ []) f (h.0, tt)) (units_fit us (with_unit u.0 f) h.1)
 
@@ -173,10 +173,10 @@ items_each F P w [] bytes h = tt
 items_each F P w (x ∷ xs) bytes h = (w x h.0 h.2, items_each F P w xs h.1 h.3)
 
 literals_read : (ls : List ℕ) (bytes : List ℕ) → text.AreLiterals ls bytes → AreLiteralCodes ls
-literals_read ls bytes h = items_each text.IsLiteral (λ l. l < 2 * largest) (λ l b k. k.1) ls h.1 h.3
+literals_read ls bytes h = items_each text.IsLiteral (λ l. l < 2 * var_limit) (λ l b k. k.1) ls h.1 h.3
 
-units_read : (us : List (ℕ × ℕ)) (bytes : List ℕ) → text.AreHashedLiterals us bytes → AllByRecursion (λ u. u.0 < 2 * largest) us
-units_read us bytes h = items_each (Both text.IsLiteral text.IsHash) (λ u. u.0 < 2 * largest) (λ u b k. k.2.1) us h.1 h.3
+units_read : (us : List (ℕ × ℕ)) (bytes : List ℕ) → text.AreHashedLiterals us bytes → AllByRecursion (λ u. u.0 < 2 * var_limit) us
+units_read us bytes h = items_each (Both text.IsLiteral text.IsHash) (λ u. u.0 < 2 * var_limit) (λ u b k. k.2.1) us h.1 h.3
 
 fields_fit : (step : Step) (bytes : List ℕ) → SpellsFields step bytes → FitsStep step
 fields_fit (SolverVarName v name) bytes h = tt

@@ -1,6 +1,6 @@
 -- What may still come of a line whose front was read.
 use Rattle.std.specs.Prelude.{ℕ, ◌-◌, ◌^◌, ◌==◌, ◌≡◌, Option, None, Some, List, ◌∷◌, ◌++◌, decimal, codes, if◌then◌else◌}
-use Rattle.sat_base.specs.values.Literals.{largest}
+use Rattle.sat_base.specs.values.Literals.{var_limit}
 use Rattle.sat_hints.specs.Lines.{Line, AreIds, id_words, SpellsLine}
 use Rattle.sat_hints.specs.inner.LineReading.{IsNumberUpTo, IsOne, IsBoth, digits_so_far}
 use Rattle.sat_hints.specs.declared.fronts.Part.{Part}
@@ -13,9 +13,9 @@ abbrev pub limit_of : Part → ℕ
 limit_of InputId = 2 ^ 64 - 1
 limit_of DerivedId = 2 ^ 64 - 1
 limit_of GoneId = 2 ^ 64 - 1
-limit_of FreshVar = largest
-limit_of Clause = largest
-limit_of Lists = largest
+limit_of FreshVar = var_limit
+limit_of Clause = var_limit
+limit_of Lists = var_limit
 limit_of Ids = 2 ^ 64 - 1
 limit_of End = 2 ^ 64 - 1
 
@@ -43,7 +43,7 @@ abbrev pub IsPartOfLine : Part → List ℕ → Type 0
 IsPartOfLine InputId bytes = Numbered (2 ^ 64 - 1) (λ rest. (ls : List ℕ) × IsOne rest ls) 0 bytes
 IsPartOfLine DerivedId bytes = Numbered (2 ^ 64 - 1) (λ rest. (ls : List ℕ) × (ids : List ℕ) × IsBoth rest ls ids) 0 bytes
 IsPartOfLine GoneId bytes = Numbered (2 ^ 64 - 1) (λ rest. rest ≡ codes "0\n") 0 bytes
-IsPartOfLine FreshVar bytes = Numbered largest (λ rest. rest ≡ codes "0\n") 0 bytes
+IsPartOfLine FreshVar bytes = Numbered var_limit (λ rest. rest ≡ codes "0\n") 0 bytes
 IsPartOfLine Clause bytes = (ls : List ℕ) × IsOne bytes ls
 IsPartOfLine Lists bytes = (ls : List ℕ) × (ids : List ℕ) × IsBoth bytes ls ids
 IsPartOfLine Ids bytes = (ids : List ℕ) × AreIds ids × (bytes ≡ id_words ids ++ codes "0\n")

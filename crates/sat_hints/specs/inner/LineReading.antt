@@ -1,7 +1,7 @@
 -- What is read at the front of a line's bytes, and where nothing is.
 use Rattle.std.specs.Prelude.{ℕ, zero, suc, ◌*◌, ◌-◌, ◌^◌, ◌<◌, ◌≤◌, ◌≡◌, ◌⊎◌, List, [], ◌∷◌, ◌++◌, decimal, codes}
 use Rattle.std.specs.List.{AllByRecursion}
-use Rattle.sat_base.specs.values.Literals.{largest}
+use Rattle.sat_base.specs.values.Literals.{var_limit}
 use Rattle.sat_hints.specs.Lines.{Line, Input, Derived, Gone, Core, Fresh, IsLine, AreIds, AreLiteralCodes, words, id_words, literal_words, line_text}
 use Rattle.sat_hints.specs.declared.line.HintLine.{HintLine}
 use Rattle.sat_hints.specs.declared.line.HintLine.TheVariants as code
@@ -18,11 +18,11 @@ IsId id = id < 2 ^ 64 - 1
 
 -- a variable is its index, which is below the limit
 abbrev pub IsVariableIndex : ℕ → Type 0
-IsVariableIndex v = v < largest
+IsVariableIndex v = v < var_limit
 
 -- a literal is its code, and its variable is within the limit
 abbrev pub IsLiteralCode : ℕ → Type 0
-IsLiteralCode l = l < 2 * largest
+IsLiteralCode l = l < 2 * var_limit
 
 -- the digits of a number that has begun; 0 where none has been read
 abbrev pub digits_so_far : ℕ → List ℕ

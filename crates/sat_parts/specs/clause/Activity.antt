@@ -1,7 +1,7 @@
 -- Headers of a list of clauses that are written one by one, and activities of clauses.
 use Rattle.std.specs.Prelude.{ℕ, ◌≡◌, ◌+◌, ◌-◌, ◌*◌, ◌/◌, ◌^◌, ◌<◌, ◌≤◌, ◌==◌, min, max, List, length, slice_index_or as get_or, if◌then◌else◌}
 use Rattle.std.specs.List.{Contains}
-use Rattle.sat_store.specs.clause.Buffer.{Laid, header_at, lits_at}
+use Rattle.sat_store.specs.clause.Buffer.{HoldsClauses, header_at, lits_at}
 use Rattle.sat_store.specs.clause.Header.{Header}
 use Rattle.sat_store.specs.heap.Vsids.{quotient_up}
 use Rattle.sat_parts.specs.clause.Db.{PutsHeader}
@@ -9,14 +9,14 @@ use Rattle.sat_parts.specs.clause.Db.{PutsHeader}
 -- each clause of the list has the header that f gives, and its literals as before
 pub record PutsHeaders (words words' refs : List ℕ) (f : ℕ → Header) : Type 0 where
   pub size : length words' ≡ length words
-  pub laid : Laid words' refs
+  pub laid : HoldsClauses words' refs
   pub headers : (p : ℕ) → Contains refs p → header_at words' p ≡ f p
   pub lits : (p : ℕ) → Contains refs p → lits_at words' p ≡ lits_at words p
 
 -- the same for the first n clauses of the list, where the others are as before
 pub record PutsFirst (words words' refs : List ℕ) (f : ℕ → Header) (n : ℕ) : Type 0 where
   pub size : length words' ≡ length words
-  pub laid : Laid words' refs
+  pub laid : HoldsClauses words' refs
   pub first : (k : ℕ) → k < n → k < length refs → header_at words' (get_or refs k 0) ≡ f (get_or refs k 0)
   pub rest : (k : ℕ) → n ≤ k → k < length refs → header_at words' (get_or refs k 0) ≡ header_at words (get_or refs k 0)
   pub lits : (k : ℕ) → k < length refs → lits_at words' (get_or refs k 0) ≡ lits_at words (get_or refs k 0)

@@ -2,7 +2,7 @@
 use Rattle.std.specs.Prelude.{ℕ, ◌≡◌, ◌≢◌, ◌+◌, ◌<◌, ◌≤◌, ◌⊎◌, List, [], ◌∷◌, ◌++◌, length, drop, take, slice_index_or as get_or}
 use Rattle.std.specs.List.{Contains, sum_by}
 use Rattle.sat_base.specs.values.Literals.{variable}
-use Rattle.sat_store.specs.clause.Buffer.{Laid, AppendsClause, header_at, lits_at}
+use Rattle.sat_store.specs.clause.Buffer.{HoldsClauses, AppendsClause, header_at, lits_at}
 use Rattle.sat_parts.specs.declared.prop.graph.ImplNode.{ImplNode}
 use Rattle.sat_parts.specs.declared.prop.graph.Reason.{Reason}
 use Rattle.sat_parts.specs.declared.prop.graph.Reason.TheVariants.{Unit as NoCause, Binary, Long}
@@ -24,7 +24,7 @@ words_of words refs = sum_by (λ o. length (lits_at words o) + 3) refs
 -- the copies of the live clauses among the first i, each not behind its own place
 pub record Copying (words refs words' refs' : List ℕ) (i : ℕ) : Type 0 where
   pub copies : Copies words (live_refs words (take i refs)) words' refs'
-  pub laid : Laid words' refs'
+  pub laid : HoldsClauses words' refs'
   pub rising : AreRising refs'
   pub low : (k : ℕ) → k < length refs' → get_or refs' k 0 ≤ get_or (live_refs words (take i refs)) k 0
   pub room : (p : ℕ) → Contains (drop i refs) p → length words' ≤ p

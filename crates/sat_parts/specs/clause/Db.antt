@@ -1,7 +1,7 @@
 -- The list of long clauses.
 use Rattle.std.specs.Prelude.{ℕ, ◌≡◌, ◌≢◌, ◌+◌, ◌-◌, ◌^◌, ◌<◌, ◌≤◌, ◌==◌, min, true, Bool, not, ◌&&◌, List, [], ◌∷◌, ◌++◌, length, slice_index_or as get_or, slice_set as set, take, Option, if◌then◌else◌, count_by}
 use Rattle.std.specs.List.{Contains, filter, sum_by}
-use Rattle.sat_store.specs.clause.Buffer.{IsClause, Laid, SameClauseAt, AppendsClause, header_at, lits_at}
+use Rattle.sat_store.specs.clause.Buffer.{IsClause, HoldsClauses, SameClauseAt, AppendsClause, header_at, lits_at}
 use Rattle.sat_store.specs.clause.Header.{Header, index_of}
 use Rattle.sat_store.specs.declared.clause.tier.Tier.{Tier}
 use Rattle.sat_base.specs.values.Literals.{variable}
@@ -47,7 +47,7 @@ AreRising xs = (j k : ℕ) → j < k → k < length xs → get_or xs j 0 < get_o
 -- each clause of the list has three or more literals and words of its own, behind those of the clause before it; the numbers are those of the live clauses
 -- by tier, and the garbage that of the deleted ones (held at 2^64 - 1)
 pub record HoldsDb (words : List ℕ) (db : Db) : Type 0 where
-  pub laid : Laid words db.refs
+  pub laid : HoldsClauses words db.refs
   pub rising : AreRising db.refs
   pub tiers : length db.counts ≡ 4
   pub counts : (tier : Tier) → get_or db.counts (index_of tier) 0 ≡ count_by (is_live_of words tier) db.refs
@@ -77,7 +77,7 @@ pub record AddsLongClause (words : List ℕ) (db : Db) (words' : List ℕ) (db' 
 -- the clause at o came to have this header, of the same length, and no other clause of the list changed
 pub record PutsHeader (words words' refs : List ℕ) (o : ℕ) (header : Header) : Type 0 where
   pub size : length words' ≡ length words
-  pub laid : Laid words' refs
+  pub laid : HoldsClauses words' refs
   pub header_there : header_at words' o ≡ header
   pub lits_there : lits_at words' o ≡ lits_at words o
   pub others : (p : ℕ) → Contains refs p → p ≢ o → SameClauseAt words words' p

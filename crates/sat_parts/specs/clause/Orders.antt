@@ -2,7 +2,7 @@
 use Rattle.std.specs.Prelude.{ℕ, ◌≡◌, ◌≢◌, ◌<◌, List, length, slice_index_or as get_or}
 use Rattle.std.specs.List.{Contains}
 use Rattle.std.specs.List.Sorted.{IsPermutation}
-use Rattle.sat_store.specs.clause.Buffer.{IsClause, Laid, SameClauseAt, header_at, lits_at}
+use Rattle.sat_store.specs.clause.Buffer.{IsClause, HoldsClauses, SameClauseAt, header_at, lits_at}
 
 -- no literal stands at two places
 abbrev pub AreDistinct : List ℕ → Type 0
@@ -22,16 +22,16 @@ pub record Shuffles (old new : List ℕ) (o : ℕ) : Type 0 where
   pub clause : IsClause new o
   pub header : header_at new o ≡ header_at old o
   pub lits : Shuffled (lits_at old o) (lits_at new o)
-  pub laid : (refs : List ℕ) → Contains refs o → Laid old refs → Laid new refs
-  pub others : (refs : List ℕ) (p : ℕ) → Contains refs o → Laid old refs → Contains refs p → o ≢ p → SameClauseAt old new p
+  pub laid : (refs : List ℕ) → Contains refs o → HoldsClauses old refs → HoldsClauses new refs
+  pub others : (refs : List ℕ) (p : ℕ) → Contains refs o → HoldsClauses old refs → Contains refs p → o ≢ p → SameClauseAt old new p
 
 -- the clauses at these places have the headers that they had, and the same literals, perhaps in another order
 pub record SameUpToOrder (old new refs : List ℕ) : Type 0 where
-  pub laid : Laid new refs
+  pub laid : HoldsClauses new refs
   pub headers : (o : ℕ) → Contains refs o → header_at new o ≡ header_at old o
   pub lits : (o : ℕ) → Contains refs o → Shuffled (lits_at old o) (lits_at new o)
 
 -- in each list of clauses that has the live ones, at most the order of literals changed
 pub record Reorders (old new live : List ℕ) : Type 0 where
   pub size : length new ≡ length old
-  pub all : (refs : List ℕ) → ((o : ℕ) → Contains live o → Contains refs o) → Laid old refs → SameUpToOrder old new refs
+  pub all : (refs : List ℕ) → ((o : ℕ) → Contains live o → Contains refs o) → HoldsClauses old refs → SameUpToOrder old new refs

@@ -1,7 +1,7 @@
 -- What holds of the live clauses, in whatever order their literals are.
 use Rattle.std.specs.Prelude.{ℕ, ◌*◌, ◌<◌, ◌≤◌, List, length, slice_index_or as get_or}
 use Rattle.std.specs.List.{Contains}
-use Rattle.sat_store.specs.clause.Buffer.{Laid, lits_at}
+use Rattle.sat_store.specs.clause.Buffer.{HoldsClauses, lits_at}
 use Rattle.sat_parts.specs.clause.Orders.{AreDistinct}
 
 -- literal k of the clause at o
@@ -14,7 +14,7 @@ size_of words o = length (lits_at words o)
 
 -- the live clauses have words of their own, and three or more different literals each, of variables below the count
 pub record AreClauses (words live : List ℕ) (count : ℕ) : Type 0 where
-  pub laid : Laid words live
+  pub laid : HoldsClauses words live
   pub long : (o : ℕ) → Contains live o → 3 ≤ size_of words o
   pub below : (o k : ℕ) → Contains live o → k < size_of words o → lit_of words o k < 2 * count
   pub distinct : (o : ℕ) → Contains live o → AreDistinct (lits_at words o)

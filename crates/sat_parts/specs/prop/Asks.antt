@@ -2,7 +2,7 @@
 use Rattle.std.specs.Prelude.{ℕ, ◌≡◌, ◌+◌, ◌*◌, ◌<◌, ◌≤◌, ◌⊎◌, true, List, length, slice_index_or as get_or, Result, MatchResult}
 use Rattle.std.specs.List.{Contains}
 use Rattle.sat_base.specs.values.Literals.{negated}
-use Rattle.sat_store.specs.clause.Buffer.{Laid, lits_at}
+use Rattle.sat_store.specs.clause.Buffer.{HoldsClauses, lits_at}
 use Rattle.sat_parts.specs.declared.prop.graph.Reason.{Reason}
 use Rattle.sat_parts.specs.declared.prop.graph.Reason.TheVariants.{Unit as NoCause, Binary, Long}
 use Rattle.sat_parts.specs.declared.prop.graph.Conflict.{Conflict}
@@ -20,7 +20,7 @@ use Rattle.sat_parts.specs.prop.Ready.{AreWatched, AreSettled, AreImplied, AreLi
 -- long reasons have their literals first; and clauses made false in a watched literal by one that has left the queue, of a level
 -- below the top, have a true literal of no higher level. Watch lists that aren't kept up may hold anything
 pub record PropagationInvariant (words refs : List ℕ) (w : Watching) (implied : List (List ℕ)) (s : State) (top : ℕ) : Type 0 where
-  pub laid : Laid words refs
+  pub laid : HoldsClauses words refs
   pub clauses : AreClauses words (live_refs words refs) (length s.values)
   pub room : length w.lists ≡ 2 * length s.values
   pub watches : w.enabled ≡ true → AreWatched words (live_refs words refs) w.lists (length s.values)
@@ -46,7 +46,7 @@ IsOwnBinary (Long o) lit l m = ⊥
 -- the same before an open literal becomes true by its reason: the clause that the reason names may be unsettled, as one is that
 -- was just added, where its false literals that are watched are of the current level
 pub record AsksForReason (lit : ℕ) (reason : Reason) (words refs : List ℕ) (w : Watching) (implied : List (List ℕ)) (s : State) (top : ℕ) : Type 0 where
-  pub laid : Laid words refs
+  pub laid : HoldsClauses words refs
   pub clauses : AreClauses words (live_refs words refs) (length s.values)
   pub room : length w.lists ≡ 2 * length s.values
   pub watches : w.enabled ≡ true → AreWatched words (live_refs words refs) w.lists (length s.values)

@@ -1,6 +1,6 @@
 -- The trail: the literals that were made true and not undone, in order, with the places where levels begin.
 use Rattle.std.specs.Prelude.{ℕ, ◌≡◌, Some, slice_get, ◌+◌, ◌-◌, ◌^◌, ◌<◌, ◌≤◌, List, [], ◌∷◌, ◌++◌, min, take, length, slice_index_or as get_or}
-use Rattle.sat_base.specs.values.Literals.{largest}
+use Rattle.sat_base.specs.values.Literals.{var_limit}
 
 -- the literals, how many of them have left the queue, how many stood there as each level from 1 on began,
 -- how many were cleared (held at 2^64 - 1), and how many have room without more memory
@@ -25,7 +25,7 @@ pub record IsTrail (t : Trailed) : Type 0 where
   pub queue : t.head ≤ length t.lits
   pub levels : AreStarts t.starts (length t.lits)
   pub fits : length t.lits ≤ t.room
-  pub small : t.room ≤ largest
+  pub small : t.room ≤ var_limit
   pub counted : length t.starts < 2 ^ 32
 
 -- the literal at place i was made true at this level

@@ -3,7 +3,7 @@ ghost use Rattle.std.specs.Prelude.{◌≡◌, ◌+◌, ◌-◌, ◌^◌, ◌<�
 ghost use Rattle.std.specs.Prelude.{slice_index, slice_index_or, IsTrue, IfOk, OnErr};
 ghost use Rattle.std.specs.List.{Contains};
 ghost use Rattle.sat_base.specs.values.Literals.{negated, variable};
-ghost use Rattle.sat_store.specs.clause.Buffer.{IsClause, Laid, AppendsClause, header_at, lits_at};
+ghost use Rattle.sat_store.specs.clause.Buffer.{IsClause, HoldsClauses, AppendsClause, header_at, lits_at};
 ghost use Rattle.sat_store.specs.clause.Full.{OnFull};
 ghost use Rattle.sat_store.specs.clause.Header.{index_of};
 ghost use Rattle.sat_parts.specs.clause.Db.{no_clauses, HoldsDb, live_refs, one_more, one_less, PutsHeader};
@@ -118,7 +118,7 @@ impl ClauseDb {
 pub(crate) fn put_header(clauses: &mut ClauseAlloc, cref: ClauseRef, header: ClauseHeader)
     requires clause { IsClause clauses.old cref }
     requires len { header.len ≡ (header_at clauses.old cref).len }
-    ensures { (refs : List ℕ) → Laid clauses.old refs → Contains refs cref
+    ensures { (refs : List ℕ) → HoldsClauses clauses.old refs → Contains refs cref
         → PutsHeader clauses.old clauses.new refs cref header }
 {
     clauses.set_header(cref, header);

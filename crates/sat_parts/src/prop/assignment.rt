@@ -1,6 +1,6 @@
 //! Values of variables.
 ghost use Rattle.std.specs.Prelude.{◌≡◌, ◌<◌, ◌≤◌, ◌↔◌, [], length, IsTrue, OnOk, OnErr, None, slice_index_or};
-ghost use Rattle.sat_base.specs.values.Literals.{largest, variable, is_positive};
+ghost use Rattle.sat_base.specs.values.Literals.{var_limit, variable, is_positive};
 ghost use Rattle.sat_parts.specs.prop.Values.{assigned, made_true, with_var_count, value_of, seen_from, IsTrueLit};
 ghost use Rattle.sat_parts.specs.prop.Values.{IsFalseLit, IsOpenLit};
 ghost use Rattle.sat_parts.specs.prop.Undone.{lost};
@@ -22,7 +22,7 @@ pub struct Assignment {
 
 impl Model for Assignment {
     ghost use Rattle.std.specs.Prelude.{◌≡◌, ◌≤◌, length};
-    ghost use Rattle.sat_base.specs.values.Literals.{largest};
+    ghost use Rattle.sat_base.specs.values.Literals.{var_limit};
     ghost use Rattle.sat_parts.specs.prop.Values.{Values};
     ghost use Rattle.sat_parts.specs.prop.LitValues.{MirrorsValues};
 
@@ -30,7 +30,7 @@ impl Model for Assignment {
 
     ghost view = { λ a. record { current = a.values.items; last = a.last_values.items } };
 
-    ghost invariant = { λ a. (length a.last_values.items ≡ length a.values.items) × (length a.values.items ≤ largest)
+    ghost invariant = { λ a. (length a.last_values.items ≡ length a.values.items) × (length a.values.items ≤ var_limit)
         × MirrorsValues a.values.items a.lit_values.codes.items };
 }
 
@@ -57,7 +57,7 @@ impl Assignment {
 
     /// Makes the variables those with an index below the count. New ones have no value.
     pub fn set_var_count(&mut self, count: usize) -> Result<(), AllocError>
-        requires { count ≤ largest }
+        requires { count ≤ var_limit }
         ensures done { OnOk result (self.new ≡ with_var_count count self.old) }
         ensures same { OnErr result (self.new ≡ self.old) }
     {
@@ -75,7 +75,7 @@ impl Assignment {
     pub fn assignment(&self) -> &[Option<bool>]
         ensures values { result.now ≡ self.now.current }
         ensures last { length self.now.last ≡ length self.now.current }
-        ensures bound { length self.now.current ≤ largest }
+        ensures bound { length self.now.current ≤ var_limit }
     {
         &self.values
     }

@@ -1,6 +1,6 @@
 //! Values by literal.
 ghost use Rattle.std.specs.Prelude.{◌≡◌, ◌+◌, ◌*◌, ◌<◌, ◌≤◌, ◌↔◌, [], length, IsTrue, OnOk, OnErr, slice_index_or};
-ghost use Rattle.sat_base.specs.values.Literals.{largest};
+ghost use Rattle.sat_base.specs.values.Literals.{var_limit};
 ghost use Rattle.sat_parts.specs.prop.LitValues.{signed_value, with_value, with_lit_count};
 
 use sat_base::{Lit, Var};
@@ -56,7 +56,7 @@ impl LitValues {
 
     /// Makes the variables those with an index below the count. Literals of new ones are open.
     pub(crate) fn set_var_count(&mut self, count: usize) -> Result<(), AllocError>
-        requires { count ≤ largest }
+        requires { count ≤ var_limit }
         ensures done { OnOk result (self.new.codes.items ≡ with_lit_count (2 * count) self.old.codes.items) }
         ensures same { OnErr result (self.new.codes.items ≡ self.old.codes.items) }
     {

@@ -1,7 +1,7 @@
 //! The trail of literals that were made true.
 ghost use Rattle.std.specs.Prelude.{◌≡◌, ◌+◌, ◌-◌, ◌^◌, ◌<◌, ◌≤◌, ◌↔◌, ◌⊎◌, [], length, min, max, IsTrue, OnOk, OnErr};
 ghost use Rattle.std.specs.Prelude.{MatchOption, slice_get, IfNone, IfSome};
-ghost use Rattle.sat_base.specs.values.Literals.{largest, variable};
+ghost use Rattle.sat_base.specs.values.Literals.{var_limit, variable};
 ghost use Rattle.sat_parts.specs.clause.Glue.{VariablesBelow};
 ghost use Rattle.sat_parts.specs.prop.Values.{made_true, IsOpenLit};
 ghost use Rattle.sat_parts.specs.prop.Graphs.{node_at, with_node};
@@ -60,7 +60,7 @@ impl Trail {
 
     /// Makes room for a literal of each variable. A lower count than before changes nothing.
     pub fn set_var_count(&mut self, count: usize) -> Result<(), AllocError>
-        requires { count ≤ largest }
+        requires { count ≤ var_limit }
         ensures done { OnOk result (self.new ≡ record self.old { room = max self.old.room count }) }
         ensures same { OnErr result (self.new ≡ self.old) }
     {

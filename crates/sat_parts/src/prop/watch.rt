@@ -1,8 +1,8 @@
 //! Lists of the long clauses that are to be looked at when a literal becomes true.
 ghost use Rattle.std.specs.Prelude.{ℕ, IsTrue, ◌≡◌, ◌-◌, ◌*◌, ◌<◌, ◌≤◌, ◌∷◌, ◌++◌, [], length, OnOk, OnErr, take, drop};
 ghost use Rattle.std.specs.Prelude.{true, false, slice_index_or, slice_set, if◌then◌else◌, is_ok, vec_capacity};
-ghost use Rattle.sat_base.specs.values.Literals.{largest, negated};
-ghost use Rattle.sat_store.specs.clause.Buffer.{Laid};
+ghost use Rattle.sat_base.specs.values.Literals.{var_limit, negated};
+ghost use Rattle.sat_store.specs.clause.Buffer.{HoldsClauses};
 ghost use Rattle.sat_parts.specs.clause.Db.{live_refs};
 ghost use Rattle.sat_parts.specs.clause.Stored.{AreClauses};
 ghost use Rattle.sat_parts.specs.prop.Building.{WatchesLive};
@@ -163,7 +163,7 @@ impl Watchlists {
 
     /// Makes the literals those of so many variables. New ones have no watches.
     pub fn set_var_count(&mut self, alloc: Global, count: usize) -> Result<(), AllocError>
-        requires { count ≤ largest }
+        requires { count ≤ var_limit }
         ensures done { OnOk result (self.new ≡ with_lists (2 * count) self.old) }
         ensures same { OnErr result (self.new ≡ self.old) }
     {
@@ -345,7 +345,7 @@ pub fn enable_watchlists(
     db: &ClauseDb,
 ) -> Result<(), AllocError>
     ghost count: { ℕ }
-    requires laid { Laid clauses.now db.now.refs }
+    requires laid { HoldsClauses clauses.now db.now.refs }
     requires clauses { AreClauses clauses.now (live_refs clauses.now db.now.refs) count }
     requires room { length watchlists.old.lists ≡ 2 * count }
     ensures kept { IsTrue watchlists.old.enabled → OnOk result (watchlists.new ≡ watchlists.old) }

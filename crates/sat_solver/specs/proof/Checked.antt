@@ -2,7 +2,7 @@
 use Rattle.std.specs.Prelude.{ℕ, ◌≡◌, ◌⊎◌, Bool, true, false, not, ◌||◌, Option, None, Some, List, [], ◌∷◌, ◌++◌, Result, Ok, Err}
 use Rattle.anyhow.specs.declared.error.Error.{Error}
 use Rattle.sat_base.specs.steps.Steps.{Step, End}
-use Rattle.sat_checker.specs.CheckerView.{Seen, Stands, kernel_of, seen_of}
+use Rattle.sat_checker.specs.CheckerView.{Seen, HasAccepted, kernel_of, seen_of}
 use Rattle.sat_checker.specs.KernelView.{IsSettled, has_failed}
 use Rattle.sat_checker.specs.announcements.Announcements.{Told}
 use Rattle.sat_checker.specs.telling.ProcessingView.{listeners_of}
@@ -80,7 +80,7 @@ module _ {L : Type 0} (takes : L → Told → Result Unit Error → L → Type 0
     pub cut : IsNarrowedTo (unended steps) written own.bits
     pub begun : Processing L Nobody
     pub were : AreJustListeners added begun
-    pub stands : Stands (Hears takes) [] begun (seen_of own.checker) written
+    pub stands : HasAccepted (Hears takes) [] begun (seen_of own.checker) written
     pub going : has_failed (kernel_of own.checker) ≡ false
 
   -- those who were added have heard what it told, and are these now
@@ -112,8 +112,8 @@ module _ {L : Type 0} (takes : L → Told → Result Unit Error → L → Type 0
   -- what may be written is never refused
   abbrev pub FeedsOwnChecker : Result (Unit {0}) CheckerError → Seen (Processing L Nobody) → Step → Seen (Processing L Nobody) → Type 0
   FeedsOwnChecker result old step new =
-      (begun : Processing L Nobody) (written : List Step) → Stands (Hears takes) [] begun old written → has_failed old.kernel ≡ false → MayAll (step ∷ written)
-      → OrCause result (Stands (Hears takes) [] begun new (step ∷ written) × (has_failed new.kernel ≡ false)) (λ fault. FailedOf takes begun new.listeners written fault ⊎ FailedOf takes begun new.listeners (step ∷ written) fault)
+      (begun : Processing L Nobody) (written : List Step) → HasAccepted (Hears takes) [] begun old written → has_failed old.kernel ≡ false → MayAll (step ∷ written)
+      → OrCause result (HasAccepted (Hears takes) [] begun new (step ∷ written) × (has_failed new.kernel ≡ false)) (λ fault. FailedOf takes begun new.listeners written fault ⊎ FailedOf takes begun new.listeners (step ∷ written) fault)
 
   -- unless a step that was made wasn't taken
   abbrev pub FedUnless : Bool → Option (Checked L) → (added : List L) → List Step → Type 0

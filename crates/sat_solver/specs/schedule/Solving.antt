@@ -76,8 +76,8 @@ pub record ComesByRounds {W L : Type 0} {G : Ghosts L} (seen : W → Writer) (a 
   pub times : AdvanceTimes (steps_of a.proof) steps k
 
 -- what had come there by so many rounds has come here by as many, with the same names
-abbrev pub GoesAlong : {W L : Type 0} {G : Ghosts L} → (W → Writer) → Core W L G → Core W L G → Type 0
-GoesAlong {W} {L} {G} seen b c = (a : Core W L G) (n m : Variables) (k : ℕ) → ComesByRounds seen a n k b m → ComesByRounds seen a n k c m
+abbrev pub TakesNoRounds : {W L : Type 0} {G : Ghosts L} → (W → Writer) → Core W L G → Core W L G → Type 0
+TakesNoRounds {W} {L} {G} seen b c = (a : Core W L G) (n m : Variables) (k : ℕ) → ComesByRounds seen a n k b m → ComesByRounds seen a n k c m
 
 abbrev pub EndSays : Outcome → Session → Variables → Search → Search → Type 0
 EndSays outcomes.Learned s m c c' = ⊥

@@ -72,10 +72,10 @@ DeletesNoVar step = Unit {0}
 pub record NoneHidden (j : Judge) (variable_of : ℕ → Option ℕ) (steps : List Step) : Type 0 where
   pub global : ℕ → ℕ  -- the proof variable of an identity
   pub identity : ℕ → ℕ  -- and back
-  pub back : (i : ℕ) → i < j.next_identity → identity (global i) ≡ i
+  pub back : (i : ℕ) → i < j.identity_count → identity (global i) ≡ i
   pub named : (name i : ℕ) → identity_of j name ≡ Some i → variable_of name ≡ Some (global i)
-  pub below : (name i : ℕ) → identity_of j name ≡ Some i → i < j.next_identity
-  pub clauses_below : AllByRecursion (AllByRecursion (λ l. variable l < j.next_identity)) j.clauses
+  pub below : (name i : ℕ) → identity_of j name ≡ Some i → i < j.identity_count
+  pub clauses_below : AllByRecursion (AllByRecursion (λ l. variable l < j.identity_count)) j.clauses
   pub kept : AllByRecursion DeletesNoVar steps
   pub added_from : AllByRecursion (λ c. (d : List ℕ) × Among d j.clauses × SameLits c (map (with_var global) d)) (added steps)
   pub all_added : ((session_after steps).unsat ≡ true) ⊎ AllByRecursion (λ d. (c : List ℕ) × Among c (added steps) × SameLits c (map (with_var global) d)) j.clauses

@@ -127,7 +127,7 @@ AssumesOrRefuses seen (Err e) old new user = AreSampled old user × HasRoom old.
 -- INSIDE
 
 -- the same without the flag of failure: what a clause leaves
-pub record TookIn {W L : Type 0} {G : Ghosts L} (seen : W → Writer) (old new : Solver W L G) (user : List ℕ) : Type 0 where
+pub record AddClauseEffect {W L : Type 0} {G : Ghosts L} (seen : W → Writer) (old new : Solver W L G) (user : List ℕ) : Type 0 where
   pub whole : SolverInvariant new
   pub does : NamesRefineJudge old.names new.names (steps_in old) (steps_in new) (with_added user) (due_for_clause old.state user)
   pub comes : OnlyAllowedSteps (MayAdd (names_in user)) (steps_in old) (steps_in new)
@@ -143,5 +143,5 @@ pub record TookIn {W L : Type 0} {G : Ghosts L} (seen : W → Writer) (old new :
 
 -- what came of a clause before that flag is set: it is in, or a call failed
 abbrev pub TakesInOrBreaks : {W L : Type 0} {G : Ghosts L} → (W → Writer) → Result (Unit {0}) SolverError → Solver W L G → Solver W L G → List ℕ → Type 0
-TakesInOrBreaks seen (Ok x) old new user = TookIn seen old new user
+TakesInOrBreaks seen (Ok x) old new user = AddClauseEffect seen old new user
 TakesInOrBreaks seen (Err e) old new user = BreaksNamesOff (HasFullStore new) seen e old.core new.core

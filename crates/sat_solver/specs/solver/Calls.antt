@@ -45,7 +45,7 @@ rounds_left s = steps_left s.core.config.max_steps s.clock.steps
 pub record RoundsOn (n : Variables) (steps : List Step) (budget before now : ℕ) : Type 0 where
   pub more : before ≤ now
   pub within : now ≤ before + steps_left budget before
-  pub few : (j : Judge) (live : Live) → Agree n steps j live → now < before + 2 ^ (2 * j.next_identity + 3)
+  pub few : (j : Judge) (live : Live) → Agree n steps j live → now < before + 2 ^ (2 * j.identity_count + 3)
 
 -- the same of the rounds of a call
 abbrev pub CountsRounds : {W L : Type 0} {G : Ghosts L} → Solver W L G → Solver W L G → Type 0
@@ -83,7 +83,7 @@ pub record Counts {W L : Type 0} {G : Ghosts L} (old new : Solver W L G) : Type 
   pub on : CountsRounds old new
   pub round : old.state ≡ states.Unknown → (new.state ≡ states.Unknown → ⊥) → old.clock.steps < new.clock.steps
   pub spent : new.state ≡ states.Unknown → new.clock.steps ≡ old.clock.steps + rounds_left old
-  pub answered : (j : Judge) (live : Live) → Agree old.names (steps_in old) j live → 2 ^ (2 * j.next_identity + 3) ≤ rounds_left old →
+  pub answered : (j : Judge) (live : Live) → Agree old.names (steps_in old) j live → 2 ^ (2 * j.identity_count + 3) ≤ rounds_left old →
       new.state ≡ states.Unknown → ⊥
 
 -- of so many rounds of an ask those that learn a clause: all, but for the one that answers

@@ -36,7 +36,7 @@ abbrev pub LeavesPairs : Session → Search → (l k : ℕ) → Type 0
 LeavesPairs s c l k = LeftParts c.parts s (global_in c) l k
 
 -- clauses went or lost literals: values and variables are as they were, and so is the list of long clauses, with those that went
-pub record Lighter (s : Session) (c c' : Search) : Type 0 where
+pub record IsStrengthened (s : Session) (c c' : Search) : Type 0 where
   pub search : IsSearch s c'
   pub moved : SameVarsAndAssumptions c c'
   pub word : TrailWordExtendsFor (assumed_in c) c.parts c'.parts
@@ -45,23 +45,23 @@ pub record Lighter (s : Session) (c c' : Search) : Type 0 where
 
 -- the same by steps of clauses of two literals, of which those went that have a variable with a value
 abbrev pub RemovesPairs : {W L : Type 0} {G : Ghosts L} → (W → Writer) → Result (Unit {0}) SolverError → Proof W L G → Proof W L G → Search → Search → Type 0
-RemovesPairs seen r p p' c c' = EmitsSteps seen r p p' (λ _ _. Lighter (session_of p') c c' × Removed c.parts c'.parts)
+RemovesPairs seen r p p' c c' = EmitsSteps seen r p p' (λ _ _. IsStrengthened (session_of p') c c' × Removed c.parts c'.parts)
 
 -- one long clause went or lost literals: of what is left of it no literal has a value, and other clauses are as they were, but for their order
-pub record Lightens (s : Session) (c c' : Search) (o : ℕ) : Type 0 where
-  pub lighter : Lighter s c c'
+pub record StrengthensClause (s : Session) (c c' : Search) (o : ℕ) : Type 0 where
+  pub lighter : IsStrengthened s c c'
   pub left : Contains (live_refs c'.parts.clauses c'.parts.db.refs) o → IsOpenClause c'.parts o
   pub others : (p : ℕ) → p ≢ o → Contains (live_refs c'.parts.clauses c'.parts.db.refs) p → Contains (live_refs c.parts.clauses c.parts.db.refs) p × (IsOpenClause c.parts p → IsOpenClause c'.parts p)
 
 -- and its steps were made
 abbrev pub LightensOne : {W L : Type 0} {G : Ghosts L} → (W → Writer) → Result (Unit {0}) SolverError → Proof W L G → Proof W L G → Search → Search → (o : ℕ) → Type 0
-LightensOne seen r p p' c c' o = EmitsSteps seen r p p' (λ _ _. Lightens (session_of p') c c' o)
+LightensOne seen r p p' c c' o = EmitsSteps seen r p p' (λ _ _. StrengthensClause (session_of p') c c' o)
 
 -- of the live clauses among the first so many of the list no literal has a value
 abbrev pub AreOpenTo : Search → Search → ℕ → Type 0
 AreOpenTo c c' at = (k : ℕ) → k < at → Contains (live_refs c'.parts.clauses c'.parts.db.refs) (get_or c.parts.db.refs k 0) → IsOpenClause c'.parts (get_or c.parts.db.refs k 0)
 
 -- the same of all long clauses: of none of them a literal has a value
-pub record LightensAll (s : Session) (c c' : Search) : Type 0 where
-  pub lighter : Lighter s c c'
+pub record StrengthensAll (s : Session) (c c' : Search) : Type 0 where
+  pub lighter : IsStrengthened s c c'
   pub left : (o : ℕ) → Contains (live_refs c'.parts.clauses c'.parts.db.refs) o → IsOpenClause c'.parts o

@@ -45,7 +45,7 @@ pub record NamesOne (old new : Variables) (from to : List Step) (user v : ℕ) :
   pub named : (u : ℕ) → global_of new u ≡ (if u == user then Some v else global_of old u)
   pub used : names_used new ≡ max (names_used old) (user + 1)
   pub step : to ≡ UserVarName v (Some user) ∷ from
-  pub kept : (j : Judge) (live : Live) → Agree old from j live → Agree new to (with_name (user + 1) j) ((v, j.next_identity) ∷ live)
+  pub kept : (j : Judge) (live : Live) → Agree old from j live → Agree new to (with_name (user + 1) j) ((v, j.identity_count) ∷ live)
   pub unknown : the_checking.knows from v ≡ false
   pub live : live_count new ≡ live_count old + 1
   pub next : IsNextVariable (session_after from) user v

@@ -1,6 +1,6 @@
 -- Indices that are free, in a binary tree of tests.
 use Rattle.std.specs.Prelude.{ℕ, zero, suc, ◌+◌, ◌*◌, ◌<◌, ◌≤◌, ◌==◌, ◌≡◌, ◌⊎◌, Bool, true, false, ◌||◌, List, length, get_or, if◌then◌else◌}
-use Rattle.sat_base.specs.values.Literals.{largest}
+use Rattle.sat_base.specs.values.Literals.{var_limit}
 use Rattle.sat_solver.specs.variables.Counting.{count_to}
 use Rattle.sat_solver.specs.declared.variables.free.FreeIndices.{FreeIndices}
 
@@ -20,7 +20,7 @@ doubled (suc h) = 2 * doubled h
 -- there is no leaf, or a power of two of them, within the limit of variables
 pub data Powers (f : FreeIndices) : Type 0 where
   empty : f.room ≡ 0 → Powers f
-  power : f.room ≡ doubled f.height → f.room ≤ largest → Powers f
+  power : f.room ≡ doubled f.height → f.room ≤ var_limit → Powers f
 
 -- what it says of how many indices are in the set
 abbrev pub IsCounted : FreeIndices → Type 0

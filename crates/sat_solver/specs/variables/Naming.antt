@@ -1,6 +1,6 @@
 -- What calls over names change and write.
 use Rattle.std.specs.Prelude.{ℕ, ◌+◌, ◌<◌, ◌≤◌, ◌==◌, ◌≡◌, ◌≢◌, max, Bool, true, false, not, Option, None, Some, length, get_or, ◌&&◌, get_or, ◌&&◌, if◌then◌else◌}
-use Rattle.sat_base.specs.values.Literals.{largest}
+use Rattle.sat_base.specs.values.Literals.{var_limit}
 use Rattle.sat_base.specs.script.Judge.{Judge, identity_of}
 use Rattle.sat_store.specs.variables.VarData.{user_variable, unused_variable}
 use Rattle.sat_store.specs.variables.Maps.{AreInverse, Links, Unlinks}
@@ -19,11 +19,11 @@ pub record IsRoom (n : Variables) (user v : ℕ) : Type 0 where
 
 -- every variable is in use
 abbrev pub NoneLeft : Variables → Type 0
-NoneLeft n = (v : ℕ) → v < largest → (data_at n v).deleted ≡ false
+NoneLeft n = (v : ℕ) → v < var_limit → (data_at n v).deleted ≡ false
 
 -- every name is in use
 pub record NamesFull (n : Variables) : Type 0 where
-  pub used : names_used n ≡ largest
+  pub used : names_used n ≡ var_limit
   pub all : (u : ℕ) → u < names_used n → global_of n u ≡ None → ⊥
 
 -- a name was given to a new variable

@@ -17,7 +17,7 @@ observed name identity j = record {
   first_unused = max j.first_unused (name + 1);
   in_use = placed (record { name = name; identity = identity }) j.in_use;
   modes = set j.modes identity Witnessed;
-  next_identity = j.next_identity;
+  identity_count = j.identity_count;
   clauses = j.clauses;
 }
 

@@ -1,7 +1,7 @@
 -- Whether a variable is left for each name that comes in.
 use Rattle.std.specs.Prelude.{ℕ, ◌+◌, ◌-◌, ◌≤◌, ◌==◌, max, not, ◌&&◌, Bool, true, false, is_some, List, [], ◌∷◌, drop, map}
 use Rattle.std.specs.List.{list_any}
-use Rattle.sat_base.specs.values.Literals.{largest, variable}
+use Rattle.sat_base.specs.values.Literals.{var_limit, variable}
 use Rattle.sat_solver.specs.variables.Counting.{count_to}
 use Rattle.sat_solver.specs.variables.Variables.{data_at, global_of, names_used, variables_used}
 use Rattle.sat_solver.specs.declared.variables.Variables.{Variables}
@@ -41,7 +41,7 @@ coming n users = reach (names_used n) users - names_used n + hidden_count n user
 
 -- each name that comes in gets a variable of its own
 abbrev pub HasRoom : Variables → List ℕ → Type 0
-HasRoom n users = live_count n + coming n users ≤ largest
+HasRoom n users = live_count n + coming n users ≤ var_limit
 
 -- whether there's room, as a test tells it
 abbrev pub SaysRoom : Bool → Variables → List ℕ → Type 0

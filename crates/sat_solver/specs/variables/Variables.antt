@@ -1,7 +1,7 @@
 -- What a solver keeps of names, variables and indices: whether it fits together, and whether it is what the proof and the judge say.
 use Rattle.std.specs.Prelude.{ℕ, ◌+◌, ◌<◌, ◌≤◌, ◌≡◌, ◌≢◌, Bool, true, false, not, ◌&&◌, Option, None, Some, is_some, List, length, get_or, nat_lt, if◌then◌else◌}
 use Rattle.std.specs.List.{AllByRecursion}
-use Rattle.sat_base.specs.values.Literals.{largest, coded}
+use Rattle.sat_base.specs.values.Literals.{var_limit, coded}
 use Rattle.sat_base.specs.script.Judge.{Judge, Sampled, Witnessed, identity_of}
 use Rattle.sat_base.specs.script.Judge as judged
 use Rattle.sat_base.specs.script.JudgeLaws.{NamesIncrease}
@@ -84,7 +84,7 @@ pub record AreTidy (n : Variables) : Type 0 where
   pub spans_solvers : Spans n.free_solvers (indices_used n)
   pub reach : names_used n ≤ variables_used n
   pub indices : indices_used n ≤ variables_used n
-  pub within : variables_used n ≤ largest
+  pub within : variables_used n ≤ var_limit
   pub free_users : (u : ℕ) → is_free n.free_users u ≡ (nat_lt u (names_used n) && not (is_some (global_of n u)))
   pub free_globals : (v : ℕ) → is_free n.free_globals v ≡ (nat_lt v (variables_used n) && (data_at n v).deleted)
   pub free_solvers : (x : ℕ) → is_free n.free_solvers x ≡ (nat_lt x (indices_used n) && not (is_some (global_at n x)))
@@ -137,11 +137,11 @@ pub record AreJudged (n : Variables) (j : Judge) (live : Live) : Type 0 where
   pub names : (u : ℕ) → identity_of j (u + 1) ≡ given_of live (global_of n u)
   pub once : Apart live
   pub in_use : (v : ℕ) → is_some (given live v) ≡ not (data_at n v).deleted
-  pub below : AllByRecursion (λ p. p.1 < j.next_identity) live
+  pub below : AllByRecursion (λ p. p.1 < j.identity_count) live
   pub distinct : (v w i : ℕ) → given live v ≡ Some i → given live w ≡ Some i → v ≡ w
   -- each variable was new with an identity
-  pub identities : variables_used n ≤ j.next_identity
-  pub modes_count : length j.modes ≡ j.next_identity
+  pub identities : variables_used n ≤ j.identity_count
+  pub modes_count : length j.modes ≡ j.identity_count
   pub increasing : NamesIncrease j.in_use
   pub modes : (v i : ℕ) → given live v ≡ Some i → IsModeOf (data_at n v).sampling_mode (get_or j.modes i Sampled)
 

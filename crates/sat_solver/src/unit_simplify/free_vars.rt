@@ -1,6 +1,6 @@
 //! Variables that are in no clause lose their indices.
 ghost use Rattle.std.specs.Prelude.{◌≡◌, ◌+◌, ◌<◌, ◌≤◌, IfErr, OnOk, Some, false, true, length, slice_index_or, slice_set};
-ghost use Rattle.sat_base.specs.values.Literals.{largest};
+ghost use Rattle.sat_base.specs.values.Literals.{var_limit};
 ghost use Rattle.sat_solver.specs.session.Session.{session_after};
 ghost use Rattle.sat_solver.specs.variables.Variables.{solver_of, IsUnitOf, IsInNoNonUnitClause};
 ghost use Rattle.sat_solver.specs.variables.Calls.{NamesInvariant};
@@ -92,7 +92,7 @@ fn release_unused<S: StepWriter>(
 fn free_unmarked(parts: &mut Parts, used: &Vec<bool>)
     requires size { length used.now.items ≤ length parts.old.assignment.current }
     requires queue { length used.now.items ≤ length parts.old.vsids.available }
-    requires few { length used.now.items ≤ largest }
+    requires few { length used.now.items ≤ var_limit }
     ensures { parts.new ≡ freed_below used.now.items (length used.now.items) parts.old }
 {
     for index in (0..used.len()).rev() {

@@ -2,7 +2,7 @@
 ghost use Rattle.sat_solver.specs.proof.ProofView.{HasAllowedSteps, session_of};
 ghost use Rattle.sat_solver.specs.cdcl.Going.{EmitsSteps};
 ghost use Rattle.sat_solver.specs.cdcl.Joint.{IsSearch};
-ghost use Rattle.sat_solver.specs.unit_simplify.Flat.{IsFlat, LightensAll, LightensOne};
+ghost use Rattle.sat_solver.specs.unit_simplify.Flat.{IsFlat, StrengthensAll, LightensOne};
 ghost use Rattle.sat_solver.specs.unit_simplify.Looks.{HasTrue};
 ghost use Rattle.sat_parts.specs.parts.Whole.{HasClause};
 
@@ -79,7 +79,7 @@ pub fn simplify_clauses<W: CountedWrite + Drop, P: ProofProcessor>(
     requires search { IsSearch (session_of proof.old) search.old }
     requires flat { IsFlat search.old.parts }
     ensures { EmitsSteps W.seen result proof.old proof.new
-        (λ _ _. LightensAll (session_of proof.new) search.old search.new) }
+        (λ _ _. StrengthensAll (session_of proof.new) search.old search.new) }
 {
     for at in 0..search.parts.db.len() {
         let cref = search.parts.db.cref(at);

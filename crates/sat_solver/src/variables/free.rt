@@ -1,7 +1,7 @@
 //! Indices that are free.
 ghost use Rattle.std.specs.Prelude.{ℕ, ◌≡◌, ◌==◌, ◌||◌, ◌+◌, ◌*◌, ◌<◌, ◌≤◌, true, false, MatchOption, OnOk, length};
 ghost use Rattle.std.specs.Prelude.{if◌then◌else◌, slice_index_or};
-ghost use Rattle.sat_base.specs.values.Literals.{largest};
+ghost use Rattle.sat_base.specs.values.Literals.{var_limit};
 ghost use Rattle.sat_solver.specs.variables.Free.{is_free, IsTree, Powers, Refreshes, IsChild, IsLowest, CopiesLeaves};
 ghost use Rattle.sat_solver.specs.variables.Free.{IsCounted};
 
@@ -28,7 +28,7 @@ pub struct FreeIndices {
 /// How many indices are free once the test of one of them has changed.
 fn recount_free(count: usize, before: bool, after: bool) -> usize
     requires some { before ≡ true → 0 < count }
-    requires small { count ≤ largest }
+    requires small { count ≤ var_limit }
     ensures { result + (if before then 1 else 0) ≡ count + (if after then 1 else 0) }
 {
     if before == after {
@@ -200,7 +200,7 @@ impl FreeIndices {
     /// Makes room for one index at least, which is not in the set.
     fn grow(&mut self) -> Result<(), AllocError>
         requires tree { IsTree self.old }
-        requires small { self.old.room < largest }
+        requires small { self.old.room < var_limit }
         ensures tree { OnOk result (IsTree self.new) }
         ensures same { OnOk result ((i : ℕ) → is_free self.new i ≡ is_free self.old i) }
         ensures room { OnOk result (self.old.room < self.new.room) }

@@ -1,7 +1,7 @@
 //! Variables come to a search.
 ghost use Rattle.std.specs.Prelude.{ℕ, ◌≡◌, ◌<◌, ◌≤◌, None, [], ◌∷◌, OnOk, length};
 ghost use Rattle.std.specs.List.{AllByRecursion};
-ghost use Rattle.sat_base.specs.values.Literals.{largest};
+ghost use Rattle.sat_base.specs.values.Literals.{var_limit};
 ghost use Rattle.sat_solver.specs.variables.Search.{GivenApart};
 ghost use Rattle.sat_parts.specs.parts.Whole.{PartsInvariant};
 ghost use Rattle.sat_solver.specs.variables.Initialized.{IsVacant, AreVacant, TakesIndices, Renames};
@@ -58,8 +58,8 @@ fn rename(list: &mut Vec<Var>, globals: &[Var], given: &[Given])
 
 /// The least count that is no lower than this one and past these indices.
 fn count_with(count: usize, given: &[Given]) -> usize
-    requires few { count ≤ largest }
-    ensures few { result ≤ largest }
+    requires few { count ≤ var_limit }
+    ensures few { result ≤ var_limit }
     ensures more { count ≤ result }
     ensures past { AllByRecursion (λ g. g.solver < result) given.now }
     ensures least { (m : ℕ) → count ≤ m → AllByRecursion (λ g. g.solver < m) given.now → result ≤ m }

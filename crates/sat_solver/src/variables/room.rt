@@ -1,6 +1,6 @@
 //! Whether a variable is left for each name that comes in.
 ghost use Rattle.std.specs.Prelude.{◌≡◌, ◌+◌, ◌<◌, ◌≤◌, [], ◌∷◌, length};
-ghost use Rattle.sat_base.specs.values.Literals.{largest};
+ghost use Rattle.sat_base.specs.values.Literals.{var_limit};
 ghost use Rattle.sat_checker.specs.LiteralSets.{mentions};
 ghost use Rattle.sat_solver.specs.variables.Room.{live_count, reach, users_in, hidden_count, SaysRoom, hidden_behind};
 ghost use Rattle.sat_solver.specs.variables.Variables.{AreTidy};
@@ -11,7 +11,7 @@ use sat_base::{Lit, Var};
 /// How many variables aren't in use.
 fn left_count(variables: &Variables) -> usize
     requires { AreTidy variables.now }
-    ensures { result + live_count variables.now ≡ largest }
+    ensures { result + live_count variables.now ≡ var_limit }
 {
     let live = variables.used_count() - variables.free_globals.count();
     Var::max_count() - live
@@ -19,9 +19,9 @@ fn left_count(variables: &Variables) -> usize
 
 /// The first name above those that were used and those of the literals.
 fn name_reach(used: usize, lits: &[Lit]) -> usize
-    requires { used ≤ largest }
+    requires { used ≤ var_limit }
     ensures is { result ≡ reach used (users_in lits.now) }
-    ensures within { result ≤ largest }
+    ensures within { result ≤ var_limit }
 {
     let mut top = used;
     for lit in lits {
@@ -47,7 +47,7 @@ fn has_name(lits: &[Lit], user: Var) -> bool
 /// the name, too.
 fn count_hidden_name(variables: &Variables, lits: &[Lit], at: usize, count: usize) -> usize
     requires within { at < length lits.now }
-    requires count { count ≤ largest }
+    requires count { count ≤ var_limit }
     ensures { count ≡ hidden_behind variables.now lits.now (at + 1) → result ≡ hidden_behind variables.now lits.now at }
 {
     let user = lits[at].var();

@@ -1,7 +1,7 @@
 -- Clauses in one buffer of words: three words of header, then the literals. A clause goes by the place of its first word.
 use Rattle.std.specs.Prelude.{◌≡◌, ◌≢◌, ℕ, ◌+◌, ◌*◌, ◌^◌, ◌<◌, ◌≤◌, ◌⊎◌, List, [], ◌∷◌, ◌++◌, length, slice_index_or as get_or, slice_set as set, take, drop}
 use Rattle.std.specs.List.{Contains}
-use Rattle.sat_base.specs.values.Literals.{largest}
+use Rattle.sat_base.specs.values.Literals.{var_limit}
 use Rattle.sat_store.specs.clause.Header.{Header, header_of}
 
 -- the header of the clause at o
@@ -16,7 +16,7 @@ lits_at words o = take (get_or words (o + 2) 0) (drop (o + 3) words)
 pub record IsClause (words : List ℕ) (o : ℕ) : Type 0 where
   pub flags : get_or words (o + 1) 0 < 2 ^ 11
   pub whole : o + 3 + get_or words (o + 2) 0 ≤ length words
-  pub lits : (k : ℕ) → k < get_or words (o + 2) 0 → get_or words (o + 3 + k) 0 < 2 * largest
+  pub lits : (k : ℕ) → k < get_or words (o + 2) 0 → get_or words (o + 3 + k) 0 < 2 * var_limit
 
 -- the list with two of its elements exchanged
 abbrev pub swapped : List ℕ → ℕ → ℕ → List ℕ
@@ -27,7 +27,7 @@ unfoldable pub Apart : List ℕ → ℕ → ℕ → Type 0
 Apart words o p = (o + 3 + get_or words (o + 2) 0 ≤ p) ⊎ (p + 3 + get_or words (p + 2) 0 ≤ o)
 
 -- a clause stands at each of these places, each with words of its own
-pub record Laid (words : List ℕ) (live : List ℕ) : Type 0 where
+pub record HoldsClauses (words : List ℕ) (live : List ℕ) : Type 0 where
   pub clauses : (o : ℕ) → Contains live o → IsClause words o
   pub apart : (o p : ℕ) → Contains live o → Contains live p → o ≢ p → Apart words o p
 
@@ -47,7 +47,7 @@ pub record ChangesAt (old new : List ℕ) (o : ℕ) : Type 0 where
   pub clause : IsClause new o
   pub size : length new ≡ length old
   pub others : (p : ℕ) → IsClause old p → Apart old o p → SameClauseAt old new p
-  pub laid : (live : List ℕ) → Contains live o → Laid old live → Laid new live
+  pub laid : (live : List ℕ) → Contains live o → HoldsClauses old live → HoldsClauses new live
 
 -- a clause of this header, but for its length, and of these literals came to stand at c, behind all others
 pub record AppendsClause (old new : List ℕ) (c : ℕ) (header : Header) (lits : List ℕ) : Type 0 where
@@ -58,5 +58,5 @@ pub record AppendsClause (old new : List ℕ) (c : ℕ) (header : Header) (lits 
   pub size : length new ≡ length old + 3 + length lits
   pub front : take (length old) new ≡ old
   pub others : (p : ℕ) → IsClause old p → SameClauseAt old new p
-  pub fresh : (live : List ℕ) → Laid old live → Contains live c → ⊥
-  pub laid : (live : List ℕ) → Laid old live → Laid new (live ++ c ∷ [])
+  pub fresh : (live : List ℕ) → HoldsClauses old live → Contains live c → ⊥
+  pub laid : (live : List ℕ) → HoldsClauses old live → HoldsClauses new (live ++ c ∷ [])

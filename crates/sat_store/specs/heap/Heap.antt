@@ -1,6 +1,6 @@
 -- All variables in a list with their activities, the first of them a heap, and where in the list each stands.
 use Rattle.std.specs.Prelude.{◌≡◌, ◌≢◌, ℕ, ◌+◌, ◌-◌, ◌*◌, ◌/◌, ◌^◌, ◌<◌, ◌≤◌, ◌++◌, Bool, false, nat_lt, List, length, map, replicate, slice_index_or as get_or, slice_set as set}
-use Rattle.sat_base.specs.values.Literals.{largest}
+use Rattle.sat_base.specs.values.Literals.{var_limit}
 use Rattle.sat_store.specs.declared.vsids.heap.Entry.{Entry}
 
 -- what is read behind the end of the list
@@ -13,7 +13,7 @@ var_at heap k = (get_or heap k no_entry).var
 
 -- each entry of the list is one of a variable
 abbrev pub HoldsVariables : List Entry → Type 0
-HoldsVariables heap = (k : ℕ) → k < length heap → var_at heap k < largest
+HoldsVariables heap = (k : ℕ) → k < length heap → var_at heap k < var_limit
 
 -- the activity of the variable at this place
 abbrev pub key_at : List Entry → ℕ → ℕ
@@ -29,7 +29,7 @@ pub record Placed (heap : List Entry) (positions : List ℕ) : Type 0 where
 
 -- what variables are ordered by: the activity, and of equals the lower index is the greater
 abbrev pub rank : Entry → ℕ
-rank e = e.key * largest + (largest - 1 - e.var)
+rank e = e.key * var_limit + (var_limit - 1 - e.var)
 
 -- the rank of the variable at this place
 abbrev pub rank_at : List Entry → ℕ → ℕ
@@ -126,7 +126,7 @@ scaled e = record e { key = e.key / 2 ^ 40 }
 pub record IsHeap (heap : List Entry) (positions : List ℕ) (m : ℕ) : Type 0 where
   pub placed : Placed heap positions
   pub within : m ≤ length heap
-  pub few : length heap ≤ largest
+  pub few : length heap ≤ var_limit
   pub small : (v : ℕ) → get_or (keys heap positions) v 0 < 2 ^ 60
   pub ordered : Ordered (rank_at heap) m 0
 

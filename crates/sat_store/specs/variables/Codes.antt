@@ -1,6 +1,6 @@
 -- Maps between variables as lists of numbers: one more than the target of each index, or 0 if it has none.
 use Rattle.std.specs.Prelude.{ℕ, ◌-◌, ◌==◌, ◌≤◌, if◌then◌else◌, Option, Some, None, List, map, slice_index}
-use Rattle.sat_base.specs.values.Literals.{largest}
+use Rattle.sat_base.specs.values.Literals.{var_limit}
 
 -- the target that a number stands for
 abbrev pub decoded : ℕ → Option ℕ
@@ -12,4 +12,4 @@ targets_of codes = map decoded codes
 
 -- each number stands for a variable or for none
 abbrev pub AreCodes : List ℕ → Type 0
-AreCodes codes = (v : ℕ) → slice_index codes v ≤ largest
+AreCodes codes = (v : ℕ) → slice_index codes v ≤ var_limit

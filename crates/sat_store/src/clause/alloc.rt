@@ -2,7 +2,7 @@
 ghost use Rattle.std.specs.Prelude.{◌≡◌, ◌<◌, ◌≤◌, ◌^◌, ◌+◌, ◌-◌, ◌*◌, ◌↔◌, ◌++◌, [], length, slice_index, slice_set};
 ghost use Rattle.std.specs.Prelude.{take, IfOk, OnErr, vec_len, vec_capacity};
 ghost use Rattle.std.specs.List.{All};
-ghost use Rattle.sat_base.specs.values.Literals.{largest};
+ghost use Rattle.sat_base.specs.values.Literals.{var_limit};
 ghost use Rattle.sat_store.specs.clause.Buffer.{IsClause, header_at, lits_at, ChangesAt, AppendsClause, swapped};
 ghost use Rattle.sat_store.specs.clause.Full.{OnFull};
 
@@ -244,7 +244,7 @@ impl ClauseAlloc {
         requires clause { IsClause self.now cref }
         requires within { at < length (lits_at self.now cref) }
         ensures value { result ≡ slice_index (lits_at self.now cref) at }
-        ensures bound { result < 2 * largest }
+        ensures bound { result < 2 * var_limit }
     {
         Lit::from_code(self.words[cref.offset as usize + HEADER_LEN + at] as usize)
     }
@@ -282,7 +282,7 @@ impl ClauseAlloc {
 fn push_lits(words: &mut Vec<u32>, lits: &[Lit])
     requires { vec_len words.old + length lits.now ≤ vec_capacity words.old }
     ensures words { words.new.items ≡ words.old.items ++ lits.now }
-    ensures literals { All (λ l. l < 2 * largest) lits.now }
+    ensures literals { All (λ l. l < 2 * var_limit) lits.now }
 {
     for lit in lits {
         words.push_reserved(lit.code() as u32);

@@ -3,7 +3,7 @@ ghost use Rattle.std.specs.Prelude.{◌≡◌, ◌<◌, ◌*◌, List, ℕ, [], 
 ghost use Rattle.std.specs.List.{All};
 ghost use Rattle.std.specs.Iterator.{at_most};
 ghost use Rattle.std.specs.Map.Iter.{TakesFirst, ShowsInOrder};
-ghost use Rattle.sat_base.specs.values.Literals.{largest};
+ghost use Rattle.sat_base.specs.values.Literals.{var_limit};
 ghost use Rattle.sat_store.specs.clause.Buffer.{IsClause, header_at, lits_at};
 
 use crate::clause::header::ClauseHeader;
@@ -64,13 +64,13 @@ pub struct Lits<'a> {
 impl<'a> Model for Lits<'a> {
     ghost use Rattle.std.specs.Prelude.{ℕ, ◌*◌, ◌<◌, List};
     ghost use Rattle.std.specs.List.{All};
-    ghost use Rattle.sat_base.specs.values.Literals.{largest};
+    ghost use Rattle.sat_base.specs.values.Literals.{var_limit};
 
     ghost Value = { List ℕ };
 
     ghost view = { λ l. l.words.now };
 
-    ghost invariant = { λ l. All (λ x. x < 2 * largest) l.words.now };
+    ghost invariant = { λ l. All (λ x. x < 2 * var_limit) l.words.now };
 }
 
 impl<'a> Lits<'a> {
@@ -129,13 +129,13 @@ pub struct LitsIter<'a> {
 impl<'a> Model for LitsIter<'a> {
     ghost use Rattle.std.specs.Prelude.{ℕ, ◌*◌, ◌<◌, List};
     ghost use Rattle.std.specs.List.{All};
-    ghost use Rattle.sat_base.specs.values.Literals.{largest};
+    ghost use Rattle.sat_base.specs.values.Literals.{var_limit};
 
     ghost Value = { List ℕ };
 
     ghost view = { λ l. l.words.now };
 
-    ghost invariant = { λ l. All (λ x. x < 2 * largest) l.words.now };
+    ghost invariant = { λ l. All (λ x. x < 2 * var_limit) l.words.now };
 }
 
 impl<'a> Iterator for LitsIter<'a> {

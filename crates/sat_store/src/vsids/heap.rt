@@ -1,7 +1,7 @@
 //! A heap of variables with their activities, in a list of all of them: each place is parent of four.
 ghost use Rattle.std.specs.Prelude.{◌≡◌, ◌+◌, ◌*◌, ◌<◌, ◌≤◌, ◌↔◌, IsTrue, length, MatchOption, slice_set, ◌-◌, true};
 ghost use Rattle.std.specs.Prelude.{false, vec_capacity};
-ghost use Rattle.sat_base.specs.values.Literals.{largest};
+ghost use Rattle.sat_base.specs.values.Literals.{var_limit};
 ghost use Rattle.sat_store.specs.heap.Heap.{var_at, HoldsVariables, Placed, IsHeap, StaysHeap, rank, rank_at, parent};
 ghost use Rattle.sat_store.specs.heap.Heap.{Ordered, UpFrom, IsFirstChild, FirstAbove, NoneAbove, SettlesDown};
 ghost use Rattle.sat_store.specs.heap.Heap.{Exchanged, Rearranged, SetsFlag, AddsHeapVars, keys};
@@ -16,7 +16,7 @@ pub(super) struct Entry {
 /// Writes an entry at a place, which is where its variable stands from then on.
 #[inline(always)] // called for each step through the heap
 fn put(heap: &mut Vec<Entry>, positions: &mut Vec<u32>, at: usize, entry: Entry)
-    requires few { length heap.old.items ≤ largest }
+    requires few { length heap.old.items ≤ var_limit }
     requires at { at < length heap.old.items }
     requires var { entry.var < length positions.old.items }
     ensures heap { heap.new.items ≡ slice_set heap.old.items at entry }
@@ -29,7 +29,7 @@ fn put(heap: &mut Vec<Entry>, positions: &mut Vec<u32>, at: usize, entry: Entry)
 /// Exchanges the variables at two places.
 pub(super) fn exchange(heap: &mut Vec<Entry>, positions: &mut Vec<u32>, i: usize, j: usize)
     requires placed { Placed heap.old.items positions.old.items }
-    requires few { length heap.old.items ≤ largest }
+    requires few { length heap.old.items ≤ var_limit }
     requires first { i < length heap.old.items }
     requires second { j < length heap.old.items }
     ensures { Exchanged heap.old.items positions.old.items heap.new.items positions.new.items i j }
@@ -43,8 +43,8 @@ pub(super) fn exchange(heap: &mut Vec<Entry>, positions: &mut Vec<u32>, i: usize
 /// Whether a variable goes before another: its activity is higher, or the same and its index lower.
 #[inline(always)] // each step through the heap asks this once or more
 fn is_above(a: Entry, b: Entry) -> bool
-    requires first { a.var < largest }
-    requires second { b.var < largest }
+    requires first { a.var < var_limit }
+    requires second { b.var < var_limit }
     ensures { IsTrue result ↔ (rank b < rank a) }
 {
     a.key > b.key || a.key == b.key && a.var < b.var
@@ -54,7 +54,7 @@ fn is_above(a: Entry, b: Entry) -> bool
 #[inline(always)] // each step up asks this
 fn goes_up(heap: &[Entry], entry: Entry, at: usize) -> bool
     requires listed { HoldsVariables heap.now }
-    requires var { entry.var < largest }
+    requires var { entry.var < var_limit }
     requires at { at < length heap.now }
     ensures { IsTrue result ↔ ((0 < at) × (rank_at heap.now (parent at) < rank entry)) }
 {
@@ -64,7 +64,7 @@ fn goes_up(heap: &[Entry], entry: Entry, at: usize) -> bool
 /// Brings the heap in order again where the variable at one place may have to go up.
 pub(super) fn sift_up(heap: &mut Vec<Entry>, positions: &mut Vec<u32>, available: usize, at: usize)
     requires placed { Placed heap.old.items positions.old.items }
-    requires few { length heap.old.items ≤ largest }
+    requires few { length heap.old.items ≤ var_limit }
     requires within { available ≤ length heap.old.items }
     requires at { at < available }
     requires up { UpFrom (rank_at heap.old.items) available at }
@@ -86,7 +86,7 @@ pub(super) fn sift_up(heap: &mut Vec<Entry>, positions: &mut Vec<u32>, available
 #[inline(always)] // each step down asks this
 fn first_child(heap: &[Entry], available: usize, at: usize) -> usize
     requires listed { HoldsVariables heap.now }
-    requires few { length heap.now ≤ largest }
+    requires few { length heap.now ≤ var_limit }
     requires within { available ≤ length heap.now }
     requires some { 4 * at + 1 < available }
     ensures child { parent result ≡ at }
@@ -112,9 +112,9 @@ fn first_child(heap: &[Entry], available: usize, at: usize) -> usize
 #[inline(always)] // each step down asks this
 fn child_above(heap: &[Entry], available: usize, entry: Entry, at: usize) -> Option<usize>
     requires listed { HoldsVariables heap.now }
-    requires few { length heap.now ≤ largest }
+    requires few { length heap.now ≤ var_limit }
     requires within { available ≤ length heap.now }
-    requires var { entry.var < largest }
+    requires var { entry.var < var_limit }
     requires at { at < available }
     ensures { MatchOption result (NoneAbove heap.now available entry at)
         (λ child. FirstAbove heap.now available entry at child) }
@@ -137,7 +137,7 @@ pub(super) fn sift_down(
     at: usize,
 )
     requires placed { Placed heap.old.items positions.old.items }
-    requires few { length heap.old.items ≤ largest }
+    requires few { length heap.old.items ≤ var_limit }
     requires within { available ≤ length heap.old.items }
     requires at { at < available }
     ensures same { Rearranged available heap.old.items positions.old.items heap.new.items positions.new.items }
@@ -156,7 +156,7 @@ pub(super) fn sift_down(
 /// Brings the heap in order.
 pub(super) fn heapify(heap: &mut Vec<Entry>, positions: &mut Vec<u32>, available: usize)
     requires placed { Placed heap.old.items positions.old.items }
-    requires few { length heap.old.items ≤ largest }
+    requires few { length heap.old.items ≤ var_limit }
     requires within { available ≤ length heap.old.items }
     ensures same { Rearranged available heap.old.items positions.old.items heap.new.items positions.new.items }
     ensures ordered { Ordered (rank_at heap.new.items) available 0 }
@@ -209,7 +209,7 @@ pub(super) fn add_variables(heap: &mut Vec<Entry>, positions: &mut Vec<u32>, cou
     requires positions_room { count ≤ vec_capacity positions.old }
     requires placed { Placed heap.old.items positions.old.items }
     requires more { length heap.old.items ≤ count }
-    requires few { count ≤ largest }
+    requires few { count ≤ var_limit }
     ensures heap { StaysHeap heap.old.items positions.old.items heap.new.items positions.new.items }
     ensures adds { AddsHeapVars count heap.old.items positions.old.items heap.new.items positions.new.items }
 {

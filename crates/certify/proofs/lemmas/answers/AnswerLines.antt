@@ -2,7 +2,7 @@
 use Rattle.std.proofs.Common.{ℕ, ◌≤◌, ◌≡◌, List, ◌∷◌, [], ◌++◌, refl, ◌∙◌, append_assoc, arith}
 use Rattle.std.proofs.lemmas.List.{append_cancel_left}
 use Rattle.std.specs.List.{AllByRecursion}
-use Rattle.sat_base.specs.values.Literals.{largest}
+use Rattle.sat_base.specs.values.Literals.{var_limit}
 use Rattle.sat_base.specs.script.Script.{Literal}
 use Rattle.certify.specs.answers.Answers.{outcome_text, s_satisfiable, s_unsatisfiable, s_unknown, v_line, f_line}
 use Rattle.sat_checker.specs.matching.Expected.{Outcome, Sat, Unsat, Unknown}
@@ -40,12 +40,12 @@ same_kind kind.Unknown kind.Unsat x y e = let r : ◌≡◌ {A = ℕ} 75 83 = cc
 pub printed : (o : Outcome) → IsInForm o → HasPrintableNames o
 printed (Sat line) h = all_low line h.0
   where
-    all_low : (ls : List Literal) → HaveNames ls → AllByRecursion (λ l. l.name ≤ largest) ls
+    all_low : (ls : List Literal) → HaveNames ls → AllByRecursion (λ l. l.name ≤ var_limit) ls
     all_low [] h = tt
     all_low (l ∷ ls) h = (h.0.1, all_low ls h.1)
 printed (Unsat core) h = all_low core h.0
   where
-    all_low : (ls : List Literal) → HaveNames ls → AllByRecursion (λ l. l.name ≤ largest) ls
+    all_low : (ls : List Literal) → HaveNames ls → AllByRecursion (λ l. l.name ≤ var_limit) ls
     all_low [] h = tt
     all_low (l ∷ ls) h = (h.0.1, all_low ls h.1)
 printed Unknown h = tt

@@ -2,14 +2,14 @@
 use Rattle.std.proofs.Common.{ℕ, ◌+◌, ◌<◌, ◌≤◌, ◌≡◌, ◌∷◌, ◌++◌, [], List, length, drop, get_or, append-nil, append_assoc, sym, ◌∙◌, ap, subst}
 use Rattle.std.proofs.lemmas.List.{map-append, drop_more}
 use Rattle.std.specs.List.{AllByRecursion}
-use Rattle.sat_base.specs.values.Literals.{largest}
+use Rattle.sat_base.specs.values.Literals.{var_limit}
 use Rattle.sat_base.specs.script.Script.{Literal}
 use Rattle.certify.specs.answers.Answers.{literals_text, word_of}
 use Rattle.certify.specs.answers.AnswerForms.{HaveNames, IsName, named_literal, named_literals}
 use Rattle.certify.specs.answers.AnswerReading.{NoLiteral}
 use Rattle.certify.proofs.lemmas.laws.TellingTexts.{plain_word, at_space, not_end, same_literals as literals_told}
 
-within_limit : (ls : List Literal) → HaveNames ls → AllByRecursion (λ l. l.name ≤ largest) ls
+within_limit : (ls : List Literal) → HaveNames ls → AllByRecursion (λ l. l.name ≤ var_limit) ls
 within_limit [] h = tt
 within_limit (l ∷ ls) h = (h.0.1, within_limit ls h.1)
 

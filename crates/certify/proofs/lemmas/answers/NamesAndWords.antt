@@ -4,7 +4,7 @@ use Rattle.std.proofs.lemmas.Fmt.{decimal_digit, decimal_step, decimal_is_IsNume
 use Rattle.std.proofs.lemmas.Str.Parse.{digit_from_value, digits_value-take-le}
 use Rattle.std.proofs.Math.Seq.{take-append_seam}
 use Rattle.std.specs.Str.Parse.{AllDigits, digits_value}
-use Rattle.sat_base.specs.values.Literals.{largest}
+use Rattle.sat_base.specs.values.Literals.{var_limit}
 use Rattle.certify.specs.answers.AnswerForms.{IsName}
 use Rattle.certify.specs.answers.AnswerReading.{digits_so_far, NoNameDigit, NoName, NoLiteral, StartsNoLiteral, StartsNoName}
 use Rattle.certify.proofs.lemmas.laws.TellingTexts.{Plain, plain_digits, small, numeral}
@@ -19,7 +19,7 @@ only_digit n h = decimal_digit n (omega arith)
 pub last_digit : (n : ℕ) (xs : List ℕ) → 9 < n → n < 2 ^ 64 → (xs ++ decimal (n / 10)) ++ ((48 + n % 10) ∷ []) ≡ xs ++ decimal n
 last_digit n xs h fits = let more : 10 ≤ n = omega arith in rw (decimal_step n more fits) (append_assoc xs (decimal (n / 10)) ((48 + n % 10) ∷ []))
 
-digits : (n : ℕ) → n ≤ largest → AllDigits 10 (decimal n)
+digits : (n : ℕ) → n ≤ var_limit → AllDigits 10 (decimal n)
 digits n h = (numeral n h).0
 
 digit_behind : (ds : List ℕ) (b : ℕ) (more : List ℕ) → AllDigits 10 (ds ++ (b ∷ more)) → (48 ≤ b) × (b ≤ 57)
@@ -39,7 +39,7 @@ no_zero zero b low z n more h e =
 no_zero (suc name) b low z n more h e = absurd (omega arith)
 
 -- a digit behind those of a name
-pub next_digit : (name b : ℕ) → name ≤ largest → 48 ≤ b → b ≤ 57 → 0 < 10 * name + (b - 48) → decimal (10 * name + (b - 48)) ≡ digits_so_far name ++ (b ∷ [])
+pub next_digit : (name b : ℕ) → name ≤ var_limit → 48 ≤ b → b ≤ 57 → 0 < 10 * name + (b - 48) → decimal (10 * name + (b - 48)) ≡ digits_so_far name ++ (b ∷ [])
 next_digit zero b h low high more =
     let e : 10 * 0 + (b - 48) ≡ b - 48 = omega arith in
     let f : 48 + (b - 48) ≡ b = omega arith in
@@ -61,15 +61,15 @@ begun_below m n more h k e =
     omega arith
 
 -- a number past the limit
-pub past_limit : (name b : ℕ) → name ≤ largest → 48 ≤ b → b ≤ 57 → largest < 10 * name + (b - 48) → NoNameDigit name b
+pub past_limit : (name b : ℕ) → name ≤ var_limit → 48 ≤ b → b ≤ 57 → var_limit < 10 * name + (b - 48) → NoNameDigit name b
 past_limit name b h low high past n more k e =
     let d = next_digit name b h low high (omega arith) in
     let f : decimal n ≡ decimal (10 * name + (b - 48)) ++ more = e ∙ sym (append_assoc (digits_so_far name) (b ∷ []) more) ∙ ap (λ ds. ds ++ more) (sym d) in
     let g = begun_below (10 * name + (b - 48)) n more (omega arith) (small n k.1) f in
-    let i : n ≤ largest = k.1 in
+    let i : n ≤ var_limit = k.1 in
     omega arith
 
-plain_so_far : (name : ℕ) → name ≤ largest → Plain (digits_so_far name)
+plain_so_far : (name : ℕ) → name ≤ var_limit → Plain (digits_so_far name)
 plain_so_far zero h = tt
 plain_so_far (suc name) h = plain_digits (decimal (suc name)) (digits (suc name) h)
 
@@ -105,7 +105,7 @@ at_zero b name (inl h) e = omega arith
 at_zero b name (inr h) e = absurd (h e)
 
 -- where no digit of a name comes next
-pub no_name_so : (name b : ℕ) (bytes x : List ℕ) → name ≤ largest → (b ≡ 32 → name ≡ 0) → NoNameDigit name b → bytes ≡ digits_so_far name ++ (b ∷ x) → NoName bytes
+pub no_name_so : (name b : ℕ) (bytes x : List ℕ) → name ≤ var_limit → (b ≡ 32 → name ≡ 0) → NoNameDigit name b → bytes ≡ digits_so_far name ++ (b ∷ x) → NoName bytes
 no_name_so zero b bytes x h space none e n tail k f =
     let r = first_byte (decimal n) b x tail (decimal_nonempty n (small n k.1)) (sym e ∙ f) in
     none n r.0 k r.1
@@ -114,11 +114,11 @@ no_name_so (suc name) b bytes x h space none e n tail k f =
     none n r.0 k r.1
 
 -- where the bytes are over
-pub no_name_end : (name : ℕ) (bytes : List ℕ) → name ≤ largest → bytes ≡ digits_so_far name ++ [] → NoName bytes
+pub no_name_end : (name : ℕ) (bytes : List ℕ) → name ≤ var_limit → bytes ≡ digits_so_far name ++ [] → NoName bytes
 no_name_end name bytes h e n tail k f = no_space (digits_so_far name) (decimal n) tail (plain_so_far name h) (sym (append-nil (digits_so_far name)) ∙ sym e ∙ f)
 
 -- no minus sign comes before a name
-no_minus : (n : ℕ) (x y : List ℕ) → n ≤ largest → decimal n ++ (32 ∷ x) ≡ 45 ∷ y → ⊥
+no_minus : (n : ℕ) (x y : List ℕ) → n ≤ var_limit → decimal n ++ (32 ∷ x) ≡ 45 ∷ y → ⊥
 no_minus n x y h e = go (decimal n) (digits n h) (decimal_nonempty n (small n h)) e
   where
     go : (ds : List ℕ) → AllDigits 10 ds → 0 < length ds → ds ++ (32 ∷ x) ≡ 45 ∷ y → ⊥
@@ -134,7 +134,7 @@ no_negative bytes behind e none l tail h f = go l.positive l.name h f
 
 -- BYTES WITH WHICH NONE BEGINS
 
-pub starts_no_name : (name b : ℕ) (bytes x : List ℕ) → name ≤ largest → (b ≡ 32 → name ≡ 0) → NoNameDigit name b → bytes ≡ digits_so_far name ++ (b ∷ x) → StartsNoName bytes
+pub starts_no_name : (name b : ℕ) (bytes x : List ℕ) → name ≤ var_limit → (b ≡ 32 → name ≡ 0) → NoNameDigit name b → bytes ≡ digits_so_far name ++ (b ∷ x) → StartsNoName bytes
 starts_no_name name b bytes x h space none e more = no_name_so name b (bytes ++ more) (x ++ more) h space none (ap (λ t. t ++ more) e ∙ append_assoc (digits_so_far name) (b ∷ x) more)
 
 pub starts_no_negative : (bytes behind : List ℕ) → bytes ≡ 45 ∷ behind → StartsNoName behind → StartsNoLiteral bytes

@@ -1,6 +1,6 @@
 -- An ask, from its names to its end.
 use Rattle.std.proofs.Common.{ℕ, append_assoc, ◌+◌, ◌≤◌, ◌≡◌, inl, inr, true, List, [], ◌∷◌, ◌++◌, map, Option, Some, None, sym, ◌∙◌, ap, subst, zero, suc, arith}
-use Rattle.sat_base.specs.values.Literals.{largest}
+use Rattle.sat_base.specs.values.Literals.{var_limit}
 use Rattle.sat_base.specs.script.Script.{Literal, Command, Ask, ScriptEnding, names_of}
 use Rattle.sat_base.specs.script.Judge.{Judge, accepted, accepted_of, refusal_of}
 use Rattle.sat_base.specs.steps.Steps.{Step}
@@ -39,7 +39,7 @@ Within earlier = (name v : ℕ) → variable_of earlier name ≡ Some v → IsNa
 pub all_within : (variables : NamedVars) (earlier : List Step) → StandFor variables earlier → Within earlier
 all_within variables earlier s name v e = go name (sym (ap (λ (f : ℕ → Option ℕ). f name) s.named) ∙ e) (s.few name v e)
   where
-    go : (name : ℕ) → variable_in variables name ≡ Some v → name ≤ largest → IsName name
+    go : (name : ℕ) → variable_in variables name ≡ Some v → name ≤ var_limit → IsName name
     go zero e k = absurd (cc)
     go (suc i) e k = (omega arith, k)
 

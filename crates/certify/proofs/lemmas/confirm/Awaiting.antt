@@ -3,7 +3,7 @@ use Rattle.std.proofs.Common.{◌≡◌, Bool, true, false, List, ◌∷◌, Opt
 use Rattle.sat_base.specs.device.Reading.{AtEnd}
 use Rattle.sat_base.specs.steps.Steps.{Step}
 use Rattle.sat_checker.specs.Accepts.{Accepts, ready_after}
-use Rattle.sat_checker.specs.KernelView.{Stands, LooksAtMost}
+use Rattle.sat_checker.specs.KernelView.{HasAccepted, LooksAtMost}
 use Rattle.sat_checker.specs.declared.kernel.Kernel.{Kernel}
 use Rattle.sat_checker.specs.matching.Checking.{is_ordered}
 use Rattle.certify.specs.confirm.CertificatePlaces.{MeetsNothing}
@@ -24,7 +24,7 @@ use Rattle.certify.proofs.lemmas.confirm.Streams.{going_then, confirms_none, con
 use Rattle.certify.proofs.lemmas.confirm.Following.{others}
 
 -- what a round that ends brings
-module _ (names : NamedVars) (old : View) (new : View) (unsat : Bool) (told : (steps : List Step) → Stands old.checker steps → unsat ≡ (ready_after steps).unsat) where
+module _ (names : NamedVars) (old : View) (new : View) (unsat : Bool) (told : (steps : List Step) → HasAccepted old.checker steps → unsat ≡ (ready_after steps).unsat) where
   -- unsat is recorded
   is_cut : unsat ≡ true → (earlier : List Step) → CheckerIsAt old.checker names earlier → UnsatIsRecorded names old earlier old
   is_cut is earlier s = record { later = earlier; stands = s; closed = sym (told earlier s.taken.stands) ∙ is; skips = skips_none earlier old.rest }
@@ -61,7 +61,7 @@ module _ (names : NamedVars) (old : View) (new : View) (unsat : Bool) (told : (s
 
 -- ONE STEP
 
-module _ (names : NamedVars) (a : Stream) (unsat : Bool) (told : (steps : List Step) → Stands a.checker steps → unsat ≡ (ready_after steps).unsat) where
+module _ (names : NamedVars) (a : Stream) (unsat : Bool) (told : (steps : List Step) → HasAccepted a.checker steps → unsat ≡ (ready_after steps).unsat) where
   pub steps_cut : unsat ≡ true → GoesOrStops is_fed_so_far (Ok (Some awaited.Cut)) a a (StepsOnce names)
   steps_cut is = confirms_none (Some awaited.Cut) a (StepsOnce names) (λ total. is_cut names (seen_in total a) (seen_in total a) unsat told is)
 

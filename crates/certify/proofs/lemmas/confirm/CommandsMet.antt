@@ -5,7 +5,7 @@ use Rattle.sat_base.specs.script.Script.{Literal, Command, Clause, Ask, Hide, Wi
 use Rattle.sat_base.specs.script.Judge.{Judge, Sampled, Witnessed, Refusal, refusal_of, accepted, accepted_of, after_command, bring_all, with_clause}
 use Rattle.sat_base.specs.steps.Steps.{Step}
 use Rattle.sat_checker.specs.Accepts.{ready_after}
-use Rattle.sat_checker.specs.KernelView.{Stands as HasTakenSteps}
+use Rattle.sat_checker.specs.KernelView.{HasAccepted as HasTakenSteps}
 use Rattle.sat_checker.specs.matching.Expected.{Outcome, Unsat, Expected, Adds, Opens, Closes, Finish, bringing, hiding, setting, showing, expected}
 use Rattle.certify.specs.answers.AnswerForms.{IsInForm}
 use Rattle.certify.specs.answers.Answers.{outcome_text, refused_line, malformed_line, answers_from, outcomes_left, piece}

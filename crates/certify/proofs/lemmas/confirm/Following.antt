@@ -3,7 +3,7 @@ use Rattle.std.proofs.Common.{ℕ, ◌+◌, ◌≤◌, ◌<◌, ◌≡◌, Bool,
 use Rattle.std.proofs.Common.{Result, Ok, Err, OnOk}
 use Rattle.std.proofs.lemmas.Bool.{true≢false, eqb-true, eqb-false, eq-eqb}
 use mathlib.Core.Path.{fun_ext}
-use Rattle.sat_base.specs.values.Literals.{largest}
+use Rattle.sat_base.specs.values.Literals.{var_limit}
 use Rattle.sat_base.specs.script.Script.{Literal}
 use Rattle.sat_base.specs.steps.Steps.{Step, SolverVarName, UserVarName, DeleteVar, ChangeSamplingMode, AddClause, AtClause, UnitClauses, DeleteClause, ChangeHashBits, Model, Assumptions, FailedAssumptions, End}
 use Rattle.sat_checker.specs.Accepts.{Accepts, ready_after}
@@ -62,7 +62,7 @@ others variables earlier step s o a = stays variables earlier step s a (unnamed 
 
 -- A NEW NAME
 module _ (old new : NamedVars) (earlier : List Step) (s : StandFor old earlier) where
-  names_a : (v index : ℕ) → the_checking.knows earlier v ≡ false → Accepts (ready_after earlier) (UserVarName v (Some index)) → index + 1 ≤ largest → PutsVariable old new (index + 1) (Some v) → StandFor new (UserVarName v (Some index) ∷ earlier)
+  names_a : (v index : ℕ) → the_checking.knows earlier v ≡ false → Accepts (ready_after earlier) (UserVarName v (Some index)) → index + 1 ≤ var_limit → PutsVariable old new (index + 1) (Some v) → StandFor new (UserVarName v (Some index) ∷ earlier)
   names_a v index unknown a low p = record {
     accepted = (s.accepted, a);
     named = fun_ext (λ m. ap (λ (o : Option ℕ). cond (eqb (index + 1) m) (Some v) o) (ap (λ (f : ℕ → Option ℕ). f m) s.named) ∙ sym (p.each m));
@@ -84,8 +84,8 @@ module _ (old new : NamedVars) (earlier : List Step) (s : StandFor old earlier) 
       is_known m w true x = subst (λ (z : ℕ). the_checking.knows (UserVarName v (Some index) ∷ earlier) z ≡ true) (one_of x) (the_checking_sound.names earlier v index a)
       is_known m w false x = known_still earlier (UserVarName v (Some index)) m w s.accepted a x (s.known m w x)
 
-      is_few : (m w : ℕ) (b : Bool) → eqb (index + 1) m ≡ b → cond b (Some v) (variable_of earlier m) ≡ Some w → m ≤ largest
-      is_few m w true e x = subst (λ (z : ℕ). z ≤ largest) (eqb-true (index + 1) m e) low
+      is_few : (m w : ℕ) (b : Bool) → eqb (index + 1) m ≡ b → cond b (Some v) (variable_of earlier m) ≡ Some w → m ≤ var_limit
+      is_few m w true e x = subst (λ (z : ℕ). z ≤ var_limit) (eqb-true (index + 1) m e) low
       is_few m w false e x = s.few m w x
 
   -- A NAME TAKEN
@@ -119,7 +119,7 @@ module _ (old new : NamedVars) (earlier : List Step) (s : StandFor old earlier) 
           go true x = absurd (none_some x)
           go false x = x
 
-  pub puts_new : (name v : ℕ) (step : Step) → Fits (the_checking.knows earlier) earlier (NewName (name + 1)) step → (u : Option ℕ) → step ≡ UserVarName v u → Accepts (ready_after earlier) step → name < largest → PutsVariable old new (name + 1) (Some v) → StandFor new (step ∷ earlier)
+  pub puts_new : (name v : ℕ) (step : Step) → Fits (the_checking.knows earlier) earlier (NewName (name + 1)) step → (u : Option ℕ) → step ≡ UserVarName v u → Accepts (ready_after earlier) step → name < var_limit → PutsVariable old new (name + 1) (Some v) → StandFor new (step ∷ earlier)
   puts_new name v step f u e a low p =
       let q = (fits_new_name the_checking earlier (name + 1) step).0 f in
       let index : q.1 ≡ name = let at = q.3 in omega arith in

@@ -6,7 +6,7 @@ use Rattle.sat_base.specs.device.Reading.{Source, AtEnd, Passes}
 use Rattle.sat_base.proofs.lemmas.device.ReadLemmas.{ends_there, gave_nothing, gave_some, passes_more}
 use Rattle.sat_base.specs.declared.device.whole.ReadError.{ReadError}
 use Rattle.sat_base.specs.declared.device.whole.ReadError.TheVariants as errors
-use Rattle.sat_base.specs.values.Literals.{largest}
+use Rattle.sat_base.specs.values.Literals.{var_limit}
 use Rattle.sat_base.specs.script.Script.{Literal}
 use Rattle.sat_base.specs.script.Judge.{Refusal, PastLimit, WitnessName}
 use Rattle.sat_checker.specs.matching.Expected.{Outcome, Sat, Unsat}
@@ -107,10 +107,10 @@ first_is_line kind.Sat = line_more 115 _ (above 115 (omega arith)) (line_more 32
 first_is_line kind.Unsat = line_more 115 _ (above 115 (omega arith)) (line_more 32 _ (above 32 (omega arith)) (line_more 85 _ (above 85 (omega arith)) (line_more 78 _ (above 78 (omega arith)) (line_more 83 _ (above 83 (omega arith)) (line_more 65 _ (above 65 (omega arith)) (line_more 84 _ (above 84 (omega arith)) (line_more 73 _ (above 73 (omega arith)) (line_more 83 _ (above 83 (omega arith)) (line_more 70 _ (above 70 (omega arith)) (line_more 73 _ (above 73 (omega arith)) (line_more 65 _ (above 65 (omega arith)) (line_more 66 _ (above 66 (omega arith)) (line_more 76 _ (above 76 (omega arith)) (line_more 69 _ (above 69 (omega arith)) line_end))))))))))))))
 first_is_line kind.Unknown = line_more 115 _ (above 115 (omega arith)) (line_more 32 _ (above 32 (omega arith)) (line_more 85 _ (above 85 (omega arith)) (line_more 78 _ (above 78 (omega arith)) (line_more 75 _ (above 75 (omega arith)) (line_more 78 _ (above 78 (omega arith)) (line_more 79 _ (above 79 (omega arith)) (line_more 87 _ (above 87 (omega arith)) (line_more 78 _ (above 78 (omega arith)) line_end))))))))
 
-low_name : (n : ℕ) → n ≤ largest → n < 2 ^ 64
+low_name : (n : ℕ) → n ≤ var_limit → n < 2 ^ 64
 low_name n h = omega arith
 
-word_line : (l : Literal) (ys : List ℕ) → l.name ≤ largest → IsOneLine ys → IsOneLine (word_of l ++ ys)
+word_line : (l : Literal) (ys : List ℕ) → l.name ≤ var_limit → IsOneLine ys → IsOneLine (word_of l ++ ys)
 word_line l ys low h = line_on (word_of l) ys (go l.positive) h
   where
     go : (b : Bool) → HasNoLf (cond b [] (45 ∷ []) ++ decimal l.name)
@@ -369,7 +369,7 @@ has_line kind.Unknown u = absurd (u refl)
 pub line_kept : (a b : Source) (line : List ℕ) → Passes a b line → NoReadFailedAhead a b
 line_kept a b line p = took_kept true a b (line, p)
 
-pub witness_is_line : (k name : ℕ) → k < 2 ^ 64 → name < largest → IsOneLine (refused_line k (WitnessName (name + 1)))
+pub witness_is_line : (k name : ℕ) → k < 2 ^ 64 → name < var_limit → IsOneLine (refused_line k (WitnessName (name + 1)))
 witness_is_line k name low within = refused_is_line k (WitnessName (name + 1)) low (λ n e. let same : name + 1 ≡ n = cc in omega arith)
 
 pub limit_is_line : (k : ℕ) → k < 2 ^ 64 → IsOneLine (refused_line k PastLimit)

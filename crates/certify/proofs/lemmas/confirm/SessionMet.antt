@@ -6,7 +6,7 @@ use Rattle.sat_base.specs.script.Script.{Literal, Command, Ask, Clean, Malformed
 use Rattle.sat_base.specs.script.Judge.{Judge, after_command, refusal_of}
 use Rattle.sat_base.specs.steps.Steps.{Step}
 use Rattle.sat_checker.specs.Accepts.{ready_after}
-use Rattle.sat_checker.specs.KernelView.{Stands as HasTakenSteps}
+use Rattle.sat_checker.specs.KernelView.{HasAccepted as HasTakenSteps}
 use Rattle.sat_checker.specs.matching.Expected.{Outcome, Sat, Unsat, Unknown, Opens, Shows, Fails, Closes, Finish, showing}
 use Rattle.certify.specs.answers.Answers.{outcome_text, refused_line, malformed_line}
 use Rattle.certify.specs.answers.AnswerForms.{IsInForm, named_literals}

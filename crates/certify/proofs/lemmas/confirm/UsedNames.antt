@@ -2,7 +2,7 @@
 use Rattle.std.proofs.Common.{ℕ, zero, suc, ◌+◌, ◌-◌, ◌≤◌, ◌<◌, ◌≡◌, Bool, true, false, not, cond, eqb, List, [], ◌∷◌, map, length, get_or, Option, Some, None, is_some, refl, sym, ◌∙◌, ap, subst, arith}
 use Rattle.std.proofs.lemmas.Bool.{eqb-true, eqb-false, ne_eqb, eq-eqb}
 use Rattle.std.specs.List.{AllByRecursion}
-use Rattle.sat_base.specs.values.Literals.{largest}
+use Rattle.sat_base.specs.values.Literals.{var_limit}
 use Rattle.sat_base.specs.script.Script.{Literal, names_of}
 use Rattle.sat_base.specs.script.Judge.{Judge, Named, Mode, Sampled, Witnessed, identity_in, identity_of}
 use Rattle.certify.specs.answers.AnswerForms.{HaveNames, NamesRise}
@@ -135,11 +135,11 @@ used_rise : (ss : List NameState) (first : ℕ) → NamesRise (used_from first s
 used_rise [] first = tt
 used_rise (s ∷ ss) first = rise_if (is_hidden s) first (length ss) (used_from (first + 1) ss) (used_between ss (first + 1)) (used_rise ss (first + 1))
 
-have_names : (line : List Literal) (bound : ℕ) → bound ≤ largest → Between 1 (1 + bound) (names_of line) → HaveNames line
+have_names : (line : List Literal) (bound : ℕ) → bound ≤ var_limit → Between 1 (1 + bound) (names_of line) → HaveNames line
 have_names [] bound low h = tt
 have_names (l ∷ ls) bound low h = let a = h.0.0 in let b = h.0.1 in ((omega arith, omega arith), have_names ls bound low h.1)
 
-pub line_form : (names : Names) (line : List Literal) → names.used ≤ largest → names_of line ≡ used_in (states_of names) → HaveNames line × NamesRise (names_of line)
+pub line_form : (names : Names) (line : List Literal) → names.used ≤ var_limit → names_of line ≡ used_in (states_of names) → HaveNames line × NamesRise (names_of line)
 line_form names line low e =
     let ss = states_of names in
     let l = states_length names.states names.used in

@@ -3,7 +3,7 @@ use Rattle.std.proofs.Common.{ℕ, suc, drop, drop-cons, length, ◌+◌, ◌*�
 use Rattle.std.proofs.lemmas.List.{drop_all}
 use Rattle.std.proofs.lemmas.Bool.{ltb-true}
 use Rattle.std.specs.List.{AllByRecursion}
-use Rattle.sat_base.specs.values.Literals.{largest, variable}
+use Rattle.sat_base.specs.values.Literals.{var_limit, variable}
 use Rattle.sat_base.specs.script.Script.{Literal, names_of}
 use Rattle.sat_base.specs.script.Judge.{Judge, Mode, Sampled, Witnessed, identity_of, is_witness, has_witness, WitnessName, refused_literal, refused_name, refusal_of}
 use Rattle.certify.specs.answers.AnswerForms.{named_literals}
@@ -25,20 +25,20 @@ witness_at j (Some i) = go (get_or j.modes i Sampled)
 pub witness_is : (names : Names) (j : Judge) (name : ℕ) → NamesStand names j → has_witness j (identity_of j name) ≡ is_witnessed (state_in (states_of names) name)
 witness_is names j name h = witness_at j (identity_of j name) ∙ ap is_witnessed (h.each name)
 
-within : (name : ℕ) → name ≤ largest → ltb largest name ≡ false
-within name h = go (ltb largest name) refl
+within : (name : ℕ) → name ≤ var_limit → ltb var_limit name ≡ false
+within name h = go (ltb var_limit name) refl
   where
-    go : (b : Bool) → ltb largest name ≡ b → b ≡ false
-    go true e = let x = ltb-true largest name e in absurd (omega arith)
+    go : (b : Bool) → ltb var_limit name ≡ b → b ≡ false
+    go true e = let x = ltb-true var_limit name e in absurd (omega arith)
     go false e = refl
 
 -- the next literal decides, or those behind it
-refused_next : (names : Names) (j : Judge) (code : ℕ) (codes : List ℕ) (tail : List Literal) → NamesStand names j → variable code < largest
+refused_next : (names : Names) (j : Judge) (code : ℕ) (codes : List ℕ) (tail : List Literal) → NamesStand names j → variable code < var_limit
     → refused_literal j (names_of (named_literals (code ∷ codes) ++ tail))
     ≡ cond (is_witnessed (state_in (states_of names) (variable code + 1))) (Some (WitnessName (variable code + 1))) (refused_literal j (names_of (named_literals codes ++ tail)))
 refused_next names j code codes tail h low = rw (within (variable code + 1) (omega arith), witness_is names j (variable code + 1) h) refl
 
-pub refused_at : (names : Names) (j : Judge) (codes : List ℕ) (tail : List Literal) (k code : ℕ) (b : Bool) → NamesStand names j → k < length codes → code ≡ get_or codes k code → variable code < largest
+pub refused_at : (names : Names) (j : Judge) (codes : List ℕ) (tail : List Literal) (k code : ℕ) (b : Bool) → NamesStand names j → k < length codes → code ≡ get_or codes k code → variable code < var_limit
     → is_witnessed (state_in (states_of names) (variable code + 1)) ≡ b
     → refused_literal j (names_of (named_literals (drop k codes) ++ tail)) ≡ cond b (Some (WitnessName (variable code + 1))) (refused_literal j (names_of (named_literals (drop (k + 1) codes) ++ tail)))
 refused_at names j codes tail k code b h within at low e =
@@ -52,18 +52,18 @@ refused_at names j codes tail k code b h within at low e =
 past_literals : (j : Judge) (past : Bool) (ls : List Literal) → BeginsPast past ls → refused_literal j (names_of ls) ≡ refusal_said (limit_refusal past)
 past_literals j false ls h = ap (λ (ks : List Literal). refused_literal j (names_of ks)) h
 past_literals j true [] h = absurd h
-past_literals j true (l ∷ ls) h = let e : ltb largest l.name ≡ true = lt-ltb largest l.name h in rw e refl
+past_literals j true (l ∷ ls) h = let e : ltb var_limit l.name ≡ true = lt-ltb var_limit l.name h in rw e refl
 
 past_names : (past : Bool) (ls : List Literal) → BeginsPast past ls → refused_name (names_of ls) ≡ refusal_said (limit_refusal past)
 past_names false ls h = ap (λ (ks : List Literal). refused_name (names_of ks)) h
 past_names true [] h = absurd h
-past_names true (l ∷ ls) h = let e : ltb largest l.name ≡ true = lt-ltb largest l.name h in rw e refl
+past_names true (l ∷ ls) h = let e : ltb var_limit l.name ≡ true = lt-ltb var_limit l.name h in rw e refl
 
 pub refused_end : (j : Judge) (codes : List ℕ) (past : Bool) (ls : List Literal) (k : ℕ) → (f : IsFront codes past ls) → length codes ≤ k → refused_literal j (names_of (named_literals (drop k codes) ++ f.behind)) ≡ refusal_said (limit_refusal past)
 refused_end j codes past ls k f over =
     ap (λ (xs : List ℕ). refused_literal j (names_of (named_literals xs ++ f.behind))) (drop_all k codes over) ∙ past_literals j past f.behind f.limit
 
-names_within : (codes : List ℕ) (tail : List Literal) → AllByRecursion (λ code. code < 2 * largest) codes → refused_name (names_of (named_literals codes ++ tail)) ≡ refused_name (names_of tail)
+names_within : (codes : List ℕ) (tail : List Literal) → AllByRecursion (λ code. code < 2 * var_limit) codes → refused_name (names_of (named_literals codes ++ tail)) ≡ refused_name (names_of tail)
 names_within [] tail h = refl
 names_within (code ∷ codes) tail h = let low = h.0 in rw (within (variable code + 1) (omega arith)) (names_within codes tail h.1)
 

@@ -4,7 +4,7 @@ use Rattle.std.proofs.Math.ListN.{length-set, get_or-append}
 use Rattle.std.proofs.Math.Seq.{get_or-append_seam}
 use Rattle.std.proofs.lemmas.List.{length-append, get_or-set_same, get_or-set_other}
 use Rattle.std.proofs.lemmas.Bool.{eqb-true, eqb-false, eq-eqb, ne_eqb, ltb-true, ltb-false}
-use Rattle.sat_base.specs.values.Literals.{largest}
+use Rattle.sat_base.specs.values.Literals.{var_limit}
 use Rattle.sat_base.specs.script.Judge.{Judge, Named, Mode, Sampled, Witnessed, identity_of, or_zero, with_name, with_names, names_from, new_names, bring_in, without_name, with_mode}
 use Rattle.sat_base.proofs.lemmas.script.LiteralValues.{all_map, placed_found, removed_found, removed_gone}
 use Rattle.sat_base.proofs.lemmas.script.JudgeStates.{placed_all, filtered_all, given_at}
@@ -143,33 +143,33 @@ named_state : (j : Judge) (o : Option ℕ) → ((i : ℕ) → o ≡ Some i → i
 named_state j None h = refl
 named_state j (Some i) h = ap state_of_mode (get_or-append j.modes (Sampled ∷ []) Sampled i (h i refl))
 
-pub named : (old new : Names) (j : Judge) (name : ℕ) → NamesStand old j → state_in (states_of old) name ≡ state.Hidden → 1 ≤ name → name ≤ largest → name ≤ j.first_unused
+pub named : (old new : Names) (j : Judge) (name : ℕ) → NamesStand old j → state_in (states_of old) name ≡ state.Hidden → 1 ≤ name → name ≤ var_limit → name ≤ j.first_unused
     → new.used ≡ max old.used name → AreFresh new
     → ((m : ℕ) → state_in (states_of new) m ≡ cond (eqb name m) state.Sampled (state_in (states_of old) m)) → NamesStand new (with_name name j)
 named old new j name h hidden low high next longer fresh states =
-    let n : Named = record { name = name; identity = j.next_identity } in
+    let n : Named = record { name = name; identity = j.identity_count } in
     let f = h.first in
     let l = h.limit in
-    let below : (m i : ℕ) → identity_of j m ≡ Some i → i < j.next_identity = λ m i e. given_at j.in_use m i j.next_identity h.given e in
-    let found : (m : ℕ) → identity_of (with_name name j) m ≡ cond (eqb name m) (Some j.next_identity) (identity_of j m) = λ m. placed_found n j.in_use m in
+    let below : (m i : ℕ) → identity_of j m ≡ Some i → i < j.identity_count = λ m i e. given_at j.in_use m i j.identity_count h.given e in
+    let found : (m : ℕ) → identity_of (with_name name j) m ≡ cond (eqb name m) (Some j.identity_count) (identity_of j m) = λ m. placed_found n j.in_use m in
     record {
       first = omega arith;
       limit = omega arith;
       each = λ m. ap (state_of_identity (j.modes ++ Sampled ∷ [])) (found m) ∙ at m (eqb name m) ∙ sym (states m);
       fresh = fresh;
-      given = placed_all (λ k. k.identity < j.next_identity + 1) n j.in_use (omega arith) (all_map (λ k. k.identity < j.next_identity) (λ k. k.identity < j.next_identity + 1) j.in_use (λ k x. omega arith) h.given);
+      given = placed_all (λ k. k.identity < j.identity_count + 1) n j.in_use (omega arith) (all_map (λ k. k.identity < j.identity_count) (λ k. k.identity < j.identity_count + 1) j.in_use (λ k x. omega arith) h.given);
       modes = length-append j.modes (Sampled ∷ []) ∙ ap (λ k. k + 1) h.modes;
       apart = λ m k i x y. alone m k i (eqb name m) refl (eqb name k) refl (sym (found m) ∙ x) (sym (found k) ∙ y);
     }
   where
-    at : (m : ℕ) (b : Bool) → state_of_identity (j.modes ++ Sampled ∷ []) (cond b (Some j.next_identity) (identity_of j m)) ≡ cond b state.Sampled (state_in (states_of old) m)
+    at : (m : ℕ) (b : Bool) → state_of_identity (j.modes ++ Sampled ∷ []) (cond b (Some j.identity_count) (identity_of j m)) ≡ cond b state.Sampled (state_in (states_of old) m)
     at m true = ap (λ (k : ℕ). state_of_mode (get_or (j.modes ++ Sampled ∷ []) k Sampled)) (sym h.modes) ∙ ap state_of_mode (get_or-append_seam j.modes Sampled [] Sampled)
-    at m false = named_state j (identity_of j m) (λ i e. let x = given_at j.in_use m i j.next_identity h.given e in let y = h.modes in omega arith) ∙ h.each m
+    at m false = named_state j (identity_of j m) (λ i e. let x = given_at j.in_use m i j.identity_count h.given e in let y = h.modes in omega arith) ∙ h.each m
 
-    alone : (m k i : ℕ) (b : Bool) → eqb name m ≡ b → (d : Bool) → eqb name k ≡ d → cond b (Some j.next_identity) (identity_of j m) ≡ Some i → cond d (Some j.next_identity) (identity_of j k) ≡ Some i → m ≡ k
+    alone : (m k i : ℕ) (b : Bool) → eqb name m ≡ b → (d : Bool) → eqb name k ≡ d → cond b (Some j.identity_count) (identity_of j m) ≡ Some i → cond d (Some j.identity_count) (identity_of j k) ≡ Some i → m ≡ k
     alone m k i true e true g x y = sym (eqb-true name m e) ∙ eqb-true name k g
-    alone m k i true e false g x y = let z = given_at j.in_use k i j.next_identity h.given y in let w : j.next_identity ≡ i = one_of x in absurd (omega arith)
-    alone m k i false e true g x y = let z = given_at j.in_use m i j.next_identity h.given x in let w : j.next_identity ≡ i = one_of y in absurd (omega arith)
+    alone m k i true e false g x y = let z = given_at j.in_use k i j.identity_count h.given y in let w : j.identity_count ≡ i = one_of x in absurd (omega arith)
+    alone m k i false e true g x y = let z = given_at j.in_use m i j.identity_count h.given x in let w : j.identity_count ≡ i = one_of y in absurd (omega arith)
     alone m k i false e false g x y = h.apart m k i x y
 
 -- A NAME HIDDEN
@@ -180,7 +180,7 @@ hidden old new j name h same fresh states = record {
   first = let f = h.first in omega arith;
   limit = h.limit;
   each = λ m. at m (eqb name m) refl ∙ sym (states m);
-  given = filtered_all (λ k. k.identity < j.next_identity) (λ k. not (eqb k.name name)) j.in_use h.given;
+  given = filtered_all (λ k. k.identity < j.identity_count) (λ k. not (eqb k.name name)) j.in_use h.given;
   modes = h.modes;
   apart = λ m k i x y. h.apart m k i (still m i x) (still k i y);
 }
@@ -218,7 +218,7 @@ moded old new j mode name h used same fresh states =
     at m None x false e = ap (state_of_identity (set j.modes (or_zero (identity_of j name)) mode)) x ∙ sym (ap (state_of_identity j.modes) x) ∙ h.each m
     at m (Some i) x true e =
         let here : or_zero (identity_of j name) ≡ i = ap (λ (k : ℕ). or_zero (identity_of j k)) (eqb-true name m e) ∙ ap or_zero x in
-        let low = given_at j.in_use m i j.next_identity h.given x in
+        let low = given_at j.in_use m i j.identity_count h.given x in
         let n = h.modes in
         ap (state_of_identity (set j.modes (or_zero (identity_of j name)) mode)) x
         ∙ ap (λ (k : ℕ). state_of_mode (get_or (set j.modes k mode) i Sampled)) here
@@ -284,7 +284,7 @@ state_set old new state.Sampled index name low n same sets used j h = mode_at ol
 state_set old new state.Witnessed index name low n same sets used j h = mode_at old new j Witnessed index name h low n same sets used
 
 -- a hidden name is used again
-pub again_at : (old new : Names) (j : Judge) (index name : ℕ) → NamesStand old j → index < old.used → index + 1 ≡ name → index < largest → new.used ≡ old.used → SetsValue state.Sampled old.states new.states index state.Sampled
+pub again_at : (old new : Names) (j : Judge) (index name : ℕ) → NamesStand old j → index < old.used → index + 1 ≡ name → index < var_limit → new.used ≡ old.used → SetsValue state.Sampled old.states new.states index state.Sampled
     → state_in (states_of old) name ≡ state.Hidden → NamesStand new (bring_in name j)
 again_at old new j index name h low n within same sets hidden_yet =
     let f = h.first in

@@ -3,7 +3,7 @@ use Rattle.std.proofs.Common.{ℕ, zero, suc, drop, drop-cons, get_or, ◌+◌, 
 use Rattle.std.proofs.lemmas.List.{append-nil, drop_all, length-append}
 use Rattle.std.proofs.lemmas.Bool.{true≢false}
 use Rattle.std.specs.List.{AllByRecursion}
-use Rattle.sat_base.specs.values.Literals.{largest, variable}
+use Rattle.sat_base.specs.values.Literals.{var_limit, variable}
 use Rattle.sat_base.specs.script.Script.{Literal, names_of}
 use Rattle.sat_base.specs.script.Judge.{Judge, Sampled, Witnessed, with_name, with_names, names_from, bring_in, bring_all, hide_all, set_all, with_clause, accepted, new_names}
 use Rattle.certify.specs.declared.judge.NameState.{NameState}
@@ -20,7 +20,7 @@ use Rattle.certify.proofs.lemmas.judge.States.{past_used, pushed_at, states_leng
 abbrev with_used : Names → ℕ → Names
 with_used names n = record names { used = n }
 
-grown_one : (names : Names) (j : Judge) (next : ℕ) → names.used ≤ next → next < largest → NamesStand (with_used names next) j → NamesStand (with_used names (next + 1)) (with_name (next + 1) j)
+grown_one : (names : Names) (j : Judge) (next : ℕ) → names.used ≤ next → next < var_limit → NamesStand (with_used names next) j → NamesStand (with_used names (next + 1)) (with_name (next + 1) j)
 grown_one names j next past low h =
     let cur = with_used names next in
     let new = with_used names (next + 1) in
@@ -33,7 +33,7 @@ grown_one names j next past low h =
     ap (λ (xs : List NameState). state_in xs n) items ∙ pushed_at (states_of cur) state.Sampled n ∙ ap (λ (k : ℕ). cond (eqb (k + 1) n) state.Sampled (state_in (states_of cur) n)) l in
     named cur new j (next + 1) h (past_used cur (next + 1) (omega arith)) (omega arith) (omega arith) (omega arith) longer (λ v k. h.fresh v (omega arith)) states
 
-grown_by : (names : Names) (j : Judge) (count : ℕ) → names.used + count ≤ largest → NamesStand names j → NamesStand (with_used names (names.used + count)) (with_names (names_from count j.first_unused) j)
+grown_by : (names : Names) (j : Judge) (count : ℕ) → names.used + count ≤ var_limit → NamesStand names j → NamesStand (with_used names (names.used + count)) (with_names (names_from count j.first_unused) j)
 grown_by names j zero low h =
     let e : names.used + 0 ≡ names.used = omega arith in
     subst (λ (n : ℕ). NamesStand (with_used names n) j) (sym e) (record { first = h.first; limit = h.limit; each = h.each; fresh = h.fresh; given = h.given; modes = h.modes; apart = h.apart })
@@ -52,7 +52,7 @@ grown_by names j (suc count) low h =
     ∙ ap (λ (name : ℕ). with_name name mid) last in
     subst (λ (k : Judge). NamesStand (with_used names (names.used + suc count)) k) (sym whole) (subst (λ (n : ℕ). NamesStand (with_used names n) (with_name (next + 1) mid)) (sym total) one)
 
-pub grown : (names : Names) (index : ℕ) → names.used ≤ index → index < largest → Changes names (with_used names (index + 1)) (bring_in (index + 1))
+pub grown : (names : Names) (index : ℕ) → names.used ≤ index → index < var_limit → Changes names (with_used names (index + 1)) (bring_in (index + 1))
 grown names index past low j h =
     let f = h.first in
     let count = index + 1 - names.used in

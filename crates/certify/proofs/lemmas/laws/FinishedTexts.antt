@@ -11,7 +11,7 @@ use Rattle.sat_checker.specs.matching.ProofChecking.{the_checking}
 use Rattle.certify.specs.confirm.Matches.{Matches}
 use Rattle.certify.specs.confirm.VerdictPromises.{AreRightAnswers, Exact, GaveTextWith, IsSoundVerdict, TakesLooks}
 use Rattle.certify.specs.laws.EndToEnd.{CanBe, FinishedIsConfirmed, VerdictSays, most_looks_over}
-use Rattle.certify.specs.run.FinishedRun.{Backs, TookCertificate, asked_steps}
+use Rattle.certify.specs.run.FinishedRun.{CertificateGuarantee, TookCertificate, asked_steps}
 use Rattle.certify.specs.declared.summary.Summary.{Summary}
 use Rattle.certify.specs.declared.verdict.ConfirmFault.{ConfirmFault}
 use Rattle.certify.specs.declared.verdict.Verdict.{Verdict}
@@ -24,7 +24,7 @@ can_be a b P text c g =
     let same : c.given ≡ g.text = append_cancel_left a.given c.given g.text (sym c.front.gave ∙ g.front.gave) in
     subst P (sym (c.whole ∙ ap (λ (xs : List ℕ). xs ++ c.rest) same)) (g.holds c.rest c.follows)
 
-pub backed_matches : (budget : ℕ) (summary : Summary) (text answered certified : List ℕ) → Backs text budget summary answered certified → Matches the_checking reading text answered certified
+pub backed_matches : (budget : ℕ) (summary : Summary) (text answered certified : List ℕ) → CertificateGuarantee text budget summary answered certified → Matches the_checking reading text answered certified
 backed_matches budget summary text answered certified b =
     let a = b.is_answered in
     subst (λ s. Matches the_checking reading text s certified) (sym a.answers)
@@ -83,13 +83,13 @@ appended (Some xs) (Some ys) text items h e f =
 
 pub run_finished : (budget : ℕ) (summary : Summary) (x y : Reader) (a b c d : Writer) (text answers certificate : List ℕ) → x.to_come ≡ Some text
     → a.contents ≡ Some [] → b.contents ≡ Some answers → c.contents ≡ Some [] → d.contents ≡ Some certificate
-    → TookCertificate budget summary (x, y) (a, b) (c, d) → Backs text budget summary answers certificate
+    → TookCertificate budget summary (x, y) (a, b) (c, d) → CertificateGuarantee text budget summary answers certificate
 run_finished budget summary x y a b c d text answers certificate e f g h i took =
-    let p = told x y (λ t. (answered : List ℕ) × (certified : List ℕ) × WriterTakes a b answered × WriterTakes c d certified × Backs t budget summary answered certified) text e took in
+    let p = told x y (λ t. (answered : List ℕ) × (certified : List ℕ) × WriterTakes a b answered × WriterTakes c d certified × CertificateGuarantee t budget summary answered certified) text e took in
     let is_answered : answers ≡ p.0 = appended a.contents b.contents p.0 answers p.2.told f g in
     let is_certified : certificate ≡ p.1 = appended c.contents d.contents p.1 certificate p.3.told h i in
-    subst (λ s. Backs text budget summary answers s) (sym is_certified) (subst (λ s. Backs text budget summary s p.1) (sym is_answered) p.4)
+    subst (λ s. CertificateGuarantee text budget summary answers s) (sym is_certified) (subst (λ s. CertificateGuarantee text budget summary s p.1) (sym is_answered) p.4)
 
 -- a verdict on what a finished run wrote is yes
-pub backed_yes : (budget : ℕ) (summary : Summary) (script answers certificate : List ℕ) (v : Verdict) → Backs script budget summary answers certificate → VerdictSays script answers certificate v → v ≡ Yes
+pub backed_yes : (budget : ℕ) (summary : Summary) (script answers certificate : List ℕ) (v : Verdict) → CertificateGuarantee script budget summary answers certificate → VerdictSays script answers certificate v → v ≡ Yes
 backed_yes budget summary script answers certificate v b s = s.exact.1 (backed_matches budget summary script answers certificate b)

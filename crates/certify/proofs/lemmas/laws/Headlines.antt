@@ -61,7 +61,7 @@ right_by_asks commands outcomes = same_right start commands outcomes
 -- HOW MANY VARIABLES EACH ASK HAS
 
 abbrev variables_at : List Asked → List ℕ
-variables_at asks = map (λ a. a.state.next_identity) asks
+variables_at asks = map (λ a. a.state.identity_count) asks
 
 abbrev SameGiven : Judge → List Command → Type 0
 SameGiven j commands = identities_given j (accepted_of j commands) ≡ variables_at (asks_of j commands)
@@ -78,7 +78,7 @@ ask_given : (b : Bool) (j : Judge) (ls : List Literal) (commands : List Command)
     → identities_given j (cond b (accepted_of j commands) (Ask ls ∷ accepted_of (accepted (Ask ls) j) commands))
     ≡ variables_at (cond b (asks_of j commands) (record { state = accepted (Ask ls) j; literals = ls } ∷ asks_of (accepted (Ask ls) j) commands))
 ask_given true j ls commands old new = old
-ask_given false j ls commands old new = ap (λ (ns : List ℕ). (accepted (Ask ls) j).next_identity ∷ ns) new
+ask_given false j ls commands old new = ap (λ (ns : List ℕ). (accepted (Ask ls) j).identity_count ∷ ns) new
 
 same_given : (j : Judge) (commands : List Command) → SameGiven j commands
 same_given j [] = refl

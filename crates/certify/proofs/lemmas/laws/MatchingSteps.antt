@@ -144,7 +144,7 @@ module _ (k : Checking) (sound : IsSound k) where
       go : After earlier q j step → ((live : Live) → IsBridge k j (step ∷ earlier) live → Asked q (step ∷ earlier) → RightFor q j (e ∷ es)) → RightFor q j (e ∷ es)
       go (after live b w) ih = ih live b w
   right_for (ordered {earlier = earlier} u (new_name {name = name} {v = v} {index = index} is unknown) acc m) q j live b w =
-      right_for m None (with_name name j) ((v, j.next_identity) ∷ live) (named_new k sound j earlier live b name v index is unknown acc) tt
+      right_for m None (with_name name j) ((v, j.identity_count) ∷ live) (named_new k sound j earlier live b name v index is unknown acc) tt
   right_for (ordered {earlier = earlier} u (no_name {name = name} {v = v} at) acc m) q j live b w =
       right_for m None (without_name name j) live (unnamed k sound j earlier live b name v at acc) tt
   right_for (ordered {earlier = earlier} u (adds {ls = ls} {c = c} same) acc m) q j live b w =

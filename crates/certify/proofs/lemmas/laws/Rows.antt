@@ -3,7 +3,7 @@ use Rattle.std.proofs.Common.{ℕ, ◌+◌, ◌*◌, ◌≤◌, ◌<◌, ◌≡�
 use Rattle.std.proofs.lemmas.Bool.{true≢false}
 use Rattle.std.specs.Fmt.{digits}
 use Rattle.std.specs.List.{AllByRecursion}
-use Rattle.sat_base.specs.values.Literals.{largest}
+use Rattle.sat_base.specs.values.Literals.{var_limit}
 use Rattle.sat_base.specs.script.Script.{Literal, Clean, names_of}
 use Rattle.sat_base.specs.steps.Formats.{Items}
 use Rattle.sat_base.specs.steps.Numbers.{IsNumber, IsBelow}
@@ -79,7 +79,7 @@ small n h = (h, refl)
 name_spelt : (v : ℕ) → v < 127 → SpellsStep (UserVarName v (Some v)) (2 ∷ v ∷ (v + 1) ∷ [])
 name_spelt v h = (v ∷ (v + 1) ∷ [], refl, (v ∷ [], (v + 1) ∷ [], (small v (omega arith), omega arith), (small (v + 1) (omega arith), omega arith), refl))
 
-items_spelt : (ls : List ℕ) → AllByRecursion (λ l. l < 128) ls → Items (IsBelow (2 * largest)) ls ls
+items_spelt : (ls : List ℕ) → AllByRecursion (λ l. l < 128) ls → Items (IsBelow (2 * var_limit)) ls ls
 items_spelt [] h = refl
 items_spelt (l ∷ ls) h = let x = h.0 in (l ∷ [], ls, (small l x, omega arith), items_spelt ls h.1, refl)
 
@@ -234,7 +234,7 @@ not_twice (Sat line) steps m e =
     let p = same_outcome (Sat (neg 1 ∷ pos 2 ∷ [])) (Sat line) clause_and_ask_text [] (omega arith, (omega arith, tt)) (prints line r.names) told in
     absurd (let q = p.1 in cc)
   where
-    prints : (ls : List Literal) → names_of ls ≡ 1 ∷ 2 ∷ [] → AllByRecursion (λ l. l.name ≤ largest) ls
+    prints : (ls : List Literal) → names_of ls ≡ 1 ∷ 2 ∷ [] → AllByRecursion (λ l. l.name ≤ var_limit) ls
     prints [] n = tt
     prints (l ∷ []) n = let x : l.name ≡ 1 = cc in (omega arith, tt)
     prints (l ∷ k ∷ []) n = let x : l.name ≡ 1 = cc in let y : k.name ≡ 2 = cc in (omega arith, (omega arith, tt))

@@ -5,7 +5,7 @@ use Rattle.std.proofs.lemmas.Fmt.{decimal_is_IsNumeral}
 use Rattle.std.specs.Str.Parse.{AllDigits, digits_value}
 use Rattle.std.specs.Char.{digit_value}
 use Rattle.std.specs.List.{AllByRecursion}
-use Rattle.sat_base.specs.values.Literals.{largest}
+use Rattle.sat_base.specs.values.Literals.{var_limit}
 use Rattle.sat_base.specs.script.Script.{Literal, Command, Clause, Ask, Hide, Witness, Sample, ScriptEnding, names_of}
 use Rattle.sat_base.specs.script.Judge.{Judge, Refusal, refusal_of, accepted, accepted_of, start, with_names, new_names, bring_in, bring_all, with_name}
 use Rattle.certify.specs.answers.Answers.{word_of, literals_text, outcome_text, answers_from, piece, outcomes_left}
@@ -47,38 +47,38 @@ not_end [] x y p e = let r : ◌≡◌ {A = ℕ} 48 32 = cc in omega arith
 not_end (d ∷ []) x y p e = let r : ◌≡◌ {A = ℕ} 10 32 = cc in omega arith
 not_end (d ∷ c ∷ ds) x y p e = p.1.0.1 (let r : c ≡ 10 = cc in r)
 
-pub small : (n : ℕ) → n ≤ largest → n < 2 ^ 64
+pub small : (n : ℕ) → n ≤ var_limit → n < 2 ^ 64
 small n h = omega arith
 
-pub numeral : (n : ℕ) → n ≤ largest → AllDigits 10 (decimal n) × (digits_value 10 (decimal n) ≡ n)
+pub numeral : (n : ℕ) → n ≤ var_limit → AllDigits 10 (decimal n) × (digits_value 10 (decimal n) ≡ n)
 numeral n h = let p = decimal_is_IsNumeral n (small n h) in (p.0.1, p.1)
 
-pub plain_word : (l : Literal) → l.name ≤ largest → Plain (word_of l)
+pub plain_word : (l : Literal) → l.name ≤ var_limit → Plain (word_of l)
 plain_word l h = go l.positive
   where
     go : (b : Bool) → Plain (cond b [] (45 ∷ []) ++ decimal l.name)
     go true = plain_digits (decimal l.name) (numeral l.name h).0
     go false = (((λ e. omega arith), (λ e. omega arith)), plain_digits (decimal l.name) (numeral l.name h).0)
 
-same_number : (m n : ℕ) → m ≤ largest → n ≤ largest → decimal m ≡ decimal n → m ≡ n
+same_number : (m n : ℕ) → m ≤ var_limit → n ≤ var_limit → decimal m ≡ decimal n → m ≡ n
 same_number m n h k e = sym (numeral m h).1 ∙ ap (digits_value 10) e ∙ (numeral n k).1
 
-no_minus : (n : ℕ) (ds : List ℕ) → n ≤ largest → decimal n ≡ 45 ∷ ds → ⊥
+no_minus : (n : ℕ) (ds : List ℕ) → n ≤ var_limit → decimal n ≡ 45 ∷ ds → ⊥
 no_minus n ds h e = go (subst (AllDigits 10) e (numeral n h).0).0
   where
     go : digit_value 45 < 10 → ⊥
     go h = omega arith
 
-same_word : (l m : Literal) → l.name ≤ largest → m.name ≤ largest → word_of l ≡ word_of m → l ≡ m
+same_word : (l m : Literal) → l.name ≤ var_limit → m.name ≤ var_limit → word_of l ≡ word_of m → l ≡ m
 same_word l m h k e = go l.positive m.positive l.name m.name h k e
   where
-    go : (s t : Bool) (x y : ℕ) → x ≤ largest → y ≤ largest → cond s [] (45 ∷ []) ++ decimal x ≡ cond t [] (45 ∷ []) ++ decimal y → (let z : Literal = record { name = x; positive = s } in z) ≡ record { name = y; positive = t }
+    go : (s t : Bool) (x y : ℕ) → x ≤ var_limit → y ≤ var_limit → cond s [] (45 ∷ []) ++ decimal x ≡ cond t [] (45 ∷ []) ++ decimal y → (let z : Literal = record { name = x; positive = s } in z) ≡ record { name = y; positive = t }
     go true true x y h k e = ap (λ n. record { name = n; positive = true }) (same_number x y h k e)
     go true false x y h k e = absurd (no_minus x (decimal y) h e)
     go false true x y h k e = absurd (no_minus y (decimal x) k (sym e))
     go false false x y h k e = ap (λ n. record { name = n; positive = false }) (same_number x y h k (let r : decimal x ≡ decimal y = cc in r))
 
-pub same_literals : (ls ks : List Literal) (x y : List ℕ) → AllByRecursion (λ l. l.name ≤ largest) ls → AllByRecursion (λ l. l.name ≤ largest) ks → literals_text ls ++ x ≡ literals_text ks ++ y → (ls ≡ ks) × (x ≡ y)
+pub same_literals : (ls ks : List Literal) (x y : List ℕ) → AllByRecursion (λ l. l.name ≤ var_limit) ls → AllByRecursion (λ l. l.name ≤ var_limit) ks → literals_text ls ++ x ≡ literals_text ks ++ y → (ls ≡ ks) × (x ≡ y)
 same_literals [] [] x y h k e = (refl, cc)
 same_literals [] (m ∷ ks) x y h k e = absurd (not_end (word_of m) x (literals_text ks ++ y) (plain_word m k.0) (e ∙ append_assoc (word_of m) (32 ∷ literals_text ks) y))
 same_literals (l ∷ ls) [] x y h k e = absurd (not_end (word_of l) y (literals_text ls ++ x) (plain_word l h.0) (sym e ∙ append_assoc (word_of l) (32 ∷ literals_text ls) x))

@@ -272,9 +272,9 @@ module _ {C : Type 0} (seen : C → Writer) (old mid now : Solver C) (user : Lis
     ask_right = told_right now (named_literals user) assumed_is (accepted (Ask (named_literals user)) j) second.live second.agree report.answer right
 
     -- n is the judge's next identity
-    pub ask_bounded : IsBounded (accepted (Ask (named_literals user)) j).next_identity budget old.clock.steps report
+    pub ask_bounded : IsBounded (accepted (Ask (named_literals user)) j).identity_count budget old.clock.steps report
     ask_bounded =
-        let most : ℕ = 2 ^ (2 * (accepted (Ask (named_literals user)) j).next_identity + 3) in
+        let most : ℕ = 2 ^ (2 * (accepted (Ask (named_literals user)) j).identity_count + 3) in
         let counted : now.clock.steps < searched.mid.clock.steps + most = searched.solved.answered.counts.on.few (accepted (Ask (named_literals user)) j) first.live agree_at in
         let r = searched.rounds in let l = searched.limited.rounds in
         let few : report.steps < most = omega arith in

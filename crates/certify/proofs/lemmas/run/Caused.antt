@@ -5,7 +5,7 @@ use Rattle.sat_base.specs.device.Device.{Writer}
 use Rattle.sat_base.specs.script.Script.{Command, Clause, Ask, Clean}
 use Rattle.sat_base.specs.script.Language.{Reading, onto_commands}
 use Rattle.sat_base.specs.script.Judge.{Judge, accepted, after_command, after_script, refusal_of}
-use Rattle.sat_base.specs.values.Literals.{largest, variable}
+use Rattle.sat_base.specs.values.Literals.{var_limit, variable}
 use Rattle.sat_solver.specs.variables.Refusing.{names_in}
 use Rattle.sat_solver.specs.variables.Room.{users_in}
 use Rattle.sat_solver.specs.solver.Whole.{HasFullStore}
@@ -89,7 +89,7 @@ pub needs_exceed : {C : Type 0} (old : Session C) (c : Command) (left : Reading)
 needs_exceed old c left j at free needs =
     let h = needs j at.live at.means.agree in
     let g = script_grows left.0 (accepted c j) in
-    inr (subst (λ i. largest < (after_script left.0 i).next_identity) (sym (after_accepted j c free)) (omega arith))
+    inr (subst (λ i. var_limit < (after_script left.0 i).identity_count) (sym (after_accepted j c free)) (omega arith))
 
 module _ {C : Type 0} (old mid new : Session C) (lent : Lent) (r : Result (Unit {0}) RunFault) where
   pub taken_caused : lent.past_limit ≡ false → TellsRefusal None old.names lent → mid.solver ≡ old.solver → CausedBy r mid new (spelled_by lent) → (c : Command) → IsLent lent c → (left : Reading) → CausedOver r old new (onto_commands (c ∷ []) left)
@@ -108,7 +108,7 @@ after_both (x ∷ xs) ys i = after_both xs ys (after_command x i)
 -- commands that were served before
 pub exceeds_later : (n m : ℕ) (cs : List Command) (script : Reading) (j : Judge) → m ≡ n + length cs → Exceeds m (after_script cs j) script → Exceeds n j (onto_commands cs script)
 exceeds_later n m cs script j e (inl few) = inl (let l = length-append cs script.0 in omega arith)
-exceeds_later n m cs script j e (inr needs) = inr (subst (λ i. largest < i.next_identity) (sym (after_both cs script.0 j)) needs)
+exceeds_later n m cs script j e (inr needs) = inr (subst (λ i. var_limit < i.identity_count) (sym (after_both cs script.0 j)) needs)
 
 -- one command, and what is left
 pub caused_behind : {T C : Type 0} (seen : C → Writer) (r : Result T RunFault) (c : Command) (script : Reading) (a b new : Session C) (u v : Writer) → ServedNext seen a b c u v → CausedOver r b new script → CausedOver r a new (onto_commands (c ∷ []) script)

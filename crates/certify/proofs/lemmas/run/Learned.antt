@@ -20,7 +20,7 @@ use Rattle.sat_solver.specs.schedule.Solving as made
 use Rattle.sat_solver.specs.session.Coming.{EachIsAllowed}
 use Rattle.certify.specs.run.Advancing.{AdvanceTimes, AreUnordered}
 use Rattle.certify.specs.run.Learning.{assumed_times, LearnsIn, EachLearns}
-use Rattle.certify.specs.run.Stretches.{IsNoAsk, Stretch, AskStretches, LearnsEachRound, MadeFor, due_for, made_none, made_one, made_ask, showing_if}
+use Rattle.certify.specs.run.Stretches.{IsNoAsk, Stretch, AskStretches, LearnsEachRound, ServesCommands, due_for, made_none, made_one, made_ask, showing_if}
 use Rattle.certify.proofs.lemmas.run.Between.{IsAside, index_aside, width_aside, AreAside, Head, Split, Timed, append_unordered, asides_never, asides_still, asides_unordered, asides_unsat, behind_asides, cut_unsat, head_cut, split, timed}
 
 -- STEPS BEHIND STEPS
@@ -33,7 +33,7 @@ onward {a} {b} {c} x y = (y.0 ++ x.0, y.1 ∙ ap (λ (s : List Step). y.0 ++ s) 
 ext_of : {May : List Step → Step → Type 0} {from to : List Step} {es : List Expected} → Stretch May from to es → Ext from to
 ext_of s = (s.comes.steps, s.comes.behind)
 
-extends : {j : Judge} {s t : List Step} {cs : List Command} {os : List Outcome} {ns : List ℕ} → MadeFor j s t cs os ns → Ext s t
+extends : {j : Judge} {s t : List Step} {cs : List Command} {os : List Outcome} {ns : List ℕ} → ServesCommands j s t cs os ns → Ext s t
 extends made_none = ([], refl)
 extends (made_one mid i st rest) = onward (ext_of st) (extends rest)
 extends (made_ask mid a rest) = onward (onward (onward (ext_of a.opens) (ext_of a.searches)) (ext_of a.closes)) (extends rest)
@@ -469,7 +469,7 @@ module _ {c d : Counting} {whole steps : List Step} (p : TruncatesHashes c whole
   }
 
 each_learns : (c d : Counting) {j : Judge} {s t : List Step} {cs : List Command} {os : List Outcome} {ns : List ℕ} (asks : ℕ) (whole steps : List Step)
-    → MadeFor j s t cs os ns → assumed_times s ≡ 2 * asks → Ext t whole → TruncatesHashes c whole steps d → EachLearns steps asks os ns
+    → ServesCommands j s t cs os ns → assumed_times s ≡ 2 * asks → Ext t whole → TruncatesHashes c whole steps d → EachLearns steps asks os ns
 each_learns c d asks whole steps made_none before ext p = tt
 each_learns c d {j = j} {s = s} asks whole steps (made_one {c = command} mid i st rest) before ext p =
     let here = makes_times st.due in
@@ -483,5 +483,5 @@ each_learns c d {j = j} {s = s} asks whole steps (made_ask {ls = ls} {o = o} {n 
 
 -- each ask of a run is such
 pub asks_learn : {j : Judge} {made steps : List Step} {commands : List Command} {outcomes : List Outcome} {counts : List ℕ} (c d : Counting)
-    → MadeFor j [] made commands outcomes counts → TruncatesHashes c (End ∷ made) steps d → EachLearns steps 0 outcomes counts
+    → ServesCommands j [] made commands outcomes counts → TruncatesHashes c (End ∷ made) steps d → EachLearns steps 0 outcomes counts
 asks_learn {made = made} {steps = steps} c d m p = each_learns c d 0 (End ∷ made) steps m refl (End ∷ [], refl) p

@@ -10,7 +10,7 @@ use Rattle.sat_checker.specs.matching.ProofChecking.{the_checking}
 use Rattle.sat_solver.specs.session.Session.{MayAll}
 use Rattle.certify.specs.run.Certifies.{Certifies}
 use Rattle.sat_checker.specs.matching.Traces.{HasTrace}
-use Rattle.certify.specs.run.Stretches.{AskStretches, IsNoAsk, MadeFor, due_for, made_ask, made_none, made_one, showing_if}
+use Rattle.certify.specs.run.Stretches.{AskStretches, IsNoAsk, ServesCommands, due_for, made_ask, made_none, made_one, showing_if}
 use Rattle.certify.proofs.lemmas.run.Closing.{closing}
 use Rattle.sat_checker.proofs.lemmas.matching.Traces.{trace_apart}
 use Rattle.certify.proofs.lemmas.run.Making.{IsGoing, Leads, bringing_free, closes_ask, due_free, leads_both, leads_free, leads_going, leads_lacking, opens_ask, unsat_made}
@@ -29,7 +29,7 @@ may_at from to later e m = may_before later from (subst MayAll e m)
 behind_both : (from mid to xs ys : List Step) → mid ≡ xs ++ from → to ≡ ys ++ mid → to ≡ (ys ++ xs) ++ from
 behind_both from mid to xs ys a b = b ∙ ap (λ s. ys ++ s) a ∙ sym (append_assoc ys xs from)
 
-made_behind : {j : Judge} {from to : List Step} {cs : List Command} {os : List Outcome} {counts : List ℕ} → MadeFor j from to cs os counts → (later : List Step) × (to ≡ later ++ from)
+made_behind : {j : Judge} {from to : List Step} {cs : List Command} {os : List Outcome} {counts : List ℕ} → ServesCommands j from to cs os counts → (later : List Step) × (to ≡ later ++ from)
 made_behind made_none = ([], refl)
 made_behind (made_one {from = from} {to = to} mid h s m) = let r = made_behind m in (r.0 ++ s.comes.steps, behind_both from mid to s.comes.steps r.0 s.comes.behind r.1)
 made_behind (made_ask {from = from} {to = to} mid a m) =
@@ -154,7 +154,7 @@ module _ {from to : List Step} {j : Judge} {ls : List Literal} {o : Outcome} {ro
 
 -- ALL COMMANDS
 
-pub made_certifies : {j : Judge} {from to : List Step} {cs : List Command} {os : List Outcome} {counts : List ℕ} (all : List Step) → MadeFor j from to cs os counts → MayAll to
+pub made_certifies : {j : Judge} {from to : List Step} {cs : List Command} {os : List Outcome} {counts : List ℕ} (all : List Step) → ServesCommands j from to cs os counts → MayAll to
     → Certifies the_checking all None to (Finish ∷ []) [] → Certifies the_checking all None from (expected j cs os) counts
 made_certifies all made_none may last = last
 made_certifies {j} {from} {to} all (made_one {c = c} {cs = cs} {os = os} {counts = counts} mid h s m) may last =

@@ -2,7 +2,7 @@
 use Rattle.std.proofs.Common.{ℕ, zero, suc, ◌+◌, ◌-◌, ◌<◌, ◌≤◌, ◌≡◌, ◌≢◌, ◌∙◌, Bool, true, false, not, ◌&&◌, ◌||◌, cond, ltb, Option, Some, None, is_some, List, [], ◌∷◌, ◌++◌, map, inl, inr, refl, sym, ap, subst, arith}
 use Rattle.std.proofs.lemmas.Bool.{eq-eqb, ne_eqb, cases_eq, cases_lt, ltb-true, ltb-false}
 use Rattle.sat_base.specs.device.Device.{Writer}
-use Rattle.sat_base.specs.values.Literals.{largest, variable}
+use Rattle.sat_base.specs.values.Literals.{var_limit, variable}
 use Rattle.sat_base.specs.script.Script.{Command, Clause, Ask, Hide, Witness, Sample, names_of}
 use Rattle.sat_base.specs.script.Judge.{Judge, Mode, Sampled, Witnessed, accepted, after_command, after_script, bring_all, bring_in, hide_all, identity_of, names_from, new_names, refusal_of, set_all, with_mode, with_name, with_names, without_name}
 use Rattle.sat_base.proofs.lemmas.script.LiteralValues.{placed_found}
@@ -36,7 +36,7 @@ use Rattle.certify.proofs.lemmas.run.SessionCalls.{agree_still}
 abbrev is_asked : Judge → List ℕ → ℕ → Bool
 is_asked j users u = not (is_some (identity_of j (u + 1))) && is_listed users u
 
-from_next : (count first : ℕ) (j : Judge) → (with_names (names_from count first) j).next_identity ≡ j.next_identity + count
+from_next : (count first : ℕ) (j : Judge) → (with_names (names_from count first) j).identity_count ≡ j.identity_count + count
 from_next zero first j = omega arith
 from_next (suc k) first j = let r = from_next k (first + 1) (with_name first j) in omega arith
 
@@ -45,10 +45,10 @@ from_first zero first j e = omega arith
 from_first (suc k) first j e = let r = from_first k (first + 1) (with_name first j) (omega arith) in omega arith
 
 other_name : (j : Judge) (name m : ℕ) → name ≢ m → identity_of (with_name name j) m ≡ identity_of j m
-other_name j name m ne = placed_found (record { name = name; identity = j.next_identity }) j.in_use m ∙ ap (λ b. cond b (Some j.next_identity) (identity_of j m)) (ne_eqb name m ne)
+other_name j name m ne = placed_found (record { name = name; identity = j.identity_count }) j.in_use m ∙ ap (λ b. cond b (Some j.identity_count) (identity_of j m)) (ne_eqb name m ne)
 
-same_name : (j : Judge) (name : ℕ) → identity_of (with_name name j) name ≡ Some j.next_identity
-same_name j name = placed_found (record { name = name; identity = j.next_identity }) j.in_use name ∙ ap (λ b. cond b (Some j.next_identity) (identity_of j name)) (eq-eqb name name refl)
+same_name : (j : Judge) (name : ℕ) → identity_of (with_name name j) name ≡ Some j.identity_count
+same_name j name = placed_found (record { name = name; identity = j.identity_count }) j.in_use name ∙ ap (λ b. cond b (Some j.identity_count) (identity_of j name)) (eq-eqb name name refl)
 
 from_others : (count first m : ℕ) (j : Judge) → m < first → identity_of (with_names (names_from count first) j) m ≡ identity_of j m
 from_others zero first m j lt = refl
@@ -71,11 +71,11 @@ count_none n j = count_same n (is_asked j []) (λ k. false) (λ k lt. never (not
 
 -- this is of the names from one on, where it is of those behind
 abbrev Brings : List ℕ → Type 0
-Brings us = (used : ℕ) (j : Judge) → j.first_unused ≡ used + 1 → j.next_identity + (reach used us - used) + count_to used (is_asked j us) ≤ (bring_all (map (λ u. u + 1) us) j).next_identity
+Brings us = (used : ℕ) (j : Judge) → j.first_unused ≡ used + 1 → j.identity_count + (reach used us - used) + count_to used (is_asked j us) ≤ (bring_all (map (λ u. u + 1) us) j).identity_count
 
 module _ (u : ℕ) (us : List ℕ) (later : Brings us) (used : ℕ) (j : Judge) (e : j.first_unused ≡ used + 1) where
   abbrev Goal : Judge → Type 0
-  Goal i = j.next_identity + (reach used (u ∷ us) - used) + count_to used (is_asked j (u ∷ us)) ≤ (bring_all (map (λ w. w + 1) us) i).next_identity
+  Goal i = j.identity_count + (reach used (u ∷ us) - used) + count_to used (is_asked j (u ∷ us)) ≤ (bring_all (map (λ w. w + 1) us) i).identity_count
 
   one_kept : (i : ℕ) → u < used → identity_of j (u + 1) ≡ Some i → Goal j
   one_kept i lt f =
@@ -139,51 +139,51 @@ brings (u ∷ us) used j e = one_more u us (brings us) used j e (ltb (u + 1) j.f
 
 -- IDENTITIES ARE NEVER TAKEN BACK
 
-grows : (names : List ℕ) (j : Judge) → j.next_identity ≤ (with_names names j).next_identity
+grows : (names : List ℕ) (j : Judge) → j.identity_count ≤ (with_names names j).identity_count
 grows [] j = omega arith
 grows (n ∷ ns) j = let r = grows ns (with_name n j) in omega arith
 
-all_grow : (names : List ℕ) (j : Judge) → j.next_identity ≤ (bring_all names j).next_identity
+all_grow : (names : List ℕ) (j : Judge) → j.identity_count ≤ (bring_all names j).identity_count
 all_grow [] j = omega arith
 all_grow (n ∷ ns) j = let r = all_grow ns (bring_in n j) in let q = grows (new_names n j) j in omega arith
 
-hidden_grow : (names : List ℕ) (j : Judge) → j.next_identity ≤ (hide_all names j).next_identity
+hidden_grow : (names : List ℕ) (j : Judge) → j.identity_count ≤ (hide_all names j).identity_count
 hidden_grow [] j = omega arith
 hidden_grow (n ∷ ns) j = let r = hidden_grow ns (without_name n (bring_in n j)) in let q = grows (new_names n j) j in omega arith
 
-set_grow : (mode : Mode) (names : List ℕ) (j : Judge) → j.next_identity ≤ (set_all mode names j).next_identity
+set_grow : (mode : Mode) (names : List ℕ) (j : Judge) → j.identity_count ≤ (set_all mode names j).identity_count
 set_grow mode [] j = omega arith
 set_grow mode (n ∷ ns) j = let r = set_grow mode ns (with_mode mode n (bring_in n j)) in let q = grows (new_names n j) j in omega arith
 
-pub command_grows : (c : Command) (j : Judge) → j.next_identity ≤ (accepted c j).next_identity
+pub command_grows : (c : Command) (j : Judge) → j.identity_count ≤ (accepted c j).identity_count
 command_grows (Clause ls) j = all_grow (names_of ls) j
 command_grows (Ask ls) j = all_grow (names_of ls) j
 command_grows (Hide names) j = hidden_grow names j
 command_grows (Witness names) j = set_grow Witnessed names j
 command_grows (Sample names) j = set_grow Sampled names j
 
-after_grows : (c : Command) (j : Judge) → j.next_identity ≤ (after_command c j).next_identity
+after_grows : (c : Command) (j : Judge) → j.identity_count ≤ (after_command c j).identity_count
 after_grows c j = go (is_some (refusal_of j c))
   where
-    go : (b : Bool) → j.next_identity ≤ (cond b j (accepted c j)).next_identity
+    go : (b : Bool) → j.identity_count ≤ (cond b j (accepted c j)).identity_count
     go true = omega arith
     go false = command_grows c j
 
-pub script_grows : (cs : List Command) (j : Judge) → j.next_identity ≤ (after_script cs j).next_identity
+pub script_grows : (cs : List Command) (j : Judge) → j.identity_count ≤ (after_script cs j).identity_count
 script_grows [] j = omega arith
 script_grows (c ∷ cs) j = let r = script_grows cs (after_command c j) in let q = after_grows c j in omega arith
 
 -- VARIABLES THAT ARE LACKING
 
 -- there are as many variables in use as identities, at most, and as many names come in
-all_need : (n : Variables) (steps : List Step) (j : Judge) (live : Live) (users : List ℕ) → Agree n steps j live → (HasRoom n users → ⊥) → largest < (bring_all (map (λ u. u + 1) users) j).next_identity
+all_need : (n : Variables) (steps : List Step) (j : Judge) (live : Live) (users : List ℕ) → Agree n steps j live → (HasRoom n users → ⊥) → var_limit < (bring_all (map (λ u. u + 1) users) j).identity_count
 all_need n steps j live users agree lacks =
     let used = names_used n in
     let h = brings users used j agree.judged.first_unused in
     let c = count_part used (is_hidden_name n users) (is_asked j users) hidden in
     let l = count_le (variables_used n) (is_live n) in
     let i = agree.judged.identities in
-    elim (cases_lt largest (live_count n + coming n users)) [ inl lt ↦ omega arith | inr le ↦ absurd (lacks le) ]
+    elim (cases_lt var_limit (live_count n + coming n users)) [ inl lt ↦ omega arith | inr le ↦ absurd (lacks le) ]
   where
     at : (o : Option ℕ) (b : Bool) → (not (is_some o) && b) ≡ true → (not (is_some (given_of live o)) && b) ≡ true
     at None b h = h
@@ -197,17 +197,17 @@ users_names [] = refl
 users_names (l ∷ ls) = ap (λ xs. (variable l + 1) ∷ xs) (users_names ls)
 
 -- literals whose names come in
-names_need : (n : Variables) (steps : List Step) (j : Judge) (live : Live) (ls : List ℕ) → Agree n steps j live → (HasRoom n (users_in ls) → ⊥) → largest < (bring_all (names_in ls) j).next_identity
-names_need n steps j live ls agree lacks = subst (λ names. largest < (bring_all names j).next_identity) (users_names ls) (all_need n steps j live (users_in ls) agree lacks)
+names_need : (n : Variables) (steps : List Step) (j : Judge) (live : Live) (ls : List ℕ) → Agree n steps j live → (HasRoom n (users_in ls) → ⊥) → var_limit < (bring_all (names_in ls) j).identity_count
+names_need n steps j live ls agree lacks = subst (λ names. var_limit < (bring_all names j).identity_count) (users_names ls) (all_need n steps j live (users_in ls) agree lacks)
 
 -- COMMANDS
 
 module _ {C : Type 0} (s : Solver C) where
   pub clause_needs : (ls : List ℕ) → LacksRoom s (users_in ls) → NeedsMore s (Clause (named_literals ls))
-  clause_needs ls lacks j live agree = subst (λ names. largest < (bring_all names j).next_identity) (sym (names_same ls)) (names_need s.names (steps_in s) j live ls agree lacks)
+  clause_needs ls lacks j live agree = subst (λ names. var_limit < (bring_all names j).identity_count) (sym (names_same ls)) (names_need s.names (steps_in s) j live ls agree lacks)
 
   pub ask_needs : (ls : List ℕ) → LacksRoom s (users_in ls) → NeedsMore s (Ask (named_literals ls))
-  ask_needs ls lacks j live agree = subst (λ names. largest < (bring_all names j).next_identity) (sym (names_same ls)) (names_need s.names (steps_in s) j live ls agree lacks)
+  ask_needs ls lacks j live agree = subst (λ names. var_limit < (bring_all names j).identity_count) (sym (names_same ls)) (names_need s.names (steps_in s) j live ls agree lacks)
 
   pub name_needs : (st : NameState) (user : ℕ) → LacksRoom s (user ∷ []) → NeedsMore s (command_to st ((user + 1) ∷ []))
   name_needs state.Hidden user lacks j live agree = all_need s.names (steps_in s) j live (user ∷ []) agree lacks
@@ -221,10 +221,10 @@ names_need_more seen st xs ys zs a b done needs j live agree =
     let mid = accepted (command_to st xs) j in
     let h = needs mid k.0 k.1 in
     let g = command_grows (command_to st zs) (accepted (command_to st ys) mid) in
-    subst (λ i. largest < i.next_identity) (sym (accepted_both st xs (ys ++ zs) j ∙ accepted_both st ys zs mid)) (omega arith)
+    subst (λ i. var_limit < i.identity_count) (sym (accepted_both st xs (ys ++ zs) j ∙ accepted_both st ys zs mid)) (omega arith)
 
 -- behind an ask nothing is assumed, which brings no name in
 pub none_needs : {C : Type 0} (seen : C → Writer) (a b c : Solver C) (user : List ℕ) (budget : ℕ) (report : AskReport) → ReplacesAssumptions seen a b user → Searched seen budget report b c → LacksRoom c [] → NeedsMore a (Ask (named_literals user))
 none_needs seen a b c user budget report opened s lacks j live agree =
     let n = agree_still seen a b c user budget report opened s j live agree in
-    subst (λ names. largest < (bring_all names j).next_identity) (sym (names_same user)) (all_need c.names (steps_in c) (bring_all (names_in user) j) n.0 [] n.1 lacks)
+    subst (λ names. var_limit < (bring_all names j).identity_count) (sym (names_same user)) (all_need c.names (steps_in c) (bring_all (names_in user) j) n.0 [] n.1 lacks)

@@ -33,14 +33,14 @@ use Rattle.certify.specs.declared.summary.Summary.{Summary}
 use Rattle.certify.specs.declared.script.ahead.Ahead.{Ahead}
 use Rattle.certify.specs.script.Ahead.{source_in, waiting}
 use Rattle.sat_base.specs.script.Language.{reading, written}
-use Rattle.certify.specs.run.FinishedRun.{WritesAnswers, AnswersRightly, Backs, TookCertificate, asked_steps, identities_given, malformed_at, AreSpent}
+use Rattle.certify.specs.run.FinishedRun.{WritesAnswers, AnswersRightly, CertificateGuarantee, TookCertificate, asked_steps, identities_given, malformed_at, AreSpent}
 use Rattle.certify.specs.run.Running.{ReadsFew, FinishesOrFaults, WritesRun}
 use Rattle.certify.specs.run.Unfinished.{CounterEnds, Exceeds, StepsFront, TookAnswersFront, TookSteps, Unfinished}
 use Rattle.certify.specs.run.SolverCalls.{IsCaused, FaultSays, IsReady, proof_in}
 use Rattle.certify.specs.run.Certifies.{Certifies, complete, ordered}
 use Rattle.certify.specs.run.Ending.{ClosedBy, EndsRun, GivenBack, GivesFront, HasTarget, HasOpenTarget, SumsUp}
 use Rattle.certify.specs.run.Standing.{place_in}
-use Rattle.certify.specs.run.Stretches.{MadeFor}
+use Rattle.certify.specs.run.Stretches.{ServesCommands}
 use Rattle.certify.specs.run.ServedScript.{ServesScript, FailsWhole, ServesWhole}
 use Rattle.certify.proofs.lemmas.run.Unhidden.{none_deletes}
 use Rattle.certify.proofs.lemmas.run.Learned.{asks_learn}
@@ -146,8 +146,8 @@ module _ {C : Type 0} (seen : C → Writer) (budget : ℕ) (w : Writer) (s t : S
         (subst (λ n. AreSpent n 0 given serves.reports) fresh.budget_is (subst (λ n. AreSpent s.budget n given serves.reports) fresh.rounds serves.serves.spent));
   }
 
-  followed : MadeFor start [] (steps_in t.solver) (accepted_of start (reading text).0) serves.serves.outcomes (asked_steps serves.reports)
-  followed = subst (λ (xs : List Step). MadeFor start xs (steps_in t.solver) (accepted_of start (reading text).0) serves.serves.outcomes (asked_steps serves.reports)) fresh.steps serves.serves.follows
+  followed : ServesCommands start [] (steps_in t.solver) (accepted_of start (reading text).0) serves.serves.outcomes (asked_steps serves.reports)
+  followed = subst (λ (xs : List Step). ServesCommands start xs (steps_in t.solver) (accepted_of start (reading text).0) serves.serves.outcomes (asked_steps serves.reports)) fresh.steps serves.serves.follows
 
   certified_made : Certifies the_checking (End ∷ serves.took.0) None [] (expected start (accepted_of start (reading text).0) serves.serves.outcomes) (asked_steps serves.reports)
   certified_made =
@@ -155,11 +155,11 @@ module _ {C : Type 0} (seen : C → Writer) (budget : ℕ) (w : Writer) (s t : S
       let last : Certifies the_checking all None (steps_in t.solver) (Finish ∷ []) [] = subst (λ (xs : List Step). Certifies the_checking all None xs (Finish ∷ []) []) (sym made_all) (ordered tt finish complete) in
       made_certifies all followed (subst MayAll (sym made_all) may.0) last
 
-  follows : MadeFor start [] serves.took.0 (accepted_of start (reading text).0) serves.serves.outcomes (asked_steps summary.asks.items)
-  follows = subst (λ rs. MadeFor start [] serves.took.0 (accepted_of start (reading text).0) serves.serves.outcomes (asked_steps rs)) (sym asks_are)
-      (subst (λ (xs : List Step). MadeFor start [] xs (accepted_of start (reading text).0) serves.serves.outcomes (asked_steps serves.reports)) made_all followed)
+  follows : ServesCommands start [] serves.took.0 (accepted_of start (reading text).0) serves.serves.outcomes (asked_steps summary.asks.items)
+  follows = subst (λ rs. ServesCommands start [] serves.took.0 (accepted_of start (reading text).0) serves.serves.outcomes (asked_steps rs)) (sym asks_are)
+      (subst (λ (xs : List Step). ServesCommands start [] xs (accepted_of start (reading text).0) serves.serves.outcomes (asked_steps serves.reports)) made_all followed)
 
-  is_backed : Backs text budget summary serves.text (text_in Varisat text_of.written)
+  is_backed : CertificateGuarantee text budget summary serves.text (text_in Varisat text_of.written)
   is_backed = record {
     is_answered = is_answered;
     steps = text_of.written;
@@ -429,5 +429,5 @@ module _ (budget : ℕ) (x y : Reader) (u z a b : Writer) where
   answered_if (Err e) h = tt
 
   pub backed_if : (r : Result Summary RunFault) → FinishesOrFaults r budget (x, y) (u, z) (a, b) → IfOk r (λ s. TookCertificate budget s (x, y) (u, z) (a, b))
-  backed_if (Ok s) h = enough_so x y (λ text. WritesRun text budget s (u, z) (a, b)) (λ text. (answered : List ℕ) × (certified : List ℕ) × WriterTakes u z answered × WriterTakes a b certified × Backs text budget s answered certified) (λ text k. (k.answered, k.certified, k.tells, k.certifies, k.is_backed)) h.wrote
+  backed_if (Ok s) h = enough_so x y (λ text. WritesRun text budget s (u, z) (a, b)) (λ text. (answered : List ℕ) × (certified : List ℕ) × WriterTakes u z answered × WriterTakes a b certified × CertificateGuarantee text budget s answered certified) (λ text k. (k.answered, k.certified, k.tells, k.certifies, k.is_backed)) h.wrote
   backed_if (Err e) h = tt

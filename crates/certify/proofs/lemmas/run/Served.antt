@@ -8,7 +8,7 @@ use Rattle.certify.specs.answers.Answers.{answers_from}
 use Rattle.certify.specs.answers.RightAnswers.{AreRight}
 use Rattle.certify.specs.run.FinishedRun.{refused_count, answer_kind, AreSpent, asked_steps, identities_given}
 use Rattle.certify.specs.run.Serving.{RunPlace, Serves}
-use Rattle.certify.specs.run.Stretches.{MadeFor}
+use Rattle.certify.specs.run.Stretches.{ServesCommands}
 use Rattle.certify.specs.declared.summary.AskReport.{AskReport}
 
 pub serves_none : (budget : ℕ) (a : RunPlace) → Serves budget a a [] [] [] 0
@@ -43,7 +43,7 @@ serves_then budget a b c xs ys s t rs qs k l f g = record {
       subst (λ cs. P cs ((rs ++ qs) ++ rest)) (sym (append_assoc xs ys left))
       (subst (λ ps. P (xs ++ (ys ++ left)) ps) (sym (append_assoc rs qs rest)) (f.spent (ys ++ left) (qs ++ rest) (g.spent left rest x)));
   follows = λ to left rest counts x.
-      let P : List Command → List Outcome → List ℕ → Type 0 = λ cs os ns. MadeFor a.judge a.steps to (accepted_of a.judge cs) os ns in
+      let P : List Command → List Outcome → List ℕ → Type 0 = λ cs os ns. ServesCommands a.judge a.steps to (accepted_of a.judge cs) os ns in
       let whole = f.follows to (ys ++ left) (g.outcomes ++ rest) (asked_steps qs ++ counts) (g.follows to left rest counts x) in
       let n : asked_steps rs ++ (asked_steps qs ++ counts) ≡ asked_steps (rs ++ qs) ++ counts = sym (append_assoc (asked_steps rs) (asked_steps qs) counts) ∙ ap (λ ns. ns ++ counts) (sym (map-append (λ (r : AskReport). r.steps) rs qs)) in
       subst (λ cs. P cs ((f.outcomes ++ g.outcomes) ++ rest) (asked_steps (rs ++ qs) ++ counts)) (sym (append_assoc xs ys left))

@@ -9,7 +9,7 @@ use Rattle.certify.specs.answers.Answers.{answers_from, refused_line, outcome_te
 use Rattle.certify.specs.answers.RightAnswers.{IsRight, AreRight}
 use Rattle.certify.specs.run.FinishedRun.{answer_kind, AreSpent, IsBounded, SpendsWithinBudget, identities_given}
 use Rattle.certify.specs.run.Serving.{RunPlace, Serves, place_after}
-use Rattle.certify.specs.run.Stretches.{AskStretches, IsNoAsk, MadeFor, MayFor, Stretch, due_for, made_ask, made_one}
+use Rattle.certify.specs.run.Stretches.{AskStretches, IsNoAsk, ServesCommands, MayFor, Stretch, due_for, made_ask, made_one}
 use Rattle.certify.specs.declared.summary.AskReport.{AskReport}
 
 -- A COMMAND THAT IS REFUSED
@@ -25,7 +25,7 @@ serves_refused budget a c r e = record {
   refuses = λ left. rw e refl;
   kinds = refl;
   spent = λ left rest x. subst (λ cs. AreSpent budget a.rounds (identities_given a.judge cs) rest) (sym (accepted_refused a.judge c r left e)) x;
-  follows = λ to left rest counts x. subst (λ cs. MadeFor a.judge a.steps to cs rest counts) (sym (accepted_refused a.judge c r left e)) x;
+  follows = λ to left rest counts x. subst (λ cs. ServesCommands a.judge a.steps to cs rest counts) (sym (accepted_refused a.judge c r left e)) x;
 }
 
 -- ONE THAT IS NO ASK
@@ -66,14 +66,14 @@ serves_plain budget a c steps h e stretch = record {
       subst (λ cs. AreSpent budget a.rounds (identities_given a.judge cs) rest) (sym (accepted_next a.judge c left e))
       (subst (λ ns. AreSpent budget a.rounds ns rest) (sym (given_next a.judge c (accepted_of (accepted c a.judge) left) h)) x);
   follows = λ to left rest counts x.
-      subst (λ cs. MadeFor a.judge a.steps to cs rest counts) (sym (accepted_next a.judge c left e)) (made_one steps h stretch x);
+      subst (λ cs. ServesCommands a.judge a.steps to cs rest counts) (sym (accepted_next a.judge c left e)) (made_one steps h stretch x);
 }
 
 -- AN ASK
 
 pub serves_ask : (budget : ℕ) (a : RunPlace) (ls : List Literal) (o : Outcome) (report : AskReport) (steps : List Step) → refusal_of a.judge (Ask ls) ≡ None
     → IsRight (accepted (Ask ls) a.judge) ls o → report.answer ≡ answer_kind o → SpendsWithinBudget budget a.rounds report
-    → IsBounded (accepted (Ask ls) a.judge).next_identity budget a.rounds report → AskStretches a.judge ls o report.steps a.steps steps
+    → IsBounded (accepted (Ask ls) a.judge).identity_count budget a.rounds report → AskStretches a.judge ls o report.steps a.steps steps
     → Serves budget a (place_after a (Ask ls) steps (a.rounds + report.steps)) (Ask ls ∷ []) (outcome_text o) (report ∷ []) 0
 serves_ask budget a ls o report steps e right kind spent bounded made = record {
   outcomes = o ∷ [];
@@ -84,5 +84,5 @@ serves_ask budget a ls o report steps e right kind spent bounded made = record {
   spent = λ left rest x.
       subst (λ cs. AreSpent budget a.rounds (identities_given a.judge cs) (report ∷ rest)) (sym (accepted_next a.judge (Ask ls) left e)) (spent, bounded, x);
   follows = λ to left rest counts x.
-      subst (λ cs. MadeFor a.judge a.steps to cs (o ∷ rest) (report.steps ∷ counts)) (sym (accepted_next a.judge (Ask ls) left e)) (made_ask steps made x);
+      subst (λ cs. ServesCommands a.judge a.steps to cs (o ∷ rest) (report.steps ∷ counts)) (sym (accepted_next a.judge (Ask ls) left e)) (made_ask steps made x);
 }

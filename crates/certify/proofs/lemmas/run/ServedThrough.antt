@@ -32,7 +32,7 @@ use Rattle.certify.specs.run.Unfinished.{Exceeds, TookAnswersFront}
 use Rattle.certify.specs.run.SolverCalls.{FaultSays, IsCaused, IsReady, proof_in}
 use Rattle.certify.specs.run.Serving.{RunPlace, Serves}
 use Rattle.certify.specs.run.Standing.{CarriedOut, CausedOver, RunGoesOn, JudgeIsAt, ServedNext, StopsCarrying, StopsOver, WritesBoth, last_place, place_in}
-use Rattle.certify.specs.run.Stretches.{MadeFor, made_none}
+use Rattle.certify.specs.run.Stretches.{ServesCommands, made_none}
 use Rattle.certify.specs.run.ServedScript.{ServesScript, FailsWhole, ServesThrough, ServedAll, ServesTo, ServesWhole, run_fault}
 use Rattle.certify.proofs.lemmas.confirm.Streams.{all_over, covers_fault, nothing_behind, taken_front}
 use Rattle.certify.proofs.lemmas.confirm.Joining.{covers_took, failed_then, took_none as took_nothing, took_open, took_passed, took_then}
@@ -66,7 +66,7 @@ to_then budget a b cs script to s t rs qs k l f g = record {
   kinds = map-append (λ (r : AskReport). r.answer) rs qs ∙ ap (λ ks. ks ++ map (λ (r : AskReport). r.answer) qs) f.kinds ∙ ap (λ ks. map answer_kind f.outcomes ++ ks) g.kinds ∙ sym (map-append answer_kind f.outcomes g.outcomes);
   spent = f.spent script.0 qs g.spent;
   follows =
-      subst (λ ns. MadeFor a.judge a.steps to (accepted_of a.judge (cs ++ script.0)) (f.outcomes ++ g.outcomes) ns) (sym (map-append (λ (r : AskReport). r.steps) rs qs))
+      subst (λ ns. ServesCommands a.judge a.steps to (accepted_of a.judge (cs ++ script.0)) (f.outcomes ++ g.outcomes) ns) (sym (map-append (λ (r : AskReport). r.steps) rs qs))
       (f.follows to script.0 g.outcomes (asked_steps qs) g.follows);
 }
 

@@ -22,7 +22,7 @@ use Rattle.certify.specs.declared.run.session.Session.{Session}
 use Rattle.certify.specs.declared.summary.AskReport.{AskReport}
 use Rattle.certify.specs.answers.RightAnswers.{IsRight}
 use Rattle.certify.specs.run.Unfinished.{TookAnswersFront}
-use Rattle.certify.specs.run.Asking.{Sought}
+use Rattle.certify.specs.run.Asking.{AskEffect}
 use Rattle.certify.specs.run.SolverCalls.{FaultSays, FailsSolver, IsAllowed, IsReady, Searched, proof_in}
 use Rattle.certify.specs.run.Serving.{Serves, place_after}
 use Rattle.certify.specs.run.Standing.{CarriedOut, AgreesWithJudge, StopsCarrying, WritesBoth, last_place, place_in}
@@ -82,7 +82,7 @@ allowed_still seen a b c user budget report allowed opened s =
 
 -- an answer was written, and nothing is assumed any more
 pub asked_of : {C : Type 0} (seen : C → Writer) (old new : Session C) (now : Solver C) (user text : List ℕ) (report : AskReport) (before after : Writer)
-    → Sought seen old.budget report user text old.solver now → WriterTakes before after text → ReplacesAssumptions seen now new.solver [] → new.commands ≡ old.commands → new.refused ≡ old.refused → new.budget ≡ old.budget → new.asks.items ≡ old.asks.items ++ report ∷ []
+    → AskEffect seen old.budget report user text old.solver now → WriterTakes before after text → ReplacesAssumptions seen now new.solver [] → new.commands ≡ old.commands → new.refused ≡ old.refused → new.budget ≡ old.budget → new.asks.items ≡ old.asks.items ++ report ∷ []
     → CarriedOut seen old new (Ask (named_literals user)) before after
 asked_of seen old new now user text report before after sought told closed commands refused budget asks = record {
   ready = did_ready seen now new.solver _ _ (searched_ready seen old.budget report sought.mid now sought.searched) (closed.did Unknown);
@@ -113,7 +113,7 @@ asked_of seen old new now user text report before after sought told closed comma
 -- WHERE A PART FAILED
 
 -- an answer that was found is right, of which all was written or a front
-module _ {C : Type 0} (seen : C → Writer) (old : Session C) (now : Solver C) (user text : List ℕ) (report : AskReport) (before after : Writer) (sought : Sought seen old.budget report user text old.solver now)
+module _ {C : Type 0} (seen : C → Writer) (old : Session C) (now : Solver C) (user text : List ℕ) (report : AskReport) (before after : Writer) (sought : AskEffect seen old.budget report user text old.solver now)
     (left : Reading) (j : Judge) (live : Live) (means : AgreesWithJudge old.solver j live) (free : refusal_of j (Ask (named_literals user)) ≡ None) where
   right : IsRight (accepted (Ask (named_literals user)) j) (named_literals user) (outcome_for report.answer now)
   right = ask_right seen old.solver sought.mid now user old.budget report sought.opened sought.searched sought.right j live means free
@@ -166,7 +166,7 @@ pub memory_says : {C : Type 0} (seen : C → Writer) (e : RunFault) (before afte
 memory_says seen e before after a b m n t = subst (λ x. Says seen x before after a b) (sym m) (n, t)
 
 -- what was sought left the solver's writer so
-pub sought_writes : {C : Type 0} (seen : C → Writer) (a c : Solver C) (user text : List ℕ) (budget : ℕ) (report : AskReport) → Sought seen budget report user text a c → ComesBySteps seen (proof_in a) (proof_in c)
+pub sought_writes : {C : Type 0} (seen : C → Writer) (a c : Solver C) (user text : List ℕ) (budget : ℕ) (report : AskReport) → AskEffect seen budget report user text a c → ComesBySteps seen (proof_in a) (proof_in c)
 sought_writes seen a c user text budget report s = sought_took seen a s.mid c user budget report s.opened s.searched
 
 pub takes_none : (a b : Writer) (text : List ℕ) → WriterTakes a b text → NoneFailed a b

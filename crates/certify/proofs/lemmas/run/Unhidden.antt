@@ -18,7 +18,7 @@ use Rattle.sat_solver.specs.proof.Widths.{narrowed}
 use Rattle.sat_solver.specs.proof.Counting.{TruncatesHashes, none_made, ask_begun, one_made, width_told, counted}
 use Rattle.sat_solver.specs.declared.proof.hash_bits.Counting.{Counting}
 use Rattle.certify.specs.run.Hiding.{HidesNothing}
-use Rattle.certify.specs.run.Stretches.{due_for, showing_if, MadeFor, made_none, made_one, made_ask}
+use Rattle.certify.specs.run.Stretches.{due_for, showing_if, ServesCommands, made_none, made_one, made_ask}
 
 -- STEPS THAT DON'T END, AND TAKE NO NAME BUT WHERE HIDING IS ALLOWED
 abbrev IsPlain : Bool → Step → Type 0
@@ -129,7 +129,7 @@ module _ (hides : Bool) where
   showing_spares false j ls (Unsat core) = (tt, tt)
   showing_spares false j ls Unknown = tt
 
-  made_plain : {j : Judge} {s t : List Step} {cs : List Command} {os : List Outcome} {counts : List ℕ} → MadeFor j s t cs os counts → AllByRecursion (Allows hides) cs → ArePlain hides s → ArePlain hides t
+  made_plain : {j : Judge} {s t : List Step} {cs : List Command} {os : List Outcome} {counts : List ℕ} → ServesCommands j s t cs os counts → AllByRecursion (Allows hides) cs → ArePlain hides s → ArePlain hides t
   made_plain made_none h p = p
   made_plain {j} {s} (made_one {c = c} mid n stretch more) h p = made_plain more h.1 (makes_plain stretch.due (due_spares (the_checking.unsat s) c j h.0) p)
   made_plain {j} {s} (made_ask {ls = ls} {o = o} mid a more) h p =
@@ -315,7 +315,7 @@ cuts_end (one_made {d = d} {made = earlier} {written = written} step keeps k) ma
       goes_on = told_goes_on d.bits (counted step d).bits written (cuts_go_on k (subst GoOn (sym rest) h));
     }
 
-module _ {j : Judge} {all written : List Step} {cs : List Command} {os : List Outcome} {counts : List ℕ} {c d : Counting} (follows : MadeFor j [] all cs os counts) (cuts : TruncatesHashes c (End ∷ all) written d) where
+module _ {j : Judge} {all written : List Step} {cs : List Command} {os : List Outcome} {counts : List ℕ} {c d : Counting} (follows : ServesCommands j [] all cs os counts) (cuts : TruncatesHashes c (End ∷ all) written d) where
   pub none_deletes : AllByRecursion HidesNothing cs → MayAll all → has_delete_var written ≡ false
   none_deletes hides may = cuts_delete cuts ∙ none_deleted all may (made_plain false follows (none_allowed cs hides) tt)
 

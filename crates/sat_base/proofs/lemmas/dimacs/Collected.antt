@@ -3,7 +3,7 @@ use Rattle.std.proofs.Common.{◌≡◌, ℕ, ◌-◌, List, [], ◌∷◌, ◌+
 use Rattle.std.proofs.lemmas.List.{append-nil}
 use Rattle.std.proofs.lemmas.Bool.Decides.{nat_tests}
 use Rattle.std.specs.Prelude.{nat_eq, nat_lt, not, ◌||◌, if◌then◌else◌}
-use Rattle.sat_base.specs.values.Literals.{coded, largest}
+use Rattle.sat_base.specs.values.Literals.{coded, var_limit}
 use Rattle.sat_base.specs.text.Text.{is_blank, Token, Number, Letter, Header, Wrong, Scan, scan}
 use Rattle.sat_base.specs.text.Spot.{onto}
 use Rattle.sat_base.specs.text.Tokenizing.{held, held_token, IsOfHeader, HoldsNoWord}
@@ -73,8 +73,8 @@ number_at false false h line a b s e = ap (λ (k : ℕ). GoesOn (Some (literals_
 pub turn-held : (h : Hand) (line : ℕ) (t : Token) → turn h line (token_of (held_token t)) ≡ turn h line t
 turn-held h line (Number negative value) =
     let zero : nat_eq (held value) 0 ≡ nat_eq value 0 = grind (arith, nat_tests) in
-    let past : nat_lt largest (held value) ≡ nat_lt largest value = grind (arith, nat_tests) in
-    rw (zero, past) (number_at (nat_eq value 0) (nat_lt largest value) h line (held value) value (not negative) (λ e. let small : nat_lt largest value ≡ false = e in grind (arith, nat_tests)))
+    let past : nat_lt var_limit (held value) ≡ nat_lt var_limit value = grind (arith, nat_tests) in
+    rw (zero, past) (number_at (nat_eq value 0) (nat_lt var_limit value) h line (held value) value (not negative) (λ e. let small : nat_lt var_limit value ≡ false = e in grind (arith, nat_tests)))
 turn-held h line (Letter b) = refl
 turn-held h line (Header v c) = refl
 turn-held h line Wrong = refl

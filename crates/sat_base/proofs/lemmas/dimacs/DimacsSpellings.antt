@@ -3,7 +3,7 @@ use Rattle.std.proofs.Common.{◌≡◌, ℕ, ◌+◌, ◌*◌, ◌-◌, ◌%◌
 use Rattle.std.specs.Prelude.{nat_eq, nat_lt, not, ◌↔◌, ◌⊎◌}
 use Rattle.std.proofs.lemmas.List.{append-nil}
 use Rattle.std.proofs.lemmas.Bool.Decides.{nat_tests}
-use Rattle.sat_base.specs.values.Literals.{variable, is_positive, coded, largest}
+use Rattle.sat_base.specs.values.Literals.{variable, is_positive, coded, var_limit}
 use Rattle.sat_base.specs.text.Text.{Token, Number, Letter, Header, Wrong, tokens, scan}
 use Rattle.sat_base.specs.script.Language.{spoken}
 use Rattle.sat_base.specs.dimacs.Dimacs.{Ending, Clean, Malformed, Limit, Dimacs, Hand, Turn, GoesOn, Ends, literals_in, with_number, turn, at_end, behind_turn, clauses_of, dimacs}
@@ -42,7 +42,7 @@ pub record ByZero (h : Hand) (cs : List (List ℕ)) (t : Token) (ts : List Token
 pub record ByLiteral (h : Hand) (cs : List (List ℕ)) (t : Token) (ts : List Token) : Type 0 where
   pub literal : ℕ
   pub is_literal : t ≡ signed_number literal
-  pub within : variable literal < largest
+  pub within : variable literal < var_limit
   pub rest : SpellsRest (literals_in h ++ literal ∷ []) cs ts
 
 abbrev Next : Hand → List (List ℕ) → Token → List Token → Type 0
@@ -145,11 +145,11 @@ turn_zero h line (Letter b) z = absurd z
 turn_zero h line (Header v c) z = absurd z
 turn_zero h line Wrong z = absurd z
 
-turn_literal : (h : Hand) (line l : ℕ) → variable l < largest → turn h line (signed_number l) ≡ GoesOn (Some (literals_in h ++ l ∷ []))
+turn_literal : (h : Hand) (line l : ℕ) → variable l < var_limit → turn h line (signed_number l) ≡ GoesOn (Some (literals_in h ++ l ∷ []))
 turn_literal h line l w =
     let v = variable l + 1 in
     let some : nat_eq v 0 ≡ false = grind (arith, nat_tests) in
-    let within : nat_lt largest v ≡ false = grind (arith, nat_tests) in
+    let within : nat_lt var_limit v ≡ false = grind (arith, nat_tests) in
     let spelled : turn h line (Number (not (is_positive l)) v) ≡ GoesOn (Some (literals_in h ++ coded (v - 1) (not (not (is_positive l))) ∷ [])) = rw (some, within) refl in
     spelled ∙ ap (λ (x : ℕ). GoesOn (Some (literals_in h ++ x ∷ []))) (coded_back l)
 
@@ -207,13 +207,13 @@ zero_spelled h last cs t ts z ih e =
       rest = ih None more.clauses (ap (λ (end : Ending). record { clauses = more.clauses; ending = end }) ends);
     })
 
-literal_spelled : (h : Hand) (last line : ℕ) (cs : List (List ℕ)) (negative : Bool) (value : ℕ) (ts : List (ℕ × Token)) (is_past : Bool) → nat_lt largest value ≡ is_past → 0 < value → AllSpelled last ts
+literal_spelled : (h : Hand) (last line : ℕ) (cs : List (List ℕ)) (negative : Bool) (value : ℕ) (ts : List (ℕ × Token)) (is_past : Bool) → nat_lt var_limit value ≡ is_past → 0 < value → AllSpelled last ts
     → behind_turn (with_number h line negative value) (λ k. clauses_of k last ts) ≡ clean cs → Next h cs (Number negative value) (spoken ts)
 literal_spelled h last line cs negative value ts true p some ih e = past line cs (rw p at e)
 literal_spelled h last line cs negative value ts false p some ih e =
     let l = coded (value - 1) (not negative) in
     let v : variable l ≡ value - 1 = variable_coded (value - 1) (not negative) in
-    let bound : value ≤ largest = grind (arith, nat_tests) in
+    let bound : value ≤ var_limit = grind (arith, nat_tests) in
     inr (record { literal = l; is_literal = number_is negative value some; within = omega (arith, v); rest = ih (Some (literals_in h ++ l ∷ [])) cs (rw p at e) })
 
 number_spelled : (h : Hand) (last line : ℕ) (cs : List (List ℕ)) (negative : Bool) (value : ℕ) (ts : List (ℕ × Token)) (zero : Bool) → nat_eq value 0 ≡ zero → AllSpelled last ts
@@ -223,7 +223,7 @@ number_spelled h last line cs negative value ts true z ih e =
     zero_spelled h last cs (Number negative value) ts same ih (rw z at e)
 number_spelled h last line cs negative value ts false z ih e =
     let some : 0 < value = grind (arith, nat_tests) in
-    literal_spelled h last line cs negative value ts (nat_lt largest value) refl some ih (rw z at e)
+    literal_spelled h last line cs negative value ts (nat_lt var_limit value) refl some ih (rw z at e)
 
 token_spelled : (h : Hand) (last line : ℕ) (cs : List (List ℕ)) (t : Token) (ts : List (ℕ × Token)) → IsWord t → AllSpelled last ts
     → behind_turn (turn h line t) (λ k. clauses_of k last ts) ≡ clean cs → Next h cs t (spoken ts)

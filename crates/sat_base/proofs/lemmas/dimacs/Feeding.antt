@@ -4,7 +4,7 @@ use Rattle.std.proofs.lemmas.Grind.{common_steps}
 use Rattle.std.proofs.lemmas.List.{append-nil, length_push, get_or_push}
 use Rattle.std.proofs.lemmas.Bool.Decides.{nat_tests}
 use Rattle.std.specs.Prelude.{nat_eq, nat_lt, not, ◌&&◌, ◌-◌, ◌⊎◌}
-use Rattle.sat_base.specs.values.Literals.{coded, largest}
+use Rattle.sat_base.specs.values.Literals.{coded, var_limit}
 use Rattle.sat_base.specs.declared.dimacs.error.DimacsError.{DimacsError}
 use Rattle.sat_base.specs.declared.dimacs.error.DimacsError.TheVariants as errors
 use Rattle.sat_base.specs.declared.dimacs.parser.Parser.{Parser}
@@ -601,14 +601,14 @@ finish_fails old p i o t ending line h gives stay f l =
       answer = (o, ended_progress old p h, n, l g.left_of g.stands, ap (λ (d : Dimacs). d.ending) says);
     }
 
-literal_turn : (negative : Bool) (value : ℕ) (e z : Bool) → nat_eq value 0 ≡ e → nat_lt largest value ≡ z → (not e && not z) ≡ true → (hand : Hand) (n : ℕ) → (ls : List ℕ) × (turn hand n (Number negative value) ≡ GoesOn (Some ls))
+literal_turn : (negative : Bool) (value : ℕ) (e z : Bool) → nat_eq value 0 ≡ e → nat_lt var_limit value ≡ z → (not e && not z) ≡ true → (hand : Hand) (n : ℕ) → (ls : List ℕ) × (turn hand n (Number negative value) ≡ GoesOn (Some ls))
 literal_turn negative value false false p q h hand n = (literals_in hand ++ coded (value - 1) (not negative) ∷ [], rw (p, q) refl)
 literal_turn negative value true z p q h hand n = absurd (let g : ◌≡◌ {A = Bool} false true = h in cc)
 literal_turn negative value false true p q h hand n = absurd (let g : ◌≡◌ {A = Bool} false true = h in cc)
 
 -- a literal goes on with a clause, or begins one, and is no header
 pub literal_goes : (t : CodeToken) → is_literal (token_of t) ≡ true → ((hand : Hand) (n : ℕ) → (ls : List ℕ) × (turn hand n (token_of t) ≡ GoesOn (Some ls))) × ((h : Option (ℕ × ℕ)) → h ≡ header_behind (token_of t) h)
-literal_goes (code.Number negative value) e = (literal_turn negative value (nat_eq value 0) (nat_lt largest value) refl refl e, (λ h. refl))
+literal_goes (code.Number negative value) e = (literal_turn negative value (nat_eq value 0) (nat_lt var_limit value) refl refl e, (λ h. refl))
 literal_goes (code.Letter b) e = absurd (let g : ◌≡◌ {A = Bool} false true = e in cc)
 literal_goes (code.Header v c) e = absurd (let g : ◌≡◌ {A = Bool} false true = e in cc)
 literal_goes code.Wrong e = absurd (let g : ◌≡◌ {A = Bool} false true = e in cc)

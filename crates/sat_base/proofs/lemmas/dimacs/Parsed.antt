@@ -42,20 +42,20 @@ stops_on errors.OutOfMemory fed piece p q e s f rest = inl (short_on fed piece p
 stops_on errors.HasFailed fed piece p q e s f rest = absurd (let g : ◌≡◌ {A = Bool} true false = sym f.0 ∙ s in cc)
 
 -- what a parser is where its clauses may have been handed over
-abbrev pub Stands : List ℕ → Progress → Type 0
-Stands fed p = p ≡ record (with_fed fed no_progress) { taken = p.taken }
+abbrev pub HasAccepted : List ℕ → Progress → Type 0
+HasAccepted fed p = p ≡ record (with_fed fed no_progress) { taken = p.taken }
 
-pub stands_of : (fed : List ℕ) (p : Progress) → p ≡ with_fed fed no_progress → Stands fed p
+pub stands_of : (fed : List ℕ) (p : Progress) → p ≡ with_fed fed no_progress → HasAccepted fed p
 stands_of fed p e = e ∙ ap (λ (t : List (List ℕ)). record (with_fed fed no_progress) { taken = t }) (sym (ap (λ (k : Progress). k.taken) e))
 
-pub ends_by : (e : DimacsError) (fed : List ℕ) (p q : Progress) → Stands fed p → Finishes (Err e) p q → Parses (Err e) fed
+pub ends_by : (e : DimacsError) (fed : List ℕ) (p q : Progress) → HasAccepted fed p → Finishes (Err e) p q → Parses (Err e) fed
 ends_by (errors.Malformed line) fed p q is f = (f.2, f.3, ap (λ (k : Progress). (dimacs k.fed).ending) (sym is) ∙ f.4)
 ends_by (errors.Limit line) fed p q is f = (f.2, f.3, ap (λ (k : Progress). (dimacs k.fed).ending) (sym is) ∙ f.4)
 ends_by errors.Read fed p q is f = tt
 ends_by errors.OutOfMemory fed p q is f = inr (subst EndsWell (ap (λ (k : Progress). k.fed) is) f.2)
 ends_by errors.HasFailed fed p q is f = absurd (let g : ◌≡◌ {A = Bool} true false = sym f.0 ∙ ap (λ (k : Progress). k.stopped) is in cc)
 
-pub parts_clean : (fed : List ℕ) (p q r : Progress) → Stands fed p → r ≡ record q { taken = r.taken } → (q ≡ at_its_end p) × ((dimacs p.fed).ending ≡ Clean) → HasReadCleanly r fed
+pub parts_clean : (fed : List ℕ) (p q r : Progress) → HasAccepted fed p → r ≡ record q { taken = r.taken } → (q ≡ at_its_end p) × ((dimacs p.fed).ending ≡ Clean) → HasReadCleanly r fed
 parts_clean fed p q r is kept f =
     let e : r ≡ record (at_its_end p) { taken = r.taken } = kept ∙ ap (λ (z : Progress). record z { taken = r.taken }) f.0 in
     let fed_is : p.fed ≡ fed = ap (λ (z : Progress). z.fed) is in
@@ -74,7 +74,7 @@ joined_more : (pieces : List (List ℕ)) (piece : List ℕ) → concat pieces ++
 joined_more pieces piece = ap (λ (z : List ℕ). concat pieces ++ z) (sym (append-nil piece)) ∙ sym (concat-append pieces (piece ∷ []))
 
 -- a piece is taken, and then a call keeps the text
-pub fed_and_kept : (pieces : List (List ℕ)) (piece : List ℕ) (p q r : Progress) → Stands (concat pieces) p → q ≡ with_fed piece p → r ≡ record q { taken = r.taken } → Stands (concat (pieces ++ (piece ∷ []))) r
+pub fed_and_kept : (pieces : List (List ℕ)) (piece : List ℕ) (p q r : Progress) → HasAccepted (concat pieces) p → q ≡ with_fed piece p → r ≡ record q { taken = r.taken } → HasAccepted (concat (pieces ++ (piece ∷ []))) r
 fed_and_kept pieces piece p q r is f kept =
     kept ∙ ap (λ (z : Progress). record z { taken = r.taken }) f ∙ ap (λ (z : Progress). record (with_fed piece z) { taken = r.taken }) is
     ∙ ap (λ (z : List ℕ). record (with_fed z no_progress) { taken = r.taken }) (joined_more pieces piece)

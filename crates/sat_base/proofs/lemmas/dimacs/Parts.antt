@@ -9,7 +9,7 @@ use Rattle.sat_base.specs.device.Device.{Reader, GaveAll, GaveFront}
 use Rattle.sat_base.specs.dimacs.Parsing.{Calls, FeedsPiece, Finishes, IsSoundSoFar, IsWholeText, LastVisit, Parses, ParsesInParts, Progress, Visits}
 use Rattle.sat_base.specs.dimacs.ParserPlaces.{with_parser}
 use Rattle.sat_base.proofs.lemmas.device.Given.{enough_all, enough_front}
-use Rattle.sat_base.proofs.lemmas.dimacs.Parsed.{Stands, ends_by, stops_on, parts_clean, whole_at_end, no_read, no_read_called, no_read_ended, no_read_fed}
+use Rattle.sat_base.proofs.lemmas.dimacs.Parsed.{HasAccepted, ends_by, stops_on, parts_clean, whole_at_end, no_read, no_read_called, no_read_ended, no_read_fed}
 
 -- the closure's refusal, or else the parser's answer
 abbrev pub refusal_or : {E : Type 0} → Result (Unit {0}) E → Result (Unit {0}) DimacsError → Result (Unit {0}) (IncrementalError E)
@@ -32,7 +32,7 @@ last_at_end calls (Ok u) (Err e) r reader f h p q s is whole ends seen = rw is (
 last_at_end calls (Ok u) (Ok v) r reader f h p q s is whole ends seen = rw is (refl, whole, q, h, ends, seen)
 
 pub parsed_at_end : {E : Type 0} (seen : Result (Unit {0}) E) (answer : Result (Unit {0}) DimacsError) (r : Result (Unit {0}) (IncrementalError E)) (a c : Reader) (fed : List ℕ) (p q s : Progress)
-    → r ≡ refusal_or seen answer → GaveAll a c fed → Stands fed p → s ≡ record q { taken = s.taken } → Finishes answer p q → ParsesInParts a c (with_parser s r)
+    → r ≡ refusal_or seen answer → GaveAll a c fed → HasAccepted fed p → s ≡ record q { taken = s.taken } → Finishes answer p q → ParsesInParts a c (with_parser s r)
 parsed_at_end (Err e) answer r a c fed p q s is all stands kept ends = rw is tt
 parsed_at_end (Ok u) (Err e) r a c fed p q s is all stands kept ends = rw is (enough_all a c (Parses (Err e)) fed all (ends_by e fed p q stands ends))
 parsed_at_end (Ok u) (Ok v) r a c fed p q s is all stands kept ends =
@@ -54,7 +54,7 @@ last_at_piece calls (Ok u) (Err d) r e reader piece f h p q s is err some feeds 
 last_at_piece calls (Ok u) (Ok v) r e reader piece f h p q s is err some feeds seen = absurd cc
 
 pub parsed_at_piece : {E : Type 0} (seen : Result (Unit {0}) E) (answer : Result (Unit {0}) DimacsError) (r : Result (Unit {0}) (IncrementalError E)) (e : IncrementalError E) (a c : Reader) (fed piece : List ℕ) (p q s : Progress)
-    → r ≡ refusal_or seen answer → r ≡ Err e → GaveFront a c (fed ++ piece) → c.ended ≡ false → c.calls ≤ a.calls + length (fed ++ piece) + 1 → Stands fed p → FeedsPiece answer piece p q
+    → r ≡ refusal_or seen answer → r ≡ Err e → GaveFront a c (fed ++ piece) → c.ended ≡ false → c.calls ≤ a.calls + length (fed ++ piece) + 1 → HasAccepted fed p → FeedsPiece answer piece p q
     → ParsesInParts a c (with_parser s r)
 parsed_at_piece (Err d) answer r e a c fed piece p q s is err front going few stands feeds = rw is tt
 parsed_at_piece (Ok u) (Err d) r e a c fed piece p q s is err front going few stands feeds =

@@ -5,7 +5,7 @@ use Rattle.std.specs.List.{AllByRecursion}
 use Rattle.std.proofs.lemmas.List.{append-nil}
 use Rattle.std.proofs.lemmas.Bool.Decides.{nat_tests}
 use Rattle.std.proofs.lemmas.Fmt.{decimal_by_steps}
-use Rattle.sat_base.specs.values.Literals.{variable, is_positive, coded, largest}
+use Rattle.sat_base.specs.values.Literals.{variable, is_positive, coded, var_limit}
 use Rattle.sat_base.specs.values.Formulas.{vars_in, vars_of}
 use Rattle.sat_base.specs.text.Text.{is_blank, is_digit, onto_first, lines, goes_on, words, begins_with, Token, Number, Header, digits, minus, token, header_in, with_numbers, header_if, on_line, is_none, tokens_of, last_line, scan, header_first}
 use Rattle.sat_base.specs.dimacs.Dimacs.{Clean, Dimacs, Hand, Turn, GoesOn, Ends, literals_in, turn, at_end, behind_turn, clauses_of, dimacs}
@@ -169,13 +169,13 @@ signed_begins c false n rest k e m = begins c 45 (decimal n ++ rest) refl ∙ (g
 -- A CLAUSE'S LINE
 -- each literal is within the limit
 abbrev Within : List ℕ → Type 0
-Within = AllByRecursion (λ l. variable l < largest)
+Within = AllByRecursion (λ l. variable l < var_limit)
 
 abbrev clause_words : List ℕ → List (List ℕ)
 clause_words [] = (48 ∷ []) ∷ []
 clause_words (l ∷ ls) = number_text l ∷ clause_words ls
 
-fits : (l : ℕ) → variable l < largest → variable l + 1 < 2 ^ 64
+fits : (l : ℕ) → variable l < var_limit → variable l + 1 < 2 ^ 64
 fits l h = omega arith
 
 words_clause : (ls : List ℕ) → Within ls → words (clause_line ls) ≡ clause_words ls
@@ -238,11 +238,11 @@ coded_back l = go (is_positive l) refl
     go true e = let h : l % 2 ≡ 0 = grind (arith, nat_tests) in omega arith
     go false e = let h : l % 2 ≡ 1 = grind (arith, nat_tests) in omega arith
 
-turn_literal : (hand : Hand) (k l : ℕ) → variable l < largest → turn hand k (token (number_text l)) ≡ GoesOn (Some (literals_in hand ++ l ∷ []))
+turn_literal : (hand : Hand) (k l : ℕ) → variable l < var_limit → turn hand k (token (number_text l)) ≡ GoesOn (Some (literals_in hand ++ l ∷ []))
 turn_literal hand k l w =
     let v = variable l + 1 in
     let some : nat_eq v 0 ≡ false = grind (arith, nat_tests) in
-    let within : nat_lt largest v ≡ false = grind (arith, nat_tests) in
+    let within : nat_lt var_limit v ≡ false = grind (arith, nat_tests) in
     let spelled : turn hand k (Number (not (is_positive l)) v) ≡ GoesOn (Some (literals_in hand ++ coded (v - 1) (not (not (is_positive l))) ∷ [])) = rw (some, within) refl in
     ap (turn hand k) (token_signed (is_positive l) v (omega arith) (fits l w)) ∙ spelled ∙ ap (λ (x : ℕ). GoesOn (Some (literals_in hand ++ x ∷ []))) (coded_back l)
 
@@ -312,11 +312,11 @@ text_tokens v c cs h k =
     ∙ tokens_header true 0 (header_line v c) (lines (clause_lines cs)) (begins 37 112 behind refl) (begins 99 112 behind refl) (begins 112 112 behind refl)
     ∙ ap (λ (t : Token). (0 + 1, t) ∷ tokens_of false (0 + 1) (lines (clause_lines cs))) (header_says v c h k)
 
-literals_within : (ls : List ℕ) → vars_in ls ≤ largest → Within ls
+literals_within : (ls : List ℕ) → vars_in ls ≤ var_limit → Within ls
 literals_within [] h = tt
 literals_within (l ∷ ls) h = (omega arith, literals_within ls (omega arith))
 
-clauses_within : (cs : List (List ℕ)) → vars_of cs ≤ largest → AllWithin cs
+clauses_within : (cs : List (List ℕ)) → vars_of cs ≤ var_limit → AllWithin cs
 clauses_within [] h = tt
 clauses_within (c ∷ cs) h = (literals_within c (omega arith), clauses_within cs (omega arith))
 

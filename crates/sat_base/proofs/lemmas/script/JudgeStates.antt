@@ -3,7 +3,7 @@ use Rattle.std.proofs.Common.{ℕ, zero, suc, ◌+◌, ◌-◌, ◌≤◌, ◌<�
 use Rattle.std.proofs.Math.ListN.{length-set}
 use Rattle.std.proofs.lemmas.Bool.{ltb-true, ltb-false, eqb-false, ne_eqb}
 use Rattle.std.specs.List.{AllByRecursion}
-use Rattle.sat_base.specs.values.Literals.{largest, variable, coded}
+use Rattle.sat_base.specs.values.Literals.{var_limit, variable, coded}
 use Rattle.sat_base.specs.values.Clauses.{Valuation, literal_true, clause_true, EachHolds}
 use Rattle.sat_base.specs.script.Script.{Literal, Command, Clause, Ask, Hide, Witness, Sample, names_of}
 use Rattle.sat_base.specs.script.Judge.{Judge, Named, Mode, Sampled, Witnessed, identity_in, identity_of, placed, or_zero, with_name, with_names, names_from, new_names, over, bring_in, bring_all, without_name, with_mode, hide_all, set_all, accepted, Refusal, PastLimit, WitnessName, refused_literal, refused_name, has_witness, refusal_of, after_command, after_script, start}
@@ -51,24 +51,24 @@ filtered_order test (n ∷ ns) h = go (test n) (filtered_order test ns h.1)
     go true ih = (filtered_all (λ m. n.name < m.name) test ns h.0, ih)
     go false ih = ih
 
-name_kept : (name : ℕ) (j : Judge) → name ≤ largest → identity_of j name ≡ None → JudgeInvariant j → JudgeInvariant (with_name name j)
+name_kept : (name : ℕ) (j : Judge) → name ≤ var_limit → identity_of j name ≡ None → JudgeInvariant j → JudgeInvariant (with_name name j)
 name_kept name j low e h = record {
   limit = let l = h.limit in omega arith;
-  order = placed_order (record { name = name; identity = j.next_identity }) j.in_use e h.order;
-  used = placed_all (λ n. n.name < max j.first_unused (name + 1)) (record { name = name; identity = j.next_identity }) j.in_use (omega arith) (all_map (λ n. n.name < j.first_unused) (λ n. n.name < max j.first_unused (name + 1)) j.in_use (λ n x. omega arith) h.used);
-  given = placed_all (λ n. n.identity < j.next_identity + 1) (record { name = name; identity = j.next_identity }) j.in_use (omega arith) (all_map (λ n. n.identity < j.next_identity) (λ n. n.identity < j.next_identity + 1) j.in_use (λ n x. omega arith) h.given);
+  order = placed_order (record { name = name; identity = j.identity_count }) j.in_use e h.order;
+  used = placed_all (λ n. n.name < max j.first_unused (name + 1)) (record { name = name; identity = j.identity_count }) j.in_use (omega arith) (all_map (λ n. n.name < j.first_unused) (λ n. n.name < max j.first_unused (name + 1)) j.in_use (λ n x. omega arith) h.used);
+  given = placed_all (λ n. n.identity < j.identity_count + 1) (record { name = name; identity = j.identity_count }) j.in_use (omega arith) (all_map (λ n. n.identity < j.identity_count) (λ n. n.identity < j.identity_count + 1) j.in_use (λ n x. omega arith) h.given);
   modes = length-append j.modes (Sampled ∷ []) ∙ ap (λ n. n + 1) h.modes;
-  clauses = all_map (AllByRecursion (λ l. variable l < j.next_identity)) (AllByRecursion (λ l. variable l < j.next_identity + 1)) j.clauses (λ c x. all_map (λ l. variable l < j.next_identity) (λ l. variable l < j.next_identity + 1) c (λ l y. omega arith) x) h.clauses;
+  clauses = all_map (AllByRecursion (λ l. variable l < j.identity_count)) (AllByRecursion (λ l. variable l < j.identity_count + 1)) j.clauses (λ c x. all_map (λ l. variable l < j.identity_count) (λ l. variable l < j.identity_count + 1) c (λ l y. omega arith) x) h.clauses;
 }
 
-fresh_kept : (count name : ℕ) (j : Judge) → name + count ≤ largest + 1 → j.first_unused ≡ name → JudgeInvariant j → JudgeInvariant (with_names (names_from count name) j)
+fresh_kept : (count name : ℕ) (j : Judge) → name + count ≤ var_limit + 1 → j.first_unused ≡ name → JudgeInvariant j → JudgeInvariant (with_names (names_from count name) j)
 fresh_kept zero name j low e h = h
 fresh_kept (suc count) name j low e h =
     let none : identity_of j name ≡ None = none_below name j.in_use (all_map (λ n. n.name < j.first_unused) (λ n. n.name < name) j.in_use (λ n x. omega arith) h.used) in
     let at : max j.first_unused (name + 1) ≡ name + 1 = omega arith in
     fresh_kept count (name + 1) (with_name name j) (omega arith) at (name_kept name j (omega arith) none h)
 
-bring_kept : (name : ℕ) (j : Judge) → name ≤ largest → JudgeInvariant j → JudgeInvariant (bring_in name j)
+bring_kept : (name : ℕ) (j : Judge) → name ≤ var_limit → JudgeInvariant j → JudgeInvariant (bring_in name j)
 bring_kept name j low h = go (ltb name j.first_unused) refl (identity_of j name) refl
   where
     go : (b : Bool) → ltb name j.first_unused ≡ b → (o : Option ℕ) → identity_of j name ≡ o → JudgeInvariant (with_names (cond b (cond (is_some o) [] (name ∷ [])) (names_from (name + 1 - j.first_unused) j.first_unused)) j)
@@ -81,7 +81,7 @@ hide_kept name j h = record {
   limit = h.limit;
   order = filtered_order (λ n. not (eqb n.name name)) j.in_use h.order;
   used = filtered_all (λ n. n.name < j.first_unused) (λ n. not (eqb n.name name)) j.in_use h.used;
-  given = filtered_all (λ n. n.identity < j.next_identity) (λ n. not (eqb n.name name)) j.in_use h.given;
+  given = filtered_all (λ n. n.identity < j.identity_count) (λ n. not (eqb n.name name)) j.in_use h.given;
   modes = h.modes;
   clauses = h.clauses;
 }
@@ -90,7 +90,7 @@ mode_kept : (mode : Mode) (name : ℕ) (j : Judge) → JudgeInvariant j → Judg
 mode_kept mode name j h = record { limit = h.limit; order = h.order; used = h.used; given = h.given; modes = length-set j.modes (or_zero (identity_of j name)) mode ∙ h.modes; clauses = h.clauses }
 
 abbrev Within : List ℕ → Type 0
-Within = AllByRecursion (λ n. n ≤ largest)
+Within = AllByRecursion (λ n. n ≤ var_limit)
 
 bring_all_kept : (names : List ℕ) (j : Judge) → Within names → JudgeInvariant j → JudgeInvariant (bring_all names j)
 bring_all_kept [] j w h = h
@@ -107,20 +107,20 @@ set_all_kept mode (n ∷ ns) j w h = set_all_kept mode ns (with_mode mode n (bri
 -- what isn't refused is within the limit
 within_literals : (names : List ℕ) (j : Judge) → refused_literal j names ≡ None → Within names
 within_literals [] j e = tt
-within_literals (n ∷ ns) j e = go (ltb largest n) refl (has_witness j (identity_of j n)) e (within_literals ns j)
+within_literals (n ∷ ns) j e = go (ltb var_limit n) refl (has_witness j (identity_of j n)) e (within_literals ns j)
   where
-    go : (b : Bool) → ltb largest n ≡ b → (w : Bool) → cond b (Some PastLimit) (cond w (Some (WitnessName n)) (refused_literal j ns)) ≡ None → (refused_literal j ns ≡ None → Within ns) → Within (n ∷ ns)
+    go : (b : Bool) → ltb var_limit n ≡ b → (w : Bool) → cond b (Some PastLimit) (cond w (Some (WitnessName n)) (refused_literal j ns)) ≡ None → (refused_literal j ns ≡ None → Within ns) → Within (n ∷ ns)
     go true x w f ih = absurd (cc)
     go false x true f ih = absurd (cc)
-    go false x false f ih = (ltb-false largest n x, ih f)
+    go false x false f ih = (ltb-false var_limit n x, ih f)
 
 within_names : (names : List ℕ) → refused_name names ≡ None → Within names
 within_names [] e = tt
-within_names (n ∷ ns) e = go (ltb largest n) refl e (within_names ns)
+within_names (n ∷ ns) e = go (ltb var_limit n) refl e (within_names ns)
   where
-    go : (b : Bool) → ltb largest n ≡ b → cond b (Some PastLimit) (refused_name ns) ≡ None → (refused_name ns ≡ None → Within ns) → Within (n ∷ ns)
+    go : (b : Bool) → ltb var_limit n ≡ b → cond b (Some PastLimit) (refused_name ns) ≡ None → (refused_name ns ≡ None → Within ns) → Within (n ∷ ns)
     go true x f ih = absurd (cc)
-    go false x f ih = (ltb-false largest n x, ih f)
+    go false x f ih = (ltb-false var_limit n x, ih f)
 
 -- a name in use has an identity that was given out
 pub given_at : (ns : List Named) (name i bound : ℕ) → AllByRecursion (λ n. n.identity < bound) ns → identity_in ns name ≡ Some i → i < bound
@@ -132,39 +132,39 @@ given_at (n ∷ ns) name i bound h e = go (eqb n.name name) e (given_at ns name 
     go false f ih = ih f
 
 -- identities are given out, never taken back
-grows : (names : List ℕ) (j : Judge) → j.next_identity ≤ (with_names names j).next_identity
+grows : (names : List ℕ) (j : Judge) → j.identity_count ≤ (with_names names j).identity_count
 grows [] j = omega arith
 grows (n ∷ ns) j = let r = grows ns (with_name n j) in omega arith
 
-grows_all : (names : List ℕ) (j : Judge) → j.next_identity ≤ (bring_all names j).next_identity
+grows_all : (names : List ℕ) (j : Judge) → j.identity_count ≤ (bring_all names j).identity_count
 grows_all [] j = omega arith
 grows_all (n ∷ ns) j = let r = grows_all ns (bring_in n j) in let q = grows (new_names n j) j in omega arith
 
 -- a name that came in has one
-some_given : (name : ℕ) (j : Judge) → JudgeInvariant j → 0 < (bring_in name j).next_identity
+some_given : (name : ℕ) (j : Judge) → JudgeInvariant j → 0 < (bring_in name j).identity_count
 some_given name j h = go (ltb name j.first_unused) refl (identity_of j name) refl
   where
-    from : (count start : ℕ) → 0 < count → 0 < (with_names (names_from count start) j).next_identity
+    from : (count start : ℕ) → 0 < count → 0 < (with_names (names_from count start) j).identity_count
     from zero start x = absurd (omega arith)
     from (suc count) start x = let r = grows (names_from count (start + 1)) (with_name start j) in omega arith
 
-    go : (b : Bool) → ltb name j.first_unused ≡ b → (o : Option ℕ) → identity_of j name ≡ o → 0 < (with_names (cond b (cond (is_some o) [] (name ∷ [])) (names_from (name + 1 - j.first_unused) j.first_unused)) j).next_identity
-    go true x (Some i) e = let r = given_at j.in_use name i j.next_identity h.given e in omega arith
+    go : (b : Bool) → ltb name j.first_unused ≡ b → (o : Option ℕ) → identity_of j name ≡ o → 0 < (with_names (cond b (cond (is_some o) [] (name ∷ [])) (names_from (name + 1 - j.first_unused) j.first_unused)) j).identity_count
+    go true x (Some i) e = let r = given_at j.in_use name i j.identity_count h.given e in omega arith
     go true x None e = omega arith
     go false x o e = let past = ltb-false name j.first_unused x in from (name + 1 - j.first_unused) j.first_unused (omega arith)
 
-literal_given : (j : Judge) (l : Literal) → JudgeInvariant j → 0 < j.next_identity → variable (over j l) < j.next_identity
+literal_given : (j : Judge) (l : Literal) → JudgeInvariant j → 0 < j.identity_count → variable (over j l) < j.identity_count
 literal_given j l h some = go (identity_of j l.name) refl
   where
-    go : (o : Option ℕ) → identity_of j l.name ≡ o → variable (coded (or_zero o) l.positive) < j.next_identity
+    go : (o : Option ℕ) → identity_of j l.name ≡ o → variable (coded (or_zero o) l.positive) < j.identity_count
     go None e = let x = coded_half 0 l.positive in omega arith
-    go (Some i) e = let x = coded_half i l.positive in let y = given_at j.in_use l.name i j.next_identity h.given e in omega arith
+    go (Some i) e = let x = coded_half i l.positive in let y = given_at j.in_use l.name i j.identity_count h.given e in omega arith
 
-clause_given : (ls : List Literal) (j : Judge) → JudgeInvariant j → 0 < j.next_identity → AllByRecursion (λ l. variable l < j.next_identity) (map (over j) ls)
+clause_given : (ls : List Literal) (j : Judge) → JudgeInvariant j → 0 < j.identity_count → AllByRecursion (λ l. variable l < j.identity_count) (map (over j) ls)
 clause_given [] j h some = tt
 clause_given (l ∷ ls) j h some = (literal_given j l h some, clause_given ls j h some)
 
-new_clause_given : (ls : List Literal) (j : Judge) → Within (names_of ls) → JudgeInvariant j → AllByRecursion (λ l. variable l < (bring_all (names_of ls) j).next_identity) (map (over (bring_all (names_of ls) j)) ls)
+new_clause_given : (ls : List Literal) (j : Judge) → Within (names_of ls) → JudgeInvariant j → AllByRecursion (λ l. variable l < (bring_all (names_of ls) j).identity_count) (map (over (bring_all (names_of ls) j)) ls)
 new_clause_given [] j w h = tt
 new_clause_given (l ∷ ls) j w h =
     let a = some_given l.name j h in
@@ -214,10 +214,10 @@ pub given_suffice : GivenIdentitiesSuffice
 given_suffice commands a =
     let j = after_script commands start in
     let h = judge_kept commands in (
-      all_same_below j.next_identity a j.clauses h.clauses,
+      all_same_below j.identity_count a j.clauses h.clauses,
       (λ l i e.
-          let g = given_at j.in_use l.name i j.next_identity h.given e in
+          let g = given_at j.in_use l.name i j.identity_count h.given e in
           let x = coded_half i l.positive in
           let o : over j l ≡ coded i l.positive = ap (λ y. coded (or_zero y) l.positive) e in
-          same_below j.next_identity a (over j l) (subst (λ y. variable y < j.next_identity) (sym o) (omega arith))),
+          same_below j.identity_count a (over j l) (subst (λ y. variable y < j.identity_count) (sym o) (omega arith))),
     )

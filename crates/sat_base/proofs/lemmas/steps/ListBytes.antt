@@ -2,7 +2,7 @@
 use Rattle.std.proofs.Common.{◌≡◌, ℕ, ◌+◌, ◌*◌, ◌^◌, ◌<◌, ◌≤◌, List, [], ◌∷◌, ◌++◌, length, drop, get_or, suc, Bool, true, false, Option, None, Some, Result, Ok, Err, refl, sym, subst, ap, ◌∙◌, arith}
 use Rattle.std.proofs.lemmas.List.{drop_all}
 use Rattle.std.proofs.Math.Seq.{drop-cons}
-use Rattle.sat_base.specs.values.Literals.{largest}
+use Rattle.sat_base.specs.values.Literals.{var_limit}
 use Rattle.sat_base.specs.steps.Formats.{Items, Both, ListOf}
 use Rattle.sat_base.specs.steps.Numbers.{IsBelow}
 use Rattle.sat_base.specs.steps.StepText.{IsOptionalVariable, IsLiteral, IsHash, IsFlag, IsDeletion, AreHashedLiterals, tag_of, SpellsFields, SpellsStep}
@@ -38,14 +38,14 @@ items_of limit (n ∷ ns) h f = (number_bytes n, numbers_bytes ns, spells_number
 pub spells_list : (limit : ℕ) (ns : List ℕ) → limit ≤ 2 ^ 64 → length ns < 2 ^ 64 → ((k : ℕ) → k < length ns → get_or ns k 0 < limit) → ListOf (IsBelow (2 ^ 64)) (IsBelow limit) ns (list_bytes ns)
 spells_list limit ns h l f = (number_bytes (length ns), numbers_bytes ns, spells_number (2 ^ 64) (length ns) l (omega arith), items_of limit ns h f, refl)
 
-spells_pair : (p : ℕ × ℕ) → p.0 < 2 * largest → p.1 < 2 ^ 64 → Both IsLiteral IsHash p (number_bytes p.0 ++ number_bytes p.1)
-spells_pair p h k = (number_bytes p.0, number_bytes p.1, spells_number (2 * largest) p.0 h (omega arith), spells_number (2 ^ 64) p.1 k (omega arith), refl)
+spells_pair : (p : ℕ × ℕ) → p.0 < 2 * var_limit → p.1 < 2 ^ 64 → Both IsLiteral IsHash p (number_bytes p.0 ++ number_bytes p.1)
+spells_pair p h k = (number_bytes p.0, number_bytes p.1, spells_number (2 * var_limit) p.0 h (omega arith), spells_number (2 ^ 64) p.1 k (omega arith), refl)
 
-pairs_of : (ps : List (ℕ × ℕ)) → ((k : ℕ) → k < length ps → ((get_or ps k (0, 0)).0 < 2 * largest) × ((get_or ps k (0, 0)).1 < 2 ^ 64)) → Items (Both IsLiteral IsHash) ps (pairs_bytes ps)
+pairs_of : (ps : List (ℕ × ℕ)) → ((k : ℕ) → k < length ps → ((get_or ps k (0, 0)).0 < 2 * var_limit) × ((get_or ps k (0, 0)).1 < 2 ^ 64)) → Items (Both IsLiteral IsHash) ps (pairs_bytes ps)
 pairs_of [] f = refl
 pairs_of (p ∷ ps) f = let h = f 0 (omega arith) in (number_bytes p.0 ++ number_bytes p.1, pairs_bytes ps, spells_pair p h.0 h.1, pairs_of ps (λ k i. f (suc k) (omega arith)), refl)
 
-pub spells_units : (ps : List (ℕ × ℕ)) → length ps < 2 ^ 64 → ((k : ℕ) → k < length ps → ((get_or ps k (0, 0)).0 < 2 * largest) × ((get_or ps k (0, 0)).1 < 2 ^ 64)) → AreHashedLiterals ps (units_bytes ps)
+pub spells_units : (ps : List (ℕ × ℕ)) → length ps < 2 ^ 64 → ((k : ℕ) → k < length ps → ((get_or ps k (0, 0)).0 < 2 * var_limit) × ((get_or ps k (0, 0)).1 < 2 ^ 64)) → AreHashedLiterals ps (units_bytes ps)
 spells_units ps l f = (number_bytes (length ps), pairs_bytes ps, spells_number (2 ^ 64) (length ps) l (omega arith), pairs_of ps f, refl)
 
 -- A STEP: its tag, and its fields
@@ -66,13 +66,13 @@ deletion_writes d e n a b r h k t f w =
 
 pub none_writes : {E : Type 0} (o : Option ℕ) (a b : Sink) (r : Result (Unit {0}) E) → o ≡ None → Sends (number_bytes 0) r a b → Writes IsOptionalVariable o (optional_bytes o) r a b
 none_writes o a b r h w =
-    subst (λ (z : Option ℕ). Writes IsOptionalVariable z (optional_bytes z) r a b) (sym h) (writes_as (IsBelow (largest + 1)) IsOptionalVariable 0 None (number_bytes 0) a b r (λ i. i) (number_writes (largest + 1) 0 0 a b r refl (omega arith) (omega arith) w))
+    subst (λ (z : Option ℕ). Writes IsOptionalVariable z (optional_bytes z) r a b) (sym h) (writes_as (IsBelow (var_limit + 1)) IsOptionalVariable 0 None (number_bytes 0) a b r (λ i. i) (number_writes (var_limit + 1) 0 0 a b r refl (omega arith) (omega arith) w))
 
-pub some_writes : {E : Type 0} (o : Option ℕ) (v m : ℕ) (a b : Sink) (r : Result (Unit {0}) E) → o ≡ Some v → m ≡ v → m < largest → Sends (number_bytes (m + 1)) r a b → Writes IsOptionalVariable o (optional_bytes o) r a b
+pub some_writes : {E : Type 0} (o : Option ℕ) (v m : ℕ) (a b : Sink) (r : Result (Unit {0}) E) → o ≡ Some v → m ≡ v → m < var_limit → Sends (number_bytes (m + 1)) r a b → Writes IsOptionalVariable o (optional_bytes o) r a b
 some_writes o v m a b r h e l w =
     subst (λ (z : Option ℕ). Writes IsOptionalVariable z (optional_bytes z) r a b) (sym h)
-    (writes_as (IsBelow (largest + 1)) IsOptionalVariable (v + 1) (Some v) (number_bytes (v + 1)) a b r (λ i. i) (number_writes (largest + 1) (m + 1) (v + 1) a b r (ap (λ (n : ℕ). n + 1) e) (omega arith) (omega arith) w))
+    (writes_as (IsBelow (var_limit + 1)) IsOptionalVariable (v + 1) (Some v) (number_bytes (v + 1)) a b r (λ i. i) (number_writes (var_limit + 1) (m + 1) (v + 1) a b r (ap (λ (n : ℕ). n + 1) e) (omega arith) (omega arith) w))
 
-pub unit_writes : {E : Type 0} (u : ℕ × ℕ) (code : ℕ) (a b c : Sink) (r : Result (Unit {0}) E) → code ≡ u.0 → code < 2 * largest → u.1 < 2 ^ 64 → Sent a b (number_bytes code) → Sends (number_bytes u.1) r b c → Writes (Both IsLiteral IsHash) u (number_bytes u.0 ++ number_bytes u.1) r a c
+pub unit_writes : {E : Type 0} (u : ℕ × ℕ) (code : ℕ) (a b c : Sink) (r : Result (Unit {0}) E) → code ≡ u.0 → code < 2 * var_limit → u.1 < 2 ^ 64 → Sent a b (number_bytes code) → Sends (number_bytes u.1) r b c → Writes (Both IsLiteral IsHash) u (number_bytes u.0 ++ number_bytes u.1) r a c
 unit_writes u code a b c r e l h p w =
-    both_written IsLiteral IsHash u.0 u.1 (number_bytes u.0) (number_bytes u.1) a b c r (subst (λ (n : ℕ). Sent a b (number_bytes n)) e p) (spells_number (2 * largest) u.0 (omega arith) (omega arith)) (number_writes (2 ^ 64) u.1 u.1 b c r refl h (omega arith) w)
+    both_written IsLiteral IsHash u.0 u.1 (number_bytes u.0) (number_bytes u.1) a b c r (subst (λ (n : ℕ). Sent a b (number_bytes n)) e p) (spells_number (2 * var_limit) u.0 (omega arith) (omega arith)) (number_writes (2 ^ 64) u.1 u.1 b c r refl h (omega arith) w)

@@ -1,7 +1,7 @@
 -- A step has one spelling: the bytes that are written for it.
 use Rattle.std.proofs.Common.{◌≡◌, ℕ, suc, zero, ◌+◌, ◌*◌, ◌/◌, ◌%◌, ◌^◌, ◌<◌, ◌≤◌, Bool, true, false, Option, None, Some, List, [], ◌∷◌, ◌++◌, length, sym, ap, ap₂, subst, ◌∙◌, arith}
 use Rattle.std.proofs.Math.Nat.{pow-succ'}
-use Rattle.sat_base.specs.values.Literals.{largest}
+use Rattle.sat_base.specs.values.Literals.{var_limit}
 use Rattle.sat_base.specs.steps.Formats.{Format, Both, Items, ListOf}
 use Rattle.sat_base.specs.steps.Numbers.{IsNumber, IsBelow}
 use Rattle.sat_base.specs.steps.Steps.{Deletion, Redundant, Simplified, Satisfied, Step, SolverVarName, UserVarName, DeleteVar, ChangeSamplingMode, AddClause, AtClause, UnitClauses, DeleteClause, ChangeHashBits, Model, Assumptions, FailedAssumptions, End}
@@ -30,8 +30,8 @@ below_is : (limit n : ℕ) (text : List ℕ) → limit ≤ 2 ^ 64 → IsBelow li
 below_is limit n text l h = number_is 9 n text (omega (arith, h.1)) h.0
 
 optional_is : (v : Option ℕ) (text : List ℕ) → IsOptionalVariable v text → text ≡ optional_bytes v
-optional_is None text h = below_is (largest + 1) 0 text (omega arith) h
-optional_is (Some v) text h = below_is (largest + 1) (v + 1) text (omega arith) h
+optional_is None text h = below_is (var_limit + 1) 0 text (omega arith) h
+optional_is (Some v) text h = below_is (var_limit + 1) (v + 1) text (omega arith) h
 
 flag_is : (f : Bool) (text : List ℕ) → IsFlag f text → text ≡ flag_bytes f
 flag_is false text h = below_is 2 0 text (omega arith) h
@@ -53,7 +53,7 @@ list_is : (limit : ℕ) (ns text : List ℕ) → limit ≤ 2 ^ 64 → ListOf (Is
 list_is limit ns text l h = h.4 ∙ ap₂ ◌++◌ (below_is (2 ^ 64) (length ns) h.0 (omega arith) h.2) (items_are limit ns h.1 l h.3)
 
 pair_is : (p : ℕ × ℕ) (text : List ℕ) → Both IsLiteral IsHash p text → text ≡ number_bytes p.0 ++ number_bytes p.1
-pair_is p text h = h.4 ∙ ap₂ ◌++◌ (below_is (2 * largest) p.0 h.0 (omega arith) h.2) (below_is (2 ^ 64) p.1 h.1 (omega arith) h.3)
+pair_is p text h = h.4 ∙ ap₂ ◌++◌ (below_is (2 * var_limit) p.0 h.0 (omega arith) h.2) (below_is (2 ^ 64) p.1 h.1 (omega arith) h.3)
 
 pairs_are : (ps : List (ℕ × ℕ)) (text : List ℕ) → Items (Both IsLiteral IsHash) ps text → text ≡ pairs_bytes ps
 pairs_are [] text h = h
@@ -63,13 +63,13 @@ units_are : (ps : List (ℕ × ℕ)) (text : List ℕ) → AreHashedLiterals ps 
 units_are ps text h = h.4 ∙ ap₂ ◌++◌ (below_is (2 ^ 64) (length ps) h.0 (omega arith) h.2) (pairs_are ps h.1 h.3)
 
 literals_are : (ls text : List ℕ) → AreLiterals ls text → text ≡ list_bytes ls
-literals_are ls text h = list_is (2 * largest) ls text (omega arith) h
+literals_are ls text h = list_is (2 * var_limit) ls text (omega arith) h
 
 hashes_are : (hs text : List ℕ) → AreHashes hs text → text ≡ list_bytes hs
 hashes_are hs text h = list_is (2 ^ 64) hs text (omega arith) h
 
 variable_is : (v : ℕ) (text : List ℕ) → IsVariable v text → text ≡ number_bytes v
-variable_is v text h = below_is largest v text (omega arith) h
+variable_is v text h = below_is var_limit v text (omega arith) h
 
 fields_are : (step : Step) (text : List ℕ) → SpellsFields step text → text ≡ fields_bytes step
 fields_are (SolverVarName global solver) text h = both_is IsVariable IsOptionalVariable global solver _ _ text (variable_is global) (optional_is solver) h

@@ -3,7 +3,7 @@ use Rattle.std.proofs.Common.{◌≡◌, ℕ, ◌+◌, ◌*◌, ◌^◌, zero, s
 use Rattle.sat_base.specs.declared.steps.error.StepError.{StepError}
 use Rattle.sat_base.specs.declared.steps.error.StepError.TheVariants as errors
 use Rattle.sat_base.specs.steps.Formats.{Format, Both, Items, ListOf, OneForm}
-use Rattle.sat_base.specs.values.Literals.{largest}
+use Rattle.sat_base.specs.values.Literals.{var_limit}
 use Rattle.sat_base.specs.steps.Numbers.{IsBelow}
 use Rattle.sat_base.specs.steps.Steps.{Deletion, Redundant, Simplified, Satisfied, Step, SolverVarName, UserVarName, DeleteVar, ChangeSamplingMode, AddClause, AtClause, UnitClauses, DeleteClause, ChangeHashBits, Model, Assumptions, FailedAssumptions, End}
 use Rattle.sat_base.specs.steps.StepText.{IsVariable, IsOptionalVariable, IsLiteral, IsHash, IsFlag, IsWidth, IsDeletion, AreLiterals, AreHashes, AreHashedLiterals, tag_of, SpellsFields, SpellsStep, SpellsSteps}
@@ -36,7 +36,7 @@ one_list C F count one xs ys a b s t h k e =
     (h.4 ∙ ap (λ (z : List ℕ). z ++ h.1) p.0 ∙ ap (λ (z : List ℕ). k.0 ++ z) q.0 ∙ sym k.4, q.1)
 
 pub one_literals : OneForm AreLiterals
-one_literals = one_list (IsBelow (2 ^ 64)) IsLiteral (one_below (2 ^ 64)) (one_below (2 * largest))
+one_literals = one_list (IsBelow (2 ^ 64)) IsLiteral (one_below (2 ^ 64)) (one_below (2 * var_limit))
 
 pub one_hashes : OneForm AreHashes
 one_hashes = one_list (IsBelow (2 ^ 64)) IsHash (one_below (2 ^ 64)) (one_below (2 ^ 64))
@@ -45,16 +45,16 @@ pub one_both : {A B : Type 0} (F : Format A) (G : Format B) → OneForm F → On
 one_both F G one two = one_then F (λ _. G) one (λ _. two)
 
 pub one_unit : OneForm (Both IsLiteral IsHash)
-one_unit = one_both IsLiteral IsHash (one_below (2 * largest)) (one_below (2 ^ 64))
+one_unit = one_both IsLiteral IsHash (one_below (2 * var_limit)) (one_below (2 ^ 64))
 
 pub one_units : OneForm AreHashedLiterals
 one_units = one_list (IsBelow (2 ^ 64)) (Both IsLiteral IsHash) (one_below (2 ^ 64)) one_unit
 
 pub one_optional : OneForm IsOptionalVariable
-one_optional None None a b s t h k e = ((one_below (largest + 1) 0 0 a b s t h k e).0, refl)
-one_optional None (Some w) a b s t h k e = let p = one_below (largest + 1) 0 (w + 1) a b s t h k e in absurd (omega (arith, p.1))
-one_optional (Some v) None a b s t h k e = let p = one_below (largest + 1) (v + 1) 0 a b s t h k e in absurd (omega (arith, p.1))
-one_optional (Some v) (Some w) a b s t h k e = let p = one_below (largest + 1) (v + 1) (w + 1) a b s t h k e in (p.0, ap Some (omega (arith, p.1)))
+one_optional None None a b s t h k e = ((one_below (var_limit + 1) 0 0 a b s t h k e).0, refl)
+one_optional None (Some w) a b s t h k e = let p = one_below (var_limit + 1) 0 (w + 1) a b s t h k e in absurd (omega (arith, p.1))
+one_optional (Some v) None a b s t h k e = let p = one_below (var_limit + 1) (v + 1) 0 a b s t h k e in absurd (omega (arith, p.1))
+one_optional (Some v) (Some w) a b s t h k e = let p = one_below (var_limit + 1) (v + 1) (w + 1) a b s t h k e in (p.0, ap Some (omega (arith, p.1)))
 
 pub one_flag : OneForm IsFlag
 one_flag false false a b s t h k e = ((one_below 2 0 0 a b s t h k e).0, refl)
@@ -103,7 +103,7 @@ pub some_both : {A B : Type 0} (F : Format A) (G : Format B) → HasText F → H
 some_both F G t u = ((t.0, u.0), t.1 ++ u.1, (t.1, u.1, t.2, u.2, refl))
 
 pub some_unit : HasText (Both IsLiteral IsHash)
-some_unit = some_both IsLiteral IsHash (some_below (2 * largest) (omega arith)) (some_below (2 ^ 64) (omega arith))
+some_unit = some_both IsLiteral IsHash (some_below (2 * var_limit) (omega arith)) (some_below (2 ^ 64) (omega arith))
 
 pub some_lists : HasText (Both AreLiterals AreHashes)
 some_lists = some_both AreLiterals AreHashes (some_list IsLiteral) (some_list IsHash)
@@ -113,22 +113,22 @@ abbrev optional_at : ℕ → Option ℕ
 optional_at zero = None
 optional_at (suc n) = Some n
 
-optional_to : (n : ℕ) (t : List ℕ) → IsBelow (largest + 1) n t → IsOptionalVariable (optional_at n) t
+optional_to : (n : ℕ) (t : List ℕ) → IsBelow (var_limit + 1) n t → IsOptionalVariable (optional_at n) t
 optional_to zero t h = h
-optional_to (suc n) t h = let e : suc n ≡ n + 1 = omega arith in subst (λ (k : ℕ). IsBelow (largest + 1) k t) e h
+optional_to (suc n) t h = let e : suc n ≡ n + 1 = omega arith in subst (λ (k : ℕ). IsBelow (var_limit + 1) k t) e h
 
-optional_back : (o : Option ℕ) (t : List ℕ) → IsOptionalVariable o t → (n : ℕ) × IsBelow (largest + 1) n t
+optional_back : (o : Option ℕ) (t : List ℕ) → IsOptionalVariable o t → (n : ℕ) × IsBelow (var_limit + 1) n t
 optional_back None t h = (0, h)
 optional_back (Some v) t h = (v + 1, h)
 
-pub optional_fails : (e : StepError) (old new : Source) → ReadsValue (IsBelow (largest + 1)) (Err e) old new → ReadsValue IsOptionalVariable (Err e) old new
-optional_fails e old new h = reads_as (IsBelow (largest + 1)) IsOptionalVariable optional_at optional_to optional_back (Err e) old new h
+pub optional_fails : (e : StepError) (old new : Source) → ReadsValue (IsBelow (var_limit + 1)) (Err e) old new → ReadsValue IsOptionalVariable (Err e) old new
+optional_fails e old new h = reads_as (IsBelow (var_limit + 1)) IsOptionalVariable optional_at optional_to optional_back (Err e) old new h
 
-pub optional_none : (n : ℕ) (old new : Source) → n ≡ 0 → ReadsValue (IsBelow (largest + 1)) (Ok n) old new → ReadsValue IsOptionalVariable (Ok None) old new
-optional_none n old new e h = (h.0, h.1, subst (λ (k : ℕ). IsBelow (largest + 1) k h.0) e h.2)
+pub optional_none : (n : ℕ) (old new : Source) → n ≡ 0 → ReadsValue (IsBelow (var_limit + 1)) (Ok n) old new → ReadsValue IsOptionalVariable (Ok None) old new
+optional_none n old new e h = (h.0, h.1, subst (λ (k : ℕ). IsBelow (var_limit + 1) k h.0) e h.2)
 
-pub optional_some : (n v : ℕ) (old new : Source) → n ≡ v + 1 → ReadsValue (IsBelow (largest + 1)) (Ok n) old new → ReadsValue IsOptionalVariable (Ok (Some v)) old new
-optional_some n v old new e h = (h.0, h.1, subst (λ (k : ℕ). IsBelow (largest + 1) k h.0) e h.2)
+pub optional_some : (n v : ℕ) (old new : Source) → n ≡ v + 1 → ReadsValue (IsBelow (var_limit + 1)) (Ok n) old new → ReadsValue IsOptionalVariable (Ok (Some v)) old new
+optional_some n v old new e h = (h.0, h.1, subst (λ (k : ℕ). IsBelow (var_limit + 1) k h.0) e h.2)
 
 abbrev flag_at : ℕ → Bool
 flag_at zero = false
@@ -215,7 +215,7 @@ unknown_tag tag old new n p = ([], tag, p, (End, 13, [], ([], refl, refl)), λ o
 
 -- no step's text begins another's, and no text has two steps
 one_variables : OneForm (Both IsVariable IsOptionalVariable)
-one_variables = one_both IsVariable IsOptionalVariable (one_below largest) one_optional
+one_variables = one_both IsVariable IsOptionalVariable (one_below var_limit) one_optional
 
 one_lists : OneForm (Both AreLiterals AreHashes)
 one_lists = one_both AreLiterals AreHashes one_literals one_hashes
@@ -228,8 +228,8 @@ end_one _ y a b h k = absurd (omega (arith, h.0))
 behind_one : (step : Step) → OneForm (Behind (tag_of step))
 behind_one (SolverVarName v u) = form_one 1 (Both IsVariable IsOptionalVariable) (λ x. SolverVarName x.0 x.1) solver_form one_variables
 behind_one (UserVarName v u) = form_one 2 (Both IsVariable IsOptionalVariable) (λ x. UserVarName x.0 x.1) user_form one_variables
-behind_one (DeleteVar v) = form_one 3 IsVariable DeleteVar variable_form (one_below largest)
-behind_one (ChangeSamplingMode v f) = form_one 4 (Both IsVariable IsFlag) (λ x. ChangeSamplingMode x.0 x.1) mode_form (one_both IsVariable IsFlag (one_below largest) one_flag)
+behind_one (DeleteVar v) = form_one 3 IsVariable DeleteVar variable_form (one_below var_limit)
+behind_one (ChangeSamplingMode v f) = form_one 4 (Both IsVariable IsFlag) (λ x. ChangeSamplingMode x.0 x.1) mode_form (one_both IsVariable IsFlag (one_below var_limit) one_flag)
 behind_one (AddClause c) = form_one 5 AreLiterals AddClause clause_form one_literals
 behind_one (AtClause f c hs) = form_one 6 (Both IsFlag (Both AreLiterals AreHashes)) (λ x. AtClause x.0 x.1.0 x.1.1) at_form (one_both IsFlag (Both AreLiterals AreHashes) one_flag one_lists)
 behind_one (UnitClauses us) = form_one 7 AreHashedLiterals UnitClauses units_form one_units

@@ -20,7 +20,7 @@ use Rattle.sat_base.specs.steps.StepText.{tag_of, SpellsStep, SpellsSteps}
 use Rattle.sat_base.proofs.lemmas.device.ReadLemmas.{passes_none, passes_more, faults_later}
 use Rattle.sat_checker.specs.Accepts.{ready_after}
 use Rattle.sat_checker.specs.Looks.{most_looks}
-use Rattle.sat_checker.specs.CheckerView.{Seen, has_failed, looks_of, IsSettled, Stands, FailsBeforeStep, AnswersStep}
+use Rattle.sat_checker.specs.CheckerView.{Seen, has_failed, looks_of, IsSettled, HasAccepted, FailsBeforeStep, AnswersStep}
 use Rattle.sat_checker.specs.inner.DimacsPieces.{with_flag}
 use Rattle.sat_checker.specs.ProofView.{taken_after, most_bytes, most_looks_behind, GaveSteps, ReadsProofPart, StandsUnfailed, AnswersProof}
 use Rattle.sat_checker.specs.inner.ProofSteps.{CheckerAtSource, at_source, TriesStep, StepsOn, TakesStepsBeforeEnd, error_of, is_final, bytes_left}
@@ -166,10 +166,10 @@ none_waits (Some xs) ws e h = sym (ap (λ (z : List ℕ). z ++ xs) e) ∙ h
 
 module _ {L : Type 0} (Hears : L → Told → Result Unit ProcessingError → L → Type 0) (before : List Told) (begun : L) where
   -- the checker with its flag as it was
-  unfailed : (c : Seen L) (steps : List Step) → has_failed c ≡ false → Stands Hears before begun c steps → StandsUnfailed Hears before begun (with_flag false c) steps
+  unfailed : (c : Seen L) (steps : List Step) → has_failed c ≡ false → HasAccepted Hears before begun c steps → StandsUnfailed Hears before begun (with_flag false c) steps
   unfailed c steps h s = (record { kernel = record { accepted = s.kernel.accepted; records = s.kernel.records; kept = λ e. s.kernel.kept h }; heard = λ e. s.heard h }, refl)
 
-  pub failed_now : (c : Seen L) (steps : List Step) → has_failed c ≡ false → Stands Hears before begun c steps → FailsBeforeStep Hears before begun (with_flag true c) steps
+  pub failed_now : (c : Seen L) (steps : List Step) → has_failed c ≡ false → HasAccepted Hears before begun c steps → FailsBeforeStep Hears before begun (with_flag true c) steps
   failed_now c steps h s = record {
     fails = record {
       stands = record { kernel = record { accepted = s.kernel.accepted; records = s.kernel.records; kept = λ e. absurd (true≢false e) }; heard = λ e. absurd (true≢false e) };
@@ -179,7 +179,7 @@ module _ {L : Type 0} (Hears : L → Told → Result Unit ProcessingError → L 
   }
 
   pub unread_answer : {R : Type 0} (seen : R → Reader) (c : Seen L) (s t : StepReader R Buffers) (e : StepError) (step : Step) (earlier : List Step)
-      → has_failed c ≡ false → reading.has_reader_failed s ≡ false → Next seen s t (giving step (Err e)) → Stands Hears before begun c earlier
+      → has_failed c ≡ false → reading.has_reader_failed s ≡ false → Next seen s t (giving step (Err e)) → HasAccepted Hears before begun c earlier
       → StepsOn Hears before begun (Err (error_of e)) (at_source c (reader_source seen s)) (at_source (with_flag (is_final e) c) (reader_source seen t)) earlier
   unread_answer seen c s t unread_by.Ends step earlier h k n stands = ([], n.answer, live_none, record { goes_on = unfailed c earlier h stands; looks = refl })
   unread_answer seen c s t unread_by.Cut step earlier h k n stands = let a = n.answer in (a.0 ∷ a.1, a.2, a.3, record { goes_on = unfailed c earlier h stands; looks = refl })
@@ -192,7 +192,7 @@ module _ {L : Type 0} (Hears : L → Told → Result Unit ProcessingError → L 
   tried_looks : (a b c : CheckerAtSource L) (earlier xs : List Step) (x : Step) → TakesStepsBeforeEnd Hears before begun a b earlier xs → TriesStep b c (taken_after xs earlier) x → looks_of c.checker ≤ looks_of a.checker + most_looks_behind (xs ++ x ∷ []) earlier
   tried_looks a b c earlier xs x p t = looks_more (looks_of a.checker) (looks_of b.checker) (looks_of c.checker) _ _ _ p.looks t.looks (looks_one xs x earlier)
 
-  pub passed_none : (a : CheckerAtSource L) (earlier : List Step) → has_failed a.checker ≡ false → Stands Hears before begun a.checker earlier → TakesStepsBeforeEnd Hears before begun a a earlier []
+  pub passed_none : (a : CheckerAtSource L) (earlier : List Step) → has_failed a.checker ≡ false → HasAccepted Hears before begun a.checker earlier → TakesStepsBeforeEnd Hears before begun a a earlier []
   passed_none a earlier h s = record { text = []; passes = passes_none a.source; spelt = refl; unended = tt; goes_on = (s, h); looks = omega arith }
 
   pub passed_one : (a b c : CheckerAtSource L) (earlier xs : List Step) (x : Step) → TakesStepsBeforeEnd Hears before begun a b earlier xs → TriesStep b c (taken_after xs earlier) x → (x ≢ End) → StandsUnfailed Hears before begun c.checker (x ∷ taken_after xs earlier) → TakesStepsBeforeEnd Hears before begun a c earlier (xs ++ x ∷ [])
@@ -300,7 +300,7 @@ module _ {L : Type 0} (Hears : L → Told → Result Unit ProcessingError → L 
   stops a b c errors.HasFailed earlier xs e h k p s = absurd s
 
   -- behind an end nothing is pending
-  settled_end : (steps : List Step) (c : Seen L) → has_failed c ≡ false → Stands Hears before begun c (End ∷ steps) → IsSettled c
+  settled_end : (steps : List Step) (c : Seen L) → has_failed c ≡ false → HasAccepted Hears before begun c (End ∷ steps) → IsSettled c
   settled_end steps c h s = let k = s.kernel.kept h in none_pending c.kernel (End ∷ steps) k (end_settled steps)
 
   -- the end behind steps that were taken

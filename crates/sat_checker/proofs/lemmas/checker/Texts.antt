@@ -9,10 +9,10 @@ use Rattle.sat_base.specs.dimacs.Parsing.{Progress, no_progress, with_fed, cut_s
 use Rattle.sat_base.specs.declared.dimacs.error.DimacsError.{DimacsError}
 use Rattle.sat_base.specs.declared.dimacs.error.DimacsError.TheVariants as texts
 use Rattle.sat_base.proofs.lemmas.device.Given.{enough_all, enough_front}
-use Rattle.sat_base.proofs.lemmas.dimacs.Parsed.{Stands as HasFed, stops_on, ends_by}
+use Rattle.sat_base.proofs.lemmas.dimacs.Parsed.{HasAccepted as HasFed, stops_on, ends_by}
 use Rattle.sat_base.specs.steps.Steps.{Step, AddClause}
 use Rattle.sat_checker.specs.Accepts.{Accepts, stored_after, ready_after}
-use Rattle.sat_checker.specs.CheckerView.{Seen, has_failed, looks_of, Stands, FailsBeforeStep, BreaksAt, StarvesAt}
+use Rattle.sat_checker.specs.CheckerView.{Seen, has_failed, looks_of, HasAccepted, FailsBeforeStep, BreaksAt, StarvesAt}
 use Rattle.sat_checker.specs.announcements.Announcements.{Told}
 use Rattle.sat_checker.specs.ProofView.{taken_after, most_looks_behind, NoReadFailed, StandsUnfailed}
 use Rattle.sat_checker.specs.ClausesView.{additions, AddsFirstClauses, after_additions, AnswersClauses}
@@ -201,7 +201,7 @@ module _ {L : Type 0} (Hears : L → Told → Result Unit ProcessingError → L 
   joined (Err errors.IoError) a b d cs ds earlier p q = absurd q
   joined (Err errors.ParseError) a b d cs ds earlier p q = absurd q
 
-  pub none_added : (c : Seen L) (earlier : List Step) → has_failed c ≡ false → Stands Hears before begun c earlier → AnswersClauses Hears before begun (Ok tt) c c [] earlier
+  pub none_added : (c : Seen L) (earlier : List Step) → has_failed c ≡ false → HasAccepted Hears before begun c earlier → AnswersClauses Hears before begun (Ok tt) c c [] earlier
   none_added c earlier h s = (record { well = h; left = []; split = refl; looks = none_more (looks_of c) }, (s, h))
 
   unflagged : (mid : Seen L) (steps : List Step) → StandsUnfailed Hears before begun mid steps → StandsUnfailed Hears before begun (with_flag false mid) steps
@@ -216,7 +216,7 @@ module _ {L : Type 0} (Hears : L → Told → Result Unit ProcessingError → L 
 
   -- those that were read before were added, and these are tried
   module _ (old cur new : Seen L) (q : Progress) (earlier : List Step) (clauses : List (List ℕ)) (first : AnswersClauses Hears before begun (Ok tt) old cur q.taken earlier) (split : clauses_read q ≡ q.taken ++ clauses) where
-    pub behind_first : (r : Result Unit CheckerError) (last : Seen L) → ((steps : List Step) → Stands Hears before begun cur steps → AnswersClauses Hears before begun r cur last clauses steps) → AnswersClauses Hears before begun r old last (clauses_read q) earlier
+    pub behind_first : (r : Result Unit CheckerError) (last : Seen L) → ((steps : List Step) → HasAccepted Hears before begun cur steps → AnswersClauses Hears before begun r cur last clauses steps) → AnswersClauses Hears before begun r old last (clauses_read q) earlier
     behind_first r last a = subst (λ (z : List (List ℕ)). AnswersClauses Hears before begun r old last z earlier) (sym split) (joined r old cur last q.taken clauses earlier first (a (after_additions q.taken earlier) first.1.0))
 
   pub answers_dimacs : (result : Result Unit CheckerDimacsError) (answer : Result Unit DimacsError) (old cur new : Seen L) (from to : Reader) (q : Progress) (earlier : List Step) → NoReadFailed from to
@@ -243,12 +243,12 @@ module _ {L : Type 0} (Hears : L → Told → Result Unit ProcessingError → L 
 module _ {L : Type 0} (Hears : L → Told → Result Unit ProcessingError → L → Type 0) where
   -- the clauses of what was given before were added
   abbrev pub AddedBefore : Seen L → Seen L → Progress → Type 0
-  AddedBefore old cur p = (before : List Told) (begun : L) (earlier : List Step) → Stands Hears before begun old earlier → AnswersClauses Hears before begun (Ok tt) old cur p.taken earlier
+  AddedBefore old cur p = (before : List Told) (begun : L) (earlier : List Step) → HasAccepted Hears before begun old earlier → AnswersClauses Hears before begun (Ok tt) old cur p.taken earlier
 
   pub start : (c : Seen L) (p : Progress) → has_failed c ≡ false → p ≡ no_progress → AddedBefore c c p
   start c p h is = λ before begun earlier stands. subst (λ (z : List (List ℕ)). AnswersClauses Hears before begun (Ok tt) c c z earlier) (sym (ap (λ (z : Progress). z.taken) is)) (none_added Hears before begun c earlier h stands)
 
-  first_of : (old cur : Seen L) (p q : Progress) → AddedBefore old cur p → q.taken ≡ p.taken → (before : List Told) (begun : L) (earlier : List Step) → Stands Hears before begun old earlier → AnswersClauses Hears before begun (Ok tt) old cur q.taken earlier
+  first_of : (old cur : Seen L) (p q : Progress) → AddedBefore old cur p → q.taken ≡ p.taken → (before : List Told) (begun : L) (earlier : List Step) → HasAccepted Hears before begun old earlier → AnswersClauses Hears before begun (Ok tt) old cur q.taken earlier
   first_of old cur p q added e before begun earlier stands = subst (λ (z : List (List ℕ)). AnswersClauses Hears before begun (Ok tt) old cur z earlier) (sym e) (added before begun earlier stands)
 
   -- a piece without a fault

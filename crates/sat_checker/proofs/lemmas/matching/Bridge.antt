@@ -170,48 +170,48 @@ module _ (k : Checking) (sound : IsSound k) (j : Judge) (earlier : List Step) (l
     back = λ a m. (bridge.back a (m.0, m.1, m.2.1), clause_back k j earlier live bridge a m.0 m.1 ls c same.0 m.2.0);
   }
     where
-      low : (ks : List Literal) → EachSpelt (variable_of earlier) ks c → Below j.next_identity (map (over j) ks)
+      low : (ks : List Literal) → EachSpelt (variable_of earlier) ks c → Below j.identity_count (map (over j) ks)
       low [] h = tt
       low (l ∷ ks) h = (one l h.0.0 h.0.1, low ks h.1)
         where
-          one : (l : Literal) (code : ℕ) → Spells (variable_of earlier) l code → over j l / 2 < j.next_identity
+          one : (l : Literal) (code : ℕ) → Spells (variable_of earlier) l code → over j l / 2 < j.identity_count
           one l code s =
               let p = bridge.named l.name s.variable s.named in
-              let h : p.0 < j.next_identity = all_at (λ q. q.1 < j.next_identity) (s.variable, p.0) live bridge.below p.2 in
+              let h : p.0 < j.identity_count = all_at (λ q. q.1 < j.identity_count) (s.variable, p.0) live bridge.below p.2 in
               let e : over j l / 2 ≡ p.0 = ap (λ x. coded (or_zero x) l.positive / 2) p.1 ∙ coded_half p.0 l.positive in
               rw e h
 
-  pub named_new : (name v index : ℕ) → index + 1 ≡ name → k.knows earlier v ≡ false → k.Accepts earlier (UserVarName v (Some index)) → IsBridge k (with_name name j) (UserVarName v (Some index) ∷ earlier) ((v, j.next_identity) ∷ live)
+  pub named_new : (name v index : ℕ) → index + 1 ≡ name → k.knows earlier v ≡ false → k.Accepts earlier (UserVarName v (Some index)) → IsBridge k (with_name name j) (UserVarName v (Some index) ∷ earlier) ((v, j.identity_count) ∷ live)
   named_new name v index is unknown acc = record {
     accepted = (bridge.accepted, acc);
     once = (all_map (λ p. k.knows earlier p.0 ≡ true) (λ q. q.0 ≡ v → ⊥) live (λ p h e. both_ways (k.knows earlier v) unknown (ap (k.knows earlier) (sym e) ∙ h)) bridge.known, bridge.once);
     known = (sound.names earlier v index acc, still_known (UserVarName v (Some index)) acc (λ w e. cc));
-    below = (omega arith, all_map (λ p. p.1 < j.next_identity) (λ p. p.1 < j.next_identity + 1) live (λ p h. omega arith) bridge.below);
-    clauses_below = all_map (Below j.next_identity) (Below (j.next_identity + 1)) j.clauses (λ c h. all_map (λ l. l / 2 < j.next_identity) (λ l. l / 2 < j.next_identity + 1) c (λ l x. omega arith) h) bridge.clauses_below;
+    below = (omega arith, all_map (λ p. p.1 < j.identity_count) (λ p. p.1 < j.identity_count + 1) live (λ p h. omega arith) bridge.below);
+    clauses_below = all_map (Below j.identity_count) (Below (j.identity_count + 1)) j.clauses (λ c h. all_map (λ l. l / 2 < j.identity_count) (λ l. l / 2 < j.identity_count + 1) c (λ l x. omega arith) h) bridge.clauses_below;
     named = λ m w e. found m w (eqb (index + 1) m) refl e;
-    in_use = λ m i e. has m i (eqb name m) refl (sym (placed_found (record { name = name; identity = j.next_identity }) j.in_use m) ∙ e);
+    in_use = λ m i e. has m i (eqb name m) refl (sym (placed_found (record { name = name; identity = j.identity_count }) j.in_use m) ∙ e);
     distinct = λ m n w e f. one m n w (eqb (index + 1) m) refl (eqb (index + 1) n) refl e f;
-    to = λ a h. let m = bridge.to a h in (updated j.next_identity (a v) m.0, (sym (at_new a m.0), kept a m.0 m.1), updated_clauses m.0 j.next_identity (a v) j.clauses bridge.clauses_below m.2);
+    to = λ a h. let m = bridge.to a h in (updated j.identity_count (a v) m.0, (sym (at_new a m.0), kept a m.0 m.1), updated_clauses m.0 j.identity_count (a v) j.clauses bridge.clauses_below m.2);
     back = λ a m. bridge.back a (m.0, m.1.1, m.2);
   }
     where
       new : Named
-      new = record { name = name; identity = j.next_identity }
+      new = record { name = name; identity = j.identity_count }
 
-      found : (m w : ℕ) (b : Bool) → eqb (index + 1) m ≡ b → cond b (Some v) (variable_of earlier m) ≡ Some w → (i : ℕ) × (identity_of (with_name name j) m ≡ Some i) × Among (w, i) ((v, j.next_identity) ∷ live)
+      found : (m w : ℕ) (b : Bool) → eqb (index + 1) m ≡ b → cond b (Some v) (variable_of earlier m) ≡ Some w → (i : ℕ) × (identity_of (with_name name j) m ≡ Some i) × Among (w, i) ((v, j.identity_count) ∷ live)
       found m w true e f =
           let x : eqb name m ≡ true = eq-eqb name m (sym is ∙ eqb-true (index + 1) m e) in
           let vw : v ≡ w = cc in
-          (j.next_identity, placed_found (record { name = name; identity = j.next_identity }) j.in_use m ∙ ap (λ b. cond b (Some j.next_identity) (identity_in j.in_use m)) x, inl (ap (λ y. (y, j.next_identity)) (sym vw)))
+          (j.identity_count, placed_found (record { name = name; identity = j.identity_count }) j.in_use m ∙ ap (λ b. cond b (Some j.identity_count) (identity_in j.in_use m)) x, inl (ap (λ y. (y, j.identity_count)) (sym vw)))
       found m w false e f =
           let x : eqb name m ≡ false = ne_eqb name m (λ y. eqb-false (index + 1) m e (is ∙ y)) in
           let p = bridge.named m w f in
-          (p.0, placed_found (record { name = name; identity = j.next_identity }) j.in_use m ∙ ap (λ b. cond b (Some j.next_identity) (identity_in j.in_use m)) x ∙ p.1, inr p.2)
+          (p.0, placed_found (record { name = name; identity = j.identity_count }) j.in_use m ∙ ap (λ b. cond b (Some j.identity_count) (identity_in j.in_use m)) x ∙ p.1, inr p.2)
 
-      has : (m i : ℕ) (b : Bool) → eqb name m ≡ b → cond b (Some j.next_identity) (identity_in j.in_use m) ≡ Some i → (w : ℕ) × (variable_of (UserVarName v (Some index) ∷ earlier) m ≡ Some w) × Among (w, i) ((v, j.next_identity) ∷ live)
+      has : (m i : ℕ) (b : Bool) → eqb name m ≡ b → cond b (Some j.identity_count) (identity_in j.in_use m) ≡ Some i → (w : ℕ) × (variable_of (UserVarName v (Some index) ∷ earlier) m ≡ Some w) × Among (w, i) ((v, j.identity_count) ∷ live)
       has m i true e f =
           let x : eqb (index + 1) m ≡ true = eq-eqb (index + 1) m (is ∙ eqb-true name m e) in
-          let same : j.next_identity ≡ i = cc in
+          let same : j.identity_count ≡ i = cc in
           (v, ap (λ b. cond b (Some v) (variable_of earlier m)) x, inl (ap (λ y. (v, y)) (sym same)))
       has m i false e f =
           let x : eqb (index + 1) m ≡ false = ne_eqb (index + 1) m (λ y. eqb-false name m e (sym is ∙ y)) in
@@ -228,15 +228,15 @@ module _ (k : Checking) (sound : IsSound k) (j : Judge) (earlier : List Step) (l
       one m n w false x true y e f = absurd (fresh m (e ∙ sym f))
       one m n w false x false y e f = bridge.distinct m n w e f
 
-      at_new : (a b : Valuation) → updated j.next_identity (a v) b j.next_identity ≡ a v
-      at_new a b = let e : eqb j.next_identity j.next_identity ≡ true = eq-eqb j.next_identity j.next_identity refl in rw e refl
+      at_new : (a b : Valuation) → updated j.identity_count (a v) b j.identity_count ≡ a v
+      at_new a b = let e : eqb j.identity_count j.identity_count ≡ true = eq-eqb j.identity_count j.identity_count refl in rw e refl
 
-      kept : (a b : Valuation) → AgreesOnLive live a b → AgreesOnLive live a (updated j.next_identity (a v) b)
+      kept : (a b : Valuation) → AgreesOnLive live a b → AgreesOnLive live a (updated j.identity_count (a v) b)
       kept a b ag = both live ag bridge.below
         where
-          both : (ps : Live) → AgreesOnLive ps a b → AllByRecursion (λ p. p.1 < j.next_identity) ps → AgreesOnLive ps a (updated j.next_identity (a v) b)
+          both : (ps : Live) → AgreesOnLive ps a b → AllByRecursion (λ p. p.1 < j.identity_count) ps → AgreesOnLive ps a (updated j.identity_count (a v) b)
           both [] x y = tt
-          both (p ∷ ps) x y = (let e : eqb p.1 j.next_identity ≡ false = ne_eqb p.1 j.next_identity (λ z. let lt = y.0 in omega arith) in rw e x.0, both ps x.1 y.1)
+          both (p ∷ ps) x y = (let e : eqb p.1 j.identity_count ≡ false = ne_eqb p.1 j.identity_count (λ z. let lt = y.0 in omega arith) in rw e x.0, both ps x.1 y.1)
 
   pub unnamed : (name v : ℕ) → variable_of earlier name ≡ Some v → k.Accepts earlier (UserVarName v None) → IsBridge k (without_name name j) (UserVarName v None ∷ earlier) live
   unnamed name v at acc = record {
@@ -281,7 +281,7 @@ module _ (k : Checking) (sound : IsSound k) (j : Judge) (earlier : List Step) (l
     accepted = (bridge.accepted, acc);
     once = apart_without v live bridge.once;
     known = all_without v (λ p. k.knows earlier p.0 ≡ true) (λ p. k.knows (DeleteVar v ∷ earlier) p.0 ≡ true) live (λ p h n. elim (sound.keeps earlier (DeleteVar v) p.0 acc h) [ inl t ↦ t | inr e ↦ absurd (let x : v ≡ p.0 = cc in n (sym x)) ]) bridge.known;
-    below = all_without v (λ p. p.1 < j.next_identity) (λ p. p.1 < j.next_identity) live (λ p h n. h) bridge.below;
+    below = all_without v (λ p. p.1 < j.identity_count) (λ p. p.1 < j.identity_count) live (λ p h n. h) bridge.below;
     clauses_below = bridge.clauses_below;
     in_use = λ name i e. let p = bridge.in_use name i e in (p.0, p.1, among_without v (p.0, i) live (λ x. sound.nameless earlier v name bridge.accepted acc (p.1 ∙ ap Some x)) p.2);
     named = λ name w e. let p = bridge.named name w e in (p.0, p.1, among_without v (w, p.0) live (λ x. sound.nameless earlier v name bridge.accepted acc (e ∙ ap Some x)) p.2);

@@ -67,13 +67,13 @@ same_number m n e = ap (number 0) e
     number d (Some k) = k
 
 -- where an assumed literal stands
-pub record Stands (places : LitNumbers) (trail : List ℕ) (l : ℕ) : Type 0 where
+pub record HasAccepted (places : LitNumbers) (trail : List ℕ) (l : ℕ) : Type 0 where
   pub place : ℕ
   pub inside : place < length trail
   pub there : get_or trail place 0 ≡ l
   pub noted : number_at places l ≡ Some place
 
-pub stands : (places : LitNumbers) (trail : List ℕ) (l : ℕ) → AreTrailPlaces places trail → is_among trail l ≡ true → Stands places trail l
+pub stands : (places : LitNumbers) (trail : List ℕ) (l : ℕ) → AreTrailPlaces places trail → is_among trail l ≡ true → HasAccepted places trail l
 stands places trail l placed among =
     let c = contains_from_among trail l among in
     let there : get_or trail c.0 0 ≡ l = sym (get_or_default_zero trail c.0 l c.1) ∙ c.2 in

@@ -10,7 +10,7 @@ use Rattle.sat_checker.specs.Propagation.{PassesCheck, tautology, unit_true, con
 use Rattle.sat_checker.specs.Stored.{Stored, StoredUnit, is_unit, unit_literals, bucket}
 use Rattle.sat_checker.specs.Storing.{with_unit, with_contradiction, with_new_unit}
 use Rattle.sat_checker.specs.Accepts.{PassesByHashes, PassInTurn}
-use Rattle.sat_checker.specs.inner.InTurn.{with_supposed, stands_first, Supposes, PassBehind}
+use Rattle.sat_checker.specs.inner.InTurn.{with_supposed, stands_first, AssumesUnits, PassBehind}
 use Rattle.sat_checker.specs.inner.Look.{AssumesMore}
 use Rattle.sat_checker.specs.inner.Room.{LiteralsAndRoom, AgreesOn, HasRoomForAll, HasRoomForStored}
 use Rattle.sat_checker.specs.inner.SlotView.{bucket_of, live}
@@ -67,7 +67,7 @@ unit_with x l f = go (is_unit f x) (is_unit f (negated x))
         ∙ among-append (unit_literals f) (x ∷ []) l ∙ ap (λ b. is_unit f l || b) (or_false (eqb x l))
 
 -- one more is with_supposed
-module _ (t : LiteralsAndRoom) (before : List ℕ) (f : Stored) (x : ℕ) (s : Supposes t before f) (paired : (l : ℕ) → is_among t.room l ≡ is_among t.room (negated l)) where
+module _ (t : LiteralsAndRoom) (before : List ℕ) (f : Stored) (x : ℕ) (s : AssumesUnits t before f) (paired : (l : ℕ) → is_among t.room l ≡ is_among t.room (negated l)) where
   same_room : (l : ℕ) → is_among t.room l ≡ true → is_among (with_supposed x t) l ≡ is_unit (with_unit x f) l
   same_room l r = go (is_among t.room x) refl ∙ sym (unit_with x l f)
     where
@@ -135,7 +135,7 @@ module _ (t : LiteralsAndRoom) (before : List ℕ) (f : Stored) (x : ℕ) (s : S
           ap (λ y. cond (is_unit f y) (is_unit f l) (cond (is_unit f (negated y)) (is_unit f l) (is_unit f l || true))) is ∙ itself (is_unit f l) (is_unit f (negated l))
       go false k = another (is_unit f x) (is_unit f (negated x)) (is_unit f l) (is_unit f (negated l))
 
-  pub supposes_more : Supposes (record t { literals = with_supposed x t }) (before ++ x ∷ []) (with_unit x f)
+  pub supposes_more : AssumesUnits (record t { literals = with_supposed x t }) (before ++ x ∷ []) (with_unit x f)
   supposes_more = record { agrees = same_room; others = same_others }
 
 -- what is assumed stays below
@@ -154,7 +154,7 @@ agreeing room us vs l bs roomy same itself (conflict k) = conflict (rule_same ro
 
 -- the check of a unit that didn't come in without room is the definition's
 module _ (store : Store) (t : LiteralsAndRoom) (before : List ℕ) (l h : ℕ) (e : (not (is_among t.room l) && stands_first before l) ≡ false) where
-  itself : (f : Stored) → Supposes t before f → ((m : ℕ) → is_among t.literals m ≡ true → is_among t.room m ≡ true) → is_among t.literals l ≡ is_unit f l
+  itself : (f : Stored) → AssumesUnits t before f → ((m : ℕ) → is_among t.literals m ≡ true → is_among t.room m ≡ true) → is_among t.literals l ≡ is_unit f l
   itself f s stand = go (is_among t.room l) refl e
     where
       none : (b : Bool) → is_among t.literals l ≡ b → is_among t.room l ≡ false → b ≡ false
@@ -167,7 +167,7 @@ module _ (store : Store) (t : LiteralsAndRoom) (before : List ℕ) (l h : ℕ) (
 
   pub unit_exact : {E : Type 0} (r : Result Bool E) → ((m : ℕ) → is_among t.literals m ≡ true → is_among t.room m ≡ true)
       → IfOk r (λ yes'. HasRoomForStored t.room (live store.clauses) → (yes' ≡ true) ↔ PassesCheck t.literals (l ∷ []) (map (bucket_of store.clauses) (h ∷ [])))
-      → IfOk r (λ yes'. (f : Stored) → KeepsClauses store f → HasRoomForStored t.room f.clauses → Supposes t before f → (yes' ≡ true) ↔ PassesByHashes f (l ∷ []) (h ∷ []))
+      → IfOk r (λ yes'. (f : Stored) → KeepsClauses store f → HasRoomForStored t.room f.clauses → AssumesUnits t before f → (yes' ≡ true) ↔ PassesByHashes f (l ∷ []) (h ∷ []))
   unit_exact (Err x) stand k = tt
   unit_exact (Ok b) stand k = λ f c r s.
       let stored = subst (HasRoomForStored t.room) (sym c.clauses) r in
@@ -201,7 +201,7 @@ pub record Passing (store : Store) (room : List ℕ) (f : Stored) (all : List (�
   pub now : Stored
   pub kept : KeepsClauses store now
   pub roomy : HasRoomForStored room now.clauses
-  pub supposes : Supposes trail (firsts (take i all)) now
+  pub supposes : AssumesUnits trail (firsts (take i all)) now
   pub on : PassBehind now (drop i all) → PassBehind f all
   pub back : PassBehind f all → PassBehind now (drop i all)
 
@@ -238,23 +238,23 @@ module _ (store : Store) (room : List ℕ) (f : Stored) (all : List (ℕ × ℕ)
 
   -- it is judged over what is assumed then
   module _ (new : LiteralsAndRoom) (same : trail.room ≡ room) (paired : (l : ℕ) → is_among room l ≡ is_among room (negated l)) (e : new ≡ record trail { literals = with_supposed u.0 trail }) where
-    behind_supposes : Supposes new (firsts (take place all)) behind
+    behind_supposes : AssumesUnits new (firsts (take place all)) behind
     behind_supposes =
-        subst (λ t. Supposes t (firsts (take place all)) behind) (sym e) (subst (λ ls. Supposes (record trail { literals = with_supposed u.0 trail }) ls behind) (sym came)
+        subst (λ t. AssumesUnits t (firsts (take place all)) behind) (sym e) (subst (λ ls. AssumesUnits (record trail { literals = with_supposed u.0 trail }) ls behind) (sym came)
         (supposes_more trail (firsts (take i all)) p.now u.0 p.supposes (subst (λ r. (l : ℕ) → is_among r l ≡ is_among r (negated l)) (sym same) paired)))
 
-    pub behind_judged : (before : List (ℕ × ℕ)) → before ≡ take place all → (b : Bool) → ((g : Stored) → KeepsClauses store g → HasRoomForStored new.room g.clauses → Supposes new (firsts before) g → (b ≡ true) ↔ PassesByHashes g (v.0 ∷ []) (v.1 ∷ []))
+    pub behind_judged : (before : List (ℕ × ℕ)) → before ≡ take place all → (b : Bool) → ((g : Stored) → KeepsClauses store g → HasRoomForStored new.room g.clauses → AssumesUnits new (firsts before) g → (b ≡ true) ↔ PassesByHashes g (v.0 ∷ []) (v.1 ∷ []))
         → (b ≡ true) ↔ PassesByHashes behind (v.0 ∷ []) (v.1 ∷ [])
     behind_judged before front b exact =
         exact behind (kept_with store u.0 p.now p.kept) (subst (λ r. HasRoomForStored r behind.clauses) (sym (ap (λ (t : LiteralsAndRoom). t.room) e ∙ same)) (roomy_with room u.0 p.now p.roomy))
-        (subst (λ us. Supposes new (firsts us) behind) (sym front) behind_supposes)
+        (subst (λ us. AssumesUnits new (firsts us) behind) (sym front) behind_supposes)
 
     pub behind_passing : (j : ℕ) → j ≡ place → (more : LiteralsAndRoom) → more ≡ new → PassesByHashes behind (v.0 ∷ []) (v.1 ∷ []) → Passing store room f all j more
     behind_passing j k more m q = subst (λ n. Passing store room f all n more) (sym k) (record {
       now = behind;
       kept = kept_with store u.0 p.now p.kept;
       roomy = roomy_with room u.0 p.now p.roomy;
-      supposes = subst (λ t. Supposes t (firsts (take place all)) behind) (sym m) behind_supposes;
+      supposes = subst (λ t. AssumesUnits t (firsts (take place all)) behind) (sym m) behind_supposes;
       on = λ r. p.on (subst (PassBehind p.now) (sym first_split) (subst (PassInTurn behind) (sym next_split) (q, subst (PassBehind behind) next_split r)));
       back = λ r. subst (PassBehind behind) (sym next_split) (subst (PassInTurn behind) next_split (subst (PassBehind p.now) first_split (p.back r))).1;
     })

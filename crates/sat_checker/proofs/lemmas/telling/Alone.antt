@@ -3,7 +3,7 @@ use Rattle.std.proofs.Common.{ℕ, ◌≡◌, List, [], ◌∷◌, Result, Ok, E
 use Rattle.anyhow.specs.declared.error.Error.{Error}
 use Rattle.sat_base.specs.device.Device.{Reader}
 use Rattle.sat_base.specs.steps.Steps.{Step}
-use Rattle.sat_checker.specs.CheckerView.{Seen, seen, Stands, Fails, FailsRefusing, FailsBeforeStep, FailsAtListener, BreaksAt, StarvesAt, AnswersStep, AnswersDelayed}
+use Rattle.sat_checker.specs.CheckerView.{Seen, seen, HasAccepted, Fails, FailsRefusing, FailsBeforeStep, FailsAtListener, BreaksAt, StarvesAt, AnswersStep, AnswersDelayed}
 use Rattle.sat_checker.specs.ProofView.{ReadsProofPart, StandsUnfailed, AnswersProof}
 use Rattle.sat_checker.specs.announcements.Announcements.{Told}
 use Rattle.sat_checker.specs.telling.Hearing.{Hearers, hearers, takes_all, HearsAll, HearsUpTo, HearsSince, HearsSinceUpTo, HearsFirst}
@@ -48,10 +48,10 @@ module _ {V L : Type 0} (Hears : L → Told → Result Unit ProcessingError → 
   since_down_to e before ts a b h = (h.0, h.1, down_to e h.0 a b h.2)
 
   module _ (before : List Told) (begun : L) where
-    pub stands_up : (k : Kernel) (l : L) (steps : List Step) → Stands Hears before begun (seen k l) steps → Stands (HearsFirst takes_all Hears) before (hearers nobody begun) (seen k (hearers nobody l)) steps
+    pub stands_up : (k : Kernel) (l : L) (steps : List Step) → HasAccepted Hears before begun (seen k l) steps → HasAccepted (HearsFirst takes_all Hears) before (hearers nobody begun) (seen k (hearers nobody l)) steps
     stands_up k l steps s = record { kernel = s.kernel; heard = λ e. since_up before _ begun l (s.heard e) }
 
-    stands_down : (c : Seen (Hearers V L)) (steps : List Step) → Stands (HearsFirst takes_all Hears) before (hearers nobody begun) c steps → Stands Hears before begun (others_of c) steps
+    stands_down : (c : Seen (Hearers V L)) (steps : List Step) → HasAccepted (HearsFirst takes_all Hears) before (hearers nobody begun) c steps → HasAccepted Hears before begun (others_of c) steps
     stands_down c steps s = record { kernel = s.kernel; heard = λ e. since_down before _ (hearers nobody begun) c.listeners (s.heard e) }
 
     fails_down : (c : Seen (Hearers V L)) (steps : List Step) → Fails (HearsFirst takes_all Hears) before (hearers nobody begun) c steps → Fails Hears before begun (others_of c) steps

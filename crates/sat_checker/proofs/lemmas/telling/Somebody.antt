@@ -5,7 +5,7 @@ use Rattle.anyhow.specs.declared.error.Error.{Error}
 use Rattle.sat_base.specs.device.Device.{Reader}
 use Rattle.sat_base.specs.steps.Steps.{Step, AddClause}
 use Rattle.sat_checker.specs.KernelView as kernels
-use Rattle.sat_checker.specs.CheckerView.{Seen, Stands, FailsAtListener, BreaksAt, AnswersStep, AnswersDelayed, ChecksStep, ChecksDelayed}
+use Rattle.sat_checker.specs.CheckerView.{Seen, HasAccepted, FailsAtListener, BreaksAt, AnswersStep, AnswersDelayed, ChecksStep, ChecksDelayed}
 use Rattle.sat_checker.specs.ClausesView.{AnswersClauses, AddsClauses}
 use Rattle.sat_checker.specs.DimacsView.{AnswersDimacs, AddsDimacs, DimacsFaultOfSomebody}
 use Rattle.sat_checker.specs.ProofView.{AnswersProof, ChecksProof}
@@ -26,7 +26,7 @@ module _ {P T : Type 0} (Takes : P → Told → Result Unit Error → P → Type
   abbrev before : Seen (Processing P T) → List Step → List Told
   before old steps = told_by old.kernel.state.formula.status.conflict steps
 
-  stands_here : (old : Seen (Processing P T)) (steps : List Step) → kernels.Stands old.kernel steps → Stands (HearsEach Takes Reads) (before old steps) old.listeners old steps
+  stands_here : (old : Seen (Processing P T)) (steps : List Step) → kernels.HasAccepted old.kernel steps → HasAccepted (HearsEach Takes Reads) (before old steps) old.listeners old steps
   stands_here old steps s = record { kernel = s; heard = λ e. ([], sym (append-nil (before old steps)), refl) }
 
   module _ (earlier : List Told) (begun : Processing P T) (e : ProcessingError) where
@@ -39,7 +39,7 @@ module _ {P T : Type 0} (Takes : P → Told → Result Unit Error → P → Type
       | inr b ↦ broken _ new _ b.1 none
     ]
 
-  module _ (old new : Seen (Processing P T)) (steps : List Step) (s : kernels.Stands old.kernel steps) where
+  module _ (old new : Seen (Processing P T)) (steps : List Step) (s : kernels.HasAccepted old.kernel steps) where
     pub step_faults : (r : Result Unit CheckerError) (step : Step) → ChecksStep (HearsEach Takes Reads) r old step new → IfErr r (FaultOfSomebody old.listeners)
     step_faults r step t = go r (t (before old steps) old.listeners steps (stands_here old steps s))
       where

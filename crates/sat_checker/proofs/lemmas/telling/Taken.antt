@@ -62,7 +62,7 @@ equal_alike g h e v = record { name = ap (λ (x : Variable). x.name) (e v); mode
 
 -- A UNIT CONFLICT
 
-module _ (old : Kernel) (steps : List Step) (s : kernels.Stands old steps) (well : kernels.has_failed old ≡ false) (one other : ℕ) (waits : old.state.formula.status.conflict ≡ Some (one, other)) where
+module _ (old : Kernel) (steps : List Step) (s : kernels.HasAccepted old steps) (well : kernels.has_failed old ≡ false) (one other : ℕ) (waits : old.state.formula.status.conflict ≡ Some (one, other)) where
   abbrev kept : KeepsAfter old.state steps
   kept = s.kept well
 
@@ -71,7 +71,7 @@ module _ (old : Kernel) (steps : List Step) (s : kernels.Stands old steps) (well
 
   -- what is stored then
   pub settled_stands : (new : Kernel) → (KeepsFormula (refiled_in old.state.formula) kept.formula → KeepsFormula (refiled_in new.state.formula) (settled kept.formula))
-      → new.state.variables ≡ old.state.variables → new.state.assumed ≡ old.state.assumed → new.records ≡ old.records → kernels.Stands new steps
+      → new.state.variables ≡ old.state.variables → new.state.assumed ≡ old.state.assumed → new.records ≡ old.records → kernels.HasAccepted new steps
   settled_stands new k v a r = record {
     accepted = s.accepted;
     records = r ∙ s.records;
@@ -165,12 +165,12 @@ told_now (Some units) steps e = refl
 told_now None steps e =
     sym (ap (λ d. told_after steps ++ told_over (stored_after steps) (delayed_by (stored_after steps).next_id d)) e ∙ append-nil (told_after steps))
 
-module _ (old : Kernel) (steps : List Step) (s : kernels.Stands old steps) (well : kernels.has_failed old ≡ false) (none : old.state.formula.status.conflict ≡ None) where
+module _ (old : Kernel) (steps : List Step) (s : kernels.HasAccepted old steps) (well : kernels.has_failed old ≡ false) (none : old.state.formula.status.conflict ≡ None) where
   pub ready_kept : KeepsStored old.state (ready_after steps)
   ready_kept = let k = s.kept well in subst (KeepsStored old.state) (ready_is old steps k none) k.keeps
 
   module _ (step : Step) where
-    pub step_stands : (new : Kernel) → Accepts (ready_after steps) step → KeepsStored new.state (effect step (ready_after steps)) → new.records ≡ records_in new.state.formula.status → kernels.Stands new (step ∷ steps)
+    pub step_stands : (new : Kernel) → Accepts (ready_after steps) step → KeepsStored new.state (effect step (ready_after steps)) → new.records ≡ records_in new.state.formula.status → kernels.HasAccepted new (step ∷ steps)
     step_stands new a k r = record {
       accepted = (s.accepted, a);
       records = r ∙ records_same new (effect step (ready_after steps)) k.formula;
@@ -232,7 +232,7 @@ noted_told begun noted hears step f old new was same none put adds h =
 
 -- A STEP THAT IS TOLD
 
-module _ (old : Kernel) (steps : List Step) (s : kernels.Stands old steps) (well : kernels.has_failed old ≡ false) (none : old.state.formula.status.conflict ≡ None) (step : Step) where
+module _ (old : Kernel) (steps : List Step) (s : kernels.HasAccepted old steps) (well : kernels.has_failed old ≡ false) (none : old.state.formula.status.conflict ≡ None) (step : Step) where
   -- it couldn't be stored
   pub short_judges : (new : Kernel) (error : StoreError) → TurnsIf (Err error) (Accepts (ready_after steps) step) (KeepsStored new.state (effect step (ready_after steps))) (effect step (ready_after steps)) → new.records ≡ old.records → kernels.has_failed new ≡ true
       → kernels.AnswersStep (Err (failure_of error)) old step new steps
@@ -318,7 +318,7 @@ turned_spent (Err stores.CounterEnd) K g e h t = t
 
 -- what an answer to the settling of a unit conflict says
 module _ {L : Type 0} (Hears : L → Told → Result Unit ProcessingError → L → Type 0) (before : List Told) (begun : L) (old new : Kernel) (l m : L) (steps : List Step) (well : kernels.has_failed old ≡ false) (looks : kernels.looks_of new ≡ kernels.looks_of old) where
-  pub delayed_ok : kernels.Stands new steps → kernels.has_failed new ≡ false → new.state.formula.status.conflict ≡ None → HearsSince Hears before (all_told_after steps) begun m → AnswersDelayed Hears before begun (Ok tt) (seen old l) (seen new m) steps
+  pub delayed_ok : kernels.HasAccepted new steps → kernels.has_failed new ≡ false → new.state.formula.status.conflict ≡ None → HearsSince Hears before (all_told_after steps) begun m → AnswersDelayed Hears before begun (Ok tt) (seen old l) (seen new m) steps
   delayed_ok k f n h = (well, looks, record { kernel = k; heard = λ e. subst (λ c. HearsSince Hears before (told_by c steps) begun m) (sym n) h }, f, n)
 
   pub delayed_err : LeavesConflict steps → kernels.Fails new steps → (f : ProcessingError) → HearsSinceUpTo Hears f before (all_told_after steps) begun m → AnswersDelayed Hears before begun (Err (fault_of f)) (seen old l) (seen new m) steps

@@ -5,7 +5,7 @@ use Rattle.std.proofs.lemmas.List.{take_all, length-take-le}
 use Rattle.std.proofs.lemmas.List.Sums.{sum_by_push}
 use Rattle.std.proofs.lemmas.List.Elements.{filter-append, filter_passes, All-contains, Contains-push_cases}
 use Rattle.std.specs.List.{Contains, sum_by, count_by}
-use Rattle.sat_store.specs.clause.Buffer.{IsClause, Laid, SameClauseAt, AppendsClause, ChangesAt, header_at, lits_at}
+use Rattle.sat_store.specs.clause.Buffer.{IsClause, HoldsClauses, SameClauseAt, AppendsClause, ChangesAt, header_at, lits_at}
 use Rattle.sat_store.specs.clause.Header.{Header, index_of}
 use Rattle.sat_store.specs.declared.clause.tier.Tier.{Tier}
 use Rattle.sat_store.specs.declared.clause.tier.Tier.TheVariants.{Irred, Core, Mid, Local}
@@ -27,7 +27,7 @@ pub live_is : (words refs : List ℕ) (o : ℕ) → Contains (live_refs words re
 live_is words refs o h = All-contains (λ x. is_live words x ≡ true) (live_refs words refs) o (filter_passes (is_live words) refs) h
 
 -- a header of the same length, as `set_header` writes it
-pub puts_header : (words words' refs : List ℕ) (o : ℕ) (h : Header) → Laid words refs → Contains refs o → h.len ≡ (header_at words o).len →
+pub puts_header : (words words' refs : List ℕ) (o : ℕ) (h : Header) → HoldsClauses words refs → Contains refs o → h.len ≡ (header_at words o).len →
     header_at words' o ≡ h → lits_at words' o ≡ take h.len (lits_at words o) → ChangesAt words words' o → PutsHeader words words' refs o h
 puts_header words words' refs o h laid has len header lits change = record {
   size = change.size;

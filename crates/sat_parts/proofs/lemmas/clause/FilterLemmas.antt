@@ -4,7 +4,7 @@ use Rattle.std.proofs.lemmas.Bool.{cases_eq}
 use Rattle.std.proofs.lemmas.List.{length_push, take_all, get_or-take}
 use Rattle.std.specs.List.{Contains, items_where_true}
 use Rattle.std.specs.List.Retain.{ReturnsInTurn, IsFiltered}
-use Rattle.sat_store.specs.clause.Buffer.{Laid, SameClauseAt, header_at}
+use Rattle.sat_store.specs.clause.Buffer.{HoldsClauses, SameClauseAt, header_at}
 use Rattle.sat_store.specs.clause.Header.{Header}
 use Rattle.sat_parts.specs.clause.Db.{AreRising, PutsHeader, is_live, live_refs}
 use Rattle.sat_parts.specs.clause.Filtered.{SameClausesAt, Filtering}
@@ -12,7 +12,7 @@ use Rattle.sat_parts.proofs.lemmas.clause.ListLemmas.{place_in, at_place, in_hea
 use Rattle.sat_parts.proofs.lemmas.clause.DbLemmas.{live_is}
 use Rattle.sat_parts.proofs.lemmas.prop.BuildLemmas.{live_in, live_place, live_next, live_skip}
 
-keeps_itself : (words refs : List ℕ) (p : ℕ) → Laid words refs → Contains refs p → SameClauseAt words words p
+keeps_itself : (words refs : List ℕ) (p : ℕ) → HoldsClauses words refs → Contains refs p → SameClauseAt words words p
 keeps_itself words refs p laid c = record { clause = laid.clauses p c; header = refl; lits = refl }
 
 keeps_on : (a b c : List ℕ) (p : ℕ) → SameClauseAt a b p → SameClauseAt b c p → SameClauseAt a c p
@@ -21,7 +21,7 @@ keeps_on a b c p x y = record { clause = y.clause; header = y.header ∙ x.heade
 live_kept : (old new : List ℕ) (p : ℕ) → SameClauseAt old new p → is_live old p ≡ is_live new p
 live_kept old new p k = ap (λ (h : Header). not h.deleted) (sym k.header)
 
-pub filtering_none : {F : Type 0} (R : F → ℕ → Bool → F → Type 0) (f : F) (words refs : List ℕ) → Laid words refs → Filtering R f words words refs 0 f
+pub filtering_none : {F : Type 0} (R : F → ℕ → Bool → F → Type 0) (f : F) (words refs : List ℕ) → HoldsClauses words refs → Filtering R f words words refs 0 f
 filtering_none R f words refs laid = record {
   answers = [];
   size = refl;

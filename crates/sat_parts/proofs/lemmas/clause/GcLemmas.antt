@@ -6,7 +6,7 @@ use Rattle.std.proofs.lemmas.List.Sums.{sum_by-cons, sum_by_push, count_by-le-le
 use Rattle.std.proofs.lemmas.List.Elements.{filter-append, All-filter, All-contains_itself, All-contains}
 use Rattle.std.specs.List.{Contains, filter, sum_by, count_by}
 use Rattle.sat_base.specs.values.Literals.{variable}
-use Rattle.sat_store.specs.clause.Buffer.{IsClause, Laid, SameClauseAt, AppendsClause, header_at, lits_at}
+use Rattle.sat_store.specs.clause.Buffer.{IsClause, HoldsClauses, SameClauseAt, AppendsClause, header_at, lits_at}
 use Rattle.sat_store.specs.clause.Header.{Header, index_of}
 use Rattle.sat_store.proofs.lemmas.clause.Laying.{same_count, clause_within, ends_before}
 use Rattle.sat_parts.specs.declared.prop.graph.ImplNode.{ImplNode}
@@ -56,7 +56,7 @@ sums_along f g (x ∷ xs) (y ∷ ys) n h =
     omega (arith, sum_by-cons g y ys, sum_by-cons f x xs)
 
 -- an addition keeps the words of the clauses before it, and its own words come to them
-packed_more : (w r w2 : List ℕ) (c : ℕ) (h : Header) (ls : List ℕ) → Laid w r → length w ≡ words_of w r → AppendsClause w w2 c h ls → length w2 ≡ words_of w2 (r ++ c ∷ [])
+packed_more : (w r w2 : List ℕ) (c : ℕ) (h : Header) (ls : List ℕ) → HoldsClauses w r → length w ≡ words_of w r → AppendsClause w w2 c h ls → length w2 ≡ words_of w2 (r ++ c ∷ [])
 packed_more w r w2 c h ls laid packed added =
     let kept : words_of w2 r ≡ words_of w r =
     sums_along (λ o. length (lits_at w o) + 3) (λ o. length (lits_at w2 o) + 3) r r refl
@@ -76,7 +76,7 @@ copying_skip words refs w r i h lt dead =
       packed = h.packed;
     }
 
-copies_more : (words live w r w2 : List ℕ) (c o : ℕ) → Copies words live w r → Laid w r → IsClause words o → AppendsClause w w2 c (header_at words o) (lits_at words o) → Copies words (live ++ o ∷ []) w2 (r ++ c ∷ [])
+copies_more : (words live w r w2 : List ℕ) (c o : ℕ) → Copies words live w r → HoldsClauses w r → IsClause words o → AppendsClause w w2 c (header_at words o) (lits_at words o) → Copies words (live ++ o ∷ []) w2 (r ++ c ∷ [])
 copies_more words live w r w2 c o h laid clause added =
     let n : length (live ++ o ∷ []) ≡ length live + 1 = length_push live o in
     let m : length (r ++ c ∷ []) ≡ length r + 1 = length_push r c in
@@ -98,7 +98,7 @@ copies_more words live w r w2 c o h laid clause added =
       ];
     }
 
-pub copying_more : (words refs w r w2 : List ℕ) (i c o : ℕ) → Laid words refs → AreRising refs → Copying words refs w r i → i < length refs → o ≡ get_or refs i 0 → is_live words o ≡ true →
+pub copying_more : (words refs w r w2 : List ℕ) (i c o : ℕ) → HoldsClauses words refs → AreRising refs → Copying words refs w r i → i < length refs → o ≡ get_or refs i 0 → is_live words o ≡ true →
     AppendsClause w w2 c (header_at words o) (lits_at words o) → Copying words refs w2 (r ++ c ∷ []) (i + 1)
 copying_more words refs w r w2 i c o laid rising h lt o_is live added =
     let live_i : List ℕ = live_refs words (take i refs) in

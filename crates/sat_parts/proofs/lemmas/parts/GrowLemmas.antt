@@ -3,7 +3,7 @@ use Rattle.std.proofs.Common.{ℕ, ◌≡◌, ◌≢◌, ◌+◌, ◌-◌, ◌*�
 use Rattle.std.proofs.lemmas.Bool.{cases_lt}
 use Rattle.std.proofs.lemmas.List.{get_or-replicate, length-replicate, get_or_past, take_all, length-append}
 use Rattle.std.specs.List.{Contains}
-use Rattle.sat_base.specs.values.Literals.{largest, variable, negated}
+use Rattle.sat_base.specs.values.Literals.{var_limit, variable, negated}
 use Rattle.sat_store.specs.clause.Buffer.{lits_at}
 use Rattle.sat_store.specs.heap.Vsids.{Queue, may_pick, with_variables}
 use Rattle.sat_parts.specs.declared.prop.graph.ImplNode.{ImplNode}
@@ -79,7 +79,7 @@ left_shrunk n a g t l le small h = elim h [
   })
 ]
 
-agrees_grown : (n : ℕ) (a : Values) (g : List ImplNode) (t : Trailed) → Agrees (state_of a g t) → length a.current ≤ n → n ≤ largest → Agrees (grown n a g t)
+agrees_grown : (n : ℕ) (a : Values) (g : List ImplNode) (t : Trailed) → Agrees (state_of a g t) → length a.current ≤ n → n ≤ var_limit → Agrees (grown n a g t)
 agrees_grown n a g t h le top =
     let s : State = state_of a g t in
     let small : length g ≤ n = omega (arith, h.nodes) in
@@ -100,7 +100,7 @@ agrees_grown n a g t h le top =
 
 -- all parts get more variables
 pub sound_grown : (words : List ℕ) (db : Db) (w : Watching) (b : Binaries) (a : Values) (g : List ImplNode) (t : Trailed) (q : Queue) (n : ℕ) →
-    RoundInvariant words db w b a g t q → length a.current ≤ n → n ≤ largest →
+    RoundInvariant words db w b a g t q → length a.current ≤ n → n ≤ var_limit →
     RoundInvariant words db (with_lists (2 * n) w) (with_literals (2 * n) b) (with_var_count n a) (with_nodes n g) (record t { room = max t.room n }) (with_variables n q)
 sound_grown words db w b a g t q n h le top =
     let s : State = state_of a g t in

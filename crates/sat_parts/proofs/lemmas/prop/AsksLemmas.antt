@@ -1,7 +1,7 @@
 -- From what propagation asks of all parts to what it asks of the queue's walk, and back.
 use Rattle.std.proofs.Common.{ℕ, ◌≡◌, inl, inr, ◌+◌, ◌/◌, ◌<◌, List, length, sym, subst, arith, true, false, Result, Ok, Err}
 use Rattle.std.proofs.lemmas.Bool.{cases_Bool}
-use Rattle.sat_store.specs.clause.Buffer.{Laid}
+use Rattle.sat_store.specs.clause.Buffer.{HoldsClauses}
 use Rattle.sat_parts.specs.declared.prop.graph.Conflict.{Conflict}
 use Rattle.sat_parts.specs.clause.Orders.{SameUpToOrder}
 use Rattle.sat_parts.specs.clause.Db.{live_refs}
@@ -22,7 +22,7 @@ ready_from words refs w w' implied s top h x = record {
   firsts = h.firsts;
 }
 
-asks_from : (words refs : List ℕ) (w : Watching) (implied : List (List ℕ)) (s : State) (top : ℕ) (live : List ℕ) → Laid words refs → live_refs words refs ≡ live →
+asks_from : (words refs : List ℕ) (w : Watching) (implied : List (List ℕ)) (s : State) (top : ℕ) (live : List ℕ) → HoldsClauses words refs → live_refs words refs ≡ live →
     ReadyBelow words live w.lists implied s top → PropagationInvariant words refs w implied s top
 asks_from words refs w implied s top live laid e h = record {
   laid = laid;
@@ -38,7 +38,7 @@ asks_from words refs w implied s top live laid e h = record {
 }
 
 pub gives_from : (refs : List ℕ) (implied : List (List ℕ)) (words : List ℕ) (s : State) (words' : List ℕ) (s' : State) (w : Watching) (r : Result (Unit {0}) Conflict) →
-    Laid words refs → Propagated (live_refs words refs) implied words s words' s' w.lists r → PropagationResult refs implied words s words' s' w r
+    HoldsClauses words refs → Propagated (live_refs words refs) implied words s words' s' w.lists r → PropagationResult refs implied words s words' s' w r
 gives_from refs implied words s words' s' w (Ok x) laid h =
     let k : SameUpToOrder words words' refs = h.moves.reorders.all refs (λ o g. live_in words refs o g) laid in
     let e : live_refs words' refs ≡ live_refs words refs = live_same words words' refs k.headers in

@@ -5,7 +5,7 @@ use Rattle.std.proofs.lemmas.List.Elements.{Contains-append_left, Contains-push,
 use Rattle.std.specs.List.{Contains, filter}
 use Rattle.std.specs.List.Retain.{IsFiltered}
 use Rattle.sat_base.specs.values.Literals.{negated, variable}
-use Rattle.sat_store.specs.clause.Buffer.{Laid, lits_at}
+use Rattle.sat_store.specs.clause.Buffer.{HoldsClauses, lits_at}
 use Rattle.sat_store.proofs.lemmas.clause.Laying.{laid_among}
 use Rattle.sat_parts.specs.declared.prop.graph.Reason.{Reason}
 use Rattle.sat_parts.specs.declared.prop.graph.Reason.TheVariants.{Unit as NoCause, Long}
@@ -27,7 +27,7 @@ use Rattle.sat_parts.proofs.lemmas.prop.BuildLemmas.{live_in}
 use Rattle.sat_parts.proofs.lemmas.prop.WalkLemmas.{more_watch, new_watch, good_lists, at_two}
 
 -- fewer clauses are live, each with its literals as before, and each reason of the trail is one of them
-pub asks_fewer : (words refs words' refs' : List ℕ) (w w' : Watching) (implied : List (List ℕ)) (s : State) (top : ℕ) → PropagationInvariant words refs w implied s top → Laid words' refs' →
+pub asks_fewer : (words refs words' refs' : List ℕ) (w w' : Watching) (implied : List (List ℕ)) (s : State) (top : ℕ) → PropagationInvariant words refs w implied s top → HoldsClauses words' refs' →
     ((o : ℕ) → Contains (live_refs words' refs') o → Contains (live_refs words refs) o × (lits_at words' o ≡ lits_at words o)) →
     length w'.lists ≡ length w.lists → (w'.enabled ≡ true → AreWatched words' (live_refs words' refs') w'.lists (length s.values)) →
     ((i o : ℕ) → i < length s.trail.lits → (node s (lit_at s i)).reason ≡ Long o → Contains (live_refs words' refs') o) →
@@ -85,7 +85,7 @@ lists_added o a b w = elim (cases_Bool w.enabled) [
 
 -- watch lists that are kept up have the new clause too
 watched_added : (words words' : List ℕ) (db db' : Db) (o count : ℕ) (header : Header) (lits : List ℕ) (w : Watching) → AddsLongClause words db words' db' o header lits →
-    Laid words db.refs → 3 ≤ length lits → ((k : ℕ) → k < length lits → get_or lits k 0 < 2 * count) → w.enabled ≡ true → AreWatched words (live_refs words db.refs) w.lists count →
+    HoldsClauses words db.refs → 3 ≤ length lits → ((k : ℕ) → k < length lits → get_or lits k 0 < 2 * count) → w.enabled ≡ true → AreWatched words (live_refs words db.refs) w.lists count →
     AreWatched words' (live_refs words' db'.refs) (with_clause_watches o (get_or lits 0 0) (get_or lits 1 0) w).lists count
 watched_added words words' db db' o count header lits w x laid three below on h =
     let a : ℕ = get_or lits 0 0 in
@@ -213,7 +213,7 @@ asks_removed words refs w old new s top h x =
 
 -- after a pass over the clauses that kept the reasons of the trail
 pub asks_filtered : {F : Type 0} (R : F → ℕ → Bool → F → Type 0) (f : F) (words refs words' : List ℕ) (w : Watching) (implied : List (List ℕ)) (s : State) (top : ℕ) →
-    PropagationInvariant words refs w implied s top → IsFiltered R f (live_refs words refs) (live_refs words' refs) → SameClausesAt words words' (live_refs words' refs) → Laid words' refs →
+    PropagationInvariant words refs w implied s top → IsFiltered R f (live_refs words refs) (live_refs words' refs) → SameClausesAt words words' (live_refs words' refs) → HoldsClauses words' refs →
     ((i o : ℕ) → i < length s.trail.lits → (node s (lit_at s i)).reason ≡ Long o → Contains (live_refs words' refs) o) →
     PropagationInvariant words' refs (record w { enabled = false }) implied s top
 asks_filtered R f words refs words' w implied s top h x kept laid reasons =

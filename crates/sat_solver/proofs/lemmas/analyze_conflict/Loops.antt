@@ -55,7 +55,7 @@ minimal_over words s conflict first low rest xs w h = record {
 }
 
 -- where the loop stands: the literals kept so far, and those from place at on
-pub record Stands (words : List ℕ) (s : State) (conflict : List ℕ) (first low kept at : ℕ) (clause : List ℕ) (w : Work) : Type 0 where
+pub record HasAccepted (words : List ℕ) (s : State) (conflict : List ℕ) (first low kept at : ℕ) (clause : List ℕ) (w : Work) : Type 0 where
   pub minimal : Minimal words s conflict first low (take kept clause ++ drop at clause) w
   pub some : 1 ≤ kept
   pub behind : kept ≤ at
@@ -65,7 +65,7 @@ pub record Stands (words : List ℕ) (s : State) (conflict : List ℕ) (first lo
 pub split_rest : (kept at : ℕ) (clause : List ℕ) → at < length clause → take kept clause ++ drop at clause ≡ take kept clause ++ get_or clause at 0 ∷ drop (at + 1) clause
 split_rest kept at clause lt = ap (λ (ys : List ℕ). take kept clause ++ ys) (drop_more clause at 0 lt)
 
-pub split : (words : List ℕ) (s : State) (conflict : List ℕ) (first low kept at : ℕ) (clause : List ℕ) (w : Work) → Stands words s conflict first low kept at clause w →
+pub split : (words : List ℕ) (s : State) (conflict : List ℕ) (first low kept at : ℕ) (clause : List ℕ) (w : Work) → HasAccepted words s conflict first low kept at clause w →
     Minimal words s conflict first low (take kept clause ++ get_or clause at 0 ∷ drop (at + 1) clause) w
 split words s conflict first low kept at clause w h = subst (λ (xs : List ℕ). Minimal words s conflict first low xs w) (split_rest kept at clause h.within) h.minimal
 
@@ -77,7 +77,7 @@ in_rest kept at clause le lt =
     (kept, omega arith, get_or_at (take kept clause) c (drop (at + 1) clause) c kept n)
 
 -- the literal that is looked at isn't the first one
-pub not_first : (words : List ℕ) (s : State) (conflict : List ℕ) (first low kept at : ℕ) (clause : List ℕ) (w : Work) → Stands words s conflict first low kept at clause w → get_or clause at 0 ≢ first
+pub not_first : (words : List ℕ) (s : State) (conflict : List ℕ) (first low kept at : ℕ) (clause : List ℕ) (w : Work) → HasAccepted words s conflict first low kept at clause w → get_or clause at 0 ≢ first
 not_first words s conflict first low kept at clause w h e =
     let c : ℕ = get_or clause at 0 in
     let rest : List ℕ = take kept clause ++ c ∷ drop (at + 1) clause in
@@ -88,7 +88,7 @@ not_first words s conflict first low kept at clause w h e =
     let same : 0 ≡ kept = (split words s conflict first low kept at clause w h).distinct 0 kept (omega arith) (omega arith) (a ∙ sym e ∙ sym b) in
     omega (arith, h.some)
 
-pub lower_here : (words : List ℕ) (s : State) (conflict : List ℕ) (first low kept at : ℕ) (clause : List ℕ) (w : Work) → Stands words s conflict first low kept at clause w → IsLower s (current_level s) w.flags (get_or clause at 0)
+pub lower_here : (words : List ℕ) (s : State) (conflict : List ℕ) (first low kept at : ℕ) (clause : List ℕ) (w : Work) → HasAccepted words s conflict first low kept at clause w → IsLower s (current_level s) w.flags (get_or clause at 0)
 lower_here words s conflict first low kept at clause w h =
     elim ((split words s conflict first low kept at clause w h).lower (get_or clause at 0) (in_rest kept at clause h.behind h.within)) [
       | inl e ↦ absurd (not_first words s conflict first low kept at clause w h e)
@@ -132,7 +132,7 @@ kept_list kept at c clause le lt =
     ∙ ap (λ (ys : List ℕ). (take kept clause ++ c ∷ []) ++ ys) (drop-set-lt (at + 1) clause kept c (omega arith))
     ∙ append_assoc (take kept clause) (c ∷ []) (drop (at + 1) clause)
 
-pub goes_kept : (words : List ℕ) (s : State) (conflict : List ℕ) (first low kept at : ℕ) (old w w1 w2 : Work) → KeepsFront old w → Stands words s conflict first low kept at w.clause w → SameWork w w1 →
+pub goes_kept : (words : List ℕ) (s : State) (conflict : List ℕ) (first low kept at : ℕ) (old w w1 w2 : Work) → KeepsFront old w → HasAccepted words s conflict first low kept at w.clause w → SameWork w w1 →
     w2 ≡ record w1 { clause = set w1.clause kept (get_or w.clause at 0) } → Goes words s conflict first low (kept + 1) (at + 1) (length w.clause) old w2
 goes_kept words s conflict first low kept at old w w1 w2 f h same e =
     let c : ℕ = get_or w.clause at 0 in
@@ -149,7 +149,7 @@ goes_kept words s conflict first low kept at old w w1 w2 f h same e =
       head = get_or-set_other w.clause kept 0 c 0 other ∙ h.head;
     })
 
-pub goes_dropped : (words : List ℕ) (s : State) (conflict : List ℕ) (first low kept at : ℕ) (old w w' : Work) → KeepsFront old w → Stands words s conflict first low kept at w.clause w →
+pub goes_dropped : (words : List ℕ) (s : State) (conflict : List ℕ) (first low kept at : ℕ) (old w w' : Work) → KeepsFront old w → HasAccepted words s conflict first low kept at w.clause w →
     MarksMore (used_up (negated (get_or w.clause at 0)) w) w' → Searching words s conflict first low w' (length w'.used) → Goes words s conflict first low kept (at + 1) (length w.clause) old w'
 goes_dropped words s conflict first low kept at old w w' f h m x =
     let c : ℕ = get_or w.clause at 0 in

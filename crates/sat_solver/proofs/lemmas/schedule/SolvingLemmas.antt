@@ -40,7 +40,7 @@ use Rattle.sat_solver.specs.cdcl.Joint.{assumed_in, SameVarsAndAssumptions, glob
 use Rattle.sat_solver.specs.cdcl.Learning.{LastAdvances}
 use Rattle.sat_solver.specs.clause.Reduced.{Reduced, Reduces, ReducesBy}
 use Rattle.sat_solver.specs.cdcl.Rounds.{RoundLearns, RoundSays}
-use Rattle.sat_solver.specs.schedule.Solving.{AdvanceTimes, StandsStill, words_in, values_in, ComesByRounds, GoesAlong, EndSays, Ended, BreaksRounds}
+use Rattle.sat_solver.specs.schedule.Solving.{AdvanceTimes, StandsStill, words_in, values_in, ComesByRounds, TakesNoRounds, EndSays, Ended, BreaksRounds}
 use Rattle.sat_solver.proofs.lemmas.cdcl.TurnLemmas.{moved_refl, moved_trans, ready_moved, free_moved, leaves_refl}
 use Rattle.sat_parts.specs.parts.Frame.{SameClauses, AddsNoUnit}
 use Rattle.sat_solver.proofs.lemmas.fits.LearnedLemmas.{fits_undone}
@@ -141,7 +141,7 @@ module _ {W L : Type 0} {G : Ghosts L} (seen : W → Writer) where
       shares = shares_moved n a.search undone.search h.shares (record { globals = refl; lits = refl; size = carries.size });
     }
 
-    pub undone_goes : GoesAlong seen a undone
+    pub undone_goes : TakesNoRounds seen a undone
     undone_goes s n m k g = record {
       steps = g.steps;
       adds = g.adds;

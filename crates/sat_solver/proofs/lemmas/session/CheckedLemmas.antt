@@ -5,7 +5,7 @@ use Rattle.std.proofs.Math.Bool.{Bool-set}
 use Rattle.std.proofs.Math.Logic.{∥∥₁_elim, ∥∥₁_prop}
 use Rattle.anyhow.specs.declared.error.Error.{Error}
 use Rattle.sat_base.specs.steps.Steps.{Step, ChangeHashBits}
-use Rattle.sat_checker.specs.CheckerView.{Stands, ChecksDelayed, AddsListener, kernel_of, seen_of}
+use Rattle.sat_checker.specs.CheckerView.{HasAccepted, ChecksDelayed, AddsListener, kernel_of, seen_of}
 use Rattle.sat_checker.specs.KernelView.{IsSettled, has_failed}
 use Rattle.sat_checker.specs.KernelView as kernels
 use Rattle.sat_checker.specs.announcements.Announcements.{Told}
@@ -53,7 +53,7 @@ unended_none (step ∷ steps) e = ended_next step steps (unended_none steps) e
 
 module _ {L : Type 0} (takes : L → Told → Result Unit Error → L → Type 0) where
   -- nothing was taken yet, and these listen
-  pub fed_first : (own : Checked L) (added : List L) → own.bits ≡ 64 → kernels.Stands (kernel_of own.checker) [] → has_failed (kernel_of own.checker) ≡ false → kernels.IsSettled (kernel_of own.checker) → AreJustListeners added (who_listens own) → IsFed takes own added []
+  pub fed_first : (own : Checked L) (added : List L) → own.bits ≡ 64 → kernels.HasAccepted (kernel_of own.checker) [] → has_failed (kernel_of own.checker) ≡ false → kernels.IsSettled (kernel_of own.checker) → AreJustListeners added (who_listens own) → IsFed takes own added []
   fed_first own added e s g settled listed = record {
     written = [];
     cut = subst (IsNarrowedTo [] []) (sym e) none_yet;
@@ -157,7 +157,7 @@ module _ {L : Type 0} (takes : L → Told → Result Unit Error → L → Type 0
         allowed = subst MayAll kept (unended_may (step ∷ steps) may)
 
         Fed : Type 0
-        Fed = Stands (Hears takes) [] f.begun (seen_of new.checker) (narrowed mid.bits step ∷ f.written) × (has_failed (kernel_of new.checker) ≡ false)
+        Fed = HasAccepted (Hears takes) [] f.begun (seen_of new.checker) (narrowed mid.bits step ∷ f.written) × (has_failed (kernel_of new.checker) ≡ false)
 
         by : Fed → IsFed takes new added (step ∷ steps)
         by h = record {
@@ -208,7 +208,7 @@ module _ {L : Type 0} (takes : L → Told → Result Unit Error → L → Type 0
     begun = who_listens new;
     were = listed_more added one (who_listens old) (who_listens new) (ap listeners_of (heard_none (told_by conflict fed.written) fed.begun (who_listens old) silent (fed.stands.heard fed.going)) ∙ fed.were) listed;
     stands = record {
-      kernel = subst (λ k. kernels.Stands k fed.written) (sym kernel) fed.stands.kernel;
+      kernel = subst (λ k. kernels.HasAccepted k fed.written) (sym kernel) fed.stands.kernel;
       heard = λ f. ([], subst (λ (k : Kernel). told_by k.state.formula.status.conflict fed.written ≡ []) (sym kernel) silent, refl);
     };
     going = ap has_failed kernel ∙ fed.going;
@@ -369,7 +369,7 @@ module _ {L : Type 0} (takes : L → Told → Result Unit Error → L → Type 0
   anew_fed new added steps u f = (let k = fed_ended takes new added steps u f in ∣ ((λ _. k), fed_heard takes new added steps k) ∣₁)
 
   -- a checker began anew
-  pub anew : (old new : Checked L) (added given : List L) → added ≡ given → given ≡ (listeners_of (who_listens old)).processors → new.bits ≡ 64 → kernels.Stands (kernel_of new.checker) [] → has_failed (kernel_of new.checker) ≡ false
+  pub anew : (old new : Checked L) (added given : List L) → added ≡ given → given ≡ (listeners_of (who_listens old)).processors → new.bits ≡ 64 → kernels.HasAccepted (kernel_of new.checker) [] → has_failed (kernel_of new.checker) ≡ false
       → kernels.IsSettled (kernel_of new.checker) → listeners_of (who_listens new) ≡ record { processors = given; transcripts = [] } → BeginsAnew takes old new added
   anew old new added given e f bits stands going settled listed = record {
     listed = e ∙ f;

@@ -4,7 +4,7 @@ use Rattle.std.proofs.lemmas.Bool.{true≢false}
 use Rattle.anyhow.specs.declared.error.Error.{Error}
 use Rattle.sat_base.specs.steps.Steps.{Step, ChangeHashBits}
 use Rattle.sat_checker.specs.Accepts.{stored_after}
-use Rattle.sat_checker.specs.CheckerView.{Seen, Stands, BreaksAt, StarvesAt, AnswersStep, AnswersDelayed, has_failed}
+use Rattle.sat_checker.specs.CheckerView.{Seen, HasAccepted, BreaksAt, StarvesAt, AnswersStep, AnswersDelayed, has_failed}
 use Rattle.sat_checker.specs.KernelView.{IsSettled}
 use Rattle.sat_checker.specs.Stored.{Stored}
 use Rattle.sat_checker.specs.Storing.{settled, settled_by}
@@ -82,7 +82,7 @@ module _ {L : Type 0} (takes : L → Told → Result Unit Error → L → Type 0
 
     -- an answer to a step that may be written
     pub answered : (r : Result (Unit {0}) CheckerError) (step : Step) → MayAll (step ∷ written) → AnswersStep (Hears takes) [] begun r old step new written
-        → OrCause r (Stands (Hears takes) [] begun new (step ∷ written) × (has_failed new ≡ false)) (Broke step)
+        → OrCause r (HasAccepted (Hears takes) [] begun new (step ∷ written) × (has_failed new ≡ false)) (Broke step)
     answered (Ok x) step may a = (a.1.stands, a.1.goes_on)
     answered (Err errors.OutOfMemory) step may a = (tt, starved_at step a.1)
     answered (Err errors.CounterEnd) step may a = (tt, inl (inl (step, a.1), a.2.heard))
@@ -95,7 +95,7 @@ module _ {L : Type 0} (takes : L → Told → Result Unit Error → L → Type 0
 
     -- an answer to what waits
     pub answered_delayed : (r : Result (Unit {0}) CheckerError) → AnswersDelayed (Hears takes) [] begun r old new written
-        → OrCause r (Stands (Hears takes) [] begun new written × (has_failed new ≡ false) × IsSettled new.kernel) (FailedOf takes begun new.listeners written)
+        → OrCause r (HasAccepted (Hears takes) [] begun new written × (has_failed new ≡ false) × IsSettled new.kernel) (FailedOf takes begun new.listeners written)
     answered_delayed (Ok x) a = (a.2, a.3, a.4)
     answered_delayed (Err errors.OutOfMemory) a = (tt, inr (inr a.3.heard))
     answered_delayed (Err errors.CounterEnd) a = (tt, (inr a.2, a.3.heard))

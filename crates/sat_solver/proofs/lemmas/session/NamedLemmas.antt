@@ -186,5 +186,5 @@ none_hidden_means j variable_of steps may n = record {
     put b h c m =
         let r = all_at (λ c. (d : List ℕ) × Among d j.clauses × SameLits c (map (with_var n.global) d)) c (added steps) n.added_from m in
         clause_back n.global (λ v. b (n.identity v)) b c r.0
-        (all_from (λ l. b (n.identity (n.global (variable l))) ≡ b (variable l)) r.0 (λ l i. ap b (n.back (variable l) (all_at (λ l. variable l < j.next_identity) l r.0 (all_at (AllByRecursion (λ l. variable l < j.next_identity)) r.0 j.clauses n.clauses_below r.1) i))))
+        (all_from (λ l. b (n.identity (n.global (variable l))) ≡ b (variable l)) r.0 (λ l i. ap b (n.back (variable l) (all_at (λ l. variable l < j.identity_count) l r.0 (all_at (AllByRecursion (λ l. variable l < j.identity_count)) r.0 j.clauses n.clauses_below r.1) i))))
         r.2.1 (all_at (λ d. clause_true b d ≡ true) r.0 j.clauses h r.1)

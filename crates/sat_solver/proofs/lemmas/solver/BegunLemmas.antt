@@ -44,7 +44,7 @@ module _ {W L : Type 0} {G : Ghosts L} (seen : W → Writer) (old : Solver W L G
     width = λ n. s.width (λ e. n (e ∙ adds.history));
     same = s.same;
     users = s.users;
-    counts = record { on = rounds_begun new.clock.steps s.counts.on; round = s.counts.round; spent = s.counts.spent; answered = subst (λ ss. (j : Judge) (live : Live) → Agree old.names ss j live → 2 ^ (2 * j.next_identity + 3) ≤ rounds_left old → new.state ≡ states.Unknown → ⊥) adds.history s.counts.answered };
+    counts = record { on = rounds_begun new.clock.steps s.counts.on; round = s.counts.round; spent = s.counts.spent; answered = subst (λ ss. (j : Judge) (live : Live) → Agree old.names ss j live → 2 ^ (2 * j.identity_count + 3) ≤ rounds_left old → new.state ≡ states.Unknown → ⊥) adds.history s.counts.answered };
     known = λ k. (let h = s.known k in (adds_more seen [] [] old.core.proof p new.core.proof adds h.0, h.1));
   }
 

@@ -29,7 +29,7 @@ use Rattle.sat_solver.specs.declared.solver.load.Loading.{Loading}
 use Rattle.sat_solver.specs.cdcl.Going.{IsFault, IsFaultOr}
 use Rattle.sat_solver.specs.solver.Taking.{TookClause, TookAssumptions, BreaksNames, BreaksNamesOr}
 use Rattle.sat_solver.specs.solver.Whole.{HasFullStore, SolverInvariant, IsWholeOf, StateSays, AskGoesOn, steps_in}
-use Rattle.sat_solver.specs.solver.Adding.{TookIn, with_added, due_for_clause, ForgetsAnswer, AreSampled, IsBeforeDrat, AddsClause, ReplacesAssumptions, AssumesOrRefuses, due_for_asked}
+use Rattle.sat_solver.specs.solver.Adding.{AddClauseEffect, with_added, due_for_clause, ForgetsAnswer, AreSampled, IsBeforeDrat, AddsClause, ReplacesAssumptions, AssumesOrRefuses, due_for_asked}
 use Rattle.sat_solver.specs.clause.Activity.{AreDecays}
 use Rattle.sat_solver.specs.solver.Asking.{AskedIn}
 use Rattle.sat_solver.specs.variables.Room.{HasRoom, users_in}
@@ -90,7 +90,7 @@ module _ {W L : Type 0} {G : Ghosts L} (seen : W → Writer) (s : Solver W L G) 
     due_by states.Unsat k d = absurd (k refl)
 
     -- a clause came in, and a valuation may be left
-    pub took_left : TookClause seen s.names n' s.core b user true → TookIn seen s (added states.Unknown) user
+    pub took_left : TookClause seen s.names n' s.core b user true → AddClauseEffect seen s (added states.Unknown) user
     took_left t = record {
       whole = record {
         stands = t.does.stands;
@@ -118,7 +118,7 @@ module _ {W L : Type 0} {G : Ghosts L} (seen : W → Writer) (s : Solver W L G) 
     }
 
     -- or none is
-    pub took_none : TookClause seen s.names n' s.core b user false → TookIn seen s (added states.Unsat) user
+    pub took_none : TookClause seen s.names n' s.core b user false → AddClauseEffect seen s (added states.Unsat) user
     took_none t = record {
       whole = record {
         stands = t.does.stands;
@@ -182,7 +182,7 @@ module _ {W L : Type 0} {G : Ghosts L} (seen : W → Writer) (s : Solver W L G) 
   unsat = subst (λ st. StateSays st s.core s.names s.asked s.assumed.items s.told.failed_core.items) known whole.says
 
   -- a clause was left out
-  pub left_in : LeavesOut s.names n' (steps_in s) (steps_of p) user → TookIn seen s (record s { core = record s.core { proof = p }; names = n' }) user
+  pub left_in : LeavesOut s.names n' (steps_in s) (steps_of p) user → AddClauseEffect seen s (record s { core = record s.core { proof = p }; names = n' }) user
   left_in l = record {
     whole = record {
       stands = l.does.stands;

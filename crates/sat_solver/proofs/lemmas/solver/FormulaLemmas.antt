@@ -8,7 +8,7 @@ use Rattle.sat_base.specs.dimacs.Parsing.{Progress, with_fed, clauses_read, all_
 use Rattle.sat_base.specs.declared.dimacs.error.DimacsError.{DimacsError}
 use Rattle.sat_base.specs.declared.dimacs.error.DimacsError.TheVariants as texts
 use Rattle.sat_base.proofs.lemmas.device.Given.{enough_all, enough_front}
-use Rattle.sat_base.proofs.lemmas.dimacs.Parsed.{Stands as HasFed}
+use Rattle.sat_base.proofs.lemmas.dimacs.Parsed.{HasAccepted as HasFed}
 use Rattle.sat_checker.specs.DimacsView.{AreRead, FailsBehind}
 use Rattle.sat_checker.specs.ProofView.{NoReadFailed}
 use Rattle.sat_checker.proofs.lemmas.checker.Texts.{fed_more, open_read, read_by_piece, read_by_end, clean_by_end, fails_by_piece, fails_by_end}

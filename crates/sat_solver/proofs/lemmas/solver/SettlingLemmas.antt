@@ -101,7 +101,7 @@ module _ {W L : Type 0} {G : Ghosts L} (seen : W → Writer) (s : Solver W L G) 
     users = refl;
     config = refl;
     counts = record {
-      on = record { more = omega arith; within = omega arith; few = λ j live a. (let q = pow_pos (2 * j.next_identity + 3) in omega arith) };
+      on = record { more = omega arith; within = omega arith; few = λ j live a. (let q = pow_pos (2 * j.identity_count + 3) in omega arith) };
       round = λ u. absurd (n u);
       spent = λ u. absurd (n u);
       answered = λ j live a fits u. n u;
@@ -410,7 +410,7 @@ module _ {W L : Type 0} {G : Ghosts L} (seen : W → Writer) (s : Solver W L G) 
   goes_on = subst (λ st. StateSays st s.core s.names s.asked s.assumed.items s.told.failed_core.items) unknown whole.says
 
   -- no more variables than identities
-  over_identities : (j : Judge) (live : Live) → Agree s.names (steps_in s) j live → values_in s.core ≤ j.next_identity
+  over_identities : (j : Judge) (live : Live) → Agree s.names (steps_in s) j live → values_in s.core ≤ j.identity_count
   over_identities j live agree =
       let shares = goes_on.joined.shares in
       let size = shares.size in
@@ -423,7 +423,7 @@ module _ {W L : Type 0} {G : Ghosts L} (seen : W → Writer) (s : Solver W L G) 
   rounds_on = record {
     more = on.more;
     within = on.within;
-    few = λ j live agree. (let p = pow_mono (2 * values_in s.core + 3) (2 * j.next_identity + 3) (let le = over_identities j live agree in omega arith) in let f = on.few in omega arith);
+    few = λ j live agree. (let p = pow_mono (2 * values_in s.core + 3) (2 * j.identity_count + 3) (let le = over_identities j live agree in omega arith) in let f = on.few in omega arith);
   }
 
   -- an answer was found
@@ -437,7 +437,7 @@ module _ {W L : Type 0} {G : Ghosts L} (seen : W → Writer) (s : Solver W L G) 
   pub settled_without : clock.steps ≡ s.clock.steps + steps_left s.core.config.max_steps s.clock.steps →
       ((n : ℕ) → values_in s.core ≤ n → 2 ^ (2 * n + 3) ≤ steps_left s.core.config.max_steps s.clock.steps → ⊥) →
       FoundNone seen (clock.steps - s.clock.steps) s.names m s.core core → Settled seen s (record s { core = core; names = m; told = told; clock = clock })
-  settled_without spent answered found = settled_none seen s whole goes_on core m told clock scale unknown (record { on = rounds_on; round = λ u k. absurd (k unknown); spent = λ u. spent; answered = λ j live a fits u. answered j.next_identity (over_identities j live a) fits }) found
+  settled_without spent answered found = settled_none seen s whole goes_on core m told clock scale unknown (record { on = rounds_on; round = λ u k. absurd (k unknown); spent = λ u. spent; answered = λ j live a fits u. answered j.identity_count (over_identities j live a) fits }) found
 
 -- a target was flushed
 pub flushed_by : {W L : Type 0} {G : Ghosts L} (seen : W → Writer) (p q : Proof W L G) → FlushesAndTells seen p q → IsFlushed (target_of seen q)

@@ -3,7 +3,7 @@ use Rattle.std.proofs.Common.{ℕ, zero, suc, ◌+◌, ◌≡◌, ◌≢◌, ◌
 use Rattle.std.proofs.lemmas.Bool.{cases_eq, true≢false}
 use Rattle.std.proofs.lemmas.List.{length-set, set_comm}
 use Rattle.std.specs.List.{Contains}
-use Rattle.sat_base.specs.values.Literals.{largest}
+use Rattle.sat_base.specs.values.Literals.{var_limit}
 use Rattle.sat_base.specs.steps.Steps.{Step}
 use Rattle.sat_store.specs.heap.Vsids.{Queue, with_available}
 use Rattle.sat_parts.specs.clause.Db.{live_refs}
@@ -169,5 +169,5 @@ pub frees_all : (a b : Variables) (from to : List Step) (c : Search) (used : Lis
 frees_all a b from to c used k p e q h = subst (λ z. FreesSome a b from to c (record c { parts = z })) (ap (λ n. freed_below used n c.parts) e ∙ sym q) h
 
 -- as many may be picked, and no more than there can be
-pub marks_fit : (n : Variables) (steps : List Step) (c : Search) → MayFree n steps c → length c.parts.assignment.current ≤ largest
+pub marks_fit : (n : Variables) (steps : List Step) (c : Search) → MayFree n steps c → length c.parts.assignment.current ≤ var_limit
 marks_fit n steps c may = omega (arith, may.shares.size, may.shares.few, may.stands.tidy.indices, may.stands.tidy.within)

@@ -15,7 +15,7 @@ use Rattle.sat_parts.specs.parts.Frame.{Reordered, Dropped, Shortened, AddsOrigi
 use Rattle.sat_solver.specs.declared.context.Search.{Search}
 use Rattle.sat_solver.specs.cdcl.Joint.{IsSearch}
 use Rattle.sat_solver.specs.unit_simplify.Cutting.{Gathers, PutsPart, puts_long, puts_pair, Replaces}
-use Rattle.sat_solver.specs.unit_simplify.Flat.{Lighter, Lightens}
+use Rattle.sat_solver.specs.unit_simplify.Flat.{IsStrengthened, StrengthensClause}
 use Rattle.sat_solver.specs.unit_simplify.Looks.{IsOpenClause}
 use Rattle.sat_solver.proofs.lemmas.unit_simplify.GatherLemmas.{moved_size}
 use Rattle.sat_solver.proofs.lemmas.unit_simplify.LighterLemmas.{lighter_refl}
@@ -67,15 +67,15 @@ others_stored p q o ls two s values x n c =
     (subst (λ (d : Db). Contains (live_refs p.clauses d.refs) x) same.1 (subst (λ (ws : List ℕ). Contains (live_refs ws q.db.refs) x) same.0 c), open_kept p q x (ap (λ ws. lits_at ws x) same.0) values)
 
 -- a clause without values
-pub lightens_none : (s : Session) (c : Search) (o : ℕ) → IsSearch s c → IsOpenClause c.parts o → Lightens s c c o
+pub lightens_none : (s : Session) (c : Search) (o : ℕ) → IsSearch s c → IsOpenClause c.parts o → StrengthensClause s c c o
 lightens_none s c o h is_open = record { lighter = lighter_refl s c h; left = λ k. is_open; others = λ p n k. (k, λ x. x) }
 
 -- a clause went
-pub lightens_dropped : (t : Session) (c d : Search) (o : ℕ) → Lighter t c d → Dropped c.parts d.parts o → Lightens t c d o
+pub lightens_dropped : (t : Session) (c d : Search) (o : ℕ) → IsStrengthened t c d → Dropped c.parts d.parts o → StrengthensClause t c d o
 lightens_dropped t c d o l dropped = record { lighter = l; left = gone_dropped c.parts d.parts o dropped; others = others_dropped c.parts d.parts o dropped }
 
 -- a clause lost its false literals
-module _ (t : Session) (c d : Search) (p : Parts) (o len : ℕ) (l : Lighter t c d) (there : Contains (live_refs c.parts.clauses c.parts.db.refs) o) (within : len ≤ size_of c.parts.clauses o) (g : Gathers c.parts p o len (size_of c.parts.clauses o)) (r : Replaces p d.parts o len) where
+module _ (t : Session) (c d : Search) (p : Parts) (o len : ℕ) (l : IsStrengthened t c d) (there : Contains (live_refs c.parts.clauses c.parts.db.refs) o) (within : len ≤ size_of c.parts.clauses o) (g : Gathers c.parts p o len (size_of c.parts.clauses o)) (r : Replaces p d.parts o len) where
   short_open : Shortened p d.parts o len → IsOpenClause d.parts o
   short_open s k lt =
       let size : size_of p.clauses o ≡ size_of c.parts.clauses o = moved_size c.parts p o g.moved there in
@@ -93,7 +93,7 @@ module _ (t : Session) (c d : Search) (p : Parts) (o len : ℕ) (l : Lighter t c
   others_put (puts_pair two mid stores drops) =
       others_trans p mid d.parts o (others_stored p mid o (lit_of p.clauses o 0 ∷ lit_of p.clauses o 1 ∷ []) refl stores (sym drops.same.0.0 ∙ r.state.0)) (others_dropped mid d.parts o drops)
 
-  pub lightens_cut : Lightens t c d o
+  pub lightens_cut : StrengthensClause t c d o
   lightens_cut = record {
     lighter = l;
     left = left_open r.puts;

@@ -24,12 +24,12 @@ use Rattle.sat_solver.specs.declared.context.Scratch.{Scratch}
 use Rattle.sat_solver.specs.cdcl.Joint.{assumed_in, global_in, IsSearch, SameAssumedAndNames}
 use Rattle.sat_solver.proofs.lemmas.cdcl.TurnLemmas.{moved_refl, moved_trans}
 use Rattle.sat_solver.proofs.lemmas.clause.ReducingLemmas.{still, still_moved}
-use Rattle.sat_solver.specs.unit_simplify.Flat.{IsFlat, MayRemove, LeavesPairs, Lighter}
+use Rattle.sat_solver.specs.unit_simplify.Flat.{IsFlat, MayRemove, LeavesPairs, IsStrengthened}
 
-pub lighter_refl : (s : Session) (c : Search) → IsSearch s c → Lighter s c c
+pub lighter_refl : (s : Session) (c : Search) → IsSearch s c → IsStrengthened s c c
 lighter_refl s c h = record { search = h; moved = moved_refl c; word = extends_refl c.parts (assumed_in c); state = (refl, refl, refl); refs = refl }
 
-pub lighter_trans : (s t : Session) (a b c : Search) → Lighter s a b → Lighter t b c → Lighter t a c
+pub lighter_trans : (s t : Session) (a b c : Search) → IsStrengthened s a b → IsStrengthened t b c → IsStrengthened t a c
 lighter_trans s t a b c x y = record {
   search = y.search;
   moved = moved_trans a b c x.moved y.moved;
@@ -38,7 +38,7 @@ lighter_trans s t a b c x y = record {
   refs = y.refs ∙ x.refs;
 }
 
-pub flat_on : (a b : Search) (s : Session) → Lighter s a b → IsFlat a.parts → IsFlat b.parts
+pub flat_on : (a b : Search) (s : Session) → IsStrengthened s a b → IsFlat a.parts → IsFlat b.parts
 flat_on a b s x f = record { bottom = ap (λ t. t.starts) x.state.2 ∙ f.bottom; empty = ap (λ t. t.lits) x.state.2 ∙ f.empty }
 
 pub may_remove : (s : Session) (c : Search) → IsSearch s c → IsFlat c.parts → MayRemove c
@@ -95,7 +95,7 @@ module _ (s : Session) (c : Search) (may : MayRemove c) where
 
 -- and then they are removed
 pub pairs_removed : (s s' : Session) (c c' : Search) → IsSearch s c → IsFlat c.parts → SameAssumedAndNames s s' → LeavesPairs s' c (length c.parts.binary.implied) 0 → c'.globals ≡ c.globals → c'.assumptions ≡ c.assumptions → c'.analysis ≡ c.analysis → c'.flags ≡ c.flags →
-    PartsInvariant c'.parts → Removed c.parts c'.parts → TrailWordExtends c.parts c'.parts → Lighter s' c c'
+    PartsInvariant c'.parts → Removed c.parts c'.parts → TrailWordExtends c.parts c'.parts → IsStrengthened s' c c'
 pairs_removed s s' c c' h flat leaves left globals assumptions analysis flags holds r word =
     let size : length c'.parts.assignment.current ≡ length c.parts.assignment.current = ap (λ a. length a.current) r.state.0 in
     record {

@@ -38,7 +38,7 @@ use Rattle.sat_solver.specs.variables.Shared.{SharesIndices}
 use Rattle.sat_solver.specs.load.Faults.{told_as}
 use Rattle.sat_solver.proofs.lemmas.solver.BehindLemmas.{nothing_behind}
 use Rattle.sat_solver.proofs.lemmas.solver.TellingLemmas.{shares_moved}
-use Rattle.sat_solver.specs.unit_simplify.Flat.{IsFlat, LightensAll}
+use Rattle.sat_solver.specs.unit_simplify.Flat.{IsFlat, StrengthensAll}
 use Rattle.sat_solver.specs.unit_simplify.Freed.{MayFree, FreesSome, AreLeft}
 use Rattle.sat_solver.specs.unit_simplify.Looks.{IsOpenClause}
 use Rattle.sat_solver.specs.unit_simplify.Passes.{StandTogether, PassesQuietly, FallsWithoutStore, FallsOr, IsSimplifiedPass}
@@ -135,9 +135,9 @@ module _ {W L : Type 0} {G : Ghosts L} (seen : W → Writer) where
   pub may_free : (n : Variables) (p : Proof W L G) (c : Search) → StandTogether n p c → IsFlat c.parts → MayFree n (steps_of p) c
   may_free n p c h flat = record { stands = h.stands; search = h.search; shares = h.shares; flat = flat }
 
-  module _ (n n' : Variables) (p q r : Proof W L G) (c d e : Search) (h : StandTogether n p c) (flat : IsFlat c.parts) (g : EmitsSteps {A = Unit {0}} seen (Ok tt) p q (λ _ _. LightensAll (session_of q) c d)) where
+  module _ (n n' : Variables) (p q r : Proof W L G) (c d e : Search) (h : StandTogether n p c) (flat : IsFlat c.parts) (g : EmitsSteps {A = Unit {0}} seen (Ok tt) p q (λ _ _. StrengthensAll (session_of q) c d)) where
     pub lightened : PassesQuietly seen n n p q c d
-    lightened = passes_goes tt n p q c d (λ _ _. LightensAll (session_of q) c d) h.stands h.shares g g.ends.lighter.search g.ends.lighter.moved g.ends.lighter.word
+    lightened = passes_goes tt n p q c d (λ _ _. StrengthensAll (session_of q) c d) h.stands h.shares g g.ends.lighter.search g.ends.lighter.moved g.ends.lighter.word
 
     pub lightened_may : MayFree n (steps_of q) d
     lightened_may = may_free n q d lightened.together (flat_on c d (session_of q) g.ends.lighter flat)

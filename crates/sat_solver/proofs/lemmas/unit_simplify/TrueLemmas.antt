@@ -20,12 +20,12 @@ use Rattle.sat_solver.specs.declared.context.Scratch.{Scratch}
 use Rattle.sat_solver.specs.cdcl.Joint.{assumed_in, global_in, IsSearch, SameAssumedAndNames}
 use Rattle.sat_solver.proofs.lemmas.clause.ReducingLemmas.{still, still_moved}
 use Rattle.sat_solver.specs.unit_simplify.Cuts.{deleted_step}
-use Rattle.sat_solver.specs.unit_simplify.Flat.{IsFlat, Lighter}
+use Rattle.sat_solver.specs.unit_simplify.Flat.{IsFlat, IsStrengthened}
 use Rattle.sat_solver.specs.unit_simplify.Looks.{HasTrue}
 
 -- the search goes on, where values stay
 pub lighter_by : (s t : Session) (c c' : Search) → IsSearch s c → c'.globals ≡ c.globals → c'.assumptions ≡ c.assumptions → c'.analysis ≡ c.analysis → c'.flags ≡ c.flags → SameAssumedAndNames s t → PartsInvariant c'.parts → SessionMatchesParts c'.parts t (global_in c) →
-    SameState c.parts c'.parts → TrailWordExtends c.parts c'.parts → c'.parts.db.refs ≡ c.parts.db.refs → Lighter t c c'
+    SameState c.parts c'.parts → TrailWordExtends c.parts c'.parts → c'.parts.db.refs ≡ c.parts.db.refs → IsStrengthened t c c'
 lighter_by s t c c' h globals assumptions analysis flags leaves holds fits same word refs =
     let size : length c'.parts.assignment.current ≡ length c.parts.assignment.current = ap (λ a. length a.current) same.0 in
     record {
@@ -54,7 +54,7 @@ module _ (s : Session) (c : Search) (p : Parts) (o : ℕ) (h : IsSearch s c) (fl
   leaves_deleted false = record { assumed = refl; names = λ v. refl }
 
   -- and the search goes on
-  pub true_lighter : (b : Bool) → is_redundant c.parts.clauses o ≡ b → (x : Scratch) → PartsInvariant p → TrailWordExtends c.parts p → Lighter (after (deleted_step b Satisfied mapped) s) c (record c { parts = p; scratch = x })
+  pub true_lighter : (b : Bool) → is_redundant c.parts.clauses o ≡ b → (x : Scratch) → PartsInvariant p → TrailWordExtends c.parts p → IsStrengthened (after (deleted_step b Satisfied mapped) s) c (record c { parts = p; scratch = x })
   true_lighter b e x holds word =
       lighter_by s (after (deleted_step b Satisfied mapped) s) c (record c { parts = p; scratch = x }) h refl refl refl refl (leaves_deleted b) holds (true_goes b e).1
       dropped.same.0 word dropped.deletes.refs

@@ -8,7 +8,7 @@ use Rattle.sat_parts.proofs.lemmas.prop.BuildLemmas.{live_in}
 use Rattle.sat_parts.proofs.lemmas.parts.ReduceLemmas.{filter_in}
 use Rattle.sat_solver.specs.session.Session.{Session}
 use Rattle.sat_solver.specs.declared.context.Search.{Search}
-use Rattle.sat_solver.specs.unit_simplify.Flat.{Lightens, AreOpenTo}
+use Rattle.sat_solver.specs.unit_simplify.Flat.{StrengthensClause, AreOpenTo}
 use Rattle.sat_solver.specs.unit_simplify.Looks.{IsOpenClause}
 
 pub to_none : (c d : Search) → AreOpenTo c d 0
@@ -16,7 +16,7 @@ to_none c d k lt = absurd (omega arith)
 
 module _ (c m : Search) (at : ℕ) (h : AreOpenTo c m at) where
   -- a clause more
-  pub to_more : (t : Session) (d : Search) (o : ℕ) → at < length c.parts.db.refs → AreRising c.parts.db.refs → o ≡ get_or c.parts.db.refs at 0 → Lightens t m d o → AreOpenTo c d (at + 1)
+  pub to_more : (t : Session) (d : Search) (o : ℕ) → at < length c.parts.db.refs → AreRising c.parts.db.refs → o ≡ get_or c.parts.db.refs at 0 → StrengthensClause t m d o → AreOpenTo c d (at + 1)
   to_more t d o lt rising is x k less there = elim (cases_eq k at) [
     | inl e ↦
         let here : get_or c.parts.db.refs k 0 ≡ o = (let z : get_or c.parts.db.refs k 0 ≡ get_or c.parts.db.refs at 0 = subst (λ j. get_or c.parts.db.refs k 0 ≡ get_or c.parts.db.refs j 0) e refl in z ∙ sym is) in

@@ -211,7 +211,7 @@ module _ (old new : Variables) (user v : ℕ) (sample : Bool) (tidy : AreTidy ol
               → IsModeOf (data_at new w).sampling_mode (get_or (set j.modes (or_zero (identity_of j (user + 1))) (judged_mode sample)) i Sampled)
           go true t x =
               let same : its.0 ≡ i = one (sym its.1 ∙ ap (given live) (sym (eqb-true w v t)) ∙ e) in
-              let lt : i < j.next_identity = given_has (λ k. k < j.next_identity) live w i judged.below e in
+              let lt : i < j.identity_count = given_has (λ k. k < j.identity_count) live w i judged.below e in
               let n = judged.modes_count in
               let here : get_or (set j.modes (or_zero (identity_of j (user + 1))) (judged_mode sample)) i Sampled ≡ judged_mode sample =
               ap (λ k. get_or (set j.modes k (judged_mode sample)) i Sampled) (at ∙ same) ∙ get_or-set_same j.modes i (judged_mode sample) Sampled (omega arith) in

@@ -71,13 +71,13 @@ left_out k sound j earlier live bridge u ls used = record {
   back = λ a m. bridge.back a (m.0, m.1, m.2.1);
 }
   where
-    one : (l : Literal) (i : ℕ) → identity_of j l.name ≡ Some i → over j l / 2 < j.next_identity
+    one : (l : Literal) (i : ℕ) → identity_of j l.name ≡ Some i → over j l / 2 < j.identity_count
     one l i e =
         let p = bridge.in_use l.name i e in
-        let h : i < j.next_identity = all_at (λ q. q.1 < j.next_identity) (p.0, i) live bridge.below p.2 in
+        let h : i < j.identity_count = all_at (λ q. q.1 < j.identity_count) (p.0, i) live bridge.below p.2 in
         let x : over j l / 2 ≡ i = ap (λ o. coded (or_zero o) l.positive / 2) e ∙ coded_half i l.positive in
         rw x h
 
-    low : (ks : List Literal) → InUse j ks → AllByRecursion (λ l. l / 2 < j.next_identity) (map (over j) ks)
+    low : (ks : List Literal) → InUse j ks → AllByRecursion (λ l. l / 2 < j.identity_count) (map (over j) ks)
     low [] h = tt
     low (l ∷ ks) h = (one l h.0.0 h.0.1, low ks h.1)

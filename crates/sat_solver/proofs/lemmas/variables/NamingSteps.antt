@@ -2,7 +2,7 @@
 use Rattle.std.proofs.Common.{ℕ, suc, ◌+◌, ◌-◌, ◌<◌, ◌≤◌, ◌≡◌, true, false, cond, eqb, List, [], ◌∷◌, map, Some, None, refl, sym, ◌∙◌, ap, subst, arith, Result, Ok, Err, IfOk, OnOk}
 use Rattle.std.proofs.lemmas.Bool.{eq-eqb}
 use Rattle.std.proofs.lemmas.List.{get_or_past}
-use Rattle.sat_base.specs.values.Literals.{largest}
+use Rattle.sat_base.specs.values.Literals.{var_limit}
 use Rattle.sat_base.specs.script.Judge.{with_name, names_from}
 use Rattle.sat_base.specs.steps.Steps.{Step, UserVarName}
 use Rattle.sat_checker.specs.Fold.{Holds}
@@ -34,10 +34,10 @@ use Rattle.sat_solver.proofs.lemmas.session.ComingLemmas.{comes_none, comes_one,
 pub known_as : (steps : List Step) (n : Variables) (v : ℕ) → MayAll steps → AreSaid n (session_after steps) → the_checking.knows steps v ≡ (variable_at n v).known
 known_as steps n v may said = ap (λ f. (f v).known) (sessions_are_accepted steps may).1.variables ∙ ap (λ x. x.known) (said.variables v)
 
-pub step_may : (old : Variables) (from : List Step) (user v : ℕ) → NamesInvariant old from → global_of old user ≡ None → IsRoom old user v → user ≤ names_used old → v < largest → (new : Variables) → PutsName old new user v → May (session_after from) (UserVarName v (Some user))
+pub step_may : (old : Variables) (from : List Step) (user v : ℕ) → NamesInvariant old from → global_of old user ≡ None → IsRoom old user v → user ≤ names_used old → v < var_limit → (new : Variables) → PutsName old new user v → May (session_after from) (UserVarName v (Some user))
 step_may old from user v stands free room within small new put = may_name old new user v stands.tidy room free within small put (session_after from) stands.said
 
-pub name_given : (old new : Variables) (from to : List Step) (user v : ℕ) → NamesInvariant old from → global_of old user ≡ None → user ≤ names_used old → IsRoom old user v → v < largest → PutsName old new user v
+pub name_given : (old new : Variables) (from to : List Step) (user v : ℕ) → NamesInvariant old from → global_of old user ≡ None → user ≤ names_used old → IsRoom old user v → v < var_limit → PutsName old new user v
     → to ≡ UserVarName v (Some user) ∷ from → NamesOne old new from to user v
 name_given old new from to user v stands free within room small put e = record {
   stands = record {
@@ -49,7 +49,7 @@ name_given old new from to user v stands free within room small put e = record {
   named = put.users.fwd;
   used = put.users.fwd_watermark;
   step = e;
-  kept = λ j live a. subst (λ steps. Agree new steps (with_name (user + 1) j) ((v, j.next_identity) ∷ live)) (sym e) (record {
+  kept = λ j live a. subst (λ steps. Agree new steps (with_name (user + 1) j) ((v, j.identity_count) ∷ live)) (sym e) (record {
     judged = judged_named old new user v stands.tidy room free within small put j live a.judged;
     bridge = named_new the_checking the_checking_sound j from live a.bridge (user + 1) v user refl not_known accepted;
   });
@@ -81,7 +81,7 @@ one_then old mid new from mids to user v names one rest = record {
   unseen = unseen_both old mid new from mids to one.unseen rest.unseen;
   comes = comes_both IsDue from mids to (comes_one IsDue from mids (UserVarName v (Some user)) one.step one.next) rest.comes;
   kept = λ j live a.
-      let k = rest.kept (with_name (user + 1) j) ((v, j.next_identity) ∷ live) (one.kept j live a) in
+      let k = rest.kept (with_name (user + 1) j) ((v, j.identity_count) ∷ live) (one.kept j live a) in
       record {
         live = k.live;
         agree = k.agree;
@@ -133,7 +133,7 @@ pub last_room : (old mid new : Variables) (from mids to : List Step) (user v : �
 last_room old mid new from mids to user v c one us h = room_one mid new user v (unused mid user c.used) (let b = c.used in omega arith) one.named one.used one.live us (c.room us h)
 
 -- there is a variable for each name that is left
-pub room_left : (old mid : Variables) (from mids : List Step) (user index : ℕ) (us : List ℕ) → Coming old mid from mids user index → HasRoom old (user ∷ us) → live_count mid < largest
+pub room_left : (old mid : Variables) (from mids : List Step) (user index : ℕ) (us : List ℕ) → Coming old mid from mids user index → HasRoom old (user ∷ us) → live_count mid < var_limit
 room_left old mid from mids user index us c h = room_less mid user us (get_or_past mid.global_from_user.fwd user None (let a = c.used in let b = c.low in omega arith)) (c.room us h)
 
 pub last_named : (mid new : Variables) (mids to : List Step) (user v : ℕ) → NamesOne mid new mids to user v → global_of new user ≡ Some v

@@ -3,7 +3,7 @@ use Rattle.std.proofs.Common.{ℕ, ◌+◌, ◌<◌, ◌≤◌, ◌≡◌, ◌�
 use Rattle.std.proofs.lemmas.Bool.{eqb-true, eqb-false, eq-eqb, ne_eqb, cases_lt, true≢false}
 use Rattle.std.proofs.lemmas.List.{get_or_past}
 use Rattle.std.specs.List.{AllByRecursion}
-use Rattle.sat_base.specs.values.Literals.{largest}
+use Rattle.sat_base.specs.values.Literals.{var_limit}
 use Rattle.sat_base.proofs.lemmas.script.JudgeStates.{placed_order}
 use Rattle.sat_base.specs.script.Judge.{Judge, Named, Sampled, identity_in, identity_of, with_name}
 use Rattle.sat_base.specs.steps.Steps.{UserVarName}
@@ -47,7 +47,7 @@ nameless n v tidy d = is_none (user_of n v) (λ u e. true≢false (sym d ∙ tid
 abbrev pub shape : VarData → Option ℕ → Variable
 shape d u = cond d.deleted unknown (record { known = true; mode = mode_in d.sampling_mode; name = u })
 
-module _ (old new : Variables) (user v : ℕ) (tidy : AreTidy old) (room : IsRoom old user v) (free : global_of old user ≡ None) (within : user ≤ names_used old) (small : v < largest) (put : PutsName old new user v) where
+module _ (old new : Variables) (user v : ℕ) (tidy : AreTidy old) (room : IsRoom old user v) (free : global_of old user ≡ None) (within : user ≤ names_used old) (small : v < var_limit) (put : PutsName old new user v) where
   pub tidy_named : AreTidy new
   tidy_named = record {
     users = put.inverse;
@@ -205,10 +205,10 @@ module _ (old new : Variables) (user v : ℕ) (tidy : AreTidy old) (room : IsRoo
               ap {A = Variable} (λ z. record z { known = true; name = Some user }) at ∙ sym (ap (λ d. shape d (user_of new w)) y ∙ ap (shape user_variable) x)
           go false t x y = said.variables w ∙ sym (ap (λ d. shape d (user_of new w)) y ∙ ap (shape (data_at old w)) x)
 
-  pub judged_named : (j : Judge) (live : Live) → AreJudged old j live → AreJudged new (with_name (user + 1) j) ((v, j.next_identity) ∷ live)
+  pub judged_named : (j : Judge) (live : Live) → AreJudged old j live → AreJudged new (with_name (user + 1) j) ((v, j.identity_count) ∷ live)
   judged_named j live judged = record {
     first_unused = let a = judged.first_unused in let b = put.users.fwd_watermark in omega arith;
-    no_zero = placed_found here j.in_use 0 ∙ ap (λ b. cond b (Some j.next_identity) (identity_in j.in_use 0)) (ne_eqb (user + 1) 0 (λ x. omega arith)) ∙ judged.no_zero;
+    no_zero = placed_found here j.in_use 0 ∙ ap (λ b. cond b (Some j.identity_count) (identity_in j.in_use 0)) (ne_eqb (user + 1) 0 (λ x. omega arith)) ∙ judged.no_zero;
     names = names;
     once = (apart_from live v (judged.in_use v ∙ ap not room.unused), judged.once);
     in_use = in_use;
@@ -221,62 +221,62 @@ module _ (old new : Variables) (user v : ℕ) (tidy : AreTidy old) (room : IsRoo
   }
     where
       here : Named
-      here = record { name = user + 1; identity = j.next_identity }
+      here = record { name = user + 1; identity = j.identity_count }
 
-      more : (ps : Live) → AllByRecursion (λ p. p.1 < j.next_identity) ps → AllByRecursion (λ p. p.1 < j.next_identity + 1) ps
+      more : (ps : Live) → AllByRecursion (λ p. p.1 < j.identity_count) ps → AllByRecursion (λ p. p.1 < j.identity_count + 1) ps
       more [] h = tt
       more (p ∷ ps) h = let a = h.0 in (omega arith, more ps h.1)
 
-      old_below : (w i : ℕ) → given live w ≡ Some i → i < j.next_identity
-      old_below w i e = given_has (λ k. k < j.next_identity) live w i judged.below e
+      old_below : (w i : ℕ) → given live w ≡ Some i → i < j.identity_count
+      old_below w i e = given_has (λ k. k < j.identity_count) live w i judged.below e
 
-      distinct : (a b i : ℕ) → given ((v, j.next_identity) ∷ live) a ≡ Some i → given ((v, j.next_identity) ∷ live) b ≡ Some i → a ≡ b
+      distinct : (a b i : ℕ) → given ((v, j.identity_count) ∷ live) a ≡ Some i → given ((v, j.identity_count) ∷ live) b ≡ Some i → a ≡ b
       distinct a b i e f = go (eqb v a) refl (eqb v b) refl e f
         where
-          go : (x : Bool) → eqb v a ≡ x → (y : Bool) → eqb v b ≡ y → cond x (Some j.next_identity) (given live a) ≡ Some i → cond y (Some j.next_identity) (given live b) ≡ Some i → a ≡ b
+          go : (x : Bool) → eqb v a ≡ x → (y : Bool) → eqb v b ≡ y → cond x (Some j.identity_count) (given live a) ≡ Some i → cond y (Some j.identity_count) (given live b) ≡ Some i → a ≡ b
           go true p true q g h = sym (eqb-true v a p) ∙ eqb-true v b q
-          go true p false q g h = let same : j.next_identity ≡ i = cc in let lt = old_below b i h in absurd (omega arith)
-          go false p true q g h = let same : j.next_identity ≡ i = cc in let lt = old_below a i g in absurd (omega arith)
+          go true p false q g h = let same : j.identity_count ≡ i = cc in let lt = old_below b i h in absurd (omega arith)
+          go false p true q g h = let same : j.identity_count ≡ i = cc in let lt = old_below a i g in absurd (omega arith)
           go false p false q g h = judged.distinct a b i g h
 
-      names : (u : ℕ) → identity_of (with_name (user + 1) j) (u + 1) ≡ given_of ((v, j.next_identity) ∷ live) (global_of new u)
+      names : (u : ℕ) → identity_of (with_name (user + 1) j) (u + 1) ≡ given_of ((v, j.identity_count) ∷ live) (global_of new u)
       names u = placed_found here j.in_use (u + 1) ∙ go (eqb (user + 1) (u + 1)) refl (eqb u user) refl (put.users.fwd u)
         where
           go : (b : Bool) → eqb (user + 1) (u + 1) ≡ b → (d : Bool) → eqb u user ≡ d → global_of new u ≡ cond d (Some v) (global_of old u)
-              → cond b (Some j.next_identity) (identity_in j.in_use (u + 1)) ≡ given_of ((v, j.next_identity) ∷ live) (global_of new u)
-          go true x true y z = sym (ap (given_of ((v, j.next_identity) ∷ live)) z ∙ ap (λ b. cond b (Some j.next_identity) (given live v)) (eq-eqb v v refl))
+              → cond b (Some j.identity_count) (identity_in j.in_use (u + 1)) ≡ given_of ((v, j.identity_count) ∷ live) (global_of new u)
+          go true x true y z = sym (ap (given_of ((v, j.identity_count) ∷ live)) z ∙ ap (λ b. cond b (Some j.identity_count) (given live v)) (eq-eqb v v refl))
           go true x false y z = let a = eqb-true (user + 1) (u + 1) x in absurd (eqb-false u user y (omega arith))
           go false x true y z = let a = eqb-true u user y in absurd (eqb-false (user + 1) (u + 1) x (omega arith))
-          go false x false y z = judged.names u ∙ at (global_of old u) refl ∙ sym (ap (given_of ((v, j.next_identity) ∷ live)) z)
+          go false x false y z = judged.names u ∙ at (global_of old u) refl ∙ sym (ap (given_of ((v, j.identity_count) ∷ live)) z)
             where
-              at : (o : Option ℕ) → global_of old u ≡ o → given_of live o ≡ given_of ((v, j.next_identity) ∷ live) o
+              at : (o : Option ℕ) → global_of old u ≡ o → given_of live o ≡ given_of ((v, j.identity_count) ∷ live) o
               at None e = refl
               at (Some w) e =
                   let alive = tidy.named w u (tidy.users.back u w e) in
                   let differs : v ≢ w = λ q. true≢false (sym room.unused ∙ ap (λ k. (data_at old k).deleted) q ∙ alive) in
-                  sym (ap (λ b. cond b (Some j.next_identity) (given live w)) (ne_eqb v w differs))
+                  sym (ap (λ b. cond b (Some j.identity_count) (given live w)) (ne_eqb v w differs))
 
-      in_use : (w : ℕ) → is_some (given ((v, j.next_identity) ∷ live) w) ≡ not (data_at new w).deleted
-      in_use w = ap (λ b. is_some (cond b (Some j.next_identity) (given live w))) (eqb_turned v w) ∙ go (eqb w v) (put.kept w)
+      in_use : (w : ℕ) → is_some (given ((v, j.identity_count) ∷ live) w) ≡ not (data_at new w).deleted
+      in_use w = ap (λ b. is_some (cond b (Some j.identity_count) (given live w))) (eqb_turned v w) ∙ go (eqb w v) (put.kept w)
         where
-          go : (b : Bool) → data_at new w ≡ cond b user_variable (data_at old w) → is_some (cond b (Some j.next_identity) (given live w)) ≡ not (data_at new w).deleted
+          go : (b : Bool) → data_at new w ≡ cond b user_variable (data_at old w) → is_some (cond b (Some j.identity_count) (given live w)) ≡ not (data_at new w).deleted
           go true y = sym (ap (λ d. not d.deleted) y)
           go false y = judged.in_use w ∙ sym (ap (λ d. not d.deleted) y)
 
-      mode_at : (i : ℕ) → get_or (j.modes ++ Sampled ∷ []) i Sampled ≡ cond (eqb i j.next_identity) Sampled (get_or j.modes i Sampled)
-      mode_at i = pushed j.modes i j.next_identity Sampled Sampled (sym judged.modes_count)
+      mode_at : (i : ℕ) → get_or (j.modes ++ Sampled ∷ []) i Sampled ≡ cond (eqb i j.identity_count) Sampled (get_or j.modes i Sampled)
+      mode_at i = pushed j.modes i j.identity_count Sampled Sampled (sym judged.modes_count)
 
-      modes : (w i : ℕ) → given ((v, j.next_identity) ∷ live) w ≡ Some i → IsModeOf (data_at new w).sampling_mode (get_or (j.modes ++ Sampled ∷ []) i Sampled)
-      modes w i e = go (eqb w v) (put.kept w) (ap (λ b. cond b (Some j.next_identity) (given live w)) (eqb_turned w v) ∙ e)
+      modes : (w i : ℕ) → given ((v, j.identity_count) ∷ live) w ≡ Some i → IsModeOf (data_at new w).sampling_mode (get_or (j.modes ++ Sampled ∷ []) i Sampled)
+      modes w i e = go (eqb w v) (put.kept w) (ap (λ b. cond b (Some j.identity_count) (given live w)) (eqb_turned w v) ∙ e)
         where
-          go : (b : Bool) → data_at new w ≡ cond b user_variable (data_at old w) → cond b (Some j.next_identity) (given live w) ≡ Some i
+          go : (b : Bool) → data_at new w ≡ cond b user_variable (data_at old w) → cond b (Some j.identity_count) (given live w) ≡ Some i
               → IsModeOf (data_at new w).sampling_mode (get_or (j.modes ++ Sampled ∷ []) i Sampled)
           go true y f =
-              let x : j.next_identity ≡ i = cc in
+              let x : j.identity_count ≡ i = cc in
               subst (λ d. IsModeOf d.sampling_mode (get_or (j.modes ++ Sampled ∷ []) i Sampled)) (sym y)
-              (mode_at i ∙ ap (λ b. cond b Sampled (get_or j.modes i Sampled)) (eq-eqb i j.next_identity (sym x)))
+              (mode_at i ∙ ap (λ b. cond b Sampled (get_or j.modes i Sampled)) (eq-eqb i j.identity_count (sym x)))
           go false y f =
-              let lt : i < j.next_identity = given_has (λ k. k < j.next_identity) live w i judged.below f in
-              let m : get_or (j.modes ++ Sampled ∷ []) i Sampled ≡ get_or j.modes i Sampled = mode_at i ∙ ap (λ b. cond b Sampled (get_or j.modes i Sampled)) (ne_eqb i j.next_identity (λ q. omega arith)) in
+              let lt : i < j.identity_count = given_has (λ k. k < j.identity_count) live w i judged.below f in
+              let m : get_or (j.modes ++ Sampled ∷ []) i Sampled ≡ get_or j.modes i Sampled = mode_at i ∙ ap (λ b. cond b Sampled (get_or j.modes i Sampled)) (ne_eqb i j.identity_count (λ q. omega arith)) in
               subst (λ d. IsModeOf d.sampling_mode (get_or (j.modes ++ Sampled ∷ []) i Sampled)) (sym y)
               (subst (IsModeOf (data_at old w).sampling_mode) (sym m) (judged.modes w i f))

@@ -2,7 +2,7 @@
 use Rattle.std.proofs.Common.{ℕ, ◌+◌, ◌<◌, ◌≤◌, ◌≡◌, Bool, true, false, not, ◌&&◌, ltb, lt-ltb, length, Option, Some, None, is_some, refl, sym, ◌∙◌, ap, arith}
 use Rattle.std.proofs.lemmas.Bool.{ltb-true, true≢false}
 use Rattle.std.proofs.lemmas.List.{get_or_past}
-use Rattle.sat_base.specs.values.Literals.{largest}
+use Rattle.sat_base.specs.values.Literals.{var_limit}
 use Rattle.sat_store.specs.variables.VarData.{unused_variable}
 use Rattle.sat_solver.specs.variables.Counting.{count_to, mapped_count}
 use Rattle.sat_solver.specs.variables.Free.{is_free, IsLowest}
@@ -68,5 +68,5 @@ index_below n v x tidy alive without next =
     omega arith
 
 -- and there is one more
-pub index_left : (n : Variables) (v : ℕ) → AreTidy n → (data_at n v).deleted ≡ false → solver_of n v ≡ None → ((y : ℕ) → is_free n.free_solvers y ≡ false) → indices_used n < largest
+pub index_left : (n : Variables) (v : ℕ) → AreTidy n → (data_at n v).deleted ≡ false → solver_of n v ≡ None → ((y : ℕ) → is_free n.free_solvers y ≡ false) → indices_used n < var_limit
 index_left n v tidy alive without none = let k = index_below n v (indices_used n) tidy alive without (next_last n (indices_used n) tidy none refl) in let w = tidy.within in omega arith

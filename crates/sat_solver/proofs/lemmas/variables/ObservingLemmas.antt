@@ -299,7 +299,7 @@ module _ (old new : Variables) (user v : ℕ) (tidy : AreTidy old) (here : IsHid
           go : (b : Bool) → eqb w v ≡ b → data_at new w ≡ cond b (record (data_at old v) { sampling_mode = kept.Witness }) (data_at old w) → IsModeOf (data_at new w).sampling_mode (get_or (set j.modes i Witnessed) k Sampled)
           go true t x =
               let same : i ≡ k = one (sym its ∙ ap (given live) (sym (eqb-true w v t)) ∙ e) in
-              let lt : k < j.next_identity = given_has (λ q. q < j.next_identity) live w k judged.below e in
+              let lt : k < j.identity_count = given_has (λ q. q < j.identity_count) live w k judged.below e in
               let n = judged.modes_count in
               let now : get_or (set j.modes i Witnessed) k Sampled ≡ Witnessed = ap (λ q. get_or (set j.modes q Witnessed) k Sampled) same ∙ get_or-set_same j.modes k Witnessed Sampled (omega arith) in
               subst (λ d. IsModeOf d.sampling_mode (get_or (set j.modes i Witnessed) k Sampled)) (sym x) now

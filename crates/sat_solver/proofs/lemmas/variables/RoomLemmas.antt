@@ -4,7 +4,7 @@ use Rattle.std.specs.Prelude.{IsErrAnd}
 use Rattle.std.proofs.lemmas.Bool.{eq-eqb, ne_eqb, le-ltb, cases_eq, cases_lt, ltb-true, true≢false}
 use Rattle.std.proofs.lemmas.List.{get_or_past, drop_more, take_all, length-map}
 use Rattle.std.proofs.lemmas.Result.{err_from_is_err_and}
-use Rattle.sat_base.specs.values.Literals.{largest, variable}
+use Rattle.sat_base.specs.values.Literals.{var_limit, variable}
 use Rattle.sat_checker.specs.LiteralSets.{mentions}
 use Rattle.sat_store.specs.variables.VarData.{user_variable, unused_variable}
 use Rattle.sat_store.specs.variables.Maps.{target}
@@ -24,7 +24,7 @@ use Rattle.sat_solver.proofs.lemmas.variables.Counts.{count_zero, count_changed,
 abbrev pub is_live : Variables → ℕ → Bool
 is_live n v = not (data_at n v).deleted
 
-pub live_most : (n : Variables) → AreTidy n → live_count n ≤ largest
+pub live_most : (n : Variables) → AreTidy n → live_count n ≤ var_limit
 live_most n tidy = let l = count_le (variables_used n) (is_live n) in let w = tidy.within in omega arith
 
 not_not : (b : Bool) → not (not b) ≡ b
@@ -41,11 +41,11 @@ live_others n tidy =
     omega arith
 
 -- where every variable is in use, so many are
-pub live_full : (n : Variables) → AreTidy n → NoneLeft n → live_count n ≡ largest
-live_full n tidy none = ap (λ k. count_to k (is_live n)) same ∙ count_full largest (is_live n) (λ k lt. ap not (none k lt))
+pub live_full : (n : Variables) → AreTidy n → NoneLeft n → live_count n ≡ var_limit
+live_full n tidy none = ap (λ k. count_to k (is_live n)) same ∙ count_full var_limit (is_live n) (λ k lt. ap not (none k lt))
   where
-    same : variables_used n ≡ largest
-    same = elim (cases_lt (variables_used n) largest) [
+    same : variables_used n ≡ var_limit
+    same = elim (cases_lt (variables_used n) var_limit) [
       | inl lt ↦ absurd (true≢false (sym (ap (λ d. d.deleted) (get_or_past n.var_data.items (variables_used n) unused_variable (omega arith))) ∙ none (variables_used n) lt))
       | inr le ↦ (let w = tidy.within in omega arith)
     ]
@@ -115,7 +115,7 @@ room_below n w user us low le h =
     omega arith
 
 -- there is one for a name that isn't in use
-pub room_less : (n : Variables) (user : ℕ) (us : List ℕ) → global_of n user ≡ None → HasRoom n (user ∷ us) → live_count n < largest
+pub room_less : (n : Variables) (user : ℕ) (us : List ℕ) → global_of n user ≡ None → HasRoom n (user ∷ us) → live_count n < var_limit
 room_less n user us free h = elim (cases_lt user (names_used n)) [
   | inl lt ↦ (let s = count_some (names_used n) user (is_hidden_name n (user ∷ us)) lt (hidden_here n user us free) in omega arith)
   | inr le ↦ (let r = reach_low us (max (names_used n) (user + 1)) in omega arith)
@@ -149,7 +149,7 @@ room_at n all index user lt at h = subst (HasRoom n) (ap users_in (drop_more all
 -- FAULTS
 
 -- where a variable is left, that isn't why it failed
-pub limit_fails : {W : Type 0} (e : NameError) (old new : Variables) (from to : W) → AreTidy old → live_count old < largest → Limits e old new from to → IsFailure e
+pub limit_fails : {W : Type 0} (e : NameError) (old new : Variables) (from to : W) → AreTidy old → live_count old < var_limit → Limits e old new from to → IsFailure e
 limit_fails errors.VariableLimit old new from to tidy lt h = let e = live_full old tidy h.none in absurd (omega arith)
 limit_fails errors.OutOfMemory old new from to tidy lt h = tt
 limit_fails (errors.Write cause) old new from to tidy lt h = tt
@@ -159,7 +159,7 @@ limit_fails (errors.Check fault) old new from to tidy lt h = tt
 pub fails_on : {A : Type 0} (r : Result A NameError) (e : NameError) → IsErrAnd r (λ f. f ≡ e) → IsFailure e → IfErr r IsFailure
 fails_on r e h f = let p = err_from_is_err_and r h in subst (λ r. IfErr r IsFailure) (sym p.1) (subst IsFailure (sym p.2) f)
 
-pub if_limit_fails : {A W : Type 0} (r : Result A NameError) (old new : Variables) (from to : W) → AreTidy old → live_count old < largest → IfErr r (λ e. Limits e old new from to) → IfErr r IsFailure
+pub if_limit_fails : {A W : Type 0} (r : Result A NameError) (old new : Variables) (from to : W) → AreTidy old → live_count old < var_limit → IfErr r (λ e. Limits e old new from to) → IfErr r IsFailure
 if_limit_fails (Ok x) old new from to tidy lt h = tt
 if_limit_fails (Err e) old new from to tidy lt h = limit_fails e old new from to tidy lt h
 
@@ -271,12 +271,12 @@ says_room : (n : Variables) (us : List ℕ) (b : Bool) → (b ≡ true → HasRo
 says_room n us true fits lacks = fits refl
 says_room n us false fits lacks = lacks refl
 
-pub says_never : (n : Variables) (user index used left : ℕ) → names_used n ≤ user → index ≡ user → used ≡ names_used n → left + live_count n ≡ largest → SaysRoom (ltb (index - used) left) n (user ∷ [])
+pub says_never : (n : Variables) (user index used left : ℕ) → names_used n ≤ user → index ≡ user → used ≡ names_used n → left + live_count n ≡ var_limit → SaysRoom (ltb (index - used) left) n (user ∷ [])
 says_never n user index used left le at same all = says_room n (user ∷ []) (ltb (index - used) left)
     (λ e. let lt = ltb-true (index - used) left e in let o = one_never n user le in omega arith)
     (λ e h. let o = one_never n user le in true≢false (sym (lt-ltb (index - used) left (omega arith)) ∙ e))
 
-pub says_hidden : (n : Variables) (user left : ℕ) → user < names_used n → is_some (global_of n user) ≡ false → left + live_count n ≡ largest → SaysRoom (ltb 0 left) n (user ∷ [])
+pub says_hidden : (n : Variables) (user left : ℕ) → user < names_used n → is_some (global_of n user) ≡ false → left + live_count n ≡ var_limit → SaysRoom (ltb 0 left) n (user ∷ [])
 says_hidden n user left lt free all = says_room n (user ∷ []) (ltb 0 left)
     (λ e. let lt = ltb-true 0 left e in let o = one_hidden n user lt' free in omega arith)
     (λ e h. let o = one_hidden n user lt' free in true≢false (sym (lt-ltb 0 left (omega arith)) ∙ e))
@@ -288,10 +288,10 @@ pub fits_used : (n : Variables) (user : ℕ) → AreTidy n → user < names_used
 fits_used n user tidy lt some = let o = one_used n user lt some in let m = live_most n tidy in omega arith
 
 -- as there is room for all of them at once
-pub fits_all : (n : Variables) (lits : List ℕ) (top left : ℕ) → top ≡ reach (names_used n) (users_in lits) → left + live_count n ≡ largest → top - names_used n ≤ left → length lits ≤ left - (top - names_used n) → HasRoom n (users_in lits)
+pub fits_all : (n : Variables) (lits : List ℕ) (top left : ℕ) → top ≡ reach (names_used n) (users_in lits) → left + live_count n ≡ var_limit → top - names_used n ≤ left → length lits ≤ left - (top - names_used n) → HasRoom n (users_in lits)
 fits_all n lits top left is all low le = let m = hidden_most n (users_in lits) in let l = length-map lits variable in omega arith
 
-pub counts_small : (n : Variables) (us : List ℕ) → AreTidy n → hidden_count n us ≤ largest
+pub counts_small : (n : Variables) (us : List ℕ) → AreTidy n → hidden_count n us ≤ var_limit
 counts_small n us tidy = let m = count_le (names_used n) (is_hidden_name n us) in let r = tidy.reach in let w = tidy.within in omega arith
 
 pub said_room : (n : Variables) (us : List ℕ) (b : Bool) → SaysRoom b n us → b ≡ true → HasRoom n us

@@ -2,7 +2,7 @@
 use Rattle.std.proofs.Common.{ℕ, zero, suc, ◌+◌, ◌-◌, ◌*◌, ◌/◌, ◌<◌, ◌≤◌, ◌≡◌, ◌≢◌, Bool, true, false, ◌||◌, cond, eqb, List, [], ◌∷◌, ◌++◌, take, replicate, length, get_or, refl, sym, ◌∙◌, ap, subst, arith, inl, inr}
 use Rattle.std.proofs.lemmas.Bool.{eqb-true, eqb-false, eq-eqb, ne_eqb, true≢false, or_left, or_right, cases_eq, cases_lt}
 use Rattle.std.proofs.lemmas.List.{get_or_past, get_or_append_left, get_or-append_right, take_all}
-use Rattle.sat_base.specs.values.Literals.{largest}
+use Rattle.sat_base.specs.values.Literals.{var_limit}
 use Rattle.sat_solver.specs.variables.Free.{node_at, is_free, doubled, Powers, empty, power, IsTree, IsChild, IsLowest, CopiesLeaves, IsCounted}
 use Rattle.sat_solver.specs.declared.variables.free.FreeIndices.{FreeIndices}
 use Rattle.sat_solver.specs.variables.Counting.{count_to}
@@ -33,12 +33,12 @@ doubled_rises h (suc k) = let ih = doubled_rises h k in let e : doubled (h + suc
 pub doubled_le : (h k : ℕ) → h ≤ k → doubled h ≤ doubled k
 doubled_le h k le = subst (λ x. doubled h ≤ doubled x) (let e : h + (k - h) ≡ k = omega arith in e) (doubled_rises h (k - h))
 
-doubled_largest : doubled 28 ≡ largest
+doubled_largest : doubled 28 ≡ var_limit
 unfolding doubled
 doubled_largest = refl
 
 -- there is room for one more level below the limit
-pub doubled_small : (h : ℕ) → doubled h < largest → 2 * doubled h ≤ largest
+pub doubled_small : (h : ℕ) → doubled h < var_limit → 2 * doubled h ≤ var_limit
 doubled_small h lt = elim (cases_lt h 28) [
   | inl low ↦ let e = doubled_suc h in let le = doubled_le (suc h) 28 (omega arith) in let l = doubled_largest in omega arith
   | inr high ↦ let le = doubled_le 28 h high in let l = doubled_largest in absurd (omega arith)
@@ -168,10 +168,10 @@ inner f level at d lt = let a = d.high in let e = doubled_more level in let m = 
 pub some_below : (f : FreeIndices) (level at : ℕ) → Descends f level at → level < f.height → (node_at f.nodes.items (2 * at) || node_at f.nodes.items (2 * at + 1)) ≡ true
 some_below f level at d lt = sym (d.tree.inner at (let a = d.low in let z = below_doubled level in omega arith) (inner f level at d lt)) ∙ d.holds
 
-pub small : (f : FreeIndices) → IsTree f → f.room ≤ largest
+pub small : (f : FreeIndices) → IsTree f → f.room ≤ var_limit
 small f tree = go tree.powers
   where
-    go : Powers f → f.room ≤ largest
+    go : Powers f → f.room ≤ var_limit
     go (empty e) = omega arith
     go (power e l) = l
 
@@ -194,7 +194,7 @@ arrives f level at i d le e = let p = leaf_place f level at d le in let p0 = p.0
   lowest = λ k lt. d.left (f.room + k) (omega arith) (omega arith) (let u : up (f.height - level) (f.room + k) ≡ f.room + k = ap (λ x. up x (f.room + k)) (let z : f.height - level ≡ 0 = omega arith in z) ∙ up_zero (f.room + k) in omega arith);
 }
 
-pub lowest_fits : (f : FreeIndices) (level at : ℕ) → Descends f level at → f.height ≤ level → at - f.room < largest
+pub lowest_fits : (f : FreeIndices) (level at : ℕ) → Descends f level at → f.height ≤ level → at - f.room < var_limit
 lowest_fits f level at d le = let p = leaf_place f level at d le in let p0 = p.0 in let p1 = p.1 in let s = small f d.tree in omega arith
 
 pub child_within : (f : FreeIndices) (level at : ℕ) → Descends f level at → level < f.height → 2 * at + 1 < length f.nodes.items
@@ -215,7 +215,7 @@ tree_none f nodes room count = record {
 pub some_counted : (f : FreeIndices) (index : ℕ) → IsTree f → index < f.room → is_free f index ≡ true → 0 < f.count
 some_counted f index tree lt e = let s = count_some f.room index (is_free f) lt e in let c = tree.counted in omega arith
 
-pub counted_small : (f : FreeIndices) → IsTree f → f.count ≤ largest
+pub counted_small : (f : FreeIndices) → IsTree f → f.count ≤ var_limit
 counted_small f tree = let l = count_le f.room (is_free f) in let c = tree.counted in let s = small f tree in omega arith
 
 -- A LEAF CHANGES
@@ -300,7 +300,7 @@ grown f g h wide tree p size same c room leaves i = leaves i ∙ ap (λ r. node_
   | inr le ↦ c.kept (2 * f.room + i) (omega arith) ∙ same (2 * f.room + i) ∙ get_or_past f.nodes.items (2 * f.room + i) false (let s = tree.size in omega arith) ∙ sym (get_or_past f.nodes.items (f.room + i) false (let s = tree.size in omega arith))
 ]
 
-pub grown_powers : (f g : FreeIndices) → IsTree f → (f.room ≡ 0 → ⊥) → f.room < largest → g.room ≡ 2 * f.room → g.height ≡ f.height + 1 → Powers g
+pub grown_powers : (f g : FreeIndices) → IsTree f → (f.room ≡ 0 → ⊥) → f.room < var_limit → g.room ≡ 2 * f.room → g.height ≡ f.height + 1 → Powers g
 grown_powers f g tree n lt room height =
     let p = full f tree n in
     let s = doubled_small f.height (omega arith) in
@@ -327,7 +327,7 @@ nothing_above f tree e (suc n) q le pos = elim (cases_lt q f.room) [
   | inr past ↦ ap (node_at f.nodes.items) (let s : q ≡ f.room + (q - f.room) = omega arith in s) ∙ nothing_free f tree e (q - f.room)
 ]
 
-module _ (f g : FreeIndices) (tree : IsTree f) (some : f.room ≡ 0 → ⊥) (lt : f.room < largest) (size : length g.nodes.items ≡ 4 * f.room) (same : (q : ℕ) → node_at g.nodes.items q ≡ node_at f.nodes.items q) (room : g.room ≡ 2 * f.room) (height : g.height ≡ f.height + 1) (count : g.count ≡ f.count) (empty_set : f.count ≡ 0) where
+module _ (f g : FreeIndices) (tree : IsTree f) (some : f.room ≡ 0 → ⊥) (lt : f.room < var_limit) (size : length g.nodes.items ≡ 4 * f.room) (same : (q : ℕ) → node_at g.nodes.items q ≡ node_at f.nodes.items q) (room : g.room ≡ 2 * f.room) (height : g.height ≡ f.height + 1) (count : g.count ≡ f.count) (empty_set : f.count ≡ 0) where
   nothing_wide : (q : ℕ) → 0 < q → node_at g.nodes.items q ≡ false
   nothing_wide q pos = same q ∙ nothing_above f tree empty_set (2 * f.room) q (omega arith) pos
 
@@ -343,7 +343,7 @@ module _ (f g : FreeIndices) (tree : IsTree f) (some : f.room ≡ 0 → ⊥) (lt
     inner = λ q pos w. nothing_wide q pos ∙ sym (ap (λ b. b || node_at g.nodes.items (2 * q + 1)) (nothing_wide (2 * q) (omega arith)) ∙ nothing_wide (2 * q + 1) (omega arith));
   }
 
-pub height_fits : (f : FreeIndices) → IsTree f → (f.room ≡ 0 → ⊥) → f.height < largest
+pub height_fits : (f : FreeIndices) → IsTree f → (f.room ≡ 0 → ⊥) → f.height < var_limit
 height_fits f tree n = let p = full f tree n in let s = small f tree in let b = below_doubled f.height in omega arith
 
 -- one leaf

@@ -13,7 +13,7 @@ use Rattle.sat_solver.specs.analyze_conflict.Derivation.{IsAsserting, AreGrounds
 use Rattle.sat_solver.specs.analyze_conflict.Involved.{KeepsResolved}
 use Rattle.sat_solver.specs.analyze_conflict.Minimal.{Searching, MarksMore, SameWork, used_up, Minimal, MayStart}
 use Rattle.sat_solver.proofs.lemmas.analyze_conflict.Minimized.{minimal_start, may_start, minimal_grounds, false_variable}
-use Rattle.sat_solver.proofs.lemmas.analyze_conflict.Loops.{Stands, Goes, split, in_rest, not_first, lower_here, same_itself, goes_kept, goes_dropped, front_refl, lower_rest, minimal_asserting, minimal_among, cut_rest}
+use Rattle.sat_solver.proofs.lemmas.analyze_conflict.Loops.{HasAccepted, Goes, split, in_rest, not_first, lower_here, same_itself, goes_kept, goes_dropped, front_refl, lower_rest, minimal_asserting, minimal_among, cut_rest}
 use Rattle.sat_solver.proofs.minimize.minimize_clause.Goals as goal
 use Rattle.sat_solver.proofs.minimize.minimize_clause.Goals.{then-is_unit, then-is_unit-via-then-is_unit, then-is_unit-via-else-is_unit+in_ok-is_implied+then-not-branch, else-is_unit+in_ok-is_implied+else-not-branch}
 
@@ -50,7 +50,7 @@ reason-reason-requires c =
     let at : ℕ = c.loop-at.at in
     let kept : ℕ = c.loop-at.kept in
     let lt : at < length w.clause = omega (arith, c.loop-at-test.true, ap (λ (xs : List ℕ). length xs) c.clause-at-end.ensures, c.loop-at.invariant.size) in
-    let h : Stands words s conflict first low kept at w.clause w = record {
+    let h : HasAccepted words s conflict first low kept at w.clause w = record {
       minimal = c.loop-at.invariant.minimal;
       some = c.loop-at.invariant.some;
       behind = c.loop-at.invariant.behind;
@@ -73,7 +73,7 @@ is_implied-requires-clause-may c =
     let at : ℕ = c.loop-at.at in
     let kept : ℕ = c.loop-at.kept in
     let lt : at < length w.clause = omega (arith, c.loop-at-test.true, ap (λ (xs : List ℕ). length xs) c.clause-at-end.ensures, c.loop-at.invariant.size) in
-    let h : Stands words s conflict first low kept at w.clause w = record {
+    let h : HasAccepted words s conflict first low kept at w.clause w = record {
       minimal = c.loop-at.invariant.minimal;
       some = c.loop-at.invariant.some;
       behind = c.loop-at.invariant.behind;
@@ -100,7 +100,7 @@ loop-at-preserved c =
     let at : ℕ = c.loop-at.at in
     let kept : ℕ = c.loop-at.kept in
     let lt : at < length w.clause = omega (arith, c.loop-at-test.true, ap (λ (xs : List ℕ). length xs) c.clause-at-end.ensures, c.loop-at.invariant.size) in
-    let h : Stands words s conflict first low kept at w.clause w = record {
+    let h : HasAccepted words s conflict first low kept at w.clause w = record {
       minimal = c.loop-at.invariant.minimal;
       some = c.loop-at.invariant.some;
       behind = c.loop-at.invariant.behind;

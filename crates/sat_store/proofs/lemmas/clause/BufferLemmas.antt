@@ -5,9 +5,9 @@ use Rattle.std.proofs.Math.Seq.{take-set-lt, take-append_seam}
 use Rattle.std.proofs.lemmas.List.Elements.{Contains-append_cases, All-more}
 use Rattle.std.proofs.lemmas.Bool.{cases_eq, cases_lt}
 use Rattle.std.specs.List.{Contains, All}
-use Rattle.sat_base.specs.values.Literals.{largest}
+use Rattle.sat_base.specs.values.Literals.{var_limit}
 use Rattle.sat_store.specs.clause.Header.{Header, header_of}
-use Rattle.sat_store.specs.clause.Buffer.{header_at, lits_at, IsClause, Apart, Laid, SameClauseAt, ChangesAt, AppendsClause}
+use Rattle.sat_store.specs.clause.Buffer.{header_at, lits_at, IsClause, Apart, HoldsClauses, SameClauseAt, ChangesAt, AppendsClause}
 
 -- the clause's length is its header's and that of its literals
 
@@ -68,7 +68,7 @@ others_kept v w o size below above p c apart = elim apart [
 pub changes_at : (v w : List ℕ) (o : ℕ) → IsClause v o → IsClause w o → length w ≡ length v → get_or w (o + 2) 0 ≤ get_or v (o + 2) 0 → ((i : ℕ) → i < o → get_or w i 0 ≡ get_or v i 0) → ((i : ℕ) → o + 3 + get_or v (o + 2) 0 ≤ i → get_or w i 0 ≡ get_or v i 0) → ChangesAt v w o
 changes_at v w o was now size shorter below above =
     let others : (p : ℕ) → IsClause v p → Apart v o p → SameClauseAt v w p = others_kept v w o size below above in
-    let no_longer : (live : List ℕ) → Contains live o → Laid v live → (p : ℕ) → Contains live p → get_or w (p + 2) 0 ≤ get_or v (p + 2) 0 = λ live has laid p c. elim (cases_eq p o) [
+    let no_longer : (live : List ℕ) → Contains live o → HoldsClauses v live → (p : ℕ) → Contains live p → get_or w (p + 2) 0 ≤ get_or v (p + 2) 0 = λ live has laid p c. elim (cases_eq p o) [
       | inl same ↦ subst (λ (x : ℕ). get_or w (x + 2) 0 ≤ get_or v (x + 2) 0) (sym same) shorter
       | inr other ↦ omega (arith, same_len v w p (others p (laid.clauses p c) (laid.apart o p has c (λ e. other (sym e)))))
     ] in
@@ -101,7 +101,7 @@ header_set_lit w o k x =
     let c : get_or (set w (o + 3 + k) x) (o + 2) 0 ≡ get_or w (o + 2) 0 = at_other w (o + 3 + k) (o + 2) x (omega arith) in
     rw (a, b, c) refl
 
-clause_set_lit : (w : List ℕ) (o k x : ℕ) → IsClause w o → k < get_or w (o + 2) 0 → x < 2 * largest → IsClause (set w (o + 3 + k) x) o
+clause_set_lit : (w : List ℕ) (o k x : ℕ) → IsClause w o → k < get_or w (o + 2) 0 → x < 2 * var_limit → IsClause (set w (o + 3 + k) x) o
 clause_set_lit w o k x c within small =
     let i : ℕ = o + 3 + k in
     let b : get_or (set w (o + 3 + k) x) (o + 1) 0 ≡ get_or w (o + 1) 0 = at_other w (o + 3 + k) (o + 1) x (omega arith) in
@@ -111,12 +111,12 @@ clause_set_lit w o k x c within small =
       flags = omega (arith, c.flags);
       whole = omega (arith, c.whole);
       lits = λ j h. elim (cases_eq j k) [
-        | inl same ↦ let e : get_or (set w (o + 3 + k) x) (o + 3 + k) 0 ≡ x = get_or-set_same w (o + 3 + k) x 0 (omega (arith, c.whole)) in subst (λ (z : ℕ). get_or (set w (o + 3 + k) x) (o + 3 + z) 0 < 2 * largest) (sym same) (omega arith)
+        | inl same ↦ let e : get_or (set w (o + 3 + k) x) (o + 3 + k) 0 ≡ x = get_or-set_same w (o + 3 + k) x 0 (omega (arith, c.whole)) in subst (λ (z : ℕ). get_or (set w (o + 3 + k) x) (o + 3 + z) 0 < 2 * var_limit) (sym same) (omega arith)
         | inr other ↦ let e : get_or (set w (o + 3 + k) x) (o + 3 + j) 0 ≡ get_or w (o + 3 + j) 0 = at_other w (o + 3 + k) (o + 3 + j) x (omega arith) in omega (arith, c.lits j (omega arith))
       ];
     }
 
-pub changes_lit : (w : List ℕ) (o k x : ℕ) → IsClause w o → k < get_or w (o + 2) 0 → x < 2 * largest → ChangesAt w (set w (o + 3 + k) x) o
+pub changes_lit : (w : List ℕ) (o k x : ℕ) → IsClause w o → k < get_or w (o + 2) 0 → x < 2 * var_limit → ChangesAt w (set w (o + 3 + k) x) o
 changes_lit w o k x c within small =
     let n : get_or (set w (o + 3 + k) x) (o + 2) 0 ≡ get_or w (o + 2) 0 = at_other w (o + 3 + k) (o + 2) x (omega arith) in
     changes_at w (set w (o + 3 + k) x) o c (clause_set_lit w o k x c within small) (length-set w (o + 3 + k) x) (omega arith)
@@ -174,7 +174,7 @@ word_read v w p o k x e f c small read =
     let second : get_or v (p + 3 + k) 0 ≡ get_or w (o + 3 + k) 0 = rw (e, f) refl in
     first ∙ second
 
-pub lit_read : (v w : List ℕ) (p o k x : ℕ) → v ≡ w → p ≡ o → IsClause w o → k < length (lits_at w o) → x ≡ get_or v (p + 3 + k) x → (x ≡ get_or (lits_at w o) k 0) × (x < 2 * largest)
+pub lit_read : (v w : List ℕ) (p o k x : ℕ) → v ≡ w → p ≡ o → IsClause w o → k < length (lits_at w o) → x ≡ get_or v (p + 3 + k) x → (x ≡ get_or (lits_at w o) k 0) × (x < 2 * var_limit)
 lit_read v w p o k x e f c small read =
     let n : length (lits_at w o) ≡ get_or w (o + 2) 0 = lits_count w o c in
     let there : x ≡ get_or w (o + 3 + k) 0 = word_read v w p o k x e f c small read in
@@ -187,7 +187,7 @@ pub record Leaves (w v : List ℕ) (o : ℕ) (ls : List ℕ) : Type 0 where
   pub lits : lits_at v o ≡ ls
   pub others : ChangesAt w v o
 
-pub wrote_lit : (v w : List ℕ) (p o k x : ℕ) → v ≡ w → p ≡ o → IsClause w o → k < length (lits_at w o) → x < 2 * largest → Leaves w (set v (p + 3 + k) x) o (set (lits_at w o) k x)
+pub wrote_lit : (v w : List ℕ) (p o k x : ℕ) → v ≡ w → p ≡ o → IsClause w o → k < length (lits_at w o) → x < 2 * var_limit → Leaves w (set v (p + 3 + k) x) o (set (lits_at w o) k x)
 wrote_lit v w p o k x e f c small fits =
     let n : length (lits_at w o) ≡ get_or w (o + 2) 0 = lits_count w o c in
     let here : Leaves w (set w (o + 3 + k) x) o (set (lits_at w o) k x) = record {
@@ -324,7 +324,7 @@ apart_behind v w p c keeps =
     let n : get_or w (p + 2) 0 ≡ get_or v (p + 2) 0 = same_len v w p keeps in
     (inl (omega (arith, c.whole)), inr (omega (arith, c.whole)))
 
-pub added_clause : (v w : List ℕ) (a f : ℕ) (ls : List ℕ) (h : Header) → WroteClause v w a f ls → f < 2 ^ 11 → All (λ l. l < 2 * largest) ls → header_of a f h.len ≡ h → AppendsClause v w (length v) h ls
+pub added_clause : (v w : List ℕ) (a f : ℕ) (ls : List ℕ) (h : Header) → WroteClause v w a f ls → f < 2 ^ 11 → All (λ l. l < 2 * var_limit) ls → header_of a f h.len ≡ h → AppendsClause v w (length v) h ls
 unfolding header_at
 added_clause v w a f ls h wrote small fit is =
     let size : length w ≡ length v + 3 + length ls = wrote.size in
@@ -366,7 +366,7 @@ added_clause v w a f ls h wrote small fit is =
       };
     }
 
-pub pushed_clause : (v w x : List ℕ) (c a f l : ℕ) (ls : List ℕ) (h : Header) → v ≡ w → c ≡ length v → x ≡ v ++ a ∷ [] ++ f ∷ [] ++ l ∷ [] ++ ls → l ≡ length ls → f < 2 ^ 11 → All (λ l. l < 2 * largest) ls → a ≡ h.activity → header_of h.activity f h.len ≡ h → AppendsClause w x c h ls
+pub pushed_clause : (v w x : List ℕ) (c a f l : ℕ) (ls : List ℕ) (h : Header) → v ≡ w → c ≡ length v → x ≡ v ++ a ∷ [] ++ f ∷ [] ++ l ∷ [] ++ ls → l ≡ length ls → f < 2 ^ 11 → All (λ l. l < 2 * var_limit) ls → a ≡ h.activity → header_of h.activity f h.len ≡ h → AppendsClause w x c h ls
 pushed_clause v w x c a f l ls h e place is len small fit active head =
     let whole : x ≡ w ++ (h.activity ∷ f ∷ length ls ∷ ls) = is ∙ rw (active, len, e) (simp append_assoc) in
     let here : AppendsClause w (w ++ (h.activity ∷ f ∷ length ls ∷ ls)) (length w) h ls = added_clause w (w ++ (h.activity ∷ f ∷ length ls ∷ ls)) h.activity f ls h (wrote_clause w h.activity f ls) small fit head in
@@ -456,7 +456,7 @@ copied_words v u o m c is =
           ];
     }
 
-pub copied_clause : (v w x u : List ℕ) (c o m : ℕ) → v ≡ w → c ≡ length v → x ≡ v ++ take m (drop o u) → IsClause u o → m ≡ 3 + get_or u (o + 2) 0 → All (λ l. l < 2 * largest) (lits_at u o) → AppendsClause w x c (header_at u o) (lits_at u o)
+pub copied_clause : (v w x u : List ℕ) (c o m : ℕ) → v ≡ w → c ≡ length v → x ≡ v ++ take m (drop o u) → IsClause u o → m ≡ 3 + get_or u (o + 2) 0 → All (λ l. l < 2 * var_limit) (lits_at u o) → AppendsClause w x c (header_at u o) (lits_at u o)
 unfolding header_at
 copied_clause v w x u c o m e place is clause size fit =
     let here : AppendsClause w (w ++ take m (drop o u)) (length w) (header_at u o) (lits_at u o) =
@@ -465,7 +465,7 @@ copied_clause v w x u c o m e place is clause size fit =
     rw (whole, place, e) here
 
 -- the same, where the call knows the other buffer's words under another name
-pub copied_by : (v w x u t : List ℕ) (c o p n : ℕ) → v ≡ w → t ≡ u → p ≡ o → c ≡ length v → n ≡ get_or t (p + 2) n → x ≡ v ++ take (p + 3 + n - p) (drop p t) → IsClause u o → All (λ l. l < 2 * largest) (lits_at u o) → AppendsClause w x c (header_at u o) (lits_at u o)
+pub copied_by : (v w x u t : List ℕ) (c o p n : ℕ) → v ≡ w → t ≡ u → p ≡ o → c ≡ length v → n ≡ get_or t (p + 2) n → x ≡ v ++ take (p + 3 + n - p) (drop p t) → IsClause u o → All (λ l. l < 2 * var_limit) (lits_at u o) → AppendsClause w x c (header_at u o) (lits_at u o)
 copied_by v w x u t c o p n e same f place read is clause fit =
     let there : n ≡ get_or u (o + 2) 0 = (len_read t u p o n same f clause read).0 ∙ lits_count u o clause in
     let m : p + 3 + n - p ≡ 3 + get_or u (o + 2) 0 = omega arith in

@@ -2,31 +2,31 @@
 use Rattle.std.proofs.Common.{◌≡◌, ◌≢◌, ℕ, ◌+◌, ◌*◌, ◌<◌, ◌≤◌, inl, inr, List, [], length, get_or, arith, sym, ◌∙◌}
 use Rattle.std.proofs.lemmas.List.{get_or_default}
 use Rattle.std.specs.List.{Contains, All}
-use Rattle.sat_base.specs.values.Literals.{largest}
+use Rattle.sat_base.specs.values.Literals.{var_limit}
 use Rattle.sat_store.specs.clause.Header.{Header}
-use Rattle.sat_store.specs.clause.Buffer.{header_at, lits_at, IsClause, Apart, Laid, SameClauseAt, ChangesAt, AppendsClause}
+use Rattle.sat_store.specs.clause.Buffer.{header_at, lits_at, IsClause, Apart, HoldsClauses, SameClauseAt, ChangesAt, AppendsClause}
 use Rattle.sat_store.proofs.lemmas.clause.BufferLemmas.{lits_count, lit_there, header_len}
 
 -- nothing is live in an empty buffer
-pub laid_none : (words : List ℕ) → Laid words []
+pub laid_none : (words : List ℕ) → HoldsClauses words []
 laid_none words = record {
   clauses = λ o (k, h, e). absurd (omega arith);
   apart = λ o p (k, h, e) has differ. absurd (omega arith);
 }
 
 -- a list of some of the live clauses, in any order, is laid as well
-pub laid_among : (words live some : List ℕ) → ((o : ℕ) → Contains some o → Contains live o) → Laid words live → Laid words some
+pub laid_among : (words live some : List ℕ) → ((o : ℕ) → Contains some o → Contains live o) → HoldsClauses words live → HoldsClauses words some
 laid_among words live some among laid = record {
   clauses = λ o has. laid.clauses o (among o has);
   apart = λ o p has_o has_p differ. laid.apart o p (among o has_o) (among p has_p) differ;
 }
 
 -- a change of one live clause keeps each other one
-pub kept_beside : (old new live : List ℕ) (o p : ℕ) → Laid old live → Contains live o → Contains live p → p ≢ o → ChangesAt old new o → SameClauseAt old new p
+pub kept_beside : (old new live : List ℕ) (o p : ℕ) → HoldsClauses old live → Contains live o → Contains live p → p ≢ o → ChangesAt old new o → SameClauseAt old new p
 kept_beside old new live o p laid has_o has_p differ change = change.others p (laid.clauses p has_p) (laid.apart o p has_o has_p (λ e. differ (sym e)))
 
 -- a clause added keeps each live one, and isn't one of them
-pub kept_below : (old new live : List ℕ) (c p : ℕ) (header : Header) (lits : List ℕ) → Laid old live → Contains live p → AppendsClause old new c header lits → SameClauseAt old new p
+pub kept_below : (old new live : List ℕ) (c p : ℕ) (header : Header) (lits : List ℕ) → HoldsClauses old live → Contains live p → AppendsClause old new c header lits → SameClauseAt old new p
 kept_below old new live c p header lits laid has added = added.others p (laid.clauses p has)
 
 -- the length in the header is that of the literals
@@ -34,7 +34,7 @@ pub same_count : (words : List ℕ) (o : ℕ) → IsClause words o → length (l
 same_count words o clause = lits_count words o clause ∙ sym (header_len words o)
 
 -- each literal is the code of one
-pub lits_fit : (words : List ℕ) (o : ℕ) → IsClause words o → All (λ l. l < 2 * largest) (lits_at words o)
+pub lits_fit : (words : List ℕ) (o : ℕ) → IsClause words o → All (λ l. l < 2 * var_limit) (lits_at words o)
 lits_fit words o clause k d small =
     let n : length (lits_at words o) ≡ get_or words (o + 2) 0 = lits_count words o clause in
     let there : get_or (lits_at words o) k 0 ≡ get_or words (o + 3 + k) 0 = lit_there words o k (omega arith) in
@@ -46,7 +46,7 @@ pub clause_within : (words : List ℕ) (o : ℕ) → IsClause words o → o + 3 
 clause_within words o clause = omega (arith, lits_count words o clause, clause.whole)
 
 -- of two live clauses the words of the first end before those of the second begin
-pub ends_before : (words live : List ℕ) (o p : ℕ) → Laid words live → Contains live o → Contains live p → o < p → o + 3 + length (lits_at words o) ≤ p
+pub ends_before : (words live : List ℕ) (o p : ℕ) → HoldsClauses words live → Contains live o → Contains live p → o < p → o + 3 + length (lits_at words o) ≤ p
 unfolding Apart
 ends_before words live o p laid has_o has_p lt =
     let n : length (lits_at words o) ≡ get_or words (o + 2) 0 = lits_count words o (laid.clauses o has_o) in

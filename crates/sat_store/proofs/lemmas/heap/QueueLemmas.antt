@@ -7,7 +7,7 @@ use Rattle.std.proofs.lemmas.Nat.{div-add-mod', div_below}
 use Rattle.std.proofs.Math.Nat.{mul-add-div_right}
 use Rattle.std.proofs.lemmas.Bool.Decides.{nat_tests}
 use Rattle.std.proofs.lemmas.List.{get_or_read, set-get_or, get_or_append_left, get_or_at, get_or_past, get_or-map, length-map, ext_get_or, get_or-set_same, get_or-set_other, length-set, map-append, append-nil, replicate-append-replicate}
-use Rattle.sat_base.specs.values.Literals.{largest}
+use Rattle.sat_base.specs.values.Literals.{var_limit}
 use Rattle.sat_store.specs.declared.vsids.heap.Entry.{Entry}
 use Rattle.sat_store.specs.heap.Vsids.{Queue, activity_of, bumped, quotient_up, decayed, IsFirst}
 use Rattle.sat_store.proofs.lemmas.heap.OrderLemmas.{top_greatest, raised_up}
@@ -89,7 +89,7 @@ grown_keys h p placed =
 same_order : (r s : ℕ → ℕ) (m : ℕ) → ((k : ℕ) → k < m → s k ≡ r k) → Ordered r m 0 → Ordered s m 0
 same_order r s m same ordered k pos small low = omega (arith, same k small, same (parent k) (omega arith), ordered k pos small low)
 
-pub grown_heap : (h : List Entry) (p : List ℕ) (m : ℕ) → IsHeap h p m → length h < largest → IsHeap (h ++ newcomer (length h) ∷ []) (p ++ length h ∷ []) m
+pub grown_heap : (h : List Entry) (p : List ℕ) (m : ℕ) → IsHeap h p m → length h < var_limit → IsHeap (h ++ newcomer (length h) ∷ []) (p ++ length h ∷ []) m
 grown_heap h p m heap few =
     let e : Entry = newcomer (length h) in
     let lh : length (h ++ e ∷ []) ≡ length h + 1 = one_longer h e in
@@ -397,7 +397,7 @@ flag_true m p u flag = elim (cases_lt u (length p)) [
   | inr past ↦ let no : get_or (flags m p) u false ≡ false = get_or_past (flags m p) u false (omega (arith, flags_count m p)) in absurd (false≢true (sym no ∙ flag))
 ]
 
-rank_says : (a b : Entry) → a.var < largest → b.var < largest → rank a ≤ rank b → (a.key < b.key) ⊎ ((a.key ≡ b.key) × (b.var ≤ a.var))
+rank_says : (a b : Entry) → a.var < var_limit → b.var < var_limit → rank a ≤ rank b → (a.key < b.key) ⊎ ((a.key ≡ b.key) × (b.var ≤ a.var))
 rank_says a b small_a small_b order = elim (cases_lt a.key b.key) [
   | inl less ↦ inl less
   | inr more ↦ inr (omega arith, omega arith)

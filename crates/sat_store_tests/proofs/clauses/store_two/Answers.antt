@@ -1,6 +1,6 @@
 use Rattle.std.proofs.Common.{ℕ, List, [], ◌∷◌, refl, ap, ◌∙◌, sym, subst, arith}
 use Rattle.std.specs.List.{Contains}
-use Rattle.sat_store.specs.clause.Buffer.{Laid, lits_at}
+use Rattle.sat_store.specs.clause.Buffer.{HoldsClauses, lits_at}
 use Rattle.sat_store.proofs.lemmas.clause.Laying.{laid_none, kept_below}
 use Rattle.sat_store_tests.proofs.clauses.store_two.Goals as goal
 

@@ -1,8 +1,8 @@
 use Rattle.std.proofs.Common.{◌≡◌, ◌≤◌, ◌++◌, drop}
-use Rattle.sat_base.specs.values.Literals.{largest}
+use Rattle.sat_base.specs.values.Literals.{var_limit}
 use Rattle.certify.specs.answers.AnswerReading.{digits_so_far}
 use Rattle.certify.proofs.answers.read.begins_name.Given as goal
 
 -- what was read is the name's digits
 abbrev pub invariant-loop-i : goal.invariant-loop-i
-invariant-loop-i l = (l.name ≤ largest) × (l.bytes ≡ digits_so_far l.name ++ drop l.i l.bytes)
+invariant-loop-i l = (l.name ≤ var_limit) × (l.bytes ≡ digits_so_far l.name ++ drop l.i l.bytes)

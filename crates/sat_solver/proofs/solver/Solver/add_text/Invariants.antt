@@ -2,7 +2,7 @@ use Rattle.std.proofs.Common.{◌≡◌, ◌+◌, ◌<◌, ◌≤◌, false, len
 use Rattle.sat_base.specs.device.Device.{GaveFront}
 use Rattle.sat_base.specs.dimacs.Dimacs.{dimacs, settled}
 use Rattle.sat_base.specs.dimacs.Parsing.{IsSoundSoFar}
-use Rattle.sat_base.proofs.lemmas.dimacs.Parsed.{Stands as HasFed}
+use Rattle.sat_base.proofs.lemmas.dimacs.Parsed.{HasAccepted as HasFed}
 use Rattle.sat_solver.specs.solver.Formulas.{AddsAll}
 use Rattle.sat_solver.specs.solver.Whole.{IsSolver}
 use Rattle.sat_solver.proofs.solver.Solver.add_text.Given as goal

@@ -12,7 +12,7 @@ use Rattle.sat_solver.specs.session.Fits.{is_redundant}
 use Rattle.sat_solver.specs.cdcl.Joint.{global_in}
 use Rattle.sat_solver.specs.unit_simplify.Cuts.{deleted_step}
 use Rattle.sat_solver.specs.declared.context.Search.{Search}
-use Rattle.sat_solver.specs.unit_simplify.Flat.{Lighter, Lightens}
+use Rattle.sat_solver.specs.unit_simplify.Flat.{IsStrengthened, StrengthensClause}
 use Rattle.sat_solver.proofs.lemmas.cdcl.GoingLemmas.{goes_starved, goes_step, goes_broken}
 use Rattle.sat_solver.proofs.lemmas.unit_simplify.LightensLemmas.{lightens_dropped}
 use Rattle.sat_solver.proofs.lemmas.unit_simplify.TrueLemmas.{true_goes, true_lighter}
@@ -36,12 +36,12 @@ returns g c =
     let clause : c.deref-2.result.now ≡ map (with_var (global_in c.args.search.now)) (lits_at c.args.search.now.parts.clauses c.args.cref) = c.deref-2.ensures.value ∙ rw c.deref.ensures.value at c.in_ok-map_clause.ensures in
     let flag : is_redundant c.args.search.now.parts.clauses c.args.cref ≡ c.redundant-redundant.result = ap (λ (h : Header). is_learned h.tier) (sym c.header.ensures.value) ∙ sym c.redundant-redundant.ensures in
     let scratch : Scratch = record c.args.search.now.scratch { clause = c.map_clause.new.clause } in
-    let after_step = subst (λ d. Lighter (after (DeleteClause c.deref-2.result.now d) (session_of c.args.proof.now)) c.args.search.now (record c.args.search.now { parts = c.delete_long.new.parts; scratch = scratch })) (sym c.deletion_for.ensures)
-    (subst (λ (ls : List ℕ). Lighter (after (deleted_step c.redundant-redundant.result Satisfied ls) (session_of c.args.proof.now)) c.args.search.now (record c.args.search.now { parts = c.delete_long.new.parts; scratch = scratch })) (sym clause)
+    let after_step = subst (λ d. IsStrengthened (after (DeleteClause c.deref-2.result.now d) (session_of c.args.proof.now)) c.args.search.now (record c.args.search.now { parts = c.delete_long.new.parts; scratch = scratch })) (sym c.deletion_for.ensures)
+    (subst (λ (ls : List ℕ). IsStrengthened (after (deleted_step c.redundant-redundant.result Satisfied ls) (session_of c.args.proof.now)) c.args.search.now (record c.args.search.now { parts = c.delete_long.new.parts; scratch = scratch })) (sym clause)
     (true_lighter (session_of c.args.proof.now) c.args.search.now c.delete_long.new.parts c.args.cref c.requires.search c.requires.flat c.requires.live c.requires.satisfied c.delete_long.ensures.dropped c.redundant-redundant.result flag scratch c.delete_long.ensures.holds c.delete_long.ensures.word)) in
     let d : Search = record c.args.search.now { parts = c.delete_long.new.parts; scratch = scratch } in
-    goes_step g.W.CountedWrite.seen tt c.args.proof.now c.step.new.self (DeleteClause c.deref-2.result.now (deletion_of c.deletion_for.result)) (λ _ _. Lightens (session_of c.step.new.self) c.args.search.now d c.args.cref) tt refl c.in_ok-step.ensures.keeps c.in_ok-step.ensures.records
-    (lightens_dropped (session_of c.step.new.self) c.args.search.now d c.args.cref (subst (λ ss. Lighter (session_after ss) c.args.search.now d) (sym c.in_ok-step.ensures.records.history) after_step) c.delete_long.ensures.dropped)
+    goes_step g.W.CountedWrite.seen tt c.args.proof.now c.step.new.self (DeleteClause c.deref-2.result.now (deletion_of c.deletion_for.result)) (λ _ _. StrengthensClause (session_of c.step.new.self) c.args.search.now d c.args.cref) tt refl c.in_ok-step.ensures.keeps c.in_ok-step.ensures.records
+    (lightens_dropped (session_of c.step.new.self) c.args.search.now d c.args.cref (subst (λ ss. IsStrengthened (session_after ss) c.args.search.now d) (sym c.in_ok-step.ensures.records.history) after_step) c.delete_long.ensures.dropped)
 
 pub returns-in_err-step : goal.returns-in_err-step
 returns-in_err-step g c =

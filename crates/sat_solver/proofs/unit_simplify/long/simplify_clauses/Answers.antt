@@ -7,7 +7,7 @@ use Rattle.sat_parts.proofs.lemmas.clause.ListLemmas.{place_in}
 use Rattle.sat_solver.specs.proof.ProofView.{session_of}
 use Rattle.sat_parts.proofs.lemmas.parts.ReduceLemmas.{in_filter}
 use Rattle.sat_solver.proofs.lemmas.cdcl.GoingLemmas.{goes_none, goes_then, goes_then_fails, goes_on}
-use Rattle.sat_solver.specs.unit_simplify.Flat.{Lighter, Lightens, LightensAll, AreOpenTo}
+use Rattle.sat_solver.specs.unit_simplify.Flat.{IsStrengthened, StrengthensClause, StrengthensAll, AreOpenTo}
 use Rattle.sat_solver.proofs.lemmas.unit_simplify.LighterLemmas.{lighter_refl, lighter_trans, flat_on}
 use Rattle.sat_solver.proofs.lemmas.unit_simplify.WalkLemmas.{to_none, to_more, to_skip, to_all}
 use Rattle.sat_solver.proofs.unit_simplify.long.simplify_clauses.Goals as goal
@@ -58,14 +58,14 @@ pub returns-in_err-simplify_clause : goal.returns-in_err-simplify_clause
 returns-in_err-simplify_clause g c =
     let p = err_from_is_err_and c.from_residual.result c.from_residual.ensures.1 in
     rw (p.1, p.2)
-    (goes_then_fails g.W.CountedWrite.seen tt c.in_err-simplify_clause.field-0.0 c.args.proof.now c.loop-at.proof c.simplify_clause.new.proof _ (λ (_ : Unit {0}) _. Lightens (session_of c.simplify_clause.new.proof) c.loop-at.search c.simplify_clause.new.search c.cref-cref.result) _
+    (goes_then_fails g.W.CountedWrite.seen tt c.in_err-simplify_clause.field-0.0 c.args.proof.now c.loop-at.proof c.simplify_clause.new.proof _ (λ (_ : Unit {0}) _. StrengthensClause (session_of c.simplify_clause.new.proof) c.loop-at.search c.simplify_clause.new.search c.cref-cref.result) _
     c.loop-at.invariant.went c.in_err-simplify_clause.ensures)
 
 pub loop-at-preserved : goal.loop-at-preserved
 loop-at-preserved g c =
     let lt : c.loop-at.at < length c.args.search.now.parts.db.refs = omega (arith, c.loop-at-test.true, c.len-at-end.ensures) in
     record {
-      went = goes_then g.W.CountedWrite.seen tt (Ok tt) c.args.proof.now c.loop-at.proof c.simplify_clause.new.proof _ (λ _ _. Lightens (session_of c.simplify_clause.new.proof) c.loop-at.search c.simplify_clause.new.search c.cref-cref.result) _ c.loop-at.invariant.went c.in_ok-simplify_clause.ensures
+      went = goes_then g.W.CountedWrite.seen tt (Ok tt) c.args.proof.now c.loop-at.proof c.simplify_clause.new.proof _ (λ _ _. StrengthensClause (session_of c.simplify_clause.new.proof) c.loop-at.search c.simplify_clause.new.search c.cref-cref.result) _ c.loop-at.invariant.went c.in_ok-simplify_clause.ensures
           (λ xs ys y a b. lighter_trans (session_of c.loop-at.proof) (session_of c.simplify_clause.new.proof) c.args.search.now c.loop-at.search c.simplify_clause.new.search a b.lighter);
       left = to_more c.args.search.now c.loop-at.search c.loop-at.at c.loop-at.invariant.left (session_of c.simplify_clause.new.proof) c.simplify_clause.new.search c.cref-cref.result lt c.requires.search.stands.holds.below.held.rising
           (c.cref-cref.ensures ∙ ap (λ (xs : List ℕ). get_or xs c.loop-at.at 0) c.loop-at.invariant.went.ends.refs) c.in_ok-simplify_clause.ensures.ends;
@@ -74,6 +74,6 @@ loop-at-preserved g c =
 pub returns : goal.returns
 returns g c =
     let end : c.loop-at.at ≡ length c.args.search.now.parts.db.refs = omega (arith, c.loop-at-test.false, c.loop-at.auto.at-end, c.len-at-end.ensures) in
-    goes_on g.W.CountedWrite.seen tt tt c.args.proof.now c.loop-at.proof (λ _ _. Lighter (session_of c.loop-at.proof) c.args.search.now c.loop-at.search) (λ _ _. LightensAll (session_of c.loop-at.proof) c.args.search.now c.loop-at.search)
+    goes_on g.W.CountedWrite.seen tt tt c.args.proof.now c.loop-at.proof (λ _ _. IsStrengthened (session_of c.loop-at.proof) c.args.search.now c.loop-at.search) (λ _ _. StrengthensAll (session_of c.loop-at.proof) c.args.search.now c.loop-at.search)
     (λ steps x. record { lighter = x; left = to_all c.args.search.now c.loop-at.search x.refs (subst (λ k. AreOpenTo c.args.search.now c.loop-at.search k) end c.loop-at.invariant.left) })
     c.loop-at.invariant.went

@@ -1,6 +1,6 @@
 use Rattle.std.proofs.Common.{◌*◌, ◌^◌, arith}
 use Rattle.std.proofs.lemmas.Result.{err_from_is_err_and}
-use Rattle.sat_base.specs.values.Literals.{largest}
+use Rattle.sat_base.specs.values.Literals.{var_limit}
 use Rattle.sat_base.specs.steps.Numbers.{IsBelow}
 use Rattle.sat_base.specs.device.Reading.{source_of, giving}
 use Rattle.sat_base.proofs.lemmas.steps.Numbers.{one_below, some_below}
@@ -11,9 +11,9 @@ pub returns-in_err-count : goal.returns-in_err-count
 returns-in_err-count g c =
     let S = source_of g.R.CountedRead.seen in
     let p = err_from_is_err_and c.from_residual.result c.from_residual.ensures.1 in
-    rw (p.1, p.2) (list_fails (IsBelow (2 ^ 64)) (IsBelow (2 * largest)) (one_below (2 ^ 64)) (some_below (2 * largest) (omega arith)) c.in_err-count.field-0.0 (S c.args.self.now) (S c.number.new.self) c.in_err-count.ensures)
+    rw (p.1, p.2) (list_fails (IsBelow (2 ^ 64)) (IsBelow (2 * var_limit)) (one_below (2 ^ 64)) (some_below (2 * var_limit) (omega arith)) c.in_err-count.field-0.0 (S c.args.self.now) (S c.number.new.self) c.in_err-count.ensures)
 
 pub returns : goal.returns
 returns g c =
     let S = source_of g.R.CountedRead.seen in
-    list_gives (IsBelow (2 ^ 64)) (IsBelow (2 * largest)) (one_below (2 ^ 64)) c.in_ok-count.count (S c.args.self.now) (S c.number.new.self) (S c.literal_items.new.self) c.in_ok-count.ensures (giving c.literal_items.new.lits.items c.literal_items.result) c.literal_items.ensures
+    list_gives (IsBelow (2 ^ 64)) (IsBelow (2 * var_limit)) (one_below (2 ^ 64)) c.in_ok-count.count (S c.args.self.now) (S c.number.new.self) (S c.literal_items.new.self) c.in_ok-count.ensures (giving c.literal_items.new.lits.items c.literal_items.result) c.literal_items.ensures

@@ -2,7 +2,7 @@ use Rattle.std.proofs.Common.{◌≡◌, ℕ, Bool, true, false, Result, Ok, Err
 use Rattle.std.proofs.lemmas.Bool.Decides.{nat_tests}
 use Rattle.std.proofs.lemmas.Result.{err_from_is_err_and}
 use Rattle.sat_base.specs.declared.steps.error.StepError.{StepError}
-use Rattle.sat_base.specs.values.Literals.{largest}
+use Rattle.sat_base.specs.values.Literals.{var_limit}
 use Rattle.sat_base.specs.steps.Formats.{Both}
 use Rattle.sat_base.specs.steps.Steps.{Step}
 use Rattle.sat_base.specs.steps.StepText.{IsVariable, IsOptionalVariable, IsFlag}
@@ -27,9 +27,9 @@ variable_stops : {X : Type 0} (tag : ℕ) (three four : Bool) → nat_eq tag 3 �
     → ReadsValue (Behind tag) (valued g r) old new
 variable_stops tag true four t f other g r d e old new p q h = stops_behind 3 tag _ _ variable_form g r d e old new p q (grind (arith, nat_tests)) h
 variable_stops tag false true t f other g r d e old new p q h =
-    stops_behind 4 tag _ _ mode_form g r d e old new p q (grind (arith, nat_tests)) (first_fails IsVariable (λ _. IsFlag) (one_below largest) (λ _. some_flag) e old new h)
+    stops_behind 4 tag _ _ mode_form g r d e old new p q (grind (arith, nat_tests)) (first_fails IsVariable (λ _. IsFlag) (one_below var_limit) (λ _. some_flag) e old new h)
 variable_stops tag false false t f other g r d e old new p q h =
-    names_stop tag _ refl (other t f) g r d e old new p q (first_fails IsVariable (λ _. IsOptionalVariable) (one_below largest) (λ _. some_optional) e old new h)
+    names_stop tag _ refl (other t f) g r d e old new p q (first_fails IsVariable (λ _. IsOptionalVariable) (one_below var_limit) (λ _. some_optional) e old new h)
 
 pub returns-in_err-var : goal.returns-in_err-var
 returns-in_err-var g c =
@@ -44,7 +44,7 @@ returns-in_err-sample g c =
     let k = c.in_ok-var.ensures in
     let e = c.in_err-sample.field-0.0 in
     let p = err_from_is_err_and c.from_residual-in_err-sample.result c.from_residual-in_err-sample.ensures.1 in
-    let h = second_gives IsVariable (λ _. IsFlag) (one_below largest) c.in_ok-var.var k.0 (S c.args.self.now) (S c.variable.new.self) (S c.flag.new.self) k.2 k.1 (Err e) c.in_err-sample.ensures in
+    let h = second_gives IsVariable (λ _. IsFlag) (one_below var_limit) c.in_ok-var.var k.0 (S c.args.self.now) (S c.variable.new.self) (S c.flag.new.self) k.2 k.1 (Err e) c.in_err-sample.ensures in
     λ literals hashes units. stops_behind 4 c.args.tag _ _ mode_form _ c.from_residual-in_err-sample.result _ e (S c.args.self.now) (S c.flag.new.self) p.1 p.2 c.if-tag-eq4.true h
 
 pub returns-in_err-named : goal.returns-in_err-named
@@ -54,7 +54,7 @@ returns-in_err-named g c =
     let e = c.in_err-named.field-0.0 in
     let p = err_from_is_err_and c.from_residual-in_err-named.result c.from_residual-in_err-named.ensures.1 in
     let other : nat_eq c.args.tag 1 ≡ false → 2 ≡ c.args.tag = λ o. grind rules in
-    let h = second_gives IsVariable (λ _. IsOptionalVariable) (one_below largest) c.in_ok-var.var k.0 (S c.args.self.now) (S c.variable.new.self) (S c.optional.new.self) k.2 k.1 (Err e) c.in_err-named.ensures in
+    let h = second_gives IsVariable (λ _. IsOptionalVariable) (one_below var_limit) c.in_ok-var.var k.0 (S c.args.self.now) (S c.variable.new.self) (S c.optional.new.self) k.2 k.1 (Err e) c.in_err-named.ensures in
     λ literals hashes units. names_stop c.args.tag _ refl other _ c.from_residual-in_err-named.result _ e (S c.args.self.now) (S c.optional.new.self) p.1 p.2 h
 
 pub returns-in_err-bits : goal.returns-in_err-bits
@@ -72,14 +72,14 @@ pub returns-in_ok-sample : goal.returns-in_ok-sample
 returns-in_ok-sample g c =
     let S = source_of g.R.CountedRead.seen in
     let k = c.in_ok-var.ensures in
-    let e = second_gives IsVariable (λ _. IsFlag) (one_below largest) c.in_ok-var.var k.0 (S c.args.self.now) (S c.variable.new.self) (S c.flag.new.self) k.2 k.1 (Ok c.in_ok-sample.sample) c.in_ok-sample.ensures in
+    let e = second_gives IsVariable (λ _. IsFlag) (one_below var_limit) c.in_ok-var.var k.0 (S c.args.self.now) (S c.variable.new.self) (S c.flag.new.self) k.2 k.1 (Ok c.in_ok-sample.sample) c.in_ok-sample.ensures in
     λ literals hashes units. (e.0, e.1, (sym c.if-tag-eq4.true, e.2))
 
 pub returns-then-tag-eq1 : goal.returns-then-tag-eq1
 returns-then-tag-eq1 g c =
     let S = source_of g.R.CountedRead.seen in
     let k = c.in_ok-var.ensures in
-    let e = second_gives IsVariable (λ _. IsOptionalVariable) (one_below largest) c.in_ok-var.var k.0 (S c.args.self.now) (S c.variable.new.self) (S c.optional.new.self) k.2 k.1 (Ok c.in_ok-named.named) c.in_ok-named.ensures in
+    let e = second_gives IsVariable (λ _. IsOptionalVariable) (one_below var_limit) c.in_ok-var.var k.0 (S c.args.self.now) (S c.variable.new.self) (S c.optional.new.self) k.2 k.1 (Ok c.in_ok-named.named) c.in_ok-named.ensures in
     λ literals hashes units. (e.0, e.1, (sym c.if-tag-eq1.true, e.2))
 
 pub returns-else-tag-eq1 : goal.returns-else-tag-eq1
@@ -87,7 +87,7 @@ returns-else-tag-eq1 g c =
     let S = source_of g.R.CountedRead.seen in
     let k = c.in_ok-var.ensures in
     let i : 2 ≡ c.args.tag = grind rules in
-    let e = second_gives IsVariable (λ _. IsOptionalVariable) (one_below largest) c.in_ok-var.var k.0 (S c.args.self.now) (S c.variable.new.self) (S c.optional.new.self) k.2 k.1 (Ok c.in_ok-named.named) c.in_ok-named.ensures in
+    let e = second_gives IsVariable (λ _. IsOptionalVariable) (one_below var_limit) c.in_ok-var.var k.0 (S c.args.self.now) (S c.variable.new.self) (S c.optional.new.self) k.2 k.1 (Ok c.in_ok-named.named) c.in_ok-named.ensures in
     λ literals hashes units. (e.0, e.1, (i, e.2))
 
 pub returns-in_ok-bits : goal.returns-in_ok-bits

@@ -1,6 +1,6 @@
 use Rattle.std.proofs.Common.{Ok, Err, ◌*◌, ◌^◌, arith}
 use Rattle.std.proofs.lemmas.Result.{err_from_is_err_and}
-use Rattle.sat_base.specs.values.Literals.{largest}
+use Rattle.sat_base.specs.values.Literals.{var_limit}
 use Rattle.sat_base.specs.steps.StepText.{IsLiteral, IsHash}
 use Rattle.sat_base.specs.device.Reading.{source_of}
 use Rattle.sat_base.proofs.lemmas.steps.Numbers.{one_below, some_below}
@@ -11,17 +11,17 @@ pub returns-in_err-lit : goal.returns-in_err-lit
 returns-in_err-lit g c =
     let S = source_of g.R.CountedRead.seen in
     let p = err_from_is_err_and c.from_residual.result c.from_residual.ensures.1 in
-    rw (p.1, p.2) (first_fails IsLiteral (λ _. IsHash) (one_below (2 * largest)) (λ _. some_below (2 ^ 64) (omega arith)) c.in_err-lit.field-0.0 (S c.args.self.now) (S c.literal.new.self) c.in_err-lit.ensures)
+    rw (p.1, p.2) (first_fails IsLiteral (λ _. IsHash) (one_below (2 * var_limit)) (λ _. some_below (2 ^ 64) (omega arith)) c.in_err-lit.field-0.0 (S c.args.self.now) (S c.literal.new.self) c.in_err-lit.ensures)
 
 pub returns-in_err-hash : goal.returns-in_err-hash
 returns-in_err-hash g c =
     let S = source_of g.R.CountedRead.seen in
     let p = err_from_is_err_and c.from_residual-in_err-hash.result c.from_residual-in_err-hash.ensures.1 in
     let k = c.in_ok-lit.ensures in
-    rw (p.1, p.2) (second_gives IsLiteral (λ _. IsHash) (one_below (2 * largest)) c.in_ok-lit.lit k.0 (S c.args.self.now) (S c.literal.new.self) (S c.number.new.self) k.2 k.1 (Err c.in_err-hash.field-0.0) c.in_err-hash.ensures)
+    rw (p.1, p.2) (second_gives IsLiteral (λ _. IsHash) (one_below (2 * var_limit)) c.in_ok-lit.lit k.0 (S c.args.self.now) (S c.literal.new.self) (S c.number.new.self) k.2 k.1 (Err c.in_err-hash.field-0.0) c.in_err-hash.ensures)
 
 pub returns : goal.returns
 returns g c =
     let S = source_of g.R.CountedRead.seen in
     let k = c.in_ok-lit.ensures in
-    second_gives IsLiteral (λ _. IsHash) (one_below (2 * largest)) c.in_ok-lit.lit k.0 (S c.args.self.now) (S c.literal.new.self) (S c.number.new.self) k.2 k.1 (Ok c.in_ok-hash.hash) c.in_ok-hash.ensures
+    second_gives IsLiteral (λ _. IsHash) (one_below (2 * var_limit)) c.in_ok-lit.lit k.0 (S c.args.self.now) (S c.literal.new.self) (S c.number.new.self) k.2 k.1 (Ok c.in_ok-hash.hash) c.in_ok-hash.ensures

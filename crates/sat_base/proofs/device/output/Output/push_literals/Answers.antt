@@ -2,7 +2,7 @@ use Rattle.std.proofs.Common.{◌*◌, arith, rules, below_more, ◌+◌, drop, 
 use Rattle.std.proofs.lemmas.List.{get_or_read}
 use Rattle.sat_base.specs.device.Sink.{sink_of}
 use Rattle.sat_base.specs.steps.StepBytes.{number_bytes, list_bytes, numbers_bytes}
-use Rattle.sat_base.specs.values.Literals.{largest}
+use Rattle.sat_base.specs.values.Literals.{var_limit}
 use Rattle.sat_base.proofs.lemmas.device.Sending.{of_none, of_more, of_same, of_all}
 use Rattle.sat_base.proofs.lemmas.steps.ListBytes.{spells_list, next_number, last_number}
 use Rattle.sat_base.proofs.device.output.Output.push_literals.Goals as goal
@@ -45,6 +45,6 @@ returns g c =
     let S = g.W.CountedWrite.seen in
     let i = c.loop-lit.invariant in
     record {
-      sends = (of_all _ _ (sink_of S g.P.Room.waiting c.args.self.now) (sink_of S g.P.Room.waiting c.loop-lit.self) (last_number c.args.lits.now c.loop-lit.lit-index c.loop-lit-test.false) i.sent, spells_list (2 * largest) c.args.lits.now (omega arith) (search rules) (λ k h. i.low k (omega arith)));
+      sends = (of_all _ _ (sink_of S g.P.Room.waiting c.args.self.now) (sink_of S g.P.Room.waiting c.loop-lit.self) (last_number c.args.lits.now c.loop-lit.lit-index c.loop-lit-test.false) i.sent, spells_list (2 * var_limit) c.args.lits.now (omega arith) (search rules) (λ k h. i.low k (omega arith)));
       room = (omega (arith, i.short), i.same);
     }

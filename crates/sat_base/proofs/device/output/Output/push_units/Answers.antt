@@ -2,7 +2,7 @@ use Rattle.std.proofs.Common.{◌*◌, ◌^◌, ℕ, ◌<◌, subst, arith, rule
 use Rattle.std.proofs.lemmas.List.{get_or_read}
 use Rattle.sat_base.specs.device.Sink.{sink_of}
 use Rattle.sat_base.specs.steps.StepBytes.{number_bytes, units_bytes, pairs_bytes}
-use Rattle.sat_base.specs.values.Literals.{largest}
+use Rattle.sat_base.specs.values.Literals.{var_limit}
 use Rattle.sat_base.proofs.lemmas.device.Sending.{of_none, of_more, of_same, of_all}
 use Rattle.sat_base.proofs.lemmas.steps.ListBytes.{spells_units, next_pair, last_pair}
 use Rattle.sat_base.proofs.device.output.Output.push_units.Goals as goal
@@ -35,7 +35,7 @@ loop-unit-preserved g c =
     record {
       sent = of_more (units_bytes xs) (number_bytes x.0 ++ number_bytes x.1) (pairs_bytes (drop (c.loop-unit.unit-index + 1) xs)) old mid (sink_of S g.P.Room.waiting c.push_unit.new.self)
           (of_same (units_bytes xs) _ _ old mid (next_pair xs c.loop-unit.unit-index x x c.loop-unit-test.true c.unit-item.is) i.sent) p.sends.0;
-      low = below_more _ _ i.low (let e = get_or_read xs c.loop-unit.unit-index c.unit-item.result c.loop-unit-test.true c.unit-item.is (0, 0) in let h = p.sends.1 in subst (λ (p : ℕ × ℕ). (p.0 < 2 * largest) × (p.1 < 2 ^ 64)) e (h.2.1, h.3.1));
+      low = below_more _ _ i.low (let e = get_or_read xs c.loop-unit.unit-index c.unit-item.result c.loop-unit-test.true c.unit-item.is (0, 0) in let h = p.sends.1 in subst (λ (p : ℕ × ℕ). (p.0 < 2 * var_limit) × (p.1 < 2 ^ 64)) e (h.2.1, h.3.1));
       short = omega (arith, p.room.0, i.short);
       same = p.room.1 ∙ i.same;
     }

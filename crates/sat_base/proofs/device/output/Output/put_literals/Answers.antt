@@ -4,7 +4,7 @@ use Rattle.std.proofs.lemmas.Result.{err_from_is_err_and}
 use Rattle.sat_base.specs.device.Sink.{sink_of}
 use Rattle.sat_base.specs.steps.StepBytes.{number_bytes, list_bytes, numbers_bytes}
 use Rattle.sat_base.proofs.lemmas.device.Sending.{of_none, of_more, of_same, of_break, of_all, sends_stops}
-use Rattle.sat_base.specs.values.Literals.{largest}
+use Rattle.sat_base.specs.values.Literals.{var_limit}
 use Rattle.sat_base.proofs.lemmas.steps.ListBytes.{spells_list, next_number, last_number}
 use Rattle.sat_base.proofs.device.output.Output.put_literals.Goals as goal
 
@@ -48,5 +48,5 @@ pub returns : goal.returns
 returns g c =
     let S = g.W.CountedWrite.seen in (
       of_all _ _ (sink_of S g.P.Room.waiting c.args.self.now) (sink_of S g.P.Room.waiting c.loop-lit.self) (last_number c.args.lits.now c.loop-lit.lit-index c.loop-lit-test.false) c.loop-lit.invariant.sent,
-      spells_list (2 * largest) c.args.lits.now (omega arith) (search rules) (λ k h. c.loop-lit.invariant.low k (omega arith)),
+      spells_list (2 * var_limit) c.args.lits.now (omega arith) (search rules) (λ k h. c.loop-lit.invariant.low k (omega arith)),
     )
