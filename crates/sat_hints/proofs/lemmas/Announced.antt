@@ -518,9 +518,7 @@ module _ (tidy : AlwaysTidy) (in_turn : PropagationsInTurn) (nothing : Tautologi
 
   step_mirrors : (step : Step) → Accepts before step → Mirrors (effect step before) (lines_by (announced before step) lines)
   step_mirrors (SolverVarName v None) a = aside before (effect (SolverVarName v None) before) lines refl refl refl (omega arith) m
-  step_mirrors (SolverVarName v (Some name)) a = aside before (effect (SolverVarName v (Some name)) before) lines refl refl refl (omega arith) m
   step_mirrors (UserVarName v (Some name)) a = aside before (effect (UserVarName v (Some name)) before) lines refl refl refl (omega arith) m
-  step_mirrors (UserVarName v None) a = aside before (effect (UserVarName v None) before) lines refl refl refl (omega arith) m
   step_mirrors (DeleteVar v) a = deleted_mirrors v before lines longs settled_now a m
   step_mirrors (ChangeSamplingMode v sample) a = mode_mirrors (before.variables v).mode (before.variables v).name
     where
@@ -550,11 +548,9 @@ module _ (tidy : AlwaysTidy) (in_turn : PropagationsInTurn) (nothing : Tautologi
   step_mirrors (DeleteClause c Simplified) a =
       subst (Mirrors (effect (DeleteClause c Simplified) before)) (sym (irredundant_lines (one (last_id before.last)) (clause_with (canonical c) before.clauses) lines a.0))
       (taken_mirrors false (canonical c) before lines once longs settled_now m (clause_with (canonical c) before.clauses) refl)
-  step_mirrors (ChangeHashBits bits) a = aside before (effect (ChangeHashBits bits) before) lines refl refl refl (omega arith) m
   step_mirrors (Model ls) a = known_mirrors (map variable ls) before lines m
-  step_mirrors (Assumptions ls) a = aside before (effect (Assumptions ls) before) lines refl refl refl (omega arith) m
   step_mirrors (FailedAssumptions core hs) a = core_mirrors before lines core hs (nothing before (map negated core) hs) (λ t. in_turn earlier [] (map negated core) hs ok a.1 t) m
-  step_mirrors End a = aside before (effect End before) lines refl refl refl (omega arith) m
+  step_mirrors step a = aside before (effect step before) lines refl refl refl (omega arith) m
 
 module _ (tidy : AlwaysTidy) (in_turn : PropagationsInTurn) (nothing : TautologiesRestOnNothing) where
   settled_behind : (steps : List Step) → Mirrors (stored_after steps) (lines_told (told_after steps) []) → Mirrors (ready_after steps) (lines_of steps)

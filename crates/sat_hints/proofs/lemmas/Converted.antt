@@ -89,10 +89,7 @@ accepted_converts steps text more (Err (Refused errors.ParseError)) from to old 
     let spoilt = w.2 in
     absurd (no_way SpellsStep one_step (w.0 ++ r.to_come) spoilt.front (spoilt.behind ++ r.to_come) spoilt.byte (ap (λ x. x ++ r.to_come) spoilt.whole ∙ append_assoc spoilt.front (spoilt.byte ∷ spoilt.behind) r.to_come) spoilt.live spoilt.shut k.step k.bytes (k.others ++ more) (rest_is steps text more from to cert told c.0 [] w.0 r refl) k.spelt)
 accepted_converts steps text more (Err (Refused errors.CounterEnd)) from to old new cert told c = c.2
-accepted_converts steps text more (Err (Refused errors.IoError)) from to old new cert told c = absurd c.2
-accepted_converts steps text more (Err (Refused errors.OutOfMemory)) from to old new cert told c = absurd c.2
-accepted_converts steps text more (Err (Refused errors.HasFailed)) from to old new cert told c = absurd c.2
-accepted_converts steps text more (Err (Refused (errors.ProofProcessorError cause))) from to old new cert told c = absurd c.2
 accepted_converts steps text more (Err Read) from to old new cert told c = tt
 accepted_converts steps text more (Err Write) from to old new cert told c = tt
 accepted_converts steps text more (Err OutOfMemory) from to old new cert told c = tt
+accepted_converts steps text more (Err e) from to old new cert told c = absurd c.2

@@ -129,19 +129,13 @@ abbrev pub Says : Option HintWhy → List ℕ → List (List ℕ) → Type 0
 Says None assumed cs = UnitInTurn assumed cs
 Says (Some NotUnit) assumed cs = SomeIsNotUnit assumed cs
 Says (Some NotFalsified) assumed cs = LastIsNotFalsified assumed cs
-Says (Some Syntax) assumed cs = ⊥
-Says (Some IdOrder) assumed cs = ⊥
-Says (Some UnknownId) assumed cs = ⊥
-Says (Some VarInUse) assumed cs = ⊥
+Says (Some e) assumed cs = ⊥
 
 says_further : (why : Option HintWhy) (assumed c d : List ℕ) (ds : List (List ℕ)) (l : ℕ) → IsUnit assumed c l → Says why (l ∷ assumed) (d ∷ ds) → Says why assumed (c ∷ d ∷ ds)
 says_further None assumed c d ds l u h = (l, u, h)
 says_further (Some NotUnit) assumed c d ds l u h = inr (l, u, h)
 says_further (Some NotFalsified) assumed c d ds l u h = (l, u, h)
-says_further (Some Syntax) assumed c d ds l u h = h
-says_further (Some IdOrder) assumed c d ds l u h = h
-says_further (Some UnknownId) assumed c d ds l u h = h
-says_further (Some VarInUse) assumed c d ds l u h = h
+says_further (Some e) assumed c d ds l u h = h
 
 pub course_says : (cs : List (List ℕ)) (assumed : List ℕ) → AllByRecursion NoRepeats cs → Says (course assumed cs) assumed cs
 course_says [] assumed n = tt

@@ -17,14 +17,8 @@ abbrev end : List ℕ
 end = 48 ∷ 10 ∷ []
 
 pub limit_fits : (part : Part) → limit_of part < 2 ^ 64
-limit_fits InputId = omega arith
-limit_fits DerivedId = omega arith
-limit_fits GoneId = omega arith
-limit_fits FreshVar = omega arith
-limit_fits Clause = omega arith
-limit_fits Lists = omega arith
-limit_fits Ids = omega arith
 limit_fits End = omega arith
+limit_fits e = omega arith
 
 -- a part begins with a number, with `-` and a number, or with `0`
 data Turn (part : Part) (bytes : List ℕ) : Type 0 where
@@ -53,10 +47,6 @@ lists_turn bytes (plain w) = begun w
 lists_turn bytes (minus rest e w) = negative rest e w
 
 turn : (part : Part) (bytes : List ℕ) → IsPartOfLine part bytes → Turn part bytes
-turn InputId bytes h = begun h
-turn DerivedId bytes h = begun h
-turn GoneId bytes h = begun h
-turn FreshVar bytes h = begun h
 turn Clause bytes ([], o) = last (10 ∷ []) o.1 refl
 turn Clause bytes (l ∷ ls, o) = clause_turn bytes (signed (IsPartOfLine Clause) l (literal_words ls ++ end) bytes o.0.0 (o.1 ∙ append_assoc (number_text l) (32 ∷ literal_words ls) end) (ls, (o.0.1, refl)))
 turn Lists bytes ([], ids, o) = last (32 ∷ (id_words ids ++ end)) o.2 (id_words ids ++ end, refl, (ids, o.1, refl))
@@ -66,6 +56,7 @@ turn Lists bytes (l ∷ ls, ids, o) =
 turn Ids bytes ([], are, e) = last (10 ∷ []) e refl
 turn Ids bytes (i ∷ is, are, e) = begun (record { value = i + 1; rest = id_words is ++ end; within = (omega arith, let k = are.0 in omega arith); whole = e ∙ append_assoc (id_text i) (32 ∷ id_words is) end; behind = (is, are.1, refl) })
 turn End bytes e = last (10 ∷ []) e refl
+turn x bytes h = begun h
 
 -- no number begins with `0`
 not_zero : (part : Part) (Rest : List ℕ → Type 0) (more : List ℕ) → Numbered (limit_of part) Rest 0 (48 ∷ more) → ⊥

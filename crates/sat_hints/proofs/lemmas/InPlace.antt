@@ -83,11 +83,7 @@ no_line_whole bytes none line s = none line [] (s.0, s.1 ∙ sym (append-nil (li
 -- JUDGED
 at_fault : (why : HintWhy) (lines : List Line) (bytes : List ℕ) (line : Line) → SpellsLine bytes line → IsFaultOf lines line why → IsAtFault lines bytes why
 at_fault Syntax lines bytes line s f = absurd f
-at_fault IdOrder lines bytes line s f = (line, s, f)
-at_fault UnknownId lines bytes line s f = (line, s, f)
-at_fault NotUnit lines bytes line s f = (line, s, f)
-at_fault NotFalsified lines bytes line s f = (line, s, f)
-at_fault VarInUse lines bytes line s f = (line, s, f)
+at_fault e lines bytes line s f = (line, s, f)
 
 judged : (why : Option HintWhy) (old new : Judge) (lines : List Line) (bytes : List ℕ) (line : Line) → SpellsLine bytes line → TakesLine why old new lines line → JudgesLineBytes why old new lines bytes
 judged None old new lines bytes line s t = (line, s, t.0, t.1)

@@ -78,11 +78,7 @@ data Reason (earlier : List Line) (bytes : List ℕ) (w : HintWhy) : Type 0 wher
 
 reason : (earlier : List Line) (bytes : List ℕ) (w : HintWhy) → IsAtFault earlier bytes w → Reason earlier bytes w
 reason earlier bytes Syntax h = no_line refl h
-reason earlier bytes IdOrder h = a_line h.0 h.1 h.2
-reason earlier bytes UnknownId h = a_line h.0 h.1 h.2
-reason earlier bytes NotUnit h = a_line h.0 h.1 h.2
-reason earlier bytes NotFalsified h = a_line h.0 h.1 h.2
-reason earlier bytes VarInUse h = a_line h.0 h.1 h.2
+reason earlier bytes e h = a_line h.0 h.1 h.2
 
 one_why : (earlier : List Line) (bytes : List ℕ) (w v : HintWhy) → Reason earlier bytes w → Reason earlier bytes v → w ≡ v
 one_why earlier bytes w v (no_line e h) (no_line f g) = e ∙ sym f

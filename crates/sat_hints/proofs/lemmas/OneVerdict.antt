@@ -294,11 +294,7 @@ bad_lines earlier bytes rest p (cut_off inside some e) = ([], lines_of_text earl
 -- a line that follows is at no fault
 at_no_fault : (earlier : List Line) (bytes : List ℕ) (why : HintWhy) (l : Line) → bytes ≡ line_text l → IsLine l → FollowsLines earlier l → IsAtFault earlier bytes why → ⊥
 at_no_fault earlier bytes Syntax l e p f h = h l (p, e)
-at_no_fault earlier bytes IdOrder l e p f h = never_at_fault earlier l f IdOrder (subst (λ x. IsFaultOf earlier x IdOrder) (one_line h.0 l h.1.0 p (sym h.1.1 ∙ e)) h.2)
-at_no_fault earlier bytes UnknownId l e p f h = never_at_fault earlier l f UnknownId (subst (λ x. IsFaultOf earlier x UnknownId) (one_line h.0 l h.1.0 p (sym h.1.1 ∙ e)) h.2)
-at_no_fault earlier bytes NotUnit l e p f h = never_at_fault earlier l f NotUnit (subst (λ x. IsFaultOf earlier x NotUnit) (one_line h.0 l h.1.0 p (sym h.1.1 ∙ e)) h.2)
-at_no_fault earlier bytes NotFalsified l e p f h = never_at_fault earlier l f NotFalsified (subst (λ x. IsFaultOf earlier x NotFalsified) (one_line h.0 l h.1.0 p (sym h.1.1 ∙ e)) h.2)
-at_no_fault earlier bytes VarInUse l e p f h = never_at_fault earlier l f VarInUse (subst (λ x. IsFaultOf earlier x VarInUse) (one_line h.0 l h.1.0 p (sym h.1.1 ∙ e)) h.2)
+at_no_fault earlier bytes z l e p f h = never_at_fault earlier l f z (subst (λ x. IsFaultOf earlier x z) (one_line h.0 l h.1.0 p (sym h.1.1 ∙ e)) h.2)
 
 -- so a derivation has no line at fault
 pub derivation_has_none : (all earlier : List Line) (bytes : List ℕ) (more : List (List ℕ)) (why : HintWhy) → AreLines all → IsHintDerivation all → AreLines earlier → texts_in all ≡ texts_in earlier ++ (bytes ∷ more) → IsAtFault earlier bytes why → ⊥

@@ -200,10 +200,8 @@ module _ (old new : Standing) (v bound : ℕ) (s : StandingInvariant old) (above
       ap (λ n. cond (nat_lt j n) None (Some (l ∷ []))) a ∙ sym (unit_kept l (nat_lt j (value_at 0 old.since (variable l))) e)
 
   one_clause : (j : ℕ) (o : Option (List ℕ)) → ((c : List ℕ) → o ≡ Some c → j < bound) → unless_stale new.since j o ≡ unless_unit_over v (unless_stale old.since j o)
-  one_clause j None h = refl
-  one_clause j (Some []) h = refl
   one_clause j (Some (l ∷ [])) h = one_unit j l (eqb (variable l) v) (h (l ∷ []) refl) refl
-  one_clause j (Some (l ∷ m ∷ ls)) h = refl
+  one_clause j e h = refl
 
   within : (x : ℕ) (b : Bool) → eqb x v ≡ b → value_at 0 new.since x ≤ bound
   within x true e = let a = at x ∙ ap (λ b. cond b bound (value_at 0 old.since x)) e in omega (arith, a)

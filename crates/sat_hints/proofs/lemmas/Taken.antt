@@ -78,10 +78,7 @@ module _ (lines : List Line) (line : Line) (assumed : List ℕ) (in_order : IsIn
   by_course clauses present t None s = record { in_order = in_order; clauses = clauses; present = present; conflict = conflict_of (assumed_by line) assumed clauses assumes (inr s); unused = unused_assuming lines line assumed assumes }
   by_course clauses present t (Some NotUnit) s = record { in_order = in_order; clauses = clauses; present = present; assumed = assumed; assumes = assumes; consistent = t; fails = s }
   by_course clauses present t (Some NotFalsified) s = record { in_order = in_order; clauses = clauses; present = present; assumed = assumed; assumes = assumes; consistent = t; fails = s }
-  by_course clauses present t (Some Syntax) s = absurd s
-  by_course clauses present t (Some IdOrder) s = absurd s
-  by_course clauses present t (Some UnknownId) s = absurd s
-  by_course clauses present t (Some VarInUse) s = absurd s
+  by_course clauses present t (Some e) s = absurd s
 
   refuted : (p : Standing) (why : Option HintWhy) → ((id : ℕ) → clause_of p id ≡ clause_under id lines) → WhyNotRefuted p assumed (named_ids line) why → Says_of why lines line
   refuted p why same (inl h) = subst (λ w. Says_of w lines line) (sym h.1) (in_order, sym (clauses_same p lines same (named_ids line)) ∙ h.0)

@@ -5,25 +5,16 @@ use Rattle.sat_hints.specs.Hints.{clauses_under, IsInOrder, named_ids, assumed_b
 
 -- a line that makes a variable new has no id, names no clause and assumes nothing
 pub uses_in_order : (earlier : List Line) (line : Line) → UsesVariable earlier line → IsInOrder earlier line
-uses_in_order earlier (Input id clause) u = absurd u
-uses_in_order earlier (Derived id clause ids) u = absurd u
-uses_in_order earlier (Gone id) u = absurd u
-uses_in_order earlier (Core core ids) u = absurd u
 uses_in_order earlier (Fresh v) u = tt
+uses_in_order earlier e u = absurd u
 
 pub uses_none : (earlier : List Line) (line : Line) → UsesVariable earlier line → clauses_under (named_ids line) earlier ≡ Some []
-uses_none earlier (Input id clause) u = absurd u
-uses_none earlier (Derived id clause ids) u = absurd u
-uses_none earlier (Gone id) u = absurd u
-uses_none earlier (Core core ids) u = absurd u
 uses_none earlier (Fresh v) u = refl
+uses_none earlier e u = absurd u
 
 pub uses_nothing : (earlier : List Line) (line : Line) → UsesVariable earlier line → assumed_by line ≡ None
-uses_nothing earlier (Input id clause) u = absurd u
-uses_nothing earlier (Derived id clause ids) u = absurd u
-uses_nothing earlier (Gone id) u = absurd u
-uses_nothing earlier (Core core ids) u = absurd u
 uses_nothing earlier (Fresh v) u = refl
+uses_nothing earlier e u = absurd u
 
 -- a line that assumes something makes none new
 pub unused_assuming : (earlier : List Line) (line : Line) (assumed : List ℕ) → assumed_by line ≡ Some assumed → UsesVariable earlier line → ⊥

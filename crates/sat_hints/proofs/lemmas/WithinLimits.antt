@@ -100,7 +100,6 @@ mode_fit v sampling mode (Some name) = go (cond sampling (is_sample mode) (is_wi
     go false = (tt, tt)
 
 step_fits : (step : Step) (f : Stored) → FitsStep step → FitTold (announced f step)
-step_fits (SolverVarName v name) f h = tt
 step_fits (UserVarName v (Some name)) f h = (tt, tt)
 step_fits (UserVarName v None) f h = (tt, tt)
 step_fits (DeleteVar v) f h = ((h, tt), tt)
@@ -115,11 +114,10 @@ step_fits (UnitClauses us) f h = units_fit us f h
 step_fits (DeleteClause c Redundant) f h = redundant_fit (clause_with (canonical c) f.clauses)
 step_fits (DeleteClause c Satisfied) f h = irredundant_fit (one (true_unit (canonical c) f.units)) (clause_with (canonical c) f.clauses)
 step_fits (DeleteClause c Simplified) f h = irredundant_fit (one (last_id f.last)) (clause_with (canonical c) f.clauses)
-step_fits (ChangeHashBits bits) f h = tt
 step_fits (Model ls) f h = (tt, tt)
 step_fits (Assumptions ls) f h = (tt, tt)
 step_fits (FailedAssumptions core hs) f h = (set_fits core h, tt)
-step_fits End f h = tt
+step_fits step f h = tt
 
 delayed_fit : (f : Stored) → FitTold (delayed f)
 delayed_fit f = go f.conflict
@@ -179,19 +177,12 @@ units_read : (us : List (ℕ × ℕ)) (bytes : List ℕ) → text.AreHashedLiter
 units_read us bytes h = items_each (Both text.IsLiteral text.IsHash) (λ u. u.0 < 2 * var_limit) (λ u b k. k.2.1) us h.1 h.3
 
 fields_fit : (step : Step) (bytes : List ℕ) → SpellsFields step bytes → FitsStep step
-fields_fit (SolverVarName v name) bytes h = tt
-fields_fit (UserVarName v name) bytes h = tt
 fields_fit (DeleteVar v) bytes h = h.1
-fields_fit (ChangeSamplingMode v sampling) bytes h = tt
 fields_fit (AddClause c) bytes h = literals_read c bytes h
 fields_fit (AtClause r c hs) bytes h = literals_read c h.3.0 h.3.2
 fields_fit (UnitClauses us) bytes h = units_read us bytes h
-fields_fit (DeleteClause c proof) bytes h = tt
-fields_fit (ChangeHashBits bits) bytes h = tt
-fields_fit (Model ls) bytes h = tt
-fields_fit (Assumptions ls) bytes h = tt
 fields_fit (FailedAssumptions core hs) bytes h = literals_read core h.0 h.2
-fields_fit End bytes h = tt
+fields_fit step bytes h = tt
 
 pub read_fit : (steps : List Step) (bytes : List ℕ) → SpellsSteps steps bytes → AllByRecursion FitsStep steps
 read_fit steps bytes h = items_each SpellsStep FitsStep (λ step b k. fields_fit step k.0 k.2) steps bytes h

@@ -30,11 +30,8 @@ use Rattle.certify.proofs.lemmas.confirm.NamesExpected.{names_are_expected}
 -- WHAT A COMMAND EXPECTS
 
 abbrev NoAsk : Command → Type 0
-NoAsk (Clause ls) = Unit {0}
 NoAsk (Ask ls) = ⊥
-NoAsk (Hide names) = Unit {0}
-NoAsk (Witness names) = Unit {0}
-NoAsk (Sample names) = Unit {0}
+NoAsk e = Unit {0}
 
 -- for its names
 abbrev for_names : Command → Judge → List Expected
@@ -47,10 +44,7 @@ for_names (Sample names) j = setting Sampled names j
 -- and behind them
 abbrev behind_names : Command → List Expected
 behind_names (Clause ls) = Adds ls ∷ []
-behind_names (Ask ls) = []
-behind_names (Hide names) = []
-behind_names (Witness names) = []
-behind_names (Sample names) = []
+behind_names e = []
 
 expected_on : (c : Command) → NoAsk c → (j : Judge) (cs : List Command) (os : List Outcome) → expected j (c ∷ cs) os ≡ (for_names c j ++ behind_names c) ++ expected (accepted c j) cs os
 expected_on (Clause ls) a j cs os = sym (append_assoc (bringing (names_of ls) j) (Adds ls ∷ []) (expected (accepted (Clause ls) j) cs os))
@@ -60,25 +54,16 @@ expected_on (Witness names) a j cs os = ap (λ (es : List Expected). es ++ expec
 expected_on (Sample names) a j cs os = ap (λ (es : List Expected). es ++ expected (accepted (Sample names) j) cs os) (sym (append-nil (setting Sampled names j)))
 
 one_on : (c : Command) → NoAsk c → (cs : List Command) (os : List Outcome) → OneEach (c ∷ cs) os ↔ OneEach cs os
-one_on (Clause ls) a cs os = ((λ h. h), (λ h. h))
 one_on (Ask ls) a cs os = absurd a
-one_on (Hide names) a cs os = ((λ h. h), (λ h. h))
-one_on (Witness names) a cs os = ((λ h. h), (λ h. h))
-one_on (Sample names) a cs os = ((λ h. h), (λ h. h))
+one_on e a cs os = ((λ h. h), (λ h. h))
 
 no_piece : (c : Command) → NoAsk c → (n : ℕ) (os : List Outcome) → piece n None c os ≡ []
-no_piece (Clause ls) a n os = refl
 no_piece (Ask ls) a n os = absurd a
-no_piece (Hide names) a n os = refl
-no_piece (Witness names) a n os = refl
-no_piece (Sample names) a n os = refl
+no_piece e a n os = refl
 
 all_left : (c : Command) → NoAsk c → (os : List Outcome) → outcomes_left None c os ≡ os
-all_left (Clause ls) a os = refl
 all_left (Ask ls) a os = absurd a
-all_left (Hide names) a os = refl
-all_left (Witness names) a os = refl
-all_left (Sample names) a os = refl
+all_left e a os = refl
 
 command_pending : (c : Command) → NoAsk c → (j : Judge) (n : ℕ) (earlier : List Step) (cs : List Command) (ending : ScriptEnding) (answers certificate : List ℕ) → refusal_of j c ≡ None
     → Rest j n earlier [] (c ∷ cs) ending answers certificate ↔ Rest (accepted c j) (n + 1) earlier (for_names c j ++ behind_names c) cs ending answers certificate
@@ -162,9 +147,7 @@ left_is OfSample ls j names h = subst (NamesStand names) (names_are_expected.lef
 unnamed_barred : (c : Command) (j : Judge) (n : ℕ) (earlier : List Step) (cs : List Command) (ending : ScriptEnding) (answers certificate : List ℕ) → refusal_of j c ≡ None → Bars earlier certificate (for_names c j) → Rest j n earlier [] (c ∷ cs) ending answers certificate → ⊥
 unnamed_barred (Clause ls) j n earlier cs ending answers certificate e b h = left_barred (Adds ls ∷ []) (accepted (Clause ls) j) (n + 1) cs ending answers b ((command_pending (Clause ls) tt j n earlier cs ending answers certificate e).0 h)
 unnamed_barred (Ask ls) j n earlier cs ending answers certificate e b h = ask_unnamed j n ls cs ending answers e earlier certificate b h
-unnamed_barred (Hide names) j n earlier cs ending answers certificate e b h = left_barred [] (accepted (Hide names) j) (n + 1) cs ending answers b ((command_pending (Hide names) tt j n earlier cs ending answers certificate e).0 h)
-unnamed_barred (Witness names) j n earlier cs ending answers certificate e b h = left_barred [] (accepted (Witness names) j) (n + 1) cs ending answers b ((command_pending (Witness names) tt j n earlier cs ending answers certificate e).0 h)
-unnamed_barred (Sample names) j n earlier cs ending answers certificate e b h = left_barred [] (accepted (Sample names) j) (n + 1) cs ending answers b ((command_pending (Sample names) tt j n earlier cs ending answers certificate e).0 h)
+unnamed_barred x j n earlier cs ending answers certificate e b h = left_barred [] (accepted x j) (n + 1) cs ending answers b ((command_pending x tt j n earlier cs ending answers certificate e).0 h)
 
 pub command_unnamed : (kind : Kind) (ls : List Literal) (t next : Table) (before behind : List ℕ) (u v : View) (n : ℕ) (after : NamedVars) (why : Why) → ((j : Judge) → NamesStand t.names j → refusal_of j (command_of kind ls) ≡ None)
     → ((j : Judge) → NamesStand t.names j → MeetsAll (naming_all kind (names_of ls) j) t.variables after u v (Err why)) → ConfirmsNext n (command_of kind ls) t next before behind u v (Err why)

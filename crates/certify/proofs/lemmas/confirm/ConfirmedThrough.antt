@@ -81,14 +81,11 @@ ends_by : (M : Type 0) (text : List ℕ → Reading) (r : Result (Unit {0}) Stop
     → ((total : List ℕ) → Covers new.script total → Joins M false r old.answers new.answers old.certificate new.certificate (λ before behind u v. ConfirmsLast old.number (text (rest_in total old.script)) old.table before u)) → ConfirmsScript text r old new
 ends_by M text (Ok x) old new took many joins = (took, joins)
 ends_by M text (Err (stop.No why)) old new took many joins = (took, joins)
-ends_by M text (Err stop.OutOfMemory) old new took many joins = (took_kept false old.script new.script took, joins new.script.reader.given (covers_given new.script))
-ends_by M text (Err stop.CertificateRead) old new took many joins = (took_kept false old.script new.script took, joins new.script.reader.given (covers_given new.script))
-ends_by M text (Err stop.CounterEnd) old new took many joins = (took_kept false old.script new.script took, joins new.script.reader.given (covers_given new.script))
-ends_by M text (Err stop.AnswersRead) old new took many joins = (took_kept false old.script new.script took, joins new.script.reader.given (covers_given new.script))
 ends_by M text (Err stop.ScriptRead) old new took many joins = absurd (joins new.script.reader.given (covers_given new.script))
 ends_by M text (Err stop.TooMany) old new took many joins =
     let j = joins new.script.reader.given (covers_given new.script) in
     (took, (λ total k. many (joins total k).2 total k), (j.0, j.1))
+ends_by M text (Err e) old new took many joins = (took_kept false old.script new.script took, joins new.script.reader.given (covers_given new.script))
 
 module _ (text : List ℕ → Reading) (old mid : ConfirmPlace) (reader after_reader : ScriptReader) (through : ConfirmsThrough text old mid reader) (script_open : AtEnd old.script → ⊥) (answers_open : AtEnd old.answers → ⊥) (open_yet : AtEnd old.certificate.source → ⊥) where
   mid_open : AtEnd mid.script → ⊥

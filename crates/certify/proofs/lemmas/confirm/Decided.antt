@@ -78,28 +78,19 @@ few_reads : (P : Type 0) (x : Reader) (y : Source) → Leaves P x y → y.reads 
 few_reads P x y h m = elim h [ inl k ↦ few_calls x.calls y.reader.calls y.reads most_reads k.1 m | inr f ↦ few_calls x.calls y.reader.calls y.reads most_reads f.1.1.calls m ]
 
 script_left : (x a c : Reader) (y b d : Source) (r : Result Verdict ConfirmFault) → Tells x a c y b d r → Leaves (r ≡ Err fault.ScriptRead) x y
-script_left x a c y b d (Ok v) h = inl h.0
 script_left x a c y b d (Err fault.ScriptRead) h = inr (refl, h.0)
-script_left x a c y b d (Err fault.AnswersRead) h = inl h.0
-script_left x a c y b d (Err fault.CertificateRead) h = inl h.0
-script_left x a c y b d (Err fault.OutOfMemory) h = inl h.0
 script_left x a c y b d (Err fault.CounterEnd) h = absurd h
+script_left x a c y b d e h = inl h.0
 
 answers_left : (x a c : Reader) (y b d : Source) (r : Result Verdict ConfirmFault) → Tells x a c y b d r → Leaves (r ≡ Err fault.AnswersRead) a b
-answers_left x a c y b d (Ok v) h = inl h.1
-answers_left x a c y b d (Err fault.ScriptRead) h = inl h.1
 answers_left x a c y b d (Err fault.AnswersRead) h = inr (refl, h.1)
-answers_left x a c y b d (Err fault.CertificateRead) h = inl h.1
-answers_left x a c y b d (Err fault.OutOfMemory) h = inl h.1
 answers_left x a c y b d (Err fault.CounterEnd) h = absurd h
+answers_left x a c y b d e h = inl h.1
 
 certificate_left : (x a c : Reader) (y b d : Source) (r : Result Verdict ConfirmFault) → Tells x a c y b d r → Leaves (r ≡ Err fault.CertificateRead) c d
-certificate_left x a c y b d (Ok v) h = inl h.2
-certificate_left x a c y b d (Err fault.ScriptRead) h = inl h.2
-certificate_left x a c y b d (Err fault.AnswersRead) h = inl h.2
 certificate_left x a c y b d (Err fault.CertificateRead) h = inr (refl, h.2)
-certificate_left x a c y b d (Err fault.OutOfMemory) h = inl h.2
 certificate_left x a c y b d (Err fault.CounterEnd) h = absurd h
+certificate_left x a c y b d e h = inl h.2
 
 said_exact : (x a c : Reader) (y b d : Source) (r : Result Verdict ConfirmFault) → Tells x a c y b d r → IfOk r (Exact (x, y.reader) (a, b.reader) (c, d.reader))
 said_exact x a c y b d (Ok v) h = h.3
@@ -205,14 +196,11 @@ module _ (x a c : Reader) (checker : Kernel) (step : Step) (table : Table) (fres
       let j = e.1 last (covers_given new.script) in
       let p = j.1 new.answers.reader.given (covers_given new.answers) in
       (took_kept false old.script new.script e.0, took_kept false old.answers new.answers j.0, (p.0.0.1.failures, p.0.0.1.calls), no_exact (min (asks + 1) (2 ^ 64 - 1)) why e)
-  tells (Err stop.OutOfMemory) asks short few e = let p = e.1.1 in (e.0, e.1.0, (p.0.0.1.failures, p.0.0.1.calls))
   tells (Err stop.CertificateRead) asks short few e = let p = e.1.1 in (e.0, e.1.0, (p.0.0, p.0.1))
   tells (Err stop.CounterEnd) asks short few e =
       let p = e.1.1 in
       let all = new.certificate.source.reader.given in
       absurd (nothing_spent (rest_in all (unread c)) (few_given 1 c new.certificate.source p.0.0.0 p.0.0.1 few) (p.1 all (covers_given new.certificate.source) [] (fresh (rest_in all (unread c))).at.taken))
-  tells (Err stop.AnswersRead) asks short few e = let p = e.1.1 in (e.0, e.1.0, (p.0.0.1.failures, p.0.0.1.calls))
-  tells (Err stop.ScriptRead) asks short few e = let p = e.1.1 in (e.0, e.1.0, (p.0.0.1.failures, p.0.0.1.calls))
   tells (Err stop.TooMany) asks short few e =
       let all = new.script.reader.given in
       let text = rest_in all (unread x) in
@@ -223,6 +211,7 @@ module _ (x a c : Reader) (checker : Kernel) (step : Step) (table : Table) (fres
     where
       too_many : (n l : ℕ) → 2 ^ 64 < 1 + n → n ≤ l + 2 → l ≤ most_bytes → ⊥
       too_many n l h k m = absurd (let e : most_bytes + 2 < 2 ^ 64 = omega arith in omega arith)
+  tells (Err z) asks short few e = let p = e.1.1 in (e.0, e.1.0, (p.0.0.1.failures, p.0.0.1.calls))
 
   -- HOW MANY LOOKS IT TOOK
 
@@ -233,12 +222,10 @@ module _ (x a c : Reader) (checker : Kernel) (step : Step) (table : Table) (fres
   certified (Err (stop.No why)) e =
       let p = (e.1 last (covers_given new.script)).1 new.answers.reader.given (covers_given new.answers) in
       (Err (stop.No why), confirms_so (Err (stop.No why)) old.certificate new.certificate (λ v w. ConfirmsLast 1 (reading (rest_in last (unread x))) table (rest_in new.answers.reader.given (unread a)) v) Any (λ total y h. tt) p)
-  certified (Err stop.OutOfMemory) e = (Err stop.OutOfMemory, e.1.1)
-  certified (Err stop.CertificateRead) e = (Err stop.CertificateRead, e.1.1)
-  certified (Err stop.CounterEnd) e = (Err stop.CounterEnd, e.1.1)
   certified (Err stop.AnswersRead) e = (Err stop.OutOfMemory, e.1.1)
   certified (Err stop.ScriptRead) e = (Err stop.OutOfMemory, e.1.1)
   certified (Err stop.TooMany) e = (Err stop.OutOfMemory, e.2.1)
+  certified (Err z) e = (Err z, e.1.1)
 
   module _ (none : looks_of checker ≡ 0) where
     reached_by : (bytes : List ℕ) → FeedsSomeSteps (record { checker = checker; step = step; rest = bytes }) (record { checker = new.certificate.checker; step = new.certificate.step; rest = bytes }) → LooksReach [] bytes 0 (looks_of new.certificate.checker)
@@ -250,9 +237,7 @@ module _ (x a c : Reader) (checker : Kernel) (step : Step) (table : Table) (fres
     took (Err stop.CertificateRead) p = took_faulted c new.certificate.source p.0.0 (looks_of new.certificate.checker) p.0.1 (λ total k. reached_by (rest_in total (unread c)) (p.1 total k))
     took (Err stop.OutOfMemory) p = took_looks 1 c new.certificate.source p.0.0.0 (looks_of new.certificate.checker) p.0.0.1 (λ total k. reached_by (rest_in total (unread c)) (p.1 total k))
     took (Err stop.CounterEnd) p = took_looks 1 c new.certificate.source p.0.0.0 (looks_of new.certificate.checker) p.0.0.1 (λ total k. reached_by (rest_in total (unread c)) (p.2 total k))
-    took (Err stop.ScriptRead) p = absurd p
-    took (Err stop.AnswersRead) p = absurd p
-    took (Err stop.TooMany) p = absurd p
+    took (Err e) p = absurd p
 
     -- added to those of others
     pub looks_added : (r : Result (Unit {0}) Stop) (before after : ℕ) → after ≡ before + looks_of new.certificate.checker → ConfirmsScript reading r old new → TakesLooks c new.certificate.source.reader before after

@@ -16,10 +16,8 @@ unfed errors.CheckFailed old step new h = λ steps t. (h steps t.stands).1
 unfed errors.OutOfMemory old step new h = tt
 unfed errors.CounterEnd old step new h = λ steps t. (h steps t.stands).1
 unfed errors.HasFailed old step new h = λ steps t. absurd (true≢false (sym (h steps t.stands).0 ∙ t.goes_on))
-unfed errors.ProofIncomplete old step new h = λ steps t. absurd (h steps t.stands)
-unfed errors.IoError old step new h = λ steps t. absurd (h steps t.stands)
-unfed errors.ParseError old step new h = λ steps t. absurd (h steps t.stands)
 unfed (errors.ProofProcessorError cause) old step new h = tt
+unfed e old step new h = λ steps t. absurd (h steps t.stands)
 
 -- A UNIT CONFLICT THAT WAS PENDING
 
@@ -29,9 +27,6 @@ settles old new h = λ steps t. let x = h steps t.stands in (record { stands = x
 pub unsettled : (e : CheckerError) (old new : Kernel) → ChecksDelayed (Err e) old new → SettlesConflict (Err (stop_by e)) old new
 unsettled errors.CounterEnd old new h = λ steps t. let x = h steps t.stands in (x.2, x.1)
 unsettled errors.HasFailed old new h = λ steps t. true≢false (sym (h steps t.stands).0 ∙ t.goes_on)
-unsettled errors.CheckFailed old new h = λ steps t. h steps t.stands
 unsettled errors.OutOfMemory old new h = λ steps t. (h steps t.stands).1
 unsettled (errors.ProofProcessorError cause) old new h = λ steps t. (h steps t.stands).1
-unsettled errors.ProofIncomplete old new h = λ steps t. h steps t.stands
-unsettled errors.IoError old new h = λ steps t. h steps t.stands
-unsettled errors.ParseError old new h = λ steps t. h steps t.stands
+unsettled e old new h = λ steps t. h steps t.stands

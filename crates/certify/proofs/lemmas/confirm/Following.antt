@@ -26,18 +26,7 @@ one_of e = cc
 -- a step that isn't ordered puts no name
 unnamed : (step : Step) (earlier : List Step) → is_ordered step ≡ false → variable_of (step ∷ earlier) ≡ variable_of earlier
 unnamed (UserVarName v name) earlier h = absurd (true≢false h)
-unnamed (SolverVarName v s) earlier h = refl
-unnamed (DeleteVar v) earlier h = refl
-unnamed (ChangeSamplingMode v m) earlier h = refl
-unnamed (AddClause c) earlier h = refl
-unnamed (AtClause r c hashes) earlier h = refl
-unnamed (UnitClauses us) earlier h = refl
-unnamed (DeleteClause c d) earlier h = refl
-unnamed (ChangeHashBits b) earlier h = refl
-unnamed (Model ls) earlier h = refl
-unnamed (Assumptions ls) earlier h = refl
-unnamed (FailedAssumptions core hashes) earlier h = refl
-unnamed End earlier h = refl
+unnamed step earlier h = refl
 
 -- what has a name is known still
 known_still : (earlier : List Step) (step : Step) (m v : ℕ) → Accepted the_checking earlier → Accepts (ready_after earlier) step → variable_of earlier m ≡ Some v → the_checking.knows earlier v ≡ true → the_checking.knows (step ∷ earlier) v ≡ true
@@ -137,12 +126,7 @@ module _ (old new : NamedVars) (earlier : List Step) (s : StandFor old earlier) 
 abbrev pub puts_name : Expected → Bool
 puts_name (NewName name) = true
 puts_name (NoName name) = true
-puts_name (Adds ls) = false
-puts_name (Opens ls o) = false
-puts_name (Shows names ask line) = false
-puts_name (Fails ask core) = false
-puts_name Closes = false
-puts_name Finish = false
+puts_name e = false
 
 -- another step puts no name
 pub unput : (earlier : List Step) (e : Expected) (step : Step) → Fits (the_checking.knows earlier) earlier e step → (b : Bool) → puts_name e ≡ b → b ≡ false → variable_of (step ∷ earlier) ≡ variable_of earlier

@@ -74,10 +74,7 @@ pub replies_stop : {A B : Type 0} (goes : Bool) (e : Stop) (a b : Source) (P : L
 replies_stop goes (stop.No why) a b P Q f h = (h.0, λ total k. f (rest_in total a) (rest_in total b) why (h.1 total k))
 replies_stop goes stop.OutOfMemory a b P Q f h = h
 replies_stop goes stop.AnswersRead a b P Q f h = h
-replies_stop goes stop.CertificateRead a b P Q f h = absurd h
-replies_stop goes stop.CounterEnd a b P Q f h = absurd h
-replies_stop goes stop.ScriptRead a b P Q f h = absurd h
-replies_stop goes stop.TooMany a b P Q f h = absurd h
+replies_stop goes e a b P Q f h = absurd h
 
 -- behind a call that went on
 pub replies_then : {A B : Type 0} (goes : Bool) (x : A) (r : Result B Stop) (a b c : Source) (P : List ℕ → List ℕ → Result A Why → Type 0) (Q R : List ℕ → List ℕ → Result B Why → Type 0) → (AtEnd a → ⊥)
@@ -88,10 +85,7 @@ replies_then goes x (Err (stop.No why)) a b c P Q R open_yet f h k =
     (took_then false a b c h.0 k.0, λ total v. f (rest_in total a) (rest_in total b) (rest_in total c) (Err why) (h.1 total (covers_took false b c total (took_open a b open_yet h.0) k.0 v)) (k.1 total v))
 replies_then goes x (Err stop.OutOfMemory) a b c P Q R open_yet f h k = kept_then a b c (took_kept true a b h.0) k
 replies_then goes x (Err stop.AnswersRead) a b c P Q R open_yet f h k = failed_then a b c h.0 k
-replies_then goes x (Err stop.CertificateRead) a b c P Q R open_yet f h k = absurd k
-replies_then goes x (Err stop.CounterEnd) a b c P Q R open_yet f h k = absurd k
-replies_then goes x (Err stop.ScriptRead) a b c P Q R open_yet f h k = absurd k
-replies_then goes x (Err stop.TooMany) a b c P Q R open_yet f h k = absurd k
+replies_then goes x (Err e) a b c P Q R open_yet f h k = absurd k
 
 -- a no behind a call that went on, of what reads nothing
 pub replies_no : {A B : Type 0} (goes : Bool) (x : A) (why : Why) (a b : Source) (P : List ℕ → List ℕ → Result A Why → Type 0) (R : List ℕ → List ℕ → Result B Why → Type 0) → (AtEnd a → ⊥)
@@ -112,10 +106,7 @@ replies_join {A} M goes (Ok x) a b s P R open_yet f h = (h.0, λ total k. confir
 replies_join {A} M goes (Err (stop.No why)) a b s P R open_yet f h = (h.0, λ total k. no_stays s why (R (rest_in total a) (rest_in total b)) open_yet (λ more. f (rest_in total a) (rest_in total b) more (Err why) (h.1 total k)))
 replies_join {A} M goes (Err stop.OutOfMemory) a b s P R open_yet f h = (h, short_stays A s open_yet)
 replies_join {A} M goes (Err stop.AnswersRead) a b s P R open_yet f h = (h, short_stays A s open_yet)
-replies_join {A} M goes (Err stop.CertificateRead) a b s P R open_yet f h = absurd h
-replies_join {A} M goes (Err stop.CounterEnd) a b s P R open_yet f h = absurd h
-replies_join {A} M goes (Err stop.ScriptRead) a b s P R open_yet f h = absurd h
-replies_join {A} M goes (Err stop.TooMany) a b s P R open_yet f h = absurd h
+replies_join {A} M goes (Err e) a b s P R open_yet f h = absurd h
 
 -- WHERE THE ANSWERS STAY
 
@@ -143,12 +134,10 @@ certificate_stops M goes stop.TooMany a s t P R open_yet f h = absurd h
 pub joins_stop : {A B : Type 0} (M : Type 0) (goes : Bool) (e : Stop) (a b : Source) (s t : Stream) (P : List ℕ → List ℕ → View → View → Result A Why → Type 0) (R : List ℕ → List ℕ → View → View → Result B Why → Type 0)
     → ((p q : List ℕ) (u v : View) (why : Why) → P p q u v (Err why) → R p q u v (Err why)) → Joins {A = A} M goes (Err e) a b s t P → Joins {A = B} M goes (Err e) a b s t R
 joins_stop {A} {B} M goes (stop.No why) a b s t P R f h = (h.0, λ total k. confirms_stop (stop.No why) s t (P (rest_in total a) (rest_in total b)) (R (rest_in total a) (rest_in total b)) (λ more w. f (rest_in total a) (rest_in total b) (seen_in more s) (seen_in more t) w) (h.1 total k))
-joins_stop {A} {B} M goes stop.OutOfMemory a b s t P R f h = (h.0, any_stop A B stop.OutOfMemory s t Any h.1)
-joins_stop {A} {B} M goes stop.CertificateRead a b s t P R f h = (h.0, any_stop A B stop.CertificateRead s t Any h.1)
-joins_stop {A} {B} M goes stop.CounterEnd a b s t P R f h = (h.0, any_stop A B stop.CounterEnd s t Any h.1)
 joins_stop {A} {B} M goes stop.AnswersRead a b s t P R f h = (h.0, any_stop A B stop.OutOfMemory s t Any h.1)
 joins_stop {A} {B} M goes stop.ScriptRead a b s t P R f h = absurd h
 joins_stop {A} {B} M goes stop.TooMany a b s t P R f h = (h.0, any_stop A B stop.OutOfMemory s t Any h.1, h.2)
+joins_stop {A} {B} M goes e a b s t P R f h = (h.0, any_stop A B e s t Any h.1)
 
 -- a stop behind a call that went on
 stop_then : (A B : Type 0) (M : Type 0) (x : A) (e : Stop) (a b : Source) (s t u : Stream) (P : List ℕ → List ℕ → View → View → Result A Why → Type 0) → (AtEnd s.source → ⊥) → Joins M true (Ok x) a b s t P → Confirms {A = B} (Err e) t u Any → Confirms {A = B} (Err e) s u Any
@@ -174,12 +163,10 @@ joins_then {A} {B} M goes x (Err (stop.No why)) a b c s t u P Q R here open_yet 
       (λ more n. f (rest_in total a) (rest_in total b) (rest_in total c) (seen_in more s) (seen_in more t) (seen_in more u) n)
       (h.1 total (covers_took false b c total (took_open a b here h.0) k.0 v)) (k.1 total v),
 )
-joins_then {A} {B} M goes x (Err stop.OutOfMemory) a b c s t u P Q R here open_yet f h k = (kept_then a b c (took_kept true a b h.0) k.0, stop_then A B M x stop.OutOfMemory a b s t u P open_yet h k.1)
-joins_then {A} {B} M goes x (Err stop.CertificateRead) a b c s t u P Q R here open_yet f h k = (kept_then a b c (took_kept true a b h.0) k.0, stop_then A B M x stop.CertificateRead a b s t u P open_yet h k.1)
-joins_then {A} {B} M goes x (Err stop.CounterEnd) a b c s t u P Q R here open_yet f h k = (kept_then a b c (took_kept true a b h.0) k.0, stop_then A B M x stop.CounterEnd a b s t u P open_yet h k.1)
 joins_then {A} {B} M goes x (Err stop.AnswersRead) a b c s t u P Q R here open_yet f h k = (failed_then a b c h.0 k.0, stop_then A B M x stop.OutOfMemory a b s t u P open_yet h k.1)
 joins_then {A} {B} M goes x (Err stop.ScriptRead) a b c s t u P Q R here open_yet f h k = absurd k
 joins_then {A} {B} M goes x (Err stop.TooMany) a b c s t u P Q R here open_yet f h k = (kept_then a b c (took_kept true a b h.0) k.0, stop_then A B M x stop.OutOfMemory a b s t u P open_yet h k.1, k.2)
+joins_then {A} {B} M goes x (Err e) a b c s t u P Q R here open_yet f h k = (kept_then a b c (took_kept true a b h.0) k.0, stop_then A B M x e a b s t u P open_yet h k.1)
 
 -- the same of whatever it answers
 pub certificate_joins : {A : Type 0} (M : Type 0) (r : Result A Stop) (a : Source) (s t : Stream) (P : View → View → Result A Why → Type 0) (R : List ℕ → List ℕ → View → View → Result A Why → Type 0) → (AtEnd a → ⊥)
@@ -197,10 +184,7 @@ pub replies_end : {A B : Type 0} (M : Type 0) (goes : Bool) (e : Stop) (a b : So
 replies_end {A} {B} M goes (stop.No why) a b s P R open_yet f h = (h.0, λ total k. no_stays s why (R (rest_in total a) (rest_in total b)) open_yet (λ more. f (rest_in total a) (rest_in total b) more why (h.1 total k)))
 replies_end {A} {B} M goes stop.OutOfMemory a b s P R open_yet f h = (h, short_stays B s open_yet)
 replies_end {A} {B} M goes stop.AnswersRead a b s P R open_yet f h = (h, short_stays B s open_yet)
-replies_end {A} {B} M goes stop.CertificateRead a b s P R open_yet f h = absurd h
-replies_end {A} {B} M goes stop.CounterEnd a b s P R open_yet f h = absurd h
-replies_end {A} {B} M goes stop.ScriptRead a b s P R open_yet f h = absurd h
-replies_end {A} {B} M goes stop.TooMany a b s P R open_yet f h = absurd h
+replies_end {A} {B} M goes e a b s P R open_yet f h = absurd h
 
 -- commands are too many
 pub too_many : {B : Type 0} (M : Type 0) (goes : Bool) (a : Source) (s : Stream) (R : List ℕ → List ℕ → View → View → Result B Why → Type 0) → (AtEnd s.source → ⊥) → M → Joins {A = B} M goes (Err stop.TooMany) a a s s R
@@ -208,14 +192,9 @@ too_many {B} M goes a s R open_yet m = ((refl, refl), short_stays B s open_yet, 
 
 -- one of two reasons is the other
 pub joins_as : {A : Type 0} (M N : Type 0) (goes : Bool) (r : Result A Stop) (a b : Source) (s t : Stream) (P : List ℕ → List ℕ → View → View → Result A Why → Type 0) → (M → N) → Joins M goes r a b s t P → Joins N goes r a b s t P
-joins_as M N goes (Ok x) a b s t P f h = h
-joins_as M N goes (Err (stop.No why)) a b s t P f h = h
-joins_as M N goes (Err stop.OutOfMemory) a b s t P f h = h
-joins_as M N goes (Err stop.CertificateRead) a b s t P f h = h
-joins_as M N goes (Err stop.CounterEnd) a b s t P f h = h
-joins_as M N goes (Err stop.AnswersRead) a b s t P f h = h
 joins_as M N goes (Err stop.ScriptRead) a b s t P f h = absurd h
 joins_as M N goes (Err stop.TooMany) a b s t P f h = (h.0, h.1, f h.2)
+joins_as M N goes e a b s t P f h = h
 
 -- where they aren't, whatever M is
 pub joins_many : {A : Type 0} (M : Type 0) (goes : Bool) (r : Result A Stop) (a b : Source) (s t : Stream) (P : List ℕ → List ℕ → View → View → Result A Why → Type 0) → Joins ⊥ goes r a b s t P → Joins M goes r a b s t P

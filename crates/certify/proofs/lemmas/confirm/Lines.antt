@@ -316,11 +316,7 @@ starts_nothing w due bytes is more r = subst (λ (v : Wanted). IsWantedLine v du
 pub line_stops : {A : Type 0} (F : List ℕ → Type 0) (goes : Bool) (e : Stop) (a b : Source) (line : List ℕ) (P : List ℕ → List ℕ → Result A Why → Type 0) → NextLine F (Err e) a b line → Replies {A = A} goes (Err e) a b P
 line_stops F goes stop.AnswersRead a b line P h = h
 line_stops F goes stop.OutOfMemory a b line P h = h
-line_stops F goes (stop.No why) a b line P h = absurd h
-line_stops F goes stop.CertificateRead a b line P h = absurd h
-line_stops F goes stop.CounterEnd a b line P h = absurd h
-line_stops F goes stop.ScriptRead a b line P h = absurd h
-line_stops F goes stop.TooMany a b line P h = absurd h
+line_stops F goes e a b line P h = absurd h
 
 -- nor read as an answer's
 pub line_unread : (F : List ℕ → Type 0) (e : ReadError) (a b : Source) (line : List ℕ) → ReadsLine F (Err e) a b line → NextLine F (Err (answers_stop e)) a b line

@@ -73,25 +73,17 @@ clause_size (AtClause redundant clause hashes) = length clause
 clause_size step = 0
 
 fields_fit : (step : Step) (bytes : List ℕ) → SpellsFields step bytes → clause_size step + hashes_named step ≤ length bytes
-fields_fit (SolverVarName v name) bytes p = omega arith
-fields_fit (UserVarName v name) bytes p = omega arith
-fields_fit (DeleteVar v) bytes p = omega arith
-fields_fit (ChangeSamplingMode v sample) bytes p = omega arith
 fields_fit (AddClause clause) bytes p = let one = literals_fit clause bytes p in omega (arith, one)
 fields_fit (AtClause redundant clause hashes) bytes p =
     let one = both_fit clause hashes p.1 p.3 in
     let joined : length bytes ≡ length p.0 + length p.1 = ap length p.4 ∙ length-append p.0 p.1 in
     omega (arith, one, joined)
 fields_fit (UnitClauses us) bytes p = let one = units_fit us bytes p in omega (arith, one)
-fields_fit (DeleteClause clause proof) bytes p = omega arith
-fields_fit (ChangeHashBits bits) bytes p = omega arith
-fields_fit (Model ls) bytes p = omega arith
-fields_fit (Assumptions ls) bytes p = omega arith
 fields_fit (FailedAssumptions core hashes) bytes p =
     let two = hashes_fit hashes p.1 p.3 in
     let joined : length bytes ≡ length p.0 + length p.1 = ap length p.4 ∙ length-append p.0 p.1 in
     omega (arith, two, joined)
-fields_fit End bytes p = omega arith
+fields_fit step bytes p = omega arith
 
 step_fits : (step : Step) (text : List ℕ) → SpellsStep step text → clause_size step + hashes_named step + 1 ≤ length text
 step_fits step text p = let one = fields_fit step p.0 p.2 in let e : length text ≡ length (tag_of step ∷ p.0) = ap length p.1 in omega (arith, one, e)
@@ -187,11 +179,7 @@ stored_grows redundant clause f = by_both (is_tautology clause)
 
 effect_grows : (step : Step) (f : Stored) → literals_in (effect step f).clauses ≤ literals_in f.clauses + clause_size step
 effect_grows (SolverVarName v None) f = omega arith
-effect_grows (SolverVarName v (Some name)) f = omega arith
 effect_grows (UserVarName v (Some name)) f = omega arith
-effect_grows (UserVarName v None) f = omega arith
-effect_grows (DeleteVar v) f = omega arith
-effect_grows (ChangeSamplingMode v sample) f = omega arith
 effect_grows (AddClause clause) f = by_unsat f.unsat
   where
     by_unsat : (unsat : Bool) → literals_in (if unsat then f else with_input clause (with_literals_known clause f)).clauses ≤ literals_in f.clauses + length clause
@@ -205,11 +193,7 @@ effect_grows (UnitClauses us) f =
 effect_grows (DeleteClause clause Redundant) f = let less = clause_goes true (canonical clause) f.clauses in omega (arith, less)
 effect_grows (DeleteClause clause Simplified) f = let less = clause_goes false (canonical clause) f.clauses in omega (arith, less)
 effect_grows (DeleteClause clause Satisfied) f = let less = clause_goes false (canonical clause) f.clauses in omega (arith, less)
-effect_grows (ChangeHashBits bits) f = omega arith
-effect_grows (Model ls) f = omega arith
-effect_grows (Assumptions ls) f = omega arith
-effect_grows (FailedAssumptions core hashes) f = omega arith
-effect_grows End f = omega arith
+effect_grows step f = omega arith
 
 step_grows : (step : Step) (earlier : List Step) → literal_count (ready_after (step ∷ earlier)) ≤ literal_count (ready_after earlier) + clause_size step
 step_grows step earlier =

@@ -32,13 +32,7 @@ use Rattle.certify.proofs.lemmas.confirm.Streams.{confirms_stop, says_stop, feed
 
 allowed : (e : Expected) → Excused e → MayStayUnmet e
 allowed (Opens ls o) h = h
-allowed (NewName name) h = tt
-allowed (NoName name) h = tt
-allowed (Adds ls) h = tt
-allowed (Shows names ask line) h = tt
-allowed (Fails ask core) h = tt
-allowed Closes h = tt
-allowed Finish h = tt
+allowed e h = tt
 
 -- what is assumed records no unsat
 still_allowed : (earlier : List Step) (e : Expected) (step : Step) → Fits (the_checking.knows earlier) earlier e step → (ready_after earlier).unsat ≡ false → (ready_after (step ∷ earlier)).unsat ≡ true → MayStayUnmet e
@@ -119,12 +113,7 @@ pub expects_cut : (due : Due) (names : NamedVars) (a b : Stream) → (AtEnd a.so
 expects_cut due names a b open_yet (Ok u) p s = (p.0, (λ total k. unmet_met due names (seen_in total a) (seen_in total b) (p.1 total k) s), p.2)
 expects_cut due names a b open_yet (Err (stop.No why)) p s = says_stop {B = ℕ} true (stop.No why) a b (λ u v. AwaitsNext names u v (Ok awaited.Cut)) (λ y. Excuses due (Some why)) (MeetsDue due names names) open_yet
     (λ total w h x earlier t o ask. unmet_barred due names names (seen_in total a) (seen_in total b) why h x earlier t o ask) p s
-expects_cut due names a b open_yet (Err stop.CertificateRead) p s = absurd s
-expects_cut due names a b open_yet (Err stop.OutOfMemory) p s = absurd s
-expects_cut due names a b open_yet (Err stop.CounterEnd) p s = absurd s
-expects_cut due names a b open_yet (Err stop.ScriptRead) p s = absurd s
-expects_cut due names a b open_yet (Err stop.AnswersRead) p s = absurd s
-expects_cut due names a b open_yet (Err stop.TooMany) p s = absurd s
+expects_cut due names a b open_yet (Err e) p s = absurd s
 
 -- before the first step
 pub begins_at : (checker : Kernel) (names : NamedVars) → HasTaken checker [] → ((name : ℕ) → variable_in names name ≡ None) → CheckerIsAt checker names []

@@ -97,9 +97,7 @@ unmoved kind (name ∷ list) j k h = ap (taken_by kind list) (untaken kind name 
 unnamed : (kind : Kind) (name : ℕ) (j : Judge) → is_of_literals kind ≡ true → new_names name j ≡ [] → expected_naming kind name j ≡ []
 unnamed OfClause name j k e = ap (λ (ns : List ℕ). map NewName ns ++ []) e
 unnamed OfAsk name j k e = ap (λ (ns : List ℕ). map NewName ns ++ []) e
-unnamed OfHide name j k e = absurd (true≢false (sym k))
-unnamed OfWitness name j k e = absurd (true≢false (sym k))
-unnamed OfSample name j k e = absurd (true≢false (sym k))
+unnamed x name j k e = absurd (true≢false (sym k))
 
 unnamed_all : (kind : Kind) (list : List ℕ) (j : Judge) → is_of_literals kind ≡ true → AllByRecursion (λ name. new_names name j ≡ []) list → naming_all kind list j ≡ []
 unnamed_all kind [] j k h = refl

@@ -95,18 +95,12 @@ module _ (n : ℕ) (ask : List Literal) (asked next : Table) (a b : Source) (s :
 -- A COMMAND'S CONTENT
 
 content : (n : ℕ) (kind : Kind) (ls : List Literal) (named next : Table) (p : List ℕ) (u v : View) (y : Result (Unit {0}) Why) → (kind ≡ OfAsk → ⊥) → next.names ≡ named.names → MeetsContent kind ls named.variables next.variables u v y → ConfirmsContent n kind ls named next p p u v y
-content n OfClause ls named next p u v y a same m = λ t x is. plain_confirmed OfClause ls tt t named x u n is p next v y same m
 content n OfAsk ls named next p u v y a same m = absurd (a refl)
-content n OfHide ls named next p u v y a same m = λ t x is. plain_confirmed OfHide ls tt t named x u n is p next v y same m
-content n OfWitness ls named next p u v y a same m = λ t x is. plain_confirmed OfWitness ls tt t named x u n is p next v y same m
-content n OfSample ls named next p u v y a same m = λ t x is. plain_confirmed OfSample ls tt t named x u n is p next v y same m
+content n e ls named next p u v y a same m = λ t x is. plain_confirmed e ls tt t named x u n is p next v y same m
 
 content_barred : (n : ℕ) (kind : Kind) (ls : List Literal) (named mid next : Table) (p : List ℕ) (u v : View) (why : Why) → mid.names ≡ named.names → MeetsContent kind ls named.variables mid.variables u v (Err why) → ConfirmsContent n kind ls named next p p u v (Err why)
-content_barred n OfClause ls named mid next p u v why same m = λ t x is. plain_confirmed OfClause ls tt t named x u n is p (record mid { names = named.names }) v (Err why) refl m
 content_barred n OfAsk ls named mid next p u v why same m = λ t x is. ask_without_assumptions ls t named x u n is next p p mid.variables v why m
-content_barred n OfHide ls named mid next p u v why same m = λ t x is. plain_confirmed OfHide ls tt t named x u n is p (record mid { names = named.names }) v (Err why) refl m
-content_barred n OfWitness ls named mid next p u v why same m = λ t x is. plain_confirmed OfWitness ls tt t named x u n is p (record mid { names = named.names }) v (Err why) refl m
-content_barred n OfSample ls named mid next p u v why same m = λ t x is. plain_confirmed OfSample ls tt t named x u n is p (record mid { names = named.names }) v (Err why) refl m
+content_barred n e ls named mid next p u v why same m = λ t x is. plain_confirmed e ls tt t named x u n is p (record mid { names = named.names }) v (Err why) refl m
 
 module _ (n : ℕ) (kind : Kind) (ls : List Literal) (named next : Table) (a : Source) (s t : Stream) (here : AtEnd a → ⊥) where
   pub content_stops : (mid : Table) (e : Stop) → mid.names ≡ named.names → Confirms {A = Unit {0}} (Err e) s t (MeetsContent kind ls named.variables mid.variables) → Joins {A = Unit {0}} ⊥ true (Err e) a a s t (ConfirmsContent n kind ls named next)
@@ -136,11 +130,8 @@ pub allowed_by : (names : Names) (lent : Lent) (c whole : Command) → c ≡ who
 allowed_by names lent c whole e is judges j h = sym (subst (λ (w : Command). None ≡ refusal_of j w) e (judges j c h is))
 
 pub not_ask : (k : CommandKind) → (k ≡ kinds.Ask → ⊥) → kind_of k ≡ OfAsk → ⊥
-not_ask kinds.Clause u e = cc
 not_ask kinds.Ask u e = u refl
-not_ask kinds.Hide u e = cc
-not_ask kinds.Witness u e = cc
-not_ask kinds.Sample u e = cc
+not_ask x u e = cc
 
 pub if_ok : {T E P : Type 0} (r : Result T E) → P → OnOk r P
 if_ok (Ok x) h = h

@@ -8,18 +8,7 @@ use Rattle.certify.specs.confirm.Stepping.{is_ordered_tag}
 
 tag_is_ordered : (s : Step) → is_ordered_tag (tag_of s) ≡ is_ordered s
 tag_is_ordered (SolverVarName global solver) = refl
-tag_is_ordered (UserVarName global user) = refl
-tag_is_ordered (DeleteVar v) = refl
-tag_is_ordered (ChangeSamplingMode v sample) = refl
-tag_is_ordered (AddClause clause) = refl
-tag_is_ordered (AtClause redundant clause hashes) = refl
-tag_is_ordered (UnitClauses units) = refl
-tag_is_ordered (DeleteClause clause proof) = refl
-tag_is_ordered (ChangeHashBits bits) = refl
-tag_is_ordered (Model assignment) = refl
-tag_is_ordered (Assumptions assumptions) = refl
-tag_is_ordered (FailedAssumptions core hashes) = refl
-tag_is_ordered End = refl
+tag_is_ordered step = refl
 
 pub ordered_by_tag : (s : Step) (tag : ℕ) (answer b : Bool) → tag ≡ tag_of s → answer ≡ is_ordered_tag tag → answer ≡ b → is_ordered s ≡ b
 ordered_by_tag s tag answer b e f g = sym (tag_is_ordered s) ∙ ap is_ordered_tag (sym e) ∙ sym f ∙ g
@@ -27,15 +16,4 @@ ordered_by_tag s tag answer b e f g = sym (tag_is_ordered s) ∙ ap is_ordered_t
 -- a step that isn't ordered puts no name
 pub unordered_names : (step : Step) (earlier : List Step) → is_ordered step ≡ false → variable_of (step ∷ earlier) ≡ variable_of earlier
 unordered_names (UserVarName v name) earlier h = absurd (true≢false h)
-unordered_names (SolverVarName v s) earlier h = refl
-unordered_names (DeleteVar v) earlier h = refl
-unordered_names (ChangeSamplingMode v m) earlier h = refl
-unordered_names (AddClause c) earlier h = refl
-unordered_names (AtClause r c hashes) earlier h = refl
-unordered_names (UnitClauses us) earlier h = refl
-unordered_names (DeleteClause c d) earlier h = refl
-unordered_names (ChangeHashBits b) earlier h = refl
-unordered_names (Model ls) earlier h = refl
-unordered_names (Assumptions ls) earlier h = refl
-unordered_names (FailedAssumptions core hashes) earlier h = refl
-unordered_names End earlier h = refl
+unordered_names step earlier h = refl

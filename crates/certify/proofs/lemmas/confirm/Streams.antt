@@ -153,9 +153,7 @@ then_stop x stop.CounterEnd a b c P Q R open_yet f p q =
       over_then 1 a b c q.0.0.0 FeedsAllSteps RunsOut RunsOut here q.0.0.1 (λ total. runs_on (seen_in total a) (seen_in total b) (seen_in total c)) p.2 q.1,
       over_then 1 a b c q.0.0.0 FeedsAllSteps FeedsSomeSteps FeedsSomeSteps here q.0.0.1 (λ total. tries_on (seen_in total a) (seen_in total b) (seen_in total c)) p.2 q.2,
     )
-then_stop x stop.ScriptRead a b c P Q R open_yet f p q = absurd q
-then_stop x stop.AnswersRead a b c P Q R open_yet f p q = absurd q
-then_stop x stop.TooMany a b c P Q R open_yet f p q = absurd q
+then_stop x e a b c P Q R open_yet f p q = absurd q
 
 -- behind a call that went on
 pub confirms_then : {A B : Type 0} (x : A) (r : Result B Stop) (a b c : Stream) (P : View → View → Result A Why → Type 0) (Q R : View → View → Result B Why → Type 0) → (AtEnd a.source → ⊥)
@@ -167,12 +165,10 @@ confirms_then x (Err e) a b c P Q R open_yet f p q = then_stop x e a b c P Q R o
 pub confirms_stop : {A B : Type 0} (e : Stop) (a b : Stream) (P : View → View → Result A Why → Type 0) (R : View → View → Result B Why → Type 0)
     → ((total : List ℕ) (why : Why) → P (seen_in total a) (seen_in total b) (Err why) → R (seen_in total a) (seen_in total b) (Err why)) → Confirms {A = A} (Err e) a b P → Confirms {A = B} (Err e) a b R
 confirms_stop (stop.No why) a b P R f p = (p.0, (λ total k. f total why (p.1 total k)), p.2)
-confirms_stop stop.CertificateRead a b P R f p = p
-confirms_stop stop.OutOfMemory a b P R f p = p
-confirms_stop stop.CounterEnd a b P R f p = p
 confirms_stop stop.ScriptRead a b P R f p = absurd p
 confirms_stop stop.AnswersRead a b P R f p = absurd p
 confirms_stop stop.TooMany a b P R f p = absurd p
+confirms_stop e a b P R f p = p
 
 -- the same of what is said behind it
 pub confirms_so : {A : Type 0} (r : Result A Stop) (a b : Stream) (P R : View → View → Result A Why → Type 0) → ((total : List ℕ) (y : Result A Why) → P (seen_in total a) (seen_in total b) y → R (seen_in total a) (seen_in total b) y) → Confirms r a b P → Confirms r a b R
@@ -189,12 +185,8 @@ pub says_stop : {B C : Type 0} (fed : Bool) (e : Stop) (a b : Stream) (P : View 
     → ((total : List ℕ) (why : Why) → P (seen_in total a) (seen_in total b) → S (Err why) → R (seen_in total a) (seen_in total b) (Err why))
     → Going fed a b P → SaysAlone {A = B} (Err e) S → Confirms {A = C} (Err e) a b R
 says_stop fed (stop.No why) a b P S R open_yet f p s = (moves_halt a b open_yet p.0, (λ total k. f total why (p.1 total k) s), (λ total k. tries_if fed (seen_in total a) (seen_in total b) (p.2 total k)))
-says_stop fed stop.CertificateRead a b P S R open_yet f p s = absurd s
 says_stop fed stop.OutOfMemory a b P S R open_yet f p s = (moves_halt a b open_yet p.0, (λ total k. tries_if fed (seen_in total a) (seen_in total b) (p.2 total k)))
-says_stop fed stop.CounterEnd a b P S R open_yet f p s = absurd s
-says_stop fed stop.ScriptRead a b P S R open_yet f p s = absurd s
-says_stop fed stop.AnswersRead a b P S R open_yet f p s = absurd s
-says_stop fed stop.TooMany a b P S R open_yet f p s = absurd s
+says_stop fed e a b P S R open_yet f p s = absurd s
 
 -- WHAT A CHECKER IS FED
 
@@ -211,16 +203,13 @@ pub feeds_stop : {C : Type 0} (e : Stop) (a b : Stream) (next : Kernel) (P : Vie
     → Going false a b P → Confirms {A = C} (Err e) a (record b { checker = next }) R
 feeds_stop (stop.No why) a b next P R open_yet fed looks f p =
     (moves_halt a b open_yet p.0, (λ total k. f total why (p.1 total k) fed), (λ total k. tries_fed (seen_in total a) (seen_in total b) (seen_in total (record b { checker = next })) looks (p.2 total k)))
-feeds_stop stop.CertificateRead a b next P R open_yet fed looks f p = absurd fed
 feeds_stop stop.OutOfMemory a b next P R open_yet fed looks f p = (moves_halt a b open_yet p.0, (λ total k. tries_fed (seen_in total a) (seen_in total b) (seen_in total (record b { checker = next })) looks (p.2 total k)))
 feeds_stop stop.CounterEnd a b next P R open_yet fed looks f p = (
   moves_halt a b open_yet p.0,
   (λ total k. runs_fed (seen_in total a) (seen_in total b) (seen_in total (record b { checker = next })) next fed (p.2 total k)),
   (λ total k. tries_fed (seen_in total a) (seen_in total b) (seen_in total (record b { checker = next })) looks (p.2 total k)),
 )
-feeds_stop stop.ScriptRead a b next P R open_yet fed looks f p = absurd fed
-feeds_stop stop.AnswersRead a b next P R open_yet fed looks f p = absurd fed
-feeds_stop stop.TooMany a b next P R open_yet fed looks f p = absurd fed
+feeds_stop e a b next P R open_yet fed looks f p = absurd fed
 
 -- a pending unit conflict is settled
 pub settles_on : (fed : Bool) (a b : Stream) (next : Kernel) (P Q : View → View → Type 0) → SettlesConflict (Ok tt) b.checker next
@@ -238,7 +227,6 @@ settles_stop (stop.No why) fed a b next P R open_yet settled f p = (
   (λ total k. f total why (p.1 total k) settled),
   (λ total k earlier t. never_settled fed (seen_in total a) (seen_in total b) (LooksReach earlier (rest_in total a.source) (looks_of a.checker) (looks_of next)) earlier settled (p.2 total k) t),
 )
-settles_stop stop.CertificateRead fed a b next P R open_yet settled f p = absurd settled
 settles_stop stop.OutOfMemory fed a b next P R open_yet settled f p = (
   moves_halt a b open_yet p.0,
   (λ total k. tries_kept fed (seen_in total a) (seen_in total b) (seen_in total (record b { checker = next })) settled (p.2 total k)),
@@ -248,21 +236,14 @@ settles_stop stop.CounterEnd fed a b next P R open_yet settled f p = (
   (λ total k. runs_spent fed (seen_in total a) (seen_in total b) (seen_in total (record b { checker = next })) settled (p.2 total k)),
   (λ total k. tries_spent fed (seen_in total a) (seen_in total b) (seen_in total (record b { checker = next })) settled (p.2 total k)),
 )
-settles_stop stop.ScriptRead fed a b next P R open_yet settled f p = absurd settled
-settles_stop stop.AnswersRead fed a b next P R open_yet settled f p = absurd settled
-settles_stop stop.TooMany fed a b next P R open_yet settled f p = absurd settled
+settles_stop e fed a b next P R open_yet settled f p = absurd settled
 
 -- THE NEXT STEP
 
 -- a reader of steps that goes on doesn't say that it has failed
 pub answered : (r : Result Step StepError) (s t : Source) → repeated r ≡ false → AnswersUnlessFailed r s t → AnswersStepRead r s t
-answered (Ok step) s t e h = h
-answered (Err errors.Ends) s t e h = h
-answered (Err errors.Cut) s t e h = h
-answered (Err errors.BadByte) s t e h = h
-answered (Err errors.Read) s t e h = h
-answered (Err errors.OutOfMemory) s t e h = h
 answered (Err errors.HasFailed) s t e h = absurd (let k : true ≡ false = e in cc)
+answered x s t e h = h
 
 pub step_came : (step : Step) (a b : Stream) → b.step ≡ step → b.checker ≡ a.checker → AnswersStepRead (Ok step) a.source b.source → Going false a b (λ u v. ReadsStep (certificate_place u) (certificate_place v))
 step_came step a b e c h =

@@ -79,9 +79,7 @@ says_literals names lent r (inr k) said j c h (ls, f, e) = said j ls h f ∙ sym
 name_refusal : (kind : Kind) (j : Judge) (ls : List Literal) → (kind ≡ OfClause → ⊥) → (kind ≡ OfAsk → ⊥) → refusal_of j (command_of kind ls) ≡ refused_name (names_of ls)
 name_refusal OfClause j ls n m = absurd (n refl)
 name_refusal OfAsk j ls n m = absurd (m refl)
-name_refusal OfHide j ls n m = refl
-name_refusal OfWitness j ls n m = refl
-name_refusal OfSample j ls n m = refl
+name_refusal e j ls n m = refl
 
 pub says_names : (names : Names) (lent : Lent) (r : Option CodeRefusal) → (kind_of lent.kind ≡ OfClause → ⊥) → (kind_of lent.kind ≡ OfAsk → ⊥) → r ≡ limit_refusal lent.past_limit → TellsRefusal r names lent
 says_names names lent r n m said j c h (ls, f, e) =

@@ -95,9 +95,7 @@ sampled_all (name ∷ names) j = sampled_all names (taken OfSample name j)
 pub untaken : (kind : Kind) (name : ℕ) (j : Judge) → is_of_literals kind ≡ true → new_names name j ≡ [] → taken kind name j ≡ j
 untaken OfClause name j k e = ap (λ (ns : List ℕ). with_names ns j) e
 untaken OfAsk name j k e = ap (λ (ns : List ℕ). with_names ns j) e
-untaken OfHide name j k e = absurd (true≢false (sym k))
-untaken OfWitness name j k e = absurd (true≢false (sym k))
-untaken OfSample name j k e = absurd (true≢false (sym k))
+untaken x name j k e = absurd (true≢false (sym k))
 
 untaken_all : (kind : Kind) (names : List ℕ) (j : Judge) → is_of_literals kind ≡ true → AllByRecursion (λ name. new_names name j ≡ []) names → taken_all kind names j ≡ j
 untaken_all kind [] j k h = refl

@@ -29,22 +29,13 @@ stays s step u = settled_unsat (effect step (ready_after s)) ∙ unsat_stays (re
 lacked_excused : (e : Expected) → MayLack e → Excused e
 lacked_excused (Adds ls) h = tt
 lacked_excused (Fails ask core) h = h
-lacked_excused (NewName name) h = absurd h
-lacked_excused (NoName name) h = absurd h
-lacked_excused (Opens ls o) h = absurd h
-lacked_excused (Shows names ask line) h = absurd h
-lacked_excused Closes h = absurd h
-lacked_excused Finish h = absurd h
+lacked_excused e h = absurd h
 
 stood_excused : (e : Expected) → MayStand true e → Excused e
-stood_excused (Adds ls) h = tt
 stood_excused (Fails ask core) h = absurd (both_ways true h refl)
-stood_excused (NewName name) h = tt
-stood_excused (NoName name) h = tt
 stood_excused (Opens ls o) h = absurd h
 stood_excused (Shows names ask line) h = absurd (both_ways true h refl)
-stood_excused Closes h = tt
-stood_excused Finish h = tt
+stood_excused e h = tt
 
 -- once unsat is recorded, all that is expected
 excused : {all : List Step} {current : Option Outcome} {earlier : List Step} {es : List Expected} {counts : List ℕ}

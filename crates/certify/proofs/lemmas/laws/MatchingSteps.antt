@@ -68,7 +68,6 @@ module _ (k : Checking) (sound : IsSound k) where
       keep : (q : Option (List Literal)) → Asked q earlier → Asked q (SolverVarName v name ∷ earlier)
       keep None w = tt
       keep (Some ask) w = w
-  passed earlier q j live (UserVarName v name) o b w acc = absurd (true≢false o)
   passed earlier q j live (DeleteVar v) o b w acc = after (without v live) (deleted k sound j earlier live b v acc) (keep q w)
     where
       keep : (q : Option (List Literal)) → Asked q earlier → Asked q (DeleteVar v ∷ earlier)
@@ -79,7 +78,6 @@ module _ (k : Checking) (sound : IsSound k) where
       keep : (q : Option (List Literal)) → Asked q earlier → Asked q (ChangeSamplingMode v m ∷ earlier)
       keep None w = tt
       keep (Some ask) w = w
-  passed earlier q j live (AddClause c) o b w acc = absurd (true≢false o)
   passed earlier q j live (AtClause r c hs) o b w acc = after live (nothing_new k sound j earlier live b (AtClause r c hs) acc (λ w e. cc) (λ n. refl) (λ a h. h) (λ a h. h)) (keep q w)
     where
       keep : (q : Option (List Literal)) → Asked q earlier → Asked q (AtClause r c hs ∷ earlier)
@@ -100,10 +98,7 @@ module _ (k : Checking) (sound : IsSound k) where
       keep : (q : Option (List Literal)) → Asked q earlier → Asked q (ChangeHashBits n ∷ earlier)
       keep None w = tt
       keep (Some ask) w = w
-  passed earlier q j live (Model ls) o b w acc = absurd (true≢false o)
-  passed earlier q j live (Assumptions ls) o b w acc = absurd (true≢false o)
-  passed earlier q j live (FailedAssumptions c hs) o b w acc = absurd (true≢false o)
-  passed earlier q j live End o b w acc = absurd (true≢false o)
+  passed earlier q j live step o b w acc = absurd (true≢false o)
 
   -- recorded unsat leaves nothing
   dead : (j : Judge) (earlier : List Step) (live : Live) → IsBridge k j earlier live → k.unsat earlier ≡ true → (b : Valuation) → EachHolds b j.clauses → ⊥

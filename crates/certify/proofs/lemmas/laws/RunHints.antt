@@ -67,9 +67,7 @@ is_hinted steps written (Ok x) from to old new e c t =
     )
 is_hinted steps written (Err HasDeleteVar) from to old new e c t = t
 is_hinted steps written (Err (Refused error)) from to old new e c t = t
-is_hinted steps written (Err Read) from to old new e c t = tt
-is_hinted steps written (Err Write) from to old new e c t = tt
-is_hinted steps written (Err OutOfMemory) from to old new e c t = tt
+is_hinted steps written (Err z) from to old new e c t = tt
 
 pub runs_have_hints : RunsHaveHints
 runs_have_hints budget summary text answered certified more result from to old new b told c =

@@ -71,22 +71,12 @@ stored_more r clause c last = either (is_tautology clause) _ _ c _ last refl (so
 
 changed_is : (step : Step) (c : Contents) (last : Option (List ℕ)) → changed step (session_of c last) ≡ session_of (contents_after step c) last
 changed_is (SolverVarName v None) c last = refl
-changed_is (SolverVarName v (Some name)) c last = refl
 changed_is (UserVarName v (Some name)) c last = refl
-changed_is (UserVarName v None) c last = refl
-changed_is (DeleteVar v) c last = refl
-changed_is (ChangeSamplingMode v sample) c last = refl
 changed_is (AddClause clause) c last = either c.unsat _ _ c _ last refl (stored_more false clause (literals_known clause c) last)
 changed_is (AtClause r clause hashes) c last = stored_more r clause (literals_known clause c) last
 changed_is (UnitClauses us) c last = facts (map (λ (u : ℕ × ℕ). u.0) us) (literals_known (map (λ (u : ℕ × ℕ). u.0) us) c) last
 changed_is (DeleteClause clause Redundant) c last = refl
-changed_is (DeleteClause clause Simplified) c last = refl
-changed_is (DeleteClause clause Satisfied) c last = refl
-changed_is (ChangeHashBits bits) c last = refl
-changed_is (Model ls) c last = refl
-changed_is (Assumptions ls) c last = refl
-changed_is (FailedAssumptions core hashes) c last = refl
-changed_is End c last = refl
+changed_is step c last = refl
 
 session_is : (steps : List Step) → (last : Option (List ℕ)) × (session_after steps ≡ session_of (contents_of steps) last)
 session_is [] = (None, refl)
@@ -119,11 +109,7 @@ clause_wide r clause x c = either_wide (is_tautology clause) x _ _ c _ refl (set
 
 after_wide : (w : ℕ) (step : Step) (x : ℕ) (c : Contents) → KeepsWidth step → contents_after (narrowed w step) (wide x c) ≡ wide x (contents_after step c)
 after_wide w (SolverVarName v None) x c k = refl
-after_wide w (SolverVarName v (Some name)) x c k = refl
 after_wide w (UserVarName v (Some name)) x c k = refl
-after_wide w (UserVarName v None) x c k = refl
-after_wide w (DeleteVar v) x c k = refl
-after_wide w (ChangeSamplingMode v sample) x c k = refl
 after_wide w (AddClause clause) x c k = either_wide c.unsat x _ _ c _ refl (clause_wide false clause x (literals_known clause c))
 after_wide w (AtClause r clause hashes) x c k = clause_wide r clause x (literals_known clause c)
 after_wide w (UnitClauses us) x c k = units_wide w us x c
@@ -136,13 +122,8 @@ after_wide w (UnitClauses us) x c k = units_wide w us x c
     units_wide w us x c =
         ap (λ (ls : List ℕ). units_more ls (literals_known ls (wide x c))) (firsts w us) ∙ facts_wide (map (λ (u : ℕ × ℕ). u.0) us) x (literals_known (map (λ (u : ℕ × ℕ). u.0) us) c)
 after_wide w (DeleteClause clause Redundant) x c k = refl
-after_wide w (DeleteClause clause Simplified) x c k = refl
-after_wide w (DeleteClause clause Satisfied) x c k = refl
 after_wide w (ChangeHashBits bits) x c k = absurd k
-after_wide w (Model ls) x c k = refl
-after_wide w (Assumptions ls) x c k = refl
-after_wide w (FailedAssumptions core hashes) x c k = refl
-after_wide w End x c k = refl
+after_wide w step x c k = refl
 
 -- behind a width that is told
 pub told_wide : (same : Bool) (now : ℕ) (written : List Step) (c : Contents) (x : ℕ) → contents_of written ≡ wide x c
@@ -273,18 +254,7 @@ advances_as steps s same (l ∷ ls) a =
 
 pub advancing_as : (steps : List Step) (s : Session) → IsSame (ready_after steps) s → (w : ℕ) (step : Step) → made_steps.IsAdvancing s step → IsAdvancing (ready_after steps) (narrowed w step)
 advancing_as steps s same w (AtClause r clause hashes) a = advances_as steps s same clause a
-advancing_as steps s same w (SolverVarName v name) a = absurd a
-advancing_as steps s same w (UserVarName v name) a = absurd a
-advancing_as steps s same w (DeleteVar v) a = absurd a
-advancing_as steps s same w (ChangeSamplingMode v sample) a = absurd a
-advancing_as steps s same w (AddClause clause) a = absurd a
-advancing_as steps s same w (UnitClauses us) a = absurd a
-advancing_as steps s same w (DeleteClause clause proof) a = absurd a
-advancing_as steps s same w (ChangeHashBits bits) a = absurd a
-advancing_as steps s same w (Model ls) a = absurd a
-advancing_as steps s same w (Assumptions ls) a = absurd a
-advancing_as steps s same w (FailedAssumptions core hashes) a = absurd a
-advancing_as steps s same w End a = absurd a
+advancing_as steps s same w step a = absurd a
 
 -- AND NOTHING ELSE DOES
 
@@ -371,15 +341,4 @@ never_as steps s same w (AtClause r clause hashes) never (l, among, leaves) =
       agree = λ m e. sym (d (negated m)) ∙ leaves.agree m (d m ∙ e);
       stays = stays steps s same l (supposed (ready_after steps) others) (denied s others) d leaves.open_still;
     })
-never_as steps s same w (SolverVarName v name) never a = a
-never_as steps s same w (UserVarName v name) never a = a
-never_as steps s same w (DeleteVar v) never a = a
-never_as steps s same w (ChangeSamplingMode v sample) never a = a
-never_as steps s same w (AddClause clause) never a = a
-never_as steps s same w (UnitClauses us) never a = a
-never_as steps s same w (DeleteClause clause proof) never a = a
-never_as steps s same w (ChangeHashBits bits) never a = a
-never_as steps s same w (Model ls) never a = a
-never_as steps s same w (Assumptions ls) never a = a
-never_as steps s same w (FailedAssumptions core hashes) never a = a
-never_as steps s same w End never a = a
+never_as steps s same w step never a = a

@@ -71,9 +71,7 @@ kind_told kind.Unknown now = refl
 -- which states answers come from
 sat_state : (st : State) → AnswerIs st kind.Sat → st ≡ states.Sat
 sat_state states.Sat h = refl
-sat_state states.Unknown h = absurd (cc)
-sat_state states.UnsatUnderAssumptions h = absurd (cc)
-sat_state states.Unsat h = absurd (cc)
+sat_state e h = absurd (cc)
 
 unsat_state : (st : State) → AnswerIs st kind.Unsat → (st ≡ states.UnsatUnderAssumptions) ⊎ (st ≡ states.Unsat)
 unsat_state states.UnsatUnderAssumptions h = inl refl
@@ -83,9 +81,7 @@ unsat_state states.Sat h = absurd (cc)
 
 unknown_state : (st : State) → AnswerIs st kind.Unknown → st ≡ states.Unknown
 unknown_state states.Unknown h = refl
-unknown_state states.Sat h = absurd (cc)
-unknown_state states.UnsatUnderAssumptions h = absurd (cc)
-unknown_state states.Unsat h = absurd (cc)
+unknown_state e h = absurd (cc)
 
 sat_apart : (st : State) → st ≡ states.Sat → st ≡ states.Unsat → ⊥
 sat_apart st e f = cc
@@ -135,9 +131,7 @@ module _ {C : Type 0} (now : Solver C) (whole : SolverInvariant now) (ask : List
 
   none_told : (b : State) → Told b states.Unsat → HasTrace the_checking s (steps_in now) []
   none_told states.Unknown w = w
-  none_told states.Sat w = w
-  none_told states.UnsatUnderAssumptions w = w
-  none_told states.Unsat w = w
+  none_told e w = w
 
   unsat_shown : now.state ≡ states.Unsat → Told before now.state → (o : Outcome) → Shown (the_checking.unsat (steps_in now)) o
   unsat_shown e w o = subst (λ b. Shown b o) (sym (known_unsat now whole e)) (none_told before (subst (λ st. Told before st) e w))
@@ -167,9 +161,7 @@ forgets_either states.UnsatUnderAssumptions states.UnsatUnderAssumptions h = abs
 -- how many rounds learn
 none_learned : (st : State) → learned_of st 0 ≡ 0
 none_learned states.Unknown = refl
-none_learned states.Sat = refl
-none_learned states.UnsatUnderAssumptions = refl
-none_learned states.Unsat = refl
+none_learned e = refl
 
 less_one : (n : ℕ) → 0 < n → n ≡ n - 1 + 1
 less_one n h = omega arith
@@ -179,14 +171,12 @@ answer_learns now states.Unknown kind.Unknown n h f = refl
 answer_learns now states.Sat kind.Sat n h f = less_one n (f (λ e. cc))
 answer_learns now states.UnsatUnderAssumptions kind.Unsat n h f = less_one n (f (λ e. cc))
 answer_learns now states.Unsat kind.Unsat n h f = less_one n (f (λ e. cc))
-answer_learns now states.Unknown kind.Sat n h f = absurd (cc)
 answer_learns now states.Unknown kind.Unsat n h f = absurd (cc)
 answer_learns now states.Sat kind.Unsat n h f = absurd (cc)
 answer_learns now states.Sat kind.Unknown n h f = absurd (cc)
-answer_learns now states.UnsatUnderAssumptions kind.Sat n h f = absurd (cc)
 answer_learns now states.UnsatUnderAssumptions kind.Unknown n h f = absurd (cc)
-answer_learns now states.Unsat kind.Sat n h f = absurd (cc)
 answer_learns now states.Unsat kind.Unknown n h f = absurd (cc)
+answer_learns now x kind.Sat n h f = absurd (cc)
 
 -- an ask: its literals were assumed, and the solver searched; nothing is assumed from there on
 module _ {C : Type 0} (seen : C → Writer) (old mid now : Solver C) (user : List ℕ) (budget : ℕ) (report : AskReport) (opened : ReplacesAssumptions seen old mid user) (searched : Searched seen budget report mid now) (right : IsToldRight report.answer now) where

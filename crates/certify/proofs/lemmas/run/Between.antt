@@ -128,18 +128,7 @@ split (one_made {d = d} {made = m} {written = w} step k p) (s ∷ later) made e 
 
 pub narrowed_order : (w : ℕ) (step : Step) → is_ordered (narrowed w step) ≡ is_ordered step
 narrowed_order w (SolverVarName v name) = refl
-narrowed_order w (UserVarName v name) = refl
-narrowed_order w (DeleteVar v) = refl
-narrowed_order w (ChangeSamplingMode v sample) = refl
-narrowed_order w (AddClause clause) = refl
-narrowed_order w (AtClause r clause hashes) = refl
-narrowed_order w (UnitClauses us) = refl
-narrowed_order w (DeleteClause clause proof) = refl
-narrowed_order w (ChangeHashBits bits) = refl
-narrowed_order w (Model ls) = refl
-narrowed_order w (Assumptions ls) = refl
-narrowed_order w (FailedAssumptions core hashes) = refl
-narrowed_order w End = refl
+narrowed_order w step = refl
 
 unordered_more : (now before : ℕ) (step s : Step) → step ≡ s → (middle : List Step) → is_ordered s ≡ false → AreUnordered middle → AreUnordered (written_for before now step ++ middle)
 unordered_more now before step s e middle u h = (narrowed_order now step ∙ ap is_ordered e ∙ u, append_unordered (width_told before now) middle (asides_unordered (width_told before now) (told_aside before now)) h)

@@ -35,30 +35,15 @@ none_some r e = cc
 
 -- the same for what comes of its causes
 pub caused_map : (e : RunFault) (full lacks P Q : Type 0) → (full → P) → (lacks → Q) → IsCaused e full lacks → IsCaused e P Q
-caused_map fault.ScriptRead full lacks P Q f g h = h
-caused_map fault.AnswersWrite full lacks P Q f g h = h
-caused_map fault.CertificateWrite full lacks P Q f g h = h
-caused_map fault.OutOfMemory full lacks P Q f g h = h
 caused_map fault.StoreFull full lacks P Q f g h = f h
 caused_map fault.CounterEnd full lacks P Q f g h = g h
+caused_map e full lacks P Q f g h = h
 
 module _ {C : Type 0} (seen : C → Writer) (a b : Solver C) where
   ends : {full : Type 0} (e : SolverError) → EndsNamesOr full seen e a b → FailsSolver seen (fault_for e) a b
-  ends errors.Interrupted h = (h.breaks.steps, h.breaks.went)
   ends (errors.ProofProcessorError cause) h = (h.breaks.steps, h.breaks.went.adds)
-  ends (errors.ProofIoError cause) h = (h.breaks.steps, h.breaks.went)
-  ends errors.OutOfMemory h = (h.breaks.steps, h.breaks.went)
-  ends errors.WitnessVariable h = (h.breaks.steps, h.breaks.went)
-  ends errors.AssumedVariable h = (h.breaks.steps, h.breaks.went)
-  ends errors.TooLate h = (h.breaks.steps, h.breaks.went)
-  ends errors.NotInDrat h = (h.breaks.steps, h.breaks.went)
-  ends errors.StoreFull h = (h.breaks.steps, h.breaks.went)
-  ends errors.VariableLimit h = (h.breaks.steps, h.breaks.went)
   ends errors.CounterEnd h = (h.breaks.steps, h.breaks.went.adds)
-  ends errors.HasFailed h = (h.breaks.steps, h.breaks.went)
-  ends errors.Read h = (h.breaks.steps, h.breaks.went)
-  ends errors.Malformed h = (h.breaks.steps, h.breaks.went)
-  ends errors.OutOfRange h = (h.breaks.steps, h.breaks.went)
+  ends e h = (h.breaks.steps, h.breaks.went)
 
   -- nobody complains of a checker that isn't there
   pub complains_never : (k : CheckFault) → is_checked (proof_in a) ≡ false → (steps : List Step) → FailsCheck seen k steps (proof_in a) (proof_in b) → ⊥
@@ -74,16 +59,7 @@ module _ {C : Type 0} (seen : C → Writer) (a b : Solver C) where
   caused full (errors.ProofIoError cause) alone f steps w = tt
   caused full (errors.ProofProcessorError cause) alone f steps w = complains_never (checks.Processor cause) alone steps w
   caused full errors.CounterEnd alone f steps w = complains_never checks.CounterEnd alone steps w
-  caused full errors.WitnessVariable alone f steps w = absurd f
-  caused full errors.AssumedVariable alone f steps w = absurd f
-  caused full errors.TooLate alone f steps w = absurd f
-  caused full errors.NotInDrat alone f steps w = absurd f
-  caused full errors.Interrupted alone f steps w = absurd f
-  caused full errors.HasFailed alone f steps w = absurd f
-  caused full errors.Read alone f steps w = absurd f
-  caused full errors.Malformed alone f steps w = absurd f
-  caused full errors.OutOfRange alone f steps w = absurd f
-  caused full errors.VariableLimit alone f steps w = absurd f
+  caused full e alone f steps w = absurd f
 
   ends_caused : (full lacks : Type 0) (e : SolverError) → IsReady a → EndsNamesOr full seen e a b → IsCaused (fault_for e) full lacks
   ends_caused full lacks e ready h = caused_map (fault_for e) full ⊥ full lacks (λ x. x) (λ x. absurd x) (caused full e ready.unchecked h.fault h.breaks.steps h.breaks.went)
@@ -99,103 +75,45 @@ module _ {C : Type 0} (seen : C → Writer) (a b : Solver C) where
     clause_fails errors.WitnessVariable h = absurd (named h.cause.1)
     clause_fails errors.NotInDrat h = absurd (apart (sym h.cause.1.0 ∙ ready.no_lines seen))
     clause_fails errors.HasFailed h = absurd (apart (sym h.cause ∙ ready.going))
-    clause_fails errors.Interrupted h = ends errors.Interrupted h.2
-    clause_fails (errors.ProofProcessorError cause) h = ends (errors.ProofProcessorError cause) h.2
-    clause_fails (errors.ProofIoError cause) h = ends (errors.ProofIoError cause) h.2
-    clause_fails errors.OutOfMemory h = ends errors.OutOfMemory h.2
-    clause_fails errors.AssumedVariable h = ends errors.AssumedVariable h.2
-    clause_fails errors.TooLate h = ends errors.TooLate h.2
-    clause_fails errors.StoreFull h = ends errors.StoreFull h.2
     clause_fails errors.VariableLimit h = stays h.same
-    clause_fails errors.CounterEnd h = ends errors.CounterEnd h.2
-    clause_fails errors.Read h = ends errors.Read h.2
-    clause_fails errors.Malformed h = ends errors.Malformed h.2
-    clause_fails errors.OutOfRange h = ends errors.OutOfRange h.2
+    clause_fails e h = ends e h.2
 
     pub assume_fails : (e : SolverError) → AssumesOrRefuses seen (Err e) a b user → FailsSolver seen (fault_for e) a b
     assume_fails errors.WitnessVariable h = absurd (named h.cause.1)
     assume_fails errors.NotInDrat h = absurd (apart (sym h.cause.1 ∙ ready.no_lines seen))
     assume_fails errors.HasFailed h = absurd (apart (sym h.cause ∙ ready.going))
-    assume_fails errors.Interrupted h = ends errors.Interrupted h.2
-    assume_fails (errors.ProofProcessorError cause) h = ends (errors.ProofProcessorError cause) h.2
-    assume_fails (errors.ProofIoError cause) h = ends (errors.ProofIoError cause) h.2
-    assume_fails errors.OutOfMemory h = ends errors.OutOfMemory h.2
-    assume_fails errors.AssumedVariable h = ends errors.AssumedVariable h.2
-    assume_fails errors.TooLate h = ends errors.TooLate h.2
-    assume_fails errors.StoreFull h = ends errors.StoreFull h.2
     assume_fails errors.VariableLimit h = stays h.same
-    assume_fails errors.CounterEnd h = ends errors.CounterEnd h.2
-    assume_fails errors.Read h = ends errors.Read h.2
-    assume_fails errors.Malformed h = ends errors.Malformed h.2
-    assume_fails errors.OutOfRange h = ends errors.OutOfRange h.2
+    assume_fails e h = ends e h.2
 
     pub clause_fault : (e : SolverError) → AddsClause seen (Err e) a b user → IsSolverFault e
     clause_fault errors.WitnessVariable h = absurd (named h.cause.1)
     clause_fault errors.NotInDrat h = absurd (apart (sym h.cause.1.0 ∙ ready.no_lines seen))
     clause_fault errors.HasFailed h = absurd (apart (sym h.cause ∙ ready.going))
-    clause_fault errors.Interrupted h = h.2.breaks.fault
-    clause_fault (errors.ProofProcessorError cause) h = h.2.breaks.fault
-    clause_fault (errors.ProofIoError cause) h = h.2.breaks.fault
-    clause_fault errors.OutOfMemory h = h.2.breaks.fault
-    clause_fault errors.AssumedVariable h = h.2.breaks.fault
-    clause_fault errors.TooLate h = h.2.breaks.fault
     clause_fault errors.StoreFull h = inl tt
     clause_fault errors.VariableLimit h = inr refl
-    clause_fault errors.CounterEnd h = h.2.breaks.fault
-    clause_fault errors.Read h = h.2.breaks.fault
-    clause_fault errors.Malformed h = h.2.breaks.fault
-    clause_fault errors.OutOfRange h = h.2.breaks.fault
+    clause_fault e h = h.2.breaks.fault
 
     pub assume_fault : (e : SolverError) → AssumesOrRefuses seen (Err e) a b user → IsSolverFault e
     assume_fault errors.WitnessVariable h = absurd (named h.cause.1)
     assume_fault errors.NotInDrat h = absurd (apart (sym h.cause.1 ∙ ready.no_lines seen))
     assume_fault errors.HasFailed h = absurd (apart (sym h.cause ∙ ready.going))
-    assume_fault errors.Interrupted h = h.2.breaks.fault
-    assume_fault (errors.ProofProcessorError cause) h = h.2.breaks.fault
-    assume_fault (errors.ProofIoError cause) h = h.2.breaks.fault
-    assume_fault errors.OutOfMemory h = h.2.breaks.fault
-    assume_fault errors.AssumedVariable h = h.2.breaks.fault
-    assume_fault errors.TooLate h = h.2.breaks.fault
     assume_fault errors.StoreFull h = inl tt
     assume_fault errors.VariableLimit h = inr refl
-    assume_fault errors.CounterEnd h = h.2.breaks.fault
-    assume_fault errors.Read h = h.2.breaks.fault
-    assume_fault errors.Malformed h = h.2.breaks.fault
-    assume_fault errors.OutOfRange h = h.2.breaks.fault
+    assume_fault e h = h.2.breaks.fault
 
     pub clause_caused : (e : SolverError) → AddsClause seen (Err e) a b user → IsCaused (fault_for e) (HasFullStore b) (LacksRoom a (users_in user))
     clause_caused errors.WitnessVariable h = absurd (named h.cause.1)
     clause_caused errors.NotInDrat h = absurd (apart (sym h.cause.1.0 ∙ ready.no_lines seen))
     clause_caused errors.HasFailed h = absurd (apart (sym h.cause ∙ ready.going))
-    clause_caused errors.Interrupted h = ends_caused (HasFullStore b) (LacksRoom a (users_in user)) errors.Interrupted ready h.2
-    clause_caused (errors.ProofProcessorError cause) h = ends_caused (HasFullStore b) (LacksRoom a (users_in user)) (errors.ProofProcessorError cause) ready h.2
-    clause_caused (errors.ProofIoError cause) h = ends_caused (HasFullStore b) (LacksRoom a (users_in user)) (errors.ProofIoError cause) ready h.2
-    clause_caused errors.OutOfMemory h = ends_caused (HasFullStore b) (LacksRoom a (users_in user)) errors.OutOfMemory ready h.2
-    clause_caused errors.AssumedVariable h = ends_caused (HasFullStore b) (LacksRoom a (users_in user)) errors.AssumedVariable ready h.2
-    clause_caused errors.TooLate h = ends_caused (HasFullStore b) (LacksRoom a (users_in user)) errors.TooLate ready h.2
-    clause_caused errors.StoreFull h = ends_caused (HasFullStore b) (LacksRoom a (users_in user)) errors.StoreFull ready h.2
     clause_caused errors.VariableLimit h = h.cause.1.2
-    clause_caused errors.CounterEnd h = ends_caused (HasFullStore b) (LacksRoom a (users_in user)) errors.CounterEnd ready h.2
-    clause_caused errors.Read h = ends_caused (HasFullStore b) (LacksRoom a (users_in user)) errors.Read ready h.2
-    clause_caused errors.Malformed h = ends_caused (HasFullStore b) (LacksRoom a (users_in user)) errors.Malformed ready h.2
-    clause_caused errors.OutOfRange h = ends_caused (HasFullStore b) (LacksRoom a (users_in user)) errors.OutOfRange ready h.2
+    clause_caused e h = ends_caused (HasFullStore b) (LacksRoom a (users_in user)) e ready h.2
 
     pub assume_caused : (e : SolverError) → AssumesOrRefuses seen (Err e) a b user → IsCaused (fault_for e) ⊥ (LacksRoom a (users_in user))
     assume_caused errors.WitnessVariable h = absurd (named h.cause.1)
     assume_caused errors.NotInDrat h = absurd (apart (sym h.cause.1 ∙ ready.no_lines seen))
     assume_caused errors.HasFailed h = absurd (apart (sym h.cause ∙ ready.going))
-    assume_caused errors.Interrupted h = ends_caused ⊥ (LacksRoom a (users_in user)) errors.Interrupted ready h.2
-    assume_caused (errors.ProofProcessorError cause) h = ends_caused ⊥ (LacksRoom a (users_in user)) (errors.ProofProcessorError cause) ready h.2
-    assume_caused (errors.ProofIoError cause) h = ends_caused ⊥ (LacksRoom a (users_in user)) (errors.ProofIoError cause) ready h.2
-    assume_caused errors.OutOfMemory h = ends_caused ⊥ (LacksRoom a (users_in user)) errors.OutOfMemory ready h.2
-    assume_caused errors.AssumedVariable h = ends_caused ⊥ (LacksRoom a (users_in user)) errors.AssumedVariable ready h.2
-    assume_caused errors.TooLate h = ends_caused ⊥ (LacksRoom a (users_in user)) errors.TooLate ready h.2
-    assume_caused errors.StoreFull h = ends_caused ⊥ (LacksRoom a (users_in user)) errors.StoreFull ready h.2
     assume_caused errors.VariableLimit h = h.cause.2
-    assume_caused errors.CounterEnd h = ends_caused ⊥ (LacksRoom a (users_in user)) errors.CounterEnd ready h.2
-    assume_caused errors.Read h = ends_caused ⊥ (LacksRoom a (users_in user)) errors.Read ready h.2
-    assume_caused errors.Malformed h = ends_caused ⊥ (LacksRoom a (users_in user)) errors.Malformed ready h.2
-    assume_caused errors.OutOfRange h = ends_caused ⊥ (LacksRoom a (users_in user)) errors.OutOfRange ready h.2
+    assume_caused e h = ends_caused ⊥ (LacksRoom a (users_in user)) e ready h.2
 
   -- no name is assumed where nothing is
   none_asked : (user : ℕ) → a.assumed.items ≡ [] → IsAsked a user → ⊥
@@ -205,50 +123,18 @@ module _ {C : Type 0} (seen : C → Writer) (a b : Solver C) where
     pub name_fails : (e : SolverError) → ChangesMode seen (Err e) a b user judge due May → FailsSolver seen (fault_for e) a b
     name_fails errors.AssumedVariable h = absurd (none_asked user free h.cause.1)
     name_fails errors.HasFailed h = absurd (apart (sym h.cause ∙ ready.going))
-    name_fails errors.Interrupted h = ends errors.Interrupted h.2
-    name_fails (errors.ProofProcessorError cause) h = ends (errors.ProofProcessorError cause) h.2
-    name_fails (errors.ProofIoError cause) h = ends (errors.ProofIoError cause) h.2
-    name_fails errors.OutOfMemory h = ends errors.OutOfMemory h.2
-    name_fails errors.WitnessVariable h = ends errors.WitnessVariable h.2
-    name_fails errors.TooLate h = ends errors.TooLate h.2
-    name_fails errors.NotInDrat h = ends errors.NotInDrat h.2
-    name_fails errors.StoreFull h = ends errors.StoreFull h.2
     name_fails errors.VariableLimit h = stays h.same
-    name_fails errors.CounterEnd h = ends errors.CounterEnd h.2
-    name_fails errors.Read h = ends errors.Read h.2
-    name_fails errors.Malformed h = ends errors.Malformed h.2
-    name_fails errors.OutOfRange h = ends errors.OutOfRange h.2
+    name_fails e h = ends e h.2
 
     pub name_fault : (e : SolverError) → ChangesMode seen (Err e) a b user judge due May → IsSolverFault e
     name_fault errors.AssumedVariable h = absurd (none_asked user free h.cause.1)
     name_fault errors.HasFailed h = absurd (apart (sym h.cause ∙ ready.going))
-    name_fault errors.Interrupted h = h.2.breaks.fault
-    name_fault (errors.ProofProcessorError cause) h = h.2.breaks.fault
-    name_fault (errors.ProofIoError cause) h = h.2.breaks.fault
-    name_fault errors.OutOfMemory h = h.2.breaks.fault
-    name_fault errors.WitnessVariable h = h.2.breaks.fault
-    name_fault errors.TooLate h = h.2.breaks.fault
-    name_fault errors.NotInDrat h = h.2.breaks.fault
     name_fault errors.StoreFull h = inl tt
     name_fault errors.VariableLimit h = inr refl
-    name_fault errors.CounterEnd h = h.2.breaks.fault
-    name_fault errors.Read h = h.2.breaks.fault
-    name_fault errors.Malformed h = h.2.breaks.fault
-    name_fault errors.OutOfRange h = h.2.breaks.fault
+    name_fault e h = h.2.breaks.fault
 
     pub name_caused : (e : SolverError) → ChangesMode seen (Err e) a b user judge due May → IsCaused (fault_for e) ⊥ (LacksRoom a (user ∷ []))
     name_caused errors.AssumedVariable h = absurd (none_asked user free h.cause.1)
     name_caused errors.HasFailed h = absurd (apart (sym h.cause ∙ ready.going))
-    name_caused errors.Interrupted h = ends_caused ⊥ (LacksRoom a (user ∷ [])) errors.Interrupted ready h.2
-    name_caused (errors.ProofProcessorError cause) h = ends_caused ⊥ (LacksRoom a (user ∷ [])) (errors.ProofProcessorError cause) ready h.2
-    name_caused (errors.ProofIoError cause) h = ends_caused ⊥ (LacksRoom a (user ∷ [])) (errors.ProofIoError cause) ready h.2
-    name_caused errors.OutOfMemory h = ends_caused ⊥ (LacksRoom a (user ∷ [])) errors.OutOfMemory ready h.2
-    name_caused errors.WitnessVariable h = ends_caused ⊥ (LacksRoom a (user ∷ [])) errors.WitnessVariable ready h.2
-    name_caused errors.TooLate h = ends_caused ⊥ (LacksRoom a (user ∷ [])) errors.TooLate ready h.2
-    name_caused errors.NotInDrat h = ends_caused ⊥ (LacksRoom a (user ∷ [])) errors.NotInDrat ready h.2
-    name_caused errors.StoreFull h = ends_caused ⊥ (LacksRoom a (user ∷ [])) errors.StoreFull ready h.2
     name_caused errors.VariableLimit h = h.cause.2
-    name_caused errors.CounterEnd h = ends_caused ⊥ (LacksRoom a (user ∷ [])) errors.CounterEnd ready h.2
-    name_caused errors.Read h = ends_caused ⊥ (LacksRoom a (user ∷ [])) errors.Read ready h.2
-    name_caused errors.Malformed h = ends_caused ⊥ (LacksRoom a (user ∷ [])) errors.Malformed ready h.2
-    name_caused errors.OutOfRange h = ends_caused ⊥ (LacksRoom a (user ∷ [])) errors.OutOfRange ready h.2
+    name_caused e h = ends_caused ⊥ (LacksRoom a (user ∷ [])) e ready h.2

@@ -47,12 +47,9 @@ caused_if (Err e) full lacks P Q f g h = caused_map e full lacks P Q f g h
 
 -- whatever is left
 pub caused_all : (e : RunFault) (full : Type 0) (A : Type 0) (P : A → Type 0) → A → ((x : A) → IsCaused e full (P x)) → IsCaused e full ((x : A) → P x)
-caused_all fault.ScriptRead full A P a h = tt
-caused_all fault.AnswersWrite full A P a h = tt
-caused_all fault.CertificateWrite full A P a h = tt
-caused_all fault.OutOfMemory full A P a h = tt
 caused_all fault.StoreFull full A P a h = h a
 caused_all fault.CounterEnd full A P a h = h
+caused_all e full A P a h = tt
 
 -- NAMES
 

@@ -37,17 +37,7 @@ first_comes s t x ys zs b c d =
 keeps_going : (s : List Step) (step : Step) → is_ordered step ≡ false → MayTake [] s step → the_checking.unsat s ≡ false → the_checking.unsat (step ∷ s) ≡ false
 keeps_going s (ChangeHashBits bits) q m g = settled_unsat (effect (ChangeHashBits bits) (ready_after s)) ∙ g
 keeps_going s (SolverVarName v n) q m g = absurd (m.2.1)
-keeps_going s (UserVarName v n) q m g = absurd (cc)
-keeps_going s (AddClause c) q m g = absurd (cc)
-keeps_going s (Model ls) q m g = absurd (cc)
-keeps_going s (Assumptions ls) q m g = absurd (cc)
-keeps_going s (FailedAssumptions c h) q m g = absurd (cc)
-keeps_going s End q m g = absurd (cc)
-keeps_going s (DeleteVar v) q m g = absurd (cc)
-keeps_going s (ChangeSamplingMode v b) q m g = absurd (cc)
-keeps_going s (AtClause r c h) q m g = absurd (cc)
-keeps_going s (UnitClauses us) q m g = absurd (cc)
-keeps_going s (DeleteClause c p) q m g = absurd (cc)
+keeps_going s step q m g = absurd (cc)
 
 close_keeps : (s : List Step) (x : Expected) (step : Step) → Fits (the_checking.knows s) s x step → x ≡ Closes → the_checking.unsat s ≡ false → the_checking.unsat (step ∷ s) ≡ false
 close_keeps s Closes step closes e g = settled_unsat (effect (Assumptions []) (ready_after s)) ∙ g

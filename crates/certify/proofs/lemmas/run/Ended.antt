@@ -45,24 +45,12 @@ pub closing_caused : {C : Type 0} (seen : C → Writer) (e : SolverError) (old n
 closing_caused seen errors.HasFailed old new ready h = absurd (true≢false (sym h.cause ∙ ready.going))
 closing_caused seen (errors.ProofIoError cause) old new ready h = tt
 closing_caused seen errors.OutOfMemory old new ready h = tt
-closing_caused seen errors.Interrupted old new ready h = absurd h
 closing_caused seen (errors.ProofProcessorError cause) old new ready h = absurd (complains_never seen old new (checks.Processor cause) ready.unchecked (End ∷ []) h.fails)
-closing_caused seen errors.WitnessVariable old new ready h = absurd h
-closing_caused seen errors.AssumedVariable old new ready h = absurd h
-closing_caused seen errors.TooLate old new ready h = absurd h
-closing_caused seen errors.NotInDrat old new ready h = absurd h
-closing_caused seen errors.StoreFull old new ready h = absurd h
-closing_caused seen errors.VariableLimit old new ready h = absurd h
 closing_caused seen errors.CounterEnd old new ready h = absurd (complains_never seen old new checks.CounterEnd ready.unchecked (End ∷ []) h.fails)
-closing_caused seen errors.Read old new ready h = absurd h
-closing_caused seen errors.Malformed old new ready h = absurd h
-closing_caused seen errors.OutOfRange old new ready h = absurd h
+closing_caused seen e old new ready h = absurd h
 
 -- and the answers' writer was left alone
 pub closing_keeps : {C : Type 0} (seen : C → Writer) (e : RunFault) (s : Solver C) (given : C) (w : Writer) → EndsCertificate seen (Err e) s given → FinishesRun seen (Err e) s given w w
 closing_keeps seen fault.ScriptRead s given w f = absurd f.0
 closing_keeps seen fault.AnswersWrite s given w f = absurd f.0
-closing_keeps seen fault.CertificateWrite s given w f = (((refl, refl), f.0), bytes_none w, f.1)
-closing_keeps seen fault.OutOfMemory s given w f = (((refl, refl), f.0), bytes_none w, f.1)
-closing_keeps seen fault.StoreFull s given w f = (((refl, refl), f.0), bytes_none w, f.1)
-closing_keeps seen fault.CounterEnd s given w f = (((refl, refl), f.0), bytes_none w, f.1)
+closing_keeps seen e s given w f = (((refl, refl), f.0), bytes_none w, f.1)

@@ -131,17 +131,12 @@ later_come May earlier (x ∷ xs) ys h = later_come May earlier xs ys h.0
 aside_one : (names : List ℕ) (earlier : List Step) (step : Step) → MayTake names earlier step → is_ordered step ≡ false → IsAside step
 aside_one names earlier (SolverVarName v index) m n = index_aside
 aside_one names earlier (ChangeHashBits bits) m n = width_aside
-aside_one names earlier (UserVarName v name) m n = absurd (true≢false n)
 aside_one names earlier (DeleteVar v) m n = absurd (true≢false (sym m))
 aside_one names earlier (ChangeSamplingMode v sample) m n = absurd (true≢false (sym m))
-aside_one names earlier (AddClause c) m n = absurd (true≢false n)
 aside_one names earlier (AtClause r c hs) m n = absurd (true≢false (sym m))
 aside_one names earlier (UnitClauses us) m n = absurd (true≢false (sym m))
 aside_one names earlier (DeleteClause c proof) m n = absurd (true≢false (sym m))
-aside_one names earlier (Model ls) m n = absurd (true≢false n)
-aside_one names earlier (Assumptions ls) m n = absurd (true≢false n)
-aside_one names earlier (FailedAssumptions core hs) m n = absurd (true≢false n)
-aside_one names earlier End m n = absurd (true≢false n)
+aside_one names earlier step m n = absurd (true≢false n)
 
 aside_each : (names : List ℕ) (xs : List Step) → ComesThere (MayTake names) xs → AreUnordered xs → AreAside xs
 aside_each names [] h u = tt
@@ -178,19 +173,8 @@ due_times (Closes ∷ es) = due_times es + 1
 due_times (e ∷ es) = due_times es
 
 unordered_times : (step : Step) (earlier : List Step) → is_ordered step ≡ false → assumed_times (step ∷ earlier) ≡ assumed_times earlier
-unordered_times (SolverVarName v name) s e = refl
-unordered_times (UserVarName v name) s e = refl
-unordered_times (DeleteVar v) s e = refl
-unordered_times (ChangeSamplingMode v sample) s e = refl
-unordered_times (AddClause c) s e = refl
-unordered_times (AtClause r c hs) s e = refl
-unordered_times (UnitClauses us) s e = refl
-unordered_times (DeleteClause c proof) s e = refl
-unordered_times (ChangeHashBits bits) s e = refl
-unordered_times (Model ls) s e = refl
 unordered_times (Assumptions ls) s e = absurd (let d : true ≡ false = e in cc)
-unordered_times (FailedAssumptions core hs) s e = refl
-unordered_times End s e = refl
+unordered_times step s e = refl
 
 fits_times : {knows : ℕ → Bool} {earlier : List Step} {e : Expected} {step : Step} (es : List Expected) → Fits knows earlier e step → assumed_times (step ∷ earlier) + due_times es ≡ assumed_times earlier + due_times (e ∷ es)
 fits_times es (expecting.new_name i k) = refl
@@ -261,19 +245,8 @@ told_times true now w = refl
 told_times false now w = refl
 
 narrowed_times : (bits : ℕ) (step : Step) (made written : List Step) → assumed_times written ≡ assumed_times made → assumed_times (narrowed bits step ∷ written) ≡ assumed_times (step ∷ made)
-narrowed_times bits (SolverVarName v name) m w e = e
-narrowed_times bits (UserVarName v name) m w e = e
-narrowed_times bits (DeleteVar v) m w e = e
-narrowed_times bits (ChangeSamplingMode v sample) m w e = e
-narrowed_times bits (AddClause c) m w e = e
-narrowed_times bits (AtClause r c hs) m w e = e
-narrowed_times bits (UnitClauses us) m w e = e
-narrowed_times bits (DeleteClause c proof) m w e = e
-narrowed_times bits (ChangeHashBits n) m w e = e
-narrowed_times bits (Model ls) m w e = e
 narrowed_times bits (Assumptions ls) m w e = ap (λ (k : ℕ). k + 1) e
-narrowed_times bits (FailedAssumptions core hs) m w e = e
-narrowed_times bits End m w e = e
+narrowed_times bits step m w e = e
 
 -- what is written assumes as often as what was made
 cut_times : {c d : Counting} {m w : List Step} → TruncatesHashes c m w d → assumed_times w ≡ assumed_times m

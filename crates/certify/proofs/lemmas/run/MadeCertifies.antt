@@ -75,9 +75,7 @@ expects_more j (Sample names ∷ cs) os = either (setting Sampled names j) (expe
 expects_next : (j : Judge) (c : Command) (cs : List Command) (os : List Outcome) → IsNoAsk c → expected j (c ∷ cs) os ≡ due_for false c j ++ expected (accepted c j) cs os
 expects_next j (Clause ls) cs os h = sym (append_assoc (bringing (names_of ls) j) (Adds ls ∷ []) (expected (accepted (Clause ls) j) cs os))
 expects_next j (Ask ls) cs os h = absurd h
-expects_next j (Hide names) cs os h = refl
-expects_next j (Witness names) cs os h = refl
-expects_next j (Sample names) cs os h = refl
+expects_next j e cs os h = refl
 
 -- what leads to something that is expected leads to all of it
 leads_expected : {s t : List Step} (es : List Expected) → Leads s t es → (all : List Step) (j : Judge) (cs : List Command) (os : List Outcome) (counts : List ℕ)

@@ -225,9 +225,7 @@ module _ {C : Type 0} (seen : C → Writer) (budget : ℕ) (w : Writer) (s t : S
   served_fault fault.ScriptRead h same g = (read_fails x b h.0.0 bounded h.0.1, subst (NoneFailed u) (sym same) h.1, given_none seen w (proof_in s.solver) (proof_in t.solver) fresh.target (seen given) h.2 g)
   served_fault fault.AnswersWrite h same g = (h.0.1.failures, subst (OneFailed u) (sym same) h.1, given_none seen w (proof_in s.solver) (proof_in t.solver) fresh.target (seen given) h.2 g)
   served_fault fault.CertificateWrite h same g = (h.0.1.failures, subst (NoneFailed u) (sym same) h.1, given_one seen w (proof_in s.solver) (proof_in t.solver) fresh.target (seen given) h.2 g)
-  served_fault fault.OutOfMemory h same g = (h.0.1.failures, subst (NoneFailed u) (sym same) h.1, given_none seen w (proof_in s.solver) (proof_in t.solver) fresh.target (seen given) h.2 g)
-  served_fault fault.StoreFull h same g = (h.0.1.failures, subst (NoneFailed u) (sym same) h.1, given_none seen w (proof_in s.solver) (proof_in t.solver) fresh.target (seen given) h.2 g)
-  served_fault fault.CounterEnd h same g = (h.0.1.failures, subst (NoneFailed u) (sym same) h.1, given_none seen w (proof_in s.solver) (proof_in t.solver) fresh.target (seen given) h.2 g)
+  served_fault e h same g = (h.0.1.failures, subst (NoneFailed u) (sym same) h.1, given_none seen w (proof_in s.solver) (proof_in t.solver) fresh.target (seen given) h.2 g)
 
   pub runs_so : (served : Result (Option ℕ) RunFault) (r : Result Summary RunFault) → ServesScript seen start reading written served (unread x) b s t u v → EndsRun seen served r t given v z → FinishesOrFaults r budget (x, b.reader) (u, z) (w, seen given)
   runs_so (Ok at) (Ok summary) h f =
@@ -255,11 +253,7 @@ module _ {C : Type 0} (seen : C → Writer) (budget : ℕ) (w : Writer) (s t : S
 
   served_front : (e : RunFault) → FailsWhole seen e (unread x) b s.solver t.solver u v → ((total : List ℕ) → Covers b total → Front (rest_in total (unread x)) z) → Unfinished (x, b.reader) (u, z)
   served_front fault.ScriptRead h f = faulted_front x b h.0.0 (λ text. Front text z) h.0.1 f
-  served_front fault.AnswersWrite h f = passed_front 1 x b h.0.0 (λ text. Front text z) h.0.1 f
-  served_front fault.CertificateWrite h f = passed_front 1 x b h.0.0 (λ text. Front text z) h.0.1 f
-  served_front fault.OutOfMemory h f = passed_front 1 x b h.0.0 (λ text. Front text z) h.0.1 f
-  served_front fault.StoreFull h f = passed_front 1 x b h.0.0 (λ text. Front text z) h.0.1 f
-  served_front fault.CounterEnd h f = passed_front 1 x b h.0.0 (λ text. Front text z) h.0.1 f
+  served_front e h f = passed_front 1 x b h.0.0 (λ text. Front text z) h.0.1 f
 
   pub unfinished_so : (served : Result (Option ℕ) RunFault) (r : Result Summary RunFault) → ServesScript seen start reading written served (unread x) b s t u v → EndsRun seen served r t given v z → OnErr r (Unfinished (x, b.reader) (u, z))
   unfinished_so (Ok at) (Ok summary) h f = tt
@@ -273,14 +267,10 @@ module _ {C : Type 0} (seen : C → Writer) (budget : ℕ) (w : Writer) (s t : S
   -- why a counter has ended
   served_end : (e : RunFault) → e ≡ fault.CounterEnd → FailsWhole seen e (unread x) b s.solver t.solver u v
       → IsCaused e (HasFullStore t.solver) ((total : List ℕ) → Covers b total → Exceeds s.commands start (reading (rest_in total (unread x)))) → CounterEnds (x, b.reader)
-  served_end fault.ScriptRead q h k = absurd (cc)
-  served_end fault.AnswersWrite q h k = absurd (cc)
-  served_end fault.CertificateWrite q h k = absurd (cc)
-  served_end fault.OutOfMemory q h k = absurd (cc)
-  served_end fault.StoreFull q h k = absurd (cc)
   served_end fault.CounterEnd q h k =
       passed_front 1 x b h.0.0 (λ text. Exceeds 0 start (reading text)) h.0.1
       (λ total y. subst (λ n. Exceeds n start (reading (rest_in total (unread x)))) fresh.commands (k total y))
+  served_end e q h k = absurd (cc)
 
   pub counter_so : (served : Result (Option ℕ) RunFault) (r : Result Summary RunFault) → ServesScript seen start reading written served (unread x) b s t u v → EndsRun seen served r t given v z → IsErrOf r fault.CounterEnd → CounterEnds (x, b.reader)
   counter_so (Ok at) (Ok summary) h f q = absurd (cc)
@@ -289,12 +279,8 @@ module _ {C : Type 0} (seen : C → Writer) (budget : ℕ) (w : Writer) (s t : S
 
   -- what it has written of the certificate
   fails_went : (e : RunFault) → FailsWhole seen e (unread x) b s.solver t.solver u v → ReachesBySteps seen s.solver t.solver
-  fails_went fault.ScriptRead h = went_took seen s.solver t.solver h.2
-  fails_went fault.AnswersWrite h = went_took seen s.solver t.solver h.2
   fails_went fault.CertificateWrite h = went_broke seen s.solver t.solver h.2
-  fails_went fault.OutOfMemory h = went_took seen s.solver t.solver h.2
-  fails_went fault.StoreFull h = went_took seen s.solver t.solver h.2
-  fails_went fault.CounterEnd h = went_took seen s.solver t.solver h.2
+  fails_went e h = went_took seen s.solver t.solver h.2
 
   pub steps_so : (served : Result (Option ℕ) RunFault) → ServesScript seen start reading written served (unread x) b s t u v → GivesFront seen t.solver given → TookSteps (w, seen given)
   steps_so (Ok at) h g = g.front s.solver w fresh.target fresh.steps (went_took seen s.solver t.solver (h.2 b.reader.given (covers_given b)).took)
@@ -305,11 +291,7 @@ module _ {C : Type 0} (seen : C → Writer) (budget : ℕ) (w : Writer) (s t : S
 
   few_faults : (e : RunFault) → FailsWhole seen e (unread x) b s.solver t.solver u v → ReadsFew (x, b.reader)
   few_faults fault.ScriptRead h = few_by h.0.1.calls
-  few_faults fault.AnswersWrite h = few_by h.0.1.calls
-  few_faults fault.CertificateWrite h = few_by h.0.1.calls
-  few_faults fault.OutOfMemory h = few_by h.0.1.calls
-  few_faults fault.StoreFull h = few_by h.0.1.calls
-  few_faults fault.CounterEnd h = few_by h.0.1.calls
+  few_faults e h = few_by h.0.1.calls
 
   pub reads_few : (served : Result (Option ℕ) RunFault) → ServesScript seen start reading written served (unread x) b s t u v → ReadsFew (x, b.reader)
   reads_few (Ok at) h = few_by (took_kept false (unread x) b h.0).1
@@ -317,12 +299,8 @@ module _ {C : Type 0} (seen : C → Writer) (budget : ℕ) (w : Writer) (s t : S
 
   -- the target isn't closed yet
   fails_some : (e : RunFault) → FailsWhole seen e (unread x) b s.solver t.solver u v → HasTarget seen t.solver
-  fails_some fault.ScriptRead h = took_target seen w (proof_in s.solver) (proof_in t.solver) fresh.target h.2
-  fails_some fault.AnswersWrite h = took_target seen w (proof_in s.solver) (proof_in t.solver) fresh.target h.2
   fails_some fault.CertificateWrite h = broke_target seen w (proof_in s.solver) (proof_in t.solver) fresh.target h.2
-  fails_some fault.OutOfMemory h = took_target seen w (proof_in s.solver) (proof_in t.solver) fresh.target h.2
-  fails_some fault.StoreFull h = took_target seen w (proof_in s.solver) (proof_in t.solver) fresh.target h.2
-  fails_some fault.CounterEnd h = took_target seen w (proof_in s.solver) (proof_in t.solver) fresh.target h.2
+  fails_some e h = took_target seen w (proof_in s.solver) (proof_in t.solver) fresh.target h.2
 
   pub has_target : (served : Result (Option ℕ) RunFault) → ServesScript seen start reading written served (unread x) b s t u v → HasTarget seen t.solver
   has_target (Ok at) h = took_target seen w (proof_in s.solver) (proof_in t.solver) fresh.target (h.2 b.reader.given (covers_given b)).took
@@ -355,12 +333,8 @@ module _ (budget : ℕ) (x y : Reader) (u z a b : Writer) (given back : ℕ) whe
   unlent_one p = (p.0, p.1, unlent_loans a b given back p.2)
 
   loans_fault : (e : RunFault) → FinishesOrFaults (Err e) budget (x, y) (u, z) (lent_writer given a, lent_writer back b) → (lent_writer back b).loans ≡ (lent_writer given a).loans
-  loans_fault fault.ScriptRead h = h.2.1
-  loans_fault fault.AnswersWrite h = h.2.1
   loans_fault fault.CertificateWrite h = h.2.2
-  loans_fault fault.OutOfMemory h = h.2.1
-  loans_fault fault.StoreFull h = h.2.1
-  loans_fault fault.CounterEnd h = h.2.1
+  loans_fault e h = h.2.1
 
   loans_kept : (r : Result Summary RunFault) → FinishesOrFaults r budget (x, y) (u, z) (lent_writer given a, lent_writer back b) → (lent_writer back b).loans ≡ (lent_writer given a).loans
   loans_kept (Ok s) h = h.certified.1
@@ -376,12 +350,8 @@ module _ (budget : ℕ) (x y : Reader) (u z a b : Writer) (given back : ℕ) whe
   }
 
   unlent_fault : (e : RunFault) → FinishesOrFaults (Err e) budget (x, y) (u, z) (lent_writer given a, lent_writer back b) → FinishesOrFaults (Err e) budget (x, y) (u, z) (a, b)
-  unlent_fault fault.ScriptRead h = (h.0, h.1, unlent_none h.2)
-  unlent_fault fault.AnswersWrite h = (h.0, h.1, unlent_none h.2)
   unlent_fault fault.CertificateWrite h = (h.0, h.1, unlent_one h.2)
-  unlent_fault fault.OutOfMemory h = (h.0, h.1, unlent_none h.2)
-  unlent_fault fault.StoreFull h = (h.0, h.1, unlent_none h.2)
-  unlent_fault fault.CounterEnd h = (h.0, h.1, unlent_none h.2)
+  unlent_fault e h = (h.0, h.1, unlent_none h.2)
 
   unlent : (r : Result Summary RunFault) → FinishesOrFaults r budget (x, y) (u, z) (lent_writer given a, lent_writer back b) → FinishesOrFaults r budget (x, y) (u, z) (a, b)
   unlent (Ok s) h = record {

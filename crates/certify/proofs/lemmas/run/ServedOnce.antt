@@ -34,25 +34,16 @@ pub accepted_next : (j : Judge) (c : Command) (cs : List Command) → refusal_of
 accepted_next j c cs e = rw e refl
 
 says_none : (k : ℕ) (j : Judge) (c : Command) (cs : List Command) (ending : ScriptEnding) (os : List Outcome) → IsNoAsk c → refusal_of j c ≡ None → answers_from k j (c ∷ cs) ending os ≡ answers_from (k + 1) (accepted c j) cs ending os
-says_none k j (Clause ls) cs ending os h e = rw e refl
 says_none k j (Ask ls) cs ending os h e = absurd h
-says_none k j (Hide names) cs ending os h e = rw e refl
-says_none k j (Witness names) cs ending os h e = rw e refl
-says_none k j (Sample names) cs ending os h e = rw e refl
+says_none k j x cs ending os h e = rw e refl
 
 right_next : (j : Judge) (c : Command) (cs : List Command) (os : List Outcome) → IsNoAsk c → AreRight (accepted c j) cs os → AreRight j (c ∷ cs) os
-right_next j (Clause ls) cs os h x = x
 right_next j (Ask ls) cs os h x = absurd h
-right_next j (Hide names) cs os h x = x
-right_next j (Witness names) cs os h x = x
-right_next j (Sample names) cs os h x = x
+right_next j e cs os h x = x
 
 given_next : (j : Judge) (c : Command) (cs : List Command) → IsNoAsk c → identities_given j (c ∷ cs) ≡ identities_given (accepted c j) cs
-given_next j (Clause ls) cs h = refl
 given_next j (Ask ls) cs h = absurd h
-given_next j (Hide names) cs h = refl
-given_next j (Witness names) cs h = refl
-given_next j (Sample names) cs h = refl
+given_next j e cs h = refl
 
 pub serves_plain : (budget : ℕ) (a : RunPlace) (c : Command) (steps : List Step) → IsNoAsk c → refusal_of a.judge c ≡ None → Stretch (MayFor c) a.steps steps (due_for (the_checking.unsat a.steps) c a.judge)
     → Serves budget a (place_after a c steps a.rounds) (c ∷ []) [] [] 0

@@ -241,19 +241,14 @@ module _ {C : Type 0} (seen : C → Writer) where
       one_later : (u v w : Writer) → NoneFailed u v → OneFailed v w → OneFailed u w
       one_later u v w n h = (omega (arith, n.0, h.0), h.1, h.2 ∙ n.1)
   fails_then fault.CertificateWrite a b p q r u v w k n t h = (k, (h.0.0 ∙ n.0, h.0.1 ∙ n.1), broke_later seen (proof_in p) (proof_in q) (proof_in r) t h.1)
-  fails_then fault.OutOfMemory a b p q r u v w k n t h = (k, (h.0.0 ∙ n.0, h.0.1 ∙ n.1), took_both seen (proof_in p) (proof_in q) (proof_in r) t h.1)
-  fails_then fault.StoreFull a b p q r u v w k n t h = (k, (h.0.0 ∙ n.0, h.0.1 ∙ n.1), took_both seen (proof_in p) (proof_in q) (proof_in r) t h.1)
-  fails_then fault.CounterEnd a b p q r u v w k n t h = (k, (h.0.0 ∙ n.0, h.0.1 ∙ n.1), took_both seen (proof_in p) (proof_in q) (proof_in r) t h.1)
+  fails_then e a b p q r u v w k n t h = (k, (h.0.0 ∙ n.0, h.0.1 ∙ n.1), took_both seen (proof_in p) (proof_in q) (proof_in r) t h.1)
 
   -- one behind another
   pub both_then : {B : Type 0} (r : Result B RunFault) (p q s : Solver C) (u v w : Writer) → NoneFailed u v × ComesBySteps seen (proof_in p) (proof_in q) → WritesBoth r seen v w q s → WritesBoth r seen u w p s
-  both_then (Ok y) p q s u v w f g = ((g.0.0 ∙ f.0.0, g.0.1 ∙ f.0.1), took_both seen (proof_in p) (proof_in q) (proof_in s) f.1 g.1)
   both_then (Err fault.ScriptRead) p q s u v w f g = absurd g
   both_then (Err fault.AnswersWrite) p q s u v w f g = ((let n = f.0.0 in let m = g.0.0 in omega arith, g.0.1, g.0.2 ∙ f.0.1), took_both seen (proof_in p) (proof_in q) (proof_in s) f.1 g.1)
   both_then (Err fault.CertificateWrite) p q s u v w f g = ((g.0.0 ∙ f.0.0, g.0.1 ∙ f.0.1), broke_later seen (proof_in p) (proof_in q) (proof_in s) f.1 g.1)
-  both_then (Err fault.OutOfMemory) p q s u v w f g = ((g.0.0 ∙ f.0.0, g.0.1 ∙ f.0.1), took_both seen (proof_in p) (proof_in q) (proof_in s) f.1 g.1)
-  both_then (Err fault.StoreFull) p q s u v w f g = ((g.0.0 ∙ f.0.0, g.0.1 ∙ f.0.1), took_both seen (proof_in p) (proof_in q) (proof_in s) f.1 g.1)
-  both_then (Err fault.CounterEnd) p q s u v w f g = ((g.0.0 ∙ f.0.0, g.0.1 ∙ f.0.1), took_both seen (proof_in p) (proof_in q) (proof_in s) f.1 g.1)
+  both_then e p q s u v w f g = ((g.0.0 ∙ f.0.0, g.0.1 ∙ f.0.1), took_both seen (proof_in p) (proof_in q) (proof_in s) f.1 g.1)
 
 -- READING ON
 

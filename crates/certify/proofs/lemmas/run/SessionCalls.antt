@@ -47,9 +47,7 @@ pub fails_then : {C : Type 0} (seen : C → Writer) (e : RunFault) (a b c : Solv
 fails_then seen fault.ScriptRead a b c t f = f
 fails_then seen fault.AnswersWrite a b c t f = f
 fails_then seen fault.CertificateWrite a b c t f = broke_later seen (proof_in a) (proof_in b) (proof_in c) t f
-fails_then seen fault.OutOfMemory a b c t f = took_both seen (proof_in a) (proof_in b) (proof_in c) t f
-fails_then seen fault.StoreFull a b c t f = took_both seen (proof_in a) (proof_in b) (proof_in c) t f
-fails_then seen fault.CounterEnd a b c t f = took_both seen (proof_in a) (proof_in b) (proof_in c) t f
+fails_then seen e a b c t f = took_both seen (proof_in a) (proof_in b) (proof_in c) t f
 
 -- a search leaves what the solver wrote
 pub search_took : {C : Type 0} (seen : C → Writer) (budget : ℕ) (report : AskReport) (a b : Solver C) → Searched seen budget report a b → ComesBySteps seen (proof_in a) (proof_in b)
@@ -155,9 +153,7 @@ pub solver_says : {C : Type 0} (seen : C → Writer) (e : RunFault) (before afte
 solver_says seen fault.ScriptRead before after a b c n t f = f
 solver_says seen fault.AnswersWrite before after a b c n t f = absurd f
 solver_says seen fault.CertificateWrite before after a b c n t f = (n, broke_later seen (proof_in a) (proof_in b) (proof_in c) t f)
-solver_says seen fault.OutOfMemory before after a b c n t f = (n, took_both seen (proof_in a) (proof_in b) (proof_in c) t f)
-solver_says seen fault.StoreFull before after a b c n t f = (n, took_both seen (proof_in a) (proof_in b) (proof_in c) t f)
-solver_says seen fault.CounterEnd before after a b c n t f = (n, took_both seen (proof_in a) (proof_in b) (proof_in c) t f)
+solver_says seen e before after a b c n t f = (n, took_both seen (proof_in a) (proof_in b) (proof_in c) t f)
 
 pub answers_say : {C : Type 0} (seen : C → Writer) (e : RunFault) (before after : Writer) (a b : Solver C) → e ≡ fault.AnswersWrite → OneFailed before after → ComesBySteps seen (proof_in a) (proof_in b) → Says seen e before after a b
 answers_say seen e before after a b m f t = subst (λ x. Says seen x before after a b) (sym m) (f, t)

@@ -28,18 +28,7 @@ once step = assumed_times (step ∷ [])
 assumed_more : (step : Step) (steps : List Step) → assumed_times (step ∷ steps) ≡ once step + assumed_times steps
 unfolding once
 assumed_more (Assumptions ls) steps = omega arith
-assumed_more (SolverVarName v n) steps = omega arith
-assumed_more (UserVarName v n) steps = omega arith
-assumed_more (DeleteVar v) steps = omega arith
-assumed_more (ChangeSamplingMode v b) steps = omega arith
-assumed_more (AddClause c) steps = omega arith
-assumed_more (AtClause b c hs) steps = omega arith
-assumed_more (UnitClauses us) steps = omega arith
-assumed_more (DeleteClause c d) steps = omega arith
-assumed_more (ChangeHashBits n) steps = omega arith
-assumed_more (Model c) steps = omega arith
-assumed_more (FailedAssumptions c hs) steps = omega arith
-assumed_more End steps = omega arith
+assumed_more step steps = omega arith
 
 assumed_append : (xs ys : List Step) → assumed_times (xs ++ ys) ≡ assumed_times xs + assumed_times ys
 assumed_append [] ys = omega arith

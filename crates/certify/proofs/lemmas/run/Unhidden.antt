@@ -63,20 +63,9 @@ none_allowed (Sample names ∷ cs) h = (tt, none_allowed cs h.1)
 
 module _ (hides : Bool) where
   unordered_plain : (step : Step) → is_ordered step ≡ false → IsPlain hides step
-  unordered_plain (SolverVarName v name) e = tt
-  unordered_plain (UserVarName v (Some name)) e = tt
   unordered_plain (UserVarName v None) e = absurd (let d : true ≡ false = e in cc)
-  unordered_plain (DeleteVar v) e = tt
-  unordered_plain (ChangeSamplingMode v sample) e = tt
-  unordered_plain (AddClause c) e = tt
-  unordered_plain (AtClause r c hs) e = tt
-  unordered_plain (UnitClauses us) e = tt
-  unordered_plain (DeleteClause c proof) e = tt
-  unordered_plain (ChangeHashBits bits) e = tt
-  unordered_plain (Model ls) e = tt
-  unordered_plain (Assumptions ls) e = tt
-  unordered_plain (FailedAssumptions core hs) e = tt
   unordered_plain End e = absurd (let d : true ≡ false = e in cc)
+  unordered_plain step e = tt
 
   fits_plain : {knows : ℕ → Bool} {earlier : List Step} {e : Expected} {step : Step} → Fits knows earlier e step → Spares hides e → IsPlain hides step
   fits_plain (new_name i k) s = tt
@@ -183,7 +172,6 @@ put_none v x s n h w = go (eqb w v)
     go false = h w
 
 changed_none : (step : Step) (s : Session) → IsPlain false step → NoneHidden s → NoneHidden (changed step s)
-changed_none (SolverVarName v None) s p h = h
 changed_none (SolverVarName v (Some name)) s p h = knowing_none (v ∷ []) s h
 changed_none (UserVarName v (Some name)) s p h = put_none v (record (s.variables v) { known = true; name = Some name }) s (h v) h
 changed_none (UserVarName v None) s p h = absurd (let d : false ≡ true = p in cc)
@@ -203,13 +191,9 @@ changed_none (UnitClauses us) s p h =
     let ls : List ℕ = map (λ u. u.0) us in
     same_none (knowing (map variable ls) s) (with_facts ls (knowing (map variable ls) s)) (facts_variables ls (knowing (map variable ls) s)) (knowing_none (map variable ls) s h)
 changed_none (DeleteClause c Redundant) s p h = h
-changed_none (DeleteClause c Satisfied) s p h = h
-changed_none (DeleteClause c Simplified) s p h = h
-changed_none (ChangeHashBits bits) s p h = h
 changed_none (Model ls) s p h = knowing_none (map variable ls) s h
 changed_none (Assumptions ls) s p h = knowing_none (map variable ls) s h
-changed_none (FailedAssumptions core hs) s p h = h
-changed_none End s p h = h
+changed_none step s p h = h
 
 none_hidden : (steps : List Step) → ArePlain false steps → NoneHidden (session_after steps)
 none_hidden [] p = λ v e. cc
@@ -241,19 +225,8 @@ told_delete before now steps = go (eqb before now)
     go false = refl
 
 narrowed_delete : (bits : ℕ) (step : Step) (made written : List Step) → has_delete_var written ≡ has_delete_var made → has_delete_var (narrowed bits step ∷ written) ≡ has_delete_var (step ∷ made)
-narrowed_delete bits (SolverVarName v name) made written e = e
-narrowed_delete bits (UserVarName v name) made written e = e
 narrowed_delete bits (DeleteVar v) made written e = refl
-narrowed_delete bits (ChangeSamplingMode v sample) made written e = e
-narrowed_delete bits (AddClause c) made written e = e
-narrowed_delete bits (AtClause r c hs) made written e = e
-narrowed_delete bits (UnitClauses us) made written e = e
-narrowed_delete bits (DeleteClause c proof) made written e = e
-narrowed_delete bits (ChangeHashBits n) made written e = e
-narrowed_delete bits (Model ls) made written e = e
-narrowed_delete bits (Assumptions ls) made written e = e
-narrowed_delete bits (FailedAssumptions core hs) made written e = e
-narrowed_delete bits End made written e = e
+narrowed_delete bits step made written e = e
 
 cuts_delete : {c d : Counting} {made written : List Step} → TruncatesHashes c made written d → has_delete_var written ≡ has_delete_var made
 cuts_delete none_made = refl
@@ -277,19 +250,8 @@ told_goes_on before now steps h = go (eqb before now)
     go false = ((λ e. cc), h)
 
 narrowed_goes_on : (bits : ℕ) (step : Step) → step ≢ End → narrowed bits step ≢ End
-narrowed_goes_on bits (SolverVarName v name) n e = cc
-narrowed_goes_on bits (UserVarName v name) n e = cc
-narrowed_goes_on bits (DeleteVar v) n e = cc
-narrowed_goes_on bits (ChangeSamplingMode v sample) n e = cc
-narrowed_goes_on bits (AddClause c) n e = cc
-narrowed_goes_on bits (AtClause r c hs) n e = cc
-narrowed_goes_on bits (UnitClauses us) n e = cc
-narrowed_goes_on bits (DeleteClause c proof) n e = cc
-narrowed_goes_on bits (ChangeHashBits w) n e = cc
-narrowed_goes_on bits (Model ls) n e = cc
-narrowed_goes_on bits (Assumptions ls) n e = cc
-narrowed_goes_on bits (FailedAssumptions core hs) n e = cc
 narrowed_goes_on bits End n e = n refl
+narrowed_goes_on bits step n e = cc
 
 cuts_go_on : {c d : Counting} {made written : List Step} → TruncatesHashes c made written d → GoOn made → GoOn written
 cuts_go_on none_made h = tt

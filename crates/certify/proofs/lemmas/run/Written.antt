@@ -73,35 +73,13 @@ next_same (x ∷ xs) (y ∷ ys) s t e h = next_same xs ys s t e (tail_same x y (
 
 quiet_narrowed : (bits : ℕ) (step : Step) → is_ordered (narrowed bits step) ≡ is_ordered step
 quiet_narrowed bits (SolverVarName v s) = refl
-quiet_narrowed bits (UserVarName v n) = refl
-quiet_narrowed bits (DeleteVar v) = refl
-quiet_narrowed bits (ChangeSamplingMode v m) = refl
-quiet_narrowed bits (AddClause c) = refl
-quiet_narrowed bits (AtClause r c hs) = refl
-quiet_narrowed bits (UnitClauses us) = refl
-quiet_narrowed bits (DeleteClause c p) = refl
-quiet_narrowed bits (ChangeHashBits b) = refl
-quiet_narrowed bits (Model ls) = refl
-quiet_narrowed bits (Assumptions ls) = refl
-quiet_narrowed bits (FailedAssumptions c hs) = refl
-quiet_narrowed bits End = refl
+quiet_narrowed bits step = refl
 
 -- one step more
 variable_narrowed : (bits : ℕ) (step : Step) (w e : List Step) (name : ℕ) → variable_of w name ≡ variable_of e name → variable_of (narrowed bits step ∷ w) name ≡ variable_of (step ∷ e) name
-variable_narrowed bits (SolverVarName v s) w e name h = h
 variable_narrowed bits (UserVarName v (Some i)) w e name h = rw h refl
 variable_narrowed bits (UserVarName v None) w e name h = rw h refl
-variable_narrowed bits (DeleteVar v) w e name h = h
-variable_narrowed bits (ChangeSamplingMode v m) w e name h = h
-variable_narrowed bits (AddClause c) w e name h = h
-variable_narrowed bits (AtClause r c hs) w e name h = h
-variable_narrowed bits (UnitClauses us) w e name h = h
-variable_narrowed bits (DeleteClause c p) w e name h = h
-variable_narrowed bits (ChangeHashBits b) w e name h = h
-variable_narrowed bits (Model ls) w e name h = h
-variable_narrowed bits (Assumptions ls) w e name h = h
-variable_narrowed bits (FailedAssumptions c hs) w e name h = h
-variable_narrowed bits End w e name h = h
+variable_narrowed bits step w e name h = h
 
 variable_written : {e w : List Step} {width : ℕ} → IsNarrowedTo e w width → (name : ℕ) → variable_of w name ≡ variable_of e name
 variable_written none_yet name = refl

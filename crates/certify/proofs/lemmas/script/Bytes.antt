@@ -125,10 +125,8 @@ words_none (Header v c ∷ ts) w = absurd w.0
 words_none (Wrong ∷ ts) w = words_none ts w.1
 
 word_none : (t : Token) → IsWord t → is_some (header_from t) ≡ false
-word_none (Number negative value) w = refl
-word_none (Letter b) w = refl
 word_none (Header v c) w = absurd w
-word_none Wrong w = refl
+word_none e w = refl
 
 first_none : (ts : List (ℕ × Token)) → AreWords (spoken ts) → is_some (header_first ts) ≡ false
 first_none [] w = refl

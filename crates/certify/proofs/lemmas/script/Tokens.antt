@@ -16,11 +16,8 @@ use Rattle.certify.specs.declared.script.commands.Commands.{Commands}
 
 -- ASKS AND HEADERS
 abbrev is_ask : Command → Bool
-is_ask (Clause ls) = false
 is_ask (Ask ls) = true
-is_ask (Hide names) = false
-is_ask (Witness names) = false
-is_ask (Sample names) = false
+is_ask e = false
 
 or_false : (b : Bool) → (b || false) ≡ b
 or_false true = refl
@@ -57,11 +54,8 @@ plain_onto due c r e = rw e (go (due && (is_clean r.1 && not (has_ask r.0))))
     go false = refl
 
 ask_onto : (h a : Bool) (c : Command) (r : Reading) → with_ask (h && not a) (onto_commands (c ∷ []) r) ≡ onto_commands (c ∷ []) (with_ask (h && not (a || is_ask c)) r)
-ask_onto h a (Clause ls) r = rw (or_false a) (plain_onto (h && not a) (Clause ls) r refl)
 ask_onto h a (Ask ls) r = has_one (h && not a) r.0 r.1 ls ∙ ap (onto_commands (Ask ls ∷ [])) (sym (undue (h && not (a || true)) r (asked_no_more h a)))
-ask_onto h a (Hide names) r = rw (or_false a) (plain_onto (h && not a) (Hide names) r refl)
-ask_onto h a (Witness names) r = rw (or_false a) (plain_onto (h && not a) (Witness names) r refl)
-ask_onto h a (Sample names) r = rw (or_false a) (plain_onto (h && not a) (Sample names) r refl)
+ask_onto h a e r = rw (or_false a) (plain_onto (h && not a) e r refl)
 
 -- so where the header's ask isn't asked for
 ask_onto_if : (asks h a : Bool) (c : Command) (r : Reading) → with_ask (asks && (h && not a)) (onto_commands (c ∷ []) r) ≡ onto_commands (c ∷ []) (with_ask (asks && (h && not (a || is_ask c))) r)
@@ -70,10 +64,7 @@ ask_onto_if false h a c r = refl
 
 is_asked : (k : Kind) (ls : List Literal) → is_ask (command_of k ls) ≡ is_ask_kind k
 is_asked OfClause ls = refl
-is_asked OfAsk ls = refl
-is_asked OfHide ls = refl
-is_asked OfWitness ls = refl
-is_asked OfSample ls = refl
+is_asked e ls = refl
 
 -- TOKENS
 behind : (asks : Bool) (old : Commands) (hand : CommandHand) (t : Token) (k : CommandTurn) (ts : List Token) → command_turn hand t ≡ k
@@ -141,27 +132,19 @@ letter_begins d (Within kind ls) b k o h e = absurd (cc (h.0))
 -- THE CODE'S TOKENS
 pub number_is : (t : Token) (negative : Bool) (value : ℕ) → code.Number negative value ≡ held_token t → (v : ℕ) × (t ≡ Number negative v) × (value ≡ held v)
 number_is (Number n v) negative value e = (v, let x : negative ≡ n = cc in ap (λ (b : Bool). Number b v) (sym x), let y : value ≡ held v = cc in y)
-number_is (Letter b) negative value e = absurd (cc)
-number_is (Header v c) negative value e = absurd (cc)
-number_is Wrong negative value e = absurd (cc)
+number_is z negative value e = absurd (cc)
 
 pub letter_is : (t : Token) (b : ℕ) → code.Letter b ≡ held_token t → t ≡ Letter b
-letter_is (Number n v) b e = absurd (cc)
 letter_is (Letter d) b e = let x : b ≡ d = cc in ap Letter (sym x)
-letter_is (Header v c) b e = absurd (cc)
-letter_is Wrong b e = absurd (cc)
+letter_is z b e = absurd (cc)
 
 pub header_is : (t : Token) (v c : ℕ) → code.Header v c ≡ held_token t → (x : ℕ) × (y : ℕ) × (t ≡ Header x y)
-header_is (Number n u) v c e = absurd (cc)
-header_is (Letter b) v c e = absurd (cc)
 header_is (Header x y) v c e = (x, y, refl)
-header_is Wrong v c e = absurd (cc)
+header_is z v c e = absurd (cc)
 
 pub wrong_is : (t : Token) → code.Wrong ≡ held_token t → t ≡ Wrong
-wrong_is (Number n v) e = absurd (cc)
-wrong_is (Letter b) e = absurd (cc)
-wrong_is (Header v c) e = absurd (cc)
 wrong_is Wrong e = refl
+wrong_is x e = absurd (cc)
 
 pub held_zero : (v : ℕ) → 0 ≡ held v → v ≡ 0
 held_zero v e = omega arith

@@ -181,11 +181,8 @@ groups_cut limit value place old mid new g h = (g.text, ends_there old mid new g
 
 pub groups_stop : (limit value place : ℕ) (old mid new : Source) (e : StepError) → Groups limit value place old mid → ByteWithin (Err e) mid new → ReadsValue (IsBelow limit) (Err e) old new
 groups_stop limit value place old mid new errors.Read g h = (g.text, faults_there old mid new g.text g.passes h, live limit g.text value place g.front g.small)
-groups_stop limit value place old mid new errors.Ends g h = absurd h
 groups_stop limit value place old mid new errors.Cut g h = groups_cut limit value place old mid new g h
-groups_stop limit value place old mid new errors.BadByte g h = absurd h
-groups_stop limit value place old mid new errors.OutOfMemory g h = absurd h
-groups_stop limit value place old mid new errors.HasFailed g h = absurd h
+groups_stop limit value place old mid new e g h = absurd h
 
 pub groups_bad : (limit value place b : ℕ) (old mid new : Source) → (g : Groups limit value place old mid) → Passes mid new (b ∷ []) → (Open (IsBelow limit) (g.text ++ b ∷ []) → ⊥) → ReadsValue (IsBelow limit) (Err errors.BadByte) old new
 groups_bad limit value place b old mid new g h k = (g.text, b, passes_more old mid new g.text (b ∷ []) g.passes h, live limit g.text value place g.front g.small, k)
@@ -278,11 +275,7 @@ none_zero n h = grind (arith, common_steps)
 
 pub next_fails : (e : StepError) (n : ℕ) (s t : Source) → Refills (Err e) n s t → NextByte (Err e) s t
 next_fails errors.Read n s t h = h
-next_fails errors.Ends n s t h = absurd h
-next_fails errors.Cut n s t h = absurd h
-next_fails errors.BadByte n s t h = absurd h
-next_fails errors.OutOfMemory n s t h = absurd h
-next_fails errors.HasFailed n s t h = absurd h
+next_fails e n s t h = absurd h
 
 took_known : (a b : Option (List ℕ)) (ws vs text : List ℕ) → ws ≡ text ++ vs → Consumes a (prepend_known ws b) [] → Consumes a (prepend_known vs b) text
 took_known None b ws vs text e h = tt

@@ -75,9 +75,7 @@ turn-held h line (Number negative value) =
     let zero : nat_eq (held value) 0 ≡ nat_eq value 0 = grind (arith, nat_tests) in
     let past : nat_lt var_limit (held value) ≡ nat_lt var_limit value = grind (arith, nat_tests) in
     rw (zero, past) (number_at (nat_eq value 0) (nat_lt var_limit value) h line (held value) value (not negative) (λ e. let small : nat_lt var_limit value ≡ false = e in grind (arith, nat_tests)))
-turn-held h line (Letter b) = refl
-turn-held h line (Header v c) = refl
-turn-held h line Wrong = refl
+turn-held h line x = refl
 
 onto-onto : (a b : List (List ℕ)) (d : Dimacs) → onto_clauses a (onto_clauses b d) ≡ onto_clauses (a ++ b) d
 onto-onto a b d = ap (λ (cs : List (List ℕ)). record { clauses = cs; ending = d.ending }) (sym (append_assoc a b d.clauses))

@@ -141,9 +141,7 @@ number_is negative value some =
 
 turn_zero : (h : Hand) (line : ℕ) (t : Token) → IsZero t → turn h line t ≡ Ends (literals_in h)
 turn_zero h line (Number negative value) z = rw z refl
-turn_zero h line (Letter b) z = absurd z
-turn_zero h line (Header v c) z = absurd z
-turn_zero h line Wrong z = absurd z
+turn_zero h line e z = absurd z
 
 turn_literal : (h : Hand) (line l : ℕ) → variable l < var_limit → turn h line (signed_number l) ≡ GoesOn (Some (literals_in h ++ l ∷ []))
 turn_literal h line l w =

@@ -297,10 +297,8 @@ push_some old new b t i o p y e c h =
 
 -- FAULTS
 fails_no_header : (h : Hand) (n : ℕ) (t : Token) (ending : Ending) → turn h n t ≡ Fails ending → header_from t ≡ None
-fails_no_header h n (Number negative value) ending e = refl
-fails_no_header h n (Letter b) ending e = refl
 fails_no_header h n (Header v c) ending e = absurd (let f : GoesOn h ≡ Fails ending = e in cc)
-fails_no_header h n Wrong ending e = refl
+fails_no_header h n x ending e = refl
 
 header_within : (before us : List (ℕ × Token)) (x : ℕ × Token) → header_from x.1 ≡ None → header_first ((before ++ x ∷ []) ++ us) ≡ header_first before
 header_within [] us x e = e
@@ -526,10 +524,7 @@ finish_answer (Ok u) old p g o r e =
 finish_answer (Err (errors.Malformed line)) old p g o r e =
     let st : StandsBefore p.tokenizer g.left_of = subst (λ (t : Tokenizer). StandsBefore t g.left_of) (sym r.tokenizer) g.stands in
     (o, ended_progress old p r.history, (g.left_of []).last, e.1 g.left_of st, ap (λ (d : Dimacs). d.ending) (whole_dimacs old p g r) ∙ cut_of (hand_in p.clauses) (g.left_of []).last e.0.0 e.0.1)
-finish_answer (Err (errors.Limit line)) old p g o r e = absurd e
-finish_answer (Err errors.Read) old p g o r e = absurd e
-finish_answer (Err errors.OutOfMemory) old p g o r e = absurd e
-finish_answer (Err errors.HasFailed) old p g o r e = absurd e
+finish_answer (Err x) old p g o r e = absurd e
 
 -- no word is in hand
 pub read_none : (old : Parser) (i : IsParser old) (g : IsGoingParser old) → GivesLast None (g.left_of []) → Read old old g
@@ -609,9 +604,7 @@ literal_turn negative value false true p q h hand n = absurd (let g : ◌≡◌ 
 -- a literal goes on with a clause, or begins one, and is no header
 pub literal_goes : (t : CodeToken) → is_literal (token_of t) ≡ true → ((hand : Hand) (n : ℕ) → (ls : List ℕ) × (turn hand n (token_of t) ≡ GoesOn (Some ls))) × ((h : Option (ℕ × ℕ)) → h ≡ header_behind (token_of t) h)
 literal_goes (code.Number negative value) e = (literal_turn negative value (nat_eq value 0) (nat_lt var_limit value) refl refl e, (λ h. refl))
-literal_goes (code.Letter b) e = absurd (let g : ◌≡◌ {A = Bool} false true = e in cc)
-literal_goes (code.Header v c) e = absurd (let g : ◌≡◌ {A = Bool} false true = e in cc)
-literal_goes code.Wrong e = absurd (let g : ◌≡◌ {A = Bool} false true = e in cc)
+literal_goes x e = absurd (let g : ◌≡◌ {A = Bool} false true = e in cc)
 
 -- the text is over behind a literal
 pub finish_inside : (old : Parser) (i : IsParser old) (o : old.stopped ≡ false) (t : CodeToken) (line : ℕ) → ((left_of : List ℕ → Scan) → StandsBefore old.tokenizer left_of → GivesLast (Some t) (left_of [])) → is_literal (token_of t) ≡ true
@@ -645,12 +638,10 @@ finish_inside old i o t line gives lit l =
 -- memory is taken for numbers alone
 number_of : (given : Token) → NeedsRoom (token_of (held_token given)) → (negative : Bool) × (value : ℕ) × (given ≡ Number negative value)
 number_of (Number negative value) r = (negative, value, refl)
-number_of (Letter b) (inl is) = absurd (let e : ◌≡◌ {A = Bool} false true = is in cc)
 number_of (Letter b) (inr ends) = absurd (let e : ◌≡◌ {A = Turn} (Fails (Malformed 0)) (Ends []) = ends None 0 in cc)
-number_of (Header v c) (inl is) = absurd (let e : ◌≡◌ {A = Bool} false true = is in cc)
 number_of (Header v c) (inr ends) = absurd (let e : ◌≡◌ {A = Turn} (GoesOn None) (Ends []) = ends None 0 in cc)
-number_of Wrong (inl is) = absurd (let e : ◌≡◌ {A = Bool} false true = is in cc)
 number_of Wrong (inr ends) = absurd (let e : ◌≡◌ {A = Turn} (Fails (Malformed 0)) (Ends []) = ends None 0 in cc)
+number_of x (inl is) = absurd (let e : ◌≡◌ {A = Bool} false true = is in cc)
 
 true_not : (b : Bool) → (b ≡ true → ⊥) → b ≡ false
 true_not true h = absurd (h refl)

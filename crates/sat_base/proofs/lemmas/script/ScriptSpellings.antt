@@ -21,26 +21,18 @@ commands_of_cons h t ts = refl
 abbrev hand_of : Kind → List Literal → CommandHand
 hand_of OfClause [] = Nothing
 hand_of OfClause (l ∷ ls) = Within OfClause (l ∷ ls)
-hand_of OfAsk ls = Within OfAsk ls
-hand_of OfHide ls = Within OfHide ls
-hand_of OfWitness ls = Within OfWitness ls
-hand_of OfSample ls = Within OfSample ls
+hand_of e ls = Within e ls
 
 hand_ends : (k : Kind) (done : List Literal) → command_in (hand_of k done) ≡ command_of k done
 hand_ends OfClause [] = refl
 hand_ends OfClause (d ∷ ds) = refl
-hand_ends OfAsk ds = refl
-hand_ends OfHide ds = refl
-hand_ends OfWitness ds = refl
-hand_ends OfSample ds = refl
+hand_ends e ds = refl
 
 hand_more : (k : Kind) (done : List Literal) (l : Literal) → may_stand k l.positive ≡ true → turn_with_literal (hand_of k done) l ≡ GoesOn (hand_of k (done ++ l ∷ []))
 hand_more OfClause [] l m = refl
 hand_more OfClause (d ∷ ds) l m = refl
 hand_more OfAsk ds l m = refl
-hand_more OfHide ds l m = rw m refl
-hand_more OfWitness ds l m = rw m refl
-hand_more OfSample ds l m = rw m refl
+hand_more e ds l m = rw m refl
 
 same_literal : (l : Literal) → record { name = l.name; positive = not (not l.positive) } ≡ l
 same_literal l = elim l.positive as (λ (b : Bool). record { name = l.name; positive = not (not b) } ≡ record { name = l.name; positive = b }) [ true ↦ refl | false ↦ refl ]
@@ -50,9 +42,7 @@ turn_number h l n = let e : nat_eq l.name 0 ≡ false = grind (arith, nat_tests)
 
 turn_zero : (h : CommandHand) (t : Token) → IsZero t → command_turn h t ≡ Ends (command_in h)
 turn_zero h (Number negative value) z = rw z refl
-turn_zero h (Letter b) z = absurd z
-turn_zero h (Header v c) z = absurd z
-turn_zero h Wrong z = absurd z
+turn_zero h e z = absurd z
 
 -- SPELLED, AND SO READ
 reads_zero : (h : CommandHand) (t : Token) (ts : List Token) → IsZero t → commands_of h (t ∷ ts) ≡ onto_commands (command_in h ∷ []) (commands_of Nothing ts)

@@ -194,18 +194,7 @@ some_byte byte o old new e h = subst (λ (z : Option ℕ). NextByte (Ok z) old n
 -- an unknown tag
 known : (step : Step) → is_tag (tag_of step) ≡ true
 known (SolverVarName v u) = refl
-known (UserVarName v u) = refl
-known (DeleteVar v) = refl
-known (ChangeSamplingMode v f) = refl
-known (AddClause c) = refl
-known (AtClause f c hs) = refl
-known (UnitClauses us) = refl
-known (DeleteClause c d) = refl
-known (ChangeHashBits n) = refl
-known (Model c) = refl
-known (Assumptions c) = refl
-known (FailedAssumptions c hs) = refl
-known End = refl
+known step = refl
 
 no_step : (step : Step) (tag : ℕ) (b : List ℕ) → is_tag tag ≡ false → Behind tag step b → ⊥
 no_step step tag b n h = let e : is_tag tag ≡ true = ap is_tag (sym h.0) ∙ known step in cc
@@ -265,8 +254,4 @@ one_reading (x ∷ xs) (y ∷ ys) text h k =
 -- no first byte
 pub answers_at_once : (e : StepError) (old new : Source) → NextByte (Err e) old new → AnswersStepRead (Err e) old new
 answers_at_once errors.Read old new f = ([], f, (End, 13, [], ([], refl, refl)))
-answers_at_once errors.Ends old new f = absurd f
-answers_at_once errors.Cut old new f = absurd f
-answers_at_once errors.BadByte old new f = absurd f
-answers_at_once errors.OutOfMemory old new f = absurd f
-answers_at_once errors.HasFailed old new f = absurd f
+answers_at_once e old new f = absurd f

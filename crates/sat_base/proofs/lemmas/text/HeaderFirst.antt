@@ -6,10 +6,8 @@ use Rattle.sat_base.specs.script.Language.{spoken}
 
 -- no header
 abbrev pub IsWord : Token → Type 0
-IsWord (Number negative value) = Unit {0}
-IsWord (Letter b) = Unit {0}
 IsWord (Header v c) = ⊥
-IsWord Wrong = Unit {0}
+IsWord e = Unit {0}
 
 abbrev pub AreWords : List Token → Type 0
 AreWords [] = Unit {0}
@@ -76,10 +74,8 @@ late n (line ∷ ls) =
     (chosen (λ ts. AreWords (spoken ts)) (begins_with 37 line) (begins_with 99 line) (begins_with 112 line) _ _ _ _ tt rest (tt, rest) (line_words (n + 1) (words line) _ rest))
 
 behind_header : (t : Token) (ts : List Token) → AreWords ts → AreScript (t ∷ ts)
-behind_header (Number negative value) ts h = inl (tt, h)
-behind_header (Letter b) ts h = inl (tt, h)
 behind_header (Header v c) ts h = inr (v, c, ts, h, refl)
-behind_header Wrong ts h = inl (tt, h)
+behind_header e ts h = inl (tt, h)
 
 behind_words : (n : ℕ) (ws : List (List ℕ)) (ls : List (List ℕ)) → AreScript (spoken (tokens_of true n ls)) → AreScript (spoken (on_line n ws ++ tokens_of (is_none ws) n ls))
 behind_words n [] ls h = h

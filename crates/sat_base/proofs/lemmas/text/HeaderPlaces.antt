@@ -107,12 +107,9 @@ EndsAs place o = (spot : Spot) → IsAtHeader place spot → IsStageIf o (ended_
 -- where the line ends
 in_hand_is : (p : HeaderPlace) (spot : Spot) (n : ℕ) → IsAtHeader p spot → in_hand spot n ≡ (n + 1, behind_word (ended_stage spot) stage_end) ∷ []
 in_hand_is (header.Between ended) spot n (s, h, e) = rw e refl
-in_hand_is header.P spot n e = rw e refl
-in_hand_is header.C spot n e = rw e refl
-in_hand_is header.Cn spot n e = rw e refl
-in_hand_is header.Cnf spot n e = rw e refl
 in_hand_is (header.Vars value) spot n (x, w, s, h, e) = rw e refl
 in_hand_is (header.Clauses vars value) spot n (v, x, w, k, s, h, e) = rw e refl
+in_hand_is z spot n e = rw e refl
 
 given_at_end : (p : HeaderPlace) (spot : Spot) (t : Token) (given : CodeToken) → IsAtHeader p spot → given ≡ held_token t → behind_word (ended_stage spot) stage_end ≡ t → IsHeldToken (Some given) (in_hand spot)
 given_at_end p spot t given i h e = (t, h, λ n. in_hand_is p spot n i ∙ ap (λ (u : Token). (n + 1, u) ∷ []) e)

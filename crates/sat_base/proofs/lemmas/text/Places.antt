@@ -91,71 +91,44 @@ IsSpot_header (header.Vars value) spot (x, w, s, h, e) = rw e s
 IsSpot_header (header.Clauses vars value) spot (v, x, w, k, s, h, e) = rw e s
 
 pub IsSpot_of : (p : Place) (spot : Spot) → IsAt p spot → IsSpot spot
-IsSpot_of (at.Fresh may) spot e = rw e tt
-IsSpot_of (at.Leading may) spot e = rw e tt
-IsSpot_of (at.Comment may) spot e = rw e tt
-IsSpot_of at.Between spot e = rw e tt
 IsSpot_of at.Minus spot e = rw e (refl, tt)
 IsSpot_of (at.Digits false value) spot (x, w, s, h, n, l, e) = rw e s
 IsSpot_of (at.Digits true value) spot (w, s, some_w, h, e) = rw e (refl, s)
 IsSpot_of (at.Letter b) spot (s, e) = rw e s.0
 IsSpot_of at.Bad spot (x, w, s, h, e) = rw e s
 IsSpot_of (at.Header place) spot h = IsSpot_header place spot h
-IsSpot_of at.Spoilt spot e = rw e tt
-IsSpot_of at.Over spot e = rw e tt
+IsSpot_of z spot e = rw e tt
 
 -- only a word or a header line in hand gives a token, and its line has not ended
 pub line-in_hand : (spot : Spot) (n : ℕ) (t : ℕ × Token) → in_hand spot n ≡ t ∷ [] → line_at spot n ≡ n + 1
 line-in_hand (Fresh may) n t e = absurd (cc)
-line-in_hand (Leading may) n t e = refl
-line-in_hand (Comment may) n t e = refl
-line-in_hand Between n t e = refl
-line-in_hand (Within x w) n t e = refl
-line-in_hand (HeaderBetween s) n t e = refl
-line-in_hand (HeaderWithin s x w) n t e = refl
-line-in_hand Spoilt n t e = refl
-line-in_hand Over n t e = refl
+line-in_hand x n t e = refl
 
 line-header_word : (o : Option Stage) (n : ℕ) → line_at (behind_header_word o) n ≡ n + 1
 line-header_word None n = refl
 line-header_word (Some s) n = refl
 
 pub line-behind_blank : (spot : Spot) (n : ℕ) → line_at (behind_blank spot) n ≡ n + 1
-line-behind_blank (Fresh may) n = refl
-line-behind_blank (Leading may) n = refl
-line-behind_blank (Comment may) n = refl
-line-behind_blank Between n = refl
-line-behind_blank (Within x w) n = refl
-line-behind_blank (HeaderBetween s) n = refl
 line-behind_blank (HeaderWithin s x w) n = line-header_word _ n
-line-behind_blank Spoilt n = refl
-line-behind_blank Over n = refl
+line-behind_blank e n = refl
 
 pub line-Fresh : (p : Place) (may : Bool) (spot : Spot) (n : ℕ) → p ≡ at.Fresh may → IsAt p spot → line_at spot n ≡ n
 line-Fresh p may spot n e i = let f : IsAt (at.Fresh may) spot = rw e at i in rw f refl
 
 header-line : (p : HeaderPlace) (spot : Spot) (n : ℕ) → IsAtHeader p spot → line_at spot n ≡ n + 1
 header-line (header.Between ended) spot n (s, h, e) = rw e refl
-header-line header.P spot n e = rw e refl
-header-line header.C spot n e = rw e refl
-header-line header.Cn spot n e = rw e refl
-header-line header.Cnf spot n e = rw e refl
 header-line (header.Vars value) spot n (x, w, s, h, e) = rw e refl
 header-line (header.Clauses vars value) spot n (v, x, w, k, s, h, e) = rw e refl
+header-line z spot n e = rw e refl
 
 pub line-other : (p : Place) (spot : Spot) (n : ℕ) → ((may : Bool) → p ≡ at.Fresh may → ⊥) → IsAt p spot → line_at spot n ≡ n + 1
 line-other (at.Fresh may) spot n h i = absurd (h may refl)
-line-other (at.Leading may) spot n h e = rw e refl
-line-other (at.Comment may) spot n h e = rw e refl
-line-other at.Between spot n h e = rw e refl
-line-other at.Minus spot n h e = rw e refl
 line-other (at.Digits false value) spot n h (x, w, s, k, m, l, e) = rw e refl
 line-other (at.Digits true value) spot n h (w, s, some_w, k, e) = rw e refl
 line-other (at.Letter b) spot n h (s, e) = rw e refl
 line-other at.Bad spot n h (x, w, s, k, e) = rw e refl
 line-other (at.Header place) spot n h i = header-line place spot n i
-line-other at.Spoilt spot n h e = rw e refl
-line-other at.Over spot n h e = rw e refl
+line-other z spot n h e = rw e refl
 
 -- BEHIND BLANKS
 pub behind_number : (negative : Bool) (v : ℕ) → LeadsBehind (at.Digits negative v) at.Between
@@ -164,32 +137,20 @@ behind_number true v spot (w, s, some_w, h, e) = rw e refl
 
 pub behind_word_in_header : (p : HeaderPlace) (spot : Spot) → IsAtHeader p spot → behind_blank spot ≡ behind_header_word (ended_stage spot)
 behind_word_in_header (header.Between ended) spot (s, h, e) = rw e refl
-behind_word_in_header header.P spot e = rw e refl
-behind_word_in_header header.C spot e = rw e refl
-behind_word_in_header header.Cn spot e = rw e refl
-behind_word_in_header header.Cnf spot e = rw e refl
 behind_word_in_header (header.Vars value) spot (x, w, s, h, e) = rw e refl
 behind_word_in_header (header.Clauses vars value) spot (v, x, w, k, s, h, e) = rw e refl
+behind_word_in_header z spot e = rw e refl
 
 pub below : (p : Place) → (p ≡ at.Over → ⊥) → LeadsBelow p (at.Fresh (may_come p))
-below (at.Fresh may) h spot e = rw e refl
-below (at.Leading may) h spot e = rw e refl
-below (at.Comment may) h spot e = rw e refl
-below at.Between h spot e = rw e refl
-below at.Minus h spot e = rw e refl
 below (at.Digits false value) h spot (x, w, s, k, m, l, e) = rw e refl
 below (at.Digits true value) h spot (w, s, some_w, k, e) = rw e refl
 below (at.Letter b) h spot (s, e) = rw e refl
 below at.Bad h spot (x, w, s, k, e) = rw e refl
 below (at.Header (header.Between ended)) h spot (s, i, e) = rw e refl
-below (at.Header header.P) h spot e = rw e refl
-below (at.Header header.C) h spot e = rw e refl
-below (at.Header header.Cn) h spot e = rw e refl
-below (at.Header header.Cnf) h spot e = rw e refl
 below (at.Header (header.Vars value)) h spot (x, w, s, k, e) = rw e refl
 below (at.Header (header.Clauses vars value)) h spot (v, x, w, k, s, i, e) = rw e refl
-below at.Spoilt h spot e = rw e refl
 below at.Over h spot e = absurd (h refl)
+below z h spot e = rw e refl
 
 -- THE WORD IN HAND
 abbrev one : Token → ℕ → List (ℕ × Token)

@@ -12,10 +12,8 @@ use Rattle.sat_base.proofs.lemmas.text.Places.{IsSpot_of}
 use Rattle.sat_base.proofs.lemmas.text.TextRuns.{of_header, QuietTokens}
 
 pub no_header : (t : Token) → IsWord t → header_from t ≡ None
-no_header (Number negative value) h = refl
-no_header (Letter b) h = refl
 no_header (Header v c) h = absurd h
-no_header Wrong h = refl
+no_header e h = refl
 
 abbrev token_first : List (ℕ × Token) → Token → Token
 token_first [] t = t
@@ -31,10 +29,7 @@ cons_not_nil x xs A e = absurd (let f = e in cc)
 x_spoils : (s : Stage) → BeginsSpoilt s (120 ∷ [])
 unfolding digits
 x_spoils Begun more = refl
-x_spoils Named more = refl
-x_spoils Format more = refl
-x_spoils (Vars v) more = refl
-x_spoils (Both v c) more = refl
+x_spoils e more = refl
 
 spoilt_next : (s : Stage) (n : ℕ) → (left (HeaderBetween s) n (120 ∷ [])).tokens ≡ (n + 1, Wrong) ∷ []
 spoilt_next s n =
@@ -60,15 +55,12 @@ word_given (Some s) n l t after h = header_given s n l t after h
 
 blank_gives : (spot : Spot) (n l : ℕ) (t : Token) (after : List ℕ → Scan) → GivesThen spot n l t after → header_from t ≡ None
 blank_gives (Fresh may) n l t after h = none_left (Leading may) n l t after tt refl (h [])
-blank_gives (Leading may) n l t after h = none_left (Leading may) n l t after tt refl (h [])
-blank_gives (Comment may) n l t after h = none_left (Comment may) n l t after tt refl (h [])
-blank_gives Between n l t after h = none_left Between n l t after tt refl (h [])
 blank_gives (Within x w) n l t after h =
     ap header_from (sym (first_token (n + 1) l (token (x ∷ w)) t (left Between n []).tokens (after []).tokens (h []))) ∙ no_header (token (x ∷ w)) (word_token (x ∷ w))
 blank_gives (HeaderBetween s) n l t after h = header_given s n l t after h
 blank_gives (HeaderWithin s x w) n l t after h = word_given (stage_behind s (x ∷ w)) n l t after h
 blank_gives Spoilt n l t after h = wrong_given (n + 1) l t (left (Comment false) n []).tokens (after []).tokens (h [])
-blank_gives Over n l t after h = none_left Over n l t after tt refl (h [])
+blank_gives e n l t after h = none_left e n l t after tt refl (h [])
 
 pub plain_given : (machine : Tokenizer) (b l : ℕ) (t : Token) (left_of after : List ℕ → Scan) → StandsBefore machine left_of → nat_eq b 10 ≡ false → is_blank b ≡ true
     → ((rest : List ℕ) → left_of (b ∷ rest) ≡ onto ((l, t) ∷ []) (after rest)) → header_from t ≡ None
@@ -94,14 +86,11 @@ word_then (Some s) n l t ts e = sym (ap tail_of (sym (left_at (HeaderBetween s) 
 
 blank_then : (spot : Spot) (n l : ℕ) (t : Token) (ts : List (ℕ × Token)) → ended_by_blank spot n ++ (left (behind_blank spot) n []).tokens ≡ (l, t) ∷ ts → ts ≡ []
 blank_then (Fresh may) n l t ts e = none_then (Leading may) n l t ts tt refl e
-blank_then (Leading may) n l t ts e = none_then (Leading may) n l t ts tt refl e
-blank_then (Comment may) n l t ts e = none_then (Comment may) n l t ts tt refl e
-blank_then Between n l t ts e = none_then Between n l t ts tt refl e
 blank_then (Within x w) n l t ts e = sym (ap tail_of e) ∙ left_at Between n tt
 blank_then (HeaderBetween s) n l t ts e = sym (ap tail_of (sym (left_at (HeaderBetween s) n tt) ∙ e))
 blank_then (HeaderWithin s x w) n l t ts e = word_then (stage_behind s (x ∷ w)) n l t ts e
 blank_then Spoilt n l t ts e = sym (ap tail_of e) ∙ left_at (Comment false) n tt
-blank_then Over n l t ts e = none_then Over n l t ts tt refl e
+blank_then z n l t ts e = none_then z n l t ts tt refl e
 
 pub alone_given : (machine : Tokenizer) (b l : ℕ) (t : Token) (left_of after : List ℕ → Scan) → StandsBefore machine left_of → nat_eq b 10 ≡ false → is_blank b ≡ true
     → ((rest : List ℕ) → left_of (b ∷ rest) ≡ onto ((l, t) ∷ []) (after rest)) → (after []).tokens ≡ []
@@ -122,41 +111,26 @@ word_quiet None n l t ts e = first_of (n + 1) l Wrong t [] ts tt e
 word_quiet (Some s) n l t ts e = first_of (n + 1) l (stage_end s) t [] ts (of_header s) e
 
 blank_quiet : (spot : Spot) (n l : ℕ) (t : Token) (ts : List (ℕ × Token)) → QuietTokens (in_hand spot n) → ended_by_blank spot n ++ in_hand (behind_blank spot) n ≡ (l, t) ∷ ts → IsOfHeader t
-blank_quiet (Fresh may) n l t ts q e = cons_not_nil (l, t) ts (IsOfHeader t) e
-blank_quiet (Leading may) n l t ts q e = cons_not_nil (l, t) ts (IsOfHeader t) e
-blank_quiet (Comment may) n l t ts q e = cons_not_nil (l, t) ts (IsOfHeader t) e
-blank_quiet Between n l t ts q e = cons_not_nil (l, t) ts (IsOfHeader t) e
 blank_quiet (Within x w) n l t ts q e = quiet_first ((n + 1, token (x ∷ w)) ∷ []) [] l t ts q refl e
 blank_quiet (HeaderBetween s) n l t ts q e = first_of (n + 1) l (stage_end s) t [] ts (of_header s) e
 blank_quiet (HeaderWithin s x w) n l t ts q e = word_quiet (stage_behind s (x ∷ w)) n l t ts e
 blank_quiet Spoilt n l t ts q e = first_of (n + 1) l Wrong t [] ts tt e
-blank_quiet Over n l t ts q e = cons_not_nil (l, t) ts (IsOfHeader t) e
+blank_quiet z n l t ts q e = cons_not_nil (l, t) ts (IsOfHeader t) e
 
 below_quiet : (spot : Spot) (n : ℕ) → (left (behind_LF spot) (lines_behind spot n) []).tokens ≡ []
 below_quiet Over n = left_at Over n tt
 below_quiet (Fresh may) n = left_at (Fresh may) (n + 1) tt
 below_quiet (Leading may) n = left_at (Fresh may) (n + 1) tt
 below_quiet (Comment may) n = left_at (Fresh may) (n + 1) tt
-below_quiet Between n = left_at (Fresh false) (n + 1) tt
-below_quiet (Within x w) n = left_at (Fresh false) (n + 1) tt
-below_quiet (HeaderBetween s) n = left_at (Fresh false) (n + 1) tt
-below_quiet (HeaderWithin s x w) n = left_at (Fresh false) (n + 1) tt
-below_quiet Spoilt n = left_at (Fresh false) (n + 1) tt
+below_quiet e n = left_at (Fresh false) (n + 1) tt
 
 IsSpot_word : (o : Option Stage) → IsSpot (behind_header_word o)
 IsSpot_word None = tt
 IsSpot_word (Some s) = tt
 
 IsSpot_behind : (spot : Spot) → IsSpot (behind_blank spot)
-IsSpot_behind (Fresh may) = tt
-IsSpot_behind (Leading may) = tt
-IsSpot_behind (Comment may) = tt
-IsSpot_behind Between = tt
-IsSpot_behind (Within x w) = tt
-IsSpot_behind (HeaderBetween s) = tt
 IsSpot_behind (HeaderWithin s x w) = IsSpot_word (stage_behind s (x ∷ w))
-IsSpot_behind Spoilt = tt
-IsSpot_behind Over = tt
+IsSpot_behind e = tt
 
 quiet_blank : (spot : Spot) (n b l : ℕ) (t : Token) (ts : List (ℕ × Token)) → IsSpot spot → QuietTokens (in_hand spot n) → is_blank b ≡ true → (is_LF : Bool) → nat_eq b 10 ≡ is_LF
     → (left spot n (b ∷ [])).tokens ≡ (l, t) ∷ ts → IsOfHeader t

@@ -66,12 +66,9 @@ minus_right = right_before at.Minus (at.Digits true 1) 49 (moves_minus_digit 49 
 -- HEADER LINES
 ended_in_header : (p : HeaderPlace) (spot : Spot) (n : ℕ) → IsAtHeader p spot → ended_by_blank spot n ≡ spoils (ended_stage spot) n
 ended_in_header (header.Between ended) spot n (s, h, e) = rw e refl
-ended_in_header header.P spot n e = rw e refl
-ended_in_header header.C spot n e = rw e refl
-ended_in_header header.Cn spot n e = rw e refl
-ended_in_header header.Cnf spot n e = rw e refl
 ended_in_header (header.Vars value) spot n (x, w, s, h, e) = rw e refl
 ended_in_header (header.Clauses vars value) spot n (v, x, w, k, s, h, e) = rw e refl
+ended_in_header z spot n e = rw e refl
 
 -- a space may end a word that may stand there
 right_before_space : (p : HeaderPlace) (ended : CodeStage) → EndsAs p (Some ended) → MayBeRight (at.Header (header.Between ended)) → MayBeRight (at.Header p)
@@ -144,17 +141,13 @@ none_right : (p : Place) → SaysInHand None p → MayBeRight p
 none_right p says = right_at_end p None says tt
 
 place_right : (p : Place) → (IsWrongPlace p → ⊥) → MayBeRight p
-place_right (at.Fresh may) w = none_right (at.Fresh may) (λ spot e. rw e (λ n. refl))
-place_right (at.Leading may) w = none_right (at.Leading may) (λ spot e. rw e (λ n. refl))
-place_right (at.Comment may) w = none_right (at.Comment may) (λ spot e. rw e (λ n. refl))
-place_right at.Between w = none_right at.Between (λ spot e. rw e (λ n. refl))
 place_right at.Minus w = minus_right
 place_right (at.Digits negative value) w = digits_right negative value
 place_right (at.Letter b) w = letter_right b
 place_right at.Bad w = absurd (w tt)
 place_right (at.Header p) w = in_header_right p
 place_right at.Spoilt w = absurd (w tt)
-place_right at.Over w = none_right at.Over (λ spot e. rw e (λ n. refl))
+place_right x w = none_right x (λ spot e. rw e (λ n. refl))
 
 pub right_ahead : (machine : Tokenizer) → (machine.place ≡ at.Bad → ⊥) → (machine.place ≡ at.Spoilt → ⊥) → (before : List ℕ → Scan) → StandsBefore machine before → RightAhead before
 unfolding StandsBefore

@@ -34,14 +34,7 @@ pub moves_begun : (old new : Place) (b : ℕ) → BeginsWord old → is_blank b 
 moves_begun (at.Fresh may) new b w f g h k began = moves_fresh may new b f (moves_word may new b f g h k began)
 moves_begun (at.Leading may) new b w f g h k began = moves_word may new b f g h k began
 moves_begun at.Between new b w f g h k began = moves_between new b f began
-moves_begun (at.Comment may) new b w f g h k began = absurd w
-moves_begun at.Minus new b w f g h k began = absurd w
-moves_begun (at.Digits negative value) new b w f g h k began = absurd w
-moves_begun (at.Letter c) new b w f g h k began = absurd w
-moves_begun at.Bad new b w f g h k began = absurd w
-moves_begun (at.Header place) new b w f g h k began = absurd w
-moves_begun at.Spoilt new b w f g h k began = absurd w
-moves_begun at.Over new b w f g h k began = absurd w
+moves_begun e new b w f g h k began = absurd w
 
 pub moves_minus : (old : Place) → BeginsWord old → MovesPlace old 45 at.Minus
 moves_minus old w = moves_begun old at.Minus 45 w refl refl refl refl refl

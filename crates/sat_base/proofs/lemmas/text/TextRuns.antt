@@ -37,15 +37,8 @@ fresh_below : (p : Place) (spot : Spot) → (p ≡ at.Over → ⊥) → IsAt p s
 fresh_below p spot h i = below p h spot i
 
 lines_below : (spot : Spot) (n : ℕ) (may : Bool) → behind_LF spot ≡ Fresh may → lines_behind spot n ≡ n + 1
-lines_below (Fresh m) n may e = refl
-lines_below (Leading m) n may e = refl
-lines_below (Comment m) n may e = refl
-lines_below Between n may e = refl
-lines_below (Within x w) n may e = refl
-lines_below (HeaderBetween s) n may e = refl
-lines_below (HeaderWithin s x w) n may e = refl
-lines_below Spoilt n may e = refl
 lines_below Over n may e = absurd (cc)
+lines_below x n may e = refl
 
 pub takes_LF : (old : Tokenizer) (given : Option CodeToken) (k : ℕ) → (old.place ≡ at.Over → ⊥) → SaysInHand given old.place → k ≡ min (old.lines + 1) (2 ^ 64 - 1)
     → TakesByte old 10 given (standing (at.Fresh (may_come old.place)) k)
@@ -103,10 +96,7 @@ QuietTokens ts = (ts ≡ []) ⊎ ((line : ℕ) × (t : Token) × IsOfHeader t ×
 
 pub of_header : (s : Stage) → IsOfHeader (stage_end s)
 of_header Begun = tt
-of_header Named = tt
-of_header Format = tt
-of_header (Vars v) = tt
-of_header (Both v c) = tt
+of_header e = tt
 
 quiet_at : (p : Place) (spot : Spot) (n : ℕ) → IsQuiet p → IsAt p spot → QuietTokens (in_hand spot n)
 quiet_at (at.Leading may) spot n q e = rw e (inl refl)
@@ -114,18 +104,7 @@ quiet_at (at.Comment may) spot n q e = rw e (inl refl)
 quiet_at at.Between spot n q e = rw e (inl refl)
 quiet_at (at.Header (header.Between ended)) spot n q (s, h, e) = rw e (inr (n + 1, stage_end s, of_header s, refl))
 quiet_at at.Over spot n q e = rw e (inl refl)
-quiet_at (at.Fresh may) spot n q e = absurd q
-quiet_at at.Minus spot n q e = absurd q
-quiet_at (at.Digits negative value) spot n q e = absurd q
-quiet_at (at.Letter b) spot n q e = absurd q
-quiet_at at.Bad spot n q e = absurd q
-quiet_at (at.Header header.P) spot n q e = absurd q
-quiet_at (at.Header header.C) spot n q e = absurd q
-quiet_at (at.Header header.Cn) spot n q e = absurd q
-quiet_at (at.Header header.Cnf) spot n q e = absurd q
-quiet_at (at.Header (header.Vars value)) spot n q e = absurd q
-quiet_at (at.Header (header.Clauses vars value)) spot n q e = absurd q
-quiet_at at.Spoilt spot n q e = absurd q
+quiet_at x spot n q e = absurd q
 
 pub quiet_behind : (machine : Tokenizer) → IsQuiet machine.place → (before : List ℕ → Scan) → StandsBefore machine before → HoldsNoWord (before [])
 unfolding StandsBefore

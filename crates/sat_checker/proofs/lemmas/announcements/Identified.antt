@@ -246,16 +246,13 @@ module _ (told : List Told) where
   -- what a step leaves, where no unit conflict was pending
   effect_announced : (step : Step) (f : Stored) → f.conflict ≡ None → ((id : ℕ) (ls : List ℕ) → IsNews id ls (announced f step) → IsAnnounced id ls told) → AreAnnounced f told → AreAnnounced (effect step f) told
   effect_announced (SolverVarName v None) f n w a = aside f (effect (SolverVarName v None) f) refl refl refl refl a
-  effect_announced (SolverVarName v (Some name)) f n w a = aside f (effect (SolverVarName v (Some name)) f) refl refl refl refl a
   effect_announced (UserVarName v (Some name)) f n w a = aside f (effect (UserVarName v (Some name)) f) refl refl refl refl a
-  effect_announced (UserVarName v None) f n w a = aside f (effect (UserVarName v None) f) refl refl refl refl a
   effect_announced (DeleteVar v) f n w a = record {
     clauses = a.clauses;
     units = units_few (λ u. not (eqb (variable u.literal) v)) f.units a.units;
     last = a.last;
     conflict = λ ids e. absurd cc;
   }
-  effect_announced (ChangeSamplingMode v sampling) f n w a = aside f (effect (ChangeSamplingMode v sampling) f) refl refl refl refl a
   effect_announced (AddClause c) f n w a = go f.unsat w
     where
       go : (b : Bool) → ((id : ℕ) (ls : List ℕ) → IsNews id ls (cond b [] (input c f)) → IsAnnounced id ls told) → AreAnnounced (cond b f (with_input c (with_literals_known c f))) told
@@ -269,11 +266,9 @@ module _ (told : List Told) where
   effect_announced (DeleteClause c Redundant) f n w a = deleted_announced true (canonical c) f a
   effect_announced (DeleteClause c Satisfied) f n w a = deleted_announced false (canonical c) f a
   effect_announced (DeleteClause c Simplified) f n w a = deleted_announced false (canonical c) f a
-  effect_announced (ChangeHashBits bits) f n w a = aside f (effect (ChangeHashBits bits) f) refl refl refl refl a
   effect_announced (Model ls) f n w a = known_announced (map variable ls) f a
-  effect_announced (Assumptions ls) f n w a = aside f (effect (Assumptions ls) f) refl refl refl refl a
   effect_announced (FailedAssumptions core hs) f n w a = a
-  effect_announced End f n w a = aside f (effect End f) refl refl refl refl a
+  effect_announced step f n w a = aside f (effect step f) refl refl refl refl a
 
   settled_announced : (f : Stored) → AreAnnounced f told → AreAnnounced (settled f) told
   settled_announced f a = go f.conflict

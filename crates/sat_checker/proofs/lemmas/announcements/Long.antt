@@ -70,11 +70,7 @@ long_stored r c f h = go (is_tautology c)
 
 long_effect : (step : Step) (f : Stored) → EachLong f.clauses → EachLong (effect step f).clauses
 long_effect (SolverVarName v None) f h = h
-long_effect (SolverVarName v (Some n)) f h = h
 long_effect (UserVarName v (Some n)) f h = h
-long_effect (UserVarName v None) f h = h
-long_effect (DeleteVar v) f h = h
-long_effect (ChangeSamplingMode v b) f h = h
 long_effect (AddClause c) f h = go f.unsat
   where
     go : (b : Bool) → EachLong (cond b f (with_input c (with_literals_known c f))).clauses
@@ -85,11 +81,7 @@ long_effect (UnitClauses us) f h = long_units (map (λ u. u.0) us) (with_literal
 long_effect (DeleteClause c Redundant) f h = long_without true (canonical c) f.clauses h
 long_effect (DeleteClause c Satisfied) f h = long_without false (canonical c) f.clauses h
 long_effect (DeleteClause c Simplified) f h = long_without false (canonical c) f.clauses h
-long_effect (ChangeHashBits n) f h = h
-long_effect (Model ls) f h = h
-long_effect (Assumptions ls) f h = h
-long_effect (FailedAssumptions c hs) f h = h
-long_effect End f h = h
+long_effect step f h = h
 
 long_settled : (f : Stored) → EachLong f.clauses → EachLong (settled f).clauses
 long_settled f h = go f.conflict

@@ -138,15 +138,12 @@ sorted_deleted r ls f s = record { sets = sets_without r ls f.clauses s.sets; in
 
 sorted_effect : (step : Step) (f : Stored) → Sorted f → Sorted (effect step f)
 sorted_effect (SolverVarName v None) f s = aside f (effect (SolverVarName v None) f) refl refl (λ k h. h) s
-sorted_effect (SolverVarName v (Some n)) f s = aside f (effect (SolverVarName v (Some n)) f) refl refl (λ k h. h) s
 sorted_effect (UserVarName v (Some n)) f s = aside f (effect (UserVarName v (Some n)) f) refl refl (λ k h. h) s
-sorted_effect (UserVarName v None) f s = aside f (effect (UserVarName v None) f) refl refl (λ k h. h) s
 sorted_effect (DeleteVar v) f s = record {
   sets = s.sets;
   increasing = few_increasing (λ u. not (eqb (variable u.literal) v)) f.units s.increasing;
   below = few_ids (λ u. not (eqb (variable u.literal) v)) (λ i. i < f.next_id) f.units s.below;
 }
-sorted_effect (ChangeSamplingMode v b) f s = aside f (effect (ChangeSamplingMode v b) f) refl refl (λ k h. h) s
 sorted_effect (AddClause c) f s = go f.unsat
   where
     go : (b : Bool) → Sorted (cond b f (with_input c (with_literals_known c f)))
@@ -157,11 +154,9 @@ sorted_effect (UnitClauses us) f s = sorted_units (map (λ u. u.0) us) (with_lit
 sorted_effect (DeleteClause c Redundant) f s = sorted_deleted true (canonical c) f s
 sorted_effect (DeleteClause c Satisfied) f s = sorted_deleted false (canonical c) f s
 sorted_effect (DeleteClause c Simplified) f s = sorted_deleted false (canonical c) f s
-sorted_effect (ChangeHashBits n) f s = aside f (effect (ChangeHashBits n) f) refl refl (λ k h. h) s
 sorted_effect (Model ls) f s = sorted_known ls f s
-sorted_effect (Assumptions ls) f s = aside f (effect (Assumptions ls) f) refl refl (λ k h. h) s
 sorted_effect (FailedAssumptions c hs) f s = s
-sorted_effect End f s = aside f (effect End f) refl refl (λ k h. h) s
+sorted_effect step f s = aside f (effect step f) refl refl (λ k h. h) s
 
 sorted_settled : (f : Stored) → Sorted f → Sorted (settled f)
 sorted_settled f s = go f.conflict

@@ -74,9 +74,7 @@ module _ {L : Type 0} (Hears : L → Told → Result Unit ProcessingError → L 
   added_stops a b d errors.OutOfMemory clauses rest more c earlier h e p l k = (p.added, c, adds_tried a b d clauses rest more c earlier h e p l, k.1)
   added_stops a b d (errors.ProofProcessorError cause) clauses rest more c earlier h e p l k = (p.added, c, adds_tried a b d clauses rest more c earlier h e p l, k.1)
   added_stops a b d errors.HasFailed clauses rest more c earlier h e p l k = absurd (let g : ◌≡◌ {A = Bool} true false = sym k.0 ∙ p.goes_on.1 in cc)
-  added_stops a b d errors.ProofIncomplete clauses rest more c earlier h e p l k = absurd k
-  added_stops a b d errors.IoError clauses rest more c earlier h e p l k = absurd k
-  added_stops a b d errors.ParseError clauses rest more c earlier h e p l k = absurd k
+  added_stops a b d x clauses rest more c earlier h e p l k = absurd k
 
   pub added_all : (a b : Seen L) (clauses rest : List (List ℕ)) (earlier : List Step) → has_failed a ≡ false → rest ≡ [] → Added a b clauses rest earlier → AnswersClauses Hears before begun (Ok tt) a b clauses earlier
   added_all a b clauses rest earlier h e p =
@@ -93,12 +91,5 @@ module _ {L : Type 0} (Hears : L → Told → Result Unit ProcessingError → L 
 
   -- a clause that may be added is accepted
   pub clause_checked : (r : Result Unit CheckerError) (a b : Seen L) (c : List ℕ) (steps : List Step) → MayBeAdded (ready_after steps) c → AnswersStep Hears before begun r a (AddClause c) b steps → AnswersClause Hears before begun r a c b steps
-  clause_checked (Ok x) a b c steps m k = k
   clause_checked (Err errors.CheckFailed) a b c steps m k = absurd (k.1 m)
-  clause_checked (Err errors.CounterEnd) a b c steps m k = k
-  clause_checked (Err errors.OutOfMemory) a b c steps m k = k
-  clause_checked (Err (errors.ProofProcessorError cause)) a b c steps m k = k
-  clause_checked (Err errors.HasFailed) a b c steps m k = k
-  clause_checked (Err errors.ProofIncomplete) a b c steps m k = k
-  clause_checked (Err errors.IoError) a b c steps m k = k
-  clause_checked (Err errors.ParseError) a b c steps m k = k
+  clause_checked e a b c steps m k = k

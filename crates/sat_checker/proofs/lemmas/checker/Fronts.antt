@@ -25,25 +25,11 @@ record Stepped (spot : Spot) (n b : ℕ) : Type 0 where
 
 LF_good : (spot : Spot) → IsSpot (behind_LF spot)
 LF_good (Fresh may) = tt
-LF_good (Leading may) = tt
-LF_good (Comment may) = tt
-LF_good Between = tt
-LF_good (Within x w) = tt
-LF_good (HeaderBetween stage) = tt
-LF_good (HeaderWithin stage x w) = tt
-LF_good Spoilt = tt
-LF_good Over = tt
+LF_good e = tt
 
 LF_quiet : (spot : Spot) (n : ℕ) → in_hand (behind_LF spot) n ≡ []
 LF_quiet (Fresh may) n = refl
-LF_quiet (Leading may) n = refl
-LF_quiet (Comment may) n = refl
-LF_quiet Between n = refl
-LF_quiet (Within x w) n = refl
-LF_quiet (HeaderBetween stage) n = refl
-LF_quiet (HeaderWithin stage x w) n = refl
-LF_quiet Spoilt n = refl
-LF_quiet Over n = refl
+LF_quiet e n = refl
 
 header_good : (o : Option Stage) → IsSpot (behind_header_word o)
 header_good None = tt
@@ -54,26 +40,13 @@ header_quiet None n = inl refl
 header_quiet (Some stage) n = inr (n + 1, stage_end stage, of_header stage, refl)
 
 blank_good : (spot : Spot) → IsSpot (behind_blank spot)
-blank_good (Fresh may) = tt
-blank_good (Leading may) = tt
-blank_good (Comment may) = tt
-blank_good Between = tt
-blank_good (Within x w) = tt
-blank_good (HeaderBetween stage) = tt
 blank_good (HeaderWithin stage x w) = header_good (stage_behind stage (x ∷ w))
-blank_good Spoilt = tt
-blank_good Over = tt
+blank_good e = tt
 
 blank_quiet : (spot : Spot) (n : ℕ) → QuietTokens (in_hand (behind_blank spot) n)
-blank_quiet (Fresh may) n = inl refl
-blank_quiet (Leading may) n = inl refl
-blank_quiet (Comment may) n = inl refl
-blank_quiet Between n = inl refl
-blank_quiet (Within x w) n = inl refl
 blank_quiet (HeaderBetween stage) n = inr (n + 1, stage_end stage, of_header stage, refl)
 blank_quiet (HeaderWithin stage x w) n = header_quiet (stage_behind stage (x ∷ w)) n
-blank_quiet Spoilt n = inl refl
-blank_quiet Over n = inl refl
+blank_quiet e n = inl refl
 
 -- a blank ends the word in hand
 record Blanked (spot : Spot) (n b : ℕ) : Type 0 where

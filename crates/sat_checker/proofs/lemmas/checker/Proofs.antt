@@ -323,6 +323,4 @@ module _ {L : Type 0} (Hears : L → Told → Result Unit ProcessingError → L 
   step_stops a b errors.OutOfMemory earlier x h t k = inr (x, t, k.1)
   step_stops a b (errors.ProofProcessorError cause) earlier x h t k = (x, t, k.1)
   step_stops a b errors.HasFailed earlier x h t k = absurd (true≢false (sym k.0 ∙ h))
-  step_stops a b errors.ProofIncomplete earlier x h t k = absurd k
-  step_stops a b errors.IoError earlier x h t k = absurd k
-  step_stops a b errors.ParseError earlier x h t k = absurd k
+  step_stops a b e earlier x h t k = absurd k

@@ -106,12 +106,10 @@ read_by_piece (Err texts.Read) text piece p q is f rest = absurd f
 read_by_piece (Err texts.HasFailed) text piece p q is f rest = stopped_not _ text p is f.0
 
 pub read_by_end : (answer : Result Unit DimacsError) (text : List ℕ) (p q : Progress) → HasFed text p → Finishes answer p q → AreRead text (clauses_read q)
-read_by_end (Ok x) text p q is f = inr (over_read text p q is f.1)
-read_by_end (Err (texts.Malformed line)) text p q is f = inr (over_read text p q is f.1)
-read_by_end (Err (texts.Limit line)) text p q is f = inr (over_read text p q is f.1)
 read_by_end (Err texts.OutOfMemory) text p q is f = inl (text, [], sym (append-nil text), ap clauses_read (f.1 ∙ ap cut_short is))
 read_by_end (Err texts.Read) text p q is f = absurd f
 read_by_end (Err texts.HasFailed) text p q is f = stopped_not _ text p is f.0
+read_by_end e text p q is f = inr (over_read text p q is f.1)
 
 pub clean_by_end : (text : List ℕ) (p q : Progress) → HasFed text p → Finishes (Ok tt) p q → IsDimacs text (clauses_read q) Clean
 clean_by_end text p q is f = has_ending (dimacs text) (clauses_read q) Clean (over_read text p q is f.1) (ap (λ (z : List ℕ). (dimacs z).ending) (sym (fed_of text p is)) ∙ f.2)
@@ -148,12 +146,8 @@ taken_by_piece (Err texts.Read) text piece p q is f = absurd f
 taken_by_piece (Err texts.HasFailed) text piece p q is f = ap (λ (z : Progress). z.taken) f.1
 
 taken_by_end : (answer : Result Unit DimacsError) (p q : Progress) → Finishes answer p q → q.taken ≡ p.taken
-taken_by_end (Ok x) p q f = ap (λ (z : Progress). z.taken) f.1
-taken_by_end (Err (texts.Malformed line)) p q f = ap (λ (z : Progress). z.taken) f.1
-taken_by_end (Err (texts.Limit line)) p q f = ap (λ (z : Progress). z.taken) f.1
-taken_by_end (Err texts.OutOfMemory) p q f = ap (λ (z : Progress). z.taken) f.1
 taken_by_end (Err texts.Read) p q f = absurd f
-taken_by_end (Err texts.HasFailed) p q f = ap (λ (z : Progress). z.taken) f.1
+taken_by_end e p q f = ap (λ (z : Progress). z.taken) f.1
 
 pub sound_after : (answer : Result Unit DimacsError) (q r : Progress) → answer ≡ Ok tt → OnOk answer (IsSoundSoFar q) → r ≡ all_taken q → IsSoundSoFar r
 sound_after answer q r e s t = subst IsSoundSoFar (sym t) (subst (λ (z : Result Unit DimacsError). OnOk z (IsSoundSoFar q)) e s)
@@ -197,9 +191,7 @@ module _ {L : Type 0} (Hears : L → Told → Result Unit ProcessingError → L 
     subst (λ (z : List Step). BreaksAt Hears before begun (faults.ProofProcessorError cause) d (AddClause q.1) z) (sym (behind_joined cs q.0 earlier)) q.3,
   )
   joined (Err errors.HasFailed) a b d cs ds earlier p q = absurd (true≢false (sym q.0 ∙ p.1.1))
-  joined (Err errors.ProofIncomplete) a b d cs ds earlier p q = absurd q
-  joined (Err errors.IoError) a b d cs ds earlier p q = absurd q
-  joined (Err errors.ParseError) a b d cs ds earlier p q = absurd q
+  joined (Err e) a b d cs ds earlier p q = absurd q
 
   pub none_added : (c : Seen L) (earlier : List Step) → has_failed c ≡ false → HasAccepted Hears before begun c earlier → AnswersClauses Hears before begun (Ok tt) c c [] earlier
   none_added c earlier h s = (record { well = h; left = []; split = refl; looks = none_more (looks_of c) }, (s, h))
@@ -208,11 +200,8 @@ module _ {L : Type 0} (Hears : L → Told → Result Unit ProcessingError → L 
   unflagged mid steps g = (record { kernel = record { accepted = g.0.kernel.accepted; records = g.0.kernel.records; kept = λ h. g.0.kernel.kept g.1 }; heard = λ h. g.0.heard g.1 }, refl)
 
   set_failed : (e : DimacsError) (mid : Seen L) (steps : List Step) → StandsUnfailed Hears before begun mid steps → StandsBehind Hears before begun e (with_flag (is_want e) mid) steps
-  set_failed (texts.Malformed line) mid steps g = unflagged mid steps g
-  set_failed (texts.Limit line) mid steps g = unflagged mid steps g
-  set_failed texts.Read mid steps g = unflagged mid steps g
-  set_failed texts.HasFailed mid steps g = unflagged mid steps g
   set_failed texts.OutOfMemory mid steps g = failed_now Hears before begun mid steps g.1 g.0
+  set_failed e mid steps g = unflagged mid steps g
 
   -- those that were read before were added, and these are tried
   module _ (old cur new : Seen L) (q : Progress) (earlier : List Step) (clauses : List (List ℕ)) (first : AnswersClauses Hears before begun (Ok tt) old cur q.taken earlier) (split : clauses_read q ≡ q.taken ++ clauses) where
@@ -236,9 +225,7 @@ module _ {L : Type 0} (Hears : L → Told → Result Unit ProcessingError → L 
   answers_dimacs (Err (refused.Checker errors.CounterEnd)) answer old cur new from to q earlier n first clean fails read a = (n, clauses_read q, read, behind_first old cur new q earlier a.0 first a.1 (Err errors.CounterEnd) new (a.2 before begun))
   answers_dimacs (Err (refused.Checker errors.OutOfMemory)) answer old cur new from to q earlier n first clean fails read a = (n, clauses_read q, read, behind_first old cur new q earlier a.0 first a.1 (Err errors.OutOfMemory) new (a.2 before begun))
   answers_dimacs (Err (refused.Checker (errors.ProofProcessorError cause))) answer old cur new from to q earlier n first clean fails read a = (n, clauses_read q, read, behind_first old cur new q earlier a.0 first a.1 (Err (errors.ProofProcessorError cause)) new (a.2 before begun))
-  answers_dimacs (Err (refused.Checker errors.ProofIncomplete)) answer old cur new from to q earlier n first clean fails read a = absurd (a.2 before begun (after_additions q.taken earlier) first.1.0)
-  answers_dimacs (Err (refused.Checker errors.IoError)) answer old cur new from to q earlier n first clean fails read a = absurd (a.2 before begun (after_additions q.taken earlier) first.1.0)
-  answers_dimacs (Err (refused.Checker errors.ParseError)) answer old cur new from to q earlier n first clean fails read a = absurd (a.2 before begun (after_additions q.taken earlier) first.1.0)
+  answers_dimacs (Err x) answer old cur new from to q earlier n first clean fails read a = absurd (a.2 before begun (after_additions q.taken earlier) first.1.0)
 
 module _ {L : Type 0} (Hears : L → Told → Result Unit ProcessingError → L → Type 0) where
   -- the clauses of what was given before were added

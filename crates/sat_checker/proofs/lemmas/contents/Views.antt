@@ -77,11 +77,8 @@ among_left (u ∷ us) v m = go (eqb (variable u.literal) v) refl (eqb u.literal 
 
 view_changed : (step : Step) (f : Stored) → EachOnce f.clauses → contents (effect step f) ≡ contents_after step (contents f)
 view_changed (SolverVarName v None) f h = refl
-view_changed (SolverVarName v (Some name)) f h = refl
 view_changed (UserVarName v (Some name)) f h = refl
-view_changed (UserVarName v None) f h = refl
 view_changed (DeleteVar v) f h = λ i. record (contents f) { variables = λ w. cond (eqb w v) unknown (f.variables w); units = λ m. among_left f.units v m i; var_deleted = true }
-view_changed (ChangeSamplingMode v sample) f h = refl
 view_changed (AddClause clause) f h = go f.unsat
   where
     go : (b : Bool) → contents (cond b f (with_input clause (with_literals_known clause f))) ≡ cond b (contents f) (clause_more false clause (literals_known clause (contents f)))
@@ -92,11 +89,7 @@ view_changed (UnitClauses us) f h = let ls : List ℕ = map (λ u. u.0) us in vi
 view_changed (DeleteClause clause Redundant) f h = λ i. record (contents f) { counts = λ q other. count_less true q (canonical clause) other f.clauses h i }
 view_changed (DeleteClause clause Simplified) f h = λ i. record (contents f) { counts = λ q other. count_less false q (canonical clause) other f.clauses h i }
 view_changed (DeleteClause clause Satisfied) f h = λ i. record (contents f) { counts = λ q other. count_less false q (canonical clause) other f.clauses h i }
-view_changed (ChangeHashBits bits) f h = refl
-view_changed (Model ls) f h = refl
-view_changed (Assumptions ls) f h = refl
-view_changed (FailedAssumptions core hashes) f h = refl
-view_changed End f h = refl
+view_changed step f h = refl
 
 pub view_settled : (f : Stored) → contents (settled f) ≡ contents f
 view_settled f = go f.conflict

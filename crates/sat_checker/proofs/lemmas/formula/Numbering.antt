@@ -39,10 +39,8 @@ ids_push : (is : List ℕ) (n : ℕ) → AreIdsInOrder is n → AreIdsInOrder (i
 ids_push is n h = record { increasing = increasing_push is n h.increasing h.below; below = below_push is n h.below }
 
 put_more : (last : LastClause) (us : List StoredUnit) (n m : ℕ) → n ≤ m → LastUnitIsPut last us n → LastUnitIsPut last us m
-put_more code.NoneYet us n m l h = tt
-put_more (code.Empty id) us n m l h = tt
 put_more (code.Single id k) us n m l h = (let b : id < n = h.0 in omega (arith, l, b), h.1)
-put_more (code.Long id) us n m l h = tt
+put_more e us n m l h = tt
 
 pub numbered_more : (is : List ℕ) (us : List StoredUnit) (last : LastClause) (n m : ℕ) → n ≤ m → AreNumbered is us last n → AreNumbered is us last m
 numbered_more is us last n m l h = record { of_clauses = ids_more is n m l h.of_clauses; of_units = ids_more (unit_ids us) n m l h.of_units; put = put_more last us n m l h.put }
@@ -71,8 +69,6 @@ abbrev unit_of : ℕ → ℕ → StoredUnit
 unit_of id l = record { id = id; literal = l }
 
 put_unit : (last : LastClause) (us : List StoredUnit) (n l : ℕ) → LastUnitIsPut last us n → LastUnitIsPut last (us ++ unit_of n l ∷ []) (n + 1)
-put_unit code.NoneYet us n l h = tt
-put_unit (code.Empty id) us n l h = tt
 put_unit (code.Single id k) us n l h = (omega (arith, below), behind us h.1)
   where
     below : id < n
@@ -81,7 +77,7 @@ put_unit (code.Single id k) us n l h = (omega (arith, below), behind us h.1)
     behind : (vs : List StoredUnit) → AllByRecursion (IsIdOfUnit id k) vs → AllByRecursion (IsIdOfUnit id k) (vs ++ unit_of n l ∷ [])
     behind [] a = (((λ e. absurd (omega (arith, e, below))), (λ e. omega (arith, below))), tt)
     behind (v ∷ vs) a = (a.0, behind vs a.1)
-put_unit (code.Long id) us n l h = tt
+put_unit x us n l h = tt
 
 pub numbered_unit : (is : List ℕ) (us : List StoredUnit) (last : LastClause) (n l : ℕ) → AreNumbered is us last n → AreNumbered is (us ++ (record { id = n; literal = l }) ∷ []) last (n + 1)
 numbered_unit is us last n l h = record {
@@ -117,10 +113,8 @@ module _ (test : StoredUnit → Bool) where
       go false ih = ih
 
   put_left : (last : LastClause) (us : List StoredUnit) (n : ℕ) → LastUnitIsPut last us n → LastUnitIsPut last (filter test us) n
-  put_left code.NoneYet us n h = tt
-  put_left (code.Empty id) us n h = tt
   put_left (code.Single id l) us n h = (h.0, each_left (IsIdOfUnit id l) us h.1)
-  put_left (code.Long id) us n h = tt
+  put_left e us n h = tt
 
   pub numbered_left : (is : List ℕ) (us : List StoredUnit) (last : LastClause) (n : ℕ) → AreNumbered is us last n → AreNumbered is (filter test us) last n
   numbered_left is us last n h = record {

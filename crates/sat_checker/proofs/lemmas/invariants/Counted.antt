@@ -47,11 +47,7 @@ tidy_less r set cs h = record { once = once_less r set cs h.once; counted = coun
 -- whether the step is accepted or not
 pub tidy_effect : (step : Step) (f : Stored) → TidyClauses f.clauses → TidyClauses (effect step f).clauses
 tidy_effect (SolverVarName v None) f h = h
-tidy_effect (SolverVarName v (Some name)) f h = h
 tidy_effect (UserVarName v (Some name)) f h = h
-tidy_effect (UserVarName v None) f h = h
-tidy_effect (DeleteVar v) f h = h
-tidy_effect (ChangeSamplingMode v sample) f h = h
 tidy_effect (AddClause clause) f h = go f.unsat
   where
     go : (b : Bool) → TidyClauses (cond b f (with_input clause (with_literals_known clause f))).clauses
@@ -62,11 +58,7 @@ tidy_effect (UnitClauses us) f h = let ls : List ℕ = map (λ u. u.0) us in tid
 tidy_effect (DeleteClause clause Redundant) f h = tidy_less true (canonical clause) f.clauses h
 tidy_effect (DeleteClause clause Simplified) f h = tidy_less false (canonical clause) f.clauses h
 tidy_effect (DeleteClause clause Satisfied) f h = tidy_less false (canonical clause) f.clauses h
-tidy_effect (ChangeHashBits bits) f h = h
-tidy_effect (Model ls) f h = h
-tidy_effect (Assumptions ls) f h = h
-tidy_effect (FailedAssumptions core hashes) f h = h
-tidy_effect End f h = h
+tidy_effect step f h = h
 
 pub tidy_settled : (f : Stored) → TidyClauses f.clauses → TidyClauses (settled f).clauses
 tidy_settled f h = go f.conflict

@@ -59,16 +59,7 @@ abbrev ids_by : Step → ℕ
 ids_by (AddClause clause) = 1
 ids_by (AtClause redundant clause hashes) = 1
 ids_by (UnitClauses us) = length us
-ids_by (SolverVarName v name) = 0
-ids_by (UserVarName v name) = 0
-ids_by (DeleteVar v) = 0
-ids_by (ChangeSamplingMode v sample) = 0
-ids_by (DeleteClause clause proof) = 0
-ids_by (ChangeHashBits bits) = 0
-ids_by (Model ls) = 0
-ids_by (Assumptions ls) = 0
-ids_by (FailedAssumptions core hashes) = 0
-ids_by End = 0
+ids_by step = 0
 
 none_more : (n : ℕ) → n ≤ n + 0
 none_more n = omega arith
@@ -82,11 +73,7 @@ as_long (u ∷ us) = let e = as_long us in omega arith
 
 effect_more : (step : Step) (f : Stored) → (effect step f).next_id ≤ f.next_id + ids_by step
 effect_more (SolverVarName v None) f = none_more f.next_id
-effect_more (SolverVarName v (Some name)) f = none_more f.next_id
 effect_more (UserVarName v (Some name)) f = none_more f.next_id
-effect_more (UserVarName v None) f = none_more f.next_id
-effect_more (DeleteVar v) f = none_more f.next_id
-effect_more (ChangeSamplingMode v sample) f = none_more f.next_id
 effect_more (AddClause clause) f = go f.unsat
   where
     go : (b : Bool) → (cond b f (with_input clause (with_literals_known clause f))).next_id ≤ f.next_id + 1
@@ -97,13 +84,7 @@ effect_more (UnitClauses us) f =
     subst (λ n. (with_units (first_of us) (with_literals_known (first_of us) f)).next_id ≤ f.next_id + n) (as_long us)
     (units_more (first_of us) (with_literals_known (first_of us) f))
 effect_more (DeleteClause clause Redundant) f = none_more f.next_id
-effect_more (DeleteClause clause Simplified) f = none_more f.next_id
-effect_more (DeleteClause clause Satisfied) f = none_more f.next_id
-effect_more (ChangeHashBits bits) f = none_more f.next_id
-effect_more (Model ls) f = none_more f.next_id
-effect_more (Assumptions ls) f = none_more f.next_id
-effect_more (FailedAssumptions core hashes) f = none_more f.next_id
-effect_more End f = none_more f.next_id
+effect_more step f = none_more f.next_id
 
 settled_more : (f : Stored) → (settled f).next_id ≤ f.next_id + 1
 settled_more f = go f.conflict
@@ -194,11 +175,7 @@ module _ (n : ℕ) where
 
   within_effect : (step : Step) (f : Stored) → CountsWithin n f.clauses → CountsWithin (n + 1) (effect step f).clauses
   within_effect (SolverVarName v None) f h = still f h
-  within_effect (SolverVarName v (Some name)) f h = still f h
   within_effect (UserVarName v (Some name)) f h = still f h
-  within_effect (UserVarName v None) f h = still f h
-  within_effect (DeleteVar v) f h = still f h
-  within_effect (ChangeSamplingMode v sample) f h = still f h
   within_effect (AddClause clause) f h = go f.unsat
     where
       go : (b : Bool) → CountsWithin (n + 1) (cond b f (with_input clause (with_literals_known clause f))).clauses
@@ -209,11 +186,7 @@ module _ (n : ℕ) where
   within_effect (DeleteClause clause Redundant) f h = within_less true (canonical clause) f h
   within_effect (DeleteClause clause Simplified) f h = within_less false (canonical clause) f h
   within_effect (DeleteClause clause Satisfied) f h = within_less false (canonical clause) f h
-  within_effect (ChangeHashBits bits) f h = still f h
-  within_effect (Model ls) f h = still f h
-  within_effect (Assumptions ls) f h = still f h
-  within_effect (FailedAssumptions core hashes) f h = still f h
-  within_effect End f h = still f h
+  within_effect step f h = still f h
 
 irredundant_within : (n : ℕ) (ls : List ℕ) (cs : List StoredClause) → CountsWithin n cs → irredundant_count (clause_with ls cs) ≤ n
 irredundant_within n ls [] h = omega arith
@@ -265,16 +238,7 @@ fields_take (UnitClauses us) fields h =
     let a = units_take us h.1 h.3 in
     let e : length fields ≡ length h.0 + length h.1 = ap length h.4 ∙ length-append h.0 h.1 in
     omega arith
-fields_take (SolverVarName v name) fields h = none_needed fields
-fields_take (UserVarName v name) fields h = none_needed fields
-fields_take (DeleteVar v) fields h = none_needed fields
-fields_take (ChangeSamplingMode v sample) fields h = none_needed fields
-fields_take (DeleteClause clause proof) fields h = none_needed fields
-fields_take (ChangeHashBits bits) fields h = none_needed fields
-fields_take (Model ls) fields h = none_needed fields
-fields_take (Assumptions ls) fields h = none_needed fields
-fields_take (FailedAssumptions core hashes) fields h = none_needed fields
-fields_take End fields h = none_needed fields
+fields_take step fields h = none_needed fields
 
 step_takes : (step : Step) (bytes : List ℕ) → SpellsStep step bytes → ids_by step + 1 ≤ length bytes
 step_takes step bytes h = let a = fields_take step h.0 h.2 in let e : length bytes ≡ length h.0 + 1 = ap length h.1 ∙ one_more (tag_of step) h.0 in omega arith

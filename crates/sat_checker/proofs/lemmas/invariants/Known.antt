@@ -120,11 +120,8 @@ module _ (f : Stored) (k : KnowsAll f) where
 
   knows_effect : (step : Step) → Accepts f step → KnowsAll (effect step f)
   knows_effect (SolverVarName v None) a = stays (SolverVarName v None) (λ w e. absurd cc)
-  knows_effect (SolverVarName v (Some name)) a = stays (SolverVarName v (Some name)) (λ w e. absurd cc)
   knows_effect (UserVarName v (Some name)) a = stays (UserVarName v (Some name)) (λ w e. absurd cc)
-  knows_effect (UserVarName v None) a = stays (UserVarName v None) (λ w e. absurd cc)
   knows_effect (DeleteVar v) a = knows_deleted f v a k
-  knows_effect (ChangeSamplingMode v sample) a = stays (ChangeSamplingMode v sample) (λ w e. absurd cc)
   knows_effect (AddClause clause) a = go f.unsat
     where
       put : KnowsAll (with_stored false clause (with_literals_known clause f)) → KnowsAll (with_input clause (with_literals_known clause f))
@@ -143,6 +140,7 @@ module _ (f : Stored) (k : KnowsAll f) where
   knows_effect (Assumptions ls) a = let m = knows_learned f ls k in record { clauses_known = m.clauses_known; units_known = m.units_known; assumed_known = learned f ls }
   knows_effect (FailedAssumptions core hashes) a = k
   knows_effect End a = record { clauses_known = k.clauses_known; units_known = k.units_known; assumed_known = k.assumed_known }
+  knows_effect step a = stays step (λ w e. absurd cc)
 
 knows_settled : (f : Stored) → KnowsAll f → KnowsAll (settled f)
 knows_settled f k = go f.conflict

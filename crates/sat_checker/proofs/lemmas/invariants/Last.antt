@@ -24,20 +24,16 @@ last_is_settled f = go f.conflict
 
 pub last_stays : LastStays
 last_stays f (SolverVarName v None) e = last_same f.last (effect (SolverVarName v None) f) f refl refl
-last_stays f (SolverVarName v (Some name)) e = last_same f.last (effect (SolverVarName v (Some name)) f) f refl refl
 last_stays f (UserVarName v (Some name)) e = last_same f.last (effect (UserVarName v (Some name)) f) f refl refl
-last_stays f (UserVarName v None) e = last_same f.last (effect (UserVarName v None) f) f refl refl
-last_stays f (ChangeSamplingMode v sample) e = last_same f.last (effect (ChangeSamplingMode v sample) f) f refl refl
 last_stays f (ChangeHashBits bits) e = last_same f.last (record f { width = bits }) f refl refl
 last_stays f (Model ls) e = last_same f.last (with_literals_known ls f) f refl refl
-last_stays f (Assumptions ls) e = last_same f.last (effect (Assumptions ls) f) f refl refl
 last_stays f (FailedAssumptions core hashes) e = refl
-last_stays f End e = last_same f.last (effect End f) f refl refl
 last_stays f (DeleteVar v) e = absurd cc
 last_stays f (AddClause clause) e = absurd cc
 last_stays f (AtClause r clause hashes) e = absurd cc
 last_stays f (UnitClauses us) e = absurd cc
 last_stays f (DeleteClause clause proof) e = absurd cc
+last_stays f step e = last_same f.last (effect step f) f refl refl
 
 pub derived_last : (set : List ℕ) (g : Stored) → 2 ≤ length set → Orderly (with_canonical false set g) → last_literals (with_canonical false set g).last (with_canonical false set g) ≡ Some set
 derived_last [] g n o = absurd (omega arith)

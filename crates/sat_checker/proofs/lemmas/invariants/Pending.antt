@@ -51,28 +51,20 @@ turns_alike (u ∷ us) f g a p = (pass_alike f g (u.0 ∷ []) (u.1 ∷ []) a p.0
 
 last_alike : (last : Last) (f : Stored) (conflict : Option (ℕ × ℕ)) (next : ℕ) → last_literals last (record f { conflict = conflict; next_id = next }) ≡ last_literals last f
 last_alike NoneYet f c n = refl
-last_alike (Empty id) f c n = refl
-last_alike (UnitClause id) f c n = refl
-last_alike (LongClause id) f c n = refl
+last_alike e f c n = refl
 
 -- acceptance doesn't look at the pending conflict, nor at the next id
 other : (f : Stored) (c d : Option (ℕ × ℕ)) (n m : ℕ) (step : Step) → Accepts (record f { conflict = c; next_id = n }) step → Accepts (record f { conflict = d; next_id = m }) step
 other f c d n m (SolverVarName v name) a = tt
 other f c d n m (UserVarName v (Some name)) a = record { free = a.free; nameless = a.nameless; not_hidden = a.not_hidden }
-other f c d n m (UserVarName v None) a = a
 other f c d n m (DeleteVar v) a = record { known = a.known; nameless = a.nameless; unused = a.unused; not_assumed = a.not_assumed }
-other f c d n m (ChangeSamplingMode v sample) a = a
-other f c d n m (AddClause clause) a = a
-other f c d n m (AtClause r clause hashes) a = a
 other f c d n m (UnitClauses us) a = turns_alike us (record f { conflict = c; next_id = n }) (record f { conflict = d; next_id = m }) (record { clauses = refl; units = refl; names = refl; width = refl }) a
-other f c d n m (DeleteClause clause Redundant) a = a
-other f c d n m (DeleteClause clause Satisfied) a = a
 other f c d n m (DeleteClause clause Simplified) a = (a.0, subst (λ o. IsStrictSubset o clause) (last_alike f.last f c n ∙ sym (last_alike f.last f d m)) a.1)
 other f c d n m (ChangeHashBits bits) a = tt
 other f c d n m (Model ls) a = record { consistent = a.consistent; apart = a.apart; units = a.units; clauses = a.clauses }
 other f c d n m (Assumptions ls) a = tt
-other f c d n m (FailedAssumptions core hashes) a = a
 other f c d n m End a = tt
+other f c d n m step a = a
 
 pub pending_changes_nothing : PendingChangesNothing
 pending_changes_nothing f step = go f.conflict refl

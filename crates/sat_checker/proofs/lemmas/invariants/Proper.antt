@@ -26,11 +26,7 @@ proper clause e n = record { two = n; sorted = canonical_increasing clause; apar
 
 proper_effect : (step : Step) (f : Stored) → AllByRecursion IsProper (long_clauses f) → AllByRecursion IsProper (long_clauses (effect step f))
 proper_effect (SolverVarName v None) f h = h
-proper_effect (SolverVarName v (Some name)) f h = h
 proper_effect (UserVarName v (Some name)) f h = h
-proper_effect (UserVarName v None) f h = h
-proper_effect (DeleteVar v) f h = h
-proper_effect (ChangeSamplingMode v sample) f h = h
 proper_effect (AddClause clause) f h = go f.unsat
   where
     go : (b : Bool) → AllByRecursion IsProper (long_clauses (cond b f (with_input clause (with_literals_known clause f))))
@@ -41,11 +37,7 @@ proper_effect (UnitClauses us) f h = let ls : List ℕ = map (λ u. u.0) us in e
 proper_effect (DeleteClause clause Redundant) f h = each_without IsProper true (canonical clause) f.clauses h
 proper_effect (DeleteClause clause Simplified) f h = each_without IsProper false (canonical clause) f.clauses h
 proper_effect (DeleteClause clause Satisfied) f h = each_without IsProper false (canonical clause) f.clauses h
-proper_effect (ChangeHashBits bits) f h = h
-proper_effect (Model ls) f h = h
-proper_effect (Assumptions ls) f h = h
-proper_effect (FailedAssumptions core hashes) f h = h
-proper_effect End f h = h
+proper_effect step f h = h
 
 proper_settled : (f : Stored) → AllByRecursion IsProper (long_clauses f) → AllByRecursion IsProper (long_clauses (settled f))
 proper_settled f h = go f.conflict

@@ -78,11 +78,7 @@ unsat_stored r clause f h = go (is_tautology clause)
 
 pub unsat_stays : UnsatStays
 unsat_stays f (SolverVarName v None) h = h
-unsat_stays f (SolverVarName v (Some name)) h = h
 unsat_stays f (UserVarName v (Some name)) h = h
-unsat_stays f (UserVarName v None) h = h
-unsat_stays f (DeleteVar v) h = h
-unsat_stays f (ChangeSamplingMode v sample) h = h
 unsat_stays f (AddClause clause) h = go f.unsat
   where
     go : (b : Bool) → (cond b f (with_input clause (with_literals_known clause f))).unsat ≡ true
@@ -91,10 +87,4 @@ unsat_stays f (AddClause clause) h = go f.unsat
 unsat_stays f (AtClause r clause hashes) h = unsat_stored r clause (with_literals_known clause f) h
 unsat_stays f (UnitClauses us) h = let ls : List ℕ = map (λ u. u.0) us in unsat_units ls (with_literals_known ls f) h
 unsat_stays f (DeleteClause clause Redundant) h = h
-unsat_stays f (DeleteClause clause Simplified) h = h
-unsat_stays f (DeleteClause clause Satisfied) h = h
-unsat_stays f (ChangeHashBits bits) h = h
-unsat_stays f (Model ls) h = h
-unsat_stays f (Assumptions ls) h = h
-unsat_stays f (FailedAssumptions core hashes) h = h
-unsat_stays f End h = h
+unsat_stays f step h = h

@@ -22,11 +22,7 @@ all_accepted (step ∷ earlier) h = (all_accepted earlier h.0, h.1)
 
 assumed_by : (step : Step) (f : Stored) (earlier : List Step) → f.assumed ≡ assumed earlier → (effect step f).assumed ≡ assumed (step ∷ earlier)
 assumed_by (SolverVarName v None) f es e = e
-assumed_by (SolverVarName v (Some n)) f es e = e
 assumed_by (UserVarName v (Some n)) f es e = e
-assumed_by (UserVarName v None) f es e = e
-assumed_by (DeleteVar v) f es e = e
-assumed_by (ChangeSamplingMode v s) f es e = e
 assumed_by (AddClause c) f es e = go f.unsat
   where
     go : (b : Bool) → (cond b f (with_input c (with_literals_known c f))).assumed ≡ assumed es
@@ -35,13 +31,8 @@ assumed_by (AddClause c) f es e = go f.unsat
 assumed_by (AtClause r c hs) f es e = (stored_same r c (with_literals_known c f)).assumed ∙ e
 assumed_by (UnitClauses us) f es e = let ls : List ℕ = map (λ u. u.0) us in (units_same ls (with_literals_known ls f)).assumed ∙ e
 assumed_by (DeleteClause c Redundant) f es e = e
-assumed_by (DeleteClause c Simplified) f es e = e
-assumed_by (DeleteClause c Satisfied) f es e = e
-assumed_by (ChangeHashBits n) f es e = e
-assumed_by (Model ls) f es e = e
 assumed_by (Assumptions ls) f es e = refl
-assumed_by (FailedAssumptions c hs) f es e = e
-assumed_by End f es e = e
+assumed_by step f es e = e
 
 assumed_after : (steps : List Step) → (ready_after steps).assumed ≡ assumed steps
 assumed_after [] = refl
@@ -98,7 +89,6 @@ never_named : (variables : ℕ → Variable) (named : ℕ → Option ℕ) (w : �
 never_named variables named w h none name e = none_some (name - 1) (sym none ∙ h w name e)
 
 names_by : (step : Step) (f : Stored) (earlier : List Step) → Accepts f step → Named f.variables (variable_of earlier) → Named (effect step f).variables (variable_of (step ∷ earlier))
-names_by (SolverVarName v None) f es a h = h
 names_by (SolverVarName v (Some n)) f es a h = named_known f.variables (variable_of es) (v ∷ []) h
 names_by (UserVarName w (Some n)) f es a h = λ v name e. by_name v name (eqb (n + 1) name) refl e
   where
@@ -131,13 +121,9 @@ names_by (AtClause r c hs) f es a h = named_same (with_literals_known c f) (with
 names_by (UnitClauses us) f es a h =
     let ls : List ℕ = map (λ u. u.0) us in named_same (with_literals_known ls f) (with_units ls (with_literals_known ls f)) (variable_of es) (units_same ls (with_literals_known ls f)) (named_known f.variables (variable_of es) (map variable ls) h)
 names_by (DeleteClause c Redundant) f es a h = h
-names_by (DeleteClause c Simplified) f es a h = h
-names_by (DeleteClause c Satisfied) f es a h = h
-names_by (ChangeHashBits n) f es a h = h
 names_by (Model ls) f es a h = named_known f.variables (variable_of es) (map variable ls) h
 names_by (Assumptions ls) f es a h = named_known f.variables (variable_of es) (map variable ls) h
-names_by (FailedAssumptions c hs) f es a h = h
-names_by End f es a h = h
+names_by step f es a h = h
 
 names_after : (steps : List Step) → AcceptsAll steps → Named (ready_after steps).variables (variable_of steps)
 names_after [] ok = λ v name e. absurd (none_some v e)

@@ -79,7 +79,6 @@ known_kept f x v w k h = go (eqb w v) refl
     go false e = h
 
 pub known_stays : KnownStays
-known_stays f (SolverVarName w None) v h = inl h
 known_stays f (SolverVarName w (Some n)) v h = inl (known_more f (w ∷ []) v h)
 known_stays f (UserVarName w (Some n)) v h = inl (known_set f (record (f.variables w) { known = true; name = Some n }) w v refl h)
 known_stays f (UserVarName w None) v h = inl (known_kept f (record (f.variables w) { mode = Hide; name = None }) w v refl h)
@@ -98,13 +97,9 @@ known_stays f (AtClause r c hs) v h = inl (known_same (with_literals_known c f) 
 known_stays f (UnitClauses us) v h =
     let ls : List ℕ = map (λ u. u.0) us in inl (known_same (with_literals_known ls f) (with_units ls (with_literals_known ls f)) v (units_same ls (with_literals_known ls f)) (known_more f (map variable ls) v h))
 known_stays f (DeleteClause c Redundant) v h = inl h
-known_stays f (DeleteClause c Simplified) v h = inl h
-known_stays f (DeleteClause c Satisfied) v h = inl h
-known_stays f (ChangeHashBits n) v h = inl h
 known_stays f (Model ls) v h = inl (known_more f (map variable ls) v h)
 known_stays f (Assumptions ls) v h = inl (known_more f (map variable ls) v h)
-known_stays f (FailedAssumptions c hs) v h = inl h
-known_stays f End v h = inl h
+known_stays f step v h = inl h
 
 pub deleted_is_nameless : DeletedIsNameless
 deleted_is_nameless f v h = h.nameless
@@ -150,7 +145,6 @@ tidy_same : (f g : Stored) → SameVariables f g → AreTidy f.variables → Are
 tidy_same f g s t = subst AreTidy (sym s.variables) t
 
 pub tidy_effect : (step : Step) (f : Stored) → Accepts f step → AreTidy f.variables → AreTidy (effect step f).variables
-tidy_effect (SolverVarName v None) f a t = t
 tidy_effect (SolverVarName v (Some n)) f a t = tidy_known f.variables t (v ∷ [])
 tidy_effect (UserVarName v (Some n)) f a t =
     tidy_set f.variables t v (record (f.variables v) { known = true; name = Some n }) (λ name w m k. absurd (let e : n ≡ name = cc in a.free w (subst (λ x. (f.variables w).name ≡ Some x) (sym e) k))) (λ k. absurd (true≢false k))
@@ -168,13 +162,9 @@ tidy_effect (AtClause r c hs) f a t = tidy_same (with_literals_known c f) (with_
 tidy_effect (UnitClauses us) f a t =
     let ls : List ℕ = map (λ u. u.0) us in tidy_same (with_literals_known ls f) (with_units ls (with_literals_known ls f)) (units_same ls (with_literals_known ls f)) (tidy_known f.variables t (map variable ls))
 tidy_effect (DeleteClause c Redundant) f a t = t
-tidy_effect (DeleteClause c Simplified) f a t = t
-tidy_effect (DeleteClause c Satisfied) f a t = t
-tidy_effect (ChangeHashBits n) f a t = t
 tidy_effect (Model ls) f a t = tidy_known f.variables t (map variable ls)
 tidy_effect (Assumptions ls) f a t = tidy_known f.variables t (map variable ls)
-tidy_effect (FailedAssumptions c hs) f a t = t
-tidy_effect End f a t = t
+tidy_effect step f a t = t
 
 tidy_ready : (f : Stored) → AreTidy f.variables → AreTidy (settled f).variables
 tidy_ready f t = tidy_same f (settled f) (settled_same f) t
@@ -194,11 +184,8 @@ unknown_is_unknown steps v ok k = (tidy steps ok).unknowns v k
 
 deleted_effect : (step : Step) (f : Stored) (earlier : List Step) → f.var_deleted ≡ has_delete_var earlier → (effect step f).var_deleted ≡ has_delete_var (step ∷ earlier)
 deleted_effect (SolverVarName v None) f es e = e
-deleted_effect (SolverVarName v (Some n)) f es e = e
 deleted_effect (UserVarName v (Some n)) f es e = e
-deleted_effect (UserVarName v None) f es e = e
 deleted_effect (DeleteVar v) f es e = refl
-deleted_effect (ChangeSamplingMode v s) f es e = e
 deleted_effect (AddClause c) f es e = go f.unsat
   where
     go : (b : Bool) → (cond b f (with_input c (with_literals_known c f))).var_deleted ≡ has_delete_var es
@@ -207,13 +194,7 @@ deleted_effect (AddClause c) f es e = go f.unsat
 deleted_effect (AtClause r c hs) f es e = (stored_same r c (with_literals_known c f)).deleted ∙ e
 deleted_effect (UnitClauses us) f es e = let ls : List ℕ = map (λ u. u.0) us in (units_same ls (with_literals_known ls f)).deleted ∙ e
 deleted_effect (DeleteClause c Redundant) f es e = e
-deleted_effect (DeleteClause c Simplified) f es e = e
-deleted_effect (DeleteClause c Satisfied) f es e = e
-deleted_effect (ChangeHashBits n) f es e = e
-deleted_effect (Model ls) f es e = e
-deleted_effect (Assumptions ls) f es e = e
-deleted_effect (FailedAssumptions c hs) f es e = e
-deleted_effect End f es e = e
+deleted_effect step f es e = e
 
 pub deletion_is_seen : DeletionIsSeen
 deletion_is_seen [] = refl

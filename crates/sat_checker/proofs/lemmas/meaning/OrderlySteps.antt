@@ -235,11 +235,8 @@ orderly_deleted f v u o = record {
 
 pub orderly_effect : (step : Step) (f : Stored) → Accepts f step → Orderly f → Orderly (effect step f)
 orderly_effect (SolverVarName v None) f a o = aside f (effect (SolverVarName v None) f) refl refl refl refl refl o
-orderly_effect (SolverVarName v (Some n)) f a o = aside f (effect (SolverVarName v (Some n)) f) refl refl refl refl refl o
 orderly_effect (UserVarName v (Some n)) f a o = aside f (effect (UserVarName v (Some n)) f) refl refl refl refl refl o
-orderly_effect (UserVarName v None) f a o = aside f (effect (UserVarName v None) f) refl refl refl refl refl o
 orderly_effect (DeleteVar v) f a o = orderly_deleted f v a.unused o
-orderly_effect (ChangeSamplingMode v s) f a o = aside f (effect (ChangeSamplingMode v s) f) refl refl refl refl refl o
 orderly_effect (AddClause c) f a o = go f.unsat
   where
     go : (b : Bool) → Orderly (cond b f (with_input c (with_literals_known c f)))
@@ -250,11 +247,9 @@ orderly_effect (UnitClauses us) f a o = orderly_units (map (λ u. u.0) us) (with
 orderly_effect (DeleteClause c Redundant) f a o = orderly_without f true (canonical c) o (λ ms e s. elim s [ inl t ↦ inl t | inr n ↦ inr (irredundant_stay ms (canonical c) f.clauses n) ])
 orderly_effect (DeleteClause c Satisfied) f a o = orderly_without f false (canonical c) o (λ ms e s. satisfied_supports f c a.1 ms s)
 orderly_effect (DeleteClause c Simplified) f a o = orderly_without f false (canonical c) o (simplified_supports f c a.1)
-orderly_effect (ChangeHashBits n) f a o = aside f (effect (ChangeHashBits n) f) refl refl refl refl refl o
 orderly_effect (Model ls) f a o = orderly_known f ls o
-orderly_effect (Assumptions ls) f a o = aside f (effect (Assumptions ls) f) refl refl refl refl refl o
 orderly_effect (FailedAssumptions c hs) f a o = o
-orderly_effect End f a o = aside f (effect End f) refl refl refl refl refl o
+orderly_effect step f a o = aside f (effect step f) refl refl refl refl refl o
 
 pub orderly : (steps : List Step) → AcceptsAll steps → Orderly (stored_after steps)
 orderly [] a = record { increasing = tt; below = tt; last_below = tt; last_holds = tt }

@@ -86,9 +86,7 @@ module _ {V L : Type 0} (Hears : L → Told → Result Unit ProcessingError → 
     step_down (Err errors.OutOfMemory) c step d steps a = (a.0, starves_down d step steps a.1)
     step_down (Err (errors.ProofProcessorError cause)) c step d steps a = (a.0, breaks_at_down _ d step steps a.1)
     step_down (Err errors.HasFailed) c step d steps a = (a.0, same_down c d a.1)
-    step_down (Err errors.ProofIncomplete) c step d steps a = absurd a
-    step_down (Err errors.IoError) c step d steps a = absurd a
-    step_down (Err errors.ParseError) c step d steps a = absurd a
+    step_down (Err e) c step d steps a = absurd a
 
     pub delayed_down : (r : Result Unit CheckerError) (c d : Seen (Hearers V L)) (steps : List Step) → AnswersDelayed (HearsFirst takes_all Hears) before (hearers nobody begun) r c d steps → AnswersDelayed Hears before begun r (others_of c) (others_of d) steps
     delayed_down (Ok x) c d steps a = (a.0, a.1, stands_down d steps a.2, a.3, a.4)
@@ -96,10 +94,7 @@ module _ {V L : Type 0} (Hears : L → Told → Result Unit ProcessingError → 
     delayed_down (Err errors.OutOfMemory) c d steps a = (a.0, a.1, a.2, breaks_down _ _ d steps a.3)
     delayed_down (Err (errors.ProofProcessorError cause)) c d steps a = (a.0, a.1, a.2, breaks_down _ _ d steps a.3)
     delayed_down (Err errors.HasFailed) c d steps a = (a.0, same_down c d a.1)
-    delayed_down (Err errors.CheckFailed) c d steps a = absurd a
-    delayed_down (Err errors.ProofIncomplete) c d steps a = absurd a
-    delayed_down (Err errors.IoError) c d steps a = absurd a
-    delayed_down (Err errors.ParseError) c d steps a = absurd a
+    delayed_down (Err e) c d steps a = absurd a
 
     went_down : (c d : Seen (Hearers V L)) (from to : Reader) (earlier passed last : List Step) (rest : List ℕ) → ReadsProofPart c d from to earlier passed last rest → ReadsProofPart (others_of c) (others_of d) from to earlier passed last rest
     went_down c d from to earlier passed last rest w = record { well = w.well; steps = w.steps; unended = w.unended; looks = w.looks }

@@ -37,7 +37,6 @@ over g h k v e a = record { name = ap (λ (z : ℕ → Variable). (z v).name) e 
 
 -- a step changes the name and the mode of no other variable
 pub steps_alike : (step : Step) (f : Stored) (v : ℕ) → Alike (put_back (changed_by f.variables step) (effect step f).variables v) (f.variables v)
-steps_alike (SolverVarName w None) f v = alike _ _ refl
 steps_alike (SolverVarName w (Some name)) f v = known_alike (w ∷ []) f.variables v
 steps_alike (UserVarName w (Some name)) f v = at_itself f.variables (effect (UserVarName w (Some name)) f).variables v w _ (λ u. refl)
 steps_alike (UserVarName w None) f v = at_itself f.variables (effect (UserVarName w None) f).variables v w _ (λ u. refl)
@@ -52,10 +51,6 @@ steps_alike (AtClause r c hs) f v = over f.variables (with_literals_known c f).v
 steps_alike (UnitClauses us) f v =
     let ls : List ℕ = map (λ u. u.0) us in over f.variables (with_literals_known ls f).variables _ v (units_same ls (with_literals_known ls f)).variables (known_alike (map variable ls) f.variables v)
 steps_alike (DeleteClause c Redundant) f v = alike _ _ refl
-steps_alike (DeleteClause c Satisfied) f v = alike _ _ refl
-steps_alike (DeleteClause c Simplified) f v = alike _ _ refl
-steps_alike (ChangeHashBits bits) f v = alike _ _ refl
 steps_alike (Model ls) f v = known_alike (map variable ls) f.variables v
 steps_alike (Assumptions ls) f v = known_alike (map variable ls) f.variables v
-steps_alike (FailedAssumptions core hs) f v = alike _ _ refl
-steps_alike End f v = alike _ _ refl
+steps_alike step f v = alike _ _ refl

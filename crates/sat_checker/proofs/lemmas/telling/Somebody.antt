@@ -69,15 +69,8 @@ module _ {P T : Type 0} (Takes : P → Told → Result Unit Error → P → Type
         go (Err errors.ParseError) a = tt
 
     clauses_go : (r : Result Unit CheckerError) (clauses : List (List ℕ)) → AnswersClauses (HearsEach Takes Reads) (before old steps) old.listeners r old new clauses steps → IfErr r (FaultOfSomebody old.listeners)
-    clauses_go (Ok x) clauses a = tt
-    clauses_go (Err errors.CheckFailed) clauses a = tt
-    clauses_go (Err errors.CounterEnd) clauses a = tt
-    clauses_go (Err errors.OutOfMemory) clauses a = tt
     clauses_go (Err (errors.ProofProcessorError cause)) clauses a = broken_at _ _ _ new (AddClause a.1) _ a.3
-    clauses_go (Err errors.HasFailed) clauses a = tt
-    clauses_go (Err errors.ProofIncomplete) clauses a = tt
-    clauses_go (Err errors.IoError) clauses a = tt
-    clauses_go (Err errors.ParseError) clauses a = tt
+    clauses_go e clauses a = tt
 
     pub clauses_faults : (r : Result Unit CheckerError) (clauses : List (List ℕ)) → AddsClauses (HearsEach Takes Reads) r old new clauses → IfErr r (FaultOfSomebody old.listeners)
     clauses_faults r clauses t = clauses_go r clauses (t (before old steps) old.listeners steps (stands_here old steps s))

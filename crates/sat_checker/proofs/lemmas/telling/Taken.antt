@@ -145,16 +145,7 @@ changed_same : (x : Step) (g h : ℕ → Variable) → ((v : ℕ) → g v ≡ h 
 changed_same (UserVarName v name) g h e = ap (λ (x : Variable). Some (v, x)) (e v)
 changed_same (DeleteVar v) g h e = ap (λ (x : Variable). Some (v, x)) (e v)
 changed_same (ChangeSamplingMode v sample) g h e = ap (λ (x : Variable). Some (v, x)) (e v)
-changed_same (SolverVarName v name) g h e = refl
-changed_same (AddClause c) g h e = refl
-changed_same (kinds.AtClause r c hs) g h e = refl
-changed_same (UnitClauses us) g h e = refl
-changed_same (DeleteClause c proof) g h e = refl
-changed_same (ChangeHashBits bits) g h e = refl
-changed_same (Model ls) g h e = refl
-changed_same (Assumptions ls) g h e = refl
-changed_same (FailedAssumptions core hs) g h e = refl
-changed_same End g h e = refl
+changed_same step g h e = refl
 
 records_same : (new : Kernel) (g : Stored) → KeepsFormula (refiled_in new.state.formula) g → records_in new.state.formula.status ≡ records_of g
 records_same new g k = ap (λ (z : RestOfStored). record { unsat = z.unsat; ended = z.ended; var_deleted = z.var_deleted }) k.status
@@ -334,10 +325,7 @@ module _ {L : Type 0} (Hears : L → Told → Result Unit ProcessingError → L 
   delayed_stops old new errors.OutOfMemory a = (a.0, inr (inl (a.2, a.3)))
   delayed_stops old new (errors.ProofProcessorError cause) a = (a.0, inl (a.2, a.3))
   delayed_stops old new errors.HasFailed a = a
-  delayed_stops old new errors.CheckFailed a = absurd a
-  delayed_stops old new errors.ProofIncomplete a = absurd a
-  delayed_stops old new errors.IoError a = absurd a
-  delayed_stops old new errors.ParseError a = absurd a
+  delayed_stops old new e a = absurd a
 
   -- and the step behind it
   pub settled_goes_on : (old mid new : Seen L) (r : Result Unit CheckerError) → has_failed old ≡ false → has_failed mid ≡ false → AnswersStep Hears before begun r mid step new steps → AnswersStep Hears before begun r old step new steps
@@ -347,9 +335,7 @@ module _ {L : Type 0} (Hears : L → Told → Result Unit ProcessingError → L 
   settled_goes_on old mid new (Err errors.OutOfMemory) h k a = (h, a.1)
   settled_goes_on old mid new (Err (errors.ProofProcessorError cause)) h k a = (h, a.1)
   settled_goes_on old mid new (Err errors.HasFailed) h k a = absurd (true≢false (sym a.0 ∙ k))
-  settled_goes_on old mid new (Err errors.ProofIncomplete) h k a = absurd a
-  settled_goes_on old mid new (Err errors.IoError) h k a = absurd a
-  settled_goes_on old mid new (Err errors.ParseError) h k a = absurd a
+  settled_goes_on old mid new (Err e) h k a = absurd a
 
 -- the same without those who listen
 module _ (steps : List Step) (step : Step) where
@@ -358,10 +344,7 @@ module _ (steps : List Step) (step : Step) where
   stops_judges old new errors.OutOfMemory a = (a.0, inr (inl (a.2, a.3)))
   stops_judges old new (errors.ProofProcessorError cause) a = (a.0, inl (a.2, a.3))
   stops_judges old new errors.HasFailed a = a
-  stops_judges old new errors.CheckFailed a = absurd a
-  stops_judges old new errors.ProofIncomplete a = absurd a
-  stops_judges old new errors.IoError a = absurd a
-  stops_judges old new errors.ParseError a = absurd a
+  stops_judges old new e a = absurd a
 
   pub goes_on_judges : (old mid new : Kernel) (r : Result Unit CheckerError) → kernels.has_failed old ≡ false → kernels.has_failed mid ≡ false → kernels.AnswersStep r mid step new steps → kernels.AnswersStep r old step new steps
   goes_on_judges old mid new (Ok x) h k a = (h, a.1)
@@ -370,9 +353,7 @@ module _ (steps : List Step) (step : Step) where
   goes_on_judges old mid new (Err errors.OutOfMemory) h k a = (h, a.1)
   goes_on_judges old mid new (Err (errors.ProofProcessorError cause)) h k a = (h, a.1)
   goes_on_judges old mid new (Err errors.HasFailed) h k a = absurd (true≢false (sym a.0 ∙ k))
-  goes_on_judges old mid new (Err errors.ProofIncomplete) h k a = absurd a
-  goes_on_judges old mid new (Err errors.IoError) h k a = absurd a
-  goes_on_judges old mid new (Err errors.ParseError) h k a = absurd a
+  goes_on_judges old mid new (Err e) h k a = absurd a
 
 -- nothing is looked at
 pub stops_looks : (steps : List Step) (old new : Kernel) (e : CheckerError) (n : ℕ) → kernels.has_failed old ≡ false → kernels.AnswersDelayed (Err e) old new steps → kernels.looks_of new ≤ kernels.looks_of old + n
@@ -380,7 +361,4 @@ stops_looks steps old new errors.CounterEnd n h a = let q = a.1 in omega arith
 stops_looks steps old new errors.OutOfMemory n h a = let q = a.1 in omega arith
 stops_looks steps old new (errors.ProofProcessorError cause) n h a = let q = a.1 in omega arith
 stops_looks steps old new errors.HasFailed n h a = absurd (true≢false (sym a.0 ∙ h))
-stops_looks steps old new errors.CheckFailed n h a = absurd a
-stops_looks steps old new errors.ProofIncomplete n h a = absurd a
-stops_looks steps old new errors.IoError n h a = absurd a
-stops_looks steps old new errors.ParseError n h a = absurd a
+stops_looks steps old new e n h a = absurd a

@@ -80,9 +80,7 @@ counted_one words db o h c = elim (cases_eq (get_or db.counts (index_of (header_
 
 index_small : (t : Tier) → index_of t < 4
 index_small Irred = omega arith
-index_small Core = omega arith
-index_small Mid = omega arith
-index_small Local = omega arith
+index_small e = omega arith
 
 -- the numbers with one of them set, where it is read and elsewhere
 set_there : (counts : List ℕ) (a b : Tier) (x : ℕ) → length counts ≡ 4 → index_of a ≡ index_of b → get_or (set counts (index_of a) x) (index_of b) 0 ≡ x

@@ -56,9 +56,7 @@ sides_refl words refs = record { lits = λ o c. refl; sides = λ o c. refl }
 -- a reduction moves learned clauses alone
 learned_middle : (t : Tier) → (index_of t == 2) ≡ true → is_learned t ≡ true
 learned_middle Irred e = absurd (true≢false (sym e))
-learned_middle Core e = refl
-learned_middle Mid e = refl
-learned_middle Local e = refl
+learned_middle x e = refl
 
 reduced_by : (h : Header) (due active : Bool) → (due ≡ true → is_learned h.tier ≡ true) → is_learned (if due then (if active then record h { active = false } else record h { tier = Local }) else h).tier ≡ is_learned h.tier
 reduced_by h false active l = refl

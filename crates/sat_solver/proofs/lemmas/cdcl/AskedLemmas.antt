@@ -15,16 +15,7 @@ kind_of : (names : ℕ → Option ℕ) (step : Step) → IsSearched names step �
 kind_of names (AtClause r c hs) h = refl
 kind_of names (UnitClauses us) h = refl
 kind_of names (DeleteClause c proof) h = refl
-kind_of names (SolverVarName v n) h = absurd h
-kind_of names (UserVarName v n) h = absurd h
-kind_of names (DeleteVar v) h = absurd h
-kind_of names (ChangeSamplingMode v b) h = absurd h
-kind_of names (AddClause c) h = absurd h
-kind_of names (ChangeHashBits n) h = absurd h
-kind_of names (Model ls) h = absurd h
-kind_of names (Assumptions ls) h = absurd h
-kind_of names (FailedAssumptions c hs) h = absurd h
-kind_of names End h = absurd h
+kind_of names step h = absurd h
 
 pub kinds_of : (names : ℕ → Option ℕ) (steps : List Step) → AreSearched names steps → AllByRecursion (λ step. is_searched step ≡ true) steps
 kinds_of names [] h = tt
@@ -76,16 +67,7 @@ one (UnitClauses us) s h = (let k = facts (map (λ u. u.0) us) (knowing_literals
 one (DeleteClause c Redundant) s h = record { asked = refl; names = refl; modes = λ v. refl }
 one (DeleteClause c Simplified) s h = record { asked = refl; names = refl; modes = λ v. refl }
 one (DeleteClause c Satisfied) s h = record { asked = refl; names = refl; modes = λ v. refl }
-one (SolverVarName v n) s h = absurd cc
-one (UserVarName v n) s h = absurd cc
-one (DeleteVar v) s h = absurd cc
-one (ChangeSamplingMode v b) s h = absurd cc
-one (AddClause c) s h = absurd cc
-one (ChangeHashBits n) s h = absurd cc
-one (Model ls) s h = absurd cc
-one (Assumptions ls) s h = absurd cc
-one (FailedAssumptions c hs) s h = absurd cc
-one End s h = absurd cc
+one step s h = absurd cc
 
 all : (steps earlier : List Step) → AllByRecursion (λ step. is_searched step ≡ true) steps → Kept (session_after earlier) (session_after (steps ++ earlier))
 all [] earlier h = kept_refl (session_after earlier)

@@ -36,20 +36,10 @@ searched_both ys xs later earlier written h k =
 -- what may happen where no clause is stored may happen where one is
 pub fault_or : (full : Type 0) (e : SolverError) → IsFault e → IsFaultOr full e
 fault_or full errors.OutOfMemory h = h
-fault_or full errors.StoreFull h = absurd h
 fault_or full (errors.ProofIoError cause) h = h
 fault_or full (errors.ProofProcessorError cause) h = h
 fault_or full errors.CounterEnd h = h
-fault_or full errors.Interrupted h = absurd h
-fault_or full errors.WitnessVariable h = absurd h
-fault_or full errors.AssumedVariable h = absurd h
-fault_or full errors.TooLate h = absurd h
-fault_or full errors.NotInDrat h = absurd h
-fault_or full errors.VariableLimit h = absurd h
-fault_or full errors.HasFailed h = absurd h
-fault_or full errors.Read h = absurd h
-fault_or full errors.Malformed h = absurd h
-fault_or full errors.OutOfRange h = absurd h
+fault_or full e h = absurd h
 
 pub fault_checked : (full : Type 0) (fault : CheckFault) → IsFaultOr full (check_fault_of fault)
 fault_checked full checks.OutOfMemory = tt
@@ -78,21 +68,11 @@ check_loss (checks.Processor cause) p q h = tt
 
 -- behind a call that lost no step
 pub loss_later : {W L : Type 0} {G : Ghosts L} (e : SolverError) (a b c : Proof W L G) → is_lost b ≡ is_lost a → NamesLoss e b c → NamesLoss e a c
-loss_later errors.Interrupted a b c same h = h ∙ same
 loss_later (errors.ProofProcessorError cause) a b c same h = tt
 loss_later (errors.ProofIoError cause) a b c same h = tt
 loss_later errors.OutOfMemory a b c same h = elim h [ inl k ↦ inl (k ∙ same) | inr w ↦ inr w ]
-loss_later errors.WitnessVariable a b c same h = h ∙ same
-loss_later errors.AssumedVariable a b c same h = h ∙ same
-loss_later errors.TooLate a b c same h = h ∙ same
-loss_later errors.NotInDrat a b c same h = h ∙ same
-loss_later errors.StoreFull a b c same h = h ∙ same
-loss_later errors.VariableLimit a b c same h = h ∙ same
 loss_later errors.CounterEnd a b c same h = tt
-loss_later errors.HasFailed a b c same h = h ∙ same
-loss_later errors.Read a b c same h = h ∙ same
-loss_later errors.Malformed a b c same h = h ∙ same
-loss_later errors.OutOfRange a b c same h = h ∙ same
+loss_later e a b c same h = h ∙ same
 
 loss_behind : {A W L : Type 0} {G : Ghosts L} (r : Result A SolverError) (a b c : Proof W L G) → is_lost b ≡ is_lost a → IfErr r (λ e. NamesLoss e b c) → IfErr r (λ e. NamesLoss e a c)
 loss_behind (Ok x) a b c same h = tt
@@ -150,20 +130,9 @@ module _ {W L : Type 0} {G : Ghosts L} (seen : W → Writer) where
   -- a fault behind steps that were made
   pub went_behind : (A : Type 0) (e : SolverError) (xs ys : List Step) (a b c : Proof W L G) → EmitsExactly seen xs a b → EmitsUpToFault {A = A} seen (Err e) ys b c → EmitsUpToFault {A = A} seen (Err e) (ys ++ xs) a c
   went_behind A (errors.ProofIoError cause) xs ys a b c h k = fails_later seen xs ys a b c h k
-  went_behind A errors.Interrupted xs ys a b c h k = adds_more seen xs ys a b c h k
   went_behind A (errors.ProofProcessorError cause) xs ys a b c h k = check_later seen xs ys a b c h k
-  went_behind A errors.OutOfMemory xs ys a b c h k = adds_more seen xs ys a b c h k
-  went_behind A errors.WitnessVariable xs ys a b c h k = adds_more seen xs ys a b c h k
-  went_behind A errors.AssumedVariable xs ys a b c h k = adds_more seen xs ys a b c h k
-  went_behind A errors.TooLate xs ys a b c h k = adds_more seen xs ys a b c h k
-  went_behind A errors.NotInDrat xs ys a b c h k = adds_more seen xs ys a b c h k
-  went_behind A errors.StoreFull xs ys a b c h k = adds_more seen xs ys a b c h k
-  went_behind A errors.VariableLimit xs ys a b c h k = adds_more seen xs ys a b c h k
   went_behind A errors.CounterEnd xs ys a b c h k = check_later seen xs ys a b c h k
-  went_behind A errors.HasFailed xs ys a b c h k = adds_more seen xs ys a b c h k
-  went_behind A errors.Read xs ys a b c h k = adds_more seen xs ys a b c h k
-  went_behind A errors.Malformed xs ys a b c h k = adds_more seen xs ys a b c h k
-  went_behind A errors.OutOfRange xs ys a b c h k = adds_more seen xs ys a b c h k
+  went_behind A e xs ys a b c h k = adds_more seen xs ys a b c h k
 
   -- a call behind another that went well
   pub went_later : {A : Type 0} (r : Result A SolverError) (xs ys : List Step) (a b c : Proof W L G) → EmitsChecked seen xs a b → EmitsUpToFault seen r ys b c → EmitsUpToFault seen r (ys ++ xs) a c
@@ -190,20 +159,7 @@ module _ {W L : Type 0} {G : Ghosts L} (seen : W → Writer) where
 
   pub went_failing : (A B : Type 0) (e : SolverError) (steps : List Step) (a b : Proof W L G) → EmitsUpToFault {A = A} seen (Err e) steps a b → EmitsUpToFault {A = B} seen (Err e) steps a b
   went_failing A B (errors.ProofIoError cause) steps a b h = h
-  went_failing A B errors.Interrupted steps a b h = h
-  went_failing A B (errors.ProofProcessorError cause) steps a b h = h
-  went_failing A B errors.OutOfMemory steps a b h = h
-  went_failing A B errors.WitnessVariable steps a b h = h
-  went_failing A B errors.AssumedVariable steps a b h = h
-  went_failing A B errors.TooLate steps a b h = h
-  went_failing A B errors.NotInDrat steps a b h = h
-  went_failing A B errors.StoreFull steps a b h = h
-  went_failing A B errors.VariableLimit steps a b h = h
-  went_failing A B errors.CounterEnd steps a b h = h
-  went_failing A B errors.HasFailed steps a b h = h
-  went_failing A B errors.Read steps a b h = h
-  went_failing A B errors.Malformed steps a b h = h
-  went_failing A B errors.OutOfRange steps a b h = h
+  went_failing A B e steps a b h = h
 
   -- the same, where the second call's answer speaks of the steps before it
   pub goes_behind : {A B full : Type 0} {learns : Bool} (x : A) (r : Result B SolverError) (a b c : Proof W L G) (P : A → List Step → Type 0) (Q R : B → List Step → Type 0) → EmitsSteps seen (Ok x) a b P → EmitsStepsWith full learns seen r b c Q →

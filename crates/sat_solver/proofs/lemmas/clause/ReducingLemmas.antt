@@ -40,9 +40,7 @@ clause_stands p o h live = h.below.asks.clauses.laid.clauses o live
 
 local_learned : (tier : Tier) → index_of tier ≡ 3 → is_learned tier ≡ true
 local_learned Irred e = absurd (omega (arith, e))
-local_learned Core e = refl
-local_learned Mid e = refl
-local_learned Local e = refl
+local_learned x e = refl
 
 second_true : (a b : Bool) → (a && b) ≡ true → b ≡ true
 second_true true b e = e

@@ -58,11 +58,7 @@ plain_without r set s h q other c = h q other (less_positive (same_side r q && s
 
 plain_changed : (step : Step) (s : Session) → ArePlain s → ArePlain (changed step s)
 plain_changed (SolverVarName v None) s h = h
-plain_changed (SolverVarName v (Some name)) s h = h
 plain_changed (UserVarName v (Some name)) s h = h
-plain_changed (UserVarName v None) s h = h
-plain_changed (DeleteVar v) s h = h
-plain_changed (ChangeSamplingMode v sample) s h = h
 plain_changed (AddClause clause) s h = go s.unsat
   where
     go : (b : Bool) → ArePlain (cond b s (with_live_clause false clause (knowing_literals clause s)))
@@ -75,11 +71,7 @@ plain_changed (UnitClauses us) s h =
 plain_changed (DeleteClause clause Redundant) s h = plain_without true (canonical clause) s h
 plain_changed (DeleteClause clause Simplified) s h = plain_without false (canonical clause) s h
 plain_changed (DeleteClause clause Satisfied) s h = plain_without false (canonical clause) s h
-plain_changed (ChangeHashBits bits) s h = h
-plain_changed (Model ls) s h = h
-plain_changed (Assumptions ls) s h = h
-plain_changed (FailedAssumptions core hashes) s h = h
-plain_changed End s h = h
+plain_changed step s h = h
 
 -- whatever steps there were
 pub sessions_are_plain : (steps : List Step) → ArePlain (session_after steps)

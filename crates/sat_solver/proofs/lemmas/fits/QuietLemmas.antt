@@ -156,15 +156,4 @@ clause_never s clause hashes may few l o = elim may [
 pub quiet_never : QuietNeverAdvances
 quiet_never s (AtClause redundant [] hashes) may quiet = λ l o. true≢false (sym o.among)
 quiet_never s (AtClause redundant (k ∷ ks) hashes) may quiet = clause_never s (k ∷ ks) hashes may quiet
-quiet_never s (SolverVarName v name) may quiet = tt
-quiet_never s (UserVarName v name) may quiet = tt
-quiet_never s (DeleteVar v) may quiet = tt
-quiet_never s (ChangeSamplingMode v sample) may quiet = tt
-quiet_never s (AddClause clause) may quiet = tt
-quiet_never s (UnitClauses us) may quiet = tt
-quiet_never s (DeleteClause clause proof) may quiet = tt
-quiet_never s (ChangeHashBits bits) may quiet = tt
-quiet_never s (Model ls) may quiet = tt
-quiet_never s (Assumptions ls) may quiet = tt
-quiet_never s (FailedAssumptions core hashes) may quiet = tt
-quiet_never s End may quiet = tt
+quiet_never s step may quiet = tt

@@ -83,17 +83,13 @@ strict_by last f clause h m = subst (λ o. IsStrictSubset o clause) (sym (h m.pa
 pub accepts_view : (step : Step) (last : Option (List ℕ)) (f : Stored) → TidyClauses f.clauses → LastIs last f → May (view last f) step → Accepts f step
 accepts_view (SolverVarName v name) last f t l m = tt
 accepts_view (UserVarName v (Some name)) last f t l m = record { free = m.free; nameless = m.nameless; not_hidden = m.not_hidden }
-accepts_view (UserVarName v None) last f t l m = m
 accepts_view (DeleteVar v) last f t l m = record { known = m.known; nameless = m.nameless; unused = unused_by f last v m f.clauses (found f.clauses t.once) t.counted; not_assumed = m.not_assumed }
-accepts_view (ChangeSamplingMode v sample) last f t l m = m
-accepts_view (AddClause clause) last f t l m = m
 accepts_view (AtClause r clause hashes) last f t l m = passes f last clause hashes m
 accepts_view (UnitClauses us) last f t l m = pass_in_turn us last f m
-accepts_view (DeleteClause clause Redundant) last f t l m = m
-accepts_view (DeleteClause clause Satisfied) last f t l m = m
 accepts_view (DeleteClause clause Simplified) last f t l m = (m.0, strict_by last f clause l m.1)
 accepts_view (ChangeHashBits bits) last f t l m = tt
 accepts_view (Model ls) last f t l m = record { consistent = m.consistent; apart = m.apart; units = each_member (λ u. is_among ls (negated u) ≡ false) (unit_literals f) m.units; clauses = modelled f last ls m f.clauses (found f.clauses t.once) }
 accepts_view (Assumptions ls) last f t l m = tt
 accepts_view (FailedAssumptions core hashes) last f t l m = (m.0, core_passes f last core hashes m.1)
 accepts_view End last f t l m = tt
+accepts_view step last f t l m = m

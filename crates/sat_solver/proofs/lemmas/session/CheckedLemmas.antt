@@ -227,12 +227,7 @@ module _ {L : Type 0} (takes : L → Told → Result Unit Error → L → Type 0
   taken_in (Ok x) old new one bits a added steps unbegun fed = listens_more old new one added steps unbegun fed bits a.1 a.2
   taken_in (Err errors.OutOfMemory) old new one bits a added steps unbegun fed = (tt, (refl, subst (λ (z : Listeners _ Nobody). Heard takes added z steps) (sym a.2) (fed_heard takes old added steps fed)))
   taken_in (Err errors.HasFailed) old new one bits a added steps unbegun fed = absurd (true≢false (sym a.0 ∙ fed.going))
-  taken_in (Err errors.CheckFailed) old new one bits a added steps unbegun fed = absurd a
-  taken_in (Err errors.CounterEnd) old new one bits a added steps unbegun fed = absurd a
-  taken_in (Err (errors.ProofProcessorError cause)) old new one bits a added steps unbegun fed = absurd a
-  taken_in (Err errors.ProofIncomplete) old new one bits a added steps unbegun fed = absurd a
-  taken_in (Err errors.IoError) old new one bits a added steps unbegun fed = absurd a
-  taken_in (Err errors.ParseError) old new one bits a added steps unbegun fed = absurd a
+  taken_in (Err e) old new one bits a added steps unbegun fed = absurd a
 
 -- ALL STEPS THAT WERE MADE
 
@@ -244,21 +239,12 @@ cause_prop : (e : CheckerError) → IsProp (IsCause e)
 cause_prop errors.OutOfMemory = λ x y. refl
 cause_prop errors.CounterEnd = λ x y. refl
 cause_prop (errors.ProofProcessorError cause) = λ x y. refl
-cause_prop errors.CheckFailed = λ x y. absurd x
-cause_prop errors.HasFailed = λ x y. absurd x
-cause_prop errors.ProofIncomplete = λ x y. absurd x
-cause_prop errors.IoError = λ x y. absurd x
-cause_prop errors.ParseError = λ x y. absurd x
+cause_prop e = λ x y. absurd x
 
 starved_stable : (e : CheckerError) → ∥ cause_in e ≡ checks.OutOfMemory ∥₁ → cause_in e ≡ checks.OutOfMemory
-starved_stable errors.OutOfMemory h = refl
 starved_stable errors.CounterEnd h = absurd (∥∥₁_elim h (λ a b. absurd a) (λ q. cc))
 starved_stable (errors.ProofProcessorError cause) h = absurd (∥∥₁_elim h (λ a b. absurd a) (λ q. cc))
-starved_stable errors.CheckFailed h = refl
-starved_stable errors.HasFailed h = refl
-starved_stable errors.ProofIncomplete h = refl
-starved_stable errors.IoError h = refl
-starved_stable errors.ParseError h = refl
+starved_stable e h = refl
 
 -- where nobody was added no processor answers a fault
 module _ {L : Type 0} (takes : L → Told → Result Unit Error → L → Type 0) where

@@ -211,11 +211,8 @@ moved s t ps a b c k = record {
 
 step_kept : (step : Step) (s : Session) (ps : List (List ℕ)) → Kept s ps → May s step → Kept (after step s) (behind_step step ps)
 step_kept (SolverVarName v None) s ps k m = moved s (after (SolverVarName v None) s) ps refl refl refl k
-step_kept (SolverVarName v (Some name)) s ps k m = moved s (after (SolverVarName v (Some name)) s) ps refl refl refl k
 step_kept (UserVarName v None) s ps k m = moved s (after (UserVarName v None) s) ps refl refl refl k
-step_kept (UserVarName v (Some name)) s ps k m = moved s (after (UserVarName v (Some name)) s) ps refl refl refl k
 step_kept (DeleteVar v) s ps k m = record { counts = k.counts; long = k.long; units = λ l e. k.units l (and_parts (s.units l) (not (eqb (variable l) v)) e).0; unsat = k.unsat }
-step_kept (ChangeSamplingMode v sample) s ps k m = moved s (after (ChangeSamplingMode v sample) s) ps refl refl refl k
 step_kept (AddClause clause) s ps k m = go s.unsat
   where
     known : Session
@@ -238,11 +235,7 @@ step_kept (UnitClauses us) s ps k m =
 step_kept (DeleteClause clause Redundant) s ps k m = let w = without_kept true (canonical clause) s ps m k in record { counts = w.counts; long = w.long; units = w.units; unsat = w.unsat }
 step_kept (DeleteClause clause Simplified) s ps k m = let w = without_kept false (canonical clause) s ps m.0 k in record { counts = w.counts; long = w.long; units = w.units; unsat = w.unsat }
 step_kept (DeleteClause clause Satisfied) s ps k m = let w = without_kept false (canonical clause) s ps m.0 k in record { counts = w.counts; long = w.long; units = w.units; unsat = w.unsat }
-step_kept (ChangeHashBits bits) s ps k m = moved s (after (ChangeHashBits bits) s) ps refl refl refl k
-step_kept (Model ls) s ps k m = moved s (after (Model ls) s) ps refl refl refl k
-step_kept (Assumptions ls) s ps k m = moved s (after (Assumptions ls) s) ps refl refl refl k
-step_kept (FailedAssumptions core hashes) s ps k m = moved s (after (FailedAssumptions core hashes) s) ps refl refl refl k
-step_kept End s ps k m = moved s (after End s) ps refl refl refl k
+step_kept step s ps k m = moved s (after step s) ps refl refl refl k
 
 -- a clause that may be deleted is present
 present_of : (r : Bool) (set : List ℕ) (s : Session) (ps : List (List ℕ)) → Kept s ps → 0 < s.live r set → 0 < times set ps
@@ -255,16 +248,7 @@ step_stands (UnitClauses us) s ps k m = units_stand us s ps k m
 step_stands (DeleteClause clause Redundant) s ps k m = (present_of true (canonical clause) s ps k m, tt)
 step_stands (DeleteClause clause Simplified) s ps k m = (present_of false (canonical clause) s ps k m.0, tt)
 step_stands (DeleteClause clause Satisfied) s ps k m = (present_of false (canonical clause) s ps k m.0, tt)
-step_stands (SolverVarName v name) s ps k m = tt
-step_stands (UserVarName v name) s ps k m = tt
-step_stands (DeleteVar v) s ps k m = tt
-step_stands (ChangeSamplingMode v sample) s ps k m = tt
-step_stands (AddClause clause) s ps k m = tt
-step_stands (ChangeHashBits bits) s ps k m = tt
-step_stands (Model ls) s ps k m = tt
-step_stands (Assumptions ls) s ps k m = tt
-step_stands (FailedAssumptions core hashes) s ps k m = tt
-step_stands End s ps k m = tt
+step_stands step s ps k m = tt
 
 none_false : {A : Type 0} → false ≡ true → A
 none_false e = absurd (true≢false (sym e))

@@ -8,19 +8,13 @@ use Rattle.sat_solver.specs.session.Due.{kept_if, ordered_of, without_hashes, Wi
 -- one step, before the earlier ones
 one_kept : (w : ℕ) (step : Step) (xs ys : List Step) → map without_hashes xs ≡ map without_hashes ys
     → map without_hashes (kept_if (is_ordered (narrowed w step)) (narrowed w step) xs) ≡ map without_hashes (kept_if (is_ordered step) step ys)
-one_kept w (SolverVarName v name) xs ys e = e
 one_kept w (UserVarName v name) xs ys e = ap (λ z. UserVarName v name ∷ z) e
-one_kept w (DeleteVar v) xs ys e = e
-one_kept w (ChangeSamplingMode v sample) xs ys e = e
 one_kept w (AddClause clause) xs ys e = ap (λ z. AddClause clause ∷ z) e
-one_kept w (AtClause r clause hashes) xs ys e = e
-one_kept w (UnitClauses us) xs ys e = e
-one_kept w (DeleteClause clause proof) xs ys e = e
-one_kept w (ChangeHashBits bits) xs ys e = e
 one_kept w (Model ls) xs ys e = ap (λ z. Model ls ∷ z) e
 one_kept w (Assumptions ls) xs ys e = ap (λ z. Assumptions ls ∷ z) e
 one_kept w (FailedAssumptions core hashes) xs ys e = ap (λ z. FailedAssumptions core [] ∷ z) e
 one_kept w End xs ys e = ap (λ z. End ∷ z) e
+one_kept w step xs ys e = e
 
 order_kept : {wide text : List Step} {width : ℕ} → IsNarrowedTo wide text width → map without_hashes (ordered_of text) ≡ map without_hashes (ordered_of wide)
 order_kept none_yet = refl

@@ -60,11 +60,7 @@ clause_at o r clause s = go (is_tautology clause)
 -- what a step changes
 changed_at : (o : Option (List ℕ)) (step : Step) (s : Session) → changed step (at o s) ≡ at o (changed step s)
 changed_at o (SolverVarName v None) s = refl
-changed_at o (SolverVarName v (Some name)) s = refl
 changed_at o (UserVarName v (Some name)) s = refl
-changed_at o (UserVarName v None) s = refl
-changed_at o (DeleteVar v) s = refl
-changed_at o (ChangeSamplingMode v sample) s = refl
 changed_at o (AddClause clause) s = go s.unsat
   where
     go : (b : Bool) → cond b (at o s) (with_live_clause false clause (knowing_literals clause (at o s))) ≡ at o (cond b s (with_live_clause false clause (knowing_literals clause s)))
@@ -73,13 +69,7 @@ changed_at o (AddClause clause) s = go s.unsat
 changed_at o (AtClause r clause hashes) s = clause_at o r clause (knowing_literals clause s)
 changed_at o (UnitClauses us) s = facts_at o (map (λ u. u.0) us) (knowing_literals (map (λ u. u.0) us) s)
 changed_at o (DeleteClause clause Redundant) s = refl
-changed_at o (DeleteClause clause Simplified) s = refl
-changed_at o (DeleteClause clause Satisfied) s = refl
-changed_at o (ChangeHashBits bits) s = refl
-changed_at o (Model ls) s = refl
-changed_at o (Assumptions ls) s = refl
-changed_at o (FailedAssumptions core hashes) s = refl
-changed_at o End s = refl
+changed_at o step s = refl
 
 -- the last clause is kept, at least
 abbrev Longer : Option (List ℕ) → Option (List ℕ) → Type 0
@@ -92,38 +82,23 @@ longer_none : (o : Option (List ℕ)) → Longer None o
 longer_none o part e = absurd (none_some part e)
 
 longer_after : (step : Step) (a b : Option (List ℕ)) → Longer a b → Longer (last_after step a) (last_after step b)
-longer_after (SolverVarName v name) a b h = λ part e. e
-longer_after (UserVarName v name) a b h = λ part e. e
-longer_after (DeleteVar v) a b h = λ part e. e
-longer_after (ChangeSamplingMode v sample) a b h = λ part e. e
-longer_after (AddClause clause) a b h = λ part e. e
-longer_after (AtClause r clause hashes) a b h = λ part e. e
-longer_after (UnitClauses us) a b h = λ part e. e
-longer_after (DeleteClause clause proof) a b h = λ part e. e
 longer_after (ChangeHashBits bits) a b h = h
-longer_after (Model ls) a b h = λ part e. e
-longer_after (Assumptions ls) a b h = λ part e. e
-longer_after (FailedAssumptions core hashes) a b h = λ part e. e
-longer_after End a b h = λ part e. e
+longer_after step a b h = λ part e. e
 
 -- what may be made may be where the last clause is kept
 may_longer : (o : Option (List ℕ)) (step : Step) (s : Session) → Longer s.last o → May s step → May (at o s) step
 may_longer o (SolverVarName v name) s l m = tt
 may_longer o (UserVarName v (Some name)) s l m = record { free = m.free; nameless = m.nameless; not_hidden = m.not_hidden }
-may_longer o (UserVarName v None) s l m = m
 may_longer o (DeleteVar v) s l m = record { known = m.known; nameless = m.nameless; hidden = m.hidden; unused = m.unused; not_assumed = m.not_assumed }
-may_longer o (ChangeSamplingMode v sample) s l m = m
-may_longer o (AddClause clause) s l m = m
 may_longer o (AtClause r clause hashes) s l m = derive_at o s clause hashes m
 may_longer o (UnitClauses us) s l m = prove_at o us s m
-may_longer o (DeleteClause clause Redundant) s l m = m
-may_longer o (DeleteClause clause Satisfied) s l m = m
 may_longer o (DeleteClause clause Simplified) s l m = (m.0, record { part = m.1.part; last = l m.1.part m.1.last; within = m.1.within; strict = m.1.strict })
 may_longer o (ChangeHashBits bits) s l m = tt
 may_longer o (Model ls) s l m = record { consistent = m.consistent; apart = m.apart; units = m.units; clauses = m.clauses }
 may_longer o (Assumptions ls) s l m = tt
 may_longer o (FailedAssumptions core hashes) s l m = (m.0, fail_at o s core hashes m.1)
 may_longer o End s l m = tt
+may_longer o step s l m = m
 
 -- the session without ends is the same, but for the last clause, which it keeps longer
 record Alike (s t : Session) : Type 0 where
@@ -140,19 +115,8 @@ alike_ended : (s t : Session) → Alike s t → Alike (after End s) t
 alike_ended s t h = record { same = h.same; longer = longer_none t.last }
 
 alike_next : (step : Step) (steps : List Step) → Alike (session_after steps) (session_after (unended steps)) → Alike (session_after (step ∷ steps)) (session_after (unended (step ∷ steps)))
-alike_next (SolverVarName v name) steps h = alike_after (SolverVarName v name) _ _ h
-alike_next (UserVarName v name) steps h = alike_after (UserVarName v name) _ _ h
-alike_next (DeleteVar v) steps h = alike_after (DeleteVar v) _ _ h
-alike_next (ChangeSamplingMode v sample) steps h = alike_after (ChangeSamplingMode v sample) _ _ h
-alike_next (AddClause clause) steps h = alike_after (AddClause clause) _ _ h
-alike_next (AtClause r clause hashes) steps h = alike_after (AtClause r clause hashes) _ _ h
-alike_next (UnitClauses us) steps h = alike_after (UnitClauses us) _ _ h
-alike_next (DeleteClause clause proof) steps h = alike_after (DeleteClause clause proof) _ _ h
-alike_next (ChangeHashBits bits) steps h = alike_after (ChangeHashBits bits) _ _ h
-alike_next (Model ls) steps h = alike_after (Model ls) _ _ h
-alike_next (Assumptions ls) steps h = alike_after (Assumptions ls) _ _ h
-alike_next (FailedAssumptions core hashes) steps h = alike_after (FailedAssumptions core hashes) _ _ h
 alike_next End steps h = alike_ended _ _ h
+alike_next step steps h = alike_after step _ _ h
 
 alike : (steps : List Step) → Alike (session_after steps) (session_after (unended steps))
 alike [] = record { same = refl; longer = λ part e. e }
@@ -162,19 +126,8 @@ may_alike : (step : Step) (s t : Session) → Alike s t → May s step → May t
 may_alike step s t h m = subst (λ x. May x step) (sym h.same) (may_longer t.last step s h.longer m)
 
 may_next : (step : Step) (steps : List Step) → MayAll (unended steps) → May (session_after steps) step → MayAll (unended (step ∷ steps))
-may_next (SolverVarName v name) steps h m = (h, may_alike (SolverVarName v name) _ _ (alike steps) m)
-may_next (UserVarName v name) steps h m = (h, may_alike (UserVarName v name) _ _ (alike steps) m)
-may_next (DeleteVar v) steps h m = (h, may_alike (DeleteVar v) _ _ (alike steps) m)
-may_next (ChangeSamplingMode v sample) steps h m = (h, may_alike (ChangeSamplingMode v sample) _ _ (alike steps) m)
-may_next (AddClause clause) steps h m = (h, may_alike (AddClause clause) _ _ (alike steps) m)
-may_next (AtClause r clause hashes) steps h m = (h, may_alike (AtClause r clause hashes) _ _ (alike steps) m)
-may_next (UnitClauses us) steps h m = (h, may_alike (UnitClauses us) _ _ (alike steps) m)
-may_next (DeleteClause clause proof) steps h m = (h, may_alike (DeleteClause clause proof) _ _ (alike steps) m)
-may_next (ChangeHashBits bits) steps h m = (h, may_alike (ChangeHashBits bits) _ _ (alike steps) m)
-may_next (Model ls) steps h m = (h, may_alike (Model ls) _ _ (alike steps) m)
-may_next (Assumptions ls) steps h m = (h, may_alike (Assumptions ls) _ _ (alike steps) m)
-may_next (FailedAssumptions core hashes) steps h m = (h, may_alike (FailedAssumptions core hashes) _ _ (alike steps) m)
 may_next End steps h m = h
+may_next step steps h m = (h, may_alike step _ _ (alike steps) m)
 
 -- what may be made in turn may be without the ends
 pub unended_may : (steps : List Step) → MayAll steps → MayAll (unended steps)

@@ -89,9 +89,7 @@ module _ {L : Type 0} (takes : L → Told → Result Unit Error → L → Type 0
     answered (Err (errors.ProofProcessorError cause)) step may a = (tt, up_to step (faults.ProofProcessorError cause) a.1)
     answered (Err errors.CheckFailed) step may a = absurd (a.1 (sessions_are_accepted (step ∷ written) may).0.1)
     answered (Err errors.HasFailed) step may a = absurd (true≢false (sym a.0 ∙ going))
-    answered (Err errors.ProofIncomplete) step may a = absurd a
-    answered (Err errors.IoError) step may a = absurd a
-    answered (Err errors.ParseError) step may a = absurd a
+    answered (Err e) step may a = absurd a
 
     -- an answer to what waits
     pub answered_delayed : (r : Result (Unit {0}) CheckerError) → AnswersDelayed (Hears takes) [] begun r old new written
@@ -101,7 +99,4 @@ module _ {L : Type 0} (takes : L → Told → Result Unit Error → L → Type 0
     answered_delayed (Err errors.CounterEnd) a = (tt, (inr a.2, a.3.heard))
     answered_delayed (Err (errors.ProofProcessorError cause)) a = (tt, inr a.3.heard)
     answered_delayed (Err errors.HasFailed) a = absurd (true≢false (sym a.0 ∙ going))
-    answered_delayed (Err errors.CheckFailed) a = absurd a
-    answered_delayed (Err errors.ProofIncomplete) a = absurd a
-    answered_delayed (Err errors.IoError) a = absurd a
-    answered_delayed (Err errors.ParseError) a = absurd a
+    answered_delayed (Err e) a = absurd a

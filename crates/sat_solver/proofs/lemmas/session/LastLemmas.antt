@@ -33,17 +33,7 @@ last_kept (AtClause true clause hashes) last f o h want e = absurd (go (is_tauto
     go false k = no_last want k
 last_kept (AtClause false clause hashes) last f o h want e = last_derived (is_tautology clause) (canonical clause) (with_literals_known clause f) o want e
 last_kept (ChangeHashBits bits) last f o h want e = last_stays f (ChangeHashBits bits) refl ∙ h want e
-last_kept (SolverVarName v name) last f o h want e = absurd (no_last want e)
-last_kept (UserVarName v name) last f o h want e = absurd (no_last want e)
-last_kept (DeleteVar v) last f o h want e = absurd (no_last want e)
-last_kept (ChangeSamplingMode v sample) last f o h want e = absurd (no_last want e)
-last_kept (AddClause clause) last f o h want e = absurd (no_last want e)
-last_kept (UnitClauses us) last f o h want e = absurd (no_last want e)
-last_kept (DeleteClause clause proof) last f o h want e = absurd (no_last want e)
-last_kept (Model ls) last f o h want e = absurd (no_last want e)
-last_kept (Assumptions ls) last f o h want e = absurd (no_last want e)
-last_kept (FailedAssumptions core hashes) last f o h want e = absurd (no_last want e)
-last_kept End last f o h want e = absurd (no_last want e)
+last_kept step last f o h want e = absurd (no_last want e)
 
 -- a settled conflict leaves the last clause
 pub last_settled : (last : Option (List ℕ)) (f : Stored) → LastIs last f → LastIs last (settled f)

@@ -96,11 +96,7 @@ firsts w (u ∷ us) = ap (λ ls. u.0 ∷ ls) (firsts w us)
 -- a step, at another width
 changed_at : (w : ℕ) (step : Step) (s : Session) → KeepsWidth step → changed (narrowed w step) (at w s) ≡ at w (changed step s)
 changed_at w (SolverVarName v None) s k = refl
-changed_at w (SolverVarName v (Some name)) s k = refl
 changed_at w (UserVarName v (Some name)) s k = refl
-changed_at w (UserVarName v None) s k = refl
-changed_at w (DeleteVar v) s k = refl
-changed_at w (ChangeSamplingMode v sample) s k = refl
 changed_at w (AddClause clause) s k = go s.unsat
   where
     go : (b : Bool) → cond b (at w s) (with_live_clause false clause (knowing_literals clause (at w s))) ≡ at w (cond b s (with_live_clause false clause (knowing_literals clause s)))
@@ -110,29 +106,13 @@ changed_at w (AtClause r clause hashes) s k = clause_at w r clause (knowing_lite
 changed_at w (UnitClauses us) s k =
     ap (λ ls. with_facts ls (knowing_literals ls (at w s))) (firsts w us) ∙ facts_at w (map (λ u. u.0) us) (knowing_literals (map (λ u. u.0) us) s)
 changed_at w (DeleteClause clause Redundant) s k = refl
-changed_at w (DeleteClause clause Simplified) s k = refl
-changed_at w (DeleteClause clause Satisfied) s k = refl
 changed_at w (ChangeHashBits bits) s k = absurd k
-changed_at w (Model ls) s k = refl
-changed_at w (Assumptions ls) s k = refl
-changed_at w (FailedAssumptions core hashes) s k = refl
-changed_at w End s k = refl
+changed_at w step s k = refl
 
 -- the last irredundant clause does not look at hashes
 last_at : (w : ℕ) (step : Step) (last : Option (List ℕ)) → last_after (narrowed w step) last ≡ last_after step last
 last_at w (SolverVarName v name) last = refl
-last_at w (UserVarName v name) last = refl
-last_at w (DeleteVar v) last = refl
-last_at w (ChangeSamplingMode v sample) last = refl
-last_at w (AddClause clause) last = refl
-last_at w (AtClause r clause hashes) last = refl
-last_at w (UnitClauses us) last = refl
-last_at w (DeleteClause clause proof) last = refl
-last_at w (ChangeHashBits bits) last = refl
-last_at w (Model ls) last = refl
-last_at w (Assumptions ls) last = refl
-last_at w (FailedAssumptions core hashes) last = refl
-last_at w End last = refl
+last_at w step last = refl
 
 -- what a step leaves, at another width
 pub after_at : (w : ℕ) (step : Step) (s : Session) → KeepsWidth step → after (narrowed w step) (at w s) ≡ at w (after step s)
@@ -142,20 +122,16 @@ after_at w step s k = λ i. record (changed_at w step s k i) { last = last_at w 
 pub may_at : (w : ℕ) (step : Step) (s : Session) → s.width ≡ 64 → May s step → May (at w s) (narrowed w step)
 may_at w (SolverVarName v name) s e m = tt
 may_at w (UserVarName v (Some name)) s e m = record { free = m.free; nameless = m.nameless; not_hidden = m.not_hidden }
-may_at w (UserVarName v None) s e m = m
 may_at w (DeleteVar v) s e m = record { known = m.known; nameless = m.nameless; hidden = m.hidden; unused = m.unused; not_assumed = m.not_assumed }
-may_at w (ChangeSamplingMode v sample) s e m = m
-may_at w (AddClause clause) s e m = m
 may_at w (AtClause r clause hashes) s e m = derive_at w s e clause hashes m
 may_at w (UnitClauses us) s e m = prove_at w us s e m
-may_at w (DeleteClause clause Redundant) s e m = m
-may_at w (DeleteClause clause Satisfied) s e m = m
 may_at w (DeleteClause clause Simplified) s e m = (m.0, record { part = m.1.part; last = m.1.last; within = m.1.within; strict = m.1.strict })
 may_at w (ChangeHashBits bits) s e m = tt
 may_at w (Model ls) s e m = record { consistent = m.consistent; apart = m.apart; units = m.units; clauses = m.clauses }
 may_at w (Assumptions ls) s e m = tt
 may_at w (FailedAssumptions core hashes) s e m = (m.0, fail_at w s e core hashes m.1)
 may_at w End s e m = tt
+may_at w step s e m = m
 
 -- the width stays 64 where no step changes it
 sorted_width : (r : Bool) (set : List ℕ) (s : Session) → (with_sorted r set s).width ≡ s.width
@@ -179,11 +155,7 @@ facts_width (l ∷ ls) s = facts_width ls (with_fact l s) ∙ fact_width l s
 -- a step leaves the width
 changed_width : (step : Step) (s : Session) → KeepsWidth step → (changed step s).width ≡ s.width
 changed_width (SolverVarName v None) s k = refl
-changed_width (SolverVarName v (Some name)) s k = refl
 changed_width (UserVarName v (Some name)) s k = refl
-changed_width (UserVarName v None) s k = refl
-changed_width (DeleteVar v) s k = refl
-changed_width (ChangeSamplingMode v sample) s k = refl
 changed_width (AddClause clause) s k = go s.unsat
   where
     go : (b : Bool) → (cond b s (with_live_clause false clause (knowing_literals clause s))).width ≡ s.width
@@ -192,13 +164,8 @@ changed_width (AddClause clause) s k = go s.unsat
 changed_width (AtClause r clause hashes) s k = clause_width r clause (knowing_literals clause s)
 changed_width (UnitClauses us) s k = facts_width (map (λ u. u.0) us) (knowing_literals (map (λ u. u.0) us) s)
 changed_width (DeleteClause clause Redundant) s k = refl
-changed_width (DeleteClause clause Simplified) s k = refl
-changed_width (DeleteClause clause Satisfied) s k = refl
 changed_width (ChangeHashBits bits) s k = absurd k
-changed_width (Model ls) s k = refl
-changed_width (Assumptions ls) s k = refl
-changed_width (FailedAssumptions core hashes) s k = refl
-changed_width End s k = refl
+changed_width step s k = refl
 
 -- what is written for steps may be written, and the steps themselves are at 64 bits
 written_may : {wide written : List Step} {width : ℕ} → IsNarrowedTo wide written width → MayAll wide → MayAt wide written width × (session_after wide).width ≡ 64

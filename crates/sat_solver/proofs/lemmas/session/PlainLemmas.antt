@@ -38,11 +38,7 @@ clause_unsat r clause s u = go (is_tautology clause)
 -- behind each step
 pub unsat_stays : (step : Step) (s : Session) → s.unsat ≡ true → (after step s).unsat ≡ true
 unsat_stays (SolverVarName v None) s u = u
-unsat_stays (SolverVarName v (Some name)) s u = u
 unsat_stays (UserVarName v (Some name)) s u = u
-unsat_stays (UserVarName v None) s u = u
-unsat_stays (DeleteVar v) s u = u
-unsat_stays (ChangeSamplingMode v sample) s u = u
 unsat_stays (AddClause clause) s u = go s.unsat
   where
     go : (b : Bool) → (cond b s (with_live_clause false clause (knowing_literals clause s))).unsat ≡ true
@@ -51,12 +47,6 @@ unsat_stays (AddClause clause) s u = go s.unsat
 unsat_stays (AtClause r clause hashes) s u = clause_unsat r clause (knowing_literals clause s) u
 unsat_stays (UnitClauses us) s u = facts_unsat (map (λ u. u.0) us) (knowing_literals (map (λ u. u.0) us) s) u
 unsat_stays (DeleteClause clause Redundant) s u = u
-unsat_stays (DeleteClause clause Simplified) s u = u
-unsat_stays (DeleteClause clause Satisfied) s u = u
-unsat_stays (ChangeHashBits bits) s u = u
-unsat_stays (Model ls) s u = u
-unsat_stays (Assumptions ls) s u = u
-unsat_stays (FailedAssumptions core hashes) s u = u
-unsat_stays End s u = u
+unsat_stays step s u = u
 
 -- STEPS

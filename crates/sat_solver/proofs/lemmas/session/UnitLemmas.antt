@@ -62,11 +62,8 @@ without units gone h l t = go (units l) refl (units (negated l)) refl t
 
 step_consistent : (step : Step) (s : Session) → AreConsistent s.units → AreConsistent (after step s).units
 step_consistent (SolverVarName v None) s h = h
-step_consistent (SolverVarName v (Some name)) s h = h
 step_consistent (UserVarName v (Some name)) s h = h
-step_consistent (UserVarName v None) s h = h
 step_consistent (DeleteVar v) s h = without s.units (λ l. not (eqb (variable l) v)) h
-step_consistent (ChangeSamplingMode v sample) s h = h
 step_consistent (AddClause clause) s h = go s.unsat
   where
     go : (b : Bool) → AreConsistent (cond b s (with_live_clause false clause (knowing_literals clause s))).units
@@ -75,13 +72,7 @@ step_consistent (AddClause clause) s h = go s.unsat
 step_consistent (AtClause r clause hashes) s h = clause_consistent r clause (knowing_literals clause s) h
 step_consistent (UnitClauses us) s h = facts_consistent (map (λ u. u.0) us) (knowing_literals (map (λ u. u.0) us) s) h
 step_consistent (DeleteClause clause Redundant) s h = h
-step_consistent (DeleteClause clause Simplified) s h = h
-step_consistent (DeleteClause clause Satisfied) s h = h
-step_consistent (ChangeHashBits bits) s h = h
-step_consistent (Model ls) s h = h
-step_consistent (Assumptions ls) s h = h
-step_consistent (FailedAssumptions core hashes) s h = h
-step_consistent End s h = h
+step_consistent step s h = h
 
 pub units_consistent : (steps : List Step) → AreConsistent (session_after steps).units
 units_consistent [] l t = absurd (true≢false (sym t))

@@ -57,11 +57,7 @@ module _ (last : Option (List ℕ)) where
   -- a step makes of contents and session the same
   of_step : (step : Step) (c : Contents) → with_contents last (contents_after step c) ≡ changed step (with_contents last c)
   of_step (SolverVarName v None) c = refl
-  of_step (SolverVarName v (Some name)) c = refl
   of_step (UserVarName v (Some name)) c = refl
-  of_step (UserVarName v None) c = refl
-  of_step (DeleteVar v) c = refl
-  of_step (ChangeSamplingMode v sample) c = refl
   of_step (AddClause clause) c = go c.unsat
     where
       go : (b : Bool) → with_contents last (cond b c (clause_more false clause (literals_known clause c))) ≡ cond b (with_contents last c) (with_live_clause false clause (with_contents last (literals_known clause c)))
@@ -70,13 +66,7 @@ module _ (last : Option (List ℕ)) where
   of_step (AtClause r clause hashes) c = of_clause r clause (literals_known clause c)
   of_step (UnitClauses us) c = let ls : List ℕ = map (λ u. u.0) us in of_units ls (literals_known ls c)
   of_step (DeleteClause clause Redundant) c = refl
-  of_step (DeleteClause clause Simplified) c = refl
-  of_step (DeleteClause clause Satisfied) c = refl
-  of_step (ChangeHashBits bits) c = refl
-  of_step (Model ls) c = refl
-  of_step (Assumptions ls) c = refl
-  of_step (FailedAssumptions core hashes) c = refl
-  of_step End c = refl
+  of_step step c = refl
 
   -- a unit, as the session sees it
   pub view_unit : (l : ℕ) (f : Stored) → view last (with_unit l f) ≡ with_fact l (view last f)

@@ -53,17 +53,7 @@ module _ {W L : Type 0} {G : Ghosts L} (seen : W → Writer) (old : Solver W L G
   flush_begun errors.OutOfMemory q h = check_later seen [] [] old.core.proof p q adds h
   flush_begun errors.CounterEnd q h = check_later seen [] [] old.core.proof p q adds h
   flush_begun (errors.ProofProcessorError cause) q h = check_later seen [] [] old.core.proof p q adds h
-  flush_begun errors.Interrupted q h = absurd h
-  flush_begun errors.StoreFull q h = absurd h
-  flush_begun errors.WitnessVariable q h = absurd h
-  flush_begun errors.AssumedVariable q h = absurd h
-  flush_begun errors.TooLate q h = absurd h
-  flush_begun errors.NotInDrat q h = absurd h
-  flush_begun errors.VariableLimit q h = absurd h
-  flush_begun errors.HasFailed q h = absurd h
-  flush_begun errors.Read q h = absurd h
-  flush_begun errors.Malformed q h = absurd h
-  flush_begun errors.OutOfRange q h = absurd h
+  flush_begun e q h = absurd h
 
   -- or fails
   pub breaks_begun : (e : SolverError) (core : Core W L G) → BreaksOff seen e begun.core core → BreaksOff seen e old.core core

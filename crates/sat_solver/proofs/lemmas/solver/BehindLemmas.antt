@@ -28,31 +28,13 @@ of_search : (n : Variables) (s : Session) (step : Step) → AreSaid n s → IsSe
 of_search n s (AtClause redundant clause hashes) said h = indexed n s clause said h
 of_search n s (UnitClauses us) said h = indexed n s (map (λ u. u.0) us) said h
 of_search n s (DeleteClause clause proof) said h = tt
-of_search n s (SolverVarName v name) said h = absurd h
-of_search n s (UserVarName v name) said h = absurd h
-of_search n s (DeleteVar v) said h = absurd h
-of_search n s (ChangeSamplingMode v sample) said h = absurd h
-of_search n s (AddClause clause) said h = absurd h
-of_search n s (ChangeHashBits bits) said h = absurd h
-of_search n s (Model ls) said h = absurd h
-of_search n s (Assumptions ls) said h = absurd h
-of_search n s (FailedAssumptions core hashes) said h = absurd h
-of_search n s End said h = absurd h
+of_search n s step said h = absurd h
 
 unordered : (names : ℕ → Option ℕ) (step : Step) → IsSearched names step → is_ordered step ≡ false
 unordered names (AtClause redundant clause hashes) h = refl
 unordered names (UnitClauses us) h = refl
 unordered names (DeleteClause clause proof) h = refl
-unordered names (SolverVarName v name) h = absurd h
-unordered names (UserVarName v name) h = absurd h
-unordered names (DeleteVar v) h = absurd h
-unordered names (ChangeSamplingMode v sample) h = absurd h
-unordered names (AddClause clause) h = absurd h
-unordered names (ChangeHashBits bits) h = absurd h
-unordered names (Model ls) h = absurd h
-unordered names (Assumptions ls) h = absurd h
-unordered names (FailedAssumptions core hashes) h = absurd h
-unordered names End h = absurd h
+unordered names step h = absurd h
 
 -- names stand behind steps of a search
 pub stands_behind : (n : Variables) (earlier steps : List Step) → NamesInvariant n earlier → MayAll (steps ++ earlier) → AllByRecursion (IsSearched (session_after earlier).solver_names) steps → NamesInvariant n (steps ++ earlier)

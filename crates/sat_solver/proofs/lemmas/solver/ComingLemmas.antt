@@ -84,10 +84,8 @@ module _ {W L : Type 0} {G : Ghosts L} (seen : W → Writer) (s : Solver W L G) 
         core_unsat x = cc
 
     due_by : (st : State) → (st ≡ states.Unsat → ⊥) → NamesRefineJudge s.names n' (steps_in s) (steps_of b.proof) (with_added user) (due_for_clause states.Unknown user) → NamesRefineJudge s.names n' (steps_in s) (steps_of b.proof) (with_added user) (due_for_clause st user)
-    due_by states.Unknown k d = d
-    due_by states.Sat k d = d
-    due_by states.UnsatUnderAssumptions k d = d
     due_by states.Unsat k d = absurd (k refl)
+    due_by e k d = d
 
     -- a clause came in, and a valuation may be left
     pub took_left : TookClause seen s.names n' s.core b user true → AddClauseEffect seen s (added states.Unknown) user
@@ -249,36 +247,17 @@ pub adding_ends : {W L : Type 0} {G : Ghosts L} (seen : W → Writer) (e : Solve
 adding_ends seen errors.OutOfMemory s new user g d w r x b k f = ((d, w), r, record { going = g; failed = f; fault = x; breaks = b; clock = k })
 adding_ends seen errors.StoreFull s new user g d w r x b k f = ((d, w), r, record { going = g; failed = f; fault = x; breaks = b; clock = k })
 adding_ends seen (errors.ProofIoError cause) s new user g d w r x b k f = ((d, w), r, record { going = g; failed = f; fault = x; breaks = b; clock = k })
-adding_ends seen errors.VariableLimit s new user g d w r x b k f = absurd x
-adding_ends seen errors.Interrupted s new user g d w r x b k f = absurd x
 adding_ends seen (errors.ProofProcessorError cause) s new user g d w r x b k f = ((d, w), r, record { going = g; failed = f; fault = x; breaks = b; clock = k })
-adding_ends seen errors.WitnessVariable s new user g d w r x b k f = absurd x
-adding_ends seen errors.AssumedVariable s new user g d w r x b k f = absurd x
-adding_ends seen errors.TooLate s new user g d w r x b k f = absurd x
-adding_ends seen errors.NotInDrat s new user g d w r x b k f = absurd x
 adding_ends seen errors.CounterEnd s new user g d w r x b k f = ((d, w), r, record { going = g; failed = f; fault = x; breaks = b; clock = k })
-adding_ends seen errors.HasFailed s new user g d w r x b k f = absurd x
-adding_ends seen errors.Read s new user g d w r x b k f = absurd x
-adding_ends seen errors.Malformed s new user g d w r x b k f = absurd x
-adding_ends seen errors.OutOfRange s new user g d w r x b k f = absurd x
+adding_ends seen e s new user g d w r x b k f = absurd x
 
 -- a call over assumptions failed
 pub asking_ends : {W L : Type 0} {G : Ghosts L} (seen : W → Writer) (e : SolverError) (s new : Solver W L G) (user : List ℕ) → s.failed ≡ false → AreSampled s user → HasRoom s.names (users_in user) → IsFault e → BreaksNames seen e s.core new.core → new.clock ≡ s.clock → new.failed ≡ true → AssumesOrRefuses seen (Err e) s new user
 asking_ends seen errors.OutOfMemory s new user g w r x b k f = (w, r, record { going = g; failed = f; fault = x; breaks = b; clock = k })
-asking_ends seen errors.StoreFull s new user g w r x b k f = absurd x
 asking_ends seen (errors.ProofIoError cause) s new user g w r x b k f = (w, r, record { going = g; failed = f; fault = x; breaks = b; clock = k })
-asking_ends seen errors.VariableLimit s new user g w r x b k f = absurd x
-asking_ends seen errors.Interrupted s new user g w r x b k f = absurd x
 asking_ends seen (errors.ProofProcessorError cause) s new user g w r x b k f = (w, r, record { going = g; failed = f; fault = x; breaks = b; clock = k })
-asking_ends seen errors.WitnessVariable s new user g w r x b k f = absurd x
-asking_ends seen errors.AssumedVariable s new user g w r x b k f = absurd x
-asking_ends seen errors.TooLate s new user g w r x b k f = absurd x
-asking_ends seen errors.NotInDrat s new user g w r x b k f = absurd x
 asking_ends seen errors.CounterEnd s new user g w r x b k f = (w, r, record { going = g; failed = f; fault = x; breaks = b; clock = k })
-asking_ends seen errors.HasFailed s new user g w r x b k f = absurd x
-asking_ends seen errors.Read s new user g w r x b k f = absurd x
-asking_ends seen errors.Malformed s new user g w r x b k f = absurd x
-asking_ends seen errors.OutOfRange s new user g w r x b k f = absurd x
+asking_ends seen e s new user g w r x b k f = absurd x
 
 -- CALLS
 

@@ -96,10 +96,8 @@ module _ {W L : Type 0} {G : Ghosts L} (u : SolverConfigUpdate) (c : Core W L G)
 
   -- the parts of a core that aren't the search
   pub core_same : (st : State) (b : Core W L G) → HandsOn st changed b → (b.proof ≡ c.proof) × (b.config ≡ updated u c.config)
-  core_same states.Unknown b d = (ap (λ x. x.proof) d.same, ap (λ x. x.config) d.same)
-  core_same states.Sat b d = (ap (λ x. x.proof) d.same, ap (λ x. x.config) d.same)
-  core_same states.UnsatUnderAssumptions b d = (ap (λ x. x.proof) d.same, ap (λ x. x.config) d.same)
   core_same states.Unsat b d = (ap (λ x. x.proof) d, ap (λ x. x.config) d)
+  core_same e b d = (ap (λ x. x.proof) d.same, ap (λ x. x.config) d.same)
 
   -- all stands behind it
   pub whole_configured : (st : State) (b : Core W L G) → HandsOn st changed b → IsWholeOf c n asked assumed core scale st → IsWholeOf b n asked assumed core (unwrap_or u.luby_restart_interval_scale scale) st

@@ -33,9 +33,6 @@ module _ {W L : Type 0} {G : Ghosts L} (seen : W → Writer) (n m : Variables) (
   finds_told outcomes.Unsat (Some states.Unsat) mid b core rounds e t = subst (λ c. Ended seen a n (rounds - 1) outcomes.Unsat c m) (sym t) e
   finds_told outcomes.Learned o mid b core rounds e t = absurd e.says
   finds_told outcomes.Model None mid b core rounds e t = absurd t
-  finds_told outcomes.Model (Some states.Unknown) mid b core rounds e t = absurd t
-  finds_told outcomes.Model (Some states.UnsatUnderAssumptions) mid b core rounds e t = absurd t
-  finds_told outcomes.Model (Some states.Unsat) mid b core rounds e t = absurd t
   finds_told outcomes.Failed None mid b core rounds e t = absurd t
   finds_told outcomes.Failed (Some states.Unknown) mid b core rounds e t = absurd t
   finds_told outcomes.Failed (Some states.Sat) mid b core rounds e t = absurd t
@@ -44,6 +41,7 @@ module _ {W L : Type 0} {G : Ghosts L} (seen : W → Writer) (n m : Variables) (
   finds_told outcomes.Unsat (Some states.Unknown) mid b core rounds e t = absurd t
   finds_told outcomes.Unsat (Some states.Sat) mid b core rounds e t = absurd t
   finds_told outcomes.Unsat (Some states.UnsatUnderAssumptions) mid b core rounds e t = absurd t
+  finds_told outcomes.Model (Some x) mid b core rounds e t = absurd t
 
   -- or its telling failed
   pub breaks_told : {k : ℕ} → (outcome : Outcome) (e : SolverError) (mid b : Core W L G) → Ended seen a n k outcome mid m → BreaksOff seen e mid b → BreaksOff seen e a b

@@ -31,22 +31,15 @@ taken_by_piece (Err texts.Read) text piece p q is f = absurd f
 taken_by_piece (Err texts.HasFailed) text piece p q is f = ap (λ (z : Progress). z.taken) f.1
 
 taken_by_end : (answer : Result Unit DimacsError) (p q : Progress) → Finishes answer p q → q.taken ≡ p.taken
-taken_by_end (Ok x) p q f = ap (λ (z : Progress). z.taken) f.1
-taken_by_end (Err (texts.Malformed line)) p q f = ap (λ (z : Progress). z.taken) f.1
-taken_by_end (Err (texts.Limit line)) p q f = ap (λ (z : Progress). z.taken) f.1
-taken_by_end (Err texts.OutOfMemory) p q f = ap (λ (z : Progress). z.taken) f.1
 taken_by_end (Err texts.Read) p q f = absurd f
-taken_by_end (Err texts.HasFailed) p q f = ap (λ (z : Progress). z.taken) f.1
+taken_by_end e p q f = ap (λ (z : Progress). z.taken) f.1
 
 split_one : (clauses before rest more : List (List ℕ)) (c : List ℕ) → clauses ≡ before ++ rest → rest ≡ c ∷ more → clauses ≡ (before ++ c ∷ []) ++ more
 split_one clauses before rest more c e f = e ∙ ap (λ (z : List (List ℕ)). before ++ z) f ∙ sym (append_assoc before (c ∷ []) more)
 
 fault_apart : (d : DimacsError) → text_fault d ≡ errors.HasFailed → d ≡ texts.HasFailed
-fault_apart (texts.Malformed line) e = cc
-fault_apart (texts.Limit line) e = cc
-fault_apart texts.Read e = cc
-fault_apart texts.OutOfMemory e = cc
 fault_apart texts.HasFailed e = refl
+fault_apart x e = cc
 
 module _ {W L : Type 0} {G : Ghosts L} (seen : W → Writer) where
   -- CLAUSES
@@ -89,21 +82,8 @@ module _ {W L : Type 0} {G : Ghosts L} (seen : W → Writer) where
       true≢false (sym r.cause ∙ adds_going old s.mid s.before s.going s.added)
 
   formula_by : (e : SolverError) (old new : Solver W L G) (clauses : List (List ℕ)) → (e ≡ errors.HasFailed → ⊥) → StopsAtClause seen e old new clauses → AddsFormula seen (Err e) old new clauses
-  formula_by errors.OutOfMemory old new clauses n s = s
-  formula_by errors.StoreFull old new clauses n s = s
-  formula_by (errors.ProofIoError cause) old new clauses n s = s
-  formula_by errors.VariableLimit old new clauses n s = s
-  formula_by errors.Interrupted old new clauses n s = s
-  formula_by (errors.ProofProcessorError cause) old new clauses n s = s
-  formula_by errors.WitnessVariable old new clauses n s = s
-  formula_by errors.AssumedVariable old new clauses n s = s
-  formula_by errors.TooLate old new clauses n s = s
-  formula_by errors.NotInDrat old new clauses n s = s
-  formula_by errors.CounterEnd old new clauses n s = s
   formula_by errors.HasFailed old new clauses n s = absurd (n refl)
-  formula_by errors.Read old new clauses n s = s
-  formula_by errors.Malformed old new clauses n s = s
-  formula_by errors.OutOfRange old new clauses n s = s
+  formula_by e old new clauses n s = s
 
   pub so_stops : (e : SolverError) (old now new : Solver W L G) (clauses rest more : List (List ℕ)) (c : List ℕ) → old.failed ≡ false → rest ≡ c ∷ more → AddedSo old now clauses rest → AddsClause seen (Err e) now new c → AddsFormula seen (Err e) old new clauses
   so_stops e old now new clauses rest more c going at so stops =
@@ -112,40 +92,14 @@ module _ {W L : Type 0} {G : Ghosts L} (seen : W → Writer) where
 
   -- and back
   pub stops_of : (e : SolverError) (old new : Solver W L G) (clauses : List (List ℕ)) → old.failed ≡ false → AddsFormula seen (Err e) old new clauses → StopsAtClause seen e old new clauses
-  stops_of errors.OutOfMemory old new clauses going s = s
-  stops_of errors.StoreFull old new clauses going s = s
-  stops_of (errors.ProofIoError cause) old new clauses going s = s
-  stops_of errors.VariableLimit old new clauses going s = s
-  stops_of errors.Interrupted old new clauses going s = s
-  stops_of (errors.ProofProcessorError cause) old new clauses going s = s
-  stops_of errors.WitnessVariable old new clauses going s = s
-  stops_of errors.AssumedVariable old new clauses going s = s
-  stops_of errors.TooLate old new clauses going s = s
-  stops_of errors.NotInDrat old new clauses going s = s
-  stops_of errors.CounterEnd old new clauses going s = s
   stops_of errors.HasFailed old new clauses going s = absurd (true≢false (sym s.cause ∙ going))
-  stops_of errors.Read old new clauses going s = s
-  stops_of errors.Malformed old new clauses going s = s
-  stops_of errors.OutOfRange old new clauses going s = s
+  stops_of e old new clauses going s = s
 
   -- TEXTS
 
   text_by : (e : SolverError) (old new : Solver W L G) (from to : Reader) → (e ≡ errors.HasFailed → ⊥) → TextFails seen e old new from to ⊎ ClauseFails seen e old new from to → AddsText seen (Err e) old new from to
-  text_by errors.OutOfMemory old new from to n s = s
-  text_by errors.StoreFull old new from to n s = s
-  text_by (errors.ProofIoError cause) old new from to n s = s
-  text_by errors.VariableLimit old new from to n s = s
-  text_by errors.Interrupted old new from to n s = s
-  text_by (errors.ProofProcessorError cause) old new from to n s = s
-  text_by errors.WitnessVariable old new from to n s = s
-  text_by errors.AssumedVariable old new from to n s = s
-  text_by errors.TooLate old new from to n s = s
-  text_by errors.NotInDrat old new from to n s = s
-  text_by errors.CounterEnd old new from to n s = s
   text_by errors.HasFailed old new from to n s = absurd (n refl)
-  text_by errors.Read old new from to n s = s
-  text_by errors.Malformed old new from to n s = s
-  text_by errors.OutOfRange old new from to n s = s
+  text_by e old new from to n s = s
 
   module _ (old cur : Solver W L G) (going : old.failed ≡ false) (q : Progress) (first : AddsAll seen old q.taken cur) where
     -- those that were read before were added, and these are tried

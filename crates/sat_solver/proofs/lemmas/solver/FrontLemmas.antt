@@ -50,21 +50,10 @@ module _ {W L : Type 0} {G : Ghosts L} (seen : W → Writer) where
 
   -- steps of a call that failed
   failed : (e : SolverError) (steps : List Step) (a b : Proof W L G) → going.EmitsUpToFault {A = Unit {0}} seen (Err e) steps a b → WentOn seen a b
-  failed errors.Interrupted steps a b h = went_added seen steps a b h
   failed (errors.ProofProcessorError cause) steps a b h = checked steps a b h
   failed (errors.ProofIoError cause) steps a b h = went_failed seen steps a b h
-  failed errors.OutOfMemory steps a b h = went_added seen steps a b h
-  failed errors.WitnessVariable steps a b h = went_added seen steps a b h
-  failed errors.AssumedVariable steps a b h = went_added seen steps a b h
-  failed errors.TooLate steps a b h = went_added seen steps a b h
-  failed errors.NotInDrat steps a b h = went_added seen steps a b h
-  failed errors.StoreFull steps a b h = went_added seen steps a b h
-  failed errors.VariableLimit steps a b h = went_added seen steps a b h
   failed errors.CounterEnd steps a b h = checked steps a b h
-  failed errors.HasFailed steps a b h = went_added seen steps a b h
-  failed errors.Read steps a b h = went_added seen steps a b h
-  failed errors.Malformed steps a b h = went_added seen steps a b h
-  failed errors.OutOfRange steps a b h = went_added seen steps a b h
+  failed e steps a b h = went_added seen steps a b h
 
   -- CALLS
 
@@ -82,39 +71,19 @@ module _ {W L : Type 0} {G : Ghosts L} (seen : W → Writer) where
 
   clause_added : (a b : Solver W L G) (r : Result (Unit {0}) SolverError) (user : List ℕ) → AddsClause seen r a b user → ReachesBySteps seen a b
   clause_added a b (Ok x) user h = added a b user h
-  clause_added a b (Err errors.Interrupted) user h = names_broke _ errors.Interrupted a.core b.core h.2.breaks
-  clause_added a b (Err (errors.ProofProcessorError cause)) user h = names_broke _ (errors.ProofProcessorError cause) a.core b.core h.2.breaks
-  clause_added a b (Err (errors.ProofIoError cause)) user h = names_broke _ (errors.ProofIoError cause) a.core b.core h.2.breaks
-  clause_added a b (Err errors.OutOfMemory) user h = names_broke _ errors.OutOfMemory a.core b.core h.2.breaks
   clause_added a b (Err errors.WitnessVariable) user h = same a b _ h
-  clause_added a b (Err errors.AssumedVariable) user h = names_broke _ errors.AssumedVariable a.core b.core h.2.breaks
-  clause_added a b (Err errors.TooLate) user h = names_broke _ errors.TooLate a.core b.core h.2.breaks
   clause_added a b (Err errors.NotInDrat) user h = same a b _ h
-  clause_added a b (Err errors.StoreFull) user h = names_broke _ errors.StoreFull a.core b.core h.2.breaks
   clause_added a b (Err errors.VariableLimit) user h = same a b _ h
-  clause_added a b (Err errors.CounterEnd) user h = names_broke _ errors.CounterEnd a.core b.core h.2.breaks
   clause_added a b (Err errors.HasFailed) user h = same a b _ h
-  clause_added a b (Err errors.Read) user h = names_broke _ errors.Read a.core b.core h.2.breaks
-  clause_added a b (Err errors.Malformed) user h = names_broke _ errors.Malformed a.core b.core h.2.breaks
-  clause_added a b (Err errors.OutOfRange) user h = names_broke _ errors.OutOfRange a.core b.core h.2.breaks
+  clause_added a b (Err e) user h = names_broke _ e a.core b.core h.2.breaks
 
   assumed : (a b : Solver W L G) (r : Result (Unit {0}) SolverError) (user : List ℕ) → AssumesOrRefuses seen r a b user → ReachesBySteps seen a b
   assumed a b (Ok x) user h = took a.core.proof b.core.proof (h.did Unknown).took
-  assumed a b (Err errors.Interrupted) user h = names_broke _ errors.Interrupted a.core b.core h.2.breaks
-  assumed a b (Err (errors.ProofProcessorError cause)) user h = names_broke _ (errors.ProofProcessorError cause) a.core b.core h.2.breaks
-  assumed a b (Err (errors.ProofIoError cause)) user h = names_broke _ (errors.ProofIoError cause) a.core b.core h.2.breaks
-  assumed a b (Err errors.OutOfMemory) user h = names_broke _ errors.OutOfMemory a.core b.core h.2.breaks
   assumed a b (Err errors.WitnessVariable) user h = same a b _ h
-  assumed a b (Err errors.AssumedVariable) user h = names_broke _ errors.AssumedVariable a.core b.core h.2.breaks
-  assumed a b (Err errors.TooLate) user h = names_broke _ errors.TooLate a.core b.core h.2.breaks
   assumed a b (Err errors.NotInDrat) user h = same a b _ h
-  assumed a b (Err errors.StoreFull) user h = names_broke _ errors.StoreFull a.core b.core h.2.breaks
   assumed a b (Err errors.VariableLimit) user h = same a b _ h
-  assumed a b (Err errors.CounterEnd) user h = names_broke _ errors.CounterEnd a.core b.core h.2.breaks
   assumed a b (Err errors.HasFailed) user h = same a b _ h
-  assumed a b (Err errors.Read) user h = names_broke _ errors.Read a.core b.core h.2.breaks
-  assumed a b (Err errors.Malformed) user h = names_broke _ errors.Malformed a.core b.core h.2.breaks
-  assumed a b (Err errors.OutOfRange) user h = names_broke _ errors.OutOfRange a.core b.core h.2.breaks
+  assumed a b (Err e) user h = names_broke _ e a.core b.core h.2.breaks
 
   all_added : (a b : Solver W L G) (clauses : List (List ℕ)) → AddsAll seen a clauses b → ReachesBySteps seen a b
   all_added a b [] h = subst (λ (x : Solver W L G). ReachesBySteps seen a x) (sym h) (went_none seen a.core.proof)
@@ -125,21 +94,8 @@ module _ {W L : Type 0} {G : Ghosts L} (seen : W → Writer) where
 
   formula_added : (a b : Solver W L G) (r : Result (Unit {0}) SolverError) (clauses : List (List ℕ)) → AddsFormula seen r a b clauses → ReachesBySteps seen a b
   formula_added a b (Ok x) clauses h = all_added a b clauses h.1
-  formula_added a b (Err errors.Interrupted) clauses h = stopped a b errors.Interrupted clauses h
-  formula_added a b (Err (errors.ProofProcessorError cause)) clauses h = stopped a b (errors.ProofProcessorError cause) clauses h
-  formula_added a b (Err (errors.ProofIoError cause)) clauses h = stopped a b (errors.ProofIoError cause) clauses h
-  formula_added a b (Err errors.OutOfMemory) clauses h = stopped a b errors.OutOfMemory clauses h
-  formula_added a b (Err errors.WitnessVariable) clauses h = stopped a b errors.WitnessVariable clauses h
-  formula_added a b (Err errors.AssumedVariable) clauses h = stopped a b errors.AssumedVariable clauses h
-  formula_added a b (Err errors.TooLate) clauses h = stopped a b errors.TooLate clauses h
-  formula_added a b (Err errors.NotInDrat) clauses h = stopped a b errors.NotInDrat clauses h
-  formula_added a b (Err errors.StoreFull) clauses h = stopped a b errors.StoreFull clauses h
-  formula_added a b (Err errors.VariableLimit) clauses h = stopped a b errors.VariableLimit clauses h
-  formula_added a b (Err errors.CounterEnd) clauses h = stopped a b errors.CounterEnd clauses h
   formula_added a b (Err errors.HasFailed) clauses h = same a b _ h
-  formula_added a b (Err errors.Read) clauses h = stopped a b errors.Read clauses h
-  formula_added a b (Err errors.Malformed) clauses h = stopped a b errors.Malformed clauses h
-  formula_added a b (Err errors.OutOfRange) clauses h = stopped a b errors.OutOfRange clauses h
+  formula_added a b (Err e) clauses h = stopped a b e clauses h
 
   text_stopped : (a b : Solver W L G) (e : SolverError) (from to : Reader) → TextFails seen e a b from to ⊎ ClauseFails seen e a b from to → ReachesBySteps seen a b
   text_stopped a b e from to h = elim h [
@@ -149,166 +105,62 @@ module _ {W L : Type 0} {G : Ghosts L} (seen : W → Writer) where
 
   text_added : (a b : Solver W L G) (r : Result (Unit {0}) SolverError) (from to : Reader) → AddsText seen r a b from to → ReachesBySteps seen a b
   text_added a b (Ok x) from to h = all_added a b h.clauses h.added
-  text_added a b (Err errors.Interrupted) from to h = text_stopped a b errors.Interrupted from to h
-  text_added a b (Err (errors.ProofProcessorError cause)) from to h = text_stopped a b (errors.ProofProcessorError cause) from to h
-  text_added a b (Err (errors.ProofIoError cause)) from to h = text_stopped a b (errors.ProofIoError cause) from to h
-  text_added a b (Err errors.OutOfMemory) from to h = text_stopped a b errors.OutOfMemory from to h
-  text_added a b (Err errors.WitnessVariable) from to h = text_stopped a b errors.WitnessVariable from to h
-  text_added a b (Err errors.AssumedVariable) from to h = text_stopped a b errors.AssumedVariable from to h
-  text_added a b (Err errors.TooLate) from to h = text_stopped a b errors.TooLate from to h
-  text_added a b (Err errors.NotInDrat) from to h = text_stopped a b errors.NotInDrat from to h
-  text_added a b (Err errors.StoreFull) from to h = text_stopped a b errors.StoreFull from to h
-  text_added a b (Err errors.VariableLimit) from to h = text_stopped a b errors.VariableLimit from to h
-  text_added a b (Err errors.CounterEnd) from to h = text_stopped a b errors.CounterEnd from to h
   text_added a b (Err errors.HasFailed) from to h = same a b _ h.0
-  text_added a b (Err errors.Read) from to h = text_stopped a b errors.Read from to h
-  text_added a b (Err errors.Malformed) from to h = text_stopped a b errors.Malformed from to h
-  text_added a b (Err errors.OutOfRange) from to h = text_stopped a b errors.OutOfRange from to h
+  text_added a b (Err e) from to h = text_stopped a b e from to h
 
   mode_changed : (a b : Solver W L G) (r : Result (Unit {0}) SolverError) (user : ℕ) (judge : Judge → Judge) (due : Judge → List Expected) (May : List Step → Step → Type 0) → ChangesMode seen r a b user judge due May → ReachesBySteps seen a b
   mode_changed a b (Ok x) user judge due May h = took a.core.proof b.core.proof h.1.did.took
-  mode_changed a b (Err errors.Interrupted) user judge due May h = names_broke _ errors.Interrupted a.core b.core h.2.breaks
-  mode_changed a b (Err (errors.ProofProcessorError cause)) user judge due May h = names_broke _ (errors.ProofProcessorError cause) a.core b.core h.2.breaks
-  mode_changed a b (Err (errors.ProofIoError cause)) user judge due May h = names_broke _ (errors.ProofIoError cause) a.core b.core h.2.breaks
-  mode_changed a b (Err errors.OutOfMemory) user judge due May h = names_broke _ errors.OutOfMemory a.core b.core h.2.breaks
-  mode_changed a b (Err errors.WitnessVariable) user judge due May h = names_broke _ errors.WitnessVariable a.core b.core h.2.breaks
   mode_changed a b (Err errors.AssumedVariable) user judge due May h = same a b _ h
-  mode_changed a b (Err errors.TooLate) user judge due May h = names_broke _ errors.TooLate a.core b.core h.2.breaks
-  mode_changed a b (Err errors.NotInDrat) user judge due May h = names_broke _ errors.NotInDrat a.core b.core h.2.breaks
-  mode_changed a b (Err errors.StoreFull) user judge due May h = names_broke _ errors.StoreFull a.core b.core h.2.breaks
   mode_changed a b (Err errors.VariableLimit) user judge due May h = same a b _ h
-  mode_changed a b (Err errors.CounterEnd) user judge due May h = names_broke _ errors.CounterEnd a.core b.core h.2.breaks
   mode_changed a b (Err errors.HasFailed) user judge due May h = same a b _ h
-  mode_changed a b (Err errors.Read) user judge due May h = names_broke _ errors.Read a.core b.core h.2.breaks
-  mode_changed a b (Err errors.Malformed) user judge due May h = names_broke _ errors.Malformed a.core b.core h.2.breaks
-  mode_changed a b (Err errors.OutOfRange) user judge due May h = names_broke _ errors.OutOfRange a.core b.core h.2.breaks
+  mode_changed a b (Err e) user judge due May h = names_broke _ e a.core b.core h.2.breaks
 
   named : (a b : Solver W L G) (r : Result ℕ SolverError) → NamesNew seen r a b → ReachesBySteps seen a b
   named a b (Ok user) h = took a.core.proof b.core.proof h.1.did.took
-  named a b (Err errors.Interrupted) h = names_broke _ errors.Interrupted a.core b.core h.1.breaks
-  named a b (Err (errors.ProofProcessorError cause)) h = names_broke _ (errors.ProofProcessorError cause) a.core b.core h.1.breaks
-  named a b (Err (errors.ProofIoError cause)) h = names_broke _ (errors.ProofIoError cause) a.core b.core h.1.breaks
-  named a b (Err errors.OutOfMemory) h = names_broke _ errors.OutOfMemory a.core b.core h.1.breaks
-  named a b (Err errors.WitnessVariable) h = names_broke _ errors.WitnessVariable a.core b.core h.1.breaks
-  named a b (Err errors.AssumedVariable) h = names_broke _ errors.AssumedVariable a.core b.core h.1.breaks
-  named a b (Err errors.TooLate) h = names_broke _ errors.TooLate a.core b.core h.1.breaks
-  named a b (Err errors.NotInDrat) h = names_broke _ errors.NotInDrat a.core b.core h.1.breaks
-  named a b (Err errors.StoreFull) h = names_broke _ errors.StoreFull a.core b.core h.1.breaks
   named a b (Err errors.VariableLimit) h = same a b _ h
-  named a b (Err errors.CounterEnd) h = names_broke _ errors.CounterEnd a.core b.core h.1.breaks
   named a b (Err errors.HasFailed) h = same a b _ h
-  named a b (Err errors.Read) h = names_broke _ errors.Read a.core b.core h.1.breaks
-  named a b (Err errors.Malformed) h = names_broke _ errors.Malformed a.core b.core h.1.breaks
-  named a b (Err errors.OutOfRange) h = names_broke _ errors.OutOfRange a.core b.core h.1.breaks
+  named a b (Err e) h = names_broke _ e a.core b.core h.1.breaks
 
   unnamed : (a b : Solver W L G) (e : SolverError) → NamesFail seen e a b → ReachesBySteps seen a b
-  unnamed a b errors.Interrupted h = names_broke _ errors.Interrupted a.core b.core h.breaks
-  unnamed a b (errors.ProofProcessorError cause) h = names_broke _ (errors.ProofProcessorError cause) a.core b.core h.breaks
-  unnamed a b (errors.ProofIoError cause) h = names_broke _ (errors.ProofIoError cause) a.core b.core h.breaks
-  unnamed a b errors.OutOfMemory h = names_broke _ errors.OutOfMemory a.core b.core h.breaks
-  unnamed a b errors.WitnessVariable h = names_broke _ errors.WitnessVariable a.core b.core h.breaks
-  unnamed a b errors.AssumedVariable h = names_broke _ errors.AssumedVariable a.core b.core h.breaks
-  unnamed a b errors.TooLate h = names_broke _ errors.TooLate a.core b.core h.breaks
-  unnamed a b errors.NotInDrat h = names_broke _ errors.NotInDrat a.core b.core h.breaks
-  unnamed a b errors.StoreFull h = names_broke _ errors.StoreFull a.core b.core h.breaks
   unnamed a b errors.VariableLimit h = absurd h
-  unnamed a b errors.CounterEnd h = names_broke _ errors.CounterEnd a.core b.core h.breaks
   unnamed a b errors.HasFailed h = same a b _ h
-  unnamed a b errors.Read h = names_broke _ errors.Read a.core b.core h.breaks
-  unnamed a b errors.Malformed h = names_broke _ errors.Malformed a.core b.core h.breaks
-  unnamed a b errors.OutOfRange h = names_broke _ errors.OutOfRange a.core b.core h.breaks
+  unnamed a b e h = names_broke _ e a.core b.core h.breaks
 
   solved : (a b : Solver W L G) (r : Result Bool SolverError) → Solves seen r a b → ReachesBySteps seen a b
   solved a b (Ok sat) h = took a.core.proof b.core.proof h.0.did.took
   solved a b (Err errors.Interrupted) h = took a.core.proof b.core.proof h.0.did.took
-  solved a b (Err (errors.ProofProcessorError cause)) h = broke (errors.ProofProcessorError cause) a.core b.core h.breaks
-  solved a b (Err (errors.ProofIoError cause)) h = broke (errors.ProofIoError cause) a.core b.core h.breaks
-  solved a b (Err errors.OutOfMemory) h = broke errors.OutOfMemory a.core b.core h.breaks
-  solved a b (Err errors.WitnessVariable) h = broke errors.WitnessVariable a.core b.core h.breaks
-  solved a b (Err errors.AssumedVariable) h = broke errors.AssumedVariable a.core b.core h.breaks
-  solved a b (Err errors.TooLate) h = broke errors.TooLate a.core b.core h.breaks
-  solved a b (Err errors.NotInDrat) h = broke errors.NotInDrat a.core b.core h.breaks
-  solved a b (Err errors.StoreFull) h = broke errors.StoreFull a.core b.core h.breaks
-  solved a b (Err errors.VariableLimit) h = broke errors.VariableLimit a.core b.core h.breaks
-  solved a b (Err errors.CounterEnd) h = broke errors.CounterEnd a.core b.core h.breaks
   solved a b (Err errors.HasFailed) h = same a b _ h
-  solved a b (Err errors.Read) h = broke errors.Read a.core b.core h.breaks
-  solved a b (Err errors.Malformed) h = broke errors.Malformed a.core b.core h.breaks
-  solved a b (Err errors.OutOfRange) h = broke errors.OutOfRange a.core b.core h.breaks
+  solved a b (Err e) h = broke e a.core b.core h.breaks
 
   configured : (a b : Solver W L G) (r : Result (Unit {0}) SolverError) (u : SolverConfigUpdate) → Configures r u a b → ReachesBySteps seen a b
   configured a b (Ok x) u h = subst (WentOn seen a.core.proof) (sym h.proof) (went_none seen a.core.proof)
-  configured a b (Err errors.Interrupted) u h = absurd h
-  configured a b (Err (errors.ProofProcessorError cause)) u h = absurd h
-  configured a b (Err (errors.ProofIoError cause)) u h = absurd h
-  configured a b (Err errors.OutOfMemory) u h = absurd h
-  configured a b (Err errors.WitnessVariable) u h = absurd h
-  configured a b (Err errors.AssumedVariable) u h = absurd h
-  configured a b (Err errors.TooLate) u h = absurd h
-  configured a b (Err errors.NotInDrat) u h = absurd h
-  configured a b (Err errors.StoreFull) u h = absurd h
-  configured a b (Err errors.VariableLimit) u h = absurd h
-  configured a b (Err errors.CounterEnd) u h = absurd h
   configured a b (Err errors.HasFailed) u h = same a b _ h
-  configured a b (Err errors.Read) u h = absurd h
-  configured a b (Err errors.Malformed) u h = absurd h
   configured a b (Err errors.OutOfRange) u h = same a b _ h
+  configured a b (Err e) u h = absurd h
 
   enabled : (a b : Solver W L G) (r : Result (Unit {0}) SolverError) → Enables seen r a b → ReachesBySteps seen a b
   enabled a b (Ok x) h = stood a.core.proof b.core.proof h.checks.steps h.target
-  enabled a b (Err errors.Interrupted) h = absurd h
-  enabled a b (Err (errors.ProofProcessorError cause)) h = absurd h
-  enabled a b (Err (errors.ProofIoError cause)) h = absurd h
-  enabled a b (Err errors.OutOfMemory) h = absurd h
-  enabled a b (Err errors.WitnessVariable) h = absurd h
-  enabled a b (Err errors.AssumedVariable) h = absurd h
   enabled a b (Err errors.TooLate) h = same a b _ h
-  enabled a b (Err errors.NotInDrat) h = absurd h
-  enabled a b (Err errors.StoreFull) h = absurd h
-  enabled a b (Err errors.VariableLimit) h = absurd h
-  enabled a b (Err errors.CounterEnd) h = absurd h
   enabled a b (Err errors.HasFailed) h = same a b _ h
-  enabled a b (Err errors.Read) h = absurd h
-  enabled a b (Err errors.Malformed) h = absurd h
-  enabled a b (Err errors.OutOfRange) h = absurd h
+  enabled a b (Err e) h = absurd h
 
   listened : (a b : Solver W L G) (r : Result (Unit {0}) SolverError) (processor : L) → AddsProcessor seen r processor a b → ReachesBySteps seen a b
   listened a b (Ok x) processor h = stood a.core.proof b.core.proof h.steps h.target
-  listened a b (Err errors.Interrupted) processor h = absurd h
-  listened a b (Err (errors.ProofProcessorError cause)) processor h = absurd h
-  listened a b (Err (errors.ProofIoError cause)) processor h = absurd h
   listened a b (Err errors.OutOfMemory) processor h = stood a.core.proof b.core.proof h.steps h.target
-  listened a b (Err errors.WitnessVariable) processor h = absurd h
-  listened a b (Err errors.AssumedVariable) processor h = absurd h
   listened a b (Err errors.TooLate) processor h = same a b _ h
-  listened a b (Err errors.NotInDrat) processor h = absurd h
-  listened a b (Err errors.StoreFull) processor h = absurd h
-  listened a b (Err errors.VariableLimit) processor h = absurd h
-  listened a b (Err errors.CounterEnd) processor h = absurd h
   listened a b (Err errors.HasFailed) processor h = same a b _ h
-  listened a b (Err errors.Read) processor h = absurd h
-  listened a b (Err errors.Malformed) processor h = absurd h
-  listened a b (Err errors.OutOfRange) processor h = absurd h
+  listened a b (Err e) processor h = absurd h
 
   unclosed : (a b : Solver W L G) (e : SolverError) → ClosesProof seen (Err e) a b → ReachesBySteps seen a b
-  unclosed a b errors.Interrupted h = absurd h
   unclosed a b (errors.ProofProcessorError cause) h = checked (End ∷ []) a.core.proof b.core.proof h.fails
   unclosed a b (errors.ProofIoError cause) h = went_failed seen (End ∷ []) a.core.proof b.core.proof h.fails
   unclosed a b errors.OutOfMemory h = elim h.adds [
     | inl k ↦ went_added seen [] a.core.proof b.core.proof k
     | inr k ↦ checked (End ∷ []) a.core.proof b.core.proof k
   ]
-  unclosed a b errors.WitnessVariable h = absurd h
-  unclosed a b errors.AssumedVariable h = absurd h
-  unclosed a b errors.TooLate h = absurd h
-  unclosed a b errors.NotInDrat h = absurd h
-  unclosed a b errors.StoreFull h = absurd h
-  unclosed a b errors.VariableLimit h = absurd h
   unclosed a b errors.CounterEnd h = checked (End ∷ []) a.core.proof b.core.proof h.fails
   unclosed a b errors.HasFailed h = same a b _ h
-  unclosed a b errors.Read h = absurd h
-  unclosed a b errors.Malformed h = absurd h
-  unclosed a b errors.OutOfRange h = absurd h
+  unclosed a b e h = absurd h
 
   pub calls_go_on : (old new : Solver W L G) → CallsGoOn seen old new
   calls_go_on old new = record {

@@ -306,63 +306,31 @@ module _ {W L : Type 0} {G : Ghosts L} (seen : W → Writer) (s : Solver W L G) 
 -- a call over modes failed
 pub mode_ends : {W L : Type 0} {G : Ghosts L} (seen : W → Writer) (e : SolverError) (s new : Solver W L G) (user : ℕ) (judge : Judge → Judge) (due : Judge → List Expected) (May : List Step → Step → Type 0) → s.failed ≡ false → (IsAsked s user → ⊥) → HasRoom s.names (user ∷ []) → IsFault e → BreaksNames seen e s.core new.core → new.clock ≡ s.clock → new.failed ≡ true → ChangesMode seen (Err e) s new user judge due May
 mode_ends seen errors.OutOfMemory s new user judge due May g n r x b k f = (n, r, record { going = g; failed = f; fault = x; breaks = b; clock = k })
-mode_ends seen errors.StoreFull s new user judge due May g n r x b k f = absurd x
 mode_ends seen (errors.ProofIoError cause) s new user judge due May g n r x b k f = (n, r, record { going = g; failed = f; fault = x; breaks = b; clock = k })
-mode_ends seen errors.VariableLimit s new user judge due May g n r x b k f = absurd x
-mode_ends seen errors.Interrupted s new user judge due May g n r x b k f = absurd x
 mode_ends seen (errors.ProofProcessorError cause) s new user judge due May g n r x b k f = (n, r, record { going = g; failed = f; fault = x; breaks = b; clock = k })
-mode_ends seen errors.WitnessVariable s new user judge due May g n r x b k f = absurd x
-mode_ends seen errors.AssumedVariable s new user judge due May g n r x b k f = absurd x
-mode_ends seen errors.TooLate s new user judge due May g n r x b k f = absurd x
-mode_ends seen errors.NotInDrat s new user judge due May g n r x b k f = absurd x
 mode_ends seen errors.CounterEnd s new user judge due May g n r x b k f = (n, r, record { going = g; failed = f; fault = x; breaks = b; clock = k })
-mode_ends seen errors.HasFailed s new user judge due May g n r x b k f = absurd x
-mode_ends seen errors.Read s new user judge due May g n r x b k f = absurd x
-mode_ends seen errors.Malformed s new user judge due May g n r x b k f = absurd x
-mode_ends seen errors.OutOfRange s new user judge due May g n r x b k f = absurd x
+mode_ends seen e s new user judge due May g n r x b k f = absurd x
 
 -- a call that gives names failed
 pub new_ends : {W L : Type 0} {G : Ghosts L} (seen : W → Writer) (e : SolverError) (s new : Solver W L G) → s.failed ≡ false → IsFault e → BreaksNames seen e s.core new.core → new.clock ≡ s.clock → new.failed ≡ true → NamesFail seen e s new
 new_ends seen errors.OutOfMemory s new g x b k f = record { going = g; failed = f; fault = x; breaks = b; clock = k }
-new_ends seen errors.StoreFull s new g x b k f = absurd x
 new_ends seen (errors.ProofIoError cause) s new g x b k f = record { going = g; failed = f; fault = x; breaks = b; clock = k }
-new_ends seen errors.VariableLimit s new g x b k f = absurd x
-new_ends seen errors.Interrupted s new g x b k f = absurd x
 new_ends seen (errors.ProofProcessorError cause) s new g x b k f = record { going = g; failed = f; fault = x; breaks = b; clock = k }
-new_ends seen errors.WitnessVariable s new g x b k f = absurd x
-new_ends seen errors.AssumedVariable s new g x b k f = absurd x
-new_ends seen errors.TooLate s new g x b k f = absurd x
-new_ends seen errors.NotInDrat s new g x b k f = absurd x
 new_ends seen errors.CounterEnd s new g x b k f = record { going = g; failed = f; fault = x; breaks = b; clock = k }
-new_ends seen errors.HasFailed s new g x b k f = absurd x
-new_ends seen errors.Read s new g x b k f = absurd x
-new_ends seen errors.Malformed s new g x b k f = absurd x
-new_ends seen errors.OutOfRange s new g x b k f = absurd x
+new_ends seen e s new g x b k f = absurd x
 
 -- a call for a new name failed
 pub new_fails : {W L : Type 0} {G : Ghosts L} (seen : W → Writer) (e : SolverError) (s new : Solver W L G) → s.failed ≡ false → (NoneLeft s.names → ⊥) → IsFault e → BreaksNames seen e s.core new.core → new.clock ≡ s.clock → new.failed ≡ true → NewFails seen e s new
 new_fails seen errors.OutOfMemory s new g n x b k f = (n, record { going = g; failed = f; fault = x; breaks = b; clock = k })
-new_fails seen errors.StoreFull s new g n x b k f = absurd x
 new_fails seen (errors.ProofIoError cause) s new g n x b k f = (n, record { going = g; failed = f; fault = x; breaks = b; clock = k })
-new_fails seen errors.VariableLimit s new g n x b k f = absurd x
-new_fails seen errors.Interrupted s new g n x b k f = absurd x
 new_fails seen (errors.ProofProcessorError cause) s new g n x b k f = (n, record { going = g; failed = f; fault = x; breaks = b; clock = k })
-new_fails seen errors.WitnessVariable s new g n x b k f = absurd x
-new_fails seen errors.AssumedVariable s new g n x b k f = absurd x
-new_fails seen errors.TooLate s new g n x b k f = absurd x
-new_fails seen errors.NotInDrat s new g n x b k f = absurd x
 new_fails seen errors.CounterEnd s new g n x b k f = (n, record { going = g; failed = f; fault = x; breaks = b; clock = k })
-new_fails seen errors.HasFailed s new g n x b k f = absurd x
-new_fails seen errors.Read s new g n x b k f = absurd x
-new_fails seen errors.Malformed s new g n x b k f = absurd x
-new_fails seen errors.OutOfRange s new g n x b k f = absurd x
+new_fails seen e s new g n x b k f = absurd x
 
 -- where it wasn't for want of a variable, there was one
 pub one_left : {W : Type 0} (e : NameError) (old new : Variables) (from to : W) → (told_as e ≡ errors.VariableLimit → ⊥) → Limits e old new from to → NoneLeft old → ⊥
 one_left names.VariableLimit old new from to n h = absurd (n refl)
-one_left names.OutOfMemory old new from to n h = h
-one_left (names.Write cause) old new from to n h = h
-one_left (names.Check fault) old new from to n h = h
+one_left e old new from to n h = h
 
 -- what a call over names fails of, but for the limit
 pub fault_left : (e : SolverError) → IsNameFaultOr ⊥ e → (e ≡ errors.VariableLimit → ⊥) → IsFault e
@@ -371,11 +339,8 @@ fault_left e h n = elim h [ inl x ↦ x | inr q ↦ absurd (n q) ]
 -- which fault a call over names tells as the limit
 pub told_limit : (e : NameError) → told_as e ≡ errors.VariableLimit → e ≡ names.VariableLimit
 told_limit names.VariableLimit h = refl
-told_limit names.OutOfMemory h = cc
-told_limit (names.Write cause) h = cc
 told_limit (names.Check checks.OutOfMemory) h = cc
-told_limit (names.Check checks.CounterEnd) h = cc
-told_limit (names.Check (checks.Processor cause)) h = cc
+told_limit e h = cc
 
 -- a call that changed neither names nor steps
 pub same_solver : {W L : Type 0} {G : Ghosts L} (s : Solver W L G) (n' : Variables) (p : Proof W L G) → n' ≡ s.names → p ≡ s.core.proof → ◌≡◌ {A = Solver W L G} (record s { core = record s.core { proof = p }; names = n' }) s

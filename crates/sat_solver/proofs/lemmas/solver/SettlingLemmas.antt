@@ -80,9 +80,7 @@ assumed_moved s t c c' h k moved =
 -- no round was made
 no_rounds : (st : State) (n : ℕ) → learned_of st (n - n) ≡ 0
 no_rounds states.Unknown n = omega arith
-no_rounds states.Sat n = omega arith
-no_rounds states.UnsatUnderAssumptions n = omega arith
-no_rounds states.Unsat n = omega arith
+no_rounds e n = omega arith
 
 -- and then a step that doesn't advance
 then_still : (from mids to steps : List Step) (step : Step) (k : ℕ) → mids ≡ steps ++ from → to ≡ step ∷ mids → AdvanceTimes from steps k → StandsStill (session_after (steps ++ from)) step → AdvancesIn from to k

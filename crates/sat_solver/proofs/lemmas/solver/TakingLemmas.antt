@@ -72,11 +72,8 @@ none_took seen p = ([], gains_none seen p)
 -- a failure of a call over names, as a solver tells it
 pub told_fails : (e : NameError) → IsFailure e → IsFault (told_as e)
 told_fails names.VariableLimit h = absurd h
-told_fails names.OutOfMemory h = tt
-told_fails (names.Write cause) h = tt
 told_fails (names.Check checks.OutOfMemory) h = tt
-told_fails (names.Check checks.CounterEnd) h = tt
-told_fails (names.Check (checks.Processor cause)) h = tt
+told_fails e h = tt
 
 -- a fault that is handed on, or one of a search
 pub fault_on : {A : Type 0} (full : Type 0) (r : Result A SolverError) (e : SolverError) → IsErrAnd r (λ f. f ≡ e) → IsFaultOr full e → IfErr r (IsFaultOr full)

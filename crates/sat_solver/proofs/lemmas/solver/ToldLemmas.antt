@@ -39,52 +39,18 @@ module _ {W L : Type 0} {G : Ghosts L} (seen : W → Writer) (p q : Proof W L G)
   went_told (errors.ProofIoError cause) steps h = fails_told steps h
   went_told (errors.ProofProcessorError cause) steps h = check_told _ steps h
   went_told errors.CounterEnd steps h = check_told _ steps h
-  went_told errors.Interrupted steps h = adds_told steps h
-  went_told errors.OutOfMemory steps h = adds_told steps h
-  went_told errors.WitnessVariable steps h = adds_told steps h
-  went_told errors.AssumedVariable steps h = adds_told steps h
-  went_told errors.TooLate steps h = adds_told steps h
-  went_told errors.NotInDrat steps h = adds_told steps h
-  went_told errors.StoreFull steps h = adds_told steps h
-  went_told errors.VariableLimit steps h = adds_told steps h
-  went_told errors.HasFailed steps h = adds_told steps h
-  went_told errors.Read steps h = adds_told steps h
-  went_told errors.Malformed steps h = adds_told steps h
-  went_told errors.OutOfRange steps h = adds_told steps h
+  went_told e steps h = adds_told steps h
 
   loss_told : (e : SolverError) → NamesLoss e p q → NamesLoss e p (without_complaint q)
   loss_told errors.Interrupted h = h
-  loss_told (errors.ProofProcessorError cause) h = h
-  loss_told (errors.ProofIoError cause) h = h
-  loss_told errors.OutOfMemory h = h
-  loss_told errors.WitnessVariable h = h
-  loss_told errors.AssumedVariable h = h
-  loss_told errors.TooLate h = h
-  loss_told errors.NotInDrat h = h
-  loss_told errors.StoreFull h = h
-  loss_told errors.VariableLimit h = h
-  loss_told errors.CounterEnd h = h
-  loss_told errors.HasFailed h = h
-  loss_told errors.Read h = h
-  loss_told errors.Malformed h = h
-  loss_told errors.OutOfRange h = h
+  loss_told e h = h
 
   flush_told : (e : SolverError) → FlushFails seen e p q → FlushFails seen e p (without_complaint q)
   flush_told (errors.ProofIoError cause) h = fails_told _ h
   flush_told (errors.ProofProcessorError cause) h = check_told _ _ h
   flush_told errors.OutOfMemory h = check_told _ _ h
   flush_told errors.CounterEnd h = check_told _ _ h
-  flush_told errors.Interrupted h = absurd h
-  flush_told errors.WitnessVariable h = absurd h
-  flush_told errors.AssumedVariable h = absurd h
-  flush_told errors.TooLate h = absurd h
-  flush_told errors.NotInDrat h = absurd h
-  flush_told errors.StoreFull h = absurd h
-  flush_told errors.VariableLimit h = absurd h
-  flush_told errors.HasFailed h = absurd h
-  flush_told errors.Read h = absurd h
-  flush_told errors.Malformed h = absurd h
-  flush_told errors.OutOfRange h = absurd h
+  flush_told e h = absurd h
 
 module _ {W L : Type 0} {G : Ghosts L} (seen : W → Writer) where
   -- a call over names failed
@@ -108,16 +74,7 @@ module _ {W L : Type 0} {G : Ghosts L} (seen : W → Writer) where
     solve_ends errors.OutOfMemory h = ended _ h
     solve_ends errors.StoreFull h = ended _ h
     solve_ends errors.CounterEnd h = ended _ h
-    solve_ends errors.Interrupted h = absurd h.0.0.fault
-    solve_ends errors.WitnessVariable h = absurd h.0.0.fault
-    solve_ends errors.AssumedVariable h = absurd h.0.0.fault
-    solve_ends errors.TooLate h = absurd h.0.0.fault
-    solve_ends errors.NotInDrat h = absurd h.0.0.fault
-    solve_ends errors.VariableLimit h = absurd h.0.0.fault
-    solve_ends errors.HasFailed h = absurd h.0.0.fault
-    solve_ends errors.Read h = absurd h.0.0.fault
-    solve_ends errors.Malformed h = absurd h.0.0.fault
-    solve_ends errors.OutOfRange h = absurd h.0.0.fault
+    solve_ends e h = absurd h.0.0.fault
 
   module _ (s : Solver W L G) (going : s.failed ≡ false) (taking : is_lost s.core.proof ≡ false) (p : Proof W L G) where
     abbrev pub closing : Solver W L G

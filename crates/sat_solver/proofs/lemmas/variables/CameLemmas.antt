@@ -33,11 +33,8 @@ took_none seen w a b t adds = (_, gains_more seen t.0 [] w a b t.1 adds)
 module _ {W : Type 0} (took : W → W → Type 0) (broke : W → NameError → W → Type 0) where
   -- a call behind another that took its steps
   pub came_then : {A : Type 0} (r : Result A NameError) (a b c : W) → ((w : W) → took w a → took w b) → EmitsOrFails took broke r b c → EmitsOrFails took broke r a c
-  came_then (Ok x) a b c first last = λ w t. last w (first w t)
   came_then (Err errors.VariableLimit) a b c first last = λ w t. last w (first w t)
-  came_then (Err errors.OutOfMemory) a b c first last = λ w t. last w (first w t)
-  came_then (Err (errors.Write cause)) a b c first last = λ w t. last w (first w t)
-  came_then (Err (errors.Check fault)) a b c first last = λ w t. last w (first w t)
+  came_then e a b c first last = λ w t. last w (first w t)
 
   -- a fault that is handed on
   pub came_on : {A : Type 0} (r : Result A NameError) (e : NameError) (a b : W) → IsErrAnd r (λ f. f ≡ e) → ((w : W) → took w a → EmitsUpTo took broke w e b) → EmitsOrFails took broke r a b

@@ -26,47 +26,15 @@ name_among (l ∷ ls) (suc k) lt = inr (name_among ls k (omega arith))
 due_take : (names : List ℕ) (earlier : List Step) (step : Step) → IsDue earlier step → MayTake names earlier step
 due_take names earlier (SolverVarName v index) h = absurd (true≢false (sym h))
 due_take names earlier (ChangeHashBits bits) h = tt
-due_take names earlier (UserVarName v name) h = h
-due_take names earlier (DeleteVar v) h = h
-due_take names earlier (ChangeSamplingMode v sample) h = h
-due_take names earlier (AddClause clause) h = h
-due_take names earlier (AtClause redundant clause hashes) h = h
-due_take names earlier (UnitClauses us) h = h
-due_take names earlier (DeleteClause clause proof) h = h
-due_take names earlier (Model ls) h = h
-due_take names earlier (Assumptions ls) h = h
-due_take names earlier (FailedAssumptions core hashes) h = h
-due_take names earlier End h = h
+due_take names earlier step h = h
 
 take_add : (names : List ℕ) (earlier : List Step) (step : Step) → MayTake names earlier step → MayAdd names earlier step
 take_add names earlier (DeleteClause clause proof) h = absurd (true≢false (sym h))
-take_add names earlier (SolverVarName v index) h = h
-take_add names earlier (ChangeHashBits bits) h = h
-take_add names earlier (UserVarName v name) h = h
-take_add names earlier (DeleteVar v) h = h
-take_add names earlier (ChangeSamplingMode v sample) h = h
-take_add names earlier (AddClause clause) h = h
-take_add names earlier (AtClause redundant clause hashes) h = h
-take_add names earlier (UnitClauses us) h = h
-take_add names earlier (Model ls) h = h
-take_add names earlier (Assumptions ls) h = h
-take_add names earlier (FailedAssumptions core hashes) h = h
-take_add names earlier End h = h
+take_add names earlier step h = h
 
 delete_add : (names : List ℕ) (earlier : List Step) (step : Step) → DeletesAdded earlier step → MayAdd names earlier step
 delete_add names earlier (DeleteClause clause proof) h = h
-delete_add names earlier (SolverVarName v index) h = absurd h
-delete_add names earlier (ChangeHashBits bits) h = absurd h
-delete_add names earlier (UserVarName v name) h = absurd h
-delete_add names earlier (DeleteVar v) h = absurd h
-delete_add names earlier (ChangeSamplingMode v sample) h = absurd h
-delete_add names earlier (AddClause clause) h = absurd h
-delete_add names earlier (AtClause redundant clause hashes) h = absurd h
-delete_add names earlier (UnitClauses us) h = absurd h
-delete_add names earlier (Model ls) h = absurd h
-delete_add names earlier (Assumptions ls) h = absurd h
-delete_add names earlier (FailedAssumptions core hashes) h = absurd h
-delete_add names earlier End h = absurd h
+delete_add names earlier step h = absurd h
 
 module _ (names : List ℕ) (from to : List Step) where
   pub comes_due : OnlyAllowedSteps IsDue from to → OnlyAllowedSteps (MayTake names) from to
@@ -88,34 +56,12 @@ module _ (names : List ℕ) (from to : List Step) where
 -- CALLS OVER ONE NAME
 
 due_hide : (earlier : List Step) (step : Step) → IsDue earlier step → MayHide earlier step
-due_hide earlier (SolverVarName v index) h = h
-due_hide earlier (ChangeHashBits bits) h = h
-due_hide earlier (UserVarName v name) h = h
 due_hide earlier (DeleteVar v) h = absurd (true≢false (sym h))
-due_hide earlier (ChangeSamplingMode v mode) h = h
-due_hide earlier (AddClause clause) h = h
-due_hide earlier (AtClause redundant clause hashes) h = h
-due_hide earlier (UnitClauses us) h = h
-due_hide earlier (DeleteClause clause proof) h = h
-due_hide earlier (Model ls) h = h
-due_hide earlier (Assumptions ls) h = h
-due_hide earlier (FailedAssumptions core hashes) h = h
-due_hide earlier End h = h
+due_hide earlier step h = h
 
 due_set : (user : ℕ) (sample : Bool) (earlier : List Step) (step : Step) → IsDue earlier step → MaySet user sample earlier step
-due_set user sample earlier (SolverVarName v index) h = h
-due_set user sample earlier (ChangeHashBits bits) h = h
-due_set user sample earlier (UserVarName v name) h = h
-due_set user sample earlier (DeleteVar v) h = h
 due_set user sample earlier (ChangeSamplingMode v mode) h = absurd (true≢false (sym h))
-due_set user sample earlier (AddClause clause) h = h
-due_set user sample earlier (AtClause redundant clause hashes) h = h
-due_set user sample earlier (UnitClauses us) h = h
-due_set user sample earlier (DeleteClause clause proof) h = h
-due_set user sample earlier (Model ls) h = h
-due_set user sample earlier (Assumptions ls) h = h
-due_set user sample earlier (FailedAssumptions core hashes) h = h
-due_set user sample earlier End h = h
+due_set user sample earlier step h = h
 
 -- a name came in, was hidden, and its variable may have gone
 pub comes_hidden : {A E : Type 0} (r : Result A E) (n : Variables) (from mids hides to : List Step) (v : ℕ) → AreSaid n (session_after hides) → OnlyAllowedSteps IsDue from mids → hides ≡ UserVarName v None ∷ mids → OnOk r (ForgetsIdle n hides to v) → OnOk r (OnlyAllowedSteps MayHide from to)

@@ -151,9 +151,7 @@ room_at n all index user lt at h = subst (HasRoom n) (ap users_in (drop_more all
 -- where a variable is left, that isn't why it failed
 pub limit_fails : {W : Type 0} (e : NameError) (old new : Variables) (from to : W) → AreTidy old → live_count old < var_limit → Limits e old new from to → IsFailure e
 limit_fails errors.VariableLimit old new from to tidy lt h = let e = live_full old tidy h.none in absurd (omega arith)
-limit_fails errors.OutOfMemory old new from to tidy lt h = tt
-limit_fails (errors.Write cause) old new from to tidy lt h = tt
-limit_fails (errors.Check fault) old new from to tidy lt h = tt
+limit_fails x old new from to tidy lt h = tt
 
 -- a fault that is handed on
 pub fails_on : {A : Type 0} (r : Result A NameError) (e : NameError) → IsErrAnd r (λ f. f ≡ e) → IsFailure e → IfErr r IsFailure

@@ -15,15 +15,11 @@ bit_small false = omega arith
 
 tier_back : (tier : Tier) → tier_of (index_of tier) ≡ tier
 tier_back Irred = refl
-tier_back Core = refl
-tier_back Mid = refl
-tier_back Local = refl
+tier_back e = refl
 
 index_small : (tier : Tier) → index_of tier < 4
 index_small Irred = omega arith
-index_small Core = omega arith
-index_small Mid = omega arith
-index_small Local = omega arith
+index_small e = omega arith
 
 pub deleted_set : (a f l : ℕ) (flag : Bool) → header_of a (f / 8 * 8 + from_bool flag * 4 + f % 4) l ≡ record (header_of a f l) { deleted = flag }
 deleted_set a f l flag =
